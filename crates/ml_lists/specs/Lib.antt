@@ -1,0 +1,2 @@
+-- the lowest entry of a list of numbers
+pub mod Lowest
