@@ -1,0 +1,2 @@
+-- Kripke structures
+pub mod Structure
