@@ -1,2 +1,4 @@
 -- Kripke structures
 pub mod Structure
+-- names and actions
+pub mod Name
