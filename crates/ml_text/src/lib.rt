@@ -8,6 +8,8 @@
 // above stand the parsers of the logics.
 #![tactic(auto)]
 
+mod bytes;
 mod token;
 
+pub use bytes::{is_blank, is_digit, is_letter, is_lower, is_upper, is_word_byte};
 pub use token::{Operator, Placed, Token, WordStart, next_token};
