@@ -3,11 +3,11 @@
 --
 --   front_at w text i  == the token that begins at the byte i of the text, and its length
 --   placed w text i    == the same token with its place
-use Rattle.std.proofs.Common.{◌≡◌, ℕ, zero, suc, ◌+◌, ◌-◌, ◌<◌, ◌≤◌, Bool, true, false, cond, not, ◌&&◌, ◌⊎◌, List, [], ◌∷◌, length, take, drop, get_or, Option, Some, None, unwrap_or, if◌then◌else◌, nat_eq, nat_lt, Contains, sym, refl, ap, ◌∙◌, subst, inl, inr, ⊎_elim, arith, ltb-true, ltb-false, length-take, length-drop, drop-drop, add-zero}
-use Rattle.std.specs.List.{starts_with, take_while, prefix_len, list_all}
-use Rattle.std.proofs.lemmas.Bool.{cases_Bool, cond-true, cond-false, cond_both}
+use Rattle.std.proofs.Common.{◌≡◌, ℕ, zero, suc, ◌+◌, ◌-◌, ◌<◌, ◌≤◌, Bool, true, false, List, [], ◌∷◌, length, drop, get_or, Option, Some, None, unwrap_or, nat_lt, Contains, sym, refl, ap, ◌∙◌, subst, ⊎_elim, arith, ltb-true, length-drop, drop-drop, get_or-drop, add-zero}
+use Rattle.std.specs.List.{take_while, prefix_len}
+use Rattle.std.proofs.lemmas.Bool.{cases_Bool, cond-true, cond-false}
 use Rattle.std.proofs.lemmas.List.{drop_more, drop_all}
-use Rattle.std.proofs.lemmas.List.Sums.{AllPass-from_list_all, prefix_len-le-length}
+use Rattle.std.proofs.lemmas.List.Sums.{AllPass-from_list_all, prefix_len-le-length, prefix_len_passes, prefix_len_stops}
 use Rattle.std.proofs.lemmas.List.Folds.{length-prefix_len}
 use Rattle.std.proofs.lemmas.List.Elements.{All-contains}
 use Rattle.ml_text.specs.Bytes.{is_blank, is_word_byte}
@@ -16,7 +16,7 @@ use Rattle.ml_text.specs.declared.token.Placed.{Placed}
 use Rattle.ml_text.specs.declared.token.Token.{Token}
 use Rattle.ml_text.specs.declared.token.Token.TheVariants as token
 use Rattle.ml_text.specs.declared.token.WordStart.{WordStart}
-use Rattle.ml_text.proofs.Signs.{Found, longest_sign-found, starts_with-fits}
+use Rattle.ml_text.proofs.Signs.{longest_sign-found, starts_with-fits}
 
 -- the token at the front: a word, a sign, or one byte
 pub front_token-word : (w : WordStart) (b : ℕ) (rest : List ℕ) → begins_word w b ≡ true → front_token w b rest ≡ (token.Word, 1 + length (take_while is_word_byte rest))
@@ -64,10 +64,10 @@ front_token-within w b rest =
     front_by w b rest (λ front. IsWithin front.1 (length (b ∷ rest)))
     (λ word. let short = prefix_len-le-length is_word_byte rest in let long = length-prefix_len is_word_byte rest in record { some = omega arith; fits = omega arith })
     (λ best word is.
-        let found = longest_sign-found signs (b ∷ rest) best is in
-        let some = signs_have_bytes (found.spelling, best.0) found.listed in
-        let fits = starts_with-fits (b ∷ rest) found.spelling found.starts in
-        record { some = omega (arith, found.long); fits = omega (arith, found.long) })
+    let found = longest_sign-found signs (b ∷ rest) best is in
+    let some = signs_have_bytes (found.spelling, best.0) found.listed in
+    let fits = starts_with-fits (b ∷ rest) found.spelling found.starts in
+    record { some = omega (arith, found.long); fits = omega (arith, found.long) })
     (λ word is. record { some = omega arith; fits = omega arith })
 
 -- the token that begins at this place
@@ -97,11 +97,11 @@ tokens_at-enough (suc n) (suc m) w i (b ∷ rest) small small' =
     ⊎_elim
     (λ (blank : is_blank b ≡ true). tokens_at-blank n w i b rest blank ∙ tokens_at-enough n m w (i + 1) rest (omega arith) (omega arith) ∙ sym (tokens_at-blank m w i b rest blank))
     (λ (blank : is_blank b ≡ false).
-        let front = front_token-within w b rest in
-        let left = length-drop (front_token w b rest).1 (b ∷ rest) in
-        tokens_at-token n w i b rest blank
-        ∙ ap (λ more. placed_at w i b rest ∷ more) (tokens_at-enough n m w (i + (front_token w b rest).1) (drop (front_token w b rest).1 (b ∷ rest)) (omega arith) (omega arith))
-        ∙ sym (tokens_at-token m w i b rest blank))
+    let front = front_token-within w b rest in
+    let left = length-drop (front_token w b rest).1 (b ∷ rest) in
+    tokens_at-token n w i b rest blank
+    ∙ ap (λ more. placed_at w i b rest ∷ more) (tokens_at-enough n m w (i + (front_token w b rest).1) (drop (front_token w b rest).1 (b ∷ rest)) (omega arith) (omega arith))
+    ∙ sym (tokens_at-token m w i b rest blank))
     (cases_Bool (is_blank b))
 
 -- the tokens from a byte on: none are left at the end of the text
@@ -164,3 +164,48 @@ tokens_from-blanks (suc n) w text i within blank =
     tokens_from-blanks n w text i (omega arith) (λ k below. blank k (omega arith))
     ∙ tokens_from-blank w text (i + n) (omega arith) (blank n (omega arith))
     ∙ ap (tokens_from w text) last
+
+-- what is known behind n blanks, as many as stand at the byte i of the text
+pub record Skipped (w : WordStart) (text : List ℕ) (i n : ℕ) : Type 0 where
+  pub fits : i + n ≤ length text
+  pub same : tokens_from w text i ≡ tokens_from w text (i + n)
+  pub stops : i + n < length text → is_blank (get_or text (i + n) 0) ≡ false
+
+pub skipped : (w : WordStart) (text : List ℕ) (i n : ℕ) → i ≤ length text → n ≡ length (take_while is_blank (drop i text)) → Skipped w text i n
+skipped w text i n within long =
+    let rest = drop i text in
+    let left = length-drop i text in
+    let is : n ≡ prefix_len is_blank rest = long ∙ length-prefix_len is_blank rest in
+    let short = prefix_len-le-length is_blank rest in
+    record {
+      fits = omega arith;
+      same = tokens_from-blanks n w text i (omega arith) (λ k below. sym (ap is_blank (get_or-drop i text k 0)) ∙ prefix_len_passes is_blank rest k 0 (omega arith));
+      stops = λ more. sym (ap is_blank (get_or-drop i text n 0)) ∙ ap (λ k. is_blank (get_or rest k 0)) is ∙ prefix_len_stops is_blank rest 0 (omega arith);
+    }
+
+-- n blanks up to the end of the text, and the tokens behind them
+pub no_token_left : (w : WordStart) (text : List ℕ) (i n : ℕ) → i ≤ length text → n ≡ length (take_while is_blank (drop i text)) → i + n ≡ length text → tokens_from w text i ≡ []
+no_token_left w text i n within long all =
+    (skipped w text i n within long).same ∙ tokens_from-end w text (i + n) (omega arith)
+
+-- n blanks and a token behind them
+pub record FirstToken (w : WordStart) (text : List ℕ) (i n : ℕ) (front : Token × ℕ) : Type 0 where
+  pub tokens : tokens_from w text i ≡ (record { token = front.0; start = i + n; end = i + n + front.1 }) ∷ tokens_from w text (i + n + front.1)
+  pub some : 0 < front.1
+  pub fits : i + n + front.1 ≤ length text
+
+pub first_token : (w : WordStart) (text : List ℕ) (i n : ℕ) (front : Token × ℕ) → i ≤ length text → n ≡ length (take_while is_blank (drop i text)) → (i + n ≡ length text → ⊥) → front ≡ front_token w (get_or text (i + n) 0) (drop (i + n + 1) text) → FirstToken w text i n front
+unfolding placed placed_at front_at
+first_token w text i n front within long more is =
+    let skip = skipped w text i n within long in
+    let inside : i + n < length text = omega (arith, skip.fits) in
+    let bounds = front_at-within w text (i + n) inside in
+    let size = ap (λ f. f.1) is in
+    record {
+      tokens =
+          skip.same
+          ∙ tokens_from-token w text (i + n) inside (skip.stops inside)
+          ∙ ap (λ (f : Token × ℕ). (record { token = f.0; start = i + n; end = i + n + f.1 }) ∷ tokens_from w text (i + n + f.1)) (sym is);
+      some = omega (arith, bounds.some);
+      fits = omega (arith, bounds.fits);
+    }

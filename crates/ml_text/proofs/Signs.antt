@@ -1,9 +1,9 @@
 -- The longest spelling of a table with which a text begins, for any table.
 --
 --   Found es text best == best is the token and the length of a spelling of the table with which the text begins
-use Rattle.std.proofs.Common.{◌≡◌, ℕ, zero, suc, ◌+◌, ◌<◌, ◌≤◌, Bool, true, false, cond, ◌&&◌, ◌⊎◌, List, [], ◌∷◌, length, take, get_or, Option, Some, None, if◌then◌else◌, nat_eq, nat_lt, Contains, sym, refl, ap, ◌∙◌, subst, inl, inr, ⊎_elim, arith, ltb-true, ltb-false, length-take}
+use Rattle.std.proofs.Common.{◌≡◌, ℕ, zero, suc, ◌<◌, ◌≤◌, true, false, ◌&&◌, ◌⊎◌, List, [], ◌∷◌, length, take, get_or, Option, Some, None, nat_eq, Contains, sym, refl, ap, ◌∙◌, subst, inl, inr, ⊎_elim, arith, ltb-true, ltb-false, length-take}
 use Rattle.std.specs.List.{starts_with}
-use Rattle.std.proofs.lemmas.Bool.{cases_Bool, and_parts, and_cases, and_from, and_left, and_right, false≢true, cond-true, cond-false}
+use Rattle.std.proofs.lemmas.Bool.{cases_Bool, and_from, and_left, and_right, cond-true, cond-false}
 use Rattle.std.proofs.lemmas.List.Elements.{Contains-append_right}
 use Rattle.std.proofs.lemmas.Slice.Eq.{bytes_eq-Decides}
 use Rattle.ml_text.specs.Tokens.{is_longer, longest_sign}
@@ -77,10 +77,10 @@ longest_sign-found (e ∷ es) text best is =
     let later : longest_sign (e ∷ es) text ≡ longest_sign es text → Found (e ∷ es) text best = λ same. found_later e es text best (longest_sign-found es text best (sym same ∙ is)) in
     ⊎_elim
     (λ (starts : starts_with nat_eq text e.0 ≡ true).
-        ⊎_elim
-        (λ (longer : is_longer e (longest_sign es text) ≡ true). let here : (e.1, length e.0) ≡ best = cc (longest_sign-taken e es text starts longer, is) in subst (Found (e ∷ es) text) here (found_first e es text starts))
-        (λ (shorter : is_longer e (longest_sign es text) ≡ false). later (longest_sign-shorter e es text shorter))
-        (cases_Bool (is_longer e (longest_sign es text))))
+    ⊎_elim
+    (λ (longer : is_longer e (longest_sign es text) ≡ true). let here : (e.1, length e.0) ≡ best = cc (longest_sign-taken e es text starts longer, is) in subst (Found (e ∷ es) text) here (found_first e es text starts))
+    (λ (shorter : is_longer e (longest_sign es text) ≡ false). later (longest_sign-shorter e es text shorter))
+    (cases_Bool (is_longer e (longest_sign es text))))
     (λ (other : starts_with nat_eq text e.0 ≡ false). later (longest_sign-other e es text other))
     (cases_Bool (starts_with nat_eq text e.0))
 
@@ -110,10 +110,10 @@ longest_sign-keeps : (d : List ℕ × Token) (es : List (List ℕ × Token)) (te
 longest_sign-keeps d es text n a =
     ⊎_elim
     (λ (starts : starts_with nat_eq text d.0 ≡ true).
-        ⊎_elim
-        (λ (longer : is_longer d (longest_sign es text) ≡ true). record { best = (d.1, length d.0); is = longest_sign-taken d es text starts longer; long = is_longer-above d n (longest_sign es text) a longer })
-        (λ (shorter : is_longer d (longest_sign es text) ≡ false). at_least_along n _ _ (longest_sign-shorter d es text shorter) a)
-        (cases_Bool (is_longer d (longest_sign es text))))
+    ⊎_elim
+    (λ (longer : is_longer d (longest_sign es text) ≡ true). record { best = (d.1, length d.0); is = longest_sign-taken d es text starts longer; long = is_longer-above d n (longest_sign es text) a longer })
+    (λ (shorter : is_longer d (longest_sign es text) ≡ false). at_least_along n _ _ (longest_sign-shorter d es text shorter) a)
+    (cases_Bool (is_longer d (longest_sign es text))))
     (λ (other : starts_with nat_eq text d.0 ≡ false). at_least_along n _ _ (longest_sign-other d es text other) a)
     (cases_Bool (starts_with nat_eq text d.0))
 
