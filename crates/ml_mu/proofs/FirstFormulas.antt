@@ -4,7 +4,7 @@
 --   literals_propositions  == its propositions are the names of its literals
 --   named_run              == each literal that the reader reads has a name
 --   well_formed            == the formula of a first text is well formed
-use Rattle.std.proofs.Common.{◌≡◌, ℕ, ◌+◌, ◌*◌, ◌≤◌, Bool, true, false, ◌&&◌, List, [], ◌∷◌, ◌++◌, length, map, Option, Some, None, refl, sym, ◌∙◌, ap, subst, arith, codes, length-append}
+use Rattle.std.proofs.Common.{◌≡◌, ℕ, ◌+◌, ◌*◌, ◌≤◌, Bool, true, false, ◌&&◌, List, [], ◌∷◌, ◌++◌, length, Option, Some, None, refl, sym, ◌∙◌, ap, subst, arith, codes, length-append}
 use Rattle.std.specs.Prelude.{option_and_then}
 use Rattle.std.specs.List.{list_all}
 use Rattle.std.proofs.lemmas.Bool.{and_from}
@@ -17,20 +17,20 @@ use Rattle.ml_text.specs.declared.token.Token.TheVariants as token
 use Rattle.ml_mu.specs.declared.first_text.Expected.{Expected}
 use Rattle.ml_mu.specs.declared.first_text.Expected.TheVariants as expected
 use Rattle.ml_mu.specs.declared.first_text.Literal.{Literal}
-use Rattle.ml_mu.specs.Formula.{Formula, Const, Prop, Var, Not, Binary, Modal, Binder, occurrences}
-use Rattle.ml_mu.specs.Spelling.{is_proposition, is_spelled}
+use Rattle.ml_mu.specs.Formula.{Formula, Binary, occurrences}
+use Rattle.ml_mu.specs.Spelling.{is_spelled}
 use Rattle.ml_mu.specs.Variables.{is_bound, is_positive}
 use Rattle.ml_mu.specs.WellFormed.{IsWellFormed}
 use Rattle.ml_mu.specs.FirstText.{Spelt, ReadsLiteral, positive, negative, ReadsConjunction, one, more, propositions, spelt_tokens, StandsFor}
-use Rattle.ml_mu.specs.FirstReading.{literal_formula, conjunction, conjunction_of, literals_of, with_literal, expect_if, step, run}
+use Rattle.ml_mu.specs.FirstReading.{literal_formula, conjunction, conjunction_of, literals_of, step, run}
 use Rattle.ml_mu.proofs.FirstTexts.{names, literal, IsAdded, with_literal_added, IsExpected, expect_if_expected}
 
 -- ---- the conjunction of its literals
 
 -- a literal more at the end is one conjunction more around
-conjunction-push : (f : Formula) (ls : List Literal) (l : Literal) → conjunction f (ls ++ l ∷ []) ≡ Binary operator.And (conjunction f ls) (literal_formula l)
-conjunction-push f [] l = refl
-conjunction-push f (k ∷ ls) l = conjunction-push (Binary operator.And f (literal_formula k)) ls l
+pub conjunction_push : (f : Formula) (ls : List Literal) (l : Literal) → conjunction f (ls ++ l ∷ []) ≡ Binary operator.And (conjunction f ls) (literal_formula l)
+conjunction_push f [] l = refl
+conjunction_push f (k ∷ ls) l = conjunction_push (Binary operator.And f (literal_formula k)) ls l
 
 -- a formula with its literals, of which there is one at least
 pub record HasLiterals (f : Formula) : Type 0 where
@@ -44,7 +44,7 @@ one_literal : (ts : List Spelt) (f : Formula) (rest : List Spelt) → ReadsLiter
 one_literal _ _ _ (positive p rest h) = (literal true p, refl, refl)
 one_literal _ _ _ (negative p rest h) = (literal false p, refl, refl)
 
-has_literals : (ts : List Spelt) (f : Formula) (rest : List Spelt) → ReadsConjunction ts f rest → HasLiterals f
+pub has_literals : (ts : List Spelt) (f : Formula) (rest : List Spelt) → ReadsConjunction ts f rest → HasLiterals f
 has_literals _ _ _ (one ts f rest h) =
     let l = one_literal ts f rest h in record { first = l.0; others = []; are_all = l.1; is_conjunction = l.2 }
 has_literals _ _ _ (more ts f us g rest h k) =
@@ -55,9 +55,10 @@ has_literals _ _ _ (more ts f us g rest h k) =
       others = had.others ++ l.0 ∷ [];
       are_all = ap (λ ls. ls ++ literals_of g) had.are_all ∙ ap (λ ls. had.first ∷ (had.others ++ ls)) l.1;
       is_conjunction =
-        ap (λ k. Binary operator.And k g) had.is_conjunction
-        ∙ ap (Binary operator.And (conjunction (literal_formula had.first) had.others)) l.2
-        ∙ sym (conjunction-push (literal_formula had.first) had.others l.0) }
+          ap (λ k. Binary operator.And k g) had.is_conjunction
+          ∙ ap (Binary operator.And (conjunction (literal_formula had.first) had.others)) l.2
+          ∙ sym (conjunction_push (literal_formula had.first) had.others l.0);
+    }
 
 pub conjunction-literals_of : (ts : List Spelt) (f : Formula) → ReadsConjunction ts f [] → f ≡ conjunction_of (literals_of f)
 conjunction-literals_of ts f h =
@@ -95,7 +96,8 @@ plain_both f g p q = record {
   small = omega (arith, length-append (propositions f) (propositions g), p.small, q.small);
   spelled = and_from (is_spelled f) (is_spelled g) p.spelled q.spelled;
   bound = and_from (is_bound [] f) (is_bound [] g) p.bound q.bound;
-  positives = and_from (is_positive f) (is_positive g) p.positives q.positives }
+  positives = and_from (is_positive f) (is_positive g) p.positives q.positives;
+}
 
 plain_conjunction : (ts : List Spelt) (f : Formula) (rest : List Spelt) → ReadsConjunction ts f rest → IsPlain f
 plain_conjunction _ _ _ (one ts f rest h) = plain_literal ts f rest h
@@ -109,7 +111,8 @@ well_formed text f stands =
       is_small = omega (arith, plain.small, stands.are_few);
       names_are_spelled = plain.spelled;
       variables_are_bound = plain.bound;
-      variables_are_positive = plain.positives }
+      variables_are_positive = plain.positives;
+    }
 
 -- ---- the reader's literals have names
 

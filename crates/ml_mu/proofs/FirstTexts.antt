@@ -2,28 +2,24 @@
 --
 --   complete             == what the grammar reads as a conjunction, the reader reads as its literals
 --   sound                == what the reader reads to the end, the grammar reads as a conjunction of those literals
-use Rattle.std.proofs.Common.{◌≡◌, ℕ, ◌+◌, ◌*◌, ◌≤◌, Bool, true, false, ◌&&◌, if◌then◌else◌, List, [], ◌∷◌, ◌++◌, length, map, Option, Some, None, refl, sym, ◌∙◌, ap, subst, arith, append_assoc, codes, length-append}
-use Rattle.std.specs.Prelude.{option_and_then, IsTrue}
+use Rattle.std.proofs.Common.{◌≡◌, ℕ, Bool, true, false, ◌&&◌, if◌then◌else◌, List, [], ◌∷◌, ◌++◌, map, Option, Some, None, refl, sym, ◌∙◌, ap, subst, append_assoc, codes}
+use Rattle.std.specs.Prelude.{option_and_then}
 use Rattle.std.specs.List.{list_all}
 use Rattle.std.specs.Str.{bytes_eq}
 use Rattle.std.proofs.lemmas.Bool.{and_parts, and_from}
-use Rattle.std.proofs.lemmas.List.{map-append}
 use Rattle.std.proofs.lemmas.List.Folds.{list_all-append}
 use Rattle.std.proofs.lemmas.Slice.Eq.{bytes_eq-Decides}
 use Rattle.ml_base.specs.Name.{is_name}
-use Rattle.ml_text.specs.declared.token.Operator.{Operator}
 use Rattle.ml_text.specs.declared.token.Operator.TheVariants as operator
 use Rattle.ml_text.specs.declared.token.Token.{Token}
 use Rattle.ml_text.specs.declared.token.Token.TheVariants as token
 use Rattle.ml_mu.specs.declared.first_text.Expected.{Expected}
 use Rattle.ml_mu.specs.declared.first_text.Expected.TheVariants as expected
 use Rattle.ml_mu.specs.declared.first_text.Literal.{Literal}
-use Rattle.ml_mu.specs.Formula.{Formula, Const, Prop, Var, Not, Binary, Modal, Binder, occurrences}
-use Rattle.ml_mu.specs.Spelling.{is_proposition, is_spelled}
-use Rattle.ml_mu.specs.Variables.{is_bound, is_positive}
-use Rattle.ml_mu.specs.WellFormed.{IsWellFormed}
-use Rattle.ml_mu.specs.FirstText.{Spelt, ReadsLiteral, positive, negative, ReadsConjunction, one, more, propositions, spelt_tokens, StandsFor}
-use Rattle.ml_mu.specs.FirstReading.{literal_formula, conjunction, conjunction_of, literals_of, with_literal, expect_if, step, run}
+use Rattle.ml_mu.specs.Formula.{Formula, Prop, Not, Binary}
+use Rattle.ml_mu.specs.Spelling.{is_proposition}
+use Rattle.ml_mu.specs.FirstText.{Spelt, ReadsLiteral, positive, negative, ReadsConjunction, one, more, propositions}
+use Rattle.ml_mu.specs.FirstReading.{literals_of, with_literal, expect_if, step, run}
 
 -- the names of literals
 abbrev pub names : List Literal → List (List ℕ)
@@ -48,10 +44,10 @@ pub complete : (ts : List Spelt) (f : Formula) (rest : List Spelt) → ReadsConj
 complete _ _ _ (one ts f rest h) n ls = complete_literal ts f rest h n ls
 complete _ _ _ (more ts f us g rest h l) n ls =
     let both : (list_all is_name (propositions f) ≡ true) × (list_all is_name (propositions g) ≡ true) =
-        and_parts (list_all is_name (propositions f)) (list_all is_name (propositions g)) (sym (list_all-append is_name (propositions f) (propositions g)) ∙ n)
+    and_parts (list_all is_name (propositions f)) (list_all is_name (propositions g)) (sym (list_all-append is_name (propositions f) (propositions g)) ∙ n)
     in complete ts f ((token.Operator operator.And, codes "&") ∷ us) h both.0 ls
-        ∙ complete_literal us g rest l both.1 (ls ++ literals_of f)
-        ∙ ap (run rest expected.And) (append_assoc ls (literals_of f) (literals_of g))
+    ∙ complete_literal us g rest l both.1 (ls ++ literals_of f)
+    ∙ ap (run rest expected.And) (append_assoc ls (literals_of f) (literals_of g))
 
 -- ---- what the reader reads, the grammar reads
 
@@ -85,7 +81,8 @@ with_literal_added sign s ls e out read = by_test (is_proposition s && is_name s
           is_word = both.0;
           is_short = both.1;
           then_and = sym (ap (λ (p : Expected × List Literal). p.0) pair);
-          literals = sym (ap (λ (p : Expected × List Literal). p.1) pair) }
+          literals = sym (ap (λ (p : Expected × List Literal). p.1) pair);
+        }
     by_test false same found = absurd (cc)
 
 -- a sign that is read as expected is spelt so
@@ -103,7 +100,8 @@ expect_if_expected s bytes next ls e out read = by_test (bytes_eq s bytes) refl 
         record {
           spelling = (bytes_eq-Decides s bytes).0 same;
           then_next = sym (ap (λ (p : Expected × List Literal). p.0) pair);
-          literals = sym (ap (λ (p : Expected × List Literal). p.1) pair) }
+          literals = sym (ap (λ (p : Expected × List Literal). p.1) pair);
+        }
     by_test false same found = absurd (cc)
 
 -- each step keeps what is known
@@ -111,28 +109,28 @@ known_step : (whole : List Spelt) (e : Expected) (t : Token) (s : List ℕ) (ts 
 known_step whole expected.Literal token.Word s ts ls known next out read =
     let added : IsAdded true s ls next out = with_literal_added true s ls next out read in
     subst (λ n. Known whole n ts out) (sym added.then_and)
-        (subst (λ k. Known whole expected.And ts k) (sym added.literals) (known (Prop s) ts (positive s ts added.is_word)))
+    (subst (λ k. Known whole expected.And ts k) (sym added.literals) (known (Prop s) ts (positive s ts added.is_word)))
 known_step whole expected.Literal token.Not s ts ls known next out read =
     let found : IsExpected s (codes "!") expected.Proposition ls next out = expect_if_expected s (codes "!") expected.Proposition ls next out read in
     subst (λ n. Known whole n ts out) (sym found.then_next)
-        (subst (λ k. Known whole expected.Proposition ts k) (sym found.literals)
-            (subst (λ b. Known whole expected.Literal ((token.Not, b) ∷ ts) ls) found.spelling known))
+    (subst (λ k. Known whole expected.Proposition ts k) (sym found.literals)
+    (subst (λ b. Known whole expected.Literal ((token.Not, b) ∷ ts) ls) found.spelling known))
 known_step whole expected.Literal (token.Operator op) s ts ls known next out read = absurd (cc)
 known_step whole expected.Literal (token.Byte b) s ts ls known next out read = absurd (cc)
 known_step whole expected.Proposition token.Word s ts ls known next out read =
     let added : IsAdded false s ls next out = with_literal_added false s ls next out read in
     subst (λ n. Known whole n ts out) (sym added.then_and)
-        (subst (λ k. Known whole expected.And ts k) (sym added.literals) (known (Not (Prop s)) ts (negative s ts added.is_word)))
+    (subst (λ k. Known whole expected.And ts k) (sym added.literals) (known (Not (Prop s)) ts (negative s ts added.is_word)))
 known_step whole expected.Proposition token.Not s ts ls known next out read = absurd (cc)
 known_step whole expected.Proposition (token.Operator op) s ts ls known next out read = absurd (cc)
 known_step whole expected.Proposition (token.Byte b) s ts ls known next out read = absurd (cc)
 known_step whole expected.And (token.Operator operator.And) s ts ls known next out read =
     let found : IsExpected s (codes "&") expected.Literal ls next out = expect_if_expected s (codes "&") expected.Literal ls next out read in
     let so_far : ReadsConjunction whole known.0 ((token.Operator operator.And, codes "&") ∷ ts) =
-        subst (λ b. ReadsConjunction whole known.0 ((token.Operator operator.And, b) ∷ ts)) found.spelling known.1 in
+    subst (λ b. ReadsConjunction whole known.0 ((token.Operator operator.And, b) ∷ ts)) found.spelling known.1 in
     subst (λ n. Known whole n ts out) (sym found.then_next)
-        (subst (λ k. Known whole expected.Literal ts k) (sym found.literals)
-            (λ g rest h. (Binary operator.And known.0 g, more whole known.0 ts g rest so_far h, ap (λ k. k ++ literals_of g) known.2)))
+    (subst (λ k. Known whole expected.Literal ts k) (sym found.literals)
+    (λ g rest h. (Binary operator.And known.0 g, more whole known.0 ts g rest so_far h, ap (λ k. k ++ literals_of g) known.2)))
 known_step whole expected.And (token.Operator operator.Or) s ts ls known next out read = absurd (cc)
 known_step whole expected.And (token.Operator operator.Implies) s ts ls known next out read = absurd (cc)
 known_step whole expected.And (token.Operator operator.Iff) s ts ls known next out read = absurd (cc)

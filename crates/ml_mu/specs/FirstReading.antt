@@ -7,7 +7,9 @@
 --   literals_of f         == the literals of a conjunction of literals, in the order of the text
 --   step e t s ls         == what is expected, and which literals are read, behind the token t with the bytes s
 --   run ts e ls           == the literals that are read when the tokens ts are, if they are read to the end
-use Rattle.std.specs.Prelude.{ℕ, Bool, true, false, ◌&&◌, if◌then◌else◌, List, [], ◌∷◌, ◌++◌, Option, Some, None, option_and_then, codes}
+--   repeats ps            == does some name stand twice among ps?
+use Rattle.std.specs.Prelude.{ℕ, Bool, true, false, ◌&&◌, ◌||◌, if◌then◌else◌, List, [], ◌∷◌, ◌++◌, Option, Some, None, option_and_then, codes}
+use Rattle.std.specs.List.{list_any}
 use Rattle.std.specs.Str.{bytes_eq}
 use Rattle.ml_base.specs.Name.{is_name}
 use Rattle.ml_text.specs.declared.token.Operator.TheVariants as operator
@@ -84,3 +86,7 @@ finish _ ls = None
 abbrev pub run : List Spelt → Expected → List Literal → Option (List Literal)
 run [] e ls = finish e ls
 run (t ∷ ts) e ls = option_and_then (λ next. run ts next.0 next.1) (step e t.0 t.1 ls)
+
+abbrev pub repeats : List (List ℕ) → Bool
+repeats [] = false
+repeats (p ∷ ps) = list_any (bytes_eq p) ps || repeats ps

@@ -13,10 +13,9 @@
 --   ReadsConjunction ts f rest == ts begins with the conjunction of literals f, and rest follows
 --   propositions f             == the propositions of f in the order of the text
 --   StandsFor text f           == the text is a first text, and stands for the formula f
-use Rattle.std.specs.Prelude.{ℕ, ◌≤◌, ◌≡◌, ◌≢◌, ◌-◌, List, [], ◌∷◌, ◌++◌, length, map, take, drop, AllPairs, IsTrue, codes}
+use Rattle.std.specs.Prelude.{ℕ, ◌≤◌, ◌≢◌, ◌-◌, List, [], ◌∷◌, ◌++◌, length, map, take, drop, AllPairs, IsTrue, codes}
 use Rattle.std.specs.List.{list_all}
 use Rattle.ml_base.specs.Name.{is_name}
-use Rattle.ml_text.specs.declared.token.Operator.{Operator}
 use Rattle.ml_text.specs.declared.token.Operator.TheVariants.{And}
 use Rattle.ml_text.specs.declared.token.Token.{Token}
 use Rattle.ml_text.specs.declared.token.Token.TheVariants as token

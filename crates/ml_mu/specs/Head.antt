@@ -3,7 +3,7 @@
 --   Answer            == satisfiable, unsatisfiable or undecided; it speaks of the formula in its sense
 --   sense_word p      == `plain` or `negated`
 --   head_lines a p    == the five lines of the head of a written document, with the formula's canonical text
-use Rattle.std.specs.Prelude.{ℕ, Bool, true, false, List, [], ◌∷◌, codes}
+use Rattle.std.specs.Prelude.{Bool, true, false, List, [], ◌∷◌, codes}
 use Rattle.ml_lines.specs.Lines.{Word, Line, number}
 use Rattle.ml_mu.specs.Problem.{Problem}
 use Rattle.ml_mu.specs.Canonical.{canonical_text}

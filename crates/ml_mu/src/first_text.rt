@@ -1,6 +1,8 @@
 // The reader of the first texts: conjunctions of literals.
-ghost use Rattle.std.specs.Prelude.{◌≡◌, ◌≢◌, ◌<◌, ℕ, [], ◌∷◌, length, map, IfOk, MatchOption, MatchBool, AllPairs, None, Some, vec_len};
+ghost use Rattle.std.specs.Prelude.{◌≡◌, ◌<◌, [], ◌∷◌, length, map, IfOk, MatchOption, None, Some, vec_len};
+ghost use Rattle.std.specs.List.{list_any};
 ghost use Rattle.std.specs.Option.{option_map};
+ghost use Rattle.std.specs.Str.{bytes_eq};
 ghost use Rattle.ml_mu.specs.Formula as plain;
 ghost use Rattle.ml_mu.specs.FirstText.{StandsFor, spelt_tokens};
 ghost use Rattle.ml_mu.specs.FirstReading as reading;
@@ -13,6 +15,7 @@ use ml_text::{Operator, Token, WordStart, next_token};
 use std::alloc::Global;
 
 const LONGEST_TEXT: usize = 1_048_576;
+
 const MOST_PROPOSITIONS: usize = 16;
 
 // what a text may go on with
@@ -58,8 +61,9 @@ pub fn parse_plain(alloc: Global, text: &[u8]) -> Result<Option<Formula>, NoMemo
 }
 
 fn read_literals(alloc: Global, text: &[u8]) -> Result<Option<Vec<Literal>>, NoMemory>
-    ensures { IfOk result (λ read.
-        option_map (λ v. v.items) read ≡ reading.run (spelt_tokens text.now) Expected.Literal []) }
+    ensures { IfOk result (λ read. MatchOption read
+        (reading.run (spelt_tokens text.now) Expected.Literal [] ≡ None)
+        (λ literals. reading.run (spelt_tokens text.now) Expected.Literal [] ≡ Some literals.items)) }
 {
     let mut literals = Vec::new(alloc);
     let mut expected = Expected::Literal;
@@ -124,19 +128,23 @@ fn add_literal(
 
 // does some proposition stand twice?
 fn has_repeats(literals: &[Literal]) -> bool
-    ensures { MatchBool result
-        (¬ (AllPairs (λ p q. p ≢ q) (map (λ l. l.name) literals.now)))
-        (AllPairs (λ p q. p ≢ q) (map (λ l. l.name) literals.now)) }
+    ensures { result ≡ reading.repeats (map (λ l. l.name) literals.now) }
 {
-    for (i, literal) in literals.iter().enumerate() {
-        let name = literal.name.bytes();
-        if literals[..i].iter().any(|earlier| earlier.name.bytes() == name) {
-            return true;
-        }
+    match literals.split_first() {
+        None => false,
+        Some((first, rest)) => stands_in(first, rest) || has_repeats(rest),
     }
-    false
 }
 
+fn stands_in(literal: &Literal, literals: &[Literal]) -> bool
+    ensures { result ≡ list_any (λ l. bytes_eq literal.now.name l.name) literals.now }
+{
+    literals
+        .iter()
+        .any(|other| literal.name.bytes() == other.name.bytes())
+}
+
+#[tactic(auto, using(crate::proofs::FirstFormulas::conjunction_push))]
 fn conjunction_of(alloc: Global, literals: Vec<Literal>) -> Result<Term, NoMemory>
     requires { 0 < vec_len literals }
     ensures { IfOk result (λ term. formula_of term ≡ reading.conjunction_of literals.items) }

@@ -54,7 +54,7 @@ fn write_binary(
 ) -> Result<(), AllocError>
     ensures { OnOk result (text.new.items ≡
         text.old.items ++ (codes "(" ++ canonical_text (formula_of left.now) ++ sign.now
-            ++ canonical_text (formula_of right.now) ++ codes ")")) }
+        ++ canonical_text (formula_of right.now) ++ codes ")")) }
 {
     text.extend_from_slice(b"(")?;
     write_term(text, left)?;
@@ -93,7 +93,7 @@ fn write_binder(
 ) -> Result<(), AllocError>
     ensures { OnOk result (text.new.items ≡
         text.old.items ++ (codes "(" ++ word.now ++ variable.now ++ codes ". " ++ canonical_text (formula_of body.now)
-            ++ codes ")")) }
+        ++ codes ")")) }
 {
     text.extend_from_slice(b"(")?;
     text.extend_from_slice(word)?;
