@@ -1,6 +1,5 @@
 // A source and a sink in memory, with pieces of a chosen size and chosen calls that fail.
-ghost use Rattle.std.specs.Prelude.{◌≡◌, ℕ, ◌<◌, ◌≤◌, ◌↔◌, [], length, take, Some, IfOk, IfSome, IsErr, IsTrue, OnOk, OnErr};
-ghost use Rattle.std.specs.Io.KnownBytes.{Appends, Consumes, Keeps};
+ghost use Rattle.std.specs.Prelude.{◌≡◌, ℕ, ◌<◌, ◌≤◌, ◌↔◌, [], ◌++◌, length, take, min, Some, IfOk, IsErr, IsTrue, OnOk, OnErr};
 ghost use Rattle.ml_base.specs.Faults.{Rose};
 ghost use Rattle.ml_base.specs.Memory.{Feed, Store, is_due, refuses, given_count, taken_count, after_read, after_write};
 
@@ -61,13 +60,13 @@ impl Source for MemSource {
     ghost faults = { λ s. s.faults };
 
     fn read(&mut self, buf: &mut [u8]) -> Result<usize, Failed>
+        requires { 0 < length buf.old }
+
         // As for every source.
         ensures within { IfOk result (λ count. count ≤ length buf.old) }
-        ensures given { IfOk result (λ count.
-            Consumes (Some self.old.left) (Some self.new.left) (take count buf.new)) }
-        ensures end { IfOk result (λ count.
-            IfSome (Some self.old.left) (λ left. (count ≡ 0) ↔ (left ≡ []))) }
-        ensures kept { OnErr result (Keeps (Some self.old.left) (Some self.new.left)) }
+        ensures given { IfOk result (λ count. self.old.left ≡ take count buf.new ++ self.new.left) }
+        ensures end { IfOk result (λ count. (count ≡ 0) ↔ (self.old.left ≡ [])) }
+        ensures kept { OnErr result (self.new.left ≡ self.old.left) }
         ensures calm { OnOk result (self.new.faults ≡ self.old.faults) }
         ensures fault { OnErr result (Rose self.old.faults self.new.faults) }
 
@@ -82,9 +81,7 @@ impl Source for MemSource {
             self.faults = self.faults.saturating_add(1);
             return Err(Failed);
         }
-        let left = &self.bytes[self.given..];
-        let count = left.len().min(buf.len()).min(self.piece as usize);
-        buf[..count].copy_from_slice(&left[..count]);
+        let count = copy_front(&self.bytes[self.given..], self.piece, buf);
         self.given += count;
         Ok(count)
     }
@@ -160,9 +157,8 @@ impl Sink for MemSink {
         // As for every sink.
         ensures some { IfOk result (λ count. 0 < count) }
         ensures within { IfOk result (λ count. count ≤ length piece.now) }
-        ensures appended { IfOk result (λ count.
-            Appends (Some self.old.taken) (Some self.new.taken) (take count piece.now)) }
-        ensures kept { OnErr result (Keeps (Some self.old.taken) (Some self.new.taken)) }
+        ensures appended { IfOk result (λ count. self.new.taken ≡ self.old.taken ++ take count piece.now) }
+        ensures kept { OnErr result (self.new.taken ≡ self.old.taken) }
         ensures calm { OnOk result (self.new.faults ≡ self.old.faults) }
         ensures fault { OnErr result (Rose self.old.faults self.new.faults) }
 
@@ -182,6 +178,16 @@ impl Sink for MemSink {
         self.taken.extend_from_slice(&piece[..count]).unwrap();
         Ok(count)
     }
+}
+
+// Copies as many bytes as the piece and the buffer allow to the front of the buffer, and says how many.
+fn copy_front(left: &[u8], piece: u32, buf: &mut [u8]) -> usize
+    ensures count { result ≡ min piece (min (length buf.old) (length left.now)) }
+    ensures copied { take result buf.new ≡ take result left.now }
+{
+    let count = left.len().min(buf.len()).min(piece as usize);
+    buf[..count].copy_from_slice(&left[..count]);
+    count
 }
 
 // After so many calls, the number of the next one stands in the list.

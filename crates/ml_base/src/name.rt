@@ -1,5 +1,6 @@
 // Names and actions.
 ghost use Rattle.std.specs.Prelude.{◌≡◌, IfOk, OnOk, IsErrOf};
+ghost use Rattle.std.specs.List.{list_all};
 ghost use Rattle.ml_base.specs.Name as name;
 
 use crate::no_memory::NoMemory;
@@ -145,17 +146,22 @@ impl Action {
     }
 }
 
+#[tactic(auto, using(crate::proofs::Names::is_name_parts))]
 fn is_name(text: &[u8]) -> bool
     ensures { result ≡ name.is_name text.now }
 {
     match text {
         [] => false,
         [first, rest @ ..] => {
-            first.is_ascii_alphabetic()
-                && rest.iter().all(|byte| is_name_byte(*byte))
-                && text.len() <= LONGEST_NAME
+            first.is_ascii_alphabetic() && are_name_bytes(rest) && text.len() <= LONGEST_NAME
         }
     }
+}
+
+fn are_name_bytes(text: &[u8]) -> bool
+    ensures { result ≡ list_all name.is_name_byte text.now }
+{
+    text.iter().all(|byte| is_name_byte(*byte))
 }
 
 fn is_name_byte(byte: u8) -> bool

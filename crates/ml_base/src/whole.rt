@@ -1,12 +1,12 @@
 // A source read to its end, and bytes written to the last.
 ghost use Rattle.std.specs.Prelude.{◌≡◌, ℕ, ◌+◌, ◌*◌, ◌-◌, ◌^◌, ◌<◌, ◌≤◌, List, length, take, drop, vec_len, IfOk, IfErr, IfSome, OnOk, OnErr, IsErrOf};
-ghost use Rattle.std.specs.Io.KnownBytes.{Appends, Consumes, IsAtEnd, Keeps};
+ghost use Rattle.std.specs.Io.KnownBytes.{IsAtEnd, append_known, prepend_known};
 ghost use Rattle.ml_base.specs.Faults.{Rose};
 ghost use Rattle.ml_base.specs.Whole.{AreFaultsAt, IsGivenCount, Gives, AppendsPart};
 
 use crate::no_memory::NoMemory;
 use crate::sink::Sink;
-use crate::source::Source;
+use crate::source::{Failed, Source};
 use std::alloc::Global;
 use thiserror::Error;
 
@@ -54,7 +54,7 @@ pub fn read_all<S: Source>(
 
     // The result is what was given, up to the end, and all that was left where the source tells it.
     ensures given { IfOk result (λ bytes.
-        Consumes (S.remaining source.old) (S.remaining source.new) bytes.items) }
+        S.remaining source.old ≡ prepend_known bytes.items (S.remaining source.new)) }
     ensures end { OnOk result (IsAtEnd (S.remaining source.new)) }
     ensures whole { IfOk result (λ bytes.
         IfSome (S.remaining source.old) (λ left. bytes.items ≡ left)) }
@@ -72,7 +72,50 @@ pub fn read_all<S: Source>(
     ensures faults { IfErr result (λ refusal.
         AreFaultsAt refusal (S.faults source.old) (S.faults source.new)) }
 {
-    Err(ReadRefusal::NoMemory)
+    let end = max as usize + 1;
+    let mut bytes = Vec::new(alloc);
+    let mut filled = 0;
+    while filled < end {
+        if filled == bytes.len() {
+            grow(&mut bytes, end).map_err(|_| ReadRefusal::NoMemory)?;
+        }
+        match read_behind(source, bytes.as_mut_slice(), filled) {
+            Ok(0) => {
+                bytes.truncate(filled);
+                return Ok(bytes);
+            }
+            Ok(count) => filled += count,
+            Err(_) => return Err(ReadRefusal::ReadFault),
+        }
+    }
+    Err(ReadRefusal::TooLong)
+}
+
+// Room behind the bytes, as much again as there is, but no further than `end`.
+fn grow(bytes: &mut Vec<u8>, end: usize) -> Result<(), NoMemory>
+    requires { vec_len bytes.old < end }
+    ensures room { OnOk result (vec_len bytes.old < vec_len bytes.new) }
+    ensures within { OnOk result (vec_len bytes.new ≤ end) }
+    ensures front { OnOk result (take (vec_len bytes.old) bytes.new.items ≡ bytes.old.items) }
+{
+    let len = bytes.len().saturating_mul(2).max(FIRST_ROOM).min(end);
+    bytes.resize(len, 0)?;
+    Ok(())
+}
+
+// One read behind the bytes that are filled.
+fn read_behind<S: Source>(source: &mut S, buf: &mut [u8], filled: usize) -> Result<usize, Failed>
+    requires { filled < length buf.old }
+    ensures front { take filled buf.new ≡ take filled buf.old }
+    ensures within { IfOk result (λ count. filled + count ≤ length buf.old) }
+    ensures given { IfOk result (λ count.
+        S.remaining source.old ≡ prepend_known (take count (drop filled buf.new)) (S.remaining source.new)) }
+    ensures end { IfOk result (λ count. count ≡ 0 → IsAtEnd (S.remaining source.new)) }
+    ensures kept { OnErr result (S.remaining source.new ≡ S.remaining source.old) }
+    ensures calm { OnOk result (S.faults source.new ≡ S.faults source.old) }
+    ensures fault { OnErr result (Rose (S.faults source.old) (S.faults source.new)) }
+{
+    source.read(&mut buf[filled..])
 }
 
 /// Writes all the bytes, in as many calls as the sink needs. It takes no memory.
@@ -83,12 +126,18 @@ pub fn read_all<S: Source>(
 ///
 /// Cost: linear in the bytes for a sink that is.
 pub fn write_all<K: Sink>(sink: &mut K, bytes: &[u8]) -> Result<(), WriteRefusal>
-    ensures appended { OnOk result (Appends (K.taken sink.old) (K.taken sink.new) bytes.now) }
+    ensures appended { OnOk result (K.taken sink.new ≡ append_known (K.taken sink.old) bytes.now) }
     ensures part { OnErr result (AppendsPart (K.taken sink.old) (K.taken sink.new) bytes.now) }
 
     // The count of faults.
     ensures calm { OnOk result (K.faults sink.new ≡ K.faults sink.old) }
     ensures fault { OnErr result (Rose (K.faults sink.old) (K.faults sink.new)) }
 {
-    Err(WriteRefusal::WriteFault)
+    let mut done = 0;
+    while done < bytes.len() {
+        done += sink
+            .write(&bytes[done..])
+            .map_err(|_| WriteRefusal::WriteFault)?;
+    }
+    Ok(())
 }

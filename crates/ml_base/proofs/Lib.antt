@@ -1,0 +1,2 @@
+-- names, taken apart
+pub mod Names
