@@ -23,6 +23,16 @@ pub enum ReadRefusal {
     NoMemory,
 }
 
+impl From<NoMemory> for ReadRefusal {
+    ghost use Rattle.ml_base.specs.declared.whole.ReadRefusal.TheVariants as refusal;
+
+    ghost from_gives = { λ _ e. e ≡ refusal.NoMemory };
+
+    fn from(_: NoMemory) -> ReadRefusal {
+        ReadRefusal::NoMemory
+    }
+}
+
 /// Why bytes weren't written to the last.
 #[derive(Clone, Copy, Debug, PartialEq, Eq, Error)]
 pub enum WriteRefusal {
@@ -76,46 +86,50 @@ pub fn read_all<S: Source>(
     let mut bytes = Vec::new(alloc);
     let mut filled = 0;
     while filled < end {
-        if filled == bytes.len() {
-            grow(&mut bytes, end).map_err(|_| ReadRefusal::NoMemory)?;
-        }
-        match read_behind(source, bytes.as_mut_slice(), filled) {
+        make_room(&mut bytes, filled, end)?;
+        match read_behind(source, &mut bytes, filled) {
             Ok(0) => {
                 bytes.truncate(filled);
                 return Ok(bytes);
             }
             Ok(count) => filled += count,
-            Err(_) => return Err(ReadRefusal::ReadFault),
+            Err(Failed) => return Err(ReadRefusal::ReadFault),
         }
     }
     Err(ReadRefusal::TooLong)
 }
 
-// Room behind the bytes, as much again as there is, but no further than `end`.
-fn grow(bytes: &mut Vec<u8>, end: usize) -> Result<(), NoMemory>
-    requires { vec_len bytes.old < end }
-    ensures room { OnOk result (vec_len bytes.old < vec_len bytes.new) }
+// Room behind the bytes that are filled: where there is none, as much again, but no further than `end`.
+fn make_room(bytes: &mut Vec<u8>, filled: usize, end: usize) -> Result<(), NoMemory>
+    requires filled { filled ≤ vec_len bytes.old }
+    requires below { filled < end }
+    requires within { vec_len bytes.old ≤ end }
+    ensures room { OnOk result (filled < vec_len bytes.new) }
     ensures within { OnOk result (vec_len bytes.new ≤ end) }
-    ensures front { OnOk result (take (vec_len bytes.old) bytes.new.items ≡ bytes.old.items) }
+    ensures front { OnOk result (take filled bytes.new.items ≡ take filled bytes.old.items) }
 {
+    if filled < bytes.len() {
+        return Ok(());
+    }
     let len = bytes.len().saturating_mul(2).max(FIRST_ROOM).min(end);
     bytes.resize(len, 0)?;
     Ok(())
 }
 
 // One read behind the bytes that are filled.
-fn read_behind<S: Source>(source: &mut S, buf: &mut [u8], filled: usize) -> Result<usize, Failed>
-    requires { filled < length buf.old }
-    ensures front { take filled buf.new ≡ take filled buf.old }
-    ensures within { IfOk result (λ count. filled + count ≤ length buf.old) }
+fn read_behind<S: Source>(source: &mut S, bytes: &mut Vec<u8>, filled: usize) -> Result<usize, Failed>
+    requires { filled < vec_len bytes.old }
+    ensures len { vec_len bytes.new ≡ vec_len bytes.old }
+    ensures front { take filled bytes.new.items ≡ take filled bytes.old.items }
+    ensures within { IfOk result (λ count. filled + count ≤ vec_len bytes.old) }
     ensures given { IfOk result (λ count.
-        S.remaining source.old ≡ prepend_known (take count (drop filled buf.new)) (S.remaining source.new)) }
+        S.remaining source.old ≡ prepend_known (take count (drop filled bytes.new.items)) (S.remaining source.new)) }
     ensures end { IfOk result (λ count. count ≡ 0 → IsAtEnd (S.remaining source.new)) }
     ensures kept { OnErr result (S.remaining source.new ≡ S.remaining source.old) }
     ensures calm { OnOk result (S.faults source.new ≡ S.faults source.old) }
     ensures fault { OnErr result (Rose (S.faults source.old) (S.faults source.new)) }
 {
-    source.read(&mut buf[filled..])
+    source.read(&mut bytes[filled..])
 }
 
 /// Writes all the bytes, in as many calls as the sink needs. It takes no memory.
@@ -135,9 +149,10 @@ pub fn write_all<K: Sink>(sink: &mut K, bytes: &[u8]) -> Result<(), WriteRefusal
 {
     let mut done = 0;
     while done < bytes.len() {
-        done += sink
-            .write(&bytes[done..])
-            .map_err(|_| WriteRefusal::WriteFault)?;
+        match sink.write(&bytes[done..]) {
+            Ok(count) => done += count,
+            Err(Failed) => return Err(WriteRefusal::WriteFault),
+        }
     }
     Ok(())
 }
