@@ -11,6 +11,7 @@
 pub mod memory;
 mod name;
 mod no_memory;
+mod order;
 mod sink;
 mod source;
 pub mod streams;
