@@ -1,11 +1,8 @@
 -- names and actions
 pub mod Name
-
 -- counts of faults, and when one rose
 pub mod Faults
-
 -- the source and the sink in memory, as values
 pub mod Memory
-
 -- what a whole read and a whole write leave behind
 pub mod Whole

@@ -15,6 +15,8 @@ mod order;
 mod sink;
 mod source;
 pub mod streams;
+#[cfg(test)]
+mod tests;
 pub mod whole;
 
 pub use memory::{MemSink, MemSource};

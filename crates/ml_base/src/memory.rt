@@ -21,19 +21,21 @@ pub struct MemSource {
 }
 
 impl Model for MemSource {
-    ghost use Rattle.std.specs.Prelude.{◌≤◌, ◌<◌, drop, vec_len};
+    ghost use Rattle.std.specs.Prelude.{◌≡◌, ◌≤◌, ◌<◌, [], drop, vec_len};
     ghost use Rattle.ml_base.specs.Memory.{Feed};
 
     ghost Value = { Feed };
 
     ghost view = { λ s. record {
-        left = drop s.given s.bytes.items;
-        piece = s.piece;
-        fails = s.fails.items;
-        calls = s.calls;
-        faults = s.faults } };
+      left = drop s.given s.bytes.items;
+      piece = s.piece;
+      fails = s.fails.items;
+      calls = s.calls;
+      faults = s.faults;
+    } };
 
-    ghost invariant = { λ s. (s.given ≤ vec_len s.bytes) × (0 < s.piece) };
+    ghost invariant = { λ s. (s.given ≤ vec_len s.bytes) × (0 < s.piece)
+        × (s.fails.items ≡ [] → s.faults ≡ 0) };
 }
 
 impl MemSource {
@@ -73,6 +75,7 @@ impl Source for MemSource {
         // What this source does, exactly.
         ensures fails { IsErr result ↔ IsTrue (is_due self.old.fails self.old.calls) }
         ensures count { IfOk result (λ count. count ≡ given_count self.old (length buf.old)) }
+        ensures faultless { self.old.fails ≡ [] → self.new.faults ≡ 0 }
         ensures after { self.new ≡ after_read self.old (length buf.old) }
     {
         let is_due = is_due(&self.fails, self.calls);
@@ -99,20 +102,22 @@ pub struct MemSink {
 }
 
 impl Model for MemSink {
-    ghost use Rattle.std.specs.Prelude.{◌≤◌, ◌<◌, vec_len, vec_capacity};
+    ghost use Rattle.std.specs.Prelude.{◌≡◌, ◌≤◌, ◌<◌, [], vec_len, vec_capacity};
     ghost use Rattle.ml_base.specs.Memory.{Store};
 
     ghost Value = { Store };
 
     ghost view = { λ s. record {
-        taken = s.taken.items;
-        room = s.room;
-        piece = s.piece;
-        fails = s.fails.items;
-        calls = s.calls;
-        faults = s.faults } };
+      taken = s.taken.items;
+      room = s.room;
+      piece = s.piece;
+      fails = s.fails.items;
+      calls = s.calls;
+      faults = s.faults;
+    } };
 
-    ghost invariant = { λ s. (vec_len s.taken ≤ s.room) × (s.room ≤ vec_capacity s.taken) × (0 < s.piece) };
+    ghost invariant = { λ s. (vec_len s.taken ≤ s.room) × (s.room ≤ vec_capacity s.taken) × (0 < s.piece)
+        × (s.fails.items ≡ [] → vec_len s.taken < s.room → s.faults ≡ 0) };
 }
 
 impl MemSink {
@@ -165,6 +170,7 @@ impl Sink for MemSink {
         // What this sink does, exactly.
         ensures fails { IsErr result ↔ IsTrue (refuses self.old) }
         ensures count { IfOk result (λ count. count ≡ taken_count self.old (length piece.now)) }
+        ensures faultless { self.old.fails ≡ [] → length self.old.taken < self.old.room → self.new.faults ≡ 0 }
         ensures after { self.new ≡ after_write self.old piece.now }
     {
         let is_due = is_due(&self.fails, self.calls);

@@ -55,11 +55,7 @@ const FIRST_ROOM: usize = 8 * 1024;
 /// - `NoMemory`.
 ///
 /// Cost: linear in the bytes that are given, each read into its place.
-pub fn read_all<S: Source>(
-    alloc: Global,
-    source: &mut S,
-    max: u64,
-) -> Result<Vec<u8>, ReadRefusal>
+pub fn read_all<S: Source>(alloc: Global, source: &mut S, max: u64) -> Result<Vec<u8>, ReadRefusal>
     requires { max < 2 ^ 63 }
 
     // The result is what was given, up to the end, and all that was left where the source tells it.
@@ -73,7 +69,7 @@ pub fn read_all<S: Source>(
     // A refusal comes after so many bytes.
     ensures refused { IfErr result (λ refusal.
         Gives (S.remaining source.old) (S.remaining source.new)
-            (λ given. IsGivenCount refusal max (length given))) }
+        (λ given. IsGivenCount refusal max (length given))) }
     ensures too_long { IsErrOf result ReadRefusal.TooLong →
         IfSome (S.remaining source.old) (λ left. max < length left) }
 
@@ -117,7 +113,11 @@ fn make_room(bytes: &mut Vec<u8>, filled: usize, end: usize) -> Result<(), NoMem
 }
 
 // One read behind the bytes that are filled.
-fn read_behind<S: Source>(source: &mut S, bytes: &mut Vec<u8>, filled: usize) -> Result<usize, Failed>
+fn read_behind<S: Source>(
+    source: &mut S,
+    bytes: &mut Vec<u8>,
+    filled: usize,
+) -> Result<usize, Failed>
     requires { filled < vec_len bytes.old }
     ensures len { vec_len bytes.new ≡ vec_len bytes.old }
     ensures front { take filled bytes.new.items ≡ take filled bytes.old.items }
