@@ -10,6 +10,7 @@
 
 pub mod memory;
 mod name;
+mod name_order;
 mod no_memory;
 mod sink;
 mod source;
