@@ -8,6 +8,7 @@
 --   IsOrdered m                  == the labels of each state, and the edges, strictly ascend
 --   HasNames m                   == each label is a name, and each action is one
 --   IsBuiltFrom n ls es m        == m has n states, the labels ls and the edges es, and no others
+--   ends e                       == the source of the edge, and then its target
 --   labels_at ls s               == the labels that ls gives the state s, in their order
 --   first_bad_state n ls es      == the first state of the labels ls, then of the edges es, that isn't below n: of an
 --                                   edge its source before its target
@@ -40,9 +41,12 @@ pub record IsBuiltFrom (states : ℕ) (labels : List (ℕ × List ℕ)) (edges :
 abbrev pub labels_at : List (ℕ × List ℕ) → ℕ → List (List ℕ)
 labels_at labels s = map (λ label. label.1) (filter (λ label. label.0 == s) labels)
 
+abbrev pub ends : Edge → List ℕ
+ends e = e.source ∷ e.target ∷ []
+
 -- the states that the labels and the edges name, in the order of the lists
 abbrev pub named_states : List (ℕ × List ℕ) → List Edge → List ℕ
-named_states labels edges = map (λ label. label.0) labels ++ flat_map (λ e. e.source ∷ e.target ∷ []) edges
+named_states labels edges = map (λ label. label.0) labels ++ flat_map ends edges
 
 abbrev pub first_bad_state : ℕ → List (ℕ × List ℕ) → List Edge → Option ℕ
 first_bad_state states labels edges = find (nat_le states) (named_states labels edges)

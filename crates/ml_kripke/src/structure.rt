@@ -1,8 +1,8 @@
 // Kripke structures, and how one is built.
-ghost use Rattle.std.specs.Prelude.{◌≡◌, ◌<◌, ◌↔◌, ℕ, [], map, Some, All, IfOk, IsErrOf, slice_index_or};
-ghost use Rattle.std.specs.List.{range_with_len};
+ghost use Rattle.std.specs.Prelude.{◌≡◌, ◌<◌, ◌↔◌, ℕ, [], map, find, nat_le, Some, All, IfOk, IsErrOf, slice_index_or};
+ghost use Rattle.std.specs.List.{flat_map, range_with_len};
 ghost use Rattle.ml_base.specs.Structure.{IsStructure};
-ghost use Rattle.ml_kripke.specs.Ordered.{IsOrdered, IsBuiltFrom, first_bad_state, labels_at};
+ghost use Rattle.ml_kripke.specs.Ordered.{IsOrdered, IsBuiltFrom, first_bad_state, ends, labels_at};
 
 use crate::ascending::ascending;
 use ml_base::{Edge, Name, NoMemory};
@@ -123,11 +123,30 @@ impl Structure {
 fn first_out_of_range(states: u32, labels: &[(u32, Name)], edges: &[Edge]) -> Option<u32>
     ensures { result ≡ first_bad_state states labels.now edges.now }
 {
+    first_bad_label(states, labels).or_else(|| first_bad_end(states, edges))
+}
+
+fn first_bad_label(states: u32, labels: &[(u32, Name)]) -> Option<u32>
+    ensures { result ≡ find (nat_le states) (map (λ label. label.0) labels.now) }
+{
     labels
         .iter()
         .map(|label| label.0)
-        .chain(edges.iter().flat_map(|edge| [edge.source, edge.target]))
         .find(|state| *state >= states)
+}
+
+fn first_bad_end(states: u32, edges: &[Edge]) -> Option<u32>
+    ensures { result ≡ find (nat_le states) (flat_map ends edges.now) }
+{
+    for edge in edges {
+        if edge.source >= states {
+            return Some(edge.source);
+        }
+        if edge.target >= states {
+            return Some(edge.target);
+        }
+    }
+    None
 }
 
 // a row for each state, of its labels in the order in which they stand
