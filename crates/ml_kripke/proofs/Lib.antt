@@ -8,3 +8,5 @@ pub mod Members
 pub mod RowOrder
 -- ordered lists make the structure that was asked for
 pub mod Build
+-- the text of a structure, line by line
+pub mod Text
