@@ -2,3 +2,5 @@
 pub mod Digits
 -- a line, word by word
 pub mod Words
+-- lines written one behind the other
+pub mod Lines
