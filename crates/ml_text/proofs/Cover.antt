@@ -1,6 +1,6 @@
 -- The tokens of a text are its longest tokens one behind the other, with nothing but blanks beside them; no other
 -- list is that; and each byte lies in one token or is a blank.
-use Rattle.std.proofs.Common.{◌≡◌, ℕ, zero, suc, ◌+◌, ◌-◌, ◌<◌, ◌≤◌, Bool, true, false, cond, ◌&&◌, nat_le, nat_lt, ◌⊎◌, List, [], ◌∷◌, length, take, drop, get_or, All, count_by, sym, refl, ap, ◌∙◌, subst, inl, inr, ⊎_elim, arith, length-take-le, length-drop, get_or-take, get_or-drop, ltb-true, lt-ltb, le-ltb, le-leb}
+use Rattle.std.proofs.Common.{◌≡◌, ℕ, zero, suc, ◌+◌, ◌-◌, ◌<◌, ◌≤◌, Bool, true, false, cond, ◌&&◌, nat_le, nat_lt, ◌⊎◌, List, [], ◌∷◌, length, take, drop, get_or, All, count_by, sym, refl, ap, ◌∙◌, subst, inl, inr, ⊎_elim, arith, length-take-le, length-drop, get_or-take, get_or-drop, zero-add, ltb-true, lt-ltb, le-ltb, le-leb}
 use Rattle.std.proofs.lemmas.Bool.{cases_Bool, cases_lt, and_from, and_left, and_right, cond-true, cond-false, lt-leb, both_ways}
 use Rattle.std.proofs.lemmas.List.{drop_more}
 use Rattle.std.proofs.lemmas.List.Sums.{sum_by-cons}
@@ -120,3 +120,47 @@ are_tokens-only w text i (p ∷ ps) all =
     ∙ ap (λ (q : Placed). placed w text p.start ∷ tokens_from w text q.end) is
     ∙ sym (tokens_from-token w text p.start within no_blank)
     ∙ sym (tokens_from-next w text i p next)
+
+-- one token more
+tokens_over-in : (p : Placed) (ps : List Placed) (k : ℕ) → p.start ≤ k → k < p.end → tokens_over (p ∷ ps) k ≡ 1 + tokens_over ps k
+tokens_over-in p ps k from below =
+    sum_by-cons (λ q. cond (lies_in k q) 1 0) p ps ∙ ap (λ n. n + tokens_over ps k) (cond-true (lies_in k p) 1 0 (and_from (nat_le p.start k) (nat_lt k p.end) (le-leb p.start k from) (lt-ltb k p.end below)))
+
+tokens_over-out : (p : Placed) (ps : List Placed) (k : ℕ) → lies_in k p ≡ false → tokens_over (p ∷ ps) k ≡ tokens_over ps k
+tokens_over-out p ps k out =
+    sum_by-cons (λ q. cond (lies_in k q) 1 0) p ps ∙ ap (λ n. n + tokens_over ps k) (cond-false (lies_in k p) 1 0 out) ∙ zero-add (tokens_over ps k)
+
+lies_in-before : (p : Placed) (k : ℕ) → k < p.start → lies_in k p ≡ false
+lies_in-before p k below = and_left (nat_le p.start k) (nat_lt k p.end) (lt-leb p.start k below)
+
+lies_in-behind : (p : Placed) (k : ℕ) → p.end ≤ k → lies_in k p ≡ false
+lies_in-behind p k past = and_right (nat_le p.start k) (nat_lt k p.end) (le-ltb k p.end past)
+
+-- a byte in front of all tokens lies in none
+tokens_over-none : (w : WordStart) (text : List ℕ) (i : ℕ) (ps : List Placed) → AreTokens w text i ps → (k : ℕ) → k < i → tokens_over ps k ≡ 0
+tokens_over-none w text i [] all k below = refl
+tokens_over-none w text i (p ∷ ps) all k below =
+    let next = all.0 in
+    tokens_over-out p ps k (lies_in-before p k (omega (arith, next.behind)))
+    ∙ tokens_over-none w text p.end ps all.1 k (omega (arith, next.behind, next.some))
+
+-- any other byte lies in one exactly if it is no blank
+pub tokens_over-each : (w : WordStart) (text : List ℕ) (i : ℕ) (ps : List Placed) → AreTokens w text i ps → (k : ℕ) → i ≤ k → k < length text → tokens_over ps k ≡ cond (is_blank (get_or text k 0)) 0 1
+tokens_over-each w text i [] all k from below = sym (cond-true (is_blank (get_or text k 0)) 0 1 (all k from below))
+tokens_over-each w text i (p ∷ ps) all k from below =
+    let next = all.0 in
+    ⊎_elim
+    (λ (before : k < p.start).
+        tokens_over-out p ps k (lies_in-before p k before)
+        ∙ tokens_over-none w text p.end ps all.1 k (omega (arith, next.some))
+        ∙ sym (cond-true (is_blank (get_or text k 0)) 0 1 (next.blanks k from before)))
+    (λ (start : p.start ≤ k).
+        ⊎_elim
+        (λ (inside : k < p.end).
+            tokens_over-in p ps k start inside
+            ∙ ap (λ n. 1 + n) (tokens_over-none w text p.end ps all.1 k inside)
+            ∙ sym (cond-false (is_blank (get_or text k 0)) 0 1 (next-no_blank w text i p next k start inside)))
+        (λ (past : p.end ≤ k).
+            tokens_over-out p ps k (lies_in-behind p k past) ∙ tokens_over-each w text p.end ps all.1 k past below)
+        (cases_lt k p.end))
+    (cases_lt k p.start)

@@ -3,7 +3,7 @@ pub mod Signs
 -- the token at the front of a text, and the tokens from a byte on
 pub mod Scan
 -- bytes are no blanks where they are letters or stand in words
-pub mod Bytes
+pub mod ByteKinds
 -- what is known of the bytes of a token
 pub mod Spelling
 -- the token at the front is the longest, and there is only one

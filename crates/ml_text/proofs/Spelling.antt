@@ -15,7 +15,7 @@ use Rattle.ml_text.specs.Spelling.{IsSign, Spells}
 use Rattle.ml_text.specs.declared.token.Token.{Token}
 use Rattle.ml_text.specs.declared.token.Token.TheVariants as token
 use Rattle.ml_text.specs.declared.token.WordStart.{WordStart}
-use Rattle.ml_text.proofs.Bytes.{begins_word-letter, begins_word-no_blank, word_byte-no_blank}
+use Rattle.ml_text.proofs.ByteKinds.{begins_word-letter, begins_word-no_blank, word_byte-no_blank}
 use Rattle.ml_text.proofs.Signs.{contains_cases, contains_first, contains_later}
 
 -- the table of signs has only signs, none has an empty spelling, begins with a letter or has a blank

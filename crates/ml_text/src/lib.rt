@@ -9,6 +9,7 @@
 #![tactic(auto)]
 
 mod bytes;
+pub mod laws;
 mod token;
 
 pub use bytes::{is_blank, is_digit, is_letter, is_lower, is_upper, is_word_byte};
