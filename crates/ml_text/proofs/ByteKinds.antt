@@ -1,5 +1,5 @@
 -- How the kinds of bytes lie to each other: what begins a word is a letter, letters stand in words, and no blank does.
-use Rattle.std.proofs.Common.{◌≡◌, ℕ, Bool, true, false, ◌||◌, ◌&&◌, nat_le, ◌==◌, sym, refl, ap, ◌∙◌, subst, ⊎_elim, eqb-true}
+use Rattle.std.proofs.Common.{◌≡◌, ℕ, true, false, ◌||◌, ◌==◌, sym, refl, ap, ◌∙◌, ⊎_elim, eqb-true}
 use Rattle.std.proofs.lemmas.Bool.{cases_Bool, or_cases, or_left, false≢true}
 use Rattle.ml_text.specs.Bytes.{is_blank, is_letter, is_lower, is_upper, is_digit, is_word_byte}
 use Rattle.ml_text.specs.Tokens.{begins_word}
@@ -16,10 +16,10 @@ word_byte-no_blank b word =
     let at : (c : ℕ) → is_word_byte c ≡ false → b == c ≡ true → is_blank b ≡ false = λ c other is. absurd (false≢true (sym other ∙ sym (ap is_word_byte (eqb-true b c is)) ∙ word)) in
     ⊎_elim
     (λ (blank : is_blank b ≡ true).
-        ⊎_elim
-        (λ h. ⊎_elim (λ h'. ⊎_elim (λ h''. at 32 refl h'') (λ h''. at 9 refl h'') (or_cases _ _ h')) (λ h'. at 13 refl h') (or_cases _ _ h))
-        (λ h. at 10 refl h)
-        (or_cases _ _ blank))
+    ⊎_elim
+    (λ h. ⊎_elim (λ h'. ⊎_elim (λ h''. at 32 refl h'') (λ h''. at 9 refl h'') (or_cases _ _ h')) (λ h'. at 13 refl h') (or_cases _ _ h))
+    (λ h. at 10 refl h)
+    (or_cases _ _ blank))
     (λ (other : is_blank b ≡ false). other)
     (cases_Bool (is_blank b))
 

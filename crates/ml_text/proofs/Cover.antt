@@ -1,13 +1,12 @@
 -- The tokens of a text are its longest tokens one behind the other, with nothing but blanks beside them; no other
 -- list is that; and each byte lies in one token or is a blank.
-use Rattle.std.proofs.Common.{◌≡◌, ℕ, zero, suc, ◌+◌, ◌-◌, ◌<◌, ◌≤◌, Bool, true, false, cond, ◌&&◌, nat_le, nat_lt, ◌⊎◌, List, [], ◌∷◌, length, take, drop, get_or, All, count_by, sym, refl, ap, ◌∙◌, subst, inl, inr, ⊎_elim, arith, length-take-le, length-drop, get_or-take, get_or-drop, zero-add, ltb-true, lt-ltb, le-ltb, le-leb}
-use Rattle.std.proofs.lemmas.Bool.{cases_Bool, cases_lt, and_from, and_left, and_right, cond-true, cond-false, lt-leb, both_ways}
+use Rattle.std.proofs.Common.{◌≡◌, ℕ, zero, suc, ◌+◌, ◌-◌, ◌<◌, ◌≤◌, true, false, cond, nat_le, nat_lt, List, [], ◌∷◌, length, take, drop, get_or, sym, refl, ap, ◌∙◌, subst, ⊎_elim, arith, length-take-le, length-drop, get_or-take, get_or-drop, zero-add, lt-ltb, le-ltb, le-leb}
+use Rattle.std.proofs.lemmas.Bool.{cases_Bool, cases_lt, and_from, and_left, and_right, cond-true, cond-false, lt-leb}
 use Rattle.std.proofs.lemmas.List.{drop_more}
 use Rattle.std.proofs.lemmas.List.Sums.{sum_by-cons}
 use Rattle.ml_text.specs.Bytes.{is_blank}
-use Rattle.ml_text.specs.Tokens.{front_token, tokens_from, tokens}
-use Rattle.ml_text.specs.Spelling.{Spells, IsLongestToken, AllBlank, IsNextToken, AreTokens, lies_in, tokens_over}
-use Rattle.ml_text.specs.declared.token.Token.{Token}
+use Rattle.ml_text.specs.Tokens.{tokens_from}
+use Rattle.ml_text.specs.Spelling.{IsLongestToken, AllBlank, IsNextToken, AreTokens, lies_in, tokens_over}
 use Rattle.ml_text.specs.declared.token.WordStart.{WordStart}
 use Rattle.ml_text.specs.declared.token.Placed.{Placed}
 use Rattle.ml_text.proofs.Scan.{front_at, placed, front_at-within, tokens_from-end, tokens_from-blank, tokens_from-blanks, tokens_from-token}
@@ -63,13 +62,13 @@ are_tokens-by zero w text i enough = past_end w text i (omega arith)
 are_tokens-by (suc n) w text i enough =
     ⊎_elim
     (λ (within : i < length text).
-        ⊎_elim
-        (λ (blank : is_blank (get_or text i 0) ≡ true). are_tokens-blank w text i (tokens_from w text i) blank (subst (AreTokens w text (i + 1)) (sym (tokens_from-blank w text i within blank)) (are_tokens-by n w text (i + 1) (omega arith))))
-        (λ (no_blank : is_blank (get_or text i 0) ≡ false).
-            let bounds = front_at-within w text i within in
-            subst (AreTokens w text i) (sym (tokens_from-token w text i within no_blank))
-            (placed-next w text i within no_blank, are_tokens-by n w text (i + (front_at w text i).1) (omega (arith, bounds.some))))
-        (cases_Bool (is_blank (get_or text i 0))))
+    ⊎_elim
+    (λ (blank : is_blank (get_or text i 0) ≡ true). are_tokens-blank w text i (tokens_from w text i) blank (subst (AreTokens w text (i + 1)) (sym (tokens_from-blank w text i within blank)) (are_tokens-by n w text (i + 1) (omega arith))))
+    (λ (no_blank : is_blank (get_or text i 0) ≡ false).
+    let bounds = front_at-within w text i within in
+    subst (AreTokens w text i) (sym (tokens_from-token w text i within no_blank))
+    (placed-next w text i within no_blank, are_tokens-by n w text (i + (front_at w text i).1) (omega (arith, bounds.some))))
+    (cases_Bool (is_blank (get_or text i 0))))
     (λ (past : length text ≤ i). past_end w text i past)
     (cases_lt i (length text))
 
@@ -107,8 +106,8 @@ pub are_tokens-only : (w : WordStart) (text : List ℕ) (i : ℕ) (ps : List Pla
 are_tokens-only w text i [] all =
     ⊎_elim
     (λ (within : i < length text).
-        let at : i + (length text - i) ≡ length text = omega arith in
-        sym (tokens_from-blanks (length text - i) w text i (omega arith) (λ k below. all (i + k) (omega arith) (omega arith)) ∙ tokens_from-end w text (i + (length text - i)) (omega arith)))
+    let at : i + (length text - i) ≡ length text = omega arith in
+    sym (tokens_from-blanks (length text - i) w text i (omega arith) (λ k below. all (i + k) (omega arith) (omega arith)) ∙ tokens_from-end w text (i + (length text - i)) (omega arith)))
     (λ (past : length text ≤ i). sym (tokens_from-end w text i past))
     (cases_lt i (length text))
 are_tokens-only w text i (p ∷ ps) all =
@@ -151,16 +150,16 @@ tokens_over-each w text i (p ∷ ps) all k from below =
     let next = all.0 in
     ⊎_elim
     (λ (before : k < p.start).
-        tokens_over-out p ps k (lies_in-before p k before)
-        ∙ tokens_over-none w text p.end ps all.1 k (omega (arith, next.some))
-        ∙ sym (cond-true (is_blank (get_or text k 0)) 0 1 (next.blanks k from before)))
+    tokens_over-out p ps k (lies_in-before p k before)
+    ∙ tokens_over-none w text p.end ps all.1 k (omega (arith, next.some))
+    ∙ sym (cond-true (is_blank (get_or text k 0)) 0 1 (next.blanks k from before)))
     (λ (start : p.start ≤ k).
-        ⊎_elim
-        (λ (inside : k < p.end).
-            tokens_over-in p ps k start inside
-            ∙ ap (λ n. 1 + n) (tokens_over-none w text p.end ps all.1 k inside)
-            ∙ sym (cond-false (is_blank (get_or text k 0)) 0 1 (next-no_blank w text i p next k start inside)))
-        (λ (past : p.end ≤ k).
-            tokens_over-out p ps k (lies_in-behind p k past) ∙ tokens_over-each w text p.end ps all.1 k past below)
-        (cases_lt k p.end))
+    ⊎_elim
+    (λ (inside : k < p.end).
+    tokens_over-in p ps k start inside
+    ∙ ap (λ n. 1 + n) (tokens_over-none w text p.end ps all.1 k inside)
+    ∙ sym (cond-false (is_blank (get_or text k 0)) 0 1 (next-no_blank w text i p next k start inside)))
+    (λ (past : p.end ≤ k).
+    tokens_over-out p ps k (lies_in-behind p k past) ∙ tokens_over-each w text p.end ps all.1 k past below)
+    (cases_lt k p.end))
     (cases_lt k p.start)

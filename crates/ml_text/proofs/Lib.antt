@@ -10,3 +10,5 @@ pub mod Spelling
 pub mod Longest
 -- the tokens of a text follow one another, and only blanks stand beside them
 pub mod Cover
+-- for callers: what one answer of the scanner says of the bytes of the text
+pub mod NextToken

@@ -1,6 +1,6 @@
 -- The token at the front of a text that begins with no blank is its longest token, and no other token is.
-use Rattle.std.proofs.Common.{◌≡◌, ℕ, zero, suc, ◌+◌, ◌<◌, ◌≤◌, Bool, true, false, ◌⊎◌, List, [], ◌∷◌, length, take, drop, get_or, Option, Some, None, nat_eq, All, Contains, sym, refl, ap, ◌∙◌, subst, inl, inr, ⊎_elim, arith, length-take, length-take-le, get_or-take}
-use Rattle.std.specs.List.{AllPass, starts_with, take_while, prefix_len}
+use Rattle.std.proofs.Common.{◌≡◌, ℕ, zero, suc, ◌+◌, ◌<◌, ◌≤◌, Bool, true, false, List, ◌∷◌, length, take, get_or, Some, None, sym, refl, ap, ◌∙◌, subst, ⊎_elim, arith, length-take-le, get_or-take}
+use Rattle.std.specs.List.{AllPass, take_while, prefix_len}
 use Rattle.std.proofs.lemmas.Bool.{cases_lt, both_ways}
 use Rattle.std.proofs.lemmas.List.Elements.{All-from_get_or}
 use Rattle.std.proofs.lemmas.List.Folds.{length-prefix_len}
@@ -12,8 +12,8 @@ use Rattle.ml_text.specs.Spelling.{IsSign, Spells, IsLongestToken}
 use Rattle.ml_text.specs.declared.token.Token.{Token}
 use Rattle.ml_text.specs.declared.token.Token.TheVariants as token
 use Rattle.ml_text.specs.declared.token.WordStart.{WordStart}
-use Rattle.ml_text.proofs.Signs.{Found, AtLeast, longest_sign-found, longest_sign-longest, starts_with-front, starts_with-fits, front-starts_with}
-use Rattle.ml_text.proofs.Scan.{front_by, front_token-within}
+use Rattle.ml_text.proofs.Signs.{AtLeast, longest_sign-found, longest_sign-longest, starts_with-front, starts_with-fits, front-starts_with}
+use Rattle.ml_text.proofs.Scan.{front_by}
 use Rattle.ml_text.proofs.Spelling.{IsByte, spells_by, spells-one, spells-some, sign-no_word, sign-spells}
 
 -- a front whose elements all pass is no longer than the longest such front

@@ -2,8 +2,8 @@
 --
 --   read_sign es bytes == the token of the first of these spellings that is these bytes
 --   reading w bytes    == the token that the bytes spell, if they spell any
-use Rattle.std.proofs.Common.{◌≡◌, ℕ, zero, suc, ◌<◌, ◌≤◌, Bool, true, false, cond, not, ◌⊎◌, List, [], ◌∷◌, length, get_or, Option, Some, None, unwrap_or, All, Contains, bytes_eq, sym, refl, ap, ◌∙◌, subst, inl, inr, ⊎_elim, arith}
-use Rattle.std.specs.List.{AllPass, list_all}
+use Rattle.std.proofs.Common.{◌≡◌, ℕ, ◌<◌, Bool, true, false, cond, not, List, [], ◌∷◌, length, Option, Some, None, unwrap_or, All, Contains, bytes_eq, sym, refl, ap, ◌∙◌, subst, ⊎_elim, arith}
+use Rattle.std.specs.List.{list_all}
 use Rattle.std.proofs.lemmas.Bool.{cases_Bool, cond-true, cond-false, not-true, false≢true, both_ways}
 use Rattle.std.proofs.lemmas.List.Elements.{All-contains, All-from_recursion, All-cons, All-nil, All-weaker}
 use Rattle.std.proofs.lemmas.List.Sums.{AllPass-from_list_all}
@@ -16,7 +16,7 @@ use Rattle.ml_text.specs.declared.token.Token.{Token}
 use Rattle.ml_text.specs.declared.token.Token.TheVariants as token
 use Rattle.ml_text.specs.declared.token.WordStart.{WordStart}
 use Rattle.ml_text.proofs.ByteKinds.{begins_word-letter, begins_word-no_blank, word_byte-no_blank}
-use Rattle.ml_text.proofs.Signs.{contains_cases, contains_first, contains_later}
+use Rattle.ml_text.proofs.Signs.{contains_first, contains_later}
 
 -- the table of signs has only signs, none has an empty spelling, begins with a letter or has a blank
 is_sign : Token → Bool

@@ -17,8 +17,7 @@ pub fn longest_token()
     ensures only { (w : WordStart) (text : List ℕ) (t u : Token) (n m : ℕ) →
         IsLongestToken w text t n → IsLongestToken w text u m → (n ≡ m) × (t ≡ u) }
     ensures reading { (w : WordStart) (bytes : List ℕ) (t u : Token) → Spells w bytes t → Spells w bytes u → t ≡ u }
-{
-}
+{}
 
 /// The tokens of a text cover it.
 ///
@@ -30,5 +29,4 @@ pub fn tokens_cover()
     ensures only { (w : WordStart) (text : List ℕ) (ps : List Placed) → AreTokens w text 0 ps → ps ≡ tokens w text }
     ensures bytes { (w : WordStart) (text : List ℕ) (k : ℕ) → k < length text →
         tokens_over (tokens w text) k ≡ (if is_blank (slice_index text k) then 0 else 1) }
-{
-}
+{}
