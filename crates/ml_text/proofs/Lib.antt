@@ -12,3 +12,5 @@ pub mod Longest
 pub mod Cover
 -- for callers: what one answer of the scanner says of the bytes of the text
 pub mod NextToken
+-- the tokens of a text that is put together from pieces
+pub mod Pieces

@@ -71,25 +71,25 @@ front_token-within w b rest =
     (λ word is. record { some = omega arith; fits = omega arith })
 
 -- the token that begins at this place
-abbrev placed_at : WordStart → ℕ → ℕ → List ℕ → Placed
+abbrev pub placed_at : WordStart → ℕ → ℕ → List ℕ → Placed
 placed_at w i b rest = record { token = (front_token w b rest).0; start = i; end = i + (front_token w b rest).1 }
 
 -- one step of the list of tokens
-tokens_at-blank : (n : ℕ) (w : WordStart) (i b : ℕ) (rest : List ℕ) → is_blank b ≡ true → tokens_at (suc n) w i (b ∷ rest) ≡ tokens_at n w (i + 1) rest
+pub tokens_at-blank : (n : ℕ) (w : WordStart) (i b : ℕ) (rest : List ℕ) → is_blank b ≡ true → tokens_at (suc n) w i (b ∷ rest) ≡ tokens_at n w (i + 1) rest
 unfolding tokens_at
 tokens_at-blank n w i b rest blank = cond-true _ _ _ blank
 
-tokens_at-token : (n : ℕ) (w : WordStart) (i b : ℕ) (rest : List ℕ) → is_blank b ≡ false → tokens_at (suc n) w i (b ∷ rest) ≡ placed_at w i b rest ∷ tokens_at n w (i + (front_token w b rest).1) (drop (front_token w b rest).1 (b ∷ rest))
+pub tokens_at-token : (n : ℕ) (w : WordStart) (i b : ℕ) (rest : List ℕ) → is_blank b ≡ false → tokens_at (suc n) w i (b ∷ rest) ≡ placed_at w i b rest ∷ tokens_at n w (i + (front_token w b rest).1) (drop (front_token w b rest).1 (b ∷ rest))
 unfolding tokens_at
 tokens_at-token n w i b rest blank = cond-false _ _ _ blank
 
-tokens_at-end : (n : ℕ) (w : WordStart) (i : ℕ) → tokens_at n w i [] ≡ []
+pub tokens_at-end : (n : ℕ) (w : WordStart) (i : ℕ) → tokens_at n w i [] ≡ []
 unfolding tokens_at
 tokens_at-end zero w i = refl
 tokens_at-end (suc n) w i = refl
 
 -- any bound that is large enough gives the same tokens
-tokens_at-enough : (n m : ℕ) (w : WordStart) (i : ℕ) (text : List ℕ) → length text ≤ n → length text ≤ m → tokens_at n w i text ≡ tokens_at m w i text
+pub tokens_at-enough : (n m : ℕ) (w : WordStart) (i : ℕ) (text : List ℕ) → length text ≤ n → length text ≤ m → tokens_at n w i text ≡ tokens_at m w i text
 tokens_at-enough n m w i [] small small' = tokens_at-end n w i ∙ sym (tokens_at-end m w i)
 tokens_at-enough zero m w i (b ∷ rest) small small' = absurd (omega arith)
 tokens_at-enough (suc n) zero w i (b ∷ rest) small small' = absurd (omega arith)

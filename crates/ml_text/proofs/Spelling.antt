@@ -32,20 +32,20 @@ begins_no_letter (b ∷ rest) = not (is_letter b)
 no_blanks : List ℕ → Bool
 no_blanks bytes = list_all (λ b. not (is_blank b)) bytes
 
-table : (p : List ℕ × Token → Bool) → list_all p signs ≡ true → (bytes : List ℕ) (t : Token) → IsSign bytes t → p (bytes, t) ≡ true
-table p holds bytes t sign = All-contains (λ e. p e ≡ true) signs (bytes, t) (AllPass-from_list_all p signs holds) sign
+pub signs_all : (p : List ℕ × Token → Bool) → list_all p signs ≡ true → (bytes : List ℕ) (t : Token) → IsSign bytes t → p (bytes, t) ≡ true
+signs_all p holds bytes t sign = All-contains (λ e. p e ≡ true) signs (bytes, t) (AllPass-from_list_all p signs holds) sign
 
 signs_only : (bytes : List ℕ) (t : Token) → IsSign bytes t → is_sign t ≡ true
 unfolding signs is_sign
-signs_only = table (λ e. is_sign e.1) refl
+signs_only = signs_all (λ e. is_sign e.1) refl
 
 signs_no_letter : (bytes : List ℕ) (t : Token) → IsSign bytes t → begins_no_letter bytes ≡ true
 unfolding signs begins_no_letter
-signs_no_letter = table (λ e. begins_no_letter e.0) refl
+signs_no_letter = signs_all (λ e. begins_no_letter e.0) refl
 
 signs_no_blanks : (bytes : List ℕ) (t : Token) → IsSign bytes t → no_blanks bytes ≡ true
 unfolding signs no_blanks
-signs_no_blanks = table (λ e. no_blanks e.0) refl
+signs_no_blanks = signs_all (λ e. no_blanks e.0) refl
 
 -- no sign is a word or begins as one
 pub sign-no_word : (w : WordStart) (b : ℕ) (rest : List ℕ) (t : Token) → IsSign (b ∷ rest) t → begins_word w b ≡ true → ⊥
