@@ -1,0 +1,4 @@
+-- the digits of a number, one behind the others
+pub mod Digits
+-- a line, word by word
+pub mod Words
