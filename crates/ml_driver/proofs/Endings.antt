@@ -64,3 +64,11 @@ ended_written c w text due output status read calm is_due wrote =
 
 pub too_long : (text : List ℕ) → longest_text < length text → (f : Formula) → StandsFor text f → ⊥
 too_long text long f stands = absurd (omega (arith, stands.is_short))
+
+-- a call whose words are a command ends as that command does
+pub ended_with : (c d : Option Command) (w : World) (status : Status) → d ≡ c → Ended c w status → Ended d w status
+ended_with c d w status same ended = subst (λ k. Ended k w status) (sym same) ended
+
+-- there is one command so far
+pub only_command : (k : Command) → k ≡ DecideMu
+only_command DecideMu = refl
