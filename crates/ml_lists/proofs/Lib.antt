@@ -1,0 +1,4 @@
+pub mod Search
+pub mod Pigeons
+pub mod Update
+pub mod Counting
