@@ -48,6 +48,7 @@ count_strict strong weak (suc n) implies t low fails passes = by_case (cases_eq 
     earlier old (inl s) (inr w) = let both = implies n (omega arith) s in absurd (cc)
     earlier old (inr s) (inl w) = omega (arith, old, count-false strong n s, count-true weak n w)
     earlier old (inr s) (inr w) = omega (arith, old, count-false strong n s, count-false weak n w)
+
     by_case : (t ≡ n) ⊎ (t ≡ n → ⊥) → (t < n → strong t ≡ false → weak t ≡ true → count strong n < count weak n) → count strong (suc n) < count weak (suc n)
     by_case (inl same) old =
         let f : strong n ≡ false = subst (λ v. strong v ≡ false) same fails in
@@ -65,6 +66,6 @@ count_none test (suc n) fails =
 
 -- where the count is 0, none passes
 pub count_zero : (test : ℕ → Bool) (n : ℕ) → count test n ≡ 0 → (k : ℕ) → k < n → test k ≡ true → ⊥
-count_zero test n zero_count k low passes = 
+count_zero test n zero_count k low passes =
     let some = count_strict (λ v. false) test n (λ v below h. absurd (cc)) k low refl passes in
     omega (arith, some, zero_count)

@@ -1,4 +1,12 @@
-pub mod Search
-pub mod Pigeons
-pub mod Update
+-- how many numbers below a bound pass a test
 pub mod Counting
+-- sequences, and sequences that come back to where they began
+pub mod Loops
+-- the lowest entry of a list of numbers
+pub mod Lowest
+-- the pigeonhole principle
+pub mod Pigeons
+-- bounded search
+pub mod Search
+-- a function with one value changed
+pub mod Update

@@ -48,6 +48,7 @@ pigeons (suc m) f fits = by_case (search (λ k. f k ≡ f (suc m)) (λ k. f k �
   where
     found : Found (λ k. f k ≡ f (suc m)) (suc m) → Twice f (suc m)
     found s = record { first = s.place; second = suc m; apart = s.below; within = omega arith; same = s.holds }
+
     widen : ((k : ℕ) → k < suc m → f k ≡ f (suc m) → ⊥) → Twice (moved f m (f (suc m))) m → Twice f (suc m)
     widen none t = record {
       first = t.first;
@@ -56,6 +57,7 @@ pigeons (suc m) f fits = by_case (search (λ k. f k ≡ f (suc m)) (λ k. f k �
       within = omega (arith, t.within);
       same = moved_same f m (f (suc m)) t.first t.second (none t.first (omega (arith, t.apart, t.within))) (none t.second (omega (arith, t.within))) t.same;
     }
+
     by_case : Found (λ k. f k ≡ f (suc m)) (suc m) ⊎ ((k : ℕ) → k < suc m → f k ≡ f (suc m) → ⊥) → ((g : ℕ → ℕ) → ((k : ℕ) → k ≤ m → g k < m) → Twice g m) → Twice f (suc m)
     by_case (inl s) smaller = found s
     by_case (inr none) smaller = widen none (smaller (moved f m (f (suc m))) (λ k low. moved_below f m (f (suc m)) k (fits k (omega arith)) (fits (suc m) (omega arith)) (none k (omega arith))))

@@ -51,6 +51,7 @@ search_least P f decide (suc n) = more (search_least P f decide n) (decide n)
       holds = m.holds;
       least = all_below_suc (λ j. P j → f m.place ≤ f j) n m.least last;
     }
+
     replace : (m : Least P f n) → P n → f n < f m.place → Least P f (suc n)
     replace m p smaller = record {
       place = n;
@@ -58,8 +59,10 @@ search_least P f decide (suc n) = more (search_least P f decide n) (decide n)
       holds = p;
       least = all_below_suc (λ j. P j → f n ≤ f j) n (λ j low q. omega (arith, m.least j low q)) (λ q. omega arith);
     }
+
     compare : Least P f n → P n → Least P f (suc n)
     compare m p = ⊎_elim (λ (smaller : f n < f m.place). replace m p smaller) (λ (larger : f m.place ≤ f n). keep m (λ q. larger)) (cases_lt (f n) (f m.place))
+
     more : Least P f n ⊎ ((k : ℕ) → k < n → P k → ⊥) → P n ⊎ (P n → ⊥) → Least P f (suc n) ⊎ ((k : ℕ) → k < suc n → P k → ⊥)
     more (inl m) (inl p) = inl (compare m p)
     more (inl m) (inr q) = inl (keep m (λ p. absurd (q p)))
