@@ -1,5 +1,7 @@
 -- how many numbers below a bound pass a test
 pub mod Counting
+-- lassos, as lists and as sequences
+pub mod Lasso
 -- sequences, and sequences that come back to where they began
 pub mod Loops
 -- the lowest entry of a list of numbers

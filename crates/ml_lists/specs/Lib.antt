@@ -1,5 +1,7 @@
 -- how many numbers below a bound pass a test
 pub mod Counting
+-- a list of numbers with a loop start
+pub mod Lasso
 -- the lowest entry of a list of numbers
 pub mod Lowest
 -- a value that a sequence takes twice
