@@ -1,3 +1,7 @@
+-- the induction of the determinacy law, its first case
+pub mod LeastKept
+-- and its second case
+pub mod LeastLost
 -- the two players
 pub mod Players
 -- every game with finitely many live vertices has a solution

@@ -1,90 +1,148 @@
 -- Every game with finitely many live vertices has a solution: the induction of the determinacy law.
 --
--- After Haddad's short proof, by induction on the number of live vertices; one text treats both players. Let t be a
--- live vertex of least priority, and i the player for whom that priority is good. First solve the game in which t is a
--- sink of player i. If i holds some move from t in that solution, it solves the game with t live as well: a loop
--- through t is a loop of i's, and t has the least priority on it. Otherwise the opponent j holds a move from t. Then
--- freeze all vertices that j won, and t, as sinks of player j, and solve again: what j won the first time j still
--- wins, by the same moves, and every other loop is a loop of the second game.
+-- After Haddad's short proof, by induction on the number of live vertices; one text treats both players. Each step
+-- turns a live vertex t of least priority into a sink of the player for whom that priority is good. One of the
+-- players then holds a move from t, and the two cases are those of LeastKept and LeastLost.
 --
---   without_least    == the game with t as a sink of i
---   least_kept       == where i holds a move from t, its solution serves with t live
---   frozen           == the game in which what j won, and t, are sinks of j
---   least_lost       == where j holds a move from t, both solutions together serve with t live
---   either_holds     == one of the players holds a move from t
---   solution         == every game with finitely many live vertices has a solution
-use Rattle.std.proofs.Common.{ℕ, zero, suc, ◌≡◌, ◌+◌, ◌<◌, ◌≤◌, Bool, true, false, cond, ◌⊎◌, inl, inr, ⊎_elim, arith, subst, sym, ap, ◌∙◌, refl}
-use Rattle.std.proofs.lemmas.Bool.{cases_eq, cases_Bool, cond-true, cond-false, cond_both}
-use Rattle.ml_lists.specs.Search.{Found, Least}
+--   Decides       == of each vertex: some move leads to where p wins, or every move to where the opponent does
+--   either_holds  == one of two opponents holds a move from t
+--   nobody_lives  == without live vertices the sinks solve the game
+--   fewer_without, fewer_frozen == the two games have fewer live vertices
+--   solution      == every game with finitely many live vertices has a solution
+use Rattle.std.proofs.Common.{ℕ, zero, suc, ◌≡◌, ◌<◌, ◌≤◌, Bool, true, false, ◌⊎◌, inl, inr, ⊎_elim, arith, subst, sym, ◌∙◌, refl}
+use Rattle.std.proofs.lemmas.Bool.{cond_both}
+use Rattle.ml_lists.specs.Search.{Least}
 use Rattle.ml_lists.specs.Update.{update}
 use Rattle.ml_lists.specs.Counting.{count}
-use Rattle.ml_lists.proofs.Search.{search, search_least}
-use Rattle.ml_lists.proofs.Update.{update-same, update-other}
-use Rattle.ml_lists.proofs.Counting.{count_strict, count_zero}
-use Rattle.ml_lists.proofs.Loops.{around}
+use Rattle.ml_lists.proofs.Search.{search_least}
+use Rattle.ml_lists.proofs.Update.{update-same}
+use Rattle.ml_lists.proofs.Counting.{count_strict, count_zero, count_mono}
 use Rattle.ml_parity.specs.declared.player.Player.{Player}
 use Rattle.ml_parity.specs.Player.{opponent, side}
-use Rattle.ml_parity.specs.Sinks.{Board, SomeMove, EveryMove, GoodMove, Holds, Step, Loop, GoodFor, Solves, Solution}
-use Rattle.ml_parity.proofs.Players.{cases_player, opponent-opponent, no_own_opponent, not_both, same_player, same_player-true, same_player-false, same_player-from_true}
+use Rattle.ml_parity.specs.Sinks.{Board, SomeMove, EveryMove, Holds, Solves, Solution}
+use Rattle.ml_parity.proofs.Players.{cases_player, opponent-opponent, not_both, same_player}
+use Rattle.ml_parity.proofs.LeastKept.{live_without, over_with, live_without-true, least_kept}
+use Rattle.ml_parity.proofs.LeastLost.{live_frozen, over_frozen, joined, least_lost}
 
--- ---- the least vertex as a sink
+-- of each vertex and player it is decided: some move leads to where the player wins, or every move to where the
+-- opponent does
+abbrev pub Decides : Board → Type 0
+Decides b = (win : ℕ → Player) (p : Player) (v : ℕ) → SomeMove b win p v ⊎ EveryMove b win (opponent p) v
 
--- the live vertices without t
-abbrev pub live_without : (ℕ → Bool) → ℕ → ℕ → Bool
-live_without live t = update live t false
+-- p holds a move from t
+pub record HeldMove (b : Board) (win : ℕ → Player) (p : Player) (t : ℕ) : Type 0 where
+  pub to : ℕ
+  pub held : Holds b win p to t
 
--- the sinks, with t for the player i
-abbrev pub over_with : (ℕ → Player) → ℕ → Player → ℕ → Player
-over_with over t i = update over t i
-
--- a vertex that is not live was none before, or is t
-live_without-true : (live : ℕ → Bool) (t v : ℕ) → live_without live t v ≡ true → (v ≡ t → ⊥) × (live v ≡ true)
-live_without-true live t v alive = by_case (cases_eq v t)
-  where
-    by_case : (v ≡ t) ⊎ (v ≡ t → ⊥) → (v ≡ t → ⊥) × (live v ≡ true)
-    by_case (inl same) = let dead = update-same live t false v same in absurd (cc)
-    by_case (inr other) = (other, sym (update-other live t false v other) ∙ alive)
-
--- a loop that goes through t, which has the least priority of all live vertices, is good for whom that priority is
-through : (b : Board) (live : ℕ → Bool) (win : ℕ → Player) (s : ℕ → ℕ) (p : Player) (c : ℕ → ℕ) (m t k : ℕ) → Loop b live win s p c m → ((v : ℕ) → live v ≡ true → b.priority t ≤ b.priority v) → k < m → c k ≡ t → side (b.priority t) ≡ p → GoodFor b p c m
-through b live win s p c m t k loop least low here right = record {
-  place = k;
-  below = low;
-  least = λ j below. subst (λ v. b.priority v ≤ b.priority (c j)) (sym here) (least (c j) (loop.steps j below).alive);
-  right = ap (λ v. side (b.priority v)) here ∙ right;
+-- the owner of t holds a move to where that player wins
+pub held_by_owner : (b : Board) (win : ℕ → Player) (p : Player) (t w : ℕ) → b.owner t ≡ p → b.Move t w → win w ≡ p → Holds b win p w t
+held_by_owner b win p t w own move wins = record {
+  own = λ o. record { move = move; wins = wins };
+  other = λ o. absurd (not_both (b.owner t) p own o);
 }
 
--- where i holds a move from t, the solution with t as a sink of i serves with t live, the move added
-pub least_kept : (b : Board) (live : ℕ → Bool) (over : ℕ → Player) (t : ℕ) (win : ℕ → Player) (s : ℕ → ℕ) (w : ℕ) → live t ≡ true → ((v : ℕ) → live v ≡ true → b.priority t ≤ b.priority v) → Solves b (live_without live t) (over_with over t (side (b.priority t))) win s → Holds b win (side (b.priority t)) w t → Solves b live over win (update s t w)
-least_kept b live over t win s w t_live least first held = record { ends = ends; keeps = λ v alive. keeps v alive (cases_eq v t); loops = loops }
+-- the other player holds t, if every move leads to where that player wins
+pub held_by_other : (b : Board) (win : ℕ → Player) (p : Player) (t w : ℕ) → b.owner t ≡ opponent p → EveryMove b win p t → Holds b win p w t
+held_by_other b win p t w own every = record {
+  own = λ o. absurd (not_both (b.owner t) p o own);
+  other = λ o. every;
+}
+
+-- one of two opponents holds a move from t
+pub either_holds : (b : Board) → Decides b → (win : ℕ → Player) (i : Player) (t : ℕ) → HeldMove b win i t ⊎ HeldMove b win (opponent i) t
+either_holds b decides win i t = by_owner (cases_player (b.owner t) i)
   where
-    won_t : win t ≡ side (b.priority t)
-    won_t = first.ends t (update-same live t false t refl) ∙ update-same over t (side (b.priority t)) t refl
-    ends : (v : ℕ) → live v ≡ false → win v ≡ over v
-    ends v dead =
-        let other : v ≡ t → ⊥ = λ same. let e : live v ≡ live t = ap live same in absurd (cc) in
-        first.ends v (update-other live t false v other ∙ dead) ∙ update-other over t (side (b.priority t)) v other
-    keeps : (v : ℕ) → live v ≡ true → (v ≡ t) ⊎ (v ≡ t → ⊥) → Holds b win (win v) (update s t w v) v
-    keeps v alive (inl same) =
-        let at_t : Holds b win (win t) (update s t w t) t =
-            subst (λ x. Holds b win (win t) x t) (sym (update-same s t w t refl)) (subst (λ p. Holds b win p w t) (sym won_t) held) in
-        subst (λ u. Holds b win (win u) (update s t w u) u) (sym same) at_t
-    keeps v alive (inr other) =
-        subst (λ x. Holds b win (win v) x v) (sym (update-other s t w v other)) (first.keeps v (update-other live t false v other ∙ alive))
-    loops : (p : Player) (c : ℕ → ℕ) (m : ℕ) → Loop b live win (update s t w) p c m → GoodFor b p c m
-    loops p c m loop = by_case (search (λ k. c k ≡ t) (λ k. c k ≡ t → ⊥) (λ k. cases_eq (c k) t) m)
-      where
-        by_case : Found (λ k. c k ≡ t) m ⊎ ((k : ℕ) → k < m → c k ≡ t → ⊥) → GoodFor b p c m
-        by_case (inl f) =
-            let mine : win t ≡ p = subst (λ v. win v ≡ p) f.holds (loop.steps f.place f.below).mine in
-            through b live win (update s t w) p c m t f.place loop least f.below f.holds (sym won_t ∙ mine)
-        by_case (inr avoids) = first.loops p c m (record {
-          long = loop.long;
-          closed = loop.closed;
-          steps = λ k low. record {
-            alive = update-other live t false (c k) (avoids k low) ∙ (loop.steps k low).alive;
-            mine = (loop.steps k low).mine;
-            move = (loop.steps k low).move;
-            chosen = λ own. (loop.steps k low).chosen own ∙ update-other s t w (c k) (avoids k low);
-          };
-        })
+    by_owner : (b.owner t ≡ i) ⊎ (b.owner t ≡ opponent i) → HeldMove b win i t ⊎ HeldMove b win (opponent i) t
+    by_owner (inl own) = ⊎_elim
+        (λ (m : SomeMove b win i t). inl (record { to = m.to; held = held_by_owner b win i t m.to own m.move m.wins }))
+        (λ (every : EveryMove b win (opponent i) t). inr (record { to = t; held = held_by_other b win (opponent i) t t (own ∙ sym (opponent-opponent i)) every }))
+        (decides win i t)
+    by_owner (inr own) = ⊎_elim
+        (λ (m : SomeMove b win (opponent i) t). inr (record { to = m.to; held = held_by_owner b win (opponent i) t m.to own m.move m.wins }))
+        (λ (every : EveryMove b win (opponent (opponent i)) t). inl (record { to = t; held = held_by_other b win i t t own (subst (λ p. EveryMove b win p t) (opponent-opponent i) every) }))
+        (decides win (opponent i) t)
+
+-- without live vertices the sinks solve the game
+pub nobody_lives : (b : Board) (live : ℕ → Bool) (over : ℕ → Player) (s : ℕ → ℕ) → ((v : ℕ) → live v ≡ true → ⊥) → Solves b live over over s
+nobody_lives b live over s none = record {
+  ends = λ v dead. refl;
+  keeps = λ v alive. absurd (none v alive);
+  loops = λ p c m loop. absurd (none (c 0) (loop.steps 0 loop.long).alive);
+}
+
+-- the first game has fewer live vertices
+pub fewer_without : (live : ℕ → Bool) (t n : ℕ) → t < n → live t ≡ true → count (live_without live t) n < count live n
+fewer_without live t n low alive =
+    count_strict (live_without live t) live n (λ v below h. (live_without-true live t v h).1) t low (update-same live t false t refl) alive
+
+-- a live vertex of the second game is live in the first
+pub frozen_without : (live : ℕ → Bool) (t : ℕ) (win : ℕ → Player) (j : Player) (v : ℕ) → live_frozen live t win j v ≡ true → live_without live t v ≡ true
+frozen_without live t win j v = cond_both (same_player (win v) j) false (live_without live t v) (λ x. x ≡ true → live_without live t v ≡ true) (λ e h. absurd (cc)) (λ e h. h)
+
+-- the second game has no more live vertices than the first
+pub fewer_frozen : (live : ℕ → Bool) (t n : ℕ) (win : ℕ → Player) (j : Player) → count (live_frozen live t win j) n ≤ count (live_without live t) n
+fewer_frozen live t n win j = count_mono (live_frozen live t win j) (live_without live t) n (λ v below h. frozen_without live t win j v h)
+
+-- the claim for at most so many live vertices below n
+Solvable : Board → ℕ → ℕ → Type 0
+Solvable b n fuel = (live : ℕ → Bool) (over : ℕ → Player) → count live n ≤ fuel → ((v : ℕ) → live v ≡ true → v < n) → Solution b live over
+
+-- one more live vertex
+step : (b : Board) → Decides b → (n fuel : ℕ) → Solvable b n fuel → (live : ℕ → Bool) (over : ℕ → Player) → count live n ≤ suc fuel → ((v : ℕ) → live v ≡ true → v < n) → Least (λ v. live v ≡ true) b.priority n → Solution b live over
+unfolding Solvable
+step b decides n fuel smaller live over few bounded m = by_first (smaller (live_without live t) (over_with over t i) (omega (arith, fewer)) (λ v h. bounded v (live_without-true live t v h).1))
+  where
+    t : ℕ
+    t = m.place
+
+    i : Player
+    i = side (b.priority t)
+
+    fewer : count (live_without live t) n < count live n
+    fewer = fewer_without live t n m.below m.holds
+
+    least : (v : ℕ) → live v ≡ true → b.priority t ≤ b.priority v
+    least v alive = m.least v (bounded v alive) alive
+
+    kept : (f : Solution b (live_without live t) (over_with over t i)) → HeldMove b f.win i t → Solution b live over
+    kept f h = record {
+      win = f.win;
+      choice = update f.choice t h.to;
+      solves = least_kept b live over t f.win f.choice h.to m.holds least f.solves h.held;
+    }
+
+    lost : (f : Solution b (live_without live t) (over_with over t i)) → HeldMove b f.win (opponent i) t → Solution b (live_frozen live t f.win (opponent i)) (over_frozen t f.win (opponent i)) → Solution b live over
+    lost f h r = record {
+      win = r.win;
+      choice = joined t h.to f.win (opponent i) f.choice r.choice;
+      solves = least_lost b live over t f.win f.choice h.to r.win r.choice m.holds f.solves h.held r.solves;
+    }
+
+    again : (f : Solution b (live_without live t) (over_with over t i)) → Solution b (live_frozen live t f.win (opponent i)) (over_frozen t f.win (opponent i))
+    again f = smaller (live_frozen live t f.win (opponent i)) (over_frozen t f.win (opponent i)) (omega (arith, fewer, fewer_frozen live t n f.win (opponent i))) (λ v h. bounded v (live_without-true live t v (frozen_without live t f.win (opponent i) v h)).1)
+
+    by_first : Solution b (live_without live t) (over_with over t i) → Solution b live over
+    by_first f = ⊎_elim (λ (h : HeldMove b f.win i t). kept f h) (λ (h : HeldMove b f.win (opponent i) t). lost f h (again f)) (either_holds b decides f.win i t)
+
+-- every game with finitely many live vertices has a solution
+pub solution : (b : Board) → Decides b → (n fuel : ℕ) (live : ℕ → Bool) (over : ℕ → Player) → count live n ≤ fuel → ((v : ℕ) → live v ≡ true → v < n) → Solution b live over
+unfolding Solvable
+solution b decides n zero live over few bounded = record {
+  win = over;
+  choice = λ v. v;
+  solves = nobody_lives b live over (λ v. v) (λ v alive. count_zero live n (omega arith) v (bounded v alive) alive);
+}
+solution b decides n (suc fuel) live over few bounded =
+    by_least (solution b decides n fuel) (search_least (λ v. live v ≡ true) b.priority (λ v. alive_or_not (live v)) n)
+  where
+    alive_or_not : (x : Bool) → (x ≡ true) ⊎ (x ≡ true → ⊥)
+    alive_or_not true = inl refl
+    alive_or_not false = inr (λ h. cc)
+
+    by_least : Solvable b n fuel → Least (λ v. live v ≡ true) b.priority n ⊎ ((v : ℕ) → v < n → live v ≡ true → ⊥) → Solution b live over
+    by_least smaller (inl m) = step b decides n fuel smaller live over few bounded m
+    by_least smaller (inr none) = record {
+      win = over;
+      choice = λ v. v;
+      solves = nobody_lives b live over (λ v. v) (λ v alive. none v (bounded v alive) alive);
+    }
