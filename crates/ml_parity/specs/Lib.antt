@@ -1,4 +1,12 @@
+-- parity games, as lists
+pub mod Game
+-- the determinacy law
+pub mod Law
 -- the two players
 pub mod Player
 -- games with sinks, in which the induction of the determinacy law goes
 pub mod Sinks
+-- solutions of a game
+pub mod Solution
+-- plays, positional strategies, and who wins a vertex
+pub mod Winner

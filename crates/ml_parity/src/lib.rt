@@ -1,4 +1,5 @@
 // Parity games.
 #![tactic(auto)]
 
+pub mod laws;
 pub mod player;
