@@ -137,3 +137,29 @@ lasso_of_is R c i j apart same steps = record {
   where
     step : (k : ℕ) → k < j → R (get_or (round (lasso_of c i j)) k 0) (get_or (round (lasso_of c i j)) (k + 1) 0)
     step k low = subst₂ R (sym (lasso_of-round c i j k apart same (omega arith))) (sym (lasso_of-round c i j (k + 1) apart same (omega arith))) (steps k low)
+
+-- ---- two functions, and one entry more
+
+-- functions that agree on the entries of the list have the same lowest on the loop
+pub lowest_on_loop-same : (f g : ℕ → ℕ) (l : Lasso) → l.start < length l.entries → ((k : ℕ) → k < length l.entries → f (entry l k) ≡ g (entry l k)) → lowest_on_loop f l ≡ lowest_on_loop g l
+lowest_on_loop-same f g l starts same = from (lowest_on_loop_place g l starts)
+  where
+    from : LowestOnLoop g l → lowest_on_loop f l ≡ lowest_on_loop g l
+    from p =
+        lowest_on_loop_is f l p.place p.later p.below (λ j later low. omega (arith, same p.place p.below, same j low, p.holds, lowest_on_loop_le g l j later low))
+        ∙ same p.place p.below
+        ∙ p.holds
+
+-- the lasso with one entry more in front
+abbrev pub prepend : ℕ → Lasso → Lasso
+prepend v l = record { entries = v ∷ l.entries; start = suc l.start }
+
+-- it is a lasso of R if the new entry has a step of R to the old first one
+pub prepend_is : (R : ℕ → ℕ → Type 0) (v : ℕ) (l : Lasso) → IsLassoOf R l → R v (entry l 0) → IsLassoOf R (prepend v l)
+prepend_is R v l old step = record { starts = omega (arith, old.starts); joined = joined }
+  where
+    joined : (k : ℕ) → k < suc (length l.entries) → R (get_or (v ∷ round l) k 0) (get_or (v ∷ round l) (k + 1) 0)
+    joined zero low = subst (R v) (sym (round-entry l 0 (omega (arith, old.starts)))) step
+    joined (suc k) low =
+        let e : suc (k + 1) ≡ suc k + 1 = omega arith in
+        subst (λ i. R (get_or (round l) k 0) (get_or (v ∷ round l) i 0)) e (old.joined k (omega arith))

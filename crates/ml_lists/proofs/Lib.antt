@@ -12,3 +12,5 @@ pub mod Pigeons
 pub mod Search
 -- a function with one value changed
 pub mod Update
+-- walks of a function, and the lassos that they make
+pub mod Walks

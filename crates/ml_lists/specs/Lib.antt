@@ -10,3 +10,5 @@ pub mod Pigeons
 pub mod Search
 -- a function with one value changed
 pub mod Update
+-- what a function gives when it is applied again and again
+pub mod Walk
