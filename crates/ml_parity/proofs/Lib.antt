@@ -1,3 +1,5 @@
+-- from games to boards and back
+pub mod Games
 -- the induction of the determinacy law, its first case
 pub mod LeastKept
 -- and its second case
