@@ -10,17 +10,16 @@
 --   first_move      == the first successor of a vertex is a move
 --   AgreesWith      == a choice that is that of the solution where the owner wins
 --   solution_wins   == a choice that agrees with a solution of the board wins each vertex for its winner
-use Rattle.std.proofs.Common.{ℕ, zero, suc, ◌≡◌, ◌+◌, ◌-◌, ◌<◌, ◌≤◌, Bool, true, false, ◌⊎◌, inl, inr, ⊎_elim, arith, subst, subst₂, sym, ap, ◌∙◌, refl, List, [], ◌∷◌, length, get_or, ltb, lt-ltb}
+use Rattle.std.proofs.Common.{ℕ, ◌≡◌, ◌+◌, ◌-◌, ◌<◌, ◌≤◌, Bool, ◌⊎◌, inl, inr, arith, subst, subst₂, sym, ap, ◌∙◌, length, get_or, ltb, lt-ltb}
 use Rattle.std.proofs.lemmas.List.{get_or_default}
 use Rattle.ml_lists.specs.Search.{Found}
-use Rattle.ml_lists.specs.Lasso.{Lasso, IsLassoOf, entry, round, lowest_on_loop}
+use Rattle.ml_lists.specs.Lasso.{Lasso, entry, round, lowest_on_loop}
 use Rattle.ml_lists.proofs.Search.{search}
 use Rattle.ml_lists.proofs.Lasso.{round-entry, on_loop, loop_length, loop_closed, lasso_keeps, lowest_on_loop_is}
 use Rattle.ml_parity.specs.declared.player.Player.{Player}
-use Rattle.ml_parity.specs.declared.player.Player.TheVariants.{Even}
 use Rattle.ml_parity.specs.Player.{opponent, side}
 use Rattle.ml_parity.specs.Game.{ParityGame, IsGame, HasMove, owner_of, priority_of, moves_of, size}
-use Rattle.ml_parity.specs.Winner.{IsPlay, winner, IsStrategyOf, Follows, WinsFrom}
+use Rattle.ml_parity.specs.Winner.{IsPlay, winner, Follows, WinsFrom}
 use Rattle.ml_parity.specs.Sinks.{Board, SomeMove, EveryMove, Holds, Loop, Step, GoodFor, Solves}
 use Rattle.ml_parity.proofs.Players.{cases_player}
 use Rattle.ml_parity.proofs.LeastLost.{held_step}
@@ -54,12 +53,16 @@ winner_is g l p starts good = ap side lowest ∙ here ∙ good.right
   where
     at : (k : ℕ) → k < loop_length l → on_loop l k ≡ entry l (l.start + k)
     at k low = round-entry l (l.start + k) (omega arith)
+
     reach : (j : ℕ) → l.start ≤ j → j < length l.entries → on_loop l (j - l.start) ≡ entry l j
     reach j later low = let e : l.start + (j - l.start) ≡ j = omega arith in at (j - l.start) (omega arith) ∙ ap (entry l) e
+
     least : (j : ℕ) → l.start ≤ j → j < length l.entries → priority_of g (entry l (l.start + good.place)) ≤ priority_of g (entry l j)
     least j later low = subst₂ (λ x y. priority_of g x ≤ priority_of g y) (at good.place good.below) (reach j later low) (good.least (j - l.start) (omega arith))
+
     lowest : lowest_on_loop (priority_of g) l ≡ priority_of g (entry l (l.start + good.place))
     lowest = lowest_on_loop_is (priority_of g) l (l.start + good.place) (omega arith) (omega (arith, good.below)) least
+
     here : side (priority_of g (entry l (l.start + good.place))) ≡ side (priority_of g (on_loop l good.place))
     here = ap (λ x. side (priority_of g x)) (sym (at good.place good.below))
 
@@ -77,7 +80,6 @@ AgreesWith g win s choice = (v : ℕ) → v < size g → owner_of g v ≡ win v 
 
 -- a choice that agrees with a solution of the board wins each vertex for its winner
 module _ (g : ParityGame) (ok : IsGame g) (over win : ℕ → Player) (s choice : ℕ → ℕ) (solves : Solves (board_of g) (all_live g) over win s) (agrees : AgreesWith g win s choice) where
-
   -- at a vertex of the game its winner holds the choice of the solution
   held : (v : ℕ) → v < size g → Holds (board_of g) win (win v) (s v) v
   held v low = solves.keeps v (lt-ltb v (size g) low)
@@ -89,9 +91,10 @@ module _ (g : ParityGame) (ok : IsGame g) (over win : ℕ → Player) (s choice 
       next : (k : ℕ) → k < length l.entries → (get_or (round l) k 0 < size g) × (win (get_or (round l) k 0) ≡ p) → (get_or (round l) (k + 1) 0 < size g) × (win (get_or (round l) (k + 1) 0) ≡ p)
       next k below here =
           let v : ℕ = get_or (round l) k 0 in
-          let by_p : Holds (board_of g) win p (s v) v = subst (λ q. Holds (board_of g) win q (s v) v) here.1 (held v here.0) in
-          (ok.in_range v (get_or (round l) (k + 1) 0) (play.joined k below),
-            held_step (board_of g) win p (s v) v (get_or (round l) (k + 1) 0) by_p (play.joined k below) (λ own. follows k below own ∙ agrees v here.0 (own ∙ sym here.1)))
+          let by_p : Holds (board_of g) win p (s v) v = subst (λ q. Holds (board_of g) win q (s v) v) here.1 (held v here.0) in (
+            ok.in_range v (get_or (round l) (k + 1) 0) (play.joined k below),
+            held_step (board_of g) win p (s v) v (get_or (round l) (k + 1) 0) by_p (play.joined k below) (λ own. follows k below own ∙ agrees v here.0 (own ∙ sym here.1)),
+          )
 
   -- so the loop of the play is a loop of that player's
   loop : (p : Player) (l : Lasso) → IsPlay g l → Follows g p choice l → entry l 0 < size g → win (entry l 0) ≡ p → Loop (board_of g) (all_live g) win s p (on_loop l) (loop_length l)

@@ -8,3 +8,5 @@ pub mod LeastLost
 pub mod Players
 -- every game with finitely many live vertices has a solution
 pub mod Sinks
+-- who wins each vertex: the determinacy law
+pub mod Winners

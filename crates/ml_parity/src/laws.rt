@@ -8,5 +8,4 @@ ghost use Rattle.ml_parity.specs.Law.{DeterminacyLaw};
 /// Does nothing when called. Source: Emerson and Jutla (1991) and Mostowski (1991); the proof goes after Haddad's.
 pub fn determined()
     ensures law { DeterminacyLaw }
-{
-}
+{}
