@@ -10,3 +10,11 @@ pub mod Players
 pub mod Sinks
 -- who wins each vertex: the determinacy law
 pub mod Winners
+-- the comparison of two games that differ at some vertices
+pub mod Comparison
+-- winning is kept along plays that follow the strategy
+pub mod Kept
+-- the one-step law
+pub mod OneStep
+-- finite memory is not needed
+pub mod Memory
