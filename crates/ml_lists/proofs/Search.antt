@@ -6,10 +6,11 @@
 --   all_below_suc == what holds of each number below n, and of n, holds of each below n + 1
 --   search        == some number below n has P, or each has Q
 --   search_first  == the first number below n has P, or none has P
+--   first_unique  == there is one first number with P
 --   search_least  == a number with P at which f is least, or none below n has P
 use Rattle.std.proofs.Common.{ℕ, zero, suc, ◌≡◌, ◌<◌, ◌≤◌, ◌⊎◌, inl, inr, arith, subst, sym, ⊎_elim}
-use Rattle.std.proofs.lemmas.Bool.{cases_eq, cases_lt}
-use Rattle.ml_lists.specs.Search.{Found, First, Least}
+use Rattle.std.proofs.lemmas.Bool.{cases_eq, cases_lt, cases_order}
+use Rattle.ml_lists.specs.Search.{Found, IsFirst, First, Least}
 
 -- what holds of each number below n, and of n, holds of each number below n + 1
 pub all_below_suc : (P : ℕ → Type 0) (n : ℕ) → ((k : ℕ) → k < n → P k) → P n → (k : ℕ) → k < suc n → P k
@@ -35,9 +36,18 @@ search_first P decide zero = inr (λ k low. absurd (omega arith))
 search_first P decide (suc n) = more (search_first P decide n) (decide n)
   where
     more : First P n ⊎ ((k : ℕ) → k < n → P k → ⊥) → P n ⊎ (P n → ⊥) → First P (suc n) ⊎ ((k : ℕ) → k < suc n → P k → ⊥)
-    more (inl f) d = inl (record { place = f.place; below = omega (arith, f.below); holds = f.holds; before = f.before })
-    more (inr none) (inl p) = inl (record { place = n; below = omega arith; holds = p; before = none })
+    more (inl f) d = inl (record { place = f.place; is_first = record { below = omega (arith, f.is_first.below); holds = f.is_first.holds; before = f.is_first.before } })
+    more (inr none) (inl p) = inl (record { place = n; is_first = record { below = omega arith; holds = p; before = none } })
     more (inr none) (inr q) = inr (all_below_suc (λ k. P k → ⊥) n none q)
+
+-- the first number that has P is one
+pub first_unique : (P : ℕ → Type 0) (n v w : ℕ) → IsFirst P n v → IsFirst P n w → v ≡ w
+first_unique P n v w a b = by_case (cases_order v w)
+  where
+    by_case : (v ≡ w) ⊎ ((v < w) ⊎ (w < v)) → v ≡ w
+    by_case (inl same) = same
+    by_case (inr (inl lower)) = absurd (b.before v lower a.holds)
+    by_case (inr (inr higher)) = absurd (a.before w higher b.holds)
 
 -- a number below n that has P at which f is least, or none below n has P
 pub search_least : (P : ℕ → Type 0) (f : ℕ → ℕ) → ((k : ℕ) → P k ⊎ (P k → ⊥)) → (n : ℕ) → Least P f n ⊎ ((k : ℕ) → k < n → P k → ⊥)

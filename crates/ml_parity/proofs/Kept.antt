@@ -9,7 +9,7 @@
 use Rattle.std.proofs.Common.{ℕ, zero, suc, ◌≡◌, ◌+◌, ◌≤◌, arith, subst, sym, ◌∙◌, refl, length, get_or, ◌∷◌}
 use Rattle.ml_lists.specs.Lasso.{Lasso, entry, round}
 use Rattle.ml_lists.proofs.Lasso.{round-entry, lasso_keeps, prepend, prepend_is}
-use Rattle.ml_parity.specs.declared.player.Player.{Player}
+use Rattle.ml_parity.specs.declared.players.Player.{Player}
 use Rattle.ml_parity.specs.Game.{ParityGame, HasMove, owner_of}
 use Rattle.ml_parity.specs.Winner.{IsPlay, Follows, WinsFrom, Wins}
 

@@ -12,7 +12,7 @@ use Rattle.ml_lists.specs.Search.{Found}
 use Rattle.ml_lists.specs.Update.{update}
 use Rattle.ml_lists.proofs.Search.{search}
 use Rattle.ml_lists.proofs.Update.{update-same, update-other}
-use Rattle.ml_parity.specs.declared.player.Player.{Player}
+use Rattle.ml_parity.specs.declared.players.Player.{Player}
 use Rattle.ml_parity.specs.Player.{side}
 use Rattle.ml_parity.specs.Sinks.{Board, Holds, Loop, GoodFor, Solves}
 

@@ -1,11 +1,11 @@
 -- from games to boards and back
-pub mod Games
+pub mod Boards
 -- the induction of the determinacy law, its first case
 pub mod LeastKept
 -- and its second case
 pub mod LeastLost
 -- the two players
-pub mod Players
+pub mod Opponents
 -- every game with finitely many live vertices has a solution
 pub mod Sinks
 -- who wins each vertex: the determinacy law
@@ -18,3 +18,5 @@ pub mod Kept
 pub mod OneStep
 -- finite memory is not needed
 pub mod Memory
+-- lists that are a game, and lists that are none
+pub mod Refusals

@@ -19,12 +19,12 @@ use Rattle.ml_lists.specs.Walk.{walk}
 use Rattle.ml_lists.proofs.Pigeons.{pigeons}
 use Rattle.ml_lists.proofs.Lasso.{lasso_of, lasso_of-entry, lasso_of-round, lasso_of-length, lasso_of_is}
 use Rattle.ml_lists.proofs.Walks.{walk-add-one, walk_keeps}
-use Rattle.ml_parity.specs.declared.player.Player.{Player}
+use Rattle.ml_parity.specs.declared.players.Player.{Player}
 use Rattle.ml_parity.specs.Player.{opponent}
 use Rattle.ml_parity.specs.Game.{ParityGame, IsGame, HasMove, owner_of, size}
 use Rattle.ml_lists.specs.Lasso.{Lasso, entry, round}
 use Rattle.ml_parity.specs.Winner.{IsPlay, Follows, winner, Wins}
-use Rattle.ml_parity.proofs.Players.{cases_player, no_own_opponent, same_player, same_player-true, same_player-false}
+use Rattle.ml_parity.proofs.Opponents.{cases_player, no_own_opponent, same_player, same_player-true, same_player-false}
 use Rattle.ml_parity.proofs.Winners.{won_by_either}
 
 -- a move for each vertex and memory, and the memory after each move

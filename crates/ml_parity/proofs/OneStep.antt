@@ -4,13 +4,13 @@
 --   own_vertex_won     == p wins a vertex of p's own exactly if p wins some successor
 --   other_vertex_won   == p wins a vertex of the opponent's exactly if p wins every successor
 use Rattle.std.proofs.Common.{ℕ, ◌≡◌, ◌<◌, ◌⊎◌, inl, inr, ◌↔◌, subst, sym, ◌∙◌}
-use Rattle.ml_parity.specs.declared.player.Player.{Player}
+use Rattle.ml_parity.specs.declared.players.Player.{Player}
 use Rattle.ml_parity.specs.Player.{opponent}
 use Rattle.ml_parity.specs.Game.{ParityGame, IsGame, HasMove, owner_of, size}
 use Rattle.ml_parity.specs.Winner.{Wins}
 use Rattle.ml_parity.specs.Sinks.{Holds}
-use Rattle.ml_parity.proofs.Players.{cases_player, opponent-opponent, not_both}
-use Rattle.ml_parity.proofs.Games.{board_of}
+use Rattle.ml_parity.proofs.Opponents.{cases_player, opponent-opponent, not_both}
+use Rattle.ml_parity.proofs.Boards.{board_of}
 use Rattle.ml_parity.proofs.Winners.{Winners, winners, won}
 
 -- some successor of v is won by p

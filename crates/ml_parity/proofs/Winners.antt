@@ -13,16 +13,16 @@ use Rattle.std.proofs.lemmas.Bool.{cond-true, cond-false}
 use Rattle.ml_lists.specs.Lasso.{round}
 use Rattle.ml_lists.proofs.Counting.{count_le}
 use Rattle.ml_lists.proofs.Walks.{WalkLasso, walk_lasso}
-use Rattle.ml_parity.specs.declared.player.Player.{Player}
-use Rattle.ml_parity.specs.declared.player.Player.TheVariants.{Even}
+use Rattle.ml_parity.specs.declared.players.Player.{Player}
+use Rattle.ml_parity.specs.declared.players.Player.TheVariants.{Even}
 use Rattle.ml_parity.specs.Player.{opponent}
 use Rattle.ml_parity.specs.Game.{ParityGame, IsGame, HasMove, owner_of, moves_of, size}
 use Rattle.ml_parity.specs.Winner.{IsPlay, WinsFrom, Wins}
 use Rattle.ml_parity.specs.Law.{DeterminacyLaw}
 use Rattle.ml_parity.specs.Sinks.{Holds, GoodMove, Solution}
-use Rattle.ml_parity.proofs.Players.{cases_player, no_own_opponent, same_player, same_player-true, same_player-false}
+use Rattle.ml_parity.proofs.Opponents.{cases_player, no_own_opponent, same_player, same_player-true, same_player-false}
 use Rattle.ml_parity.proofs.Sinks.{solution}
-use Rattle.ml_parity.proofs.Games.{board_of, decides, first_move, all_live, solution_wins}
+use Rattle.ml_parity.proofs.Boards.{board_of, decides, first_move, all_live, solution_wins}
 
 -- ---- two strategies together
 

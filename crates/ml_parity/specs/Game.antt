@@ -11,8 +11,8 @@
 --   HasMove g v w   == w is a successor of v
 --   IsGame g        == the lists have one length, each vertex has a successor, and all successors are vertices
 use Rattle.std.specs.Prelude.{ℕ, ◌≡◌, ◌<◌, List, [], length, get_or, Contains}
-use Rattle.ml_parity.specs.declared.player.Player.{Player}
-use Rattle.ml_parity.specs.declared.player.Player.TheVariants.{Even}
+use Rattle.ml_parity.specs.declared.players.Player.{Player}
+use Rattle.ml_parity.specs.declared.players.Player.TheVariants.{Even}
 
 -- the owners, the priorities and the successors of the vertices
 pub record ParityGame : Type 0 where

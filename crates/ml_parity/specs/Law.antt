@@ -7,8 +7,8 @@
 --   Determined g     == each vertex is won by exactly one player, and each player has one best strategy
 --   DeterminacyLaw   == every parity game is determined
 use Rattle.std.specs.Prelude.{ℕ, ◌<◌, ◌⊎◌}
-use Rattle.ml_parity.specs.declared.player.Player.{Player}
-use Rattle.ml_parity.specs.declared.player.Player.TheVariants.{Even, Odd}
+use Rattle.ml_parity.specs.declared.players.Player.{Player}
+use Rattle.ml_parity.specs.declared.players.Player.TheVariants.{Even, Odd}
 use Rattle.ml_parity.specs.Game.{ParityGame, IsGame, size}
 use Rattle.ml_parity.specs.Winner.{IsStrategyOf, WinsFrom, Wins}
 

@@ -10,3 +10,5 @@ pub mod Sinks
 pub mod Solution
 -- plays, positional strategies, and who wins a vertex
 pub mod Winner
+-- which lists are no parity game
+pub mod Refusal

@@ -6,8 +6,8 @@
 --   opponent p == the other player
 --   side n     == the player for whom the lowest priority n is good: Even if n is even, Odd if n is odd
 use Rattle.std.specs.Prelude.{ℕ, ◌%◌, cond, eqb}
-use Rattle.ml_parity.specs.declared.player.Player.{Player}
-use Rattle.ml_parity.specs.declared.player.Player.TheVariants.{Even, Odd}
+use Rattle.ml_parity.specs.declared.players.Player.{Player}
+use Rattle.ml_parity.specs.declared.players.Player.TheVariants.{Even, Odd}
 
 -- the other player
 abbrev pub opponent : Player → Player

@@ -15,7 +15,7 @@
 --   Solves live over win s == win and s solve the game with these live vertices and these sinks
 --   Solution               == a pair that solves it
 use Rattle.std.specs.Prelude.{ℕ, ◌≡◌, ◌+◌, ◌<◌, ◌≤◌, Bool, true, false}
-use Rattle.ml_parity.specs.declared.player.Player.{Player}
+use Rattle.ml_parity.specs.declared.players.Player.{Player}
 use Rattle.ml_parity.specs.Player.{opponent, side}
 
 -- owners, priorities and moves, of all numbers

@@ -6,8 +6,8 @@
 --
 --   IsSolution g win choice == win names the winners, and choice wins for each player from that player's vertices
 use Rattle.std.specs.Prelude.{ℕ, ◌≡◌, ◌<◌, List, length, get_or}
-use Rattle.ml_parity.specs.declared.player.Player.{Player}
-use Rattle.ml_parity.specs.declared.player.Player.TheVariants.{Even}
+use Rattle.ml_parity.specs.declared.players.Player.{Player}
+use Rattle.ml_parity.specs.declared.players.Player.TheVariants.{Even}
 use Rattle.ml_parity.specs.Game.{ParityGame, size}
 use Rattle.ml_parity.specs.Winner.{IsStrategyOf, WinsFrom, Wins}
 

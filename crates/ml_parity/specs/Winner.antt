@@ -14,7 +14,7 @@
 --   Wins g p v           == some strategy of p's wins from v
 use Rattle.std.specs.Prelude.{ℕ, ◌≡◌, ◌+◌, ◌<◌, length, get_or}
 use Rattle.ml_lists.specs.Lasso.{Lasso, IsLassoOf, entry, round, lowest_on_loop}
-use Rattle.ml_parity.specs.declared.player.Player.{Player}
+use Rattle.ml_parity.specs.declared.players.Player.{Player}
 use Rattle.ml_parity.specs.Player.{side}
 use Rattle.ml_parity.specs.Game.{ParityGame, HasMove, owner_of, priority_of, size}
 

@@ -1,4 +1,4 @@
--- From games to boards and back: the definition of the winner, and the sequences in which the induction goes.
+-- Boards: from games to boards and back: the definition of the winner, and the sequences in which the induction goes.
 --
 -- The loop of a play is a sequence; where it is good for a player as a sequence, that player is the winner of the
 -- play. So whoever solves the game on its board, each vertex live, wins each vertex by the definition.
@@ -16,12 +16,12 @@ use Rattle.ml_lists.specs.Search.{Found}
 use Rattle.ml_lists.specs.Lasso.{Lasso, entry, round, lowest_on_loop}
 use Rattle.ml_lists.proofs.Search.{search}
 use Rattle.ml_lists.proofs.Lasso.{round-entry, on_loop, loop_length, loop_closed, lasso_keeps, lowest_on_loop_is}
-use Rattle.ml_parity.specs.declared.player.Player.{Player}
+use Rattle.ml_parity.specs.declared.players.Player.{Player}
 use Rattle.ml_parity.specs.Player.{opponent, side}
 use Rattle.ml_parity.specs.Game.{ParityGame, IsGame, HasMove, owner_of, priority_of, moves_of, size}
 use Rattle.ml_parity.specs.Winner.{IsPlay, winner, Follows, WinsFrom}
 use Rattle.ml_parity.specs.Sinks.{Board, SomeMove, EveryMove, Holds, Loop, Step, GoodFor, Solves}
-use Rattle.ml_parity.proofs.Players.{cases_player}
+use Rattle.ml_parity.proofs.Opponents.{cases_player}
 use Rattle.ml_parity.proofs.LeastLost.{held_step}
 use Rattle.ml_parity.proofs.Sinks.{Decides}
 

@@ -5,8 +5,8 @@
 --   no_own_opponent    == no player is the player's own opponent
 --   same_player        == the test of equality, with its meaning both ways
 use Rattle.std.proofs.Common.{◌≡◌, Bool, true, false, ◌⊎◌, inl, inr, refl, sym, ◌∙◌}
-use Rattle.ml_parity.specs.declared.player.Player.{Player}
-use Rattle.ml_parity.specs.declared.player.Player.TheVariants.{Even, Odd}
+use Rattle.ml_parity.specs.declared.players.Player.{Player}
+use Rattle.ml_parity.specs.declared.players.Player.TheVariants.{Even, Odd}
 use Rattle.ml_parity.specs.Player.{opponent}
 
 -- two players are equal, or the one is the opponent of the other

@@ -1,0 +1,121 @@
+// Parity games, and the call that builds them.
+
+ghost use Rattle.std.specs.Prelude.{◌≡◌, ℕ, ◌<◌, ◌↔◌, length, MatchOption, IfOk, IsOk, IsErrOf, IsTrue, vec_len};
+ghost use Rattle.ml_lists.specs.Search.{IsFirst};
+ghost use Rattle.ml_parity.specs.Refusal.{IsDeadEnd, HasEntryFrom, LeavesRange, game_of, lists_of};
+ghost use Rattle.ml_parity.specs.Game.{IsGame};
+
+use crate::players::Player;
+use std::marker::Model;
+use thiserror::Error;
+
+/// A parity game: for each vertex its owner, its priority and its successors.
+///
+/// Contracts see the three lists. Vertices are numbered from 0; each has a successor, and all successors are vertices.
+#[derive(Debug, Drop)]
+pub struct Game {
+    /// Who owns each vertex, and so moves there.
+    pub owner: Vec<Player>,
+    /// The priority of each vertex.
+    pub priority: Vec<u32>,
+    /// The successors of each vertex.
+    pub successors: Vec<Vec<u64>>,
+}
+
+impl Model for Game {
+    ghost use Rattle.ml_parity.specs.Game.{ParityGame, IsGame};
+    ghost use Rattle.ml_parity.specs.Refusal.{game_of};
+
+    ghost Value = { ParityGame };
+
+    ghost view = { λ a. game_of a.owner a.priority a.successors };
+
+    ghost invariant = { λ a. IsGame (game_of a.owner a.priority a.successors) };
+}
+
+/// Why lists are no parity game.
+#[derive(Clone, Copy, Debug, PartialEq, Eq, Error)]
+pub enum GameRefusal {
+    /// The least vertex without a successor.
+    #[error("vertex {0} has no successor")]
+    DeadEnd(u64),
+    /// The least vertex with a successor that is no vertex.
+    #[error("vertex {0} has a successor that is no vertex")]
+    OutOfRange(u64),
+    /// There was no memory. `Game::build` takes none, and never says so.
+    #[error("out of memory")]
+    NoMemory,
+}
+
+impl Game {
+    /// Builds the game of three lists: for each vertex its owner, its priority and its successors.
+    ///
+    /// Refuses lists that are no game: `DeadEnd` is the least vertex without a successor; where there is none,
+    /// `OutOfRange` is the least vertex with a successor that is no vertex. Takes no memory, so `NoMemory` never comes.
+    /// Costs one pass over the vertices, and one over all successors.
+    pub fn build(
+        owner: Vec<Player>,
+        priority: Vec<u32>,
+        successors: Vec<Vec<u64>>,
+    ) -> Result<Game, GameRefusal>
+        requires priorities { vec_len priority ≡ vec_len owner }
+        requires lists { vec_len successors ≡ vec_len owner }
+        ensures ok { IfOk result (λ g. g ≡ game_of owner priority successors) }
+        ensures accepted { IsOk result ↔ IsGame (game_of owner priority successors) }
+        ensures dead_end { (v : ℕ) → IsErrOf result (GameRefusal.DeadEnd v)
+            ↔ IsFirst (IsDeadEnd (lists_of successors.items)) (vec_len owner) v }
+        ensures out_of_range { (v : ℕ) → IsErrOf result (GameRefusal.OutOfRange v)
+            ↔ (((w : ℕ) → w < vec_len owner → ¬ (IsDeadEnd (lists_of successors.items) w))
+            × IsFirst (LeavesRange (lists_of successors.items) (vec_len owner)) (vec_len owner) v) }
+        ensures takes_no_memory { ¬ (IsErrOf result GameRefusal.NoMemory) }
+    {
+        if let Some(vertex) = first_dead_end(&successors) {
+            return Err(GameRefusal::DeadEnd(vertex));
+        }
+        if let Some(vertex) = first_out_of_range(&successors, owner.len() as u64) {
+            return Err(GameRefusal::OutOfRange(vertex));
+        }
+        Ok(Game {
+            owner,
+            priority,
+            successors,
+        })
+    }
+}
+
+/// The first vertex without a successor.
+fn first_dead_end(successors: &[Vec<u64>]) -> Option<u64>
+    ensures { MatchOption
+        result
+        ((v : ℕ) → v < length successors.now → ¬ (IsDeadEnd (lists_of successors.now) v))
+        (IsFirst (IsDeadEnd (lists_of successors.now)) (length successors.now)) }
+{
+    for (v, moves) in successors.iter().enumerate() {
+        if moves.is_empty() {
+            return Some(v as u64);
+        }
+    }
+    None
+}
+
+/// The first vertex with a successor of `size` or more.
+fn first_out_of_range(successors: &[Vec<u64>], size: u64) -> Option<u64>
+    ensures { MatchOption
+        result
+        ((v : ℕ) → v < length successors.now → ¬ (LeavesRange (lists_of successors.now) size v))
+        (IsFirst (LeavesRange (lists_of successors.now) size) (length successors.now)) }
+{
+    for (v, moves) in successors.iter().enumerate() {
+        if has_entry_from(moves, size) {
+            return Some(v as u64);
+        }
+    }
+    None
+}
+
+/// Whether some entry is `bound` or more.
+fn has_entry_from(entries: &[u64], bound: u64) -> bool
+    ensures { IsTrue result ↔ HasEntryFrom bound entries.now }
+{
+    entries.iter().any(|w| *w >= bound)
+}
