@@ -3,7 +3,6 @@
 -- The loop of a play is a sequence; where it is good for a player as a sequence, that player is the winner of the
 -- play. So whoever solves the game on its board, each vertex live, wins each vertex by the definition.
 --
---   board_of g      == the owners, priorities and moves of g
 --   move_to         == each entry of a list of successors is a move
 --   decides         == of each vertex it is decided: some move leads to where p wins, or every move does not
 --   winner_is       == the winner of a play is the player for whom its loop is good
@@ -21,13 +20,10 @@ use Rattle.ml_parity.specs.Player.{opponent, side}
 use Rattle.ml_parity.specs.Game.{ParityGame, IsGame, HasMove, owner_of, priority_of, moves_of, size}
 use Rattle.ml_parity.specs.Winner.{IsPlay, winner, Follows, WinsFrom}
 use Rattle.ml_parity.specs.Sinks.{Board, SomeMove, EveryMove, Holds, Loop, Step, GoodFor, Solves}
+use Rattle.ml_parity.specs.SinkGame.{board_of}
 use Rattle.ml_parity.proofs.Opponents.{cases_player}
 use Rattle.ml_parity.proofs.LeastLost.{held_step}
 use Rattle.ml_parity.proofs.Sinks.{Decides}
-
--- the owners, priorities and moves of g
-abbrev pub board_of : ParityGame → Board
-board_of g = record { owner = owner_of g; priority = priority_of g; Move = HasMove g }
 
 -- each entry of the list of successors is a move
 pub move_to : (g : ParityGame) (v k : ℕ) → k < length (moves_of g v) → HasMove g v (get_or (moves_of g v) k 0)

@@ -17,8 +17,8 @@ use Rattle.ml_parity.specs.Player.{opponent, side}
 use Rattle.ml_parity.specs.Game.{ParityGame, IsGame, HasMove, owner_of, priority_of, size}
 use Rattle.ml_parity.specs.Winner.{IsPlay, winner, Wins}
 use Rattle.ml_parity.specs.Sinks.{Holds}
+use Rattle.ml_parity.specs.SinkGame.{board_of}
 use Rattle.ml_parity.proofs.Opponents.{cases_player, opponent-opponent, not_both, no_own_opponent}
-use Rattle.ml_parity.proofs.Boards.{board_of}
 use Rattle.ml_parity.proofs.Winners.{Winners, winners, won, together, together-own, together-other}
 
 -- x is no worse for p in h than in g: p has each move of g there, and the opponent no new one

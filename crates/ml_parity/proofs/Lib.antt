@@ -20,3 +20,9 @@ pub mod OneStep
 pub mod Memory
 -- lists that are a game, and lists that are none
 pub mod Refusals
+-- live vertices as a list of flags
+pub mod LiveLists
+-- what the program reads in the fields of a game
+pub mod GameFields
+-- the steps of the plain solver
+pub mod PlainSteps

@@ -20,9 +20,10 @@ use Rattle.ml_parity.specs.Game.{ParityGame, IsGame, HasMove, owner_of, moves_of
 use Rattle.ml_parity.specs.Winner.{IsPlay, WinsFrom, Wins}
 use Rattle.ml_parity.specs.Law.{DeterminacyLaw}
 use Rattle.ml_parity.specs.Sinks.{Holds, GoodMove, Solution}
+use Rattle.ml_parity.specs.SinkGame.{board_of}
 use Rattle.ml_parity.proofs.Opponents.{cases_player, no_own_opponent, same_player, same_player-true, same_player-false}
 use Rattle.ml_parity.proofs.Sinks.{solution}
-use Rattle.ml_parity.proofs.Boards.{board_of, decides, first_move, all_live, solution_wins}
+use Rattle.ml_parity.proofs.Boards.{decides, first_move, all_live, solution_wins}
 
 -- ---- two strategies together
 

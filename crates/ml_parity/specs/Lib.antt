@@ -12,3 +12,5 @@ pub mod Solution
 pub mod Winner
 -- which lists are no parity game
 pub mod Refusal
+-- games with sinks on a parity game, as lists
+pub mod SinkGame

@@ -19,4 +19,6 @@
 
 pub mod games;
 pub mod laws;
+pub mod plain;
 pub mod players;
+pub mod solutions;

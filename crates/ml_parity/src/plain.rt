@@ -1,0 +1,101 @@
+// The plain solver: the recursion of the determinacy law, word for word.
+
+ghost use Rattle.std.specs.Prelude.{◌≡◌, ◌<◌, ℕ, Bool, true, false, cond, length, IfOk, MatchOption, slice_set, vec_len};
+ghost use Rattle.ml_parity.specs.Game.{size};
+ghost use Rattle.ml_parity.specs.Solution.{IsSolution, FirstElsewhere, winner_at, choice_at};
+ghost use Rattle.ml_parity.specs.SinkGame.{board_of, flag_at, SolvesLists, IsLeastLive, IsWithoutWon, IsMerged};
+ghost use Rattle.ml_parity.specs.Sinks.{Holds};
+
+use std::alloc::{AllocError, Global};
+
+use crate::games::Game;
+use crate::players::{Player, opponent_of, side_of};
+use crate::solutions::Solution;
+
+/// A copy of the entries with one of them changed.
+fn changed<T: Copy + Drop>(alloc: Global, entries: &[T], at: usize, value: T) -> Result<Vec<T>, AllocError>
+    requires { at < length entries.now }
+    ensures { IfOk result (λ v. v.items ≡ slice_set entries.now at value) }
+{
+    let mut copy = Vec::from_slice(alloc, entries)?;
+    copy[at] = value;
+    Ok(copy)
+}
+
+/// A live vertex of least priority, if some vertex is live.
+fn least_live(priority: &[u32], live: &[bool]) -> Option<usize>
+    requires { length priority.now ≡ length live.now }
+    ensures { MatchOption result ((v : ℕ) → ¬ (flag_at live.now v ≡ true)) (IsLeastLive priority.now live.now) }
+{
+    let mut best: Option<usize> = None;
+    for v in 0..live.len() {
+        if live[v] {
+            match best {
+                None => best = Some(v),
+                Some(t) => {
+                    if priority[v] < priority[t] {
+                        best = Some(v);
+                    }
+                }
+            }
+        }
+    }
+    best
+}
+
+/// A player who can keep from `vertex` to where that player wins, and a move that does so: the owner and a move to
+/// where the owner wins, or, if there is none, the opponent and any move.
+fn held_move(game: &Game, winner: &[Player], vertex: usize) -> (Player, u64)
+    requires winners { length winner.now ≡ size game.now }
+    requires low { vertex < size game.now }
+    ensures { Holds (board_of game.now) (winner_at winner.now) result.0 result.1 vertex }
+{
+    let owner = game.owner[vertex];
+    let moves = &game.successors[vertex];
+    for w in moves {
+        if winner[*w as usize] == owner {
+            return (owner, *w);
+        }
+    }
+    (opponent_of(owner), moves[0])
+}
+
+/// The live vertices that `player` did not win.
+fn without_won(
+    alloc: Global,
+    live: &[bool],
+    winner: &[Player],
+    player: Player,
+) -> Result<Vec<bool>, AllocError>
+    requires { length winner.now ≡ length live.now }
+    ensures { IfOk result (λ rest. IsWithoutWon live.now winner.now player rest.items) }
+{
+    let mut rest = Vec::from_slice(alloc, live)?;
+    for v in 0..live.len() {
+        if winner[v] == player {
+            rest[v] = false;
+        }
+    }
+    Ok(rest)
+}
+
+/// The first choices where `player` won, and the second elsewhere.
+fn merged(
+    alloc: Global,
+    winner: &[Player],
+    player: Player,
+    first: &[u64],
+    second: &[u64],
+) -> Result<Vec<u64>, AllocError>
+    requires firsts { length first.now ≡ length winner.now }
+    requires seconds { length second.now ≡ length winner.now }
+    ensures { IfOk result (λ choice. IsMerged winner.now player first.now second.now choice.items) }
+{
+    let mut choice = Vec::from_slice(alloc, second)?;
+    for v in 0..winner.len() {
+        if winner[v] == player {
+            choice[v] = first[v];
+        }
+    }
+    Ok(choice)
+}
