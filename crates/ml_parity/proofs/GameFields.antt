@@ -19,7 +19,6 @@ pub record FieldsOf (owner : Vec Player) (priority : Vec ℕ) (successors : Vec 
   pub game : IsGame (game_of owner priority successors)
 
 module _ (owner : Vec Player) (priority : Vec ℕ) (successors : Vec (Vec ℕ)) (g : ParityGame) (f : FieldsOf owner priority successors g) where
-
   -- so g is a game
   pub is_game_of : IsGame g
   is_game_of = subst IsGame f.is f.game

@@ -20,7 +20,7 @@ use Rattle.ml_lists.proofs.Loops.{around}
 use Rattle.ml_parity.specs.declared.players.Player.{Player}
 use Rattle.ml_parity.specs.Player.{opponent, side}
 use Rattle.ml_parity.specs.Sinks.{Board, Holds, Step, Loop, GoodFor, Solves}
-use Rattle.ml_parity.proofs.Opponents.{cases_player, not_both, same_player, same_player-true, same_player-false}
+use Rattle.ml_parity.proofs.Opponents.{cases_player, not_both, same_player, same_player-true, same_player-false, is_or_not}
 use Rattle.ml_parity.proofs.LeastKept.{live_without, over_with}
 
 -- the vertices that j won, and t, are live no more
@@ -50,15 +50,15 @@ joined-least : (t w : ℕ) (win : ℕ → Player) (j : Player) (s s2 : ℕ → �
 joined-least t w win j s s2 = update-same (λ u. cond (same_player (win u) j) (s u) (s2 u)) t w t refl
 
 -- a vertex that j won is frozen
-live_frozen-won : (live : ℕ → Bool) (t : ℕ) (win : ℕ → Player) (j : Player) (v : ℕ) → win v ≡ j → live_frozen live t win j v ≡ false
+pub live_frozen-won : (live : ℕ → Bool) (t : ℕ) (win : ℕ → Player) (j : Player) (v : ℕ) → win v ≡ j → live_frozen live t win j v ≡ false
 live_frozen-won live t win j v won = cond-true (same_player (win v) j) false (live_without live t v) (same_player-true (win v) j won)
 
 -- any other is as live as in the first game
-live_frozen-lost : (live : ℕ → Bool) (t : ℕ) (win : ℕ → Player) (j : Player) (v : ℕ) → (win v ≡ j → ⊥) → live_frozen live t win j v ≡ live_without live t v
+pub live_frozen-lost : (live : ℕ → Bool) (t : ℕ) (win : ℕ → Player) (j : Player) (v : ℕ) → (win v ≡ j → ⊥) → live_frozen live t win j v ≡ live_without live t v
 live_frozen-lost live t win j v lost = cond-false (same_player (win v) j) false (live_without live t v) (same_player-false (win v) j lost)
 
 -- a vertex that is not live in the first game is not live in the second
-live_frozen-dead : (live : ℕ → Bool) (t : ℕ) (win : ℕ → Player) (j : Player) (v : ℕ) → live_without live t v ≡ false → live_frozen live t win j v ≡ false
+pub live_frozen-dead : (live : ℕ → Bool) (t : ℕ) (win : ℕ → Player) (j : Player) (v : ℕ) → live_without live t v ≡ false → live_frozen live t win j v ≡ false
 live_frozen-dead live t win j v dead = cond_both (same_player (win v) j) false (live_without live t v) (λ x. x ≡ false) (λ e. refl) (λ e. dead)
 
 -- what is held by one map is held by another that gives the player no less
@@ -75,10 +75,6 @@ held_step b win p w v x held move chosen = by_case (cases_player (b.owner v) p)
     by_case : (b.owner v ≡ p) ⊎ (b.owner v ≡ opponent p) → win x ≡ p
     by_case (inl own) = ap win (chosen own) ∙ (held.own own).wins
     by_case (inr other) = held.other other x move
-
--- a player or the opponent: what is decided of equality
-is_or_not : (p q : Player) → (p ≡ q) ⊎ (p ≡ q → ⊥)
-is_or_not p q = ⊎_elim (λ (same : p ≡ q). inl same) (λ (other : p ≡ opponent q). inr (λ same. not_both p q same other)) (cases_player p q)
 
 -- where j, the opponent of i, holds a move from t, both solutions together serve with t live
 module _ (b : Board) (live : ℕ → Bool) (over : ℕ → Player) (t : ℕ) (win : ℕ → Player) (s : ℕ → ℕ) (w : ℕ) (win2 : ℕ → Player) (s2 : ℕ → ℕ)

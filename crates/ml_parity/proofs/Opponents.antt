@@ -3,8 +3,10 @@
 --   cases_player       == two players are equal, or the one is the opponent of the other
 --   opponent-opponent  == the opponent of the opponent is the player
 --   no_own_opponent    == no player is the player's own opponent
+--   not_both           == a player is not both one player and the opponent of that player
+--   is_or_not          == two players are equal, or they are not
 --   same_player        == the test of equality, with its meaning both ways
-use Rattle.std.proofs.Common.{◌≡◌, Bool, true, false, ◌⊎◌, inl, inr, refl, sym, ◌∙◌}
+use Rattle.std.proofs.Common.{◌≡◌, Bool, true, false, ◌⊎◌, inl, inr, ⊎_elim, refl, sym, ◌∙◌}
 use Rattle.ml_parity.specs.declared.players.Player.{Player}
 use Rattle.ml_parity.specs.declared.players.Player.TheVariants.{Even, Odd}
 use Rattle.ml_parity.specs.Player.{opponent}
@@ -29,6 +31,11 @@ no_own_opponent Odd h = cc
 -- a player is not both one player and the opponent of that player
 pub not_both : (p q : Player) → p ≡ q → p ≡ opponent q → ⊥
 not_both p q same other = no_own_opponent q (sym same ∙ other)
+
+-- two players are equal, or they are not
+pub is_or_not : (p q : Player) → (p ≡ q) ⊎ (p ≡ q → ⊥)
+is_or_not p q =
+    ⊎_elim (λ (same : p ≡ q). inl same) (λ (other : p ≡ opponent q). inr (λ same. not_both p q same other)) (cases_player p q)
 
 -- the test of equality of two players
 abbrev pub same_player : Player → Player → Bool
@@ -57,3 +64,7 @@ same_player-from_true Even Even h = refl
 same_player-from_true Even Odd h = cc
 same_player-from_true Odd Even h = cc
 same_player-from_true Odd Odd h = refl
+
+-- who is not a player is the opponent of that player
+pub other_player : (p q : Player) → (p ≡ q → ⊥) → p ≡ opponent q
+other_player p q different = ⊎_elim (λ (same : p ≡ q). absurd (different same)) (λ (other : p ≡ opponent q). other) (cases_player p q)

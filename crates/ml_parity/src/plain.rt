@@ -6,14 +6,18 @@ ghost use Rattle.ml_parity.specs.Solution.{IsSolution, FirstElsewhere, winner_at
 ghost use Rattle.ml_parity.specs.SinkGame.{board_of, flag_at, SolvesLists, IsLeastLive, IsWithoutWon, IsMerged};
 ghost use Rattle.ml_parity.specs.Sinks.{Holds};
 
-use std::alloc::{AllocError, Global};
-
 use crate::games::Game;
 use crate::players::{Player, opponent_of, side_of};
 use crate::solutions::Solution;
+use std::alloc::{AllocError, Global};
 
 /// A copy of the entries with one of them changed.
-fn changed<T: Copy + Drop>(alloc: Global, entries: &[T], at: usize, value: T) -> Result<Vec<T>, AllocError>
+fn changed<T: Copy + Drop>(
+    alloc: Global,
+    entries: &[T],
+    at: usize,
+    value: T,
+) -> Result<Vec<T>, AllocError>
     requires { at < length entries.now }
     ensures { IfOk result (λ v. v.items ≡ slice_set entries.now at value) }
 {
@@ -98,4 +102,59 @@ fn merged(
         }
     }
     Ok(choice)
+}
+
+/// Solves the game with these live vertices, in which each other vertex is won by the player of `sinks`.
+fn solve_live(
+    alloc: Global,
+    game: &Game,
+    live: &[bool],
+    sinks: &[Player],
+) -> Result<(Vec<Player>, Vec<u64>), AllocError>
+    requires lives { length live.now ≡ size game.now }
+    requires ends { length sinks.now ≡ size game.now }
+    ensures winners { IfOk result (λ r. length r.0.items ≡ size game.now) }
+    ensures choices { IfOk result (λ r. length r.1.items ≡ size game.now) }
+    ensures solves { IfOk result (λ r. SolvesLists game.now live.now sinks.now r.0.items r.1.items) }
+{
+    let Some(least) = least_live(&game.priority, live) else {
+        let choice = vec![in alloc; 0; live.len()]?;
+        return Ok((Vec::from_slice(alloc, sinks)?, choice));
+    };
+    let side = side_of(game.priority[least]);
+    let first_live = changed(alloc, live, least, false)?;
+    let first_sinks = changed(alloc, sinks, least, side)?;
+    let (winner, mut choice) = solve_live(alloc, game, &first_live, &first_sinks)?;
+    let (keeper, to) = held_move(game, &winner, least);
+    if keeper == side {
+        choice[least] = to;
+        return Ok((winner, choice));
+    }
+    let second_live = without_won(alloc, &first_live, &winner, keeper)?;
+    let second_sinks = changed(alloc, &winner, least, keeper)?;
+    let (second_winner, second_choice) = solve_live(alloc, game, &second_live, &second_sinks)?;
+    let mut joined = merged(alloc, &winner, keeper, &choice, &second_choice)?;
+    joined[least] = to;
+    Ok((second_winner, joined))
+}
+
+/// Solves a parity game: who wins each vertex, and by which moves.
+///
+/// At a vertex whose owner wins it, the choice is the move of a positional strategy with which that player wins from
+/// every vertex of that player; at each other vertex it is the first successor. Answers `AllocError` where memory ends.
+/// Costs a number of steps that doubles with each vertex: this is the recursion of the determinacy law, to test faster
+/// solvers against. Source: Haddad's short proof of positional determinacy, with one vertex a call made a sink.
+pub fn solve_plain(alloc: Global, game: &Game) -> Result<Solution, AllocError>
+    ensures ok { IfOk result (IsSolution game.now) }
+    ensures elsewhere { IfOk result (FirstElsewhere game.now) }
+{
+    let live = vec![in alloc; true; game.owner.len()]?;
+    let sinks = vec![in alloc; Player::Even; game.owner.len()]?;
+    let (winner, mut choice) = solve_live(alloc, game, &live, &sinks)?;
+    for v in 0..game.owner.len() {
+        if game.owner[v] != winner[v] {
+            choice[v] = game.successors[v][0];
+        }
+    }
+    Ok(Solution { winner, choice })
 }

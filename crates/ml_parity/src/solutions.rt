@@ -1,8 +1,7 @@
 // Solutions of parity games.
 
-use std::marker::Model;
-
 use crate::players::Player;
+use std::marker::Model;
 
 /// Who wins each vertex of a game, and by which moves.
 ///

@@ -1,7 +1,6 @@
 -- The program reads the owner and the moves of the vertex in the game's fields.
 use Rattle.std.proofs.Common.{ℕ, ◌≡◌, ◌<◌, arith, subst, sym, ap, ◌∙◌, length, get_or}
-use Rattle.ml_parity.specs.Game.{IsGame, moves_of, owner_of}
-use Rattle.ml_parity.specs.Player.{opponent}
+use Rattle.ml_parity.specs.Game.{moves_of, owner_of}
 use Rattle.ml_parity.specs.Solution.{winner_at}
 use Rattle.ml_parity.specs.Sinks.{Holds}
 use Rattle.ml_parity.specs.SinkGame.{board_of}
@@ -31,5 +30,5 @@ returns c =
     let moves : moves_of c.args.game.now c.args.vertex ≡ c.index-moves.result.now.items = moves_read c.game.inside.owner c.game.inside.priority c.game.inside.successors c.args.game.now f c.args.vertex c.index-moves.result.now c.requires.low c.index-moves.ensures in
     let own : owner_of c.args.game.now c.args.vertex ≡ c.index.result.now = owner_read c.game.inside.owner c.game.inside.priority c.game.inside.successors c.args.game.now f c.args.vertex c.index.result.now c.requires.low c.index.ensures in
     let none : (k : ℕ) → k < length (moves_of c.args.game.now c.args.vertex) → winner_at c.args.winner.now (get_or (moves_of c.args.game.now c.args.vertex) k 0) ≡ c.index.result.now → ⊥ =
-        λ k low wins. c.loop-w.invariant k (omega (arith, ap length moves, ap length c.deref-w-items.ensures.value)) (ap (λ xs. winner_at c.args.winner.now (get_or xs k 0)) (sym moves) ∙ wins) in
+    λ k low wins. c.loop-w.invariant k (omega (arith, ap length moves, ap length c.deref-w-items.ensures.value)) (ap (λ xs. winner_at c.args.winner.now (get_or xs k 0)) (sym moves) ∙ wins) in
     subst (λ p. Holds (board_of c.args.game.now) (winner_at c.args.winner.now) p c.index-2.result.now c.args.vertex) (sym c.opponent_of.ensures) (not_held c.args.game.now c.args.winner.now c.args.vertex c.index.result.now c.index-2.result.now own none)

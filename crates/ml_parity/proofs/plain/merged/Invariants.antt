@@ -8,5 +8,5 @@ invariant-loop-v l = record {
   size : length l.choice.items ≡ length l.winner;
   won : (k : ℕ) → k < l.v → winner_at l.winner k ≡ l.player → choice_at l.choice.items k ≡ choice_at l.first k;
   lost : (k : ℕ) → k < l.v → (winner_at l.winner k ≡ l.player → ⊥) → choice_at l.choice.items k ≡ choice_at l.second k;
-  later : (k : ℕ) → l.v ≤ k → choice_at l.choice.items k ≡ choice_at l.second k
+  later : (k : ℕ) → l.v ≤ k → choice_at l.choice.items k ≡ choice_at l.second k;
 }

@@ -9,5 +9,5 @@ invariant-loop-v l = record {
   size : length l.rest.items ≡ length l.live;
   won : (k : ℕ) → k < l.v → winner_at l.winner k ≡ l.player → flag_at l.rest.items k ≡ false;
   lost : (k : ℕ) → k < l.v → (winner_at l.winner k ≡ l.player → ⊥) → flag_at l.rest.items k ≡ flag_at l.live k;
-  later : (k : ℕ) → l.v ≤ k → flag_at l.rest.items k ≡ flag_at l.live k
+  later : (k : ℕ) → l.v ≤ k → flag_at l.rest.items k ≡ flag_at l.live k;
 }
