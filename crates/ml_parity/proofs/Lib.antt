@@ -26,3 +26,5 @@ pub mod LiveLists
 pub mod GameFields
 -- the steps of the plain solver
 pub mod PlainSteps
+-- from an answer on the board of a game to a solution
+pub mod Filled

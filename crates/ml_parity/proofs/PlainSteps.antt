@@ -4,8 +4,9 @@
 --   least_kept_lists == where its side holds a move from the least vertex, the answer of the first game serves
 --   SecondGame       == the second game of the solver, and what it answered
 --   least_lost_lists == where the opponent holds a move from the least vertex, both answers together serve
---   fewer_live, no_more_live == the two games have fewer live vertices
-use Rattle.std.proofs.Common.{ℕ, ◌≡◌, ◌+◌, ◌<◌, ◌≤◌, ◌⊎◌, inl, inr, ⊎_elim, arith, Bool, true, false, cond, List, length, get_or, set, subst, subst₂, sym, ap, ◌∙◌, get_or-set_same, get_or-set_other, length-set}
+--   fewer_live, no_more_live, first_falls, second_falls == the two games have fewer live vertices
+--   first_game, second_game  == what the program passed and got, said of the two games
+use Rattle.std.proofs.Common.{ℕ, ◌≡◌, ◌<◌, ◌≤◌, ◌⊎◌, inl, inr, ⊎_elim, arith, Bool, true, false, cond, List, length, get_or, set, subst, subst₂, sym, ap, ◌∙◌, get_or-set_same, get_or-set_other, length-set}
 use Rattle.std.proofs.lemmas.Bool.{cases_eq, cases_lt, cond-true, cond-false, cond_both, false≢true}
 use Rattle.std.proofs.lemmas.List.{get_or_past}
 use Rattle.std.proofs.Math.Path.{fun_ext}
@@ -16,15 +17,15 @@ use Rattle.ml_lists.proofs.Update.{update-same, update-other}
 use Rattle.ml_parity.specs.declared.players.Player.{Player}
 use Rattle.ml_parity.specs.declared.players.Player.TheVariants.{Even}
 use Rattle.ml_parity.specs.Player.{opponent, side}
-use Rattle.ml_parity.specs.Game.{ParityGame, IsGame, HasMove, owner_of, priority_of, moves_of, size}
+use Rattle.ml_parity.specs.Game.{ParityGame, owner_of, priority_of, moves_of}
 use Rattle.ml_parity.specs.Solution.{winner_at, choice_at}
-use Rattle.ml_parity.specs.Sinks.{Board, Holds, Solves, EveryMove}
+use Rattle.ml_parity.specs.Sinks.{Holds, Solves, EveryMove}
 use Rattle.ml_parity.specs.SinkGame.{board_of, flag_at, SolvesLists, IsLeastLive, IsWithoutWon, IsMerged}
 use Rattle.ml_parity.proofs.Opponents.{cases_player, opponent-opponent, is_or_not, same_player, same_player-true, same_player-false}
 use Rattle.ml_parity.proofs.Boards.{each_move}
 use Rattle.ml_parity.proofs.LeastKept.{live_without, over_with, least_kept}
 use Rattle.ml_parity.proofs.LeastLost.{live_frozen, over_frozen, joined, least_lost, live_frozen-won, live_frozen-lost, live_frozen-dead}
-use Rattle.ml_parity.proofs.Sinks.{held_by_other, nobody_lives, fewer_without, fewer_frozen}
+use Rattle.ml_parity.proofs.Sinks.{held_by_other, fewer_without}
 
 -- the opponent of the owner holds any move, if no successor is one where the owner wins
 pub not_held : (g : ParityGame) (win : List Player) (v : ℕ) (p : Player) (w : ℕ) → owner_of g v ≡ p → ((k : ℕ) → k < length (moves_of g v) → winner_at win (get_or (moves_of g v) k 0) ≡ p → ⊥) → Holds (board_of g) (winner_at win) (opponent p) w v
@@ -44,7 +45,7 @@ set_is_update xs t w d low = fun_ext (λ v. by_case v (cases_eq v t))
     by_case v (inr other) = get_or-set_other xs t v w d other ∙ sym (update-other (λ k. get_or xs k d) t w v other)
 
 -- where the vertex t of least priority is a sink, and its winner holds a move from t, the answer serves with t live
-pub least_kept_lists : (g : ParityGame) (live : List Bool) (over : List Player) (t : ℕ) (win : List Player) (choice : List ℕ) (w : ℕ) → IsLeastLive g.priority live t → t < length over → t < length choice → SolvesLists g (set live t false) (set over t (side (priority_of g t))) win choice → Holds (board_of g) (winner_at win) (side (priority_of g t)) w t → SolvesLists g live over win (set choice t w)
+pub least_kept_lists : (g : ParityGame) (live : List Bool) (over : List Player) (t : ℕ) (win : List Player) (choice : List ℕ) (w : ℕ) → IsLeastLive g live t → t < length over → t < length choice → SolvesLists g (set live t false) (set over t (side (priority_of g t))) win choice → Holds (board_of g) (winner_at win) (side (priority_of g t)) w t → SolvesLists g live over win (set choice t w)
 least_kept_lists g live over t win choice w least low_over low_choice first held =
     subst (λ (s : ℕ → ℕ). Solves (board_of g) (flag_at live) (winner_at over) (winner_at win) s) (sym (set_is_update choice t w 0 low_choice)) (least_kept (board_of g) (flag_at live) (winner_at over) t (winner_at win) (choice_at choice) w least.alive least.least first_as held)
   where
@@ -92,7 +93,7 @@ pub record SecondGame (g : ParityGame) (live : List Bool) (t : ℕ) (win : List 
   pub joins : IsMerged win j choice choice2 merged
 
 -- where the opponent holds a move from t, both answers together serve with t live
-pub least_lost_lists : (g : ParityGame) (live : List Bool) (over : List Player) (t : ℕ) (win : List Player) (choice : List ℕ) (w : ℕ) (rest : List Bool) (win2 : List Player) (choice2 merged : List ℕ) (j : Player) → j ≡ opponent (side (priority_of g t)) → IsLeastLive g.priority live t → t < length over → t < length win → length choice ≡ length win → length choice2 ≡ length win → SolvesLists g (set live t false) (set over t (side (priority_of g t))) win choice → SecondGame g live t win choice w rest win2 choice2 merged j → SolvesLists g live over win2 (set merged t w)
+pub least_lost_lists : (g : ParityGame) (live : List Bool) (over : List Player) (t : ℕ) (win : List Player) (choice : List ℕ) (w : ℕ) (rest : List Bool) (win2 : List Player) (choice2 merged : List ℕ) (j : Player) → j ≡ opponent (side (priority_of g t)) → IsLeastLive g live t → t < length over → t < length win → length choice ≡ length win → length choice2 ≡ length win → SolvesLists g (set live t false) (set over t (side (priority_of g t))) win choice → SecondGame g live t win choice w rest win2 choice2 merged j → SolvesLists g live over win2 (set merged t w)
 least_lost_lists g live over t win choice w rest win2 choice2 merged j is_opponent least low_over low_win firsts seconds first game = answer (subst (SecondGame g live t win choice w rest win2 choice2 merged) is_opponent game)
   where
     i : Player
@@ -122,29 +123,22 @@ no_more_live live win j rest n fits without = count_mono (flag_at rest) (flag_at
     by_winner v low set (inr lost) = sym (without.lost v low lost) ∙ set
 
 -- the first call of the solver has fewer live vertices
-pub first_falls : (priority : List ℕ) (live items now : List Bool) (t : ℕ) → IsLeastLive priority live t → items ≡ set live t false → now ≡ items → count (flag_at now) (length now) < count (flag_at live) (length live)
-first_falls priority live items now t least is same =
+pub first_falls : (g : ParityGame) (live items now : List Bool) (t : ℕ) → IsLeastLive g live t → items ≡ set live t false → now ≡ items → count (flag_at now) (length now) < count (flag_at live) (length live)
+first_falls g live items now t least is same =
     subst (λ (xs : List Bool). count (flag_at xs) (length xs) < count (flag_at live) (length live)) (sym (same ∙ is)) (subst (λ n. count (flag_at (set live t false)) n < count (flag_at live) (length live)) (sym (length-set live t false)) (fewer_live live t (length live) least.below least.below least.alive))
 
 -- and so has the second
-pub second_falls : (priority : List ℕ) (live items first : List Bool) (win : List Player) (j : Player) (rest now : List Bool) (t : ℕ) → IsLeastLive priority live t → items ≡ set live t false → first ≡ items → IsWithoutWon first win j rest → now ≡ rest → count (flag_at now) (length now) < count (flag_at live) (length live)
-second_falls priority live items first win j rest now t least is same without same_rest =
-    let fewer = first_falls priority live items first t least is same in
+pub second_falls : (g : ParityGame) (live items first : List Bool) (win : List Player) (j : Player) (rest now : List Bool) (t : ℕ) → IsLeastLive g live t → items ≡ set live t false → first ≡ items → IsWithoutWon first win j rest → now ≡ rest → count (flag_at now) (length now) < count (flag_at live) (length live)
+second_falls g live items first win j rest now t least is same without same_rest =
+    let fewer = first_falls g live items first t least is same in
     let no_more = no_more_live first win j rest (length first) (omega arith) without in
     let sizes : count (flag_at now) (length now) ≡ count (flag_at rest) (length first) = ap (λ (xs : List Bool). count (flag_at xs) (length xs)) same_rest ∙ ap (count (flag_at rest)) without.size in
     omega arith
 
--- the least live vertex, and the answer to the first call of the solver
-pub record FirstGame (g : ParityGame) (live : List Bool) (sinks : List Player) (t : ℕ) (win : List Player) (choice : List ℕ) : Type 0 where
-  pub least : IsLeastLive g.priority live t
-  pub first : SolvesLists g (set live t false) (set sinks t (side (priority_of g t))) win choice
-
--- what the program passed and got is that
-pub first_game : (g : ParityGame) (live : List Bool) (sinks : List Player) (t : ℕ) (priority : List ℕ) (p : Player) (live1 live2 : List Bool) (sinks1 sinks2 : List Player) (win : List Player) (choice : List ℕ) → priority ≡ g.priority → IsLeastLive priority live t → p ≡ side (priority_of g t) → live1 ≡ set live t false → sinks1 ≡ set sinks t p → live2 ≡ live1 → sinks2 ≡ sinks1 → SolvesLists g live2 sinks2 win choice → FirstGame g live sinks t win choice
-first_game g live sinks t priority p live1 live2 sinks1 sinks2 win choice same_priority least is_side is_live is_sinks same_live same_sinks solves = record {
-  least = subst (λ (xs : List ℕ). IsLeastLive xs live t) same_priority least;
-  first = subst₂ (λ (l : List Bool) (o : List Player). SolvesLists g l o win choice) (same_live ∙ is_live) (same_sinks ∙ is_sinks ∙ ap (set sinks t) is_side) solves;
-}
+-- what the program passed to the first call and got from it, said of the first game
+pub first_game : (g : ParityGame) (live : List Bool) (sinks : List Player) (t : ℕ) (p : Player) (live1 live2 : List Bool) (sinks1 sinks2 : List Player) (win : List Player) (choice : List ℕ) → p ≡ side (priority_of g t) → live1 ≡ set live t false → sinks1 ≡ set sinks t p → live2 ≡ live1 → sinks2 ≡ sinks1 → SolvesLists g live2 sinks2 win choice → SolvesLists g (set live t false) (set sinks t (side (priority_of g t))) win choice
+first_game g live sinks t p live1 live2 sinks1 sinks2 win choice is_side is_live is_sinks same_live same_sinks solves =
+    subst₂ (λ (l : List Bool) (o : List Player). SolvesLists g l o win choice) (same_live ∙ is_live) (same_sinks ∙ is_sinks ∙ ap (set sinks t) is_side) solves
 
 -- what the program passed to the second call and got from it, said of the second game
 pub second_game : (g : ParityGame) (live : List Bool) (t : ℕ) (win : List Player) (choice : List ℕ) (w : ℕ) (rest : List Bool) (win2 : List Player) (choice2 merged : List ℕ) (j : Player) (winA winB winC winD : List Player) (live1 live2 rest2 : List Bool) (sinks sinks2 : List Player) (choiceA choiceB : List ℕ) → winA ≡ win → winB ≡ win → winC ≡ win → winD ≡ win → live1 ≡ set live t false → live2 ≡ live1 → rest2 ≡ rest → sinks ≡ set winC t j → sinks2 ≡ sinks → choiceA ≡ choice → choiceB ≡ choice2 → Holds (board_of g) (winner_at winA) j w t → IsWithoutWon live2 winB j rest → SolvesLists g rest2 sinks2 win2 choice2 → IsMerged winD j choiceA choiceB merged → SecondGame g live t win choice w rest win2 choice2 merged j

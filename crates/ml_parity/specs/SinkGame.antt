@@ -3,7 +3,7 @@
 --   board_of g               == the owners, priorities and moves of g
 --   flag_at flags v          == the flag of vertex v; past the end no flag is set
 --   SolvesLists g live over win choice == the lists of winners and choices solve the game with these live vertices and sinks
---   IsLeastLive priority live t == t is a live vertex, and no live vertex has a lower priority
+--   IsLeastLive g live t        == t is a live vertex, and no live vertex has a lower priority
 --   IsWithoutWon live win p rest == rest has the flags of the live vertices that p did not win
 --   IsMerged win p first second choice == choice is the first where p won, and the second elsewhere
 use Rattle.std.specs.Prelude.{ℕ, ◌≡◌, ◌<◌, ◌≤◌, Bool, true, false, List, length, get_or}
@@ -25,10 +25,10 @@ abbrev pub SolvesLists : ParityGame → List Bool → List Player → List Playe
 SolvesLists g live over win choice = Solves (board_of g) (flag_at live) (winner_at over) (winner_at win) (choice_at choice)
 
 -- t is a live vertex, and no live vertex has a lower priority
-pub record IsLeastLive (priority : List ℕ) (live : List Bool) (t : ℕ) : Type 0 where
+pub record IsLeastLive (g : ParityGame) (live : List Bool) (t : ℕ) : Type 0 where
   pub below : t < length live
   pub alive : flag_at live t ≡ true
-  pub least : (v : ℕ) → flag_at live v ≡ true → get_or priority t 0 ≤ get_or priority v 0
+  pub least : (v : ℕ) → flag_at live v ≡ true → priority_of g t ≤ priority_of g v
 
 -- the flags of the live vertices that the player did not win
 pub record IsWithoutWon (live : List Bool) (win : List Player) (p : Player) (rest : List Bool) : Type 0 where

@@ -1,9 +1,9 @@
 // Parity games, and the call that builds them.
 
-ghost use Rattle.std.specs.Prelude.{◌≡◌, ℕ, ◌<◌, ◌↔◌, length, MatchOption, IfOk, IsOk, IsErrOf, IsTrue, vec_len};
+ghost use Rattle.std.specs.Prelude.{◌≡◌, ℕ, ◌<◌, ◌↔◌, length, MatchOption, IfOk, IsOk, IsErrOf, IsTrue, All, vec_len};
 ghost use Rattle.ml_lists.specs.Search.{IsFirst};
 ghost use Rattle.ml_parity.specs.Refusal.{IsDeadEnd, HasEntryFrom, LeavesRange, game_of, lists_of};
-ghost use Rattle.ml_parity.specs.Game.{IsGame};
+ghost use Rattle.ml_parity.specs.Game.{IsGame, size, owner_of, priority_of, moves_of};
 
 use crate::players::Player;
 use std::marker::Model;
@@ -80,6 +80,40 @@ impl Game {
             priority,
             successors,
         })
+    }
+
+    /// How many vertices the game has. Says too that it is a game, which its fields keep.
+    pub fn size(&self) -> usize
+        ensures vertices { result ≡ size self.now }
+        ensures game { IsGame self.now }
+    {
+        self.owner.len()
+    }
+
+    /// Who owns a vertex.
+    pub fn owner_at(&self, vertex: usize) -> Player
+        requires { vertex < size self.now }
+        ensures { result ≡ owner_of self.now vertex }
+    {
+        self.owner[vertex]
+    }
+
+    /// The priority of a vertex.
+    pub fn priority_at(&self, vertex: usize) -> u32
+        requires { vertex < size self.now }
+        ensures { result ≡ priority_of self.now vertex }
+    {
+        self.priority[vertex]
+    }
+
+    /// The successors of a vertex: there is one, and all are vertices.
+    pub fn moves_at(&self, vertex: usize) -> &[u64]
+        requires { vertex < size self.now }
+        ensures moves { result.now ≡ moves_of self.now vertex }
+        ensures goes_on { 0 < length result.now }
+        ensures in_range { All (λ w. w < size self.now) result.now }
+    {
+        &self.successors[vertex]
     }
 }
 

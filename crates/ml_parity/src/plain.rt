@@ -27,17 +27,17 @@ fn changed<T: Copy + Drop>(
 }
 
 /// A live vertex of least priority, if some vertex is live.
-fn least_live(priority: &[u32], live: &[bool]) -> Option<usize>
-    requires { length priority.now ≡ length live.now }
-    ensures { MatchOption result ((v : ℕ) → ¬ (flag_at live.now v ≡ true)) (IsLeastLive priority.now live.now) }
+fn least_live(game: &Game, live: &[bool]) -> Option<usize>
+    requires { length live.now ≡ size game.now }
+    ensures { MatchOption result ((v : ℕ) → ¬ (flag_at live.now v ≡ true)) (IsLeastLive game.now live.now) }
 {
     let mut best: Option<usize> = None;
     for v in 0..live.len() {
         if live[v] {
             match best {
                 None => best = Some(v),
-                Some(t) => {
-                    if priority[v] < priority[t] {
+                Some(least) => {
+                    if game.priority_at(v) < game.priority_at(least) {
                         best = Some(v);
                     }
                 }
@@ -54,8 +54,8 @@ fn held_move(game: &Game, winner: &[Player], vertex: usize) -> (Player, u64)
     requires low { vertex < size game.now }
     ensures { Holds (board_of game.now) (winner_at winner.now) result.0 result.1 vertex }
 {
-    let owner = game.owner[vertex];
-    let moves = &game.successors[vertex];
+    let owner = game.owner_at(vertex);
+    let moves = game.moves_at(vertex);
     for w in moves {
         if winner[*w as usize] == owner {
             return (owner, *w);
@@ -117,11 +117,11 @@ fn solve_live(
     ensures choices { IfOk result (λ r. length r.1.items ≡ size game.now) }
     ensures solves { IfOk result (λ r. SolvesLists game.now live.now sinks.now r.0.items r.1.items) }
 {
-    let Some(least) = least_live(&game.priority, live) else {
+    let Some(least) = least_live(game, live) else {
         let choice = vec![in alloc; 0; live.len()]?;
         return Ok((Vec::from_slice(alloc, sinks)?, choice));
     };
-    let side = side_of(game.priority[least]);
+    let side = side_of(game.priority_at(least));
     let first_live = changed(alloc, live, least, false)?;
     let first_sinks = changed(alloc, sinks, least, side)?;
     let (winner, mut choice) = solve_live(alloc, game, &first_live, &first_sinks)?;
@@ -148,12 +148,13 @@ pub fn solve_plain(alloc: Global, game: &Game) -> Result<Solution, AllocError>
     ensures ok { IfOk result (IsSolution game.now) }
     ensures elsewhere { IfOk result (FirstElsewhere game.now) }
 {
-    let live = vec![in alloc; true; game.owner.len()]?;
-    let sinks = vec![in alloc; Player::Even; game.owner.len()]?;
+    let size = game.size();
+    let live = vec![in alloc; true; size]?;
+    let sinks = vec![in alloc; Player::Even; size]?;
     let (winner, mut choice) = solve_live(alloc, game, &live, &sinks)?;
-    for v in 0..game.owner.len() {
-        if game.owner[v] != winner[v] {
-            choice[v] = game.successors[v][0];
+    for v in 0..size {
+        if game.owner_at(v) != winner[v] {
+            choice[v] = game.moves_at(v)[0];
         }
     }
     Ok(Solution { winner, choice })

@@ -4,4 +4,4 @@ use Rattle.ml_parity.proofs.LiveLists.{LeastBelow, NoneBelow}
 use Rattle.ml_parity.proofs.plain.least_live.Given as goal
 
 abbrev pub invariant-loop-v : goal.invariant-loop-v
-invariant-loop-v l = MatchOption l.best (NoneBelow l.live l.v) (LeastBelow l.priority l.live l.v)
+invariant-loop-v l = MatchOption l.best (NoneBelow l.live l.v) (LeastBelow l.game l.live l.v)
