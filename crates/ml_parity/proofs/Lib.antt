@@ -28,3 +28,5 @@ pub mod GameFields
 pub mod PlainSteps
 -- from an answer on the board of a game to a solution
 pub mod Filled
+-- what a solution tells
+pub mod SolutionFacts

@@ -22,3 +22,10 @@ pub mod laws;
 pub mod plain;
 pub mod players;
 pub mod solutions;
+
+pub use games::{Game, GameRefusal};
+pub use players::Player;
+pub use solutions::Solution;
+
+#[cfg(test)]
+mod tests;

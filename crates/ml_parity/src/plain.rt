@@ -7,7 +7,7 @@ ghost use Rattle.ml_parity.specs.SinkGame.{board_of, flag_at, SolvesLists, IsLea
 ghost use Rattle.ml_parity.specs.Sinks.{Holds};
 
 use crate::games::Game;
-use crate::players::{Player, opponent_of, side_of};
+use crate::players::Player;
 use crate::solutions::Solution;
 use std::alloc::{AllocError, Global};
 
@@ -61,7 +61,7 @@ fn held_move(game: &Game, winner: &[Player], vertex: usize) -> (Player, u64)
             return (owner, *w);
         }
     }
-    (opponent_of(owner), moves[0])
+    (owner.opponent(), moves[0])
 }
 
 /// The live vertices that `player` did not win.
@@ -121,7 +121,7 @@ fn solve_live(
         let choice = vec![in alloc; 0; live.len()]?;
         return Ok((Vec::from_slice(alloc, sinks)?, choice));
     };
-    let side = side_of(game.priority_at(least));
+    let side = Player::of_priority(game.priority_at(least));
     let first_live = changed(alloc, live, least, false)?;
     let first_sinks = changed(alloc, sinks, least, side)?;
     let (winner, mut choice) = solve_live(alloc, game, &first_live, &first_sinks)?;

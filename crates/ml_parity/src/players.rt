@@ -12,23 +12,25 @@ pub enum Player {
     Odd,
 }
 
-/// The other player.
-pub fn opponent_of(player: Player) -> Player
-    ensures { result ≡ opponent player }
-{
-    match player {
-        Player::Even => Player::Odd,
-        Player::Odd => Player::Even,
+impl Player {
+    /// The other player.
+    pub fn opponent(self) -> Player
+        ensures { result ≡ opponent self }
+    {
+        match self {
+            Player::Even => Player::Odd,
+            Player::Odd => Player::Even,
+        }
     }
-}
 
-/// The player for whom a lowest priority is good: `Even` if it is even, `Odd` if it is odd.
-pub fn side_of(priority: u32) -> Player
-    ensures { result ≡ side priority }
-{
-    if priority % 2 == 0 {
-        Player::Even
-    } else {
-        Player::Odd
+    /// The player for whom this lowest priority is good: `Even` if it is even, `Odd` if it is odd.
+    pub fn of_priority(priority: u32) -> Player
+        ensures { result ≡ side priority }
+    {
+        if priority % 2 == 0 {
+            Player::Even
+        } else {
+            Player::Odd
+        }
     }
 }

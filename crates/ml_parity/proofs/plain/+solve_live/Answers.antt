@@ -19,10 +19,10 @@ solve_live-requires t c =
 pub returns-then-eq-clause-solves : goal.returns-then-eq-clause-solves
 returns-then-eq-clause-solves t c =
     let low : c.in-Some.least < length c.args.live.now = c.in-Some.ensures.below in
-    let is_side : c.side_of-side.result ≡ side (priority_of c.args.game.now c.in-Some.least) = c.side_of-side.ensures ∙ ap side c.priority_at.ensures in
+    let is_side : c.of_priority-side.result ≡ side (priority_of c.args.game.now c.in-Some.least) = c.of_priority-side.ensures ∙ ap side c.priority_at.ensures in
     let first =
-    first_game c.args.game.now c.args.live.now c.args.sinks.now c.in-Some.least c.side_of-side.result c.in_ok-first_live.first_live.items c.deref.result.now c.in_ok-first_sinks.first_sinks.items c.deref-2.result.now c.in_ok-winner.winner.items c.in_ok-winner.choice.items is_side c.in_ok-first_live.ensures c.in_ok-first_sinks.ensures c.deref.ensures.value c.deref-2.ensures.value c.in_ok-winner.ensures.solves in
-    let keeps : c.held_move-keeper.result.0 ≡ c.side_of-side.result = search (rules, c.eq.ensures, c.if-eq.true) in
+    first_game c.args.game.now c.args.live.now c.args.sinks.now c.in-Some.least c.of_priority-side.result c.in_ok-first_live.first_live.items c.deref.result.now c.in_ok-first_sinks.first_sinks.items c.deref-2.result.now c.in_ok-winner.winner.items c.in_ok-winner.choice.items is_side c.in_ok-first_live.ensures c.in_ok-first_sinks.ensures c.deref.ensures.value c.deref-2.ensures.value c.in_ok-winner.ensures.solves in
+    let keeps : c.held_move-keeper.result.0 ≡ c.of_priority-side.result = search (rules, c.eq.ensures, c.if-eq.true) in
     let held = subst₂ (λ (win : List Player) (p : Player). Holds (board_of c.args.game.now) (winner_at win) p c.held_move-keeper.result.1 c.in-Some.least) c.deref-3.ensures.value (keeps ∙ is_side) c.held_move-keeper.ensures in
     least_kept_lists c.args.game.now c.args.live.now c.args.sinks.now c.in-Some.least c.in_ok-winner.winner.items c.in_ok-winner.choice.items c.held_move-keeper.result.1 c.in-Some.ensures (omega (arith, low, c.requires.lives, c.requires.ends)) (omega (arith, low, c.requires.lives, c.in_ok-winner.ensures.choices)) first held
 
@@ -37,10 +37,10 @@ solve_live-requires-2 t c =
 pub returns-clause-solves : goal.returns-clause-solves
 returns-clause-solves t c =
     let low : c.in-Some.least < length c.args.live.now = c.in-Some.ensures.below in
-    let is_side : c.side_of-side.result ≡ side (priority_of c.args.game.now c.in-Some.least) = c.side_of-side.ensures ∙ ap side c.priority_at.ensures in
+    let is_side : c.of_priority-side.result ≡ side (priority_of c.args.game.now c.in-Some.least) = c.of_priority-side.ensures ∙ ap side c.priority_at.ensures in
     let first =
-    first_game c.args.game.now c.args.live.now c.args.sinks.now c.in-Some.least c.side_of-side.result c.in_ok-first_live.first_live.items c.deref.result.now c.in_ok-first_sinks.first_sinks.items c.deref-2.result.now c.in_ok-winner.winner.items c.in_ok-winner.choice.items is_side c.in_ok-first_live.ensures c.in_ok-first_sinks.ensures c.deref.ensures.value c.deref-2.ensures.value c.in_ok-winner.ensures.solves in
-    let differs : c.held_move-keeper.result.0 ≡ c.side_of-side.result → ⊥ = search (rules, c.eq.ensures, c.if-eq.false) in
+    first_game c.args.game.now c.args.live.now c.args.sinks.now c.in-Some.least c.of_priority-side.result c.in_ok-first_live.first_live.items c.deref.result.now c.in_ok-first_sinks.first_sinks.items c.deref-2.result.now c.in_ok-winner.winner.items c.in_ok-winner.choice.items is_side c.in_ok-first_live.ensures c.in_ok-first_sinks.ensures c.deref.ensures.value c.deref-2.ensures.value c.in_ok-winner.ensures.solves in
+    let differs : c.held_move-keeper.result.0 ≡ c.of_priority-side.result → ⊥ = search (rules, c.eq.ensures, c.if-eq.false) in
     let is_opponent : c.held_move-keeper.result.0 ≡ opponent (side (priority_of c.args.game.now c.in-Some.least)) = other_player c.held_move-keeper.result.0 (side (priority_of c.args.game.now c.in-Some.least)) (λ same. differs (same ∙ sym is_side)) in
     let second : SecondGame c.args.game.now c.args.live.now c.in-Some.least c.in_ok-winner.winner.items c.in_ok-winner.choice.items c.held_move-keeper.result.1 c.in_ok-second_live.second_live.items c.in_ok-second_winner.second_winner.items c.in_ok-second_winner.second_choice.items c.in_ok-joined.joined.items c.held_move-keeper.result.0 =
     second_game c.args.game.now c.args.live.now c.in-Some.least c.in_ok-winner.winner.items c.in_ok-winner.choice.items c.held_move-keeper.result.1 c.in_ok-second_live.second_live.items c.in_ok-second_winner.second_winner.items c.in_ok-second_winner.second_choice.items c.in_ok-joined.joined.items c.held_move-keeper.result.0 c.deref-3.result.now c.deref-5.result.now c.deref-6.result.now c.deref-9.result.now c.in_ok-first_live.first_live.items c.deref-4.result.now c.deref-7.result.now c.in_ok-second_sinks.second_sinks.items c.deref-8.result.now c.deref-10.result.now c.deref-11.result.now c.deref-3.ensures.value c.deref-5.ensures.value c.deref-6.ensures.value c.deref-9.ensures.value c.in_ok-first_live.ensures c.deref-4.ensures.value c.deref-7.ensures.value c.in_ok-second_sinks.ensures c.deref-8.ensures.value c.deref-10.ensures.value c.deref-11.ensures.value c.held_move-keeper.ensures c.in_ok-second_live.ensures c.in_ok-second_winner.ensures.solves c.in_ok-joined.ensures in
