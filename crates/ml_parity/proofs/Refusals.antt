@@ -5,8 +5,8 @@
 --   leaves-to, leaves-from == a vertex leaves the range exactly if the vector there has an entry out of range
 --   is_game          == three lists of one length are a game if no vertex is a dead end and none leaves the range
 --   no_game          == they are none if some vertex leaves the range
-use Rattle.std.proofs.Common.{ℕ, ◌≡◌, ◌==◌, ◌<◌, ◌≤◌, ◌⊎◌, inl, inr, Bool, false, arith, List, [], length, get_or, subst, sym, ap, ◌∙◌, vec_len}
-use Rattle.std.proofs.lemmas.Bool.{cases_lt, eqb-false}
+use Rattle.std.proofs.Common.{ℕ, ◌≡◌, ◌<◌, ◌≤◌, ◌⊎◌, inl, inr, Bool, true, false, arith, List, [], length, get_or, subst, sym, ap, ◌∙◌, vec_len}
+use Rattle.std.proofs.lemmas.Bool.{cases_lt, false≢true}
 use Rattle.std.proofs.lemmas.List.{get_or-map, get_or_past, length-map, nil_from_length}
 use Rattle.std.specs.Global.{Vec}
 use Rattle.ml_parity.specs.declared.players.Player.{Player}
@@ -18,10 +18,8 @@ pub lists_of-at : (xs : List (Vec ℕ)) (v : ℕ) (m : Vec ℕ) → v < length x
 lists_of-at xs v m low is = get_or-map (λ (x : Vec ℕ). x.items) xs v m [] low ∙ ap (λ (x : Vec ℕ). x.items) (sym is)
 
 -- a vertex whose vector is not empty is no dead end
-pub not_dead : (xs : List (Vec ℕ)) (v : ℕ) (m : Vec ℕ) → v < length xs → m ≡ get_or xs v m → (t : Bool) → t ≡ (vec_len m == 0) → t ≡ false → IsDeadEnd (lists_of xs) v → ⊥
-not_dead xs v m low is t test fails dead =
-    let empty : length m.items ≡ 0 = ap length (sym (lists_of-at xs v m low is) ∙ dead) in
-    eqb-false (vec_len m) 0 (sym test ∙ fails) (m.ok.0 ∙ empty)
+pub not_dead : (xs : List (Vec ℕ)) (v : ℕ) (m : Vec ℕ) (entries : List ℕ) (t : Bool) → v < length xs → m ≡ get_or xs v m → entries ≡ m.items → (entries ≡ [] → t ≡ true) → t ≡ false → IsDeadEnd (lists_of xs) v → ⊥
+not_dead xs v m entries t low is same test fails dead = false≢true (sym fails ∙ test (same ∙ sym (lists_of-at xs v m low is) ∙ dead))
 
 -- a vertex leaves the range if the vector there has an entry out of range
 pub leaves-from : (xs : List (Vec ℕ)) (v n : ℕ) (m : Vec ℕ) (entries : List ℕ) → v < length xs → m ≡ get_or xs v m → entries ≡ m.items → HasEntryFrom n entries → LeavesRange (lists_of xs) n v

@@ -1,6 +1,6 @@
 // Parity games, and the call that builds them.
 
-ghost use Rattle.std.specs.Prelude.{◌≡◌, ℕ, ◌<◌, ◌↔◌, length, MatchOption, IfOk, IsOk, IsErrOf, IsTrue, All, vec_len};
+ghost use Rattle.std.specs.Prelude.{◌≡◌, ℕ, [], ◌<◌, ◌↔◌, length, MatchOption, IfOk, IsOk, IsErrOf, IsTrue, All, vec_len};
 ghost use Rattle.ml_lists.specs.Search.{IsFirst};
 ghost use Rattle.ml_parity.specs.Refusal.{IsDeadEnd, HasEntryFrom, LeavesRange, game_of, lists_of};
 ghost use Rattle.ml_parity.specs.Game.{IsGame, size, owner_of, priority_of, moves_of};
@@ -125,11 +125,18 @@ fn first_dead_end(successors: &[Vec<u64>]) -> Option<u64>
         (IsFirst (IsDeadEnd (lists_of successors.now)) (length successors.now)) }
 {
     for (v, moves) in successors.iter().enumerate() {
-        if moves.is_empty() {
+        if is_dead_end(moves) {
             return Some(v as u64);
         }
     }
     None
+}
+
+/// Whether a vertex with these successors is a dead end.
+fn is_dead_end(moves: &[u64]) -> bool
+    ensures { IsTrue result ↔ (moves.now ≡ []) }
+{
+    moves.is_empty()
 }
 
 /// The first vertex with a successor of `size` or more.
@@ -139,9 +146,9 @@ fn first_out_of_range(successors: &[Vec<u64>], size: u64) -> Option<u64>
         ((v : ℕ) → v < length successors.now → ¬ (LeavesRange (lists_of successors.now) size v))
         (IsFirst (LeavesRange (lists_of successors.now) size) (length successors.now)) }
 {
-    for (v, moves) in successors.iter().enumerate() {
+    for (vertex, moves) in successors.iter().enumerate() {
         if has_entry_from(moves, size) {
-            return Some(v as u64);
+            return Some(vertex as u64);
         }
     }
     None
