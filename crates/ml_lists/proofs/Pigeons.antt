@@ -3,8 +3,10 @@
 -- By induction on n. If no earlier pigeon sits in the hole of the last one, then whoever sits in the last hole
 -- moves to the hole of the last pigeon, and one pigeon and one hole less are left.
 --
---   pigeons == a sequence with f k < n for each k of at most n takes one value twice
-use Rattle.std.proofs.Common.{ℕ, zero, suc, ◌≡◌, ◌<◌, ◌≤◌, ◌⊎◌, inl, inr, arith, sym, ◌∙◌, cond, eqb, eq-eqb, ne_eqb}
+--   pigeons      == a sequence with f k < n for each k of at most n takes one value twice
+--   pigeons_list == a list of more than n numbers below n has one number at two places
+use Rattle.std.proofs.Common.{ℕ, zero, suc, ◌≡◌, ◌<◌, ◌≤◌, ◌⊎◌, inl, inr, arith, sym, ◌∙◌, cond, eqb, eq-eqb, ne_eqb, List, length, get_or}
+use Rattle.std.proofs.lemmas.List.{get_or_default}
 use Rattle.std.proofs.lemmas.Bool.{cases_eq, cond-true, cond-false}
 use Rattle.ml_lists.specs.Search.{Found}
 use Rattle.ml_lists.specs.Pigeons.{Twice}
@@ -61,3 +63,23 @@ pigeons (suc m) f fits = by_case (search (λ k. f k ≡ f (suc m)) (λ k. f k �
     by_case : Found (λ k. f k ≡ f (suc m)) (suc m) ⊎ ((k : ℕ) → k < suc m → f k ≡ f (suc m) → ⊥) → ((g : ℕ → ℕ) → ((k : ℕ) → k ≤ m → g k < m) → Twice g m) → Twice f (suc m)
     by_case (inl s) smaller = found s
     by_case (inr none) smaller = widen none (smaller (moved f m (f (suc m))) (λ k low. moved_below f m (f (suc m)) k (fits k (omega arith)) (fits (suc m) (omega arith)) (none k (omega arith))))
+
+-- a list of more than n numbers below n has one number at two places
+pub record TwiceInList (xs : List ℕ) : Type 0 where
+  pub first : ℕ
+  pub second : ℕ
+  pub apart : first < second
+  pub within : second < length xs
+  pub same : (d : ℕ) → get_or xs first d ≡ get_or xs second d
+
+pub pigeons_list : (n : ℕ) (xs : List ℕ) → n < length xs → ((k : ℕ) → k < length xs → get_or xs k 0 < n) → TwiceInList xs
+pigeons_list n xs long fits = from (pigeons n (λ k. get_or xs k 0) (λ k low. fits k (omega arith)))
+  where
+    from : Twice (λ k. get_or xs k 0) n → TwiceInList xs
+    from t = record {
+      first = t.first;
+      second = t.second;
+      apart = t.apart;
+      within = omega (arith, t.within);
+      same = λ d. get_or_default xs t.first d 0 (omega (arith, t.apart, t.within)) ∙ t.same ∙ get_or_default xs t.second 0 d (omega (arith, t.within));
+    }

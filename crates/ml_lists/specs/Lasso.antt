@@ -7,10 +7,13 @@
 --
 --   entry l k          == entry k of the list
 --   round l            == the list, and the entry at the start once more
+--   next_place l k     == the place after place k: the next one, and after the last one the start
+--   unrolled l k       == entry k of the endless sequence that the lasso stands for
 --   IsLassoOf R l      == the start is below the length, and each step of the round is a step of R
 --   lowest_on_loop f l == the least f of an entry on the loop, so from the start on
-use Rattle.std.specs.Prelude.{ℕ, suc, ◌+◌, ◌<◌, List, [], ◌∷◌, ◌++◌, length, get_or, map, drop}
+use Rattle.std.specs.Prelude.{ℕ, suc, ◌+◌, ◌<◌, List, [], ◌∷◌, ◌++◌, length, get_or, map, drop, cond, ltb}
 use Rattle.ml_lists.specs.Lowest.{lowest}
+use Rattle.ml_lists.specs.Walk.{walk}
 
 -- a list of numbers with a loop start
 pub record Lasso : Type 0 where
@@ -24,6 +27,14 @@ entry l k = get_or l.entries k 0
 -- the list, and the entry at the start once more
 abbrev pub round : Lasso → List ℕ
 round l = l.entries ++ entry l l.start ∷ []
+
+-- the place after place k: the next one, and after the last one the start
+abbrev pub next_place : Lasso → ℕ → ℕ
+next_place l k = cond (ltb (suc k) (length l.entries)) (suc k) l.start
+
+-- entry k of the endless sequence that the lasso stands for
+abbrev pub unrolled : Lasso → ℕ → ℕ
+unrolled l k = entry l (walk (next_place l) 0 k)
 
 -- the start is below the length, and each step of the round is a step of R
 pub record IsLassoOf (R : ℕ → ℕ → Type 0) (l : Lasso) : Type 0 where

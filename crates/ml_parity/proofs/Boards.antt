@@ -1,4 +1,4 @@
--- Boards: from games to boards and back: the definition of the winner, and the sequences in which the induction goes.
+-- Boards of games: from the definition of the winner to the sequences in which the induction goes, and back.
 --
 -- The loop of a play is a sequence; where it is good for a player as a sequence, that player is the winner of the
 -- play. So whoever solves the game on its board, each vertex live, wins each vertex by the definition.

@@ -1,32 +1,32 @@
 -- from games to boards and back
 pub mod Boards
+-- the comparison of two games that differ at some vertices
+pub mod Comparison
+-- from an answer on the board of a game to a solution
+pub mod Filled
+-- what the program reads in the fields of a game
+pub mod GameFields
+-- winning is kept along plays that follow the strategy
+pub mod Kept
 -- the induction of the determinacy law, its first case
 pub mod LeastKept
 -- and its second case
 pub mod LeastLost
--- the two players
-pub mod Opponents
--- every game with finitely many live vertices has a solution
-pub mod Sinks
--- who wins each vertex: the determinacy law
-pub mod Winners
--- the comparison of two games that differ at some vertices
-pub mod Comparison
--- winning is kept along plays that follow the strategy
-pub mod Kept
--- the one-step law
-pub mod OneStep
--- finite memory is not needed
-pub mod Memory
--- lists that are a game, and lists that are none
-pub mod Refusals
 -- live vertices as a list of flags
 pub mod LiveLists
--- what the program reads in the fields of a game
-pub mod GameFields
+-- finite memory is not needed
+pub mod Memory
+-- the one-step law
+pub mod OneStep
+-- the two players
+pub mod Opponents
 -- the steps of the plain solver
 pub mod PlainSteps
--- from an answer on the board of a game to a solution
-pub mod Filled
+-- lists that are a game, and lists that are none
+pub mod Refusals
+-- every game with finitely many live vertices has a solution
+pub mod Sinks
 -- what a solution tells
 pub mod SolutionFacts
+-- who wins each vertex: the determinacy law
+pub mod Winners

@@ -91,7 +91,7 @@ impl Game {
     }
 
     /// Who owns a vertex.
-    pub fn owner_at(&self, vertex: usize) -> Player
+    pub(crate) fn owner_at(&self, vertex: usize) -> Player
         requires { vertex < size self.now }
         ensures { result ≡ owner_of self.now vertex }
     {
@@ -99,7 +99,7 @@ impl Game {
     }
 
     /// The priority of a vertex.
-    pub fn priority_at(&self, vertex: usize) -> u32
+    pub(crate) fn priority_at(&self, vertex: usize) -> u32
         requires { vertex < size self.now }
         ensures { result ≡ priority_of self.now vertex }
     {
@@ -107,7 +107,7 @@ impl Game {
     }
 
     /// The successors of a vertex: there is one, and all are vertices.
-    pub fn moves_at(&self, vertex: usize) -> &[u64]
+    pub(crate) fn moves_at(&self, vertex: usize) -> &[u64]
         requires { vertex < size self.now }
         ensures moves { result.now ≡ moves_of self.now vertex }
         ensures goes_on { 0 < length result.now }

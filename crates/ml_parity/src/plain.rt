@@ -1,8 +1,8 @@
 // The plain solver: the recursion of the determinacy law, word for word.
 
-ghost use Rattle.std.specs.Prelude.{◌≡◌, ◌<◌, ℕ, Bool, true, false, cond, length, IfOk, MatchOption, slice_set, vec_len};
+ghost use Rattle.std.specs.Prelude.{◌≡◌, ◌<◌, ℕ, true, length, IfOk, MatchOption, slice_set};
 ghost use Rattle.ml_parity.specs.Game.{size};
-ghost use Rattle.ml_parity.specs.Solution.{IsSolution, FirstElsewhere, winner_at, choice_at};
+ghost use Rattle.ml_parity.specs.Solution.{IsSolution, FirstElsewhere, winner_at};
 ghost use Rattle.ml_parity.specs.SinkGame.{board_of, flag_at, SolvesLists, IsLeastLive, IsWithoutWon, IsMerged};
 ghost use Rattle.ml_parity.specs.Sinks.{Holds};
 
