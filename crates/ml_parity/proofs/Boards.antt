@@ -6,6 +6,7 @@
 --   move_to         == each entry of a list of successors is a move
 --   decides         == of each vertex it is decided: some move leads to where p wins, or every move does not
 --   winner_is       == the winner of a play is the player for whom its loop is good
+--   winner_of_sequence == the winner of a loop made of a sequence is the side of its lowest priority
 --   first_move      == the first successor of a vertex is a move
 --   AgreesWith      == a choice that is that of the solution where the owner wins
 --   solution_wins   == a choice that agrees with a solution of the board wins each vertex for its winner
@@ -14,7 +15,7 @@ use Rattle.std.proofs.lemmas.List.{get_or_default}
 use Rattle.ml_lists.specs.Search.{Found}
 use Rattle.ml_lists.specs.Lasso.{Lasso, entry, round, lowest_on_loop}
 use Rattle.ml_lists.proofs.Search.{search}
-use Rattle.ml_lists.proofs.Lasso.{round-entry, on_loop, loop_length, loop_closed, lasso_keeps, lowest_on_loop_is}
+use Rattle.ml_lists.proofs.Lasso.{round-entry, on_loop, loop_length, loop_closed, lasso_keeps, lowest_on_loop_is, lasso_of, lasso_of-length, lasso_of-entry}
 use Rattle.ml_parity.specs.declared.players.Player.{Player}
 use Rattle.ml_parity.specs.Player.{opponent, side}
 use Rattle.ml_parity.specs.Game.{ParityGame, IsGame, HasMove, owner_of, priority_of, moves_of, size}
@@ -61,6 +62,13 @@ winner_is g l p starts good = ap side lowest ∙ here ∙ good.right
 
     here : side (priority_of g (entry l (l.start + good.place))) ≡ side (priority_of g (on_loop l good.place))
     here = ap (λ x. side (priority_of g x)) (sym (at good.place good.below))
+
+-- a loop made of a sequence, which takes one value at i and j, has the side of its lowest priority as its winner
+pub winner_of_sequence : (g : ParityGame) (c : ℕ → ℕ) (i j k : ℕ) (p : Player) → i ≤ k → k < j → ((l : ℕ) → i ≤ l → l < j → priority_of g (c k) ≤ priority_of g (c l)) → side (priority_of g (c k)) ≡ p → winner g (lasso_of c i j) ≡ p
+winner_of_sequence g c i j k p later low least right = ap side lowest ∙ ap (λ v. side (priority_of g v)) (lasso_of-entry c i j k low) ∙ right
+  where
+    lowest : lowest_on_loop (priority_of g) (lasso_of c i j) ≡ priority_of g (entry (lasso_of c i j) k)
+    lowest = lowest_on_loop_is (priority_of g) (lasso_of c i j) k later (omega (arith, lasso_of-length c i j)) (λ l from below. subst₂ (λ x y. priority_of g x ≤ priority_of g y) (sym (lasso_of-entry c i j k low)) (sym (lasso_of-entry c i j l (omega (arith, lasso_of-length c i j)))) (least l from (omega (arith, lasso_of-length c i j))))
 
 -- the first successor of a vertex is a move
 pub first_move : (g : ParityGame) → IsGame g → (v : ℕ) → v < size g → HasMove g v (get_or (moves_of g v) 0 0)

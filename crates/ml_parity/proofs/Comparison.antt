@@ -6,15 +6,16 @@
 -- p, by the first game, and the opponent, by the second, would together make a play of both games that both win.
 --
 --   NoWorse g h p x     == x is no worse for p in h than in g
+--   same_moves          == a vertex with the same moves in both games is no worse
 --   SameVertices g h    == the vertices of g and h have the same owners and priorities
 --   compared            == so p wins in h whatever p wins in g
-use Rattle.std.proofs.Common.{ℕ, ◌≡◌, ◌<◌, ◌⊎◌, inl, inr, ⊎_elim, arith, subst, sym, ap, ◌∙◌, length, get_or}
+use Rattle.std.proofs.Common.{ℕ, ◌≡◌, ◌<◌, ◌⊎◌, inl, inr, ⊎_elim, arith, subst, sym, ap, ◌∙◌, length, get_or, List, Contains}
 use Rattle.ml_lists.specs.Lasso.{entry, round}
 use Rattle.ml_lists.proofs.Lasso.{round-entry, lowest_on_loop-same}
 use Rattle.ml_lists.proofs.Walks.{WalkLasso, walk_lasso}
 use Rattle.ml_parity.specs.declared.players.Player.{Player}
 use Rattle.ml_parity.specs.Player.{opponent, side}
-use Rattle.ml_parity.specs.Game.{ParityGame, IsGame, HasMove, owner_of, priority_of, size}
+use Rattle.ml_parity.specs.Game.{ParityGame, IsGame, HasMove, owner_of, priority_of, moves_of, size}
 use Rattle.ml_parity.specs.Winner.{IsPlay, winner, Wins}
 use Rattle.ml_parity.specs.Sinks.{Holds}
 use Rattle.ml_parity.specs.SinkGame.{board_of}
@@ -25,6 +26,13 @@ use Rattle.ml_parity.proofs.Winners.{Winners, winners, won, together, together-o
 pub record NoWorse (g h : ParityGame) (p : Player) (x : ℕ) : Type 0 where
   pub own : owner_of g x ≡ p → (y : ℕ) → HasMove g x y → HasMove h x y
   pub other : owner_of g x ≡ opponent p → (y : ℕ) → HasMove h x y → HasMove g x y
+
+-- a vertex with the same moves in both games is no worse
+pub same_moves : (g h : ParityGame) (p : Player) (x : ℕ) → moves_of g x ≡ moves_of h x → NoWorse g h p x
+same_moves g h p x same = record {
+  own = λ o y move. subst (λ (xs : List ℕ). Contains xs y) same move;
+  other = λ o y move. subst (λ (xs : List ℕ). Contains xs y) (sym same) move;
+}
 
 -- the vertices of g and h have the same owners and priorities
 pub record SameVertices (g h : ParityGame) : Type 0 where

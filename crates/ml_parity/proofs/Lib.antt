@@ -1,5 +1,7 @@
 -- from games to boards and back
 pub mod Boards
+-- certificates by ranks are right
+pub mod Certificates
 -- the comparison of two games that differ at some vertices
 pub mod Comparison
 -- from an answer on the board of a game to a solution

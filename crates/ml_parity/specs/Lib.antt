@@ -1,3 +1,5 @@
+-- certificates by ranks
+pub mod Certificate
 -- parity games, as lists
 pub mod Game
 -- the determinacy law

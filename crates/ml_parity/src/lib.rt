@@ -11,7 +11,8 @@
 // - `laws::determined` does nothing; its contract is the determinacy law, over the definition alone.
 // The lemmas beside the law are for the proofs of crates above: `proofs/Winners.antt` (the winners as a map),
 // `OneStep` (a vertex by its successors), `Kept` (along plays), `Comparison` (two games that differ at some vertices),
-// `Memory` (finite memory is not needed).
+// `Memory` (finite memory is not needed), `Certificates` (ranks that fall along moves), `SolutionFacts` (what a solution
+// tells).
 //
 // Below stands `ml_lists`, the mathematics of lists, loops and search. Above stand the crates whose answers are games:
 // checking games of structures and graphs, and the decision game.
