@@ -28,28 +28,33 @@ count_le test (suc n) = more (count_le test n) (cases_Bool (test n))
     more old (inr fails) = omega (arith, old, count-false test n fails)
 
 -- no more numbers pass a stronger test
-pub count_mono : (strong weak : ℕ → Bool) (n : ℕ) → ((k : ℕ) → k < n → strong k ≡ true → weak k ≡ true) → count strong n ≤ count weak n
+pub count_mono : (strong weak : ℕ → Bool) (n : ℕ) → ((k : ℕ) → k < n → strong k ≡ true → weak k ≡ true)
+    → count strong n ≤ count weak n
 count_mono strong weak zero implies = omega arith
 count_mono strong weak (suc n) implies = more (count_mono strong weak n (λ k low. implies k (omega arith))) (cases_Bool (strong n)) (cases_Bool (weak n))
   where
-    more : count strong n ≤ count weak n → (strong n ≡ true) ⊎ (strong n ≡ false) → (weak n ≡ true) ⊎ (weak n ≡ false) → count strong (suc n) ≤ count weak (suc n)
+    more : count strong n ≤ count weak n → (strong n ≡ true) ⊎ (strong n ≡ false) → (weak n ≡ true) ⊎ (weak n ≡ false)
+        → count strong (suc n) ≤ count weak (suc n)
     more old (inl s) (inl w) = omega (arith, old, count-true strong n s, count-true weak n w)
     more old (inl s) (inr w) = let both = implies n (omega arith) s in absurd (cc)
     more old (inr s) (inl w) = omega (arith, old, count-false strong n s, count-true weak n w)
     more old (inr s) (inr w) = omega (arith, old, count-false strong n s, count-false weak n w)
 
 -- fewer numbers pass a stronger test that some number fails where the other passes
-pub count_strict : (strong weak : ℕ → Bool) (n : ℕ) → ((k : ℕ) → k < n → strong k ≡ true → weak k ≡ true) → (t : ℕ) → t < n → strong t ≡ false → weak t ≡ true → count strong n < count weak n
+pub count_strict : (strong weak : ℕ → Bool) (n : ℕ) → ((k : ℕ) → k < n → strong k ≡ true → weak k ≡ true) → (t : ℕ)
+    → t < n → strong t ≡ false → weak t ≡ true → count strong n < count weak n
 count_strict strong weak zero implies t low fails passes = absurd (omega arith)
 count_strict strong weak (suc n) implies t low fails passes = by_case (cases_eq t n) (count_strict strong weak n (λ k below. implies k (omega arith)) t)
   where
-    earlier : count strong n < count weak n → (strong n ≡ true) ⊎ (strong n ≡ false) → (weak n ≡ true) ⊎ (weak n ≡ false) → count strong (suc n) < count weak (suc n)
+    earlier : count strong n < count weak n → (strong n ≡ true) ⊎ (strong n ≡ false)
+        → (weak n ≡ true) ⊎ (weak n ≡ false) → count strong (suc n) < count weak (suc n)
     earlier old (inl s) (inl w) = omega (arith, old, count-true strong n s, count-true weak n w)
     earlier old (inl s) (inr w) = let both = implies n (omega arith) s in absurd (cc)
     earlier old (inr s) (inl w) = omega (arith, old, count-false strong n s, count-true weak n w)
     earlier old (inr s) (inr w) = omega (arith, old, count-false strong n s, count-false weak n w)
 
-    by_case : (t ≡ n) ⊎ (t ≡ n → ⊥) → (t < n → strong t ≡ false → weak t ≡ true → count strong n < count weak n) → count strong (suc n) < count weak (suc n)
+    by_case : (t ≡ n) ⊎ (t ≡ n → ⊥) → (t < n → strong t ≡ false → weak t ≡ true → count strong n < count weak n)
+        → count strong (suc n) < count weak (suc n)
     by_case (inl same) old =
         let f : strong n ≡ false = subst (λ v. strong v ≡ false) same fails in
         let p : weak n ≡ true = subst (λ v. weak v ≡ true) same passes in

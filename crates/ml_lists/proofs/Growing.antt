@@ -23,7 +23,8 @@ record Adds (n : ℕ) (sets : ℕ → ℕ → Bool) (k : ℕ) : Type 0 where
 adds_or_stable : (n : ℕ) (sets : ℕ → ℕ → Bool) (k : ℕ) → Stable n sets k ⊎ Adds n sets k
 adds_or_stable n sets k = from (search (λ v. (sets (suc k) v ≡ true) × (sets k v ≡ false)) (λ v. sets (suc k) v ≡ true → sets k v ≡ true) decide n)
   where
-    by_case : (v : ℕ) → (sets (suc k) v ≡ true) ⊎ (sets (suc k) v ≡ false) → (sets k v ≡ true) ⊎ (sets k v ≡ false) → ((sets (suc k) v ≡ true) × (sets k v ≡ false)) ⊎ (sets (suc k) v ≡ true → sets k v ≡ true)
+    by_case : (v : ℕ) → (sets (suc k) v ≡ true) ⊎ (sets (suc k) v ≡ false) → (sets k v ≡ true) ⊎ (sets k v ≡ false)
+        → ((sets (suc k) v ≡ true) × (sets k v ≡ false)) ⊎ (sets (suc k) v ≡ true → sets k v ≡ true)
     by_case v (inl new) (inl old) = inr (λ h. old)
     by_case v (inl new) (inr old) = inl (new, old)
     by_case v (inr out) o = inr (λ h. absurd (false≢true (sym out ∙ h)))
@@ -31,12 +32,15 @@ adds_or_stable n sets k = from (search (λ v. (sets (suc k) v ≡ true) × (sets
     decide : (v : ℕ) → ((sets (suc k) v ≡ true) × (sets k v ≡ false)) ⊎ (sets (suc k) v ≡ true → sets k v ≡ true)
     decide v = by_case v (cases_Bool (sets (suc k) v)) (cases_Bool (sets k v))
 
-    from : Found (λ v. (sets (suc k) v ≡ true) × (sets k v ≡ false)) n ⊎ ((v : ℕ) → v < n → sets (suc k) v ≡ true → sets k v ≡ true) → Stable n sets k ⊎ Adds n sets k
+    from :
+        Found (λ v. (sets (suc k) v ≡ true) × (sets k v ≡ false)) n ⊎ ((v : ℕ) → v < n → sets (suc k) v ≡ true → sets k v ≡ true)
+        → Stable n sets k ⊎ Adds n sets k
     from (inl f) = inr (record { number = f.place; low = f.below; new = f.holds.0; old = f.holds.1 })
     from (inr none) = inl none
 
 -- sets that always add a number have at least as many numbers as steps were made
-many : (n : ℕ) (sets : ℕ → ℕ → Bool) → Grows n sets → (m : ℕ) → ((k : ℕ) → k < m → Adds n sets k) → m ≤ count (sets m) n
+many : (n : ℕ) (sets : ℕ → ℕ → Bool) → Grows n sets → (m : ℕ) → ((k : ℕ) → k < m → Adds n sets k)
+    → m ≤ count (sets m) n
 many n sets grows zero adds = omega arith
 many n sets grows (suc m) adds =
     let before = many n sets grows m (λ k low. adds k (omega arith)) in
@@ -52,12 +56,16 @@ stable_soon n sets grows = ⊎_elim
     (search (Stable n sets) (Adds n sets) (adds_or_stable n sets) (suc n))
 
 -- the iterates of a monotone operation grow, if the first one does
-pub iterates_grow : (n : ℕ) (step : (ℕ → Bool) → ℕ → Bool) → ((s t : ℕ → Bool) → Within n s t → Within n (step s) (step t)) → (s : ℕ → Bool) → Within n s (step s) → Grows n (walk step s)
+pub iterates_grow : (n : ℕ) (step : (ℕ → Bool) → ℕ → Bool)
+    → ((s t : ℕ → Bool) → Within n s t → Within n (step s) (step t)) → (s : ℕ → Bool) → Within n s (step s)
+    → Grows n (walk step s)
 iterates_grow n step monotone s first zero = first
 iterates_grow n step monotone s first (suc k) = monotone (walk step s k) (walk step s (suc k)) (iterates_grow n step monotone s first k)
 
 -- the iterates of a monotone operation from within a closed set stay within it
-pub iterates_least : (n : ℕ) (step : (ℕ → Bool) → ℕ → Bool) → ((s t : ℕ → Bool) → Within n s t → Within n (step s) (step t)) → (s t : ℕ → Bool) → Within n s t → IsClosed n step t → (k : ℕ) → Within n (walk step s k) t
+pub iterates_least : (n : ℕ) (step : (ℕ → Bool) → ℕ → Bool)
+    → ((s t : ℕ → Bool) → Within n s t → Within n (step s) (step t)) → (s t : ℕ → Bool) → Within n s t
+    → IsClosed n step t → (k : ℕ) → Within n (walk step s k) t
 iterates_least n step monotone s t inside closed zero = inside
 iterates_least n step monotone s t inside closed (suc k) =
     λ v low h. closed v low (monotone (walk step s k) t (iterates_least n step monotone s t inside closed k) v low h)

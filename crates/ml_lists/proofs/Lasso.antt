@@ -45,14 +45,17 @@ loop_closed l starts =
     round-end l (l.start + loop_length l) (omega arith) ∙ sym first
 
 -- what each step of the round keeps, and holds at its first entry, holds at each entry of the round
-pub lasso_keeps : (l : Lasso) (P : ℕ → Type 0) → ((k : ℕ) → k < length l.entries → P (get_or (round l) k 0) → P (get_or (round l) (k + 1) 0)) → P (get_or (round l) 0 0) → (k : ℕ) → k ≤ length l.entries → P (get_or (round l) k 0)
+pub lasso_keeps : (l : Lasso) (P : ℕ → Type 0)
+    → ((k : ℕ) → k < length l.entries → P (get_or (round l) k 0) → P (get_or (round l) (k + 1) 0))
+    → P (get_or (round l) 0 0) → (k : ℕ) → k ≤ length l.entries → P (get_or (round l) k 0)
 lasso_keeps l P keeps first zero low = first
 lasso_keeps l P keeps first (suc k) low =
     let e : k + 1 ≡ suc k = omega arith in
     subst (λ i. P (get_or (round l) i 0)) e (keeps k (omega arith) (lasso_keeps l P keeps first k (omega arith)))
 
 -- the list of the values of f on the loop has f of entry start + j at j
-loop_value : (f : ℕ → ℕ) (l : Lasso) (j d : ℕ) → l.start + j < length l.entries → get_or (f (entry l l.start) ∷ map f (drop (suc l.start) l.entries)) j d ≡ f (entry l (l.start + j))
+loop_value : (f : ℕ → ℕ) (l : Lasso) (j d : ℕ) → l.start + j < length l.entries
+    → get_or (f (entry l l.start) ∷ map f (drop (suc l.start) l.entries)) j d ≡ f (entry l (l.start + j))
 loop_value f l zero d low = let e : l.start ≡ l.start + 0 = omega arith in ap (λ k. f (entry l k)) e
 loop_value f l (suc j) d low =
     let e : suc l.start + j ≡ l.start + suc j = omega arith in
@@ -62,11 +65,13 @@ loop_value f l (suc j) d low =
     ∙ ap (λ k. f (entry l k)) e
 
 -- how long the list of the values on the loop is
-loop_values_length : (f : ℕ → ℕ) (l : Lasso) → l.start < length l.entries → length (f (entry l l.start) ∷ map f (drop (suc l.start) l.entries)) + l.start ≡ length l.entries
+loop_values_length : (f : ℕ → ℕ) (l : Lasso) → l.start < length l.entries
+    → length (f (entry l l.start) ∷ map f (drop (suc l.start) l.entries)) + l.start ≡ length l.entries
 loop_values_length f l starts = omega (arith, length-map (drop (suc l.start) l.entries) f, length-drop (suc l.start) l.entries)
 
 -- the lowest on the loop is at most f of each entry of the loop
-pub lowest_on_loop_le : (f : ℕ → ℕ) (l : Lasso) (k : ℕ) → l.start ≤ k → k < length l.entries → lowest_on_loop f l ≤ f (entry l k)
+pub lowest_on_loop_le : (f : ℕ → ℕ) (l : Lasso) (k : ℕ) → l.start ≤ k → k < length l.entries
+    → lowest_on_loop f l ≤ f (entry l k)
 lowest_on_loop_le f l k later low =
     let size = loop_values_length f l (omega arith) in
     let value = loop_value f l (k - l.start) 0 (omega arith) in
@@ -97,7 +102,9 @@ lowest_on_loop_place f l starts = from (lowest_place (f (entry l l.start)) (map 
         }
 
 -- an entry of the loop with the least f gives the lowest on the loop
-pub lowest_on_loop_is : (f : ℕ → ℕ) (l : Lasso) (k : ℕ) → l.start ≤ k → k < length l.entries → ((j : ℕ) → l.start ≤ j → j < length l.entries → f (entry l k) ≤ f (entry l j)) → lowest_on_loop f l ≡ f (entry l k)
+pub lowest_on_loop_is : (f : ℕ → ℕ) (l : Lasso) (k : ℕ) → l.start ≤ k → k < length l.entries
+    → ((j : ℕ) → l.start ≤ j → j < length l.entries → f (entry l k) ≤ f (entry l j))
+    → lowest_on_loop f l ≡ f (entry l k)
 lowest_on_loop_is f l k later low least =
     let p = lowest_on_loop_place f l (omega arith) in
     let one = lowest_on_loop_le f l k later low in
@@ -129,7 +136,8 @@ lasso_of-round c i j k apart same low = by_case (cases_eq k j)
         round-entry (lasso_of c i j) k (omega (arith, lasso_of-length c i j)) ∙ lasso_of-entry c i j k (omega arith)
 
 -- it is a lasso of each relation that has the steps of c
-pub lasso_of_is : (R : ℕ → ℕ → Type 0) (c : ℕ → ℕ) (i j : ℕ) → i < j → c i ≡ c j → ((k : ℕ) → k < j → R (c k) (c (k + 1))) → IsLassoOf R (lasso_of c i j)
+pub lasso_of_is : (R : ℕ → ℕ → Type 0) (c : ℕ → ℕ) (i j : ℕ) → i < j → c i ≡ c j
+    → ((k : ℕ) → k < j → R (c k) (c (k + 1))) → IsLassoOf R (lasso_of c i j)
 lasso_of_is R c i j apart same steps = record {
   starts = omega (arith, lasso_of-length c i j);
   joined = λ k low. step k (omega (arith, lasso_of-length c i j));
@@ -141,7 +149,8 @@ lasso_of_is R c i j apart same steps = record {
 -- ---- two functions, and one entry more
 
 -- functions that agree on the entries of the list have the same lowest on the loop
-pub lowest_on_loop-same : (f g : ℕ → ℕ) (l : Lasso) → l.start < length l.entries → ((k : ℕ) → k < length l.entries → f (entry l k) ≡ g (entry l k)) → lowest_on_loop f l ≡ lowest_on_loop g l
+pub lowest_on_loop-same : (f g : ℕ → ℕ) (l : Lasso) → l.start < length l.entries
+    → ((k : ℕ) → k < length l.entries → f (entry l k) ≡ g (entry l k)) → lowest_on_loop f l ≡ lowest_on_loop g l
 lowest_on_loop-same f g l starts same = from (lowest_on_loop_place g l starts)
   where
     from : LowestOnLoop g l → lowest_on_loop f l ≡ lowest_on_loop g l
@@ -155,7 +164,8 @@ abbrev pub prepend : ℕ → Lasso → Lasso
 prepend v l = record { entries = v ∷ l.entries; start = suc l.start }
 
 -- it is a lasso of R if the new entry has a step of R to the old first one
-pub prepend_is : (R : ℕ → ℕ → Type 0) (v : ℕ) (l : Lasso) → IsLassoOf R l → R v (entry l 0) → IsLassoOf R (prepend v l)
+pub prepend_is : (R : ℕ → ℕ → Type 0) (v : ℕ) (l : Lasso) → IsLassoOf R l → R v (entry l 0)
+    → IsLassoOf R (prepend v l)
 prepend_is R v l old step = record { starts = omega (arith, old.starts); joined = joined }
   where
     joined : (k : ℕ) → k < suc (length l.entries) → R (get_or (v ∷ round l) k 0) (get_or (v ∷ round l) (k + 1) 0)

@@ -40,19 +40,22 @@ lowest_place x (y ∷ ys) = by_case (lowest_place y ys) (cases_lt x (lowest y ys
     by_case r (inr larger) = record { place = suc r.place; below = omega (arith, r.below); holds = λ d. omega (arith, r.holds d) }
 
 -- an entry that is at most each entry is the lowest
-pub lowest_is : (x : ℕ) (xs : List ℕ) (k d : ℕ) → k < length (x ∷ xs) → ((j : ℕ) → j < length (x ∷ xs) → get_or (x ∷ xs) k d ≤ get_or (x ∷ xs) j d) → lowest x xs ≡ get_or (x ∷ xs) k d
+pub lowest_is : (x : ℕ) (xs : List ℕ) (k d : ℕ) → k < length (x ∷ xs)
+    → ((j : ℕ) → j < length (x ∷ xs) → get_or (x ∷ xs) k d ≤ get_or (x ∷ xs) j d) → lowest x xs ≡ get_or (x ∷ xs) k d
 lowest_is x xs k d low least =
     let p = lowest_place x xs in
     le_antisymm (lowest_le x xs k d low) (omega (arith, least p.place p.below, p.holds d))
 
 -- what is at most each entry is at most the lowest
-pub lowest_above : (x : ℕ) (xs : List ℕ) (m d : ℕ) → ((j : ℕ) → j < length (x ∷ xs) → m ≤ get_or (x ∷ xs) j d) → m ≤ lowest x xs
+pub lowest_above : (x : ℕ) (xs : List ℕ) (m d : ℕ) → ((j : ℕ) → j < length (x ∷ xs) → m ≤ get_or (x ∷ xs) j d)
+    → m ≤ lowest x xs
 lowest_above x xs m d above =
     let p = lowest_place x xs in
     omega (arith, above p.place p.below, p.holds d)
 
 -- the lowest of an append is the lower of the two
-pub lowest-append : (x : ℕ) (xs : List ℕ) (y : ℕ) (ys : List ℕ) → lowest x (xs ++ y ∷ ys) ≡ min (lowest x xs) (lowest y ys)
+pub lowest-append : (x : ℕ) (xs : List ℕ) (y : ℕ) (ys : List ℕ)
+    → lowest x (xs ++ y ∷ ys) ≡ min (lowest x xs) (lowest y ys)
 lowest-append x [] y ys = refl
 lowest-append x (z ∷ zs) y ys =
     let rest = lowest-append z zs y ys in

@@ -60,7 +60,8 @@ pigeons (suc m) f fits = by_case (search (λ k. f k ≡ f (suc m)) (λ k. f k �
       same = moved_same f m (f (suc m)) t.first t.second (none t.first (omega (arith, t.apart, t.within))) (none t.second (omega (arith, t.within))) t.same;
     }
 
-    by_case : Found (λ k. f k ≡ f (suc m)) (suc m) ⊎ ((k : ℕ) → k < suc m → f k ≡ f (suc m) → ⊥) → ((g : ℕ → ℕ) → ((k : ℕ) → k ≤ m → g k < m) → Twice g m) → Twice f (suc m)
+    by_case : Found (λ k. f k ≡ f (suc m)) (suc m) ⊎ ((k : ℕ) → k < suc m → f k ≡ f (suc m) → ⊥)
+        → ((g : ℕ → ℕ) → ((k : ℕ) → k ≤ m → g k < m) → Twice g m) → Twice f (suc m)
     by_case (inl s) smaller = found s
     by_case (inr none) smaller = widen none (smaller (moved f m (f (suc m))) (λ k low. moved_below f m (f (suc m)) k (fits k (omega arith)) (fits (suc m) (omega arith)) (none k (omega arith))))
 
@@ -72,7 +73,8 @@ pub record TwiceInList (xs : List ℕ) : Type 0 where
   pub within : second < length xs
   pub same : (d : ℕ) → get_or xs first d ≡ get_or xs second d
 
-pub pigeons_list : (n : ℕ) (xs : List ℕ) → n < length xs → ((k : ℕ) → k < length xs → get_or xs k 0 < n) → TwiceInList xs
+pub pigeons_list : (n : ℕ) (xs : List ℕ) → n < length xs → ((k : ℕ) → k < length xs → get_or xs k 0 < n)
+    → TwiceInList xs
 pigeons_list n xs long fits = from (pigeons n (λ k. get_or xs k 0) (λ k low. fits k (omega arith)))
   where
     from : Twice (λ k. get_or xs k 0) n → TwiceInList xs

@@ -73,7 +73,8 @@ pub reaches_last : (R : ℕ → ℕ → Type 0) (v x w m : ℕ) → Reaches R v 
 reaches_last R v x w m r last = subst (Reaches R v w) (add-one m) (reaches_through R v x w m 1 r (reaches_step R x w w 0 last (reaches_self R w)))
 
 -- what each step keeps, and holds at first, holds at the end
-pub reaches_keeps : (R : ℕ → ℕ → Type 0) (P : ℕ → Type 0) → ((x y : ℕ) → R x y → P x → P y) → (v w m : ℕ) → Reaches R v w m → P v → P w
+pub reaches_keeps : (R : ℕ → ℕ → Type 0) (P : ℕ → Type 0) → ((x y : ℕ) → R x y → P x → P y) → (v w m : ℕ)
+    → Reaches R v w m → P v → P w
 reaches_keeps R P keeps v w m r first =
     subst P r.ends (onward_to r.way P m (λ k low here. keeps (r.way k) (r.way (k + 1)) (r.steps k low) here) 0 m (omega arith) (omega arith) (subst P (sym r.begins) first))
 
@@ -84,7 +85,8 @@ pub record ShortWay (R : ℕ → ℕ → Type 0) (v w n : ℕ) : Type 0 where
   pub reaches : Reaches R v w steps
 
 -- a way that meets a number twice can leave out what lies between
-cut : (R : ℕ → ℕ → Type 0) (v w m : ℕ) (r : Reaches R v w m) (i j : ℕ) → i < j → j ≤ m → r.way i ≡ r.way j → Reaches R v w (m - (j - i))
+cut : (R : ℕ → ℕ → Type 0) (v w m : ℕ) (r : Reaches R v w m) (i j : ℕ) → i < j → j ≤ m → r.way i ≡ r.way j
+    → Reaches R v w (m - (j - i))
 cut R v w m r i j apart within same = subst (Reaches R v w) (let e : i + (m - j) ≡ m - (j - i) = omega arith in e) (reaches_through R v (r.way i) w i (m - j) start rest)
   where
     start : Reaches R v (r.way i) i
@@ -99,16 +101,19 @@ cut R v w m r i j apart within same = subst (Reaches R v w) (let e : i + (m - j)
     }
 
 -- among numbers below n, what is reached at all is reached in fewer than n steps
-pub reaches_short : (R : ℕ → ℕ → Type 0) (n : ℕ) → ((x y : ℕ) → R x y → y < n) → (fuel v w m : ℕ) → m ≤ fuel → v < n → Reaches R v w m → ShortWay R v w n
+pub reaches_short : (R : ℕ → ℕ → Type 0) (n : ℕ) → ((x y : ℕ) → R x y → y < n) → (fuel v w m : ℕ) → m ≤ fuel → v < n
+    → Reaches R v w m → ShortWay R v w n
 reaches_short R n bounded zero v w m small low r = record { steps = m; few = omega arith; reaches = r }
 reaches_short R n bounded (suc fuel) v w m small low r = by_length (reaches_short R n bounded fuel v w) (cases_lt m n)
   where
     below : (k : ℕ) → k ≤ m → r.way k < n
     below k fits = onward_to r.way (λ x. x < n) m (λ i here inside. bounded (r.way i) (r.way (i + 1)) (r.steps i here)) 0 k (omega arith) fits (subst (λ x. x < n) (sym r.begins) low)
 
-    shorter : ((l : ℕ) → l ≤ fuel → v < n → Reaches R v w l → ShortWay R v w n) → n ≤ m → Twice r.way n → ShortWay R v w n
+    shorter : ((l : ℕ) → l ≤ fuel → v < n → Reaches R v w l → ShortWay R v w n) → n ≤ m → Twice r.way n
+        → ShortWay R v w n
     shorter again long t = again (m - (t.second - t.first)) (omega (arith, t.apart, t.within)) low (cut R v w m r t.first t.second t.apart (omega (arith, t.within)) t.same)
 
-    by_length : ((l : ℕ) → l ≤ fuel → v < n → Reaches R v w l → ShortWay R v w n) → (m < n) ⊎ (n ≤ m) → ShortWay R v w n
+    by_length : ((l : ℕ) → l ≤ fuel → v < n → Reaches R v w l → ShortWay R v w n) → (m < n) ⊎ (n ≤ m)
+        → ShortWay R v w n
     by_length again (inl short) = record { steps = m; few = short; reaches = r }
     by_length again (inr long) = shorter again long (pigeons n r.way (λ k fits. below k (omega arith)))

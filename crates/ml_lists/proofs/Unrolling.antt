@@ -21,7 +21,8 @@ next_place-last : (l : Lasso) (k : ℕ) → length l.entries ≤ suc k → next_
 next_place-last l k past = cond-false (ltb (suc k) (length l.entries)) (suc k) l.start (le-ltb (suc k) (length l.entries) past)
 
 -- the place after a place is a place
-pub next_place_low : (l : Lasso) → l.start < length l.entries → (k : ℕ) → k < length l.entries → next_place l k < length l.entries
+pub next_place_low : (l : Lasso) → l.start < length l.entries → (k : ℕ) → k < length l.entries
+    → next_place l k < length l.entries
 next_place_low l starts k low = by_place (cases_lt (suc k) (length l.entries))
   where
     by_place : (suc k < length l.entries) ⊎ (length l.entries ≤ suc k) → next_place l k < length l.entries
@@ -29,15 +30,18 @@ next_place_low l starts k low = by_place (cases_lt (suc k) (length l.entries))
     by_place (inr last) = omega (arith, next_place-last l k last)
 
 -- the entry after entry k is entry k + 1 of the round
-pub next_place-entry : (l : Lasso) (k : ℕ) → k < length l.entries → entry l (next_place l k) ≡ get_or (round l) (k + 1) 0
+pub next_place-entry : (l : Lasso) (k : ℕ) → k < length l.entries
+    → entry l (next_place l k) ≡ get_or (round l) (k + 1) 0
 next_place-entry l k low = by_place (cases_lt (suc k) (length l.entries))
   where
-    by_place : (suc k < length l.entries) ⊎ (length l.entries ≤ suc k) → entry l (next_place l k) ≡ get_or (round l) (k + 1) 0
+    by_place : (suc k < length l.entries) ⊎ (length l.entries ≤ suc k)
+        → entry l (next_place l k) ≡ get_or (round l) (k + 1) 0
     by_place (inl inner) = ap (entry l) (next_place-inner l k inner ∙ sym (add-one k)) ∙ sym (round-entry l (k + 1) (omega arith))
     by_place (inr last) = ap (entry l) (next_place-last l k last) ∙ sym (round-end l (k + 1) (omega arith))
 
 -- each place of a lasso of R has a step of R to the next one
-pub next_step : (R : ℕ → ℕ → Type 0) (l : Lasso) → IsLassoOf R l → (k : ℕ) → k < length l.entries → R (entry l k) (entry l (next_place l k))
+pub next_step : (R : ℕ → ℕ → Type 0) (l : Lasso) → IsLassoOf R l → (k : ℕ) → k < length l.entries
+    → R (entry l k) (entry l (next_place l k))
 next_step R l lasso k low = subst₂ R (round-entry l k low) (sym (next_place-entry l k low)) (lasso.joined k low)
 
 -- the places of the endless sequence are places of the list

@@ -19,7 +19,8 @@ pub walk-add-one : {A : Type 0} → (next : A → A) (x : A) (k : ℕ) → walk 
 walk-add-one next x k = ap (walk next x) (add-one k)
 
 -- what the function keeps, and holds at first, holds all along the walk
-pub walk_keeps : {A : Type 0} → (next : A → A) (P : A → Type 0) → ((x : A) → P x → P (next x)) → (x : A) → P x → (k : ℕ) → P (walk next x k)
+pub walk_keeps : {A : Type 0} → (next : A → A) (P : A → Type 0) → ((x : A) → P x → P (next x)) → (x : A) → P x
+    → (k : ℕ) → P (walk next x k)
 walk_keeps next P keeps x first zero = first
 walk_keeps next P keeps x first (suc k) = keeps (walk next x k) (walk_keeps next P keeps x first k)
 
@@ -32,7 +33,8 @@ pub record WalkLasso (next : ℕ → ℕ) (P : ℕ → Type 0) (v : ℕ) : Type 
   pub steps : (k : ℕ) → k < length lasso.entries → get_or (round lasso) (k + 1) 0 ≡ next (get_or (round lasso) k 0)
 
 -- the walk from a number with P, where P is kept and implies a bound, makes such a lasso
-pub walk_lasso : (next : ℕ → ℕ) (P : ℕ → Type 0) (n : ℕ) → ((x : ℕ) → P x → x < n) → ((x : ℕ) → P x → P (next x)) → (v : ℕ) → P v → WalkLasso next P v
+pub walk_lasso : (next : ℕ → ℕ) (P : ℕ → Type 0) (n : ℕ) → ((x : ℕ) → P x → x < n) → ((x : ℕ) → P x → P (next x))
+    → (v : ℕ) → P v → WalkLasso next P v
 walk_lasso next P n bounded keeps v first = from (pigeons n (walk next v) (λ k low. bounded (walk next v k) (along k)))
   where
     along : (k : ℕ) → P (walk next v k)

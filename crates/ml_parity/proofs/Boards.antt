@@ -31,7 +31,8 @@ pub move_to : (g : ParityGame) (v k : ℕ) → k < length (moves_of g v) → Has
 move_to g v k low = (k, low, get_or_default (moves_of g v) k (get_or (moves_of g v) k 0) 0 low)
 
 -- what holds at each entry of the list of successors holds after each move
-pub each_move : (g : ParityGame) (P : ℕ → Type 0) (v : ℕ) → ((k : ℕ) → k < length (moves_of g v) → P (get_or (moves_of g v) k 0)) → (x : ℕ) → HasMove g v x → P x
+pub each_move : (g : ParityGame) (P : ℕ → Type 0) (v : ℕ)
+    → ((k : ℕ) → k < length (moves_of g v) → P (get_or (moves_of g v) k 0)) → (x : ℕ) → HasMove g v x → P x
 each_move g P v each x move =
     let here : get_or (moves_of g v) move.0 0 ≡ x = get_or_default (moves_of g v) move.0 0 x move.1 ∙ move.2 in
     subst P here (each move.0 move.1)
@@ -40,12 +41,15 @@ each_move g P v each x move =
 pub decides : (g : ParityGame) → Decides (board_of g)
 decides g win p v = from (search (λ k. win (get_or (moves_of g v) k 0) ≡ p) (λ k. win (get_or (moves_of g v) k 0) ≡ opponent p) (λ k. cases_player (win (get_or (moves_of g v) k 0)) p) (length (moves_of g v)))
   where
-    from : Found (λ k. win (get_or (moves_of g v) k 0) ≡ p) (length (moves_of g v)) ⊎ ((k : ℕ) → k < length (moves_of g v) → win (get_or (moves_of g v) k 0) ≡ opponent p) → SomeMove (board_of g) win p v ⊎ EveryMove (board_of g) win (opponent p) v
+    from :
+        Found (λ k. win (get_or (moves_of g v) k 0) ≡ p) (length (moves_of g v)) ⊎ ((k : ℕ) → k < length (moves_of g v) → win (get_or (moves_of g v) k 0) ≡ opponent p)
+        → SomeMove (board_of g) win p v ⊎ EveryMove (board_of g) win (opponent p) v
     from (inl f) = inl (record { to = get_or (moves_of g v) f.place 0; move = move_to g v f.place f.below; wins = f.holds })
     from (inr every) = inr (each_move g (λ x. win x ≡ opponent p) v every)
 
 -- the winner of a play is the player for whom its loop, as a sequence, is good
-pub winner_is : (g : ParityGame) (l : Lasso) (p : Player) → l.start < length l.entries → GoodFor (board_of g) p (on_loop l) (loop_length l) → winner g l ≡ p
+pub winner_is : (g : ParityGame) (l : Lasso) (p : Player) → l.start < length l.entries
+    → GoodFor (board_of g) p (on_loop l) (loop_length l) → winner g l ≡ p
 winner_is g l p starts good = ap side lowest ∙ here ∙ good.right
   where
     at : (k : ℕ) → k < loop_length l → on_loop l k ≡ entry l (l.start + k)
@@ -54,7 +58,8 @@ winner_is g l p starts good = ap side lowest ∙ here ∙ good.right
     reach : (j : ℕ) → l.start ≤ j → j < length l.entries → on_loop l (j - l.start) ≡ entry l j
     reach j later low = let e : l.start + (j - l.start) ≡ j = omega arith in at (j - l.start) (omega arith) ∙ ap (entry l) e
 
-    least : (j : ℕ) → l.start ≤ j → j < length l.entries → priority_of g (entry l (l.start + good.place)) ≤ priority_of g (entry l j)
+    least : (j : ℕ) → l.start ≤ j → j < length l.entries
+        → priority_of g (entry l (l.start + good.place)) ≤ priority_of g (entry l j)
     least j later low = subst₂ (λ x y. priority_of g x ≤ priority_of g y) (at good.place good.below) (reach j later low) (good.least (j - l.start) (omega arith))
 
     lowest : lowest_on_loop (priority_of g) l ≡ priority_of g (entry l (l.start + good.place))
@@ -64,7 +69,9 @@ winner_is g l p starts good = ap side lowest ∙ here ∙ good.right
     here = ap (λ x. side (priority_of g x)) (sym (at good.place good.below))
 
 -- a loop made of a sequence, which takes one value at i and j, has the side of its lowest priority as its winner
-pub winner_of_sequence : (g : ParityGame) (c : ℕ → ℕ) (i j k : ℕ) (p : Player) → i ≤ k → k < j → ((l : ℕ) → i ≤ l → l < j → priority_of g (c k) ≤ priority_of g (c l)) → side (priority_of g (c k)) ≡ p → winner g (lasso_of c i j) ≡ p
+pub winner_of_sequence : (g : ParityGame) (c : ℕ → ℕ) (i j k : ℕ) (p : Player) → i ≤ k → k < j
+    → ((l : ℕ) → i ≤ l → l < j → priority_of g (c k) ≤ priority_of g (c l)) → side (priority_of g (c k)) ≡ p
+    → winner g (lasso_of c i j) ≡ p
 winner_of_sequence g c i j k p later low least right = ap side lowest ∙ ap (λ v. side (priority_of g v)) (lasso_of-entry c i j k low) ∙ right
   where
     lowest : lowest_on_loop (priority_of g) (lasso_of c i j) ≡ priority_of g (entry (lasso_of c i j) k)
@@ -89,10 +96,12 @@ module _ (g : ParityGame) (ok : IsGame g) (over win : ℕ → Player) (s choice 
   held v low = solves.keeps v (lt-ltb v (size g) low)
 
   -- along a play of a winner who follows the choice, all vertices belong to that player
-  kept : (p : Player) (l : Lasso) → IsPlay g l → Follows g p choice l → entry l 0 < size g → win (entry l 0) ≡ p → (k : ℕ) → k ≤ length l.entries → (get_or (round l) k 0 < size g) × (win (get_or (round l) k 0) ≡ p)
+  kept : (p : Player) (l : Lasso) → IsPlay g l → Follows g p choice l → entry l 0 < size g → win (entry l 0) ≡ p
+      → (k : ℕ) → k ≤ length l.entries → (get_or (round l) k 0 < size g) × (win (get_or (round l) k 0) ≡ p)
   kept p l play follows low wins = lasso_keeps l (λ x. (x < size g) × (win x ≡ p)) next (subst (λ x. (x < size g) × (win x ≡ p)) (sym (round-entry l 0 (omega (arith, play.starts)))) (low, wins))
     where
-      next : (k : ℕ) → k < length l.entries → (get_or (round l) k 0 < size g) × (win (get_or (round l) k 0) ≡ p) → (get_or (round l) (k + 1) 0 < size g) × (win (get_or (round l) (k + 1) 0) ≡ p)
+      next : (k : ℕ) → k < length l.entries → (get_or (round l) k 0 < size g) × (win (get_or (round l) k 0) ≡ p)
+          → (get_or (round l) (k + 1) 0 < size g) × (win (get_or (round l) (k + 1) 0) ≡ p)
       next k below here =
           let v : ℕ = get_or (round l) k 0 in
           let by_p : Holds (board_of g) win p (s v) v = subst (λ q. Holds (board_of g) win q (s v) v) here.1 (held v here.0) in (
@@ -101,14 +110,16 @@ module _ (g : ParityGame) (ok : IsGame g) (over win : ℕ → Player) (s choice 
           )
 
   -- so the loop of the play is a loop of that player's
-  loop : (p : Player) (l : Lasso) → IsPlay g l → Follows g p choice l → entry l 0 < size g → win (entry l 0) ≡ p → Loop (board_of g) (all_live g) win s p (on_loop l) (loop_length l)
+  loop : (p : Player) (l : Lasso) → IsPlay g l → Follows g p choice l → entry l 0 < size g → win (entry l 0) ≡ p
+      → Loop (board_of g) (all_live g) win s p (on_loop l) (loop_length l)
   loop p l play follows low wins = record {
     long = omega (arith, play.starts);
     closed = loop_closed l play.starts;
     steps = λ k below. step (l.start + k) (omega arith) (l.start + (k + 1)) (omega arith);
   }
     where
-      step : (k : ℕ) → k < length l.entries → (j : ℕ) → k + 1 ≡ j → Step (board_of g) (all_live g) win s p (get_or (round l) k 0) (get_or (round l) j 0)
+      step : (k : ℕ) → k < length l.entries → (j : ℕ) → k + 1 ≡ j
+          → Step (board_of g) (all_live g) win s p (get_or (round l) k 0) (get_or (round l) j 0)
       step k below j e =
           let here = kept p l play follows low wins k (omega arith) in
           let v : ℕ = get_or (round l) k 0 in

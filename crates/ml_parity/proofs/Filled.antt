@@ -49,7 +49,8 @@ module _ (g : ParityGame) (ok : IsGame g) (live : List Bool) (sinks win : List P
       held : Holds (board_of g) (winner_at win) (winner_at win v) (choice_at old v) v
       held = board_solved.keeps v (lt-ltb v (size g) low)
 
-      by_owner : (owner_of g v ≡ winner_at win v) ⊎ (owner_of g v ≡ winner_at win v → ⊥) → HasMove g v (choice_at choice v)
+      by_owner : (owner_of g v ≡ winner_at win v) ⊎ (owner_of g v ≡ winner_at win v → ⊥)
+          → HasMove g v (choice_at choice v)
       by_owner (inl own) = subst (HasMove g v) (sym (filled.own v (omega arith) own)) (held.own own).move
       by_owner (inr other) = subst (HasMove g v) (sym (filled.other v (omega arith) other)) (first_move g ok v low)
 

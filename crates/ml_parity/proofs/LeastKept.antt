@@ -33,7 +33,9 @@ live_without-true live t v alive = by_case (cases_eq v t)
     by_case (inr other) = (other, sym (update-other live t false v other) ∙ alive)
 
 -- a loop that goes through t, which has the least priority of all live vertices, is good for whom that priority is
-through : (b : Board) (live : ℕ → Bool) (win : ℕ → Player) (s : ℕ → ℕ) (p : Player) (c : ℕ → ℕ) (m t k : ℕ) → Loop b live win s p c m → ((v : ℕ) → live v ≡ true → b.priority t ≤ b.priority v) → k < m → c k ≡ t → side (b.priority t) ≡ p → GoodFor b p c m
+through : (b : Board) (live : ℕ → Bool) (win : ℕ → Player) (s : ℕ → ℕ) (p : Player) (c : ℕ → ℕ) (m t k : ℕ)
+    → Loop b live win s p c m → ((v : ℕ) → live v ≡ true → b.priority t ≤ b.priority v) → k < m → c k ≡ t
+    → side (b.priority t) ≡ p → GoodFor b p c m
 through b live win s p c m t k loop least low here right = record {
   place = k;
   below = low;
@@ -42,7 +44,10 @@ through b live win s p c m t k loop least low here right = record {
 }
 
 -- where i holds a move from t, the solution with t as a sink of i serves with t live, the move added
-pub least_kept : (b : Board) (live : ℕ → Bool) (over : ℕ → Player) (t : ℕ) (win : ℕ → Player) (s : ℕ → ℕ) (w : ℕ) → live t ≡ true → ((v : ℕ) → live v ≡ true → b.priority t ≤ b.priority v) → Solves b (live_without live t) (over_with over t (side (b.priority t))) win s → Holds b win (side (b.priority t)) w t → Solves b live over win (update s t w)
+pub least_kept : (b : Board) (live : ℕ → Bool) (over : ℕ → Player) (t : ℕ) (win : ℕ → Player) (s : ℕ → ℕ) (w : ℕ)
+    → live t ≡ true → ((v : ℕ) → live v ≡ true → b.priority t ≤ b.priority v)
+    → Solves b (live_without live t) (over_with over t (side (b.priority t))) win s
+    → Holds b win (side (b.priority t)) w t → Solves b live over win (update s t w)
 least_kept b live over t win s w t_live least first held = record { ends = ends; keeps = λ v alive. keeps v alive (cases_eq v t); loops = loops }
   where
     won_t : win t ≡ side (b.priority t)

@@ -36,12 +36,14 @@ abbrev pub joined : ℕ → ℕ → (ℕ → Player) → Player → (ℕ → ℕ
 joined t w win j s s2 = update (λ v. cond (same_player (win v) j) (s v) (s2 v)) t w
 
 -- the choice where j won, away from t
-joined-won : (t w : ℕ) (win : ℕ → Player) (j : Player) (s s2 : ℕ → ℕ) (v : ℕ) → (v ≡ t → ⊥) → win v ≡ j → joined t w win j s s2 v ≡ s v
+joined-won : (t w : ℕ) (win : ℕ → Player) (j : Player) (s s2 : ℕ → ℕ) (v : ℕ) → (v ≡ t → ⊥) → win v ≡ j
+    → joined t w win j s s2 v ≡ s v
 joined-won t w win j s s2 v other won =
     update-other (λ u. cond (same_player (win u) j) (s u) (s2 u)) t w v other ∙ cond-true (same_player (win v) j) (s v) (s2 v) (same_player-true (win v) j won)
 
 -- the choice where j did not win, away from t
-joined-lost : (t w : ℕ) (win : ℕ → Player) (j : Player) (s s2 : ℕ → ℕ) (v : ℕ) → (v ≡ t → ⊥) → (win v ≡ j → ⊥) → joined t w win j s s2 v ≡ s2 v
+joined-lost : (t w : ℕ) (win : ℕ → Player) (j : Player) (s s2 : ℕ → ℕ) (v : ℕ) → (v ≡ t → ⊥) → (win v ≡ j → ⊥)
+    → joined t w win j s s2 v ≡ s2 v
 joined-lost t w win j s s2 v other lost =
     update-other (λ u. cond (same_player (win u) j) (s u) (s2 u)) t w v other ∙ cond-false (same_player (win v) j) (s v) (s2 v) (same_player-false (win v) j lost)
 
@@ -50,26 +52,31 @@ joined-least : (t w : ℕ) (win : ℕ → Player) (j : Player) (s s2 : ℕ → �
 joined-least t w win j s s2 = update-same (λ u. cond (same_player (win u) j) (s u) (s2 u)) t w t refl
 
 -- a vertex that j won is frozen
-pub live_frozen-won : (live : ℕ → Bool) (t : ℕ) (win : ℕ → Player) (j : Player) (v : ℕ) → win v ≡ j → live_frozen live t win j v ≡ false
+pub live_frozen-won : (live : ℕ → Bool) (t : ℕ) (win : ℕ → Player) (j : Player) (v : ℕ) → win v ≡ j
+    → live_frozen live t win j v ≡ false
 live_frozen-won live t win j v won = cond-true (same_player (win v) j) false (live_without live t v) (same_player-true (win v) j won)
 
 -- any other is as live as in the first game
-pub live_frozen-lost : (live : ℕ → Bool) (t : ℕ) (win : ℕ → Player) (j : Player) (v : ℕ) → (win v ≡ j → ⊥) → live_frozen live t win j v ≡ live_without live t v
+pub live_frozen-lost : (live : ℕ → Bool) (t : ℕ) (win : ℕ → Player) (j : Player) (v : ℕ) → (win v ≡ j → ⊥)
+    → live_frozen live t win j v ≡ live_without live t v
 live_frozen-lost live t win j v lost = cond-false (same_player (win v) j) false (live_without live t v) (same_player-false (win v) j lost)
 
 -- a vertex that is not live in the first game is not live in the second
-pub live_frozen-dead : (live : ℕ → Bool) (t : ℕ) (win : ℕ → Player) (j : Player) (v : ℕ) → live_without live t v ≡ false → live_frozen live t win j v ≡ false
+pub live_frozen-dead : (live : ℕ → Bool) (t : ℕ) (win : ℕ → Player) (j : Player) (v : ℕ)
+    → live_without live t v ≡ false → live_frozen live t win j v ≡ false
 live_frozen-dead live t win j v dead = cond_both (same_player (win v) j) false (live_without live t v) (λ x. x ≡ false) (λ e. refl) (λ e. dead)
 
 -- what is held by one map is held by another that gives the player no less
-holds_more : (b : Board) (win win2 : ℕ → Player) (p : Player) (w v : ℕ) → ((x : ℕ) → win x ≡ p → win2 x ≡ p) → Holds b win p w v → Holds b win2 p w v
+holds_more : (b : Board) (win win2 : ℕ → Player) (p : Player) (w v : ℕ) → ((x : ℕ) → win x ≡ p → win2 x ≡ p)
+    → Holds b win p w v → Holds b win2 p w v
 holds_more b win win2 p w v more held = record {
   own = λ o. record { move = (held.own o).move; wins = more w (held.own o).wins };
   other = λ o x move. more x (held.other o x move);
 }
 
 -- a step of p that respects the choice from where p holds it leads to where p wins
-pub held_step : (b : Board) (win : ℕ → Player) (p : Player) (w v x : ℕ) → Holds b win p w v → b.Move v x → (b.owner v ≡ p → x ≡ w) → win x ≡ p
+pub held_step : (b : Board) (win : ℕ → Player) (p : Player) (w v x : ℕ) → Holds b win p w v → b.Move v x
+    → (b.owner v ≡ p → x ≡ w) → win x ≡ p
 held_step b win p w v x held move chosen = by_case (cases_player (b.owner v) p)
   where
     by_case : (b.owner v ≡ p) ⊎ (b.owner v ≡ opponent p) → win x ≡ p
@@ -122,7 +129,8 @@ module _ (b : Board) (live : ℕ → Bool) (over : ℕ → Player) (t : ℕ) (wi
   firm_or_not : (v : ℕ) → ((v ≡ t) ⊎ (win v ≡ j)) ⊎ ((v ≡ t → ⊥) × (win v ≡ j → ⊥))
   firm_or_not v = by_case (cases_eq v t) (is_or_not (win v) j)
     where
-      by_case : (v ≡ t) ⊎ (v ≡ t → ⊥) → (win v ≡ j) ⊎ (win v ≡ j → ⊥) → ((v ≡ t) ⊎ (win v ≡ j)) ⊎ ((v ≡ t → ⊥) × (win v ≡ j → ⊥))
+      by_case : (v ≡ t) ⊎ (v ≡ t → ⊥) → (win v ≡ j) ⊎ (win v ≡ j → ⊥)
+          → ((v ≡ t) ⊎ (win v ≡ j)) ⊎ ((v ≡ t → ⊥) × (win v ≡ j → ⊥))
       by_case (inl same) q = inl (inl same)
       by_case (inr other) (inl won) = inl (inr won)
       by_case (inr other) (inr lost) = inr (other, lost)
@@ -141,7 +149,8 @@ module _ (b : Board) (live : ℕ → Bool) (over : ℕ → Player) (t : ℕ) (wi
       ∙ first.ends v dead_first
       ∙ update-other over t i v other
 
-  keeps : (v : ℕ) → live v ≡ true → ((v ≡ t) ⊎ (win v ≡ j)) ⊎ ((v ≡ t → ⊥) × (win v ≡ j → ⊥)) → Holds b win2 (win2 v) (choice v) v
+  keeps : (v : ℕ) → live v ≡ true → ((v ≡ t) ⊎ (win v ≡ j)) ⊎ ((v ≡ t → ⊥) × (win v ≡ j → ⊥))
+      → Holds b win2 (win2 v) (choice v) v
   keeps v alive (inl is_firm) =
       let for_j : Holds b win2 j (choice v) v = holds_more b win win2 j (choice v) v decided (firm v alive is_firm) in
       subst (λ p. Holds b win2 p (choice v) v) (sym (decided_firm v is_firm)) for_j
@@ -156,7 +165,8 @@ module _ (b : Board) (live : ℕ → Bool) (over : ℕ → Player) (t : ℕ) (wi
       (same, held_step b win j (choice v) v x (firm v step.alive is_firm) step.move (λ own. step.chosen (own ∙ sym same)))
 
   -- a loop with a firm vertex lies where j won, and is a loop of the first solution
-  firm_loop : (p : Player) (c : ℕ → ℕ) (m : ℕ) → Loop b live win2 choice p c m → Found (λ k. (c k ≡ t) ⊎ (win (c k) ≡ j)) m → GoodFor b p c m
+  firm_loop : (p : Player) (c : ℕ → ℕ) (m : ℕ) → Loop b live win2 choice p c m
+      → Found (λ k. (c k ≡ t) ⊎ (win (c k) ≡ j)) m → GoodFor b p c m
   firm_loop p c m loop f =
       let here = down p (c f.place) (c (f.place + 1)) (loop.steps f.place f.below) f.holds in
       let won : (k : ℕ) → k ≤ m → win (c k) ≡ j =
@@ -173,7 +183,8 @@ module _ (b : Board) (live : ℕ → Bool) (over : ℕ → Player) (t : ℕ) (wi
       })
 
   -- any other loop is a loop of the second solution
-  other_loop : (p : Player) (c : ℕ → ℕ) (m : ℕ) → Loop b live win2 choice p c m → ((k : ℕ) → k < m → (c k ≡ t → ⊥) × (win (c k) ≡ j → ⊥)) → GoodFor b p c m
+  other_loop : (p : Player) (c : ℕ → ℕ) (m : ℕ) → Loop b live win2 choice p c m
+      → ((k : ℕ) → k < m → (c k ≡ t → ⊥) × (win (c k) ≡ j → ⊥)) → GoodFor b p c m
   other_loop p c m loop out = second.loops p c m (record {
     long = loop.long;
     closed = loop.closed;

@@ -42,12 +42,14 @@ pub record MemoryStep (g : ParityGame) (p : Player) (A : Type 0) (way : MemorySt
 -- respects it, and codes below the bound tell the memories apart
 pub record IsMemoryStrategyOf (g : ParityGame) (p : Player) (A : Type 0) (way : MemoryStrategy A) (Inv : ℕ → A → Type 0) (code : A → ℕ) (bound : ℕ) : Type 0 where
   pub is_move : (x : ℕ) (m : A) → x < size g → Inv x m → owner_of g x ≡ p → HasMove g x (way.move x m)
-  pub kept : (x : ℕ) (m : A) (y : ℕ) → x < size g → Inv x m → HasMove g x y → (owner_of g x ≡ p → y ≡ way.move x m) → Inv y (way.update x m y)
+  pub kept : (x : ℕ) (m : A) (y : ℕ) → x < size g → Inv x m → HasMove g x y → (owner_of g x ≡ p → y ≡ way.move x m)
+      → Inv y (way.update x m y)
   pub bounded : (x : ℕ) (m : A) → Inv x m → code m < bound
   pub apart : (x y : ℕ) (m n : A) → Inv x m → Inv y n → code m ≡ code n → m ≡ n
 
 -- each lasso of vertices with their memories that begins with v and the memory m0 is good for p
-abbrev pub WinsWithMemory : (g : ParityGame) (p : Player) (A : Type 0) → MemoryStrategy A → (ℕ → A → Type 0) → ℕ → A → Type 0
+abbrev pub WinsWithMemory : (g : ParityGame) (p : Player) (A : Type 0) → MemoryStrategy A → (ℕ → A → Type 0) → ℕ → A
+    → Type 0
 WinsWithMemory g p A way Inv v m0 =
     (c : ℕ → ℕ) (memory : ℕ → A) (i j : ℕ) → i < j → c 0 ≡ v → memory 0 ≡ m0
     → ((k : ℕ) → k < j → MemoryStep g p A way c memory k) → ((k : ℕ) → k ≤ j → Inv (c k) (memory k))
@@ -124,7 +126,10 @@ module _ (g : ParityGame) (ok : IsGame g) (p : Player) (A : Type 0) (way : Memor
             let for_other : winner g (lasso_of c i j) ≡ opponent p = wins (lasso_of c i j) play begins (λ k low. follow c i j r.apart parts.0 c_after k (omega (arith, lasso_of-length c i j, low))) in
             no_own_opponent p (sym for_p ∙ for_other)
           where
-            follow : (c : ℕ → ℕ) (i j : ℕ) → i < j → c i ≡ c j → ((k : ℕ) → c (k + 1) ≡ cond (same_player (owner_of g (c k)) p) (way.move (c k) (walk (next t) (v, m0) k).1) (t (c k))) → (k : ℕ) → k < j → owner_of g (get_or (round (lasso_of c i j)) k 0) ≡ opponent p → get_or (round (lasso_of c i j)) (k + 1) 0 ≡ t (get_or (round (lasso_of c i j)) k 0)
+            follow : (c : ℕ → ℕ) (i j : ℕ) → i < j → c i ≡ c j
+                → ((k : ℕ) → c (k + 1) ≡ cond (same_player (owner_of g (c k)) p) (way.move (c k) (walk (next t) (v, m0) k).1) (t (c k)))
+                → (k : ℕ) → k < j → owner_of g (get_or (round (lasso_of c i j)) k 0) ≡ opponent p
+                → get_or (round (lasso_of c i j)) (k + 1) 0 ≡ t (get_or (round (lasso_of c i j)) k 0)
             follow c i j apart same after k low own =
                 let here : get_or (round (lasso_of c i j)) k 0 ≡ c k = lasso_of-round c i j k apart same (omega arith) in
                 let there : get_or (round (lasso_of c i j)) (k + 1) 0 ≡ c (k + 1) = lasso_of-round c i j (k + 1) apart same (omega arith) in

@@ -20,11 +20,13 @@ pub record WinningMove (g : ParityGame) (p : Player) (v : ℕ) : Type 0 where
   pub wins : Wins g p to
 
 -- the winner of a vertex keeps to where that player wins
-kept_by : (g : ParityGame) (w : Winners g) (p : Player) (v : ℕ) → v < size g → w.win v ≡ p → Holds (board_of g) w.win p (w.choice v) v
+kept_by : (g : ParityGame) (w : Winners g) (p : Player) (v : ℕ) → v < size g → w.win v ≡ p
+    → Holds (board_of g) w.win p (w.choice v) v
 kept_by g w p v low is = subst (λ q. Holds (board_of g) w.win q (w.choice v) v) is (w.keeps v low)
 
 -- p wins a vertex of p's own exactly if p wins some successor
-pub own_vertex_won : (g : ParityGame) → IsGame g → (p : Player) (v : ℕ) → v < size g → owner_of g v ≡ p → Wins g p v ↔ WinningMove g p v
+pub own_vertex_won : (g : ParityGame) → IsGame g → (p : Player) (v : ℕ) → v < size g → owner_of g v ≡ p
+    → Wins g p v ↔ WinningMove g p v
 own_vertex_won g ok p v low own = (there, back)
   where
     w : Winners g
@@ -45,7 +47,8 @@ own_vertex_won g ok p v low own = (there, back)
             absurd (not_both (w.win m.to) p (w.only m.to p (ok.in_range v m.to m.move) m.wins) to_lost)
 
 -- p wins a vertex of the opponent's exactly if p wins every successor
-pub other_vertex_won : (g : ParityGame) → IsGame g → (p : Player) (v : ℕ) → v < size g → owner_of g v ≡ opponent p → Wins g p v ↔ ((x : ℕ) → HasMove g v x → Wins g p x)
+pub other_vertex_won : (g : ParityGame) → IsGame g → (p : Player) (v : ℕ) → v < size g → owner_of g v ≡ opponent p
+    → Wins g p v ↔ ((x : ℕ) → HasMove g v x → Wins g p x)
 other_vertex_won g ok p v low own = (there, back)
   where
     w : Winners g

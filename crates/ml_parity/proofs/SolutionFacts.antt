@@ -28,11 +28,13 @@ module _ (g : ParityGame) (ok : IsGame g) (s : GameSolution) (solution : IsSolut
           (cases_player (winner_at s.winner v) p)
 
   -- where a solution names p, its choices win for p
-  pub solution_wins_from : (p : Player) (v : ℕ) → v < size g → winner_at s.winner v ≡ p → WinsFrom g p (choice_at s.choice) v
+  pub solution_wins_from : (p : Player) (v : ℕ) → v < size g → winner_at s.winner v ≡ p
+      → WinsFrom g p (choice_at s.choice) v
   solution_wins_from p v low is = subst (λ q. WinsFrom g q (choice_at s.choice) v) is (solution.wins v low)
 
   -- where it names the owner, it names the owner at the choice too
-  pub solution_own : (p : Player) (v : ℕ) → v < size g → owner_of g v ≡ p → winner_at s.winner v ≡ p → winner_at s.winner (choice_at s.choice v) ≡ p
+  pub solution_own : (p : Player) (v : ℕ) → v < size g → owner_of g v ≡ p → winner_at s.winner v ≡ p
+      → winner_at s.winner (choice_at s.choice v) ≡ p
   solution_own p v low own is =
       let move : HasMove g v (choice_at s.choice v) = solution.strategies p v low own in
       (solution_winner p (choice_at s.choice v) (ok.in_range v (choice_at s.choice v) move)).0 (record {
@@ -42,9 +44,11 @@ module _ (g : ParityGame) (ok : IsGame g) (s : GameSolution) (solution : IsSolut
       })
 
   -- where it names the owner's opponent, it does so at every successor
-  pub solution_other : (p : Player) (v : ℕ) → v < size g → owner_of g v ≡ opponent p → winner_at s.winner v ≡ p → (x : ℕ) → HasMove g v x → winner_at s.winner x ≡ p
+  pub solution_other : (p : Player) (v : ℕ) → v < size g → owner_of g v ≡ opponent p → winner_at s.winner v ≡ p
+      → (x : ℕ) → HasMove g v x → winner_at s.winner x ≡ p
   solution_other p v low own is x move = (solution_winner p x (ok.in_range v x move)).0 ((other_vertex_won g ok p v low own).0 ((solution_winner p v low).1 is) x move)
 
 -- two solutions of a game name the same winners
-pub solutions_agree : (g : ParityGame) → IsGame g → (s t : GameSolution) → IsSolution g s → IsSolution g t → (v : ℕ) → v < size g → winner_at s.winner v ≡ winner_at t.winner v
+pub solutions_agree : (g : ParityGame) → IsGame g → (s t : GameSolution) → IsSolution g s → IsSolution g t → (v : ℕ)
+    → v < size g → winner_at s.winner v ≡ winner_at t.winner v
 solutions_agree g ok s t a b v low = (solution_winner g ok s a (winner_at t.winner v) v low).0 (b.right v low)

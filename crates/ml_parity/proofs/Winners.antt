@@ -36,7 +36,8 @@ pub together-own : (g : ParityGame) (p : Player) (s t : ℕ → ℕ) (x : ℕ) �
 together-own g p s t x own = cond-true (same_player (owner_of g x) p) (s x) (t x) (same_player-true (owner_of g x) p own)
 
 -- at a vertex of the opponent's it is the choice of t
-pub together-other : (g : ParityGame) (p : Player) (s t : ℕ → ℕ) (x : ℕ) → owner_of g x ≡ opponent p → together g p s t x ≡ t x
+pub together-other : (g : ParityGame) (p : Player) (s t : ℕ → ℕ) (x : ℕ) → owner_of g x ≡ opponent p
+    → together g p s t x ≡ t x
 together-other g p s t x own =
     cond-false (same_player (owner_of g x) p) (s x) (t x) (same_player-false (owner_of g x) p (λ o. no_own_opponent p (sym o ∙ own)))
 
@@ -78,15 +79,19 @@ pub record Winners (g : ParityGame) : Type 0 where
 abbrev pub filled : ParityGame → (ℕ → Player) → (ℕ → ℕ) → ℕ → ℕ
 filled g win s v = cond (same_player (owner_of g v) (win v)) (s v) (get_or (moves_of g v) 0 0)
 
-pub filled-own : (g : ParityGame) (win : ℕ → Player) (s : ℕ → ℕ) (v : ℕ) → owner_of g v ≡ win v → filled g win s v ≡ s v
+pub filled-own : (g : ParityGame) (win : ℕ → Player) (s : ℕ → ℕ) (v : ℕ) → owner_of g v ≡ win v
+    → filled g win s v ≡ s v
 filled-own g win s v own = cond-true (same_player (owner_of g v) (win v)) (s v) (get_or (moves_of g v) 0 0) (same_player-true (owner_of g v) (win v) own)
 
-pub filled-other : (g : ParityGame) (win : ℕ → Player) (s : ℕ → ℕ) (v : ℕ) → owner_of g v ≡ opponent (win v) → filled g win s v ≡ get_or (moves_of g v) 0 0
+pub filled-other : (g : ParityGame) (win : ℕ → Player) (s : ℕ → ℕ) (v : ℕ) → owner_of g v ≡ opponent (win v)
+    → filled g win s v ≡ get_or (moves_of g v) 0 0
 filled-other g win s v own =
     cond-false (same_player (owner_of g v) (win v)) (s v) (get_or (moves_of g v) 0 0) (same_player-false (owner_of g v) (win v) (λ o. no_own_opponent (win v) (sym o ∙ own)))
 
 -- a map that is right about each vertex leaves nobody else
-only_winner : (g : ParityGame) → IsGame g → (win : ℕ → Player) (choice : ℕ → ℕ) → ((v : ℕ) → v < size g → HasMove g v (choice v)) → ((v : ℕ) → v < size g → WinsFrom g (win v) choice v) → (v : ℕ) (p : Player) → v < size g → Wins g p v → win v ≡ p
+only_winner : (g : ParityGame) → IsGame g → (win : ℕ → Player) (choice : ℕ → ℕ)
+    → ((v : ℕ) → v < size g → HasMove g v (choice v)) → ((v : ℕ) → v < size g → WinsFrom g (win v) choice v)
+    → (v : ℕ) (p : Player) → v < size g → Wins g p v → win v ≡ p
 only_winner g ok win choice moves wins v p low a = by_case (cases_player (win v) p)
   where
     by_case : (win v ≡ p) ⊎ (win v ≡ opponent p) → win v ≡ p
@@ -141,7 +146,8 @@ won g w p v low is = record {
 }
 
 -- each vertex is won by the one player or by the other
-pub won_by_either : (g : ParityGame) → IsGame g → (p : Player) (v : ℕ) → v < size g → Wins g p v ⊎ Wins g (opponent p) v
+pub won_by_either : (g : ParityGame) → IsGame g → (p : Player) (v : ℕ) → v < size g
+    → Wins g p v ⊎ Wins g (opponent p) v
 won_by_either g ok p v low =
     let w = winners g ok in
     ⊎_elim (λ (mine : w.win v ≡ p). inl (won g w p v low mine)) (λ (other : w.win v ≡ opponent p). inr (won g w (opponent p) v low other)) (cases_player (w.win v) p)
