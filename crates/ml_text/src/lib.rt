@@ -9,7 +9,13 @@
 #![tactic(auto)]
 
 mod bytes;
+pub mod laws;
 mod token;
+mod words;
 
 pub use bytes::{is_blank, is_digit, is_letter, is_lower, is_upper, is_word_byte};
 pub use token::{Operator, Placed, Token, WordStart, next_token};
+pub use words::constant_of;
+
+#[cfg(test)]
+mod tests;
