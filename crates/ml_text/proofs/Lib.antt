@@ -12,3 +12,7 @@ pub mod Longest
 pub mod Cover
 -- for callers: what one answer of the scanner says of the bytes of the text
 pub mod NextToken
+-- levels of operators
+pub mod Levels
+-- the machine finds what a text stands for
+pub mod Complete
