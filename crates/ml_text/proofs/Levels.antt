@@ -48,6 +48,13 @@ left_level-above g s m =
     (λ (e : g.groups_left s m ≡ false). let is = left_level-right g s m e in omega (arith, is))
     (cases_Bool (g.groups_left s m))
 
+left_level-below : (g : Grammar) (s : g.Sort) (m : ℕ) → left_level g s m ≤ m + 1
+left_level-below g s m =
+    ⊎_elim
+    (λ (e : g.groups_left s m ≡ true). let is = left_level-left g s m e in omega (arith, is))
+    (λ (e : g.groups_left s m ≡ false). let is = left_level-right g s m e in omega (arith, is))
+    (cases_Bool (g.groups_left s m))
+
 pub right_level-above : (g : Grammar) (s : g.Sort) (m : ℕ) → m ≤ right_level g s m
 right_level-above g s m =
     ⊎_elim
@@ -88,3 +95,20 @@ right_untaken g s l m (Some t) le h = right_role_untaken g s l m (g.role s t) le
 
 pub right_follows : (g : Grammar) (s : g.Sort) (l m : ℕ) (n : Option g.Sign) → l ≤ m → Follows g s l n → Follows g s (right_level g s m) n
 right_follows g s l m n le h = untaken_follows g s (right_level g s m) n (right_untaken g s l m n le h)
+
+-- an operator that the right operand of a level can't take may follow what was joined at that level
+pub left_level-right_level : (g : Grammar) (s : g.Sort) (k m : ℕ) → k < right_level g s m → left_level g s k ≤ m
+left_level-right_level g s k m below =
+    ⊎_elim
+    (λ (less : k < m). let above = left_level-below g s k in omega arith)
+    (λ (ge : m ≤ k).
+    ⊎_elim
+    (λ (e : g.groups_left s m ≡ true).
+    let is = right_level-left g s m e in
+    let same : k ≡ m = omega arith in
+    let there : g.groups_left s k ≡ true = ap (g.groups_left s) same ∙ e in
+    let at = left_level-left g s k there in
+    omega arith)
+    (λ (e : g.groups_left s m ≡ false). let is = right_level-right g s m e in omega arith)
+    (cases_Bool (g.groups_left s m)))
+    (cases_lt k m)

@@ -16,3 +16,5 @@ pub mod NextToken
 pub mod Levels
 -- the machine finds what a text stands for
 pub mod Complete
+-- what the machine finds, the text stands for
+pub mod Sound
