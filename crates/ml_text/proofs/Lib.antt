@@ -18,3 +18,7 @@ pub mod Levels
 pub mod Complete
 -- what the machine finds, the text stands for
 pub mod Sound
+-- signs that begin a text, and signs that begin none
+pub mod Viable
+-- what comes of a text within limits is exact
+pub mod Exact

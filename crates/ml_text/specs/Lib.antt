@@ -10,3 +10,7 @@ pub mod Spelling
 pub mod Grammar
 -- the machine that reads their texts
 pub mod Machine
+-- limits, and where texts are refused
+pub mod Refusals
+-- how a text is read within limits
+pub mod Reading
