@@ -8,3 +8,7 @@ pub mod Words
 pub mod Repeats
 -- the answers of the reader of first texts
 pub mod FirstReader
+-- the grammar is the one of the tables
+pub mod GrammarTables
+-- the tables are regular and can be completed
+pub mod MuGrammar

@@ -22,3 +22,9 @@ pub mod Head
 pub mod FirstText
 -- how they are read
 pub mod FirstReading
+-- the signs of texts
+pub mod Signs
+-- the grammar of texts
+pub mod Grammar
+-- the grammar as tables
+pub mod Tables

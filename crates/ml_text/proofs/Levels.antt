@@ -6,9 +6,10 @@
 --   left_follows        == an operator may follow its left operand
 --   right_follows       == what may follow a joined operand may follow its right operand
 --   right_untaken       == and the right operand can't take it
-use Rattle.std.proofs.Common.{◌≡◌, ℕ, ◌+◌, ◌<◌, ◌≤◌, ◌⊎◌, Bool, true, false, nat_le, if◌then◌else◌, Option, Some, None, refl, sym, ◌∙◌, ap, subst, inl, inr, ⊎_elim, arith, leb-false}
+--   loosen              == what is read at a level is read at each looser one
+use Rattle.std.proofs.Common.{◌≡◌, ℕ, ◌+◌, ◌<◌, ◌≤◌, ◌⊎◌, Bool, true, false, nat_le, if◌then◌else◌, List, Option, Some, None, refl, sym, ◌∙◌, ap, subst, inl, inr, ⊎_elim, arith, leb-false}
 use Rattle.std.proofs.lemmas.Bool.{cases_Bool, cond-true, cond-false, lt-leb, cases_lt}
-use Rattle.ml_text.specs.Grammar.{Grammar, Role, Infix, Postfix, Outside, left_level, right_level, role_takes, takes}
+use Rattle.ml_text.specs.Grammar.{Grammar, Role, Infix, Postfix, Outside, Level, Reads, alone, joined, left_level, right_level, role_takes, takes}
 
 abbrev pub RoleFollows : (g : Grammar) → g.Sort → ℕ → Role → Type 0
 RoleFollows g s l (Infix m) = (m < l) ⊎ ((m ≡ l) × (g.groups_left s l ≡ true))
@@ -112,3 +113,8 @@ left_level-right_level g s k m below =
     (λ (e : g.groups_left s m ≡ false). let is = right_level-right g s m e in omega arith)
     (cases_Bool (g.groups_left s m)))
     (cases_lt k m)
+
+-- what is read at a level is read at each looser one
+pub loosen : (g : Grammar) {s : g.Sort} {l : ℕ} {ts rest : List g.Sign} {f : g.Tree} (k : ℕ) → k ≤ l → Reads g (Level s l) ts f rest → Reads g (Level s k) ts f rest
+loosen g k below (alone r) = alone r
+loosen g k below (joined o m is le a b) = joined o m is (omega arith) a b
