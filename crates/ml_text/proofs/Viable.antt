@@ -6,7 +6,8 @@
 --   not_viable         == what isn't run begins none
 use Rattle.std.proofs.Common.{◌≡◌, ℕ, ◌+◌, List, [], ◌∷◌, ◌++◌, Option, Some, None, refl, sym, ◌∙◌, ap}
 use Rattle.std.specs.Prelude.{option_and_then}
-use Rattle.ml_text.specs.Grammar.{Grammar, Mode, Whole, More, Rest, Reads, front, StandsFor, IsViable, IsRegular, IsStop, Ending, IsCompletable}
+use Rattle.ml_text.specs.Grammar.{Grammar, Mode, Whole, More, Rest, Reads, front, StandsFor, IsRegular, IsStop, Ending, IsCompletable}
+use Rattle.ml_text.specs.Refusals.{BeginsText}
 use Rattle.ml_text.specs.Machine.{Frame, Held, Left, Stack, State, start_state, step, close, finish, parse, run}
 use Rattle.ml_text.proofs.Complete.{pop, complete, found}
 use Rattle.ml_text.proofs.Sound.{stands}
@@ -77,12 +78,12 @@ pub run-parse : (g : Grammar) (m : Mode g.Tree g.Wait) (stack : Stack g) (ts us 
 run-parse g m stack [] us = refl
 run-parse g m stack (t ∷ ts) us = run-parse_by g ts us (step g m stack t) (λ s. run-parse g s.0 s.1 ts us)
 
-pub viable : (g : Grammar) → IsRegular g → IsCompletable g → (ts : List g.Sign) (s : State g) → run g (start_state g g.whole) [] ts ≡ Some s → IsViable g ts
+pub viable : (g : Grammar) → IsRegular g → IsCompletable g → (ts : List g.Sign) (s : State g) → run g (start_state g g.whole) [] ts ≡ Some s → BeginsText (StandsFor g) ts
 viable g regular completable ts s is =
     let end : Ended g s.0 s.1 = every_state_ends g regular completable s.0 s.1 in
     (end.more, end.tree, stands g (ts ++ end.more) end.tree (run-parse g (start_state g g.whole) [] ts end.more ∙ ap (option_and_then (λ (x : State g). parse g x.0 x.1 end.more)) is ∙ end.is))
 
-pub not_viable : (g : Grammar) → IsRegular g → (ts : List g.Sign) → run g (start_state g g.whole) [] ts ≡ None → IsViable g ts → ⊥
+pub not_viable : (g : Grammar) → IsRegular g → (ts : List g.Sign) → run g (start_state g g.whole) [] ts ≡ None → BeginsText (StandsFor g) ts → ⊥
 not_viable g regular ts is goes =
     let read = found g regular (ts ++ goes.0) goes.1 goes.2 in
     let fails = run-parse g (start_state g g.whole) [] ts goes.0 ∙ ap (option_and_then (λ (x : State g). parse g x.0 x.1 goes.0)) is in

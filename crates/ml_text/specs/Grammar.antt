@@ -19,7 +19,6 @@
 --   takes g s l n        == could an operand of the sort s and the level l go on with n, the sign that follows, if any?
 --   Reads g p ts f rest  == ts begins with the tree f as the part p, and rest follows it
 --   StandsFor g ts f     == the signs ts, all of them, stand for the tree f
---   IsViable g ts        == with some signs behind them, the signs ts stand for some tree
 --   IsRegular g          == no form lets a held operand begin with the very sign that begins the form
 --   IsCompletable g      == each form that is begun can be ended
 use Rattle.std.specs.Prelude.{ℕ, ◌+◌, ◌≤◌, ◌≡◌, Bool, true, false, if◌then◌else◌, nat_le, List, [], ◌∷◌, ◌++◌, Option, Some, None}
@@ -106,9 +105,6 @@ pub data Reads (g : Grammar) : Part g → List g.Sign → g.Tree → List g.Sign
 
 abbrev pub StandsFor : (g : Grammar) → List g.Sign → g.Tree → Type 0
 StandsFor g ts f = Reads g (Level g.whole 0) ts f []
-
-abbrev pub IsViable : (g : Grammar) → List g.Sign → Type 0
-IsViable g ts = (us : List g.Sign) × (f : g.Tree) × StandsFor g (ts ++ us) f
 
 abbrev pub IsRegular : Grammar → Type 0
 IsRegular g = (s : g.Sort) (t : g.Sign) (k : g.Hold) → g.shift (g.start s) t ≡ Some (Opens k) → ⊥

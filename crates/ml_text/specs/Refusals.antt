@@ -1,4 +1,5 @@
--- Which texts of a grammar are accepted within limits, and where the others are refused.
+-- Which texts are accepted within limits, and where the others are refused, for any grammar: all that is asked of it is
+-- the relation R ts f, that the signs ts stand for the tree f.
 --
 -- A text is a list of items: signs with the place of each, what it counts towards the limit on occurrences, whether it
 -- is a parenthesis, and whether it is a name that is too long. A text may be refused for four causes, each at a place.
@@ -9,17 +10,17 @@
 --   signs_of items          == the signs
 --   counted items           == how many occurrences the items count
 --   open_behind items       == how many parentheses are open behind the items
+--   BeginsText R ts         == with some signs behind them, the signs ts stand for some tree
 --   Cause                   == syntax, too many occurrences, too many open parentheses, a name too long
---   IsSyntaxFault g items k == the first k items begin a text, and with the next one they begin none; at the end: they are none
+--   IsSyntaxFault R items k == the first k items begin a text, and with the next one they begin none; at the end: they are none
 --   IsCountFault items k    == the item with which the count passes the limit
 --   IsNestingFault items k  == the parenthesis with which more are open than the limit
 --   IsNameFault items k     == a name that is too long
---   IsFault g c items k     == the cause c comes at the place k
---   IsRefused g items c k   == c at k is the first of all
---   IsAccepted g items f    == the signs stand for f, and no cause comes at all
+--   IsFault R c items k     == the cause c comes at the place k
+--   IsRefused R items c k   == c at k is the first of all
+--   IsAccepted R items f    == the signs stand for f, and no cause comes at all
 --   offset_of items end k   == where the place k is in the text, whose end is given
-use Rattle.std.specs.Prelude.{ℕ, zero, suc, ◌+◌, ◌-◌, ◌<◌, ◌≤◌, ◌≡◌, ◌⊎◌, Bool, true, false, List, [], ◌∷◌, length, map, take, sum_by, Option, Some, None}
-use Rattle.ml_text.specs.Grammar.{Grammar, StandsFor, IsViable}
+use Rattle.std.specs.Prelude.{ℕ, zero, suc, ◌+◌, ◌-◌, ◌<◌, ◌≤◌, ◌≡◌, ◌⊎◌, Bool, true, false, List, [], ◌∷◌, ◌++◌, length, map, take, sum_by, Option, Some, None}
 
 pub data Bracket : Type 0 where
   Opening Closing Neither : Bracket
@@ -60,6 +61,9 @@ open_from n (i ∷ items) = open_from (open_behind_one i.bracket n) items
 abbrev pub open_behind : {Sign : Type 0} → List (Item Sign) → ℕ
 open_behind items = open_from 0 items
 
+abbrev pub BeginsText : {Sign Tree : Type 0} → (List Sign → Tree → Type 0) → List Sign → Type 0
+BeginsText {Sign} {Tree} R ts = (us : List Sign) × (f : Tree) × R (ts ++ us) f
+
 pub data Cause : Type 0 where
   Syntax TooMany TooNested NameTooLong : Cause
 
@@ -69,11 +73,11 @@ rank TooMany = 4
 rank TooNested = 5
 rank NameTooLong = 6
 
-pub record IsSyntaxFault (g : Grammar) (items : List (Item g.Sign)) (k : ℕ) : Type 0 where
+pub record IsSyntaxFault {Sign Tree : Type 0} (R : List Sign → Tree → Type 0) (items : List (Item Sign)) (k : ℕ) : Type 0 where
   pub within : k ≤ length items
-  pub begins : IsViable g (signs_of (take k items))
-  pub ends : k < length items → IsViable g (signs_of (take (k + 1) items)) → ⊥
-  pub is_none : k ≡ length items → (f : g.Tree) → StandsFor g (signs_of items) f → ⊥
+  pub begins : BeginsText R (signs_of (take k items))
+  pub ends : k < length items → BeginsText R (signs_of (take (k + 1) items)) → ⊥
+  pub is_none : k ≡ length items → (f : Tree) → R (signs_of items) f → ⊥
 
 pub record IsCountFault {Sign : Type 0} (items : List (Item Sign)) (k : ℕ) : Type 0 where
   pub within : k < length items
@@ -94,19 +98,19 @@ is_long_at (i ∷ items) (suc k) = is_long_at items k
 abbrev pub IsNameFault : {Sign : Type 0} → List (Item Sign) → ℕ → Type 0
 IsNameFault items k = is_long_at items k ≡ true
 
-abbrev pub IsFault : (g : Grammar) → Cause → List (Item g.Sign) → ℕ → Type 0
-IsFault g Syntax items k = IsSyntaxFault g items k
-IsFault g TooMany items k = IsCountFault items k
-IsFault g TooNested items k = IsNestingFault items k
-IsFault g NameTooLong items k = IsNameFault items k
+abbrev pub IsFault : {Sign Tree : Type 0} → (List Sign → Tree → Type 0) → Cause → List (Item Sign) → ℕ → Type 0
+IsFault R Syntax items k = IsSyntaxFault R items k
+IsFault R TooMany items k = IsCountFault items k
+IsFault R TooNested items k = IsNestingFault items k
+IsFault R NameTooLong items k = IsNameFault items k
 
-pub record IsRefused (g : Grammar) (items : List (Item g.Sign)) (c : Cause) (k : ℕ) : Type 0 where
-  pub comes : IsFault g c items k
-  pub first : (d : Cause) (j : ℕ) → IsFault g d items j → (k < j) ⊎ ((k ≡ j) × (rank c ≤ rank d))
+pub record IsRefused {Sign Tree : Type 0} (R : List Sign → Tree → Type 0) (items : List (Item Sign)) (c : Cause) (k : ℕ) : Type 0 where
+  pub comes : IsFault R c items k
+  pub first : (d : Cause) (j : ℕ) → IsFault R d items j → (k < j) ⊎ ((k ≡ j) × (rank c ≤ rank d))
 
-pub record IsAccepted (g : Grammar) (items : List (Item g.Sign)) (f : g.Tree) : Type 0 where
-  pub stands : StandsFor g (signs_of items) f
-  pub keeps : (c : Cause) (k : ℕ) → IsFault g c items k → ⊥
+pub record IsAccepted {Sign Tree : Type 0} (R : List Sign → Tree → Type 0) (items : List (Item Sign)) (f : Tree) : Type 0 where
+  pub stands : R (signs_of items) f
+  pub keeps : (c : Cause) (k : ℕ) → IsFault R c items k → ⊥
 
 abbrev pub offset_of : {Sign : Type 0} → List (Item Sign) → ℕ → ℕ → ℕ
 offset_of [] end k = end
