@@ -28,3 +28,11 @@ pub mod Signs
 pub mod Grammar
 -- the grammar as tables
 pub mod Tables
+-- texts as items
+pub mod Text
+-- variables at fault
+pub mod VariableFaults
+-- what is parsed, and what is refused
+pub mod Parsing
+-- the signs that the program holds
+pub mod SignViews

@@ -7,8 +7,10 @@
 --   word_sign word      == the sign that a word is
 --   byte_sign b         == the sign that a byte is that is a token by itself; most are in no text of the grammar
 --   sign_of t bytes     == the sign that a token with these bytes is
+--   HasShortName s      == if the sign has a name, it is one of the program's, of at most 64 bytes
 --   action_of s         == the action that a sign is, if it is one
-use Rattle.std.specs.Prelude.{ℕ, ◌==◌, Bool, List, [], ◌∷◌, Option, Some, None, if◌then◌else◌, codes, bytes_eq}
+use Rattle.std.specs.Prelude.{ℕ, ◌==◌, Bool, List, [], ◌∷◌, Option, Some, None, if◌then◌else◌, codes, bytes_eq, IsTrue}
+use Rattle.ml_base.specs.Name.{is_name}
 use Rattle.ml_text.specs.declared.token.Operator.{Operator}
 use Rattle.ml_text.specs.declared.token.Token.{Token}
 use Rattle.ml_text.specs.declared.token.Token.TheVariants as token
@@ -63,6 +65,14 @@ sign_of token.Not bytes = Not
 sign_of (token.Operator o) bytes = Connective o
 sign_of token.Word bytes = word_sign bytes
 sign_of (token.Byte b) bytes = byte_sign b
+
+abbrev pub IsShortWord : List ℕ → Type 0
+IsShortWord word = IsTrue (is_name word)
+
+abbrev pub HasShortName : Sign → Type 0
+HasShortName (Lower p) = IsShortWord p
+HasShortName (Upper x) = IsShortWord x
+HasShortName _ = Unit {0}
 
 abbrev pub action_of : Sign → Option (List ℕ)
 action_of Blank = Some (codes "_")

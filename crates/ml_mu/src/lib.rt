@@ -10,6 +10,7 @@
 mod first_text;
 mod formula;
 mod printing;
+mod signs;
 mod spelling;
 mod term;
 
