@@ -12,3 +12,7 @@ pub mod FirstReader
 pub mod GrammarTables
 -- the tables are regular and can be completed
 pub mod MuGrammar
+-- the program's stack
+pub mod Stacks
+-- steps behind an operand
+pub mod Steps

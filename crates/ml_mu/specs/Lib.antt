@@ -36,3 +36,5 @@ pub mod VariableFaults
 pub mod Parsing
 -- the signs that the program holds
 pub mod SignViews
+-- the forms and states that the program holds
+pub mod FormViews

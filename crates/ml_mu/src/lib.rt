@@ -8,6 +8,7 @@
 #![tactic(auto)]
 
 mod first_text;
+mod forms;
 mod formula;
 mod printing;
 mod signs;

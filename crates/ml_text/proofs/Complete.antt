@@ -9,13 +9,8 @@ use Rattle.std.proofs.Common.{◌≡◌, ℕ, ◌+◌, ◌≤◌, Bool, true, fa
 use Rattle.std.specs.Prelude.{option_and_then}
 use Rattle.std.proofs.lemmas.Bool.{cond-true, cond-false}
 use Rattle.ml_text.specs.Grammar.{Grammar, Role, Infix, Postfix, Outside, Mode, Whole, More, Turn, Read, Inner, Opens, Part, Level, Operand, Rest, Behind, Reads, alone, joined, postfixed, form, whole, sign, read, inner, opens, left_level, right_level, role_takes, takes, front, StandsFor, IsRegular}
-use Rattle.ml_text.specs.Machine.{Frame, Held, Left, Stack, State, frame_sort, frame_level, sort_of, level_of, start_state, begin, enter, take_sign, go_on, behind, step, whole_of, close, finish, parse}
+use Rattle.ml_text.specs.Machine.{Frame, Held, Left, Stack, State, frame_sort, frame_level, sort_of, level_of, start_state, begin, enter, take_sign, go_on, behind, step, whole_of, close, finish, parse, popped}
 use Rattle.ml_text.proofs.Levels.{Follows, untaken_follows, left_level-above, left_follows, right_follows, right_untaken}
-
--- what a popped frame makes of its operand
-abbrev pub popped : (g : Grammar) → Frame g → g.Tree → Mode g.Tree g.Wait
-popped g (Held k) v = g.resume k v
-popped g (Left s m o u) v = Whole (g.join o u v)
 
 -- what is parsed behind a step
 abbrev pub parse_on : (g : Grammar) → List g.Sign → Option (State g) → Option g.Tree

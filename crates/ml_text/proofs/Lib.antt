@@ -22,3 +22,5 @@ pub mod Sound
 pub mod Viable
 -- what comes of a text within limits is exact
 pub mod Exact
+-- a step, split as a program does it
+pub mod Reduce

@@ -10,9 +10,9 @@ use Rattle.std.specs.Prelude.{option_and_then}
 use Rattle.std.specs.Option.{option_map}
 use Rattle.std.proofs.lemmas.Bool.{cases_Bool, cond-true, cond-false, cases_lt}
 use Rattle.ml_text.specs.Grammar.{Grammar, Role, Infix, Postfix, Outside, Mode, Whole, More, Turn, Read, Inner, Opens, Part, Level, Operand, Rest, Behind, Reads, alone, joined, postfixed, form, whole, sign, read, inner, opens, left_level, right_level, role_takes, takes, front, StandsFor}
-use Rattle.ml_text.specs.Machine.{Frame, Held, Left, Stack, State, frame_sort, frame_level, sort_of, level_of, start_state, begin, enter, take_sign, behind, step, whole_of, close, finish, parse}
+use Rattle.ml_text.specs.Machine.{Frame, Held, Left, Stack, State, frame_sort, frame_level, sort_of, level_of, start_state, begin, enter, take_sign, behind, step, whole_of, close, finish, parse, popped}
 use Rattle.ml_text.proofs.Levels.{left_level-right_level}
-use Rattle.ml_text.proofs.Complete.{popped, behind-popped, behind-taken}
+use Rattle.ml_text.proofs.Complete.{behind-popped, behind-taken}
 
 -- what a frame on the stack below promises: ts begins what the frame is part of, us the operand that it waits for
 abbrev pub Lifts : (g : Grammar) → Frame g → Stack g → List g.Sign → List g.Sign → Type 0

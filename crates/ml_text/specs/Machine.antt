@@ -5,6 +5,9 @@
 --   Frame               == what is begun: a form that holds an operand, or a left operand with its operator
 --   State g             == what is read of the topmost form, and the stack, topmost frame first
 --   step g m stack t    == the state behind the sign t, if some text goes on so
+--   popped g frame v    == what a popped frame makes of its operand v
+--   reduce g n stack v  == the same with all frames popped whose operand v doesn't take n, the sign that follows
+--   resolve g m stack t == the state behind the sign t, once these are popped
 --   finish g m stack    == the tree, if the text ends here
 --   parse g m stack ts  == the tree, if the text goes on with ts and ends there
 --   run g m stack ts    == the state behind the signs ts
@@ -103,3 +106,28 @@ parse g m stack (t ∷ ts) = option_and_then (λ s. parse g s.0 s.1 ts) (step g 
 abbrev pub run : (g : Grammar) → Mode g.Tree g.Wait → Stack g → List g.Sign → Option (State g)
 run g m stack [] = Some (m, stack)
 run g m stack (t ∷ ts) = option_and_then (λ s. run g s.0 s.1 ts) (step g m stack t)
+
+-- what a popped frame makes of its operand
+abbrev pub popped : (g : Grammar) → Frame g → g.Tree → Mode g.Tree g.Wait
+popped g (Held k) v = g.resume k v
+popped g (Left s m o u) v = Whole (g.join o u v)
+
+-- a popped form that isn't whole stays to be read on
+abbrev pub reduced : (g : Grammar) → (g.Tree → State g) → Mode g.Tree g.Wait → Stack g → State g
+reduced g next (Whole w) stack = next w
+reduced g next (More q) stack = (More q, stack)
+
+abbrev pub reduce : (g : Grammar) → Option g.Sign → Stack g → g.Tree → State g
+reduce g n [] v = (Whole v, [])
+reduce g n (Held k ∷ stack) v =
+    if takes g (g.sort k) (g.level k) n
+    then (Whole v, Held k ∷ stack)
+    else reduced g (λ w. reduce g n stack w) (g.resume k v) stack
+reduce g n (Left s m o u ∷ stack) v =
+    if takes g s (right_level g s m) n
+    then (Whole v, Left s m o u ∷ stack)
+    else reduce g n stack (g.join o u v)
+
+abbrev pub resolve : (g : Grammar) → Mode g.Tree g.Wait → Stack g → g.Sign → Option (State g)
+resolve g (Whole v) stack t = take_sign g stack v t (g.role (sort_of g stack) t)
+resolve g (More q) stack t = enter g stack t (g.shift q t)
