@@ -10,3 +10,11 @@ pub mod Repeats
 pub mod FirstReader
 -- structures of one state at which the formulas of first texts hold
 pub mod FirstModels
+-- the grammar is the one of the tables
+pub mod GrammarTables
+-- the tables are regular and can be completed
+pub mod MuGrammar
+-- the program's stack
+pub mod Stacks
+-- steps behind an operand
+pub mod Steps

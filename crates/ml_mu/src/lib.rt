@@ -8,8 +8,10 @@
 #![tactic(auto)]
 
 mod first_text;
+mod forms;
 mod formula;
 mod printing;
+mod signs;
 mod spelling;
 mod term;
 
