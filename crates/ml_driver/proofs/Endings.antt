@@ -1,13 +1,11 @@
 -- How a call of `run` ends, from what was read and what was due.
 --
 --   ended_written  == a status that is due, with its output written or partly written, ends the call as it should
---   too_long       == a text past the limit is no first text
-use Rattle.std.proofs.Common.{◌≡◌, ℕ, ◌+◌, ◌<◌, List, length, Option, Some, None, refl, sym, ◌∙◌, ap, subst, arith, ⊎_elim}
+--   ended_with     == the same, where the words are a command
+use Rattle.std.proofs.Common.{◌≡◌, ℕ, List, Option, Some, None, refl, sym, subst, ⊎_elim}
 use Rattle.std.specs.Io.KnownBytes.{append_known}
 use Rattle.ml_base.specs.Faults.{Rose}
 use Rattle.ml_base.specs.Whole.{AppendsPart}
-use Rattle.ml_mu.specs.Formula.{Formula}
-use Rattle.ml_mu.specs.FirstText.{StandsFor, longest_text}
 use Rattle.ml_driver.specs.declared.command.Command.{Command}
 use Rattle.ml_driver.specs.declared.command.Command.TheVariants.{DecideMu}
 use Rattle.ml_driver.specs.declared.status.Status.{Status}
@@ -63,9 +61,6 @@ ended_written c w text due output status read calm is_due wrote =
     }
     in subst (Ended c w) (sym part.0) failed)
     wrote
-
-pub too_long : (text : List ℕ) → longest_text < length text → (f : Formula) → StandsFor text f → ⊥
-too_long text long f stands = absurd (omega (arith, stands.is_short))
 
 -- a call whose words are a command ends as that command does
 pub ended_with : (c d : Option Command) (w : World) (status : Status) → d ≡ c → Ended c w status → Ended d w status

@@ -1,4 +1,4 @@
-// The worked rows of the first path, over sources and sinks in memory.
+// The worked rows, over sources and sinks in memory.
 ghost use Rattle.std.specs.Prelude.{◌≤◌};
 
 use crate::{Status, run};
@@ -62,22 +62,80 @@ fn texts(rt: HostRuntime) -> Result<(), Fail> {
             0,
             "mlsolver 1\nanswer satisfiable\nlogic mu\nsense plain\nformula !p\nstates 1\nstart 0\nstate 0\nend\n",
         ),
-        ("decide mu", "p & !p", 4, "refused form\n"),
+        (
+            "decide mu",
+            "tt",
+            0,
+            "mlsolver 1\nanswer satisfiable\nlogic mu\nsense plain\nformula tt\nstates 1\nstart 0\nstate 0\nend\n",
+        ),
+        (
+            "decide mu",
+            "p && q /\\ r",
+            0,
+            "mlsolver 1\nanswer satisfiable\nlogic mu\nsense plain\nformula ((p & q) & r)\nstates 1\nstart 0\nstate 0 p q r\nend\n",
+        ),
+        (
+            "decide mu",
+            "~(p | q)",
+            0,
+            "mlsolver 1\nanswer satisfiable\nlogic mu\nsense plain\nformula !(p | q)\nstates 1\nstart 0\nstate 0\nend\n",
+        ),
+        (
+            "decide mu",
+            "p & (p -> q)",
+            0,
+            "mlsolver 1\nanswer satisfiable\nlogic mu\nsense plain\nformula (p & (p -> q))\nstates 1\nstart 0\nstate 0 p q\nend\n",
+        ),
+        (
+            "decide mu",
+            "(p <-> q) & !p & (q | r)",
+            0,
+            "mlsolver 1\nanswer satisfiable\nlogic mu\nsense plain\nformula (((p <-> q) & !p) & (q | r))\nstates 1\nstart 0\nstate 0 r\nend\n",
+        ),
+        (
+            "decide mu",
+            "ff | p",
+            0,
+            "mlsolver 1\nanswer satisfiable\nlogic mu\nsense plain\nformula (ff | p)\nstates 1\nstart 0\nstate 0 p\nend\n",
+        ),
+        (
+            "decide mu",
+            "p & !p",
+            1,
+            "mlsolver 1\nanswer unsatisfiable\nlogic mu\nsense plain\nformula (p & !p)\nend\n",
+        ),
+        (
+            "decide mu",
+            "ff",
+            1,
+            "mlsolver 1\nanswer unsatisfiable\nlogic mu\nsense plain\nformula ff\nend\n",
+        ),
+        (
+            "decide mu",
+            "!(p -> (q -> p))",
+            1,
+            "mlsolver 1\nanswer unsatisfiable\nlogic mu\nsense plain\nformula !(p -> (q -> p))\nend\n",
+        ),
+        (
+            "decide mu",
+            "(p | q) & (p -> r) & (q -> r) & !r",
+            1,
+            "mlsolver 1\nanswer unsatisfiable\nlogic mu\nsense plain\nformula ((((p | q) & (p -> r)) & (q -> r)) & !r)\nend\n",
+        ),
         ("decide mu", "<>p", 4, "refused form\n"),
-        ("decide mu", "p q", 4, "refused form\n"),
-        ("decide mu", "p &", 4, "refused form\n"),
-        ("decide mu", "", 4, "refused form\n"),
-        ("decide mu", "!!p", 4, "refused form\n"),
-        ("decide mu", "p && q", 4, "refused form\n"),
-        ("decide mu", "~p", 4, "refused form\n"),
-        ("decide mu", "tt", 4, "refused form\n"),
-        ("decide mu", "P", 4, "refused form\n"),
+        ("decide mu", "[] ff", 4, "refused form\n"),
+        ("decide mu", "nu X. X", 4, "refused form\n"),
         (
             "decide mu",
             "a&b&c&d&e&f&g&h&i&j&k&l&m&n&o&p&q",
             4,
             "refused form\n",
         ),
+        ("decide mu", "p q", 4, "refused text rule 1 at 2\n"),
+        ("decide mu", "p &", 4, "refused text rule 1 at 3\n"),
+        ("decide mu", "", 4, "refused text rule 1 at 0\n"),
+        ("decide mu", "X", 4, "refused text rule 2 at 0\n"),
+        ("decide mu", "mu X. !X", 4, "refused text rule 3 at 7\n"),
         ("decide", "p", 3, "refused words\n"),
         ("decide mu mu", "p", 3, "refused words\n"),
         ("decide mu --limit 0", "p", 3, "refused words\n"),
@@ -98,20 +156,34 @@ fn texts(rt: HostRuntime) -> Result<(), Fail> {
 
 #[test]
 fn lengths(rt: HostRuntime) -> Result<(), Fail> {
-    let name = vec![in rt.alloc(); b'p'; 64]?;
-    let (code, _) = answer(rt.alloc(), "decide mu", &name, 100, &[], &[])?;
-    assert_eq!(rt; code, 0);
-    let longer = vec![in rt.alloc(); b'p'; 65]?;
-    let (code, taken) = answer(rt.alloc(), "decide mu", &longer, 100, &[], &[])?;
-    assert_eq!(rt; code, 4);
-    assert_eq!(rt; taken.as_slice(), b"refused form\n".as_slice());
-    let mut blanks = vec![in rt.alloc(); b' '; 1_048_575]?;
-    blanks.push(b'p')?;
-    let (code, _) = answer(rt.alloc(), "decide mu", &blanks, 100_000, &[], &[])?;
-    assert_eq!(rt; code, 0);
-    blanks.push(b' ')?;
-    let (code, _) = answer(rt.alloc(), "decide mu", &blanks, 100_000, &[], &[])?;
-    assert_eq!(rt; code, 4);
+    let rows = [
+        (
+            b"p".as_slice(),
+            b" & p".as_slice(),
+            499,
+            b"".as_slice(),
+            0,
+            b"".as_slice(),
+        ),
+        (b"p", b" & p", 500, b"", 4, b"refused text rule 4 at 2000\n"),
+        (b"", b"(", 1001, b"p", 4, b"refused text rule 5 at 1000\n"),
+        (b"", b"p", 64, b"", 0, b""),
+        (b"", b"p", 65, b"", 4, b"refused text rule 6 at 0\n"),
+        (b"", b" ", 1_048_575, b"p", 0, b""),
+        (b"", b" ", 1_048_577, b"", 4, b"refused length\n"),
+    ];
+    for (front, middle, times, back, status, output) in rows {
+        let mut text = Vec::from_slice(rt.alloc(), front)?;
+        for _ in 0..times {
+            text.extend_from_slice(middle)?;
+        }
+        text.extend_from_slice(back)?;
+        let (code, taken) = answer(rt.alloc(), "decide mu", &text, 100_000, &[], &[])?;
+        assert_eq!(rt; code, status);
+        if status == 4 {
+            assert_eq!(rt; taken.as_slice(), output);
+        }
+    }
     Ok(())
 }
 

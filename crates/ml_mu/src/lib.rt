@@ -10,6 +10,7 @@
 mod first_text;
 mod forms;
 mod formula;
+mod parse_stub;
 mod printing;
 mod signs;
 mod spelling;
@@ -17,5 +18,6 @@ mod term;
 
 pub use first_text::parse_plain;
 pub use formula::Formula;
+pub use parse_stub::parse;
 pub use printing::print;
 pub use term::Term;
