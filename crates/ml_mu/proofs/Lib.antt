@@ -16,3 +16,7 @@ pub mod MuGrammar
 pub mod Stacks
 -- steps behind an operand
 pub mod Steps
+-- names in texts
+pub mod Names
+-- what comes of an item
+pub mod Items

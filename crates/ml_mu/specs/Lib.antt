@@ -38,3 +38,5 @@ pub mod Parsing
 pub mod SignViews
 -- the forms and states that the program holds
 pub mod FormViews
+-- what is read of a text
+pub mod ReadingViews

@@ -11,6 +11,8 @@ mod first_text;
 mod forms;
 mod formula;
 mod printing;
+mod progress;
+mod reading;
 mod signs;
 mod spelling;
 mod term;
