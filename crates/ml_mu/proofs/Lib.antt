@@ -20,3 +20,7 @@ pub mod Steps
 pub mod Names
 -- what comes of an item
 pub mod Items
+-- what a text counts is what its formula has
+pub mod Counting
+-- names are spelled as they must be
+pub mod Spelled
