@@ -24,3 +24,5 @@ pub mod Items
 pub mod Counting
 -- names are spelled as they must be
 pub mod Spelled
+-- variables that are fine are bound and positive
+pub mod Fine
