@@ -26,3 +26,5 @@ pub mod Counting
 pub mod Spelled
 -- variables that are fine are bound and positive
 pub mod Fine
+-- from what was read to what parse answers
+pub mod Parsed

@@ -329,3 +329,18 @@ pub exact : (g : Grammar) (R : List g.Sign → g.Tree → Type 0) → Fits g R �
 exact g R fits items end =
     exact_from g R fits items [] items end (start_state g g.whole, []) 0 0 refl refl
     (record { split = refl; ran = refl; few = omega arith; flat = omega arith; clean = λ c k less fault. absurd (omega arith) })
+
+-- ---- texts without a count fault
+
+few_from : {Sign : Type 0} (items before rest : List (Item Sign)) → items ≡ before ++ rest → counted before ≤ most_occurrences → ((k : ℕ) → IsCountFault items k → ⊥) → counted items ≤ most_occurrences
+few_from items before [] split few none = omega (arith, few, ap counted (split ∙ append-nil before))
+few_from items before (i ∷ rest) split few none =
+    let here : counted (take (length before + 1) items) ≡ counted before + i.weight = ap counted (take_one items before i rest split) ∙ counted-last before i in
+    let back : counted (take (length before) items) ≡ counted before = ap counted (take_all items before (i ∷ rest) split) in
+    ⊎_elim
+    (λ (passes : most_occurrences < counted before + i.weight). absurd (none (length before) (record { within = within_here items before i rest split; before = omega (arith, few, back); passes = omega (arith, passes, here) })))
+    (λ (fits : counted before + i.weight ≤ most_occurrences). few_from items (before ++ i ∷ []) rest (split ∙ sym (append_assoc before (i ∷ []) rest)) (omega (arith, fits, counted-last before i)) none)
+    (cases_lt most_occurrences (counted before + i.weight))
+
+pub few_items : {Sign : Type 0} (items : List (Item Sign)) → ((k : ℕ) → IsCountFault items k → ⊥) → counted items ≤ most_occurrences
+few_items items none = few_from items [] items refl (omega arith) none
