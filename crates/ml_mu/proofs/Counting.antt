@@ -22,7 +22,7 @@ use Rattle.ml_mu.specs.Grammar as grammar
 use Rattle.ml_mu.specs.Grammar.{Reads, iff_alone, iff, imp_alone, imp, or_alone, or, and_alone, and, negation, modal, modal_blank, binder, group, constant, proposition, variable}
 use Rattle.ml_mu.specs.Spelling.{is_proposition, is_variable, is_action, is_spelled, is_word_from, is_reserved}
 use Rattle.ml_mu.specs.Text.{weight_of, silences, item_by, sign_at, items_from, places_from, with_place}
-use Rattle.ml_mu.specs.VariableFaults.{Around, standing_of, standings_in, standings}
+use Rattle.ml_mu.specs.VariableFaults.{Standing, Fine, Unbound, NotPositive, Around, standing_of, standings_in, standings, fault_at}
 
 -- ---- occurrences
 
@@ -138,3 +138,10 @@ length-standings bs n i (plain.Binary operator.Implies f g) = standings_both _ _
 length-standings bs n i (plain.Binary operator.Iff f g) = standings_both _ _ _ _ (length-standings bs n (i + 1) f) (length-standings bs n (i + 1) g)
 length-standings bs n i (plain.Modal m a f) = length-standings bs n i f
 length-standings bs n i (plain.Binder q x f) = length-standings (record { name = x; negations = n; iffs = i } ∷ bs) n i f
+
+-- where no place is left, no variable is at fault
+pub no_place : (ss : List Standing) → fault_at ss [] ≡ None
+no_place [] = refl
+no_place (Fine ∷ ss) = refl
+no_place (Unbound ∷ ss) = refl
+no_place (NotPositive ∷ ss) = refl

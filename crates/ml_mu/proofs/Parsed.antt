@@ -5,6 +5,9 @@
 --   refused_first    == a refusal comes first
 --   accepted_small   == an accepted formula keeps the limit on occurrences, and its names are spelled
 --   accepted_fine    == an accepted formula without faults is well formed
+--   fault_refused    == a fault of a variable that was found is the answer
+--   found_parsed     == where none was found, the text is parsed
+--   parsed_well      == what is parsed is well formed
 use Rattle.std.proofs.Common.{◌≡◌, ℕ, suc, ◌+◌, ◌≤◌, Bool, true, false, List, [], ◌∷◌, ◌++◌, length, Option, Some, None, refl, sym, ◌∙◌, ap, subst, arith, MatchResult, Result, Ok, Err}
 use Rattle.std.proofs.lemmas.List.{append-nil}
 use Rattle.ml_base.specs.declared.parse_refusal.ParseRefusal.{ParseRefusal}
@@ -22,6 +25,7 @@ use Rattle.ml_mu.specs.Spelling.{is_spelled}
 use Rattle.ml_mu.specs.Tables.{mu_grammar}
 use Rattle.ml_mu.specs.Text.{items, variable_places}
 use Rattle.ml_mu.specs.VariableFaults.{Standing, Fine, Unbound, NotPositive, standings, fault_at, are_fine}
+use Rattle.ml_mu.specs.VariableViews.{IsFaultOf}
 use Rattle.ml_mu.specs.WellFormed.{IsWellFormed}
 use Rattle.ml_mu.proofs.Counting.{counts, counted_items, count_signs, words_are_variables, variable_words, variables, length-places, length-standings}
 use Rattle.ml_mu.proofs.Fine.{IsWellBound, fine_well}
@@ -85,3 +89,25 @@ no_fault_fine (NotPositive ∷ ss) (at ∷ places) same is = absurd (cc)
 
 pub faultless_fine : (text : List ℕ) (f : Formula) → IsAccepted IsReadAs (items text) f → fault_at (standings f) (variable_places (items text)) ≡ None → are_fine (standings f) ≡ true
 faultless_fine text f accepted is = no_fault_fine (standings f) (variable_places (items text)) (length-faults text f accepted) is
+
+-- ---- the same, as the program has it: the standings of the variables as a list
+
+pub fault_refused : (text : List ℕ) (f : Formula) (ss : List Standing) (e : ParseRefusal) → mu_outcome text ≡ Found f → ss ≡ standings f → IsFaultOf e (fault_at ss (variable_places (items text))) → IsRefusedBy text e
+fault_refused text f ss (refusal.Unbound at) found same is = (f, found_accepted text f found, ap (λ s. fault_at s (variable_places (items text))) (sym same) ∙ is)
+fault_refused text f ss (refusal.NotPositive at) found same is = (f, found_accepted text f found, ap (λ s. fault_at s (variable_places (items text))) (sym same) ∙ is)
+fault_refused text f ss (refusal.Syntax at) found same is = absurd is
+fault_refused text f ss (refusal.TooMany at) found same is = absurd is
+fault_refused text f ss (refusal.TooNested at) found same is = absurd is
+fault_refused text f ss (refusal.NameTooLong at) found same is = absurd is
+fault_refused text f ss refusal.NoMemory found same is = absurd is
+
+pub found_parsed : (text : List ℕ) (f : Formula) (ss : List Standing) → mu_outcome text ≡ Found f → ss ≡ standings f → fault_at ss (variable_places (items text)) ≡ None → IsParsedAs text f
+found_parsed text f ss found same none =
+    let accepted = found_accepted text f found in
+    record { accepted = accepted; fine = faultless_fine text f accepted (ap (λ s. fault_at s (variable_places (items text))) (sym same) ∙ none) }
+
+pub found_small : (text : List ℕ) (f : Formula) → mu_outcome text ≡ Found f → occurrences f ≤ 1000
+found_small text f found = accepted_small text f (found_accepted text f found)
+
+pub parsed_well : (text : List ℕ) (f : Formula) → IsParsedAs text f → IsWellFormed f
+parsed_well text f parsed = accepted_fine text f parsed.accepted parsed.fine

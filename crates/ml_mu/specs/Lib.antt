@@ -40,3 +40,5 @@ pub mod SignViews
 pub mod FormViews
 -- what is read of a text
 pub mod ReadingViews
+-- how the program holds binders and standings
+pub mod VariableViews

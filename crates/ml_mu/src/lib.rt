@@ -7,17 +7,22 @@
 // and the program.
 #![tactic(auto)]
 
+mod copying;
 mod first_text;
 mod forms;
 mod formula;
+mod parsing;
 mod printing;
 mod progress;
 mod reading;
 mod signs;
 mod spelling;
 mod term;
+mod variables;
 
+pub use copying::{copy, occurrences};
 pub use first_text::parse_plain;
 pub use formula::Formula;
+pub use parsing::parse;
 pub use printing::print;
 pub use term::Term;

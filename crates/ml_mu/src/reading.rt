@@ -16,7 +16,7 @@ ghost use Rattle.ml_mu.specs.Text as text_items;
 use crate::Term;
 use crate::forms::{Mode, Wait, finish, step};
 use crate::progress::Progress;
-use crate::signs::{Kind, kind_of, sign_of};
+use crate::signs::{Kind, kind_of, sign_of, silences};
 use ml_base::ParseRefusal;
 use ml_text::{Operator, Placed, Token, WordStart, next_token};
 use std::alloc::Global;
@@ -51,13 +51,6 @@ fn counted(kind: Kind, silent: bool) -> u32
     ensures small { result ≤ 3 }
 {
     if silent { 0 } else { weight(kind) }
-}
-
-// is the word behind this token no occurrence?
-fn silences(kind: Kind) -> bool
-    ensures { (word : List ℕ) → result ≡ text_items.silences (named kind word) }
-{
-    matches!(kind, Kind::Begins(_) | Kind::Binds(_))
 }
 
 // how many parentheses are open behind a token
