@@ -18,10 +18,6 @@ pub mod WellFormed
 pub mod FormulaCode
 -- the head of a document
 pub mod Head
--- the first texts that are read
-pub mod FirstText
--- how they are read
-pub mod FirstReading
 -- the signs of texts
 pub mod Signs
 -- the grammar of texts
@@ -38,3 +34,7 @@ pub mod Parsing
 pub mod SignViews
 -- the forms and states that the program holds
 pub mod FormViews
+-- what is read of a text
+pub mod ReadingViews
+-- how the program holds binders and standings
+pub mod VariableViews

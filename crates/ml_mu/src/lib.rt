@@ -1,23 +1,26 @@
 // The modal mu-calculus: its formulas, their meaning over Kripke structures, and their texts.
 //
-// Begin with `Formula`, which contracts see as the plain formula of `specs/Formula.antt`; `print` gives its
-// canonical text, and `parse_plain` reads the first texts, conjunctions of literals. What a formula
-// means stands in `specs/Meaning.antt`, what a problem is in `specs/Problem.antt`.
+// Begin with `Formula`, which contracts see as the plain formula of `specs/Formula.antt`; `parse` reads a text, with
+// the grammar of `specs/Grammar.antt`, and `print` gives the canonical text. What a formula means stands in
+// `specs/Meaning.antt`, what a problem is in `specs/Problem.antt`.
 // Below stand `ml_base` (names, structures) and `ml_text` (tokens); above stand the graph of a formula
 // and the program.
 #![tactic(auto)]
 
-mod first_text;
+mod copying;
 mod forms;
 mod formula;
-mod parse_stub;
+mod parsing;
 mod printing;
+mod progress;
+mod reading;
 mod signs;
 mod spelling;
 mod term;
+mod variables;
 
-pub use first_text::parse_plain;
+pub use copying::{copy, occurrences};
 pub use formula::Formula;
-pub use parse_stub::parse;
+pub use parsing::parse;
 pub use printing::print;
 pub use term::Term;

@@ -1,7 +1,8 @@
 // The signs of mu texts: tokens as the grammar sees them.
-ghost use Rattle.std.specs.Prelude.{◌≡◌, ◌≤◌, IfOk, length};
+ghost use Rattle.std.specs.Prelude.{◌≡◌, ℕ, IfOk, List};
 ghost use Rattle.ml_mu.specs.Signs as grammar;
 ghost use Rattle.ml_mu.specs.SignViews.{named, sign_view};
+ghost use Rattle.ml_mu.specs.Text.{silences};
 
 use crate::spelling::{is_proposition, is_variable};
 use ml_base::{Name, NameRefusal, NoMemory};
@@ -103,6 +104,13 @@ pub(crate) fn kind_of(token: Token, bytes: &[u8]) -> Kind
         Token::Word => word_kind(bytes),
         Token::Byte(byte) => byte_kind(byte),
     }
+}
+
+/// Is the word behind this token no occurrence, but an action or the variable of a binder?
+pub(crate) fn silences(kind: Kind) -> bool
+    ensures { (word : List ℕ) → result ≡ silences (named kind word) }
+{
+    matches!(kind, Kind::Begins(_) | Kind::Binds(_))
 }
 
 // a name of at most 64 bytes

@@ -247,7 +247,7 @@ limit_by count depth i false true c x y z = too_nested (ltb-false most_occurrenc
 limit_by count depth i false false true x y z = too_long (ltb-false most_occurrences count x) (ltb-false most_open depth y) z
 limit_by count depth i false false false x y z = keeps_all (record { few = ltb-false most_occurrences count x; flat = ltb-false most_open depth y; short = z })
 
-limit : {Sign : Type 0} (count depth : ℕ) (i : Item Sign) → Limit count depth i (cause_at count depth i)
+limit : {Sign : Type 0} (count depth : ℕ) (i : Item Sign) → Limit count depth i (cause_at count depth i.is_long)
 limit count depth i = limit_by count depth i (nat_lt most_occurrences count) (nat_lt most_open depth) i.is_long refl refl refl
 
 -- the outcome at an item that goes on
@@ -267,11 +267,11 @@ item_outcome g R fits items before rest i end s next _ later p goes (too_long fe
     (least_name g R items (length before) (no_syntax_here g R fits items before rest i s next p goes) (no_count_here g items before rest i p.split few) (no_nesting_here g items before rest i p.split flat))
     (name_here items before rest i p.split ∙ long)
 
-next_exact : (g : Grammar) (R : List g.Sign → g.Tree → Type 0) → Fits g R → (items before rest : List (Item g.Sign)) (i : Item g.Sign) (end : ℕ) (s : State g) (o : Option (State g)) (later : State g → Outcome g.Tree) → Progress g R items before (i ∷ rest) s → step g s.0 s.1 i.sign ≡ o → ((next : State g) → Progress g R items (before ++ i ∷ []) rest next → IsOutcome g R items end (later next)) → IsOutcome g R items end (next_outcome later (cause_at (counted before + i.weight) (open_behind_one i.bracket (open_behind before)) i) o i.at)
+next_exact : (g : Grammar) (R : List g.Sign → g.Tree → Type 0) → Fits g R → (items before rest : List (Item g.Sign)) (i : Item g.Sign) (end : ℕ) (s : State g) (o : Option (State g)) (later : State g → Outcome g.Tree) → Progress g R items before (i ∷ rest) s → step g s.0 s.1 i.sign ≡ o → ((next : State g) → Progress g R items (before ++ i ∷ []) rest next → IsOutcome g R items end (later next)) → IsOutcome g R items end (next_outcome later (cause_at (counted before + i.weight) (open_behind_one i.bracket (open_behind before)) i.is_long) o i.at)
 next_exact g R fits items before rest i end s None later p goes go =
     refused_item g R items before rest i end s Syntax p (λ d fault. least_syntax d) (syntax_here g R fits items before rest i s p goes)
 next_exact g R fits items before rest i end s (Some next) later p goes go =
-    item_outcome g R fits items before rest i end s next (cause_at (counted before + i.weight) (open_behind_one i.bracket (open_behind before)) i) later p goes (limit (counted before + i.weight) (open_behind_one i.bracket (open_behind before)) i) (go next)
+    item_outcome g R fits items before rest i end s next (cause_at (counted before + i.weight) (open_behind_one i.bracket (open_behind before)) i.is_long) later p goes (limit (counted before + i.weight) (open_behind_one i.bracket (open_behind before)) i) (go next)
 
 -- ---- the end
 
@@ -329,3 +329,18 @@ pub exact : (g : Grammar) (R : List g.Sign → g.Tree → Type 0) → Fits g R �
 exact g R fits items end =
     exact_from g R fits items [] items end (start_state g g.whole, []) 0 0 refl refl
     (record { split = refl; ran = refl; few = omega arith; flat = omega arith; clean = λ c k less fault. absurd (omega arith) })
+
+-- ---- texts without a count fault
+
+few_from : {Sign : Type 0} (items before rest : List (Item Sign)) → items ≡ before ++ rest → counted before ≤ most_occurrences → ((k : ℕ) → IsCountFault items k → ⊥) → counted items ≤ most_occurrences
+few_from items before [] split few none = omega (arith, few, ap counted (split ∙ append-nil before))
+few_from items before (i ∷ rest) split few none =
+    let here : counted (take (length before + 1) items) ≡ counted before + i.weight = ap counted (take_one items before i rest split) ∙ counted-last before i in
+    let back : counted (take (length before) items) ≡ counted before = ap counted (take_all items before (i ∷ rest) split) in
+    ⊎_elim
+    (λ (passes : most_occurrences < counted before + i.weight). absurd (none (length before) (record { within = within_here items before i rest split; before = omega (arith, few, back); passes = omega (arith, passes, here) })))
+    (λ (fits : counted before + i.weight ≤ most_occurrences). few_from items (before ++ i ∷ []) rest (split ∙ sym (append_assoc before (i ∷ []) rest)) (omega (arith, fits, counted-last before i)) none)
+    (cases_lt most_occurrences (counted before + i.weight))
+
+pub few_items : {Sign : Type 0} (items : List (Item Sign)) → ((k : ℕ) → IsCountFault items k → ⊥) → counted items ≤ most_occurrences
+few_items items none = few_from items [] items refl (omega arith) none

@@ -2,7 +2,7 @@
 -- refused is said in `Refusals.antt`.
 --
 --   Outcome                                == the tree, or a cause with its offset
---   cause_at count open i                  == the limit that the item i passes, if any
+--   cause_at count open is_long            == the limit that an item passes behind which these are counted, if any
 --   outcome g end m stack count open items == what comes of the items from this state on
 use Rattle.std.specs.Prelude.{ℕ, ◌+◌, Bool, true, false, if◌then◌else◌, nat_lt, List, [], ◌∷◌, Option, Some, None}
 use Rattle.ml_text.specs.Grammar.{Grammar, Mode}
@@ -14,11 +14,11 @@ pub data Outcome (Tree : Type 0) : Type 0 where
   Refused : Cause → ℕ → Outcome Tree
 
 -- what is counted behind an item: occurrences, and open parentheses; and the limit that it passes, if any
-abbrev pub cause_at : {Sign : Type 0} → ℕ → ℕ → Item Sign → Option Cause
-cause_at count depth i =
+abbrev pub cause_at : ℕ → ℕ → Bool → Option Cause
+cause_at count depth is_long =
     if nat_lt most_occurrences count then Some TooMany
     else (if nat_lt most_open depth then Some TooNested
-    else (if i.is_long then Some NameTooLong else None))
+    else (if is_long then Some NameTooLong else None))
 
 abbrev pub next_outcome : {Tree S : Type 0} → (S → Outcome Tree) → Option Cause → Option S → ℕ → Outcome Tree
 next_outcome next c None at = Refused Syntax at
@@ -34,7 +34,7 @@ outcome g end m stack count depth [] = end_outcome end (finish g m stack)
 outcome g end m stack count depth (i ∷ items) =
     next_outcome
     (λ s. outcome g end s.0 s.1 (count + i.weight) (open_behind_one i.bracket depth) items)
-    (cause_at (count + i.weight) (open_behind_one i.bracket depth) i)
+    (cause_at (count + i.weight) (open_behind_one i.bracket depth) i.is_long)
     (step g m stack i.sign)
     i.at
 
