@@ -9,6 +9,7 @@
 #![tactic(auto)]
 
 mod ascending;
+pub mod laws;
 mod model;
 mod structure;
 mod write;

@@ -13,12 +13,11 @@ loop-state-preserved c =
     let row = c.index-rows-state.result in
     let here : s < length rows = omega (arith, length-map c.args.rows.now (λ row. row.items)) in
     let is : labels ≡ get_or rows s labels =
-        c.deref.ensures.value ∙ ap (λ row. row.items) c.index-rows-state.is
-        ∙ sym (get_or-map (λ row. row.items) c.args.rows.now s row labels c.loop-state-test.true) in
-    (
+    c.deref.ensures.value ∙ ap (λ row. row.items) c.index-rows-state.is
+    ∙ sym (get_or-map (λ row. row.items) c.args.rows.now s row labels c.loop-state-test.true) in (
       states_more rows s labels c.loop-state.out.items c.write_state.new.out.items _ here is c.loop-state.invariant.0
-        c.in_ok-write_state.ensures.text,
-      All-more_read (All IsName) rows s labels here is c.in_ok-write_state.ensures.named c.loop-state.invariant.1
+          c.in_ok-write_state.ensures.text,
+      All-more_read (All IsName) rows s labels here is c.in_ok-write_state.ensures.named c.loop-state.invariant.1,
     )
 
 pub returns-clause-named : goal.returns-clause-named
