@@ -53,18 +53,20 @@ taken_count store n = min store.piece (min n (store.room - length store.taken))
 -- a call that fails gives nothing and is counted as a fault; any other gives what it can
 abbrev pub after_read : Feed → ℕ → Feed
 after_read feed n = record {
-    left = if is_due feed.fails feed.calls then feed.left else drop (given_count feed n) feed.left;
-    piece = feed.piece;
-    fails = feed.fails;
-    calls = count_on feed.calls;
-    faults = if is_due feed.fails feed.calls then count_on feed.faults else feed.faults }
+  left = if is_due feed.fails feed.calls then feed.left else drop (given_count feed n) feed.left;
+  piece = feed.piece;
+  fails = feed.fails;
+  calls = count_on feed.calls;
+  faults = if is_due feed.fails feed.calls then count_on feed.faults else feed.faults;
+}
 
 -- a call that fails takes nothing and is counted as a fault; any other takes what it can
 abbrev pub after_write : Store → List ℕ → Store
 after_write store bs = record {
-    taken = if refuses store then store.taken else store.taken ++ take (taken_count store (length bs)) bs;
-    room = store.room;
-    piece = store.piece;
-    fails = store.fails;
-    calls = count_on store.calls;
-    faults = if refuses store then count_on store.faults else store.faults }
+  taken = if refuses store then store.taken else store.taken ++ take (taken_count store (length bs)) bs;
+  room = store.room;
+  piece = store.piece;
+  fails = store.fails;
+  calls = count_on store.calls;
+  faults = if refuses store then count_on store.faults else store.faults;
+}

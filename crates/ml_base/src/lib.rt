@@ -10,12 +10,14 @@
 
 pub mod memory;
 mod name;
-mod name_order;
 mod no_memory;
+mod order;
 mod sink;
 mod source;
 pub mod streams;
 mod structure;
+#[cfg(test)]
+mod tests;
 pub mod whole;
 
 pub use memory::{MemSink, MemSource};

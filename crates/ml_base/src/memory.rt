@@ -1,6 +1,5 @@
 // A source and a sink in memory, with pieces of a chosen size and chosen calls that fail.
-ghost use Rattle.std.specs.Prelude.{◌≡◌, ℕ, ◌<◌, ◌≤◌, ◌↔◌, [], length, take, Some, IfOk, IfSome, IsErr, IsTrue, OnOk, OnErr};
-ghost use Rattle.std.specs.Io.KnownBytes.{Appends, Consumes, Keeps};
+ghost use Rattle.std.specs.Prelude.{◌≡◌, ℕ, ◌<◌, ◌≤◌, ◌↔◌, [], ◌++◌, length, take, min, Some, IfOk, IsErr, IsTrue, OnOk, OnErr};
 ghost use Rattle.ml_base.specs.Faults.{Rose};
 ghost use Rattle.ml_base.specs.Memory.{Feed, Store, is_due, refuses, given_count, taken_count, after_read, after_write};
 
@@ -22,19 +21,21 @@ pub struct MemSource {
 }
 
 impl Model for MemSource {
-    ghost use Rattle.std.specs.Prelude.{◌≤◌, ◌<◌, drop, vec_len};
+    ghost use Rattle.std.specs.Prelude.{◌≡◌, ◌≤◌, ◌<◌, [], drop, vec_len};
     ghost use Rattle.ml_base.specs.Memory.{Feed};
 
     ghost Value = { Feed };
 
     ghost view = { λ s. record {
-        left = drop s.given s.bytes.items;
-        piece = s.piece;
-        fails = s.fails.items;
-        calls = s.calls;
-        faults = s.faults } };
+      left = drop s.given s.bytes.items;
+      piece = s.piece;
+      fails = s.fails.items;
+      calls = s.calls;
+      faults = s.faults;
+    } };
 
-    ghost invariant = { λ s. (s.given ≤ vec_len s.bytes) × (0 < s.piece) };
+    ghost invariant = { λ s. (s.given ≤ vec_len s.bytes) × (0 < s.piece)
+        × (s.fails.items ≡ [] → s.faults ≡ 0) };
 }
 
 impl MemSource {
@@ -61,19 +62,20 @@ impl Source for MemSource {
     ghost faults = { λ s. s.faults };
 
     fn read(&mut self, buf: &mut [u8]) -> Result<usize, Failed>
+        requires { 0 < length buf.old }
+
         // As for every source.
         ensures within { IfOk result (λ count. count ≤ length buf.old) }
-        ensures given { IfOk result (λ count.
-            Consumes (Some self.old.left) (Some self.new.left) (take count buf.new)) }
-        ensures end { IfOk result (λ count.
-            IfSome (Some self.old.left) (λ left. (count ≡ 0) ↔ (left ≡ []))) }
-        ensures kept { OnErr result (Keeps (Some self.old.left) (Some self.new.left)) }
+        ensures given { IfOk result (λ count. self.old.left ≡ take count buf.new ++ self.new.left) }
+        ensures end { IfOk result (λ count. (count ≡ 0) ↔ (self.old.left ≡ [])) }
+        ensures kept { OnErr result (self.new.left ≡ self.old.left) }
         ensures calm { OnOk result (self.new.faults ≡ self.old.faults) }
         ensures fault { OnErr result (Rose self.old.faults self.new.faults) }
 
         // What this source does, exactly.
         ensures fails { IsErr result ↔ IsTrue (is_due self.old.fails self.old.calls) }
         ensures count { IfOk result (λ count. count ≡ given_count self.old (length buf.old)) }
+        ensures faultless { self.old.fails ≡ [] → self.new.faults ≡ 0 }
         ensures after { self.new ≡ after_read self.old (length buf.old) }
     {
         let is_due = is_due(&self.fails, self.calls);
@@ -82,9 +84,7 @@ impl Source for MemSource {
             self.faults = self.faults.saturating_add(1);
             return Err(Failed);
         }
-        let left = &self.bytes[self.given..];
-        let count = left.len().min(buf.len()).min(self.piece as usize);
-        buf[..count].copy_from_slice(&left[..count]);
+        let count = copy_front(&self.bytes[self.given..], self.piece, buf);
         self.given += count;
         Ok(count)
     }
@@ -102,20 +102,22 @@ pub struct MemSink {
 }
 
 impl Model for MemSink {
-    ghost use Rattle.std.specs.Prelude.{◌≤◌, ◌<◌, vec_len, vec_capacity};
+    ghost use Rattle.std.specs.Prelude.{◌≡◌, ◌≤◌, ◌<◌, [], vec_len, vec_capacity};
     ghost use Rattle.ml_base.specs.Memory.{Store};
 
     ghost Value = { Store };
 
     ghost view = { λ s. record {
-        taken = s.taken.items;
-        room = s.room;
-        piece = s.piece;
-        fails = s.fails.items;
-        calls = s.calls;
-        faults = s.faults } };
+      taken = s.taken.items;
+      room = s.room;
+      piece = s.piece;
+      fails = s.fails.items;
+      calls = s.calls;
+      faults = s.faults;
+    } };
 
-    ghost invariant = { λ s. (vec_len s.taken ≤ s.room) × (s.room ≤ vec_capacity s.taken) × (0 < s.piece) };
+    ghost invariant = { λ s. (vec_len s.taken ≤ s.room) × (s.room ≤ vec_capacity s.taken) × (0 < s.piece)
+        × (s.fails.items ≡ [] → vec_len s.taken < s.room → s.faults ≡ 0) };
 }
 
 impl MemSink {
@@ -160,15 +162,15 @@ impl Sink for MemSink {
         // As for every sink.
         ensures some { IfOk result (λ count. 0 < count) }
         ensures within { IfOk result (λ count. count ≤ length piece.now) }
-        ensures appended { IfOk result (λ count.
-            Appends (Some self.old.taken) (Some self.new.taken) (take count piece.now)) }
-        ensures kept { OnErr result (Keeps (Some self.old.taken) (Some self.new.taken)) }
+        ensures appended { IfOk result (λ count. self.new.taken ≡ self.old.taken ++ take count piece.now) }
+        ensures kept { OnErr result (self.new.taken ≡ self.old.taken) }
         ensures calm { OnOk result (self.new.faults ≡ self.old.faults) }
         ensures fault { OnErr result (Rose self.old.faults self.new.faults) }
 
         // What this sink does, exactly.
         ensures fails { IsErr result ↔ IsTrue (refuses self.old) }
         ensures count { IfOk result (λ count. count ≡ taken_count self.old (length piece.now)) }
+        ensures faultless { self.old.fails ≡ [] → length self.old.taken < self.old.room → self.new.faults ≡ 0 }
         ensures after { self.new ≡ after_write self.old piece.now }
     {
         let is_due = is_due(&self.fails, self.calls);
@@ -182,6 +184,16 @@ impl Sink for MemSink {
         self.taken.extend_from_slice(&piece[..count]).unwrap();
         Ok(count)
     }
+}
+
+// Copies as many bytes as the piece and the buffer allow to the front of the buffer, and says how many.
+fn copy_front(left: &[u8], piece: u32, buf: &mut [u8]) -> usize
+    ensures count { result ≡ min piece (min (length buf.old) (length left.now)) }
+    ensures copied { take result buf.new ≡ take result left.now }
+{
+    let count = left.len().min(buf.len()).min(piece as usize);
+    buf[..count].copy_from_slice(&left[..count]);
+    count
 }
 
 // After so many calls, the number of the next one stands in the list.

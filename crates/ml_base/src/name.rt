@@ -1,9 +1,10 @@
 // Names and actions.
 ghost use Rattle.std.specs.Prelude.{◌≡◌, IfOk, OnOk, IsErrOf};
+ghost use Rattle.std.specs.List.{list_all};
 ghost use Rattle.ml_base.specs.Name as name;
 
 use crate::no_memory::NoMemory;
-use std::alloc::Global;
+use std::alloc::{AllocError, Global};
 use std::marker::Model;
 use thiserror::Error;
 
@@ -23,6 +24,16 @@ impl From<NoMemory> for NameRefusal {
     ghost from_gives = { λ _ e. e ≡ refusal.NoMemory };
 
     fn from(_: NoMemory) -> NameRefusal {
+        NameRefusal::NoMemory
+    }
+}
+
+impl From<AllocError> for NameRefusal {
+    ghost use Rattle.ml_base.specs.declared.name.NameRefusal.TheVariants as refusal;
+
+    ghost from_gives = { λ _ e. e ≡ refusal.NoMemory };
+
+    fn from(_: AllocError) -> NameRefusal {
         NameRefusal::NoMemory
     }
 }
@@ -62,7 +73,7 @@ impl Name {
             return Err(NameRefusal::NotAName);
         }
         Ok(Name {
-            bytes: copied(alloc, text)?,
+            bytes: Vec::from_slice(alloc, text)?,
         })
     }
 
@@ -81,8 +92,16 @@ impl Name {
     pub fn copy(&self) -> Result<Name, NoMemory>
         ensures { IfOk result (λ n. n ≡ self.now) }
     {
+        Ok(self.clone()?)
+    }
+}
+
+impl Clone for Name {
+    ghost is_clone = { λ a b. b ≡ a };
+
+    fn clone(&self) -> Result<Name, AllocError> {
         Ok(Name {
-            bytes: copied(*self.bytes.allocator(), self.bytes())?,
+            bytes: Vec::from_slice(*self.bytes.allocator(), self.bytes())?,
         })
     }
 }
@@ -120,7 +139,7 @@ impl Action {
             return Err(NameRefusal::NotAName);
         }
         Ok(Action {
-            bytes: copied(alloc, text)?,
+            bytes: Vec::from_slice(alloc, text)?,
         })
     }
 
@@ -139,23 +158,36 @@ impl Action {
     pub fn copy(&self) -> Result<Action, NoMemory>
         ensures { IfOk result (λ a. a ≡ self.now) }
     {
+        Ok(self.clone()?)
+    }
+}
+
+impl Clone for Action {
+    ghost is_clone = { λ a b. b ≡ a };
+
+    fn clone(&self) -> Result<Action, AllocError> {
         Ok(Action {
-            bytes: copied(*self.bytes.allocator(), self.bytes())?,
+            bytes: Vec::from_slice(*self.bytes.allocator(), self.bytes())?,
         })
     }
 }
 
+#[tactic(auto, using(crate::proofs::Names::is_name_parts))]
 fn is_name(text: &[u8]) -> bool
     ensures { result ≡ name.is_name text.now }
 {
     match text {
         [] => false,
         [first, rest @ ..] => {
-            first.is_ascii_alphabetic()
-                && rest.iter().all(|byte| is_name_byte(*byte))
-                && text.len() <= LONGEST_NAME
+            first.is_ascii_alphabetic() && are_name_bytes(rest) && text.len() <= LONGEST_NAME
         }
     }
+}
+
+fn are_name_bytes(text: &[u8]) -> bool
+    ensures { result ≡ list_all name.is_name_byte text.now }
+{
+    text.iter().all(|byte| is_name_byte(*byte))
 }
 
 fn is_name_byte(byte: u8) -> bool
@@ -171,10 +203,4 @@ fn is_blank_action(text: &[u8]) -> bool
         [byte] => *byte == b'_',
         _ => false,
     }
-}
-
-fn copied(alloc: Global, text: &[u8]) -> Result<Vec<u8>, NoMemory>
-    ensures { IfOk result (λ bytes. bytes.items ≡ text.now) }
-{
-    Ok(Vec::from_slice(alloc, text)?)
 }

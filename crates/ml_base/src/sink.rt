@@ -1,13 +1,13 @@
 // Where bytes go.
 ghost use Rattle.std.specs.Prelude.{◌≡◌, ℕ, ◌<◌, ◌≤◌, List, length, take, Option, IfOk, OnOk, OnErr};
-ghost use Rattle.std.specs.Io.KnownBytes.{Appends, Keeps};
+ghost use Rattle.std.specs.Io.KnownBytes.{append_known};
 ghost use Rattle.ml_base.specs.Faults.{Rose};
 
 use crate::source::Failed;
 
 /// Takes bytes, piece by piece.
 pub trait Sink {
-    // The bytes taken so far, where the sink tells them: one that tells goes on to tell.
+    // The bytes taken so far, where the sink tells them: it tells them always or never.
     ghost taken: { Self → Option (List ℕ) };
 
     // How many faults were counted so far, in 64 bits: see `Rose`.
@@ -25,8 +25,8 @@ pub trait Sink {
 
         // What was taken, where it is told.
         ensures appended { IfOk result (λ count.
-            Appends (taken self.old) (taken self.new) (take count piece.now)) }
-        ensures kept { OnErr result (Keeps (taken self.old) (taken self.new)) }
+            taken self.new ≡ append_known (taken self.old) (take count piece.now)) }
+        ensures kept { OnErr result (taken self.new ≡ taken self.old) }
 
         // The count of faults.
         ensures calm { OnOk result (faults self.new ≡ faults self.old) }

@@ -1,6 +1,6 @@
 // Where bytes come from.
 ghost use Rattle.std.specs.Prelude.{◌≡◌, ℕ, ◌<◌, ◌≤◌, ◌↔◌, List, [], length, take, Option, IfOk, IfSome, OnOk, OnErr};
-ghost use Rattle.std.specs.Io.KnownBytes.{Consumes, Keeps};
+ghost use Rattle.std.specs.Io.KnownBytes.{prepend_known};
 ghost use Rattle.ml_base.specs.Faults.{Rose};
 
 use thiserror::Error;
@@ -12,7 +12,7 @@ pub struct Failed;
 
 /// Gives bytes, piece by piece, up to an end.
 pub trait Source {
-    // The bytes that are left, where the source tells them: one that tells goes on to tell.
+    // The bytes that are left, where the source tells them: it tells them always or never.
     ghost remaining: { Self → Option (List ℕ) };
 
     // How many faults were counted so far, in 64 bits: see `Rose`.
@@ -28,10 +28,10 @@ pub trait Source {
 
         // What is left, where it is told.
         ensures given { IfOk result (λ count.
-            Consumes (remaining self.old) (remaining self.new) (take count buf.new)) }
+            remaining self.old ≡ prepend_known (take count buf.new) (remaining self.new)) }
         ensures end { IfOk result (λ count.
             IfSome (remaining self.old) (λ left. (count ≡ 0) ↔ (left ≡ []))) }
-        ensures kept { OnErr result (Keeps (remaining self.old) (remaining self.new)) }
+        ensures kept { OnErr result (remaining self.new ≡ remaining self.old) }
 
         // The count of faults.
         ensures calm { OnOk result (faults self.new ≡ faults self.old) }

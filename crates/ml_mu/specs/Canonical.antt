@@ -4,7 +4,7 @@
 --   spelling_of op    == `&`, `|`, `->` or `<->`
 --   action_text a     == what stands between the signs of a modality by the action a
 --   canonical_text f  == the canonical text of f
-use Rattle.std.specs.Prelude.{ℕ, Bool, true, false, List, [], ◌++◌, if◌then◌else◌, codes}
+use Rattle.std.specs.Prelude.{ℕ, true, false, List, [], ◌++◌, if◌then◌else◌, codes}
 use Rattle.std.specs.Str.{bytes_eq}
 use Rattle.ml_text.specs.declared.token.Operator.{Operator}
 use Rattle.ml_text.specs.declared.token.Operator.TheVariants.{Iff, Implies, Or, And}

@@ -12,3 +12,13 @@ pub mod Spelling
 pub mod Problem
 -- the canonical text
 pub mod Canonical
+-- the formulas that the program holds
+pub mod WellFormed
+-- the code of formulas
+pub mod FormulaCode
+-- the head of a document
+pub mod Head
+-- the first texts that are read
+pub mod FirstText
+-- how they are read
+pub mod FirstReading

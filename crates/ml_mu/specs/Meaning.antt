@@ -15,7 +15,7 @@
 --   every_edge m a s  == do all edges by the action a from s lead into the set?
 --   meaning m g f     == the set of the states of m at which f holds
 use Rattle.std.specs.Prelude.{ℕ, zero, suc, ◌==◌, Bool, ◌&&◌, ◌||◌, not, if◌then◌else◌, List, [], ◌∷◌, map}
-use Rattle.std.specs.List.{list_any, list_all, zip}
+use Rattle.std.specs.List.{list_any, list_all}
 use Rattle.std.specs.Str.{bytes_eq}
 use Rattle.ml_text.specs.declared.token.Operator.{Operator}
 use Rattle.ml_text.specs.declared.token.Operator.TheVariants.{Iff, Implies, Or, And}

@@ -6,7 +6,7 @@
 --   Problem           == a formula, and whether it is negated
 --   HoldsAt m s p     == the problem p holds at the state s of the structure m
 --   IsSatisfiable p   == some structure, of any number of states, has a state at which p holds
-use Rattle.std.specs.Prelude.{ℕ, ◌<◌, ◌≡◌, Bool, true, false, not, []}
+use Rattle.std.specs.Prelude.{ℕ, ◌<◌, ◌≡◌, Bool, not, []}
 use Rattle.ml_base.specs.Structure.{Structure, IsStructure, is_member}
 use Rattle.ml_mu.specs.Formula.{Formula}
 use Rattle.ml_mu.specs.Meaning.{meaning}

@@ -7,8 +7,13 @@
 // and the program.
 #![tactic(auto)]
 
+mod first_text;
 mod formula;
+mod printing;
+mod spelling;
 mod term;
 
+pub use first_text::parse_plain;
 pub use formula::Formula;
+pub use printing::print;
 pub use term::Term;

@@ -14,7 +14,6 @@
 use Rattle.std.specs.Prelude.{ℕ, ◌+◌, zero, suc, Bool, true, ◌&&◌, nat_lt, nat_eq, List, [], ◌∷◌, length, drop, Option, Some, None, unwrap_or, if◌then◌else◌}
 use Rattle.std.specs.List.{starts_with, take_while}
 use Rattle.ml_text.specs.Bytes.{is_blank, is_letter, is_lower, is_word_byte}
-use Rattle.ml_text.specs.declared.token.Operator.{Operator}
 use Rattle.ml_text.specs.declared.token.Operator.TheVariants as operator
 use Rattle.ml_text.specs.declared.token.Token.{Token}
 use Rattle.ml_text.specs.declared.token.Token.TheVariants as token
@@ -28,7 +27,7 @@ begins_word AnyLetter b = is_letter b
 begins_word LowerCase b = is_lower b
 
 -- !, ~; &, &&, /\; |, ||, \/; ->, =>, ==>; <->, <=>, <==>
-abbrev pub signs : List (List ℕ × Token)
+unfoldable pub signs : List (List ℕ × Token)
 signs =
     (33 ∷ [], token.Not)
     ∷ (126 ∷ [], token.Not)
@@ -52,21 +51,21 @@ is_longer e None = true
 is_longer e (Some best) = nat_lt best.1 (length e.0)
 
 -- the longest of these spellings with which the text begins
-abbrev pub longest_sign : List (List ℕ × Token) → List ℕ → Option (Token × ℕ)
+unfoldable pub longest_sign : List (List ℕ × Token) → List ℕ → Option (Token × ℕ)
 longest_sign [] text = None
 longest_sign (e ∷ es) text =
     let best = longest_sign es text in
     if starts_with nat_eq text e.0 && is_longer e best then Some (e.1, length e.0) else best
 
 -- the longest token at the front of a text that begins with no blank
-abbrev pub front_token : WordStart → ℕ → List ℕ → Token × ℕ
+unfoldable pub front_token : WordStart → ℕ → List ℕ → Token × ℕ
 front_token w b rest =
     if begins_word w b
     then (token.Word, 1 + length (take_while is_word_byte rest))
     else unwrap_or (longest_sign signs (b ∷ rest)) (token.Byte b, 1)
 
 -- the tokens of a text whose first byte stands at this place; the first number bounds the length of the text
-abbrev pub tokens_at : ℕ → WordStart → ℕ → List ℕ → List Placed
+unfoldable pub tokens_at : ℕ → WordStart → ℕ → List ℕ → List Placed
 tokens_at zero w i text = []
 tokens_at (suc n) w i [] = []
 tokens_at (suc n) w i (b ∷ rest) =
@@ -76,8 +75,8 @@ tokens_at (suc n) w i (b ∷ rest) =
     record { token = front.0; start = i; end = i + front.1 }
     ∷ tokens_at n w (i + front.1) (drop front.1 (b ∷ rest))
 
-abbrev pub tokens_from : WordStart → List ℕ → ℕ → List Placed
+unfoldable pub tokens_from : WordStart → List ℕ → ℕ → List Placed
 tokens_from w text i = tokens_at (length text) w i (drop i text)
 
-abbrev pub tokens : WordStart → List ℕ → List Placed
+unfoldable pub tokens : WordStart → List ℕ → List Placed
 tokens w text = tokens_from w text 0

@@ -1,6 +1,10 @@
 // The tokens of a text, and the scanner.
 ghost use Rattle.std.specs.Prelude.{◌≡◌, ◌<◌, ◌≤◌, ◌∷◌, [], length, IfSome, MatchOption};
-ghost use Rattle.ml_text.specs.Tokens.{tokens_from};
+ghost use Rattle.std.specs.List.{take_while};
+ghost use Rattle.ml_text.specs.Bytes.{is_blank, is_word_byte};
+ghost use Rattle.ml_text.specs.Tokens.{begins_word, front_token, longest_sign, signs, tokens_from};
+
+use crate::bytes::{is_blank, is_letter, is_lower, is_word_byte};
 
 /// A binary operator that all logics have, from the loosest to the tightest.
 #[derive(Clone, Copy, Debug, PartialEq, Eq)]
@@ -31,12 +35,72 @@ pub enum WordStart {
     LowerCase,
 }
 
+// Does this byte begin a word?
+fn begins_word(words: WordStart, byte: u8) -> bool
+    ensures { result ≡ begins_word words byte }
+{
+    match words {
+        WordStart::AnyLetter => is_letter(byte),
+        WordStart::LowerCase => is_lower(byte),
+    }
+}
+
 /// A token with the place of its first byte and the place behind its last one.
 #[derive(Clone, Copy, Debug, PartialEq, Eq)]
 pub struct Placed {
     pub token: Token,
     pub start: usize,
     pub end: usize,
+}
+
+// The longest sign at the front of a text, with its length; `rest` is what stands behind the first byte.
+#[tactic(auto, unfolding(crate::specs::Tokens::longest_sign, crate::specs::Tokens::signs))]
+fn front_sign(first: u8, rest: &[u8]) -> Option<(Token, usize)>
+    ensures { result ≡ longest_sign signs (first ∷ rest.now) }
+{
+    match first {
+        b'!' | b'~' => Some((Token::Not, 1)),
+        b'&' if rest.starts_with(b"&") => Some((Token::Operator(Operator::And), 2)),
+        b'&' => Some((Token::Operator(Operator::And), 1)),
+        b'/' if rest.starts_with(b"\\") => Some((Token::Operator(Operator::And), 2)),
+        b'|' if rest.starts_with(b"|") => Some((Token::Operator(Operator::Or), 2)),
+        b'|' => Some((Token::Operator(Operator::Or), 1)),
+        b'\\' if rest.starts_with(b"/") => Some((Token::Operator(Operator::Or), 2)),
+        b'-' if rest.starts_with(b">") => Some((Token::Operator(Operator::Implies), 2)),
+        b'=' if rest.starts_with(b"=>") => Some((Token::Operator(Operator::Implies), 3)),
+        b'=' if rest.starts_with(b">") => Some((Token::Operator(Operator::Implies), 2)),
+        b'<' if rest.starts_with(b"==>") => Some((Token::Operator(Operator::Iff), 4)),
+        b'<' if rest.starts_with(b"=>") || rest.starts_with(b"->") => Some((
+            Token::Operator(Operator::Iff),
+            3,
+        )),
+        _ => None,
+    }
+}
+
+// How many blanks stand at the front.
+fn blank_length(text: &[u8]) -> usize
+    ensures { result ≡ length (take_while is_blank text.now) }
+{
+    text.iter().take_while(|byte| is_blank(**byte)).count()
+}
+
+// How many bytes at the front may stand in a word.
+fn word_length(text: &[u8]) -> usize
+    ensures { result ≡ length (take_while is_word_byte text.now) }
+{
+    text.iter().take_while(|byte| is_word_byte(**byte)).count()
+}
+
+// The longest token at the front of a text whose first byte is no blank, with its length.
+#[tactic(auto, unfolding(crate::specs::Tokens::front_token))]
+fn front_token(first: u8, rest: &[u8], words: WordStart) -> (Token, usize)
+    ensures { result ≡ front_token words first rest.now }
+{
+    if begins_word(words, first) {
+        return (Token::Word, 1 + word_length(rest));
+    }
+    front_sign(first, rest).unwrap_or((Token::Byte(first), 1))
 }
 
 /// The first token of the text at or behind the byte `from`, or `None` where only blanks are left.
@@ -51,5 +115,14 @@ pub fn next_token(text: &[u8], words: WordStart, from: usize) -> Option<Placed>
     ensures place { IfSome result (λ placed.
         (from ≤ placed.start) × (placed.start < placed.end) × (placed.end ≤ length text.now)) }
 {
-    None
+    let start = from + blank_length(&text[from..]);
+    if start == text.len() {
+        return None;
+    }
+    let (token, length) = front_token(text[start], &text[start + 1..], words);
+    Some(Placed {
+        token,
+        start,
+        end: start + length,
+    })
 }

@@ -1,12 +1,16 @@
-// Names and actions are compared by their bytes: equal exactly where the bytes are, and in the order of the bytes, where
-// the first that differ decide and a front comes before what it begins.
+// Equality, order and hashes of names and actions, which are those of their bytes. The order of names is that in
+// which labels and edges stand.
 ghost use Rattle.std.specs.Prelude.{Some, nat_eq, refl};
-ghost use Rattle.std.specs.Ordering.{nat_cmp};
+ghost use Rattle.std.proofs.Common.{rules};
 ghost use Rattle.std.specs.Cmp.{partial_equiv_from_equiv};
-ghost use Rattle.std.specs.Cmp.Lexicographic.{pointwise, slice_cmp, nat_list_eq_equiv, nat_list_cmp_total, texts_ties, texts_po};
+ghost use Rattle.std.specs.Cmp.Lexicographic.{pointwise, slice_cmp, nat_list_eq_equiv, nat_list_cmp_total, texts_po, texts_ties};
+ghost use Rattle.std.specs.Cmp.Rules.{hashing};
+ghost use Rattle.std.specs.Hash as fed;
+ghost use Rattle.std.specs.Ordering.{nat_cmp};
 
 use crate::name::{Action, Name};
 use std::cmp::Ordering;
+use std::hash::{Hash, Hasher};
 
 impl PartialEq for Name {
     ghost eq = { pointwise nat_eq };
@@ -23,7 +27,7 @@ impl Eq for Name {
 }
 
 impl PartialOrd for Name {
-    ghost partial_cmp = { λ x y. Some (slice_cmp nat_cmp x y) };
+    ghost partial_cmp = { λ a b. Some (slice_cmp nat_cmp a b) };
 
     ghost laws = { texts_po };
 
@@ -37,12 +41,22 @@ impl Ord for Name {
 
     ghost total = { nat_list_cmp_total };
 
-    ghost matches_partial_cmp = { λ x y. refl };
+    ghost matches_partial_cmp = { λ _ _. refl };
 
     ghost matches_eq = { texts_ties };
 
     fn cmp(&self, other: &Name) -> Ordering {
         self.bytes().cmp(other.bytes())
+    }
+}
+
+impl Hash for Name {
+    ghost hash_input = { fed.slice fed.u8 };
+
+    ghost respects_eq = { Prim.search (hashing, rules) };
+
+    fn hash<H: Hasher>(&self, state: &mut H) {
+        self.bytes().hash(state);
     }
 }
 
@@ -61,7 +75,7 @@ impl Eq for Action {
 }
 
 impl PartialOrd for Action {
-    ghost partial_cmp = { λ x y. Some (slice_cmp nat_cmp x y) };
+    ghost partial_cmp = { λ a b. Some (slice_cmp nat_cmp a b) };
 
     ghost laws = { texts_po };
 
@@ -75,11 +89,21 @@ impl Ord for Action {
 
     ghost total = { nat_list_cmp_total };
 
-    ghost matches_partial_cmp = { λ x y. refl };
+    ghost matches_partial_cmp = { λ _ _. refl };
 
     ghost matches_eq = { texts_ties };
 
     fn cmp(&self, other: &Action) -> Ordering {
         self.bytes().cmp(other.bytes())
+    }
+}
+
+impl Hash for Action {
+    ghost hash_input = { fed.slice fed.u8 };
+
+    ghost respects_eq = { Prim.search (hashing, rules) };
+
+    fn hash<H: Hasher>(&self, state: &mut H) {
+        self.bytes().hash(state);
     }
 }
