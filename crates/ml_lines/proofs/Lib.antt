@@ -2,3 +2,5 @@
 pub mod Digits
 -- a line, word by word
 pub mod Words
+-- a text has one list of lines
+pub mod Lines
