@@ -114,3 +114,9 @@ Ended c w ReadFault = FailedToRead c w
 Ended c w WriteFault = FailedToWrite c w
 Ended c w NoMemory = LackedMemory w
 Ended c w Unconfirmed = Answered c w Unconfirmed
+
+-- a status and its output were due, and were written: the whole of it, or a part where the sink failed
+abbrev pub Wrote : Option (List ℕ) → Option (List ℕ) → ℕ → ℕ → Status → List ℕ → Status → Type 0
+Wrote taken_before taken_after faults_before faults_after due output answered =
+    ((answered ≡ due) × (taken_after ≡ append_known taken_before output) × (faults_after ≡ faults_before))
+    ⊎ ((answered ≡ WriteFault) × AppendsPart taken_before taken_after output × Rose faults_before faults_after)

@@ -1,7 +1,7 @@
 // The words of the command line.
 ghost use Rattle.std.specs.Prelude.{◌≡◌, map};
 ghost use Rattle.std.specs.String.{string_bytes};
-ghost use Rattle.ml_driver.specs.Words as words;
+ghost use Rattle.ml_driver.specs.Words as command_line;
 
 /// What the words ask for.
 #[derive(Clone, Copy, Debug, PartialEq, Eq)]
@@ -12,7 +12,7 @@ pub enum Command {
 
 /// The command that the words are, without the program's name, or `None` where they are none.
 pub fn command_of(words: &[String]) -> Option<Command>
-    ensures { result ≡ words.command_of (map string_bytes words.now) }
+    ensures { result ≡ command_line.command_of (map string_bytes words.now) }
 {
     match words {
         [command, logic] if command.as_str() == "decide" && logic.as_str() == "mu" => {

@@ -70,6 +70,8 @@ impl Structure {
         edges: Vec<Edge>,
     ) -> Result<Structure, StructureRefusal>
         ensures built { IfOk result (IsBuiltFrom states labels.items edges.items) }
+        ensures is_structure { IfOk result IsStructure }
+        ensures is_ordered { IfOk result IsOrdered }
         ensures no_states { IsErrOf result StructureRefusal.NoStates ↔ (states ≡ 0) }
         ensures out_of_range { (state : ℕ) → IsErrOf result (StructureRefusal.StateOutOfRange state)
             ↔ ((0 < states) × (first_bad_state states labels.items edges.items ≡ Some state)) }

@@ -2,5 +2,7 @@
 pub mod Digits
 -- a line, word by word
 pub mod Words
--- a text has one list of lines
+-- lines written one behind the other
 pub mod Lines
+-- a text has one list of lines
+pub mod Unique
