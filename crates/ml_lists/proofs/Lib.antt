@@ -10,3 +10,9 @@ pub mod Pigeons
 pub mod Search
 -- a function with one value changed
 pub mod Update
+-- membership of a list
+pub mod Member
+-- a loop in a finite set in which each member has a predecessor
+pub mod Predecessors
+-- a list several times over
+pub mod Repeated

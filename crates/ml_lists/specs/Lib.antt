@@ -8,3 +8,7 @@ pub mod Pigeons
 pub mod Search
 -- a function with one value changed
 pub mod Update
+-- membership of a list
+pub mod Member
+-- a list several times over
+pub mod Repeated
