@@ -1,13 +1,18 @@
-// A library with one function.
+// The trace automaton: which formulas a branch of the tableau is pursued by, and how a run of them is recognised.
+//
+// A step of the tableau leaves local traces: triples of a node, the lowest priority on the way, and the node that is
+// reached. `letter_of` turns them into a letter of the trace automaton, a Büchi automaton whose states are the nodes,
+// and the nodes with an odd priority that was guessed to be the lowest; `number` and `state_of` number its states.
+// The marks of history steps stand here too, with the condition on names that a history step and a line of a
+// refutation share, and the theorem about loops of such steps (`laws`): both the determinisation and the checker of
+// refutations rest on it.
+//
+// Below: ml_lists (general mathematics). Above: ml_sequent, which makes local traces; ml_history, which determinises
+// the automaton; ml_refutation, which checks loops of steps without histories.
 #![tactic(auto)]
 
-ghost use Rattle.std.specs.Prelude.{◌≡◌};
-ghost use Rattle.ml_trace.specs.Echo.{echo_of};
+mod letters;
+mod marks;
 
-// The `ensures` clause is the contract: what `echo` returns is `echo_of` of its argument, a definition
-// in `specs/Echo.antt`, which a caller's clause can cite too.
-pub fn echo(x: usize) -> usize
-    ensures { result ≡ echo_of x }
-{
-    x
-}
+pub use letters::{AutomatonState, LocalTraces, Transition, Triple};
+pub use marks::Mark;
