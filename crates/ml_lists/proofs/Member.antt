@@ -7,8 +7,10 @@
 --   member-map_from                         == a member of the image is the image of a member
 --   member-flat_map                         == a member of the list of a member is one of all the lists together
 --   member-flat_map_from                    == and the other way round
-use Rattle.std.proofs.Common.{◌≡◌, ◌⊎◌, inl, inr, List, [], ◌∷◌, ◌++◌, map, ap, refl, sym, subst}
-use Rattle.std.specs.List.{flat_map}
+--   member-filter, member-filter_from       == a member of a filtered list is a member that passes the test
+use Rattle.std.proofs.Common.{◌≡◌, ◌⊎◌, inl, inr, List, [], ◌∷◌, ◌++◌, map, ap, refl, sym, subst, Bool, true, false, cond}
+use Rattle.std.proofs.lemmas.Bool.{cases_Bool, cond-true, cond-false}
+use Rattle.std.specs.List.{flat_map, filter}
 use Rattle.ml_lists.specs.Member.{IsMember}
 
 -- a member of the first list is one of both together
@@ -73,3 +75,27 @@ member-flat_map_from f y (z ∷ zs) m = by_part (member-append y (f z) (flat_map
     by_part : IsMember y (f z) ⊎ IsMember y (flat_map f zs) → (IsMember y (flat_map f zs) → InList f y zs) → InList f y (z ∷ zs)
     by_part (inl here) rest = record { from = z; member = inl refl; inside = here }
     by_part (inr later) rest = let i = rest later in record { from = i.from; member = inr i.member; inside = i.inside }
+
+-- a member that passes the test is a member of the filtered list
+pub member-filter : {X : Type 0} → (test : X → Bool) (x : X) (xs : List X) → IsMember x xs → test x ≡ true → IsMember x (filter test xs)
+member-filter test x [] m passes = absurd m
+member-filter test x (z ∷ zs) m passes = by_test m (λ l. member-filter test x zs l passes) (cases_Bool (test z))
+  where
+    by_test : (x ≡ z) ⊎ IsMember x zs → (IsMember x zs → IsMember x (filter test zs)) → (test z ≡ true) ⊎ (test z ≡ false) → IsMember x (filter test (z ∷ zs))
+    by_test (inl same) rest (inl t) = subst (IsMember x) (sym (cond-true (test z) (z ∷ filter test zs) (filter test zs) t)) (inl same)
+    by_test (inr l) rest (inl t) = subst (IsMember x) (sym (cond-true (test z) (z ∷ filter test zs) (filter test zs) t)) (inr (rest l))
+    by_test (inl same) rest (inr f) = let wrong : test z ≡ true = subst (λ v. test v ≡ true) same passes in absurd (cc)
+    by_test (inr l) rest (inr f) = subst (IsMember x) (sym (cond-false (test z) (z ∷ filter test zs) (filter test zs) f)) (rest l)
+
+-- a member of the filtered list is a member that passes the test
+pub member-filter_from : {X : Type 0} → (test : X → Bool) (x : X) (xs : List X) → IsMember x (filter test xs) → IsMember x xs × (test x ≡ true)
+member-filter_from test x [] m = absurd m
+member-filter_from test x (z ∷ zs) m = by_test (λ l. member-filter_from test x zs l) (cases_Bool (test z))
+  where
+    here : (IsMember x (filter test zs) → IsMember x zs × (test x ≡ true)) → test z ≡ true → (x ≡ z) ⊎ IsMember x (filter test zs) → IsMember x (z ∷ zs) × (test x ≡ true)
+    here rest t (inl same) = (inl same, subst (λ v. test v ≡ true) (sym same) t)
+    here rest t (inr l) = let r = rest l in (inr r.0, r.1)
+
+    by_test : (IsMember x (filter test zs) → IsMember x zs × (test x ≡ true)) → (test z ≡ true) ⊎ (test z ≡ false) → IsMember x (z ∷ zs) × (test x ≡ true)
+    by_test rest (inl t) = here rest t (subst (IsMember x) (cond-true (test z) (z ∷ filter test zs) (filter test zs) t) m)
+    by_test rest (inr f) = let r = rest (subst (IsMember x) (cond-false (test z) (z ∷ filter test zs) (filter test zs) f) m) in (inr r.0, r.1)

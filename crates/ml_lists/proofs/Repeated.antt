@@ -2,6 +2,7 @@
 --
 --   repeated-add == j times and then k times is j + k times
 --   repeated-one == once
+--   repeated-two == twice
 use Rattle.std.proofs.Common.{ℕ, zero, suc, ◌≡◌, ◌+◌, List, [], ◌∷◌, ◌++◌, ap, refl, sym, ◌∙◌, append_assoc, arith, append-nil}
 use Rattle.ml_lists.specs.Repeated.{repeated}
 
@@ -15,3 +16,7 @@ repeated-add (suc j) k xs =
 -- once over, the list is itself
 pub repeated-one : {X : Type 0} → (xs : List X) → repeated 1 xs ≡ xs
 repeated-one xs = append-nil xs
+
+-- twice
+pub repeated-two : {X : Type 0} → (xs : List X) → xs ++ xs ≡ repeated 2 xs
+repeated-two xs = ap (λ v. xs ++ v) (sym (repeated-one xs))
