@@ -16,3 +16,9 @@ pub mod Member
 pub mod Predecessors
 -- a list several times over
 pub mod Repeated
+-- ascending lists of numbers
+pub mod Ascending
+-- the least number that passes a test
+pub mod Least
+-- numbers that pass a test, numbered in their order
+pub mod Ranks

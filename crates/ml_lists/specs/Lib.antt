@@ -12,3 +12,7 @@ pub mod Update
 pub mod Member
 -- a list several times over
 pub mod Repeated
+-- ascending lists of numbers
+pub mod Ascending
+-- the least number that passes a test
+pub mod Least
