@@ -1,13 +1,13 @@
-// A library with one function.
+// Histories: the determinisation of the trace automaton.
+//
+// A history maps some states of the trace automaton to stacks of names. A letter takes it to the next one: each
+// transition offers the stack of its source to its target, each target takes the best offer, and a name that only
+// stands inside stacks is green. The marks of the steps tell which words have an accepting run: that is the subject of
+// the two cycle laws (`laws`). `specs/HistoryStep` has the step as a definition on lists of states with stacks, and
+// `plain` a program that computes it so, slowly.
+//
+// Below: ml_lists (general mathematics), ml_trace (letters, runs, marks). Above: the decision game, whose positions
+// hold a history.
 #![tactic(auto)]
 
-ghost use Rattle.std.specs.Prelude.{◌≡◌};
-ghost use Rattle.ml_history.specs.Echo.{echo_of};
-
-// The `ensures` clause is the contract: what `echo` returns is `echo_of` of its argument, a definition
-// in `specs/Echo.antt`, which a caller's clause can cite too.
-pub fn echo(x: usize) -> usize
-    ensures { result ≡ echo_of x }
-{
-    x
-}
+pub use ml_trace::Mark;

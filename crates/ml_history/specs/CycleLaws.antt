@@ -1,0 +1,40 @@
+-- The two cycle laws, over the trace automaton and the history step alone.
+--
+-- Let the steps along a nonempty word lead from a history back to it. Then the lowest mark of these steps tells whether
+-- a state with a stack in the history has an accepting run to itself along the word, some number of times over.
+--
+--   entry h                == the items of the history, with the number of names in use
+--   AcceptingCycle h w     == some state with a stack in h has an accepting run to itself along w, one or more times over
+--   ReturnsTo h w          == the steps along the word w, which is not empty, lead from the history h back to it
+--   OddMarkHasRun          == the first law: if the lowest mark is odd, there is such a run
+--   RunHasOddMark          == the second law: if there is such a run, the lowest mark is odd
+use Rattle.std.specs.Prelude.{◌≡◌, ◌≢◌, ℕ, Bool, true, List, [], ◌∷◌}
+use Rattle.ml_trace.specs.declared.letters.Transition.{Transition}
+use Rattle.ml_trace.specs.LabelledLoop.{CyclicRun}
+use Rattle.ml_trace.specs.Marks.{is_odd, lowest_mark}
+use Rattle.ml_trace.specs.Run.{in_letter}
+use Rattle.ml_trace.specs.Stack.{Item, Entry}
+use Rattle.ml_history.specs.History.{IsHistory}
+use Rattle.ml_history.specs.HistoryStep.{live, after, marks_along}
+
+-- the items of the history, with the number of names in use
+abbrev pub entry : List (Item ℕ) → Entry ℕ
+entry h = record { live = live h; items = h }
+
+-- some state with a stack in h has an accepting run to itself along w, one or more times over
+abbrev pub AcceptingCycle : List (Item ℕ) → List (List Transition) → Type 0
+AcceptingCycle h w = CyclicRun in_letter (entry h) w
+
+-- the steps along the word w, which is not empty, lead from the history h back to it
+pub record ReturnsTo (h : List (Item ℕ)) (w : List (List Transition)) : Type 0 where
+  pub history : IsHistory h
+  pub not_empty : w ≢ []
+  pub returns : after h w ≡ h
+
+-- the first law: if the lowest mark is odd, some state has an accepting run to itself
+abbrev pub OddMarkHasRun : Type 0
+OddMarkHasRun = (h : List (Item ℕ)) (w : List (List Transition)) → ReturnsTo h w → is_odd (lowest_mark (marks_along h w)) ≡ true → AcceptingCycle h w
+
+-- the second law: if some state has an accepting run to itself, the lowest mark is odd
+abbrev pub RunHasOddMark : Type 0
+RunHasOddMark = (h : List (Item ℕ)) (w : List (List Transition)) → ReturnsTo h w → AcceptingCycle h w → is_odd (lowest_mark (marks_along h w)) ≡ true
