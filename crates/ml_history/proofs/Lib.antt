@@ -6,3 +6,15 @@ pub mod Best
 pub mod Taken
 -- stacks cut after a name
 pub mod Cut
+-- names of items: which stand, which end a stack, how many are in use
+pub mod Names
+-- stacks that are offered
+pub mod OfferedStacks
+-- the mark, by the least red and the least green name
+pub mod StepMark
+-- one step: where items behind it come from
+pub mod OneStep
+-- one step satisfies the condition on names
+pub mod StepNames
+-- a step leads from a history to a history
+pub mod StepKeeps

@@ -8,9 +8,10 @@
 --   member-flat_map                         == a member of the list of a member is one of all the lists together
 --   member-flat_map_from                    == and the other way round
 --   member-filter, member-filter_from       == a member of a filtered list is a member that passes the test
+--   list_any-member, member-list_any        == some entry passes the test where a member does
 use Rattle.std.proofs.Common.{◌≡◌, ◌⊎◌, inl, inr, List, [], ◌∷◌, ◌++◌, map, ap, refl, sym, subst, Bool, true, false, cond}
-use Rattle.std.proofs.lemmas.Bool.{cases_Bool, cond-true, cond-false}
-use Rattle.std.specs.List.{flat_map, filter}
+use Rattle.std.proofs.lemmas.Bool.{cases_Bool, cond-true, cond-false, or_cases, or_left, or_right}
+use Rattle.std.specs.List.{flat_map, filter, list_any}
 use Rattle.ml_lists.specs.Member.{IsMember}
 
 -- a member of the first list is one of both together
@@ -99,3 +100,24 @@ member-filter_from test x (z ∷ zs) m = by_test (λ l. member-filter_from test 
     by_test : (IsMember x (filter test zs) → IsMember x zs × (test x ≡ true)) → (test z ≡ true) ⊎ (test z ≡ false) → IsMember x (z ∷ zs) × (test x ≡ true)
     by_test rest (inl t) = here rest t (subst (IsMember x) (cond-true (test z) (z ∷ filter test zs) (filter test zs) t) m)
     by_test rest (inr f) = let r = rest (subst (IsMember x) (cond-false (test z) (z ∷ filter test zs) (filter test zs) f) m) in (inr r.0, r.1)
+
+-- a member that passes the test
+pub record Passing {X : Type 0} (test : X → Bool) (xs : List X) : Type 0 where
+  pub item : X
+  pub member : IsMember item xs
+  pub passes : test item ≡ true
+
+-- where some entry passes the test, a member does
+pub list_any-member : {X : Type 0} → (test : X → Bool) (xs : List X) → list_any test xs ≡ true → Passing test xs
+list_any-member test [] e = absurd (cc)
+list_any-member test (z ∷ zs) e = by_part (or_cases (test z) (list_any test zs) e) (list_any-member test zs)
+  where
+    by_part : (test z ≡ true) ⊎ (list_any test zs ≡ true) → (list_any test zs ≡ true → Passing test zs) → Passing test (z ∷ zs)
+    by_part (inl here) rest = record { item = z; member = inl refl; passes = here }
+    by_part (inr later) rest = let p = rest later in record { item = p.item; member = inr p.member; passes = p.passes }
+
+-- where a member passes the test, some entry does
+pub member-list_any : {X : Type 0} → (test : X → Bool) (x : X) (xs : List X) → IsMember x xs → test x ≡ true → list_any test xs ≡ true
+member-list_any test x [] m e = absurd m
+member-list_any test x (z ∷ zs) (inl same) e = or_left (test z) (list_any test zs) (subst (λ v. test v ≡ true) same e)
+member-list_any test x (z ∷ zs) (inr m) e = or_right (test z) (list_any test zs) (member-list_any test x zs m e)
