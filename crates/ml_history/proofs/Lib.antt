@@ -16,5 +16,7 @@ pub mod StepMark
 pub mod OneStep
 -- one step satisfies the condition on names
 pub mod StepNames
+-- stacks renumbered in their order
+pub mod Renumber
 -- a step leads from a history to a history
 pub mod StepKeeps
