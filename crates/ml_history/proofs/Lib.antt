@@ -14,6 +14,18 @@ pub mod OfferedStacks
 pub mod StepMark
 -- one step: where items behind it come from
 pub mod OneStep
+-- the first law
+pub mod FirstLaw
+-- the stacks that a run meets
+pub mod Follow
+-- a constant front of the stacks round a loop
+pub mod ConstantFront
+-- one step at a constant front
+pub mod FrontStep
+-- the second law
+pub mod SecondLaw
+-- the step of a stack along a transition
+pub mod StackStep
 -- one step satisfies the condition on names
 pub mod StepNames
 -- stacks renumbered in their order
