@@ -32,3 +32,5 @@ pub mod StepNames
 pub mod Renumber
 -- a step leads from a history to a history
 pub mod StepKeeps
+-- worked steps, computed from the definition
+pub mod WorkedSteps
