@@ -1,0 +1,30 @@
+// Names, and the outside: where bytes come from and where they go.
+//
+// A `Name` and an `Action` are their bytes, and nothing else is a name. A `Source` gives bytes and a `Sink` takes
+// them, each with a count of faults, so that every failure above can be traced to a fault that was counted.
+// Begin with `Name::new`, `read_all` and `write_all`. `MemSource` and `MemSink` stand in memory, for tests;
+// `StdSource` and `StdSink` stand on std's readers and writers, and tell nothing of the bytes.
+//
+// Below stands nothing of this repository but the crates of general mathematics; all others stand above.
+#![tactic(auto)]
+
+pub mod memory;
+mod name;
+mod no_memory;
+mod order;
+mod sink;
+mod source;
+pub mod streams;
+mod structure;
+#[cfg(test)]
+mod tests;
+pub mod whole;
+
+pub use memory::{MemSink, MemSource};
+pub use name::{Action, Name, NameRefusal};
+pub use no_memory::NoMemory;
+pub use sink::Sink;
+pub use source::{Failed, Source};
+pub use streams::{StdSink, StdSource};
+pub use structure::Edge;
+pub use whole::{ReadRefusal, WriteRefusal, read_all, write_all};

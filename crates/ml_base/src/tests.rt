@@ -1,0 +1,178 @@
+// Worked rows, and each call once on its happy path.
+use super::*;
+use std::cmp::Ordering;
+use std::io;
+use std::io::{ErrorKind, Read, Write};
+use std::test::Fail;
+
+// 64 letters, and one more.
+const LONG: &[u8] = b"aaaaaaaaaaaaaaaaaaaaaaaaaaaaaaaaaaaaaaaaaaaaaaaaaaaaaaaaaaaaaaaa";
+
+const TOO_LONG: &[u8] = b"aaaaaaaaaaaaaaaaaaaaaaaaaaaaaaaaaaaaaaaaaaaaaaaaaaaaaaaaaaaaaaaaa";
+
+#[test]
+fn names(rt: HostRuntime) -> Result<(), Fail> {
+    let rows: [(&[u8], bool, bool); 9] = [
+        (b"p_1", true, true),
+        (b"_p", false, false),
+        (b"_", false, true),
+        (b"__", false, false),
+        (b"", false, false),
+        (b"1p", false, false),
+        (b"p-1", false, false),
+        (LONG, true, true),
+        (TOO_LONG, false, false),
+    ];
+    for (text, is_name, is_action) in rows {
+        match Name::new(rt.alloc(), text) {
+            Ok(name) => assert!(rt; is_name && name.copy()?.bytes() == text, "{text:?}"),
+            Err(refusal) => assert!(rt; !is_name && refusal == NameRefusal::NotAName, "{text:?}"),
+        }
+        match Action::new(rt.alloc(), text) {
+            Ok(action) => assert!(rt; is_action && action.copy()?.bytes() == text, "{text:?}"),
+            Err(refusal) => assert!(rt; !is_action && refusal == NameRefusal::NotAName, "{text:?}"),
+        }
+    }
+    Ok(())
+}
+
+#[test]
+fn names_compare_by_bytes(rt: HostRuntime) -> Result<(), Fail> {
+    let (p, q) = (Name::new(rt.alloc(), b"p")?, Name::new(rt.alloc(), b"p_1")?);
+    assert!(rt; p == p.copy()? && p != q && p < q);
+    assert_eq!(rt; q.cmp(&p), Ordering::Greater);
+    let (any, a) = (
+        Action::new(rt.alloc(), b"_")?,
+        Action::new(rt.alloc(), b"a")?,
+    );
+    assert!(rt; any == any.copy()? && any != a && any < a);
+    Ok(())
+}
+
+#[test]
+fn whole_reads(rt: HostRuntime) -> Result<(), Fail> {
+    use ReadRefusal::{ReadFault, TooLong};
+    let rows: [(u32, &[u64], u64, Result<(), ReadRefusal>); 9] = [
+        (1, &[], 100, Ok(())),
+        (3, &[], 100, Ok(())),
+        (100, &[], 100, Ok(())),
+        (1, &[], 5, Ok(())),
+        (1, &[], 4, Err(TooLong)),
+        (100, &[], 0, Err(TooLong)),
+        (1, &[3], 100, Err(ReadFault)),
+        (100, &[2], 100, Err(ReadFault)),
+        (100, &[4], 100, Ok(())),
+    ];
+    for (piece, fails, max, want) in rows {
+        let fails = Vec::from_slice(rt.alloc(), fails)?;
+        let mut source = MemSource::new(Vec::from_slice(rt.alloc(), b"hello")?, piece, fails);
+        match (read_all(rt.alloc(), &mut source, max), want) {
+            (Ok(bytes), Ok(())) => assert!(rt;
+                bytes.as_slice() == b"hello".as_slice(),
+                "{piece} {max}"
+            ),
+            (Err(refusal), Err(wanted)) => assert_eq!(rt; refusal, wanted, "{piece} {max}"),
+            _ => panic!(rt; "another answer at {piece} {max}"),
+        }
+    }
+    Ok(())
+}
+
+// A chosen call fails, and the bytes before and after it are the same.
+#[test]
+fn pieces_given(rt: HostRuntime) -> Result<(), Fail> {
+    let fails = Vec::from_slice(rt.alloc(), &[2])?;
+    let mut source = MemSource::new(Vec::from_slice(rt.alloc(), b"hello")?, 2, fails);
+    let mut buf = [0u8; 8];
+    assert_eq!(rt; source.read(&mut buf), Ok(2));
+    assert!(rt; &buf[..2] == b"he".as_slice());
+    assert_eq!(rt; source.read(&mut buf), Err(Failed));
+    assert_eq!(rt; source.read(&mut buf[..1]), Ok(1));
+    assert_eq!(rt; source.read(&mut buf), Ok(2));
+    assert!(rt; &buf[..2] == b"lo".as_slice());
+    assert_eq!(rt; source.read(&mut buf), Ok(0));
+    Ok(())
+}
+
+#[test]
+fn whole_writes(rt: HostRuntime) -> Result<(), Fail> {
+    let rows: [(u32, &[u64], u64, bool, &[u8]); 7] = [
+        (1, &[], 100, true, b"mlsolver"),
+        (3, &[], 100, true, b"mlsolver"),
+        (100, &[], 8, true, b"mlsolver"),
+        (3, &[2], 100, false, b"mls"),
+        (100, &[1], 100, false, b""),
+        (100, &[], 7, false, b"mlsolve"),
+        (100, &[2], 100, true, b"mlsolver"),
+    ];
+    for (piece, fails, room, is_written, want) in rows {
+        let fails = Vec::from_slice(rt.alloc(), fails)?;
+        let mut sink = MemSink::new(rt.alloc(), piece, fails, room)?;
+        let outcome = write_all(&mut sink, b"mlsolver");
+        assert_eq!(rt; outcome.is_ok(), is_written, "{piece} {room}");
+        assert!(rt; sink.taken() == want, "{piece} {room}");
+    }
+    Ok(())
+}
+
+// Gives one byte, fails, and is at its end.
+#[derive(Drop)]
+struct Flaky(u8);
+
+impl Read for Flaky {
+    fn read(&mut self, buf: &mut [u8]) -> io::Result<usize> {
+        let call = self.0;
+        self.0 = call.saturating_add(1);
+        match (call, buf) {
+            (0, [first, ..]) => {
+                *first = b'x';
+                Ok(1)
+            }
+            (1, _) => Err(io::Error::from(ErrorKind::Other)),
+            _ => Ok(0),
+        }
+    }
+}
+
+// Takes one byte, takes nothing, and fails.
+impl Write for Flaky {
+    fn write(&mut self, buf: &[u8]) -> io::Result<usize> {
+        let call = self.0;
+        self.0 = call.saturating_add(1);
+        match call {
+            0 => Ok(buf.len().min(1)),
+            1 => Ok(0),
+            _ => Err(io::Error::from(ErrorKind::Other)),
+        }
+    }
+
+    fn flush(&mut self) -> io::Result<()> {
+        Ok(())
+    }
+}
+
+#[test]
+fn a_reader(rt: HostRuntime) -> Result<(), Fail> {
+    let mut whole: &[u8] = b"hello";
+    let bytes = read_all(rt.alloc(), &mut StdSource::new(&mut whole), 100)?;
+    assert!(rt; bytes.as_slice() == b"hello".as_slice());
+    let mut source = StdSource::new(Flaky(0));
+    assert_eq!(rt;
+        read_all(rt.alloc(), &mut source, 100).err(),
+        Some(ReadRefusal::ReadFault)
+    );
+    assert!(rt; read_all(rt.alloc(), &mut source, 100)?.is_empty());
+    Ok(())
+}
+
+#[test]
+fn a_writer(rt: HostRuntime) -> Result<(), Fail> {
+    let mut taken = Vec::new(rt.alloc());
+    write_all(&mut StdSink::new(&mut taken), b"hello")?;
+    assert!(rt; taken.as_slice() == b"hello".as_slice());
+    let mut sink = StdSink::new(Flaky(0));
+    assert_eq!(rt; sink.write(b"hi"), Ok(1));
+    assert_eq!(rt; sink.write(b"hi"), Err(Failed));
+    assert_eq!(rt; write_all(&mut sink, b"hi"), Err(WriteRefusal::WriteFault));
+    Ok(())
+}

@@ -1,0 +1,4 @@
+-- ordered structures, and what a structure is built from
+pub mod Ordered
+-- the text of a structure with a start
+pub mod ModelText

@@ -1,0 +1,2 @@
+// Kripke structures that a program holds, and their text.
+#![tactic(auto)]

@@ -1,0 +1,2 @@
+-- lines of words
+pub mod Lines

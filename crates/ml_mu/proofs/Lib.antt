@@ -1,0 +1,10 @@
+-- the grammar of first texts and its reader agree
+pub mod FirstTexts
+-- the formulas of first texts
+pub mod FirstFormulas
+-- words, taken apart
+pub mod Words
+-- lists of names in which none stands twice
+pub mod Repeats
+-- the answers of the reader of first texts
+pub mod FirstReader

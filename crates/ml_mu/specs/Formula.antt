@@ -1,0 +1,45 @@
+-- The formulas of the modal mu-calculus, as plain data.
+--
+-- The four binary connectives are one case, with the connective as a part; so are the two modalities, and so are
+-- the two fixpoints. Names are lists of bytes. No formula is excluded here: that variables are bound and positive
+-- (`Variables.antt`) and names are spelt as they must be (`Spelling.antt`) is said of a formula, not built in.
+--
+--   Formula        == the formulas: constants, propositions, variables, negations, connectives, modalities, fixpoints
+--   Operator       == and, or, implies, iff (of `ml_text`, since all logics share them)
+--   Modality       == diamond (some edge) or square (every edge)
+--   Fixpoint       == least or greatest
+--   occurrences f  == the number of symbols of f, where iff counts as three and the action of a modality as none
+use Rattle.std.specs.Prelude.{ℕ, ◌+◌, Bool, List}
+use Rattle.ml_text.specs.declared.token.Operator.{Operator}
+use Rattle.ml_text.specs.declared.token.Operator.TheVariants.{Iff, Implies, Or, And}
+
+pub data Modality : Type 0 where
+  Diamond Square : Modality
+
+pub data Fixpoint : Type 0 where
+  Least Greatest : Fixpoint
+
+pub data Formula : Type 0 where
+  Const : Bool → Formula
+  Prop : List ℕ → Formula
+  Var : List ℕ → Formula
+  Not : Formula → Formula
+  Binary : Operator → Formula → Formula → Formula
+  Modal : Modality → List ℕ → Formula → Formula
+  Binder : Fixpoint → List ℕ → Formula → Formula
+
+-- as how many symbols a connective counts
+abbrev pub weight : Operator → ℕ
+weight Iff = 3
+weight Implies = 1
+weight Or = 1
+weight And = 1
+
+abbrev pub occurrences : Formula → ℕ
+occurrences (Const b) = 1
+occurrences (Prop p) = 1
+occurrences (Var x) = 1
+occurrences (Not f) = 1 + occurrences f
+occurrences (Binary op f g) = weight op + occurrences f + occurrences g
+occurrences (Modal m a f) = 1 + occurrences f
+occurrences (Binder q x f) = 1 + occurrences f

@@ -1,0 +1,44 @@
+-- Which words are propositions, variables and actions of the mu-calculus.
+--
+-- A word is a letter with the letters, digits and `_` behind it. The words of the constants and of the binders are
+-- reserved: they are no names.
+--
+--   is_reserved name     == is it tt, true, ff, false, mu or nu?
+--   is_word_from t name  == is it a word whose first letter passes the test t?
+--   is_proposition name  == a word that begins with a lower-case letter and isn't reserved
+--   is_variable name     == a word that begins with an upper-case letter
+--   is_action name       == a word that isn't reserved, or `_`
+--   is_spelled f         == are all names in f propositions, variables and actions where they stand as such?
+use Rattle.std.specs.Prelude.{ℕ, Bool, true, false, ◌&&◌, ◌||◌, not, List, [], ◌∷◌, codes}
+use Rattle.std.specs.List.{list_any, list_all}
+use Rattle.std.specs.Str.{bytes_eq}
+use Rattle.ml_text.specs.Bytes.{is_lower, is_upper, is_letter, is_word_byte}
+use Rattle.ml_mu.specs.Formula.{Formula, Const, Prop, Var, Not, Binary, Modal, Binder}
+
+abbrev pub reserved : List (List ℕ)
+reserved = codes "tt" ∷ codes "true" ∷ codes "ff" ∷ codes "false" ∷ codes "mu" ∷ codes "nu" ∷ []
+
+abbrev pub is_reserved : List ℕ → Bool
+is_reserved name = list_any (bytes_eq name) reserved
+
+abbrev pub is_word_from : (ℕ → Bool) → List ℕ → Bool
+is_word_from begins [] = false
+is_word_from begins (b ∷ rest) = begins b && list_all is_word_byte rest
+
+abbrev pub is_proposition : List ℕ → Bool
+is_proposition name = is_word_from is_lower name && not (is_reserved name)
+
+abbrev pub is_variable : List ℕ → Bool
+is_variable name = is_word_from is_upper name
+
+abbrev pub is_action : List ℕ → Bool
+is_action name = bytes_eq name (codes "_") || (is_word_from is_letter name && not (is_reserved name))
+
+abbrev pub is_spelled : Formula → Bool
+is_spelled (Const b) = true
+is_spelled (Prop p) = is_proposition p
+is_spelled (Var x) = is_variable x
+is_spelled (Not f) = is_spelled f
+is_spelled (Binary op f g) = is_spelled f && is_spelled g
+is_spelled (Modal m a f) = is_action a && is_spelled f
+is_spelled (Binder q x f) = is_variable x && is_spelled f

@@ -1,0 +1,19 @@
+// The modal mu-calculus: its formulas, their meaning over Kripke structures, and their texts.
+//
+// Begin with `Formula`, which contracts see as the plain formula of `specs/Formula.antt`; `print` gives its
+// canonical text, and `parse_plain` reads the first texts, conjunctions of literals. What a formula
+// means stands in `specs/Meaning.antt`, what a problem is in `specs/Problem.antt`.
+// Below stand `ml_base` (names, structures) and `ml_text` (tokens); above stand the graph of a formula
+// and the program.
+#![tactic(auto)]
+
+mod first_text;
+mod formula;
+mod printing;
+mod spelling;
+mod term;
+
+pub use first_text::parse_plain;
+pub use formula::Formula;
+pub use printing::print;
+pub use term::Term;

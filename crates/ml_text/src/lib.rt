@@ -1,0 +1,15 @@
+// What the texts of the four logics share: bytes, words, tokens and the scanner that finds them.
+//
+// Every text is read as tokens that blanks may separate. The signs are the same in all logics, and any
+// byte that begins no sign and no word is a token by itself, so one scanner serves all: a logic only says
+// which letters begin a word (`WordStart`), and which tokens its grammar has.
+//
+// Begin with `next_token`, the first token at or behind an offset. Below stands nothing but std; above stand
+// the parsers of the logics.
+#![tactic(auto)]
+
+mod bytes;
+mod token;
+
+pub use bytes::{is_blank, is_digit, is_letter, is_lower, is_upper, is_word_byte};
+pub use token::{Operator, Placed, Token, WordStart, next_token};
