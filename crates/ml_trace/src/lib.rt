@@ -14,5 +14,5 @@
 mod letters;
 mod marks;
 
-pub use letters::{AutomatonState, LocalTraces, Transition, Triple};
+pub use letters::{AutomatonState, Letter, LocalTraces, Transition, Triple, STATE_LIMIT};
 pub use marks::Mark;
