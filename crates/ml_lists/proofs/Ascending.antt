@@ -3,9 +3,11 @@
 --   member-insert_once, insert_once-member == the set with x has x, and what it had, and nothing else
 --   member-ascending, ascending-member     == the ascending list has the members of the list
 --   ascending-is                           == it is ascending
-use Rattle.std.proofs.Common.{ℕ, ◌≡◌, ◌<◌, ◌≤◌, ◌⊎◌, inl, inr, arith, Bool, true, false, cond, List, [], ◌∷◌, eqb, ltb, refl, sym, subst, ◌∙◌}
+--   ascending-apart                        == an earlier entry of an ascending list is below a later one
+use Rattle.std.proofs.Common.{ℕ, ◌≡◌, ◌<◌, ◌≤◌, ◌⊎◌, inl, inr, arith, Bool, true, false, cond, List, [], ◌∷◌, eqb, ltb, refl, sym, subst, ◌∙◌, zero, suc, length, get_or}
 use Rattle.std.proofs.lemmas.Bool.{cases_Bool, cond-true, cond-false, ltb-true, ltb-false, eqb-true, eqb-false}
 use Rattle.ml_lists.specs.Member.{IsMember}
+use Rattle.ml_lists.proofs.Member.{place-member}
 use Rattle.ml_lists.specs.Ascending.{IsAscending, insert_once, ascending}
 
 -- the three forms of the set with x
@@ -104,3 +106,10 @@ ascending-member v (x ∷ xs) m = by_part (insert_once-member v x (ascending xs)
 pub ascending-is : (xs : List ℕ) → IsAscending (ascending xs)
 ascending-is [] = tt
 ascending-is (x ∷ xs) = insert_once-is x (ascending xs) (ascending-is xs)
+
+-- an earlier entry of an ascending list is below a later one
+pub ascending-apart : (xs : List ℕ) (j k d : ℕ) → IsAscending xs → j < k → k < length xs → get_or xs j d < get_or xs k d
+ascending-apart [] j k d a low fits = absurd (omega arith)
+ascending-apart (x ∷ xs) j zero d a low fits = absurd (omega arith)
+ascending-apart (x ∷ xs) zero (suc k) d a low fits = a.0 (get_or xs k d) (place-member xs k d (omega arith))
+ascending-apart (x ∷ xs) (suc j) (suc k) d a low fits = ascending-apart xs j k d a.1 (omega arith) (omega arith)

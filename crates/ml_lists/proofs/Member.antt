@@ -9,9 +9,12 @@
 --   member-flat_map_from                    == and the other way round
 --   member-filter, member-filter_from       == a member of a filtered list is a member that passes the test
 --   list_any-member, member-list_any        == some entry passes the test where a member does
-use Rattle.std.proofs.Common.{◌≡◌, ◌⊎◌, inl, inr, List, [], ◌∷◌, ◌++◌, map, ap, refl, sym, subst, Bool, true, false, cond}
+--   Place x xs                              == x is the entry of xs at some place
+--   member-place, place-member              == a member is the entry at some place, and the other way round
+--   All-member, member-All                  == what holds of each entry holds of each member, and the other way round
+use Rattle.std.proofs.Common.{◌≡◌, ◌⊎◌, inl, inr, List, [], ◌∷◌, ◌++◌, map, ap, refl, sym, subst, Bool, true, false, cond, ℕ, zero, suc, ◌<◌, length, get_or, arith}
 use Rattle.std.proofs.lemmas.Bool.{cases_Bool, cond-true, cond-false, or_cases, or_left, or_right}
-use Rattle.std.specs.List.{flat_map, filter, list_any}
+use Rattle.std.specs.List.{flat_map, filter, list_any, All}
 use Rattle.ml_lists.specs.Member.{IsMember}
 
 -- a member of the first list is one of both together
@@ -121,3 +124,32 @@ pub member-list_any : {X : Type 0} → (test : X → Bool) (x : X) (xs : List X)
 member-list_any test x [] m e = absurd m
 member-list_any test x (z ∷ zs) (inl same) e = or_left (test z) (list_any test zs) (subst (λ v. test v ≡ true) same e)
 member-list_any test x (z ∷ zs) (inr m) e = or_right (test z) (list_any test zs) (member-list_any test x zs m e)
+
+-- x is the entry of xs at some place
+pub record Place {X : Type 0} (x : X) (xs : List X) : Type 0 where
+  pub place : ℕ
+  pub below : place < length xs
+  pub holds : (d : X) → get_or xs place d ≡ x
+
+-- a member is the entry at some place
+pub member-place : {X : Type 0} → (x : X) (xs : List X) → IsMember x xs → Place x xs
+member-place x [] m = absurd m
+member-place x (z ∷ zs) (inl same) = record { place = zero; below = omega arith; holds = λ d. sym same }
+member-place x (z ∷ zs) (inr m) = later (member-place x zs m)
+  where
+    later : Place x zs → Place x (z ∷ zs)
+    later p = record { place = suc p.place; below = omega (arith, p.below); holds = p.holds }
+
+-- an entry is a member
+pub place-member : {X : Type 0} → (xs : List X) (k : ℕ) (d : X) → k < length xs → IsMember (get_or xs k d) xs
+place-member [] k d low = absurd (omega arith)
+place-member (z ∷ zs) zero d low = inl refl
+place-member (z ∷ zs) (suc k) d low = inr (place-member zs k d (omega arith))
+
+-- what holds of each entry holds of each member
+pub All-member : {X : Type 0} → (P : X → Type 0) (xs : List X) → All P xs → (x : X) → IsMember x xs → P x
+All-member P xs all x m = let p = member-place x xs m in subst P (p.holds x) (all p.place x p.below)
+
+-- what holds of each member holds of each entry
+pub member-All : {X : Type 0} → (P : X → Type 0) (xs : List X) → ((x : X) → IsMember x xs → P x) → All P xs
+member-All P xs each k d low = each (get_or xs k d) (place-member xs k d low)

@@ -8,3 +8,5 @@ pub mod Stacks
 pub mod TraceBack
 -- the theorem on loops of marked steps
 pub mod OddLoop
+-- the transitions of a letter are those that the triples give
+pub mod LetterLemmas

@@ -63,7 +63,7 @@ abbrev pub Leads : List ℕ → ℕ → Option ℕ → Option ℕ → Bool → T
 Leads odds k None None accepting = accepting ≡ false
 Leads odds k None (Some d) accepting = IsMember d odds × (accepting ≡ false)
 Leads odds k (Some d) None accepting = ⊥
-Leads odds k (Some d) (Some e) accepting = (e ≡ d) × IsMember d odds × (d ≤ k) × (accepting ≡ (k == d))
+Leads odds k (Some d) (Some e) accepting = (e ≡ d) × IsMember d odds × (d ≤ k) × (accepting ≡ (d == k))
 
 -- the triple gives the transition
 pub record Gives (odds : List ℕ) (t : Triple) (m : Transition) : Type 0 where

@@ -98,6 +98,14 @@ impl Letter {
         }
     }
 
+    // the letter of transitions whose ends are known to be small
+    pub(crate) fn of(transitions: Vec<Transition>) -> Letter
+        requires { HasSmallEnds transitions.items }
+        ensures { result ≡ transitions.items }
+    {
+        Letter { transitions }
+    }
+
     /// The transitions, as they were given. O(1).
     pub fn transitions(&self) -> &[Transition]
         ensures value { result.now ≡ self.now }

@@ -13,6 +13,8 @@
 
 mod letters;
 mod marks;
+mod numbering;
 
 pub use letters::{AutomatonState, Letter, LocalTraces, Transition, Triple, STATE_LIMIT};
 pub use marks::Mark;
+pub use numbering::{letter_of, number, state_of};
