@@ -10,3 +10,5 @@ pub mod TraceBack
 pub mod OddLoop
 -- the transitions of a letter are those that the triples give
 pub mod LetterLemmas
+-- the numbering is one-to-one
+pub mod Numbers

@@ -10,6 +10,7 @@
 --   states_per_node odds           == how many states each node has: 1 + o
 --   number odds s                  == the number of the state s
 --   state_of odds n                == the state with the number n
+--   NumbersAreStates               == numbers and states are one-to-one
 --   IsState odds s                 == the odd priority of s, if it has one, is one of the list
 --   Leads odds k g g' accepting    == a triple with the lowest priority k leads from the guess g to the guess g'
 --   Gives odds t m                 == the triple t gives the transition m
@@ -18,6 +19,7 @@
 --   HasSmallEnds letter            == all ends of transitions are below 2^30
 use Rattle.std.specs.Prelude.{◌≡◌, ◌⊎◌, ◌↔◌, ℕ, zero, suc, ◌+◌, ◌*◌, ◌/◌, ◌%◌, ◌^◌, ◌<◌, ◌≤◌, Bool, true, false, ◌==◌, Option, Some, None, List, [], ◌∷◌, length, slice_get, All}
 use Rattle.std.specs.List.{position_or_len}
+use Rattle.ml_lists.specs.Ascending.{IsAscending}
 use Rattle.ml_lists.specs.Member.{IsMember}
 use Rattle.ml_trace.specs.declared.letters.AutomatonState.{AutomatonState}
 use Rattle.ml_trace.specs.declared.letters.Transition.{Transition}
@@ -55,6 +57,11 @@ IsGuess odds (Some d) = IsMember d odds
 -- the odd priority of the state, if it has one, is one of the list
 abbrev pub IsState : List ℕ → AutomatonState → Type 0
 IsState odds s = IsGuess odds s.odd
+
+-- numbers and states are one-to-one, whatever the odd priorities are
+abbrev pub NumbersAreStates : Type 0
+NumbersAreStates =
+    (odds : List ℕ) → IsAscending odds → ((s : AutomatonState) → IsState odds s → state_of odds (number odds s) ≡ s) × ((n : ℕ) → number odds (state_of odds n) ≡ n)
 
 -- ---- transitions
 

@@ -11,6 +11,7 @@
 // the automaton; ml_refutation, which checks loops of steps without histories.
 #![tactic(auto)]
 
+pub mod laws;
 mod letters;
 mod marks;
 mod numbering;
