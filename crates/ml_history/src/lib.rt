@@ -10,4 +10,6 @@
 // hold a history.
 #![tactic(auto)]
 
+pub mod laws;
+
 pub use ml_trace::Mark;
