@@ -34,3 +34,5 @@ pub mod Renumber
 pub mod StepKeeps
 -- worked steps, computed from the definition
 pub mod WorkedSteps
+-- the parts of the plain step on single stacks
+pub mod PlainStacks

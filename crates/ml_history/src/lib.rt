@@ -10,6 +10,8 @@
 // hold a history.
 #![tactic(auto)]
 
+mod items;
 pub mod laws;
 
+pub use items::Stacked;
 pub use ml_trace::Mark;

@@ -8,7 +8,8 @@
 --   has y s         == the name y stands in the stack s
 --   ends_in y s     == y is the last name of s
 --   IsAdvanced y s  == y stands in s and isn't its last name
-use Rattle.std.specs.Prelude.{◌≡◌, ℕ, Bool, true, false, ◌||◌, ◌==◌, List, [], ◌∷◌}
+use Rattle.std.specs.Prelude.{◌≡◌, ℕ, Bool, true, false, ◌==◌, List, [], ◌∷◌}
+use Rattle.std.specs.List.{list_any}
 
 -- a state with a stack of names
 pub record Item (S : Type 0) : Type 0 where
@@ -22,8 +23,7 @@ pub record Entry (S : Type 0) : Type 0 where
 
 -- y stands in the stack
 abbrev pub has : ℕ → List ℕ → Bool
-has y [] = false
-has y (x ∷ xs) = (x == y) || has y xs
+has y s = list_any (λ x. x == y) s
 
 -- y is the last name of the stack
 abbrev pub ends_in : ℕ → List ℕ → Bool
