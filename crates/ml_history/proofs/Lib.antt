@@ -36,3 +36,9 @@ pub mod StepKeeps
 pub mod WorkedSteps
 -- the parts of the plain step on single stacks
 pub mod PlainStacks
+-- the parts of the plain step on lists of items
+pub mod PlainItems
+-- what the targets take, one offer at a time
+pub mod Putting
+-- the plain step: bounds, and its parts together
+pub mod PlainStep

@@ -12,6 +12,11 @@
 
 mod items;
 pub mod laws;
+mod marking;
+mod offering;
+mod plain;
+mod renumbering;
 
 pub use items::Stacked;
 pub use ml_trace::Mark;
+pub use plain::PlainHistory;

@@ -4,6 +4,8 @@
 --   least-some       == an answer is the least number that passes
 --   least-none       == with no answer, none below n passes
 --   least-found      == where a number below n passes, there is an answer, and it is at most this number
+--   least-is         == a number below n that passes, where no lower one does, is the answer
+--   least-no         == where none below n passes, there is no answer
 use Rattle.std.proofs.Common.{ℕ, zero, suc, ◌≡◌, ◌<◌, ◌≤◌, ◌⊎◌, inl, inr, arith, Bool, true, false, cond, Option, Some, None, refl, sym, subst, ap, ◌∙◌}
 use Rattle.std.proofs.lemmas.Bool.{cases_Bool, cond-true, cond-false, cases_lt}
 use Rattle.ml_lists.specs.Least.{least, first_answer}
@@ -55,3 +57,25 @@ least-found test n k low passes = by_answer (least test n) refl
     by_answer : (o : Option ℕ) → least test n ≡ o → FoundBy test n k
     by_answer None e = let wrong = least-none test n e k low in absurd (cc)
     by_answer (Some x) e = record { answer = x; is = e; at_most = at_most x (least-some test n x e) (cases_lt k x) }
+
+-- a number below n that passes, where no lower one does, is the answer
+pub least-is : (test : ℕ → Bool) (n x : ℕ) → x < n → test x ≡ true → ((k : ℕ) → k < x → test k ≡ false) → least test n ≡ Some x
+least-is test n x low passes none = by_answer (least-found test n x low passes)
+  where
+    not_before : (y : ℕ) → IsLeast test n y → (y < x) ⊎ (x ≤ y) → x ≤ y
+    not_before y l (inl early) = let a = none y early in let b = l.passes in absurd (cc)
+    not_before y l (inr le) = le
+
+    by_answer : FoundBy test n x → least test n ≡ Some x
+    by_answer f =
+        let le = not_before f.answer (least-some test n f.answer f.is) (cases_lt f.answer x) in
+        let e : f.answer ≡ x = omega (arith, f.at_most) in
+        f.is ∙ ap Some e
+
+-- where none below n passes, there is no answer
+pub least-no : (test : ℕ → Bool) (n : ℕ) → ((k : ℕ) → k < n → test k ≡ false) → least test n ≡ None
+least-no test n none = by_answer (least test n) refl
+  where
+    by_answer : (o : Option ℕ) → least test n ≡ o → least test n ≡ None
+    by_answer None e = e
+    by_answer (Some x) e = let l = least-some test n x e in let f = none x l.below in let t = l.passes in absurd (cc)
