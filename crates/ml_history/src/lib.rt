@@ -16,6 +16,8 @@ mod marking;
 mod offering;
 mod plain;
 mod renumbering;
+#[cfg(test)]
+mod tests;
 
 pub use items::Stacked;
 pub use ml_trace::Mark;

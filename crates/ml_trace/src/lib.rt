@@ -15,6 +15,8 @@ pub mod laws;
 mod letters;
 mod marks;
 mod numbering;
+#[cfg(test)]
+mod tests;
 
 pub use letters::{AutomatonState, Letter, LocalTraces, Transition, Triple, STATE_LIMIT};
 pub use marks::Mark;
