@@ -7,8 +7,8 @@
 --   beats_not_trans                              == what does not beat b, which does not beat s, does not beat s
 --   best-member                                  == the best of some stacks is one of them
 --   best_unbeaten                                == no stack beats the best of some stacks to which it belongs
-use Rattle.std.proofs.Common.{ℕ, ◌≡◌, ◌<◌, ◌≤◌, ◌⊎◌, inl, inr, arith, Bool, true, false, cond, eqb, ltb, List, [], ◌∷◌, refl, sym, subst, ◌∙◌}
-use Rattle.std.proofs.lemmas.Bool.{cases_Bool, cases_eq, cond-true, cond-false, ltb-true, ltb-false, eqb-true, eqb-false, eq-eqb, ne_eqb, le-ltb, lt-ltb}
+use Rattle.std.proofs.Common.{ℕ, ◌≡◌, ◌<◌, ◌⊎◌, inl, inr, arith, true, false, eqb, ltb, List, [], ◌∷◌, refl, sym, subst, ◌∙◌}
+use Rattle.std.proofs.lemmas.Bool.{cases_Bool, cond-true, cond-false, ltb-true, ltb-false, eqb-true, eqb-false, eq-eqb, ne_eqb, le-ltb}
 use Rattle.ml_lists.specs.Member.{IsMember}
 use Rattle.ml_history.specs.HistoryStep.{beats, better, best}
 

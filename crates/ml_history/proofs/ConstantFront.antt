@@ -18,8 +18,8 @@
 --   front_found         == some front with which all stacks begin has a last name that is full at some step
 --   full_mark           == so some mark is at or below green for this name
 --   red_above           == and each red mark is above it
-use Rattle.std.proofs.Common.{ℕ, zero, suc, ◌≡◌, ◌+◌, ◌<◌, ◌≤◌, ◌⊎◌, inl, inr, arith, Bool, true, false, List, [], ◌∷◌, ◌++◌, map, refl, sym, subst, ap, ◌∙◌, append_assoc}
-use Rattle.std.proofs.lemmas.Bool.{cases_Bool, cases_lt, cases_eq, eqb-true, or_left}
+use Rattle.std.proofs.Common.{ℕ, zero, suc, ◌≡◌, ◌+◌, ◌<◌, ◌≤◌, ◌⊎◌, inl, inr, arith, Bool, true, false, List, [], ◌∷◌, ◌++◌, refl, sym, subst, ap, ◌∙◌, append_assoc}
+use Rattle.std.proofs.lemmas.Bool.{cases_Bool, cases_lt, cases_eq, eqb-true}
 use Rattle.ml_lists.specs.Counting.{count}
 use Rattle.ml_lists.specs.Member.{IsMember}
 use Rattle.ml_lists.proofs.Ranks.{count_lost}
@@ -28,7 +28,7 @@ use Rattle.ml_trace.specs.declared.marks.Mark.TheVariants.{Red, Green}
 use Rattle.ml_trace.specs.Marks.{mark_le}
 use Rattle.ml_trace.specs.Stack.{has, ends_in}
 use Rattle.ml_trace.proofs.Stacks.{ends-has}
-use Rattle.ml_history.specs.HistoryStep.{offered, beats, last_name, through}
+use Rattle.ml_history.specs.HistoryStep.{offered, beats, last_name}
 use Rattle.ml_history.proofs.FrontStep.{Quiet, FollowedBy, front_kept, front_followed}
 use Rattle.ml_history.proofs.OfferedStacks.{offered-accepting, offered-plain, last_name-ends}
 use Rattle.ml_history.proofs.StackStep.{StackStep}
@@ -129,10 +129,10 @@ followed_new p s u step quiet before st accepts = by_rest before.rest before.is
     by_rest : (rest : List ℕ) → s ≡ p ++ rest → Followed p u
     by_rest [] e =
         from (step.used + last_name s) []
-          (offered-accepting step.used step.accepting s accepts ∙ ap (λ v. v ++ (step.used + last_name s) ∷ []) e ∙ append_assoc p [] ((step.used + last_name s) ∷ []))
+        (offered-accepting step.used step.accepting s accepts ∙ ap (λ v. v ++ (step.used + last_name s) ∷ []) e ∙ append_assoc p [] ((step.used + last_name s) ∷ []))
     by_rest (x ∷ xs) e =
         from x (xs ++ (step.used + last_name s) ∷ [])
-          (offered-accepting step.used step.accepting s accepts ∙ ap (λ v. v ++ (step.used + last_name s) ∷ []) e ∙ append_assoc p (x ∷ xs) ((step.used + last_name s) ∷ []))
+        (offered-accepting step.used step.accepting s accepts ∙ ap (λ v. v ++ (step.used + last_name s) ∷ []) e ∙ append_assoc p (x ∷ xs) ((step.used + last_name s) ∷ []))
 
 -- a name of the front survives with its number
 kept_at : (p s u : List ℕ) (step : StackStep s u) → Starts p s → Starts p u → (z : ℕ) → has z p ≡ true → (count step.alive z ≡ z) × (step.alive z ≡ true)
@@ -173,10 +173,10 @@ same_name p n s c w each quiet x f z rest e le =
 -- and all along
 flat : (p : List ℕ) (n : ℕ) (s c : List ℕ) (w : Walk n s c) → EachStarts p n s c w → EachQuiet p n s c w → (x : ℕ) (f : FollowedBy p x s) (z : ℕ) (rest : List ℕ) → c ≡ p ++ z ∷ rest → x ≤ z → EachStarts (p ++ x ∷ []) n s c w
 flat p zero s c w each quiet x f z rest e le = same_name p zero s c w each quiet x f z rest e le
-flat p (suc n) s c w each quiet x f z rest e le =
-    ( same_name p (suc n) s c w each quiet x f z rest e le
-    , flat p n w.0 c w.2 each.1 quiet.1 x (followed_step p s w.0 w.1 quiet.0 (first_starts p n w.0 c w.2 each.1) x f) z rest e le
-    )
+flat p (suc n) s c w each quiet x f z rest e le = (
+  same_name p (suc n) s c w each quiet x f z rest e le,
+  flat p n w.0 c w.2 each.1 quiet.1 x (followed_step p s w.0 w.1 quiet.0 (first_starts p n w.0 c w.2 each.1) x f) z rest e le,
+)
 
 -- a quiet front of a loop with an accepting transition gets one name longer
 pub longer : (p : List ℕ) (n : ℕ) (s c : List ℕ) (w : Walk n s c) → c ≡ s → EachStarts p n s c w → EachQuiet p n s c w → SomeAccepts n s c w → (x : ℕ) × EachStarts (p ++ x ∷ []) n s c w

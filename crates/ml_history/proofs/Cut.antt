@@ -7,10 +7,9 @@
 --   through-ascending  == a cut stack ascends
 --   through-advanced   == a name that is advanced in a cut stack that ascends is advanced in the stack
 --   through-up_to      == a cut stack and the stack agree up to each name of the cut stack
-use Rattle.std.proofs.Common.{ℕ, ◌≡◌, ◌≢◌, ◌<◌, ◌⊎◌, inl, inr, arith, Bool, true, false, cond, eqb, ◌||◌, List, [], ◌∷◌, refl, sym, subst, ap, ◌∙◌}
-use Rattle.std.proofs.lemmas.Bool.{cases_Bool, cond-true, cond-false, eqb-true, or_cases, or_left, or_right, or_from}
+use Rattle.std.proofs.Common.{ℕ, ◌≡◌, ◌≢◌, ◌⊎◌, inl, inr, arith, Bool, true, false, eqb, List, [], ◌∷◌, refl, sym, subst, ap, ◌∙◌}
+use Rattle.std.proofs.lemmas.Bool.{cases_Bool, cond-true, cond-false, eqb-true, or_cases, or_left, or_right}
 use Rattle.ml_lists.specs.Ascending.{IsAscending}
-use Rattle.ml_lists.specs.Member.{IsMember}
 use Rattle.ml_trace.specs.Stack.{has, ends_in}
 use Rattle.ml_trace.proofs.Stacks.{ends-has, has-member, member-has, ends-cons, ends-cons_not}
 use Rattle.ml_history.specs.History.{up_to}
@@ -65,7 +64,7 @@ pub through-whole : (test : ℕ → Bool) (s : List ℕ) → ((y : ℕ) → has 
 through-whole test [] fails = refl
 through-whole test (x ∷ xs) fails =
     through-goes test x xs (fails x (member-has x (x ∷ xs) (inl refl)))
-      ∙ ap (λ v. x ∷ v) (through-whole test xs (λ y h. fails y (or_right (eqb x y) (has y xs) h)))
+    ∙ ap (λ v. x ∷ v) (through-whole test xs (λ y h. fails y (or_right (eqb x y) (has y xs) h)))
 
 -- a cut stack is not empty
 pub through-not_empty : (test : ℕ → Bool) (s : List ℕ) → s ≢ [] → through test s ≢ []
@@ -85,7 +84,7 @@ through-ascending test (x ∷ xs) a = by_test (cases_Bool (test x)) (through-asc
     by_test (inl t) rest = subst IsAscending (sym (through-stops test x xs t)) ((λ y m. absurd m), tt)
     by_test (inr f) rest =
         subst IsAscending (sym (through-goes test x xs f))
-          ((λ y m. a.0 y (has-member y xs (through-has test y xs (member-has y (through test xs) m)))), rest)
+        ((λ y m. a.0 y (has-member y xs (through-has test y xs (member-has y (through test xs) m)))), rest)
 
 -- a name that is advanced in a cut stack that ascends is advanced in the stack
 pub through-advanced : (test : ℕ → Bool) (y : ℕ) (s : List ℕ) → IsAscending s → has y (through test s) ≡ true → ends_in y (through test s) ≡ false → ends_in y s ≡ false
@@ -137,6 +136,6 @@ through-up_to test y (x ∷ xs) h = by_test (cases_Bool (eqb x y)) (cases_Bool (
     by_test (inr g) (inr f) rest =
         let l = further g (or_cases (eqb x y) (has y (through test xs)) (subst (λ v. has y v ≡ true) (through-goes test x xs f) h)) in
         ap (up_to y) (through-goes test x xs f)
-          ∙ through-goes (λ v. eqb v y) x (through test xs) g
-          ∙ ap (λ v. x ∷ v) (rest l)
-          ∙ sym (through-goes (λ v. eqb v y) x xs g)
+        ∙ through-goes (λ v. eqb v y) x (through test xs) g
+        ∙ ap (λ v. x ∷ v) (rest l)
+        ∙ sym (through-goes (λ v. eqb v y) x xs g)

@@ -6,18 +6,17 @@
 --   path_along        == they are a path from h to what they make of h
 --   history-stands    == each name in use in a history stands in a stack
 --   odd_mark_has_run  == the first law
-use Rattle.std.proofs.Common.{ℕ, ◌≡◌, ◌<◌, Bool, true, List, [], ◌∷◌, map, refl, sym, subst, subst₂, ap, ◌∙◌}
-use Rattle.ml_lists.specs.Member.{IsMember}
+use Rattle.std.proofs.Common.{ℕ, ◌≡◌, true, List, [], ◌∷◌, refl, sym, subst, ap}
 use Rattle.ml_trace.specs.declared.letters.Transition.{Transition}
 use Rattle.ml_trace.specs.LabelledLoop.{MarkedStep, letters, marks, IsPath, EachNameStands, CyclicRun}
 use Rattle.ml_trace.specs.Marks.{is_odd, lowest_mark}
 use Rattle.ml_trace.specs.Run.{in_letter}
-use Rattle.ml_trace.specs.Stack.{Item, Entry, has}
+use Rattle.ml_trace.specs.Stack.{Item}
 use Rattle.ml_trace.proofs.OddLoop.{odd_loop}
 use Rattle.ml_trace.proofs.Stacks.{ends-has}
-use Rattle.ml_history.specs.CycleLaws.{entry, ReturnsTo, AcceptingCycle, OddMarkHasRun}
+use Rattle.ml_history.specs.CycleLaws.{entry, OddMarkHasRun}
 use Rattle.ml_history.specs.History.{IsHistory}
-use Rattle.ml_history.specs.HistoryStep.{live, after, marks_along, stepped, step_mark}
+use Rattle.ml_history.specs.HistoryStep.{after, marks_along, stepped, step_mark}
 use Rattle.ml_history.proofs.StepKeeps.{step_is_history}
 use Rattle.ml_history.proofs.StepNames.{step_names}
 
@@ -49,4 +48,4 @@ odd_mark_has_run h w r odd =
     let path : IsPath in_letter (steps_along h w) (entry h) (entry h) = subst (λ g. IsPath in_letter (steps_along h w) (entry h) (entry g)) r.returns (path_along h w r.history) in
     let lowest_odd : is_odd (lowest_mark (marks (steps_along h w))) ≡ true = subst (λ ms. is_odd (lowest_mark ms) ≡ true) (sym (marks_of_steps h w)) odd in
     subst (λ v. CyclicRun in_letter (entry h) v) (letters_along h w)
-      (odd_loop in_letter (steps_along h w) (entry h) path (history-stands h r.history) lowest_odd)
+    (odd_loop in_letter (steps_along h w) (entry h) path (history-stands h r.history) lowest_odd)

@@ -7,18 +7,17 @@
 --   follow_accepting    == where the run accepts, so does some step of the walk
 --   after-append, marks-append, after_times, marks_times == words one behind another
 --   one_stack           == a state has one stack in a history
-use Rattle.std.proofs.Common.{ℕ, zero, suc, ◌≡◌, ◌≢◌, ◌<◌, ◌⊎◌, inl, inr, arith, Bool, true, List, [], ◌∷◌, ◌++◌, map, length, refl, sym, subst, ap, ◌∙◌}
+use Rattle.std.proofs.Common.{ℕ, zero, suc, ◌≡◌, ◌<◌, ◌⊎◌, inl, inr, arith, Bool, true, List, [], ◌∷◌, ◌++◌, map, length, refl, sym, subst, ap, ◌∙◌}
 use Rattle.ml_lists.specs.Ascending.{IsAscending}
 use Rattle.ml_lists.specs.Member.{IsMember}
 use Rattle.ml_lists.specs.Repeated.{repeated}
 use Rattle.ml_lists.proofs.Member.{member-map}
 use Rattle.ml_trace.specs.declared.letters.Transition.{Transition}
-use Rattle.ml_trace.specs.declared.marks.Mark.{Mark}
 use Rattle.ml_trace.specs.Run.{Run, AcceptingRun, in_letter}
 use Rattle.ml_trace.specs.Stack.{Item}
 use Rattle.ml_history.specs.HistoryStep.{after, marks_along, stepped, step_mark}
 use Rattle.ml_history.proofs.ConstantFront.{Walk, walk_marks, SomeAccepts}
-use Rattle.ml_history.proofs.StackStep.{StackStep, StackStepTo, stack_step}
+use Rattle.ml_history.proofs.StackStep.{StackStepTo, stack_step}
 
 -- the item at the end of a run along w to q, with the walk of stacks to it
 pub record Followed (h : List (Item ℕ)) (w : List (List Transition)) (s : List ℕ) (q : ℕ) : Type 0 where
@@ -88,8 +87,8 @@ pub marks_times : (h : List (Item ℕ)) (w : List (List Transition)) (k : ℕ) �
 marks_times h w zero returns = refl
 marks_times h w (suc k) returns =
     marks-append h w (repeated k w)
-      ∙ ap (λ g. marks_along h w ++ marks_along g (repeated k w)) returns
-      ∙ ap (λ ms. marks_along h w ++ ms) (marks_times h w k returns)
+    ∙ ap (λ g. marks_along h w ++ marks_along g (repeated k w)) returns
+    ∙ ap (λ ms. marks_along h w ++ ms) (marks_times h w k returns)
 
 -- ---- one stack for a state
 

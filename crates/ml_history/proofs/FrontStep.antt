@@ -9,7 +9,7 @@
 --   front_kept        == a name of the front survives with its number
 --   FollowedBy p x s  == the stack s begins with p, and then has a name at most x
 --   front_followed    == the name that follows the front does not rise
-use Rattle.std.proofs.Common.{ℕ, ◌≡◌, ◌+◌, ◌<◌, ◌≤◌, ◌⊎◌, inl, inr, arith, Bool, true, false, eqb, List, [], ◌∷◌, ◌++◌, map, refl, sym, subst, ap, ◌∙◌}
+use Rattle.std.proofs.Common.{ℕ, ◌≡◌, ◌<◌, ◌≤◌, ◌⊎◌, inl, inr, arith, Bool, true, false, eqb, List, [], ◌∷◌, ◌++◌, map, refl, sym, subst, ap, ◌∙◌}
 use Rattle.std.proofs.lemmas.Bool.{cases_Bool, or_cases, or_left, or_right, eqb-true, eq-eqb}
 use Rattle.ml_lists.specs.Counting.{count}
 use Rattle.ml_lists.proofs.Counting.{count_le}
@@ -83,7 +83,7 @@ module _ (full alive : ℕ → Bool) where
       by_part (inr later) (inl stops) rest = absurd (none ys later (no_others x t y (ys ++ b) stops e))
       by_part (inr later) (inr goes) rest =
           rest same.1 (other_numbers x t y (ys ++ b) goes e)
-            (λ v n. cut v (subst (λ u. has v u ≡ true) (sym (through-goes full x t goes)) (or_right (eqb x v) (has v (through full t)) n))) z later
+          (λ v n. cut v (subst (λ u. has v u ≡ true) (sym (through-goes full x t goes)) (or_right (eqb x v) (has v (through full t)) n))) z later
 
 -- the stack s begins with p, and then has a name at most x
 pub record FollowedBy (p : List ℕ) (x : ℕ) (s : List ℕ) : Type 0 where

@@ -5,11 +5,10 @@
 --   is_last-from, is_last-in   == the same for the last name
 --   live-has                   == a name that stands in a stack is in use
 --   live-witness               == below the number of names in use, some name at or above stands in a stack
-use Rattle.std.proofs.Common.{ℕ, ◌≡◌, ◌<◌, ◌≤◌, ◌⊎◌, inl, inr, arith, Bool, true, false, List, [], ◌∷◌, max, refl, eqb, ap}
+use Rattle.std.proofs.Common.{ℕ, ◌≡◌, ◌<◌, ◌≤◌, ◌⊎◌, inl, inr, arith, true, List, [], ◌∷◌, refl, eqb, ap}
 use Rattle.std.proofs.lemmas.Bool.{cases_lt, or_cases, or_left, or_right, eqb-true, eq-eqb}
-use Rattle.std.specs.List.{list_any}
 use Rattle.ml_lists.specs.Member.{IsMember}
-use Rattle.ml_lists.proofs.Member.{Passing, list_any-member, member-list_any}
+use Rattle.ml_lists.proofs.Member.{list_any-member, member-list_any}
 use Rattle.ml_trace.specs.Stack.{Item, has, ends_in}
 use Rattle.ml_history.specs.HistoryStep.{above, live, stands, is_last}
 

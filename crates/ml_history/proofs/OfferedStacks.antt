@@ -10,15 +10,15 @@
 --   offered-ascends     == it ascends, if the stack ascends and has names below r alone
 --   offered-up_to       == it agrees with the stack up to each name of the stack
 --   up_to-end           == a stack that ascends is whole up to its last name
-use Rattle.std.proofs.Common.{ℕ, ◌≡◌, ◌≢◌, ◌+◌, ◌<◌, ◌≤◌, ◌⊎◌, inl, inr, arith, Bool, true, false, cond, eqb, List, [], ◌∷◌, ◌++◌, refl, sym, subst, ap, ◌∙◌}
-use Rattle.std.proofs.lemmas.Bool.{cases_Bool, cond-true, cond-false, eqb-true, eq-eqb, or_cases, or_left, or_right}
+use Rattle.std.proofs.Common.{ℕ, ◌≡◌, ◌≢◌, ◌+◌, ◌<◌, ◌⊎◌, inl, inr, arith, Bool, true, false, eqb, List, [], ◌∷◌, ◌++◌, refl, sym, subst, ap, ◌∙◌}
+use Rattle.std.proofs.lemmas.Bool.{cases_Bool, cond-true, cond-false, eqb-true, eq-eqb, or_cases}
 use Rattle.ml_lists.specs.Ascending.{IsAscending}
 use Rattle.ml_lists.specs.Member.{IsMember}
 use Rattle.ml_lists.proofs.Member.{member-append}
 use Rattle.ml_trace.specs.Stack.{has, ends_in}
 use Rattle.ml_trace.proofs.Stacks.{ends-has, has-member, member-has}
 use Rattle.ml_history.specs.History.{up_to}
-use Rattle.ml_history.specs.HistoryStep.{last_name, offered, through}
+use Rattle.ml_history.specs.HistoryStep.{last_name, offered}
 use Rattle.ml_history.proofs.Cut.{through-stops, through-goes}
 
 -- a stack that is not empty ends in its last name

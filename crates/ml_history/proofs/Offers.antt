@@ -3,11 +3,11 @@
 --   Offer h l o  == o is an offer: the stack of a state of h, along a transition of l
 --   offer_from   == each member of the list of offers is an offer
 --   offer_in     == each offer is a member of it
-use Rattle.std.proofs.Common.{ℕ, ◌≡◌, Bool, true, eqb, List, [], ◌∷◌, map, refl, sym, subst, subst₂, ap}
+use Rattle.std.proofs.Common.{ℕ, ◌≡◌, Bool, eqb, List, refl, sym, subst, subst₂, ap}
 use Rattle.std.proofs.lemmas.Bool.{eqb-true, eq-eqb}
 use Rattle.std.specs.List.{filter}
 use Rattle.ml_lists.specs.Member.{IsMember}
-use Rattle.ml_lists.proofs.Member.{Image, InList, member-map, member-map_from, member-filter, member-filter_from, member-flat_map, member-flat_map_from}
+use Rattle.ml_lists.proofs.Member.{Image, member-map, member-map_from, member-filter, member-filter_from, member-flat_map, member-flat_map_from}
 use Rattle.ml_trace.specs.declared.letters.Transition.{Transition}
 use Rattle.ml_trace.specs.Run.{in_letter}
 use Rattle.ml_trace.specs.Stack.{Item}

@@ -13,22 +13,19 @@
 --   below_bound         == names below the bound of the step's mark are kept
 --   green_kept          == a green name is kept, and is in use before the step
 --   stands_behind       == a name that is kept stands behind the step
-use Rattle.std.proofs.Common.{ℕ, ◌≡◌, ◌+◌, ◌*◌, ◌<◌, ◌≤◌, ◌⊎◌, inl, inr, arith, Bool, true, false, not, ◌&&◌, eqb, ltb, List, [], ◌∷◌, ◌++◌, map, refl, sym, subst, ap, ◌∙◌}
-use Rattle.std.proofs.lemmas.Bool.{cases_Bool, cases_lt, cases_eq, and_parts, and_cases, not-true, not-false, lt-ltb, ltb-true, eqb-true}
+use Rattle.std.proofs.Common.{ℕ, ◌≡◌, ◌+◌, ◌*◌, ◌<◌, ◌≤◌, ◌⊎◌, inl, inr, arith, true, false, not, ltb, List, [], ◌∷◌, ◌++◌, map, refl, sym, subst, ap, ◌∙◌}
+use Rattle.std.proofs.lemmas.Bool.{cases_Bool, cases_eq, and_parts, and_cases, not-true, not-false, lt-ltb, ltb-true}
 use Rattle.ml_lists.specs.Member.{IsMember}
 use Rattle.ml_lists.proofs.Member.{Image, member-map, member-map_from}
 use Rattle.ml_lists.proofs.Ranks.{count_all, count_same}
 use Rattle.ml_lists.specs.Counting.{count}
-use Rattle.ml_lists.specs.Least.{least}
 use Rattle.ml_trace.specs.declared.letters.Transition.{Transition}
 use Rattle.ml_trace.specs.declared.marks.Mark.{Mark}
 use Rattle.ml_trace.specs.declared.marks.Mark.TheVariants.{Red, Green, Neutral}
 use Rattle.ml_trace.specs.NamesCondition.{bound}
-use Rattle.ml_trace.specs.Run.{in_letter}
 use Rattle.ml_trace.specs.Stack.{Item, has, ends_in}
 use Rattle.ml_trace.proofs.Stacks.{has-member, member-has, ends-map}
-use Rattle.ml_history.specs.HistoryStep.{live, offers, offered, last_name, taken_along, stands, is_last, is_full, cut, survives, is_red, is_green, through, new_number, renumbered, stepped, step_mark, mark_of}
-use Rattle.ml_history.proofs.Cut.{through-has}
+use Rattle.ml_history.specs.HistoryStep.{live, offers, last_name, taken_along, stands, is_last, is_full, cut, survives, is_red, is_green, through, new_number, renumbered, step_mark}
 use Rattle.ml_history.proofs.Names.{Standing, stands-from, stands-in, is_last-in, live-has}
 use Rattle.ml_history.proofs.Offers.{Offer, offer_from}
 use Rattle.ml_history.proofs.OfferedStacks.{offered-has, offered-accepting, ends-append}
@@ -55,8 +52,8 @@ full_below h letter y full = from_stack (stands-from (taken_along h letter) y pa
     by_name s o (inr new) =
         let stack_is : s.item.stack ≡ o.source.stack ++ (live h + last_name o.source.stack) ∷ [] = o.stack_is ∙ offered-accepting (live h) o.accepting o.source.stack new.0 in
         let ends : ends_in y s.item.stack ≡ true =
-            subst (λ v. ends_in y v ≡ true) (sym stack_is)
-              (subst (λ v. ends_in v (o.source.stack ++ (live h + last_name o.source.stack) ∷ []) ≡ true) (sym new.1) (ends-append (live h + last_name o.source.stack) o.source.stack))
+        subst (λ v. ends_in y v ≡ true) (sym stack_is)
+        (subst (λ v. ends_in v (o.source.stack ++ (live h + last_name o.source.stack) ∷ []) ≡ true) (sym new.1) (ends-append (live h + last_name o.source.stack) o.source.stack))
         in
         let last = is_last-in (taken_along h letter) y s.item s.member ends in
         let none = not-true (is_last (taken_along h letter) y) parts.1 in
@@ -163,7 +160,7 @@ pub stands_behind : (t : List (Item ℕ)) (y : ℕ) → Kept t y → y < live (r
 stands_behind t y kept =
     let c = survives_in t y (kept y (omega arith)) in
     let image : IsMember (count (survives t) y) (map (count (survives t)) (through (is_full t) c.item.stack)) =
-        member-map (count (survives t)) y (through (is_full t) c.item.stack) (has-member y (through (is_full t) c.item.stack) c.named)
+    member-map (count (survives t)) y (through (is_full t) c.item.stack) (has-member y (through (is_full t) c.item.stack) c.named)
     in
     let named = member-has (count (survives t) y) (map (count (survives t)) (through (is_full t) c.item.stack)) image in
     let here : has y (map (count (survives t)) (through (is_full t) c.item.stack)) ≡ true = subst (λ v. has v (map (count (survives t)) (through (is_full t) c.item.stack)) ≡ true) (kept_number t y kept) named in

@@ -4,16 +4,12 @@
 --   above_more, live_more   == the number of names in use
 --   above_at, live_at       == a name, or a stack, at a place is below it
 --   last_name-live          == so is the last name of a stack
---   kept_more               == the images of the entries that pass a test
---   offers_more             == the offers of a letter
 --   through-at, through-all == a stack cut at its first name that passes, or at none
 --   take_all                == all entries of a list
-use Rattle.std.proofs.Common.{ℕ, zero, suc, ◌≡◌, ◌+◌, ◌<◌, ◌≤◌, ◌⊎◌, inl, inr, arith, Bool, true, false, cond, eqb, max, List, [], ◌∷◌, ◌++◌, length, get_or, take, map, refl, sym, ap, ◌∙◌, subst, append_assoc, append-nil}
-use Rattle.std.proofs.lemmas.Bool.{cases_Bool, cond-true, cond-false}
-use Rattle.std.specs.List.{filter, flat_map}
+use Rattle.std.proofs.Common.{ℕ, zero, suc, ◌≡◌, ◌+◌, ◌<◌, ◌≤◌, arith, Bool, true, false, eqb, max, List, [], ◌∷◌, ◌++◌, length, get_or, take, map, refl, sym, ap, ◌∙◌}
 use Rattle.ml_trace.specs.declared.letters.Transition.{Transition}
 use Rattle.ml_trace.specs.Stack.{Item}
-use Rattle.ml_history.specs.HistoryStep.{above, live, last_name, offered, offers, offers_along, through, is_full, new_number}
+use Rattle.ml_history.specs.HistoryStep.{above, live, last_name, offered, through, is_full, new_number}
 use Rattle.ml_history.proofs.Cut.{through-stops, through-goes}
 
 -- the offer of a transition to the source a, where r names are in use
@@ -74,65 +70,13 @@ last_name-above (x ∷ (y ∷ ys)) = let b = last_name-above (y ∷ ys) in omega
 pub last_name-live : (h : List (Item ℕ)) (i : ℕ) (d : Item ℕ) → i < length h → last_name (get_or h i d).stack ≤ live h
 last_name-live h i d low = omega (arith, live_at h i d low, last_name-above (get_or h i d).stack)
 
--- the images of the entries that pass a test: one entry more, that passes
-pub kept_more : {X Y : Type 0} → (f : X → Y) (test : X → Bool) (xs : List X) (i : ℕ) (d : X) → i < length xs → test (get_or xs i d) ≡ true → map f (filter test (take (i + 1) xs)) ≡ map f (filter test (take i xs)) ++ f (get_or xs i d) ∷ []
-kept_more f test [] i d low t = absurd (omega arith)
-kept_more f test (x ∷ xs) zero d low t = ap (map f) (cond-true (test x) (x ∷ []) [] t)
-kept_more f test (x ∷ xs) (suc i) d low t = by_test (cases_Bool (test x)) (kept_more f test xs i d (omega arith) t)
-  where
-    e : suc i + 1 ≡ suc (i + 1)
-    e = omega arith
-
-    by_test : (test x ≡ true) ⊎ (test x ≡ false) → map f (filter test (take (i + 1) xs)) ≡ map f (filter test (take i xs)) ++ f (get_or xs i d) ∷ [] → map f (filter test (take (suc i + 1) (x ∷ xs))) ≡ map f (filter test (x ∷ take i xs)) ++ f (get_or xs i d) ∷ []
-    by_test (inl here) rest =
-        ap (λ k. map f (filter test (take k (x ∷ xs)))) e
-          ∙ ap (map f) (cond-true (test x) (x ∷ filter test (take (i + 1) xs)) (filter test (take (i + 1) xs)) here)
-          ∙ ap (λ v. f x ∷ v) rest
-          ∙ ap (λ v. map f v ++ f (get_or xs i d) ∷ []) (sym (cond-true (test x) (x ∷ filter test (take i xs)) (filter test (take i xs)) here))
-    by_test (inr other) rest =
-        ap (λ k. map f (filter test (take k (x ∷ xs)))) e
-          ∙ ap (map f) (cond-false (test x) (x ∷ filter test (take (i + 1) xs)) (filter test (take (i + 1) xs)) other)
-          ∙ rest
-          ∙ ap (λ v. map f v ++ f (get_or xs i d) ∷ []) (sym (cond-false (test x) (x ∷ filter test (take i xs)) (filter test (take i xs)) other))
-
--- one entry more, that doesn't
-pub kept_same : {X Y : Type 0} → (f : X → Y) (test : X → Bool) (xs : List X) (i : ℕ) (d : X) → i < length xs → test (get_or xs i d) ≡ false → map f (filter test (take (i + 1) xs)) ≡ map f (filter test (take i xs))
-kept_same f test [] i d low t = absurd (omega arith)
-kept_same f test (x ∷ xs) zero d low t = ap (map f) (cond-false (test x) (x ∷ []) [] t)
-kept_same f test (x ∷ xs) (suc i) d low t = by_test (cases_Bool (test x)) (kept_same f test xs i d (omega arith) t)
-  where
-    e : suc i + 1 ≡ suc (i + 1)
-    e = omega arith
-
-    by_test : (test x ≡ true) ⊎ (test x ≡ false) → map f (filter test (take (i + 1) xs)) ≡ map f (filter test (take i xs)) → map f (filter test (take (suc i + 1) (x ∷ xs))) ≡ map f (filter test (x ∷ take i xs))
-    by_test (inl here) rest =
-        ap (λ k. map f (filter test (take k (x ∷ xs)))) e
-          ∙ ap (map f) (cond-true (test x) (x ∷ filter test (take (i + 1) xs)) (filter test (take (i + 1) xs)) here)
-          ∙ ap (λ v. f x ∷ v) rest
-          ∙ ap (map f) (sym (cond-true (test x) (x ∷ filter test (take i xs)) (filter test (take i xs)) here))
-    by_test (inr other) rest =
-        ap (λ k. map f (filter test (take k (x ∷ xs)))) e
-          ∙ ap (map f) (cond-false (test x) (x ∷ filter test (take (i + 1) xs)) (filter test (take (i + 1) xs)) other)
-          ∙ rest
-          ∙ ap (map f) (sym (cond-false (test x) (x ∷ filter test (take i xs)) (filter test (take i xs)) other))
-
--- the offers of a letter: one transition more
-pub offers_more : (h : List (Item ℕ)) (letter : List Transition) (i : ℕ) (d : Transition) → i < length letter → offers h (take (i + 1) letter) ≡ offers h (take i letter) ++ offers_along h (get_or letter i d)
-offers_more h [] i d low = absurd (omega arith)
-offers_more h (t ∷ ts) zero d low = append-nil (offers_along h t)
-offers_more h (t ∷ ts) (suc i) d low =
-    let e : suc i + 1 ≡ suc (i + 1) = omega arith in
-    ap (λ k. offers h (take k (t ∷ ts))) e
-      ∙ ap (λ v. offers_along h t ++ v) (offers_more h ts i d (omega arith))
-      ∙ sym (append_assoc (offers_along h t) (offers h (take i ts)) (offers_along h (get_or ts i d)))
-
 -- a stack cut at its first name that passes
 pub through-at : (test : ℕ → Bool) (s : List ℕ) (i : ℕ) → i < length s → ((k : ℕ) → k < i → test (get_or s k 0) ≡ false) → test (get_or s i 0) ≡ true → take i s ++ get_or s i 0 ∷ [] ≡ through test s
 through-at test [] i low none passes = absurd (omega arith)
 through-at test (x ∷ xs) zero low none passes = sym (through-stops test x xs passes)
 through-at test (x ∷ xs) (suc i) low none passes =
     ap (λ v. x ∷ v) (through-at test xs i (omega arith) (λ k l. none (suc k) (omega arith)) passes)
-      ∙ sym (through-goes test x xs (none 0 (omega arith)))
+    ∙ sym (through-goes test x xs (none 0 (omega arith)))
 
 -- a stack of which no name passes
 pub through-all : (test : ℕ → Bool) (s : List ℕ) → ((k : ℕ) → k < length s → test (get_or s k 0) ≡ false) → s ≡ through test s

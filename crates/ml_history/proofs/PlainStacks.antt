@@ -3,7 +3,7 @@
 --   last_at            == the last entry of a stack is its last name
 --   ends_at            == so whether it is a name says whether the stack ends in this name
 --   beats-longer       == a stack that goes on where the other ends beats it
-use Rattle.std.proofs.Common.{ℕ, zero, suc, ◌≡◌, ◌+◌, ◌-◌, ◌<◌, ◌≤◌, arith, Bool, true, false, cond, eqb, ltb, List, [], ◌∷◌, length, get_or, drop, refl, sym, ap, ◌∙◌}
+use Rattle.std.proofs.Common.{ℕ, zero, suc, ◌≡◌, ◌-◌, ◌<◌, arith, true, eqb, List, [], ◌∷◌, length, get_or, drop, refl, ap, ◌∙◌}
 use Rattle.ml_trace.specs.Stack.{ends_in}
 use Rattle.ml_history.specs.HistoryStep.{beats, last_name}
 

@@ -9,7 +9,7 @@
 --   put_all-append       == the last offer is put first
 --   put_all-taken        == all offers, put one at a time, are what the targets take
 use Rattle.std.proofs.Common.{ℕ, zero, suc, ◌≡◌, ◌+◌, ◌<◌, ◌≤◌, ◌⊎◌, inl, inr, arith, Bool, true, false, cond, eqb, ltb, List, [], ◌∷◌, ◌++◌, length, get_or, set, take, drop, map, refl, sym, ap, ◌∙◌, subst}
-use Rattle.std.proofs.lemmas.Bool.{cases_Bool, cases_lt, cases_eq, cond-true, cond-false, ltb-true, ltb-false, eqb-true, eqb-false, lt-ltb, le-ltb, eq-eqb, ne_eqb}
+use Rattle.std.proofs.lemmas.Bool.{cases_Bool, cases_lt, cases_eq, cond-true, cond-false, eqb-true, lt-ltb, le-ltb, eq-eqb, ne_eqb}
 use Rattle.std.specs.List.{filter}
 use Rattle.ml_lists.specs.Ascending.{IsAscending, insert_once, ascending}
 use Rattle.ml_lists.specs.Member.{IsMember}
@@ -62,13 +62,13 @@ module _ (o t : Item ℕ) (ts : List (Item ℕ)) where
   over : o.state ≡ t.state → put o (t ∷ ts) ≡ record { state = t.state; stack = better o.stack t.stack } ∷ ts
   over same =
       cond-false (ltb o.state t.state) (o ∷ (t ∷ ts)) (cond (eqb o.state t.state) (record { state = t.state; stack = better o.stack t.stack } ∷ ts) (t ∷ put o ts)) (le-ltb o.state t.state (omega arith))
-        ∙ cond-true (eqb o.state t.state) (record { state = t.state; stack = better o.stack t.stack } ∷ ts) (t ∷ put o ts) (eq-eqb o.state t.state same)
+      ∙ cond-true (eqb o.state t.state) (record { state = t.state; stack = better o.stack t.stack } ∷ ts) (t ∷ put o ts) (eq-eqb o.state t.state same)
 
   later : t.state < o.state → put o (t ∷ ts) ≡ t ∷ put o ts
   later high =
       let ne : o.state ≡ t.state → ⊥ = λ e. omega arith in
       cond-false (ltb o.state t.state) (o ∷ (t ∷ ts)) (cond (eqb o.state t.state) (record { state = t.state; stack = better o.stack t.stack } ∷ ts) (t ∷ put o ts)) (le-ltb o.state t.state (omega arith))
-        ∙ cond-false (eqb o.state t.state) (record { state = t.state; stack = better o.stack t.stack } ∷ ts) (t ∷ put o ts) (ne_eqb o.state t.state ne)
+      ∙ cond-false (eqb o.state t.state) (record { state = t.state; stack = better o.stack t.stack } ∷ ts) (t ∷ put o ts) (ne_eqb o.state t.state ne)
 
   -- and of the place of its state
   place_first : o.state ≤ t.state → place_of o.state (t ∷ ts) ≡ 0
@@ -131,20 +131,20 @@ module _ (o : Item ℕ) (os : List (Item ℕ)) where
   item_for-other : (q : ℕ) → (o.state ≡ q → ⊥) → item_for (o ∷ os) q ≡ item_for os q
   item_for-other q other =
       ap (λ (v : List (Item ℕ)). record { state = q; stack = best (map (λ (b : Item ℕ). b.stack) v) })
-        (cond-false (eqb o.state q) (o ∷ filter (λ (b : Item ℕ). eqb b.state q) os) (filter (λ (b : Item ℕ). eqb b.state q) os) (ne_eqb o.state q other))
+      (cond-false (eqb o.state q) (o ∷ filter (λ (b : Item ℕ). eqb b.state q) os) (filter (λ (b : Item ℕ). eqb b.state q) os) (ne_eqb o.state q other))
 
   -- the state of the offer takes the better of the offer and what it would take without it
   item_for-own : (q : ℕ) → o.state ≡ q → item_for (o ∷ os) q ≡ record { state = q; stack = better o.stack (best (offered_to q os)) }
   item_for-own q same =
       ap (λ (v : List (Item ℕ)). record { state = q; stack = best (map (λ (b : Item ℕ). b.stack) v) })
-        (cond-true (eqb o.state q) (o ∷ filter (λ (b : Item ℕ). eqb b.state q) os) (filter (λ (b : Item ℕ). eqb b.state q) os) (eq-eqb o.state q same))
+      (cond-true (eqb o.state q) (o ∷ filter (λ (b : Item ℕ). eqb b.state q) os) (filter (λ (b : Item ℕ). eqb b.state q) os) (eq-eqb o.state q same))
 
   -- without any, it takes the offer
   item_for-alone : offered_to o.state os ≡ [] → item_for (o ∷ os) o.state ≡ o
   item_for-alone none =
       item_for-own o.state refl
-        ∙ ap (λ (v : List (List ℕ)). record { state = o.state; stack = better o.stack (best v) }) none
-        ∙ ap (λ (v : List ℕ). record { state = o.state; stack = v }) (cond-false (beats [] o.stack) [] o.stack refl)
+      ∙ ap (λ (v : List (List ℕ)). record { state = o.state; stack = better o.stack (best v) }) none
+      ∙ ap (λ (v : List ℕ). record { state = o.state; stack = v }) (cond-false (beats [] o.stack) [] o.stack refl)
 
   -- other states take what they took
   others : (qs : List ℕ) → ((q : ℕ) → IsMember q qs → o.state ≡ q → ⊥) → map (item_for (o ∷ os)) qs ≡ map (item_for os) qs
@@ -171,25 +171,25 @@ module _ (o : Item ℕ) (os : List (Item ℕ)) where
       by_place : (o.state < q) ⊎ (q ≤ o.state) → (o.state ≡ q) ⊎ (o.state ≡ q → ⊥) → (((IsMember o.state qs → ⊥) → offered_to o.state os ≡ []) → map (item_for (o ∷ os)) (insert_once o.state qs) ≡ put o (map (item_for os) qs)) → map (item_for (o ∷ os)) (insert_once o.state (q ∷ qs)) ≡ put o (map (item_for os) (q ∷ qs))
       by_place (inl low) e rest =
           ap (map (item_for (o ∷ os))) (cond-true (ltb o.state q) (o.state ∷ (q ∷ qs)) (cond (eqb o.state q) (q ∷ qs) (q ∷ insert_once o.state qs)) (lt-ltb o.state q low))
-            ∙ ap (λ (v : Item ℕ). v ∷ map (item_for (o ∷ os)) (q ∷ qs)) (item_for-alone (none (λ m. above low o.state m refl)))
-            ∙ ap (λ v. o ∷ v) (others (q ∷ qs) (above low))
-            ∙ sym (first o (item_for os q) (map (item_for os) qs) low)
+          ∙ ap (λ (v : Item ℕ). v ∷ map (item_for (o ∷ os)) (q ∷ qs)) (item_for-alone (none (λ m. above low o.state m refl)))
+          ∙ ap (λ v. o ∷ v) (others (q ∷ qs) (above low))
+          ∙ sym (first o (item_for os q) (map (item_for os) qs) low)
       by_place (inr high) (inl same) rest =
           ap (map (item_for (o ∷ os))) (cond-false (ltb o.state q) (o.state ∷ (q ∷ qs)) (cond (eqb o.state q) (q ∷ qs) (q ∷ insert_once o.state qs)) (le-ltb o.state q high) ∙ cond-true (eqb o.state q) (q ∷ qs) (q ∷ insert_once o.state qs) (eq-eqb o.state q same))
-            ∙ ap (λ (v : Item ℕ). v ∷ map (item_for (o ∷ os)) qs) (item_for-own q same)
-            ∙ ap (λ v. record { state = q; stack = better o.stack (best (offered_to q os)) } ∷ v) (others qs (λ p m. behind p same m))
-            ∙ sym (over o (item_for os q) (map (item_for os) qs) same)
+          ∙ ap (λ (v : Item ℕ). v ∷ map (item_for (o ∷ os)) qs) (item_for-own q same)
+          ∙ ap (λ v. record { state = q; stack = better o.stack (best (offered_to q os)) } ∷ v) (others qs (λ p m. behind p same m))
+          ∙ sym (over o (item_for os q) (map (item_for os) qs) same)
       by_place (inr high) (inr ne) rest =
           ap (map (item_for (o ∷ os))) (cond-false (ltb o.state q) (o.state ∷ (q ∷ qs)) (cond (eqb o.state q) (q ∷ qs) (q ∷ insert_once o.state qs)) (le-ltb o.state q high) ∙ cond-false (eqb o.state q) (q ∷ qs) (q ∷ insert_once o.state qs) (ne_eqb o.state q ne))
-            ∙ ap (λ (v : Item ℕ). v ∷ map (item_for (o ∷ os)) (insert_once o.state qs)) (item_for-other q ne)
-            ∙ ap (λ v. item_for os q ∷ v) (rest (λ no_rest. none (not_in ne no_rest)))
-            ∙ sym (later o (item_for os q) (map (item_for os) qs) (omega arith))
+          ∙ ap (λ (v : Item ℕ). v ∷ map (item_for (o ∷ os)) (insert_once o.state qs)) (item_for-other q ne)
+          ∙ ap (λ v. item_for os q ∷ v) (rest (λ no_rest. none (not_in ne no_rest)))
+          ∙ sym (later o (item_for os q) (map (item_for os) qs) (omega arith))
 
   -- what is taken of one offer more, in front
   pub taken-put : taken (o ∷ os) ≡ put o (taken os)
   taken-put =
       one_more (ascending (map (λ (a : Item ℕ). a.state) os)) (ascending-is (map (λ (a : Item ℕ). a.state) os))
-        (λ out. offered_to-none o.state os (λ m. out (member-ascending o.state (map (λ (a : Item ℕ). a.state) os) m)))
+      (λ out. offered_to-none o.state os (λ m. out (member-ascending o.state (map (λ (a : Item ℕ). a.state) os) m)))
 
 -- the last offer is put first
 pub put_all-append : (os : List (Item ℕ)) (o : Item ℕ) (ts : List (Item ℕ)) → put_all (os ++ o ∷ []) ts ≡ put_all os (put o ts)
@@ -207,7 +207,7 @@ put_all-taken (o ∷ os) = ap (put o) (put_all-taken os) ∙ sym (taken-put o os
 pub put_over : (o : Item ℕ) (ts : List (Item ℕ)) (n : ℕ) (d : Item ℕ) → StandsAt o.state ts n → beats (get_or ts n d).stack o.stack ≡ false → set ts n o ≡ put o ts
 put_over o ts n d at better_one =
     let same : record { state = o.state; stack = better o.stack (get_or ts n d).stack } ≡ o =
-        ap (λ v. record { state = o.state; stack = v }) (cond-false (beats (get_or ts n d).stack o.stack) (get_or ts n d).stack o.stack better_one)
+    ap (λ v. record { state = o.state; stack = v }) (cond-false (beats (get_or ts n d).stack o.stack) (get_or ts n d).stack o.stack better_one)
     in
     sym (put-found o ts d n at.0 at.1 (at.2 d) ∙ ap (λ (v : Item ℕ). set ts n v) same)
 
@@ -215,8 +215,8 @@ put_over o ts n d at better_one =
 pub put_nothing : (o : Item ℕ) (ts : List (Item ℕ)) (n : ℕ) (d : Item ℕ) → StandsAt o.state ts n → beats (get_or ts n d).stack o.stack ≡ true → ts ≡ put o ts
 put_nothing o ts n d at beaten =
     let same : record { state = o.state; stack = better o.stack (get_or ts n d).stack } ≡ get_or ts n d =
-        ap (λ v. record { state = o.state; stack = v }) (cond-true (beats (get_or ts n d).stack o.stack) (get_or ts n d).stack o.stack beaten)
-          ∙ ap (λ v. record { state = v; stack = (get_or ts n d).stack }) (sym (at.2 d))
+    ap (λ v. record { state = o.state; stack = v }) (cond-true (beats (get_or ts n d).stack o.stack) (get_or ts n d).stack o.stack beaten)
+    ∙ ap (λ v. record { state = v; stack = (get_or ts n d).stack }) (sym (at.2 d))
     in
     sym (put-found o ts d n at.0 at.1 (at.2 d) ∙ ap (λ (v : Item ℕ). set ts n v) same ∙ set_own ts n d at.1)
 
@@ -235,13 +235,13 @@ module _ (o : Item ℕ) (ts us : List (Item ℕ)) (q n : ℕ) (same_list : us �
   pub puts_over : StandsAt q us n → (e : Item ℕ) (s t : List ℕ) (b : Bool) → e ≡ get_or ts n e → s ≡ e.stack → t ≡ o.stack → b ≡ beats s t → b ≡ false → set ts n o ≡ put o ts
   puts_over at e s t b is own other test fails =
       put_over o ts n e (found at)
-        (ap (λ (v : Item ℕ). beats v.stack o.stack) (sym is) ∙ ap (λ v. beats v o.stack) (sym own) ∙ ap (beats s) (sym other) ∙ sym test ∙ fails)
+      (ap (λ (v : Item ℕ). beats v.stack o.stack) (sym is) ∙ ap (λ v. beats v o.stack) (sym own) ∙ ap (beats s) (sym other) ∙ sym test ∙ fails)
 
   -- an offer that it beats
   pub puts_nothing : StandsAt q us n → (e : Item ℕ) (s t : List ℕ) (b : Bool) → e ≡ get_or ts n e → s ≡ e.stack → t ≡ o.stack → b ≡ beats s t → b ≡ true → ts ≡ put o ts
   puts_nothing at e s t b is own other test beaten =
       put_nothing o ts n e (found at)
-        (ap (λ (v : Item ℕ). beats v.stack o.stack) (sym is) ∙ ap (λ v. beats v o.stack) (sym own) ∙ ap (beats s) (sym other) ∙ sym test ∙ beaten)
+      (ap (λ (v : Item ℕ). beats v.stack o.stack) (sym is) ∙ ap (λ v. beats v o.stack) (sym own) ∙ ap (beats s) (sym other) ∙ sym test ∙ beaten)
 
   -- an offer to a state without an item
   pub puts_before : GoesAt q us n → take n ts ++ o ∷ drop n ts ≡ put o ts

@@ -4,12 +4,11 @@
 --   renumber-ascends    == a stack that ascends, renumbered, ascends
 --   renumber-not_empty  == a stack that is not empty, renumbered, is not
 --   renumber-up_to      == a renumbered stack up to the number of a name is the stack up to this name, renumbered
-use Rattle.std.proofs.Common.{ℕ, ◌≡◌, ◌≢◌, ◌<◌, ◌⊎◌, inl, inr, arith, Bool, true, false, cond, eqb, List, [], ◌∷◌, map, refl, sym, subst, ap, ◌∙◌}
-use Rattle.std.proofs.lemmas.Bool.{cases_Bool, cases_eq, cases_order, eqb-true, eq-eqb, ne_eqb, or_right}
+use Rattle.std.proofs.Common.{ℕ, ◌≡◌, ◌≢◌, ◌<◌, ◌⊎◌, inl, inr, arith, true, false, eqb, List, [], ◌∷◌, map, refl, sym, ap, ◌∙◌}
+use Rattle.std.proofs.lemmas.Bool.{cases_Bool, cases_order, eqb-true, eq-eqb, ne_eqb}
 use Rattle.ml_lists.specs.Ascending.{IsAscending}
 use Rattle.ml_lists.specs.Member.{IsMember}
 use Rattle.ml_lists.proofs.Member.{Image, member-map_from}
-use Rattle.ml_trace.specs.Stack.{has}
 use Rattle.ml_history.specs.History.{up_to}
 use Rattle.ml_history.proofs.Cut.{through-stops, through-goes}
 

@@ -2,7 +2,7 @@
 --
 --   lowest_is_odd     == a mark at or below Green z, and no red one at or below z: then the lowest mark is odd
 --   run_has_odd_mark  == the second law
-use Rattle.std.proofs.Common.{ℕ, zero, suc, ◌≡◌, ◌<◌, ◌≤◌, ◌⊎◌, inl, inr, arith, Bool, true, false, List, [], ◌∷◌, ◌++◌, length, refl, sym, subst, ap, ◌∙◌}
+use Rattle.std.proofs.Common.{ℕ, ◌≡◌, ◌<◌, ◌⊎◌, inl, inr, arith, true, List, length, refl, sym, subst, ap, ◌∙◌}
 use Rattle.std.proofs.lemmas.Bool.{leb-true}
 use Rattle.ml_lists.specs.Member.{IsMember}
 use Rattle.ml_lists.specs.Repeated.{repeated}
@@ -15,8 +15,8 @@ use Rattle.ml_trace.specs.Stack.{Item}
 use Rattle.ml_trace.proofs.MarkOrder.{mark_le_trans, lowest_mark_le, lowest_mark_is}
 use Rattle.ml_trace.proofs.Stacks.{ends-has}
 use Rattle.ml_history.specs.CycleLaws.{ReturnsTo, AcceptingCycle, RunHasOddMark}
-use Rattle.ml_history.specs.HistoryStep.{after, marks_along}
-use Rattle.ml_history.proofs.ConstantFront.{Walk, walk_marks, FrontFound, front_found, MarkFound, full_mark, red_above}
+use Rattle.ml_history.specs.HistoryStep.{marks_along}
+use Rattle.ml_history.proofs.ConstantFront.{walk_marks, FrontFound, front_found, full_mark, red_above}
 use Rattle.ml_history.proofs.Follow.{Followed, FollowedAccepting, follow_accepting, after_times, marks_times, one_stack}
 
 -- with a mark at or below Green z, and no red one at or below z, the lowest mark is odd
@@ -38,7 +38,7 @@ module _ (h : List (Item ℕ)) (w : List (List Transition)) (r : ReturnsTo h w) 
   closed : (f : Followed h (repeated cycle.times w) cycle.item.stack cycle.item.state) → f.item.stack ≡ cycle.item.stack
   closed f =
       ap (λ (a : Item ℕ). a.stack)
-        (one_stack h f.item cycle.item r.history.states_ascend (subst (λ g. IsMember f.item g) (after_times h w cycle.times r.returns) f.member) cycle.member f.state_is)
+      (one_stack h f.item cycle.item r.history.states_ascend (subst (λ g. IsMember f.item g) (after_times h w cycle.times r.returns) f.member) cycle.member f.state_is)
 
   -- the marks of the walk are those along the word, several times over
   walk_marks_are : (f : Followed h (repeated cycle.times w) cycle.item.stack cycle.item.state) → walk_marks (length (repeated cycle.times w)) cycle.item.stack f.item.stack f.walk ≡ repeated cycle.times (marks_along h w)
@@ -49,8 +49,8 @@ module _ (h : List (Item ℕ)) (w : List (List Transition)) (r : ReturnsTo h w) 
       let m = full_mark found.front (length (repeated cycle.times w)) cycle.item.stack f.item.stack f.walk found.each found.full in
       let on_word : IsMember m.mark (marks_along h w) = repeated-member m.mark cycle.times (marks_along h w) (subst (λ ms. IsMember m.mark ms) (walk_marks_are f) m.member) in
       lowest_is_odd (marks_along h w) m.mark m.name on_word m.low
-        (λ x i. red_above found.front (length (repeated cycle.times w)) cycle.item.stack f.item.stack f.walk found.each m.name (ends-has m.name found.front m.ends) x
-            (subst (λ ms. IsMember (Red x) ms) (sym (walk_marks_are f)) (member-repeated (Red x) cycle.times (marks_along h w) cycle.once i)))
+      (λ x i. red_above found.front (length (repeated cycle.times w)) cycle.item.stack f.item.stack f.walk found.each m.name (ends-has m.name found.front m.ends) x
+      (subst (λ ms. IsMember (Red x) ms) (sym (walk_marks_are f)) (member-repeated (Red x) cycle.times (marks_along h w) cycle.once i)))
 
   pub odd_mark : is_odd (lowest_mark (marks_along h w)) ≡ true
   odd_mark =

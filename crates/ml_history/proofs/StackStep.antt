@@ -5,10 +5,9 @@
 --
 --   StackStep s u    == a step from the stack s to the stack u
 --   stack_step       == each transition of a letter from a state of a history makes one
-use Rattle.std.proofs.Common.{ℕ, ◌≡◌, ◌+◌, ◌*◌, ◌<◌, inl, inr, arith, Bool, true, false, not, List, [], ◌∷◌, map, refl, sym, subst, ap, ◌∙◌, ltb}
+use Rattle.std.proofs.Common.{ℕ, ◌≡◌, ◌*◌, arith, Bool, true, false, not, List, map, refl, ltb}
 use Rattle.std.proofs.lemmas.Bool.{and_parts, and_from, not-true}
 use Rattle.ml_lists.specs.Counting.{count}
-use Rattle.ml_lists.specs.Least.{least}
 use Rattle.ml_lists.specs.Member.{IsMember}
 use Rattle.ml_trace.specs.declared.letters.Transition.{Transition}
 use Rattle.ml_trace.specs.declared.marks.Mark.{Mark}
@@ -16,11 +15,11 @@ use Rattle.ml_trace.specs.declared.marks.Mark.TheVariants.{Red, Green}
 use Rattle.ml_trace.specs.Marks.{mark_le}
 use Rattle.ml_trace.specs.Run.{in_letter}
 use Rattle.ml_trace.specs.Stack.{Item, has}
-use Rattle.ml_history.specs.HistoryStep.{live, offers, offered, beats, taken_along, is_full, is_red, is_green, survives, through, stepped, step_mark, mark_of}
+use Rattle.ml_history.specs.HistoryStep.{live, offers, offered, beats, taken_along, is_full, is_red, is_green, survives, through, stepped, step_mark}
 use Rattle.ml_history.proofs.Offers.{offer_in}
 use Rattle.ml_history.proofs.OneStep.{behind_in, cut_survives, full_below}
 use Rattle.ml_history.proofs.StepMark.{mark_of-red, mark_of-le}
-use Rattle.ml_history.proofs.Taken.{TakenBy, taken_by}
+use Rattle.ml_history.proofs.Taken.{taken_by}
 
 -- a step from the stack s to the stack u
 pub record StackStep (s u : List ℕ) : Type 0 where

@@ -4,7 +4,7 @@
 --   mark_of-green   == a mark Green x: x is the least green name, and none below it is red
 --   mark_of-neutral == a mark Neutral: no name is red or green
 --   mark_of-le      == the mark is at or below Green y for each green name y
-use Rattle.std.proofs.Common.{ℕ, ◌≡◌, ◌<◌, ◌≤◌, ◌⊎◌, inl, inr, arith, Bool, true, false, cond, ltb, Option, Some, None, refl, sym, subst, ap, ◌∙◌}
+use Rattle.std.proofs.Common.{ℕ, ◌≡◌, ◌<◌, ◌≤◌, ◌⊎◌, inl, inr, arith, Bool, true, false, cond, ltb, Option, Some, None, sym, subst}
 use Rattle.std.proofs.lemmas.Bool.{cases_Bool, cond-true, cond-false, ltb-true, ltb-false, le-leb}
 use Rattle.ml_lists.specs.Least.{least}
 use Rattle.ml_lists.proofs.Least.{IsLeast, Says, least-says, least-found}

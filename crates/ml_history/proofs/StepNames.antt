@@ -4,25 +4,22 @@
 --   from_source    == so the source is a predecessor in this name
 --   with_progress  == if the name isn't the last of the taken stack, the source is advanced in it, or the transition accepts
 --   step_names     == the condition holds, of the step from a history along a letter with its mark
-use Rattle.std.proofs.Common.{ℕ, ◌≡◌, ◌<◌, ◌≤◌, ◌⊎◌, inl, inr, arith, Bool, true, false, List, [], ◌∷◌, map, refl, sym, subst, ap, ◌∙◌}
+use Rattle.std.proofs.Common.{ℕ, ◌≡◌, ◌<◌, ◌≤◌, ◌⊎◌, inl, inr, arith, true, false, List, refl, sym, subst, ◌∙◌}
 use Rattle.std.proofs.lemmas.Bool.{cases_Bool, cases_lt}
-use Rattle.ml_lists.specs.Counting.{count}
 use Rattle.ml_lists.specs.Member.{IsMember}
 use Rattle.ml_trace.specs.declared.letters.Transition.{Transition}
-use Rattle.ml_trace.specs.declared.marks.Mark.{Mark}
 use Rattle.ml_trace.specs.declared.marks.Mark.TheVariants.{Green}
 use Rattle.ml_trace.specs.NamesCondition.{NamesCondition, Predecessor, Progress, bound}
 use Rattle.ml_trace.specs.Run.{in_letter}
-use Rattle.ml_trace.specs.Stack.{Item, Entry, has, ends_in, IsAdvanced}
-use Rattle.ml_trace.proofs.Stacks.{ends-map}
+use Rattle.ml_trace.specs.Stack.{Item, has, ends_in, IsAdvanced}
 use Rattle.ml_history.specs.CycleLaws.{entry}
 use Rattle.ml_history.specs.History.{IsHistory}
-use Rattle.ml_history.specs.HistoryStep.{live, offered, taken_along, is_full, survives, through, stepped, step_mark}
+use Rattle.ml_history.specs.HistoryStep.{live, taken_along, is_full, stepped, step_mark}
 use Rattle.ml_history.proofs.Cut.{through-has, through-keeps_end, through-advanced}
 use Rattle.ml_history.proofs.Names.{live-has}
 use Rattle.ml_history.proofs.Offers.{Offer}
 use Rattle.ml_history.proofs.OfferedStacks.{offered-old, offered-plain, offered-ascends}
-use Rattle.ml_history.proofs.OneStep.{Kept, Behind, behind, behind_name, behind_end, taken_from, full_ends_none, below_bound, bound_in_use, green_kept, stands_behind, kept_number}
+use Rattle.ml_history.proofs.OneStep.{Kept, behind, behind_name, behind_end, taken_from, full_ends_none, below_bound, bound_in_use, green_kept, stands_behind}
 use Rattle.ml_lists.specs.Ascending.{IsAscending}
 
 -- an item that was taken has a stack that ascends
@@ -72,7 +69,7 @@ module _ (h : List (Item ℕ)) (letter : List Transition) (history : IsHistory h
       let inside = behind_name (taken_along h letter) a b y kept advanced.0 in
       let not_last = behind_end (taken_along h letter) a b y kept advanced.1 in
       with_progress h letter a b.item b.state_is (taken_from h letter b.item b.member) y used (through-has (is_full (taken_along h letter)) y b.item.stack inside)
-        (through-advanced (is_full (taken_along h letter)) y b.item.stack (taken_ascends h letter b.item history b.member) inside not_last)
+      (through-advanced (is_full (taken_along h letter)) y b.item.stack (taken_ascends h letter b.item history b.member) inside not_last)
 
   -- a green name is traced back with progress
   traced_green : (x : ℕ) → step_mark h letter ≡ Green x → (a : Item ℕ) → IsMember a (stepped h letter) → has x a.stack ≡ true → Progress in_letter letter (entry h) x a
@@ -81,7 +78,7 @@ module _ (h : List (Item ℕ)) (letter : List Transition) (history : IsHistory h
       let b = behind (taken_along h letter) a m in
       let inside = behind_name (taken_along h letter) a b x g.kept n in
       with_progress h letter a b.item b.state_is (taken_from h letter b.item b.member) x g.in_use (through-has (is_full (taken_along h letter)) x b.item.stack inside)
-        (full_ends_none (taken_along h letter) x b.item g.full b.member)
+      (full_ends_none (taken_along h letter) x b.item g.full b.member)
 
   -- and is the last name of each stack behind the step that has it
   reset : (x : ℕ) → step_mark h letter ≡ Green x → (a : Item ℕ) → IsMember a (stepped h letter) → IsAdvanced x a.stack → ⊥

@@ -3,9 +3,8 @@
 --   taken-offer    == what a state takes is one of the offers
 --   TakenBy os o   == what the state of the offer o takes: an item that o does not beat
 --   taken_by       == the state of each offer takes such an item
---   taken-same     == each state takes one stack at most
 --   taken-ascends  == the states ascend
-use Rattle.std.proofs.Common.{ℕ, ◌≡◌, Bool, true, false, eqb, List, [], ◌∷◌, map, refl, sym, subst, ap, ◌∙◌}
+use Rattle.std.proofs.Common.{ℕ, ◌≡◌, false, eqb, List, [], ◌∷◌, map, refl, sym, subst, ap, ◌∙◌}
 use Rattle.std.proofs.lemmas.Bool.{eqb-true, eq-eqb}
 use Rattle.std.specs.List.{filter}
 use Rattle.ml_lists.specs.Ascending.{IsAscending, ascending}
@@ -45,13 +44,6 @@ best-in (t ∷ ts) s m = best-member t ts
 item_for-offer : (os : List (Item ℕ)) (o : Item ℕ) → IsMember o os → IsMember (item_for os o.state) os
 item_for-offer os o m = offered_to-from os o.state (best (offered_to o.state os)) (best-in (offered_to o.state os) o.stack (offered_to-has os o m))
 
--- what a state takes is what it takes
-pub taken-is : (os : List (Item ℕ)) (a : Item ℕ) → IsMember a (taken os) → a ≡ item_for os a.state
-taken-is os a m = from_image (member-map_from (item_for os) a (ascending (map (λ (o : Item ℕ). o.state) os)) m)
-  where
-    from_image : Image (item_for os) a (ascending (map (λ (o : Item ℕ). o.state) os)) → a ≡ item_for os a.state
-    from_image i = i.holds ∙ ap (item_for os) (sym (ap (λ (o : Item ℕ). o.state) i.holds))
-
 -- what a state takes is one of the offers
 pub taken-offer : (os : List (Item ℕ)) (a : Item ℕ) → IsMember a (taken os) → IsMember a os
 taken-offer os a m = from_image (member-map_from (item_for os) a (ascending (map (λ (o : Item ℕ). o.state) os)) m)
@@ -64,7 +56,7 @@ taken-offer os a m = from_image (member-map_from (item_for os) a (ascending (map
     from_image : Image (item_for os) a (ascending (map (λ (o : Item ℕ). o.state) os)) → IsMember a os
     from_image i =
         from_offer i.from i.holds
-          (member-map_from (λ (o : Item ℕ). o.state) i.from os (ascending-member i.from (map (λ (o : Item ℕ). o.state) os) i.member))
+        (member-map_from (λ (o : Item ℕ). o.state) i.from os (ascending-member i.from (map (λ (o : Item ℕ). o.state) os) i.member))
 
 -- what the state of the offer o takes: an item that o does not beat
 pub record TakenBy (os : List (Item ℕ)) (o : Item ℕ) : Type 0 where
@@ -82,10 +74,6 @@ taken_by os o m = record {
   state_is = refl;
   unbeaten = best_unbeaten o.stack (offered_to o.state os) (offered_to-has os o m);
 }
-
--- each state takes one stack at most
-pub taken-same : (os : List (Item ℕ)) (a b : Item ℕ) → IsMember a (taken os) → IsMember b (taken os) → a.state ≡ b.state → a ≡ b
-taken-same os a b ma mb same = taken-is os a ma ∙ ap (item_for os) same ∙ sym (taken-is os b mb)
 
 -- the states of items that are made for states are these states
 pub states_of : (f : ℕ → Item ℕ) (qs : List ℕ) → ((q : ℕ) → (f q).state ≡ q) → map (λ (a : Item ℕ). a.state) (map f qs) ≡ qs

@@ -5,9 +5,9 @@
 --   made            == the history 5: 0; 6: 0 1; 7: 0 2, made from the start at 5 in two steps
 --   red_renumbers   == with 5 to 5 and 7 to 7, none accepting: 5: 0; 7: 0 1, and Red 1
 --   older_wins      == with 5 to 5, 6 to 8 and 7 to 8, none accepting: 5: 0; 8: 0 1, and Red 2
-use Rattle.std.proofs.Common.{ℕ, ◌≡◌, Bool, true, false, List, [], ◌∷◌, refl}
+use Rattle.std.proofs.Common.{ℕ, ◌≡◌, true, false, List, [], ◌∷◌, refl}
 use Rattle.ml_trace.specs.declared.letters.Transition.{Transition}
-use Rattle.ml_trace.specs.declared.marks.Mark.TheVariants.{Red, Green, Neutral}
+use Rattle.ml_trace.specs.declared.marks.Mark.TheVariants.{Red, Green}
 use Rattle.ml_trace.specs.Stack.{Item}
 use Rattle.ml_history.specs.History.{start}
 use Rattle.ml_history.specs.HistoryStep.{stepped, step_mark, after}

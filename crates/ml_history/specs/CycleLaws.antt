@@ -11,7 +11,7 @@
 --   RunHasOddMark          == the second law: if there is such a run, the lowest mark is odd
 --   StepsAreHistories      == the start is a history, and so is what a step makes of one
 --   StepsTraceNames        == each step of a history satisfies the condition on names
-use Rattle.std.specs.Prelude.{◌≡◌, ◌≢◌, ℕ, Bool, true, List, [], ◌∷◌}
+use Rattle.std.specs.Prelude.{◌≡◌, ◌≢◌, ℕ, true, List, []}
 use Rattle.ml_trace.specs.declared.letters.Transition.{Transition}
 use Rattle.ml_trace.specs.LabelledLoop.{CyclicRun}
 use Rattle.ml_trace.specs.NamesCondition.{NamesCondition}

@@ -8,7 +8,7 @@
 --   up_to y s      == the stack s up to the name y and with it
 --   IsHistory h    == h is a history
 --   start q        == the history of the state q alone, with the stack 0
-use Rattle.std.specs.Prelude.{◌≡◌, ℕ, ◌<◌, Bool, true, ◌==◌, List, [], ◌∷◌, map, ◌≢◌}
+use Rattle.std.specs.Prelude.{◌≡◌, ℕ, ◌<◌, true, ◌==◌, List, [], ◌∷◌, map, ◌≢◌}
 use Rattle.ml_lists.specs.Ascending.{IsAscending}
 use Rattle.ml_lists.specs.Member.{IsMember}
 use Rattle.ml_trace.specs.Stack.{Item, has, ends_in}

@@ -3,7 +3,7 @@ ghost use Rattle.std.specs.Prelude.{◌≡◌, ◌≤◌, ◌*◌, ◌^◌, ◌&
 ghost use Rattle.ml_lists.specs.Least.{least};
 ghost use Rattle.ml_history.specs.HistoryStep.{is_full, stands, mark_of};
 
-use crate::items::{stands, Stacked};
+use crate::items::{Stacked, stands};
 use crate::renumbering::is_full;
 use ml_trace::Mark;
 
@@ -42,12 +42,6 @@ pub(crate) fn mark(used: u32, taken: &[Stacked], cut: &[Stacked]) -> Mark
         (None, None) => Mark::Neutral,
         (None, Some(y)) => Mark::Green(y),
         (Some(x), None) => Mark::Red(x),
-        (Some(x), Some(y)) => {
-            if x < y {
-                Mark::Red(x)
-            } else {
-                Mark::Green(y)
-            }
-        }
+        (Some(x), Some(y)) => { if x < y { Mark::Red(x) } else { Mark::Green(y) } }
     }
 }

@@ -3,7 +3,7 @@ ghost use Rattle.std.specs.Prelude.{◌≡◌, ◌+◌, ◌^◌, ◌<◌, ◌≤
 ghost use Rattle.ml_history.specs.HistoryStep.{above, live, last_name, offered, offers_along, offers, taken};
 ghost use Rattle.ml_history.specs.Puts.{StandsAt, GoesAt, put};
 
-use crate::items::{beats, last_name, Stacked};
+use crate::items::{Stacked, beats, last_name};
 use ml_base::NoMemory;
 use ml_trace::Transition;
 use std::alloc::Global;
@@ -33,12 +33,7 @@ pub(crate) fn live(items: &[Stacked]) -> u32
 }
 
 // What a stack becomes along a transition, where `used` names are in use.
-fn offered(
-    alloc: Global,
-    used: u32,
-    accepting: bool,
-    stack: &[u32],
-) -> Result<Vec<u32>, NoMemory>
+fn offered(alloc: Global, used: u32, accepting: bool, stack: &[u32]) -> Result<Vec<u32>, NoMemory>
     requires { used + last_name stack.now < 2 ^ 32 }
     ensures { IfOk result (λ names. names.items ≡ offered used accepting stack.now) }
 {

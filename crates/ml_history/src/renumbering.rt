@@ -2,7 +2,7 @@
 ghost use Rattle.std.specs.Prelude.{◌≡◌, IfOk, map};
 ghost use Rattle.ml_history.specs.HistoryStep.{is_full, through, cut, new_number, renumbered};
 
-use crate::items::{is_last, stands, Stacked};
+use crate::items::{Stacked, is_last, stands};
 use ml_base::NoMemory;
 use std::alloc::Global;
 

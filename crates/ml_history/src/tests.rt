@@ -31,7 +31,10 @@ fn is(history: &PlainHistory, wanted: &[(u32, &[u32])]) -> bool {
 // The stacks 5: 0; 6: 0 1; 7: 0 2, made from the start at 5 by two steps.
 fn three_states(alloc: Global) -> Result<PlainHistory, Fail> {
     let one = letter(alloc, &[along(5, 5, false), along(5, 6, true)])?;
-    let two = letter(alloc, &[along(5, 5, false), along(6, 6, false), along(5, 7, true)])?;
+    let two = letter(
+        alloc,
+        &[along(5, 5, false), along(6, 6, false), along(5, 7, true)],
+    )?;
     let (history, _) = PlainHistory::start(alloc, 5)?.step(&one)?;
     Ok(history.step(&two)?.0)
 }
@@ -56,7 +59,10 @@ fn accepting_loop_is_green(rt: HostRuntime) -> Result<(), Fail> {
 fn lost_name_renumbers(rt: HostRuntime) -> Result<(), Fail> {
     let three = three_states(rt.alloc())?;
     assert!(rt; is(&three, &[(5, &[0]), (6, &[0, 1]), (7, &[0, 2])]) && three.live() == 3);
-    let (history, mark) = three.step(&letter(rt.alloc(), &[along(5, 5, false), along(7, 7, false)])?)?;
+    let (history, mark) = three.step(&letter(
+        rt.alloc(),
+        &[along(5, 5, false), along(7, 7, false)],
+    )?)?;
     assert!(rt; is(&history, &[(5, &[0]), (7, &[0, 1])]) && mark == Mark::Red(1));
     Ok(())
 }

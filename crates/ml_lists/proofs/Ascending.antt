@@ -4,7 +4,7 @@
 --   member-ascending, ascending-member     == the ascending list has the members of the list
 --   ascending-is                           == it is ascending
 --   ascending-apart                        == an earlier entry of an ascending list is below a later one
-use Rattle.std.proofs.Common.{ℕ, ◌≡◌, ◌<◌, ◌≤◌, ◌⊎◌, inl, inr, arith, Bool, true, false, cond, List, [], ◌∷◌, eqb, ltb, refl, sym, subst, ◌∙◌, zero, suc, length, get_or}
+use Rattle.std.proofs.Common.{ℕ, ◌≡◌, ◌<◌, ◌⊎◌, inl, inr, arith, true, false, cond, List, [], ◌∷◌, eqb, ltb, refl, sym, subst, ◌∙◌, zero, suc, length, get_or}
 use Rattle.std.proofs.lemmas.Bool.{cases_Bool, cond-true, cond-false, ltb-true, ltb-false, eqb-true, eqb-false}
 use Rattle.ml_lists.specs.Member.{IsMember}
 use Rattle.ml_lists.proofs.Member.{place-member}

@@ -12,7 +12,7 @@
 --   Place x xs                              == x is the entry of xs at some place
 --   member-place, place-member              == a member is the entry at some place, and the other way round
 --   All-member, member-All                  == what holds of each entry holds of each member, and the other way round
-use Rattle.std.proofs.Common.{◌≡◌, ◌⊎◌, inl, inr, List, [], ◌∷◌, ◌++◌, map, ap, refl, sym, subst, Bool, true, false, cond, ℕ, zero, suc, ◌<◌, length, get_or, arith}
+use Rattle.std.proofs.Common.{◌≡◌, ◌⊎◌, inl, inr, List, [], ◌∷◌, ◌++◌, map, ap, refl, sym, subst, Bool, true, false, ℕ, zero, suc, ◌<◌, length, get_or, arith}
 use Rattle.std.proofs.lemmas.Bool.{cases_Bool, cond-true, cond-false, or_cases, or_left, or_right}
 use Rattle.std.specs.List.{flat_map, filter, list_any, All}
 use Rattle.ml_lists.specs.Member.{IsMember}

@@ -7,7 +7,7 @@
 --   Before R xs y == some member x of xs has R x y
 --   Loop R xs     == some member x of xs has R x x
 --   has_loop      == if R is transitive and each member of xs, one at least, has a predecessor in xs, xs has a loop
-use Rattle.std.proofs.Common.{◌≡◌, ◌⊎◌, inl, inr, List, [], ◌∷◌, refl, subst, sym}
+use Rattle.std.proofs.Common.{◌≡◌, ◌⊎◌, inl, inr, List, [], ◌∷◌, refl, subst}
 use Rattle.ml_lists.specs.Member.{IsMember}
 
 -- some member x of xs has R x y

@@ -6,7 +6,7 @@
 --   count_all     == where all numbers below n pass, each of them, and n, is its own rank
 --   count_lost    == where some number below n fails, the rank of n is below n
 --   count_hit     == each number below the rank of n is the rank of a number below n that passes
-use Rattle.std.proofs.Common.{ℕ, zero, suc, ◌≡◌, ◌+◌, ◌<◌, ◌≤◌, ◌⊎◌, inl, inr, arith, Bool, true, false, refl, sym, subst}
+use Rattle.std.proofs.Common.{ℕ, zero, suc, ◌≡◌, ◌<◌, ◌≤◌, ◌⊎◌, inl, inr, arith, Bool, true, false, refl, sym, subst}
 use Rattle.std.proofs.lemmas.Bool.{cases_Bool, cases_lt, cases_eq, cases_order}
 use Rattle.ml_lists.specs.Counting.{count}
 use Rattle.ml_lists.proofs.Counting.{count-true, count-false, count_le}

@@ -4,7 +4,7 @@
 --   repeated-one == once
 --   repeated-two == twice
 --   repeated-member, member-repeated == a list one or more times over has the members of the list
-use Rattle.std.proofs.Common.{ℕ, zero, suc, ◌≡◌, ◌+◌, List, [], ◌∷◌, ◌++◌, ap, refl, sym, ◌∙◌, append_assoc, arith, append-nil, ◌⊎◌, inl, inr, ◌≤◌}
+use Rattle.std.proofs.Common.{ℕ, zero, suc, ◌≡◌, ◌+◌, List, ◌++◌, ap, sym, ◌∙◌, append_assoc, arith, append-nil, ◌⊎◌, inl, inr, ◌≤◌}
 use Rattle.ml_lists.specs.Member.{IsMember}
 use Rattle.ml_lists.specs.Repeated.{repeated}
 use Rattle.ml_lists.proofs.Member.{member-append, member-append_left}

@@ -7,17 +7,17 @@
 --   moves_of-letter      == the transitions of all triples are the letter of the traces
 --   moves_of-small       == their ends are below 2^30
 --   all_moves-letter, all_moves-small == the same, of a list that was made behind the last triple
-use Rattle.std.proofs.Common.{ℕ, zero, suc, ◌≡◌, ◌+◌, ◌*◌, ◌^◌, ◌<◌, ◌≤◌, ◌⊎◌, inl, inr, arith, Bool, true, false, cond, leb, eqb, Option, Some, None, List, [], ◌∷◌, ◌++◌, length, get_or, refl, sym, subst, ap, ◌∙◌, append_assoc, append-nil}
-use Rattle.std.proofs.lemmas.Bool.{cases_Bool, cases_lt, cond-true, cond-false, leb-true, le-leb, eqb-true, eq-eqb, ne_eqb}
+use Rattle.std.proofs.Common.{ℕ, zero, suc, ◌≡◌, ◌+◌, ◌*◌, ◌^◌, ◌<◌, ◌≤◌, ◌⊎◌, inl, inr, arith, Bool, true, false, leb, eqb, Option, Some, None, List, [], ◌∷◌, ◌++◌, length, get_or, refl, sym, subst, ap, ◌∙◌, append_assoc, append-nil}
+use Rattle.std.proofs.lemmas.Bool.{cases_Bool, cases_lt, cond-true, cond-false, leb-true, le-leb, eq-eqb, ne_eqb}
 use Rattle.std.proofs.lemmas.List.Sums.{position_or_len_is}
-use Rattle.std.specs.List.{position_or_len, All, slice_index}
+use Rattle.std.specs.List.{position_or_len}
 use Rattle.ml_lists.specs.Ascending.{IsAscending}
 use Rattle.ml_lists.specs.Member.{IsMember}
 use Rattle.ml_lists.proofs.Ascending.{ascending-apart}
-use Rattle.ml_lists.proofs.Member.{Place, member-append, member-append_left, member-append_right, member-place, place-member, All-member, member-All}
+use Rattle.ml_lists.proofs.Member.{member-append, member-append_left, member-append_right, member-place, place-member, All-member, member-All}
 use Rattle.ml_trace.specs.declared.letters.Transition.{Transition}
 use Rattle.ml_trace.specs.declared.letters.Triple.{Triple}
-use Rattle.ml_trace.specs.Automaton.{states_per_node, guess_place, number, Leads, Gives, IsLetterOf, HasRoom, AllHaveRoom, HasSmallEnds}
+use Rattle.ml_trace.specs.Automaton.{states_per_node, guess_place, Leads, Gives, IsLetterOf, HasRoom, AllHaveRoom, HasSmallEnds}
 use Rattle.ml_trace.specs.LetterMoves.{plain, move_at, moves_below, moves, moves_of}
 
 -- no triple
@@ -35,15 +35,15 @@ moves_of-more odds (t ∷ ts) zero d low = one_more ∙ append-nil (moves odds t
 moves_of-more odds (t ∷ ts) (suc n) d low =
     let e : suc n + 1 ≡ suc (n + 1) = omega arith in
     ap (moves_of odds (t ∷ ts)) e
-      ∙ ap (λ v. moves odds t ++ v) (moves_of-more odds ts n d (omega arith))
-      ∙ sym (append_assoc (moves odds t) (moves_of odds ts n) (moves odds (get_or ts n d)))
+    ∙ ap (λ v. moves odds t ++ v) (moves_of-more odds ts n d (omega arith))
+    ∙ sym (append_assoc (moves odds t) (moves_of odds ts n) (moves odds (get_or ts n d)))
 
 -- in an ascending list each odd priority stands at its own index
 pub odd_place : (odds : List ℕ) (j : ℕ) → IsAscending odds → j < length odds → position_or_len (λ e. eqb e (get_or odds j 0)) odds ≡ j
 odd_place odds j a low =
     position_or_len_is (λ e. eqb e (get_or odds j 0)) odds j 0 (omega arith)
-      (λ k early. let less = ascending-apart odds k j 0 a early low in ne_eqb (get_or odds k 0) (get_or odds j 0) (λ e. omega arith))
-      (λ fits. eq-eqb (get_or odds j 0) (get_or odds j 0) refl)
+    (λ k early. let less = ascending-apart odds k j 0 a early low in ne_eqb (get_or odds k 0) (get_or odds j 0) (λ e. omega arith))
+    (λ fits. eq-eqb (get_or odds j 0) (get_or odds j 0) refl)
 
 -- the place of the guess of the odd priority at an index
 guess_place-at : (odds : List ℕ) (j : ℕ) → IsAscending odds → j < length odds → guess_place odds (Some (get_or odds j 0)) ≡ j + 1
@@ -119,7 +119,7 @@ module _ (odds : List ℕ) (a : IsAscending odds) (t : Triple) where
       let p = member-place d odds leads.0 in
       let at : guess_place odds (Some d) ≡ p.place + 1 = ap (λ v. guess_place odds (Some v)) (sym (p.holds 0)) ∙ guess_place-at odds p.place a p.below in
       moves_below-has (length odds) p.place p.below m
-        (inl (same_transition m (plain odds t.from) (plain odds t.to + (p.place + 1)) false (omega (arith, f)) (e ∙ ap (λ v. t.to * states_per_node odds + v) at) leads.1))
+      (inl (same_transition m (plain odds t.from) (plain odds t.to + (p.place + 1)) false (omega (arith, f)) (e ∙ ap (λ v. t.to * states_per_node odds + v) at) leads.1))
   by_guess m (Some d) None leads f e = absurd leads
   by_guess m (Some d) (Some c) leads f e =
       let p = member-place d odds leads.1 in
@@ -127,12 +127,12 @@ module _ (odds : List ℕ) (a : IsAscending odds) (t : Triple) where
       let at' : guess_place odds (Some c) ≡ p.place + 1 = ap (λ v. guess_place odds (Some v)) leads.0 ∙ at in
       let le : leb (get_or odds p.place 0) t.lowest ≡ true = subst (λ v. leb v t.lowest ≡ true) (sym (p.holds 0)) (le-leb d t.lowest leads.2) in
       let is : m ≡ record { from = plain odds t.from + (p.place + 1); to = plain odds t.to + (p.place + 1); accepting = eqb (get_or odds p.place 0) t.lowest } =
-          same_transition m (plain odds t.from + (p.place + 1)) (plain odds t.to + (p.place + 1)) (eqb (get_or odds p.place 0) t.lowest)
-            (f ∙ ap (λ v. t.from * states_per_node odds + v) at) (e ∙ ap (λ v. t.to * states_per_node odds + v) at')
-            (leads.3 ∙ ap (λ v. eqb v t.lowest) (sym (p.holds 0)))
+      same_transition m (plain odds t.from + (p.place + 1)) (plain odds t.to + (p.place + 1)) (eqb (get_or odds p.place 0) t.lowest)
+      (f ∙ ap (λ v. t.from * states_per_node odds + v) at) (e ∙ ap (λ v. t.to * states_per_node odds + v) at')
+      (leads.3 ∙ ap (λ v. eqb v t.lowest) (sym (p.holds 0)))
       in
       moves_below-has (length odds) p.place p.below m
-        (inr (subst (IsMember m) (sym (cond-true (leb (get_or odds p.place 0) t.lowest) (record { from = plain odds t.from + (p.place + 1); to = plain odds t.to + (p.place + 1); accepting = eqb (get_or odds p.place 0) t.lowest } ∷ []) [] le)) (inl is)))
+      (inr (subst (IsMember m) (sym (cond-true (leb (get_or odds p.place 0) t.lowest) (record { from = plain odds t.from + (p.place + 1); to = plain odds t.to + (p.place + 1); accepting = eqb (get_or odds p.place 0) t.lowest } ∷ []) [] le)) (inl is)))
 
   pub gives-moves : (m : Transition) → Gives odds t m → IsMember m (moves odds t)
   gives-moves m g = by_guess m g.before g.behind g.leads g.from_is g.to_is

@@ -12,3 +12,5 @@ pub mod OddLoop
 pub mod LetterLemmas
 -- the numbering is one-to-one
 pub mod Numbers
+-- marks as numbers
+pub mod Priorities

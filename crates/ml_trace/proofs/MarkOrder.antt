@@ -5,9 +5,8 @@
 --   lowest_mark_is       == the lowest mark is Neutral, or one of the list
 --   odd-is_green         == an odd mark is Green x for some x
 --   is_green_from, is_green-refl == the test for Green x
-use Rattle.std.proofs.Common.{ℕ, ◌≡◌, ◌⊎◌, inl, inr, arith, Bool, true, false, cond, List, [], ◌∷◌, refl, sym, subst, ap, ◌∙◌, leb, ltb, eqb, ◌≤◌, ◌<◌}
+use Rattle.std.proofs.Common.{ℕ, ◌≡◌, ◌⊎◌, inl, inr, arith, true, false, List, [], ◌∷◌, refl, sym, subst, ap, ◌∙◌}
 use Rattle.std.proofs.lemmas.Bool.{cases_Bool, cond-true, cond-false, leb-true, ltb-true, leb-false, ltb-false, le-leb, lt-ltb, eqb-true, eq-eqb}
-use Rattle.std.proofs.lemmas.Bool.Decides.{nat_tests}
 use Rattle.ml_lists.specs.Member.{IsMember}
 use Rattle.ml_trace.specs.declared.marks.Mark.{Mark}
 use Rattle.ml_trace.specs.declared.marks.Mark.TheVariants.{Red, Green, Neutral}

@@ -6,7 +6,7 @@
 --   state_of-number     == the state with the number of a state is this state
 --   number-state_of     == the number of the state with a number is this number
 --   numbers_are_states  == both, for all ascending lists of odd priorities
-use Rattle.std.proofs.Common.{ℕ, zero, suc, ◌≡◌, ◌+◌, ◌*◌, ◌/◌, ◌%◌, ◌<◌, ◌≤◌, arith, eqb, Option, Some, None, List, length, get_or, refl, sym, ap, ◌∙◌, add-one}
+use Rattle.std.proofs.Common.{ℕ, zero, suc, ◌≡◌, ◌+◌, ◌*◌, ◌/◌, ◌%◌, ◌<◌, arith, eqb, Option, Some, None, List, get_or, refl, sym, ap, ◌∙◌}
 use Rattle.std.proofs.lemmas.Nat.{div-mul-add, mod-mul-add}
 use Rattle.std.proofs.lemmas.Option.{slice_get-get_or}
 use Rattle.std.specs.List.{position_or_len, slice_get}
@@ -51,8 +51,8 @@ pub state_of-number : (odds : List ℕ) (s : AutomatonState) → IsAscending odd
 state_of-number odds s a is =
     let low = guess_place-le odds s.odd a is in
     same_state s (number odds s / states_per_node odds) (guess_at odds (number odds s % states_per_node odds))
-      (div-mul-add s.node (states_per_node odds) (guess_place odds s.odd) low)
-      (ap (guess_at odds) (mod-mul-add s.node (states_per_node odds) (guess_place odds s.odd) low) ∙ guess_at-place odds s.odd a is)
+    (div-mul-add s.node (states_per_node odds) (guess_place odds s.odd) low)
+    (ap (guess_at odds) (mod-mul-add s.node (states_per_node odds) (guess_place odds s.odd) low) ∙ guess_at-place odds s.odd a is)
 
 -- the number of the state with a number is this number
 pub number-state_of : (odds : List ℕ) (n : ℕ) → IsAscending odds → number odds (state_of odds n) ≡ n

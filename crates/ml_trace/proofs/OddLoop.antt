@@ -9,25 +9,23 @@
 --   green_counts   == a path with the mark Green x has a green step at least
 --   in_use_after   == behind a step Green x, x is in use
 --   odd_loop       == the theorem
-use Rattle.std.proofs.Common.{ℕ, zero, suc, ◌≡◌, ◌+◌, ◌<◌, ◌≤◌, ◌⊎◌, inl, inr, arith, Bool, true, false, cond, List, [], ◌∷◌, ◌++◌, refl, sym, subst, ap, ◌∙◌, map}
+use Rattle.std.proofs.Common.{ℕ, suc, ◌≡◌, ◌+◌, ◌<◌, ◌≤◌, ◌⊎◌, inl, inr, arith, Bool, true, false, List, [], ◌∷◌, ◌++◌, refl, sym, subst, ◌∙◌}
 use Rattle.std.proofs.lemmas.Bool.{cases_Bool, cond-true, cond-false}
 use Rattle.std.proofs.lemmas.List.{map-append}
 use Rattle.std.specs.List.{filter}
 use Rattle.ml_lists.specs.Member.{IsMember}
 use Rattle.ml_lists.specs.Repeated.{repeated}
-use Rattle.ml_lists.proofs.Member.{Image, member-map, member-map_from, member-append, member-filter, member-filter_from}
+use Rattle.ml_lists.proofs.Member.{member-map, member-map_from, member-append, member-filter, member-filter_from}
 use Rattle.ml_lists.proofs.Repeated.{repeated-add, repeated-two}
 use Rattle.ml_lists.proofs.Predecessors.{Before, Loop, has_loop}
-use Rattle.ml_trace.specs.declared.marks.Mark.{Mark}
 use Rattle.ml_trace.specs.declared.marks.Mark.TheVariants.{Green, Neutral}
 use Rattle.ml_trace.specs.Marks.{mark_le, is_green, is_odd, lowest_mark}
 use Rattle.ml_trace.specs.Stack.{Item, Entry, has}
-use Rattle.ml_trace.specs.NamesCondition.{NamesCondition}
-use Rattle.ml_trace.specs.Run.{Run, AcceptingRun}
+use Rattle.ml_trace.specs.Run.{AcceptingRun}
 use Rattle.ml_trace.specs.LabelledLoop.{MarkedStep, IsPath, letters, marks, EachNameStands, CyclicRun}
 use Rattle.ml_trace.proofs.MarkOrder.{lowest_mark_le, lowest_mark_is, odd-is_green, is_green-refl}
 use Rattle.ml_trace.proofs.Runs.{accepting-append, accepting-is_run}
-use Rattle.ml_trace.proofs.TraceBack.{greens, Traced, trace_back, traced_twice, step_keeps_use}
+use Rattle.ml_trace.proofs.TraceBack.{greens, trace_back, traced_twice, step_keeps_use}
 
 -- the greens of a list of steps and a further one
 pub greens-append : {L : Type 0} → (x : ℕ) (u v : List (MarkedStep L)) → greens x (u ++ v) ≡ greens x u + greens x v
@@ -139,7 +137,7 @@ module _ {S L : Type 0} (leads : L → S → S → Bool → Type 0) where
     from_itself =
         let some = stands x used in
         has_loop (RoundTrip (letters steps)) (round_trips (letters steps)) with_name some.0
-          (member-filter (λ (b : Item S). has x b.stack) some.0 e.items some.1 some.2) comes_from
+        (member-filter (λ (b : Item S). has x b.stack) some.0 e.items some.1 some.2) comes_from
 
     pub green_loop : CyclicRun leads e (letters steps)
     unfolding with_name

@@ -3,8 +3,7 @@
 --   run-append             == a run and a further one make a run along both words
 --   accepting-is_run       == a run with an accepting transition is a run
 --   accepting-append       == an accepting run and a further run
---   append-accepting       == a run and a further accepting one
-use Rattle.std.proofs.Common.{◌≡◌, ◌⊎◌, inl, inr, Bool, true, List, [], ◌∷◌, ◌++◌, subst, sym}
+use Rattle.std.proofs.Common.{inl, inr, Bool, true, List, [], ◌∷◌, ◌++◌, subst, sym}
 use Rattle.ml_trace.specs.Run.{Run, AcceptingRun}
 
 module _ {S L : Type 0} (leads : L → S → S → Bool → Type 0) where
@@ -24,8 +23,3 @@ module _ {S L : Type 0} (leads : L → S → S → Bool → Type 0) where
   accepting-append [] v p q r run more = absurd run
   accepting-append (l ∷ u) v p q r (inl here) more = inl (here.0, here.1, run-append u v here.0 q r here.2 more)
   accepting-append (l ∷ u) v p q r (inr later) more = inr (later.0, later.1, later.2, accepting-append u v later.0 q r later.3 more)
-
-  -- a run and a further accepting run make an accepting run
-  pub append-accepting : (u v : List L) (p q r : S) → Run leads u p q → AcceptingRun leads v q r → AcceptingRun leads (u ++ v) p r
-  append-accepting [] v p q r same run = subst (λ s. AcceptingRun leads v s r) (sym same) run
-  append-accepting (l ∷ u) v p q r first run = inr (first.0, first.1, first.2, append-accepting u v first.0 q r first.3 run)

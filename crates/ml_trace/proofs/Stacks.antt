@@ -5,7 +5,7 @@
 --   ends-cons              == the last name of a stack is that of the stack with a name in front
 --   ends-cons_not          == and the other way round, where the stack has the name
 --   ends-map               == the image of the last name is the last name of the image
-use Rattle.std.proofs.Common.{ℕ, ◌≡◌, ◌⊎◌, inl, inr, List, [], ◌∷◌, Bool, true, false, eqb, sym, subst, map, refl, ap}
+use Rattle.std.proofs.Common.{ℕ, ◌≡◌, ◌⊎◌, inl, inr, List, [], ◌∷◌, true, false, eqb, sym, map, ap}
 use Rattle.std.proofs.lemmas.Bool.{or_left, or_right, or_cases, eqb-true, eq-eqb}
 use Rattle.ml_lists.specs.Member.{IsMember}
 use Rattle.ml_trace.specs.Stack.{has, ends_in}

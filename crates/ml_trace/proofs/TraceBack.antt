@@ -10,7 +10,7 @@
 --   Traced          == what is known of an item at the end: where it comes from, and by which run
 --   trace_back      == each item at the end that has x is traced
 --   traced_twice    == where x is green twice, the run accepts
-use Rattle.std.proofs.Common.{ℕ, zero, suc, ◌≡◌, ◌+◌, ◌<◌, ◌≤◌, ◌⊎◌, inl, inr, arith, Bool, true, false, cond, List, [], ◌∷◌, ◌++◌, refl, sym, subst, ap, ◌∙◌, map}
+use Rattle.std.proofs.Common.{ℕ, suc, ◌≡◌, ◌<◌, ◌≤◌, ◌⊎◌, inl, inr, arith, Bool, true, false, cond, List, [], ◌∷◌, refl, sym, subst, ap, ◌∙◌}
 use Rattle.std.proofs.lemmas.Bool.{cases_Bool, cond-true, cond-false, leb-true, ltb-true, eqb-false}
 use Rattle.ml_lists.specs.Member.{IsMember}
 use Rattle.ml_trace.specs.declared.marks.Mark.{Mark}
@@ -129,7 +129,7 @@ module _ {S L : Type 0} (leads : L → S → S → Bool → Type 0) (x : ℕ) wh
   trace_back (s ∷ steps) e f path above used a member named =
       let here : mark_le (Green x) s.mark ≡ true = above s (inl refl) in
       any_step s steps e path.0 a path.1 here used
-        (trace_back steps path.0 f path.2 (λ r i. above r (inr i)) (step_keeps_use s.letter s.mark e path.0 path.1 here used) a member named)
+      (trace_back steps path.0 f path.2 (λ r i. above r (inr i)) (step_keeps_use s.letter s.mark e path.0 path.1 here used) a member named)
 
   -- where x is green twice or more, the run accepts
   pub traced_twice : (steps : List (MarkedStep L)) (e : Entry S) (a : Item S) → 2 ≤ greens x steps → (t : Traced steps e a) → AcceptingRun leads (letters steps) t.item.state a.state

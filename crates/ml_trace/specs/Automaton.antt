@@ -17,7 +17,7 @@
 --   IsLetterOf odds traces letter  == the letter has exactly the transitions that some triple of the traces gives
 --   HasRoom odds n                 == all states of the node n have numbers below 2^30
 --   HasSmallEnds letter            == all ends of transitions are below 2^30
-use Rattle.std.specs.Prelude.{◌≡◌, ◌⊎◌, ◌↔◌, ℕ, zero, suc, ◌+◌, ◌*◌, ◌/◌, ◌%◌, ◌^◌, ◌<◌, ◌≤◌, Bool, true, false, ◌==◌, Option, Some, None, List, [], ◌∷◌, length, slice_get, All}
+use Rattle.std.specs.Prelude.{◌≡◌, ◌↔◌, ℕ, zero, suc, ◌+◌, ◌*◌, ◌/◌, ◌%◌, ◌^◌, ◌<◌, ◌≤◌, Bool, false, ◌==◌, Option, Some, None, List, length, slice_get, All}
 use Rattle.std.specs.List.{position_or_len}
 use Rattle.ml_lists.specs.Ascending.{IsAscending}
 use Rattle.ml_lists.specs.Member.{IsMember}

@@ -9,7 +9,11 @@
 --   is_odd m       == m is Green
 --   is_green x m   == m is Green x
 --   priority top m == the mark as a number: 2x, 2x + 1, or top for Neutral
-use Rattle.std.specs.Prelude.{ℕ, ◌+◌, ◌*◌, Bool, true, false, if◌then◌else◌, ◌==◌, nat_lt, nat_le, List, [], ◌∷◌}
+--   FitsBelow top m == m is Neutral, or its number is below top
+--   PrioritiesAgree == below an even top, the lowest of the numbers is odd exactly if the lowest mark is
+use Rattle.std.specs.Prelude.{◌≡◌, ◌↔◌, ℕ, ◌+◌, ◌*◌, ◌%◌, ◌<◌, Bool, true, false, if◌then◌else◌, ◌==◌, nat_lt, nat_le, List, [], ◌∷◌, map}
+use Rattle.ml_lists.specs.Lowest.{lowest}
+use Rattle.ml_lists.specs.Member.{IsMember}
 use Rattle.ml_trace.specs.declared.marks.Mark.{Mark}
 use Rattle.ml_trace.specs.declared.marks.Mark.TheVariants.{Red, Green, Neutral}
 
@@ -51,3 +55,14 @@ abbrev pub priority : ℕ → Mark → ℕ
 priority top (Red x) = 2 * x
 priority top (Green x) = 2 * x + 1
 priority top Neutral = top
+
+-- m is Neutral, or its number is below top
+abbrev pub FitsBelow : ℕ → Mark → Type 0
+FitsBelow top (Red x) = 2 * x < top
+FitsBelow top (Green x) = 2 * x + 1 < top
+FitsBelow top Neutral = Unit {0}
+
+-- below an even top, the lowest of the numbers is odd exactly if the lowest mark is
+abbrev pub PrioritiesAgree : Type 0
+PrioritiesAgree =
+    (top : ℕ) (m : Mark) (ms : List Mark) → top % 2 ≡ 0 → ((n : Mark) → IsMember n (m ∷ ms) → FitsBelow top n) → (lowest (priority top m) (map (priority top) ms) % 2 ≡ 1) ↔ (is_odd (lowest_mark (m ∷ ms)) ≡ true)

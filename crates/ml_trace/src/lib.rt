@@ -18,6 +18,6 @@ mod numbering;
 #[cfg(test)]
 mod tests;
 
-pub use letters::{AutomatonState, Letter, LocalTraces, Transition, Triple, STATE_LIMIT};
+pub use letters::{AutomatonState, Letter, LocalTraces, STATE_LIMIT, Transition, Triple};
 pub use marks::Mark;
 pub use numbering::{letter_of, number, state_of};

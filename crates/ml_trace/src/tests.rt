@@ -29,7 +29,11 @@ fn letter_of_one_triple(rt: HostRuntime) -> Result<(), Fail> {
         (transition(1, 8, false), false),
     ];
     for (wanted, is_there) in rows {
-        assert_eq!(rt; letter.transitions().contains(&wanted), is_there, "{wanted:?}");
+        assert_eq!(rt;
+            letter.transitions().contains(&wanted),
+            is_there,
+            "{wanted:?}"
+        );
     }
     assert_eq!(rt; letter.transitions().len(), 3);
     Ok(())
@@ -37,7 +41,13 @@ fn letter_of_one_triple(rt: HostRuntime) -> Result<(), Fail> {
 
 #[test]
 fn states_have_numbers(rt: HostRuntime) {
-    let rows = [(0, None, 0), (0, Some(1), 1), (0, Some(5), 2), (4, None, 12), (4, Some(5), 14)];
+    let rows = [
+        (0, None, 0),
+        (0, Some(1), 1),
+        (0, Some(5), 2),
+        (4, None, 12),
+        (4, Some(5), 14),
+    ];
     for (node, odd, wanted) in rows {
         let state = AutomatonState { node, odd };
         assert!(rt; state_of(wanted, &[1, 5]) == state, "{state:?}");
@@ -58,7 +68,11 @@ fn letters_have_small_ends(rt: HostRuntime) -> Result<(), Fail> {
     ];
     for (from, to, is_letter) in rows {
         let transitions = [transition(from, to, true)].to_vec(rt.alloc())?;
-        assert_eq!(rt; Letter::new(transitions).is_some(), is_letter, "{from} {to}");
+        assert_eq!(rt;
+            Letter::new(transitions).is_some(),
+            is_letter,
+            "{from} {to}"
+        );
     }
     Ok(())
 }

@@ -1,4 +1,4 @@
-use Rattle.std.proofs.Common.{◌≡◌, ◌∙◌, sym, arith}
+use Rattle.std.proofs.Common.{◌∙◌, sym, arith}
 use Rattle.ml_history.proofs.PlainStacks.{beats-longer}
 use Rattle.ml_history.proofs.items.beats.Goals as goal
 

@@ -1,4 +1,4 @@
-use Rattle.std.proofs.Common.{◌≡◌, ℕ, ◌<◌, false, ◌&&◌, not, ltb}
+use Rattle.std.proofs.Common.{◌≡◌, ℕ, ◌<◌, false, ◌&&◌}
 use Rattle.ml_history.specs.HistoryStep.{is_full, stands}
 use Rattle.ml_history.proofs.marking.least_green.Given as goal
 

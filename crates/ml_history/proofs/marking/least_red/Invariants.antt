@@ -1,5 +1,5 @@
 use Rattle.std.proofs.Common.{◌≡◌, ℕ, ◌<◌, false, ◌&&◌, not, ltb}
-use Rattle.ml_history.specs.HistoryStep.{is_full, stands}
+use Rattle.ml_history.specs.HistoryStep.{stands}
 use Rattle.ml_history.proofs.marking.least_red.Given as goal
 
 abbrev pub invariant-loop-y : goal.invariant-loop-y

@@ -1,4 +1,4 @@
-use Rattle.std.proofs.Common.{◌≤◌, ◌∙◌, arith, max, ap, ◌≡◌, take, ℕ}
+use Rattle.std.proofs.Common.{◌∙◌, arith, max, ap, ◌≡◌, take, ℕ}
 use Rattle.ml_history.proofs.PlainItems.{live_at, live_more}
 use Rattle.ml_history.specs.HistoryStep.{above, live}
 use Rattle.ml_history.proofs.offering.live.Goals as goal
@@ -15,6 +15,6 @@ pub loop-a-preserved : goal.loop-a-preserved
 loop-a-preserved c =
     let f = ap (λ (a : Item ℕ). above a.stack) c.a-item.is in
     c.max-most.ensures
-      ∙ ap (λ n. max n c.above.result) c.loop-a.invariant
-      ∙ ap (λ n. max (live (take c.loop-a.a-index c.args.items.now)) n) (c.above.ensures ∙ ap above c.stack.ensures ∙ f)
-      ∙ live_more c.args.items.now c.loop-a.a-index c.a-item.result c.loop-a-test.true
+    ∙ ap (λ n. max n c.above.result) c.loop-a.invariant
+    ∙ ap (λ n. max (live (take c.loop-a.a-index c.args.items.now)) n) (c.above.ensures ∙ ap above c.stack.ensures ∙ f)
+    ∙ live_more c.args.items.now c.loop-a.a-index c.a-item.result c.loop-a-test.true

@@ -1,4 +1,4 @@
-use Rattle.std.proofs.Common.{◌∙◌, sym, [], length, arith}
+use Rattle.std.proofs.Common.{◌∙◌, sym, [], arith}
 use Rattle.ml_history.proofs.Putting.{stands_at, goes_at, goes_end}
 use Rattle.ml_history.proofs.offering.position_of.Goals as goal
 

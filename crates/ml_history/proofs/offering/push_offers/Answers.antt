@@ -1,4 +1,4 @@
-use Rattle.std.proofs.Common.{◌≤◌, arith, ap, ◌≡◌, ℕ}
+use Rattle.std.proofs.Common.{arith, ap, ◌≡◌, ℕ}
 use Rattle.ml_history.proofs.PlainItems.{last_name-live}
 use Rattle.ml_history.specs.HistoryStep.{last_name}
 use Rattle.ml_history.proofs.offering.push_offers.Goals as goal

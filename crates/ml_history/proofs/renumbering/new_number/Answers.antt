@@ -1,4 +1,4 @@
-use Rattle.std.proofs.Common.{◌≡◌, arith}
+use Rattle.std.proofs.Common.{arith}
 use Rattle.ml_lists.proofs.Counting.{count_le}
 use Rattle.ml_history.specs.HistoryStep.{stands}
 use Rattle.ml_history.proofs.renumbering.new_number.Goals as goal

@@ -1,4 +1,4 @@
-use Rattle.std.proofs.Common.{◌≤◌, ◌^◌, subst, sym, ◌∙◌}
+use Rattle.std.proofs.Common.{◌≤◌, ◌^◌, subst, sym}
 use Rattle.ml_history.specs.HistoryStep.{live}
 use Rattle.ml_history.proofs.PlainStep.{live-small}
 use Rattle.ml_history.proofs.plain.PlainHistory.live.Goals as goal
