@@ -4,7 +4,7 @@
 --   append_known-append   == two pieces behind the known bytes are one
 --   taken_more            == the first bytes of a list, and then some of those behind them, were taken
 --   given_more            == the bytes that a buffer is filled with, and then some behind them, were given
-use Rattle.std.proofs.Common.{◌≡◌, ℕ, ◌+◌, ◌≤◌, List, ◌++◌, length, take, drop, None, Some, Option, refl, sym, ap, ◌∙◌, append_assoc}
+use Rattle.std.proofs.Common.{◌≡◌, ℕ, ◌+◌, List, ◌++◌, take, drop, None, Some, Option, refl, sym, ap, ◌∙◌, append_assoc}
 use Rattle.std.specs.Io.KnownBytes.{append_known, prepend_known}
 use Rattle.std.proofs.Math.Seq.{take-add}
 

@@ -7,7 +7,7 @@
 --   IsGivenCount e max n          == n bytes may have been given where reading up to `max` bytes is refused by e
 --   AreFaultsAt e before after    == what that refusal says of the source's count of faults
 --   Gives old new P               == the bytes that were given meet P
---   AppendsPart old new bs        == a part of bs from its begin on, and not all of it, was appended
+--   AppendsPart old new bs        == a prefix of bs, and not all of it, was appended
 use Rattle.std.specs.Prelude.{◌≡◌, ℕ, ◌+◌, ◌<◌, ◌≤◌, List, length, take, Option}
 use Rattle.std.specs.Io.KnownBytes.{append_known, prepend_known}
 use Rattle.ml_base.specs.declared.whole.ReadRefusal.{ReadRefusal}
@@ -30,6 +30,6 @@ AreFaultsAt NoMemory before after = after ≡ before
 abbrev pub Gives : Option (List ℕ) → Option (List ℕ) → (List ℕ → Type 0) → Type 0
 Gives old new P = (given : List ℕ) × (old ≡ prepend_known given new) × P given
 
--- the first bytes, and not all, were appended
+-- a prefix that is shorter than the whole was appended
 abbrev pub AppendsPart : Option (List ℕ) → Option (List ℕ) → List ℕ → Type 0
 AppendsPart old new bytes = (n : ℕ) × (n < length bytes) × (new ≡ append_known old (take n bytes))

@@ -5,7 +5,7 @@
 // Begin with `Name::new`, `read_all` and `write_all`. `MemSource` and `MemSink` stand in memory, for tests;
 // `StdSource` and `StdSink` stand on std's readers and writers, and tell nothing of the bytes.
 //
-// Below stands nothing of this repository but the crates of general mathematics; all others stand above.
+// It stands on nothing of this repository. Whatever speaks of names, or reads and writes, stands above.
 #![tactic(auto)]
 
 pub mod memory;

@@ -1,11 +1,10 @@
 // Equality, order and hashes of names and actions, which are those of their bytes. The order of names is that in
 // which labels and edges stand.
 ghost use Rattle.std.specs.Prelude.{Some, nat_eq, refl};
-ghost use Rattle.std.proofs.Common.{rules};
 ghost use Rattle.std.specs.Cmp.{partial_equiv_from_equiv};
-ghost use Rattle.std.specs.Cmp.Lexicographic.{pointwise, slice_cmp, nat_list_eq_equiv, nat_list_cmp_total, texts_po, texts_ties};
-ghost use Rattle.std.specs.Cmp.Rules.{hashing};
+ghost use Rattle.std.specs.Cmp.Lexicographic.{pointwise, slice_cmp, nat_list_eq_equiv, nat_list_cmp_total, texts_po, texts_ties, bytes_decides};
 ghost use Rattle.std.specs.Hash as fed;
+ghost use Rattle.std.specs.Hash.{same_Alike};
 ghost use Rattle.std.specs.Ordering.{nat_cmp};
 
 use crate::name::{Action, Name};
@@ -53,7 +52,7 @@ impl Ord for Name {
 impl Hash for Name {
     ghost hash_input = { fed.slice fed.u8 };
 
-    ghost respects_eq = { Prim.search (hashing, rules) };
+    ghost respects_eq = { (same_Alike (fed.slice fed.u8) bytes_decides).fed };
 
     fn hash<H: Hasher>(&self, state: &mut H) {
         self.bytes().hash(state);
@@ -101,7 +100,7 @@ impl Ord for Action {
 impl Hash for Action {
     ghost hash_input = { fed.slice fed.u8 };
 
-    ghost respects_eq = { Prim.search (hashing, rules) };
+    ghost respects_eq = { (same_Alike (fed.slice fed.u8) bytes_decides).fed };
 
     fn hash<H: Hasher>(&self, state: &mut H) {
         self.bytes().hash(state);

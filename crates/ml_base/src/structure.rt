@@ -3,7 +3,7 @@
 use crate::Action;
 
 /// An edge of a structure: from a state, by an action, to a state.
-#[derive(Drop)]
+#[derive(Debug, PartialEq, Eq, PartialOrd, Ord, Drop)]
 pub struct Edge {
     pub source: u32,
     pub action: Action,

@@ -1,6 +1,7 @@
 // Worked rows, and each call once on its happy path.
 use super::*;
 use std::cmp::Ordering;
+use std::hash::{DefaultHasher, Hash, Hasher};
 use std::io;
 use std::io::{ErrorKind, Read, Write};
 use std::test::Fail;
@@ -36,16 +37,24 @@ fn names(rt: HostRuntime) -> Result<(), Fail> {
     Ok(())
 }
 
+fn hash_of<T: Hash>(value: &T) -> u64 {
+    let mut state = DefaultHasher::new();
+    value.hash(&mut state);
+    state.finish()
+}
+
 #[test]
 fn names_compare_by_bytes(rt: HostRuntime) -> Result<(), Fail> {
     let (p, q) = (Name::new(rt.alloc(), b"p")?, Name::new(rt.alloc(), b"p_1")?);
     assert!(rt; p == p.copy()? && p != q && p < q);
+    assert!(rt; hash_of(&p) == hash_of(&p.copy()?) && hash_of(&p) != hash_of(&q));
     assert_eq!(rt; q.cmp(&p), Ordering::Greater);
     let (any, a) = (
         Action::new(rt.alloc(), b"_")?,
         Action::new(rt.alloc(), b"a")?,
     );
     assert!(rt; any == any.copy()? && any != a && any < a);
+    assert_eq!(rt; hash_of(&any), hash_of(&any.copy()?));
     Ok(())
 }
 
@@ -115,39 +124,42 @@ fn whole_writes(rt: HostRuntime) -> Result<(), Fail> {
     Ok(())
 }
 
-// Gives one byte, fails, and is at its end.
+// A reader that gives one byte, fails, and is at its end; a writer that takes one byte, takes nothing, fails, and
+// takes one byte without flushing it.
 #[derive(Drop)]
-struct Flaky(u8);
+struct Flaky {
+    calls: u8,
+}
 
 impl Read for Flaky {
     fn read(&mut self, buf: &mut [u8]) -> io::Result<usize> {
-        let call = self.0;
-        self.0 = call.saturating_add(1);
-        match (call, buf) {
-            (0, [first, ..]) => {
+        self.calls = self.calls.saturating_add(1);
+        match (self.calls, buf) {
+            (1, [first, ..]) => {
                 *first = b'x';
                 Ok(1)
             }
-            (1, _) => Err(io::Error::from(ErrorKind::Other)),
+            (2, _) => Err(io::Error::from(ErrorKind::Other)),
             _ => Ok(0),
         }
     }
 }
 
-// Takes one byte, takes nothing, and fails.
 impl Write for Flaky {
     fn write(&mut self, buf: &[u8]) -> io::Result<usize> {
-        let call = self.0;
-        self.0 = call.saturating_add(1);
-        match call {
-            0 => Ok(buf.len().min(1)),
-            1 => Ok(0),
-            _ => Err(io::Error::from(ErrorKind::Other)),
+        self.calls = self.calls.saturating_add(1);
+        match self.calls {
+            2 => Ok(0),
+            3 => Err(io::Error::from(ErrorKind::Other)),
+            _ => Ok(buf.len().min(1)),
         }
     }
 
     fn flush(&mut self) -> io::Result<()> {
-        Ok(())
+        match self.calls {
+            4 => Err(io::Error::from(ErrorKind::Other)),
+            _ => Ok(()),
+        }
     }
 }
 
@@ -156,11 +168,9 @@ fn a_reader(rt: HostRuntime) -> Result<(), Fail> {
     let mut whole: &[u8] = b"hello";
     let bytes = read_all(rt.alloc(), &mut StdSource::new(&mut whole), 100)?;
     assert!(rt; bytes.as_slice() == b"hello".as_slice());
-    let mut source = StdSource::new(Flaky(0));
-    assert_eq!(rt;
-        read_all(rt.alloc(), &mut source, 100).err(),
-        Some(ReadRefusal::ReadFault)
-    );
+    let mut source = StdSource::new(Flaky { calls: 0 });
+    let refusal = read_all(rt.alloc(), &mut source, 100).err();
+    assert_eq!(rt; refusal, Some(ReadRefusal::ReadFault));
     assert!(rt; read_all(rt.alloc(), &mut source, 100)?.is_empty());
     Ok(())
 }
@@ -170,9 +180,18 @@ fn a_writer(rt: HostRuntime) -> Result<(), Fail> {
     let mut taken = Vec::new(rt.alloc());
     write_all(&mut StdSink::new(&mut taken), b"hello")?;
     assert!(rt; taken.as_slice() == b"hello".as_slice());
-    let mut sink = StdSink::new(Flaky(0));
+    let mut sink = StdSink::new(Flaky { calls: 0 });
     assert_eq!(rt; sink.write(b"hi"), Ok(1));
     assert_eq!(rt; sink.write(b"hi"), Err(Failed));
-    assert_eq!(rt; write_all(&mut sink, b"hi"), Err(WriteRefusal::WriteFault));
+    assert_eq!(rt; sink.write(b"hi"), Err(Failed));
+    assert_eq!(rt; sink.write(b"hi"), Err(Failed));
+    assert_eq!(rt; write_all(&mut sink, b"hi"), Ok(()));
     Ok(())
+}
+
+// No vector has so much room.
+#[test]
+fn too_much_room(rt: HostRuntime) {
+    let sink = MemSink::new(rt.alloc(), 1, Vec::new(rt.alloc()), u64::MAX);
+    assert_eq!(rt; sink.err(), Some(NoMemory));
 }

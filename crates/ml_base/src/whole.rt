@@ -136,7 +136,7 @@ fn read_behind<S: Source>(
 ///
 /// # Errors
 /// `WriteFault` where the sink failed: only where its count of faults rose in this call, and always where the count
-/// is greater after it. Then a part of the bytes from their begin on was taken.
+/// is greater after it. Then a prefix of the bytes was taken, and not all of them.
 ///
 /// Cost: linear in the bytes for a sink that is.
 pub fn write_all<K: Sink>(sink: &mut K, bytes: &[u8]) -> Result<(), WriteRefusal>

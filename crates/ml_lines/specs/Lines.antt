@@ -7,6 +7,7 @@
 --
 --   Word, Line      == a list of bytes; a list of words
 --   number n        == the word for the number n
+--   next word       == a word behind another one: the blank between them, and the word
 --   line_text ws    == the bytes of a line, its LF included
 --   text_of ls      == the bytes of all lines
 use Rattle.std.specs.Prelude.{ℕ, List, [], ◌∷◌, ◌++◌}
@@ -23,6 +24,9 @@ abbrev pub number : ℕ → Word
 number n = decimal n
 
 -- 32 is the blank, 10 the LF
+abbrev pub next : Word → List ℕ
+next word = 32 ∷ word
+
 abbrev pub line_text : Line → List ℕ
 line_text words = join_with_byte 32 words ++ 10 ∷ []
 

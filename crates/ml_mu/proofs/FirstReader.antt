@@ -19,7 +19,7 @@ use Rattle.ml_mu.proofs.FirstTexts.{names, complete, sound}
 use Rattle.ml_mu.proofs.FirstFormulas.{conjunction-literals_of, literals_propositions, named_run, HasLiterals, has_literals}
 use Rattle.ml_mu.proofs.Repeats.{Differ, differ_from_test, same_from_test}
 
-length_names : (ls : List Literal) → length (names ls) ≡ length ls
+pub length_names : (ls : List Literal) → length (names ls) ≡ length ls
 length_names [] = refl
 length_names (l ∷ ls) = ap suc (length_names ls)
 

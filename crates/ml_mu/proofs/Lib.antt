@@ -8,3 +8,5 @@ pub mod Words
 pub mod Repeats
 -- the answers of the reader of first texts
 pub mod FirstReader
+-- structures of one state at which the formulas of first texts hold
+pub mod FirstModels

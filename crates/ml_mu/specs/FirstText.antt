@@ -12,6 +12,7 @@
 --   ReadsLiteral ts f rest     == ts begins with the literal f, and rest follows
 --   ReadsConjunction ts f rest == ts begins with the conjunction of literals f, and rest follows
 --   propositions f             == the propositions of f in the order of the text
+--   positive_propositions f    == those of them that stand without `!`, in a conjunction of literals
 --   StandsFor text f           == the text is a first text, and stands for the formula f
 use Rattle.std.specs.Prelude.{ℕ, ◌≤◌, ◌≢◌, ◌-◌, List, [], ◌∷◌, ◌++◌, length, map, take, drop, AllPairs, IsTrue, codes}
 use Rattle.std.specs.List.{list_all}
@@ -50,6 +51,15 @@ propositions (Not f) = propositions f
 propositions (Binary op f g) = propositions f ++ propositions g
 propositions (Modal m a f) = propositions f
 propositions (Binder q x f) = propositions f
+
+abbrev pub positive_propositions : Formula → List (List ℕ)
+positive_propositions (Const b) = []
+positive_propositions (Prop p) = p ∷ []
+positive_propositions (Var x) = []
+positive_propositions (Not f) = []
+positive_propositions (Binary op f g) = positive_propositions f ++ positive_propositions g
+positive_propositions (Modal m a f) = []
+positive_propositions (Binder q x f) = []
 
 abbrev pub longest_text : ℕ
 longest_text = 1048576

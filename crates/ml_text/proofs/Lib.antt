@@ -2,3 +2,15 @@
 pub mod Signs
 -- the token at the front of a text, and the tokens from a byte on
 pub mod Scan
+-- bytes are no blanks where they are letters or stand in words
+pub mod ByteKinds
+-- what is known of the bytes of a token
+pub mod Spelling
+-- the token at the front is the longest, and there is only one
+pub mod Longest
+-- the tokens of a text follow one another, and only blanks stand beside them
+pub mod Cover
+-- for callers: what one answer of the scanner says of the bytes of the text
+pub mod NextToken
+-- the tokens of a text that is put together from pieces
+pub mod Pieces

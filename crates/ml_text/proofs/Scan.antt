@@ -71,25 +71,25 @@ front_token-within w b rest =
     (λ word is. record { some = omega arith; fits = omega arith })
 
 -- the token that begins at this place
-pub placed_at : WordStart → ℕ → ℕ → List ℕ → Placed
+abbrev pub placed_at : WordStart → ℕ → ℕ → List ℕ → Placed
 placed_at w i b rest = record { token = (front_token w b rest).0; start = i; end = i + (front_token w b rest).1 }
 
 -- one step of the list of tokens
-tokens_at-blank : (n : ℕ) (w : WordStart) (i b : ℕ) (rest : List ℕ) → is_blank b ≡ true → tokens_at (suc n) w i (b ∷ rest) ≡ tokens_at n w (i + 1) rest
+pub tokens_at-blank : (n : ℕ) (w : WordStart) (i b : ℕ) (rest : List ℕ) → is_blank b ≡ true → tokens_at (suc n) w i (b ∷ rest) ≡ tokens_at n w (i + 1) rest
 unfolding tokens_at
 tokens_at-blank n w i b rest blank = cond-true _ _ _ blank
 
-tokens_at-token : (n : ℕ) (w : WordStart) (i b : ℕ) (rest : List ℕ) → is_blank b ≡ false → tokens_at (suc n) w i (b ∷ rest) ≡ placed_at w i b rest ∷ tokens_at n w (i + (front_token w b rest).1) (drop (front_token w b rest).1 (b ∷ rest))
-unfolding tokens_at placed_at
+pub tokens_at-token : (n : ℕ) (w : WordStart) (i b : ℕ) (rest : List ℕ) → is_blank b ≡ false → tokens_at (suc n) w i (b ∷ rest) ≡ placed_at w i b rest ∷ tokens_at n w (i + (front_token w b rest).1) (drop (front_token w b rest).1 (b ∷ rest))
+unfolding tokens_at
 tokens_at-token n w i b rest blank = cond-false _ _ _ blank
 
-tokens_at-end : (n : ℕ) (w : WordStart) (i : ℕ) → tokens_at n w i [] ≡ []
+pub tokens_at-end : (n : ℕ) (w : WordStart) (i : ℕ) → tokens_at n w i [] ≡ []
 unfolding tokens_at
 tokens_at-end zero w i = refl
 tokens_at-end (suc n) w i = refl
 
 -- any bound that is large enough gives the same tokens
-tokens_at-enough : (n m : ℕ) (w : WordStart) (i : ℕ) (text : List ℕ) → length text ≤ n → length text ≤ m → tokens_at n w i text ≡ tokens_at m w i text
+pub tokens_at-enough : (n m : ℕ) (w : WordStart) (i : ℕ) (text : List ℕ) → length text ≤ n → length text ≤ m → tokens_at n w i text ≡ tokens_at m w i text
 tokens_at-enough n m w i [] small small' = tokens_at-end n w i ∙ sym (tokens_at-end m w i)
 tokens_at-enough zero m w i (b ∷ rest) small small' = absurd (omega arith)
 tokens_at-enough (suc n) zero w i (b ∷ rest) small small' = absurd (omega arith)
@@ -118,11 +118,11 @@ tokens_from-at w text i n rest is small =
     tokens_at-enough n (length text) w i rest small (omega arith) ∙ ap (tokens_at (length text) w i) (sym is)
 
 -- the token that begins at this byte of the text
-pub front_at : WordStart → List ℕ → ℕ → Token × ℕ
+unfoldable pub front_at : WordStart → List ℕ → ℕ → Token × ℕ
 front_at w text i = front_token w (get_or text i 0) (drop (i + 1) text)
 
-pub placed : WordStart → List ℕ → ℕ → Placed
-placed w text i = placed_at w i (get_or text i 0) (drop (i + 1) text)
+abbrev pub placed : WordStart → List ℕ → ℕ → Placed
+placed w text i = record { token = (front_at w text i).0; start = i; end = i + (front_at w text i).1 }
 
 -- a blank is passed over
 pub tokens_from-blank : (w : WordStart) (text : List ℕ) (i : ℕ) → i < length text → is_blank (get_or text i 0) ≡ true → tokens_from w text i ≡ tokens_from w text (i + 1)
@@ -135,7 +135,7 @@ tokens_from-blank w text i within blank =
 
 -- any other byte begins a token
 pub tokens_from-token : (w : WordStart) (text : List ℕ) (i : ℕ) → i < length text → is_blank (get_or text i 0) ≡ false → tokens_from w text i ≡ placed w text i ∷ tokens_from w text (i + (front_at w text i).1)
-unfolding placed front_at
+unfolding front_at
 tokens_from-token w text i within blank =
     let b = get_or text i 0 in
     let rest = drop (i + 1) text in
@@ -195,7 +195,7 @@ pub record FirstToken (w : WordStart) (text : List ℕ) (i n : ℕ) (front : Tok
   pub fits : i + n + front.1 ≤ length text
 
 pub first_token : (w : WordStart) (text : List ℕ) (i n : ℕ) (front : Token × ℕ) → i ≤ length text → n ≡ length (take_while is_blank (drop i text)) → (i + n ≡ length text → ⊥) → front ≡ front_token w (get_or text (i + n) 0) (drop (i + n + 1) text) → FirstToken w text i n front
-unfolding placed placed_at front_at
+unfolding front_at
 first_token w text i n front within long more is =
     let skip = skipped w text i n within long in
     let inside : i + n < length text = omega (arith, skip.fits) in

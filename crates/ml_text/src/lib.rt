@@ -4,12 +4,21 @@
 // byte that begins no sign and no word is a token by itself, so one scanner serves all: a logic only says
 // which letters begin a word (`WordStart`), and which tokens its grammar has.
 //
-// Begin with `next_token`, the first token at or behind an offset. Below stands nothing but std; above stand
-// the parsers of the logics.
+// Begin with `next_token`, the first token at or behind an offset; `constant_of` knows the words that all
+// logics reserve; `is_lower` and its like tell the names of a logic from its variables. The module `laws` has
+// the theorems on tokens: the longest one is taken, and the tokens of a text cover it.
+//
+// Below stands nothing but std; above stand the parsers of the logics.
 #![tactic(auto)]
 
 mod bytes;
+pub mod laws;
 mod token;
+mod words;
 
 pub use bytes::{is_blank, is_digit, is_letter, is_lower, is_upper, is_word_byte};
 pub use token::{Operator, Placed, Token, WordStart, next_token};
+pub use words::constant_of;
+
+#[cfg(test)]
+mod tests;

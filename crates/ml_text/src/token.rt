@@ -105,8 +105,11 @@ fn front_token(first: u8, rest: &[u8], words: WordStart) -> (Token, usize)
 
 /// The first token of the text at or behind the byte `from`, or `None` where only blanks are left.
 ///
-/// To read a whole text, begin at 0 and go on at the `end` of each token.
-/// Cost: linear in the bytes from `from` to the token's end.
+/// `from` is an offset in bytes, at most the text's length. To read a whole text, begin at 0 and go on at the
+/// `end` of each token. The longest token is taken, so a place within a token may begin another one.
+/// No memory is taken. Cost: linear in the bytes from `from` to the token's end.
+///
+/// In `p <-> _q` the tokens are a word from 0 to 1, an `Iff` from 2 to 5, the byte `_` and a word from 7 to 8.
 pub fn next_token(text: &[u8], words: WordStart, from: usize) -> Option<Placed>
     requires { from ≤ length text.now }
     ensures tokens { MatchOption result

@@ -52,7 +52,7 @@ pub record CyclicRun {S L : Type 0} (leads : L → S → S → Bool → Type 0) 
   pub run : AcceptingRun leads (repeated times w) item.state item.state
 
 -- On a loop of steps that satisfy the condition on names, whose lowest mark is odd, some item has an accepting run
--- to its own state. (Said of letters of the trace automaton; `proofs/LabelledLoop` has it for any automaton.)
+-- to its own state. (Said of letters of the trace automaton; `proofs/OddLoop` has it for any automaton.)
 abbrev pub OddLoopHasRun : Type 0
 OddLoopHasRun =
     (steps : List (MarkedStep (List Transition))) (e : Entry ℕ) → IsPath in_letter steps e e → EachNameStands e → is_odd (lowest_mark (marks steps)) ≡ true → CyclicRun in_letter e (letters steps)

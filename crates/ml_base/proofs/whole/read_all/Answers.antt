@@ -1,4 +1,4 @@
-use Rattle.std.proofs.Common.{◌∙◌, rules, arith}
+use Rattle.std.proofs.Common.{◌∙◌, rules}
 use Rattle.ml_base.proofs.Pieces.{given_more}
 use Rattle.ml_base.proofs.whole.read_all.Goals as goal
 

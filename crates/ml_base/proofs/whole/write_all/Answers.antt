@@ -1,4 +1,4 @@
-use Rattle.std.proofs.Common.{◌≡◌, drop, rules}
+use Rattle.std.proofs.Common.{rules}
 use Rattle.std.proofs.lemmas.List.{take_rest}
 use Rattle.ml_base.proofs.Pieces.{taken_more}
 use Rattle.ml_base.proofs.whole.write_all.Goals as goal

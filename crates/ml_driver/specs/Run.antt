@@ -1,0 +1,122 @@
+-- What a call of `run` answers, and what it leaves behind.
+--
+-- Which status and output are due is said of the words and of the bytes that were read, and of nothing else: a status
+-- never comes with an output of another one. What is said of bytes read and written is said of a source and a sink
+-- that tell their bytes; of others the clauses on faults remain.
+--
+--   IsSatisfied text out      == out is a document about the formula of the text, with a structure and a state at which
+--                                that formula holds
+--   IsDue c text status out   == for the command c, or for words that are none, this status and this output are due
+--                                where the input is the text
+--   World                     == what a call found and left: the bytes of the source, those of the sink, both counts of
+--                                faults
+--   IsCalm w                  == neither count of faults changed
+--   WasRead c w text          == the text was given for the command c: to its end, or past the limit on its length;
+--                                nothing was, where the words are no command
+--   Ended c w status          == what is true when the call has answered this status
+use Rattle.std.specs.Prelude.{ℕ, ◌≡◌, ◌<◌, ◌⊎◌, List, [], length, false, Option, Some, None, IsSome}
+use Rattle.std.specs.Io.KnownBytes.{IsAtEnd, append_known, prepend_known}
+use Rattle.ml_base.specs.Faults.{Rose}
+use Rattle.ml_base.specs.Structure.{Structure, IsStructure}
+use Rattle.ml_base.specs.Whole.{AppendsPart}
+use Rattle.ml_kripke.specs.Ordered.{IsOrdered}
+use Rattle.ml_mu.specs.Formula.{Formula}
+use Rattle.ml_mu.specs.Problem.{Problem, HoldsAt}
+use Rattle.ml_mu.specs.FirstText.{StandsFor, longest_text}
+use Rattle.ml_driver.specs.declared.command.Command.{Command}
+use Rattle.ml_driver.specs.declared.command.Command.TheVariants.{DecideMu}
+use Rattle.ml_driver.specs.declared.status.Status.{Status}
+use Rattle.ml_driver.specs.declared.status.Status.TheVariants.{Yes, No, Undecided, Words, Text, ReadFault, WriteFault, NoMemory, Unconfirmed}
+use Rattle.ml_driver.specs.Document.{satisfiable_document}
+use Rattle.ml_driver.specs.Statuses.{refused_words, refused_form}
+
+-- the formula in its plain sense
+abbrev pub plain : Formula → Problem
+plain f = record { formula = f; negated = false }
+
+pub record IsSatisfied (text out : List ℕ) : Type 0 where
+  pub formula : Formula
+  pub structure : Structure
+  pub start : ℕ
+  pub stands_for : StandsFor text formula
+  pub is_structure : IsStructure structure
+  pub is_ordered : IsOrdered structure
+  pub has_one_state : structure.states ≡ 1
+  pub is_state : start < structure.states
+  pub holds : HoldsAt structure start (plain formula)
+  pub is_written : out ≡ satisfiable_document (plain formula) structure start
+
+-- a first text is always satisfiable, so no other answer is ever due
+abbrev pub IsDue : Option Command → List ℕ → Status → List ℕ → Type 0
+IsDue None text Words out = out ≡ refused_words
+IsDue (Some DecideMu) text Text out = ((f : Formula) → ¬ (StandsFor text f)) × (out ≡ refused_form)
+IsDue (Some DecideMu) text Yes out = IsSatisfied text out
+IsDue _ _ _ _ = ⊥
+
+pub record World : Type 0 where
+  pub left_before : Option (List ℕ)
+  pub left_after : Option (List ℕ)
+  pub source_faults_before : ℕ
+  pub source_faults_after : ℕ
+  pub taken_before : Option (List ℕ)
+  pub taken_after : Option (List ℕ)
+  pub sink_faults_before : ℕ
+  pub sink_faults_after : ℕ
+
+pub record IsCalm (w : World) : Type 0 where
+  pub source_is_calm : w.source_faults_after ≡ w.source_faults_before
+  pub sink_is_calm : w.sink_faults_after ≡ w.sink_faults_before
+
+abbrev pub WasRead : Option Command → World → List ℕ → Type 0
+WasRead None w text = (w.left_after ≡ w.left_before) × (text ≡ [])
+WasRead (Some c) w text =
+    (w.left_before ≡ prepend_known text w.left_after) × (IsAtEnd w.left_after ⊎ (longest_text < length text))
+
+-- the call answered: the whole of what is due was taken
+pub record Answered (c : Option Command) (w : World) (status : Status) : Type 0 where
+  pub text : List ℕ
+  pub output : List ℕ
+  pub was_read : WasRead c w text
+  pub is_due : IsDue c text status output
+  pub was_taken : w.taken_after ≡ append_known w.taken_before output
+  pub is_calm : IsCalm w
+
+-- the source failed: nothing was written
+pub record FailedToRead (c : Option Command) (w : World) : Type 0 where
+  pub is_command : IsSome c
+  pub source_rose : Rose w.source_faults_before w.source_faults_after
+  pub sink_is_calm : w.sink_faults_after ≡ w.sink_faults_before
+  pub nothing_taken : w.taken_after ≡ w.taken_before
+
+-- the sink failed: a part of what is due was taken
+pub record FailedToWrite (c : Option Command) (w : World) : Type 0 where
+  pub text : List ℕ
+  pub status : Status
+  pub output : List ℕ
+  pub was_read : WasRead c w text
+  pub is_due : IsDue c text status output
+  pub part_taken : AppendsPart w.taken_before w.taken_after output
+  pub source_is_calm : w.source_faults_after ≡ w.source_faults_before
+  pub sink_rose : Rose w.sink_faults_before w.sink_faults_after
+
+-- memory was wanting: nothing was written
+pub record LackedMemory (w : World) : Type 0 where
+  pub nothing_taken : w.taken_after ≡ w.taken_before
+  pub is_calm : IsCalm w
+
+abbrev pub Ended : Option Command → World → Status → Type 0
+Ended c w Yes = Answered c w Yes
+Ended c w No = Answered c w No
+Ended c w Undecided = Answered c w Undecided
+Ended c w Words = Answered c w Words
+Ended c w Text = Answered c w Text
+Ended c w ReadFault = FailedToRead c w
+Ended c w WriteFault = FailedToWrite c w
+Ended c w NoMemory = LackedMemory w
+Ended c w Unconfirmed = Answered c w Unconfirmed
+
+-- a status and its output were due, and were written: the whole of it, or a part where the sink failed
+abbrev pub Wrote : Option (List ℕ) → Option (List ℕ) → ℕ → ℕ → Status → List ℕ → Status → Type 0
+Wrote taken_before taken_after faults_before faults_after due output answered =
+    ((answered ≡ due) × (taken_after ≡ append_known taken_before output) × (faults_after ≡ faults_before))
+    ⊎ ((answered ≡ WriteFault) × AppendsPart taken_before taken_after output × Rose faults_before faults_after)

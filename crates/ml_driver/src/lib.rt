@@ -1,0 +1,20 @@
+// The program as one call over a source and a sink.
+//
+// `run` reads the words, then the source to its end, computes the answer as a value, makes its whole output as bytes,
+// and only then writes. Its contract (`specs/Run.antt`) says which status and output are due, and what each status
+// leaves behind. `Status::code` is the number with which the program ends.
+//
+// Below stand all crates that it calls; above stands only the program `mlsolver`.
+#![tactic(auto)]
+
+mod answer;
+mod command;
+mod decide;
+mod status;
+#[cfg(test)]
+mod tests;
+mod top;
+
+pub use command::{Command, command_of};
+pub use status::Status;
+pub use top::run;

@@ -1,0 +1,7 @@
+use Rattle.std.proofs.Common.{◌≡◌, ◌++◌, map, take}
+use Rattle.ml_lines.specs.Lines.{text_of}
+use Rattle.ml_kripke.specs.ModelText.{edge_line}
+use Rattle.ml_kripke.proofs.write.write_edges.Given as goal
+
+abbrev pub invariant-loop-edge : goal.invariant-loop-edge
+invariant-loop-edge l = l.out.items ≡ l.fn.out.items ++ text_of (map edge_line (take l.edge-index l.edges))

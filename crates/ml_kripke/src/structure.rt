@@ -1,0 +1,167 @@
+// Kripke structures, and how one is built.
+ghost use Rattle.std.specs.Prelude.{◌≡◌, ◌<◌, ◌↔◌, ℕ, [], map, find, nat_le, Some, All, IfOk, IsErrOf, slice_index_or};
+ghost use Rattle.std.specs.List.{flat_map, range_with_len};
+ghost use Rattle.ml_base.specs.Structure.{IsStructure};
+ghost use Rattle.ml_kripke.specs.Ordered.{IsOrdered, IsBuiltFrom, first_bad_state, ends, labels_at};
+
+use crate::ascending::ascending;
+use ml_base::{Edge, Name, NoMemory};
+use std::alloc::Global;
+use std::marker::Model;
+use thiserror::Error;
+
+/// Why labels and edges became no structure.
+#[derive(Clone, Copy, Debug, PartialEq, Eq, Error)]
+pub enum StructureRefusal {
+    /// A structure has at least one state.
+    #[error("no states")]
+    NoStates,
+    /// This state is not below the number of states.
+    #[error("state {0} is out of range")]
+    StateOutOfRange(u32),
+    #[error("out of memory")]
+    NoMemory,
+}
+
+impl From<NoMemory> for StructureRefusal {
+    ghost use Rattle.ml_kripke.specs.declared.structure.StructureRefusal.TheVariants as refusal;
+
+    ghost from_gives = { λ _ e. e ≡ refusal.NoMemory };
+
+    fn from(_: NoMemory) -> StructureRefusal {
+        StructureRefusal::NoMemory
+    }
+}
+
+/// A Kripke structure: states from 0 on, the propositions of each state in ascending order, and edges in ascending
+/// order by source, action bytes and target. Contracts see the definition's own record.
+#[derive(Debug, Drop)]
+pub struct Structure {
+    states: u32,
+    labels: Vec<Vec<Name>>,
+    edges: Vec<Edge>,
+}
+
+impl Model for Structure {
+    ghost use Rattle.std.specs.Prelude.{map};
+    ghost use Rattle.ml_base.specs.Structure as kripke;
+    ghost use Rattle.ml_kripke.specs.Ordered as ordered;
+
+    ghost Value = { kripke.Structure };
+
+    ghost view = { λ a. record { states = a.states; labels = map (λ row. row.items) a.labels.items; edges = a.edges.items } };
+
+    ghost invariant = { λ a. let m : kripke.Structure = record { states = a.states; labels = map (λ row. row.items) a.labels.items; edges = a.edges.items } in kripke.IsStructure m × ordered.IsOrdered m };
+}
+
+impl Structure {
+    /// The structure with this many states, these labels of states and these edges, in any order and with any repeats.
+    ///
+    /// # Errors
+    /// `NoStates` exactly where `states` is 0. `StateOutOfRange` exactly where `states` isn't 0 and a label's or an
+    /// edge's state isn't below it, with the first such number: labels before edges, an edge's source before its
+    /// target, in the order of the lists as given. `NoMemory`.
+    ///
+    /// Cost: linear in the states, and `n log n` in the labels and the edges.
+    pub fn build(
+        alloc: Global,
+        states: u32,
+        labels: Vec<(u32, Name)>,
+        edges: Vec<Edge>,
+    ) -> Result<Structure, StructureRefusal>
+        ensures built { IfOk result (IsBuiltFrom states labels.items edges.items) }
+        ensures is_structure { IfOk result IsStructure }
+        ensures is_ordered { IfOk result IsOrdered }
+        ensures no_states { IsErrOf result StructureRefusal.NoStates ↔ (states ≡ 0) }
+        ensures out_of_range { (state : ℕ) → IsErrOf result (StructureRefusal.StateOutOfRange state)
+            ↔ ((0 < states) × (first_bad_state states labels.items edges.items ≡ Some state)) }
+    {
+        if states == 0 {
+            return Err(StructureRefusal::NoStates);
+        }
+        if let Some(state) = first_out_of_range(states, &labels, &edges) {
+            return Err(StructureRefusal::StateOutOfRange(state));
+        }
+        Ok(Structure {
+            states,
+            labels: rows(alloc, states, ascending(labels))?,
+            edges: ascending(edges),
+        })
+    }
+
+    /// How many states there are. Whoever asks also learns what the type keeps.
+    pub fn states(&self) -> u32
+        ensures value { result ≡ self.now.states }
+        ensures is_structure { IsStructure self.now }
+        ensures is_ordered { IsOrdered self.now }
+    {
+        self.states
+    }
+
+    /// The labels of a state, in ascending order.
+    pub fn labels_of(&self, state: u32) -> &[Name]
+        requires { state < self.now.states }
+        ensures { result.now ≡ slice_index_or self.now.labels state [] }
+    {
+        &self.labels[state as usize]
+    }
+
+    /// The edges, in ascending order.
+    pub fn edges(&self) -> &[Edge]
+        ensures { result.now ≡ self.now.edges }
+    {
+        &self.edges
+    }
+
+    // the labels, a row for each state
+    pub(crate) fn rows(&self) -> &[Vec<Name>]
+        ensures { map (λ row. row.items) result.now ≡ self.now.labels }
+    {
+        &self.labels
+    }
+}
+
+// the first state that isn't below the number of states
+fn first_out_of_range(states: u32, labels: &[(u32, Name)], edges: &[Edge]) -> Option<u32>
+    ensures { result ≡ first_bad_state states labels.now edges.now }
+{
+    first_bad_label(states, labels).or_else(|| first_bad_end(states, edges))
+}
+
+fn first_bad_label(states: u32, labels: &[(u32, Name)]) -> Option<u32>
+    ensures { result ≡ find (nat_le states) (map (λ label. label.0) labels.now) }
+{
+    labels
+        .iter()
+        .map(|label| label.0)
+        .find(|state| *state >= states)
+}
+
+fn first_bad_end(states: u32, edges: &[Edge]) -> Option<u32>
+    ensures { result ≡ find (nat_le states) (flat_map ends edges.now) }
+{
+    for edge in edges {
+        if edge.source >= states {
+            return Some(edge.source);
+        }
+        if edge.target >= states {
+            return Some(edge.target);
+        }
+    }
+    None
+}
+
+// a row for each state, of its labels in the order in which they stand
+fn rows(alloc: Global, states: u32, labels: Vec<(u32, Name)>) -> Result<Vec<Vec<Name>>, NoMemory>
+    requires { All (λ label. label.0 < states) labels.items }
+    ensures { IfOk result (λ rows. map (λ row. row.items) rows.items ≡ map (labels_at labels.items) (range_with_len 0 states)) }
+{
+    let mut rows = Vec::with_capacity(alloc, states as usize)?;
+    for _ in 0..states {
+        rows.push(Vec::new(alloc))?;
+    }
+    for (state, label) in labels {
+        rows[state as usize].push(label)?;
+    }
+    Ok(rows)
+}

@@ -1,0 +1,79 @@
+// The text of a model.
+ghost use Rattle.std.specs.Prelude.{◌≡◌, [], ◌∷◌, ◌++◌, map, IfOk, OnOk, codes, List, ℕ};
+ghost use Rattle.std.specs.List.{enumerate_from};
+ghost use Rattle.ml_lines.specs.Lines.{number, line_text, text_of};
+ghost use Rattle.ml_kripke.specs.Ordered.{HasNames};
+ghost use Rattle.ml_kripke.specs.ModelText.{state_line, edge_line, model_text};
+
+use crate::model::Model;
+use ml_base::{Edge, Name, NoMemory};
+use ml_lines::{end_line, write_next_number, write_next_word, write_word};
+use std::alloc::Global;
+
+/// The text of a model: the body of a satisfiable document.
+///
+/// # Errors
+/// `NoMemory` alone.
+///
+/// Cost: linear in the text.
+pub fn write_model(alloc: Global, model: &Model) -> Result<Vec<u8>, NoMemory>
+    ensures text { IfOk result (λ bytes. bytes.items ≡ model_text model.now.structure model.now.start) }
+{
+    let structure = &model.structure;
+    let mut out = Vec::new(alloc);
+    write_numbered(&mut out, b"states", structure.states())?;
+    write_numbered(&mut out, b"start", model.start)?;
+    write_states(&mut out, structure.rows())?;
+    write_edges(&mut out, structure.edges())?;
+    write_word(&mut out, b"end")?;
+    end_line(&mut out)?;
+    Ok(out)
+}
+
+fn write_numbered(out: &mut Vec<u8>, word: &[u8], n: u32) -> Result<(), NoMemory>
+    ensures { OnOk result (out.new.items ≡ out.old.items ++ line_text (word.now ∷ number n ∷ [])) }
+{
+    write_word(out, word)?;
+    write_next_number(out, u64::from(n))?;
+    end_line(out)
+}
+
+fn write_states(out: &mut Vec<u8>, rows: &[Vec<Name>]) -> Result<(), NoMemory>
+    ensures { OnOk result (out.new.items ≡ out.old.items
+        ++ text_of (map (λ labelled. state_line labelled.0 labelled.1) (enumerate_from 0 (map (λ row. row.items) rows.now)))) }
+{
+    for (state, labels) in rows.iter().enumerate() {
+        write_state(out, state, labels)?;
+    }
+    Ok(())
+}
+
+fn write_state(out: &mut Vec<u8>, state: usize, labels: &[Name]) -> Result<(), NoMemory>
+    ensures { OnOk result (out.new.items ≡ out.old.items ++ line_text (state_line state labels.now)) }
+{
+    write_word(out, b"state")?;
+    write_next_number(out, state as u64)?;
+    for label in labels {
+        write_next_word(out, label.bytes())?;
+    }
+    end_line(out)
+}
+
+fn write_edges(out: &mut Vec<u8>, edges: &[Edge]) -> Result<(), NoMemory>
+    ensures { OnOk result (out.new.items ≡ out.old.items ++ text_of (map edge_line edges.now)) }
+{
+    for edge in edges {
+        write_edge(out, edge)?;
+    }
+    Ok(())
+}
+
+fn write_edge(out: &mut Vec<u8>, edge: &Edge) -> Result<(), NoMemory>
+    ensures { OnOk result (out.new.items ≡ out.old.items ++ line_text (edge_line edge.now)) }
+{
+    write_word(out, b"edge")?;
+    write_next_number(out, u64::from(edge.source))?;
+    write_next_word(out, edge.action.bytes())?;
+    write_next_number(out, u64::from(edge.target))?;
+    end_line(out)
+}
