@@ -42,3 +42,5 @@ pub mod PlainItems
 pub mod Putting
 -- the plain step: bounds, and its parts together
 pub mod PlainStep
+-- letters stand for sets
+pub mod LetterSets

@@ -10,8 +10,10 @@
 --   OddMarkHasRun          == the first law: if the lowest mark is odd, there is such a run
 --   RunHasOddMark          == the second law: if there is such a run, the lowest mark is odd
 --   StepsAreHistories      == the start is a history, and so is what a step makes of one
+--   LettersAreSets         == neither the order nor repeats of the transitions of a letter change a step
 --   StepsTraceNames        == each step of a history satisfies the condition on names
 use Rattle.std.specs.Prelude.{◌≡◌, ◌≢◌, ℕ, true, List, []}
+use Rattle.ml_lists.specs.Member.{IsMember}
 use Rattle.ml_trace.specs.declared.letters.Transition.{Transition}
 use Rattle.ml_trace.specs.LabelledLoop.{CyclicRun}
 use Rattle.ml_trace.specs.NamesCondition.{NamesCondition}
@@ -46,6 +48,11 @@ RunHasOddMark = (h : List (Item ℕ)) (w : List (List Transition)) → ReturnsTo
 -- the start is a history, and so is what a step makes of one
 abbrev pub StepsAreHistories : Type 0
 StepsAreHistories = ((q : ℕ) → IsHistory (start q)) × ((h : List (Item ℕ)) (letter : List Transition) → IsHistory h → IsHistory (stepped h letter))
+
+-- neither the order nor repeats of the transitions of a letter change a step or its mark
+abbrev pub LettersAreSets : Type 0
+LettersAreSets =
+    (h : List (Item ℕ)) (l m : List Transition) → ((t : Transition) → IsMember t l → IsMember t m) → ((t : Transition) → IsMember t m → IsMember t l) → (stepped h l ≡ stepped h m) × (step_mark h l ≡ step_mark h m)
 
 -- each step of a history satisfies the condition on names
 abbrev pub StepsTraceNames : Type 0

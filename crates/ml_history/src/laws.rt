@@ -1,11 +1,17 @@
 // Laws over the definitions of the trace automaton and the history step alone. Each stands on a function that does
 // nothing.
-ghost use Rattle.ml_history.specs.CycleLaws.{StepsAreHistories, StepsTraceNames, OddMarkHasRun, RunHasOddMark};
+ghost use Rattle.ml_history.specs.CycleLaws.{StepsAreHistories, StepsTraceNames, LettersAreSets, OddMarkHasRun, RunHasOddMark};
 
 /// The start is a history, and a step leads from a history to a history.
 pub fn steps_are_histories()
     ensures { StepsAreHistories }
 {}
+
+/// Letters stand for sets: neither the order nor repeats of their transitions change a step or its mark.
+pub fn letters_are_sets()
+    ensures { LettersAreSets }
+{
+}
 
 /// Each step of a history satisfies the condition on names that a refutation is checked for.
 pub fn steps_trace_names()

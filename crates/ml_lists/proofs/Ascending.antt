@@ -3,6 +3,7 @@
 --   member-insert_once, insert_once-member == the set with x has x, and what it had, and nothing else
 --   member-ascending, ascending-member     == the ascending list has the members of the list
 --   ascending-is                           == it is ascending
+--   ascending_same                         == two ascending lists with the same members are one
 --   ascending-apart                        == an earlier entry of an ascending list is below a later one
 use Rattle.std.proofs.Common.{ℕ, ◌≡◌, ◌<◌, ◌⊎◌, inl, inr, arith, true, false, cond, List, [], ◌∷◌, eqb, ltb, refl, sym, subst, ◌∙◌, zero, suc, length, get_or}
 use Rattle.std.proofs.lemmas.Bool.{cases_Bool, cond-true, cond-false, ltb-true, ltb-false, eqb-true, eqb-false}
@@ -113,3 +114,26 @@ ascending-apart [] j k d a low fits = absurd (omega arith)
 ascending-apart (x ∷ xs) j zero d a low fits = absurd (omega arith)
 ascending-apart (x ∷ xs) zero (suc k) d a low fits = a.0 (get_or xs k d) (place-member xs k d (omega arith))
 ascending-apart (x ∷ xs) (suc j) (suc k) d a low fits = ascending-apart xs j k d a.1 (omega arith) (omega arith)
+
+-- two ascending lists with the same members are one
+pub ascending_same : (xs ys : List ℕ) → IsAscending xs → IsAscending ys → ((v : ℕ) → IsMember v xs → IsMember v ys) → ((v : ℕ) → IsMember v ys → IsMember v xs) → xs ≡ ys
+ascending_same [] [] a b to from = refl
+ascending_same [] (y ∷ ys) a b to from = absurd (from y (inl refl))
+ascending_same (x ∷ xs) [] a b to from = absurd (to x (inl refl))
+ascending_same (x ∷ xs) (y ∷ ys) a b to from = λ i. heads i ∷ ascending_same xs ys a.1 b.1 (λ v m. later v (a.0 v m) (to v (inr m))) (λ v m. sooner v (b.0 v m) (from v (inr m))) i
+  where
+    heads : x ≡ y
+    heads = by_place (to x (inl refl)) (from y (inl refl))
+      where
+        by_place : (x ≡ y) ⊎ IsMember x ys → (y ≡ x) ⊎ IsMember y xs → x ≡ y
+        by_place (inl same) other = same
+        by_place (inr m) (inl same) = sym same
+        by_place (inr m) (inr k) = let p = b.0 x m in let q = a.0 y k in absurd (omega arith)
+
+    later : (v : ℕ) → x < v → (v ≡ y) ⊎ IsMember v ys → IsMember v ys
+    later v high (inl same) = let e = heads in absurd (omega arith)
+    later v high (inr m) = m
+
+    sooner : (v : ℕ) → y < v → (v ≡ x) ⊎ IsMember v xs → IsMember v xs
+    sooner v high (inl same) = let e = heads in absurd (omega arith)
+    sooner v high (inr m) = m
