@@ -5,7 +5,7 @@
 --   offers_same          == letters with the same transitions make the same offers
 --   taken_same           == of the same offers the same is taken
 --   letters_are_sets     == so the steps and their marks are the same
-use Rattle.std.proofs.Common.{ℕ, ◌≡◌, ◌*◌, ◌<◌, ◌⊎◌, inl, inr, arith, true, false, eqb, List, [], ◌∷◌, map, refl, sym, subst, ap, ◌∙◌}
+use Rattle.std.proofs.Common.{ℕ, ◌≡◌, ◌*◌, ◌<◌, ◌⊎◌, inl, inr, arith, false, eqb, List, [], ◌∷◌, map, refl, sym, subst, ap, ◌∙◌}
 use Rattle.std.specs.List.{filter}
 use Rattle.ml_lists.specs.Ascending.{ascending}
 use Rattle.ml_lists.specs.Member.{IsMember}
@@ -14,10 +14,10 @@ use Rattle.ml_lists.proofs.Member.{Image, member-map, member-map_from, member-fi
 use Rattle.ml_trace.specs.declared.letters.Transition.{Transition}
 use Rattle.ml_trace.specs.Stack.{Item}
 use Rattle.ml_history.specs.CycleLaws.{LettersAreSets}
-use Rattle.ml_history.specs.HistoryStep.{live, beats, best, offers, offered_to, taken, taken_along, cut, renumbered, stepped, step_mark, mark_of, is_red, is_green}
+use Rattle.ml_history.specs.HistoryStep.{live, beats, best, offers, offered_to, taken, taken_along, cut, renumbered, mark_of, is_red, is_green}
 use Rattle.ml_lists.specs.Least.{least}
 use Rattle.ml_history.proofs.Best.{beats-cases_not, best-member, best_unbeaten}
-use Rattle.ml_history.proofs.Offers.{Offer, offer_from, offer_in}
+use Rattle.ml_history.proofs.Offers.{offer_from, offer_in}
 use Rattle.ml_history.proofs.Taken.{item_for}
 
 -- two stacks of which neither beats the other are one
@@ -72,19 +72,19 @@ offered_within os us q to s i = from_image (member-map_from (λ (a : Item ℕ). 
 pub taken_same : (os us : List (Item ℕ)) → Within os us → Within us os → taken os ≡ taken us
 taken_same os us to from =
     let states : ascending (map (λ (a : Item ℕ). a.state) os) ≡ ascending (map (λ (a : Item ℕ). a.state) us) =
-        ascending_same (ascending (map (λ (a : Item ℕ). a.state) os)) (ascending (map (λ (a : Item ℕ). a.state) us)) (ascending-is (map (λ (a : Item ℕ). a.state) os)) (ascending-is (map (λ (a : Item ℕ). a.state) us))
-          (λ v i. member-ascending v (map (λ (a : Item ℕ). a.state) us) (states_within os us to v (ascending-member v (map (λ (a : Item ℕ). a.state) os) i)))
-          (λ v i. member-ascending v (map (λ (a : Item ℕ). a.state) os) (states_within us os from v (ascending-member v (map (λ (a : Item ℕ). a.state) us) i)))
+    ascending_same (ascending (map (λ (a : Item ℕ). a.state) os)) (ascending (map (λ (a : Item ℕ). a.state) us)) (ascending-is (map (λ (a : Item ℕ). a.state) os)) (ascending-is (map (λ (a : Item ℕ). a.state) us))
+    (λ v i. member-ascending v (map (λ (a : Item ℕ). a.state) us) (states_within os us to v (ascending-member v (map (λ (a : Item ℕ). a.state) os) i)))
+    (λ v i. member-ascending v (map (λ (a : Item ℕ). a.state) os) (states_within us os from v (ascending-member v (map (λ (a : Item ℕ). a.state) us) i)))
     in
     let items : (q : ℕ) → item_for os q ≡ item_for us q =
-        λ q. ap (λ (s : List ℕ). record { state = q; stack = s }) (best_same (offered_to q os) (offered_to q us) (offered_within os us q to) (offered_within us os q from))
+    λ q. ap (λ (s : List ℕ). record { state = q; stack = s }) (best_same (offered_to q os) (offered_to q us) (offered_within os us q to) (offered_within us os q from))
     in
     ap (map (item_for os)) states ∙ (λ i. map (λ q. items q i) (ascending (map (λ (a : Item ℕ). a.state) us)))
 
 -- so the steps and their marks are the same
 pub letters_are_sets : LettersAreSets
 letters_are_sets h l m to from =
-    let same : taken_along h l ≡ taken_along h m = taken_same (offers h l) (offers h m) (offers_within h l m to) (offers_within h m l from) in
-    ( ap (λ t. renumbered (cut t)) same
-    , ap (λ t. mark_of (least (is_red (live h) t) (2 * live h)) (least (is_green t) (2 * live h))) same
+    let same : taken_along h l ≡ taken_along h m = taken_same (offers h l) (offers h m) (offers_within h l m to) (offers_within h m l from) in (
+      ap (λ t. renumbered (cut t)) same,
+      ap (λ t. mark_of (least (is_red (live h) t) (2 * live h)) (least (is_green t) (2 * live h))) same,
     )

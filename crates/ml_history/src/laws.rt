@@ -10,8 +10,7 @@ pub fn steps_are_histories()
 /// Letters stand for sets: neither the order nor repeats of their transitions change a step or its mark.
 pub fn letters_are_sets()
     ensures { LettersAreSets }
-{
-}
+{}
 
 /// Each step of a history satisfies the condition on names that a refutation is checked for.
 pub fn steps_trace_names()
