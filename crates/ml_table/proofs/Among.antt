@@ -59,7 +59,7 @@ distinct-push (q ∷ ps) p distinct new =
     let parts : (not (is_among ps q) ≡ true) × (is_distinct ps ≡ true) = and_parts (not (is_among ps q)) (is_distinct ps) distinct in
     let apart : (bytes_eq q p ≡ false) × (is_among ps p ≡ false) = or_parts (bytes_eq q p) (is_among ps p) new in
     let absent : is_among (ps ++ p ∷ []) q ≡ false =
-        among-append ps (p ∷ []) q
-        ∙ ap (λ b. b || (bytes_eq p q || false)) (not-true_is_false (is_among ps q) parts.0)
-        ∙ ap (λ b. b || false) (same_sym p q ∙ apart.0)
+    among-append ps (p ∷ []) q
+    ∙ ap (λ b. b || (bytes_eq p q || false)) (not-true_is_false (is_among ps q) parts.0)
+    ∙ ap (λ b. b || false) (same_sym p q ∙ apart.0)
     in and_from (not (is_among (ps ++ p ∷ []) q)) (is_distinct (ps ++ p ∷ [])) (ap not absent) (distinct-push ps p parts.1 apart.1)

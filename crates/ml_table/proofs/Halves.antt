@@ -25,8 +25,7 @@ taken_off chosen tried popped value k same is off =
 pub both_exhausted : (test : List Bool → Bool) (n : ℕ) (chosen pushed tried popped again tried_again popped_again : List Bool) (k j : ℕ) → (length chosen ≡ n → ⊥) → pushed ≡ chosen ++ true ∷ [] → (tried ≡ pushed) × IsExhausted test n pushed → k ≡ length tried → popped ≡ take (k - 1) tried → again ≡ popped ++ false ∷ [] → (tried_again ≡ again) × IsExhausted test n again → j ≡ length tried_again → popped_again ≡ take (j - 1) tried_again → (popped_again ≡ chosen) × IsExhausted test n chosen
 both_exhausted test n chosen pushed tried popped again tried_again popped_again k j short pushes left is off pushes_again left_again is_again off_again =
     let back : popped ≡ chosen = taken_off chosen tried popped true k (left.0 ∙ pushes) is off in
-    let second : again ≡ chosen ++ false ∷ [] = pushes_again ∙ ap (λ bs. bs ++ false ∷ []) back in
-    (
+    let second : again ≡ chosen ++ false ∷ [] = pushes_again ∙ ap (λ bs. bs ++ false ∷ []) back in (
       taken_off chosen tried_again popped_again false j (left_again.0 ∙ second) is_again off_again,
-      neither_left test n chosen short (subst (IsExhausted test n) pushes left.1) (subst (IsExhausted test n) second left_again.1)
+      neither_left test n chosen short (subst (IsExhausted test n) pushes left.1) (subst (IsExhausted test n) second left_again.1),
     )

@@ -53,4 +53,3 @@ at_zero_iff ps p = (from_labels, to_labels)
       omega (arith, here.1, labels_length ps),
       get_or-map (λ (q : List ℕ). (0, q)) ps here.0 p (0, p) here.1 ∙ ap (λ q. (0, q)) here.2,
     )
-

@@ -27,12 +27,12 @@ with_name_old ps p here = ap (λ b. if b then ps else ps ++ p ∷ []) here
 name_kept : (ps : List (List ℕ)) (p q : List ℕ) → is_among ps q ≡ true → is_among (with_name ps p) q ≡ true
 name_kept ps p q here =
     with_name_cases ps p (λ qs. is_among qs q ≡ true) (λ e. here)
-        (λ e. among-append ps (p ∷ []) q ∙ or_left (is_among ps q) (is_among (p ∷ []) q) here)
+    (λ e. among-append ps (p ∷ []) q ∙ or_left (is_among ps q) (is_among (p ∷ []) q) here)
 
 name_added : (ps : List (List ℕ)) (p : List ℕ) → is_among (with_name ps p) p ≡ true
 name_added ps p =
     with_name_cases ps p (λ qs. is_among qs p ≡ true) (λ e. e)
-        (λ e. among-append ps (p ∷ []) p ∙ or_right (is_among ps p) (is_among (p ∷ []) p) (or_left (bytes_eq p p) false (same_name p)))
+    (λ e. among-append ps (p ∷ []) p ∙ or_right (is_among ps p) (is_among (p ∷ []) p) (or_left (bytes_eq p p) false (same_name p)))
 
 pub names_kept : (ps : List (List ℕ)) (f : Formula) (q : List ℕ) → is_among ps q ≡ true → is_among (propositions_after ps f) q ≡ true
 names_kept ps (Const b) q here = here

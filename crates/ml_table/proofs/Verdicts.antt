@@ -31,7 +31,7 @@ pub exhausted_nowhere : (f : Formula) → is_propositional f ≡ true → IsExha
 exhausted_nowhere f is exhausted m s inside holds =
     let ps : List (List ℕ) = different_propositions f in
     let agree : value_of f ps (map (lists m s) ps) ≡ value_under (lists m s) f =
-        value_agrees [] f (assigned ps (map (lists m s) ps)) (lists m s) (λ p here. assigned-map ps (lists m s) p here) in
+    value_agrees [] f (assigned ps (map (lists m s) ps)) (lists m s) (λ p here. assigned-map ps (lists m s) p here) in
     let fails : value_of f ps (map (lists m s) ps) ≡ false = exhausted (map (lists m s) ps) (length-map_test ps (lists m s)) in
     false≢true (sym fails ∙ agree ∙ sym (value_at m s inside f is) ∙ holds)
 
@@ -49,20 +49,21 @@ lists_chosen m ps p built =
     let zero : Contains (at_zero ps) (0, p) ↔ Contains ps p = at_zero_iff ps p in
     let among : (is_among ps p ≡ true) ↔ Contains ps p = among_iff ps p in
     same_answer (lists m 0 p) (is_among ps p)
-        (λ h. among.1 (zero.0 (labelled.0 (listed.0 h))))
-        (λ h. listed.1 (labelled.1 (zero.1 (among.0 h))))
+    (λ h. among.1 (zero.0 (labelled.0 (listed.0 h))))
+    (λ h. listed.1 (labelled.1 (zero.1 (among.0 h))))
 
 pub found_holds : (f : Formula) (bs : List Bool) (m : Structure) → is_propositional f ≡ true → value_of f (different_propositions f) bs ≡ true → IsBuiltFrom 1 (at_zero (chosen_names (different_propositions f) bs)) [] m → IsStructure m → IsOrdered m → HoldsInModel f m
 found_holds f bs m is found built structure ordered =
     let ps : List (List ℕ) = different_propositions f in
     let agree : value_under (lists m 0) f ≡ value_of f ps bs =
-        value_agrees [] f (lists m 0) (assigned ps bs)
-            (λ p here. lists_chosen m (chosen_names ps bs) p built ∙ among-chosen ps bs p (distinct_after [] f refl) here) in
+    value_agrees [] f (lists m 0) (assigned ps bs)
+    (λ p here. lists_chosen m (chosen_names ps bs) p built ∙ among-chosen ps bs p (distinct_after [] f refl) here) in
     record {
       is_structure = structure;
       is_ordered = ordered;
       one_state = built.has_states;
-      holds = value_at m 0 structure.has_state f is ∙ agree ∙ found }
+      holds = value_at m 0 structure.has_state f is ∙ agree ∙ found;
+    }
 
 -- ---- as the table has them: the names that were pushed for the tree of the formula, as a slice, and the values chosen
 
@@ -76,20 +77,21 @@ pub record AreNames (f root : Formula) (names : List (List ℕ)) : Type 0 where
 pub in_form : (f root : Formula) (names : List (List ℕ)) → AreNames f root names → IsInForm f
 in_form f root names are = record {
   propositional = subst (λ g. is_propositional g ≡ true) are.tree are.propositional;
-  few = subst (λ g. length (different_propositions g) ≤ most_propositions) are.tree (subst (λ ps. length ps ≤ most_propositions) are.pushed are.few) }
+  few = subst (λ g. length (different_propositions g) ≤ most_propositions) are.tree (subst (λ ps. length ps ≤ most_propositions) are.pushed are.few);
+}
 
 pub nowhere : (f root : Formula) (names slice : List (List ℕ)) (values : List Bool) → AreNames f root names → slice ≡ names → values ≡ [] → IsExhausted (value_of root slice) (length slice) values → HoldsNowhere f
 nowhere f root names slice values are same none exhausted =
     subst HoldsNowhere are.tree
-        (exhausted_nowhere root are.propositional
-            (subst (λ ps. IsExhausted (value_of root ps) (length ps) []) (same ∙ are.pushed)
-                (subst (λ bs. IsExhausted (value_of root slice) (length slice) bs) none exhausted)))
+    (exhausted_nowhere root are.propositional
+    (subst (λ ps. IsExhausted (value_of root ps) (length ps) []) (same ∙ are.pushed)
+    (subst (λ bs. IsExhausted (value_of root slice) (length slice) bs) none exhausted)))
 
 pub in_model : (f root : Formula) (names slice slice_again : List (List ℕ)) (values values_slice : List Bool) (m : Structure) → AreNames f root names → slice ≡ names → slice_again ≡ names → values_slice ≡ values → IsFound (value_of root slice) (length slice) values → IsBuiltFrom 1 (at_zero (chosen_names slice_again values_slice)) [] m → IsStructure m → IsOrdered m → HoldsInModel f m
 in_model f root names slice slice_again values values_slice m are same same_again same_values found built structure ordered =
     subst (λ g. HoldsInModel g m) are.tree
-        (found_holds root values m are.propositional
-            (subst (λ ps. value_of root ps values ≡ true) (same ∙ are.pushed) found.passes)
-            (subst (λ ps. IsBuiltFrom 1 (at_zero (chosen_names ps values)) [] m) (same_again ∙ are.pushed)
-                (subst (λ bs. IsBuiltFrom 1 (at_zero (chosen_names slice_again bs)) [] m) same_values built))
-            structure ordered)
+    (found_holds root values m are.propositional
+    (subst (λ ps. value_of root ps values ≡ true) (same ∙ are.pushed) found.passes)
+    (subst (λ ps. IsBuiltFrom 1 (at_zero (chosen_names ps values)) [] m) (same_again ∙ are.pushed)
+    (subst (λ bs. IsBuiltFrom 1 (at_zero (chosen_names slice_again bs)) [] m) same_values built))
+    structure ordered)

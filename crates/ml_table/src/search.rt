@@ -9,16 +9,12 @@ use ml_mu::Term;
 
 // Goes on choosing values for the names, true before false. Where some choice makes the formula true it is left in
 // `chosen`; otherwise `chosen` is as before.
-pub(crate) fn search(
-    term: &Term,
-    names: &[Name],
-    chosen: &mut Vec<bool>,
-) -> Result<bool, NoMemory>
+pub(crate) fn search(term: &Term, names: &[Name], chosen: &mut Vec<bool>) -> Result<bool, NoMemory>
     requires { vec_len chosen.old ≤ length names.now }
     ensures { IfOk result (λ found. MatchBool found
         (IsFound (λ bs. value_under (assigned names.now bs) (formula_of term.now)) (length names.now) chosen.new.items)
         ((chosen.new.items ≡ chosen.old.items)
-            × IsExhausted (λ bs. value_under (assigned names.now bs) (formula_of term.now)) (length names.now) chosen.old.items)) }
+        × IsExhausted (λ bs. value_under (assigned names.now bs) (formula_of term.now)) (length names.now) chosen.old.items)) }
 {
     if chosen.len() == names.len() {
         return Ok(value_under(term, names, chosen));

@@ -75,7 +75,10 @@ fn push_chosen(
     ensures { OnOk result (labels.new.items ≡
         labels.old.items ++ map (λ p. (0, p)) (chosen_names names.now values.now)) }
 {
-    if let (Some((name, names)), Some((value, values))) = (names.split_first(), values.split_first()) {
+    if let (Some((name, names)), Some((value, values))) = (
+        names.split_first(),
+        values.split_first(),
+    ) {
         if *value {
             labels.push((0, name.copy()?))?;
         }

@@ -10,7 +10,7 @@ pub returns : goal.returns
 returns t c =
     let short : length c.args.chosen.now.items ≡ length c.args.names.now → ⊥ = λ e. c.if-len-names.false (omega (arith, e)) in
     both_exhausted (λ bs. value_under (assigned c.args.names.now bs) (formula_of c.args.term.now)) (length c.args.names.now)
-        c.args.chosen.now.items c.push.new.self.items c.search.new.chosen.items c.pop.new.self.items c.push-2.new.self.items
-        c.search-2.new.chosen.items c.pop-2.new.self.items (vec_len c.search.new.chosen) (vec_len c.search-2.new.chosen)
-        short c.in_ok-push.ensures.items (rw c.if-branch.false at c.in_ok-search.ensures) (omega arith) c.pop.ensures.rest
-        c.in_ok-push-2.ensures.items (rw c.if-branch-2.false at c.in_ok-search-2.ensures) (omega arith) c.pop-2.ensures.rest
+    c.args.chosen.now.items c.push.new.self.items c.search.new.chosen.items c.pop.new.self.items c.push-2.new.self.items
+    c.search-2.new.chosen.items c.pop-2.new.self.items (vec_len c.search.new.chosen) (vec_len c.search-2.new.chosen)
+    short c.in_ok-push.ensures.items (rw c.if-branch.false at c.in_ok-search.ensures) (omega arith) c.pop.ensures.rest
+    c.in_ok-push-2.ensures.items (rw c.if-branch-2.false at c.in_ok-search-2.ensures) (omega arith) c.pop-2.ensures.rest
