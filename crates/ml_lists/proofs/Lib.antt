@@ -20,3 +20,15 @@ pub mod Unrolling
 pub mod Update
 -- walks of a function, and the lassos that they make
 pub mod Walks
+-- membership of a list
+pub mod Member
+-- a loop in a finite set in which each member has a predecessor
+pub mod Predecessors
+-- a list several times over
+pub mod Repeated
+-- ascending lists of numbers
+pub mod Ascending
+-- the least number that passes a test
+pub mod Least
+-- numbers that pass a test, numbered in their order
+pub mod Ranks

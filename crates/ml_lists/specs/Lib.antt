@@ -16,3 +16,11 @@ pub mod Search
 pub mod Update
 -- what a function gives when it is applied again and again
 pub mod Walk
+-- membership of a list
+pub mod Member
+-- a list several times over
+pub mod Repeated
+-- ascending lists of numbers
+pub mod Ascending
+-- the least number that passes a test
+pub mod Least
