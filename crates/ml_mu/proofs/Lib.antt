@@ -1,3 +1,5 @@
+-- words, taken apart
+pub mod Words
 -- the grammar is the one of the tables
 pub mod GrammarTables
 -- the tables are regular and can be completed
