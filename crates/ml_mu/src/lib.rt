@@ -11,6 +11,7 @@ mod copying;
 mod first_text;
 mod forms;
 mod formula;
+pub mod laws;
 mod parsing;
 mod printing;
 mod progress;
