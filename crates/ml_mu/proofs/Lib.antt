@@ -20,3 +20,5 @@ pub mod Spelled
 pub mod Fine
 -- from what was read to what parse answers
 pub mod Parsed
+-- a text has one answer
+pub mod OneAnswer

@@ -5,14 +5,16 @@
 --
 --   IsParsedAs text f   == the text is one of f, keeps the limits, and no variable is at fault
 --   IsRefusedBy text e  == the text is refused with this answer
-use Rattle.std.specs.Prelude.{ℕ, ◌≡◌, List, length, Some, true}
+--   StandForOne, ParsedOrRefused, RefusedOnce, ParsedAreWellFormed == the laws of these notions
+use Rattle.std.specs.Prelude.{ℕ, ◌≡◌, ◌≢◌, List, length, Some, true}
 use Rattle.ml_base.specs.declared.parse_refusal.ParseRefusal.{ParseRefusal}
 use Rattle.ml_base.specs.declared.parse_refusal.ParseRefusal.TheVariants as refusal
 use Rattle.ml_text.specs.Refusals as cause
 use Rattle.ml_text.specs.Refusals.{Cause, IsRefused, IsAccepted, offset_of}
 use Rattle.ml_mu.specs.Formula.{Formula}
 use Rattle.ml_mu.specs.Grammar.{IsReadAs}
-use Rattle.ml_mu.specs.Text.{items, variable_places}
+use Rattle.ml_mu.specs.Text.{IsTextOf, items, variable_places}
+use Rattle.ml_mu.specs.WellFormed.{IsWellFormed}
 use Rattle.ml_mu.specs.VariableFaults.{Standing, Unbound, NotPositive, standings, fault_at, are_fine}
 
 pub record IsParsedAs (text : List ℕ) (f : Formula) : Type 0 where
@@ -36,3 +38,21 @@ IsRefusedBy text (refusal.TooNested at) = ComesFirst text cause.TooNested at
 IsRefusedBy text (refusal.NameTooLong at) = ComesFirst text cause.NameTooLong at
 -- want of memory is the one answer that says nothing of the text
 IsRefusedBy text refusal.NoMemory = Unit {0}
+
+-- ---- laws
+
+-- a text stands for one formula at most
+abbrev pub StandForOne : Type 0
+StandForOne = (text : List ℕ) (f g : Formula) → IsTextOf text f → IsTextOf text g → f ≡ g
+
+-- what is parsed as a formula is refused by nothing but want of memory
+abbrev pub ParsedOrRefused : Type 0
+ParsedOrRefused = (text : List ℕ) (f : Formula) (e : ParseRefusal) → IsParsedAs text f → IsRefusedBy text e → e ≡ refusal.NoMemory
+
+-- but for want of memory, a text is refused in one way at most
+abbrev pub RefusedOnce : Type 0
+RefusedOnce = (text : List ℕ) (e d : ParseRefusal) → (e ≢ refusal.NoMemory) → (d ≢ refusal.NoMemory) → IsRefusedBy text e → IsRefusedBy text d → e ≡ d
+
+-- the formulas that are parsed are well formed
+abbrev pub ParsedAreWellFormed : Type 0
+ParsedAreWellFormed = (text : List ℕ) (f : Formula) → IsParsedAs text f → IsWellFormed f

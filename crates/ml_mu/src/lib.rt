@@ -10,6 +10,7 @@
 mod copying;
 mod forms;
 mod formula;
+pub mod laws;
 mod parsing;
 mod printing;
 mod progress;

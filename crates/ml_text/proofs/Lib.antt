@@ -26,3 +26,5 @@ pub mod Viable
 pub mod Exact
 -- a step, split as a program does it
 pub mod Reduce
+-- a text has one answer
+pub mod OneAnswer
