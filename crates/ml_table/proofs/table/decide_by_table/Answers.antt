@@ -8,7 +8,7 @@ use Rattle.ml_table.proofs.table.decide_by_table.Goals as goal
 pub returns-then-branch : goal.returns-then-branch
 returns-then-branch c =
     let are : AreNames c.args.formula.now (formula_of c.root-root.result.now) c.push_propositions.new.names.items = record {
-      tree = c.root-root.ensures;
+      tree = c.root-root.ensures.tree;
       propositional = sym c.is_propositional-is_propositional.ensures ∙ c.if-not-is_propositional.false;
       few = omega arith;
       pushed = c.in_ok-push_propositions.ensures.all (omega arith) ∙ ap (λ ps. propositions_after ps (formula_of c.root-root.result.now)) c.new-names.ensures.items;
@@ -24,7 +24,7 @@ returns-then-branch c =
 pub returns : goal.returns
 returns c =
     let are : AreNames c.args.formula.now (formula_of c.root-root.result.now) c.push_propositions.new.names.items = record {
-      tree = c.root-root.ensures;
+      tree = c.root-root.ensures.tree;
       propositional = sym c.is_propositional-is_propositional.ensures ∙ c.if-not-is_propositional.false;
       few = omega arith;
       pushed = c.in_ok-push_propositions.ensures.all (omega arith) ∙ ap (λ ps. propositions_after ps (formula_of c.root-root.result.now)) c.new-names.ensures.items;
