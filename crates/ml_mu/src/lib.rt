@@ -19,6 +19,8 @@ mod reading;
 mod signs;
 mod spelling;
 mod term;
+#[cfg(test)]
+mod tests;
 mod variables;
 
 pub use copying::{copy, occurrences};
