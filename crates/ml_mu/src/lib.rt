@@ -18,6 +18,8 @@ mod reading;
 mod signs;
 mod spelling;
 mod term;
+#[cfg(test)]
+mod tests;
 mod variables;
 
 pub use copying::{copy, occurrences};
