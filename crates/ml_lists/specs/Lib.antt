@@ -1,2 +1,4 @@
 -- the lowest entry of a list of numbers
 pub mod Lowest
+-- iterates of a function
+pub mod Iterate

@@ -10,3 +10,5 @@ pub mod Repeats
 pub mod FirstReader
 -- structures of one state at which the formulas of first texts hold
 pub mod FirstModels
+-- the states whose edges lead into a set
+pub mod EdgeWalks

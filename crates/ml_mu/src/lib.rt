@@ -7,12 +7,14 @@
 // and the program.
 #![tactic(auto)]
 
+mod evaluator;
 mod first_text;
 mod formula;
 mod printing;
 mod spelling;
 mod term;
 
+pub use evaluator::{evaluate, holds};
 pub use first_text::parse_plain;
 pub use formula::Formula;
 pub use printing::print;
