@@ -12,3 +12,5 @@ pub mod FirstReader
 pub mod FirstModels
 -- the states whose edges lead into a set
 pub mod EdgeWalks
+-- what the evaluator's parts compute
+pub mod Evaluation

@@ -1,5 +1,5 @@
 // The evaluator: the meaning of a formula on a structure, computed as it is defined.
-ghost use Rattle.std.specs.Prelude.{◌≡◌, ◌<◌, ℕ, not, map, zip, replicate, length, [], ◌∷◌, IfOk};
+ghost use Rattle.std.specs.Prelude.{◌≡◌, ◌<◌, ◌&&◌, not, map, zip, replicate, length, [], ◌∷◌, IfOk};
 ghost use Rattle.std.specs.Str.{bytes_eq};
 ghost use Rattle.ml_lists.specs.Iterate.{iterate};
 ghost use Rattle.ml_base.specs.Structure as kripke;
@@ -9,7 +9,7 @@ ghost use Rattle.ml_mu.specs.Environment.{given_of, HaveFlags};
 ghost use Rattle.ml_mu.specs.Term.{formula_of};
 
 use crate::{Formula, Term};
-use ml_base::{Action, Name, NoMemory};
+use ml_base::{Action, Edge, Name, NoMemory};
 use ml_kripke::Structure;
 use ml_text::Operator;
 use std::alloc::Global;
@@ -42,7 +42,8 @@ pub fn evaluate(
     formula: &Formula,
     structure: &Structure,
 ) -> Result<Vec<bool>, NoMemory>
-    ensures { IfOk result (λ set. set.items ≡ mean.meaning structure.now [] formula.now) }
+    ensures value { IfOk result (λ set. set.items ≡ mean.meaning structure.now [] formula.now) }
+    ensures flags { IfOk result (λ set. length set.items ≡ structure.now.states) }
 {
     evaluate_term(alloc, structure, &Bindings::Nothing, formula.root())
 }
@@ -274,7 +275,7 @@ fn diamond(
 {
     let mut states = constant(alloc, structure.states(), false)?;
     for edge in structure.edges() {
-        if set[edge.target as usize] && edge.action.bytes() == action.bytes() {
+        if leads_into(edge, action, set) {
             states[edge.source as usize] = true;
         }
     }
@@ -294,9 +295,23 @@ fn square(
 {
     let mut states = constant(alloc, structure.states(), true)?;
     for edge in structure.edges() {
-        if !set[edge.target as usize] && edge.action.bytes() == action.bytes() {
+        if leads_out_of(edge, action, set) {
             states[edge.source as usize] = false;
         }
     }
     Ok(states)
+}
+
+fn leads_into(edge: &Edge, action: &Action, set: &[bool]) -> bool
+    requires { edge.now.target < length set.now }
+    ensures { result ≡ (bytes_eq edge.now.action action.now && kripke.is_member set.now edge.now.target) }
+{
+    edge.action.bytes() == action.bytes() && set[edge.target as usize]
+}
+
+fn leads_out_of(edge: &Edge, action: &Action, set: &[bool]) -> bool
+    requires { edge.now.target < length set.now }
+    ensures { result ≡ (bytes_eq edge.now.action action.now && not (kripke.is_member set.now edge.now.target)) }
+{
+    edge.action.bytes() == action.bytes() && !set[edge.target as usize]
 }
