@@ -9,6 +9,7 @@
 #![tactic(auto)]
 
 pub mod memory;
+mod id_set;
 mod name;
 mod no_memory;
 mod order;
@@ -20,6 +21,7 @@ mod structure;
 mod tests;
 pub mod whole;
 
+pub use id_set::IdSet;
 pub use memory::{MemSink, MemSource};
 pub use name::{Action, Name, NameRefusal};
 pub use no_memory::NoMemory;
