@@ -6,9 +6,14 @@
 --   merge_less             == the lesser head was written
 --   merge_equal            == the head of both was written
 --   merge_end, merge_union == one list is empty: with the rest of the other the two are one
-use Rattle.std.proofs.Common.{◌≡◌, ◌↔◌, ℕ, ◌<◌, ◌⊎◌, List, [], ◌∷◌, ◌++◌, Contains, inl, inr, sym, subst, ⊎_elim}
+--   less_step, greater_step, equal_step  == a turn, by the order of the two heads
+--   ends_left, ends_right  == the end, where the first or the second list is empty
+use Rattle.std.proofs.Common.{◌≡◌, ◌↔◌, ℕ, ◌-◌, ◌<◌, ◌⊎◌, List, [], ◌∷◌, ◌++◌, length, take, drop, get_or, Contains, inl, inr, sym, subst, ⊎_elim, arith}
 use Rattle.std.specs.List.Sorted.{IsStrictlyIncreasing}
-use Rattle.std.proofs.lemmas.List.{append-nil}
+use Rattle.std.specs.Ordering.{nat_cmp}
+use Rattle.std.specs.declared.cmp.Ordering.TheVariants.{Less, Equal, Greater}
+use Rattle.std.proofs.lemmas.Cmp.{ranked}
+use Rattle.std.proofs.lemmas.List.{take_all}
 use Rattle.std.proofs.lemmas.List.Elements.{Contains-append_left, Contains-append_right, Contains-append_cases}
 use Rattle.ml_lists.proofs.Members.{contains_head, contains_later, contains_cases, contains_none, contains_middle}
 use Rattle.ml_lists.proofs.Ascending.{Ascends, ascends_from, increasing_from, ascends_moved, ascends_merge}
@@ -146,3 +151,58 @@ merge_union l r out rest so_far = λ z. (there z, back z)
               (λ (more : Contains rest z). Contains-append_right out rest z more)
               h)
           (so_far.kept z inside)
+
+-- the numbers behind the head, as a slice gives them
+abbrev pub rest_of : List ℕ → List ℕ
+rest_of xs = take (length xs - 1) (drop 1 xs)
+
+rest_is : (x : ℕ) (xs : List ℕ) → rest_of (x ∷ xs) ≡ xs
+rest_is x xs = take_all (length (x ∷ xs) - 1) xs (omega arith)
+
+pub less_step : (l r out more xs ys : List ℕ) → 0 < length xs → 0 < length ys → Less ≡ nat_cmp (get_or xs 0 0) (get_or ys 0 0)
+    → more ≡ out ++ get_or xs 0 0 ∷ [] → Merged l r out xs ys → Merged l r more (rest_of xs) ys
+less_step l r out more [] ys xs_long ys_long order wrote so_far = absurd (omega arith)
+less_step l r out more (x ∷ xs) [] xs_long ys_long order wrote so_far = absurd (omega arith)
+less_step l r out more (x ∷ xs) (y ∷ ys) xs_long ys_long order wrote so_far =
+    subst (λ rest. Merged l r more rest (y ∷ ys)) (sym (rest_is x xs))
+      (subst (λ out'. Merged l r out' xs (y ∷ ys)) (sym wrote) (merge_less l r out x xs y ys (ranked x y Less order) so_far))
+
+pub greater_step : (l r out more xs ys : List ℕ) → 0 < length xs → 0 < length ys → Greater ≡ nat_cmp (get_or xs 0 0) (get_or ys 0 0)
+    → more ≡ out ++ get_or ys 0 0 ∷ [] → Merged l r out xs ys → Merged l r more xs (rest_of ys)
+greater_step l r out more [] ys xs_long ys_long order wrote so_far = absurd (omega arith)
+greater_step l r out more (x ∷ xs) [] xs_long ys_long order wrote so_far = absurd (omega arith)
+greater_step l r out more (x ∷ xs) (y ∷ ys) xs_long ys_long order wrote so_far =
+    merge_swap r l more (rest_of (y ∷ ys)) (x ∷ xs)
+      (subst (λ rest. Merged r l more rest (x ∷ xs)) (sym (rest_is y ys))
+        (subst (λ out'. Merged r l out' ys (x ∷ xs)) (sym wrote)
+          (merge_less r l out y ys x xs (ranked x y Greater order) (merge_swap l r out (x ∷ xs) (y ∷ ys) so_far))))
+
+pub equal_step : (l r out more xs ys : List ℕ) → 0 < length xs → 0 < length ys → Equal ≡ nat_cmp (get_or xs 0 0) (get_or ys 0 0)
+    → more ≡ out ++ get_or xs 0 0 ∷ [] → Merged l r out xs ys → Merged l r more (rest_of xs) (rest_of ys)
+equal_step l r out more [] ys xs_long ys_long order wrote so_far = absurd (omega arith)
+equal_step l r out more (x ∷ xs) [] xs_long ys_long order wrote so_far = absurd (omega arith)
+equal_step l r out more (x ∷ xs) (y ∷ ys) xs_long ys_long order wrote so_far =
+    let same : Merged l r out (x ∷ xs) (x ∷ ys) = subst (λ z. Merged l r out (x ∷ xs) (z ∷ ys)) (sym (ranked x y Equal order)) so_far in
+    subst (λ rest. Merged l r more rest (rest_of (y ∷ ys))) (sym (rest_is x xs))
+      (subst (λ rest. Merged l r more xs rest) (sym (rest_is y ys))
+        (subst (λ out'. Merged l r out' xs ys) (sym wrote) (merge_equal l r out x xs ys same)))
+
+-- one list is empty, and the rest of the other was written
+abbrev pub IsWhole : List ℕ → List ℕ → List ℕ → Type 0
+IsWhole l r whole = IsUnion l r whole × IsStrictlyIncreasing whole
+
+left_done : (l r out whole xs ys : List ℕ) → length xs ≡ 0 → whole ≡ out ++ ys → Merged l r out xs ys → IsWhole l r whole
+left_done l r out whole [] ys empty wrote so_far =
+    subst (IsWhole l r) (sym wrote) (merge_union l r out ys so_far, merge_end l r out ys so_far)
+left_done l r out whole (x ∷ xs) ys empty wrote so_far = absurd (omega arith)
+
+union_swap : (l r whole : List ℕ) → IsUnion r l whole → IsUnion l r whole
+union_swap l r whole union = λ z. (λ inside. swap_sides ((union z).0 inside), λ inside. (union z).1 (swap_sides inside))
+
+pub ends_left : (l r out whole xs ys : List ℕ) → length xs < 1 → whole ≡ out ++ ys → Merged l r out xs ys → IsWhole l r whole
+ends_left l r out whole xs ys empty wrote so_far = left_done l r out whole xs ys (omega arith) wrote so_far
+
+pub ends_right : (l r out whole xs ys : List ℕ) → length ys < 1 → whole ≡ out ++ xs → Merged l r out xs ys → IsWhole l r whole
+ends_right l r out whole xs ys empty wrote so_far =
+    let swapped = left_done r l out whole ys xs (omega arith) wrote (merge_swap l r out xs ys so_far) in
+    (union_swap l r whole swapped.0, swapped.1)

@@ -100,27 +100,27 @@ fn merge(alloc: Global, left: &[u32], right: &[u32]) -> Result<Vec<u32>, NoMemor
 {
     let mut both = Vec::new(alloc);
     let (mut xs, mut ys) = (left, right);
-    loop {
-        match (xs, ys) {
-            ([x, more_xs @ ..], [y, more_ys @ ..]) => match x.cmp(y) {
-                Ordering::Less => {
-                    both.push(*x)?;
-                    xs = more_xs;
-                }
-                Ordering::Greater => {
-                    both.push(*y)?;
-                    ys = more_ys;
-                }
-                Ordering::Equal => {
-                    both.push(*x)?;
-                    xs = more_xs;
-                    ys = more_ys;
-                }
-            },
-            ([], rest) | (rest, []) => {
-                both.extend_from_slice(rest)?;
-                return Ok(both);
+    while let [x, more_xs @ ..] = xs {
+        let [y, more_ys @ ..] = ys else {
+            both.extend_from_slice(xs)?;
+            return Ok(both);
+        };
+        match x.cmp(y) {
+            Ordering::Less => {
+                both.push(*x)?;
+                xs = more_xs;
+            }
+            Ordering::Greater => {
+                both.push(*y)?;
+                ys = more_ys;
+            }
+            Ordering::Equal => {
+                both.push(*x)?;
+                xs = more_xs;
+                ys = more_ys;
             }
         }
     }
+    both.extend_from_slice(ys)?;
+    Ok(both)
 }
