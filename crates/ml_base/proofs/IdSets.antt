@@ -5,6 +5,7 @@
 --   search_contains  == both in one
 --   put_ascends      == a number put in where a search ended leaves the list ascending
 --   put_members      == and the list has that number and those that it had
+--   one_list         == two strictly ascending lists with the same members are equal
 use Rattle.std.proofs.Common.{◌≡◌, ◌↔◌, ℕ, suc, ◌+◌, ◌-◌, ◌<◌, ◌≤◌, ◌⊎◌, true, List, [], ◌∷◌, ◌++◌, length, take, drop, get_or, Contains, IsTrue, Result, Ok, Err, inl, inr, refl, sym, ap, subst, ◌∙◌, ⊎_elim, arith}
 use Rattle.std.specs.List.{insert}
 use Rattle.std.specs.List.Sorted.{IsStrictlyIncreasing, IsBinarySearchResult}
@@ -15,7 +16,7 @@ use Rattle.std.proofs.lemmas.Bool.{cases_eq, cases_lt, true≢false}
 use Rattle.std.proofs.lemmas.List.Kept.{AllPairs-from_increasing}
 use Rattle.std.proofs.lemmas.List.Sorted.{searched}
 use Rattle.ml_lists.proofs.Members.{contains_middle, contains_without, contains_with}
-use Rattle.ml_lists.proofs.Ascending.{Above, Below, Ascends, ascends_from, increasing_from, ascends_with}
+use Rattle.ml_lists.proofs.Ascending.{Above, Below, Ascends, ascends_from, increasing_from, ascends_with, same_members}
 use Rattle.ml_base.specs.IdSet.{IsWith}
 
 abbrev pub Found : List ℕ → ℕ → Result ℕ ℕ → Type 0
@@ -81,3 +82,7 @@ put_members xs x i = λ y. (there y, back y)
           (λ (is : y ≡ x). subst (λ z. Contains (insert xs i x) z) (sym is) (contains_middle (take i xs) x (drop i xs)))
           (λ (h : Contains xs y). contains_with (take i xs) x (drop i xs) y (subst (λ zs. Contains zs y) (sym (take-append-drop i xs)) h))
           inside
+
+pub one_list : (xs ys : List ℕ) → IsStrictlyIncreasing xs → IsStrictlyIncreasing ys → ((x : ℕ) → Contains xs x ↔ Contains ys x) → xs ≡ ys
+one_list xs ys left right same =
+    same_members xs ys (ascends_from xs left) (ascends_from ys right) (λ z. (same z).0) (λ z. (same z).1)

@@ -101,18 +101,18 @@ pub some_more : (es : List Edge) (a : List ℕ) (flags : StateSet) (n i : ℕ) (
 some_more es a flags n i e before below is within decides so_far =
     ap (λ states. set states e.source true) so_far
     ∙ table_set (some_of (take i es) a flags) (some_of (take (i + 1) es) a flags) n e.source true within
-      (some_behind es a flags i e e.source below is
-        ∙ some_decided (some_of (take i es) a flags e.source) (e.source == e.source) (bytes_eq e.action a) (is_member flags e.target) decides (eq-eqb e.source e.source refl))
-      (λ s ne. some_behind es a flags i e s below is
-        ∙ some_elsewhere (some_of (take i es) a flags s) (e.source == s) (bytes_eq e.action a) (is_member flags e.target) (elsewhere s e.source ne))
+    (some_behind es a flags i e e.source below is
+    ∙ some_decided (some_of (take i es) a flags e.source) (e.source == e.source) (bytes_eq e.action a) (is_member flags e.target) decides (eq-eqb e.source e.source refl))
+    (λ s ne. some_behind es a flags i e s below is
+    ∙ some_elsewhere (some_of (take i es) a flags s) (e.source == s) (bytes_eq e.action a) (is_member flags e.target) (elsewhere s e.source ne))
 
 pub some_kept : (es : List Edge) (a : List ℕ) (flags : StateSet) (n i : ℕ) (e : Edge) (before : StateSet) → i < length es → e ≡ get_or es i e
     → leads a flags e ≡ false → before ≡ some_states (take i es) a flags n → before ≡ some_states (take (i + 1) es) a flags n
 some_kept es a flags n i e before below is undecided so_far =
     so_far
     ∙ table_same (some_of (take i es) a flags) (some_of (take (i + 1) es) a flags) 0 n
-      (λ s. sym (some_behind es a flags i e s below is
-        ∙ some_undecided (some_of (take i es) a flags s) (e.source == s) (bytes_eq e.action a) (is_member flags e.target) undecided))
+    (λ s. sym (some_behind es a flags i e s below is
+    ∙ some_undecided (some_of (take i es) a flags s) (e.source == s) (bytes_eq e.action a) (is_member flags e.target) undecided))
 
 pub every_more : (es : List Edge) (a : List ℕ) (flags : StateSet) (n i : ℕ) (e : Edge) (before : StateSet) → i < length es → e ≡ get_or es i e
     → e.source < n → leaves a flags e ≡ true → before ≡ every_states (take i es) a flags n
@@ -120,18 +120,18 @@ pub every_more : (es : List Edge) (a : List ℕ) (flags : StateSet) (n i : ℕ) 
 every_more es a flags n i e before below is within decides so_far =
     ap (λ states. set states e.source false) so_far
     ∙ table_set (every_of (take i es) a flags) (every_of (take (i + 1) es) a flags) n e.source false within
-      (every_behind es a flags i e e.source below is
-        ∙ every_decided (every_of (take i es) a flags e.source) (e.source == e.source) (bytes_eq e.action a) (is_member flags e.target) decides (eq-eqb e.source e.source refl))
-      (λ s ne. every_behind es a flags i e s below is
-        ∙ every_elsewhere (every_of (take i es) a flags s) (e.source == s) (bytes_eq e.action a) (is_member flags e.target) (elsewhere s e.source ne))
+    (every_behind es a flags i e e.source below is
+    ∙ every_decided (every_of (take i es) a flags e.source) (e.source == e.source) (bytes_eq e.action a) (is_member flags e.target) decides (eq-eqb e.source e.source refl))
+    (λ s ne. every_behind es a flags i e s below is
+    ∙ every_elsewhere (every_of (take i es) a flags s) (e.source == s) (bytes_eq e.action a) (is_member flags e.target) (elsewhere s e.source ne))
 
 pub every_kept : (es : List Edge) (a : List ℕ) (flags : StateSet) (n i : ℕ) (e : Edge) (before : StateSet) → i < length es → e ≡ get_or es i e
     → leaves a flags e ≡ false → before ≡ every_states (take i es) a flags n → before ≡ every_states (take (i + 1) es) a flags n
 every_kept es a flags n i e before below is undecided so_far =
     so_far
     ∙ table_same (every_of (take i es) a flags) (every_of (take (i + 1) es) a flags) 0 n
-      (λ s. sym (every_behind es a flags i e s below is
-        ∙ every_undecided (every_of (take i es) a flags s) (e.source == s) (bytes_eq e.action a) (is_member flags e.target) undecided))
+    (λ s. sym (every_behind es a flags i e s below is
+    ∙ every_undecided (every_of (take i es) a flags s) (e.source == s) (bytes_eq e.action a) (is_member flags e.target) undecided))
 
 pub in_range : (es : List Edge) (n i : ℕ) (e : Edge) → All (λ d. (d.source < n) × (d.target < n)) es → i < length es → e ≡ get_or es i e
     → (e.source < n) × (e.target < n)

@@ -14,6 +14,9 @@ use ml_kripke::Structure;
 use ml_text::Operator;
 use std::alloc::Global;
 
+#[cfg(test)]
+mod tests;
+
 // the variables in force with the sets that they mean, innermost binder first
 #[derive(Drop)]
 enum Bindings<'a> {
@@ -89,7 +92,14 @@ fn evaluate_term<'a>(
         Term::And(left, right) => {
             evaluate_binary(alloc, structure, given, Operator::And, left, right)
         }
-        Term::Or(left, right) => evaluate_binary(alloc, structure, given, Operator::Or, left, right),
+        Term::Or(left, right) => evaluate_binary(
+            alloc,
+            structure,
+            given,
+            Operator::Or,
+            left,
+            right,
+        ),
         Term::Implies(left, right) => {
             evaluate_binary(alloc, structure, given, Operator::Implies, left, right)
         }

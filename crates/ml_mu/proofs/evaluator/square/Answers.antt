@@ -15,12 +15,12 @@ loop-edge-preserved c =
     let joined = subst (All (λ d. (d.source < n) × (d.target < n))) (sym c.edges-edge-items.ensures) c.states.ensures.is_structure.joins_states in
     let ends = in_range edges n c.loop-edge.edge-index c.edge-item.result joined c.loop-edge-test.true c.edge-item.is in
     elim c.if-leads_out_of.branch [
-      then-leads_out_of w ↦
-        ap (λ states. states.items) w.states-is
-        ∙ every_more edges c.args.action.now c.args.set.now n c.loop-edge.edge-index c.edge-item.result c.loop-edge.states.items c.loop-edge-test.true
+      | then-leads_out_of w ↦
+          ap (λ states. states.items) w.states-is
+          ∙ every_more edges c.args.action.now c.args.set.now n c.loop-edge.edge-index c.edge-item.result c.loop-edge.states.items c.loop-edge-test.true
           c.edge-item.is ends.0 (sym c.leads_out_of.ensures ∙ w.if-leads_out_of.true) c.loop-edge.invariant
       | else-leads_out_of w ↦
-        ap (λ states. states.items) w.states-is
-        ∙ every_kept edges c.args.action.now c.args.set.now n c.loop-edge.edge-index c.edge-item.result c.loop-edge.states.items c.loop-edge-test.true
+          ap (λ states. states.items) w.states-is
+          ∙ every_kept edges c.args.action.now c.args.set.now n c.loop-edge.edge-index c.edge-item.result c.loop-edge.states.items c.loop-edge-test.true
           c.edge-item.is (sym c.leads_out_of.ensures ∙ w.if-leads_out_of.false) c.loop-edge.invariant
     ]
