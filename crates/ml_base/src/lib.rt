@@ -10,9 +10,9 @@
 // Below stands `ml_lists`, general mathematics. Whatever speaks of names, or reads and writes, stands above.
 #![tactic(auto)]
 
-pub mod memory;
 mod id_set;
 pub mod laws;
+pub mod memory;
 mod name;
 mod no_memory;
 mod order;

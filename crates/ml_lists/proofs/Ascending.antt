@@ -9,7 +9,7 @@
 --   ascends_with       == a number in the middle, above what stands before it and below what stands behind
 --   ascends_merge      == of two lists with one front, the lesser head goes to the front of both
 --   same_members       == ascending lists with the same members are equal
-use Rattle.std.proofs.Common.{◌≡◌, ◌↔◌, ℕ, ◌<◌, ◌⊎◌, List, [], ◌∷◌, ◌++◌, Contains, Ordering, refl, sym, ap, ◌∙◌, subst, ⊎_elim, append_assoc, arith}
+use Rattle.std.proofs.Common.{◌≡◌, ℕ, ◌<◌, List, [], ◌∷◌, ◌++◌, Contains, refl, sym, subst, ⊎_elim, append_assoc, arith}
 use Rattle.std.specs.List.{AllByRecursion}
 use Rattle.std.specs.List.Sorted.{IsStrictlySortedBy, IsStrictlyIncreasing}
 use Rattle.std.specs.Ordering.{nat_cmp}
@@ -96,38 +96,38 @@ pub ascends_merge : (front : List ℕ) (x : ℕ) (xs : List ℕ) (y : ℕ) (ys :
     → Ascends ((front ++ x ∷ []) ++ (y ∷ ys))
 ascends_merge front x xs y ys below left right =
     ascends_moved front x (y ∷ ys)
-      (ascends_with front x (y ∷ ys) right (below_front front x xs left) (below, above_chain x y ys below (above_back front y ys right)))
+    (ascends_with front x (y ∷ ys) right (below_front front x xs left) (below, above_chain x y ys below (above_back front y ys right)))
 
 -- what a list contains above a number is above it
 above_each : (x : ℕ) (ys : List ℕ) → Above x ys → (z : ℕ) → Contains ys z → x < z
 above_each x [] above z inside = absurd (contains_none z inside)
 above_each x (y ∷ ys) above z inside =
     ⊎_elim
-      (λ (is : y ≡ z). let below = above.0 in omega arith)
-      (λ (later : Contains ys z). above_each x ys above.1 z later)
-      (contains_cases y ys z inside)
+    (λ (is : y ≡ z). let below = above.0 in omega arith)
+    (λ (later : Contains ys z). above_each x ys above.1 z later)
+    (contains_cases y ys z inside)
 
 heads_same : (x : ℕ) (xs : List ℕ) (y : ℕ) (ys : List ℕ) → Above x xs → Above y ys → Contains (y ∷ ys) x → Contains (x ∷ xs) y → x ≡ y
 heads_same x xs y ys above_x above_y x_in y_in =
     ⊎_elim
-      (λ (is : y ≡ x). sym is)
-      (λ (x_later : Contains ys x).
-        ⊎_elim
-          (λ (is : x ≡ y). is)
-          (λ (y_later : Contains xs y).
-            let up = above_each x xs above_x y y_later in
-            let down = above_each y ys above_y x x_later in
-            omega arith)
-          (contains_cases x xs y y_in))
-      (contains_cases y ys x x_in)
+    (λ (is : y ≡ x). sym is)
+    (λ (x_later : Contains ys x).
+    ⊎_elim
+    (λ (is : x ≡ y). is)
+    (λ (y_later : Contains xs y).
+    let up = above_each x xs above_x y y_later in
+    let down = above_each y ys above_y x x_later in
+    omega arith)
+    (contains_cases x xs y y_in))
+    (contains_cases y ys x x_in)
 
 tail_within : (x : ℕ) (xs : List ℕ) (y : ℕ) (ys : List ℕ) → Above x xs → x ≡ y → ((z : ℕ) → Contains (x ∷ xs) z → Contains (y ∷ ys) z)
     → (z : ℕ) → Contains xs z → Contains ys z
 tail_within x xs y ys above same within z inside =
     ⊎_elim
-      (λ (is : y ≡ z). let up = above_each x xs above z inside in absurd (omega arith))
-      (λ (later : Contains ys z). later)
-      (contains_cases y ys z (within z (contains_later x xs z inside)))
+    (λ (is : y ≡ z). let up = above_each x xs above z inside in absurd (omega arith))
+    (λ (later : Contains ys z). later)
+    (contains_cases y ys z (within z (contains_later x xs z inside)))
 
 pub same_members : (xs ys : List ℕ) → Ascends xs → Ascends ys → ((z : ℕ) → Contains xs z → Contains ys z) → ((z : ℕ) → Contains ys z → Contains xs z)
     → xs ≡ ys
@@ -137,5 +137,5 @@ same_members (x ∷ xs) [] xs_ascends ys_ascends there back = absurd (contains_n
 same_members (x ∷ xs) (y ∷ ys) xs_ascends ys_ascends there back =
     let heads = heads_same x xs y ys xs_ascends.0 ys_ascends.0 (there x (contains_head x xs)) (back y (contains_head y ys)) in
     let tails = same_members xs ys xs_ascends.1 ys_ascends.1
-          (tail_within x xs y ys xs_ascends.0 heads there) (tail_within y ys x xs ys_ascends.0 (sym heads) back) in
+    (tail_within x xs y ys xs_ascends.0 heads there) (tail_within y ys x xs ys_ascends.0 (sym heads) back) in
     λ i. heads i ∷ tails i

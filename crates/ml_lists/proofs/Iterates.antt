@@ -4,7 +4,7 @@
 --   iterate_stays      == where two iterates in a row are equal, all later ones are
 --   iterate_keeps      == what holds of the start, and stays by an application, holds of each iterate
 --   iterates_related   == the same of the iterates of two functions, and a relation
-use Rattle.std.proofs.Common.{◌≡◌, ℕ, zero, suc, ◌+◌, ◌-◌, ◌≤◌, refl, ap, ◌∙◌, sym, subst, arith, add-one, add-zero, add-suc}
+use Rattle.std.proofs.Common.{◌≡◌, ℕ, zero, suc, ◌+◌, ◌-◌, ◌≤◌, ap, ◌∙◌, arith, add-one, add-zero, add-suc}
 use Rattle.ml_lists.specs.Iterate.{iterate}
 
 pub iterate_once_more : {A : Type 0} (step : A → A) (x : A) (k : ℕ) → iterate (k + 1) step x ≡ step (iterate k step x)

@@ -7,7 +7,7 @@
 --   contains_middle  == what stands in the middle is contained
 --   contains_without == and what else a list contains is contained without it
 --   contains_with    == what a list contains is contained with something in the middle too
-use Rattle.std.proofs.Common.{◌≡◌, ℕ, zero, suc, ◌+◌, ◌<◌, ◌⊎◌, List, [], ◌∷◌, ◌++◌, length, get_or, Contains, inl, inr, refl, ⊎_elim, arith}
+use Rattle.std.proofs.Common.{◌≡◌, zero, suc, ◌⊎◌, List, [], ◌∷◌, ◌++◌, Contains, inl, inr, refl, ⊎_elim, arith}
 use Rattle.std.proofs.lemmas.List.Elements.{Contains-append_left, Contains-append_right, Contains-append_cases}
 
 pub contains_head : {X : Type 0} (x : X) (xs : List X) → Contains (x ∷ xs) x
@@ -30,17 +30,17 @@ pub contains_without : {X : Type 0} (front : List X) (x : X) (back : List X) (q 
     → (x ≡ q) ⊎ Contains (front ++ back) q
 contains_without front x back q inside =
     ⊎_elim
-      (λ (before : Contains front q). inr (Contains-append_left front back q before))
-      (λ (after : Contains (x ∷ back) q).
-        ⊎_elim
-          (λ (is : x ≡ q). inl is)
-          (λ (later : Contains back q). inr (Contains-append_right front back q later))
-          (contains_cases x back q after))
-      (Contains-append_cases front (x ∷ back) q inside)
+    (λ (before : Contains front q). inr (Contains-append_left front back q before))
+    (λ (after : Contains (x ∷ back) q).
+    ⊎_elim
+    (λ (is : x ≡ q). inl is)
+    (λ (later : Contains back q). inr (Contains-append_right front back q later))
+    (contains_cases x back q after))
+    (Contains-append_cases front (x ∷ back) q inside)
 
 pub contains_with : {X : Type 0} (front : List X) (x : X) (back : List X) (q : X) → Contains (front ++ back) q → Contains (front ++ x ∷ back) q
 contains_with front x back q inside =
     ⊎_elim
-      (λ (before : Contains front q). Contains-append_left front (x ∷ back) q before)
-      (λ (after : Contains back q). Contains-append_right front (x ∷ back) q (contains_later x back q after))
-      (Contains-append_cases front back q inside)
+    (λ (before : Contains front q). Contains-append_left front (x ∷ back) q before)
+    (λ (after : Contains back q). Contains-append_right front (x ∷ back) q (contains_later x back q after))
+    (Contains-append_cases front back q inside)

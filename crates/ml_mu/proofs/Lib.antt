@@ -14,3 +14,7 @@ pub mod FirstModels
 pub mod EdgeWalks
 -- what the evaluator's parts compute
 pub mod Evaluation
+-- sets of states by inclusion
+pub mod Inclusion
+-- a meaning has one flag for each state
+pub mod MeaningFlags

@@ -10,6 +10,7 @@
 mod evaluator;
 mod first_text;
 mod formula;
+pub mod laws;
 mod printing;
 mod spelling;
 mod term;

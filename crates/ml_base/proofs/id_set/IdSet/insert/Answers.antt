@@ -1,4 +1,4 @@
-use Rattle.std.proofs.Common.{◌≡◌, Contains, refl, sym, ap, subst, ◌∙◌}
+use Rattle.std.proofs.Common.{Contains, refl, sym, ap, subst, ◌∙◌}
 use Rattle.std.specs.List.{insert}
 use Rattle.std.specs.List.Sorted.{IsStrictlyIncreasing}
 use Rattle.ml_base.specs.IdSet.{IsWith}
@@ -29,4 +29,4 @@ returns-in_ok-insert-in-Err-clause-members c =
     let here = c.deref.ensures.value ∙ c.self.view_is in
     let items = c.in_ok-insert-in-Err.ensures.items ∙ ap (λ xs. insert xs c.in-Err.place c.args.x) (sym c.deref.ensures.value) in
     subst (λ xs. IsWith xs c.args.x c.insert.new.self.items) here
-      (subst (IsWith c.deref.result.now c.args.x) (sym items) (put_members c.deref.result.now c.args.x c.in-Err.place))
+    (subst (IsWith c.deref.result.now c.args.x) (sym items) (put_members c.deref.result.now c.args.x c.in-Err.place))
