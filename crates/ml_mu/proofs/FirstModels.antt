@@ -4,19 +4,19 @@
 --   agrees        == such a structure makes each literal true
 --   literals_hold == where each literal is true, so is their conjunction
 --   first_holds   == the formula of a first text holds at the one state of such a structure
-use Rattle.std.proofs.Common.{◌≡◌, ℕ, zero, suc, ◌+◌, ◌<◌, Bool, true, false, ◌&&◌, not, if◌then◌else◌, List, [], ◌∷◌, ◌++◌, length, map, slice_index_or, refl, sym, ◌∙◌, ap, subst, arith, codes, inl, inr, ◌⊎◌, ⊎_elim, ◌↔◌}
-use Rattle.std.specs.Prelude.{Contains, AllPairs}
+use Rattle.std.proofs.Common.{◌≡◌, ℕ, zero, suc, ◌<◌, Bool, true, false, ◌&&◌, not, if◌then◌else◌, List, [], ◌∷◌, ◌++◌, length, map, slice_index_or, refl, sym, ◌∙◌, ap, subst, arith, codes, inl, inr, ◌⊎◌, ⊎_elim, ◌↔◌}
+use Rattle.std.specs.Prelude.{Contains}
 use Rattle.std.specs.List.{range_with_len}
 use Rattle.std.proofs.lemmas.Bool.{cases_Bool, cases_order, false≢true, and_from}
 use Rattle.std.proofs.lemmas.List.{get_or-map, get_or_default}
 use Rattle.std.proofs.lemmas.List.Elements.{Contains-append_left, Contains-append_right}
-use Rattle.ml_base.specs.Structure.{Structure, StateSet, lists, is_member, states_where}
+use Rattle.ml_base.specs.Structure.{Structure, lists, is_member, states_where}
 use Rattle.ml_text.specs.declared.token.Operator.TheVariants as operator
 use Rattle.ml_text.specs.declared.token.Token.TheVariants as token
 use Rattle.ml_mu.specs.declared.first_text.Literal.{Literal}
-use Rattle.ml_mu.specs.Formula.{Formula, Prop, Not, Binary}
+use Rattle.ml_mu.specs.Formula.{Formula}
 use Rattle.ml_mu.specs.Meaning.{meaning}
-use Rattle.ml_mu.specs.FirstText.{Spelt, ReadsLiteral, positive, negative, ReadsConjunction, one, more, propositions, positive_propositions, spelt_tokens, StandsFor}
+use Rattle.ml_mu.specs.FirstText.{Spelt, ReadsLiteral, positive, negative, ReadsConjunction, one, more, positive_propositions, spelt_tokens, StandsFor}
 use Rattle.ml_mu.specs.FirstReading.{literals_of}
 use Rattle.ml_mu.proofs.FirstTexts.{names, literal}
 use Rattle.ml_mu.proofs.FirstFormulas.{literals_propositions}

@@ -7,7 +7,7 @@
 --   within_not         == complements turn inclusion round
 --   within_where       == so do the states that pass one test lie within those that pass a weaker one
 --   truth_implied      == a truth value implies another
-use Rattle.std.proofs.Common.{◌≡◌, ℕ, ◌+◌, ◌<◌, ◌≤◌, ◌⊎◌, Bool, true, false, not, List, length, map, replicate, get_or, refl, sym, ap, ◌∙◌, subst, ⊎_elim, arith}
+use Rattle.std.proofs.Common.{◌≡◌, ℕ, ◌<◌, ◌≤◌, Bool, true, false, not, length, map, replicate, get_or, refl, sym, ap, ◌∙◌, ⊎_elim, arith}
 use Rattle.std.specs.List.{range_with_len}
 use Rattle.std.proofs.lemmas.Bool.{cases_lt, true≢false}
 use Rattle.std.proofs.lemmas.List.{length-map, length-replicate, get_or-map, get_or-replicate, get_or_past, get_or_default, same_lists}
@@ -33,17 +33,17 @@ implies_not false b there h = refl
 pub within_both : (s t : StateSet) → length s ≡ length t → Within s t → Within t s → s ≡ t
 within_both s t long there back =
     same_lists s t long
-      (λ k d below.
-        get_or_default s k d false below ∙ same_truth (get_or s k false) (get_or t k false) (there k) (back k)
-        ∙ get_or_default t k false d (omega (arith, long)))
+    (λ k d below.
+    get_or_default s k d false below ∙ same_truth (get_or s k false) (get_or t k false) (there k) (back k)
+    ∙ get_or_default t k false d (omega (arith, long)))
 
 -- a member is one of the flags
 pub member_below : (s : StateSet) (k : ℕ) → is_member s k ≡ true → k < length s
 member_below s k inside =
     ⊎_elim
-      (λ (below : k < length s). below)
-      (λ (past : length s ≤ k). absurd (true≢false (sym inside ∙ get_or_past s k false past)))
-      (cases_lt k (length s))
+    (λ (below : k < length s). below)
+    (λ (past : length s ≤ k). absurd (true≢false (sym inside ∙ get_or_past s k false past)))
+    (cases_lt k (length s))
 
 pub nowhere_within : (n : ℕ) (t : StateSet) → Within (replicate n false) t
 nowhere_within n t k inside =

@@ -3,13 +3,12 @@
 --   HasFlags n g    == each set that g gives has n flags
 --   given_flags     == so the set that a variable means has n flags
 --   meaning_flags   == and so has the meaning of each formula
-use Rattle.std.proofs.Common.{◌≡◌, ℕ, Bool, true, false, not, List, [], ◌∷◌, length, map, cond, sym, ◌∙◌}
+use Rattle.std.proofs.Common.{◌≡◌, ℕ, Bool, true, false, not, List, [], ◌∷◌, length, cond, ◌∙◌}
 use Rattle.std.specs.Str.{bytes_eq}
 use Rattle.std.proofs.lemmas.List.{length-map, length-replicate}
 use Rattle.std.proofs.lemmas.List.FromFn.{length-map-range_with_len}
-use Rattle.ml_lists.specs.Iterate.{iterate}
 use Rattle.ml_lists.proofs.Iterates.{iterate_keeps}
-use Rattle.ml_base.specs.Structure.{Structure, StateSet, lists, is_member}
+use Rattle.ml_base.specs.Structure.{Structure, lists, is_member}
 use Rattle.ml_mu.specs.Environment.{HaveFlags}
 use Rattle.ml_mu.specs.Formula.{Formula, Const, Prop, Var, Not, Binary, Modal, Binder, Diamond, Square, Least, Greatest}
 use Rattle.ml_mu.specs.Meaning.{Given, given_set, truth_of, some_edge, every_edge, first_iterate, meaning}
@@ -33,10 +32,10 @@ meaning_flags m g (Modal Diamond a f) flags = length-map-range_with_len (some_ed
 meaning_flags m g (Modal Square a f) flags = length-map-range_with_len (every_edge m a (meaning m g f)) 0 m.states
 meaning_flags m g (Binder Least x f) flags =
     iterate_keeps (λ set. length set ≡ m.states) (λ set. meaning m ((x, set) ∷ g) f) (first_iterate m Least) m.states
-      (length-replicate m.states false) (λ set long. meaning_flags m ((x, set) ∷ g) f (long, flags))
+    (length-replicate m.states false) (λ set long. meaning_flags m ((x, set) ∷ g) f (long, flags))
 meaning_flags m g (Binder Greatest x f) flags =
     iterate_keeps (λ set. length set ≡ m.states) (λ set. meaning m ((x, set) ∷ g) f) (first_iterate m Greatest) m.states
-      (length-replicate m.states true) (λ set long. meaning_flags m ((x, set) ∷ g) f (long, flags))
+    (length-replicate m.states true) (λ set long. meaning_flags m ((x, set) ∷ g) f (long, flags))
 
 -- without given sets
 pub closed_flags : (m : Structure) (f : Formula) → length (meaning m [] f) ≡ m.states

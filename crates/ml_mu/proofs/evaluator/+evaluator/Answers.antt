@@ -1,4 +1,4 @@
-use Rattle.std.proofs.Common.{◌≡◌, length, replicate, sym, ap, ◌∙◌, arith}
+use Rattle.std.proofs.Common.{length, replicate, sym, ap, ◌∙◌, arith}
 use Rattle.std.proofs.lemmas.Result.{IfOk-weaker}
 use Rattle.ml_mu.specs.Environment.{given_of}
 use Rattle.ml_mu.specs.Meaning.{meaning}

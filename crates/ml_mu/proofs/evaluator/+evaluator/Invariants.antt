@@ -1,6 +1,6 @@
 -- The evaluator ends: each call has fewer symbols to evaluate. A helper stands between a symbol and its operands.
 -- An iterate is one by its number, and has one flag for each state.
-use Rattle.std.proofs.Common.{◌≡◌, ◌+◌, ◌*◌, ◌∷◌, length}
+use Rattle.std.proofs.Common.{◌≡◌, ◌+◌, ◌*◌, length}
 use Rattle.ml_lists.specs.Iterate.{iterate}
 use Rattle.ml_mu.specs.Environment.{given_of}
 use Rattle.ml_mu.specs.Formula.{occurrences}

@@ -1,4 +1,4 @@
-use Rattle.std.proofs.Common.{◌≡◌, true, false, replicate, sym, subst, All, ◌<◌, ap, ◌∙◌}
+use Rattle.std.proofs.Common.{false, replicate, sym, subst, All, ◌<◌, ap, ◌∙◌}
 use Rattle.ml_mu.proofs.EdgeWalks.{some_start, some_more, some_kept, in_range}
 use Rattle.ml_mu.proofs.evaluator.diamond.Goals as goal
 use Rattle.ml_mu.proofs.evaluator.diamond.Goals.{then-leads_into, else-leads_into}

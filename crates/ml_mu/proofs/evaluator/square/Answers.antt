@@ -1,4 +1,4 @@
-use Rattle.std.proofs.Common.{◌≡◌, true, false, replicate, sym, subst, All, ◌<◌, ap, ◌∙◌}
+use Rattle.std.proofs.Common.{true, replicate, sym, subst, All, ◌<◌, ap, ◌∙◌}
 use Rattle.ml_mu.proofs.EdgeWalks.{every_start, every_more, every_kept, in_range}
 use Rattle.ml_mu.proofs.evaluator.square.Goals as goal
 use Rattle.ml_mu.proofs.evaluator.square.Goals.{then-leads_out_of, else-leads_out_of}
