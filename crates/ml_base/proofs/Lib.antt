@@ -4,3 +4,7 @@ pub mod Names
 pub mod Pieces
 -- the propositions that a state lists
 pub mod Listing
+-- sets of numbers: what a search finds, and a number put in
+pub mod IdSets
+-- two ascending lists as one
+pub mod Merging

@@ -8,3 +8,5 @@ pub mod Faults
 pub mod Memory
 -- what a whole read and a whole write leave behind
 pub mod Whole
+-- finite sets of numbers
+pub mod IdSet

@@ -5,9 +5,13 @@
 // Begin with `Name::new`, `read_all` and `write_all`. `MemSource` and `MemSink` stand in memory, for tests;
 // `StdSource` and `StdSink` stand on std's readers and writers, and tell nothing of the bytes.
 //
-// It stands on nothing of this repository. Whatever speaks of names, or reads and writes, stands above.
+// An `IdSet` is a finite set of numbers, as they name states, nodes and propositions.
+//
+// Below stands `ml_lists`, general mathematics. Whatever speaks of names, or reads and writes, stands above.
 #![tactic(auto)]
 
+mod id_set;
+pub mod laws;
 pub mod memory;
 mod name;
 mod no_memory;
@@ -21,6 +25,7 @@ mod structure;
 mod tests;
 pub mod whole;
 
+pub use id_set::IdSet;
 pub use memory::{MemSink, MemSource};
 pub use name::{Action, Name, NameRefusal};
 pub use no_memory::NoMemory;

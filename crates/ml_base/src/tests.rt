@@ -195,3 +195,16 @@ fn too_much_room(rt: HostRuntime) {
     let sink = MemSink::new(rt.alloc(), 1, Vec::new(rt.alloc()), u64::MAX);
     assert_eq!(rt; sink.err(), Some(NoMemory));
 }
+
+#[test]
+fn sets_of_numbers(rt: HostRuntime) -> Result<(), Fail> {
+    let mut set = IdSet::new(rt.alloc());
+    assert!(rt; set.insert(3)? && set.insert(1)? && !set.insert(3)?);
+    assert_eq!(rt; set.values(), [1, 3].as_slice());
+    assert!(rt; set.contains(3) && !set.contains(2));
+    let mut two = IdSet::new(rt.alloc());
+    two.insert(2)?;
+    assert_eq!(rt; set.union(&two)?.values(), [1, 2, 3].as_slice());
+    assert_eq!(rt; set.union(&set)?.values(), [1, 3].as_slice());
+    Ok(())
+}

@@ -32,3 +32,11 @@ pub mod Ascending
 pub mod Least
 -- numbers that pass a test, numbered in their order
 pub mod Ranks
+-- iterates of a function
+pub mod Iterates
+-- what a list contains
+pub mod Members
+-- strictly increasing lists, as std says it, by recursion
+pub mod Increasing
+-- tables: lists with an entry for each number
+pub mod Tables

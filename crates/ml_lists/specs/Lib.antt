@@ -24,3 +24,5 @@ pub mod Repeated
 pub mod Ascending
 -- the least number that passes a test
 pub mod Least
+-- iterates of a function
+pub mod Iterate

@@ -22,3 +22,11 @@ pub mod Fine
 pub mod Parsed
 -- a text has one answer
 pub mod OneAnswer
+-- the states whose edges lead into a set
+pub mod EdgeWalks
+-- what the evaluator's parts compute
+pub mod Evaluation
+-- sets of states by inclusion
+pub mod Inclusion
+-- a meaning has one flag for each state
+pub mod MeaningFlags

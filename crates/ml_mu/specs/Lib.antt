@@ -4,6 +4,8 @@ pub mod Formula
 pub mod Term
 -- what formulas mean
 pub mod Meaning
+-- the sets that variables mean, where the evaluator holds them
+pub mod Environment
 -- bound and positive variables
 pub mod Variables
 -- which words are propositions, variables and actions

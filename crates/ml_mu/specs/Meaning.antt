@@ -9,14 +9,14 @@
 --   Given             == the sets that the free variables mean, innermost binder first
 --   given_set m g x   == the set that the variable x means; a variable without a binder means the empty set
 --   truth_of op a b   == the truth table of a connective
---   iterate k step s  == the k-th iterate of step from s
 --   first_iterate m q == the set from which a fixpoint is approached: nowhere for the least, everywhere for the greatest
 --   some_edge m a s   == has the state s an edge by the action a into the set?
 --   every_edge m a s  == do all edges by the action a from s lead into the set?
 --   meaning m g f     == the set of the states of m at which f holds
-use Rattle.std.specs.Prelude.{ℕ, zero, suc, ◌==◌, Bool, ◌&&◌, ◌||◌, not, if◌then◌else◌, List, [], ◌∷◌, map}
+use Rattle.std.specs.Prelude.{ℕ, ◌==◌, Bool, ◌&&◌, ◌||◌, not, if◌then◌else◌, List, [], ◌∷◌, map}
 use Rattle.std.specs.List.{list_any, list_all}
 use Rattle.std.specs.Str.{bytes_eq}
+use Rattle.ml_lists.specs.Iterate.{iterate}
 use Rattle.ml_text.specs.declared.token.Operator.{Operator}
 use Rattle.ml_text.specs.declared.token.Operator.TheVariants.{Iff, Implies, Or, And}
 use Rattle.ml_base.specs.Structure.{Structure, StateSet, lists, is_member, states_where, everywhere, nowhere}
@@ -34,10 +34,6 @@ truth_of And a b = a && b
 truth_of Or a b = a || b
 truth_of Implies a b = not a || b
 truth_of Iff a b = (not a || b) && (not b || a)
-
-abbrev pub iterate : {A : Type 0} → ℕ → (A → A) → A → A
-iterate zero step s = s
-iterate (suc k) step s = step (iterate k step s)
 
 abbrev pub first_iterate : Structure → Fixpoint → StateSet
 first_iterate m Least = nowhere m

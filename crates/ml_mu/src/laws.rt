@@ -1,4 +1,8 @@
-// What holds of texts and formulas by their definitions alone. The functions do nothing.
+// What holds of texts, formulas and meanings by their definitions alone. The functions do nothing.
+ghost use Rattle.std.specs.Prelude.{◌≡◌, length, []};
+ghost use Rattle.ml_base.specs.Structure.{Structure};
+ghost use Rattle.ml_mu.specs.Formula.{Formula};
+ghost use Rattle.ml_mu.specs.Meaning.{meaning};
 ghost use Rattle.ml_mu.specs.Parsing.{ParsedAreWellFormed, ParsedOrRefused, RefusedOnce, StandForOne};
 
 /// A text stands for one formula at most, by the grammar alone.
@@ -24,3 +28,9 @@ pub fn parsed_are_well_formed()
     ensures { ParsedAreWellFormed }
 {
 }
+
+/// The meaning of a formula is a set of states: it has one flag for each.
+#[tactic(auto, using(crate::proofs::MeaningFlags::closed_flags))]
+pub fn one_flag_for_each_state()
+    ensures { (m : Structure) (f : Formula) → length (meaning m [] f) ≡ m.states }
+{}

@@ -8,6 +8,7 @@
 #![tactic(auto)]
 
 mod copying;
+mod evaluator;
 mod forms;
 mod formula;
 pub mod laws;
@@ -23,6 +24,7 @@ mod tests;
 mod variables;
 
 pub use copying::{copy, occurrences};
+pub use evaluator::{evaluate, holds};
 pub use formula::Formula;
 pub use parsing::parse;
 pub use printing::print;

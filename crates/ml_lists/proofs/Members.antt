@@ -1,0 +1,46 @@
+-- What a list contains, taken apart at its head.
+--
+--   contains_head    == a list contains its head
+--   contains_later   == a list contains what its tail does
+--   contains_cases   == what a list contains is its head, or is in its tail
+--   contains_none    == the empty list contains nothing
+--   contains_middle  == what stands in the middle is contained
+--   contains_without == and what else a list contains is contained without it
+--   contains_with    == what a list contains is contained with something in the middle too
+use Rattle.std.proofs.Common.{◌≡◌, zero, suc, ◌⊎◌, List, [], ◌∷◌, ◌++◌, Contains, inl, inr, refl, ⊎_elim, arith}
+use Rattle.std.proofs.lemmas.List.Elements.{Contains-append_left, Contains-append_right, Contains-append_cases}
+
+pub contains_head : {X : Type 0} (x : X) (xs : List X) → Contains (x ∷ xs) x
+contains_head x xs = (0, omega arith, refl)
+
+pub contains_later : {X : Type 0} (x : X) (xs : List X) (q : X) → Contains xs q → Contains (x ∷ xs) q
+contains_later x xs q (k, below, is) = (suc k, omega arith, is)
+
+pub contains_cases : {X : Type 0} (x : X) (xs : List X) (q : X) → Contains (x ∷ xs) q → (x ≡ q) ⊎ Contains xs q
+contains_cases x xs q (zero, below, is) = inl is
+contains_cases x xs q (suc k, below, is) = inr (k, omega arith, is)
+
+pub contains_none : {X : Type 0} (q : X) → Contains [] q → ⊥
+contains_none q (k, below, is) = absurd (omega arith)
+
+pub contains_middle : {X : Type 0} (front : List X) (x : X) (back : List X) → Contains (front ++ x ∷ back) x
+contains_middle front x back = Contains-append_right front (x ∷ back) x (contains_head x back)
+
+pub contains_without : {X : Type 0} (front : List X) (x : X) (back : List X) (q : X) → Contains (front ++ x ∷ back) q
+    → (x ≡ q) ⊎ Contains (front ++ back) q
+contains_without front x back q inside =
+    ⊎_elim
+    (λ (before : Contains front q). inr (Contains-append_left front back q before))
+    (λ (after : Contains (x ∷ back) q).
+    ⊎_elim
+    (λ (is : x ≡ q). inl is)
+    (λ (later : Contains back q). inr (Contains-append_right front back q later))
+    (contains_cases x back q after))
+    (Contains-append_cases front (x ∷ back) q inside)
+
+pub contains_with : {X : Type 0} (front : List X) (x : X) (back : List X) (q : X) → Contains (front ++ back) q → Contains (front ++ x ∷ back) q
+contains_with front x back q inside =
+    ⊎_elim
+    (λ (before : Contains front q). Contains-append_left front (x ∷ back) q before)
+    (λ (after : Contains back q). Contains-append_right front (x ∷ back) q (contains_later x back q after))
+    (Contains-append_cases front back q inside)

@@ -1,0 +1,26 @@
+use Rattle.std.proofs.Common.{false, replicate, sym, subst, All, ◌<◌, ap, ◌∙◌}
+use Rattle.ml_mu.proofs.EdgeWalks.{some_start, some_more, some_kept, in_range}
+use Rattle.ml_mu.proofs.evaluator.diamond.Goals as goal
+use Rattle.ml_mu.proofs.evaluator.diamond.Goals.{then-leads_into, else-leads_into}
+
+pub loop-edge-init : goal.loop-edge-init
+loop-edge-init c =
+    c.in_ok-states.ensures.value ∙ ap (λ n. replicate n false) c.states.ensures.value
+    ∙ some_start c.args.action.now c.args.set.now c.args.structure.now.states
+
+pub loop-edge-preserved : goal.loop-edge-preserved
+loop-edge-preserved c =
+    let edges = c.edges-edge-items.result.now in
+    let n = c.args.structure.now.states in
+    let joined = subst (All (λ d. (d.source < n) × (d.target < n))) (sym c.edges-edge-items.ensures) c.states.ensures.is_structure.joins_states in
+    let ends = in_range edges n c.loop-edge.edge-index c.edge-item.result joined c.loop-edge-test.true c.edge-item.is in
+    elim c.if-leads_into.branch [
+      | then-leads_into w ↦
+          ap (λ states. states.items) w.states-is
+          ∙ some_more edges c.args.action.now c.args.set.now n c.loop-edge.edge-index c.edge-item.result c.loop-edge.states.items c.loop-edge-test.true
+          c.edge-item.is ends.0 (sym c.leads_into.ensures ∙ w.if-leads_into.true) c.loop-edge.invariant
+      | else-leads_into w ↦
+          ap (λ states. states.items) w.states-is
+          ∙ some_kept edges c.args.action.now c.args.set.now n c.loop-edge.edge-index c.edge-item.result c.loop-edge.states.items c.loop-edge-test.true
+          c.edge-item.is (sym c.leads_into.ensures ∙ w.if-leads_into.false) c.loop-edge.invariant
+    ]
