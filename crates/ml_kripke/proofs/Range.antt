@@ -43,7 +43,7 @@ edges_in_range states (edge ∷ edges) none =
     let first = passed (nat_le states edge.source) edge.source (cond (nat_le states edge.target) (Some edge.target) rest) none in
     let second = passed (nat_le states edge.target) edge.target rest first.1 in
     All-cons (λ (e : Edge). (e.source < states) × (e.target < states)) edge edges
-      (in_range states edge.source first.0, in_range states edge.target second.0) (edges_in_range states edges second.1)
+    (in_range states edge.source first.0, in_range states edge.target second.0) (edges_in_range states edges second.1)
 
 pub all_in_range : (states : ℕ) (labels : List (ℕ × List ℕ)) (edges : List Edge) → first_bad_state states labels edges ≡ None
     → All (λ label. label.0 < states) labels × All (λ e. (e.source < states) × (e.target < states)) edges
