@@ -8,6 +8,7 @@
 // It stands on nothing of this repository. Whatever speaks of names, or reads and writes, stands above.
 #![tactic(auto)]
 
+mod doc_fault;
 pub mod memory;
 mod name;
 mod no_memory;
@@ -20,6 +21,7 @@ mod structure;
 mod tests;
 pub mod whole;
 
+pub use doc_fault::DocFault;
 pub use memory::{MemSink, MemSource};
 pub use name::{Action, Name, NameRefusal};
 pub use no_memory::NoMemory;

@@ -4,3 +4,5 @@ pub mod Ordered
 pub mod ModelText
 -- laws of ordered structures
 pub mod Laws
+-- the rules of a body, and its first bad line
+pub mod BodyRules

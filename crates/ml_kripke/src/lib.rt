@@ -9,11 +9,13 @@
 #![tactic(auto)]
 
 mod ascending;
+mod body_rule;
 pub mod laws;
 mod model;
 mod structure;
 mod write;
 
+pub use body_rule::BodyRule;
 pub use model::Model;
 pub use structure::{Structure, StructureRefusal};
 pub use write::write_model;
