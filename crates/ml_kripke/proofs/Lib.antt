@@ -14,3 +14,5 @@ pub mod Text
 pub mod Unique
 -- an ordered structure is determined by what it has
 pub mod OneStructure
+-- the text of a model belongs to one model
+pub mod OneText

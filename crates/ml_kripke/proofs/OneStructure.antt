@@ -3,19 +3,17 @@
 --   names_exact, edges_exact   == names, and edges, that no order tells apart are equal
 --   edge_order                 == the order of edges is total
 --   one_structure              == ordered structures that have the same are equal
-use Rattle.std.proofs.Common.{◌≡◌, ℕ, ◌<◌, List, [], length, get_or, All, Contains, Ordering, refl, sym, ap, ◌∙◌, arith}
+use Rattle.std.proofs.Common.{◌≡◌, ℕ, ◌<◌, List, [], length, get_or, Ordering, refl, sym, ap, ◌∙◌, arith}
 use Rattle.std.specs.Cmp.{IsTotalOrder}
 use Rattle.std.specs.Cmp.Lexicographic.{slice_cmp, bytes_decides, texts_ties}
-use Rattle.std.specs.List.Sorted.{IsStrictlySortedBy}
 use Rattle.std.specs.Ordering.{nat_cmp, ordering_then, is_eq}
 use Rattle.std.specs.declared.cmp.Ordering.TheVariants.{Less, Equal, Greater}
 use Rattle.std.proofs.lemmas.Bool.Decides.{nat_tests}
 use Rattle.std.proofs.lemmas.Cmp.{on_total, then_total, nat_cmp_total, nat_list_cmp_total}
 use Rattle.std.proofs.lemmas.List.{same_lists, get_or_default}
 use Rattle.ml_base.specs.declared.structure.Edge.{Edge}
-use Rattle.ml_base.specs.Structure.{Structure, IsStructure}
-use Rattle.ml_kripke.specs.Laws.{HasSame, OneStructure}
-use Rattle.ml_kripke.specs.Ordered.{IsOrdered, edge_cmp}
+use Rattle.ml_kripke.specs.Laws.{OneStructure}
+use Rattle.ml_kripke.specs.Ordered.{edge_cmp}
 use Rattle.ml_kripke.proofs.Unique.{same_from_members}
 
 numbers_exact : (x y : ℕ) → nat_cmp x y ≡ Equal → x ≡ y

@@ -4,11 +4,11 @@
 --   labels_at-ascends      == of labels that ascend, those of one state do
 --   labels_at-contains     == what stands in a state's row is a label of that state
 --   labels_at-contained    == a label of a state stands in its row
-use Rattle.std.proofs.Common.{◌≡◌, ◌↔◌, ◌==◌, ℕ, Bool, true, false, cond, List, [], ◌∷◌, map, filter, Contains, Ordering, refl, sym, ap, ◌∙◌, ⊎_elim, eq-eqb, arith, subst, ◌⊎◌}
+use Rattle.std.proofs.Common.{◌≡◌, ◌==◌, ℕ, Bool, true, false, cond, List, [], ◌∷◌, map, filter, Contains, Ordering, refl, sym, ap, ◌∙◌, ⊎_elim, eq-eqb, arith, subst, ◌⊎◌}
 use Rattle.std.specs.List.{AllByRecursion}
 use Rattle.std.specs.List.Sorted.{IsStrictlySortedBy}
 use Rattle.std.specs.Ordering.{nat_cmp, ordering_then}
-use Rattle.std.specs.declared.cmp.Ordering.TheVariants.{Less, Equal}
+use Rattle.std.specs.declared.cmp.Ordering.TheVariants.{Less}
 use Rattle.std.specs.Cmp.Lexicographic.{slice_cmp}
 use Rattle.std.proofs.lemmas.Cmp.{tied_itself, nat_cmp_total}
 use Rattle.std.proofs.lemmas.Bool.{true≢false}

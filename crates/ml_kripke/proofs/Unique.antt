@@ -2,7 +2,7 @@
 --
 --   below_later       == the head of a strictly ascending list is below what its tail contains
 --   same_from_members == strictly ascending lists that contain the same are equal
-use Rattle.std.proofs.Common.{◌≡◌, ◌↔◌, ℕ, ◌⊎◌, List, [], ◌∷◌, Contains, Ordering, refl, sym, ap, subst, ◌∙◌, ⊎_elim}
+use Rattle.std.proofs.Common.{◌≡◌, List, [], ◌∷◌, Contains, Ordering, refl, sym, ap, subst, ◌∙◌, ⊎_elim}
 use Rattle.std.specs.Cmp.{IsTotalOrder}
 use Rattle.std.specs.List.Sorted.{IsStrictlySortedBy}
 use Rattle.std.specs.Ordering.{ordering_reverse}

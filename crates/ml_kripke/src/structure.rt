@@ -147,6 +147,7 @@ impl Structure {
 }
 
 // the first state that isn't below the number of states
+#[tactic(auto, using(crate::proofs::Range::first_bad_parts))]
 fn first_out_of_range(states: u32, labels: &[(u32, Name)], edges: &[Edge]) -> Option<u32>
     ensures { result ≡ first_bad_state states labels.now edges.now }
 {

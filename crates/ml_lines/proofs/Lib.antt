@@ -2,5 +2,5 @@
 pub mod Digits
 -- a line, word by word
 pub mod Words
--- lines written one behind the other
+-- a text has one list of lines
 pub mod Lines

@@ -1,8 +1,6 @@
-use Rattle.std.proofs.Common.{◌≡◌, ◌<◌, List, ℕ, length, map, get_or, sym, ap, ◌∙◌, arith}
-use Rattle.std.specs.List.{range_with_len}
+use Rattle.std.proofs.Common.{◌≡◌, ◌∙◌, arith}
 use Rattle.std.proofs.lemmas.Iterator.Adapters.{YieldsList-from_vec}
 use Rattle.std.proofs.lemmas.Iterator.Consumers.{YieldsList-turn}
-use Rattle.ml_kripke.specs.Ordered.{labels_at}
 use Rattle.ml_kripke.proofs.Rows.{rows_none, length_rows, row_pushed, label_in_range}
 use Rattle.ml_kripke.proofs.structure.rows.Goals as goal
 
