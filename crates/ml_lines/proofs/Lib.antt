@@ -4,3 +4,7 @@ pub mod Digits
 pub mod Words
 -- a text has one list of lines
 pub mod Lines
+-- where a list of bytes is cut
+pub mod Cuts
+-- which words spell numbers
+pub mod Numbers

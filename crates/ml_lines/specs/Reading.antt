@@ -14,9 +14,8 @@
 --   IsNumber w         == w spells a number from 0 to 4,294,967,295, in decimal and without leading zeros
 --   value w            == the number that the digits of w are
 --   word ws i          == the i-th word of a line, from 0 on
-use Rattle.std.specs.Prelude.{ℕ, ◌^◌, ◌<◌, ◌≡◌, ◌==◌, ◌&&◌, ◌||◌, Bool, true, false, not, List, [], ◌∷◌, Option, None, Some, map, slice_index_or, IsTrue}
+use Rattle.std.specs.Prelude.{ℕ, ◌+◌, ◌-◌, ◌*◌, ◌^◌, ◌<◌, ◌≡◌, ◌==◌, ◌&&◌, ◌||◌, Bool, true, false, not, List, [], ◌∷◌, Option, None, Some, map, slice_index_or, IsTrue}
 use Rattle.std.specs.List.{list_all, slice_split}
-use Rattle.std.specs.Str.Parse.{digits_value}
 use Rattle.ml_lines.specs.Lines.{Word, Line, number}
 
 -- 32 is the blank, 10 the LF, 13 the CR
@@ -63,8 +62,13 @@ AreWords words = IsTrue (list_all is_word words)
 abbrev pub IsNumber : Word → Type 0
 IsNumber w = (n : ℕ) × (n < 2 ^ 32) × (w ≡ number n)
 
+-- the number whose digits are those of n, and then those of a word
+abbrev pub value_on : ℕ → Word → ℕ
+value_on n [] = n
+value_on n (c ∷ cs) = value_on (10 * n + (c - 48)) cs
+
 abbrev pub value : Word → ℕ
-value w = digits_value 10 w
+value w = value_on 0 w
 
 abbrev pub word : Line → ℕ → Word
 word words i = slice_index_or words i []

@@ -8,8 +8,10 @@
 // or read documents.
 #![tactic(auto)]
 
+mod read;
 mod write;
 
+pub use read::{are_words, read_number, split_line, split_word};
 pub use write::{end_line, write_next_number, write_next_word, write_number, write_word};
 
 #[cfg(test)]

@@ -25,3 +25,17 @@ returns-clause-built c =
     let rows = map (λ row. row.items) c.in_ok-rows.field-0.items in
     is_built c.args.states c.args.labels.items c.ascending.result.items c.args.edges.items c.ascending-2.result.items none
     c.ascending.ensures.same rows c.in_ok-rows.ensures c.ascending-2.ensures.same
+
+pub returns-clause-is_structure : goal.returns-clause-is_structure
+returns-clause-is_structure c =
+    let none : first_bad_state c.args.states c.args.labels.items c.args.edges.items ≡ None = cc in
+    is_structure c.args.states c.args.labels.items c.ascending.result.items c.args.edges.items c.ascending-2.result.items none
+    c.ascending.ensures.same (map (λ row. row.items) c.in_ok-rows.field-0.items) c.in_ok-rows.ensures c.ascending-2.ensures.same
+    (omega arith)
+
+pub returns-clause-is_ordered : goal.returns-clause-is_ordered
+returns-clause-is_ordered c =
+    let none : first_bad_state c.args.states c.args.labels.items c.args.edges.items ≡ None = cc in
+    is_ordered c.args.states c.args.labels.items c.ascending.result.items c.args.edges.items c.ascending-2.result.items none
+    c.ascending.ensures.same (map (λ row. row.items) c.in_ok-rows.field-0.items) c.in_ok-rows.ensures c.ascending-2.ensures.same
+    c.ascending.ensures.ascends c.ascending-2.ensures.ascends
