@@ -16,3 +16,5 @@ pub mod Unique
 pub mod OneStructure
 -- the text of a model belongs to one model
 pub mod OneText
+-- the lowest rule that a line breaks, place by place
+pub mod Lowest

@@ -15,14 +15,16 @@
 --   IsFirstBad left k p ls b r   == of the lines ls, which are counted from k and of which the first stands at p, the
 --                                   line b is the first bad one, and r the lowest rule that it breaks
 --   IsReadable left p ls  == no line is bad, from the place p on, nor the end of the text
---   IsFaultOf text first line rule  == of the body of this text, whose lines are counted from `first`, this line is
---                                   the first bad one, and this the number of the lowest rule that it breaks
+--   IsFaultFrom p k text f       == f tells the first bad line of the text, whose first line stands at p and has the
+--                                   number k, and the number of the lowest rule that it breaks
+--   IsFaultOf text first f       == the same of the text of a body
 use Rattle.std.specs.Prelude.{ℕ, ◌+◌, ◌<◌, ◌≡◌, ◌⊎◌, ⊤, Bool, true, false, nat_lt, List, [], ◌∷◌, Option, None, Some, MatchOption, drop, All, IsTrue, codes, slice_index_or, if◌then◌else◌}
 use Rattle.std.specs.List.Sorted.{IsStrictlySortedBy}
 use Rattle.std.specs.Ordering.{nat_cmp}
 use Rattle.std.specs.declared.cmp.Ordering.TheVariants.{Less}
 use Rattle.std.specs.Cmp.Lexicographic.{slice_cmp}
 use Rattle.std.specs.Str.{bytes_eq}
+use Rattle.ml_base.specs.declared.doc_fault.DocFault.{DocFault}
 use Rattle.ml_base.specs.declared.structure.Edge.{Edge}
 use Rattle.ml_base.specs.Name.{IsName, IsAction}
 use Rattle.ml_lines.specs.Lines.{Word, Line}
@@ -57,10 +59,14 @@ after (AtState n i) line = at_state n (i + 1)
 after (AtEdge n before) line = if is_end line then AtNothing else AtEdge n (Some (edge_of line))
 after AtNothing line = AtNothing
 
+-- the line is a fixed word and one more
+abbrev pub IsNumbered : Word → Line → Type 0
+IsNumbered fixed line = AreWords line × (line ≡ fixed ∷ word line 1 ∷ [])
+
 -- the line is there, its words are separated by one blank, and the fixed words and the number of words are right
 abbrev pub IsOfKind : List ℕ → Place → Line → Type 0
-IsOfKind left AtStates line = AreWords line × (line ≡ codes "states" ∷ word line 1 ∷ [])
-IsOfKind left (AtStart n) line = AreWords line × (line ≡ codes "start" ∷ word line 1 ∷ [])
+IsOfKind left AtStates line = IsNumbered (codes "states") line
+IsOfKind left (AtStart n) line = IsNumbered (codes "start") line
 IsOfKind left (AtState n i) line = AreWords line × (line ≡ codes "state" ∷ word line 1 ∷ drop 2 line)
 IsOfKind left (AtEdge n before) line =
     AreWords line
@@ -137,6 +143,11 @@ abbrev pub IsReadable : List ℕ → Place → List Line → Type 0
 IsReadable left place [] = IsGood left place []
 IsReadable left place (line ∷ lines) = IsGood left place line × IsReadable left (after place line) lines
 
-abbrev pub IsFaultOf : List ℕ → ℕ → ℕ → ℕ → Type 0
-IsFaultOf text first line rule =
-    (broken : BodyRule) × (rule ≡ rule_number broken) × IsFirstBad (left_of text) first AtStates (lines_of text) line broken
+-- a refusal tells the first bad line, of a text whose first line stands at a place and has the number k
+abbrev pub IsFaultFrom : Place → ℕ → List ℕ → DocFault → Type 0
+IsFaultFrom place k text fault =
+    (broken : BodyRule) × (fault.rule ≡ rule_number broken)
+    × IsFirstBad (left_of text) k place (lines_of text) fault.line broken
+
+abbrev pub IsFaultOf : List ℕ → ℕ → DocFault → Type 0
+IsFaultOf text first fault = IsFaultFrom AtStates first text fault

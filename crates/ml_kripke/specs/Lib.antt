@@ -6,3 +6,5 @@ pub mod ModelText
 pub mod Laws
 -- the rules of a body, and its first bad line
 pub mod BodyRules
+-- what is known of the parts of a body that were read
+pub mod BodyParts

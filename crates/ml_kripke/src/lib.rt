@@ -12,11 +12,13 @@ mod ascending;
 mod body_rule;
 pub mod laws;
 mod model;
+mod read;
 mod structure;
 mod write;
 
 pub use body_rule::BodyRule;
 pub use model::Model;
+pub use read::ModelRefusal;
 pub use structure::{Structure, StructureRefusal};
 pub use write::write_model;
 

@@ -46,11 +46,11 @@ module _ (p : ℕ → Bool) where
       (omega (arith, parts.1),
         subst (λ k. slice_split p xs ≡ take k xs ∷ slice_split p (drop (k + 1) xs)) parts.1 (slice_split_first p xs 0 below))
 
-fronts_more : (part : List ℕ) (parts : List (List ℕ)) → 0 < length parts → fronts (part ∷ parts) ≡ part ∷ fronts parts
+pub fronts_more : (part : List ℕ) (parts : List (List ℕ)) → 0 < length parts → fronts (part ∷ parts) ≡ part ∷ fronts parts
 fronts_more part [] some = absurd (omega arith)
 fronts_more part (second ∷ parts) some = refl
 
-last_more : (part : List ℕ) (parts : List (List ℕ)) → 0 < length parts → last_part (part ∷ parts) ≡ last_part parts
+pub last_more : (part : List ℕ) (parts : List (List ℕ)) → 0 < length parts → last_part (part ∷ parts) ≡ last_part parts
 last_more part [] some = absurd (omega arith)
 last_more part (second ∷ parts) some = refl
 

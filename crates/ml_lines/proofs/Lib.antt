@@ -8,3 +8,7 @@ pub mod Lines
 pub mod Cuts
 -- which words spell numbers
 pub mod Numbers
+-- numbers are words
+pub mod WordBytes
+-- a written text has the lines that were written
+pub mod WrittenLines
