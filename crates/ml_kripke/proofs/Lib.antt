@@ -18,3 +18,7 @@ pub mod OneStructure
 pub mod OneText
 -- the lowest rule that a line breaks, place by place
 pub mod Lowest
+-- the lines of a model are good at their places
+pub mod GoodLines
+-- the first bad line, found behind good ones
+pub mod Faults

@@ -5,7 +5,7 @@
 --   no_states, bad_start, other_state, bad_labels, bad_edge  == a line that keeps the rules up to that one
 --   states_no_number, start_no_number, state_no_number       == the word behind `states`, `start`, `state` is no number
 --   told             == what is said of a rule is said of one that it is equal to
-use Rattle.std.proofs.Common.{◌≡◌, ℕ, ◌+◌, ◌^◌, ◌<◌, ◌≤◌, List, [], ◌∷◌, Option, None, Some, drop, All, IsTrue, codes, refl, sym, ap, subst, ◌∙◌, inl, inr, arith}
+use Rattle.std.proofs.Common.{◌≡◌, ℕ, ◌+◌, ◌^◌, ◌<◌, ◌≤◌, List, [], ◌∷◌, Option, None, Some, drop, All, IsTrue, codes, refl, sym, ap, subst, ◌∙◌, inl, inr, ⊎_elim, arith}
 use Rattle.std.specs.Prelude.{◌⊎◌}
 use Rattle.std.proofs.lemmas.List.Elements.{All-nil, All-cons, All-head, All-tail}
 use Rattle.ml_base.specs.declared.structure.Edge.{Edge}
@@ -160,3 +160,23 @@ bad_start left n line w k words is number_is fits past =
       are_numbers = one_number (word line 1) (k, fits, second ∙ number_is);
     } in
     lowest_start left n line spelt (λ below. absurd (omega (arith, is_k)))
+
+-- ---- lines that are missing
+
+pub missing_states : (left : List ℕ) → IsLowest left AtStates OfKind []
+missing_states left = lowest_kind left AtStates [] (λ (words, is). let apart : [] ≡ codes "states" ∷ word [] 1 ∷ [] = is in cc)
+
+pub missing_start : (left : List ℕ) (n : ℕ) → IsLowest left (AtStart n) OfKind []
+missing_start left n = lowest_kind left (AtStart n) [] (λ (words, is). let apart : [] ≡ codes "start" ∷ word [] 1 ∷ [] = is in cc)
+
+pub missing_state : (left : List ℕ) (n i : ℕ) → IsLowest left (AtState n i) OfKind []
+missing_state left n i = lowest_kind left (AtState n i) [] (λ (words, is). let apart : [] ≡ codes "state" ∷ word [] 1 ∷ [] = is in cc)
+
+pub missing_edge : (left : List ℕ) (n : ℕ) (before : Option Edge) → IsLowest left (AtEdge n before) OfKind []
+missing_edge left n before =
+    lowest_kind left (AtEdge n before) []
+    (λ (words, is).
+      ⊎_elim
+        (λ (end : [] ≡ codes "end" ∷ []). cc)
+        (λ (edge : [] ≡ codes "edge" ∷ word [] 1 ∷ word [] 2 ∷ word [] 3 ∷ []). cc)
+        is)

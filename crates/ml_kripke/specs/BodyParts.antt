@@ -19,7 +19,7 @@ use Rattle.ml_base.specs.Name.{IsName}
 use Rattle.ml_lines.specs.Lines.{Line}
 use Rattle.ml_lines.specs.Reading.{lines_of, left_of}
 use Rattle.ml_kripke.specs.BodyRules.{IsEdgeBehind}
-use Rattle.ml_kripke.specs.ModelText.{states_line, start_line, state_line, edge_line}
+use Rattle.ml_kripke.specs.ModelText.{states_line, start_line, end_line, state_line, edge_line}
 
 pub record GoesOn (text : List ℕ) (lines : List Line) (rest : List ℕ) : Type 0 where
   pub lines_are : lines_of text ≡ lines ++ lines_of rest
@@ -56,3 +56,8 @@ pub record AreRows (n : ℕ) (rows : List (List (List ℕ))) : Type 0 where
 abbrev pub AreEdges : ℕ → Option Edge → List Edge → Type 0
 AreEdges n before [] = ⊤
 AreEdges n before (e ∷ es) = IsEdgeBehind n before e × AreEdges n (Some e) es
+
+-- a line that is an edge behind another one, or `end`
+abbrev pub EdgeOrEnd : Line → ℕ → Option Edge → Option Edge → Type 0
+EdgeOrEnd line n before None = line ≡ end_line
+EdgeOrEnd line n before (Some e) = IsEdgeLine line n before e

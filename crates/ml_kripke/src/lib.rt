@@ -13,6 +13,7 @@ mod body_rule;
 pub mod laws;
 mod model;
 mod read;
+mod read_line;
 mod structure;
 mod write;
 

@@ -1,5 +1,5 @@
 // Reading a text line by line, a line word by word, and a number.
-ghost use Rattle.std.specs.Prelude.{◌≡◌, ◌==◌, ◌∷◌, ◌+◌, ◌*◌, ◌<◌, ◌≤◌, ◌^◌, ◌-◌, [], MatchOption, IsTrue, length, position};
+ghost use Rattle.std.specs.Prelude.{◌≡◌, ◌≢◌, ◌==◌, ◌∷◌, ◌+◌, ◌*◌, ◌<◌, ◌≤◌, ◌^◌, ◌-◌, [], MatchOption, IsTrue, length, position};
 ghost use Rattle.std.specs.List.{list_all};
 ghost use Rattle.std.specs.Char.{is_ascii_digit};
 ghost use Rattle.std.specs.Option.{option_copied};
@@ -32,6 +32,46 @@ pub fn split_word(line: &[u8]) -> (&[u8], Option<&[u8]>)
         Some(end) => (&line[..end], Some(&line[end + 1..])),
         None => (line, None),
     }
+}
+
+/// The first word of a line, and what stands behind its blank; `None` where the line is one word.
+pub fn more_words(line: &[u8]) -> Option<(&[u8], &[u8])>
+    ensures { MatchOption result (length (words_of line.now) ≡ 1) (λ p. words_of line.now ≡ p.0.now ∷ words_of p.1.now) }
+{
+    match split_word(line) {
+        (word, Some(rest)) => Some((word, rest)),
+        (_, None) => None,
+    }
+}
+
+/// The word of a line of one word; `None` where it has more.
+pub fn one_word(line: &[u8]) -> Option<&[u8]>
+    ensures { MatchOption result (length (words_of line.now) ≢ 1) (λ w. words_of line.now ≡ w.now ∷ []) }
+{
+    match split_word(line) {
+        (word, None) => Some(word),
+        (_, Some(_)) => None,
+    }
+}
+
+/// The words of a line of two words; `None` where it has fewer or more.
+pub fn two_words(line: &[u8]) -> Option<(&[u8], &[u8])>
+    ensures { MatchOption result (length (words_of line.now) ≢ 2) (λ p. words_of line.now ≡ p.0.now ∷ p.1.now ∷ []) }
+{
+    let (first, rest) = more_words(line)?;
+    let second = one_word(rest)?;
+    Some((first, second))
+}
+
+/// The words of a line of four words; `None` where it has fewer or more.
+pub fn four_words(line: &[u8]) -> Option<(&[u8], &[u8], &[u8], &[u8])>
+    ensures { MatchOption result (length (words_of line.now) ≢ 4)
+        (λ p. words_of line.now ≡ p.0.now ∷ p.1.now ∷ p.2.now ∷ p.3.now ∷ []) }
+{
+    let (first, rest) = more_words(line)?;
+    let (second, rest) = more_words(rest)?;
+    let (third, fourth) = two_words(rest)?;
+    Some((first, second, third, fourth))
 }
 
 fn position_of(bytes: &[u8], byte: u8) -> Option<usize>
