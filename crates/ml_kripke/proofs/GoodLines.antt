@@ -104,7 +104,7 @@ edge_back e source target =
 pub good_edge : (left : List ℕ) (n : ℕ) (before : Option Edge) (e : Edge) → n < 2 ^ 32 → IsEdgeBehind n before e
     → IsGood left (AtEdge n before) (edge_line e)
 good_edge left n before e fits behind OfKind =
-    (edge_words e (omega (arith, behind.source_below)) (omega (arith, behind.target_below)) behind.has_action, inr refl)
+    inr (edge_words e (omega (arith, behind.source_below)) (omega (arith, behind.target_below)) behind.has_action, refl)
 good_edge left n before e fits behind Numbers =
     All-cons IsNumber (number e.source) (number e.target ∷ []) (e.source, omega (arith, behind.source_below), refl)
     (one_number e.target (omega (arith, behind.target_below)))
@@ -121,7 +121,7 @@ pub after_edge : (n : ℕ) (before : Option Edge) (e : Edge) → e.source < 2 ^ 
 after_edge n before e source target = ap (λ edge. AtEdge n (Some edge)) (edge_back e source target)
 
 pub good_end : (left : List ℕ) (n : ℕ) (before : Option Edge) → IsGood left (AtEdge n before) end_line
-good_end left n before OfKind = (refl, inl refl)
+good_end left n before OfKind = inl refl
 good_end left n before Numbers = All-nil IsNumber
 good_end left n before HasStates = tt
 good_end left n before StartInRange = tt

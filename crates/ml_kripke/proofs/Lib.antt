@@ -22,3 +22,11 @@ pub mod Lowest
 pub mod GoodLines
 -- the first bad line, found behind good ones
 pub mod Faults
+-- lists in which each element is above the one before it
+pub mod Chains
+-- the labels of a state's line, word by word
+pub mod LabelWords
+-- the line of a state, and what makes it a bad one
+pub mod StateWords
+-- the line of an edge, and what makes it a bad one
+pub mod EdgeWords

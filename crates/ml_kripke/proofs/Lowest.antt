@@ -13,7 +13,7 @@ use Rattle.ml_base.specs.Name.{IsName}
 use Rattle.ml_lines.specs.Lines.{Word, Line, number}
 use Rattle.ml_lines.specs.Reading.{AreWords, IsNumber, value, word}
 use Rattle.ml_lines.proofs.Numbers.{value-number}
-use Rattle.ml_kripke.specs.BodyRules.{Place, AtStates, AtStart, AtState, AtEdge, AtNothing, Keeps, IsOfKind, IsNumbered, numbers, IsGood, IsLowest, HasLabels, HasEdge, is_end, IsEdgeBehind, edge_of, rule_number}
+use Rattle.ml_kripke.specs.BodyRules.{Place, AtStates, AtStart, AtState, AtEdge, AtNothing, Keeps, IsOfKind, IsNumbered, IsEdged, numbers, IsGood, IsLowest, HasLabels, HasEdge, is_end, IsEdgeBehind, edge_of, rule_number}
 use Rattle.ml_kripke.specs.BodyParts.{Ascend}
 use Rattle.ml_kripke.specs.declared.body_rule.BodyRule.{BodyRule}
 use Rattle.ml_kripke.specs.declared.body_rule.BodyRule.TheVariants.{OfKind, Numbers, HasStates, StartInRange, NextState, Labels, Edges}
@@ -47,11 +47,11 @@ lowest_numbers left place line kind none = record { breaks = none; keeps_lower =
     go Edges h = absurd (omega arith)
 
 -- a line of its kind, whose words are numbers where numbers stand
-record IsSpelt (left : List ℕ) (place : Place) (line : Line) : Type 0 where
-  kind : IsOfKind left place line
-  are_numbers : All IsNumber (numbers place line)
+pub record IsSpelt (left : List ℕ) (place : Place) (line : Line) : Type 0 where
+  pub kind : IsOfKind left place line
+  pub are_numbers : All IsNumber (numbers place line)
 
-lowest_states : (left : List ℕ) (line : Line) → IsSpelt left AtStates line → ¬ (0 < value (word line 1)) → IsLowest left AtStates HasStates line
+pub lowest_states : (left : List ℕ) (line : Line) → IsSpelt left AtStates line → ¬ (0 < value (word line 1)) → IsLowest left AtStates HasStates line
 lowest_states left line spelt none = record { breaks = none; keeps_lower = go }
   where
     go : (lower : BodyRule) → rule_number lower < 13 → Keeps left AtStates lower line
@@ -63,7 +63,7 @@ lowest_states left line spelt none = record { breaks = none; keeps_lower = go }
     go Labels h = tt
     go Edges h = tt
 
-lowest_start : (left : List ℕ) (n : ℕ) (line : Line) → IsSpelt left (AtStart n) line → ¬ (value (word line 1) < n)
+pub lowest_start : (left : List ℕ) (n : ℕ) (line : Line) → IsSpelt left (AtStart n) line → ¬ (value (word line 1) < n)
     → IsLowest left (AtStart n) StartInRange line
 lowest_start left n line spelt past = record { breaks = past; keeps_lower = go }
   where
@@ -76,7 +76,7 @@ lowest_start left n line spelt past = record { breaks = past; keeps_lower = go }
     go Labels h = tt
     go Edges h = tt
 
-lowest_next : (left : List ℕ) (n i : ℕ) (line : Line) → IsSpelt left (AtState n i) line → ¬ (value (word line 1) ≡ i)
+pub lowest_next : (left : List ℕ) (n i : ℕ) (line : Line) → IsSpelt left (AtState n i) line → ¬ (value (word line 1) ≡ i)
     → IsLowest left (AtState n i) NextState line
 lowest_next left n i line spelt other = record { breaks = other; keeps_lower = go }
   where
@@ -89,7 +89,7 @@ lowest_next left n i line spelt other = record { breaks = other; keeps_lower = g
     go Labels h = absurd (omega arith)
     go Edges h = tt
 
-lowest_labels : (left : List ℕ) (n i : ℕ) (line : Line) → IsSpelt left (AtState n i) line → value (word line 1) ≡ i
+pub lowest_labels : (left : List ℕ) (n i : ℕ) (line : Line) → IsSpelt left (AtState n i) line → value (word line 1) ≡ i
     → ¬ (All IsName (drop 2 line) × Ascend (drop 2 line)) → IsLowest left (AtState n i) Labels line
 lowest_labels left n i line spelt next bad = record { breaks = bad; keeps_lower = go }
   where
@@ -102,7 +102,7 @@ lowest_labels left n i line spelt next bad = record { breaks = bad; keeps_lower 
     go Labels h = absurd (omega arith)
     go Edges h = tt
 
-lowest_edges : (left : List ℕ) (n : ℕ) (before : Option Edge) (line : Line) → IsSpelt left (AtEdge n before) line
+pub lowest_edges : (left : List ℕ) (n : ℕ) (before : Option Edge) (line : Line) → IsSpelt left (AtEdge n before) line
     → ¬ (HasEdge (AtEdge n before) line) → IsLowest left (AtEdge n before) Edges line
 lowest_edges left n before line spelt bad = record { breaks = bad; keeps_lower = go }
   where
@@ -115,10 +115,10 @@ lowest_edges left n before line spelt bad = record { breaks = bad; keeps_lower =
     go Labels h = tt
     go Edges h = absurd (omega arith)
 
-one_number : (w : Word) → IsNumber w → All IsNumber (w ∷ [])
+pub one_number : (w : Word) → IsNumber w → All IsNumber (w ∷ [])
 one_number w is = All-cons IsNumber w [] is (All-nil IsNumber)
 
-not_one : (w : Word) → ¬ (IsNumber w) → ¬ (All IsNumber (w ∷ []))
+pub not_one : (w : Word) → ¬ (IsNumber w) → ¬ (All IsNumber (w ∷ []))
 not_one w none all = none (All-head IsNumber w [] all)
 
 pub states_no_number : (left : List ℕ) (line : Line) (w : Word) → AreWords line → line ≡ codes "states" ∷ w ∷ [] → ¬ (IsNumber w)
@@ -175,8 +175,8 @@ missing_state left n i = lowest_kind left (AtState n i) [] (λ (words, is). let 
 pub missing_edge : (left : List ℕ) (n : ℕ) (before : Option Edge) → IsLowest left (AtEdge n before) OfKind []
 missing_edge left n before =
     lowest_kind left (AtEdge n before) []
-    (λ (words, is).
+    (λ kind.
       ⊎_elim
         (λ (end : [] ≡ codes "end" ∷ []). cc)
-        (λ (edge : [] ≡ codes "edge" ∷ word [] 1 ∷ word [] 2 ∷ word [] 3 ∷ []). cc)
-        is)
+        (λ (edge : IsEdged []). let apart : [] ≡ codes "edge" ∷ word [] 1 ∷ word [] 2 ∷ word [] 3 ∷ [] = edge.1 in cc)
+        kind)

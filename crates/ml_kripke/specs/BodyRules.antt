@@ -63,14 +63,20 @@ after AtNothing line = AtNothing
 abbrev pub IsNumbered : Word → Line → Type 0
 IsNumbered fixed line = AreWords line × (line ≡ fixed ∷ word line 1 ∷ [])
 
+-- the line is `state`, one word, and any number of further ones
+abbrev pub IsStated : Line → Type 0
+IsStated line = AreWords line × (line ≡ codes "state" ∷ word line 1 ∷ drop 2 line)
+
+-- the line is `edge` and three words
+abbrev pub IsEdged : Line → Type 0
+IsEdged line = AreWords line × (line ≡ codes "edge" ∷ word line 1 ∷ word line 2 ∷ word line 3 ∷ [])
+
 -- the line is there, its words are separated by one blank, and the fixed words and the number of words are right
 abbrev pub IsOfKind : List ℕ → Place → Line → Type 0
 IsOfKind left AtStates line = IsNumbered (codes "states") line
 IsOfKind left (AtStart n) line = IsNumbered (codes "start") line
-IsOfKind left (AtState n i) line = AreWords line × (line ≡ codes "state" ∷ word line 1 ∷ drop 2 line)
-IsOfKind left (AtEdge n before) line =
-    AreWords line
-    × ((line ≡ codes "end" ∷ []) ⊎ (line ≡ codes "edge" ∷ word line 1 ∷ word line 2 ∷ word line 3 ∷ []))
+IsOfKind left (AtState n i) line = IsStated line
+IsOfKind left (AtEdge n before) line = (line ≡ codes "end" ∷ []) ⊎ IsEdged line
 IsOfKind left AtNothing line = (line ≡ []) × (left ≡ [])
 
 -- the words that have to be numbers
