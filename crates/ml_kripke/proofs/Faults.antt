@@ -10,7 +10,9 @@ use Rattle.std.specs.Prelude.{◌⊎◌}
 use Rattle.ml_lines.specs.Lines.{Line}
 use Rattle.ml_lines.specs.Reading.{lines_of, left_of}
 use Rattle.ml_kripke.specs.BodyRules.{Place, after, IsGood, IsLowest, IsFirstBad, IsReadable, rule_number}
-use Rattle.ml_kripke.specs.Refusals.{Breaks, TellsFault}
+use Rattle.ml_kripke.specs.Refusals.{Breaks, TellsRule, TellsFault, at_line}
+use Rattle.ml_kripke.specs.declared.read_line.LineRefusal.{LineRefusal}
+use Rattle.ml_kripke.specs.declared.read_line.LineRefusal.TheVariants as LineRefusals
 use Rattle.ml_kripke.specs.declared.read.ModelRefusal.{ModelRefusal}
 use Rattle.ml_kripke.specs.declared.read.ModelRefusal.TheVariants.{Fault, NoMemory}
 use Rattle.ml_kripke.specs.declared.body_rule.BodyRule.{BodyRule}
@@ -60,3 +62,9 @@ tells_later place next k text rest line (Fault fault) begins left good is (rule,
     let behind : IsFirstBad (left_of text) (k + 1) next (lines_of rest) fault.line rule =
       subst (λ l. IsFirstBad l (k + 1) next (lines_of rest) fault.line rule) (sym left) found in
     (rule, number, subst bad (sym begins) (bad_later (left_of text) k place next line (lines_of rest) fault.line rule good is behind))
+
+pub tells_line : (place : Place) (k : ℕ) (text : List ℕ) (line : Line) (lines : List Line) (refusal : LineRefusal)
+    → lines_of text ≡ line ∷ lines → TellsRule place line refusal → TellsFault place k text (at_line k refusal)
+tells_line place k text line lines (LineRefusals.Breaks rule) begins lowest =
+    tells_here place k text (Fault (record { line = k; rule = rule_number rule })) rule line lines begins lowest refl
+tells_line place k text line lines LineRefusals.NoMemory begins lowest = tt

@@ -30,3 +30,7 @@ pub mod LabelWords
 pub mod StateWords
 -- the line of an edge, and what makes it a bad one
 pub mod EdgeWords
+-- a body, part by part
+pub mod Parts
+-- refusals in the midst of a body
+pub mod PartFaults

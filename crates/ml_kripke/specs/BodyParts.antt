@@ -11,8 +11,9 @@
 --   Above R before x          == x is above the element before it, if there is one
 --   last_of before xs         == the last element of xs, which stand behind `before`
 --   AreRows n rows            == each of the n rows has names in ascending order
+--   IsWholeEnd text n es      == the text is the lines of the edges es and `end`, with nothing behind it
 --   AreEdges n b es           == the edges es behind b ascend, join states below n, and have actions
-use Rattle.std.specs.Prelude.{ℕ, ◌+◌, ◌<◌, ◌≤◌, ◌≡◌, ◌^◌, ⊤, List, [], ◌∷◌, ◌++◌, Option, None, Some, length, All}
+use Rattle.std.specs.Prelude.{ℕ, ◌+◌, ◌<◌, ◌≤◌, ◌≡◌, ◌^◌, ⊤, List, [], ◌∷◌, ◌++◌, Option, None, Some, length, map, All}
 use Rattle.std.specs.List.Sorted.{IsStrictlySortedBy}
 use Rattle.std.specs.Ordering.{nat_cmp}
 use Rattle.std.specs.declared.cmp.Ordering.{Ordering}
@@ -75,3 +76,9 @@ AreEdges n before (e ∷ es) = IsEdgeBehind n before e × AreEdges n (Some e) es
 abbrev pub EdgeOrEnd : Line → ℕ → Option Edge → Option Edge → Type 0
 EdgeOrEnd line n before None = line ≡ end_line
 EdgeOrEnd line n before (Some e) = IsEdgeLine line n before e
+
+-- the text is the lines of these edges and `end`, with nothing behind it
+pub record IsWholeEnd (text : List ℕ) (n : ℕ) (edges : List Edge) : Type 0 where
+  pub lines_are : lines_of text ≡ map edge_line edges ++ end_line ∷ []
+  pub left_is : left_of text ≡ []
+  pub are : AreEdges n None edges

@@ -1,14 +1,16 @@
 // Reading a model from its text.
-ghost use Rattle.std.specs.Prelude.{◌≡◌, ◌<◌, [], ◌∷◌, IfOk, IfErr};
-ghost use Rattle.ml_kripke.specs.BodyRules.{AtStates, AtStart, rule_number};
-ghost use Rattle.ml_kripke.specs.BodyParts.{GoesOn};
-ghost use Rattle.ml_kripke.specs.ModelText.{states_line, start_line};
+ghost use Rattle.std.specs.Prelude.{◌≡◌, ◌<◌, ◌+◌, ◌^◌, [], ◌∷◌, length, map, None, IfOk, IfErr};
+ghost use Rattle.ml_kripke.specs.BodyRules.{AtStates, AtStart, AtEdge, AtNothing, at_state, rule_number};
+ghost use Rattle.ml_kripke.specs.BodyParts.{GoesOn, AreRows, IsWholeEnd};
+ghost use Rattle.ml_kripke.specs.ModelText.{states_line, start_line, state_lines};
+ghost use Rattle.ml_kripke.specs.Refusals as refusals;
 ghost use Rattle.ml_kripke.specs.Refusals.{TellsFault};
 
 use crate::body_rule::BodyRule;
-use crate::read_line::{start_of, states_of};
-use ml_base::DocFault;
+use crate::read_line::{LineRefusal, edge_of, labels_of, start_of, states_of};
+use ml_base::{DocFault, Edge, Name};
 use ml_lines::split_line;
+use std::alloc::{AllocFailed, Global};
 use thiserror::Error;
 
 /// Why a text is no model's.
@@ -19,6 +21,16 @@ pub enum ModelRefusal {
     Fault(DocFault),
     #[error("out of memory")]
     NoMemory,
+}
+
+impl<T: Drop> From<AllocFailed<T>> for ModelRefusal {
+    ghost use Rattle.ml_kripke.specs.declared.read.ModelRefusal.TheVariants as refusal;
+
+    ghost from_gives = { λ _ e. e ≡ refusal.NoMemory };
+
+    fn from(_: AllocFailed<T>) -> ModelRefusal {
+        ModelRefusal::NoMemory
+    }
 }
 
 fn fault(line: u64, rule: BodyRule) -> ModelRefusal
@@ -53,5 +65,81 @@ fn read_start(text: &[u8], line: u64, states: u32) -> Result<(u32, &[u8]), Model
             Err(rule) => Err(fault(line, rule)),
         },
         None => Err(fault(line, BodyRule::OfKind)),
+    }
+}
+
+// the labels of all states, a row for each
+fn read_rows(
+    alloc: Global,
+    text: &[u8],
+    line: u64,
+    states: u32,
+) -> Result<(Vec<Vec<Name>>, &[u8]), ModelRefusal>
+    requires { line + length text.now < 2 ^ 64 }
+    ensures read { IfOk result (λ r. let rows = map (λ row. row.items) r.0.items in
+        GoesOn text.now (state_lines 0 rows) r.1.now × AreRows states rows) }
+    ensures refused { IfErr result (TellsFault (at_state states 0) line text.now) }
+{
+    let mut rows = Vec::new(alloc);
+    let mut rest = text;
+    for state in 0..states {
+        let at = line + u64::from(state);
+        match split_line(rest) {
+            Some((words, behind)) => {
+                match labels_of(alloc, words, state) {
+                    Ok(labels) => rows.push(labels)?,
+                    Err(refusal) => return Err(at_line(at, refusal)),
+                }
+                rest = behind;
+            }
+            None => return Err(fault(at, BodyRule::OfKind)),
+        }
+    }
+    Ok((rows, rest))
+}
+
+// the edges, up to the line `end` and the end of the text
+fn read_edges(alloc: Global, text: &[u8], line: u64, states: u32) -> Result<Vec<Edge>, ModelRefusal>
+    requires { line + length text.now < 2 ^ 64 }
+    ensures read { IfOk result (λ edges. IsWholeEnd text.now states edges.items) }
+    ensures refused { IfErr result (TellsFault (AtEdge states None) line text.now) }
+{
+    let mut edges: Vec<Edge> = Vec::new(alloc);
+    let mut rest = text;
+    loop {
+        let at = line + edges.len() as u64;
+        match split_line(rest) {
+            Some((words, behind)) => {
+                match edge_of(alloc, words, states, edges.last()) {
+                    Ok(Some(edge)) => edges.push(edge)?,
+                    Ok(None) => return ended(edges, behind, at),
+                    Err(refusal) => return Err(at_line(at, refusal)),
+                }
+                rest = behind;
+            }
+            None => return Err(fault(at, BodyRule::OfKind)),
+        }
+    }
+}
+
+// the edges, where nothing follows the line `end`, which has this number
+fn ended(edges: Vec<Edge>, rest: &[u8], line: u64) -> Result<Vec<Edge>, ModelRefusal>
+    requires { line + 1 < 2 ^ 64 }
+    ensures read { IfOk result (λ es. (es.items ≡ edges.items) × (rest.now ≡ [])) }
+    ensures refused { IfErr result (TellsFault AtNothing (line + 1) rest.now) }
+{
+    if rest.is_empty() {
+        Ok(edges)
+    } else {
+        Err(fault(line + 1, BodyRule::OfKind))
+    }
+}
+
+fn at_line(line: u64, refusal: LineRefusal) -> ModelRefusal
+    ensures { result ≡ refusals.at_line line refusal }
+{
+    match refusal {
+        LineRefusal::Breaks(rule) => fault(line, rule),
+        LineRefusal::NoMemory => ModelRefusal::NoMemory,
     }
 }
