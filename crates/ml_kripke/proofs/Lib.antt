@@ -34,3 +34,5 @@ pub mod EdgeWords
 pub mod Parts
 -- refusals in the midst of a body
 pub mod PartFaults
+-- the end of a body
+pub mod Ends

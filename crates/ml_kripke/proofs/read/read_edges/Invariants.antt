@@ -2,8 +2,8 @@ use Rattle.std.proofs.Common.{length}
 use Rattle.ml_kripke.proofs.Parts.{AreEdgesTo}
 use Rattle.ml_kripke.proofs.read.read_edges.Given as goal
 
-abbrev pub invariant-loop-rest : goal.invariant-loop-rest
-invariant-loop-rest l = AreEdgesTo l.states l.fn.text l.edges.items l.rest
+abbrev pub invariant-loop-words : goal.invariant-loop-words
+invariant-loop-words l = AreEdgesTo l.states l.fn.text l.edges.items l.rest
 
-abbrev pub decreases-loop-rest : goal.decreases-loop-rest
-decreases-loop-rest l = length l.rest
+abbrev pub decreases-loop-words : goal.decreases-loop-words
+decreases-loop-words l = length l.rest
