@@ -36,3 +36,5 @@ pub mod Parts
 pub mod PartFaults
 -- the end of a body
 pub mod Ends
+-- a whole body
+pub mod Whole

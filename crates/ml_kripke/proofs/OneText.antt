@@ -151,7 +151,7 @@ edges_plain n fits (e ∷ es) below named =
       edges_plain n fits es (All-tail (EndsBelow n) e es below) (All-tail HasAction e es named),
     )
 
-model_plain : (m : Structure) (s : ℕ) → IsWritten m s → ArePlain (model_lines m s)
+pub model_plain : (m : Structure) (s : ℕ) → IsWritten m s → ArePlain (model_lines m s)
 model_plain m s ok =
     let fits : m.states < 2 ^ 64 = omega (arith, ok.fits) in
     let start : s < 2 ^ 64 = omega (arith, ok.fits, ok.is_state) in
