@@ -5,7 +5,7 @@
 --   parts_structure, parts_ordered, parts_named  == the parts that were read make an ordered structure with names
 --   whole_text                          == the text is that of the parts
 --   text_readable, fault_no_model       == the text of a model has no bad line; so where there is one, it is no model's
-use Rattle.std.proofs.Common.{◌≡◌, ℕ, zero, suc, ◌+◌, ◌^◌, ◌<◌, ◌≤◌, List, [], ◌∷◌, ◌++◌, length, map, Option, None, Some, MatchOption, All, refl, sym, ap, subst, ◌∙◌, append_assoc, arith}
+use Rattle.std.proofs.Common.{◌≡◌, ℕ, zero, suc, ◌+◌, ◌^◌, ◌<◌, ◌≤◌, List, [], ◌∷◌, ◌++◌, length, map, Option, None, Some, MatchOption, Result, Err, IfErr, All, refl, sym, ap, subst, ◌∙◌, append_assoc, arith}
 use Rattle.std.proofs.lemmas.List.{append-nil}
 use Rattle.std.proofs.lemmas.List.Elements.{All-nil, All-cons, All-head, All-tail}
 use Rattle.ml_base.specs.declared.structure.Edge.{Edge}
@@ -20,7 +20,7 @@ use Rattle.ml_base.specs.declared.doc_fault.DocFault.{DocFault}
 use Rattle.std.specs.declared.cmp.Ordering.TheVariants.{Less}
 use Rattle.ml_kripke.specs.Laws.{IsWritten, IsModelText}
 use Rattle.ml_kripke.specs.ModelText.{states_line, start_line, state_line, state_lines, edge_line, end_line, model_lines, model_text}
-use Rattle.ml_kripke.specs.Ordered.{IsOrdered, HasNames, edge_cmp}
+use Rattle.ml_kripke.specs.Ordered.{of_parts, IsOrdered, HasNames, edge_cmp}
 use Rattle.ml_kripke.specs.Refusals.{TellsFault}
 use Rattle.ml_kripke.specs.declared.read.ModelRefusal.{ModelRefusal}
 use Rattle.ml_kripke.specs.declared.read.ModelRefusal.TheVariants.{Fault}
@@ -52,9 +52,6 @@ from_rows n k text rest rows told goes are fits tells =
     (subst (λ place. TellsFault place (k + n) rest told) (sym (at_state_done n n (omega arith))) tells)
 
 -- ---- the parts
-
-abbrev pub of_parts : ℕ → List (List Word) → List Edge → Structure
-of_parts n rows edges = record { states = n; labels = rows; edges = edges }
 
 edges_below : (n : ℕ) (before : Option Edge) (edges : List Edge) → AreEdges n before edges → All (λ e. (e.source < n) × (e.target < n)) edges
 edges_below n before [] are = All-nil (λ (e : Edge). (e.source < n) × (e.target < n))
@@ -160,9 +157,17 @@ text_readable m s ok order =
     subst (λ left. IsReadable left AtStates (lines_of (model_text m s))) (sym read.1)
     (subst (IsReadable [] AtStates) (sym read.0) (lines_readable m s ok order))
 
-pub fault_no_model : (first : ℕ) (text : List ℕ) (told : ModelRefusal) (fault : DocFault) → TellsFault AtStates first text told
-    → told ≡ Fault fault → ¬ (IsModelText text)
-fault_no_model first text told fault tells is (m, s, ok, order, same) =
-    let found = subst (TellsFault AtStates first text) is tells in
+pub fault_no_model : {T : Type 0} (first : ℕ) (text : List ℕ) (result : Result T ModelRefusal) (fault : DocFault)
+    → IfErr result (TellsFault AtStates first text) → result ≡ Err (Fault fault) → ¬ (IsModelText text)
+fault_no_model first text result fault tells is (m, s, ok, order, same) =
+    let found = subst (λ r. IfErr r (TellsFault AtStates first text)) is tells in
     good_no_bad (left_of text) first AtStates (lines_of text) fault.line found.0
     (subst (λ t. IsReadable (left_of t) AtStates (lines_of t)) (sym same) (text_readable m s ok order)) found.2
+
+pub from_body : (n s k : ℕ) (text first second : List ℕ) (told : ModelRefusal) → GoesOn text (states_line n ∷ []) first
+    → GoesOn first (start_line s ∷ []) second → 0 < n → n < 2 ^ 32 → s < n → TellsFault (at_state n 0) (k + 2) second told
+    → TellsFault AtStates k text told
+from_body n s k text first second told goes goes' some fits below tells =
+    let same : k + 2 ≡ k + 1 + 1 = omega arith in
+    from_states n k text first told goes some fits
+    (from_start n s (k + 1) first second told goes' below fits (subst (λ j. TellsFault (at_state n 0) j second told) same tells))

@@ -19,7 +19,7 @@ mod write;
 
 pub use body_rule::BodyRule;
 pub use model::Model;
-pub use read::ModelRefusal;
+pub use read::{ModelRefusal, read_model};
 pub use structure::{Structure, StructureRefusal};
 pub use write::write_model;
 

@@ -1,13 +1,18 @@
 // Reading a model from its text.
-ghost use Rattle.std.specs.Prelude.{◌≡◌, ◌<◌, ◌+◌, ◌^◌, [], ◌∷◌, length, map, None, IfOk, IfErr};
-ghost use Rattle.ml_kripke.specs.BodyRules.{AtStates, AtStart, AtEdge, AtNothing, at_state, rule_number};
+ghost use Rattle.std.specs.Prelude.{◌≡◌, ◌<◌, ◌≤◌, ◌+◌, ◌^◌, [], ◌∷◌, length, map, None, IfOk, IfErr, IsErrOf};
+ghost use Rattle.ml_kripke.specs.BodyRules.{AtStates, AtStart, AtEdge, AtNothing, at_state, rule_number, IsFaultOf};
 ghost use Rattle.ml_kripke.specs.BodyParts.{GoesOn, AreRows, IsWholeEnd};
-ghost use Rattle.ml_kripke.specs.ModelText.{states_line, start_line, state_lines};
+ghost use Rattle.ml_kripke.specs.ModelText.{states_line, start_line, state_lines, model_text};
+ghost use Rattle.ml_base.specs.declared.doc_fault.DocFault.{DocFault};
+ghost use Rattle.ml_kripke.specs.Laws.{IsModelText};
+ghost use Rattle.ml_kripke.specs.Ordered.{HasNames};
 ghost use Rattle.ml_kripke.specs.Refusals as refusals;
 ghost use Rattle.ml_kripke.specs.Refusals.{TellsFault};
 
 use crate::body_rule::BodyRule;
+use crate::model::Model;
 use crate::read_line::{LineRefusal, edge_of, labels_of, start_of, states_of};
+use crate::structure::Structure;
 use ml_base::{DocFault, Edge, Name};
 use ml_lines::split_line;
 use std::alloc::{AllocFailed, Global};
@@ -21,6 +26,42 @@ pub enum ModelRefusal {
     Fault(DocFault),
     #[error("out of memory")]
     NoMemory,
+}
+
+/// The model whose text this is: the body of a satisfiable document, whose first line has this number.
+///
+/// # Errors
+/// `Fault` exactly where the bytes are the text of no model, with the first bad line and the lowest rule that is broken
+/// there: 11 where a line is missing or not of the kind that stands there, or something follows `end`; 12 where a
+/// number isn't one; 13 without a state; 14 where the start is no state; 15 where a state's line hasn't the next
+/// number; 16 where labels aren't names in ascending order; 17 where an edge doesn't join states by an action, or isn't
+/// above the one before it. `NoMemory`.
+///
+/// Cost: linear in the bytes. It takes memory for what it has read, not for what a number announces.
+pub fn read_model(alloc: Global, bytes: &[u8], first_line: u64) -> Result<Model, ModelRefusal>
+    requires { first_line ≤ 2 ^ 63 }
+    ensures text { IfOk result (λ m. bytes.now ≡ model_text m.structure m.start) }
+    ensures names { IfOk result (λ m. HasNames m.structure) }
+    ensures refused { (fault : DocFault) → IsErrOf result (ModelRefusal.Fault fault) → IsFaultOf bytes.now first_line fault }
+    ensures no_model { (fault : DocFault) → IsErrOf result (ModelRefusal.Fault fault) → ¬ (IsModelText bytes.now) }
+{
+    read_body(alloc, bytes, first_line)
+}
+
+fn read_body(alloc: Global, bytes: &[u8], line: u64) -> Result<Model, ModelRefusal>
+    requires { line ≤ 2 ^ 63 }
+    ensures text { IfOk result (λ m. bytes.now ≡ model_text m.structure m.start) }
+    ensures names { IfOk result (λ m. HasNames m.structure) }
+    ensures refused { IfErr result (TellsFault AtStates line bytes.now) }
+{
+    let (states, starts) = read_states(bytes, line)?;
+    let (start, behind) = read_start(starts, line + 1, states)?;
+    let (labels, rest) = read_rows(alloc, behind, line + 2, states)?;
+    let edges = read_edges(alloc, rest, line + 2 + u64::from(states), states)?;
+    Ok(Model::new(
+        Structure::of_parts(states, labels, edges),
+        start,
+    ))
 }
 
 impl<T: Drop> From<AllocFailed<T>> for ModelRefusal {
@@ -43,7 +84,7 @@ fn fault(line: u64, rule: BodyRule) -> ModelRefusal
 }
 
 fn read_states(text: &[u8], line: u64) -> Result<(u32, &[u8]), ModelRefusal>
-    ensures read { IfOk result (λ r. GoesOn text.now (states_line r.0 ∷ []) r.1.now × (0 < r.0)) }
+    ensures read { IfOk result (λ r. GoesOn text.now (states_line r.0 ∷ []) r.1.now × (0 < r.0) × (r.0 < 2 ^ 32)) }
     ensures refused { IfErr result (TellsFault AtStates line text.now) }
 {
     match split_line(text) {
