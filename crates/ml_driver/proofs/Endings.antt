@@ -41,26 +41,28 @@ answered_ended c w Unconfirmed answered = answered
 pub ended_written : (c : Option Command) (w : World) (text : List ℕ) (due : Status) (output : List ℕ) (status : Status) → WasRead c w text → w.source_faults_after ≡ w.source_faults_before → IsDue c text due output → Wrote w.taken_before w.taken_after w.sink_faults_before w.sink_faults_after due output status → Ended c w status
 ended_written c w text due output status read calm is_due wrote =
     ⊎_elim
-        (λ (whole : (status ≡ due) × (w.taken_after ≡ append_known w.taken_before output) × (w.sink_faults_after ≡ w.sink_faults_before)).
-            subst (Ended c w) (sym whole.0) (answered_ended c w due (record {
-              text = text;
-              output = output;
-              was_read = read;
-              is_due = is_due;
-              was_taken = whole.1;
-              is_calm = record { source_is_calm = calm; sink_is_calm = whole.2 } })))
-        (λ (part : (status ≡ WriteFault) × AppendsPart w.taken_before w.taken_after output × Rose w.sink_faults_before w.sink_faults_after).
-            let failed : FailedToWrite c w = record {
-              text = text;
-              status = due;
-              output = output;
-              was_read = read;
-              is_due = is_due;
-              part_taken = part.1;
-              source_is_calm = calm;
-              sink_rose = part.2 }
-            in subst (Ended c w) (sym part.0) failed)
-        wrote
+    (λ (whole : (status ≡ due) × (w.taken_after ≡ append_known w.taken_before output) × (w.sink_faults_after ≡ w.sink_faults_before)).
+    subst (Ended c w) (sym whole.0) (answered_ended c w due (record {
+      text = text;
+      output = output;
+      was_read = read;
+      is_due = is_due;
+      was_taken = whole.1;
+      is_calm = record { source_is_calm = calm; sink_is_calm = whole.2 };
+    })))
+    (λ (part : (status ≡ WriteFault) × AppendsPart w.taken_before w.taken_after output × Rose w.sink_faults_before w.sink_faults_after).
+    let failed : FailedToWrite c w = record {
+      text = text;
+      status = due;
+      output = output;
+      was_read = read;
+      is_due = is_due;
+      part_taken = part.1;
+      source_is_calm = calm;
+      sink_rose = part.2;
+    }
+    in subst (Ended c w) (sym part.0) failed)
+    wrote
 
 pub too_long : (text : List ℕ) → longest_text < length text → (f : Formula) → StandsFor text f → ⊥
 too_long text long f stands = absurd (omega (arith, stands.is_short))

@@ -19,7 +19,7 @@ head_written f o0 o1 o2 o3 o4 o5 text first second third fourth fifth same =
     let logic : Line = pair (codes "logic") (codes "mu") in
     let answer : Line = pair (codes "answer") (codes "satisfiable") in
     text_of-more o0 o1 o5 (pair (codes "mlsolver") (number 1)) (answer ∷ logic ∷ sense ∷ last ∷ []) first
-        (text_of-more o1 o2 o5 answer (logic ∷ sense ∷ last ∷ []) second
-            (text_of-more o2 o3 o5 logic (sense ∷ last ∷ []) third
-                (text_of-more o3 o4 o5 sense (last ∷ []) fourth
-                    (text_of-last o4 o5 last (fifth ∙ ap (λ t. o4 ++ line_text (pair (codes "formula") t)) same)))))
+    (text_of-more o1 o2 o5 answer (logic ∷ sense ∷ last ∷ []) second
+    (text_of-more o2 o3 o5 logic (sense ∷ last ∷ []) third
+    (text_of-more o3 o4 o5 sense (last ∷ []) fourth
+    (text_of-last o4 o5 last (fifth ∙ ap (λ t. o4 ++ line_text (pair (codes "formula") t)) same)))))

@@ -21,7 +21,7 @@ all_in_range (p ∷ ps) = all_in_range ps
 pub none_refused : (labels : List (ℕ × List ℕ)) (edges : List Edge) (ps : List (List ℕ)) (state : ℕ) → labels ≡ at_zero ps → edges ≡ [] → first_bad_state 1 labels edges ≡ Some state → ⊥
 none_refused labels edges ps state same no_edges refused =
     let none : first_bad_state 1 labels edges ≡ None =
-        ap (λ ls. first_bad_state 1 ls edges) same ∙ ap (first_bad_state 1 (at_zero ps)) no_edges ∙ all_in_range ps
+    ap (λ ls. first_bad_state 1 ls edges) same ∙ ap (first_bad_state 1 (at_zero ps)) no_edges ∙ all_in_range ps
     in cc
 
 pub built_of : (labels : List (ℕ × List ℕ)) (edges : List Edge) (ps : List (List ℕ)) (m : Structure) → labels ≡ at_zero ps → edges ≡ [] → IsBuiltFrom 1 labels edges m → IsBuiltFrom 1 (at_zero ps) [] m

@@ -30,18 +30,21 @@ at_zero_iff ps p = (from_labels, to_labels)
         (here.0, inside, ap (λ (l : ℕ × List ℕ). l.1) (sym at ∙ here.2))
 
     to_labels : Contains ps p → Contains (at_zero ps) (0, p)
-    to_labels here =
-        (here.0, omega (arith, here.1, labels_length ps),
-        get_or-map (λ (q : List ℕ). (0, q)) ps here.0 p (0, p) here.1 ∙ ap (λ q. (0, q)) here.2)
+    to_labels here = (
+      here.0,
+      omega (arith, here.1, labels_length ps),
+      get_or-map (λ (q : List ℕ). (0, q)) ps here.0 p (0, p) here.1 ∙ ap (λ q. (0, q)) here.2,
+    )
 
 lists_positives : (f : Formula) (m : Structure) → IsBuiltFrom 1 (at_zero (positive_propositions f)) [] m → ListsPositives m f
 lists_positives f m built = record {
   one_state = built.has_states;
   lists_positives = λ p.
-    let listed : (lists m 0 p ≡ true) ↔ Contains (slice_index_or m.labels 0 []) p = lists_iff m 0 p in
-    let labelled : Contains (slice_index_or m.labels 0 []) p ↔ Contains (at_zero (positive_propositions f)) (0, p) = built.has_labels 0 p in
-    let among : Contains (at_zero (positive_propositions f)) (0, p) ↔ Contains (positive_propositions f) p = at_zero_iff (positive_propositions f) p in
-    (λ h. among.0 (labelled.0 (listed.0 h)), λ h. listed.1 (labelled.1 (among.1 h))) }
+      let listed : (lists m 0 p ≡ true) ↔ Contains (slice_index_or m.labels 0 []) p = lists_iff m 0 p in
+      let labelled : Contains (slice_index_or m.labels 0 []) p ↔ Contains (at_zero (positive_propositions f)) (0, p) = built.has_labels 0 p in
+      let among : Contains (at_zero (positive_propositions f)) (0, p) ↔ Contains (positive_propositions f) p = at_zero_iff (positive_propositions f) p in
+      (λ h. among.0 (labelled.0 (listed.0 h)), λ h. listed.1 (labelled.1 (among.1 h)));
+}
 
 pub satisfied : (text : List ℕ) (f : Formula) (m : Structure) → StandsFor text f → IsBuiltFrom 1 (at_zero (positive_propositions f)) [] m → IsStructure m → IsOrdered m → IsSatisfied text (satisfiable_document (plain f) m 0)
 satisfied text f m stands built is ordered = record {
@@ -54,10 +57,11 @@ satisfied text f m stands built is ordered = record {
   has_one_state = built.has_states;
   is_state = is.has_state;
   holds = first_holds text f stands m (lists_positives f m built);
-  is_written = refl }
+  is_written = refl;
+}
 
 -- the same, where the structure and its start are those of a model that was made of them
 pub satisfied_by_model : (text : List ℕ) (f : Formula) (m made : Structure) (start : ℕ) → StandsFor text f → IsBuiltFrom 1 (at_zero (positive_propositions f)) [] m → IsStructure m → IsOrdered m → made ≡ m → start ≡ 0 → IsSatisfied text (satisfiable_document (plain f) made start)
 satisfied_by_model text f m made start stands built is ordered same at_start =
     subst (λ k. IsSatisfied text (satisfiable_document (plain f) k start)) (sym same)
-        (subst (λ s. IsSatisfied text (satisfiable_document (plain f) m s)) (sym at_start) (satisfied text f m stands built is ordered))
+    (subst (λ s. IsSatisfied text (satisfiable_document (plain f) m s)) (sym at_start) (satisfied text f m stands built is ordered))

@@ -61,11 +61,7 @@ fn satisfiable_document(
 }
 
 // the head of a satisfiable document
-fn write_head(
-    alloc: Global,
-    output: &mut Vec<u8>,
-    formula: &Formula,
-) -> Result<(), NoMemory>
+fn write_head(alloc: Global, output: &mut Vec<u8>, formula: &Formula) -> Result<(), NoMemory>
     ensures { OnOk result (output.new.items ≡
         output.old.items ++ text_of (head.head_lines head.Satisfiable (plain formula.now))) }
 {

@@ -31,13 +31,16 @@ pub fn run<S: Source, K: Sink>(
     source: &mut S,
     sink: &mut K,
 ) -> Status
-    ensures {
-        Ended (command_line.command_of (map string_bytes words.now)) (record {
-            left_before = S.remaining source.old; left_after = S.remaining source.new;
-            source_faults_before = S.faults source.old; source_faults_after = S.faults source.new;
-            taken_before = K.taken sink.old; taken_after = K.taken sink.new;
-            sink_faults_before = K.faults sink.old; sink_faults_after = K.faults sink.new }) result
-    }
+    ensures { Ended (command_line.command_of (map string_bytes words.now)) (record {
+      left_before = S.remaining source.old;
+      left_after = S.remaining source.new;
+      source_faults_before = S.faults source.old;
+      source_faults_after = S.faults source.new;
+      taken_before = K.taken sink.old;
+      taken_after = K.taken sink.new;
+      sink_faults_before = K.faults sink.old;
+      sink_faults_after = K.faults sink.new;
+    }) result }
 {
     let Some(Command::DecideMu) = command_of(words) else {
         return written(sink, Status::Words, b"refused words\n");

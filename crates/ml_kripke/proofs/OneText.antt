@@ -7,10 +7,10 @@
 --   model_plain                             == the lines of a model are plain
 --   lines_unique                            == the lines of two models are equal only where the models are
 --   one_text                                == so are the texts
-use Rattle.std.proofs.Common.{◌≡◌, ◌==◌, ℕ, suc, ◌+◌, ◌-◌, ◌*◌, ◌/◌, ◌%◌, ◌^◌, ◌<◌, ◌≤◌, Bool, true, false, ◌||◌, ◌&&◌, nat_le, List, [], ◌∷◌, ◌++◌, length, map, get_or, take, drop, All, codes, refl, sym, ap, subst, ◌∙◌, append_assoc, length-append, arith}
+use Rattle.std.proofs.Common.{◌≡◌, ◌==◌, ℕ, ◌+◌, ◌%◌, ◌^◌, ◌<◌, Bool, true, false, ◌||◌, ◌&&◌, nat_le, List, [], ◌∷◌, ◌++◌, length, map, get_or, take, drop, All, codes, refl, sym, ap, subst, ◌∙◌, arith}
 use Rattle.std.specs.Char.{is_ascii_alphabetic, is_ascii_alphanumeric}
 use Rattle.std.specs.Int.{is_in_range}
-use Rattle.std.specs.List.{list_all, list_any, enumerate_from}
+use Rattle.std.specs.List.{list_all, enumerate_from}
 use Rattle.std.proofs.lemmas.Bool.{true≢false}
 use Rattle.std.proofs.lemmas.Bool.Decides.{nat_tests}
 use Rattle.std.proofs.lemmas.Fmt.{decimal_by_steps, decimal_injective}
@@ -19,13 +19,12 @@ use Rattle.std.proofs.lemmas.List.Elements.{All-head, All-tail}
 use Rattle.std.proofs.lemmas.List.Folds.{list_any-append}
 use Rattle.std.proofs.lemmas.List.FromFn.{length-enumerate_from}
 use Rattle.ml_base.specs.declared.structure.Edge.{Edge}
-use Rattle.ml_base.specs.Name.{is_name, is_name_byte, is_blank_action, is_action, IsName, IsAction, longest_name}
-use Rattle.ml_base.specs.Structure.{Structure, IsStructure}
-use Rattle.ml_lines.specs.Lines.{Line, number, text_of}
-use Rattle.ml_lines.proofs.Lines.{has, avoids, IsPlain, ArePlain, text_unique}
+use Rattle.ml_base.specs.Name.{is_name, is_name_byte, is_blank_action, IsName, IsAction, longest_name}
+use Rattle.ml_base.specs.Structure.{Structure}
+use Rattle.ml_lines.specs.Lines.{Line, number}
+use Rattle.ml_lines.proofs.Unique.{has, avoids, IsPlain, ArePlain, text_unique}
 use Rattle.ml_kripke.specs.Laws.{OneText, IsWritten}
-use Rattle.ml_kripke.specs.ModelText.{state_line, edge_line, model_lines, model_text}
-use Rattle.ml_kripke.specs.Ordered.{HasNames}
+use Rattle.ml_kripke.specs.ModelText.{state_line, edge_line, model_lines}
 
 -- neither a blank nor an LF
 abbrev Plain : List ℕ → Type 0

@@ -2,7 +2,8 @@
 //
 // A `Structure` keeps its lists in order and free of repeats, so that equal structures are one value and have one
 // text. Begin with `Structure::build`, which takes labels and edges in any order; `Model` is a structure with a state
-// to start from, and `write_model` gives its text, the body of a satisfiable document.
+// to start from, and `write_model` gives its text, the body of a satisfiable document. `laws` says that what a
+// structure has determines it, and that a text belongs to one model.
 //
 // Below stand `ml_base`, whose definition of a structure the meanings of all logics cite, and `ml_lines`; above stand
 // the crates that check, extract and read structures.

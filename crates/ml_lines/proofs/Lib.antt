@@ -2,8 +2,10 @@
 pub mod Digits
 -- a line, word by word
 pub mod Words
--- a text has one list of lines
+-- lines written one behind the other
 pub mod Lines
+-- a text has one list of lines
+pub mod Unique
 -- where a list of bytes is cut
 pub mod Cuts
 -- which words spell numbers

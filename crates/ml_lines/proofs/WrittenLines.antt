@@ -11,7 +11,7 @@ use Rattle.std.proofs.lemmas.List.Splits.{slice_split_none, slice_split_at, join
 use Rattle.ml_lines.specs.Lines.{Word, Line, next, line_text, text_of}
 use Rattle.ml_lines.specs.Reading.{words_of, lines_of, left_of, fronts, last_part, is_blank, is_line_end}
 use Rattle.ml_lines.proofs.Cuts.{some_part, fronts_more, last_more}
-use Rattle.ml_lines.proofs.Lines.{has, avoids, IsPlain, ArePlain, body, no_end_in, text-cons}
+use Rattle.ml_lines.proofs.Unique.{has, avoids, IsPlain, ArePlain, body, no_end_in, text-cons}
 
 none_here : (a b : Bool) → (a || b) ≡ false → (a ≡ false) × (b ≡ false)
 none_here true b e = cc

@@ -74,7 +74,8 @@ later_positive l ls p h = record {
   found = h.found;
   stands = contains_later l ls h.found h.stands;
   is_positive = h.is_positive;
-  has_name = h.has_name }
+  has_name = h.has_name;
+}
 
 positives_from : (ls : List Literal) (p : List ℕ) → Contains (positives ls) p → IsPositiveAmong ls p
 unfolding positives
@@ -84,8 +85,8 @@ positives_from (l ∷ ls) p found = by_sign l.is_positive refl found (positives_
     by_sign : (b : Bool) → l.is_positive ≡ b → Contains (if b then l.name ∷ positives ls else positives ls) p → (Contains (positives ls) p → IsPositiveAmong ls p) → IsPositiveAmong (l ∷ ls) p
     by_sign true sign stands later =
         ⊎_elim (λ (e : l.name ≡ p). record { found = l; stands = (0, omega arith, refl); is_positive = sign; has_name = e })
-            (λ (h : Contains (positives ls) p). later_positive l ls p (later h))
-            (contains_cases l.name (positives ls) p stands)
+        (λ (h : Contains (positives ls) p). later_positive l ls p (later h))
+        (contains_cases l.name (positives ls) p stands)
     by_sign false sign stands later = later_positive l ls p (later stands)
 
 positives_contain : (ls : List Literal) (l : Literal) → Contains ls l → l.is_positive ≡ true → Contains (positives ls) l.name
@@ -101,7 +102,7 @@ positives_contain (k ∷ ls) l found sign =
     here : k ≡ l → Contains (if k.is_positive then k.name ∷ positives ls else positives ls) l.name
     here e =
         subst (λ b. Contains (if b then k.name ∷ positives ls else positives ls) l.name) (sym (ap (λ (m : Literal). m.is_positive) e ∙ sign))
-            (0, omega arith, ap (λ (m : Literal). m.name) e)
+        (0, omega arith, ap (λ (m : Literal). m.name) e)
 
 -- ---- a structure whose labels are the positive propositions
 
@@ -114,9 +115,9 @@ pub record ListsPositives (m : Structure) (f : Formula) : Type 0 where
 same_place : (ls : List Literal) → Differ (names ls) → (i j : ℕ) (d : Literal) → i < length ls → j < length ls → (slice_index_or ls i d).name ≡ (slice_index_or ls j d).name → i ≡ j
 same_place ls differ i j d hi hj e =
     ⊎_elim (λ (same : i ≡ j). same)
-        (⊎_elim (λ (before : i < j). absurd (differ i j d.name before (omega (arith, hj, length_names ls)) (at i hi ∙ e ∙ sym (at j hj))))
-            (λ (behind : j < i). absurd (differ j i d.name behind (omega (arith, hi, length_names ls)) (at j hj ∙ sym e ∙ sym (at i hi)))))
-        (cases_order i j)
+    (⊎_elim (λ (before : i < j). absurd (differ i j d.name before (omega (arith, hj, length_names ls)) (at i hi ∙ e ∙ sym (at j hj))))
+    (λ (behind : j < i). absurd (differ j i d.name behind (omega (arith, hi, length_names ls)) (at j hj ∙ sym e ∙ sym (at i hi)))))
+    (cases_order i j)
   where
     at : (k : ℕ) → k < length ls → slice_index_or (names ls) k d.name ≡ (slice_index_or ls k d).name
     at k h = get_or-map (λ (l : Literal). l.name) ls k d d.name h
@@ -131,7 +132,7 @@ agrees m ls differ labels l stands = by_sign l.is_positive refl
         let other : IsPositiveAmong ls l.name = positives_from ls l.name ((labels l.name).0 listed) in
         let e : slice_index_or ls other.stands.0 l ≡ other.found = other_is other in
         let place : stands.0 ≡ other.stands.0 =
-            same_place ls differ stands.0 other.stands.0 l stands.1 other.stands.1 (ap (λ (k : Literal). k.name) stands.2 ∙ sym other.has_name ∙ sym (ap (λ (k : Literal). k.name) e)) in
+        same_place ls differ stands.0 other.stands.0 l stands.1 other.stands.1 (ap (λ (k : Literal). k.name) stands.2 ∙ sym other.has_name ∙ sym (ap (λ (k : Literal). k.name) e)) in
         let same : l ≡ other.found = sym stands.2 ∙ ap (λ k. slice_index_or ls k l) place ∙ e in
         false≢true (sym sign ∙ ap (λ (k : Literal). k.is_positive) same ∙ other.is_positive)
       where
@@ -162,11 +163,11 @@ literals_hold m is _ _ _ (one ts f rest h) agree = literal_holds m is ts f rest 
 literals_hold m is _ _ _ (more ts f us g rest h k) agree =
     at_one m is (λ s. is_member (meaning m [] f) s && is_member (meaning m [] g) s)
     ∙ and_from (is_member (meaning m [] f) 0) (is_member (meaning m [] g) 0)
-        (literals_hold m is ts f ((token.Operator operator.And, codes "&") ∷ us) h (λ l stands. agree l (Contains-append_left (literals_of f) (literals_of g) l stands)))
-        (literal_holds m is us g rest k (λ l stands. agree l (Contains-append_right (literals_of f) (literals_of g) l stands)))
+    (literals_hold m is ts f ((token.Operator operator.And, codes "&") ∷ us) h (λ l stands. agree l (Contains-append_left (literals_of f) (literals_of g) l stands)))
+    (literal_holds m is us g rest k (λ l stands. agree l (Contains-append_right (literals_of f) (literals_of g) l stands)))
 
 pub first_holds : (text : List ℕ) (f : Formula) → StandsFor text f → (m : Structure) → ListsPositives m f → is_member (meaning m [] f) 0 ≡ true
 first_holds text f stands m has =
     literals_hold m has.one_state (spelt_tokens text) f [] stands.is_read
-        (agrees m (literals_of f) (subst Differ (literals_propositions (spelt_tokens text) f [] stands.is_read) stands.stand_once)
-            (λ p. subst (λ ps. (lists m 0 p ≡ true) ↔ Contains ps p) (literals_positives (spelt_tokens text) f [] stands.is_read) (has.lists_positives p)))
+    (agrees m (literals_of f) (subst Differ (literals_propositions (spelt_tokens text) f [] stands.is_read) stands.stand_once)
+    (λ p. subst (λ ps. (lists m 0 p ≡ true) ↔ Contains ps p) (literals_positives (spelt_tokens text) f [] stands.is_read) (has.lists_positives p)))

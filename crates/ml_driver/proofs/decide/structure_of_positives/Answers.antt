@@ -7,13 +7,13 @@ use Rattle.ml_driver.proofs.decide.structure_of_positives.Goals as goal
 pub unreachable-requires-in-Err-StateOutOfRange : goal.unreachable-requires-in-Err-StateOutOfRange
 unreachable-requires-in-Err-StateOutOfRange c =
     none_refused _ _ (positive_propositions c.args.formula.now) c.in-Err-StateOutOfRange.field-0-0
-        (pushed_behind_none _ _ _ _ c.new-labels.ensures.items c.root.ensures c.in_ok-push_positives.ensures)
-        c.new.ensures.items
-        ((c.in-Err-StateOutOfRange.ensures.out_of_range c.in-Err-StateOutOfRange.field-0-0).0 (ap Err c.in-Err-StateOutOfRange.field-0-is)).1
+    (pushed_behind_none _ _ _ _ c.new-labels.ensures.items c.root.ensures c.in_ok-push_positives.ensures)
+    c.new.ensures.items
+    ((c.in-Err-StateOutOfRange.ensures.out_of_range c.in-Err-StateOutOfRange.field-0-0).0 (ap Err c.in-Err-StateOutOfRange.field-0-is)).1
 
 pub returns-in-Ok-clause-built : goal.returns-in-Ok-clause-built
 returns-in-Ok-clause-built c =
     built_of _ _ (positive_propositions c.args.formula.now) c.in-Ok.structure
-        (pushed_behind_none _ _ _ _ c.new-labels.ensures.items c.root.ensures c.in_ok-push_positives.ensures)
-        c.new.ensures.items
-        c.in-Ok.ensures.built
+    (pushed_behind_none _ _ _ _ c.new-labels.ensures.items c.root.ensures c.in_ok-push_positives.ensures)
+    c.new.ensures.items
+    c.in-Ok.ensures.built
