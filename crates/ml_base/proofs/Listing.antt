@@ -1,7 +1,7 @@
 -- The propositions that a state of a structure lists.
 --
 --   lists_iff  == a state lists a proposition exactly where it stands in the state's labels
-use Rattle.std.proofs.Common.{◌≡◌, ℕ, Bool, true, false, List, [], ◌∷◌, length, slice_index_or, refl, sym, ◌∙◌, ap, subst, arith, ◌↔◌}
+use Rattle.std.proofs.Common.{◌≡◌, ℕ, true, List, [], slice_index_or, refl, subst, ◌↔◌}
 use Rattle.std.specs.Prelude.{Contains, Any}
 use Rattle.std.specs.List.{list_any}
 use Rattle.std.specs.Str.{bytes_eq}

@@ -75,17 +75,17 @@ module _ (left : List ℕ) (n : ℕ) (before : Option Edge) (line : Line) (s a t
           are_numbers = All-cons IsNumber s (t ∷ []) (x, fits_x, is_x) (All-cons IsNumber t [] (y, fits_y, is_y) (All-nil IsNumber));
         } in
         let bad : ¬ (HasEdge (AtEdge n before) spelt_line) = λ has.
-          ⊎_elim
-            (λ (end : IsTrue false). absurd (true≢false (sym end)))
-            (λ (behind : IsEdgeBehind n before (record { source = value s; action = a; target = value t })).
-              none (subst (IsEdgeBehind n before) edge_is behind))
-            has in
+        ⊎_elim
+        (λ (end : IsTrue false). absurd (true≢false (sym end)))
+        (λ (behind : IsEdgeBehind n before (record { source = value s; action = a; target = value t })).
+        none (subst (IsEdgeBehind n before) edge_is behind))
+        has in
         subst (λ l. IsLowest left (AtEdge n before) Edges l) (sym is) (lowest_edges left n before spelt_line spelt bad)
 
     pub edge_line_is : (e : Edge) → e ≡ edge → IsEdgeBehind n before e → IsEdgeLine line n before e
     edge_line_is e same behind = record {
       is_line =
-        is ∙ ap (λ v. codes "edge" ∷ v ∷ a ∷ t ∷ []) is_x ∙ ap (λ v. codes "edge" ∷ number x ∷ a ∷ v ∷ []) is_y
-        ∙ ap edge_line (sym same);
+          is ∙ ap (λ v. codes "edge" ∷ v ∷ a ∷ t ∷ []) is_x ∙ ap (λ v. codes "edge" ∷ number x ∷ a ∷ v ∷ []) is_y
+          ∙ ap edge_line (sym same);
       is_behind = behind;
     }

@@ -38,7 +38,7 @@ nothing_behind k text told some is = go (fronts (slice_split is_line_end text)) 
         let begins : lines_of text ≡ words_of part ∷ map words_of parts = ap (map words_of) first in
         tells_here AtNothing k text told OfKind (words_of part) (map words_of parts) begins
         (λ left.
-          lowest_kind left AtNothing (words_of part) (λ kind. absurd (omega (arith, ap length kind.0, some_part is_blank part))))
+        lowest_kind left AtNothing (words_of part) (λ kind. absurd (omega (arith, ap length kind.0, some_part is_blank part))))
         is
 
 pub end_refused : (n k at : ℕ) (text rest behind : List ℕ) (edges : List Edge) (words : Line) (told : ModelRefusal) → n < 2 ^ 32
@@ -48,7 +48,7 @@ end_refused n k at text rest behind edges words told fits at_is so_far begins le
     let before = last_of None edges in
     from_edge n k at text rest edges told fits at_is so_far
     (tells_later (AtEdge n before) AtNothing at rest behind end_line told (begins ∙ ap (λ line. line ∷ lines_of behind) is_end) left
-      (good_end (left_of rest) n before) refl tells)
+    (good_end (left_of rest) n before) refl tells)
 
 pub whole_end : (n : ℕ) (text rest behind : List ℕ) (edges es : List Edge) (words : Line) → AreEdgesTo n text edges rest
     → lines_of rest ≡ words ∷ lines_of behind → left_of rest ≡ left_of behind → words ≡ end_line → es ≡ edges → behind ≡ []
@@ -57,8 +57,8 @@ whole_end n text rest behind edges es words so_far begins left is_end same none 
     subst (IsWholeEnd text n) (sym same)
     (record {
       lines_are =
-        so_far.goes.lines_are
-        ∙ ap (λ more. map edge_line edges ++ more) (begins ∙ ap (λ line. line ∷ lines_of behind) is_end ∙ ap (λ bs. end_line ∷ lines_of bs) none);
+          so_far.goes.lines_are
+          ∙ ap (λ more. map edge_line edges ++ more) (begins ∙ ap (λ line. line ∷ lines_of behind) is_end ∙ ap (λ bs. end_line ∷ lines_of bs) none);
       left_is = so_far.goes.left_is ∙ left ∙ ap left_of none;
       are = so_far.are;
     })

@@ -32,10 +32,10 @@ pub good_no_bad : (left : List ℕ) (k : ℕ) (place : Place) (lines : List Line
 good_no_bad left k place [] bad rule good found = found.1.breaks (good rule)
 good_no_bad left k place (line ∷ lines) bad rule good found =
     ⊎_elim
-      (λ (here : (bad ≡ k) × IsLowest left place rule line). here.1.breaks (good.0 rule))
-      (λ (later : IsGood left place line × IsFirstBad left (k + 1) (after place line) lines bad rule).
-        good_no_bad left (k + 1) (after place line) lines bad rule good.1 later.1)
-      found
+    (λ (here : (bad ≡ k) × IsLowest left place rule line). here.1.breaks (good.0 rule))
+    (λ (later : IsGood left place line × IsFirstBad left (k + 1) (after place line) lines bad rule).
+    good_no_bad left (k + 1) (after place line) lines bad rule good.1 later.1)
+    found
 
 -- a refusal for a line that is missing, for one that is bad, and for one behind a good line
 module _ (place : Place) (k : ℕ) (text : List ℕ) (refusal : ModelRefusal) where
@@ -60,7 +60,7 @@ tells_later place next k text rest line NoMemory begins left good is tells = tt
 tells_later place next k text rest line (Fault fault) begins left good is (rule, number, found) =
     let bad = λ (ls : List Line). IsFirstBad (left_of text) k place ls fault.line rule in
     let behind : IsFirstBad (left_of text) (k + 1) next (lines_of rest) fault.line rule =
-      subst (λ l. IsFirstBad l (k + 1) next (lines_of rest) fault.line rule) (sym left) found in
+    subst (λ l. IsFirstBad l (k + 1) next (lines_of rest) fault.line rule) (sym left) found in
     (rule, number, subst bad (sym begins) (bad_later (left_of text) k place next line (lines_of rest) fault.line rule good is behind))
 
 pub tells_line : (place : Place) (k : ℕ) (text : List ℕ) (line : Line) (lines : List Line) (refusal : LineRefusal)

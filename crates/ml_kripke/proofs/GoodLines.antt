@@ -114,7 +114,7 @@ good_edge left n before e fits behind NextState = tt
 good_edge left n before e fits behind Labels = tt
 good_edge left n before e fits behind Edges =
     inr (subst (IsEdgeBehind n before)
-      (sym (edge_back e (omega (arith, behind.source_below)) (omega (arith, behind.target_below)))) behind)
+    (sym (edge_back e (omega (arith, behind.source_below)) (omega (arith, behind.target_below)))) behind)
 
 pub after_edge : (n : ℕ) (before : Option Edge) (e : Edge) → e.source < 2 ^ 32 → e.target < 2 ^ 32
     → after (AtEdge n before) (edge_line e) ≡ AtEdge n (Some e)

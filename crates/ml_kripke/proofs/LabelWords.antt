@@ -49,12 +49,14 @@ module _ (all labels : List Word) (text : List ℕ) (w : Word) (behind : Option 
   pub not_above : ¬ (Above (slice_cmp nat_cmp) (last_of None labels) w) → ¬ (All IsName all × Ascend all)
   not_above none labels_ok =
       none (chain_at (slice_cmp nat_cmp) None labels w (words_behind behind)
-        (sorted_chain (slice_cmp nat_cmp) (labels ++ w ∷ words_behind behind) (subst Ascend whole_is labels_ok.1)))
+      (sorted_chain (slice_cmp nat_cmp) (labels ++ w ∷ words_behind behind) (subst Ascend whole_is labels_ok.1)))
 
 pub labels_done : (all labels : List Word) → AreLabelsTo all labels None → (labels ≡ all) × All IsName labels × Ascend labels
-labels_done all labels so_far =
-    (sym (so_far.whole ∙ append-nil labels), so_far.named,
-      chain_sorted (slice_cmp nat_cmp) nat_list_cmp_total None labels so_far.chain)
+labels_done all labels so_far = (
+  sym (so_far.whole ∙ append-nil labels),
+  so_far.named,
+  chain_sorted (slice_cmp nat_cmp) nat_list_cmp_total None labels so_far.chain,
+)
 
 -- how much is left
 abbrev pub size_left : Option (List ℕ) → ℕ

@@ -176,7 +176,7 @@ pub missing_edge : (left : List ℕ) (n : ℕ) (before : Option Edge) → IsLowe
 missing_edge left n before =
     lowest_kind left (AtEdge n before) []
     (λ kind.
-      ⊎_elim
-        (λ (end : [] ≡ codes "end" ∷ []). cc)
-        (λ (edge : IsEdged []). let apart : [] ≡ codes "edge" ∷ word [] 1 ∷ word [] 2 ∷ word [] 3 ∷ [] = edge.1 in cc)
-        kind)
+    ⊎_elim
+    (λ (end : [] ≡ codes "end" ∷ []). cc)
+    (λ (edge : IsEdged []). let apart : [] ≡ codes "edge" ∷ word [] 1 ∷ word [] 2 ∷ word [] 3 ∷ [] = edge.1 in cc)
+    kind)

@@ -31,7 +31,7 @@ module _ (n k i at : ℕ) (text rest : List ℕ) (rows : List (List Word)) (told
   from_state tells =
       tells_rows n fits k i text rest rows told so_far.goes so_far.are (omega arith)
       (subst (λ j. TellsFault (at_state n i) j rest told) at_is
-        (subst (λ p. TellsFault p at rest told) (sym (at_state_below n i below)) tells))
+      (subst (λ p. TellsFault p at rest told) (sym (at_state_below n i below)) tells))
 
   pub state_refused : (words : Line) (lines : List Line) (refusal : LineRefusal) → lines_of rest ≡ words ∷ lines
       → TellsRule (AtState n i) words refusal → told ≡ at_line at refusal → TellsFault (at_state n 0) k text told
@@ -57,9 +57,9 @@ module _ (n k at : ℕ) (text rest : List ℕ) (edges : List Edge) (told : Model
       → TellsRule (AtEdge n (last_of None edges)) words refusal → told ≡ at_line at refusal → TellsFault (AtEdge n None) k text told
   edge_refused words lines refusal begins rule is =
       from_edge (subst (TellsFault (AtEdge n (last_of None edges)) at rest) (sym is)
-        (tells_line (AtEdge n (last_of None edges)) at rest words lines refusal begins rule))
+      (tells_line (AtEdge n (last_of None edges)) at rest words lines refusal begins rule))
 
   pub edge_missing : lines_of rest ≡ [] → told ≡ Fault (record { line = at; rule = rule_number OfKind }) → TellsFault (AtEdge n None) k text told
   edge_missing none is =
       from_edge (tells_missing (AtEdge n (last_of None edges)) at rest told OfKind none
-        (missing_edge (left_of rest) n (last_of None edges)) is)
+      (missing_edge (left_of rest) n (last_of None edges)) is)

@@ -26,7 +26,7 @@ pub goes_on : (text : List ℕ) (lines : List Line) (rest : List ℕ) (line : Li
     → GoesOn text (lines ++ line ∷ []) behind
 goes_on text lines rest line behind so_far begins left shorter = record {
   lines_are =
-    so_far.lines_are ∙ ap (λ more. lines ++ more) begins ∙ sym (append_assoc lines (line ∷ []) (lines_of behind));
+      so_far.lines_are ∙ ap (λ more. lines ++ more) begins ∙ sym (append_assoc lines (line ∷ []) (lines_of behind));
   left_is = so_far.left_is ∙ left;
   shorter = omega (arith, so_far.shorter, length-append lines (line ∷ []));
 }
@@ -53,12 +53,12 @@ module _ (left : List ℕ) (n : ℕ) (fits : n < 2 ^ 32) (rest : List Line) (bad
       let same_k : k + length (row ∷ rows) ≡ k + 1 + length rows = omega arith in
       let same_i : i + length (row ∷ rows) ≡ i + 1 + length rows = omega arith in
       let later =
-        rows_before rows (i + 1) (k + 1) (omega arith) (All-tail (All IsName) row rows named) (All-tail Ascend row rows ascend)
-        (subst (λ j. IsFirstBad left (k + 1 + length rows) (at_state n j) rest bad rule) same_i
-          (subst (λ j. IsFirstBad left j (at_state n (i + length (row ∷ rows))) rest bad rule) same_k found)) in
+      rows_before rows (i + 1) (k + 1) (omega arith) (All-tail (All IsName) row rows named) (All-tail Ascend row rows ascend)
+      (subst (λ j. IsFirstBad left (k + 1 + length rows) (at_state n j) rest bad rule) same_i
+      (subst (λ j. IsFirstBad left j (at_state n (i + length (row ∷ rows))) rest bad rule) same_k found)) in
       subst (λ p. IsFirstBad left k p (state_lines i (row ∷ rows) ++ rest) bad rule) (sym (at_state_below n i below))
       (bad_later left k (AtState n i) (at_state n (i + 1)) (state_line i row) (state_lines (i + 1) rows ++ rest) bad rule
-        (good_state left n i row (omega arith) (All-head (All IsName) row rows named) (All-head Ascend row rows ascend)) refl later)
+      (good_state left n i row (omega arith) (All-head (All IsName) row rows named) (All-head Ascend row rows ascend)) refl later)
 
   pub edges_before : (edges : List Edge) (before : Option Edge) (k : ℕ) → AreEdges n before edges
       → IsFirstBad left (k + length edges) (AtEdge n (last_of before edges)) rest bad rule
@@ -70,7 +70,7 @@ module _ (left : List ℕ) (n : ℕ) (fits : n < 2 ^ 32) (rest : List Line) (bad
       bad_later left k (AtEdge n before) (AtEdge n (Some e)) (edge_line e) (map edge_line es ++ rest) bad rule
       (good_edge left n before e fits all.0) (after_edge n before e (omega (arith, all.0.source_below)) (omega (arith, all.0.target_below)))
       (edges_before es (Some e) (k + 1) all.1
-        (subst (λ j. IsFirstBad left j (AtEdge n (last_of (Some e) es)) rest bad rule) same found))
+      (subst (λ j. IsFirstBad left j (AtEdge n (last_of (Some e) es)) rest bad rule) same found))
 
 -- refusals behind them
 pub tells_rows : (n : ℕ) → n < 2 ^ 32 → (k i : ℕ) (text rest : List ℕ) (rows : List (List Word)) (refusal : ModelRefusal)
@@ -82,11 +82,13 @@ tells_rows n fits k i text rest rows (Fault fault) so_far are within (rule, numb
     let same_i : i ≡ 0 + length rows = omega (arith, are.one_each) in
     let here = λ (left : List ℕ) (j p : ℕ). IsFirstBad left j (at_state n p) (lines_of rest) fault.line rule in
     let moved : here (left_of text) (k + length rows) (0 + length rows) =
-      subst (λ left. here left (k + length rows) (0 + length rows)) (sym so_far.left_is)
-      (subst (λ j. here (left_of rest) j (0 + length rows)) same_k (subst (here (left_of rest) (k + i)) same_i found)) in
-    (rule, number,
+    subst (λ left. here left (k + length rows) (0 + length rows)) (sym so_far.left_is)
+    (subst (λ j. here (left_of rest) j (0 + length rows)) same_k (subst (here (left_of rest) (k + i)) same_i found)) in (
+      rule,
+      number,
       subst (λ lines. IsFirstBad (left_of text) k (at_state n 0) lines fault.line rule) (sym so_far.lines_are)
-      (rows_before (left_of text) n fits (lines_of rest) fault.line rule rows 0 k (omega (arith, are.one_each)) are.are_names are.ascend moved))
+          (rows_before (left_of text) n fits (lines_of rest) fault.line rule rows 0 k (omega (arith, are.one_each)) are.are_names are.ascend moved),
+    )
 
 pub tells_edges : (n : ℕ) → n < 2 ^ 32 → (k : ℕ) (text rest : List ℕ) (edges : List Edge) (refusal : ModelRefusal)
     → GoesOn text (map edge_line edges) rest → AreEdges n None edges → TellsFault (AtEdge n (last_of None edges)) (k + length edges) rest refusal
@@ -94,11 +96,13 @@ pub tells_edges : (n : ℕ) → n < 2 ^ 32 → (k : ℕ) (text rest : List ℕ) 
 tells_edges n fits k text rest edges NoMemory so_far are tells = tt
 tells_edges n fits k text rest edges (Fault fault) so_far are (rule, number, found) =
     let moved : IsFirstBad (left_of text) (k + length edges) (AtEdge n (last_of None edges)) (lines_of rest) fault.line rule =
-      subst (λ left. IsFirstBad left (k + length edges) (AtEdge n (last_of None edges)) (lines_of rest) fault.line rule)
-      (sym so_far.left_is) found in
-    (rule, number,
+    subst (λ left. IsFirstBad left (k + length edges) (AtEdge n (last_of None edges)) (lines_of rest) fault.line rule)
+    (sym so_far.left_is) found in (
+      rule,
+      number,
       subst (λ lines. IsFirstBad (left_of text) k (AtEdge n None) lines fault.line rule) (sym so_far.lines_are)
-      (edges_before (left_of text) n fits (lines_of rest) fault.line rule edges None k are moved))
+          (edges_before (left_of text) n fits (lines_of rest) fault.line rule edges None k are moved),
+    )
 
 -- so many states' lines were read
 pub record AreRowsTo (text : List ℕ) (rows : List (List Word)) (i : ℕ) (rest : List ℕ) : Type 0 where
@@ -120,11 +124,11 @@ pub row_read : (text : List ℕ) (rows : List (List Word)) (i : ℕ) (rest behin
     → length behind + 1 ≤ length rest → IsStateLine line i row → AreRowsTo text (rows ++ row ∷ []) (i + 1) behind
 row_read text rows i rest behind line row so_far begins left shorter is = record {
   goes =
-    let same : i ≡ 0 + length rows = omega (arith, so_far.are.one_each) in
-    let line_is = is.is_line ∙ ap (λ k. state_line k row) same in
-    subst (λ lines. GoesOn text lines behind)
-    (ap (λ l. state_lines 0 rows ++ l ∷ []) line_is ∙ sym (state_lines-push 0 rows row))
-    (goes_on text (state_lines 0 rows) rest line behind so_far.goes begins left shorter);
+      let same : i ≡ 0 + length rows = omega (arith, so_far.are.one_each) in
+      let line_is = is.is_line ∙ ap (λ k. state_line k row) same in
+      subst (λ lines. GoesOn text lines behind)
+      (ap (λ l. state_lines 0 rows ++ l ∷ []) line_is ∙ sym (state_lines-push 0 rows row))
+      (goes_on text (state_lines 0 rows) rest line behind so_far.goes begins left shorter);
   are = record {
     one_each = omega (arith, so_far.are.one_each, length-append rows (row ∷ []));
     are_names = all_push (All IsName) rows row so_far.are.are_names is.are_names;
@@ -153,8 +157,8 @@ pub edge_read : (n : ℕ) (text : List ℕ) (edges : List Edge) (rest behind : L
     → length behind + 1 ≤ length rest → IsEdgeLine line n (last_of None edges) e → AreEdgesTo n text (edges ++ e ∷ []) behind
 edge_read n text edges rest behind line e so_far begins left shorter is = record {
   goes =
-    subst (λ lines. GoesOn text lines behind)
-    (ap (λ l. map edge_line edges ++ l ∷ []) is.is_line ∙ sym (map-append edge_line edges (e ∷ [])))
-    (goes_on text (map edge_line edges) rest line behind so_far.goes begins left shorter);
+      subst (λ lines. GoesOn text lines behind)
+      (ap (λ l. map edge_line edges ++ l ∷ []) is.is_line ∙ sym (map-append edge_line edges (e ∷ [])))
+      (goes_on text (map edge_line edges) rest line behind so_far.goes begins left shorter);
   are = edges_push n None edges e so_far.are is.is_behind;
 }

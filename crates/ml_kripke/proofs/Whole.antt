@@ -85,9 +85,9 @@ pub whole_text : (n s : ℕ) (rows : List (List Word)) (edges : List Edge) (text
     → IsWholeEnd third n edges → text ≡ model_text (of_parts n rows edges) s
 whole_text n s rows edges text first second third goes goes' goes'' end =
     let lines : lines_of text ≡ model_lines (of_parts n rows edges) s =
-      goes.lines_are ∙ ap (λ ls. states_line n ∷ ls) (goes'.lines_are ∙ ap (λ ls. start_line s ∷ ls)
-        (goes''.lines_are ∙ ap (λ ls. state_lines 0 rows ++ ls) end.lines_are
-        ∙ sym (append_assoc (state_lines 0 rows) (map edge_line edges) (end_line ∷ [])))) in
+    goes.lines_are ∙ ap (λ ls. states_line n ∷ ls) (goes'.lines_are ∙ ap (λ ls. start_line s ∷ ls)
+    (goes''.lines_are ∙ ap (λ ls. state_lines 0 rows ++ ls) end.lines_are
+    ∙ sym (append_assoc (state_lines 0 rows) (map edge_line edges) (end_line ∷ [])))) in
     let none : left_of text ≡ [] = goes.left_is ∙ goes'.left_is ∙ goes''.left_is ∙ end.left_is in
     sym (text_read text) ∙ ap (λ ls. text_of ls ++ left_of text) lines
     ∙ ap (λ left. model_text (of_parts n rows edges) s ++ left) none ∙ append-nil (model_text (of_parts n rows edges) s)
@@ -106,7 +106,7 @@ chain_edges n before (e ∷ es) below named chain =
         ascends = above before chain.0;
       },
       chain_edges n (Some e) es (All-tail (λ (e : Edge). (e.source < n) × (e.target < n)) e es below)
-      (All-tail (λ (e : Edge). IsAction e.action) e es named) chain.1,
+          (All-tail (λ (e : Edge). IsAction e.action) e es named) chain.1,
     )
   where
     above : (b : Option Edge) → Above edge_cmp b e → MatchOption b (Unit {0}) (λ x. edge_cmp x e ≡ Less)
@@ -117,11 +117,12 @@ module _ (n : ℕ) (fits : n < 2 ^ 32) where
   edges_readable : (before : Option Edge) (edges : List Edge) → AreEdges n before edges
       → IsReadable [] (AtEdge n before) (map edge_line edges ++ end_line ∷ [])
   edges_readable before [] are = (good_end [] n before, good_nothing [] refl)
-  edges_readable before (e ∷ es) are =
-      (good_edge [] n before e fits are.0,
-        subst (λ p. IsReadable [] p (map edge_line es ++ end_line ∷ []))
+  edges_readable before (e ∷ es) are = (
+    good_edge [] n before e fits are.0,
+    subst (λ p. IsReadable [] p (map edge_line es ++ end_line ∷ []))
         (sym (after_edge n before e (omega (arith, are.0.source_below)) (omega (arith, are.0.target_below))))
-        (edges_readable (Some e) es are.1))
+        (edges_readable (Some e) es are.1),
+  )
 
   rows_readable : (rows : List (List Word)) (i : ℕ) (edges : List Edge) → i + length rows ≡ n → All (All IsName) rows → All Ascend rows
       → AreEdges n None edges → IsReadable [] (at_state n i) (state_lines i rows ++ (map edge_line edges ++ end_line ∷ []))
@@ -131,24 +132,26 @@ module _ (n : ℕ) (fits : n < 2 ^ 32) where
   rows_readable (row ∷ rows) i edges all named ascend are =
       let below : i < n = omega arith in
       let next : i + 1 + length rows ≡ n = omega arith in
-      subst (λ p. IsReadable [] p (state_lines i (row ∷ rows) ++ (map edge_line edges ++ end_line ∷ []))) (sym (at_state_below n i below))
-      (good_state [] n i row (omega arith) (All-head (All IsName) row rows named) (All-head Ascend row rows ascend),
-        rows_readable rows (i + 1) edges next (All-tail (All IsName) row rows named) (All-tail Ascend row rows ascend) are)
+      subst (λ p. IsReadable [] p (state_lines i (row ∷ rows) ++ (map edge_line edges ++ end_line ∷ []))) (sym (at_state_below n i below)) (
+        good_state [] n i row (omega arith) (All-head (All IsName) row rows named) (All-head Ascend row rows ascend),
+        rows_readable rows (i + 1) edges next (All-tail (All IsName) row rows named) (All-tail Ascend row rows ascend) are,
+      )
 
 pub lines_readable : (m : Structure) (s : ℕ) → IsWritten m s → IsOrdered m → IsReadable [] AtStates (model_lines m s)
 lines_readable m s ok order =
     let n = m.states in
     let are =
-      chain_edges n None m.edges ok.is_structure.joins_states ok.has_names.actions_named
-      (sorted_chain edge_cmp m.edges order.edges_ascend) in
+    chain_edges n None m.edges ok.is_structure.joins_states ok.has_names.actions_named
+    (sorted_chain edge_cmp m.edges order.edges_ascend) in
     let rows : IsReadable [] (at_state n 0) (state_lines 0 m.labels ++ (map edge_line m.edges ++ end_line ∷ [])) =
-      rows_readable n ok.fits m.labels 0 m.edges (omega (arith, ok.is_structure.labels_states)) ok.has_names.labels_named order.labels_ascend are in
+    rows_readable n ok.fits m.labels 0 m.edges (omega (arith, ok.is_structure.labels_states)) ok.has_names.labels_named order.labels_ascend are in
     let body = subst (IsReadable [] (at_state n 0)) (sym (append_assoc (state_lines 0 m.labels) (map edge_line m.edges) (end_line ∷ []))) rows in
     let start : IsReadable [] (AtStart n) (start_line s ∷ (state_lines 0 m.labels ++ map edge_line m.edges ++ end_line ∷ [])) =
-      (good_start [] n s ok.is_state (omega (arith, ok.is_state, ok.fits)), body) in
-    (good_states [] n ok.is_structure.has_state ok.fits,
+    (good_start [] n s ok.is_state (omega (arith, ok.is_state, ok.fits)), body) in (
+      good_states [] n ok.is_structure.has_state ok.fits,
       subst (λ p. IsReadable [] p (start_line s ∷ (state_lines 0 m.labels ++ map edge_line m.edges ++ end_line ∷ [])))
-      (sym (after_states n ok.fits)) start)
+          (sym (after_states n ok.fits)) start,
+    )
 
 pub text_readable : (m : Structure) (s : ℕ) → IsWritten m s → IsOrdered m
     → IsReadable (left_of (model_text m s)) AtStates (lines_of (model_text m s))

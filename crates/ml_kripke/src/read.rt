@@ -58,10 +58,7 @@ fn read_body(alloc: Global, bytes: &[u8], line: u64) -> Result<Model, ModelRefus
     let (start, behind) = read_start(starts, line + 1, states)?;
     let (labels, rest) = read_rows(alloc, behind, line + 2, states)?;
     let edges = read_edges(alloc, rest, line + 2 + u64::from(states), states)?;
-    Ok(Model::new(
-        Structure::of_parts(states, labels, edges),
-        start,
-    ))
+    Ok(Model::new(Structure::of_parts(states, labels, edges), start))
 }
 
 impl<T: Drop> From<AllocFailed<T>> for ModelRefusal {

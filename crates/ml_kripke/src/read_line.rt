@@ -110,7 +110,7 @@ pub(crate) fn labels_of(alloc: Global, line: &[u8], state: u32) -> Result<Vec<Na
 fn state_words(line: &[u8]) -> Option<(&[u8], Option<&[u8]>)>
     ensures { MatchOption result (¬ (IsStated (words_of line.now)))
         (λ p. AreWords (words_of line.now)
-            × (words_of line.now ≡ codes "state" ∷ p.0.now ∷ words_behind (option_copied p.1))) }
+        × (words_of line.now ≡ codes "state" ∷ p.0.now ∷ words_behind (option_copied p.1))) }
 {
     match more_words(line) {
         Some((first, rest)) => {

@@ -6,7 +6,7 @@
 --   words_none, words_at == a line without a blank is one word; up to its first blank it is its first word
 --   line_none  == a text without an LF has no line
 --   line_at    == a text up to its first LF is its first line
-use Rattle.std.proofs.Common.{◌≡◌, ℕ, ◌+◌, ◌-◌, ◌<◌, ◌≤◌, Bool, true, false, cond, not, nat_lt, List, [], ◌∷◌, Option, None, Some, length, map, take, drop, All, position, refl, sym, ap, subst, ◌∙◌, arith}
+use Rattle.std.proofs.Common.{◌≡◌, ℕ, ◌+◌, ◌-◌, ◌<◌, ◌≤◌, Bool, true, false, cond, not, nat_lt, List, [], ◌∷◌, None, Some, length, map, take, drop, position, refl, sym, ap, subst, ◌∙◌, arith}
 use Rattle.std.specs.List.{slice_split, position_or_len, onto_first}
 use Rattle.std.proofs.lemmas.List.Splits.{slice_split_first, length-slice_split}
 use Rattle.std.proofs.lemmas.Bool.Decides.{nat_tests}
@@ -36,15 +36,16 @@ module _ (p : ℕ → Bool) where
   pub cut_none : (xs : List ℕ) → position p xs ≡ None → slice_split p xs ≡ xs ∷ []
   cut_none xs none =
       let past : nat_lt (position_or_len p xs) (length xs) ≡ false =
-        shift_none (nat_lt (position_or_len p xs) (length xs)) (position_or_len p xs) none in
+      shift_none (nat_lt (position_or_len p xs) (length xs)) (position_or_len p xs) none in
       cut_past xs (grind (arith, nat_tests))
 
   pub cut_at : (xs : List ℕ) (i : ℕ) → position p xs ≡ Some i → (i < length xs) × (slice_split p xs ≡ take i xs ∷ slice_split p (drop (i + 1) xs))
   cut_at xs i some =
       let parts = shift_some (nat_lt (position_or_len p xs) (length xs)) (position_or_len p xs) i some in
-      let below : position_or_len p xs < length xs = grind (arith, nat_tests) in
-      (omega (arith, parts.1),
-        subst (λ k. slice_split p xs ≡ take k xs ∷ slice_split p (drop (k + 1) xs)) parts.1 (slice_split_first p xs 0 below))
+      let below : position_or_len p xs < length xs = grind (arith, nat_tests) in (
+        omega (arith, parts.1),
+        subst (λ k. slice_split p xs ≡ take k xs ∷ slice_split p (drop (k + 1) xs)) parts.1 (slice_split_first p xs 0 below),
+      )
 
 pub fronts_more : (part : List ℕ) (parts : List (List ℕ)) → 0 < length parts → fronts (part ∷ parts) ≡ part ∷ fronts parts
 fronts_more part [] some = absurd (omega arith)

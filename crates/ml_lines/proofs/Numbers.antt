@@ -7,7 +7,7 @@
 --   no_number_empty, no_number_zero, no_number_byte, no_number_large  == no number is spelt by the empty word, by a
 --                       longer word with a leading zero, by a word with a byte that is no digit, by too great a value
 --   value_on-ge      == digits behind a number make it no smaller
-use Rattle.std.proofs.Common.{◌≡◌, ℕ, zero, suc, ◌+◌, ◌-◌, ◌*◌, ◌^◌, ◌<◌, ◌≤◌, Bool, true, false, ◌&&◌, List, [], ◌∷◌, length, get_or, drop, refl, sym, ap, ◌∙◌, arith, rules}
+use Rattle.std.proofs.Common.{◌≡◌, ℕ, zero, suc, ◌+◌, ◌-◌, ◌*◌, ◌^◌, ◌<◌, ◌≤◌, Bool, true, false, ◌&&◌, [], ◌∷◌, length, get_or, drop, refl, sym, ap, ◌∙◌, arith, rules}
 use Rattle.std.specs.Str.{all_ascii_digits}
 use Rattle.std.specs.Char.{is_ascii_digit}
 use Rattle.std.proofs.lemmas.Bool.{true≢false}
@@ -61,10 +61,10 @@ pub digit_read : (word : Word) (i n m : ℕ) → i < length word → is_ascii_di
 digit_read word i n m here digit more small so_far = record {
   small = small;
   value_left =
-    so_far.value_left ∙ ap (value_on n) (drop_more word i 0 here) ∙ ap (λ k. value_on k (drop (i + 1) word)) (sym more);
+      so_far.value_left ∙ ap (value_on n) (drop_more word i 0 here) ∙ ap (λ k. value_on k (drop (i + 1) word)) (sym more);
   digits_left =
-    so_far.digits_left ∙ ap all_ascii_digits (drop_more word i 0 here)
-    ∙ ap (λ first. first && all_ascii_digits (drop (i + 1) word)) digit;
+      so_far.digits_left ∙ ap all_ascii_digits (drop_more word i 0 here)
+      ∙ ap (λ first. first && all_ascii_digits (drop (i + 1) word)) digit;
 }
 
 pub digit_refused : (word : Word) (i n : ℕ) → i < length word → IsReadTo word i n
@@ -74,8 +74,12 @@ digit_refused word i n here so_far why = go (is_ascii_digit (get_or word i 0)) r
     go : (digit : Bool) → is_ascii_digit (get_or word i 0) ≡ digit → ¬ (IsNumber word)
     go true is =
         no_number_large word
-        (omega (arith, why is, so_far.value_left ∙ ap (value_on n) (drop_more word i 0 here),
-          value_on-ge (10 * n + (get_or word i 0 - 48)) (drop (i + 1) word)))
+        (omega (
+          arith,
+          why is,
+          so_far.value_left ∙ ap (value_on n) (drop_more word i 0 here),
+          value_on-ge (10 * n + (get_or word i 0 - 48)) (drop (i + 1) word),
+        ))
     go false is =
         no_number_byte word
         (so_far.digits_left ∙ ap all_ascii_digits (drop_more word i 0 here)

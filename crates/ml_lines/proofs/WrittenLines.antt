@@ -3,15 +3,15 @@
 --   line_read   == the words of a plain line's bytes are its words
 --   lines_read  == the lines of the text of plain lines are these lines, and nothing is left
 --   text_read   == a text is that of its lines, and then what is left
-use Rattle.std.proofs.Common.{◌≡◌, ◌==◌, ℕ, ◌<◌, Bool, true, false, ◌||◌, List, [], ◌∷◌, ◌++◌, length, map, All, refl, sym, ap, ◌∙◌, append_assoc, arith}
-use Rattle.std.specs.List.{flat_map, list_any, slice_split, join_with_byte}
+use Rattle.std.proofs.Common.{◌≡◌, ◌==◌, ℕ, Bool, true, false, ◌||◌, List, [], ◌∷◌, ◌++◌, map, All, refl, ap, ◌∙◌, append_assoc}
+use Rattle.std.specs.List.{slice_split, join_with_byte}
 use Rattle.std.proofs.lemmas.List.{append-nil}
 use Rattle.std.proofs.lemmas.List.Elements.{All-nil, All-cons}
 use Rattle.std.proofs.lemmas.List.Splits.{slice_split_none, slice_split_at, join_with_byte-slice_split}
-use Rattle.ml_lines.specs.Lines.{Word, Line, next, line_text, text_of}
+use Rattle.ml_lines.specs.Lines.{Word, Line, line_text, text_of}
 use Rattle.ml_lines.specs.Reading.{words_of, lines_of, left_of, fronts, last_part, is_blank, is_line_end}
 use Rattle.ml_lines.proofs.Cuts.{some_part, fronts_more, last_more}
-use Rattle.ml_lines.proofs.Unique.{has, avoids, IsPlain, ArePlain, body, no_end_in, text-cons}
+use Rattle.ml_lines.proofs.Unique.{has, avoids, ArePlain, body, no_end_in, text-cons}
 
 none_here : (a b : Bool) → (a || b) ≡ false → (a ≡ false) × (b ≡ false)
 none_here true b e = cc
@@ -42,7 +42,7 @@ lines_read ((word ∷ words) ∷ lines) ok =
     let cut = ap (slice_split is_line_end) (text-cons word words lines) ∙ cut_line (body word words) (text_of lines) (no_end_in word words ok.0.1) in
     let behind = lines_read lines ok.1 in (
       ap (λ parts. map words_of (fronts parts)) cut ∙ ap (map words_of) (fronts_more (body word words) rest some)
-      ∙ ap (λ first. first ∷ lines_of (text_of lines)) (line_read word words ok.0.0) ∙ ap (λ more. (word ∷ words) ∷ more) behind.0,
+          ∙ ap (λ first. first ∷ lines_of (text_of lines)) (line_read word words ok.0.0) ∙ ap (λ more. (word ∷ words) ∷ more) behind.0,
       ap last_part cut ∙ last_more (body word words) rest some ∙ behind.1,
     )
 

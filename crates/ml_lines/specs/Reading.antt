@@ -14,7 +14,7 @@
 --   IsNumber w         == w spells a number from 0 to 4,294,967,295, in decimal and without leading zeros
 --   value w            == the number that the digits of w are
 --   word ws i          == the i-th word of a line, from 0 on
-use Rattle.std.specs.Prelude.{ℕ, ◌+◌, ◌-◌, ◌*◌, ◌^◌, ◌<◌, ◌≡◌, ◌==◌, ◌&&◌, ◌||◌, Bool, true, false, not, List, [], ◌∷◌, Option, None, Some, map, slice_index_or, IsTrue}
+use Rattle.std.specs.Prelude.{ℕ, ◌+◌, ◌-◌, ◌*◌, ◌^◌, ◌<◌, ◌≡◌, ◌==◌, ◌&&◌, ◌||◌, Bool, false, not, List, [], ◌∷◌, Option, None, Some, map, slice_index_or, IsTrue}
 use Rattle.std.specs.List.{list_all, slice_split}
 use Rattle.ml_lines.specs.Lines.{Word, Line, number}
 

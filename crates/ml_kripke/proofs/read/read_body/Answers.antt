@@ -13,8 +13,8 @@ returns-in_err-start-clause-refused c =
     let p = err_from_is_err_and c.from_residual-in_err-start.result c.from_residual-in_err-start.ensures.1 in
     let first = c.in_ok-states.ensures.read in
     rw (p.1, p.2)
-      (from_states c.in_ok-states.states c.args.line c.args.bytes.now c.in_ok-states.starts.now c.in_err-start.field-0.0 first.0 first.1
-        first.2 c.in_err-start.ensures.refused)
+    (from_states c.in_ok-states.states c.args.line c.args.bytes.now c.in_ok-states.starts.now c.in_err-start.field-0.0 first.0 first.1
+    first.2 c.in_err-start.ensures.refused)
 
 pub returns-in_err-labels-clause-refused : goal.returns-in_err-labels-clause-refused
 returns-in_err-labels-clause-refused c =
@@ -22,15 +22,22 @@ returns-in_err-labels-clause-refused c =
     let first = c.in_ok-states.ensures.read in
     let second = c.in_ok-start.ensures.read in
     rw (p.1, p.2)
-      (from_body c.in_ok-states.states c.in_ok-start.start c.args.line c.args.bytes.now c.in_ok-states.starts.now c.in_ok-start.behind.now
-        c.in_err-labels.field-0.0 first.0 second.0 first.1 first.2 second.1 c.in_err-labels.ensures.refused)
+    (from_body c.in_ok-states.states c.in_ok-start.start c.args.line c.args.bytes.now c.in_ok-states.starts.now c.in_ok-start.behind.now
+    c.in_err-labels.field-0.0 first.0 second.0 first.1 first.2 second.1 c.in_err-labels.ensures.refused)
 
 pub read_edges-requires : goal.read_edges-requires
 read_edges-requires c =
     let rows = map (λ row. row.items) c.in_ok-labels.labels.items in
     let third = c.in_ok-labels.ensures.read in
-    omega (arith, c.in_ok-states.ensures.read.0.shorter, c.in_ok-start.ensures.read.0.shorter, third.0.shorter,
-      length-state_lines 0 rows, third.1.one_each, c.from.ensures)
+    omega (
+      arith,
+      c.in_ok-states.ensures.read.0.shorter,
+      c.in_ok-start.ensures.read.0.shorter,
+      third.0.shorter,
+      length-state_lines 0 rows,
+      third.1.one_each,
+      c.from.ensures,
+    )
 
 pub returns-in_err-edges-clause-refused : goal.returns-in_err-edges-clause-refused
 returns-in_err-edges-clause-refused c =
@@ -44,9 +51,9 @@ returns-in_err-edges-clause-refused c =
     let rest = c.in_ok-labels.rest.now in
     let at = subst (λ j. TellsFault (AtEdge n None) (c.args.line + 2 + j) rest told) c.from.ensures c.in_err-edges.ensures.refused in
     rw (p.1, p.2)
-      (from_body n c.in_ok-start.start c.args.line c.args.bytes.now c.in_ok-states.starts.now c.in_ok-start.behind.now told first.0 second.0
-        first.1 first.2 second.1
-        (from_rows n (c.args.line + 2) c.in_ok-start.behind.now rest rows told third.0 third.1 first.2 at))
+    (from_body n c.in_ok-start.start c.args.line c.args.bytes.now c.in_ok-states.starts.now c.in_ok-start.behind.now told first.0 second.0
+    first.1 first.2 second.1
+    (from_rows n (c.args.line + 2) c.in_ok-start.behind.now rest rows told third.0 third.1 first.2 at))
 
 pub of_parts-requires-clause-is_structure : goal.of_parts-requires-clause-is_structure
 of_parts-requires-clause-is_structure c =
@@ -71,4 +78,4 @@ pub returns-clause-names : goal.returns-clause-names
 returns-clause-names c =
     subst HasNames (sym (c.new.ensures.structure ∙ c.of_parts.ensures))
     (parts_named c.in_ok-states.states (map (λ row. row.items) c.in_ok-labels.labels.items) c.in_ok-edges.edges.items
-      c.in_ok-states.ensures.read.1 c.in_ok-labels.ensures.read.1 c.in_ok-edges.ensures.read.are)
+    c.in_ok-states.ensures.read.1 c.in_ok-labels.ensures.read.1 c.in_ok-edges.ensures.read.are)

@@ -19,15 +19,15 @@ returns-in-Ok-None-clause-refused c =
     let behind = c.in-Some.behind.now in
     if_err_weaker c.ended.result (TellsFault AtNothing (at + 1) behind) (TellsFault (AtEdge c.args.states None) c.args.line c.args.text.now)
     (λ told tells.
-      end_refused c.args.states c.args.line at c.args.text.now c.loop-words.rest.now behind edges (words_of c.in-Some.words.now) told
-      c.ranges.states.fits at_is c.loop-words.invariant c.in-Some.ensures.lines c.in-Some.ensures.left is_end tells)
+    end_refused c.args.states c.args.line at c.args.text.now c.loop-words.rest.now behind edges (words_of c.in-Some.words.now) told
+    c.ranges.states.fits at_is c.loop-words.invariant c.in-Some.ensures.lines c.in-Some.ensures.left is_end tells)
     c.ended.ensures.refused
 
 pub returns-in-Err-clause-refused : goal.returns-in-Err-clause-refused
 returns-in-Err-clause-refused c =
     let edges = c.loop-words.edges.items in
     let at_is : c.args.line + c.len.result ≡ c.args.line + length edges =
-      omega (arith, c.len.ensures, c.deref.ensures.len, ap length c.deref.ensures.value) in
+    omega (arith, c.len.ensures, c.deref.ensures.len, ap length c.deref.ensures.value) in
     let last = c.last.ensures.value ∙ ap (λ es. slice_get es (length es - 1)) c.deref.ensures.value ∙ sym (last_is edges) in
     let words = words_of c.in-Some.words.now in
     edge_refused c.args.states c.args.line (c.args.line + c.len.result) c.args.text.now c.loop-words.rest.now edges c.at_line.result
@@ -41,9 +41,9 @@ loop-words-preserved c =
     let words = words_of c.in-Some.words.now in
     let is_edge = rw c.in-Ok-Some.field-0-is at c.in-Ok-Some.ensures.read in
     let read =
-      edge_read c.args.states c.args.text.now edges c.loop-words.rest.now c.in-Some.behind.now words c.in-Ok-Some.edge
-      c.loop-words.invariant c.in-Some.ensures.lines c.in-Some.ensures.left c.in-Some.ensures.shorter
-      (subst (λ before. IsEdgeLine words c.args.states before c.in-Ok-Some.edge) last is_edge) in
+    edge_read c.args.states c.args.text.now edges c.loop-words.rest.now c.in-Some.behind.now words c.in-Ok-Some.edge
+    c.loop-words.invariant c.in-Some.ensures.lines c.in-Some.ensures.left c.in-Some.ensures.shorter
+    (subst (λ before. IsEdgeLine words c.args.states before c.in-Ok-Some.edge) last is_edge) in
     subst (λ es. AreEdgesTo c.args.states c.args.text.now es c.in-Some.behind.now) (sym c.in_ok-push-in-Ok-Some.ensures.items) read
 
 pub returns-in-None-clause-refused : goal.returns-in-None-clause-refused

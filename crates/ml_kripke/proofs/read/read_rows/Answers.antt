@@ -30,8 +30,8 @@ loop-state-preserved c =
     let rows = map (λ row. row.items) c.loop-state.rows.items in
     let behind = c.in-Some.behind.now in
     let read =
-      row_read c.args.text.now rows c.loop-state.state c.loop-state.rest.now behind (words_of c.in-Some.words.now) c.in-Ok.labels.items
-      c.loop-state.invariant c.in-Some.ensures.lines c.in-Some.ensures.left c.in-Some.ensures.shorter c.in-Ok.ensures.read in
+    row_read c.args.text.now rows c.loop-state.state c.loop-state.rest.now behind (words_of c.in-Some.words.now) c.in-Ok.labels.items
+    c.loop-state.invariant c.in-Some.ensures.lines c.in-Some.ensures.left c.in-Some.ensures.shorter c.in-Ok.ensures.read in
     let pushed = ap (map (λ row. row.items)) c.in_ok-push-in-Ok.ensures.items in
     subst (λ rs. AreRowsTo c.args.text.now rs (c.loop-state.state + 1) behind)
     (sym (map-append (λ row. row.items) c.loop-state.rows.items (c.in-Ok.labels ∷ [])) ∙ sym pushed) read

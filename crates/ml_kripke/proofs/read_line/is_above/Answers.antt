@@ -17,5 +17,5 @@ returns-in_default c =
     record {
       yes = λ is. absurd (true≢false (sym is));
       otherwise = λ is above.
-        c.in_default.not-Less (c.cmp.ensures ∙ subst (λ l. Above (slice_cmp nat_cmp) l c.args.label.now) last above);
+          c.in_default.not-Less (c.cmp.ensures ∙ subst (λ l. Above (slice_cmp nat_cmp) l c.args.label.now) last above);
     }

@@ -8,5 +8,5 @@ use Rattle.ml_kripke.proofs.read_line.states_of.Goals as goal
 pub returns-then-states-eq0-clause-refused : goal.returns-then-states-eq0-clause-refused
 returns-then-states-eq0-clause-refused c =
     λ left.
-      no_states left (words_of c.args.line.now) c.in-Some.word.now c.in-Some.ensures.0 c.in-Some.ensures.1
-      (c.in-Some-read_number.ensures.0 ∙ ap number c.if-states-eq0.true)
+    no_states left (words_of c.args.line.now) c.in-Some.word.now c.in-Some.ensures.0 c.in-Some.ensures.1
+    (c.in-Some-read_number.ensures.0 ∙ ap number c.if-states-eq0.true)

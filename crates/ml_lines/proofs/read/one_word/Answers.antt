@@ -1,5 +1,5 @@
-use Rattle.std.proofs.Common.{◌≡◌, ◌∷◌, length, ap, arith}
-use Rattle.ml_lines.specs.Reading.{words_of, is_blank}
+use Rattle.std.proofs.Common.{length, ap, arith}
+use Rattle.ml_lines.specs.Reading.{is_blank}
 use Rattle.ml_lines.proofs.Cuts.{some_part}
 use Rattle.ml_lines.proofs.read.one_word.Goals as goal
 

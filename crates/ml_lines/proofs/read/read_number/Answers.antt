@@ -1,4 +1,4 @@
-use Rattle.std.proofs.Common.{◌≡◌, ◌<◌, ◌≤◌, ◌^◌, length, get_or, arith}
+use Rattle.std.proofs.Common.{◌≡◌, ◌<◌, length, get_or, arith}
 use Rattle.std.proofs.lemmas.Bool.Decides.{nat_tests}
 use Rattle.ml_lines.proofs.Numbers.{no_number_empty, no_number_zero, digit_refused, all_read}
 use Rattle.ml_lines.proofs.read.read_number.Goals as goal
@@ -20,8 +20,8 @@ returns c =
     let word = c.args.word.now in
     let some : 0 < length word = grind (arith, nat_tests) in
     let no_zero : get_or word 0 0 ≡ 48 → length word ≡ 1 =
-        elim c.else-word-gt1.branch [
-          | else-word-gt1-via-then-word-gt1+else-word-eq48 w ↦ λ is. absurd (w.if-word-eq48.false is)
-          | else-word-gt1-via-else-word-gt1 w ↦ λ is. omega arith
-        ] in
+    elim c.else-word-gt1.branch [
+      | else-word-gt1-via-then-word-gt1+else-word-eq48 w ↦ λ is. absurd (w.if-word-eq48.false is)
+      | else-word-gt1-via-else-word-gt1 w ↦ λ is. omega arith
+    ] in
     all_read word c.loop-byte.byte-index c.loop-byte.n (omega arith) some no_zero c.loop-byte.invariant

@@ -30,12 +30,7 @@ pub returns-clause-is_structure : goal.returns-clause-is_structure
 returns-clause-is_structure c =
     let none : first_bad_state c.args.states c.args.labels.items c.args.edges.items ≡ None = cc in
     is_structure c.args.states c.args.labels.items c.ascending.result.items c.args.edges.items c.ascending-2.result.items none
-<<<<<<< HEAD
-    c.ascending.ensures.same (map (λ row. row.items) c.in_ok-rows.field-0.items) c.in_ok-rows.ensures c.ascending-2.ensures.same
-    (omega arith)
-=======
     c.ascending.ensures.same (map (λ row. row.items) c.in_ok-rows.field-0.items) c.in_ok-rows.ensures c.ascending-2.ensures.same (omega arith)
->>>>>>> ad08bb188b171babee6cdcb7ba7df42f87505a31
 
 pub returns-clause-is_ordered : goal.returns-clause-is_ordered
 returns-clause-is_ordered c =
