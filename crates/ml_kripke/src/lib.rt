@@ -14,6 +14,8 @@ mod body_rule;
 pub mod laws;
 mod model;
 mod read;
+#[cfg(test)]
+mod read_tests;
 mod read_line;
 mod structure;
 mod write;
