@@ -10,6 +10,7 @@
 // Below stands `ml_lists`, general mathematics. Whatever speaks of names, or reads and writes, stands above.
 #![tactic(auto)]
 
+mod doc_fault;
 mod id_set;
 pub mod laws;
 pub mod memory;
@@ -25,6 +26,7 @@ mod structure;
 mod tests;
 pub mod whole;
 
+pub use doc_fault::DocFault;
 pub use id_set::IdSet;
 pub use memory::{MemSink, MemSource};
 pub use name::{Action, Name, NameRefusal};

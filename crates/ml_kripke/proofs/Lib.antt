@@ -16,3 +16,25 @@ pub mod Unique
 pub mod OneStructure
 -- the text of a model belongs to one model
 pub mod OneText
+-- the lowest rule that a line breaks, place by place
+pub mod Lowest
+-- the lines of a model are good at their places
+pub mod GoodLines
+-- the first bad line, found behind good ones
+pub mod Faults
+-- lists in which each element is above the one before it
+pub mod Chains
+-- the labels of a state's line, word by word
+pub mod LabelWords
+-- the line of a state, and what makes it a bad one
+pub mod StateWords
+-- the line of an edge, and what makes it a bad one
+pub mod EdgeWords
+-- a body, part by part
+pub mod Parts
+-- refusals in the midst of a body
+pub mod PartFaults
+-- the end of a body
+pub mod Ends
+-- a whole body
+pub mod Whole

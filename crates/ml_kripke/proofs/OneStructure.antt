@@ -36,7 +36,7 @@ edges_exact e f tied =
     let target = numbers_exact e.target f.target second.1 in
     λ i. record { source = source i; action = action i; target = target i }
 
-edge_order : IsTotalOrder edge_cmp
+pub edge_order : IsTotalOrder edge_cmp
 edge_order =
     then_total (on_total (λ (e : Edge). e.source) nat_cmp_total)
     (then_total (on_total (λ (e : Edge). e.action) nat_list_cmp_total) (on_total (λ (e : Edge). e.target) nat_cmp_total))

@@ -150,7 +150,7 @@ edges_plain n fits (e ∷ es) below named =
       edges_plain n fits es (All-tail (EndsBelow n) e es below) (All-tail HasAction e es named),
     )
 
-model_plain : (m : Structure) (s : ℕ) → IsWritten m s → ArePlain (model_lines m s)
+pub model_plain : (m : Structure) (s : ℕ) → IsWritten m s → ArePlain (model_lines m s)
 model_plain m s ok =
     let fits : m.states < 2 ^ 64 = omega (arith, ok.fits) in
     let start : s < 2 ^ 64 = omega (arith, ok.fits, ok.is_state) in
@@ -197,7 +197,7 @@ edge_lines_unique n fits (x ∷ es) (f ∷ fs) below_es below_fs e =
     let rest = edge_lines_unique n fits es fs (All-tail (EndsBelow n) x es below_es) (All-tail (EndsBelow n) f fs below_fs) (ap (drop 1) e) in
     λ i. first i ∷ rest i
 
-length-state_lines : (s : ℕ) (rows : List (List (List ℕ))) → length (state_lines s rows) ≡ length rows
+pub length-state_lines : (s : ℕ) (rows : List (List (List ℕ))) → length (state_lines s rows) ≡ length rows
 length-state_lines s rows = length-map (enumerate_from s rows) (λ labelled. state_line labelled.0 labelled.1) ∙ length-enumerate_from s rows
 
 lines_unique : (m n : Structure) (s t : ℕ) → IsWritten m s → IsWritten n t → model_lines m s ≡ model_lines n t → (m ≡ n) × (s ≡ t)

@@ -4,6 +4,7 @@
 --   OneStructure    == structures in order that have the same are equal
 --   IsWritten m s   == m and a state s of it have a text: m is a structure whose labels and actions are names, and its
 --                      numbers fit 32 bits
+--   IsModelText t   == t is the text of a model in order
 --   OneText         == two that have a text have the same text only where they are the same
 use Rattle.std.specs.Prelude.{ℕ, ◌≡◌, ◌↔◌, ◌^◌, ◌<◌, List, [], slice_index_or, Contains}
 use Rattle.ml_base.specs.declared.structure.Edge.{Edge}
@@ -27,3 +28,7 @@ pub record IsWritten (m : Structure) (start : ℕ) : Type 0 where
 
 abbrev pub OneText : Type 0
 OneText = (m n : Structure) (s t : ℕ) → IsWritten m s → IsWritten n t → model_text m s ≡ model_text n t → (m ≡ n) × (s ≡ t)
+
+-- the text is that of a model in order
+abbrev pub IsModelText : List ℕ → Type 0
+IsModelText text = (m : Structure) × (start : ℕ) × IsWritten m start × IsOrdered m × (text ≡ model_text m start)

@@ -4,3 +4,9 @@ pub mod Ordered
 pub mod ModelText
 -- laws of ordered structures
 pub mod Laws
+-- the rules of a body, and its first bad line
+pub mod BodyRules
+-- what is known of the parts of a body that were read
+pub mod BodyParts
+-- what a refusal of a text tells
+pub mod Refusals

@@ -3,6 +3,10 @@
 -- Each structure in order with a start has exactly one such text, so "these bytes are the text of this structure
 -- and start" is one equation.
 --
+--   states_line n         == `states n`
+--   start_line s          == `start s`
+--   end_line              == `end`
+--   state_lines i rows    == the lines of the states from i on, of which rows has the labels
 --   state_line i ps       == `state i` with the labels behind it
 --   edge_line e           == `edge s a t`
 --   model_lines m start   == states n; start s; the state lines; the edge lines; end
@@ -13,18 +17,27 @@ use Rattle.ml_base.specs.declared.structure.Edge.{Edge}
 use Rattle.ml_base.specs.Structure.{Structure}
 use Rattle.ml_lines.specs.Lines.{Line, number, text_of}
 
+abbrev pub states_line : ℕ → Line
+states_line n = codes "states" ∷ number n ∷ []
+
+abbrev pub start_line : ℕ → Line
+start_line s = codes "start" ∷ number s ∷ []
+
+abbrev pub end_line : Line
+end_line = codes "end" ∷ []
+
 abbrev pub state_line : ℕ → List (List ℕ) → Line
 state_line i labels = codes "state" ∷ number i ∷ labels
 
 abbrev pub edge_line : Edge → Line
 edge_line e = codes "edge" ∷ number e.source ∷ e.action ∷ number e.target ∷ []
 
+abbrev pub state_lines : ℕ → List (List (List ℕ)) → List Line
+state_lines i rows = map (λ labelled. state_line labelled.0 labelled.1) (enumerate_from i rows)
+
 abbrev pub model_lines : Structure → ℕ → List Line
 model_lines m start =
-    (codes "states" ∷ number m.states ∷ []) ∷ (codes "start" ∷ number start ∷ [])
-    ∷ (map (λ labelled. state_line labelled.0 labelled.1) (enumerate_from 0 m.labels)
-    ++ map edge_line m.edges
-    ++ (codes "end" ∷ []) ∷ [])
+    states_line m.states ∷ start_line start ∷ (state_lines 0 m.labels ++ map edge_line m.edges ++ end_line ∷ [])
 
 abbrev pub model_text : Structure → ℕ → List ℕ
 model_text m start = text_of (model_lines m start)

@@ -5,6 +5,7 @@
 -- labels and edges are the same value, and have the same text.
 --
 --   edge_cmp e f                 == the order of edges: by source, then by the bytes of the action, then by target
+--   of_parts n ls es             == the structure of n states with the labels ls of each and the edges es
 --   IsOrdered m                  == the labels of each state, and the edges, strictly ascend
 --   HasNames m                   == each label is a name, and each action is one
 --   IsBuiltFrom n ls es m        == m has n states, the labels ls and the edges es, and no others
@@ -24,6 +25,10 @@ use Rattle.ml_base.specs.Structure.{Structure}
 
 abbrev pub edge_cmp : Edge → Edge → Ordering
 edge_cmp e f = ordering_then (nat_cmp e.source f.source) (ordering_then (slice_cmp nat_cmp e.action f.action) (nat_cmp e.target f.target))
+
+-- the structure with this many states, these labels of each state, and these edges
+abbrev pub of_parts : ℕ → List (List (List ℕ)) → List Edge → Structure
+of_parts states labels edges = record { states = states; labels = labels; edges = edges }
 
 pub record IsOrdered (m : Structure) : Type 0 where
   pub labels_ascend : All (IsStrictlySortedBy (slice_cmp nat_cmp)) m.labels

@@ -10,12 +10,19 @@
 #![tactic(auto)]
 
 mod ascending;
+mod body_rule;
 pub mod laws;
 mod model;
+mod read;
+#[cfg(test)]
+mod read_tests;
+mod read_line;
 mod structure;
 mod write;
 
+pub use body_rule::BodyRule;
 pub use model::Model;
+pub use read::{ModelRefusal, read_model};
 pub use structure::{Structure, StructureRefusal};
 pub use write::write_model;
 

@@ -2,7 +2,7 @@
 ghost use Rattle.std.specs.Prelude.{◌≡◌, ◌<◌, ◌↔◌, ℕ, [], length, map, find, nat_le, Some, All, IfOk, IsErrOf, slice_get, slice_index_or};
 ghost use Rattle.std.specs.List.{flat_map, range_with_len};
 ghost use Rattle.ml_base.specs.Structure.{IsStructure, lists};
-ghost use Rattle.ml_kripke.specs.Ordered.{IsOrdered, IsBuiltFrom, first_bad_state, ends, labels_at};
+ghost use Rattle.ml_kripke.specs.Ordered.{of_parts, IsOrdered, IsBuiltFrom, first_bad_state, ends, labels_at};
 
 use crate::ascending::ascending;
 use ml_base::{Edge, Name, NoMemory};
@@ -87,6 +87,19 @@ impl Structure {
             labels: rows(alloc, states, ascending(labels))?,
             edges: ascending(edges),
         })
+    }
+
+    // the structure of these parts
+    pub(crate) fn of_parts(states: u32, labels: Vec<Vec<Name>>, edges: Vec<Edge>) -> Structure
+        requires is_structure { IsStructure (of_parts states (map (λ row. row.items) labels.items) edges.items) }
+        requires is_ordered { IsOrdered (of_parts states (map (λ row. row.items) labels.items) edges.items) }
+        ensures { result ≡ of_parts states (map (λ row. row.items) labels.items) edges.items }
+    {
+        Structure {
+            states,
+            labels,
+            edges,
+        }
     }
 
     /// How many states there are. Whoever asks also learns what the type keeps.

@@ -6,3 +6,11 @@ pub mod Words
 pub mod Lines
 -- a text has one list of lines
 pub mod Unique
+-- where a list of bytes is cut
+pub mod Cuts
+-- which words spell numbers
+pub mod Numbers
+-- numbers are words
+pub mod WordBytes
+-- a written text has the lines that were written
+pub mod WrittenLines

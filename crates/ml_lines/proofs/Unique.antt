@@ -68,7 +68,7 @@ from_next [] = refl
 from_next (word ∷ words) = refl
 
 -- a word and those behind it
-abbrev body : Word → Line → List ℕ
+abbrev pub body : Word → Line → List ℕ
 body word words = word ++ flat_map next words
 
 first_word : (word : Word) (words : Line) → has 32 word ≡ false → before 32 (body word words) ≡ word
@@ -99,10 +99,10 @@ no_end (word ∷ words) ok =
     list_any-append (λ x. x == 10) word (flat_map next words)
     ∙ no_part_of (has 10 word) (has 10 (flat_map next words)) ok.0 (no_end words ok.1)
 
-no_end_in : (word : Word) (words : Line) → avoids 10 (word ∷ words) → has 10 (body word words) ≡ false
+pub no_end_in : (word : Word) (words : Line) → avoids 10 (word ∷ words) → has 10 (body word words) ≡ false
 no_end_in word words ok = no_end (word ∷ words) ok
 
-text-cons : (word : Word) (words : Line) (lines : List Line)
+pub text-cons : (word : Word) (words : Line) (lines : List Line)
     → text_of ((word ∷ words) ∷ lines) ≡ body word words ++ 10 ∷ text_of lines
 text-cons word words lines =
     ap (λ first. first ++ text_of lines) (line_text-words word words ∙ sym (append_assoc word (flat_map next words) (10 ∷ [])))

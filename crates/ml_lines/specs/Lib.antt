@@ -1,2 +1,4 @@
 -- lines of words
 pub mod Lines
+-- documents read line by line
+pub mod Reading

@@ -1,0 +1,8 @@
+use Rattle.std.proofs.Common.{map}
+use Rattle.ml_kripke.specs.BodyParts.{GoesOn, AreRows}
+use Rattle.ml_kripke.specs.ModelText.{state_lines}
+use Rattle.ml_kripke.proofs.Parts.{AreRowsTo}
+use Rattle.ml_kripke.proofs.read.read_rows.Given as goal
+
+abbrev pub invariant-loop-state : goal.invariant-loop-state
+invariant-loop-state l = AreRowsTo l.fn.text (map (λ row. row.items) l.rows.items) l.state l.rest

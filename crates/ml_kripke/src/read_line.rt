@@ -1,0 +1,242 @@
+// Reading one line of the body of a satisfiable document.
+ghost use Rattle.std.specs.Prelude.{◌≡◌, ◌<◌, ◌^◌, [], ◌∷◌, ℕ, None, IfOk, IfErr, IsErrOf, IsTrue, MatchOption, All, codes, false};
+ghost use Rattle.std.specs.Ordering.{nat_cmp};
+ghost use Rattle.std.specs.Cmp.Lexicographic.{slice_cmp};
+ghost use Rattle.std.specs.Option.{option_copied};
+ghost use Rattle.ml_base.specs.Name.{IsName, IsAction};
+ghost use Rattle.ml_lines.specs.Reading.{words_of, words_behind, AreWords};
+ghost use Rattle.ml_kripke.specs.BodyRules.{IsNumbered, IsStated, IsEdged, IsEdgeBehind, AtStates, AtStart, AtState, AtEdge};
+ghost use Rattle.ml_kripke.specs.BodyParts.{IsStatesLine, IsStartLine, IsStateLine, EdgeOrEnd, Ascend, Above, last_of};
+ghost use Rattle.ml_kripke.specs.Ordered.{edge_cmp};
+ghost use Rattle.std.specs.declared.cmp.Ordering.TheVariants.{Less};
+ghost use Rattle.ml_kripke.specs.Refusals.{Breaks, TellsRule};
+
+use crate::body_rule::BodyRule;
+use ml_base::{Action, Edge, Name, NameRefusal};
+use ml_lines::{are_words, four_words, more_words, read_number, split_word, two_words};
+use std::alloc::Global;
+use std::cmp::Ordering;
+
+/// Why a line was refused.
+#[derive(Clone, Copy, Debug, PartialEq, Eq)]
+pub(crate) enum LineRefusal {
+    /// The lowest rule that it breaks.
+    Breaks(BodyRule),
+    NoMemory,
+}
+
+// the number of states that a line `states n` tells
+pub(crate) fn states_of(line: &[u8]) -> Result<u32, BodyRule>
+    ensures read { IfOk result (IsStatesLine (words_of line.now)) }
+    ensures refused { IfErr result (Breaks AtStates (words_of line.now)) }
+{
+    match numbered(line, b"states") {
+        Some(word) => match read_number(word) {
+            Some(states) => {
+                if states == 0 {
+                    Err(BodyRule::HasStates)
+                } else {
+                    Ok(states)
+                }
+            }
+            None => Err(BodyRule::Numbers),
+        },
+        None => Err(BodyRule::OfKind),
+    }
+}
+
+// the state that a line `start s` tells
+pub(crate) fn start_of(line: &[u8], states: u32) -> Result<u32, BodyRule>
+    ensures read { IfOk result (IsStartLine (words_of line.now) states) }
+    ensures refused { IfErr result (Breaks (AtStart states) (words_of line.now)) }
+{
+    match numbered(line, b"start") {
+        Some(word) => match read_number(word) {
+            Some(start) => {
+                if start < states {
+                    Ok(start)
+                } else {
+                    Err(BodyRule::StartInRange)
+                }
+            }
+            None => Err(BodyRule::Numbers),
+        },
+        None => Err(BodyRule::OfKind),
+    }
+}
+
+// the word behind a fixed one, where the line is these two
+fn numbered<'a>(line: &'a [u8], fixed: &[u8]) -> Option<&'a [u8]>
+    ensures { MatchOption result (¬ (IsNumbered fixed.now (words_of line.now)))
+        (λ word. AreWords (words_of line.now) × (words_of line.now ≡ fixed.now ∷ word.now ∷ [])) }
+{
+    match two_words(line) {
+        Some((first, second)) => {
+            if first == fixed && are_words(line) {
+                Some(second)
+            } else {
+                None
+            }
+        }
+        None => None,
+    }
+}
+
+// the labels that the line of a state tells
+pub(crate) fn labels_of(alloc: Global, line: &[u8], state: u32) -> Result<Vec<Name>, LineRefusal>
+    ensures read { IfOk result (λ labels. IsStateLine (words_of line.now) state labels.items) }
+    ensures refused { IfErr result (λ e. (states : ℕ) → TellsRule (AtState states state) (words_of line.now) e) }
+{
+    match state_words(line) {
+        Some((word, behind)) => match read_number(word) {
+            Some(number) => {
+                if number == state {
+                    match read_labels(alloc, behind) {
+                        Ok(labels) => Ok(labels),
+                        Err(NameRefusal::NotAName) => Err(LineRefusal::Breaks(BodyRule::Labels)),
+                        Err(NameRefusal::NoMemory) => Err(LineRefusal::NoMemory),
+                    }
+                } else {
+                    Err(LineRefusal::Breaks(BodyRule::NextState))
+                }
+            }
+            None => Err(LineRefusal::Breaks(BodyRule::Numbers)),
+        },
+        None => Err(LineRefusal::Breaks(BodyRule::OfKind)),
+    }
+}
+
+// the word behind `state`, and what stands behind it
+fn state_words(line: &[u8]) -> Option<(&[u8], Option<&[u8]>)>
+    ensures { MatchOption result (¬ (IsStated (words_of line.now)))
+        (λ p. AreWords (words_of line.now)
+        × (words_of line.now ≡ codes "state" ∷ p.0.now ∷ words_behind (option_copied p.1))) }
+{
+    match more_words(line) {
+        Some((first, rest)) => {
+            if first == b"state".as_slice() && are_words(line) {
+                Some(split_word(rest))
+            } else {
+                None
+            }
+        }
+        None => None,
+    }
+}
+
+// the words as labels; refused as no names where they are none in ascending order
+fn read_labels(alloc: Global, behind: Option<&[u8]>) -> Result<Vec<Name>, NameRefusal>
+    ensures read { IfOk result (λ labels. (labels.items ≡ words_behind (option_copied behind.entry)) × All IsName labels.items × Ascend labels.items) }
+    ensures refused { IsErrOf result NameRefusal.NotAName → ¬ (All IsName (words_behind (option_copied behind.entry)) × Ascend (words_behind (option_copied behind.entry))) }
+{
+    let mut labels = Vec::new(alloc);
+    let mut left = behind;
+    while let Some(text) = left {
+        let (word, rest) = split_word(text);
+        let label = Name::new(alloc, word)?;
+        if !is_above(&labels, &label) {
+            return Err(NameRefusal::NotAName);
+        }
+        match labels.push(label) {
+            Ok(()) => left = rest,
+            Err(_) => return Err(NameRefusal::NoMemory),
+        }
+    }
+    Ok(labels)
+}
+
+// is the label above the last one, if there is one?
+fn is_above(labels: &[Name], label: &Name) -> bool
+    ensures yes { IsTrue result → Above (slice_cmp nat_cmp) (last_of None labels.now) label.now }
+    ensures otherwise { result ≡ false → ¬ (Above (slice_cmp nat_cmp) (last_of None labels.now) label.now) }
+{
+    match labels.last() {
+        Some(last) => matches!(last.cmp(label), Ordering::Less),
+        None => true,
+    }
+}
+
+// the edge that a line tells, which stands behind another one or none; `None` at the line `end`
+pub(crate) fn edge_of(
+    alloc: Global,
+    line: &[u8],
+    states: u32,
+    before: Option<&Edge>,
+) -> Result<Option<Edge>, LineRefusal>
+    ensures read { IfOk result (EdgeOrEnd (words_of line.now) states (option_copied before.entry)) }
+    ensures refused { IfErr result (TellsRule (AtEdge states (option_copied before.entry)) (words_of line.now)) }
+{
+    if line == b"end".as_slice() {
+        return Ok(None);
+    }
+    match edge_words(line) {
+        Some((source, action, target)) => match read_number(source) {
+            Some(source) => match read_number(target) {
+                Some(target) => match edge_behind(alloc, states, before, source, action, target) {
+                    Ok(edge) => Ok(Some(edge)),
+                    Err(NameRefusal::NotAName) => Err(LineRefusal::Breaks(BodyRule::Edges)),
+                    Err(NameRefusal::NoMemory) => Err(LineRefusal::NoMemory),
+                },
+                None => Err(LineRefusal::Breaks(BodyRule::Numbers)),
+            },
+            None => Err(LineRefusal::Breaks(BodyRule::Numbers)),
+        },
+        None => Err(LineRefusal::Breaks(BodyRule::OfKind)),
+    }
+}
+
+// the words behind `edge`
+fn edge_words(line: &[u8]) -> Option<(&[u8], &[u8], &[u8])>
+    ensures { MatchOption result (¬ (IsEdged (words_of line.now)))
+        (λ p. AreWords (words_of line.now) × (words_of line.now ≡ codes "edge" ∷ p.0.now ∷ p.1.now ∷ p.2.now ∷ [])) }
+{
+    match four_words(line) {
+        Some((first, source, action, target)) => {
+            if first == b"edge".as_slice() && are_words(line) {
+                Some((source, action, target))
+            } else {
+                None
+            }
+        }
+        None => None,
+    }
+}
+
+// the edge behind another one; refused as no name where it isn't one
+fn edge_behind(
+    alloc: Global,
+    states: u32,
+    before: Option<&Edge>,
+    source: u32,
+    action: &[u8],
+    target: u32,
+) -> Result<Edge, NameRefusal>
+    ensures read { IfOk result (λ e. (e ≡ record { source = source; action = action.now; target = target }) × IsEdgeBehind states (option_copied before.entry) e) }
+    ensures refused { IsErrOf result NameRefusal.NotAName
+        → ¬ (IsEdgeBehind states (option_copied before.entry) (record { source = source; action = action.now; target = target })) }
+{
+    if source >= states || target >= states {
+        return Err(NameRefusal::NotAName);
+    }
+    let edge = Edge {
+        source,
+        action: Action::new(alloc, action)?,
+        target,
+    };
+    if is_behind(before, &edge) {
+        Ok(edge)
+    } else {
+        Err(NameRefusal::NotAName)
+    }
+}
+
+// is the edge above the one before it, if there is one?
+fn is_behind(before: Option<&Edge>, edge: &Edge) -> bool
+    ensures yes { IsTrue result → MatchOption (option_copied before.entry) (Unit {0}) (λ b. edge_cmp b edge.now ≡ Less) }
+    ensures otherwise { result ≡ false → ¬ (MatchOption (option_copied before.entry) (Unit {0}) (λ b. edge_cmp b edge.now ≡ Less)) }
+{
+    match before {
+        Some(last) => matches!(last.cmp(edge), Ordering::Less),
+        None => true,
+    }
+}

@@ -1,0 +1,93 @@
+-- Which words spell numbers.
+--
+--   own              == the digits of a word, and their value, are those of std
+--   value-number     == the value of a number's word is the number
+--   digits-number    == a number's word has digits alone
+--   number-value     == digits without a leading zero are the word of their value
+--   no_number_empty, no_number_zero, no_number_byte, no_number_large  == no number is spelt by the empty word, by a
+--                       longer word with a leading zero, by a word with a byte that is no digit, by too great a value
+--   value_on-ge      == digits behind a number make it no smaller
+use Rattle.std.proofs.Common.{◌≡◌, ℕ, zero, suc, ◌+◌, ◌-◌, ◌*◌, ◌^◌, ◌<◌, ◌≤◌, Bool, true, false, ◌&&◌, [], ◌∷◌, length, get_or, drop, refl, sym, ap, ◌∙◌, arith, rules}
+use Rattle.std.specs.Str.{all_ascii_digits}
+use Rattle.std.specs.Char.{is_ascii_digit}
+use Rattle.std.proofs.lemmas.Bool.{true≢false}
+use Rattle.std.proofs.lemmas.List.{drop_more, drop_all}
+use Rattle.std.proofs.lemmas.Fmt.{decimal_digit, decimal_nonempty, first_decimal, digits_decimal, digits_value-decimal, decimal-digits_value}
+use Rattle.std.proofs.lemmas.Str.Parse.{IsNumeralModel, numerals_by_fold}
+use Rattle.ml_lines.specs.Lines.{Word, number}
+use Rattle.ml_lines.specs.Reading.{IsNumber, value, value_on}
+
+own : IsNumeralModel (λ ds. all_ascii_digits ds ≡ true) (value_on 0)
+own = numerals_by_fold (λ ds. all_ascii_digits ds ≡ true) (search rules) value_on (search rules)
+
+pub value-number : (n : ℕ) → n < 2 ^ 64 → value (number n) ≡ n
+value-number n fits = digits_value-decimal own n fits
+
+pub digits-number : (n : ℕ) → n < 2 ^ 64 → all_ascii_digits (number n) ≡ true
+digits-number n fits = digits_decimal own n fits
+
+pub number-value : (word : Word) → all_ascii_digits word ≡ true → 0 < length word → (get_or word 0 0 ≡ 48 → length word ≡ 1)
+    → value word < 2 ^ 32 → word ≡ number (value word)
+number-value word digits some no_zero small = sym (decimal-digits_value own word digits some no_zero (omega arith))
+
+pub no_number_empty : (word : Word) → length word ≡ 0 → ¬ (IsNumber word)
+no_number_empty word none (n, small, is) =
+    absurd (omega (arith, decimal_nonempty n (omega arith), ap length is))
+
+pub no_number_zero : (word : Word) → get_or word 0 0 ≡ 48 → 1 < length word → ¬ (IsNumber word)
+no_number_zero word first long (zero, small, is) = absurd (omega (arith, ap length (is ∙ decimal_digit 0 (omega arith))))
+no_number_zero word first long (suc n, small, is) =
+    absurd (omega (arith, first_decimal (suc n) (omega arith) (omega arith), ap (λ w. get_or w 0 0) is))
+
+pub no_number_byte : (word : Word) → all_ascii_digits word ≡ false → ¬ (IsNumber word)
+no_number_byte word other (n, small, is) =
+    true≢false (sym (digits-number n (omega arith)) ∙ ap all_ascii_digits (sym is) ∙ other)
+
+pub no_number_large : (word : Word) → 2 ^ 32 ≤ value word → ¬ (IsNumber word)
+no_number_large word large (n, small, is) = absurd (omega (arith, value-number n (omega arith), ap value is))
+
+pub value_on-ge : (n : ℕ) (word : Word) → n ≤ value_on n word
+value_on-ge n [] = omega arith
+value_on-ge n (c ∷ cs) = omega (arith, value_on-ge (10 * n + (c - 48)) cs)
+
+-- what is known of a word when its first digits were read
+pub record IsReadTo (word : Word) (i n : ℕ) : Type 0 where
+  pub value_left : value word ≡ value_on n (drop i word)
+  pub small : n < 2 ^ 32
+  pub digits_left : all_ascii_digits word ≡ all_ascii_digits (drop i word)
+
+pub digit_read : (word : Word) (i n m : ℕ) → i < length word → is_ascii_digit (get_or word i 0) ≡ true
+    → m ≡ 10 * n + (get_or word i 0 - 48) → m < 2 ^ 32 → IsReadTo word i n → IsReadTo word (i + 1) m
+digit_read word i n m here digit more small so_far = record {
+  small = small;
+  value_left =
+      so_far.value_left ∙ ap (value_on n) (drop_more word i 0 here) ∙ ap (λ k. value_on k (drop (i + 1) word)) (sym more);
+  digits_left =
+      so_far.digits_left ∙ ap all_ascii_digits (drop_more word i 0 here)
+      ∙ ap (λ first. first && all_ascii_digits (drop (i + 1) word)) digit;
+}
+
+pub digit_refused : (word : Word) (i n : ℕ) → i < length word → IsReadTo word i n
+    → (is_ascii_digit (get_or word i 0) ≡ true → 2 ^ 32 ≤ 10 * n + (get_or word i 0 - 48)) → ¬ (IsNumber word)
+digit_refused word i n here so_far why = go (is_ascii_digit (get_or word i 0)) refl
+  where
+    go : (digit : Bool) → is_ascii_digit (get_or word i 0) ≡ digit → ¬ (IsNumber word)
+    go true is =
+        no_number_large word
+        (omega (
+          arith,
+          why is,
+          so_far.value_left ∙ ap (value_on n) (drop_more word i 0 here),
+          value_on-ge (10 * n + (get_or word i 0 - 48)) (drop (i + 1) word),
+        ))
+    go false is =
+        no_number_byte word
+        (so_far.digits_left ∙ ap all_ascii_digits (drop_more word i 0 here)
+        ∙ ap (λ first. first && all_ascii_digits (drop (i + 1) word)) is)
+
+pub all_read : (word : Word) (i n : ℕ) → length word ≤ i → 0 < length word → (get_or word 0 0 ≡ 48 → length word ≡ 1)
+    → IsReadTo word i n → (word ≡ number n) × (n < 2 ^ 32)
+all_read word i n past some no_zero so_far =
+    let none = drop_all i word past in
+    let is : value word ≡ n = so_far.value_left ∙ ap (value_on n) none in
+    (number-value word (so_far.digits_left ∙ ap all_ascii_digits none) some no_zero (omega (arith, is, so_far.small)) ∙ ap number is, so_far.small)

@@ -1,0 +1,144 @@
+// Reading a text line by line, a line word by word, and a number.
+ghost use Rattle.std.specs.Prelude.{◌≡◌, ◌≢◌, ◌==◌, ◌∷◌, ◌+◌, ◌*◌, ◌<◌, ◌≤◌, ◌^◌, ◌-◌, [], MatchOption, IsTrue, length, position};
+ghost use Rattle.std.specs.List.{list_all};
+ghost use Rattle.std.specs.Char.{is_ascii_digit};
+ghost use Rattle.std.specs.Option.{option_copied};
+ghost use Rattle.ml_lines.specs.Lines.{number};
+ghost use Rattle.ml_lines.specs.Reading as reading;
+ghost use Rattle.ml_lines.specs.Reading.{words_of, words_behind, lines_of, left_of, IsNumber};
+
+/// The first line of a text, without its LF, and what stands behind it; `None` where the text has no whole line.
+///
+/// Cost: linear in the line.
+pub fn split_line(text: &[u8]) -> Option<(&[u8], &[u8])>
+    ensures lines { MatchOption result (lines_of text.now ≡ []) (λ p. lines_of text.now ≡ words_of p.0.now ∷ lines_of p.1.now) }
+    ensures left { MatchOption result (left_of text.now ≡ text.now) (λ p. left_of text.now ≡ left_of p.1.now) }
+    ensures shorter { MatchOption result (Unit {0}) (λ p. length p.1.now + 1 ≤ length text.now) }
+{
+    match position_of(text, b'\n') {
+        Some(end) => Some((&text[..end], &text[end + 1..])),
+        None => None,
+    }
+}
+
+/// The first word of a line, and what stands behind the blank that ends it, where there is one.
+///
+/// Cost: linear in the word.
+pub fn split_word(line: &[u8]) -> (&[u8], Option<&[u8]>)
+    ensures words { words_of line.now ≡ result.0.now ∷ words_behind (option_copied result.1) }
+    ensures shorter { MatchOption result.1 (Unit {0}) (λ rest. length rest.now + 1 ≤ length line.now) }
+{
+    match position_of(line, b' ') {
+        Some(end) => (&line[..end], Some(&line[end + 1..])),
+        None => (line, None),
+    }
+}
+
+/// The first word of a line, and what stands behind its blank; `None` where the line is one word.
+pub fn more_words(line: &[u8]) -> Option<(&[u8], &[u8])>
+    ensures { MatchOption result (length (words_of line.now) ≡ 1) (λ p. words_of line.now ≡ p.0.now ∷ words_of p.1.now) }
+{
+    match split_word(line) {
+        (word, Some(rest)) => Some((word, rest)),
+        (_, None) => None,
+    }
+}
+
+/// The word of a line of one word; `None` where it has more.
+pub fn one_word(line: &[u8]) -> Option<&[u8]>
+    ensures { MatchOption result (length (words_of line.now) ≢ 1) (λ w. words_of line.now ≡ w.now ∷ []) }
+{
+    match split_word(line) {
+        (word, None) => Some(word),
+        (_, Some(_)) => None,
+    }
+}
+
+/// The words of a line of two words; `None` where it has fewer or more.
+pub fn two_words(line: &[u8]) -> Option<(&[u8], &[u8])>
+    ensures { MatchOption result (length (words_of line.now) ≢ 2) (λ p. words_of line.now ≡ p.0.now ∷ p.1.now ∷ []) }
+{
+    let (first, rest) = more_words(line)?;
+    let second = one_word(rest)?;
+    Some((first, second))
+}
+
+/// The words of a line of four words; `None` where it has fewer or more.
+pub fn four_words(line: &[u8]) -> Option<(&[u8], &[u8], &[u8], &[u8])>
+    ensures { MatchOption result (length (words_of line.now) ≢ 4)
+        (λ p. words_of line.now ≡ p.0.now ∷ p.1.now ∷ p.2.now ∷ p.3.now ∷ []) }
+{
+    let (first, rest) = more_words(line)?;
+    let (second, rest) = more_words(rest)?;
+    let (third, fourth) = two_words(rest)?;
+    Some((first, second, third, fourth))
+}
+
+fn position_of(bytes: &[u8], byte: u8) -> Option<usize>
+    ensures { result ≡ position (λ b. b == byte) bytes.now }
+{
+    bytes.iter().position(|b| *b == byte)
+}
+
+/// Has each word of the line at least one byte, and no CR? So no two blanks stand side by side, and none at an end.
+///
+/// Cost: linear in the line.
+pub fn are_words(line: &[u8]) -> bool
+    ensures { result ≡ list_all reading.is_word (words_of line.now) }
+{
+    line.split(|byte| *byte == b' ').all(|word| is_word(word))
+}
+
+fn is_word(word: &[u8]) -> bool
+    ensures { result ≡ reading.is_word word.now }
+{
+    !word.is_empty() && are_word_bytes(word)
+}
+
+fn are_word_bytes(word: &[u8]) -> bool
+    ensures { result ≡ list_all reading.is_word_byte word.now }
+{
+    word.iter().all(|byte| is_word_byte(*byte))
+}
+
+fn is_word_byte(byte: u8) -> bool
+    ensures { result ≡ reading.is_word_byte byte }
+{
+    !(byte == b' ' || byte == b'\n' || byte == b'\r')
+}
+
+/// The number that a word spells, in decimal and without leading zeros; `None` exactly where it spells none that fits
+/// 32 bits.
+///
+/// Cost: linear in the word.
+pub fn read_number(word: &[u8]) -> Option<u32>
+    ensures { MatchOption result (¬ (IsNumber word.now)) (λ n. (word.now ≡ number n) × (n < 2 ^ 32)) }
+{
+    if word.is_empty() {
+        return None;
+    }
+    if word.len() > 1 && word[0] == b'0' {
+        return None;
+    }
+    let mut n = 0;
+    for byte in word {
+        match with_digit(n, *byte) {
+            Some(more) => n = more,
+            None => return None,
+        }
+    }
+    Some(n)
+}
+
+// the number with one more digit
+fn with_digit(n: u32, byte: u8) -> Option<u32>
+    ensures { MatchOption result (IsTrue (is_ascii_digit byte) → 2 ^ 32 ≤ 10 * n + (byte - 48)) (λ m. IsTrue (is_ascii_digit byte) × (m ≡ 10 * n + (byte - 48)) × (m < 2 ^ 32)) }
+{
+    if !byte.is_ascii_digit() {
+        return None;
+    }
+    match n.checked_mul(10) {
+        Some(tens) => tens.checked_add(u32::from(byte - b'0')),
+        None => None,
+    }
+}
