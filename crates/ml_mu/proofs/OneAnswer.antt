@@ -3,10 +3,10 @@
 --   one_formula       == a text stands for one formula at most
 --   parsed_or_refused == what is parsed is refused by nothing but want of memory
 --   refused_one_way   == a text is refused in one way at most
-use Rattle.std.proofs.Common.{◌≡◌, ℕ, Bool, true, false, List, [], ◌∷◌, length, Option, Some, None, refl, sym, ◌∙◌, ap}
+use Rattle.std.proofs.Common.{◌≡◌, ℕ, true, List, [], ◌∷◌, length, Some, None, refl, sym, ◌∙◌, ap}
 use Rattle.ml_base.specs.declared.parse_refusal.ParseRefusal.{ParseRefusal}
 use Rattle.ml_base.specs.declared.parse_refusal.ParseRefusal.TheVariants as refusal
-use Rattle.ml_text.specs.Refusals.{Cause, Syntax, TooMany, TooNested, NameTooLong, IsRefused, IsAccepted, offset_of, signs_of}
+use Rattle.ml_text.specs.Refusals.{Cause, Syntax, TooMany, TooNested, NameTooLong, offset_of, signs_of}
 use Rattle.ml_text.proofs.Complete.{one_tree}
 use Rattle.ml_text.proofs.OneAnswer.{refused_once, accepted_not_refused}
 use Rattle.ml_mu.specs.Formula.{Formula}

@@ -5,8 +5,7 @@ ghost use Rattle.ml_mu.specs.Parsing.{ParsedAreWellFormed, ParsedOrRefused, Refu
 #[tactic(auto, using(crate::proofs::OneAnswer::one_formula))]
 pub fn one_formula()
     ensures { StandForOne }
-{
-}
+{}
 
 /// A text is parsed or refused, never both, and but for want of memory it is refused in one way at most. So `parse`
 /// answers each exactly where it is said to come.
@@ -14,13 +13,11 @@ pub fn one_formula()
 pub fn one_answer()
     ensures parsed { ParsedOrRefused }
     ensures refused { RefusedOnce }
-{
-}
+{}
 
 /// What a text is parsed as is well formed: small, with names spelled as they must be, and with bound and positive
 /// variables.
 #[tactic(auto, using(crate::proofs::Parsed::parsed_well))]
 pub fn parsed_are_well_formed()
     ensures { ParsedAreWellFormed }
-{
-}
+{}

@@ -4,7 +4,9 @@
 // byte that begins no sign and no word is a token by itself, so one scanner serves all: a logic only says
 // which letters begin a word (`WordStart`), and which tokens its grammar has.
 //
-// Begin with `next_token`, the first token at or behind an offset. Below stands nothing but std; above stand
+// Begin with `next_token`, the first token at or behind an offset. What the grammars of the logics share is theory
+// alone, in `specs/` and `proofs/`: a grammar as tables (`Grammar`), the machine that reads its texts (`Machine`), where
+// texts are refused (`Refusals`), and that the machine is exact (`proofs/Exact`). Below stands nothing but std; above stand
 // the parsers of the logics.
 #![tactic(auto)]
 
