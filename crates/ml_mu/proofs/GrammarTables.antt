@@ -102,7 +102,7 @@ number grammar.Or = 2
 number grammar.And = 3
 number grammar.Un = 4
 
-un_raised : (l : grammar.Level) {ts rest : List Sign} {f : Formula} → Reads grammar.Un ts f rest → Reads l ts f rest
+pub un_raised : (l : grammar.Level) {ts rest : List Sign} {f : Formula} → Reads grammar.Un ts f rest → Reads l ts f rest
 un_raised grammar.Un r = r
 un_raised grammar.And r = and_alone r
 un_raised grammar.Or r = or_alone (and_alone r)

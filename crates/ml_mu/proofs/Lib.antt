@@ -30,3 +30,5 @@ pub mod Fine
 pub mod Parsed
 -- a text has one answer
 pub mod OneAnswer
+-- canonical texts
+pub mod CanonicalTexts

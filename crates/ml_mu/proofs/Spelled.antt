@@ -74,13 +74,13 @@ items_spelled text silent (p ∷ ps) = (spelled_sign p.token (Rattle.ml_mu.specs
 
 -- ---- formulas
 
-letters : (p : List ℕ) → is_word_from is_lower p ≡ true → is_word_from is_letter p ≡ true
+pub letters : (p : List ℕ) → is_word_from is_lower p ≡ true → is_word_from is_letter p ≡ true
 letters [] is = absurd (cc)
 letters (b ∷ bs) is =
     let parts = and_parts (is_lower b) (list_all is_word_byte bs) is in
     and_from (is_letter b) (list_all is_word_byte bs) (or_left (is_lower b) (is_upper b) parts.0) parts.1
 
-upper_letters : (p : List ℕ) → is_word_from is_upper p ≡ true → is_word_from is_letter p ≡ true
+pub upper_letters : (p : List ℕ) → is_word_from is_upper p ≡ true → is_word_from is_letter p ≡ true
 upper_letters [] is = absurd (cc)
 upper_letters (b ∷ bs) is =
     let parts = and_parts (is_upper b) (list_all is_word_byte bs) is in
@@ -93,7 +93,7 @@ other_word x w is other =
     (λ (differs : bytes_eq x w ≡ false). differs)
     (cases_Bool (bytes_eq x w))
 
-unreserved : (x : List ℕ) → is_variable x ≡ true → is_reserved x ≡ false
+pub unreserved : (x : List ℕ) → is_variable x ≡ true → is_reserved x ≡ false
 unreserved x is =
     simp (other_word x (codes "tt") is refl, other_word x (codes "true") is refl, other_word x (codes "ff") is refl, other_word x (codes "false") is refl, other_word x (codes "mu") is refl, other_word x (codes "nu") is refl)
 

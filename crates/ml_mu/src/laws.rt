@@ -1,10 +1,17 @@
 // What holds of texts and formulas by their definitions alone. The functions do nothing.
-ghost use Rattle.ml_mu.specs.Parsing.{ParsedAreWellFormed, ParsedOrRefused, RefusedOnce, StandForOne};
+ghost use Rattle.ml_mu.specs.Parsing.{CanonicalStandsForOne, ParsedAreWellFormed, ParsedOrRefused, RefusedOnce, StandForOne};
 
 /// A text stands for one formula at most, by the grammar alone.
 #[tactic(auto, using(crate::proofs::OneAnswer::one_formula))]
 pub fn one_formula()
     ensures { StandForOne }
+{}
+
+/// The canonical text of a formula stands for it and for no other, by the grammar alone. So what `print` writes is a
+/// text of the formula that was printed.
+#[tactic(auto, using(crate::proofs::OneAnswer::canonical_one))]
+pub fn canonical_text()
+    ensures { CanonicalStandsForOne }
 {}
 
 /// A text is parsed or refused, never both, and but for want of memory it is refused in one way at most. So `parse`

@@ -246,6 +246,7 @@ fn formulas_are_copied_and_counted(rt: HostRuntime) -> Result<(), Fail> {
         );
     }
     laws::one_formula();
+    laws::canonical_text();
     laws::one_answer();
     laws::parsed_are_well_formed();
     Ok(())
