@@ -6,23 +6,17 @@
 --   counted_items              == the items of a text count what its signs do
 --   counts                     == the occurrences of a formula are those of its text
 --   words_are_variables        == the variables of a formula are those of its text
-use Rattle.std.proofs.Common.{◌≡◌, ℕ, suc, ◌+◌, ◌-◌, ◌≤◌, Bool, true, false, ◌&&◌, List, [], ◌∷◌, ◌++◌, length, map, Option, Some, None, refl, sym, ◌∙◌, ap, subst, arith, if◌then◌else◌, cond, codes, append_assoc, length-append}
-use Rattle.std.proofs.lemmas.Bool.{and_from, cond-true, cond-false}
-use Rattle.ml_text.specs.declared.token.Operator.{Operator}
+use Rattle.std.proofs.Common.{◌≡◌, ℕ, suc, ◌+◌, Bool, true, false, List, [], ◌∷◌, ◌++◌, length, Some, None, refl, sym, ◌∙◌, ap, arith, if◌then◌else◌, append_assoc, length-append}
 use Rattle.ml_text.specs.declared.token.Operator.TheVariants as operator
-use Rattle.ml_text.specs.declared.token.Token.{Token}
-use Rattle.ml_text.specs.declared.token.Token.TheVariants as token
 use Rattle.ml_text.specs.declared.token.Placed.{Placed}
-use Rattle.ml_text.specs.Words.{constant_of}
 use Rattle.ml_text.specs.Refusals.{Item, signs_of, counted}
 use Rattle.ml_mu.specs.Formula as plain
 use Rattle.ml_mu.specs.Formula.{Formula, occurrences, weight}
-use Rattle.ml_mu.specs.Signs.{Sign, Not, Connective, Const, Open, Close, Begins, Ends, Binds, Dot, Blank, Lower, Upper, Unknown, action_of, sign_of, byte_sign, word_sign, word_sign_by, name_sign}
+use Rattle.ml_mu.specs.Signs.{Sign, Begins, Ends, Blank, Lower, Upper, action_of}
 use Rattle.ml_mu.specs.Grammar as grammar
 use Rattle.ml_mu.specs.Grammar.{Reads, iff_alone, iff, imp_alone, imp, or_alone, or, and_alone, and, negation, modal, modal_blank, binder, group, constant, proposition, variable}
-use Rattle.ml_mu.specs.Spelling.{is_proposition, is_variable, is_action, is_spelled, is_word_from, is_reserved}
 use Rattle.ml_mu.specs.Text.{weight_of, silences, item_by, sign_at, items_from, places_from, with_place}
-use Rattle.ml_mu.specs.VariableFaults.{Standing, Fine, Unbound, NotPositive, Around, standing_of, standings_in, standings, fault_at}
+use Rattle.ml_mu.specs.VariableFaults.{Standing, Fine, Unbound, NotPositive, Around, standings_in, fault_at}
 
 -- ---- occurrences
 

@@ -4,10 +4,10 @@
 --   even_from n k      == an even number of negations stands between the k-th and the n-th
 --   IsOnly b n i x f   == x occurs in f only as the binder b allows it there, under n negations and i iffs
 --   fine_well          == a formula without faults has its variables bound and positive
-use Rattle.std.proofs.Common.{◌≡◌, ℕ, ◌+◌, ◌-◌, ◌%◌, ◌<◌, ◌≤◌, ◌⊎◌, Bool, true, false, ◌&&◌, ◌||◌, not, ◌==◌, List, [], ◌∷◌, ◌++◌, map, Option, Some, None, refl, sym, ◌∙◌, ap, subst, ⊎_elim, arith, if◌then◌else◌, cond, bytes_eq, eqb-true}
+use Rattle.std.proofs.Common.{◌≡◌, ℕ, ◌+◌, ◌-◌, ◌%◌, ◌<◌, ◌≤◌, Bool, true, false, ◌&&◌, not, ◌==◌, List, [], ◌∷◌, ◌++◌, map, Option, Some, None, refl, sym, ◌∙◌, ap, subst, ⊎_elim, arith, if◌then◌else◌, cond, bytes_eq, eqb-true}
 use Rattle.std.proofs.lemmas.Bool.{eqb-false}
 use Rattle.std.specs.List.{list_any}
-use Rattle.std.proofs.lemmas.Bool.{and_from, and_parts, or_left, or_right, cases_Bool, cond-true, cond-false}
+use Rattle.std.proofs.lemmas.Bool.{and_from, or_left, or_right, cases_Bool, cond-true, cond-false}
 use Rattle.std.proofs.lemmas.Slice.Eq.{bytes_eq-Decides}
 use Rattle.ml_text.specs.declared.token.Operator.TheVariants.{Iff, Implies, Or, And}
 use Rattle.ml_mu.specs.Formula.{Formula, Const, Prop, Var, Not, Binary, Modal, Binder}
@@ -117,7 +117,7 @@ only_iff b n i x f g le p q =
     let l = p.under less in
     let r = q.under less in
     let all : ((occurs_only true x f && occurs_only false x f) && (occurs_only true x g && occurs_only false x g)) ≡ true =
-        and_from _ _ (and_from (occurs_only true x f) (occurs_only false x f) l.0 l.1) (and_from (occurs_only true x g) (occurs_only false x g) r.0 r.1)
+    and_from _ _ (and_from (occurs_only true x f) (occurs_only false x f) l.0 l.1) (and_from (occurs_only true x g) (occurs_only false x g) r.0 r.1)
     in
     record { here = λ same. all; under = λ less. (all, all) }
 

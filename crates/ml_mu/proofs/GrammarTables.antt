@@ -2,7 +2,7 @@
 --
 --   tabled    == what the grammar reads, the tables read
 --   untabled  == what the tables read, the grammar reads
-use Rattle.std.proofs.Common.{◌≡◌, ℕ, ◌+◌, ◌≤◌, Bool, true, false, List, [], ◌∷◌, Option, Some, None, refl, sym, ◌∙◌, ap, subst, arith, codes}
+use Rattle.std.proofs.Common.{◌≡◌, ℕ, ◌≤◌, false, List, [], ◌∷◌, Option, Some, None, refl, sym, ◌∙◌, ap, subst, arith, codes}
 use Rattle.ml_text.specs.declared.token.Operator.{Operator}
 use Rattle.ml_text.specs.declared.token.Operator.TheVariants as operator
 use Rattle.ml_text.specs.Grammar as tables
@@ -10,7 +10,7 @@ use Rattle.ml_text.specs.Grammar.{Infix, Outside, Whole, More, Read, Inner, Open
 use Rattle.ml_text.proofs.Levels.{loosen}
 use Rattle.ml_mu.specs.Formula as plain
 use Rattle.ml_mu.specs.Formula.{Formula, Modality, Diamond, Square, Fixpoint}
-use Rattle.ml_mu.specs.Signs.{Sign, Not, Connective, Const, Open, Close, Begins, Ends, Binds, Dot, Blank, Lower, Upper, Unknown, action_of}
+use Rattle.ml_mu.specs.Signs.{Sign, Not, Connective, Const, Open, Close, Begins, Ends, Binds, Dot, Blank, Lower, Upper, action_of}
 use Rattle.ml_mu.specs.Grammar as grammar
 use Rattle.ml_mu.specs.Grammar.{Reads, iff_alone, iff, imp_alone, imp, or_alone, or, and_alone, and, negation, modal, modal_blank, binder, group, constant, proposition, variable, begins_operator}
 use Rattle.ml_mu.specs.Tables.{Wait, BehindBegin, BehindAction, BehindFixpoint, BehindVariable, BehindInside, Hold, Negation, Modal, Binder, Group, MuTurn, shift, resume, role, operator_level, mu_grammar}
@@ -102,7 +102,7 @@ number grammar.Or = 2
 number grammar.And = 3
 number grammar.Un = 4
 
-un_raised : (l : grammar.Level) {ts rest : List Sign} {f : Formula} → Reads grammar.Un ts f rest → Reads l ts f rest
+pub un_raised : (l : grammar.Level) {ts rest : List Sign} {f : Formula} → Reads grammar.Un ts f rest → Reads l ts f rest
 un_raised grammar.Un r = r
 un_raised grammar.And r = and_alone r
 un_raised grammar.Or r = or_alone (and_alone r)
@@ -232,8 +232,8 @@ joined_back : (o : Sign) (m l : ℕ) (ts us rest : List Sign) (f h : Formula) �
 joined_back (Connective o) m l ts us rest f h is le a b =
     let same : m ≡ operator_level o = cc in
     λ at below. joined_at o ts us rest f h at (omega arith)
-        (subst (λ n. Untabled (Level tt (left_level mu_grammar tt n)) ts f (Connective o ∷ us)) same a)
-        (subst (λ n. Untabled (Level tt (right_level mu_grammar tt n)) us h rest) same b)
+    (subst (λ n. Untabled (Level tt (left_level mu_grammar tt n)) ts f (Connective o ∷ us)) same a)
+    (subst (λ n. Untabled (Level tt (right_level mu_grammar tt n)) us h rest) same b)
 joined_back _ m l ts us rest f h is le a b = absurd (cc)
 
 pub untabled : {p : Part mu_grammar} {ts rest : List Sign} {f : Formula} → Tabled p ts f rest → Untabled p ts f rest

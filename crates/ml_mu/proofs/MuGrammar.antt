@@ -3,14 +3,14 @@
 --   mu_regular      == no form of mu opens into another
 --   mu_completable  == each form of mu can be ended
 --   stands_read     == what the tables stand for, the grammar reads, and the other way round
-use Rattle.std.proofs.Common.{◌≡◌, ℕ, ◌+◌, ◌≤◌, Bool, true, false, List, [], ◌∷◌, ◌++◌, Option, Some, None, refl, sym, ap, subst, arith, codes}
-use Rattle.ml_text.specs.Grammar.{Whole, More, Read, Inner, Opens, Rest, Behind, Level, Operand, sign, read, inner, alone, form, whole, front, takes, IsStop, IsRegular, Ending, IsCompletable, StandsFor}
+use Rattle.std.proofs.Common.{◌≡◌, ℕ, true, List, [], ◌∷◌, ◌++◌, Some, refl, subst, arith, codes}
+use Rattle.ml_text.specs.Grammar.{More, Inner, Opens, Behind, Operand, sign, read, inner, alone, form, whole, front, IsStop, IsRegular, Ending, IsCompletable, StandsFor}
 use Rattle.ml_mu.specs.Formula as plain
 use Rattle.ml_mu.specs.Formula.{Formula, Modality, Diamond, Square, Fixpoint}
 use Rattle.ml_mu.specs.Signs.{Sign, Const, Close, Ends, Dot, Upper}
 use Rattle.ml_mu.specs.Grammar as grammar
 use Rattle.ml_mu.specs.Grammar.{IsReadAs}
-use Rattle.ml_mu.specs.Tables.{Wait, BehindBegin, BehindAction, BehindFixpoint, BehindVariable, BehindInside, Hold, Negation, Modal, Binder, Group, MuTurn, shift, shift_operand, resume, mu_grammar}
+use Rattle.ml_mu.specs.Tables.{Wait, BehindBegin, BehindAction, BehindFixpoint, BehindVariable, BehindInside, Hold, Negation, Modal, Binder, Group, shift_operand, resume, mu_grammar}
 use Rattle.ml_mu.proofs.GrammarTables.{Tabled, tight, tabled, untabled}
 
 never_opens : (t : Sign) (k : Hold) → shift_operand t ≡ Some (Opens k) → ⊥

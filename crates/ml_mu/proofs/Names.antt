@@ -4,25 +4,24 @@
 --   takes_none      == behind an operand no name comes
 --   short_name      == a token that is no longer than a name has a short name, if it has one
 --   long_is_name    == a word longer than a name is no word of the language
-use Rattle.std.proofs.Common.{◌≡◌, ℕ, ◌<◌, ◌≤◌, ◌⊎◌, Bool, true, false, List, [], ◌∷◌, length, Option, Some, None, refl, sym, ◌∙◌, ap, subst, ⊎_elim, arith, codes, is_some, bytes_eq, ◌&&◌, ◌||◌, ◌==◌, le-leb, nat_le, nat_lt, not, cond, ltb-true, ltb-false, ◌-◌, take, drop, length-take, length-drop}
+use Rattle.std.proofs.Common.{◌≡◌, ℕ, ◌<◌, ◌≤◌, Bool, true, false, List, [], ◌∷◌, length, Option, Some, None, refl, sym, ◌∙◌, ap, subst, ⊎_elim, arith, codes, bytes_eq, ◌&&◌, ◌||◌, ◌==◌, le-leb, nat_le, nat_lt, not, cond, ltb-true, ltb-false, ◌-◌, take, drop, length-take, length-drop}
 use Rattle.std.specs.List.{list_all}
 use Rattle.std.specs.Char.{is_ascii_alphabetic}
 use Rattle.std.proofs.Math.Path.{fun_ext}
-use Rattle.std.proofs.lemmas.Bool.{cases_Bool, cond-true, cond-false, and_parts, and_from, or_left, or_right}
+use Rattle.std.proofs.lemmas.Bool.{cases_Bool, and_parts, and_from, or_left, or_right}
 use Rattle.std.proofs.lemmas.Slice.Eq.{bytes_eq-Decides}
 use Rattle.ml_base.specs.Name.{is_name, is_name_byte}
 use Rattle.ml_text.specs.Bytes.{is_lower, is_upper, is_digit, is_word_byte}
 use Rattle.ml_text.specs.declared.token.Token.{Token}
 use Rattle.ml_text.specs.declared.token.Token.TheVariants as token
 use Rattle.ml_text.specs.Refusals.{Neither, longest_name}
-use Rattle.ml_text.specs.Grammar.{Mode, Whole, More}
-use Rattle.ml_text.specs.Machine.{Frame, Held, Left, Stack, behind, step}
+use Rattle.ml_text.specs.Machine.{Held, Left, Stack, behind}
 use Rattle.ml_text.specs.Words.{constant_of}
-use Rattle.ml_mu.specs.Formula.{Formula, Modality, Diamond, Square}
+use Rattle.ml_mu.specs.Formula.{Formula}
 use Rattle.ml_mu.specs.Signs.{Sign, Lower, Upper, Unknown, IsName, HasShortName, sign_of, byte_sign, word_sign, word_sign_by, name_sign}
 use Rattle.ml_mu.specs.Text.{is_word, bracket_of}
 use Rattle.ml_mu.specs.Spelling.{is_proposition, is_variable, is_word_from, is_reserved}
-use Rattle.ml_mu.specs.Tables.{Wait, BehindBegin, BehindAction, BehindFixpoint, BehindVariable, BehindInside, Hold, Negation, Modal, Binder, Group, mu_grammar}
+use Rattle.ml_mu.specs.Tables.{Negation, Modal, Binder, Group, mu_grammar}
 
 -- no name comes behind an operand
 pub behind_name : (stack : Stack mu_grammar) (v : Formula) (t : Sign) → IsName t → behind mu_grammar stack v t ≡ None

@@ -1,20 +1,23 @@
 -- A text has one formula at most and one answer at most.
 --
 --   one_formula       == a text stands for one formula at most
+--   canonical_one     == the canonical text of a formula stands for it alone
 --   parsed_or_refused == what is parsed is refused by nothing but want of memory
 --   refused_one_way   == a text is refused in one way at most
-use Rattle.std.proofs.Common.{◌≡◌, ℕ, Bool, true, false, List, [], ◌∷◌, length, Option, Some, None, refl, sym, ◌∙◌, ap}
+use Rattle.std.proofs.Common.{◌≡◌, ℕ, true, List, [], ◌∷◌, length, Some, None, refl, sym, ◌∙◌, ap}
 use Rattle.ml_base.specs.declared.parse_refusal.ParseRefusal.{ParseRefusal}
 use Rattle.ml_base.specs.declared.parse_refusal.ParseRefusal.TheVariants as refusal
-use Rattle.ml_text.specs.Refusals.{Cause, Syntax, TooMany, TooNested, NameTooLong, IsRefused, IsAccepted, offset_of, signs_of}
+use Rattle.ml_text.specs.Refusals.{Cause, Syntax, TooMany, TooNested, NameTooLong, offset_of, signs_of}
 use Rattle.ml_text.proofs.Complete.{one_tree}
 use Rattle.ml_text.proofs.OneAnswer.{refused_once, accepted_not_refused}
+use Rattle.ml_mu.specs.Canonical.{canonical_text}
 use Rattle.ml_mu.specs.Formula.{Formula}
 use Rattle.ml_mu.specs.Grammar.{IsReadAs}
-use Rattle.ml_mu.specs.Parsing.{IsParsedAs, IsRefusedBy, ComesFirst, HasFault, StandForOne, ParsedOrRefused, RefusedOnce}
+use Rattle.ml_mu.specs.Parsing.{CanonicalStandsForOne, IsParsedAs, IsRefusedBy, ComesFirst, HasFault, StandForOne, ParsedOrRefused, RefusedOnce}
 use Rattle.ml_mu.specs.Tables.{mu_grammar}
 use Rattle.ml_mu.specs.Text.{items, variable_places}
 use Rattle.ml_mu.specs.VariableFaults.{Standing, Fine, Unbound, NotPositive, standings, fault_at, are_fine}
+use Rattle.ml_mu.proofs.CanonicalTexts.{canonical_stands}
 use Rattle.ml_mu.proofs.MuGrammar.{mu_regular, read_stands}
 
 read_once : (text : List ℕ) (f g : Formula) → IsReadAs (signs_of (items text)) f → IsReadAs (signs_of (items text)) g → f ≡ g
@@ -22,6 +25,9 @@ read_once text f g a b = one_tree mu_grammar mu_regular (signs_of (items text)) 
 
 pub one_formula : StandForOne
 one_formula text f g a b = read_once text f g a b
+
+pub canonical_one : CanonicalStandsForOne
+canonical_one f g is = let stands = canonical_stands f is in (stands, λ other. read_once (canonical_text f) g f other stands)
 
 -- a fault of no place is none
 fine_no_fault : (ss : List Standing) (places : List ℕ) → are_fine ss ≡ true → fault_at ss places ≡ None

@@ -8,26 +8,25 @@
 --   fault_refused    == a fault of a variable that was found is the answer
 --   found_parsed     == where none was found, the text is parsed
 --   parsed_well      == what is parsed is well formed
-use Rattle.std.proofs.Common.{◌≡◌, ℕ, suc, ◌+◌, ◌≤◌, Bool, true, false, List, [], ◌∷◌, ◌++◌, length, Option, Some, None, refl, sym, ◌∙◌, ap, subst, arith, MatchResult, Result, Ok, Err}
+use Rattle.std.proofs.Common.{◌≡◌, ℕ, ◌≤◌, true, false, List, [], ◌∷◌, length, None, refl, sym, ◌∙◌, ap, subst, arith}
 use Rattle.std.proofs.lemmas.List.{append-nil}
 use Rattle.ml_base.specs.declared.parse_refusal.ParseRefusal.{ParseRefusal}
 use Rattle.ml_base.specs.declared.parse_refusal.ParseRefusal.TheVariants as refusal
 use Rattle.ml_text.specs.declared.token.WordStart.TheVariants.{AnyLetter}
 use Rattle.ml_text.specs.Tokens.{tokens}
-use Rattle.ml_text.specs.Refusals.{Item, Cause, Syntax, TooMany, TooNested, NameTooLong, IsAccepted, signs_of, counted}
+use Rattle.ml_text.specs.Refusals.{Cause, Syntax, TooMany, TooNested, NameTooLong, IsAccepted}
 use Rattle.ml_text.specs.Reading.{Outcome, Found, Refused, text_outcome}
 use Rattle.ml_text.proofs.Exact.{Fits, IsOutcome, exact, few_items}
 use Rattle.ml_mu.specs.Formula.{Formula, occurrences}
 use Rattle.ml_mu.specs.Grammar.{IsReadAs}
-use Rattle.ml_mu.specs.Parsing.{IsParsedAs, IsRefusedBy, ComesFirst, HasFault}
+use Rattle.ml_mu.specs.Parsing.{IsParsedAs, IsRefusedBy, ComesFirst}
 use Rattle.ml_mu.specs.ReadingViews.{IsRefusal}
-use Rattle.ml_mu.specs.Spelling.{is_spelled}
 use Rattle.ml_mu.specs.Tables.{mu_grammar}
 use Rattle.ml_mu.specs.Text.{items, variable_places}
 use Rattle.ml_mu.specs.VariableFaults.{Standing, Fine, Unbound, NotPositive, standings, fault_at, are_fine}
 use Rattle.ml_mu.specs.VariableViews.{IsFaultOf}
 use Rattle.ml_mu.specs.WellFormed.{IsWellFormed}
-use Rattle.ml_mu.proofs.Counting.{counts, counted_items, count_signs, words_are_variables, variable_words, variables, length-places, length-standings}
+use Rattle.ml_mu.proofs.Counting.{counts, counted_items, words_are_variables, variables, length-places, length-standings}
 use Rattle.ml_mu.proofs.Fine.{IsWellBound, fine_well}
 use Rattle.ml_mu.proofs.MuGrammar.{mu_regular, mu_completable, stands_read, read_stands}
 use Rattle.ml_mu.proofs.Spelled.{items_spelled, reads_spelled}

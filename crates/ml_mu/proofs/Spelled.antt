@@ -3,11 +3,11 @@
 --   AreSpelled ts   == the names among the signs are spelled as propositions and variables are
 --   items_spelled   == the signs of a text are spelled
 --   reads_spelled   == a formula that is read from spelled signs is spelled
-use Rattle.std.proofs.Common.{◌≡◌, ℕ, suc, ◌+◌, ◌-◌, ◌≤◌, Bool, true, false, ◌&&◌, List, [], ◌∷◌, ◌++◌, length, map, Option, Some, None, refl, sym, ◌∙◌, ap, subst, arith, if◌then◌else◌, cond, codes, append_assoc, length-append}
+use Rattle.std.proofs.Common.{◌≡◌, ℕ, Bool, true, false, ◌&&◌, List, [], ◌∷◌, Option, Some, None, refl, ap, subst, cond, codes}
 use Rattle.std.specs.List.{list_all}
 use Rattle.std.specs.Prelude.{◌||◌, not, bytes_eq, ◌⊎◌}
 use Rattle.std.proofs.Common.{⊎_elim}
-use Rattle.std.proofs.lemmas.Bool.{and_from, and_parts, or_left, or_right, not_from_false, cases_Bool, cond-true, cond-false}
+use Rattle.std.proofs.lemmas.Bool.{and_from, and_parts, or_left, or_right, not_from_false, cases_Bool}
 use Rattle.std.proofs.lemmas.Slice.Eq.{bytes_eq-Decides}
 use Rattle.ml_text.specs.Bytes.{is_lower, is_upper, is_letter, is_word_byte}
 use Rattle.ml_text.specs.declared.token.Operator.{Operator}
@@ -16,15 +16,14 @@ use Rattle.ml_text.specs.declared.token.Token.{Token}
 use Rattle.ml_text.specs.declared.token.Token.TheVariants as token
 use Rattle.ml_text.specs.declared.token.Placed.{Placed}
 use Rattle.ml_text.specs.Words.{constant_of}
-use Rattle.ml_text.specs.Refusals.{Item, signs_of, counted}
+use Rattle.ml_text.specs.Refusals.{signs_of}
 use Rattle.ml_mu.specs.Formula as plain
 use Rattle.ml_mu.specs.Formula.{Formula, occurrences, weight}
-use Rattle.ml_mu.specs.Signs.{Sign, Not, Connective, Const, Open, Close, Begins, Ends, Binds, Dot, Blank, Lower, Upper, Unknown, action_of, sign_of, byte_sign, word_sign, word_sign_by, name_sign}
+use Rattle.ml_mu.specs.Signs.{Sign, Connective, Blank, Lower, Upper, Unknown, action_of, sign_of, byte_sign, word_sign_by}
 use Rattle.ml_mu.specs.Grammar as grammar
 use Rattle.ml_mu.specs.Grammar.{Reads, iff_alone, iff, imp_alone, imp, or_alone, or, and_alone, and, negation, modal, modal_blank, binder, group, constant, proposition, variable}
 use Rattle.ml_mu.specs.Spelling.{is_proposition, is_variable, is_action, is_spelled, is_word_from, is_reserved}
 use Rattle.ml_mu.specs.Text.{weight_of, silences, item_by, sign_at, items_from, places_from, with_place}
-use Rattle.ml_mu.specs.VariableFaults.{Around, standing_of, standings_in, standings}
 
 -- ---- spelled names
 
@@ -75,13 +74,13 @@ items_spelled text silent (p ∷ ps) = (spelled_sign p.token (Rattle.ml_mu.specs
 
 -- ---- formulas
 
-letters : (p : List ℕ) → is_word_from is_lower p ≡ true → is_word_from is_letter p ≡ true
+pub letters : (p : List ℕ) → is_word_from is_lower p ≡ true → is_word_from is_letter p ≡ true
 letters [] is = absurd (cc)
 letters (b ∷ bs) is =
     let parts = and_parts (is_lower b) (list_all is_word_byte bs) is in
     and_from (is_letter b) (list_all is_word_byte bs) (or_left (is_lower b) (is_upper b) parts.0) parts.1
 
-upper_letters : (p : List ℕ) → is_word_from is_upper p ≡ true → is_word_from is_letter p ≡ true
+pub upper_letters : (p : List ℕ) → is_word_from is_upper p ≡ true → is_word_from is_letter p ≡ true
 upper_letters [] is = absurd (cc)
 upper_letters (b ∷ bs) is =
     let parts = and_parts (is_upper b) (list_all is_word_byte bs) is in
@@ -94,7 +93,7 @@ other_word x w is other =
     (λ (differs : bytes_eq x w ≡ false). differs)
     (cases_Bool (bytes_eq x w))
 
-unreserved : (x : List ℕ) → is_variable x ≡ true → is_reserved x ≡ false
+pub unreserved : (x : List ℕ) → is_variable x ≡ true → is_reserved x ≡ false
 unreserved x is =
     simp (other_word x (codes "tt") is refl, other_word x (codes "true") is refl, other_word x (codes "ff") is refl, other_word x (codes "false") is refl, other_word x (codes "mu") is refl, other_word x (codes "nu") is refl)
 

@@ -2,7 +2,7 @@
 --
 --   pushed_frame  == a frame put behind the others is the topmost
 --   popped_frame     == the frame that was taken off was the topmost
-use Rattle.std.proofs.Common.{◌≡◌, true, false, List, [], ◌∷◌, ◌++◌, map, reverse, Option, Some, None, MatchOption, option_to_list, refl, sym, ◌∙◌, ap, subst}
+use Rattle.std.proofs.Common.{◌≡◌, List, [], ◌∷◌, ◌++◌, map, reverse, Option, Some, MatchOption, option_to_list, sym, ◌∙◌, ap, subst}
 use Rattle.std.proofs.lemmas.List.{map-append, reverse-append}
 use Rattle.ml_mu.specs.FormViews.{frame_view, stack_view, IsStopped, IsUntaken}
 use Rattle.ml_mu.specs.Signs.{Sign}

@@ -3,12 +3,12 @@
 --   connective_taken, connective_refused == behind an operator
 --   other_refused, other_goes            == behind any other sign
 --   finish_whole, finish_open            == at the end of the text
-use Rattle.std.proofs.Common.{◌≡◌, ℕ, Bool, true, false, List, [], ◌∷◌, Option, Some, None, refl, sym, ◌∙◌, ap}
+use Rattle.std.proofs.Common.{◌≡◌, ◌∷◌, Some, None, refl, sym, ◌∙◌, ap}
 use Rattle.ml_text.specs.declared.token.Operator.{Operator}
-use Rattle.ml_text.specs.Grammar.{Outside, Mode, Whole, More, takes, role_takes}
-use Rattle.ml_text.specs.Machine.{Frame, Left, Stack, State, take_sign, enter, behind, finish, reduce, resolve}
+use Rattle.ml_text.specs.Grammar.{Outside, Whole, More, role_takes}
+use Rattle.ml_text.specs.Machine.{Left, Stack, State, take_sign, enter, behind, finish, reduce}
 use Rattle.ml_text.proofs.Reduce.{resolved, tree_of, behind-reduce, close-reduce, reduce-same}
-use Rattle.ml_mu.specs.Formula.{Formula, Modality, Diamond, Square}
+use Rattle.ml_mu.specs.Formula.{Formula, Diamond, Square}
 use Rattle.ml_mu.specs.Signs.{Sign, Connective}
 use Rattle.ml_mu.specs.Tables.{Wait, BehindBegin, BehindAction, BehindFixpoint, BehindVariable, BehindInside, shift, role, operator_level, mu_grammar}
 

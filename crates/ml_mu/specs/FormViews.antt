@@ -5,8 +5,7 @@
 --   IsStopped stack n                                   == the topmost operand takes n, which follows, or nothing is begun
 --   IsUntaken frame n                                   == the operand of the frame doesn't take n
 --   stack_view fs                                       == the stack; the program holds its topmost frame last
-use Rattle.std.specs.Prelude.{◌≡◌, true, false, List, [], ◌∷◌, Option, Some, None, map, reverse}
-use Rattle.ml_text.specs.declared.token.Operator.{Operator}
+use Rattle.std.specs.Prelude.{◌≡◌, true, false, List, [], ◌∷◌, Option, map, reverse}
 use Rattle.ml_text.specs.Grammar as machine
 use Rattle.ml_text.specs.Machine as machine_stack
 use Rattle.ml_mu.specs.Formula.{Formula}

@@ -5,14 +5,16 @@
 --
 --   IsParsedAs text f   == the text is one of f, keeps the limits, and no variable is at fault
 --   IsRefusedBy text e  == the text is refused with this answer
---   StandForOne, ParsedOrRefused, RefusedOnce, ParsedAreWellFormed == the laws of these notions
-use Rattle.std.specs.Prelude.{ℕ, ◌≡◌, ◌≢◌, List, length, Some, true}
+--   StandForOne, CanonicalStandsForOne, ParsedOrRefused, RefusedOnce, ParsedAreWellFormed == the laws of these notions
+use Rattle.std.specs.Prelude.{ℕ, ◌≡◌, ◌≢◌, List, length, Some, true, IsTrue}
 use Rattle.ml_base.specs.declared.parse_refusal.ParseRefusal.{ParseRefusal}
 use Rattle.ml_base.specs.declared.parse_refusal.ParseRefusal.TheVariants as refusal
 use Rattle.ml_text.specs.Refusals as cause
 use Rattle.ml_text.specs.Refusals.{Cause, IsRefused, IsAccepted, offset_of}
+use Rattle.ml_mu.specs.Canonical.{canonical_text}
 use Rattle.ml_mu.specs.Formula.{Formula}
 use Rattle.ml_mu.specs.Grammar.{IsReadAs}
+use Rattle.ml_mu.specs.Spelling.{is_spelled}
 use Rattle.ml_mu.specs.Text.{IsTextOf, items, variable_places}
 use Rattle.ml_mu.specs.WellFormed.{IsWellFormed}
 use Rattle.ml_mu.specs.VariableFaults.{Standing, Unbound, NotPositive, standings, fault_at, are_fine}
@@ -52,6 +54,10 @@ ParsedOrRefused = (text : List ℕ) (f : Formula) (e : ParseRefusal) → IsParse
 -- but for want of memory, a text is refused in one way at most
 abbrev pub RefusedOnce : Type 0
 RefusedOnce = (text : List ℕ) (e d : ParseRefusal) → (e ≢ refusal.NoMemory) → (d ≢ refusal.NoMemory) → IsRefusedBy text e → IsRefusedBy text d → e ≡ d
+
+-- the canonical text of a formula whose names are spelled as they must be stands for it, and for no other
+abbrev pub CanonicalStandsForOne : Type 0
+CanonicalStandsForOne = (f g : Formula) → IsTrue (is_spelled f) → IsTextOf (canonical_text f) f × (IsTextOf (canonical_text f) g → g ≡ f)
 
 -- the formulas that are parsed are well formed
 abbrev pub ParsedAreWellFormed : Type 0

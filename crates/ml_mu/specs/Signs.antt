@@ -10,7 +10,7 @@
 --   HasShortName s      == if the sign has a name, it is one of the program's, of at most 64 bytes
 --   IsName s            == a word that is no word of the language
 --   action_of s         == the action that a sign is, if it is one
-use Rattle.std.specs.Prelude.{ℕ, ◌==◌, Bool, List, [], ◌∷◌, Option, Some, None, if◌then◌else◌, codes, bytes_eq, IsTrue}
+use Rattle.std.specs.Prelude.{ℕ, ◌==◌, Bool, List, Option, Some, None, if◌then◌else◌, codes, bytes_eq, IsTrue}
 use Rattle.ml_base.specs.Name.{is_name}
 use Rattle.ml_text.specs.declared.token.Operator.{Operator}
 use Rattle.ml_text.specs.declared.token.Token.{Token}

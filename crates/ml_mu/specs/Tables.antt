@@ -7,7 +7,7 @@
 --   shift q t     == what the sign t does to a form
 --   resume k f    == a form behind its operand f
 --   mu_grammar    == the tables
-use Rattle.std.specs.Prelude.{ℕ, Bool, nat_le, List, Option, Some, None, codes}
+use Rattle.std.specs.Prelude.{ℕ, nat_le, List, Option, Some, None, codes}
 use Rattle.ml_text.specs.declared.token.Operator.{Operator}
 use Rattle.ml_text.specs.declared.token.Operator.TheVariants as operator
 use Rattle.ml_text.specs.Grammar.{Grammar, Role, Infix, Outside, Mode, Whole, More, Turn, Read, Inner}

@@ -9,7 +9,7 @@
 --   items text           == the items of a text
 --   variable_places is   == the offsets of the variables among the items, in the order of the text
 --   IsTextOf text f      == the text is one of f by the grammar
-use Rattle.std.specs.Prelude.{ℕ, ◌-◌, ◌&&◌, Bool, true, false, nat_lt, if◌then◌else◌, List, [], ◌∷◌, length, take, drop}
+use Rattle.std.specs.Prelude.{ℕ, ◌-◌, ◌&&◌, Bool, true, false, nat_lt, if◌then◌else◌, List, [], ◌∷◌, take, drop}
 use Rattle.ml_text.specs.declared.token.Token.{Token}
 use Rattle.ml_text.specs.declared.token.Token.TheVariants as token
 use Rattle.ml_text.specs.declared.token.WordStart.TheVariants.{AnyLetter}
@@ -17,7 +17,7 @@ use Rattle.ml_text.specs.declared.token.Placed.{Placed}
 use Rattle.ml_text.specs.Tokens.{tokens}
 use Rattle.ml_text.specs.Refusals.{Bracket, Opening, Closing, Neither, Item, signs_of, longest_name}
 use Rattle.ml_mu.specs.Formula.{Formula, weight}
-use Rattle.ml_mu.specs.Signs.{Sign, Not, Connective, Const, Open, Close, Begins, Ends, Binds, Dot, Blank, Lower, Upper, Unknown, sign_of}
+use Rattle.ml_mu.specs.Signs.{Sign, Not, Connective, Const, Open, Close, Begins, Binds, Lower, Upper, sign_of}
 use Rattle.ml_mu.specs.Grammar.{IsReadAs}
 
 abbrev pub weight_of : Sign → ℕ

@@ -3,7 +3,7 @@
 --   scope_view s     == the binders around, innermost first
 --   standing_view s  == the standing of a variable
 --   IsFaultOf e o    == the refusal e is the first fault o, with its place
-use Rattle.std.specs.Prelude.{ℕ, ◌≡◌, List, [], ◌∷◌, Option, Some, None}
+use Rattle.std.specs.Prelude.{ℕ, ◌≡◌, List, [], ◌∷◌, Option, Some}
 use Rattle.ml_base.specs.declared.parse_refusal.ParseRefusal.{ParseRefusal}
 use Rattle.ml_base.specs.declared.parse_refusal.ParseRefusal.TheVariants as refusal
 use Rattle.ml_mu.specs.VariableFaults as faults

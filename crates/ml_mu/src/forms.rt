@@ -107,10 +107,7 @@ fn shift_begin(alloc: Global, modality: Modality, sign: Sign) -> Result<Option<T
         (_, Sign::Upper(name)) => action_of(alloc, &name)?,
         _ => return Ok(None),
     };
-    Ok(Some(Turn::Read(Mode::More(Wait::BehindAction(
-        modality,
-        action,
-    )))))
+    Ok(Some(Turn::Read(Mode::More(Wait::BehindAction(modality, action)))))
 }
 
 fn shift_action(modality: Modality, action: Action, sign: Sign) -> Option<Turn>
@@ -135,9 +132,7 @@ fn shift(alloc: Global, wait: Wait, sign: Sign) -> Result<Option<Turn>, NoMemory
         Wait::BehindBegin(modality) => shift_begin(alloc, modality, sign),
         Wait::BehindAction(modality, action) => Ok(shift_action(modality, action, sign)),
         Wait::BehindFixpoint(fixpoint) => Ok(match sign {
-            Sign::Upper(name) => Some(Turn::Read(Mode::More(Wait::BehindVariable(
-                fixpoint, name,
-            )))),
+            Sign::Upper(name) => Some(Turn::Read(Mode::More(Wait::BehindVariable(fixpoint, name)))),
             _ => None,
         }),
         Wait::BehindVariable(fixpoint, name) => Ok(match sign {
@@ -237,7 +232,7 @@ fn pop_untaken(stack: &mut Vec<Frame>, next: Option<Operator>) -> Option<Frame>
     ensures { MatchOption result
         (IsStopped (stack_view stack.old.items) (option_map sign.Connective next) × (stack.new.items ≡ stack.old.items))
         (λ frame. (stack_view stack.old.items ≡ frame_view frame ∷ stack_view stack.new.items)
-            × IsUntaken (frame_view frame) (option_map sign.Connective next)) }
+        × IsUntaken (frame_view frame) (option_map sign.Connective next)) }
 {
     match stack.last() {
         Some(top) if !takes(top, next) => stack.pop(),
@@ -336,7 +331,9 @@ pub(crate) fn step(
         ≡ machine.step tables.mu_grammar (mode_view mode) (stack_view stack.old.items) (sign_view sign)) }
 {
     match (mode, sign) {
-        (Mode::Whole(term), Sign::Connective(operator)) => step_operator(alloc, stack, term, operator),
+        (Mode::Whole(term), Sign::Connective(operator)) => step_operator(
+            alloc, stack, term, operator,
+        ),
         (Mode::Whole(term), other) => step_other(alloc, stack, term, other),
         (Mode::More(wait), sign) => {
             let turn = shift(alloc, wait, sign)?;

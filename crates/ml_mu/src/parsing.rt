@@ -2,9 +2,9 @@
 ghost use Rattle.std.specs.Prelude.{MatchResult};
 ghost use Rattle.ml_mu.specs.Parsing.{IsParsedAs, IsRefusedBy};
 
+use crate::Formula;
 use crate::reading::read;
 use crate::variables::{first_fault, standings};
-use crate::Formula;
 use ml_base::ParseRefusal;
 use std::alloc::Global;
 

@@ -125,7 +125,7 @@ fn read_item(
     ensures { let item = text_items.item_by progress.silent (text_items.sign_at text.now placed) placed in
         MatchResult result
         (λ next. KeepsLimits next × (next.silent ≡ text_items.silences item.sign)
-            × ((end : ℕ) (rest : _) → outcome_from end progress (item ∷ rest) ≡ outcome_from end next rest))
+        × ((end : ℕ) (rest : _) → outcome_from end progress (item ∷ rest) ≡ outcome_from end next rest))
         (λ refusal. (end : ℕ) (rest : _) → IsRefusal refusal (outcome_from end progress (item ∷ rest))) }
 {
     let at = placed.start as u64;
@@ -181,7 +181,11 @@ pub(crate) fn read(alloc: Global, text: &[u8]) -> Result<Term, ParseRefusal>
         progress = read_item(alloc, progress, text, placed)?;
         at = placed.end;
     }
-    let Progress { mode, mut stack, .. } = progress;
+    let Progress {
+        mode,
+        mut stack,
+        ..
+    } = progress;
     match finish(alloc, mode, &mut stack)? {
         Some(term) => Ok(term),
         None => Err(ParseRefusal::Syntax {

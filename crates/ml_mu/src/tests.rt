@@ -87,10 +87,7 @@ fn modalities_and_binders(rt: HostRuntime) -> Result<(), Fail> {
         (b"(mu X. p) & q", b"((mu X. p) & q)"),
         (b"!mu X. X", b"!(mu X. X)"),
         (b"<a>mu X. X & p", b"<a>(mu X. (X & p))"),
-        (
-            b"mu X. nu Y. <a>X | [a]Y",
-            b"(mu X. (nu Y. (<a>X | [a]Y)))",
-        ),
+        (b"mu X. nu Y. <a>X | [a]Y", b"(mu X. (nu Y. (<a>X | [a]Y)))"),
         (b"mu X. nu X. X", b"(mu X. (nu X. X))"),
         (b"mu X. !!X", b"(mu X. !!X)"),
         (b"mu X. !X -> p", b"(mu X. (!X -> p))"),
@@ -205,7 +202,10 @@ fn limits(rt: HostRuntime) -> Result<(), Fail> {
         text.extend_from_slice(repeated(rt.alloc(), word, long)?.as_slice())?;
         match refusal {
             Some(refusal) => {
-                assert!(rt; refuses(rt.alloc(), text.as_slice(), refusal), "{times} times {front:?}");
+                assert!(rt;
+                    refuses(rt.alloc(), text.as_slice(), refusal),
+                    "{times} times {front:?}"
+                );
             }
             None => {
                 let _formula = parse(rt.alloc(), text.as_slice())?;
@@ -240,9 +240,13 @@ fn formulas_are_copied_and_counted(rt: HostRuntime) -> Result<(), Fail> {
         let formula = parse(rt.alloc(), text)?;
         assert_eq!(rt; occurrences(&formula), want, "{text:?}");
         let copied = copy(rt.alloc(), &formula)?;
-        assert!(rt; print(rt.alloc(), &copied)? == print(rt.alloc(), &formula)?, "{text:?}");
+        assert!(rt;
+            print(rt.alloc(), &copied)? == print(rt.alloc(), &formula)?,
+            "{text:?}"
+        );
     }
     laws::one_formula();
+    laws::canonical_text();
     laws::one_answer();
     laws::parsed_are_well_formed();
     Ok(())

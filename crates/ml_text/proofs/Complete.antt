@@ -5,11 +5,11 @@
 --   complete  == where ts begins with f, the machine reads f off ts
 --   found     == what stands for f is parsed as f
 --   one_tree  == signs stand for one tree at most
-use Rattle.std.proofs.Common.{◌≡◌, ℕ, ◌+◌, ◌≤◌, Bool, true, false, nat_le, List, [], ◌∷◌, Option, Some, None, refl, sym, ◌∙◌, ap, subst, arith, le-leb}
+use Rattle.std.proofs.Common.{◌≡◌, ℕ, ◌≤◌, true, false, List, [], ◌∷◌, Option, Some, None, refl, ◌∙◌, ap, arith, le-leb}
 use Rattle.std.specs.Prelude.{option_and_then}
 use Rattle.std.proofs.lemmas.Bool.{cond-true, cond-false}
-use Rattle.ml_text.specs.Grammar.{Grammar, Role, Infix, Postfix, Outside, Mode, Whole, More, Turn, Read, Inner, Opens, Part, Level, Operand, Rest, Behind, Reads, alone, joined, postfixed, form, whole, sign, read, inner, opens, left_level, right_level, role_takes, takes, front, StandsFor, IsRegular}
-use Rattle.ml_text.specs.Machine.{Frame, Held, Left, Stack, State, frame_sort, frame_level, sort_of, level_of, start_state, begin, enter, take_sign, go_on, behind, step, whole_of, close, finish, parse, popped}
+use Rattle.ml_text.specs.Grammar.{Grammar, Infix, Postfix, Mode, Whole, More, Turn, Read, Inner, Opens, Part, Level, Operand, Rest, Behind, Reads, alone, joined, postfixed, form, whole, sign, read, inner, opens, left_level, right_level, role_takes, takes, front, StandsFor, IsRegular}
+use Rattle.ml_text.specs.Machine.{Frame, Held, Left, Stack, State, frame_sort, frame_level, sort_of, level_of, start_state, begin, enter, take_sign, go_on, behind, step, parse, popped}
 use Rattle.ml_text.proofs.Levels.{Follows, untaken_follows, left_level-above, left_follows, right_follows, right_untaken}
 
 -- what is parsed behind a step

@@ -4,15 +4,15 @@
 --   Progress g R items ..     == what is known behind the first items, of which none is at fault
 --   Fits g R                    == the relation R is that of the tables g
 --   exact                       == what comes of a text is right
-use Rattle.std.proofs.Common.{◌≡◌, ℕ, zero, suc, ◌+◌, ◌-◌, ◌<◌, ◌≤◌, ◌⊎◌, Bool, true, false, nat_lt, List, [], ◌∷◌, ◌++◌, length, map, take, Option, Some, None, refl, sym, ◌∙◌, ap, subst, inl, inr, ⊎_elim, arith, ltb-true, ltb-false, length-append, append_assoc}
+use Rattle.std.proofs.Common.{◌≡◌, ℕ, zero, suc, ◌+◌, ◌<◌, ◌≤◌, Bool, true, false, nat_lt, List, [], ◌∷◌, ◌++◌, length, take, Option, Some, None, refl, sym, ◌∙◌, ap, subst, inl, inr, ⊎_elim, arith, ltb-true, ltb-false, length-append, append_assoc}
 use Rattle.std.specs.Prelude.{option_and_then, sum_by}
-use Rattle.std.proofs.lemmas.Bool.{cases_Bool, cond-true, cond-false, cases_lt}
+use Rattle.std.proofs.lemmas.Bool.{cases_lt}
 use Rattle.std.proofs.lemmas.List.{map-append, append-nil}
 use Rattle.std.proofs.lemmas.List.Sums.{sum_by-append, sum_by-cons}
 use Rattle.std.proofs.Math.Seq.{take-append_seam}
-use Rattle.ml_text.specs.Grammar.{Grammar, Mode, StandsFor, IsRegular, IsCompletable}
-use Rattle.ml_text.specs.Machine.{Stack, State, start_state, step, finish, parse, run}
-use Rattle.ml_text.specs.Refusals.{Item, Cause, Syntax, TooMany, TooNested, NameTooLong, signs_of, counted, open_behind, open_behind_one, open_from, most_occurrences, most_open, rank, BeginsText, IsSyntaxFault, IsCountFault, IsNestingFault, IsNameFault, IsFault, IsRefused, IsAccepted, is_long_at, offset_of}
+use Rattle.ml_text.specs.Grammar.{Grammar, StandsFor, IsRegular, IsCompletable}
+use Rattle.ml_text.specs.Machine.{State, start_state, step, finish, parse, run}
+use Rattle.ml_text.specs.Refusals.{Item, Cause, Syntax, TooMany, TooNested, NameTooLong, signs_of, counted, open_behind, open_behind_one, open_from, most_occurrences, most_open, rank, BeginsText, IsSyntaxFault, IsCountFault, IsNestingFault, IsFault, IsRefused, IsAccepted, is_long_at, offset_of}
 use Rattle.ml_text.specs.Reading.{Outcome, Found, Refused, cause_at, next_outcome, end_outcome, outcome, text_outcome}
 use Rattle.ml_text.proofs.Complete.{found}
 use Rattle.ml_text.proofs.Sound.{stands}
@@ -294,9 +294,9 @@ end_exact : (g : Grammar) (R : List g.Sign → g.Tree → Type 0) → Fits g R �
 end_exact g R fits items before end s None p ends =
     let whole : items ≡ before = p.split ∙ append-nil before in
     let none : (f : g.Tree) → R (signs_of items) f → ⊥ = λ f is.
-        let read = found g fits.regular (signs_of before) f (fits.to (signs_of before) f (subst (λ xs. R (signs_of xs) f) whole is)) in
-        let got = parsed_end g before s p.ran in
-        cc
+    let read = found g fits.regular (signs_of before) f (fits.to (signs_of before) f (subst (λ xs. R (signs_of xs) f) whole is)) in
+    let got = parsed_end g before s p.ran in
+    cc
     in
     let fault : IsSyntaxFault R items (length before) = record {
       within = omega (arith, ap length whole);

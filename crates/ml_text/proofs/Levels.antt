@@ -7,7 +7,7 @@
 --   right_follows       == what may follow a joined operand may follow its right operand
 --   right_untaken       == and the right operand can't take it
 --   loosen              == what is read at a level is read at each looser one
-use Rattle.std.proofs.Common.{◌≡◌, ℕ, ◌+◌, ◌<◌, ◌≤◌, ◌⊎◌, Bool, true, false, nat_le, if◌then◌else◌, List, Option, Some, None, refl, sym, ◌∙◌, ap, subst, inl, inr, ⊎_elim, arith, leb-false}
+use Rattle.std.proofs.Common.{◌≡◌, ℕ, ◌+◌, ◌<◌, ◌≤◌, ◌⊎◌, true, false, List, Option, Some, None, refl, sym, ◌∙◌, ap, subst, inl, inr, ⊎_elim, arith, leb-false}
 use Rattle.std.proofs.lemmas.Bool.{cases_Bool, cond-true, cond-false, lt-leb, cases_lt}
 use Rattle.ml_text.specs.Grammar.{Grammar, Role, Infix, Postfix, Outside, Level, Reads, alone, joined, left_level, right_level, role_takes, takes}
 
@@ -80,9 +80,9 @@ right_above g s l m k le (inr same) =
     ⊎_elim
     (λ (e : g.groups_left s m ≡ true). let is = right_level-left g s m e in let at = same.0 in omega (arith, is, at))
     (λ (e : g.groups_left s m ≡ false). ⊎_elim
-        (λ (less : l < m). let is = right_level-right g s m e in let at = same.0 in omega (arith, is, at))
-        (λ (ge : m ≤ l). let eq : m ≡ l = omega arith in let there = ap (g.groups_left s) eq in let left = same.1 in absurd (cc))
-        (cases_lt l m))
+    (λ (less : l < m). let is = right_level-right g s m e in let at = same.0 in omega (arith, is, at))
+    (λ (ge : m ≤ l). let eq : m ≡ l = omega arith in let there = ap (g.groups_left s) eq in let left = same.1 in absurd (cc))
+    (cases_lt l m))
     (cases_Bool (g.groups_left s m))
 
 right_role_untaken : (g : Grammar) (s : g.Sort) (l m : ℕ) (r : Role) → l ≤ m → RoleFollows g s l r → role_takes (right_level g s m) r ≡ false

@@ -28,3 +28,5 @@ pub mod Exact
 pub mod Reduce
 -- a text has one answer
 pub mod OneAnswer
+-- the tokens of a text that is put together
+pub mod Scans

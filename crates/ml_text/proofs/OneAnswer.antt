@@ -2,8 +2,8 @@
 --
 --   refused_once         == the first cause and its place are unique
 --   accepted_not_refused == an accepted text is refused for no cause
-use Rattle.std.proofs.Common.{◌≡◌, ℕ, ◌<◌, ◌≤◌, ◌⊎◌, List, refl, inl, inr, ⊎_elim, arith}
-use Rattle.ml_text.specs.Refusals.{Item, Cause, Syntax, TooMany, TooNested, NameTooLong, rank, IsFault, IsRefused, IsAccepted}
+use Rattle.std.proofs.Common.{◌≡◌, ℕ, ◌<◌, ◌≤◌, ◌⊎◌, List, refl, inl, inr, arith}
+use Rattle.ml_text.specs.Refusals.{Item, Cause, Syntax, TooMany, TooNested, NameTooLong, rank, IsRefused, IsAccepted}
 
 one_rank : (c d : Cause) → rank c ≤ rank d → rank d ≤ rank c → c ≡ d
 one_rank Syntax Syntax a b = refl

@@ -5,10 +5,10 @@
 --   behind-reduce   == a step behind an operand is to reduce, and then to resolve
 --   close-reduce    == so is the end of a text, where nothing follows
 --   reduce-same     == signs that no operand takes reduce alike
-use Rattle.std.proofs.Common.{◌≡◌, ℕ, ◌⊎◌, Bool, true, false, List, [], ◌∷◌, Option, Some, None, refl, sym, ◌∙◌, ap, ⊎_elim}
+use Rattle.std.proofs.Common.{◌≡◌, ℕ, true, false, [], ◌∷◌, Option, Some, None, refl, sym, ◌∙◌, ap, ⊎_elim}
 use Rattle.std.proofs.lemmas.Bool.{cases_Bool, cond-true, cond-false}
 use Rattle.ml_text.specs.Grammar.{Grammar, Mode, Whole, More, right_level, takes}
-use Rattle.ml_text.specs.Machine.{Frame, Held, Left, Stack, State, frame_sort, frame_level, sort_of, enter, take_sign, step, behind, go_on, whole_of, close, popped, reduced, reduce, resolve}
+use Rattle.ml_text.specs.Machine.{Frame, Held, Left, Stack, State, frame_sort, frame_level, step, behind, whole_of, close, popped, reduced, reduce, resolve}
 use Rattle.ml_text.proofs.Complete.{behind-popped, behind-taken}
 
 pub reduce-popped : (g : Grammar) (n : Option g.Sign) (fr : Frame g) (stack : Stack g) (v : g.Tree) → takes g (frame_sort g fr) (frame_level g fr) n ≡ false → reduce g n (fr ∷ stack) v ≡ reduced g (λ w. reduce g n stack w) (popped g fr v) stack

@@ -4,11 +4,11 @@
 --   run-parse          == parsing signs and more is parsing more behind the signs
 --   viable             == what is run begins a text
 --   not_viable         == what isn't run begins none
-use Rattle.std.proofs.Common.{◌≡◌, ℕ, ◌+◌, List, [], ◌∷◌, ◌++◌, Option, Some, None, refl, sym, ◌∙◌, ap}
+use Rattle.std.proofs.Common.{◌≡◌, List, [], ◌∷◌, ◌++◌, Option, Some, None, refl, ◌∙◌, ap}
 use Rattle.std.specs.Prelude.{option_and_then}
-use Rattle.ml_text.specs.Grammar.{Grammar, Mode, Whole, More, Rest, Reads, front, StandsFor, IsRegular, IsStop, Ending, IsCompletable}
+use Rattle.ml_text.specs.Grammar.{Grammar, Mode, Whole, More, front, StandsFor, IsRegular, IsStop, Ending, IsCompletable}
 use Rattle.ml_text.specs.Refusals.{BeginsText}
-use Rattle.ml_text.specs.Machine.{Frame, Held, Left, Stack, State, start_state, step, close, finish, parse, run}
+use Rattle.ml_text.specs.Machine.{Held, Left, Stack, State, start_state, step, parse, run}
 use Rattle.ml_text.proofs.Complete.{pop, complete, found}
 use Rattle.ml_text.proofs.Sound.{stands}
 

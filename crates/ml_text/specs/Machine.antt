@@ -11,7 +11,7 @@
 --   finish g m stack    == the tree, if the text ends here
 --   parse g m stack ts  == the tree, if the text goes on with ts and ends there
 --   run g m stack ts    == the state behind the signs ts
-use Rattle.std.specs.Prelude.{ℕ, Bool, true, false, if◌then◌else◌, List, [], ◌∷◌, Option, Some, None, option_and_then}
+use Rattle.std.specs.Prelude.{ℕ, if◌then◌else◌, List, [], ◌∷◌, Option, Some, None, option_and_then}
 use Rattle.std.specs.Option.{option_map}
 use Rattle.ml_text.specs.Grammar.{Grammar, Role, Infix, Postfix, Outside, Mode, Whole, More, Turn, Read, Inner, Opens, right_level, takes}
 

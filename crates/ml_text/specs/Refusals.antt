@@ -20,7 +20,7 @@
 --   IsRefused R items c k   == c at k is the first of all
 --   IsAccepted R items f    == the signs stand for f, and no cause comes at all
 --   offset_of items end k   == where the place k is in the text, whose end is given
-use Rattle.std.specs.Prelude.{ℕ, zero, suc, ◌+◌, ◌-◌, ◌<◌, ◌≤◌, ◌≡◌, ◌⊎◌, Bool, true, false, List, [], ◌∷◌, ◌++◌, length, map, take, sum_by, Option, Some, None}
+use Rattle.std.specs.Prelude.{ℕ, zero, suc, ◌+◌, ◌-◌, ◌<◌, ◌≤◌, ◌≡◌, ◌⊎◌, Bool, true, false, List, [], ◌∷◌, ◌++◌, length, map, take, sum_by}
 
 pub data Bracket : Type 0 where
   Opening Closing Neither : Bracket

@@ -8,7 +8,9 @@
 // logics reserve; `is_lower` and its like tell the names of a logic from its variables. The module `laws` has
 // the theorems on tokens: the longest one is taken, and the tokens of a text cover it.
 //
-// Below stands nothing but std; above stand the parsers of the logics.
+// What the grammars of the logics share is theory alone, in `specs/` and `proofs/`: a grammar as tables (`Grammar`),
+// the machine that reads its texts (`Machine`), where texts are refused (`Refusals`), and that the machine is exact
+// (`proofs/Exact`). Below stands nothing but std; above stand the parsers of the logics.
 #![tactic(auto)]
 
 mod bytes;

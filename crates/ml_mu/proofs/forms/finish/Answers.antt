@@ -1,4 +1,4 @@
-use Rattle.std.proofs.Common.{◌≡◌, sym, ◌∙◌, ap}
+use Rattle.std.proofs.Common.{sym, ◌∙◌, ap}
 use Rattle.ml_text.specs.Machine as machine
 use Rattle.ml_mu.specs.FormViews.{mode_view, stack_view}
 use Rattle.ml_mu.specs.Tables as tables

@@ -1,4 +1,4 @@
-use Rattle.std.proofs.Common.{◌≡◌, Some, sym, ◌∙◌, ap}
+use Rattle.std.proofs.Common.{Some, sym, ◌∙◌, ap}
 use Rattle.ml_text.specs.Grammar as grammar
 use Rattle.ml_mu.specs.FormViews.{stack_view}
 use Rattle.ml_mu.specs.Tables as tables

@@ -1,4 +1,4 @@
-use Rattle.std.proofs.Common.{◌≡◌, sym, ◌∙◌, ap}
+use Rattle.std.proofs.Common.{sym, ◌∙◌, ap}
 use Rattle.ml_text.specs.Machine as machine
 use Rattle.ml_mu.specs.FormViews.{stack_view, wait_view}
 use Rattle.ml_mu.specs.SignViews.{sign_view}

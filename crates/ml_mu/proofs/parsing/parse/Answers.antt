@@ -1,9 +1,7 @@
-use Rattle.std.proofs.Common.{rules, ◌≡◌, ℕ, Option, None, map, sym, ◌∙◌, ap, subst}
+use Rattle.std.proofs.Common.{rules, map, sym, ◌∙◌, ap, subst}
 use Rattle.ml_mu.specs.Parsing.{IsParsedAs}
-use Rattle.ml_mu.specs.Text.{items, variable_places}
 use Rattle.ml_mu.specs.Term.{formula_of}
-use Rattle.ml_mu.specs.VariableFaults.{Standing, fault_at, standings}
-use Rattle.ml_mu.specs.VariableViews.{IsFaultOf, standing_view}
+use Rattle.ml_mu.specs.VariableViews.{standing_view}
 use Rattle.ml_mu.proofs.Parsed.{refused_first, found_small, found_parsed, fault_refused, parsed_well}
 use Rattle.ml_mu.proofs.parsing.parse.Goals as goal
 

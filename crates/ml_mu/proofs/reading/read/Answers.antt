@@ -1,4 +1,4 @@
-use Rattle.std.proofs.Common.{◌≡◌, sym, ap, arith, length}
+use Rattle.std.proofs.Common.{sym, ap, arith, length}
 use Rattle.ml_text.specs.Grammar.{More}
 use Rattle.ml_text.specs.Reading.{outcome}
 use Rattle.ml_text.specs.Tokens.{tokens}

@@ -1,4 +1,4 @@
-use Rattle.std.proofs.Common.{◌≡◌, ◌∙◌, ap, arith, map, refl}
+use Rattle.std.proofs.Common.{◌∙◌, ap, arith, map, refl}
 use Rattle.ml_text.specs.Tokens.{tokens}
 use Rattle.ml_mu.specs.Text.{items_from, places_from}
 use Rattle.ml_mu.specs.VariableFaults.{fault_at}

@@ -1,0 +1,390 @@
+-- The canonical text of a formula stands for it.
+--
+--   tokens_onto f ss     == the tokens of the canonical text of f, in front of the tokens ss
+--   scans_formula        == these are its tokens
+--   reads_formula        == their signs are read as f
+--   canonical_stands     == so the text stands for f
+use Rattle.std.proofs.Common.{◌≡◌, ℕ, suc, ◌+◌, ◌≤◌, ◌⊎◌, Bool, true, false, ◌&&◌, ◌||◌, ◌==◌, not, List, [], ◌∷◌, ◌++◌, length, map, take, drop, take_while, Option, Some, None, refl, sym, ◌∙◌, ap, subst, arith, if◌then◌else◌, cond, codes, append_assoc, bytes_eq, ⊎_elim, inl, inr, unwrap_or}
+use Rattle.std.specs.List.{list_all, list_any, prefix_len}
+use Rattle.std.proofs.lemmas.Bool.{and_from, and_parts, or_parts, or_from, or_cases, or_left, or_right, not_from_false, cases_Bool, cond-true, cond-false}
+use Rattle.std.proofs.lemmas.List.{append-nil}
+use Rattle.std.proofs.lemmas.List.Folds.{length-prefix_len}
+use Rattle.ml_text.specs.Bytes.{is_blank, is_lower, is_upper, is_letter, is_word_byte}
+use Rattle.ml_text.specs.declared.token.Operator.{Operator}
+use Rattle.ml_text.specs.declared.token.Operator.TheVariants as operator
+use Rattle.ml_text.specs.declared.token.Token.{Token}
+use Rattle.ml_text.specs.declared.token.Token.TheVariants as token
+use Rattle.ml_text.specs.declared.token.WordStart.TheVariants.{AnyLetter}
+use Rattle.ml_text.specs.declared.token.Placed.{Placed}
+use Rattle.ml_text.specs.Tokens.{tokens, front_token, longest_sign, signs}
+use Rattle.ml_text.specs.Words.{constant_of}
+use Rattle.ml_text.specs.Refusals.{signs_of}
+use Rattle.ml_text.proofs.ByteKinds.{begins_word-no_blank}
+use Rattle.ml_text.proofs.Scan.{front_token-word}
+use Rattle.ml_text.proofs.Scans.{Spelt, spelt_at, Scans, ends, blank, piece, scans_tokens}
+use Rattle.ml_mu.specs.Formula as plain
+use Rattle.ml_mu.specs.Formula.{Formula, Modality, Diamond, Square, Fixpoint, Least, Greatest}
+use Rattle.ml_mu.specs.Canonical.{spelling_of, action_text, modality_text, fixpoint_word, canonical_text}
+use Rattle.ml_mu.specs.Signs.{Sign, Not, Connective, Const, Open, Close, Begins, Ends, Binds, Dot, Lower, Upper, Unknown, action_of, sign_of, word_sign, word_sign_by, name_sign}
+use Rattle.ml_mu.specs.Spelling.{is_proposition, is_variable, is_action, is_spelled, is_word_from, is_reserved}
+use Rattle.ml_mu.specs.Grammar as grammar
+use Rattle.ml_mu.specs.Grammar.{Reads, iff_alone, iff, imp_alone, imp, or_alone, or, and_alone, and, negation, modal, modal_blank, binder, group, constant, proposition, variable}
+use Rattle.ml_mu.proofs.GrammarTables.{un_raised}
+use Rattle.ml_mu.proofs.Spelled.{letters, upper_letters, unreserved}
+use Rattle.ml_mu.specs.Text.{items_from, items, silences, sign_at, IsTextOf}
+
+-- ---- pieces of one byte, and operators
+
+byte_front : (rest : List ℕ) → front_token AnyLetter 40 rest ≡ (token.Byte 40, 1)
+unfolding front_token longest_sign signs
+byte_front rest = refl
+
+close_front : (rest : List ℕ) → front_token AnyLetter 41 rest ≡ (token.Byte 41, 1)
+unfolding front_token longest_sign signs
+close_front rest = refl
+
+not_front : (rest : List ℕ) → front_token AnyLetter 33 rest ≡ (token.Not, 1)
+unfolding front_token longest_sign signs
+not_front rest = refl
+
+dot_front : (rest : List ℕ) → front_token AnyLetter 46 rest ≡ (token.Byte 46, 1)
+unfolding front_token longest_sign signs
+dot_front rest = refl
+
+more_front : (rest : List ℕ) → front_token AnyLetter 62 rest ≡ (token.Byte 62, 1)
+unfolding front_token longest_sign signs
+more_front rest = refl
+
+square_front : (rest : List ℕ) → front_token AnyLetter 91 rest ≡ (token.Byte 91, 1)
+unfolding front_token longest_sign signs
+square_front rest = refl
+
+square_end : (rest : List ℕ) → front_token AnyLetter 93 rest ≡ (token.Byte 93, 1)
+unfolding front_token longest_sign signs
+square_end rest = refl
+
+less_more : (rest : List ℕ) → front_token AnyLetter 60 (62 ∷ rest) ≡ (token.Byte 60, 1)
+unfolding front_token longest_sign signs
+less_more rest = refl
+
+and_front : (rest : List ℕ) → front_token AnyLetter 38 (32 ∷ rest) ≡ (token.Operator operator.And, 1)
+unfolding front_token longest_sign signs
+and_front rest = refl
+
+or_front : (rest : List ℕ) → front_token AnyLetter 124 (32 ∷ rest) ≡ (token.Operator operator.Or, 1)
+unfolding front_token longest_sign signs
+or_front rest = refl
+
+imp_front : (rest : List ℕ) → front_token AnyLetter 45 (62 ∷ 32 ∷ rest) ≡ (token.Operator operator.Implies, 2)
+unfolding front_token longest_sign signs
+imp_front rest = refl
+
+iff_front : (rest : List ℕ) → front_token AnyLetter 60 (45 ∷ 62 ∷ 32 ∷ rest) ≡ (token.Operator operator.Iff, 3)
+unfolding front_token longest_sign signs
+iff_front rest = refl
+
+-- `<` in front of a letter
+less_letter : (c : ℕ) (rest : List ℕ) → is_letter c ≡ true → front_token AnyLetter 60 (c ∷ rest) ≡ (token.Byte 60, 1)
+unfolding front_token longest_sign signs
+less_letter c rest letter = simp (other 45 refl, other 61 refl)
+  where
+    other : (b : ℕ) → is_letter b ≡ false → (b == c) ≡ false
+    other b no_letter =
+        ⊎_elim
+        (λ (same : (b == c) ≡ true). let e = Rattle.std.proofs.Common.eqb-true b c same in let there = ap is_letter e in absurd (cc))
+        (λ (differs : (b == c) ≡ false). differs)
+        (cases_Bool (b == c))
+
+-- ---- words
+
+-- no byte of words stands at the front
+abbrev pub ends_word : List ℕ → Bool
+ends_word [] = true
+ends_word (c ∷ rest) = not (is_word_byte c)
+
+prefix_word : (bs rest : List ℕ) → list_all is_word_byte bs ≡ true → ends_word rest ≡ true → prefix_len is_word_byte (bs ++ rest) ≡ length bs
+prefix_word [] [] all stops = refl
+prefix_word [] (c ∷ rest) all stops =
+    cond-false (is_word_byte c) (1 + prefix_len is_word_byte rest) 0 (not_true (is_word_byte c) stops)
+  where
+    not_true : (b : Bool) → not b ≡ true → b ≡ false
+    not_true true is = absurd (cc)
+    not_true false is = refl
+prefix_word (b ∷ bs) rest all stops =
+    let parts = and_parts (is_word_byte b) (list_all is_word_byte bs) all in
+    let later = prefix_word bs rest parts.1 stops in
+    let here = cond-true (is_word_byte b) (1 + prefix_len is_word_byte (bs ++ rest)) 0 parts.0 in
+    omega (arith, here, later)
+
+word_piece : (w rest : List ℕ) (ss : List Spelt) → is_word_from is_letter w ≡ true → ends_word rest ≡ true → Scans AnyLetter rest ss → Scans AnyLetter (w ++ rest) ((token.Word, w) ∷ ss)
+word_piece [] rest ss word stops r = absurd (cc)
+word_piece (b ∷ bs) rest ss word stops r =
+    let parts = and_parts (is_letter b) (list_all is_word_byte bs) word in
+    let size = length-prefix_len is_word_byte (bs ++ rest) ∙ prefix_word bs rest parts.1 stops in
+    let one_more : 1 + length (take_while is_word_byte (bs ++ rest)) ≡ suc (length bs) = omega (arith, size) in
+    piece token.Word b bs (begins_word-no_blank AnyLetter b parts.0) (front_token-word AnyLetter b (bs ++ rest) parts.0 ∙ ap (λ n. (token.Word, n)) one_more) r
+
+one_byte : (b : ℕ) (rest : List ℕ) (ss : List Spelt) → is_blank b ≡ false → front_token AnyLetter b rest ≡ (token.Byte b, 1) → Scans AnyLetter rest ss → Scans AnyLetter (b ∷ rest) ((token.Byte b, b ∷ []) ∷ ss)
+one_byte b rest ss other front r = piece (token.Byte b) b [] other front r
+
+-- ---- the signs of words
+
+from_not : (b : Bool) → not b ≡ true → b ≡ false
+from_not true is = absurd (cc)
+from_not false is = refl
+
+unreserved_parts : (w : List ℕ) → is_reserved w ≡ false → (constant_of w ≡ None) × ((bytes_eq w (codes "mu") ≡ false) × (bytes_eq w (codes "nu") ≡ false))
+unfolding constant_of
+unreserved_parts w is =
+    let a = or_parts (bytes_eq w (codes "tt")) _ is in
+    let b = or_parts (bytes_eq w (codes "true")) _ a.1 in
+    let c = or_parts (bytes_eq w (codes "ff")) _ b.1 in
+    let d = or_parts (bytes_eq w (codes "false")) _ c.1 in
+    let e = or_parts (bytes_eq w (codes "mu")) _ d.1 in
+    let f = or_parts (bytes_eq w (codes "nu")) _ e.1 in
+    (simp (a.0, b.0, c.0, d.0), (e.0, f.0))
+
+name_word : (w : List ℕ) → is_reserved w ≡ false → word_sign w ≡ name_sign w
+name_word w is =
+    let parts = unreserved_parts w is in
+    ap (λ o. word_sign_by o w) parts.0
+    ∙ cond-false (bytes_eq w (codes "mu")) _ _ (parts.1).0
+    ∙ cond-false (bytes_eq w (codes "nu")) _ _ (parts.1).1
+
+pub proposition_sign : (p : List ℕ) → is_proposition p ≡ true → word_sign p ≡ Lower p
+proposition_sign p is =
+    let parts = and_parts (is_word_from is_lower p) (not (is_reserved p)) is in
+    name_word p (from_not (is_reserved p) parts.1) ∙ cond-true (is_proposition p) (Lower p) _ is
+
+-- an upper-case letter is no lower-case one
+no_lower : (b : ℕ) → is_upper b ≡ true → is_lower b ≡ false
+no_lower b upper =
+    let parts = and_parts (Rattle.std.specs.Prelude.nat_le 65 b) (Rattle.std.specs.Prelude.nat_le b 90) upper in
+    let below = Rattle.std.proofs.Common.leb-true b 90 parts.1 in
+    Rattle.std.proofs.lemmas.Bool.and_left (Rattle.std.specs.Prelude.nat_le 97 b) (Rattle.std.specs.Prelude.nat_le b 122) (Rattle.std.proofs.lemmas.Bool.lt-leb 97 b (omega arith))
+
+no_proposition : (x : List ℕ) → is_variable x ≡ true → is_proposition x ≡ false
+no_proposition [] is = absurd (cc)
+no_proposition (b ∷ bs) is =
+    let parts = and_parts (is_upper b) (list_all is_word_byte bs) is in
+    let first = Rattle.std.proofs.lemmas.Bool.and_left (is_lower b) (list_all is_word_byte bs) (no_lower b parts.0) in
+    Rattle.std.proofs.lemmas.Bool.and_left (is_lower b && list_all is_word_byte bs) (not (is_reserved (b ∷ bs))) first
+
+pub variable_sign : (x : List ℕ) → is_variable x ≡ true → word_sign x ≡ Upper x
+variable_sign x is =
+    name_word x (unreserved x is)
+    ∙ cond-false (is_proposition x) _ _ (no_proposition x is)
+    ∙ cond-true (is_variable x) (Upper x) Unknown is
+
+-- the sign of an action that is a word
+record ActionSign (a : List ℕ) : Type 0 where
+  pub word : is_word_from is_letter a ≡ true
+  pub action : action_of (word_sign a) ≡ Some a
+
+action_cases : (a : List ℕ) → is_word_from is_letter a ≡ true → is_reserved a ≡ false → action_of (word_sign a) ≡ Some a
+action_cases [] word free = absurd (cc)
+action_cases (b ∷ bs) word free =
+    let parts = and_parts (is_letter b) (list_all is_word_byte bs) word in
+    ⊎_elim
+    (λ (lower : is_lower b ≡ true). ap action_of (proposition_sign (b ∷ bs) (and_from (is_lower b && list_all is_word_byte bs) (not (is_reserved (b ∷ bs))) (and_from (is_lower b) (list_all is_word_byte bs) lower parts.1) (not_from_false (is_reserved (b ∷ bs)) free))))
+    (λ (upper : is_upper b ≡ true). ap action_of (variable_sign (b ∷ bs) (and_from (is_upper b) (list_all is_word_byte bs) upper parts.1)))
+    (or_cases (is_lower b) (is_upper b) parts.0)
+
+action_sign : (a : List ℕ) → is_action a ≡ true → bytes_eq a (codes "_") ≡ false → ActionSign a
+action_sign a is other =
+    let word_parts = and_parts (is_word_from is_letter a) (not (is_reserved a)) (or_other (bytes_eq a (codes "_")) (is_word_from is_letter a && not (is_reserved a)) is other) in
+    record { word = word_parts.0; action = action_cases a word_parts.0 (from_not (is_reserved a) word_parts.1) }
+  where
+    or_other : (x y : Bool) → (x || y) ≡ true → x ≡ false → y ≡ true
+    or_other true y is no_x = absurd (cc)
+    or_other false y is no_x = is
+
+-- ---- the tokens of a canonical text
+
+abbrev pub action_tokens : List ℕ → List Spelt → List Spelt
+action_tokens a ss = if bytes_eq a (codes "_") then ss else (token.Word, a) ∷ ss
+
+abbrev pub begin_byte : Modality → ℕ
+begin_byte Diamond = 60
+begin_byte Square = 91
+
+abbrev pub end_byte : Modality → ℕ
+end_byte Diamond = 62
+end_byte Square = 93
+
+abbrev pub lone : ℕ → Spelt
+lone b = (token.Byte b, b ∷ [])
+
+abbrev pub tokens_onto : Formula → List Spelt → List Spelt
+tokens_onto (plain.Const true) ss = (token.Word, codes "tt") ∷ ss
+tokens_onto (plain.Const false) ss = (token.Word, codes "ff") ∷ ss
+tokens_onto (plain.Prop p) ss = (token.Word, p) ∷ ss
+tokens_onto (plain.Var x) ss = (token.Word, x) ∷ ss
+tokens_onto (plain.Not f) ss = (token.Not, codes "!") ∷ tokens_onto f ss
+tokens_onto (plain.Binary o f g) ss = lone 40 ∷ tokens_onto f ((token.Operator o, spelling_of o) ∷ tokens_onto g (lone 41 ∷ ss))
+tokens_onto (plain.Modal m a f) ss = lone (begin_byte m) ∷ action_tokens a (lone (end_byte m) ∷ tokens_onto f ss)
+tokens_onto (plain.Binder q x f) ss = lone 40 ∷ (token.Word, fixpoint_word q) ∷ (token.Word, x) ∷ lone 46 ∷ tokens_onto f (lone 41 ∷ ss)
+
+-- ` op ` in front of a text
+operator_piece : (o : Operator) (rest : List ℕ) (ss : List Spelt) → Scans AnyLetter rest ss → Scans AnyLetter (codes " " ++ (spelling_of o ++ (codes " " ++ rest))) ((token.Operator o, spelling_of o) ∷ ss)
+operator_piece operator.And rest ss r = blank 32 refl (piece (token.Operator operator.And) 38 [] refl (and_front rest) (blank 32 refl r))
+operator_piece operator.Or rest ss r = blank 32 refl (piece (token.Operator operator.Or) 124 [] refl (or_front rest) (blank 32 refl r))
+operator_piece operator.Implies rest ss r = blank 32 refl (piece (token.Operator operator.Implies) 45 (62 ∷ []) refl (imp_front rest) (blank 32 refl r))
+operator_piece operator.Iff rest ss r = blank 32 refl (piece (token.Operator operator.Iff) 60 (45 ∷ 62 ∷ []) refl (iff_front rest) (blank 32 refl r))
+
+end_piece : (m : Modality) (rest : List ℕ) (ss : List Spelt) → Scans AnyLetter rest ss → Scans AnyLetter (end_byte m ∷ rest) (lone (end_byte m) ∷ ss)
+end_piece Diamond rest ss r = one_byte 62 rest ss refl (more_front rest) r
+end_piece Square rest ss r = one_byte 93 rest ss refl (square_end rest) r
+
+begin_blank : (m : Modality) (rest : List ℕ) (ss : List Spelt) → Scans AnyLetter (end_byte m ∷ rest) ss → Scans AnyLetter (begin_byte m ∷ end_byte m ∷ rest) (lone (begin_byte m) ∷ ss)
+begin_blank Diamond rest ss r = one_byte 60 (62 ∷ rest) ss refl (less_more rest) r
+begin_blank Square rest ss r = one_byte 91 (93 ∷ rest) ss refl (square_front (93 ∷ rest)) r
+
+begin_word : (m : Modality) (a rest : List ℕ) (ss : List Spelt) → is_word_from is_letter a ≡ true → Scans AnyLetter (a ++ rest) ss → Scans AnyLetter (begin_byte m ∷ (a ++ rest)) (lone (begin_byte m) ∷ ss)
+begin_word m [] rest ss word r = absurd (cc)
+begin_word Diamond (b ∷ bs) rest ss word r = one_byte 60 (b ∷ (bs ++ rest)) ss refl (less_letter b (bs ++ rest) (and_parts (is_letter b) (list_all is_word_byte bs) word).0) r
+begin_word Square (b ∷ bs) rest ss word r = one_byte 91 (b ∷ (bs ++ rest)) ss refl (square_front (b ∷ (bs ++ rest))) r
+
+end_stops : (m : Modality) (rest : List ℕ) → ends_word (end_byte m ∷ rest) ≡ true
+end_stops Diamond rest = refl
+end_stops Square rest = refl
+
+modality_same : (m : Modality) (a rest : List ℕ) → modality_text m a ++ rest ≡ begin_byte m ∷ (action_text a ++ (end_byte m ∷ rest))
+modality_same Diamond a rest = ap (λ xs. 60 ∷ xs) (append_assoc (action_text a) (codes ">") rest)
+modality_same Square a rest = ap (λ xs. 91 ∷ xs) (append_assoc (action_text a) (codes "]") rest)
+
+modal_piece : (m : Modality) (a rest : List ℕ) (ss : List Spelt) → is_action a ≡ true → Scans AnyLetter rest ss → Scans AnyLetter (begin_byte m ∷ (action_text a ++ (end_byte m ∷ rest))) (lone (begin_byte m) ∷ action_tokens a (lone (end_byte m) ∷ ss))
+modal_piece m a rest ss is r =
+    ⊎_elim
+    (λ (any : bytes_eq a (codes "_") ≡ true).
+    subst (λ c. Scans AnyLetter (begin_byte m ∷ (cond c [] a ++ (end_byte m ∷ rest))) (lone (begin_byte m) ∷ cond c (lone (end_byte m) ∷ ss) ((token.Word, a) ∷ lone (end_byte m) ∷ ss))) (sym any)
+    (begin_blank m rest (lone (end_byte m) ∷ ss) (end_piece m rest ss r)))
+    (λ (other : bytes_eq a (codes "_") ≡ false).
+    let s : ActionSign a = action_sign a is other in
+    subst (λ c. Scans AnyLetter (begin_byte m ∷ (cond c [] a ++ (end_byte m ∷ rest))) (lone (begin_byte m) ∷ cond c (lone (end_byte m) ∷ ss) ((token.Word, a) ∷ lone (end_byte m) ∷ ss))) (sym other)
+    (begin_word m a (end_byte m ∷ rest) ((token.Word, a) ∷ lone (end_byte m) ∷ ss) s.word (word_piece a (end_byte m ∷ rest) (lone (end_byte m) ∷ ss) s.word (end_stops m rest) (end_piece m rest ss r))))
+    (cases_Bool (bytes_eq a (codes "_")))
+
+fixpoint_letters : (q : Fixpoint) → is_word_from is_letter (fixpoint_word q) ≡ true
+fixpoint_letters Least = refl
+fixpoint_letters Greatest = refl
+
+binary_same : (a sp b rest : List ℕ) → (codes "(" ++ a ++ codes " " ++ sp ++ codes " " ++ b ++ codes ")") ++ rest ≡ 40 ∷ (a ++ (codes " " ++ (sp ++ (codes " " ++ (b ++ (41 ∷ rest))))))
+binary_same a sp b rest = simp append_assoc
+
+binder_same : (w x b rest : List ℕ) → (codes "(" ++ w ++ codes " " ++ x ++ codes ". " ++ b ++ codes ")") ++ rest ≡ 40 ∷ (w ++ (32 ∷ (x ++ (46 ∷ 32 ∷ (b ++ (41 ∷ rest))))))
+binder_same w x b rest = simp append_assoc
+
+pub scans_formula : (f : Formula) → is_spelled f ≡ true → (rest : List ℕ) (ss : List Spelt) → ends_word rest ≡ true → Scans AnyLetter rest ss → Scans AnyLetter (canonical_text f ++ rest) (tokens_onto f ss)
+scans_formula (plain.Const true) is rest ss stops r = word_piece (codes "tt") rest ss refl stops r
+scans_formula (plain.Const false) is rest ss stops r = word_piece (codes "ff") rest ss refl stops r
+scans_formula (plain.Prop p) is rest ss stops r = word_piece p rest ss (letters p (and_parts (is_word_from is_lower p) (not (is_reserved p)) is).0) stops r
+scans_formula (plain.Var x) is rest ss stops r = word_piece x rest ss (upper_letters x is) stops r
+scans_formula (plain.Not f) is rest ss stops r = piece token.Not 33 [] refl (not_front (canonical_text f ++ rest)) (scans_formula f is rest ss stops r)
+scans_formula (plain.Binary o f g) is rest ss stops r =
+    let parts = and_parts (is_spelled f) (is_spelled g) is in
+    let right = scans_formula g parts.1 (41 ∷ rest) (lone 41 ∷ ss) refl (one_byte 41 rest ss refl (close_front rest) r) in
+    let sign = operator_piece o (canonical_text g ++ (41 ∷ rest)) (tokens_onto g (lone 41 ∷ ss)) right in
+    let after = codes " " ++ (spelling_of o ++ (codes " " ++ (canonical_text g ++ (41 ∷ rest)))) in
+    let left = scans_formula f parts.0 after ((token.Operator o, spelling_of o) ∷ tokens_onto g (lone 41 ∷ ss)) refl sign in
+    subst (λ text. Scans AnyLetter text (tokens_onto (plain.Binary o f g) ss)) (sym (binary_same (canonical_text f) (spelling_of o) (canonical_text g) rest))
+    (one_byte 40 (canonical_text f ++ after) (tokens_onto f ((token.Operator o, spelling_of o) ∷ tokens_onto g (lone 41 ∷ ss))) refl (byte_front (canonical_text f ++ after)) left)
+scans_formula (plain.Modal m a f) is rest ss stops r =
+    let parts = and_parts (is_action a) (is_spelled f) is in
+    subst (λ text. Scans AnyLetter text (tokens_onto (plain.Modal m a f) ss))
+    (sym (append_assoc (modality_text m a) (canonical_text f) rest ∙ modality_same m a (canonical_text f ++ rest)))
+    (modal_piece m a (canonical_text f ++ rest) (tokens_onto f ss) parts.0 (scans_formula f parts.1 rest ss stops r))
+scans_formula (plain.Binder q x f) is rest ss stops r =
+    let parts = and_parts (is_variable x) (is_spelled f) is in
+    let body = scans_formula f parts.1 (41 ∷ rest) (lone 41 ∷ ss) refl (one_byte 41 rest ss refl (close_front rest) r) in
+    let text = canonical_text f ++ (41 ∷ rest) in
+    let toks = tokens_onto f (lone 41 ∷ ss) in
+    let dot = one_byte 46 (32 ∷ text) toks refl (dot_front (32 ∷ text)) (blank 32 refl body) in
+    let name = word_piece x (46 ∷ 32 ∷ text) (lone 46 ∷ toks) (upper_letters x parts.0) refl dot in
+    let word = word_piece (fixpoint_word q) (32 ∷ (x ++ (46 ∷ 32 ∷ text))) ((token.Word, x) ∷ lone 46 ∷ toks) (fixpoint_letters q) refl (blank 32 refl name) in
+    subst (λ text. Scans AnyLetter text (tokens_onto (plain.Binder q x f) ss)) (sym (binder_same (fixpoint_word q) x (canonical_text f) rest))
+    (one_byte 40 (fixpoint_word q ++ (32 ∷ (x ++ (46 ∷ 32 ∷ text)))) ((token.Word, fixpoint_word q) ∷ (token.Word, x) ∷ lone 46 ∷ toks) refl (byte_front (fixpoint_word q ++ (32 ∷ (x ++ (46 ∷ 32 ∷ text))))) word)
+
+-- ---- reading them
+
+abbrev pub sign_spelt : Spelt → Sign
+sign_spelt s = sign_of s.0 s.1
+
+true_sign : word_sign (codes "tt") ≡ Const true
+unfolding constant_of
+true_sign = refl
+
+false_sign : word_sign (codes "ff") ≡ Const false
+unfolding constant_of
+false_sign = refl
+
+fixpoint_sign : (q : Fixpoint) → word_sign (fixpoint_word q) ≡ Binds q
+unfolding constant_of
+fixpoint_sign Least = refl
+fixpoint_sign Greatest = refl
+
+begin_sign : (m : Modality) → sign_spelt (lone (begin_byte m)) ≡ Begins m
+begin_sign Diamond = refl
+begin_sign Square = refl
+
+end_sign : (m : Modality) → sign_spelt (lone (end_byte m)) ≡ Ends m
+end_sign Diamond = refl
+end_sign Square = refl
+
+binary_read : (o : Operator) (ts us rest : List Sign) (f g : Formula) → Reads grammar.Un ts f (Connective o ∷ us) → Reads grammar.Un us g (Close ∷ rest) → Reads grammar.Un (Open ∷ ts) (plain.Binary o f g) rest
+binary_read operator.Iff ts us rest f g a b = group (iff (un_raised grammar.Imp a) (un_raised grammar.Iff b))
+binary_read operator.Implies ts us rest f g a b = group (iff_alone (imp (un_raised grammar.Or a) (un_raised grammar.Imp b)))
+binary_read operator.Or ts us rest f g a b = group (iff_alone (imp_alone (or (un_raised grammar.Or a) (un_raised grammar.And b))))
+binary_read operator.And ts us rest f g a b = group (iff_alone (imp_alone (or_alone (and (un_raised grammar.And a) b))))
+
+modal_read : (m : Modality) (a : List ℕ) (f : Formula) (after : List Spelt) (rest : List Sign) → is_action a ≡ true → Reads grammar.Un (map sign_spelt after) f rest → Reads grammar.Un (sign_spelt (lone (begin_byte m)) ∷ map sign_spelt (action_tokens a (lone (end_byte m) ∷ after))) (plain.Modal m a f) rest
+modal_read m a f after rest is r =
+    let open_is = begin_sign m in
+    let close_is = end_sign m in
+    ⊎_elim
+    (λ (any : bytes_eq a (codes "_") ≡ true).
+    let same = (Rattle.std.proofs.lemmas.Slice.Eq.bytes_eq-Decides a (codes "_")).0 any in
+    let read : Reads grammar.Un (sign_spelt (lone (begin_byte m)) ∷ sign_spelt (lone (end_byte m)) ∷ map sign_spelt after) (plain.Modal m (codes "_") f) rest = subst (λ t. Reads grammar.Un (t ∷ sign_spelt (lone (end_byte m)) ∷ map sign_spelt after) (plain.Modal m (codes "_") f) rest) (sym open_is) (subst (λ t. Reads grammar.Un (Begins m ∷ t ∷ map sign_spelt after) (plain.Modal m (codes "_") f) rest) (sym close_is) (modal_blank m r)) in
+    subst (λ c. Reads grammar.Un (sign_spelt (lone (begin_byte m)) ∷ map sign_spelt (cond c (lone (end_byte m) ∷ after) ((token.Word, a) ∷ lone (end_byte m) ∷ after))) (plain.Modal m a f) rest) (sym any)
+    (subst (λ b. Reads grammar.Un (sign_spelt (lone (begin_byte m)) ∷ sign_spelt (lone (end_byte m)) ∷ map sign_spelt after) (plain.Modal m b f) rest) (sym same) read))
+    (λ (other : bytes_eq a (codes "_") ≡ false).
+    let s : ActionSign a = action_sign a is other in
+    subst (λ c. Reads grammar.Un (sign_spelt (lone (begin_byte m)) ∷ map sign_spelt (cond c (lone (end_byte m) ∷ after) ((token.Word, a) ∷ lone (end_byte m) ∷ after))) (plain.Modal m a f) rest) (sym other)
+    (subst (λ t. Reads grammar.Un (t ∷ word_sign a ∷ sign_spelt (lone (end_byte m)) ∷ map sign_spelt after) (plain.Modal m a f) rest) (sym open_is)
+    (subst (λ t. Reads grammar.Un (Begins m ∷ word_sign a ∷ t ∷ map sign_spelt after) (plain.Modal m a f) rest) (sym close_is) (modal m a (word_sign a) s.action r))))
+    (cases_Bool (bytes_eq a (codes "_")))
+
+binder_read : (q : Fixpoint) (x : List ℕ) (f : Formula) (after : List Spelt) (rest : List Sign) → is_variable x ≡ true → Reads grammar.Un (map sign_spelt after) f (Close ∷ rest) → Reads grammar.Un (Open ∷ word_sign (fixpoint_word q) ∷ word_sign x ∷ Dot ∷ map sign_spelt after) (plain.Binder q x f) rest
+binder_read q x f after rest is r =
+    let bound = un_raised grammar.Iff (binder q x (un_raised grammar.Iff r) refl) in
+    subst (λ t. Reads grammar.Un (Open ∷ t ∷ word_sign x ∷ Dot ∷ map sign_spelt after) (plain.Binder q x f) rest) (sym (fixpoint_sign q))
+    (subst (λ t. Reads grammar.Un (Open ∷ Binds q ∷ t ∷ Dot ∷ map sign_spelt after) (plain.Binder q x f) rest) (sym (variable_sign x is)) (group bound))
+
+pub reads_formula : (f : Formula) → is_spelled f ≡ true → (ss : List Spelt) → Reads grammar.Un (map sign_spelt (tokens_onto f ss)) f (map sign_spelt ss)
+reads_formula (plain.Const true) is ss = subst (λ t. Reads grammar.Un (t ∷ map sign_spelt ss) (plain.Const true) (map sign_spelt ss)) (sym true_sign) (constant true)
+reads_formula (plain.Const false) is ss = subst (λ t. Reads grammar.Un (t ∷ map sign_spelt ss) (plain.Const false) (map sign_spelt ss)) (sym false_sign) (constant false)
+reads_formula (plain.Prop p) is ss = subst (λ t. Reads grammar.Un (t ∷ map sign_spelt ss) (plain.Prop p) (map sign_spelt ss)) (sym (proposition_sign p is)) (proposition p)
+reads_formula (plain.Var x) is ss = subst (λ t. Reads grammar.Un (t ∷ map sign_spelt ss) (plain.Var x) (map sign_spelt ss)) (sym (variable_sign x is)) (variable x)
+reads_formula (plain.Not f) is ss = negation (reads_formula f is ss)
+reads_formula (plain.Binary o f g) is ss =
+    let parts = and_parts (is_spelled f) (is_spelled g) is in
+    binary_read o _ _ (map sign_spelt ss) f g (reads_formula f parts.0 ((token.Operator o, spelling_of o) ∷ tokens_onto g (lone 41 ∷ ss))) (reads_formula g parts.1 (lone 41 ∷ ss))
+reads_formula (plain.Modal m a f) is ss =
+    let parts = and_parts (is_action a) (is_spelled f) is in
+    modal_read m a f (tokens_onto f ss) (map sign_spelt ss) parts.0 (reads_formula f parts.1 ss)
+reads_formula (plain.Binder q x f) is ss =
+    let parts = and_parts (is_variable x) (is_spelled f) is in
+    binder_read q x f (tokens_onto f (lone 41 ∷ ss)) (map sign_spelt ss) parts.0 (reads_formula f parts.1 (lone 41 ∷ ss))
+
+-- ---- the text
+
+signs_spelt : (text : List ℕ) (silent : Bool) (ps : List Placed) → signs_of (items_from text silent ps) ≡ map sign_spelt (map (spelt_at text) ps)
+signs_spelt text silent [] = refl
+signs_spelt text silent (p ∷ ps) = ap (λ ts. sign_at text p ∷ ts) (signs_spelt text (silences (sign_at text p)) ps)
+
+pub canonical_stands : (f : Formula) → is_spelled f ≡ true → IsTextOf (canonical_text f) f
+canonical_stands f is =
+    let text = canonical_text f in
+    let scans : Scans AnyLetter text (tokens_onto f []) = subst (λ t. Scans AnyLetter t (tokens_onto f [])) (append-nil text) (scans_formula f is [] [] refl ends) in
+    let signs_are : signs_of (items text) ≡ map sign_spelt (tokens_onto f []) = signs_spelt text false (tokens AnyLetter text) ∙ ap (map sign_spelt) (scans_tokens AnyLetter text (tokens_onto f []) scans) in
+    subst (λ ts. Reads grammar.Iff ts f []) (sym signs_are) (un_raised grammar.Iff (reads_formula f is []))
