@@ -18,3 +18,5 @@ pub mod Evaluation
 pub mod Inclusion
 -- a meaning has one flag for each state
 pub mod MeaningFlags
+-- positive bodies are monotone
+pub mod Monotone
