@@ -20,3 +20,5 @@ pub mod Inclusion
 pub mod MeaningFlags
 -- positive bodies are monotone
 pub mod Monotone
+-- the n-th iterate is a fixpoint, the least or the greatest
+pub mod Fixpoints

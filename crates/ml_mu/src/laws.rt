@@ -1,7 +1,7 @@
 // Laws of meanings, over the definitions alone: no caller runs these functions, their contracts are the theorems.
 ghost use Rattle.std.specs.Prelude.{◌≡◌, ℕ, true, List, [], ◌∷◌, length};
 ghost use Rattle.ml_base.specs.Structure.{Structure, StateSet, is_member};
-ghost use Rattle.ml_mu.specs.Formula.{Formula, Binder, Fixpoint};
+ghost use Rattle.ml_mu.specs.Formula.{Formula, Binder, Fixpoint, Least, Greatest};
 ghost use Rattle.ml_mu.specs.Meaning.{meaning};
 ghost use Rattle.ml_mu.specs.Variables.{is_positive};
 
@@ -17,4 +17,19 @@ pub fn positive_bodies_grow()
         → length s ≡ m.states → length t ≡ m.states
         → ((k : ℕ) → is_member s k ≡ true → is_member t k ≡ true)
         → (k : ℕ) → is_member (meaning m ((x, s) ∷ []) f) k ≡ true → is_member (meaning m ((x, t) ∷ []) f) k ≡ true }
+{}
+
+/// What a positive binder means is a fixpoint of its body: of mu the least, of nu the greatest.
+///
+/// `fixpoint`: the body makes of that set the set itself. `least`: it lies within each set in which what the body
+/// makes of it lies. `greatest`: each set that lies within what the body makes of it lies within it.
+pub fn binders_mean_fixpoints()
+    ensures fixpoint { (m : Structure) (q : Fixpoint) (x : List ℕ) (f : Formula) → is_positive (Binder q x f) ≡ true
+        → meaning m ((x, meaning m [] (Binder q x f)) ∷ []) f ≡ meaning m [] (Binder q x f) }
+    ensures least { (m : Structure) (x : List ℕ) (f : Formula) (s : StateSet) → is_positive (Binder Least x f) ≡ true
+        → length s ≡ m.states → ((k : ℕ) → is_member (meaning m ((x, s) ∷ []) f) k ≡ true → is_member s k ≡ true)
+        → (k : ℕ) → is_member (meaning m [] (Binder Least x f)) k ≡ true → is_member s k ≡ true }
+    ensures greatest { (m : Structure) (x : List ℕ) (f : Formula) (s : StateSet) → is_positive (Binder Greatest x f) ≡ true
+        → length s ≡ m.states → ((k : ℕ) → is_member s k ≡ true → is_member (meaning m ((x, s) ∷ []) f) k ≡ true)
+        → (k : ℕ) → is_member s k ≡ true → is_member (meaning m [] (Binder Greatest x f)) k ≡ true }
 {}
