@@ -22,7 +22,6 @@ pub mod Fine
 pub mod Parsed
 -- a text has one answer
 pub mod OneAnswer
-<<<<<<< HEAD
 -- the states whose edges lead into a set
 pub mod EdgeWalks
 -- what the evaluator's parts compute
@@ -31,7 +30,9 @@ pub mod Evaluation
 pub mod Inclusion
 -- a meaning has one flag for each state
 pub mod MeaningFlags
-=======
 -- canonical texts
 pub mod CanonicalTexts
->>>>>>> 3806973faace5dd29d54ae008db6436bb677d848
+-- positive bodies are monotone
+pub mod Monotone
+-- the n-th iterate is a fixpoint, the least or the greatest
+pub mod Fixpoints

@@ -1,14 +1,11 @@
-<<<<<<< HEAD
-// What holds of texts, formulas and meanings by their definitions alone. The functions do nothing.
-ghost use Rattle.std.specs.Prelude.{◌≡◌, length, []};
-ghost use Rattle.ml_base.specs.Structure.{Structure};
-ghost use Rattle.ml_mu.specs.Formula.{Formula};
+// What holds of texts, formulas and meanings by their definitions alone: the functions do nothing, their contracts are
+// the theorems.
+ghost use Rattle.std.specs.Prelude.{◌≡◌, ℕ, true, List, [], ◌∷◌, length};
+ghost use Rattle.ml_base.specs.Structure.{Structure, StateSet, is_member};
+ghost use Rattle.ml_mu.specs.Formula.{Formula, Binder, Fixpoint, Least, Greatest};
 ghost use Rattle.ml_mu.specs.Meaning.{meaning};
-ghost use Rattle.ml_mu.specs.Parsing.{ParsedAreWellFormed, ParsedOrRefused, RefusedOnce, StandForOne};
-=======
-// What holds of texts and formulas by their definitions alone. The functions do nothing.
+ghost use Rattle.ml_mu.specs.Variables.{is_positive};
 ghost use Rattle.ml_mu.specs.Parsing.{CanonicalStandsForOne, ParsedAreWellFormed, ParsedOrRefused, RefusedOnce, StandForOne};
->>>>>>> 3806973faace5dd29d54ae008db6436bb677d848
 
 /// A text stands for one formula at most, by the grammar alone.
 #[tactic(auto, using(crate::proofs::OneAnswer::one_formula))]
@@ -36,14 +33,33 @@ pub fn one_answer()
 #[tactic(auto, using(crate::proofs::Parsed::parsed_well))]
 pub fn parsed_are_well_formed()
     ensures { ParsedAreWellFormed }
-<<<<<<< HEAD
-{
-}
+{}
 
 /// The meaning of a formula is a set of states: it has one flag for each.
 #[tactic(auto, using(crate::proofs::MeaningFlags::closed_flags))]
 pub fn one_flag_for_each_state()
     ensures { (m : Structure) (f : Formula) → length (meaning m [] f) ≡ m.states }
-=======
->>>>>>> 3806973faace5dd29d54ae008db6436bb677d848
+{}
+
+/// A positive body grows with the set that its variable means.
+pub fn positive_bodies_grow()
+    ensures { (m : Structure) (q : Fixpoint) (x : List ℕ) (f : Formula) (s t : StateSet) → is_positive (Binder q x f) ≡ true
+        → length s ≡ m.states → length t ≡ m.states
+        → ((k : ℕ) → is_member s k ≡ true → is_member t k ≡ true)
+        → (k : ℕ) → is_member (meaning m ((x, s) ∷ []) f) k ≡ true → is_member (meaning m ((x, t) ∷ []) f) k ≡ true }
+{}
+
+/// What a positive binder means is a fixpoint of its body: of mu the least, of nu the greatest.
+///
+/// `fixpoint`: the body makes of that set the set itself. `least`: it lies within each set in which what the body
+/// makes of it lies. `greatest`: each set that lies within what the body makes of it lies within it.
+pub fn binders_mean_fixpoints()
+    ensures fixpoint { (m : Structure) (q : Fixpoint) (x : List ℕ) (f : Formula) → is_positive (Binder q x f) ≡ true
+        → meaning m ((x, meaning m [] (Binder q x f)) ∷ []) f ≡ meaning m [] (Binder q x f) }
+    ensures least { (m : Structure) (x : List ℕ) (f : Formula) (s : StateSet) → is_positive (Binder Least x f) ≡ true
+        → length s ≡ m.states → ((k : ℕ) → is_member (meaning m ((x, s) ∷ []) f) k ≡ true → is_member s k ≡ true)
+        → (k : ℕ) → is_member (meaning m [] (Binder Least x f)) k ≡ true → is_member s k ≡ true }
+    ensures greatest { (m : Structure) (x : List ℕ) (f : Formula) (s : StateSet) → is_positive (Binder Greatest x f) ≡ true
+        → length s ≡ m.states → ((k : ℕ) → is_member s k ≡ true → is_member (meaning m ((x, s) ∷ []) f) k ≡ true)
+        → (k : ℕ) → is_member s k ≡ true → is_member (meaning m [] (Binder Greatest x f)) k ≡ true }
 {}

@@ -1,6 +1,6 @@
 // Formulas with the states at which they hold, worked out by hand.
 use super::*;
-use crate::parse_plain;
+use crate::parse;
 use ml_base::Edge;
 use std::process::Abort;
 use std::test::Fail;
@@ -263,7 +263,7 @@ fn rebound_names(rt: HostRuntime) -> Result<(), Fail> {
 #[test]
 fn formulas(rt: HostRuntime) -> Result<(), Fail> {
     let structure = four_states(rt.alloc())?;
-    let formula = parse_plain(rt.alloc(), b"!p & q")?.ok_or("a formula")?;
+    let formula = parse(rt.alloc(), b"!p & q")?;
     let set = evaluate(rt.alloc(), &formula, &structure)?;
     assert_eq!(rt; set.as_slice(), [false, true, false, true].as_slice());
     let count = structure.states();
