@@ -19,12 +19,18 @@
 #![tactic(auto)]
 
 pub mod games;
+pub mod heights_answer;
+pub mod heights_check;
+pub mod heights_graph;
 pub mod laws;
 pub mod plain;
 pub mod players;
 pub mod solutions;
 
 pub use games::{Game, GameRefusal};
+pub use heights_answer::{EvenCycle, Heights};
+pub use heights_check::heights_ok;
+pub use heights_graph::{Arc, OneSided};
 pub use players::Player;
 pub use solutions::Solution;
 
