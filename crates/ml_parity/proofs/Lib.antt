@@ -8,6 +8,10 @@ pub mod Comparison
 pub mod Filled
 -- what the program reads in the fields of a game
 pub mod GameFields
+-- rows of numbers as the program holds them, as heights
+pub mod HeightRows
+-- walks in one-sided graphs: joined, cut, and counted
+pub mod HeightWalks
 -- winning is kept along plays that follow the strategy
 pub mod Kept
 -- the induction of the determinacy law, its first case
