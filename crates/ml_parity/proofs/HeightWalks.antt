@@ -6,15 +6,16 @@
 --
 --   walk_join      == a walk, and a walk from where it ends
 --   walk_keeps     == numbers that do not rise along arcs, and fall along those of priority p, bound the count of a walk
---   LoopAt g p     == an arc of priority p, and a walk along arcs of at least p from its end back to its beginning
---   even_cycle_of  == such a loop for an even p is an even cycle
+--   even_cycle_of  == a loop at an even p is an even cycle
 --   codes          == the codes of the arcs of priority p on a walk
 --   CutAt          == a walk, cut at an arc of priority p
---   many_loop      == a walk with more than n arcs of priority p has such a loop
-use Rattle.std.proofs.Common.{ℕ, zero, suc, ◌≡◌, ◌+◌, ◌-◌, ◌<◌, ◌≤◌, ◌⊎◌, inl, inr, arith, List, [], ◌∷◌, ◌++◌, length, get_or, subst, sym, ap, ◌∙◌, refl, cond, eqb, Bool, true, false, eq-eqb, ne_eqb, All, Contains}
+--   many_loop      == a walk with more than n arcs of priority p has a loop at p
+use Rattle.std.proofs.Common.{ℕ, zero, suc, ◌≡◌, ◌+◌, ◌-◌, ◌%◌, ◌<◌, ◌≤◌, ◌⊎◌, inl, inr, arith, List, [], ◌∷◌, ◌++◌, length, get_or, subst, sym, ap, ◌∙◌, refl, cond, eqb, Bool, true, false, eq-eqb, ne_eqb, All, Contains}
 use Rattle.std.proofs.lemmas.Bool.{cases_eq, cases_lt, cases_Bool, cond-true, cond-false, eqb-true}
+use Rattle.std.proofs.lemmas.List.Elements.{All-contains}
 use Rattle.ml_lists.proofs.Pigeons.{pigeons_list, TwiceInList}
 use Rattle.ml_parity.specs.declared.heights_graph.Arc.{Arc}
+use Rattle.ml_parity.specs.HeightSteps.{Settled, SettledAlong, LoopAt}
 use Rattle.ml_parity.specs.Heights.{OneSidedGraph, IsOneSided, IsStep, IsWalk, count_at, IsEvenCycle, EvenCycleIn, Attained}
 
 -- a walk, and a walk from where it ends
@@ -25,33 +26,21 @@ walk_join g p v u w (a ∷ xs) ys walk rest = (walk.0, walk_join g p a.to u w xs
 
 -- an arc of priority p counts one
 pub counts-one : (p : ℕ) (a : Arc) (xs : List Arc) → a.priority ≡ p → count_at p (a ∷ xs) ≡ suc (count_at p xs)
-counts-one p a xs same = omega (arith, cond-true (eqb a.priority p) 1 0 (eq-eqb a.priority p same))
+counts-one p a xs same = omega (arith, cond-true {A = ℕ} (eqb a.priority p) 1 0 (eq-eqb a.priority p same))
 
 -- an arc of another priority counts nothing
 pub counts-none : (p : ℕ) (a : Arc) (xs : List Arc) → (a.priority ≡ p → ⊥) → count_at p (a ∷ xs) ≡ count_at p xs
-counts-none p a xs other = omega (arith, cond-false (eqb a.priority p) 1 0 (ne_eqb a.priority p other))
+counts-none p a xs other = omega (arith, cond-false {A = ℕ} (eqb a.priority p) 1 0 (ne_eqb a.priority p other))
 
--- along each arc of g of priority at least p the numbers f don't rise, and fall by what the arc counts
-abbrev pub Settled : OneSidedGraph → ℕ → (ℕ → ℕ) → Type 0
-Settled g p f = (a : Arc) → Contains g.arcs a → p ≤ a.priority → count_at p (a ∷ []) + f a.to ≤ f a.from
-
--- so the count of a walk is at most by how much the numbers fall
+-- where the numbers f are settled, the count of a walk is at most by how much the numbers fall
 pub walk_keeps : (g : OneSidedGraph) (p : ℕ) (f : ℕ → ℕ) → Settled g p f → (v w : ℕ) (xs : List Arc)
     → IsWalk g p v xs w → count_at p xs + f w ≤ f v
 walk_keeps g p f settled v w [] ends = let e : f v ≡ f w = ap f ends in omega arith
 walk_keeps g p f settled v w (a ∷ xs) walk =
     let rest = walk_keeps g p f settled a.to w xs walk.1 in
-    let step = settled a walk.0.member walk.0.high in
+    let step = All-contains (SettledAlong p f) g.arcs a settled walk.0.member walk.0.high in
     let e : f a.from ≡ f v = ap f walk.0.leaves in
     omega arith
-
--- an arc of priority p, and a walk along arcs of at least p from its end back to its beginning
-pub record LoopAt (g : OneSidedGraph) (p : ℕ) : Type 0 where
-  pub arc : Arc
-  pub member : Contains g.arcs arc
-  pub level : arc.priority ≡ p
-  pub back : List Arc
-  pub leads : IsWalk g p arc.to back arc.from
 
 -- for an even p it is an even cycle
 pub even_cycle_of : (g : OneSidedGraph) (p : ℕ) (a : Arc) (back : List Arc) → p % 2 ≡ 0 → Contains g.arcs a

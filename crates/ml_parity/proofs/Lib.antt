@@ -8,6 +8,8 @@ pub mod Comparison
 pub mod Filled
 -- what the program reads in the fields of a game
 pub mod GameFields
+-- one number raised along one arc
+pub mod HeightRaises
 -- rows of numbers as the program holds them, as heights
 pub mod HeightRows
 -- walks in one-sided graphs: joined, cut, and counted

@@ -4,6 +4,8 @@ pub mod Certificate
 pub mod Game
 -- what the values of the program for heights stand for
 pub mod HeightLists
+-- the steps of the search for heights
+pub mod HeightSteps
 -- one-sided graphs, walks in them, and heights
 pub mod Heights
 -- the determinacy law

@@ -22,6 +22,7 @@ pub mod games;
 pub mod heights_answer;
 pub mod heights_check;
 pub mod heights_graph;
+pub mod heights_search;
 pub mod laws;
 pub mod plain;
 pub mod players;
