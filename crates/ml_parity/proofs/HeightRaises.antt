@@ -5,11 +5,12 @@
 --   too_high          == where an arc asks for more than there are vertices, there is a loop
 --   room_falls        == a raise leaves less room
 --   pass_first, pass_stays, pass_raised == a pass over arcs, step by step
---   attained_zero     == all numbers 0 are attained
+--   written           == what a vector holds after its items were written through a slice
 --   column_of         == attained numbers that no arc raises are the largest
-use Rattle.std.proofs.Common.{ℕ, zero, suc, ◌≡◌, ◌+◌, ◌-◌, ◌<◌, ◌≤◌, ◌⊎◌, inl, inr, arith, List, [], ◌∷◌, length, get_or, set, subst, sym, ap, ◌∙◌, refl, All, Contains, length-set, get_or-set_same, get_or-set_other, replicate, true, false, Bool, cond}
+use Rattle.std.proofs.Common.{ℕ, zero, suc, ◌≡◌, ◌+◌, ◌-◌, ◌<◌, ◌≤◌, ◌⊎◌, inl, inr, arith, List, [], ◌∷◌, length, get_or, set, subst, sym, ap, ◌∙◌, refl, All, Contains, length-set, get_or-set_same, get_or-set_other, replicate, true, false, Bool, cond, take, ◌++◌}
 use Rattle.std.proofs.lemmas.Bool.{cases_eq, cases_lt}
-use Rattle.std.proofs.lemmas.List.{get_or_default}
+use Rattle.std.proofs.Math.Seq.{take-append_seam}
+use Rattle.std.specs.Global.{Vec}
 use Rattle.std.proofs.lemmas.List.Elements.{All-contains}
 use Rattle.std.proofs.lemmas.List.Sums.{sum_by-set}
 use Rattle.ml_parity.specs.declared.heights_graph.Arc.{Arc}
@@ -106,3 +107,7 @@ column_of g p xs at settled = record {
   size = at.size;
   most = λ v low. record { attained = at.attained v; largest = λ ys w walk. omega (arith, walk_keeps g p (number_at xs) settled v w ys walk) };
 }
+
+-- what a vector holds after its items were written through a slice
+pub written : {A : Type 0} (n : ℕ) (xs ys : List A) → n ≡ length xs → take n (xs ++ ys) ≡ xs
+written n xs ys e = ap (λ (k : ℕ). take k (xs ++ ys)) e ∙ take-append_seam xs ys

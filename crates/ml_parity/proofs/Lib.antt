@@ -12,6 +12,10 @@ pub mod GameFields
 pub mod HeightRaises
 -- rows of numbers as the program holds them, as heights
 pub mod HeightRows
+-- the search for a walk from one vertex to another, and for a cycle
+pub mod HeightSearches
+-- rows that grow by a column, and what they are in the end
+pub mod HeightTables
 -- walks in one-sided graphs: joined, cut, and counted
 pub mod HeightWalks
 -- winning is kept along plays that follow the strategy

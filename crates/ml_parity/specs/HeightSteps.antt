@@ -12,11 +12,19 @@
 --   RaisesAlong g p old new a how == what was made of the numbers along the arc a
 --   IsPass g p old new i how == what a pass over the first i arcs made of the numbers
 --   IsColumn g p xs        == the numbers are the largest counts for p
+--   AreLongestBelow g n rows == the rows have the first n numbers, and these are the largest
+--   IsAppended old column n new == the first n rows have one number more each, from the column
 --   Comes steps i goal v   == v is the goal, or one of the first i steps leaves it
---   IsSearch g p goal found steps == the steps lead to the goal one after the other, and leave just what is found
+--   LeadBack steps goal    == each step leads to the goal, or to where an earlier step begins
+--   Chain v xs w           == the arcs lead from v to w one after the other
+--   IsWay steps v w xs     == so do these, each of which is among the steps
+--   IsHigh g p a           == a is an arc of g of priority at least p
+--   IsSearch g p goal found steps == the steps lead back to the goal, and what is found is where they begin
 --   missing found          == how many vertices are not found
---   IsSpread g p old new i changed == what a pass over the first i arcs made of what is found
-use Rattle.std.specs.Prelude.{ℕ, ◌≡◌, ◌+◌, ◌-◌, ◌<◌, ◌≤◌, ◌⊎◌, List, [], ◌∷◌, length, get_or, Contains, All, Bool, true, false, cond}
+--   FoundAlong p found a   == what leads to what is found along a is found
+--   FindsAlong p old new a changed == what was found along a
+--   IsSpread g p old new i changed == what was found along the first i arcs
+use Rattle.std.specs.Prelude.{ℕ, ◌≡◌, ◌+◌, ◌-◌, ◌*◌, ◌<◌, ◌≤◌, ◌⊎◌, List, [], ◌∷◌, ◌++◌, length, get_or, Contains, All, Bool, true, false, cond}
 use Rattle.std.specs.List.{sum_by}
 use Rattle.ml_parity.specs.declared.heights_graph.Arc.{Arc}
 use Rattle.ml_parity.specs.declared.heights_search.Pass.{Pass}
@@ -73,19 +81,48 @@ pub record IsColumn (g : OneSidedGraph) (p : ℕ) (xs : List ℕ) : Type 0 where
   pub size : length xs ≡ g.size
   pub most : (v : ℕ) → v < g.size → IsMost g p v (number_at xs v)
 
+-- the rows have the first n numbers, and these are the largest
+pub record AreLongestBelow (g : OneSidedGraph) (n : ℕ) (rows : List (List ℕ)) : Type 0 where
+  pub vertices : length rows ≡ g.size
+  pub numbers : (v : ℕ) → v < g.size → length (get_or rows v []) ≡ n
+  pub most : (k v : ℕ) → k < n → v < g.size → IsMost g (2 * k) v (get_or (get_or rows v []) k 0)
+
+-- the first n rows have one number more each, from the column, and the others are as they were
+pub record IsAppended (old : List (List ℕ)) (column : List ℕ) (n : ℕ) (new : List (List ℕ)) : Type 0 where
+  pub size : length new ≡ length old
+  pub longer : (v : ℕ) → v < n → get_or new v [] ≡ get_or old v [] ++ get_or column v 0 ∷ []
+  pub later : (v : ℕ) → n ≤ v → get_or new v [] ≡ get_or old v []
+
 -- ---- looking for a walk back
 
 -- v is the goal, or one of the first i steps leaves it
 abbrev pub Comes : List Arc → ℕ → ℕ → ℕ → Type 0
 Comes steps i goal v = (v ≡ goal) ⊎ ((k : ℕ) × (k < i) × ((d : Arc) → (get_or steps k d).from ≡ v))
 
--- the steps are arcs of g of at least p, each leads to the goal or to where an earlier one begins, and what is found is
--- the goal and where the steps begin
+-- each step leads to the goal, or to where an earlier step begins
+abbrev pub LeadBack : List Arc → ℕ → Type 0
+LeadBack steps goal = (k : ℕ) (d : Arc) → k < length steps → Comes steps k goal (get_or steps k d).to
+
+-- the arcs lead from v to w one after the other
+abbrev pub Chain : ℕ → List Arc → ℕ → Type 0
+Chain v [] w = v ≡ w
+Chain v (a ∷ rest) w = (a.from ≡ v) × Chain a.to rest w
+
+-- the arcs, each among the steps, lead from v to w
+pub record IsWay (steps : List Arc) (v w : ℕ) (xs : List Arc) : Type 0 where
+  pub chain : Chain v xs w
+  pub among : All (Contains steps) xs
+
+-- an arc of g of priority at least p
+pub record IsHigh (g : OneSidedGraph) (p : ℕ) (a : Arc) : Type 0 where
+  pub member : Contains g.arcs a
+  pub high : p ≤ a.priority
+
+-- the steps are arcs of g of at least p and lead back to the goal, and what is found is the goal and where they begin
 pub record IsSearch (g : OneSidedGraph) (p goal : ℕ) (found : List Bool) (steps : List Arc) : Type 0 where
   pub size : length found ≡ g.size
-  pub member : (k : ℕ) (d : Arc) → k < length steps → Contains g.arcs (get_or steps k d)
-  pub high : (k : ℕ) (d : Arc) → k < length steps → p ≤ (get_or steps k d).priority
-  pub leads : (k : ℕ) (d : Arc) → k < length steps → Comes steps k goal (get_or steps k d).to
+  pub high : All (IsHigh g p) steps
+  pub leads : LeadBack steps goal
   pub begins : flag_at found goal ≡ true
   pub comes : (v : ℕ) → flag_at found v ≡ true → Comes steps (length steps) goal v
 
@@ -93,8 +130,16 @@ pub record IsSearch (g : OneSidedGraph) (p goal : ℕ) (found : List Bool) (step
 abbrev pub missing : List Bool → ℕ
 missing found = sum_by (λ b. cond b 0 1) found
 
--- something was found; or nothing was, since no arc of at least p leads from what is not found to what is found
+-- if the arc a has at least p, and its end is found, then so is its beginning
+abbrev pub FoundAlong : ℕ → List Bool → Arc → Type 0
+FoundAlong p found a = p ≤ a.priority → flag_at found a.to ≡ true → flag_at found a.from ≡ true
+
+-- something was found, or nothing was, since nothing was to be found along a
+abbrev pub FindsAlong : ℕ → List Bool → List Bool → Arc → Bool → Type 0
+FindsAlong p old new a true = missing new < missing old
+FindsAlong p old new a false = (new ≡ old) × FoundAlong p new a
+
+-- something was found, or nothing was, since nothing was to be found along the first i arcs
 abbrev pub IsSpread : OneSidedGraph → ℕ → List Bool → List Bool → ℕ → Bool → Type 0
 IsSpread g p old new i true = missing new < missing old
-IsSpread g p old new i false = (new ≡ old) × ((k : ℕ) (d : Arc) → k < i → p ≤ (get_or g.arcs k d).priority
-    → flag_at new (get_or g.arcs k d).to ≡ true → flag_at new (get_or g.arcs k d).from ≡ true)
+IsSpread g p old new i false = (new ≡ old) × ((k : ℕ) (d : Arc) → k < i → FoundAlong p new (get_or g.arcs k d))

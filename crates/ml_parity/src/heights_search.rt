@@ -1,9 +1,12 @@
 // The search for heights: the longest walks, or an even cycle.
 
-ghost use Rattle.std.specs.Prelude.{◌≡◌, [], ◌∷◌, Contains, IfOk, MatchOption, length};
-ghost use Rattle.ml_parity.specs.Heights.{count_at};
-ghost use Rattle.ml_parity.specs.HeightSteps.{AreAttained, IsColumn, IsPass, LoopAt, RaisesAlong};
+ghost use Rattle.std.specs.Prelude.{◌≡◌, ◌↔◌, ℕ, [], ◌∷◌, Contains, IfOk, IsErr, IsOk, MatchOption, MatchResult, OnOk, get_or, length};
+ghost use Rattle.ml_parity.specs.Heights.{AreHeights, AreLongest, AtMost, EvenCycleIn, IsEvenCycle, count_at};
+ghost use Rattle.ml_parity.specs.HeightSteps.{AreAttained, IsAppended, IsColumn, IsPass, LoopAt, RaisesAlong};
+ghost use Rattle.ml_parity.specs.Refusal.{lists_of};
 
+use crate::heights_answer::{EvenCycle, Heights};
+use crate::heights_cycles::cycle_at;
 use crate::heights_graph::{Arc, OneSided};
 use ml_base::NoMemory;
 use std::alloc::Global;
@@ -78,4 +81,55 @@ fn longest(alloc: Global, graph: &OneSided, priority: u32) -> Result<Option<Vec<
             Pass::TooHigh => return Ok(None),
         }
     }
+}
+
+/// Adds a number to each row, from the column.
+fn append_column(rows: &mut [Vec<u64>], column: &[u64]) -> Result<(), NoMemory>
+    requires { length column.now ≡ length rows.old }
+    ensures { OnOk result (IsAppended (lists_of rows.old) column.now (length column.now) (lists_of rows.new)) }
+{
+    for v in 0..column.len() {
+        rows[v].push(column[v])?;
+    }
+    Ok(())
+}
+
+/// A row without a number for each vertex.
+fn empty_rows(alloc: Global, size: u64) -> Result<Vec<Vec<u64>>, NoMemory>
+    ensures size { IfOk result (λ rows. length rows.items ≡ size) }
+    ensures empty { IfOk result (λ rows. (v : ℕ) → get_or (lists_of rows.items) v [] ≡ []) }
+{
+    let mut rows = Vec::new(alloc);
+    for _ in 0..size {
+        rows.push(Vec::new(alloc))?;
+    }
+    Ok(rows)
+}
+
+/// Heights of a graph, or a cycle whose lowest priority is even.
+///
+/// The height of a vertex for an even priority is the largest number of arcs of that priority on a walk from the vertex
+/// along arcs of at least that priority. There is a largest one exactly where no cycle has an even lowest priority; where
+/// one has, the answer is such a cycle. A height is at most the number of vertices.
+///
+/// # Errors
+/// `NoMemory` alone.
+pub fn heights(alloc: Global, graph: &OneSided) -> Result<Result<Heights, EvenCycle>, NoMemory>
+    ensures answer { IfOk result (λ r. MatchResult r (AreLongest graph.now) (IsEvenCycle graph.now)) }
+    ensures heights { IfOk result (λ r. IfOk r (AreHeights graph.now)) }
+    ensures low { IfOk result (λ r. IfOk r (AtMost graph.now.size)) }
+    ensures where_no_cycle { IfOk result (λ r. IsOk r ↔ ¬ (EvenCycleIn graph.now)) }
+    ensures where_a_cycle { IfOk result (λ r. IsErr r ↔ EvenCycleIn graph.now) }
+{
+    let mut rows = empty_rows(alloc, graph.size)?;
+    for half in 0..graph.top / 2 + 1 {
+        match longest(alloc, graph, 2 * half)? {
+            Some(column) => append_column(&mut rows, &column)?,
+            None => {
+                let arcs = cycle_at(alloc, graph, 2 * half)?;
+                return Ok(Err(EvenCycle { arcs }));
+            }
+        }
+    }
+    Ok(Ok(Heights { rows }))
 }

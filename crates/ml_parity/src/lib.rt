@@ -21,6 +21,7 @@
 pub mod games;
 pub mod heights_answer;
 pub mod heights_check;
+mod heights_cycles;
 pub mod heights_graph;
 pub mod heights_search;
 pub mod laws;
@@ -32,6 +33,7 @@ pub use games::{Game, GameRefusal};
 pub use heights_answer::{EvenCycle, Heights};
 pub use heights_check::heights_ok;
 pub use heights_graph::{Arc, OneSided};
+pub use heights_search::heights;
 pub use players::Player;
 pub use solutions::Solution;
 
