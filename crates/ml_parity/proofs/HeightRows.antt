@@ -1,12 +1,12 @@
 -- Rows of numbers as the program holds them, and what is said of them as heights.
 --
 --   ArcRows        == two vectors are the rows of the ends of an arc, and long enough for its priority
---   arc_same       == the arc that the program reads is that of the graph
+--   arc_same, arc_here, arc_member, arcs_length == the arc that the program reads is that of the graph
 --   arc_rows, arc_read == what the program reads at the ends of an arc
 --   falls-to, falls-from == the heights fall along an arc exactly if they fall from the one row to the other
 --   falls_more     == one arc more along which they fall
 --   row_more, no_shape_by_row == when the rows have the right shape
-use Rattle.std.proofs.Common.{ℕ, ◌≡◌, ◌+◌, ◌*◌, ◌/◌, ◌%◌, ◌<◌, ◌≤◌, ◌⊎◌, inl, inr, arith, List, [], length, get_or, subst, subst₂, sym, ap, ◌∙◌, All, vec_len}
+use Rattle.std.proofs.Common.{ℕ, ◌≡◌, ◌+◌, ◌*◌, ◌/◌, ◌%◌, ◌<◌, ◌≤◌, ◌⊎◌, inl, inr, arith, List, [], length, get_or, subst, subst₂, sym, ap, ◌∙◌, All, Contains, vec_len}
 use Rattle.std.proofs.lemmas.Bool.{cases_eq}
 use Rattle.std.proofs.lemmas.List.{get_or_default, length-map}
 use Rattle.std.specs.Global.{Vec}
@@ -38,6 +38,21 @@ row_of g rows shape v low m xs read same =
 pub arc_same : (h g : OneSidedGraph) → h ≡ g → (arcs : List Arc) → arcs ≡ h.arcs → (i : ℕ) (d : Arc)
     → get_or g.arcs i d ≡ get_or arcs i d
 arc_same h g view arcs value i d = sym (ap (λ (xs : List Arc). get_or xs i d) (value ∙ ap (λ (k : OneSidedGraph). k.arcs) view))
+
+-- whatever stands in for what lies past the end
+pub arc_here : (h g : OneSidedGraph) → h ≡ g → (arcs : List Arc) → arcs ≡ h.arcs → (i : ℕ) (e : Arc) → i < length arcs
+    → (d : Arc) → get_or g.arcs i d ≡ get_or arcs i e
+arc_here h g view arcs value i e low d = arc_same h g view arcs value i d ∙ get_or_default arcs i d e low
+
+-- there are as many
+pub arcs_length : (h g : OneSidedGraph) → h ≡ g → (arcs : List Arc) → arcs ≡ h.arcs → length arcs ≡ length g.arcs
+arcs_length h g view arcs value = ap length value ∙ ap (λ (k : OneSidedGraph). length k.arcs) view
+
+-- and it is an arc of the graph
+pub arc_member : (h g : OneSidedGraph) → h ≡ g → (arcs : List Arc) → arcs ≡ h.arcs → (i : ℕ) (e : Arc) → i < length arcs
+    → Contains g.arcs (get_or arcs i e)
+arc_member h g view arcs value i e low =
+    (i, subst (λ (n : ℕ). i < n) (arcs_length h g view arcs value) low, arc_here h g view arcs value i e low (get_or arcs i e))
 
 -- what the program reads at the ends of an arc
 pub arc_rows : (g : OneSidedGraph) (rows : List (Vec ℕ)) → IsOneSided g → HasShape g (lists_of rows) → (i : ℕ) (d a : Arc)

@@ -7,6 +7,7 @@
 --   chain_push    == a chain, and an arc from where it ends
 --   walk_of_way   == a way along the steps of a search is a walk
 --   found_by_walk == where nothing is to be found any more, each vertex with a walk to the goal is found
+--   none_by_search == and a vertex that is not found has none
 --   cycle_push    == a walk from the end of an arc to its beginning, and the arc, are an even cycle
 --   no_back_more  == one arc more that has no walk back
 use Rattle.std.proofs.Common.{ℕ, zero, suc, ◌≡◌, ◌+◌, ◌%◌, ◌<◌, ◌≤◌, ◌⊎◌, inl, inr, arith, List, [], ◌∷◌, ◌++◌, length, get_or, set, subst, subst₂, sym, ap, ◌∙◌, refl, All, Contains, Bool, true, false, cond, eqb, replicate, length-set, get_or-set_same, get_or-set_other}
@@ -103,8 +104,8 @@ search_more g p goal found steps a e s member high at = record {
     comes v (inr flagged) =
         comes_more steps (a ∷ []) (length steps) (length (steps ++ a ∷ [])) goal v (omega arith) (omega (arith, long)) (s.comes v flagged)
 
--- a pass over arcs, one arc more
-pub spread_found : (g : OneSidedGraph) (p : ℕ) (old found new : List Bool) (i : ℕ) (a : Arc) (changed : Bool)
+-- a pass over arcs, one arc more along which something was found
+spread_found : (g : OneSidedGraph) (p : ℕ) (old found new : List Bool) (i : ℕ) (a : Arc) (changed : Bool)
     → IsSpread g p old found i changed → FindsAlong p found new a true → IsSpread g p old new (i + 1) true
 spread_found g p old found new i a true so step = omega arith
 spread_found g p old found new i a false so step =
@@ -122,7 +123,7 @@ found_more g p found i a is old last k d below = by_case (cases_eq k i)
     by_case (inr other) = old k d (omega arith)
 
 -- a pass over arcs, one arc more along which nothing was found
-pub spread_stays : (g : OneSidedGraph) (p : ℕ) (old found new : List Bool) (i : ℕ) (a : Arc) (changed : Bool)
+spread_stays : (g : OneSidedGraph) (p : ℕ) (old found new : List Bool) (i : ℕ) (a : Arc) (changed : Bool)
     → ((d : Arc) → get_or g.arcs i d ≡ a) → IsSpread g p old found i changed → FindsAlong p found new a false
     → IsSpread g p old new (i + 1) changed
 spread_stays g p old found new i a true is so step = subst (λ (f : List Bool). missing f < missing old) (sym step.0) so
@@ -130,6 +131,15 @@ spread_stays g p old found new i a false is so step = (
   step.0 ∙ so.0,
   found_more g p new i a is (λ k d low. subst (λ (f : List Bool). FoundAlong p f (get_or g.arcs k d)) (sym step.0) (so.1 k d low)) step.1,
 )
+
+-- a pass over arcs, one arc more
+pub spread_more : (g : OneSidedGraph) (p : ℕ) (old found new : List Bool) (i : ℕ) (a : Arc) (changed some next : Bool)
+    → ((d : Arc) → get_or g.arcs i d ≡ a) → IsSpread g p old found i changed → FindsAlong p found new a some
+    → ((some ≡ true) × (next ≡ true)) ⊎ ((some ≡ false) × (next ≡ changed)) → IsSpread g p old new (i + 1) next
+spread_more g p old found new i a changed some next is so step (inl e) =
+    subst (IsSpread g p old new (i + 1)) (sym e.1) (spread_found g p old found new i a changed so (subst (FindsAlong p found new a) e.0 step))
+spread_more g p old found new i a changed some next is so step (inr e) =
+    subst (IsSpread g p old new (i + 1)) (sym e.1) (spread_stays g p old found new i a changed is so (subst (FindsAlong p found new a) e.0 step))
 
 -- ---- ways
 
@@ -158,6 +168,14 @@ found_by_walk g p found closed v w [] walk at = ap (flag_at found) walk ∙ at
 found_by_walk g p found closed v w (x ∷ xs) walk at =
     let next = found_by_walk g p found closed x.to w xs walk.1 at in
     ap (flag_at found) (sym walk.0.leaves) ∙ All-contains (FoundAlong p found) g.arcs x closed walk.0.member walk.0.high next
+
+-- where nothing is to be found any more, a vertex that is not found has no walk to the goal
+pub none_by_search : (g : OneSidedGraph) (p goal : ℕ) (old new : List Bool) (steps : List Arc) (changed : Bool) (v : ℕ)
+    → IsSearch g p goal new steps → IsSpread g p old new (length g.arcs) changed → changed ≡ false
+    → flag_at new v ≡ false → (xs : List Arc) → IsWalk g p v xs goal → ⊥
+none_by_search g p goal old new steps changed v s spread rests missed xs walk =
+    let still : IsSpread g p old new (length g.arcs) false = subst (IsSpread g p old new (length g.arcs)) rests spread in
+    false≢true (sym missed ∙ found_by_walk g p new (λ k d low. still.1 k d low) v goal xs walk s.begins)
 
 -- ---- cycles
 

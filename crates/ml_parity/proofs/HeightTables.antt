@@ -3,11 +3,12 @@
 --   all_empty       == rows without a number
 --   appended_more   == one row more has grown
 --   longest_none, longest_more == rows with no number, and with one more, each the largest
+--   longest_turn    == one number more, as the program adds it
 --   longest_done    == rows with all numbers
 --   longest_heights == the largest counts are heights
 --   heights_refuse  == where there are heights there is no even cycle
 --   longest_low     == the largest counts are at most the number of vertices
-use Rattle.std.proofs.Common.{ℕ, zero, suc, ◌≡◌, ◌+◌, ◌-◌, ◌*◌, ◌/◌, ◌%◌, ◌<◌, ◌≤◌, ◌⊎◌, inl, inr, arith, List, [], ◌∷◌, ◌++◌, length, get_or, set, subst, subst₂, sym, ap, ◌∙◌, refl, All, Contains, length-set, get_or-set_same, get_or-set_other, map}
+use Rattle.std.proofs.Common.{ℕ, zero, suc, ◌≡◌, ◌+◌, ◌-◌, ◌*◌, ◌/◌, ◌%◌, ◌<◌, ◌≤◌, ◌⊎◌, inl, inr, arith, List, [], ◌∷◌, ◌++◌, length, get_or, set, subst, subst₂, sym, ap, ◌∙◌, refl, All, Contains, length-set, get_or-set_same, get_or-set_other, map, take}
 use Rattle.std.proofs.lemmas.Bool.{cases_eq, cases_lt}
 use Rattle.std.proofs.lemmas.List.{get_or_default, get_or_past, get_or-map, length-map, length-append, get_or_append_left, get_or_push, map-set}
 use Rattle.std.proofs.lemmas.List.Elements.{All-contains}
@@ -16,6 +17,7 @@ use Rattle.ml_parity.specs.declared.heights_graph.Arc.{Arc}
 use Rattle.ml_parity.specs.Heights.{OneSidedGraph, IsOneSided, IsWalk, IsStep, count_at, Attained, IsMost, IsEvenCycle, AreHeights, AreLongest, HasShape, FallsAlong, AtMost, height_of}
 use Rattle.ml_parity.specs.HeightSteps.{Settled, SettledAlong, LoopAt, IsColumn, number_at, AreLongestBelow, IsAppended}
 use Rattle.ml_parity.specs.Refusal.{lists_of}
+use Rattle.ml_parity.proofs.HeightRaises.{written}
 use Rattle.ml_parity.proofs.HeightWalks.{attained_loop, attained_more, settled_no_cycle, even_cycle_of, counts-one, counts-none}
 
 -- rows without a number
@@ -93,6 +95,18 @@ longest_more g n old new column so c a = record {
         let here : get_or (get_or new v []) k 0 ≡ get_or (get_or old v []) k 0 =
         ap (λ (xs : List ℕ). get_or xs k 0) (a.longer v low) ∙ get_or_append_left (get_or old v []) (get_or column v 0 ∷ []) 0 k (omega arith) in
         subst (IsMost g (2 * k) v) (sym here) (so.most k v (omega arith) low)
+
+-- one number more, as the program adds it through a slice
+pub longest_turn : (g : OneSidedGraph) (n k : ℕ) (rows slice new ys : List (Vec ℕ)) (items column : List ℕ)
+    → k ≡ length rows → slice ≡ rows → column ≡ items → AreLongestBelow g n (lists_of rows) → IsColumn g (2 * n) items
+    → IsAppended (lists_of slice) column (length column) (lists_of new)
+    → AreLongestBelow g (n + 1) (lists_of (take k (new ++ ys)))
+longest_turn g n k rows slice new ys items column count same_rows same_column so c a =
+    let old : AreLongestBelow g n (lists_of slice) = subst (λ (xs : List (Vec ℕ)). AreLongestBelow g n (lists_of xs)) (sym same_rows) so in
+    let grown : IsAppended (lists_of slice) column g.size (lists_of new) = subst (λ (m : ℕ). IsAppended (lists_of slice) column m (lists_of new)) (ap length same_column ∙ c.size) a in
+    let long : k ≡ length new = count ∙ sym (ap length same_rows) ∙ sym (length-map slice (λ (r : Vec ℕ). r.items)) ∙ sym a.size ∙ length-map new (λ (r : Vec ℕ). r.items) in
+    subst (λ (xs : List (Vec ℕ)). AreLongestBelow g (n + 1) (lists_of xs)) (sym (written k new ys long))
+    (longest_more g n (lists_of slice) (lists_of new) column old (subst (IsColumn g (2 * n)) (sym same_column) c) grown)
 
 -- all numbers
 pub longest_done : (g : OneSidedGraph) (n : ℕ) (rows : List (List ℕ)) → n ≡ g.top / 2 + 1 → AreLongestBelow g n rows

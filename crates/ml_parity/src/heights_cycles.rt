@@ -83,7 +83,8 @@ fn walk_between(
     start: u64,
     goal: u64,
 ) -> Result<Option<Vec<Arc>>, NoMemory>
-    requires { goal < graph.now.size }
+    requires begins { start < graph.now.size }
+    requires ends { goal < graph.now.size }
     ensures { IfOk result (λ o. MatchOption
         o
         ((xs : List Arc) → ¬ (IsWalk graph.now priority start xs goal))
@@ -97,10 +98,10 @@ fn walk_between(
         steps: Vec::new(alloc),
     };
     while spread(graph, priority, &mut search)? {}
-    match search.found.get(start as usize) {
-        Some(true) => Ok(Some(way_along(alloc, &search.steps, start, goal)?)),
-        _ => Ok(None),
+    if !search.found[start as usize] {
+        return Ok(None);
     }
+    Ok(Some(way_along(alloc, &search.steps, start, goal)?))
 }
 
 /// An even cycle through an arc of this even priority, along arcs of at least it, where there is one.
