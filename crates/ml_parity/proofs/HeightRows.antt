@@ -1,7 +1,7 @@
 -- Rows of numbers as the program holds them, and what is said of them as heights.
 --
 --   ArcRows        == two vectors are the rows of the ends of an arc, and long enough for its priority
---   arc_same, arc_here, arc_member, arcs_length == the arc that the program reads is that of the graph
+--   arc_same, arc_here, arc_member, arc_among, arcs_length == the arc that the program reads is that of the graph
 --   arc_rows, arc_read == what the program reads at the ends of an arc
 --   falls-to, falls-from == the heights fall along an arc exactly if they fall from the one row to the other
 --   falls_more     == one arc more along which they fall
@@ -53,6 +53,11 @@ pub arc_member : (h g : OneSidedGraph) → h ≡ g → (arcs : List Arc) → arc
     → Contains g.arcs (get_or arcs i e)
 arc_member h g view arcs value i e low =
     (i, subst (λ (n : ℕ). i < n) (arcs_length h g view arcs value) low, arc_here h g view arcs value i e low (get_or arcs i e))
+
+-- an arc that the program reads by its number
+pub arc_among : (h g : OneSidedGraph) → h ≡ g → (k : ℕ) (a : Arc) → k < length h.arcs → a ≡ get_or h.arcs k a
+    → Contains g.arcs a
+arc_among h g view k a low read = subst (λ (m : OneSidedGraph). Contains m.arcs a) view (k, low, sym read)
 
 -- what the program reads at the ends of an arc
 pub arc_rows : (g : OneSidedGraph) (rows : List (Vec ℕ)) → IsOneSided g → HasShape g (lists_of rows) → (i : ℕ) (d a : Arc)

@@ -141,6 +141,24 @@ spread_more g p old found new i a changed some next is so step (inl e) =
 spread_more g p old found new i a changed some next is so step (inr e) =
     subst (IsSpread g p old new (i + 1)) (sym e.1) (spread_stays g p old found new i a changed is so (subst (FindsAlong p found new a) e.0 step))
 
+-- a pass in some order, one arc more
+pub spread_on : (g : OneSidedGraph) (p : ℕ) (old found new : List Bool) (changed some next : Bool)
+    → IsSpread g p old found 0 changed → IsSpread g p found new 0 some
+    → ((some ≡ true) × (next ≡ true)) ⊎ ((some ≡ false) × (next ≡ changed)) → IsSpread g p old new 0 next
+spread_on g p old found new true some next so step (inl e) =
+    let less : missing new < missing found = subst (IsSpread g p found new 0) e.0 step in
+    subst (IsSpread g p old new 0) (sym e.1) (omega arith)
+spread_on g p old found new false some next so step (inl e) =
+    let less : missing new < missing found = subst (IsSpread g p found new 0) e.0 step in
+    let same : missing found ≡ missing old = ap missing so.0 in
+    subst (IsSpread g p old new 0) (sym e.1) (omega arith)
+spread_on g p old found new true some next so step (inr e) =
+    let still : IsSpread g p found new 0 false = subst (IsSpread g p found new 0) e.0 step in
+    subst (IsSpread g p old new 0) (sym e.1) (subst (λ (f : List Bool). missing f < missing old) (sym still.0) so)
+spread_on g p old found new false some next so step (inr e) =
+    let still : IsSpread g p found new 0 false = subst (IsSpread g p found new 0) e.0 step in
+    subst (IsSpread g p old new 0) (sym e.1) (still.0 ∙ so.0, λ k d low. absurd (omega arith))
+
 -- ---- ways
 
 -- a chain, and an arc from where it ends

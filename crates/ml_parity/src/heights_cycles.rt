@@ -1,12 +1,13 @@
 // The search for a cycle through an arc.
 
-ghost use Rattle.std.specs.Prelude.{◌≡◌, ◌<◌, ◌%◌, ℕ, true, Contains, IfOk, List, MatchOption, OnOk, length};
+ghost use Rattle.std.specs.Prelude.{◌≡◌, ◌<◌, ◌%◌, ℕ, true, Contains, IfOk, IfSome, List, MatchOption, OnOk, length};
 ghost use Rattle.ml_parity.specs.Heights.{IsEvenCycle, IsWalk};
 ghost use Rattle.ml_parity.specs.HeightSteps.{Comes, FindsAlong, IsSearch, IsSpread, IsWay, LeadBack, LoopAt, missing};
 ghost use Rattle.ml_parity.specs.SinkGame.{flag_at};
 ghost use Rattle.ml_parity.specs.declared.heights_graph.Arc.{Arc};
 
 use crate::heights_graph::{Arc, OneSided};
+use crate::heights_order::Order;
 use ml_base::NoMemory;
 use std::alloc::Global;
 
@@ -39,14 +40,58 @@ fn find_along(graph: &OneSided, priority: u32, arc: Arc, search: &mut Search) ->
     Ok(true)
 }
 
-/// Finds vertices along all arcs, once along each.
-fn spread(graph: &OneSided, priority: u32, search: &mut Search) -> Result<bool, NoMemory>
+/// Finds the vertex that the arc of this number leaves, if there is such an arc and the vertex that it leads to is found.
+fn find_at(
+    graph: &OneSided,
+    priority: u32,
+    number: usize,
+    search: &mut Search,
+) -> Result<bool, NoMemory>
+    requires { IsSearch graph.now priority search.old.goal search.old.found.items search.old.steps.items }
+    ensures search { OnOk result (IsSearch graph.now priority search.new.goal search.new.found.items search.new.steps.items) }
+    ensures goal { OnOk result (search.new.goal ≡ search.old.goal) }
+    ensures spread { IfOk result (IsSpread graph.now priority search.old.found.items search.new.found.items 0) }
+{
+    if number >= graph.arcs.len() {
+        return Ok(false);
+    }
+    find_along(graph, priority, graph.arcs[number], search)
+}
+
+/// Finds vertices along arcs in this order.
+fn spread_in_order(
+    graph: &OneSided,
+    priority: u32,
+    order: &[usize],
+    search: &mut Search,
+) -> Result<bool, NoMemory>
+    requires { IsSearch graph.now priority search.old.goal search.old.found.items search.old.steps.items }
+    ensures search { OnOk result (IsSearch graph.now priority search.new.goal search.new.found.items search.new.steps.items) }
+    ensures goal { OnOk result (search.new.goal ≡ search.old.goal) }
+    ensures spread { IfOk result (IsSpread graph.now priority search.old.found.items search.new.found.items 0) }
+{
+    let mut changed = false;
+    for k in order {
+        if find_at(graph, priority, *k, search)? {
+            changed = true;
+        }
+    }
+    Ok(changed)
+}
+
+/// Finds vertices along arcs in this order, and then along all arcs.
+fn spread(
+    graph: &OneSided,
+    priority: u32,
+    order: &[usize],
+    search: &mut Search,
+) -> Result<bool, NoMemory>
     requires { IsSearch graph.now priority search.old.goal search.old.found.items search.old.steps.items }
     ensures search { OnOk result (IsSearch graph.now priority search.new.goal search.new.found.items search.new.steps.items) }
     ensures goal { OnOk result (search.new.goal ≡ search.old.goal) }
     ensures spread { IfOk result (IsSpread graph.now priority search.old.found.items search.new.found.items (length graph.now.arcs)) }
 {
-    let mut changed = false;
+    let mut changed = spread_in_order(graph, priority, order, search)?;
     for arc in &graph.arcs {
         if find_along(graph, priority, *arc, search)? {
             changed = true;
@@ -80,6 +125,7 @@ fn walk_between(
     alloc: Global,
     graph: &OneSided,
     priority: u32,
+    order: &[usize],
     start: u64,
     goal: u64,
 ) -> Result<Option<Vec<Arc>>, NoMemory>
@@ -97,23 +143,68 @@ fn walk_between(
         found,
         steps: Vec::new(alloc),
     };
-    while spread(graph, priority, &mut search)? {}
+    while spread(graph, priority, order, &mut search)? {}
     if !search.found[start as usize] {
         return Ok(None);
     }
     Ok(Some(way_along(alloc, &search.steps, start, goal)?))
 }
 
-/// An even cycle through an arc of this even priority, along arcs of at least it, where there is one.
-pub(crate) fn cycle_at(alloc: Global, graph: &OneSided, priority: u32) -> Result<Vec<Arc>, NoMemory>
+/// An even cycle through this arc along arcs of at least its even priority, if there is one.
+fn cycle_through(
+    alloc: Global,
+    graph: &OneSided,
+    order: &[usize],
+    arc: Arc,
+) -> Result<Option<Vec<Arc>>, NoMemory>
+    requires even { arc.priority % 2 ≡ 0 }
+    requires member { Contains graph.now.arcs arc }
+    ensures { IfOk result (λ o. MatchOption
+        o
+        ((xs : List Arc) → ¬ (IsWalk graph.now arc.priority arc.to xs arc.from))
+        (λ cycle. IsEvenCycle graph.now cycle.items)) }
+{
+    let _size = graph.size;
+    let Some(mut cycle) = walk_between(alloc, graph, arc.priority, order, arc.to, arc.from)? else {
+        return Ok(None);
+    };
+    cycle.push(arc)?;
+    Ok(Some(cycle))
+}
+
+/// The even cycle that was guessed, where the guess was right.
+pub(crate) fn guessed_cycle(
+    alloc: Global,
+    graph: &OneSided,
+    priority: u32,
+    order: &Order,
+) -> Result<Option<Vec<Arc>>, NoMemory>
+    requires { priority % 2 ≡ 0 }
+    ensures { IfOk result (λ o. IfSome o (λ cycle. IsEvenCycle graph.now cycle.items)) }
+{
+    let Some(k) = order.guess else {
+        return Ok(None);
+    };
+    if k >= graph.arcs.len() || graph.arcs[k].priority != priority {
+        return Ok(None);
+    }
+    cycle_through(alloc, graph, &order.arcs, graph.arcs[k])
+}
+
+/// An even cycle along arcs of at least this even priority, one of which has it, where there is one.
+pub(crate) fn cycle_at(
+    alloc: Global,
+    graph: &OneSided,
+    priority: u32,
+    order: &[usize],
+) -> Result<Vec<Arc>, NoMemory>
     requires even { priority % 2 ≡ 0 }
     requires there { LoopAt graph.now priority }
     ensures { IfOk result (λ cycle. IsEvenCycle graph.now cycle.items) }
 {
     for arc in &graph.arcs {
         if arc.priority == priority {
-            if let Some(mut cycle) = walk_between(alloc, graph, priority, arc.to, arc.from)? {
-                cycle.push(*arc)?;
+            if let Some(cycle) = cycle_through(alloc, graph, order, *arc)? {
                 return Ok(cycle);
             }
         }

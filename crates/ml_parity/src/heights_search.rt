@@ -1,13 +1,14 @@
 // The search for heights: the longest walks, or an even cycle.
 
-ghost use Rattle.std.specs.Prelude.{◌≡◌, ◌↔◌, ℕ, [], ◌∷◌, Contains, IfOk, IsErr, IsOk, MatchOption, MatchResult, OnOk, get_or, length};
+ghost use Rattle.std.specs.Prelude.{◌≡◌, ◌↔◌, ◌%◌, ℕ, [], ◌∷◌, Contains, IfOk, IsErr, IsOk, MatchOption, MatchResult, OnOk, get_or, length};
 ghost use Rattle.ml_parity.specs.Heights.{AreHeights, AreLongest, AtMost, EvenCycleIn, IsEvenCycle, count_at};
 ghost use Rattle.ml_parity.specs.HeightSteps.{AreAttained, IsAppended, IsColumn, IsPass, LoopAt, RaisesAlong};
 ghost use Rattle.ml_parity.specs.Refusal.{lists_of};
 
 use crate::heights_answer::{EvenCycle, Heights};
-use crate::heights_cycles::cycle_at;
+use crate::heights_cycles::{cycle_at, guessed_cycle};
 use crate::heights_graph::{Arc, OneSided};
+use crate::heights_order::{Leaving, arcs_leaving, order_of};
 use ml_base::NoMemory;
 use std::alloc::Global;
 
@@ -51,13 +52,36 @@ fn raise(graph: &OneSided, priority: u32, arc: Arc, numbers: &mut [u64]) -> Pass
     Pass::Raised
 }
 
-/// Raises numbers along all arcs, once along each.
-fn raise_all(graph: &OneSided, priority: u32, numbers: &mut [u64]) -> Pass
+/// Raises numbers along arcs in this order.
+fn raise_in_order(graph: &OneSided, priority: u32, order: &[usize], numbers: &mut [u64]) -> Pass
+    requires { AreAttained graph.now priority numbers.old }
+    ensures attained { AreAttained graph.now priority numbers.new }
+    ensures pass { IsPass graph.now priority numbers.old numbers.new 0 result }
+{
+    let mut raised = false;
+    for k in order {
+        if *k < graph.arcs.len() {
+            match raise(graph, priority, graph.arcs[*k], numbers) {
+                Pass::Stays => {}
+                Pass::Raised => raised = true,
+                Pass::TooHigh => return Pass::TooHigh,
+            }
+        }
+    }
+    if raised { Pass::Raised } else { Pass::Stays }
+}
+
+/// Raises numbers along arcs in this order, and then along all arcs.
+fn raise_all(graph: &OneSided, priority: u32, order: &[usize], numbers: &mut [u64]) -> Pass
     requires { AreAttained graph.now priority numbers.old }
     ensures attained { AreAttained graph.now priority numbers.new }
     ensures pass { IsPass graph.now priority numbers.old numbers.new (length graph.now.arcs) result }
 {
-    let mut raised = false;
+    let mut raised = match raise_in_order(graph, priority, order, numbers) {
+        Pass::Stays => false,
+        Pass::Raised => true,
+        Pass::TooHigh => return Pass::TooHigh,
+    };
     for arc in &graph.arcs {
         match raise(graph, priority, *arc, numbers) {
             Pass::Stays => {}
@@ -70,16 +94,44 @@ fn raise_all(graph: &OneSided, priority: u32, numbers: &mut [u64]) -> Pass
 
 /// For each vertex the largest number of arcs of this priority on a walk along arcs of at least it, or nothing where
 /// there is a loop.
-fn longest(alloc: Global, graph: &OneSided, priority: u32) -> Result<Option<Vec<u64>>, NoMemory>
+fn longest(
+    alloc: Global,
+    graph: &OneSided,
+    priority: u32,
+    order: &[usize],
+) -> Result<Option<Vec<u64>>, NoMemory>
     ensures { IfOk result (λ o. MatchOption o (LoopAt graph.now priority) (λ v. IsColumn graph.now priority v.items)) }
 {
     let mut numbers = vec![in alloc; 0; graph.size as usize]?;
     loop {
-        match raise_all(graph, priority, &mut numbers) {
+        match raise_all(graph, priority, order, &mut numbers) {
             Pass::Stays => return Ok(Some(numbers)),
             Pass::Raised => {}
             Pass::TooHigh => return Ok(None),
         }
+    }
+}
+
+/// The largest numbers for an even priority, or an even cycle along arcs of at least it.
+fn column_or_cycle(
+    alloc: Global,
+    graph: &OneSided,
+    leaving: &Leaving,
+    priority: u32,
+) -> Result<Result<Vec<u64>, Vec<Arc>>, NoMemory>
+    requires { priority % 2 ≡ 0 }
+    ensures { IfOk result (λ r. MatchResult
+        r
+        (λ column. IsColumn graph.now priority column.items)
+        (λ cycle. IsEvenCycle graph.now cycle.items)) }
+{
+    let order = order_of(alloc, graph, leaving, priority)?;
+    if let Some(cycle) = guessed_cycle(alloc, graph, priority, &order)? {
+        return Ok(Err(cycle));
+    }
+    match longest(alloc, graph, priority, &order.arcs)? {
+        Some(column) => Ok(Ok(column)),
+        None => Ok(Err(cycle_at(alloc, graph, priority, &order.arcs)?)),
     }
 }
 
@@ -114,6 +166,9 @@ fn empty_rows(alloc: Global, size: u64) -> Result<Vec<Vec<u64>>, NoMemory>
 ///
 /// # Errors
 /// `NoMemory` alone.
+///
+/// Cost: for each even priority two passes over the arcs, and two more for each cycle of odd lowest priority that they
+/// have to go round. Numbers are raised along arcs until none rises, as in the method of Bellman and Ford.
 pub fn heights(alloc: Global, graph: &OneSided) -> Result<Result<Heights, EvenCycle>, NoMemory>
     ensures answer { IfOk result (λ r. MatchResult r (AreLongest graph.now) (IsEvenCycle graph.now)) }
     ensures heights { IfOk result (λ r. IfOk r (AreHeights graph.now)) }
@@ -122,13 +177,11 @@ pub fn heights(alloc: Global, graph: &OneSided) -> Result<Result<Heights, EvenCy
     ensures where_a_cycle { IfOk result (λ r. IsErr r ↔ EvenCycleIn graph.now) }
 {
     let mut rows = empty_rows(alloc, graph.size)?;
+    let leaving = arcs_leaving(alloc, graph)?;
     for half in 0..graph.top / 2 + 1 {
-        match longest(alloc, graph, 2 * half)? {
-            Some(column) => append_column(&mut rows, &column)?,
-            None => {
-                let arcs = cycle_at(alloc, graph, 2 * half)?;
-                return Ok(Err(EvenCycle { arcs }));
-            }
+        match column_or_cycle(alloc, graph, &leaving, 2 * half)? {
+            Ok(column) => append_column(&mut rows, &column)?,
+            Err(arcs) => return Ok(Err(EvenCycle { arcs })),
         }
     }
     Ok(Ok(Heights { rows }))

@@ -23,6 +23,7 @@ pub mod heights_answer;
 pub mod heights_check;
 mod heights_cycles;
 pub mod heights_graph;
+mod heights_order;
 pub mod heights_search;
 pub mod laws;
 pub mod plain;

@@ -6,6 +6,6 @@ use Rattle.ml_parity.proofs.heights_cycles.spread.Given as goal
 abbrev pub invariant-loop-arc : goal.invariant-loop-arc
 invariant-loop-arc l = record {
   search : IsSearch l.graph l.priority l.search.goal l.search.found.items l.search.steps.items;
-  goal : l.search.goal ≡ l.initial.search.goal;
-  spread : IsSpread l.graph l.priority l.initial.search.found.items l.search.found.items l.arc-index l.changed;
+  goal : l.search.goal ≡ l.fn.search.goal;
+  spread : IsSpread l.graph l.priority l.fn.search.found.items l.search.found.items l.arc-index l.changed;
 }

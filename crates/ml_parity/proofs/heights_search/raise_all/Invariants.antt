@@ -6,5 +6,5 @@ use Rattle.ml_parity.proofs.heights_search.raise_all.Given as goal
 abbrev pub invariant-loop-arc : goal.invariant-loop-arc
 invariant-loop-arc l = record {
   attained : AreAttained l.graph l.priority l.numbers;
-  pass : IsPass l.graph l.priority l.initial.numbers l.numbers l.arc-index (so_far l.raised);
+  pass : IsPass l.graph l.priority l.fn.numbers l.numbers l.arc-index (so_far l.raised);
 }
