@@ -7,18 +7,17 @@
 --   pass_first, pass_stays, pass_raised == a pass over arcs, step by step
 --   written           == what a vector holds after its items were written through a slice
 --   column_of         == attained numbers that no arc raises are the largest
-use Rattle.std.proofs.Common.{ℕ, zero, suc, ◌≡◌, ◌+◌, ◌-◌, ◌<◌, ◌≤◌, ◌⊎◌, inl, inr, arith, List, [], ◌∷◌, length, get_or, set, subst, sym, ap, ◌∙◌, refl, All, Contains, length-set, get_or-set_same, get_or-set_other, replicate, true, false, Bool, cond, take, ◌++◌}
-use Rattle.std.proofs.lemmas.Bool.{cases_eq, cases_lt}
+use Rattle.std.proofs.Common.{ℕ, ◌≡◌, ◌+◌, ◌-◌, ◌<◌, ◌≤◌, ◌⊎◌, inl, inr, arith, List, [], ◌∷◌, length, get_or, set, subst, sym, ap, ◌∙◌, Contains, length-set, get_or-set_same, get_or-set_other, true, false, Bool, cond, take, ◌++◌}
+use Rattle.std.proofs.lemmas.Bool.{cases_eq}
 use Rattle.std.proofs.Math.Seq.{take-append_seam}
-use Rattle.std.specs.Global.{Vec}
 use Rattle.std.proofs.lemmas.List.Elements.{All-contains}
 use Rattle.std.proofs.lemmas.List.Sums.{sum_by-set}
 use Rattle.ml_parity.specs.declared.heights_graph.Arc.{Arc}
 use Rattle.ml_parity.specs.declared.heights_search.Pass.{Pass}
-use Rattle.ml_parity.specs.declared.heights_search.Pass.TheVariants.{Stays, Raised, TooHigh}
-use Rattle.ml_parity.specs.Heights.{OneSidedGraph, IsOneSided, IsWalk, count_at, Attained, IsMost}
+use Rattle.ml_parity.specs.declared.heights_search.Pass.TheVariants.{Stays, Raised}
+use Rattle.ml_parity.specs.Heights.{OneSidedGraph, IsOneSided, count_at, Attained}
 use Rattle.ml_parity.specs.HeightSteps.{Settled, SettledAlong, LoopAt, AreAttained, IsColumn, IsPass, RaisesAlong, number_at, room}
-use Rattle.ml_parity.proofs.HeightWalks.{attained_none, attained_more, attained_loop, walk_keeps}
+use Rattle.ml_parity.proofs.HeightWalks.{attained_more, attained_loop, walk_keeps}
 
 -- the ends of an arc are vertices
 pub record ArcEnds (g : OneSidedGraph) (a : Arc) : Type 0 where

@@ -6,12 +6,12 @@
 --   falls-to, falls-from == the heights fall along an arc exactly if they fall from the one row to the other
 --   falls_more     == one arc more along which they fall
 --   row_more, no_shape_by_row == when the rows have the right shape
-use Rattle.std.proofs.Common.{ℕ, ◌≡◌, ◌+◌, ◌*◌, ◌/◌, ◌%◌, ◌<◌, ◌≤◌, ◌⊎◌, inl, inr, arith, List, [], length, get_or, subst, subst₂, sym, ap, ◌∙◌, All, Contains, vec_len}
+use Rattle.std.proofs.Common.{ℕ, ◌≡◌, ◌+◌, ◌*◌, ◌/◌, ◌%◌, ◌<◌, ◌≤◌, ◌⊎◌, inl, inr, arith, List, [], length, get_or, subst, subst₂, sym, ap, ◌∙◌, Contains, vec_len}
 use Rattle.std.proofs.lemmas.Bool.{cases_eq}
 use Rattle.std.proofs.lemmas.List.{get_or_default, length-map}
 use Rattle.std.specs.Global.{Vec}
 use Rattle.ml_parity.specs.declared.heights_graph.Arc.{Arc}
-use Rattle.ml_parity.specs.Heights.{OneSidedGraph, IsOneSided, HasShape, FallsAlong, height_of}
+use Rattle.ml_parity.specs.Heights.{OneSidedGraph, IsOneSided, HasShape, FallsAlong}
 use Rattle.ml_parity.specs.HeightLists.{RowsFall}
 use Rattle.ml_parity.specs.Refusal.{lists_of}
 use Rattle.ml_parity.proofs.Refusals.{lists_of-at}

@@ -10,13 +10,13 @@
 --   none_by_search == and a vertex that is not found has none
 --   cycle_push    == a walk from the end of an arc to its beginning, and the arc, are an even cycle
 --   no_back_more  == one arc more that has no walk back
-use Rattle.std.proofs.Common.{ℕ, zero, suc, ◌≡◌, ◌+◌, ◌%◌, ◌<◌, ◌≤◌, ◌⊎◌, inl, inr, arith, List, [], ◌∷◌, ◌++◌, length, get_or, set, subst, subst₂, sym, ap, ◌∙◌, refl, All, Contains, Bool, true, false, cond, eqb, replicate, length-set, get_or-set_same, get_or-set_other}
+use Rattle.std.proofs.Common.{ℕ, zero, suc, ◌≡◌, ◌+◌, ◌%◌, ◌<◌, ◌≤◌, ◌⊎◌, inl, inr, arith, List, [], ◌∷◌, ◌++◌, length, get_or, set, subst, subst₂, sym, ap, ◌∙◌, refl, All, Contains, Bool, true, false, replicate, length-set, get_or-set_same, get_or-set_other}
 use Rattle.std.proofs.lemmas.Bool.{cases_eq, cases_lt, false≢true}
-use Rattle.std.proofs.lemmas.List.{get_or_default, get_or_append_left, get_or_push, length-append, length-replicate}
-use Rattle.std.proofs.lemmas.List.Elements.{All-contains, All-push, All-nil, All-replicate, All-get_or}
+use Rattle.std.proofs.lemmas.List.{get_or_append_left, get_or_push, length-append, length-replicate}
+use Rattle.std.proofs.lemmas.List.Elements.{All-contains, All-push, All-nil}
 use Rattle.ml_parity.specs.declared.heights_graph.Arc.{Arc}
-use Rattle.ml_parity.specs.Heights.{OneSidedGraph, IsOneSided, IsWalk, IsStep, count_at, IsEvenCycle}
-use Rattle.ml_parity.specs.HeightSteps.{LoopAt, Comes, LeadBack, Chain, IsWay, IsHigh, IsSearch, FoundAlong, FindsAlong, IsSpread, missing}
+use Rattle.ml_parity.specs.Heights.{OneSidedGraph, IsWalk, count_at, IsEvenCycle}
+use Rattle.ml_parity.specs.HeightSteps.{LoopAt, Comes, Chain, IsWay, IsHigh, IsSearch, FoundAlong, FindsAlong, IsSpread, missing}
 use Rattle.ml_parity.specs.SinkGame.{flag_at}
 use Rattle.ml_parity.proofs.HeightRaises.{ArcEnds}
 use Rattle.ml_parity.proofs.HeightWalks.{walk_join, counts-one}

@@ -8,14 +8,13 @@
 --   longest_heights == the largest counts are heights
 --   heights_refuse  == where there are heights there is no even cycle
 --   longest_low     == the largest counts are at most the number of vertices
-use Rattle.std.proofs.Common.{ℕ, zero, suc, ◌≡◌, ◌+◌, ◌-◌, ◌*◌, ◌/◌, ◌%◌, ◌<◌, ◌≤◌, ◌⊎◌, inl, inr, arith, List, [], ◌∷◌, ◌++◌, length, get_or, set, subst, subst₂, sym, ap, ◌∙◌, refl, All, Contains, length-set, get_or-set_same, get_or-set_other, map, take}
+use Rattle.std.proofs.Common.{ℕ, ◌≡◌, ◌+◌, ◌*◌, ◌/◌, ◌%◌, ◌<◌, ◌≤◌, ◌⊎◌, inl, inr, arith, List, [], ◌∷◌, ◌++◌, length, get_or, set, subst, subst₂, sym, ap, ◌∙◌, refl, All, Contains, length-set, get_or-set_same, get_or-set_other, take}
 use Rattle.std.proofs.lemmas.Bool.{cases_eq, cases_lt}
 use Rattle.std.proofs.lemmas.List.{get_or_default, get_or_past, get_or-map, length-map, length-append, get_or_append_left, get_or_push, map-set}
-use Rattle.std.proofs.lemmas.List.Elements.{All-contains}
 use Rattle.std.specs.Global.{Vec}
 use Rattle.ml_parity.specs.declared.heights_graph.Arc.{Arc}
-use Rattle.ml_parity.specs.Heights.{OneSidedGraph, IsOneSided, IsWalk, IsStep, count_at, Attained, IsMost, IsEvenCycle, AreHeights, AreLongest, HasShape, FallsAlong, AtMost, height_of}
-use Rattle.ml_parity.specs.HeightSteps.{Settled, SettledAlong, LoopAt, IsColumn, number_at, AreLongestBelow, IsAppended}
+use Rattle.ml_parity.specs.Heights.{OneSidedGraph, IsOneSided, count_at, Attained, IsMost, IsEvenCycle, AreHeights, AreLongest, FallsAlong, AtMost, height_of}
+use Rattle.ml_parity.specs.HeightSteps.{Settled, SettledAlong, LoopAt, IsColumn, AreLongestBelow, IsAppended}
 use Rattle.ml_parity.specs.Refusal.{lists_of}
 use Rattle.ml_parity.proofs.HeightRaises.{written}
 use Rattle.ml_parity.proofs.HeightWalks.{attained_loop, attained_more, settled_no_cycle, even_cycle_of, counts-one, counts-none}

@@ -10,13 +10,13 @@
 --   codes          == the codes of the arcs of priority p on a walk
 --   CutAt          == a walk, cut at an arc of priority p
 --   many_loop      == a walk with more than n arcs of priority p has a loop at p
-use Rattle.std.proofs.Common.{ℕ, zero, suc, ◌≡◌, ◌+◌, ◌-◌, ◌%◌, ◌<◌, ◌≤◌, ◌⊎◌, inl, inr, arith, List, [], ◌∷◌, ◌++◌, length, get_or, subst, sym, ap, ◌∙◌, refl, cond, eqb, Bool, true, false, eq-eqb, ne_eqb, All, Contains}
-use Rattle.std.proofs.lemmas.Bool.{cases_eq, cases_lt, cases_Bool, cond-true, cond-false, eqb-true}
+use Rattle.std.proofs.Common.{ℕ, zero, suc, ◌≡◌, ◌+◌, ◌-◌, ◌%◌, ◌<◌, ◌≤◌, ◌⊎◌, inl, inr, arith, List, [], ◌∷◌, ◌++◌, length, get_or, subst, sym, ap, ◌∙◌, refl, cond, eqb, eq-eqb, ne_eqb, Contains}
+use Rattle.std.proofs.lemmas.Bool.{cases_eq, cond-true, cond-false}
 use Rattle.std.proofs.lemmas.List.Elements.{All-contains}
 use Rattle.ml_lists.proofs.Pigeons.{pigeons_list, TwiceInList}
 use Rattle.ml_parity.specs.declared.heights_graph.Arc.{Arc}
 use Rattle.ml_parity.specs.HeightSteps.{Settled, SettledAlong, LoopAt}
-use Rattle.ml_parity.specs.Heights.{OneSidedGraph, IsOneSided, IsStep, IsWalk, count_at, IsEvenCycle, EvenCycleIn, Attained}
+use Rattle.ml_parity.specs.Heights.{OneSidedGraph, IsOneSided, IsWalk, count_at, IsEvenCycle, Attained}
 
 -- a walk, and a walk from where it ends
 pub walk_join : (g : OneSidedGraph) (p v u w : ℕ) (xs ys : List Arc) → IsWalk g p v xs u → IsWalk g p u ys w

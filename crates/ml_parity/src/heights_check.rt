@@ -40,7 +40,11 @@ fn falls_everywhere(graph: &OneSided, rows: &[Vec<u64>]) -> bool
     ensures { IsTrue result ↔ All (FallsAlong (lists_of rows.now)) graph.now.arcs }
 {
     for arc in &graph.arcs {
-        if !row_falls(arc.priority, &rows[arc.from as usize], &rows[arc.to as usize]) {
+        if !row_falls(
+            arc.priority,
+            &rows[arc.from as usize],
+            &rows[arc.to as usize],
+        ) {
             return false;
         }
     }

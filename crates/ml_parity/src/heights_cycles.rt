@@ -24,7 +24,12 @@ struct Search {
 }
 
 /// Finds the vertex that an arc leaves, if the vertex that it leads to is found.
-fn find_along(graph: &OneSided, priority: u32, arc: Arc, search: &mut Search) -> Result<bool, NoMemory>
+fn find_along(
+    graph: &OneSided,
+    priority: u32,
+    arc: Arc,
+    search: &mut Search,
+) -> Result<bool, NoMemory>
     requires member { Contains graph.now.arcs arc }
     requires search { IsSearch graph.now priority search.old.goal search.old.found.items search.old.steps.items }
     ensures search { OnOk result (IsSearch graph.now priority search.new.goal search.new.found.items search.new.steps.items) }
@@ -32,7 +37,10 @@ fn find_along(graph: &OneSided, priority: u32, arc: Arc, search: &mut Search) ->
     ensures finds { IfOk result (FindsAlong priority search.old.found.items search.new.found.items arc) }
 {
     let _size = graph.size;
-    if arc.priority < priority || search.found[arc.from as usize] || !search.found[arc.to as usize] {
+    if arc.priority < priority
+        || search.found[arc.from as usize]
+        || !search.found[arc.to as usize]
+    {
         return Ok(false);
     }
     search.steps.push(arc)?;

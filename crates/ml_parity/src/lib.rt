@@ -9,12 +9,14 @@
 // - `plain::solve_plain` answers who wins each vertex, and by which moves. It is slow and obvious: take it to test a
 //   faster solver.
 // - `laws::determined` does nothing; its contract is the determinacy law, over the definition alone.
+// - `heights` treats a graph in which one player makes all moves (`OneSided::build`): it counts the longest walks, or finds
+//   a cycle of even lowest priority. `heights_ok` tests numbers against the definition (`specs/Heights.antt`).
 // The lemmas beside the law are for the proofs of crates above: `proofs/Winners.antt` (the winners as a map),
 // `OneStep` (a vertex by its successors), `Kept` (along plays), `Comparison` (two games that differ at some vertices),
 // `Memory` (finite memory is not needed), `Certificates` (ranks that fall along moves), `SolutionFacts` (what a solution
-// tells).
+// tells), `HeightTables` (the longest counts are heights; where there are heights there is no even cycle).
 //
-// Below stands `ml_lists`, the mathematics of lists, loops and search. Above stand the crates whose answers are games:
+// Below stand `ml_lists`, the mathematics of lists, loops and search, and `ml_base`, for its error. Above stand the crates whose answers are games:
 // checking games of structures and graphs, and the decision game.
 #![tactic(auto)]
 
@@ -38,5 +40,7 @@ pub use heights_search::heights;
 pub use players::Player;
 pub use solutions::Solution;
 
+#[cfg(test)]
+mod heights_tests;
 #[cfg(test)]
 mod tests;

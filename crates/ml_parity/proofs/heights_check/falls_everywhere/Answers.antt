@@ -1,10 +1,9 @@
 -- The rows that are read are those of the ends of the arc.
-use Rattle.std.proofs.Common.{arith, ◌≡◌, ◌<◌, IsTrue, length, get_or, ap, sym, subst, ◌∙◌}
-use Rattle.ml_parity.specs.declared.heights_graph.Arc.{Arc}
+use Rattle.std.proofs.Common.{arith, ◌≡◌, IsTrue, length, get_or, ap, subst, ◌∙◌}
 use Rattle.ml_parity.specs.Heights.{OneSidedGraph, FallsAlong}
 use Rattle.ml_parity.specs.HeightLists.{graph_of}
 use Rattle.ml_parity.specs.Refusal.{lists_of}
-use Rattle.ml_parity.proofs.HeightRows.{ArcRows, arc_same, arc_read, falls-from, falls-to, falls_more}
+use Rattle.ml_parity.proofs.HeightRows.{arc_same, arc_read, falls-from, falls-to, falls_more}
 use Rattle.ml_parity.proofs.heights_check.falls_everywhere.Goals as goal
 
 pub row_falls-requires-clause-begins : goal.row_falls-requires-clause-begins

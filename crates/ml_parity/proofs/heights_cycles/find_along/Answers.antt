@@ -1,5 +1,5 @@
 -- The vertex that the arc leaves is found, since the one that it leads to was.
-use Rattle.std.proofs.Common.{arith, ◌≡◌, ◌∙◌, sym, subst, true, false, length}
+use Rattle.std.proofs.Common.{arith, ◌≡◌, ◌∙◌, sym, subst, true, false}
 use Rattle.std.proofs.lemmas.List.{get_or_default}
 use Rattle.ml_parity.specs.HeightSteps.{IsSearch}
 use Rattle.ml_parity.specs.SinkGame.{flag_at}

@@ -1,5 +1,5 @@
 -- The step leads on, to the goal or to where an earlier step begins.
-use Rattle.std.proofs.Common.{arith, ◌≡◌, ◌-◌, ◌∙◌, sym, subst, get_or, refl, All, Contains}
+use Rattle.std.proofs.Common.{arith, ◌-◌, sym, subst, get_or, All, Contains}
 use Rattle.std.proofs.lemmas.List.{get_or_default}
 use Rattle.std.proofs.lemmas.List.Elements.{All-push}
 use Rattle.ml_parity.specs.declared.heights_graph.Arc.{Arc}

@@ -1,5 +1,5 @@
 -- The way so far leads to a vertex that is the goal, or that one of the steps not read yet leaves.
-use Rattle.std.proofs.Common.{ℕ, ◌≤◌, length, All, Contains}
+use Rattle.std.proofs.Common.{◌≤◌, length, All, Contains}
 use Rattle.ml_parity.specs.HeightSteps.{Comes, Chain}
 use Rattle.ml_parity.proofs.heights_cycles.way_along.Given as goal
 

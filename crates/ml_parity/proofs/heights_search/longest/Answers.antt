@@ -1,5 +1,5 @@
 -- Where no arc raises a number, the numbers are the largest.
-use Rattle.std.proofs.Common.{ap, sym, subst, ◌∙◌}
+use Rattle.std.proofs.Common.{sym, subst, ◌∙◌}
 use Rattle.ml_parity.specs.HeightSteps.{IsColumn}
 use Rattle.ml_parity.proofs.HeightRaises.{column_of, written}
 use Rattle.ml_parity.proofs.heights_search.longest.Goals as goal
