@@ -8,6 +8,16 @@ pub mod Comparison
 pub mod Filled
 -- what the program reads in the fields of a game
 pub mod GameFields
+-- one number raised along one arc
+pub mod HeightRaises
+-- rows of numbers as the program holds them, as heights
+pub mod HeightRows
+-- the search for a walk from one vertex to another, and for a cycle
+pub mod HeightSearches
+-- rows that grow by a column, and what they are in the end
+pub mod HeightTables
+-- walks in one-sided graphs: joined, cut, and counted
+pub mod HeightWalks
 -- winning is kept along plays that follow the strategy
 pub mod Kept
 -- the induction of the determinacy law, its first case

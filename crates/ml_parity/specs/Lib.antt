@@ -2,6 +2,12 @@
 pub mod Certificate
 -- parity games, as lists
 pub mod Game
+-- what the values of the program for heights stand for
+pub mod HeightLists
+-- the steps of the search for heights
+pub mod HeightSteps
+-- one-sided graphs, walks in them, and heights
+pub mod Heights
 -- the determinacy law
 pub mod Law
 -- the two players
