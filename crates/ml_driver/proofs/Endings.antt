@@ -1,13 +1,11 @@
 -- How a call of `run` ends, from what was read and what was due.
 --
 --   ended_written  == a status that is due, with its output written or partly written, ends the call as it should
---   too_long       == a text past the limit is no first text
-use Rattle.std.proofs.Common.{◌≡◌, ℕ, ◌+◌, ◌<◌, List, length, Option, Some, None, refl, sym, ◌∙◌, ap, subst, arith, ⊎_elim}
+--   ended_with     == the same, where the words are a command
+use Rattle.std.proofs.Common.{◌≡◌, ℕ, List, Option, Some, None, refl, sym, subst, ⊎_elim}
 use Rattle.std.specs.Io.KnownBytes.{append_known}
 use Rattle.ml_base.specs.Faults.{Rose}
 use Rattle.ml_base.specs.Whole.{AppendsPart}
-use Rattle.ml_mu.specs.Formula.{Formula}
-use Rattle.ml_mu.specs.FirstText.{StandsFor, longest_text}
 use Rattle.ml_driver.specs.declared.command.Command.{Command}
 use Rattle.ml_driver.specs.declared.command.Command.TheVariants.{DecideMu}
 use Rattle.ml_driver.specs.declared.status.Status.{Status}
@@ -41,29 +39,28 @@ answered_ended c w Unconfirmed answered = answered
 pub ended_written : (c : Option Command) (w : World) (text : List ℕ) (due : Status) (output : List ℕ) (status : Status) → WasRead c w text → w.source_faults_after ≡ w.source_faults_before → IsDue c text due output → Wrote w.taken_before w.taken_after w.sink_faults_before w.sink_faults_after due output status → Ended c w status
 ended_written c w text due output status read calm is_due wrote =
     ⊎_elim
-        (λ (whole : (status ≡ due) × (w.taken_after ≡ append_known w.taken_before output) × (w.sink_faults_after ≡ w.sink_faults_before)).
-            subst (Ended c w) (sym whole.0) (answered_ended c w due (record {
-              text = text;
-              output = output;
-              was_read = read;
-              is_due = is_due;
-              was_taken = whole.1;
-              is_calm = record { source_is_calm = calm; sink_is_calm = whole.2 } })))
-        (λ (part : (status ≡ WriteFault) × AppendsPart w.taken_before w.taken_after output × Rose w.sink_faults_before w.sink_faults_after).
-            let failed : FailedToWrite c w = record {
-              text = text;
-              status = due;
-              output = output;
-              was_read = read;
-              is_due = is_due;
-              part_taken = part.1;
-              source_is_calm = calm;
-              sink_rose = part.2 }
-            in subst (Ended c w) (sym part.0) failed)
-        wrote
-
-pub too_long : (text : List ℕ) → longest_text < length text → (f : Formula) → StandsFor text f → ⊥
-too_long text long f stands = absurd (omega (arith, stands.is_short))
+    (λ (whole : (status ≡ due) × (w.taken_after ≡ append_known w.taken_before output) × (w.sink_faults_after ≡ w.sink_faults_before)).
+    subst (Ended c w) (sym whole.0) (answered_ended c w due (record {
+      text = text;
+      output = output;
+      was_read = read;
+      is_due = is_due;
+      was_taken = whole.1;
+      is_calm = record { source_is_calm = calm; sink_is_calm = whole.2 };
+    })))
+    (λ (part : (status ≡ WriteFault) × AppendsPart w.taken_before w.taken_after output × Rose w.sink_faults_before w.sink_faults_after).
+    let failed : FailedToWrite c w = record {
+      text = text;
+      status = due;
+      output = output;
+      was_read = read;
+      is_due = is_due;
+      part_taken = part.1;
+      source_is_calm = calm;
+      sink_rose = part.2;
+    }
+    in subst (Ended c w) (sym part.0) failed)
+    wrote
 
 -- a call whose words are a command ends as that command does
 pub ended_with : (c d : Option Command) (w : World) (status : Status) → d ≡ c → Ended c w status → Ended d w status

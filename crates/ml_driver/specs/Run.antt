@@ -6,6 +6,8 @@
 --
 --   IsSatisfied text out      == out is a document about the formula of the text, with a structure and a state at which
 --                                that formula holds
+--   IsUnsatisfied text out    == out is a document about the formula of the text, which holds nowhere
+--   IsRefused text out        == out says why the text is refused: by its length, by the parser, or by its form
 --   IsDue c text status out   == for the command c, or for words that are none, this status and this output are due
 --                                where the input is the text
 --   World                     == what a call found and left: the bytes of the source, those of the sink, both counts of
@@ -14,43 +16,65 @@
 --   WasRead c w text          == the text was given for the command c: to its end, or past the limit on its length;
 --                                nothing was, where the words are no command
 --   Ended c w status          == what is true when the call has answered this status
-use Rattle.std.specs.Prelude.{ℕ, ◌≡◌, ◌<◌, ◌⊎◌, List, [], length, false, Option, Some, None, IsSome}
+use Rattle.std.specs.Prelude.{ℕ, ◌≡◌, ◌<◌, ◌≤◌, ◌⊎◌, List, [], length, Option, Some, None, IsSome}
 use Rattle.std.specs.Io.KnownBytes.{IsAtEnd, append_known, prepend_known}
 use Rattle.ml_base.specs.Faults.{Rose}
-use Rattle.ml_base.specs.Structure.{Structure, IsStructure}
+use Rattle.ml_base.specs.Structure.{Structure}
 use Rattle.ml_base.specs.Whole.{AppendsPart}
-use Rattle.ml_kripke.specs.Ordered.{IsOrdered}
 use Rattle.ml_mu.specs.Formula.{Formula}
-use Rattle.ml_mu.specs.Problem.{Problem, HoldsAt}
-use Rattle.ml_mu.specs.FirstText.{StandsFor, longest_text}
+use Rattle.ml_mu.specs.Parsing.{IsParsedAs, IsRefusedBy}
+use Rattle.ml_table.specs.Propositional.{plain, IsInForm, HoldsInModel, HoldsNowhere}
+use Rattle.ml_base.specs.declared.parse_refusal.ParseRefusal.{ParseRefusal}
 use Rattle.ml_driver.specs.declared.command.Command.{Command}
 use Rattle.ml_driver.specs.declared.command.Command.TheVariants.{DecideMu}
 use Rattle.ml_driver.specs.declared.status.Status.{Status}
 use Rattle.ml_driver.specs.declared.status.Status.TheVariants.{Yes, No, Undecided, Words, Text, ReadFault, WriteFault, NoMemory, Unconfirmed}
-use Rattle.ml_driver.specs.Document.{satisfiable_document}
-use Rattle.ml_driver.specs.Statuses.{refused_words, refused_form}
+use Rattle.ml_driver.specs.Document.{satisfiable_document, unsatisfiable_document}
+use Rattle.ml_driver.specs.Statuses.{longest_text, refused_words, refused_form, refused_length, refusal_line}
 
--- the formula in its plain sense
-abbrev pub plain : Formula → Problem
-plain f = record { formula = f; negated = false }
-
+-- the formula holds at the written state of the written structure
 pub record IsSatisfied (text out : List ℕ) : Type 0 where
   pub formula : Formula
   pub structure : Structure
-  pub start : ℕ
-  pub stands_for : StandsFor text formula
-  pub is_structure : IsStructure structure
-  pub is_ordered : IsOrdered structure
-  pub has_one_state : structure.states ≡ 1
-  pub is_state : start < structure.states
-  pub holds : HoldsAt structure start (plain formula)
-  pub is_written : out ≡ satisfiable_document (plain formula) structure start
+  pub is_parsed : IsParsedAs text formula
+  pub holds : HoldsInModel formula structure
+  pub is_written : out ≡ satisfiable_document (plain formula) structure 0
 
--- a first text is always satisfiable, so no other answer is ever due
+-- the formula holds at no state of any structure
+pub record IsUnsatisfied (text out : List ℕ) : Type 0 where
+  pub formula : Formula
+  pub is_parsed : IsParsedAs text formula
+  pub holds_nowhere : HoldsNowhere formula
+  pub is_written : out ≡ unsatisfiable_document (plain formula)
+
+-- the parser refuses the text, for this cause and at this byte
+pub record IsRefusedText (text out : List ℕ) : Type 0 where
+  pub refusal : ParseRefusal
+  pub is_refused : IsRefusedBy text refusal
+  pub is_written : Some out ≡ refusal_line refusal
+
+-- the text is one of a formula that isn't decided yet: one with a modality, a binder, or too many propositions
+pub record IsOutOfForm (text out : List ℕ) : Type 0 where
+  pub formula : Formula
+  pub is_parsed : IsParsedAs text formula
+  pub is_not_in_form : IsInForm formula → ⊥
+  pub is_written : out ≡ refused_form
+
+-- the input is longer than the limit: what was given of it is
+abbrev pub IsTooLong : List ℕ → List ℕ → Type 0
+IsTooLong text out = (longest_text < length text) × (out ≡ refused_length)
+
+-- the four reasons to refuse the input
+pub data IsRefused (text out : List ℕ) : Type 0 where
+  by_length : IsTooLong text out → IsRefused text out
+  by_text : length text ≤ longest_text → IsRefusedText text out → IsRefused text out
+  by_form : length text ≤ longest_text → IsOutOfForm text out → IsRefused text out
+
 abbrev pub IsDue : Option Command → List ℕ → Status → List ℕ → Type 0
 IsDue None text Words out = out ≡ refused_words
-IsDue (Some DecideMu) text Text out = ((f : Formula) → ¬ (StandsFor text f)) × (out ≡ refused_form)
-IsDue (Some DecideMu) text Yes out = IsSatisfied text out
+IsDue (Some DecideMu) text Yes out = (length text ≤ longest_text) × IsSatisfied text out
+IsDue (Some DecideMu) text No out = (length text ≤ longest_text) × IsUnsatisfied text out
+IsDue (Some DecideMu) text Text out = IsRefused text out
 IsDue _ _ _ _ = ⊥
 
 pub record World : Type 0 where

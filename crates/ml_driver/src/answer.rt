@@ -1,13 +1,14 @@
 // Answers, and their output.
-ghost use Rattle.std.specs.Prelude.{◌≡◌, ◌++◌, [], ◌∷◌, codes, IfOk, OnOk};
+ghost use Rattle.std.specs.Prelude.{◌≡◌, ◌++◌, [], ◌∷◌, codes, IfOk, OnOk, Some};
 ghost use Rattle.ml_lines.specs.Lines.{line_text, number, text_of};
-ghost use Rattle.ml_mu.specs.Head as head;
+ghost use Rattle.ml_table.specs.Propositional.{plain};
 ghost use Rattle.ml_driver.specs.Document as document;
-ghost use Rattle.ml_driver.specs.Run.{plain};
-ghost use Rattle.ml_driver.specs.Answer.{status_of, answer_text};
+ghost use Rattle.ml_driver.specs.Document.{plain_head};
+ghost use Rattle.ml_driver.specs.Statuses as statuses;
+ghost use Rattle.ml_driver.specs.Answer.{status_of, IsText};
 
 use crate::Status;
-use ml_base::NoMemory;
+use ml_base::{NoMemory, ParseRefusal};
 use ml_kripke::{Model, write_model};
 use ml_lines::{end_line, write_next_number, write_next_word, write_word};
 use ml_mu::{Formula, print};
@@ -18,7 +19,11 @@ use std::alloc::Global;
 pub(crate) enum Answer {
     /// The formula holds at the model's start.
     Satisfiable(Formula, Model),
-    /// The text isn't one that is decided.
+    /// The formula holds at no state of any structure.
+    Unsatisfiable(Formula),
+    /// The parser refuses the text.
+    RefusedText(ParseRefusal),
+    /// The formula isn't one that is decided yet.
     RefusedForm,
 }
 
@@ -29,21 +34,65 @@ pub(crate) struct Output {
     pub(crate) bytes: Vec<u8>,
 }
 
-/// What an answer makes the program say.
+/// What an answer makes the program say. Want of memory is no refusal of a text, and no answer has it as one.
 pub(crate) fn output_of(alloc: Global, answer: &Answer) -> Result<Output, NoMemory>
-    ensures { IfOk result (λ output.
-        (output.status ≡ status_of answer.now) × (output.bytes.items ≡ answer_text answer.now)) }
+    ensures { IfOk result (λ output. (output.status ≡ status_of answer.now) × IsText answer.now output.bytes.items) }
 {
     Ok(match answer {
         Answer::Satisfiable(formula, model) => Output {
             status: Status::Yes,
             bytes: satisfiable_document(alloc, formula, model)?,
         },
+        Answer::Unsatisfiable(formula) => Output {
+            status: Status::No,
+            bytes: unsatisfiable_document(alloc, formula)?,
+        },
+        Answer::RefusedText(refusal) => Output {
+            status: Status::Text,
+            bytes: refusal_line(alloc, *refusal)?,
+        },
         Answer::RefusedForm => Output {
             status: Status::Text,
             bytes: Vec::from_slice(alloc, b"refused form\n")?,
         },
     })
+}
+
+fn refusal_line(alloc: Global, refusal: ParseRefusal) -> Result<Vec<u8>, NoMemory>
+    ensures { IfOk result (λ line. Some line.items ≡ statuses.refusal_line refusal) }
+{
+    match refusal {
+        ParseRefusal::Syntax { at } => refused_at(alloc, 1, at),
+        ParseRefusal::Unbound { at } => refused_at(alloc, 2, at),
+        ParseRefusal::NotPositive { at } => refused_at(alloc, 3, at),
+        ParseRefusal::TooMany { at } => refused_at(alloc, 4, at),
+        ParseRefusal::TooNested { at } => refused_at(alloc, 5, at),
+        ParseRefusal::NameTooLong { at } => refused_at(alloc, 6, at),
+        ParseRefusal::NoMemory => Err(NoMemory),
+    }
+}
+
+fn refused_at(alloc: Global, rule: u64, at: u64) -> Result<Vec<u8>, NoMemory>
+    ensures { IfOk result (λ line. Some line.items ≡ statuses.refused_at rule at) }
+{
+    let mut line = Vec::new(alloc);
+    write_word(&mut line, b"refused")?;
+    write_next_word(&mut line, b"text")?;
+    write_next_word(&mut line, b"rule")?;
+    write_next_number(&mut line, rule)?;
+    write_next_word(&mut line, b"at")?;
+    write_next_number(&mut line, at)?;
+    end_line(&mut line)?;
+    Ok(line)
+}
+
+fn unsatisfiable_document(alloc: Global, formula: &Formula) -> Result<Vec<u8>, NoMemory>
+    ensures { IfOk result (λ output. output.items ≡ document.unsatisfiable_document (plain formula.now)) }
+{
+    let mut output = Vec::new(alloc);
+    write_head(alloc, &mut output, b"unsatisfiable", formula)?;
+    output.extend_from_slice(b"end\n")?;
+    Ok(output)
 }
 
 fn satisfiable_document(
@@ -55,23 +104,23 @@ fn satisfiable_document(
         output.items ≡ document.satisfiable_document (plain formula.now) model.now.structure model.now.start) }
 {
     let mut output = Vec::new(alloc);
-    write_head(alloc, &mut output, formula)?;
+    write_head(alloc, &mut output, b"satisfiable", formula)?;
     output.extend_from_slice(&write_model(alloc, model)?)?;
     Ok(output)
 }
 
-// the head of a satisfiable document
+// the head of a document in the plain sense
 fn write_head(
     alloc: Global,
     output: &mut Vec<u8>,
+    answer: &[u8],
     formula: &Formula,
 ) -> Result<(), NoMemory>
-    ensures { OnOk result (output.new.items ≡
-        output.old.items ++ text_of (head.head_lines head.Satisfiable (plain formula.now))) }
+    ensures { OnOk result (output.new.items ≡ output.old.items ++ text_of (plain_head answer.now formula.now)) }
 {
     let text = print(alloc, formula)?;
     write_first_line(output)?;
-    write_pair(output, b"answer", b"satisfiable")?;
+    write_pair(output, b"answer", answer)?;
     write_pair(output, b"logic", b"mu")?;
     write_pair(output, b"sense", b"plain")?;
     write_pair(output, b"formula", &text)?;

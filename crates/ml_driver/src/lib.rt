@@ -11,6 +11,8 @@ mod answer;
 mod command;
 mod decide;
 mod status;
+#[cfg(test)]
+mod tests;
 mod top;
 
 pub use command::{Command, command_of};

@@ -1,7 +1,8 @@
 // The top call.
-ghost use Rattle.std.specs.Prelude.{◌≡◌, map, IfOk, Some};
+ghost use Rattle.std.specs.Prelude.{◌≤◌, length, map, IfOk, Some};
 ghost use Rattle.std.specs.String.{string_bytes};
 ghost use Rattle.ml_driver.specs.Words as command_line;
+ghost use Rattle.ml_driver.specs.Statuses.{longest_text};
 ghost use Rattle.ml_driver.specs.Run.{Ended, IsDue, Wrote};
 
 use crate::answer::{Output, output_of};
@@ -31,13 +32,16 @@ pub fn run<S: Source, K: Sink>(
     source: &mut S,
     sink: &mut K,
 ) -> Status
-    ensures {
-        Ended (command_line.command_of (map string_bytes words.now)) (record {
-            left_before = S.remaining source.old; left_after = S.remaining source.new;
-            source_faults_before = S.faults source.old; source_faults_after = S.faults source.new;
-            taken_before = K.taken sink.old; taken_after = K.taken sink.new;
-            sink_faults_before = K.faults sink.old; sink_faults_after = K.faults sink.new }) result
-    }
+    ensures { Ended (command_line.command_of (map string_bytes words.now)) (record {
+      left_before = S.remaining source.old;
+      left_after = S.remaining source.new;
+      source_faults_before = S.faults source.old;
+      source_faults_after = S.faults source.new;
+      taken_before = K.taken sink.old;
+      taken_after = K.taken sink.new;
+      sink_faults_before = K.faults sink.old;
+      sink_faults_after = K.faults sink.new;
+    }) result }
 {
     let Some(Command::DecideMu) = command_of(words) else {
         return written(sink, Status::Words, b"refused words\n");
@@ -45,7 +49,7 @@ pub fn run<S: Source, K: Sink>(
     let text = match read_all(alloc, source, LONGEST_TEXT) {
         Ok(text) => text,
         Err(ReadRefusal::ReadFault) => return Status::ReadFault,
-        Err(ReadRefusal::TooLong) => return written(sink, Status::Text, b"refused form\n"),
+        Err(ReadRefusal::TooLong) => return written(sink, Status::Text, b"refused length\n"),
         Err(ReadRefusal::NoMemory) => return Status::NoMemory,
     };
     match outcome(alloc, &text) {
@@ -56,10 +60,12 @@ pub fn run<S: Source, K: Sink>(
 
 // what is due for a text
 fn outcome(alloc: Global, text: &[u8]) -> Result<Output, NoMemory>
+    requires { length text.now ≤ longest_text }
     ensures { IfOk result (λ output. IsDue (Some Command.DecideMu) text.now output.status output.bytes.items) }
 {
     let answer = decide_mu(alloc, text)?;
-    output_of(alloc, &answer)
+    let output = output_of(alloc, &answer)?;
+    Ok(output)
 }
 
 // the status that is due, once its output is written

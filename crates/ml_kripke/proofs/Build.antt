@@ -40,15 +40,15 @@ module _ (n : ℕ) (ls sorted_ls : List (ℕ × List ℕ)) (es sorted_es : List 
       has_state = some;
       labels_states = ap length rows_are ∙ length-map-range_with_len (labels_at sorted_ls) 0 n;
       joins_states =
-        All-of_members (λ (e : Edge). (e.source < n) × (e.target < n)) es sorted_es (λ e. (same_es e).0)
-        (all_in_range n ls es none).1;
+          All-of_members (λ (e : Edge). (e.source < n) × (e.target < n)) es sorted_es (λ e. (same_es e).0)
+          (all_in_range n ls es none).1;
     }
 
     pub is_ordered : IsStrictlySortedBy label_cmp sorted_ls → IsStrictlySortedBy edge_cmp sorted_es → IsOrdered structure_of
     is_ordered ls_ascend es_ascend = record {
       labels_ascend =
-        subst (All (IsStrictlySortedBy (slice_cmp nat_cmp))) (sym rows_are)
-        (All-map (IsStrictlySortedBy (slice_cmp nat_cmp)) (labels_at sorted_ls) (range_with_len 0 n)
+          subst (All (IsStrictlySortedBy (slice_cmp nat_cmp))) (sym rows_are)
+          (All-map (IsStrictlySortedBy (slice_cmp nat_cmp)) (labels_at sorted_ls) (range_with_len 0 n)
           (λ k d below. labels_at-ascends (get_or (range_with_len 0 n) k d) sorted_ls ls_ascend));
       edges_ascend = es_ascend;
     }
@@ -63,9 +63,9 @@ module _ (n : ℕ) (ls sorted_ls : List (ℕ × List ℕ)) (es sorted_es : List 
     contained : (s : ℕ) (p : List ℕ) → Contains (get_or rows s []) p → Contains ls (s, p)
     contained s p h =
         ⊎_elim
-          (λ (below : s < n). (same_ls (s, p)).0 (labels_at-contains s sorted_ls p (subst (λ row. Contains row p) (row_of s below) h)))
-          (λ (past : n ≤ s). absurd (contains_none p (subst (λ row. Contains row p) (no_row s past) h)))
-          (cases_lt s n)
+        (λ (below : s < n). (same_ls (s, p)).0 (labels_at-contains s sorted_ls p (subst (λ row. Contains row p) (row_of s below) h)))
+        (λ (past : n ≤ s). absurd (contains_none p (subst (λ row. Contains row p) (no_row s past) h)))
+        (cases_lt s n)
 
     contains : (s : ℕ) (p : List ℕ) → Contains ls (s, p) → Contains (get_or rows s []) p
     contains s p h =

@@ -10,3 +10,9 @@ pub mod RowOrder
 pub mod Build
 -- the text of a structure, line by line
 pub mod Text
+-- strictly ascending lists are determined by what they contain
+pub mod Unique
+-- an ordered structure is determined by what it has
+pub mod OneStructure
+-- the text of a model belongs to one model
+pub mod OneText

@@ -1,9 +1,9 @@
 -- States out of range, and lists whose states are all in range.
 --
---   or_else_is        == an option, or else another one
+--   first_bad_parts   == the first state out of range is a label's, or else an edge's
 --   labels_in_range   == where no state is out of range, the labels' are in range
 --   edges_in_range    == where no state is out of range, both ends of each edge are in range
-use Rattle.std.proofs.Common.{◌≡◌, ℕ, ◌<◌, ◌≤◌, Bool, true, false, cond, nat_le, List, [], ◌∷◌, ◌++◌, Option, Some, None, map, find, All, MatchOption, refl, sym, ◌∙◌, arith}
+use Rattle.std.proofs.Common.{◌≡◌, ℕ, ◌<◌, Bool, true, false, cond, nat_le, List, [], ◌∷◌, Option, Some, None, map, find, All, refl, sym, ◌∙◌, arith}
 use Rattle.std.specs.List.{flat_map}
 use Rattle.std.specs.Option.{option_or}
 use Rattle.std.proofs.lemmas.Bool.Decides.{nat_tests}
@@ -12,9 +12,9 @@ use Rattle.std.proofs.lemmas.List.Elements.{All-nil, All-cons}
 use Rattle.ml_base.specs.declared.structure.Edge.{Edge}
 use Rattle.ml_kripke.specs.Ordered.{ends, first_bad_state}
 
-pub or_else_is : {T : Type 0} (o p r : Option T) (P : Type 0) → (P → r ≡ p) → MatchOption o P (λ x. r ≡ Some x) → r ≡ option_or o p
-or_else_is None p r P h m = h m
-or_else_is (Some x) p r P h m = m
+pub first_bad_parts : (states : ℕ) (labels : List (ℕ × List ℕ)) (edges : List Edge)
+    → first_bad_state states labels edges ≡ option_or (find (nat_le states) (map (λ label. label.0) labels)) (find (nat_le states) (flat_map ends edges))
+first_bad_parts states labels edges = find-append (nat_le states) (map (λ label. label.0) labels) (flat_map ends edges)
 
 none_left : {T : Type 0} (o p : Option T) → option_or o p ≡ None → (o ≡ None) × (p ≡ None)
 none_left None p e = (refl, e)
@@ -43,7 +43,7 @@ edges_in_range states (edge ∷ edges) none =
     let first = passed (nat_le states edge.source) edge.source (cond (nat_le states edge.target) (Some edge.target) rest) none in
     let second = passed (nat_le states edge.target) edge.target rest first.1 in
     All-cons (λ (e : Edge). (e.source < states) × (e.target < states)) edge edges
-      (in_range states edge.source first.0, in_range states edge.target second.0) (edges_in_range states edges second.1)
+    (in_range states edge.source first.0, in_range states edge.target second.0) (edges_in_range states edges second.1)
 
 pub all_in_range : (states : ℕ) (labels : List (ℕ × List ℕ)) (edges : List Edge) → first_bad_state states labels edges ≡ None
     → All (λ label. label.0 < states) labels × All (λ e. (e.source < states) × (e.target < states)) edges

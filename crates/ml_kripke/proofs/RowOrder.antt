@@ -4,11 +4,11 @@
 --   labels_at-ascends      == of labels that ascend, those of one state do
 --   labels_at-contains     == what stands in a state's row is a label of that state
 --   labels_at-contained    == a label of a state stands in its row
-use Rattle.std.proofs.Common.{◌≡◌, ◌↔◌, ◌==◌, ℕ, Bool, true, false, cond, List, [], ◌∷◌, map, filter, Contains, Ordering, refl, sym, ap, ◌∙◌, ⊎_elim, eq-eqb, arith, subst, ◌⊎◌}
+use Rattle.std.proofs.Common.{◌≡◌, ◌==◌, ℕ, Bool, true, false, cond, List, [], ◌∷◌, map, filter, Contains, Ordering, refl, sym, ap, ◌∙◌, ⊎_elim, eq-eqb, arith, subst, ◌⊎◌}
 use Rattle.std.specs.List.{AllByRecursion}
 use Rattle.std.specs.List.Sorted.{IsStrictlySortedBy}
 use Rattle.std.specs.Ordering.{nat_cmp, ordering_then}
-use Rattle.std.specs.declared.cmp.Ordering.TheVariants.{Less, Equal}
+use Rattle.std.specs.declared.cmp.Ordering.TheVariants.{Less}
 use Rattle.std.specs.Cmp.Lexicographic.{slice_cmp}
 use Rattle.std.proofs.lemmas.Cmp.{tied_itself, nat_cmp_total}
 use Rattle.std.proofs.lemmas.Bool.{true≢false}
@@ -66,9 +66,9 @@ labels_at-contains s (x ∷ xs) p h = go (at s x) refl h (labels_at-contains s x
     go true is inside rest =
         let state = same_state x.0 s is in
         ⊎_elim
-          (λ (e : x.1 ≡ p). let same : x ≡ (s, p) = λ i. (state i, e i) in subst (Contains (x ∷ xs)) same (contains_head x xs))
-          (λ (later : Contains (labels_at xs s) p). contains_later x xs (s, p) (rest later))
-          (contains_cases x.1 (labels_at xs s) p inside)
+        (λ (e : x.1 ≡ p). let same : x ≡ (s, p) = λ i. (state i, e i) in subst (Contains (x ∷ xs)) same (contains_head x xs))
+        (λ (later : Contains (labels_at xs s) p). contains_later x xs (s, p) (rest later))
+        (contains_cases x.1 (labels_at xs s) p inside)
     go false is inside rest = contains_later x xs (s, p) (rest inside)
 
 pub labels_at-contained : (s : ℕ) (xs : List Label) (p : List ℕ) → Contains xs (s, p) → Contains (labels_at xs s) p
@@ -79,11 +79,11 @@ labels_at-contained s (x ∷ xs) p h = go (at s x) refl (contains_cases x xs (s,
         → Contains (map name_of (cond b (x ∷ filter (at s) xs) (filter (at s) xs))) p
     go true is found rest =
         ⊎_elim
-          (λ (e : x ≡ (s, p)). subst (Contains (x.1 ∷ labels_at xs s)) (ap name_of e) (contains_head x.1 (labels_at xs s)))
-          (λ (later : Contains xs (s, p)). contains_later x.1 (labels_at xs s) p (rest later))
-          found
+        (λ (e : x ≡ (s, p)). subst (Contains (x.1 ∷ labels_at xs s)) (ap name_of e) (contains_head x.1 (labels_at xs s)))
+        (λ (later : Contains xs (s, p)). contains_later x.1 (labels_at xs s) p (rest later))
+        found
     go false is found rest =
         ⊎_elim
-          (λ (e : x ≡ (s, p)). let here : at s x ≡ true = eq-eqb x.0 s (ap (λ (l : Label). l.0) e) in absurd (true≢false (sym here ∙ is)))
-          (λ (later : Contains xs (s, p)). rest later)
-          found
+        (λ (e : x ≡ (s, p)). let here : at s x ≡ true = eq-eqb x.0 s (ap (λ (l : Label). l.0) e) in absurd (true≢false (sym here ∙ is)))
+        (λ (later : Contains xs (s, p)). rest later)
+        found

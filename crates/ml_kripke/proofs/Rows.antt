@@ -6,7 +6,7 @@
 --   length_rows     == there are as many rows as states
 --   row_pushed      == the same, of rows that are read as their items
 --   label_in_range  == a label's state is in range where all are
-use Rattle.std.proofs.Common.{◌≡◌, ◌==◌, ◌≢◌, ℕ, zero, suc, ◌+◌, ◌<◌, Bool, true, false, cond, List, [], ◌∷◌, ◌++◌, length, All, map, filter, replicate, get_or, set, refl, sym, ap, subst, ◌∙◌, ⊎_elim, arith, eq-eqb}
+use Rattle.std.proofs.Common.{◌≡◌, ◌==◌, ◌≢◌, ℕ, zero, suc, ◌+◌, ◌<◌, false, cond, List, [], ◌∷◌, ◌++◌, length, All, map, filter, replicate, get_or, set, refl, sym, ap, subst, ◌∙◌, ⊎_elim, arith, eq-eqb}
 use Rattle.std.specs.List.{range_with_len}
 use Rattle.std.proofs.lemmas.Bool.{cases_eq}
 use Rattle.std.proofs.lemmas.List.{append-nil, map-append, map-set, length-map, length-set, get_or-set_same, get_or-set_other, get_or-map, same_lists}
@@ -48,27 +48,31 @@ rows_more ys n s p small = same_lists _ _ lengths places
   where
     before : List (List (List ℕ))
     before = map (labels_at ys) (range_with_len 0 n)
+
     row : List (List ℕ)
     row = labels_at ys s ++ p ∷ []
+
     long : length before ≡ n
     long = length-map-range_with_len (labels_at ys) 0 n
+
     lengths : length (set before s row) ≡ length (map (labels_at (ys ++ (s, p) ∷ [])) (range_with_len 0 n))
     lengths = length-set before s row ∙ long ∙ sym (length-map-range_with_len (labels_at (ys ++ (s, p) ∷ [])) 0 n)
+
     places : (k : ℕ) (d : List (List ℕ)) → k < length (set before s row)
         → get_or (set before s row) k d ≡ get_or (map (labels_at (ys ++ (s, p) ∷ [])) (range_with_len 0 n)) k d
     places k d h =
         let below : k < n = omega (arith, length-set before s row, long) in
         let after = get_or-map-range_with_len (labels_at (ys ++ (s, p) ∷ [])) 0 n k k d below (omega arith) in
         ⊎_elim
-          (λ (e : k ≡ s).
-            ap (λ i. get_or (set before s row) i d) e
-            ∙ get_or-set_same before s row d (omega (arith, long))
-            ∙ sym (labels_at-push_same ys s p) ∙ ap (labels_at (ys ++ (s, p) ∷ [])) (sym e) ∙ sym after)
-          (λ (ne : k ≡ s → ⊥).
-            get_or-set_other before s k row d ne
-            ∙ get_or-map-range_with_len (labels_at ys) 0 n k k d below (omega arith)
-            ∙ sym (labels_at-push_other ys s p k ne) ∙ sym after)
-          (cases_eq k s)
+        (λ (e : k ≡ s).
+        ap (λ i. get_or (set before s row) i d) e
+        ∙ get_or-set_same before s row d (omega (arith, long))
+        ∙ sym (labels_at-push_same ys s p) ∙ ap (labels_at (ys ++ (s, p) ∷ [])) (sym e) ∙ sym after)
+        (λ (ne : k ≡ s → ⊥).
+        get_or-set_other before s k row d ne
+        ∙ get_or-map-range_with_len (labels_at ys) 0 n k k d below (omega arith)
+        ∙ sym (labels_at-push_other ys s p k ne) ∙ sym after)
+        (cases_eq k s)
 
 pub length_rows : {V : Type 0} (items : V → List (List ℕ)) (rows : List V) (ys : Labels) (n : ℕ)
     → map items rows ≡ map (labels_at ys) (range_with_len 0 n) → length rows ≡ n
@@ -86,6 +90,7 @@ row_pushed items rows ys n s p row pushed small is read more =
   where
     long : length rows ≡ n
     long = length_rows items rows ys n is
+
     here : items row ≡ labels_at ys s
     here =
         ap items read ∙ sym (get_or-map items rows s row (items row) (omega (arith, long)))

@@ -2,3 +2,5 @@
 pub mod Ordered
 -- the text of a structure with a start
 pub mod ModelText
+-- laws of ordered structures
+pub mod Laws

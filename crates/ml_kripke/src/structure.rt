@@ -1,7 +1,7 @@
 // Kripke structures, and how one is built.
-ghost use Rattle.std.specs.Prelude.{◌≡◌, ◌<◌, ◌↔◌, ℕ, [], map, find, nat_le, Some, All, IfOk, IsErrOf, slice_index_or};
+ghost use Rattle.std.specs.Prelude.{◌≡◌, ◌<◌, ◌↔◌, ℕ, [], length, map, find, nat_le, Some, All, IfOk, IsErrOf, slice_get, slice_index_or};
 ghost use Rattle.std.specs.List.{flat_map, range_with_len};
-ghost use Rattle.ml_base.specs.Structure.{IsStructure};
+ghost use Rattle.ml_base.specs.Structure.{IsStructure, lists};
 ghost use Rattle.ml_kripke.specs.Ordered.{IsOrdered, IsBuiltFrom, first_bad_state, ends, labels_at};
 
 use crate::ascending::ascending;
@@ -106,6 +106,31 @@ impl Structure {
         &self.labels[state as usize]
     }
 
+    /// Is the proposition true at the state?
+    ///
+    /// Cost: linear in the labels of the state.
+    pub fn has_label(&self, state: u32, name: &Name) -> bool
+        requires { state < self.now.states }
+        ensures { result ≡ lists self.now state name.now }
+    {
+        self.labels_of(state).contains(name)
+    }
+
+    /// How many edges there are.
+    pub fn edge_count(&self) -> usize
+        ensures { result ≡ length self.now.edges }
+    {
+        self.edges.len()
+    }
+
+    /// The edge at a place of the ascending list.
+    pub fn edge_at(&self, i: usize) -> &Edge
+        requires { i < length self.now.edges }
+        ensures { slice_get self.now.edges i ≡ Some result.now }
+    {
+        &self.edges[i]
+    }
+
     /// The edges, in ascending order.
     pub fn edges(&self) -> &[Edge]
         ensures { result.now ≡ self.now.edges }
@@ -122,6 +147,7 @@ impl Structure {
 }
 
 // the first state that isn't below the number of states
+#[tactic(auto, using(crate::proofs::Range::first_bad_parts))]
 fn first_out_of_range(states: u32, labels: &[(u32, Name)], edges: &[Edge]) -> Option<u32>
     ensures { result ≡ first_bad_state states labels.now edges.now }
 {

@@ -1,6 +1,7 @@
 // The text of a model.
-ghost use Rattle.std.specs.Prelude.{◌≡◌, [], ◌∷◌, ◌++◌, map, IfOk, OnOk, codes, List, ℕ};
+ghost use Rattle.std.specs.Prelude.{◌≡◌, [], ◌∷◌, ◌++◌, map, All, IfOk, OnOk};
 ghost use Rattle.std.specs.List.{enumerate_from};
+ghost use Rattle.ml_base.specs.Name.{IsName, IsAction};
 ghost use Rattle.ml_lines.specs.Lines.{number, line_text, text_of};
 ghost use Rattle.ml_kripke.specs.Ordered.{HasNames};
 ghost use Rattle.ml_kripke.specs.ModelText.{state_line, edge_line, model_text};
@@ -18,6 +19,7 @@ use std::alloc::Global;
 /// Cost: linear in the text.
 pub fn write_model(alloc: Global, model: &Model) -> Result<Vec<u8>, NoMemory>
     ensures text { IfOk result (λ bytes. bytes.items ≡ model_text model.now.structure model.now.start) }
+    ensures named { OnOk result (HasNames model.now.structure) }
 {
     let structure = &model.structure;
     let mut out = Vec::new(alloc);
@@ -39,8 +41,9 @@ fn write_numbered(out: &mut Vec<u8>, word: &[u8], n: u32) -> Result<(), NoMemory
 }
 
 fn write_states(out: &mut Vec<u8>, rows: &[Vec<Name>]) -> Result<(), NoMemory>
-    ensures { OnOk result (out.new.items ≡ out.old.items
+    ensures text { OnOk result (out.new.items ≡ out.old.items
         ++ text_of (map (λ labelled. state_line labelled.0 labelled.1) (enumerate_from 0 (map (λ row. row.items) rows.now)))) }
+    ensures named { OnOk result (All (All IsName) (map (λ row. row.items) rows.now)) }
 {
     for (state, labels) in rows.iter().enumerate() {
         write_state(out, state, labels)?;
@@ -49,7 +52,8 @@ fn write_states(out: &mut Vec<u8>, rows: &[Vec<Name>]) -> Result<(), NoMemory>
 }
 
 fn write_state(out: &mut Vec<u8>, state: usize, labels: &[Name]) -> Result<(), NoMemory>
-    ensures { OnOk result (out.new.items ≡ out.old.items ++ line_text (state_line state labels.now)) }
+    ensures text { OnOk result (out.new.items ≡ out.old.items ++ line_text (state_line state labels.now)) }
+    ensures named { OnOk result (All IsName labels.now) }
 {
     write_word(out, b"state")?;
     write_next_number(out, state as u64)?;
@@ -60,7 +64,8 @@ fn write_state(out: &mut Vec<u8>, state: usize, labels: &[Name]) -> Result<(), N
 }
 
 fn write_edges(out: &mut Vec<u8>, edges: &[Edge]) -> Result<(), NoMemory>
-    ensures { OnOk result (out.new.items ≡ out.old.items ++ text_of (map edge_line edges.now)) }
+    ensures text { OnOk result (out.new.items ≡ out.old.items ++ text_of (map edge_line edges.now)) }
+    ensures named { OnOk result (All (λ e. IsAction e.action) edges.now) }
 {
     for edge in edges {
         write_edge(out, edge)?;
@@ -69,7 +74,8 @@ fn write_edges(out: &mut Vec<u8>, edges: &[Edge]) -> Result<(), NoMemory>
 }
 
 fn write_edge(out: &mut Vec<u8>, edge: &Edge) -> Result<(), NoMemory>
-    ensures { OnOk result (out.new.items ≡ out.old.items ++ line_text (edge_line edge.now)) }
+    ensures text { OnOk result (out.new.items ≡ out.old.items ++ line_text (edge_line edge.now)) }
+    ensures named { OnOk result (IsAction edge.now.action) }
 {
     write_word(out, b"edge")?;
     write_next_number(out, u64::from(edge.source))?;

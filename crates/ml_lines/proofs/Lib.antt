@@ -4,3 +4,5 @@ pub mod Digits
 pub mod Words
 -- lines written one behind the other
 pub mod Lines
+-- a text has one list of lines
+pub mod Unique

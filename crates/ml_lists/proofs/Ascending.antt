@@ -1,141 +1,139 @@
--- Strictly ascending lists of numbers, by recursion: how one is put together, and that its members determine it.
+-- Ascending lists of numbers, as finite sets.
 --
--- The public word is the library's `IsStrictlyIncreasing`, which goes by places. Proofs by recursion use `Ascends`.
---
---   Above x ys         == x is below each number of ys
---   Ascends xs         == each number of xs is below all that stand behind it
---   ascends_from       == a strictly increasing list ascends
---   increasing_from    == and the other way round
---   ascends_with       == a number in the middle, above what stands before it and below what stands behind
---   ascends_merge      == of two lists with one front, the lesser head goes to the front of both
---   same_members       == ascending lists with the same members are equal
-use Rattle.std.proofs.Common.{◌≡◌, ℕ, ◌<◌, List, [], ◌∷◌, ◌++◌, Contains, refl, sym, subst, ⊎_elim, append_assoc, arith}
-use Rattle.std.specs.List.{AllByRecursion}
-use Rattle.std.specs.List.Sorted.{IsStrictlySortedBy, IsStrictlyIncreasing}
-use Rattle.std.specs.Ordering.{nat_cmp}
-use Rattle.std.specs.Cmp.{nat_cmp_is}
-use Rattle.std.specs.declared.cmp.Ordering.TheVariants.{Less}
-use Rattle.std.proofs.lemmas.Cmp.{ranked}
-use Rattle.std.proofs.lemmas.Map.Keys.{IsStrictlyIncreasing-from_sorted, sorted_from_strictly_increasing}
-use Rattle.ml_lists.proofs.Members.{contains_head, contains_later, contains_cases, contains_none}
+--   member-insert_once, insert_once-member == the set with x has x, and what it had, and nothing else
+--   member-ascending, ascending-member     == the ascending list has the members of the list
+--   ascending-is                           == it is ascending
+--   ascending_same                         == two ascending lists with the same members are one
+--   ascending-apart                        == an earlier entry of an ascending list is below a later one
+use Rattle.std.proofs.Common.{ℕ, ◌≡◌, ◌<◌, ◌⊎◌, inl, inr, arith, true, false, cond, List, [], ◌∷◌, eqb, ltb, refl, sym, subst, ◌∙◌, zero, suc, length, get_or}
+use Rattle.std.proofs.lemmas.Bool.{cases_Bool, cond-true, cond-false, ltb-true, ltb-false, eqb-true, eqb-false}
+use Rattle.ml_lists.specs.Member.{IsMember}
+use Rattle.ml_lists.proofs.Member.{place-member}
+use Rattle.ml_lists.specs.Ascending.{IsAscending, insert_once, ascending}
 
-abbrev pub Above : ℕ → List ℕ → Type 0
-Above x [] = Unit {0}
-Above x (y ∷ ys) = (x < y) × Above x ys
+-- the three forms of the set with x
+module _ (x y : ℕ) (ys : List ℕ) where
+  below : ltb x y ≡ true → insert_once x (y ∷ ys) ≡ x ∷ (y ∷ ys)
+  below t = cond-true (ltb x y) (x ∷ (y ∷ ys)) (cond (eqb x y) (y ∷ ys) (y ∷ insert_once x ys)) t
 
-abbrev pub Ascends : List ℕ → Type 0
-Ascends [] = Unit {0}
-Ascends (x ∷ xs) = Above x xs × Ascends xs
+  same : ltb x y ≡ false → eqb x y ≡ true → insert_once x (y ∷ ys) ≡ y ∷ ys
+  same f t = cond-false (ltb x y) (x ∷ (y ∷ ys)) (cond (eqb x y) (y ∷ ys) (y ∷ insert_once x ys)) f ∙ cond-true (eqb x y) (y ∷ ys) (y ∷ insert_once x ys) t
 
-below_of : (x y : ℕ) → nat_cmp x y ≡ Less → x < y
-below_of x y is = ranked x y Less (sym is)
+  beyond : ltb x y ≡ false → eqb x y ≡ false → insert_once x (y ∷ ys) ≡ y ∷ insert_once x ys
+  beyond f g = cond-false (ltb x y) (x ∷ (y ∷ ys)) (cond (eqb x y) (y ∷ ys) (y ∷ insert_once x ys)) f ∙ cond-false (eqb x y) (y ∷ ys) (y ∷ insert_once x ys) g
 
-less_of : (x y : ℕ) → x < y → nat_cmp x y ≡ Less
-less_of x y below = sym (nat_cmp_is x y Less below)
+-- what the set with x has is x, or was in the set
+pub insert_once-member : (v x : ℕ) (ys : List ℕ) → IsMember v (insert_once x ys) → (v ≡ x) ⊎ IsMember v ys
+insert_once-member v x [] (inl e) = inl e
+insert_once-member v x [] (inr m) = absurd m
+insert_once-member v x (y ∷ ys) m = by_test (insert_once-member v x ys) (cases_Bool (ltb x y)) (cases_Bool (eqb x y))
+  where
+    at_end : (v ≡ x) ⊎ IsMember v ys → (v ≡ x) ⊎ IsMember v (y ∷ ys)
+    at_end (inl e) = inl e
+    at_end (inr i) = inr (inr i)
 
-above_from : (x : ℕ) (ys : List ℕ) → AllByRecursion (λ y. nat_cmp x y ≡ Less) ys → Above x ys
-above_from x [] all = tt
-above_from x (y ∷ ys) all = (below_of x y all.0, above_from x ys all.1)
+    behind : (IsMember v (insert_once x ys) → (v ≡ x) ⊎ IsMember v ys) → IsMember v (y ∷ insert_once x ys) → (v ≡ x) ⊎ IsMember v (y ∷ ys)
+    behind rest (inl e) = inr (inl e)
+    behind rest (inr i) = at_end (rest i)
 
-all_less : (x : ℕ) (ys : List ℕ) → Above x ys → AllByRecursion (λ y. nat_cmp x y ≡ Less) ys
-all_less x [] above = tt
-all_less x (y ∷ ys) above = (less_of x y above.0, all_less x ys above.1)
+    front : IsMember v (x ∷ (y ∷ ys)) → (v ≡ x) ⊎ IsMember v (y ∷ ys)
+    front (inl e) = inl e
+    front (inr i) = inr i
 
-ascends_from_sorted : (xs : List ℕ) → IsStrictlySortedBy nat_cmp xs → Ascends xs
-unfolding IsStrictlySortedBy
-ascends_from_sorted [] sorted = tt
-ascends_from_sorted (x ∷ xs) sorted = (above_from x xs sorted.0, ascends_from_sorted xs sorted.1)
+    by_test : (IsMember v (insert_once x ys) → (v ≡ x) ⊎ IsMember v ys) → (ltb x y ≡ true) ⊎ (ltb x y ≡ false) → (eqb x y ≡ true) ⊎ (eqb x y ≡ false) → (v ≡ x) ⊎ IsMember v (y ∷ ys)
+    by_test rest (inl t) e = front (subst (IsMember v) (below x y ys t) m)
+    by_test rest (inr f) (inl t) = inr (subst (IsMember v) (same x y ys f t) m)
+    by_test rest (inr f) (inr g) = behind rest (subst (IsMember v) (beyond x y ys f g) m)
 
-sorted_from : (xs : List ℕ) → Ascends xs → IsStrictlySortedBy nat_cmp xs
-unfolding IsStrictlySortedBy
-sorted_from [] ascends = tt
-sorted_from (x ∷ xs) ascends = (all_less x xs ascends.0, sorted_from xs ascends.1)
+-- the set with x has x
+pub member-insert_once : (x : ℕ) (ys : List ℕ) → IsMember x (insert_once x ys)
+member-insert_once x [] = inl refl
+member-insert_once x (y ∷ ys) = by_test (member-insert_once x ys) (cases_Bool (ltb x y)) (cases_Bool (eqb x y))
+  where
+    by_test : IsMember x (insert_once x ys) → (ltb x y ≡ true) ⊎ (ltb x y ≡ false) → (eqb x y ≡ true) ⊎ (eqb x y ≡ false) → IsMember x (insert_once x (y ∷ ys))
+    by_test rest (inl t) e = subst (IsMember x) (sym (below x y ys t)) (inl refl)
+    by_test rest (inr f) (inl t) = subst (IsMember x) (sym (same x y ys f t)) (inl (eqb-true x y t))
+    by_test rest (inr f) (inr g) = subst (IsMember x) (sym (beyond x y ys f g)) (inr rest)
 
-pub ascends_from : (xs : List ℕ) → IsStrictlyIncreasing xs → Ascends xs
-ascends_from xs increases = ascends_from_sorted xs (sorted_from_strictly_increasing xs increases)
+-- and what the set had
+pub insert_once-keeps : (v x : ℕ) (ys : List ℕ) → IsMember v ys → IsMember v (insert_once x ys)
+insert_once-keeps v x [] m = absurd m
+insert_once-keeps v x (y ∷ ys) m = by_test (insert_once-keeps v x ys) m (cases_Bool (ltb x y)) (cases_Bool (eqb x y))
+  where
+    by_test : (IsMember v ys → IsMember v (insert_once x ys)) → IsMember v (y ∷ ys) → (ltb x y ≡ true) ⊎ (ltb x y ≡ false) → (eqb x y ≡ true) ⊎ (eqb x y ≡ false) → IsMember v (insert_once x (y ∷ ys))
+    by_test rest i (inl t) e = subst (IsMember v) (sym (below x y ys t)) (inr i)
+    by_test rest i (inr f) (inl t) = subst (IsMember v) (sym (same x y ys f t)) i
+    by_test rest (inl e) (inr f) (inr g) = subst (IsMember v) (sym (beyond x y ys f g)) (inl e)
+    by_test rest (inr i) (inr f) (inr g) = subst (IsMember v) (sym (beyond x y ys f g)) (inr (rest i))
 
-pub increasing_from : (xs : List ℕ) → Ascends xs → IsStrictlyIncreasing xs
-increasing_from xs ascends = IsStrictlyIncreasing-from_sorted xs (sorted_from xs ascends)
+-- the set with x is ascending
+pub insert_once-is : (x : ℕ) (ys : List ℕ) → IsAscending ys → IsAscending (insert_once x ys)
+insert_once-is x [] a = ((λ y m. absurd m), tt)
+insert_once-is x (y ∷ ys) a = by_test (insert_once-is x ys a.1) (cases_Bool (ltb x y)) (cases_Bool (eqb x y))
+  where
+    above_x : x < y → (v : ℕ) → IsMember v (y ∷ ys) → x < v
+    above_x low v (inl e) = omega arith
+    above_x low v (inr i) = let above = a.0 v i in omega arith
 
--- what is below x is below all that x is below
-above_chain : (w x : ℕ) (ys : List ℕ) → w < x → Above x ys → Above w ys
-above_chain w x [] below above = tt
-above_chain w x (y ∷ ys) below above = (omega (arith, above.0), above_chain w x ys below above.1)
+    above_y : y < x → (v : ℕ) → (v ≡ x) ⊎ IsMember v ys → y < v
+    above_y low v (inl e) = omega arith
+    above_y low v (inr i) = a.0 v i
 
-above_with : (w : ℕ) (front : List ℕ) (x : ℕ) (back : List ℕ) → Above w (front ++ back) → w < x → Above w (front ++ x ∷ back)
-above_with w [] x back above below = (below, above)
-above_with w (y ∷ front) x back above below = (above.0, above_with w front x back above.1 below)
+    by_test : IsAscending (insert_once x ys) → (ltb x y ≡ true) ⊎ (ltb x y ≡ false) → (eqb x y ≡ true) ⊎ (eqb x y ≡ false) → IsAscending (insert_once x (y ∷ ys))
+    by_test rest (inl t) e = subst IsAscending (sym (below x y ys t)) (above_x (ltb-true x y t), a)
+    by_test rest (inr f) (inl t) = subst IsAscending (sym (same x y ys f t)) a
+    by_test rest (inr f) (inr g) =
+        let le = ltb-false x y f in
+        let ne = eqb-false x y g in
+        let low : y < x = omega arith in
+        subst IsAscending (sym (beyond x y ys f g)) ((λ v m. above_y low v (insert_once-member v x ys m)), rest)
 
-abbrev pub Below : ℕ → List ℕ → Type 0
-Below x [] = Unit {0}
-Below x (y ∷ ys) = (y < x) × Below x ys
+-- a member of the list is one of the ascending list
+pub member-ascending : (v : ℕ) (xs : List ℕ) → IsMember v xs → IsMember v (ascending xs)
+member-ascending v [] m = absurd m
+member-ascending v (x ∷ xs) (inl e) = subst (λ w. IsMember w (insert_once x (ascending xs))) (sym e) (member-insert_once x (ascending xs))
+member-ascending v (x ∷ xs) (inr m) = insert_once-keeps v x (ascending xs) (member-ascending v xs m)
 
-pub ascends_with : (front : List ℕ) (x : ℕ) (back : List ℕ) → Ascends (front ++ back) → Below x front → Above x back → Ascends (front ++ x ∷ back)
-ascends_with [] x back ascends below above = (above, ascends)
-ascends_with (y ∷ front) x back ascends below above =
-    (above_with y front x back ascends.0 below.0, ascends_with front x back ascends.1 below.1 above)
+-- and the other way round
+pub ascending-member : (v : ℕ) (xs : List ℕ) → IsMember v (ascending xs) → IsMember v xs
+ascending-member v [] m = absurd m
+ascending-member v (x ∷ xs) m = by_part (insert_once-member v x (ascending xs) m) (ascending-member v xs)
+  where
+    by_part : (v ≡ x) ⊎ IsMember v (ascending xs) → (IsMember v (ascending xs) → IsMember v xs) → IsMember v (x ∷ xs)
+    by_part (inl e) rest = inl e
+    by_part (inr i) rest = inr (rest i)
 
--- of an ascending list, what stands before a number is below it, and what stands behind it above
-above_at : (w : ℕ) (front : List ℕ) (x : ℕ) (back : List ℕ) → Above w (front ++ x ∷ back) → w < x
-above_at w [] x back above = above.0
-above_at w (y ∷ front) x back above = above_at w front x back above.1
+-- the ascending list is ascending
+pub ascending-is : (xs : List ℕ) → IsAscending (ascending xs)
+ascending-is [] = tt
+ascending-is (x ∷ xs) = insert_once-is x (ascending xs) (ascending-is xs)
 
-below_front : (front : List ℕ) (x : ℕ) (back : List ℕ) → Ascends (front ++ x ∷ back) → Below x front
-below_front [] x back ascends = tt
-below_front (y ∷ front) x back ascends = (above_at y front x back ascends.0, below_front front x back ascends.1)
+-- an earlier entry of an ascending list is below a later one
+pub ascending-apart : (xs : List ℕ) (j k d : ℕ) → IsAscending xs → j < k → k < length xs → get_or xs j d < get_or xs k d
+ascending-apart [] j k d a low fits = absurd (omega arith)
+ascending-apart (x ∷ xs) j zero d a low fits = absurd (omega arith)
+ascending-apart (x ∷ xs) zero (suc k) d a low fits = a.0 (get_or xs k d) (place-member xs k d (omega arith))
+ascending-apart (x ∷ xs) (suc j) (suc k) d a low fits = ascending-apart xs j k d a.1 (omega arith) (omega arith)
 
-above_back : (front : List ℕ) (x : ℕ) (back : List ℕ) → Ascends (front ++ x ∷ back) → Above x back
-above_back [] x back ascends = ascends.0
-above_back (y ∷ front) x back ascends = above_back front x back ascends.1
+-- two ascending lists with the same members are one
+pub ascending_same : (xs ys : List ℕ) → IsAscending xs → IsAscending ys → ((v : ℕ) → IsMember v xs → IsMember v ys) → ((v : ℕ) → IsMember v ys → IsMember v xs) → xs ≡ ys
+ascending_same [] [] a b to from = refl
+ascending_same [] (y ∷ ys) a b to from = absurd (from y (inl refl))
+ascending_same (x ∷ xs) [] a b to from = absurd (to x (inl refl))
+ascending_same (x ∷ xs) (y ∷ ys) a b to from = λ i. heads i ∷ ascending_same xs ys a.1 b.1 (λ v m. later v (a.0 v m) (to v (inr m))) (λ v m. sooner v (b.0 v m) (from v (inr m))) i
+  where
+    heads : x ≡ y
+    heads = by_place (to x (inl refl)) (from y (inl refl))
+      where
+        by_place : (x ≡ y) ⊎ IsMember x ys → (y ≡ x) ⊎ IsMember y xs → x ≡ y
+        by_place (inl same) other = same
+        by_place (inr m) (inl same) = sym same
+        by_place (inr m) (inr k) = let p = b.0 x m in let q = a.0 y k in absurd (omega arith)
 
--- the head of the back, put at the end of the front
-pub ascends_moved : (front : List ℕ) (x : ℕ) (back : List ℕ) → Ascends (front ++ x ∷ back) → Ascends ((front ++ x ∷ []) ++ back)
-ascends_moved front x back ascends = subst Ascends (sym (append_assoc front (x ∷ []) back)) ascends
+    later : (v : ℕ) → x < v → (v ≡ y) ⊎ IsMember v ys → IsMember v ys
+    later v high (inl same) = let e = heads in absurd (omega arith)
+    later v high (inr m) = m
 
-pub ascends_merge : (front : List ℕ) (x : ℕ) (xs : List ℕ) (y : ℕ) (ys : List ℕ) → x < y → Ascends (front ++ x ∷ xs) → Ascends (front ++ y ∷ ys)
-    → Ascends ((front ++ x ∷ []) ++ (y ∷ ys))
-ascends_merge front x xs y ys below left right =
-    ascends_moved front x (y ∷ ys)
-    (ascends_with front x (y ∷ ys) right (below_front front x xs left) (below, above_chain x y ys below (above_back front y ys right)))
-
--- what a list contains above a number is above it
-above_each : (x : ℕ) (ys : List ℕ) → Above x ys → (z : ℕ) → Contains ys z → x < z
-above_each x [] above z inside = absurd (contains_none z inside)
-above_each x (y ∷ ys) above z inside =
-    ⊎_elim
-    (λ (is : y ≡ z). let below = above.0 in omega arith)
-    (λ (later : Contains ys z). above_each x ys above.1 z later)
-    (contains_cases y ys z inside)
-
-heads_same : (x : ℕ) (xs : List ℕ) (y : ℕ) (ys : List ℕ) → Above x xs → Above y ys → Contains (y ∷ ys) x → Contains (x ∷ xs) y → x ≡ y
-heads_same x xs y ys above_x above_y x_in y_in =
-    ⊎_elim
-    (λ (is : y ≡ x). sym is)
-    (λ (x_later : Contains ys x).
-    ⊎_elim
-    (λ (is : x ≡ y). is)
-    (λ (y_later : Contains xs y).
-    let up = above_each x xs above_x y y_later in
-    let down = above_each y ys above_y x x_later in
-    omega arith)
-    (contains_cases x xs y y_in))
-    (contains_cases y ys x x_in)
-
-tail_within : (x : ℕ) (xs : List ℕ) (y : ℕ) (ys : List ℕ) → Above x xs → x ≡ y → ((z : ℕ) → Contains (x ∷ xs) z → Contains (y ∷ ys) z)
-    → (z : ℕ) → Contains xs z → Contains ys z
-tail_within x xs y ys above same within z inside =
-    ⊎_elim
-    (λ (is : y ≡ z). let up = above_each x xs above z inside in absurd (omega arith))
-    (λ (later : Contains ys z). later)
-    (contains_cases y ys z (within z (contains_later x xs z inside)))
-
-pub same_members : (xs ys : List ℕ) → Ascends xs → Ascends ys → ((z : ℕ) → Contains xs z → Contains ys z) → ((z : ℕ) → Contains ys z → Contains xs z)
-    → xs ≡ ys
-same_members [] [] xs_ascends ys_ascends there back = refl
-same_members [] (y ∷ ys) xs_ascends ys_ascends there back = absurd (contains_none y (back y (contains_head y ys)))
-same_members (x ∷ xs) [] xs_ascends ys_ascends there back = absurd (contains_none x (there x (contains_head x xs)))
-same_members (x ∷ xs) (y ∷ ys) xs_ascends ys_ascends there back =
-    let heads = heads_same x xs y ys xs_ascends.0 ys_ascends.0 (there x (contains_head x xs)) (back y (contains_head y ys)) in
-    let tails = same_members xs ys xs_ascends.1 ys_ascends.1
-    (tail_within x xs y ys xs_ascends.0 heads there) (tail_within y ys x xs ys_ascends.0 (sym heads) back) in
-    λ i. heads i ∷ tails i
+    sooner : (v : ℕ) → y < v → (v ≡ x) ⊎ IsMember v xs → IsMember v xs
+    sooner v high (inl same) = let e = heads in absurd (omega arith)
+    sooner v high (inr m) = m

@@ -1,8 +1,42 @@
+-- how many numbers below a bound pass a test
+pub mod Counting
+-- growing sequences of sets come to rest
+pub mod Growing
+-- lassos, as lists and as sequences
+pub mod Lasso
+-- sequences, and sequences that come back to where they began
+pub mod Loops
+-- the lowest entry of a list of numbers
+pub mod Lowest
+-- the pigeonhole principle
+pub mod Pigeons
+-- reachability along a relation
+pub mod Reach
+-- bounded search
+pub mod Search
+-- lassos as endless sequences
+pub mod Unrolling
+-- a function with one value changed
+pub mod Update
+-- walks of a function, and the lassos that they make
+pub mod Walks
+-- membership of a list
+pub mod Member
+-- a loop in a finite set in which each member has a predecessor
+pub mod Predecessors
+-- a list several times over
+pub mod Repeated
+-- ascending lists of numbers
+pub mod Ascending
+-- the least number that passes a test
+pub mod Least
+-- numbers that pass a test, numbered in their order
+pub mod Ranks
 -- iterates of a function
 pub mod Iterates
 -- what a list contains
 pub mod Members
--- strictly ascending lists of numbers
-pub mod Ascending
+-- strictly increasing lists of numbers, by recursion
+pub mod Increasing
 -- tables: lists with an entry for each number
 pub mod Tables

@@ -1,4 +1,28 @@
+-- how many numbers below a bound pass a test
+pub mod Counting
+-- growing sequences of sets below a bound
+pub mod Growing
+-- a list of numbers with a loop start
+pub mod Lasso
 -- the lowest entry of a list of numbers
 pub mod Lowest
+-- a value that a sequence takes twice
+pub mod Pigeons
+-- reachability along a relation
+pub mod Reach
+-- a number below a bound with a property
+pub mod Search
+-- a function with one value changed
+pub mod Update
+-- what a function gives when it is applied again and again
+pub mod Walk
+-- membership of a list
+pub mod Member
+-- a list several times over
+pub mod Repeated
+-- ascending lists of numbers
+pub mod Ascending
+-- the least number that passes a test
+pub mod Least
 -- iterates of a function
 pub mod Iterate

@@ -20,7 +20,23 @@ pub mod WellFormed
 pub mod FormulaCode
 -- the head of a document
 pub mod Head
--- the first texts that are read
-pub mod FirstText
--- how they are read
-pub mod FirstReading
+-- the signs of texts
+pub mod Signs
+-- the grammar of texts
+pub mod Grammar
+-- the grammar as tables
+pub mod Tables
+-- texts as items
+pub mod Text
+-- variables at fault
+pub mod VariableFaults
+-- what is parsed, and what is refused
+pub mod Parsing
+-- the signs that the program holds
+pub mod SignViews
+-- the forms and states that the program holds
+pub mod FormViews
+-- what is read of a text
+pub mod ReadingViews
+-- how the program holds binders and standings
+pub mod VariableViews

@@ -40,7 +40,8 @@ impl Formula {
 
     /// The tree of the formula.
     pub fn root(&self) -> &Term
-        ensures { formula_of result.now ≡ self.now }
+        ensures tree { formula_of result.now ≡ self.now }
+        ensures well_formed { IsWellFormed self.now }
     {
         &self.root
     }

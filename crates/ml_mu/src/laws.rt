@@ -1,9 +1,31 @@
-// Laws of meanings, over the definitions alone: no caller runs these functions, their contracts are the theorems.
+// What holds of texts, formulas and meanings by their definitions alone. The functions do nothing.
 ghost use Rattle.std.specs.Prelude.{◌≡◌, ℕ, true, List, [], ◌∷◌, length};
 ghost use Rattle.ml_base.specs.Structure.{Structure, StateSet, is_member};
 ghost use Rattle.ml_mu.specs.Formula.{Formula, Binder, Fixpoint, Least, Greatest};
 ghost use Rattle.ml_mu.specs.Meaning.{meaning};
 ghost use Rattle.ml_mu.specs.Variables.{is_positive};
+ghost use Rattle.ml_mu.specs.Parsing.{ParsedAreWellFormed, ParsedOrRefused, RefusedOnce, StandForOne};
+
+/// A text stands for one formula at most, by the grammar alone.
+#[tactic(auto, using(crate::proofs::OneAnswer::one_formula))]
+pub fn one_formula()
+    ensures { StandForOne }
+{}
+
+/// A text is parsed or refused, never both, and but for want of memory it is refused in one way at most. So `parse`
+/// answers each exactly where it is said to come.
+#[tactic(auto, using(crate::proofs::OneAnswer::parsed_or_refused, crate::proofs::OneAnswer::refused_one_way))]
+pub fn one_answer()
+    ensures parsed { ParsedOrRefused }
+    ensures refused { RefusedOnce }
+{}
+
+/// What a text is parsed as is well formed: small, with names spelled as they must be, and with bound and positive
+/// variables.
+#[tactic(auto, using(crate::proofs::Parsed::parsed_well))]
+pub fn parsed_are_well_formed()
+    ensures { ParsedAreWellFormed }
+{}
 
 /// The meaning of a formula is a set of states: it has one flag for each.
 #[tactic(auto, using(crate::proofs::MeaningFlags::closed_flags))]

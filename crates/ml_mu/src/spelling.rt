@@ -4,13 +4,24 @@ ghost use Rattle.std.specs.List.{list_all};
 ghost use Rattle.ml_text.specs.Bytes as byte;
 ghost use Rattle.ml_mu.specs.Spelling as spelling;
 
-use ml_text::{is_lower, is_word_byte};
+use ml_text::{is_lower, is_upper, is_word_byte};
 
 /// Is this word a proposition: does it begin with a lower-case letter, and isn't it reserved?
 pub(crate) fn is_proposition(word: &[u8]) -> bool
     ensures { result ≡ spelling.is_proposition word.now }
 {
     is_lower_word(word) && !is_reserved(word)
+}
+
+/// Is this word a variable: does it begin with an upper-case letter?
+#[tactic(auto, using(crate::proofs::Words::is_word_from_parts))]
+pub(crate) fn is_variable(word: &[u8]) -> bool
+    ensures { result ≡ spelling.is_variable word.now }
+{
+    match word {
+        [] => false,
+        [first, rest @ ..] => is_upper(*first) && are_word_bytes(rest),
+    }
 }
 
 // a word that begins with a lower-case letter

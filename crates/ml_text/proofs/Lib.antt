@@ -14,3 +14,17 @@ pub mod Cover
 pub mod NextToken
 -- the tokens of a text that is put together from pieces
 pub mod Pieces
+-- levels of operators
+pub mod Levels
+-- the machine finds what a text stands for
+pub mod Complete
+-- what the machine finds, the text stands for
+pub mod Sound
+-- signs that begin a text, and signs that begin none
+pub mod Viable
+-- what comes of a text within limits is exact
+pub mod Exact
+-- a step, split as a program does it
+pub mod Reduce
+-- a text has one answer
+pub mod OneAnswer

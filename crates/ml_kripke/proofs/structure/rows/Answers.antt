@@ -1,8 +1,6 @@
-use Rattle.std.proofs.Common.{◌≡◌, ◌<◌, List, ℕ, length, map, get_or, sym, ap, ◌∙◌, arith}
-use Rattle.std.specs.List.{range_with_len}
+use Rattle.std.proofs.Common.{◌≡◌, ◌∙◌, arith}
 use Rattle.std.proofs.lemmas.Iterator.Adapters.{YieldsList-from_vec}
 use Rattle.std.proofs.lemmas.Iterator.Consumers.{YieldsList-turn}
-use Rattle.ml_kripke.specs.Ordered.{labels_at}
 use Rattle.ml_kripke.proofs.Rows.{rows_none, length_rows, row_pushed, label_in_range}
 use Rattle.ml_kripke.proofs.structure.rows.Goals as goal
 
@@ -21,6 +19,9 @@ index_mut-requires c =
 pub loop-state-preserved : goal.loop-state-preserved
 loop-state-preserved c =
     let turn = YieldsList-turn (YieldsList-from_vec c.args.labels.items (cc) (cc)) c.loop-state.yielded c.loop-state.state-iterator c.loop-state.yielded_by c.next.result c.next.new.self (c.in-Some.state, c.in-Some.label) c.in-Some.is c.next.ensures.steps in
-    let below = label_in_range c.args.labels.items c.args.states _ (c.in-Some.state, c.in-Some.label) c.requires turn.0 turn.1 in
-    (tt, tt, row_pushed (λ row. row.items) c.loop-state.rows.items c.loop-state.yielded c.args.states c.in-Some.state c.in-Some.label
-      c.index_mut.result.now c.push-in-loop-state.new.self below c.loop-state.invariant.2 c.index_mut.ensures.value c.in_ok-push-2.ensures.items)
+    let below = label_in_range c.args.labels.items c.args.states _ (c.in-Some.state, c.in-Some.label) c.requires turn.0 turn.1 in (
+      tt,
+      tt,
+      row_pushed (λ row. row.items) c.loop-state.rows.items c.loop-state.yielded c.args.states c.in-Some.state c.in-Some.label
+          c.index_mut.result.now c.push-in-loop-state.new.self below c.loop-state.invariant.2 c.index_mut.ensures.value c.in_ok-push-2.ensures.items,
+    )

@@ -1,0 +1,205 @@
+// The worked rows, over sources and sinks in memory.
+ghost use Rattle.std.specs.Prelude.{◌≤◌};
+
+use crate::{Status, run};
+use ml_base::{MemSink, MemSource};
+use std::alloc::{AllocError, Global};
+use std::test::Fail;
+
+const LITERALS: &str =
+    "mlsolver 1\nanswer satisfiable\nlogic mu\nsense plain\nformula (p & !q)\nstates 1\nstart 0\nstate 0 p\nend\n";
+
+fn words_of(alloc: Global, line: &str) -> Result<Vec<String>, AllocError> {
+    let mut words = Vec::new(alloc);
+    for word in line.split_whitespace() {
+        words.push(String::from_str(alloc, word)?)?;
+    }
+    Ok(words)
+}
+
+// the status of a call, with its output
+fn answer(
+    alloc: Global,
+    words: &str,
+    text: &[u8],
+    piece: u32,
+    read_fails: &[u64],
+    write_fails: &[u64],
+) -> Result<(u8, Vec<u8>), Fail>
+    requires { 1 ≤ piece }
+{
+    let words = words_of(alloc, words)?;
+    let mut source = MemSource::new(
+        Vec::from_slice(alloc, text)?,
+        piece,
+        Vec::from_slice(alloc, read_fails)?,
+    );
+    let mut sink = MemSink::new(alloc, piece, Vec::from_slice(alloc, write_fails)?, 4096)?;
+    let status = run(alloc, &words, &mut source, &mut sink);
+    Ok((status.code(), Vec::from_slice(alloc, sink.taken())?))
+}
+
+#[test]
+fn texts(rt: HostRuntime) -> Result<(), Fail> {
+    let rows = [
+        ("decide mu", "p & !q", 0, LITERALS),
+        ("decide mu", "p&!q\n", 0, LITERALS),
+        (
+            "decide mu",
+            " \t!q\r& p",
+            0,
+            "mlsolver 1\nanswer satisfiable\nlogic mu\nsense plain\nformula (!q & p)\nstates 1\nstart 0\nstate 0 p\nend\n",
+        ),
+        (
+            "decide mu",
+            "b & a & !c & aa",
+            0,
+            "mlsolver 1\nanswer satisfiable\nlogic mu\nsense plain\nformula (((b & a) & !c) & aa)\nstates 1\nstart 0\nstate 0 a aa b\nend\n",
+        ),
+        (
+            "decide mu",
+            "!p",
+            0,
+            "mlsolver 1\nanswer satisfiable\nlogic mu\nsense plain\nformula !p\nstates 1\nstart 0\nstate 0\nend\n",
+        ),
+        (
+            "decide mu",
+            "tt",
+            0,
+            "mlsolver 1\nanswer satisfiable\nlogic mu\nsense plain\nformula tt\nstates 1\nstart 0\nstate 0\nend\n",
+        ),
+        (
+            "decide mu",
+            "p && q /\\ r",
+            0,
+            "mlsolver 1\nanswer satisfiable\nlogic mu\nsense plain\nformula ((p & q) & r)\nstates 1\nstart 0\nstate 0 p q r\nend\n",
+        ),
+        (
+            "decide mu",
+            "~(p | q)",
+            0,
+            "mlsolver 1\nanswer satisfiable\nlogic mu\nsense plain\nformula !(p | q)\nstates 1\nstart 0\nstate 0\nend\n",
+        ),
+        (
+            "decide mu",
+            "p & (p -> q)",
+            0,
+            "mlsolver 1\nanswer satisfiable\nlogic mu\nsense plain\nformula (p & (p -> q))\nstates 1\nstart 0\nstate 0 p q\nend\n",
+        ),
+        (
+            "decide mu",
+            "(p <-> q) & !p & (q | r)",
+            0,
+            "mlsolver 1\nanswer satisfiable\nlogic mu\nsense plain\nformula (((p <-> q) & !p) & (q | r))\nstates 1\nstart 0\nstate 0 r\nend\n",
+        ),
+        (
+            "decide mu",
+            "ff | p",
+            0,
+            "mlsolver 1\nanswer satisfiable\nlogic mu\nsense plain\nformula (ff | p)\nstates 1\nstart 0\nstate 0 p\nend\n",
+        ),
+        (
+            "decide mu",
+            "p & !p",
+            1,
+            "mlsolver 1\nanswer unsatisfiable\nlogic mu\nsense plain\nformula (p & !p)\nend\n",
+        ),
+        (
+            "decide mu",
+            "ff",
+            1,
+            "mlsolver 1\nanswer unsatisfiable\nlogic mu\nsense plain\nformula ff\nend\n",
+        ),
+        (
+            "decide mu",
+            "!(p -> (q -> p))",
+            1,
+            "mlsolver 1\nanswer unsatisfiable\nlogic mu\nsense plain\nformula !(p -> (q -> p))\nend\n",
+        ),
+        (
+            "decide mu",
+            "(p | q) & (p -> r) & (q -> r) & !r",
+            1,
+            "mlsolver 1\nanswer unsatisfiable\nlogic mu\nsense plain\nformula ((((p | q) & (p -> r)) & (q -> r)) & !r)\nend\n",
+        ),
+        ("decide mu", "<>p", 4, "refused form\n"),
+        ("decide mu", "[] ff", 4, "refused form\n"),
+        ("decide mu", "nu X. X", 4, "refused form\n"),
+        (
+            "decide mu",
+            "a&b&c&d&e&f&g&h&i&j&k&l&m&n&o&p&q",
+            4,
+            "refused form\n",
+        ),
+        ("decide mu", "p q", 4, "refused text rule 1 at 2\n"),
+        ("decide mu", "p &", 4, "refused text rule 1 at 3\n"),
+        ("decide mu", "", 4, "refused text rule 1 at 0\n"),
+        ("decide mu", "X", 4, "refused text rule 2 at 0\n"),
+        ("decide mu", "mu X. !X", 4, "refused text rule 3 at 7\n"),
+        ("decide", "p", 3, "refused words\n"),
+        ("decide mu mu", "p", 3, "refused words\n"),
+        ("decide mu --limit 0", "p", 3, "refused words\n"),
+        ("decide mu --limit 200001", "p", 3, "refused words\n"),
+        ("decide s4", "p", 3, "refused words\n"),
+        ("", "p", 3, "refused words\n"),
+    ];
+    for (words, text, status, output) in rows {
+        for in_one_piece in [false, true] {
+            let piece = if in_one_piece { 100_000 } else { 1 };
+            let (code, taken) = answer(rt.alloc(), words, text.as_bytes(), piece, &[], &[])?;
+            assert_eq!(rt; code, status, "{words}: {text}");
+            assert_eq!(rt; taken.as_slice(), output.as_bytes(), "{words}: {text}");
+        }
+    }
+    Ok(())
+}
+
+#[test]
+fn lengths(rt: HostRuntime) -> Result<(), Fail> {
+    let rows = [
+        (
+            b"p".as_slice(),
+            b" & p".as_slice(),
+            499,
+            b"".as_slice(),
+            0,
+            b"".as_slice(),
+        ),
+        (b"p", b" & p", 500, b"", 4, b"refused text rule 4 at 2000\n"),
+        (b"", b"(", 1001, b"p", 4, b"refused text rule 5 at 1000\n"),
+        (b"", b"p", 64, b"", 0, b""),
+        (b"", b"p", 65, b"", 4, b"refused text rule 6 at 0\n"),
+        (b"", b" ", 1_048_575, b"p", 0, b""),
+        (b"", b" ", 1_048_577, b"", 4, b"refused length\n"),
+    ];
+    for (front, middle, times, back, status, output) in rows {
+        let mut text = Vec::from_slice(rt.alloc(), front)?;
+        for _ in 0..times {
+            text.extend_from_slice(middle)?;
+        }
+        text.extend_from_slice(back)?;
+        let (code, taken) = answer(rt.alloc(), "decide mu", &text, 100_000, &[], &[])?;
+        assert_eq!(rt; code, status);
+        if status == 4 {
+            assert_eq!(rt; taken.as_slice(), output);
+        }
+    }
+    Ok(())
+}
+
+#[test]
+fn faults(rt: HostRuntime) -> Result<(), Fail> {
+    let text = b"p & !q";
+    let (code, taken) = answer(rt.alloc(), "decide mu", text, 10, &[2], &[])?;
+    assert_eq!(rt; code, 5);
+    assert_eq!(rt; taken.len(), 0);
+    let (code, taken) = answer(rt.alloc(), "decide mu", text, 10, &[], &[2])?;
+    assert_eq!(rt; code, 6);
+    assert_eq!(rt; taken.as_slice(), b"mlsolver 1".as_slice());
+    let (code, taken) = answer(rt.alloc(), "decide", text, 10, &[1], &[1])?;
+    assert_eq!(rt; code, 6);
+    assert_eq!(rt; taken.len(), 0);
+    assert_eq!(rt; Status::NoMemory.code(), 7);
+    assert_eq!(rt; Status::Unconfirmed.code(), 8);
+    Ok(())
+}

@@ -1,0 +1,46 @@
+-- offers along a letter
+pub mod Offers
+-- the order of offers
+pub mod Best
+-- what the targets take
+pub mod Taken
+-- stacks cut after a name
+pub mod Cut
+-- names of items: which stand, which end a stack, how many are in use
+pub mod Names
+-- stacks that are offered
+pub mod OfferedStacks
+-- the mark, by the least red and the least green name
+pub mod StepMark
+-- one step: where items behind it come from
+pub mod OneStep
+-- the first law
+pub mod FirstLaw
+-- the stacks that a run meets
+pub mod Follow
+-- a constant front of the stacks round a loop
+pub mod ConstantFront
+-- one step at a constant front
+pub mod FrontStep
+-- the second law
+pub mod SecondLaw
+-- the step of a stack along a transition
+pub mod StackStep
+-- one step satisfies the condition on names
+pub mod StepNames
+-- stacks renumbered in their order
+pub mod Renumber
+-- a step leads from a history to a history
+pub mod StepKeeps
+-- worked steps, computed from the definition
+pub mod WorkedSteps
+-- the parts of the plain step on single stacks
+pub mod PlainStacks
+-- the parts of the plain step on lists of items
+pub mod PlainItems
+-- what the targets take, one offer at a time
+pub mod Putting
+-- the plain step: bounds, and its parts together
+pub mod PlainStep
+-- letters stand for sets
+pub mod LetterSets

@@ -1,0 +1,30 @@
+// Laws over the definitions of the trace automaton and the history step alone. Each stands on a function that does
+// nothing.
+ghost use Rattle.ml_history.specs.CycleLaws.{StepsAreHistories, StepsTraceNames, LettersAreSets, OddMarkHasRun, RunHasOddMark};
+
+/// The start is a history, and a step leads from a history to a history.
+pub fn steps_are_histories()
+    ensures { StepsAreHistories }
+{}
+
+/// Letters stand for sets: neither the order nor repeats of their transitions change a step or its mark.
+pub fn letters_are_sets()
+    ensures { LettersAreSets }
+{}
+
+/// Each step of a history satisfies the condition on names that a refutation is checked for.
+pub fn steps_trace_names()
+    ensures { StepsTraceNames }
+{}
+
+/// The first cycle law: for every history and every nonempty word whose steps lead from it back to it, if the lowest mark
+/// of these steps is odd, some state with a stack in the history has an accepting run to itself along the word, one or
+/// more times over.
+pub fn odd_mark_has_run()
+    ensures { OddMarkHasRun }
+{}
+
+/// The second cycle law: if there is such a run, the lowest mark is odd.
+pub fn run_has_odd_mark()
+    ensures { RunHasOddMark }
+{}

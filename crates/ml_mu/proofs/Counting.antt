@@ -1,0 +1,147 @@
+-- What a text counts is what its formula has: occurrences and variables.
+--
+--   count_signs silent ts      == the occurrences that the signs count
+--   variable_words silent ts   == the variables among the signs
+--   variables f                == the variables of f, in the order of the text
+--   counted_items              == the items of a text count what its signs do
+--   counts                     == the occurrences of a formula are those of its text
+--   words_are_variables        == the variables of a formula are those of its text
+use Rattle.std.proofs.Common.{◌≡◌, ℕ, suc, ◌+◌, ◌-◌, ◌≤◌, Bool, true, false, ◌&&◌, List, [], ◌∷◌, ◌++◌, length, map, Option, Some, None, refl, sym, ◌∙◌, ap, subst, arith, if◌then◌else◌, cond, codes, append_assoc, length-append}
+use Rattle.std.proofs.lemmas.Bool.{and_from, cond-true, cond-false}
+use Rattle.ml_text.specs.declared.token.Operator.{Operator}
+use Rattle.ml_text.specs.declared.token.Operator.TheVariants as operator
+use Rattle.ml_text.specs.declared.token.Token.{Token}
+use Rattle.ml_text.specs.declared.token.Token.TheVariants as token
+use Rattle.ml_text.specs.declared.token.Placed.{Placed}
+use Rattle.ml_text.specs.Words.{constant_of}
+use Rattle.ml_text.specs.Refusals.{Item, signs_of, counted}
+use Rattle.ml_mu.specs.Formula as plain
+use Rattle.ml_mu.specs.Formula.{Formula, occurrences, weight}
+use Rattle.ml_mu.specs.Signs.{Sign, Not, Connective, Const, Open, Close, Begins, Ends, Binds, Dot, Blank, Lower, Upper, Unknown, action_of, sign_of, byte_sign, word_sign, word_sign_by, name_sign}
+use Rattle.ml_mu.specs.Grammar as grammar
+use Rattle.ml_mu.specs.Grammar.{Reads, iff_alone, iff, imp_alone, imp, or_alone, or, and_alone, and, negation, modal, modal_blank, binder, group, constant, proposition, variable}
+use Rattle.ml_mu.specs.Spelling.{is_proposition, is_variable, is_action, is_spelled, is_word_from, is_reserved}
+use Rattle.ml_mu.specs.Text.{weight_of, silences, item_by, sign_at, items_from, places_from, with_place}
+use Rattle.ml_mu.specs.VariableFaults.{Standing, Fine, Unbound, NotPositive, Around, standing_of, standings_in, standings, fault_at}
+
+-- ---- occurrences
+
+abbrev pub count_signs : Bool → List Sign → ℕ
+count_signs silent [] = 0
+count_signs silent (t ∷ ts) = (if silent then 0 else weight_of t) + count_signs (silences t) ts
+
+pub counted_items : (text : List ℕ) (silent : Bool) (ps : List Placed) → counted (items_from text silent ps) ≡ count_signs silent (signs_of (items_from text silent ps))
+counted_items text silent [] = refl
+counted_items text silent (p ∷ ps) =
+    let here = Rattle.std.proofs.lemmas.List.Sums.sum_by-cons (λ (i : Item Sign). i.weight) (item_by silent (sign_at text p) p) (items_from text (silences (sign_at text p)) ps) in
+    let later = counted_items text (silences (sign_at text p)) ps in
+    omega (arith, here, later)
+
+-- a sign that is an action silences nothing
+action_silences : (s : Sign) (a : List ℕ) → action_of s ≡ Some a → silences s ≡ false
+action_silences Blank a is = refl
+action_silences (Lower b) a is = refl
+action_silences (Upper b) a is = refl
+action_silences _ a is = absurd (cc)
+
+count_modal : (m : plain.Modality) (s : Sign) (a : List ℕ) (ts : List Sign) → action_of s ≡ Some a → count_signs false (Begins m ∷ s ∷ Ends m ∷ ts) ≡ 1 + count_signs false ts
+count_modal m s a ts is =
+    let next = ap (λ b. count_signs b (Ends m ∷ ts)) (action_silences s a is) in
+    omega (arith, next)
+
+pub counts : {l : grammar.Level} {ts rest : List Sign} {f : Formula} → Reads l ts f rest → count_signs false ts ≡ occurrences f + count_signs false rest
+counts (iff_alone r) = counts r
+counts (iff a b) = let x = counts a in let y = counts b in omega (arith, x, y)
+counts (imp_alone r) = counts r
+counts (imp a b) = let x = counts a in let y = counts b in omega (arith, x, y)
+counts (or_alone r) = counts r
+counts (or a b) = let x = counts a in let y = counts b in omega (arith, x, y)
+counts (and_alone r) = counts r
+counts (and a b) = let x = counts a in let y = counts b in omega (arith, x, y)
+counts (negation r) = let x = counts r in omega (arith, x)
+counts (modal {ts = ts} m a s is r) = let x = counts r in let y = count_modal m s a ts is in omega (arith, x, y)
+counts (modal_blank m r) = let x = counts r in omega (arith, x)
+counts (binder q x r e) = let y = counts r in omega (arith, y)
+counts (group r) = let x = counts r in omega (arith, x)
+counts (constant b) = omega arith
+counts (proposition p) = omega arith
+counts (variable x) = omega arith
+
+-- ---- variables
+
+abbrev pub with_word : Bool → Sign → List (List ℕ) → List (List ℕ)
+with_word false (Upper x) words = x ∷ words
+with_word _ _ words = words
+
+abbrev pub variable_words : Bool → List Sign → List (List ℕ)
+variable_words silent [] = []
+variable_words silent (t ∷ ts) = with_word silent t (variable_words (silences t) ts)
+
+abbrev pub variables : Formula → List (List ℕ)
+variables (plain.Const b) = []
+variables (plain.Prop p) = []
+variables (plain.Var x) = x ∷ []
+variables (plain.Not f) = variables f
+variables (plain.Binary o f g) = variables f ++ variables g
+variables (plain.Modal m a f) = variables f
+variables (plain.Binder q x f) = variables f
+
+words_modal : (m : plain.Modality) (s : Sign) (a : List ℕ) (ts : List Sign) → action_of s ≡ Some a → variable_words false (Begins m ∷ s ∷ Ends m ∷ ts) ≡ variable_words false ts
+words_modal m Blank a ts is = refl
+words_modal m (Lower b) a ts is = refl
+words_modal m (Upper b) a ts is = refl
+words_modal m _ a ts is = absurd (cc)
+
+words_both : (f g words later rest : List (List ℕ)) → words ≡ f ++ later → later ≡ g ++ rest → words ≡ (f ++ g) ++ rest
+words_both f g words later rest a b = a ∙ ap (λ w. f ++ w) b ∙ sym (append_assoc f g rest)
+
+pub words_are_variables : {l : grammar.Level} {ts rest : List Sign} {f : Formula} → Reads l ts f rest → variable_words false ts ≡ variables f ++ variable_words false rest
+words_are_variables (iff_alone r) = words_are_variables r
+words_are_variables (iff a b) = words_both _ _ _ _ _ (words_are_variables a) (words_are_variables b)
+words_are_variables (imp_alone r) = words_are_variables r
+words_are_variables (imp a b) = words_both _ _ _ _ _ (words_are_variables a) (words_are_variables b)
+words_are_variables (or_alone r) = words_are_variables r
+words_are_variables (or a b) = words_both _ _ _ _ _ (words_are_variables a) (words_are_variables b)
+words_are_variables (and_alone r) = words_are_variables r
+words_are_variables (and a b) = words_both _ _ _ _ _ (words_are_variables a) (words_are_variables b)
+words_are_variables (negation r) = words_are_variables r
+words_are_variables (modal {ts = ts} m a s is r) = words_modal m s a ts is ∙ words_are_variables r
+words_are_variables (modal_blank m r) = words_are_variables r
+words_are_variables (binder q x r e) = words_are_variables r
+words_are_variables (group r) = words_are_variables r
+words_are_variables (constant b) = refl
+words_are_variables (proposition p) = refl
+words_are_variables (variable x) = refl
+
+-- as many places as words, and as many standings as variables
+place_one : (silent : Bool) (s : Sign) (at : ℕ) (places : List ℕ) (words : List (List ℕ)) → length places ≡ length words → length (with_place silent s at places) ≡ length (with_word silent s words)
+place_one false (Upper x) at places words same = ap suc same
+place_one true (Upper x) at places words same = same
+place_one false _ at places words same = same
+place_one true _ at places words same = same
+
+pub length-places : (silent : Bool) (is : List (Item Sign)) → length (places_from silent is) ≡ length (variable_words silent (signs_of is))
+length-places silent [] = refl
+length-places silent (i ∷ is) = place_one silent i.sign i.at (places_from (silences i.sign) is) (variable_words (silences i.sign) (signs_of is)) (length-places (silences i.sign) is)
+
+standings_both : {A B : Type 0} (a b : List A) (x y : List B) → length a ≡ length x → length b ≡ length y → length (a ++ b) ≡ length (x ++ y)
+standings_both a b x y p q = omega (arith, length-append a b, length-append x y, p, q)
+
+pub length-standings : (bs : List Around) (n i : ℕ) (f : Formula) → length (standings_in bs n i f) ≡ length (variables f)
+length-standings bs n i (plain.Const b) = refl
+length-standings bs n i (plain.Prop p) = refl
+length-standings bs n i (plain.Var x) = refl
+length-standings bs n i (plain.Not f) = length-standings bs (n + 1) i f
+length-standings bs n i (plain.Binary operator.And f g) = standings_both _ _ _ _ (length-standings bs n i f) (length-standings bs n i g)
+length-standings bs n i (plain.Binary operator.Or f g) = standings_both _ _ _ _ (length-standings bs n i f) (length-standings bs n i g)
+length-standings bs n i (plain.Binary operator.Implies f g) = standings_both _ _ _ _ (length-standings bs (n + 1) i f) (length-standings bs n i g)
+length-standings bs n i (plain.Binary operator.Iff f g) = standings_both _ _ _ _ (length-standings bs n (i + 1) f) (length-standings bs n (i + 1) g)
+length-standings bs n i (plain.Modal m a f) = length-standings bs n i f
+length-standings bs n i (plain.Binder q x f) = length-standings (record { name = x; negations = n; iffs = i } ∷ bs) n i f
+
+-- where no place is left, no variable is at fault
+pub no_place : (ss : List Standing) → fault_at ss [] ≡ None
+no_place [] = refl
+no_place (Fine ∷ ss) = refl
+no_place (Unbound ∷ ss) = refl
+no_place (NotPositive ∷ ss) = refl

@@ -1,0 +1,113 @@
+-- From what the reader found to what `parse` answers.
+--
+--   comes_of         == what comes of a text is right by the grammar of mu
+--   found_accepted   == a formula that is found is accepted
+--   refused_first    == a refusal comes first
+--   accepted_small   == an accepted formula keeps the limit on occurrences, and its names are spelled
+--   accepted_fine    == an accepted formula without faults is well formed
+--   fault_refused    == a fault of a variable that was found is the answer
+--   found_parsed     == where none was found, the text is parsed
+--   parsed_well      == what is parsed is well formed
+use Rattle.std.proofs.Common.{◌≡◌, ℕ, suc, ◌+◌, ◌≤◌, Bool, true, false, List, [], ◌∷◌, ◌++◌, length, Option, Some, None, refl, sym, ◌∙◌, ap, subst, arith, MatchResult, Result, Ok, Err}
+use Rattle.std.proofs.lemmas.List.{append-nil}
+use Rattle.ml_base.specs.declared.parse_refusal.ParseRefusal.{ParseRefusal}
+use Rattle.ml_base.specs.declared.parse_refusal.ParseRefusal.TheVariants as refusal
+use Rattle.ml_text.specs.declared.token.WordStart.TheVariants.{AnyLetter}
+use Rattle.ml_text.specs.Tokens.{tokens}
+use Rattle.ml_text.specs.Refusals.{Item, Cause, Syntax, TooMany, TooNested, NameTooLong, IsAccepted, signs_of, counted}
+use Rattle.ml_text.specs.Reading.{Outcome, Found, Refused, text_outcome}
+use Rattle.ml_text.proofs.Exact.{Fits, IsOutcome, exact, few_items}
+use Rattle.ml_mu.specs.Formula.{Formula, occurrences}
+use Rattle.ml_mu.specs.Grammar.{IsReadAs}
+use Rattle.ml_mu.specs.Parsing.{IsParsedAs, IsRefusedBy, ComesFirst, HasFault}
+use Rattle.ml_mu.specs.ReadingViews.{IsRefusal}
+use Rattle.ml_mu.specs.Spelling.{is_spelled}
+use Rattle.ml_mu.specs.Tables.{mu_grammar}
+use Rattle.ml_mu.specs.Text.{items, variable_places}
+use Rattle.ml_mu.specs.VariableFaults.{Standing, Fine, Unbound, NotPositive, standings, fault_at, are_fine}
+use Rattle.ml_mu.specs.VariableViews.{IsFaultOf}
+use Rattle.ml_mu.specs.WellFormed.{IsWellFormed}
+use Rattle.ml_mu.proofs.Counting.{counts, counted_items, count_signs, words_are_variables, variable_words, variables, length-places, length-standings}
+use Rattle.ml_mu.proofs.Fine.{IsWellBound, fine_well}
+use Rattle.ml_mu.proofs.MuGrammar.{mu_regular, mu_completable, stands_read, read_stands}
+use Rattle.ml_mu.proofs.Spelled.{items_spelled, reads_spelled}
+
+pub mu_fits : Fits mu_grammar IsReadAs
+mu_fits = record { regular = mu_regular; completable = mu_completable; to = read_stands; from = stands_read }
+
+abbrev pub mu_outcome : List ℕ → Outcome Formula
+mu_outcome text = text_outcome mu_grammar (length text) (items text)
+
+pub comes_of : (text : List ℕ) → IsOutcome mu_grammar IsReadAs (items text) (length text) (mu_outcome text)
+comes_of text = exact mu_grammar IsReadAs mu_fits (items text) (length text)
+
+pub found_accepted : (text : List ℕ) (f : Formula) → mu_outcome text ≡ Found f → IsAccepted IsReadAs (items text) f
+found_accepted text f is = subst (IsOutcome mu_grammar IsReadAs (items text) (length text)) is (comes_of text)
+
+comes_first : (text : List ℕ) (c : Cause) (at : ℕ) → mu_outcome text ≡ Refused c at → ComesFirst text c at
+comes_first text c at is = subst (IsOutcome mu_grammar IsReadAs (items text) (length text)) is (comes_of text)
+
+pub refused_first : (text : List ℕ) (e : ParseRefusal) → IsRefusal e (mu_outcome text) → IsRefusedBy text e
+refused_first text (refusal.Syntax at) is = comes_first text Syntax at is
+refused_first text (refusal.TooMany at) is = comes_first text TooMany at is
+refused_first text (refusal.TooNested at) is = comes_first text TooNested at is
+refused_first text (refusal.NameTooLong at) is = comes_first text NameTooLong at is
+refused_first text (refusal.Unbound at) is = absurd is
+refused_first text (refusal.NotPositive at) is = absurd is
+refused_first text refusal.NoMemory is = tt
+
+pub accepted_small : (text : List ℕ) (f : Formula) → IsAccepted IsReadAs (items text) f → occurrences f ≤ 1000
+accepted_small text f accepted =
+    let few = few_items (items text) (λ k fault. accepted.keeps TooMany k fault) in
+    let same = counted_items text false (tokens AnyLetter text) in
+    let has = counts accepted.stands in
+    omega (arith, few, same, has)
+
+pub accepted_fine : (text : List ℕ) (f : Formula) → IsAccepted IsReadAs (items text) f → are_fine (standings f) ≡ true → IsWellFormed f
+accepted_fine text f accepted fine =
+    let w : IsWellBound f = fine_well f fine in
+    record {
+      is_small = accepted_small text f accepted;
+      names_are_spelled = (reads_spelled accepted.stands (items_spelled text false (tokens AnyLetter text))).0;
+      variables_are_bound = w.bound;
+      variables_are_positive = w.positive;
+    }
+
+-- as many places as variables
+pub length-faults : (text : List ℕ) (f : Formula) → IsAccepted IsReadAs (items text) f → length (standings f) ≡ length (variable_places (items text))
+length-faults text f accepted =
+    length-standings [] 0 0 f
+    ∙ sym (ap length (words_are_variables accepted.stands ∙ append-nil (variables f)))
+    ∙ sym (length-places false (items text))
+
+no_fault_fine : (ss : List Standing) (places : List ℕ) → length ss ≡ length places → fault_at ss places ≡ None → are_fine ss ≡ true
+no_fault_fine [] places same is = refl
+no_fault_fine (s ∷ ss) [] same is = absurd (omega arith)
+no_fault_fine (Fine ∷ ss) (at ∷ places) same is = no_fault_fine ss places (omega arith) is
+no_fault_fine (Unbound ∷ ss) (at ∷ places) same is = absurd (cc)
+no_fault_fine (NotPositive ∷ ss) (at ∷ places) same is = absurd (cc)
+
+pub faultless_fine : (text : List ℕ) (f : Formula) → IsAccepted IsReadAs (items text) f → fault_at (standings f) (variable_places (items text)) ≡ None → are_fine (standings f) ≡ true
+faultless_fine text f accepted is = no_fault_fine (standings f) (variable_places (items text)) (length-faults text f accepted) is
+
+-- ---- the same, as the program has it: the standings of the variables as a list
+
+pub fault_refused : (text : List ℕ) (f : Formula) (ss : List Standing) (e : ParseRefusal) → mu_outcome text ≡ Found f → ss ≡ standings f → IsFaultOf e (fault_at ss (variable_places (items text))) → IsRefusedBy text e
+fault_refused text f ss (refusal.Unbound at) found same is = (f, found_accepted text f found, ap (λ s. fault_at s (variable_places (items text))) (sym same) ∙ is)
+fault_refused text f ss (refusal.NotPositive at) found same is = (f, found_accepted text f found, ap (λ s. fault_at s (variable_places (items text))) (sym same) ∙ is)
+fault_refused text f ss (refusal.Syntax at) found same is = absurd is
+fault_refused text f ss (refusal.TooMany at) found same is = absurd is
+fault_refused text f ss (refusal.TooNested at) found same is = absurd is
+fault_refused text f ss (refusal.NameTooLong at) found same is = absurd is
+fault_refused text f ss refusal.NoMemory found same is = absurd is
+
+pub found_parsed : (text : List ℕ) (f : Formula) (ss : List Standing) → mu_outcome text ≡ Found f → ss ≡ standings f → fault_at ss (variable_places (items text)) ≡ None → IsParsedAs text f
+found_parsed text f ss found same none =
+    let accepted = found_accepted text f found in
+    record { accepted = accepted; fine = faultless_fine text f accepted (ap (λ s. fault_at s (variable_places (items text))) (sym same) ∙ none) }
+
+pub found_small : (text : List ℕ) (f : Formula) → mu_outcome text ≡ Found f → occurrences f ≤ 1000
+found_small text f found = accepted_small text f (found_accepted text f found)
+
+pub parsed_well : (text : List ℕ) (f : Formula) → IsParsedAs text f → IsWellFormed f
+parsed_well text f parsed = accepted_fine text f parsed.accepted parsed.fine

@@ -1,0 +1,148 @@
+-- The names of texts are spelled as they must be, and so are those of the formulas that texts stand for.
+--
+--   AreSpelled ts   == the names among the signs are spelled as propositions and variables are
+--   items_spelled   == the signs of a text are spelled
+--   reads_spelled   == a formula that is read from spelled signs is spelled
+use Rattle.std.proofs.Common.{◌≡◌, ℕ, suc, ◌+◌, ◌-◌, ◌≤◌, Bool, true, false, ◌&&◌, List, [], ◌∷◌, ◌++◌, length, map, Option, Some, None, refl, sym, ◌∙◌, ap, subst, arith, if◌then◌else◌, cond, codes, append_assoc, length-append}
+use Rattle.std.specs.List.{list_all}
+use Rattle.std.specs.Prelude.{◌||◌, not, bytes_eq, ◌⊎◌}
+use Rattle.std.proofs.Common.{⊎_elim}
+use Rattle.std.proofs.lemmas.Bool.{and_from, and_parts, or_left, or_right, not_from_false, cases_Bool, cond-true, cond-false}
+use Rattle.std.proofs.lemmas.Slice.Eq.{bytes_eq-Decides}
+use Rattle.ml_text.specs.Bytes.{is_lower, is_upper, is_letter, is_word_byte}
+use Rattle.ml_text.specs.declared.token.Operator.{Operator}
+use Rattle.ml_text.specs.declared.token.Operator.TheVariants as operator
+use Rattle.ml_text.specs.declared.token.Token.{Token}
+use Rattle.ml_text.specs.declared.token.Token.TheVariants as token
+use Rattle.ml_text.specs.declared.token.Placed.{Placed}
+use Rattle.ml_text.specs.Words.{constant_of}
+use Rattle.ml_text.specs.Refusals.{Item, signs_of, counted}
+use Rattle.ml_mu.specs.Formula as plain
+use Rattle.ml_mu.specs.Formula.{Formula, occurrences, weight}
+use Rattle.ml_mu.specs.Signs.{Sign, Not, Connective, Const, Open, Close, Begins, Ends, Binds, Dot, Blank, Lower, Upper, Unknown, action_of, sign_of, byte_sign, word_sign, word_sign_by, name_sign}
+use Rattle.ml_mu.specs.Grammar as grammar
+use Rattle.ml_mu.specs.Grammar.{Reads, iff_alone, iff, imp_alone, imp, or_alone, or, and_alone, and, negation, modal, modal_blank, binder, group, constant, proposition, variable}
+use Rattle.ml_mu.specs.Spelling.{is_proposition, is_variable, is_action, is_spelled, is_word_from, is_reserved}
+use Rattle.ml_mu.specs.Text.{weight_of, silences, item_by, sign_at, items_from, places_from, with_place}
+use Rattle.ml_mu.specs.VariableFaults.{Around, standing_of, standings_in, standings}
+
+-- ---- spelled names
+
+abbrev pub IsSpelledSign : Sign → Type 0
+IsSpelledSign (Lower p) = is_proposition p ≡ true
+IsSpelledSign (Upper x) = is_variable x ≡ true
+IsSpelledSign _ = Unit {0}
+
+abbrev pub AreSpelled : List Sign → Type 0
+AreSpelled [] = Unit {0}
+AreSpelled (t ∷ ts) = IsSpelledSign t × AreSpelled ts
+
+spelled_by : (w : List ℕ) (a b : Bool) → is_proposition w ≡ a → is_variable w ≡ b → IsSpelledSign (cond a (Lower w) (cond b (Upper w) Unknown))
+spelled_by w true b x y = x
+spelled_by w false true x y = y
+spelled_by w false false x y = tt
+
+one_of : (P : Sign → Type 0) (b : Bool) (x y : Sign) → P x → P y → P (cond b x y)
+one_of P true x y p q = p
+one_of P false x y p q = q
+
+spelled_word : (w : List ℕ) (o : Option Bool) → IsSpelledSign (word_sign_by o w)
+spelled_word w (Some b) = tt
+spelled_word w None =
+    one_of IsSpelledSign (Rattle.std.specs.Prelude.bytes_eq w (codes "mu")) _ _ tt
+    (one_of IsSpelledSign (Rattle.std.specs.Prelude.bytes_eq w (codes "nu")) _ _ tt (spelled_by w (is_proposition w) (is_variable w) refl refl))
+
+spelled_byte : (b : ℕ) → IsSpelledSign (byte_sign b)
+spelled_byte b =
+    one_of IsSpelledSign (Rattle.std.specs.Prelude.◌==◌ b 40) _ _ tt
+    (one_of IsSpelledSign (Rattle.std.specs.Prelude.◌==◌ b 41) _ _ tt
+    (one_of IsSpelledSign (Rattle.std.specs.Prelude.◌==◌ b 60) _ _ tt
+    (one_of IsSpelledSign (Rattle.std.specs.Prelude.◌==◌ b 62) _ _ tt
+    (one_of IsSpelledSign (Rattle.std.specs.Prelude.◌==◌ b 91) _ _ tt
+    (one_of IsSpelledSign (Rattle.std.specs.Prelude.◌==◌ b 93) _ _ tt
+    (one_of IsSpelledSign (Rattle.std.specs.Prelude.◌==◌ b 46) _ _ tt
+    (one_of IsSpelledSign (Rattle.std.specs.Prelude.◌==◌ b 95) _ _ tt tt)))))))
+
+pub spelled_sign : (t : Token) (bytes : List ℕ) → IsSpelledSign (sign_of t bytes)
+spelled_sign token.Not bytes = tt
+spelled_sign (token.Operator o) bytes = tt
+spelled_sign (token.Byte b) bytes = spelled_byte b
+spelled_sign token.Word bytes = spelled_word bytes (constant_of bytes)
+
+pub items_spelled : (text : List ℕ) (silent : Bool) (ps : List Placed) → AreSpelled (signs_of (items_from text silent ps))
+items_spelled text silent [] = tt
+items_spelled text silent (p ∷ ps) = (spelled_sign p.token (Rattle.ml_mu.specs.Text.bytes_of text p), items_spelled text (silences (sign_at text p)) ps)
+
+-- ---- formulas
+
+letters : (p : List ℕ) → is_word_from is_lower p ≡ true → is_word_from is_letter p ≡ true
+letters [] is = absurd (cc)
+letters (b ∷ bs) is =
+    let parts = and_parts (is_lower b) (list_all is_word_byte bs) is in
+    and_from (is_letter b) (list_all is_word_byte bs) (or_left (is_lower b) (is_upper b) parts.0) parts.1
+
+upper_letters : (p : List ℕ) → is_word_from is_upper p ≡ true → is_word_from is_letter p ≡ true
+upper_letters [] is = absurd (cc)
+upper_letters (b ∷ bs) is =
+    let parts = and_parts (is_upper b) (list_all is_word_byte bs) is in
+    and_from (is_letter b) (list_all is_word_byte bs) (or_right (is_lower b) (is_upper b) parts.0) parts.1
+
+other_word : (x w : List ℕ) → is_variable x ≡ true → is_variable w ≡ false → bytes_eq x w ≡ false
+other_word x w is other =
+    ⊎_elim
+    (λ (same : bytes_eq x w ≡ true). let e = (bytes_eq-Decides x w).0 same in let there = ap is_variable e in absurd (cc))
+    (λ (differs : bytes_eq x w ≡ false). differs)
+    (cases_Bool (bytes_eq x w))
+
+unreserved : (x : List ℕ) → is_variable x ≡ true → is_reserved x ≡ false
+unreserved x is =
+    simp (other_word x (codes "tt") is refl, other_word x (codes "true") is refl, other_word x (codes "ff") is refl, other_word x (codes "false") is refl, other_word x (codes "mu") is refl, other_word x (codes "nu") is refl)
+
+lower_action : (p : List ℕ) → is_proposition p ≡ true → is_action p ≡ true
+lower_action p is =
+    let parts = and_parts (is_word_from is_lower p) (not (is_reserved p)) is in
+    or_right (bytes_eq p (codes "_")) (is_word_from is_letter p && not (is_reserved p))
+    (and_from (is_word_from is_letter p) (not (is_reserved p)) (letters p parts.0) parts.1)
+
+upper_action : (x : List ℕ) → is_variable x ≡ true → is_action x ≡ true
+upper_action x is =
+    or_right (bytes_eq x (codes "_")) (is_word_from is_letter x && not (is_reserved x))
+    (and_from (is_word_from is_letter x) (not (is_reserved x)) (upper_letters x is) (not_from_false (is_reserved x) (unreserved x is)))
+
+spelled_action : (s : Sign) (a : List ℕ) → action_of s ≡ Some a → IsSpelledSign s → is_action a ≡ true
+spelled_action Blank a is spelled = let same : codes "_" ≡ a = cc in subst (λ b. is_action b ≡ true) same refl
+spelled_action (Lower b) a is spelled = let same : b ≡ a = cc in subst (λ b. is_action b ≡ true) same (lower_action b spelled)
+spelled_action (Upper b) a is spelled = let same : b ≡ a = cc in subst (λ b. is_action b ≡ true) same (upper_action b spelled)
+spelled_action _ a is spelled = absurd (cc)
+
+abbrev pub Spells : Formula → List Sign → Type 0
+Spells f rest = (is_spelled f ≡ true) × AreSpelled rest
+
+both_spelled : (o : Operator) (f g : Formula) (t : Sign) (us rest : List Sign) → Spells f (t ∷ us) → (AreSpelled us → Spells g rest) → Spells (plain.Binary o f g) rest
+both_spelled o f g t us rest a b =
+    let c : Spells g rest = b (a.1).1 in
+    (and_from (is_spelled f) (is_spelled g) a.0 c.0, c.1)
+
+pub reads_spelled : {l : grammar.Level} {ts rest : List Sign} {f : Formula} → Reads l ts f rest → AreSpelled ts → Spells f rest
+reads_spelled (iff_alone r) is = reads_spelled r is
+reads_spelled (iff {us = us} {rest = rest} {f = f} {g = g} a b) is = both_spelled operator.Iff f g (Connective operator.Iff) us rest (reads_spelled a is) (λ x. reads_spelled b x)
+reads_spelled (imp_alone r) is = reads_spelled r is
+reads_spelled (imp {us = us} {rest = rest} {f = f} {g = g} a b) is = both_spelled operator.Implies f g (Connective operator.Implies) us rest (reads_spelled a is) (λ x. reads_spelled b x)
+reads_spelled (or_alone r) is = reads_spelled r is
+reads_spelled (or {us = us} {rest = rest} {f = f} {g = g} a b) is = both_spelled operator.Or f g (Connective operator.Or) us rest (reads_spelled a is) (λ x. reads_spelled b x)
+reads_spelled (and_alone r) is = reads_spelled r is
+reads_spelled (and {us = us} {rest = rest} {f = f} {g = g} a b) is = both_spelled operator.And f g (Connective operator.And) us rest (reads_spelled a is) (λ x. reads_spelled b x)
+reads_spelled (negation r) is = reads_spelled r is.1
+reads_spelled (modal {f = f} m a s e r) is =
+    let later : Spells f _ = reads_spelled r ((is.1).1).1 in
+    (and_from (is_action a) (is_spelled f) (spelled_action s a e (is.1).0) later.0, later.1)
+reads_spelled (modal_blank {f = f} m r) is =
+    let later : Spells f _ = reads_spelled r (is.1).1 in
+    (and_from (is_action (codes "_")) (is_spelled f) refl later.0, later.1)
+reads_spelled (binder {f = f} q x r e) is =
+    let later : Spells f _ = reads_spelled r ((is.1).1).1 in
+    (and_from (is_variable x) (is_spelled f) (is.1).0 later.0, later.1)
+reads_spelled (group r) is = let later = reads_spelled r is.1 in (later.0, (later.1).1)
+reads_spelled (constant b) is = (refl, is.1)
+reads_spelled (proposition p) is = (is.0, is.1)
+reads_spelled (variable x) is = (is.0, is.1)

@@ -1,0 +1,58 @@
+-- What `parse` answers: which formula a text stands for within the limits, or where it is refused.
+--
+-- First the four causes of `Refusals.antt`, the least place first; only where none of them comes, the first variable
+-- that has no binder or isn't positive.
+--
+--   IsParsedAs text f   == the text is one of f, keeps the limits, and no variable is at fault
+--   IsRefusedBy text e  == the text is refused with this answer
+--   StandForOne, ParsedOrRefused, RefusedOnce, ParsedAreWellFormed == the laws of these notions
+use Rattle.std.specs.Prelude.{ℕ, ◌≡◌, ◌≢◌, List, length, Some, true}
+use Rattle.ml_base.specs.declared.parse_refusal.ParseRefusal.{ParseRefusal}
+use Rattle.ml_base.specs.declared.parse_refusal.ParseRefusal.TheVariants as refusal
+use Rattle.ml_text.specs.Refusals as cause
+use Rattle.ml_text.specs.Refusals.{Cause, IsRefused, IsAccepted, offset_of}
+use Rattle.ml_mu.specs.Formula.{Formula}
+use Rattle.ml_mu.specs.Grammar.{IsReadAs}
+use Rattle.ml_mu.specs.Text.{IsTextOf, items, variable_places}
+use Rattle.ml_mu.specs.WellFormed.{IsWellFormed}
+use Rattle.ml_mu.specs.VariableFaults.{Standing, Unbound, NotPositive, standings, fault_at, are_fine}
+
+pub record IsParsedAs (text : List ℕ) (f : Formula) : Type 0 where
+  pub accepted : IsAccepted IsReadAs (items text) f
+  pub fine : are_fine (standings f) ≡ true
+
+-- this cause is the first, and comes at this byte
+abbrev pub ComesFirst : List ℕ → Cause → ℕ → Type 0
+ComesFirst text c at = (k : ℕ) × IsRefused IsReadAs (items text) c k × (at ≡ offset_of (items text) (length text) k)
+
+-- the text is one of a formula within the limits, whose first variable at fault stands so, at this byte
+abbrev pub HasFault : List ℕ → Standing → ℕ → Type 0
+HasFault text s at = (f : Formula) × IsAccepted IsReadAs (items text) f × (fault_at (standings f) (variable_places (items text)) ≡ Some (s, at))
+
+abbrev pub IsRefusedBy : List ℕ → ParseRefusal → Type 0
+IsRefusedBy text (refusal.Syntax at) = ComesFirst text cause.Syntax at
+IsRefusedBy text (refusal.Unbound at) = HasFault text Unbound at
+IsRefusedBy text (refusal.NotPositive at) = HasFault text NotPositive at
+IsRefusedBy text (refusal.TooMany at) = ComesFirst text cause.TooMany at
+IsRefusedBy text (refusal.TooNested at) = ComesFirst text cause.TooNested at
+IsRefusedBy text (refusal.NameTooLong at) = ComesFirst text cause.NameTooLong at
+-- want of memory is the one answer that says nothing of the text
+IsRefusedBy text refusal.NoMemory = Unit {0}
+
+-- ---- laws
+
+-- a text stands for one formula at most
+abbrev pub StandForOne : Type 0
+StandForOne = (text : List ℕ) (f g : Formula) → IsTextOf text f → IsTextOf text g → f ≡ g
+
+-- what is parsed as a formula is refused by nothing but want of memory
+abbrev pub ParsedOrRefused : Type 0
+ParsedOrRefused = (text : List ℕ) (f : Formula) (e : ParseRefusal) → IsParsedAs text f → IsRefusedBy text e → e ≡ refusal.NoMemory
+
+-- but for want of memory, a text is refused in one way at most
+abbrev pub RefusedOnce : Type 0
+RefusedOnce = (text : List ℕ) (e d : ParseRefusal) → (e ≢ refusal.NoMemory) → (d ≢ refusal.NoMemory) → IsRefusedBy text e → IsRefusedBy text d → e ≡ d
+
+-- the formulas that are parsed are well formed
+abbrev pub ParsedAreWellFormed : Type 0
+ParsedAreWellFormed = (text : List ℕ) (f : Formula) → IsParsedAs text f → IsWellFormed f

@@ -1,0 +1,145 @@
+// How the variables of a formula stand: which of them have no binder or aren't positive.
+ghost use Rattle.std.specs.Prelude.{◌≡◌, ℕ, ◌+◌, ◌≤◌, ◌∷◌, ◌++◌, if◌then◌else◌, List, map, IfOk, MatchOption, None, OnOk, Some};
+ghost use Rattle.ml_mu.specs.Formula.{occurrences};
+ghost use Rattle.ml_mu.specs.SignViews.{named};
+ghost use Rattle.ml_mu.specs.Term.{formula_of};
+ghost use Rattle.ml_mu.specs.Text.{items, variable_places, with_place};
+ghost use Rattle.ml_mu.specs.VariableFaults as faults;
+ghost use Rattle.ml_mu.specs.VariableViews.{IsFaultOf, scope_view, standing_view};
+
+use crate::Term;
+use crate::signs::{Kind, kind_of, silences};
+use ml_base::{Name, NoMemory, ParseRefusal};
+use ml_text::{WordStart, next_token};
+use std::alloc::{AllocError, Global};
+
+/// How a variable stands.
+#[derive(Clone, Copy, PartialEq, Eq)]
+pub(crate) enum Standing {
+    Fine,
+    Unbound,
+    NotPositive,
+}
+
+// the binders around a place, the innermost first, each with the negations and iffs around it
+#[derive(Clone, Copy)]
+enum Scope<'a> {
+    Outermost,
+    Inside(&'a Name, u32, u32, &'a Scope<'a>),
+}
+
+fn standing_of(scope: &Scope<'_>, negations: u32, iffs: u32, name: &Name) -> Standing
+    ensures { standing_view result ≡ faults.standing_of (scope_view scope.now) negations iffs name.now }
+{
+    match scope {
+        Scope::Outermost => Standing::Unbound,
+        Scope::Inside(bound, around, inside, outer) => {
+            if bound.bytes() != name.bytes() {
+                standing_of(outer, negations, iffs, name)
+            } else if iffs == *inside && negations.saturating_sub(*around) % 2 == 0 {
+                Standing::Fine
+            } else {
+                Standing::NotPositive
+            }
+        }
+    }
+}
+
+// how the variables of a term stand, pushed in the order of the text
+fn collect(
+    term: &Term,
+    scope: &Scope<'_>,
+    negations: u32,
+    iffs: u32,
+    found: &mut Vec<Standing>,
+) -> Result<(), AllocError>
+    requires few_negations { negations + occurrences (formula_of term.now) ≤ 1000 }
+    requires few_iffs { iffs + occurrences (formula_of term.now) ≤ 1000 }
+    ensures { OnOk result (map standing_view found.new.items
+        ≡ map standing_view found.old.items
+        ++ faults.standings_in (scope_view scope.now) negations iffs (formula_of term.now)) }
+{
+    match term {
+        Term::Const(_) | Term::Prop(_) => Ok(()),
+        Term::Var(name) => {
+            found.push(standing_of(scope, negations, iffs, name))?;
+            Ok(())
+        }
+        Term::Not(operand) => collect(operand, scope, negations + 1, iffs, found),
+        Term::And(left, right) | Term::Or(left, right) => {
+            collect(left, scope, negations, iffs, found)?;
+            collect(right, scope, negations, iffs, found)
+        }
+        Term::Implies(left, right) => {
+            collect(left, scope, negations + 1, iffs, found)?;
+            collect(right, scope, negations, iffs, found)
+        }
+        Term::Iff(left, right) => {
+            collect(left, scope, negations, iffs + 1, found)?;
+            collect(right, scope, negations, iffs + 1, found)
+        }
+        Term::Diamond(_, operand) | Term::Square(_, operand) => {
+            collect(operand, scope, negations, iffs, found)
+        }
+        Term::Mu(name, body) | Term::Nu(name, body) => {
+            let inside = Scope::Inside(name, negations, iffs, &*scope);
+            collect(body, &inside, negations, iffs, found)
+        }
+    }
+}
+
+/// How the variables of a term stand, in the order of the text.
+pub(crate) fn standings(alloc: Global, term: &Term) -> Result<Vec<Standing>, NoMemory>
+    requires { occurrences (formula_of term.now) ≤ 1000 }
+    ensures { IfOk result (λ found. map standing_view found.items ≡ faults.standings (formula_of term.now)) }
+{
+    let mut found = Vec::new(alloc);
+    collect(term, &Scope::Outermost, 0, 0, &mut found)?;
+    Ok(found)
+}
+
+// the refusal at a variable that stands so
+fn fault_here(standing: Standing, at: u64) -> Option<ParseRefusal>
+    ensures { MatchOption result
+        (standing_view standing ≡ faults.Fine)
+        (λ refusal. IsFaultOf refusal (Some (standing_view standing, at))) }
+{
+    match standing {
+        Standing::Fine => None,
+        Standing::Unbound => Some(ParseRefusal::Unbound { at }),
+        Standing::NotPositive => Some(ParseRefusal::NotPositive { at }),
+    }
+}
+
+// does a variable stand here?
+fn is_place(kind: Kind, silent: bool) -> bool
+    ensures { (word : List ℕ) (at : ℕ) (places : List ℕ) →
+        with_place silent (named kind word) at places ≡ (if result then at ∷ places else places) }
+{
+    !silent && matches!(kind, Kind::Upper)
+}
+
+/// The refusal at the first variable of a text that is at fault, if one is; they stand so, in the order of the text.
+pub(crate) fn first_fault(text: &[u8], standings: &[Standing]) -> Option<ParseRefusal>
+    ensures { let first = faults.fault_at (map standing_view standings.now) (variable_places (items text.now)) in
+        MatchOption result (first ≡ None) (λ refusal. IsFaultOf refusal first) }
+{
+    let mut rest = standings;
+    let mut silent = false;
+    let mut at = 0;
+    while let Some(placed) = next_token(text, WordStart::AnyLetter, at) {
+        let kind = kind_of(placed.token, &text[placed.start..placed.end]);
+        if is_place(kind, silent) {
+            let Some((standing, others)) = rest.split_first() else {
+                return None;
+            };
+            if let Some(refusal) = fault_here(*standing, placed.start as u64) {
+                return Some(refusal);
+            }
+            rest = others;
+        }
+        silent = silences(kind);
+        at = placed.end;
+    }
+    None
+}

@@ -1,0 +1,34 @@
+-- from games to boards and back
+pub mod Boards
+-- certificates by ranks are right
+pub mod Certificates
+-- the comparison of two games that differ at some vertices
+pub mod Comparison
+-- from an answer on the board of a game to a solution
+pub mod Filled
+-- what the program reads in the fields of a game
+pub mod GameFields
+-- winning is kept along plays that follow the strategy
+pub mod Kept
+-- the induction of the determinacy law, its first case
+pub mod LeastKept
+-- and its second case
+pub mod LeastLost
+-- live vertices as a list of flags
+pub mod LiveLists
+-- finite memory is not needed
+pub mod Memory
+-- the one-step law
+pub mod OneStep
+-- the two players
+pub mod Opponents
+-- the steps of the plain solver
+pub mod PlainSteps
+-- lists that are a game, and lists that are none
+pub mod Refusals
+-- every game with finitely many live vertices has a solution
+pub mod Sinks
+-- what a solution tells
+pub mod SolutionFacts
+-- who wins each vertex: the determinacy law
+pub mod Winners

@@ -1,0 +1,32 @@
+// Parity games: the definition, the determinacy law, and solvers that are proved against the definition.
+//
+// Two players move a token along the edges of a finite graph for ever. Each vertex has an owner, who moves there, and
+// a priority. The lowest priority that is met infinitely often decides: an even one is good for Even, an odd one for
+// Odd. The definition (`specs/Game.antt`, `specs/Winner.antt`) speaks of positional strategies, and of plays as lassos.
+//
+// The calls to know:
+// - `Game::build` makes a game of three lists, and refuses lists that are none.
+// - `plain::solve_plain` answers who wins each vertex, and by which moves. It is slow and obvious: take it to test a
+//   faster solver.
+// - `laws::determined` does nothing; its contract is the determinacy law, over the definition alone.
+// The lemmas beside the law are for the proofs of crates above: `proofs/Winners.antt` (the winners as a map),
+// `OneStep` (a vertex by its successors), `Kept` (along plays), `Comparison` (two games that differ at some vertices),
+// `Memory` (finite memory is not needed), `Certificates` (ranks that fall along moves), `SolutionFacts` (what a solution
+// tells).
+//
+// Below stands `ml_lists`, the mathematics of lists, loops and search. Above stand the crates whose answers are games:
+// checking games of structures and graphs, and the decision game.
+#![tactic(auto)]
+
+pub mod games;
+pub mod laws;
+pub mod plain;
+pub mod players;
+pub mod solutions;
+
+pub use games::{Game, GameRefusal};
+pub use players::Player;
+pub use solutions::Solution;
+
+#[cfg(test)]
+mod tests;
