@@ -5,7 +5,9 @@
 --   search_contains  == both in one
 --   put_ascends      == a number put in where a search ended leaves the list ascending
 --   put_members      == and the list has that number and those that it had
---   one_list         == two strictly ascending lists with the same members are equal
+--   search_member, found_member, missing_member, put_ascending  == the same of ascending lists
+--   put_is, found_is  == the list with the number, where it is new, and where it isn't
+--   one_list         == two ascending lists with the same members are equal
 use Rattle.std.proofs.Common.{◌≡◌, ◌↔◌, ℕ, suc, ◌+◌, ◌<◌, ◌≤◌, ◌⊎◌, List, [], ◌∷◌, ◌++◌, length, take, drop, get_or, Contains, IsTrue, Result, Ok, Err, inl, inr, refl, sym, ap, subst, ◌∙◌, ⊎_elim, arith}
 use Rattle.std.specs.List.{insert}
 use Rattle.std.specs.List.Sorted.{IsStrictlyIncreasing, IsBinarySearchResult}
@@ -15,9 +17,11 @@ use Rattle.std.proofs.lemmas.List.{take-append-drop, length-take, length-drop, g
 use Rattle.std.proofs.lemmas.Bool.{cases_eq, cases_lt, true≢false}
 use Rattle.std.proofs.lemmas.List.Kept.{AllPairs-from_increasing}
 use Rattle.std.proofs.lemmas.List.Sorted.{searched}
-use Rattle.ml_lists.proofs.Members.{contains_middle, contains_without, contains_with}
-use Rattle.ml_lists.proofs.Increasing.{Above, Below, Ascends, ascends_from, increasing_from, ascends_with, same_members}
-use Rattle.ml_base.specs.IdSet.{IsWith}
+use Rattle.ml_lists.specs.Ascending.{IsAscending, insert_once}
+use Rattle.ml_lists.specs.Member.{IsMember}
+use Rattle.ml_lists.proofs.Ascending.{ascending_same, insert_once-is, insert_once-keeps, insert_once-member, member-insert_once}
+use Rattle.ml_lists.proofs.Members.{contains_middle, contains_without, contains_with, member_of_contains, contains_of_member}
+use Rattle.ml_lists.proofs.Increasing.{Above, Below, Ascends, ascends_from, increasing_from, ascends_with, increasing_of_ascending, ascending_of_increasing}
 
 abbrev pub Found : List ℕ → ℕ → Result ℕ ℕ → Type 0
 Found xs x r = IsBinarySearchResult (λ y. nat_cmp y x) xs r
@@ -67,8 +71,8 @@ put_ascends xs x i increases found =
     (λ k h. let within : i + k < length xs = omega (arith, length-drop i xs) in
     subst (λ y. x < y) (sym (get_or-drop i xs k 0)) (at.2 (i + k) (omega arith) within))))
 
-pub put_members : (xs : List ℕ) (x i : ℕ) → IsWith xs x (insert xs i x)
-put_members xs x i = λ y. (there y, back y)
+put_members : (xs : List ℕ) (x i : ℕ) (y : ℕ) → Contains (insert xs i x) y ↔ ((y ≡ x) ⊎ Contains xs y)
+put_members xs x i y = (there y, back y)
   where
     there : (y : ℕ) → Contains (insert xs i x) y → (y ≡ x) ⊎ Contains xs y
     there y inside =
@@ -84,6 +88,46 @@ put_members xs x i = λ y. (there y, back y)
         (λ (h : Contains xs y). contains_with (take i xs) x (drop i xs) y (subst (λ zs. Contains zs y) (sym (take-append-drop i xs)) h))
         inside
 
-pub one_list : (xs ys : List ℕ) → IsStrictlyIncreasing xs → IsStrictlyIncreasing ys → ((x : ℕ) → Contains xs x ↔ Contains ys x) → xs ≡ ys
-one_list xs ys left right same =
-    same_members xs ys (ascends_from xs left) (ascends_from ys right) (λ z. (same z).0) (λ z. (same z).1)
+-- the same in the words of ascending lists
+pub search_member : (xs : List ℕ) (x : ℕ) (r : Result ℕ ℕ) → IsAscending xs → Found xs x r → IsTrue (is_ok r) ↔ IsMember x xs
+search_member xs x r ascends found =
+    let both = search_contains xs x r (increasing_of_ascending xs ascends) found in
+    (λ h. member_of_contains x xs (both.0 h), λ h. both.1 (contains_of_member x xs h))
+
+pub missing_member : (xs : List ℕ) (x i : ℕ) → IsAscending xs → Found xs x (Err i) → ¬ (IsMember x xs)
+missing_member xs x i ascends found h = missing_at xs x i (increasing_of_ascending xs ascends) found (contains_of_member x xs h)
+
+pub put_ascending : (xs : List ℕ) (x i : ℕ) → IsAscending xs → Found xs x (Err i) → IsAscending (insert xs i x)
+put_ascending xs x i ascends found = ascending_of_increasing (insert xs i x) (put_ascends xs x i (increasing_of_ascending xs ascends) found)
+
+pub put_is : (xs : List ℕ) (x i : ℕ) → IsAscending xs → Found xs x (Err i) → insert xs i x ≡ insert_once x xs
+put_is xs x i ascends found =
+    ascending_same (insert xs i x) (insert_once x xs) (put_ascending xs x i ascends found) (insert_once-is x xs ascends)
+      (λ y inside.
+        ⊎_elim
+          (λ (is : y ≡ x). subst (λ z. IsMember z (insert_once x xs)) (sym is) (member-insert_once x xs))
+          (λ (h : Contains xs y). insert_once-keeps y x xs (member_of_contains y xs h))
+          ((put_members xs x i y).0 (contains_of_member y (insert xs i x) inside)))
+      (λ y inside.
+        member_of_contains y (insert xs i x) ((put_members xs x i y).1
+          (⊎_elim
+            (λ (is : y ≡ x). inl is)
+            (λ (h : IsMember y xs). inr (contains_of_member y xs h))
+            (insert_once-member y x xs inside))))
+
+pub found_member : (xs : List ℕ) (x i : ℕ) → IsAscending xs → Found xs x (Ok i) → IsMember x xs
+found_member xs x i ascends found = member_of_contains x xs (found_at xs x i (increasing_of_ascending xs ascends) found)
+
+pub found_is : (xs : List ℕ) (x i : ℕ) → IsAscending xs → Found xs x (Ok i) → xs ≡ insert_once x xs
+found_is xs x i ascends found =
+    let here = found_member xs x i ascends found in
+    ascending_same xs (insert_once x xs) ascends (insert_once-is x xs ascends)
+      (λ y inside. insert_once-keeps y x xs inside)
+      (λ y inside.
+        ⊎_elim
+          (λ (is : y ≡ x). subst (λ z. IsMember z xs) (sym is) here)
+          (λ (h : IsMember y xs). h)
+          (insert_once-member y x xs inside))
+
+pub one_list : (xs ys : List ℕ) → IsAscending xs → IsAscending ys → ((x : ℕ) → IsMember x xs ↔ IsMember x ys) → xs ≡ ys
+one_list xs ys left right same = ascending_same xs ys left right (λ z. (same z).0) (λ z. (same z).1)

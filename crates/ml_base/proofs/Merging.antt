@@ -1,5 +1,6 @@
 -- Two ascending lists as one, number by number.
 --
+--   IsUnion l r both      == both has the members of l and those of r
 --   Merged l r out xs ys   == of the lists l and r, out was written and xs and ys are left
 --   merge_start            == nothing was written
 --   merge_swap             == the two lists are alike
@@ -8,16 +9,22 @@
 --   merge_end, merge_union == one list is empty: with the rest of the other the two are one
 --   less_step, greater_step, equal_step  == a turn, by the order of the two heads
 --   ends_left, ends_right  == the end, where the first or the second list is empty
-use Rattle.std.proofs.Common.{◌≡◌, ℕ, ◌-◌, ◌<◌, ◌⊎◌, List, [], ◌∷◌, ◌++◌, length, take, drop, get_or, Contains, inl, inr, sym, subst, ⊎_elim, arith}
+use Rattle.std.proofs.Common.{◌≡◌, ◌↔◌, ℕ, ◌-◌, ◌<◌, ◌⊎◌, List, [], ◌∷◌, ◌++◌, length, take, drop, get_or, Contains, inl, inr, sym, subst, ⊎_elim, arith}
 use Rattle.std.specs.List.Sorted.{IsStrictlyIncreasing}
 use Rattle.std.specs.Ordering.{nat_cmp}
 use Rattle.std.specs.declared.cmp.Ordering.TheVariants.{Less, Equal, Greater}
 use Rattle.std.proofs.lemmas.Cmp.{ranked}
 use Rattle.std.proofs.lemmas.List.{take_all}
 use Rattle.std.proofs.lemmas.List.Elements.{Contains-append_left, Contains-append_right, Contains-append_cases}
-use Rattle.ml_lists.proofs.Members.{contains_head, contains_later, contains_cases, contains_none, contains_middle}
-use Rattle.ml_lists.proofs.Increasing.{Ascends, ascends_from, increasing_from, ascends_moved, ascends_merge}
-use Rattle.ml_base.specs.IdSet.{IsUnion}
+use Rattle.ml_lists.proofs.Members.{contains_head, contains_later, contains_cases, contains_none, contains_middle, member_of_contains, contains_of_member}
+use Rattle.ml_lists.proofs.Increasing.{Ascends, ascends_from, increasing_from, ascends_moved, ascends_merge, increasing_of_ascending, ascending_of_increasing}
+use Rattle.ml_lists.specs.Ascending.{IsAscending, ascending}
+use Rattle.ml_lists.specs.Member.{IsMember}
+use Rattle.ml_lists.proofs.Ascending.{ascending-is, ascending_same, ascending-member, member-ascending}
+use Rattle.ml_lists.proofs.Member.{member-append, member-append_left, member-append_right}
+
+abbrev pub IsUnion : List ℕ → List ℕ → List ℕ → Type 0
+IsUnion left right both = (y : ℕ) → Contains both y ↔ (Contains left y ⊎ Contains right y)
 
 pub record Merged (l r out xs ys : List ℕ) : Type 0 where
   pub on_left : Ascends (out ++ xs)
@@ -25,10 +32,10 @@ pub record Merged (l r out xs ys : List ℕ) : Type 0 where
   pub kept : (z : ℕ) → Contains l z ⊎ Contains r z → Contains out z ⊎ (Contains xs z ⊎ Contains ys z)
   pub given : (z : ℕ) → Contains out z ⊎ (Contains xs z ⊎ Contains ys z) → Contains l z ⊎ Contains r z
 
-pub merge_start : (l r : List ℕ) → IsStrictlyIncreasing l → IsStrictlyIncreasing r → Merged l r [] l r
+pub merge_start : (l r : List ℕ) → IsAscending l → IsAscending r → Merged l r [] l r
 merge_start l r left right = record {
-  on_left = ascends_from l left;
-  on_right = ascends_from r right;
+  on_left = ascends_from l (increasing_of_ascending l left);
+  on_right = ascends_from r (increasing_of_ascending r right);
   kept = λ z inside. inr inside;
   given = λ z inside. ⊎_elim (λ (h : Contains [] z). absurd (contains_none z h)) (λ (h : Contains l z ⊎ Contains r z). h) inside;
 }
@@ -190,20 +197,37 @@ equal_step l r out more (x ∷ xs) (y ∷ ys) xs_long ys_long order wrote so_far
 
 -- one list is empty, and the rest of the other was written
 abbrev pub IsWhole : List ℕ → List ℕ → List ℕ → Type 0
-IsWhole l r whole = IsUnion l r whole × IsStrictlyIncreasing whole
+IsWhole l r whole = (whole ≡ ascending (l ++ r)) × IsAscending whole
 
-left_done : (l r out whole xs ys : List ℕ) → length xs ≡ 0 → whole ≡ out ++ ys → Merged l r out xs ys → IsWhole l r whole
-left_done l r out whole [] ys empty wrote so_far =
-    subst (IsWhole l r) (sym wrote) (merge_union l r out ys so_far, merge_end l r out ys so_far)
-left_done l r out whole (x ∷ xs) ys empty wrote so_far = absurd (omega arith)
+union_is : (l r both : List ℕ) → IsUnion l r both → IsStrictlyIncreasing both → IsWhole l r both
+union_is l r both union increases =
+    (ascending_same both (ascending (l ++ r)) (ascending_of_increasing both increases) (ascending-is (l ++ r))
+      (λ z inside. member-ascending z (l ++ r)
+        (⊎_elim
+          (λ (h : Contains l z). member-append_left z l r (member_of_contains z l h))
+          (λ (h : Contains r z). member-append_right z l r (member_of_contains z r h))
+          ((union z).0 (contains_of_member z both inside))))
+      (λ z inside. member_of_contains z both ((union z).1
+        (⊎_elim
+          (λ (h : IsMember z l). inl (contains_of_member z l h))
+          (λ (h : IsMember z r). inr (contains_of_member z r h))
+          (member-append z l r (ascending-member z (l ++ r) inside))))),
+    ascending_of_increasing both increases)
 
 union_swap : (l r whole : List ℕ) → IsUnion r l whole → IsUnion l r whole
 union_swap l r whole union = λ z. (λ inside. swap_sides ((union z).0 inside), λ inside. (union z).1 (swap_sides inside))
+
+left_done : (l r out whole xs ys : List ℕ) → length xs ≡ 0 → whole ≡ out ++ ys → Merged l r out xs ys → IsWhole l r whole
+left_done l r out whole [] ys empty wrote so_far =
+    subst (IsWhole l r) (sym wrote) (union_is l r (out ++ ys) (merge_union l r out ys so_far) (merge_end l r out ys so_far))
+left_done l r out whole (x ∷ xs) ys empty wrote so_far = absurd (omega arith)
 
 pub ends_left : (l r out whole xs ys : List ℕ) → length xs < 1 → whole ≡ out ++ ys → Merged l r out xs ys → IsWhole l r whole
 ends_left l r out whole xs ys empty wrote so_far = left_done l r out whole xs ys (omega arith) wrote so_far
 
 pub ends_right : (l r out whole xs ys : List ℕ) → length ys < 1 → whole ≡ out ++ xs → Merged l r out xs ys → IsWhole l r whole
-ends_right l r out whole xs ys empty wrote so_far =
-    let swapped = left_done r l out whole ys xs (omega arith) wrote (merge_swap l r out xs ys so_far) in
-    (union_swap l r whole swapped.0, swapped.1)
+ends_right l r out whole xs [] empty wrote so_far =
+    let swapped = merge_swap l r out xs [] so_far in
+    subst (IsWhole l r) (sym wrote)
+      (union_is l r (out ++ xs) (union_swap l r (out ++ xs) (merge_union r l out xs swapped)) (merge_end r l out xs swapped))
+ends_right l r out whole xs (y ∷ ys) empty wrote so_far = absurd (omega arith)

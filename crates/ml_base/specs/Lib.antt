@@ -8,5 +8,3 @@ pub mod Faults
 pub mod Memory
 -- what a whole read and a whole write leave behind
 pub mod Whole
--- finite sets of numbers
-pub mod IdSet

@@ -1,7 +1,7 @@
 // Finite sets of numbers.
-ghost use Rattle.std.specs.Prelude.{◌≡◌, ◌↔◌, ℕ, List, [], Contains, IsTrue, IfOk, OnOk, OnErr};
-ghost use Rattle.std.specs.List.Sorted.{IsStrictlyIncreasing};
-ghost use Rattle.ml_base.specs.IdSet.{IsWith, IsUnion};
+ghost use Rattle.std.specs.Prelude.{◌≡◌, ◌↔◌, [], ◌++◌, IsTrue, IfOk, OnOk, OnErr};
+ghost use Rattle.ml_lists.specs.Ascending.{IsAscending, ascending, insert_once};
+ghost use Rattle.ml_lists.specs.Member.{IsMember};
 
 use crate::no_memory::NoMemory;
 use std::alloc::Global;
@@ -17,13 +17,13 @@ pub struct IdSet {
 
 impl Model for IdSet {
     ghost use Rattle.std.specs.Prelude.{List, ℕ};
-    ghost use Rattle.std.specs.List.Sorted.{IsStrictlyIncreasing};
+    ghost use Rattle.ml_lists.specs.Ascending.{IsAscending};
 
     ghost Value = { List ℕ };
 
     ghost view = { λ set. set.members.items };
 
-    ghost invariant = { λ set. IsStrictlyIncreasing set.members.items };
+    ghost invariant = { λ set. IsAscending set.members.items };
 }
 
 impl IdSet {
@@ -40,7 +40,7 @@ impl IdSet {
     ///
     /// Cost: logarithmic in the members.
     pub fn contains(&self, x: u32) -> bool
-        ensures { IsTrue result ↔ Contains self.now x }
+        ensures { IsTrue result ↔ IsMember x self.now }
     {
         self.members.binary_search(&x).is_ok()
     }
@@ -48,7 +48,7 @@ impl IdSet {
     /// The members, in ascending order.
     pub fn values(&self) -> &[u32]
         ensures value { result.now ≡ self.now }
-        ensures ascends { IsStrictlyIncreasing result.now }
+        ensures ascends { IsAscending result.now }
     {
         self.members.as_slice()
     }
@@ -60,9 +60,8 @@ impl IdSet {
     ///
     /// Cost: linear in the members behind it.
     pub fn insert(&mut self, x: u32) -> Result<bool, NoMemory>
-        ensures is_new { IfOk result (λ is_new. IsTrue is_new ↔ ¬ (Contains self.old x)) }
-        ensures members { OnOk result (IsWith self.old x self.new) }
-        ensures ascends { IsStrictlyIncreasing self.new }
+        ensures is_new { IfOk result (λ is_new. IsTrue is_new ↔ ¬ (IsMember x self.old)) }
+        ensures after { OnOk result (self.new ≡ insert_once x self.old) }
         ensures unchanged { OnErr result (self.new ≡ self.old) }
     {
         match self.members.binary_search(&x) {
@@ -81,8 +80,7 @@ impl IdSet {
     ///
     /// Cost: linear in the members of both.
     pub fn union(&self, other: &IdSet) -> Result<IdSet, NoMemory>
-        ensures members { IfOk result (IsUnion self.now other.now) }
-        ensures ascends { IfOk result IsStrictlyIncreasing }
+        ensures { IfOk result (λ both. both ≡ ascending (self.now ++ other.now)) }
     {
         let alloc = *self.members.allocator();
         Ok(IdSet {
@@ -93,10 +91,10 @@ impl IdSet {
 
 // two ascending lists as one
 fn merge(alloc: Global, left: &[u32], right: &[u32]) -> Result<Vec<u32>, NoMemory>
-    requires left { IsStrictlyIncreasing left.now }
-    requires right { IsStrictlyIncreasing right.now }
-    ensures members { IfOk result (λ both. IsUnion left.now right.now both.items) }
-    ensures ascends { IfOk result (λ both. IsStrictlyIncreasing both.items) }
+    requires left { IsAscending left.now }
+    requires right { IsAscending right.now }
+    ensures value { IfOk result (λ both. both.items ≡ ascending (left.now ++ right.now)) }
+    ensures ascends { IfOk result (λ both. IsAscending both.items) }
 {
     let mut both = Vec::new(alloc);
     let (mut xs, mut ys) = (left, right);

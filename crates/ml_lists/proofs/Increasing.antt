@@ -1,6 +1,6 @@
--- Strictly ascending lists of numbers, by recursion: how one is put together, and that its members determine it.
+-- Strictly increasing lists of numbers, by recursion: how one is put together.
 --
--- The public word is the library's `IsStrictlyIncreasing`, which goes by places. Proofs by recursion use `Ascends`.
+-- `IsAscending` speaks of members and the library's `IsStrictlyIncreasing` of places. `Ascends`, between the two, computes.
 --
 --   Above x ys         == x is below each number of ys
 --   Ascends xs         == each number of xs is below all that stand behind it
@@ -8,8 +8,8 @@
 --   increasing_from    == and the other way round
 --   ascends_with       == a number in the middle, above what stands before it and below what stands behind
 --   ascends_merge      == of two lists with one front, the lesser head goes to the front of both
---   same_members       == ascending lists with the same members are equal
-use Rattle.std.proofs.Common.{◌≡◌, ℕ, ◌<◌, List, [], ◌∷◌, ◌++◌, Contains, refl, sym, subst, ⊎_elim, append_assoc, arith}
+--   increasing_of_ascending, ascending_of_increasing  == the same as `IsAscending`
+use Rattle.std.proofs.Common.{◌≡◌, ℕ, ◌<◌, List, [], ◌∷◌, ◌++◌, Contains, refl, sym, subst, inl, inr, append_assoc, arith}
 use Rattle.std.specs.List.{AllByRecursion}
 use Rattle.std.specs.List.Sorted.{IsStrictlySortedBy, IsStrictlyIncreasing}
 use Rattle.std.specs.Ordering.{nat_cmp}
@@ -17,6 +17,8 @@ use Rattle.std.specs.Cmp.{nat_cmp_is}
 use Rattle.std.specs.declared.cmp.Ordering.TheVariants.{Less}
 use Rattle.std.proofs.lemmas.Cmp.{ranked}
 use Rattle.std.proofs.lemmas.Map.Keys.{IsStrictlyIncreasing-from_sorted, sorted_from_strictly_increasing}
+use Rattle.ml_lists.specs.Ascending.{IsAscending}
+use Rattle.ml_lists.specs.Member.{IsMember}
 use Rattle.ml_lists.proofs.Members.{contains_head, contains_later, contains_cases, contains_none}
 
 abbrev pub Above : ℕ → List ℕ → Type 0
@@ -98,44 +100,25 @@ ascends_merge front x xs y ys below left right =
     ascends_moved front x (y ∷ ys)
     (ascends_with front x (y ∷ ys) right (below_front front x xs left) (below, above_chain x y ys below (above_back front y ys right)))
 
--- what a list contains above a number is above it
-above_each : (x : ℕ) (ys : List ℕ) → Above x ys → (z : ℕ) → Contains ys z → x < z
-above_each x [] above z inside = absurd (contains_none z inside)
-above_each x (y ∷ ys) above z inside =
-    ⊎_elim
-    (λ (is : y ≡ z). let below = above.0 in omega arith)
-    (λ (later : Contains ys z). above_each x ys above.1 z later)
-    (contains_cases y ys z inside)
+members_above : (x : ℕ) (ys : List ℕ) → ((y : ℕ) → IsMember y ys → x < y) → Above x ys
+members_above x [] each = tt
+members_above x (y ∷ ys) each = (each y (inl refl), members_above x ys (λ z inside. each z (inr inside)))
 
-heads_same : (x : ℕ) (xs : List ℕ) (y : ℕ) (ys : List ℕ) → Above x xs → Above y ys → Contains (y ∷ ys) x → Contains (x ∷ xs) y → x ≡ y
-heads_same x xs y ys above_x above_y x_in y_in =
-    ⊎_elim
-    (λ (is : y ≡ x). sym is)
-    (λ (x_later : Contains ys x).
-    ⊎_elim
-    (λ (is : x ≡ y). is)
-    (λ (y_later : Contains xs y).
-    let up = above_each x xs above_x y y_later in
-    let down = above_each y ys above_y x x_later in
-    omega arith)
-    (contains_cases x xs y y_in))
-    (contains_cases y ys x x_in)
+above_members : (x : ℕ) (ys : List ℕ) → Above x ys → (y : ℕ) → IsMember y ys → x < y
+above_members x [] above z inside = absurd inside
+above_members x (y ∷ ys) above z (inl is) = subst (λ w. x < w) (sym is) above.0
+above_members x (y ∷ ys) above z (inr later) = above_members x ys above.1 z later
 
-tail_within : (x : ℕ) (xs : List ℕ) (y : ℕ) (ys : List ℕ) → Above x xs → x ≡ y → ((z : ℕ) → Contains (x ∷ xs) z → Contains (y ∷ ys) z)
-    → (z : ℕ) → Contains xs z → Contains ys z
-tail_within x xs y ys above same within z inside =
-    ⊎_elim
-    (λ (is : y ≡ z). let up = above_each x xs above z inside in absurd (omega arith))
-    (λ (later : Contains ys z). later)
-    (contains_cases y ys z (within z (contains_later x xs z inside)))
+ascends_of : (xs : List ℕ) → IsAscending xs → Ascends xs
+ascends_of [] ascending = tt
+ascends_of (x ∷ xs) ascending = (members_above x xs ascending.0, ascends_of xs ascending.1)
 
-pub same_members : (xs ys : List ℕ) → Ascends xs → Ascends ys → ((z : ℕ) → Contains xs z → Contains ys z) → ((z : ℕ) → Contains ys z → Contains xs z)
-    → xs ≡ ys
-same_members [] [] xs_ascends ys_ascends there back = refl
-same_members [] (y ∷ ys) xs_ascends ys_ascends there back = absurd (contains_none y (back y (contains_head y ys)))
-same_members (x ∷ xs) [] xs_ascends ys_ascends there back = absurd (contains_none x (there x (contains_head x xs)))
-same_members (x ∷ xs) (y ∷ ys) xs_ascends ys_ascends there back =
-    let heads = heads_same x xs y ys xs_ascends.0 ys_ascends.0 (there x (contains_head x xs)) (back y (contains_head y ys)) in
-    let tails = same_members xs ys xs_ascends.1 ys_ascends.1
-    (tail_within x xs y ys xs_ascends.0 heads there) (tail_within y ys x xs ys_ascends.0 (sym heads) back) in
-    λ i. heads i ∷ tails i
+ascending_of : (xs : List ℕ) → Ascends xs → IsAscending xs
+ascending_of [] ascends = tt
+ascending_of (x ∷ xs) ascends = (above_members x xs ascends.0, ascending_of xs ascends.1)
+
+pub increasing_of_ascending : (xs : List ℕ) → IsAscending xs → IsStrictlyIncreasing xs
+increasing_of_ascending xs ascending = increasing_from xs (ascends_of xs ascending)
+
+pub ascending_of_increasing : (xs : List ℕ) → IsStrictlyIncreasing xs → IsAscending xs
+ascending_of_increasing xs increases = ascending_of xs (ascends_from xs increases)

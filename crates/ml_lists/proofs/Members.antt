@@ -7,7 +7,9 @@
 --   contains_middle  == what stands in the middle is contained
 --   contains_without == and what else a list contains is contained without it
 --   contains_with    == what a list contains is contained with something in the middle too
-use Rattle.std.proofs.Common.{◌≡◌, zero, suc, ◌⊎◌, List, [], ◌∷◌, ◌++◌, Contains, inl, inr, refl, ⊎_elim, arith}
+--   member_of_contains, contains_of_member  == the same as `IsMember`
+use Rattle.std.proofs.Common.{◌≡◌, zero, suc, ◌⊎◌, List, [], ◌∷◌, ◌++◌, Contains, inl, inr, refl, sym, subst, ⊎_elim, arith}
+use Rattle.ml_lists.specs.Member.{IsMember}
 use Rattle.std.proofs.lemmas.List.Elements.{Contains-append_left, Contains-append_right, Contains-append_cases}
 
 pub contains_head : {X : Type 0} (x : X) (xs : List X) → Contains (x ∷ xs) x
@@ -44,3 +46,12 @@ contains_with front x back q inside =
     (λ (before : Contains front q). Contains-append_left front (x ∷ back) q before)
     (λ (after : Contains back q). Contains-append_right front (x ∷ back) q (contains_later x back q after))
     (Contains-append_cases front back q inside)
+
+pub member_of_contains : {X : Type 0} (x : X) (xs : List X) → Contains xs x → IsMember x xs
+member_of_contains x [] inside = absurd (contains_none x inside)
+member_of_contains x (y ∷ ys) inside = ⊎_elim (λ (is : y ≡ x). inl (sym is)) (λ (later : Contains ys x). inr (member_of_contains x ys later)) (contains_cases y ys x inside)
+
+pub contains_of_member : {X : Type 0} (x : X) (xs : List X) → IsMember x xs → Contains xs x
+contains_of_member x [] inside = absurd inside
+contains_of_member x (y ∷ ys) (inl is) = subst (λ z. Contains (z ∷ ys) x) is (contains_head x ys)
+contains_of_member x (y ∷ ys) (inr later) = contains_later y ys x (contains_of_member x ys later)

@@ -23,8 +23,8 @@ loop-xs-preserved c =
     equal_step c.args.left.now c.args.right.now c.loop-xs.both.items c.push-in-Equal.new.self.items c.loop-xs.xs.now c.loop-xs.ys.now (omega arith) (omega arith)
     c.in-Equal.ensures c.in_ok-push-in-Equal.ensures.items c.loop-xs.invariant
 
-pub returns-in_default-ys-clause-members : goal.returns-in_default-ys-clause-members
-returns-in_default-ys-clause-members c =
+pub returns-in_default-ys-clause-value : goal.returns-in_default-ys-clause-value
+returns-in_default-ys-clause-value c =
     (ends_right c.args.left.now c.args.right.now c.loop-xs.both.items c.extend_from_slice.new.self.items c.loop-xs.xs.now c.loop-xs.ys.now (omega arith)
     c.in_ok-extend_from_slice.ensures.items c.loop-xs.invariant).0
 
@@ -33,8 +33,8 @@ returns-in_default-ys-clause-ascends c =
     (ends_right c.args.left.now c.args.right.now c.loop-xs.both.items c.extend_from_slice.new.self.items c.loop-xs.xs.now c.loop-xs.ys.now (omega arith)
     c.in_ok-extend_from_slice.ensures.items c.loop-xs.invariant).1
 
-pub returns-clause-members : goal.returns-clause-members
-returns-clause-members c =
+pub returns-clause-value : goal.returns-clause-value
+returns-clause-value c =
     (ends_left c.args.left.now c.args.right.now c.loop-xs.both.items c.extend_from_slice-2.new.self.items c.loop-xs.xs.now c.loop-xs.ys.now (omega arith)
     c.in_ok-extend_from_slice-2.ensures.items c.loop-xs.invariant).0
 
