@@ -103,17 +103,17 @@ put_ascending xs x i ascends found = ascending_of_increasing (insert xs i x) (pu
 pub put_is : (xs : List ℕ) (x i : ℕ) → IsAscending xs → Found xs x (Err i) → insert xs i x ≡ insert_once x xs
 put_is xs x i ascends found =
     ascending_same (insert xs i x) (insert_once x xs) (put_ascending xs x i ascends found) (insert_once-is x xs ascends)
-      (λ y inside.
-        ⊎_elim
-          (λ (is : y ≡ x). subst (λ z. IsMember z (insert_once x xs)) (sym is) (member-insert_once x xs))
-          (λ (h : Contains xs y). insert_once-keeps y x xs (member_of_contains y xs h))
-          ((put_members xs x i y).0 (contains_of_member y (insert xs i x) inside)))
-      (λ y inside.
-        member_of_contains y (insert xs i x) ((put_members xs x i y).1
-          (⊎_elim
-            (λ (is : y ≡ x). inl is)
-            (λ (h : IsMember y xs). inr (contains_of_member y xs h))
-            (insert_once-member y x xs inside))))
+    (λ y inside.
+    ⊎_elim
+    (λ (is : y ≡ x). subst (λ z. IsMember z (insert_once x xs)) (sym is) (member-insert_once x xs))
+    (λ (h : Contains xs y). insert_once-keeps y x xs (member_of_contains y xs h))
+    ((put_members xs x i y).0 (contains_of_member y (insert xs i x) inside)))
+    (λ y inside.
+    member_of_contains y (insert xs i x) ((put_members xs x i y).1
+    (⊎_elim
+    (λ (is : y ≡ x). inl is)
+    (λ (h : IsMember y xs). inr (contains_of_member y xs h))
+    (insert_once-member y x xs inside))))
 
 pub found_member : (xs : List ℕ) (x i : ℕ) → IsAscending xs → Found xs x (Ok i) → IsMember x xs
 found_member xs x i ascends found = member_of_contains x xs (found_at xs x i (increasing_of_ascending xs ascends) found)
@@ -122,12 +122,12 @@ pub found_is : (xs : List ℕ) (x i : ℕ) → IsAscending xs → Found xs x (Ok
 found_is xs x i ascends found =
     let here = found_member xs x i ascends found in
     ascending_same xs (insert_once x xs) ascends (insert_once-is x xs ascends)
-      (λ y inside. insert_once-keeps y x xs inside)
-      (λ y inside.
-        ⊎_elim
-          (λ (is : y ≡ x). subst (λ z. IsMember z xs) (sym is) here)
-          (λ (h : IsMember y xs). h)
-          (insert_once-member y x xs inside))
+    (λ y inside. insert_once-keeps y x xs inside)
+    (λ y inside.
+    ⊎_elim
+    (λ (is : y ≡ x). subst (λ z. IsMember z xs) (sym is) here)
+    (λ (h : IsMember y xs). h)
+    (insert_once-member y x xs inside))
 
 pub one_list : (xs ys : List ℕ) → IsAscending xs → IsAscending ys → ((x : ℕ) → IsMember x xs ↔ IsMember x ys) → xs ≡ ys
 one_list xs ys left right same = ascending_same xs ys left right (λ z. (same z).0) (λ z. (same z).1)

@@ -200,19 +200,20 @@ abbrev pub IsWhole : List ℕ → List ℕ → List ℕ → Type 0
 IsWhole l r whole = (whole ≡ ascending (l ++ r)) × IsAscending whole
 
 union_is : (l r both : List ℕ) → IsUnion l r both → IsStrictlyIncreasing both → IsWhole l r both
-union_is l r both union increases =
-    (ascending_same both (ascending (l ++ r)) (ascending_of_increasing both increases) (ascending-is (l ++ r))
+union_is l r both union increases = (
+  ascending_same both (ascending (l ++ r)) (ascending_of_increasing both increases) (ascending-is (l ++ r))
       (λ z inside. member-ascending z (l ++ r)
-        (⊎_elim
-          (λ (h : Contains l z). member-append_left z l r (member_of_contains z l h))
-          (λ (h : Contains r z). member-append_right z l r (member_of_contains z r h))
-          ((union z).0 (contains_of_member z both inside))))
+      (⊎_elim
+      (λ (h : Contains l z). member-append_left z l r (member_of_contains z l h))
+      (λ (h : Contains r z). member-append_right z l r (member_of_contains z r h))
+      ((union z).0 (contains_of_member z both inside))))
       (λ z inside. member_of_contains z both ((union z).1
-        (⊎_elim
-          (λ (h : IsMember z l). inl (contains_of_member z l h))
-          (λ (h : IsMember z r). inr (contains_of_member z r h))
-          (member-append z l r (ascending-member z (l ++ r) inside))))),
-    ascending_of_increasing both increases)
+      (⊎_elim
+      (λ (h : IsMember z l). inl (contains_of_member z l h))
+      (λ (h : IsMember z r). inr (contains_of_member z r h))
+      (member-append z l r (ascending-member z (l ++ r) inside))))),
+  ascending_of_increasing both increases,
+)
 
 union_swap : (l r whole : List ℕ) → IsUnion r l whole → IsUnion l r whole
 union_swap l r whole union = λ z. (λ inside. swap_sides ((union z).0 inside), λ inside. (union z).1 (swap_sides inside))
@@ -229,5 +230,5 @@ pub ends_right : (l r out whole xs ys : List ℕ) → length ys < 1 → whole �
 ends_right l r out whole xs [] empty wrote so_far =
     let swapped = merge_swap l r out xs [] so_far in
     subst (IsWhole l r) (sym wrote)
-      (union_is l r (out ++ xs) (union_swap l r (out ++ xs) (merge_union r l out xs swapped)) (merge_end r l out xs swapped))
+    (union_is l r (out ++ xs) (union_swap l r (out ++ xs) (merge_union r l out xs swapped)) (merge_end r l out xs swapped))
 ends_right l r out whole xs (y ∷ ys) empty wrote so_far = absurd (omega arith)

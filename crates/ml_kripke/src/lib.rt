@@ -14,9 +14,9 @@ mod body_rule;
 pub mod laws;
 mod model;
 mod read;
+mod read_line;
 #[cfg(test)]
 mod read_tests;
-mod read_line;
 mod structure;
 mod write;
 

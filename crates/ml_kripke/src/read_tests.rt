@@ -7,7 +7,8 @@ use std::test::Fail;
 #[test]
 fn what_is_written_is_read(rt: HostRuntime) -> Result<(), Fail> {
     let alloc = rt.alloc();
-    let text = b"states 2\nstart 1\nstate 0 p\nstate 1 p q\nedge 0 _ 1\nedge 1 a 1\nedge 1 b 0\nend\n";
+    let text =
+        b"states 2\nstart 1\nstate 0 p\nstate 1 p q\nedge 0 _ 1\nedge 1 a 1\nedge 1 b 0\nend\n";
     let model = read_model(alloc, text, 6)?;
     assert_eq!(rt; model.start, 1);
     assert_eq!(rt; model.structure.states(), 2);
@@ -64,8 +65,16 @@ const BROKEN: [(&'static [u8], u64, u32); 33] = [
     (b"states 1\nstart 0\nstate 0\nedge 0 1 0\nend\n", 9, 17),
     (b"states 1\nstart 0\nstate 0\nedge 00 _ 0\nend\n", 9, 12),
     (b"states 1\nstart 0\nstate 0\nedge 0 _\nend\n", 9, 11),
-    (b"states 1\nstart 0\nstate 0\nedge 0 _ 0\nedge 0 _ 0\nend\n", 10, 17),
-    (b"states 1\nstart 0\nstate 0\nedge 0 b 0\nedge 0 a 0\nend\n", 10, 17),
+    (
+        b"states 1\nstart 0\nstate 0\nedge 0 _ 0\nedge 0 _ 0\nend\n",
+        10,
+        17,
+    ),
+    (
+        b"states 1\nstart 0\nstate 0\nedge 0 b 0\nedge 0 a 0\nend\n",
+        10,
+        17,
+    ),
     (b"states 1\nstart 0\nstate 0\nend", 9, 11),
     (b"states 1\nstart 0\nstate 0\nend\nend\n", 10, 11),
 ];

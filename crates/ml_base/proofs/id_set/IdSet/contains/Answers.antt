@@ -11,4 +11,4 @@ returns c =
     let ascends = subst IsAscending (sym c.deref.ensures.value) c.self.invariant in
     let found = search_member c.deref.result.now c.args.x c.binary_search.result ascends c.binary_search.ensures.position in
     subst (λ b. IsTrue b ↔ IsMember c.args.x c.args.self.now) (sym c.is_ok.ensures.value)
-      (subst (λ xs. IsTrue (is_ok c.binary_search.result) ↔ IsMember c.args.x xs) here found)
+    (subst (λ xs. IsTrue (is_ok c.binary_search.result) ↔ IsMember c.args.x xs) here found)
