@@ -6,10 +6,14 @@
 --
 --   walk_join      == a walk, and a walk from where it ends
 --   walk_keeps     == numbers that do not rise along arcs, and fall along those of priority p, bound the count of a walk
+--   counts-one, counts-none == what an arc counts
+--   settled_no_cycle == such numbers refuse a cycle whose lowest priority is p
 --   even_cycle_of  == a loop at an even p is an even cycle
 --   codes          == the codes of the arcs of priority p on a walk
 --   CutAt          == a walk, cut at an arc of priority p
 --   many_loop      == a walk with more than n arcs of priority p has a loop at p
+--   attained_none, attained_more == counts that are attained: that of no arc, and that of one arc more
+--   attained_loop  == a count above the number of vertices shows a loop
 use Rattle.std.proofs.Common.{ℕ, zero, suc, ◌≡◌, ◌+◌, ◌-◌, ◌%◌, ◌<◌, ◌≤◌, ◌⊎◌, inl, inr, arith, List, [], ◌∷◌, ◌++◌, length, get_or, subst, sym, ap, ◌∙◌, refl, cond, eqb, eq-eqb, ne_eqb, Contains}
 use Rattle.std.proofs.lemmas.Bool.{cases_eq, cond-true, cond-false}
 use Rattle.std.proofs.lemmas.List.Elements.{All-contains}

@@ -167,8 +167,9 @@ fn empty_rows(alloc: Global, size: u64) -> Result<Vec<Vec<u64>>, NoMemory>
 /// # Errors
 /// `NoMemory` alone.
 ///
-/// Cost: for each even priority two passes over the arcs, and two more for each cycle of odd lowest priority that they
-/// have to go round. Numbers are raised along arcs until none rises, as in the method of Bellman and Ford.
+/// Cost: for each even priority one walk depth first, and passes over the arcs until none raises a number. Where no cycle
+/// is in the way two passes do; round cycles of odd lowest priority it may take more, and at worst as many as numbers can
+/// be raised. No recursion. Source: the method of Bellman and Ford, for longest walks.
 pub fn heights(alloc: Global, graph: &OneSided) -> Result<Result<Heights, EvenCycle>, NoMemory>
     ensures answer { IfOk result (λ r. MatchResult r (AreLongest graph.now) (IsEvenCycle graph.now)) }
     ensures heights { IfOk result (λ r. IfOk r (AreHeights graph.now)) }
