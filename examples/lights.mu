@@ -1,0 +1,2 @@
+(red | yellow | green) & !(red & green) & !(yellow & green)
+& (stop <-> red & !yellow) & (go <-> green) & !stop & !go
