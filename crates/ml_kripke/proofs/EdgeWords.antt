@@ -6,7 +6,7 @@
 --   no_source, no_target == a word that is no number
 --   other_edge     == an edge that isn't behind the one before it
 --   edge_line_is   == the line of an edge, from its words
-use Rattle.std.proofs.Common.{◌≡◌, ◌≢◌, ℕ, ◌^◌, ◌<◌, List, [], ◌∷◌, false, Option, All, codes, refl, inl, inr, sym, ap, subst, ◌∙◌, ⊎_elim, arith}
+use Rattle.std.proofs.Common.{◌≡◌, ◌≢◌, ℕ, ◌^◌, ◌<◌, List, [], ◌∷◌, false, Option, All, codes, refl, inr, sym, ap, subst, ◌∙◌, ⊎_elim, arith}
 use Rattle.std.specs.Prelude.{◌⊎◌, IsTrue}
 use Rattle.std.specs.List.{join_with_byte}
 use Rattle.std.proofs.lemmas.Bool.{true≢false}
@@ -14,7 +14,7 @@ use Rattle.std.proofs.lemmas.List.Elements.{All-nil, All-cons, All-head, All-tai
 use Rattle.std.proofs.lemmas.List.Splits.{join_with_byte-slice_split}
 use Rattle.ml_base.specs.declared.structure.Edge.{Edge}
 use Rattle.ml_lines.specs.Lines.{Word, Line, number}
-use Rattle.ml_lines.specs.Reading.{AreWords, IsNumber, words_of, value, word}
+use Rattle.ml_lines.specs.Reading.{AreWords, IsNumber, words_of, value}
 use Rattle.ml_lines.proofs.Numbers.{value-number}
 use Rattle.ml_kripke.specs.BodyRules.{AtEdge, IsEdged, IsLowest, HasEdge, IsEdgeBehind}
 use Rattle.ml_kripke.specs.BodyParts.{IsEdgeLine}

@@ -4,14 +4,14 @@
 --   end_refused      == so a refusal that tells it, behind the edges
 --   if_err_weaker    == what is said of an error, said more weakly
 --   whole_end        == and where none do, the edges and `end` are the whole text
-use Rattle.std.proofs.Common.{◌≡◌, ◌≢◌, ℕ, ◌+◌, ◌^◌, ◌<◌, List, [], ◌∷◌, ◌++◌, length, map, Option, None, Result, Ok, Err, IfErr, refl, sym, ap, subst, ◌∙◌, arith}
+use Rattle.std.proofs.Common.{◌≡◌, ◌≢◌, ℕ, ◌+◌, ◌^◌, ◌<◌, List, [], ◌∷◌, ◌++◌, length, map, None, Result, Ok, Err, IfErr, refl, sym, ap, subst, ◌∙◌, arith}
 use Rattle.std.specs.List.{slice_split}
 use Rattle.ml_base.specs.declared.structure.Edge.{Edge}
 use Rattle.ml_lines.specs.Lines.{Line, text_of}
 use Rattle.ml_lines.specs.Reading.{words_of, lines_of, left_of, fronts, is_blank, is_line_end}
 use Rattle.ml_lines.proofs.Cuts.{some_part}
 use Rattle.ml_lines.proofs.WrittenLines.{text_read}
-use Rattle.ml_kripke.specs.BodyRules.{AtEdge, AtNothing, rule_number, after}
+use Rattle.ml_kripke.specs.BodyRules.{AtEdge, AtNothing, rule_number}
 use Rattle.ml_kripke.specs.BodyParts.{IsWholeEnd, last_of}
 use Rattle.ml_kripke.specs.ModelText.{edge_line, end_line}
 use Rattle.ml_kripke.specs.Refusals.{TellsFault}

@@ -6,7 +6,6 @@
 --   good_no_bad    == where no line is bad, none is the first bad one
 
 use Rattle.std.proofs.Common.{◌≡◌, ℕ, ◌+◌, List, [], ◌∷◌, refl, sym, subst, ⊎_elim, inl, inr}
-use Rattle.std.specs.Prelude.{◌⊎◌}
 use Rattle.ml_lines.specs.Lines.{Line}
 use Rattle.ml_lines.specs.Reading.{lines_of, left_of}
 use Rattle.ml_kripke.specs.BodyRules.{Place, after, IsGood, IsLowest, IsFirstBad, IsReadable, rule_number}

@@ -4,21 +4,20 @@
 --   good_states, good_start, good_state, good_edge, good_end, good_nothing == each kind of line keeps all rules
 --   after_states, after_edge                                == what stands behind it
 --   at_state_below, at_state_done                           == the line of a state, and behind the last one an edge
-use Rattle.std.proofs.Common.{◌≡◌, ◌==◌, ℕ, ◌+◌, ◌^◌, ◌<◌, ◌≤◌, Bool, true, false, cond, ◌&&◌, ◌||◌, nat_lt, nat_le, List, [], ◌∷◌, Option, None, Some, length, All, IsTrue, codes, refl, sym, ap, subst, ◌∙◌, inl, inr, arith}
-use Rattle.std.specs.Char.{is_ascii_alphabetic, is_ascii_alphanumeric}
+use Rattle.std.proofs.Common.{◌≡◌, ◌==◌, ℕ, ◌^◌, ◌<◌, ◌≤◌, Bool, true, false, cond, ◌&&◌, ◌||◌, nat_lt, nat_le, List, [], ◌∷◌, Option, None, Some, length, All, refl, sym, ap, subst, inl, inr, arith}
+use Rattle.std.specs.Char.{is_ascii_alphabetic}
 use Rattle.std.specs.List.{list_all}
 use Rattle.std.proofs.lemmas.Bool.Decides.{nat_tests}
 use Rattle.std.proofs.lemmas.List.Elements.{All-nil, All-cons, All-head, All-tail}
 use Rattle.ml_base.specs.declared.structure.Edge.{Edge}
 use Rattle.ml_base.specs.Name.{IsName, IsAction, is_name, is_name_byte, is_blank_action, longest_name}
-use Rattle.ml_lines.specs.Lines.{Word, Line, number}
-use Rattle.ml_lines.specs.Reading.{AreWords, IsNumber, value, word, is_word, is_word_byte}
+use Rattle.ml_lines.specs.Lines.{Word, number}
+use Rattle.ml_lines.specs.Reading.{AreWords, IsNumber, is_word, is_word_byte}
 use Rattle.ml_lines.proofs.Numbers.{value-number}
 use Rattle.ml_lines.proofs.WordBytes.{both_true, parts_true, word_byte, word_bytes, number-is_word}
-use Rattle.ml_kripke.specs.BodyRules.{Place, AtStates, AtStart, AtState, AtEdge, AtNothing, at_state, after, Keeps, IsGood, IsEdgeBehind, edge_of}
+use Rattle.ml_kripke.specs.BodyRules.{AtStates, AtStart, AtState, AtEdge, AtNothing, at_state, after, IsGood, IsEdgeBehind, edge_of}
 use Rattle.ml_kripke.specs.BodyParts.{Ascend}
 use Rattle.ml_kripke.specs.ModelText.{states_line, start_line, end_line, state_line, edge_line}
-use Rattle.ml_kripke.specs.declared.body_rule.BodyRule.{BodyRule}
 use Rattle.ml_kripke.specs.declared.body_rule.BodyRule.TheVariants.{OfKind, Numbers, HasStates, StartInRange, NextState, Labels, Edges}
 
 -- ---- words

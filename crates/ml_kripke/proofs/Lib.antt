@@ -38,3 +38,5 @@ pub mod PartFaults
 pub mod Ends
 -- a whole body
 pub mod Whole
+-- the least state that doesn't go on
+pub mod DeadStates

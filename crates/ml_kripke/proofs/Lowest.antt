@@ -5,15 +5,14 @@
 --   no_states, bad_start, other_state, bad_labels, bad_edge  == a line that keeps the rules up to that one
 --   states_no_number, start_no_number, state_no_number       == the word behind `states`, `start`, `state` is no number
 --   told             == what is said of a rule is said of one that it is equal to
-use Rattle.std.proofs.Common.{◌≡◌, ℕ, ◌+◌, ◌^◌, ◌<◌, ◌≤◌, List, [], ◌∷◌, Option, None, Some, drop, All, IsTrue, codes, refl, sym, ap, subst, ◌∙◌, inl, inr, ⊎_elim, arith}
-use Rattle.std.specs.Prelude.{◌⊎◌}
-use Rattle.std.proofs.lemmas.List.Elements.{All-nil, All-cons, All-head, All-tail}
+use Rattle.std.proofs.Common.{◌≡◌, ℕ, ◌^◌, ◌<◌, ◌≤◌, List, [], ◌∷◌, Option, drop, All, codes, sym, ap, subst, ◌∙◌, ⊎_elim, arith}
+use Rattle.std.proofs.lemmas.List.Elements.{All-nil, All-cons, All-head}
 use Rattle.ml_base.specs.declared.structure.Edge.{Edge}
 use Rattle.ml_base.specs.Name.{IsName}
 use Rattle.ml_lines.specs.Lines.{Word, Line, number}
 use Rattle.ml_lines.specs.Reading.{AreWords, IsNumber, value, word}
 use Rattle.ml_lines.proofs.Numbers.{value-number}
-use Rattle.ml_kripke.specs.BodyRules.{Place, AtStates, AtStart, AtState, AtEdge, AtNothing, Keeps, IsOfKind, IsNumbered, IsEdged, numbers, IsGood, IsLowest, HasLabels, HasEdge, is_end, IsEdgeBehind, edge_of, rule_number}
+use Rattle.ml_kripke.specs.BodyRules.{Place, AtStates, AtStart, AtState, AtEdge, Keeps, IsOfKind, IsEdged, numbers, IsLowest, HasEdge, rule_number}
 use Rattle.ml_kripke.specs.BodyParts.{Ascend}
 use Rattle.ml_kripke.specs.declared.body_rule.BodyRule.{BodyRule}
 use Rattle.ml_kripke.specs.declared.body_rule.BodyRule.TheVariants.{OfKind, Numbers, HasStates, StartInRange, NextState, Labels, Edges}

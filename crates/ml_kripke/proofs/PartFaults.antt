@@ -3,14 +3,14 @@
 --   state_refused, state_missing  == a state's line that is bad or missing, behind those of other states
 --   edge_refused, edge_missing    == an edge's line that is bad or missing, behind other edges
 --   rows_room, edges_room         == there are no more lines than bytes
-use Rattle.std.proofs.Common.{◌≡◌, ℕ, ◌+◌, ◌^◌, ◌<◌, ◌≤◌, List, [], ◌∷◌, ◌++◌, length, map, Option, None, Some, refl, sym, ap, subst, ◌∙◌, append_assoc, length-append, arith}
+use Rattle.std.proofs.Common.{◌≡◌, ℕ, ◌+◌, ◌^◌, ◌<◌, ◌≤◌, List, [], ◌∷◌, length, None, sym, subst, arith}
 use Rattle.std.proofs.lemmas.List.{length-map}
 use Rattle.ml_base.specs.declared.structure.Edge.{Edge}
 use Rattle.ml_lines.specs.Lines.{Word, Line}
 use Rattle.ml_lines.specs.Reading.{lines_of, left_of}
-use Rattle.ml_kripke.specs.BodyRules.{Place, AtState, AtEdge, AtNothing, at_state, IsGood, IsLowest, rule_number}
-use Rattle.ml_kripke.specs.BodyParts.{GoesOn, AreEdges, IsEdgeLine, last_of}
-use Rattle.ml_kripke.specs.ModelText.{state_lines, edge_line, end_line}
+use Rattle.ml_kripke.specs.BodyRules.{AtState, AtEdge, at_state, rule_number}
+use Rattle.ml_kripke.specs.BodyParts.{last_of}
+use Rattle.ml_kripke.specs.ModelText.{edge_line}
 use Rattle.ml_kripke.specs.Refusals.{TellsRule, TellsFault, at_line}
 use Rattle.ml_kripke.specs.declared.body_rule.BodyRule.TheVariants.{OfKind}
 use Rattle.ml_kripke.specs.declared.read.ModelRefusal.{ModelRefusal}

@@ -4,14 +4,14 @@
 --   state_lines-push   == the lines of rows, and of one more
 --   rows_before, edges_before  == a first bad line behind lines of states, and behind lines of edges
 --   tells_rows, tells_edges    == so a refusal that tells it
-use Rattle.std.proofs.Common.{◌≡◌, ℕ, zero, ◌+◌, ◌^◌, ◌<◌, ◌≤◌, List, [], ◌∷◌, ◌++◌, length, map, Option, None, Some, All, refl, sym, ap, subst, ◌∙◌, append_assoc, length-append, arith}
+use Rattle.std.proofs.Common.{◌≡◌, ℕ, ◌+◌, ◌^◌, ◌<◌, ◌≤◌, List, [], ◌∷◌, ◌++◌, length, map, Option, None, Some, All, refl, sym, ap, subst, ◌∙◌, append_assoc, length-append, arith}
 use Rattle.std.proofs.lemmas.List.{map-append}
 use Rattle.std.proofs.lemmas.List.Elements.{All-nil, All-cons, All-head, All-tail}
 use Rattle.ml_base.specs.declared.structure.Edge.{Edge}
 use Rattle.ml_base.specs.Name.{IsName}
 use Rattle.ml_lines.specs.Lines.{Word, Line}
 use Rattle.ml_lines.specs.Reading.{lines_of, left_of}
-use Rattle.ml_kripke.specs.BodyRules.{Place, AtState, AtEdge, at_state, IsFirstBad, IsEdgeBehind}
+use Rattle.ml_kripke.specs.BodyRules.{AtState, AtEdge, at_state, IsFirstBad, IsEdgeBehind}
 use Rattle.ml_kripke.specs.BodyParts.{GoesOn, AreRows, AreEdges, IsStateLine, IsEdgeLine, Ascend, last_of}
 use Rattle.ml_kripke.specs.ModelText.{state_line, state_lines, edge_line}
 use Rattle.ml_kripke.specs.Refusals.{TellsFault}
@@ -19,7 +19,7 @@ use Rattle.ml_kripke.specs.declared.body_rule.BodyRule.{BodyRule}
 use Rattle.ml_kripke.specs.declared.read.ModelRefusal.{ModelRefusal}
 use Rattle.ml_kripke.specs.declared.read.ModelRefusal.TheVariants.{Fault, NoMemory}
 use Rattle.ml_kripke.proofs.Faults.{bad_later}
-use Rattle.ml_kripke.proofs.GoodLines.{good_state, good_edge, after_edge, at_state_below, at_state_done}
+use Rattle.ml_kripke.proofs.GoodLines.{good_state, good_edge, after_edge, at_state_below}
 
 pub goes_on : (text : List ℕ) (lines : List Line) (rest : List ℕ) (line : Line) (behind : List ℕ) → GoesOn text lines rest
     → lines_of rest ≡ line ∷ lines_of behind → left_of rest ≡ left_of behind → length behind + 1 ≤ length rest

@@ -4,14 +4,13 @@
 --   other_word     == a word that is no number
 --   other_labels   == words that are no labels in ascending order
 --   is_stated      == the line, from its number and its labels
-use Rattle.std.proofs.Common.{◌≡◌, ◌≢◌, ℕ, ◌^◌, ◌<◌, List, [], ◌∷◌, drop, All, codes, sym, ap, subst, ◌∙◌, arith}
-use Rattle.std.proofs.lemmas.List.Elements.{All-nil, All-cons, All-head}
+use Rattle.std.proofs.Common.{◌≡◌, ◌≢◌, ℕ, ◌^◌, ◌<◌, List, ◌∷◌, drop, All, codes, sym, ap, subst, ◌∙◌, arith}
 use Rattle.ml_base.specs.Name.{IsName}
 use Rattle.ml_lines.specs.Lines.{Word, Line, number}
 use Rattle.ml_lines.specs.Reading.{AreWords, IsNumber, value, word}
 use Rattle.ml_lines.proofs.Numbers.{value-number}
 use Rattle.ml_kripke.specs.BodyRules.{AtState, IsStated, IsLowest}
-use Rattle.ml_kripke.specs.BodyParts.{Ascend, IsStateLine}
+use Rattle.ml_kripke.specs.BodyParts.{Ascend}
 use Rattle.ml_kripke.specs.declared.body_rule.BodyRule.TheVariants.{Numbers, NextState, Labels}
 use Rattle.ml_kripke.proofs.Lowest.{IsSpelt, lowest_numbers, lowest_next, lowest_labels, one_number, not_one}
 

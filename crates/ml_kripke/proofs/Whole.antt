@@ -5,21 +5,21 @@
 --   parts_structure, parts_ordered, parts_named  == the parts that were read make an ordered structure with names
 --   whole_text                          == the text is that of the parts
 --   text_readable, fault_no_model       == the text of a model has no bad line; so where there is one, it is no model's
-use Rattle.std.proofs.Common.{◌≡◌, ℕ, zero, suc, ◌+◌, ◌^◌, ◌<◌, ◌≤◌, List, [], ◌∷◌, ◌++◌, length, map, Option, None, Some, MatchOption, Result, Err, IfErr, All, refl, sym, ap, subst, ◌∙◌, append_assoc, arith}
+use Rattle.std.proofs.Common.{◌≡◌, ℕ, ◌+◌, ◌^◌, ◌<◌, ◌≤◌, List, [], ◌∷◌, ◌++◌, length, map, Option, None, Some, MatchOption, Result, Err, IfErr, All, refl, sym, ap, subst, ◌∙◌, append_assoc, arith}
 use Rattle.std.proofs.lemmas.List.{append-nil}
 use Rattle.std.proofs.lemmas.List.Elements.{All-nil, All-cons, All-head, All-tail}
 use Rattle.ml_base.specs.declared.structure.Edge.{Edge}
 use Rattle.ml_base.specs.Name.{IsName, IsAction}
 use Rattle.ml_base.specs.Structure.{Structure, IsStructure}
-use Rattle.ml_lines.specs.Lines.{Word, Line, text_of}
+use Rattle.ml_lines.specs.Lines.{Word, text_of}
 use Rattle.ml_lines.specs.Reading.{lines_of, left_of}
 use Rattle.ml_lines.proofs.WrittenLines.{lines_read, text_read}
-use Rattle.ml_kripke.specs.BodyRules.{Place, AtStates, AtStart, AtState, AtEdge, AtNothing, at_state, IsReadable, IsEdgeBehind}
+use Rattle.ml_kripke.specs.BodyRules.{AtStates, AtStart, AtEdge, at_state, IsReadable}
 use Rattle.ml_kripke.specs.BodyParts.{GoesOn, AreRows, AreEdges, IsWholeEnd, Above, Ascend}
 use Rattle.ml_base.specs.declared.doc_fault.DocFault.{DocFault}
 use Rattle.std.specs.declared.cmp.Ordering.TheVariants.{Less}
 use Rattle.ml_kripke.specs.Laws.{IsWritten, IsModelText}
-use Rattle.ml_kripke.specs.ModelText.{states_line, start_line, state_line, state_lines, edge_line, end_line, model_lines, model_text}
+use Rattle.ml_kripke.specs.ModelText.{states_line, start_line, state_lines, edge_line, end_line, model_lines, model_text}
 use Rattle.ml_kripke.specs.Ordered.{of_parts, IsOrdered, HasNames, edge_cmp}
 use Rattle.ml_kripke.specs.Refusals.{TellsFault}
 use Rattle.ml_kripke.specs.declared.read.ModelRefusal.{ModelRefusal}

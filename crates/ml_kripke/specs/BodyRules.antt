@@ -18,7 +18,7 @@
 --   IsFaultFrom p k text f       == f tells the first bad line of the text, whose first line stands at p and has the
 --                                   number k, and the number of the lowest rule that it breaks
 --   IsFaultOf text first f       == the same of the text of a body
-use Rattle.std.specs.Prelude.{ℕ, ◌+◌, ◌<◌, ◌≡◌, ◌⊎◌, ⊤, Bool, true, false, nat_lt, List, [], ◌∷◌, Option, None, Some, MatchOption, drop, All, IsTrue, codes, slice_index_or, if◌then◌else◌}
+use Rattle.std.specs.Prelude.{ℕ, ◌+◌, ◌<◌, ◌≡◌, ◌⊎◌, ⊤, Bool, nat_lt, List, [], ◌∷◌, Option, None, Some, MatchOption, drop, All, IsTrue, codes, if◌then◌else◌}
 use Rattle.std.specs.List.Sorted.{IsStrictlySortedBy}
 use Rattle.std.specs.Ordering.{nat_cmp}
 use Rattle.std.specs.declared.cmp.Ordering.TheVariants.{Less}

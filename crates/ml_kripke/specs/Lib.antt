@@ -10,3 +10,5 @@ pub mod BodyRules
 pub mod BodyParts
 -- what a refusal of a text tells
 pub mod Refusals
+-- structures in which each state goes on
+pub mod Total

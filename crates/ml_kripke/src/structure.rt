@@ -1,11 +1,13 @@
 // Kripke structures, and how one is built.
-ghost use Rattle.std.specs.Prelude.{◌≡◌, ◌<◌, ◌↔◌, ℕ, [], length, map, find, nat_le, Some, All, IfOk, IsErrOf, slice_get, slice_index_or};
+ghost use Rattle.std.specs.Prelude.{◌≡◌, ◌<◌, ◌↔◌, ◌==◌, ◌&&◌, ℕ, [], length, map, find, nat_le, Some, All, IfOk, IsErrOf, IsTrue, MatchOption, slice_get, slice_index_or};
 ghost use Rattle.std.specs.List.{flat_map, range_with_len};
+ghost use Rattle.std.specs.Str.{bytes_eq};
 ghost use Rattle.ml_base.specs.Structure.{IsStructure, lists};
 ghost use Rattle.ml_kripke.specs.Ordered.{of_parts, IsOrdered, IsBuiltFrom, first_bad_state, ends, labels_at};
+ghost use Rattle.ml_kripke.specs.Total.{IsTotal, IsLeastDead};
 
 use crate::ascending::ascending;
-use ml_base::{Edge, Name, NoMemory};
+use ml_base::{Action, Edge, Name, NoMemory};
 use std::alloc::Global;
 use std::marker::Model;
 use thiserror::Error;
@@ -151,12 +153,49 @@ impl Structure {
         &self.edges
     }
 
+    /// Does each state have an edge with the action?
+    ///
+    /// Cost: linear in the edges. It takes no memory.
+    #[tactic(auto, using(crate::proofs::DeadStates::total_or_dead))]
+    pub fn is_total(&self, action: &Action) -> bool
+        ensures { IsTrue result ↔ IsTotal self.now action.now }
+    {
+        self.dead_state(action).is_none()
+    }
+
+    /// The least state that has no edge with the action; `None` exactly where each state has one.
+    ///
+    /// Cost: linear in the edges. It takes no memory.
+    pub fn dead_state(&self, action: &Action) -> Option<u32>
+        ensures { MatchOption result (IsTotal self.now action.now) (IsLeastDead self.now action.now) }
+    {
+        let states = self.states();
+        // all states below this one have an edge with the action
+        let mut state = 0;
+        for edge in self.edges() {
+            if edge.source > state {
+                return Some(state);
+            }
+            if leaves(edge, action, state) {
+                state += 1;
+            }
+        }
+        if state < states { Some(state) } else { None }
+    }
+
     // the labels, a row for each state
     pub(crate) fn rows(&self) -> &[Vec<Name>]
         ensures { map (λ row. row.items) result.now ≡ self.now.labels }
     {
         &self.labels
     }
+}
+
+// does the edge leave the state by the action?
+fn leaves(edge: &Edge, action: &Action, state: u32) -> bool
+    ensures { result ≡ ((edge.now.source == state) && bytes_eq edge.now.action action.now) }
+{
+    edge.source == state && edge.action.bytes() == action.bytes()
 }
 
 // the first state that isn't below the number of states

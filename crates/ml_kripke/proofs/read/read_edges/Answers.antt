@@ -1,8 +1,7 @@
-use Rattle.std.proofs.Common.{◌≡◌, ◌+◌, ◌-◌, ◌∷◌, ◌++◌, [], length, slice_get, None, ap, sym, subst, ◌∙◌, arith}
-use Rattle.std.specs.Option.{option_copied}
+use Rattle.std.proofs.Common.{◌≡◌, ◌+◌, ◌-◌, length, slice_get, None, ap, sym, subst, ◌∙◌, arith}
 use Rattle.ml_lines.specs.Reading.{lines_of, words_of}
 use Rattle.ml_kripke.specs.BodyRules.{AtEdge, AtNothing}
-use Rattle.ml_kripke.specs.BodyParts.{IsEdgeLine, last_of}
+use Rattle.ml_kripke.specs.BodyParts.{IsEdgeLine}
 use Rattle.ml_kripke.specs.Refusals.{TellsRule, TellsFault}
 use Rattle.ml_kripke.proofs.Chains.{last_is}
 use Rattle.ml_kripke.proofs.Ends.{if_err_weaker, end_refused}

@@ -1,6 +1,4 @@
 use Rattle.std.proofs.Common.{map}
-use Rattle.ml_kripke.specs.BodyParts.{GoesOn, AreRows}
-use Rattle.ml_kripke.specs.ModelText.{state_lines}
 use Rattle.ml_kripke.proofs.Parts.{AreRowsTo}
 use Rattle.ml_kripke.proofs.read.read_rows.Given as goal
 

@@ -2,7 +2,7 @@ use Rattle.ml_lines.specs.Reading.{left_of}
 use Rattle.ml_kripke.specs.BodyRules.{AtStart}
 use Rattle.ml_kripke.specs.declared.body_rule.BodyRule.TheVariants.{OfKind}
 use Rattle.ml_kripke.proofs.Lowest.{missing_start}
-use Rattle.ml_kripke.proofs.Faults.{tells_missing, tells_here}
+use Rattle.ml_kripke.proofs.Faults.{tells_missing}
 use Rattle.ml_kripke.proofs.read.read_start.Goals as goal
 
 pub returns-in-None-clause-refused : goal.returns-in-None-clause-refused

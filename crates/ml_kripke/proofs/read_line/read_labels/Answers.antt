@@ -1,11 +1,10 @@
-use Rattle.std.proofs.Common.{◌≡◌, ◌∷◌, ◌++◌, [], None, Some, ap, sym, subst, ◌∙◌}
+use Rattle.std.proofs.Common.{◌∷◌, ◌++◌, [], None, ap, sym, subst, ◌∙◌}
 use Rattle.std.specs.Option.{option_copied}
 use Rattle.std.specs.Ordering.{nat_cmp}
 use Rattle.std.specs.Cmp.Lexicographic.{slice_cmp}
-use Rattle.ml_base.specs.Name.{IsName}
 use Rattle.ml_lines.specs.Reading.{words_behind}
 use Rattle.ml_kripke.specs.BodyParts.{Above, last_of}
-use Rattle.ml_kripke.proofs.LabelWords.{AreLabelsTo, label_read, no_name, not_above, labels_done}
+use Rattle.ml_kripke.proofs.LabelWords.{AreLabelsTo, label_read, not_above, labels_done}
 use Rattle.ml_kripke.proofs.read_line.read_labels.Goals as goal
 
 pub returns-then-not-is_above-clause-refused : goal.returns-then-not-is_above-clause-refused

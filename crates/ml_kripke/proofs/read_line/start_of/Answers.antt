@@ -1,6 +1,5 @@
 use Rattle.ml_lines.specs.Reading.{words_of}
-use Rattle.ml_kripke.specs.BodyRules.{AtStart}
-use Rattle.ml_kripke.proofs.Lowest.{bad_start, start_no_number, lowest_kind}
+use Rattle.ml_kripke.proofs.Lowest.{bad_start}
 use Rattle.ml_kripke.proofs.read_line.start_of.Goals as goal
 
 pub returns-else-start-states-clause-refused : goal.returns-else-start-states-clause-refused
