@@ -14,3 +14,5 @@ pub mod Numbers
 pub mod WordBytes
 -- a written text has the lines that were written
 pub mod WrittenLines
+-- a text and its first line
+pub mod LineFronts

@@ -20,6 +20,8 @@ pub mod WellFormed
 pub mod FormulaCode
 -- the head of a document
 pub mod Head
+-- the rules of a head, and its first bad line
+pub mod HeadRules
 -- the signs of texts
 pub mod Signs
 -- the grammar of texts
