@@ -40,3 +40,5 @@ pub mod Ends
 pub mod Whole
 -- the least state that doesn't go on
 pub mod DeadStates
+-- a text has one first bad line
+pub mod OneFault

@@ -6,9 +6,13 @@
 --                      numbers fit 32 bits
 --   IsModelText t   == t is the text of a model in order
 --   OneText         == two that have a text have the same text only where they are the same
+--   FaultOrModel    == the text of a model in order has no first bad line
+--   OneFault        == a text has one first bad line at most
 use Rattle.std.specs.Prelude.{ℕ, ◌≡◌, ◌↔◌, ◌^◌, ◌<◌, List, [], slice_index_or, Contains}
+use Rattle.ml_base.specs.declared.doc_fault.DocFault.{DocFault}
 use Rattle.ml_base.specs.declared.structure.Edge.{Edge}
 use Rattle.ml_base.specs.Structure.{Structure, IsStructure}
+use Rattle.ml_kripke.specs.BodyRules.{IsFaultOf}
 use Rattle.ml_kripke.specs.Ordered.{IsOrdered, HasNames}
 use Rattle.ml_kripke.specs.ModelText.{model_text}
 
@@ -32,3 +36,9 @@ OneText = (m n : Structure) (s t : ℕ) → IsWritten m s → IsWritten n t → 
 -- the text is that of a model in order
 abbrev pub IsModelText : List ℕ → Type 0
 IsModelText text = (m : Structure) × (start : ℕ) × IsWritten m start × IsOrdered m × (text ≡ model_text m start)
+
+abbrev pub FaultOrModel : Type 0
+FaultOrModel = (text : List ℕ) (first : ℕ) (fault : DocFault) → IsModelText text → IsFaultOf text first fault → ⊥
+
+abbrev pub OneFault : Type 0
+OneFault = (text : List ℕ) (first : ℕ) (e f : DocFault) → IsFaultOf text first e → IsFaultOf text first f → e ≡ f

@@ -1,5 +1,5 @@
 // What holds of ordered structures, whoever made them.
-ghost use Rattle.ml_kripke.specs.Laws.{OneStructure, OneText};
+ghost use Rattle.ml_kripke.specs.Laws.{FaultOrModel, OneFault, OneStructure, OneText};
 
 /// Two structures in order with the same number of states, the same labels at each state and the same edges are one:
 /// so what `Structure::build` answers is determined by what it is given.
@@ -10,4 +10,11 @@ pub fn one_structure()
 /// The text of a model is the text of no other: so equal texts stand for equal models.
 pub fn one_text()
     ensures { OneText }
+{}
+
+/// A text is a model's or has a first bad line, never both, and it has one first bad line at most: so `read_model`
+/// answers each exactly where it is said to come.
+pub fn one_fault()
+    ensures exclusive { FaultOrModel }
+    ensures fault { OneFault }
 {}

@@ -8,7 +8,7 @@
 --   one_fault              == a text has one first bad line at most
 use Rattle.std.proofs.Common.{◌≡◌, ◌==◌, ℕ, ◌-◌, ◌≤◌, ◌<◌, ◌⊎◌, Bool, true, false, List, [], ◌∷◌, ◌++◌, length, drop, codes, slice_index_or, All, refl, sym, ap, subst, ◌∙◌, append_assoc, arith, inl, inr, nat_lt}
 use Rattle.std.specs.List.{list_any, join_with_byte}
-use Rattle.std.proofs.lemmas.Bool.Decides.{nat_tests}
+use Rattle.std.proofs.lemmas.Bool.{cases_order}
 use Rattle.std.proofs.lemmas.Fmt.{decimal_digit}
 use Rattle.std.proofs.lemmas.List.{append_cancel_left}
 use Rattle.std.proofs.lemmas.List.Elements.{All-nil, All-cons}
@@ -51,7 +51,7 @@ one_more line words behind rest lines left is same reads =
 
 -- ---- the words of the lines
 
-one_word : number 1 ≡ codes "1"
+pub one_word : number 1 ≡ codes "1"
 one_word = decimal_digit 1 (omega arith)
 
 title_words : words_of (bytes_of title_line) ≡ title_line
@@ -164,10 +164,6 @@ one_sense true true e = refl
 one_sense false true e = absurd (omega (arith, ap length e))
 one_sense true false e = absurd (omega (arith, ap length e))
 
-
-
-
-
 pub one_head : OneHead
 one_head a text p q rest more h k =
     let same = sym (head_read a text p rest h) ∙ head_read a text q more k in
@@ -199,29 +195,21 @@ one_place AtLogic _ e = absurd (omega (arith, e))
 one_place AtSense _ e = absurd (omega (arith, e))
 one_place AtFormula _ e = absurd (omega (arith, e))
 
-cases_order : (m n : ℕ) → (m < n) ⊎ ((m ≡ n) ⊎ (n < m))
-cases_order m n = go (nat_lt m n) refl (nat_lt n m) refl
-  where
-    go : (a : Bool) → nat_lt m n ≡ a → (b : Bool) → nat_lt n m ≡ b → (m < n) ⊎ ((m ≡ n) ⊎ (n < m))
-    go true is b other = inl (grind (arith, nat_tests))
-    go false is true other = inr (inr (grind (arith, nat_tests)))
-    go false is false other = inr (inl (grind (arith, nat_tests)))
-
 -- of two rules that are the lowest, none is lower
 same_rule : (a : Answer) (place : HeadPlace) (line : Line) (r s : HeadRule) → IsLowest a place r line → IsLowest a place s line → rule_number r ≡ rule_number s
 same_rule a place line r s low_r low_s = go (cases_order (rule_number r) (rule_number s))
   where
-    go : (rule_number r < rule_number s) ⊎ ((rule_number r ≡ rule_number s) ⊎ (rule_number s < rule_number r)) → rule_number r ≡ rule_number s
-    go (inl below) = absurd (low_r.breaks (low_s.keeps_lower r below))
-    go (inr (inl same)) = same
+    go : (rule_number r ≡ rule_number s) ⊎ ((rule_number r < rule_number s) ⊎ (rule_number s < rule_number r)) → rule_number r ≡ rule_number s
+    go (inl same) = same
+    go (inr (inl below)) = absurd (low_r.breaks (low_s.keeps_lower r below))
     go (inr (inr above)) = absurd (low_s.breaks (low_r.keeps_lower s above))
 
 same_place : (a : Answer) (text : List ℕ) (e f : DocFault) (x : IsHeadFault a text e) (y : IsHeadFault a text f) → number_of x.place ≡ number_of y.place
 same_place a text e f x y = go (cases_order (number_of x.place) (number_of y.place))
   where
-    go : (number_of x.place < number_of y.place) ⊎ ((number_of x.place ≡ number_of y.place) ⊎ (number_of y.place < number_of x.place)) → number_of x.place ≡ number_of y.place
-    go (inl below) = absurd (x.is_lowest.breaks (y.good_before x.place below x.rule))
-    go (inr (inl same)) = same
+    go : (number_of x.place ≡ number_of y.place) ⊎ ((number_of x.place < number_of y.place) ⊎ (number_of y.place < number_of x.place)) → number_of x.place ≡ number_of y.place
+    go (inl same) = same
+    go (inr (inl below)) = absurd (x.is_lowest.breaks (y.good_before x.place below x.rule))
     go (inr (inr above)) = absurd (y.is_lowest.breaks (x.good_before y.place above y.rule))
 
 pub one_fault : OneHeadFault

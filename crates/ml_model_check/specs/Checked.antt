@@ -1,0 +1,82 @@
+-- Documents that show a structure, and what checking one finds.
+--
+-- A document shows a structure for a problem where its head answers `satisfiable` about the problem, and its body is
+-- the text of a structure in order with a state to start from. Whether the problem holds there is not asked of the
+-- document: that is what is checked. Where a document shows none, its first bad line tells why. The lines of the body
+-- are counted on from those of the head, so from 6 on.
+--
+--   IsDocument text p m s   == the text shows the structure m with the start s for the problem p
+--   IsDocumentFault text f  == f tells the first bad line of the text, and the number of the lowest rule that it breaks
+--   IsCheckedAs text c      == c is what checking the text finds
+--   OneCheck, DocumentsReadBack == laws of these notions
+use Rattle.std.specs.Prelude.{ℕ, ◌≡◌, ◌⊎◌, List, ◌++◌}
+use Rattle.ml_base.specs.Structure.{Structure}
+use Rattle.ml_base.specs.declared.doc_fault.DocFault.{DocFault}
+use Rattle.ml_lines.specs.Lines.{text_of}
+use Rattle.ml_kripke.specs.BodyRules.{IsFaultOf}
+use Rattle.ml_kripke.specs.Laws.{IsWritten}
+use Rattle.ml_kripke.specs.ModelText.{model_text}
+use Rattle.ml_kripke.specs.Ordered.{IsOrdered}
+use Rattle.ml_mu.specs.Head.{Satisfiable, head_lines}
+use Rattle.ml_mu.specs.HeadRules.{IsHead, IsHeadFault}
+use Rattle.ml_mu.specs.Parsing.{IsParsedAs}
+use Rattle.ml_mu.specs.Problem.{Problem, HoldsAt}
+use Rattle.ml_model_check.specs.declared.checked.Checked.{Checked}
+use Rattle.ml_model_check.specs.declared.checked.Checked.TheVariants.{Holds, Fails, Unreadable, NotTotal, ClosureTooLarge}
+
+-- the number of the first line of a body
+abbrev pub first_body_line : ℕ
+first_body_line = 6
+
+pub record IsDocument (text : List ℕ) (p : Problem) (m : Structure) (start : ℕ) : Type 0 where
+  pub body : List ℕ
+  pub has_head : IsHead Satisfiable text p body
+  pub has_body : body ≡ model_text m start
+  pub is_written : IsWritten m start
+  pub is_ordered : IsOrdered m
+
+-- the first bad line is one of a body behind a head
+pub record IsFaultOfBody (text : List ℕ) (fault : DocFault) : Type 0 where
+  pub problem : Problem
+  pub body : List ℕ
+  pub has_head : IsHead Satisfiable text problem body
+  pub is_fault : IsFaultOf body first_body_line fault
+
+abbrev pub IsDocumentFault : List ℕ → DocFault → Type 0
+IsDocumentFault text fault = IsHeadFault Satisfiable text fault ⊎ IsFaultOfBody text fault
+
+-- the text shows a structure and a start, at which its problem holds
+pub record Shows (text : List ℕ) : Type 0 where
+  pub problem : Problem
+  pub structure : Structure
+  pub start : ℕ
+  pub is_document : IsDocument text problem structure start
+  pub holds : HoldsAt structure start problem
+
+-- the text shows a structure and a start, at which its problem doesn't hold
+pub record ShowsNot (text : List ℕ) : Type 0 where
+  pub problem : Problem
+  pub structure : Structure
+  pub start : ℕ
+  pub is_document : IsDocument text problem structure start
+  pub fails : ¬ (HoldsAt structure start problem)
+
+-- formulas of the mu-calculus have a meaning on every structure, and no closure: the last two answers never come
+abbrev pub IsCheckedAs : List ℕ → Checked → Type 0
+IsCheckedAs text Holds = Shows text
+IsCheckedAs text Fails = ShowsNot text
+IsCheckedAs text (Unreadable fault) = IsDocumentFault text fault
+IsCheckedAs text (NotTotal state) = ⊥
+IsCheckedAs text ClosureTooLarge = ⊥
+
+-- ---- laws
+
+-- checking a text finds one thing
+abbrev pub OneCheck : Type 0
+OneCheck = (text : List ℕ) (c d : Checked) → IsCheckedAs text c → IsCheckedAs text d → c ≡ d
+
+-- what is written for a formula that was parsed, with a structure in order and a start, is read back
+abbrev pub DocumentsReadBack : Type 0
+DocumentsReadBack = (text : List ℕ) (p : Problem) (m : Structure) (start : ℕ)
+    → IsParsedAs text p.formula → IsWritten m start → IsOrdered m
+    → IsDocument (text_of (head_lines Satisfiable p) ++ model_text m start) p m start
