@@ -21,12 +21,13 @@ due_own text (Satisfiable f m) output short right is = (
     formula = f;
     structure = m.structure;
     is_parsed = right.0;
-    holds = right.1;
-    is_written = is ∙ ap (satisfiable_document (plain f) m.structure) right.2;
+    is_in_form = right.1;
+    holds = right.2;
+    is_written = is ∙ ap (satisfiable_document (plain f) m.structure) right.3;
   },
 )
 due_own text (Unsatisfiable f) output short right is =
-    (short, record { formula = f; is_parsed = right.0; holds_nowhere = right.1; is_written = is })
+    (short, record { formula = f; is_parsed = right.0; is_in_form = right.1; holds_nowhere = right.2; is_written = is })
 due_own text (RefusedText e) output short right is =
     by_text short (record { refusal = e; is_refused = right; is_written = is })
 due_own text RefusedForm output short right is =

@@ -2,28 +2,33 @@
 --
 --   ended_written  == a status that is due, with its output written or partly written, ends the call as it should
 --   ended_with     == the same, where the words are a command
-use Rattle.std.proofs.Common.{◌≡◌, ℕ, List, Option, Some, None, refl, sym, subst, ⊎_elim}
+--   too_long_due   == an input past the limit of its command is refused by its length
+use Rattle.std.proofs.Common.{◌≡◌, ℕ, ◌<◌, length, List, Option, Some, None, refl, sym, subst, ⊎_elim}
 use Rattle.std.specs.Io.KnownBytes.{append_known}
 use Rattle.ml_base.specs.Faults.{Rose}
 use Rattle.ml_base.specs.Whole.{AppendsPart}
 use Rattle.ml_driver.specs.declared.command.Command.{Command}
-use Rattle.ml_driver.specs.declared.command.Command.TheVariants.{DecideMu}
+use Rattle.ml_driver.specs.declared.command.Command.TheVariants.{DecideMu, CheckModel}
 use Rattle.ml_driver.specs.declared.status.Status.{Status}
 use Rattle.ml_driver.specs.declared.status.Status.TheVariants.{Yes, No, Undecided, Words, Text, ReadFault, WriteFault, NoMemory, Unconfirmed}
-use Rattle.ml_driver.specs.Run.{IsDue, World, IsCalm, WasRead, Answered, FailedToWrite, Ended, Wrote}
+use Rattle.ml_driver.specs.Statuses.{longest_input, refused_length}
+use Rattle.ml_driver.specs.Run.{by_length, document_by_length, IsDue, World, IsCalm, WasRead, Answered, FailedToWrite, Ended, Wrote}
 
 -- what is due is never a fault or want of memory
 no_fault_due : (c : Option Command) (text output : List ℕ) → IsDue c text ReadFault output → ⊥
 no_fault_due None text output due = due
 no_fault_due (Some DecideMu) text output due = due
+no_fault_due (Some CheckModel) text output due = due
 
 no_write_fault_due : (c : Option Command) (text output : List ℕ) → IsDue c text WriteFault output → ⊥
 no_write_fault_due None text output due = due
 no_write_fault_due (Some DecideMu) text output due = due
+no_write_fault_due (Some CheckModel) text output due = due
 
 no_want_due : (c : Option Command) (text output : List ℕ) → IsDue c text NoMemory output → ⊥
 no_want_due None text output due = due
 no_want_due (Some DecideMu) text output due = due
+no_want_due (Some CheckModel) text output due = due
 
 answered_ended : (c : Option Command) (w : World) (status : Status) → Answered c w status → Ended c w status
 answered_ended c w Yes answered = answered
@@ -66,6 +71,7 @@ ended_written c w text due output status read calm is_due wrote =
 pub ended_with : (c d : Option Command) (w : World) (status : Status) → d ≡ c → Ended c w status → Ended d w status
 ended_with c d w status same ended = subst (λ k. Ended k w status) (sym same) ended
 
--- there is one command so far
-pub only_command : (k : Command) → k ≡ DecideMu
-only_command DecideMu = refl
+-- an input past the limit of its command is refused by its length
+pub too_long_due : (c : Command) (text : List ℕ) → longest_input c < length text → IsDue (Some c) text Text refused_length
+too_long_due DecideMu text long = by_length (long, refl)
+too_long_due CheckModel text long = document_by_length (long, refl)

@@ -28,7 +28,7 @@ IsText (RefusedText e) out = Some out ≡ refusal_line e
 IsText RefusedForm out = out ≡ refused_form
 
 abbrev pub IsAnswer : List ℕ → Answer → Type 0
-IsAnswer text (Satisfiable f m) = IsParsedAs text f × HoldsInModel f m.structure × (m.start ≡ 0)
-IsAnswer text (Unsatisfiable f) = IsParsedAs text f × HoldsNowhere f
+IsAnswer text (Satisfiable f m) = IsParsedAs text f × IsInForm f × HoldsInModel f m.structure × (m.start ≡ 0)
+IsAnswer text (Unsatisfiable f) = IsParsedAs text f × IsInForm f × HoldsNowhere f
 IsAnswer text (RefusedText e) = IsRefusedBy text e
 IsAnswer text RefusedForm = (f : Formula) × IsParsedAs text f × (IsInForm f → ⊥)

@@ -8,6 +8,9 @@
 --                                that formula holds
 --   IsUnsatisfied text out    == out is a document about the formula of the text, which holds nowhere
 --   IsRefused text out        == out says why the text is refused: by its length, by the parser, or by its form
+--   IsChecked text out        == out says that the problem of the document holds where the document says so
+--   IsRefuted text out        == out says that it doesn't
+--   IsRefusedDocument text out == out says why the document is refused: by its length, or by its first bad line
 --   IsDue c text status out   == for the command c, or for words that are none, this status and this output are due
 --                                where the input is the text
 --   World                     == what a call found and left: the bytes of the source, those of the sink, both counts of
@@ -24,19 +27,22 @@ use Rattle.ml_base.specs.Whole.{AppendsPart}
 use Rattle.ml_mu.specs.Formula.{Formula}
 use Rattle.ml_mu.specs.Parsing.{IsParsedAs, IsRefusedBy}
 use Rattle.ml_table.specs.Propositional.{plain, IsInForm, HoldsInModel, HoldsNowhere}
+use Rattle.ml_base.specs.declared.doc_fault.DocFault.{DocFault}
 use Rattle.ml_base.specs.declared.parse_refusal.ParseRefusal.{ParseRefusal}
+use Rattle.ml_model_check.specs.Checked.{Shows, ShowsNot, IsDocumentFault}
 use Rattle.ml_driver.specs.declared.command.Command.{Command}
-use Rattle.ml_driver.specs.declared.command.Command.TheVariants.{DecideMu}
+use Rattle.ml_driver.specs.declared.command.Command.TheVariants.{DecideMu, CheckModel}
 use Rattle.ml_driver.specs.declared.status.Status.{Status}
 use Rattle.ml_driver.specs.declared.status.Status.TheVariants.{Yes, No, Undecided, Words, Text, ReadFault, WriteFault, NoMemory, Unconfirmed}
 use Rattle.ml_driver.specs.Document.{satisfiable_document, unsatisfiable_document}
-use Rattle.ml_driver.specs.Statuses.{longest_text, refused_words, refused_form, refused_length, refusal_line}
+use Rattle.ml_driver.specs.Statuses.{longest_text, longest_document, longest_input, refused_words, refused_form, refused_length, refusal_line, holds_line, fails_line, refused_document}
 
 -- the formula holds at the written state of the written structure
 pub record IsSatisfied (text out : List ℕ) : Type 0 where
   pub formula : Formula
   pub structure : Structure
   pub is_parsed : IsParsedAs text formula
+  pub is_in_form : IsInForm formula
   pub holds : HoldsInModel formula structure
   pub is_written : out ≡ satisfiable_document (plain formula) structure 0
 
@@ -44,6 +50,7 @@ pub record IsSatisfied (text out : List ℕ) : Type 0 where
 pub record IsUnsatisfied (text out : List ℕ) : Type 0 where
   pub formula : Formula
   pub is_parsed : IsParsedAs text formula
+  pub is_in_form : IsInForm formula
   pub holds_nowhere : HoldsNowhere formula
   pub is_written : out ≡ unsatisfiable_document (plain formula)
 
@@ -60,21 +67,43 @@ pub record IsOutOfForm (text out : List ℕ) : Type 0 where
   pub is_not_in_form : IsInForm formula → ⊥
   pub is_written : out ≡ refused_form
 
--- the input is longer than the limit: what was given of it is
-abbrev pub IsTooLong : List ℕ → List ℕ → Type 0
-IsTooLong text out = (longest_text < length text) × (out ≡ refused_length)
+-- the input is longer than the limit of the command: what was given of it is
+abbrev pub IsTooLong : Command → List ℕ → List ℕ → Type 0
+IsTooLong c text out = (longest_input c < length text) × (out ≡ refused_length)
 
 -- the four reasons to refuse the input
 pub data IsRefused (text out : List ℕ) : Type 0 where
-  by_length : IsTooLong text out → IsRefused text out
+  by_length : IsTooLong DecideMu text out → IsRefused text out
   by_text : length text ≤ longest_text → IsRefusedText text out → IsRefused text out
   by_form : length text ≤ longest_text → IsOutOfForm text out → IsRefused text out
+
+-- the document shows a structure, and its problem holds at the start
+abbrev pub IsChecked : List ℕ → List ℕ → Type 0
+IsChecked text out = Shows text × (out ≡ holds_line)
+
+-- the document shows a structure, and its problem doesn't hold at the start
+abbrev pub IsRefuted : List ℕ → List ℕ → Type 0
+IsRefuted text out = ShowsNot text × (out ≡ fails_line)
+
+-- the document has a first bad line
+pub record IsUnreadable (text out : List ℕ) : Type 0 where
+  pub fault : DocFault
+  pub is_fault : IsDocumentFault text fault
+  pub is_written : out ≡ refused_document fault
+
+-- the two reasons to refuse a document
+pub data IsRefusedDocument (text out : List ℕ) : Type 0 where
+  document_by_length : IsTooLong CheckModel text out → IsRefusedDocument text out
+  by_line : length text ≤ longest_document → IsUnreadable text out → IsRefusedDocument text out
 
 abbrev pub IsDue : Option Command → List ℕ → Status → List ℕ → Type 0
 IsDue None text Words out = out ≡ refused_words
 IsDue (Some DecideMu) text Yes out = (length text ≤ longest_text) × IsSatisfied text out
 IsDue (Some DecideMu) text No out = (length text ≤ longest_text) × IsUnsatisfied text out
 IsDue (Some DecideMu) text Text out = IsRefused text out
+IsDue (Some CheckModel) text Yes out = (length text ≤ longest_document) × IsChecked text out
+IsDue (Some CheckModel) text No out = (length text ≤ longest_document) × IsRefuted text out
+IsDue (Some CheckModel) text Text out = IsRefusedDocument text out
 IsDue _ _ _ _ = ⊥
 
 pub record World : Type 0 where
@@ -94,7 +123,7 @@ pub record IsCalm (w : World) : Type 0 where
 abbrev pub WasRead : Option Command → World → List ℕ → Type 0
 WasRead None w text = (w.left_after ≡ w.left_before) × (text ≡ [])
 WasRead (Some c) w text =
-    (w.left_before ≡ prepend_known text w.left_after) × (IsAtEnd w.left_after ⊎ (longest_text < length text))
+    (w.left_before ≡ prepend_known text w.left_after) × (IsAtEnd w.left_after ⊎ (longest_input c < length text))
 
 -- the call answered: the whole of what is due was taken
 pub record Answered (c : Option Command) (w : World) (status : Status) : Type 0 where

@@ -4,12 +4,20 @@
 --   refused_words    == the line for words that are no command
 --   refused_form     == the line for a formula that isn't decided yet
 --   longest_text     == the limit on the length of a formula's text
+--   longest_document == the limit on the length of a document
+--   longest_input c  == the limit on the length of the input of a command
 --   refused_length   == the line for a longer input
+--   holds_line       == the line for a document whose problem holds where the document says so
+--   fails_line       == the line for one whose problem doesn't
+--   refused_document f == the line for a document that can't be read: its first bad line, and the rule that it breaks
 --   refusal_line e   == the line for a text that the parser refuses: the number of its cause, and the byte
-use Rattle.std.specs.Prelude.{ℕ, List, [], ◌∷◌, codes, Option, Some, None}
+use Rattle.std.specs.Prelude.{ℕ, ◌^◌, ◌-◌, List, [], ◌∷◌, codes, Option, Some, None}
+use Rattle.ml_base.specs.declared.doc_fault.DocFault.{DocFault}
 use Rattle.ml_base.specs.declared.parse_refusal.ParseRefusal.{ParseRefusal}
 use Rattle.ml_base.specs.declared.parse_refusal.ParseRefusal.TheVariants as refusal
 use Rattle.ml_lines.specs.Lines.{number, line_text}
+use Rattle.ml_driver.specs.declared.command.Command.{Command}
+use Rattle.ml_driver.specs.declared.command.Command.TheVariants.{DecideMu, CheckModel}
 use Rattle.ml_driver.specs.declared.status.Status.{Status}
 use Rattle.ml_driver.specs.declared.status.Status.TheVariants.{Yes, No, Undecided, Words, Text, ReadFault, WriteFault, NoMemory, Unconfirmed}
 
@@ -33,8 +41,25 @@ refused_form = line_text (codes "refused" ∷ codes "form" ∷ [])
 abbrev pub longest_text : ℕ
 longest_text = 1048576
 
+abbrev pub longest_document : ℕ
+longest_document = 2 ^ 63 - 1
+
+abbrev pub longest_input : Command → ℕ
+longest_input DecideMu = longest_text
+longest_input CheckModel = longest_document
+
 abbrev pub refused_length : List ℕ
 refused_length = line_text (codes "refused" ∷ codes "length" ∷ [])
+
+abbrev pub holds_line : List ℕ
+holds_line = line_text (codes "holds" ∷ [])
+
+abbrev pub fails_line : List ℕ
+fails_line = line_text (codes "fails" ∷ [])
+
+abbrev pub refused_document : DocFault → List ℕ
+refused_document fault =
+    line_text (codes "refused" ∷ codes "document" ∷ codes "line" ∷ number fault.line ∷ codes "rule" ∷ number fault.rule ∷ [])
 
 abbrev pub refused_at : ℕ → ℕ → Option (List ℕ)
 refused_at rule at =

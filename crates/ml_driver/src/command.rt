@@ -8,6 +8,26 @@ ghost use Rattle.ml_driver.specs.Words as command_line;
 pub enum Command {
     /// `decide mu`: is the formula on the input satisfiable?
     DecideMu,
+    /// `check-model`: does the problem of the document on the input hold at the start of the document's structure?
+    CheckModel,
+}
+
+const LONGEST_TEXT: u64 = 1_048_576;
+
+const LONGEST_DOCUMENT: u64 = 0x7fff_ffff_ffff_ffff;
+
+impl Command {
+    ghost use Rattle.ml_driver.specs.Statuses.{longest_input};
+
+    /// How many bytes the command takes as its input at most.
+    pub fn longest_input(self) -> u64
+        ensures { result ≡ longest_input self }
+    {
+        match self {
+            Command::DecideMu => LONGEST_TEXT,
+            Command::CheckModel => LONGEST_DOCUMENT,
+        }
+    }
 }
 
 /// The command that the words are, without the program's name, or `None` where they are none.
@@ -18,6 +38,7 @@ pub fn command_of(words: &[String]) -> Option<Command>
         [command, logic] if command.as_str() == "decide" && logic.as_str() == "mu" => {
             Some(Command::DecideMu)
         }
+        [command] if command.as_str() == "check-model" => Some(Command::CheckModel),
         _ => None,
     }
 }

@@ -8,6 +8,7 @@
 #![tactic(auto)]
 
 mod answer;
+mod check;
 mod command;
 mod decide;
 mod status;

@@ -2,30 +2,31 @@
 ghost use Rattle.std.specs.Prelude.{◌≤◌, length, map, IfOk, Some};
 ghost use Rattle.std.specs.String.{string_bytes};
 ghost use Rattle.ml_driver.specs.Words as command_line;
-ghost use Rattle.ml_driver.specs.Statuses.{longest_text};
+ghost use Rattle.ml_driver.specs.Statuses.{longest_input};
 ghost use Rattle.ml_driver.specs.Run.{Ended, IsDue, Wrote};
 
-use crate::answer::{Output, output_of};
+use crate::answer::Output;
+use crate::check::check_model;
 use crate::decide::decide_mu;
 use crate::{Command, Status, command_of};
 use ml_base::{NoMemory, ReadRefusal, Sink, Source, read_all, write_all};
 use std::alloc::Global;
 
-const LONGEST_TEXT: u64 = 1_048_576;
-
 /// Answers a command: reads the words, which come without the program's name, then the source to its end, computes
 /// the answer, makes its whole output, and writes it. Words that are no command end the call before anything is read.
 ///
 /// The contract says which status and output are due, and what each status leaves behind:
-/// - `Yes` only with a written structure and a state of it at which the formula of the text holds;
-/// - `Words` exactly for words that are no command, `Text` exactly for input that isn't a first text, both with one
+/// - `Yes` and `No` as the command says: of `decide mu` with a structure and a state at which the formula of the text
+///   holds, and where it holds nowhere; of `check-model` where the problem of the document holds at the start of its
+///   structure, and where it doesn't;
+/// - `Words` exactly for words that are no command, `Text` exactly for input that the command refuses, both with one
 ///   line that says so;
 /// - `ReadFault` only where the source's count of faults rose in this call, and always where it is greater after it;
 ///   nothing is written;
 /// - `WriteFault` only where the sink's count rose, and always where it is greater; a part of what was due is written;
 /// - `NoMemory` with nothing written.
 ///
-/// Cost: linear in the input and the output.
+/// Cost: linear in the input and the output, and that of the command's answer.
 pub fn run<S: Source, K: Sink>(
     alloc: Global,
     words: &[String],
@@ -43,29 +44,30 @@ pub fn run<S: Source, K: Sink>(
       sink_faults_after = K.faults sink.new;
     }) result }
 {
-    let Some(Command::DecideMu) = command_of(words) else {
+    let Some(command) = command_of(words) else {
         return written(sink, Status::Words, b"refused words\n");
     };
-    let text = match read_all(alloc, source, LONGEST_TEXT) {
+    let text = match read_all(alloc, source, command.longest_input()) {
         Ok(text) => text,
         Err(ReadRefusal::ReadFault) => return Status::ReadFault,
         Err(ReadRefusal::TooLong) => return written(sink, Status::Text, b"refused length\n"),
         Err(ReadRefusal::NoMemory) => return Status::NoMemory,
     };
-    match outcome(alloc, &text) {
+    match outcome(alloc, command, &text) {
         Ok(output) => written(sink, output.status, &output.bytes),
         Err(NoMemory) => Status::NoMemory,
     }
 }
 
-// what is due for a text
-fn outcome(alloc: Global, text: &[u8]) -> Result<Output, NoMemory>
-    requires { length text.now ≤ longest_text }
-    ensures { IfOk result (λ output. IsDue (Some Command.DecideMu) text.now output.status output.bytes.items) }
+// what is due for a command on a text
+fn outcome(alloc: Global, command: Command, text: &[u8]) -> Result<Output, NoMemory>
+    requires { length text.now ≤ longest_input command }
+    ensures { IfOk result (λ output. IsDue (Some command) text.now output.status output.bytes.items) }
 {
-    let answer = decide_mu(alloc, text)?;
-    let output = output_of(alloc, &answer)?;
-    Ok(output)
+    match command {
+        Command::DecideMu => decide_mu(alloc, text),
+        Command::CheckModel => check_model(alloc, text),
+    }
 }
 
 // the status that is due, once its output is written

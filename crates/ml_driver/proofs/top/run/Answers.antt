@@ -1,10 +1,9 @@
 -- How each way through the call ends it.
 use Rattle.std.proofs.Common.{◌≡◌, ℕ, ◌<◌, [], None, Some, refl, sym, ◌∙◌, ap, subst, inl, inr, arith, length}
-use Rattle.ml_driver.specs.declared.command.Command.TheVariants.{DecideMu}
 use Rattle.ml_driver.specs.declared.status.Status.TheVariants as status
-use Rattle.ml_driver.specs.Statuses.{refused_words, refused_length}
-use Rattle.ml_driver.specs.Run.{IsDue, Wrote, by_length}
-use Rattle.ml_driver.proofs.Endings.{ended_written, ended_with, only_command}
+use Rattle.ml_driver.specs.Statuses.{longest_input, refused_words, refused_length}
+use Rattle.ml_driver.specs.Run.{IsDue, Wrote}
+use Rattle.ml_driver.proofs.Endings.{ended_written, ended_with, too_long_due}
 use Rattle.ml_driver.proofs.top.run.Goals as goal
 
 pub returns-in_default : goal.returns-in_default
@@ -14,17 +13,20 @@ returns-in_default g c =
 
 pub returns-in-Err-TooLong : goal.returns-in-Err-TooLong
 returns-in-Err-TooLong g c =
+    let command = c.in-Some.command in
     let gives = rw c.in-Err-TooLong.field-0-is at c.in-Err-TooLong.ensures.refused in
     let calm = rw c.in-Err-TooLong.field-0-is at c.in-Err-TooLong.ensures.faults in
-    let long : 1048576 < length gives.0 = omega (arith, gives.2) in
-    ended_with (Some DecideMu) _ _ _ (sym c.command_of.ensures ∙ c.in-Some-DecideMu.is ∙ ap Some (only_command c.in-Some-DecideMu.field-0))
-    (ended_written (Some DecideMu) _ gives.0 status.Text refused_length _ (gives.1, inr long) calm (by_length (long, refl)) c.written-in-Err-TooLong.ensures)
+    let long : longest_input command < length gives.0 = omega (arith, gives.2, c.longest_input.ensures) in
+    ended_with (Some command) _ _ _ (sym c.command_of.ensures ∙ c.in-Some.is)
+    (ended_written (Some command) _ gives.0 status.Text refused_length _ (gives.1, inr long) calm (too_long_due command gives.0 long)
+    c.written-in-Err-TooLong.ensures)
 
 pub returns-in-Ok-outcome : goal.returns-in-Ok-outcome
 returns-in-Ok-outcome g c =
-    ended_with (Some DecideMu) _ _ _ (sym c.command_of.ensures ∙ c.in-Some-DecideMu.is ∙ ap Some (only_command c.in-Some-DecideMu.field-0))
-    (ended_written (Some DecideMu) _ c.in-Ok.text.items c.in-Ok-outcome.output.status c.in-Ok-outcome.output.bytes.items _
+    let command = c.in-Some.command in
+    ended_with (Some command) _ _ _ (sym c.command_of.ensures ∙ c.in-Some.is)
+    (ended_written (Some command) _ c.in-Ok.text.items c.in-Ok-outcome.output.status c.in-Ok-outcome.output.bytes.items _
     (c.in-Ok.ensures.given, inl c.in-Ok.ensures.end) c.in-Ok.ensures.calm
-    (subst (λ t. IsDue (Some DecideMu) t c.in-Ok-outcome.output.status c.in-Ok-outcome.output.bytes.items) c.deref.ensures.value c.in-Ok-outcome.ensures)
+    (subst (λ t. IsDue (Some command) t c.in-Ok-outcome.output.status c.in-Ok-outcome.output.bytes.items) c.deref.ensures.value c.in-Ok-outcome.ensures)
     (subst (λ o. Wrote (g.K.Sink.taken c.args.sink.now) (g.K.Sink.taken c.written-in-Ok-outcome.new.sink) (g.K.Sink.faults c.args.sink.now) (g.K.Sink.faults c.written-in-Ok-outcome.new.sink) c.in-Ok-outcome.output.status o c.written-in-Ok-outcome.result)
     c.deref-in-Ok-outcome.ensures.value c.written-in-Ok-outcome.ensures))

@@ -1,6 +1,6 @@
 -- The answer is right, and its output is what is due.
 use Rattle.ml_driver.proofs.Dues.{due_for_answer}
-use Rattle.ml_driver.proofs.top.outcome.Goals as goal
+use Rattle.ml_driver.proofs.decide.decide_mu.Goals as goal
 
 pub returns : goal.returns
 returns c =

@@ -1,0 +1,48 @@
+// Checking a document that shows a structure.
+ghost use Rattle.std.specs.Prelude.{◌≡◌, ◌≤◌, length, IfOk, Some};
+ghost use Rattle.ml_driver.specs.Run.{IsDue};
+ghost use Rattle.ml_driver.specs.Statuses as statuses;
+ghost use Rattle.ml_driver.specs.Statuses.{longest_document};
+
+use crate::answer::Output;
+use crate::{Command, Status};
+use ml_base::{DocFault, NoMemory};
+use ml_lines::{end_line, write_next_number, write_next_word, write_word};
+use ml_model_check::{Checked, check_document};
+use std::alloc::Global;
+
+// what is due for `check-model` on a document
+pub(crate) fn check_model(alloc: Global, text: &[u8]) -> Result<Output, NoMemory>
+    requires { length text.now ≤ longest_document }
+    ensures { IfOk result (λ output. IsDue (Some Command.CheckModel) text.now output.status output.bytes.items) }
+{
+    Ok(match check_document(alloc, text)? {
+        Checked::Holds => Output {
+            status: Status::Yes,
+            bytes: Vec::from_slice(alloc, b"holds\n")?,
+        },
+        Checked::Fails => Output {
+            status: Status::No,
+            bytes: Vec::from_slice(alloc, b"fails\n")?,
+        },
+        Checked::Unreadable(fault) => Output {
+            status: Status::Text,
+            bytes: refused_document(alloc, fault)?,
+        },
+        Checked::NotTotal(_) | Checked::ClosureTooLarge => unreachable!(),
+    })
+}
+
+fn refused_document(alloc: Global, fault: DocFault) -> Result<Vec<u8>, NoMemory>
+    ensures { IfOk result (λ line. line.items ≡ statuses.refused_document fault) }
+{
+    let mut line = Vec::new(alloc);
+    write_word(&mut line, b"refused")?;
+    write_next_word(&mut line, b"document")?;
+    write_next_word(&mut line, b"line")?;
+    write_next_number(&mut line, fault.line)?;
+    write_next_word(&mut line, b"rule")?;
+    write_next_number(&mut line, u64::from(fault.rule))?;
+    end_line(&mut line)?;
+    Ok(line)
+}
