@@ -4,3 +4,5 @@ pub mod Heads
 pub mod Endings
 -- what is due for an answer
 pub mod Dues
+-- one status is due
+pub mod OneDue

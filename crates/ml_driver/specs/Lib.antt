@@ -8,3 +8,5 @@ pub mod Statuses
 pub mod Run
 -- answers before they are written
 pub mod Answer
+-- laws of what is due
+pub mod Laws

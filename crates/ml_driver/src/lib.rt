@@ -11,6 +11,7 @@ mod answer;
 mod check;
 mod command;
 mod decide;
+pub mod laws;
 mod status;
 #[cfg(test)]
 mod tests;
