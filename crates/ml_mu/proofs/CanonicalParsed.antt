@@ -6,14 +6,19 @@
 --   tokens_short         == nor have canonical texts of such formulas
 --   few_open             == a canonical text opens at most as many parentheses as its formula has occurrences
 --   canonical_parsed     == so it is parsed
-use Rattle.std.proofs.Common.{◌≡◌, ℕ, zero, suc, ◌+◌, ◌-◌, ◌<◌, ◌≤◌, Bool, true, false, ◌&&◌, nat_lt, nat_le, List, [], ◌∷◌, ◌++◌, length, map, take, drop, Option, Some, None, cond, codes, bytes_eq, refl, sym, ap, subst, ◌∙◌, arith, lt-ltb, leb-true, ltb-false, ltb-true}
-use Rattle.std.specs.List.{AllByRecursion, list_all}
+--   canonical_in_line    == it stands in one line
+--   heads_read_back      == so the head of a written document is read back
+use Rattle.std.proofs.Common.{◌≡◌, ℕ, zero, suc, ◌+◌, ◌-◌, ◌<◌, ◌≤◌, Bool, true, false, ◌&&◌, ◌||◌, ◌==◌, not, nat_lt, nat_le, List, [], ◌∷◌, ◌++◌, length, map, take, drop, Option, Some, None, cond, codes, bytes_eq, refl, sym, ap, subst, ◌∙◌, arith, lt-ltb, leb-true, ltb-false, ltb-true, eqb-true}
+use Rattle.std.specs.List.{AllByRecursion, list_all, list_any}
 use Rattle.std.specs.Prelude.{sum_by}
 use Rattle.std.specs.Char.{is_ascii_alphabetic}
-use Rattle.std.proofs.lemmas.Bool.{and_parts, cases_Bool}
+use Rattle.std.proofs.lemmas.Bool.{and_from, and_parts, or_from, or_left}
 use Rattle.std.proofs.lemmas.List.{append-nil, map-append, take-append-drop}
+use Rattle.std.proofs.lemmas.List.Folds.{list_any-append}
 use Rattle.std.proofs.lemmas.List.Sums.{sum_by-take-le}
 use Rattle.ml_base.specs.Name.{is_name, is_name_byte}
+use Rattle.ml_lines.specs.Reading.{is_line_end}
+use Rattle.ml_text.specs.Bytes.{is_lower, is_letter, is_digit, is_word_byte}
 use Rattle.ml_text.specs.declared.token.Operator.{Operator}
 use Rattle.ml_text.specs.declared.token.Operator.TheVariants as operator
 use Rattle.ml_text.specs.declared.token.Token.{Token}
@@ -28,17 +33,20 @@ use Rattle.ml_text.proofs.Cover.{are_tokens}
 use Rattle.ml_text.proofs.Scans.{Spelt, spelt_at}
 use Rattle.ml_mu.specs.Formula as plain
 use Rattle.ml_mu.specs.Formula.{Formula, Modality, Diamond, Square, Fixpoint, Least, Greatest, occurrences, weight}
-use Rattle.ml_mu.specs.Canonical.{canonical_text, spelling_of, fixpoint_word}
+use Rattle.ml_mu.specs.Canonical.{canonical_text, spelling_of, action_text, modality_text, fixpoint_word}
 use Rattle.ml_mu.specs.Grammar as grammar
 use Rattle.ml_mu.specs.Grammar.{IsReadAs, Reads, iff_alone, iff, imp_alone, imp, or_alone, or, and_alone, and, negation, modal, modal_blank, binder, group, constant, proposition, variable}
+use Rattle.ml_mu.specs.HeadRules.{HeadsReadBack}
 use Rattle.ml_mu.specs.Parsing.{IsParsedAs}
-use Rattle.ml_mu.specs.Signs.{Sign, Open, Close, Lower, Upper, Blank, Connective, HasShortName, action_of, sign_of, word_sign, word_sign_by}
+use Rattle.ml_mu.specs.Problem.{Problem}
+use Rattle.ml_mu.specs.Spelling.{is_proposition, is_variable, is_action, is_spelled, is_word_from, is_reserved}
+use Rattle.ml_mu.specs.Signs.{Sign, Lower, Upper, Blank, Unknown, Connective, HasShortName, action_of, sign_of, word_sign, word_sign_by}
 use Rattle.ml_mu.specs.Text.{is_word, bracket_of, bytes_of, item_by, items, items_from, sign_at, silences}
 use Rattle.ml_mu.proofs.CanonicalTexts.{action_tokens, begin_byte, end_byte, lone, tokens_onto, sign_spelt, canonical_tokens, canonical_stands}
 use Rattle.ml_mu.proofs.Counting.{counts, counted_items}
 use Rattle.ml_mu.proofs.Names.{short_name, token_length}
 use Rattle.ml_mu.proofs.Parsed.{accepted_small}
-use Rattle.ml_mu.proofs.Spelled.{items_spelled, reads_spelled}
+use Rattle.ml_mu.proofs.Spelled.{items_spelled, reads_spelled, letters, upper_letters}
 
 -- ---- short names
 
@@ -201,7 +209,8 @@ closed_word_by : (o : Option Bool) (w : List ℕ) → opening (bracket_of (word_
 closed_word_by (Some b) w = refl
 closed_word_by None w =
     closed_by (bytes_eq w (codes "mu")) _ _ refl
-    (closed_by (bytes_eq w (codes "nu")) _ _ refl (closed_by _ (Lower w) _ refl (closed_by _ (Upper w) _ refl refl)))
+    (closed_by (bytes_eq w (codes "nu")) _ _ refl
+    (closed_by (is_proposition w) (Lower w) (cond (is_variable w) (Upper w) Unknown) refl (closed_by (is_variable w) (Upper w) Unknown refl refl)))
 
 closed_word : (w : List ℕ) → opening (bracket_of (word_sign w)) ≡ 0
 closed_word w = closed_word_by (constant_of w) w
@@ -258,21 +267,124 @@ no_syntax is f stands k fault = go (nat_lt k (length is)) refl
         fault.ends (ltb-true k (length is) below) (signs_of (drop (k + 1) is), f, subst (λ ts. IsReadAs ts f) (sym split) stands)
     go false past = fault.is_none (omega (arith, fault.within, ltb-false k (length is) past)) f stands
 
-pub canonical_parsed : (text : List ℕ) (f : Formula) → IsParsedAs text f → IsParsedAs (canonical_text f) f
+spelled_of : (text : List ℕ) (f : Formula) → IsParsedAs text f → is_spelled f ≡ true
+spelled_of text f parsed = (reads_spelled parsed.accepted.stands (items_spelled text false (tokens AnyLetter text))).0
+
+canonical_keeps : (f : Formula) → is_spelled f ≡ true → HasShort f → occurrences f ≤ 1000 → (c : Cause) (k : ℕ) → IsFault IsReadAs c (items (canonical_text f)) k → ⊥
 unfolding tokens
-canonical_parsed text f parsed = record {
-  accepted = record { stands = stands; keeps = keeps };
-  fine = parsed.fine;
-}
+canonical_keeps f spelled short small Syntax k fault = no_syntax (items (canonical_text f)) f (canonical_stands f spelled) k fault
+canonical_keeps f spelled short small TooMany k fault =
+    let text = canonical_text f in
+    let of_signs = counted_items text false (tokens AnyLetter text) in
+    let of_formula = counts (canonical_stands f spelled) in
+    omega (arith, sum_by-take-le (λ (i : Item Sign). i.weight) (items text) (k + 1), of_signs, of_formula, small, fault.passes)
+canonical_keeps f spelled short small TooNested k fault =
+    let text = canonical_text f in
+    let of_tokens = opens_items text false (tokens AnyLetter text) ∙ ap opens_spelt (canonical_tokens f spelled) in
+    omega (arith, open_most (items text) 0 (k + 1), of_tokens, few_open f [], small, fault.passes)
+canonical_keeps f spelled short small NameTooLong k long =
+    let text = canonical_text f in
+    no_long text 0 false (tokens AnyLetter text) (are_tokens AnyLetter text 0)
+    (subst (AllByRecursion IsShort) (sym (canonical_tokens f spelled)) (tokens_short f short [] tt)) k long
+
+pub canonical_parsed : (text : List ℕ) (f : Formula) → IsParsedAs text f → IsParsedAs (canonical_text f) f
+canonical_parsed text f parsed =
+    let spelled = spelled_of text f parsed in
+    record {
+      accepted = record {
+        stands = canonical_stands f spelled;
+        keeps =
+            canonical_keeps f spelled (text_short text f parsed.accepted) (accepted_small text f parsed.accepted);
+      };
+      fine = parsed.fine;
+    }
+
+-- ---- and stands in one line
+
+abbrev IsInLine : List ℕ → Type 0
+IsInLine bytes = list_any is_line_end bytes ≡ false
+
+both_in_line : (xs ys : List ℕ) → IsInLine xs → IsInLine ys → IsInLine (xs ++ ys)
+both_in_line xs ys a b = list_any-append is_line_end xs ys ∙ or_from (list_any is_line_end xs) (list_any is_line_end ys) a b
+
+seven_in_line : (a b c d e f g : List ℕ) → IsInLine a → IsInLine b → IsInLine c → IsInLine d → IsInLine e → IsInLine f → IsInLine g
+    → IsInLine (a ++ b ++ c ++ d ++ e ++ f ++ g)
+seven_in_line a b c d e f g ia ib ic id ie in_f ig =
+    both_in_line (a ++ b ++ c ++ d ++ e ++ f) g
+    (both_in_line (a ++ b ++ c ++ d ++ e) f
+    (both_in_line (a ++ b ++ c ++ d) e
+    (both_in_line (a ++ b ++ c) d (both_in_line (a ++ b) c (both_in_line a b ia ib) ic) id)
+    ie)
+    in_f)
+    ig
+
+letter_in_line : (b : ℕ) → is_word_byte b ≡ true → is_line_end b ≡ false
+letter_in_line b word = go (b == 10) refl
   where
-    spelled : _
-    spelled = (reads_spelled parsed.accepted.stands (items_spelled text false (tokens AnyLetter text))).0
-    canonical : List ℕ
-    canonical = canonical_text f
-    stands : IsReadAs (signs_of (items (canonical_text f))) f
-    stands = canonical_stands f (reads_spelled parsed.accepted.stands (items_spelled text false (tokens AnyLetter text))).0
-    keeps : (c : Cause) (k : ℕ) → IsFault IsReadAs c (items (canonical_text f)) k → ⊥
-    keeps Syntax k fault = ?
-    keeps TooMany k fault = ?
-    keeps TooNested k fault = ?
-    keeps NameTooLong k long = ?
+    go : (c : Bool) → (b == 10) ≡ c → (b == 10) ≡ false
+    go false is = is
+    go true is = let same = eqb-true b 10 is in let not_word : is_word_byte b ≡ false = ap is_word_byte same in absurd (cc)
+
+rest_in_line : (bs : List ℕ) → list_all is_word_byte bs ≡ true → IsInLine bs
+rest_in_line [] all = refl
+rest_in_line (b ∷ bs) all =
+    let parts = and_parts (is_word_byte b) (list_all is_word_byte bs) all in
+    or_from (is_line_end b) (list_any is_line_end bs) (letter_in_line b parts.0) (rest_in_line bs parts.1)
+
+word_in_line : (w : List ℕ) → is_word_from is_letter w ≡ true → IsInLine w
+word_in_line [] is = refl
+word_in_line (b ∷ bs) is =
+    let parts = and_parts (is_letter b) (list_all is_word_byte bs) is in
+    rest_in_line (b ∷ bs)
+    (and_from (is_word_byte b) (list_all is_word_byte bs) (or_left (is_letter b || is_digit b) (b == 95) (or_left (is_letter b) (is_digit b) parts.0)) parts.1)
+
+action_in_line : (a : List ℕ) → is_action a ≡ true → IsInLine (action_text a)
+action_in_line a is = go (bytes_eq a (codes "_")) refl
+  where
+    go : (b : Bool) → bytes_eq a (codes "_") ≡ b → IsInLine (cond b [] a)
+    go true any = refl
+    go false other = word_in_line a (and_parts (is_word_from is_letter a) (not (is_reserved a)) (or_other (bytes_eq a (codes "_")) _ is other)).0
+      where
+        or_other : (x y : Bool) → (x || y) ≡ true → x ≡ false → y ≡ true
+        or_other true y holds no_x = absurd (cc)
+        or_other false y holds no_x = holds
+
+modality_in_line : (m : Modality) (a : List ℕ) → is_action a ≡ true → IsInLine (modality_text m a)
+modality_in_line Diamond a is = both_in_line (codes "<" ++ action_text a) (codes ">") (action_in_line a is) refl
+modality_in_line Square a is = both_in_line (codes "[" ++ action_text a) (codes "]") (action_in_line a is) refl
+
+spelling_in_line : (o : Operator) → IsInLine (spelling_of o)
+spelling_in_line operator.Iff = refl
+spelling_in_line operator.Implies = refl
+spelling_in_line operator.Or = refl
+spelling_in_line operator.And = refl
+
+fixpoint_in_line : (q : Fixpoint) → IsInLine (fixpoint_word q)
+fixpoint_in_line Least = refl
+fixpoint_in_line Greatest = refl
+
+pub canonical_in_line : (f : Formula) → is_spelled f ≡ true → IsInLine (canonical_text f)
+canonical_in_line (plain.Const true) is = refl
+canonical_in_line (plain.Const false) is = refl
+canonical_in_line (plain.Prop p) is = word_in_line p (letters p (and_parts (is_word_from is_lower p) (not (is_reserved p)) is).0)
+canonical_in_line (plain.Var x) is = word_in_line x (upper_letters x is)
+canonical_in_line (plain.Not f) is = canonical_in_line f is
+canonical_in_line (plain.Binary o f g) is =
+    let parts = and_parts (is_spelled f) (is_spelled g) is in
+    seven_in_line (codes "(") (canonical_text f) (codes " ") (spelling_of o) (codes " ") (canonical_text g) (codes ")") refl
+    (canonical_in_line f parts.0) refl (spelling_in_line o) refl (canonical_in_line g parts.1) refl
+canonical_in_line (plain.Modal m a f) is =
+    let parts = and_parts (is_action a) (is_spelled f) is in
+    both_in_line (modality_text m a) (canonical_text f) (modality_in_line m a parts.0) (canonical_in_line f parts.1)
+canonical_in_line (plain.Binder q x f) is =
+    let parts = and_parts (is_variable x) (is_spelled f) is in
+    seven_in_line (codes "(") (fixpoint_word q) (codes " ") x (codes ". ") (canonical_text f) (codes ")") refl (fixpoint_in_line q) refl
+    (word_in_line x (upper_letters x parts.0)) refl (canonical_in_line f parts.1) refl
+
+pub heads_read_back : HeadsReadBack
+heads_read_back a p text rest parsed = record {
+  formula_text = canonical_text p.formula;
+  in_one_line = canonical_in_line p.formula (spelled_of text p.formula parsed);
+  is_text = refl;
+  is_parsed = canonical_parsed text p.formula parsed;
+}

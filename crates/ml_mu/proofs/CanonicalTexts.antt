@@ -3,6 +3,7 @@
 --   tokens_onto f ss     == the tokens of the canonical text of f, in front of the tokens ss
 --   scans_formula        == these are its tokens
 --   reads_formula        == their signs are read as f
+--   canonical_tokens     == these are the tokens of the text alone
 --   canonical_stands     == so the text stands for f
 use Rattle.std.proofs.Common.{◌≡◌, ℕ, suc, ◌+◌, ◌≤◌, ◌⊎◌, Bool, true, false, ◌&&◌, ◌||◌, ◌==◌, not, List, [], ◌∷◌, ◌++◌, length, map, take, drop, take_while, Option, Some, None, refl, sym, ◌∙◌, ap, subst, arith, if◌then◌else◌, cond, codes, append_assoc, bytes_eq, ⊎_elim, inl, inr, unwrap_or}
 use Rattle.std.specs.List.{list_all, list_any, prefix_len}
@@ -382,9 +383,14 @@ signs_spelt : (text : List ℕ) (silent : Bool) (ps : List Placed) → signs_of 
 signs_spelt text silent [] = refl
 signs_spelt text silent (p ∷ ps) = ap (λ ts. sign_at text p ∷ ts) (signs_spelt text (silences (sign_at text p)) ps)
 
+pub canonical_tokens : (f : Formula) → is_spelled f ≡ true → map (spelt_at (canonical_text f)) (tokens AnyLetter (canonical_text f)) ≡ tokens_onto f []
+canonical_tokens f is =
+    let text = canonical_text f in
+    let scans : Scans AnyLetter text (tokens_onto f []) = subst (λ t. Scans AnyLetter t (tokens_onto f [])) (append-nil text) (scans_formula f is [] [] refl ends) in
+    scans_tokens AnyLetter text (tokens_onto f []) scans
+
 pub canonical_stands : (f : Formula) → is_spelled f ≡ true → IsTextOf (canonical_text f) f
 canonical_stands f is =
     let text = canonical_text f in
-    let scans : Scans AnyLetter text (tokens_onto f []) = subst (λ t. Scans AnyLetter t (tokens_onto f [])) (append-nil text) (scans_formula f is [] [] refl ends) in
-    let signs_are : signs_of (items text) ≡ map sign_spelt (tokens_onto f []) = signs_spelt text false (tokens AnyLetter text) ∙ ap (map sign_spelt) (scans_tokens AnyLetter text (tokens_onto f []) scans) in
+    let signs_are : signs_of (items text) ≡ map sign_spelt (tokens_onto f []) = signs_spelt text false (tokens AnyLetter text) ∙ ap (map sign_spelt) (canonical_tokens f is) in
     subst (λ ts. Reads grammar.Iff ts f []) (sym signs_are) (un_raised grammar.Iff (reads_formula f is []))

@@ -38,3 +38,5 @@ pub mod Monotone
 pub mod Fixpoints
 -- the lines of a head
 pub mod HeadLines
+-- canonical texts are parsed, and heads are read back
+pub mod CanonicalParsed

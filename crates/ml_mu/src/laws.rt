@@ -3,7 +3,7 @@
 ghost use Rattle.std.specs.Prelude.{◌≡◌, ℕ, true, List, [], ◌∷◌, length};
 ghost use Rattle.ml_base.specs.Structure.{Structure, StateSet, is_member};
 ghost use Rattle.ml_mu.specs.Formula.{Formula, Binder, Fixpoint, Least, Greatest};
-ghost use Rattle.ml_mu.specs.HeadRules.{HeadOrFault, OneHead, OneHeadFault};
+ghost use Rattle.ml_mu.specs.HeadRules.{HeadOrFault, HeadsReadBack, OneHead, OneHeadFault};
 ghost use Rattle.ml_mu.specs.Meaning.{meaning};
 ghost use Rattle.ml_mu.specs.Variables.{is_positive};
 ghost use Rattle.ml_mu.specs.Parsing.{CanonicalStandsForOne, ParsedAreWellFormed, ParsedOrRefused, RefusedOnce, StandForOne};
@@ -43,6 +43,11 @@ pub fn one_head()
     ensures exclusive { HeadOrFault }
     ensures head { OneHead }
     ensures fault { OneHeadFault }
+{}
+
+/// The head of a written document about a formula that was parsed is read as it was written, whatever stands behind it.
+pub fn heads_are_read_back()
+    ensures { HeadsReadBack }
 {}
 
 /// The meaning of a formula is a set of states: it has one flag for each.
