@@ -22,8 +22,9 @@ due_own text (Satisfiable f m) output short right is = (
     structure = m.structure;
     is_parsed = right.0;
     is_in_form = right.1;
+    has_names = is.1;
     holds = right.2;
-    is_written = is ∙ ap (satisfiable_document (plain f) m.structure) right.3;
+    is_written = is.0 ∙ ap (satisfiable_document (plain f) m.structure) right.3;
   },
 )
 due_own text (Unsatisfiable f) output short right is =

@@ -6,3 +6,5 @@ pub mod Endings
 pub mod Dues
 -- one status is due
 pub mod OneDue
+-- what is written is read back
+pub mod ReadBack

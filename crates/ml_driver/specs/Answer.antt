@@ -1,10 +1,11 @@
 -- The answers of the program before they are written. Private contracts cite this; what is due stands in `Run.antt`.
 --
 --   status_of a    == the status that goes with the answer
---   IsText a out   == out is the output for the answer
+--   IsText a out   == out is the output for the answer, whose labels and actions are names
 --   IsAnswer t a   == the answer is right for `decide mu` on the text
 use Rattle.std.specs.Prelude.{ℕ, ◌≡◌, List, Some}
 use Rattle.ml_base.specs.declared.parse_refusal.ParseRefusal.{ParseRefusal}
+use Rattle.ml_kripke.specs.Ordered.{HasNames}
 use Rattle.ml_mu.specs.Parsing.{IsParsedAs, IsRefusedBy}
 use Rattle.ml_mu.specs.Formula.{Formula}
 use Rattle.ml_table.specs.Propositional.{plain, IsInForm, HoldsInModel, HoldsNowhere}
@@ -22,7 +23,7 @@ status_of (RefusedText e) = status.Text
 status_of RefusedForm = status.Text
 
 abbrev pub IsText : Answer → List ℕ → Type 0
-IsText (Satisfiable f m) out = out ≡ satisfiable_document (plain f) m.structure m.start
+IsText (Satisfiable f m) out = (out ≡ satisfiable_document (plain f) m.structure m.start) × HasNames m.structure
 IsText (Unsatisfiable f) out = out ≡ unsatisfiable_document (plain f)
 IsText (RefusedText e) out = Some out ≡ refusal_line e
 IsText RefusedForm out = out ≡ refused_form

@@ -24,6 +24,7 @@ use Rattle.std.specs.Io.KnownBytes.{IsAtEnd, append_known, prepend_known}
 use Rattle.ml_base.specs.Faults.{Rose}
 use Rattle.ml_base.specs.Structure.{Structure}
 use Rattle.ml_base.specs.Whole.{AppendsPart}
+use Rattle.ml_kripke.specs.Ordered.{HasNames}
 use Rattle.ml_mu.specs.Formula.{Formula}
 use Rattle.ml_mu.specs.Parsing.{IsParsedAs, IsRefusedBy}
 use Rattle.ml_table.specs.Propositional.{plain, IsInForm, HoldsInModel, HoldsNowhere}
@@ -43,6 +44,7 @@ pub record IsSatisfied (text out : List ℕ) : Type 0 where
   pub structure : Structure
   pub is_parsed : IsParsedAs text formula
   pub is_in_form : IsInForm formula
+  pub has_names : HasNames structure
   pub holds : HoldsInModel formula structure
   pub is_written : out ≡ satisfiable_document (plain formula) structure 0
 

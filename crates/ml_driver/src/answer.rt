@@ -1,6 +1,7 @@
 // Answers, and their output.
 ghost use Rattle.std.specs.Prelude.{◌≡◌, ◌++◌, [], ◌∷◌, codes, IfOk, OnOk, Some};
 ghost use Rattle.ml_lines.specs.Lines.{line_text, number, text_of};
+ghost use Rattle.ml_kripke.specs.Ordered.{HasNames};
 ghost use Rattle.ml_table.specs.Propositional.{plain};
 ghost use Rattle.ml_driver.specs.Document as document;
 ghost use Rattle.ml_driver.specs.Document.{plain_head};
@@ -100,8 +101,9 @@ fn satisfiable_document(
     formula: &Formula,
     model: &Model,
 ) -> Result<Vec<u8>, NoMemory>
-    ensures { IfOk result (λ output.
+    ensures text { IfOk result (λ output.
         output.items ≡ document.satisfiable_document (plain formula.now) model.now.structure model.now.start) }
+    ensures named { OnOk result (HasNames model.now.structure) }
 {
     let mut output = Vec::new(alloc);
     write_head(alloc, &mut output, b"satisfiable", formula)?;

@@ -9,6 +9,14 @@ use std::test::Fail;
 const LITERALS: &str =
     "mlsolver 1\nanswer satisfiable\nlogic mu\nsense plain\nformula (p & !q)\nstates 1\nstart 0\nstate 0 p\nend\n";
 
+// <>p at a state with an edge to itself
+const CHECKED: &str =
+    "mlsolver 1\nanswer satisfiable\nlogic mu\nsense plain\nformula <>p\nstates 1\nstart 0\nstate 0\nedge 0 _ 0\nend\n";
+
+// the same where p is true at the state
+const CHECKED_WITH_P: &str =
+    "mlsolver 1\nanswer satisfiable\nlogic mu\nsense plain\nformula <>p\nstates 1\nstart 0\nstate 0 p\nedge 0 _ 0\nend\n";
+
 fn words_of(alloc: Global, line: &str) -> Result<Vec<String>, AllocError> {
     let mut words = Vec::new(alloc);
     for word in line.split_whitespace() {
@@ -142,6 +150,18 @@ fn texts(rt: HostRuntime) -> Result<(), Fail> {
         ("decide mu --limit 200001", "p", 3, "refused words\n"),
         ("decide s4", "p", 3, "refused words\n"),
         ("", "p", 3, "refused words\n"),
+        ("check-model", CHECKED, 1, "fails\n"),
+        ("check-model", CHECKED_WITH_P, 0, "holds\n"),
+        ("check-model", LITERALS, 0, "holds\n"),
+        (
+            "check-model",
+            "mlsolver 1\nanswer unsatisfiable\nlogic mu\nsense plain\nformula <>p\nend\n",
+            4,
+            "refused document line 2 rule 3\n",
+        ),
+        ("check-model", "", 4, "refused document line 1 rule 1\n"),
+        ("check-model mu", CHECKED, 3, "refused words\n"),
+        ("decide check-model", "p", 3, "refused words\n"),
     ];
     for (words, text, status, output) in rows {
         for in_one_piece in [false, true] {

@@ -2,3 +2,5 @@
 pub mod HeadFronts
 -- checking a text finds one thing
 pub mod OneCheck
+-- what is written is read back
+pub mod ReadBack

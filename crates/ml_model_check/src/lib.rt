@@ -12,6 +12,8 @@ mod check;
 mod checked;
 mod head;
 pub mod laws;
+#[cfg(test)]
+mod tests;
 
 pub use check::check_document;
 pub use checked::Checked;

@@ -1,0 +1,24 @@
+-- What `decide mu` writes, `check-model` reads.
+--
+--   decided_are_checked  == and finds to hold
+use Rattle.std.proofs.Common.{◌≡◌, ℕ, ◌≤◌, ◌<◌, List, length, refl, sym, subst, arith}
+use Rattle.ml_kripke.specs.Laws.{IsWritten}
+use Rattle.ml_table.specs.Propositional.{plain}
+use Rattle.ml_model_check.specs.Checked.{IsDocument}
+use Rattle.ml_model_check.proofs.ReadBack.{documents_read_back}
+use Rattle.ml_driver.specs.Laws.{DecidedAreChecked}
+
+pub decided_are_checked : DecidedAreChecked
+decided_are_checked text out short (fits, x) =
+    let m = x.structure in
+    let p = plain x.formula in
+    let written : IsWritten m 0 = record {
+      is_structure = x.holds.is_structure;
+      has_names = x.has_names;
+      fits = omega (arith, x.holds.one_state);
+      is_state = x.holds.is_structure.has_state;
+    }
+    in
+    let shown : IsDocument out p m 0 =
+    subst (λ t. IsDocument t p m 0) (sym x.is_written) (documents_read_back text p m 0 x.is_parsed written x.holds.is_ordered) in
+    (short, (record { problem = p; structure = m; start = 0; is_document = shown; holds = x.holds.holds }, refl))
