@@ -8,3 +8,5 @@ pub mod PdlGrammar
 pub mod Marks
 -- where texts are refused
 pub mod Refusals
+-- texts worked out by hand
+mod WorkedTexts
