@@ -1,0 +1,162 @@
+// The measurements.
+
+use crate::counts::{highest, read_game, read_graph, states, won_by_even};
+use crate::failure::Failure;
+use ml_history::PlainHistory;
+use ml_parity::plain::solve_plain;
+use ml_parity::{Game, OneSided, heights};
+use ml_tests::{Numbers, chain, ladder, random_blocks, random_game, random_letter, slow_blocks};
+use std::alloc::AllocGlobal;
+use std::io::Print;
+use std::rt::Clock;
+use std::time::{Duration, Instant};
+
+/// What is measured.
+#[derive(Clone, Copy, Debug, PartialEq, Eq)]
+pub enum Measurement {
+    /// Solving a random game of so many vertices, three successors and eight priorities.
+    Games,
+    /// Solving a game of so many vertices that is deep.
+    Ladder,
+    /// A hundred steps of a history along letters over so many states, with ten transitions a state.
+    Histories,
+    /// Heights of a chain of so many arcs.
+    Chain,
+    /// Heights of a random graph of so many vertices, as many arcs and 16 even priorities.
+    Blocks,
+    /// Heights of a graph of so many vertices in which numbers have a long way round.
+    Slow,
+}
+
+impl Measurement {
+    /// The measurement of this name.
+    pub fn named(name: &str) -> Option<Measurement> {
+        match name {
+            "games" => Some(Measurement::Games),
+            "ladder" => Some(Measurement::Ladder),
+            "histories" => Some(Measurement::Histories),
+            "chain" => Some(Measurement::Chain),
+            "blocks" => Some(Measurement::Blocks),
+            "slow" => Some(Measurement::Slow),
+            _ => None,
+        }
+    }
+}
+
+/// How often the shorter time goes into the longer one, in tenths.
+fn tenths(whole: Duration, part: Duration) -> u64 {
+    let whole = u64::try_from(whole.as_micros()).unwrap_or(u64::MAX);
+    let part = u64::try_from(part.as_micros()).unwrap_or(u64::MAX);
+    whole.saturating_mul(10) / part.max(1)
+}
+
+/// Prints a line, and how long the work took, if times are wanted.
+fn print_time<R: Print>(
+    rt: &R,
+    is_timed: bool,
+    read: Duration,
+    work: Duration,
+) -> Result<(), Failure> {
+    if is_timed {
+        let tenths = tenths(work, read);
+        let whole = tenths / 10;
+        let part = tenths % 10;
+        let millis = work.as_millis();
+        println!(rt; "  {whole}.{part} times a reading; {millis} ms")?;
+    }
+    Ok(())
+}
+
+fn solve_game<R: Print + Clock + AllocGlobal>(
+    rt: &R,
+    game: &Game,
+    is_timed: bool,
+) -> Result<(), Failure> {
+    let start = Instant::now(rt)?;
+    let sum = read_game(game);
+    let read = start.elapsed(rt)?;
+    let start = Instant::now(rt)?;
+    let solution = solve_plain(rt.alloc(), game)?;
+    let work = start.elapsed(rt)?;
+    let size = game.size();
+    let even = won_by_even(&solution);
+    println!(rt; "{size} vertices, sum {sum}: Even wins {even}")?;
+    print_time(rt, is_timed, read, work)
+}
+
+fn count_heights<R: Print + Clock + AllocGlobal>(
+    rt: &R,
+    graph: &OneSided,
+    is_timed: bool,
+) -> Result<(), Failure> {
+    let start = Instant::now(rt)?;
+    let sum = read_graph(graph);
+    let read = start.elapsed(rt)?;
+    let start = Instant::now(rt)?;
+    let answer = heights(rt.alloc(), graph)?;
+    let work = start.elapsed(rt)?;
+    let size = graph.size;
+    match answer {
+        Ok(heights) => {
+            let highest = highest(&heights);
+            println!(rt; "{size} vertices, sum {sum}: the greatest height is {highest}")?;
+        }
+        Err(cycle) => {
+            let length = cycle.arcs.len();
+            println!(rt; "{size} vertices, sum {sum}: a cycle of {length} arcs")?;
+        }
+    }
+    print_time(rt, is_timed, read, work)
+}
+
+fn step_histories<R: Print + Clock + AllocGlobal>(
+    rt: &R,
+    size: u32,
+    is_timed: bool,
+) -> Result<(), Failure> {
+    let mut numbers = Numbers::new(1);
+    let mut history = PlainHistory::start(rt.alloc(), 0)?;
+    let mut work = Duration::ZERO;
+    if size == 0 {
+        return Ok(());
+    }
+    for _ in 0..100 {
+        let letter = random_letter(rt.alloc(), &mut numbers, size, size as u64 * 10)?;
+        let start = Instant::now(rt)?;
+        let (next, _) = history.step(&letter)?;
+        work = work.saturating_add(start.elapsed(rt)?);
+        history = next;
+    }
+    let states = states(&history);
+    let names = history.live();
+    println!(rt; "{size} states: {states} states with {names} names")?;
+    print_time(rt, is_timed, Duration::ZERO, work)
+}
+
+/// Makes what is measured, and measures it.
+pub fn measure<R: Print + Clock + AllocGlobal>(
+    rt: &R,
+    measurement: Measurement,
+    size: u32,
+    is_timed: bool,
+) -> Result<(), Failure> {
+    let alloc = rt.alloc();
+    let mut numbers = Numbers::new(1);
+    match measurement {
+        Measurement::Games => {
+            let game = random_game(alloc, &mut numbers, size as u64, 3, 8)?;
+            solve_game(rt, &game, is_timed)
+        }
+        Measurement::Ladder => solve_game(rt, &ladder(alloc, size)?, is_timed),
+        Measurement::Histories => step_histories(rt, size, is_timed),
+        Measurement::Chain => count_heights(rt, &chain(alloc, size as u64)?, is_timed),
+        Measurement::Blocks => {
+            if size == 0 {
+                return Ok(());
+            }
+            let graph = random_blocks(alloc, &mut numbers, size as u64, size as u64, 16)?;
+            count_heights(rt, &graph, is_timed)
+        }
+        Measurement::Slow => count_heights(rt, &slow_blocks(alloc, size as u64)?, is_timed),
+    }
+}
