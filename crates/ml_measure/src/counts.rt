@@ -2,6 +2,7 @@
 
 use ml_history::PlainHistory;
 use ml_parity::{Game, Heights, OneSided, Player, Solution};
+use ml_trace::Letter;
 
 /// Reads a game once: a number that depends on all of it.
 pub fn read_game(game: &Game) -> u64 {
@@ -30,6 +31,18 @@ pub fn read_graph(graph: &OneSided) -> u64 {
             .wrapping_add(arc.from)
             .wrapping_add(arc.priority as u64)
             .wrapping_add(arc.to);
+    }
+    sum
+}
+
+/// Reads a letter once: a number that depends on all of it.
+pub fn read_letter(letter: &Letter) -> u64 {
+    let mut sum: u64 = 0;
+    for transition in letter.transitions() {
+        sum = sum
+            .wrapping_add(transition.from as u64)
+            .wrapping_add(transition.to as u64)
+            .wrapping_add(transition.accepting as u64);
     }
     sum
 }

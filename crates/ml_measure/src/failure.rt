@@ -9,7 +9,7 @@ use thiserror::Error;
 /// Why a measurement ended.
 #[derive(Debug, Drop, Error)]
 pub enum Failure {
-    #[error("write: games, ladder, histories, chain, blocks or slow, and then a size")]
+    #[error("write small, or games, ladder, histories, chain, blocks or row with a size")]
     Words,
     #[error("out of memory")]
     NoMemory,

@@ -1,11 +1,11 @@
 // The measurements.
 
-use crate::counts::{highest, read_game, read_graph, states, won_by_even};
+use crate::counts::{highest, read_game, read_graph, read_letter, states, won_by_even};
 use crate::failure::Failure;
 use ml_history::PlainHistory;
 use ml_parity::plain::solve_plain;
 use ml_parity::{Game, OneSided, heights};
-use ml_tests::{Numbers, chain, ladder, random_blocks, random_game, random_letter, slow_blocks};
+use ml_tests::{Numbers, chain, ladder, random_blocks, random_game, random_letter, slow_row};
 use std::alloc::AllocGlobal;
 use std::io::Print;
 use std::rt::Clock;
@@ -18,14 +18,15 @@ pub enum Measurement {
     Games,
     /// Solving a game of so many vertices that is deep.
     Ladder,
-    /// A hundred steps of a history along letters over so many states, with ten transitions a state.
+    /// A hundred steps of a history along random letters over so many states, with ten transitions a state.
     Histories,
     /// Heights of a chain of so many arcs.
     Chain,
     /// Heights of a random graph of so many vertices, as many arcs and 16 even priorities.
     Blocks,
-    /// Heights of a graph of so many vertices in which numbers have a long way round.
-    Slow,
+    /// Heights of a graph of so many vertices, twice as many arcs and 16 even priorities, in which numbers have a long
+    /// way round.
+    Row,
 }
 
 impl Measurement {
@@ -37,7 +38,7 @@ impl Measurement {
             "histories" => Some(Measurement::Histories),
             "chain" => Some(Measurement::Chain),
             "blocks" => Some(Measurement::Blocks),
-            "slow" => Some(Measurement::Slow),
+            "row" => Some(Measurement::Row),
             _ => None,
         }
     }
@@ -67,6 +68,7 @@ fn print_time<R: Print>(
     Ok(())
 }
 
+/// Solves a game.
 fn solve_game<R: Print + Clock + AllocGlobal>(
     rt: &R,
     game: &Game,
@@ -84,6 +86,7 @@ fn solve_game<R: Print + Clock + AllocGlobal>(
     print_time(rt, is_timed, read, work)
 }
 
+/// Counts heights.
 fn count_heights<R: Print + Clock + AllocGlobal>(
     rt: &R,
     graph: &OneSided,
@@ -109,19 +112,25 @@ fn count_heights<R: Print + Clock + AllocGlobal>(
     print_time(rt, is_timed, read, work)
 }
 
+/// A hundred steps along letters over so many states.
 fn step_histories<R: Print + Clock + AllocGlobal>(
     rt: &R,
     size: u32,
     is_timed: bool,
 ) -> Result<(), Failure> {
-    let mut numbers = Numbers::new(1);
-    let mut history = PlainHistory::start(rt.alloc(), 0)?;
-    let mut work = Duration::ZERO;
     if size == 0 {
         return Ok(());
     }
+    let mut numbers = Numbers::new(1);
+    let mut history = PlainHistory::start(rt.alloc(), 0)?;
+    let mut work = Duration::ZERO;
+    let mut read = Duration::ZERO;
+    let mut sum: u64 = 0;
     for _ in 0..100 {
         let letter = random_letter(rt.alloc(), &mut numbers, size, size as u64 * 10)?;
+        let start = Instant::now(rt)?;
+        sum = sum.wrapping_add(read_letter(&letter));
+        read = read.saturating_add(start.elapsed(rt)?);
         let start = Instant::now(rt)?;
         let (next, _) = history.step(&letter)?;
         work = work.saturating_add(start.elapsed(rt)?);
@@ -129,8 +138,8 @@ fn step_histories<R: Print + Clock + AllocGlobal>(
     }
     let states = states(&history);
     let names = history.live();
-    println!(rt; "{size} states: {states} states with {names} names")?;
-    print_time(rt, is_timed, Duration::ZERO, work)
+    println!(rt; "{size} states, sum {sum}: {states} states with {names} names")?;
+    print_time(rt, is_timed, read, work)
 }
 
 /// Makes what is measured, and measures it.
@@ -151,12 +160,26 @@ pub fn measure<R: Print + Clock + AllocGlobal>(
         Measurement::Histories => step_histories(rt, size, is_timed),
         Measurement::Chain => count_heights(rt, &chain(alloc, size as u64)?, is_timed),
         Measurement::Blocks => {
-            if size == 0 {
-                return Ok(());
-            }
-            let graph = random_blocks(alloc, &mut numbers, size as u64, size as u64, 16)?;
+            let arcs = size as u64;
+            let graph = random_blocks(alloc, &mut numbers, arcs.max(1), arcs, 16)?;
             count_heights(rt, &graph, is_timed)
         }
-        Measurement::Slow => count_heights(rt, &slow_blocks(alloc, size as u64)?, is_timed),
+        Measurement::Row => count_heights(rt, &slow_row(alloc, size as u64, 16)?, is_timed),
     }
+}
+
+/// Each measurement once at a small size, without times.
+pub fn measure_small<R: Print + Clock + AllocGlobal>(rt: &R) -> Result<(), Failure> {
+    let small = [
+        (Measurement::Games, 12),
+        (Measurement::Ladder, 12),
+        (Measurement::Histories, 12),
+        (Measurement::Chain, 1000),
+        (Measurement::Blocks, 1000),
+        (Measurement::Row, 100),
+    ];
+    for (measurement, size) in small {
+        measure(rt, measurement, size, false)?;
+    }
+    Ok(())
 }

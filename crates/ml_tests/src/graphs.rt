@@ -109,35 +109,41 @@ fn block_arc(numbers: &mut Numbers, first: u64, second: u64, vertices: u64, even
     }
 }
 
-/// A graph in which numbers have a long way round: so many vertices, joined in both ways by arcs of the priority 1, the
-/// last of them first, and an arc of the priority 0 from the first vertex to one more.
+/// A graph in which each number has a long way round: so many vertices in a row, joined in both ways by arcs of one odd
+/// priority, the last of them first; one vertex more, to which an arc of each lower even priority leads from the first
+/// vertex. There are so many even priorities.
 ///
 /// # Errors
-/// `NoMemory`, and `TooLarge` for 2^64 - 1 vertices.
+/// `NoMemory`, and `TooLarge` for 2^64 - 1 vertices or more than 2^30 even priorities.
 ///
 /// Linear in the graph.
-pub fn slow_blocks(alloc: Global, vertices: u64) -> Result<OneSided, NotMade> {
-    if vertices == u64::MAX {
+pub fn slow_row(alloc: Global, vertices: u64, evens: u32) -> Result<OneSided, NotMade>
+    requires { 1 < evens }
+{
+    if vertices == u64::MAX || evens > 1 << 30 {
         return Err(NotMade::TooLarge);
     }
+    let priority = 2 * evens - 3;
     let mut all = Vec::new(alloc);
     for k in 1..vertices {
         let v = vertices - k;
         all.push(Arc {
             from: v,
-            priority: 1,
+            priority,
             to: v - 1,
         })?;
         all.push(Arc {
             from: v - 1,
-            priority: 1,
+            priority,
             to: v,
         })?;
     }
-    all.push(Arc {
-        from: 0,
-        priority: 0,
-        to: vertices,
-    })?;
-    graph_of(vertices + 1, 2, all)
+    for half in 0..evens - 1 {
+        all.push(Arc {
+            from: 0,
+            priority: 2 * half,
+            to: vertices,
+        })?;
+    }
+    graph_of(vertices + 1, 2 * (evens - 1), all)
 }
