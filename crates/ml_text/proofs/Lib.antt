@@ -30,3 +30,7 @@ pub mod Reduce
 pub mod OneAnswer
 -- the tokens of a text that is put together
 pub mod Scans
+-- the sign with which an operand begins
+pub mod Fronts
+-- relations by which the same signs stand for something
+pub mod SameTexts

@@ -1,0 +1,185 @@
+// The measurements.
+
+use crate::counts::{highest, read_game, read_graph, read_letter, states, won_by_even};
+use crate::failure::Failure;
+use ml_history::PlainHistory;
+use ml_parity::plain::solve_plain;
+use ml_parity::{Game, OneSided, heights};
+use ml_tests::{Numbers, chain, ladder, random_blocks, random_game, random_letter, slow_row};
+use std::alloc::AllocGlobal;
+use std::io::Print;
+use std::rt::Clock;
+use std::time::{Duration, Instant};
+
+/// What is measured.
+#[derive(Clone, Copy, Debug, PartialEq, Eq)]
+pub enum Measurement {
+    /// Solving a random game of so many vertices, three successors and eight priorities.
+    Games,
+    /// Solving a game of so many vertices that is deep.
+    Ladder,
+    /// A hundred steps of a history along random letters over so many states, with ten transitions a state.
+    Histories,
+    /// Heights of a chain of so many arcs.
+    Chain,
+    /// Heights of a random graph of so many vertices, as many arcs and 16 even priorities.
+    Blocks,
+    /// Heights of a graph of so many vertices, twice as many arcs and 16 even priorities, in which numbers have a long
+    /// way round.
+    Row,
+}
+
+impl Measurement {
+    /// The measurement of this name.
+    pub fn named(name: &str) -> Option<Measurement> {
+        match name {
+            "games" => Some(Measurement::Games),
+            "ladder" => Some(Measurement::Ladder),
+            "histories" => Some(Measurement::Histories),
+            "chain" => Some(Measurement::Chain),
+            "blocks" => Some(Measurement::Blocks),
+            "row" => Some(Measurement::Row),
+            _ => None,
+        }
+    }
+}
+
+/// How often the shorter time goes into the longer one, in tenths.
+fn tenths(whole: Duration, part: Duration) -> u64 {
+    let whole = u64::try_from(whole.as_micros()).unwrap_or(u64::MAX);
+    let part = u64::try_from(part.as_micros()).unwrap_or(u64::MAX);
+    whole.saturating_mul(10) / part.max(1)
+}
+
+/// Prints a line, and how long the work took, if times are wanted.
+fn print_time<R: Print>(
+    rt: &R,
+    is_timed: bool,
+    read: Duration,
+    work: Duration,
+) -> Result<(), Failure> {
+    if is_timed {
+        let tenths = tenths(work, read);
+        let whole = tenths / 10;
+        let part = tenths % 10;
+        let millis = work.as_millis();
+        println!(rt; "  {whole}.{part} times a reading; {millis} ms")?;
+    }
+    Ok(())
+}
+
+/// Solves a game.
+fn solve_game<R: Print + Clock + AllocGlobal>(
+    rt: &R,
+    game: &Game,
+    is_timed: bool,
+) -> Result<(), Failure> {
+    let start = Instant::now(rt)?;
+    let sum = read_game(game);
+    let read = start.elapsed(rt)?;
+    let start = Instant::now(rt)?;
+    let solution = solve_plain(rt.alloc(), game)?;
+    let work = start.elapsed(rt)?;
+    let size = game.size();
+    let even = won_by_even(&solution);
+    println!(rt; "{size} vertices, sum {sum}: Even wins {even}")?;
+    print_time(rt, is_timed, read, work)
+}
+
+/// Counts heights.
+fn count_heights<R: Print + Clock + AllocGlobal>(
+    rt: &R,
+    graph: &OneSided,
+    is_timed: bool,
+) -> Result<(), Failure> {
+    let start = Instant::now(rt)?;
+    let sum = read_graph(graph);
+    let read = start.elapsed(rt)?;
+    let start = Instant::now(rt)?;
+    let answer = heights(rt.alloc(), graph)?;
+    let work = start.elapsed(rt)?;
+    let size = graph.size;
+    match answer {
+        Ok(heights) => {
+            let highest = highest(&heights);
+            println!(rt; "{size} vertices, sum {sum}: the greatest height is {highest}")?;
+        }
+        Err(cycle) => {
+            let length = cycle.arcs.len();
+            println!(rt; "{size} vertices, sum {sum}: a cycle of {length} arcs")?;
+        }
+    }
+    print_time(rt, is_timed, read, work)
+}
+
+/// A hundred steps along letters over so many states.
+fn step_histories<R: Print + Clock + AllocGlobal>(
+    rt: &R,
+    size: u32,
+    is_timed: bool,
+) -> Result<(), Failure> {
+    if size == 0 {
+        return Ok(());
+    }
+    let mut numbers = Numbers::new(1);
+    let mut history = PlainHistory::start(rt.alloc(), 0)?;
+    let mut work = Duration::ZERO;
+    let mut read = Duration::ZERO;
+    let mut sum: u64 = 0;
+    for _ in 0..100 {
+        let letter = random_letter(rt.alloc(), &mut numbers, size, size as u64 * 10)?;
+        let start = Instant::now(rt)?;
+        sum = sum.wrapping_add(read_letter(&letter));
+        read = read.saturating_add(start.elapsed(rt)?);
+        let start = Instant::now(rt)?;
+        let (next, _) = history.step(&letter)?;
+        work = work.saturating_add(start.elapsed(rt)?);
+        history = next;
+    }
+    let states = states(&history);
+    let names = history.live();
+    println!(rt; "{size} states, sum {sum}: {states} states with {names} names")?;
+    print_time(rt, is_timed, read, work)
+}
+
+/// Makes what is measured, and measures it.
+pub fn measure<R: Print + Clock + AllocGlobal>(
+    rt: &R,
+    measurement: Measurement,
+    size: u32,
+    is_timed: bool,
+) -> Result<(), Failure> {
+    let alloc = rt.alloc();
+    let mut numbers = Numbers::new(1);
+    match measurement {
+        Measurement::Games => {
+            let game = random_game(alloc, &mut numbers, size as u64, 3, 8)?;
+            solve_game(rt, &game, is_timed)
+        }
+        Measurement::Ladder => solve_game(rt, &ladder(alloc, size)?, is_timed),
+        Measurement::Histories => step_histories(rt, size, is_timed),
+        Measurement::Chain => count_heights(rt, &chain(alloc, size as u64)?, is_timed),
+        Measurement::Blocks => {
+            let arcs = size as u64;
+            let graph = random_blocks(alloc, &mut numbers, arcs.max(1), arcs, 16)?;
+            count_heights(rt, &graph, is_timed)
+        }
+        Measurement::Row => count_heights(rt, &slow_row(alloc, size as u64, 16)?, is_timed),
+    }
+}
+
+/// Each measurement once at a small size, without times.
+pub fn measure_small<R: Print + Clock + AllocGlobal>(rt: &R) -> Result<(), Failure> {
+    let small = [
+        (Measurement::Games, 12),
+        (Measurement::Ladder, 12),
+        (Measurement::Histories, 12),
+        (Measurement::Chain, 1000),
+        (Measurement::Blocks, 1000),
+        (Measurement::Row, 100),
+    ];
+    for (measurement, size) in small {
+        measure(rt, measurement, size, false)?;
+    }
+    Ok(())
+}

@@ -1,0 +1,12 @@
+-- what the grammar reads, the tables read
+pub mod ToTables
+-- what the tables read, the grammar reads
+pub mod FromTables
+-- the tables are regular and can be completed
+pub mod PdlGrammar
+-- marked parentheses are those of tests
+pub mod Marks
+-- where texts are refused
+pub mod Refusals
+-- texts worked out by hand
+mod WorkedTexts

@@ -1,0 +1,93 @@
+-- The grammar of PDL texts:
+--
+--   iff  = imp [ IFF iff ]               imp = or [ IMP imp ]
+--   or   = and { OR and }                and = un { AND un }
+--   un   = NOT un | "<" [ prog ] ">" un | "[" [ prog ] "]" un
+--        | "(" iff ")" | TT | FF | PROP
+--   prog = seq { "+" seq }               seq = star { ";" star }
+--   star = base { "*" }                  base = ACT | test | "(" prog ")"
+--   test = { NOT } ( TT | FF | PROP | "(" iff ")" ) "?"
+--
+-- Brackets mean optional parts, braces repetition. IFF and IMP group to the right; OR, AND, + and ; group to the left.
+-- A modality without a program has the action `_`. A name is a proposition where it stands in a formula, and also where
+-- a program is to come and `?` is behind it; else it is an action there. Where a base is to come, a marked `(` opens a
+-- test and an unmarked one a program; elsewhere the mark means nothing.
+--
+-- The grammar is a relation with what is left over: Reads l ts f rest says that the signs ts begin with the formula f
+-- as the level l, and that rest follows. So each rule reads as its line above.
+--
+--   Reads l ts f rest        == ts begins with the formula f at the level l, and rest follows it
+--   ReadsProgram l ts p rest == the same of the program p
+--   ReadsTested ts f rest    == ts begins with f as what stands in a test in front of its `?`
+--   opens_program ts         == does ts begin with an unmarked `(`?
+--   IsReadAs ts f            == the signs ts, all of them, are a text of f
+use Rattle.std.specs.Prelude.{◌≡◌, ℕ, Bool, true, false, List, [], ◌∷◌, Some, codes}
+use Rattle.ml_text.specs.declared.token.Operator.TheVariants as operator
+use Rattle.ml_pdl.specs.Formula as plain
+use Rattle.ml_pdl.specs.Formula.{Formula, Program, Modality}
+use Rattle.ml_pdl.specs.Signs as sign
+use Rattle.ml_pdl.specs.Signs.{Sign, Mark, Unmarked, Not, Connective, Const, Open, Close, Begins, Ends, Plus, Semicolon, Question, Lower, action_of}
+
+pub data Level : Type 0 where
+  Iff Imp Or And Un : Level
+
+pub data ProgramLevel : Type 0 where
+  Prog Seq Star Base : ProgramLevel
+
+abbrev pub opens_program : List Sign → Bool
+opens_program (Open Unmarked ∷ ts) = true
+opens_program _ = false
+
+mutual
+  pub data Reads : Level → List Sign → Formula → List Sign → Type 0 where
+    -- iff = imp [ IFF iff ]
+    iff_alone : {ts rest : List Sign} {f : Formula} → Reads Imp ts f rest → Reads Iff ts f rest
+    iff : {ts us rest : List Sign} {f g : Formula} → Reads Imp ts f (Connective operator.Iff ∷ us) → Reads Iff us g rest → Reads Iff ts (plain.Binary operator.Iff f g) rest
+    -- imp = or [ IMP imp ]
+    imp_alone : {ts rest : List Sign} {f : Formula} → Reads Or ts f rest → Reads Imp ts f rest
+    imp : {ts us rest : List Sign} {f g : Formula} → Reads Or ts f (Connective operator.Implies ∷ us) → Reads Imp us g rest → Reads Imp ts (plain.Binary operator.Implies f g) rest
+    -- or = and { OR and }
+    or_alone : {ts rest : List Sign} {f : Formula} → Reads And ts f rest → Reads Or ts f rest
+    or : {ts us rest : List Sign} {f g : Formula} → Reads Or ts f (Connective operator.Or ∷ us) → Reads And us g rest → Reads Or ts (plain.Binary operator.Or f g) rest
+    -- and = un { AND un }
+    and_alone : {ts rest : List Sign} {f : Formula} → Reads Un ts f rest → Reads And ts f rest
+    and : {ts us rest : List Sign} {f g : Formula} → Reads And ts f (Connective operator.And ∷ us) → Reads Un us g rest → Reads And ts (plain.Binary operator.And f g) rest
+    -- NOT un
+    negation : {ts rest : List Sign} {f : Formula} → Reads Un ts f rest → Reads Un (Not ∷ ts) (plain.Not f) rest
+    -- "<" prog ">" un, "[" prog "]" un, and both without the program
+    modal : {ts us rest : List Sign} {p : Program} {f : Formula} (m : Modality) → ReadsProgram Prog ts p (Ends m ∷ us) → Reads Un us f rest → Reads Un (Begins m ∷ ts) (plain.Modal m p f) rest
+    modal_blank : {ts rest : List Sign} {f : Formula} (m : Modality) → Reads Un ts f rest → Reads Un (Begins m ∷ Ends m ∷ ts) (plain.Modal m (plain.Act (codes "_")) f) rest
+    -- "(" iff ")"
+    group : {ts rest : List Sign} {f : Formula} (k : Mark) → Reads Iff ts f (Close ∷ rest) → Reads Un (Open k ∷ ts) f rest
+    -- TT, FF, PROP
+    constant : {rest : List Sign} (b : Bool) → Reads Un (Const b ∷ rest) (plain.Const b) rest
+    proposition : {rest : List Sign} (p : List ℕ) → Reads Un (Lower p ∷ rest) (plain.Prop p) rest
+
+  pub data ReadsProgram : ProgramLevel → List Sign → Program → List Sign → Type 0 where
+    -- prog = seq { "+" seq }
+    alt_alone : {ts rest : List Sign} {p : Program} → ReadsProgram Seq ts p rest → ReadsProgram Prog ts p rest
+    alt : {ts us rest : List Sign} {p q : Program} → ReadsProgram Prog ts p (Plus ∷ us) → ReadsProgram Seq us q rest → ReadsProgram Prog ts (plain.Alt p q) rest
+    -- seq = star { ";" star }
+    seq_alone : {ts rest : List Sign} {p : Program} → ReadsProgram Star ts p rest → ReadsProgram Seq ts p rest
+    seq : {ts us rest : List Sign} {p q : Program} → ReadsProgram Seq ts p (Semicolon ∷ us) → ReadsProgram Star us q rest → ReadsProgram Seq ts (plain.Seq p q) rest
+    -- star = base { "*" }
+    star_alone : {ts rest : List Sign} {p : Program} → ReadsProgram Base ts p rest → ReadsProgram Star ts p rest
+    star : {ts rest : List Sign} {p : Program} → ReadsProgram Star ts p (sign.Star ∷ rest) → ReadsProgram Star ts (plain.Star p) rest
+    -- base = ACT
+    action : {rest : List Sign} (a : List ℕ) (s : Sign) → action_of s ≡ Some a → ReadsProgram Base (s ∷ rest) (plain.Act a) rest
+    -- base = test, which begins with no unmarked parenthesis
+    test : {ts rest : List Sign} {f : Formula} → opens_program ts ≡ false → ReadsTested ts f (Question ∷ rest) → ReadsProgram Base ts (plain.Test f) rest
+    -- base = "(" prog ")", whose parenthesis is unmarked
+    program_group : {ts rest : List Sign} {p : Program} → ReadsProgram Prog ts p (Close ∷ rest) → ReadsProgram Base (Open Unmarked ∷ ts) p rest
+
+  pub data ReadsTested : List Sign → Formula → List Sign → Type 0 where
+    -- { NOT }
+    tested_negation : {ts rest : List Sign} {f : Formula} → ReadsTested ts f rest → ReadsTested (Not ∷ ts) (plain.Not f) rest
+    -- TT, FF, PROP
+    tested_constant : {rest : List Sign} (b : Bool) → ReadsTested (Const b ∷ rest) (plain.Const b) rest
+    tested_proposition : {rest : List Sign} (p : List ℕ) → ReadsTested (Lower p ∷ rest) (plain.Prop p) rest
+    -- "(" iff ")"
+    tested_group : {ts rest : List Sign} {f : Formula} (k : Mark) → Reads Iff ts f (Close ∷ rest) → ReadsTested (Open k ∷ ts) f rest
+
+abbrev pub IsReadAs : List Sign → Formula → Type 0
+IsReadAs ts f = Reads Iff ts f []

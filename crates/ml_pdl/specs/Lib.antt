@@ -1,0 +1,12 @@
+-- formulas and programs
+pub mod Formula
+-- which words are propositions and actions
+pub mod Spelling
+-- the signs of texts
+pub mod Signs
+-- which parentheses are marked
+pub mod Marks
+-- the grammar of texts
+pub mod Grammar
+-- the grammar as tables
+pub mod Tables

@@ -1,0 +1,41 @@
+-- Which opening parentheses of a text are marked: those whose partner is directly followed by `?`.
+--
+-- Partners are found by counting parentheses, whatever else stands there: between a `(` and its partner as many are
+-- closed as are opened, and on the way never more. A `(` that has no partner is not marked.
+--
+--   open_behind n ts    == of n open parentheses and those of ts, how many are open behind ts; none where ts close one too many
+--   IsTestBehind ts     == behind a `(` stand signs whose parentheses are partners of one another, then `)` and `?`
+--   is_test_behind n ts == the same as a test, where n further parentheses are open
+--   marked ts           == the signs ts with the marks that they have as a text
+--   MarksAreOfTests     == the law that the test says so
+use Rattle.std.specs.Prelude.{◌≡◌, ℕ, zero, suc, Bool, true, false, List, [], ◌∷◌, ◌++◌, Option, Some, None, if◌then◌else◌, IsTrue, ◌↔◌}
+use Rattle.ml_pdl.specs.Signs.{Sign, Marked, Unmarked, Open, Close, Question}
+
+abbrev pub open_behind : ℕ → List Sign → Option ℕ
+open_behind n [] = Some n
+open_behind n (Open k ∷ ts) = open_behind (suc n) ts
+open_behind zero (Close ∷ ts) = None
+open_behind (suc n) (Close ∷ ts) = open_behind n ts
+open_behind n (_ ∷ ts) = open_behind n ts
+
+abbrev pub IsTestBehind : List Sign → Type 0
+IsTestBehind ts = (inside : List Sign) × (after : List Sign) × (ts ≡ inside ++ Close ∷ Question ∷ after) × (open_behind 0 inside ≡ Some 0)
+
+abbrev pub asks : List Sign → Bool
+asks (Question ∷ ts) = true
+asks _ = false
+
+abbrev pub is_test_behind : ℕ → List Sign → Bool
+is_test_behind n [] = false
+is_test_behind n (Open k ∷ ts) = is_test_behind (suc n) ts
+is_test_behind zero (Close ∷ ts) = asks ts
+is_test_behind (suc n) (Close ∷ ts) = is_test_behind n ts
+is_test_behind n (_ ∷ ts) = is_test_behind n ts
+
+abbrev pub marked : List Sign → List Sign
+marked [] = []
+marked (Open k ∷ ts) = Open (if is_test_behind 0 ts then Marked else Unmarked) ∷ marked ts
+marked (t ∷ ts) = t ∷ marked ts
+
+abbrev pub MarksAreOfTests : Type 0
+MarksAreOfTests = (ts : List Sign) → IsTrue (is_test_behind 0 ts) ↔ IsTestBehind ts

@@ -1,0 +1,77 @@
+-- The signs of PDL texts: the tokens as the grammar sees them.
+--
+-- A word is a constant, or a name with its bytes: one that begins with a lower-case letter may be a proposition, and
+-- each may be an action. `_` is an action. An opening parenthesis is marked or not, and the mark is a part of the sign:
+-- a token by itself gives an unmarked one, and which are marked is said of whole texts (`Marks.antt`).
+--
+--   Mark                == of `(`: marked as the one of a test, or not
+--   Sign                == a sign of the grammar, a name with its bytes
+--   word_sign word      == the sign that a word is
+--   byte_sign b         == the sign that a byte is that is a token by itself; most are in no text of the grammar
+--   sign_of t bytes     == the sign that a token with these bytes is
+--   action_of s         == the action that a sign is, if it is one
+use Rattle.std.specs.Prelude.{ℕ, ◌==◌, Bool, List, Option, Some, None, if◌then◌else◌, codes}
+use Rattle.ml_text.specs.declared.token.Operator.{Operator}
+use Rattle.ml_text.specs.declared.token.Token.{Token}
+use Rattle.ml_text.specs.declared.token.Token.TheVariants as token
+use Rattle.ml_text.specs.Bytes.{is_upper}
+use Rattle.ml_text.specs.Words.{constant_of}
+use Rattle.ml_pdl.specs.Formula.{Modality, Diamond, Square}
+use Rattle.ml_pdl.specs.Spelling.{is_proposition, is_word_from}
+
+pub data Mark : Type 0 where
+  Marked Unmarked : Mark
+
+pub data Sign : Type 0 where
+  Not : Sign
+  Connective : Operator → Sign
+  Const : Bool → Sign
+  -- `(` and `)`
+  Open : Mark → Sign
+  Close : Sign
+  -- `<` or `[`, and `>` or `]`
+  Begins Ends : Modality → Sign
+  -- `+`, `;`, `*`, `?` and `_`
+  Plus Semicolon Star Question Blank : Sign
+  -- a name that begins with a lower-case or an upper-case letter
+  Lower Upper : List ℕ → Sign
+  -- what no text of the grammar has
+  Unknown : Sign
+
+abbrev pub name_sign : List ℕ → Sign
+name_sign word =
+    if is_proposition word then Lower word else (if is_word_from is_upper word then Upper word else Unknown)
+
+abbrev pub word_sign_by : Option Bool → List ℕ → Sign
+word_sign_by (Some b) word = Const b
+word_sign_by None word = name_sign word
+
+abbrev pub word_sign : List ℕ → Sign
+word_sign word = word_sign_by (constant_of word) word
+
+-- ( ) < > [ ] + ; * ? _
+abbrev pub byte_sign : ℕ → Sign
+byte_sign b =
+    if b == 40 then Open Unmarked
+    else (if b == 41 then Close
+    else (if b == 60 then Begins Diamond
+    else (if b == 62 then Ends Diamond
+    else (if b == 91 then Begins Square
+    else (if b == 93 then Ends Square
+    else (if b == 43 then Plus
+    else (if b == 59 then Semicolon
+    else (if b == 42 then Star
+    else (if b == 63 then Question
+    else (if b == 95 then Blank else Unknown))))))))))
+
+abbrev pub sign_of : Token → List ℕ → Sign
+sign_of token.Not bytes = Not
+sign_of (token.Operator o) bytes = Connective o
+sign_of token.Word bytes = word_sign bytes
+sign_of (token.Byte b) bytes = byte_sign b
+
+abbrev pub action_of : Sign → Option (List ℕ)
+action_of Blank = Some (codes "_")
+action_of (Lower a) = Some a
+action_of (Upper a) = Some a
+action_of _ = None

@@ -1,0 +1,138 @@
+// Parity games.
+ghost use Rattle.std.specs.Prelude.{◌<◌, ◌≤◌, ◌^◌};
+
+use crate::not_made::NotMade;
+use crate::numbers::Numbers;
+use ml_parity::{Game, Player};
+use std::alloc::{AllocError, Global};
+
+/// A vertex of a game: its owner, its priority and its successors.
+#[derive(Debug, Drop)]
+struct Vertex {
+    owner: Player,
+    priority: u32,
+    successors: Vec<u64>,
+}
+
+/// The game of these vertices.
+fn game_of(alloc: Global, vertices: Vec<Vertex>) -> Result<Game, NotMade> {
+    let mut owner = Vec::new(alloc);
+    let mut priority = Vec::new(alloc);
+    let mut successors = Vec::new(alloc);
+    for vertex in vertices {
+        owner.push(vertex.owner)?;
+        priority.push(vertex.priority)?;
+        successors.push(vertex.successors)?;
+    }
+    Ok(Game::build(owner, priority, successors)?)
+}
+
+/// Even for an even number, Odd for an odd one.
+fn player(number: u64) -> Player {
+    if number % 2 == 0 {
+        Player::Even
+    } else {
+        Player::Odd
+    }
+}
+
+/// As many random vertices as successors, out of so many.
+fn random_successors(
+    alloc: Global,
+    numbers: &mut Numbers,
+    count: u64,
+    vertices: u64,
+) -> Result<Vec<u64>, AllocError>
+    requires { 0 < vertices }
+{
+    let mut successors = Vec::new(alloc);
+    for _ in 0..count {
+        successors.push(numbers.below(vertices))?;
+    }
+    Ok(successors)
+}
+
+/// A game whose owners, priorities and successors are random: so many vertices, with so many successors each, some of
+/// which may be the same, and with priorities below a bound.
+///
+/// # Errors
+/// `NoMemory`, and `Game` where vertices shall have no successor.
+///
+/// Linear in the game.
+pub fn random_game(
+    alloc: Global,
+    numbers: &mut Numbers,
+    vertices: u64,
+    successors: u64,
+    priorities: u32,
+) -> Result<Game, NotMade>
+    requires { 0 < priorities }
+{
+    let mut all = Vec::new(alloc);
+    for _ in 0..vertices {
+        all.push(Vertex {
+            owner: player(numbers.below(2)),
+            priority: numbers.below(priorities as u64) as u32,
+            successors: random_successors(alloc, numbers, successors, vertices)?,
+        })?;
+    }
+    game_of(alloc, all)
+}
+
+/// A game in which a solver that takes away the vertices of the least priority, one round after another, goes as deep
+/// as there are vertices: vertex v has the priority v and the successors v and v + 1, the last one itself alone, and
+/// each belongs to the player for whom its priority is bad.
+///
+/// So each vertex is won by the winner of the last one.
+///
+/// # Errors
+/// `NoMemory` alone.
+///
+/// Linear in the game.
+pub fn ladder(alloc: Global, vertices: u32) -> Result<Game, NotMade> {
+    let mut all = Vec::new(alloc);
+    for v in 0..vertices {
+        let mut successors = Vec::new(alloc);
+        successors.push(v as u64)?;
+        if v + 1 < vertices {
+            successors.push(v as u64 + 1)?;
+        }
+        all.push(Vertex {
+            owner: player(v as u64).opponent(),
+            priority: v,
+            successors,
+        })?;
+    }
+    game_of(alloc, all)
+}
+
+/// How many games `small_game` knows.
+pub const SMALL_GAMES: u64 = 324;
+
+/// The game with this number of all those that have two vertices, priorities from 0 to 2, and one or both vertices as
+/// successors of each.
+///
+/// Numbers of `SMALL_GAMES` and more give the same games again.
+///
+/// # Errors
+/// `NoMemory` alone.
+pub fn small_game(alloc: Global, number: u64) -> Result<Game, NotMade> {
+    let mut all = Vec::new(alloc);
+    let mut rest = number;
+    for _ in 0..2u64 {
+        let mut successors = Vec::new(alloc);
+        if rest % 3 != 1 {
+            successors.push(0)?;
+        }
+        if rest % 3 != 0 {
+            successors.push(1)?;
+        }
+        all.push(Vertex {
+            owner: player(rest / 3),
+            priority: (rest / 6 % 3) as u32,
+            successors,
+        })?;
+        rest /= 18;
+    }
+    game_of(alloc, all)
+}

@@ -1,0 +1,32 @@
+// Letters of the trace automaton.
+ghost use Rattle.std.specs.Prelude.{◌<◌};
+
+use crate::not_made::NotMade;
+use crate::numbers::Numbers;
+use ml_trace::{Letter, Transition};
+use std::alloc::Global;
+
+/// A letter of so many random transitions between states below a bound, of which one in four is accepting.
+///
+/// # Errors
+/// `NoMemory`, and `TooLarge` only where there are more than 2^30 states.
+///
+/// Linear in the letter.
+pub fn random_letter(
+    alloc: Global,
+    numbers: &mut Numbers,
+    states: u32,
+    transitions: u64,
+) -> Result<Letter, NotMade>
+    requires { 0 < states }
+{
+    let mut all = Vec::new(alloc);
+    for _ in 0..transitions {
+        all.push(Transition {
+            from: numbers.below(states as u64) as u32,
+            to: numbers.below(states as u64) as u32,
+            accepting: numbers.below(4) == 0,
+        })?;
+    }
+    Letter::new(all).ok_or(NotMade::TooLarge)
+}
