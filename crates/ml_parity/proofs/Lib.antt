@@ -1,3 +1,5 @@
+-- attractors in a part, and what is left of it
+pub mod Attractors
 -- from games to boards and back
 pub mod Boards
 -- certificates by ranks are right
@@ -10,6 +12,8 @@ pub mod Filled
 pub mod GameFields
 -- one number raised along one arc
 pub mod HeightRaises
+-- the two halves of a turn of the fast solver
+pub mod Halves
 -- rows of numbers as the program holds them, as heights
 pub mod HeightRows
 -- the search for a walk from one vertex to another, and for a cycle
@@ -20,6 +24,8 @@ pub mod HeightTables
 pub mod HeightWalks
 -- winning is kept along plays that follow the strategy
 pub mod Kept
+-- what waits is kept while a part is solved
+pub mod KeptBehind
 -- the induction of the determinacy law, its first case
 pub mod LeastKept
 -- and its second case

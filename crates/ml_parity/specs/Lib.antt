@@ -10,6 +10,8 @@ pub mod HeightSteps
 pub mod Heights
 -- the determinacy law
 pub mod Law
+-- parts of a board, attractors, and the halves of a turn of the fast solver
+pub mod Parts
 -- the two players
 pub mod Player
 -- which lists are no parity game
