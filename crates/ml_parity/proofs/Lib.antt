@@ -1,3 +1,5 @@
+-- attractors that are being made
+pub mod Attracting
 -- attractors in a part, and what is left of it
 pub mod Attractors
 -- from games to boards and back
@@ -34,6 +36,8 @@ pub mod LeastLost
 pub mod LiveLists
 -- finite memory is not needed
 pub mod Memory
+-- how often a number stands in a list
+pub mod Occurrences
 -- the one-step law
 pub mod OneStep
 -- the two players
@@ -42,6 +46,8 @@ pub mod Opponents
 pub mod PlainSteps
 -- lists that are a game, and lists that are none
 pub mod Refusals
+-- rows of vertices, and vertices that are moved to the end of a part
+pub mod Rows
 -- every game with finitely many live vertices has a solution
 pub mod Sinks
 -- what a solution tells

@@ -1,5 +1,7 @@
 -- certificates by ranks
 pub mod Certificate
+-- the steps of the fast solver, on its lists
+pub mod FastSteps
 -- parity games, as lists
 pub mod Game
 -- what the values of the program for heights stand for

@@ -20,6 +20,7 @@
 // checking games of structures and graphs, and the decision game.
 #![tactic(auto)]
 
+mod fast_row;
 pub mod games;
 pub mod heights_answer;
 pub mod heights_check;
