@@ -195,7 +195,7 @@ module _ (g : ParityGame) (place : ℕ → ℕ) (n mid rest a : ℕ) (q : Player
       lefts = λ v low.
       lefts v low ∙ ap (λ (test : ℕ → Bool). count_by test (moves_of g v) + times v todo) (sym (same_part place place2 a (λ x. part_in a x before.reached) (λ x. part_out a x before.reached)));
       own = λ v late low mine. own v late low mine (cases_eq v u);
-      other = λ v x late low other m inside. other v x late low other m inside (cases_eq v u);
+      other = λ v x late low theirs m inside. other v x late low theirs m inside (cases_eq v u);
       seen_own = λ v x low mine m inside.
       let l = left_now v low in
       ⊎_elim
@@ -236,7 +236,7 @@ module _ (g : ParityGame) (place : ℕ → ℕ) (n mid rest a : ℕ) (q : Player
         other v x late low theirs m inside (inl same) = by_why why
           where
             by_why : (owner_of g u ≡ q) ⊎ (left2 u ≡ 0) → place2 v < place2 x
-            by_why (inl own) = absurd (not_both (owner_of g u) q own (ap (owner_of g) (sym same) ∙ theirs))
+            by_why (inl mine) = absurd (not_both (owner_of g u) q mine (ap (owner_of g) (sym same) ∙ theirs))
             by_why (inr none) =
                 let far : a ≤ place x = all_seen none x (subst (λ y. HasMove g y x) same m) in
                 omega (arith, ap place2 same, removed.here, removed.behind x (omega (arith, before.reached)), before.reached)

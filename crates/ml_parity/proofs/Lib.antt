@@ -1,7 +1,11 @@
+-- the loops that make and undo attractors
+pub mod AttractLoops
 -- attractors that are being made
 pub mod Attracting
 -- attractors in a part, and what is left of it
 pub mod Attractors
+-- the moves of a game from behind
+pub mod Backwards
 -- from games to boards and back
 pub mod Boards
 -- certificates by ranks are right
@@ -46,6 +50,8 @@ pub mod Opponents
 pub mod PlainSteps
 -- lists that are a game, and lists that are none
 pub mod Refusals
+-- loops over the places of a row
+pub mod RowLoops
 -- rows of vertices, and vertices that are moved to the end of a part
 pub mod Rows
 -- every game with finitely many live vertices has a solution

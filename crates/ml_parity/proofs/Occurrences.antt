@@ -4,7 +4,7 @@
 --   entry_counts, counts_entry == some entry passes a test exactly if the count is positive
 --   before_next            == in front of the next place lead those in front of this one, and those that lead to it
 --   before_same            == two rows with one part
-use Rattle.std.proofs.Common.{ℕ, zero, suc, ◌≡◌, ◌+◌, ◌<◌, ◌≤◌, ◌⊎◌, inl, inr, ⊎_elim, Bool, true, false, cond, arith, List, [], ◌∷◌, length, get_or, nat_eq, nat_lt, refl, ap, sym, ◌∙◌, subst, eqb, eq-eqb, ne_eqb, lt-ltb, le-ltb}
+use Rattle.std.proofs.Common.{ℕ, zero, suc, ◌≡◌, ◌+◌, ◌<◌, ◌≤◌, ◌⊎◌, inl, inr, ⊎_elim, Bool, true, false, cond, arith, List, [], ◌∷◌, length, get_or, nat_eq, nat_lt, refl, ap, sym, ◌∙◌, subst, eqb, zero-add, eq-eqb, ne_eqb, lt-ltb, le-ltb}
 use Rattle.std.proofs.lemmas.Bool.{cases_eq, cases_lt, cases_Bool, cond-true, cond-false}
 use Rattle.std.proofs.lemmas.List.{get_or_default}
 use Rattle.std.proofs.lemmas.List.Sums.{sum_by-cons}
@@ -21,9 +21,7 @@ counts-true p x xs passes = sum_by-cons (λ y. cond (p y) 1 0) x xs ∙ ap (λ n
 -- one entry more, which fails
 pub counts-false : (p : ℕ → Bool) (x : ℕ) (xs : List ℕ) → p x ≡ false → count_by p (x ∷ xs) ≡ count_by p xs
 counts-false p x xs fails =
-    let e = cond-false (p x) 1 0 fails in
-    let all = sum_by-cons (λ y. cond (p y) 1 0) x xs in
-    omega arith
+    sum_by-cons (λ y. cond (p y) 1 0) x xs ∙ ap (λ n. n + count_by p xs) (cond-false (p x) 1 0 fails) ∙ zero-add (count_by p xs)
 
 -- the number itself
 pub times_here : (v x : ℕ) (xs : List ℕ) → x ≡ v → times v (x ∷ xs) ≡ 1 + times v xs

@@ -7,7 +7,7 @@
 --   gathered             == all vertices are looked at
 use Rattle.std.proofs.Common.{ℕ, suc, ◌≡◌, ◌+◌, ◌-◌, ◌<◌, ◌≤◌, ◌⊎◌, inl, inr, ⊎_elim, arith, List, length, get_or, set, subst, sym, ap, ◌∙◌, refl, get_or-set_same, get_or-set_other, length-set}
 use Rattle.std.proofs.lemmas.Bool.{cases_eq, cases_lt}
-use Rattle.std.proofs.lemmas.List.{get_or_past}
+use Rattle.std.proofs.lemmas.List.{get_or_default, get_or_past}
 use Rattle.ml_parity.specs.Parts.{Gathers}
 use Rattle.ml_parity.specs.FastSteps.{place_of, IsRow, IsRemoved, IsGathering}
 
@@ -248,3 +248,28 @@ gathered place place2 n rest P g = record {
   passes = g.passes;
   fails = λ v low. g.fails v (omega arith) low;
 }
+
+-- the same, over the lists of the program: the vertex in front of `at` is looked at
+module _ (order place : List ℕ) (row : IsRow order place) (place0 : ℕ → ℕ) (n rest at u : ℕ) (P : ℕ → Type 0)
+    (before : IsGathering place0 (place_of place) n rest at P) (some : 0 < at) (fits : n ≤ length place) (is : u ≡ get_or order (at - 1) u) where
+  at_low : at - 1 < length place
+  at_low = omega (arith, before.reached, before.fits)
+
+  is_there : u ≡ get_or order (at - 1) 0
+  is_there = is ∙ get_or_default order (at - 1) u 0 (omega (arith, at_low, row.size))
+
+  here : place_of place u ≡ at - 1
+  here = ap (place_of place) is_there ∙ row.back (at - 1) at_low
+
+  one : (v : ℕ) → place_of place v ≡ place_of place u → v ≡ u
+  one v same = unique order place row v u (is_vertex place u (length place) (omega arith) (omega (arith, here, at_low))) same
+
+  before_as : IsGathering place0 (place_of place) n rest (at - 1 + 1) P
+  before_as = let e : at ≡ at - 1 + 1 = omega arith in subst (λ a. IsGathering place0 (place_of place) n rest a P) e before
+
+  pub gather_less : (P u → ⊥) → IsGathering place0 (place_of place) n rest (at - 1) P
+  gather_less fails = gathered_less place0 (place_of place) n rest (at - 1) u P before_as here one fails
+
+  pub gather_more : (place3 : ℕ → ℕ) (rest2 : ℕ) → P u → IsRemoved (place_of place) place3 rest u → rest2 + 1 ≡ rest
+      → IsGathering place0 place3 n rest2 (at - 1) P
+  gather_more place3 rest2 holds removed less = gathered_more place0 (place_of place) n rest (at - 1) u P before_as here one place3 rest2 holds removed less

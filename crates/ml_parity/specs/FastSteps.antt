@@ -11,11 +11,13 @@
 --   moves_before g place n v == how many moves of v lead in front of place n
 --   IsLeft g place n left  == left tells for each vertex how many of its moves lead in front of place n
 --   IsRemoved place place2 n u == u went to the last place of the part n, and what stood there to the place of u
+--   number_at xs v         == the number that stands in a list at v
 --   IsGathering            == so far, the vertices of the part n with P are behind rest, and no other from `at` on has P
 --   IsAttracting           == an attractor that is being made: all that stands from place a on was followed backwards, but
 --                             for the predecessors that are still to be seen
 --   IsLowest g place n p   == p is the lowest priority in the part n
---   ChoosesInside          == the choices of q's vertices behind mid are moves into the part n, and the others are kept
+--   ChoosesInside          == the choices of q's vertices from mid up to a are moves into the part n, and the others are kept
+--   IsAdded                == a vertex is added to the lists of those to which its moves lead, once for each move
 --   Gives                  == the vertices of the part n behind rest belong to q now, and no other vertex changes hands
 use Rattle.std.specs.Prelude.{ℕ, ◌≡◌, ◌+◌, ◌<◌, ◌≤◌, ◌⊎◌, Bool, List, [], length, get_or, nat_eq, nat_lt, suc}
 use Rattle.std.specs.List.{count_by}
@@ -63,6 +65,10 @@ pub record IsRemoved (place place2 : ℕ → ℕ) (n u : ℕ) : Type 0 where
   pub early : (v : ℕ) → place v < place u → place2 v ≡ place v
   pub late : (v : ℕ) → place u ≤ place v → place u ≤ place2 v
 
+-- the number that stands in a list at v
+abbrev pub number_at : List ℕ → ℕ → ℕ
+number_at xs v = get_or xs v 0
+
 -- so far, the vertices of the part n that have P are behind rest, and no other from `at` on has P
 pub record IsGathering (place place2 : ℕ → ℕ) (n rest at : ℕ) (P : ℕ → Type 0) : Type 0 where
   pub fits : rest ≤ n
@@ -92,10 +98,10 @@ pub record IsLowest (g : ParityGame) (place : ℕ → ℕ) (n p : ℕ) : Type 0 
   pub is : priority_of g vertex ≡ p
   pub least : (v : ℕ) → place v < n → p ≤ priority_of g v
 
--- the choices of q's vertices of the part n behind mid are moves into the part, and the others are kept
-pub record ChoosesInside (g : ParityGame) (place : ℕ → ℕ) (n mid : ℕ) (q : Player) (s s2 : ℕ → ℕ) : Type 0 where
-  pub chosen : (v : ℕ) → mid ≤ place v → place v < n → owner_of g v ≡ q → HasMove g v (s2 v) × (place (s2 v) < n)
-  pub behind : (v : ℕ) → n ≤ place v → s2 v ≡ s v
+-- the choices of q's vertices from mid up to a are moves into the part n, and the others are kept
+pub record ChoosesInside (g : ParityGame) (place : ℕ → ℕ) (n mid a : ℕ) (q : Player) (s s2 : ℕ → ℕ) : Type 0 where
+  pub chosen : (v : ℕ) → mid ≤ place v → place v < a → owner_of g v ≡ q → HasMove g v (s2 v) × (place (s2 v) < n)
+  pub behind : (v : ℕ) → a ≤ place v → s2 v ≡ s v
   pub early : (v : ℕ) → place v < mid → s2 v ≡ s v
 
 -- the vertices of the part n behind rest belong to q now, and no other vertex changes hands
@@ -103,3 +109,9 @@ pub record Gives (place : ℕ → ℕ) (n rest : ℕ) (q : Player) (win win2 : �
   pub given : (v : ℕ) → rest ≤ place v → place v < n → win2 v ≡ q
   pub behind : (v : ℕ) → n ≤ place v → win2 v ≡ win v
   pub early : (v : ℕ) → place v < rest → win2 v ≡ win v
+
+-- u is added to the lists of those to which the moves lead, once for each move
+pub record IsAdded (preds preds2 : List (List ℕ)) (u : ℕ) (moves : List ℕ) : Type 0 where
+  pub lists : length preds2 ≡ length preds
+  pub here : (v : ℕ) → v < length preds → times u (get_or preds2 v []) ≡ times u (get_or preds v []) + times v moves
+  pub elsewhere : (v x : ℕ) → v < length preds → (x ≡ u → ⊥) → times x (get_or preds2 v []) ≡ times x (get_or preds v [])

@@ -20,6 +20,8 @@
 // checking games of structures and graphs, and the decision game.
 #![tactic(auto)]
 
+mod fast_attract;
+mod fast_moves;
 mod fast_row;
 pub mod games;
 pub mod heights_answer;
