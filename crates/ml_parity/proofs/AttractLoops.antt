@@ -6,6 +6,8 @@
 --   taken_up        == the counts when a vertex is taken up
 --   one_counted     == the counts when a predecessor is seen
 --   room_left, one_up == there is room to count one up, and one is counted up
+--   some_left       == a vertex whose predecessor is still to be seen has a move left
+--   counted_turn, kept_turn == one turn of the loop over the predecessors
 --   all_room, all_up == the same for all predecessors of the vertex at a place
 use Rattle.std.proofs.Common.{ℕ, suc, ◌≡◌, ◌+◌, ◌-◌, ◌<◌, ◌≤◌, ◌⊎◌, inl, inr, ⊎_elim, Bool, true, arith, List, [], ◌∷◌, length, get_or, set, take, drop, cond, nat_eq, subst, sym, ap, ◌∙◌, refl, eq-eqb, ne_eqb, add-one, get_or-set_same, get_or-set_other}
 use Rattle.std.proofs.Math.Seq.{drop-cons}
@@ -18,9 +20,12 @@ use borrow.Author.Tests.{eqb-true}
 use Rattle.ml_lists.specs.Search.{Found}
 use Rattle.ml_parity.specs.Game.{ParityGame, IsGame, HasMove, size, moves_of}
 use Rattle.ml_parity.specs.Refusal.{lists_of}
-use Rattle.ml_parity.specs.Parts.{part}
-use Rattle.ml_parity.specs.FastSteps.{place_of, number_at, times, moves_before, ArePredecessors, IsLeft, IsRow}
+use Rattle.ml_parity.specs.declared.players.Player.{Player}
+use Rattle.ml_parity.specs.Parts.{part, KeepsBehind}
+use Rattle.ml_parity.specs.FastSteps.{place_of, number_at, times, moves_before, ArePredecessors, IsAttracting, IsLeft, IsRow}
 use Rattle.ml_parity.proofs.Boards.{move_to}
+use Rattle.ml_parity.proofs.Attracting.{followed}
+use Rattle.ml_parity.proofs.KeptBehind.{in_to, keeps_more, keeps_on}
 use Rattle.ml_parity.proofs.Refusals.{lists_of-at}
 use Rattle.ml_parity.proofs.Rows.{at_place}
 use Rattle.ml_parity.proofs.Occurrences.{times_here, times_other, entry_counts, counts_entry, before_next, same_part}
@@ -165,6 +170,20 @@ module _ (g : ParityGame) (order place : List ℕ) (row : IsRow order place) (lo
   pub preds_low : length g.successors ≡ size g → (k : ℕ) → k < length preds → get_or preds k 0 < size g
   preds_low successors k inside = move_low g successors (get_or preds k 0) w (preds_move g w preds preds_at k inside)
 
+  -- the counts when it is taken up
+  pub taken_left : (n : ℕ) → n ≡ at + 1 → IsLeft g (place_of place) n (number_at left) → (v : ℕ) → v < size g
+      → number_at left v ≡ moves_before g (place_of place) (place_of place w) v + times v preds
+  taken_left n next is_left v inside =
+      let at_next : IsLeft g (place_of place) (at + 1) (number_at left) = subst (λ a. IsLeft g (place_of place) a (number_at left)) next is_left in
+      subst (λ a. number_at left v ≡ moves_before g (place_of place) a v + times v preds) (sym stands_at) (taken_up g (place_of place) at w (number_at left) preds at_next stands_at alone_at preds_at v inside)
+
+  -- and the attractor that is being made
+  pub taken_attracting : (n : ℕ) → n ≡ at + 1 → (whole mid rest : ℕ) (q : Player) (s : ℕ → ℕ) → rest ≤ at
+      → IsAttracting g (place_of place) whole mid rest n q s (number_at left) []
+      → IsAttracting g (place_of place) whole mid rest at q s (number_at left) preds
+  taken_attracting n next whole mid rest q s fits before =
+      followed g (place_of place) whole mid rest at q s (number_at left) w preds (subst (λ a. IsAttracting g (place_of place) whole mid rest a q s (number_at left) []) next before) fits stands_at alone_at preds_at
+
   -- there is room to count them all up
   module _ (is_left : IsLeft g (place_of place) at (number_at left)) where
     next : (v : ℕ) → v < size g → number_at left v + times v preds ≡ moves_before g (place_of place) (at + 1) v
@@ -184,3 +203,33 @@ module _ (g : ParityGame) (order place : List ℕ) (row : IsRow order place) (lo
     pub all_up : (left2 : List ℕ) → ((v : ℕ) → v < size g → number_at left2 v ≡ number_at left v + times v preds)
         → IsLeft g (place_of place) (at + 1) (number_at left2)
     all_up left2 up v inside = up v inside ∙ next v inside
+
+-- a vertex whose predecessor is still to be seen has a move left
+pub some_left : (g : ParityGame) (place : ℕ → ℕ) (a : ℕ) (left preds : List ℕ) (k : ℕ) → k < length preds → get_or preds k 0 < size g
+    → ((v : ℕ) → v < size g → number_at left v ≡ moves_before g place a v + times v (drop k preds)) → 0 < number_at left (get_or preds k 0)
+some_left g place a left preds k low vertex lefts =
+    let u : ℕ = get_or preds k 0 in
+    let e = lefts u vertex in
+    let t : times u (drop k preds) ≡ times u (u ∷ drop (k + 1) preds) = ap (times u) (next_entry preds k low) in
+    let one = times_here u u (drop (k + 1) preds) refl in
+    omega arith
+
+-- the first of the places behind a part stay behind it, and the others in it
+pub still_behind : (r a : ℕ) (place place2 : ℕ → ℕ) (win : ℕ → Player) (s s2 : ℕ → ℕ) → KeepsBehind r place win s place2 win s2 → r ≤ a
+    → (v : ℕ) → a ≤ place v → a ≤ place2 v
+still_behind r a place place2 win s s2 kept fits v far = let same = kept.behind v (omega arith) in omega arith
+
+-- the counts, when the first of the predecessors that are still to be seen is counted
+pub counted_turn : (g : ParityGame) (place place2 : ℕ → ℕ) (r a : ℕ) (win : ℕ → Player) (s s2 : ℕ → ℕ) (left left2 preds : List ℕ) (k : ℕ)
+    → KeepsBehind r place win s place2 win s2 → r ≤ a → k < length preds → get_or preds k 0 < size g
+    → left2 ≡ set left (get_or preds k 0) (number_at left (get_or preds k 0) - 1)
+    → ((v : ℕ) → v < size g → number_at left v ≡ moves_before g place a v + times v (drop k preds))
+    → (v : ℕ) → v < size g → number_at left2 v ≡ moves_before g place2 a v + times v (drop (k + 1) preds)
+counted_turn g place place2 r a win s s2 left left2 preds k kept fits low vertex counted lefts v inside =
+    ap (λ (xs : List ℕ). number_at xs v) counted
+    ∙ one_counted g place place2 a (get_or preds k 0) left (drop (k + 1) preds) (some_left g place a left preds k low vertex lefts) (in_to r place win s place2 win s2 kept a fits) (still_behind r a place place2 win s s2 kept fits) (λ u here. lefts u here ∙ ap (λ (xs : List ℕ). moves_before g place a u + times u xs) (next_entry preds k low)) v inside
+
+-- what is kept, one step further
+pub kept_turn : (r r2 : ℕ) (place place2 place3 : ℕ → ℕ) (win : ℕ → Player) (s s2 s3 : ℕ → ℕ) → r2 ≤ r
+    → KeepsBehind r place win s place2 win s2 → KeepsBehind r2 place2 win s2 place3 win s3 → KeepsBehind r place win s place3 win s3
+kept_turn r r2 place place2 place3 win s s2 s3 fits k l = keeps_on r place place2 place3 win win win s s2 s3 k (keeps_more r2 place2 win s2 place3 win s3 l r fits)

@@ -6,7 +6,7 @@
 
 ghost use Rattle.std.specs.Prelude.{◌≡◌, ◌+◌, ◌-◌, ◌<◌, ◌≤◌, ◌∷◌, [], ℕ, List, length, get_or, slice_set};
 ghost use Rattle.ml_parity.specs.declared.players.Player.{Player};
-ghost use Rattle.ml_parity.specs.Game.{HasMove, moves_of, size};
+ghost use Rattle.ml_parity.specs.Game.{HasMove, IsGame, moves_of, size};
 ghost use Rattle.ml_parity.specs.Parts.{IsAttracted, IsPart, KeepsBehind};
 ghost use Rattle.ml_parity.specs.Solution.{choice_at, winner_at};
 ghost use Rattle.ml_parity.specs.SinkGame.{board_of};
@@ -98,6 +98,7 @@ fn attract_to(
     left: &mut [usize],
     choice: &mut [u64],
 ) -> usize
+    requires game { IsGame game.now }
     requires row { IsRow row.old.order.items row.old.place.items }
     requires size { length row.old.place.items ≡ size game.now }
     requires counts { length left.old ≡ size game.now }
@@ -167,6 +168,7 @@ pub(crate) fn attract(
     left: &mut [usize],
     choice: &mut [u64],
 ) -> usize
+    requires game { IsGame game.now }
     requires row { IsRow row.old.order.items row.old.place.items }
     requires size { length row.old.place.items ≡ size game.now }
     requires counts { length left.old ≡ size game.now }
@@ -224,6 +226,7 @@ pub(crate) fn restore(
     rest: usize,
     whole: usize,
 )
+    requires game { IsGame game.now }
     requires row { IsRow row.now.order.items row.now.place.items }
     requires size { length row.now.place.items ≡ size game.now }
     requires counts { length left.old ≡ size game.now }
