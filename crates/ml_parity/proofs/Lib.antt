@@ -14,6 +14,8 @@ pub mod Certificates
 pub mod Comparison
 -- from an answer on the board of a game to a solution
 pub mod Filled
+-- the frames of the fast solver
+pub mod Frames
 -- what the program reads in the fields of a game
 pub mod GameFields
 -- one number raised along one arc
@@ -58,5 +60,7 @@ pub mod Rows
 pub mod Sinks
 -- what a solution tells
 pub mod SolutionFacts
+-- the turns of the fast solver
+pub mod Turns
 -- who wins each vertex: the determinacy law
 pub mod Winners

@@ -1,5 +1,7 @@
 -- certificates by ranks
 pub mod Certificate
+-- the frames of the fast solver
+pub mod FastFrames
 -- the steps of the fast solver, on its lists
 pub mod FastSteps
 -- parity games, as lists
