@@ -4,7 +4,8 @@
 --   waits_low     == the parts that wait are parts of the game
 --   pushed, popped == one frame more or less on top, on the list of the program
 --   work_pushed   == the work with one frame more
---   opens_less, splits_less == the work falls where a part is opened, and where its second half begins
+--   first_ends, second_ends, first_opens, second_opens == what a turn makes of the frames
+--   opens_less, splits_less, first_falls, second_falls == the work falls where a part is opened, and where its second half begins
 use Rattle.std.proofs.Common.{ℕ, suc, zero, ◌≡◌, ◌+◌, ◌*◌, ◌^◌, ◌<◌, ◌≤◌, ◌⊎◌, arith, List, [], ◌∷◌, ◌++◌, reverse, length, subst, sym, ap, ◌∙◌, add-one, refl}
 use Rattle.std.specs.List.{sum_by}
 use Rattle.std.proofs.lemmas.List.{reverse-append}
@@ -14,11 +15,12 @@ use Rattle.ml_parity.specs.declared.players.Player.{Player}
 use Rattle.ml_parity.specs.declared.fast_turns.Half.{Half}
 use Rattle.ml_parity.specs.declared.fast_turns.Half.TheVariants.{First, Second}
 use Rattle.ml_parity.specs.declared.fast_turns.Frame.{Frame}
-use Rattle.ml_parity.specs.declared.fast_turns.At.TheVariants.{Open, Solved}
 use Rattle.ml_parity.specs.Game.{ParityGame, size}
 use Rattle.ml_parity.specs.SinkGame.{board_of}
-use Rattle.ml_parity.specs.Parts.{KeepsBehind, IsFirstHalf, IsSecondHalf}
-use Rattle.ml_parity.specs.FastFrames.{HalfWaits, FrameWaits, Waits, weight, work}
+use Rattle.ml_parity.specs.Parts.{KeepsBehind, IsPart, SolvesPart, IsFirstHalf, IsSecondHalf}
+use Rattle.ml_parity.specs.FastFrames.{HalfWaits, FrameWaits, Waits, EndsFirstHalf, BeginsFirstHalf, BeginsSecondHalf, weight, half_weight}
+use Rattle.ml_parity.proofs.Attractors.{rest_is_part}
+use Rattle.ml_parity.proofs.Halves.{second_solved}
 use Rattle.ml_parity.proofs.KeptBehind.{keeps_more, kept_first, kept_second}
 
 -- a half waits for a smaller part
@@ -96,3 +98,61 @@ opens_less rest n w low =
 -- and where its second half begins
 pub splits_less : (rest n w : ℕ) → rest < n → w + 1 + 3 ^ (rest + 1) < w + (3 ^ n + 2) + 0
 splits_less rest n w low = let a = less rest n low in omega arith
+
+-- where a frame waits in its first half, and what is left is solved, the first half is at its end
+pub first_ends : (g : ParityGame) (f : Frame) (rest : ℕ) (place : ℕ → ℕ) (win : ℕ → Player) (s : ℕ → ℕ) → f.half ≡ First
+    → FrameWaits g f rest place win s → SolvesPart (board_of g) place rest win s → EndsFirstHalf g place f.count f.player win s
+first_ends g f rest place win s is w solves = record {
+  mid = w.mid;
+  rest = rest;
+  half = subst (λ h. HalfWaits h g place f.count w.mid rest f.player win s) is w.waits;
+  solves = solves;
+}
+
+-- where it waits in its second half, its part is solved
+pub second_ends : (g : ParityGame) (f : Frame) (rest : ℕ) (place : ℕ → ℕ) (win : ℕ → Player) (s : ℕ → ℕ) → f.half ≡ Second
+    → FrameWaits g f rest place win s → SolvesPart (board_of g) place rest win s → SolvesPart (board_of g) place f.count win s
+second_ends g f rest place win s is w solves =
+    second_solved (board_of g) place f.count w.mid rest f.player win s (subst (λ h. HalfWaits h g place f.count w.mid rest f.player win s) is w.waits) solves
+
+-- a part of which the first half begins is left open, with its frame on top
+pub first_opens : (g : ParityGame) (frames frames2 : List Frame) (n rest : ℕ) (q : Player) (place place2 : ℕ → ℕ) (left2 : ℕ → ℕ)
+    (win win2 : ℕ → Player) (s s2 : ℕ → ℕ) → frames2 ≡ frames ++ record { half = First; player = q; count = n } ∷ []
+    → Waits g (reverse frames) n place win s → KeepsBehind n place win s place2 win2 s2
+    → BeginsFirstHalf g place2 n rest q left2 win2 s2
+    → Waits g (reverse frames2) rest place2 win2 s2 × IsPart (board_of g) place2 rest win2
+first_opens g frames frames2 n rest q place place2 left2 win win2 s s2 is waits kept b = (
+  pushed g frames frames2 (record { half = First; player = q; count = n }) rest place2 win2 s2 is (record { mid = b.mid; waits = b.half }) (waits_kept g place place2 win win2 s s2 (reverse frames) n kept waits),
+  rest_is_part (board_of g) place2 n b.mid rest q win2 s2 b.half.is_part b.half.attracted b.half.given,
+)
+
+-- and so is one of which the second half begins
+pub second_opens : (g : ParityGame) (frames frames2 : List Frame) (n rest : ℕ) (q p : Player) (place place2 : ℕ → ℕ) (left2 : ℕ → ℕ)
+    (win win2 : ℕ → Player) (s s2 : ℕ → ℕ) → frames2 ≡ frames ++ record { half = Second; player = q; count = n } ∷ [] → q ≡ p
+    → Waits g (reverse frames) n place win s → KeepsBehind n place win s place2 win2 s2
+    → BeginsSecondHalf g place2 n rest p left2 win2 s2
+    → Waits g (reverse frames2) rest place2 win2 s2 × IsPart (board_of g) place2 rest win2
+second_opens g frames frames2 n rest q p place place2 left2 win win2 s s2 is same waits kept b = (
+  pushed g frames frames2 (record { half = Second; player = q; count = n }) rest place2 win2 s2 is (record { mid = b.mid; waits = subst (λ x. IsSecondHalf (board_of g) place2 n b.mid rest x win2 s2) (sym same) b.half }) (waits_kept g place place2 win win2 s s2 (reverse frames) n kept waits),
+  rest_is_part (board_of g) place2 n b.mid rest p win2 s2 b.half.is_part b.half.attracted b.half.given,
+)
+
+-- the work falls where the second half begins
+pub second_falls : (frames frames1 frames2 : List Frame) (f : Frame) (q : Player) (rest : ℕ) → f.half ≡ First → rest < f.count
+    → frames ≡ frames1 ++ f ∷ [] → frames2 ≡ frames1 ++ record { half = Second; player = q; count = f.count } ∷ []
+    → sum_by weight frames2 + 3 ^ (rest + 1) < sum_by weight frames + 0
+second_falls frames frames1 frames2 f q rest first low is is2 =
+    let old = work_pushed frames1 frames f is in
+    let new = work_pushed frames1 frames2 (record { half = Second; player = q; count = f.count }) is2 in
+    let w : weight f ≡ 3 ^ f.count + 2 = ap (λ h. half_weight h f.count) first in
+    let less = splits_less rest f.count (sum_by weight frames1) low in
+    omega arith
+
+-- and where the first half begins
+pub first_falls : (frames frames2 : List Frame) (q : Player) (rest n : ℕ) → rest < n
+    → frames2 ≡ frames ++ record { half = First; player = q; count = n } ∷ []
+    → sum_by weight frames2 + 3 ^ (rest + 1) < sum_by weight frames + 3 ^ (n + 1)
+first_falls frames frames2 q rest n low is =
+    let new = work_pushed frames frames2 (record { half = First; player = q; count = n }) is in
+    let less = opens_less rest n (sum_by weight frames) low in
+    omega arith
