@@ -27,7 +27,7 @@ pub record FilledBelow (g : ParityGame) (win : List Player) (old choice : List �
   pub later : (v : ℕ) → n ≤ v → choice_at choice v ≡ choice_at old v
 
 -- flags that are all set are those of all vertices
-all_set : (g : ParityGame) (live : List Bool) → live ≡ replicate (size g) true → flag_at live ≡ all_live g
+pub all_set : (g : ParityGame) (live : List Bool) → live ≡ replicate (size g) true → flag_at live ≡ all_live g
 all_set g live is = ap flag_at is ∙ fun_ext (λ v. by_place v (cases_lt v (size g)))
   where
     by_place : (v : ℕ) → (v < size g) ⊎ (size g ≤ v) → flag_at (replicate (size g) true) v ≡ all_live g v

@@ -62,5 +62,7 @@ pub mod Sinks
 pub mod SolutionFacts
 -- the turns of the fast solver
 pub mod Turns
+-- the whole game as a part of itself
+pub mod Whole
 -- who wins each vertex: the determinacy law
 pub mod Winners

@@ -7,9 +7,10 @@
 --   BeginsFirstHalf, EndsFirstHalf, BeginsSecondHalf, EndsSecondHalf == what the steps of a turn make of a part
 --   Waits g fs n ..        == the frames fs, from the top, wait for the part n, and the lowest one is of the whole game
 --   IsOpen, IsSolved       == the part n is to be solved, or is solved, and the frames wait for it
+--   SolvesWhole            == winners and choices solve the whole game
 --   HoldsAt                == by where the solver is
 --   weight f, work         == what is left to do, as a number that falls at each turn
-use Rattle.std.specs.Prelude.{ℕ, ◌≡◌, ◌<◌, ◌+◌, ◌^◌, List, [], ◌∷◌, length, reverse}
+use Rattle.std.specs.Prelude.{ℕ, ◌≡◌, ◌<◌, ◌+◌, ◌^◌, List, [], ◌∷◌, length, nat_lt, reverse}
 use Rattle.std.specs.List.{sum_by}
 use Rattle.ml_parity.specs.declared.players.Player.{Player}
 use Rattle.ml_parity.specs.declared.fast_turns.Half.{Half}
@@ -19,6 +20,7 @@ use Rattle.ml_parity.specs.declared.fast_turns.At.{At}
 use Rattle.ml_parity.specs.declared.fast_turns.At.TheVariants.{Open, Solved}
 use Rattle.ml_parity.specs.Game.{ParityGame, size}
 use Rattle.ml_parity.specs.Solution.{winner_at, choice_at}
+use Rattle.ml_parity.specs.Sinks.{Solves}
 use Rattle.ml_parity.specs.SinkGame.{board_of}
 use Rattle.ml_parity.specs.Parts.{IsPart, SolvesPart, IsFirstHalf, IsSecondHalf}
 use Rattle.ml_parity.specs.FastSteps.{place_of, number_at, IsRow, IsLeft}
@@ -81,6 +83,10 @@ pub record IsSolved (g : ParityGame) (frames : List Frame) (order place left : L
   pub at_part : IsAtPart g order place left n
   pub waits : Waits g (reverse frames) n (place_of place) (winner_at winner) (choice_at choice)
   pub solves : SolvesPart (board_of g) (place_of place) n (winner_at winner) (choice_at choice)
+
+-- the lists of winners and choices solve the whole game, on its board
+abbrev pub SolvesWhole : ParityGame → List Player → List ℕ → Type 0
+SolvesWhole g winner choice = Solves (board_of g) (λ v. nat_lt v (size g)) (winner_at winner) (winner_at winner) (choice_at choice)
 
 -- by where the solver is
 abbrev pub HoldsAt : At → ParityGame → List Frame → List ℕ → List ℕ → List ℕ → List Player → List ℕ → Type 0

@@ -1,21 +1,22 @@
 // The turns of the fast solver: Zielonka's recursion, with its frames on a list.
 
-ghost use Rattle.std.specs.Prelude.{◌≡◌, ◌+◌, ◌<◌, ◌≤◌, ℕ, IfOk, IfSome, MatchOption, length};
+ghost use Rattle.std.specs.Prelude.{◌≡◌, ◌<◌, ◌≤◌, IfOk, IfSome, MatchOption, OnOk, length};
 ghost use Rattle.ml_parity.specs.declared.fast_turns.At.TheVariants.{Open, Solved};
 ghost use Rattle.ml_parity.specs.Game.{IsGame, size};
-ghost use Rattle.ml_parity.specs.Parts.{IsPart, KeepsBehind, SolvesPart};
+ghost use Rattle.ml_parity.specs.Parts.{IsPart, KeepsBehind};
 ghost use Rattle.ml_parity.specs.Player.{opponent};
 ghost use Rattle.ml_parity.specs.Solution.{choice_at, winner_at};
 ghost use Rattle.ml_parity.specs.SinkGame.{board_of};
 ghost use Rattle.ml_parity.specs.Refusal.{lists_of};
 ghost use Rattle.ml_parity.specs.FastSteps.{place_of, number_at, ArePredecessors, IsLeft, IsRow};
-ghost use Rattle.ml_parity.specs.FastFrames.{BeginsFirstHalf, BeginsSecondHalf, EndsFirstHalf, EndsSecondHalf, HoldsAt, IsOpen, IsSolved, work};
+ghost use Rattle.ml_parity.specs.FastFrames.{BeginsFirstHalf, BeginsSecondHalf, EndsFirstHalf, EndsSecondHalf, HoldsAt, IsAtPart, IsOpen, IsSolved, SolvesWhole, work};
 
 use crate::fast_attract::{attract, restore};
 use crate::fast_row::{Row, choose_inside, gather_priority, gather_won, give, lowest_priority};
 use crate::games::Game;
 use crate::players::Player;
 use ml_base::NoMemory;
+use std::alloc::Global;
 
 /// Which half of a turn a frame waits for.
 #[derive(Clone, Copy, PartialEq, Eq)]
@@ -221,12 +222,7 @@ fn close_part(
     requires solved { IsSolved game.now frames.old.items row.old.order.items row.old.place.items left.old winner.old choice.old rest }
     ensures holds { IfOk result (λ next. MatchOption
         next
-        (SolvesPart
-            (board_of game.now)
-            (place_of row.new.place.items)
-            (size game.now)
-            (winner_at winner.new)
-            (choice_at choice.new))
+        (SolvesWhole game.now winner.new choice.new)
         (λ at. HoldsAt
             at
             game.now
@@ -267,4 +263,109 @@ fn close_part(
             }
         }
     }
+}
+
+/// One turn: opens a part that is to be solved, or goes on where one is solved. `None` says that the whole game is.
+fn turn(
+    game: &Game,
+    predecessors: &[Vec<usize>],
+    at: At,
+    row: &mut Row,
+    left: &mut [usize],
+    winner: &mut [Player],
+    choice: &mut [u64],
+    frames: &mut Vec<Frame>,
+) -> Result<Option<At>, NoMemory>
+    requires game { IsGame game.now }
+    requires predecessors { ArePredecessors game.now (lists_of predecessors.now) }
+    requires counts { length left.old ≡ size game.now }
+    requires winners { length winner.old ≡ size game.now }
+    requires choices { length choice.old ≡ size game.now }
+    requires holds { HoldsAt at game.now frames.old.items row.old.order.items row.old.place.items left.old winner.old choice.old }
+    ensures holds { IfOk result (λ next. MatchOption
+        next
+        (SolvesWhole game.now winner.new choice.new)
+        (λ at. HoldsAt
+            at
+            game.now
+            frames.new.items
+            row.new.order.items
+            row.new.place.items
+            left.new
+            winner.new
+            choice.new)) }
+    ensures falls { IfOk result (λ next. IfSome next (λ then. work frames.new.items then < work frames.old.items at)) }
+{
+    match at {
+        At::Open(count) => {
+            if count == 0 {
+                return close_part(
+                    game,
+                    predecessors,
+                    count,
+                    row,
+                    left,
+                    winner,
+                    choice,
+                    frames,
+                );
+            }
+            let next = open_part(
+                game,
+                predecessors,
+                count,
+                row,
+                left,
+                winner,
+                choice,
+                frames,
+            )?;
+            Ok(Some(next))
+        }
+        At::Solved(count) => close_part(
+            game,
+            predecessors,
+            count,
+            row,
+            left,
+            winner,
+            choice,
+            frames,
+        ),
+    }
+}
+
+/// Turn after turn, until the whole game is solved.
+pub(crate) fn run(
+    alloc: Global,
+    game: &Game,
+    predecessors: &[Vec<usize>],
+    row: &mut Row,
+    left: &mut [usize],
+    winner: &mut [Player],
+    choice: &mut [u64],
+) -> Result<(), NoMemory>
+    requires game { IsGame game.now }
+    requires predecessors { ArePredecessors game.now (lists_of predecessors.now) }
+    requires counts { length left.old ≡ size game.now }
+    requires winners { length winner.old ≡ size game.now }
+    requires choices { length choice.old ≡ size game.now }
+    requires begins { IsAtPart game.now row.old.order.items row.old.place.items left.old (size game.now) }
+    ensures { OnOk result (SolvesWhole game.now winner.new choice.new) }
+{
+    let mut frames = Vec::new(alloc);
+    let mut at = At::Open(game.size());
+    while let Some(next) = turn(
+        game,
+        predecessors,
+        at,
+        row,
+        left,
+        winner,
+        choice,
+        &mut frames,
+    )? {
+        at = next;
+    }
+    Ok(())
 }
