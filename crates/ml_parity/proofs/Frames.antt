@@ -3,6 +3,7 @@
 --   waits_kept    == what waits for a part is kept by what changes in it alone
 --   waits_low     == the parts that wait are parts of the game
 --   pushed, popped == one frame more or less on top, on the list of the program
+--   none_waits, whole_waits == no frame waits exactly for the whole game
 --   work_pushed   == the work with one frame more
 --   first_ends, second_ends, first_opens, second_opens == what a turn makes of the frames
 --   opens_less, splits_less, first_falls, second_falls == the work falls where a part is opened, and where its second half begins
@@ -156,3 +157,13 @@ first_falls frames frames2 q rest n low is =
     let new = work_pushed frames frames2 (record { half = First; player = q; count = n }) is in
     let less = opens_less rest n (sum_by weight frames) low in
     omega arith
+
+-- where no frame waits, the part is the whole game
+pub none_waits : (g : ParityGame) (frames : List Frame) (n : ℕ) (place : ℕ → ℕ) (win : ℕ → Player) (s : ℕ → ℕ) → frames ≡ []
+    → Waits g (reverse frames) n place win s → n ≡ size g
+none_waits g frames n place win s none waits = subst (λ (fs : List Frame). Waits g (reverse fs) n place win s) none waits
+
+-- and the whole game waits without a frame
+pub whole_waits : (g : ParityGame) (frames : List Frame) (n : ℕ) (place : ℕ → ℕ) (win : ℕ → Player) (s : ℕ → ℕ) → frames ≡ []
+    → n ≡ size g → Waits g (reverse frames) n place win s
+whole_waits g frames n place win s none is = subst (λ (fs : List Frame). Waits g (reverse fs) n place win s) (sym none) is

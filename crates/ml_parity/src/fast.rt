@@ -1,13 +1,14 @@
 // The fast solver.
 
 ghost use Rattle.std.specs.Prelude.{◌≡◌, ℕ, IfOk, length};
-ghost use Rattle.ml_parity.specs.Game.{size};
+ghost use Rattle.ml_parity.specs.Game.{IsGame, size};
 ghost use Rattle.ml_parity.specs.Solution.{IsSolution, FirstElsewhere};
 ghost use Rattle.ml_parity.specs.FastFrames.{SolvesWhole};
 
 use crate::fast_moves::{move_counts, predecessors};
 use crate::fast_row::row_of;
 use crate::fast_turns::run;
+use crate::fill::with_first_moves;
 use crate::games::Game;
 use crate::players::Player;
 use crate::solutions::Solution;
@@ -19,6 +20,7 @@ fn winners_and_choices(
     alloc: Global,
     game: &Game,
 ) -> Result<(Vec<Player>, Vec<u64>), NoMemory>
+    ensures game { IfOk result (λ _. IsGame game.now) }
     ensures winners { IfOk result (λ r. length r.0.items ≡ size game.now) }
     ensures choices { IfOk result (λ r. length r.1.items ≡ size game.now) }
     ensures solves { IfOk result (λ r. SolvesWhole game.now r.0.items r.1.items) }
@@ -57,12 +59,7 @@ pub fn solve(alloc: Global, game: &Game) -> Result<Solution, NoMemory>
     ensures ok { IfOk result (IsSolution game.now) }
     ensures elsewhere { IfOk result (FirstElsewhere game.now) }
 {
-    let size = game.size();
-    let (winner, mut choice) = winners_and_choices(alloc, game)?;
-    for v in 0..size {
-        if game.owner_at(v) != winner[v] {
-            choice[v] = game.moves_at(v)[0];
-        }
-    }
+    let (winner, choice) = winners_and_choices(alloc, game)?;
+    let choice = with_first_moves(game, &winner, choice);
     Ok(Solution { winner, choice })
 }

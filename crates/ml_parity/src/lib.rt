@@ -25,6 +25,7 @@ mod fast_attract;
 mod fast_moves;
 mod fast_row;
 mod fast_turns;
+mod fill;
 pub mod games;
 pub mod heights_answer;
 pub mod heights_check;

@@ -1,9 +1,11 @@
 -- The frame on top is at the end of a half.
-use Rattle.std.proofs.Common.{arith, reverse}
+use Rattle.std.proofs.Common.{arith, length, reverse, ◌≡◌, []}
+use Rattle.std.proofs.lemmas.List.{nil_from_length}
 use Rattle.ml_parity.specs.Solution.{choice_at, winner_at}
 use Rattle.ml_parity.specs.FastSteps.{place_of, number_at}
 use Rattle.ml_parity.specs.Player.{opponent}
-use Rattle.ml_parity.proofs.Frames.{popped, waits_low, waits_kept, frame_low, first_ends, second_ends, second_opens, second_falls}
+use Rattle.ml_parity.proofs.Frames.{popped, waits_low, waits_kept, frame_low, first_ends, none_waits, second_ends, second_opens, second_falls}
+use Rattle.ml_parity.proofs.Whole.{whole_solved}
 use Rattle.ml_parity.proofs.fast_turns.close_part.Goals as goal
 
 pub restore-requires-clause-fits : goal.restore-requires-clause-fits
@@ -69,3 +71,8 @@ returns-in_ok-push-in-Some-second_half-clause-holds c =
 pub returns-in_ok-push-in-Some-second_half-clause-falls : goal.returns-in_ok-push-in-Some-second_half-clause-falls
 returns-in_ok-push-in-Some-second_half-clause-falls c =
     second_falls c.args.frames.now.items c.pop.new.self.items c.push.new.self.items c.in-Some.frame c.opponent.result c.in-Some-second_half.rest c.in-First.is c.in-Some-second_half.ensures.half.smaller c.in-Some.ensures.items c.in_ok-push-in-Some-second_half.ensures.items
+
+pub returns-in_default-clause-holds : goal.returns-in_default-clause-holds
+returns-in_default-clause-holds c =
+    let empty : c.args.frames.now.items ≡ [] = nil_from_length c.args.frames.now.items (omega (arith, c.in_default.ensures.cases.0, c.args.frames.now.ok.0)) in
+    whole_solved c.args.game.now c.args.row.now.order.items c.args.row.now.place.items c.args.left.now c.args.winner.now c.args.choice.now c.args.rest (none_waits c.args.game.now c.args.frames.now.items c.args.rest (place_of c.args.row.now.place.items) (winner_at c.args.winner.now) (choice_at c.args.choice.now) empty c.requires.solved.waits) c.requires.solved.at_part c.requires.solved.solves
