@@ -20,6 +20,12 @@
 // checking games of structures and graphs, and the decision game.
 #![tactic(auto)]
 
+mod fast;
+mod fast_attract;
+mod fast_moves;
+mod fast_row;
+mod fast_turns;
+mod fill;
 pub mod games;
 pub mod heights_answer;
 pub mod heights_check;
@@ -32,6 +38,7 @@ pub mod plain;
 pub mod players;
 pub mod solutions;
 
+pub use fast::solve;
 pub use games::{Game, GameRefusal};
 pub use heights_answer::{EvenCycle, Heights};
 pub use heights_check::heights_ok;
