@@ -44,3 +44,11 @@ pub mod Putting
 pub mod PlainStep
 -- letters stand for sets
 pub mod LetterSets
+-- how often a number stands in a list
+pub mod Times
+-- items by ascending states
+pub mod Arranged
+-- forests: the states that lie in them, with their stacks
+pub mod Forests
+-- the tree of a history stands for a history
+pub mod Proper
