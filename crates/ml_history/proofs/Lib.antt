@@ -52,3 +52,7 @@ pub mod Arranged
 pub mod Forests
 -- the tree of a history stands for a history
 pub mod Proper
+-- the order of the places of a forest is the order of offers
+pub mod Postorder
+-- the first item of each state
+pub mod Firsts
