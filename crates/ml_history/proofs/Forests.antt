@@ -25,12 +25,12 @@ use Rattle.ml_history.proofs.Times.{apart-left, apart-right, apart-both}
 -- ---- states
 
 -- items seen from the parent have their states
-states-below : (x : ℕ) (ts : List (Item ℕ)) → map state_of (map (below x) ts) ≡ map state_of ts
+pub states-below : (x : ℕ) (ts : List (Item ℕ)) → map state_of (map (below x) ts) ≡ map state_of ts
 states-below x [] = refl
 states-below x (t ∷ ts) = ap (λ v. t.state ∷ v) (states-below x ts)
 
 -- items that are made for states have these
-states-lies : (s qs : List ℕ) → map state_of (map (lies_at s) qs) ≡ qs
+pub states-lies : (s qs : List ℕ) → map state_of (map (lies_at s) qs) ≡ qs
 states-lies s [] = refl
 states-lies s (q ∷ qs) = ap (λ v. q ∷ v) (states-lies s qs)
 

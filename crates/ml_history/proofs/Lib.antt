@@ -56,3 +56,7 @@ pub mod Proper
 pub mod Postorder
 -- the first item of each state
 pub mod Firsts
+-- the tree of all offers
+pub mod Moved
+-- a tree without repeats
+pub mod Fresh
