@@ -60,3 +60,7 @@ pub mod Firsts
 pub mod Moved
 -- a tree without repeats
 pub mod Fresh
+-- the tree of the first offers is what the targets take
+pub mod Walked
+-- full vertices, and the cut on a tree
+pub mod Settled
