@@ -64,3 +64,7 @@ pub mod Fresh
 pub mod Walked
 -- full vertices, and the cut on a tree
 pub mod Settled
+-- new ages, and the states of each vertex in their order
+pub mod Renewed
+-- the history step on trees is the history step
+pub mod TreeSteps
