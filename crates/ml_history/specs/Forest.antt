@@ -10,7 +10,7 @@
 --                      that lie at it, its children, and its younger siblings
 --   names f         == the ages of the vertices of f, children first, then the vertex, then its younger siblings
 --   states f        == the states that lie at the vertices of f, in the same order
---   places path f   == these states with their stacks, where the way down to f is `path`
+--   places f        == these states with their stacks, from the roots of f down
 --   put_in a ts     == the items ts with a, before the first item with a greater state
 --   arranged ts     == the items ts by ascending states
 --   items f         == what the tree f stands for: its states with their stacks, by ascending states
@@ -40,15 +40,18 @@ abbrev pub states : Forest → List ℕ
 states Empty = []
 states (Tree age own children younger) = states children ++ (own ++ states younger)
 
--- the item of a state that lies at the end of the path
+-- the item of a state with this stack
 abbrev pub lies_at : List ℕ → ℕ → Item ℕ
-lies_at path q = record { state = q; stack = path }
+lies_at stack q = record { state = q; stack = stack }
 
--- the states with their stacks, where the way down to the forest is `path`
-abbrev pub places : List ℕ → Forest → List (Item ℕ)
-places path Empty = []
-places path (Tree age own children younger) =
-    places (path ++ age ∷ []) children ++ (map (lies_at (path ++ age ∷ [])) own ++ places path younger)
+-- an item of the children of a vertex of the age x, seen from this vertex on
+abbrev pub below : ℕ → Item ℕ → Item ℕ
+below x a = record { state = a.state; stack = x ∷ a.stack }
+
+-- the states with their stacks, from the roots of the forest down
+abbrev pub places : Forest → List (Item ℕ)
+places Empty = []
+places (Tree age own children younger) = map (below age) (places children) ++ (map (lies_at (age ∷ [])) own ++ places younger)
 
 -- the items with a, before the first item with a greater state
 abbrev pub put_in : Item ℕ → List (Item ℕ) → List (Item ℕ)
@@ -62,7 +65,7 @@ arranged (a ∷ as') = put_in a (arranged as')
 
 -- the states of the tree with their stacks, by ascending states
 abbrev pub items : Forest → List (Item ℕ)
-items f = arranged (places [] f)
+items f = arranged (places f)
 
 -- each age is at least x, that of a child above that of its parent, and that of a vertex above those of its older
 -- siblings
