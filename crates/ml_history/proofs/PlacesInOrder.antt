@@ -1,53 +1,51 @@
 -- The places of a tree stand in the order of offers, and the tree is determined by them.
 --
---   Under path x s      == the stack s goes on behind the path, with a name that is at least x
---   places_under        == so do the stacks of a forest whose ages are at least x
+--   From x s            == the stack s begins with a name that is at least x
+--   places_from         == so do the stacks of a forest whose ages are at least x
 --   Earlier a b         == the stack of a beats that of b; or they are one, and the state of a is smaller
 --   earlier_apart       == no two items stand so both ways
 --   places-in_order     == the places of a forest stand in this order
 --   places_same         == two forests with the same places are one
-use Rattle.std.proofs.Common.{◌≡◌, ◌≢◌, ℕ, ◌+◌, ◌<◌, ◌≤◌, ◌⊎◌, inl, inr, arith, true, false, eqb, ltb, List, [], ◌∷◌, ◌++◌, length, length-append, map, refl, sym, subst, ap, ◌∙◌, append_assoc}
+use Rattle.std.proofs.Common.{◌≡◌, ◌≢◌, ℕ, ◌+◌, ◌<◌, ◌≤◌, ◌⊎◌, inl, inr, arith, true, false, eqb, ltb, List, [], ◌∷◌, ◌++◌, map, refl, sym, subst, ap, ◌∙◌}
 use Rattle.std.proofs.lemmas.Bool.{cond-true, cond-false, eq-eqb, ne_eqb, lt-ltb}
-use Rattle.std.proofs.lemmas.List.{append_cancel_left}
 use Rattle.ml_lists.specs.Ascending.{IsAscending}
 use Rattle.ml_lists.specs.Member.{IsMember}
 use Rattle.ml_lists.proofs.Member.{Image, member-append, member-append_left, member-append_right, member-map, member-map_from}
 use Rattle.ml_trace.specs.Stack.{Item}
 use Rattle.ml_history.specs.HistoryStep.{beats}
-use Rattle.ml_history.specs.Forest.{Forest, Empty, Tree, places, lies_at, AgesRise, OwnsAreSets}
+use Rattle.ml_history.specs.Forest.{Forest, Empty, Tree, places, lies_at, below, AgesRise, OwnsAreSets}
 use Rattle.ml_history.proofs.Best.{beats_irreflexive, beats_asymmetric}
-use Rattle.ml_history.proofs.Taken.{states_of}
 use Rattle.ml_history.proofs.InOrder.{InOrder, in_order-append, in_order-map, split_same}
 
--- the stack goes on behind the path, with a name that is at least x
-pub record Under (path : List ℕ) (x : ℕ) (s : List ℕ) : Type 0 where
+-- the stack begins with a name that is at least x
+pub record From (x : ℕ) (s : List ℕ) : Type 0 where
   pub name : ℕ
   pub rest : List ℕ
-  pub is : s ≡ path ++ name ∷ rest
+  pub is : s ≡ name ∷ rest
   pub least : x ≤ name
 
--- the stacks of a forest whose ages are at least x go on behind the path to it
-pub places_under : (path : List ℕ) (x : ℕ) (f : Forest) → AgesRise x f → (a : Item ℕ) → IsMember a (places path f) → Under path x a.stack
-places_under path x Empty rise a m = absurd m
-places_under path x (Tree age own children younger) rise a m =
-    by_part (member-append a (places (path ++ age ∷ []) children) (map (lies_at (path ++ age ∷ [])) own ++ places path younger) m) (places_under (path ++ age ∷ []) (age + 1) children rise.1 a) (places_under path (age + 1) younger rise.2 a)
+-- an image of a child's item begins with the age of its parent
+below_from : (age : ℕ) (a : Item ℕ) (c : Forest) → Image (below age) a (places c) → From age a.stack
+below_from age a c j = record { name = age; rest = j.from.stack; is = ap (λ (b : Item ℕ). b.stack) j.holds; least = omega arith }
+
+own_from : (age : ℕ) (a : Item ℕ) (own : List ℕ) → Image (lies_at (age ∷ [])) a own → From age a.stack
+own_from age a own j = record { name = age; rest = []; is = ap (λ (b : Item ℕ). b.stack) j.holds; least = omega arith }
+
+from_lower : (x y : ℕ) (s : List ℕ) → x ≤ y → From y s → From x s
+from_lower x y s le u = record { name = u.name; rest = u.rest; is = u.is; least = let l = u.least in omega arith }
+
+-- the stacks of a forest whose ages are at least x begin with a name that is at least x
+pub places_from : (x : ℕ) (f : Forest) → AgesRise x f → (a : Item ℕ) → IsMember a (places f) → From x a.stack
+places_from x Empty rise a m = absurd m
+places_from x (Tree age own children younger) rise a m = by_part (member-append a (map (below age) (places children)) (map (lies_at (age ∷ [])) own ++ places younger) m) (places_from (age + 1) younger rise.2 a)
   where
-    inside : Under (path ++ age ∷ []) (age + 1) a.stack → Under path x a.stack
-    inside u = record { name = age; rest = u.name ∷ u.rest; is = u.is ∙ append_assoc path (age ∷ []) (u.name ∷ u.rest); least = rise.0 }
+    behind : IsMember a (map (lies_at (age ∷ [])) own) ⊎ IsMember a (places younger) → (IsMember a (places younger) → From (age + 1) a.stack) → From x a.stack
+    behind (inl n) later = from_lower x age a.stack rise.0 (own_from age a own (member-map_from (lies_at (age ∷ [])) a own n))
+    behind (inr n) later = from_lower x (age + 1) a.stack (let l = rise.0 in omega arith) (later n)
 
-    here : Image (lies_at (path ++ age ∷ [])) a own → Under path x a.stack
-    here j = record { name = age; rest = []; is = ap (λ (b : Item ℕ). b.stack) j.holds; least = rise.0 }
-
-    beside : Under path (age + 1) a.stack → Under path x a.stack
-    beside u = record { name = u.name; rest = u.rest; is = u.is; least = let l = u.least in let r = rise.0 in omega arith }
-
-    behind : IsMember a (map (lies_at (path ++ age ∷ [])) own) ⊎ IsMember a (places path younger) → (IsMember a (places path younger) → Under path (age + 1) a.stack) → Under path x a.stack
-    behind (inl n) later = here (member-map_from (lies_at (path ++ age ∷ [])) a own n)
-    behind (inr n) later = beside (later n)
-
-    by_part : IsMember a (places (path ++ age ∷ []) children) ⊎ IsMember a (map (lies_at (path ++ age ∷ [])) own ++ places path younger) → (IsMember a (places (path ++ age ∷ []) children) → Under (path ++ age ∷ []) (age + 1) a.stack) → (IsMember a (places path younger) → Under path (age + 1) a.stack) → Under path x a.stack
-    by_part (inl n) first later = inside (first n)
-    by_part (inr n) first later = behind (member-append a (map (lies_at (path ++ age ∷ [])) own) (places path younger) n) later
+    by_part : IsMember a (map (below age) (places children)) ⊎ IsMember a (map (lies_at (age ∷ [])) own ++ places younger) → (IsMember a (places younger) → From (age + 1) a.stack) → From x a.stack
+    by_part (inl n) later = from_lower x age a.stack rise.0 (below_from age a children (member-map_from (below age) a (places children) n))
+    by_part (inr n) later = behind (member-append a (map (lies_at (age ∷ [])) own) (places younger) n) later
 
 -- the stack of a beats that of b; or they are one, and the state of a is smaller
 abbrev pub Earlier : Item ℕ → Item ℕ → Type 0
@@ -66,79 +64,149 @@ earlier_apart a b (inr p) (inl q) =
     absurd (cc)
 earlier_apart a b (inr p) (inr q) = let l = p.1 in let m = q.1 in absurd (omega arith)
 
--- behind one path, what stands behind it decides
-pub beats-behind : (path s t : List ℕ) → beats s t ≡ true → beats (path ++ s) (path ++ t) ≡ true
-beats-behind [] s t b = b
-beats-behind (x ∷ path) s t b = cond-true (eqb x x) (beats (path ++ s) (path ++ t)) (ltb x x) (eq-eqb x x refl) ∙ beats-behind path s t b
-
--- a longer stack beats what it extends
-longer_beats : (path : List ℕ) (x y : ℕ) (ys : List ℕ) → beats (path ++ x ∷ y ∷ ys) (path ++ x ∷ []) ≡ true
-longer_beats path x y ys = beats-behind path (x ∷ y ∷ ys) (x ∷ []) (cond-true (eqb x x) (beats (y ∷ ys) []) (ltb x x) (eq-eqb x x refl))
+-- behind one name, what stands behind it decides
+pub beats_behind : (x : ℕ) (s t : List ℕ) → beats (x ∷ s) (x ∷ t) ≡ beats s t
+beats_behind x s t = cond-true (eqb x x) (beats s t) (ltb x x) (eq-eqb x x refl)
 
 -- an older name beats a younger one
-older_beats : (path xs ys : List ℕ) (x y : ℕ) → x < y → beats (path ++ x ∷ xs) (path ++ y ∷ ys) ≡ true
-older_beats path xs ys x y low = beats-behind path (x ∷ xs) (y ∷ ys) (smaller x y xs ys low)
-  where
-    smaller : (x y : ℕ) (xs ys : List ℕ) → x < y → beats (x ∷ xs) (y ∷ ys) ≡ true
-    smaller x y xs ys low = cond-false (eqb x y) (beats xs ys) (ltb x y) (ne_eqb x y (λ e. omega arith)) ∙ lt-ltb x y low
+pub older_beats : (x y : ℕ) (s t : List ℕ) → x < y → beats (x ∷ s) (y ∷ t) ≡ true
+older_beats x y s t low = cond-false (eqb x y) (beats s t) (ltb x y) (ne_eqb x y (λ e. omega arith)) ∙ lt-ltb x y low
+
+older_earlier : (age : ℕ) (a b : Item ℕ) → (s : List ℕ) → a.stack ≡ age ∷ s → From (age + 1) b.stack → Earlier a b
+older_earlier age a b s e u =
+    let low : age < u.name = let l = u.least in omega arith in
+    inl (ap (λ t. beats t b.stack) e ∙ ap (beats (age ∷ s)) u.is ∙ older_beats age u.name s u.rest low)
 
 -- the places of a forest stand in the order of offers
-pub places-in_order : (path : List ℕ) (x : ℕ) (f : Forest) → AgesRise x f → OwnsAreSets f → InOrder Earlier (places path f)
-places-in_order path x Empty rise owns = tt
-places-in_order path x (Tree age own children younger) rise owns =
-    in_order-append Earlier (places down children) (map (lies_at down) own ++ places path younger) (places-in_order down (age + 1) children rise.1 owns.2)
-    (in_order-append Earlier (map (lies_at down) own) (places path younger) (own_in_order own owns.1) (places-in_order path (age + 1) younger rise.2 owns.3) (λ a b m n. own_first a b (member-map_from (lies_at down) a own m) (places_under path (age + 1) younger rise.2 b n)))
-    (λ a b m n. first a b (places_under down (age + 1) children rise.1 a m) (member-append b (map (lies_at down) own) (places path younger) n))
+pub places-in_order : (x : ℕ) (f : Forest) → AgesRise x f → OwnsAreSets f → InOrder Earlier (places f)
+places-in_order x Empty rise owns = tt
+places-in_order x (Tree age own children younger) rise owns =
+    in_order-append Earlier (map (below age) (places children)) (map (lies_at (age ∷ [])) own ++ places younger) (in_order-map Earlier Earlier (below age) (places children) below_keeps (places-in_order (age + 1) children rise.1 owns.2))
+    (in_order-append Earlier (map (lies_at (age ∷ [])) own) (places younger) (own_in_order own owns.1) (places-in_order (age + 1) younger rise.2 owns.3) (λ a b m n. own_first a b (member-map_from (lies_at (age ∷ [])) a own m) (places_from (age + 1) younger rise.2 b n)))
+    (λ a b m n. first a b (member-map_from (below age) a (places children) m) (member-append b (map (lies_at (age ∷ [])) own) (places younger) n))
   where
-    down : List ℕ
-    down = path ++ age ∷ []
+    below_keeps : (a b : Item ℕ) → Earlier a b → Earlier (below age a) (below age b)
+    below_keeps a b (inl p) = inl (beats_behind age a.stack b.stack ∙ p)
+    below_keeps a b (inr p) = inr (ap (λ s. age ∷ s) p.0, p.1)
 
-    own_in_order : (qs : List ℕ) → IsAscending qs → InOrder Earlier (map (lies_at down) qs)
+    own_in_order : (qs : List ℕ) → IsAscending qs → InOrder Earlier (map (lies_at (age ∷ [])) qs)
     own_in_order [] up = tt
-    own_in_order (q ∷ qs) up = (λ a m. later a (member-map_from (lies_at down) a qs m), own_in_order qs up.1)
+    own_in_order (q ∷ qs) up = (λ a m. later a (member-map_from (lies_at (age ∷ [])) a qs m), own_in_order qs up.1)
       where
-        later : (a : Item ℕ) → Image (lies_at down) a qs → Earlier (lies_at down q) a
-        later a j = subst (Earlier (lies_at down q)) (sym j.holds) (inr (refl, up.0 j.from j.member))
+        later : (a : Item ℕ) → Image (lies_at (age ∷ [])) a qs → Earlier (lies_at (age ∷ []) q) a
+        later a j = subst (Earlier (lies_at (age ∷ []) q)) (sym j.holds) (inr (refl, up.0 j.from j.member))
 
-    own_first : (a b : Item ℕ) → Image (lies_at down) a own → Under path (age + 1) b.stack → Earlier a b
-    own_first a b j u =
-        let low : age < u.name = let l = u.least in omega arith in
-        let is : beats (path ++ age ∷ []) (path ++ u.name ∷ u.rest) ≡ true = older_beats path [] u.rest age u.name low in
-        inl (ap (λ (c : Item ℕ). beats c.stack b.stack) j.holds ∙ ap (beats (path ++ age ∷ [])) u.is ∙ is)
+    own_first : (a b : Item ℕ) → Image (lies_at (age ∷ [])) a own → From (age + 1) b.stack → Earlier a b
+    own_first a b j u = older_earlier age a b [] (ap (λ (c : Item ℕ). c.stack) j.holds) u
 
-    child_first : (a b : Item ℕ) → Under down (age + 1) a.stack → Image (lies_at down) b own → Earlier a b
-    child_first a b u j =
-        let is : a.stack ≡ path ++ age ∷ u.name ∷ u.rest = u.is ∙ append_assoc path (age ∷ []) (u.name ∷ u.rest) in
-        inl (ap (λ (c : Item ℕ). beats a.stack c.stack) j.holds ∙ ap (λ s. beats s (path ++ age ∷ [])) is ∙ longer_beats path age u.name u.rest)
+    child_first : (a b : Item ℕ) → Image (below age) a (places children) → Image (lies_at (age ∷ [])) b own → Earlier a b
+    child_first a b i j =
+        let u = places_from (age + 1) children rise.1 i.from i.member in
+        let a_is : a.stack ≡ age ∷ u.name ∷ u.rest = ap (λ (c : Item ℕ). c.stack) i.holds ∙ ap (λ s. age ∷ s) u.is in
+        let b_is : b.stack ≡ age ∷ [] = ap (λ (c : Item ℕ). c.stack) j.holds in
+        inl (ap (λ s. beats s b.stack) a_is ∙ ap (beats (age ∷ u.name ∷ u.rest)) b_is ∙ beats_behind age (u.name ∷ u.rest) [])
 
-    child_before : (a b : Item ℕ) → Under down (age + 1) a.stack → Under path (age + 1) b.stack → Earlier a b
-    child_before a b u v =
-        let is : a.stack ≡ path ++ age ∷ u.name ∷ u.rest = u.is ∙ append_assoc path (age ∷ []) (u.name ∷ u.rest) in
-        let low : age < v.name = let l = v.least in omega arith in
-        inl (ap (λ s. beats s b.stack) is ∙ ap (beats (path ++ age ∷ u.name ∷ u.rest)) v.is ∙ older_beats path (u.name ∷ u.rest) v.rest age v.name low)
-
-    first : (a b : Item ℕ) → Under down (age + 1) a.stack → IsMember b (map (lies_at down) own) ⊎ IsMember b (places path younger) → Earlier a b
-    first a b u (inl n) = child_first a b u (member-map_from (lies_at down) b own n)
-    first a b u (inr n) = child_before a b u (places_under path (age + 1) younger rise.2 b n)
+    first : (a b : Item ℕ) → Image (below age) a (places children) → IsMember b (map (lies_at (age ∷ [])) own) ⊎ IsMember b (places younger) → Earlier a b
+    first a b i (inl n) = child_first a b i (member-map_from (lies_at (age ∷ [])) b own n)
+    first a b i (inr n) = older_earlier age a b i.from.stack (ap (λ (c : Item ℕ). c.stack) i.holds) (places_from (age + 1) younger rise.2 b n)
 
 -- ---- what the places determine
 
--- two names behind one path are one
-same_name : (path : List ℕ) (x y : ℕ) (xs ys : List ℕ) → path ++ x ∷ xs ≡ path ++ y ∷ ys → x ≡ y
-same_name path x y xs ys e = let d = append_cancel_left path (x ∷ xs) (y ∷ ys) e in cc
+-- the same images, of a map that tells all apart
+map_same : {X Y : Type 0} (f : X → Y) → ((x y : X) → f x ≡ f y → x ≡ y) → (xs ys : List X) → map f xs ≡ map f ys → xs ≡ ys
+map_same f apart [] [] e = refl
+map_same f apart [] (y ∷ ys) e = absurd (cc)
+map_same f apart (x ∷ xs) [] e = absurd (cc)
+map_same f apart (x ∷ xs) (y ∷ ys) e =
+    let first : f x ≡ f y = cc in
+    let later : map f xs ≡ map f ys = cc in
+    let here = apart x y first in
+    let rest = map_same f apart xs ys later in
+    λ i. here i ∷ rest i
 
--- the first age of a forest is no greater than the name that a place of it has there
-first_age : (path s : List ℕ) (q age age' : ℕ) (own own' : List ℕ) (children children' younger younger' : Forest) → IsMember q own → AgesRise age' (Tree age' own' children' younger') → places path (Tree age own children younger) ≡ places path (Tree age' own' children' younger') → age' ≤ age
-first_age path s q age age' own own' children children' younger younger' m rise e = from (places_under path age' (Tree age' own' children' younger') rise (lies_at down q) there)
-  where
-    down : List ℕ
-    down = path ++ age ∷ []
+below_apart : (age : ℕ) (a b : Item ℕ) → below age a ≡ below age b → a ≡ b
+below_apart age a b e =
+    let states_same : a.state ≡ b.state = ap (λ (c : Item ℕ). c.state) e in
+    let longer : age ∷ a.stack ≡ age ∷ b.stack = ap (λ (c : Item ℕ). c.stack) e in
+    let stacks_same : a.stack ≡ b.stack = cc in
+    λ i. record { state = states_same i; stack = stacks_same i }
 
-    here : IsMember (lies_at down q) (places path (Tree age own children younger))
-    here = member-append_right (lies_at down q) (places down children) (map (lies_at down) own ++ places path younger) (member-append_left (lies_at down q) (map (lies_at down) own) (places path younger) (member-map (lies_at down) q own m))
+-- the items of the children have two names at least
+abbrev IsLower : ℕ → Item ℕ → Type 0
+IsLower age a = (y : ℕ) × (s : List ℕ) × (a.stack ≡ age ∷ y ∷ s)
 
-    there : IsMember (lies_at down q) (places path (Tree age' own' children' younger'))
-    there = subst (IsMember (lies_at down q)) e here
+-- those of the vertex one; and those of younger siblings begin with a greater name
+abbrev IsHere : ℕ → Item ℕ → Type 0
+IsHere age a = a.stack ≡ age ∷ []
 
-    from : Under path age' down → age' ≤ age
-    from u = let same = same_name path age u.name [] u.rest u.is in let l = u.least in omega arith
+abbrev IsBeside : ℕ → Item ℕ → Type 0
+IsBeside age a = From (age + 1) a.stack
+
+lower_apart : (age : ℕ) (a : Item ℕ) → IsLower age a → IsHere age a ⊎ IsBeside age a → ⊥
+lower_apart age a p (inl q) = let r = p.2 in let e : age ∷ p.0 ∷ p.1 ≡ age ∷ [] = sym r ∙ q in absurd (cc)
+lower_apart age a p (inr q) = let e : age ∷ p.0 ∷ p.1 ≡ q.name ∷ q.rest = sym p.2 ∙ q.is in let f : age ≡ q.name = cc in let l = q.least in absurd (omega arith)
+
+here_apart : (age : ℕ) (a : Item ℕ) → IsHere age a → IsBeside age a → ⊥
+here_apart age a p q = let e : age ∷ [] ≡ q.name ∷ q.rest = sym p ∙ q.is in let f : age ≡ q.name = cc in let l = q.least in absurd (omega arith)
+
+-- two forests with the same places and first age have the same parts
+module _ (age : ℕ) (own own' : List ℕ) (children children' younger younger' : Forest) where
+  is_lower : (c : Forest) → AgesRise (age + 1) c → (a : Item ℕ) → IsMember a (map (below age) (places c)) → IsLower age a
+  is_lower c rise a m = from (member-map_from (below age) a (places c) m)
+    where
+      from : Image (below age) a (places c) → IsLower age a
+      from j = let u = places_from (age + 1) c rise j.from j.member in (u.name, u.rest, ap (λ (b : Item ℕ). b.stack) j.holds ∙ ap (λ s. age ∷ s) u.is)
+
+  is_here : (qs : List ℕ) (a : Item ℕ) → IsMember a (map (lies_at (age ∷ [])) qs) → IsHere age a
+  is_here qs a m = ap (λ (b : Item ℕ). b.stack) (member-map_from (lies_at (age ∷ [])) a qs m).holds
+
+  is_behind : (qs : List ℕ) (y : Forest) → AgesRise (age + 1) y → (a : Item ℕ) → IsMember a (map (lies_at (age ∷ [])) qs ++ places y) → IsHere age a ⊎ IsBeside age a
+  is_behind qs y rise a m = by_part (member-append a (map (lies_at (age ∷ [])) qs) (places y) m)
+    where
+      by_part : IsMember a (map (lies_at (age ∷ [])) qs) ⊎ IsMember a (places y) → IsHere age a ⊎ IsBeside age a
+      by_part (inl n) = inl (is_here qs a n)
+      by_part (inr n) = inr (places_from (age + 1) y rise a n)
+
+  parts_same : AgesRise (age + 1) children → AgesRise (age + 1) children' → AgesRise (age + 1) younger → AgesRise (age + 1) younger' → places (Tree age own children younger) ≡ places (Tree age own' children' younger') → (places children ≡ places children') × (own ≡ own') × (places younger ≡ places younger')
+  parts_same c c' y y' e =
+      let one = split_same (IsLower age) (λ a. IsHere age a ⊎ IsBeside age a) (lower_apart age) (map (below age) (places children)) (map (lies_at (age ∷ [])) own ++ places younger) (map (below age) (places children')) (map (lies_at (age ∷ [])) own' ++ places younger') (is_lower children c) (is_lower children' c') (is_behind own younger y) (is_behind own' younger' y') e in
+      let two = split_same (IsHere age) (IsBeside age) (here_apart age) (map (lies_at (age ∷ [])) own) (places younger) (map (lies_at (age ∷ [])) own') (places younger') (is_here own) (is_here own') (λ a m. places_from (age + 1) younger y a m) (λ a m. places_from (age + 1) younger' y' a m) one.1 in
+      (map_same (below age) (below_apart age) (places children) (places children') one.0, map_same (lies_at (age ∷ [])) (λ p q s. ap (λ (a : Item ℕ). a.state) s) own own' two.0, two.1)
+
+-- a vertex at which some state lies has a place
+some_state : (own : List ℕ) → own ≢ [] → (q : ℕ) × IsMember q own
+some_state [] some = absurd (some refl)
+some_state (q ∷ qs) some = (q, inl refl)
+
+has_place : (q age : ℕ) (own : List ℕ) (children younger : Forest) → IsMember q own → IsMember (lies_at (age ∷ []) q) (places (Tree age own children younger))
+has_place q age own children younger m = member-append_right (lies_at (age ∷ []) q) (map (below age) (places children)) (map (lies_at (age ∷ [])) own ++ places younger) (member-append_left (lies_at (age ∷ []) q) (map (lies_at (age ∷ [])) own) (places younger) (member-map (lies_at (age ∷ [])) q own m))
+
+-- no age of a forest is below the first age of a forest with the same places
+first_age : (age age' : ℕ) (own own' : List ℕ) (children children' younger younger' : Forest) → own ≢ [] → AgesRise (age' + 1) children' → AgesRise (age' + 1) younger' → places (Tree age own children younger) ≡ places (Tree age' own' children' younger') → age' ≤ age
+first_age age age' own own' children children' younger younger' some c y e =
+    let s = some_state own some in
+    let u = places_from age' (Tree age' own' children' younger') (omega arith, c, y) (lies_at (age ∷ []) s.0) (subst (IsMember (lies_at (age ∷ []) s.0)) e (has_place s.0 age own children younger s.1)) in
+    let same : age ∷ [] ≡ u.name ∷ u.rest = u.is in
+    let here : age ≡ u.name = cc in
+    let l = u.least in
+    omega arith
+
+-- two forests with the same places are one
+pub places_same : (x y : ℕ) (f g : Forest) → AgesRise x f → AgesRise y g → OwnsAreSets f → OwnsAreSets g → places f ≡ places g → f ≡ g
+places_same x y Empty Empty rise rise' owns owns' e = refl
+places_same x y Empty (Tree age own children younger) rise rise' owns owns' e =
+    let s = some_state own owns'.0 in
+    absurd (subst (IsMember (lies_at (age ∷ []) s.0)) (sym e) (has_place s.0 age own children younger s.1))
+places_same x y (Tree age own children younger) Empty rise rise' owns owns' e =
+    let s = some_state own owns.0 in
+    absurd (subst (IsMember (lies_at (age ∷ []) s.0)) e (has_place s.0 age own children younger s.1))
+places_same x y (Tree age own children younger) (Tree age' own' children' younger') rise rise' owns owns' e =
+    let low = first_age age age' own own' children children' younger younger' owns.0 rise'.1 rise'.2 e in
+    let high = first_age age' age own' own children' children younger' younger owns'.0 rise.1 rise.2 (sym e) in
+    let same : age' ≡ age = omega arith in
+    let c : AgesRise (age + 1) children' = subst (λ v. AgesRise (v + 1) children') same rise'.1 in
+    let d : AgesRise (age + 1) younger' = subst (λ v. AgesRise (v + 1) younger') same rise'.2 in
+    let p = parts_same age own own' children children' younger younger' rise.1 c rise.2 d (e ∙ ap (λ v. places (Tree v own' children' younger')) same) in
+    let children_are = places_same (age + 1) (age + 1) children children' rise.1 c owns.2 owns'.2 p.0 in
+    let younger_are = places_same (age + 1) (age + 1) younger younger' rise.2 d owns.3 owns'.3 p.2 in
+    λ i. Tree (sym same i) (p.1 i) (children_are i) (younger_are i)
