@@ -50,3 +50,19 @@ pub mod InOrder
 pub mod PlacesInOrder
 -- sets and rows of vertices, one more at a time
 pub mod Joined
+-- how often a number stands in a list
+pub mod Times
+-- items by ascending states
+pub mod Arranged
+-- forests: the states that lie in them, with their stacks
+pub mod Forests
+-- the tree of a history stands for a history
+pub mod Proper
+-- the order of the places of a forest is the order of offers
+pub mod Postorder
+-- the first item of each state
+pub mod Firsts
+-- the tree of all offers
+pub mod Moved
+-- a tree without repeats
+pub mod Fresh
