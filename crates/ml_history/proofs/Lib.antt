@@ -44,6 +44,12 @@ pub mod Putting
 pub mod PlainStep
 -- letters stand for sets
 pub mod LetterSets
+-- lists in the order of a relation
+pub mod InOrder
+-- places stand in the order of offers
+pub mod PlacesInOrder
+-- sets and rows of vertices, one more at a time
+pub mod Joined
 -- how often a number stands in a list
 pub mod Times
 -- items by ascending states

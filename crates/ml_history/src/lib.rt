@@ -16,6 +16,7 @@ mod marking;
 mod offering;
 mod plain;
 mod renumbering;
+mod tree;
 #[cfg(test)]
 mod tests;
 
