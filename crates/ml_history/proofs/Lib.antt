@@ -74,3 +74,5 @@ pub mod Settled
 pub mod Renewed
 -- the history step on trees is the history step
 pub mod TreeSteps
+-- rows of vertices in the program
+pub mod Rows

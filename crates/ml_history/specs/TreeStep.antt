@@ -19,7 +19,10 @@
 --   fulls f                ==    the names of the full vertices of f, of those too that lie below others
 --   renewed n f            == 4. the ages through the function n, and the states of each vertex in their order
 --   walked f l             == the tree after the first two passes
-use Rattle.std.specs.Prelude.{ℕ, ◌+◌, Bool, true, false, not, ◌&&◌, ◌||◌, if◌then◌else◌, ◌==◌, List, [], ◌∷◌, ◌++◌, map, filter}
+--   beside f g             == the siblings f, and behind them the siblings g
+--   seen_by set            == the test for the states of a set that a program holds
+use Rattle.std.specs.Prelude.{ℕ, ◌+◌, Bool, true, false, not, ◌&&◌, ◌||◌, if◌then◌else◌, ◌==◌, nat_eq, List, [], ◌∷◌, ◌++◌, map, filter}
+use Rattle.std.specs.HashSet.{HashSet, contains}
 use Rattle.std.specs.List.{flat_map}
 use Rattle.ml_lists.specs.Ascending.{ascending}
 use Rattle.ml_trace.specs.declared.letters.Transition.{Transition}
@@ -108,3 +111,14 @@ renewed n (Tree age own children younger) = Tree (n age) (ascending own) (renewe
 -- the tree of the first offers to each state
 abbrev pub walked : Forest → List Transition → Forest
 walked f letter = fresh nobody (moved (live (items f)) (targets letter) Empty f)
+
+-- ---- in the program
+
+-- the siblings f, and behind them the siblings g
+abbrev pub beside : Forest → Forest → Forest
+beside Empty g = g
+beside (Tree age own children younger) g = Tree age own children (beside younger g)
+
+-- the test for the states of a set that a program holds
+abbrev pub seen_by : {S : Type 0} → HashSet ℕ S → ℕ → Bool
+seen_by set q = contains nat_eq set q

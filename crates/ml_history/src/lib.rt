@@ -10,6 +10,7 @@
 // game, whose positions hold a history.
 #![tactic(auto)]
 
+mod drafts;
 mod items;
 pub mod laws;
 mod marking;
