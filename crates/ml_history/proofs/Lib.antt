@@ -66,3 +66,7 @@ pub mod Firsts
 pub mod Moved
 -- a tree without repeats
 pub mod Fresh
+-- the items of a tree in the order of offers
+pub mod OfferOrder
+-- histories as the program keeps them
+pub mod Kept
