@@ -76,3 +76,7 @@ pub mod Renewed
 pub mod TreeSteps
 -- rows of vertices in the program
 pub mod Rows
+-- the items of a tree in the order of offers
+pub mod OfferOrder
+-- histories as the program keeps them
+pub mod Kept

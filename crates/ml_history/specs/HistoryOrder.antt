@@ -15,10 +15,11 @@ use Rattle.std.specs.Prelude.{◌≡◌, ℕ, Bool, true, false, ◌&&◌, ◌==
 use Rattle.std.specs.List.{flat_map}
 use Rattle.std.specs.declared.cmp.Ordering.{Ordering}
 use Rattle.std.specs.Ordering.{nat_cmp, on, then_cmp, eq_of_both, eq_by_cmp}
-use Rattle.std.specs.Cmp.{IsTotalOrder, IsEquivalence, both_tied, unsigned_ties}
-use Rattle.std.specs.Cmp.Lexicographic.{pointwise, slice_cmp, lists_ties, texts_ties}
+use Rattle.std.specs.Cmp.{IsTotalOrder, IsEquivalence, both_tied, unsigned_ties, first_so, second_so}
+use Rattle.std.specs.Cmp.Lexicographic.{pointwise, slice_cmp, lists_ties, texts_ties, bytes_decides}
 use Rattle.std.specs.Hash.{HashWrites}
 use Rattle.std.specs.Hash as fed
+use Rattle.std.proofs.lemmas.Bool.{eqb-true}
 use Rattle.std.proofs.lemmas.Cmp.{on_total, then_total, on_equiv, and_equiv, nat_cmp_total, nat_eq_equiv, nat_list_cmp_total, nat_list_eq_equiv, lists_total, lists_equiv}
 use Rattle.ml_trace.specs.Stack.{Item}
 use Rattle.ml_history.specs.HistoryStep.{beats, last_name}
@@ -74,3 +75,19 @@ history_cmp_total = lists_total (then_total (on_total (λ (a : Item ℕ). a.stat
 
 pub history_ties : (h g : List (Item ℕ)) → history_eq h g ≡ eq_by_cmp history_cmp h g
 history_ties h g = lists_ties item_cmp item_ties h g
+
+-- histories of which history_eq holds are one
+item_eq-same : (a b : Item ℕ) → item_eq a b ≡ true → a ≡ b
+item_eq-same a b e =
+    let states_same = eqb-true a.state b.state (first_so (nat_eq a.state b.state) (pointwise nat_eq a.stack b.stack) e) in
+    let stacks_are = (bytes_decides a.stack b.stack).0 (second_so (nat_eq a.state b.state) (pointwise nat_eq a.stack b.stack) e) in
+    λ i. record { state = states_same i; stack = stacks_are i }
+
+pub history_eq-same : (h g : List (Item ℕ)) → history_eq h g ≡ true → h ≡ g
+history_eq-same [] [] e = refl
+history_eq-same [] (b ∷ bs) e = absurd (cc)
+history_eq-same (a ∷ as') [] e = absurd (cc)
+history_eq-same (a ∷ as') (b ∷ bs) e =
+    let here = item_eq-same a b (first_so (item_eq a b) (history_eq as' bs) e) in
+    let rest = history_eq-same as' bs (second_so (item_eq a b) (history_eq as' bs) e) in
+    λ i. here i ∷ rest i

@@ -18,9 +18,11 @@ mod offering;
 mod plain;
 mod renumbering;
 mod tree;
+mod tree_history;
 #[cfg(test)]
 mod tests;
 
 pub use items::Stacked;
 pub use ml_trace::Mark;
 pub use plain::PlainHistory;
+pub use tree_history::History;

@@ -15,7 +15,7 @@ use std::hash::Hasher;
 use std::marker::Model;
 
 /// A vertex of a history as a tree: its age, the states whose stack ends at it, and its children, the older ones first.
-#[derive(Drop)]
+#[derive(Debug, Drop)]
 pub(crate) struct Vertex {
     pub(crate) age: u32,
     pub(crate) own: IdSet,

@@ -1,0 +1,128 @@
+// Histories as trees.
+ghost use Rattle.std.specs.Prelude.{◌≡◌, ◌<◌, ◌^◌, ◌↔◌, IsTrue, IfOk, map, fold};
+ghost use Rattle.ml_history.specs.History.{start, IsHistory};
+ghost use Rattle.ml_history.specs.HistoryOrder.{history_eq, history_eq_equiv, hash_writes};
+ghost use Rattle.ml_history.specs.HistoryStep.{live};
+ghost use Rattle.ml_history.specs.Stacks.{stacked};
+
+use crate::tree::{Vertex, above, copied, feed, push_places, same};
+use ml_base::{IdSet, NoMemory};
+use std::alloc::Global;
+use std::hash::{Hash, Hasher};
+use std::marker::Model;
+
+/// A history: some states of the trace automaton, each with a stack of names. Contracts see the list of the states with
+/// their stacks, by ascending states.
+///
+/// It is held as a tree: a vertex for each name, and the stack of a state is the way from the root down to the vertex at
+/// which the state lies. The type keeps that siblings are disjoint, that some state lies at each vertex (so children lie
+/// properly inside their parent), that a child is younger than its parent and younger siblings stand to the right, that
+/// the names are 0 to one less than their count, and that states have numbers below 2^30. A history without states has
+/// no root.
+#[derive(Debug, Drop)]
+pub struct History {
+    roots: Vec<Vertex>,
+}
+
+impl Model for History {
+    ghost use Rattle.std.specs.Prelude.{ℕ, List};
+    ghost use Rattle.ml_trace.specs.Stack.{Item};
+
+    ghost Value = { List (Item ℕ) };
+
+    ghost use Rattle.ml_history.specs.Forest.{items};
+    ghost use Rattle.ml_history.specs.Vertices.{joined, IsKept};
+
+    ghost view = { λ h. items (joined h.roots.items) };
+
+    ghost invariant = { λ h. IsKept (joined h.roots.items) };
+}
+
+impl History {
+    /// The history of one state, with the stack 0. The state has a number below 2^30. O(1).
+    ///
+    /// # Errors
+    /// `NoMemory` alone.
+    pub fn start(alloc: Global, state: u32) -> Result<History, NoMemory>
+        requires { state < 2 ^ 30 }
+        ensures { IfOk result (λ h. h ≡ start state) }
+    {
+        let mut own = IdSet::new(alloc);
+        own.insert(state)?;
+        let mut roots = Vec::new(alloc);
+        roots.push(Vertex {
+            age: 0,
+            own,
+            children: Vec::new(alloc),
+        })?;
+        Ok(History { roots })
+    }
+
+    /// The states with their stacks, the innermost name last, by ascending states.
+    ///
+    /// # Errors
+    /// `NoMemory` alone.
+    ///
+    /// Cost: linear in the names of all stacks, and the sort of the states.
+    pub fn stacks(&self) -> Result<Vec<(u32, Vec<u32>)>, NoMemory>
+        ensures { IfOk result (λ all. map stacked all.items ≡ self.now) }
+    {
+        let alloc = *self.roots.allocator();
+        let mut stacks = Vec::new(alloc);
+        push_places(alloc, self.roots.as_slice(), &[], &mut stacks)?;
+        stacks.sort_by_key(|a| a.0)?;
+        Ok(stacks)
+    }
+
+    /// The number of names in use. It takes no memory, and is linear in them.
+    pub fn live(&self) -> u32
+        ensures value { result ≡ live self.now }
+        ensures history { IsHistory self.now }
+    {
+        above(self.roots.as_slice()) as u32
+    }
+
+    /// An equal history.
+    ///
+    /// # Errors
+    /// `NoMemory` alone.
+    ///
+    /// Cost: a sorted list is made of the states of each vertex again.
+    pub fn copy(&self) -> Result<History, NoMemory>
+        ensures { IfOk result (λ copy. copy ≡ self.now) }
+    {
+        Ok(History {
+            roots: copied(*self.roots.allocator(), self.roots.as_slice())?,
+        })
+    }
+}
+
+/// Two histories are equal exactly where their states with their stacks are.
+impl PartialEq for History {
+    ghost use Rattle.std.specs.Cmp.{partial_equiv_from_equiv};
+
+    ghost eq = { history_eq };
+
+    ghost laws = { partial_equiv_from_equiv history_eq_equiv };
+
+    fn eq(&self, other: &History) -> bool {
+        same(self.roots.as_slice(), other.roots.as_slice())
+    }
+}
+
+impl Eq for History {
+    ghost laws = { history_eq_equiv };
+}
+
+impl Hash for History {
+    ghost use Rattle.std.proofs.Common.{ap};
+    ghost use Rattle.ml_history.specs.HistoryOrder.{history_eq-same};
+
+    ghost hash_input = { hash_writes };
+
+    ghost respects_eq = { λ h g e. ap hash_writes (history_eq-same h g e) };
+
+    fn hash<H: Hasher>(&self, state: &mut H) {
+        feed(self.roots.as_slice(), state);
+    }
+}
