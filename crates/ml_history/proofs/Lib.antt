@@ -70,3 +70,5 @@ pub mod Fresh
 pub mod OfferOrder
 -- histories as the program keeps them
 pub mod Kept
+-- the transitions that leave a state
+pub mod Leaving

@@ -11,6 +11,7 @@
 #![tactic(auto)]
 
 mod items;
+mod moves;
 pub mod laws;
 mod marking;
 mod offering;
