@@ -139,7 +139,7 @@ stacked_states : (ss : List (ℕ × Vec ℕ Global)) → map state_of (map stack
 stacked_states [] = refl
 stacked_states (s ∷ ss) = ap (λ l. s.0 ∷ l) (stacked_states ss)
 
-permuted-member : {X : Type 0} (v : X) (xs ys : List X) → IsPermutation xs ys → IsMember v xs → IsMember v ys
+pub permuted-member : {X : Type 0} (v : X) (xs ys : List X) → IsPermutation xs ys → IsMember v xs → IsMember v ys
 permuted-member v xs ys p m = member_of_contains v ys (Contains-permutation xs ys v p (contains_of_member v xs m))
 
 -- states with their stacks, sorted by states, are the items

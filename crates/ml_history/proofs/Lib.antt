@@ -80,3 +80,5 @@ pub mod Rows
 pub mod OfferOrder
 -- histories as the program keeps them
 pub mod Kept
+-- the transitions that leave a state
+pub mod Leaving

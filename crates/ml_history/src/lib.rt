@@ -12,6 +12,7 @@
 
 mod drafts;
 mod items;
+mod moves;
 pub mod laws;
 mod marking;
 mod offering;
