@@ -82,3 +82,7 @@ pub mod OfferOrder
 pub mod Kept
 -- the transitions that leave a state
 pub mod Leaving
+-- states that were seen
+pub mod Seen
+-- what the walk over a tree makes, vertex by vertex
+pub mod Laying

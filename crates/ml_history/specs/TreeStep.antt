@@ -21,7 +21,9 @@
 --   walked f l             == the tree after the first two passes
 --   beside f g             == the siblings f, and behind them the siblings g
 --   seen_by set            == the test for the states of a set that a program holds
-use Rattle.std.specs.Prelude.{ℕ, ◌+◌, Bool, true, false, not, ◌&&◌, ◌||◌, if◌then◌else◌, ◌==◌, nat_eq, List, [], ◌∷◌, ◌++◌, map, filter}
+--   Laid                   == what a walk over a forest makes: the settled tree of first offers, with the states that
+--                             are seen then, and the full names
+use Rattle.std.specs.Prelude.{◌≡◌, ℕ, ◌+◌, Bool, true, false, not, ◌&&◌, ◌||◌, if◌then◌else◌, ◌==◌, nat_eq, List, [], ◌∷◌, ◌++◌, map, filter}
 use Rattle.std.specs.HashSet.{HashSet, contains}
 use Rattle.std.specs.List.{flat_map}
 use Rattle.ml_lists.specs.Ascending.{ascending}
@@ -122,3 +124,10 @@ beside (Tree age own children younger) g = Tree age own children (beside younger
 -- the test for the states of a set that a program holds
 abbrev pub seen_by : {S : Type 0} → HashSet ℕ S → ℕ → Bool
 seen_by set q = contains nat_eq set q
+
+-- what the walk over the forest f of all offers makes, where the states of the test `before` are seen and the names
+-- `names` are known to be full: the settled tree `row`, with the states that are seen then and the full names
+pub record Laid (before : ℕ → Bool) (names : List ℕ) (f : Forest) (row : Forest) (after : ℕ → Bool) (full : List ℕ) : Type 0 where
+  pub row_is : row ≡ settled (fresh before f)
+  pub seen_is : after ≡ with_all (states f) before
+  pub full_is : full ≡ names ++ fulls (fresh before f)

@@ -20,6 +20,7 @@ mod plain;
 mod renumbering;
 mod tree;
 mod tree_history;
+mod walk;
 #[cfg(test)]
 mod tests;
 
