@@ -2,13 +2,17 @@
 --
 --   states_next     == the states that were gathered, with one vertex more
 --   joined-append   == a row behind a row stands for the one forest beside the other
+--   row_names_here, row_names_below == the names of a vertex of a row, and of those below it, are names of the row
 --   laid_own, laid_full, laid_none == a row with a vertex laid beside it
-use Rattle.std.proofs.Common.{ℕ, ◌≡◌, ◌+◌, ◌<◌, arith, Bool, true, false, eqb, List, [], ◌∷◌, ◌++◌, length, get_or, take, refl, sym, subst, ap, ◌∙◌, append_assoc}
+use Rattle.std.proofs.Common.{ℕ, suc, ◌≡◌, ◌+◌, ◌<◌, inl, arith, Bool, true, false, eqb, List, [], ◌∷◌, ◌++◌, length, get_or, take, drop, refl, sym, subst, ap, ◌∙◌, append_assoc}
 use Rattle.std.proofs.lemmas.Bool.{eqb-true}
+use denote.Param.Weighed.{most, at_most}
+use Rattle.ml_lists.specs.Member.{IsMember}
+use Rattle.ml_lists.proofs.Member.{member-append_left, member-append_right}
 use Rattle.ml_history.specs.Forest.{Forest, Empty, Tree, names, states}
 use Rattle.ml_history.specs.TreeStep.{lay, lay_full, full_here, beside}
-use Rattle.ml_history.specs.Vertices.{Rooted, joined}
-use Rattle.ml_history.proofs.Joined.{rooted, row_next}
+use Rattle.ml_history.specs.Vertices.{Rooted, joined, vertices, most-vertices}
+use Rattle.ml_history.proofs.Joined.{rooted, row_next, row_at, names_part}
 
 states_part : (v : Rooted) (y : Forest) → states (Tree v.age v.own v.children y) ≡ (states v.children ++ v.own) ++ states y
 states_part v y = sym (append_assoc (states v.children) v.own (states y))
@@ -77,3 +81,31 @@ pub laid_none : (age : ℕ) (own : List ℕ) (children : Forest) (all : List ℕ
 laid_none age own children all before b d e t is g h =
     sym (beside-empty (joined before))
     ∙ ap (beside (joined before)) (ap (λ qs. lay_full age qs Empty) (sym (none_of all d g h) ∙ is) ∙ ap (λ o. lay age o children Empty) (sym (none_of own b e t)))
+
+-- ---- names of a row
+
+-- the name of a vertex of a row, and those below it, are names of the row
+pub row_names : (s : List Rooted) (i age : ℕ) (own : List ℕ) (children : Forest) (v : Rooted) → rooted age own children ≡ v → i < length s → v ≡ get_or s i v → (x : ℕ) → IsMember x (names children ++ age ∷ []) → IsMember x (names (joined s))
+row_names s i age own children v view low at x m =
+    let e : rooted age own children ≡ get_or s i (rooted age own children) = subst (λ u. u ≡ get_or s i u) (sym view) at in
+    let parts = row_at names (λ u. names u.children ++ u.age ∷ []) refl names_part s i (rooted age own children) low e in
+    subst (IsMember x) (sym parts)
+    (member-append_right x (names (joined (take i s))) ((names children ++ age ∷ []) ++ names (joined (drop (suc i) s)))
+    (member-append_left x (names children ++ age ∷ []) (names (joined (drop (suc i) s))) m))
+
+pub row_names_below : (s : List Rooted) (i age : ℕ) (own : List ℕ) (children : Forest) (v : Rooted) → rooted age own children ≡ v → i < length s → v ≡ get_or s i v → (x : ℕ) → IsMember x (names children) → IsMember x (names (joined s))
+row_names_below s i age own children v view low at x m = row_names s i age own children v view low at x (member-append_left x (names children) (age ∷ []) m)
+
+pub row_names_here : (s : List Rooted) (i age : ℕ) (own : List ℕ) (children : Forest) (v : Rooted) → rooted age own children ≡ v → i < length s → v ≡ get_or s i v → IsMember age (names (joined s))
+row_names_here s i age own children v view low at = row_names s i age own children v view low at age (member-append_right age (names children) (age ∷ []) (inl refl))
+
+-- ---- the measure of a walk over rows
+
+-- the children of a vertex of a row are smaller than the row
+pub row_falls : (s : List Rooted) (i age : ℕ) (own : List ℕ) (cs row : List Rooted) (v : Rooted) → rooted age own (joined cs) ≡ v → i < length s → v ≡ get_or s i v → row ≡ cs → most (λ u. vertices u.children + 1) row < most (λ u. vertices u.children + 1) s
+row_falls s i age own cs row v view low at is =
+    let inner = most-vertices row in
+    let same = ap (λ vs. vertices (joined vs)) is in
+    let here = ap (λ u. vertices u.children) (view ∙ at) in
+    let one = at_most (λ (u : Rooted). vertices u.children + 1) s i v low in
+    omega arith
