@@ -86,3 +86,5 @@ pub mod Leaving
 pub mod Seen
 -- what the walk over a tree makes, vertex by vertex
 pub mod Laying
+-- flags for names, and the numbers that are counted from them
+pub mod Flags

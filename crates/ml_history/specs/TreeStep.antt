@@ -21,9 +21,10 @@
 --   walked f l             == the tree after the first two passes
 --   beside f g             == the siblings f, and behind them the siblings g
 --   seen_by set            == the test for the states of a set that a program holds
+--   flagged flags          == the test for the numbers whose flags are set
 --   Laid                   == what a walk over a forest makes: the settled tree of first offers, with the states that
 --                             are seen then, and the full names
-use Rattle.std.specs.Prelude.{◌≡◌, ℕ, ◌+◌, Bool, true, false, not, ◌&&◌, ◌||◌, if◌then◌else◌, ◌==◌, nat_eq, List, [], ◌∷◌, ◌++◌, map, filter}
+use Rattle.std.specs.Prelude.{◌≡◌, ℕ, ◌+◌, Bool, true, false, not, ◌&&◌, ◌||◌, if◌then◌else◌, ◌==◌, nat_eq, List, [], ◌∷◌, ◌++◌, map, filter, slice_index_or}
 use Rattle.std.specs.HashSet.{HashSet, contains}
 use Rattle.std.specs.List.{flat_map}
 use Rattle.ml_lists.specs.Ascending.{ascending}
@@ -124,6 +125,10 @@ beside (Tree age own children younger) g = Tree age own children (beside younger
 -- the test for the states of a set that a program holds
 abbrev pub seen_by : {S : Type 0} → HashSet ℕ S → ℕ → Bool
 seen_by set q = contains nat_eq set q
+
+-- the test for the numbers whose flags are set
+abbrev pub flagged : List Bool → ℕ → Bool
+flagged flags y = slice_index_or flags y false
 
 -- what the walk over the forest f of all offers makes, where the states of the test `before` are seen and the names
 -- `names` are known to be full: the settled tree `row`, with the states that are seen then and the full names

@@ -17,6 +17,7 @@ pub mod laws;
 mod marking;
 mod offering;
 mod plain;
+mod renewal;
 mod renumbering;
 mod tree;
 mod tree_history;
