@@ -12,6 +12,7 @@ use Rattle.std.proofs.lemmas.List.Folds.{list_any-append}
 use Rattle.std.proofs.Math.ListN.{set, replicate}
 use Rattle.std.specs.List.Sorted.{IsPermutation}
 use Rattle.ml_lists.specs.Ascending.{IsAscending, ascending, insert_once}
+use Rattle.ml_lists.specs.Counting.{count}
 use Rattle.ml_lists.specs.Member.{IsMember}
 use Rattle.ml_lists.proofs.Ascending.{member-ascending, ascending-member, ascending-is, ascending_same, insert_once-is, insert_once-member, member-insert_once, insert_once-keeps}
 use Rattle.ml_lists.proofs.Member.{member-append, member-append_left, member-append_right}
@@ -127,3 +128,11 @@ renewed-same n m (Tree a o c y) same =
     let children = renewed-same n m c (λ z i. same z (member-append_left z (names c) (a ∷ names y) i)) in
     let younger = renewed-same n m y (λ z i. same z (member-append_right z (names c) (a ∷ names y) (inr i))) in
     λ i. Tree (here i) (ascending o) (children i) (younger i)
+
+-- vertices with the numbers that were counted from the flags of their names
+pub row_numbers : (f : Forest) (row : Forest) (names_are : List ℕ) (flags : List Bool) (numbers : List ℕ) (bound : ℕ) → names_are ≡ names f → flagged flags ≡ (λ y. has y names_are) → length flags ≡ bound → ((y : ℕ) → IsMember y (names f) → y < bound) → ((y : ℕ) → y < length flags → get_or numbers y 0 ≡ count (flagged flags) y) → row ≡ renewed (λ y. get_or numbers y 0) f → row ≡ renewed (λ y. count (λ z. has z (names f)) y) f
+row_numbers f row names_are flags numbers bound same tests long low counted is =
+    is
+    ∙ renewed-same (λ y. get_or numbers y 0) (λ y. count (flagged flags) y) f (λ y m. counted y (let h = low y m in omega arith))
+    ∙ ap (λ test. renewed (λ y. count test y) f) tests
+    ∙ ap (λ ns. renewed (λ y. count (λ z. has z ns) y) f) same

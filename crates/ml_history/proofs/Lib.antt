@@ -88,3 +88,5 @@ pub mod Seen
 pub mod Laying
 -- flags for names, and the numbers that are counted from them
 pub mod Flags
+-- the step of a history that the program holds, from its parts
+pub mod TreeProgram

@@ -7,6 +7,7 @@
 --   settled-places           == its stacks are cut
 --   settled-names, settled-apart, settled-rise, settled-root, settled-some == what the settled tree keeps
 --   fulls-from, fulls-has    == the names of the full vertices are those that are full
+--   settled-names, fulls-names == these, and those of the settled tree, are names of the tree
 use Rattle.std.proofs.Common.{ℕ, ◌≡◌, ◌≢◌, ◌+◌, ◌≤◌, ◌⊎◌, inl, inr, arith, Bool, true, false, not, ◌&&◌, ◌||◌, eqb, List, [], ◌∷◌, ◌++◌, map, refl, sym, subst, ap, ◌∙◌}
 use Rattle.std.proofs.lemmas.Bool.{cases_Bool, eq-eqb, ne_eqb, or_left, and_left, and_right, not_from_true, and_from, not_from_false}
 use Rattle.std.proofs.lemmas.List.{map-append}
@@ -22,7 +23,7 @@ use Rattle.ml_history.proofs.Arranged.{state_of}
 use Rattle.ml_history.proofs.Cut.{through-stops, through-goes}
 use Rattle.ml_history.proofs.Forests.{places-states, places-not_empty, places-names, OwnsSome}
 use Rattle.ml_history.proofs.Names.{Standing, Ending, stands-from, stands-in, is_last-from, is_last-in}
-use Rattle.ml_history.proofs.Times.{times, times-append, apart-times, times-apart, apart-left, apart-right, apart-both}
+use Rattle.ml_history.proofs.Times.{times, times-append, times-member, member-times, apart-times, times-apart, apart-left, apart-right, apart-both}
 
 -- whether a vertex is full, at which the states o lie, and below which the states qs
 abbrev pub is_full_here : List ℕ → List ℕ → Bool
@@ -352,3 +353,28 @@ fulls-has full (Tree a o c y) z at m passes = by_part (member-append z (names c)
     by_part (inr (inl same)) children rest =
         member-append_right z (fulls c) (full_here a o (states c) ++ fulls y) (member-append_left z (full_here a o (states c)) (fulls y) (here o (states c) at.0 same))
     by_part (inr (inr i)) children rest = member-append_right z (fulls c) (full_here a o (states c) ++ fulls y) (member-append_right z (full_here a o (states c)) (fulls y) (rest i))
+
+-- ---- names of full vertices and of the settled tree
+
+-- the names of the settled tree are names of the tree
+pub settled-names : (f : Forest) (z : ℕ) → IsMember z (names (settled f)) → IsMember z (names f)
+settled-names f z m = member-times z (names f) (let le = settled-times f z in let one = times-member z (names (settled f)) m in omega arith)
+
+-- so are those of full vertices
+pub fulls-names : (f : Forest) (z : ℕ) → IsMember z (fulls f) → IsMember z (names f)
+fulls-names Empty z m = absurd m
+fulls-names (Tree a o c y) z m = by_part (member-append z (fulls c) (full_here a o (states c) ++ fulls y) m) (fulls-names c z) (fulls-names y z)
+  where
+    here : (own qs : List ℕ) → IsMember z (full_here a own qs) → z ≡ a
+    here [] [] i = absurd i
+    here [] (q ∷ qs) (inl same) = same
+    here [] (q ∷ qs) (inr none) = absurd none
+    here (p ∷ ps) qs i = absurd i
+
+    behind : IsMember z (full_here a o (states c)) ⊎ IsMember z (fulls y) → (IsMember z (fulls y) → IsMember z (names y)) → IsMember z (names (Tree a o c y))
+    behind (inl i) rest = member-append_right z (names c) (a ∷ names y) (inl (here o (states c) i))
+    behind (inr i) rest = member-append_right z (names c) (a ∷ names y) (inr (rest i))
+
+    by_part : IsMember z (fulls c) ⊎ IsMember z (full_here a o (states c) ++ fulls y) → (IsMember z (fulls c) → IsMember z (names c)) → (IsMember z (fulls y) → IsMember z (names y)) → IsMember z (names (Tree a o c y))
+    by_part (inl i) children rest = member-append_left z (names c) (a ∷ names y) (children i)
+    by_part (inr i) children rest = behind (member-append z (full_here a o (states c)) (fulls y) i) rest

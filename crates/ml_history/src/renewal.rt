@@ -134,3 +134,26 @@ pub(crate) fn renewed(alloc: Global, drafts: &[Draft], numbers: &[u32]) -> Resul
     }
     Ok(row)
 }
+
+// The vertices of the drafts with the new numbers of their names, and the mark of the step: `used` names were in use
+// before it, and `full` has the names of full vertices.
+pub(crate) fn renew(
+    alloc: Global,
+    used: u32,
+    drafts: &[Draft],
+    full: &[u32],
+) -> Result<(Vec<Vertex>, Mark), NoMemory>
+    requires few { used ≤ 2 ^ 30 }
+    requires names { (y : ℕ) → IsMember y (names (joined drafts.now)) → y < 2 * used }
+    requires full { (y : ℕ) → IsMember y full.now → y < 2 * used }
+    ensures row { IfOk result (λ r. joined r.0.items ≡ renewed (λ y. count (λ z. has z (names (joined drafts.now))) y) (joined drafts.now)) }
+    ensures mark { IfOk result (λ r. r.1 ≡ mark_of (least (λ y. nat_lt y used && not (has y (names (joined drafts.now)))) (2 * used)) (least (λ y. has y full.now && has y (names (joined drafts.now))) (2 * used))) }
+{
+    let names = names_of(alloc, drafts)?;
+    let standing = flags_of(alloc, names.as_slice(), 2 * used)?;
+    let full = flags_of(alloc, full, 2 * used)?;
+    let mark = mark(used, full.as_slice(), standing.as_slice());
+    let numbers = numbers(alloc, standing.as_slice())?;
+    let row = renewed(alloc, drafts, numbers.as_slice())?;
+    Ok((row, mark))
+}
