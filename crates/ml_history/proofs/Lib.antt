@@ -72,3 +72,5 @@ pub mod OfferOrder
 pub mod Kept
 -- the transitions that leave a state
 pub mod Leaving
+-- how trees compare, state by state
+pub mod ByState

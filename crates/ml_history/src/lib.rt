@@ -10,6 +10,7 @@
 // game, whose positions hold a history.
 #![tactic(auto)]
 
+mod comparing;
 mod items;
 mod moves;
 pub mod laws;
