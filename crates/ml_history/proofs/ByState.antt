@@ -7,14 +7,13 @@
 --   places_stack        == the stack of the item of a state is the one found in the tree
 --   next_none, next_some   == the items from n on, by their first state
 --   compares_next       == how they compare
-use Rattle.std.proofs.Common.{◌≡◌, ℕ, suc, ◌+◌, ◌^◌, ◌<◌, ◌≤◌, ◌⊎◌, inl, inr, min, arith, Bool, true, false, not, ◌||◌, cond, eqb, ltb, Option, Some, None, List, [], ◌∷◌, ◌++◌, length, get_or, take, drop, map, filter, refl, sym, subst, ap, ◌∙◌, append_assoc}
-use Rattle.std.specs.List.{find, list_any}
+use Rattle.std.proofs.Common.{◌≡◌, ℕ, suc, ◌+◌, ◌<◌, ◌≤◌, ◌⊎◌, inl, inr, min, arith, Bool, true, false, not, ◌||◌, cond, eqb, ltb, Option, Some, None, List, [], ◌∷◌, ◌++◌, length, get_or, take, drop, map, refl, sym, subst, ap, ◌∙◌, append_assoc}
 use Rattle.std.specs.declared.cmp.Ordering.{Ordering}
 use Rattle.std.specs.declared.cmp.Ordering.TheVariants.{Less, Equal, Greater}
 use Rattle.std.specs.Ordering.{ordering_then, nat_cmp, is_eq}
 use Rattle.std.specs.Cmp.{unsigned_ties}
 use Rattle.std.specs.Cmp.Lexicographic.{slice_cmp}
-use Rattle.std.proofs.lemmas.Bool.{cases_Bool, cond-true, cond-false, eqb-true, eqb-false, eq-eqb, ltb-true, ltb-false, lt-ltb, le-ltb, ne_eqb, cases_eq, cases_lt}
+use Rattle.std.proofs.lemmas.Bool.{cases_Bool, cond-true, cond-false, eqb-true, eq-eqb, ltb-true, ltb-false, lt-ltb, le-ltb, cases_eq, cases_lt}
 use Rattle.std.proofs.lemmas.List.{take_more}
 use Rattle.std.proofs.lemmas.List.Folds.{list_any-append}
 use Rattle.ml_lists.specs.Ascending.{IsAscending}
@@ -22,7 +21,7 @@ use Rattle.ml_lists.specs.Member.{IsMember}
 use Rattle.ml_lists.proofs.Member.{Image, member-append, member-append_left, member-append_right, member-map, member-map_from, member-list_any, list_any-member}
 use Rattle.ml_trace.specs.Stack.{Item, has}
 use Rattle.ml_history.specs.Forest.{Forest, Empty, Tree, states, places, items, lies_at, below, IsApart, IsProper}
-use Rattle.ml_history.specs.HistoryOrder.{item_cmp, history_cmp}
+use Rattle.ml_history.specs.HistoryOrder.{history_cmp}
 use Rattle.ml_history.specs.TreeWalks.{lower, least_from, lies_in, stack_in, holder, from_state, ComparesNext}
 use Rattle.ml_history.specs.Vertices.{Rooted, joined, vertices, IsKept}
 use Rattle.ml_history.proofs.Arranged.{state_of}
