@@ -9,9 +9,9 @@
 --   firsts-apart       == no state has two
 --   firsts_taken, taken_firsts == of items in the order of offers they are what is taken
 use Rattle.std.proofs.Common.{ℕ, ◌≡◌, ◌⊎◌, inl, inr, Bool, true, false, ◌||◌, cond, eqb, List, [], ◌∷◌, ◌++◌, map, refl, sym, subst, ap, ◌∙◌}
-use Rattle.std.proofs.lemmas.Bool.{cases_Bool, cases_eq, cond-true, cond-false, or_left, or_right, or_cases, eqb-true, eq-eqb, ne_eqb}
+use Rattle.std.proofs.lemmas.Bool.{cases_Bool, cases_eq, cond-true, cond-false, or_left, or_right, eq-eqb, ne_eqb}
 use Rattle.ml_lists.specs.Member.{IsMember}
-use Rattle.ml_lists.proofs.Member.{Image, member-map, member-map_from}
+use Rattle.ml_lists.proofs.Member.{Image, member-map_from}
 use Rattle.ml_trace.specs.Stack.{Item}
 use Rattle.ml_history.specs.Forest.{IsApart}
 use Rattle.ml_history.specs.HistoryStep.{beats, taken}

@@ -5,7 +5,7 @@
 --   fresh-rise   == its ages rise
 --   fresh-root   == it has one root
 --   fresh-apart  == no state lies in it twice
-use Rattle.std.proofs.Common.{ℕ, ◌≡◌, ◌+◌, ◌≤◌, ◌⊎◌, inl, inr, Bool, true, false, cond, List, [], ◌∷◌, ◌++◌, map, refl, sym, subst, ap, ◌∙◌}
+use Rattle.std.proofs.Common.{ℕ, ◌≡◌, ◌+◌, ◌⊎◌, inl, inr, Bool, true, false, List, [], ◌∷◌, ◌++◌, map, refl, sym, subst, ap, ◌∙◌}
 use Rattle.std.proofs.lemmas.Bool.{cases_Bool, cond-true, cond-false}
 use Rattle.ml_trace.specs.Stack.{Item}
 use Rattle.ml_history.specs.Forest.{Forest, Empty, Tree, names, states, lies_at, below, places, AgesRise, IsApart, HasOneRoot}

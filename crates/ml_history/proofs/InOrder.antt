@@ -7,7 +7,7 @@
 --   in_order-map      == the image of such a list
 --   split_same        == if two lists are each cut into a front and a back by what holds of the entries, and they are
 --                        equal, so are the fronts and the backs
-use Rattle.std.proofs.Common.{◌≡◌, ◌⊎◌, inl, inr, List, [], ◌∷◌, ◌++◌, map, refl, sym, subst, ap, ◌∙◌}
+use Rattle.std.proofs.Common.{◌≡◌, ◌⊎◌, inl, inr, List, [], ◌∷◌, ◌++◌, map, refl, sym, subst, ◌∙◌}
 use Rattle.ml_lists.specs.Member.{IsMember}
 use Rattle.ml_lists.proofs.Member.{Image, member-append, member-map_from}
 

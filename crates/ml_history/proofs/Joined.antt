@@ -5,9 +5,8 @@
 --   row_next, row_at     == a list made of a row vertex by vertex: one vertex more, and the one at a place
 --   above-append         == one more than the greatest of two lists
 --   above_next, writes_next, places_next    == what the loops over rows keep
-use Rattle.std.proofs.Common.{◌≡◌, ◌↔◌, Bool, IsTrue, ℕ, zero, suc, ◌+◌, ◌<◌, ◌≤◌, max, arith, true, false, ltb, eqb, cond, List, [], ◌∷◌, ◌++◌, length, get_or, take, drop, map, refl, sym, subst, ap, ◌∙◌, inl, inr, add-one, append_assoc}
+use Rattle.std.proofs.Common.{◌≡◌, ◌↔◌, Bool, IsTrue, ℕ, zero, suc, ◌+◌, ◌<◌, max, arith, ltb, eqb, cond, List, [], ◌∷◌, ◌++◌, length, get_or, take, drop, map, refl, sym, subst, ap, ◌∙◌, inl, inr, append_assoc}
 use Rattle.std.specs.List.{flat_map, fold}
-use Rattle.std.specs.Hash.{HashWrites}
 use Rattle.std.proofs.lemmas.Bool.{cond-false, le-ltb, ne_eqb}
 use Rattle.std.proofs.lemmas.List.{take_more, take-append-drop, map-append, append-nil}
 use Rattle.std.proofs.Math.Seq.{drop-cons}
@@ -65,9 +64,10 @@ rooted age own children = record { age = age; own = own; children = children }
 
 -- two vertices of one age with one set are the same where their children are
 pub vertex_same : (a b : ℕ) (own own' : List ℕ) (vs ws : List Rooted) (v w : Rooted) (r : Bool) → rooted a own (joined vs) ≡ v → rooted b own' (joined ws) ≡ w → a ≡ b → own ≡ own' → (IsTrue r ↔ vs ≡ ws) → (IsTrue r ↔ v ≡ w)
-vertex_same a b own own' vs ws v w r view view' e f (to, from) =
-    ( λ t. let same = to t in sym view ∙ (λ i. rooted (e i) (f i) (joined (same i))) ∙ view'
-    , λ same. from (joined_same vs ws (ap (λ (u : Rooted). u.children) (view ∙ same ∙ sym view'))) )
+vertex_same a b own own' vs ws v w r view view' e f (to, from) = (
+  λ t. let same = to t in sym view ∙ (λ i. rooted (e i) (f i) (joined (same i))) ∙ view',
+  λ same. from (joined_same vs ws (ap (λ (u : Rooted). u.children) (view ∙ same ∙ sym view'))),
+)
 
 -- a list made of a row vertex by vertex
 module _ {X : Type 0} (F : Forest → List X) (here : Rooted → List X) (empty : F Empty ≡ []) (part : (v : Rooted) (y : Forest) → F (Tree v.age v.own v.children y) ≡ here v ++ F y) where

@@ -5,7 +5,7 @@
 --   start_is_kept    == the tree of one state
 --   kept_eq          == whether the trees are one is whether the items are
 --   sorted_items     == the states with their stacks, sorted by states, are the items
-use Rattle.std.proofs.Common.{◌≡◌, ◌≢◌, ℕ, zero, suc, ◌+◌, ◌<◌, ◌≤◌, ◌^◌, ◌⊎◌, ◌↔◌, inl, inr, max, arith, Bool, IsTrue, true, false, List, [], ◌∷◌, ◌++◌, length, get_or, map, sum_by, refl, sym, subst, ap, ◌∙◌}
+use Rattle.std.proofs.Common.{◌≡◌, ℕ, suc, ◌+◌, ◌<◌, ◌≤◌, ◌^◌, ◌⊎◌, ◌↔◌, inl, inr, arith, Bool, IsTrue, true, false, List, [], ◌∷◌, get_or, map, sum_by, refl, sym, subst, ap, ◌∙◌}
 use Rattle.std.specs.List.Sorted.{IsPermutation, IsNonDecreasingBy}
 use Rattle.std.specs.Prelude.{Vec}
 use Rattle.std.specs.declared.alloc.Global.{Global}
@@ -17,14 +17,14 @@ use Rattle.ml_lists.specs.Member.{IsMember}
 use Rattle.ml_lists.proofs.Member.{Image, Place, member-map, member-map_from, member-place}
 use Rattle.ml_lists.proofs.Members.{member_of_contains, contains_of_member}
 use Rattle.ml_trace.specs.Stack.{Item}
-use Rattle.ml_history.specs.Forest.{Forest, Empty, Tree, names, states, places, items, arranged, IsApart, IsProper}
+use Rattle.ml_history.specs.Forest.{Forest, Empty, Tree, names, places, items, IsApart, IsProper}
 use Rattle.ml_history.specs.HistoryOrder.{history_eq, history_eq_equiv, history_eq-same}
 use Rattle.ml_history.specs.HistoryStep.{above, live}
 use Rattle.ml_history.specs.Plain.{IsPlain}
 use Rattle.ml_history.specs.Stacks.{stacked}
 use Rattle.ml_history.specs.TreeWalks.{behind}
 use Rattle.ml_history.specs.Vertices.{Rooted, joined, IsKept}
-use Rattle.ml_history.proofs.Arranged.{state_of, arranged-member, member-arranged, arranged-ascends, items_same}
+use Rattle.ml_history.proofs.Arranged.{state_of, arranged-member, member-arranged, items_same}
 use Rattle.ml_history.proofs.Forests.{places-states}
 use Rattle.ml_history.proofs.Joined.{joined_same}
 use Rattle.ml_history.proofs.OfferOrder.{items_determine}

@@ -2,14 +2,14 @@
 --
 --   leaving_targets  == the targets from a state are those of the transitions behind all with lower sources, and before
 --                       all with higher ones
-use Rattle.std.proofs.Common.{◌≡◌, ℕ, ◌+◌, ◌<◌, ◌≤◌, ◌⊎◌, inl, inr, arith, Bool, true, false, not, ◌&&◌, cond, eqb, ltb, leb, List, [], ◌∷◌, ◌++◌, length, get_or, take, drop, map, filter, refl, sym, subst, ap, ◌∙◌}
+use Rattle.std.proofs.Common.{◌≡◌, ℕ, ◌+◌, ◌<◌, ◌≤◌, inl, inr, arith, Bool, true, false, ◌&&◌, cond, ltb, leb, List, [], ◌∷◌, ◌++◌, length, take, drop, map, filter, refl, sym, subst, ap, ◌∙◌}
 use Rattle.std.specs.List.{AllWithin}
 use Rattle.std.specs.List.Sorted.{IsPartitionPoint}
-use Rattle.std.proofs.lemmas.Bool.{cases_Bool, cond-true, cond-false, eqb-true, eqb-false, eq-eqb, ltb-true, ltb-false, leb-true, leb-false, ne_eqb}
-use Rattle.std.proofs.lemmas.List.{take_more, take-append-drop, map-append, append-nil, get_or-take, get_or-drop, length-take-le, length-drop}
+use Rattle.std.proofs.lemmas.Bool.{eq-eqb, ltb-true, ltb-false, leb-true, leb-false, ne_eqb}
+use Rattle.std.proofs.lemmas.List.{take-append-drop, map-append, append-nil, get_or-take, get_or-drop, length-take-le, length-drop}
 use Rattle.std.proofs.lemmas.List.Elements.{filter-append}
 use Rattle.ml_lists.specs.Member.{IsMember}
-use Rattle.ml_lists.proofs.Member.{Place, member-place, member-append_left}
+use Rattle.ml_lists.proofs.Member.{member-place, member-append_left}
 use Rattle.ml_trace.specs.declared.letters.Transition.{Transition}
 use Rattle.ml_history.specs.Moves.{is_of, ends}
 use Rattle.ml_history.specs.TreeStep.{targets, leads_from}

@@ -90,3 +90,5 @@ pub mod Laying
 pub mod Flags
 -- the step of a history that the program holds, from its parts
 pub mod TreeProgram
+-- how trees compare, state by state
+pub mod ByState

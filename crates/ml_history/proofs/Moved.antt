@@ -11,13 +11,13 @@ use Rattle.std.proofs.lemmas.Bool.{cases_lt}
 use Rattle.std.proofs.lemmas.List.{map-append}
 use Rattle.std.specs.List.{flat_map}
 use Rattle.ml_lists.specs.Member.{IsMember}
-use Rattle.ml_lists.proofs.Member.{Image, InList, member-map, member-map_from, member-append, member-append_left, member-append_right, member-flat_map, member-flat_map_from}
+use Rattle.ml_lists.proofs.Member.{Image, member-map, member-map_from, member-append, member-append_left, member-append_right, member-flat_map, member-flat_map_from}
 use Rattle.ml_trace.specs.Stack.{Item}
 use Rattle.ml_history.specs.Forest.{Forest, Empty, Tree, names, lies_at, below, places, AgesRise, IsApart, HasOneRoot}
 use Rattle.ml_history.specs.HistoryStep.{offered}
 use Rattle.ml_history.specs.TreeStep.{moved}
 use Rattle.ml_history.proofs.Forests.{places-not_empty}
-use Rattle.ml_history.proofs.Times.{once_for, times, times-append, times-member, member-times, times-no_member, apart-times, times-apart, times-map}
+use Rattle.ml_history.proofs.Times.{times, times-append, times-member, member-times, times-no_member, apart-times, times-apart, times-map}
 
 -- o is an offer: the stack of a place of f, along a move
 pub record Made (r : ℕ) (to : Bool → ℕ → List ℕ) (f : Forest) (o : Item ℕ) : Type 0 where

@@ -7,7 +7,7 @@
 --   by_offers-places     == of a proper forest they are its places
 --   items_determine      == two proper forests with the same items are one
 --   writes-hash          == what a walk feeds is what a hash reads of the items
-use Rattle.std.proofs.Common.{◌≡◌, ◌≢◌, ℕ, ◌+◌, ◌<◌, ◌≤◌, ◌⊎◌, inl, inr, arith, Bool, true, false, cond, List, [], ◌∷◌, ◌++◌, map, refl, sym, subst, ap, ◌∙◌}
+use Rattle.std.proofs.Common.{◌≡◌, ◌≢◌, ℕ, ◌<◌, ◌⊎◌, inl, inr, arith, true, false, List, [], ◌∷◌, ◌++◌, map, refl, sym, subst, ap, ◌∙◌}
 use Rattle.std.specs.List.{flat_map}
 use Rattle.std.specs.Hash.{HashWrites}
 use Rattle.std.proofs.lemmas.Bool.{cases_Bool, cond-true, cond-false}
@@ -16,14 +16,14 @@ use Rattle.ml_lists.specs.Ascending.{IsAscending}
 use Rattle.ml_lists.specs.Member.{IsMember}
 use Rattle.ml_lists.proofs.Member.{member-map}
 use Rattle.ml_trace.specs.Stack.{Item}
-use Rattle.ml_history.specs.Forest.{Forest, Empty, Tree, places, items, lies_at, below, AgesRise, IsProper}
+use Rattle.ml_history.specs.Forest.{Forest, Empty, Tree, places, items, lies_at, below, IsProper}
 use Rattle.ml_history.specs.HistoryOrder.{goes_in, by_offers, pair_writes, hash_writes}
 use Rattle.ml_history.specs.HistoryStep.{beats, last_name}
 use Rattle.ml_history.specs.TreeWalks.{writes}
 use Rattle.ml_history.proofs.Arranged.{state_of}
 use Rattle.ml_history.proofs.Best.{beats_asymmetric, beats_not_trans}
 use Rattle.ml_history.proofs.Forests.{places-not_empty}
-use Rattle.ml_history.proofs.InOrder.{InOrder, Within, in_order_same}
+use Rattle.ml_history.proofs.InOrder.{InOrder, in_order_same}
 use Rattle.ml_history.proofs.LetterSets.{beats_antisymmetric}
 use Rattle.ml_history.proofs.PlacesInOrder.{Earlier, earlier_apart, places-in_order, places_same}
 use Rattle.ml_history.proofs.Proper.{items-member, member-items, proper_is_history}

@@ -2,7 +2,7 @@
 --
 --   InOrder ts      == no stack of ts beats one that stands before it
 --   places-in_order == the places of a forest whose ages rise stand in this order
-use Rattle.std.proofs.Common.{ℕ, ◌≡◌, ◌+◌, ◌<◌, ◌≤◌, ◌⊎◌, inl, inr, arith, false, List, [], ◌∷◌, ◌++◌, map, refl, sym, subst, ap}
+use Rattle.std.proofs.Common.{ℕ, ◌≡◌, ◌+◌, ◌<◌, ◌⊎◌, inl, inr, arith, false, List, [], ◌∷◌, ◌++◌, map, refl, sym, subst}
 use Rattle.ml_lists.specs.Member.{IsMember}
 use Rattle.ml_lists.proofs.Member.{Image, member-map_from, member-append}
 use Rattle.ml_trace.specs.Stack.{Item}

@@ -3,10 +3,10 @@
 --   items-member, member-items == the items of a forest are its places
 --   names-live, live-names     == the names in use are those of the vertices
 --   proper_is_history          == the items of the tree of a history are a history
-use Rattle.std.proofs.Common.{ℕ, ◌≡◌, ◌<◌, ◌≤◌, ◌⊎◌, inl, inr, arith, true, List, sym, subst}
+use Rattle.std.proofs.Common.{ℕ, ◌≡◌, ◌<◌, ◌≤◌, ◌⊎◌, inl, inr, arith, sym, subst}
 use Rattle.std.proofs.lemmas.Bool.{cases_lt}
 use Rattle.ml_lists.specs.Member.{IsMember}
-use Rattle.ml_trace.specs.Stack.{Item, has}
+use Rattle.ml_trace.specs.Stack.{Item}
 use Rattle.ml_trace.proofs.Stacks.{ends-has, has-member}
 use Rattle.ml_history.specs.Forest.{Forest, names, places, items, IsApart, IsProper}
 use Rattle.ml_history.specs.History.{IsHistory}

@@ -50,7 +50,12 @@ impl Moves {
 
     // Appends the states to which transitions lead from a state, accepting ones or others. The cost is logarithmic in all
     // transitions, and linear in those from the state.
-    pub(crate) fn targets(&self, from: u32, accepting: bool, out: &mut Vec<u32>) -> Result<(), NoMemory>
+    pub(crate) fn targets(
+        &self,
+        from: u32,
+        accepting: bool,
+        out: &mut Vec<u32>,
+    ) -> Result<(), NoMemory>
         ensures { OnOk result (out.new.items ≡ out.old.items ++ targets self.now accepting from) }
     {
         push_ends(self.leaving(from), accepting, out)
@@ -58,7 +63,11 @@ impl Moves {
 }
 
 // Appends the targets of the transitions, of accepting ones or of others.
-fn push_ends(transitions: &[Transition], accepting: bool, out: &mut Vec<u32>) -> Result<(), NoMemory>
+fn push_ends(
+    transitions: &[Transition],
+    accepting: bool,
+    out: &mut Vec<u32>,
+) -> Result<(), NoMemory>
     ensures { OnOk result (out.new.items ≡ out.old.items ++ ends accepting transitions.now) }
 {
     for t in transitions {

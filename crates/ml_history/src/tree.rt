@@ -76,7 +76,12 @@ pub(crate) fn above(siblings: &[Vertex]) -> u64
 }
 
 // Appends the states of the set with this stack.
-fn push_own(alloc: Global, own: &IdSet, stack: &[u32], stacks: &mut Vec<(u32, Vec<u32>)>) -> Result<(), NoMemory>
+fn push_own(
+    alloc: Global,
+    own: &IdSet,
+    stack: &[u32],
+    stacks: &mut Vec<(u32, Vec<u32>)>,
+) -> Result<(), NoMemory>
     ensures { OnOk result (map stacked stacks.new.items ≡ map stacked stacks.old.items ++ map (lies_at stack.now) own.now) }
 {
     for state in own.values() {
@@ -86,7 +91,12 @@ fn push_own(alloc: Global, own: &IdSet, stack: &[u32], stacks: &mut Vec<(u32, Ve
 }
 
 // Appends the states that lie at the siblings or below them, with their stacks; the path leads down to the siblings.
-pub(crate) fn push_places(alloc: Global, siblings: &[Vertex], path: &[u32], stacks: &mut Vec<(u32, Vec<u32>)>) -> Result<(), NoMemory>
+pub(crate) fn push_places(
+    alloc: Global,
+    siblings: &[Vertex],
+    path: &[u32],
+    stacks: &mut Vec<(u32, Vec<u32>)>,
+) -> Result<(), NoMemory>
     ensures { OnOk result (map stacked stacks.new.items ≡ map stacked stacks.old.items ++ map (behind path.now) (places (joined siblings.now))) }
 {
     for vertex in siblings {

@@ -1,13 +1,15 @@
 // Histories as trees.
-ghost use Rattle.std.specs.Prelude.{◌≡◌, ◌<◌, ◌^◌, ◌↔◌, IsTrue, IfOk, map, fold};
+ghost use Rattle.std.specs.Prelude.{◌≡◌, ◌<◌, ◌^◌, IfOk, Some, map};
 ghost use Rattle.ml_history.specs.History.{start, IsHistory};
 ghost use Rattle.ml_history.specs.HistoryOrder.{history_eq, history_eq_equiv, hash_writes};
 ghost use Rattle.ml_history.specs.HistoryStep.{live};
 ghost use Rattle.ml_history.specs.Stacks.{stacked};
 
+use crate::comparing::compare;
 use crate::tree::{Vertex, above, copied, feed, push_places, same};
 use ml_base::{IdSet, NoMemory};
 use std::alloc::Global;
+use std::cmp::Ordering;
 use std::hash::{Hash, Hasher};
 use std::marker::Model;
 
@@ -82,6 +84,13 @@ impl History {
         above(self.roots.as_slice()) as u32
     }
 
+    // What the type keeps, said of the items.
+    pub(crate) fn is_kept(&self)
+        ensures { IsHistory self.now }
+    {
+        let _roots = &self.roots;
+    }
+
     /// An equal history.
     ///
     /// # Errors
@@ -112,6 +121,39 @@ impl PartialEq for History {
 
 impl Eq for History {
     ghost laws = { history_eq_equiv };
+}
+
+/// Histories compare as the lists that `stacks` gives: item by item, by the state and then by the stack. It takes no
+/// memory. The next state is looked for in the whole tree each time, so it serves nothing that is hot.
+impl Ord for History {
+    ghost use Rattle.std.specs.Prelude.{Some, refl};
+    ghost use Rattle.ml_history.specs.HistoryOrder.{history_cmp, history_cmp_total, history_ties};
+
+    ghost cmp = { history_cmp };
+
+    ghost total = { history_cmp_total };
+
+    ghost matches_partial_cmp = { λ h g. refl };
+
+    ghost matches_eq = { history_ties };
+
+    fn cmp(&self, other: &History) -> Ordering {
+        compare(self.roots.as_slice(), other.roots.as_slice())
+    }
+}
+
+impl PartialOrd for History {
+    ghost use Rattle.std.specs.Cmp.{partial_order_from_agreeing_total};
+    ghost use Rattle.std.specs.Prelude.{Some, refl};
+    ghost use Rattle.ml_history.specs.HistoryOrder.{history_cmp, history_cmp_total, history_ties};
+
+    ghost partial_cmp = { λ h g. Some (history_cmp h g) };
+
+    ghost laws = { partial_order_from_agreeing_total history_cmp history_cmp_total (λ h g. refl) history_ties };
+
+    fn partial_cmp(&self, other: &History) -> Option<Ordering> {
+        Some(self.cmp(other))
+    }
 }
 
 impl Hash for History {

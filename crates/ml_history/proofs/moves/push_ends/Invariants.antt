@@ -1,6 +1,5 @@
 use Rattle.std.proofs.Common.{◌≡◌, ◌++◌, take}
 use Rattle.ml_history.specs.Moves.{ends}
-use Rattle.ml_history.proofs.Leaving as leaving
 use Rattle.ml_history.proofs.moves.push_ends.Given as goal
 
 abbrev pub invariant-loop-t : goal.invariant-loop-t

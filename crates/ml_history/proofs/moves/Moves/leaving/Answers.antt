@@ -3,7 +3,7 @@ use Rattle.std.proofs.lemmas.List.{take_all, length-drop}
 use Rattle.std.proofs.lemmas.List.Sorted.{IsPartitionPoint-from_clause, IsPartitionedBy-ltb, IsPartitionedBy-leb, IsNonDecreasingBy-drop}
 use Rattle.std.specs.List.Sorted.{IsPartitionPoint}
 use Rattle.ml_trace.specs.declared.letters.Transition.{Transition}
-use Rattle.ml_history.specs.Moves.{RiseBySource, ends}
+use Rattle.ml_history.specs.Moves.{RiseBySource}
 use Rattle.ml_history.specs.TreeStep.{targets}
 use Rattle.ml_history.proofs.Leaving.{leaving_targets}
 use Rattle.ml_history.proofs.moves.Moves.leaving.Goals as goal
