@@ -4,7 +4,9 @@
 --   settled_bound, fulls_bound      == its names are below 2r, and so are those of full vertices
 --   used_few                        == at most 2^30 names are in use
 --   step_kept, step_items, step_marks == the tree behind the step is kept, its items are those of the step, and the mark
-use Rattle.std.proofs.Common.{ℕ, ◌≡◌, ◌*◌, ◌<◌, ◌≤◌, ◌^◌, ◌↔◌, Bool, not, ◌&&◌, ltb, List, [], map, sym, subst, ap, ◌∙◌}
+use Rattle.std.proofs.Common.{ℕ, ◌≡◌, ◌*◌, ◌<◌, ◌≤◌, ◌^◌, ◌↔◌, Bool, not, ◌&&◌, ltb, eqb, List, [], ◌++◌, map, sym, subst, ap, ◌∙◌}
+use Rattle.std.specs.HashSet.{HashSet, keys}
+use Rattle.std.specs.List.{list_any}
 use Rattle.ml_lists.specs.Counting.{count}
 use Rattle.ml_lists.specs.Least.{least}
 use Rattle.ml_lists.specs.Member.{IsMember}
@@ -15,8 +17,8 @@ use Rattle.ml_trace.specs.Stack.{Item, has}
 use Rattle.ml_history.specs.Forest.{Forest, Empty, names, states, places, items}
 use Rattle.ml_history.specs.HistoryStep.{live, stepped, step_mark, mark_of}
 use Rattle.ml_history.specs.Plain.{IsPlain}
-use Rattle.ml_history.specs.TreeStep.{targets, moved, nobody, settled, fulls, renewed, walked, Laid}
-use Rattle.ml_history.specs.Vertices.{IsKept}
+use Rattle.ml_history.specs.TreeStep.{targets, moved, nobody, fresh, settled, fulls, renewed, walked, seen_by, Laid}
+use Rattle.ml_history.specs.Vertices.{Rooted, joined, IsKept}
 use Rattle.ml_history.proofs.Arranged.{state_of}
 use Rattle.ml_history.proofs.Forests.{places-states}
 use Rattle.ml_history.proofs.Kept.{kept_is_plain}
@@ -28,13 +30,12 @@ use Rattle.ml_history.proofs.TreeSteps.{after_step, tree_step_proper, tree_step_
 use Rattle.ml_history.proofs.Walked.{walked-bound}
 
 -- the walk makes the settled tree of first offers, and the names of full vertices
-pub made_walk : (f : Forest) (m : List Transition) (used : ℕ) (before after : ℕ → Bool) (start full : List ℕ) (row : Forest) → used ≡ live (items f) → before ≡ nobody → start ≡ [] → Laid before start (moved used (targets m) Empty f) row after full → (row ≡ settled (walked f m)) × (full ≡ fulls (walked f m))
-made_walk f m used before after start full row is none empty l =
-    let there : Laid nobody [] (moved (live (items f)) (targets m) Empty f) row after full =
-    subst (λ r. Laid nobody [] (moved r (targets m) Empty f) row after full) is
-    (subst (λ ns. Laid nobody ns (moved used (targets m) Empty f) row after full) empty (subst (λ test. Laid test start (moved used (targets m) Empty f) row after full) none l))
-    in
-    (there.row_is, there.full_is)
+pub made_walk : {S : Type 0} → (f : Forest) (m : List Transition) (used : ℕ) (seen : HashSet ℕ S) (after : ℕ → Bool) (start full full' : List ℕ) (vs ws ds es : List Rooted) → used ≡ live (items f) → keys seen ≡ [] → start ≡ [] → f ≡ joined vs → ws ≡ vs → Laid (seen_by seen) start (moved used (targets m) Empty (joined ws)) (joined ds) after full → es ≡ ds → full' ≡ full → (joined es ≡ settled (walked f m)) × (full' ≡ fulls (walked f m))
+made_walk f m used seen after start full full' vs ws ds es is none empty here slice l rows fulls_are =
+    let forest : joined ws ≡ f = ap joined slice ∙ sym here in
+    let test : seen_by seen ≡ nobody = ap (λ ks q. list_any (eqb q) ks) none in
+    (ap joined rows ∙ l.row_is ∙ (λ i. settled (fresh (test i) (moved (is i) (targets m) Empty (forest i)))),
+    fulls_are ∙ l.full_is ∙ (λ i. empty i ++ fulls (fresh (test i) (moved (is i) (targets m) Empty (forest i)))))
 
 -- at most 2^30 names are in use
 pub used_few : (f : Forest) (used : ℕ) → IsKept f → used ≡ live (items f) → used ≤ 2 ^ 30
