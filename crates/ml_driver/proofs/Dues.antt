@@ -7,10 +7,9 @@ use Rattle.ml_driver.specs.declared.answer.Answer.{Answer}
 use Rattle.ml_driver.specs.declared.answer.Answer.TheVariants.{Satisfiable, Unsatisfiable, RefusedText, RefusedForm}
 use Rattle.ml_driver.specs.declared.command.Command.TheVariants.{DecideMu}
 use Rattle.ml_driver.specs.declared.status.Status.{Status}
-use Rattle.ml_driver.specs.declared.status.Status.TheVariants as status
 use Rattle.ml_driver.specs.Document.{satisfiable_document}
 use Rattle.ml_driver.specs.Statuses.{longest_text}
-use Rattle.ml_driver.specs.Run.{IsDue, IsRefused, by_text, by_form}
+use Rattle.ml_driver.specs.Run.{IsDue, by_text, by_form}
 use Rattle.ml_driver.specs.Answer.{status_of, IsText, IsAnswer}
 
 -- the same of its own status

@@ -12,7 +12,7 @@ use Rattle.ml_driver.specs.declared.command.Command.TheVariants.{DecideMu, Check
 use Rattle.ml_driver.specs.declared.status.Status.{Status}
 use Rattle.ml_driver.specs.declared.status.Status.TheVariants.{Yes, No, Undecided, Words, Text, ReadFault, WriteFault, NoMemory, Unconfirmed}
 use Rattle.ml_driver.specs.Statuses.{longest_input, refused_length}
-use Rattle.ml_driver.specs.Run.{by_length, document_by_length, IsDue, World, IsCalm, WasRead, Answered, FailedToWrite, Ended, Wrote}
+use Rattle.ml_driver.specs.Run.{by_length, document_by_length, IsDue, World, WasRead, Answered, FailedToWrite, Ended, Wrote}
 
 -- what is due is never a fault or want of memory
 no_fault_due : (c : Option Command) (text output : List ℕ) → IsDue c text ReadFault output → ⊥

@@ -1,7 +1,7 @@
 -- The head of a document, line by line.
 --
 --   head_written  == its five lines, one behind the other
-use Rattle.std.proofs.Common.{◌≡◌, ℕ, List, [], ◌∷◌, ◌++◌, codes, sym, ap, ◌∙◌}
+use Rattle.std.proofs.Common.{◌≡◌, ℕ, List, [], ◌∷◌, ◌++◌, codes, ap, ◌∙◌}
 use Rattle.ml_lines.specs.Lines.{Line, number, line_text, text_of}
 use Rattle.ml_lines.proofs.Lines.{text_of-more, text_of-last}
 use Rattle.ml_mu.specs.Formula.{Formula}

@@ -3,7 +3,7 @@
 --   Decided, Checks       == which statuses are due for the two commands, with the reason of each
 --   decided, checks       == what is due is one of these
 --   one_due               == one status is due at most
-use Rattle.std.proofs.Common.{◌≡◌, ℕ, ◌<◌, ◌≤◌, List, length, Option, Some, None, refl, sym, ap, subst, ◌∙◌, arith}
+use Rattle.std.proofs.Common.{◌≡◌, ℕ, ◌≤◌, List, length, Some, None, refl, sym, ap, subst, ◌∙◌, arith}
 use Rattle.ml_mu.specs.Formula.{Formula}
 use Rattle.ml_mu.specs.Parsing.{IsParsedAs}
 use Rattle.ml_mu.proofs.OneAnswer.{one_formula, parsed_or_refused}
@@ -11,10 +11,9 @@ use Rattle.ml_table.specs.Propositional.{IsInForm, HoldsNowhere}
 use Rattle.ml_model_check.specs.Checked.{Shows, ShowsNot}
 use Rattle.ml_model_check.specs.declared.checked.Checked.TheVariants as checked
 use Rattle.ml_model_check.proofs.OneCheck.{one_check}
-use Rattle.ml_driver.specs.declared.command.Command.{Command}
 use Rattle.ml_driver.specs.declared.command.Command.TheVariants.{DecideMu, CheckModel}
 use Rattle.ml_driver.specs.declared.status.Status.{Status}
-use Rattle.ml_driver.specs.declared.status.Status.TheVariants.{Yes, No, Undecided, Words, Text, ReadFault, WriteFault, NoMemory, Unconfirmed}
+use Rattle.ml_driver.specs.declared.status.Status.TheVariants.{Yes, No, Words, Text}
 use Rattle.ml_driver.specs.Statuses.{longest_text, longest_document, refusal_line}
 use Rattle.ml_driver.specs.Run.{IsDue, IsSatisfied, IsUnsatisfied, IsRefused, by_length, by_text, by_form, IsRefusedDocument, document_by_length, by_line}
 use Rattle.ml_driver.specs.Laws.{OneDue}

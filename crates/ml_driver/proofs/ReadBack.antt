@@ -1,7 +1,7 @@
 -- What `decide mu` writes, `check-model` reads.
 --
 --   decided_are_checked  == and finds to hold
-use Rattle.std.proofs.Common.{◌≡◌, ℕ, ◌≤◌, ◌<◌, List, length, refl, sym, subst, arith}
+use Rattle.std.proofs.Common.{refl, sym, subst, arith}
 use Rattle.ml_kripke.specs.Laws.{IsWritten}
 use Rattle.ml_table.specs.Propositional.{plain}
 use Rattle.ml_model_check.specs.Checked.{IsDocument}

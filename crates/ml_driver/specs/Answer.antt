@@ -4,7 +4,6 @@
 --   IsText a out   == out is the output for the answer, whose labels and actions are names
 --   IsAnswer t a   == the answer is right for `decide mu` on the text
 use Rattle.std.specs.Prelude.{ℕ, ◌≡◌, List, Some}
-use Rattle.ml_base.specs.declared.parse_refusal.ParseRefusal.{ParseRefusal}
 use Rattle.ml_kripke.specs.Ordered.{HasNames}
 use Rattle.ml_mu.specs.Parsing.{IsParsedAs, IsRefusedBy}
 use Rattle.ml_mu.specs.Formula.{Formula}

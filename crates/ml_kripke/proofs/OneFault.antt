@@ -4,12 +4,11 @@
 --   one_bad          == of some lines one is the first bad one, with one rule
 --   fault_or_model   == the text of a model has none
 --   one_fault        == a text has one at most
-use Rattle.std.proofs.Common.{◌≡◌, ℕ, ◌+◌, ◌<◌, ◌⊎◌, List, [], ◌∷◌, inl, inr, refl, sym, ◌∙◌, subst}
+use Rattle.std.proofs.Common.{◌≡◌, ℕ, ◌+◌, ◌<◌, ◌⊎◌, List, [], ◌∷◌, inl, inr, sym, ◌∙◌, subst}
 use Rattle.std.proofs.lemmas.Bool.{cases_order}
-use Rattle.ml_base.specs.declared.doc_fault.DocFault.{DocFault}
 use Rattle.ml_lines.specs.Lines.{Line}
 use Rattle.ml_lines.specs.Reading.{lines_of, left_of}
-use Rattle.ml_kripke.specs.BodyRules.{Place, AtStates, after, IsGood, IsLowest, IsFirstBad, IsReadable, rule_number}
+use Rattle.ml_kripke.specs.BodyRules.{Place, AtStates, after, IsLowest, IsFirstBad, IsReadable, rule_number}
 use Rattle.ml_kripke.specs.Laws.{FaultOrModel, OneFault}
 use Rattle.ml_kripke.specs.declared.body_rule.BodyRule.{BodyRule}
 use Rattle.ml_kripke.proofs.Faults.{good_no_bad}

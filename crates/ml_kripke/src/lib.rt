@@ -74,6 +74,9 @@ mod tests {
         assert_eq!(rt; structure.edge_count(), 3);
         assert_eq!(rt; structure.edge_at(0).target, 1);
         assert!(rt; structure.has_label(1, &p));
+        let blank = Action::new(alloc, b"_")?;
+        assert_eq!(rt; structure.dead_state(&blank), Some(1));
+        assert!(rt; !structure.is_total(&blank));
         let text = write_model(alloc, &Model::new(structure, 1))?;
         assert_eq!(rt;
             text.as_slice(),

@@ -5,11 +5,11 @@
 --   first_plain     == the first line of a text has no LF
 --   front_line      == a text is its first line, and then what stands behind it
 --   line_front      == a line in front of a text is its first line
-use Rattle.std.proofs.Common.{◌≡◌, ◌==◌, ℕ, Bool, true, false, ◌||◌, List, [], ◌∷◌, ◌++◌, map, All, refl, sym, ap, subst, ◌∙◌, append_assoc}
+use Rattle.std.proofs.Common.{◌≡◌, ℕ, Bool, true, false, ◌||◌, List, [], ◌∷◌, ◌++◌, map, All, refl, sym, ap, subst, ◌∙◌, append_assoc}
 use Rattle.std.specs.List.{slice_split, join_with_byte, AllByRecursion, list_any, onto_first}
 use Rattle.std.proofs.lemmas.List.Elements.{All-nil, All-cons}
 use Rattle.std.proofs.lemmas.List.Splits.{slice_split_at, slice_split-cons_yes, slice_split-cons_no, join_with_byte-slice_split}
-use Rattle.ml_lines.specs.Lines.{Word, Line, line_text, text_of}
+use Rattle.ml_lines.specs.Lines.{Line, line_text, text_of}
 use Rattle.ml_lines.specs.Reading.{words_of, lines_of, left_of, fronts, last_part, is_line_end}
 use Rattle.ml_lines.proofs.Cuts.{some_part, fronts_more, last_more}
 use Rattle.ml_lines.proofs.WrittenLines.{text_read}

@@ -4,20 +4,19 @@
 --   formula_refused            == a line whose text the parser refuses breaks the second rule
 --   tells_sense, tells_formula == a bad line behind three and four good ones is the first bad one
 --   whole_head                 == five good lines are a head
-use Rattle.std.proofs.Common.{◌≡◌, ◌==◌, ℕ, ◌-◌, ◌<◌, Bool, true, false, List, [], ◌∷◌, ◌++◌, length, drop, codes, slice_index_or, refl, sym, ap, subst, ◌∙◌, append_assoc, arith}
-use Rattle.std.specs.List.{list_any, join_with_byte}
+use Rattle.std.proofs.Common.{◌≡◌, ℕ, ◌-◌, ◌<◌, Bool, List, [], ◌∷◌, ◌++◌, length, codes, slice_index_or, refl, sym, ap, subst, ◌∙◌, append_assoc, arith}
+use Rattle.std.specs.List.{join_with_byte}
 use Rattle.std.proofs.lemmas.List.Splits.{join_with_byte-slice_split}
-use Rattle.ml_base.specs.declared.doc_fault.DocFault.{DocFault}
 use Rattle.ml_base.specs.declared.parse_refusal.ParseRefusal.{ParseRefusal}
 use Rattle.ml_base.specs.declared.parse_refusal.ParseRefusal.TheVariants as parser
-use Rattle.ml_lines.specs.Lines.{Word, Line, number, line_text, text_of}
-use Rattle.ml_lines.specs.Reading.{lines_of, left_of, words_of, is_blank, is_line_end}
+use Rattle.ml_lines.specs.Lines.{Line, line_text, text_of}
+use Rattle.ml_lines.specs.Reading.{lines_of, words_of, is_blank}
 use Rattle.ml_lines.proofs.Cuts.{some_part}
 use Rattle.ml_lines.proofs.LineFronts.{IsInLine, front_line, first_plain}
 use Rattle.ml_kripke.specs.BodyParts.{GoesOn}
 use Rattle.ml_mu.specs.Formula.{Formula}
 use Rattle.ml_mu.specs.Head.{Satisfiable}
-use Rattle.ml_mu.specs.HeadRules.{title_line, answer_line, logic_line, sense_line, lines_about, IsHead, HeadPlace, AtTitle, AtAnswer, AtLogic, AtSense, AtFormula, number_of, Keeps, IsGood, IsLowest, IsHeadFault, rule_number}
+use Rattle.ml_mu.specs.HeadRules.{title_line, answer_line, logic_line, sense_line, IsHead, HeadPlace, AtTitle, AtAnswer, AtLogic, AtSense, AtFormula, number_of, Keeps, IsGood, IsLowest, IsHeadFault, rule_number}
 use Rattle.ml_mu.specs.Parsing.{IsParsedAs, IsRefusedBy}
 use Rattle.ml_mu.specs.declared.head_rule.HeadRule.{HeadRule}
 use Rattle.ml_mu.specs.declared.head_rule.HeadRule.TheVariants.{OfKind, Parses, Answers}

@@ -4,19 +4,16 @@
 --   document_fault   == a text that shows a structure has no bad line
 --   one_fault        == a text has one first bad line at most
 --   one_check        == so checking finds one thing
-use Rattle.std.proofs.Common.{◌≡◌, ℕ, ◌⊎◌, List, refl, sym, ap, subst, ◌∙◌, inl, inr}
+use Rattle.std.proofs.Common.{◌≡◌, ℕ, List, refl, sym, ap, subst, ◌∙◌, inl, inr}
 use Rattle.ml_base.specs.Structure.{Structure}
 use Rattle.ml_base.specs.declared.doc_fault.DocFault.{DocFault}
 use Rattle.ml_kripke.specs.BodyRules.{IsFaultOf}
 use Rattle.ml_kripke.proofs.OneFault as body
 use Rattle.ml_kripke.proofs.OneText.{one_text}
-use Rattle.ml_kripke.specs.ModelText.{model_text}
 use Rattle.ml_mu.specs.Head.{Satisfiable}
-use Rattle.ml_mu.specs.HeadRules.{IsHeadFault}
 use Rattle.ml_mu.specs.Problem.{Problem, HoldsAt}
 use Rattle.ml_mu.proofs.HeadLines as head
-use Rattle.ml_model_check.specs.Checked.{IsDocument, IsDocumentFault, IsFaultOfBody, IsCheckedAs, OneCheck, Shows, ShowsNot, first_body_line}
-use Rattle.ml_model_check.specs.declared.checked.Checked.{Checked}
+use Rattle.ml_model_check.specs.Checked.{IsDocument, IsDocumentFault, OneCheck, Shows, ShowsNot, first_body_line}
 use Rattle.ml_model_check.specs.declared.checked.Checked.TheVariants.{Holds, Fails, Unreadable, NotTotal, ClosureTooLarge}
 
 pub one_document : (text : List ℕ) (p q : Problem) (m n : Structure) (s t : ℕ) → IsDocument text p m s → IsDocument text q n t

@@ -6,8 +6,7 @@
 --   TellsHead text e           == the refusal e tells the first bad line of the head, if it isn't for want of memory
 --   TellsFormula text e        == the refusal e tells the lowest rule that the line of the formula breaks, if it isn't
 --   formula_refusal e          == the refusal of a line whose text the parser refuses with e
-use Rattle.std.specs.Prelude.{ℕ, ◌≡◌, ⊤, false, List, [], ◌∷◌, codes, slice_index_or}
-use Rattle.std.specs.List.{list_any}
+use Rattle.std.specs.Prelude.{ℕ, ◌≡◌, ⊤, List, [], ◌∷◌, codes, slice_index_or}
 use Rattle.ml_lines.specs.Lines.{Word, Line}
 use Rattle.ml_lines.specs.Reading.{lines_of, words_of, word}
 use Rattle.ml_kripke.specs.BodyParts.{GoesOn}

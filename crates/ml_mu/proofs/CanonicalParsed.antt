@@ -8,12 +8,11 @@
 --   canonical_parsed     == so it is parsed
 --   canonical_in_line    == it stands in one line
 --   heads_read_back      == so the head of a written document is read back
-use Rattle.std.proofs.Common.{◌≡◌, ℕ, zero, suc, ◌+◌, ◌-◌, ◌<◌, ◌≤◌, Bool, true, false, ◌&&◌, ◌||◌, ◌==◌, not, nat_lt, nat_le, List, [], ◌∷◌, ◌++◌, length, map, take, drop, Option, Some, None, cond, codes, bytes_eq, refl, sym, ap, subst, ◌∙◌, arith, lt-ltb, leb-true, ltb-false, ltb-true, eqb-true}
+use Rattle.std.proofs.Common.{◌≡◌, ℕ, zero, suc, ◌+◌, ◌-◌, ◌≤◌, Bool, true, false, ◌&&◌, ◌||◌, ◌==◌, not, nat_lt, nat_le, List, [], ◌∷◌, ◌++◌, length, map, take, drop, Option, Some, None, cond, codes, bytes_eq, refl, sym, ap, subst, ◌∙◌, arith, leb-true, ltb-false, ltb-true, eqb-true}
 use Rattle.std.specs.List.{AllByRecursion, list_all, list_any}
-use Rattle.std.specs.Prelude.{sum_by}
 use Rattle.std.specs.Char.{is_ascii_alphabetic}
 use Rattle.std.proofs.lemmas.Bool.{and_from, and_parts, or_from, or_left}
-use Rattle.std.proofs.lemmas.List.{append-nil, map-append, take-append-drop}
+use Rattle.std.proofs.lemmas.List.{map-append, take-append-drop}
 use Rattle.std.proofs.lemmas.List.Folds.{list_any-append}
 use Rattle.std.proofs.lemmas.List.Sums.{sum_by-take-le}
 use Rattle.ml_base.specs.Name.{is_name, is_name_byte}
@@ -21,14 +20,13 @@ use Rattle.ml_lines.specs.Reading.{is_line_end}
 use Rattle.ml_text.specs.Bytes.{is_lower, is_letter, is_digit, is_word_byte}
 use Rattle.ml_text.specs.declared.token.Operator.{Operator}
 use Rattle.ml_text.specs.declared.token.Operator.TheVariants as operator
-use Rattle.ml_text.specs.declared.token.Token.{Token}
 use Rattle.ml_text.specs.declared.token.Token.TheVariants as token
 use Rattle.ml_text.specs.declared.token.WordStart.TheVariants.{AnyLetter}
 use Rattle.ml_text.specs.declared.token.Placed.{Placed}
 use Rattle.ml_text.specs.Words.{constant_of}
 use Rattle.ml_text.specs.Spelling.{AreTokens}
 use Rattle.ml_text.specs.Tokens.{tokens}
-use Rattle.ml_text.specs.Refusals.{Bracket, Opening, Closing, Neither, Item, Cause, Syntax, TooMany, TooNested, NameTooLong, signs_of, counted, open_from, open_behind_one, is_long_at, longest_name, IsFault, IsAccepted}
+use Rattle.ml_text.specs.Refusals.{Bracket, Opening, Closing, Neither, Item, Cause, Syntax, TooMany, TooNested, NameTooLong, signs_of, open_from, open_behind_one, is_long_at, longest_name, IsFault, IsAccepted}
 use Rattle.ml_text.proofs.Cover.{are_tokens}
 use Rattle.ml_text.proofs.Scans.{Spelt, spelt_at}
 use Rattle.ml_mu.specs.Formula as plain
@@ -38,10 +36,9 @@ use Rattle.ml_mu.specs.Grammar as grammar
 use Rattle.ml_mu.specs.Grammar.{IsReadAs, Reads, iff_alone, iff, imp_alone, imp, or_alone, or, and_alone, and, negation, modal, modal_blank, binder, group, constant, proposition, variable}
 use Rattle.ml_mu.specs.HeadRules.{HeadsReadBack}
 use Rattle.ml_mu.specs.Parsing.{IsParsedAs}
-use Rattle.ml_mu.specs.Problem.{Problem}
 use Rattle.ml_mu.specs.Spelling.{is_proposition, is_variable, is_action, is_spelled, is_word_from, is_reserved}
-use Rattle.ml_mu.specs.Signs.{Sign, Lower, Upper, Blank, Unknown, Connective, HasShortName, action_of, sign_of, word_sign, word_sign_by}
-use Rattle.ml_mu.specs.Text.{is_word, bracket_of, bytes_of, item_by, items, items_from, sign_at, silences}
+use Rattle.ml_mu.specs.Signs.{Sign, Lower, Upper, Blank, Unknown, Connective, HasShortName, action_of, word_sign, word_sign_by}
+use Rattle.ml_mu.specs.Text.{is_word, bracket_of, bytes_of, items, items_from, sign_at, silences}
 use Rattle.ml_mu.proofs.CanonicalTexts.{action_tokens, begin_byte, end_byte, lone, tokens_onto, sign_spelt, canonical_tokens, canonical_stands}
 use Rattle.ml_mu.proofs.Counting.{counts, counted_items}
 use Rattle.ml_mu.proofs.Names.{short_name, token_length}

@@ -13,7 +13,6 @@ use Rattle.std.proofs.lemmas.List.Folds.{length-prefix_len}
 use Rattle.ml_text.specs.Bytes.{is_blank, is_lower, is_upper, is_letter, is_word_byte}
 use Rattle.ml_text.specs.declared.token.Operator.{Operator}
 use Rattle.ml_text.specs.declared.token.Operator.TheVariants as operator
-use Rattle.ml_text.specs.declared.token.Token.{Token}
 use Rattle.ml_text.specs.declared.token.Token.TheVariants as token
 use Rattle.ml_text.specs.declared.token.WordStart.TheVariants.{AnyLetter}
 use Rattle.ml_text.specs.declared.token.Placed.{Placed}
@@ -26,7 +25,7 @@ use Rattle.ml_text.proofs.Scans.{Spelt, spelt_at, Scans, ends, blank, piece, sca
 use Rattle.ml_mu.specs.Formula as plain
 use Rattle.ml_mu.specs.Formula.{Formula, Modality, Diamond, Square, Fixpoint, Least, Greatest}
 use Rattle.ml_mu.specs.Canonical.{spelling_of, action_text, modality_text, fixpoint_word, canonical_text}
-use Rattle.ml_mu.specs.Signs.{Sign, Not, Connective, Const, Open, Close, Begins, Ends, Binds, Dot, Lower, Upper, Unknown, action_of, sign_of, word_sign, word_sign_by, name_sign}
+use Rattle.ml_mu.specs.Signs.{Sign, Connective, Const, Open, Close, Begins, Ends, Binds, Dot, Lower, Upper, Unknown, action_of, sign_of, word_sign, word_sign_by, name_sign}
 use Rattle.ml_mu.specs.Spelling.{is_proposition, is_variable, is_action, is_spelled, is_word_from, is_reserved}
 use Rattle.ml_mu.specs.Grammar as grammar
 use Rattle.ml_mu.specs.Grammar.{Reads, iff_alone, iff, imp_alone, imp, or_alone, or, and_alone, and, negation, modal, modal_blank, binder, group, constant, proposition, variable}

@@ -6,16 +6,15 @@
 --   head_or_fault          == so a head has no bad line
 --   one_head               == a text is a head about one problem at most
 --   one_fault              == a text has one first bad line at most
-use Rattle.std.proofs.Common.{◌≡◌, ◌==◌, ℕ, ◌-◌, ◌≤◌, ◌<◌, ◌⊎◌, Bool, true, false, List, [], ◌∷◌, ◌++◌, length, drop, codes, slice_index_or, All, refl, sym, ap, subst, ◌∙◌, append_assoc, arith, inl, inr, nat_lt}
-use Rattle.std.specs.List.{list_any, join_with_byte}
+use Rattle.std.proofs.Common.{◌≡◌, ℕ, ◌-◌, ◌<◌, ◌⊎◌, Bool, true, false, List, [], ◌∷◌, ◌++◌, length, drop, codes, slice_index_or, refl, sym, ap, subst, ◌∙◌, append_assoc, arith, inl, inr}
+use Rattle.std.specs.List.{join_with_byte}
 use Rattle.std.proofs.lemmas.Bool.{cases_order}
 use Rattle.std.proofs.lemmas.Fmt.{decimal_digit}
 use Rattle.std.proofs.lemmas.List.{append_cancel_left}
-use Rattle.std.proofs.lemmas.List.Elements.{All-nil, All-cons}
 use Rattle.std.proofs.lemmas.List.Splits.{slice_split_at, join_with_byte-slice_split}
 use Rattle.ml_base.specs.declared.doc_fault.DocFault.{DocFault}
-use Rattle.ml_lines.specs.Lines.{Word, Line, number, line_text, text_of}
-use Rattle.ml_lines.specs.Reading.{lines_of, left_of, words_of, is_blank, is_line_end}
+use Rattle.ml_lines.specs.Lines.{Line, number, line_text, text_of}
+use Rattle.ml_lines.specs.Reading.{lines_of, left_of, words_of, is_blank}
 use Rattle.ml_lines.proofs.Cuts.{some_part}
 use Rattle.ml_lines.proofs.LineFronts.{IsInLine, none_passes, line_front}
 use Rattle.ml_lines.proofs.WrittenLines.{line_read}

@@ -6,6 +6,9 @@
 // structure, and `holds` asks for one state. The module `laws` has what is true of texts and of meanings: a text has
 // one answer, binders mean fixpoints.
 //
+// The heads of documents are defined here too: as they are written in `specs/Head.antt`, as they are read in
+// `specs/HeadRules.antt`, whose rules are the `HeadRule`s. Their readers stand above.
+//
 // Below stand `ml_base` (names, structures), `ml_kripke` (the structures that a program holds), `ml_lines` (the words of
 // heads), `ml_text` (tokens and grammars) and `ml_lists` (iterates); above stand the graph of a formula and the program.
 #![tactic(auto)]

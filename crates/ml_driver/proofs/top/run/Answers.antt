@@ -1,5 +1,5 @@
 -- How each way through the call ends it.
-use Rattle.std.proofs.Common.{◌≡◌, ℕ, ◌<◌, [], None, Some, refl, sym, ◌∙◌, ap, subst, inl, inr, arith, length}
+use Rattle.std.proofs.Common.{◌<◌, [], None, Some, refl, sym, ◌∙◌, subst, inl, inr, arith, length}
 use Rattle.ml_driver.specs.declared.status.Status.TheVariants as status
 use Rattle.ml_driver.specs.Statuses.{longest_input, refused_words, refused_length}
 use Rattle.ml_driver.specs.Run.{IsDue, Wrote}
