@@ -27,6 +27,8 @@ pub enum Measurement {
     /// Heights of a graph of so many vertices, twice as many arcs and 16 even priorities, in which numbers have a long
     /// way round.
     Row,
+    /// An even cycle of such a graph.
+    Cycle,
 }
 
 impl Measurement {
@@ -39,6 +41,7 @@ impl Measurement {
             "chain" => Some(Measurement::Chain),
             "blocks" => Some(Measurement::Blocks),
             "row" => Some(Measurement::Row),
+            "cycle" => Some(Measurement::Cycle),
             _ => None,
         }
     }
@@ -164,7 +167,12 @@ pub fn measure<R: Print + Clock + AllocGlobal>(
             let graph = random_blocks(alloc, &mut numbers, arcs.max(1), arcs, 16)?;
             count_heights(rt, &graph, is_timed)
         }
-        Measurement::Row => count_heights(rt, &slow_row(alloc, size as u64, 16)?, is_timed),
+        Measurement::Row => {
+            count_heights(rt, &slow_row(alloc, size as u64, 16, false)?, is_timed)
+        }
+        Measurement::Cycle => {
+            count_heights(rt, &slow_row(alloc, size as u64, 16, true)?, is_timed)
+        }
     }
 }
 
@@ -177,6 +185,7 @@ pub fn measure_small<R: Print + Clock + AllocGlobal>(rt: &R) -> Result<(), Failu
         (Measurement::Chain, 1000),
         (Measurement::Blocks, 1000),
         (Measurement::Row, 100),
+        (Measurement::Cycle, 100),
     ];
     for (measurement, size) in small {
         measure(rt, measurement, size, false)?;

@@ -5,9 +5,9 @@
 // Odd. The definition (`specs/Game.antt`, `specs/Winner.antt`) speaks of positional strategies, and of plays as lassos.
 //
 // The calls to know:
+// - `solve` answers who wins each vertex of a game, and by which moves: Zielonka's recursion, with its frames on a list.
 // - `Game::build` makes a game of three lists, and refuses lists that are none.
-// - `plain::solve_plain` answers who wins each vertex, and by which moves. It is slow and obvious: take it to test a
-//   faster solver.
+// - `plain::solve_plain` answers the same question. It is slow and obvious: take it to test `solve`.
 // - `laws::determined` does nothing; its contract is the determinacy law, over the definition alone.
 // - `heights` treats a graph in which one player makes all moves (`OneSided::build`): it counts the longest walks, or finds
 //   a cycle of even lowest priority. `heights_ok` tests numbers against the definition (`specs/Heights.antt`).
