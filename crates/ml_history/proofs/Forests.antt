@@ -4,6 +4,7 @@
 --   Under, places-cases               == a state lies in the first tree, or among the younger siblings
 --   places-not_empty                  == no stack is empty
 --   places-names                      == the names of the stacks are those of the forest
+--   OwnsSome, owns-some               == at each vertex lies some state
 --   Lying, names-places               == at each vertex some stack ends
 --   ages-names                        == each age is at least the bound from which ages rise
 --   places-ascend                     == stacks ascend
@@ -105,10 +106,19 @@ first_of : (o : List ℕ) → o ≢ [] → (q : ℕ) × IsMember q o
 first_of [] full = absurd (full refl)
 first_of (q ∷ qs) full = (q, inl refl)
 
+-- at each vertex lies some state
+abbrev pub OwnsSome : Forest → Type 0
+OwnsSome Empty = Unit {0}
+OwnsSome (Tree a o c y) = (o ≢ []) × OwnsSome c × OwnsSome y
+
+pub owns-some : (f : Forest) → OwnsAreSets f → OwnsSome f
+owns-some Empty owns = tt
+owns-some (Tree a o c y) owns = (owns.0, owns-some c owns.2, owns-some y owns.3)
+
 -- at each vertex some stack ends
-pub names-places : (f : Forest) (z : ℕ) → OwnsAreSets f → IsMember z (names f) → Lying f z
+pub names-places : (f : Forest) (z : ℕ) → OwnsSome f → IsMember z (names f) → Lying f z
 names-places Empty z owns m = absurd m
-names-places (Tree a o c y) z owns m = by_part (member-append z (names c) (a ∷ names y) m) (names-places c z owns.2) (names-places y z owns.3)
+names-places (Tree a o c y) z owns m = by_part (member-append z (names c) (a ∷ names y) m) (names-places c z owns.1) (names-places y z owns.2)
   where
     in_younger : Lying y z → Lying (Tree a o c y) z
     in_younger l = record {

@@ -98,7 +98,7 @@ above-append (x ∷ xs) ys = let e = above-append xs ys in omega arith
 
 -- ---- what the loops over rows keep
 
-names_part : (v : Rooted) (y : Forest) → names (Tree v.age v.own v.children y) ≡ (names v.children ++ v.age ∷ []) ++ names y
+pub names_part : (v : Rooted) (y : Forest) → names (Tree v.age v.own v.children y) ≡ (names v.children ++ v.age ∷ []) ++ names y
 names_part v y = sym (append_assoc (names v.children) (v.age ∷ []) (names y))
 
 -- one more than the greatest age of a row with one vertex more

@@ -66,11 +66,29 @@ pub mod Firsts
 pub mod Moved
 -- a tree without repeats
 pub mod Fresh
+-- the tree of the first offers is what the targets take
+pub mod Walked
+-- full vertices, and the cut on a tree
+pub mod Settled
+-- new ages, and the states of each vertex in their order
+pub mod Renewed
+-- the history step on trees is the history step
+pub mod TreeSteps
+-- rows of vertices in the program
+pub mod Rows
 -- the items of a tree in the order of offers
 pub mod OfferOrder
 -- histories as the program keeps them
 pub mod Kept
 -- the transitions that leave a state
 pub mod Leaving
+-- states that were seen
+pub mod Seen
+-- what the walk over a tree makes, vertex by vertex
+pub mod Laying
+-- flags for names, and the numbers that are counted from them
+pub mod Flags
+-- the step of a history that the program holds, from its parts
+pub mod TreeProgram
 -- how trees compare, state by state
 pub mod ByState

@@ -12,7 +12,7 @@ use Rattle.ml_history.specs.Forest.{Forest, names, places, items, IsApart, IsPro
 use Rattle.ml_history.specs.History.{IsHistory}
 use Rattle.ml_history.specs.HistoryStep.{live}
 use Rattle.ml_history.proofs.Arranged.{arranged-member, member-arranged, arranged-ascends}
-use Rattle.ml_history.proofs.Forests.{places-states, places-not_empty, places-names, names-places, places-ascend, places-agree}
+use Rattle.ml_history.proofs.Forests.{places-states, owns-some, places-not_empty, places-names, names-places, places-ascend, places-agree}
 use Rattle.ml_history.proofs.Names.{live-has, live-witness}
 
 -- the items of a forest are its places
@@ -25,7 +25,7 @@ member-items f v m = member-arranged v (places f) m
 module _ (f : Forest) (proper : IsProper f) where
   -- a name of a vertex is in use
   pub names-live : (y : ℕ) → IsMember y (names f) → y < live (items f)
-  names-live y m = let l = names-places f y proper.owns m in live-has (items f) y l.item (member-items f l.item l.member) (ends-has y l.item.stack l.ends)
+  names-live y m = let l = names-places f y (owns-some f proper.owns) m in live-has (items f) y l.item (member-items f l.item l.member) (ends-has y l.item.stack l.ends)
 
   -- a name in use is that of a vertex
   pub live-names : (y : ℕ) → y < live (items f) → IsMember y (names f)
@@ -47,5 +47,5 @@ module _ (f : Forest) (proper : IsProper f) where
     not_empty = λ a m. places-not_empty f a (items-member f a m);
     stacks_ascend = λ a m. places-ascend 0 f a proper.ages_rise (items-member f a m);
     agree = λ a b y ma mb na nb. places-agree f proper.names_apart a b y (items-member f a ma) (items-member f b mb) (has-member y a.stack na) (has-member y b.stack nb);
-    each_ends = λ y low. let l = names-places f y proper.owns (live-names y low) in (l.item, member-items f l.item l.member, l.ends);
+    each_ends = λ y low. let l = names-places f y (owns-some f proper.owns) (live-names y low) in (l.item, member-items f l.item l.member, l.ends);
   }

@@ -19,7 +19,13 @@
 --   fulls f                ==    the names of the full vertices of f, of those too that lie below others
 --   renewed n f            == 4. the ages through the function n, and the states of each vertex in their order
 --   walked f l             == the tree after the first two passes
-use Rattle.std.specs.Prelude.{ℕ, ◌+◌, Bool, true, false, not, ◌&&◌, ◌||◌, if◌then◌else◌, ◌==◌, List, [], ◌∷◌, ◌++◌, map, filter}
+--   beside f g             == the siblings f, and behind them the siblings g
+--   seen_by set            == the test for the states of a set that a program holds
+--   flagged flags          == the test for the numbers whose flags are set
+--   Laid                   == what a walk over a forest makes: the settled tree of first offers, with the states that
+--                             are seen then, and the full names
+use Rattle.std.specs.Prelude.{◌≡◌, ℕ, ◌+◌, Bool, true, false, not, ◌&&◌, ◌||◌, if◌then◌else◌, ◌==◌, nat_eq, List, [], ◌∷◌, ◌++◌, map, filter, slice_index_or}
+use Rattle.std.specs.HashSet.{HashSet, contains}
 use Rattle.std.specs.List.{flat_map}
 use Rattle.ml_lists.specs.Ascending.{ascending}
 use Rattle.ml_trace.specs.declared.letters.Transition.{Transition}
@@ -108,3 +114,25 @@ renewed n (Tree age own children younger) = Tree (n age) (ascending own) (renewe
 -- the tree of the first offers to each state
 abbrev pub walked : Forest → List Transition → Forest
 walked f letter = fresh nobody (moved (live (items f)) (targets letter) Empty f)
+
+-- ---- in the program
+
+-- the siblings f, and behind them the siblings g
+abbrev pub beside : Forest → Forest → Forest
+beside Empty g = g
+beside (Tree age own children younger) g = Tree age own children (beside younger g)
+
+-- the test for the states of a set that a program holds
+abbrev pub seen_by : {S : Type 0} → HashSet ℕ S → ℕ → Bool
+seen_by set q = contains nat_eq set q
+
+-- the test for the numbers whose flags are set
+abbrev pub flagged : List Bool → ℕ → Bool
+flagged flags y = slice_index_or flags y false
+
+-- what the walk over the forest f of all offers makes, where the states of the test `before` are seen and the names
+-- `names` are known to be full: the settled tree `row`, with the states that are seen then and the full names
+pub record Laid (before : ℕ → Bool) (names : List ℕ) (f : Forest) (row : Forest) (after : ℕ → Bool) (full : List ℕ) : Type 0 where
+  pub row_is : row ≡ settled (fresh before f)
+  pub seen_is : after ≡ with_all (states f) before
+  pub full_is : full ≡ names ++ fulls (fresh before f)

@@ -14,12 +14,14 @@
 #![tactic(auto)]
 
 mod comparing;
+mod drafts;
 mod items;
 pub mod laws;
 mod marking;
 mod moves;
 mod offering;
 mod plain;
+mod renewal;
 mod renumbering;
 #[cfg(test)]
 mod tests;
@@ -27,6 +29,7 @@ mod tree;
 mod tree_history;
 #[cfg(test)]
 mod tree_tests;
+mod walk;
 
 pub use items::Stacked;
 pub use ml_trace::Mark;

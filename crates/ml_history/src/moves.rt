@@ -6,7 +6,7 @@ ghost use Rattle.ml_history.specs.Moves.{ends};
 ghost use Rattle.ml_history.specs.TreeStep.{targets};
 
 use ml_base::NoMemory;
-use ml_trace::{Letter, Transition};
+use ml_trace::Transition;
 use std::alloc::Global;
 use std::marker::Model;
 
@@ -32,10 +32,10 @@ impl Model for Moves {
 
 impl Moves {
     // The transitions of the letter. The cost is that of a sort of them.
-    pub(crate) fn of(alloc: Global, letter: &Letter) -> Result<Moves, NoMemory>
+    pub(crate) fn of(alloc: Global, letter: &[Transition]) -> Result<Moves, NoMemory>
         ensures { IfOk result (λ m. (t : Transition) → IsMember t m ↔ IsMember t letter.now) }
     {
-        let mut by_source = Vec::from_slice(alloc, letter.transitions())?;
+        let mut by_source = Vec::from_slice(alloc, letter)?;
         by_source.sort_by_key(|t| t.from)?;
         Ok(Moves { by_source })
     }

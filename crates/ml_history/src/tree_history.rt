@@ -2,13 +2,18 @@
 ghost use Rattle.std.specs.Prelude.{◌≡◌, ◌<◌, ◌^◌, IfOk, Some, map};
 ghost use Rattle.ml_history.specs.History.{start, IsHistory};
 ghost use Rattle.ml_history.specs.HistoryOrder.{history_eq, history_eq_equiv, hash_writes};
-ghost use Rattle.ml_history.specs.HistoryStep.{live};
+ghost use Rattle.ml_history.specs.HistoryStep.{live, stepped, step_mark};
 ghost use Rattle.ml_history.specs.Stacks.{stacked};
 
 use crate::comparing::compare;
+use crate::moves::Moves;
+use crate::renewal::renew;
 use crate::tree::{Vertex, above, copied, feed, push_places, same};
+use crate::walk::walk;
 use ml_base::{IdSet, NoMemory};
+use ml_trace::{Letter, Mark};
 use std::alloc::Global;
+use std::collections::HashSet;
 use std::cmp::Ordering;
 use std::hash::{Hash, Hasher};
 use std::marker::Model;
@@ -89,6 +94,31 @@ impl History {
         ensures { IsHistory self.now }
     {
         let _roots = &self.roots;
+    }
+
+    /// The history after the step along the letter, and the mark of the step.
+    ///
+    /// The walk over the tree lists states in the order of offers: children first, older siblings before younger ones,
+    /// and a vertex behind its children. So the first offer to a state is the best one, and no stacks are compared.
+    ///
+    /// # Errors
+    /// `NoMemory` alone.
+    ///
+    /// Cost: a sort of the transitions of the letter and of the states behind the step; for each state a look for its
+    /// transitions, logarithmic in their number; and linear in the names, and in the depth of the tree for each state.
+    /// Source: the history trees of Schewe and the ages of Piterman.
+    pub fn step(&self, letter: &Letter) -> Result<(History, Mark), NoMemory>
+        ensures history { IfOk result (λ r. r.0 ≡ stepped self.now letter.now) }
+        ensures mark { IfOk result (λ r. r.1 ≡ step_mark self.now letter.now) }
+    {
+        let alloc = *self.roots.allocator();
+        let used = self.live();
+        let moves = Moves::of(alloc, letter.transitions())?;
+        let mut seen = HashSet::new(alloc);
+        let mut full = Vec::new(alloc);
+        let drafts = walk(alloc, used, &moves, self.roots.as_slice(), &mut seen, &mut full)?;
+        let (roots, mark) = renew(alloc, used, drafts.as_slice(), full.as_slice())?;
+        Ok((History { roots }, mark))
     }
 
     /// An equal history.

@@ -12,6 +12,6 @@ pub returns : goal.returns
 returns c =
     let before = c.in_ok-by_source.by_source.items in
     let after = c.sort_by_key.new.self.items in
-    let is : before ≡ c.args.letter.now = c.in_ok-by_source.ensures.items ∙ c.transitions.ensures.value in
+    let is : before ≡ c.args.letter.now = c.in_ok-by_source.ensures.items in
     let moved = c.in_ok-sort_by_key.ensures.permutation in
     λ t. (λ m. subst (IsMember t) is (permuted-member t after before (IsPermutation-sym before after moved) m), λ m. permuted-member t before after moved (subst (IsMember t) (sym is) m))
