@@ -139,9 +139,9 @@ module _ (n : ℕ → ℕ) where
       let in_y = λ (z : ℕ) (m : IsMember z (names y)). member-append_right z (names c) (a ∷ names y) (inr m) in (
         low a here,
         renewed-rise (a + 1) (n a + 1) c (λ y z my mz lt. keeps y z (in_c y my) (in_c z mz) lt) rise.1
-        (λ z m. let high = ages-names (a + 1) c z rise.1 m in let up = keeps a z here (in_c z m) (omega arith) in omega arith),
+            (λ z m. let high = ages-names (a + 1) c z rise.1 m in let up = keeps a z here (in_c z m) (omega arith) in omega arith),
         renewed-rise (a + 1) (n a + 1) y (λ v z mv mz lt. keeps v z (in_y v mv) (in_y z mz) lt) rise.2
-        (λ z m. let high = ages-names (a + 1) y z rise.2 m in let up = keeps a z here (in_y z m) (omega arith) in omega arith),
+            (λ z m. let high = ages-names (a + 1) y z rise.2 m in let up = keeps a z here (in_y z m) (omega arith) in omega arith),
       )
 
   -- at each of its vertices lies some state, and they ascend

@@ -33,9 +33,10 @@ use Rattle.ml_history.proofs.Walked.{walked-bound}
 pub made_walk : {S : Type 0} → (f : Forest) (m : List Transition) (used : ℕ) (seen : HashSet ℕ S) (after : ℕ → Bool) (start full full' : List ℕ) (vs ws ds es : List Rooted) → used ≡ live (items f) → keys seen ≡ [] → start ≡ [] → f ≡ joined vs → ws ≡ vs → Laid (seen_by seen) start (moved used (targets m) Empty (joined ws)) (joined ds) after full → es ≡ ds → full' ≡ full → (joined es ≡ settled (walked f m)) × (full' ≡ fulls (walked f m))
 made_walk f m used seen after start full full' vs ws ds es is none empty here slice l rows fulls_are =
     let forest : joined ws ≡ f = ap joined slice ∙ sym here in
-    let test : seen_by seen ≡ nobody = ap (λ ks q. list_any (eqb q) ks) none in
-    (ap joined rows ∙ l.row_is ∙ (λ i. settled (fresh (test i) (moved (is i) (targets m) Empty (forest i)))),
-    fulls_are ∙ l.full_is ∙ (λ i. empty i ++ fulls (fresh (test i) (moved (is i) (targets m) Empty (forest i)))))
+    let test : seen_by seen ≡ nobody = ap (λ ks q. list_any (eqb q) ks) none in (
+      ap joined rows ∙ l.row_is ∙ (λ i. settled (fresh (test i) (moved (is i) (targets m) Empty (forest i)))),
+      fulls_are ∙ l.full_is ∙ (λ i. empty i ++ fulls (fresh (test i) (moved (is i) (targets m) Empty (forest i)))),
+    )
 
 -- at most 2^30 names are in use
 pub used_few : (f : Forest) (used : ℕ) → IsKept f → used ≡ live (items f) → used ≤ 2 ^ 30

@@ -13,8 +13,8 @@ use crate::walk::walk;
 use ml_base::{IdSet, NoMemory};
 use ml_trace::{Letter, Mark};
 use std::alloc::Global;
-use std::collections::HashSet;
 use std::cmp::Ordering;
+use std::collections::HashSet;
 use std::hash::{Hash, Hasher};
 use std::marker::Model;
 
@@ -116,7 +116,14 @@ impl History {
         let moves = Moves::of(alloc, letter.transitions())?;
         let mut seen = HashSet::new(alloc);
         let mut full = Vec::new(alloc);
-        let drafts = walk(alloc, used, &moves, self.roots.as_slice(), &mut seen, &mut full)?;
+        let drafts = walk(
+            alloc,
+            used,
+            &moves,
+            self.roots.as_slice(),
+            &mut seen,
+            &mut full,
+        )?;
         let (roots, mark) = renew(alloc, used, drafts.as_slice(), full.as_slice())?;
         Ok((History { roots }, mark))
     }
