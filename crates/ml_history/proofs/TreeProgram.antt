@@ -4,7 +4,7 @@
 --   settled_bound, fulls_bound      == its names are below 2r, and so are those of full vertices
 --   used_few                        == at most 2^30 names are in use
 --   step_kept, step_items, step_marks == the tree behind the step is kept, its items are those of the step, and the mark
-use Rattle.std.proofs.Common.{ℕ, ◌≡◌, ◌*◌, ◌<◌, ◌≤◌, ◌^◌, ◌↔◌, Bool, not, ◌&&◌, ltb, eqb, List, [], ◌++◌, map, sym, subst, ap, ◌∙◌}
+use Rattle.std.proofs.Common.{ℕ, ◌≡◌, ◌*◌, ◌<◌, ◌≤◌, ◌^◌, ◌↔◌, Bool, not, ◌&&◌, ltb, eqb, List, [], ◌++◌, sym, subst, ap, ◌∙◌}
 use Rattle.std.specs.HashSet.{HashSet, keys}
 use Rattle.std.specs.List.{list_any}
 use Rattle.ml_lists.specs.Counting.{count}
@@ -13,10 +13,9 @@ use Rattle.ml_lists.specs.Member.{IsMember}
 use Rattle.ml_lists.proofs.Member.{Image, member-map_from}
 use Rattle.ml_trace.specs.Automaton.{HasSmallEnds}
 use Rattle.ml_trace.specs.declared.letters.Transition.{Transition}
-use Rattle.ml_trace.specs.Stack.{Item, has}
-use Rattle.ml_history.specs.Forest.{Forest, Empty, names, states, places, items}
+use Rattle.ml_trace.specs.Stack.{has}
+use Rattle.ml_history.specs.Forest.{Forest, Empty, names, places, items}
 use Rattle.ml_history.specs.HistoryStep.{live, stepped, step_mark, mark_of}
-use Rattle.ml_history.specs.Plain.{IsPlain}
 use Rattle.ml_history.specs.TreeStep.{targets, moved, nobody, fresh, settled, fulls, renewed, walked, seen_by, Laid}
 use Rattle.ml_history.specs.Vertices.{Rooted, joined, IsKept}
 use Rattle.ml_history.proofs.Arranged.{state_of}
