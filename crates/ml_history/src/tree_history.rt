@@ -89,8 +89,8 @@ impl History {
         above(self.roots.as_slice()) as u32
     }
 
-    // What the type keeps, said of the items.
-    pub(crate) fn is_kept(&self)
+    // The items are a history, as the type keeps it; the call does nothing.
+    pub(crate) fn is_history(&self)
         ensures { IsHistory self.now }
     {
         let _roots = &self.roots;
