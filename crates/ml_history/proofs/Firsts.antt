@@ -19,7 +19,7 @@ use Rattle.ml_history.specs.TreeStep.{nobody, with_one, with_all}
 use Rattle.ml_history.proofs.Arranged.{state_of, one_item}
 use Rattle.ml_history.proofs.Best.{beats_irreflexive}
 use Rattle.ml_history.proofs.LetterSets.{beats_antisymmetric}
-use Rattle.ml_history.proofs.Postorder.{InOrder}
+use Rattle.ml_history.proofs.Postorder.{BestFirst}
 use Rattle.ml_history.proofs.Taken.{taken-offer, taken_by, taken-ascends}
 
 -- the items whose states do not pass the test and did not stand before
@@ -128,7 +128,7 @@ firsts-apart seen (t ∷ ts) = by_test (cases_Bool (seen t.state)) (firsts-apart
         (λ m. from_image (member-map_from state_of t.state (firsts (with_one t.state seen) ts) m), more)
 
 -- no item of its state beats a first item, where the items stand in the order of offers
-firsts-unbeaten : (seen : ℕ → Bool) (ts : List (Item ℕ)) → InOrder ts → (a b : Item ℕ) → IsMember a (firsts seen ts) → IsMember b ts → b.state ≡ a.state → beats b.stack a.stack ≡ false
+firsts-unbeaten : (seen : ℕ → Bool) (ts : List (Item ℕ)) → BestFirst ts → (a b : Item ℕ) → IsMember a (firsts seen ts) → IsMember b ts → b.state ≡ a.state → beats b.stack a.stack ≡ false
 firsts-unbeaten seen [] order a b ma mb e = absurd mb
 firsts-unbeaten seen (t ∷ ts) order a b ma mb e = by_test (cases_Bool (seen t.state)) mb (firsts-unbeaten seen ts order.1 a b) (firsts-unbeaten (with_one t.state seen) ts order.1 a b)
   where
@@ -149,7 +149,7 @@ firsts-unbeaten seen (t ∷ ts) order a b ma mb e = by_test (cases_Bool (seen t.
     by_test (inr f) is rest more = first f (subst (IsMember a) (firsts-new seen t ts f) ma) is more
 
 -- of items in the order of offers the first ones are taken
-pub firsts_taken : (ts : List (Item ℕ)) → InOrder ts → (a : Item ℕ) → IsMember a (firsts nobody ts) → IsMember a (taken ts)
+pub firsts_taken : (ts : List (Item ℕ)) → BestFirst ts → (a : Item ℕ) → IsMember a (firsts nobody ts) → IsMember a (taken ts)
 firsts_taken ts order a m =
     let here = (firsts-from nobody ts a m).0 in
     let t = taken_by ts a here in
@@ -158,7 +158,7 @@ firsts_taken ts order a m =
     subst (λ v. IsMember v (taken ts)) same t.member
 
 -- and what is taken is a first one
-pub taken_firsts : (ts : List (Item ℕ)) → InOrder ts → (t : Item ℕ) → IsMember t (taken ts) → IsMember t (firsts nobody ts)
+pub taken_firsts : (ts : List (Item ℕ)) → BestFirst ts → (t : Item ℕ) → IsMember t (taken ts) → IsMember t (firsts nobody ts)
 taken_firsts ts order t m =
     let f = firsts-has nobody ts t (taken-offer ts t m) refl in
     let same = one_item (taken ts) (taken-ascends ts) f.item t (firsts_taken ts order f.item f.member) m f.state_is in

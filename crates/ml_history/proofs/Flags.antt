@@ -1,17 +1,17 @@
 -- Flags for names, and the numbers that are counted from them.
 --
---   flags_none, flags_next == the flags of no name, and of one name more
+--   flags_next             == the flags of names with one name more
 --   names_next             == the names that were gathered, with one vertex more
 --   set_next, set_sorted   == a set into which the entries of a list go in turn
 --   renewed_next           == vertices with new numbers, with one vertex more
+--   row_numbers            == vertices with the numbers that were counted from flags
 --   renewed-same           == two functions that agree on the names of a tree give it the same new numbers
-use Rattle.std.proofs.Common.{ℕ, zero, suc, ◌≡◌, ◌≢◌, ◌+◌, ◌<◌, ◌⊎◌, inl, inr, arith, Bool, true, false, ◌||◌, eqb, List, [], ◌∷◌, ◌++◌, length, get_or, take, refl, sym, subst, ap, ◌∙◌, append_assoc}
+use Rattle.std.proofs.Common.{ℕ, ◌≡◌, ◌+◌, ◌<◌, ◌⊎◌, inl, inr, arith, Bool, true, false, ◌||◌, eqb, List, [], ◌∷◌, ◌++◌, length, get_or, take, refl, sym, subst, ap, ◌∙◌, append_assoc}
 use Rattle.std.proofs.lemmas.Bool.{cases_eq, eq-eqb, ne_eqb, or_left, or_right}
-use Rattle.std.proofs.lemmas.List.{take_more, get_or-set_same, get_or-set_other, get_or-replicate}
+use Rattle.std.proofs.lemmas.List.{take_more, get_or-set_same, get_or-set_other}
 use Rattle.std.proofs.lemmas.List.Folds.{list_any-append}
-use Rattle.std.proofs.Math.ListN.{set, replicate}
-use Rattle.std.specs.List.Sorted.{IsPermutation}
-use Rattle.ml_lists.specs.Ascending.{IsAscending, ascending, insert_once}
+use Rattle.std.proofs.Math.ListN.{set}
+use Rattle.ml_lists.specs.Ascending.{ascending, insert_once}
 use Rattle.ml_lists.specs.Counting.{count}
 use Rattle.ml_lists.specs.Member.{IsMember}
 use Rattle.ml_lists.proofs.Ascending.{member-ascending, ascending-member, ascending-is, ascending_same, insert_once-is, insert_once-member, member-insert_once, insert_once-keeps}
@@ -21,21 +21,11 @@ use Rattle.ml_history.specs.Forest.{Forest, Empty, Tree, names}
 use Rattle.ml_history.specs.TreeStep.{beside, renewed, flagged}
 use Rattle.ml_history.specs.Vertices.{Rooted, joined}
 use Rattle.ml_history.proofs.Joined.{rooted, row_next, names_part}
-use Rattle.ml_history.proofs.Kept.{permuted-member}
 use Rattle.ml_history.proofs.Rows.{joined-append}
 
 -- ---- flags
 
--- flags of which none is set
-pub flags_none : (n : ℕ) → flagged (replicate n false) ≡ (λ y. has y [])
-flags_none n = λ i y. each n y i
-  where
-    each : (n y : ℕ) → flagged (replicate n false) y ≡ false
-    each zero y = refl
-    each (suc n) zero = refl
-    each (suc n) (suc y) = each n y
-
--- with one name more
+-- flags with one name more
 pub flags_next : (flags : List Bool) (s : List ℕ) (i : ℕ) → i < length s → get_or s i 0 < length flags → flagged flags ≡ (λ y. has y (take i s)) → flagged (set flags (get_or s i 0) true) ≡ (λ y. has y (take (i + 1) s))
 flags_next flags s i low within before = λ j y. each y j
   where

@@ -6,7 +6,7 @@
 use Rattle.std.proofs.Common.{ℕ, ◌≡◌, ◌+◌, ◌<◌, Bool, true, false, List, [], ◌∷◌, ◌++◌, length, get_or, take, refl, sym, subst, ap, ◌∙◌, append_assoc}
 use Rattle.std.proofs.lemmas.List.{append-nil, take_more}
 use Rattle.std.specs.List.{flat_map}
-use Rattle.ml_history.specs.Forest.{Forest, Empty, Tree, names, states}
+use Rattle.ml_history.specs.Forest.{Forest, Empty, Tree, states}
 use Rattle.ml_history.specs.TreeStep.{moved, with_all, news, fresh, lay_full, lay, settled, full_here, fulls, beside, Laid}
 use Rattle.ml_history.specs.Vertices.{Rooted, joined}
 use Rattle.ml_history.proofs.Joined.{rooted}

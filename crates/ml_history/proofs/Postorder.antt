@@ -1,7 +1,7 @@
 -- The order of the places of a forest is the order of offers: no stack beats one that stands before it.
 --
---   InOrder ts      == no stack of ts beats one that stands before it
---   places-in_order == the places of a forest whose ages rise stand in this order
+--   BestFirst ts      == no stack of ts beats one that stands before it
+--   places-best_first == the places of a forest whose ages rise stand in this order
 use Rattle.std.proofs.Common.{ℕ, ◌≡◌, ◌+◌, ◌<◌, ◌⊎◌, inl, inr, arith, false, List, [], ◌∷◌, ◌++◌, map, refl, sym, subst}
 use Rattle.ml_lists.specs.Member.{IsMember}
 use Rattle.ml_lists.proofs.Member.{Image, member-map_from, member-append}
@@ -12,14 +12,14 @@ use Rattle.ml_history.proofs.Best.{beats-from_not, beats_irreflexive}
 use Rattle.ml_history.proofs.Forests.{places-names, ages-names}
 
 -- no stack beats one that stands before it
-abbrev pub InOrder : List (Item ℕ) → Type 0
-InOrder [] = Unit {0}
-InOrder (a ∷ as') = ((b : Item ℕ) → IsMember b as' → beats b.stack a.stack ≡ false) × InOrder as'
+abbrev pub BestFirst : List (Item ℕ) → Type 0
+BestFirst [] = Unit {0}
+BestFirst (a ∷ as') = ((b : Item ℕ) → IsMember b as' → beats b.stack a.stack ≡ false) × BestFirst as'
 
 -- joined lists, where no stack of the second beats one of the first
-inorder-append : (ts us : List (Item ℕ)) → InOrder ts → InOrder us → ((a b : Item ℕ) → IsMember a ts → IsMember b us → beats b.stack a.stack ≡ false) → InOrder (ts ++ us)
-inorder-append [] us p q across = q
-inorder-append (t ∷ ts) us p q across = (λ b m. by_part b (member-append b ts us m), inorder-append ts us p.1 q (λ a b ma mb. across a b (inr ma) mb))
+best_first-append : (ts us : List (Item ℕ)) → BestFirst ts → BestFirst us → ((a b : Item ℕ) → IsMember a ts → IsMember b us → beats b.stack a.stack ≡ false) → BestFirst (ts ++ us)
+best_first-append [] us p q across = q
+best_first-append (t ∷ ts) us p q across = (λ b m. by_part b (member-append b ts us m), best_first-append ts us p.1 q (λ a b ma mb. across a b (inr ma) mb))
   where
     by_part : (b : Item ℕ) → IsMember b ts ⊎ IsMember b us → beats b.stack t.stack ≡ false
     by_part b (inl m) = p.0 b m
@@ -29,17 +29,17 @@ inorder-append (t ∷ ts) us p q across = (λ b m. by_part b (member-append b ts
 beats-below : (x : ℕ) (s t : List ℕ) → beats s t ≡ false → beats (x ∷ s) (x ∷ t) ≡ false
 beats-below x s t h = beats-from_not x x s t (inl (refl, h))
 
-inorder-below : (x : ℕ) (ts : List (Item ℕ)) → InOrder ts → InOrder (map (below x) ts)
-inorder-below x [] p = tt
-inorder-below x (t ∷ ts) p = (λ b m. from_image b (member-map_from (below x) b ts m), inorder-below x ts p.1)
+best_first-below : (x : ℕ) (ts : List (Item ℕ)) → BestFirst ts → BestFirst (map (below x) ts)
+best_first-below x [] p = tt
+best_first-below x (t ∷ ts) p = (λ b m. from_image b (member-map_from (below x) b ts m), best_first-below x ts p.1)
   where
     from_image : (b : Item ℕ) → Image (below x) b ts → beats b.stack (x ∷ t.stack) ≡ false
     from_image b i = subst (λ (v : Item ℕ). beats v.stack (x ∷ t.stack) ≡ false) (sym i.holds) (beats-below x i.from.stack t.stack (p.0 i.from i.member))
 
 -- states that lie at one vertex
-inorder-lies : (s qs : List ℕ) → InOrder (map (lies_at s) qs)
-inorder-lies s [] = tt
-inorder-lies s (q ∷ qs) = (λ b m. from_image b (member-map_from (lies_at s) b qs m), inorder-lies s qs)
+best_first-lies : (s qs : List ℕ) → BestFirst (map (lies_at s) qs)
+best_first-lies s [] = tt
+best_first-lies s (q ∷ qs) = (λ b m. from_image b (member-map_from (lies_at s) b qs m), best_first-lies s qs)
   where
     from_image : (b : Item ℕ) → Image (lies_at s) b qs → beats b.stack s ≡ false
     from_image b i = subst (λ (v : Item ℕ). beats v.stack s ≡ false) (sym i.holds) (beats_irreflexive s)
@@ -50,12 +50,12 @@ beats-higher x [] t high = refl
 beats-higher x (z ∷ zs) t high = beats-from_not z x zs t (inr (high z (inl refl)))
 
 -- the places of a forest whose ages rise stand in the order of offers
-pub places-in_order : (x : ℕ) (f : Forest) → AgesRise x f → InOrder (places f)
-places-in_order x Empty rise = tt
-places-in_order x (Tree a o c y) rise =
-    inorder-append (map (below a) (places c)) (map (lies_at (a ∷ [])) o ++ places y)
-    (inorder-below a (places c) (places-in_order (a + 1) c rise.1))
-    (inorder-append (map (lies_at (a ∷ [])) o) (places y) (inorder-lies (a ∷ []) o) (places-in_order (a + 1) y rise.2) (λ v w mv mw. after_own v w (member-map_from (lies_at (a ∷ [])) v o mv) mw))
+pub places-best_first : (x : ℕ) (f : Forest) → AgesRise x f → BestFirst (places f)
+places-best_first x Empty rise = tt
+places-best_first x (Tree a o c y) rise =
+    best_first-append (map (below a) (places c)) (map (lies_at (a ∷ [])) o ++ places y)
+    (best_first-below a (places c) (places-best_first (a + 1) c rise.1))
+    (best_first-append (map (lies_at (a ∷ [])) o) (places y) (best_first-lies (a ∷ []) o) (places-best_first (a + 1) y rise.2) (λ v w mv mw. after_own v w (member-map_from (lies_at (a ∷ [])) v o mv) mw))
     (λ v w mv mw. after_children v w (member-map_from (below a) v (places c) mv) (member-append w (map (lies_at (a ∷ [])) o) (places y) mw))
   where
     younger : (w : Item ℕ) (t : List ℕ) → IsMember w (places y) → beats w.stack (a ∷ t) ≡ false

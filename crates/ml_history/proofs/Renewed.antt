@@ -5,8 +5,8 @@
 --   renewed-names        == its names are those of the tree, renumbered
 --   renewed-apart        == no state lies in it twice, where none lies twice in the tree
 --   renewed-rise, renewed-owns, renewed-root == what it keeps
-use Rattle.std.proofs.Common.{ℕ, ◌≡◌, ◌≢◌, ◌+◌, ◌<◌, ◌≤◌, ◌⊎◌, inl, inr, arith, List, [], ◌∷◌, ◌++◌, map, refl, sym, subst, ap, ◌∙◌}
-use Rattle.std.proofs.lemmas.Bool.{cases_eq, cases_lt}
+use Rattle.std.proofs.Common.{ℕ, ◌≡◌, ◌≢◌, ◌+◌, ◌≤◌, ◌⊎◌, inl, inr, arith, List, [], ◌∷◌, ◌++◌, map, refl, sym, subst, ap, ◌∙◌}
+use Rattle.std.proofs.lemmas.Bool.{cases_eq}
 use Rattle.std.proofs.lemmas.List.{map-append}
 use Rattle.ml_lists.specs.Ascending.{IsAscending, ascending}
 use Rattle.ml_lists.specs.Member.{IsMember}
@@ -17,7 +17,7 @@ use Rattle.ml_history.specs.Forest.{Forest, Empty, Tree, names, states, lies_at,
 use Rattle.ml_history.specs.TreeStep.{renewed}
 use Rattle.ml_history.proofs.Forests.{ages-names, OwnsSome}
 use Rattle.ml_history.proofs.Renumber.{KeepsOrder}
-use Rattle.ml_history.proofs.Times.{times, times-append, times-member, member-times, times-no_member, apart-times, times-apart}
+use Rattle.ml_history.proofs.Times.{times, times-append, times-member, member-times, apart-times, times-apart}
 
 -- an item with new numbers of its names
 abbrev pub number_by : (ℕ → ℕ) → Item ℕ → Item ℕ
@@ -139,9 +139,9 @@ module _ (n : ℕ → ℕ) where
       let in_y = λ (z : ℕ) (m : IsMember z (names y)). member-append_right z (names c) (a ∷ names y) (inr m) in (
         low a here,
         renewed-rise (a + 1) (n a + 1) c (λ y z my mz lt. keeps y z (in_c y my) (in_c z mz) lt) rise.1
-        (λ z m. let high = ages-names (a + 1) c z rise.1 m in let up = keeps a z here (in_c z m) (omega arith) in omega arith),
+            (λ z m. let high = ages-names (a + 1) c z rise.1 m in let up = keeps a z here (in_c z m) (omega arith) in omega arith),
         renewed-rise (a + 1) (n a + 1) y (λ v z mv mz lt. keeps v z (in_y v mv) (in_y z mz) lt) rise.2
-        (λ z m. let high = ages-names (a + 1) y z rise.2 m in let up = keeps a z here (in_y z m) (omega arith) in omega arith),
+            (λ z m. let high = ages-names (a + 1) y z rise.2 m in let up = keeps a z here (in_y z m) (omega arith) in omega arith),
       )
 
   -- at each of its vertices lies some state, and they ascend

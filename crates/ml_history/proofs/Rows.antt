@@ -10,7 +10,7 @@ use denote.Param.Weighed.{most, at_most}
 use Rattle.ml_lists.specs.Member.{IsMember}
 use Rattle.ml_lists.proofs.Member.{member-append_left, member-append_right}
 use Rattle.ml_history.specs.Forest.{Forest, Empty, Tree, names, states}
-use Rattle.ml_history.specs.TreeStep.{lay, lay_full, full_here, beside}
+use Rattle.ml_history.specs.TreeStep.{lay, lay_full, beside}
 use Rattle.ml_history.specs.Vertices.{Rooted, joined, vertices, most-vertices}
 use Rattle.ml_history.proofs.Joined.{rooted, row_next, row_at, names_part}
 

@@ -1,21 +1,13 @@
 -- States that were seen: what the walk over a tree keeps of them.
 --
---   seen_more        == a set with one state more is seen by the test with it
 --   with_all-append, news-append == joined lists of states
 --   news-seen, news-new == a state that was seen, and one that was not
-use Rattle.std.proofs.Common.{ℕ, ◌≡◌, ◌+◌, ◌<◌, ◌⊎◌, inl, inr, Bool, true, false, not, ◌||◌, cond, eqb, List, [], ◌∷◌, ◌++◌, length, get_or, take, refl, sym, ap, ◌∙◌}
+--   news_next, seen_next == what is new of a list, and what is seen then, with one state more
+use Rattle.std.proofs.Common.{ℕ, ◌≡◌, ◌+◌, ◌<◌, ◌⊎◌, inl, inr, Bool, true, false, List, [], ◌∷◌, ◌++◌, length, get_or, take, refl, sym, ap, ◌∙◌}
 use Rattle.std.proofs.lemmas.Bool.{cases_Bool, cond-true, cond-false}
-use Rattle.std.proofs.lemmas.List.{take_more, append-nil}
+use Rattle.std.proofs.lemmas.List.{take_more}
 use Rattle.ml_history.specs.TreeStep.{with_one, with_all, news}
 use Rattle.ml_history.proofs.Firsts.{with_one-again}
-
--- a set with one state more is seen by the test with it
-pub seen_more : (p : ℕ) (old new : ℕ → Bool) → ((q : ℕ) → new q ≡ cond (eqb p q) true (old q)) → new ≡ with_one p old
-seen_more p old new each = λ i q. (each q ∙ by_test (eqb p q) (old q)) i
-  where
-    by_test : (b x : Bool) → cond b true x ≡ (b || x)
-    by_test true x = refl
-    by_test false x = refl
 
 -- joined lists of states
 pub with_all-append : (xs ys : List ℕ) (seen : ℕ → Bool) → with_all (xs ++ ys) seen ≡ with_all ys (with_all xs seen)
@@ -59,18 +51,3 @@ seen_next seen s i before after low b a =
     ∙ ap (with_one (get_or s i 0)) b
     ∙ sym (with_all-append (take i s) (get_or s i 0 ∷ []) seen)
     ∙ ap (λ l. with_all l seen) (sym (take_more s i 0 low))
-
--- what one state adds
-pub news_one : (q : ℕ) (seen : ℕ → Bool) (added : Bool) (before after : List ℕ) → added ≡ not (seen q) → added ≡ true → after ≡ before ++ q ∷ [] → after ≡ before ++ news seen (q ∷ [])
-news_one q seen added before after e t is = is ∙ ap (λ l. before ++ l) (sym (news-new seen q [] (unseen (seen q) added e t)))
-  where
-    unseen : (b added : Bool) → added ≡ not b → added ≡ true → b ≡ false
-    unseen true added e t = cc
-    unseen false added e t = refl
-
-pub news_none : (q : ℕ) (seen : ℕ → Bool) (added : Bool) (before : List ℕ) → added ≡ not (seen q) → added ≡ false → before ≡ before ++ news seen (q ∷ [])
-news_none q seen added before e f = sym (ap (λ l. before ++ l) (news-seen seen q [] (was_seen (seen q) added e f)) ∙ append-nil before)
-  where
-    was_seen : (b added : Bool) → added ≡ not b → added ≡ false → b ≡ true
-    was_seen true added e f = refl
-    was_seen false added e f = cc

@@ -13,16 +13,16 @@ use Rattle.std.proofs.lemmas.Bool.{cases_Bool, eq-eqb, ne_eqb, or_left, and_left
 use Rattle.std.proofs.lemmas.List.{map-append}
 use Rattle.std.proofs.lemmas.List.Folds.{list_any-append}
 use Rattle.ml_lists.specs.Member.{IsMember}
-use Rattle.ml_lists.proofs.Member.{Image, member-map, member-map_from, member-append, member-append_left, member-append_right}
+use Rattle.ml_lists.proofs.Member.{member-map, member-append, member-append_left, member-append_right}
 use Rattle.ml_trace.specs.Stack.{Item, has, ends_in}
 use Rattle.ml_trace.proofs.Stacks.{ends-has, has-member}
 use Rattle.ml_history.specs.Forest.{Forest, Empty, Tree, names, states, lies_at, below, places, AgesRise, IsApart, HasOneRoot}
 use Rattle.ml_history.specs.HistoryStep.{stands, is_last, is_full, through}
-use Rattle.ml_history.specs.TreeStep.{lay_full, lay, settled, full_here, fulls}
+use Rattle.ml_history.specs.TreeStep.{lay_full, settled, full_here, fulls}
 use Rattle.ml_history.proofs.Arranged.{state_of}
 use Rattle.ml_history.proofs.Cut.{through-stops, through-goes}
 use Rattle.ml_history.proofs.Forests.{places-states, places-not_empty, places-names, OwnsSome}
-use Rattle.ml_history.proofs.Names.{Standing, Ending, stands-from, stands-in, is_last-from, is_last-in}
+use Rattle.ml_history.proofs.Names.{stands-from, stands-in, is_last-from, is_last-in}
 use Rattle.ml_history.proofs.Times.{times, times-append, times-member, member-times, apart-times, times-apart, apart-left, apart-right, apart-both}
 
 -- whether a vertex is full, at which the states o lie, and below which the states qs

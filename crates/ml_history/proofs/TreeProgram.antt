@@ -4,7 +4,7 @@
 --   settled_bound, fulls_bound      == its names are below 2r, and so are those of full vertices
 --   used_few                        == at most 2^30 names are in use
 --   step_kept, step_items, step_marks == the tree behind the step is kept, its items are those of the step, and the mark
-use Rattle.std.proofs.Common.{ℕ, ◌≡◌, ◌*◌, ◌<◌, ◌≤◌, ◌^◌, ◌↔◌, Bool, not, ◌&&◌, ltb, eqb, List, [], ◌++◌, map, sym, subst, ap, ◌∙◌}
+use Rattle.std.proofs.Common.{ℕ, ◌≡◌, ◌*◌, ◌<◌, ◌≤◌, ◌^◌, ◌↔◌, Bool, not, ◌&&◌, ltb, eqb, List, [], ◌++◌, sym, subst, ap, ◌∙◌}
 use Rattle.std.specs.HashSet.{HashSet, keys}
 use Rattle.std.specs.List.{list_any}
 use Rattle.ml_lists.specs.Counting.{count}
@@ -13,10 +13,9 @@ use Rattle.ml_lists.specs.Member.{IsMember}
 use Rattle.ml_lists.proofs.Member.{Image, member-map_from}
 use Rattle.ml_trace.specs.Automaton.{HasSmallEnds}
 use Rattle.ml_trace.specs.declared.letters.Transition.{Transition}
-use Rattle.ml_trace.specs.Stack.{Item, has}
-use Rattle.ml_history.specs.Forest.{Forest, Empty, names, states, places, items}
+use Rattle.ml_trace.specs.Stack.{has}
+use Rattle.ml_history.specs.Forest.{Forest, Empty, names, places, items}
 use Rattle.ml_history.specs.HistoryStep.{live, stepped, step_mark, mark_of}
-use Rattle.ml_history.specs.Plain.{IsPlain}
 use Rattle.ml_history.specs.TreeStep.{targets, moved, nobody, fresh, settled, fulls, renewed, walked, seen_by, Laid}
 use Rattle.ml_history.specs.Vertices.{Rooted, joined, IsKept}
 use Rattle.ml_history.proofs.Arranged.{state_of}
@@ -33,9 +32,10 @@ use Rattle.ml_history.proofs.Walked.{walked-bound}
 pub made_walk : {S : Type 0} → (f : Forest) (m : List Transition) (used : ℕ) (seen : HashSet ℕ S) (after : ℕ → Bool) (start full full' : List ℕ) (vs ws ds es : List Rooted) → used ≡ live (items f) → keys seen ≡ [] → start ≡ [] → f ≡ joined vs → ws ≡ vs → Laid (seen_by seen) start (moved used (targets m) Empty (joined ws)) (joined ds) after full → es ≡ ds → full' ≡ full → (joined es ≡ settled (walked f m)) × (full' ≡ fulls (walked f m))
 made_walk f m used seen after start full full' vs ws ds es is none empty here slice l rows fulls_are =
     let forest : joined ws ≡ f = ap joined slice ∙ sym here in
-    let test : seen_by seen ≡ nobody = ap (λ ks q. list_any (eqb q) ks) none in
-    (ap joined rows ∙ l.row_is ∙ (λ i. settled (fresh (test i) (moved (is i) (targets m) Empty (forest i)))),
-    fulls_are ∙ l.full_is ∙ (λ i. empty i ++ fulls (fresh (test i) (moved (is i) (targets m) Empty (forest i)))))
+    let test : seen_by seen ≡ nobody = ap (λ ks q. list_any (eqb q) ks) none in (
+      ap joined rows ∙ l.row_is ∙ (λ i. settled (fresh (test i) (moved (is i) (targets m) Empty (forest i)))),
+      fulls_are ∙ l.full_is ∙ (λ i. empty i ++ fulls (fresh (test i) (moved (is i) (targets m) Empty (forest i)))),
+    )
 
 -- at most 2^30 names are in use
 pub used_few : (f : Forest) (used : ℕ) → IsKept f → used ≡ live (items f) → used ≤ 2 ^ 30

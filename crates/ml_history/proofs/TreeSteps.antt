@@ -6,9 +6,8 @@
 --   tree_step_items       == its items are what a step makes of those of the tree
 --   tree_step_proper      == it is the tree of a history
 --   tree_step_mark        == the mark, by the names of the settled tree and those of full vertices
-use Rattle.std.proofs.Common.{ℕ, ◌≡◌, ◌*◌, ◌<◌, ◌≤◌, ◌⊎◌, inl, inr, arith, Bool, true, false, not, ◌&&◌, ltb, List, map, refl, sym, subst, ap, ◌∙◌}
+use Rattle.std.proofs.Common.{ℕ, ◌≡◌, ◌*◌, ◌<◌, ◌⊎◌, inl, inr, arith, Bool, true, false, not, ◌&&◌, ltb, List, map, sym, subst, ap, ◌∙◌}
 use Rattle.std.proofs.lemmas.Bool.{cases_Bool, and_parts}
-use Rattle.ml_lists.specs.Ascending.{IsAscending}
 use Rattle.ml_lists.specs.Counting.{count}
 use Rattle.ml_lists.specs.Least.{least}
 use Rattle.ml_lists.specs.Member.{IsMember}
@@ -17,16 +16,16 @@ use Rattle.ml_lists.proofs.Ranks.{count_passes, count_same, count_hit}
 use Rattle.ml_trace.specs.declared.letters.Transition.{Transition}
 use Rattle.ml_trace.specs.Stack.{Item, has, ends_in}
 use Rattle.ml_trace.proofs.Stacks.{ends-has, has-member, member-has}
-use Rattle.ml_history.specs.Forest.{Forest, names, states, places, items, IsApart, IsProper}
+use Rattle.ml_history.specs.Forest.{Forest, names, places, items, IsApart, IsProper}
 use Rattle.ml_history.specs.HistoryStep.{live, stands, is_last, is_full, cut, new_number, survives, renumbered, taken_along, stepped, step_mark, mark_of, is_red, is_green}
 use Rattle.ml_history.specs.TreeStep.{settled, fulls, renewed, walked}
-use Rattle.ml_history.proofs.Arranged.{Within, state_of, arranged-ascends, member-arranged, arranged-member, items_same, members-list_any}
+use Rattle.ml_history.proofs.Arranged.{Within, items_same, members-list_any}
 use Rattle.ml_history.proofs.Forests.{places-names, names-places, OwnsSome}
 use Rattle.ml_history.proofs.Names.{stands-from, stands-in}
 use Rattle.ml_history.proofs.Proper.{proper_is_history, items-member, member-items}
 use Rattle.ml_history.proofs.Renewed.{number_by, renewed-from, renewed-has, renewed-names, renewed-apart, renewed-rise, renewed-owns, renewed-root}
 use Rattle.ml_history.proofs.Renumber.{KeepsOrder}
-use Rattle.ml_history.proofs.Settled.{FullAt, cut_at, full_at, settled-states, settled-places, settled-apart, settled-rise, settled-root, settled-some, fulls-from, fulls-has}
+use Rattle.ml_history.proofs.Settled.{cut_at, full_at, settled-states, settled-places, settled-apart, settled-rise, settled-root, settled-some, fulls-from, fulls-has}
 use Rattle.ml_history.proofs.StepKeeps.{step_is_history}
 use Rattle.ml_history.proofs.Times.{times-map}
 use Rattle.ml_history.proofs.Walked.{walked_taken, taken_walked, walked-apart, walked-names_apart, walked-rise, walked-root}

@@ -3,14 +3,13 @@
 --   targets-from, targets-has == the targets of a state are the states to which the letter leads from it
 --   walked_taken, taken_walked == the places of the tree are the items that are taken
 --   walked-apart, walked-names_apart, walked-bound, walked-rise, walked-root == what the tree keeps
-use Rattle.std.proofs.Common.{ℕ, ◌≡◌, ◌*◌, ◌<◌, ◌⊎◌, inl, inr, arith, Bool, true, false, not, ◌&&◌, cond, eqb, List, map, refl, sym, subst}
+use Rattle.std.proofs.Common.{ℕ, ◌≡◌, ◌*◌, ◌<◌, ◌⊎◌, inl, inr, arith, Bool, true, false, not, cond, eqb, List, refl, sym, subst}
 use Rattle.std.proofs.lemmas.Bool.{and_parts, and_from, eqb-true, eq-eqb, not-true, not_from_false}
 use Rattle.std.specs.List.{filter}
 use Rattle.ml_lists.specs.Member.{IsMember}
 use Rattle.ml_lists.proofs.Member.{Image, member-map, member-map_from, member-filter, member-filter_from}
 use Rattle.ml_trace.specs.declared.letters.Transition.{Transition}
 use Rattle.ml_trace.specs.Run.{in_letter}
-use Rattle.ml_trace.specs.Stack.{Item}
 use Rattle.ml_history.specs.Forest.{Forest, Empty, names, states, places, items, AgesRise, IsApart, HasOneRoot, IsProper}
 use Rattle.ml_history.specs.HistoryStep.{live, offers, taken, taken_along}
 use Rattle.ml_history.specs.TreeStep.{leads_from, targets, moved, nobody, walked}
@@ -19,8 +18,8 @@ use Rattle.ml_history.proofs.Firsts.{firsts, firsts_taken, taken_firsts}
 use Rattle.ml_history.proofs.Fresh.{fresh-places, fresh-names, fresh-rise, fresh-root, fresh-apart}
 use Rattle.ml_history.proofs.LetterSets.{taken_same}
 use Rattle.ml_history.proofs.Moved.{Made, moved-from, moved-has, moved-apart, moved-bound, moved-rise, moved-root}
-use Rattle.ml_history.proofs.Offers.{Offer, offer_from, offer_in}
-use Rattle.ml_history.proofs.Postorder.{InOrder, places-in_order}
+use Rattle.ml_history.proofs.Offers.{offer_from, offer_in}
+use Rattle.ml_history.proofs.Postorder.{BestFirst, places-best_first}
 use Rattle.ml_history.proofs.Proper.{items-member, member-items, names-live}
 
 -- ---- targets
@@ -92,19 +91,19 @@ module _ (f : Forest) (proper : IsProper f) (letter : List Transition) where
   all_rise : AgesRise 0 all
   all_rise = moved-rise (live (items f)) (targets letter) 0 Empty f proper.ages_rise (names-live f proper) (λ z low. tt) (omega arith)
 
-  all_in_order : InOrder (places all)
-  all_in_order = places-in_order 0 all all_rise
+  all_best_first : BestFirst (places all)
+  all_best_first = places-best_first 0 all all_rise
 
   -- the places of the tree of first offers are what is taken
   pub walked_taken : Within (places (walked f letter)) (taken_along (items f) letter)
   walked_taken v m =
       let first : IsMember v (firsts nobody (places all)) = subst (IsMember v) (fresh-places nobody all) m in
-      subst (IsMember v) all_taken (firsts_taken (places all) all_in_order v first)
+      subst (IsMember v) all_taken (firsts_taken (places all) all_best_first v first)
 
   pub taken_walked : Within (taken_along (items f) letter) (places (walked f letter))
   taken_walked v m =
       let here : IsMember v (taken (places all)) = subst (IsMember v) (sym all_taken) m in
-      subst (IsMember v) (sym (fresh-places nobody all)) (taken_firsts (places all) all_in_order v here)
+      subst (IsMember v) (sym (fresh-places nobody all)) (taken_firsts (places all) all_best_first v here)
 
   -- no state lies in the tree twice
   pub walked-apart : IsApart (states (walked f letter))

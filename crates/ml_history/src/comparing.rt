@@ -1,6 +1,6 @@
 // How histories on trees compare: item by item, with no memory. It serves nothing that is hot: the next state is looked
 // for in the whole tree each time, and so is the vertex that leads to it.
-ghost use Rattle.std.specs.Prelude.{◌≡◌, ◌≤◌, ◌<◌, ◌^◌};
+ghost use Rattle.std.specs.Prelude.{◌≡◌};
 ghost use Rattle.std.specs.Cmp.Lexicographic.{slice_cmp};
 ghost use Rattle.std.specs.Option.{option_copied};
 ghost use Rattle.std.specs.Ordering.{nat_cmp};

@@ -44,7 +44,14 @@ fn push_states(siblings: &[Draft], all: &mut Vec<u32>) -> Result<(), NoMemory>
 
 // Lays the vertex beside the siblings. Where no state lies at it, it takes all states of its children in their place,
 // and its name goes to the full ones; without any state it is left out.
-pub(crate) fn lay(alloc: Global, age: u32, own: Vec<u32>, children: Vec<Draft>, siblings: &mut Vec<Draft>, full: &mut Vec<u32>) -> Result<(), NoMemory>
+pub(crate) fn lay(
+    alloc: Global,
+    age: u32,
+    own: Vec<u32>,
+    children: Vec<Draft>,
+    siblings: &mut Vec<Draft>,
+    full: &mut Vec<u32>,
+) -> Result<(), NoMemory>
     ensures row { OnOk result (joined siblings.new.items ≡ beside (joined siblings.old.items) (lay age own.items (joined children.items) Empty)) }
     ensures full { OnOk result (full.new.items ≡ full.old.items ++ full_here age own.items (states (joined children.items))) }
 {

@@ -38,12 +38,12 @@ pub fn runs_have_odd_marks()
 pub fn odd_mark_has_run(start: &History, word: &[Letter])
     ensures { word.now ≢ [] → after start.now word.now ≡ start.now → is_odd (lowest_mark (marks_along start.now word.now)) ≡ true → AcceptingCycle start.now word.now }
 {
-    start.is_kept();
+    start.is_history();
 }
 
 /// The second cycle law for one history and one word.
 pub fn run_has_odd_mark(start: &History, word: &[Letter])
     ensures { word.now ≢ [] → after start.now word.now ≡ start.now → AcceptingCycle start.now word.now → is_odd (lowest_mark (marks_along start.now word.now)) ≡ true }
 {
-    start.is_kept();
+    start.is_history();
 }

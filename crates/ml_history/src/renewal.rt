@@ -120,7 +120,11 @@ fn set_of(alloc: Global, states: &[u32]) -> Result<IdSet, NoMemory>
 }
 
 // The vertices of the drafts, with the new numbers of their names.
-pub(crate) fn renewed(alloc: Global, drafts: &[Draft], numbers: &[u32]) -> Result<Vec<Vertex>, NoMemory>
+pub(crate) fn renewed(
+    alloc: Global,
+    drafts: &[Draft],
+    numbers: &[u32],
+) -> Result<Vec<Vertex>, NoMemory>
     requires { (y : ℕ) → IsMember y (names (joined drafts.now)) → y < length numbers.now }
     ensures { IfOk result (λ row. joined row.items ≡ renewed (λ y. slice_index_or numbers.now y 0) (joined drafts.now)) }
 {

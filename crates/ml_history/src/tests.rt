@@ -5,7 +5,7 @@ use std::alloc::Global;
 use std::test::Fail;
 
 // A transition, accepting or not.
-fn along(from: u32, to: u32, accepting: bool) -> Transition {
+pub(crate) fn along(from: u32, to: u32, accepting: bool) -> Transition {
     Transition {
         from,
         to,
@@ -14,7 +14,7 @@ fn along(from: u32, to: u32, accepting: bool) -> Transition {
 }
 
 // The letter of the transitions.
-fn letter(alloc: Global, transitions: &[Transition]) -> Result<Letter, Fail> {
+pub(crate) fn letter(alloc: Global, transitions: &[Transition]) -> Result<Letter, Fail> {
     Ok(Letter::new(transitions.to_vec(alloc)?).ok_or("a number of a state is too great")?)
 }
 

@@ -1,8 +1,7 @@
 // Vertices, and what is computed by walks over them.
-ghost use Rattle.std.specs.Prelude.{◌≡◌, ◌≤◌, ◌^◌, ◌↔◌, ◌++◌, IsTrue, IfOk, OnOk, map, fold};
+ghost use Rattle.std.specs.Prelude.{◌≡◌, ◌↔◌, ◌++◌, IsTrue, IfOk, OnOk, map, fold};
 ghost use Rattle.std.specs.List.{flat_map};
-ghost use Rattle.ml_trace.specs.Stack.{has};
-ghost use Rattle.ml_history.specs.Forest.{names, states, places, lies_at};
+ghost use Rattle.ml_history.specs.Forest.{names, places, lies_at};
 ghost use Rattle.ml_history.specs.HistoryOrder.{pair_writes};
 ghost use Rattle.ml_history.specs.HistoryStep.{above};
 ghost use Rattle.ml_history.specs.Stacks.{stacked};

@@ -13,8 +13,8 @@ use crate::walk::walk;
 use ml_base::{IdSet, NoMemory};
 use ml_trace::{Letter, Mark};
 use std::alloc::Global;
-use std::collections::HashSet;
 use std::cmp::Ordering;
+use std::collections::HashSet;
 use std::hash::{Hash, Hasher};
 use std::marker::Model;
 
@@ -89,8 +89,8 @@ impl History {
         above(self.roots.as_slice()) as u32
     }
 
-    // What the type keeps, said of the items.
-    pub(crate) fn is_kept(&self)
+    // The items are a history, as the type keeps it; the call does nothing.
+    pub(crate) fn is_history(&self)
         ensures { IsHistory self.now }
     {
         let _roots = &self.roots;
@@ -116,7 +116,14 @@ impl History {
         let moves = Moves::of(alloc, letter.transitions())?;
         let mut seen = HashSet::new(alloc);
         let mut full = Vec::new(alloc);
-        let drafts = walk(alloc, used, &moves, self.roots.as_slice(), &mut seen, &mut full)?;
+        let drafts = walk(
+            alloc,
+            used,
+            &moves,
+            self.roots.as_slice(),
+            &mut seen,
+            &mut full,
+        )?;
         let (roots, mark) = renew(alloc, used, drafts.as_slice(), full.as_slice())?;
         Ok((History { roots }, mark))
     }

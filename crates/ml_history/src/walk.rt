@@ -37,7 +37,12 @@ fn first_of(alloc: Global, states: &[u32], seen: &mut HashSet<u32>) -> Result<Ve
 }
 
 // The targets of the states, along accepting transitions or along others.
-fn targets_of(alloc: Global, moves: &Moves, own: &[u32], accepting: bool) -> Result<Vec<u32>, NoMemory>
+fn targets_of(
+    alloc: Global,
+    moves: &Moves,
+    own: &[u32],
+    accepting: bool,
+) -> Result<Vec<u32>, NoMemory>
     ensures { IfOk result (λ found. found.items ≡ flat_map (targets moves.now accepting) own.now) }
 {
     let mut found = Vec::new(alloc);
@@ -48,7 +53,13 @@ fn targets_of(alloc: Global, moves: &Moves, own: &[u32], accepting: bool) -> Res
 }
 
 // The targets of the states that were not seen before, along accepting transitions or along others; they are seen then.
-fn new_targets(alloc: Global, moves: &Moves, own: &[u32], accepting: bool, seen: &mut HashSet<u32>) -> Result<Vec<u32>, NoMemory>
+fn new_targets(
+    alloc: Global,
+    moves: &Moves,
+    own: &[u32],
+    accepting: bool,
+    seen: &mut HashSet<u32>,
+) -> Result<Vec<u32>, NoMemory>
     ensures states { IfOk result (λ found. found.items ≡ news (seen_by seen.old) (flat_map (targets moves.now accepting) own.now)) }
     ensures seen { OnOk result (seen_by seen.new ≡ with_all (flat_map (targets moves.now accepting) own.now) (seen_by seen.old)) }
 {
@@ -74,7 +85,14 @@ pub(crate) fn walk(
         let own = vertex.own.values();
         let mut children = walk(alloc, used, moves, vertex.children.as_slice(), seen, full)?;
         let accepted = new_targets(alloc, moves, own, true, seen)?;
-        lay(alloc, used + vertex.age, accepted, Vec::new(alloc), &mut children, full)?;
+        lay(
+            alloc,
+            used + vertex.age,
+            accepted,
+            Vec::new(alloc),
+            &mut children,
+            full,
+        )?;
         let kept = new_targets(alloc, moves, own, false, seen)?;
         lay(alloc, vertex.age, kept, children, &mut row, full)?;
     }

@@ -13,11 +13,12 @@ bounds-numbers-draft-inside t c = c.requires c.draft.inside.age (row_names_here 
 
 pub renewed-requires : goal.renewed-requires
 renewed-requires t c =
-    let less = row_falls c.args.drafts.now c.loop-draft.draft-index c.draft.inside.age c.draft.inside.own.items c.draft.inside.children.items c.as_slice-in-loop-draft.result.now c.draft-item.result c.draft.view_is c.loop-draft-test.true c.draft-item.is c.as_slice-in-loop-draft.ensures.value in
-    (search (rules, less, c.decreases),
-    λ y m. c.requires y
-    (row_names_below c.args.drafts.now c.loop-draft.draft-index c.draft.inside.age c.draft.inside.own.items (joined c.draft.inside.children.items) c.draft-item.result c.draft.view_is c.loop-draft-test.true c.draft-item.is y
-    (subst (λ vs. IsMember y (names (joined vs))) c.as_slice-in-loop-draft.ensures.value m)))
+    let less = row_falls c.args.drafts.now c.loop-draft.draft-index c.draft.inside.age c.draft.inside.own.items c.draft.inside.children.items c.as_slice-in-loop-draft.result.now c.draft-item.result c.draft.view_is c.loop-draft-test.true c.draft-item.is c.as_slice-in-loop-draft.ensures.value in (
+      search (rules, less, c.decreases),
+      λ y m. c.requires y
+          (row_names_below c.args.drafts.now c.loop-draft.draft-index c.draft.inside.age c.draft.inside.own.items (joined c.draft.inside.children.items) c.draft-item.result c.draft.view_is c.loop-draft-test.true c.draft-item.is y
+          (subst (λ vs. IsMember y (names (joined vs))) c.as_slice-in-loop-draft.ensures.value m)),
+    )
 
 pub loop-draft-preserved : goal.loop-draft-preserved
 loop-draft-preserved t c =

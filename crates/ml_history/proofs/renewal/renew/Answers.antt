@@ -1,11 +1,9 @@
-use Rattle.std.proofs.Common.{◌≡◌, ◌*◌, not, ◌&&◌, ltb, length, get_or, ap, subst, ◌∙◌, arith}
-use Rattle.ml_lists.specs.Counting.{count}
+use Rattle.std.proofs.Common.{◌*◌, not, ◌&&◌, ltb, length, get_or, ap, subst, ◌∙◌, arith}
 use Rattle.ml_lists.specs.Least.{least}
 use Rattle.ml_lists.specs.Member.{IsMember}
 use Rattle.ml_trace.specs.Stack.{has}
-use Rattle.ml_history.specs.Forest.{names}
 use Rattle.ml_history.specs.HistoryStep.{mark_of}
-use Rattle.ml_history.specs.TreeStep.{flagged, renewed}
+use Rattle.ml_history.specs.TreeStep.{flagged}
 use Rattle.ml_history.specs.Vertices.{joined}
 use Rattle.ml_history.proofs.Flags.{row_numbers}
 use Rattle.ml_history.proofs.renewal.renew.Goals as goal

@@ -10,11 +10,12 @@ use Rattle.ml_history.proofs.walk.+walk.Goals as goal
 
 pub walk-requires : goal.walk-requires
 walk-requires t c =
-    let less = row_falls c.args.siblings.now c.loop-vertex.vertex-index c.vertex.inside.age c.vertex.inside.own c.vertex.inside.children.items c.as_slice.result.now c.vertex-item.result c.vertex.view_is c.loop-vertex-test.true c.vertex-item.is c.as_slice.ensures.value in
-    (search (rules, less, c.decreases),
-    λ x m. c.requires x
-    (row_names_below c.args.siblings.now c.loop-vertex.vertex-index c.vertex.inside.age c.vertex.inside.own (joined c.vertex.inside.children.items) c.vertex-item.result c.vertex.view_is c.loop-vertex-test.true c.vertex-item.is x
-    (subst (λ vs. IsMember x (names (joined vs))) c.as_slice.ensures.value m)))
+    let less = row_falls c.args.siblings.now c.loop-vertex.vertex-index c.vertex.inside.age c.vertex.inside.own c.vertex.inside.children.items c.as_slice.result.now c.vertex-item.result c.vertex.view_is c.loop-vertex-test.true c.vertex-item.is c.as_slice.ensures.value in (
+      search (rules, less, c.decreases),
+      λ x m. c.requires x
+          (row_names_below c.args.siblings.now c.loop-vertex.vertex-index c.vertex.inside.age c.vertex.inside.own (joined c.vertex.inside.children.items) c.vertex-item.result c.vertex.view_is c.loop-vertex-test.true c.vertex-item.is x
+          (subst (λ vs. IsMember x (names (joined vs))) c.as_slice.ensures.value m)),
+    )
 
 pub overflow_add-used : goal.overflow_add-used
 overflow_add-used t c =

@@ -1,4 +1,4 @@
-use Rattle.std.proofs.Common.{rules, ◌≡◌, ◌∙◌, sym, subst}
+use Rattle.std.proofs.Common.{rules, ◌≡◌, sym, subst}
 use Rattle.std.proofs.lemmas.List.Sorted.{IsNonDecreasingBy-from_sort_by_key, IsPermutation-sym}
 use Rattle.ml_lists.specs.Member.{IsMember}
 use Rattle.ml_trace.specs.declared.letters.Transition.{Transition}
