@@ -31,10 +31,10 @@ use Rattle.ml_parity.proofs.Rows.{at_place}
 use Rattle.ml_parity.proofs.Occurrences.{times_here, times_other, entry_counts, counts_entry, before_next, same_part}
 
 -- the count of u is counted down
-pub left_here : (left : List ℕ) (u : ℕ) → 0 < number_at left u → number_at (set left u (number_at left u - 1)) u + 1 ≡ number_at left u
-left_here left u some =
+pub left_here : (left : List ℕ) (u x : ℕ) → x + 1 ≡ number_at left u → number_at (set left u x) u + 1 ≡ number_at left u
+left_here left u x less =
     let low : u < length left = ⊎_elim (λ (h : u < length left). h) (λ (h : length left ≤ u). absurd (omega (arith, get_or_past left u 0 h))) (cases_lt u (length left)) in
-    let e = get_or-set_same left u (number_at left u - 1) 0 low in
+    let e = get_or-set_same left u x 0 low in
     omega arith
 
 -- and no other
@@ -88,7 +88,7 @@ one_counted g place place2 a u left todo some inside outside lefts v low = by_ca
     by_case (inl here) =
         let e = lefts v low in
         let t = times_here v u todo (sym here) in
-        let one : number_at (set left u (number_at left u - 1)) v + 1 ≡ number_at left v = ap (λ x. number_at (set left u (number_at left u - 1)) x + 1) here ∙ left_here left u some ∙ sym (ap (number_at left) here) in
+        let one : number_at (set left u (number_at left u - 1)) v + 1 ≡ number_at left v = ap (λ x. number_at (set left u (number_at left u - 1)) x + 1) here ∙ left_here left u (number_at left u - 1) (omega arith) ∙ sym (ap (number_at left) here) in
         omega (arith, same)
     by_case (inr other) =
         let e = lefts v low in

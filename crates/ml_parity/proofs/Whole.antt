@@ -13,12 +13,13 @@ use Rattle.std.proofs.lemmas.List.{get_or_past}
 use Rattle.std.proofs.Math.Path.{fun_ext}
 use borrow.Author.Tests.{ltb-true}
 use Rattle.ml_parity.specs.declared.players.Player.{Player}
+use Rattle.ml_parity.specs.declared.fast_attract.Work.{Work}
 use Rattle.ml_parity.specs.Game.{ParityGame, IsGame, HasMove, size, moves_of}
 use Rattle.ml_parity.specs.Solution.{winner_at, choice_at}
 use Rattle.ml_parity.specs.Sinks.{Board, Solves}
 use Rattle.ml_parity.specs.SinkGame.{board_of, SolvesLists}
 use Rattle.ml_parity.specs.Parts.{part, SolvesPart, IsPart}
-use Rattle.ml_parity.specs.FastSteps.{place_of, number_at, moves_before, IsLeft, IsRow}
+use Rattle.ml_parity.specs.FastSteps.{place_of, number_at, places, choices, lefts, moves_before, IsLeft, IsRow, IsWork}
 use Rattle.ml_parity.specs.FastFrames.{SolvesWhole, IsAtPart}
 use Rattle.ml_parity.proofs.Boards.{move_to}
 use Rattle.ml_parity.proofs.Filled.{all_set}
@@ -37,11 +38,11 @@ whole_row order place n row long = fun_ext (λ v. by_size v (cases_lt v n))
         le-ltb (place_of place v) n (omega arith) ∙ sym (le-ltb v n past)
 
 -- where it is solved, the game is
-pub whole_solved : (g : ParityGame) (order place left : List ℕ) (winner : List Player) (choice : List ℕ) (n : ℕ) → n ≡ size g
-    → IsAtPart g order place left n → SolvesPart (board_of g) (place_of place) n (winner_at winner) (choice_at choice) → SolvesWhole g winner choice
-whole_solved g order place left winner choice n is at solves =
-    let at_size : SolvesPart (board_of g) (place_of place) (size g) (winner_at winner) (choice_at choice) = subst (λ m. SolvesPart (board_of g) (place_of place) m (winner_at winner) (choice_at choice)) is solves in
-    subst (λ (live : ℕ → Bool). Solves (board_of g) live (winner_at winner) (winner_at winner) (choice_at choice)) (whole_row order place (size g) at.row at.vertices) at_size
+pub whole_solved : (g : ParityGame) (w : Work) (winner : List Player) (n : ℕ) → n ≡ size g → IsAtPart g w n
+    → SolvesPart (board_of g) (places w) n (winner_at winner) (choices w) → SolvesWhole g winner w.choice.items
+whole_solved g w winner n is at solves =
+    let at_size : SolvesPart (board_of g) (places w) (size g) (winner_at winner) (choices w) = subst (λ m. SolvesPart (board_of g) (places w) m (winner_at winner) (choices w)) is solves in
+    subst (λ (live : ℕ → Bool). Solves (board_of g) live (winner_at winner) (winner_at winner) (choices w)) (whole_row w.row.order.items w.row.place.items (size g) at.work.row at.work.vertices) at_size
 
 -- a vertex that stands in the whole row, and one that is a vertex
 in_row : (order place : List ℕ) (n : ℕ) → IsRow order place → length place ≡ n → (v : ℕ) → v < n → place_of place v < n
@@ -76,9 +77,12 @@ whole_left g ok order place left row long each v low =
     each v low ∙ sym (count_all (part (place_of place) (size g)) (moves_of g v) (λ k inside. lt-ltb (place_of place (get_or (moves_of g v) k 0)) (size g) (in_row order place (size g) row long (get_or (moves_of g v) k 0) (ok.in_range v (get_or (moves_of g v) k 0) (move_to g v k inside)))))
 
 -- so the solver begins with it
-pub whole_begins : (g : ParityGame) → IsGame g → (order place left : List ℕ) → IsRow order place → length place ≡ size g
-    → ((v : ℕ) → v < size g → get_or left v 0 ≡ length (moves_of g v)) → IsAtPart g order place left (size g)
-whole_begins g ok order place left row long each = record { row = row; vertices = long; lefts = whole_left g ok order place left row long each }
+pub whole_begins : (g : ParityGame) → IsGame g → (w : Work) → IsWork g w
+    → ((v : ℕ) → v < size g → lefts w v ≡ length (moves_of g v)) → IsAtPart g w (size g)
+whole_begins g ok w work each = record {
+  work = work;
+  counted = whole_left g ok w.row.order.items w.row.place.items w.left.items work.row work.vertices each;
+}
 
 -- the part without vertices is solved
 pub none_solved : (b : Board) (place : ℕ → ℕ) (n : ℕ) (win : ℕ → Player) (s : ℕ → ℕ) → n ≡ 0 → SolvesPart b place n win s

@@ -5,6 +5,7 @@ ghost use Rattle.ml_parity.specs.Game.{IsGame, size};
 ghost use Rattle.ml_parity.specs.Solution.{IsSolution, FirstElsewhere};
 ghost use Rattle.ml_parity.specs.FastFrames.{SolvesWhole};
 
+use crate::fast_attract::Work;
 use crate::fast_moves::{move_counts, predecessors};
 use crate::fast_row::row_of;
 use crate::fast_turns::run;
@@ -27,20 +28,14 @@ fn winners_and_choices(
 {
     let size = game.size();
     let predecessors = predecessors(alloc, game)?;
-    let mut row = row_of(alloc, size)?;
-    let mut left = move_counts(alloc, game)?;
     let mut winner = vec![in alloc; Player::Even; size]?;
-    let mut choice = vec![in alloc; 0; size]?;
-    run(
-        alloc,
-        game,
-        &predecessors,
-        &mut row,
-        &mut left,
-        &mut winner,
-        &mut choice,
-    )?;
-    Ok((winner, choice))
+    let mut work = Work {
+        row: row_of(alloc, size)?,
+        left: move_counts(alloc, game)?,
+        choice: vec![in alloc; 0; size]?,
+    };
+    run(alloc, game, &predecessors, &mut work, &mut winner)?;
+    Ok((winner, work.choice))
 }
 
 /// Solves a parity game: who wins each vertex, and by which moves.
