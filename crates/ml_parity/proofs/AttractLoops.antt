@@ -9,7 +9,7 @@
 --   some_left       == a vertex whose predecessor is still to be seen has a move left
 --   counted_turn, kept_turn == one turn of the loop over the predecessors
 --   all_room, all_up == the same for all predecessors of the vertex at a place
-use Rattle.std.proofs.Common.{ℕ, suc, ◌≡◌, ◌+◌, ◌-◌, ◌<◌, ◌≤◌, ◌⊎◌, inl, inr, ⊎_elim, Bool, true, arith, List, [], ◌∷◌, length, get_or, set, take, drop, cond, nat_eq, subst, sym, ap, ◌∙◌, refl, eq-eqb, ne_eqb, add-one, get_or-set_same, get_or-set_other}
+use Rattle.std.proofs.Common.{ℕ, ◌≡◌, ◌+◌, ◌-◌, ◌<◌, ◌≤◌, ◌⊎◌, inl, inr, ⊎_elim, Bool, arith, List, [], ◌∷◌, length, get_or, set, take, drop, cond, nat_eq, subst, sym, ap, ◌∙◌, refl, eq-eqb, ne_eqb, add-one, get_or-set_same, get_or-set_other}
 use Rattle.std.proofs.Math.Seq.{drop-cons}
 use Rattle.std.specs.Global.{Vec}
 use Rattle.std.specs.List.{count_by}
@@ -17,8 +17,7 @@ use Rattle.std.proofs.lemmas.Bool.{cases_eq, cases_lt}
 use Rattle.std.proofs.lemmas.List.{get_or_default, get_or_past, length-map}
 use Rattle.std.proofs.lemmas.List.Sums.{count_by-le-length, sum_by-take-le, count_by_more_yes, count_by_more_no}
 use borrow.Author.Tests.{eqb-true}
-use Rattle.ml_lists.specs.Search.{Found}
-use Rattle.ml_parity.specs.Game.{ParityGame, IsGame, HasMove, size, moves_of}
+use Rattle.ml_parity.specs.Game.{ParityGame, HasMove, size, moves_of}
 use Rattle.ml_parity.specs.Refusal.{lists_of}
 use Rattle.ml_parity.specs.declared.players.Player.{Player}
 use Rattle.ml_parity.specs.Parts.{part, KeepsBehind}

@@ -1,25 +1,24 @@
--- The whole game as a part of itself, and the part without vertices.
+-- The whole game as a part of itself.
 --
 --   whole_row    == the part of all vertices
 --   whole_solved == where it is solved, the game is
 --   whole_part   == it is a part
 --   whole_left   == how many moves a vertex has is how many lead into it
 --   whole_begins == so the solver begins with it
---   none_solved  == the part without vertices is solved
-use Rattle.std.proofs.Common.{ℕ, suc, ◌≡◌, ◌+◌, ◌<◌, ◌≤◌, ◌⊎◌, inl, inr, ⊎_elim, Bool, true, false, arith, List, [], ◌∷◌, length, get_or, nat_lt, replicate, subst, sym, ap, ◌∙◌, refl, lt-ltb, le-ltb, zero}
+--   whole_lists  == the same, in the words of lists of flags
+use Rattle.std.proofs.Common.{ℕ, suc, ◌≡◌, ◌<◌, ◌≤◌, ◌⊎◌, inl, inr, ⊎_elim, Bool, true, arith, List, [], ◌∷◌, length, get_or, nat_lt, replicate, subst, sym, ◌∙◌, refl, lt-ltb, le-ltb, zero}
 use Rattle.std.specs.List.{count_by}
 use Rattle.std.proofs.lemmas.Bool.{cases_lt}
 use Rattle.std.proofs.lemmas.List.{get_or_past}
 use Rattle.std.proofs.Math.Path.{fun_ext}
-use borrow.Author.Tests.{ltb-true}
 use Rattle.ml_parity.specs.declared.players.Player.{Player}
 use Rattle.ml_parity.specs.declared.fast_attract.Work.{Work}
-use Rattle.ml_parity.specs.Game.{ParityGame, IsGame, HasMove, size, moves_of}
+use Rattle.ml_parity.specs.Game.{ParityGame, IsGame, size, moves_of}
 use Rattle.ml_parity.specs.Solution.{winner_at, choice_at}
-use Rattle.ml_parity.specs.Sinks.{Board, Solves}
+use Rattle.ml_parity.specs.Sinks.{Solves}
 use Rattle.ml_parity.specs.SinkGame.{board_of, SolvesLists}
 use Rattle.ml_parity.specs.Parts.{part, SolvesPart, IsPart}
-use Rattle.ml_parity.specs.FastSteps.{place_of, number_at, places, choices, lefts, moves_before, IsLeft, IsRow, IsWork}
+use Rattle.ml_parity.specs.FastSteps.{place_of, number_at, places, choices, lefts, IsLeft, IsRow, IsWork}
 use Rattle.ml_parity.specs.FastFrames.{SolvesWhole, IsAtPart}
 use Rattle.ml_parity.proofs.Boards.{move_to}
 use Rattle.ml_parity.proofs.Filled.{all_set}
@@ -54,9 +53,9 @@ pub whole_part : (g : ParityGame) → IsGame g → (order place : List ℕ) → 
 whole_part g ok order place row long win = record {
   leaves = λ v w low move outside. absurd (omega (arith, in_row order place (size g) row long w (ok.in_range v w move)));
   stays = λ v low.
-  let some = ok.goes_on v (vertex v low) in
-  let move = move_to g v 0 some in
-  record { to = get_or (moves_of g v) 0 0; move = move; inside = in_row order place (size g) row long (get_or (moves_of g v) 0 0) (ok.in_range v (get_or (moves_of g v) 0 0) move) };
+      let some = ok.goes_on v (vertex v low) in
+      let move = move_to g v 0 some in
+      record { to = get_or (moves_of g v) 0 0; move = move; inside = in_row order place (size g) row long (get_or (moves_of g v) 0 0) (ok.in_range v (get_or (moves_of g v) 0 0) move) };
 }
   where
     vertex : (v : ℕ) → place_of place v < size g → v < size g
@@ -82,14 +81,6 @@ pub whole_begins : (g : ParityGame) → IsGame g → (w : Work) → IsWork g w
 whole_begins g ok w work each = record {
   work = work;
   counted = whole_left g ok w.row.order.items w.row.place.items w.left.items work.row work.vertices each;
-}
-
--- the part without vertices is solved
-pub none_solved : (b : Board) (place : ℕ → ℕ) (n : ℕ) (win : ℕ → Player) (s : ℕ → ℕ) → n ≡ 0 → SolvesPart b place n win s
-none_solved b place n win s none = record {
-  ends = λ v dead. refl;
-  keeps = λ v alive. absurd (omega (arith, ltb-true (place v) n alive));
-  loops = λ p c m loop. absurd (omega (arith, ltb-true (place (c 0)) n (loop.steps 0 loop.long).alive));
 }
 
 -- the whole game, solved, in the words of the lists

@@ -10,7 +10,7 @@
 --   SolvesWhole            == winners and choices solve the whole game
 --   HoldsAt                == by where the solver is
 --   weight f, work_left    == what is left to do, as a number that falls at each turn
-use Rattle.std.specs.Prelude.{ℕ, ◌≡◌, ◌<◌, ◌+◌, ◌^◌, List, [], ◌∷◌, length, nat_lt, reverse}
+use Rattle.std.specs.Prelude.{ℕ, ◌≡◌, ◌<◌, ◌+◌, ◌^◌, List, [], ◌∷◌, nat_lt, reverse}
 use Rattle.std.specs.List.{sum_by}
 use Rattle.ml_parity.specs.declared.players.Player.{Player}
 use Rattle.ml_parity.specs.declared.fast_attract.Work.{Work}

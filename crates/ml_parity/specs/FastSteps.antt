@@ -23,7 +23,7 @@
 --   ChoosesInside          == the choices of q's vertices from mid up to a are moves into the part n, and the others are kept
 --   IsAdded                == a vertex is added to the lists of those to which its moves lead, once for each move
 --   Gives                  == the vertices of the part n behind rest belong to q now, and no other vertex changes hands
-use Rattle.std.specs.Prelude.{ℕ, ◌≡◌, ◌+◌, ◌<◌, ◌≤◌, ◌⊎◌, Bool, List, [], length, get_or, nat_eq, nat_lt, suc}
+use Rattle.std.specs.Prelude.{ℕ, ◌≡◌, ◌+◌, ◌<◌, ◌≤◌, ◌⊎◌, List, [], length, get_or, nat_eq}
 use Rattle.std.specs.List.{count_by}
 use Rattle.ml_parity.specs.declared.players.Player.{Player}
 use Rattle.ml_parity.specs.declared.fast_attract.Work.{Work}

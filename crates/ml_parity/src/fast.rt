@@ -17,10 +17,7 @@ use ml_base::NoMemory;
 use std::alloc::Global;
 
 /// The winner of each vertex, and choices with which each winner wins.
-fn winners_and_choices(
-    alloc: Global,
-    game: &Game,
-) -> Result<(Vec<Player>, Vec<u64>), NoMemory>
+fn winners_and_choices(alloc: Global, game: &Game) -> Result<(Vec<Player>, Vec<u64>), NoMemory>
     ensures game { IfOk result (λ _. IsGame game.now) }
     ensures winners { IfOk result (λ r. length r.0.items ≡ size game.now) }
     ensures choices { IfOk result (λ r. length r.1.items ≡ size game.now) }

@@ -85,14 +85,7 @@ fn first_half(
     let priority = lowest_priority(game, &work.row, count);
     let player = Player::of_priority(priority);
     let seeded = gather_priority(game, &mut work.row, count, priority);
-    choose_inside(
-        game,
-        &work.row,
-        &mut work.choice,
-        player,
-        seeded,
-        count,
-    );
+    choose_inside(game, &work.row, &mut work.choice, player, seeded, count);
     let rest = attract(game, predecessors, player, count, seeded, work);
     give(&work.row, winner, player, rest, count);
     (player, rest)
@@ -118,21 +111,21 @@ fn second_half(
     ensures half { MatchOption
         result
         (EndsSecondHalf
-            game.now
-            (places work.new)
-            count
-            (lefts work.new)
-            (winner_at winner.new)
-            (choices work.new))
+        game.now
+        (places work.new)
+        count
+        (lefts work.new)
+        (winner_at winner.new)
+        (choices work.new))
         (λ rest. BeginsSecondHalf
-            game.now
-            (places work.new)
-            count
-            rest
-            (opponent player)
-            (lefts work.new)
-            (winner_at winner.new)
-            (choices work.new)) }
+        game.now
+        (places work.new)
+        count
+        rest
+        (opponent player)
+        (lefts work.new)
+        (winner_at winner.new)
+        (choices work.new)) }
     ensures kept { KeepsBehind
         count
         (places work.old)
@@ -212,14 +205,7 @@ fn close_part(
     match frame.half {
         Half::Second => Ok(Some(At::Solved(frame.count))),
         Half::First => {
-            match second_half(
-                game,
-                predecessors,
-                frame.player,
-                frame.count,
-                work,
-                winner,
-            ) {
+            match second_half(game, predecessors, frame.player, frame.count, work, winner) {
                 None => Ok(Some(At::Solved(frame.count))),
                 Some(rest) => {
                     frames.push(Frame {

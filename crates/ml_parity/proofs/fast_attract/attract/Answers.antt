@@ -1,10 +1,7 @@
 -- The vertex at the next place is followed backwards, and in the end all are.
-use Rattle.std.proofs.Common.{rules, arith, ℕ, List, ◌≡◌, ◌<◌, ◌≤◌, ◌+◌, ◌-◌, ◌∙◌, sym, subst, ap, length, []}
-use Rattle.std.specs.Global.{Vec}
-use Rattle.ml_parity.specs.declared.players.Player.TheVariants.{Even}
-use Rattle.ml_parity.specs.Game.{size}
+use Rattle.std.proofs.Common.{arith, ◌≡◌, ◌<◌, ◌-◌, subst, []}
 use Rattle.ml_parity.specs.Solution.{choice_at}
-use Rattle.ml_parity.specs.FastSteps.{place_of, number_at, times, moves_before, IsLeft, IsAttracting}
+use Rattle.ml_parity.specs.FastSteps.{place_of, number_at, IsLeft, IsAttracting}
 use Rattle.ml_parity.proofs.Rows.{is_vertex}
 use Rattle.ml_parity.proofs.KeptBehind.{keeps_itself}
 use Rattle.ml_parity.proofs.Attracting.{began, finished}

@@ -1,7 +1,6 @@
 -- A predecessor stands behind already, is not attracted, or is.
-use Rattle.std.proofs.Common.{rules, arith, ◌+◌, ℕ, List, ◌≡◌, ◌<◌, ◌⊎◌, inl, inr, ◌∙◌, ◌-◌, sym, set, refl, get_or-set_same, length-set}
+use Rattle.std.proofs.Common.{rules, arith, ◌+◌, ◌≡◌, ◌<◌, ◌⊎◌, inl, inr, ◌∙◌, ◌-◌, set, get_or-set_same, length-set}
 use Rattle.std.proofs.lemmas.List.{get_or_default}
-use Rattle.ml_parity.specs.Player.{opponent}
 use Rattle.ml_parity.specs.Game.{owner_of}
 use Rattle.ml_parity.specs.Solution.{choice_at}
 use Rattle.ml_parity.specs.FastSteps.{place_of, number_at}

@@ -1,11 +1,10 @@
 -- One predecessor more is seen, and in the end all are.
-use Rattle.std.proofs.Common.{rules, arith, ℕ, List, ◌≡◌, ◌<◌, ◌≤◌, ◌+◌, ◌∙◌, sym, subst, drop, get_or, length, ◌∷◌, []}
+use Rattle.std.proofs.Common.{arith, ◌<◌, ◌≤◌, ◌+◌, ◌∙◌, subst, drop, get_or}
 use Rattle.std.proofs.lemmas.List.{drop_all}
-use Rattle.ml_parity.specs.declared.players.Player.{Player}
 use Rattle.ml_parity.specs.declared.players.Player.TheVariants.{Even}
 use Rattle.ml_parity.specs.Game.{size}
 use Rattle.ml_parity.specs.Solution.{choice_at}
-use Rattle.ml_parity.specs.FastSteps.{place_of, number_at, times, moves_before, IsAttracting}
+use Rattle.ml_parity.specs.FastSteps.{place_of, number_at, IsAttracting}
 use Rattle.ml_parity.proofs.AttractLoops.{next_entry, preds_move, move_low, some_left, counted_turn, kept_turn}
 use Rattle.ml_parity.proofs.fast_attract.attract_to.Goals as goal
 

@@ -1,5 +1,4 @@
 -- The frames wait for the part at which the solver is, and the work falls.
-use Rattle.std.proofs.Common.{◌≡◌, length}
 use Rattle.ml_parity.specs.FastFrames.{HoldsAt, work_left}
 use Rattle.ml_parity.proofs.fast_turns.run.Given as goal
 
