@@ -44,9 +44,9 @@ fn winners_and_choices(alloc: Global, game: &Game) -> Result<(Vec<Player>, Vec<u
 /// `NoMemory` alone.
 ///
 /// Cost: the turns of Zielonka's recursion, at most 3^(n+1) of them for n vertices, and few in most games. A turn looks at
-/// each vertex of its part twice, and at each move to a vertex that it removes twice. The frames of the recursion stand on a
-/// list, and a frame is three words, so memory is linear in the game, and the stack doesn't grow. Source: Zielonka, Infinite
-/// games on finitely coloured graphs (1998).
+/// each vertex of its part twice, at the moves from its vertices of lowest priority, and twice at each move to a vertex that
+/// it removes. The frames stand on a list, three words each and at most one for each vertex, so memory is linear in the game
+/// and the stack doesn't grow. Source: Zielonka, Infinite games on finitely coloured graphs (1998).
 pub fn solve(alloc: Global, game: &Game) -> Result<Solution, NoMemory>
     ensures ok { IfOk result (IsSolution game.now) }
     ensures elsewhere { IfOk result (FirstElsewhere game.now) }
