@@ -9,7 +9,7 @@
 --   some_left       == a vertex whose predecessor is still to be seen has a move left
 --   counted_turn, kept_turn == one turn of the loop over the predecessors
 --   all_room, all_up == the same for all predecessors of the vertex at a place
-use Rattle.std.proofs.Common.{ℕ, suc, ◌≡◌, ◌+◌, ◌-◌, ◌<◌, ◌≤◌, ◌⊎◌, inl, inr, ⊎_elim, Bool, true, arith, List, [], ◌∷◌, length, get_or, set, take, drop, cond, nat_eq, subst, sym, ap, ◌∙◌, refl, eq-eqb, ne_eqb, add-one, get_or-set_same, get_or-set_other}
+use Rattle.std.proofs.Common.{ℕ, ◌≡◌, ◌+◌, ◌-◌, ◌<◌, ◌≤◌, ◌⊎◌, inl, inr, ⊎_elim, Bool, arith, List, [], ◌∷◌, length, get_or, set, take, drop, cond, nat_eq, subst, sym, ap, ◌∙◌, refl, eq-eqb, ne_eqb, add-one, get_or-set_same, get_or-set_other}
 use Rattle.std.proofs.Math.Seq.{drop-cons}
 use Rattle.std.specs.Global.{Vec}
 use Rattle.std.specs.List.{count_by}
@@ -17,8 +17,7 @@ use Rattle.std.proofs.lemmas.Bool.{cases_eq, cases_lt}
 use Rattle.std.proofs.lemmas.List.{get_or_default, get_or_past, length-map}
 use Rattle.std.proofs.lemmas.List.Sums.{count_by-le-length, sum_by-take-le, count_by_more_yes, count_by_more_no}
 use borrow.Author.Tests.{eqb-true}
-use Rattle.ml_lists.specs.Search.{Found}
-use Rattle.ml_parity.specs.Game.{ParityGame, IsGame, HasMove, size, moves_of}
+use Rattle.ml_parity.specs.Game.{ParityGame, HasMove, size, moves_of}
 use Rattle.ml_parity.specs.Refusal.{lists_of}
 use Rattle.ml_parity.specs.declared.players.Player.{Player}
 use Rattle.ml_parity.specs.Parts.{part, KeepsBehind}
@@ -31,10 +30,10 @@ use Rattle.ml_parity.proofs.Rows.{at_place}
 use Rattle.ml_parity.proofs.Occurrences.{times_here, times_other, entry_counts, counts_entry, before_next, same_part}
 
 -- the count of u is counted down
-pub left_here : (left : List ℕ) (u : ℕ) → 0 < number_at left u → number_at (set left u (number_at left u - 1)) u + 1 ≡ number_at left u
-left_here left u some =
+pub left_here : (left : List ℕ) (u x : ℕ) → x + 1 ≡ number_at left u → number_at (set left u x) u + 1 ≡ number_at left u
+left_here left u x less =
     let low : u < length left = ⊎_elim (λ (h : u < length left). h) (λ (h : length left ≤ u). absurd (omega (arith, get_or_past left u 0 h))) (cases_lt u (length left)) in
-    let e = get_or-set_same left u (number_at left u - 1) 0 low in
+    let e = get_or-set_same left u x 0 low in
     omega arith
 
 -- and no other
@@ -88,7 +87,7 @@ one_counted g place place2 a u left todo some inside outside lefts v low = by_ca
     by_case (inl here) =
         let e = lefts v low in
         let t = times_here v u todo (sym here) in
-        let one : number_at (set left u (number_at left u - 1)) v + 1 ≡ number_at left v = ap (λ x. number_at (set left u (number_at left u - 1)) x + 1) here ∙ left_here left u some ∙ sym (ap (number_at left) here) in
+        let one : number_at (set left u (number_at left u - 1)) v + 1 ≡ number_at left v = ap (λ x. number_at (set left u (number_at left u - 1)) x + 1) here ∙ left_here left u (number_at left u - 1) (omega arith) ∙ sym (ap (number_at left) here) in
         omega (arith, same)
     by_case (inr other) =
         let e = lefts v low in

@@ -5,11 +5,10 @@
 --   stays       == a predecessor that stands behind already, or is not attracted
 --   attracted   == a predecessor that is attracted, and goes to the end of what is left
 --   finished    == when all is followed, the attractor is made
-use Rattle.std.proofs.Common.{ℕ, suc, ◌≡◌, ◌+◌, ◌-◌, ◌<◌, ◌≤◌, ◌⊎◌, inl, inr, ⊎_elim, Bool, true, arith, List, [], ◌∷◌, length, get_or, nat_eq, refl, ap, sym, ◌∙◌, subst, eq-eqb, lt-ltb}
+use Rattle.std.proofs.Common.{ℕ, ◌≡◌, ◌+◌, ◌<◌, ◌≤◌, ◌⊎◌, inl, inr, ⊎_elim, Bool, arith, List, [], ◌∷◌, get_or, nat_eq, ap, sym, ◌∙◌, subst, eq-eqb, lt-ltb}
 use Rattle.std.proofs.lemmas.Bool.{cases_eq, cases_lt}
 use Rattle.std.specs.List.{count_by}
 use borrow.Author.Tests.{ltb-true}
-use Rattle.ml_lists.specs.Search.{Found}
 use Rattle.ml_parity.specs.declared.players.Player.{Player}
 use Rattle.ml_parity.specs.Player.{opponent}
 use Rattle.ml_parity.specs.Game.{ParityGame, HasMove, size, owner_of, moves_of}
@@ -44,10 +43,10 @@ began g place n mid q win s left fits low is_part is_left = record {
   other = λ v w late early other move inside. absurd (omega arith);
   seen_own = λ v w early own move inside. inl inside;
   seen_other = λ v early other.
-  let m = is_part.stays v (omega arith) in
-  let e = is_left v (low v (omega arith)) in
-  let some = move_before g place n v m.to m.move m.inside in
-  omega arith;
+      let m = is_part.stays v (omega arith) in
+      let e = is_left v (low v (omega arith)) in
+      let some = move_before g place n v m.to m.move m.inside in
+      omega arith;
 }
 
 -- the vertex at the next place is taken up, with all its predecessors still to be seen
@@ -60,10 +59,10 @@ followed g place n mid rest a q s left w preds before reached here one each = re
   reached = reached;
   within = omega (arith, before.within);
   lefts = λ v below.
-  let e = before.lefts v below in
-  let next = before_next place a w here one (moves_of g v) in
-  let p = each v in
-  omega arith;
+      let e = before.lefts v below in
+      let next = before_next place a w here one (moves_of g v) in
+      let p = each v in
+      omega arith;
   own = before.own;
   other = before.other;
   seen_own = λ v x early own move inside. seen v x move (before.seen_own v x early own move inside) (cases_lt (place x) a);
@@ -88,19 +87,14 @@ finished g place n mid rest q s left vertex a = record {
   own = a.own;
   other = a.other;
   closed_own = λ v w early own move inside. ⊎_elim
-  (λ (low : place w < rest). low)
-  (λ (some : 0 < times v []). absurd (omega arith))
-  (a.seen_own v w early own move inside);
+      (λ (low : place w < rest). low)
+      (λ (some : 0 < times v []). absurd (omega arith))
+      (a.seen_own v w early own move inside);
   closed_other = λ v early other.
-  let some = a.seen_other v early other in
-  let e = a.lefts v (vertex v (omega (arith, a.low, a.high))) in
-  before_move g place rest v (omega arith);
+      let some = a.seen_other v early other in
+      let e = a.lefts v (vertex v (omega (arith, a.low, a.high))) in
+      before_move g place rest v (omega arith);
 }
-
--- and the counts are those of what is left
-pub finished_left : (g : ParityGame) (place : ℕ → ℕ) (n mid rest : ℕ) (q : Player) (s left : ℕ → ℕ)
-    → IsAttracting g place n mid rest rest q s left [] → IsLeft g place rest left
-finished_left g place n mid rest q s left a v low = let e = a.lefts v low in omega arith
 
 module _ (g : ParityGame) (place : ℕ → ℕ) (n mid rest a : ℕ) (q : Player) (s left left2 : ℕ → ℕ) (u : ℕ) (todo : List ℕ)
     (before : IsAttracting g place n mid rest a q s left (u ∷ todo))
@@ -193,20 +187,20 @@ module _ (g : ParityGame) (place : ℕ → ℕ) (n mid rest a : ℕ) (q : Player
       reached = omega (arith, before.reached);
       within = before.within;
       lefts = λ v low.
-      lefts v low ∙ ap (λ (test : ℕ → Bool). count_by test (moves_of g v) + times v todo) (sym (same_part place place2 a (λ x. part_in a x before.reached) (λ x. part_out a x before.reached)));
+          lefts v low ∙ ap (λ (test : ℕ → Bool). count_by test (moves_of g v) + times v todo) (sym (same_part place place2 a (λ x. part_in a x before.reached) (λ x. part_out a x before.reached)));
       own = λ v late low mine. own v late low mine (cases_eq v u);
       other = λ v x late low theirs m inside. other v x late low theirs m inside (cases_eq v u);
       seen_own = λ v x low mine m inside.
-      let l = left_now v low in
-      ⊎_elim
-      (λ (h : place x < a). inl (part_in a x before.reached h))
-      (λ (h : 0 < times v todo). inr h)
-      (still v x l.0 (before.seen_own v x l.1 mine m (part_from n x (omega (arith, before.reached, before.within)) inside)));
+          let l = left_now v low in
+          ⊎_elim
+          (λ (h : place x < a). inl (part_in a x before.reached h))
+          (λ (h : 0 < times v todo). inr h)
+          (still v x l.0 (before.seen_own v x l.1 mine m (part_from n x (omega (arith, before.reached, before.within)) inside)));
       seen_other = λ v low other.
-      let l = left_now v low in
-      let e = others v l.0 in
-      let some = before.seen_other v l.1 other in
-      omega arith;
+          let l = left_now v low in
+          let e = others v l.0 in
+          let some = before.seen_other v l.1 other in
+          omega arith;
     }
       where
         own : (v : ℕ) → rest2 ≤ place2 v → place2 v < mid → owner_of g v ≡ q → (v ≡ u) ⊎ (v ≡ u → ⊥)

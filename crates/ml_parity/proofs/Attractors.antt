@@ -3,7 +3,7 @@
 --   above             == a part is solved if what is left of it is, its attractor is given to q, and what attracts is kept
 --                        by q with good loops
 --   rest_is_part      == what is left of a part is a part
-use Rattle.std.proofs.Common.{ℕ, ◌≡◌, ◌+◌, ◌-◌, ◌<◌, ◌≤◌, true, ◌⊎◌, inl, inr, ⊎_elim, arith, subst, sym, ap, ◌∙◌, refl, lt-ltb}
+use Rattle.std.proofs.Common.{ℕ, ◌≡◌, ◌+◌, ◌-◌, ◌<◌, ◌≤◌, ◌⊎◌, inl, inr, ⊎_elim, arith, subst, sym, ap, ◌∙◌, refl, lt-ltb}
 use Rattle.std.proofs.lemmas.Bool.{cases_lt}
 use borrow.Author.Tests.{ltb-true}
 use Rattle.ml_lists.specs.Search.{Found}
@@ -11,7 +11,7 @@ use Rattle.ml_lists.proofs.Search.{search}
 use Rattle.ml_lists.proofs.Loops.{around, loop_is_flat}
 use Rattle.ml_parity.specs.declared.players.Player.{Player}
 use Rattle.ml_parity.specs.Player.{opponent}
-use Rattle.ml_parity.specs.Sinks.{Board, Holds, Step, Loop, GoodFor, Solves}
+use Rattle.ml_parity.specs.Sinks.{Board, Holds, Step, Loop, GoodFor}
 use Rattle.ml_parity.specs.Parts.{part, SolvesPart, MoveInto, IsPart, IsAttracted, IsGiven}
 use Rattle.ml_parity.proofs.Opponents.{cases_player, opponent-opponent}
 
@@ -51,8 +51,8 @@ module _ (b : Board) (place : ℕ → ℕ) (n mid rest : ℕ) (q : Player) (win 
   pulled : (v : ℕ) → rest ≤ place v → place v < mid → Holds b win q (s v) v
   pulled v low high = record {
     own = λ own.
-    let m = attracted.own v low high own in
-    record { move = m.move; wins = given (s v) (omega (arith, m.behind)) m.inside };
+        let m = attracted.own v low high own in
+        record { move = m.move; wins = given (s v) (omega (arith, m.behind)) m.inside };
     other = λ other w move. by_end other w move (cases_lt (place w) n);
   }
     where

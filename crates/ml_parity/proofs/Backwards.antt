@@ -1,9 +1,9 @@
 -- The moves of a game from behind.
 --
 --   PredecessorsBelow == the lists of predecessors, as far as the moves of the vertices below n make them
---   added_none, added_more == one move more
+--   added_more      == one move more
 --   below_none, below_more, below_all == one vertex more
-use Rattle.std.proofs.Common.{ℕ, suc, ◌≡◌, ◌+◌, ◌<◌, ◌≤◌, ◌⊎◌, inl, inr, ⊎_elim, arith, List, [], ◌∷◌, ◌++◌, length, get_or, set, take, All, cond, nat_eq, eq-eqb, ne_eqb, subst, subst₂, sym, ap, ◌∙◌, refl, get_or-set_same, get_or-set_other, length-set}
+use Rattle.std.proofs.Common.{ℕ, ◌≡◌, ◌+◌, ◌<◌, ◌≤◌, ◌⊎◌, inl, inr, arith, List, [], ◌∷◌, ◌++◌, length, get_or, set, take, All, cond, nat_eq, eq-eqb, ne_eqb, subst, subst₂, sym, ap, ◌∙◌, refl, get_or-set_same, get_or-set_other, length-set}
 use Rattle.std.specs.Global.{Vec}
 use Rattle.std.proofs.lemmas.Bool.{cases_eq, cases_lt}
 use Rattle.std.proofs.lemmas.List.{get_or_past, get_or-map, length-map, map-set}
@@ -49,10 +49,6 @@ below_more g preds preds2 u b a = record {
 -- one entry more at the end of a list
 times_last : (v u : ℕ) (xs : List ℕ) → times v (xs ++ u ∷ []) ≡ times v xs + times v (u ∷ [])
 times_last v u xs = sum_by-append (λ x. cond (nat_eq x v) 1 0) xs (u ∷ [])
-
--- no move so far
-pub added_none : (preds : List (List ℕ)) (u : ℕ) → IsAdded preds preds u []
-added_none preds u = record { lists = refl; here = λ v low. omega arith; elsewhere = λ v x low other. refl }
 
 -- one move more
 pub added_more : (old : List (List ℕ)) (rows : List (Vec ℕ)) (u i w : ℕ) (moves : List ℕ) (m n : Vec ℕ) → i < length moves

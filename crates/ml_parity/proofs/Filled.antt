@@ -4,12 +4,12 @@
 -- at each vertex.
 --
 --   solution_of_lists   == with all vertices live, an answer on the board, filled up, is a solution of the game
-use Rattle.std.proofs.Common.{ℕ, ◌≡◌, ◌≢◌, ◌<◌, ◌≤◌, ◌⊎◌, inl, inr, arith, Bool, true, false, List, length, get_or, replicate, subst, sym, ap, ◌∙◌, lt-ltb, le-ltb}
+use Rattle.std.proofs.Common.{ℕ, ◌≡◌, ◌<◌, ◌≤◌, ◌⊎◌, inl, inr, arith, Bool, true, false, List, length, replicate, subst, sym, ap, ◌∙◌, lt-ltb, le-ltb}
 use Rattle.std.proofs.lemmas.Bool.{cases_lt}
 use Rattle.std.proofs.lemmas.List.{get_or-replicate, get_or_past, length-replicate}
 use Rattle.std.proofs.Math.Path.{fun_ext}
 use Rattle.ml_parity.specs.declared.players.Player.{Player}
-use Rattle.ml_parity.specs.Game.{ParityGame, IsGame, HasMove, owner_of, moves_of, size}
+use Rattle.ml_parity.specs.Game.{ParityGame, IsGame, HasMove, owner_of, size}
 use Rattle.ml_parity.specs.Winner.{WinsFrom}
 use Rattle.ml_parity.specs.Solution.{IsSolution, FirstElsewhere, winner_at, choice_at}
 use Rattle.ml_parity.specs.Sinks.{Holds, Solves}

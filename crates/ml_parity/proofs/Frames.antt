@@ -7,7 +7,7 @@
 --   work_pushed   == the work with one frame more
 --   first_ends, second_ends, first_opens, second_opens == what a turn makes of the frames
 --   opens_less, splits_less, first_falls, second_falls == the work falls where a part is opened, and where its second half begins
-use Rattle.std.proofs.Common.{ℕ, suc, zero, ◌≡◌, ◌+◌, ◌*◌, ◌^◌, ◌<◌, ◌≤◌, ◌⊎◌, arith, List, [], ◌∷◌, ◌++◌, reverse, length, subst, sym, ap, ◌∙◌, add-one, refl}
+use Rattle.std.proofs.Common.{ℕ, ◌≡◌, ◌+◌, ◌*◌, ◌^◌, ◌<◌, ◌≤◌, arith, List, [], ◌∷◌, ◌++◌, reverse, subst, sym, ap, ◌∙◌, add-one, refl}
 use Rattle.std.specs.List.{sum_by}
 use Rattle.std.proofs.lemmas.List.{reverse-append}
 use Rattle.std.proofs.lemmas.List.Sums.{sum_by-append, sum_by-cons}
@@ -18,7 +18,7 @@ use Rattle.ml_parity.specs.declared.fast_turns.Half.TheVariants.{First, Second}
 use Rattle.ml_parity.specs.declared.fast_turns.Frame.{Frame}
 use Rattle.ml_parity.specs.Game.{ParityGame, size}
 use Rattle.ml_parity.specs.SinkGame.{board_of}
-use Rattle.ml_parity.specs.Parts.{KeepsBehind, IsPart, SolvesPart, IsFirstHalf, IsSecondHalf}
+use Rattle.ml_parity.specs.Parts.{KeepsBehind, IsPart, SolvesPart, IsSecondHalf}
 use Rattle.ml_parity.specs.FastFrames.{HalfWaits, FrameWaits, Waits, EndsFirstHalf, BeginsFirstHalf, BeginsSecondHalf, weight, half_weight}
 use Rattle.ml_parity.proofs.Attractors.{rest_is_part}
 use Rattle.ml_parity.proofs.Halves.{second_solved}

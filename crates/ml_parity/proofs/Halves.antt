@@ -4,14 +4,14 @@
 --   all_won        == and q wins the whole part
 --   firm           == else what the opponent of q won is the opponent's for good, once it is moved to the end
 --   second_solved  == where what was left is solved, the part is
-use Rattle.std.proofs.Common.{ℕ, ◌≡◌, ◌+◌, ◌<◌, ◌≤◌, true, ◌⊎◌, inl, inr, ⊎_elim, arith, subst, sym, ap, ◌∙◌, lt-ltb}
+use Rattle.std.proofs.Common.{ℕ, ◌≡◌, ◌+◌, ◌<◌, ◌≤◌, ◌⊎◌, inl, inr, ⊎_elim, arith, subst, sym, ap, ◌∙◌, lt-ltb}
 use Rattle.std.proofs.lemmas.Bool.{cases_lt}
 use borrow.Author.Tests.{ltb-true}
 use Rattle.ml_lists.proofs.Loops.{around}
 use Rattle.ml_parity.specs.declared.players.Player.{Player}
-use Rattle.ml_parity.specs.Player.{opponent, side}
-use Rattle.ml_parity.specs.Sinks.{Board, Holds, Step, Loop, GoodFor, Solves}
-use Rattle.ml_parity.specs.Parts.{part, SolvesPart, IsPart, IsAttracted, IsGiven, IsFirm, FirmMove, IsFirstHalf, IsSecondHalf, KeepsBehind, Gathers}
+use Rattle.ml_parity.specs.Player.{opponent}
+use Rattle.ml_parity.specs.Sinks.{Board, Holds, Loop, GoodFor}
+use Rattle.ml_parity.specs.Parts.{part, SolvesPart, IsFirm, IsFirstHalf, IsSecondHalf, Gathers}
 use Rattle.ml_parity.proofs.Opponents.{cases_player, opponent-opponent, not_both}
 use Rattle.ml_parity.proofs.Attractors.{loop_inside, above}
 
@@ -26,9 +26,9 @@ module _ (b : Board) (place : ℕ → ℕ) (n mid rest : ℕ) (q : Player) (win 
   lowest_keeps v top inside = record {
     own = λ own. let m = half.chosen v top inside own in record { move = m.0; wins = all_won (s v) m.1 };
     other = λ other w move. ⊎_elim
-    (λ (within : place w < n). all_won w within)
-    (λ (outside : n ≤ place w). half.is_part.leaves v w inside move outside ∙ ap opponent other ∙ opponent-opponent q)
-    (cases_lt (place w) n);
+        (λ (within : place w < n). all_won w within)
+        (λ (outside : n ≤ place w). half.is_part.leaves v w inside move outside ∙ ap opponent other ∙ opponent-opponent q)
+        (cases_lt (place w) n);
   }
 
   -- a loop through one of them is good for q
@@ -109,21 +109,21 @@ module _ (b : Board) (place : ℕ → ℕ) (n mid rest : ℕ) (q : Player) (win 
   pub firm : IsFirm b place2 n mid2 (opponent q) win s
   firm = record {
     own = λ v top inside own.
-    let g = (held v top inside).own own in
-    record { move = g.move; behind = behind (s v) g.wins; wins = g.wins };
+        let g = (held v top inside).own own in
+        record { move = g.move; behind = behind (s v) g.wins; wins = g.wins };
     other = λ v w top inside other move.
-    let lost = (held v top inside).other other w move in
-    (behind w lost, lost);
+        let lost = (held v top inside).other other w move in
+        (behind w lost, lost);
     loops = λ c m loop top. below.loops (opponent q) c m (record {
       long = loop.long;
       closed = loop.closed;
       steps = λ k low.
-      let inside = ltb-true (place2 (c k)) n (loop.steps k low).alive in
-      record {
-        alive = lt-ltb (place (c k)) rest (left_before (c k) (top k low) inside).0;
-        mine = (loop.steps k low).mine;
-        move = (loop.steps k low).move;
-        chosen = (loop.steps k low).chosen;
-      };
+          let inside = ltb-true (place2 (c k)) n (loop.steps k low).alive in
+          record {
+            alive = lt-ltb (place (c k)) rest (left_before (c k) (top k low) inside).0;
+            mine = (loop.steps k low).mine;
+            move = (loop.steps k low).move;
+            chosen = (loop.steps k low).chosen;
+          };
     });
   }

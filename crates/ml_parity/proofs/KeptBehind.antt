@@ -4,13 +4,12 @@
 --   kept_part, kept_attracted, kept_first, kept_second == the records of a half
 --   keeps_more, keeps_on, keeps_itself == what is the same behind a part is so behind a larger one; one change after
 --                                         another; no change
-use Rattle.std.proofs.Common.{ℕ, ◌≡◌, ◌<◌, ◌≤◌, true, ◌⊎◌, inl, inr, ⊎_elim, arith, subst, sym, ap, ◌∙◌, refl, lt-ltb}
+use Rattle.std.proofs.Common.{ℕ, ◌≡◌, ◌<◌, ◌≤◌, ⊎_elim, arith, subst, sym, ◌∙◌, refl, lt-ltb}
 use Rattle.std.proofs.lemmas.Bool.{cases_lt}
 use borrow.Author.Tests.{ltb-true}
 use Rattle.ml_parity.specs.declared.players.Player.{Player}
-use Rattle.ml_parity.specs.Player.{opponent}
-use Rattle.ml_parity.specs.Sinks.{Board, Loop}
-use Rattle.ml_parity.specs.Parts.{part, IsPart, LeadsBack, IsAttracted, IsGiven, IsFirm, FirmMove, IsFirstHalf, IsSecondHalf, KeepsBehind}
+use Rattle.ml_parity.specs.Sinks.{Board}
+use Rattle.ml_parity.specs.Parts.{IsPart, LeadsBack, IsAttracted, IsGiven, IsFirm, FirmMove, IsFirstHalf, IsSecondHalf, KeepsBehind}
 
 module _ (r : ℕ) (place : ℕ → ℕ) (win : ℕ → Player) (s : ℕ → ℕ) (place2 : ℕ → ℕ) (win2 : ℕ → Player) (s2 : ℕ → ℕ)
     (kept : KeepsBehind r place win s place2 win2 s2) where
@@ -43,11 +42,11 @@ module _ (r : ℕ) (place : ℕ → ℕ) (win : ℕ → Player) (s : ℕ → ℕ
   pub kept_inside : (n : ℕ) → r ≤ n → (b : Board) → IsPart b place n win → IsPart b place2 n win2
   kept_inside n fits b p = record {
     leaves = λ v w inside move late.
-    let out = out_from n fits w late in
-    kept.winners w (omega arith) ∙ p.leaves v w (in_from n fits v inside) move out;
+        let out = out_from n fits w late in
+        kept.winners w (omega arith) ∙ p.leaves v w (in_from n fits v inside) move out;
     stays = λ v inside.
-    let m = p.stays v (in_from n fits v inside) in
-    record { to = m.to; move = m.move; inside = in_to n fits m.to m.inside };
+        let m = p.stays v (in_from n fits v inside) in
+        record { to = m.to; move = m.move; inside = in_to n fits m.to m.inside };
   }
 
   pub kept_given : (n : ℕ) (q : Player) → IsGiven place r n win q → r ≤ n → IsGiven place2 r n win2 q
@@ -62,15 +61,15 @@ module _ (r : ℕ) (place : ℕ → ℕ) (win : ℕ → Player) (s : ℕ → ℕ
       high = a.high;
       own = own;
       other = λ v w late below other move inside.
-      let out = out_from r (omega arith) v late in
-      let same = same_from r (omega arith) v late in
-      let further = a.other v w out (omega arith) other move (in_from n fits w inside) in
-      omega (arith, kept.behind w (omega arith));
+          let out = out_from r (omega arith) v late in
+          let same = same_from r (omega arith) v late in
+          let further = a.other v w out (omega arith) other move (in_from n fits w inside) in
+          omega (arith, kept.behind w (omega arith));
       closed_own = λ v w low own move inside.
-      in_to r (omega arith) w (a.closed_own v w (in_from r (omega arith) v low) own move (in_from n fits w inside));
+          in_to r (omega arith) w (a.closed_own v w (in_from r (omega arith) v low) own move (in_from n fits w inside));
       closed_other = λ v low other.
-      let m = a.closed_other v (in_from r (omega arith) v low) other in
-      record { to = m.to; move = m.move; inside = in_to r (omega arith) m.to m.inside };
+          let m = a.closed_other v (in_from r (omega arith) v low) other in
+          record { to = m.to; move = m.move; inside = in_to r (omega arith) m.to m.inside };
     }
       where
         fits : r ≤ n
@@ -91,31 +90,31 @@ module _ (r : ℕ) (place : ℕ → ℕ) (win : ℕ → Player) (s : ℕ → ℕ
     pub kept_firm : r ≤ mid → mid ≤ n → IsFirm b place n mid q win s → IsFirm b place2 n mid q win2 s2
     kept_firm low high f = record {
       own = λ v late inside own.
-      let out = out_from mid low v late in
-      let m = f.own v out (in_from n (omega arith) v inside) own in
-      subst (λ w. FirmMove b place2 mid q win2 v w) (sym (kept.choices v (omega arith))) (record {
-        move = m.move;
-        behind = omega (arith, m.behind, kept.behind (s v) (omega (arith, m.behind)));
-        wins = kept.winners (s v) (omega (arith, m.behind)) ∙ m.wins;
-      });
+          let out = out_from mid low v late in
+          let m = f.own v out (in_from n (omega arith) v inside) own in
+          subst (λ w. FirmMove b place2 mid q win2 v w) (sym (kept.choices v (omega arith))) (record {
+            move = m.move;
+            behind = omega (arith, m.behind, kept.behind (s v) (omega (arith, m.behind)));
+            wins = kept.winners (s v) (omega (arith, m.behind)) ∙ m.wins;
+          });
       other = λ v w late inside other move.
-      let m = f.other v w (out_from mid low v late) (in_from n (omega arith) v inside) other move in
-      let far : mid ≤ place w = m.0 in (
-        omega (arith, kept.behind w (omega arith)),
-        kept.winners w (omega arith) ∙ m.1,
-      );
+          let m = f.other v w (out_from mid low v late) (in_from n (omega arith) v inside) other move in
+          let far : mid ≤ place w = m.0 in (
+            omega (arith, kept.behind w (omega arith)),
+            kept.winners w (omega arith) ∙ m.1,
+          );
       loops = λ c m loop late. f.loops c m (record {
         long = loop.long;
         closed = loop.closed;
         steps = λ k within.
-        let out : mid ≤ place (c k) = out_from mid low (c k) (late k within) in
-        let inside = ltb-true (place2 (c k)) n (loop.steps k within).alive in
-        record {
-          alive = lt-ltb (place (c k)) n (in_from n (omega arith) (c k) inside);
-          mine = sym (kept.winners (c k) (omega arith)) ∙ (loop.steps k within).mine;
-          move = (loop.steps k within).move;
-          chosen = λ own. (loop.steps k within).chosen own ∙ kept.choices (c k) (omega arith);
-        };
+            let out : mid ≤ place (c k) = out_from mid low (c k) (late k within) in
+            let inside = ltb-true (place2 (c k)) n (loop.steps k within).alive in
+            record {
+              alive = lt-ltb (place (c k)) n (in_from n (omega arith) (c k) inside);
+              mine = sym (kept.winners (c k) (omega arith)) ∙ (loop.steps k within).mine;
+              move = (loop.steps k within).move;
+              chosen = λ own. (loop.steps k within).chosen own ∙ kept.choices (c k) (omega arith);
+            };
       }) (λ k within. out_from mid low (c k) (late k within));
     }
 
@@ -127,10 +126,10 @@ module _ (r : ℕ) (place : ℕ → ℕ) (win : ℕ → Player) (s : ℕ → ℕ
       lowest = λ t v late inside within. h.lowest t v (out_from mid low t late) (in_from n fits t inside) (in_from n fits v within);
       good = λ t late inside. h.good t (out_from mid low t late) (in_from n fits t inside);
       chosen = λ t late inside own.
-      let out = out_from mid low t late in
-      let m = h.chosen t out (in_from n fits t inside) own in
-      let same = kept.choices t (omega arith) in
-      subst (λ w. b.Move t w × (place2 w < n)) (sym same) (m.0, in_to n fits (s t) m.1);
+          let out = out_from mid low t late in
+          let m = h.chosen t out (in_from n fits t inside) own in
+          let same = kept.choices t (omega arith) in
+          subst (λ w. b.Move t w × (place2 w < n)) (sym same) (m.0, in_to n fits (s t) m.1);
     }
       where
         low : r ≤ mid

@@ -3,12 +3,11 @@
 --   is_vertex, unique    == what stands in front of the end of the row is a vertex; at a place stands one vertex
 --   Exchanged            == two lists after an exchange, entry by entry
 --   row_exchanged, removed_exchanged == they are a row, and the vertex is removed
---   gathered_none, gathered_more, gathered_over == one vertex more, looked at from the end of the part
---   gathered             == all vertices are looked at
-use Rattle.std.proofs.Common.{ℕ, suc, ◌≡◌, ◌+◌, ◌-◌, ◌<◌, ◌≤◌, ◌⊎◌, inl, inr, ⊎_elim, arith, List, length, get_or, set, subst, sym, ap, ◌∙◌, refl, get_or-set_same, get_or-set_other, length-set}
+--   gathered_less, gathered_more == one vertex more, looked at from the end of the part
+--   gather_less, gather_more == the same, over the lists of the program
+use Rattle.std.proofs.Common.{ℕ, ◌≡◌, ◌+◌, ◌-◌, ◌<◌, ◌≤◌, ◌⊎◌, inl, inr, ⊎_elim, arith, List, length, get_or, set, subst, sym, ap, ◌∙◌, get_or-set_same, get_or-set_other, length-set}
 use Rattle.std.proofs.lemmas.Bool.{cases_eq, cases_lt}
 use Rattle.std.proofs.lemmas.List.{get_or_default, get_or_past}
-use Rattle.ml_parity.specs.Parts.{Gathers}
 use Rattle.ml_parity.specs.FastSteps.{place_of, IsRow, IsRemoved, IsGathering}
 
 -- what stands in front of some place of the row is a vertex
@@ -174,17 +173,6 @@ exchanged order place n u last at row fits low is_last is_at = record {
 
 -- ---- gathering
 
--- at first no vertex is looked at
-pub gathered_none : (place : ℕ → ℕ) (n : ℕ) (P : ℕ → Type 0) → IsGathering place place n n n P
-gathered_none place n P = record {
-  fits = omega arith;
-  reached = omega arith;
-  behind = λ v far. refl;
-  inside = λ v low. low;
-  passes = λ v far low. absurd (omega arith);
-  fails = λ v far low holds. absurd (omega arith);
-}
-
 module _ (place place2 : ℕ → ℕ) (n rest k u : ℕ) (P : ℕ → Type 0) (before : IsGathering place place2 n rest (k + 1) P)
     (here : place2 u ≡ k) (one : (v : ℕ) → place2 v ≡ place2 u → v ≡ u) where
   -- one more that does not have P
@@ -237,17 +225,6 @@ module _ (place place2 : ℕ → ℕ) (n rest k u : ℕ) (P : ℕ → Type 0) (b
           by_place : (k < place2 v) ⊎ (place2 v ≤ k) → ⊥
           by_place (inl later) = before.fails v (omega arith) early has
           by_place (inr same) = other (one v (omega arith))
-
--- all vertices are looked at
-pub gathered : (place place2 : ℕ → ℕ) (n rest : ℕ) (P : ℕ → Type 0) → IsGathering place place2 n rest 0 P
-    → Gathers place place2 n rest P
-gathered place place2 n rest P g = record {
-  fits = g.fits;
-  behind = g.behind;
-  inside = g.inside;
-  passes = g.passes;
-  fails = λ v low. g.fails v (omega arith) low;
-}
 
 -- the same, over the lists of the program: the vertex in front of `at` is looked at
 module _ (order place : List ℕ) (row : IsRow order place) (place0 : ℕ → ℕ) (n rest at u : ℕ) (P : ℕ → Type 0)

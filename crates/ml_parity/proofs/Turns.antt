@@ -4,18 +4,18 @@
 --   first_made, second_made == the steps make the first half, or the second
 --   some_gathered           == the vertices of lowest priority are some
 --   kept_all                == and all that they change is in the part
-use Rattle.std.proofs.Common.{ℕ, ◌≡◌, ◌+◌, ◌<◌, ◌≤◌, ◌⊎◌, inl, inr, ⊎_elim, Bool, arith, List, subst, sym, ap, ◌∙◌, refl, length}
+use Rattle.std.proofs.Common.{ℕ, ◌≡◌, ◌<◌, ◌≤◌, ◌⊎◌, inl, inr, ⊎_elim, Bool, arith, subst, sym, ap, ◌∙◌, refl}
 use Rattle.std.proofs.lemmas.Bool.{cases_lt}
 use Rattle.std.specs.List.{count_by}
 use Rattle.ml_parity.specs.declared.players.Player.{Player}
 use Rattle.ml_parity.specs.Player.{opponent, side}
-use Rattle.ml_parity.specs.Game.{ParityGame, HasMove, size, owner_of, priority_of, moves_of}
+use Rattle.ml_parity.specs.Game.{ParityGame, HasMove, priority_of, moves_of}
 use Rattle.ml_parity.specs.Sinks.{Board, Solves}
 use Rattle.ml_parity.specs.SinkGame.{board_of}
-use Rattle.ml_parity.specs.Parts.{part, SolvesPart, MoveInto, IsPart, IsAttracted, IsGiven, IsFirm, IsFirstHalf, IsSecondHalf, Gathers, KeepsBehind}
-use Rattle.ml_parity.specs.FastSteps.{IsLeft, IsLowest, ChoosesInside, Gives, moves_before}
-use Rattle.ml_parity.proofs.KeptBehind.{in_to, in_from, out_from, same_from, keeps_more, keeps_on, kept_inside, kept_firm}
-use Rattle.ml_parity.proofs.Halves.{first_solved, firm}
+use Rattle.ml_parity.specs.Parts.{part, SolvesPart, IsPart, IsAttracted, IsGiven, IsFirm, IsFirstHalf, IsSecondHalf, Gathers, KeepsBehind}
+use Rattle.ml_parity.specs.FastSteps.{IsLeft, IsLowest, ChoosesInside, Gives}
+use Rattle.ml_parity.proofs.KeptBehind.{in_to, in_from, out_from, kept_inside, kept_firm}
+use Rattle.ml_parity.proofs.Halves.{first_solved}
 use Rattle.ml_parity.proofs.Opponents.{cases_player}
 use Rattle.ml_parity.proofs.Occurrences.{same_part}
 
@@ -58,12 +58,12 @@ module _ (g : ParityGame) (place0 place1 place2 : ℕ → ℕ) (n mid rest p : �
     behind = λ v far. let same = gathers.behind v far in kept.behind v (omega (arith, gathers.fits)) ∙ same;
     inside = λ v low. in_to mid place1 win s1 place2 win s2 kept n gathers.fits v (gathers.inside v low);
     winners = λ v far.
-    let same = gathers.behind v far in
-    let same2 = kept.behind v (omega (arith, gathers.fits)) in
-    gives.behind v (omega arith);
+        let same = gathers.behind v far in
+        let same2 = kept.behind v (omega (arith, gathers.fits)) in
+        gives.behind v (omega arith);
     choices = λ v far.
-    let same = gathers.behind v far in
-    kept.choices v (omega (arith, gathers.fits)) ∙ chooses.behind v (omega arith);
+        let same = gathers.behind v far in
+        kept.choices v (omega (arith, gathers.fits)) ∙ chooses.behind v (omega arith);
   }
 
   -- the vertices behind mid are those of lowest priority
@@ -76,14 +76,14 @@ module _ (g : ParityGame) (place0 place1 place2 : ℕ → ℕ) (n mid rest p : �
     attracted = attracted;
     given = gives.given;
     lowest = λ t v late inside within.
-    let e = top t late inside in
-    let least = lowest.least v (in_from n place0 win s place2 win2 s2 first_kept n (omega arith) v within) in
-    omega arith;
+        let e = top t late inside in
+        let least = lowest.least v (in_from n place0 win s place2 win2 s2 first_kept n (omega arith) v within) in
+        omega arith;
     good = λ t late inside. ap side (top t late inside) ∙ sym good;
     chosen = λ t late inside own.
-    let late1 = out_from mid place1 win s1 place2 win s2 kept mid (omega arith) t late in
-    let m = chooses.chosen t late1 (in_from mid place1 win s1 place2 win s2 kept n gathers.fits t inside) own in
-    subst (λ w. HasMove g t w × (place2 w < n)) (sym (kept.choices t late1)) (m.0, in_to mid place1 win s1 place2 win s2 kept n gathers.fits (s1 t) m.1);
+        let late1 = out_from mid place1 win s1 place2 win s2 kept mid (omega arith) t late in
+        let m = chooses.chosen t late1 (in_from mid place1 win s1 place2 win s2 kept n gathers.fits t inside) own in
+        subst (λ w. HasMove g t w × (place2 w < n)) (sym (kept.choices t late1)) (m.0, in_to mid place1 win s1 place2 win s2 kept n gathers.fits (s1 t) m.1);
   }
 
 -- the steps make the second half
@@ -98,12 +98,12 @@ module _ (b : Board) (place0 place1 place2 : ℕ → ℕ) (n mid rest : ℕ) (q 
     behind = λ v far. let same = gathers.behind v far in kept.behind v (omega (arith, gathers.fits)) ∙ same;
     inside = λ v low. in_to mid place1 win s place2 win s2 kept n gathers.fits v (gathers.inside v low);
     winners = λ v far.
-    let same = gathers.behind v far in
-    let same2 = kept.behind v (omega (arith, gathers.fits)) in
-    gives.behind v (omega arith);
+        let same = gathers.behind v far in
+        let same2 = kept.behind v (omega (arith, gathers.fits)) in
+        gives.behind v (omega arith);
     choices = λ v far.
-    let same = gathers.behind v far in
-    kept.choices v (omega (arith, gathers.fits));
+        let same = gathers.behind v far in
+        kept.choices v (omega (arith, gathers.fits));
   }
 
   -- winners and choices of what is firm are kept

@@ -1,24 +1,24 @@
--- The whole game as a part of itself, and the part without vertices.
+-- The whole game as a part of itself.
 --
 --   whole_row    == the part of all vertices
 --   whole_solved == where it is solved, the game is
 --   whole_part   == it is a part
 --   whole_left   == how many moves a vertex has is how many lead into it
 --   whole_begins == so the solver begins with it
---   none_solved  == the part without vertices is solved
-use Rattle.std.proofs.Common.{ℕ, suc, ◌≡◌, ◌+◌, ◌<◌, ◌≤◌, ◌⊎◌, inl, inr, ⊎_elim, Bool, true, false, arith, List, [], ◌∷◌, length, get_or, nat_lt, replicate, subst, sym, ap, ◌∙◌, refl, lt-ltb, le-ltb, zero}
+--   whole_lists  == the same, in the words of lists of flags
+use Rattle.std.proofs.Common.{ℕ, suc, ◌≡◌, ◌<◌, ◌≤◌, ◌⊎◌, inl, inr, ⊎_elim, Bool, true, arith, List, [], ◌∷◌, length, get_or, nat_lt, replicate, subst, sym, ◌∙◌, refl, lt-ltb, le-ltb, zero}
 use Rattle.std.specs.List.{count_by}
 use Rattle.std.proofs.lemmas.Bool.{cases_lt}
 use Rattle.std.proofs.lemmas.List.{get_or_past}
 use Rattle.std.proofs.Math.Path.{fun_ext}
-use borrow.Author.Tests.{ltb-true}
 use Rattle.ml_parity.specs.declared.players.Player.{Player}
-use Rattle.ml_parity.specs.Game.{ParityGame, IsGame, HasMove, size, moves_of}
+use Rattle.ml_parity.specs.declared.fast_attract.Work.{Work}
+use Rattle.ml_parity.specs.Game.{ParityGame, IsGame, size, moves_of}
 use Rattle.ml_parity.specs.Solution.{winner_at, choice_at}
-use Rattle.ml_parity.specs.Sinks.{Board, Solves}
+use Rattle.ml_parity.specs.Sinks.{Solves}
 use Rattle.ml_parity.specs.SinkGame.{board_of, SolvesLists}
 use Rattle.ml_parity.specs.Parts.{part, SolvesPart, IsPart}
-use Rattle.ml_parity.specs.FastSteps.{place_of, number_at, moves_before, IsLeft, IsRow}
+use Rattle.ml_parity.specs.FastSteps.{place_of, number_at, places, choices, lefts, IsLeft, IsRow, IsWork}
 use Rattle.ml_parity.specs.FastFrames.{SolvesWhole, IsAtPart}
 use Rattle.ml_parity.proofs.Boards.{move_to}
 use Rattle.ml_parity.proofs.Filled.{all_set}
@@ -37,11 +37,11 @@ whole_row order place n row long = fun_ext (λ v. by_size v (cases_lt v n))
         le-ltb (place_of place v) n (omega arith) ∙ sym (le-ltb v n past)
 
 -- where it is solved, the game is
-pub whole_solved : (g : ParityGame) (order place left : List ℕ) (winner : List Player) (choice : List ℕ) (n : ℕ) → n ≡ size g
-    → IsAtPart g order place left n → SolvesPart (board_of g) (place_of place) n (winner_at winner) (choice_at choice) → SolvesWhole g winner choice
-whole_solved g order place left winner choice n is at solves =
-    let at_size : SolvesPart (board_of g) (place_of place) (size g) (winner_at winner) (choice_at choice) = subst (λ m. SolvesPart (board_of g) (place_of place) m (winner_at winner) (choice_at choice)) is solves in
-    subst (λ (live : ℕ → Bool). Solves (board_of g) live (winner_at winner) (winner_at winner) (choice_at choice)) (whole_row order place (size g) at.row at.vertices) at_size
+pub whole_solved : (g : ParityGame) (w : Work) (winner : List Player) (n : ℕ) → n ≡ size g → IsAtPart g w n
+    → SolvesPart (board_of g) (places w) n (winner_at winner) (choices w) → SolvesWhole g winner w.choice.items
+whole_solved g w winner n is at solves =
+    let at_size : SolvesPart (board_of g) (places w) (size g) (winner_at winner) (choices w) = subst (λ m. SolvesPart (board_of g) (places w) m (winner_at winner) (choices w)) is solves in
+    subst (λ (live : ℕ → Bool). Solves (board_of g) live (winner_at winner) (winner_at winner) (choices w)) (whole_row w.row.order.items w.row.place.items (size g) at.work.row at.work.vertices) at_size
 
 -- a vertex that stands in the whole row, and one that is a vertex
 in_row : (order place : List ℕ) (n : ℕ) → IsRow order place → length place ≡ n → (v : ℕ) → v < n → place_of place v < n
@@ -53,9 +53,9 @@ pub whole_part : (g : ParityGame) → IsGame g → (order place : List ℕ) → 
 whole_part g ok order place row long win = record {
   leaves = λ v w low move outside. absurd (omega (arith, in_row order place (size g) row long w (ok.in_range v w move)));
   stays = λ v low.
-  let some = ok.goes_on v (vertex v low) in
-  let move = move_to g v 0 some in
-  record { to = get_or (moves_of g v) 0 0; move = move; inside = in_row order place (size g) row long (get_or (moves_of g v) 0 0) (ok.in_range v (get_or (moves_of g v) 0 0) move) };
+      let some = ok.goes_on v (vertex v low) in
+      let move = move_to g v 0 some in
+      record { to = get_or (moves_of g v) 0 0; move = move; inside = in_row order place (size g) row long (get_or (moves_of g v) 0 0) (ok.in_range v (get_or (moves_of g v) 0 0) move) };
 }
   where
     vertex : (v : ℕ) → place_of place v < size g → v < size g
@@ -76,16 +76,11 @@ whole_left g ok order place left row long each v low =
     each v low ∙ sym (count_all (part (place_of place) (size g)) (moves_of g v) (λ k inside. lt-ltb (place_of place (get_or (moves_of g v) k 0)) (size g) (in_row order place (size g) row long (get_or (moves_of g v) k 0) (ok.in_range v (get_or (moves_of g v) k 0) (move_to g v k inside)))))
 
 -- so the solver begins with it
-pub whole_begins : (g : ParityGame) → IsGame g → (order place left : List ℕ) → IsRow order place → length place ≡ size g
-    → ((v : ℕ) → v < size g → get_or left v 0 ≡ length (moves_of g v)) → IsAtPart g order place left (size g)
-whole_begins g ok order place left row long each = record { row = row; vertices = long; lefts = whole_left g ok order place left row long each }
-
--- the part without vertices is solved
-pub none_solved : (b : Board) (place : ℕ → ℕ) (n : ℕ) (win : ℕ → Player) (s : ℕ → ℕ) → n ≡ 0 → SolvesPart b place n win s
-none_solved b place n win s none = record {
-  ends = λ v dead. refl;
-  keeps = λ v alive. absurd (omega (arith, ltb-true (place v) n alive));
-  loops = λ p c m loop. absurd (omega (arith, ltb-true (place (c 0)) n (loop.steps 0 loop.long).alive));
+pub whole_begins : (g : ParityGame) → IsGame g → (w : Work) → IsWork g w
+    → ((v : ℕ) → v < size g → lefts w v ≡ length (moves_of g v)) → IsAtPart g w (size g)
+whole_begins g ok w work each = record {
+  work = work;
+  counted = whole_left g ok w.row.order.items w.row.place.items w.left.items work.row work.vertices each;
 }
 
 -- the whole game, solved, in the words of the lists

@@ -9,10 +9,11 @@
 --   IsOpen, IsSolved       == the part n is to be solved, or is solved, and the frames wait for it
 --   SolvesWhole            == winners and choices solve the whole game
 --   HoldsAt                == by where the solver is
---   weight f, work         == what is left to do, as a number that falls at each turn
-use Rattle.std.specs.Prelude.{ℕ, ◌≡◌, ◌<◌, ◌+◌, ◌^◌, List, [], ◌∷◌, length, nat_lt, reverse}
+--   weight f, work_left    == what is left to do, as a number that falls at each turn
+use Rattle.std.specs.Prelude.{ℕ, ◌≡◌, ◌<◌, ◌+◌, ◌^◌, List, [], ◌∷◌, nat_lt, reverse}
 use Rattle.std.specs.List.{sum_by}
 use Rattle.ml_parity.specs.declared.players.Player.{Player}
+use Rattle.ml_parity.specs.declared.fast_attract.Work.{Work}
 use Rattle.ml_parity.specs.declared.fast_turns.Half.{Half}
 use Rattle.ml_parity.specs.declared.fast_turns.Half.TheVariants.{First, Second}
 use Rattle.ml_parity.specs.declared.fast_turns.Frame.{Frame}
@@ -23,7 +24,7 @@ use Rattle.ml_parity.specs.Solution.{winner_at, choice_at}
 use Rattle.ml_parity.specs.Sinks.{Solves}
 use Rattle.ml_parity.specs.SinkGame.{board_of}
 use Rattle.ml_parity.specs.Parts.{IsPart, SolvesPart, IsFirstHalf, IsSecondHalf}
-use Rattle.ml_parity.specs.FastSteps.{place_of, number_at, IsRow, IsLeft}
+use Rattle.ml_parity.specs.FastSteps.{places, choices, lefts, IsWork, IsLeft}
 
 -- the part n of the player q waits for the part rest, in its half
 abbrev pub HalfWaits : Half → ParityGame → (ℕ → ℕ) → ℕ → ℕ → ℕ → Player → (ℕ → Player) → (ℕ → ℕ) → Type 0
@@ -45,20 +46,20 @@ pub record EndsFirstHalf (g : ParityGame) (place : ℕ → ℕ) (n : ℕ) (q : P
 -- the second half of the part n waits for the part rest, which is smaller
 pub record BeginsSecondHalf (g : ParityGame) (place : ℕ → ℕ) (n rest : ℕ) (q : Player) (left : ℕ → ℕ) (win : ℕ → Player) (s : ℕ → ℕ) : Type 0 where
   pub smaller : rest < n
-  pub lefts : IsLeft g place rest left
+  pub counted : IsLeft g place rest left
   pub mid : ℕ
   pub half : IsSecondHalf (board_of g) place n mid rest q win s
 
 -- the first half of the part n waits for the part rest, which is smaller
 pub record BeginsFirstHalf (g : ParityGame) (place : ℕ → ℕ) (n rest : ℕ) (q : Player) (left : ℕ → ℕ) (win : ℕ → Player) (s : ℕ → ℕ) : Type 0 where
   pub smaller : rest < n
-  pub lefts : IsLeft g place rest left
+  pub counted : IsLeft g place rest left
   pub mid : ℕ
   pub half : IsFirstHalf (board_of g) place n mid rest q win s
 
 -- the part n is solved, with all its moves counted
 pub record EndsSecondHalf (g : ParityGame) (place : ℕ → ℕ) (n : ℕ) (left : ℕ → ℕ) (win : ℕ → Player) (s : ℕ → ℕ) : Type 0 where
-  pub lefts : IsLeft g place n left
+  pub counted : IsLeft g place n left
   pub solves : SolvesPart (board_of g) place n win s
 
 -- the frames, from the top, wait for the part n, and the lowest one is of the whole game
@@ -66,32 +67,31 @@ abbrev pub Waits : ParityGame → List Frame → ℕ → (ℕ → ℕ) → (ℕ 
 Waits g [] n place win s = n ≡ size g
 Waits g (f ∷ fs) n place win s = FrameWaits g f n place win s × Waits g fs f.count place win s
 
--- the lists of the solver, at the part n
-pub record IsAtPart (g : ParityGame) (order place left : List ℕ) (n : ℕ) : Type 0 where
-  pub row : IsRow order place
-  pub vertices : length place ≡ size g
-  pub lefts : IsLeft g (place_of place) n (number_at left)
+-- the solver's work stands at the part n
+pub record IsAtPart (g : ParityGame) (w : Work) (n : ℕ) : Type 0 where
+  pub work : IsWork g w
+  pub counted : IsLeft g (places w) n (lefts w)
 
 -- the part n is to be solved, and the frames wait for it
-pub record IsOpen (g : ParityGame) (frames : List Frame) (order place left : List ℕ) (winner : List Player) (choice : List ℕ) (n : ℕ) : Type 0 where
-  pub at_part : IsAtPart g order place left n
-  pub waits : Waits g (reverse frames) n (place_of place) (winner_at winner) (choice_at choice)
-  pub part : IsPart (board_of g) (place_of place) n (winner_at winner)
+pub record IsOpen (g : ParityGame) (frames : List Frame) (w : Work) (winner : List Player) (n : ℕ) : Type 0 where
+  pub at_part : IsAtPart g w n
+  pub waits : Waits g (reverse frames) n (places w) (winner_at winner) (choices w)
+  pub part : IsPart (board_of g) (places w) n (winner_at winner)
 
 -- the part n is solved, and the frames wait for it
-pub record IsSolved (g : ParityGame) (frames : List Frame) (order place left : List ℕ) (winner : List Player) (choice : List ℕ) (n : ℕ) : Type 0 where
-  pub at_part : IsAtPart g order place left n
-  pub waits : Waits g (reverse frames) n (place_of place) (winner_at winner) (choice_at choice)
-  pub solves : SolvesPart (board_of g) (place_of place) n (winner_at winner) (choice_at choice)
+pub record IsSolved (g : ParityGame) (frames : List Frame) (w : Work) (winner : List Player) (n : ℕ) : Type 0 where
+  pub at_part : IsAtPart g w n
+  pub waits : Waits g (reverse frames) n (places w) (winner_at winner) (choices w)
+  pub solves : SolvesPart (board_of g) (places w) n (winner_at winner) (choices w)
 
 -- the lists of winners and choices solve the whole game, on its board
 abbrev pub SolvesWhole : ParityGame → List Player → List ℕ → Type 0
 SolvesWhole g winner choice = Solves (board_of g) (λ v. nat_lt v (size g)) (winner_at winner) (winner_at winner) (choice_at choice)
 
 -- by where the solver is
-abbrev pub HoldsAt : At → ParityGame → List Frame → List ℕ → List ℕ → List ℕ → List Player → List ℕ → Type 0
-HoldsAt (Open n) g frames order place left winner choice = IsOpen g frames order place left winner choice n
-HoldsAt (Solved n) g frames order place left winner choice = IsSolved g frames order place left winner choice n
+abbrev pub HoldsAt : At → ParityGame → List Frame → Work → List Player → Type 0
+HoldsAt (Open n) g frames w winner = IsOpen g frames w winner n
+HoldsAt (Solved n) g frames w winner = IsSolved g frames w winner n
 
 -- what is left to do when a frame is taken up, in a half
 abbrev pub half_weight : Half → ℕ → ℕ
@@ -107,5 +107,5 @@ at_weight (Open n) = 3 ^ (n + 1)
 at_weight (Solved n) = 0
 
 -- what is left to do in all
-abbrev pub work : List Frame → At → ℕ
-work frames at = sum_by weight frames + at_weight at
+abbrev pub work_left : List Frame → At → ℕ
+work_left frames at = sum_by weight frames + at_weight at

@@ -12,20 +12,26 @@
 --   IsLeft g place n left  == left tells for each vertex how many of its moves lead in front of place n
 --   IsRemoved place place2 n u == u went to the last place of the part n, and what stood there to the place of u
 --   number_at xs v         == the number that stands in a list at v
+--   places w, choices w, lefts w == the place, the choice and the count of each vertex, where the solver's work stands
+--   IsWork g w             == the work is a row, and has a count and a choice for each vertex
+--   Keeps n w w2           == places and choices are the same behind the part n, which has the same vertices
 --   IsGathering            == so far, the vertices of the part n with P are behind rest, and no other from `at` on has P
 --   IsAttracting           == an attractor that is being made: all that stands from place a on was followed backwards, but
 --                             for the predecessors that are still to be seen
+--   Attracts               == the same, where the solver's work stands
 --   IsLowest g place n p   == p is the lowest priority in the part n
 --   ChoosesInside          == the choices of q's vertices from mid up to a are moves into the part n, and the others are kept
 --   IsAdded                == a vertex is added to the lists of those to which its moves lead, once for each move
 --   Gives                  == the vertices of the part n behind rest belong to q now, and no other vertex changes hands
-use Rattle.std.specs.Prelude.{ℕ, ◌≡◌, ◌+◌, ◌<◌, ◌≤◌, ◌⊎◌, Bool, List, [], length, get_or, nat_eq, nat_lt, suc}
+use Rattle.std.specs.Prelude.{ℕ, ◌≡◌, ◌+◌, ◌<◌, ◌≤◌, ◌⊎◌, List, [], length, get_or, nat_eq}
 use Rattle.std.specs.List.{count_by}
 use Rattle.ml_parity.specs.declared.players.Player.{Player}
+use Rattle.ml_parity.specs.declared.fast_attract.Work.{Work}
 use Rattle.ml_parity.specs.Player.{opponent}
 use Rattle.ml_parity.specs.Game.{ParityGame, HasMove, size, owner_of, priority_of, moves_of}
+use Rattle.ml_parity.specs.Solution.{choice_at}
 use Rattle.ml_parity.specs.SinkGame.{board_of}
-use Rattle.ml_parity.specs.Parts.{part, LeadsBack}
+use Rattle.ml_parity.specs.Parts.{part, KeepsBehind, LeadsBack}
 
 -- the place of vertex v; what is no vertex stands behind them all
 abbrev pub place_of : List ℕ → ℕ → ℕ
@@ -69,6 +75,27 @@ pub record IsRemoved (place place2 : ℕ → ℕ) (n u : ℕ) : Type 0 where
 abbrev pub number_at : List ℕ → ℕ → ℕ
 number_at xs v = get_or xs v 0
 
+-- the place of each vertex, its choice and its count, where the solver's work stands
+abbrev pub places : Work → ℕ → ℕ
+places w = place_of w.row.place.items
+
+abbrev pub choices : Work → ℕ → ℕ
+choices w = choice_at w.choice.items
+
+abbrev pub lefts : Work → ℕ → ℕ
+lefts w = number_at w.left.items
+
+-- the work is a row, and has a count and a choice for each vertex
+pub record IsWork (g : ParityGame) (w : Work) : Type 0 where
+  pub row : IsRow w.row.order.items w.row.place.items
+  pub vertices : length w.row.place.items ≡ size g
+  pub counts : length w.left.items ≡ size g
+  pub chosen : length w.choice.items ≡ size g
+
+-- places and choices are the same behind the part n, which has the same vertices
+abbrev pub Keeps : ℕ → Work → Work → Type 0
+Keeps n w w2 = (win : ℕ → Player) → KeepsBehind n (places w) win (choices w) (places w2) win (choices w2)
+
 -- so far, the vertices of the part n that have P are behind rest, and no other from `at` on has P
 pub record IsGathering (place place2 : ℕ → ℕ) (n rest at : ℕ) (P : ℕ → Type 0) : Type 0 where
   pub fits : rest ≤ n
@@ -90,6 +117,10 @@ pub record IsAttracting (g : ParityGame) (place : ℕ → ℕ) (n mid rest a : �
   pub other : (v w : ℕ) → rest ≤ place v → place v < mid → owner_of g v ≡ opponent q → HasMove g v w → place w < n → place v < place w
   pub seen_own : (v w : ℕ) → place v < rest → owner_of g v ≡ q → HasMove g v w → place w < n → (place w < a) ⊎ (0 < times v todo)
   pub seen_other : (v : ℕ) → place v < rest → owner_of g v ≡ opponent q → 0 < left v
+
+-- the same, where the solver's work stands
+abbrev pub Attracts : ParityGame → Work → ℕ → ℕ → ℕ → ℕ → Player → List ℕ → Type 0
+Attracts g w n mid rest a q todo = IsAttracting g (places w) n mid rest a q (choices w) (lefts w) todo
 
 -- p is the lowest priority in the part n
 pub record IsLowest (g : ParityGame) (place : ℕ → ℕ) (n p : ℕ) : Type 0 where

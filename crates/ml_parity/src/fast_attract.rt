@@ -7,15 +7,25 @@
 ghost use Rattle.std.specs.Prelude.{◌≡◌, ◌+◌, ◌-◌, ◌<◌, ◌≤◌, ◌∷◌, [], ℕ, List, length, get_or, slice_set};
 ghost use Rattle.ml_parity.specs.declared.players.Player.{Player};
 ghost use Rattle.ml_parity.specs.Game.{HasMove, IsGame, moves_of, size};
-ghost use Rattle.ml_parity.specs.Parts.{IsAttracted, IsPart, KeepsBehind};
-ghost use Rattle.ml_parity.specs.Solution.{choice_at, winner_at};
+ghost use Rattle.ml_parity.specs.Parts.{IsAttracted, IsPart};
 ghost use Rattle.ml_parity.specs.SinkGame.{board_of};
 ghost use Rattle.ml_parity.specs.Refusal.{lists_of};
-ghost use Rattle.ml_parity.specs.FastSteps.{place_of, number_at, times, moves_before, ArePredecessors, IsAttracting, IsLeft, IsRow};
+ghost use Rattle.ml_parity.specs.FastSteps.{place_of, number_at, places, choices, lefts, times, moves_before, ArePredecessors, Attracts, IsLeft, IsRow, IsWork, Keeps};
 
 use crate::fast_row::{Row, remove};
 use crate::games::Game;
 use crate::players::Player;
+
+/// What the solver works on, beside the winners.
+#[derive(Drop)]
+pub(crate) struct Work {
+    /// The vertices in a row.
+    pub(crate) row: Row,
+    /// For each vertex how many of its moves lead to vertices that are not removed, or wait to be followed backwards.
+    pub(crate) left: Vec<usize>,
+    /// A move at each vertex: where its owner wins it, the one to make.
+    pub(crate) choice: Vec<u64>,
+}
 
 /// Counts down the moves that are left to a vertex with a move to `to`, and attracts it if the player owns it or if none
 /// is left. Gives the number of the vertices that are not attracted.
@@ -25,65 +35,29 @@ fn attract_one(
     to: usize,
     from: usize,
     count: usize,
-    row: &mut Row,
-    left: &mut [usize],
-    choice: &mut [u64],
+    work: &mut Work,
 ) -> usize
-    requires row { IsRow row.old.order.items row.old.place.items }
-    requires size { length row.old.place.items ≡ size game.now }
-    requires counts { length left.old ≡ size game.now }
-    requires choices { length choice.old ≡ size game.now }
+    requires work { IsWork game.now work.old }
     requires fits { count ≤ size game.now }
     requires vertex { from < size game.now }
-    requires some { 0 < number_at left.old from }
-    ensures row { IsRow row.new.order.items row.new.place.items }
-    ensures size { length row.new.place.items ≡ size game.now }
+    requires some { 0 < lefts work.old from }
+    ensures work { IsWork game.now work.new }
     ensures low { result ≤ count }
-    ensures counted { left.new ≡ slice_set left.old from (number_at left.old from - 1) }
-    ensures kept { (win : ℕ → Player) → KeepsBehind
-        count
-        (place_of row.old.place.items)
-        win
-        (choice_at choice.old)
-        (place_of row.new.place.items)
-        win
-        (choice_at choice.new) }
-    ensures attracts { (n mid a : ℕ) (todo : List ℕ)
-        → place_of row.old.place.items to ≡ a
-        → a < n
-        → HasMove game.now from to
-        → IsAttracting
-            game.now
-            (place_of row.old.place.items)
-            n
-            mid
-            count
-            a
-            player
-            (choice_at choice.old)
-            (number_at left.old)
-            (from ∷ todo)
-        → IsAttracting
-            game.now
-            (place_of row.new.place.items)
-            n
-            mid
-            result
-            a
-            player
-            (choice_at choice.new)
-            (number_at left.new)
-            todo }
+    ensures counted { work.new.left.items ≡ slice_set work.old.left.items from (lefts work.old from - 1) }
+    ensures kept { Keeps count work.old work.new }
+    ensures attracts { (n mid a : ℕ) (todo : List ℕ) → places work.old to ≡ a → a < n → HasMove game.now from to
+        → Attracts game.now work.old n mid count a player (from ∷ todo)
+        → Attracts game.now work.new n mid result a player todo }
 {
-    left[from] -= 1;
-    if row.place[from] >= count {
+    work.left[from] -= 1;
+    if work.row.place[from] >= count {
         return count;
     }
-    if game.owner_at(from) != player && left[from] > 0 {
+    if game.owner_at(from) != player && work.left[from] > 0 {
         return count;
     }
-    choice[from] = to as u64;
-    remove(row, count, from)
+    work.choice[from] = to as u64;
+    remove(&mut work.row, count, from)
 }
 
 /// Follows the moves to `to` backwards: counts them down, and attracts the vertices from which they come if that is so.
@@ -94,61 +68,26 @@ fn attract_to(
     to: usize,
     predecessors: &[usize],
     count: usize,
-    row: &mut Row,
-    left: &mut [usize],
-    choice: &mut [u64],
+    work: &mut Work,
 ) -> usize
     requires game { IsGame game.now }
-    requires row { IsRow row.old.order.items row.old.place.items }
-    requires size { length row.old.place.items ≡ size game.now }
-    requires counts { length left.old ≡ size game.now }
-    requires choices { length choice.old ≡ size game.now }
-    requires fits { count ≤ place_of row.old.place.items to }
+    requires work { IsWork game.now work.old }
+    requires fits { count ≤ places work.old to }
     requires vertex { to < size game.now }
     requires predecessors { (u : ℕ) → times u predecessors.now ≡ times to (moves_of game.now u) }
-    requires lefts { (v : ℕ) → v < size game.now → number_at left.old v
-        ≡ moves_before game.now (place_of row.old.place.items) (place_of row.old.place.items to) v + times v predecessors.now }
-    ensures row { IsRow row.new.order.items row.new.place.items }
-    ensures size { length row.new.place.items ≡ size game.now }
+    requires counts { (v : ℕ) → v < size game.now → lefts work.old v
+        ≡ moves_before game.now (places work.old) (places work.old to) v + times v predecessors.now }
+    ensures work { IsWork game.now work.new }
     ensures low { result ≤ count }
-    ensures lefts { IsLeft game.now (place_of row.new.place.items) (place_of row.old.place.items to) (number_at left.new) }
-    ensures kept { (win : ℕ → Player) → KeepsBehind
-        count
-        (place_of row.old.place.items)
-        win
-        (choice_at choice.old)
-        (place_of row.new.place.items)
-        win
-        (choice_at choice.new) }
-    ensures attracts { (n mid a : ℕ)
-        → place_of row.old.place.items to ≡ a
-        → a < n
-        → IsAttracting
-            game.now
-            (place_of row.old.place.items)
-            n
-            mid
-            count
-            a
-            player
-            (choice_at choice.old)
-            (number_at left.old)
-            predecessors.now
-        → IsAttracting
-            game.now
-            (place_of row.new.place.items)
-            n
-            mid
-            result
-            a
-            player
-            (choice_at choice.new)
-            (number_at left.new)
-            [] }
+    ensures counts { IsLeft game.now (places work.new) (places work.old to) (lefts work.new) }
+    ensures kept { Keeps count work.old work.new }
+    ensures attracts { (n mid a : ℕ) → places work.old to ≡ a → a < n
+        → Attracts game.now work.old n mid count a player predecessors.now
+        → Attracts game.now work.new n mid result a player [] }
 {
     let mut rest = count;
     for from in predecessors {
-        rest = attract_one(game, player, to, *from, rest, row, left, choice);
+        rest = attract_one(game, player, to, *from, rest, work);
     }
     rest
 }
@@ -156,48 +95,35 @@ fn attract_to(
 /// The attractor of `player`, in the first `whole` vertices, to those from place `seeded` on: moves it to their end, with
 /// choices that lead there, and gives the number of the other vertices.
 ///
-/// `left` has for each vertex the number of its moves to one of the first `whole` vertices; in the end it has that of its
-/// moves to those that are not attracted. Costs a step for each move to a vertex that is attracted.
+/// Before, the moves that are left are those to one of the first `whole` vertices; in the end, those to one that is not
+/// attracted. Costs a step for each move to a vertex that is attracted.
 pub(crate) fn attract(
     game: &Game,
     predecessors: &[Vec<usize>],
     player: Player,
     whole: usize,
     seeded: usize,
-    row: &mut Row,
-    left: &mut [usize],
-    choice: &mut [u64],
+    work: &mut Work,
 ) -> usize
     requires game { IsGame game.now }
-    requires row { IsRow row.old.order.items row.old.place.items }
-    requires size { length row.old.place.items ≡ size game.now }
-    requires counts { length left.old ≡ size game.now }
-    requires choices { length choice.old ≡ size game.now }
+    requires predecessors { ArePredecessors game.now (lists_of predecessors.now) }
+    requires work { IsWork game.now work.old }
     requires fits { whole ≤ size game.now }
     requires low { seeded ≤ whole }
-    requires predecessors { ArePredecessors game.now (lists_of predecessors.now) }
-    requires lefts { IsLeft game.now (place_of row.old.place.items) whole (number_at left.old) }
-    ensures row { IsRow row.new.order.items row.new.place.items }
-    ensures size { length row.new.place.items ≡ size game.now }
-    ensures lefts { IsLeft game.now (place_of row.new.place.items) result (number_at left.new) }
+    requires counts { IsLeft game.now (places work.old) whole (lefts work.old) }
+    ensures work { IsWork game.now work.new }
     ensures low { result ≤ seeded }
-    ensures kept { (win : ℕ → Player) → KeepsBehind
-        seeded
-        (place_of row.old.place.items)
-        win
-        (choice_at choice.old)
-        (place_of row.new.place.items)
-        win
-        (choice_at choice.new) }
-    ensures attracted { (win : ℕ → Player) → IsPart (board_of game.now) (place_of row.old.place.items) whole win
-        → IsAttracted (board_of game.now) (place_of row.new.place.items) whole seeded result player (choice_at choice.new) }
+    ensures counts { IsLeft game.now (places work.new) result (lefts work.new) }
+    ensures kept { Keeps seeded work.old work.new }
+    ensures attracted { (win : ℕ → Player) → IsPart (board_of game.now) (places work.old) whole win
+        → IsAttracted (board_of game.now) (places work.new) whole seeded result player (choices work.new) }
 {
     let mut rest = seeded;
     let mut reached = whole;
     while reached > rest {
         reached -= 1;
-        let to = row.order[reached];
-        rest = attract_to(game, player, to, &predecessors[to], rest, row, left, choice);
+        let to = work.row.order[reached];
+        rest = attract_to(game, player, to, &predecessors[to], rest, work);
     }
     rest
 }

@@ -5,14 +5,14 @@ ghost use Rattle.ml_parity.specs.declared.fast_turns.At.TheVariants.{Open, Solve
 ghost use Rattle.ml_parity.specs.Game.{IsGame, size};
 ghost use Rattle.ml_parity.specs.Parts.{IsPart, KeepsBehind};
 ghost use Rattle.ml_parity.specs.Player.{opponent};
-ghost use Rattle.ml_parity.specs.Solution.{choice_at, winner_at};
+ghost use Rattle.ml_parity.specs.Solution.{winner_at};
 ghost use Rattle.ml_parity.specs.SinkGame.{board_of};
 ghost use Rattle.ml_parity.specs.Refusal.{lists_of};
-ghost use Rattle.ml_parity.specs.FastSteps.{place_of, number_at, ArePredecessors, IsLeft, IsRow};
-ghost use Rattle.ml_parity.specs.FastFrames.{BeginsFirstHalf, BeginsSecondHalf, EndsFirstHalf, EndsSecondHalf, HoldsAt, IsAtPart, IsOpen, IsSolved, SolvesWhole, work};
+ghost use Rattle.ml_parity.specs.FastSteps.{places, choices, lefts, ArePredecessors, IsWork};
+ghost use Rattle.ml_parity.specs.FastFrames.{BeginsFirstHalf, BeginsSecondHalf, EndsFirstHalf, EndsSecondHalf, HoldsAt, IsAtPart, IsOpen, IsSolved, SolvesWhole, work_left};
 
-use crate::fast_attract::{attract, restore};
-use crate::fast_row::{Row, choose_inside, gather_priority, gather_won, give, lowest_priority};
+use crate::fast_attract::{Work, attract, restore};
+use crate::fast_row::{choose_inside, gather_priority, gather_won, give, lowest_priority};
 use crate::games::Game;
 use crate::players::Player;
 use ml_base::NoMemory;
@@ -53,48 +53,41 @@ fn first_half(
     game: &Game,
     predecessors: &[Vec<usize>],
     count: usize,
-    row: &mut Row,
-    left: &mut [usize],
+    work: &mut Work,
     winner: &mut [Player],
-    choice: &mut [u64],
 ) -> (Player, usize)
     requires game { IsGame game.now }
     requires predecessors { ArePredecessors game.now (lists_of predecessors.now) }
-    requires row { IsRow row.old.order.items row.old.place.items }
-    requires size { length row.old.place.items ≡ size game.now }
-    requires counts { length left.old ≡ size game.now }
+    requires at_part { IsAtPart game.now work.old count }
     requires winners { length winner.old ≡ size game.now }
-    requires choices { length choice.old ≡ size game.now }
     requires fits { count ≤ size game.now }
     requires some { 0 < count }
-    requires lefts { IsLeft game.now (place_of row.old.place.items) count (number_at left.old) }
-    requires part { IsPart (board_of game.now) (place_of row.old.place.items) count (winner_at winner.old) }
-    ensures row { IsRow row.new.order.items row.new.place.items }
-    ensures size { length row.new.place.items ≡ size game.now }
+    requires part { IsPart (board_of game.now) (places work.old) count (winner_at winner.old) }
+    ensures work { IsWork game.now work.new }
     ensures half { BeginsFirstHalf
         game.now
-        (place_of row.new.place.items)
+        (places work.new)
         count
         result.1
         result.0
-        (number_at left.new)
+        (lefts work.new)
         (winner_at winner.new)
-        (choice_at choice.new) }
+        (choices work.new) }
     ensures kept { KeepsBehind
         count
-        (place_of row.old.place.items)
+        (places work.old)
         (winner_at winner.old)
-        (choice_at choice.old)
-        (place_of row.new.place.items)
+        (choices work.old)
+        (places work.new)
         (winner_at winner.new)
-        (choice_at choice.new) }
+        (choices work.new) }
 {
-    let priority = lowest_priority(game, row, count);
+    let priority = lowest_priority(game, &work.row, count);
     let player = Player::of_priority(priority);
-    let seeded = gather_priority(game, row, count, priority);
-    choose_inside(game, row, choice, player, seeded, count);
-    let rest = attract(game, predecessors, player, count, seeded, row, left, choice);
-    give(row, winner, player, rest, count);
+    let seeded = gather_priority(game, &mut work.row, count, priority);
+    choose_inside(game, &work.row, &mut work.choice, player, seeded, count);
+    let rest = attract(game, predecessors, player, count, seeded, work);
+    give(&work.row, winner, player, rest, count);
     (player, rest)
 }
 
@@ -105,63 +98,50 @@ fn second_half(
     predecessors: &[Vec<usize>],
     player: Player,
     count: usize,
-    row: &mut Row,
-    left: &mut [usize],
+    work: &mut Work,
     winner: &mut [Player],
-    choice: &mut [u64],
 ) -> Option<usize>
     requires game { IsGame game.now }
     requires predecessors { ArePredecessors game.now (lists_of predecessors.now) }
-    requires row { IsRow row.old.order.items row.old.place.items }
-    requires size { length row.old.place.items ≡ size game.now }
-    requires counts { length left.old ≡ size game.now }
+    requires at_part { IsAtPart game.now work.old count }
     requires winners { length winner.old ≡ size game.now }
-    requires choices { length choice.old ≡ size game.now }
     requires fits { count ≤ size game.now }
-    requires lefts { IsLeft game.now (place_of row.old.place.items) count (number_at left.old) }
-    requires half { EndsFirstHalf
-        game.now
-        (place_of row.old.place.items)
-        count
-        player
-        (winner_at winner.old)
-        (choice_at choice.old) }
-    ensures row { IsRow row.new.order.items row.new.place.items }
-    ensures size { length row.new.place.items ≡ size game.now }
+    requires half { EndsFirstHalf game.now (places work.old) count player (winner_at winner.old) (choices work.old) }
+    ensures work { IsWork game.now work.new }
     ensures half { MatchOption
         result
         (EndsSecondHalf
-            game.now
-            (place_of row.new.place.items)
-            count
-            (number_at left.new)
-            (winner_at winner.new)
-            (choice_at choice.new))
+        game.now
+        (places work.new)
+        count
+        (lefts work.new)
+        (winner_at winner.new)
+        (choices work.new))
         (λ rest. BeginsSecondHalf
-            game.now
-            (place_of row.new.place.items)
-            count
-            rest
-            (opponent player)
-            (number_at left.new)
-            (winner_at winner.new)
-            (choice_at choice.new)) }
+        game.now
+        (places work.new)
+        count
+        rest
+        (opponent player)
+        (lefts work.new)
+        (winner_at winner.new)
+        (choices work.new)) }
     ensures kept { KeepsBehind
         count
-        (place_of row.old.place.items)
+        (places work.old)
         (winner_at winner.old)
-        (choice_at choice.old)
-        (place_of row.new.place.items)
+        (choices work.old)
+        (places work.new)
         (winner_at winner.new)
-        (choice_at choice.new) }
+        (choices work.new) }
 {
     let opponent = player.opponent();
-    let seeded = gather_won(row, winner, count, opponent);
+    let seeded = gather_won(&mut work.row, winner, count, opponent);
     if seeded == count {
         return None;
     }
-    let rest = attract(game, predecessors, opponent, count, seeded, row, left, choice);
-    give(row, winner, opponent, rest, count);
+    let rest = attract(game, predecessors, opponent, count, seeded, work);
+    give(&work.row, winner, opponent, rest, count);
     Some(rest)
 }
 
@@ -170,31 +150,19 @@ fn open_part(
     game: &Game,
     predecessors: &[Vec<usize>],
     count: usize,
-    row: &mut Row,
-    left: &mut [usize],
+    work: &mut Work,
     winner: &mut [Player],
-    choice: &mut [u64],
     frames: &mut Vec<Frame>,
 ) -> Result<At, NoMemory>
     requires game { IsGame game.now }
     requires predecessors { ArePredecessors game.now (lists_of predecessors.now) }
-    requires counts { length left.old ≡ size game.now }
     requires winners { length winner.old ≡ size game.now }
-    requires choices { length choice.old ≡ size game.now }
     requires some { 0 < count }
-    requires opened { IsOpen game.now frames.old.items row.old.order.items row.old.place.items left.old winner.old choice.old count }
-    ensures holds { IfOk result (λ at. HoldsAt
-        at
-        game.now
-        frames.new.items
-        row.new.order.items
-        row.new.place.items
-        left.new
-        winner.new
-        choice.new) }
-    ensures falls { IfOk result (λ at. work frames.new.items at < work frames.old.items (Open count)) }
+    requires opened { IsOpen game.now frames.old.items work.old winner.old count }
+    ensures holds { IfOk result (λ at. HoldsAt at game.now frames.new.items work.new winner.new) }
+    ensures falls { IfOk result (λ at. work_left frames.new.items at < work_left frames.old.items (Open count)) }
 {
-    let (player, rest) = first_half(game, predecessors, count, row, left, winner, choice);
+    let (player, rest) = first_half(game, predecessors, count, work, winner);
     frames.push(Frame {
         half: Half::First,
         player,
@@ -208,49 +176,36 @@ fn close_part(
     game: &Game,
     predecessors: &[Vec<usize>],
     rest: usize,
-    row: &mut Row,
-    left: &mut [usize],
+    work: &mut Work,
     winner: &mut [Player],
-    choice: &mut [u64],
     frames: &mut Vec<Frame>,
 ) -> Result<Option<At>, NoMemory>
     requires game { IsGame game.now }
     requires predecessors { ArePredecessors game.now (lists_of predecessors.now) }
-    requires counts { length left.old ≡ size game.now }
     requires winners { length winner.old ≡ size game.now }
-    requires choices { length choice.old ≡ size game.now }
-    requires solved { IsSolved game.now frames.old.items row.old.order.items row.old.place.items left.old winner.old choice.old rest }
+    requires solved { IsSolved game.now frames.old.items work.old winner.old rest }
+    ensures work { IfOk result (λ _. IsWork game.now work.new) }
     ensures holds { IfOk result (λ next. MatchOption
         next
-        (SolvesWhole game.now winner.new choice.new)
-        (λ at. HoldsAt
-            at
-            game.now
-            frames.new.items
-            row.new.order.items
-            row.new.place.items
-            left.new
-            winner.new
-            choice.new)) }
-    ensures falls { IfOk result (λ next. IfSome next (λ at. work frames.new.items at < work frames.old.items (Solved rest))) }
+        (SolvesWhole game.now winner.new work.new.choice.items)
+        (λ at. HoldsAt at game.now frames.new.items work.new winner.new)) }
+    ensures falls { IfOk result (λ next. IfSome next (λ at. work_left frames.new.items at < work_left frames.old.items (Solved rest))) }
 {
     let Some(frame) = frames.pop() else {
         return Ok(None);
     };
-    restore(game, predecessors, row, left, rest, frame.count);
+    restore(
+        game,
+        predecessors,
+        &work.row,
+        &mut work.left,
+        rest,
+        frame.count,
+    );
     match frame.half {
         Half::Second => Ok(Some(At::Solved(frame.count))),
         Half::First => {
-            match second_half(
-                game,
-                predecessors,
-                frame.player,
-                frame.count,
-                row,
-                left,
-                winner,
-                choice,
-            ) {
+            match second_half(game, predecessors, frame.player, frame.count, work, winner) {
                 None => Ok(Some(At::Solved(frame.count))),
                 Some(rest) => {
                     frames.push(Frame {
@@ -270,68 +225,30 @@ fn turn(
     game: &Game,
     predecessors: &[Vec<usize>],
     at: At,
-    row: &mut Row,
-    left: &mut [usize],
+    work: &mut Work,
     winner: &mut [Player],
-    choice: &mut [u64],
     frames: &mut Vec<Frame>,
 ) -> Result<Option<At>, NoMemory>
     requires game { IsGame game.now }
     requires predecessors { ArePredecessors game.now (lists_of predecessors.now) }
-    requires counts { length left.old ≡ size game.now }
     requires winners { length winner.old ≡ size game.now }
-    requires choices { length choice.old ≡ size game.now }
-    requires holds { HoldsAt at game.now frames.old.items row.old.order.items row.old.place.items left.old winner.old choice.old }
+    requires holds { HoldsAt at game.now frames.old.items work.old winner.old }
+    ensures work { IfOk result (λ _. IsWork game.now work.new) }
     ensures holds { IfOk result (λ next. MatchOption
         next
-        (SolvesWhole game.now winner.new choice.new)
-        (λ at. HoldsAt
-            at
-            game.now
-            frames.new.items
-            row.new.order.items
-            row.new.place.items
-            left.new
-            winner.new
-            choice.new)) }
-    ensures falls { IfOk result (λ next. IfSome next (λ then. work frames.new.items then < work frames.old.items at)) }
+        (SolvesWhole game.now winner.new work.new.choice.items)
+        (λ then. HoldsAt then game.now frames.new.items work.new winner.new)) }
+    ensures falls { IfOk result (λ next. IfSome next (λ then. work_left frames.new.items then < work_left frames.old.items at)) }
 {
     match at {
         At::Open(count) => {
             if count == 0 {
-                return close_part(
-                    game,
-                    predecessors,
-                    count,
-                    row,
-                    left,
-                    winner,
-                    choice,
-                    frames,
-                );
+                return close_part(game, predecessors, count, work, winner, frames);
             }
-            let next = open_part(
-                game,
-                predecessors,
-                count,
-                row,
-                left,
-                winner,
-                choice,
-                frames,
-            )?;
+            let next = open_part(game, predecessors, count, work, winner, frames)?;
             Ok(Some(next))
         }
-        At::Solved(count) => close_part(
-            game,
-            predecessors,
-            count,
-            row,
-            left,
-            winner,
-            choice,
-            frames,
-        ),
+        At::Solved(count) => close_part(game, predecessors, count, work, winner, frames),
     }
 }
 
@@ -340,31 +257,19 @@ pub(crate) fn run(
     alloc: Global,
     game: &Game,
     predecessors: &[Vec<usize>],
-    row: &mut Row,
-    left: &mut [usize],
+    work: &mut Work,
     winner: &mut [Player],
-    choice: &mut [u64],
 ) -> Result<(), NoMemory>
     requires game { IsGame game.now }
     requires predecessors { ArePredecessors game.now (lists_of predecessors.now) }
-    requires counts { length left.old ≡ size game.now }
     requires winners { length winner.old ≡ size game.now }
-    requires choices { length choice.old ≡ size game.now }
-    requires begins { IsAtPart game.now row.old.order.items row.old.place.items left.old (size game.now) }
-    ensures { OnOk result (SolvesWhole game.now winner.new choice.new) }
+    requires begins { IsAtPart game.now work.old (size game.now) }
+    ensures work { OnOk result (IsWork game.now work.new) }
+    ensures solves { OnOk result (SolvesWhole game.now winner.new work.new.choice.items) }
 {
     let mut frames = Vec::new(alloc);
     let mut at = At::Open(game.size());
-    while let Some(next) = turn(
-        game,
-        predecessors,
-        at,
-        row,
-        left,
-        winner,
-        choice,
-        &mut frames,
-    )? {
+    while let Some(next) = turn(game, predecessors, at, work, winner, &mut frames)? {
         at = next;
     }
     Ok(())

@@ -1,7 +1,5 @@
 -- One is counted up, for which there is room.
-use Rattle.std.proofs.Common.{arith, ◌<◌, ◌≡◌, ap, length, get_or, refl}
-use Rattle.ml_parity.specs.Game.{moves_of}
-use Rattle.ml_parity.specs.FastSteps.{number_at}
+use Rattle.std.proofs.Common.{arith, ap, length, refl}
 use Rattle.ml_parity.proofs.AttractLoops.{room_left, one_up}
 use Rattle.ml_parity.proofs.fast_attract.count_up.Goals as goal
 

@@ -1,6 +1,6 @@
 -- The predecessors of the vertex at one place more are counted up.
-use Rattle.std.proofs.Common.{arith, ◌<◌, ◌≡◌}
-use Rattle.ml_parity.specs.Game.{size, IsGame}
+use Rattle.std.proofs.Common.{arith, ◌<◌}
+use Rattle.ml_parity.specs.Game.{size}
 use Rattle.ml_parity.proofs.AttractLoops.{preds_low, all_room, all_up}
 use Rattle.ml_parity.proofs.fast_attract.restore.Goals as goal
 

@@ -2,7 +2,7 @@
 use Rattle.std.proofs.Common.{arith, ◌≡◌, ◌∙◌, sym}
 use Rattle.ml_parity.specs.Game.{priority_of}
 use Rattle.ml_parity.specs.FastSteps.{place_of}
-use Rattle.ml_parity.proofs.Rows.{gather_less, gather_more}
+use Rattle.ml_parity.proofs.Rows.{gather_more}
 use Rattle.ml_parity.proofs.fast_row.gather_priority.Goals as goal
 
 pub loop-at-preserved-then-priority_at-priority : goal.loop-at-preserved-then-priority_at-priority

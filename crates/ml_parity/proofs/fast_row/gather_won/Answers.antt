@@ -1,7 +1,5 @@
 -- One vertex more is looked at.
-use Rattle.std.proofs.Common.{rules, arith, ◌≡◌, ◌∙◌, sym}
-use Rattle.std.proofs.lemmas.List.{get_or_default}
-use Rattle.ml_parity.specs.declared.players.Player.TheVariants.{Even}
+use Rattle.std.proofs.Common.{rules, arith, ◌≡◌, ◌∙◌}
 use Rattle.ml_parity.specs.Solution.{winner_at}
 use Rattle.ml_parity.specs.FastSteps.{place_of}
 use Rattle.ml_parity.proofs.Rows.{gather_less, gather_more}

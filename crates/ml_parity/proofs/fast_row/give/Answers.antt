@@ -1,7 +1,6 @@
 -- One vertex more is given.
 use Rattle.std.proofs.Common.{arith, ◌∙◌}
 use Rattle.std.proofs.lemmas.List.{get_or_default}
-use Rattle.ml_parity.specs.Solution.{winner_at}
 use Rattle.ml_parity.proofs.RowLoops.{given_more}
 use Rattle.ml_parity.proofs.fast_row.give.Goals as goal
 

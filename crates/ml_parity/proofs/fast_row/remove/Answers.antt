@@ -1,10 +1,9 @@
 -- The four writes are an exchange.
-use Rattle.std.proofs.Common.{ℕ, ◌≡◌, ◌-◌, length, arith, get_or, ◌∙◌, sym}
+use Rattle.std.proofs.Common.{◌≡◌, ◌-◌, arith, get_or, ◌∙◌}
 use Rattle.std.proofs.lemmas.List.{get_or_default}
 use Rattle.ml_parity.specs.FastSteps.{place_of}
 use Rattle.ml_parity.proofs.Rows.{exchanged, row_exchanged, removed_exchanged, is_vertex}
 use Rattle.ml_parity.proofs.fast_row.remove.Goals as goal
-
 
 pub returns-clause-row : goal.returns-clause-row
 returns-clause-row c =
