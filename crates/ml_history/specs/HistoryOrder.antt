@@ -19,6 +19,7 @@ use Rattle.std.specs.Cmp.{IsTotalOrder, IsEquivalence, both_tied, unsigned_ties,
 use Rattle.std.specs.Cmp.Lexicographic.{pointwise, slice_cmp, lists_ties, texts_ties, bytes_decides}
 use Rattle.std.specs.Hash.{HashWrites}
 use Rattle.std.specs.Hash as fed
+use Rattle.std.proofs.Common.{subst}
 use Rattle.std.proofs.lemmas.Bool.{eqb-true}
 use Rattle.std.proofs.lemmas.Cmp.{on_total, then_total, on_equiv, and_equiv, nat_cmp_total, nat_eq_equiv, nat_list_cmp_total, nat_list_eq_equiv, lists_total, lists_equiv}
 use Rattle.ml_trace.specs.Stack.{Item}
@@ -91,3 +92,7 @@ history_eq-same (a ∷ as') (b ∷ bs) e =
     let here = item_eq-same a b (first_so (item_eq a b) (history_eq as' bs) e) in
     let rest = history_eq-same as' bs (second_so (item_eq a b) (history_eq as' bs) e) in
     λ i. here i ∷ rest i
+
+-- it holds of one history, and of no two
+pub history_eq-decides : (h g : List (Item ℕ)) → (history_eq h g ≡ true → h ≡ g) × (h ≡ g → history_eq h g ≡ true)
+history_eq-decides h g = (history_eq-same h g, λ e. subst (λ k. history_eq h k ≡ true) e (history_eq_equiv.refl h))

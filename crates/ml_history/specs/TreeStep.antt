@@ -6,6 +6,7 @@
 -- a state, in this order, is the best one.
 --
 --   targets l acc q        == the states to which transitions of the letter l lead from q, accepting ones or others
+--   leads_from acc q t     == t is such a transition
 --   moved r targets tail f == 1. the tree of all offers: a vertex keeps the targets of its states along other
 --                             transitions, and the targets along accepting ones go to a new youngest child, with the
 --                             name r + x at a vertex x. Behind the roots of f stand those of `tail`
@@ -16,6 +17,7 @@
 --   lay, lay_full          == a vertex over children that are settled: without states in its subtree it goes, and where
 --                             no state lies at it, it takes all of its subtree
 --   settled f              == 3. all vertices so, from below: each stack is cut after its first full name
+--   full_here age own qs   ==    the name of a vertex at which the states own lie, over the states qs, where it is full
 --   fulls f                ==    the names of the full vertices of f, of those too that lie below others
 --   renewed n f            == 4. the ages through the function n, and the states of each vertex in their order
 --   walked f l             == the tree after the first two passes

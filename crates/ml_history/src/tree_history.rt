@@ -1,5 +1,5 @@
 // Histories as trees.
-ghost use Rattle.std.specs.Prelude.{◌≡◌, ◌<◌, ◌^◌, IfOk, Some, map};
+ghost use Rattle.std.specs.Prelude.{◌≡◌, ◌<◌, ◌^◌, ◌↔◌, IsTrue, IfOk, Some, map};
 ghost use Rattle.ml_history.specs.History.{start, IsHistory};
 ghost use Rattle.ml_history.specs.HistoryOrder.{history_eq, history_eq_equiv, hash_writes};
 ghost use Rattle.ml_history.specs.HistoryStep.{live, stepped, step_mark};
@@ -151,7 +151,10 @@ impl PartialEq for History {
 
     ghost laws = { partial_equiv_from_equiv history_eq_equiv };
 
-    fn eq(&self, other: &History) -> bool {
+    fn eq(&self, other: &History) -> bool
+        ensures value { result ≡ history_eq self.now other.now }
+        ensures exact { IsTrue result ↔ self.now ≡ other.now }
+    {
         same(self.roots.as_slice(), other.roots.as_slice())
     }
 }
