@@ -44,3 +44,51 @@ pub mod Putting
 pub mod PlainStep
 -- letters stand for sets
 pub mod LetterSets
+-- lists in the order of a relation
+pub mod InOrder
+-- places stand in the order of offers
+pub mod PlacesInOrder
+-- sets and rows of vertices, one more at a time
+pub mod Joined
+-- how often a number stands in a list
+pub mod Times
+-- items by ascending states
+pub mod Arranged
+-- forests: the states that lie in them, with their stacks
+pub mod Forests
+-- the tree of a history stands for a history
+pub mod Proper
+-- the order of the places of a forest is the order of offers
+pub mod Postorder
+-- the first item of each state
+pub mod Firsts
+-- the tree of all offers
+pub mod Moved
+-- a tree without repeats
+pub mod Fresh
+-- the tree of the first offers is what the targets take
+pub mod Walked
+-- full vertices, and the cut on a tree
+pub mod Settled
+-- new ages, and the states of each vertex in their order
+pub mod Renewed
+-- the history step on trees is the history step
+pub mod TreeSteps
+-- rows of vertices in the program
+pub mod Rows
+-- the items of a tree in the order of offers
+pub mod OfferOrder
+-- histories as the program keeps them
+pub mod Kept
+-- the transitions that leave a state
+pub mod Leaving
+-- states that were seen
+pub mod Seen
+-- what the walk over a tree makes, vertex by vertex
+pub mod Laying
+-- flags for names, and the numbers that are counted from them
+pub mod Flags
+-- the step of a history that the program holds, from its parts
+pub mod TreeProgram
+-- how trees compare, state by state
+pub mod ByState

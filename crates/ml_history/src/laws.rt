@@ -1,6 +1,11 @@
-// Laws over the definitions of the trace automaton and the history step alone. Each stands on a function that does
-// nothing.
-ghost use Rattle.ml_history.specs.CycleLaws.{StepsAreHistories, StepsTraceNames, LettersAreSets, OddMarkHasRun, RunHasOddMark};
+// Laws over the definitions of the trace automaton and the history step. Each stands on a function that does nothing.
+ghost use Rattle.std.specs.Prelude.{◌≡◌, ◌≢◌, true, []};
+ghost use Rattle.ml_trace.specs.Marks.{is_odd, lowest_mark};
+ghost use Rattle.ml_history.specs.CycleLaws.{StepsAreHistories, StepsTraceNames, LettersAreSets, AcceptingCycle, OddMarkHasRun, RunHasOddMark};
+ghost use Rattle.ml_history.specs.HistoryStep.{after, marks_along};
+
+use crate::tree_history::History;
+use ml_trace::Letter;
 
 /// The start is a history, and a step leads from a history to a history.
 pub fn steps_are_histories()
@@ -20,11 +25,25 @@ pub fn steps_trace_names()
 /// The first cycle law: for every history and every nonempty word whose steps lead from it back to it, if the lowest mark
 /// of these steps is odd, some state with a stack in the history has an accepting run to itself along the word, one or
 /// more times over.
-pub fn odd_mark_has_run()
+pub fn odd_marks_have_runs()
     ensures { OddMarkHasRun }
 {}
 
 /// The second cycle law: if there is such a run, the lowest mark is odd.
-pub fn run_has_odd_mark()
+pub fn runs_have_odd_marks()
     ensures { RunHasOddMark }
 {}
+
+/// The first cycle law for one history and one word.
+pub fn odd_mark_has_run(start: &History, word: &[Letter])
+    ensures { word.now ≢ [] → after start.now word.now ≡ start.now → is_odd (lowest_mark (marks_along start.now word.now)) ≡ true → AcceptingCycle start.now word.now }
+{
+    start.is_kept();
+}
+
+/// The second cycle law for one history and one word.
+pub fn run_has_odd_mark(start: &History, word: &[Letter])
+    ensures { word.now ≢ [] → after start.now word.now ≡ start.now → AcceptingCycle start.now word.now → is_odd (lowest_mark (marks_along start.now word.now)) ≡ true }
+{
+    start.is_kept();
+}

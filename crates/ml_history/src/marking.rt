@@ -38,7 +38,14 @@ pub(crate) fn mark(used: u32, taken: &[Stacked], cut: &[Stacked]) -> Mark
     requires { used ≤ 2 ^ 30 }
     ensures { result ≡ mark_of (least (λ y. nat_lt y used && not (stands cut.now y)) (2 * used)) (least (λ y. is_full taken.now y && stands cut.now y) (2 * used)) }
 {
-    match (least_red(used, cut), least_green(used, taken, cut)) {
+    mark_of(least_red(used, cut), least_green(used, taken, cut))
+}
+
+// The mark, from the least red name and the least green name.
+pub(crate) fn mark_of(red: Option<u32>, green: Option<u32>) -> Mark
+    ensures { result ≡ mark_of red green }
+{
+    match (red, green) {
         (None, None) => Mark::Neutral,
         (None, Some(y)) => Mark::Green(y),
         (Some(x), None) => Mark::Red(x),

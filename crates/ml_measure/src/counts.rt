@@ -1,6 +1,5 @@
 // What is counted in inputs and answers.
 
-use ml_history::PlainHistory;
 use ml_parity::{Game, Heights, OneSided, Player, Solution};
 use ml_trace::Letter;
 
@@ -65,9 +64,4 @@ pub fn highest(heights: &Heights) -> u64 {
         }
     }
     most
-}
-
-/// How many states a history has.
-pub fn states(history: &PlainHistory) -> usize {
-    history.items().len()
 }

@@ -1,11 +1,13 @@
 // The measurements.
 
-use crate::counts::{highest, read_game, read_graph, read_letter, states, won_by_even};
+use crate::counts::{highest, read_game, read_graph, read_letter, won_by_even};
 use crate::failure::Failure;
-use ml_history::PlainHistory;
-use ml_parity::plain::solve_plain;
-use ml_parity::{Game, OneSided, heights};
-use ml_tests::{Numbers, chain, ladder, random_blocks, random_game, random_letter, slow_row};
+use ml_history::History;
+use ml_parity::{Game, OneSided, heights, solve};
+use ml_tests::{
+    Numbers, chain, deep_letter, ladder, random_blocks, random_game, random_letter, slow_row,
+};
+use ml_trace::Letter;
 use std::alloc::AllocGlobal;
 use std::io::Print;
 use std::rt::Clock;
@@ -20,6 +22,8 @@ pub enum Measurement {
     Ladder,
     /// A hundred steps of a history along random letters over so many states, with ten transitions a state.
     Histories,
+    /// So many steps of a history, of which each makes the longest stack longer by one.
+    Deep,
     /// Heights of a chain of so many arcs.
     Chain,
     /// Heights of a random graph of so many vertices, as many arcs and 16 even priorities.
@@ -27,6 +31,8 @@ pub enum Measurement {
     /// Heights of a graph of so many vertices, twice as many arcs and 16 even priorities, in which numbers have a long
     /// way round.
     Row,
+    /// An even cycle of such a graph.
+    Cycle,
 }
 
 impl Measurement {
@@ -36,9 +42,11 @@ impl Measurement {
             "games" => Some(Measurement::Games),
             "ladder" => Some(Measurement::Ladder),
             "histories" => Some(Measurement::Histories),
+            "deep" => Some(Measurement::Deep),
             "chain" => Some(Measurement::Chain),
             "blocks" => Some(Measurement::Blocks),
             "row" => Some(Measurement::Row),
+            "cycle" => Some(Measurement::Cycle),
             _ => None,
         }
     }
@@ -78,7 +86,7 @@ fn solve_game<R: Print + Clock + AllocGlobal>(
     let sum = read_game(game);
     let read = start.elapsed(rt)?;
     let start = Instant::now(rt)?;
-    let solution = solve_plain(rt.alloc(), game)?;
+    let solution = solve(rt.alloc(), game)?;
     let work = start.elapsed(rt)?;
     let size = game.size();
     let even = won_by_even(&solution);
@@ -112,34 +120,82 @@ fn count_heights<R: Print + Clock + AllocGlobal>(
     print_time(rt, is_timed, read, work)
 }
 
-/// A hundred steps along letters over so many states.
+/// What the steps of a history took.
+#[derive(Clone, Copy)]
+struct Steps {
+    /// The time for reading the letters once, and for the steps.
+    read: Duration,
+    work: Duration,
+    /// A number that depends on all letters.
+    sum: u64,
+}
+
+/// Steps along a letter.
+fn step_along<R: Clock>(
+    rt: &R,
+    history: &History,
+    letter: &Letter,
+    steps: &mut Steps,
+) -> Result<History, Failure> {
+    let start = Instant::now(rt)?;
+    steps.sum = steps.sum.wrapping_add(read_letter(letter));
+    steps.read = steps.read.saturating_add(start.elapsed(rt)?);
+    let start = Instant::now(rt)?;
+    let (next, _) = history.step(letter)?;
+    steps.work = steps.work.saturating_add(start.elapsed(rt)?);
+    Ok(next)
+}
+
+/// Prints what the steps led to.
+fn print_steps<R: Print>(
+    rt: &R,
+    history: &History,
+    steps: Steps,
+    is_timed: bool,
+) -> Result<(), Failure> {
+    let sum = steps.sum;
+    let states = history.stacks()?.len();
+    let names = history.live();
+    println!(rt; "letters of sum {sum}: {states} states with {names} names")?;
+    print_time(rt, is_timed, steps.read, steps.work)
+}
+
+const NO_STEPS: Steps = Steps {
+    read: Duration::ZERO,
+    work: Duration::ZERO,
+    sum: 0,
+};
+
+/// A hundred steps along random letters over so many states.
 fn step_histories<R: Print + Clock + AllocGlobal>(
     rt: &R,
     size: u32,
     is_timed: bool,
 ) -> Result<(), Failure> {
-    if size == 0 {
-        return Ok(());
-    }
+    let states = size.max(1);
     let mut numbers = Numbers::new(1);
-    let mut history = PlainHistory::start(rt.alloc(), 0)?;
-    let mut work = Duration::ZERO;
-    let mut read = Duration::ZERO;
-    let mut sum: u64 = 0;
+    let mut steps = NO_STEPS;
+    let mut history = History::start(rt.alloc(), 0)?;
     for _ in 0..100 {
-        let letter = random_letter(rt.alloc(), &mut numbers, size, size as u64 * 10)?;
-        let start = Instant::now(rt)?;
-        sum = sum.wrapping_add(read_letter(&letter));
-        read = read.saturating_add(start.elapsed(rt)?);
-        let start = Instant::now(rt)?;
-        let (next, _) = history.step(&letter)?;
-        work = work.saturating_add(start.elapsed(rt)?);
-        history = next;
+        let letter = random_letter(rt.alloc(), &mut numbers, states, states as u64 * 10)?;
+        history = step_along(rt, &history, &letter, &mut steps)?;
     }
-    let states = states(&history);
-    let names = history.live();
-    println!(rt; "{size} states, sum {sum}: {states} states with {names} names")?;
-    print_time(rt, is_timed, read, work)
+    print_steps(rt, &history, steps, is_timed)
+}
+
+/// So many steps along the letter that makes stacks longer.
+fn step_deeper<R: Print + Clock + AllocGlobal>(
+    rt: &R,
+    size: u32,
+    is_timed: bool,
+) -> Result<(), Failure> {
+    let letter = deep_letter(rt.alloc(), size)?;
+    let mut steps = NO_STEPS;
+    let mut history = History::start(rt.alloc(), 0)?;
+    for _ in 0..size {
+        history = step_along(rt, &history, &letter, &mut steps)?;
+    }
+    print_steps(rt, &history, steps, is_timed)
 }
 
 /// Makes what is measured, and measures it.
@@ -158,25 +214,33 @@ pub fn measure<R: Print + Clock + AllocGlobal>(
         }
         Measurement::Ladder => solve_game(rt, &ladder(alloc, size)?, is_timed),
         Measurement::Histories => step_histories(rt, size, is_timed),
+        Measurement::Deep => step_deeper(rt, size, is_timed),
         Measurement::Chain => count_heights(rt, &chain(alloc, size as u64)?, is_timed),
         Measurement::Blocks => {
             let arcs = size as u64;
             let graph = random_blocks(alloc, &mut numbers, arcs.max(1), arcs, 16)?;
             count_heights(rt, &graph, is_timed)
         }
-        Measurement::Row => count_heights(rt, &slow_row(alloc, size as u64, 16)?, is_timed),
+        Measurement::Row => {
+            count_heights(rt, &slow_row(alloc, size as u64, 16, false)?, is_timed)
+        }
+        Measurement::Cycle => {
+            count_heights(rt, &slow_row(alloc, size as u64, 16, true)?, is_timed)
+        }
     }
 }
 
 /// Each measurement once at a small size, without times.
 pub fn measure_small<R: Print + Clock + AllocGlobal>(rt: &R) -> Result<(), Failure> {
     let small = [
-        (Measurement::Games, 12),
-        (Measurement::Ladder, 12),
-        (Measurement::Histories, 12),
+        (Measurement::Games, 1000),
+        (Measurement::Ladder, 1000),
+        (Measurement::Histories, 100),
+        (Measurement::Deep, 100),
         (Measurement::Chain, 1000),
         (Measurement::Blocks, 1000),
         (Measurement::Row, 100),
+        (Measurement::Cycle, 100),
     ];
     for (measurement, size) in small {
         measure(rt, measurement, size, false)?;

@@ -3,8 +3,6 @@
 -- The choices at vertices whose owners do not win them are filled up with first successors, so that there is a move
 -- at each vertex.
 --
---   FilledBelow g win old choice n == below n the choices are the old ones where the owner wins, and first successors
---                                     elsewhere; from n on they are the old ones
 --   solution_of_lists   == with all vertices live, an answer on the board, filled up, is a solution of the game
 use Rattle.std.proofs.Common.{ℕ, ◌≡◌, ◌≢◌, ◌<◌, ◌≤◌, ◌⊎◌, inl, inr, arith, Bool, true, false, List, length, get_or, replicate, subst, sym, ap, ◌∙◌, lt-ltb, le-ltb}
 use Rattle.std.proofs.lemmas.Bool.{cases_lt}
@@ -15,19 +13,12 @@ use Rattle.ml_parity.specs.Game.{ParityGame, IsGame, HasMove, owner_of, moves_of
 use Rattle.ml_parity.specs.Winner.{WinsFrom}
 use Rattle.ml_parity.specs.Solution.{IsSolution, FirstElsewhere, winner_at, choice_at}
 use Rattle.ml_parity.specs.Sinks.{Holds, Solves}
-use Rattle.ml_parity.specs.SinkGame.{board_of, flag_at, SolvesLists}
+use Rattle.ml_parity.specs.SinkGame.{board_of, flag_at, FilledBelow, SolvesLists}
 use Rattle.ml_parity.proofs.Opponents.{is_or_not}
 use Rattle.ml_parity.proofs.Boards.{all_live, first_move, solution_wins}
 
--- below n the choices are the old ones where the owner wins, and first successors elsewhere; from n on the old ones
-pub record FilledBelow (g : ParityGame) (win : List Player) (old choice : List ℕ) (n : ℕ) : Type 0 where
-  pub size : length choice ≡ length old
-  pub own : (v : ℕ) → v < n → owner_of g v ≡ winner_at win v → choice_at choice v ≡ choice_at old v
-  pub other : (v : ℕ) → v < n → owner_of g v ≢ winner_at win v → choice_at choice v ≡ get_or (moves_of g v) 0 0
-  pub later : (v : ℕ) → n ≤ v → choice_at choice v ≡ choice_at old v
-
 -- flags that are all set are those of all vertices
-all_set : (g : ParityGame) (live : List Bool) → live ≡ replicate (size g) true → flag_at live ≡ all_live g
+pub all_set : (g : ParityGame) (live : List Bool) → live ≡ replicate (size g) true → flag_at live ≡ all_live g
 all_set g live is = ap flag_at is ∙ fun_ext (λ v. by_place v (cases_lt v (size g)))
   where
     by_place : (v : ℕ) → (v < size g) ⊎ (size g ≤ v) → flag_at (replicate (size g) true) v ≡ all_live g v

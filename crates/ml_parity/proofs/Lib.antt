@@ -1,3 +1,11 @@
+-- the loops that make and undo attractors
+pub mod AttractLoops
+-- attractors that are being made
+pub mod Attracting
+-- attractors in a part, and what is left of it
+pub mod Attractors
+-- the moves of a game from behind
+pub mod Backwards
 -- from games to boards and back
 pub mod Boards
 -- certificates by ranks are right
@@ -6,10 +14,14 @@ pub mod Certificates
 pub mod Comparison
 -- from an answer on the board of a game to a solution
 pub mod Filled
+-- the frames of the fast solver
+pub mod Frames
 -- what the program reads in the fields of a game
 pub mod GameFields
 -- one number raised along one arc
 pub mod HeightRaises
+-- the two halves of a turn of the fast solver
+pub mod Halves
 -- rows of numbers as the program holds them, as heights
 pub mod HeightRows
 -- the search for a walk from one vertex to another, and for a cycle
@@ -20,6 +32,8 @@ pub mod HeightTables
 pub mod HeightWalks
 -- winning is kept along plays that follow the strategy
 pub mod Kept
+-- what waits is kept while a part is solved
+pub mod KeptBehind
 -- the induction of the determinacy law, its first case
 pub mod LeastKept
 -- and its second case
@@ -28,6 +42,8 @@ pub mod LeastLost
 pub mod LiveLists
 -- finite memory is not needed
 pub mod Memory
+-- how often a number stands in a list
+pub mod Occurrences
 -- the one-step law
 pub mod OneStep
 -- the two players
@@ -36,9 +52,17 @@ pub mod Opponents
 pub mod PlainSteps
 -- lists that are a game, and lists that are none
 pub mod Refusals
+-- loops over the places of a row
+pub mod RowLoops
+-- rows of vertices, and vertices that are moved to the end of a part
+pub mod Rows
 -- every game with finitely many live vertices has a solution
 pub mod Sinks
 -- what a solution tells
 pub mod SolutionFacts
+-- the turns of the fast solver
+pub mod Turns
+-- the whole game as a part of itself
+pub mod Whole
 -- who wins each vertex: the determinacy law
 pub mod Winners

@@ -1,5 +1,9 @@
 -- certificates by ranks
 pub mod Certificate
+-- the frames of the fast solver
+pub mod FastFrames
+-- the steps of the fast solver, on its lists
+pub mod FastSteps
 -- parity games, as lists
 pub mod Game
 -- what the values of the program for heights stand for
@@ -10,6 +14,8 @@ pub mod HeightSteps
 pub mod Heights
 -- the determinacy law
 pub mod Law
+-- parts of a board, attractors, and the halves of a turn of the fast solver
+pub mod Parts
 -- the two players
 pub mod Player
 -- which lists are no parity game

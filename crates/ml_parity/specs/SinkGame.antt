@@ -1,4 +1,4 @@
--- Games with sinks on a parity game, as the plain solver holds them: lists of flags, of players and of moves.
+-- Games with sinks on a parity game, as the solvers hold them: lists of flags, of players and of moves.
 --
 --   board_of g               == the owners, priorities and moves of g
 --   flag_at flags v          == the flag of vertex v; past the end no flag is set
@@ -6,9 +6,11 @@
 --   IsLeastLive g live t        == t is a live vertex, and no live vertex has a lower priority
 --   IsWithoutWon live win p rest == rest has the flags of the live vertices that p did not win
 --   IsMerged win p first second choice == choice is the first where p won, and the second elsewhere
-use Rattle.std.specs.Prelude.{ℕ, ◌≡◌, ◌<◌, ◌≤◌, Bool, true, false, List, length, get_or}
+--   FilledBelow g win old choice n == below n the choices are the old ones where the owner wins, and first successors
+--                                     elsewhere; from n on they are the old ones
+use Rattle.std.specs.Prelude.{ℕ, ◌≡◌, ◌≢◌, ◌<◌, ◌≤◌, Bool, true, false, List, length, get_or}
 use Rattle.ml_parity.specs.declared.players.Player.{Player}
-use Rattle.ml_parity.specs.Game.{ParityGame, HasMove, owner_of, priority_of}
+use Rattle.ml_parity.specs.Game.{ParityGame, HasMove, owner_of, priority_of, moves_of}
 use Rattle.ml_parity.specs.Sinks.{Board, Solves}
 use Rattle.ml_parity.specs.Solution.{winner_at, choice_at}
 
@@ -41,3 +43,10 @@ pub record IsMerged (win : List Player) (p : Player) (first second choice : List
   pub size : length choice ≡ length win
   pub won : (v : ℕ) → v < length win → winner_at win v ≡ p → choice_at choice v ≡ choice_at first v
   pub lost : (v : ℕ) → v < length win → (winner_at win v ≡ p → ⊥) → choice_at choice v ≡ choice_at second v
+
+-- below n the choices are the old ones where the owner wins, and first successors elsewhere; from n on the old ones
+pub record FilledBelow (g : ParityGame) (win : List Player) (old choice : List ℕ) (n : ℕ) : Type 0 where
+  pub size : length choice ≡ length old
+  pub own : (v : ℕ) → v < n → owner_of g v ≡ winner_at win v → choice_at choice v ≡ choice_at old v
+  pub other : (v : ℕ) → v < n → owner_of g v ≢ winner_at win v → choice_at choice v ≡ get_or (moves_of g v) 0 0
+  pub later : (v : ℕ) → n ≤ v → choice_at choice v ≡ choice_at old v

@@ -5,9 +5,9 @@
 // Odd. The definition (`specs/Game.antt`, `specs/Winner.antt`) speaks of positional strategies, and of plays as lassos.
 //
 // The calls to know:
+// - `solve` answers who wins each vertex of a game, and by which moves: Zielonka's recursion, with its frames on a list.
 // - `Game::build` makes a game of three lists, and refuses lists that are none.
-// - `plain::solve_plain` answers who wins each vertex, and by which moves. It is slow and obvious: take it to test a
-//   faster solver.
+// - `plain::solve_plain` answers the same question. It is slow and obvious: take it to test `solve`.
 // - `laws::determined` does nothing; its contract is the determinacy law, over the definition alone.
 // - `heights` treats a graph in which one player makes all moves (`OneSided::build`): it counts the longest walks, or finds
 //   a cycle of even lowest priority. `heights_ok` tests numbers against the definition (`specs/Heights.antt`).
@@ -20,6 +20,12 @@
 // checking games of structures and graphs, and the decision game.
 #![tactic(auto)]
 
+mod fast;
+mod fast_attract;
+mod fast_moves;
+mod fast_row;
+mod fast_turns;
+mod fill;
 pub mod games;
 pub mod heights_answer;
 pub mod heights_check;
@@ -32,6 +38,7 @@ pub mod plain;
 pub mod players;
 pub mod solutions;
 
+pub use fast::solve;
 pub use games::{Game, GameRefusal};
 pub use heights_answer::{EvenCycle, Heights};
 pub use heights_check::heights_ok;

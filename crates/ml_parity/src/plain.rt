@@ -6,6 +6,7 @@ ghost use Rattle.ml_parity.specs.Solution.{IsSolution, FirstElsewhere, winner_at
 ghost use Rattle.ml_parity.specs.SinkGame.{board_of, flag_at, SolvesLists, IsLeastLive, IsWithoutWon, IsMerged};
 ghost use Rattle.ml_parity.specs.Sinks.{Holds};
 
+use crate::fill::with_first_moves;
 use crate::games::Game;
 use crate::players::Player;
 use crate::solutions::Solution;
@@ -151,11 +152,7 @@ pub fn solve_plain(alloc: Global, game: &Game) -> Result<Solution, AllocError>
     let size = game.size();
     let live = vec![in alloc; true; size]?;
     let sinks = vec![in alloc; Player::Even; size]?;
-    let (winner, mut choice) = solve_live(alloc, game, &live, &sinks)?;
-    for v in 0..size {
-        if game.owner_at(v) != winner[v] {
-            choice[v] = game.moves_at(v)[0];
-        }
-    }
+    let (winner, choice) = solve_live(alloc, game, &live, &sinks)?;
+    let choice = with_first_moves(game, &winner, choice);
     Ok(Solution { winner, choice })
 }

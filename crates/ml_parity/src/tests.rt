@@ -1,5 +1,6 @@
-// Small games worked out by hand: what `Game::build` refuses, and who wins by the plain solver.
+// Small games worked out by hand: what `Game::build` refuses, and who wins by the two solvers.
 
+use crate::fast::solve;
 use crate::games::{Game, GameRefusal};
 use crate::plain::solve_plain;
 use crate::players::Player;
@@ -130,5 +131,15 @@ fn the_plain_solver_on_small_games(rt: HostRuntime) -> Result<(), Fail> {
         assert_eq!(rt; solution.winner.as_slice(), worked.winner);
         assert_eq!(rt; solution.choice.as_slice(), worked.choice);
     }
+    Ok(())
+}
+
+#[test]
+fn the_fast_solver_on_a_small_game(rt: HostRuntime) -> Result<(), Fail> {
+    let alloc = rt.alloc();
+    let game = game_of_rows(alloc, &[(E, 1, &[0, 1]), (O, 0, &[1])])??;
+    let solution = solve(alloc, &game)?;
+    assert_eq!(rt; solution.winner.as_slice(), [E, E].as_slice());
+    assert_eq!(rt; solution.choice.as_slice(), [1, 1].as_slice());
     Ok(())
 }

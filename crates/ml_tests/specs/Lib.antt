@@ -1,0 +1,2 @@
+-- numbers that look random
+pub mod Numbers

@@ -1,5 +1,7 @@
 // Parity games.
-ghost use Rattle.std.specs.Prelude.{◌<◌, ◌≤◌, ◌^◌};
+ghost use Rattle.std.specs.Prelude.{◌≡◌, ◌<◌, IfOk, vec_len};
+ghost use Rattle.ml_parity.specs.Game.{size};
+ghost use Rattle.ml_parity.specs.Player.{side};
 
 use crate::not_made::NotMade;
 use crate::numbers::Numbers;
@@ -15,7 +17,9 @@ struct Vertex {
 }
 
 /// The game of these vertices.
-fn game_of(alloc: Global, vertices: Vec<Vertex>) -> Result<Game, NotMade> {
+fn game_of(alloc: Global, vertices: Vec<Vertex>) -> Result<Game, NotMade>
+    ensures { IfOk result (λ g. size g ≡ vec_len vertices) }
+{
     let mut owner = Vec::new(alloc);
     let mut priority = Vec::new(alloc);
     let mut successors = Vec::new(alloc);
@@ -28,7 +32,9 @@ fn game_of(alloc: Global, vertices: Vec<Vertex>) -> Result<Game, NotMade> {
 }
 
 /// Even for an even number, Odd for an odd one.
-fn player(number: u64) -> Player {
+fn player(number: u64) -> Player
+    ensures { result ≡ side number }
+{
     if number % 2 == 0 {
         Player::Even
     } else {
@@ -44,6 +50,7 @@ fn random_successors(
     vertices: u64,
 ) -> Result<Vec<u64>, AllocError>
     requires { 0 < vertices }
+    ensures { IfOk result (λ ws. vec_len ws ≡ count) }
 {
     let mut successors = Vec::new(alloc);
     for _ in 0..count {
@@ -67,6 +74,7 @@ pub fn random_game(
     priorities: u32,
 ) -> Result<Game, NotMade>
     requires { 0 < priorities }
+    ensures { IfOk result (λ g. size g ≡ vertices) }
 {
     let mut all = Vec::new(alloc);
     for _ in 0..vertices {
@@ -89,7 +97,9 @@ pub fn random_game(
 /// `NoMemory` alone.
 ///
 /// Linear in the game.
-pub fn ladder(alloc: Global, vertices: u32) -> Result<Game, NotMade> {
+pub fn ladder(alloc: Global, vertices: u32) -> Result<Game, NotMade>
+    ensures { IfOk result (λ g. size g ≡ vertices) }
+{
     let mut all = Vec::new(alloc);
     for v in 0..vertices {
         let mut successors = Vec::new(alloc);
@@ -116,7 +126,9 @@ pub const SMALL_GAMES: u64 = 324;
 ///
 /// # Errors
 /// `NoMemory` alone.
-pub fn small_game(alloc: Global, number: u64) -> Result<Game, NotMade> {
+pub fn small_game(alloc: Global, number: u64) -> Result<Game, NotMade>
+    ensures { IfOk result (λ g. size g ≡ 2) }
+{
     let mut all = Vec::new(alloc);
     let mut rest = number;
     for _ in 0..2u64 {

@@ -1,5 +1,6 @@
 // One-sided graphs.
-ghost use Rattle.std.specs.Prelude.{◌<◌, ◌≤◌, ◌^◌, ◌*◌};
+ghost use Rattle.std.specs.Prelude.{◌≡◌, ◌+◌, ◌<◌, ◌≤◌, ◌^◌, IfOk};
+ghost use Rattle.ml_parity.specs.HeightLists.{graph_of};
 
 use crate::not_made::NotMade;
 use crate::numbers::Numbers;
@@ -7,7 +8,9 @@ use ml_parity::{Arc, OneSided};
 use std::alloc::Global;
 
 /// The graph of these arcs, if they are those of one.
-fn graph_of(size: u64, top: u32, arcs: Vec<Arc>) -> Result<OneSided, NotMade> {
+fn checked(size: u64, top: u32, arcs: Vec<Arc>) -> Result<OneSided, NotMade>
+    ensures { IfOk result (λ g. g ≡ graph_of size top arcs) }
+{
     let low = arcs.iter().all(|arc| arc.priority <= top);
     let begins = arcs.iter().all(|arc| arc.from < size);
     let ends = arcs.iter().all(|arc| arc.to < size);
@@ -25,7 +28,9 @@ fn graph_of(size: u64, top: u32, arcs: Vec<Arc>) -> Result<OneSided, NotMade> {
 /// `NoMemory`, and `TooLarge` for 2^64 - 1 arcs.
 ///
 /// Linear in the graph.
-pub fn chain(alloc: Global, arcs: u64) -> Result<OneSided, NotMade> {
+pub fn chain(alloc: Global, arcs: u64) -> Result<OneSided, NotMade>
+    ensures { IfOk result (λ g. g.size ≡ arcs + 1) }
+{
     if arcs == u64::MAX {
         return Err(NotMade::TooLarge);
     }
@@ -37,7 +42,7 @@ pub fn chain(alloc: Global, arcs: u64) -> Result<OneSided, NotMade> {
             to: v + 1,
         })?;
     }
-    graph_of(arcs + 1, 0, all)
+    checked(arcs + 1, 0, all)
 }
 
 /// A graph without a cycle of even lowest priority: so many vertices, so many random arcs, and so many even priorities.
@@ -59,6 +64,7 @@ pub fn random_blocks(
 ) -> Result<OneSided, NotMade>
     requires vertices { 0 < vertices }
     requires evens { 1 < evens }
+    ensures { IfOk result (λ g. g.size ≡ vertices) }
 {
     if evens > 1 << 30 {
         return Err(NotMade::TooLarge);
@@ -69,7 +75,7 @@ pub fn random_blocks(
         let second = numbers.below(vertices);
         all.push(block_arc(numbers, first, second, vertices, evens))?;
     }
-    graph_of(vertices, 2 * (evens - 1), all)
+    checked(vertices, 2 * (evens - 1), all)
 }
 
 /// The block in which a vertex stands, out of so many.
@@ -117,14 +123,27 @@ fn block_arc(numbers: &mut Numbers, first: u64, second: u64, vertices: u64, even
 /// `NoMemory`, and `TooLarge` for 2^64 - 1 vertices or more than 2^30 even priorities.
 ///
 /// Linear in the graph.
-pub fn slow_row(alloc: Global, vertices: u64, evens: u32) -> Result<OneSided, NotMade>
+pub fn slow_row(
+    alloc: Global,
+    vertices: u64,
+    evens: u32,
+    has_cycle: bool,
+) -> Result<OneSided, NotMade>
     requires { 1 < evens }
+    ensures { IfOk result (λ g. g.size ≡ vertices + 1) }
 {
     if vertices == u64::MAX || evens > 1 << 30 {
         return Err(NotMade::TooLarge);
     }
     let priority = 2 * evens - 3;
     let mut all = Vec::new(alloc);
+    if has_cycle && vertices > 0 {
+        all.push(Arc {
+            from: 0,
+            priority: 0,
+            to: vertices - 1,
+        })?;
+    }
     for k in 1..vertices {
         let v = vertices - k;
         all.push(Arc {
@@ -145,5 +164,5 @@ pub fn slow_row(alloc: Global, vertices: u64, evens: u32) -> Result<OneSided, No
             to: vertices,
         })?;
     }
-    graph_of(vertices + 1, 2 * (evens - 1), all)
+    checked(vertices + 1, 2 * (evens - 1), all)
 }

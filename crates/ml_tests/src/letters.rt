@@ -30,3 +30,29 @@ pub fn random_letter(
     }
     Letter::new(all).ok_or(NotMade::TooLarge)
 }
+
+/// The letter that leads each of so many states to itself, and, accepting, to the next one: each step along it from the
+/// state 0 makes a stack that is longer by one.
+///
+/// # Errors
+/// `NoMemory`, and `TooLarge` only where there are more than 2^30 states.
+///
+/// Linear in the letter.
+pub fn deep_letter(alloc: Global, states: u32) -> Result<Letter, NotMade> {
+    let mut all = Vec::new(alloc);
+    for state in 0..states {
+        all.push(Transition {
+            from: state,
+            to: state,
+            accepting: false,
+        })?;
+        if state + 1 < states {
+            all.push(Transition {
+                from: state,
+                to: state + 1,
+                accepting: true,
+            })?;
+        }
+    }
+    Letter::new(all).ok_or(NotMade::TooLarge)
+}

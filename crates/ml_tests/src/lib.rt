@@ -2,8 +2,8 @@
 //
 // Tests and measurements take what they try from here. Begin with `Numbers`, numbers that look random and are the same
 // in each run; `random_game` and `ladder` give games, `chain`, `random_blocks` and `slow_row` one-sided graphs,
-// `random_letter` letters of the trace automaton. The tests compare fast programs with the plain ones that are their
-// reference.
+// `random_letter` and `deep_letter` letters of the trace automaton. The tests compare fast programs with the plain ones
+// that are their reference.
 //
 // Below stand the crates whose programs are compared; above stands `ml_measure`.
 #![tactic(auto)]
@@ -18,6 +18,6 @@ mod tests;
 
 pub use games::{SMALL_GAMES, ladder, random_game, small_game};
 pub use graphs::{chain, random_blocks, slow_row};
-pub use letters::random_letter;
+pub use letters::{deep_letter, random_letter};
 pub use not_made::NotMade;
 pub use numbers::Numbers;

@@ -1,5 +1,6 @@
 // Numbers that look random.
-ghost use Rattle.std.specs.Prelude.{◌<◌};
+ghost use Rattle.std.specs.Prelude.{◌≡◌, ◌<◌};
+ghost use Rattle.ml_tests.specs.Numbers.{next_state, drawn};
 
 /// A generator of numbers that look random, and are the same in each run from the same seed.
 ///
@@ -12,14 +13,18 @@ pub struct Numbers {
 
 impl Numbers {
     /// The numbers from this seed. O(1).
-    pub fn new(seed: u64) -> Numbers {
+    pub fn new(seed: u64) -> Numbers
+        ensures { result.state ≡ seed }
+    {
         Numbers { state: seed }
     }
 
     /// The next number below a bound, which is at most 2^32 where all numbers shall come. O(1).
     pub fn below(&mut self, bound: u64) -> u64
         requires { 0 < bound }
-        ensures { result < bound }
+        ensures state { self.new.state ≡ next_state self.old.state }
+        ensures number { result ≡ drawn bound self.old.state }
+        ensures below { result < bound }
     {
         self.state = self
             .state

@@ -1,18 +1,14 @@
 // Fast programs against the plain ones.
 use super::*;
-use ml_history::PlainHistory;
+use ml_base::NoMemory;
+use ml_history::{History, PlainHistory};
 use ml_parity::plain::solve_plain;
-use ml_parity::{Game, Solution};
-use std::alloc::{AllocError, Global};
+use ml_parity::{Game, solve};
+use std::alloc::Global;
 use std::test::Fail;
 
-// The solver that is compared with the plain one.
-fn solve(alloc: Global, game: &Game) -> Result<Solution, AllocError> {
-    solve_plain(alloc, game)
-}
-
 // Do both solvers answer the same winners?
-fn have_equal_winners(alloc: Global, game: &Game) -> Result<bool, AllocError> {
+fn have_equal_winners(alloc: Global, game: &Game) -> Result<bool, NoMemory> {
     let fast = solve(alloc, game)?;
     let plain = solve_plain(alloc, game)?;
     Ok(fast.winner.as_slice() == plain.winner.as_slice())
@@ -54,40 +50,41 @@ fn solvers_agree_on_random_games(rt: HostRuntime) -> Result<(), Fail> {
     Ok(())
 }
 
-// The first of so many steps at which the history and the plain one differ, in the mark or in a stack.
+// Do both histories have the same states with the same stacks?
+fn have_equal_stacks(history: &History, plain: &PlainHistory) -> Result<bool, NoMemory> {
+    let stacks = history.stacks()?;
+    let items = plain.items();
+    Ok(
+        stacks.len() == items.len()
+            && stacks
+                .iter()
+                .zip(items)
+                .all(|(a, b)| a.0 == b.state() && a.1.as_slice() == b.stack()),
+    )
+}
+
+// The first of so many steps at which the history and the plain one differ, in the mark or in a stack. Where no state is
+// left, both start again.
 fn first_step_apart(alloc: Global, count: u64) -> Result<Option<u64>, Fail> {
     let mut numbers = Numbers::new(3);
-    let mut history = PlainHistory::start(alloc, 0)?;
+    let mut history = History::start(alloc, 0)?;
     let mut plain = PlainHistory::start(alloc, 0)?;
     for number in 0..count {
         let letter = random_letter(alloc, &mut numbers, 6, 9)?;
         let (next, mark) = history.step(&letter)?;
         let (plain_next, plain_mark) = plain.step(&letter)?;
-        if mark != plain_mark || !are_equal(&next, &plain_next) {
+        if mark != plain_mark || !have_equal_stacks(&next, &plain_next)? {
             return Ok(Some(number));
         }
-        history = if next.items().is_empty() {
-            PlainHistory::start(alloc, 0)?
+        if plain_next.items().is_empty() {
+            history = History::start(alloc, 0)?;
+            plain = PlainHistory::start(alloc, 0)?;
         } else {
-            next
-        };
-        plain = if plain_next.items().is_empty() {
-            PlainHistory::start(alloc, 0)?
-        } else {
-            plain_next
-        };
+            history = next;
+            plain = plain_next;
+        }
     }
     Ok(None)
-}
-
-// Do both histories have the same states with the same stacks?
-fn are_equal(history: &PlainHistory, plain: &PlainHistory) -> bool {
-    let items = history.items();
-    items.len() == plain.items().len()
-        && items
-            .iter()
-            .zip(plain.items())
-            .all(|(a, b)| a.state() == b.state() && a.stack() == b.stack())
 }
 
 #[test]

@@ -1,0 +1,5 @@
+use Rattle.ml_history.proofs.FirstLaw.{odd_mark_has_run}
+use Rattle.ml_history.proofs.laws.odd_marks_have_runs.Goals as goal
+
+pub returns : goal.returns
+returns c = odd_mark_has_run

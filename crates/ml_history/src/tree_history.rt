@@ -1,0 +1,200 @@
+// Histories as trees.
+ghost use Rattle.std.specs.Prelude.{◌≡◌, ◌<◌, ◌^◌, IfOk, Some, map};
+ghost use Rattle.ml_history.specs.History.{start, IsHistory};
+ghost use Rattle.ml_history.specs.HistoryOrder.{history_eq, history_eq_equiv, hash_writes};
+ghost use Rattle.ml_history.specs.HistoryStep.{live, stepped, step_mark};
+ghost use Rattle.ml_history.specs.Stacks.{stacked};
+
+use crate::comparing::compare;
+use crate::moves::Moves;
+use crate::renewal::renew;
+use crate::tree::{Vertex, above, copied, feed, push_places, same};
+use crate::walk::walk;
+use ml_base::{IdSet, NoMemory};
+use ml_trace::{Letter, Mark};
+use std::alloc::Global;
+use std::collections::HashSet;
+use std::cmp::Ordering;
+use std::hash::{Hash, Hasher};
+use std::marker::Model;
+
+/// A history: some states of the trace automaton, each with a stack of names. Contracts see the list of the states with
+/// their stacks, by ascending states.
+///
+/// It is held as a tree: a vertex for each name, and the stack of a state is the way from the root down to the vertex at
+/// which the state lies. The type keeps that siblings are disjoint, that some state lies at each vertex (so children lie
+/// properly inside their parent), that a child is younger than its parent and younger siblings stand to the right, that
+/// the names are 0 to one less than their count, and that states have numbers below 2^30. A history without states has
+/// no root.
+#[derive(Debug, Drop)]
+pub struct History {
+    roots: Vec<Vertex>,
+}
+
+impl Model for History {
+    ghost use Rattle.std.specs.Prelude.{ℕ, List};
+    ghost use Rattle.ml_trace.specs.Stack.{Item};
+
+    ghost Value = { List (Item ℕ) };
+
+    ghost use Rattle.ml_history.specs.Forest.{items};
+    ghost use Rattle.ml_history.specs.Vertices.{joined, IsKept};
+
+    ghost view = { λ h. items (joined h.roots.items) };
+
+    ghost invariant = { λ h. IsKept (joined h.roots.items) };
+}
+
+impl History {
+    /// The history of one state, with the stack 0. The state has a number below 2^30. O(1).
+    ///
+    /// # Errors
+    /// `NoMemory` alone.
+    pub fn start(alloc: Global, state: u32) -> Result<History, NoMemory>
+        requires { state < 2 ^ 30 }
+        ensures { IfOk result (λ h. h ≡ start state) }
+    {
+        let mut own = IdSet::new(alloc);
+        own.insert(state)?;
+        let mut roots = Vec::new(alloc);
+        roots.push(Vertex {
+            age: 0,
+            own,
+            children: Vec::new(alloc),
+        })?;
+        Ok(History { roots })
+    }
+
+    /// The states with their stacks, the innermost name last, by ascending states.
+    ///
+    /// # Errors
+    /// `NoMemory` alone.
+    ///
+    /// Cost: linear in the names of all stacks, and the sort of the states.
+    pub fn stacks(&self) -> Result<Vec<(u32, Vec<u32>)>, NoMemory>
+        ensures { IfOk result (λ all. map stacked all.items ≡ self.now) }
+    {
+        let alloc = *self.roots.allocator();
+        let mut stacks = Vec::new(alloc);
+        push_places(alloc, self.roots.as_slice(), &[], &mut stacks)?;
+        stacks.sort_by_key(|a| a.0)?;
+        Ok(stacks)
+    }
+
+    /// The number of names in use. It takes no memory, and is linear in them.
+    pub fn live(&self) -> u32
+        ensures value { result ≡ live self.now }
+        ensures history { IsHistory self.now }
+    {
+        above(self.roots.as_slice()) as u32
+    }
+
+    // What the type keeps, said of the items.
+    pub(crate) fn is_kept(&self)
+        ensures { IsHistory self.now }
+    {
+        let _roots = &self.roots;
+    }
+
+    /// The history after the step along the letter, and the mark of the step.
+    ///
+    /// The walk over the tree lists states in the order of offers: children first, older siblings before younger ones,
+    /// and a vertex behind its children. So the first offer to a state is the best one, and no stacks are compared.
+    ///
+    /// # Errors
+    /// `NoMemory` alone.
+    ///
+    /// Cost: a sort of the transitions of the letter and of the states behind the step; for each state a look for its
+    /// transitions, logarithmic in their number; and linear in the names, and in the depth of the tree for each state.
+    /// Source: the history trees of Schewe and the ages of Piterman.
+    pub fn step(&self, letter: &Letter) -> Result<(History, Mark), NoMemory>
+        ensures history { IfOk result (λ r. r.0 ≡ stepped self.now letter.now) }
+        ensures mark { IfOk result (λ r. r.1 ≡ step_mark self.now letter.now) }
+    {
+        let alloc = *self.roots.allocator();
+        let used = self.live();
+        let moves = Moves::of(alloc, letter.transitions())?;
+        let mut seen = HashSet::new(alloc);
+        let mut full = Vec::new(alloc);
+        let drafts = walk(alloc, used, &moves, self.roots.as_slice(), &mut seen, &mut full)?;
+        let (roots, mark) = renew(alloc, used, drafts.as_slice(), full.as_slice())?;
+        Ok((History { roots }, mark))
+    }
+
+    /// An equal history.
+    ///
+    /// # Errors
+    /// `NoMemory` alone.
+    ///
+    /// Cost: a sorted list is made of the states of each vertex again.
+    pub fn copy(&self) -> Result<History, NoMemory>
+        ensures { IfOk result (λ copy. copy ≡ self.now) }
+    {
+        Ok(History {
+            roots: copied(*self.roots.allocator(), self.roots.as_slice())?,
+        })
+    }
+}
+
+/// Two histories are equal exactly where their states with their stacks are.
+impl PartialEq for History {
+    ghost use Rattle.std.specs.Cmp.{partial_equiv_from_equiv};
+
+    ghost eq = { history_eq };
+
+    ghost laws = { partial_equiv_from_equiv history_eq_equiv };
+
+    fn eq(&self, other: &History) -> bool {
+        same(self.roots.as_slice(), other.roots.as_slice())
+    }
+}
+
+impl Eq for History {
+    ghost laws = { history_eq_equiv };
+}
+
+/// Histories compare as the lists that `stacks` gives: item by item, by the state and then by the stack. It takes no
+/// memory. The next state is looked for in the whole tree each time, so it serves nothing that is hot.
+impl Ord for History {
+    ghost use Rattle.std.specs.Prelude.{Some, refl};
+    ghost use Rattle.ml_history.specs.HistoryOrder.{history_cmp, history_cmp_total, history_ties};
+
+    ghost cmp = { history_cmp };
+
+    ghost total = { history_cmp_total };
+
+    ghost matches_partial_cmp = { λ h g. refl };
+
+    ghost matches_eq = { history_ties };
+
+    fn cmp(&self, other: &History) -> Ordering {
+        compare(self.roots.as_slice(), other.roots.as_slice())
+    }
+}
+
+impl PartialOrd for History {
+    ghost use Rattle.std.specs.Cmp.{partial_order_from_agreeing_total};
+    ghost use Rattle.std.specs.Prelude.{Some, refl};
+    ghost use Rattle.ml_history.specs.HistoryOrder.{history_cmp, history_cmp_total, history_ties};
+
+    ghost partial_cmp = { λ h g. Some (history_cmp h g) };
+
+    ghost laws = { partial_order_from_agreeing_total history_cmp history_cmp_total (λ h g. refl) history_ties };
+
+    fn partial_cmp(&self, other: &History) -> Option<Ordering> {
+        Some(self.cmp(other))
+    }
+}
+
+impl Hash for History {
+    ghost use Rattle.std.proofs.Common.{ap};
+    ghost use Rattle.ml_history.specs.HistoryOrder.{history_eq-same};
+
+    ghost hash_input = { hash_writes };
+
+    ghost respects_eq = { λ h g e. ap hash_writes (history_eq-same h g e) };
+
+    fn hash<H: Hasher>(&self, state: &mut H) {
+        feed(self.roots.as_slice(), state);
+    }
+}
