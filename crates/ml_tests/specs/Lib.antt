@@ -1,2 +1,4 @@
 -- numbers that look random
 pub mod Numbers
+-- all small games
+pub mod SmallGames

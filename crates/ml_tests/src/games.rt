@@ -2,6 +2,7 @@
 ghost use Rattle.std.specs.Prelude.{◌≡◌, ◌<◌, IfOk, vec_len};
 ghost use Rattle.ml_parity.specs.Game.{size};
 ghost use Rattle.ml_parity.specs.Player.{side};
+ghost use Rattle.ml_tests.specs.SmallGames.{small_moves, small_game};
 
 use crate::not_made::NotMade;
 use crate::numbers::Numbers;
@@ -119,6 +120,17 @@ pub fn ladder(alloc: Global, vertices: u32) -> Result<Game, NotMade>
 /// How many games `small_game` knows.
 pub const SMALL_GAMES: u64 = 324;
 
+/// The successors of a vertex of a small game.
+fn small_moves(alloc: Global, digit: u64) -> Result<Vec<u64>, AllocError>
+    ensures { IfOk result (λ moves. moves.items ≡ small_moves digit) }
+{
+    match digit % 3 {
+        0 => Vec::from_slice(alloc, &[0]),
+        1 => Vec::from_slice(alloc, &[1]),
+        _ => Vec::from_slice(alloc, &[0, 1]),
+    }
+}
+
 /// The game with this number of all those that have two vertices, priorities from 0 to 2, and one or both vertices as
 /// successors of each.
 ///
@@ -127,24 +139,14 @@ pub const SMALL_GAMES: u64 = 324;
 /// # Errors
 /// `NoMemory` alone.
 pub fn small_game(alloc: Global, number: u64) -> Result<Game, NotMade>
-    ensures { IfOk result (λ g. size g ≡ 2) }
+    ensures { IfOk result (λ g. g ≡ small_game number) }
 {
-    let mut all = Vec::new(alloc);
-    let mut rest = number;
-    for _ in 0..2u64 {
-        let mut successors = Vec::new(alloc);
-        if rest % 3 != 1 {
-            successors.push(0)?;
-        }
-        if rest % 3 != 0 {
-            successors.push(1)?;
-        }
-        all.push(Vertex {
-            owner: player(rest / 3),
-            priority: (rest / 6 % 3) as u32,
-            successors,
-        })?;
-        rest /= 18;
-    }
-    game_of(alloc, all)
+    let owner = Vec::from_slice(alloc, &[player(number / 3), player(number / 54)])?;
+    let low = (number / 6 % 3) as u32;
+    let high = (number / 108 % 3) as u32;
+    let priority = Vec::from_slice(alloc, &[low, high])?;
+    let mut successors = Vec::new(alloc);
+    successors.push(small_moves(alloc, number)?)?;
+    successors.push(small_moves(alloc, number / 18)?)?;
+    Ok(Game::build(owner, priority, successors)?)
 }

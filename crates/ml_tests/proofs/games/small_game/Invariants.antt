@@ -1,6 +1,0 @@
--- Each turn adds one.
-use Rattle.std.proofs.Common.{◌≡◌, vec_len}
-use Rattle.ml_tests.proofs.games.small_game.Given as goal
-
-abbrev pub invariant-loop : goal.invariant-loop
-invariant-loop l = vec_len l.all ≡ l.counter
