@@ -8,7 +8,7 @@ ghost use Rattle.ml_parity.specs.Refusal.{lists_of};
 use crate::heights_answer::{EvenCycle, Heights};
 use crate::heights_cycles::{cycle_at, guessed_cycle};
 use crate::heights_graph::{Arc, OneSided};
-use crate::heights_order::{Leaving, arcs_leaving, order_of};
+use crate::heights_order::{Ends, arcs_by_ends, order_of};
 use ml_base::NoMemory;
 use std::alloc::Global;
 
@@ -116,7 +116,7 @@ fn longest(
 fn column_or_cycle(
     alloc: Global,
     graph: &OneSided,
-    leaving: &Leaving,
+    ends: &Ends,
     priority: u32,
 ) -> Result<Result<Vec<u64>, Vec<Arc>>, NoMemory>
     requires { priority % 2 ≡ 0 }
@@ -125,7 +125,7 @@ fn column_or_cycle(
         (λ column. IsColumn graph.now priority column.items)
         (λ cycle. IsEvenCycle graph.now cycle.items)) }
 {
-    let order = order_of(alloc, graph, leaving, priority)?;
+    let order = order_of(alloc, graph, ends, priority)?;
     if let Some(cycle) = guessed_cycle(alloc, graph, priority, &order)? {
         return Ok(Err(cycle));
     }
@@ -167,9 +167,8 @@ fn empty_rows(alloc: Global, size: u64) -> Result<Vec<Vec<u64>>, NoMemory>
 /// # Errors
 /// `NoMemory` alone.
 ///
-/// Cost: for each even priority one walk depth first, and passes over the arcs until none raises a number. Where no cycle
-/// is in the way two passes do; round cycles of odd lowest priority it may take more, and at worst as many as numbers can
-/// be raised. No recursion. Source: the method of Bellman and Ford, for longest walks.
+/// Cost: for each even priority one walk depth first, and passes over the arcs until none raises a number. The order in
+/// which arcs are tried is made so that two passes do; no clause says that. No recursion. Source: the method of Bellman and Ford, for longest walks.
 pub fn heights(alloc: Global, graph: &OneSided) -> Result<Result<Heights, EvenCycle>, NoMemory>
     ensures answer { IfOk result (λ r. MatchResult r (AreLongest graph.now) (IsEvenCycle graph.now)) }
     ensures heights { IfOk result (λ r. IfOk r (AreHeights graph.now)) }
@@ -178,9 +177,9 @@ pub fn heights(alloc: Global, graph: &OneSided) -> Result<Result<Heights, EvenCy
     ensures where_a_cycle { IfOk result (λ r. IsErr r ↔ EvenCycleIn graph.now) }
 {
     let mut rows = empty_rows(alloc, graph.size)?;
-    let leaving = arcs_leaving(alloc, graph)?;
+    let ends = arcs_by_ends(alloc, graph)?;
     for half in 0..graph.top / 2 + 1 {
-        match column_or_cycle(alloc, graph, &leaving, 2 * half)? {
+        match column_or_cycle(alloc, graph, &ends, 2 * half)? {
             Ok(column) => append_column(&mut rows, &column)?,
             Err(arcs) => return Ok(Err(EvenCycle { arcs })),
         }

@@ -11,7 +11,7 @@ loop-half-preserved c =
     longest_turn c.args.graph.now c.loop-half.half c.loop-half.rows.len c.loop-half.rows.items c.deref_mut.result.now c.append_column.new.rows _ c.in-Ok.column.items c.deref.result.now c.loop-half.rows.ok.0 c.deref_mut.ensures.value c.deref.ensures.value c.loop-half.invariant (rw c.in-Ok.is at c.in_ok-column.ensures) c.in_ok-append_column-in-Ok.ensures
 
 -- the rows have all numbers
-done : (c : goal.After-drop-leaving-3) → AreLongest c.args.graph.now (lists_of c.loop-half.rows.items)
+done : (c : goal.After-drop-ends-5) → AreLongest c.args.graph.now (lists_of c.loop-half.rows.items)
 done c =
     longest_done c.args.graph.now c.loop-half.half (lists_of c.loop-half.rows.items) (let top = ap (λ (g : OneSidedGraph). g.top) c.graph.view_is in omega (arith, top, c.loop-half-test.false, c.loop-half.auto.half-end)) c.loop-half.invariant
 
