@@ -4,7 +4,7 @@ use ml_parity::{Game, Heights, OneSided, Player, Solution};
 use ml_trace::Letter;
 
 /// Reads a game once: a number that depends on all of it.
-pub fn read_game(game: &Game) -> u64 {
+pub(crate) fn read_game(game: &Game) -> u64 {
     let mut sum: u64 = 0;
     for priority in &game.priority {
         sum = sum.wrapping_add(*priority as u64);
@@ -23,7 +23,7 @@ pub fn read_game(game: &Game) -> u64 {
 }
 
 /// Reads a graph once: a number that depends on all of it.
-pub fn read_graph(graph: &OneSided) -> u64 {
+pub(crate) fn read_graph(graph: &OneSided) -> u64 {
     let mut sum: u64 = graph.size;
     for arc in &graph.arcs {
         sum = sum
@@ -35,7 +35,7 @@ pub fn read_graph(graph: &OneSided) -> u64 {
 }
 
 /// Reads a letter once: a number that depends on all of it.
-pub fn read_letter(letter: &Letter) -> u64 {
+pub(crate) fn read_letter(letter: &Letter) -> u64 {
     let mut sum: u64 = 0;
     for transition in letter.transitions() {
         sum = sum
@@ -47,7 +47,7 @@ pub fn read_letter(letter: &Letter) -> u64 {
 }
 
 /// How many vertices Even wins.
-pub fn won_by_even(solution: &Solution) -> usize {
+pub(crate) fn won_by_even(solution: &Solution) -> usize {
     solution
         .winner
         .iter()
@@ -56,7 +56,7 @@ pub fn won_by_even(solution: &Solution) -> usize {
 }
 
 /// The greatest height.
-pub fn highest(heights: &Heights) -> u64 {
+pub(crate) fn highest(heights: &Heights) -> u64 {
     let mut most = 0;
     for row in &heights.rows {
         for height in row {

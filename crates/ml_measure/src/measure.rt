@@ -37,7 +37,7 @@ pub enum Measurement {
 
 impl Measurement {
     /// The measurement of this name.
-    pub fn named(name: &str) -> Option<Measurement> {
+    pub(crate) fn named(name: &str) -> Option<Measurement> {
         match name {
             "games" => Some(Measurement::Games),
             "ladder" => Some(Measurement::Ladder),
@@ -199,7 +199,7 @@ fn step_deeper<R: Print + Clock + AllocGlobal>(
 }
 
 /// Makes what is measured, and measures it.
-pub fn measure<R: Print + Clock + AllocGlobal>(
+pub(crate) fn measure<R: Print + Clock + AllocGlobal>(
     rt: &R,
     measurement: Measurement,
     size: u32,
@@ -231,7 +231,7 @@ pub fn measure<R: Print + Clock + AllocGlobal>(
 }
 
 /// Each measurement once at a small size, without times.
-pub fn measure_small<R: Print + Clock + AllocGlobal>(rt: &R) -> Result<(), Failure> {
+pub(crate) fn measure_small<R: Print + Clock + AllocGlobal>(rt: &R) -> Result<(), Failure> {
     let small = [
         (Measurement::Games, 1000),
         (Measurement::Ladder, 1000),

@@ -1,5 +1,5 @@
 // Letters of the trace automaton.
-ghost use Rattle.std.specs.Prelude.{◌<◌};
+ghost use Rattle.std.specs.Prelude.{◌≡◌, ◌+◌, ◌-◌, ◌<◌, IfOk, length};
 
 use crate::not_made::NotMade;
 use crate::numbers::Numbers;
@@ -19,6 +19,7 @@ pub fn random_letter(
     transitions: u64,
 ) -> Result<Letter, NotMade>
     requires { 0 < states }
+    ensures { IfOk result (λ letter. length letter ≡ transitions) }
 {
     let mut all = Vec::new(alloc);
     for _ in 0..transitions {
@@ -38,7 +39,9 @@ pub fn random_letter(
 /// `NoMemory`, and `TooLarge` only where there are more than 2^30 states.
 ///
 /// Linear in the letter.
-pub fn deep_letter(alloc: Global, states: u32) -> Result<Letter, NotMade> {
+pub fn deep_letter(alloc: Global, states: u32) -> Result<Letter, NotMade>
+    ensures { IfOk result (λ letter. length letter ≡ states + (states - 1)) }
+{
     let mut all = Vec::new(alloc);
     for state in 0..states {
         all.push(Transition {
