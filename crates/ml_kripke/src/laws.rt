@@ -12,8 +12,8 @@ pub fn one_text()
     ensures { OneText }
 {}
 
-/// No text is a model's and has a first bad line too, and a text has one first bad line at most. So `read_model`, which
-/// answers one of them, answers each exactly where it is said to come.
+/// A text is a model's or has a first bad line, never both, and it has one first bad line at most: so `read_model`
+/// answers each exactly where it is said to come.
 pub fn one_fault()
     ensures exclusive { FaultOrModel }
     ensures fault { OneFault }

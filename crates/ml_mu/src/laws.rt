@@ -36,9 +36,9 @@ pub fn parsed_are_well_formed()
     ensures { ParsedAreWellFormed }
 {}
 
-/// No text is a head for an answer and has a first bad line in its head too; a text is a head about one problem at most,
-/// and has one first bad line at most. So whoever answers one of them for each text answers each exactly where it is said
-/// to come.
+/// A text is a head for an answer, or its head has a first bad line, never both; it is a head about one problem at
+/// most, and has one first bad line at most. So whoever answers one of them for each text answers each exactly where it
+/// is said to come.
 pub fn one_head()
     ensures exclusive { HeadOrFault }
     ensures head { OneHead }
