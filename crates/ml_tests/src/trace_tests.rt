@@ -1,6 +1,7 @@
 // The trace automaton: worked rows, and each call once on its happy path.
 use ml_trace::{
-    AutomatonState, Letter, LocalTraces, STATE_LIMIT, Transition, Triple, letter_of, number, state_of,
+    AutomatonState, Letter, LocalTraces, STATE_LIMIT, Transition, Triple, letter_of, number,
+    state_of,
 };
 use std::test::Fail;
 
