@@ -40,3 +40,5 @@ pub mod Members
 pub mod Increasing
 -- tables: lists with an entry for each number
 pub mod Tables
+-- lists in another order
+pub mod Permuted
