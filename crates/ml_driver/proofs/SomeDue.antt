@@ -15,7 +15,8 @@ use Rattle.ml_mu.specs.Parsing.{IsParsedAs, IsRefusedBy}
 use Rattle.ml_mu.specs.Problem.{IsSatisfiable}
 use Rattle.ml_mu.proofs.SomeAnswer.{some_answer}
 use Rattle.ml_table.specs.Propositional.{is_propositional, different_propositions, most_propositions, plain, IsInForm, HoldsInModel}
-use Rattle.ml_table.proofs.SomeVerdict.{AreNamed, some_verdict}
+use Rattle.ml_mu.proofs.Parsed.{parsed_well}
+use Rattle.ml_table.proofs.SomeVerdict.{AreNamed, spelled_named, some_verdict}
 use Rattle.ml_model_check.specs.Checked.{Shows, ShowsNot, IsDocumentFault}
 use Rattle.ml_driver.specs.declared.command.Command.{Command}
 use Rattle.ml_driver.specs.declared.command.Command.TheVariants.{DecideMu, CheckModel}
@@ -49,8 +50,10 @@ refusal_written refusal.NoMemory not_memory = absurd (not_memory refl)
 abbrev Due : Option Command → List ℕ → Type 0
 Due c text = (s : Status) × ((out : List ℕ) × IsDue c text s out)
 
-module _ (named : (text : List ℕ) (f : Formula) → IsParsedAs text f → AreNamed f)
-    (checked : (text : List ℕ) → Shows text ⊎ (ShowsNot text ⊎ ((fault : DocFault) × IsDocumentFault text fault))) where
+named : (text : List ℕ) (f : Formula) → IsParsedAs text f → AreNamed f
+named text f parsed = let well = parsed_well text f parsed in spelled_named f well.names_are_short well.names_are_spelled
+
+module _ (checked : (text : List ℕ) → Shows text ⊎ (ShowsNot text ⊎ ((fault : DocFault) × IsDocumentFault text fault))) where
   decided : (text : List ℕ) (f : Formula) → length text ≤ longest_text → IsParsedAs text f → Due (Some DecideMu) text
   decided text f short parsed =
       ⊎_elim
