@@ -1,0 +1,4 @@
+-- modal graphs
+pub mod Graph
+-- the checking game of a graph and a structure, and where the graph holds
+pub mod CheckingGame
