@@ -69,9 +69,14 @@ references_of n p a (node.Or l r) = record { number = l; bound = n } ∷ record 
 references_of n p a (node.Diamond action to) = record { number = action; bound = a } ∷ record { number = to; bound = n } ∷ []
 references_of n p a (node.Square action to) = record { number = action; bound = a } ∷ record { number = to; bound = n } ∷ []
 
--- to what the nodes refer, and then the root
+-- to what nodes refer, and then the root
+abbrev pub references_from : List Node → (root props actions : ℕ) → List Reference
+references_from nodes root p a =
+    flat_map (references_of (length nodes) p a) nodes ++ record { number = root; bound = length nodes } ∷ []
+
+-- to what the nodes of a graph refer, and then its root
 abbrev pub references : Graph → List Reference
-references g = flat_map (references_of (size g) (length g.props) (length g.actions)) g.nodes ++ record { number = g.root; bound = size g } ∷ []
+references g = references_from g.nodes g.root (length g.props) (length g.actions)
 
 -- the first number that isn't below what it has to be below
 abbrev pub first_bad : List Reference → Option ℕ

@@ -2,7 +2,7 @@
 ghost use Rattle.std.specs.Prelude.{◌≡◌, ◌<◌, ◌^◌, ◌↔◌, ℕ, [], ◌∷◌, Some, IfOk, IsOk, IsErrOf, length, vec_len};
 ghost use Rattle.std.specs.List.{IsDistinct};
 ghost use Rattle.std.specs.Str.{bytes_eq};
-ghost use Rattle.ml_graph.specs.Graph.{Graph, size, node_at, priority_at, graph_of, IsGraph, first_bad, first_out_of_range, references_of, odd_priorities};
+ghost use Rattle.ml_graph.specs.Graph.{size, node_at, priority_at, graph_of, IsGraph, first_bad, first_out_of_range, references_from, references_of, odd_priorities};
 
 use crate::node::Node;
 use crate::refusals::GraphRefusal;
@@ -154,8 +154,7 @@ impl ModalGraph {
 
 /// The first number that is out of range, of the nodes and then of the root.
 fn first_out_of_range(nodes: &[Node], root: u32, props: usize, actions: usize) -> Option<u32>
-    ensures { (g : Graph) → g.nodes ≡ nodes.now → g.root ≡ root → length g.props ≡ props → length g.actions ≡ actions
-        → result ≡ first_out_of_range g }
+    ensures { result ≡ first_bad (references_from nodes.now root props actions) }
 {
     let size = nodes.len();
     for node in nodes {
