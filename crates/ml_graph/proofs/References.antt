@@ -7,16 +7,20 @@
 --   found             == a node's bad field is the first of all, where the nodes before it have none
 --   no_graph          == lists with a bad reference are no graph
 --   root_in_range     == the root of a graph is a node
-use Rattle.std.proofs.Common.{◌≡◌, ℕ, suc, ◌+◌, ◌<◌, Bool, true, false, cond, nat_le, List, [], ◌∷◌, ◌++◌, length, get_or, drop, Option, Some, None, find, All, inl, refl, sym, ap, ◌∙◌, arith, append_assoc, add-one, drop-cons}
+--   field_in_range    == a field of a node is in range
+--   prop_in_range, diamond_action, diamond_target, square_action, square_target, and_left, and_right, or_left, or_right
+--                     == the same, of each field
+use Rattle.std.proofs.Common.{◌≡◌, ℕ, suc, ◌+◌, ◌<◌, Bool, true, false, cond, nat_le, List, [], ◌∷◌, ◌++◌, length, get_or, drop, Option, Some, None, find, All, inl, inr, refl, subst, sym, ap, ◌∙◌, arith, append_assoc, add-one, drop-cons}
 use Rattle.std.specs.List.{flat_map}
 use Rattle.std.specs.Option.{option_or, option_map}
 use Rattle.std.proofs.lemmas.Bool.Decides.{nat_tests}
 use Rattle.std.proofs.lemmas.List.Folds.{find-append}
 use Rattle.std.proofs.lemmas.List.Elements.{All-nil, All-cons, All-head, All-tail}
-use Rattle.ml_lists.proofs.Member.{All-member, member-append_right}
+use Rattle.ml_lists.specs.Member.{IsMember}
+use Rattle.ml_lists.proofs.Member.{All-member, member-append_left, member-append_right, member-flat_map, place-member}
 use Rattle.ml_graph.specs.declared.node.Node.{Node}
 use Rattle.ml_graph.specs.declared.node.Node.TheVariants as node
-use Rattle.ml_graph.specs.Graph.{Graph, size, Reference, first_bad, references, references_from, references_of, IsGraph}
+use Rattle.ml_graph.specs.Graph.{Graph, size, node_at, Reference, first_bad, references, references_from, references_of, IsGraph}
 
 option_map-or : {A B : Type 0} → (f : A → B) (o p : Option A) → option_map f (option_or o p) ≡ option_or (option_map f o) (option_map f p)
 option_map-or f None p = refl
@@ -86,3 +90,44 @@ root_in_range g ok =
     let r : Reference = record { number = g.root; bound = size g } in
     let nodes : List Reference = flat_map (references_of (size g) (length g.props) (length g.actions)) g.nodes in
     All-member (λ (x : Reference). x.number < x.bound) (references g) ok.in_range r (member-append_right r nodes (r ∷ []) (inl refl))
+
+-- what a node of a graph refers to is in range
+module _ (g : Graph) (ok : IsGraph g) (n : ℕ) (low : n < size g) where
+  pub field_in_range : (r : Reference) → IsMember r (references_of (size g) (length g.props) (length g.actions) (node_at g n)) → r.number < r.bound
+  field_in_range r m =
+      let f : Node → List Reference = references_of (size g) (length g.props) (length g.actions) in
+      let in_nodes = member-flat_map f (node_at g n) r g.nodes (place-member g.nodes n node.True low) m in
+      All-member (λ (x : Reference). x.number < x.bound) (references g) ok.in_range r
+      (member-append_left r (flat_map f g.nodes) (record { number = g.root; bound = size g } ∷ []) in_nodes)
+
+  -- a field of a node whose references are known
+  field_of : (x : Node) → node_at g n ≡ x → (r : Reference)
+      → IsMember r (references_of (size g) (length g.props) (length g.actions) x) → r.number < r.bound
+  field_of x is r m = field_in_range r (subst (λ y. IsMember r (references_of (size g) (length g.props) (length g.actions) y)) (sym is) m)
+
+  pub prop_in_range : (p : ℕ) (positive : Bool) → node_at g n ≡ node.Lit p positive → p < length g.props
+  prop_in_range p positive is = field_of (node.Lit p positive) is (record { number = p; bound = length g.props }) (inl refl)
+
+  pub diamond_action : (a to : ℕ) → node_at g n ≡ node.Diamond a to → a < length g.actions
+  diamond_action a to is = field_of (node.Diamond a to) is (record { number = a; bound = length g.actions }) (inl refl)
+
+  pub diamond_target : (a to : ℕ) → node_at g n ≡ node.Diamond a to → to < size g
+  diamond_target a to is = field_of (node.Diamond a to) is (record { number = to; bound = size g }) (inr (inl refl))
+
+  pub square_action : (a to : ℕ) → node_at g n ≡ node.Square a to → a < length g.actions
+  square_action a to is = field_of (node.Square a to) is (record { number = a; bound = length g.actions }) (inl refl)
+
+  pub square_target : (a to : ℕ) → node_at g n ≡ node.Square a to → to < size g
+  square_target a to is = field_of (node.Square a to) is (record { number = to; bound = size g }) (inr (inl refl))
+
+  pub and_left : (l r : ℕ) → node_at g n ≡ node.And l r → l < size g
+  and_left l r is = field_of (node.And l r) is (record { number = l; bound = size g }) (inl refl)
+
+  pub and_right : (l r : ℕ) → node_at g n ≡ node.And l r → r < size g
+  and_right l r is = field_of (node.And l r) is (record { number = r; bound = size g }) (inr (inl refl))
+
+  pub or_left : (l r : ℕ) → node_at g n ≡ node.Or l r → l < size g
+  or_left l r is = field_of (node.Or l r) is (record { number = l; bound = size g }) (inl refl)
+
+  pub or_right : (l r : ℕ) → node_at g n ≡ node.Or l r → r < size g
+  or_right l r is = field_of (node.Or l r) is (record { number = r; bound = size g }) (inr (inl refl))

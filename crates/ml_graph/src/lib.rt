@@ -13,10 +13,12 @@
 // the four logics, the local phase of the decision, and the checkers.
 #![tactic(auto)]
 
+mod checking;
 mod modal_graph;
 mod node;
 mod refusals;
 
+pub use checking::checking_game;
 pub use modal_graph::ModalGraph;
 pub use node::Node;
 pub use refusals::{BlockRefusal, GraphRefusal};

@@ -116,16 +116,18 @@ impl ModalGraph {
         &self.priorities
     }
 
-    /// The propositions to which literals refer.
+    /// The propositions to which literals refer; none stands twice.
     pub fn props(&self) -> &[Name]
-        ensures { result.now ≡ self.now.props }
+        ensures value { result.now ≡ self.now.props }
+        ensures differ { IsDistinct bytes_eq result.now }
     {
         &self.props
     }
 
-    /// The actions to which modalities refer.
+    /// The actions to which modalities refer; none stands twice.
     pub fn actions(&self) -> &[Action]
-        ensures { result.now ≡ self.now.actions }
+        ensures value { result.now ≡ self.now.actions }
+        ensures differ { IsDistinct bytes_eq result.now }
     {
         &self.actions
     }

@@ -40,3 +40,5 @@ pub mod Members
 pub mod Increasing
 -- tables: lists with an entry for each number
 pub mod Tables
+-- rows of one width, one behind the other
+pub mod Grids
