@@ -42,3 +42,5 @@ pub mod Increasing
 pub mod Tables
 -- rows of one width, one behind the other
 pub mod Grids
+-- lassos along a map
+pub mod MappedLasso

@@ -8,6 +8,8 @@ pub mod Attractors
 pub mod Backwards
 -- from games to boards and back
 pub mod Boards
+-- winners are carried from one game to another
+pub mod Carried
 -- certificates by ranks are right
 pub mod Certificates
 -- the comparison of two games that differ at some vertices
@@ -58,6 +60,8 @@ pub mod RowLoops
 pub mod Rows
 -- every game with finitely many live vertices has a solution
 pub mod Sinks
+-- vertices with one move, and vertices that are forced to one
+pub mod SingleMoves
 -- what a solution tells
 pub mod SolutionFacts
 -- the turns of the fast solver

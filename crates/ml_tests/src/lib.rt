@@ -14,6 +14,8 @@ pub mod letters;
 pub mod not_made;
 pub mod numbers;
 #[cfg(test)]
+mod graph_tests;
+#[cfg(test)]
 mod tests;
 
 pub use games::{SMALL_GAMES, ladder, random_game, small_game};
