@@ -9,7 +9,7 @@
 --   leads_to_vertices    == each vertex leads to vertices
 --   number_low           == a vertex has a number below the size of the game
 --   is_game              == the checking game is a game
-use Rattle.std.proofs.Common.{ℕ, zero, suc, ◌≡◌, ◌+◌, ◌*◌, ◌<◌, ◌≤◌, ◌==◌, ◌⊎◌, inl, inr, ⊎_elim, Bool, true, false, ◌&&◌, cond, List, [], ◌∷◌, ◌++◌, length, get_or, map, filter, Contains, refl, sym, ap, ◌∙◌, subst, arith, length-append, append_assoc}
+use Rattle.std.proofs.Common.{ℕ, zero, suc, ◌≡◌, ◌+◌, ◌*◌, ◌<◌, ◌≤◌, ◌==◌, ◌⊎◌, inl, inr, ⊎_elim, Bool, true, false, ◌&&◌, cond, List, [], ◌∷◌, length, get_or, map, filter, Contains, refl, sym, ap, ◌∙◌, subst, arith, length-append}
 use Rattle.std.specs.List.{flat_map, range_with_len}
 use Rattle.std.specs.Bool.{beq}
 use Rattle.std.specs.Str.{bytes_eq}
@@ -23,7 +23,6 @@ use Rattle.ml_lists.specs.Member.{IsMember}
 use Rattle.ml_lists.proofs.Grids.{length-even_rows, get_or-even_row}
 use Rattle.ml_lists.proofs.Member.{member-append, Image, member-map_from, InList, member-flat_map_from, member-filter_from, All-member, place-member}
 use Rattle.ml_lists.proofs.Members.{member_of_contains, contains_none}
-use Rattle.ml_parity.specs.declared.players.Player.{Player}
 use Rattle.ml_parity.specs.declared.players.Player.TheVariants.{Even}
 use Rattle.ml_parity.specs.Game.{IsGame, HasMove, owner_of, priority_of, moves_of}
 use Rattle.ml_graph.specs.declared.node.Node.{Node}
@@ -82,7 +81,9 @@ module _ (g : Graph) (m : Structure) where
       get_or-map (owner_at g) (vertices g m) (vertex_number g m v) (Sink 0) Even (omega (arith, vertices-length, number_low v is))
       ∙ ap (owner_at g) (vertex_at v is)
 
-  pub priority_is : (v : Vertex) → IsVertex g m v → priority_of (checking_game g m) (vertex_number g m v) ≡ priority_at_vertex g v
+  pub priority_is : (v : Vertex)
+      → IsVertex g m v
+      → priority_of (checking_game g m) (vertex_number g m v) ≡ priority_at_vertex g v
   priority_is v is =
       get_or-map (priority_at_vertex g) (vertices g m) (vertex_number g m v) (Sink 0) 0 (omega (arith, vertices-length, number_low v is))
       ∙ ap (priority_at_vertex g) (vertex_at v is)
@@ -146,7 +147,8 @@ target_is_state m ok s a t h =
     let test : Edge → Bool = λ e. (e.source == s) && bytes_eq e.action a in
     of_edge (member-map_from (λ (e : Edge). e.target) t (filter test m.edges) h)
   where
-    of_edge : Image (λ (e : Edge). e.target) t (filter (λ e. (e.source == s) && bytes_eq e.action a) m.edges) → t < m.states
+    of_edge : Image (λ (e : Edge). e.target) t (filter (λ e. (e.source == s) && bytes_eq e.action a) m.edges)
+        → t < m.states
     of_edge image =
         let test : Edge → Bool = λ e. (e.source == s) && bytes_eq e.action a in
         let joins = All-member (λ (e : Edge). (e.source < m.states) × (e.target < m.states)) m.edges ok.joins_states image.from (member-filter_from test image.from m.edges image.member).0 in
@@ -166,7 +168,12 @@ module _ (g : Graph) (m : Structure) (g_ok : IsGraph g) (m_ok : IsStructure m) w
   one_sink w p low (inl e) = subst (IsVertex g m) (sym e) low
   one_sink w p low (inr e) = absurd e
 
-  two_pairs : (w : Vertex) (s l r : ℕ) → s < m.states → l < size g → r < size g → IsMember w (Pair s l ∷ Pair s r ∷ []) → IsVertex g m w
+  two_pairs : (w : Vertex) (s l r : ℕ)
+      → s < m.states
+      → l < size g
+      → r < size g
+      → IsMember w (Pair s l ∷ Pair s r ∷ [])
+      → IsVertex g m w
   two_pairs w s l r s_low l_low r_low (inl e) = subst (IsVertex g m) (sym e) (s_low, l_low)
   two_pairs w s l r s_low l_low r_low (inr (inl e)) = subst (IsVertex g m) (sym e) (s_low, r_low)
   two_pairs w s l r s_low l_low r_low (inr (inr e)) = absurd e
@@ -213,14 +220,20 @@ module _ (g : Graph) (m : Structure) (g_ok : IsGraph g) (m_ok : IsStructure m) w
     in_range = λ v w move. at_place v w move (cases_lt v (m.states * size g + 2));
   }
     where
-      at_place : (v w : ℕ) → HasMove (checking_game g m) v w → (v < m.states * size g + 2) ⊎ (m.states * size g + 2 ≤ v) → w < length (checking_game g m).owner
+      at_place : (v w : ℕ)
+          → HasMove (checking_game g m) v w
+          → (v < m.states * size g + 2) ⊎ (m.states * size g + 2 ≤ v)
+          → w < length (checking_game g m).owner
       at_place v w move (inl low) =
           let x : Vertex = get_or (vertices g m) v (Sink 0) in
           let vertex = is_vertex g m x (place-member (vertices g m) v (Sink 0) (omega (arith, vertices-length g m))) in
           let member = member_of_contains w (map (vertex_number g m) (successors g m x)) (subst (λ ws. Contains ws w) (moves_at_place v low) move) in
           of_image x vertex (member-map_from (vertex_number g m) w (successors g m x) member)
         where
-          of_image : (x : Vertex) → IsVertex g m x → Image (vertex_number g m) w (successors g m x) → w < length (checking_game g m).owner
+          of_image : (x : Vertex)
+              → IsVertex g m x
+              → Image (vertex_number g m) w (successors g m x)
+              → w < length (checking_game g m).owner
           of_image x vertex image =
               let low = number_low g m image.from (leads_to_vertices x vertex image.from image.member) in
               omega (arith, size_is, image.holds)

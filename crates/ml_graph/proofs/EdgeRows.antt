@@ -6,11 +6,11 @@
 --   no_targets        == of no edges, all rows are empty
 --   more_targets      == the rows of one edge more
 --   row_fits, room_for == a place in a row, and a whole row, lie within all rows
-use Rattle.std.proofs.Common.{ℕ, ◌≡◌, ◌+◌, ◌*◌, ◌<◌, ◌≤◌, ◌⊎◌, inl, inr, ⊎_elim, Bool, true, false, ◌&&◌, cond, ◌==◌, List, [], ◌∷◌, ◌++◌, length, get_or, map, filter, refl, sym, ap, subst, ◌∙◌, arith, set}
+use Rattle.std.proofs.Common.{ℕ, ◌≡◌, ◌+◌, ◌*◌, ◌<◌, ◌≤◌, ◌⊎◌, inl, inr, Bool, true, false, ◌&&◌, cond, ◌==◌, List, [], ◌∷◌, ◌++◌, length, get_or, map, filter, refl, sym, ap, ◌∙◌, arith, set}
 use Rattle.std.specs.Global.{Vec}
 use Rattle.std.specs.List.{IsDistinct}
 use Rattle.std.specs.Str.{bytes_eq}
-use Rattle.std.proofs.lemmas.Bool.{cases_eq, eqb-true, eqb-false}
+use Rattle.std.proofs.lemmas.Bool.{cases_eq, eqb-true}
 use Rattle.std.proofs.lemmas.Bool.Decides.{nat_tests}
 use Rattle.std.proofs.lemmas.List.{append-nil, get_or-set_same, get_or-set_other, get_or-map, map-set, map-append, length-map, length-set}
 use Rattle.std.proofs.lemmas.List.Elements.{filter-append}
@@ -67,7 +67,9 @@ none_added actions e rows none = record {
       sym (ap (λ t. get_or (lists_of rows) (s * length actions + a) [] ++ t) nothing ∙ append-nil (get_or (lists_of rows) (s * length actions + a) []));
 }
 
-pub one_added : (actions : List (List ℕ)) → IsDistinct bytes_eq actions → (e : Edge) (rows : List (Vec ℕ)) (j : ℕ) (row old : Vec ℕ)
+pub one_added : (actions : List (List ℕ))
+    → IsDistinct bytes_eq actions
+    → (e : Edge) (rows : List (Vec ℕ)) (j : ℕ) (row old : Vec ℕ)
     → j < length actions → bytes_eq (get_or actions j []) e.action ≡ true → e.source * length actions + j < length rows
     → row.items ≡ (get_or rows (e.source * length actions + j) old).items ++ e.target ∷ []
     → HasAdded actions e rows (set rows (e.source * length actions + j) row)
@@ -92,11 +94,11 @@ one_added actions different e rows j row old j_low named k_low grown = record {
         let action : e.action ≡ get_or actions a [] = sym name ∙ ap (λ i. get_or actions i []) (sym places.1) in
         let added = hits e s (get_or actions a []) (sym places.0) action in
         let there : get_or (lists_of (set rows k row)) (s * w + a) [] ≡ row.items =
-            ap (λ i. get_or (lists_of (set rows k row)) i []) here
-            ∙ ap (λ xs. get_or xs k []) (map-set (λ (x : Vec ℕ). x.items) rows k row)
-            ∙ get_or-set_same (lists_of rows) k row.items [] (omega (arith, length-map rows (λ (x : Vec ℕ). x.items))) in
+        ap (λ i. get_or (lists_of (set rows k row)) i []) here
+        ∙ ap (λ xs. get_or xs k []) (map-set (λ (x : Vec ℕ). x.items) rows k row)
+        ∙ get_or-set_same (lists_of rows) k row.items [] (omega (arith, length-map rows (λ (x : Vec ℕ). x.items))) in
         let before : get_or (lists_of rows) (s * w + a) [] ≡ (get_or rows k old).items =
-            ap (λ i. get_or (lists_of rows) i []) here ∙ get_or-map (λ (x : Vec ℕ). x.items) rows k old [] k_low in
+        ap (λ i. get_or (lists_of rows) i []) here ∙ get_or-map (λ (x : Vec ℕ). x.items) rows k old [] k_low in
         there ∙ grown ∙ ap (λ xs. xs ++ e.target ∷ []) (sym before) ∙ ap (λ t. get_or (lists_of rows) (s * w + a) [] ++ t) (sym added)
     by_place s a low fits (inr there) =
         let nothing = misses e s (get_or actions a []) (λ p q. there (ap (λ i. i * w + a) (sym p) ∙ ap (λ i. e.source * w + i) (same_place actions different a j low j_low (sym q ∙ sym name)))) in

@@ -12,3 +12,5 @@ pub mod Ranges
 pub mod Making
 -- the checking game, vertex by vertex
 pub mod CheckingGame
+-- one step of the checking game
+pub mod OneStep

@@ -22,7 +22,7 @@ use Rattle.ml_lists.proofs.Grids.{length-even_rows, get_or-even_row}
 use Rattle.ml_parity.specs.declared.players.Player.{Player}
 use Rattle.ml_parity.specs.Refusal.{lists_of, game_of}
 use Rattle.ml_graph.specs.declared.checking.Vertices.{Vertices}
-use Rattle.ml_graph.specs.Graph.{Graph, size, node_at, prop_at}
+use Rattle.ml_graph.specs.Graph.{Graph, size, node_at}
 use Rattle.ml_graph.specs.CheckingGame.{Vertex, Pair, Sink, owner_at, priority_at_vertex, vertex_number, successors, successors_of, pairs_or_sink, pairs_at, vertices, checking_game}
 use Rattle.ml_graph.specs.private.Making.{HasTruths, HasVertices, numbers_or_sink}
 use Rattle.ml_graph.proofs.Ranges.{flat_map-more, map-more}
@@ -82,7 +82,8 @@ sink_number s n a b p k sink e same_states same_size is =
     let product : s * n ≡ a * b = ap (λ x. x * n) same_states ∙ ap (λ x. a * x) same_size in omega arith
 
 -- the moves at a modality
-pub modal_moves : {E : Type 0} → (g : Graph) (m : Structure) (s n to p width sink : ℕ) (ts : List ℕ) (r : Result (Vec ℕ) E)
+pub modal_moves : {E : Type 0}
+    → (g : Graph) (m : Structure) (s n to p width sink : ℕ) (ts : List ℕ) (r : Result (Vec ℕ) E)
     → IfOk r (λ v. v.items ≡ numbers_or_sink width to sink ts) → width ≡ size g → sink ≡ m.states * size g + p
     → successors_of g m s (node_at g n) ≡ pairs_or_sink to p ts
     → IfOk r (λ v. v.items ≡ map (vertex_number g m) (successors_of g m s (node_at g n)))
@@ -91,7 +92,8 @@ modal_moves g m s n to p width sink ts (Ok v) is w k next =
 modal_moves g m s n to p width sink ts (Err e) is w k next = is
 
 -- one vertex more
-pub vertex_more : (g : Graph) (m : Structure) (made made2 : Vertices) (vs : List Vertex) (v : Vertex) (owner : Player) (priority : ℕ) (moves : Vec ℕ)
+pub vertex_more : (g : Graph) (m : Structure) (made made2 : Vertices) (vs : List Vertex) (v : Vertex) (owner : Player)
+    (priority : ℕ) (moves : Vec ℕ)
     → HasVertices g m made vs → made2.owner.items ≡ made.owner.items ++ owner ∷ [] → made2.priority.items ≡ made.priority.items ++ priority ∷ []
     → made2.successors.items ≡ made.successors.items ++ moves ∷ [] → owner ≡ owner_at g v → priority ≡ priority_at_vertex g v
     → moves.items ≡ map (vertex_number g m) (successors g m v) → HasVertices g m made2 (vs ++ v ∷ [])
@@ -107,7 +109,8 @@ vertex_more g m made made2 vs v owner priority moves has owners priorities lists
 }
 
 -- the pair of a state and one node more
-pub pair_more : (g : Graph) (m : Structure) (made made2 : Vertices) (vs : List Vertex) (s n : ℕ) (owner : Player) (priority : ℕ) (moves : Vec ℕ)
+pub pair_more : (g : Graph) (m : Structure) (made made2 : Vertices) (vs : List Vertex) (s n : ℕ) (owner : Player)
+    (priority : ℕ) (moves : Vec ℕ)
     → HasVertices g m made (vs ++ map (Pair s) (range_with_len 0 n)) → made2.owner.items ≡ made.owner.items ++ owner ∷ []
     → made2.priority.items ≡ made.priority.items ++ priority ∷ [] → made2.successors.items ≡ made.successors.items ++ moves ∷ []
     → owner ≡ owner_at g (Pair s n) → priority ≡ priority_at_vertex g (Pair s n)
@@ -115,18 +118,24 @@ pub pair_more : (g : Graph) (m : Structure) (made made2 : Vertices) (vs : List V
     → HasVertices g m made2 (vs ++ map (Pair s) (range_with_len 0 (n + 1)))
 pair_more g m made made2 vs s n owner priority moves has owners priorities lists own prio next =
     let longer : (vs ++ map (Pair s) (range_with_len 0 n)) ++ Pair s n ∷ [] ≡ vs ++ map (Pair s) (range_with_len 0 (n + 1)) =
-        append_assoc vs (map (Pair s) (range_with_len 0 n)) (Pair s n ∷ []) ∙ ap (λ xs. vs ++ xs) (sym (map-more (Pair s) n)) in
+    append_assoc vs (map (Pair s) (range_with_len 0 n)) (Pair s n ∷ []) ∙ ap (λ xs. vs ++ xs) (sym (map-more (Pair s) n)) in
     subst (HasVertices g m made2) longer (vertex_more g m made made2 (vs ++ map (Pair s) (range_with_len 0 n)) (Pair s n) owner priority moves has owners priorities lists own prio next)
 
 -- the pairs of all states, and then the two sinks
-pub all_pairs : (g : Graph) (m : Structure) (made made2 : Vertices) (s : ℕ) → HasVertices g m made (flat_map (pairs_at g) (range_with_len 0 s))
+pub all_pairs : (g : Graph) (m : Structure) (made made2 : Vertices) (s : ℕ)
+    → HasVertices g m made (flat_map (pairs_at g) (range_with_len 0 s))
     → ((vs : List Vertex) → HasVertices g m made vs → HasVertices g m made2 (vs ++ pairs_at g s))
     → HasVertices g m made2 (flat_map (pairs_at g) (range_with_len 0 (s + 1)))
 all_pairs g m made made2 s has more =
     subst (HasVertices g m made2) (sym (flat_map-more (pairs_at g) s)) (more (flat_map (pairs_at g) (range_with_len 0 s)) has)
 
 -- how many rows there are
-pub row_count : (rows counter count w s a b : ℕ) → rows ≡ counter → count ≤ counter → counter ≤ count → count ≡ w * s → w ≡ a
+pub row_count : (rows counter count w s a b : ℕ)
+    → rows ≡ counter
+    → count ≤ counter
+    → counter ≤ count
+    → count ≡ w * s
+    → w ≡ a
     → s ≡ b → rows ≡ b * a
 row_count rows counter count w s a b e low high is width states =
     let product : w * s ≡ a * b = ap (λ x. x * s) width ∙ ap (λ x. a * x) states in omega arith

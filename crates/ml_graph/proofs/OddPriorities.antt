@@ -1,7 +1,7 @@
 -- The odd priorities, sorted and each once.
 --
 --   sorted_once == a list that was sorted, and then left without repeats, is its members in ascending order
-use Rattle.std.proofs.Common.{◌≡◌, ℕ, List, Contains, eqb}
+use Rattle.std.proofs.Common.{◌≡◌, ℕ, List, eqb}
 use Rattle.std.specs.List.{dedup}
 use Rattle.std.specs.List.Sorted.{IsPermutation, IsSorted}
 use Rattle.std.specs.Ordering.{nat_cmp}

@@ -2,7 +2,7 @@
 --
 --   range-more    == a range that is longer by one has its last number behind it
 --   flat_map-more, map-more == so has what is made of it
-use Rattle.std.proofs.Common.{ℕ, zero, suc, ◌≡◌, ◌+◌, List, [], ◌∷◌, ◌++◌, map, refl, sym, ap, ◌∙◌, arith, append-nil}
+use Rattle.std.proofs.Common.{ℕ, zero, suc, ◌≡◌, ◌+◌, List, [], ◌∷◌, ◌++◌, map, ap, ◌∙◌, arith, append-nil}
 use Rattle.std.specs.List.{flat_map, range_with_len}
 use Rattle.std.proofs.lemmas.List.{map-append}
 use Rattle.std.proofs.lemmas.List.Concat.{flat_map-append}
@@ -20,7 +20,9 @@ range-more n =
     let at : 0 + n ≡ n = omega arith in
     ap (range_with_len 0) one ∙ range-suc 0 n ∙ ap (λ k. range_with_len 0 n ++ k ∷ []) at
 
-pub map-more : {A : Type 0} → (f : ℕ → A) (n : ℕ) → map f (range_with_len 0 (n + 1)) ≡ map f (range_with_len 0 n) ++ f n ∷ []
+pub map-more : {A : Type 0}
+    → (f : ℕ → A) (n : ℕ)
+    → map f (range_with_len 0 (n + 1)) ≡ map f (range_with_len 0 n) ++ f n ∷ []
 map-more f n = ap (map f) (range-more n) ∙ map-append f (range_with_len 0 n) (n ∷ [])
 
 pub flat_map-more : {A : Type 0} → (f : ℕ → List A) (n : ℕ)

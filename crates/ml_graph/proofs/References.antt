@@ -22,7 +22,9 @@ use Rattle.ml_graph.specs.declared.node.Node.{Node}
 use Rattle.ml_graph.specs.declared.node.Node.TheVariants as node
 use Rattle.ml_graph.specs.Graph.{Graph, size, node_at, Reference, first_bad, references, references_from, references_of, IsGraph}
 
-option_map-or : {A B : Type 0} → (f : A → B) (o p : Option A) → option_map f (option_or o p) ≡ option_or (option_map f o) (option_map f p)
+option_map-or : {A B : Type 0}
+    → (f : A → B) (o p : Option A)
+    → option_map f (option_or o p) ≡ option_or (option_map f o) (option_map f p)
 option_map-or f None p = refl
 option_map-or f (Some x) p = refl
 
@@ -42,7 +44,8 @@ first_bad_node f nodes i rest low =
     (first_bad-append (f (get_or nodes i node.True)) (flat_map f (drop (suc i) nodes) ++ rest)))
 
 -- a test that found nothing
-passed : (b : Bool) (x : Reference) (o : Option Reference) → option_map (λ (r : Reference). r.number) (cond b (Some x) o) ≡ None
+passed : (b : Bool) (x : Reference) (o : Option Reference)
+    → option_map (λ (r : Reference). r.number) (cond b (Some x) o) ≡ None
     → (b ≡ false) × (option_map (λ (r : Reference). r.number) o ≡ None)
 passed true x o e = cc
 passed false x o e = (refl, e)
@@ -93,7 +96,9 @@ root_in_range g ok =
 
 -- what a node of a graph refers to is in range
 module _ (g : Graph) (ok : IsGraph g) (n : ℕ) (low : n < size g) where
-  pub field_in_range : (r : Reference) → IsMember r (references_of (size g) (length g.props) (length g.actions) (node_at g n)) → r.number < r.bound
+  pub field_in_range : (r : Reference)
+      → IsMember r (references_of (size g) (length g.props) (length g.actions) (node_at g n))
+      → r.number < r.bound
   field_in_range r m =
       let f : Node → List Reference = references_of (size g) (length g.props) (length g.actions) in
       let in_nodes = member-flat_map f (node_at g n) r g.nodes (place-member g.nodes n node.True low) m in

@@ -4,3 +4,5 @@ pub mod Graph
 pub mod CheckingGame
 -- what only private contracts cite
 pub mod private
+-- where a graph holds at a node, told by the nodes to which it refers
+pub mod Laws

@@ -111,10 +111,12 @@ fn pairs_or_sink(
     if states.is_empty() {
         return Ok(vec![in alloc; sink]?);
     }
-    Ok(states
-        .iter()
-        .map(|state| pair(*state, size, node))
-        .collect(alloc)?)
+    Ok(
+        states
+            .iter()
+            .map(|state| pair(*state, size, node))
+            .collect(alloc)?,
+    )
 }
 
 /// What is looked up while a game is made.

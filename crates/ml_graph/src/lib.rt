@@ -14,6 +14,7 @@
 #![tactic(auto)]
 
 mod checking;
+pub mod laws;
 mod modal_graph;
 mod node;
 mod refusals;

@@ -1,7 +1,5 @@
 use Rattle.std.proofs.Common.{◌≡◌, arith, sym, subst}
 use Rattle.ml_parity.specs.Game.{IsGame}
-use Rattle.ml_graph.specs.CheckingGame.{vertices}
-use Rattle.ml_graph.specs.private.Making.{HasVertices}
 use Rattle.ml_graph.proofs.CheckingGame.{is_game}
 use Rattle.ml_graph.proofs.Making.{all_pairs, with_sinks, made_game}
 use Rattle.ml_graph.proofs.checking.all_vertices.Goals as goal

@@ -1,4 +1,4 @@
-use Rattle.std.proofs.Common.{ℕ, ◌≡◌, List, [], length, get_or, take}
+use Rattle.std.proofs.Common.{ℕ, ◌≡◌, [], length, get_or, take}
 use Rattle.ml_parity.specs.Refusal.{lists_of}
 use Rattle.ml_graph.specs.private.Making.{HasTargets}
 use Rattle.ml_graph.proofs.checking.edge_rows.Given as goal

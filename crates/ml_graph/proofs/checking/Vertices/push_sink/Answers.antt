@@ -1,4 +1,4 @@
-use Rattle.std.proofs.Common.{◌≡◌, ◌+◌, ◌*◌, [], ◌∷◌, refl, ap, ◌∙◌}
+use Rattle.std.proofs.Common.{[], ◌∷◌, refl, ap, ◌∙◌}
 use Rattle.ml_graph.specs.Graph.{size}
 use Rattle.ml_graph.specs.CheckingGame.{Sink}
 use Rattle.ml_graph.proofs.Making.{vertex_more, sink_number}
