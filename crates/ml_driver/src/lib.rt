@@ -13,10 +13,8 @@ mod command;
 mod decide;
 pub mod laws;
 mod status;
-#[cfg(test)]
-mod tests;
 mod top;
 
-pub use command::{Command, command_of};
+pub use command::{Command, LONGEST_DOCUMENT, LONGEST_TEXT, command_of};
 pub use status::Status;
 pub use top::run;

@@ -44,3 +44,5 @@ pub mod Tables
 pub mod Grids
 -- lassos along a map
 pub mod MappedLasso
+-- lists in another order
+pub mod Permuted

@@ -18,10 +18,14 @@ pub mod Counting
 pub mod Spelled
 -- variables that are fine are bound and positive
 pub mod Fine
+-- variables that are bound and positive are fine
+pub mod FaultFree
 -- from what was read to what parse answers
 pub mod Parsed
--- a text has one answer
+-- a text has one answer at most
 pub mod OneAnswer
+-- a text has an answer
+pub mod SomeAnswer
 -- the states whose edges lead into a set
 pub mod EdgeWalks
 -- what the evaluator's parts compute
@@ -38,5 +42,13 @@ pub mod Monotone
 pub mod Fixpoints
 -- the lines of a head
 pub mod HeadLines
--- canonical texts are parsed, and heads are read back
+-- names in texts and formulas are short
+pub mod ShortNames
+-- canonical texts pass no limit
+pub mod CanonicalLimits
+-- canonical texts are parsed
 pub mod CanonicalParsed
+-- canonical texts stand in one line
+pub mod CanonicalLines
+-- heads are read back
+pub mod HeadsReadBack

@@ -2,6 +2,7 @@
 --
 --   comes_of         == what comes of a text is right by the grammar of mu
 --   found_accepted   == a formula that is found is accepted
+--   comes_first      == a cause that is found is the first
 --   refused_first    == a refusal comes first
 --   accepted_small   == an accepted formula keeps the limit on occurrences, and its names are spelled
 --   accepted_fine    == an accepted formula without faults is well formed
@@ -29,6 +30,7 @@ use Rattle.ml_mu.specs.WellFormed.{IsWellFormed}
 use Rattle.ml_mu.proofs.Counting.{counts, counted_items, words_are_variables, variables, length-places, length-standings}
 use Rattle.ml_mu.proofs.Fine.{IsWellBound, fine_well}
 use Rattle.ml_mu.proofs.MuGrammar.{mu_regular, mu_completable, stands_read, read_stands}
+use Rattle.ml_mu.proofs.ShortNames.{text_short}
 use Rattle.ml_mu.proofs.Spelled.{items_spelled, reads_spelled}
 
 pub mu_fits : Fits mu_grammar IsReadAs
@@ -43,7 +45,7 @@ comes_of text = exact mu_grammar IsReadAs mu_fits (items text) (length text)
 pub found_accepted : (text : List ℕ) (f : Formula) → mu_outcome text ≡ Found f → IsAccepted IsReadAs (items text) f
 found_accepted text f is = subst (IsOutcome mu_grammar IsReadAs (items text) (length text)) is (comes_of text)
 
-comes_first : (text : List ℕ) (c : Cause) (at : ℕ) → mu_outcome text ≡ Refused c at → ComesFirst text c at
+pub comes_first : (text : List ℕ) (c : Cause) (at : ℕ) → mu_outcome text ≡ Refused c at → ComesFirst text c at
 comes_first text c at is = subst (IsOutcome mu_grammar IsReadAs (items text) (length text)) is (comes_of text)
 
 pub refused_first : (text : List ℕ) (e : ParseRefusal) → IsRefusal e (mu_outcome text) → IsRefusedBy text e
@@ -67,6 +69,7 @@ accepted_fine text f accepted fine =
     let w : IsWellBound f = fine_well f fine in
     record {
       is_small = accepted_small text f accepted;
+      names_are_short = text_short text f accepted;
       names_are_spelled = (reads_spelled accepted.stands (items_spelled text false (tokens AnyLetter text))).0;
       variables_are_bound = w.bound;
       variables_are_positive = w.positive;

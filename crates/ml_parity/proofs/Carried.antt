@@ -28,8 +28,8 @@ use Rattle.ml_parity.specs.declared.players.Player.TheVariants.{Even, Odd}
 use Rattle.ml_parity.specs.Player.{opponent, side}
 use Rattle.ml_parity.specs.Game.{ParityGame, IsGame, HasMove, owner_of, priority_of, moves_of, size}
 use Rattle.ml_parity.specs.Winner.{IsPlay, winner, Wins}
-use Rattle.ml_parity.specs.Sinks.{Holds}
-use Rattle.ml_parity.specs.SinkGame.{board_of}
+use Rattle.ml_parity.specs.private.Sinks.{Holds}
+use Rattle.ml_parity.specs.private.SinkGame.{board_of}
 use Rattle.ml_parity.proofs.Opponents.{cases_player, opponent-opponent, not_both, no_own_opponent}
 use Rattle.ml_parity.proofs.Winners.{Winners, winners, won, won_by_either, clash, together, together-own, together-other}
 
@@ -48,13 +48,13 @@ straight = record { opponents = λ p. refl; sides = λ n. let same : n + 0 ≡ n
 side-raised : (n : ℕ) → side (n + 1) ≡ opponent (side n)
 side-raised n = ⊎_elim
     (λ (even : eqb (n % 2) 0 ≡ true).
-      let is : n % 2 ≡ 0 = eqb-true (n % 2) 0 even in
-      let other : eqb ((n + 1) % 2) 0 ≡ false = let odd : (n + 1) % 2 ≡ 1 = omega arith in grind (arith, nat_tests) in
-      cond-false (eqb ((n + 1) % 2) 0) Even Odd other ∙ ap opponent (sym (cond-true (eqb (n % 2) 0) Even Odd even)))
+    let is : n % 2 ≡ 0 = eqb-true (n % 2) 0 even in
+    let other : eqb ((n + 1) % 2) 0 ≡ false = let odd : (n + 1) % 2 ≡ 1 = omega arith in grind (arith, nat_tests) in
+    cond-false (eqb ((n + 1) % 2) 0) Even Odd other ∙ ap opponent (sym (cond-true (eqb (n % 2) 0) Even Odd even)))
     (λ (odd : eqb (n % 2) 0 ≡ false).
-      let is : n % 2 ≡ 0 → ⊥ = eqb-false (n % 2) 0 odd in
-      let other : eqb ((n + 1) % 2) 0 ≡ true = let even : (n + 1) % 2 ≡ 0 = omega arith in grind (arith, nat_tests) in
-      cond-true (eqb ((n + 1) % 2) 0) Even Odd other ∙ ap opponent (sym (cond-false (eqb (n % 2) 0) Even Odd odd)))
+    let is : n % 2 ≡ 0 → ⊥ = eqb-false (n % 2) 0 odd in
+    let other : eqb ((n + 1) % 2) 0 ≡ true = let even : (n + 1) % 2 ≡ 0 = omega arith in grind (arith, nat_tests) in
+    cond-true (eqb ((n + 1) % 2) 0) Even Odd other ∙ ap opponent (sym (cond-false (eqb (n % 2) 0) Even Odd odd)))
     (cases_Bool (eqb (n % 2) 0))
 
 -- players are exchanged, and priorities raised by one
@@ -217,13 +217,13 @@ module _ (g h : ParityGame) (g_ok : IsGame g) (h_ok : IsGame h) (f : ℕ → ℕ
           let for_p : winner g l.lasso ≡ p = subst (λ q. winner g l.lasso ≡ q) d.in_g (wg.wins v (region.low v d.inside) l.lasso play_g l.begins (λ k below own. l.steps k below ∙ (here k below).by_g (own ∙ d.in_g))) in
           let begins : entry (mapped f l.lasso) 0 ≡ f v = mapped-entry f l.lasso l.starts 0 (omega (arith, l.starts)) ∙ ap f l.begins in
           let follows : (k : ℕ) → k < length (map f l.lasso.entries) → owner_of h (get_or (round (mapped f l.lasso)) k 0) ≡ wh.win (f v) → get_or (round (mapped f l.lasso)) (k + 1) 0 ≡ wh.choice (get_or (round (mapped f l.lasso)) k 0) =
-              λ k low own.
-                  let below : k < length l.lasso.entries = omega (arith, length-map l.lasso.entries f) in
-                  let image_k = image k (omega arith) in
-                  image (k + 1) (omega arith)
-                  ∙ ap f (l.steps k below)
-                  ∙ (here k below).by_h (ap (owner_of h) (sym image_k) ∙ own ∙ d.in_h)
-                  ∙ ap wh.choice (sym image_k)
+          λ k low own.
+          let below : k < length l.lasso.entries = omega (arith, length-map l.lasso.entries f) in
+          let image_k = image k (omega arith) in
+          image (k + 1) (omega arith)
+          ∙ ap f (l.steps k below)
+          ∙ (here k below).by_h (ap (owner_of h) (sym image_k) ∙ own ∙ d.in_h)
+          ∙ ap wh.choice (sym image_k)
           in
           let for_other : winner h (mapped f l.lasso) ≡ opponent (turn p) = subst (λ q. winner h (mapped f l.lasso) ≡ q) d.in_h (wh.wins (f v) (region.image_low v d.inside) (mapped f l.lasso) play_h begins follows) in
           let same : winner h (mapped f l.lasso) ≡ turn (winner g l.lasso) = ap side (mapped-lowest f l.lasso l.starts (priority_of g) (priority_of h) raise (λ j low. subst (λ x. priority_of h (f x) ≡ priority_of g x + raise) (round-entry l.lasso j low) (here j low).priority)) ∙ turning.sides (lowest_on_loop (priority_of g) l.lasso) in
@@ -263,6 +263,6 @@ module _ (g h : ParityGame) (g_ok : IsGame g) (h_ok : IsGame h) (f : ℕ → ℕ
       back b = ⊎_elim
           (λ (mine : Wins g p v). mine)
           (λ (lost : Wins g (opponent p) v).
-            let other = carried g h g_ok h_ok f turn raise turning R region (opponent p) (carries (opponent p)) v inside lost in
-            absurd (clash h h_ok (turn p) (f v) (region.image_low v inside) b (subst (λ q. Wins h q (f v)) (turning.opponents p) other)))
+          let other = carried g h g_ok h_ok f turn raise turning R region (opponent p) (carries (opponent p)) v inside lost in
+          absurd (clash h h_ok (turn p) (f v) (region.image_low v inside) b (subst (λ q. Wins h q (f v)) (turning.opponents p) other)))
           (won_by_either g g_ok p v (region.low v inside))

@@ -72,7 +72,12 @@ sink_lowest g v one l play begins =
     there k low = sym (round-entry l k low) ∙ stays k (omega arith)
 
 -- a sink is won by the player of its priority
-sink_winner : (g : ParityGame) → IsGame g → (v : ℕ) → v < size g → moves_of g v ≡ v ∷ [] → Wins g (side (priority_of g v)) v
+sink_winner : (g : ParityGame)
+    → IsGame g
+    → (v : ℕ)
+    → v < size g
+    → moves_of g v ≡ v ∷ []
+    → Wins g (side (priority_of g v)) v
 sink_winner g ok v low one = record {
   strategy = λ x. get_or (moves_of g x) 0 0;
   is_strategy = λ x below own. first_move g ok x below;

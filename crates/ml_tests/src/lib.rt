@@ -9,14 +9,20 @@
 #![tactic(auto)]
 
 pub mod games;
+#[cfg(test)]
+mod graph_tests;
 pub mod graphs;
+#[cfg(test)]
+mod heights_tests;
 pub mod letters;
 pub mod not_made;
 pub mod numbers;
 #[cfg(test)]
-mod graph_tests;
+mod parity_tests;
 #[cfg(test)]
 mod tests;
+#[cfg(test)]
+mod trace_tests;
 
 pub use games::{SMALL_GAMES, ladder, random_game, small_game};
 pub use graphs::{chain, random_blocks, slow_row};

@@ -1,0 +1,94 @@
+// The trace automaton: worked rows, and each call once on its happy path.
+use ml_trace::{
+    AutomatonState, Letter, LocalTraces, STATE_LIMIT, Transition, Triple, letter_of, number,
+    state_of,
+};
+use std::test::Fail;
+
+// The transition from one number to another.
+fn transition(from: u32, to: u32, accepting: bool) -> Transition {
+    Transition {
+        from,
+        to,
+        accepting,
+    }
+}
+
+#[test]
+fn letter_of_one_triple(rt: HostRuntime) -> Result<(), Fail> {
+    let triple = Triple {
+        from: 0,
+        lowest: 1,
+        to: 4,
+    };
+    let traces = LocalTraces::new([triple].to_vec(rt.alloc())?);
+    assert_eq!(rt; traces.triples().len(), 1);
+    let letter = letter_of(rt.alloc(), &traces, &[1])?;
+    let rows = [
+        (transition(0, 8, false), true),
+        (transition(0, 9, false), true),
+        (transition(1, 9, true), true),
+        (transition(1, 9, false), false),
+        (transition(1, 8, false), false),
+    ];
+    for (wanted, is_there) in rows {
+        assert_eq!(rt;
+            letter.transitions().contains(&wanted),
+            is_there,
+            "{wanted:?}"
+        );
+    }
+    assert_eq!(rt; letter.transitions().len(), 3);
+    Ok(())
+}
+
+#[test]
+fn states_have_numbers(rt: HostRuntime) {
+    let rows = [
+        (0, None, 0),
+        (0, Some(1), 1),
+        (0, Some(5), 2),
+        (4, None, 12),
+        (4, Some(5), 14),
+    ];
+    for (node, odd, wanted) in rows {
+        let state = AutomatonState { node, odd };
+        assert!(rt; state_of(wanted, &[1, 5]) == state, "{state:?}");
+    }
+    let state = AutomatonState {
+        node: 4,
+        odd: Some(5),
+    };
+    assert_eq!(rt; number(&state, &[1, 5]), 14);
+}
+
+#[test]
+fn letters_stand_by_targets(rt: HostRuntime) -> Result<(), Fail> {
+    let given = [
+        transition(1, 7, true),
+        transition(0, 3, false),
+        transition(5, 7, false),
+    ]
+    .to_vec(rt.alloc())?;
+    let first = Letter::new(given).and_then(|letter| letter.transitions().first().copied());
+    assert_eq!(rt; first, Some(transition(0, 3, false)));
+    Ok(())
+}
+
+#[test]
+fn letters_have_small_ends(rt: HostRuntime) -> Result<(), Fail> {
+    let rows = [
+        (STATE_LIMIT - 1, 0, true),
+        (STATE_LIMIT, 0, false),
+        (0, STATE_LIMIT, false),
+    ];
+    for (from, to, is_letter) in rows {
+        let transitions = [transition(from, to, true)].to_vec(rt.alloc())?;
+        assert_eq!(rt;
+            Letter::new(transitions).is_some(),
+            is_letter,
+            "{from} {to}"
+        );
+    }
+    Ok(())
+}
