@@ -1,5 +1,7 @@
 -- how many numbers below a bound pass a test
 pub mod Counting
+-- documents are readable or have one first bad line, never both
+pub mod Documents
 -- growing sequences of sets come to rest
 pub mod Growing
 -- lassos, as lists and as sequences

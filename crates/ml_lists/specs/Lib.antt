@@ -1,5 +1,7 @@
 -- how many numbers below a bound pass a test
 pub mod Counting
+-- documents: lines that keep the rules of their places
+pub mod Documents
 -- growing sequences of sets below a bound
 pub mod Growing
 -- a list of numbers with a loop start
