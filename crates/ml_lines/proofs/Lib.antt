@@ -16,3 +16,5 @@ pub mod WordBytes
 pub mod WrittenLines
 -- a text and its first line
 pub mod LineFronts
+-- the first bad line of a text, by any format
+pub mod Faults

@@ -28,3 +28,5 @@ pub mod Ascending
 pub mod Least
 -- iterates of a function
 pub mod Iterate
+-- lists in which each element is above the one before it
+pub mod Chains

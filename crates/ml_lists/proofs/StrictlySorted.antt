@@ -11,7 +11,7 @@ use Rattle.std.proofs.lemmas.Cmp.{tied_itself}
 use Rattle.std.proofs.lemmas.List.Elements.{All-contains}
 use Rattle.std.proofs.lemmas.Map.Keys.{sorted_tail}
 use Rattle.std.proofs.lemmas.Map.Views.{All-after_first}
-use Rattle.ml_kripke.proofs.Members.{contains_head, contains_later, contains_cases, contains_none}
+use Rattle.ml_lists.proofs.Members.{contains_head, contains_later, contains_cases, contains_none}
 
 module _ {K : Type 0} (R : K → K → Ordering) (order : IsTotalOrder R) (exact : (x y : K) → R x y ≡ Equal → x ≡ y) where
   below_later : (x : K) (xs : List K) → IsStrictlySortedBy R (x ∷ xs) → (q : K) → Contains xs q → R x q ≡ Less

@@ -1,6 +1,5 @@
 -- Lists in which each element is above the one before it.
 --
---   Chain before xs        == each of xs is above the one before it, the first above `before`
 --   chain_push, chain_at   == a chain that grows at its end, and an element in its midst
 --   chain_sorted           == a chain strictly ascends
 --   sorted_chain           == what strictly ascends is a chain
@@ -10,12 +9,7 @@ use Rattle.std.specs.Cmp.{IsTotalOrder}
 use Rattle.std.specs.List.{AllByRecursion}
 use Rattle.std.specs.List.Sorted.{IsStrictlySortedBy}
 use Rattle.std.specs.declared.cmp.Ordering.TheVariants.{Less}
-use Rattle.ml_kripke.specs.BodyParts.{Above, last_of}
-
-module _ {K : Type 0} (R : K → K → Ordering) where
-  abbrev pub Chain : Option K → List K → Type 0
-  Chain before [] = Unit {0}
-  Chain before (x ∷ xs) = Above R before x × Chain (Some x) xs
+use Rattle.ml_lists.specs.Chains.{Above, Chain, last_of}
 
 pub last_push : {K : Type 0} (before : Option K) (xs : List K) (y : K) → last_of before (xs ++ y ∷ []) ≡ Some y
 last_push before [] y = refl
