@@ -20,7 +20,7 @@ use Rattle.std.proofs.lemmas.List.FromFn.{length-map-range_with_len, get_or-map-
 use Rattle.ml_base.specs.declared.structure.Edge.{Edge}
 use Rattle.ml_base.specs.Structure.{Structure, IsStructure}
 use Rattle.ml_kripke.specs.Ordered.{IsOrdered, IsBuiltFrom, first_bad_state, labels_at, edge_cmp}
-use Rattle.ml_kripke.proofs.Members.{contains_none, All-of_members}
+use Rattle.ml_lists.proofs.Members.{contains_none, All-of_members}
 use Rattle.ml_kripke.proofs.Range.{all_in_range}
 use Rattle.ml_kripke.proofs.RowOrder.{label_cmp, labels_at-ascends, labels_at-contains, labels_at-contained}
 

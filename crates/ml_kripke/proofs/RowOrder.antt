@@ -14,7 +14,7 @@ use Rattle.std.proofs.lemmas.Cmp.{tied_itself, nat_cmp_total}
 use Rattle.std.proofs.lemmas.Bool.{true≢false}
 use Rattle.std.proofs.lemmas.Bool.Decides.{nat_tests}
 use Rattle.ml_kripke.specs.Ordered.{labels_at}
-use Rattle.ml_kripke.proofs.Members.{contains_head, contains_later, contains_cases, contains_none}
+use Rattle.ml_lists.proofs.Members.{contains_head, contains_later, contains_cases, contains_none}
 
 abbrev Label : Type 0
 Label = ℕ × List ℕ

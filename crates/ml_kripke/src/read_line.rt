@@ -6,10 +6,11 @@ ghost use Rattle.std.specs.Option.{option_copied};
 ghost use Rattle.ml_base.specs.Name.{IsName, IsAction};
 ghost use Rattle.ml_lines.specs.Reading.{words_of, words_behind, AreWords};
 ghost use Rattle.ml_kripke.specs.BodyRules.{IsNumbered, IsStated, IsEdged, IsEdgeBehind, AtStates, AtStart, AtState, AtEdge};
-ghost use Rattle.ml_kripke.specs.BodyParts.{IsStatesLine, IsStartLine, IsStateLine, EdgeOrEnd, Ascend, Above, last_of};
+ghost use Rattle.ml_lists.specs.Chains.{Above, last_of};
+ghost use Rattle.ml_kripke.specs.private.BodyParts.{IsStatesLine, IsStartLine, IsStateLine, EdgeOrEnd, Ascend};
 ghost use Rattle.ml_kripke.specs.Ordered.{edge_cmp};
 ghost use Rattle.std.specs.declared.cmp.Ordering.TheVariants.{Less};
-ghost use Rattle.ml_kripke.specs.Refusals.{Breaks, TellsRule};
+ghost use Rattle.ml_kripke.specs.private.Refusals.{Breaks, TellsRule};
 
 use crate::body_rule::BodyRule;
 use ml_base::{Action, Edge, Name, NameRefusal};

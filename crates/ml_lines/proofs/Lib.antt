@@ -18,3 +18,7 @@ pub mod WrittenLines
 pub mod LineFronts
 -- the first bad line of a text, by any format
 pub mod Faults
+-- texts that begin with lines that were read
+pub mod Fronts
+-- what is asked of words is decided
+pub mod DecidedWords

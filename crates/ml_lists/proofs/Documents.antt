@@ -1,13 +1,14 @@
 -- Documents are readable or have one first bad line, and never both.
 --
 --   one_broken, kept_not_broken   == a line breaks one first rule at most, and none where it keeps all
---   judge_none, judge_one         == a line is judged by no rules; and by one more rule where that one is decided
+--   judged                        == a line is judged where each rule is decided for it
 --   readable_or_bad               == where each line is judged, the lines are readable or have a first bad one
 --   one_bad                       == they have one first bad line at most, which breaks one first rule
 --   readable_no_bad               == and none where they are readable
 --   bad_behind, readable_behind   == what is said of the rest of lines that were read is said of them all
 --   read_on                       == lines that were read, and of their rest further ones
 use Rattle.std.proofs.Common.{◌≡◌, ℕ, ◌+◌, ◌⊎◌, List, [], ◌∷◌, inl, inr, refl, sym, ◌∙◌}
+use Rattle.ml_lists.proofs.Decided.{Decided}
 use Rattle.ml_lists.specs.Documents.{Rule, Format, KeepsAll, IsFirstBroken, IsJudged, IsGood, IsReadable, IsFirstBad, Judges, IsReadTo, nothing_read, line_read}
 
 -- ---- the rules of a place
@@ -25,13 +26,15 @@ module _ {Line : Type 0} (line : Line) where
   one_broken (first ∷ others) r s (inr x) (inl y) = absurd (y.1 x.0)
   one_broken (first ∷ others) r s (inr x) (inr y) = one_broken others r s x.1 y.1
 
-  pub judge_none : IsJudged [] line
-  judge_none = inl tt
+  -- each rule is decided where the earlier ones are kept
+  abbrev pub AreDecided : List (Rule Line) → Type 0
+  AreDecided [] = Unit {0}
+  AreDecided (first ∷ others) = Decided (first.Keeps line) × (first.Keeps line → AreDecided others)
 
-  pub judge_one : (first : Rule Line) (others : List (Rule Line)) → first.Keeps line ⊎ (¬ (first.Keeps line))
-      → (first.Keeps line → IsJudged others line) → IsJudged (first ∷ others) line
-  judge_one first others (inr breaks) judged = inr (first.number, inl (refl, breaks))
-  judge_one first others (inl keeps) judged = go (judged keeps)
+  pub judged : (rules : List (Rule Line)) → AreDecided rules → IsJudged rules line
+  judged [] all = inl tt
+  judged (first ∷ others) (inr breaks, later) = inr (first.number, inl (refl, breaks))
+  judged (first ∷ others) (inl keeps, later) = go (judged others (later keeps))
     where
       go : IsJudged others line → IsJudged (first ∷ others) line
       go (inl all) = inl (keeps, all)

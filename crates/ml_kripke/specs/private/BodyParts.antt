@@ -1,23 +1,19 @@
--- What is known of the parts of a body that were read.
+-- What is known of the parts of a body that were read. Private contracts and proofs cite this.
 --
--- A text begins with lines that were read, and goes on with a rest. Each part of a body has its record: the lines
--- that the text begins with, said by what they stand for, and what these values keep.
+-- Each part of a body has its record: the lines that it is, said by what they stand for, and what these values keep.
 --
---   GoesOn text lines rest    == the text is these lines and then the rest
 --   IsStatesLine line n       == the line is `states n`, with at least one state
 --   IsStartLine line n s      == the line is `start s`, of n states
 --   IsStateLine line i ls     == the line is that of the state i with the labels ls
 --   IsEdgeLine line n b e     == the line is that of the edge e behind b, of n states
---   Above R before x          == x is above the element before it, if there is one
---   last_of before xs         == the last element of xs, which stand behind `before`
+--   Ascend labels             == the labels strictly ascend by their bytes
+--   EdgeOrEnd line n b e      == the line is `end` where e is none, and else that of the edge e behind b
 --   AreRows n rows            == each of the n rows has names in ascending order
 --   IsWholeEnd text n es      == the text is the lines of the edges es and `end`, with nothing behind it
 --   AreEdges n b es           == the edges es behind b ascend, join states below n, and have actions
-use Rattle.std.specs.Prelude.{ℕ, ◌+◌, ◌<◌, ◌≤◌, ◌≡◌, ◌^◌, ⊤, List, [], ◌∷◌, ◌++◌, Option, None, Some, length, map, All}
+use Rattle.std.specs.Prelude.{ℕ, ◌<◌, ◌≡◌, ◌^◌, ⊤, List, [], ◌∷◌, ◌++◌, Option, None, Some, length, map, All}
 use Rattle.std.specs.List.Sorted.{IsStrictlySortedBy}
 use Rattle.std.specs.Ordering.{nat_cmp}
-use Rattle.std.specs.declared.cmp.Ordering.{Ordering}
-use Rattle.std.specs.declared.cmp.Ordering.TheVariants.{Less}
 use Rattle.std.specs.Cmp.Lexicographic.{slice_cmp}
 use Rattle.ml_base.specs.declared.structure.Edge.{Edge}
 use Rattle.ml_base.specs.Name.{IsName}
@@ -25,21 +21,6 @@ use Rattle.ml_lines.specs.Lines.{Line}
 use Rattle.ml_lines.specs.Reading.{lines_of, left_of}
 use Rattle.ml_kripke.specs.BodyRules.{IsEdgeBehind}
 use Rattle.ml_kripke.specs.ModelText.{states_line, start_line, end_line, state_line, edge_line}
-
--- x is above the element before it, if there is one
-abbrev pub Above : {K : Type 0} → (K → K → Ordering) → Option K → K → Type 0
-Above R None x = ⊤
-Above R (Some b) x = R b x ≡ Less
-
--- the last of some elements, which stand behind another one, if they do
-abbrev pub last_of : {K : Type 0} → Option K → List K → Option K
-last_of before [] = before
-last_of before (x ∷ xs) = last_of (Some x) xs
-
-pub record GoesOn (text : List ℕ) (lines : List Line) (rest : List ℕ) : Type 0 where
-  pub lines_are : lines_of text ≡ lines ++ lines_of rest
-  pub left_is : left_of text ≡ left_of rest
-  pub shorter : length rest + length lines ≤ length text
 
 pub record IsStatesLine (line : Line) (n : ℕ) : Type 0 where
   pub is_line : line ≡ states_line n
