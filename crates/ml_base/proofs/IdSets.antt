@@ -8,6 +8,8 @@
 --   search_member, found_member, missing_member, put_ascending  == the same of ascending lists
 --   put_is, found_is  == the list with the number, where it is new, and where it isn't
 --   one_list         == two ascending lists with the same members are equal
+--   inserted_is_set  == insert_once makes the ascending list of the set with the number
+--   ascending_is_set == ascending makes the ascending list of a list's members
 use Rattle.std.proofs.Common.{◌≡◌, ◌↔◌, ℕ, suc, ◌+◌, ◌<◌, ◌≤◌, ◌⊎◌, List, [], ◌∷◌, ◌++◌, length, take, drop, get_or, Contains, IsTrue, Result, Ok, Err, inl, inr, refl, sym, ap, subst, ◌∙◌, ⊎_elim, arith}
 use Rattle.std.specs.List.{insert}
 use Rattle.std.specs.List.Sorted.{IsStrictlyIncreasing, IsBinarySearchResult}
@@ -17,9 +19,9 @@ use Rattle.std.proofs.lemmas.List.{take-append-drop, length-take, length-drop, g
 use Rattle.std.proofs.lemmas.Bool.{cases_eq, cases_lt, true≢false}
 use Rattle.std.proofs.lemmas.List.Kept.{AllPairs-from_increasing}
 use Rattle.std.proofs.lemmas.List.Sorted.{searched}
-use Rattle.ml_lists.specs.Ascending.{IsAscending, insert_once}
+use Rattle.ml_lists.specs.Ascending.{IsAscending, ascending, insert_once}
 use Rattle.ml_lists.specs.Member.{IsMember}
-use Rattle.ml_lists.proofs.Ascending.{ascending_same, insert_once-is, insert_once-keeps, insert_once-member, member-insert_once}
+use Rattle.ml_lists.proofs.Ascending.{ascending_same, ascending-is, ascending-member, member-ascending, insert_once-is, insert_once-keeps, insert_once-member, member-insert_once}
 use Rattle.ml_lists.proofs.Members.{contains_middle, contains_without, contains_with, member_of_contains, contains_of_member}
 use Rattle.ml_lists.proofs.Increasing.{Above, Below, Ascends, ascends_from, increasing_from, ascends_with, increasing_of_ascending, ascending_of_increasing}
 
@@ -131,3 +133,20 @@ found_is xs x i ascends found =
 
 pub one_list : (xs ys : List ℕ) → IsAscending xs → IsAscending ys → ((x : ℕ) → IsMember x xs ↔ IsMember x ys) → xs ≡ ys
 one_list xs ys left right same = ascending_same xs ys left right (λ z. (same z).0) (λ z. (same z).1)
+
+pub inserted_is_set :
+    (x : ℕ) (xs : List ℕ)
+    → IsAscending xs
+    → IsAscending (insert_once x xs) × ((y : ℕ) → IsMember y (insert_once x xs) ↔ ((y ≡ x) ⊎ IsMember y xs))
+inserted_is_set x xs ascends = (insert_once-is x xs ascends, λ y. (insert_once-member y x xs, back y))
+  where
+    back : (y : ℕ) → (y ≡ x) ⊎ IsMember y xs → IsMember y (insert_once x xs)
+    back y inside =
+        ⊎_elim
+        (λ (is : y ≡ x). subst (λ z. IsMember z (insert_once x xs)) (sym is) (member-insert_once x xs))
+        (λ (h : IsMember y xs). insert_once-keeps y x xs h)
+        inside
+
+pub ascending_is_set :
+    (xs : List ℕ) → IsAscending (ascending xs) × ((y : ℕ) → IsMember y (ascending xs) ↔ IsMember y xs)
+ascending_is_set xs = (ascending-is xs, λ y. (ascending-member y xs, member-ascending y xs))

@@ -2,6 +2,8 @@
 pub mod Name
 -- Kripke structures
 pub mod Structure
+-- the order of edges
+pub mod EdgeOrder
 -- counts of faults, and when one rose
 pub mod Faults
 -- the source and the sink in memory, as values

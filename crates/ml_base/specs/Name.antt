@@ -11,11 +11,12 @@
 --   IsName, IsAction  == the same, as facts
 use Rattle.std.specs.Prelude.{ℕ, Bool, false, ◌==◌, ◌&&◌, ◌||◌, nat_le, List, [], ◌∷◌, length, IsTrue}
 use Rattle.std.specs.List.{list_all}
+use Rattle.ml_base.specs.declared.name.TheConstants.{LONGEST_NAME}
 use Rattle.std.specs.Char.{is_ascii_alphabetic, is_ascii_alphanumeric}
 
 -- how many bytes a name has at most
 abbrev pub longest_name : ℕ
-longest_name = 64
+longest_name = LONGEST_NAME
 
 -- a byte that may stand in a name behind its first: a letter, a digit or `_`
 abbrev pub is_name_byte : ℕ → Bool

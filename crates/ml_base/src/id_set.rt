@@ -36,6 +36,16 @@ impl IdSet {
         }
     }
 
+    /// The set of numbers that ascend. It takes no memory.
+    ///
+    /// Cost: constant.
+    pub fn from_ascending(members: Vec<u32>) -> IdSet
+        requires { IsAscending members.items }
+        ensures { result ≡ members.items }
+    {
+        IdSet { members }
+    }
+
     /// Is this number in the set?
     ///
     /// Cost: logarithmic in the members.
@@ -53,7 +63,22 @@ impl IdSet {
         self.members.as_slice()
     }
 
-    /// Puts a number into the set, and says whether it is new.
+    /// An equal set.
+    ///
+    /// # Errors
+    /// `NoMemory` alone.
+    ///
+    /// Cost: linear in the members.
+    pub fn copy(&self) -> Result<IdSet, NoMemory>
+        ensures { IfOk result (λ set. set ≡ self.now) }
+    {
+        Ok(IdSet {
+            members: Vec::from_slice(*self.members.allocator(), self.values())?,
+        })
+    }
+
+    /// Puts a number into the set, and says whether it is new. That `insert_once` is the set with the number is the
+    /// law `inserted_is_the_set`.
     ///
     /// # Errors
     /// `NoMemory` alone; the set is then as it was.
@@ -73,7 +98,8 @@ impl IdSet {
         }
     }
 
-    /// The numbers that are in one of the two sets, or in both.
+    /// The numbers that are in one of the two sets, or in both. That `ascending` is the set of a list's members is the
+    /// law `ascending_is_the_set`.
     ///
     /// # Errors
     /// `NoMemory` alone.

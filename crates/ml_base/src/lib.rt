@@ -29,7 +29,7 @@ pub mod whole;
 pub use doc_fault::DocFault;
 pub use id_set::IdSet;
 pub use memory::{MemSink, MemSource};
-pub use name::{Action, Name, NameRefusal};
+pub use name::{Action, LONGEST_NAME, Name, NameRefusal};
 pub use no_memory::NoMemory;
 pub use parse_refusal::ParseRefusal;
 pub use sink::Sink;

@@ -75,6 +75,7 @@ impl Source for MemSource {
         // What this source does, exactly.
         ensures fails { IsErr result ↔ IsTrue (is_due self.old.fails self.old.calls) }
         ensures count { IfOk result (λ count. count ≡ given_count self.old (length buf.old)) }
+        ensures untouched { OnErr result (buf.new ≡ buf.old) }
         ensures faultless { self.old.fails ≡ [] → self.new.faults ≡ 0 }
         ensures after { self.new ≡ after_read self.old (length buf.old) }
     {

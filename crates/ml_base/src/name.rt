@@ -38,7 +38,8 @@ impl From<AllocError> for NameRefusal {
     }
 }
 
-const LONGEST_NAME: usize = 64;
+/// How many bytes a name has at most.
+pub const LONGEST_NAME: usize = 64;
 
 /// A name: an ASCII letter and then letters, digits and `_`, 1 to 64 bytes in all. Contracts see the bytes.
 #[derive(Debug, Drop)]

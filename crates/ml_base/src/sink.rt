@@ -16,8 +16,8 @@ pub trait Sink {
     /// Takes bytes from the front of `piece`, at least one, and says how many.
     ///
     /// # Errors
-    /// `Failed` comes only where the count of faults rose in this call. No byte was taken then. To take nothing is a
-    /// fault.
+    /// `Failed` comes only where the count of faults rose in this call. A sink that tells its bytes took none then; of
+    /// others nothing is said, since a flush may fail behind bytes that were passed on. To take nothing is a fault.
     fn write(&mut self, piece: &[u8]) -> Result<usize, Failed>
         requires { 0 < length piece.now }
         ensures some { IfOk result (λ count. 0 < count) }

@@ -21,7 +21,8 @@ pub trait Source {
     /// Gives the next bytes into the front of `buf`, and says how many; `Ok(0)` is the end of the input.
     ///
     /// # Errors
-    /// `Failed` comes only where the count of faults rose in this call. No byte is lost then.
+    /// `Failed` comes only where the count of faults rose in this call. A source that tells its bytes has lost none
+    /// then. What stands in `buf` after it isn't said.
     fn read(&mut self, buf: &mut [u8]) -> Result<usize, Failed>
         requires { 0 < length buf.old }
         ensures within { IfOk result (λ count. count ≤ length buf.old) }

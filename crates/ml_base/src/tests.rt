@@ -175,6 +175,40 @@ fn a_reader(rt: HostRuntime) -> Result<(), Fail> {
     Ok(())
 }
 
+// A reader that gives a byte, its end, and then more, as a terminal does.
+#[derive(Drop)]
+struct Resumed {
+    calls: u8,
+}
+
+impl Read for Resumed {
+    fn read(&mut self, buf: &mut [u8]) -> io::Result<usize> {
+        self.calls = self.calls.saturating_add(1);
+        match (self.calls, buf) {
+            (1, [first, ..]) => {
+                *first = b'x';
+                Ok(1)
+            }
+            (3, [first, ..]) => {
+                *first = b'y';
+                Ok(1)
+            }
+            _ => Ok(0),
+        }
+    }
+}
+
+// Nothing is read behind the end.
+#[test]
+fn an_end(rt: HostRuntime) -> Result<(), Fail> {
+    let mut source = StdSource::new(Resumed { calls: 0 });
+    for want in [b"x".as_slice(), b"y".as_slice(), b"".as_slice()] {
+        let bytes = read_all(rt.alloc(), &mut source, 100)?;
+        assert!(rt; bytes.as_slice() == want);
+    }
+    Ok(())
+}
+
 #[test]
 fn a_writer(rt: HostRuntime) -> Result<(), Fail> {
     let mut taken = Vec::new(rt.alloc());
@@ -205,6 +239,7 @@ fn sets_of_numbers(rt: HostRuntime) -> Result<(), Fail> {
     let mut two = IdSet::new(rt.alloc());
     two.insert(2)?;
     assert_eq!(rt; set.union(&two)?.values(), [1, 2, 3].as_slice());
+    assert_eq!(rt; set.copy()?.values(), [1, 3].as_slice());
     assert_eq!(rt; set.union(&set)?.values(), [1, 3].as_slice());
     Ok(())
 }

@@ -13,8 +13,6 @@ mod command;
 mod decide;
 pub mod laws;
 mod status;
-#[cfg(test)]
-mod tests;
 mod top;
 
 pub use command::{Command, command_of};

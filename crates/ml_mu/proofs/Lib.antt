@@ -20,8 +20,10 @@ pub mod Spelled
 pub mod Fine
 -- from what was read to what parse answers
 pub mod Parsed
--- a text has one answer
+-- a text has one answer at most
 pub mod OneAnswer
+-- a text has an answer
+pub mod SomeAnswer
 -- the states whose edges lead into a set
 pub mod EdgeWalks
 -- what the evaluator's parts compute

@@ -2,6 +2,7 @@
 --
 --   one_formula       == a text stands for one formula at most
 --   canonical_one     == the canonical text of a formula stands for it alone
+--   parsed_once       == a text is parsed as one formula at most
 --   parsed_or_refused == what is parsed is refused by nothing but want of memory
 --   refused_one_way   == a text is refused in one way at most
 use Rattle.std.proofs.Common.{◌≡◌, ℕ, true, List, [], ◌∷◌, length, Some, None, refl, sym, ◌∙◌, ap}
@@ -13,7 +14,7 @@ use Rattle.ml_text.proofs.OneAnswer.{refused_once, accepted_not_refused}
 use Rattle.ml_mu.specs.Canonical.{canonical_text}
 use Rattle.ml_mu.specs.Formula.{Formula}
 use Rattle.ml_mu.specs.Grammar.{IsReadAs}
-use Rattle.ml_mu.specs.Parsing.{CanonicalStandsForOne, IsParsedAs, IsRefusedBy, ComesFirst, HasFault, StandForOne, ParsedOrRefused, RefusedOnce}
+use Rattle.ml_mu.specs.Parsing.{CanonicalStandsForOne, IsParsedAs, IsRefusedBy, ComesFirst, HasFault, StandForOne, NeverBoth, ParsedOnce, RefusedOnce}
 use Rattle.ml_mu.specs.Tables.{mu_grammar}
 use Rattle.ml_mu.specs.Text.{items, variable_places}
 use Rattle.ml_mu.specs.VariableFaults.{Standing, Fine, Unbound, NotPositive, standings, fault_at, are_fine}
@@ -25,6 +26,9 @@ read_once text f g a b = one_tree mu_grammar mu_regular (signs_of (items text)) 
 
 pub one_formula : StandForOne
 one_formula text f g a b = read_once text f g a b
+
+pub parsed_once : ParsedOnce
+parsed_once text f g a b = read_once text f g a.accepted.stands b.accepted.stands
 
 pub canonical_one : CanonicalStandsForOne
 canonical_one f g is = let stands = canonical_stands f is in (stands, λ other. read_once (canonical_text f) g f other stands)
@@ -47,7 +51,7 @@ parsed_no_fault text f s at parsed fault =
 parsed_not_first : (text : List ℕ) (f : Formula) (c : Cause) (at : ℕ) → IsParsedAs text f → ComesFirst text c at → ⊥
 parsed_not_first text f c at parsed first = accepted_not_refused IsReadAs (items text) f c first.0 parsed.accepted first.1
 
-pub parsed_or_refused : ParsedOrRefused
+pub parsed_or_refused : NeverBoth
 parsed_or_refused text f (refusal.Syntax at) parsed is = absurd (parsed_not_first text f Syntax at parsed is)
 parsed_or_refused text f (refusal.TooMany at) parsed is = absurd (parsed_not_first text f TooMany at parsed is)
 parsed_or_refused text f (refusal.TooNested at) parsed is = absurd (parsed_not_first text f TooNested at parsed is)

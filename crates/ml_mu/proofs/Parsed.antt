@@ -2,6 +2,7 @@
 --
 --   comes_of         == what comes of a text is right by the grammar of mu
 --   found_accepted   == a formula that is found is accepted
+--   comes_first      == a cause that is found is the first
 --   refused_first    == a refusal comes first
 --   accepted_small   == an accepted formula keeps the limit on occurrences, and its names are spelled
 --   accepted_fine    == an accepted formula without faults is well formed
@@ -43,7 +44,7 @@ comes_of text = exact mu_grammar IsReadAs mu_fits (items text) (length text)
 pub found_accepted : (text : List ℕ) (f : Formula) → mu_outcome text ≡ Found f → IsAccepted IsReadAs (items text) f
 found_accepted text f is = subst (IsOutcome mu_grammar IsReadAs (items text) (length text)) is (comes_of text)
 
-comes_first : (text : List ℕ) (c : Cause) (at : ℕ) → mu_outcome text ≡ Refused c at → ComesFirst text c at
+pub comes_first : (text : List ℕ) (c : Cause) (at : ℕ) → mu_outcome text ≡ Refused c at → ComesFirst text c at
 comes_first text c at is = subst (IsOutcome mu_grammar IsReadAs (items text) (length text)) is (comes_of text)
 
 pub refused_first : (text : List ℕ) (e : ParseRefusal) → IsRefusal e (mu_outcome text) → IsRefusedBy text e

@@ -5,8 +5,9 @@
 --
 --   IsParsedAs text f   == the text is one of f, keeps the limits, and no variable is at fault
 --   IsRefusedBy text e  == the text is refused with this answer
---   StandForOne, CanonicalStandsForOne, ParsedOrRefused, RefusedOnce, ParsedAreWellFormed == the laws of these notions
-use Rattle.std.specs.Prelude.{ℕ, ◌≡◌, ◌≢◌, List, length, Some, true, IsTrue}
+--   StandForOne, CanonicalStandsForOne, SomeAnswer, ParsedOnce, RefusedOnce, NeverBoth, ParsedAreWellFormed == the laws
+--                          of these notions
+use Rattle.std.specs.Prelude.{ℕ, ◌≡◌, ◌≢◌, ◌⊎◌, List, length, Some, true, IsTrue}
 use Rattle.ml_base.specs.declared.parse_refusal.ParseRefusal.{ParseRefusal}
 use Rattle.ml_base.specs.declared.parse_refusal.ParseRefusal.TheVariants as refusal
 use Rattle.ml_text.specs.Refusals as cause
@@ -47,9 +48,17 @@ IsRefusedBy text refusal.NoMemory = Unit {0}
 abbrev pub StandForOne : Type 0
 StandForOne = (text : List ℕ) (f g : Formula) → IsTextOf text f → IsTextOf text g → f ≡ g
 
+-- each text is parsed as some formula, or is refused for a reason of its own
+abbrev pub SomeAnswer : Type 0
+SomeAnswer = (text : List ℕ) → ((f : Formula) × IsParsedAs text f) ⊎ ((e : ParseRefusal) × (e ≢ refusal.NoMemory) × IsRefusedBy text e)
+
+-- a text is parsed as one formula at most
+abbrev pub ParsedOnce : Type 0
+ParsedOnce = (text : List ℕ) (f g : Formula) → IsParsedAs text f → IsParsedAs text g → f ≡ g
+
 -- what is parsed as a formula is refused by nothing but want of memory
-abbrev pub ParsedOrRefused : Type 0
-ParsedOrRefused = (text : List ℕ) (f : Formula) (e : ParseRefusal) → IsParsedAs text f → IsRefusedBy text e → e ≡ refusal.NoMemory
+abbrev pub NeverBoth : Type 0
+NeverBoth = (text : List ℕ) (f : Formula) (e : ParseRefusal) → IsParsedAs text f → IsRefusedBy text e → e ≡ refusal.NoMemory
 
 -- but for want of memory, a text is refused in one way at most
 abbrev pub RefusedOnce : Type 0

@@ -6,7 +6,7 @@ ghost use Rattle.ml_mu.specs.Formula.{Formula, Binder, Fixpoint, Least, Greatest
 ghost use Rattle.ml_mu.specs.HeadRules.{HeadOrFault, HeadsReadBack, OneHead, OneHeadFault};
 ghost use Rattle.ml_mu.specs.Meaning.{meaning};
 ghost use Rattle.ml_mu.specs.Variables.{is_positive};
-ghost use Rattle.ml_mu.specs.Parsing.{CanonicalStandsForOne, ParsedAreWellFormed, ParsedOrRefused, RefusedOnce, StandForOne};
+ghost use Rattle.ml_mu.specs.Parsing.{CanonicalStandsForOne, NeverBoth, ParsedAreWellFormed, ParsedOnce, RefusedOnce, SomeAnswer, StandForOne};
 
 /// A text stands for one formula at most, by the grammar alone.
 #[tactic(auto, using(crate::proofs::OneAnswer::one_formula))]
@@ -21,12 +21,15 @@ pub fn canonical_text()
     ensures { CanonicalStandsForOne }
 {}
 
-/// A text is parsed or refused, never both, and but for want of memory it is refused in one way at most. So `parse`
-/// answers each exactly where it is said to come.
-#[tactic(auto, using(crate::proofs::OneAnswer::parsed_or_refused, crate::proofs::OneAnswer::refused_one_way))]
+/// A text has exactly one answer but want of memory: it is parsed as one formula, or it is refused in one way.
+///
+/// `some`: one of the two comes. `parsed` and `refused`: each comes in one way at most. `exclusive`: never both come. So
+/// `parse` answers each exactly where it is said to come.
 pub fn one_answer()
-    ensures parsed { ParsedOrRefused }
+    ensures some { SomeAnswer }
+    ensures parsed { ParsedOnce }
     ensures refused { RefusedOnce }
+    ensures exclusive { NeverBoth }
 {}
 
 /// What a text is parsed as is well formed: small, with names spelled as they must be, and with bound and positive

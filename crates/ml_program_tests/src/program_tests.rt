@@ -1,7 +1,7 @@
 // The worked rows, over sources and sinks in memory.
 ghost use Rattle.std.specs.Prelude.{◌≤◌};
 
-use crate::{Status, run};
+use ml_driver::{Status, run};
 use ml_base::{MemSink, MemSource};
 use std::alloc::{AllocError, Global};
 use std::test::Fail;
