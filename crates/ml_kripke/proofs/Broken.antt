@@ -41,8 +41,11 @@ module _ (left : List ℕ) where
 
   pub missing_edge : (n : ℕ) (before : Option Edge) → Breaks (AtEdge n before) OfKind []
   missing_edge n before =
-      inl (refl, ⊎_elim (λ (end : [] ≡ codes "end" ∷ []). cc)
-      (λ (edge : IsEdged []). let apart : [] ≡ codes "edge" ∷ word [] 1 ∷ word [] 2 ∷ word [] 3 ∷ [] = edge.1 in cc))
+      inl (
+        refl,
+        ⊎_elim (λ (end : [] ≡ codes "end" ∷ []). cc)
+            (λ (edge : IsEdged []). let apart : [] ≡ codes "edge" ∷ word [] 1 ∷ word [] 2 ∷ word [] 3 ∷ [] = edge.1 in cc),
+      )
 
   -- ---- a fixed word and a number
 

@@ -18,10 +18,15 @@ use Rattle.ml_kripke.specs.declared.body_rule.BodyRule.{BodyRule}
 
 module _ (place : Place) (k : ℕ) (text : List ℕ) where
   module _ (refusal : ModelRefusal) (rule : BodyRule) (is : refusal ≡ Fault (record { line = k; rule = rule_number rule })) where
-    pub tells_missing : lines_of text ≡ [] → IsFirstBroken (rules (left_of text) place) [] (rule_number rule) → TellsFault place k text refusal
+    pub tells_missing : lines_of text ≡ []
+        → IsFirstBroken (rules (left_of text) place) [] (rule_number rule)
+        → TellsFault place k text refusal
     tells_missing none broken = subst (TellsFault place k text) (sym is) (fault_missing body k place text (rule_number rule) none broken)
 
-    pub tells_here : (line : Line) (lines : List Line) → lines_of text ≡ line ∷ lines → Breaks place line rule → TellsFault place k text refusal
+    pub tells_here : (line : Line) (lines : List Line)
+        → lines_of text ≡ line ∷ lines
+        → Breaks place line rule
+        → TellsFault place k text refusal
     tells_here line lines begins broken =
         subst (TellsFault place k text) (sym is)
         (fault_here body k place text (rule_number rule) line lines begins (broken (left_of text)))
@@ -32,7 +37,8 @@ module _ (place : Place) (k : ℕ) (text : List ℕ) where
       tells_here (Fault (record { line = k; rule = rule_number rule })) rule refl line lines begins broken
   tells_line line lines LineRefusals.NoMemory begins broken = tt
 
-  pub tells_behind : (lines : List Line) (rest : List ℕ) (j : ℕ) (at : Place) (refusal : ModelRefusal) → GoesOn text lines rest
+  pub tells_behind : (lines : List Line) (rest : List ℕ) (j : ℕ) (at : Place) (refusal : ModelRefusal)
+      → GoesOn text lines rest
       → IsReadTo (body (left_of text)) k place (lines ++ lines_of rest) j at (lines_of rest) → TellsFault at j rest refusal
       → TellsFault place k text refusal
   tells_behind lines rest j at NoMemory goes read tells = tt

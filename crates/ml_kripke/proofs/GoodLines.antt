@@ -5,18 +5,18 @@
 --   states_good, start_good, state_good, edge_good, nothing_good == what keeps all rules is such a line
 --   after_states, after_edge     == what stands behind it
 --   at_state_below, at_state_done == the line of a state, and behind the last one an edge
-use Rattle.std.proofs.Common.{◌≡◌, ℕ, ◌^◌, ◌<◌, ◌≤◌, ◌⊎◌, Bool, true, false, cond, ◌&&◌, ◌||◌, nat_lt, List, [], ◌∷◌, Option, None, Some, drop, All, codes, refl, sym, ap, subst, ◌∙◌, inl, inr, arith}
+use Rattle.std.proofs.Common.{◌≡◌, ℕ, ◌^◌, ◌<◌, ◌≤◌, ◌⊎◌, Bool, true, false, cond, ◌&&◌, nat_lt, List, [], ◌∷◌, Option, None, Some, drop, All, codes, refl, sym, ap, subst, ◌∙◌, inl, inr, arith}
 use Rattle.std.specs.List.{list_all}
 use Rattle.std.proofs.lemmas.Bool.Decides.{nat_tests}
 use Rattle.std.proofs.lemmas.List.Elements.{All-head, All-tail}
 use Rattle.ml_base.specs.declared.structure.Edge.{Edge}
-use Rattle.ml_base.specs.Name.{IsName, IsAction, is_name, is_blank_action}
+use Rattle.ml_base.specs.Name.{IsName, IsAction}
 use Rattle.ml_lines.specs.Lines.{Word, Line, number}
-use Rattle.ml_lines.specs.Reading.{AreWords, IsNumber, is_word, value, word}
+use Rattle.ml_lines.specs.Reading.{AreWords, is_word, value, word}
 use Rattle.ml_lines.proofs.Numbers.{value-number, own_value}
 use Rattle.ml_lines.proofs.WordBytes.{number-is_word}
 use Rattle.ml_lists.specs.Documents.{IsGood}
-use Rattle.ml_kripke.specs.BodyRules.{AtStates, AtStart, AtState, AtEdge, AtNothing, at_state, after, body, IsEndOr, IsEdged, HasNumbers, IsEdgeBehind, edge_of}
+use Rattle.ml_kripke.specs.BodyRules.{AtStates, AtStart, AtState, AtEdge, AtNothing, at_state, after, body, IsEdgeBehind, edge_of}
 use Rattle.ml_kripke.specs.private.BodyParts.{IsStatesLine, IsStartLine, IsStateLine, IsEdgeLine, Ascend}
 use Rattle.ml_kripke.specs.ModelText.{states_line, start_line, end_line, state_line, edge_line}
 
@@ -58,7 +58,9 @@ module _ (left : List ℕ) where
   good_start n s below fits =
       ((number_first s [] fits refl, refl), ((s, fits, refl), (omega (arith, value-number s (omega arith)), tt)))
 
-  pub start_good : (n : ℕ) (line : Line) → IsGood (body left) (AtStart n) line → IsStartLine line n (value (word line 1))
+  pub start_good : (n : ℕ) (line : Line)
+      → IsGood (body left) (AtStart n) line
+      → IsStartLine line n (value (word line 1))
   start_good n line (kind, (is_number, (below, none))) =
       let own = own_value (word line 1) is_number in
       record { is_line = kind.1 ∙ ap (λ w. codes "start" ∷ w ∷ []) own.1; is_state = below; fits = own.0 }

@@ -1,7 +1,7 @@
 -- Whether a line keeps the rules of its place in a body is decided.
 --
 --   judges   == each line is judged at each place
-use Rattle.std.proofs.Common.{◌≡◌, ℕ, ◌<◌, List, [], ◌∷◌, Option, None, Some, MatchOption, drop, codes, inl}
+use Rattle.std.proofs.Common.{◌≡◌, ℕ, List, [], ◌∷◌, Option, None, Some, MatchOption, drop, codes, inl}
 use Rattle.std.specs.Ordering.{nat_cmp}
 use Rattle.std.specs.Cmp.Lexicographic.{slice_cmp}
 use Rattle.std.specs.declared.cmp.Ordering.TheVariants.{Less}
@@ -16,7 +16,7 @@ use Rattle.ml_lists.proofs.Decided.{Decided}
 use Rattle.ml_lists.proofs.Documents.{judged}
 use Rattle.ml_kripke.specs.BodyRules.{AtStates, AtStart, AtState, AtEdge, AtNothing, body, rules, IsNumbered, IsStated, IsEdged, HasNumber, HasNumbers, HasLabels, IsEdgeBehind, IsEndOr, edge_of}
 use Rattle.ml_kripke.specs.ModelText.{end_line}
-use Rattle.ml_kripke.specs.Ordered.{edge_cmp}
+use Rattle.ml_base.specs.EdgeOrder.{edge_cmp}
 
 has_number : (line : Line) → Decided (HasNumber line)
 has_number line = decided_number (word line 1)

@@ -6,7 +6,7 @@
 --   written_parts             == the parts of a model make a body
 --   model_readable            == the text of a model is readable
 --   readable_model            == what is readable is the text of a model
-use Rattle.std.proofs.Common.{◌≡◌, ℕ, zero, ◌+◌, ◌^◌, ◌<◌, ◌≤◌, ◌⊎◌, List, [], ◌∷◌, ◌++◌, length, map, Option, None, Some, MatchOption, drop, All, inl, inr, refl, sym, ap, subst, ◌∙◌, append_assoc, arith}
+use Rattle.std.proofs.Common.{◌≡◌, ℕ, ◌+◌, ◌^◌, ◌<◌, ◌≤◌, ◌⊎◌, List, [], ◌∷◌, ◌++◌, length, map, Option, None, Some, MatchOption, drop, All, inl, inr, refl, sym, ap, subst, ◌∙◌, append_assoc, arith}
 use Rattle.std.proofs.lemmas.Bool.{cases_lt}
 use Rattle.std.proofs.lemmas.List.{append-nil}
 use Rattle.std.proofs.lemmas.List.Elements.{All-nil, All-cons, All-head, All-tail}
@@ -20,14 +20,15 @@ use Rattle.ml_lines.specs.private.Fronts.{GoesOn}
 use Rattle.ml_lines.proofs.Fronts.{HaveWords, have_words}
 use Rattle.ml_lines.proofs.WrittenLines.{lines_read, text_read}
 use Rattle.ml_lists.specs.Chains.{Above, Chain, last_of}
-use Rattle.ml_lists.specs.Documents.{IsGood, IsReadable}
+use Rattle.ml_lists.specs.Documents.{IsReadable}
 use Rattle.ml_lists.proofs.Chains.{chain_sorted, sorted_chain}
 use Rattle.ml_lists.proofs.Documents.{readable_behind}
-use Rattle.ml_kripke.specs.BodyRules.{AtStates, AtStart, AtState, AtEdge, AtNothing, at_state, after, body, edge_of, IsReadableBody}
-use Rattle.ml_kripke.specs.private.BodyParts.{AreRows, AreEdges, IsStatesLine, IsStartLine, IsStateLine, IsEdgeLine, IsWholeEnd, Ascend}
+use Rattle.ml_kripke.specs.BodyRules.{AtStates, AtStart, AtEdge, AtNothing, at_state, after, body, edge_of, IsReadableBody}
+use Rattle.ml_kripke.specs.private.BodyParts.{AreRows, AreEdges, IsEdgeLine, IsWholeEnd, Ascend}
 use Rattle.ml_kripke.specs.Laws.{IsWritten, IsModelText}
 use Rattle.ml_kripke.specs.ModelText.{states_line, start_line, state_lines, edge_line, end_line, model_lines, model_text}
-use Rattle.ml_kripke.specs.Ordered.{of_parts, IsOrdered, HasNames, edge_cmp}
+use Rattle.ml_kripke.specs.Ordered.{of_parts, IsOrdered, HasNames}
+use Rattle.ml_base.specs.EdgeOrder.{edge_cmp}
 use Rattle.ml_kripke.proofs.GoodLines.{good_states, good_start, good_end, good_nothing, states_good, start_good, state_good, edge_good, after_states, after_edge, at_state_below, at_state_done}
 use Rattle.ml_kripke.proofs.OneStructure.{edge_order}
 use Rattle.ml_kripke.proofs.OneText.{model_plain}
@@ -92,7 +93,9 @@ module _ (n : ℕ) (rows : List (List Word)) (edges : List Edge) (some : 0 < n) 
   pub parts_named : HasNames (of_parts n rows edges)
   parts_named = record { labels_named = are_rows.are_names; actions_named = edges_named n None edges are }
 
-pub parts_written : (n s : ℕ) (rows : List (List Word)) (edges : List Edge) → IsBody n s rows edges → IsWritten (of_parts n rows edges) s
+pub parts_written : (n s : ℕ) (rows : List (List Word)) (edges : List Edge)
+    → IsBody n s rows edges
+    → IsWritten (of_parts n rows edges) s
 parts_written n s rows edges parts = record {
   is_structure = parts_structure n rows edges parts.some parts.are_rows parts.are;
   has_names = parts_named n rows edges parts.some parts.are_rows parts.are;
@@ -116,7 +119,10 @@ written_parts m s ok order = record {
 }
 
 -- a text of which these are the lines, and behind which nothing is left
-text_is : (text : List ℕ) (m : Structure) (s : ℕ) → lines_of text ≡ model_lines m s → left_of text ≡ [] → text ≡ model_text m s
+text_is : (text : List ℕ) (m : Structure) (s : ℕ)
+    → lines_of text ≡ model_lines m s
+    → left_of text ≡ []
+    → text ≡ model_text m s
 text_is text m s lines none =
     sym (text_read text) ∙ ap (λ ls. text_of ls ++ left_of text) lines ∙ ap (λ left. model_text m s ++ left) none
     ∙ append-nil (model_text m s)
@@ -185,12 +191,17 @@ record Goes (left : List ℕ) (n i : ℕ) (lines : List Line) : Type 0 where
   pub none_left : left ≡ []
 
 module _ (left : List ℕ) where
-  nothing_of : (lines : List Line) → HaveWords lines → IsReadable (body left) AtNothing lines → (lines ≡ []) × (left ≡ [])
+  nothing_of : (lines : List Line)
+      → HaveWords lines
+      → IsReadable (body left) AtNothing lines
+      → (lines ≡ []) × (left ≡ [])
   nothing_of [] words readable = (refl, readable.0.1)
   nothing_of (line ∷ lines) words readable = absurd (omega (arith, words.0, ap length readable.0.0.0))
 
   module _ (n : ℕ) (fits : n < 2 ^ 32) where
-    ends_of : (lines : List Line) (before : Option Edge) → HaveWords lines → IsReadable (body left) (AtEdge n before) lines
+    ends_of : (lines : List Line) (before : Option Edge)
+        → HaveWords lines
+        → IsReadable (body left) (AtEdge n before) lines
         → Ends left n before lines
     ends_of [] before words good = go (edge_good left n before [] good)
       where
@@ -220,7 +231,11 @@ module _ (left : List ℕ) where
               none_left = rest.none_left;
             }
 
-    past_rows : (lines : List Line) (i : ℕ) → HaveWords lines → i ≡ n → IsReadable (body left) (at_state n i) lines → Goes left n i lines
+    past_rows : (lines : List Line) (i : ℕ)
+        → HaveWords lines
+        → i ≡ n
+        → IsReadable (body left) (at_state n i) lines
+        → Goes left n i lines
     past_rows lines i words is readable =
         let ends = ends_of lines None words (subst (λ p. IsReadable (body left) p lines) (at_state_done n i (omega (arith, is))) readable) in record {
           rows = [];
@@ -233,7 +248,11 @@ module _ (left : List ℕ) where
           none_left = ends.none_left;
         }
 
-    rows_of : (lines : List Line) (i : ℕ) → HaveWords lines → i ≤ n → IsReadable (body left) (at_state n i) lines → Goes left n i lines
+    rows_of : (lines : List Line) (i : ℕ)
+        → HaveWords lines
+        → i ≤ n
+        → IsReadable (body left) (at_state n i) lines
+        → Goes left n i lines
     rows_of [] i words within readable = go (cases_lt i n)
       where
         go : (i < n) ⊎ (n ≤ i) → Goes left n i []
@@ -242,7 +261,8 @@ module _ (left : List ℕ) where
         go (inr past) = past_rows [] i words (omega arith) readable
     rows_of (line ∷ lines) i words within readable = go (cases_lt i n) (rows_of lines (i + 1) words.1)
       where
-        go : (i < n) ⊎ (n ≤ i) → (i + 1 ≤ n → IsReadable (body left) (at_state n (i + 1)) lines → Goes left n (i + 1) lines)
+        go : (i < n) ⊎ (n ≤ i)
+            → (i + 1 ≤ n → IsReadable (body left) (at_state n (i + 1)) lines → Goes left n (i + 1) lines)
             → Goes left n i (line ∷ lines)
         go (inl below) others =
             let here = subst (λ p. IsReadable (body left) p (line ∷ lines)) (at_state_below n i below) readable in
@@ -271,7 +291,10 @@ record Begins (left : List ℕ) (lines : List Line) : Type 0 where
   pub lines_are : lines ≡ states_line n ∷ start_line s ∷ behind
   pub readable : IsReadable (body left) (at_state n 0) behind
 
-begins_of : (left : List ℕ) (lines : List Line) → HaveWords lines → IsReadable (body left) AtStates lines → Begins left lines
+begins_of : (left : List ℕ) (lines : List Line)
+    → HaveWords lines
+    → IsReadable (body left) AtStates lines
+    → Begins left lines
 begins_of left [] words readable = let apart = (states_good left [] readable).is_line in absurd (cc)
 begins_of left (first ∷ []) words readable =
     let apart = (start_good left (value (word first 1)) [] readable.1).is_line in absurd (cc)

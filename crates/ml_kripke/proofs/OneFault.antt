@@ -3,7 +3,7 @@
 --   fault_or_model   == never both
 --   model_or_fault   == one of the two
 --   one_fault        == a text has one first bad line at most
-use Rattle.std.proofs.Common.{ℕ, List, ⊎_elim, inl, inr}
+use Rattle.std.proofs.Common.{⊎_elim, inl, inr}
 use Rattle.ml_base.specs.declared.doc_fault.DocFault.{DocFault}
 use Rattle.ml_lines.specs.Reading.{left_of}
 use Rattle.ml_lines.proofs.Faults as text

@@ -19,7 +19,7 @@ use Rattle.ml_lines.proofs.WrittenLines.{text_read}
 use Rattle.ml_lists.specs.Chains.{last_of}
 use Rattle.ml_lists.specs.Documents.{nothing_read, line_read}
 use Rattle.ml_kripke.specs.BodyRules.{AtStates, AtStart, AtState, AtEdge, AtNothing, at_state, rule_number}
-use Rattle.ml_kripke.specs.private.BodyParts.{AreRows, AreEdges, IsWholeEnd}
+use Rattle.ml_kripke.specs.private.BodyParts.{AreRows, IsWholeEnd}
 use Rattle.ml_kripke.specs.ModelText.{states_line, start_line, state_lines, edge_line, end_line}
 use Rattle.ml_kripke.specs.private.Refusals.{TellsRule, TellsFault, at_line}
 use Rattle.ml_kripke.specs.declared.body_rule.BodyRule.TheVariants.{OfKind}
@@ -28,13 +28,16 @@ use Rattle.ml_kripke.specs.declared.read.ModelRefusal.{ModelRefusal}
 use Rattle.ml_kripke.specs.declared.read.ModelRefusal.TheVariants.{Fault}
 use Rattle.ml_kripke.proofs.Broken.{missing_state, missing_edge}
 use Rattle.ml_kripke.proofs.Faults.{tells_missing, tells_here, tells_line, tells_behind}
-use Rattle.ml_kripke.proofs.GoodLines.{good_end, at_state_below, at_state_done}
+use Rattle.ml_kripke.proofs.GoodLines.{good_end, at_state_below}
 use Rattle.ml_kripke.proofs.Parts.{AreRowsTo, AreEdgesTo, states_read, start_read, rows_read, edges_read}
 
 module _ (n k : ℕ) (told : ModelRefusal) (fits : n < 2 ^ 32) where
   -- ---- the first two lines
 
-  pub from_states : (text rest : List ℕ) → GoesOn text (states_line n ∷ []) rest → 0 < n → TellsFault (AtStart n) (k + 1) rest told
+  pub from_states : (text rest : List ℕ)
+      → GoesOn text (states_line n ∷ []) rest
+      → 0 < n
+      → TellsFault (AtStart n) (k + 1) rest told
       → TellsFault AtStates k text told
   from_states text rest goes some tells =
       tells_behind AtStates k text (states_line n ∷ []) rest (k + 1) (AtStart n) told goes
@@ -42,7 +45,9 @@ module _ (n k : ℕ) (told : ModelRefusal) (fits : n < 2 ^ 32) where
 
   -- ---- the lines of the states
 
-  pub from_rows : (i at : ℕ) (text rest : List ℕ) (rows : List (List Word)) → GoesOn text (state_lines 0 rows) rest → AreRows i rows
+  pub from_rows : (i at : ℕ) (text rest : List ℕ) (rows : List (List Word))
+      → GoesOn text (state_lines 0 rows) rest
+      → AreRows i rows
       → at ≡ k + i → i ≤ n → TellsFault (at_state n i) at rest told → TellsFault (at_state n 0) k text told
   from_rows i at text rest rows goes are at_is within tells =
       tells_behind (at_state n 0) k text (state_lines 0 rows) rest at (at_state n i) told goes
@@ -84,7 +89,9 @@ module _ (n k : ℕ) (told : ModelRefusal) (fits : n < 2 ^ 32) where
         from_edges (tells_missing (AtEdge n (last_of None edges)) at rest told OfKind is none
         (missing_edge (left_of rest) n (last_of None edges)))
 
-    pub end_refused : (behind : List ℕ) (words : Line) → lines_of rest ≡ words ∷ lines_of behind → left_of rest ≡ left_of behind
+    pub end_refused : (behind : List ℕ) (words : Line)
+        → lines_of rest ≡ words ∷ lines_of behind
+        → left_of rest ≡ left_of behind
         → length behind + 1 ≤ length rest → words ≡ end_line → TellsFault AtNothing (at + 1) behind told → TellsFault (AtEdge n None) k text told
     end_refused behind words begins left shorter is_end tells =
         let before = last_of None edges in

@@ -109,7 +109,9 @@ row_read text rows i rest behind line row so_far begins left shorter is = record
   };
 }
 
-pub rows_room : (text : List ℕ) (rows : List (List Word)) (i : ℕ) (rest : List ℕ) → AreRowsTo text rows i rest → length rest + i ≤ length text
+pub rows_room : (text : List ℕ) (rows : List (List Word)) (i : ℕ) (rest : List ℕ)
+    → AreRowsTo text rows i rest
+    → length rest + i ≤ length text
 rows_room text rows i rest so_far = omega (arith, so_far.goes.shorter, length-state_lines 0 rows, so_far.are.one_each)
 
 -- ---- so many edges

@@ -14,7 +14,7 @@
 --   IsFaultOf text first f  == f tells the first bad line of the text of a body, whose first line has this number, and
 --                            the lowest rule that it breaks
 --   IsReadableBody text   == the text has no bad line
-use Rattle.std.specs.Prelude.{ℕ, ◌+◌, ◌<◌, ◌≡◌, ◌⊎◌, ⊤, Bool, nat_lt, List, [], ◌∷◌, Option, None, Some, MatchOption, drop, All, codes, if◌then◌else◌}
+use Rattle.std.specs.Prelude.{ℕ, ◌+◌, ◌<◌, ◌≡◌, ◌⊎◌, ⊤, nat_lt, List, [], ◌∷◌, Option, None, Some, MatchOption, drop, All, codes, if◌then◌else◌}
 use Rattle.std.specs.List.Sorted.{IsStrictlySortedBy}
 use Rattle.std.specs.Ordering.{nat_cmp}
 use Rattle.std.specs.declared.cmp.Ordering.TheVariants.{Less}
@@ -27,7 +27,7 @@ use Rattle.ml_lines.specs.Faults.{IsFault}
 use Rattle.ml_lines.specs.Lines.{Word, Line}
 use Rattle.ml_lines.specs.Reading.{AreWords, IsNumber, value, word, lines_of, left_of}
 use Rattle.ml_lists.specs.Documents.{Format, Rule, rule, IsReadable}
-use Rattle.ml_kripke.specs.Ordered.{edge_cmp}
+use Rattle.ml_base.specs.EdgeOrder.{edge_cmp}
 use Rattle.ml_kripke.specs.declared.body_rule.BodyRule.{BodyRule}
 use Rattle.ml_kripke.specs.declared.body_rule.BodyRule.TheVariants.{OfKind, Numbers, HasStates, StartInRange, NextState, Labels, Edges}
 

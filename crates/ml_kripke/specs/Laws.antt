@@ -20,7 +20,8 @@ use Rattle.ml_kripke.specs.ModelText.{model_text}
 
 pub record HasSame (m n : Structure) : Type 0 where
   pub states_same : m.states ≡ n.states
-  pub labels_same : (s : ℕ) (p : List ℕ) → Contains (slice_index_or m.labels s []) p ↔ Contains (slice_index_or n.labels s []) p
+  pub labels_same : (s : ℕ) (p : List ℕ)
+      → Contains (slice_index_or m.labels s []) p ↔ Contains (slice_index_or n.labels s []) p
   pub edges_same : (e : Edge) → Contains m.edges e ↔ Contains n.edges e
 
 abbrev pub OneStructure : Type 0

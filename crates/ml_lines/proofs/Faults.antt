@@ -6,7 +6,7 @@
 --   one_fault                  == a text has one first bad line at most
 --   readable_no_fault          == and none where its lines are readable
 --   readable_or_fault          == where each line is judged, the text is readable or has a first bad line
-use Rattle.std.proofs.Common.{◌≡◌, ℕ, ◌⊎◌, List, [], ◌∷◌, ◌++◌, inl, inr, refl, sym, subst, ⊎_elim}
+use Rattle.std.proofs.Common.{◌≡◌, ℕ, ◌⊎◌, List, [], ◌∷◌, ◌++◌, inl, inr, refl, sym, subst}
 use Rattle.ml_base.specs.declared.doc_fault.DocFault.{DocFault}
 use Rattle.ml_lines.specs.Lines.{Line}
 use Rattle.ml_lines.specs.Reading.{lines_of, left_of}
@@ -19,7 +19,9 @@ module _ {Place : Type 0} (F : List ℕ → Format Line Place) (k : ℕ) (place 
   abbrev here : Format Line Place
   here = F (left_of text)
 
-  pub fault_here : (r : ℕ) (line : Line) (lines : List Line) → lines_of text ≡ line ∷ lines → IsFirstBroken (here.rules place) line r
+  pub fault_here : (r : ℕ) (line : Line) (lines : List Line)
+      → lines_of text ≡ line ∷ lines
+      → IsFirstBroken (here.rules place) line r
       → IsFault F k place text (record { line = k; rule = r })
   fault_here r line lines begins broken = subst (λ ls. IsFirstBad here k place ls k r) (sym begins) (inl (refl, broken))
 
@@ -27,7 +29,8 @@ module _ {Place : Type 0} (F : List ℕ → Format Line Place) (k : ℕ) (place 
       → IsFault F k place text (record { line = k; rule = r })
   fault_missing r none broken = subst (λ ls. IsFirstBad here k place ls k r) (sym none) (refl, broken)
 
-  pub fault_behind : (lines : List Line) (rest : List ℕ) (j : ℕ) (at : Place) (fault : DocFault) → GoesOn text lines rest
+  pub fault_behind : (lines : List Line) (rest : List ℕ) (j : ℕ) (at : Place) (fault : DocFault)
+      → GoesOn text lines rest
       → IsReadTo here k place (lines ++ lines_of rest) j at (lines_of rest) → IsFault F j at rest fault → IsFault F k place text fault
   fault_behind lines rest j at fault goes read found =
       let behind : IsFirstBad here j at (lines_of rest) fault.line fault.rule =
@@ -43,7 +46,8 @@ module _ {Place : Type 0} (F : List ℕ → Format Line Place) (k : ℕ) (place 
   pub readable_no_fault : (fault : DocFault) → IsReadable here place (lines_of text) → IsFault F k place text fault → ⊥
   readable_no_fault fault readable found = readable_no_bad here k place (lines_of text) fault.line fault.rule readable found
 
-  pub readable_or_fault : Judges here → IsReadable here place (lines_of text) ⊎ ((fault : DocFault) × IsFault F k place text fault)
+  pub readable_or_fault : Judges here
+      → IsReadable here place (lines_of text) ⊎ ((fault : DocFault) × IsFault F k place text fault)
   readable_or_fault judges = go (readable_or_bad here judges k place (lines_of text))
     where
       go : IsReadable here place (lines_of text) ⊎ ((bad : ℕ) × (r : ℕ) × IsFirstBad here k place (lines_of text) bad r)

@@ -15,7 +15,8 @@ use Rattle.ml_lines.proofs.Cuts.{some_part}
 pub goes_begin : (text : List ℕ) → GoesOn text [] text
 goes_begin text = record { lines_are = refl; left_is = refl; shorter = omega arith }
 
-pub goes_on : (text : List ℕ) (lines : List Line) (rest : List ℕ) (line : Line) (behind : List ℕ) → GoesOn text lines rest
+pub goes_on : (text : List ℕ) (lines : List Line) (rest : List ℕ) (line : Line) (behind : List ℕ)
+    → GoesOn text lines rest
     → lines_of rest ≡ line ∷ lines_of behind → left_of rest ≡ left_of behind → length behind + 1 ≤ length rest
     → GoesOn text (lines ++ line ∷ []) behind
 goes_on text lines rest line behind so_far begins left shorter = record {

@@ -32,7 +32,10 @@ own_value w (n, fits, is) =
 pub digits-number : (n : ℕ) → n < 2 ^ 64 → all_ascii_digits (number n) ≡ true
 digits-number n fits = digits_decimal own n fits
 
-pub number-value : (word : Word) → all_ascii_digits word ≡ true → 0 < length word → (get_or word 0 0 ≡ 48 → length word ≡ 1)
+pub number-value : (word : Word)
+    → all_ascii_digits word ≡ true
+    → 0 < length word
+    → (get_or word 0 0 ≡ 48 → length word ≡ 1)
     → value word < 2 ^ 32 → word ≡ number (value word)
 number-value word digits some no_zero small = sym (decimal-digits_value own word digits some no_zero (omega arith))
 

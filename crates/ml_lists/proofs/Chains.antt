@@ -29,7 +29,9 @@ module _ {K : Type 0} (R : K → K → Ordering) where
   chain_push before [] y chain above = (above, tt)
   chain_push before (x ∷ xs) y chain above = (chain.0, chain_push (Some x) xs y chain.1 above)
 
-  pub chain_at : (before : Option K) (xs : List K) (y : K) (ys : List K) → Chain R before (xs ++ y ∷ ys) → Above R (last_of before xs) y
+  pub chain_at : (before : Option K) (xs : List K) (y : K) (ys : List K)
+      → Chain R before (xs ++ y ∷ ys)
+      → Above R (last_of before xs) y
   chain_at before [] y ys chain = chain.0
   chain_at before (x ∷ xs) y ys chain = chain_at (Some x) xs y ys chain.1
 
@@ -38,7 +40,11 @@ module _ {K : Type 0} (R : K → K → Ordering) where
   above_all order b x [] below all = tt
   above_all order b x (y ∷ ys) below all = (order.trans b x y below all.0, above_all order b x ys below all.1)
 
-  behind_all : IsTotalOrder R → (b : K) (xs : List K) → Chain R (Some b) xs → IsStrictlySortedBy R xs → AllByRecursion (λ y. R b y ≡ Less) xs
+  behind_all : IsTotalOrder R
+      → (b : K) (xs : List K)
+      → Chain R (Some b) xs
+      → IsStrictlySortedBy R xs
+      → AllByRecursion (λ y. R b y ≡ Less) xs
   unfolding IsStrictlySortedBy
   behind_all order b [] chain ascends = tt
   behind_all order b (x ∷ xs) chain ascends = (chain.0, above_all order b x xs chain.0 ascends.0)
@@ -49,7 +55,10 @@ module _ {K : Type 0} (R : K → K → Ordering) where
   chain_sorted order before (x ∷ xs) chain =
       let rest = chain_sorted order (Some x) xs chain.1 in (behind_all order x xs chain.1 rest, rest)
 
-  pub sorted_behind : (b : K) (xs : List K) → AllByRecursion (λ y. R b y ≡ Less) xs → IsStrictlySortedBy R xs → Chain R (Some b) xs
+  pub sorted_behind : (b : K) (xs : List K)
+      → AllByRecursion (λ y. R b y ≡ Less) xs
+      → IsStrictlySortedBy R xs
+      → Chain R (Some b) xs
   unfolding IsStrictlySortedBy
   sorted_behind b [] all ascends = tt
   sorted_behind b (x ∷ xs) all ascends = (all.0, sorted_behind x xs ascends.0 ascends.1)

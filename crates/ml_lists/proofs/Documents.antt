@@ -9,7 +9,7 @@
 --   read_on                       == lines that were read, and of their rest further ones
 use Rattle.std.proofs.Common.{◌≡◌, ℕ, ◌+◌, ◌⊎◌, List, [], ◌∷◌, inl, inr, refl, sym, ◌∙◌}
 use Rattle.ml_lists.proofs.Decided.{Decided}
-use Rattle.ml_lists.specs.Documents.{Rule, Format, KeepsAll, IsFirstBroken, IsJudged, IsGood, IsReadable, IsFirstBad, Judges, IsReadTo, nothing_read, line_read}
+use Rattle.ml_lists.specs.Documents.{Rule, Format, KeepsAll, IsFirstBroken, IsJudged, IsReadable, IsFirstBad, Judges, IsReadTo, nothing_read, line_read}
 
 -- ---- the rules of a place
 
@@ -19,7 +19,10 @@ module _ {Line : Type 0} (line : Line) where
   kept_not_broken (first ∷ others) r keeps (inl here) = here.1 keeps.0
   kept_not_broken (first ∷ others) r keeps (inr later) = kept_not_broken others r keeps.1 later.1
 
-  pub one_broken : (rules : List (Rule Line)) (r s : ℕ) → IsFirstBroken rules line r → IsFirstBroken rules line s → r ≡ s
+  pub one_broken : (rules : List (Rule Line)) (r s : ℕ)
+      → IsFirstBroken rules line r
+      → IsFirstBroken rules line s
+      → r ≡ s
   one_broken [] r s x y = absurd x
   one_broken (first ∷ others) r s (inl x) (inl y) = x.0 ∙ sym y.0
   one_broken (first ∷ others) r s (inl x) (inr y) = absurd (x.1 y.0)
@@ -47,7 +50,8 @@ module _ {Line Place : Type 0} (F : Format Line Place) where
       → IsReadable F place lines ⊎ ((bad : ℕ) × (r : ℕ) × IsFirstBad F k place lines bad r)
   readable_or_bad judges k place [] = go (judges place F.missing)
     where
-      go : IsJudged (F.rules place) F.missing → IsReadable F place [] ⊎ ((bad : ℕ) × (r : ℕ) × IsFirstBad F k place [] bad r)
+      go : IsJudged (F.rules place) F.missing
+          → IsReadable F place [] ⊎ ((bad : ℕ) × (r : ℕ) × IsFirstBad F k place [] bad r)
       go (inl good) = inl good
       go (inr (r, broken)) = inr (k, r, (refl, broken))
   readable_or_bad judges k place (line ∷ lines) =
@@ -84,13 +88,16 @@ module _ {Line Place : Type 0} (F : Format Line Place) where
     bad_behind j at rest bad r (line_read i here line more before good) found =
         bad_behind i here (line ∷ more) bad r before (inr (good, found))
 
-    pub readable_behind : (j : ℕ) (at : Place) (rest : List Line) → IsReadTo F k place lines j at rest → IsReadable F at rest
+    pub readable_behind : (j : ℕ) (at : Place) (rest : List Line)
+        → IsReadTo F k place lines j at rest
+        → IsReadable F at rest
         → IsReadable F place lines
     readable_behind j at rest nothing_read readable = readable
     readable_behind j at rest (line_read i here line more before good) readable =
         readable_behind i here (line ∷ more) before (good, readable)
 
-    pub read_on : (j : ℕ) (at : Place) (rest : List Line) (i : ℕ) (q : Place) (last : List Line) → IsReadTo F k place lines j at rest
+    pub read_on : (j : ℕ) (at : Place) (rest : List Line) (i : ℕ) (q : Place) (last : List Line)
+        → IsReadTo F k place lines j at rest
         → IsReadTo F j at rest i q last → IsReadTo F k place lines i q last
     read_on j at rest i q last before nothing_read = before
     read_on j at rest i q last before (line_read h here line more further good) =

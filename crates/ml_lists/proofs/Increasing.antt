@@ -9,7 +9,7 @@
 --   ascends_with       == a number in the middle, above what stands before it and below what stands behind
 --   ascends_merge      == of two lists with one front, the lesser head goes to the front of both
 --   increasing_of_ascending, ascending_of_increasing  == the same as `IsAscending`
-use Rattle.std.proofs.Common.{◌≡◌, ℕ, ◌<◌, List, [], ◌∷◌, ◌++◌, Contains, refl, sym, subst, inl, inr, append_assoc, arith}
+use Rattle.std.proofs.Common.{◌≡◌, ℕ, ◌<◌, List, [], ◌∷◌, ◌++◌, refl, sym, subst, inl, inr, append_assoc, arith}
 use Rattle.std.specs.List.{AllByRecursion}
 use Rattle.std.specs.List.Sorted.{IsStrictlySortedBy, IsStrictlyIncreasing}
 use Rattle.std.specs.Ordering.{nat_cmp}
@@ -19,7 +19,6 @@ use Rattle.std.proofs.lemmas.Cmp.{ranked}
 use Rattle.std.proofs.lemmas.Map.Keys.{IsStrictlyIncreasing-from_sorted, sorted_from_strictly_increasing}
 use Rattle.ml_lists.specs.Ascending.{IsAscending}
 use Rattle.ml_lists.specs.Member.{IsMember}
-use Rattle.ml_lists.proofs.Members.{contains_head, contains_later, contains_cases, contains_none}
 
 abbrev pub Above : ℕ → List ℕ → Type 0
 Above x [] = Unit {0}

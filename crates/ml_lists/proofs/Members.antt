@@ -44,7 +44,9 @@ contains_without front x back q inside =
     (contains_cases x back q after))
     (Contains-append_cases front (x ∷ back) q inside)
 
-pub contains_with : {X : Type 0} (front : List X) (x : X) (back : List X) (q : X) → Contains (front ++ back) q → Contains (front ++ x ∷ back) q
+pub contains_with : {X : Type 0} (front : List X) (x : X) (back : List X) (q : X)
+    → Contains (front ++ back) q
+    → Contains (front ++ x ∷ back) q
 contains_with front x back q inside =
     ⊎_elim
     (λ (before : Contains front q). Contains-append_left front (x ∷ back) q before)
@@ -60,10 +62,16 @@ contains_of_member x [] inside = absurd inside
 contains_of_member x (y ∷ ys) (inl is) = subst (λ z. Contains (z ∷ ys) x) is (contains_head x ys)
 contains_of_member x (y ∷ ys) (inr later) = contains_later y ys x (contains_of_member x ys later)
 
-pub All-of_members : {X : Type 0} (P : X → Type 0) (xs ys : List X) → ((x : X) → Contains ys x → Contains xs x) → All P xs → All P ys
+pub All-of_members : {X : Type 0} (P : X → Type 0) (xs ys : List X)
+    → ((x : X) → Contains ys x → Contains xs x)
+    → All P xs
+    → All P ys
 All-of_members P xs ys within all = λ k d below. All-contains P xs (get_or ys k d) all (within (get_or ys k d) (Contains-get_or ys k d below))
 
-pub All-more_read : {X : Type 0} (P : X → Type 0) (xs : List X) (i : ℕ) (x : X) → i < length xs → x ≡ get_or xs i x → P x
+pub All-more_read : {X : Type 0} (P : X → Type 0) (xs : List X) (i : ℕ) (x : X)
+    → i < length xs
+    → x ≡ get_or xs i x
+    → P x
     → All P (take i xs) → All P (take (i + 1) xs)
 All-more_read P xs i x here is holds so_far = All-more P xs i x here so_far (subst P is holds)
 

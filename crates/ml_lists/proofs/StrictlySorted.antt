@@ -30,7 +30,10 @@ module _ {K : Type 0} (R : K → K → Ordering) (order : IsTotalOrder R) (exact
       let greater : R x y ≡ Greater = turned ∙ ap ordering_reverse above in cc)
       (contains_cases y ys x h)
 
-  heads : (x y : K) (xs ys : List K) → IsStrictlySortedBy R (x ∷ xs) → IsStrictlySortedBy R (y ∷ ys) → Contains (y ∷ ys) x
+  heads : (x y : K) (xs ys : List K)
+      → IsStrictlySortedBy R (x ∷ xs)
+      → IsStrictlySortedBy R (y ∷ ys)
+      → Contains (y ∷ ys) x
       → Contains (x ∷ xs) y → (o : Ordering) → R x y ≡ o → x ≡ y
   heads x y xs ys up_x up_y x_in y_in Less e = absurd (not_less x y ys up_y x_in e)
   heads x y xs ys up_x up_y x_in y_in Equal e = exact x y e

@@ -65,5 +65,7 @@ module _ {Line Place : Type 0} (F : Format Line Place) where
 
   pub data IsReadTo (k : ℕ) (place : Place) (lines : List Line) : ℕ → Place → List Line → Type 0 where
     nothing_read : IsReadTo k place lines k place lines
-    line_read : (j : ℕ) (at : Place) (line : Line) (rest : List Line) → IsReadTo k place lines j at (line ∷ rest) → IsGood at line
+    line_read : (j : ℕ) (at : Place) (line : Line) (rest : List Line)
+        → IsReadTo k place lines j at (line ∷ rest)
+        → IsGood at line
         → IsReadTo k place lines (j + 1) (F.after at line) rest

@@ -1,4 +1,4 @@
-use Rattle.std.proofs.Common.{IfErr, Err, subst}
+use Rattle.std.proofs.Common.{IfErr, subst}
 use Rattle.ml_kripke.specs.BodyRules.{AtStates}
 use Rattle.ml_kripke.specs.private.Refusals.{TellsFault}
 use Rattle.ml_kripke.proofs.OneFault.{fault_or_model}

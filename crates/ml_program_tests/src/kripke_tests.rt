@@ -1,7 +1,7 @@
-// Models read from their texts, and texts that are no model's.
-use crate::{ModelRefusal, read_model, write_model};
-use ml_base::DocFault;
-use ml_lines::{four_words, more_words, one_word, split_line};
+// Structures built, models read from their texts, and texts that are no model's.
+use ml_base::{Action, DocFault, Edge, Name};
+use ml_kripke::{Model, ModelRefusal, Structure, StructureRefusal, read_model, write_model};
+use std::alloc::Global;
 use std::test::Fail;
 
 #[test]
@@ -18,30 +18,16 @@ fn what_is_written_is_read(rt: HostRuntime) -> Result<(), Fail> {
     Ok(())
 }
 
-#[test]
-fn a_line_and_its_words(rt: HostRuntime) -> Result<(), Fail> {
-    let (line, rest) = split_line(b"edge 0 _ 1\nend").ok_or("a line")?;
-    assert_eq!(rt; rest, b"end".as_slice());
-    let (first, source, action, target) = four_words(line).ok_or("four words")?;
-    assert_eq!(rt; first, b"edge".as_slice());
-    assert_eq!(rt; source, b"0".as_slice());
-    assert_eq!(rt; action, b"_".as_slice());
-    assert_eq!(rt; target, b"1".as_slice());
-    let (_, behind) = more_words(line).ok_or("more words")?;
-    assert_eq!(rt; behind, b"0 _ 1".as_slice());
-    assert!(rt; one_word(rest).is_some());
-    assert!(rt; split_line(rest).is_none());
-    Ok(())
-}
-
 // texts that are no model's, with the first bad line and its rule; the first line has the number 6
-const BROKEN: [(&'static [u8], u64, u32); 33] = [
+const BROKEN: [(&'static [u8], u64, u32); 40] = [
     (b"", 6, 11),
     (b"states 1", 6, 11),
     (b"states 4294967295\n", 7, 11),
     (b"states  1\n", 6, 11),
     (b"states 1 \n", 6, 11),
-    (b"states 1\r\n", 6, 11),
+    (b"states 1\r\n", 6, 12),
+    (b"states\r 1\n", 6, 11),
+    (b"states\t1\n", 6, 11),
     (b"states\n", 6, 11),
     (b"state 0\n", 6, 11),
     (b"states 01\n", 6, 12),
@@ -56,6 +42,9 @@ const BROKEN: [(&'static [u8], u64, u32); 33] = [
     (b"states 1\nstart 0\nstate 1\n", 8, 15),
     (b"states 1\nstart 0\nstate 01\n", 8, 12),
     (b"states 1\nstart 0\nstate 0 1\n", 8, 16),
+    (b"states 1\nstart 0\nstate 1\r p\n", 8, 12),
+    (b"states 1\nstart 0\nstate 0\tp\n", 8, 12),
+    (b"states 1\nstart 0\nstate 0 p\r\n", 8, 16),
     (b"states 1\nstart 0\nstate 0 q p\n", 8, 16),
     (b"states 1\nstart 0\nstate 0 p p\n", 8, 16),
     (b"states 1\nstart 0\nstate 1 q p\n", 8, 15),
@@ -63,6 +52,8 @@ const BROKEN: [(&'static [u8], u64, u32); 33] = [
     (b"states 2\nstart 0\nstate 0\nend\n", 9, 11),
     (b"states 1\nstart 0\nstate 0\nedge 0 _ 1\nend\n", 9, 17),
     (b"states 1\nstart 0\nstate 0\nedge 0 1 0\nend\n", 9, 17),
+    (b"states 1\nstart 0\nstate 0\nedge 0 a\r 0\nend\n", 9, 17),
+    (b"states 1\nstart 0\nstate 0\nend\r\n", 9, 11),
     (b"states 1\nstart 0\nstate 0\nedge 00 _ 0\nend\n", 9, 12),
     (b"states 1\nstart 0\nstate 0\nedge 0 _\nend\n", 9, 11),
     (
@@ -90,5 +81,57 @@ fn broken_texts(rt: HostRuntime) -> Result<(), Fail> {
             _ => assert!(rt; false),
         }
     }
+    Ok(())
+}
+
+fn edge(alloc: Global, source: u32, action: &[u8], target: u32) -> Result<Edge, Fail> {
+    let action = Action::new(alloc, action)?;
+    Ok(Edge {
+        source,
+        action,
+        target,
+    })
+}
+
+#[test]
+fn refusals(rt: HostRuntime) -> Result<(), Fail> {
+    let alloc = rt.alloc();
+    let none = Structure::build(alloc, 0, Vec::new(alloc), Vec::new(alloc));
+    assert!(rt; matches!(none, Err(StructureRefusal::NoStates)));
+    let edges = vec![in alloc; edge(alloc, 0, b"_", 1)?]?;
+    let beyond = Structure::build(alloc, 1, Vec::new(alloc), edges);
+    assert!(rt; matches!(beyond, Err(StructureRefusal::StateOutOfRange(1))));
+    Ok(())
+}
+
+#[test]
+fn a_structure_in_any_order_and_its_text(rt: HostRuntime) -> Result<(), Fail> {
+    let alloc = rt.alloc();
+    let p = Name::new(alloc, b"p")?;
+    let labels = vec![in alloc;
+        (1, Name::new(alloc, b"q")?),
+        (0, p.copy()?),
+        (1, p.copy()?),
+        (1, p.copy()?),
+    ]?;
+    let edges = vec![in alloc;
+        edge(alloc, 1, b"b", 0)?,
+        edge(alloc, 0, b"_", 1)?,
+        edge(alloc, 1, b"a", 1)?,
+        edge(alloc, 1, b"b", 0)?,
+    ]?;
+    let structure = Structure::build(alloc, 2, labels, edges)?;
+    assert_eq!(rt; structure.states(), 2);
+    assert_eq!(rt; structure.edge_count(), 3);
+    assert_eq!(rt; structure.edge_at(0).target, 1);
+    assert!(rt; structure.has_label(1, &p));
+    let blank = Action::new(alloc, b"_")?;
+    assert_eq!(rt; structure.dead_state(&blank), Some(1));
+    assert!(rt; !structure.is_total(&blank));
+    let text = write_model(alloc, &Model::new(structure, 1))?;
+    assert_eq!(rt;
+        text.as_slice(),
+        b"states 2\nstart 1\nstate 0 p\nstate 1 p q\nedge 0 _ 1\nedge 1 a 1\nedge 1 b 0\nend\n".as_slice()
+    );
     Ok(())
 }
