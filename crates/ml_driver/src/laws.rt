@@ -7,7 +7,7 @@ pub fn one_due()
     ensures { OneDue }
 {}
 
-/// A document that `decide mu` writes with a structure is one of which `check-model` answers that its problem holds.
+/// A document that `decide mu` wrote with a structure is one of which `check-model` answers that its problem holds.
 pub fn decided_are_checked()
     ensures { DecidedAreChecked }
 {}

@@ -48,3 +48,5 @@ pub mod Tables
 pub mod StrictlySorted
 -- lists in which each element is above the one before it
 pub mod Chains
+-- lists in another order
+pub mod Permuted

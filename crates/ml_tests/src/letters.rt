@@ -6,12 +6,23 @@ use crate::numbers::Numbers;
 use ml_trace::{Letter, Transition};
 use std::alloc::Global;
 
+// The letter of the transitions.
+#[tactic(auto, using(std::proofs::lemmas::List::Sorted::length_permutation))]
+fn letter(all: Vec<Transition>) -> Result<Letter, NotMade>
+    ensures { IfOk result (λ letter. length letter ≡ length all.items) }
+{
+    match Letter::new(all) {
+        Some(letter) => Ok(letter),
+        None => Err(NotMade::TooLarge),
+    }
+}
+
 /// A letter of so many random transitions between states below a bound, of which one in four is accepting.
 ///
 /// # Errors
 /// `NoMemory`, and `TooLarge` only where there are more than 2^30 states.
 ///
-/// Linear in the letter.
+/// Cost: that of sorting the letter.
 pub fn random_letter(
     alloc: Global,
     numbers: &mut Numbers,
@@ -29,7 +40,7 @@ pub fn random_letter(
             accepting: numbers.below(4) == 0,
         })?;
     }
-    Letter::new(all).ok_or(NotMade::TooLarge)
+    letter(all)
 }
 
 /// The letter that leads each of so many states to itself, and, accepting, to the next one: each step along it from the
@@ -38,7 +49,7 @@ pub fn random_letter(
 /// # Errors
 /// `NoMemory`, and `TooLarge` only where there are more than 2^30 states.
 ///
-/// Linear in the letter.
+/// Cost: that of sorting the letter.
 pub fn deep_letter(alloc: Global, states: u32) -> Result<Letter, NotMade>
     ensures { IfOk result (λ letter. length letter ≡ states + (states - 1)) }
 {
@@ -57,5 +68,5 @@ pub fn deep_letter(alloc: Global, states: u32) -> Result<Letter, NotMade>
             })?;
         }
     }
-    Letter::new(all).ok_or(NotMade::TooLarge)
+    letter(all)
 }

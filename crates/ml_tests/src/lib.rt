@@ -15,6 +15,8 @@ pub mod not_made;
 pub mod numbers;
 #[cfg(test)]
 mod tests;
+#[cfg(test)]
+mod trace_tests;
 
 pub use games::{SMALL_GAMES, ladder, random_game, small_game};
 pub use graphs::{chain, random_blocks, slow_row};

@@ -6,19 +6,22 @@
 --   gives-moves          == each transition that a triple gives is made for it
 --   moves_of-letter      == the transitions of all triples are the letter of the traces
 --   moves_of-small       == their ends are below 2^30
---   all_moves-letter, all_moves-small == the same, of a list that was made behind the last triple
+--   all_moves-small      == their ends are small, of a list that was made behind the last triple
+--   all_moves-letter     == and they are the letter of the traces, in whatever order
 use Rattle.std.proofs.Common.{ℕ, zero, suc, ◌≡◌, ◌+◌, ◌*◌, ◌^◌, ◌<◌, ◌≤◌, ◌⊎◌, inl, inr, arith, Bool, true, false, leb, eqb, Option, Some, None, List, [], ◌∷◌, ◌++◌, length, get_or, refl, sym, subst, ap, ◌∙◌, append_assoc, append-nil}
 use Rattle.std.proofs.lemmas.Bool.{cases_Bool, cases_lt, cond-true, cond-false, leb-true, le-leb, eq-eqb, ne_eqb}
 use Rattle.std.proofs.lemmas.List.Sums.{position_or_len_is}
 use Rattle.std.specs.List.{position_or_len}
+use Rattle.std.specs.List.Sorted.{IsPermutation}
 use Rattle.ml_lists.specs.Ascending.{IsAscending}
 use Rattle.ml_lists.specs.Member.{IsMember}
 use Rattle.ml_lists.proofs.Ascending.{ascending-apart}
+use Rattle.ml_lists.proofs.Permuted.{same_members}
 use Rattle.ml_lists.proofs.Member.{member-append, member-append_left, member-append_right, member-place, place-member, All-member, member-All}
 use Rattle.ml_trace.specs.declared.letters.Transition.{Transition}
 use Rattle.ml_trace.specs.declared.letters.Triple.{Triple}
 use Rattle.ml_trace.specs.Automaton.{states_per_node, guess_place, Leads, Gives, IsLetterOf, HasRoom, AllHaveRoom, HasSmallEnds}
-use Rattle.ml_trace.specs.LetterMoves.{plain, move_at, moves_below, moves, moves_of}
+use Rattle.ml_trace.specs.private.LetterMoves.{plain, move_at, moves_below, moves, moves_of}
 
 -- no triple
 pub moves_of-none : (odds : List ℕ) (ts : List Triple) → moves_of odds ts 0 ≡ []
@@ -198,12 +201,18 @@ moves_of-small odds a ts room = member-All SmallEnds (moves_of odds ts (length t
 
 -- ---- after the last triple
 
--- the transitions that were made behind the last triple are the letter
-pub all_moves-letter : (odds : List ℕ) → IsAscending odds → (ts : List Triple) (made : List Transition) (n : ℕ) → n ≡ length ts → made ≡ moves_of odds ts n → IsLetterOf odds ts made
-all_moves-letter odds a ts made n last is =
-    subst (IsLetterOf odds ts) (sym (is ∙ ap (moves_of odds ts) last)) (moves_of-letter odds a ts)
-
--- and their ends are small
-pub all_moves-small : (odds : List ℕ) → IsAscending odds → (ts : List Triple) → AllHaveRoom odds ts → (made : List Transition) (n : ℕ) → n ≡ length ts → made ≡ moves_of odds ts n → HasSmallEnds made
+-- the ends of the transitions that were made behind the last triple are small
+pub all_moves-small : (odds : List ℕ) → IsAscending odds → (ts : List Triple) → AllHaveRoom odds ts
+    → (made : List Transition) (n : ℕ) → n ≡ length ts → made ≡ moves_of odds ts n
+    → HasSmallEnds made
 all_moves-small odds a ts room made n last is =
     subst HasSmallEnds (sym (is ∙ ap (moves_of odds ts) last)) (moves_of-small odds a ts room)
+
+-- and they are the letter of the traces, in whatever order
+pub all_moves-letter : (odds : List ℕ) → IsAscending odds → (ts : List Triple)
+    → (made letter : List Transition) (n : ℕ) → n ≡ length ts → made ≡ moves_of odds ts n → IsPermutation made letter
+    → IsLetterOf odds ts letter
+all_moves-letter odds a ts made letter n last is moved m =
+    let from_traces = subst (IsLetterOf odds ts) (sym (is ∙ ap (moves_of odds ts) last)) (moves_of-letter odds a ts) m in
+    let kept = same_members m made letter moved in
+    (λ i. from_traces.0 (kept.0 i), λ g. kept.1 (from_traces.1 g))

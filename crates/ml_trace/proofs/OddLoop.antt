@@ -2,7 +2,8 @@
 --
 -- The lowest mark of the loop is Green x. Then x is in use all along the loop, and the loop gone twice has two steps
 -- that are Green x: each item that has x comes, along the loop twice, from an item that has x, by an accepting run.
--- Items that have x are finitely many, so some comes from itself.
+-- Items that have x where the loop begins are finitely many, and there is one, since each name in use stands in some
+-- item there: so some comes from itself.
 --
 --   path-append    == a path and a further one
 --   greens-append  == the greens of both

@@ -17,8 +17,11 @@
 --   IsLetterOf odds traces letter  == the letter has exactly the transitions that some triple of the traces gives
 --   HasRoom odds n                 == all states of the node n have numbers below 2^30
 --   HasSmallEnds letter            == all ends of transitions are below 2^30
+--   RiseByTarget letter            == the targets of its transitions do not descend
+--   IsLetter letter                == what the program's letters keep: small ends, and targets that do not descend
 use Rattle.std.specs.Prelude.{◌≡◌, ◌↔◌, ℕ, zero, suc, ◌+◌, ◌*◌, ◌/◌, ◌%◌, ◌^◌, ◌<◌, ◌≤◌, Bool, false, ◌==◌, Option, Some, None, List, length, slice_get, All}
 use Rattle.std.specs.List.{position_or_len}
+use Rattle.std.specs.List.Sorted.{IsNonDecreasingBy}
 use Rattle.ml_lists.specs.Ascending.{IsAscending}
 use Rattle.ml_lists.specs.Member.{IsMember}
 use Rattle.ml_trace.specs.declared.letters.AutomatonState.{AutomatonState}
@@ -84,7 +87,7 @@ pub record Gives (odds : List ℕ) (t : Triple) (m : Transition) : Type 0 where
 abbrev pub IsLetterOf : List ℕ → List Triple → List Transition → Type 0
 IsLetterOf odds traces letter = (m : Transition) → IsMember m letter ↔ ((t : Triple) × IsMember t traces × Gives odds t m)
 
--- ---- bounds
+-- ---- letters that a program holds
 
 -- all states of the node have numbers below 2^30
 abbrev pub HasRoom : List ℕ → ℕ → Type 0
@@ -97,3 +100,12 @@ AllHaveRoom odds traces = All (λ (t : Triple). HasRoom odds t.from × HasRoom o
 -- all ends of transitions are below 2^30
 abbrev pub HasSmallEnds : List Transition → Type 0
 HasSmallEnds letter = All (λ (m : Transition). (m.from < 2 ^ 30) × (m.to < 2 ^ 30)) letter
+
+-- the targets do not descend
+abbrev pub RiseByTarget : List Transition → Type 0
+RiseByTarget letter = IsNonDecreasingBy (λ (m : Transition). m.to) letter
+
+-- what the program's letters keep
+pub record IsLetter (letter : List Transition) : Type 0 where
+  pub small_ends : HasSmallEnds letter
+  pub by_target : RiseByTarget letter

@@ -1,9 +1,10 @@
 -- Loops of marked steps.
 --
 -- A path is a list of steps, each with a letter and a mark, of which each satisfies the condition on names from one
--- entry to the next. On a loop with a lowest mark that is green, the green name is traced round the loop for ever,
--- and is green again and again: so some state has a run to itself that accepts. The condition asks nothing of how
--- entries and marks were made.
+-- entry to the next. A loop leads from an entry back to it. Let each name in use stand in some item of this entry. If
+-- the lowest mark of the loop is green, the green name is traced round the loop for ever, and is green again and again:
+-- so some item has a run to its own state that accepts. Nothing else is asked of how entries and marks were made; where
+-- the green name stood in no item there would be nothing to trace, and so no run.
 --
 --   MarkedStep               == the letter and the mark of a step
 --   letters, marks           == those of a list of steps
@@ -51,8 +52,9 @@ pub record CyclicRun {S L : Type 0} (leads : L → S → S → Bool → Type 0) 
   pub once : 1 ≤ times
   pub run : AcceptingRun leads (repeated times w) item.state item.state
 
--- On a loop of steps that satisfy the condition on names, whose lowest mark is odd, some item has an accepting run
--- to its own state. (Said of letters of the trace automaton; `proofs/OddLoop` has it for any automaton.)
+-- On a loop of steps that satisfy the condition on names, from an entry of which each name in use stands in some item,
+-- and whose lowest mark is odd, some item has an accepting run to its own state. (Said of letters of the trace
+-- automaton; `proofs/OddLoop` has it for any automaton.)
 abbrev pub OddLoopHasRun : Type 0
 OddLoopHasRun =
     (steps : List (MarkedStep (List Transition))) (e : Entry ℕ) → IsPath in_letter steps e e → EachNameStands e → is_odd (lowest_mark (marks steps)) ≡ true → CyclicRun in_letter e (letters steps)

@@ -15,11 +15,12 @@ pub fn priorities_agree()
     ensures { PrioritiesAgree }
 {}
 
-/// On a loop of marked steps that satisfy the condition on names, whose lowest mark is odd, some item has an accepting
-/// run to its own state along the loop, one or more times over.
+/// On a loop of marked steps that satisfy the condition on names, let each name in use stand in some item of the entry
+/// where it begins. If its lowest mark is odd, some item there has an accepting run to its own state along the loop, one
+/// or more times over.
 ///
-/// This is the core of both the first cycle law of histories and the soundness of refutations: it asks nothing of how
-/// the steps and their marks were made.
+/// This is the core of both the first cycle law of histories and the soundness of refutations: it asks nothing more of
+/// how the steps and their marks were made.
 pub fn odd_loop_has_run()
     ensures { OddLoopHasRun }
 {}

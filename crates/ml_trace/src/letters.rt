@@ -1,7 +1,8 @@
 // Local traces, and the letters and states of the trace automaton.
 
 ghost use Rattle.std.specs.Prelude.{◌≡◌, IfSome, IfNone};
-ghost use Rattle.ml_trace.specs.Automaton.{HasSmallEnds};
+ghost use Rattle.std.specs.List.Sorted.{IsPermutation};
+ghost use Rattle.ml_trace.specs.Automaton.{HasSmallEnds, RiseByTarget};
 
 use std::marker::Model;
 
@@ -29,14 +30,18 @@ impl Model for LocalTraces {
 }
 
 impl LocalTraces {
-    /// The set of the given triples; total. O(1).
+    /// The set of the given triples; total.
+    ///
+    /// Cost: constant.
     pub fn new(triples: Vec<Triple>) -> LocalTraces
         ensures { result ≡ triples.items }
     {
         LocalTraces { triples }
     }
 
-    /// The triples, as they were given. O(1).
+    /// The triples, as they were given.
+    ///
+    /// Cost: constant.
     pub fn triples(&self) -> &[Triple]
         ensures { result.now ≡ self.now }
     {
@@ -63,7 +68,8 @@ pub struct Transition {
 pub const STATE_LIMIT: u32 = 1 << 30;
 
 /// A letter of the trace automaton: a list of transitions that stands for a set, so that its order and repeats mean
-/// nothing. All ends are below `STATE_LIMIT`.
+/// nothing to a reader. All ends are below `STATE_LIMIT`, and the targets do not descend: a step asks each target for
+/// the transitions that lead to it, so they are brought together once, when the letter is made.
 #[derive(Drop)]
 pub struct Letter {
     transitions: Vec<Transition>,
@@ -75,41 +81,49 @@ impl Model for Letter {
 
     ghost Value = { List Transition };
 
-    ghost use Rattle.ml_trace.specs.Automaton.{HasSmallEnds};
+    ghost use Rattle.ml_trace.specs.Automaton.{IsLetter};
 
     ghost view = { λ a. a.transitions.items };
 
-    ghost invariant = { λ a. HasSmallEnds a.transitions.items };
+    ghost invariant = { λ a. IsLetter a.transitions.items };
 }
 
 impl Letter {
-    /// The letter of the given transitions, or `None` exactly where an end is `STATE_LIMIT` or more. O(n).
+    /// The letter of the given transitions, whose ends are below `STATE_LIMIT`.
+    ///
+    /// Cost: a sort of the transitions by their targets, in place.
+    pub fn of(mut transitions: Vec<Transition>) -> Letter
+        requires { HasSmallEnds transitions.items }
+        ensures { IsPermutation transitions.items result }
+    {
+        transitions.sort_unstable_by_key(|t| t.to);
+        Letter { transitions }
+    }
+
+    /// The letter of the given transitions, or `None` exactly where an end is `STATE_LIMIT` or more.
+    ///
+    /// Cost: as `of`.
     pub fn new(transitions: Vec<Transition>) -> Option<Letter>
-        ensures some { IfSome result (λ letter. (letter ≡ transitions.items) × HasSmallEnds transitions.items) }
+        ensures some { IfSome result (λ letter. IsPermutation transitions.items letter × HasSmallEnds transitions.items) }
         ensures none { IfNone result (¬ HasSmallEnds transitions.items) }
     {
         let small = transitions
             .iter()
             .all(|t| t.from < STATE_LIMIT && t.to < STATE_LIMIT);
         if small {
-            Some(Letter { transitions })
+            Some(Letter::of(transitions))
         } else {
             None
         }
     }
 
-    // the letter of transitions whose ends are known to be small
-    pub(crate) fn of(transitions: Vec<Transition>) -> Letter
-        requires { HasSmallEnds transitions.items }
-        ensures { result ≡ transitions.items }
-    {
-        Letter { transitions }
-    }
-
-    /// The transitions, as they were given. O(1).
+    /// The transitions, by their targets.
+    ///
+    /// Cost: constant.
     pub fn transitions(&self) -> &[Transition]
         ensures value { result.now ≡ self.now }
         ensures small { HasSmallEnds result.now }
+        ensures by_target { RiseByTarget result.now }
     {
         self.transitions.as_slice()
     }

@@ -3,7 +3,7 @@ ghost use Rattle.std.specs.Prelude.{◌≡◌, ◌≤◌, ◌==◌, ◌++◌, le
 ghost use Rattle.std.specs.List.{position_or_len};
 ghost use Rattle.ml_lists.specs.Ascending.{IsAscending};
 ghost use Rattle.ml_trace.specs.Automaton.{number, state_of, IsState, HasRoom, AllHaveRoom, IsLetterOf};
-ghost use Rattle.ml_trace.specs.LetterMoves.{moves};
+ghost use Rattle.ml_trace.specs.private.LetterMoves.{moves};
 
 use crate::letters::{AutomatonState, Letter, LocalTraces, Transition, Triple};
 use ml_base::NoMemory;
@@ -12,7 +12,9 @@ use std::alloc::Global;
 /// The number of a state: n * (1 + o) for the node n alone, and n * (1 + o) + j for n with the j-th of the o odd
 /// priorities.
 ///
-/// The state's odd priority, if it has one, is in `odds`, and all states of its node have numbers below 2^30. O(o).
+/// The state's odd priority, if it has one, is in `odds`, and all states of its node have numbers below 2^30.
+///
+/// Cost: linear in the odd priorities.
 pub fn number(state: &AutomatonState, odds: &[u32]) -> u32
     requires state { IsState odds.now state.now }
     requires room { HasRoom odds.now state.now.node }
@@ -39,7 +41,9 @@ fn index_of(d: u32, odds: &[u32]) -> usize
     odds.len()
 }
 
-/// The state with a number: the other way round. Total. O(1).
+/// The state with a number: the other way round; total.
+///
+/// Cost: constant.
 pub fn state_of(number: u32, odds: &[u32]) -> AutomatonState
     ensures { result ≡ state_of odds.now number }
 {
@@ -58,8 +62,12 @@ pub fn state_of(number: u32, odds: &[u32]) -> AutomatonState
 
 /// The letter of the trace automaton that the local traces of a step make: each transition that some triple gives.
 ///
-/// `odds` has the odd priorities, ascending; all states of the nodes of the triples have numbers below 2^30. Refuses
-/// only for want of memory. Time and space O(t * o) for t triples and o odd priorities.
+/// `odds` has the odd priorities, ascending; all states of the nodes of the triples have numbers below 2^30.
+///
+/// # Errors
+/// `NoMemory` alone.
+///
+/// Cost: a sort of t * (1 + 2 * o) transitions at most, for t triples and o odd priorities.
 pub fn letter_of(alloc: Global, traces: &LocalTraces, odds: &[u32]) -> Result<Letter, NoMemory>
     requires ascending { IsAscending odds.now }
     requires room { AllHaveRoom odds.now traces.now }

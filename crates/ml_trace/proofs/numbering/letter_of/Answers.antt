@@ -1,6 +1,5 @@
-use Rattle.std.proofs.Common.{◌∙◌, ◌++◌, ◌<◌, sym, ap, subst, arith, length, get_or}
-use Rattle.ml_trace.specs.Automaton.{IsLetterOf}
-use Rattle.ml_trace.specs.LetterMoves.{moves}
+use Rattle.std.proofs.Common.{◌∙◌, ◌++◌, ◌<◌, sym, ap, arith, length, get_or}
+use Rattle.ml_trace.specs.private.LetterMoves.{moves}
 use Rattle.ml_trace.proofs.LetterLemmas.{moves_of-none, moves_of-more, all_moves-letter, all_moves-small}
 use Rattle.ml_trace.proofs.numbering.letter_of.Goals as goal
 
@@ -22,6 +21,5 @@ of-requires c =
 
 pub returns : goal.returns
 returns c =
-    subst (IsLetterOf c.args.odds.now c.args.traces.now) (sym c.of.ensures)
-    (all_moves-letter c.args.odds.now c.requires.ascending c.args.traces.now c.loop-triple.transitions.items c.loop-triple.triple-index
-    (omega (arith, ap length c.triples-triple-items.ensures)) c.loop-triple.invariant)
+    all_moves-letter c.args.odds.now c.requires.ascending c.args.traces.now c.loop-triple.transitions.items c.of.result c.loop-triple.triple-index
+    (omega (arith, ap length c.triples-triple-items.ensures)) c.loop-triple.invariant c.of.ensures

@@ -1,5 +1,5 @@
 use Rattle.std.proofs.Common.{◌≡◌, ◌++◌}
-use Rattle.ml_trace.specs.LetterMoves.{moves_below}
+use Rattle.ml_trace.specs.private.LetterMoves.{moves_below}
 use Rattle.ml_trace.proofs.numbering.push_moves.Given as goal
 
 abbrev pub invariant-loop-j : goal.invariant-loop-j

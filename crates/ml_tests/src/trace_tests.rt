@@ -1,5 +1,8 @@
-// Worked rows, and each call once on its happy path.
-use super::*;
+// The trace automaton: worked rows, and each call once on its happy path.
+use ml_trace::{
+    AutomatonState, Letter, LocalTraces, STATE_LIMIT, Transition, Triple, letter_of, number,
+    state_of,
+};
 use std::test::Fail;
 
 // The transition from one number to another.
@@ -57,6 +60,19 @@ fn states_have_numbers(rt: HostRuntime) {
         odd: Some(5),
     };
     assert_eq!(rt; number(&state, &[1, 5]), 14);
+}
+
+#[test]
+fn letters_stand_by_targets(rt: HostRuntime) -> Result<(), Fail> {
+    let given = [
+        transition(1, 7, true),
+        transition(0, 3, false),
+        transition(5, 7, false),
+    ]
+    .to_vec(rt.alloc())?;
+    let first = Letter::new(given).and_then(|letter| letter.transitions().first().copied());
+    assert_eq!(rt; first, Some(transition(0, 3, false)));
+    Ok(())
 }
 
 #[test]
