@@ -2,8 +2,7 @@
 --
 --   IsInLine bytes  == no byte is an LF
 --   none_passes     == where not any byte passes a test, each fails it
---   first_plain     == the first line of a text has no LF
---   front_line      == a text is its first line, and then what stands behind it
+--   lines_plain     == no line of a text has an LF
 --   line_front      == a line in front of a text is its first line
 use Rattle.std.proofs.Common.{◌≡◌, ℕ, Bool, true, false, ◌||◌, List, [], ◌∷◌, ◌++◌, map, All, refl, sym, ap, subst, ◌∙◌, append_assoc}
 use Rattle.std.specs.List.{slice_split, join_with_byte, AllByRecursion, list_any, onto_first}
@@ -38,13 +37,7 @@ line_front bytes rest is =
       ap last_part cut ∙ last_more bytes parts some,
     )
 
--- ---- the first line
-
-pub front_line : (text rest : List ℕ) (line : Line) → lines_of text ≡ line ∷ lines_of rest → left_of text ≡ left_of rest → text ≡ line_text line ++ rest
-front_line text rest line begins left =
-    sym (text_read text) ∙ ap (λ lines. text_of lines ++ left_of text) begins
-    ∙ append_assoc (line_text line) (text_of (lines_of rest)) (left_of text)
-    ∙ ap (λ more. line_text line ++ (text_of (lines_of rest) ++ more)) left ∙ ap (λ more. line_text line ++ more) (text_read rest)
+-- ---- the lines of a text
 
 onto_plain : (x : ℕ) (parts : List (List ℕ)) → is_line_end x ≡ false → AllByRecursion IsInLine parts → AllByRecursion IsInLine (onto_first x parts)
 onto_plain x [] other all = (ap (λ b. b || false) other, tt)
@@ -59,13 +52,12 @@ parts_plain (x ∷ xs) = go (is_line_end x) refl (parts_plain xs)
     go false is rest =
         subst (AllByRecursion IsInLine) (sym (slice_split-cons_no is_line_end x xs is)) (onto_plain x (slice_split is_line_end xs) is rest)
 
-first_in : (parts : List (List ℕ)) (line : Line) (lines : List Line) → AllByRecursion IsInLine parts → map words_of (fronts parts) ≡ line ∷ lines
-    → IsInLine (join_with_byte 32 line)
-first_in [] line lines all begins = absurd (cc)
-first_in (part ∷ []) line lines all begins = absurd (cc)
-first_in (part ∷ second ∷ parts) line lines all begins =
-    let same : words_of part ≡ line = cc in
-    subst IsInLine (sym (join_with_byte-slice_split 32 part) ∙ ap (join_with_byte 32) same) all.0
+lines_in : (parts : List (List ℕ)) → AllByRecursion IsInLine parts
+    → AllByRecursion (λ line. IsInLine (join_with_byte 32 line)) (map words_of (fronts parts))
+lines_in [] all = tt
+lines_in (part ∷ []) all = tt
+lines_in (part ∷ second ∷ parts) all =
+    (subst IsInLine (sym (join_with_byte-slice_split 32 part)) all.0, lines_in (second ∷ parts) all.1)
 
-pub first_plain : (text : List ℕ) (line : Line) (lines : List Line) → lines_of text ≡ line ∷ lines → IsInLine (join_with_byte 32 line)
-first_plain text line lines begins = first_in (slice_split is_line_end text) line lines (parts_plain text) begins
+pub lines_plain : (text : List ℕ) → AllByRecursion (λ line. IsInLine (join_with_byte 32 line)) (lines_of text)
+lines_plain text = lines_in (slice_split is_line_end text) (parts_plain text)

@@ -7,7 +7,6 @@
 --   few_open             == a canonical text opens at most as many parentheses as its formula has occurrences
 --   canonical_parsed     == so it is parsed
 --   canonical_in_line    == it stands in one line
---   heads_read_back      == so the head of a written document is read back
 use Rattle.std.proofs.Common.{◌≡◌, ℕ, zero, suc, ◌+◌, ◌-◌, ◌≤◌, Bool, true, false, ◌&&◌, ◌||◌, ◌==◌, not, nat_lt, nat_le, List, [], ◌∷◌, ◌++◌, length, map, take, drop, Option, Some, None, cond, codes, bytes_eq, refl, sym, ap, subst, ◌∙◌, arith, leb-true, ltb-false, ltb-true, eqb-true}
 use Rattle.std.specs.List.{AllByRecursion, list_all, list_any}
 use Rattle.std.specs.Char.{is_ascii_alphabetic}
@@ -34,7 +33,6 @@ use Rattle.ml_mu.specs.Formula.{Formula, Modality, Diamond, Square, Fixpoint, Le
 use Rattle.ml_mu.specs.Canonical.{canonical_text, spelling_of, action_text, modality_text, fixpoint_word}
 use Rattle.ml_mu.specs.Grammar as grammar
 use Rattle.ml_mu.specs.Grammar.{IsReadAs, Reads, iff_alone, iff, imp_alone, imp, or_alone, or, and_alone, and, negation, modal, modal_blank, binder, group, constant, proposition, variable}
-use Rattle.ml_mu.specs.HeadRules.{HeadsReadBack}
 use Rattle.ml_mu.specs.Parsing.{IsParsedAs}
 use Rattle.ml_mu.specs.Spelling.{is_proposition, is_variable, is_action, is_spelled, is_word_from, is_reserved}
 use Rattle.ml_mu.specs.Signs.{Sign, Lower, Upper, Blank, Unknown, Connective, HasShortName, action_of, word_sign, word_sign_by}
@@ -264,7 +262,7 @@ no_syntax is f stands k fault = go (nat_lt k (length is)) refl
         fault.ends (ltb-true k (length is) below) (signs_of (drop (k + 1) is), f, subst (λ ts. IsReadAs ts f) (sym split) stands)
     go false past = fault.is_none (omega (arith, fault.within, ltb-false k (length is) past)) f stands
 
-spelled_of : (text : List ℕ) (f : Formula) → IsParsedAs text f → is_spelled f ≡ true
+pub spelled_of : (text : List ℕ) (f : Formula) → IsParsedAs text f → is_spelled f ≡ true
 spelled_of text f parsed = (reads_spelled parsed.accepted.stands (items_spelled text false (tokens AnyLetter text))).0
 
 canonical_keeps : (f : Formula) → is_spelled f ≡ true → HasShort f → occurrences f ≤ 1000 → (c : Cause) (k : ℕ) → IsFault IsReadAs c (items (canonical_text f)) k → ⊥
@@ -377,11 +375,3 @@ canonical_in_line (plain.Binder q x f) is =
     let parts = and_parts (is_variable x) (is_spelled f) is in
     seven_in_line (codes "(") (fixpoint_word q) (codes " ") x (codes ". ") (canonical_text f) (codes ")") refl (fixpoint_in_line q) refl
     (word_in_line x (upper_letters x parts.0)) refl (canonical_in_line f parts.1) refl
-
-pub heads_read_back : HeadsReadBack
-heads_read_back a p text rest parsed = record {
-  formula_text = canonical_text p.formula;
-  in_one_line = canonical_in_line p.formula (spelled_of text p.formula parsed);
-  is_text = refl;
-  is_parsed = canonical_parsed text p.formula parsed;
-}

@@ -38,7 +38,5 @@ pub mod CanonicalTexts
 pub mod Monotone
 -- the n-th iterate is a fixpoint, the least or the greatest
 pub mod Fixpoints
--- the lines of a head
-pub mod HeadLines
 -- canonical texts are parsed, and heads are read back
 pub mod CanonicalParsed

@@ -17,8 +17,21 @@ pub fn print(alloc: Global, formula: &Formula) -> Result<Vec<u8>, NoMemory>
     ensures { IfOk result (λ text. text.items ≡ canonical_text formula.now) }
 {
     let mut text = Vec::new(alloc);
-    write_term(&mut text, formula.root())?;
+    append_text(&mut text, formula)?;
     Ok(text)
+}
+
+/// Appends the canonical text of a formula, as `print` gives it.
+///
+/// # Errors
+/// `NoMemory` alone, and then a part of the text may stand in `out`.
+///
+/// Cost: linear in the text, over many calls.
+pub fn append_text(out: &mut Vec<u8>, formula: &Formula) -> Result<(), NoMemory>
+    ensures { OnOk result (out.new.items ≡ out.old.items ++ canonical_text formula.now) }
+{
+    write_term(out, formula.root())?;
+    Ok(())
 }
 
 #[cycle(printer)]

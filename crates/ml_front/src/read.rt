@@ -1,27 +1,32 @@
-// Reading the head of a document that answers `satisfiable`.
-ghost use Rattle.std.specs.Prelude.{◌≡◌, ℕ, [], ◌∷◌, IfOk, IfErr, MatchOption, codes};
-ghost use Rattle.ml_kripke.specs.BodyParts.{GoesOn};
+// Reading the head of a document.
+ghost use Rattle.std.specs.Prelude.{◌≡◌, ℕ, List, [], ◌∷◌, IfOk, IfErr, IsErrOf, MatchOption, codes};
+ghost use Rattle.ml_base.specs.declared.doc_fault.DocFault.{DocFault};
 ghost use Rattle.ml_lines.specs.Lines.{Word, Line};
 ghost use Rattle.ml_lines.specs.Reading.{words_of};
-ghost use Rattle.ml_mu.specs.Head.{Satisfiable};
-ghost use Rattle.ml_mu.specs.HeadRules.{title_line, answer_line, logic_line, sense_line, IsHead, AtTitle, AtAnswer, AtLogic, AtSense, IsLowest, rule_number};
-ghost use Rattle.ml_model_check.specs.HeadParts as parts;
-ghost use Rattle.ml_model_check.specs.HeadParts.{first_line, IsPair, IsFormulaLine, TellsHead, TellsFormula};
+ghost use Rattle.ml_lines.specs.private.Fronts.{GoesOn};
+ghost use Rattle.ml_mu.specs.Problem.{Problem};
+ghost use Rattle.ml_front.specs.Head.{title_line, answer_line, logic_line, sense_line};
+ghost use Rattle.ml_front.specs.HeadRules.{IsHead, IsHeadFault, AtTitle, AtAnswer, AtLogic, AtSense, rule_number};
+ghost use Rattle.ml_front.specs.private.HeadParts as parts;
+ghost use Rattle.ml_front.specs.private.HeadParts.{first_line, IsPair, Breaks, IsFormulaRead, TellsHead, TellsFormula};
 
+use crate::answer::{Answer, answer_of};
+use crate::head_rule::HeadRule;
 use ml_base::{DocFault, ParseRefusal};
 use ml_lines::{more_words, split_line, two_words};
-use ml_mu::{Formula, HeadRule, parse};
+use ml_mu::{Formula, parse};
 use std::alloc::Global;
 
 /// Why a text has no head.
 #[derive(Clone, Copy, Debug, PartialEq, Eq)]
-pub(crate) enum HeadRefusal {
-    /// The first bad line, and the lowest rule that it breaks.
+pub enum HeadRefusal {
+    /// The first bad line, and the lowest rule that it breaks, from 1 to 3.
     Fault(DocFault),
+    /// Out of memory.
     NoMemory,
 }
 
-/// Why a line has no formula.
+// Why a line has no formula.
 #[derive(Clone, Copy, Debug, PartialEq, Eq)]
 pub(crate) enum FormulaRefusal {
     /// The lowest rule that it breaks.
@@ -31,22 +36,37 @@ pub(crate) enum FormulaRefusal {
 
 /// What a head says: the formula with its sense; and what stands behind the head.
 #[derive(Drop)]
-pub(crate) struct Head<'a> {
-    pub(crate) formula: Formula,
-    pub(crate) negated: bool,
-    pub(crate) body: &'a [u8],
+pub struct Head<'a> {
+    pub formula: Formula,
+    pub negated: bool,
+    pub body: &'a [u8],
 }
 
-/// The head with which a text begins.
-pub(crate) fn read_head(alloc: Global, text: &[u8]) -> Result<Head, HeadRefusal>
-    ensures read { IfOk result (λ h. IsHead Satisfiable text.now (record { formula = h.formula; negated = h.negated }) h.body.now) }
-    ensures refused { IfErr result (TellsHead text.now) }
+/// The head with which a document begins, where this answer is wanted: its first five lines.
+///
+/// # Errors
+/// `Fault` exactly where the text begins with no such head, with the first bad line, counted from 1, and the lowest rule
+/// that is broken there: 1 where a line is missing or not of the kind that stands there; 2 where the formula is refused
+/// by its parser; 3 where the answer is another one. `NoMemory`.
+///
+/// Cost: linear in the lines of the head, and that of `ml_mu::parse`.
+pub fn read_head(alloc: Global, text: &[u8], wanted: Answer) -> Result<Head, HeadRefusal>
+    ensures read { IfOk result (λ h. IsHead wanted text.now (record { formula = h.formula; negated = h.negated }) h.body.now) }
+    ensures refused { (fault : DocFault) → IsErrOf result (HeadRefusal.Fault fault) → IsHeadFault wanted text.now fault }
+    ensures no_head { (fault : DocFault) → IsErrOf result (HeadRefusal.Fault fault) → (p : Problem) (rest : List ℕ) → ¬ (IsHead wanted text.now p rest) }
+{
+    read_lines(alloc, text, wanted)
+}
+
+fn read_lines(alloc: Global, text: &[u8], wanted: Answer) -> Result<Head, HeadRefusal>
+    ensures read { IfOk result (λ h. IsHead wanted text.now (record { formula = h.formula; negated = h.negated }) h.body.now) }
+    ensures refused { IfErr result (TellsHead wanted text.now) }
 {
     let answer = match read_title(text) {
         Ok(rest) => rest,
         Err(rule) => return Err(fault(1, rule)),
     };
-    let logic = match read_answer(answer) {
+    let logic = match read_answer(answer, wanted) {
         Ok(rest) => rest,
         Err(rule) => return Err(fault(2, rule)),
     };
@@ -81,7 +101,7 @@ fn fault(line: u64, rule: HeadRule) -> HeadRefusal
 // what stands behind the line `mlsolver 1`
 fn read_title(text: &[u8]) -> Result<&[u8], HeadRule>
     ensures read { IfOk result (λ rest. GoesOn text.now (title_line ∷ []) rest.now) }
-    ensures refused { IfErr result (λ rule. IsLowest Satisfiable AtTitle rule (first_line text.now)) }
+    ensures refused { IfErr result (λ rule. (a : Answer) → Breaks a AtTitle (first_line text.now) rule) }
 {
     match pair(text, b"mlsolver") {
         Some((version, rest)) => {
@@ -95,23 +115,22 @@ fn read_title(text: &[u8]) -> Result<&[u8], HeadRule>
     }
 }
 
-// what stands behind the line `answer satisfiable`
-fn read_answer(text: &[u8]) -> Result<&[u8], HeadRule>
-    ensures read { IfOk result (λ rest. GoesOn text.now (answer_line Satisfiable ∷ []) rest.now) }
-    ensures refused { IfErr result (λ rule. IsLowest Satisfiable AtAnswer rule (first_line text.now)) }
+// what stands behind the line of the answer
+fn read_answer(text: &[u8], wanted: Answer) -> Result<&[u8], HeadRule>
+    ensures read { IfOk result (λ rest. GoesOn text.now (answer_line wanted ∷ []) rest.now) }
+    ensures refused { IfErr result (λ rule. Breaks wanted AtAnswer (first_line text.now) rule) }
 {
     match pair(text, b"answer") {
-        Some((answer, rest)) => {
-            if answer == b"satisfiable".as_slice() {
-                Ok(rest)
-            } else if answer == b"unsatisfiable".as_slice() {
-                Err(HeadRule::Answers)
-            } else if answer == b"undecided".as_slice() {
-                Err(HeadRule::Answers)
-            } else {
-                Err(HeadRule::OfKind)
+        Some((word, rest)) => match answer_of(word) {
+            Some(answer) => {
+                if answer == wanted {
+                    Ok(rest)
+                } else {
+                    Err(HeadRule::Answers)
+                }
             }
-        }
+            None => Err(HeadRule::OfKind),
+        },
         None => Err(HeadRule::OfKind),
     }
 }
@@ -119,7 +138,7 @@ fn read_answer(text: &[u8]) -> Result<&[u8], HeadRule>
 // what stands behind the line `logic mu`
 fn read_logic(text: &[u8]) -> Result<&[u8], HeadRule>
     ensures read { IfOk result (λ rest. GoesOn text.now (logic_line ∷ []) rest.now) }
-    ensures refused { IfErr result (λ rule. IsLowest Satisfiable AtLogic rule (first_line text.now)) }
+    ensures refused { IfErr result (λ rule. (a : Answer) → Breaks a AtLogic (first_line text.now) rule) }
 {
     match pair(text, b"logic") {
         Some((logic, rest)) => {
@@ -136,7 +155,7 @@ fn read_logic(text: &[u8]) -> Result<&[u8], HeadRule>
 // is the sense negated? and what stands behind its line
 fn read_sense(text: &[u8]) -> Result<(bool, &[u8]), HeadRule>
     ensures read { IfOk result (λ r. GoesOn text.now (sense_line r.0 ∷ []) r.1.now) }
-    ensures refused { IfErr result (λ rule. IsLowest Satisfiable AtSense rule (first_line text.now)) }
+    ensures refused { IfErr result (λ rule. (a : Answer) → Breaks a AtSense (first_line text.now) rule) }
 {
     match pair(text, b"sense") {
         Some((sense, rest)) => {
@@ -154,8 +173,8 @@ fn read_sense(text: &[u8]) -> Result<(bool, &[u8]), HeadRule>
 
 // the formula of the line, and what stands behind the line
 fn read_formula(alloc: Global, text: &[u8]) -> Result<(Formula, &[u8]), FormulaRefusal>
-    ensures read { IfOk result (λ r. IsFormulaLine text.now r.0 r.1.now) }
-    ensures refused { IfErr result (TellsFormula text.now) }
+    ensures read { IfOk result (λ r. IsFormulaRead text.now r.0 r.1.now) }
+    ensures refused { IfErr result (λ e. (a : Answer) → TellsFormula a text.now e) }
 {
     match split_line(text) {
         Some((line, rest)) => match formula_text(line) {

@@ -1,31 +1,26 @@
--- The lines of a head, and its first bad line.
+-- The lines of a head.
 --
+--   one_word               == the word for the number 1
 --   title_words, ..        == the words of each line of a head
 --   head_read              == the lines of a text that is a head, and then those of its rest
---   good_title, ..         == each line of a head is good at its place
---   head_or_fault          == so a head has no bad line
+--   one_answer             == the word tells the answer
 --   one_head               == a text is a head about one problem at most
---   one_fault              == a text has one first bad line at most
-use Rattle.std.proofs.Common.{◌≡◌, ℕ, ◌-◌, ◌<◌, ◌⊎◌, Bool, true, false, List, [], ◌∷◌, ◌++◌, length, drop, codes, slice_index_or, refl, sym, ap, subst, ◌∙◌, append_assoc, arith, inl, inr}
+use Rattle.std.proofs.Common.{◌≡◌, ℕ, Bool, true, false, List, [], ◌∷◌, ◌++◌, length, drop, codes, slice_index_or, refl, sym, ap, subst, ◌∙◌, append_assoc, arith}
 use Rattle.std.specs.List.{join_with_byte}
-use Rattle.std.proofs.lemmas.Bool.{cases_order}
 use Rattle.std.proofs.lemmas.Fmt.{decimal_digit}
 use Rattle.std.proofs.lemmas.List.{append_cancel_left}
 use Rattle.std.proofs.lemmas.List.Splits.{slice_split_at, join_with_byte-slice_split}
-use Rattle.ml_base.specs.declared.doc_fault.DocFault.{DocFault}
 use Rattle.ml_lines.specs.Lines.{Line, number, line_text, text_of}
 use Rattle.ml_lines.specs.Reading.{lines_of, left_of, words_of, is_blank}
-use Rattle.ml_lines.proofs.Cuts.{some_part}
 use Rattle.ml_lines.proofs.LineFronts.{IsInLine, none_passes, line_front}
 use Rattle.ml_lines.proofs.WrittenLines.{line_read}
-use Rattle.ml_mu.specs.Formula.{Formula}
-use Rattle.ml_mu.specs.Head.{Answer, Satisfiable, Unsatisfiable, Undecided, sense_word}
-use Rattle.ml_mu.specs.HeadRules.{title_line, answer_line, logic_line, sense_line, lines_about, IsHead, HeadPlace, AtTitle, AtAnswer, AtLogic, AtSense, AtFormula, number_of, line_at, Keeps, IsGood, IsLowest, IsHeadFault, rule_number, HeadOrFault, OneHead, OneHeadFault}
 use Rattle.ml_mu.specs.Parsing.{IsParsedAs}
 use Rattle.ml_mu.specs.Problem.{Problem}
-use Rattle.ml_mu.specs.declared.head_rule.HeadRule.{HeadRule}
-use Rattle.ml_mu.specs.declared.head_rule.HeadRule.TheVariants.{OfKind, Parses, Answers}
 use Rattle.ml_mu.proofs.OneAnswer.{one_formula}
+use Rattle.ml_front.specs.Head.{title_line, answer_line, logic_line, sense_line, answer_word, sense_word, lines_about}
+use Rattle.ml_front.specs.HeadRules.{IsHead, OneHead}
+use Rattle.ml_front.specs.declared.answer.Answer.{Answer}
+use Rattle.ml_front.specs.declared.answer.Answer.TheVariants.{Satisfiable, Unsatisfiable, Undecided}
 
 -- ---- the lines of a text that begins with a line
 
@@ -108,54 +103,18 @@ pub head_read : (a : Answer) (text : List ℕ) (p : Problem) (rest : List ℕ) (
     → lines_of text ≡ lines_read a p.negated h.formula_text rest
 head_read a text p rest h = ap lines_of h.is_text ∙ (about_read a p.negated h.formula_text rest h.in_one_line).lines_are
 
--- ---- each line is good at its place
-
-pub good_title : (a : Answer) → IsGood a AtTitle title_line
-good_title a OfKind = refl
-good_title a Parses = tt
-good_title a Answers = tt
-
-pub good_answer : (a : Answer) → IsGood a AtAnswer (answer_line a)
-good_answer a OfKind = (a, refl)
-good_answer a Parses = tt
-good_answer a Answers = refl
-
-pub good_logic : (a : Answer) → IsGood a AtLogic logic_line
-good_logic a OfKind = refl
-good_logic a Parses = tt
-good_logic a Answers = tt
-
-pub good_sense : (a : Answer) (negated : Bool) → IsGood a AtSense (sense_line negated)
-good_sense a negated OfKind = (negated, refl)
-good_sense a negated Parses = tt
-good_sense a negated Answers = tt
-
-formula_kind : (ws : Line) → 0 < length ws → Keeps Satisfiable AtFormula OfKind (codes "formula" ∷ ws)
-formula_kind [] some = absurd (omega arith)
-formula_kind (w ∷ ws) some = (w, ws, refl)
-
-pub good_formula : (a : Answer) (text : List ℕ) (f : Formula) → IsParsedAs text f → IsGood a AtFormula (codes "formula" ∷ words_of text)
-good_formula a text f parsed OfKind = formula_kind (words_of text) (some_part is_blank text)
-good_formula a text f parsed Parses = (f, subst (λ t. IsParsedAs t f) (sym (join_with_byte-slice_split 32 text)) parsed)
-good_formula a text f parsed Answers = tt
-
-good_read : (a : Answer) (negated : Bool) (text rest : List ℕ) (f : Formula) → IsParsedAs text f → (place : HeadPlace)
-    → IsGood a place (slice_index_or (lines_read a negated text rest) (number_of place - 1) [])
-good_read a negated text rest f parsed AtTitle = good_title a
-good_read a negated text rest f parsed AtAnswer = good_answer a
-good_read a negated text rest f parsed AtLogic = good_logic a
-good_read a negated text rest f parsed AtSense = good_sense a negated
-good_read a negated text rest f parsed AtFormula = good_formula a text f parsed
-
-pub head_good : (a : Answer) (text : List ℕ) (p : Problem) (rest : List ℕ) → IsHead a text p rest → (place : HeadPlace) → IsGood a place (line_at text place)
-head_good a text p rest h place =
-    subst (λ lines. IsGood a place (slice_index_or lines (number_of place - 1) [])) (sym (head_read a text p rest h))
-    (good_read a p.negated h.formula_text rest p.formula h.is_parsed place)
-
-pub head_or_fault : HeadOrFault
-head_or_fault a text p rest fault h f = f.is_lowest.breaks (head_good a text p rest h f.place f.rule)
-
 -- ---- one head
+
+pub one_answer : (a b : Answer) → answer_word a ≡ answer_word b → a ≡ b
+one_answer Satisfiable Satisfiable e = refl
+one_answer Unsatisfiable Unsatisfiable e = refl
+one_answer Undecided Undecided e = refl
+one_answer Satisfiable Unsatisfiable e = absurd (omega (arith, ap length e))
+one_answer Satisfiable Undecided e = absurd (omega (arith, ap length e))
+one_answer Unsatisfiable Satisfiable e = absurd (omega (arith, ap length e))
+one_answer Unsatisfiable Undecided e = absurd (omega (arith, ap length e))
+one_answer Undecided Satisfiable e = absurd (omega (arith, ap length e))
+one_answer Undecided Unsatisfiable e = absurd (omega (arith, ap length e))
 
 one_sense : (m n : Bool) → sense_word m ≡ sense_word n → m ≡ n
 one_sense false false e = refl
@@ -179,43 +138,3 @@ one_head a text p q rest more h k =
       append_cancel_left (text_of (lines_about a q.negated k.formula_text)) rest more
           (ap (λ f. f ++ rest) (sym front) ∙ sym h.is_text ∙ k.is_text),
     )
-
--- ---- one first bad line
-
-one_place : (p q : HeadPlace) → number_of p ≡ number_of q → p ≡ q
-one_place AtTitle AtTitle e = refl
-one_place AtAnswer AtAnswer e = refl
-one_place AtLogic AtLogic e = refl
-one_place AtSense AtSense e = refl
-one_place AtFormula AtFormula e = refl
-one_place AtTitle _ e = absurd (omega (arith, e))
-one_place AtAnswer _ e = absurd (omega (arith, e))
-one_place AtLogic _ e = absurd (omega (arith, e))
-one_place AtSense _ e = absurd (omega (arith, e))
-one_place AtFormula _ e = absurd (omega (arith, e))
-
--- of two rules that are the lowest, none is lower
-same_rule : (a : Answer) (place : HeadPlace) (line : Line) (r s : HeadRule) → IsLowest a place r line → IsLowest a place s line → rule_number r ≡ rule_number s
-same_rule a place line r s low_r low_s = go (cases_order (rule_number r) (rule_number s))
-  where
-    go : (rule_number r ≡ rule_number s) ⊎ ((rule_number r < rule_number s) ⊎ (rule_number s < rule_number r)) → rule_number r ≡ rule_number s
-    go (inl same) = same
-    go (inr (inl below)) = absurd (low_r.breaks (low_s.keeps_lower r below))
-    go (inr (inr above)) = absurd (low_s.breaks (low_r.keeps_lower s above))
-
-same_place : (a : Answer) (text : List ℕ) (e f : DocFault) (x : IsHeadFault a text e) (y : IsHeadFault a text f) → number_of x.place ≡ number_of y.place
-same_place a text e f x y = go (cases_order (number_of x.place) (number_of y.place))
-  where
-    go : (number_of x.place ≡ number_of y.place) ⊎ ((number_of x.place < number_of y.place) ⊎ (number_of y.place < number_of x.place)) → number_of x.place ≡ number_of y.place
-    go (inl same) = same
-    go (inr (inl below)) = absurd (x.is_lowest.breaks (y.good_before x.place below x.rule))
-    go (inr (inr above)) = absurd (y.is_lowest.breaks (x.good_before y.place above y.rule))
-
-pub one_fault : OneHeadFault
-one_fault a text e f x y =
-    let number = same_place a text e f x y in
-    let place = one_place x.place y.place number in
-    let lowest = subst (λ q. IsLowest a q x.rule (line_at text q)) place x.is_lowest in
-    let rule = same_rule a y.place (line_at text y.place) x.rule y.rule lowest y.is_lowest in
-    let line_same : e.line ≡ f.line = x.line_is ∙ number ∙ sym y.line_is in
-    let rule_same : e.rule ≡ f.rule = x.rule_is ∙ rule ∙ sym y.rule_is in λ i. record { line = line_same i; rule = rule_same i }

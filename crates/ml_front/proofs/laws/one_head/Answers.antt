@@ -1,5 +1,9 @@
-use Rattle.ml_mu.proofs.HeadLines.{head_or_fault, one_head, one_fault}
-use Rattle.ml_mu.proofs.laws.one_head.Goals as goal
+use Rattle.ml_front.proofs.HeadLines.{one_head}
+use Rattle.ml_front.proofs.OneFault.{head_or_fault, one_fault, some_head}
+use Rattle.ml_front.proofs.laws.one_head.Goals as goal
+
+pub returns-clause-one : goal.returns-clause-one
+returns-clause-one c = some_head
 
 pub returns-clause-exclusive : goal.returns-clause-exclusive
 returns-clause-exclusive c = head_or_fault

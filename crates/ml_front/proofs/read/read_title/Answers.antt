@@ -1,8 +1,8 @@
 use Rattle.std.proofs.Common.{◌≡◌, true, false, bytes_eq, codes, sym, ap, ◌∙◌}
 use Rattle.std.proofs.lemmas.Bool.{true≢false}
 use Rattle.std.proofs.lemmas.Slice.Eq.{bytes_eq-Decides}
-use Rattle.ml_model_check.proofs.HeadFronts.{title_goes, title_bad}
-use Rattle.ml_model_check.proofs.head.read_title.Goals as goal
+use Rattle.ml_front.proofs.HeadFronts.{title_goes, title_bad}
+use Rattle.ml_front.proofs.read.read_title.Goals as goal
 
 pub returns-then-eq-clause-read : goal.returns-then-eq-clause-read
 returns-then-eq-clause-read c =
@@ -14,5 +14,6 @@ pub returns-else-eq-clause-refused : goal.returns-else-eq-clause-refused
 returns-else-eq-clause-refused c =
     let version = c.in-Some.version.now in
     let differs : bytes_eq version (codes "1") ≡ false = sym (c.if-eq.ensures ∙ ap (bytes_eq version) c.as_slice.ensures) in
-    title_bad c.args.text.now c.in-Some.rest.now version
+    λ a.
+    title_bad a c.args.text.now c.in-Some.rest.now version
     (λ is. true≢false (sym ((bytes_eq-Decides version (codes "1")).1 is) ∙ differs)) c.in-Some.ensures
