@@ -4,7 +4,7 @@
 use Rattle.std.proofs.Common.{refl}
 use Rattle.ml_kripke.specs.ModelText.{model_text}
 use Rattle.ml_mu.specs.Head.{Satisfiable}
-use Rattle.ml_mu.proofs.CanonicalParsed.{heads_read_back}
+use Rattle.ml_mu.proofs.HeadsReadBack.{heads_read_back}
 use Rattle.ml_model_check.specs.Checked.{DocumentsReadBack}
 
 pub documents_read_back : DocumentsReadBack

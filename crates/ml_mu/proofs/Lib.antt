@@ -18,6 +18,8 @@ pub mod Counting
 pub mod Spelled
 -- variables that are fine are bound and positive
 pub mod Fine
+-- variables that are bound and positive are fine
+pub mod FaultFree
 -- from what was read to what parse answers
 pub mod Parsed
 -- a text has one answer at most
@@ -38,5 +40,11 @@ pub mod CanonicalTexts
 pub mod Monotone
 -- the n-th iterate is a fixpoint, the least or the greatest
 pub mod Fixpoints
--- canonical texts are parsed, and heads are read back
+-- names in texts and formulas are short
+pub mod ShortNames
+-- canonical texts pass no limit
+pub mod CanonicalLimits
+-- canonical texts are parsed
 pub mod CanonicalParsed
+-- canonical texts stand in one line
+pub mod CanonicalLines

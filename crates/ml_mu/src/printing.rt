@@ -1,6 +1,7 @@
 // The canonical text of a formula.
 ghost use Rattle.std.specs.Prelude.{◌≡◌, ◌++◌, List, ℕ, IfOk, OnOk, codes};
 ghost use Rattle.ml_mu.specs.Canonical.{canonical_text, action_text};
+ghost use Rattle.ml_mu.specs.Parsing.{IsParsedAs};
 ghost use Rattle.ml_mu.specs.Term.{formula_of};
 
 use crate::{Formula, Term};
@@ -14,7 +15,8 @@ use std::alloc::{AllocError, Global};
 ///
 /// Cost: linear in the text.
 pub fn print(alloc: Global, formula: &Formula) -> Result<Vec<u8>, NoMemory>
-    ensures { IfOk result (λ text. text.items ≡ canonical_text formula.now) }
+    ensures text { IfOk result (λ text. text.items ≡ canonical_text formula.now) }
+    ensures reads_back { IfOk result (λ text. IsParsedAs text.items formula.now) }
 {
     let mut text = Vec::new(alloc);
     append_text(&mut text, formula)?;
