@@ -5,13 +5,13 @@
 --   formula_refused             == a line whose text the parser refuses breaks the second rule
 --   tells_title, tells_answer, tells_logic, tells_sense, tells_formula  == a bad line behind good ones is the first bad one
 --   whole_head                  == five good lines are a head
-use Rattle.std.proofs.Common.{◌≡◌, ◌≢◌, ℕ, ◌<◌, ◌⊎◌, Bool, List, [], ◌∷◌, ◌++◌, length, codes, slice_index_or, refl, sym, ap, subst, ◌∙◌, inl, inr, arith}
+use Rattle.std.proofs.Common.{◌≡◌, ◌≢◌, ℕ, ◌⊎◌, Bool, List, [], ◌∷◌, ◌++◌, length, codes, slice_index_or, refl, sym, ap, subst, ◌∙◌, inl, inr, arith}
 use Rattle.std.specs.List.{join_with_byte}
 use Rattle.std.proofs.lemmas.List.Splits.{join_with_byte-slice_split}
 use Rattle.ml_base.specs.declared.doc_fault.DocFault.{DocFault}
 use Rattle.ml_base.specs.declared.parse_refusal.ParseRefusal.{ParseRefusal}
 use Rattle.ml_base.specs.declared.parse_refusal.ParseRefusal.TheVariants as parser
-use Rattle.ml_lines.specs.Lines.{Word, Line, text_of}
+use Rattle.ml_lines.specs.Lines.{Line, text_of}
 use Rattle.ml_lines.specs.Faults.{IsFault}
 use Rattle.ml_lines.specs.Reading.{lines_of, left_of, words_of, is_blank}
 use Rattle.ml_lines.specs.private.Fronts.{GoesOn}
@@ -39,16 +39,23 @@ first_is text rest line goes = ap (λ lines. slice_index_or lines 0 []) goes.lin
 
 -- ---- the title
 
-pub title_goes : (text rest version : List ℕ) → version ≡ codes "1" → GoesOn text ((codes "mlsolver" ∷ version ∷ []) ∷ []) rest
+pub title_goes : (text rest version : List ℕ)
+    → version ≡ codes "1"
+    → GoesOn text ((codes "mlsolver" ∷ version ∷ []) ∷ []) rest
     → GoesOn text (title_line ∷ []) rest
 title_goes text rest version same goes =
     subst (λ one. GoesOn text ((codes "mlsolver" ∷ one ∷ []) ∷ []) rest) (same ∙ sym one_word) goes
 
-pub title_bad : (a : Answer) (text rest version : List ℕ) → version ≢ codes "1" → GoesOn text ((codes "mlsolver" ∷ version ∷ []) ∷ []) rest
+pub title_bad : (a : Answer) (text rest version : List ℕ)
+    → version ≢ codes "1"
+    → GoesOn text ((codes "mlsolver" ∷ version ∷ []) ∷ []) rest
     → Breaks a AtTitle (first_line text) OfKind
 title_bad a text rest version differs goes =
-    inl (refl, λ kind.
-    differs (ap (λ line. slice_index_or line 1 []) (sym (first_is text rest (codes "mlsolver" ∷ version ∷ []) goes) ∙ kind) ∙ one_word))
+    inl (
+      refl,
+      λ kind.
+          differs (ap (λ line. slice_index_or line 1 []) (sym (first_is text rest (codes "mlsolver" ∷ version ∷ []) goes) ∙ kind) ∙ one_word),
+    )
 
 -- ---- the answer
 
@@ -60,15 +67,23 @@ other_answer a b text rest apart goes =
 
 -- ---- the formula
 
-unparsed : (a : Answer) (text given : List ℕ) → first_line text ≡ codes "formula" ∷ words_of given → ((f : Formula) → ¬ (IsParsedAs given f))
+unparsed : (a : Answer) (text given : List ℕ)
+    → first_line text ≡ codes "formula" ∷ words_of given
+    → ((f : Formula) → ¬ (IsParsedAs given f))
     → Breaks a AtFormula (first_line text) Parses
 unparsed a text given is never =
     subst (λ line. Breaks a AtFormula line Parses) (sym is)
-    (inr (formula_line (words_of given) (some_part is_blank given), inl (refl,
-    λ (f, parsed). never f (subst (λ t. IsParsedAs t f) (join_with_byte-slice_split 32 given) parsed))))
+    (inr (
+      formula_line (words_of given) (some_part is_blank given),
+      inl (
+        refl,
+        λ (f, parsed). never f (subst (λ t. IsParsedAs t f) (join_with_byte-slice_split 32 given) parsed),
+      ),
+    ))
 
 -- want of memory alone is no refusal of the text
-refusal_told : (e : ParseRefusal) → (e ≡ parser.NoMemory) ⊎ ((e ≢ parser.NoMemory) × (formula_refusal e ≡ formula.Breaks Parses))
+refusal_told : (e : ParseRefusal)
+    → (e ≡ parser.NoMemory) ⊎ ((e ≢ parser.NoMemory) × (formula_refusal e ≡ formula.Breaks Parses))
 refusal_told parser.NoMemory = inl refl
 refusal_told (parser.Syntax at) = inr (λ is. cc, refl)
 refusal_told (parser.Unbound at) = inr (λ is. cc, refl)
@@ -81,7 +96,8 @@ pub formula_refused : (a : Answer) (text given : List ℕ) (more : List Line) (e
     → lines_of text ≡ (codes "formula" ∷ words_of given) ∷ more → IsRefusedBy given e → TellsFormula a text (formula_refusal e)
 formula_refused a text given more e begins refuses = go (refusal_told e)
   where
-    go : (e ≡ parser.NoMemory) ⊎ ((e ≢ parser.NoMemory) × (formula_refusal e ≡ formula.Breaks Parses)) → TellsFormula a text (formula_refusal e)
+    go : (e ≡ parser.NoMemory) ⊎ ((e ≢ parser.NoMemory) × (formula_refusal e ≡ formula.Breaks Parses))
+        → TellsFormula a text (formula_refusal e)
     go (inl is) = subst (λ r. TellsFormula a text (formula_refusal r)) (sym is) tt
     go (inr (other, told)) =
         subst (TellsFormula a text) (sym told)
@@ -107,7 +123,8 @@ module _ (a : Answer) where
           fault_here (λ left. head a) k place text (rule_number r) line lines begins
           (subst (λ ls. Breaks a place (slice_index_or ls 0 []) r) begins breaks)
 
-  tell : (k : ℕ) (place : HeadPlace) (text : List ℕ) (r : HeadRule) (told : HeadRefusal) (whole : List ℕ) → Breaks a place (first_line text) r
+  tell : (k : ℕ) (place : HeadPlace) (text : List ℕ) (r : HeadRule) (told : HeadRefusal) (whole : List ℕ)
+      → Breaks a place (first_line text) r
       → told ≡ refused.Fault (record { line = k; rule = rule_number r })
       → ((fault : DocFault) → Faulty k place text fault → Faulty 1 AtTitle whole fault) → TellsHead a whole told
   tell k place text r told whole breaks is back =

@@ -32,7 +32,8 @@ record Reads (text : List ℕ) (lines : List Line) (left : List ℕ) : Type 0 wh
   pub lines_are : lines_of text ≡ lines
   pub left_is : left_of text ≡ left
 
-one_more : (line words : Line) (behind : List Line) (rest : List ℕ) (lines : List Line) (left : List ℕ) → IsInLine (bytes_of line)
+one_more : (line words : Line) (behind : List Line) (rest : List ℕ) (lines : List Line) (left : List ℕ)
+    → IsInLine (bytes_of line)
     → words_of (bytes_of line) ≡ words → Reads (text_of behind ++ rest) lines left → Reads (text_of (line ∷ behind) ++ rest) (words ∷ lines) left
 one_more line words behind rest lines left is same reads =
     let bytes =

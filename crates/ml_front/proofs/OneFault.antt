@@ -4,11 +4,11 @@
 --   some_head       == one of the two
 --   head_or_fault   == never both
 --   one_fault       == a text has one first bad line at most
-use Rattle.std.proofs.Common.{◌≡◌, ℕ, ◌⊎◌, Bool, true, false, List, [], ◌∷◌, codes, inl, inr, refl, ap, ⊎_elim, get_or, drop, subst}
+use Rattle.std.proofs.Common.{◌≡◌, ◌⊎◌, Bool, true, false, [], ◌∷◌, codes, inl, inr, ap, ⊎_elim, get_or}
 use Rattle.ml_base.specs.declared.doc_fault.DocFault.{DocFault}
 use Rattle.ml_base.specs.declared.parse_refusal.ParseRefusal.{ParseRefusal}
 use Rattle.ml_base.specs.declared.parse_refusal.ParseRefusal.TheVariants as refusal
-use Rattle.ml_lines.specs.Lines.{Word, Line}
+use Rattle.ml_lines.specs.Lines.{Line}
 use Rattle.ml_lines.specs.Reading.{lines_of}
 use Rattle.ml_lines.proofs.DecidedWords.{decided_line}
 use Rattle.ml_lines.proofs.Faults as text
@@ -17,11 +17,10 @@ use Rattle.ml_lists.proofs.Decided.{Decided, decided_bytes, decided_same}
 use Rattle.ml_lists.proofs.Documents.{judged}
 use Rattle.ml_mu.specs.Formula.{Formula}
 use Rattle.ml_mu.specs.Parsing.{IsParsedAs, IsRefusedBy}
-use Rattle.ml_mu.specs.Problem.{Problem}
 use Rattle.ml_mu.proofs.OneAnswer.{parsed_or_refused}
 use Rattle.ml_mu.proofs.SomeAnswer.{some_answer}
 use Rattle.ml_front.specs.Head.{title_line, answer_line, logic_line, sense_line}
-use Rattle.ml_front.specs.HeadRules.{AtTitle, AtAnswer, AtLogic, AtSense, AtFormula, Behind, IsFormulaLine, formula_bytes, rules, head, IsHead, IsHeadFault, SomeHead, HeadOrFault, OneHeadFault}
+use Rattle.ml_front.specs.HeadRules.{AtTitle, AtAnswer, AtLogic, AtSense, AtFormula, Behind, IsFormulaLine, formula_bytes, rules, head, IsHeadFault, SomeHead, HeadOrFault, OneHeadFault}
 use Rattle.ml_front.specs.declared.answer.Answer.{Answer}
 use Rattle.ml_front.specs.declared.answer.Answer.TheVariants.{Satisfiable, Unsatisfiable, Undecided}
 use Rattle.ml_front.proofs.ReadableHeads.{head_readable, readable_head}
@@ -30,7 +29,9 @@ is_answer : (line : Line) → Decided ((b : Answer) × (line ≡ answer_line b))
 is_answer line =
     go (decided_line line (answer_line Satisfiable)) (decided_line line (answer_line Unsatisfiable)) (decided_line line (answer_line Undecided))
   where
-    go : Decided (line ≡ answer_line Satisfiable) → Decided (line ≡ answer_line Unsatisfiable) → Decided (line ≡ answer_line Undecided)
+    go : Decided (line ≡ answer_line Satisfiable)
+        → Decided (line ≡ answer_line Unsatisfiable)
+        → Decided (line ≡ answer_line Undecided)
         → Decided ((b : Answer) × (line ≡ answer_line b))
     go (inl is) s t = inl (Satisfiable, is)
     go (inr n) (inl is) t = inl (Unsatisfiable, is)
@@ -45,7 +46,9 @@ is_answer line =
 is_sense : (line : Line) → Decided ((negated : Bool) × (line ≡ sense_line negated))
 is_sense line = go (decided_line line (sense_line false)) (decided_line line (sense_line true))
   where
-    go : Decided (line ≡ sense_line false) → Decided (line ≡ sense_line true) → Decided ((negated : Bool) × (line ≡ sense_line negated))
+    go : Decided (line ≡ sense_line false)
+        → Decided (line ≡ sense_line true)
+        → Decided ((negated : Bool) × (line ≡ sense_line negated))
     go (inl is) s = inl (false, is)
     go (inr n) (inl is) = inl (true, is)
     go (inr n) (inr m) = inr none

@@ -5,7 +5,7 @@
 --   head_readable     == a head is readable
 --   head_of_lines     == a text with the lines of a head, and then others, is a head
 --   readable_head     == what is readable is a head
-use Rattle.std.proofs.Common.{◌≡◌, ℕ, ◌<◌, Bool, List, [], ◌∷◌, ◌++◌, length, drop, codes, refl, sym, ap, subst, ◌∙◌, append_assoc, arith}
+use Rattle.std.proofs.Common.{◌≡◌, ℕ, ◌<◌, Bool, List, [], ◌∷◌, ◌++◌, length, codes, refl, sym, ap, subst, ◌∙◌, append_assoc, arith}
 use Rattle.std.specs.List.{join_with_byte, AllByRecursion}
 use Rattle.std.proofs.lemmas.Grind.{flat_map-append}
 use Rattle.std.proofs.lemmas.List.Splits.{join_with_byte-slice_split}
@@ -34,13 +34,17 @@ module _ (a : Answer) where
   behind_readable [] = tt
   behind_readable (line ∷ lines) = (tt, behind_readable lines)
 
-  good_formula : (text : List ℕ) (f : Formula) → IsParsedAs text f → IsGood (head a) AtFormula (codes "formula" ∷ words_of text)
+  good_formula : (text : List ℕ) (f : Formula)
+      → IsParsedAs text f
+      → IsGood (head a) AtFormula (codes "formula" ∷ words_of text)
   good_formula text f parsed = (
     formula_line (words_of text) (some_part is_blank text),
     ((f, subst (λ t. IsParsedAs t f) (sym (join_with_byte-slice_split 32 text)) parsed), tt),
   )
 
-  pub head_readable : (text : List ℕ) (p : Problem) (rest : List ℕ) → IsHead a text p rest → IsReadable (head a) AtTitle (lines_of text)
+  pub head_readable : (text : List ℕ) (p : Problem) (rest : List ℕ)
+      → IsHead a text p rest
+      → IsReadable (head a) AtTitle (lines_of text)
   head_readable text p rest h =
       let formula = good_formula h.formula_text p.formula h.is_parsed in
       subst (IsReadable (head a) AtTitle) (sym (head_read a text p rest h))
@@ -92,7 +96,9 @@ module _ (a : Answer) where
         is_parsed = b.is_parsed;
       }
 
-  pub readable_head : (text : List ℕ) → IsReadable (head a) AtTitle (lines_of text) → (p : Problem) × (rest : List ℕ) × IsHead a text p rest
+  pub readable_head : (text : List ℕ)
+      → IsReadable (head a) AtTitle (lines_of text)
+      → (p : Problem) × (rest : List ℕ) × IsHead a text p rest
   readable_head text readable =
       let b = begins (lines_of text) readable in
       let rest = text_of b.more ++ left_of text in

@@ -4,14 +4,12 @@
 --   none_passes     == where not any byte passes a test, each fails it
 --   lines_plain     == no line of a text has an LF
 --   line_front      == a line in front of a text is its first line
-use Rattle.std.proofs.Common.{◌≡◌, ℕ, Bool, true, false, ◌||◌, List, [], ◌∷◌, ◌++◌, map, All, refl, sym, ap, subst, ◌∙◌, append_assoc}
+use Rattle.std.proofs.Common.{◌≡◌, ℕ, Bool, true, false, ◌||◌, List, [], ◌∷◌, ◌++◌, map, All, refl, sym, ap, subst, ◌∙◌}
 use Rattle.std.specs.List.{slice_split, join_with_byte, AllByRecursion, list_any, onto_first}
 use Rattle.std.proofs.lemmas.List.Elements.{All-nil, All-cons}
 use Rattle.std.proofs.lemmas.List.Splits.{slice_split_at, slice_split-cons_yes, slice_split-cons_no, join_with_byte-slice_split}
-use Rattle.ml_lines.specs.Lines.{Line, line_text, text_of}
 use Rattle.ml_lines.specs.Reading.{words_of, lines_of, left_of, fronts, last_part, is_line_end}
 use Rattle.ml_lines.proofs.Cuts.{some_part, fronts_more, last_more}
-use Rattle.ml_lines.proofs.WrittenLines.{text_read}
 
 abbrev pub IsInLine : List ℕ → Type 0
 IsInLine bytes = list_any is_line_end bytes ≡ false
@@ -39,7 +37,10 @@ line_front bytes rest is =
 
 -- ---- the lines of a text
 
-onto_plain : (x : ℕ) (parts : List (List ℕ)) → is_line_end x ≡ false → AllByRecursion IsInLine parts → AllByRecursion IsInLine (onto_first x parts)
+onto_plain : (x : ℕ) (parts : List (List ℕ))
+    → is_line_end x ≡ false
+    → AllByRecursion IsInLine parts
+    → AllByRecursion IsInLine (onto_first x parts)
 onto_plain x [] other all = (ap (λ b. b || false) other, tt)
 onto_plain x (part ∷ parts) other all = (ap (λ b. b || list_any is_line_end part) other ∙ all.0, all.1)
 
@@ -47,7 +48,10 @@ parts_plain : (text : List ℕ) → AllByRecursion IsInLine (slice_split is_line
 parts_plain [] = (refl, tt)
 parts_plain (x ∷ xs) = go (is_line_end x) refl (parts_plain xs)
   where
-    go : (b : Bool) → is_line_end x ≡ b → AllByRecursion IsInLine (slice_split is_line_end xs) → AllByRecursion IsInLine (slice_split is_line_end (x ∷ xs))
+    go : (b : Bool)
+        → is_line_end x ≡ b
+        → AllByRecursion IsInLine (slice_split is_line_end xs)
+        → AllByRecursion IsInLine (slice_split is_line_end (x ∷ xs))
     go true is rest = subst (AllByRecursion IsInLine) (sym (slice_split-cons_yes is_line_end x xs is)) (refl, rest)
     go false is rest =
         subst (AllByRecursion IsInLine) (sym (slice_split-cons_no is_line_end x xs is)) (onto_plain x (slice_split is_line_end xs) is rest)

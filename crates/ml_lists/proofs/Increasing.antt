@@ -63,7 +63,10 @@ above_chain : (w x : ℕ) (ys : List ℕ) → w < x → Above x ys → Above w y
 above_chain w x [] below above = tt
 above_chain w x (y ∷ ys) below above = (omega (arith, above.0), above_chain w x ys below above.1)
 
-above_with : (w : ℕ) (front : List ℕ) (x : ℕ) (back : List ℕ) → Above w (front ++ back) → w < x → Above w (front ++ x ∷ back)
+above_with : (w : ℕ) (front : List ℕ) (x : ℕ) (back : List ℕ)
+    → Above w (front ++ back)
+    → w < x
+    → Above w (front ++ x ∷ back)
 above_with w [] x back above below = (below, above)
 above_with w (y ∷ front) x back above below = (above.0, above_with w front x back above.1 below)
 
@@ -71,7 +74,11 @@ abbrev pub Below : ℕ → List ℕ → Type 0
 Below x [] = Unit {0}
 Below x (y ∷ ys) = (y < x) × Below x ys
 
-pub ascends_with : (front : List ℕ) (x : ℕ) (back : List ℕ) → Ascends (front ++ back) → Below x front → Above x back → Ascends (front ++ x ∷ back)
+pub ascends_with : (front : List ℕ) (x : ℕ) (back : List ℕ)
+    → Ascends (front ++ back)
+    → Below x front
+    → Above x back
+    → Ascends (front ++ x ∷ back)
 ascends_with [] x back ascends below above = (above, ascends)
 ascends_with (y ∷ front) x back ascends below above =
     (above_with y front x back ascends.0 below.0, ascends_with front x back ascends.1 below.1 above)
@@ -90,10 +97,15 @@ above_back [] x back ascends = ascends.0
 above_back (y ∷ front) x back ascends = above_back front x back ascends.1
 
 -- the head of the back, put at the end of the front
-pub ascends_moved : (front : List ℕ) (x : ℕ) (back : List ℕ) → Ascends (front ++ x ∷ back) → Ascends ((front ++ x ∷ []) ++ back)
+pub ascends_moved : (front : List ℕ) (x : ℕ) (back : List ℕ)
+    → Ascends (front ++ x ∷ back)
+    → Ascends ((front ++ x ∷ []) ++ back)
 ascends_moved front x back ascends = subst Ascends (sym (append_assoc front (x ∷ []) back)) ascends
 
-pub ascends_merge : (front : List ℕ) (x : ℕ) (xs : List ℕ) (y : ℕ) (ys : List ℕ) → x < y → Ascends (front ++ x ∷ xs) → Ascends (front ++ y ∷ ys)
+pub ascends_merge : (front : List ℕ) (x : ℕ) (xs : List ℕ) (y : ℕ) (ys : List ℕ)
+    → x < y
+    → Ascends (front ++ x ∷ xs)
+    → Ascends (front ++ y ∷ ys)
     → Ascends ((front ++ x ∷ []) ++ (y ∷ ys))
 ascends_merge front x xs y ys below left right =
     ascends_moved front x (y ∷ ys)

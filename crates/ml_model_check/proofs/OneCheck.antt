@@ -24,13 +24,18 @@ use Rattle.ml_model_check.specs.Checked.{IsDocument, IsDocumentFault, OneCheck, 
 use Rattle.ml_model_check.specs.declared.checked.Checked.{Checked}
 use Rattle.ml_model_check.specs.declared.checked.Checked.TheVariants.{Holds, Fails, Unreadable, NotTotal, ClosureTooLarge}
 
-pub one_document : (text : List ℕ) (p q : Problem) (m n : Structure) (s t : ℕ) → IsDocument text p m s → IsDocument text q n t
+pub one_document : (text : List ℕ) (p q : Problem) (m n : Structure) (s t : ℕ)
+    → IsDocument text p m s
+    → IsDocument text q n t
     → (p ≡ q) × ((m ≡ n) × (s ≡ t))
 one_document text p q m n s t x y =
     let heads = one_head Satisfiable text p q x.body y.body x.has_head y.has_head in
     (heads.0, one_text m n s t x.is_written y.is_written (sym x.has_body ∙ heads.1 ∙ y.has_body))
 
-pub document_fault : (text : List ℕ) (p : Problem) (m : Structure) (s : ℕ) (fault : DocFault) → IsDocument text p m s → IsDocumentFault text fault → ⊥
+pub document_fault : (text : List ℕ) (p : Problem) (m : Structure) (s : ℕ) (fault : DocFault)
+    → IsDocument text p m s
+    → IsDocumentFault text fault
+    → ⊥
 document_fault text p m s fault x (inl of_head) = head.head_or_fault Satisfiable text p x.body fault x.has_head of_head
 document_fault text p m s fault x (inr of_body) =
     let heads = one_head Satisfiable text p of_body.problem x.body of_body.body x.has_head of_body.has_head in
@@ -113,7 +118,8 @@ shows_or_fault text = go (document_or_fault text)
 pub some_check : SomeCheck
 some_check text = go (shows_or_fault text)
   where
-    go : Shows text ⊎ (ShowsNot text ⊎ ((fault : DocFault) × IsDocumentFault text fault)) → (c : Checked) × IsCheckedAs text c
+    go : Shows text ⊎ (ShowsNot text ⊎ ((fault : DocFault) × IsDocumentFault text fault))
+        → (c : Checked) × IsCheckedAs text c
     go (inl shows) = (Holds, shows)
     go (inr (inl not_so)) = (Fails, not_so)
     go (inr (inr (fault, found))) = (Unreadable fault, found)

@@ -1,6 +1,6 @@
 // Documents, readable and broken.
-use crate::{Checked, check_document};
 use ml_base::DocFault;
+use ml_model_check::{Checked, check_document};
 use std::test::Fail;
 
 const GOOD: [(&'static str, Checked); 6] = [
@@ -34,13 +34,15 @@ const GOOD: [(&'static str, Checked); 6] = [
 const HEAD: &str = "mlsolver 1\nanswer satisfiable\nlogic mu\nsense plain\nformula <>p\n";
 
 // texts that are put behind a head or stand alone, with the first bad line and its rule
-const BROKEN: [(bool, &'static str, u64, u32); 46] = [
+const BROKEN: [(bool, &'static str, u64, u32); 53] = [
     (false, "", 1, 1),
     (false, "mlsolver 1", 1, 1),
     (false, "mlsolver 2\nanswer satisfiable\n", 1, 1),
     (false, "mlsolver 01\n", 1, 1),
     (false, "mlsolver  1\n", 1, 1),
     (false, "mlsolver 1\r\n", 1, 1),
+    (false, "mlsolver\t1\n", 1, 1),
+    (false, "mlsolver 1\nanswer satisfiable\r\n", 2, 1),
     (false, "mlsolver 1 \n", 1, 1),
     (false, "mlsolver 1\n", 2, 1),
     (false, "mlsolver 1\nanswer perhaps\n", 2, 1),
@@ -116,7 +118,12 @@ const BROKEN: [(bool, &'static str, u64, u32); 46] = [
     (true, "states 1\nstart 0\nstate 0 q p\n", 8, 16),
     (true, "states 1\nstart 0\nstate 0 p p\n", 8, 16),
     (true, "states 1\nstart 0\nstate 0 _\n", 8, 16),
-    (true, "states 1\nstart 0\nstate 0 p\r\n", 8, 11),
+    (true, "states 1\nstart 0\nstate 0 p\r\n", 8, 16),
+    (true, "states 1\nstart 0\nstate 1\r p\n", 8, 12),
+    (true, "states 1\nstart 0\nstate 0\tp\n", 8, 12),
+    (true, "states 1\r\n", 6, 12),
+    (true, "states 1\nstart 0\nstate 0\nedge 0 a\r 1\nend\n", 9, 17),
+    (true, "states 1\nstart 0\nstate 0\nend\r\n", 9, 11),
     (true, "states 2\nstart 0\nstate 0\nstate 0\n", 9, 15),
     (
         true,
