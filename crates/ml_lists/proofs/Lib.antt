@@ -48,5 +48,9 @@ pub mod Tables
 pub mod StrictlySorted
 -- lists in which each element is above the one before it
 pub mod Chains
+-- rows of one width, one behind the other
+pub mod Grids
+-- lassos along a map
+pub mod MappedLasso
 -- lists in another order
 pub mod Permuted
