@@ -18,10 +18,6 @@ pub mod Canonical
 pub mod WellFormed
 -- the code of formulas
 pub mod FormulaCode
--- the head of a document
-pub mod Head
--- the rules of a head, and its first bad line
-pub mod HeadRules
 -- the signs of texts
 pub mod Signs
 -- the grammar of texts
