@@ -9,9 +9,9 @@ use Rattle.std.proofs.lemmas.Bool.{le-ltb}
 use Rattle.ml_base.specs.declared.parse_refusal.ParseRefusal.{ParseRefusal}
 use Rattle.ml_base.specs.declared.parse_refusal.ParseRefusal.TheVariants as refusal
 use Rattle.ml_text.specs.Grammar.{Mode}
-use Rattle.ml_text.specs.Machine.{Stack, State, step}
+use Rattle.ml_text.specs.private.Machine.{Stack, State, step}
 use Rattle.ml_text.specs.Refusals.{Item, Cause, Syntax, TooMany, TooNested, NameTooLong, open_behind_one, most_occurrences, most_open}
-use Rattle.ml_text.specs.Reading.{Outcome, Refused, cause_at, next_outcome, outcome}
+use Rattle.ml_text.specs.private.Reading.{Outcome, Refused, cause_at, next_outcome, outcome}
 use Rattle.ml_mu.specs.Formula.{Formula}
 use Rattle.ml_mu.specs.Signs.{Sign}
 use Rattle.ml_mu.specs.Tables.{Wait, mu_grammar}

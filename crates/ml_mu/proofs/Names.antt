@@ -15,7 +15,7 @@ use Rattle.ml_text.specs.Bytes.{is_lower, is_upper, is_digit, is_word_byte}
 use Rattle.ml_text.specs.declared.token.Token.{Token}
 use Rattle.ml_text.specs.declared.token.Token.TheVariants as token
 use Rattle.ml_text.specs.Refusals.{Neither, longest_name}
-use Rattle.ml_text.specs.Machine.{Held, Left, Stack, behind}
+use Rattle.ml_text.specs.private.Machine.{Held, Left, Stack, behind}
 use Rattle.ml_text.specs.Words.{constant_of}
 use Rattle.ml_mu.specs.Formula.{Formula}
 use Rattle.ml_mu.specs.Signs.{Sign, Lower, Upper, Unknown, IsName, HasShortName, sign_of, byte_sign, word_sign, word_sign_by, name_sign}

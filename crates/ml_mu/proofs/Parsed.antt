@@ -16,7 +16,7 @@ use Rattle.ml_base.specs.declared.parse_refusal.ParseRefusal.TheVariants as refu
 use Rattle.ml_text.specs.declared.token.WordStart.TheVariants.{AnyLetter}
 use Rattle.ml_text.specs.Tokens.{tokens}
 use Rattle.ml_text.specs.Refusals.{Cause, Syntax, TooMany, TooNested, NameTooLong, IsAccepted}
-use Rattle.ml_text.specs.Reading.{Outcome, Found, Refused, text_outcome}
+use Rattle.ml_text.specs.private.Reading.{Outcome, Found, Refused, text_outcome}
 use Rattle.ml_text.proofs.Exact.{Fits, IsOutcome, exact, few_items}
 use Rattle.ml_mu.specs.Formula.{Formula, occurrences}
 use Rattle.ml_mu.specs.Grammar.{IsReadAs}

@@ -6,7 +6,7 @@
 use Rattle.std.proofs.Common.{◌≡◌, ◌∷◌, Some, None, refl, sym, ◌∙◌, ap}
 use Rattle.ml_text.specs.declared.token.Operator.{Operator}
 use Rattle.ml_text.specs.Grammar.{Outside, Whole, More, role_takes}
-use Rattle.ml_text.specs.Machine.{Left, Stack, State, take_sign, enter, behind, finish, reduce}
+use Rattle.ml_text.specs.private.Machine.{Left, Stack, State, take_sign, enter, behind, finish, reduce}
 use Rattle.ml_text.proofs.Reduce.{resolved, tree_of, behind-reduce, close-reduce, reduce-same}
 use Rattle.ml_mu.specs.Formula.{Formula, Diamond, Square}
 use Rattle.ml_mu.specs.Signs.{Sign, Connective}

@@ -7,7 +7,7 @@
 --   stack_view fs                                       == the stack; the program holds its topmost frame last
 use Rattle.std.specs.Prelude.{◌≡◌, true, false, List, [], ◌∷◌, Option, map, reverse}
 use Rattle.ml_text.specs.Grammar as machine
-use Rattle.ml_text.specs.Machine as machine_stack
+use Rattle.ml_text.specs.private.Machine as machine_stack
 use Rattle.ml_mu.specs.Formula.{Formula}
 use Rattle.ml_mu.specs.Signs.{Sign, Connective}
 use Rattle.ml_mu.specs.SignViews.{modality_of, fixpoint_of}

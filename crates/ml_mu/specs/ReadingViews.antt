@@ -10,7 +10,7 @@ use Rattle.ml_base.specs.declared.parse_refusal.ParseRefusal.{ParseRefusal}
 use Rattle.ml_base.specs.declared.parse_refusal.ParseRefusal.TheVariants as refusal
 use Rattle.ml_text.specs.Refusals as cause
 use Rattle.ml_text.specs.Refusals.{Item, most_occurrences, most_open}
-use Rattle.ml_text.specs.Reading.{Outcome, Refused, outcome}
+use Rattle.ml_text.specs.private.Reading.{Outcome, Refused, outcome}
 use Rattle.ml_mu.specs.Formula.{Formula}
 use Rattle.ml_mu.specs.Signs.{Sign}
 use Rattle.ml_mu.specs.Tables.{mu_grammar}

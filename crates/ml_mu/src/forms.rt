@@ -2,7 +2,7 @@
 ghost use Rattle.std.specs.Prelude.{◌≡◌, ℕ, ◌++◌, [], ◌∷◌, IfOk, MatchOption, Some, None};
 ghost use Rattle.std.specs.Option.{option_map};
 ghost use Rattle.ml_text.specs.Grammar as grammar;
-ghost use Rattle.ml_text.specs.Machine as machine;
+ghost use Rattle.ml_text.specs.private.Machine as machine;
 ghost use Rattle.ml_mu.specs.FormViews.{IsStopped, IsUntaken, frame_view, hold_view, mode_view, stack_view, turn_view, wait_view};
 ghost use Rattle.ml_mu.specs.SignViews.{modality_of, sign_view};
 ghost use Rattle.ml_mu.specs.Formula as plain;

@@ -1,9 +1,9 @@
 // The reader of texts: one token at a time, within the limits.
 ghost use Rattle.std.specs.Prelude.{◌≡◌, ℕ, ◌≤◌, ◌<◌, ◌∷◌, if◌then◌else◌, true, List, length, is_some, IfSome, MatchOption, MatchResult};
 ghost use Rattle.std.specs.Option.{option_map};
-ghost use Rattle.ml_text.specs.Machine as machine;
+ghost use Rattle.ml_text.specs.private.Machine as machine;
 ghost use Rattle.ml_text.specs.Refusals as limit;
-ghost use Rattle.ml_text.specs.Reading as outcome;
+ghost use Rattle.ml_text.specs.private.Reading as outcome;
 ghost use Rattle.ml_mu.specs.FormViews.{mode_view};
 ghost use Rattle.ml_mu.specs.ReadingViews as views;
 ghost use Rattle.ml_mu.specs.ReadingViews.{IsRefusal, KeepsLimits, name_refusal, outcome_from};

@@ -3,12 +3,13 @@
 --   reduce-popped   == a frame whose operand doesn't take the sign is popped
 --   reduce-stops    == one whose operand takes it stays
 --   behind-reduce   == a step behind an operand is to reduce, and then to resolve
+--   step-behind     == the same, by what reducing gave
 --   close-reduce    == so is the end of a text, where nothing follows
 --   reduce-same     == signs that no operand takes reduce alike
 use Rattle.std.proofs.Common.{◌≡◌, ℕ, true, false, [], ◌∷◌, Option, Some, None, refl, sym, ◌∙◌, ap, ⊎_elim}
 use Rattle.std.proofs.lemmas.Bool.{cases_Bool, cond-true, cond-false}
 use Rattle.ml_text.specs.Grammar.{Grammar, Mode, Whole, More, right_level, takes}
-use Rattle.ml_text.specs.Machine.{Frame, Held, Left, Stack, State, frame_sort, frame_level, step, behind, whole_of, close, popped, reduced, reduce, resolve}
+use Rattle.ml_text.specs.private.Machine.{Frame, Held, Left, Stack, State, frame_sort, frame_level, step, behind, whole_of, close, popped, reduced, reduce, resolve}
 use Rattle.ml_text.proofs.Complete.{behind-popped, behind-taken}
 
 pub reduce-popped : (g : Grammar) (n : Option g.Sign) (fr : Frame g) (stack : Stack g) (v : g.Tree) → takes g (frame_sort g fr) (frame_level g fr) n ≡ false → reduce g n (fr ∷ stack) v ≡ reduced g (λ w. reduce g n stack w) (popped g fr v) stack
@@ -64,3 +65,7 @@ reduce-same g n k same (fr ∷ stack) v =
     ∙ reduced-same g (popped g fr v) stack (λ w. reduce g n stack w) (λ w. reduce g k stack w) (λ w. reduce-same g n k same stack w)
     ∙ sym (reduce-popped g k fr stack v untaken))
     (cases_Bool (takes g (frame_sort g fr) (frame_level g fr) k))
+
+-- a step behind an operand, by what its reducing gave
+pub step-behind : (g : Grammar) (stack under : Stack g) (v : g.Tree) (m : Mode g.Tree g.Wait) (t : g.Sign) → (m, under) ≡ reduce g (Some t) stack v → resolve g m under t ≡ step g (Whole v) stack t
+step-behind g stack under v m t is = ap (resolved g t) is ∙ sym (behind-reduce g stack v t)

@@ -14,11 +14,21 @@
 #![tactic(auto)]
 
 mod bytes;
+mod forms;
 pub mod laws;
+mod limits;
+mod logic;
+mod reading;
+mod stack;
+mod stepping;
 mod token;
 mod words;
 
 pub use bytes::{is_blank, is_digit, is_letter, is_lower, is_upper, is_word_byte};
+pub use forms::{Frame, Mode, Role, Turn};
+pub use limits::{Bracket, MOST_OCCURRENCES, MOST_OPEN};
+pub use logic::Logic;
+pub use reading::{Reading, read};
 pub use token::{Operator, Placed, Token, WordStart, next_token};
 pub use words::constant_of;
 

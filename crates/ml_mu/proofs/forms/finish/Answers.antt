@@ -1,5 +1,5 @@
 use Rattle.std.proofs.Common.{sym, ◌∙◌, ap}
-use Rattle.ml_text.specs.Machine as machine
+use Rattle.ml_text.specs.private.Machine as machine
 use Rattle.ml_mu.specs.FormViews.{mode_view, stack_view}
 use Rattle.ml_mu.specs.Tables as tables
 use Rattle.ml_mu.specs.Term.{formula_of}

@@ -1,6 +1,6 @@
 use Rattle.std.proofs.Common.{◌≡◌}
 use Rattle.std.specs.Option.{option_map}
-use Rattle.ml_text.specs.Machine as machine
+use Rattle.ml_text.specs.private.Machine as machine
 use Rattle.ml_mu.specs.FormViews.{stack_view}
 use Rattle.ml_mu.specs.Signs as sign
 use Rattle.ml_mu.specs.Tables as tables

@@ -1,5 +1,5 @@
 use Rattle.std.proofs.Common.{sym, ◌∙◌, ap}
-use Rattle.ml_text.specs.Machine as machine
+use Rattle.ml_text.specs.private.Machine as machine
 use Rattle.ml_mu.specs.FormViews.{stack_view, wait_view}
 use Rattle.ml_mu.specs.SignViews.{sign_view}
 use Rattle.ml_mu.specs.Tables as tables

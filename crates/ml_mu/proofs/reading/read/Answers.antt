@@ -1,6 +1,6 @@
 use Rattle.std.proofs.Common.{sym, ap, arith, length}
 use Rattle.ml_text.specs.Grammar.{More}
-use Rattle.ml_text.specs.Reading.{outcome}
+use Rattle.ml_text.specs.private.Reading.{outcome}
 use Rattle.ml_text.specs.Tokens.{tokens}
 use Rattle.ml_mu.specs.FormViews.{stack_view}
 use Rattle.ml_mu.specs.Tables as tables

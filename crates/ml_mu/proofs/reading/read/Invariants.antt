@@ -1,6 +1,6 @@
 use Rattle.std.proofs.Common.{◌≡◌, ◌-◌, ◌≤◌, length}
 use Rattle.ml_text.specs.declared.token.WordStart.TheVariants.{AnyLetter}
-use Rattle.ml_text.specs.Reading.{text_outcome}
+use Rattle.ml_text.specs.private.Reading.{text_outcome}
 use Rattle.ml_text.specs.Tokens.{tokens_from}
 use Rattle.ml_mu.specs.ReadingViews.{KeepsLimits, outcome_from}
 use Rattle.ml_mu.specs.Tables.{mu_grammar}

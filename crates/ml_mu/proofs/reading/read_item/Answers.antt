@@ -1,5 +1,5 @@
 use Rattle.std.proofs.Common.{◌≡◌, ℕ, true, ◌+◌, ◌-◌, is_some, sym, ◌∙◌, ap, subst, if◌then◌else◌}
-use Rattle.ml_text.specs.Machine as machine
+use Rattle.ml_text.specs.private.Machine as machine
 use Rattle.ml_mu.specs.FormViews.{mode_view, stack_view}
 use Rattle.ml_mu.specs.ReadingViews.{name_refusal}
 use Rattle.ml_mu.specs.Signs as sign

@@ -1,5 +1,5 @@
 use Rattle.std.proofs.Common.{sym, ◌∙◌, ap, is_some}
-use Rattle.ml_text.specs.Machine as machine
+use Rattle.ml_text.specs.private.Machine as machine
 use Rattle.ml_mu.specs.FormViews.{mode_view}
 use Rattle.ml_mu.specs.SignViews.{named}
 use Rattle.ml_mu.specs.Tables as tables

@@ -1,12 +1,11 @@
--- How the machine and the limits read a text together, item by item. Private contracts cite this; where texts are
--- refused is said in `Refusals.antt`.
+-- How the machine and the limits read a text together, item by item. Where texts are refused is said in `Refusals.antt`.
 --
 --   Outcome                                == the tree, or a cause with its offset
 --   cause_at count open is_long            == the limit that an item passes behind which these are counted, if any
 --   outcome g end m stack count open items == what comes of the items from this state on
 use Rattle.std.specs.Prelude.{ℕ, ◌+◌, Bool, if◌then◌else◌, nat_lt, List, [], ◌∷◌, Option, Some, None}
 use Rattle.ml_text.specs.Grammar.{Grammar, Mode}
-use Rattle.ml_text.specs.Machine.{Stack, start_state, step, finish}
+use Rattle.ml_text.specs.private.Machine.{Stack, start_state, step, finish}
 use Rattle.ml_text.specs.Refusals.{Item, Cause, Syntax, TooMany, TooNested, NameTooLong, open_behind_one, most_occurrences, most_open}
 
 pub data Outcome (Tree : Type 0) : Type 0 where

@@ -1,6 +1,5 @@
 -- The machine that reads the texts of a grammar: a stack of what is begun, and one sign at a time.
---
--- Private contracts and proofs cite this; what a text stands for is said in `Grammar.antt`.
+-- What a text stands for is said in `Grammar.antt`.
 --
 --   Frame               == what is begun: a form that holds an operand, or a left operand with its operator
 --   State g             == what is read of the topmost form, and the stack, topmost frame first
@@ -45,18 +44,22 @@ level_of g (fr ∷ stack) = frame_level g fr
 abbrev pub start_state : (g : Grammar) → g.Sort → Mode g.Tree g.Wait
 start_state g s = More (g.start s)
 
+-- a form that holds an operand is begun
+abbrev pub hold : (g : Grammar) → Stack g → g.Hold → State g
+hold g stack k = (start_state g (g.sort k), Held k ∷ stack)
+
 -- behind a sign with which the operand of the topmost frame begins
 abbrev pub begin : (g : Grammar) → Stack g → Option (Turn g.Tree g.Wait g.Hold) → Option (State g)
 begin g stack None = None
 begin g stack (Some (Read m)) = Some (m, stack)
-begin g stack (Some (Inner k)) = Some (start_state g (g.sort k), Held k ∷ stack)
+begin g stack (Some (Inner k)) = Some (hold g stack k)
 begin g stack (Some (Opens k)) = None
 
 -- behind a sign, by what it does to the topmost form
 abbrev pub enter : (g : Grammar) → Stack g → g.Sign → Option (Turn g.Tree g.Wait g.Hold) → Option (State g)
 enter g stack t None = None
 enter g stack t (Some (Read m)) = Some (m, stack)
-enter g stack t (Some (Inner k)) = Some (start_state g (g.sort k), Held k ∷ stack)
+enter g stack t (Some (Inner k)) = Some (hold g stack k)
 enter g stack t (Some (Opens k)) = begin g (Held k ∷ stack) (g.shift (g.start (g.sort k)) t)
 
 -- behind an operator or a sign that the operand v takes
