@@ -8,3 +8,5 @@ pub mod Dues
 pub mod OneDue
 -- what is written is read back
 pub mod ReadBack
+-- some status is due
+pub mod SomeDue

@@ -98,7 +98,7 @@ name_from begins letter (b ∷ bs) word short =
     and_from (is_ascii_alphabetic b && list_all is_name_byte bs) (nat_le (length (b ∷ bs)) 64)
     (and_from (is_ascii_alphabetic b) (list_all is_name_byte bs) first others) fits
 
-lower_name : (w : List ℕ) → is_proposition w ≡ true → length w ≤ 64 → is_name w ≡ true
+pub lower_name : (w : List ℕ) → is_proposition w ≡ true → length w ≤ 64 → is_name w ≡ true
 lower_name w is short = name_from is_lower (λ b lower. or_right (is_upper b) (is_lower b) lower) w (and_parts (is_word_from is_lower w) (not (is_reserved w)) is).0 short
 
 upper_name : (w : List ℕ) → is_variable w ≡ true → length w ≤ 64 → is_name w ≡ true

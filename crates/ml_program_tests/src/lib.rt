@@ -1,7 +1,7 @@
 // Tests of texts, documents and the program as a whole. They stand here, above all crates that they call, so that
 // none of those is proved a second time for its tests. Tests of games, traces and histories stand in `ml_tests`.
 //
-//   program_tests  the worked rows of the program, over sources and sinks in memory, and the examples of examples/
+//   program_tests  the worked rows of the program, over sources and sinks in memory
 #![tactic(auto)]
 
 #[cfg(test)]

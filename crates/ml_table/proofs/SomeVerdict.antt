@@ -1,6 +1,7 @@
 -- Every formula in the form that is decided has a verdict, by the definitions alone.
 --
 --   AreNamed f       == each proposition of f is a name
+--   spelled_named    == so they are where names are short and spelled as they must be
 --   some_assignment  == some values pass a test, or none do
 --   ModelOf ps       == an ordered structure of one state that lists exactly the names ps
 --   model_of_names   == there is one
@@ -14,6 +15,9 @@ use Rattle.ml_kripke.specs.Ordered.{IsOrdered, IsBuiltFrom, HasNames}
 use Rattle.ml_kripke.proofs.Members.{contains_head, contains_later, contains_cases, contains_none}
 use Rattle.ml_mu.specs.Formula.{Formula, Const, Prop, Var, Not, Binary, Modal, Binder}
 use Rattle.ml_mu.specs.Problem.{IsSatisfiable}
+use Rattle.ml_mu.specs.Spelling.{HasShortNames, is_spelled, is_action, is_variable}
+use Rattle.ml_mu.proofs.Names.{lower_name}
+use Rattle.std.proofs.lemmas.Bool.{and_parts}
 use Rattle.ml_table.specs.Propositional.{is_propositional, value_under, with_name, propositions_after, different_propositions, plain, IsInForm, HoldsInModel}
 use Rattle.ml_table.specs.Assignments.{assigned, chosen_names, IsExhausted}
 use Rattle.ml_table.proofs.Labels.{at_zero, at_zero_iff}
@@ -28,6 +32,17 @@ AreNamed (Not f) = AreNamed f
 AreNamed (Binary op f g) = AreNamed f × AreNamed g
 AreNamed (Modal m a f) = AreNamed f
 AreNamed (Binder q x f) = AreNamed f
+
+pub spelled_named : (f : Formula) → HasShortNames f → is_spelled f ≡ true → AreNamed f
+spelled_named (Const b) short spelled = tt
+spelled_named (Prop p) short spelled = lower_name p spelled short
+spelled_named (Var x) short spelled = tt
+spelled_named (Not f) short spelled = spelled_named f short spelled
+spelled_named (Binary op f g) short spelled =
+    let parts = and_parts (is_spelled f) (is_spelled g) spelled in
+    (spelled_named f short.0 parts.0, spelled_named g short.1 parts.1)
+spelled_named (Modal m a f) short spelled = spelled_named f short.1 (and_parts (is_action a) (is_spelled f) spelled).1
+spelled_named (Binder q x f) short spelled = spelled_named f short.1 (and_parts (is_variable x) (is_spelled f) spelled).1
 
 -- ---- assignments
 
