@@ -19,12 +19,10 @@ mod forms;
 mod formula;
 mod head_rule;
 pub mod laws;
+mod logic;
 mod parsing;
 mod printing;
-mod progress;
-mod reading;
 mod signs;
-mod spelling;
 mod term;
 #[cfg(test)]
 mod tests;

@@ -22,8 +22,8 @@
 --   IsRegular g          == no form lets a held operand begin with the very sign that begins the form
 --   IsCompletable g      == each form that is begun can be ended
 use Rattle.std.specs.Prelude.{ℕ, ◌+◌, ◌≤◌, ◌≡◌, Bool, true, false, if◌then◌else◌, nat_le, List, [], ◌∷◌, ◌++◌, Option, Some, None}
-pub use Rattle.ml_text.specs.declared.forms.Role.{Role}
-pub use Rattle.ml_text.specs.declared.forms.Role.TheVariants.{Infix, Postfix, Outside}
+use Rattle.ml_text.specs.declared.forms.Role.{Role}
+use Rattle.ml_text.specs.declared.forms.Role.TheVariants.{Infix, Postfix, Outside}
 
 pub data Mode (Tree Wait : Type 0) : Type 0 where
   Whole : Tree → Mode Tree Wait

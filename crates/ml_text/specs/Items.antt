@@ -13,7 +13,8 @@
 --   noted t text          == the offsets of the items whose places the logic wants, in the order of the text
 use Rattle.std.specs.Prelude.{ℕ, ◌-◌, ◌&&◌, Bool, true, false, nat_lt, if◌then◌else◌, List, [], ◌∷◌, take, drop}
 use Rattle.ml_base.specs.Name.{longest_name}
-use Rattle.ml_text.specs.Refusals.{Bracket, Item}
+use Rattle.ml_text.specs.Refusals.{Item}
+use Rattle.ml_text.specs.declared.limits.Bracket.{Bracket}
 use Rattle.ml_text.specs.Tokens.{tokens}
 use Rattle.ml_text.specs.declared.token.Token.{Token}
 use Rattle.ml_text.specs.declared.token.Token.TheVariants as token

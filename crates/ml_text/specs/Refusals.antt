@@ -22,8 +22,8 @@
 --   offset_of items end k   == where the place k is in the text, whose end is given
 use Rattle.std.specs.Prelude.{ℕ, zero, suc, ◌+◌, ◌-◌, ◌<◌, ◌≤◌, ◌≡◌, ◌⊎◌, Bool, true, false, List, [], ◌∷◌, ◌++◌, length, map, take, sum_by}
 use Rattle.ml_text.specs.declared.limits.TheConstants.{MOST_OCCURRENCES, MOST_OPEN}
-pub use Rattle.ml_text.specs.declared.limits.Bracket.{Bracket}
-pub use Rattle.ml_text.specs.declared.limits.Bracket.TheVariants.{Opening, Closing, Neither}
+use Rattle.ml_text.specs.declared.limits.Bracket.{Bracket}
+use Rattle.ml_text.specs.declared.limits.Bracket.TheVariants.{Opening, Closing, Neither}
 
 pub record Item (Sign : Type 0) : Type 0 where
   pub sign : Sign

@@ -12,7 +12,9 @@
 --   run g m stack ts    == the state behind the signs ts
 use Rattle.std.specs.Prelude.{ℕ, if◌then◌else◌, List, [], ◌∷◌, Option, Some, None, option_and_then}
 use Rattle.std.specs.Option.{option_map}
-use Rattle.ml_text.specs.Grammar.{Grammar, Role, Infix, Postfix, Outside, Mode, Whole, More, Turn, Read, Inner, Opens, right_level, takes}
+use Rattle.ml_text.specs.Grammar.{Grammar, Mode, Whole, More, Turn, Read, Inner, Opens, right_level, takes}
+use Rattle.ml_text.specs.declared.forms.Role.{Role}
+use Rattle.ml_text.specs.declared.forms.Role.TheVariants.{Infix, Postfix, Outside}
 
 pub data Frame (g : Grammar) : Type 0 where
   Held : g.Hold → Frame g

@@ -10,7 +10,9 @@
 use Rattle.std.specs.Prelude.{ℕ, nat_le, List, Option, Some, None, codes}
 use Rattle.ml_text.specs.declared.token.Operator.{Operator}
 use Rattle.ml_text.specs.declared.token.Operator.TheVariants as operator
-use Rattle.ml_text.specs.Grammar.{Grammar, Role, Infix, Outside, Mode, Whole, More, Turn, Read, Inner}
+use Rattle.ml_text.specs.Grammar.{Grammar, Mode, Whole, More, Turn, Read, Inner}
+use Rattle.ml_text.specs.declared.forms.Role.{Role}
+use Rattle.ml_text.specs.declared.forms.Role.TheVariants.{Infix, Outside}
 use Rattle.ml_mu.specs.Formula as plain
 use Rattle.ml_mu.specs.Formula.{Formula, Modality, Diamond, Square, Fixpoint}
 use Rattle.ml_mu.specs.Signs.{Sign, Not, Connective, Const, Open, Close, Begins, Ends, Binds, Dot, Blank, Lower, Upper}
