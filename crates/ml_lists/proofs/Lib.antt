@@ -40,5 +40,9 @@ pub mod Members
 pub mod Increasing
 -- tables: lists with an entry for each number
 pub mod Tables
+-- rows of one width, one behind the other
+pub mod Grids
+-- lassos along a map
+pub mod MappedLasso
 -- lists in another order
 pub mod Permuted
