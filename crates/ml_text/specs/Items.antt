@@ -61,7 +61,12 @@ item_at t text c p = record {
   is_long = is_long_word p;
 }
 
-abbrev pub items_from : {Sign Context : Type 0} → SignTable Sign Context → List ℕ → Context → List Placed → List (Item Sign)
+abbrev pub items_from : {Sign Context : Type 0}
+    → SignTable Sign Context
+    → List ℕ
+    → Context
+    → List Placed
+    → List (Item Sign)
 items_from t text c [] = []
 items_from t text c (p ∷ ps) = item_at t text c p ∷ items_from t text (t.behind (t.sign_at text p)) ps
 

@@ -71,7 +71,12 @@ take_sign g stack v t Postfix = option_map (λ h. (Whole h, stack)) (g.post t v)
 take_sign g stack v t Outside = None
 
 -- a form that held an operand goes on: it is whole, or the sign is one of its own
-abbrev pub go_on : (g : Grammar) → (g.Tree → Option (State g)) → Mode g.Tree g.Wait → Stack g → g.Sign → Option (State g)
+abbrev pub go_on : (g : Grammar)
+    → (g.Tree → Option (State g))
+    → Mode g.Tree g.Wait
+    → Stack g
+    → g.Sign
+    → Option (State g)
 go_on g next (Whole w) stack t = next w
 go_on g next (More q) stack t = enter g stack t (g.shift q t)
 

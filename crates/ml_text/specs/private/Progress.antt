@@ -17,7 +17,12 @@ use Rattle.ml_text.specs.private.Tables.{Tables}
 use Rattle.ml_text.specs.private.Views.{mode_view, stack_view}
 use Rattle.ml_text.specs.declared.reading.Progress.{Progress}
 
-abbrev pub outcome_from : {K C S O T W H : Type 0} → (t : Tables K C S O T W H) → ℕ → Progress C S O T W H → List (Item t.grammar.Sign) → Outcome t.grammar.Tree
+abbrev pub outcome_from : {K C S O T W H : Type 0}
+    → (t : Tables K C S O T W H)
+    → ℕ
+    → Progress C S O T W H
+    → List (Item t.grammar.Sign)
+    → Outcome t.grammar.Tree
 outcome_from t end p items = outcome t.grammar end (mode_view t p.mode) (stack_view t p.stack.items) p.count p.depth items
 
 abbrev pub KeepsLimits : {C S O T W H : Type 0} → Progress C S O T W H → Type 0
@@ -28,7 +33,8 @@ pub record GoesOn {K C S O T W H : Type 0} (t : Tables K C S O T W H) (p : Progr
   pub limits : KeepsLimits next
   pub context : next.context ≡ t.signs.behind i.sign
   pub places : next.places.items ≡ (if t.signs.is_noted p.context i.sign then p.places.items ++ i.at ∷ [] else p.places.items)
-  pub comes : (end : ℕ) (rest : List (Item t.grammar.Sign)) → outcome_from t end p (i ∷ rest) ≡ outcome_from t end next rest
+  pub comes : (end : ℕ) (rest : List (Item t.grammar.Sign))
+      → outcome_from t end p (i ∷ rest) ≡ outcome_from t end next rest
 
 abbrev pub IsRefusal : {Tree : Type 0} → ParseRefusal → Outcome Tree → Type 0
 IsRefusal (refusal.Syntax at) out = out ≡ Refused cause.Syntax at

@@ -17,16 +17,26 @@ use Rattle.ml_text.specs.declared.forms.Turn.TheVariants as turn
 use Rattle.ml_text.specs.declared.forms.Frame.{Frame}
 use Rattle.ml_text.specs.declared.forms.Frame.TheVariants as frame
 
-abbrev pub mode_view : {K C S O T W H : Type 0} → (t : Tables K C S O T W H) → Mode T W → grammar.Mode t.grammar.Tree t.grammar.Wait
+abbrev pub mode_view : {K C S O T W H : Type 0}
+    → (t : Tables K C S O T W H)
+    → Mode T W
+    → grammar.Mode t.grammar.Tree t.grammar.Wait
 mode_view t (mode.Whole v) = grammar.Whole (t.tree v)
 mode_view t (mode.More q) = grammar.More (t.wait q)
 
-abbrev pub turn_view : {K C S O T W H : Type 0} → (t : Tables K C S O T W H) → Turn O T W H → grammar.Turn t.grammar.Tree t.grammar.Wait t.grammar.Hold
+abbrev pub turn_view : {K C S O T W H : Type 0}
+    → (t : Tables K C S O T W H)
+    → Turn O T W H
+    → grammar.Turn t.grammar.Tree t.grammar.Wait t.grammar.Hold
 turn_view t (turn.Read m) = grammar.Read (mode_view t m)
 turn_view t (turn.Inner k) = grammar.Inner (t.hold k)
 turn_view t (turn.Opens k o) = grammar.Opens (t.hold k)
 
-abbrev pub GivesBack : {K C S O T W H : Type 0} → (t : Tables K C S O T W H) → Option (Turn O T W H) → t.grammar.Sign → Type 0
+abbrev pub GivesBack : {K C S O T W H : Type 0}
+    → (t : Tables K C S O T W H)
+    → Option (Turn O T W H)
+    → t.grammar.Sign
+    → Type 0
 GivesBack t None sign = Unit {0}
 GivesBack t (Some (turn.Read m)) sign = Unit {0}
 GivesBack t (Some (turn.Inner k)) sign = Unit {0}
@@ -36,7 +46,10 @@ abbrev pub frame_view : {K C S O T W H : Type 0} → (t : Tables K C S O T W H) 
 frame_view t (frame.Held k) = machine.Held (t.hold k)
 frame_view t (frame.Left s l o v) = machine.Left (t.sort s) l (t.sign o) (t.tree v)
 
-abbrev pub stack_view : {K C S O T W H : Type 0} → (t : Tables K C S O T W H) → List (Frame S O T H) → machine.Stack t.grammar
+abbrev pub stack_view : {K C S O T W H : Type 0}
+    → (t : Tables K C S O T W H)
+    → List (Frame S O T H)
+    → machine.Stack t.grammar
 stack_view t frames = reverse (map (frame_view t) frames)
 
 abbrev pub frame_takes : (g : Grammar) → machine.Frame g → g.Sign → Rattle.std.specs.Prelude.Bool

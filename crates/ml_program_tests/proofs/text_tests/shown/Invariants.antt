@@ -1,5 +1,5 @@
 use Rattle.std.proofs.Common.{◌≤◌, ◌-◌, length}
-use Rattle.ml_text.proofs.tests.shown.Given as goal
+use Rattle.ml_program_tests.proofs.text_tests.shown.Given as goal
 
 abbrev pub invariant-loop-placed : goal.invariant-loop-placed
 invariant-loop-placed l = l.from ≤ length l.text

@@ -1,5 +1,5 @@
 // The tokens of texts, worked out by hand.
-use crate::{Operator, Token, WordStart, constant_of, is_digit, is_lower, is_upper, next_token};
+use ml_text::{Operator, Token, WordStart, constant_of, is_digit, is_lower, is_upper, next_token};
 use std::alloc::{AllocError, Global};
 use std::test::Fail;
 
