@@ -32,8 +32,6 @@ pub mod CanonicalTexts
 pub mod Monotone
 -- the n-th iterate is a fixpoint, the least or the greatest
 pub mod Fixpoints
--- the lines of a head
-pub mod HeadLines
 -- names in texts and formulas are short
 pub mod ShortNames
 -- canonical texts pass no limit
@@ -42,5 +40,3 @@ pub mod CanonicalLimits
 pub mod CanonicalParsed
 -- canonical texts stand in one line
 pub mod CanonicalLines
--- heads are read back
-pub mod HeadsReadBack

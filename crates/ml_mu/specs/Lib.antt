@@ -14,10 +14,6 @@ pub mod Problem
 pub mod Canonical
 -- the formulas that the program holds
 pub mod WellFormed
--- the head of a document
-pub mod Head
--- the rules of a head, and its first bad line
-pub mod HeadRules
 -- the signs of texts
 pub mod Signs
 -- the grammar of texts
