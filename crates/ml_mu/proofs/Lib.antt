@@ -1,17 +1,9 @@
--- words, taken apart
-pub mod Words
 -- the grammar is the one of the tables
 pub mod GrammarTables
 -- the tables are regular and can be completed
 pub mod MuGrammar
--- the program's stack
-pub mod Stacks
--- steps behind an operand
-pub mod Steps
 -- names in texts
 pub mod Names
--- what comes of an item
-pub mod Items
 -- what a text counts is what its formula has
 pub mod Counting
 -- names are spelled as they must be

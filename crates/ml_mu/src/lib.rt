@@ -15,12 +15,10 @@ mod evaluator;
 mod forms;
 mod formula;
 pub mod laws;
+mod logic;
 mod parsing;
 mod printing;
-mod progress;
-mod reading;
 mod signs;
-mod spelling;
 mod term;
 #[cfg(test)]
 mod tests;

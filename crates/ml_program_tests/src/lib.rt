@@ -5,6 +5,7 @@
 //   kripke_tests    structures, and the texts of models
 //   line_tests      lines written and cut
 //   program_tests   the worked rows of the program, over sources and sinks in memory
+//   text_tests      the tokens of texts
 #![tactic(auto)]
 
 #[cfg(test)]
@@ -15,3 +16,5 @@ mod kripke_tests;
 mod line_tests;
 #[cfg(test)]
 mod program_tests;
+#[cfg(test)]
+mod text_tests;

@@ -11,9 +11,9 @@ use Rattle.std.proofs.lemmas.List.{map-append, append-nil}
 use Rattle.std.proofs.lemmas.List.Sums.{sum_by-append, sum_by-cons}
 use Rattle.std.proofs.Math.Seq.{take-append_seam}
 use Rattle.ml_text.specs.Grammar.{Grammar, StandsFor, IsRegular, IsCompletable}
-use Rattle.ml_text.specs.Machine.{State, start_state, step, finish, parse, run}
+use Rattle.ml_text.specs.private.Machine.{State, start_state, step, finish, parse, run}
 use Rattle.ml_text.specs.Refusals.{Item, Cause, Syntax, TooMany, TooNested, NameTooLong, signs_of, counted, open_behind, open_behind_one, open_from, most_occurrences, most_open, rank, BeginsText, IsSyntaxFault, IsCountFault, IsNestingFault, IsFault, IsRefused, IsAccepted, is_long_at, offset_of}
-use Rattle.ml_text.specs.Reading.{Outcome, Found, Refused, cause_at, next_outcome, end_outcome, outcome, text_outcome}
+use Rattle.ml_text.specs.private.Reading.{Outcome, Found, Refused, cause_at, next_outcome, end_outcome, outcome, text_outcome}
 use Rattle.ml_text.proofs.Complete.{found}
 use Rattle.ml_text.proofs.Sound.{stands}
 use Rattle.ml_text.proofs.Viable.{run-parse, run-last, viable, not_viable}

@@ -34,3 +34,9 @@ pub mod Scans
 pub mod Fronts
 -- relations by which the same signs stand for something
 pub mod SameTexts
+-- the stack that a program holds
+pub mod Stacks
+-- signs that do the same, but for what they make
+pub mod Alike
+-- what comes of an item
+pub mod ItemSteps
