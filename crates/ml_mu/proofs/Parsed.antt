@@ -17,7 +17,8 @@ use Rattle.ml_text.specs.declared.token.WordStart.TheVariants.{AnyLetter}
 use Rattle.ml_text.specs.Tokens.{tokens}
 use Rattle.ml_text.specs.Refusals.{Cause, Syntax, TooMany, TooNested, NameTooLong, IsAccepted}
 use Rattle.ml_text.specs.private.Reading.{Outcome, Found, Refused, text_outcome}
-use Rattle.ml_text.proofs.Exact.{Fits, IsOutcome, exact, few_items}
+use Rattle.ml_text.proofs.Exact.{IsOutcome, exact, few_items}
+use Rattle.ml_text.proofs.Fits.{Fits}
 use Rattle.ml_mu.specs.Formula.{Formula, occurrences}
 use Rattle.ml_mu.specs.Grammar.{IsReadAs}
 use Rattle.ml_mu.specs.Parsing.{IsParsedAs, IsRefusedBy, ComesFirst}

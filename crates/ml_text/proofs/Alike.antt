@@ -1,11 +1,11 @@
 -- Signs that do the same, but for what they make: where a text goes on with the one, it goes on with the other.
 --
 --   goes_alike  == the machine has a step behind the one exactly where it has one behind the other
-use Rattle.std.proofs.Common.{◌≡◌, ◌∷◌, List, Option, Some, None, is_some, refl, sym, ◌∙◌, ap, subst}
+use Rattle.std.proofs.Common.{◌≡◌, Option, Some, None, is_some, refl, sym, ◌∙◌, ap}
 use Rattle.ml_text.specs.Grammar.{Grammar, Mode, Whole, More, Turn, Read, Inner, Opens, role_takes}
 use Rattle.ml_text.specs.declared.forms.Role.{Role}
 use Rattle.ml_text.specs.declared.forms.Role.TheVariants.{Infix, Postfix, Outside}
-use Rattle.ml_text.specs.private.Machine.{Stack, State, begin, enter, take_sign, sort_of, step, behind, resolve, reduce}
+use Rattle.ml_text.specs.private.Machine.{Stack, begin, enter, take_sign, sort_of, step, resolve, reduce}
 use Rattle.ml_text.specs.private.Tables.{Shape, Stuck, Goes, Begins, shape_of, IsLike}
 use Rattle.ml_text.proofs.Reduce.{resolved, behind-reduce, reduce-same}
 

@@ -6,11 +6,11 @@
 --   unlimited     == what it is to keep them
 --   stuck_like, limited_like, goes_as == the same, where the step was taken with a sign that is like the item's
 --   short_bytes   == the name of a token that is not too long is made of all its bytes
-use Rattle.std.proofs.Common.{◌≡◌, ℕ, ◌+◌, ◌-◌, ◌≤◌, Bool, true, false, nat_lt, List, [], ◌∷◌, ◌++◌, append_assoc, Option, Some, None, is_some, refl, sym, ◌∙◌, ap, subst, arith, cond, ltb-false, take, drop}
+use Rattle.std.proofs.Common.{◌≡◌, ℕ, ◌+◌, ◌-◌, ◌≤◌, Bool, true, false, nat_lt, List, [], ◌∷◌, ◌++◌, append_assoc, Option, Some, None, is_some, refl, sym, ◌∙◌, ap, subst, cond, ltb-false, take, drop}
 use Rattle.std.specs.Option.{option_map}
 use Rattle.ml_base.specs.declared.parse_refusal.ParseRefusal.{ParseRefusal}
 use Rattle.ml_text.specs.Grammar.{Grammar, Mode}
-use Rattle.ml_text.specs.Items.{bytes_of, name_size, name_bytes, is_long_word}
+use Rattle.ml_text.specs.Items.{bytes_of, name_bytes, is_long_word}
 use Rattle.ml_text.specs.Refusals.{Item, Cause, Syntax, TooMany, TooNested, NameTooLong, open_behind_one, most_occurrences, most_open}
 use Rattle.ml_text.specs.private.Machine.{Stack, State, step}
 use Rattle.ml_text.specs.private.Progress.{IsRefusal, refusal_of, limit_refusal}

@@ -1,9 +1,9 @@
-use Rattle.std.proofs.Common.{rules, ◌≡◌, ℕ, ◌∷◌, ◌++◌, [], if◌then◌else◌, List, length, sym, ◌∙◌, ap, subst, arith}
+use Rattle.std.proofs.Common.{rules, ◌≡◌, ◌∷◌, ◌++◌, [], length, sym, ◌∙◌, ap, subst, arith}
 use Rattle.ml_text.specs.Grammar.{More}
 use Rattle.ml_text.specs.Items.{item_at, items, items_from, noted_from}
 use Rattle.ml_text.specs.Tokens.{tokens, tokens_from}
 use Rattle.ml_text.specs.private.Progress.{IsRefusal, outcome_from}
-use Rattle.ml_text.specs.private.Reading.{outcome, text_outcome}
+use Rattle.ml_text.specs.private.Reading.{outcome}
 use Rattle.ml_text.specs.private.Views.{stack_view}
 use Rattle.ml_text.proofs.ItemSteps.{noted_more}
 use Rattle.ml_text.proofs.NextToken.{first_is_next}

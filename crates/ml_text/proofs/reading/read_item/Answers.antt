@@ -1,9 +1,9 @@
-use Rattle.std.proofs.Common.{◌≡◌, ◌+◌, ◌-◌, ◌++◌, ◌∷◌, [], if◌then◌else◌, false, Some, None, sym, ◌∙◌, ap, take, drop, arith}
+use Rattle.std.proofs.Common.{◌≡◌, ◌+◌, ◌-◌, ◌++◌, ◌∷◌, [], if◌then◌else◌, false, sym, ◌∙◌, ap, take, drop, arith}
 use Rattle.ml_text.specs.Items as text_items
 use Rattle.ml_text.specs.Refusals as limit
 use Rattle.ml_text.specs.private.Tables.{IsLike}
 use Rattle.ml_text.specs.private.Views.{mode_view, stack_view}
-use Rattle.ml_text.proofs.ItemSteps.{Kept, goes_as, like_of, limited_like, short_bytes, stuck_like}
+use Rattle.ml_text.proofs.ItemSteps.{goes_as, like_of, limited_like, short_bytes, stuck_like}
 use Rattle.ml_text.proofs.reading.read_item.Goals as goal
 
 pub returns-in_default : goal.returns-in_default
