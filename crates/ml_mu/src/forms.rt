@@ -130,7 +130,12 @@ pub(crate) fn resume(alloc: Global, hold: Hold, term: Term) -> Result<Mode<Term,
 }
 
 /// Two operands with an operator between them.
-pub(crate) fn join(alloc: Global, operator: Operator, left: Term, right: Term) -> Result<Term, NoMemory>
+pub(crate) fn join(
+    alloc: Global,
+    operator: Operator,
+    left: Term,
+    right: Term,
+) -> Result<Term, NoMemory>
     ensures { IfOk result (λ term.
         formula_of term ≡ plain.Binary operator (formula_of left) (formula_of right)) }
 {

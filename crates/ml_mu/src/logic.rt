@@ -28,10 +28,15 @@ impl Logic for Mu {
     type Kind = Kind;
     // is the next token silent, an action or the variable of a binder?
     type Context = bool;
+
     type Sort = ();
+
     type Sign = Sign;
+
     type Tree = Term;
+
     type Wait = Wait;
+
     type Hold = Hold;
 
     ghost use Rattle.std.specs.Prelude.{ℕ, List};

@@ -17,7 +17,7 @@ lower_alike : (p q : List ℕ) → IsLike mu_grammar (Lower p) (Lower q)
 lower_alike p q = record {
   role = λ s. refl;
   shift = elim [
-    Operand ↦ refl
+    | Operand ↦ refl
     | BehindBegin Diamond ↦ refl
     | BehindBegin Square ↦ refl
     | BehindAction Diamond a ↦ refl
@@ -33,7 +33,7 @@ upper_alike : (p q : List ℕ) → IsLike mu_grammar (Upper p) (Upper q)
 upper_alike p q = record {
   role = λ s. refl;
   shift = elim [
-    Operand ↦ refl
+    | Operand ↦ refl
     | BehindBegin Diamond ↦ refl
     | BehindBegin Square ↦ refl
     | BehindAction Diamond a ↦ refl
