@@ -2,7 +2,7 @@
 -- they must be and whose variables are bound and positive.
 --
 --   IsWellFormed f    == f is such a formula
-use Rattle.std.specs.Prelude.{ℕ, ◌≤◌, [], IsTrue}
+use Rattle.std.specs.Prelude.{◌≤◌, [], IsTrue}
 use Rattle.ml_text.specs.Refusals.{most_occurrences}
 use Rattle.ml_mu.specs.Formula.{Formula, occurrences}
 use Rattle.ml_mu.specs.Spelling.{HasShortNames, is_spelled}
