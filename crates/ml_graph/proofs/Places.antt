@@ -2,6 +2,7 @@
 --
 --   position_hit, position_miss == where a test first passes, and where it doesn't pass at all
 --   same_place                  == a name has one place
+--   one_name                    == a list of one name has none twice
 use Rattle.std.proofs.Common.{ℕ, zero, suc, ◌≡◌, ◌<◌, ◌≤◌, ⊎_elim, Bool, true, false, cond, nat_lt, List, [], ◌∷◌, length, get_or, Some, None, refl, sym, subst, arith}
 use Rattle.std.specs.List.{position, position_or_len, IsDistinct, AllByRecursion}
 use Rattle.std.specs.Str.{bytes_eq}
@@ -61,3 +62,8 @@ same_place xs different i j i_low j_low same =
     ⊎_elim (λ (less : i < j). absurd (apart xs different i j less j_low same))
     (λ (other : j ≤ i). ⊎_elim (λ (less : j < i). absurd (apart xs different j i less i_low (sym same))) (λ (also : i ≤ j). omega arith) (cases_lt j i))
     (cases_lt i j)
+
+-- one name differs from all others
+pub one_name : (x : List ℕ) → IsDistinct bytes_eq (x ∷ [])
+unfolding IsDistinct
+one_name x = (tt, tt)
