@@ -1,3 +1,6 @@
+-- a formula in a graph, and the induction at everything but binders
+pub mod Situations
+pub mod Connectives
 -- where a graph holds, as a truth value
 pub mod Values
 -- graphs with a binder cut open
