@@ -53,7 +53,7 @@ abbrev pub IsLonger : List ℕ → List (List ℕ) → Type 0
 IsLonger name [] = Unit {0}
 IsLonger name (p ∷ ps) = (length p < length name) × IsLonger name ps
 
-longer_differs : (name : List ℕ) (ps : List (List ℕ)) (p : List ℕ) → IsLonger name ps → IsMember p ps → length p < length name
+pub longer_differs : (name : List ℕ) (ps : List (List ℕ)) (p : List ℕ) → IsLonger name ps → IsMember p ps → length p < length name
 longer_differs name (q ∷ ps) p longer (inl e) = omega (arith, ap length e, longer.0)
 longer_differs name (q ∷ ps) p longer (inr later) = longer_differs name ps p longer.1 later
 longer_differs name [] p longer h = absurd h

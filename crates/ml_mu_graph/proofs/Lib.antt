@@ -1,3 +1,9 @@
+-- the region below a binder
+pub mod FreeVariables
+pub mod Regions
+pub mod Recurring
+-- the body of a binder that is cut open
+pub mod CutSituations
 -- a formula in a graph, and the induction at everything but binders
 pub mod Situations
 pub mod Connectives
@@ -7,3 +13,5 @@ pub mod Values
 pub mod CutOpen
 -- binders cut open, and what lies below an occurrence
 pub mod Told
+-- the induction at binders
+pub mod Binding
