@@ -1,0 +1,2 @@
+-- binders cut open, and what lies below an occurrence
+pub mod Told
