@@ -85,6 +85,7 @@ impl Logic for Mu {
         Wait::Operand
     }
 
+    #[inline(always)]
     fn shift(
         alloc: Global,
         wait: Wait,
@@ -95,6 +96,7 @@ impl Logic for Mu {
 
     fn sort(_hold: &Hold) {}
 
+    #[inline(always)]
     fn level(hold: &Hold) -> u8 {
         match hold {
             Hold::Negation | Hold::Modal(..) => 4,
@@ -102,10 +104,12 @@ impl Logic for Mu {
         }
     }
 
+    #[inline(always)]
     fn resume(alloc: Global, hold: Hold, term: Term) -> Result<Mode<Term, Wait>, NoMemory> {
         resume(alloc, hold, term)
     }
 
+    #[inline(always)]
     fn role(_sort: (), sign: &Sign) -> Role {
         match sign {
             Sign::Connective(operator) => Role::Infix(operator_level(*operator)),

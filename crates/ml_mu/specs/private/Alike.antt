@@ -6,7 +6,7 @@ use Rattle.ml_text.specs.private.Tables.{IsLike}
 use Rattle.ml_mu.specs.Formula.{Diamond, Square}
 use Rattle.ml_mu.specs.Signs.{Sign, Lower, Upper}
 use Rattle.ml_mu.specs.private.SignViews.{named}
-use Rattle.ml_mu.specs.private.Tables.{Wait, Operand, BehindBegin, BehindAction, BehindFixpoint, BehindVariable, BehindInside, mu_grammar}
+use Rattle.ml_mu.specs.private.Tables.{Operand, BehindBegin, BehindAction, BehindFixpoint, BehindVariable, BehindInside, mu_grammar}
 use Rattle.ml_mu.specs.declared.signs.Kind.{Kind}
 use Rattle.ml_mu.specs.declared.signs.Kind.TheVariants as kind
 
