@@ -9,31 +9,32 @@
 --   turned q b           == for a least fixpoint b, for a greatest one not b
 --   value_wins, wins_value == who wins a node is what the node says
 --   agree_binder         == the nodes of a binder hold as its meaning says
-use Rattle.std.proofs.Common.{◌≡◌, ◌≢◌, ◌↔◌, ℕ, zero, suc, ◌+◌, ◌*◌, ◌<◌, ◌≤◌, ◌⊎◌, Bool, true, false, not, List, [], ◌∷◌, length, map, get_or, if◌then◌else◌, Contains, inl, inr, refl, sym, ap, subst, ◌∙◌, ⊎_elim, arith}
+use Rattle.std.proofs.Common.{◌≡◌, ◌≢◌, ◌↔◌, ℕ, ◌+◌, ◌*◌, ◌<◌, ◌≤◌, ◌⊎◌, Bool, true, false, not, List, [], ◌∷◌, length, map, if◌then◌else◌, inl, inr, refl, sym, ap, subst, ◌∙◌, ⊎_elim, arith}
 use Rattle.std.specs.Bool.{beq}
-use Rattle.std.specs.List.{range_with_len}
-use Rattle.std.proofs.lemmas.Bool.{cases_Bool, false≢true, cases_lt, cases_eq}
-use Rattle.std.proofs.lemmas.List.{length-map, get_or_past}
+use Rattle.std.proofs.lemmas.Bool.{cases_Bool, false≢true}
+use Rattle.std.proofs.lemmas.List.{length-map}
 use Rattle.std.proofs.lemmas.List.FromFn.{length-map-range_with_len}
-use Rattle.ml_lists.specs.Lasso.{Lasso, entry}
 use Rattle.ml_base.specs.Structure.{Structure, IsStructure, StateSet, lists, is_member, states_where}
 use Rattle.ml_parity.specs.declared.players.Player.{Player}
 use Rattle.ml_parity.specs.declared.players.Player.TheVariants.{Even, Odd}
 use Rattle.ml_parity.specs.Player.{opponent, side}
-use Rattle.ml_parity.specs.Game.{ParityGame, IsGame, HasMove, owner_of, priority_of, moves_of}
+use Rattle.ml_parity.specs.Game.{ParityGame, HasMove, owner_of, priority_of, moves_of}
 use Rattle.ml_parity.specs.Winner.{Wins}
-use Rattle.ml_parity.proofs.Opponents.{cases_player, no_own_opponent, opponent-opponent}
-use Rattle.ml_parity.proofs.Winners.{won_by_either, clash}
+use Rattle.ml_parity.proofs.Opponents.{same_player, same_player-true, same_player-from_true}
+use Rattle.ml_parity.proofs.Winners.{Winners, winners, won, won_by_either, clash}
+use Rattle.ml_mu.proofs.Fixpoints.{meaning_fixpoint, least_within, greatest_around}
+use Rattle.ml_mu.proofs.Inclusion.{Within, member_below}
 use Rattle.ml_graph.specs.Graph.{Graph, IsGraph, size, node_at, priority_at, prop_at}
 use Rattle.ml_graph.specs.CheckingGame.{Vertex, Pair, Sink, vertex_number, owner_at, mover, successors, successors_of, vertices, checking_game, HoldsAt}
 use Rattle.ml_graph.specs.declared.node.Node.{Node}
 use Rattle.ml_graph.specs.declared.node.Node.TheVariants as node
 use Rattle.ml_graph.proofs.CheckingGame.{IsVertex, vertices-length, owner_is, priority_is, moves_are, is_game}
 use Rattle.ml_graph.proofs.OneStep.{vertex_low}
-use Rattle.ml_fixpoints.specs.Binders.{IsSinkOf, Binder, verdict, HasVerdicts, MakesWithin, IsLeast}
+use Rattle.ml_fixpoints.specs.Binders.{IsSinkOf, Binder, HasVerdicts, IsLeast}
 use Rattle.ml_mu.specs.Formula as formula
 use Rattle.ml_mu.specs.Formula.{Formula, Fixpoint, Least, Greatest, occurrences}
-use Rattle.ml_mu.specs.Meaning.{Given, meaning}
+use Rattle.ml_mu.specs.Meaning.{Given, HaveFlags, meaning}
+use Rattle.ml_mu.specs.Variables.{is_positive}
 use Rattle.ml_mu.proofs.MeaningFlags.{meaning_flags}
 use Rattle.ml_mu_graph.specs.MuGraph.{positive, negative, Around, binder_priority, opposite}
 use Rattle.ml_mu_graph.proofs.Told.{node_of}
@@ -44,12 +45,12 @@ use Rattle.ml_fixpoints.proofs.LeastSets.{least_of}
 use Rattle.ml_mu_graph.proofs.Recurring.{outer_low}
 use Rattle.ml_mu_graph.proofs.Regions.{below_range}
 use Rattle.ml_mu_graph.proofs.CutOpen.{cut, marked, cut_size, cut_positive, cut_negative, cut_others, cut_prop, marked_others}
-use Rattle.ml_mu_graph.proofs.CutSituations.{fresh, prop_short, opened_graph, telling_structure, told_value, inner}
+use Rattle.ml_mu_graph.proofs.CutSituations.{fresh, prop_short, opened_graph, telling_structure, told_value}
 use Rattle.ml_graph.proofs.References.{prop_in_range}
 use Rattle.ml_graph.specs.CheckingGame.{priority_at_vertex}
 use Rattle.std.proofs.Math.Path.{fun_ext}
 use Rattle.ml_lists.specs.Member.{IsMember}
-use Rattle.std.proofs.Common.{◌%◌, cond, eqb}
+use Rattle.std.proofs.Common.{◌%◌, eqb}
 use Rattle.std.proofs.lemmas.Bool.{cond-true, cond-false}
 use Rattle.std.proofs.lemmas.Bool.Decides.{nat_tests}
 use Rattle.ml_mu_graph.proofs.FreeVariables.{some_occurrence}
@@ -156,6 +157,54 @@ bad_priority Least true d = odd_side (2 * d + 1) (omega arith)
 bad_priority Least false d = even_side (2 * d) (omega arith)
 bad_priority Greatest true d = even_side (2 * d) (omega arith)
 bad_priority Greatest false d = odd_side (2 * d + 1) (omega arith)
+
+no_true : (c : Bool) → not c ≡ true → c ≡ true → ⊥
+no_true true e is = false≢true e
+no_true false e is = false≢true is
+
+-- a set that contains what it makes contains the meaning: of a least fixpoint itself, of a greatest one the complements
+meaning_within : (q : Fixpoint) (m0 : Structure) (gs : Given) (x : List ℕ) (f : Formula) → is_positive (formula.Binder q x f) ≡ true
+    → HaveFlags m0.states gs → (W : ℕ → Bool)
+    → ((s : ℕ) → s < m0.states → turned q (is_member (meaning m0 ((x, states_where m0 (λ t. turned q (W t))) ∷ gs) f) s) ≡ true → W s ≡ true)
+    → (s : ℕ) → s < m0.states → turned q (is_member (meaning m0 gs (formula.Binder q x f)) s) ≡ true → W s ≡ true
+meaning_within Least m0 gs x f positives flags W contained s low is =
+    sym (U_is s low) ∙ least_within m0 x f gs U positives flags U_long keeps s is
+  where
+    U : StateSet
+    U = states_where m0 W
+
+    U_is : (t : ℕ) → t < m0.states → is_member (states_where m0 W) t ≡ W t
+    U_is t t_low = member_where m0 W t t_low
+
+    U_long : length (states_where m0 W) ≡ m0.states
+    U_long = length-map-range_with_len W 0 m0.states
+
+    keeps : Within (meaning m0 ((x, states_where m0 W) ∷ gs) f) (states_where m0 W)
+    keeps k inside =
+        let below = member_below (meaning m0 ((x, states_where m0 W) ∷ gs) f) k inside in
+        let k_low : k < m0.states = omega (arith, below, meaning_flags m0 ((x, states_where m0 W) ∷ gs) f (U_long, flags)) in
+        U_is k k_low ∙ contained k k_low inside
+meaning_within Greatest m0 gs x f positives flags W contained s low is =
+    ⊎_elim
+    (λ (yes_w : W s ≡ true). yes_w)
+    (λ (no_w : W s ≡ false). absurd (no_true _ is (greatest_around m0 x f gs (states_where m0 (λ t. not (W t))) positives flags U_long keeps s (U_is s low ∙ ap not no_w))))
+    (cases_Bool (W s))
+  where
+    U_is : (t : ℕ) → t < m0.states → is_member (states_where m0 (λ n. not (W n))) t ≡ not (W t)
+    U_is t t_low = member_where m0 (λ n. not (W n)) t t_low
+
+    U_long : length (states_where m0 (λ t. not (W t))) ≡ m0.states
+    U_long = length-map-range_with_len (λ t. not (W t)) 0 m0.states
+
+    keeps : Within (states_where m0 (λ t. not (W t))) (meaning m0 ((x, states_where m0 (λ t. not (W t))) ∷ gs) f)
+    keeps k inside =
+        let below = member_below (states_where m0 (λ t. not (W t))) k inside in
+        let k_low : k < m0.states = omega (arith, below, U_long) in
+        ⊎_elim
+        (λ (in_it : is_member (meaning m0 ((x, states_where m0 (λ t. not (W t))) ∷ gs) f) k ≡ true). in_it)
+        (λ (out : is_member (meaning m0 ((x, states_where m0 (λ t. not (W t))) ∷ gs) f) k ≡ false).
+        absurd (no_true (W k) (sym (U_is k k_low) ∙ inside) (contained k k_low (ap not out))))
+        (cases_Bool (is_member (meaning m0 ((x, states_where m0 (λ t. not (W t))) ∷ gs) f) k))
 
 module _ (m0 : Structure) (gs : Given) (q : Fixpoint) (x : List ℕ) (f : Formula) (g : Graph) (m : Structure) (k : ℕ) (bs : Around) (b : ℕ)
     (w : Situation m0 gs (formula.Binder q x f) g m k bs b) (e : Bool) where
@@ -374,12 +423,12 @@ module _ (m0 : Structure) (gs : Given) (q : Fixpoint) (x : List ℕ) (f : Formul
       is_game = is_game gU mU gU_ok mU_ok;
       sizes = length-map (vertices gU mU) (owner_at gU) ∙ vertices-length gU mU ∙ ap (λ z. m.states * z + 2) size_same ∙ sym (length-map (vertices g m) (owner_at g) ∙ vertices-length g m);
       priorities = λ v r. let u = here_vertex v r in
-      ap (priority_of H) (at_number v u.0 u.1.0) ∙ priority_is gU mU u.0 (vertex_same u.0 u.1.1) ∙ priority_same u.0 ∙ sym (ap (priority_of G) u.1.0 ∙ priority_is g m u.0 u.1.1);
+          ap (priority_of H) (at_number v u.0 u.1.0) ∙ priority_is gU mU u.0 (vertex_same u.0 u.1.1) ∙ priority_same u.0 ∙ sym (ap (priority_of G) u.1.0 ∙ priority_is g m u.0 u.1.1);
       owners = λ v r none. let u = free v r none in
-      ap (owner_of H) (at_number v u.0 u.1.0) ∙ owner_is gU mU u.0 (vertex_same u.0 u.1.1.is_vertex) ∙ u.1.1.owner_same ∙ sym (ap (owner_of G) u.1.0 ∙ owner_is g m u.0 u.1.1.is_vertex);
+          ap (owner_of H) (at_number v u.0 u.1.0) ∙ owner_is gU mU u.0 (vertex_same u.0 u.1.1.is_vertex) ∙ u.1.1.owner_same ∙ sym (ap (owner_of G) u.1.0 ∙ owner_is g m u.0 u.1.1.is_vertex);
       others = λ v r none. let u = free v r none in
-      ap (moves_of H) (at_number v u.0 u.1.0) ∙ moves_are gU mU u.0 (vertex_same u.0 u.1.1.is_vertex)
-      ∙ ap (map (vertex_number gU mU)) u.1.1.moves_same ∙ ap (λ h. map h (successors g m u.0)) (fun_ext number_same) ∙ sym (ap (moves_of G) u.1.0 ∙ moves_are g m u.0 u.1.1.is_vertex);
+          ap (moves_of H) (at_number v u.0 u.1.0) ∙ moves_are gU mU u.0 (vertex_same u.0 u.1.1.is_vertex)
+          ∙ ap (map (vertex_number gU mU)) u.1.1.moves_same ∙ ap (λ h. map h (successors g m u.0)) (fun_ext number_same) ∙ sym (ap (moves_of G) u.1.0 ∙ moves_are g m u.0 u.1.1.is_vertex);
       told = λ s low. told_move s low ∙ ap (λ c. (if c then ours else theirs) ∷ []) (sym (same s low));
     }
 
@@ -393,3 +442,73 @@ module _ (m0 : Structure) (gs : Given) (q : Fixpoint) (x : List ℕ) (f : Formul
         by_sign : (d : Bool) → Says (HoldsAt gU mU s (node_of d (b + 1))) (signed d (is_member (meaning m0 ((x, U) ∷ gs) f) s))
         by_sign true = agree.holds s low
         by_sign false = agree.fails s low
+
+  -- ---- the binder's set is its meaning
+
+  abbrev L : Player
+  L = loser q e
+
+  abbrev M : StateSet
+  M = meaning m0 gs (formula.Binder q x f)
+
+  M_long : length M ≡ m0.states
+  M_long = meaning_flags m0 gs (formula.Binder q x f) w.flags
+
+  at_low : (s : ℕ) → s < m0.states → at s < length G.owner
+  at_low s low = region_low (at s) (own_inside s low)
+
+  -- at which states that player wins, as a test
+  who : Winners G
+  who = winners G (is_game g m w.is_graph w.is_structure)
+
+  abbrev W : ℕ → Bool
+  W s = same_player (who.win (at s)) L
+
+  W_says : (s : ℕ) → s < m0.states → (W s ≡ true) ↔ Wins G L (at s)
+  W_says s low = (
+    λ is. won G who L (at s) (at_low s low) (same_player-from_true (who.win (at s)) L is),
+    λ wins. same_player-true (who.win (at s)) L (who.only (at s) L (at_low s low) wins),
+  )
+
+  turn_back : (r : Fixpoint) (c : Bool) → turned r (turned r c) ≡ c
+  turn_back Least c = refl
+  turn_back Greatest true = refl
+  turn_back Greatest false = refl
+
+  abbrev U : StateSet
+  U = states_where m0 (λ s. turned q (W s))
+
+  U_long : length U ≡ m0.states
+  U_long = length-map-range_with_len (λ s. turned q (W s)) 0 m0.states
+
+  U_is : (s : ℕ) → s < m0.states → is_member U s ≡ turned q (W s)
+  U_is s low = member_where m0 (λ t. turned q (W t)) s low
+
+  module _ (ih : (V : StateSet) (long : length V ≡ m0.states)
+      → Agree m0 ((x, V) ∷ gs) f (cut g b (fresh g m f)) (marked m (fresh g m f) V) (b + 1)) where
+    -- the set at which that player wins contains what it makes
+    contained : (s : ℕ) → s < m0.states → turned q (is_member (meaning m0 ((x, U) ∷ gs) f) s) ≡ true → W s ≡ true
+    contained s low is =
+        least.contains W (checking_game (cut g b (fresh g m f)) (marked m (fresh g m f) U)) W_says
+        (verdicts U U_long W (λ t t_low. sym (ap (turned q) (U_is t t_low) ∙ turn_back q (W t)))) s low
+        ((made U U_long (ih U U_long) s low).1 is)
+
+    fixed : meaning m0 ((x, M) ∷ gs) f ≡ M
+    fixed = meaning_fixpoint m0 q x f gs w.positives w.flags
+
+    -- and lies within the set of the binder's meaning
+    within : (s : ℕ) → s < m0.states → Wins G L (at s) → turned q (is_member M s) ≡ true
+    within s low wins =
+        least.within (λ t. turned q (is_member M t)) (checking_game (cut g b (fresh g m f)) (marked m (fresh g m f) M))
+        (verdicts M M_long (λ t. turned q (is_member M t)) (λ t t_low. refl))
+        (λ t t_low made_wins. sym (ap (λ S. turned q (is_member S t)) fixed) ∙ (made M M_long (ih M M_long) t t_low).0 made_wins)
+        s low wins
+
+    back : (s : ℕ) → s < m0.states → turned q (is_member M s) ≡ true → W s ≡ true
+    back s low is = meaning_within q m0 gs x f w.positives w.flags W contained s low is
+
+    says : (s : ℕ) → s < m0.states → Says (Wins G L (at s)) (turned q (is_member M s))
+    says s low = (within s low, λ is. (W_says s low).0 (back s low is))
+
+    pub signed_says : (s : ℕ) → s < m0.states → Says (HoldsAt g m s own) (signed e (is_member M s))
+    signed_says s low = wins_value g m w.is_graph w.is_structure s own (in_m s low) own_size q e (is_member M s) (says s low)

@@ -5,21 +5,18 @@
 --   props_kept      == and the propositions of a formula are true where they were
 --   fresh           == a name that is longer than all that occur
 --   inner           == so the body's situation is one, with the set that the binder is told
-use Rattle.std.proofs.Common.{◌≡◌, ◌≢◌, ℕ, zero, suc, ◌+◌, ◌*◌, ◌<◌, ◌≤◌, ◌⊎◌, Bool, true, false, not, List, [], ◌∷◌, ◌++◌, length, get_or, map, replicate, slice_index_or, refl, sym, ap, subst, ◌∙◌, ⊎_elim, arith}
+use Rattle.std.proofs.Common.{◌≡◌, ℕ, zero, suc, ◌+◌, ◌*◌, ◌<◌, ◌≤◌, Bool, true, false, List, [], ◌∷◌, length, replicate, slice_index_or, refl, ap, ◌∙◌, arith}
 use Rattle.std.proofs.lemmas.Bool.{and_parts}
-use Rattle.std.proofs.lemmas.List.{get_or_past, length-replicate}
-use Rattle.std.proofs.lemmas.Bool.{cases_lt}
+use Rattle.std.proofs.lemmas.List.{length-replicate}
 use Rattle.ml_base.specs.Structure.{Structure, IsStructure, StateSet, lists, is_member}
 use Rattle.ml_graph.specs.Graph.{Graph, IsGraph, size, node_at, priority_at, prop_at, action_at}
-use Rattle.ml_graph.specs.declared.node.Node.TheVariants as node
 use Rattle.ml_graph.proofs.References.{prop_in_range}
-use Rattle.ml_lists.specs.Member.{IsMember}
 use Rattle.ml_lists.proofs.Member.{place-member}
 use Rattle.ml_text.specs.declared.token.Operator.TheVariants as operator
 use Rattle.ml_mu.specs.Formula.{Formula, Const, Prop, Var, Not, Binary, Modal, Binder, Fixpoint, occurrences}
 use Rattle.ml_mu.specs.Meaning.{Given}
 use Rattle.ml_mu.specs.Variables.{is_positive, occurs_only}
-use Rattle.ml_mu_graph.specs.MuGraph.{positive, negative, binders, Around, StandsAt, IsLiteral, IsNode, LeadsTo, IsModality}
+use Rattle.ml_mu_graph.specs.MuGraph.{positive, negative, Around, StandsAt, IsLiteral, IsNode}
 use Rattle.ml_mu_graph.proofs.Told.{IsTold, AreTold, AreOutside}
 use Rattle.ml_mu_graph.proofs.CutOpen.{cut, marked, IsLonger, longer_differs, cut_size, cut_positive, cut_negative, cut_others, cut_prop, cut_name, cut_graph, marked_structure, marked_others, marked_name}
 use Rattle.ml_mu_graph.proofs.Situations.{PropsAgree, Situation, outside_more}
@@ -51,28 +48,35 @@ module _ (g h : Graph) (ok : IsGraph g) where
   stands_kept (Var x) p bs i k room s =
       (node_kept (positive i) (positive i) k (omega arith) _ _ s.0, node_kept (positive i) (negative i) k (omega arith) _ _ s.1)
   stands_kept (Not f) p bs i k room s = (
-    node_kept (positive i) (positive i) k (omega arith) _ _ s.0, node_kept (positive i) (negative i) k (omega arith) _ _ s.1,
+    node_kept (positive i) (positive i) k (omega arith) _ _ s.0,
+    node_kept (positive i) (negative i) k (omega arith) _ _ s.1,
     stands_kept f p bs (i + 1) (later g h (positive i) (positive (i + 1)) (omega arith) k) (omega (arith, room)) s.2,
   )
   stands_kept (Binary operator.And f e) p bs i k room s = (
-    node_kept (positive i) (positive i) k (omega arith) _ _ s.0, node_kept (positive i) (negative i) k (omega arith) _ _ s.1,
+    node_kept (positive i) (positive i) k (omega arith) _ _ s.0,
+    node_kept (positive i) (negative i) k (omega arith) _ _ s.1,
     stands_kept f p bs (i + 1) (later g h (positive i) (positive (i + 1)) (omega arith) k) (omega (arith, room)) s.2,
     stands_kept e p bs (i + 1 + occurrences f) (later g h (positive i) (positive (i + 1 + occurrences f)) (omega arith) k) (omega (arith, room)) s.3,
   )
   stands_kept (Binary operator.Or f e) p bs i k room s = (
-    node_kept (positive i) (positive i) k (omega arith) _ _ s.0, node_kept (positive i) (negative i) k (omega arith) _ _ s.1,
+    node_kept (positive i) (positive i) k (omega arith) _ _ s.0,
+    node_kept (positive i) (negative i) k (omega arith) _ _ s.1,
     stands_kept f p bs (i + 1) (later g h (positive i) (positive (i + 1)) (omega arith) k) (omega (arith, room)) s.2,
     stands_kept e p bs (i + 1 + occurrences f) (later g h (positive i) (positive (i + 1 + occurrences f)) (omega arith) k) (omega (arith, room)) s.3,
   )
   stands_kept (Binary operator.Implies f e) p bs i k room s = (
-    node_kept (positive i) (positive i) k (omega arith) _ _ s.0, node_kept (positive i) (negative i) k (omega arith) _ _ s.1,
+    node_kept (positive i) (positive i) k (omega arith) _ _ s.0,
+    node_kept (positive i) (negative i) k (omega arith) _ _ s.1,
     stands_kept f p bs (i + 1) (later g h (positive i) (positive (i + 1)) (omega arith) k) (omega (arith, room)) s.2,
     stands_kept e p bs (i + 1 + occurrences f) (later g h (positive i) (positive (i + 1 + occurrences f)) (omega arith) k) (omega (arith, room)) s.3,
   )
   stands_kept (Binary operator.Iff f e) p bs i k room s = (
-    node_kept (positive i) (positive i) k (omega arith) _ _ s.0, node_kept (positive i) (negative i) k (omega arith) _ _ s.1,
-    node_kept (positive i) (positive (i + 1)) k (omega arith) _ _ s.2, node_kept (positive i) (negative (i + 1)) k (omega arith) _ _ s.3,
-    node_kept (positive i) (positive (i + 2)) k (omega arith) _ _ s.4, node_kept (positive i) (negative (i + 2)) k (omega arith) _ _ s.5,
+    node_kept (positive i) (positive i) k (omega arith) _ _ s.0,
+    node_kept (positive i) (negative i) k (omega arith) _ _ s.1,
+    node_kept (positive i) (positive (i + 1)) k (omega arith) _ _ s.2,
+    node_kept (positive i) (negative (i + 1)) k (omega arith) _ _ s.3,
+    node_kept (positive i) (positive (i + 2)) k (omega arith) _ _ s.4,
+    node_kept (positive i) (negative (i + 2)) k (omega arith) _ _ s.5,
     stands_kept f p bs (i + 3) (later g h (positive i) (positive (i + 3)) (omega arith) k) (omega (arith, room)) s.6,
     stands_kept e p bs (i + 3 + occurrences f) (later g h (positive i) (positive (i + 3 + occurrences f)) (omega arith) k) (omega (arith, room)) s.7,
   )
@@ -82,7 +86,8 @@ module _ (g h : Graph) (ok : IsGraph g) where
     stands_kept f p bs (i + 1) (later g h (positive i) (positive (i + 1)) (omega arith) k) (omega (arith, room)) s.2,
   )
   stands_kept (Binder q x f) p bs i k room s = (
-    node_kept (positive i) (positive i) k (omega arith) _ _ s.0, node_kept (positive i) (negative i) k (omega arith) _ _ s.1,
+    node_kept (positive i) (positive i) k (omega arith) _ _ s.0,
+    node_kept (positive i) (negative i) k (omega arith) _ _ s.1,
     stands_kept f p ((x, i) ∷ bs) (i + 1) (later g h (positive i) (positive (i + 1)) (omega arith) k) (omega (arith, room)) s.2,
   )
 
@@ -195,14 +200,17 @@ module _ (m0 : Structure) (gs : Given) (q : Fixpoint) (x : List ℕ) (f : Formul
   told_kept (c ∷ cs) [] outside told = absurd told
   told_kept (c ∷ cs) (s ∷ ss) outside told =
       let t = told.1 in
-      let low = prop_in_range g w.is_graph (positive c.1) (omega (arith, t.inside)) t.prop true t.positive_is in
-      (told.0, record {
-        prop = t.prop;
-        inside = omega (arith, t.inside, cut_size g b name node_inside);
-        positive_is = cut_others g b name node_inside (positive c.1) (λ e. omega (arith, e, outside.0)) (λ e. omega (arith, e, outside.0)) ∙ t.positive_is;
-        negative_is = cut_others g b name node_inside (negative c.1) (λ e. omega (arith, e, outside.0)) (λ e. omega (arith, e, outside.0)) ∙ t.negative_is;
-        told = λ n n_low. ap (lists telling n) (cut_prop g b name node_inside t.prop low) ∙ marked_others m name U n (prop_at g t.prop) n_low (prop_short g m f t.prop low) ∙ t.told n n_low;
-      }, told_kept cs ss outside.1 told.2)
+      let low = prop_in_range g w.is_graph (positive c.1) (omega (arith, t.inside)) t.prop true t.positive_is in (
+        told.0,
+        record {
+          prop = t.prop;
+          inside = omega (arith, t.inside, cut_size g b name node_inside);
+          positive_is = cut_others g b name node_inside (positive c.1) (λ e. omega (arith, e, outside.0)) (λ e. omega (arith, e, outside.0)) ∙ t.positive_is;
+          negative_is = cut_others g b name node_inside (negative c.1) (λ e. omega (arith, e, outside.0)) (λ e. omega (arith, e, outside.0)) ∙ t.negative_is;
+          told = λ n n_low. ap (lists telling n) (cut_prop g b name node_inside t.prop low) ∙ marked_others m name U n (prop_at g t.prop) n_low (prop_short g m f t.prop low) ∙ t.told n n_low;
+        },
+        told_kept cs ss outside.1 told.2,
+      )
 
   pub inner : Situation m0 ((x, U) ∷ gs) f opened telling k ((x, b) ∷ bs) (b + 1)
   inner = record {

@@ -1,7 +1,7 @@
 -- Free variables of a formula are bound around it.
 --
 --   free_bound == a variable that occurs free in a formula has a binder around, where every variable has one
-use Rattle.std.proofs.Common.{◌≡◌, ℕ, ◌+◌, ◌≤◌, arith, ◌⊎◌, Bool, true, false, ◌||◌, not, List, [], ◌∷◌, inl, inr, refl, sym, ap, subst, ◌∙◌}
+use Rattle.std.proofs.Common.{◌≡◌, ℕ, ◌≤◌, arith, Bool, true, false, ◌||◌, not, List, ◌∷◌, inl, inr, sym, ap, subst, ◌∙◌}
 use Rattle.std.specs.List.{list_any}
 use Rattle.std.specs.Str.{bytes_eq}
 use Rattle.std.proofs.lemmas.Bool.{and_parts}

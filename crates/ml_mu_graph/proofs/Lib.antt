@@ -15,3 +15,5 @@ pub mod CutOpen
 pub mod Told
 -- the induction at binders
 pub mod Binding
+-- the agreement of game and meaning
+pub mod Agreement

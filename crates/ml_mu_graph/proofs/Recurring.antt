@@ -7,33 +7,30 @@
 --   Inside v, Ended v      == the vertex v is a state with a node below; it is a literal of an outer binder, or a sink
 --   stays, ends_stay       == moves from inside lead inside or to an end, and from ends to ends
 --   recurs                 == the lowest priority on a loop through the binder's node is its own
-use Rattle.std.proofs.Common.{◌≡◌, ◌≢◌, ℕ, zero, suc, ◌+◌, ◌-◌, ◌*◌, ◌<◌, ◌≤◌, ◌⊎◌, Bool, true, false, ◌||◌, not, List, [], ◌∷◌, length, get_or, map, Contains, if◌then◌else◌, inl, inr, refl, sym, ap, subst, ◌∙◌, ⊎_elim, arith}
+use Rattle.std.proofs.Common.{◌≡◌, ℕ, ◌+◌, ◌-◌, ◌*◌, ◌<◌, ◌≤◌, ◌⊎◌, Bool, true, false, ◌||◌, List, [], ◌∷◌, length, get_or, map, Contains, if◌then◌else◌, inl, inr, refl, sym, ap, subst, ◌∙◌, ⊎_elim, arith}
 use Rattle.std.specs.List.{list_any}
 use Rattle.std.specs.Str.{bytes_eq}
 use Rattle.std.specs.Bool.{beq}
-use Rattle.std.proofs.lemmas.Bool.{and_parts, cases_Bool, false≢true}
-use Rattle.std.proofs.lemmas.Slice.Eq.{bytes_eq-Decides}
-use Rattle.ml_lists.specs.Lasso.{Lasso, entry, round, lowest_on_loop}
+use Rattle.std.proofs.lemmas.Bool.{false≢true}
+use Rattle.ml_lists.specs.Lasso.{Lasso, entry, round}
 use Rattle.ml_lists.specs.Member.{IsMember}
 use Rattle.ml_lists.proofs.Lasso.{round-entry, on_loop, loop_length, loop_closed, lowest_on_loop_is}
 use Rattle.ml_lists.proofs.Loops.{around}
 use Rattle.ml_lists.proofs.Member.{Image, member-map_from, member-filter_from, All-member}
 use Rattle.ml_lists.proofs.Members.{member_of_contains}
-use Rattle.ml_base.specs.declared.structure.Edge.{Edge}
 use Rattle.ml_base.specs.Structure.{Structure, IsStructure, lists}
 use Rattle.ml_parity.specs.Game.{HasMove, priority_of}
 use Rattle.ml_parity.specs.Winner.{IsPlay, winner}
 use Rattle.ml_parity.specs.Player.{side}
-use Rattle.ml_graph.specs.Graph.{Graph, IsGraph, size, node_at, priority_at, prop_at, action_at}
+use Rattle.ml_graph.specs.Graph.{Graph, node_at, priority_at, prop_at, action_at}
 use Rattle.ml_graph.specs.CheckingGame.{Vertex, Pair, Sink, vertex_number, successors, successors_of, pairs_or_sink, targets, vertices, checking_game}
 use Rattle.ml_graph.specs.declared.node.Node.{Node}
 use Rattle.ml_graph.specs.declared.node.Node.TheVariants as node
-use Rattle.ml_graph.proofs.CheckingGame.{IsVertex, vertex_at, priority_is, moves_are, leads_to_vertices}
-use Rattle.ml_mu.specs.Formula.{Formula, Binder, Fixpoint, Least, Greatest, occurrences}
+use Rattle.ml_graph.proofs.CheckingGame.{IsVertex, vertex_at, priority_is, moves_are}
+use Rattle.ml_mu.specs.Formula.{Formula, Binder, Fixpoint, Least, Greatest}
 use Rattle.ml_mu.specs.Meaning.{Given}
-use Rattle.ml_mu.specs.Variables.{is_bound}
-use Rattle.ml_mu_graph.specs.MuGraph.{positive, negative, binders, Around, binder_of, StandsAt, binder_priority, opposite}
-use Rattle.ml_mu_graph.proofs.Told.{node_of, names, IsTold, AreTold, AreOutside, Below, FreeAt}
+use Rattle.ml_mu_graph.specs.MuGraph.{positive, negative, Around, binder_of, binder_priority, opposite}
+use Rattle.ml_mu_graph.proofs.Told.{node_of, names, AreTold, AreOutside, Below, FreeAt}
 use Rattle.ml_mu_graph.proofs.Regions.{IsChild, below_range, below_priority, below_moves}
 use Rattle.ml_mu_graph.proofs.FreeVariables.{free_bound}
 use Rattle.ml_mu_graph.proofs.Situations.{Situation}

@@ -6,16 +6,15 @@
 --   Agree m0 gs f g m i == at each state, the two nodes of the occurrence hold as the meaning of f says
 --   told_of            == a bound variable is told its given set
 --   member_where, member_not == members of sets that are computed
-use Rattle.std.proofs.Common.{◌≡◌, ℕ, suc, ◌+◌, ◌*◌, ◌<◌, ◌≤◌, ◌⊎◌, Bool, true, false, ◌||◌, not, List, [], ◌∷◌, length, map, get_or, if◌then◌else◌, refl, sym, ap, subst, ◌∙◌, ⊎_elim, arith}
-use Rattle.std.specs.List.{list_any, range_with_len}
+use Rattle.std.proofs.Common.{◌≡◌, ℕ, ◌+◌, ◌*◌, ◌<◌, ◌≤◌, Bool, true, false, ◌||◌, not, List, [], ◌∷◌, length, map, if◌then◌else◌, refl, sym, ap, subst, ◌∙◌, arith}
+use Rattle.std.specs.List.{list_any}
 use Rattle.std.specs.Str.{bytes_eq}
-use Rattle.std.proofs.lemmas.Bool.{cases_Bool, false≢true}
+use Rattle.std.proofs.lemmas.Bool.{false≢true}
 use Rattle.std.proofs.lemmas.List.{get_or-map}
 use Rattle.std.proofs.lemmas.List.FromFn.{get_or-map-range_with_len}
 use Rattle.ml_base.specs.Structure.{Structure, IsStructure, StateSet, lists, is_member, states_where}
 use Rattle.ml_graph.specs.Graph.{Graph, IsGraph, size}
 use Rattle.ml_graph.specs.CheckingGame.{HoldsAt}
-use Rattle.ml_text.specs.declared.token.Operator.{Operator}
 use Rattle.ml_mu.specs.Formula.{Formula, Const, Prop, Var, Not, Binary, Modal, Binder, occurrences}
 use Rattle.ml_mu.specs.Meaning.{Given, HaveFlags, given_set, meaning}
 use Rattle.ml_mu.specs.Variables.{is_bound, is_positive}
