@@ -1,0 +1,48 @@
+// How a spread is made.
+ghost use Rattle.std.specs.Prelude.{◌≡◌, ◌<◌, ◌^◌, IfOk, length, filter, All};
+ghost use Rattle.std.specs.List.{range_with_len};
+ghost use Rattle.ml_graph.specs.Graph.{size};
+ghost use Rattle.ml_sequent.specs.Spread.{IsSpreadOf};
+ghost use Rattle.ml_sequent.specs.private.Search.{mark};
+
+use crate::choice::Choice;
+use crate::search::reached;
+use crate::sequent::Sequent;
+use crate::spreads::Spread;
+use ml_base::NoMemory;
+use ml_graph::ModalGraph;
+use std::alloc::Global;
+
+/// The spread of a sequent under a choice: the least set of nodes that has the sequent, both children of each of its
+/// And nodes, and the chosen child of each of its Or nodes that the choice decides.
+///
+/// # Errors
+/// `NoMemory` alone.
+///
+/// Cost: linear in the nodes of the graph; each node of the spread is visited once.
+pub fn spread(
+    alloc: Global,
+    graph: &ModalGraph,
+    sequent: &Sequent,
+    choice: &Choice,
+) -> Result<Spread, NoMemory>
+    requires { All (λ n. n < size graph.now) sequent.now }
+    ensures { IfOk result (IsSpreadOf graph.now sequent.now choice.now) }
+{
+    let marks = reached(alloc, graph, choice, 0, sequent.values())?;
+    Ok(Spread::of(marked(alloc, &marks)?, choice.copy()?))
+}
+
+/// The marked numbers, ascending.
+fn marked(alloc: Global, marks: &[bool]) -> Result<Vec<u32>, NoMemory>
+    requires { length marks.now < 2 ^ 32 }
+    ensures { IfOk result (λ nodes. nodes.items ≡ filter (mark marks.now) (range_with_len 0 (length marks.now))) }
+{
+    let mut nodes = Vec::new(alloc);
+    for (m, is_marked) in marks.iter().enumerate() {
+        if *is_marked {
+            nodes.push(m as u32)?;
+        }
+    }
+    Ok(nodes)
+}
