@@ -1,5 +1,3 @@
--- the head of a document, line by line
-pub mod Heads
 -- how a call ends
 pub mod Endings
 -- what is due for an answer

@@ -3,8 +3,8 @@
 --   documents_read_back  == a written document shows the structure and the start that were written
 use Rattle.std.proofs.Common.{refl}
 use Rattle.ml_kripke.specs.ModelText.{model_text}
-use Rattle.ml_mu.specs.Head.{Satisfiable}
-use Rattle.ml_mu.proofs.HeadsReadBack.{heads_read_back}
+use Rattle.ml_front.specs.declared.answer.Answer.TheVariants.{Satisfiable}
+use Rattle.ml_front.proofs.ReadBack.{heads_read_back}
 use Rattle.ml_model_check.specs.Checked.{DocumentsReadBack}
 
 pub documents_read_back : DocumentsReadBack

@@ -12,14 +12,18 @@ use Rattle.ml_text.specs.declared.token.WordStart.TheVariants.{AnyLetter}
 use Rattle.ml_text.specs.declared.token.Placed.{Placed}
 use Rattle.ml_text.specs.Words.{constant_of}
 use Rattle.ml_text.specs.Spelling.{AreTokens}
-use Rattle.ml_text.specs.Refusals.{Bracket, Opening, Closing, Neither, Item, open_from, open_behind_one, is_long_at, longest_name}
+use Rattle.ml_text.specs.Refusals.{Item, open_from, open_behind_one, is_long_at}
+use Rattle.ml_text.specs.declared.limits.Bracket.{Bracket}
+use Rattle.ml_text.specs.declared.limits.Bracket.TheVariants.{Opening, Closing, Neither}
+use Rattle.ml_base.specs.Name.{longest_name}
+use Rattle.ml_text.specs.Items.{is_word}
 use Rattle.ml_text.proofs.Scans.{Spelt, spelt_at}
 use Rattle.ml_mu.specs.Formula as plain
 use Rattle.ml_mu.specs.Formula.{Formula, Modality, Diamond, Square, Fixpoint, Least, Greatest, occurrences, weight}
 use Rattle.ml_mu.specs.Canonical.{spelling_of, fixpoint_word}
 use Rattle.ml_mu.specs.Spelling.{is_proposition, is_variable}
 use Rattle.ml_mu.specs.Signs.{Sign, Lower, Upper, Unknown, word_sign, word_sign_by}
-use Rattle.ml_mu.specs.Text.{is_word, bracket_of, items_from, sign_at, silences}
+use Rattle.ml_mu.specs.Text.{bracket_of, items_from, sign_at, silences}
 use Rattle.ml_mu.proofs.CanonicalTexts.{action_tokens, begin_byte, end_byte, lone, tokens_onto, sign_spelt}
 use Rattle.ml_mu.proofs.Names.{token_length}
 use Rattle.ml_mu.specs.Spelling.{HasShortNames}

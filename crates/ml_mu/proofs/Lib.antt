@@ -1,17 +1,9 @@
--- words, taken apart
-pub mod Words
 -- the grammar is the one of the tables
 pub mod GrammarTables
 -- the tables are regular and can be completed
 pub mod MuGrammar
--- the program's stack
-pub mod Stacks
--- steps behind an operand
-pub mod Steps
 -- names in texts
 pub mod Names
--- what comes of an item
-pub mod Items
 -- what a text counts is what its formula has
 pub mod Counting
 -- names are spelled as they must be
@@ -40,8 +32,6 @@ pub mod CanonicalTexts
 pub mod Monotone
 -- the n-th iterate is a fixpoint, the least or the greatest
 pub mod Fixpoints
--- the lines of a head
-pub mod HeadLines
 -- names in texts and formulas are short
 pub mod ShortNames
 -- canonical texts pass no limit
@@ -50,5 +40,3 @@ pub mod CanonicalLimits
 pub mod CanonicalParsed
 -- canonical texts stand in one line
 pub mod CanonicalLines
--- heads are read back
-pub mod HeadsReadBack

@@ -13,14 +13,16 @@ use Rattle.ml_text.specs.declared.token.WordStart.TheVariants.{AnyLetter}
 use Rattle.ml_text.specs.declared.token.Placed.{Placed}
 use Rattle.ml_text.specs.Spelling.{AreTokens}
 use Rattle.ml_text.specs.Tokens.{tokens}
-use Rattle.ml_text.specs.Refusals.{NameTooLong, signs_of, is_long_at, longest_name, IsAccepted}
+use Rattle.ml_text.specs.Refusals.{NameTooLong, signs_of, is_long_at, IsAccepted}
+use Rattle.ml_base.specs.Name.{longest_name}
+use Rattle.ml_text.specs.Items.{is_word, bytes_of}
 use Rattle.ml_text.proofs.Cover.{are_tokens}
 use Rattle.ml_mu.specs.Formula as plain
 use Rattle.ml_mu.specs.Formula.{Formula, Modality, Diamond, Square, Fixpoint, Least, Greatest, occurrences, weight}
 use Rattle.ml_mu.specs.Grammar as grammar
 use Rattle.ml_mu.specs.Grammar.{IsReadAs, Reads, iff_alone, iff, imp_alone, imp, or_alone, or, and_alone, and, negation, modal, modal_blank, binder, group, constant, proposition, variable}
 use Rattle.ml_mu.specs.Signs.{Sign, Lower, Upper, Blank, Connective, HasShortName, action_of}
-use Rattle.ml_mu.specs.Text.{is_word, bytes_of, items, items_from, sign_at, silences}
+use Rattle.ml_mu.specs.Text.{items, items_from, sign_at, silences}
 use Rattle.ml_mu.proofs.Names.{short_name, token_length}
 use Rattle.ml_mu.specs.Spelling.{HasShortNames}
 

@@ -5,7 +5,7 @@ ghost use Rattle.ml_lists.specs.Iterate.{iterate};
 ghost use Rattle.ml_base.specs.Structure as kripke;
 ghost use Rattle.ml_mu.specs.Formula as plain;
 ghost use Rattle.ml_mu.specs.Meaning as mean;
-ghost use Rattle.ml_mu.specs.Environment.{given_of};
+ghost use Rattle.ml_mu.specs.private.Environment.{given_of};
 ghost use Rattle.ml_mu.specs.Meaning.{HaveFlags};
 ghost use Rattle.ml_mu.specs.Term.{formula_of};
 

@@ -3,7 +3,6 @@
 ghost use Rattle.std.specs.Prelude.{◌≡◌, ℕ, true, List, ◌∷◌, length};
 ghost use Rattle.ml_base.specs.Structure.{Structure, StateSet, is_member};
 ghost use Rattle.ml_mu.specs.Formula.{Formula, Binder, Fixpoint, Least, Greatest};
-ghost use Rattle.ml_mu.specs.HeadRules.{HeadOrFault, HeadsReadBack, OneHead, OneHeadFault};
 ghost use Rattle.ml_mu.specs.Meaning.{Given, HaveFlags, meaning};
 ghost use Rattle.ml_mu.specs.Variables.{is_positive};
 ghost use Rattle.ml_mu.specs.Parsing.{CanonicalIsParsed, CanonicalStandsForOne, NeverBoth, ParsedAreWellFormed, ParsedOnce, RefusedOnce, SomeAnswer, StandForOne};
@@ -43,20 +42,6 @@ pub fn one_answer()
 #[tactic(auto, using(crate::proofs::Parsed::parsed_well))]
 pub fn parsed_are_well_formed()
     ensures { ParsedAreWellFormed }
-{}
-
-/// A text is a head for an answer, or its head has a first bad line, never both; it is a head about one problem at
-/// most, and has one first bad line at most. So whoever answers one of them for each text answers each exactly where it
-/// is said to come.
-pub fn one_head()
-    ensures exclusive { HeadOrFault }
-    ensures head { OneHead }
-    ensures fault { OneHeadFault }
-{}
-
-/// The head of a written document about a formula that was parsed is read as it was written, whatever stands behind it.
-pub fn heads_are_read_back()
-    ensures { HeadsReadBack }
 {}
 
 /// The meaning of a formula is a set of states: it has one flag for each, where the given sets have.

@@ -10,7 +10,7 @@ use Rattle.std.specs.List.{AllByRecursion}
 use Rattle.std.specs.List.Sorted.{IsStrictlySortedBy}
 use Rattle.std.specs.Ordering.{nat_cmp, ordering_reverse, is_eq}
 use Rattle.std.specs.declared.cmp.Ordering.TheVariants.{Less, Equal, Greater}
-use Rattle.ml_kripke.proofs.Members.{contains_head, contains_later, contains_cases, contains_none}
+use Rattle.ml_lists.proofs.Members.{contains_head, contains_later, contains_cases, contains_none}
 
 abbrev pub Name : Type 0
 Name = List ℕ

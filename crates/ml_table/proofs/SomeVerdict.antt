@@ -12,7 +12,7 @@ use Rattle.std.proofs.lemmas.List.Elements.{All-cons, All-nil, Contains-append_c
 use Rattle.ml_base.specs.Name.{IsName}
 use Rattle.ml_base.specs.Structure.{Structure, IsStructure}
 use Rattle.ml_kripke.specs.Ordered.{IsOrdered, IsBuiltFrom, HasNames}
-use Rattle.ml_kripke.proofs.Members.{contains_head, contains_later, contains_cases, contains_none}
+use Rattle.ml_lists.proofs.Members.{contains_head, contains_later, contains_cases, contains_none}
 use Rattle.ml_mu.specs.Formula.{Formula, Const, Prop, Var, Not, Binary, Modal, Binder}
 use Rattle.ml_mu.specs.Problem.{IsSatisfiable}
 use Rattle.ml_mu.specs.Spelling.{HasShortNames, is_spelled, is_action, is_variable}
