@@ -36,20 +36,22 @@ none_here false s o e = (refl, e)
 nodes_with : (c : List (ℕ × Side)) (n : ℕ) (s : Side) → side_of c n ≡ None
     → map (λ p. p.0) (with_side c n s) ≡ insert_once n (map (λ p. p.0) c)
 nodes_with [] n s none = refl
-nodes_with (p ∷ c) n s none = by_test (cases_Bool (nat_lt n p.0))
+nodes_with (p ∷ c) n s none = by_test (cases_Bool (nat_lt n p.0)) (λ (later : side_of c n ≡ None). nodes_with c n s later)
   where
     here : ((p.0 == n) ≡ false) × (side_of c n ≡ None)
     here = none_here (p.0 == n) p.1 (side_of c n) none
 
-    by_test : ((nat_lt n p.0) ≡ true) ⊎ ((nat_lt n p.0) ≡ false) → map (λ q. q.0) (with_side (p ∷ c) n s) ≡ insert_once n (map (λ q. q.0) (p ∷ c))
-    by_test (inl less) =
+    by_test : ((nat_lt n p.0) ≡ true) ⊎ ((nat_lt n p.0) ≡ false)
+        → (side_of c n ≡ None → map (λ q. q.0) (with_side c n s) ≡ insert_once n (map (λ q. q.0) c))
+        → map (λ q. q.0) (with_side (p ∷ c) n s) ≡ insert_once n (map (λ q. q.0) (p ∷ c))
+    by_test (inl less) rest =
         ap (map (λ (q : ℕ × Side). q.0)) (cond-true (nat_lt n p.0) ((n, s) ∷ p ∷ c) (p ∷ with_side c n s) less)
         ∙ sym (cond-true (nat_lt n p.0) (n ∷ (p.0 ∷ map (λ (q : ℕ × Side). q.0) c)) (cond (n == p.0) (p.0 ∷ map (λ (q : ℕ × Side). q.0) c) (p.0 ∷ insert_once n (map (λ (q : ℕ × Side). q.0) c))) less)
-    by_test (inr more) =
+    by_test (inr more) rest =
         let unequal = here.0 in
         let other : (n == p.0) ≡ false = grind (arith, nat_tests) in
         ap (map (λ (q : ℕ × Side). q.0)) (cond-false (nat_lt n p.0) ((n, s) ∷ p ∷ c) (p ∷ with_side c n s) more)
-        ∙ ap (λ xs. p.0 ∷ xs) (nodes_with c n s here.1)
+        ∙ ap (λ xs. p.0 ∷ xs) (rest here.1)
         ∙ sym (cond-false (nat_lt n p.0) (n ∷ (p.0 ∷ map (λ (q : ℕ × Side). q.0) c)) (cond (n == p.0) (p.0 ∷ map (λ (q : ℕ × Side). q.0) c) (p.0 ∷ insert_once n (map (λ (q : ℕ × Side). q.0) c))) more
           ∙ cond-false (n == p.0) (p.0 ∷ map (λ (q : ℕ × Side). q.0) c) (p.0 ∷ insert_once n (map (λ (q : ℕ × Side). q.0) c)) other)
 

@@ -6,3 +6,7 @@ pub mod Searching
 pub mod Choices
 -- marked numbers, and the spread that they are
 pub mod Marked
+-- the first node of an ascending list with a property
+pub mod Firsts
+-- causes of clashes
+pub mod Causes

@@ -2,17 +2,22 @@
 --
 --   visited_none, visited_join == nothing visited; two visits, one behind the other
 --   visited_old, visited_new   == a node that needs no mark, and one that gets one
+--   both_visited               == two children
+--   nothing_listed             == of no nodes, all are nodes
+--   front_low, empty_is        == entries in front, and a list without entries
 --   search_begins              == when the first nodes are visited
 --   search_goes_on             == when the children of one more node are visited
+--   begun, finished            == from nothing marked, and to the answer
 --   search_ends                == when the list is empty
---   marked_low                 == marked nodes are nodes
-use Rattle.std.proofs.Common.{ℕ, ◌≡◌, ◌+◌, ◌<◌, ◌≤◌, ◌⊎◌, inl, inr, ⊎_elim, Bool, true, false, not, min, List, [], ◌∷◌, ◌++◌, length, get_or, set, replicate, refl, sym, ap, ◌∙◌, subst, arith, length-append}
+--   marked_low, visited_low    == marked nodes and listed nodes are nodes
+use Rattle.std.proofs.Common.{ℕ, ◌≡◌, ◌+◌, ◌<◌, ◌≤◌, ◌⊎◌, inl, inr, ⊎_elim, Bool, true, false, not, min, All, Result, Ok, Err, OnOk, IfOk, List, [], ◌∷◌, ◌++◌, length, get_or, set, replicate, refl, sym, ap, ◌∙◌, subst, arith, length-append}
+use Rattle.std.specs.Global.{Vec}
 use Rattle.std.proofs.lemmas.Bool.{cases_eq, cases_lt}
 use Rattle.std.proofs.lemmas.List.{get_or-set_same, get_or-set_other, get_or_past, get_or-replicate, length-set, length-replicate}
 use Rattle.ml_lists.specs.Counting.{count}
 use Rattle.ml_lists.specs.Member.{IsMember}
 use Rattle.ml_lists.proofs.Counting.{count_strict}
-use Rattle.ml_lists.proofs.Member.{member-append, member-append_left, member-append_right}
+use Rattle.ml_lists.proofs.Member.{member-append, member-append_left, member-append_right, member-All, All-member}
 use Rattle.ml_graph.specs.Graph.{Graph, size, priority_at}
 use Rattle.ml_sequent.specs.declared.choice.Side.{Side}
 use Rattle.ml_sequent.specs.LocalWalk.{LocalWalk, stays, goes, children}
@@ -203,3 +208,46 @@ module _ (g : Graph) (c : List (ℕ × Side)) (floor : ℕ) (C : List ℕ) where
             let low = walk_low g c next j m w in
             along next j m w (omega arith) (f next child (omega arith)))
           (s.closed n h)
+
+-- listed nodes are nodes
+pub visited_low : (g : Graph) (floor : ℕ) (ks : List ℕ) (marks : List Bool) (todo : List ℕ) (marks2 : List Bool) (todo2 : List ℕ)
+    → IsVisited g floor ks marks todo marks2 todo2 → length marks ≡ size g → All (λ n. n < size g) todo → All (λ n. n < size g) todo2
+visited_low g floor ks marks todo marks2 todo2 v sizes low = member-All (λ n. n < size g) todo2 (λ m h. ⊎_elim
+    (λ (old : IsMember m todo). All-member (λ n. n < size g) todo low m old)
+    (λ (is : mark marks2 m ≡ true). let below = marked_low marks2 m is in omega (arith, v.sizes))
+    (v.marked m h))
+
+-- what is so of all entries is so of those in front
+pub front_low : (n : ℕ) (xs ys zs : List ℕ) → zs ≡ xs ++ ys → All (λ k. k < n) zs → All (λ k. k < n) xs
+front_low n xs ys zs e low =
+    member-All (λ k. k < n) xs (λ m h. All-member (λ k. k < n) (xs ++ ys) (subst (All (λ k. k < n)) e low) m (member-append_left m xs ys h))
+
+pub empty_is : (xs : List ℕ) → length xs ≡ 0 → xs ≡ []
+empty_is [] e = refl
+empty_is (x ∷ xs) e = absurd (omega arith)
+
+-- two children, where the second visit is the answer
+pub both_visited : {T E : Type 0} → (g : Graph) (floor l r : ℕ) (ks : List ℕ) (marks : List Bool) (todo : List ℕ) (marks2 : List Bool) (todo2 : List ℕ)
+    (marks3 : List Bool) (todo3 : List ℕ) (answer : Result T E) → IsVisited g floor (l ∷ []) marks todo marks2 todo2
+    → OnOk answer (IsVisited g floor (r ∷ []) marks2 todo2 marks3 todo3) → ks ≡ l ∷ r ∷ []
+    → OnOk answer (IsVisited g floor ks marks todo marks3 todo3)
+both_visited g floor l r ks marks todo marks2 todo2 marks3 todo3 (Ok u) one two is =
+    subst (λ js. IsVisited g floor js marks todo marks3 todo3) (sym is) (visited_join g floor (l ∷ []) (r ∷ []) marks todo marks2 todo2 marks3 todo3 one two)
+both_visited g floor l r ks marks todo marks2 todo2 marks3 todo3 (Err e) one two is = two
+
+pub nothing_listed : (n : ℕ) → All (λ k. k < n) []
+nothing_listed n = member-All (λ k. k < n) [] (λ m h. absurd h)
+
+-- a search that began with nothing marked, and visited the first nodes
+pub begun : (g : Graph) (c : List (ℕ × Side)) (floor : ℕ) (C : List ℕ) (marks : List Bool) (todo : List ℕ) (marks2 : List Bool) (todo2 : List ℕ)
+    → marks ≡ replicate (size g) false → todo ≡ [] → IsVisited g floor C marks todo marks2 todo2 → IsSearch g c floor C marks2 todo2
+begun g c floor C marks todo marks2 todo2 none empty v =
+    search_begins g c floor C (size g) marks2 todo2 refl
+    (subst (λ xs. IsVisited g floor C xs [] marks2 todo2) none (subst (λ ys. IsVisited g floor C marks ys marks2 todo2) empty v))
+
+-- what a finished search answers, of one that is known to have begun
+pub finished : {E : Type 0} → (g : Graph) (c : List (ℕ × Side)) (floor : ℕ) (C : List ℕ) (marks : List Bool) (todo : List ℕ) (answer : Result (Vec Bool) E)
+    → IfOk answer (λ v. (D : List ℕ) → IsSearch g c floor D marks todo → HasReached g c floor D v.items)
+    → IsSearch g c floor C marks todo → IfOk answer (λ v. HasReached g c floor C v.items)
+finished g c floor C marks todo (Ok v) f s = f C s
+finished g c floor C marks todo (Err e) f s = f

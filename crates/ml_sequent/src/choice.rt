@@ -68,11 +68,7 @@ impl Choice {
         requires { side_of self.now node ≡ None }
         ensures { IfOk result (λ choice. choice ≡ with_side self.now node side) }
     {
-        let place = place_behind(&self.pairs, node);
-        let mut pairs = Vec::with_capacity(*self.pairs.allocator(), self.pairs.len())?;
-        pairs.extend_from_slice(&self.pairs[..place])?;
-        pairs.push((node, side))?;
-        pairs.extend_from_slice(&self.pairs[place..])?;
+        let pairs = with_pair(*self.pairs.allocator(), &self.pairs, node, side)?;
         Ok(Choice { pairs })
     }
 
@@ -98,6 +94,23 @@ fn side_at(pairs: &[(u32, Side)], node: u32) -> Option<Side>
         }
     }
     None
+}
+
+/// The pairs with one more, in the order of nodes.
+fn with_pair(
+    alloc: Global,
+    pairs: &[(u32, Side)],
+    node: u32,
+    side: Side,
+) -> Result<Vec<(u32, Side)>, NoMemory>
+    ensures { IfOk result (λ longer. longer.items ≡ with_side pairs.now node side) }
+{
+    let place = place_behind(pairs, node);
+    let mut longer = Vec::with_capacity(alloc, pairs.len())?;
+    longer.extend_from_slice(&pairs[..place])?;
+    longer.push((node, side))?;
+    longer.extend_from_slice(&pairs[place..])?;
+    Ok(longer)
 }
 
 /// How many pairs stand before the first one with a greater node.

@@ -1,10 +1,12 @@
 // Clashes: why the nodes of a spread can't hold together.
-ghost use Rattle.std.specs.Prelude.{◌≡◌, ◌<◌, ◌↔◌, ℕ, None, List, IfOk, IsTrue, MatchOption, length, get_or, find, All};
+ghost use Rattle.std.specs.Prelude.{◌≡◌, ◌<◌, ◌↔◌, ℕ, None, Some, IfOk, IsTrue, MatchOption, length, get_or, find, All};
+ghost use Rattle.std.specs.Option.{option_or};
+ghost use Rattle.ml_lists.specs.Ascending.{IsAscending};
 ghost use Rattle.ml_lists.specs.Member.{IsMember};
 ghost use Rattle.ml_graph.specs.Graph.{size, node_at};
 ghost use Rattle.ml_sequent.specs.declared.clashes.ClashCause.{ClashCause};
 ghost use Rattle.ml_sequent.specs.Spread.{IsSpread, IsCause, IsFirstCause, IsOddCycle};
-ghost use Rattle.ml_sequent.specs.private.Tests.{is_false, negative_of, partner, IsFirstPair, IsFirstOddCycle};
+ghost use Rattle.ml_sequent.specs.private.Tests.{is_false, negative_prop, positive_prop, partner, HasNegatives, IsFirstPair, IsFirstOddCycle};
 
 use crate::choice::Choice;
 use crate::search::reached_behind;
@@ -44,6 +46,31 @@ fn first_false(graph: &ModalGraph, nodes: &[u32]) -> Option<u32>
     None
 }
 
+/// The proposition of a negative literal.
+fn negative_prop(node: Node) -> Option<u32>
+    ensures { result ≡ negative_prop node }
+{
+    match node {
+        Node::Lit {
+            prop,
+            positive: false,
+        } => Some(prop),
+        _ => None,
+    }
+}
+
+/// Notes a node as the first negative literal of a proposition, if none was noted before.
+fn note(firsts: &mut Vec<Option<u32>>, prop: u32, node: u32)
+    requires { prop < length firsts.old.items }
+    ensures size { length firsts.new.items ≡ length firsts.old.items }
+    ensures noted { get_or firsts.new.items prop None ≡ option_or (get_or firsts.old.items prop None) (Some node) }
+    ensures others { (p : ℕ) → (p ≡ prop → ⊥) → get_or firsts.new.items p None ≡ get_or firsts.old.items p None }
+{
+    if firsts[prop as usize].is_none() {
+        firsts[prop as usize] = Some(node);
+    }
+}
+
 /// For each proposition of the graph, its first negative literal among these nodes.
 fn negatives(
     alloc: Global,
@@ -51,39 +78,49 @@ fn negatives(
     nodes: &[u32],
 ) -> Result<Vec<Option<u32>>, NoMemory>
     requires { All (λ n. n < size graph.now) nodes.now }
-    ensures length { IfOk result (λ firsts. length firsts.items ≡ length graph.now.props) }
-    ensures firsts { IfOk result (λ firsts. (p : ℕ) → p < length graph.now.props → get_or firsts.items p None ≡ negative_of graph.now nodes.now p) }
+    ensures { IfOk result (λ firsts. HasNegatives graph.now nodes.now firsts.items) }
 {
     let _size = graph.size();
-    let mut firsts = vec![in alloc; None; graph.props().len()]?;
+    let mut firsts = Vec::new(alloc);
+    for _ in graph.props() {
+        firsts.push(None)?;
+    }
     for node in nodes {
-        if let Node::Lit {
-            prop,
-            positive: false,
-        } = *graph.node(*node)
-        {
-            if firsts[prop as usize].is_none() {
-                firsts[prop as usize] = Some(*node);
-            }
+        if let Some(prop) = negative_prop(*graph.node(*node)) {
+            note(&mut firsts, prop, *node);
         }
     }
     Ok(firsts)
 }
 
-/// The partner of a node: of a positive literal, the first negative one of its proposition.
-fn partner(graph: &ModalGraph, firsts: &[Option<u32>], node: u32) -> Option<u32>
-    requires node { node < size graph.now }
-    requires length { length firsts.now ≡ length graph.now.props }
-    ensures { (nodes : List ℕ) → ((p : ℕ) → p < length graph.now.props → get_or firsts.now p None ≡ negative_of graph.now nodes p)
-        → result ≡ partner graph.now nodes (node_at graph.now node) }
+/// The proposition of a positive literal.
+fn positive_prop(node: Node) -> Option<u32>
+    ensures { result ≡ positive_prop node }
 {
-    let _size = graph.size();
-    match *graph.node(node) {
+    match node {
         Node::Lit {
             prop,
             positive: true,
-        } => firsts[prop as usize],
+        } => Some(prop),
         _ => None,
+    }
+}
+
+/// The partner of a node: of a positive literal, the first negative one of its proposition.
+fn partner(
+    graph: &ModalGraph,
+    nodes: &[u32],
+    firsts: &[Option<u32>],
+    node: u32,
+) -> Option<u32>
+    requires node { node < size graph.now }
+    requires firsts { HasNegatives graph.now nodes.now firsts.now }
+    ensures { result ≡ partner graph.now nodes.now (node_at graph.now node) }
+{
+    let _size = graph.size();
+    match positive_prop(*graph.node(node)) {
+        Some(prop) => firsts[prop as usize],
+        None => None,
     }
 }
 
@@ -93,7 +130,8 @@ fn first_pair(
     graph: &ModalGraph,
     nodes: &[u32],
 ) -> Result<Option<(u32, u32)>, NoMemory>
-    requires { All (λ n. n < size graph.now) nodes.now }
+    requires low { All (λ n. n < size graph.now) nodes.now }
+    requires ascends { IsAscending nodes.now }
     ensures { IfOk result (λ found. MatchOption
         found
         ((n : ℕ) → IsMember n nodes.now → partner graph.now nodes.now (node_at graph.now n) ≡ None)
@@ -101,7 +139,7 @@ fn first_pair(
 {
     let firsts = negatives(alloc, graph, nodes)?;
     for node in nodes {
-        if let Some(other) = partner(graph, &firsts, *node) {
+        if let Some(other) = partner(graph, nodes, &firsts, *node) {
             return Ok(Some((*node, other)));
         }
     }
@@ -133,7 +171,8 @@ fn first_cycle(
     choice: &Choice,
     nodes: &[u32],
 ) -> Result<Option<u32>, NoMemory>
-    requires { All (λ n. n < size graph.now) nodes.now }
+    requires low { All (λ n. n < size graph.now) nodes.now }
+    requires ascends { IsAscending nodes.now }
     ensures { IfOk result (λ found. MatchOption
         found
         ((n : ℕ) → IsMember n nodes.now → ¬ (IsOddCycle graph.now choice.now n))
@@ -170,8 +209,8 @@ pub fn clash(
     if let Some(node) = first_false(graph, nodes) {
         return Ok(Some(ClashCause::False(node)));
     }
-    if let Some((positive, negative)) = first_pair(alloc, graph, nodes)? {
-        return Ok(Some(ClashCause::Pair(positive, negative)));
+    if let Some(pair) = first_pair(alloc, graph, nodes)? {
+        return Ok(Some(ClashCause::Pair(pair.0, pair.1)));
     }
     match first_cycle(alloc, graph, spread.choice(), nodes)? {
         Some(node) => Ok(Some(ClashCause::Cycle(node))),

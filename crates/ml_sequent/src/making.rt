@@ -1,5 +1,5 @@
 // How a spread is made.
-ghost use Rattle.std.specs.Prelude.{◌≡◌, ◌<◌, ◌^◌, IfOk, length, filter, All};
+ghost use Rattle.std.specs.Prelude.{◌≡◌, ◌<◌, IfOk, length, filter, All};
 ghost use Rattle.std.specs.List.{range_with_len};
 ghost use Rattle.ml_graph.specs.Graph.{size};
 ghost use Rattle.ml_sequent.specs.Spread.{IsSpreadOf};
@@ -30,18 +30,18 @@ pub fn spread(
     ensures { IfOk result (IsSpreadOf graph.now sequent.now choice.now) }
 {
     let marks = reached(alloc, graph, choice, 0, sequent.values())?;
-    Ok(Spread::of(marked(alloc, &marks)?, choice.copy()?))
+    Ok(Spread::of(marked(alloc, &marks, graph.size())?, choice.copy()?))
 }
 
-/// The marked numbers, ascending.
-fn marked(alloc: Global, marks: &[bool]) -> Result<Vec<u32>, NoMemory>
-    requires { length marks.now < 2 ^ 32 }
-    ensures { IfOk result (λ nodes. nodes.items ≡ filter (mark marks.now) (range_with_len 0 (length marks.now))) }
+/// The marked numbers below `size`, ascending.
+fn marked(alloc: Global, marks: &[bool], size: u32) -> Result<Vec<u32>, NoMemory>
+    requires { length marks.now ≡ size }
+    ensures { IfOk result (λ nodes. nodes.items ≡ filter (mark marks.now) (range_with_len 0 size)) }
 {
     let mut nodes = Vec::new(alloc);
-    for (m, is_marked) in marks.iter().enumerate() {
-        if *is_marked {
-            nodes.push(m as u32)?;
+    for m in 0..size {
+        if marks[m as usize] {
+            nodes.push(m)?;
         }
     }
     Ok(nodes)

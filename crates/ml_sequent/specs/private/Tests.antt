@@ -2,10 +2,13 @@
 --
 --   is_false x          == is x False?
 --   is_negative p x     == is x the negative literal of proposition p?
+--   negative_prop x, positive_prop x == the proposition of a negative literal, and of a positive one
+--   negative_of g nodes p == the first negative literal of p on the list
+--   HasNegatives g nodes firsts == for each proposition of the graph, that
 --   partner g nodes x   == if x is a positive literal, the first node of the list that is the negative literal of its
 --                          proposition
 --   IsFirstPair, IsFirstOddCycle == the first node of a list with a partner, and the first on an odd cycle
-use Rattle.std.specs.Prelude.{ℕ, ◌≡◌, ◌<◌, ◌==◌, Bool, true, false, List, Option, Some, None, find}
+use Rattle.std.specs.Prelude.{ℕ, ◌≡◌, ◌<◌, ◌==◌, Bool, true, false, List, Option, Some, None, length, get_or, find}
 use Rattle.ml_lists.specs.Member.{IsMember}
 use Rattle.ml_graph.specs.declared.node.Node.{Node}
 use Rattle.ml_graph.specs.declared.node.Node.TheVariants as node
@@ -40,19 +43,47 @@ is_negative p (node.Square a to) = false
 abbrev pub negative_of : Graph → List ℕ → ℕ → Option ℕ
 negative_of g nodes p = find (λ n. is_negative p (node_at g n)) nodes
 
--- the partner of a literal with this sign
-abbrev pub partner_of_sign : Graph → List ℕ → ℕ → Bool → Option ℕ
-partner_of_sign g nodes p true = negative_of g nodes p
-partner_of_sign g nodes p false = None
+-- the proposition of a literal with this sign, if it is negative, and if it is positive
+abbrev pub if_negative : ℕ → Bool → Option ℕ
+if_negative p true = None
+if_negative p false = Some p
+
+abbrev pub if_positive : ℕ → Bool → Option ℕ
+if_positive p true = Some p
+if_positive p false = None
+
+-- the proposition of a negative literal
+abbrev pub negative_prop : Node → Option ℕ
+negative_prop node.True = None
+negative_prop node.False = None
+negative_prop (node.Lit p positive) = if_negative p positive
+negative_prop (node.And l r) = None
+negative_prop (node.Or l r) = None
+negative_prop (node.Diamond a to) = None
+negative_prop (node.Square a to) = None
+
+-- the proposition of a positive literal
+abbrev pub positive_prop : Node → Option ℕ
+positive_prop node.True = None
+positive_prop node.False = None
+positive_prop (node.Lit p positive) = if_positive p positive
+positive_prop (node.And l r) = None
+positive_prop (node.Or l r) = None
+positive_prop (node.Diamond a to) = None
+positive_prop (node.Square a to) = None
+
+-- the first negative literal of the proposition, if there is a proposition
+abbrev pub partner_of : Graph → List ℕ → Option ℕ → Option ℕ
+partner_of g nodes None = None
+partner_of g nodes (Some p) = negative_of g nodes p
 
 abbrev pub partner : Graph → List ℕ → Node → Option ℕ
-partner g nodes node.True = None
-partner g nodes node.False = None
-partner g nodes (node.Lit p positive) = partner_of_sign g nodes p positive
-partner g nodes (node.And l r) = None
-partner g nodes (node.Or l r) = None
-partner g nodes (node.Diamond a to) = None
-partner g nodes (node.Square a to) = None
+partner g nodes x = partner_of g nodes (positive_prop x)
+
+-- for each proposition of the graph, the first negative literal of it on the list
+pub record HasNegatives (g : Graph) (nodes : List ℕ) (firsts : List (Option ℕ)) : Type 0 where
+  pub sizes : length firsts ≡ length g.props
+  pub firsts_are : (p : ℕ) → p < length g.props → get_or firsts p None ≡ negative_of g nodes p
 
 -- q.0 is the first node of the list that has a partner on it, and q.1 its partner
 pub record IsFirstPair (g : Graph) (nodes : List ℕ) (q : ℕ × ℕ) : Type 0 where
