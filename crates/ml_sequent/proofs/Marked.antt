@@ -5,6 +5,7 @@
 --   marked_ascends  == the marked numbers ascend
 --   marked_members  == they are those that are marked
 --   is_spread       == of a search from a sequent without a floor, they are its spread
+--   own_spread      == the spread of a set is the spread of its own nodes
 --   spread_low, spread_all == the nodes of a spread are nodes
 use Rattle.std.proofs.Common.{ℕ, zero, suc, ◌≡◌, ◌+◌, ◌<◌, ◌≤◌, ◌⊎◌, inl, inr, Bool, true, false, cond, List, [], ◌∷◌, ◌++◌, length, get_or, filter, All, append-nil, refl, sym, ap, ◌∙◌, subst, arith, ◌↔◌}
 use Rattle.std.specs.List.{range_with_len}
@@ -13,12 +14,13 @@ use Rattle.std.proofs.lemmas.List.Elements.{filter-append}
 use Rattle.ml_lists.specs.Ascending.{IsAscending}
 use Rattle.ml_lists.specs.Member.{IsMember}
 use Rattle.ml_lists.proofs.Member.{member-filter, member-filter_from, place-member, member-All}
-use Rattle.ml_graph.specs.Graph.{Graph, size}
+use Rattle.ml_graph.specs.Graph.{Graph, size, priority_at}
 use Rattle.ml_graph.proofs.Ranges.{range-more}
 use Rattle.ml_sequent.specs.declared.choice.Side.{Side}
-use Rattle.ml_sequent.specs.LocalWalk.{InSpread}
+use Rattle.ml_sequent.specs.LocalWalk.{LocalWalk, stays, children, InSpread}
 use Rattle.ml_sequent.specs.Spread.{SpreadList, IsSpreadOf, IsSpread}
 use Rattle.ml_sequent.specs.private.Search.{mark, Reached, HasReached}
+use Rattle.ml_sequent.proofs.LocalWalks.{stays_inside, spread_is_least}
 use Rattle.ml_sequent.proofs.Searching.{marked_low}
 
 -- what passes a test in a range that is longer by one
@@ -105,3 +107,18 @@ spread_low g sp is k d low = is.low (get_or sp.nodes k d) (place-member sp.nodes
 -- so all of them are
 pub spread_all : (g : Graph) (sp : SpreadList) → IsSpread g sp → All (λ n. n < size g) sp.nodes
 spread_all g sp is = member-All (λ n. n < size g) sp.nodes is.low
+
+-- the spread of a set is the spread of its own nodes
+pub own_spread : (g : Graph) (C : List ℕ) (c : List (ℕ × Side)) (sp : SpreadList) → IsSpreadOf g C c sp → IsSpread g sp
+own_spread g C c sp is = record {
+  choice = refl;
+  ascends = is.ascends;
+  low = is.low;
+  nodes = λ m. (
+    (λ h. record { from = m; member = h; lowest = priority_at g m; walk = stays m }),
+    (λ s. stays_inside g c sp.nodes closed s.from s.lowest m (subst (λ ch. LocalWalk g ch s.from s.lowest m) is.choice s.walk) s.member),
+  );
+}
+  where
+    closed : (n m : ℕ) → IsMember n sp.nodes → IsMember m (children g c n) → IsMember m sp.nodes
+    closed n m h child = (is.nodes m).1 ((spread_is_least g c C).closed n m ((is.nodes n).0 h) child)

@@ -9,6 +9,7 @@
 --   InSpread g c C m    == a local walk leads from a node of C to m
 --   IsClosed g c S      == S has the local children of its nodes
 --   SpreadIsLeast       == the spread of C is the least closed set that has C
+--   LeastSpreadLaw      == so is every spread
 use Rattle.std.specs.Prelude.{ℕ, min, List, [], ◌∷◌, Option, Some, None}
 use Rattle.ml_lists.specs.Member.{IsMember}
 use Rattle.ml_graph.specs.declared.node.Node.{Node}
@@ -58,3 +59,7 @@ pub record SpreadIsLeast (g : Graph) (c : List (ℕ × Side)) (C : List ℕ) : T
   pub has : (m : ℕ) → IsMember m C → InSpread g c C m
   pub closed : (n m : ℕ) → InSpread g c C n → IsMember m (children g c n) → InSpread g c C m
   pub least : (S : List ℕ) → IsClosed g c S → ((m : ℕ) → IsMember m C → IsMember m S) → (m : ℕ) → InSpread g c C m → IsMember m S
+
+-- the spread of any set of nodes, in any graph and under any choice
+abbrev pub LeastSpreadLaw : Type 0
+LeastSpreadLaw = (g : Graph) (c : List (ℕ × Side)) (C : List ℕ) → SpreadIsLeast g c C

@@ -13,6 +13,7 @@
 
 mod choice;
 mod clashes;
+pub mod laws;
 mod making;
 mod questions;
 mod search;

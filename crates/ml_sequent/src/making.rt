@@ -2,7 +2,7 @@
 ghost use Rattle.std.specs.Prelude.{◌≡◌, ◌<◌, IfOk, length, filter, All};
 ghost use Rattle.std.specs.List.{range_with_len};
 ghost use Rattle.ml_graph.specs.Graph.{size};
-ghost use Rattle.ml_sequent.specs.Spread.{IsSpreadOf};
+ghost use Rattle.ml_sequent.specs.Spread.{IsSpread, IsSpreadOf};
 ghost use Rattle.ml_sequent.specs.private.Search.{mark};
 
 use crate::choice::Choice;
@@ -27,7 +27,8 @@ pub fn spread(
     choice: &Choice,
 ) -> Result<Spread, NoMemory>
     requires { All (λ n. n < size graph.now) sequent.now }
-    ensures { IfOk result (IsSpreadOf graph.now sequent.now choice.now) }
+    ensures of { IfOk result (IsSpreadOf graph.now sequent.now choice.now) }
+    ensures is_spread { IfOk result (IsSpread graph.now) }
 {
     let marks = reached(alloc, graph, choice, 0, sequent.values())?;
     Ok(Spread::of(marked(alloc, &marks, graph.size())?, choice.copy()?))
