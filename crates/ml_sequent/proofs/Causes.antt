@@ -4,7 +4,7 @@
 --   false_cause, pair_cause, cycle_cause == the first of each kind is the first cause, where none of an earlier kind is
 --   negatives_same, negatives_noted == the first negative literals of one node more
 --   no_cause        == where there is none of any kind, there is no cause
-use Rattle.std.proofs.Common.{ℕ, ◌≡◌, ◌<◌, ◌≤◌, ◌%◌, ◌==◌, ◌⊎◌, inl, inr, ⊎_elim, ◌↔◌, Bool, true, false, ◌+◌, List, [], ◌∷◌, length, get_or, take, find, Option, Some, None, refl, sym, ap, ◌∙◌, subst, arith}
+use Rattle.std.proofs.Common.{ℕ, ◌≡◌, ◌<◌, ◌==◌, ◌⊎◌, inl, inr, ◌↔◌, Bool, true, false, ◌+◌, List, [], ◌∷◌, length, get_or, take, find, Option, Some, None, refl, sym, ap, ◌∙◌, arith}
 use Rattle.std.proofs.lemmas.Bool.{cases_eq, eqb-true, cond-true, cond-false}
 use Rattle.std.proofs.lemmas.List.{take_more}
 use Rattle.std.proofs.lemmas.List.Folds.{find-append}
@@ -20,7 +20,7 @@ use Rattle.ml_sequent.specs.declared.choice.Side.{Side}
 use Rattle.ml_sequent.specs.declared.clashes.ClashCause.{ClashCause}
 use Rattle.ml_sequent.specs.declared.clashes.ClashCause.TheVariants as cause
 use Rattle.ml_sequent.specs.LocalWalk.{children}
-use Rattle.ml_sequent.specs.Spread.{SpreadList, IsSpread, IsCause, IsFirstCause, IsPair, OnCycle, IsOddCycle, comes_before}
+use Rattle.ml_sequent.specs.Spread.{SpreadList, IsCause, IsFirstCause, IsPair, OnCycle, IsOddCycle, comes_before}
 use Rattle.ml_sequent.specs.private.Search.{mark, HasReached}
 use Rattle.ml_sequent.specs.private.Tests.{is_false, is_negative, negative_sign, negative_of, partner, partner_of, positive_prop, negative_prop, if_positive, if_negative, HasNegatives, IsFirstPair, IsFirstOddCycle}
 use Rattle.ml_sequent.proofs.Firsts.{FoundFirst, found_first, found_none}
@@ -28,7 +28,8 @@ use Rattle.ml_sequent.proofs.Firsts.{FoundFirst, found_first, found_none}
 -- ---- cycles
 
 -- a search behind a node through nodes of no lower priority comes back to it exactly if it is on a cycle
-pub on_cycle : (g : Graph) (c : List (ℕ × Side)) (n : ℕ) (marks : List Bool) → HasReached g c (priority_at g n) (children g c n) marks
+pub on_cycle : (g : Graph) (c : List (ℕ × Side)) (n : ℕ) (marks : List Bool)
+    → HasReached g c (priority_at g n) (children g c n) marks
     → (mark marks n ≡ true) ↔ OnCycle g c n
 on_cycle g c n marks has = (
   (λ h. let r = (has.marked n).0 h in record { next = r.from; child = r.member; lowest = r.lowest; walk = r.walk; high = r.high }),
@@ -93,13 +94,19 @@ partner-is g nodes x q e = by_prop (positive_prop x) refl e
     by_prop None is found = cc
     by_prop (Some p) is found = record { prop = p; positive = positive_prop-is p x is; negative = found }
 
-partner-of : (g : Graph) (nodes : List ℕ) (x : Node) (p : ℕ) → x ≡ node.Lit p true → partner g nodes x ≡ negative_of g nodes p
+partner-of : (g : Graph) (nodes : List ℕ) (x : Node) (p : ℕ)
+    → x ≡ node.Lit p true
+    → partner g nodes x ≡ negative_of g nodes p
 partner-of g nodes x p e = ap (partner g nodes) e
 
 -- ---- causes
 
 module _ (g : Graph) (sp : SpreadList) (up : IsAscending sp.nodes) where
-  pub no_false : find (λ n. is_false (node_at g n)) sp.nodes ≡ None → (n : ℕ) → IsMember n sp.nodes → node_at g n ≡ node.False → ⊥
+  pub no_false : find (λ n. is_false (node_at g n)) sp.nodes ≡ None
+      → (n : ℕ)
+      → IsMember n sp.nodes
+      → node_at g n ≡ node.False
+      → ⊥
   no_false e n h is = let fails = found_none (λ k. is_false (node_at g k)) sp.nodes e n h in let passes = ap is_false is in cc
 
   pub no_pair : ((n : ℕ) → IsMember n sp.nodes → partner g sp.nodes (node_at g n) ≡ None)
@@ -130,7 +137,8 @@ module _ (g : Graph) (sp : SpreadList) (up : IsAscending sp.nodes) where
       from : Partners g sp.nodes (node_at g q.0) q.1 → IsFirstCause g sp (cause.Pair q.0 q.1)
       from p = with_negative (found_first (λ k. is_negative p.prop (node_at g k)) sp.nodes up q.1 p.negative)
         where
-          with_negative : FoundFirst (λ k. is_negative p.prop (node_at g k)) sp.nodes q.1 → IsFirstCause g sp (cause.Pair q.0 q.1)
+          with_negative : FoundFirst (λ k. is_negative p.prop (node_at g k)) sp.nodes q.1
+              → IsFirstCause g sp (cause.Pair q.0 q.1)
           with_negative r = record {
             is_cause = (f.member, r.member, record { prop = p.prop; positive = p.positive; negative = is_negative-is p.prop (node_at g q.1) r.passes });
             first = first;
@@ -201,7 +209,13 @@ negative_here x q e = is_negative-of q x (of_prop x e)
     of_prop (node.Square a to) h = cc
 
 -- the proposition of a negative literal is one of the graph's
-pub negative_prop-low : (g : Graph) → IsGraph g → (n : ℕ) → n < size g → (q : ℕ) → negative_prop (node_at g n) ≡ Some q → q < length g.props
+pub negative_prop-low : (g : Graph)
+    → IsGraph g
+    → (n : ℕ)
+    → n < size g
+    → (q : ℕ)
+    → negative_prop (node_at g n) ≡ Some q
+    → q < length g.props
 negative_prop-low g ok n low q e = prop_in_range g ok n low q false (is_negative-is q (node_at g n) (negative_here (node_at g n) q e))
 
 -- if it is the negative literal of p, its proposition is p
@@ -210,11 +224,14 @@ negative_only x p e = ap negative_prop (is_negative-is p x e)
 
 -- a test that fails adds nothing, one that passes adds the node
 module _ (g : Graph) (nodes : List ℕ) (i : ℕ) (low : i < length nodes) where
-  of_more : (p : ℕ) → negative_of g (take (i + 1) nodes) p ≡ option_or (negative_of g (take i nodes) p) (find (λ n. is_negative p (node_at g n)) (get_or nodes i 0 ∷ []))
+  of_more : (p : ℕ)
+      → negative_of g (take (i + 1) nodes) p ≡ option_or (negative_of g (take i nodes) p) (find (λ n. is_negative p (node_at g n)) (get_or nodes i 0 ∷ []))
   of_more p =
       ap (find (λ n. is_negative p (node_at g n))) (take_more nodes i 0 low) ∙ find-append (λ n. is_negative p (node_at g n)) (take i nodes) (get_or nodes i 0 ∷ [])
 
-  adds_none : (p : ℕ) → is_negative p (node_at g (get_or nodes i 0)) ≡ false → negative_of g (take (i + 1) nodes) p ≡ negative_of g (take i nodes) p
+  adds_none : (p : ℕ)
+      → is_negative p (node_at g (get_or nodes i 0)) ≡ false
+      → negative_of g (take (i + 1) nodes) p ≡ negative_of g (take i nodes) p
   adds_none p fails =
       of_more p
       ∙ ap (option_or (negative_of g (take i nodes) p)) (cond-false (is_negative p (node_at g (get_or nodes i 0))) (Some (get_or nodes i 0)) None fails)
@@ -231,14 +248,18 @@ module _ (g : Graph) (nodes : List ℕ) (i : ℕ) (low : i < length nodes) where
       ∙ ap (option_or (negative_of g (take i nodes) p)) (cond-true (is_negative p (node_at g (get_or nodes i 0))) (Some (get_or nodes i 0)) None passes)
 
   -- a node that is no negative literal changes nothing
-  pub negatives_same : (firsts : List (Option ℕ)) → HasNegatives g (take i nodes) firsts → negative_prop (node_at g (get_or nodes i 0)) ≡ None
+  pub negatives_same : (firsts : List (Option ℕ))
+      → HasNegatives g (take i nodes) firsts
+      → negative_prop (node_at g (get_or nodes i 0)) ≡ None
       → HasNegatives g (take (i + 1) nodes) firsts
   negatives_same firsts has none = record {
     sizes = has.sizes;
     firsts_are = λ p p_low. has.firsts_are p p_low ∙ sym (adds_none p (fails p (is_negative p (node_at g (get_or nodes i 0))) refl));
   }
     where
-      fails : (p : ℕ) (b : Bool) → is_negative p (node_at g (get_or nodes i 0)) ≡ b → is_negative p (node_at g (get_or nodes i 0)) ≡ false
+      fails : (p : ℕ) (b : Bool)
+          → is_negative p (node_at g (get_or nodes i 0)) ≡ b
+          → is_negative p (node_at g (get_or nodes i 0)) ≡ false
       fails p true e = let some = negative_only (node_at g (get_or nodes i 0)) p e in cc
       fails p false e = e
 
@@ -255,14 +276,20 @@ module _ (g : Graph) (nodes : List ℕ) (i : ℕ) (low : i < length nodes) where
       here : is_negative q (node_at g (get_or nodes i 0)) ≡ true
       here = negative_here (node_at g (get_or nodes i 0)) q is
 
-      fails : (p : ℕ) (b : Bool) → (p ≡ q → ⊥) → is_negative p (node_at g (get_or nodes i 0)) ≡ b → is_negative p (node_at g (get_or nodes i 0)) ≡ false
+      fails : (p : ℕ) (b : Bool)
+          → (p ≡ q → ⊥)
+          → is_negative p (node_at g (get_or nodes i 0)) ≡ b
+          → is_negative p (node_at g (get_or nodes i 0)) ≡ false
       fails p true other e =
           let some = negative_only (node_at g (get_or nodes i 0)) p e in
           let same : p ≡ q = cc in
           absurd (other same)
       fails p false other e = e
 
-      at : (p : ℕ) → p < length g.props → (p ≡ q) ⊎ (p ≡ q → ⊥) → get_or firsts2 p None ≡ negative_of g (take (i + 1) nodes) p
+      at : (p : ℕ)
+          → p < length g.props
+          → (p ≡ q) ⊎ (p ≡ q → ⊥)
+          → get_or firsts2 p None ≡ negative_of g (take (i + 1) nodes) p
       at p p_low (inl e) =
           ap (λ k. get_or firsts2 k None) e
           ∙ noted

@@ -3,7 +3,7 @@
 --   side_step       == the side at a node is that of the first pair, or else of a later one
 --   with_side_split == the pair of one node more stands behind all that have no greater node
 --   with_is_choice  == a choice with a side more is a choice
-use Rattle.std.proofs.Common.{ℕ, zero, suc, ◌≡◌, ◌+◌, ◌<◌, ◌≤◌, ◌==◌, Bool, true, false, cond, nat_lt, List, [], ◌∷◌, ◌++◌, length, get_or, map, take, drop, Option, Some, None, refl, sym, ap, ◌∙◌, subst, arith, ⊎_elim, ◌⊎◌, inl, inr}
+use Rattle.std.proofs.Common.{ℕ, zero, suc, ◌≡◌, ◌<◌, ◌≤◌, ◌==◌, Bool, true, false, cond, nat_lt, List, [], ◌∷◌, ◌++◌, length, get_or, map, take, drop, Option, Some, None, refl, sym, ap, ◌∙◌, subst, arith, ◌⊎◌, inl, inr}
 use Rattle.std.proofs.lemmas.Bool.{cases_Bool, cond-true, cond-false}
 use Rattle.std.proofs.lemmas.Bool.Decides.{nat_tests}
 use Rattle.ml_lists.specs.Ascending.{IsAscending, insert_once}
@@ -53,9 +53,12 @@ nodes_with (p ∷ c) n s none = by_test (cases_Bool (nat_lt n p.0)) (λ (later :
         ap (map (λ (q : ℕ × Side). q.0)) (cond-false (nat_lt n p.0) ((n, s) ∷ p ∷ c) (p ∷ with_side c n s) more)
         ∙ ap (λ xs. p.0 ∷ xs) (rest here.1)
         ∙ sym (cond-false (nat_lt n p.0) (n ∷ (p.0 ∷ map (λ (q : ℕ × Side). q.0) c)) (cond (n == p.0) (p.0 ∷ map (λ (q : ℕ × Side). q.0) c) (p.0 ∷ insert_once n (map (λ (q : ℕ × Side). q.0) c))) more
-          ∙ cond-false (n == p.0) (p.0 ∷ map (λ (q : ℕ × Side). q.0) c) (p.0 ∷ insert_once n (map (λ (q : ℕ × Side). q.0) c)) other)
+        ∙ cond-false (n == p.0) (p.0 ∷ map (λ (q : ℕ × Side). q.0) c) (p.0 ∷ insert_once n (map (λ (q : ℕ × Side). q.0) c)) other)
 
 -- a choice with a side more is a choice
-pub with_is_choice : (c : List (ℕ × Side)) (n : ℕ) (s : Side) → IsChoice c → side_of c n ≡ None → IsChoice (with_side c n s)
+pub with_is_choice : (c : List (ℕ × Side)) (n : ℕ) (s : Side)
+    → IsChoice c
+    → side_of c n ≡ None
+    → IsChoice (with_side c n s)
 with_is_choice c n s ok none =
     subst IsAscending (sym (nodes_with c n s none)) (insert_once-is n (map (λ p. p.0) c) ok)

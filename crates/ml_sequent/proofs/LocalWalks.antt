@@ -4,11 +4,11 @@
 --   walk_more         == a walk that goes on to one child more
 --   walk_joined       == two walks, one behind the other
 --   spread_is_least   == the spread is the least closed set
-use Rattle.std.proofs.Common.{ℕ, ◌≡◌, ◌≤◌, min, List, refl, subst, arith, inl, inr}
+use Rattle.std.proofs.Common.{ℕ, ◌≡◌, ◌≤◌, min, List, subst, arith}
 use Rattle.ml_lists.specs.Member.{IsMember}
 use Rattle.ml_graph.specs.Graph.{Graph, priority_at}
 use Rattle.ml_sequent.specs.declared.choice.Side.{Side}
-use Rattle.ml_sequent.specs.LocalWalk.{LocalWalk, stays, goes, children, InSpread, IsClosed, SpreadIsLeast}
+use Rattle.ml_sequent.specs.LocalWalk.{LocalWalk, stays, goes, children, IsClosed, SpreadIsLeast}
 
 module _ (g : Graph) (c : List (ℕ × Side)) where
   -- the lowest priority is at most that of the first node
@@ -22,7 +22,10 @@ module _ (g : Graph) (c : List (ℕ × Side)) where
   end_low n k m (goes {k = j} _ next child w) = let low = end_low next j m w in omega arith
 
   -- a walk that goes on to one child more
-  pub walk_more : (n k m e : ℕ) → LocalWalk g c n k m → IsMember e (children g c m) → LocalWalk g c n (min k (priority_at g e)) e
+  pub walk_more : (n k m e : ℕ)
+      → LocalWalk g c n k m
+      → IsMember e (children g c m)
+      → LocalWalk g c n (min k (priority_at g e)) e
   walk_more n k m e (stays _) child = goes n e child (stays e)
   walk_more n k m e (goes {k = j} _ next here w) child =
       let same : min (priority_at g n) (min j (priority_at g e)) ≡ min (min (priority_at g n) j) (priority_at g e) = omega arith in

@@ -17,9 +17,9 @@ use Rattle.ml_lists.proofs.Member.{member-filter, member-filter_from, place-memb
 use Rattle.ml_graph.specs.Graph.{Graph, size, priority_at}
 use Rattle.ml_graph.proofs.Ranges.{range-more}
 use Rattle.ml_sequent.specs.declared.choice.Side.{Side}
-use Rattle.ml_sequent.specs.LocalWalk.{LocalWalk, stays, children, InSpread}
+use Rattle.ml_sequent.specs.LocalWalk.{LocalWalk, stays, children}
 use Rattle.ml_sequent.specs.Spread.{SpreadList, IsSpreadOf, IsSpread}
-use Rattle.ml_sequent.specs.private.Search.{mark, Reached, HasReached}
+use Rattle.ml_sequent.specs.private.Search.{mark, HasReached}
 use Rattle.ml_sequent.proofs.LocalWalks.{stays_inside, spread_is_least}
 use Rattle.ml_sequent.proofs.Searching.{marked_low}
 
@@ -56,7 +56,9 @@ range_has : (n a k : ℕ) → a ≤ k → k < a + n → IsMember k (range_with_l
 range_has zero a k low high = absurd (omega arith)
 range_has (suc n) a k low high = by_first (cases_eq k a) (range_has n (a + 1) k)
   where
-    by_first : (k ≡ a) ⊎ (k ≡ a → ⊥) → (a + 1 ≤ k → k < (a + 1) + n → IsMember k (range_with_len (a + 1) n)) → IsMember k (range_with_len a (suc n))
+    by_first : (k ≡ a) ⊎ (k ≡ a → ⊥)
+        → (a + 1 ≤ k → k < (a + 1) + n → IsMember k (range_with_len (a + 1) n))
+        → IsMember k (range_with_len a (suc n))
     by_first (inl e) later = inl e
     by_first (inr other) later = inr (later (omega arith) (omega arith))
 
@@ -64,7 +66,9 @@ ascends_from : (test : ℕ → Bool) (n a : ℕ) → IsAscending (filter test (r
 ascends_from test zero a = tt
 ascends_from test (suc n) a = by_test (cases_Bool (test a)) (ascends_from test n (a + 1))
   where
-    by_test : (test a ≡ true) ⊎ (test a ≡ false) → IsAscending (filter test (range_with_len (a + 1) n)) → IsAscending (filter test (range_with_len a (suc n)))
+    by_test : (test a ≡ true) ⊎ (test a ≡ false)
+        → IsAscending (filter test (range_with_len (a + 1) n))
+        → IsAscending (filter test (range_with_len a (suc n)))
     by_test (inl passes) rest =
         subst IsAscending (sym (cond-true (test a) (a ∷ filter test (range_with_len (a + 1) n)) (filter test (range_with_len (a + 1) n)) passes))
         ((λ y h. let low = range_members n (a + 1) y (member-filter_from test y (range_with_len (a + 1) n) h).0 in omega arith), rest)
@@ -76,19 +80,24 @@ pub marked_ascends : (marks : List Bool) → IsAscending (filter (mark marks) (r
 marked_ascends marks = ascends_from (mark marks) (length marks) 0
 
 -- the same, of a length that is told otherwise
-pub nodes_ascend : (marks : List Bool) (n : ℕ) (nodes : List ℕ) → length marks ≡ n → nodes ≡ filter (mark marks) (range_with_len 0 n) → IsAscending nodes
+pub nodes_ascend : (marks : List Bool) (n : ℕ) (nodes : List ℕ)
+    → length marks ≡ n
+    → nodes ≡ filter (mark marks) (range_with_len 0 n)
+    → IsAscending nodes
 nodes_ascend marks n nodes long is =
     subst IsAscending (sym (is ∙ ap (λ k. filter (mark marks) (range_with_len 0 k)) (sym long))) (marked_ascends marks)
 
 -- they are those that are marked
-pub marked_members : (marks : List Bool) (m : ℕ) → IsMember m (filter (mark marks) (range_with_len 0 (length marks))) ↔ (mark marks m ≡ true)
+pub marked_members : (marks : List Bool) (m : ℕ)
+    → IsMember m (filter (mark marks) (range_with_len 0 (length marks))) ↔ (mark marks m ≡ true)
 marked_members marks m = (
   (λ h. (member-filter_from (mark marks) m (range_with_len 0 (length marks)) h).1),
   (λ is. member-filter (mark marks) m (range_with_len 0 (length marks)) (range_has (length marks) 0 m (omega arith) (let low = marked_low marks m is in omega arith)) is),
 )
 
 -- of a search from a sequent without a floor, they are its spread
-pub is_spread : (g : Graph) (c : List (ℕ × Side)) (C : List ℕ) (marks : List Bool) (sp : SpreadList) → HasReached g c 0 C marks
+pub is_spread : (g : Graph) (c : List (ℕ × Side)) (C : List ℕ) (marks : List Bool) (sp : SpreadList)
+    → HasReached g c 0 C marks
     → sp.nodes ≡ filter (mark marks) (range_with_len 0 (length marks)) → sp.choice ≡ c → IsSpreadOf g C c sp
 is_spread g c C marks sp has nodes choice = record {
   choice = choice;
@@ -101,7 +110,11 @@ is_spread g c C marks sp has nodes choice = record {
 }
 
 -- the nodes of a spread are nodes
-pub spread_low : (g : Graph) (sp : SpreadList) → IsSpread g sp → (k d : ℕ) → k < length sp.nodes → get_or sp.nodes k d < size g
+pub spread_low : (g : Graph) (sp : SpreadList)
+    → IsSpread g sp
+    → (k d : ℕ)
+    → k < length sp.nodes
+    → get_or sp.nodes k d < size g
 spread_low g sp is k d low = is.low (get_or sp.nodes k d) (place-member sp.nodes k d low)
 
 -- so all of them are

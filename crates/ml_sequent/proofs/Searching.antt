@@ -10,18 +10,17 @@
 --   begun, finished            == from nothing marked, and to the answer
 --   search_ends                == when the list is empty
 --   marked_low, visited_low    == marked nodes and listed nodes are nodes
-use Rattle.std.proofs.Common.{ℕ, ◌≡◌, ◌+◌, ◌<◌, ◌≤◌, ◌⊎◌, inl, inr, ⊎_elim, Bool, true, false, not, min, All, Result, Ok, Err, OnOk, IfOk, List, [], ◌∷◌, ◌++◌, length, get_or, set, replicate, refl, sym, ap, ◌∙◌, subst, arith, length-append}
+use Rattle.std.proofs.Common.{ℕ, ◌≡◌, ◌<◌, ◌≤◌, ◌⊎◌, inl, inr, ⊎_elim, Bool, true, false, not, min, All, Result, Ok, Err, OnOk, IfOk, List, [], ◌∷◌, ◌++◌, length, set, replicate, refl, sym, ap, ◌∙◌, subst, arith, length-append}
 use Rattle.std.specs.Global.{Vec}
 use Rattle.std.proofs.lemmas.Bool.{cases_eq, cases_lt}
 use Rattle.std.proofs.lemmas.List.{get_or-set_same, get_or-set_other, get_or_past, get_or-replicate, length-set, length-replicate}
-use Rattle.ml_lists.specs.Counting.{count}
 use Rattle.ml_lists.specs.Member.{IsMember}
 use Rattle.ml_lists.proofs.Counting.{count_strict}
 use Rattle.ml_lists.proofs.Member.{member-append, member-append_left, member-append_right, member-All, All-member}
 use Rattle.ml_graph.specs.Graph.{Graph, size, priority_at}
 use Rattle.ml_sequent.specs.declared.choice.Side.{Side}
 use Rattle.ml_sequent.specs.LocalWalk.{LocalWalk, stays, goes, children}
-use Rattle.ml_sequent.specs.private.Search.{mark, Reached, HasReached, unmarked, IsVisited, IsSearch}
+use Rattle.ml_sequent.specs.private.Search.{mark, Reached, HasReached, IsVisited, IsSearch}
 use Rattle.ml_sequent.proofs.LocalWalks.{walk_low, walk_more}
 
 -- marked nodes are nodes
@@ -43,7 +42,8 @@ module _ (g : Graph) (floor : ℕ) where
     falls = omega arith;
   }
 
-  pub visited_join : (ks js : List ℕ) (marks : List Bool) (todo : List ℕ) (marks2 : List Bool) (todo2 : List ℕ) (marks3 : List Bool) (todo3 : List ℕ)
+  pub visited_join : (ks js : List ℕ) (marks : List Bool) (todo : List ℕ) (marks2 : List Bool) (todo2 : List ℕ)
+      (marks3 : List Bool) (todo3 : List ℕ)
       → IsVisited g floor ks marks todo marks2 todo2 → IsVisited g floor js marks2 todo2 marks3 todo3
       → IsVisited g floor (ks ++ js) marks todo marks3 todo3
   visited_join ks js marks todo marks2 todo2 marks3 todo3 one two = record {
@@ -52,9 +52,9 @@ module _ (g : Graph) (floor : ℕ) where
     all = λ k h high. ⊎_elim (λ (left : IsMember k ks). two.kept k (one.all k left high)) (λ (right : IsMember k js). two.all k right high) (member-append k ks js h);
     only = λ m h. ⊎_elim
         (λ (old : mark marks2 m ≡ true). ⊎_elim
-          (λ (older : mark marks m ≡ true). inl older)
-          (λ (new : IsMember m ks × (floor ≤ priority_at g m) × IsMember m todo2). inr (member-append_left m ks js new.0, new.1, two.listed m new.2))
-          (one.only m old))
+        (λ (older : mark marks m ≡ true). inl older)
+        (λ (new : IsMember m ks × (floor ≤ priority_at g m) × IsMember m todo2). inr (member-append_left m ks js new.0, new.1, two.listed m new.2))
+        (one.only m old))
         (λ (new : IsMember m js × (floor ≤ priority_at g m) × IsMember m todo3). inr (member-append_right m ks js new.0, new.1, new.2))
         (two.only m h);
     listed = λ m h. two.listed m (one.listed m h);
@@ -66,7 +66,8 @@ module _ (g : Graph) (floor : ℕ) where
   }
 
   -- a node that needs no mark
-  pub visited_old : (marks : List Bool) (todo : List ℕ) (node : ℕ) → (floor ≤ priority_at g node → mark marks node ≡ true)
+  pub visited_old : (marks : List Bool) (todo : List ℕ) (node : ℕ)
+      → (floor ≤ priority_at g node → mark marks node ≡ true)
       → IsVisited g floor (node ∷ []) marks todo marks todo
   visited_old marks todo node old = record {
     sizes = refl;
@@ -83,7 +84,10 @@ module _ (g : Graph) (floor : ℕ) where
       all k (inr none) high = absurd none
 
   -- a node that gets one
-  pub visited_new : (marks : List Bool) (todo : List ℕ) (node : ℕ) → length marks ≡ size g → node < size g → mark marks node ≡ false
+  pub visited_new : (marks : List Bool) (todo : List ℕ) (node : ℕ)
+      → length marks ≡ size g
+      → node < size g
+      → mark marks node ≡ false
       → floor ≤ priority_at g node → IsVisited g floor (node ∷ []) marks todo (set marks node true) (todo ++ node ∷ [])
   visited_new marks todo node sizes low fresh high = record {
     sizes = length-set marks node true;
@@ -125,7 +129,11 @@ module _ (g : Graph) (floor : ℕ) where
 
 module _ (g : Graph) (c : List (ℕ × Side)) (floor : ℕ) (C : List ℕ) where
   -- what is reached, and a child of it of no lower priority
-  reached_more : (m e : ℕ) → Reached g c floor C m → IsMember e (children g c m) → floor ≤ priority_at g e → Reached g c floor C e
+  reached_more : (m e : ℕ)
+      → Reached g c floor C m
+      → IsMember e (children g c m)
+      → floor ≤ priority_at g e
+      → Reached g c floor C e
   reached_more m e r child high = record {
     from = r.from;
     member = r.member;
@@ -135,7 +143,9 @@ module _ (g : Graph) (c : List (ℕ × Side)) (floor : ℕ) (C : List ℕ) where
   }
 
   -- when the first nodes are visited
-  pub search_begins : (n : ℕ) (marks : List Bool) (todo : List ℕ) → n ≡ size g → IsVisited g floor C (replicate n false) [] marks todo
+  pub search_begins : (n : ℕ) (marks : List Bool) (todo : List ℕ)
+      → n ≡ size g
+      → IsVisited g floor C (replicate n false) [] marks todo
       → IsSearch g c floor C marks todo
   search_begins n marks todo sizes v = record {
     sizes = v.sizes ∙ length-none ∙ sizes;
@@ -187,7 +197,8 @@ module _ (g : Graph) (c : List (ℕ × Side)) (floor : ℕ) (C : List ℕ) where
       was_listed m (inr (inl e)) = inr (subst (λ x. (y : ℕ) → IsMember y (children g c x) → floor ≤ priority_at g y → mark marks2 y ≡ true) (sym e) v.all)
       was_listed m (inr (inr none)) = absurd none
 
-      was_marked : (m : ℕ) → IsMember m (todo ++ n ∷ []) ⊎ ((e : ℕ) → IsMember e (children g c m) → floor ≤ priority_at g e → mark marks e ≡ true)
+      was_marked : (m : ℕ)
+          → IsMember m (todo ++ n ∷ []) ⊎ ((e : ℕ) → IsMember e (children g c m) → floor ≤ priority_at g e → mark marks e ≡ true)
           → IsMember m todo2 ⊎ ((e : ℕ) → IsMember e (children g c m) → floor ≤ priority_at g e → mark marks2 e ≡ true)
       was_marked m (inl h) = was_listed m (member-append m todo (n ∷ []) h)
       was_marked m (inr f) = inr (λ e child high. v.kept e (f e child high))
@@ -205,12 +216,13 @@ module _ (g : Graph) (c : List (ℕ × Side)) (floor : ℕ) (C : List ℕ) where
           ⊎_elim
           (λ (none : IsMember n []). absurd none)
           (λ (f : (e : ℕ) → IsMember e (children g c n) → floor ≤ priority_at g e → mark marks e ≡ true).
-            let low = walk_low g c next j m w in
-            along next j m w (omega arith) (f next child (omega arith)))
+          let low = walk_low g c next j m w in
+          along next j m w (omega arith) (f next child (omega arith)))
           (s.closed n h)
 
 -- listed nodes are nodes
-pub visited_low : (g : Graph) (floor : ℕ) (ks : List ℕ) (marks : List Bool) (todo : List ℕ) (marks2 : List Bool) (todo2 : List ℕ)
+pub visited_low : (g : Graph) (floor : ℕ) (ks : List ℕ) (marks : List Bool) (todo : List ℕ) (marks2 : List Bool)
+    (todo2 : List ℕ)
     → IsVisited g floor ks marks todo marks2 todo2 → length marks ≡ size g → All (λ n. n < size g) todo → All (λ n. n < size g) todo2
 visited_low g floor ks marks todo marks2 todo2 v sizes low = member-All (λ n. n < size g) todo2 (λ m h. ⊎_elim
     (λ (old : IsMember m todo). All-member (λ n. n < size g) todo low m old)
@@ -227,7 +239,9 @@ empty_is [] e = refl
 empty_is (x ∷ xs) e = absurd (omega arith)
 
 -- two children, where the second visit is the answer
-pub both_visited : {T E : Type 0} → (g : Graph) (floor l r : ℕ) (ks : List ℕ) (marks : List Bool) (todo : List ℕ) (marks2 : List Bool) (todo2 : List ℕ)
+pub both_visited : {T E : Type 0}
+    → (g : Graph) (floor l r : ℕ) (ks : List ℕ) (marks : List Bool) (todo : List ℕ) (marks2 : List Bool)
+    (todo2 : List ℕ)
     (marks3 : List Bool) (todo3 : List ℕ) (answer : Result T E) → IsVisited g floor (l ∷ []) marks todo marks2 todo2
     → OnOk answer (IsVisited g floor (r ∷ []) marks2 todo2 marks3 todo3) → ks ≡ l ∷ r ∷ []
     → OnOk answer (IsVisited g floor ks marks todo marks3 todo3)
@@ -239,14 +253,17 @@ pub nothing_listed : (n : ℕ) → All (λ k. k < n) []
 nothing_listed n = member-All (λ k. k < n) [] (λ m h. absurd h)
 
 -- a search that began with nothing marked, and visited the first nodes
-pub begun : (g : Graph) (c : List (ℕ × Side)) (floor : ℕ) (C : List ℕ) (marks : List Bool) (todo : List ℕ) (marks2 : List Bool) (todo2 : List ℕ)
+pub begun : (g : Graph) (c : List (ℕ × Side)) (floor : ℕ) (C : List ℕ) (marks : List Bool) (todo : List ℕ)
+    (marks2 : List Bool) (todo2 : List ℕ)
     → marks ≡ replicate (size g) false → todo ≡ [] → IsVisited g floor C marks todo marks2 todo2 → IsSearch g c floor C marks2 todo2
 begun g c floor C marks todo marks2 todo2 none empty v =
     search_begins g c floor C (size g) marks2 todo2 refl
     (subst (λ xs. IsVisited g floor C xs [] marks2 todo2) none (subst (λ ys. IsVisited g floor C marks ys marks2 todo2) empty v))
 
 -- what a finished search answers, of one that is known to have begun
-pub finished : {E : Type 0} → (g : Graph) (c : List (ℕ × Side)) (floor : ℕ) (C : List ℕ) (marks : List Bool) (todo : List ℕ) (answer : Result (Vec Bool) E)
+pub finished : {E : Type 0}
+    → (g : Graph) (c : List (ℕ × Side)) (floor : ℕ) (C : List ℕ) (marks : List Bool) (todo : List ℕ)
+    (answer : Result (Vec Bool) E)
     → IfOk answer (λ v. (D : List ℕ) → IsSearch g c floor D marks todo → HasReached g c floor D v.items)
     → IsSearch g c floor C marks todo → IfOk answer (λ v. HasReached g c floor C v.items)
 finished g c floor C marks todo (Ok v) f s = f C s

@@ -40,8 +40,10 @@ children g c n = children_of c n (node_at g n)
 -- a local walk, with the lowest priority on it
 pub data LocalWalk : Graph → List (ℕ × Side) → ℕ → ℕ → ℕ → Type 0 where
   stays : {g : Graph} {c : List (ℕ × Side)} (n : ℕ) → LocalWalk g c n (priority_at g n) n
-  goes : {g : Graph} {c : List (ℕ × Side)} {k m : ℕ} (n next : ℕ) → IsMember next (children g c n) → LocalWalk g c next k m
-    → LocalWalk g c n (min (priority_at g n) k) m
+  goes : {g : Graph} {c : List (ℕ × Side)} {k m : ℕ} (n next : ℕ)
+      → IsMember next (children g c n)
+      → LocalWalk g c next k m
+      → LocalWalk g c n (min (priority_at g n) k) m
 
 -- a local walk leads from a node of C to m
 pub record InSpread (g : Graph) (c : List (ℕ × Side)) (C : List ℕ) (m : ℕ) : Type 0 where
@@ -58,7 +60,12 @@ IsClosed g c S = (n m : ℕ) → IsMember n S → IsMember m (children g c n) �
 pub record SpreadIsLeast (g : Graph) (c : List (ℕ × Side)) (C : List ℕ) : Type 0 where
   pub has : (m : ℕ) → IsMember m C → InSpread g c C m
   pub closed : (n m : ℕ) → InSpread g c C n → IsMember m (children g c n) → InSpread g c C m
-  pub least : (S : List ℕ) → IsClosed g c S → ((m : ℕ) → IsMember m C → IsMember m S) → (m : ℕ) → InSpread g c C m → IsMember m S
+  pub least : (S : List ℕ)
+      → IsClosed g c S
+      → ((m : ℕ) → IsMember m C → IsMember m S)
+      → (m : ℕ)
+      → InSpread g c C m
+      → IsMember m S
 
 -- the spread of any set of nodes, in any graph and under any choice
 abbrev pub LeastSpreadLaw : Type 0

@@ -23,7 +23,7 @@ use Rattle.ml_graph.specs.Graph.{Graph, size, node_at, priority_at}
 use Rattle.ml_sequent.specs.declared.choice.Side.{Side}
 use Rattle.ml_sequent.specs.declared.clashes.ClashCause.{ClashCause}
 use Rattle.ml_sequent.specs.declared.clashes.ClashCause.TheVariants as cause
-use Rattle.ml_sequent.specs.Choice.{IsChoice, side_of}
+use Rattle.ml_sequent.specs.Choice.{side_of}
 use Rattle.ml_sequent.specs.LocalWalk.{LocalWalk, InSpread, children}
 
 -- an ascending list of nodes, and a choice

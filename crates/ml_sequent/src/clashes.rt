@@ -72,11 +72,7 @@ fn note(firsts: &mut Vec<Option<u32>>, prop: u32, node: u32)
 }
 
 /// For each proposition of the graph, its first negative literal among these nodes.
-fn negatives(
-    alloc: Global,
-    graph: &ModalGraph,
-    nodes: &[u32],
-) -> Result<Vec<Option<u32>>, NoMemory>
+fn negatives(alloc: Global, graph: &ModalGraph, nodes: &[u32]) -> Result<Vec<Option<u32>>, NoMemory>
     requires { All (λ n. n < size graph.now) nodes.now }
     ensures { IfOk result (λ firsts. HasNegatives graph.now nodes.now firsts.items) }
 {
@@ -107,12 +103,7 @@ fn positive_prop(node: Node) -> Option<u32>
 }
 
 /// The partner of a node: of a positive literal, the first negative one of its proposition.
-fn partner(
-    graph: &ModalGraph,
-    nodes: &[u32],
-    firsts: &[Option<u32>],
-    node: u32,
-) -> Option<u32>
+fn partner(graph: &ModalGraph, nodes: &[u32], firsts: &[Option<u32>], node: u32) -> Option<u32>
     requires node { node < size graph.now }
     requires firsts { HasNegatives graph.now nodes.now firsts.now }
     ensures { result ≡ partner graph.now nodes.now (node_at graph.now node) }

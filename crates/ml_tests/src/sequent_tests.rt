@@ -11,6 +11,7 @@ const P: Node = Node::Lit {
     prop: 0,
     positive: true,
 };
+
 const NOT_P: Node = Node::Lit {
     prop: 0,
     positive: false,
@@ -38,7 +39,10 @@ fn to(node: u32) -> Node {
 }
 
 // What is answered of the row's spread; `None` if the row is no graph or the node none of it.
-fn answers(alloc: Global, row: &Row) -> Result<Option<(Option<ClashCause>, Option<u32>, usize)>, Fail> {
+fn answers(
+    alloc: Global,
+    row: &Row,
+) -> Result<Option<(Option<ClashCause>, Option<u32>, usize)>, Fail> {
     let Ok(graph) = graph_of(alloc, &row.nodes, &row.priorities, 0)? else {
         return Ok(None);
     };
@@ -83,7 +87,9 @@ fn spreads_by_hand(rt: HostRuntime) -> Result<(), Fail> {
     ];
     let even = [2; 8];
     let binders = [1, 0, 2, 2, 2, 2, 2, 2];
-    let row = |nodes: [Node; 8], priorities: [u32; 8], from: u32, chosen: Option<(u32, Side)>, clash: Option<ClashCause>, open: Option<u32>, diamonds: usize| Row {
+    let row = |nodes: [Node; 8], priorities: [u32; 8], from: u32, chosen: Option<
+        (u32, Side),
+    >, clash: Option<ClashCause>, open: Option<u32>, diamonds: usize| Row {
         nodes,
         priorities,
         from,
@@ -93,13 +99,37 @@ fn spreads_by_hand(rt: HostRuntime) -> Result<(), Fail> {
         diamonds,
     };
     let rows = [
-        row(excluded, even, 1, None, Some(ClashCause::Pair(6, 3)), None, 0),
+        row(
+            excluded,
+            even,
+            1,
+            None,
+            Some(ClashCause::Pair(6, 3)),
+            None,
+            0,
+        ),
         row(excluded, even, 0, None, None, Some(0), 0),
         row(excluded, even, 0, Some((0, Side::Left)), None, None, 0),
-        row(fixpoints, binders, 0, None, Some(ClashCause::Cycle(0)), None, 0),
+        row(
+            fixpoints,
+            binders,
+            0,
+            None,
+            Some(ClashCause::Cycle(0)),
+            None,
+            0,
+        ),
         row(fixpoints, binders, 1, None, None, None, 0),
         row(fixpoints, binders, 4, None, None, Some(6), 1),
-        row(fixpoints, binders, 4, Some((6, Side::Left)), Some(ClashCause::False(7)), None, 1),
+        row(
+            fixpoints,
+            binders,
+            4,
+            Some((6, Side::Left)),
+            Some(ClashCause::False(7)),
+            None,
+            1,
+        ),
         row(fixpoints, binders, 4, Some((6, Side::Right)), None, None, 1),
     ];
     for row in rows {

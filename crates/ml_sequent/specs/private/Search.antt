@@ -9,7 +9,7 @@
 --   IsVisited g floor ks ..   == of the nodes ks, those of priority floor or more were marked, and listed if they were new
 --   IsSearch g c floor C marks todo == the search is under way
 --   unmarked n marks          == how many of the first n nodes aren't marked
-use Rattle.std.specs.Prelude.{ℕ, ◌≡◌, ◌+◌, ◌≤◌, ◌<◌, ◌↔◌, ◌⊎◌, Bool, true, false, not, List, length, get_or}
+use Rattle.std.specs.Prelude.{ℕ, ◌≡◌, ◌+◌, ◌≤◌, ◌↔◌, ◌⊎◌, Bool, true, false, not, List, length, get_or}
 use Rattle.ml_lists.specs.Counting.{count}
 use Rattle.ml_lists.specs.Member.{IsMember}
 use Rattle.ml_graph.specs.Graph.{Graph, size, priority_at}
@@ -42,7 +42,9 @@ pub record IsVisited (g : Graph) (floor : ℕ) (ks : List ℕ) (marks : List Boo
   pub sizes : length marks2 ≡ length marks
   pub kept : (m : ℕ) → mark marks m ≡ true → mark marks2 m ≡ true
   pub all : (k : ℕ) → IsMember k ks → floor ≤ priority_at g k → mark marks2 k ≡ true
-  pub only : (m : ℕ) → mark marks2 m ≡ true → (mark marks m ≡ true) ⊎ (IsMember m ks × (floor ≤ priority_at g m) × IsMember m todo2)
+  pub only : (m : ℕ)
+      → mark marks2 m ≡ true
+      → (mark marks m ≡ true) ⊎ (IsMember m ks × (floor ≤ priority_at g m) × IsMember m todo2)
   pub listed : (m : ℕ) → IsMember m todo → IsMember m todo2
   pub marked : (m : ℕ) → IsMember m todo2 → IsMember m todo ⊎ (mark marks2 m ≡ true)
   pub falls : length todo2 + unmarked (size g) marks2 ≤ length todo + unmarked (size g) marks

@@ -1,4 +1,4 @@
-use Rattle.std.proofs.Common.{ℕ, ◌<◌, length, get_or, arith}
+use Rattle.std.proofs.Common.{length, arith}
 use Rattle.ml_sequent.specs.declared.choice.Side.TheVariants.{Left}
 use Rattle.ml_sequent.proofs.Choices.{with_side_split}
 use Rattle.ml_sequent.proofs.choice.place_behind.Goals as goal

@@ -1,4 +1,4 @@
-use Rattle.std.proofs.Common.{List, ℕ, ◌≡◌, ◌<◌, All, find, None, Some, sym, ap, subst, ◌∙◌}
+use Rattle.std.proofs.Common.{List, ℕ, ◌≡◌, ◌<◌, All, find, None, sym, ap, subst, ◌∙◌}
 use Rattle.ml_graph.specs.Graph.{size, node_at}
 use Rattle.ml_lists.specs.Member.{IsMember}
 use Rattle.ml_sequent.specs.Spread.{IsOddCycle}
@@ -40,7 +40,7 @@ returns-in-Some-3 c =
     (subst (λ (xs : List ℕ). (n : ℕ) → IsMember n xs → partner c.args.graph.now xs (node_at c.args.graph.now n) ≡ None) c.nodes-nodes.ensures.value lonely)
     c.in-Some-3.node
     (subst (λ (xs : List ℕ). IsFirstOddCycle c.args.graph.now c.args.spread.now.choice xs c.in-Some-3.node) c.nodes-nodes.ensures.value
-        (subst (λ choice. IsFirstOddCycle c.args.graph.now choice c.nodes-nodes.result.now c.in-Some-3.node) c.choice.ensures cycle))
+    (subst (λ choice. IsFirstOddCycle c.args.graph.now choice c.nodes-nodes.result.now c.in-Some-3.node) c.choice.ensures cycle))
 
 pub returns-in-None : goal.returns-in-None
 returns-in-None c =
@@ -50,4 +50,4 @@ returns-in-None c =
     no_cause c.args.graph.now c.args.spread.now c.requires.ascends none
     (subst (λ (xs : List ℕ). (n : ℕ) → IsMember n xs → partner c.args.graph.now xs (node_at c.args.graph.now n) ≡ None) c.nodes-nodes.ensures.value lonely)
     (subst (λ (xs : List ℕ). (n : ℕ) → IsMember n xs → IsOddCycle c.args.graph.now c.args.spread.now.choice n → ⊥) c.nodes-nodes.ensures.value
-        (subst (λ choice. (n : ℕ) → IsMember n c.nodes-nodes.result.now → IsOddCycle c.args.graph.now choice n → ⊥) c.choice.ensures cycle))
+    (subst (λ choice. (n : ℕ) → IsMember n c.nodes-nodes.result.now → IsOddCycle c.args.graph.now choice n → ⊥) c.choice.ensures cycle))

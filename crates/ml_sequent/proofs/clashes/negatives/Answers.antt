@@ -1,5 +1,4 @@
-use Rattle.std.proofs.Common.{ℕ, ◌+◌, ◌<◌, length, get_or, sym, ap, ◌∙◌, subst, arith, List, Option, take}
-use Rattle.ml_graph.specs.Graph.{size, node_at}
+use Rattle.std.proofs.Common.{ℕ, ◌+◌, get_or, sym, ap, ◌∙◌, subst, arith, List, Option, take}
 use Rattle.ml_sequent.specs.private.Tests.{negative_prop, HasNegatives}
 use Rattle.ml_sequent.proofs.Causes.{negative_prop-low, negatives_same, negatives_noted}
 use Rattle.ml_sequent.proofs.clashes.negatives.Goals as goal

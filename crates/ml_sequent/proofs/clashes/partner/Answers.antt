@@ -1,4 +1,4 @@
-use Rattle.std.proofs.Common.{◌≡◌, Some, None, true, sym, ap, ◌∙◌, arith}
+use Rattle.std.proofs.Common.{true, sym, ap, ◌∙◌, arith}
 use Rattle.ml_graph.specs.Graph.{node_at}
 use Rattle.ml_graph.proofs.References.{prop_in_range}
 use Rattle.ml_sequent.specs.private.Tests.{positive_prop, partner_of}

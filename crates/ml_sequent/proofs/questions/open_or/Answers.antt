@@ -1,4 +1,4 @@
-use Rattle.std.proofs.Common.{List, ℕ, ◌≡◌, ◌<◌, get_or, sym, ap, subst, length, arith}
+use Rattle.std.proofs.Common.{List, ℕ, ◌<◌, get_or, sym, ap, subst, length, arith}
 use Rattle.ml_graph.specs.Graph.{size}
 use Rattle.ml_sequent.specs.Spread.{IsOpenNode, IsLeastOpenOr}
 use Rattle.ml_sequent.proofs.Firsts.{least_open, none_open}
@@ -20,7 +20,7 @@ returns-then-is_open c =
     let chosen = subst (λ choice. IsOpenNode c.args.graph.now choice (get_or c.nodes-node-items.result.now i 0)) c.choice.ensures here in
     subst (λ (xs : List ℕ). IsLeastOpenOr c.args.graph.now c.args.spread.now (get_or xs i 0)) (sym c.nodes-node-items.ensures.value)
     (least_open c.args.graph.now c.args.spread.now c.requires i low
-        (subst (λ (xs : List ℕ). IsOpenNode c.args.graph.now c.args.spread.now.choice (get_or xs i 0)) c.nodes-node-items.ensures.value chosen) c.loop-node.invariant)
+    (subst (λ (xs : List ℕ). IsOpenNode c.args.graph.now c.args.spread.now.choice (get_or xs i 0)) c.nodes-node-items.ensures.value chosen) c.loop-node.invariant)
 
 pub returns : goal.returns
 returns c =

@@ -2,7 +2,7 @@ use Rattle.std.proofs.Common.{List, ℕ, Bool, [], ◌∷◌, ◌∙◌, take, g
 use Rattle.std.proofs.lemmas.List.{take_more, take_all, length-replicate}
 use Rattle.ml_graph.specs.Graph.{size}
 use Rattle.ml_sequent.specs.private.Search.{IsVisited}
-use Rattle.ml_sequent.proofs.Searching.{visited_none, visited_join, visited_low, begun, finished, nothing_listed}
+use Rattle.ml_sequent.proofs.Searching.{visited_join, visited_low, begun, finished, nothing_listed}
 use Rattle.ml_sequent.proofs.search.reached.Goals as goal
 
 pub loop-node-preserved : goal.loop-node-preserved
@@ -27,4 +27,4 @@ returns c =
     let none : List Bool = replicate (size c.args.graph.now) false in
     finished c.args.graph.now c.args.choice.now c.args.floor c.args.from.now c.loop-node.search.marks.items c.loop-node.search.todo.items c.finish.result c.finish.ensures
     (begun c.args.graph.now c.args.choice.now c.args.floor c.args.from.now none [] c.loop-node.search.marks.items c.loop-node.search.todo.items refl refl
-        (subst (λ (ks : List ℕ). IsVisited c.args.graph.now c.args.floor ks none [] c.loop-node.search.marks.items c.loop-node.search.todo.items) all c.loop-node.invariant.visited))
+    (subst (λ (ks : List ℕ). IsVisited c.args.graph.now c.args.floor ks none [] c.loop-node.search.marks.items c.loop-node.search.todo.items) all c.loop-node.invariant.visited))

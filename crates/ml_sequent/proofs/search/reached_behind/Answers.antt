@@ -15,4 +15,4 @@ pub returns : goal.returns
 returns c =
     finished c.args.graph.now c.args.choice.now c.args.floor (children c.args.graph.now c.args.choice.now c.args.node) c.expand.new.self.marks.items c.expand.new.self.todo.items c.finish.result c.finish.ensures
     (begun c.args.graph.now c.args.choice.now c.args.floor (children c.args.graph.now c.args.choice.now c.args.node) c.in_ok-search.search.marks.items c.in_ok-search.search.todo.items c.expand.new.self.marks.items c.expand.new.self.todo.items
-        c.in_ok-search.ensures.marks c.in_ok-search.ensures.todo c.in_ok-expand.ensures)
+    c.in_ok-search.ensures.marks c.in_ok-search.ensures.todo c.in_ok-expand.ensures)

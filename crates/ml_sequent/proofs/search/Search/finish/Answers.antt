@@ -1,4 +1,4 @@
-use Rattle.std.proofs.Common.{List, ℕ, [], ◌∷◌, ◌≡◌, ◌∙◌, length, subst, arith}
+use Rattle.std.proofs.Common.{List, ℕ, [], ◌∷◌, ◌≡◌, ◌∙◌, subst, arith}
 use Rattle.ml_graph.specs.Graph.{size}
 use Rattle.ml_sequent.specs.LocalWalk.{children}
 use Rattle.ml_sequent.specs.private.Search.{IsSearch}
