@@ -5,6 +5,7 @@ use Rattle.std.proofs.Common.{refl, sym, subst, arith}
 use Rattle.ml_kripke.specs.Laws.{IsWritten}
 use Rattle.ml_table.specs.Propositional.{plain}
 use Rattle.ml_model_check.specs.Checked.{IsDocument}
+use Rattle.ml_mu.proofs.Parsed.{parsed_well}
 use Rattle.ml_model_check.proofs.ReadBack.{documents_read_back}
 use Rattle.ml_driver.specs.Laws.{DecidedAreChecked}
 
@@ -21,5 +22,6 @@ decided_are_checked w done =
     }
     in
     let shown : IsDocument done.output p m 0 =
-    subst (λ t. IsDocument t p m 0) (sym x.is_written) (documents_read_back done.text p m 0 x.is_parsed written x.holds.is_ordered) in
+    subst (λ t. IsDocument t p m 0) (sym x.is_written)
+    (documents_read_back p m 0 (parsed_well done.text x.formula x.is_parsed) written x.holds.is_ordered) in
     (done.is_whole, (record { problem = p; structure = m; start = 0; is_document = shown; holds = x.holds.holds }, refl))

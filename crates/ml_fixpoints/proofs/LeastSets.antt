@@ -24,7 +24,7 @@ use Rattle.ml_parity.specs.Player.{opponent, side}
 use Rattle.ml_parity.specs.Game.{ParityGame, IsGame, HasMove, owner_of, priority_of, moves_of, size}
 use Rattle.ml_parity.specs.Winner.{IsPlay, Follows, winner, Wins}
 use Rattle.ml_parity.proofs.Boards.{first_move, winner_is}
-use Rattle.ml_parity.proofs.Comparison.{SameVertices, StaysNoWorse, same_moves, compared}
+use Rattle.ml_parity.proofs.Carried.{IsCarried, IsRegion, straight, carried}
 use Rattle.ml_parity.proofs.OneStep.{WinningMove, own_vertex_won, other_vertex_won}
 use Rattle.ml_parity.proofs.Opponents.{cases_player, opponent-opponent, no_own_opponent}
 use Rattle.ml_parity.proofs.SingleMoves.{single_move, sink_won}
@@ -46,7 +46,7 @@ told_yes b x y is = ap (λ c. if c then x else y) is
 told_no : (b : Bool) (x y : ℕ) → b ≡ false → (if b then x else y) ≡ y
 told_no b x y is = ap (λ c. if c then x else y) is
 
-module _ (g : ParityGame) (p : Player) (R : ℕ → Bool) (n : ℕ) (at body : ℕ → ℕ) (ours theirs : ℕ) (b : Binder g p R n at body ours theirs) where
+module _ (g : ParityGame) (p : Player) (R : ℕ → Type 0) (n : ℕ) (at body : ℕ → ℕ) (ours theirs : ℕ) (b : Binder g p R n at body ours theirs) where
   low : (s : ℕ) → s < n → at s < size g
   low s small = b.below (at s) (b.inside s small)
 
@@ -56,7 +56,7 @@ module _ (g : ParityGame) (p : Player) (R : ℕ → Bool) (n : ℕ) (at body : �
       let first = first_move g b.is_game (at s) (low s small) in
       subst (HasMove g (at s)) (b.leads s small _ first) first
 
-  body_inside : (s : ℕ) → s < n → R (body s) ≡ true
+  body_inside : (s : ℕ) → s < n → R (body s)
   body_inside s small = b.closed (at s) (body s) (b.inside s small) (to_body s small)
 
   -- who wins the body wins the binder's vertex
@@ -68,7 +68,7 @@ module _ (g : ParityGame) (p : Player) (R : ℕ → Bool) (n : ℕ) (at body : �
       (cases_player (owner_of g (at s)) p)
 
   module _ (h : ParityGame) (U : ℕ → Bool) (v : HasVerdicts g h R n at ours theirs U) where
-    low_h : (x : ℕ) → R x ≡ true → x < size h
+    low_h : (x : ℕ) → R x → x < size h
     low_h x r = subst (λ k. x < k) (sym v.sizes) (b.below x r)
 
     -- a sink of the game is one with verdicts too
@@ -93,10 +93,10 @@ module _ (g : ParityGame) (p : Player) (R : ℕ → Bool) (n : ℕ) (at body : �
 
     pub contains_made : ((s : ℕ) → s < n → (U s ≡ true) ↔ Wins g p (at s)) → MakesWithin h p n body U
     contains_made is s small wins =
-        (is s small).1 (from_body s small (compared h g v.is_game b.is_game p (λ x. R x ≡ true) same better (body s) (body_inside s small) wins))
+        (is s small).1 (from_body s small (carried h g v.is_game b.is_game (λ x. x) (λ q. q) 0 straight R region p better (body s) (body_inside s small) wins))
       where
-        same : SameVertices h g (λ x. R x ≡ true)
-        same = record { sizes = v.sizes; low = low_h; owners = v.owners; priorities = v.priorities }
+        region : IsRegion h g (λ x. x) R
+        region = record { low = low_h; image_low = b.below }
 
         known : (x : ℕ) → Found (λ t. at t ≡ x) n → Wins h p x → Wins g p x
         known x f w = subst (Wins g p) f.holds ((is f.place f.below).0
@@ -105,12 +105,18 @@ module _ (g : ParityGame) (p : Player) (R : ℕ → Bool) (n : ℕ) (at body : �
             (λ (e : U f.place ≡ false). absurd (told_lost f.place f.below e (subst (Wins h p) (sym f.holds) w)))
             (cases_Bool (U f.place))))
 
-        better : (x : ℕ) → R x ≡ true → (Wins h p x → Wins g p x) ⊎ StaysNoWorse h g p (λ y. R y ≡ true) x
+        from_h : (x : ℕ) → R x → AtNone at n x → (y : ℕ) → HasMove h x y → HasMove g x y
+        from_h x r none y move = subst (λ (xs : List ℕ). Contains xs y) (v.others x r none) move
+
+        better : (x : ℕ) → R x → (Wins h p x → Wins g p x) ⊎ IsCarried h g (λ y. y) (λ q. q) 0 R p x
         better x r = ⊎_elim
             (λ (f : Found (λ t. at t ≡ x) n). inl (known x f))
             (λ (none : AtNone at n x). inr (record {
-              no_worse = same_moves h g p x (v.others x r none);
-              inside = λ y move. b.closed x y r (subst (λ (xs : List ℕ). Contains xs y) (v.others x r none) move);
+              owner = sym (v.owners x r none);
+              priority = omega (arith, v.priorities x r);
+              own = λ o y move. from_h x r none y move;
+              other = λ o z move. record { to = z; move = subst (λ (xs : List ℕ). Contains xs z) (sym (v.others x r none)) move; is = refl };
+              inside = λ y move. b.closed x y r (from_h x r none y move);
             }))
             (standing at n x)
 
@@ -118,7 +124,7 @@ module _ (g : ParityGame) (p : Player) (R : ℕ → Bool) (n : ℕ) (at body : �
 
     -- a vertex of the region that the opponent wins with verdicts
     abbrev Theirs : Winners h → ℕ → Type 0
-    Theirs w x = (R x ≡ true) × (w.win x ≡ opponent p)
+    Theirs w x = (R x) × (w.win x ≡ opponent p)
 
     -- a binder's vertex that the opponent wins is at a state outside U
     outside : (w : Winners h) (s : ℕ) → s < n → w.win (at s) ≡ opponent p → U s ≡ false
@@ -136,7 +142,7 @@ module _ (g : ParityGame) (p : Player) (R : ℕ → Bool) (n : ℕ) (at body : �
         (λ (e : w.win (body s) ≡ opponent p). e)
         (cases_player (w.win (body s)) p)
 
-    module _ (closed : MakesWithin h p n body U) (w : Winners h) (sigma : ℕ → ℕ) (moves : (x : ℕ) → R x ≡ true → owner_of g x ≡ p → HasMove g x (sigma x)) where
+    module _ (closed : MakesWithin h p n body U) (w : Winners h) (sigma : ℕ → ℕ) (moves : (x : ℕ) → R x → owner_of g x ≡ p → HasMove g x (sigma x)) where
       -- both together, and from a binder's vertex to the body
       abbrev next_by : (x : ℕ) → Standing at n x → ℕ
       next_by x (inl f) = body f.place
@@ -145,7 +151,7 @@ module _ (g : ParityGame) (p : Player) (R : ℕ → Bool) (n : ℕ) (at body : �
       abbrev next : ℕ → ℕ
       next x = next_by x (standing at n x)
 
-      move_by : (x : ℕ) (d : Standing at n x) → R x ≡ true → HasMove g x (next_by x d)
+      move_by : (x : ℕ) (d : Standing at n x) → R x → HasMove g x (next_by x d)
       move_by x (inl f) r = subst (λ y. HasMove g y (body f.place)) f.holds (to_body f.place f.below)
       move_by x (inr none) r = ⊎_elim
           (λ (own : owner_of g x ≡ p). subst (HasMove g x) (sym (together-own g p sigma w.choice x own)) (moves x r own))
@@ -153,29 +159,29 @@ module _ (g : ParityGame) (p : Player) (R : ℕ → Bool) (n : ℕ) (at body : �
           (subst (λ (xs : List ℕ). Contains xs (w.choice x)) (v.others x r none) (w.moves x (low_h x r))))
           (cases_player (owner_of g x) p)
 
-      win_by : (x : ℕ) (d : Standing at n x) → R x ≡ true → w.win x ≡ opponent p → w.win (next_by x d) ≡ opponent p
+      win_by : (x : ℕ) (d : Standing at n x) → R x → w.win x ≡ opponent p → w.win (next_by x d) ≡ opponent p
       win_by x (inl f) r lost = body_lost closed w f.place f.below (outside w f.place f.below (ap w.win f.holds ∙ lost))
       win_by x (inr none) r lost = ⊎_elim
           (λ (own : owner_of g x ≡ p).
-          let free = (w.keeps x (low_h x r)).other (v.owners x r ∙ own ∙ sym (opponent-opponent p) ∙ ap opponent (sym lost)) in
+          let free = (w.keeps x (low_h x r)).other (v.owners x r none ∙ own ∙ sym (opponent-opponent p) ∙ ap opponent (sym lost)) in
           let step = subst (λ (xs : List ℕ). Contains xs (sigma x)) (sym (v.others x r none)) (moves x r own) in
           ap w.win (together-own g p sigma w.choice x own) ∙ free (sigma x) step ∙ lost)
           (λ (own : owner_of g x ≡ opponent p).
-          ap w.win (together-other g p sigma w.choice x own) ∙ ((w.keeps x (low_h x r)).own (v.owners x r ∙ own ∙ sym lost)).wins ∙ lost)
+          ap w.win (together-other g p sigma w.choice x own) ∙ ((w.keeps x (low_h x r)).own (v.owners x r none ∙ own ∙ sym lost)).wins ∙ lost)
           (cases_player (owner_of g x) p)
 
-      follows_by : (x : ℕ) (d : Standing at n x) → R x ≡ true → owner_of g x ≡ p → next_by x d ≡ sigma x
+      follows_by : (x : ℕ) (d : Standing at n x) → R x → owner_of g x ≡ p → next_by x d ≡ sigma x
       follows_by x (inl f) r own =
           sym (b.leads f.place f.below (sigma x) (subst (λ y. HasMove g y (sigma x)) (sym f.holds) (moves x r own)))
       follows_by x (inr none) r own = together-own g p sigma w.choice x own
 
       -- away from binders' vertices it is a step of the game with verdicts, by the opponent's choice
-      free_by : (x : ℕ) (d : Standing at n x) → R x ≡ true → AtNone at n x
+      free_by : (x : ℕ) (d : Standing at n x) → R x → AtNone at n x
           → HasMove h x (next_by x d) × (owner_of h x ≡ opponent p → next_by x d ≡ w.choice x)
       free_by x (inl f) r none = absurd (none f.place f.below f.holds)
       free_by x (inr other_none) r none = (
         subst (λ (xs : List ℕ). Contains xs (together g p sigma w.choice x)) (sym (v.others x r none)) (move_by x (inr other_none) r),
-        λ own. together-other g p sigma w.choice x (sym (v.owners x r) ∙ own),
+        λ own. together-other g p sigma w.choice x (sym (v.owners x r none) ∙ own),
       )
 
       keeps : (x : ℕ) → Theirs w x → Theirs w (next x)
@@ -290,8 +296,13 @@ module _ (g : ParityGame) (p : Player) (R : ℕ → Bool) (n : ℕ) (at body : �
         in absurd (never closed w a.strategy (λ x r own. a.is_strategy x (b.below x r) own) (at s) (b.inside s small, lost) a.wins))
         (cases_Bool (U s))
 
-pub binder_is_least : BinderIsLeast
-binder_is_least g p R n at body ours theirs b = record {
+-- the same of any region, decided or not
+pub least_of : (g : ParityGame) (p : Player) (R : ℕ → Type 0) (n : ℕ) (at body : ℕ → ℕ) (ours theirs : ℕ)
+    → Binder g p R n at body ours theirs → IsLeast g p R n at body ours theirs
+least_of g p R n at body ours theirs b = record {
   contains = λ W h is v. contains_made g p R n at body ours theirs b h W v is;
   within = λ U h v closed. within_closed g p R n at body ours theirs b h U v closed;
 }
+
+pub binder_is_least : BinderIsLeast
+binder_is_least g p R n at body ours theirs b = least_of g p (λ v. R v ≡ true) n at body ours theirs b

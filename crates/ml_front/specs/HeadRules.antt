@@ -24,6 +24,7 @@ use Rattle.ml_lists.specs.Documents.{Format, Rule, rule}
 use Rattle.ml_mu.specs.Formula.{Formula}
 use Rattle.ml_mu.specs.Parsing.{IsParsedAs}
 use Rattle.ml_mu.specs.Problem.{Problem}
+use Rattle.ml_mu.specs.WellFormed.{IsWellFormed}
 use Rattle.ml_front.specs.Head.{title_line, answer_line, logic_line, sense_line, lines_about, head_lines}
 use Rattle.ml_front.specs.declared.answer.Answer.{Answer}
 use Rattle.ml_front.specs.declared.head_rule.HeadRule.{HeadRule}
@@ -96,6 +97,6 @@ OneHead = (a : Answer) (text : List ℕ) (p q : Problem) (rest more : List ℕ) 
 abbrev pub OneHeadFault : Type 0
 OneHeadFault = (a : Answer) (text : List ℕ) (e f : DocFault) → IsHeadFault a text e → IsHeadFault a text f → e ≡ f
 
--- the head of a written document about a formula that was parsed is read as it was written
+-- the head of a written document about a well-formed formula is read as it was written
 abbrev pub HeadsReadBack : Type 0
-HeadsReadBack = (a : Answer) (p : Problem) (text rest : List ℕ) → IsParsedAs text p.formula → IsHead a (text_of (head_lines a p) ++ rest) p rest
+HeadsReadBack = (a : Answer) (p : Problem) (rest : List ℕ) → IsWellFormed p.formula → IsHead a (text_of (head_lines a p) ++ rest) p rest

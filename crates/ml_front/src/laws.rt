@@ -11,7 +11,8 @@ pub fn one_head()
     ensures fault { OneHeadFault }
 {}
 
-/// The head of a written document about a formula that was parsed is read as it was written, whatever stands behind it.
+/// The head of a written document about a well-formed formula is read as it was written, whatever stands behind it. So
+/// what `append_head` writes is read back.
 pub fn heads_are_read_back()
     ensures { HeadsReadBack }
 {}

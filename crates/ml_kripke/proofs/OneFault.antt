@@ -10,7 +10,7 @@ use Rattle.ml_lines.proofs.Faults as text
 use Rattle.ml_kripke.specs.BodyRules.{AtStates, body, IsFaultOf, IsReadableBody}
 use Rattle.ml_kripke.specs.Laws.{FaultOrModel, ModelOrFault, OneFault, ReadableIsModel}
 use Rattle.ml_kripke.proofs.JudgedLines.{judges}
-use Rattle.ml_kripke.proofs.Models.{model_readable, readable_model}
+use Rattle.ml_kripke.proofs.ReadableBodies.{model_readable, readable_model}
 
 pub readable_is_model : ReadableIsModel
 readable_is_model t = (readable_model t, model_readable t)

@@ -52,6 +52,6 @@ module _ (f : ℕ → ℕ) (l : Lasso) (starts : l.start < length l.entries) whe
       from : LowestOnLoop d l → lowest_on_loop e (mapped f l) ≡ lowest_on_loop d l + k
       from p =
           lowest_on_loop_is e (mapped f l) p.place p.later (omega (arith, length-map l.entries f, p.below))
-              (λ j later low. let below : j < length l.entries = omega (arith, length-map l.entries f) in omega (arith, value p.place p.below, value j below, p.holds, lowest_on_loop_le d l j later below))
+          (λ j later low. let below : j < length l.entries = omega (arith, length-map l.entries f) in omega (arith, value p.place p.below, value j below, p.holds, lowest_on_loop_le d l j later below))
           ∙ value p.place p.below
           ∙ ap (λ n. n + k) p.holds

@@ -20,15 +20,14 @@ use Rattle.ml_kripke.specs.Ordered.{IsOrdered}
 use Rattle.ml_front.specs.Head.{head_lines}
 use Rattle.ml_front.specs.declared.answer.Answer.TheVariants.{Satisfiable}
 use Rattle.ml_front.specs.HeadRules.{IsHead, IsHeadFault}
-use Rattle.ml_mu.specs.Parsing.{IsParsedAs}
 use Rattle.ml_mu.specs.Problem.{Problem, HoldsAt}
-use Rattle.ml_model_check.specs.declared.check.TheConstants.{FIRST_BODY_LINE}
+use Rattle.ml_mu.specs.WellFormed.{IsWellFormed}
 use Rattle.ml_model_check.specs.declared.checked.Checked.{Checked}
 use Rattle.ml_model_check.specs.declared.checked.Checked.TheVariants.{Holds, Fails, Unreadable, NotTotal, ClosureTooLarge}
 
 -- the number of the first line of a body
 abbrev pub first_body_line : ℕ
-first_body_line = FIRST_BODY_LINE
+first_body_line = 6
 
 pub record IsDocument (text : List ℕ) (p : Problem) (m : Structure) (start : ℕ) : Type 0 where
   pub body : List ℕ
@@ -82,8 +81,8 @@ SomeCheck = (text : List ℕ) → (c : Checked) × IsCheckedAs text c
 abbrev pub OneCheck : Type 0
 OneCheck = (text : List ℕ) (c d : Checked) → IsCheckedAs text c → IsCheckedAs text d → c ≡ d
 
--- what is written for a formula that was parsed, with a structure in order and a start, is read back
+-- what is written for a well-formed formula, with a structure in order and a start, is read back
 abbrev pub DocumentsReadBack : Type 0
-DocumentsReadBack = (text : List ℕ) (p : Problem) (m : Structure) (start : ℕ)
-    → IsParsedAs text p.formula → IsWritten m start → IsOrdered m
+DocumentsReadBack = (p : Problem) (m : Structure) (start : ℕ)
+    → IsWellFormed p.formula → IsWritten m start → IsOrdered m
     → IsDocument (text_of (head_lines Satisfiable p) ++ model_text m start) p m start

@@ -9,7 +9,7 @@ pub fn one_check()
     ensures once { OneCheck }
 {}
 
-/// What is written for a formula that was parsed, with a structure in order and a start, is read back as these.
+/// What is written for a well-formed formula, with a structure in order and a start, is read back as these.
 pub fn documents_are_read_back()
     ensures { DocumentsReadBack }
 {}

@@ -9,7 +9,7 @@ use Rattle.std.proofs.lemmas.List.{map-append, take-append-drop}
 use Rattle.std.proofs.lemmas.List.Sums.{sum_by-take-le}
 use Rattle.ml_text.specs.declared.token.WordStart.TheVariants.{AnyLetter}
 use Rattle.ml_text.specs.Tokens.{tokens}
-use Rattle.ml_text.specs.Refusals.{Item, Cause, Syntax, TooMany, TooNested, NameTooLong, signs_of, IsFault}
+use Rattle.ml_text.specs.Refusals.{Item, Cause, Syntax, TooMany, TooNested, NameTooLong, signs_of, IsFault, most_occurrences}
 use Rattle.ml_text.proofs.Cover.{are_tokens}
 use Rattle.ml_mu.specs.Formula.{Formula, occurrences}
 use Rattle.ml_mu.specs.Canonical.{canonical_text}
@@ -35,7 +35,7 @@ no_syntax is f stands k fault = go (nat_lt k (length is)) refl
         fault.ends (ltb-true k (length is) below) (signs_of (drop (k + 1) is), f, subst (λ ts. IsReadAs ts f) (sym split) stands)
     go false past = fault.is_none (omega (arith, fault.within, ltb-false k (length is) past)) f stands
 
-canonical_keeps : (f : Formula) → is_spelled f ≡ true → HasShortNames f → occurrences f ≤ 1000 → (c : Cause) (k : ℕ) → IsFault IsReadAs c (items (canonical_text f)) k → ⊥
+canonical_keeps : (f : Formula) → is_spelled f ≡ true → HasShortNames f → occurrences f ≤ most_occurrences → (c : Cause) (k : ℕ) → IsFault IsReadAs c (items (canonical_text f)) k → ⊥
 unfolding tokens
 canonical_keeps f spelled short small Syntax k fault = no_syntax (items (canonical_text f)) f (canonical_stands f spelled) k fault
 canonical_keeps f spelled short small TooMany k fault =

@@ -6,7 +6,7 @@
 --   counted_items              == the items of a text count what its signs do
 --   counts                     == the occurrences of a formula are those of its text
 --   words_are_variables        == the variables of a formula are those of its text
-use Rattle.std.proofs.Common.{◌≡◌, ℕ, suc, ◌+◌, Bool, true, false, List, [], ◌∷◌, ◌++◌, length, Some, None, refl, sym, ◌∙◌, ap, arith, if◌then◌else◌, append_assoc, length-append}
+use Rattle.std.proofs.Common.{◌≡◌, ℕ, suc, ◌+◌, Bool, true, false, List, [], ◌∷◌, ◌++◌, length, Some, refl, sym, ◌∙◌, ap, arith, if◌then◌else◌, append_assoc, length-append}
 use Rattle.ml_text.specs.declared.token.Operator.TheVariants as operator
 use Rattle.ml_text.specs.declared.token.Placed.{Placed}
 use Rattle.ml_text.specs.Refusals.{Item, signs_of, counted}
@@ -16,7 +16,7 @@ use Rattle.ml_mu.specs.Signs.{Sign, Begins, Ends, Blank, Lower, Upper, action_of
 use Rattle.ml_mu.specs.Grammar as grammar
 use Rattle.ml_mu.specs.Grammar.{Reads, iff_alone, iff, imp_alone, imp, or_alone, or, and_alone, and, negation, modal, modal_blank, binder, group, constant, proposition, variable}
 use Rattle.ml_mu.specs.Text.{weight_of, silences, item_by, sign_at, items_from, places_from, is_variable_at}
-use Rattle.ml_mu.specs.VariableFaults.{Standing, Fine, Unbound, NotPositive, Around, standings_in, fault_at}
+use Rattle.ml_mu.specs.VariableFaults.{Around, standings_in}
 
 -- ---- occurrences
 

@@ -7,7 +7,7 @@ use Rattle.ml_text.specs.declared.token.Operator.{Operator}
 use Rattle.ml_text.specs.declared.token.Operator.TheVariants as operator
 use Rattle.ml_text.specs.Grammar as tables
 use Rattle.ml_text.specs.Grammar.{Whole, More, Read, Inner, Opens, Part, Level, Operand, Rest, Behind, alone, joined, postfixed, form, whole, sign, read, inner, opens, left_level, right_level, takes, front}
-use Rattle.ml_text.specs.declared.forms.Role.TheVariants.{Infix, Outside}
+use Rattle.ml_text.specs.declared.forms.Role.TheVariants.{Infix}
 use Rattle.ml_text.proofs.Levels.{loosen}
 use Rattle.ml_mu.specs.Formula as plain
 use Rattle.ml_mu.specs.Formula.{Formula, Modality, Diamond, Square, Fixpoint}

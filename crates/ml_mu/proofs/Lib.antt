@@ -26,6 +26,10 @@ pub mod Evaluation
 pub mod Inclusion
 -- a meaning has one flag for each state
 pub mod MeaningFlags
+-- the pieces of canonical texts
+pub mod CanonicalPieces
+-- the signs that words are
+pub mod WordSigns
 -- canonical texts
 pub mod CanonicalTexts
 -- positive bodies are monotone

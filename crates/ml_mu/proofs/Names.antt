@@ -6,21 +6,20 @@
 --   short_name      == a token that is no longer than a name has a short name, if it has one
 --   cut_name        == so has a longer one, where its name is cut
 --   can_name        == so a sign can be made of each token
-use Rattle.std.proofs.Common.{◌≡◌, ℕ, zero, suc, ◌<◌, ◌≤◌, Bool, true, false, List, [], ◌∷◌, length, Option, Some, None, refl, sym, ◌∙◌, ap, subst, ⊎_elim, arith, codes, bytes_eq, ◌&&◌, ◌||◌, ◌==◌, le-leb, nat_le, nat_lt, not, cond, ltb-true, ltb-false, ◌-◌, take, drop, slice_index, length-take, length-drop}
-use Rattle.std.specs.List.{list_all, list_any}
+use Rattle.std.proofs.Common.{◌≡◌, ℕ, zero, suc, ◌≤◌, Bool, true, false, List, [], ◌∷◌, length, Option, Some, None, refl, sym, ◌∙◌, ap, subst, ⊎_elim, arith, codes, bytes_eq, ◌&&◌, ◌||◌, ◌==◌, le-leb, nat_le, nat_lt, not, cond, ltb-true, ltb-false, ◌-◌, take, drop, slice_index, length-take, length-drop}
+use Rattle.std.specs.List.{list_all}
 use Rattle.std.specs.Char.{is_ascii_alphabetic}
 use Rattle.std.proofs.Math.Path.{fun_ext}
 use Rattle.std.proofs.lemmas.Bool.{cases_Bool, and_parts, and_from, or_left, or_right, not_from_false, cond-true, cond-false}
 use Rattle.std.proofs.lemmas.List.{take-take}
 use Rattle.std.proofs.lemmas.List.Sums.{list_all-from_AllPass}
 use Rattle.ml_base.specs.Name.{is_name, is_name_byte, longest_name}
-use Rattle.ml_text.specs.Bytes.{is_lower, is_upper, is_digit, is_letter, is_word_byte}
-use Rattle.ml_text.specs.declared.token.Operator.TheVariants as operator
+use Rattle.ml_text.specs.Bytes.{is_lower, is_upper, is_digit, is_word_byte}
 use Rattle.ml_text.specs.declared.token.Token.{Token}
 use Rattle.ml_text.specs.declared.token.Token.TheVariants as token
 use Rattle.ml_text.specs.declared.token.Placed.{Placed}
-use Rattle.ml_text.specs.Items.{is_word, is_long_word, bytes_of, name_bytes, name_size}
-use Rattle.ml_text.specs.Words.{constant_of, true_words, false_words, IsWord}
+use Rattle.ml_text.specs.Items.{is_word, is_long_word, bytes_of, name_bytes}
+use Rattle.ml_text.specs.Words.{constant_of, IsWord}
 use Rattle.ml_text.proofs.ItemSteps.{short_bytes}
 use Rattle.ml_mu.specs.Formula.{Fixpoint, Least, Greatest}
 use Rattle.ml_mu.specs.Signs.{Sign, Binds, Lower, Upper, Unknown, HasShortName, sign_of, byte_sign, word_sign_by, name_sign}

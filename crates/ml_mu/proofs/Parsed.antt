@@ -15,7 +15,7 @@ use Rattle.ml_base.specs.declared.parse_refusal.ParseRefusal.{ParseRefusal}
 use Rattle.ml_base.specs.declared.parse_refusal.ParseRefusal.TheVariants as refusal
 use Rattle.ml_text.specs.declared.token.WordStart.TheVariants.{AnyLetter}
 use Rattle.ml_text.specs.Tokens.{tokens}
-use Rattle.ml_text.specs.Refusals.{Cause, Syntax, TooMany, TooNested, NameTooLong, IsAccepted}
+use Rattle.ml_text.specs.Refusals.{Cause, Syntax, TooMany, TooNested, NameTooLong, IsAccepted, most_occurrences}
 use Rattle.ml_text.specs.private.Reading.{Outcome, Found, Refused, text_outcome}
 use Rattle.ml_text.proofs.Exact.{IsOutcome, exact, few_items}
 use Rattle.ml_text.proofs.Fits.{Fits}
@@ -58,7 +58,7 @@ refused_first text (refusal.Unbound at) is = absurd is
 refused_first text (refusal.NotPositive at) is = absurd is
 refused_first text refusal.NoMemory is = tt
 
-pub accepted_small : (text : List ℕ) (f : Formula) → IsAccepted IsReadAs (items text) f → occurrences f ≤ 1000
+pub accepted_small : (text : List ℕ) (f : Formula) → IsAccepted IsReadAs (items text) f → occurrences f ≤ most_occurrences
 accepted_small text f accepted =
     let few = few_items (items text) (λ k fault. accepted.keeps TooMany k fault) in
     let same = counted_items text false (tokens AnyLetter text) in
@@ -109,7 +109,7 @@ found_parsed text f ss places found same there none =
     let accepted = found_accepted text f found in
     record { accepted = accepted; fine = faultless_fine text f accepted (sym (ap (λ ps. fault_at (standings f) ps) there) ∙ ap (λ s. fault_at s places) (sym same) ∙ none) }
 
-pub found_small : (text : List ℕ) (f : Formula) → mu_outcome text ≡ Found f → occurrences f ≤ 1000
+pub found_small : (text : List ℕ) (f : Formula) → mu_outcome text ≡ Found f → occurrences f ≤ most_occurrences
 found_small text f found = accepted_small text f (found_accepted text f found)
 
 pub parsed_well : (text : List ℕ) (f : Formula) → IsParsedAs text f → IsWellFormed f

@@ -15,9 +15,6 @@ use ml_kripke::Structure;
 use ml_text::Operator;
 use std::alloc::Global;
 
-#[cfg(test)]
-mod tests;
-
 // the variables in force with the sets that they mean, innermost binder first
 #[derive(Drop)]
 enum Bindings<'a> {

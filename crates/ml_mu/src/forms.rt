@@ -38,6 +38,7 @@ pub(crate) enum Hold {
 // what a token does to a form
 type Turn = ml_text::Turn<Sign, Term, Wait, Hold>;
 
+#[inline(always)]
 fn shift_operand(sign: Sign) -> Option<Turn>
     ensures { option_map (turn_view mu_tables) result ≡ tables.shift_operand (sign_view sign) }
 {
@@ -84,6 +85,7 @@ fn shift_action(modality: Modality, action: Action, sign: Sign) -> Option<Turn>
 }
 
 /// What a token does to a form of which one is to come; `None` where no text goes on so.
+#[inline(always)]
 pub(crate) fn shift(alloc: Global, wait: Wait, sign: Sign) -> Result<Option<Turn>, NoMemory>
     ensures turn { IfOk result (λ turn.
         option_map (turn_view mu_tables) turn ≡ tables.shift (wait_view wait) (sign_view sign)) }
@@ -130,7 +132,12 @@ pub(crate) fn resume(alloc: Global, hold: Hold, term: Term) -> Result<Mode<Term,
 }
 
 /// Two operands with an operator between them.
-pub(crate) fn join(alloc: Global, operator: Operator, left: Term, right: Term) -> Result<Term, NoMemory>
+pub(crate) fn join(
+    alloc: Global,
+    operator: Operator,
+    left: Term,
+    right: Term,
+) -> Result<Term, NoMemory>
     ensures { IfOk result (λ term.
         formula_of term ≡ plain.Binary operator (formula_of left) (formula_of right)) }
 {

@@ -20,8 +20,6 @@ mod parsing;
 mod printing;
 mod signs;
 mod term;
-#[cfg(test)]
-mod tests;
 mod variables;
 
 pub use copying::{copy, occurrences};

@@ -28,10 +28,15 @@ impl Logic for Mu {
     type Kind = Kind;
     // is the next token silent, an action or the variable of a binder?
     type Context = bool;
+
     type Sort = ();
+
     type Sign = Sign;
+
     type Tree = Term;
+
     type Wait = Wait;
+
     type Hold = Hold;
 
     ghost use Rattle.std.specs.Prelude.{ℕ, List};
@@ -80,6 +85,7 @@ impl Logic for Mu {
         Wait::Operand
     }
 
+    #[inline(always)]
     fn shift(
         alloc: Global,
         wait: Wait,
@@ -90,6 +96,7 @@ impl Logic for Mu {
 
     fn sort(_hold: &Hold) {}
 
+    #[inline(always)]
     fn level(hold: &Hold) -> u8 {
         match hold {
             Hold::Negation | Hold::Modal(..) => 4,
@@ -97,10 +104,12 @@ impl Logic for Mu {
         }
     }
 
+    #[inline(always)]
     fn resume(alloc: Global, hold: Hold, term: Term) -> Result<Mode<Term, Wait>, NoMemory> {
         resume(alloc, hold, term)
     }
 
+    #[inline(always)]
     fn role(_sort: (), sign: &Sign) -> Role {
         match sign {
             Sign::Connective(operator) => Role::Infix(operator_level(*operator)),

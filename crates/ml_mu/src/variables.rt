@@ -7,6 +7,7 @@ ghost use Rattle.ml_mu.specs.private.VariableViews.{IsFaultOf, scope_view, stand
 
 use crate::Term;
 use ml_base::{Name, NoMemory, ParseRefusal};
+use ml_text::MOST_OCCURRENCES;
 use std::alloc::{AllocError, Global};
 
 /// How a variable stands.
@@ -49,8 +50,8 @@ fn collect(
     iffs: u32,
     found: &mut Vec<Standing>,
 ) -> Result<(), AllocError>
-    requires few_negations { negations + occurrences (formula_of term.now) ≤ 1000 }
-    requires few_iffs { iffs + occurrences (formula_of term.now) ≤ 1000 }
+    requires few_negations { negations + occurrences (formula_of term.now) ≤ MOST_OCCURRENCES }
+    requires few_iffs { iffs + occurrences (formula_of term.now) ≤ MOST_OCCURRENCES }
     ensures { OnOk result (map standing_view found.new.items
         ≡ map standing_view found.old.items
         ++ faults.standings_in (scope_view scope.now) negations iffs (formula_of term.now)) }
@@ -86,7 +87,7 @@ fn collect(
 
 /// How the variables of a term stand, in the order of the text.
 pub(crate) fn standings(alloc: Global, term: &Term) -> Result<Vec<Standing>, NoMemory>
-    requires { occurrences (formula_of term.now) ≤ 1000 }
+    requires { occurrences (formula_of term.now) ≤ MOST_OCCURRENCES }
     ensures { IfOk result (λ found. map standing_view found.items ≡ faults.standings (formula_of term.now)) }
 {
     let mut found = Vec::new(alloc);

@@ -122,7 +122,12 @@ const BROKEN: [(bool, &'static str, u64, u32); 53] = [
     (true, "states 1\nstart 0\nstate 1\r p\n", 8, 12),
     (true, "states 1\nstart 0\nstate 0\tp\n", 8, 12),
     (true, "states 1\r\n", 6, 12),
-    (true, "states 1\nstart 0\nstate 0\nedge 0 a\r 1\nend\n", 9, 17),
+    (
+        true,
+        "states 1\nstart 0\nstate 0\nedge 0 a\r 1\nend\n",
+        9,
+        17,
+    ),
     (true, "states 1\nstart 0\nstate 0\nend\r\n", 9, 11),
     (true, "states 2\nstart 0\nstate 0\nstate 0\n", 9, 15),
     (

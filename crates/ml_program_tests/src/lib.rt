@@ -4,6 +4,8 @@
 //   document_tests  documents with a structure, readable and broken
 //   kripke_tests    structures, and the texts of models
 //   line_tests      lines written and cut
+//   meaning_tests   formulas with the states at which they hold
+//   mu_tests        texts of the mu-calculus and their formulas
 //   program_tests   the worked rows of the program, over sources and sinks in memory
 //   text_tests      the tokens of texts
 #![tactic(auto)]
@@ -14,6 +16,10 @@ mod document_tests;
 mod kripke_tests;
 #[cfg(test)]
 mod line_tests;
+#[cfg(test)]
+mod meaning_tests;
+#[cfg(test)]
+mod mu_tests;
 #[cfg(test)]
 mod program_tests;
 #[cfg(test)]

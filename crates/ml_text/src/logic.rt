@@ -7,7 +7,7 @@ ghost use Rattle.ml_text.specs.private.Tables.{IsLike, Tables};
 ghost use Rattle.ml_text.specs.private.Views.{GivesBack, mode_view, turn_view};
 
 use crate::forms::{Mode, Role, Turn};
-use crate::limits::Bracket;
+use crate::limits::{Bracket, MOST_OCCURRENCES};
 use crate::token::{Placed, WordStart};
 use ml_base::NoMemory;
 use std::alloc::Global;
@@ -65,7 +65,7 @@ pub trait Logic {
     /// As how many occurrences a sign counts.
     fn weight(context: Self::Context, kind: Self::Kind) -> u32
         ensures weight { (word : List ℕ) → result ≡ tables.signs.weight context (tables.named kind word) }
-        ensures small { result < 1000 };
+        ensures small { result ≤ MOST_OCCURRENCES };
 
     /// Which parenthesis a sign is.
     fn bracket(kind: Self::Kind) -> Bracket

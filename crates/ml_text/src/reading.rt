@@ -48,9 +48,9 @@ fn is_long(placed: Placed) -> bool
 
 // how many parentheses are open behind a sign
 fn depth_behind(bracket: Bracket, depth: u32) -> u32
-    requires { depth ≤ 1000 }
+    requires { depth ≤ MOST_OPEN }
     ensures depth { result ≡ limit.open_behind_one bracket depth }
-    ensures small { result ≤ 1001 }
+    ensures small { result ≤ MOST_OPEN + 1 }
 {
     match bracket {
         Bracket::Opening => depth + 1,

@@ -6,7 +6,7 @@ use Rattle.ml_text.specs.private.Tables.{IsLike}
 use Rattle.ml_mu.specs.Formula.{Diamond, Square}
 use Rattle.ml_mu.specs.Signs.{Sign, Lower, Upper}
 use Rattle.ml_mu.specs.private.SignViews.{named}
-use Rattle.ml_mu.specs.private.Tables.{Wait, Operand, BehindBegin, BehindAction, BehindFixpoint, BehindVariable, BehindInside, mu_grammar}
+use Rattle.ml_mu.specs.private.Tables.{Operand, BehindBegin, BehindAction, BehindFixpoint, BehindVariable, BehindInside, mu_grammar}
 use Rattle.ml_mu.specs.declared.signs.Kind.{Kind}
 use Rattle.ml_mu.specs.declared.signs.Kind.TheVariants as kind
 
@@ -17,7 +17,7 @@ lower_alike : (p q : List ℕ) → IsLike mu_grammar (Lower p) (Lower q)
 lower_alike p q = record {
   role = λ s. refl;
   shift = elim [
-    Operand ↦ refl
+    | Operand ↦ refl
     | BehindBegin Diamond ↦ refl
     | BehindBegin Square ↦ refl
     | BehindAction Diamond a ↦ refl
@@ -33,7 +33,7 @@ upper_alike : (p q : List ℕ) → IsLike mu_grammar (Upper p) (Upper q)
 upper_alike p q = record {
   role = λ s. refl;
   shift = elim [
-    Operand ↦ refl
+    | Operand ↦ refl
     | BehindBegin Diamond ↦ refl
     | BehindBegin Square ↦ refl
     | BehindAction Diamond a ↦ refl

@@ -4,8 +4,8 @@ use Rattle.ml_kripke.specs.BodyRules.{AtEdge}
 use Rattle.ml_kripke.specs.ModelText.{model_text}
 use Rattle.ml_kripke.specs.Ordered.{HasNames}
 use Rattle.ml_kripke.specs.private.Refusals.{TellsFault}
-use Rattle.ml_kripke.proofs.Models.{parts_structure, parts_ordered, parts_named, whole_text}
-use Rattle.ml_kripke.proofs.PartFaults.{from_states, from_body, from_rows}
+use Rattle.ml_kripke.proofs.ModelParts.{parts_structure, parts_ordered, parts_named, whole_text}
+use Rattle.ml_kripke.proofs.BodyFaults.{from_states, from_body, from_rows}
 use Rattle.ml_kripke.proofs.GoodLines.{at_state_done}
 use Rattle.ml_kripke.proofs.OneText.{length-state_lines}
 use Rattle.ml_kripke.proofs.read.read_body.Goals as goal

@@ -4,8 +4,8 @@ use Rattle.ml_kripke.specs.BodyRules.{AtEdge, AtNothing}
 use Rattle.ml_kripke.specs.private.BodyParts.{IsEdgeLine}
 use Rattle.ml_kripke.specs.private.Refusals.{TellsRule, TellsFault}
 use Rattle.ml_lists.proofs.Chains.{last_is}
-use Rattle.ml_kripke.proofs.Parts.{AreEdgesTo, edge_read}
-use Rattle.ml_kripke.proofs.PartFaults.{edge_refused, edge_missing, end_refused, if_err_weaker}
+use Rattle.ml_kripke.proofs.BodyReads.{AreEdgesTo, edge_read}
+use Rattle.ml_kripke.proofs.BodyFaults.{edge_refused, edge_missing, end_refused, if_err_weaker}
 use Rattle.ml_kripke.proofs.read.read_edges.Goals as goal
 
 pub returns-in-Ok-None-clause-refused : goal.returns-in-Ok-None-clause-refused

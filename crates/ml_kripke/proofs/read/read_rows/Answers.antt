@@ -1,8 +1,8 @@
 use Rattle.std.proofs.Common.{◌+◌, ◌∷◌, [], map, ap, sym, subst, ◌∙◌, arith}
 use Rattle.std.proofs.lemmas.List.{map-append}
 use Rattle.ml_lines.specs.Reading.{lines_of, words_of}
-use Rattle.ml_kripke.proofs.Parts.{AreRowsTo, row_read, rows_room}
-use Rattle.ml_kripke.proofs.PartFaults.{state_refused, state_missing}
+use Rattle.ml_kripke.proofs.BodyReads.{AreRowsTo, row_read, rows_room}
+use Rattle.ml_kripke.proofs.BodyFaults.{state_refused, state_missing}
 use Rattle.ml_kripke.proofs.read.read_rows.Goals as goal
 
 pub overflow_add-at : goal.overflow_add-at

@@ -1,8 +1,8 @@
 use Rattle.ml_lines.specs.Reading.{words_of, lines_of, left_of}
 use Rattle.ml_kripke.specs.BodyRules.{AtStart}
 use Rattle.ml_kripke.specs.declared.body_rule.BodyRule.TheVariants.{OfKind}
-use Rattle.ml_kripke.proofs.Broken.{missing_start}
-use Rattle.ml_kripke.proofs.Faults.{tells_here, tells_missing}
+use Rattle.ml_kripke.proofs.BrokenRules.{missing_start}
+use Rattle.ml_kripke.proofs.ToldFaults.{tells_here, tells_missing}
 use Rattle.ml_kripke.proofs.read.read_start.Goals as goal
 
 pub returns-in-Err-clause-refused : goal.returns-in-Err-clause-refused

@@ -1,5 +1,5 @@
 use Rattle.ml_lines.specs.Reading.{words_of}
-use Rattle.ml_kripke.proofs.Broken.{bad_start}
+use Rattle.ml_kripke.proofs.BrokenRules.{bad_start}
 use Rattle.ml_kripke.proofs.read_line.start_of.Goals as goal
 
 pub returns-else-start-states-clause-refused : goal.returns-else-start-states-clause-refused

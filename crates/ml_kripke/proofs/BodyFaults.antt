@@ -26,10 +26,10 @@ use Rattle.ml_kripke.specs.declared.body_rule.BodyRule.TheVariants.{OfKind}
 use Rattle.ml_kripke.specs.declared.read_line.LineRefusal.{LineRefusal}
 use Rattle.ml_kripke.specs.declared.read.ModelRefusal.{ModelRefusal}
 use Rattle.ml_kripke.specs.declared.read.ModelRefusal.TheVariants.{Fault}
-use Rattle.ml_kripke.proofs.Broken.{missing_state, missing_edge}
-use Rattle.ml_kripke.proofs.Faults.{tells_missing, tells_here, tells_line, tells_behind}
+use Rattle.ml_kripke.proofs.BrokenRules.{missing_state, missing_edge}
+use Rattle.ml_kripke.proofs.ToldFaults.{tells_missing, tells_here, tells_line, tells_behind}
 use Rattle.ml_kripke.proofs.GoodLines.{good_end, at_state_below}
-use Rattle.ml_kripke.proofs.Parts.{AreRowsTo, AreEdgesTo, states_read, start_read, rows_read, edges_read}
+use Rattle.ml_kripke.proofs.BodyReads.{AreRowsTo, AreEdgesTo, states_read, start_read, rows_read, edges_read}
 
 module _ (n k : ℕ) (told : ModelRefusal) (fits : n < 2 ^ 32) where
   -- ---- the first two lines

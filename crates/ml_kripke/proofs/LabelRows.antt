@@ -32,7 +32,9 @@ labels_at-push_same ys s p =
     labels_at-push ys s p s
     ∙ ap (λ here. labels_at ys s ++ map (λ (label : ℕ × List ℕ). label.1) (cond here ((s, p) ∷ []) [])) (eq-eqb s s refl)
 
-labels_at-push_other : (ys : Labels) (s : ℕ) (p : List ℕ) (q : ℕ) → q ≢ s → labels_at (ys ++ (s, p) ∷ []) q ≡ labels_at ys q
+labels_at-push_other : (ys : Labels) (s : ℕ) (p : List ℕ) (q : ℕ)
+    → q ≢ s
+    → labels_at (ys ++ (s, p) ∷ []) q ≡ labels_at ys q
 labels_at-push_other ys s p q ne =
     labels_at-push ys s p q
     ∙ ap (λ here. labels_at ys q ++ map (λ (label : ℕ × List ℕ). label.1) (cond here ((s, p) ∷ []) [])) (other s q ne)
@@ -79,7 +81,8 @@ pub length_rows : {V : Type 0} (items : V → List (List ℕ)) (rows : List V) (
 length_rows items rows ys n is =
     sym (length-map rows items) ∙ ap length is ∙ length-map-range_with_len (labels_at ys) 0 n
 
-pub row_pushed : {V : Type 0} (items : V → List (List ℕ)) (rows : List V) (ys : Labels) (n s : ℕ) (p : List ℕ) (row pushed : V)
+pub row_pushed : {V : Type 0} (items : V → List (List ℕ)) (rows : List V) (ys : Labels) (n s : ℕ) (p : List ℕ)
+    (row pushed : V)
     → s < n → map items rows ≡ map (labels_at ys) (range_with_len 0 n) → row ≡ get_or rows s row → items pushed ≡ items row ++ p ∷ []
     → map items (set rows s pushed) ≡ map (labels_at (ys ++ (s, p) ∷ [])) (range_with_len 0 n)
 row_pushed items rows ys n s p row pushed small is read more =

@@ -1,8 +1,7 @@
 // Formulas with the states at which they hold, worked out by hand.
-use super::{evaluate, holds};
-use crate::parse;
 use ml_base::{Action, Edge, Name, NoMemory};
 use ml_kripke::Structure;
+use ml_mu::{evaluate, holds, parse};
 use std::alloc::Global;
 use std::test::Fail;
 

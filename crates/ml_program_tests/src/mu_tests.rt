@@ -1,7 +1,7 @@
 // Texts and their formulas, worked out by hand from the grammar, and each call once.
-use crate::{copy, laws, occurrences, parse, print};
 use ml_base::ParseRefusal;
 use ml_base::ParseRefusal::{NameTooLong, NotPositive, Syntax, TooMany, TooNested, Unbound};
+use ml_mu::{copy, laws, occurrences, parse, print};
 use std::alloc::{AllocError, Global};
 use std::test::Fail;
 
@@ -179,7 +179,7 @@ fn variables_at_fault(rt: HostRuntime) -> Result<(), Fail> {
 
 #[test]
 fn limits(rt: HostRuntime) -> Result<(), Fail> {
-    let rows: [(&[u8], usize, &[u8], usize, Option<ParseRefusal>); 16] = [
+    let rows: [(&[u8], usize, &[u8], usize, Option<ParseRefusal>); 17] = [
         (b"p & ", 499, b"p", 1, None),
         (b"p & ", 500, b"p", 1, Some(TooMany { at: 2000 })),
         (b"p<->", 250, b"p", 1, Some(TooMany { at: 1000 })),
@@ -192,6 +192,7 @@ fn limits(rt: HostRuntime) -> Result<(), Fail> {
         (b"(", 1001, b"p", 1, Some(TooNested { at: 1000 })),
         (b"", 0, b"p", 64, None),
         (b"", 0, b"p", 65, Some(NameTooLong { at: 0 })),
+        (b"p&", 1, b"q", 65, Some(NameTooLong { at: 2 })),
         (b"<", 1, b"p", 65, Some(NameTooLong { at: 1 })),
         (b"mu ", 1, b"X", 65, Some(NameTooLong { at: 3 })),
         (b"p ", 1, b"p", 65, Some(Syntax { at: 2 })),
@@ -216,11 +217,16 @@ fn limits(rt: HostRuntime) -> Result<(), Fail> {
 }
 
 #[test]
-fn a_thousand_parentheses(rt: HostRuntime) -> Result<(), Fail> {
-    let mut text = repeated(rt.alloc(), b"(", 1000)?;
-    text.push(b'p')?;
-    text.extend_from_slice(repeated(rt.alloc(), b")", 1000)?.as_slice())?;
-    assert!(rt; reads(rt.alloc(), text.as_slice(), b"p")?);
+fn parentheses_that_are_closed(rt: HostRuntime) -> Result<(), Fail> {
+    for (pairs, refusal) in [(1000, None), (1001, Some(TooNested { at: 1000 }))] {
+        let mut text = repeated(rt.alloc(), b"(", pairs)?;
+        text.push(b'p')?;
+        text.extend_from_slice(repeated(rt.alloc(), b")", pairs)?.as_slice())?;
+        match refusal {
+            Some(refusal) => assert!(rt; refuses(rt.alloc(), text.as_slice(), refusal)),
+            None => assert!(rt; reads(rt.alloc(), text.as_slice(), b"p")?),
+        }
+    }
     Ok(())
 }
 
