@@ -1,9 +1,14 @@
 // Sequents: the sets of nodes that hold together at a state.
-ghost use Rattle.std.specs.Prelude.{◌≡◌, IfOk};
+ghost use Rattle.std.specs.Prelude.{◌≡◌, IfOk, nat_eq};
+ghost use Rattle.std.specs.Cmp.{partial_equiv_from_equiv};
+ghost use Rattle.std.specs.Cmp.Lexicographic.{pointwise, nat_list_eq_equiv, bytes_decides};
+ghost use Rattle.std.specs.Hash as fed;
+ghost use Rattle.std.specs.Hash.{same_Alike};
 ghost use Rattle.ml_lists.specs.Ascending.{IsAscending, ascending};
 
 use ml_base::{IdSet, NoMemory};
 use std::alloc::Global;
+use std::hash::{Hash, Hasher};
 use std::marker::Model;
 
 /// A set of nodes. Contracts see the strictly ascending list of them.
@@ -66,5 +71,29 @@ impl Sequent {
         Ok(Sequent {
             nodes: self.nodes.copy()?,
         })
+    }
+}
+
+impl PartialEq for Sequent {
+    ghost eq = { pointwise nat_eq };
+
+    ghost laws = { partial_equiv_from_equiv nat_list_eq_equiv };
+
+    fn eq(&self, other: &Sequent) -> bool {
+        self.values() == other.values()
+    }
+}
+
+impl Eq for Sequent {
+    ghost laws = { nat_list_eq_equiv };
+}
+
+impl Hash for Sequent {
+    ghost hash_input = { fed.slice fed.u32 };
+
+    ghost respects_eq = { (same_Alike (fed.slice fed.u32) bytes_decides).fed };
+
+    fn hash<H: Hasher>(&self, state: &mut H) {
+        self.values().hash(state);
     }
 }
