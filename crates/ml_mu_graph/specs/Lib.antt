@@ -1,2 +1,4 @@
 -- the modal graph of a formula
 pub mod MuGraph
+-- what private contracts cite
+pub mod private
