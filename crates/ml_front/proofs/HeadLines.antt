@@ -1,23 +1,20 @@
 -- The lines of a head.
 --
---   one_word               == the word for the number 1
 --   title_words, ..        == the words of each line of a head
 --   head_read              == the lines of a text that is a head, and then those of its rest
---   one_answer             == the word tells the answer
 --   one_head               == a text is a head about one problem at most
 use Rattle.std.proofs.Common.{◌≡◌, ℕ, Bool, true, false, List, [], ◌∷◌, ◌++◌, length, drop, codes, slice_index_or, refl, sym, ap, subst, ◌∙◌, append_assoc, arith}
 use Rattle.std.specs.List.{join_with_byte}
-use Rattle.std.proofs.lemmas.Fmt.{decimal_digit}
 use Rattle.std.proofs.lemmas.List.{append_cancel_left}
 use Rattle.std.proofs.lemmas.List.Splits.{slice_split_at, join_with_byte-slice_split}
-use Rattle.ml_lines.specs.Lines.{Line, number, line_text, text_of}
+use Rattle.ml_lines.specs.Lines.{Line, line_text, text_of}
 use Rattle.ml_lines.specs.Reading.{lines_of, left_of, words_of, is_blank}
 use Rattle.ml_lines.proofs.LineFronts.{IsInLine, none_passes, line_front}
 use Rattle.ml_lines.proofs.WrittenLines.{line_read}
 use Rattle.ml_mu.specs.Parsing.{IsParsedAs}
 use Rattle.ml_mu.specs.Problem.{Problem}
 use Rattle.ml_mu.proofs.OneAnswer.{one_formula}
-use Rattle.ml_front.specs.Head.{title_line, answer_line, logic_line, sense_line, answer_word, sense_word, lines_about}
+use Rattle.ml_front.specs.Head.{title_line, answer_line, logic_line, sense_line, sense_word, lines_about}
 use Rattle.ml_front.specs.HeadRules.{IsHead, OneHead}
 use Rattle.ml_front.specs.declared.answer.Answer.{Answer}
 use Rattle.ml_front.specs.declared.answer.Answer.TheVariants.{Satisfiable, Unsatisfiable, Undecided}
@@ -46,16 +43,8 @@ one_more line words behind rest lines left is same reads =
 
 -- ---- the words of the lines
 
-pub one_word : number 1 ≡ codes "1"
-one_word = decimal_digit 1 (omega arith)
-
 title_words : words_of (bytes_of title_line) ≡ title_line
-title_words =
-    ap (λ one. words_of (bytes_of (codes "mlsolver" ∷ one ∷ []))) one_word
-    ∙ line_read (codes "mlsolver") (codes "1" ∷ []) (refl, (refl, tt)) ∙ ap (λ one. codes "mlsolver" ∷ one ∷ []) (sym one_word)
-
-title_in_line : IsInLine (bytes_of title_line)
-title_in_line = subst (λ one. IsInLine (bytes_of (codes "mlsolver" ∷ one ∷ []))) (sym one_word) refl
+title_words = line_read (codes "mlsolver") (codes "1" ∷ []) (refl, (refl, tt))
 
 answer_words : (a : Answer) → words_of (bytes_of (answer_line a)) ≡ answer_line a
 answer_words Satisfiable = line_read (codes "answer") (codes "satisfiable" ∷ []) (refl, (refl, tt))
@@ -93,7 +82,7 @@ about_read a negated text rest plain =
     let more = lines_of rest in
     let left = left_of rest in
     one_more title_line title_line (answer_line a ∷ logic_line ∷ sense_line negated ∷ given ∷ []) rest
-    (answer_line a ∷ logic_line ∷ sense_line negated ∷ words ∷ more) left title_in_line title_words
+    (answer_line a ∷ logic_line ∷ sense_line negated ∷ words ∷ more) left refl title_words
     (one_more (answer_line a) (answer_line a) (logic_line ∷ sense_line negated ∷ given ∷ []) rest
     (logic_line ∷ sense_line negated ∷ words ∷ more) left (answer_in_line a) (answer_words a)
     (one_more logic_line logic_line (sense_line negated ∷ given ∷ []) rest (sense_line negated ∷ words ∷ more) left refl logic_words
@@ -105,17 +94,6 @@ pub head_read : (a : Answer) (text : List ℕ) (p : Problem) (rest : List ℕ) (
 head_read a text p rest h = ap lines_of h.is_text ∙ (about_read a p.negated h.formula_text rest h.in_one_line).lines_are
 
 -- ---- one head
-
-pub one_answer : (a b : Answer) → answer_word a ≡ answer_word b → a ≡ b
-one_answer Satisfiable Satisfiable e = refl
-one_answer Unsatisfiable Unsatisfiable e = refl
-one_answer Undecided Undecided e = refl
-one_answer Satisfiable Unsatisfiable e = absurd (omega (arith, ap length e))
-one_answer Satisfiable Undecided e = absurd (omega (arith, ap length e))
-one_answer Unsatisfiable Satisfiable e = absurd (omega (arith, ap length e))
-one_answer Unsatisfiable Undecided e = absurd (omega (arith, ap length e))
-one_answer Undecided Satisfiable e = absurd (omega (arith, ap length e))
-one_answer Undecided Unsatisfiable e = absurd (omega (arith, ap length e))
 
 one_sense : (m n : Bool) → sense_word m ≡ sense_word n → m ≡ n
 one_sense false false e = refl

@@ -7,7 +7,7 @@
 --   head_lines a p    == the five lines of the head of a written document about the problem p: the formula's text is its
 --                        canonical text
 use Rattle.std.specs.Prelude.{ℕ, Bool, true, false, List, [], ◌∷◌, codes}
-use Rattle.ml_lines.specs.Lines.{Word, Line, number}
+use Rattle.ml_lines.specs.Lines.{Word, Line}
 use Rattle.ml_mu.specs.Canonical.{canonical_text}
 use Rattle.ml_mu.specs.Problem.{Problem}
 use Rattle.ml_front.specs.declared.answer.Answer.{Answer}
@@ -23,7 +23,7 @@ sense_word false = codes "plain"
 sense_word true = codes "negated"
 
 abbrev pub title_line : Line
-title_line = codes "mlsolver" ∷ number 1 ∷ []
+title_line = codes "mlsolver" ∷ codes "1" ∷ []
 
 abbrev pub answer_line : Answer → Line
 answer_line a = codes "answer" ∷ answer_word a ∷ []

@@ -11,20 +11,20 @@
 --   cut_graph             == it is a graph
 --   marked_structure      == it is a structure
 --   marked_name, marked_others == where the new proposition is true, and where the others are
-use Rattle.std.proofs.Common.{◌≡◌, ◌≢◌, ◌↔◌, ℕ, ◌+◌, ◌*◌, ◌<◌, ◌≤◌, ◌⊎◌, Bool, true, false, ◌||◌, List, [], ◌∷◌, ◌++◌, length, get_or, map, slice_index_or, Contains, if◌then◌else◌, inl, inr, refl, sym, ap, subst, ◌∙◌, ⊎_elim, arith}
+use Rattle.std.proofs.Common.{◌≡◌, ◌≢◌, ℕ, ◌+◌, ◌<◌, ◌≤◌, Bool, true, false, ◌||◌, List, [], ◌∷◌, ◌++◌, length, map, slice_index_or, if◌then◌else◌, inl, inr, refl, sym, ap, subst, ◌∙◌, ⊎_elim, arith}
 use Rattle.std.proofs.Math.ListN.{set}
-use Rattle.std.specs.List.{list_any, flat_map, range_with_len, IsDistinct}
+use Rattle.std.specs.List.{list_any, flat_map, range_with_len}
 use Rattle.std.specs.Str.{bytes_eq}
-use Rattle.std.proofs.lemmas.Bool.{cases_eq, cases_Bool, false≢true}
-use Rattle.std.proofs.lemmas.List.{get_or-set_same, get_or-set_other, length-set, get_or_append_left, get_or_push, length-map}
+use Rattle.std.proofs.lemmas.Bool.{cases_eq, cases_Bool}
+use Rattle.std.proofs.lemmas.List.{get_or-set_same, get_or-set_other, length-set, get_or_append_left, get_or_push}
 use Rattle.std.proofs.lemmas.List.FromFn.{length-map-range_with_len, get_or-map-range_with_len}
 use Rattle.std.proofs.lemmas.List.Folds.{list_any-append}
 use Rattle.std.proofs.lemmas.Map.Keys.{IsDistinct-push}
 use Rattle.std.proofs.lemmas.Slice.Eq.{bytes_eq-Decides}
 use Rattle.ml_lists.specs.Member.{IsMember}
-use Rattle.ml_lists.proofs.Member.{member-append, member-append_left, InList, member-flat_map, member-flat_map_from, All-member, member-All, Place, member-place, place-member}
+use Rattle.ml_lists.proofs.Member.{member-append, member-flat_map_from, member-All, member-place}
 use Rattle.ml_base.specs.Structure.{Structure, IsStructure, StateSet, lists, is_member}
-use Rattle.ml_graph.specs.Graph.{Graph, Reference, IsGraph, size, node_at, priority_at, prop_at, references, references_of}
+use Rattle.ml_graph.specs.Graph.{Graph, Reference, IsGraph, size, node_at, prop_at, references, references_of}
 use Rattle.ml_graph.specs.declared.node.Node.{Node}
 use Rattle.ml_graph.specs.declared.node.Node.TheVariants as node
 use Rattle.std.specs.Cmp.Lexicographic.{nat_list_eq_equiv}
@@ -53,7 +53,7 @@ abbrev pub IsLonger : List ℕ → List (List ℕ) → Type 0
 IsLonger name [] = Unit {0}
 IsLonger name (p ∷ ps) = (length p < length name) × IsLonger name ps
 
-longer_differs : (name : List ℕ) (ps : List (List ℕ)) (p : List ℕ) → IsLonger name ps → IsMember p ps → length p < length name
+pub longer_differs : (name : List ℕ) (ps : List (List ℕ)) (p : List ℕ) → IsLonger name ps → IsMember p ps → length p < length name
 longer_differs name (q ∷ ps) p longer (inl e) = omega (arith, ap length e, longer.0)
 longer_differs name (q ∷ ps) p longer (inr later) = longer_differs name ps p longer.1 later
 longer_differs name [] p longer h = absurd h

@@ -1,3 +1,12 @@
+-- the region below a binder
+pub mod FreeVariables
+pub mod Regions
+pub mod Recurring
+-- the body of a binder that is cut open
+pub mod CutSituations
+-- a formula in a graph, and the induction at everything but binders
+pub mod Situations
+pub mod Connectives
 -- where a graph holds, as a truth value
 pub mod Values
 -- graphs with a binder cut open
@@ -12,3 +21,7 @@ pub mod NodeLists
 pub mod NameLists
 -- the graph that was made
 pub mod Made
+-- the induction at binders
+pub mod Binding
+-- the agreement of game and meaning
+pub mod Agreement

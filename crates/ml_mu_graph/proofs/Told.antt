@@ -11,7 +11,7 @@
 --   AreOutside i bs       == the binders around have occurrences below i
 --   Below f i e n         == the node n is one to which the node of f at i with the sign e leads through operands alone
 --   FreeAt f e x c        == x occurs free in f with the sign c, where f has the sign e
-use Rattle.std.specs.Prelude.{ℕ, ◌≡◌, ◌+◌, ◌<◌, ◌⊎◌, ⊤, Bool, true, false, not, if◌then◌else◌, List, [], ◌∷◌, map}
+use Rattle.std.specs.Prelude.{ℕ, ◌≡◌, ◌+◌, ◌<◌, ◌⊎◌, ⊤, Bool, true, false, not, List, [], ◌∷◌, map}
 use Rattle.std.specs.Str.{bytes_eq}
 use Rattle.ml_base.specs.Structure.{Structure, StateSet, lists, is_member}
 use Rattle.ml_graph.specs.Graph.{Graph, size, node_at, prop_at}

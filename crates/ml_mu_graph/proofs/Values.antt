@@ -4,15 +4,15 @@
 --   says_leads, says_and, says_or, says_literal, says_constant == at a node of each kind, by its children
 --   says_diamond, says_square == at a modality, by an edge or every edge
 --   Agree               == at each state, the nodes of an occurrence hold as the formula's meaning and its negation say
-use Rattle.std.proofs.Common.{◌≡◌, ◌↔◌, ℕ, ◌+◌, ◌<◌, ◌==◌, ◌⊎◌, Bool, true, false, ◌&&◌, ◌||◌, not, List, [], ◌∷◌, Contains, inl, inr, refl, sym, ap, subst, ◌∙◌, ⊎_elim, arith}
+use Rattle.std.proofs.Common.{◌≡◌, ◌↔◌, ℕ, ◌<◌, ◌==◌, ◌⊎◌, Bool, true, false, ◌&&◌, ◌||◌, not, List, [], ◌∷◌, Contains, inl, inr, refl, sym, ap, subst, ◌∙◌, ⊎_elim}
 use Rattle.std.specs.List.{list_any, list_all}
 use Rattle.std.specs.Str.{bytes_eq}
-use Rattle.std.proofs.lemmas.Bool.{cases_Bool, false≢true, and_parts, and_from}
+use Rattle.std.proofs.lemmas.Bool.{false≢true, and_parts, and_from}
 use Rattle.ml_lists.specs.Member.{IsMember}
-use Rattle.ml_lists.proofs.Member.{Image, member-map, member-map_from, member-filter, member-filter_from, Passing, list_any-member, member-list_any, All-member}
+use Rattle.ml_lists.proofs.Member.{member-map, member-map_from, member-filter, member-filter_from, list_any-member, member-list_any, All-member}
 use Rattle.ml_lists.proofs.Members.{member_of_contains, contains_of_member}
 use Rattle.ml_base.specs.declared.structure.Edge.{Edge}
-use Rattle.ml_base.specs.Structure.{Structure, IsStructure, StateSet, lists, is_member}
+use Rattle.ml_base.specs.Structure.{Structure, IsStructure, lists}
 use Rattle.ml_graph.specs.Graph.{Graph, IsGraph, size, node_at, prop_at, action_at}
 use Rattle.ml_graph.specs.CheckingGame.{HoldsAt, targets}
 use Rattle.ml_graph.specs.Laws.{NodeHolds}
@@ -116,9 +116,11 @@ module _ (g : Graph) (m : Structure) (g_ok : IsGraph g) (m_ok : IsStructure m) (
       back e =
           let some = list_any-member (λ e. (e.source == s) && bytes_eq e.action name && val e.target) m.edges e in
           let parts = and_parts (leaves s name some.item) (val some.item.target) some.passes in
-          one.1 (some.item.target,
-          contains_of_member some.item.target (targets m s name) (member-map (λ e. e.target) some.item _ (member-filter (leaves s name) some.item m.edges some.member parts.0)),
-          (each some.item.target (target_low some.item some.member)).1 parts.1)
+          one.1 (
+            some.item.target,
+            contains_of_member some.item.target (targets m s name) (member-map (λ e. e.target) some.item _ (member-filter (leaves s name) some.item m.edges some.member parts.0)),
+            (each some.item.target (target_low some.item some.member)).1 parts.1,
+          )
 
   pub says_square : (a to : ℕ) (name : List ℕ) (val : ℕ → Bool) → node_at g n ≡ node.Square a to → action_at g a ≡ name
       → ((t : ℕ) → t < m.states → Says (HoldsAt g m t to) (val t))

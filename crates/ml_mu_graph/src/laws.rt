@@ -1,8 +1,11 @@
 // Laws over the definitions alone: no caller runs these functions, their contracts are the theorems.
-ghost use Rattle.ml_mu_graph.specs.MuGraph.{binders};
-ghost use Rattle.std.specs.Prelude.{◌≡◌};
+ghost use Rattle.ml_mu_graph.specs.Laws.{GraphsAgree};
 
-/// For now.
+/// The checking game on the graph of a formula agrees with the formula's meaning by iterated sets: on every finite structure,
+/// at every state, in the plain sense and negated. Unguarded formulas and names that are bound again are no exception.
+///
+/// Does nothing when called. Source: Emerson and Jutla (1991), for the game; the proof goes by verdicts written into
+/// graphs (`proofs/Agreement`) and by `ml_fixpoints`.
 pub fn agrees()
-    ensures { binders ≡ binders }
+    ensures { GraphsAgree }
 {}

@@ -9,7 +9,7 @@ use std::alloc::Global;
 use std::test::Fail;
 
 // The graph of these nodes and priorities, with the one proposition p and the one action `_`.
-fn graph_of(
+pub(crate) fn graph_of(
     alloc: Global,
     nodes: &[Node],
     priorities: &[u32],

@@ -20,6 +20,8 @@ pub mod numbers;
 #[cfg(test)]
 mod parity_tests;
 #[cfg(test)]
+mod sequent_tests;
+#[cfg(test)]
 mod tests;
 #[cfg(test)]
 mod trace_tests;

@@ -1,0 +1,12 @@
+-- local walks
+pub mod LocalWalks
+-- the search along local walks
+pub mod Searching
+-- choices, as lists of pairs
+pub mod Choices
+-- marked numbers, and the spread that they are
+pub mod Marked
+-- the first node of an ascending list with a property
+pub mod Firsts
+-- causes of clashes
+pub mod Causes

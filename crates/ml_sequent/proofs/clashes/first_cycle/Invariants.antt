@@ -1,0 +1,6 @@
+use Rattle.std.proofs.Common.{ℕ, ◌<◌, get_or}
+use Rattle.ml_sequent.specs.Spread.{IsOddCycle}
+use Rattle.ml_sequent.proofs.clashes.first_cycle.Given as goal
+
+abbrev pub invariant-loop-node : goal.invariant-loop-node
+invariant-loop-node l = (k : ℕ) → k < l.node-index → IsOddCycle l.graph l.choice (get_or l.nodes k 0) → ⊥

@@ -1,0 +1,10 @@
+-- which child is taken at an or-node
+pub mod Choice
+-- local walks, with the lowest priority on them
+pub mod LocalWalk
+-- spreads, clashes, open or-nodes
+pub mod Spread
+-- the step along a diamond
+pub mod Step
+-- what only private contracts cite
+pub mod private

@@ -1,0 +1,127 @@
+// Which child is taken at an or-node.
+ghost use Rattle.std.specs.Prelude.{◌≡◌, ◌≤◌, ◌↔◌, [], ◌∷◌, ◌++◌, None, IsTrue, IfOk, length, take, drop};
+ghost use Rattle.ml_sequent.specs.declared.choice.Side.{Side};
+ghost use Rattle.ml_sequent.specs.Choice.{side_of, with_side};
+
+use ml_base::NoMemory;
+use std::alloc::Global;
+use std::marker::Model;
+
+/// A side of an or-node.
+#[derive(Clone, Copy, Debug, PartialEq, Eq)]
+pub enum Side {
+    Left,
+    Right,
+}
+
+/// Which sides were chosen, at which or-nodes. Contracts see the list of pairs, ascending by nodes.
+#[derive(Debug, Drop)]
+pub struct Choice {
+    pairs: Vec<(u32, Side)>,
+}
+
+impl Model for Choice {
+    ghost use Rattle.std.specs.Prelude.{List, ℕ};
+    ghost use Rattle.ml_sequent.specs.declared.choice.Side.{Side};
+    ghost use Rattle.ml_sequent.specs.Choice.{IsChoice};
+
+    ghost Value = { List (ℕ × Side) };
+
+    ghost view = { λ a. a.pairs.items };
+
+    ghost invariant = { λ a. IsChoice a.pairs.items };
+}
+
+impl Choice {
+    /// The choice of no side. It takes no memory, and keeps the allocator for what is chosen later.
+    pub fn empty(alloc: Global) -> Choice
+        ensures { result ≡ [] }
+    {
+        Choice {
+            pairs: Vec::new(alloc),
+        }
+    }
+
+    /// Was nothing chosen?
+    pub fn is_empty(&self) -> bool
+        ensures { IsTrue result ↔ (self.now ≡ []) }
+    {
+        self.pairs.is_empty()
+    }
+
+    /// The side that was chosen at a node; `None` exactly where none was.
+    ///
+    /// Cost: linear in the choice.
+    pub fn side(&self, node: u32) -> Option<Side>
+        ensures { result ≡ side_of self.now node }
+    {
+        side_at(&self.pairs, node)
+    }
+
+    /// The choice with a side at one node more, where none was chosen.
+    ///
+    /// # Errors
+    /// `NoMemory` alone.
+    ///
+    /// Cost: linear in the choice.
+    pub fn with(&self, node: u32, side: Side) -> Result<Choice, NoMemory>
+        requires { side_of self.now node ≡ None }
+        ensures { IfOk result (λ choice. choice ≡ with_side self.now node side) }
+    {
+        let pairs = with_pair(*self.pairs.allocator(), &self.pairs, node, side)?;
+        Ok(Choice { pairs })
+    }
+
+    /// An equal choice.
+    ///
+    /// # Errors
+    /// `NoMemory` alone.
+    pub fn copy(&self) -> Result<Choice, NoMemory>
+        ensures { IfOk result (λ choice. choice ≡ self.now) }
+    {
+        let pairs = Vec::from_slice(*self.pairs.allocator(), &self.pairs)?;
+        Ok(Choice { pairs })
+    }
+}
+
+/// The side at a node, in a list of pairs.
+fn side_at(pairs: &[(u32, Side)], node: u32) -> Option<Side>
+    ensures { result ≡ side_of pairs.now node }
+{
+    for pair in pairs {
+        if pair.0 == node {
+            return Some(pair.1);
+        }
+    }
+    None
+}
+
+/// The pairs with one more, in the order of nodes.
+fn with_pair(
+    alloc: Global,
+    pairs: &[(u32, Side)],
+    node: u32,
+    side: Side,
+) -> Result<Vec<(u32, Side)>, NoMemory>
+    ensures { IfOk result (λ longer. longer.items ≡ with_side pairs.now node side) }
+{
+    let place = place_behind(pairs, node);
+    let mut longer = Vec::with_capacity(alloc, pairs.len())?;
+    longer.extend_from_slice(&pairs[..place])?;
+    longer.push((node, side))?;
+    longer.extend_from_slice(&pairs[place..])?;
+    Ok(longer)
+}
+
+/// How many pairs stand before the first one with a greater node.
+fn place_behind(pairs: &[(u32, Side)], node: u32) -> usize
+    ensures within { result ≤ length pairs.now }
+    ensures split { (side : Side) → with_side pairs.now node side ≡ take result pairs.now ++ (node, side) ∷ drop result pairs.now }
+{
+    for (i, pair) in pairs.iter().enumerate() {
+        if node < pair.0 {
+            return i;
+        }
+    }
+    pairs.len()
+}

@@ -1,0 +1,28 @@
+// The local phase of the decision: what holds together at one state, and what is left for the next.
+//
+// A `Sequent` is a set of nodes of a graph that are to hold at a state. Under a `Choice` of sides at or-nodes it comes to a
+// `Spread` (`specs/LocalWalk.antt`, `specs/Spread.antt`): all nodes that it leads to locally.
+//
+// The calls to know:
+// - `spread` makes the spread of a sequent under a choice.
+// - `clash` says why a spread can't hold, `open_or` where a side is still to be chosen, `diamonds` what leads on.
+//
+// Below stand `ml_graph`, for graphs, and `ml_trace`, whose letters are made of local traces. Above stand the decision
+// game, which asks these calls of each position, and the checker of refutations.
+#![tactic(auto)]
+
+mod choice;
+mod clashes;
+pub mod laws;
+mod making;
+mod questions;
+mod search;
+mod sequent;
+mod spreads;
+
+pub use choice::{Choice, Side};
+pub use clashes::{ClashCause, clash};
+pub use making::spread;
+pub use questions::{diamonds, open_or};
+pub use sequent::Sequent;
+pub use spreads::Spread;

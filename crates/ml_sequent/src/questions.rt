@@ -1,0 +1,62 @@
+// What is asked of a spread that doesn't clash: where a side is still to be chosen, and which diamonds lead on.
+ghost use Rattle.std.specs.Prelude.{◌≡◌, ◌<◌, ◌↔◌, ℕ, IfOk, IsTrue, MatchOption, filter};
+ghost use Rattle.ml_graph.specs.Graph.{size, node_at};
+ghost use Rattle.ml_sequent.specs.Spread.{IsSpread, IsOpenOr, IsLeastOpenOr, IsOpenNode, is_diamond};
+
+use crate::choice::Choice;
+use crate::spreads::Spread;
+use ml_base::NoMemory;
+use ml_graph::{ModalGraph, Node};
+use std::alloc::Global;
+
+/// Is this an or-node without a choice?
+fn is_open(graph: &ModalGraph, choice: &Choice, node: u32) -> bool
+    requires { node < size graph.now }
+    ensures { IsTrue result ↔ IsOpenNode graph.now choice.now node }
+{
+    match *graph.node(node) {
+        Node::Or { .. } => choice.side(node).is_none(),
+        _ => false,
+    }
+}
+
+/// The least or-node of the spread for which no side was chosen; `None` exactly where there is none.
+///
+/// Cost: linear in the spread times the choice. It takes no memory.
+pub fn open_or(graph: &ModalGraph, spread: &Spread) -> Option<u32>
+    requires { IsSpread graph.now spread.now }
+    ensures { MatchOption result ((n : ℕ) → ¬ (IsOpenOr graph.now spread.now n)) (IsLeastOpenOr graph.now spread.now) }
+{
+    for node in spread.nodes() {
+        if is_open(graph, spread.choice(), *node) {
+            return Some(*node);
+        }
+    }
+    None
+}
+
+/// Is this a Diamond?
+fn is_diamond(node: Node) -> bool
+    ensures { result ≡ is_diamond node }
+{
+    matches!(node, Node::Diamond { .. })
+}
+
+/// The diamonds of the spread, ascending.
+///
+/// # Errors
+/// `NoMemory` alone.
+///
+/// Cost: linear in the spread.
+pub fn diamonds(alloc: Global, graph: &ModalGraph, spread: &Spread) -> Result<Vec<u32>, NoMemory>
+    requires { IsSpread graph.now spread.now }
+    ensures { IfOk result (λ diamonds. diamonds.items ≡ filter (λ n. is_diamond (node_at graph.now n)) spread.now.nodes) }
+{
+    let mut diamonds = Vec::new(alloc);
+    for node in spread.nodes() {
+        if is_diamond(*graph.node(*node)) {
+            diamonds.push(*node)?;
+        }
+    }
+    Ok(diamonds)
+}

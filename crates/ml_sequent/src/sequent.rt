@@ -1,0 +1,99 @@
+// Sequents: the sets of nodes that hold together at a state.
+ghost use Rattle.std.specs.Prelude.{◌≡◌, IfOk, nat_eq};
+ghost use Rattle.std.specs.Cmp.{partial_equiv_from_equiv};
+ghost use Rattle.std.specs.Cmp.Lexicographic.{pointwise, nat_list_eq_equiv, bytes_decides};
+ghost use Rattle.std.specs.Hash as fed;
+ghost use Rattle.std.specs.Hash.{same_Alike};
+ghost use Rattle.ml_lists.specs.Ascending.{IsAscending, ascending};
+
+use ml_base::{IdSet, NoMemory};
+use std::alloc::Global;
+use std::hash::{Hash, Hasher};
+use std::marker::Model;
+
+/// A set of nodes. Contracts see the strictly ascending list of them.
+#[derive(Debug, Drop)]
+pub struct Sequent {
+    nodes: IdSet,
+}
+
+impl Model for Sequent {
+    ghost use Rattle.std.specs.Prelude.{List, ℕ};
+
+    ghost Value = { List ℕ };
+
+    ghost view = { λ a. a.nodes };
+}
+
+impl Sequent {
+    /// The set of the given nodes, in any order and with any repeats.
+    ///
+    /// # Errors
+    /// `NoMemory` alone.
+    ///
+    /// Cost: `n log n` in the nodes.
+    pub fn of(alloc: Global, nodes: &[u32]) -> Result<Sequent, NoMemory>
+        ensures { IfOk result (λ sequent. sequent ≡ ascending nodes.now) }
+    {
+        let mut members = Vec::from_slice(alloc, nodes)?;
+        members.sort_unstable();
+        members.dedup();
+        Ok(Sequent {
+            nodes: IdSet::from_ascending(members),
+        })
+    }
+
+    /// The nodes, ascending, as a list of one's own.
+    ///
+    /// # Errors
+    /// `NoMemory` alone.
+    pub fn nodes(&self, alloc: Global) -> Result<Vec<u32>, NoMemory>
+        ensures { IfOk result (λ nodes. nodes.items ≡ self.now) }
+    {
+        Ok(Vec::from_slice(alloc, self.values())?)
+    }
+
+    /// The nodes, ascending.
+    pub fn values(&self) -> &[u32]
+        ensures value { result.now ≡ self.now }
+        ensures ascends { IsAscending result.now }
+    {
+        self.nodes.values()
+    }
+
+    /// An equal sequent.
+    ///
+    /// # Errors
+    /// `NoMemory` alone.
+    pub fn copy(&self) -> Result<Sequent, NoMemory>
+        ensures { IfOk result (λ sequent. sequent ≡ self.now) }
+    {
+        Ok(Sequent {
+            nodes: self.nodes.copy()?,
+        })
+    }
+}
+
+impl PartialEq for Sequent {
+    ghost eq = { pointwise nat_eq };
+
+    ghost laws = { partial_equiv_from_equiv nat_list_eq_equiv };
+
+    fn eq(&self, other: &Sequent) -> bool {
+        self.values() == other.values()
+    }
+}
+
+impl Eq for Sequent {
+    ghost laws = { nat_list_eq_equiv };
+}
+
+impl Hash for Sequent {
+    ghost hash_input = { fed.slice fed.u32 };
+
+    ghost respects_eq = { (same_Alike (fed.slice fed.u32) bytes_decides).fed };
+
+    fn hash<H: Hasher>(&self, state: &mut H) {
+        self.values().hash(state);
+    }
+}
