@@ -26,7 +26,7 @@ graph_made g f negated is_graph props actions nodes priorities root = record {
   two_for_each = ap length nodes ∙ length-nodes g.props g.actions [] 0 f;
   stands =
       stands g (2 * binders f) [] 0 f (names_in f g.props g.actions (names_among f g.props g.actions props actions))
-          (whole g.nodes (nodes_of g.props g.actions [] 0 f) nodes)
-          (whole g.priorities (priorities_of (2 * binders f) 0 f) priorities);
+      (whole g.nodes (nodes_of g.props g.actions [] 0 f) nodes)
+      (whole g.priorities (priorities_of (2 * binders f) 0 f) priorities);
   root_is = root;
 }

@@ -105,11 +105,7 @@ fn add_action(actions: &mut Vec<Action>, name: &Action) -> Result<(), NoMemory>
 }
 
 // the propositions and the actions of a term, in the order of the text
-fn collect(
-    term: &Term,
-    props: &mut Vec<Name>,
-    actions: &mut Vec<Action>,
-) -> Result<(), NoMemory>
+fn collect(term: &Term, props: &mut Vec<Name>, actions: &mut Vec<Action>) -> Result<(), NoMemory>
     ensures props { OnOk result (props.new.items ≡ listed.props_onto (formula_of term.now) props.old.items) }
     ensures actions { OnOk result (actions.new.items ≡ listed.actions_onto (formula_of term.now) actions.old.items) }
 {
@@ -140,7 +136,9 @@ fn binders(term: &Term) -> u32
 {
     match term {
         Term::Const(_) | Term::Prop(_) | Term::Var(_) => 0,
-        Term::Not(operand) | Term::Diamond(_, operand) | Term::Square(_, operand) => binders(operand),
+        Term::Not(operand) | Term::Diamond(_, operand) | Term::Square(_, operand) => binders(
+            operand,
+        ),
         Term::And(left, right)
         | Term::Or(left, right)
         | Term::Implies(left, right)
@@ -206,11 +204,7 @@ struct Draft {
 }
 
 // two nodes, for an occurrence and its negation, with their priorities
-fn put(
-    draft: &mut Draft,
-    nodes: (Node, Node),
-    priorities: (u32, u32),
-) -> Result<(), AllocError>
+fn put(draft: &mut Draft, nodes: (Node, Node), priorities: (u32, u32)) -> Result<(), AllocError>
     ensures nodes { OnOk result (draft.new.nodes.items ≡ draft.old.nodes.items ++ nodes.0 ∷ nodes.1 ∷ []) }
     ensures priorities { OnOk result (draft.new.priorities.items ≡ draft.old.priorities.items ++ priorities.0 ∷ priorities.1 ∷ []) }
 {
@@ -355,16 +349,56 @@ fn place<'a>(
             place(draft, names, plain, scope, depth, at + 1, operand)
         }
         Term::And(left, right) => {
-            place_both(draft, names, plain, scope, depth, at, Operator::And, left, right)
+            place_both(
+                draft,
+                names,
+                plain,
+                scope,
+                depth,
+                at,
+                Operator::And,
+                left,
+                right,
+            )
         }
         Term::Or(left, right) => {
-            place_both(draft, names, plain, scope, depth, at, Operator::Or, left, right)
+            place_both(
+                draft,
+                names,
+                plain,
+                scope,
+                depth,
+                at,
+                Operator::Or,
+                left,
+                right,
+            )
         }
         Term::Implies(left, right) => {
-            place_both(draft, names, plain, scope, depth, at, Operator::Implies, left, right)
+            place_both(
+                draft,
+                names,
+                plain,
+                scope,
+                depth,
+                at,
+                Operator::Implies,
+                left,
+                right,
+            )
         }
         Term::Iff(left, right) => {
-            place_both(draft, names, plain, scope, depth, at, Operator::Iff, left, right)
+            place_both(
+                draft,
+                names,
+                plain,
+                scope,
+                depth,
+                at,
+                Operator::Iff,
+                left,
+                right,
+            )
         }
         Term::Diamond(name, operand) => {
             let action = action(names, name);

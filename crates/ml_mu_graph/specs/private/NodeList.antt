@@ -89,7 +89,6 @@ nodes_of ps acts bs i (Modal m a f) =
 nodes_of ps acts bs i (Binder q x f) =
     lead_to (positive (i + 1)) ∷ lead_to (negative (i + 1)) ∷ nodes_of ps acts ((x, i) ∷ bs) (i + 1) f
 
-
 abbrev pub priorities_of : ℕ → ℕ → Formula → List ℕ
 priorities_of k d (Const b) = k ∷ k ∷ []
 priorities_of k d (Prop p) = k ∷ k ∷ []
