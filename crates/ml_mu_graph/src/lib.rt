@@ -3,4 +3,7 @@
 // Below stand `ml_mu`, for formulas, and `ml_graph`, for graphs and the checking game.
 #![tactic(auto)]
 
+mod graph;
 pub mod laws;
+
+pub use graph::graph_of;

@@ -1,0 +1,235 @@
+-- Where the lists of a formula's graph stand in a graph, the formula stands.
+--
+--   length-nodes, length-priorities == two for each occurrence
+--   NamesIn ps acts f   == each name of f is at its place
+--   stands            == the nodes and priorities of a formula say what stands there
+use Rattle.std.proofs.Common.{◌≡◌, ℕ, ◌+◌, ◌*◌, ◌/◌, ◌≤◌, Bool, true, false, not, List, [], ◌∷◌, ◌++◌, length, get_or, refl, sym, ◌∙◌, ap, subst, arith, length-append, append_assoc, take, drop}
+use Rattle.std.proofs.Math.Seq.{take-append_seam, drop-append_seam}
+use Rattle.ml_graph.specs.Graph.{Graph, size, node_at, priority_at, prop_at, action_at}
+use Rattle.ml_graph.specs.declared.node.Node.{Node}
+use Rattle.ml_graph.specs.declared.node.Node.TheVariants as node
+use Rattle.ml_text.specs.declared.token.Operator.{Operator}
+use Rattle.ml_text.specs.declared.token.Operator.TheVariants as operator
+use Rattle.ml_mu.specs.Formula.{Formula, Const, Prop, Var, Not, Binary, Modal, Binder, Fixpoint, Least, Greatest, Modality, Diamond, Square, occurrences, weight}
+use Rattle.ml_mu_graph.specs.MuGraph.{positive, negative, Around, binder_of, constant, modality, dual, binder_priority, opposite, IsNode, LeadsTo, IsLiteral, IsModality, StandsAt}
+use Rattle.ml_mu_graph.specs.private.NodeList.{place_of, lead_to, operator_nodes, operator_holes, operator_priorities, nodes_of, priorities_of}
+use Rattle.ml_mu_graph.proofs.Holding.{Holds, held_first, held_later, held_left, held_right, held_at}
+
+length-operator : (op : Operator) (i l r : ℕ) → length (operator_nodes op i l r) ≡ 2 * weight op
+length-operator operator.And i l r = refl
+length-operator operator.Or i l r = refl
+length-operator operator.Implies i l r = refl
+length-operator operator.Iff i l r = refl
+
+length-operator_priorities : (op : Operator) (k : ℕ) → length (operator_priorities op k) ≡ 2 * weight op
+length-operator_priorities operator.And k = refl
+length-operator_priorities operator.Or k = refl
+length-operator_priorities operator.Implies k = refl
+length-operator_priorities operator.Iff k = refl
+
+pub length-nodes : (ps acts : List (List ℕ)) (bs : Around) (i : ℕ) (f : Formula) → length (nodes_of ps acts bs i f) ≡ 2 * occurrences f
+length-nodes ps acts bs i (Const b) = refl
+length-nodes ps acts bs i (Prop p) = refl
+length-nodes ps acts bs i (Var x) = refl
+length-nodes ps acts bs i (Not f) = omega (arith, length-nodes ps acts bs (i + 1) f)
+length-nodes ps acts bs i (Binary op f h) =
+    let l = i + weight op in
+    let r = l + occurrences f in
+    omega (
+      arith,
+      length-append (operator_nodes op i l r) (nodes_of ps acts bs l f ++ nodes_of ps acts bs r h),
+      length-append (nodes_of ps acts bs l f) (nodes_of ps acts bs r h),
+      length-operator op i l r,
+      length-nodes ps acts bs l f,
+      length-nodes ps acts bs r h,
+    )
+length-nodes ps acts bs i (Modal m a f) = omega (arith, length-nodes ps acts bs (i + 1) f)
+length-nodes ps acts bs i (Binder q x f) = omega (arith, length-nodes ps acts ((x, i) ∷ bs) (i + 1) f)
+
+pub length-priorities : (k d : ℕ) (f : Formula) → length (priorities_of k d f) ≡ 2 * occurrences f
+length-priorities k d (Const b) = refl
+length-priorities k d (Prop p) = refl
+length-priorities k d (Var x) = refl
+length-priorities k d (Not f) = omega (arith, length-priorities k d f)
+length-priorities k d (Binary op f h) =
+    omega (
+      arith,
+      length-append (operator_priorities op k) (priorities_of k d f ++ priorities_of k d h),
+      length-append (priorities_of k d f) (priorities_of k d h),
+      length-operator_priorities op k,
+      length-priorities k d f,
+      length-priorities k d h,
+    )
+length-priorities k d (Modal m a f) = omega (arith, length-priorities k d f)
+length-priorities k d (Binder q x f) = omega (arith, length-priorities k (d + 1) f)
+
+abbrev pub NamesIn : List (List ℕ) → List (List ℕ) → Formula → Type 0
+NamesIn ps acts (Const b) = Unit {0}
+NamesIn ps acts (Prop p) = get_or ps (place_of ps p) [] ≡ p
+NamesIn ps acts (Var x) = Unit {0}
+NamesIn ps acts (Not f) = NamesIn ps acts f
+NamesIn ps acts (Binary op f h) = NamesIn ps acts f × NamesIn ps acts h
+NamesIn ps acts (Modal m a f) = (get_or acts (place_of acts a) [] ≡ a) × NamesIn ps acts f
+NamesIn ps acts (Binder q x f) = NamesIn ps acts f
+
+-- two nodes at an occurrence, and what stands behind them
+pub record Pair (g : Graph) (n : ℕ) (a b : Node) (p q : ℕ) (nodes : List Node) (priorities : List ℕ) : Type 0 where
+  pub first : IsNode g n a p
+  pub second : IsNode g (n + 1) b q
+  pub nodes_behind : Holds g.nodes (n + 2) nodes
+  pub priorities_behind : Holds g.priorities (n + 2) priorities
+
+pair : (g : Graph) (n : ℕ) (a b : Node) (p q : ℕ) (nodes : List Node) (priorities : List ℕ) → Holds g.nodes n (a ∷ b ∷ nodes) → Holds g.priorities n (p ∷ q ∷ priorities) → Pair g n a b p q nodes priorities
+pair g n a b p q nodes priorities h k =
+    let h1 = held_later g.nodes n a (b ∷ nodes) h in
+    let k1 = held_later g.priorities n p (q ∷ priorities) k in
+    record {
+      first = (held_first g.nodes n a (b ∷ nodes) node.True h, held_first g.priorities n p (q ∷ priorities) 0 k);
+      second = (held_first g.nodes (n + 1) b nodes node.True h1, held_first g.priorities (n + 1) q priorities 0 k1);
+      nodes_behind = held_at g.nodes (n + 1 + 1) (n + 2) nodes (omega arith) (held_later g.nodes (n + 1) b nodes h1);
+      priorities_behind =
+          held_at g.priorities (n + 1 + 1) (n + 2) priorities (omega arith) (held_later g.priorities (n + 1) q priorities k1);
+    }
+
+-- the operands of a connective
+record Operands (g : Graph) (k d : ℕ) (bs : Around) (l r : ℕ) (f h : Formula) : Type 0 where
+  pub left_nodes : Holds g.nodes (2 * l) (nodes_of g.props g.actions bs l f)
+  pub left_priorities : Holds g.priorities (2 * l) (priorities_of k d f)
+  pub right_nodes : Holds g.nodes (2 * r) (nodes_of g.props g.actions bs r h)
+  pub right_priorities : Holds g.priorities (2 * r) (priorities_of k d h)
+
+operands : (g : Graph) (k d n : ℕ) (bs : Around) (l r : ℕ) (f h : Formula) → n ≡ 2 * l → r ≡ l + occurrences f
+    → Holds g.nodes n (nodes_of g.props g.actions bs l f ++ nodes_of g.props g.actions bs r h)
+    → Holds g.priorities n (priorities_of k d f ++ priorities_of k d h) → Operands g k d bs l r f h
+operands g k d n bs l r f h left right nodes priorities =
+    let fs = nodes_of g.props g.actions bs l f in
+    let hs = nodes_of g.props g.actions bs r h in
+    let ns : n + length fs ≡ 2 * r = omega (arith, length-nodes g.props g.actions bs l f, left, right) in
+    let ps : n + length (priorities_of k d f) ≡ 2 * r = omega (arith, length-priorities k d f, left, right) in
+    record {
+      left_nodes = held_at g.nodes n (2 * l) fs left (held_left g.nodes n fs hs nodes);
+      left_priorities =
+          held_at g.priorities n (2 * l) (priorities_of k d f) left (held_left g.priorities n (priorities_of k d f) (priorities_of k d h) priorities);
+      right_nodes = held_at g.nodes (n + length fs) (2 * r) hs ns (held_right g.nodes n fs hs nodes);
+      right_priorities =
+          held_at g.priorities (n + length (priorities_of k d f)) (2 * r) (priorities_of k d h) ps (held_right g.priorities n (priorities_of k d f) (priorities_of k d h) priorities);
+    }
+
+pub stands : (g : Graph) (k : ℕ) (bs : Around) (i : ℕ) (f : Formula) → NamesIn g.props g.actions f → Holds g.nodes (2 * i) (nodes_of g.props g.actions bs i f)
+    → Holds g.priorities (2 * i) (priorities_of k (length bs) f) → StandsAt g k bs i f
+stands g k bs i (Const b) names nodes priorities =
+    let p = pair g (2 * i) _ _ k k [] [] nodes priorities in (p.first, p.second)
+stands g k bs i (Prop p) names nodes priorities =
+    let q = pair g (2 * i) _ _ k k [] [] nodes priorities in
+    ((place_of g.props p, q.first, names), (place_of g.props p, q.second, names))
+stands g k bs i (Var x) names nodes priorities =
+    let p = pair g (2 * i) _ _ k k [] [] nodes priorities in (p.first, p.second)
+stands g k bs i (Not f) names nodes priorities =
+    let p = pair g (2 * i) _ _ k k (nodes_of g.props g.actions bs (i + 1) f) (priorities_of k (length bs) f) nodes priorities in (
+      p.first,
+      p.second,
+      stands g k bs (i + 1) f names (held_at g.nodes (2 * i + 2) (2 * (i + 1)) _ (omega arith) p.nodes_behind)
+          (held_at g.priorities (2 * i + 2) (2 * (i + 1)) _ (omega arith) p.priorities_behind),
+    )
+stands g k bs i (Binary operator.And f h) names nodes priorities =
+    let p = pair g (2 * i) _ _ k k _ _ nodes priorities in
+    let o = operands g k (length bs) (2 * i + 2) bs (i + 1) (i + 1 + occurrences f) f h (omega arith) refl p.nodes_behind p.priorities_behind in
+    (p.first, p.second, stands g k bs (i + 1) f names.0 o.left_nodes o.left_priorities, stands g k bs (i + 1 + occurrences f) h names.1 o.right_nodes o.right_priorities)
+stands g k bs i (Binary operator.Or f h) names nodes priorities =
+    let p = pair g (2 * i) _ _ k k _ _ nodes priorities in
+    let o = operands g k (length bs) (2 * i + 2) bs (i + 1) (i + 1 + occurrences f) f h (omega arith) refl p.nodes_behind p.priorities_behind in
+    (p.first, p.second, stands g k bs (i + 1) f names.0 o.left_nodes o.left_priorities, stands g k bs (i + 1 + occurrences f) h names.1 o.right_nodes o.right_priorities)
+stands g k bs i (Binary operator.Implies f h) names nodes priorities =
+    let p = pair g (2 * i) _ _ k k _ _ nodes priorities in
+    let o = operands g k (length bs) (2 * i + 2) bs (i + 1) (i + 1 + occurrences f) f h (omega arith) refl p.nodes_behind p.priorities_behind in
+    (p.first, p.second, stands g k bs (i + 1) f names.0 o.left_nodes o.left_priorities, stands g k bs (i + 1 + occurrences f) h names.1 o.right_nodes o.right_priorities)
+stands g k bs i (Binary operator.Iff f h) names nodes priorities =
+    let p = pair g (2 * i) _ _ k k _ _ nodes priorities in
+    let q = pair g (2 * i + 2) _ _ k k _ _ p.nodes_behind p.priorities_behind in
+    let r = pair g (2 * i + 2 + 2) _ _ k k _ _ q.nodes_behind q.priorities_behind in
+    let o = operands g k (length bs) (2 * i + 2 + 2 + 2) bs (i + 3) (i + 3 + occurrences f) f h (omega arith) refl r.nodes_behind r.priorities_behind in
+    let both : 2 * i + 2 ≡ 2 * (i + 1) = omega arith in
+    let neither : 2 * i + 2 + 2 ≡ 2 * (i + 2) = omega arith in (
+      p.first,
+      p.second,
+      subst (λ n. IsNode g n (node.And (positive (i + 3)) (positive (i + 3 + occurrences f))) k) both q.first,
+      subst (λ n. IsNode g (n + 1) (node.And (positive (i + 3)) (negative (i + 3 + occurrences f))) k) both q.second,
+      subst (λ n. IsNode g n (node.And (negative (i + 3)) (negative (i + 3 + occurrences f))) k) neither r.first,
+      subst (λ n. IsNode g (n + 1) (node.And (negative (i + 3)) (positive (i + 3 + occurrences f))) k) neither r.second,
+      stands g k bs (i + 3) f names.0 o.left_nodes o.left_priorities,
+      stands g k bs (i + 3 + occurrences f) h names.1 o.right_nodes o.right_priorities,
+    )
+stands g k bs i (Modal m a f) names nodes priorities =
+    let p = pair g (2 * i) _ _ k k (nodes_of g.props g.actions bs (i + 1) f) (priorities_of k (length bs) f) nodes priorities in (
+      (place_of g.actions a, p.first, names.0),
+      (place_of g.actions a, p.second, names.0),
+      stands g k bs (i + 1) f names.1 (held_at g.nodes (2 * i + 2) (2 * (i + 1)) _ (omega arith) p.nodes_behind)
+          (held_at g.priorities (2 * i + 2) (2 * (i + 1)) _ (omega arith) p.priorities_behind),
+    )
+stands g k bs i (Binder q x f) names nodes priorities =
+    let p = pair g (2 * i) _ _ (binder_priority q (length bs)) (binder_priority (opposite q) (length bs)) (nodes_of g.props g.actions ((x, i) ∷ bs) (i + 1) f) (priorities_of k (length bs + 1) f) nodes priorities in
+    let deeper : length bs + 1 ≡ length ((x, i) ∷ bs) = omega arith in (
+      p.first,
+      p.second,
+      stands g k ((x, i) ∷ bs) (i + 1) f names (held_at g.nodes (2 * i + 2) (2 * (i + 1)) _ (omega arith) p.nodes_behind)
+          (subst (λ d. Holds g.priorities (2 * (i + 1)) (priorities_of k d f)) deeper (held_at g.priorities (2 * i + 2) (2 * (i + 1)) _ (omega arith) p.priorities_behind)),
+    )
+
+-- ---- the nodes of a connective, written over the places that were kept for them
+
+length-holes : (op : Operator) → length (operator_holes op) ≡ 2 * weight op
+length-holes operator.And = refl
+length-holes operator.Or = refl
+length-holes operator.Implies = refl
+length-holes operator.Iff = refl
+
+pub length-after : (old after : List Node) (op : Operator) (at : ℕ) (ps acts : List (List ℕ)) (bs : Around) (f : Formula) → length old ≡ 2 * at
+    → after ≡ (old ++ operator_holes op) ++ nodes_of ps acts bs (at + weight op) f → length after ≡ 2 * (at + weight op + occurrences f)
+length-after old after op at ps acts bs f start is =
+    omega (
+      arith,
+      ap length is,
+      length-append (old ++ operator_holes op) (nodes_of ps acts bs (at + weight op) f),
+      length-append old (operator_holes op),
+      length-holes op,
+      length-nodes ps acts bs (at + weight op) f,
+      start,
+    )
+
+pub closed : (old after new : List Node) (op : Operator) (at second : ℕ) (ps acts : List (List ℕ)) (bs : Around) (f h : Formula) → length old ≡ 2 * at
+    → after ≡ ((old ++ operator_holes op) ++ nodes_of ps acts bs (at + weight op) f) ++ nodes_of ps acts bs second h
+    → second ≡ at + weight op + occurrences f
+    → new ≡ take (2 * at) after ++ (operator_nodes op at (at + weight op) second ++ drop (2 * at + length (operator_nodes op at (at + weight op) second)) after)
+    → new ≡ old ++ nodes_of ps acts bs at (Binary op f h)
+closed old after new op at second ps acts bs f h start is number written =
+    let l = nodes_of ps acts bs (at + weight op) f in
+    let r = nodes_of ps acts bs second h in
+    let block = operator_nodes op at (at + weight op) second in
+    let holes = operator_holes op in
+    let apart : after ≡ old ++ (holes ++ (l ++ r)) = is ∙ append_assoc (old ++ holes) l r ∙ append_assoc old holes (l ++ r) in
+    let joint : after ≡ (old ++ holes) ++ (l ++ r) = is ∙ append_assoc (old ++ holes) l r in
+    let front : take (2 * at) after ≡ old = ap (λ n. take n after) (sym start) ∙ ap (take (length old)) apart ∙ take-append_seam old (holes ++ (l ++ r)) in
+    let size : 2 * at + length block ≡ length (old ++ holes) = omega (arith, length-append old holes, length-holes op, length-operator op at (at + weight op) second, start) in
+    let back : drop (2 * at + length block) after ≡ l ++ r = ap (λ n. drop n after) size ∙ ap (drop (length (old ++ holes))) joint ∙ drop-append_seam (old ++ holes) (l ++ r) in
+    written
+    ∙ ap (λ xs. xs ++ (block ++ drop (2 * at + length block) after)) front
+    ∙ ap (λ xs. old ++ (block ++ xs)) back
+    ∙ ap (λ n. old ++ (operator_nodes op at (at + weight op) n ++ (l ++ nodes_of ps acts bs n h))) number
+
+pub half : (n m : ℕ) → n ≡ 2 * m → n / 2 ≡ m
+half n m is = omega (arith, is)
+
+pub one_symbol : (f : Formula) → 1 ≤ occurrences f
+one_symbol (Const b) = omega arith
+one_symbol (Prop p) = omega arith
+one_symbol (Var x) = omega arith
+one_symbol (Not f) = omega arith
+one_symbol (Binary op f h) = omega (arith, one_symbol f)
+one_symbol (Modal m a f) = omega arith
+one_symbol (Binder q x f) = omega arith
+
+pub one_weight : (op : Operator) → 1 ≤ weight op
+one_weight operator.And = omega arith
+one_weight operator.Or = omega arith
+one_weight operator.Implies = omega arith
+one_weight operator.Iff = omega arith

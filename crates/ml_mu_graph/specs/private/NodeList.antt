@@ -1,0 +1,101 @@
+-- The lists of a formula's graph: names, nodes and priorities, in the order in which a program makes them.
+--
+--   with_name ps p              == the names ps, and behind them p if it isn't among them
+--   props_onto f ps             == these, and behind them the propositions of f
+--   actions_onto f as           == these, and behind them the actions of f
+--   place_of ps p               == the place of the name p
+--   nodes_of ps acts bs i f       == the nodes of f as the occurrence i, with these names and the binders bs around
+--   priorities_of k d f         == their priorities, with d binders around
+use Rattle.std.specs.Prelude.{ℕ, ◌+◌, Bool, true, false, not, if◌then◌else◌, List, [], ◌∷◌, ◌++◌, length, unwrap_or, position}
+use Rattle.std.specs.List.{list_any}
+use Rattle.std.specs.Str.{bytes_eq}
+use Rattle.ml_graph.specs.declared.node.Node.{Node}
+use Rattle.ml_graph.specs.declared.node.Node.TheVariants as node
+use Rattle.ml_text.specs.declared.token.Operator.{Operator}
+use Rattle.ml_text.specs.declared.token.Operator.TheVariants as operator
+use Rattle.ml_mu.specs.Formula.{Formula, Const, Prop, Var, Not, Binary, Modal, Binder, occurrences, weight}
+use Rattle.ml_mu_graph.specs.MuGraph.{positive, negative, Around, binder_of, constant, modality, dual, binder_priority, opposite}
+
+abbrev pub with_name : List (List ℕ) → List ℕ → List (List ℕ)
+with_name ps p = if list_any (λ q. bytes_eq q p) ps then ps else ps ++ p ∷ []
+
+abbrev pub props_onto : Formula → List (List ℕ) → List (List ℕ)
+props_onto (Const b) ps = ps
+props_onto (Prop p) ps = with_name ps p
+props_onto (Var x) ps = ps
+props_onto (Not f) ps = props_onto f ps
+props_onto (Binary op f h) ps = props_onto h (props_onto f ps)
+props_onto (Modal m a f) ps = props_onto f ps
+props_onto (Binder q x f) ps = props_onto f ps
+
+abbrev pub actions_onto : Formula → List (List ℕ) → List (List ℕ)
+actions_onto (Const b) acts = acts
+actions_onto (Prop p) acts = acts
+actions_onto (Var x) acts = acts
+actions_onto (Not f) acts = actions_onto f acts
+actions_onto (Binary op f h) acts = actions_onto h (actions_onto f acts)
+actions_onto (Modal m a f) acts = actions_onto f (with_name acts a)
+actions_onto (Binder q x f) acts = actions_onto f acts
+
+abbrev pub place_of : List (List ℕ) → List ℕ → ℕ
+place_of ps p = unwrap_or (position (λ q. bytes_eq q p) ps) 0
+
+abbrev pub lead_to : ℕ → Node
+lead_to n = node.And n n
+
+-- the nodes of a connective as the occurrence i, with its operands as l and r
+abbrev pub operator_nodes : Operator → ℕ → ℕ → ℕ → List Node
+operator_nodes operator.And i l r =
+    node.And (positive l) (positive r) ∷ node.Or (negative l) (negative r) ∷ []
+operator_nodes operator.Or i l r =
+    node.Or (positive l) (positive r) ∷ node.And (negative l) (negative r) ∷ []
+operator_nodes operator.Implies i l r =
+    node.Or (negative l) (positive r) ∷ node.And (positive l) (negative r) ∷ []
+operator_nodes operator.Iff i l r =
+    node.Or (positive (i + 1)) (positive (i + 2))
+    ∷ node.Or (negative (i + 1)) (negative (i + 2))
+    ∷ node.And (positive l) (positive r)
+    ∷ node.And (positive l) (negative r)
+    ∷ node.And (negative l) (negative r)
+    ∷ node.And (negative l) (positive r)
+    ∷ []
+
+-- as many nodes that say nothing yet
+abbrev pub operator_holes : Operator → List Node
+operator_holes operator.And = node.True ∷ node.True ∷ []
+operator_holes operator.Or = node.True ∷ node.True ∷ []
+operator_holes operator.Implies = node.True ∷ node.True ∷ []
+operator_holes operator.Iff = node.True ∷ node.True ∷ node.True ∷ node.True ∷ node.True ∷ node.True ∷ []
+
+abbrev pub operator_priorities : Operator → ℕ → List ℕ
+operator_priorities operator.And k = k ∷ k ∷ []
+operator_priorities operator.Or k = k ∷ k ∷ []
+operator_priorities operator.Implies k = k ∷ k ∷ []
+operator_priorities operator.Iff k = k ∷ k ∷ k ∷ k ∷ k ∷ k ∷ []
+
+abbrev pub nodes_of : List (List ℕ) → List (List ℕ) → Around → ℕ → Formula → List Node
+nodes_of ps acts bs i (Const b) = constant b ∷ constant (not b) ∷ []
+nodes_of ps acts bs i (Prop p) = node.Lit (place_of ps p) true ∷ node.Lit (place_of ps p) false ∷ []
+nodes_of ps acts bs i (Var x) = lead_to (positive (binder_of bs x)) ∷ lead_to (negative (binder_of bs x)) ∷ []
+nodes_of ps acts bs i (Not f) =
+    lead_to (negative (i + 1)) ∷ lead_to (positive (i + 1)) ∷ nodes_of ps acts bs (i + 1) f
+nodes_of ps acts bs i (Binary op f h) =
+    let l = i + weight op in let r = l + occurrences f in
+    operator_nodes op i l r ++ (nodes_of ps acts bs l f ++ nodes_of ps acts bs r h)
+nodes_of ps acts bs i (Modal m a f) =
+    modality m (place_of acts a) (positive (i + 1))
+    ∷ modality (dual m) (place_of acts a) (negative (i + 1))
+    ∷ nodes_of ps acts bs (i + 1) f
+nodes_of ps acts bs i (Binder q x f) =
+    lead_to (positive (i + 1)) ∷ lead_to (negative (i + 1)) ∷ nodes_of ps acts ((x, i) ∷ bs) (i + 1) f
+
+abbrev pub priorities_of : ℕ → ℕ → Formula → List ℕ
+priorities_of k d (Const b) = k ∷ k ∷ []
+priorities_of k d (Prop p) = k ∷ k ∷ []
+priorities_of k d (Var x) = k ∷ k ∷ []
+priorities_of k d (Not f) = k ∷ k ∷ priorities_of k d f
+priorities_of k d (Binary op f h) =
+    operator_priorities op k ++ (priorities_of k d f ++ priorities_of k d h)
+priorities_of k d (Modal m a f) = k ∷ k ∷ priorities_of k d f
+priorities_of k d (Binder q x f) =
+    binder_priority q d ∷ binder_priority (opposite q) d ∷ priorities_of k (d + 1) f

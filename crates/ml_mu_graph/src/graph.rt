@@ -1,0 +1,525 @@
+// The graph of a formula.
+ghost use Rattle.std.specs.Prelude.{◌≡◌, ℕ, ◌+◌, ◌*◌, ◌/◌, ◌^◌, ◌≤◌, ◌<◌, ◌++◌, if◌then◌else◌, position, [], ◌∷◌, length, take, drop, IfOk, OnOk};
+ghost use Rattle.std.specs.List.{list_any};
+ghost use Rattle.std.specs.Str.{bytes_eq};
+ghost use Rattle.ml_graph.specs.declared.node.Node.TheVariants as graph_node;
+ghost use Rattle.ml_mu.specs.Formula as mu;
+ghost use Rattle.ml_mu.specs.Formula.{occurrences};
+ghost use Rattle.ml_mu.specs.Term.{formula_of};
+ghost use Rattle.ml_mu_graph.specs.MuGraph as graph;
+ghost use Rattle.ml_mu_graph.specs.MuGraph.{IsGraphOf};
+ghost use Rattle.ml_mu_graph.specs.private.NodeList as listed;
+ghost use Rattle.ml_mu_graph.specs.private.Views.{scope_view};
+
+use ml_base::{Action, Name, NoMemory};
+use ml_graph::{ModalGraph, Node};
+use ml_mu::{Formula, Term};
+use ml_text::{MOST_OCCURRENCES, Operator};
+use std::alloc::{AllocError, Global};
+
+// the binders around a place, the innermost first, each with its occurrence
+#[derive(Clone, Copy)]
+enum Scope<'a> {
+    Outermost,
+    Inside(&'a Name, u32, &'a Scope<'a>),
+}
+
+// the occurrence of the innermost binder of the name
+fn binder_of(scope: &Scope<'_>, name: &Name) -> u32
+    ensures { result ≡ graph.binder_of (scope_view scope.now) name.now }
+{
+    match scope {
+        Scope::Outermost => 0,
+        Scope::Inside(bound, at, outer) => {
+            if bound.bytes() == name.bytes() {
+                *at
+            } else {
+                binder_of(outer, name)
+            }
+        }
+    }
+}
+
+// the two nodes of an occurrence
+fn positive(at: u32) -> u32
+    requires { at < 1000 + 1000 }
+    ensures { result ≡ graph.positive at }
+{
+    2 * at
+}
+
+fn negative(at: u32) -> u32
+    requires { at < 1000 + 1000 }
+    ensures { result ≡ graph.negative at }
+{
+    2 * at + 1
+}
+
+fn lead_to(to: u32) -> Node
+    ensures { result ≡ listed.lead_to to }
+{
+    Node::And {
+        left: to,
+        right: to,
+    }
+}
+
+fn constant(value: bool) -> Node
+    ensures { result ≡ graph.constant value }
+{
+    if value { Node::True } else { Node::False }
+}
+
+fn has_proposition(props: &[Name], name: &Name) -> bool
+    ensures { result ≡ list_any (λ q. bytes_eq q name.now) props.now }
+{
+    props.iter().any(|prop| prop.bytes() == name.bytes())
+}
+
+fn has_action(actions: &[Action], name: &Action) -> bool
+    ensures { result ≡ list_any (λ q. bytes_eq q name.now) actions.now }
+{
+    actions.iter().any(|action| action.bytes() == name.bytes())
+}
+
+// a proposition is added, unless it is there
+fn add_proposition(props: &mut Vec<Name>, name: &Name) -> Result<(), NoMemory>
+    ensures { OnOk result (props.new.items ≡ listed.with_name props.old.items name.now) }
+{
+    if has_proposition(props.as_slice(), name) {
+        return Ok(());
+    }
+    props.push(name.copy()?)?;
+    Ok(())
+}
+
+// an action is added, unless it is there
+fn add_action(actions: &mut Vec<Action>, name: &Action) -> Result<(), NoMemory>
+    ensures { OnOk result (actions.new.items ≡ listed.with_name actions.old.items name.now) }
+{
+    if has_action(actions.as_slice(), name) {
+        return Ok(());
+    }
+    actions.push(name.copy()?)?;
+    Ok(())
+}
+
+// the propositions and the actions of a term, in the order of the text
+fn collect(term: &Term, props: &mut Vec<Name>, actions: &mut Vec<Action>) -> Result<(), NoMemory>
+    ensures props { OnOk result (props.new.items ≡ listed.props_onto (formula_of term.now) props.old.items) }
+    ensures actions { OnOk result (actions.new.items ≡ listed.actions_onto (formula_of term.now) actions.old.items) }
+{
+    match term {
+        Term::Const(_) | Term::Var(_) => Ok(()),
+        Term::Prop(name) => add_proposition(props, name),
+        Term::Not(operand) => collect(operand, props, actions),
+        Term::And(left, right)
+        | Term::Or(left, right)
+        | Term::Implies(left, right)
+        | Term::Iff(left, right) => {
+            collect(left, props, actions)?;
+            collect(right, props, actions)
+        }
+        Term::Diamond(action, operand) | Term::Square(action, operand) => {
+            add_action(actions, action)?;
+            collect(operand, props, actions)
+        }
+        Term::Mu(_, body) | Term::Nu(_, body) => collect(body, props, actions),
+    }
+}
+
+// how many binders a term has
+fn binders(term: &Term) -> u32
+    requires { occurrences (formula_of term.now) ≤ MOST_OCCURRENCES }
+    ensures number { result ≡ graph.binders (formula_of term.now) }
+    ensures few { result ≤ occurrences (formula_of term.now) }
+{
+    match term {
+        Term::Const(_) | Term::Prop(_) | Term::Var(_) => 0,
+        Term::Not(operand) | Term::Diamond(_, operand) | Term::Square(_, operand) => binders(
+            operand,
+        ),
+        Term::And(left, right)
+        | Term::Or(left, right)
+        | Term::Implies(left, right)
+        | Term::Iff(left, right) => binders(left) + binders(right),
+        Term::Mu(_, body) | Term::Nu(_, body) => 1 + binders(body),
+    }
+}
+
+// the names of a graph
+#[derive(Drop)]
+struct Names<'a> {
+    props: &'a [Name],
+    actions: &'a [Action],
+}
+
+fn find_proposition(props: &[Name], name: &Name) -> Option<usize>
+    ensures { result ≡ position (λ q. bytes_eq q name.now) props.now }
+{
+    props.iter().position(|prop| prop.bytes() == name.bytes())
+}
+
+fn find_action(actions: &[Action], name: &Action) -> Option<usize>
+    ensures { result ≡ position (λ q. bytes_eq q name.now) actions.now }
+{
+    actions
+        .iter()
+        .position(|action| action.bytes() == name.bytes())
+}
+
+fn proposition(names: &Names<'_>, name: &Name) -> u32
+    requires { length names.now.props.now < 2 ^ 32 }
+    ensures { result ≡ listed.place_of names.now.props.now name.now }
+{
+    match find_proposition(names.props, name) {
+        Some(place) => place as u32,
+        None => 0,
+    }
+}
+
+fn action(names: &Names<'_>, name: &Action) -> u32
+    requires { length names.now.actions.now < 2 ^ 32 }
+    ensures { result ≡ listed.place_of names.now.actions.now name.now }
+{
+    match find_action(names.actions, name) {
+        Some(place) => place as u32,
+        None => 0,
+    }
+}
+
+// a block of nodes is written over those that stand there
+fn fill(nodes: &mut Vec<Node>, from: usize, block: &[Node])
+    requires { from + length block.now ≤ length nodes.old.items }
+    ensures { nodes.new.items ≡ take from nodes.old.items ++ (block.now ++ drop (from + length block.now) nodes.old.items) }
+{
+    nodes[from..from + block.len()].copy_from_slice(block);
+}
+
+// the nodes and priorities so far
+#[derive(Drop)]
+struct Draft {
+    nodes: Vec<Node>,
+    priorities: Vec<u32>,
+}
+
+// two nodes, for an occurrence and its negation, with their priorities
+fn put(draft: &mut Draft, nodes: (Node, Node), priorities: (u32, u32)) -> Result<(), AllocError>
+    ensures nodes { OnOk result (draft.new.nodes.items ≡ draft.old.nodes.items ++ nodes.0 ∷ nodes.1 ∷ []) }
+    ensures priorities { OnOk result (draft.new.priorities.items ≡ draft.old.priorities.items ++ priorities.0 ∷ priorities.1 ∷ []) }
+{
+    draft.nodes.push(nodes.0)?;
+    draft.nodes.push(nodes.1)?;
+    draft.priorities.push(priorities.0)?;
+    draft.priorities.push(priorities.1)?;
+    Ok(())
+}
+
+// a block of placeholders for a connective, with their priorities
+fn open(draft: &mut Draft, operator: Operator, plain: u32) -> Result<(), AllocError>
+    ensures nodes { OnOk result (draft.new.nodes.items ≡ draft.old.nodes.items ++ listed.operator_holes operator) }
+    ensures priorities { OnOk result (draft.new.priorities.items ≡ draft.old.priorities.items ++ listed.operator_priorities operator plain) }
+{
+    put(draft, (Node::True, Node::True), (plain, plain))?;
+    if operator == Operator::Iff {
+        put(draft, (Node::True, Node::True), (plain, plain))?;
+        put(draft, (Node::True, Node::True), (plain, plain))?;
+    }
+    Ok(())
+}
+
+fn weight(operator: Operator) -> u32
+    ensures { result ≡ mu.weight operator }
+{
+    match operator {
+        Operator::Iff => 3,
+        Operator::Implies | Operator::Or | Operator::And => 1,
+    }
+}
+
+fn and(left: u32, right: u32) -> Node
+    ensures { result ≡ graph_node.And left right }
+{
+    Node::And { left, right }
+}
+
+fn or(left: u32, right: u32) -> Node
+    ensures { result ≡ graph_node.Or left right }
+{
+    Node::Or { left, right }
+}
+
+// the nodes of a connective as the occurrence `at`, over its placeholders
+fn close(nodes: &mut Vec<Node>, operator: Operator, at: u32, l: u32, r: u32)
+    requires small { (at + 2 ≤ 1000) × (l ≤ 1000) × (r ≤ 1000) }
+    requires fits { 2 * at + length (listed.operator_nodes operator at l r) ≤ length nodes.old.items }
+    ensures { let block = listed.operator_nodes operator at l r in
+        nodes.new.items ≡ take (2 * at) nodes.old.items ++ (block ++ drop (2 * at + length block) nodes.old.items) }
+{
+    let from = 2 * at as usize;
+    match operator {
+        Operator::And => fill(
+            nodes,
+            from,
+            &[and(positive(l), positive(r)), or(negative(l), negative(r))],
+        ),
+        Operator::Or => fill(
+            nodes,
+            from,
+            &[or(positive(l), positive(r)), and(negative(l), negative(r))],
+        ),
+        Operator::Implies => fill(
+            nodes,
+            from,
+            &[or(negative(l), positive(r)), and(positive(l), negative(r))],
+        ),
+        Operator::Iff => fill(
+            nodes,
+            from,
+            &[
+                or(positive(at + 1), positive(at + 2)),
+                or(negative(at + 1), negative(at + 2)),
+                and(positive(l), positive(r)),
+                and(positive(l), negative(r)),
+                and(negative(l), negative(r)),
+                and(negative(l), positive(r)),
+            ],
+        ),
+    }
+}
+
+// how many occurrences have their nodes
+fn placed(nodes: &[Node]) -> u32
+    requires { length nodes.now ≤ 2000 }
+    ensures { result ≡ length nodes.now / 2 }
+{
+    (nodes.len() / 2) as u32
+}
+
+// the nodes and priorities of a term as the occurrence `at`, with `depth` binders around it
+#[cycle(placing)]
+fn place<'a>(
+    draft: &mut Draft,
+    names: &Names<'_>,
+    plain: u32,
+    scope: &'a Scope<'a>,
+    depth: u32,
+    at: u32,
+    term: &'a Term,
+) -> Result<(), AllocError>
+    requires names { (length names.now.props.now < 2 ^ 32) × (length names.now.actions.now < 2 ^ 32) }
+    requires start { length draft.old.nodes.items ≡ 2 * at }
+    requires few { at + occurrences (formula_of term.now) ≤ 1000 }
+    requires binders { (x : _) → graph.binder_of (scope_view scope.now) x ≤ 1000 }
+    requires deep { depth ≤ at }
+    ensures nodes { OnOk result (draft.new.nodes.items ≡ draft.old.nodes.items
+        ++ listed.nodes_of names.now.props.now names.now.actions.now (scope_view scope.now) at (formula_of term.now)) }
+    ensures priorities { OnOk result (draft.new.priorities.items ≡ draft.old.priorities.items
+        ++ listed.priorities_of plain depth (formula_of term.now)) }
+{
+    let usual = (plain, plain);
+    match term {
+        Term::Const(value) => put(draft, (constant(*value), constant(!*value)), usual),
+        Term::Prop(name) => {
+            let prop = proposition(names, name);
+            let yes = Node::Lit {
+                prop,
+                positive: true,
+            };
+            let no = Node::Lit {
+                prop,
+                positive: false,
+            };
+            put(draft, (yes, no), usual)
+        }
+        Term::Var(name) => {
+            let binder = binder_of(scope, name);
+            put(
+                draft,
+                (lead_to(positive(binder)), lead_to(negative(binder))),
+                usual,
+            )
+        }
+        Term::Not(operand) => {
+            put(
+                draft,
+                (lead_to(negative(at + 1)), lead_to(positive(at + 1))),
+                usual,
+            )?;
+            place(draft, names, plain, scope, depth, at + 1, operand)
+        }
+        Term::And(left, right) => {
+            place_both(
+                draft,
+                names,
+                plain,
+                scope,
+                depth,
+                at,
+                Operator::And,
+                left,
+                right,
+            )
+        }
+        Term::Or(left, right) => {
+            place_both(
+                draft,
+                names,
+                plain,
+                scope,
+                depth,
+                at,
+                Operator::Or,
+                left,
+                right,
+            )
+        }
+        Term::Implies(left, right) => {
+            place_both(
+                draft,
+                names,
+                plain,
+                scope,
+                depth,
+                at,
+                Operator::Implies,
+                left,
+                right,
+            )
+        }
+        Term::Iff(left, right) => {
+            place_both(
+                draft,
+                names,
+                plain,
+                scope,
+                depth,
+                at,
+                Operator::Iff,
+                left,
+                right,
+            )
+        }
+        Term::Diamond(name, operand) => {
+            let action = action(names, name);
+            let some = Node::Diamond {
+                action,
+                to: positive(at + 1),
+            };
+            let every = Node::Square {
+                action,
+                to: negative(at + 1),
+            };
+            put(draft, (some, every), usual)?;
+            place(draft, names, plain, scope, depth, at + 1, operand)
+        }
+        Term::Square(name, operand) => {
+            let action = action(names, name);
+            let every = Node::Square {
+                action,
+                to: positive(at + 1),
+            };
+            let some = Node::Diamond {
+                action,
+                to: negative(at + 1),
+            };
+            put(draft, (every, some), usual)?;
+            place(draft, names, plain, scope, depth, at + 1, operand)
+        }
+        Term::Mu(name, body) => {
+            put(
+                draft,
+                (lead_to(positive(at + 1)), lead_to(negative(at + 1))),
+                (2 * depth + 1, 2 * depth),
+            )?;
+            let inside = Scope::Inside(name, at, &*scope);
+            place(draft, names, plain, &inside, depth + 1, at + 1, body)
+        }
+        Term::Nu(name, body) => {
+            put(
+                draft,
+                (lead_to(positive(at + 1)), lead_to(negative(at + 1))),
+                (2 * depth, 2 * depth + 1),
+            )?;
+            let inside = Scope::Inside(name, at, &*scope);
+            place(draft, names, plain, &inside, depth + 1, at + 1, body)
+        }
+    }
+}
+
+// the same of a connective: its nodes are known once the left operand is placed
+#[cycle(placing)]
+fn place_both<'a>(
+    draft: &mut Draft,
+    names: &Names<'_>,
+    plain: u32,
+    scope: &'a Scope<'a>,
+    depth: u32,
+    at: u32,
+    operator: Operator,
+    left: &'a Term,
+    right: &'a Term,
+) -> Result<(), AllocError>
+    requires names { (length names.now.props.now < 2 ^ 32) × (length names.now.actions.now < 2 ^ 32) }
+    requires start { length draft.old.nodes.items ≡ 2 * at }
+    requires few { at + occurrences (mu.Binary operator (formula_of left.now) (formula_of right.now)) ≤ 1000 }
+    requires binders { (x : _) → graph.binder_of (scope_view scope.now) x ≤ 1000 }
+    requires deep { depth ≤ at }
+    ensures nodes { OnOk result (draft.new.nodes.items ≡ draft.old.nodes.items
+        ++ listed.nodes_of names.now.props.now names.now.actions.now (scope_view scope.now) at (mu.Binary operator (formula_of left.now) (formula_of right.now))) }
+    ensures priorities { OnOk result (draft.new.priorities.items ≡ draft.old.priorities.items
+        ++ listed.priorities_of plain depth (mu.Binary operator (formula_of left.now) (formula_of right.now))) }
+{
+    open(draft, operator, plain)?;
+    let first = at + weight(operator);
+    place(draft, names, plain, scope, depth, first, left)?;
+    let second = placed(draft.nodes.as_slice());
+    place(draft, names, plain, scope, depth, second, right)?;
+    close(&mut draft.nodes, operator, at, first, second);
+    Ok(())
+}
+
+// the root is the first occurrence, or its negation
+fn root_of(negated: bool) -> u32
+    ensures { result ≡ (if negated then 1 else 0) }
+{
+    if negated { 1 } else { 0 }
+}
+
+/// The modal graph of a formula, or of its negation.
+///
+/// # Errors
+/// `NoMemory` alone.
+///
+/// Cost: one pass over the formula; a name is looked up among those before it, and a variable among the binders around
+/// it. No call is nested deeper than the formula, which has at most 1,000 occurrences.
+pub fn graph_of(alloc: Global, formula: &Formula, negated: bool) -> Result<ModalGraph, NoMemory>
+    ensures { IfOk result (λ g. IsGraphOf g formula.now negated) }
+{
+    let term = formula.root();
+    let mut props = Vec::new(alloc);
+    let mut actions = Vec::new(alloc);
+    collect(term, &mut props, &mut actions)?;
+    let mut draft = Draft {
+        nodes: Vec::new(alloc),
+        priorities: Vec::new(alloc),
+    };
+    let names = Names {
+        props: props.as_slice(),
+        actions: actions.as_slice(),
+    };
+    place(
+        &mut draft,
+        &names,
+        2 * binders(term),
+        &Scope::Outermost,
+        0,
+        0,
+        term,
+    )?;
+    let Draft { nodes, priorities } = draft;
+    match ModalGraph::build(nodes, priorities, root_of(negated), props, actions) {
+        Ok(graph) => Ok(graph),
+        Err(_) => Err(NoMemory),
+    }
+}
