@@ -15,6 +15,7 @@
 
 mod comparing;
 mod drafts;
+pub mod flat;
 mod items;
 pub mod laws;
 mod marking;
@@ -34,4 +35,5 @@ mod walk;
 pub use items::Stacked;
 pub use ml_trace::Mark;
 pub use plain::PlainHistory;
-pub use tree_history::History;
+pub use flat::History;
+pub use tree_history::TreeHistory;

@@ -9,7 +9,7 @@ use ml_trace::Transition;
 use std::alloc::Global;
 
 // One more than the greatest name of the stack.
-fn above(stack: &[u32]) -> u32
+pub(crate) fn above(stack: &[u32]) -> u32
     requires { above stack.now ≤ 2 ^ 30 }
     ensures { result ≡ above stack.now }
 {

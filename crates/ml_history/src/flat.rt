@@ -1,0 +1,145 @@
+// Histories as flat arrays.
+ghost use Rattle.std.specs.Prelude.{◌≡◌, ℕ, ◌<◌, ◌^◌, ◌↔◌, IsTrue, IfOk, Some, map, length};
+ghost use Rattle.ml_history.specs.History.{start, IsHistory};
+ghost use Rattle.ml_history.specs.HistoryStep.{live, stepped, step_mark};
+ghost use Rattle.ml_history.specs.Plain.{IsPlain};
+ghost use Rattle.ml_history.specs.Stacks.{stacked};
+ghost use Rattle.ml_history.specs.private.Keys.{stack_at};
+
+mod cutting;
+mod offers;
+mod places;
+mod stacks;
+
+use crate::flat::cutting::{cut, full_names};
+use crate::flat::offers::best_offers;
+use crate::flat::places::places;
+use crate::flat::stacks::Stacks;
+use crate::offering::above;
+use crate::renewal::{flags_of, mark, numbers};
+use crate::tree_history::TreeHistory;
+use ml_base::NoMemory;
+use ml_trace::{Letter, Mark};
+use std::alloc::Global;
+use std::marker::Model;
+
+/// A history: some states of the trace automaton, each with a stack of names. Contracts see the list of the states with
+/// their stacks, by ascending states.
+///
+/// It is held as flat arrays, one stack behind the other. The type keeps that it is a history of the definition, and that
+/// states have numbers below 2^30 (`laws::is_small_history`).
+#[derive(Debug, Drop)]
+pub struct History {
+    stacks: Stacks,
+    live: u32,
+}
+
+impl Model for History {
+    ghost use Rattle.std.specs.Prelude.{ℕ, List};
+    ghost use Rattle.ml_trace.specs.Stack.{Item};
+
+    ghost Value = { List (Item ℕ) };
+
+    ghost use Rattle.ml_history.specs.private.Arrays.{IsHeld};
+
+    ghost view = { λ h. h.stacks };
+
+    ghost invariant = { λ h. IsHeld h.live h.stacks };
+}
+
+impl History {
+    /// The history of one state, with the stack 0. The state has a number below 2^30.
+    ///
+    /// # Errors
+    /// `NoMemory` alone.
+    ///
+    /// Cost: constant.
+    pub fn start(alloc: Global, state: u32) -> Result<History, NoMemory>
+        requires { state < 2 ^ 30 }
+        ensures { IfOk result (λ h. h ≡ start state) }
+    {
+        let states = Vec::from_slice(alloc, &[state])?;
+        let starts = Vec::from_slice(alloc, &[0])?;
+        let names = Vec::from_slice(alloc, &[0])?;
+        Ok(History {
+            stacks: Stacks::of(states, starts, names),
+            live: 1,
+        })
+    }
+
+    // How many states it has.
+    pub(crate) fn len(&self) -> usize
+        ensures { result ≡ length self.now }
+    {
+        self.stacks.states().len()
+    }
+
+    // The states.
+    pub(crate) fn states(&self) -> &[u32]
+        ensures { result.now ≡ map (λ a. a.state) self.now }
+    {
+        self.stacks.states()
+    }
+
+    // The stack of the i-th state.
+    pub(crate) fn stack(&self, i: usize) -> &[u32]
+        requires { i < length self.now }
+        ensures { result.now ≡ stack_at self.now i }
+    {
+        self.stacks.stack(i)
+    }
+
+    /// The number of names in use.
+    ///
+    /// Cost: constant.
+    pub fn live(&self) -> u32
+        ensures { result ≡ live self.now }
+    {
+        self.live
+    }
+
+    /// The states with their stacks, the innermost name last, by ascending states.
+    ///
+    /// # Errors
+    /// `NoMemory` alone.
+    ///
+    /// Cost: linear in the names of all stacks, with a vector for each state.
+    pub fn stacks(&self) -> Result<Vec<(u32, Vec<u32>)>, NoMemory>
+        ensures { IfOk result (λ all. map stacked all.items ≡ self.now) }
+    {
+        let alloc = self.stacks.allocator();
+        let mut all = Vec::new(alloc);
+        for (i, state) in self.states().iter().enumerate() {
+            all.push((*state, Vec::from_slice(alloc, self.stack(i))?))?;
+        }
+        Ok(all)
+    }
+
+    /// The history after the step along the letter, and the mark of the step.
+    ///
+    /// Each name in use has a place in the order of offers, so an offer is known by two things: the place of the last name
+    /// of its source, and whether its transition accepts. No stacks are compared.
+    ///
+    /// # Errors
+    /// `NoMemory` alone.
+    ///
+    /// Cost: for each transition a search for its source, logarithmic in the states; and linear in the names of the stacks
+    /// before the step, and of those that are taken.
+    /// Source: the history trees of Schewe and the ages of Piterman.
+    pub fn step(&self, letter: &Letter) -> Result<(History, Mark), NoMemory>
+        ensures history { IfOk result (λ r. r.0 ≡ stepped self.now letter.now) }
+        ensures mark { IfOk result (λ r. r.1 ≡ step_mark self.now letter.now) }
+    {
+        let alloc = self.stacks.allocator();
+        let places = places(alloc, self)?;
+        let best = best_offers(alloc, self, places.as_slice(), letter.transitions())?;
+        let full = full_names(alloc, self, best.as_slice())?;
+        let cut = cut(alloc, self, best.as_slice(), full.as_slice())?;
+        let standing = flags_of(alloc, cut.names(), 2 * self.live)?;
+        let mark = mark(self.live, full.as_slice(), standing.as_slice());
+        let numbers = numbers(alloc, standing.as_slice())?;
+        let stacks = cut.renamed(numbers.as_slice());
+        let live = above(stacks.names());
+        Ok((History { stacks, live }, mark))
+    }
+}

@@ -1,0 +1,87 @@
+// States with stacks, laid out one behind the other in flat arrays.
+ghost use Rattle.std.specs.Prelude.{◌≡◌, ℕ, ◌<◌, List, length, slice_index_or, map};
+ghost use Rattle.ml_lists.specs.Member.{IsMember};
+ghost use Rattle.ml_history.specs.private.Arrays.{names_of, read, AreLaidOut, renamed};
+ghost use Rattle.ml_history.specs.private.Keys.{stack_at};
+
+use std::alloc::Global;
+use std::marker::Model;
+
+/// Some states with their stacks: the stack of the i-th state begins at the i-th start among all names, and ends where
+/// the next one begins. Contracts see the list of the states with their stacks.
+#[derive(Debug, Drop)]
+pub(crate) struct Stacks {
+    states: Vec<u32>,
+    starts: Vec<usize>,
+    names: Vec<u32>,
+}
+
+impl Model for Stacks {
+    ghost use Rattle.std.specs.Prelude.{ℕ, List};
+    ghost use Rattle.ml_trace.specs.Stack.{Item};
+
+    ghost Value = { List (Item ℕ) };
+
+    ghost use Rattle.ml_history.specs.private.Arrays.{read, AreLaidOut};
+
+    ghost view = { λ s. read s.states.items s.starts.items s.names.items };
+
+    ghost invariant = { λ s. AreLaidOut s.states.items s.starts.items s.names.items (read s.states.items s.starts.items s.names.items) };
+}
+
+impl Stacks {
+    // The stacks of these arrays.
+    pub(crate) fn of(states: Vec<u32>, starts: Vec<usize>, names: Vec<u32>) -> Stacks
+        requires { AreLaidOut states.items starts.items names.items (read states.items starts.items names.items) }
+        ensures { result ≡ read states.items starts.items names.items }
+    {
+        Stacks {
+            states,
+            starts,
+            names,
+        }
+    }
+
+    // The allocator of the arrays.
+    pub(crate) fn allocator(&self) -> Global {
+        *self.states.allocator()
+    }
+
+    // The states.
+    pub(crate) fn states(&self) -> &[u32]
+        ensures { result.now ≡ map (λ a. a.state) self.now }
+    {
+        self.states.as_slice()
+    }
+
+    // The names of all stacks, one stack behind the other.
+    pub(crate) fn names(&self) -> &[u32]
+        ensures { result.now ≡ names_of self.now }
+    {
+        self.names.as_slice()
+    }
+
+    // The stack of the i-th state.
+    pub(crate) fn stack(&self, i: usize) -> &[u32]
+        requires { i < length self.now }
+        ensures { result.now ≡ stack_at self.now i }
+    {
+        let start = self.starts[i];
+        if i + 1 < self.starts.len() {
+            &self.names[start..self.starts[i + 1]]
+        } else {
+            &self.names[start..]
+        }
+    }
+
+    // The same states, with the numbers of their names in place of the names.
+    pub(crate) fn renamed(mut self, numbers: &[u32]) -> Stacks
+        requires { (y : ℕ) → IsMember y (names_of self) → y < length numbers.now }
+        ensures { result ≡ renamed (λ y. slice_index_or numbers.now y 0) self }
+    {
+        for i in 0..self.names.len() {
+            self.names[i] = numbers[self.names[i] as usize];
+        }
+        self
+    }
+}
