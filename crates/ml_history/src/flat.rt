@@ -1,8 +1,7 @@
 // Histories as flat arrays.
 ghost use Rattle.std.specs.Prelude.{◌≡◌, ℕ, ◌<◌, ◌^◌, ◌↔◌, IsTrue, IfOk, Some, map, length};
-ghost use Rattle.ml_history.specs.History.{start, IsHistory};
+ghost use Rattle.ml_history.specs.History.{start, IsSmallHistory};
 ghost use Rattle.ml_history.specs.HistoryStep.{live, stepped, step_mark};
-ghost use Rattle.ml_history.specs.Plain.{IsPlain};
 ghost use Rattle.ml_history.specs.Stacks.{stacked};
 ghost use Rattle.ml_history.specs.private.Keys.{stack_at};
 
@@ -15,9 +14,8 @@ use crate::flat::cutting::{cut, full_names};
 use crate::flat::offers::best_offers;
 use crate::flat::places::places;
 use crate::flat::stacks::Stacks;
-use crate::offering::above;
-use crate::renewal::{flags_of, mark, numbers};
-use crate::tree_history::TreeHistory;
+use crate::names::{above, flags_of, mark, numbers};
+use crate::tree::TreeHistory;
 use ml_base::NoMemory;
 use ml_trace::{Letter, Mark};
 use std::alloc::Global;
@@ -27,7 +25,7 @@ use std::marker::Model;
 /// their stacks, by ascending states.
 ///
 /// It is held as flat arrays, one stack behind the other. The type keeps that it is a history of the definition, and that
-/// states have numbers below 2^30 (`laws::is_small_history`).
+/// states have numbers below 2^30 (`keeps`).
 #[derive(Debug, Drop)]
 pub struct History {
     stacks: Stacks,
@@ -87,6 +85,14 @@ impl History {
         ensures { result.now ≡ stack_at self.now i }
     {
         self.stacks.stack(i)
+    }
+
+    /// What the type keeps: its states with their stacks are a history of the definition, and the states have numbers below
+    /// 2^30. The call does nothing.
+    pub fn keeps(&self)
+        ensures { IsSmallHistory self.now }
+    {
+        let _stacks = &self.stacks;
     }
 
     /// The number of names in use.

@@ -13,27 +13,11 @@
 // game, whose positions hold a history.
 #![tactic(auto)]
 
-mod comparing;
-mod drafts;
 pub mod flat;
-mod items;
 pub mod laws;
-mod marking;
-mod moves;
-mod offering;
-mod plain;
-mod renewal;
-mod renumbering;
-#[cfg(test)]
-mod tests;
-mod tree;
-mod tree_history;
-#[cfg(test)]
-mod tree_tests;
-mod walk;
+mod names;
+pub mod plain;
+pub mod tree;
 
-pub use items::Stacked;
-pub use ml_trace::Mark;
-pub use plain::PlainHistory;
 pub use flat::History;
-pub use tree_history::TreeHistory;
+pub use ml_trace::Mark;

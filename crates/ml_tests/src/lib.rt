@@ -14,6 +14,8 @@ pub mod letters;
 pub mod not_made;
 pub mod numbers;
 #[cfg(test)]
+mod history_tests;
+#[cfg(test)]
 mod tests;
 #[cfg(test)]
 mod trace_tests;

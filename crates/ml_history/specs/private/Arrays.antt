@@ -3,23 +3,16 @@
 -- Three lists: the states; for each of them, where its stack starts among all names; and the names of all stacks. A
 -- stack ends where the next one starts.
 --
---   names_of h                  == the names of the items h, stack by stack
 --   starts_from n h             == where the stacks of h start, if n names stand before them
 --   part names i j              == the names from the place i on, up to the place j
 --   read states starts names    == the items that the arrays stand for
 --   AreLaidOut s b n h          == the arrays s, b and n are those of the items h
 --   IsHeld live h               == what the program's history keeps
-use Rattle.std.specs.Prelude.{◌≡◌, ℕ, ◌+◌, ◌-◌, ◌<◌, ◌^◌, List, [], ◌∷◌, length, take, drop, map}
-use Rattle.std.specs.List.{flat_map}
-use Rattle.ml_lists.specs.Member.{IsMember}
+use Rattle.std.specs.Prelude.{◌≡◌, ℕ, ◌+◌, ◌-◌, List, [], ◌∷◌, length, take, drop, map}
 use Rattle.ml_trace.specs.Stack.{Item}
-use Rattle.ml_history.specs.History.{IsHistory}
+use Rattle.ml_history.specs.HistoryOrder.{names_of}
 use Rattle.ml_history.specs.HistoryStep.{live}
-use Rattle.ml_history.specs.Plain.{IsPlain}
-
--- the names of the items, stack by stack
-abbrev pub names_of : List (Item ℕ) → List ℕ
-names_of h = flat_map (λ (a : Item ℕ). a.stack) h
+use Rattle.ml_history.specs.History.{IsSmallHistory}
 
 -- where the stacks start, if n names stand before them
 abbrev pub starts_from : ℕ → List (Item ℕ) → List ℕ
@@ -49,7 +42,7 @@ pub record AreLaidOut (states starts names : List ℕ) (h : List (Item ℕ)) : T
 
 -- what the program's history keeps
 pub record IsHeld (used : ℕ) (h : List (Item ℕ)) : Type 0 where
-  pub kept : IsPlain h
+  pub kept : IsSmallHistory h
   pub live_is : used ≡ live h
 
 -- the items with the numbers of their names in place of the names

@@ -9,7 +9,9 @@
 --   offered_by h o          == the item that the offer o makes, from the history h
 --   IsOffer h places o      == o has a source in h, and the place of its last name
 --   wins o b                == the key of o is less than that of b
-use Rattle.std.specs.Prelude.{◌≡◌, ℕ, ◌<◌, Bool, not, ◌&&◌, ◌||◌, nat_lt, ◌==◌, List, [], length, slice_index_or}
+--   put_some o bs           == the same where there is such an offer
+--   put_last o bs           == the offers bs with o, where the last one has another target or a greater key
+use Rattle.std.specs.Prelude.{◌≡◌, ℕ, ◌<◌, Bool, not, ◌&&◌, ◌||◌, nat_lt, ◌==◌, if◌then◌else◌, Option, Some, None, List, [], ◌∷◌, length, slice_index_or}
 use Rattle.ml_lists.specs.Member.{IsMember}
 use Rattle.ml_trace.specs.Stack.{Item}
 use Rattle.ml_history.specs.declared.flat.offers.Offer.{Offer}
@@ -36,3 +38,14 @@ pub record IsOffer (h : List (Item ℕ)) (places : List ℕ) (o : Offer) : Type 
 -- the key of o is less than that of b
 abbrev pub wins : Offer → Offer → Bool
 wins o b = nat_lt o.place b.place || ((o.place == b.place) && (o.accepting && not b.accepting))
+
+-- the offers with o, where the last one has another target or a greater key
+abbrev pub put_last : Offer → List Offer → List Offer
+put_last o [] = o ∷ []
+put_last o (b ∷ []) = if b.target == o.target then (if wins o b then o ∷ [] else b ∷ []) else b ∷ (o ∷ [])
+put_last o (b ∷ (c ∷ bs)) = b ∷ put_last o (c ∷ bs)
+
+-- the offers with a further one, if there is one
+abbrev pub put_some : Option Offer → List Offer → List Offer
+put_some None bs = bs
+put_some (Some o) bs = put_last o bs

@@ -7,12 +7,13 @@
 --
 --   before_last r s           == the name before the last one of the stack s, or r
 --   AreParents parents h      == the parents of the names in use in h
+--   IsTree parents            == each name's parent is older, or it has none
 --   put_behind p y xs         == the line xs with y right behind p
 --   line parent r n           == the line of the names below n, where r stands at the head
 --   Links next xs             == next leads from each entry of xs to the one behind it
 --   AreLinks next parents     == next leads along the line of all names
 --   ArePlaces places parents  == the places of the names, where the last one of the line has the place 0
-use Rattle.std.specs.Prelude.{◌≡◌, ℕ, zero, suc, ◌+◌, ◌-◌, ◌<◌, ◌==◌, if◌then◌else◌, List, [], ◌∷◌, length, slice_index_or}
+use Rattle.std.specs.Prelude.{◌≡◌, ◌⊎◌, ℕ, zero, suc, ◌+◌, ◌-◌, ◌<◌, ◌==◌, if◌then◌else◌, List, [], ◌∷◌, length, slice_index_or}
 use Rattle.ml_lists.specs.Member.{IsMember}
 use Rattle.ml_trace.specs.Stack.{Item}
 use Rattle.ml_history.specs.HistoryStep.{last_name, live}
@@ -49,9 +50,9 @@ Links next (x ∷ (y ∷ ys)) = (next x ≡ y) × Links next (y ∷ ys)
 abbrev pub parent_in : List ℕ → ℕ → ℕ
 parent_in parents y = slice_index_or parents y 0
 
--- each name's parent is older, or stands for none
-abbrev pub AreOlder : List ℕ → Type 0
-AreOlder parents = (y : ℕ) → y < length parents → slice_index_or parents y 0 < y + length parents
+-- each name's parent is older, or it has none
+abbrev pub IsTree : List ℕ → Type 0
+IsTree parents = (y : ℕ) → y < length parents → (slice_index_or parents y 0 < y) ⊎ (slice_index_or parents y 0 ≡ length parents)
 
 -- next leads along the line of all names
 pub record AreLinks (next parents : List ℕ) : Type 0 where

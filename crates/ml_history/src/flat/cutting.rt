@@ -10,7 +10,7 @@ ghost use Rattle.ml_history.specs.private.Keys.{offered_by};
 use crate::flat::History;
 use crate::flat::offers::Offer;
 use crate::flat::stacks::Stacks;
-use crate::items::last_name;
+use crate::names::last_name;
 use ml_base::NoMemory;
 use std::alloc::Global;
 

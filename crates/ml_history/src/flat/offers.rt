@@ -2,11 +2,12 @@
 ghost use Rattle.std.specs.Prelude.{◌≡◌, ℕ, ◌<◌, [], ◌∷◌, length, map, IfOk, IfSome, IfNone, OnOk};
 ghost use Rattle.ml_lists.specs.Member.{IsMember};
 ghost use Rattle.ml_trace.specs.Automaton.{RiseByTarget};
+ghost use Rattle.ml_history.specs.History.{IsSmallHistory};
 ghost use Rattle.ml_history.specs.HistoryStep.{offers_along, taken_along};
-ghost use Rattle.ml_history.specs.private.Keys.{TellOffers, offered_by, IsOffer, wins, put_last};
+ghost use Rattle.ml_history.specs.private.Keys.{TellOffers, offered_by, IsOffer, wins, put_last, put_some};
 
 use crate::flat::History;
-use crate::items::last_name;
+use crate::names::last_name;
 use ml_base::NoMemory;
 use ml_trace::Transition;
 use std::alloc::Global;
@@ -24,8 +25,9 @@ pub(crate) struct Offer {
 
 // The offer of the transition, where its source has a stack.
 fn offer_along(history: &History, places: &[u32], transition: Transition) -> Option<Offer>
-    requires { TellOffers places.now history.now }
-    ensures some { IfSome result (λ o. IsOffer history.now places.now o × (offers_along history.now transition ≡ offered_by history.now o ∷ [])) }
+    requires history { IsSmallHistory history.now }
+    requires places { TellOffers places.now history.now }
+    ensures some { IfSome result (λ o. IsOffer history.now places.now o × (o.target ≡ transition.to) × (offers_along history.now transition ≡ offered_by history.now o ∷ [])) }
     ensures none { IfNone result (offers_along history.now transition ≡ []) }
 {
     match history.states().binary_search(&transition.from) {
@@ -50,13 +52,27 @@ fn wins(o: &Offer, b: &Offer) -> bool
 fn put(offer: Offer, best: &mut Vec<Offer>) -> Result<(), NoMemory>
     ensures { OnOk result (best.new.items ≡ put_last offer best.old.items) }
 {
-    let n = best.len();
-    if n == 0 || best[n - 1].target != offer.target {
+    let Some(last) = best.last().copied() else {
         best.push(offer)?;
-    } else if wins(&offer, &best[n - 1]) {
-        best[n - 1] = offer;
+        return Ok(());
+    };
+    let end = best.len() - 1;
+    if last.target != offer.target {
+        best.push(offer)?;
+    } else if wins(&offer, &last) {
+        best[end] = offer;
     }
     Ok(())
+}
+
+// The same where there is an offer.
+fn put_some(offer: Option<Offer>, best: &mut Vec<Offer>) -> Result<(), NoMemory>
+    ensures { OnOk result (best.new.items ≡ put_some offer best.old.items) }
+{
+    match offer {
+        Some(offer) => put(offer, best),
+        None => Ok(()),
+    }
 }
 
 // The best offer to each target of the transitions, which stand by their targets.
@@ -66,6 +82,7 @@ pub(crate) fn best_offers(
     places: &[u32],
     letter: &[Transition],
 ) -> Result<Vec<Offer>, NoMemory>
+    requires history { IsSmallHistory history.now }
     requires places { TellOffers places.now history.now }
     requires letter { RiseByTarget letter.now }
     ensures taken { IfOk result (λ best. map (offered_by history.now) best.items ≡ taken_along history.now letter.now) }
@@ -73,9 +90,7 @@ pub(crate) fn best_offers(
 {
     let mut best = Vec::new(alloc);
     for transition in letter {
-        if let Some(offer) = offer_along(history, places, *transition) {
-            put(offer, &mut best)?;
-        }
+        put_some(offer_along(history, places, *transition), &mut best)?;
     }
     Ok(best)
 }

@@ -1,7 +1,8 @@
 // States with stacks, laid out one behind the other in flat arrays.
-ghost use Rattle.std.specs.Prelude.{◌≡◌, ℕ, ◌<◌, List, length, slice_index_or, map};
+ghost use Rattle.std.specs.Prelude.{◌≡◌, ℕ, ◌+◌, ◌<◌, ◌≤◌, length, slice_index_or, map};
 ghost use Rattle.ml_lists.specs.Member.{IsMember};
-ghost use Rattle.ml_history.specs.private.Arrays.{names_of, read, AreLaidOut, renamed};
+ghost use Rattle.ml_history.specs.HistoryOrder.{names_of};
+ghost use Rattle.ml_history.specs.private.Arrays.{part, read, AreLaidOut, renamed};
 ghost use Rattle.ml_history.specs.private.Keys.{stack_at};
 
 use std::alloc::Global;
@@ -22,11 +23,23 @@ impl Model for Stacks {
 
     ghost Value = { List (Item ℕ) };
 
-    ghost use Rattle.ml_history.specs.private.Arrays.{read, AreLaidOut};
+    ghost use Rattle.ml_history.specs.private.Arrays.{part, read, AreLaidOut};
 
     ghost view = { λ s. read s.states.items s.starts.items s.names.items };
 
     ghost invariant = { λ s. AreLaidOut s.states.items s.starts.items s.names.items (read s.states.items s.starts.items s.names.items) };
+}
+
+// The names from the i-th start on, up to the next one or to the end.
+fn part_at<'a>(starts: &[usize], names: &'a [u32], i: usize) -> &'a [u32]
+    requires low { i < length starts.now }
+    requires up { slice_index_or starts.now i 0 ≤ slice_index_or starts.now (i + 1) (length names.now) }
+    requires fits { slice_index_or starts.now (i + 1) (length names.now) ≤ length names.now }
+    ensures { result.now ≡ part names.now (slice_index_or starts.now i 0) (slice_index_or starts.now (i + 1) (length names.now)) }
+{
+    let start = starts[i];
+    let end = starts.get(i + 1).copied().unwrap_or(names.len());
+    &names[start..end]
 }
 
 impl Stacks {
@@ -66,22 +79,38 @@ impl Stacks {
         requires { i < length self.now }
         ensures { result.now ≡ stack_at self.now i }
     {
-        let start = self.starts[i];
-        if i + 1 < self.starts.len() {
-            &self.names[start..self.starts[i + 1]]
-        } else {
-            &self.names[start..]
-        }
+        part_at(self.starts.as_slice(), self.names.as_slice(), i)
     }
 
     // The same states, with the numbers of their names in place of the names.
-    pub(crate) fn renamed(mut self, numbers: &[u32]) -> Stacks
+    pub(crate) fn renamed(self, numbers: &[u32]) -> Stacks
         requires { (y : ℕ) → IsMember y (names_of self) → y < length numbers.now }
         ensures { result ≡ renamed (λ y. slice_index_or numbers.now y 0) self }
     {
-        for i in 0..self.names.len() {
-            self.names[i] = numbers[self.names[i] as usize];
-        }
-        self
+        let Stacks {
+            states,
+            starts,
+            names,
+        } = self;
+        Stacks::of(states, starts, numbered(names, numbers))
     }
+}
+
+// Puts the number of each name in its place.
+fn number_all(names: &mut [u32], numbers: &[u32])
+    requires { (y : ℕ) → IsMember y names.old → y < length numbers.now }
+    ensures { names.new ≡ map (λ y. slice_index_or numbers.now y 0) names.old }
+{
+    for name in names {
+        *name = numbers[*name as usize];
+    }
+}
+
+// The numbers of the names.
+fn numbered(mut names: Vec<u32>, numbers: &[u32]) -> Vec<u32>
+    requires { (y : ℕ) → IsMember y names.items → y < length numbers.now }
+    ensures { result.items ≡ map (λ y. slice_index_or numbers.now y 0) names.items }
+{
+    number_all(names.as_mut_slice(), numbers);
+    names
 }
