@@ -47,13 +47,6 @@ insert_next s xs i up low e =
 abbrev pub rooted : ℕ → List ℕ → Forest → Rooted
 rooted age own children = record { age = age; own = own; children = children }
 
--- two vertices of one age with one set are the same where their children are
-pub vertex_same : (a b : ℕ) (own own' : List ℕ) (vs ws : List Rooted) (v w : Rooted) (r : Bool) → rooted a own (joined vs) ≡ v → rooted b own' (joined ws) ≡ w → a ≡ b → own ≡ own' → (IsTrue r ↔ vs ≡ ws) → (IsTrue r ↔ v ≡ w)
-vertex_same a b own own' vs ws v w r view view' e f (to, from) = (
-  λ t. let same = to t in sym view ∙ (λ i. rooted (e i) (f i) (joined (same i))) ∙ view',
-  λ same. from (joined_same vs ws (ap (λ (u : Rooted). u.children) (view ∙ same ∙ sym view'))),
-)
-
 -- a list made of a row vertex by vertex
 module _ {X : Type 0} (F : Forest → List X) (here : Rooted → List X) (empty : F Empty ≡ []) (part : (v : Rooted) (y : Forest) → F (Tree v.age v.own v.children y) ≡ here v ++ F y) where
   row_append : (vs ws : List Rooted) → F (joined (vs ++ ws)) ≡ F (joined vs) ++ F (joined ws)

@@ -94,3 +94,5 @@ pub mod NameLine
 pub mod OrderOfNames
 -- the best offers, one at a time
 pub mod BestOffers
+-- the names of offered stacks, and the stacks that are cut
+pub mod CutOffers

@@ -1,16 +1,21 @@
 // Histories as flat arrays.
 ghost use Rattle.std.specs.Prelude.{◌≡◌, ℕ, ◌<◌, ◌^◌, ◌↔◌, IsTrue, IfOk, Some, map, length};
 ghost use Rattle.ml_history.specs.History.{start, IsSmallHistory};
+ghost use Rattle.ml_history.specs.HistoryOrder.{history_eq, history_eq_equiv, hash_writes};
 ghost use Rattle.ml_history.specs.HistoryStep.{live, stepped, step_mark};
 ghost use Rattle.ml_history.specs.Stacks.{stacked};
 ghost use Rattle.ml_history.specs.private.Keys.{stack_at};
 
+mod comparing;
 mod cutting;
+mod laying;
 mod offers;
 mod places;
 mod stacks;
 
+use crate::flat::comparing::compare;
 use crate::flat::cutting::{cut, full_names};
+use crate::flat::laying::laid;
 use crate::flat::offers::best_offers;
 use crate::flat::places::places;
 use crate::flat::stacks::Stacks;
@@ -19,6 +24,8 @@ use crate::tree::TreeHistory;
 use ml_base::NoMemory;
 use ml_trace::{Letter, Mark};
 use std::alloc::Global;
+use std::cmp::Ordering;
+use std::hash::{Hash, Hasher};
 use std::marker::Model;
 
 /// A history: some states of the trace automaton, each with a stack of names. Contracts see the list of the states with
@@ -69,7 +76,7 @@ impl History {
     pub(crate) fn len(&self) -> usize
         ensures { result ≡ length self.now }
     {
-        self.stacks.states().len()
+        self.stacks.len()
     }
 
     // The states.
@@ -147,5 +154,108 @@ impl History {
         let stacks = cut.renamed(numbers.as_slice());
         let live = above(stacks.names());
         Ok((History { stacks, live }, mark))
+    }
+
+    /// The history of a tree: the same states with the same stacks.
+    ///
+    /// # Errors
+    /// `NoMemory` alone.
+    ///
+    /// Cost: that of the tree's `stacks`.
+    pub fn of_tree(tree: &TreeHistory) -> Result<History, NoMemory>
+        ensures { IfOk result (λ h. h ≡ tree.now) }
+    {
+        tree.keeps();
+        let all = tree.stacks()?;
+        Ok(History {
+            stacks: laid(*all.allocator(), all.as_slice())?,
+            live: tree.live(),
+        })
+    }
+
+    /// An equal history.
+    ///
+    /// # Errors
+    /// `NoMemory` alone.
+    ///
+    /// Cost: linear in the arrays.
+    pub fn copy(&self) -> Result<History, NoMemory>
+        ensures { IfOk result (λ copy. copy ≡ self.now) }
+    {
+        Ok(History {
+            stacks: self.stacks.copy()?,
+            live: self.live,
+        })
+    }
+}
+
+/// Two histories are equal exactly where their states with their stacks are.
+///
+/// Cost: a comparison of the arrays.
+impl PartialEq for History {
+    ghost use Rattle.std.specs.Cmp.{partial_equiv_from_equiv};
+
+    ghost eq = { history_eq };
+
+    ghost laws = { partial_equiv_from_equiv history_eq_equiv };
+
+    fn eq(&self, other: &History) -> bool
+        ensures value { result ≡ history_eq self.now other.now }
+        ensures exact { IsTrue result ↔ self.now ≡ other.now }
+    {
+        self.stacks.is_same(&other.stacks)
+    }
+}
+
+impl Eq for History {
+    ghost laws = { history_eq_equiv };
+}
+
+/// Histories compare as the lists that `stacks` gives: item by item, by the state and then by the stack.
+///
+/// Cost: linear in the arrays; no memory.
+impl Ord for History {
+    ghost use Rattle.std.specs.Prelude.{Some, refl};
+    ghost use Rattle.ml_history.specs.HistoryOrder.{history_cmp, history_cmp_total, history_ties};
+
+    ghost cmp = { history_cmp };
+
+    ghost total = { history_cmp_total };
+
+    ghost matches_partial_cmp = { λ h g. refl };
+
+    ghost matches_eq = { history_ties };
+
+    fn cmp(&self, other: &History) -> Ordering {
+        compare(&self.stacks, &other.stacks)
+    }
+}
+
+impl PartialOrd for History {
+    ghost use Rattle.std.specs.Cmp.{partial_order_from_agreeing_total};
+    ghost use Rattle.std.specs.Prelude.{Some, refl};
+    ghost use Rattle.ml_history.specs.HistoryOrder.{history_cmp, history_cmp_total, history_ties};
+
+    ghost partial_cmp = { λ h g. Some (history_cmp h g) };
+
+    ghost laws = { partial_order_from_agreeing_total history_cmp history_cmp_total (λ h g. refl) history_ties };
+
+    fn partial_cmp(&self, other: &History) -> Option<Ordering> {
+        Some(self.cmp(other))
+    }
+}
+
+/// A hash reads the states, and then the names of all stacks.
+impl Hash for History {
+    ghost use Rattle.std.proofs.Common.{ap};
+    ghost use Rattle.ml_history.specs.HistoryOrder.{history_eq-same};
+
+    ghost hash_input = { hash_writes };
+
+    ghost respects_eq = { λ h g e. ap hash_writes (history_eq-same h g e) };
+
+    fn hash<H: Hasher>(&self, state: &mut H) {
+        self.stacks.states().hash(state);
+        self.stacks.names().hash(state);
     }
 }

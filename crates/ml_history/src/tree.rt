@@ -1,6 +1,6 @@
 // Histories as trees.
 ghost use Rattle.std.specs.Prelude.{◌≡◌, ◌<◌, ◌^◌, ◌↔◌, IsTrue, IfOk, Some, map};
-ghost use Rattle.ml_history.specs.History.{start, IsHistory};
+ghost use Rattle.ml_history.specs.History.{start, IsHistory, IsSmallHistory};
 ghost use Rattle.ml_history.specs.HistoryStep.{live, stepped, step_mark};
 ghost use Rattle.ml_history.specs.Stacks.{stacked};
 
@@ -91,9 +91,9 @@ impl TreeHistory {
         above(self.roots.as_slice()) as u32
     }
 
-    // The items are a history, as the type keeps it; the call does nothing.
-    pub(crate) fn is_history(&self)
-        ensures { IsHistory self.now }
+    // What the type keeps; the call does nothing.
+    pub(crate) fn keeps(&self)
+        ensures { IsSmallHistory self.now }
     {
         let _roots = &self.roots;
     }

@@ -4,7 +4,7 @@
 -- places. So offers compare by two things, the place of the last name of their source, and whether the transition
 -- accepts: an accepting one adds a name that is greater than all in use, and beats the same stack without it.
 --
---   stack_at h i            == the stack of the item of h at the place i
+--   item_at h i, stack_at h i == the item of h at the place i, and its stack
 --   TellOffers places h     == places of names tell which stacks of h beat which
 --   offered_by h o          == the item that the offer o makes, from the history h
 --   IsOffer h places o      == o has a source in h, and the place of its last name
@@ -17,9 +17,13 @@ use Rattle.ml_trace.specs.Stack.{Item}
 use Rattle.ml_history.specs.declared.flat.offers.Offer.{Offer}
 use Rattle.ml_history.specs.HistoryStep.{beats, last_name, live, offered}
 
--- the stack of the item at the place i
+-- the item at the place i
+abbrev pub item_at : List (Item ℕ) → ℕ → Item ℕ
+item_at h i = slice_index_or h i (record { state = 0; stack = [] })
+
+-- its stack
 abbrev pub stack_at : List (Item ℕ) → ℕ → List ℕ
-stack_at h i = (slice_index_or h i (record { state = 0; stack = [] })).stack
+stack_at h i = (item_at h i).stack
 
 -- places of names tell which stacks of h beat which
 pub record TellOffers (places : List ℕ) (h : List (Item ℕ)) : Type 0 where

@@ -1,10 +1,11 @@
 // States with stacks, laid out one behind the other in flat arrays.
-ghost use Rattle.std.specs.Prelude.{◌≡◌, ℕ, ◌+◌, ◌<◌, ◌≤◌, length, slice_index_or, map};
+ghost use Rattle.std.specs.Prelude.{◌≡◌, ℕ, ◌+◌, ◌<◌, ◌≤◌, ◌↔◌, IsTrue, IfOk, length, slice_index_or, map};
 ghost use Rattle.ml_lists.specs.Member.{IsMember};
 ghost use Rattle.ml_history.specs.HistoryOrder.{names_of};
 ghost use Rattle.ml_history.specs.private.Arrays.{part, read, AreLaidOut, renamed};
 ghost use Rattle.ml_history.specs.private.Keys.{stack_at};
 
+use ml_base::NoMemory;
 use std::alloc::Global;
 use std::marker::Model;
 
@@ -60,6 +61,13 @@ impl Stacks {
         *self.states.allocator()
     }
 
+    // How many states there are.
+    pub(crate) fn len(&self) -> usize
+        ensures { result ≡ length self.now }
+    {
+        self.states.len()
+    }
+
     // The states.
     pub(crate) fn states(&self) -> &[u32]
         ensures { result.now ≡ map (λ a. a.state) self.now }
@@ -80,6 +88,27 @@ impl Stacks {
         ensures { result.now ≡ stack_at self.now i }
     {
         part_at(self.starts.as_slice(), self.names.as_slice(), i)
+    }
+
+    // The same again.
+    pub(crate) fn copy(&self) -> Result<Stacks, NoMemory>
+        ensures { IfOk result (λ copy. copy ≡ self.now) }
+    {
+        let alloc = self.allocator();
+        Ok(Stacks {
+            states: Vec::from_slice(alloc, self.states.as_slice())?,
+            starts: Vec::from_slice(alloc, self.starts.as_slice())?,
+            names: Vec::from_slice(alloc, self.names.as_slice())?,
+        })
+    }
+
+    // Whether the two are the same, by their arrays.
+    pub(crate) fn is_same(&self, other: &Stacks) -> bool
+        ensures { IsTrue result ↔ self.now ≡ other.now }
+    {
+        self.states.as_slice() == other.states.as_slice()
+            && self.starts.as_slice() == other.starts.as_slice()
+            && self.names.as_slice() == other.names.as_slice()
     }
 
     // The same states, with the numbers of their names in place of the names.
