@@ -96,3 +96,5 @@ pub mod OrderOfNames
 pub mod BestOffers
 -- the names of offered stacks, and the stacks that are cut
 pub mod CutOffers
+-- the step on flat arrays, from its parts
+pub mod FlatStep

@@ -1,8 +1,8 @@
 use Rattle.std.proofs.Common.{subst}
-use Rattle.ml_history.specs.History.{IsHistory}
+use Rattle.ml_history.specs.History.{IsSmallHistory}
 use Rattle.ml_history.specs.Vertices.{joined}
-use Rattle.ml_history.proofs.Proper.{proper_is_history}
-use Rattle.ml_history.proofs.tree.TreeHistory.is_history.Goals as goal
+use Rattle.ml_history.proofs.Kept.{kept_is_plain}
+use Rattle.ml_history.proofs.tree.TreeHistory.keeps.Goals as goal
 
 pub returns : goal.returns
-returns c = subst IsHistory c.self.view_is (proper_is_history (joined c.self.inside.roots.items) c.self.invariant.proper)
+returns c = subst IsSmallHistory c.self.view_is (kept_is_plain (joined c.self.inside.roots.items) c.self.invariant)
