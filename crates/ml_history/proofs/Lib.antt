@@ -98,3 +98,5 @@ pub mod BestOffers
 pub mod CutOffers
 -- the step on flat arrays, from its parts
 pub mod FlatStep
+-- lists of items, one item after the other
+pub mod ItemByItem

@@ -21,13 +21,14 @@ fn compare_at(i: usize, left: &Stacks, right: &Stacks) -> Ordering
 pub(crate) fn compare(left: &Stacks, right: &Stacks) -> Ordering
     ensures { result ≡ history_cmp left.now right.now }
 {
-    let long = left.len();
-    let longer = right.len();
-    for i in 0..long.min(longer) {
-        let order = compare_at(i, left, right);
-        if order != Ordering::Equal {
-            return order;
+    let m = left.len();
+    let n = right.len();
+    for i in 0..m.min(n) {
+        match compare_at(i, left, right) {
+            Ordering::Less => return Ordering::Less,
+            Ordering::Greater => return Ordering::Greater,
+            Ordering::Equal => {}
         }
     }
-    long.cmp(&longer)
+    m.cmp(&n)
 }

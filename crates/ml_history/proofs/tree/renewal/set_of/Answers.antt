@@ -2,7 +2,7 @@ use Rattle.std.proofs.Common.{ap, ◌∙◌, arith}
 use Rattle.std.proofs.lemmas.List.Sorted.{IsPermutation-sym}
 use Rattle.ml_lists.specs.Ascending.{ascending}
 use Rattle.ml_history.proofs.Flags.{set_next, set_sorted}
-use Rattle.ml_history.proofs.Kept.{permuted-member}
+use Rattle.ml_lists.proofs.Permuted.{permuted-member}
 use Rattle.ml_history.proofs.PlainItems.{take_all}
 use Rattle.ml_history.proofs.tree.renewal.set_of.Goals as goal
 
