@@ -273,12 +273,12 @@ line-links next parents y tree low long l =
     let e : suc y ≡ y + 1 = omega arith in
     subst (λ n. Links (λ v. get_or (set first p y) v 0) (line (parent_in parents) r n)) e
     (put_behind-links (λ v. get_or next v 0) (λ v. get_or (set first p y) v 0) p y (line (parent_in parents) r y)
-      (line-apart (parent_in parents) r y (omega arith) (λ z k. tree z (omega arith)))
-      (line-new (parent_in parents) r y low)
-      (get_or-set_same first p y 0 (omega (arith, in_first, p_low)))
-      (get_or-set_other first p y y 0 (λ is. not_p is) ∙ get_or-set_same next y (get_or next p 0) 0 (omega arith))
-      (λ v no_p no_y. get_or-set_other first p v y 0 no_p ∙ get_or-set_other next y v (get_or next p 0) 0 no_y)
-      l)
+    (line-apart (parent_in parents) r y (omega arith) (λ z k. tree z (omega arith)))
+    (line-new (parent_in parents) r y low)
+    (get_or-set_same first p y 0 (omega (arith, in_first, p_low)))
+    (get_or-set_other first p y y 0 (λ is. not_p is) ∙ get_or-set_same next y (get_or next p 0) 0 (omega arith))
+    (λ v no_p no_y. get_or-set_other first p v y 0 no_p ∙ get_or-set_other next y v (get_or next p 0) 0 no_y)
+    l)
   where
     r : ℕ
     r = length parents

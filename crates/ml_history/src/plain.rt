@@ -10,11 +10,10 @@ mod marking;
 mod offering;
 mod renumbering;
 
-pub use items::Stacked;
-
 use crate::plain::marking::mark;
 use crate::plain::offering::{live, offers, taken};
 use crate::plain::renumbering::{cut, renumbered};
+pub use items::Stacked;
 use ml_base::NoMemory;
 use ml_trace::{Letter, Mark};
 use std::alloc::Global;

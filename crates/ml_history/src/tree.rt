@@ -1,4 +1,4 @@
-// Histories as trees.
+// Histories as trees: the form in which the literature draws them.
 ghost use Rattle.std.specs.Prelude.{◌≡◌, ◌<◌, ◌^◌, ◌↔◌, IsTrue, IfOk, Some, map};
 ghost use Rattle.ml_history.specs.History.{start, IsHistory, IsSmallHistory};
 ghost use Rattle.ml_history.specs.HistoryStep.{live, stepped, step_mark};

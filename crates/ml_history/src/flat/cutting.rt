@@ -42,12 +42,7 @@ fn end_of(history: &History, offer: &Offer) -> u32
 }
 
 // Sets the flags of the names of the offered stack, and that of its end.
-fn mark_offer(
-    history: &History,
-    offer: &Offer,
-    standing: &mut Vec<bool>,
-    ends: &mut Vec<bool>,
-)
+fn mark_offer(history: &History, offer: &Offer, standing: &mut Vec<bool>, ends: &mut Vec<bool>)
     requires history { IsSmallHistory history.now }
     requires source { offer.now.source < length history.now }
     requires standing { length standing.old.items ≡ 2 * live history.now }

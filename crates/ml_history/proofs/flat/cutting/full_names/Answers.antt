@@ -49,5 +49,5 @@ pub returns-clause-flags : goal.returns-clause-flags
 returns-clause-flags c =
     IfOk-weaker c.full_of.result _ _
     (λ full told. full_told c.args.history.now c.args.best.now c.loop-offer.offer-index c.loop-offer.standing.items c.loop-offer.ends.items full.items (omega (arith, c.loop-offer-test.false)) c.loop-offer.invariant
-        (λ y. told y ∙ (λ i. flagged (c.as_slice.ensures.value i) y && not (flagged (c.as_slice-2.ensures.value i) y))))
+    (λ y. told y ∙ (λ i. flagged (c.as_slice.ensures.value i) y && not (flagged (c.as_slice-2.ensures.value i) y))))
     c.full_of.ensures.flags

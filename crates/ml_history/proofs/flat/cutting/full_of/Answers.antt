@@ -9,11 +9,10 @@ pub loop-y-init : goal.loop-y-init
 loop-y-init c = (ap length c.in_ok-full.ensures.items, λ z low. absurd (omega arith))
 
 pub loop-y-preserved : goal.loop-y-preserved
-loop-y-preserved c =
-    (
-      ap length c.in_ok-push.ensures.items ∙ (let n = length-append c.loop-y.full.items (c.is_full.result ∷ []) in omega (arith, n, c.loop-y.invariant.0)),
-      λ z low. ap (λ fs. flagged fs z) c.in_ok-push.ensures.items ∙ by_place z low (cases_lt z c.loop-y.y),
-    )
+loop-y-preserved c = (
+  ap length c.in_ok-push.ensures.items ∙ (let n = length-append c.loop-y.full.items (c.is_full.result ∷ []) in omega (arith, n, c.loop-y.invariant.0)),
+  λ z low. ap (λ fs. flagged fs z) c.in_ok-push.ensures.items ∙ by_place z low (cases_lt z c.loop-y.y),
+)
   where
     by_place : (z : ℕ) → z < c.loop-y.y + 1 → (z < c.loop-y.y) ⊎ (c.loop-y.y ≤ z) → flagged (c.loop-y.full.items ++ c.is_full.result ∷ []) z ≡ (flagged c.args.standing.now z && not (flagged c.args.ends.now z))
     by_place z low (inl less) = flag-append_old c.loop-y.full.items c.is_full.result z (omega (arith, c.loop-y.invariant.0, less)) ∙ c.loop-y.invariant.1 z less

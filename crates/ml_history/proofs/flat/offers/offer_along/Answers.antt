@@ -23,8 +23,7 @@ returns-in-Ok-clause-some c =
     let low : c.in-Ok.source < length h = omega (arith, c.in-Ok.ensures.bound, ap length c.states.ensures, length-map h state_of) in
     let found = subst (λ r. Found xs c.args.transition.from r) c.in-Ok.is (searched xs c.args.transition.from c.binary_search.result c.binary_search.ensures.position (subst Rises (sym c.states.ensures) (states_rise (map state_of h) up))) in
     let from = ap (λ l. get_or l c.in-Ok.source 0) (sym c.states.ensures) ∙ found.1 in
-    let place = ap (λ y. get_or c.args.places.now y 0) (c.last_name.ensures ∙ ap last_name c.stack.ensures) in
-    (
+    let place = ap (λ y. get_or c.args.places.now y 0) (c.last_name.ensures ∙ ap last_name c.stack.ensures) in (
       record { has_source = low; place_is = place },
       refl,
       along_one h c.args.transition (record { target = c.args.transition.to; source = c.in-Ok.source; place = get_or c.args.places.now c.last_name.result 0; accepting = c.args.transition.accepting }) up low from refl refl,

@@ -18,11 +18,10 @@ pub loop-name-preserved : goal.loop-name-preserved
 loop-name-preserved c =
     let r = length c.args.parents.now in
     let p = get_or c.args.parents.now c.loop-name.name 0 in
-    let first = set c.loop-name.next.items c.loop-name.name (get_or c.loop-name.next.items p 0) in
-    (
+    let first = set c.loop-name.next.items c.loop-name.name (get_or c.loop-name.next.items p 0) in (
       ap length c.link.ensures ∙ length-set first p c.loop-name.name ∙ length-set c.loop-name.next.items c.loop-name.name (get_or c.loop-name.next.items p 0) ∙ c.loop-name.invariant.0,
       subst (λ ns. Links (λ (v : ℕ). get_or ns v 0) (line (parent_in c.args.parents.now) r (c.loop-name.name + 1))) (sym c.link.ensures)
-      (line-links c.loop-name.next.items c.args.parents.now c.loop-name.name c.requires.tree c.loop-name-test.true c.loop-name.invariant.0 c.loop-name.invariant.1),
+          (line-links c.loop-name.next.items c.args.parents.now c.loop-name.name c.requires.tree c.loop-name-test.true c.loop-name.invariant.0 c.loop-name.invariant.1),
     )
 
 pub returns : goal.returns

@@ -20,8 +20,7 @@ loop-i-preserved c =
     let h = c.args.history.now in
     let i = c.loop-i.i in
     let at : c.last_name.result ≡ last_name (stack_at h i) = c.last_name.ensures ∙ ap last_name c.stack-stack.ensures in
-    let to : c.before_last.result ≡ before_last (live h) (stack_at h i) = c.before_last.ensures ∙ (λ k. before_last (c.live-live.ensures k) (c.stack-stack.ensures k)) in
-    (
+    let to : c.before_last.result ≡ before_last (live h) (stack_at h i) = c.before_last.ensures ∙ (λ k. before_last (c.live-live.ensures k) (c.stack-stack.ensures k)) in (
       length-set c.loop-i.parents.items c.last_name.result c.before_last.result ∙ c.loop-i.invariant.0,
       λ j low.
           (λ k. get_or (set c.loop-i.parents.items (at k) (to k)) (last_name (stack_at h j)) 0)

@@ -36,8 +36,7 @@ loop-k-preserved c =
     let value = length parents - 1 - c.loop-k.k in
     let long = names_line-length parents c.requires.tree in
     let next = ap (λ n. get_or c.args.next.now n 0) c.loop-k.invariant.1 in
-    let is : get_or c.args.next.now c.loop-k.name 0 ≡ get_or names (c.loop-k.k + 1) 0 = next ∙ links-at (λ (v : ℕ). get_or c.args.next.now v 0) names c.loop-k.k c.requires.links.links (omega (arith, c.loop-k-test.true)) in
-    (
+    let is : get_or c.args.next.now c.loop-k.name 0 ≡ get_or names (c.loop-k.k + 1) 0 = next ∙ links-at (λ (v : ℕ). get_or c.args.next.now v 0) names c.loop-k.k c.requires.links.links (omega (arith, c.loop-k-test.true)) in (
       length-set c.loop-k.places.items (get_or c.args.next.now c.loop-k.name 0) value ∙ c.loop-k.invariant.0,
       is,
       λ j low. ap (λ n. get_or (set c.loop-k.places.items n value) (get_or names (j + 1) 0) 0) is ∙ places_next parents c.requires.tree c.loop-k.places.items c.loop-k.k c.loop-k-test.true c.loop-k.invariant.0 c.loop-k.invariant.2 j low,
