@@ -1,5 +1,5 @@
 // Names and actions.
-ghost use Rattle.std.specs.Prelude.{◌≡◌, IfOk, OnOk, IsErrOf};
+ghost use Rattle.std.specs.Prelude.{◌≡◌, IfOk, OnOk, IsErrOf, codes};
 ghost use Rattle.std.specs.List.{list_all};
 ghost use Rattle.ml_base.specs.Name as name;
 
@@ -78,6 +78,21 @@ impl Name {
         })
     }
 
+    /// The name with these bytes, which are known to be one.
+    ///
+    /// # Errors
+    /// `NoMemory` alone.
+    ///
+    /// Cost: linear in the bytes.
+    pub fn from_bytes(alloc: Global, bytes: &[u8]) -> Result<Name, NoMemory>
+        requires { name.IsName bytes.now }
+        ensures { IfOk result (λ n. n ≡ bytes.now) }
+    {
+        Ok(Name {
+            bytes: Vec::from_slice(alloc, bytes)?,
+        })
+    }
+
     /// The bytes of the name.
     pub fn bytes(&self) -> &[u8]
         ensures value { result.now ≡ self.now }
@@ -141,6 +156,26 @@ impl Action {
         }
         Ok(Action {
             bytes: Vec::from_slice(alloc, text)?,
+        })
+    }
+
+    /// The action with the bytes of a name.
+    pub fn from_name(name: Name) -> Action
+        ensures { result ≡ name }
+    {
+        let Name { bytes } = name;
+        Action { bytes }
+    }
+
+    /// The action `_`.
+    ///
+    /// # Errors
+    /// `NoMemory` alone.
+    pub fn blank(alloc: Global) -> Result<Action, NoMemory>
+        ensures { IfOk result (λ a. a ≡ codes "_") }
+    {
+        Ok(Action {
+            bytes: Vec::from_slice(alloc, b"_")?,
         })
     }
 

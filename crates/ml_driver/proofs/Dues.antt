@@ -27,7 +27,7 @@ due_own text (Satisfiable f m) output short right is = (
   },
 )
 due_own text (Unsatisfiable f) output short right is =
-    (short, record { formula = f; is_parsed = right.0; is_in_form = right.1; holds_nowhere = right.2; is_written = is })
+    (short, record { formula = f; is_parsed = right.0; is_in_form = right.1; is_unsatisfiable = right.2; is_written = is })
 due_own text (RefusedText e) output short right is =
     by_text short (record { refusal = e; is_refused = right; is_written = is })
 due_own text RefusedForm output short right is =

@@ -12,7 +12,7 @@ use Rattle.ml_driver.specs.declared.command.Command.TheVariants.{DecideMu, Check
 use Rattle.ml_driver.specs.declared.status.Status.{Status}
 use Rattle.ml_driver.specs.declared.status.Status.TheVariants.{Yes, No, Undecided, Words, Text, ReadFault, WriteFault, NoMemory, Unconfirmed}
 use Rattle.ml_driver.specs.Statuses.{longest_input, refused_length}
-use Rattle.ml_driver.specs.Run.{by_length, document_by_length, IsDue, World, WasRead, Answered, FailedToWrite, Ended, Wrote}
+use Rattle.ml_driver.specs.Run.{by_length, document_by_length, IsDue, World, WasRead, IsWhole, Answered, FailedToWrite, Ended, Wrote}
 
 -- what is due is never a fault or want of memory
 no_fault_due : (c : Option Command) (text output : List ℕ) → IsDue c text ReadFault output → ⊥
@@ -41,8 +41,8 @@ answered_ended c w WriteFault answered = absurd (no_write_fault_due c answered.t
 answered_ended c w NoMemory answered = absurd (no_want_due c answered.text answered.output answered.is_due)
 answered_ended c w Unconfirmed answered = answered
 
-pub ended_written : (c : Option Command) (w : World) (text : List ℕ) (due : Status) (output : List ℕ) (status : Status) → WasRead c w text → w.source_faults_after ≡ w.source_faults_before → IsDue c text due output → Wrote w.taken_before w.taken_after w.sink_faults_before w.sink_faults_after due output status → Ended c w status
-ended_written c w text due output status read calm is_due wrote =
+pub ended_written : (c : Option Command) (w : World) (text : List ℕ) (due : Status) (output : List ℕ) (status : Status) → WasRead c w text → w.source_faults_after ≡ w.source_faults_before → IsDue c text due output → IsWhole output → Wrote w.taken_before w.taken_after w.sink_faults_before w.sink_faults_after due output status → Ended c w status
+ended_written c w text due output status read calm is_due whole_output wrote =
     ⊎_elim
     (λ (whole : (status ≡ due) × (w.taken_after ≡ append_known w.taken_before output) × (w.sink_faults_after ≡ w.sink_faults_before)).
     subst (Ended c w) (sym whole.0) (answered_ended c w due (record {
@@ -50,6 +50,7 @@ ended_written c w text due output status read calm is_due wrote =
       output = output;
       was_read = read;
       is_due = is_due;
+      is_whole = whole_output;
       was_taken = whole.1;
       is_calm = record { source_is_calm = calm; sink_is_calm = whole.2 };
     })))
@@ -60,6 +61,7 @@ ended_written c w text due output status read calm is_due wrote =
       output = output;
       was_read = read;
       is_due = is_due;
+      is_whole = whole_output;
       part_taken = part.1;
       source_is_calm = calm;
       sink_rose = part.2;

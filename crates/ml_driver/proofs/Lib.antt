@@ -1,5 +1,3 @@
--- the head of a document, line by line
-pub mod Heads
 -- how a call ends
 pub mod Endings
 -- what is due for an answer
@@ -8,3 +6,5 @@ pub mod Dues
 pub mod OneDue
 -- what is written is read back
 pub mod ReadBack
+-- some status is due
+pub mod SomeDue

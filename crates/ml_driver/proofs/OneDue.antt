@@ -7,7 +7,8 @@ use Rattle.std.proofs.Common.{◌≡◌, ℕ, ◌≤◌, List, length, Some, Non
 use Rattle.ml_mu.specs.Formula.{Formula}
 use Rattle.ml_mu.specs.Parsing.{IsParsedAs}
 use Rattle.ml_mu.proofs.OneAnswer.{one_formula, parsed_or_refused}
-use Rattle.ml_table.specs.Propositional.{IsInForm, HoldsNowhere}
+use Rattle.ml_mu.specs.Problem.{IsSatisfiable}
+use Rattle.ml_table.specs.Propositional.{plain, IsInForm}
 use Rattle.ml_model_check.specs.Checked.{Shows, ShowsNot}
 use Rattle.ml_model_check.specs.declared.checked.Checked.TheVariants as checked
 use Rattle.ml_model_check.proofs.OneCheck.{one_check}
@@ -32,7 +33,8 @@ same_formula text f g x y = one_formula text f g x.accepted.stands y.accepted.st
 sat_unsat : (text out more : List ℕ) → IsSatisfied text out → IsUnsatisfied text more → ⊥
 sat_unsat text out more x y =
     let same = same_formula text y.formula x.formula y.is_parsed x.is_parsed in
-    subst HoldsNowhere same y.holds_nowhere x.structure 0 x.holds.is_structure.has_state x.holds.holds
+    subst (λ f. ¬ (IsSatisfiable (plain f))) same y.is_unsatisfiable
+    (x.structure, x.holds.is_structure, (0, x.holds.is_structure.has_state, x.holds.holds))
 
 -- a text of a formula in form is refused for no reason
 in_form : (text more : List ℕ) (f : Formula) → length text ≤ longest_text → IsParsedAs text f → IsInForm f → IsRefused text more → ⊥

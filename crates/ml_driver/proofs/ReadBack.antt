@@ -5,11 +5,13 @@ use Rattle.std.proofs.Common.{refl, sym, subst, arith}
 use Rattle.ml_kripke.specs.Laws.{IsWritten}
 use Rattle.ml_table.specs.Propositional.{plain}
 use Rattle.ml_model_check.specs.Checked.{IsDocument}
+use Rattle.ml_mu.proofs.Parsed.{parsed_well}
 use Rattle.ml_model_check.proofs.ReadBack.{documents_read_back}
 use Rattle.ml_driver.specs.Laws.{DecidedAreChecked}
 
 pub decided_are_checked : DecidedAreChecked
-decided_are_checked text out short (fits, x) =
+decided_are_checked w done =
+    let x = done.is_due.1 in
     let m = x.structure in
     let p = plain x.formula in
     let written : IsWritten m 0 = record {
@@ -19,6 +21,7 @@ decided_are_checked text out short (fits, x) =
       is_state = x.holds.is_structure.has_state;
     }
     in
-    let shown : IsDocument out p m 0 =
-    subst (λ t. IsDocument t p m 0) (sym x.is_written) (documents_read_back text p m 0 x.is_parsed written x.holds.is_ordered) in
-    (short, (record { problem = p; structure = m; start = 0; is_document = shown; holds = x.holds.holds }, refl))
+    let shown : IsDocument done.output p m 0 =
+    subst (λ t. IsDocument t p m 0) (sym x.is_written)
+    (documents_read_back p m 0 (parsed_well done.text x.formula x.is_parsed) written x.holds.is_ordered) in
+    (done.is_whole, (record { problem = p; structure = m; start = 0; is_document = shown; holds = x.holds.holds }, refl))

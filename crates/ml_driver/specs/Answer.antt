@@ -7,7 +7,8 @@ use Rattle.std.specs.Prelude.{ℕ, ◌≡◌, List, Some}
 use Rattle.ml_kripke.specs.Ordered.{HasNames}
 use Rattle.ml_mu.specs.Parsing.{IsParsedAs, IsRefusedBy}
 use Rattle.ml_mu.specs.Formula.{Formula}
-use Rattle.ml_table.specs.Propositional.{plain, IsInForm, HoldsInModel, HoldsNowhere}
+use Rattle.ml_mu.specs.Problem.{IsSatisfiable}
+use Rattle.ml_table.specs.Propositional.{plain, IsInForm, HoldsInModel}
 use Rattle.ml_driver.specs.declared.answer.Answer.{Answer}
 use Rattle.ml_driver.specs.declared.answer.Answer.TheVariants.{Satisfiable, Unsatisfiable, RefusedText, RefusedForm}
 use Rattle.ml_driver.specs.declared.status.Status.{Status}
@@ -29,6 +30,6 @@ IsText RefusedForm out = out ≡ refused_form
 
 abbrev pub IsAnswer : List ℕ → Answer → Type 0
 IsAnswer text (Satisfiable f m) = IsParsedAs text f × IsInForm f × HoldsInModel f m.structure × (m.start ≡ 0)
-IsAnswer text (Unsatisfiable f) = IsParsedAs text f × IsInForm f × HoldsNowhere f
+IsAnswer text (Unsatisfiable f) = IsParsedAs text f × IsInForm f × ¬ (IsSatisfiable (plain f))
 IsAnswer text (RefusedText e) = IsRefusedBy text e
 IsAnswer text RefusedForm = (f : Formula) × IsParsedAs text f × (IsInForm f → ⊥)

@@ -6,7 +6,7 @@
 --
 --   IsSatisfied text out      == out is a document about the formula of the text, with a structure and a state at which
 --                                that formula holds
---   IsUnsatisfied text out    == out is a document about the formula of the text, which holds nowhere
+--   IsUnsatisfied text out    == out is a document about the formula of the text, which no structure satisfies
 --   IsRefused text out        == out says why the text is refused: by its length, by the parser, or by its form
 --   IsChecked text out        == out says that the problem of the document holds where the document says so
 --   IsRefuted text out        == out says that it doesn't
@@ -18,16 +18,20 @@
 --   IsCalm w                  == neither count of faults changed
 --   WasRead c w text          == the text was given for the command c: to its end, or past the limit on its length;
 --                                nothing was, where the words are no command
+--   GaveAtMost c w            == no more than the limit of the command c was given; nothing was, where the words are no
+--                                command
+--   IsWhole out               == out isn't longer than the documents that are read
 --   Ended c w status          == what is true when the call has answered this status
 use Rattle.std.specs.Prelude.{ℕ, ◌≡◌, ◌<◌, ◌≤◌, ◌⊎◌, List, [], length, Option, Some, None, IsSome}
 use Rattle.std.specs.Io.KnownBytes.{IsAtEnd, append_known, prepend_known}
 use Rattle.ml_base.specs.Faults.{Rose}
 use Rattle.ml_base.specs.Structure.{Structure}
-use Rattle.ml_base.specs.Whole.{AppendsPart}
+use Rattle.ml_base.specs.Whole.{AppendsPart, Gives}
 use Rattle.ml_kripke.specs.Ordered.{HasNames}
 use Rattle.ml_mu.specs.Formula.{Formula}
 use Rattle.ml_mu.specs.Parsing.{IsParsedAs, IsRefusedBy}
-use Rattle.ml_table.specs.Propositional.{plain, IsInForm, HoldsInModel, HoldsNowhere}
+use Rattle.ml_mu.specs.Problem.{IsSatisfiable}
+use Rattle.ml_table.specs.Propositional.{plain, IsInForm, HoldsInModel}
 use Rattle.ml_base.specs.declared.doc_fault.DocFault.{DocFault}
 use Rattle.ml_base.specs.declared.parse_refusal.ParseRefusal.{ParseRefusal}
 use Rattle.ml_model_check.specs.Checked.{Shows, ShowsNot, IsDocumentFault}
@@ -48,12 +52,12 @@ pub record IsSatisfied (text out : List ℕ) : Type 0 where
   pub holds : HoldsInModel formula structure
   pub is_written : out ≡ satisfiable_document (plain formula) structure 0
 
--- the formula holds at no state of any structure
+-- no structure has a state at which the formula holds
 pub record IsUnsatisfied (text out : List ℕ) : Type 0 where
   pub formula : Formula
   pub is_parsed : IsParsedAs text formula
   pub is_in_form : IsInForm formula
-  pub holds_nowhere : HoldsNowhere formula
+  pub is_unsatisfiable : ¬ (IsSatisfiable (plain formula))
   pub is_written : out ≡ unsatisfiable_document (plain formula)
 
 -- the parser refuses the text, for this cause and at this byte
@@ -73,7 +77,7 @@ pub record IsOutOfForm (text out : List ℕ) : Type 0 where
 abbrev pub IsTooLong : Command → List ℕ → List ℕ → Type 0
 IsTooLong c text out = (longest_input c < length text) × (out ≡ refused_length)
 
--- the four reasons to refuse the input
+-- the three reasons to refuse the input
 pub data IsRefused (text out : List ℕ) : Type 0 where
   by_length : IsTooLong DecideMu text out → IsRefused text out
   by_text : length text ≤ longest_text → IsRefusedText text out → IsRefused text out
@@ -127,18 +131,28 @@ WasRead None w text = (w.left_after ≡ w.left_before) × (text ≡ [])
 WasRead (Some c) w text =
     (w.left_before ≡ prepend_known text w.left_after) × (IsAtEnd w.left_after ⊎ (longest_input c < length text))
 
+abbrev pub GaveAtMost : Option Command → World → Type 0
+GaveAtMost None w = w.left_after ≡ w.left_before
+GaveAtMost (Some c) w = Gives w.left_before w.left_after (λ given. length given ≤ longest_input c)
+
+-- no output is longer than the documents that are read
+abbrev pub IsWhole : List ℕ → Type 0
+IsWhole out = length out ≤ longest_document
+
 -- the call answered: the whole of what is due was taken
 pub record Answered (c : Option Command) (w : World) (status : Status) : Type 0 where
   pub text : List ℕ
   pub output : List ℕ
   pub was_read : WasRead c w text
   pub is_due : IsDue c text status output
+  pub is_whole : IsWhole output
   pub was_taken : w.taken_after ≡ append_known w.taken_before output
   pub is_calm : IsCalm w
 
--- the source failed: nothing was written
+-- the source failed: what it had given is gone, and nothing was written
 pub record FailedToRead (c : Option Command) (w : World) : Type 0 where
   pub is_command : IsSome c
+  pub gave_at_most : GaveAtMost c w
   pub source_rose : Rose w.source_faults_before w.source_faults_after
   pub sink_is_calm : w.sink_faults_after ≡ w.sink_faults_before
   pub nothing_taken : w.taken_after ≡ w.taken_before
@@ -150,12 +164,14 @@ pub record FailedToWrite (c : Option Command) (w : World) : Type 0 where
   pub output : List ℕ
   pub was_read : WasRead c w text
   pub is_due : IsDue c text status output
+  pub is_whole : IsWhole output
   pub part_taken : AppendsPart w.taken_before w.taken_after output
   pub source_is_calm : w.source_faults_after ≡ w.source_faults_before
   pub sink_rose : Rose w.sink_faults_before w.sink_faults_after
 
--- memory was wanting: nothing was written
-pub record LackedMemory (w : World) : Type 0 where
+-- memory was wanting: what the source had given is gone, and nothing was written
+pub record LackedMemory (c : Option Command) (w : World) : Type 0 where
+  pub gave_at_most : GaveAtMost c w
   pub nothing_taken : w.taken_after ≡ w.taken_before
   pub is_calm : IsCalm w
 
@@ -167,7 +183,7 @@ Ended c w Words = Answered c w Words
 Ended c w Text = Answered c w Text
 Ended c w ReadFault = FailedToRead c w
 Ended c w WriteFault = FailedToWrite c w
-Ended c w NoMemory = LackedMemory w
+Ended c w NoMemory = LackedMemory c w
 Ended c w Unconfirmed = Answered c w Unconfirmed
 
 -- a status and its output were due, and were written: the whole of it, or a part where the sink failed

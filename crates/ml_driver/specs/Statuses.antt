@@ -11,13 +11,14 @@
 --   fails_line       == the line for one whose problem doesn't
 --   refused_document f == the line for a document that can't be read: its first bad line, and the rule that it breaks
 --   refusal_line e   == the line for a text that the parser refuses: the number of its cause, and the byte
-use Rattle.std.specs.Prelude.{ℕ, ◌^◌, ◌-◌, List, [], ◌∷◌, codes, Option, Some, None}
+use Rattle.std.specs.Prelude.{ℕ, List, [], ◌∷◌, codes, Option, Some, None}
 use Rattle.ml_base.specs.declared.doc_fault.DocFault.{DocFault}
 use Rattle.ml_base.specs.declared.parse_refusal.ParseRefusal.{ParseRefusal}
 use Rattle.ml_base.specs.declared.parse_refusal.ParseRefusal.TheVariants as refusal
 use Rattle.ml_lines.specs.Lines.{number, line_text}
 use Rattle.ml_driver.specs.declared.command.Command.{Command}
 use Rattle.ml_driver.specs.declared.command.Command.TheVariants.{DecideMu, CheckModel}
+use Rattle.ml_driver.specs.declared.command.TheConstants.{LONGEST_TEXT, LONGEST_DOCUMENT}
 use Rattle.ml_driver.specs.declared.status.Status.{Status}
 use Rattle.ml_driver.specs.declared.status.Status.TheVariants.{Yes, No, Undecided, Words, Text, ReadFault, WriteFault, NoMemory, Unconfirmed}
 
@@ -39,10 +40,10 @@ abbrev pub refused_form : List ℕ
 refused_form = line_text (codes "refused" ∷ codes "form" ∷ [])
 
 abbrev pub longest_text : ℕ
-longest_text = 1048576
+longest_text = LONGEST_TEXT
 
 abbrev pub longest_document : ℕ
-longest_document = 2 ^ 63 - 1
+longest_document = LONGEST_DOCUMENT
 
 abbrev pub longest_input : Command → ℕ
 longest_input DecideMu = longest_text

@@ -1,18 +1,17 @@
 // Answers, and their output.
-ghost use Rattle.std.specs.Prelude.{◌≡◌, ◌++◌, [], ◌∷◌, codes, IfOk, OnOk, Some};
-ghost use Rattle.ml_lines.specs.Lines.{line_text, number, text_of};
+ghost use Rattle.std.specs.Prelude.{◌≡◌, IfOk, OnOk, Some};
 ghost use Rattle.ml_kripke.specs.Ordered.{HasNames};
 ghost use Rattle.ml_table.specs.Propositional.{plain};
 ghost use Rattle.ml_driver.specs.Document as document;
-ghost use Rattle.ml_driver.specs.Document.{plain_head};
 ghost use Rattle.ml_driver.specs.Statuses as statuses;
 ghost use Rattle.ml_driver.specs.Answer.{status_of, IsText};
 
 use crate::Status;
 use ml_base::{NoMemory, ParseRefusal};
-use ml_kripke::{Model, write_model};
+use ml_front::append_head;
+use ml_kripke::{Model, append_model};
 use ml_lines::{end_line, write_next_number, write_next_word, write_word};
-use ml_mu::{Formula, print};
+use ml_mu::Formula;
 use std::alloc::Global;
 
 /// What the program found.
@@ -91,7 +90,7 @@ fn unsatisfiable_document(alloc: Global, formula: &Formula) -> Result<Vec<u8>, N
     ensures { IfOk result (λ output. output.items ≡ document.unsatisfiable_document (plain formula.now)) }
 {
     let mut output = Vec::new(alloc);
-    write_head(alloc, &mut output, b"unsatisfiable", formula)?;
+    append_head(&mut output, ml_front::Answer::Unsatisfiable, formula, false)?;
     output.extend_from_slice(b"end\n")?;
     Ok(output)
 }
@@ -106,41 +105,7 @@ fn satisfiable_document(
     ensures named { OnOk result (HasNames model.now.structure) }
 {
     let mut output = Vec::new(alloc);
-    write_head(alloc, &mut output, b"satisfiable", formula)?;
-    output.extend_from_slice(&write_model(alloc, model)?)?;
+    append_head(&mut output, ml_front::Answer::Satisfiable, formula, false)?;
+    append_model(&mut output, model)?;
     Ok(output)
-}
-
-// the head of a document in the plain sense
-fn write_head(
-    alloc: Global,
-    output: &mut Vec<u8>,
-    answer: &[u8],
-    formula: &Formula,
-) -> Result<(), NoMemory>
-    ensures { OnOk result (output.new.items ≡ output.old.items ++ text_of (plain_head answer.now formula.now)) }
-{
-    let text = print(alloc, formula)?;
-    write_first_line(output)?;
-    write_pair(output, b"answer", answer)?;
-    write_pair(output, b"logic", b"mu")?;
-    write_pair(output, b"sense", b"plain")?;
-    write_pair(output, b"formula", &text)?;
-    Ok(())
-}
-
-fn write_first_line(output: &mut Vec<u8>) -> Result<(), NoMemory>
-    ensures { OnOk result (output.new.items ≡ output.old.items ++ line_text (codes "mlsolver" ∷ number 1 ∷ [])) }
-{
-    write_word(output, b"mlsolver")?;
-    write_next_number(output, 1)?;
-    end_line(output)
-}
-
-fn write_pair(output: &mut Vec<u8>, first: &[u8], second: &[u8]) -> Result<(), NoMemory>
-    ensures { OnOk result (output.new.items ≡ output.old.items ++ line_text (first.now ∷ second.now ∷ [])) }
-{
-    write_word(output, first)?;
-    write_next_word(output, second)?;
-    end_line(output)
 }

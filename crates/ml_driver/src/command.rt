@@ -12,9 +12,11 @@ pub enum Command {
     CheckModel,
 }
 
-const LONGEST_TEXT: u64 = 1_048_576;
+/// How many bytes a formula's text has at most.
+pub const LONGEST_TEXT: u64 = 1_048_576;
 
-const LONGEST_DOCUMENT: u64 = 0x7fff_ffff_ffff_ffff;
+/// How many bytes a document has at most, 2^63 - 1: no slice of bytes is longer.
+pub const LONGEST_DOCUMENT: u64 = 0x7fff_ffff_ffff_ffff;
 
 impl Command {
     ghost use Rattle.ml_driver.specs.Statuses.{longest_input};

@@ -1,13 +1,14 @@
 // What holds of what is due by its definition alone: the functions do nothing, their contracts are the theorems.
-ghost use Rattle.ml_driver.specs.Laws.{DecidedAreChecked, OneDue};
+ghost use Rattle.ml_driver.specs.Laws.{DecidedAreChecked, OneDue, SomeDue};
 
-/// For a command, or words that are none, and an input, one status is due at most. So `run` answers each status exactly
+/// For a command, or words that are none, and an input, exactly one status is due. So `run` answers each status exactly
 /// where it is due, unless an end failed or memory was wanting.
 pub fn one_due()
-    ensures { OneDue }
+    ensures some { SomeDue }
+    ensures one { OneDue }
 {}
 
-/// A document that `decide mu` writes with a structure is one of which `check-model` answers that its problem holds.
+/// A document that `decide mu` wrote with a structure is one of which `check-model` answers that its problem holds.
 pub fn decided_are_checked()
     ensures { DecidedAreChecked }
 {}

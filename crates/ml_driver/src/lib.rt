@@ -15,6 +15,6 @@ pub mod laws;
 mod status;
 mod top;
 
-pub use command::{Command, command_of};
+pub use command::{Command, LONGEST_DOCUMENT, LONGEST_TEXT, command_of};
 pub use status::Status;
 pub use top::run;

@@ -3,7 +3,7 @@ ghost use Rattle.std.specs.Prelude.{◌≤◌, length, map, IfOk, Some};
 ghost use Rattle.std.specs.String.{string_bytes};
 ghost use Rattle.ml_driver.specs.Words as command_line;
 ghost use Rattle.ml_driver.specs.Statuses.{longest_input};
-ghost use Rattle.ml_driver.specs.Run.{Ended, IsDue, Wrote};
+ghost use Rattle.ml_driver.specs.Run.{Ended, IsDue, IsWhole, Wrote};
 
 use crate::answer::Output;
 use crate::check::check_model;
@@ -72,7 +72,8 @@ fn outcome(alloc: Global, command: Command, text: &[u8]) -> Result<Output, NoMem
 
 // the status that is due, once its output is written
 fn written<K: Sink>(sink: &mut K, due: Status, output: &[u8]) -> Status
-    ensures { Wrote (K.taken sink.old) (K.taken sink.new) (K.faults sink.old) (K.faults sink.new) due output.now result }
+    ensures wrote { Wrote (K.taken sink.old) (K.taken sink.new) (K.faults sink.old) (K.faults sink.new) due output.now result }
+    ensures is_whole { IsWhole output.now }
 {
     match write_all(sink, output) {
         Ok(()) => due,

@@ -19,8 +19,9 @@ use Rattle.std.proofs.lemmas.List.Elements.{All-contains, All-map}
 use Rattle.std.proofs.lemmas.List.FromFn.{length-map-range_with_len, get_or-map-range_with_len}
 use Rattle.ml_base.specs.declared.structure.Edge.{Edge}
 use Rattle.ml_base.specs.Structure.{Structure, IsStructure}
-use Rattle.ml_kripke.specs.Ordered.{IsOrdered, IsBuiltFrom, first_bad_state, labels_at, edge_cmp}
-use Rattle.ml_kripke.proofs.Members.{contains_none, All-of_members}
+use Rattle.ml_kripke.specs.Ordered.{IsOrdered, IsBuiltFrom, first_bad_state, labels_at}
+use Rattle.ml_base.specs.EdgeOrder.{edge_cmp}
+use Rattle.ml_lists.proofs.Members.{contains_none, All-of_members}
 use Rattle.ml_kripke.proofs.Range.{all_in_range}
 use Rattle.ml_kripke.proofs.RowOrder.{label_cmp, labels_at-ascends, labels_at-contains, labels_at-contained}
 
@@ -44,7 +45,9 @@ module _ (n : ℕ) (ls sorted_ls : List (ℕ × List ℕ)) (es sorted_es : List 
           (all_in_range n ls es none).1;
     }
 
-    pub is_ordered : IsStrictlySortedBy label_cmp sorted_ls → IsStrictlySortedBy edge_cmp sorted_es → IsOrdered structure_of
+    pub is_ordered : IsStrictlySortedBy label_cmp sorted_ls
+        → IsStrictlySortedBy edge_cmp sorted_es
+        → IsOrdered structure_of
     is_ordered ls_ascend es_ascend = record {
       labels_ascend =
           subst (All (IsStrictlySortedBy (slice_cmp nat_cmp))) (sym rows_are)

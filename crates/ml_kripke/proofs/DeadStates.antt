@@ -18,7 +18,7 @@ use Rattle.std.proofs.lemmas.Bool.Decides.{nat_tests}
 use Rattle.std.proofs.lemmas.List.{drop_more, drop_all}
 use Rattle.ml_base.specs.declared.structure.Edge.{Edge}
 use Rattle.ml_base.specs.Structure.{Structure}
-use Rattle.ml_kripke.specs.Ordered.{edge_cmp}
+use Rattle.ml_base.specs.EdgeOrder.{edge_cmp}
 use Rattle.ml_kripke.specs.Total.{IsTotal, IsLeastDead}
 
 abbrev pub leaves : List ℕ → ℕ → Edge → Bool
@@ -67,7 +67,11 @@ by_source e f less = go (nat_lt e.source f.source) refl (e.source == f.source) r
     go false is true at below = grind (arith, nat_tests)
     go false is false at below = absurd (cc)
 
-later_sources : (a : List ℕ) (e : Edge) (t : ℕ) → t < e.source → (es : List Edge) → AllByRecursion (λ f. edge_cmp e f ≡ Less) es → some_leaves a es t ≡ false
+later_sources : (a : List ℕ) (e : Edge) (t : ℕ)
+    → t < e.source
+    → (es : List Edge)
+    → AllByRecursion (λ f. edge_cmp e f ≡ Less) es
+    → some_leaves a es t ≡ false
 later_sources a e t below [] all = refl
 later_sources a e t below (f ∷ es) all =
     let above = by_source e f all.0 in
@@ -78,7 +82,10 @@ abbrev Found : List ℕ → List Edge → ℕ → Type 0
 Found a es s = IsDead a es s (dead_from a es s)
 
 -- the first edge leads on from a later state
-stopped : (a : List ℕ) (e : Edge) (es : List Edge) (s : ℕ) → s < e.source → AllByRecursion (λ f. edge_cmp e f ≡ Less) es → IsDead a (e ∷ es) s s
+stopped : (a : List ℕ) (e : Edge) (es : List Edge) (s : ℕ)
+    → s < e.source
+    → AllByRecursion (λ f. edge_cmp e f ≡ Less) es
+    → IsDead a (e ∷ es) s s
 stopped a e es s below all = record {
   not_before = omega arith;
   go_on = λ t from to. absurd (omega (arith, from, to));
@@ -86,7 +93,10 @@ stopped a e es s below all = record {
 }
 
 -- one more edge in front, which leads from s by the action
-led_on : (a : List ℕ) (e : Edge) (es : List Edge) (s d : ℕ) → leaves a s e ≡ true → IsDead a es (s + 1) d → IsDead a (e ∷ es) s d
+led_on : (a : List ℕ) (e : Edge) (es : List Edge) (s d : ℕ)
+    → leaves a s e ≡ true
+    → IsDead a es (s + 1) d
+    → IsDead a (e ∷ es) s d
 led_on a e es s d here rest =
     let source = from_source a e s here in
     record {
@@ -108,7 +118,11 @@ led_on a e es s d here rest =
         subst (λ u. some_leaves a (e ∷ es) u ≡ true) same (ap (λ b. b || some_leaves a es s) here)
 
 -- one more edge in front, which leads from no state from s on, or by another action
-passed : (a : List ℕ) (e : Edge) (es : List Edge) (s d : ℕ) → e.source ≤ s → leaves a s e ≡ false → IsDead a es s d → IsDead a (e ∷ es) s d
+passed : (a : List ℕ) (e : Edge) (es : List Edge) (s d : ℕ)
+    → e.source ≤ s
+    → leaves a s e ≡ false
+    → IsDead a es s d
+    → IsDead a (e ∷ es) s d
 passed a e es s d source here rest = record {
   not_before = rest.not_before;
   go_on = λ t from to. or_true (leaves a t e) (some_leaves a es t) (rest.go_on t from to);
@@ -152,7 +166,11 @@ walk_ends a es i s past = ap (λ fs. dead_from a fs s) (drop_all i es past)
 
 -- ---- what is found in a structure
 
-pub least_dead : (m : Structure) (a : List ℕ) (d : ℕ) → IsStrictlySortedBy edge_cmp m.edges → dead_from a m.edges 0 ≡ d → d < m.states → IsLeastDead m a d
+pub least_dead : (m : Structure) (a : List ℕ) (d : ℕ)
+    → IsStrictlySortedBy edge_cmp m.edges
+    → dead_from a m.edges 0 ≡ d
+    → d < m.states
+    → IsLeastDead m a d
 least_dead m a d ascends is below =
     let found = subst (IsDead a m.edges 0) is (dead_found a m.edges 0 ascends) in
     record {
@@ -161,11 +179,17 @@ least_dead m a d ascends is below =
       others_go_on = λ t less. found.go_on t (omega arith) less;
     }
 
-pub all_go_on : (m : Structure) (a : List ℕ) (d : ℕ) → IsStrictlySortedBy edge_cmp m.edges → dead_from a m.edges 0 ≡ d → (d < m.states → ⊥) → IsTotal m a
+pub all_go_on : (m : Structure) (a : List ℕ) (d : ℕ)
+    → IsStrictlySortedBy edge_cmp m.edges
+    → dead_from a m.edges 0 ≡ d
+    → (d < m.states → ⊥)
+    → IsTotal m a
 all_go_on m a d ascends is past =
     let found = subst (IsDead a m.edges 0) is (dead_found a m.edges 0 ascends) in
     λ s below. found.go_on s (omega arith) (omega (arith, below, past))
 
-pub total_or_dead : (m : Structure) (a : List ℕ) (o : Option ℕ) → MatchOption o (IsTotal m a) (IsLeastDead m a) → IsTrue (is_none o) ↔ IsTotal m a
+pub total_or_dead : (m : Structure) (a : List ℕ) (o : Option ℕ)
+    → MatchOption o (IsTotal m a) (IsLeastDead m a)
+    → IsTrue (is_none o) ↔ IsTotal m a
 total_or_dead m a None total = (λ is. total, λ is. refl)
 total_or_dead m a (Some s) dead = (λ none. absurd (cc), λ total. absurd (dead.is_dead (total s dead.is_state)))

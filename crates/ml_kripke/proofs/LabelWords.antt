@@ -13,8 +13,9 @@ use Rattle.std.proofs.lemmas.List.Elements.{All-nil, All-cons, All-head, All-tai
 use Rattle.ml_base.specs.Name.{IsName}
 use Rattle.ml_lines.specs.Lines.{Word}
 use Rattle.ml_lines.specs.Reading.{words_of, words_behind}
-use Rattle.ml_kripke.specs.BodyParts.{Ascend, Above, last_of}
-use Rattle.ml_kripke.proofs.Chains.{Chain, chain_push, chain_at, chain_sorted, sorted_chain}
+use Rattle.ml_lists.specs.Chains.{Above, Chain, last_of}
+use Rattle.ml_kripke.specs.private.BodyParts.{Ascend}
+use Rattle.ml_lists.proofs.Chains.{chain_push, chain_at, chain_sorted, sorted_chain}
 
 pub record AreLabelsTo (all labels : List Word) (rest : Option (List ℕ)) : Type 0 where
   pub whole : all ≡ labels ++ words_behind rest
@@ -36,7 +37,9 @@ module _ (all labels : List Word) (text : List ℕ) (w : Word) (behind : Option 
   whole_is : all ≡ labels ++ w ∷ words_behind behind
   whole_is = so_far.whole ∙ ap (λ rest. labels ++ rest) is
 
-  pub label_read : IsName w → Above (slice_cmp nat_cmp) (last_of None labels) w → AreLabelsTo all (labels ++ w ∷ []) behind
+  pub label_read : IsName w
+      → Above (slice_cmp nat_cmp) (last_of None labels) w
+      → AreLabelsTo all (labels ++ w ∷ []) behind
   label_read name above = record {
     whole = whole_is ∙ sym (append_assoc labels (w ∷ []) (words_behind behind));
     named = named_push labels w so_far.named name;
@@ -51,7 +54,9 @@ module _ (all labels : List Word) (text : List ℕ) (w : Word) (behind : Option 
       none (chain_at (slice_cmp nat_cmp) None labels w (words_behind behind)
       (sorted_chain (slice_cmp nat_cmp) (labels ++ w ∷ words_behind behind) (subst Ascend whole_is labels_ok.1)))
 
-pub labels_done : (all labels : List Word) → AreLabelsTo all labels None → (labels ≡ all) × All IsName labels × Ascend labels
+pub labels_done : (all labels : List Word)
+    → AreLabelsTo all labels None
+    → (labels ≡ all) × All IsName labels × Ascend labels
 labels_done all labels so_far = (
   sym (so_far.whole ∙ append-nil labels),
   so_far.named,

@@ -1,43 +1,29 @@
--- A text has one first bad line at most.
+-- A text is a model's or has one first bad line, and never both.
 --
---   same_rule        == two lowest rules that a line breaks have one number
---   one_bad          == of some lines one is the first bad one, with one rule
---   fault_or_model   == the text of a model has none
---   one_fault        == a text has one at most
-use Rattle.std.proofs.Common.{◌≡◌, ℕ, ◌+◌, ◌<◌, ◌⊎◌, List, [], ◌∷◌, inl, inr, sym, ◌∙◌, subst}
-use Rattle.std.proofs.lemmas.Bool.{cases_order}
-use Rattle.ml_lines.specs.Lines.{Line}
-use Rattle.ml_lines.specs.Reading.{lines_of, left_of}
-use Rattle.ml_kripke.specs.BodyRules.{Place, AtStates, after, IsLowest, IsFirstBad, IsReadable, rule_number}
-use Rattle.ml_kripke.specs.Laws.{FaultOrModel, OneFault}
-use Rattle.ml_kripke.specs.declared.body_rule.BodyRule.{BodyRule}
-use Rattle.ml_kripke.proofs.Faults.{good_no_bad}
-use Rattle.ml_kripke.proofs.Whole.{text_readable}
+--   fault_or_model   == never both
+--   model_or_fault   == one of the two
+--   one_fault        == a text has one first bad line at most
+use Rattle.std.proofs.Common.{⊎_elim, inl, inr}
+use Rattle.ml_base.specs.declared.doc_fault.DocFault.{DocFault}
+use Rattle.ml_lines.specs.Reading.{left_of}
+use Rattle.ml_lines.proofs.Faults as text
+use Rattle.ml_kripke.specs.BodyRules.{AtStates, body, IsFaultOf, IsReadableBody}
+use Rattle.ml_kripke.specs.Laws.{FaultOrModel, ModelOrFault, OneFault, ReadableIsModel}
+use Rattle.ml_kripke.proofs.JudgedLines.{judges}
+use Rattle.ml_kripke.proofs.ReadableBodies.{model_readable, readable_model}
 
-same_rule : (left : List ℕ) (place : Place) (line : Line) (r s : BodyRule) → IsLowest left place r line → IsLowest left place s line
-    → rule_number r ≡ rule_number s
-same_rule left place line r s low_r low_s = go (cases_order (rule_number r) (rule_number s))
-  where
-    go : (rule_number r ≡ rule_number s) ⊎ ((rule_number r < rule_number s) ⊎ (rule_number s < rule_number r)) → rule_number r ≡ rule_number s
-    go (inl same) = same
-    go (inr (inl below)) = absurd (low_r.breaks (low_s.keeps_lower r below))
-    go (inr (inr above)) = absurd (low_s.breaks (low_r.keeps_lower s above))
-
-pub one_bad : (left : List ℕ) (k : ℕ) (place : Place) (lines : List Line) (b c : ℕ) (r s : BodyRule) → IsFirstBad left k place lines b r
-    → IsFirstBad left k place lines c s → (b ≡ c) × (rule_number r ≡ rule_number s)
-one_bad left k place [] b c r s x y = (x.0 ∙ sym y.0, same_rule left place [] r s x.1 y.1)
-one_bad left k place (line ∷ lines) b c r s (inl x) (inl y) = (x.0 ∙ sym y.0, same_rule left place line r s x.1 y.1)
-one_bad left k place (line ∷ lines) b c r s (inl x) (inr y) = absurd (x.1.breaks (y.0 r))
-one_bad left k place (line ∷ lines) b c r s (inr x) (inl y) = absurd (y.1.breaks (x.0 s))
-one_bad left k place (line ∷ lines) b c r s (inr x) (inr y) = one_bad left (k + 1) (after place line) lines b c r s x.1 y.1
+pub readable_is_model : ReadableIsModel
+readable_is_model t = (readable_model t, model_readable t)
 
 pub fault_or_model : FaultOrModel
-fault_or_model text first fault (m, s, ok, order, same) found =
-    good_no_bad (left_of text) first AtStates (lines_of text) fault.line found.0
-    (subst (λ t. IsReadable (left_of t) AtStates (lines_of t)) (sym same) (text_readable m s ok order)) found.2
+fault_or_model t first fault is found = text.readable_no_fault body first AtStates t fault (model_readable t is) found
+
+pub model_or_fault : ModelOrFault
+model_or_fault t first =
+    ⊎_elim
+    (λ (readable : IsReadableBody t). inl (readable_model t readable))
+    (λ (fault : (f : DocFault) × IsFaultOf t first f). inr fault)
+    (text.readable_or_fault body first AtStates t (judges (left_of t)))
 
 pub one_fault : OneFault
-one_fault text first e f x y =
-    let bad = one_bad (left_of text) first AtStates (lines_of text) e.line f.line x.0 y.0 x.2 y.2 in
-    let line_same : e.line ≡ f.line = bad.0 in
-    let rule_same : e.rule ≡ f.rule = x.1 ∙ bad.1 ∙ sym y.1 in λ i. record { line = line_same i; rule = rule_same i }
+one_fault t first e f x y = text.one_fault body first AtStates t e f x y

@@ -13,8 +13,8 @@ use Rattle.std.proofs.lemmas.Cmp.{on_total, then_total, nat_cmp_total, nat_list_
 use Rattle.std.proofs.lemmas.List.{same_lists, get_or_default}
 use Rattle.ml_base.specs.declared.structure.Edge.{Edge}
 use Rattle.ml_kripke.specs.Laws.{OneStructure}
-use Rattle.ml_kripke.specs.Ordered.{edge_cmp}
-use Rattle.ml_kripke.proofs.Unique.{same_from_members}
+use Rattle.ml_base.specs.EdgeOrder.{edge_cmp}
+use Rattle.ml_lists.proofs.StrictlySorted.{same_from_members}
 
 numbers_exact : (x y : ℕ) → nat_cmp x y ≡ Equal → x ≡ y
 numbers_exact x y e = grind (arith, nat_tests)

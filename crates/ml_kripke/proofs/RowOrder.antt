@@ -14,7 +14,7 @@ use Rattle.std.proofs.lemmas.Cmp.{tied_itself, nat_cmp_total}
 use Rattle.std.proofs.lemmas.Bool.{true≢false}
 use Rattle.std.proofs.lemmas.Bool.Decides.{nat_tests}
 use Rattle.ml_kripke.specs.Ordered.{labels_at}
-use Rattle.ml_kripke.proofs.Members.{contains_head, contains_later, contains_cases, contains_none}
+use Rattle.ml_lists.proofs.Members.{contains_head, contains_later, contains_cases, contains_none}
 
 abbrev Label : Type 0
 Label = ℕ × List ℕ
@@ -47,7 +47,9 @@ above x s e (y ∷ ys) all = go (at s y) refl (above x s e ys all.1)
     go true is rest = (sym (by_name x y (e ∙ sym (same_state y.0 s is))) ∙ all.0, rest)
     go false is rest = rest
 
-pub labels_at-ascends : (s : ℕ) (xs : List Label) → IsStrictlySortedBy label_cmp xs → IsStrictlySortedBy (slice_cmp nat_cmp) (labels_at xs s)
+pub labels_at-ascends : (s : ℕ) (xs : List Label)
+    → IsStrictlySortedBy label_cmp xs
+    → IsStrictlySortedBy (slice_cmp nat_cmp) (labels_at xs s)
 unfolding IsStrictlySortedBy
 labels_at-ascends s [] ascends = ascends
 labels_at-ascends s (x ∷ xs) ascends = go (at s x) refl (labels_at-ascends s xs ascends.1)
@@ -75,7 +77,10 @@ pub labels_at-contained : (s : ℕ) (xs : List Label) (p : List ℕ) → Contain
 labels_at-contained s [] p h = absurd (contains_none (s, p) h)
 labels_at-contained s (x ∷ xs) p h = go (at s x) refl (contains_cases x xs (s, p) h) (labels_at-contained s xs p)
   where
-    go : (b : Bool) → at s x ≡ b → (x ≡ (s, p)) ⊎ Contains xs (s, p) → (Contains xs (s, p) → Contains (labels_at xs s) p)
+    go : (b : Bool)
+        → at s x ≡ b
+        → (x ≡ (s, p)) ⊎ Contains xs (s, p)
+        → (Contains xs (s, p) → Contains (labels_at xs s) p)
         → Contains (map name_of (cond b (x ∷ filter (at s) xs) (filter (at s) xs))) p
     go true is found rest =
         ⊎_elim

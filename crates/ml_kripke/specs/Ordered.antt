@@ -4,7 +4,6 @@
 -- the edges ascend by source, action bytes and target. Nothing stands twice. So two structures with the same states,
 -- labels and edges are the same value, and have the same text.
 --
---   edge_cmp e f                 == the order of edges: by source, then by the bytes of the action, then by target
 --   of_parts n ls es             == the structure of n states with the labels ls of each and the edges es
 --   IsOrdered m                  == the labels of each state, and the edges, strictly ascend
 --   HasNames m                   == each label is a name, and each action is one
@@ -16,15 +15,12 @@
 use Rattle.std.specs.Prelude.{ℕ, ◌≡◌, ◌↔◌, ◌==◌, ◌++◌, List, [], ◌∷◌, Option, map, filter, find, nat_le, slice_index_or, Contains, All}
 use Rattle.std.specs.List.{flat_map}
 use Rattle.std.specs.List.Sorted.{IsStrictlySortedBy}
-use Rattle.std.specs.Ordering.{nat_cmp, ordering_then}
-use Rattle.std.specs.declared.cmp.Ordering.{Ordering}
+use Rattle.std.specs.Ordering.{nat_cmp}
 use Rattle.std.specs.Cmp.Lexicographic.{slice_cmp}
 use Rattle.ml_base.specs.declared.structure.Edge.{Edge}
+use Rattle.ml_base.specs.EdgeOrder.{edge_cmp}
 use Rattle.ml_base.specs.Name.{IsName, IsAction}
 use Rattle.ml_base.specs.Structure.{Structure}
-
-abbrev pub edge_cmp : Edge → Edge → Ordering
-edge_cmp e f = ordering_then (nat_cmp e.source f.source) (ordering_then (slice_cmp nat_cmp e.action f.action) (nat_cmp e.target f.target))
 
 -- the structure with this many states, these labels of each state, and these edges
 abbrev pub of_parts : ℕ → List (List (List ℕ)) → List Edge → Structure

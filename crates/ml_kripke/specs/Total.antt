@@ -1,7 +1,8 @@
 -- Structures in which each state goes on by an action.
 --
 -- In some logics every state has an edge, in others none need have one: so that each state has an edge by an action is
--- said of a structure, not built in. A state without one is told by its number, the least such state first.
+-- said of a structure, not built in. A state without one, a deadlock of that action, is told by its number, the least
+-- such state first.
 --
 --   goes_on m a s       == does an edge by the action a leave the state s of m?
 --   IsTotal m a         == each state of m goes on by the action a

@@ -1,5 +1,5 @@
 // What holds of ordered structures, whoever made them.
-ghost use Rattle.ml_kripke.specs.Laws.{FaultOrModel, OneFault, OneStructure, OneText};
+ghost use Rattle.ml_kripke.specs.Laws.{FaultOrModel, ModelOrFault, OneFault, OneStructure, OneText, ReadableIsModel};
 
 /// Two structures in order with the same number of states, the same labels at each state and the same edges are one:
 /// so what `Structure::build` answers is determined by what it is given.
@@ -12,9 +12,12 @@ pub fn one_text()
     ensures { OneText }
 {}
 
-/// A text is a model's or has a first bad line, never both, and it has one first bad line at most: so `read_model`
-/// answers each exactly where it is said to come.
+/// A text is a model's or has a first bad line, exactly one of the two, and it has one first bad line at most: so
+/// `read_model` answers each exactly where it is said to come, but for want of memory. It is a model's exactly where no
+/// line is bad.
 pub fn one_fault()
+    ensures one { ModelOrFault }
     ensures exclusive { FaultOrModel }
     ensures fault { OneFault }
+    ensures readable { ReadableIsModel }
 {}

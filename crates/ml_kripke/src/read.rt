@@ -1,13 +1,14 @@
 // Reading a model from its text.
 ghost use Rattle.std.specs.Prelude.{◌≡◌, ◌<◌, ◌≤◌, ◌+◌, ◌^◌, [], ◌∷◌, length, map, None, IfOk, IfErr, IsErrOf};
 ghost use Rattle.ml_kripke.specs.BodyRules.{AtStates, AtStart, AtEdge, AtNothing, at_state, rule_number, IsFaultOf};
-ghost use Rattle.ml_kripke.specs.BodyParts.{GoesOn, AreRows, IsWholeEnd};
+ghost use Rattle.ml_lines.specs.private.Fronts.{GoesOn};
+ghost use Rattle.ml_kripke.specs.private.BodyParts.{AreRows, IsWholeEnd};
 ghost use Rattle.ml_kripke.specs.ModelText.{states_line, start_line, state_lines, model_text};
 ghost use Rattle.ml_base.specs.declared.doc_fault.DocFault.{DocFault};
 ghost use Rattle.ml_kripke.specs.Laws.{IsModelText};
 ghost use Rattle.ml_kripke.specs.Ordered.{HasNames};
-ghost use Rattle.ml_kripke.specs.Refusals as refusals;
-ghost use Rattle.ml_kripke.specs.Refusals.{TellsFault};
+ghost use Rattle.ml_kripke.specs.private.Refusals as refusals;
+ghost use Rattle.ml_kripke.specs.private.Refusals.{TellsFault};
 
 use crate::body_rule::BodyRule;
 use crate::model::Model;

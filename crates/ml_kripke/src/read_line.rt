@@ -6,10 +6,11 @@ ghost use Rattle.std.specs.Option.{option_copied};
 ghost use Rattle.ml_base.specs.Name.{IsName, IsAction};
 ghost use Rattle.ml_lines.specs.Reading.{words_of, words_behind, AreWords};
 ghost use Rattle.ml_kripke.specs.BodyRules.{IsNumbered, IsStated, IsEdged, IsEdgeBehind, AtStates, AtStart, AtState, AtEdge};
-ghost use Rattle.ml_kripke.specs.BodyParts.{IsStatesLine, IsStartLine, IsStateLine, EdgeOrEnd, Ascend, Above, last_of};
-ghost use Rattle.ml_kripke.specs.Ordered.{edge_cmp};
+ghost use Rattle.ml_lists.specs.Chains.{Above, last_of};
+ghost use Rattle.ml_kripke.specs.private.BodyParts.{IsStatesLine, IsStartLine, IsStateLine, EdgeOrEnd, Ascend};
+ghost use Rattle.ml_base.specs.EdgeOrder.{edge_cmp};
 ghost use Rattle.std.specs.declared.cmp.Ordering.TheVariants.{Less};
-ghost use Rattle.ml_kripke.specs.Refusals.{Breaks, TellsRule};
+ghost use Rattle.ml_kripke.specs.private.Refusals.{Breaks, TellsRule};
 
 use crate::body_rule::BodyRule;
 use ml_base::{Action, Edge, Name, NameRefusal};
@@ -236,7 +237,7 @@ fn is_behind(before: Option<&Edge>, edge: &Edge) -> bool
     ensures otherwise { result ≡ false → ¬ (MatchOption (option_copied before.entry) (Unit {0}) (λ b. edge_cmp b edge.now ≡ Less)) }
 {
     match before {
-        Some(last) => matches!(last.cmp(edge), Ordering::Less),
+        Some(last) => last.is_before(edge),
         None => true,
     }
 }

@@ -21,15 +21,28 @@ pub fn write_model(alloc: Global, model: &Model) -> Result<Vec<u8>, NoMemory>
     ensures text { IfOk result (λ bytes. bytes.items ≡ model_text model.now.structure model.now.start) }
     ensures named { OnOk result (HasNames model.now.structure) }
 {
-    let structure = &model.structure;
     let mut out = Vec::new(alloc);
-    write_numbered(&mut out, b"states", structure.states())?;
-    write_numbered(&mut out, b"start", model.start)?;
-    write_states(&mut out, structure.rows())?;
-    write_edges(&mut out, structure.edges())?;
-    write_word(&mut out, b"end")?;
-    end_line(&mut out)?;
+    append_model(&mut out, model)?;
     Ok(out)
+}
+
+/// Appends the text of a model, as `write_model` gives it.
+///
+/// # Errors
+/// `NoMemory` alone, and then a part of the text may stand in `out`.
+///
+/// Cost: linear in the text, over many calls.
+pub fn append_model(out: &mut Vec<u8>, model: &Model) -> Result<(), NoMemory>
+    ensures text { OnOk result (out.new.items ≡ out.old.items ++ model_text model.now.structure model.now.start) }
+    ensures named { OnOk result (HasNames model.now.structure) }
+{
+    let structure = &model.structure;
+    write_numbered(out, b"states", structure.states())?;
+    write_numbered(out, b"start", model.start)?;
+    write_states(out, structure.rows())?;
+    write_edges(out, structure.edges())?;
+    write_word(out, b"end")?;
+    end_line(out)
 }
 
 fn write_numbered(out: &mut Vec<u8>, word: &[u8], n: u32) -> Result<(), NoMemory>

@@ -16,3 +16,9 @@ pub mod WordBytes
 pub mod WrittenLines
 -- a text and its first line
 pub mod LineFronts
+-- the first bad line of a text, by any format
+pub mod Faults
+-- texts that begin with lines that were read
+pub mod Fronts
+-- what is asked of words is decided
+pub mod DecidedWords

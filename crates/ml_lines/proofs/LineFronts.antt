@@ -2,17 +2,14 @@
 --
 --   IsInLine bytes  == no byte is an LF
 --   none_passes     == where not any byte passes a test, each fails it
---   first_plain     == the first line of a text has no LF
---   front_line      == a text is its first line, and then what stands behind it
+--   lines_plain     == no line of a text has an LF
 --   line_front      == a line in front of a text is its first line
-use Rattle.std.proofs.Common.{◌≡◌, ℕ, Bool, true, false, ◌||◌, List, [], ◌∷◌, ◌++◌, map, All, refl, sym, ap, subst, ◌∙◌, append_assoc}
+use Rattle.std.proofs.Common.{◌≡◌, ℕ, Bool, true, false, ◌||◌, List, [], ◌∷◌, ◌++◌, map, All, refl, sym, ap, subst, ◌∙◌}
 use Rattle.std.specs.List.{slice_split, join_with_byte, AllByRecursion, list_any, onto_first}
 use Rattle.std.proofs.lemmas.List.Elements.{All-nil, All-cons}
 use Rattle.std.proofs.lemmas.List.Splits.{slice_split_at, slice_split-cons_yes, slice_split-cons_no, join_with_byte-slice_split}
-use Rattle.ml_lines.specs.Lines.{Line, line_text, text_of}
 use Rattle.ml_lines.specs.Reading.{words_of, lines_of, left_of, fronts, last_part, is_line_end}
 use Rattle.ml_lines.proofs.Cuts.{some_part, fronts_more, last_more}
-use Rattle.ml_lines.proofs.WrittenLines.{text_read}
 
 abbrev pub IsInLine : List ℕ → Type 0
 IsInLine bytes = list_any is_line_end bytes ≡ false
@@ -38,15 +35,12 @@ line_front bytes rest is =
       ap last_part cut ∙ last_more bytes parts some,
     )
 
--- ---- the first line
+-- ---- the lines of a text
 
-pub front_line : (text rest : List ℕ) (line : Line) → lines_of text ≡ line ∷ lines_of rest → left_of text ≡ left_of rest → text ≡ line_text line ++ rest
-front_line text rest line begins left =
-    sym (text_read text) ∙ ap (λ lines. text_of lines ++ left_of text) begins
-    ∙ append_assoc (line_text line) (text_of (lines_of rest)) (left_of text)
-    ∙ ap (λ more. line_text line ++ (text_of (lines_of rest) ++ more)) left ∙ ap (λ more. line_text line ++ more) (text_read rest)
-
-onto_plain : (x : ℕ) (parts : List (List ℕ)) → is_line_end x ≡ false → AllByRecursion IsInLine parts → AllByRecursion IsInLine (onto_first x parts)
+onto_plain : (x : ℕ) (parts : List (List ℕ))
+    → is_line_end x ≡ false
+    → AllByRecursion IsInLine parts
+    → AllByRecursion IsInLine (onto_first x parts)
 onto_plain x [] other all = (ap (λ b. b || false) other, tt)
 onto_plain x (part ∷ parts) other all = (ap (λ b. b || list_any is_line_end part) other ∙ all.0, all.1)
 
@@ -54,18 +48,20 @@ parts_plain : (text : List ℕ) → AllByRecursion IsInLine (slice_split is_line
 parts_plain [] = (refl, tt)
 parts_plain (x ∷ xs) = go (is_line_end x) refl (parts_plain xs)
   where
-    go : (b : Bool) → is_line_end x ≡ b → AllByRecursion IsInLine (slice_split is_line_end xs) → AllByRecursion IsInLine (slice_split is_line_end (x ∷ xs))
+    go : (b : Bool)
+        → is_line_end x ≡ b
+        → AllByRecursion IsInLine (slice_split is_line_end xs)
+        → AllByRecursion IsInLine (slice_split is_line_end (x ∷ xs))
     go true is rest = subst (AllByRecursion IsInLine) (sym (slice_split-cons_yes is_line_end x xs is)) (refl, rest)
     go false is rest =
         subst (AllByRecursion IsInLine) (sym (slice_split-cons_no is_line_end x xs is)) (onto_plain x (slice_split is_line_end xs) is rest)
 
-first_in : (parts : List (List ℕ)) (line : Line) (lines : List Line) → AllByRecursion IsInLine parts → map words_of (fronts parts) ≡ line ∷ lines
-    → IsInLine (join_with_byte 32 line)
-first_in [] line lines all begins = absurd (cc)
-first_in (part ∷ []) line lines all begins = absurd (cc)
-first_in (part ∷ second ∷ parts) line lines all begins =
-    let same : words_of part ≡ line = cc in
-    subst IsInLine (sym (join_with_byte-slice_split 32 part) ∙ ap (join_with_byte 32) same) all.0
+lines_in : (parts : List (List ℕ)) → AllByRecursion IsInLine parts
+    → AllByRecursion (λ line. IsInLine (join_with_byte 32 line)) (map words_of (fronts parts))
+lines_in [] all = tt
+lines_in (part ∷ []) all = tt
+lines_in (part ∷ second ∷ parts) all =
+    (subst IsInLine (sym (join_with_byte-slice_split 32 part)) all.0, lines_in (second ∷ parts) all.1)
 
-pub first_plain : (text : List ℕ) (line : Line) (lines : List Line) → lines_of text ≡ line ∷ lines → IsInLine (join_with_byte 32 line)
-first_plain text line lines begins = first_in (slice_split is_line_end text) line lines (parts_plain text) begins
+pub lines_plain : (text : List ℕ) → AllByRecursion (λ line. IsInLine (join_with_byte 32 line)) (lines_of text)
+lines_plain text = lines_in (slice_split is_line_end text) (parts_plain text)

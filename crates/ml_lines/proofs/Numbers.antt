@@ -2,12 +2,13 @@
 --
 --   own              == the digits of a word, and their value, are those of std
 --   value-number     == the value of a number's word is the number
+--   own_value        == a word that is a number is that of its value
 --   digits-number    == a number's word has digits alone
 --   number-value     == digits without a leading zero are the word of their value
 --   no_number_empty, no_number_zero, no_number_byte, no_number_large  == no number is spelt by the empty word, by a
 --                       longer word with a leading zero, by a word with a byte that is no digit, by too great a value
 --   value_on-ge      == digits behind a number make it no smaller
-use Rattle.std.proofs.Common.{◌≡◌, ℕ, zero, suc, ◌+◌, ◌-◌, ◌*◌, ◌^◌, ◌<◌, ◌≤◌, Bool, true, false, ◌&&◌, [], ◌∷◌, length, get_or, drop, refl, sym, ap, ◌∙◌, arith, rules}
+use Rattle.std.proofs.Common.{◌≡◌, ℕ, zero, suc, ◌+◌, ◌-◌, ◌*◌, ◌^◌, ◌<◌, ◌≤◌, Bool, true, false, ◌&&◌, [], ◌∷◌, length, get_or, drop, refl, sym, ap, subst, ◌∙◌, arith, rules}
 use Rattle.std.specs.Str.{all_ascii_digits}
 use Rattle.std.specs.Char.{is_ascii_digit}
 use Rattle.std.proofs.lemmas.Bool.{true≢false}
@@ -23,10 +24,18 @@ own = numerals_by_fold (λ ds. all_ascii_digits ds ≡ true) (search rules) valu
 pub value-number : (n : ℕ) → n < 2 ^ 64 → value (number n) ≡ n
 value-number n fits = digits_value-decimal own n fits
 
+pub own_value : (w : Word) → IsNumber w → (value w < 2 ^ 32) × (w ≡ number (value w))
+own_value w (n, fits, is) =
+    let same : value w ≡ n = ap value is ∙ value-number n (omega arith) in
+    (subst (λ k. k < 2 ^ 32) (sym same) fits, is ∙ ap number (sym same))
+
 pub digits-number : (n : ℕ) → n < 2 ^ 64 → all_ascii_digits (number n) ≡ true
 digits-number n fits = digits_decimal own n fits
 
-pub number-value : (word : Word) → all_ascii_digits word ≡ true → 0 < length word → (get_or word 0 0 ≡ 48 → length word ≡ 1)
+pub number-value : (word : Word)
+    → all_ascii_digits word ≡ true
+    → 0 < length word
+    → (get_or word 0 0 ≡ 48 → length word ≡ 1)
     → value word < 2 ^ 32 → word ≡ number (value word)
 number-value word digits some no_zero small = sym (decimal-digits_value own word digits some no_zero (omega arith))
 

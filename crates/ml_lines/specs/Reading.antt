@@ -2,31 +2,28 @@
 --
 -- A text is cut at each LF, and each line at each blank. What stands behind the last LF is no line: a line without its
 -- LF is missing. A line that is cut so has at least one word; so the line of no words can stand for a line that is
--- missing. A word of a document has at least one byte, and no blank, CR or LF: two blanks side by side, a blank at
--- either end of a line, and a CR, make words that are none.
+-- missing. Two blanks side by side, and a blank at either end of a line, make a word without bytes, which no kind of
+-- line has. Every byte but the blank and the LF is a byte of a word like any other, a CR and a tab too.
 --
 --   words_of bytes     == the words of a line: what stands before, between and behind its blanks
 --   words_behind rest  == the words behind a blank, where there is one
 --   lines_of text      == the lines of a text, each as its words
 --   left_of text       == what stands behind the last LF of a text
---   is_word w          == may w stand as a word?
---   AreWords ws        == each of ws may
+--   is_word w          == has w at least one byte?
+--   AreWords ws        == each of ws has
 --   IsNumber w         == w spells a number from 0 to 4,294,967,295, in decimal and without leading zeros
 --   value w            == the number that the digits of w are
 --   word ws i          == the i-th word of a line, from 0 on
-use Rattle.std.specs.Prelude.{ℕ, ◌+◌, ◌-◌, ◌*◌, ◌^◌, ◌<◌, ◌≡◌, ◌==◌, ◌&&◌, ◌||◌, Bool, false, not, List, [], ◌∷◌, Option, None, Some, map, slice_index_or, IsTrue}
+use Rattle.std.specs.Prelude.{ℕ, ◌+◌, ◌-◌, ◌*◌, ◌^◌, ◌<◌, ◌≡◌, ◌==◌, Bool, true, false, List, [], ◌∷◌, Option, None, Some, map, slice_index_or, IsTrue}
 use Rattle.std.specs.List.{list_all, slice_split}
 use Rattle.ml_lines.specs.Lines.{Word, Line, number}
 
--- 32 is the blank, 10 the LF, 13 the CR
+-- 32 is the blank, 10 the LF
 abbrev pub is_blank : ℕ → Bool
 is_blank b = b == 32
 
 abbrev pub is_line_end : ℕ → Bool
 is_line_end b = b == 10
-
-abbrev pub is_word_byte : ℕ → Bool
-is_word_byte b = not (is_blank b || is_line_end b || (b == 13))
 
 abbrev pub words_of : List ℕ → Line
 words_of = slice_split is_blank
@@ -54,7 +51,7 @@ left_of text = last_part (slice_split is_line_end text)
 
 abbrev pub is_word : Word → Bool
 is_word [] = false
-is_word (b ∷ bs) = is_word_byte b && list_all is_word_byte bs
+is_word (b ∷ bs) = true
 
 abbrev pub AreWords : Line → Type 0
 AreWords words = IsTrue (list_all is_word words)

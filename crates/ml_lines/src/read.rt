@@ -80,7 +80,7 @@ fn position_of(bytes: &[u8], byte: u8) -> Option<usize>
     bytes.iter().position(|b| *b == byte)
 }
 
-/// Has each word of the line at least one byte, and no CR? So no two blanks stand side by side, and none at an end.
+/// Has each word of the line at least one byte? So no two blanks stand side by side, and none at an end.
 ///
 /// Cost: linear in the line.
 pub fn are_words(line: &[u8]) -> bool
@@ -92,19 +92,7 @@ pub fn are_words(line: &[u8]) -> bool
 fn is_word(word: &[u8]) -> bool
     ensures { result ≡ reading.is_word word.now }
 {
-    !word.is_empty() && are_word_bytes(word)
-}
-
-fn are_word_bytes(word: &[u8]) -> bool
-    ensures { result ≡ list_all reading.is_word_byte word.now }
-{
-    word.iter().all(|byte| is_word_byte(*byte))
-}
-
-fn is_word_byte(byte: u8) -> bool
-    ensures { result ≡ reading.is_word_byte byte }
-{
-    !(byte == b' ' || byte == b'\n' || byte == b'\r')
+    !word.is_empty()
 }
 
 /// The number that a word spells, in decimal and without leading zeros; `None` exactly where it spells none that fits

@@ -9,7 +9,7 @@
 --   ascends_with       == a number in the middle, above what stands before it and below what stands behind
 --   ascends_merge      == of two lists with one front, the lesser head goes to the front of both
 --   increasing_of_ascending, ascending_of_increasing  == the same as `IsAscending`
-use Rattle.std.proofs.Common.{◌≡◌, ℕ, ◌<◌, List, [], ◌∷◌, ◌++◌, Contains, refl, sym, subst, inl, inr, append_assoc, arith}
+use Rattle.std.proofs.Common.{◌≡◌, ℕ, ◌<◌, List, [], ◌∷◌, ◌++◌, refl, sym, subst, inl, inr, append_assoc, arith}
 use Rattle.std.specs.List.{AllByRecursion}
 use Rattle.std.specs.List.Sorted.{IsStrictlySortedBy, IsStrictlyIncreasing}
 use Rattle.std.specs.Ordering.{nat_cmp}
@@ -19,7 +19,6 @@ use Rattle.std.proofs.lemmas.Cmp.{ranked}
 use Rattle.std.proofs.lemmas.Map.Keys.{IsStrictlyIncreasing-from_sorted, sorted_from_strictly_increasing}
 use Rattle.ml_lists.specs.Ascending.{IsAscending}
 use Rattle.ml_lists.specs.Member.{IsMember}
-use Rattle.ml_lists.proofs.Members.{contains_head, contains_later, contains_cases, contains_none}
 
 abbrev pub Above : ℕ → List ℕ → Type 0
 Above x [] = Unit {0}
@@ -64,7 +63,10 @@ above_chain : (w x : ℕ) (ys : List ℕ) → w < x → Above x ys → Above w y
 above_chain w x [] below above = tt
 above_chain w x (y ∷ ys) below above = (omega (arith, above.0), above_chain w x ys below above.1)
 
-above_with : (w : ℕ) (front : List ℕ) (x : ℕ) (back : List ℕ) → Above w (front ++ back) → w < x → Above w (front ++ x ∷ back)
+above_with : (w : ℕ) (front : List ℕ) (x : ℕ) (back : List ℕ)
+    → Above w (front ++ back)
+    → w < x
+    → Above w (front ++ x ∷ back)
 above_with w [] x back above below = (below, above)
 above_with w (y ∷ front) x back above below = (above.0, above_with w front x back above.1 below)
 
@@ -72,7 +74,11 @@ abbrev pub Below : ℕ → List ℕ → Type 0
 Below x [] = Unit {0}
 Below x (y ∷ ys) = (y < x) × Below x ys
 
-pub ascends_with : (front : List ℕ) (x : ℕ) (back : List ℕ) → Ascends (front ++ back) → Below x front → Above x back → Ascends (front ++ x ∷ back)
+pub ascends_with : (front : List ℕ) (x : ℕ) (back : List ℕ)
+    → Ascends (front ++ back)
+    → Below x front
+    → Above x back
+    → Ascends (front ++ x ∷ back)
 ascends_with [] x back ascends below above = (above, ascends)
 ascends_with (y ∷ front) x back ascends below above =
     (above_with y front x back ascends.0 below.0, ascends_with front x back ascends.1 below.1 above)
@@ -91,10 +97,15 @@ above_back [] x back ascends = ascends.0
 above_back (y ∷ front) x back ascends = above_back front x back ascends.1
 
 -- the head of the back, put at the end of the front
-pub ascends_moved : (front : List ℕ) (x : ℕ) (back : List ℕ) → Ascends (front ++ x ∷ back) → Ascends ((front ++ x ∷ []) ++ back)
+pub ascends_moved : (front : List ℕ) (x : ℕ) (back : List ℕ)
+    → Ascends (front ++ x ∷ back)
+    → Ascends ((front ++ x ∷ []) ++ back)
 ascends_moved front x back ascends = subst Ascends (sym (append_assoc front (x ∷ []) back)) ascends
 
-pub ascends_merge : (front : List ℕ) (x : ℕ) (xs : List ℕ) (y : ℕ) (ys : List ℕ) → x < y → Ascends (front ++ x ∷ xs) → Ascends (front ++ y ∷ ys)
+pub ascends_merge : (front : List ℕ) (x : ℕ) (xs : List ℕ) (y : ℕ) (ys : List ℕ)
+    → x < y
+    → Ascends (front ++ x ∷ xs)
+    → Ascends (front ++ y ∷ ys)
     → Ascends ((front ++ x ∷ []) ++ (y ∷ ys))
 ascends_merge front x xs y ys below left right =
     ascends_moved front x (y ∷ ys)

@@ -1,5 +1,9 @@
 -- how many numbers below a bound pass a test
 pub mod Counting
+-- propositions that are decided
+pub mod Decided
+-- documents are readable or have one first bad line, never both
+pub mod Documents
 -- growing sequences of sets come to rest
 pub mod Growing
 -- lassos, as lists and as sequences
@@ -40,5 +44,13 @@ pub mod Members
 pub mod Increasing
 -- tables: lists with an entry for each number
 pub mod Tables
+-- strictly ascending lists are determined by what they contain
+pub mod StrictlySorted
+-- lists in which each element is above the one before it
+pub mod Chains
+-- rows of one width, one behind the other
+pub mod Grids
+-- lassos along a map
+pub mod MappedLasso
 -- lists in another order
 pub mod Permuted

@@ -8,9 +8,13 @@
 --   contains_without == and what else a list contains is contained without it
 --   contains_with    == what a list contains is contained with something in the middle too
 --   member_of_contains, contains_of_member  == the same as `IsMember`
-use Rattle.std.proofs.Common.{◌≡◌, zero, suc, ◌⊎◌, List, [], ◌∷◌, ◌++◌, Contains, inl, inr, refl, sym, subst, ⊎_elim, arith}
+--   All-more_read    == what holds of the first elements, and of the next one as it is read, holds of one more
+--   All-read         == at the end it holds of all
+--   All-of_members   == what holds of all elements of a list holds of all elements of one that contains no others
+use Rattle.std.proofs.Common.{◌≡◌, ℕ, zero, suc, ◌+◌, ◌<◌, ◌≤◌, ◌⊎◌, List, [], ◌∷◌, ◌++◌, length, get_or, take, All, Contains, inl, inr, refl, sym, subst, ⊎_elim, arith}
+use Rattle.std.proofs.lemmas.List.{take_all}
 use Rattle.ml_lists.specs.Member.{IsMember}
-use Rattle.std.proofs.lemmas.List.Elements.{Contains-append_left, Contains-append_right, Contains-append_cases}
+use Rattle.std.proofs.lemmas.List.Elements.{All-contains, All-more, Contains-get_or, Contains-append_left, Contains-append_right, Contains-append_cases}
 
 pub contains_head : {X : Type 0} (x : X) (xs : List X) → Contains (x ∷ xs) x
 contains_head x xs = (0, omega arith, refl)
@@ -40,7 +44,9 @@ contains_without front x back q inside =
     (contains_cases x back q after))
     (Contains-append_cases front (x ∷ back) q inside)
 
-pub contains_with : {X : Type 0} (front : List X) (x : X) (back : List X) (q : X) → Contains (front ++ back) q → Contains (front ++ x ∷ back) q
+pub contains_with : {X : Type 0} (front : List X) (x : X) (back : List X) (q : X)
+    → Contains (front ++ back) q
+    → Contains (front ++ x ∷ back) q
 contains_with front x back q inside =
     ⊎_elim
     (λ (before : Contains front q). Contains-append_left front (x ∷ back) q before)
@@ -55,3 +61,19 @@ pub contains_of_member : {X : Type 0} (x : X) (xs : List X) → IsMember x xs �
 contains_of_member x [] inside = absurd inside
 contains_of_member x (y ∷ ys) (inl is) = subst (λ z. Contains (z ∷ ys) x) is (contains_head x ys)
 contains_of_member x (y ∷ ys) (inr later) = contains_later y ys x (contains_of_member x ys later)
+
+pub All-of_members : {X : Type 0} (P : X → Type 0) (xs ys : List X)
+    → ((x : X) → Contains ys x → Contains xs x)
+    → All P xs
+    → All P ys
+All-of_members P xs ys within all = λ k d below. All-contains P xs (get_or ys k d) all (within (get_or ys k d) (Contains-get_or ys k d below))
+
+pub All-more_read : {X : Type 0} (P : X → Type 0) (xs : List X) (i : ℕ) (x : X)
+    → i < length xs
+    → x ≡ get_or xs i x
+    → P x
+    → All P (take i xs) → All P (take (i + 1) xs)
+All-more_read P xs i x here is holds so_far = All-more P xs i x here so_far (subst P is holds)
+
+pub All-read : {X : Type 0} (P : X → Type 0) (xs : List X) (i : ℕ) → length xs ≤ i → All P (take i xs) → All P xs
+All-read P xs i past all = subst (All P) (take_all i xs past) all

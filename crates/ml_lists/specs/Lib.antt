@@ -1,5 +1,7 @@
 -- how many numbers below a bound pass a test
 pub mod Counting
+-- documents: lines that keep the rules of their places
+pub mod Documents
 -- growing sequences of sets below a bound
 pub mod Growing
 -- a list of numbers with a loop start
@@ -26,3 +28,5 @@ pub mod Ascending
 pub mod Least
 -- iterates of a function
 pub mod Iterate
+-- lists in which each element is above the one before it
+pub mod Chains

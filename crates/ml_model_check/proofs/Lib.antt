@@ -1,6 +1,4 @@
--- a head, line by line
-pub mod HeadFronts
--- checking a text finds one thing
+-- checking a text finds exactly one thing
 pub mod OneCheck
 -- what is written is read back
 pub mod ReadBack

@@ -1,31 +1,44 @@
--- Checking a text finds one thing.
+-- Checking a text finds exactly one thing.
 --
+--   document_or_fault == a text shows a structure and a start for a problem, or has a first bad line
+--   shows_or_fault   == so it shows one at which the problem holds, or one at which it doesn't, or has a first bad line
+--   some_check       == so checking finds something
 --   one_document     == a text shows one structure and start for one problem
 --   document_fault   == a text that shows a structure has no bad line
 --   one_fault        == a text has one first bad line at most
---   one_check        == so checking finds one thing
-use Rattle.std.proofs.Common.{◌≡◌, ℕ, List, refl, sym, ap, subst, ◌∙◌, inl, inr}
-use Rattle.ml_base.specs.Structure.{Structure}
+--   one_check        == so checking finds one thing at most
+use Rattle.std.proofs.Common.{◌≡◌, ℕ, ◌⊎◌, Bool, true, false, not, List, [], refl, sym, ap, subst, ◌∙◌, inl, inr}
+use Rattle.ml_base.specs.Structure.{Structure, is_member}
 use Rattle.ml_base.specs.declared.doc_fault.DocFault.{DocFault}
 use Rattle.ml_kripke.specs.BodyRules.{IsFaultOf}
+use Rattle.ml_kripke.specs.Laws.{IsModelText}
 use Rattle.ml_kripke.proofs.OneFault as body
 use Rattle.ml_kripke.proofs.OneText.{one_text}
-use Rattle.ml_mu.specs.Head.{Satisfiable}
+use Rattle.ml_front.specs.HeadRules.{IsHead, IsHeadFault}
+use Rattle.ml_front.specs.declared.answer.Answer.TheVariants.{Satisfiable}
+use Rattle.ml_mu.specs.Meaning.{meaning}
 use Rattle.ml_mu.specs.Problem.{Problem, HoldsAt}
-use Rattle.ml_mu.proofs.HeadLines as head
-use Rattle.ml_model_check.specs.Checked.{IsDocument, IsDocumentFault, OneCheck, Shows, ShowsNot, first_body_line}
+use Rattle.ml_front.proofs.HeadLines.{one_head}
+use Rattle.ml_front.proofs.OneFault as head
+use Rattle.ml_model_check.specs.Checked.{IsDocument, IsDocumentFault, OneCheck, SomeCheck, IsCheckedAs, Shows, ShowsNot, first_body_line}
+use Rattle.ml_model_check.specs.declared.checked.Checked.{Checked}
 use Rattle.ml_model_check.specs.declared.checked.Checked.TheVariants.{Holds, Fails, Unreadable, NotTotal, ClosureTooLarge}
 
-pub one_document : (text : List ℕ) (p q : Problem) (m n : Structure) (s t : ℕ) → IsDocument text p m s → IsDocument text q n t
+pub one_document : (text : List ℕ) (p q : Problem) (m n : Structure) (s t : ℕ)
+    → IsDocument text p m s
+    → IsDocument text q n t
     → (p ≡ q) × ((m ≡ n) × (s ≡ t))
 one_document text p q m n s t x y =
-    let heads = head.one_head Satisfiable text p q x.body y.body x.has_head y.has_head in
+    let heads = one_head Satisfiable text p q x.body y.body x.has_head y.has_head in
     (heads.0, one_text m n s t x.is_written y.is_written (sym x.has_body ∙ heads.1 ∙ y.has_body))
 
-pub document_fault : (text : List ℕ) (p : Problem) (m : Structure) (s : ℕ) (fault : DocFault) → IsDocument text p m s → IsDocumentFault text fault → ⊥
+pub document_fault : (text : List ℕ) (p : Problem) (m : Structure) (s : ℕ) (fault : DocFault)
+    → IsDocument text p m s
+    → IsDocumentFault text fault
+    → ⊥
 document_fault text p m s fault x (inl of_head) = head.head_or_fault Satisfiable text p x.body fault x.has_head of_head
 document_fault text p m s fault x (inr of_body) =
-    let heads = head.one_head Satisfiable text p of_body.problem x.body of_body.body x.has_head of_body.has_head in
+    let heads = one_head Satisfiable text p of_body.problem x.body of_body.body x.has_head of_body.has_head in
     body.fault_or_model of_body.body first_body_line fault (m, s, x.is_written, x.is_ordered, sym heads.1 ∙ x.has_body) of_body.is_fault
 
 pub one_fault : (text : List ℕ) (e f : DocFault) → IsDocumentFault text e → IsDocumentFault text f → e ≡ f
@@ -33,7 +46,7 @@ one_fault text e f (inl x) (inl y) = head.one_fault Satisfiable text e f x y
 one_fault text e f (inl x) (inr y) = absurd (head.head_or_fault Satisfiable text y.problem y.body e y.has_head x)
 one_fault text e f (inr x) (inl y) = absurd (head.head_or_fault Satisfiable text x.problem x.body f x.has_head y)
 one_fault text e f (inr x) (inr y) =
-    let heads = head.one_head Satisfiable text x.problem y.problem x.body y.body x.has_head y.has_head in
+    let heads = one_head Satisfiable text x.problem y.problem x.body y.body x.has_head y.has_head in
     body.one_fault y.body first_body_line e f (subst (λ b. IsFaultOf b first_body_line e) heads.1 x.is_fault) y.is_fault
 
 holds_fails : (text : List ℕ) → Shows text → ShowsNot text → ⊥
@@ -64,3 +77,49 @@ one_check text (NotTotal s) d x y = absurd x
 one_check text ClosureTooLarge d x y = absurd x
 one_check text c (NotTotal s) x y = absurd y
 one_check text c ClosureTooLarge x y = absurd y
+
+-- ---- something is found
+
+pub document_or_fault : (text : List ℕ)
+    → ((p : Problem) × (m : Structure) × (s : ℕ) × IsDocument text p m s) ⊎ ((fault : DocFault) × IsDocumentFault text fault)
+document_or_fault text = by_head (head.some_head Satisfiable text)
+  where
+    by_body : (p : Problem) (rest : List ℕ) → IsHead Satisfiable text p rest
+        → IsModelText rest ⊎ ((fault : DocFault) × IsFaultOf rest first_body_line fault)
+        → ((q : Problem) × (m : Structure) × (s : ℕ) × IsDocument text q m s) ⊎ ((fault : DocFault) × IsDocumentFault text fault)
+    by_body p rest h (inl (m, s, written, ordered, is)) =
+        inl (p, m, s, record { body = rest; has_head = h; has_body = is; is_written = written; is_ordered = ordered })
+    by_body p rest h (inr (fault, found)) = inr (fault, inr (record { problem = p; body = rest; has_head = h; is_fault = found }))
+
+    by_head : ((p : Problem) × (rest : List ℕ) × IsHead Satisfiable text p rest) ⊎ ((fault : DocFault) × IsHeadFault Satisfiable text fault)
+        → ((q : Problem) × (m : Structure) × (s : ℕ) × IsDocument text q m s) ⊎ ((fault : DocFault) × IsDocumentFault text fault)
+    by_head (inl (p, rest, h)) = by_body p rest h (body.model_or_fault rest first_body_line)
+    by_head (inr (fault, found)) = inr (fault, inl found)
+
+same_or_not : (a b : Bool) → (a ≡ b) ⊎ (a ≡ b → ⊥)
+same_or_not true true = inl refl
+same_or_not false false = inl refl
+same_or_not true false = inr (λ e. cc)
+same_or_not false true = inr (λ e. cc)
+
+pub shows_or_fault : (text : List ℕ) → Shows text ⊎ (ShowsNot text ⊎ ((fault : DocFault) × IsDocumentFault text fault))
+shows_or_fault text = go (document_or_fault text)
+  where
+    tested : (p : Problem) (m : Structure) (s : ℕ) → IsDocument text p m s → HoldsAt m s p ⊎ (HoldsAt m s p → ⊥)
+        → Shows text ⊎ (ShowsNot text ⊎ ((fault : DocFault) × IsDocumentFault text fault))
+    tested p m s is (inl holds) = inl (record { problem = p; structure = m; start = s; is_document = is; holds = holds })
+    tested p m s is (inr fails) = inr (inl (record { problem = p; structure = m; start = s; is_document = is; fails = fails }))
+
+    go : ((p : Problem) × (m : Structure) × (s : ℕ) × IsDocument text p m s) ⊎ ((fault : DocFault) × IsDocumentFault text fault)
+        → Shows text ⊎ (ShowsNot text ⊎ ((fault : DocFault) × IsDocumentFault text fault))
+    go (inl (p, m, s, is)) = tested p m s is (same_or_not (is_member (meaning m [] p.formula) s) (not p.negated))
+    go (inr fault) = inr (inr fault)
+
+pub some_check : SomeCheck
+some_check text = go (shows_or_fault text)
+  where
+    go : Shows text ⊎ (ShowsNot text ⊎ ((fault : DocFault) × IsDocumentFault text fault))
+        → (c : Checked) × IsCheckedAs text c
+    go (inl shows) = (Holds, shows)
+    go (inr (inl not_so)) = (Fails, not_so)
+    go (inr (inr (fault, found))) = (Unreadable fault, found)

@@ -3,14 +3,14 @@
 --   documents_read_back  == a written document shows the structure and the start that were written
 use Rattle.std.proofs.Common.{refl}
 use Rattle.ml_kripke.specs.ModelText.{model_text}
-use Rattle.ml_mu.specs.Head.{Satisfiable}
-use Rattle.ml_mu.proofs.CanonicalParsed.{heads_read_back}
+use Rattle.ml_front.specs.declared.answer.Answer.TheVariants.{Satisfiable}
+use Rattle.ml_front.proofs.ReadBack.{heads_read_back}
 use Rattle.ml_model_check.specs.Checked.{DocumentsReadBack}
 
 pub documents_read_back : DocumentsReadBack
-documents_read_back text p m start parsed written ordered = record {
+documents_read_back p m start well written ordered = record {
   body = model_text m start;
-  has_head = heads_read_back Satisfiable p text (model_text m start) parsed;
+  has_head = heads_read_back Satisfiable p (model_text m start) well;
   has_body = refl;
   is_written = written;
   is_ordered = ordered;

@@ -8,7 +8,7 @@
 --   IsDocument text p m s   == the text shows the structure m with the start s for the problem p
 --   IsDocumentFault text f  == f tells the first bad line of the text, and the number of the lowest rule that it breaks
 --   IsCheckedAs text c      == c is what checking the text finds
---   OneCheck, DocumentsReadBack == laws of these notions
+--   SomeCheck, OneCheck, DocumentsReadBack == laws of these notions
 use Rattle.std.specs.Prelude.{ℕ, ◌≡◌, ◌⊎◌, List, ◌++◌}
 use Rattle.ml_base.specs.Structure.{Structure}
 use Rattle.ml_base.specs.declared.doc_fault.DocFault.{DocFault}
@@ -17,10 +17,11 @@ use Rattle.ml_kripke.specs.BodyRules.{IsFaultOf}
 use Rattle.ml_kripke.specs.Laws.{IsWritten}
 use Rattle.ml_kripke.specs.ModelText.{model_text}
 use Rattle.ml_kripke.specs.Ordered.{IsOrdered}
-use Rattle.ml_mu.specs.Head.{Satisfiable, head_lines}
-use Rattle.ml_mu.specs.HeadRules.{IsHead, IsHeadFault}
-use Rattle.ml_mu.specs.Parsing.{IsParsedAs}
+use Rattle.ml_front.specs.Head.{head_lines}
+use Rattle.ml_front.specs.declared.answer.Answer.TheVariants.{Satisfiable}
+use Rattle.ml_front.specs.HeadRules.{IsHead, IsHeadFault}
 use Rattle.ml_mu.specs.Problem.{Problem, HoldsAt}
+use Rattle.ml_mu.specs.WellFormed.{IsWellFormed}
 use Rattle.ml_model_check.specs.declared.checked.Checked.{Checked}
 use Rattle.ml_model_check.specs.declared.checked.Checked.TheVariants.{Holds, Fails, Unreadable, NotTotal, ClosureTooLarge}
 
@@ -71,12 +72,17 @@ IsCheckedAs text ClosureTooLarge = ⊥
 
 -- ---- laws
 
--- checking a text finds one thing
+-- checking a text finds something: it shows a structure at whose start the problem holds, or doesn't, or it has a first
+-- bad line
+abbrev pub SomeCheck : Type 0
+SomeCheck = (text : List ℕ) → (c : Checked) × IsCheckedAs text c
+
+-- checking a text finds one thing at most
 abbrev pub OneCheck : Type 0
 OneCheck = (text : List ℕ) (c d : Checked) → IsCheckedAs text c → IsCheckedAs text d → c ≡ d
 
--- what is written for a formula that was parsed, with a structure in order and a start, is read back
+-- what is written for a well-formed formula, with a structure in order and a start, is read back
 abbrev pub DocumentsReadBack : Type 0
-DocumentsReadBack = (text : List ℕ) (p : Problem) (m : Structure) (start : ℕ)
-    → IsParsedAs text p.formula → IsWritten m start → IsOrdered m
+DocumentsReadBack = (p : Problem) (m : Structure) (start : ℕ)
+    → IsWellFormed p.formula → IsWritten m start → IsOrdered m
     → IsDocument (text_of (head_lines Satisfiable p) ++ model_text m start) p m start

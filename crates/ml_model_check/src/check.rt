@@ -3,8 +3,8 @@ ghost use Rattle.std.specs.Prelude.{IfOk};
 ghost use Rattle.ml_model_check.specs.Checked.{IsCheckedAs};
 
 use crate::checked::Checked;
-use crate::head::{HeadRefusal, read_head};
 use ml_base::NoMemory;
+use ml_front::{Answer, HeadRefusal, read_head};
 use ml_kripke::{ModelRefusal, read_model};
 use ml_mu::holds;
 use std::alloc::Global;
@@ -30,7 +30,7 @@ const FIRST_BODY_LINE: u64 = 6;
 pub fn check_document(alloc: Global, bytes: &[u8]) -> Result<Checked, NoMemory>
     ensures { IfOk result (IsCheckedAs bytes.now) }
 {
-    let head = match read_head(alloc, bytes) {
+    let head = match read_head(alloc, bytes, Answer::Satisfiable) {
         Ok(head) => head,
         Err(HeadRefusal::Fault(fault)) => return Ok(Checked::Unreadable(fault)),
         Err(HeadRefusal::NoMemory) => return Err(NoMemory),

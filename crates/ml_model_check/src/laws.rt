@@ -1,13 +1,15 @@
 // What holds of documents by their definitions alone: the functions do nothing, their contracts are the theorems.
-ghost use Rattle.ml_model_check.specs.Checked.{DocumentsReadBack, OneCheck};
+ghost use Rattle.ml_model_check.specs.Checked.{DocumentsReadBack, OneCheck, SomeCheck};
 
-/// Checking a text finds one thing. So `check_document` answers each exactly where it is said to come, but for want of
-/// memory.
+/// Checking a text finds exactly one thing: it shows a structure at whose start its problem holds, or one at whose start
+/// it doesn't, or it has a first bad line. So `check_document` answers each exactly where it is said to come, but for
+/// want of memory.
 pub fn one_check()
-    ensures { OneCheck }
+    ensures some { SomeCheck }
+    ensures once { OneCheck }
 {}
 
-/// What is written for a formula that was parsed, with a structure in order and a start, is read back as these.
+/// What is written for a well-formed formula, with a structure in order and a start, is read back as these.
 pub fn documents_are_read_back()
     ensures { DocumentsReadBack }
 {}

@@ -2,18 +2,15 @@
 //
 // `check_document` reads a document that answers `satisfiable`, and computes whether the problem of its head holds at
 // the start of the structure of its body. It trusts nothing of who wrote the document: what it answers is said of the
-// bytes, by the definitions of heads (`ml_mu`), of bodies (`ml_kripke`) and of meanings (`ml_mu`).
+// bytes, by the definitions of heads (`ml_front`), of bodies (`ml_kripke`) and of meanings (`ml_mu`).
 //
-// Below stand `ml_base`, `ml_lines` (lines and words), `ml_kripke` (bodies) and `ml_mu` (formulas, heads, meanings);
-// above stands the program.
+// Below stand `ml_base`, `ml_lines` (lines and words), `ml_front` (heads), `ml_kripke` (bodies) and `ml_mu` (formulas and
+// meanings); above stands the program.
 #![tactic(auto)]
 
 mod check;
 mod checked;
-mod head;
 pub mod laws;
-#[cfg(test)]
-mod tests;
 
 pub use check::check_document;
 pub use checked::Checked;

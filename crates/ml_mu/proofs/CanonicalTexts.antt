@@ -5,199 +5,32 @@
 --   reads_formula        == their signs are read as f
 --   canonical_tokens     == these are the tokens of the text alone
 --   canonical_stands     == so the text stands for f
-use Rattle.std.proofs.Common.{◌≡◌, ℕ, suc, ◌+◌, ◌≤◌, ◌⊎◌, Bool, true, false, ◌&&◌, ◌||◌, ◌==◌, not, List, [], ◌∷◌, ◌++◌, length, map, take, drop, take_while, Option, Some, None, refl, sym, ◌∙◌, ap, subst, arith, if◌then◌else◌, cond, codes, append_assoc, bytes_eq, ⊎_elim, inl, inr, unwrap_or}
-use Rattle.std.specs.List.{list_all, list_any, prefix_len}
-use Rattle.std.proofs.lemmas.Bool.{and_from, and_parts, or_parts, or_from, or_cases, or_left, or_right, not_from_false, cases_Bool, cond-true, cond-false}
+use Rattle.std.proofs.Common.{◌≡◌, ℕ, Bool, true, false, not, List, [], ◌∷◌, ◌++◌, map, refl, sym, ◌∙◌, ap, subst, if◌then◌else◌, cond, codes, append_assoc, bytes_eq, ⊎_elim}
+use Rattle.std.specs.List.{list_all}
+use Rattle.std.proofs.lemmas.Bool.{and_parts, cases_Bool}
 use Rattle.std.proofs.lemmas.List.{append-nil}
-use Rattle.std.proofs.lemmas.List.Folds.{length-prefix_len}
-use Rattle.ml_text.specs.Bytes.{is_blank, is_lower, is_upper, is_letter, is_word_byte}
+use Rattle.ml_text.specs.Bytes.{is_lower, is_letter, is_word_byte}
 use Rattle.ml_text.specs.declared.token.Operator.{Operator}
 use Rattle.ml_text.specs.declared.token.Operator.TheVariants as operator
 use Rattle.ml_text.specs.declared.token.Token.TheVariants as token
 use Rattle.ml_text.specs.declared.token.WordStart.TheVariants.{AnyLetter}
 use Rattle.ml_text.specs.declared.token.Placed.{Placed}
-use Rattle.ml_text.specs.Tokens.{tokens, front_token, longest_sign, signs}
+use Rattle.ml_text.specs.Tokens.{tokens}
 use Rattle.ml_text.specs.Words.{constant_of}
 use Rattle.ml_text.specs.Refusals.{signs_of}
-use Rattle.ml_text.proofs.ByteKinds.{begins_word-no_blank}
-use Rattle.ml_text.proofs.Scan.{front_token-word}
 use Rattle.ml_text.proofs.Scans.{Spelt, spelt_at, Scans, ends, blank, piece, scans_tokens}
 use Rattle.ml_mu.specs.Formula as plain
 use Rattle.ml_mu.specs.Formula.{Formula, Modality, Diamond, Square, Fixpoint, Least, Greatest}
 use Rattle.ml_mu.specs.Canonical.{spelling_of, action_text, modality_text, fixpoint_word, canonical_text}
-use Rattle.ml_mu.specs.Signs.{Sign, Connective, Const, Open, Close, Begins, Ends, Binds, Dot, Lower, Upper, Unknown, action_of, sign_of, word_sign, word_sign_by, name_sign}
-use Rattle.ml_mu.specs.Spelling.{is_proposition, is_variable, is_action, is_spelled, is_word_from, is_reserved}
+use Rattle.ml_mu.specs.Signs.{Sign, Connective, Const, Open, Close, Begins, Ends, Binds, Dot, sign_of, word_sign}
+use Rattle.ml_mu.specs.Spelling.{is_variable, is_action, is_spelled, is_word_from, is_reserved}
 use Rattle.ml_mu.specs.Grammar as grammar
 use Rattle.ml_mu.specs.Grammar.{Reads, iff_alone, iff, imp_alone, imp, or_alone, or, and_alone, and, negation, modal, modal_blank, binder, group, constant, proposition, variable}
 use Rattle.ml_mu.proofs.GrammarTables.{un_raised}
-use Rattle.ml_mu.proofs.Spelled.{letters, upper_letters, unreserved}
+use Rattle.ml_mu.proofs.Spelled.{letters, upper_letters}
 use Rattle.ml_mu.specs.Text.{items_from, items, silences, sign_at, IsTextOf}
-
--- ---- pieces of one byte, and operators
-
-byte_front : (rest : List ℕ) → front_token AnyLetter 40 rest ≡ (token.Byte 40, 1)
-unfolding front_token longest_sign signs
-byte_front rest = refl
-
-close_front : (rest : List ℕ) → front_token AnyLetter 41 rest ≡ (token.Byte 41, 1)
-unfolding front_token longest_sign signs
-close_front rest = refl
-
-not_front : (rest : List ℕ) → front_token AnyLetter 33 rest ≡ (token.Not, 1)
-unfolding front_token longest_sign signs
-not_front rest = refl
-
-dot_front : (rest : List ℕ) → front_token AnyLetter 46 rest ≡ (token.Byte 46, 1)
-unfolding front_token longest_sign signs
-dot_front rest = refl
-
-more_front : (rest : List ℕ) → front_token AnyLetter 62 rest ≡ (token.Byte 62, 1)
-unfolding front_token longest_sign signs
-more_front rest = refl
-
-square_front : (rest : List ℕ) → front_token AnyLetter 91 rest ≡ (token.Byte 91, 1)
-unfolding front_token longest_sign signs
-square_front rest = refl
-
-square_end : (rest : List ℕ) → front_token AnyLetter 93 rest ≡ (token.Byte 93, 1)
-unfolding front_token longest_sign signs
-square_end rest = refl
-
-less_more : (rest : List ℕ) → front_token AnyLetter 60 (62 ∷ rest) ≡ (token.Byte 60, 1)
-unfolding front_token longest_sign signs
-less_more rest = refl
-
-and_front : (rest : List ℕ) → front_token AnyLetter 38 (32 ∷ rest) ≡ (token.Operator operator.And, 1)
-unfolding front_token longest_sign signs
-and_front rest = refl
-
-or_front : (rest : List ℕ) → front_token AnyLetter 124 (32 ∷ rest) ≡ (token.Operator operator.Or, 1)
-unfolding front_token longest_sign signs
-or_front rest = refl
-
-imp_front : (rest : List ℕ) → front_token AnyLetter 45 (62 ∷ 32 ∷ rest) ≡ (token.Operator operator.Implies, 2)
-unfolding front_token longest_sign signs
-imp_front rest = refl
-
-iff_front : (rest : List ℕ) → front_token AnyLetter 60 (45 ∷ 62 ∷ 32 ∷ rest) ≡ (token.Operator operator.Iff, 3)
-unfolding front_token longest_sign signs
-iff_front rest = refl
-
--- `<` in front of a letter
-less_letter : (c : ℕ) (rest : List ℕ) → is_letter c ≡ true → front_token AnyLetter 60 (c ∷ rest) ≡ (token.Byte 60, 1)
-unfolding front_token longest_sign signs
-less_letter c rest letter = simp (other 45 refl, other 61 refl)
-  where
-    other : (b : ℕ) → is_letter b ≡ false → (b == c) ≡ false
-    other b no_letter =
-        ⊎_elim
-        (λ (same : (b == c) ≡ true). let e = Rattle.std.proofs.Common.eqb-true b c same in let there = ap is_letter e in absurd (cc))
-        (λ (differs : (b == c) ≡ false). differs)
-        (cases_Bool (b == c))
-
--- ---- words
-
--- no byte of words stands at the front
-abbrev pub ends_word : List ℕ → Bool
-ends_word [] = true
-ends_word (c ∷ rest) = not (is_word_byte c)
-
-prefix_word : (bs rest : List ℕ) → list_all is_word_byte bs ≡ true → ends_word rest ≡ true → prefix_len is_word_byte (bs ++ rest) ≡ length bs
-prefix_word [] [] all stops = refl
-prefix_word [] (c ∷ rest) all stops =
-    cond-false (is_word_byte c) (1 + prefix_len is_word_byte rest) 0 (not_true (is_word_byte c) stops)
-  where
-    not_true : (b : Bool) → not b ≡ true → b ≡ false
-    not_true true is = absurd (cc)
-    not_true false is = refl
-prefix_word (b ∷ bs) rest all stops =
-    let parts = and_parts (is_word_byte b) (list_all is_word_byte bs) all in
-    let later = prefix_word bs rest parts.1 stops in
-    let here = cond-true (is_word_byte b) (1 + prefix_len is_word_byte (bs ++ rest)) 0 parts.0 in
-    omega (arith, here, later)
-
-word_piece : (w rest : List ℕ) (ss : List Spelt) → is_word_from is_letter w ≡ true → ends_word rest ≡ true → Scans AnyLetter rest ss → Scans AnyLetter (w ++ rest) ((token.Word, w) ∷ ss)
-word_piece [] rest ss word stops r = absurd (cc)
-word_piece (b ∷ bs) rest ss word stops r =
-    let parts = and_parts (is_letter b) (list_all is_word_byte bs) word in
-    let size = length-prefix_len is_word_byte (bs ++ rest) ∙ prefix_word bs rest parts.1 stops in
-    let one_more : 1 + length (take_while is_word_byte (bs ++ rest)) ≡ suc (length bs) = omega (arith, size) in
-    piece token.Word b bs (begins_word-no_blank AnyLetter b parts.0) (front_token-word AnyLetter b (bs ++ rest) parts.0 ∙ ap (λ n. (token.Word, n)) one_more) r
-
-one_byte : (b : ℕ) (rest : List ℕ) (ss : List Spelt) → is_blank b ≡ false → front_token AnyLetter b rest ≡ (token.Byte b, 1) → Scans AnyLetter rest ss → Scans AnyLetter (b ∷ rest) ((token.Byte b, b ∷ []) ∷ ss)
-one_byte b rest ss other front r = piece (token.Byte b) b [] other front r
-
--- ---- the signs of words
-
-from_not : (b : Bool) → not b ≡ true → b ≡ false
-from_not true is = absurd (cc)
-from_not false is = refl
-
-unreserved_parts : (w : List ℕ) → is_reserved w ≡ false → (constant_of w ≡ None) × ((bytes_eq w (codes "mu") ≡ false) × (bytes_eq w (codes "nu") ≡ false))
-unfolding constant_of
-unreserved_parts w is =
-    let a = or_parts (bytes_eq w (codes "tt")) _ is in
-    let b = or_parts (bytes_eq w (codes "true")) _ a.1 in
-    let c = or_parts (bytes_eq w (codes "ff")) _ b.1 in
-    let d = or_parts (bytes_eq w (codes "false")) _ c.1 in
-    let e = or_parts (bytes_eq w (codes "mu")) _ d.1 in
-    let f = or_parts (bytes_eq w (codes "nu")) _ e.1 in
-    (simp (a.0, b.0, c.0, d.0), (e.0, f.0))
-
-name_word : (w : List ℕ) → is_reserved w ≡ false → word_sign w ≡ name_sign w
-name_word w is =
-    let parts = unreserved_parts w is in
-    ap (λ o. word_sign_by o w) parts.0
-    ∙ cond-false (bytes_eq w (codes "mu")) _ _ (parts.1).0
-    ∙ cond-false (bytes_eq w (codes "nu")) _ _ (parts.1).1
-
-pub proposition_sign : (p : List ℕ) → is_proposition p ≡ true → word_sign p ≡ Lower p
-proposition_sign p is =
-    let parts = and_parts (is_word_from is_lower p) (not (is_reserved p)) is in
-    name_word p (from_not (is_reserved p) parts.1) ∙ cond-true (is_proposition p) (Lower p) _ is
-
--- an upper-case letter is no lower-case one
-no_lower : (b : ℕ) → is_upper b ≡ true → is_lower b ≡ false
-no_lower b upper =
-    let parts = and_parts (Rattle.std.specs.Prelude.nat_le 65 b) (Rattle.std.specs.Prelude.nat_le b 90) upper in
-    let below = Rattle.std.proofs.Common.leb-true b 90 parts.1 in
-    Rattle.std.proofs.lemmas.Bool.and_left (Rattle.std.specs.Prelude.nat_le 97 b) (Rattle.std.specs.Prelude.nat_le b 122) (Rattle.std.proofs.lemmas.Bool.lt-leb 97 b (omega arith))
-
-no_proposition : (x : List ℕ) → is_variable x ≡ true → is_proposition x ≡ false
-no_proposition [] is = absurd (cc)
-no_proposition (b ∷ bs) is =
-    let parts = and_parts (is_upper b) (list_all is_word_byte bs) is in
-    let first = Rattle.std.proofs.lemmas.Bool.and_left (is_lower b) (list_all is_word_byte bs) (no_lower b parts.0) in
-    Rattle.std.proofs.lemmas.Bool.and_left (is_lower b && list_all is_word_byte bs) (not (is_reserved (b ∷ bs))) first
-
-pub variable_sign : (x : List ℕ) → is_variable x ≡ true → word_sign x ≡ Upper x
-variable_sign x is =
-    name_word x (unreserved x is)
-    ∙ cond-false (is_proposition x) _ _ (no_proposition x is)
-    ∙ cond-true (is_variable x) (Upper x) Unknown is
-
--- the sign of an action that is a word
-record ActionSign (a : List ℕ) : Type 0 where
-  pub word : is_word_from is_letter a ≡ true
-  pub action : action_of (word_sign a) ≡ Some a
-
-action_cases : (a : List ℕ) → is_word_from is_letter a ≡ true → is_reserved a ≡ false → action_of (word_sign a) ≡ Some a
-action_cases [] word free = absurd (cc)
-action_cases (b ∷ bs) word free =
-    let parts = and_parts (is_letter b) (list_all is_word_byte bs) word in
-    ⊎_elim
-    (λ (lower : is_lower b ≡ true). ap action_of (proposition_sign (b ∷ bs) (and_from (is_lower b && list_all is_word_byte bs) (not (is_reserved (b ∷ bs))) (and_from (is_lower b) (list_all is_word_byte bs) lower parts.1) (not_from_false (is_reserved (b ∷ bs)) free))))
-    (λ (upper : is_upper b ≡ true). ap action_of (variable_sign (b ∷ bs) (and_from (is_upper b) (list_all is_word_byte bs) upper parts.1)))
-    (or_cases (is_lower b) (is_upper b) parts.0)
-
-action_sign : (a : List ℕ) → is_action a ≡ true → bytes_eq a (codes "_") ≡ false → ActionSign a
-action_sign a is other =
-    let word_parts = and_parts (is_word_from is_letter a) (not (is_reserved a)) (or_other (bytes_eq a (codes "_")) (is_word_from is_letter a && not (is_reserved a)) is other) in
-    record { word = word_parts.0; action = action_cases a word_parts.0 (from_not (is_reserved a) word_parts.1) }
-  where
-    or_other : (x y : Bool) → (x || y) ≡ true → x ≡ false → y ≡ true
-    or_other true y is no_x = absurd (cc)
-    or_other false y is no_x = is
+use Rattle.ml_mu.proofs.CanonicalPieces.{byte_front, close_front, not_front, dot_front, more_front, square_front, square_end, less_more, and_front, or_front, imp_front, iff_front, less_letter, ends_word, word_piece, one_byte}
+use Rattle.ml_mu.proofs.WordSigns.{proposition_sign, variable_sign, action_sign, ActionSign}
 
 -- ---- the tokens of a canonical text
 

@@ -6,7 +6,7 @@
 --   counted_items              == the items of a text count what its signs do
 --   counts                     == the occurrences of a formula are those of its text
 --   words_are_variables        == the variables of a formula are those of its text
-use Rattle.std.proofs.Common.{◌≡◌, ℕ, suc, ◌+◌, Bool, true, false, List, [], ◌∷◌, ◌++◌, length, Some, None, refl, sym, ◌∙◌, ap, arith, if◌then◌else◌, append_assoc, length-append}
+use Rattle.std.proofs.Common.{◌≡◌, ℕ, suc, ◌+◌, Bool, true, false, List, [], ◌∷◌, ◌++◌, length, Some, refl, sym, ◌∙◌, ap, arith, if◌then◌else◌, append_assoc, length-append}
 use Rattle.ml_text.specs.declared.token.Operator.TheVariants as operator
 use Rattle.ml_text.specs.declared.token.Placed.{Placed}
 use Rattle.ml_text.specs.Refusals.{Item, signs_of, counted}
@@ -15,8 +15,8 @@ use Rattle.ml_mu.specs.Formula.{Formula, occurrences, weight}
 use Rattle.ml_mu.specs.Signs.{Sign, Begins, Ends, Blank, Lower, Upper, action_of}
 use Rattle.ml_mu.specs.Grammar as grammar
 use Rattle.ml_mu.specs.Grammar.{Reads, iff_alone, iff, imp_alone, imp, or_alone, or, and_alone, and, negation, modal, modal_blank, binder, group, constant, proposition, variable}
-use Rattle.ml_mu.specs.Text.{weight_of, silences, item_by, sign_at, items_from, places_from, with_place}
-use Rattle.ml_mu.specs.VariableFaults.{Standing, Fine, Unbound, NotPositive, Around, standings_in, fault_at}
+use Rattle.ml_mu.specs.Text.{weight_of, silences, item_by, sign_at, items_from, places_from, is_variable_at}
+use Rattle.ml_mu.specs.VariableFaults.{Around, standings_in}
 
 -- ---- occurrences
 
@@ -27,7 +27,7 @@ count_signs silent (t ∷ ts) = (if silent then 0 else weight_of t) + count_sign
 pub counted_items : (text : List ℕ) (silent : Bool) (ps : List Placed) → counted (items_from text silent ps) ≡ count_signs silent (signs_of (items_from text silent ps))
 counted_items text silent [] = refl
 counted_items text silent (p ∷ ps) =
-    let here = Rattle.std.proofs.lemmas.List.Sums.sum_by-cons (λ (i : Item Sign). i.weight) (item_by silent (sign_at text p) p) (items_from text (silences (sign_at text p)) ps) in
+    let here = Rattle.std.proofs.lemmas.List.Sums.sum_by-cons (λ (i : Item Sign). i.weight) (item_by text silent p) (items_from text (silences (sign_at text p)) ps) in
     let later = counted_items text (silences (sign_at text p)) ps in
     omega (arith, here, later)
 
@@ -108,7 +108,7 @@ words_are_variables (proposition p) = refl
 words_are_variables (variable x) = refl
 
 -- as many places as words, and as many standings as variables
-place_one : (silent : Bool) (s : Sign) (at : ℕ) (places : List ℕ) (words : List (List ℕ)) → length places ≡ length words → length (with_place silent s at places) ≡ length (with_word silent s words)
+place_one : (silent : Bool) (s : Sign) (at : ℕ) (places : List ℕ) (words : List (List ℕ)) → length places ≡ length words → length (if is_variable_at silent s then at ∷ places else places) ≡ length (with_word silent s words)
 place_one false (Upper x) at places words same = ap suc same
 place_one true (Upper x) at places words same = same
 place_one false _ at places words same = same
@@ -132,10 +132,3 @@ length-standings bs n i (plain.Binary operator.Implies f g) = standings_both _ _
 length-standings bs n i (plain.Binary operator.Iff f g) = standings_both _ _ _ _ (length-standings bs n (i + 1) f) (length-standings bs n (i + 1) g)
 length-standings bs n i (plain.Modal m a f) = length-standings bs n i f
 length-standings bs n i (plain.Binder q x f) = length-standings (record { name = x; negations = n; iffs = i } ∷ bs) n i f
-
--- where no place is left, no variable is at fault
-pub no_place : (ss : List Standing) → fault_at ss [] ≡ None
-no_place [] = refl
-no_place (Fine ∷ ss) = refl
-no_place (Unbound ∷ ss) = refl
-no_place (NotPositive ∷ ss) = refl

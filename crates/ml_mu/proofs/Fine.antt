@@ -167,13 +167,13 @@ fine_one Fine is = refl
 fine_one Unbound is = absurd (cc)
 fine_one NotPositive is = absurd (cc)
 
-around_more : (bs : List Around) (n i : ℕ) → AreAround bs n i → AreAround bs (n + 1) i
+pub around_more : (bs : List Around) (n i : ℕ) → AreAround bs n i → AreAround bs (n + 1) i
 around_more bs n i around = λ x b is. let a = around x b is in (omega arith, a.1)
 
-around_iff : (bs : List Around) (n i : ℕ) → AreAround bs n i → AreAround bs n (i + 1)
+pub around_iff : (bs : List Around) (n i : ℕ) → AreAround bs n i → AreAround bs n (i + 1)
 around_iff bs n i around = λ x b is. let a = around x b is in (a.0, omega arith)
 
-around_binder : (bs : List Around) (n i : ℕ) (x : List ℕ) → AreAround bs n i → AreAround (record { name = x; negations = n; iffs = i } ∷ bs) n i
+pub around_binder : (bs : List Around) (n i : ℕ) (x : List ℕ) → AreAround bs n i → AreAround (record { name = x; negations = n; iffs = i } ∷ bs) n i
 around_binder bs n i x around = λ y b is.
     ⊎_elim
     (λ (here : bytes_eq x y ≡ true). let e : (record { name = x; negations = n; iffs = i }) ≡ b = cc (sym (cond-true (bytes_eq x y) (Some (record { name = x; negations = n; iffs = i })) (innermost bs y) here) ∙ is) in subst (λ c. (c.negations ≤ n) × (c.iffs ≤ i)) e (omega arith, omega arith))

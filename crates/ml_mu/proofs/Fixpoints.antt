@@ -8,17 +8,16 @@
 --   meaning_fixpoint         == what a positive binder means is a fixpoint of its body
 --   least_within             == what mu means lies within each set that its body keeps
 --   greatest_around          == what nu means has each set in it that its body keeps
-use Rattle.std.proofs.Common.{◌≡◌, ℕ, zero, suc, ◌+◌, ◌<◌, ◌≤◌, ◌⊎◌, Bool, true, false, List, [], ◌∷◌, length, inl, inr, refl, sym, ap, ◌∙◌, subst, ⊎_elim, arith}
+use Rattle.std.proofs.Common.{◌≡◌, ℕ, zero, suc, ◌+◌, ◌<◌, ◌≤◌, ◌⊎◌, true, false, List, [], ◌∷◌, length, inl, inr, refl, sym, ap, ◌∙◌, ⊎_elim, arith}
 use Rattle.std.proofs.lemmas.Bool.{cases_lt, true≢false}
 use Rattle.ml_lists.specs.Iterate.{iterate}
 use Rattle.ml_lists.proofs.Iterates.{iterate_stays}
-use Rattle.ml_base.specs.Structure.{Structure, StateSet, is_member}
-use Rattle.ml_mu.specs.Environment.{HaveFlags}
+use Rattle.ml_base.specs.Structure.{Structure, StateSet}
+use Rattle.ml_mu.specs.Meaning.{HaveFlags}
 use Rattle.ml_mu.specs.Formula.{Formula, Binder, Fixpoint, Least, Greatest}
 use Rattle.ml_mu.specs.Meaning.{Given, first_iterate, meaning}
 use Rattle.ml_mu.specs.Variables.{is_positive}
-use Rattle.ml_mu.proofs.Inclusion.{Implies, Within, nowhere_within, within_everywhere}
-use Rattle.ml_mu.proofs.MeaningFlags.{meaning_flags}
+use Rattle.ml_mu.proofs.Inclusion.{Within, nowhere_within, within_everywhere}
 use Rattle.ml_mu.proofs.Monotone.{Ordered, body_grows, least_ascends, greatest_descends}
 
 abbrev pub members : StateSet → ℕ

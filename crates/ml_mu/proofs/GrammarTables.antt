@@ -6,14 +6,15 @@ use Rattle.std.proofs.Common.{◌≡◌, ℕ, ◌≤◌, false, List, [], ◌∷
 use Rattle.ml_text.specs.declared.token.Operator.{Operator}
 use Rattle.ml_text.specs.declared.token.Operator.TheVariants as operator
 use Rattle.ml_text.specs.Grammar as tables
-use Rattle.ml_text.specs.Grammar.{Infix, Outside, Whole, More, Read, Inner, Opens, Part, Level, Operand, Rest, Behind, alone, joined, postfixed, form, whole, sign, read, inner, opens, left_level, right_level, takes, front}
+use Rattle.ml_text.specs.Grammar.{Whole, More, Read, Inner, Opens, Part, Level, Operand, Rest, Behind, alone, joined, postfixed, form, whole, sign, read, inner, opens, left_level, right_level, takes, front}
+use Rattle.ml_text.specs.declared.forms.Role.TheVariants.{Infix}
 use Rattle.ml_text.proofs.Levels.{loosen}
 use Rattle.ml_mu.specs.Formula as plain
 use Rattle.ml_mu.specs.Formula.{Formula, Modality, Diamond, Square, Fixpoint}
 use Rattle.ml_mu.specs.Signs.{Sign, Not, Connective, Const, Open, Close, Begins, Ends, Binds, Dot, Blank, Lower, Upper, action_of}
 use Rattle.ml_mu.specs.Grammar as grammar
 use Rattle.ml_mu.specs.Grammar.{Reads, iff_alone, iff, imp_alone, imp, or_alone, or, and_alone, and, negation, modal, modal_blank, binder, group, constant, proposition, variable, begins_operator}
-use Rattle.ml_mu.specs.Tables.{Wait, BehindBegin, BehindAction, BehindFixpoint, BehindVariable, BehindInside, Hold, Negation, Modal, Binder, Group, MuTurn, shift, resume, role, operator_level, mu_grammar}
+use Rattle.ml_mu.specs.private.Tables.{Wait, BehindBegin, BehindAction, BehindFixpoint, BehindVariable, BehindInside, Hold, Negation, Modal, Binder, Group, MuTurn, shift, resume, role, operator_level, mu_grammar}
 
 -- what the tables read
 abbrev pub Tabled : Part mu_grammar → List Sign → Formula → List Sign → Type 0
@@ -216,7 +217,7 @@ sign_completes (BehindVariable q x) _ ts rest f r = absurd r
 sign_completes (BehindInside h) Close ts rest f r = λ us a. subst (λ x. Reads grammar.Un (Open ∷ us) x rest) r.0 (group (subst (λ vs. Reads grammar.Iff us h (Close ∷ vs)) r.1 a))
 sign_completes (BehindInside h) _ ts rest f r = absurd r
 
-inner_enters : (k : Hold) (ts us rest : List Sign) (v f : Formula) → Untabled (Level tt (Rattle.ml_mu.specs.Tables.level k)) ts v us → takes mu_grammar tt (Rattle.ml_mu.specs.Tables.level k) (front us) ≡ false → OfMode (resume k v) us f rest → Enters k ts f rest
+inner_enters : (k : Hold) (ts us rest : List Sign) (v f : Formula) → Untabled (Level tt (Rattle.ml_mu.specs.private.Tables.level k)) ts v us → takes mu_grammar tt (Rattle.ml_mu.specs.private.Tables.level k) (front us) ≡ false → OfMode (resume k v) us f rest → Enters k ts f rest
 inner_enters Negation ts us rest v f a un r = (v, r.0, subst (λ vs. Reads grammar.Un ts v vs) r.1 (a grammar.Un (omega arith)))
 inner_enters (Modal m b) ts us rest v f a un r = (v, r.0, subst (λ vs. Reads grammar.Un ts v vs) r.1 (a grammar.Un (omega arith)))
 inner_enters (Binder q x) ts us rest v f a un r = (v, r.0, subst (λ vs. Reads grammar.Iff ts v vs) r.1 (a grammar.Iff (omega arith)), ap begins_operator (sym r.1) ∙ no_operator us un)
@@ -228,7 +229,7 @@ joined_at operator.Implies ts us rest f h at le a b = imp_raised at le (imp (a g
 joined_at operator.Or ts us rest f h at le a b = or_raised at le (or (a grammar.Or (omega arith)) (b grammar.And (omega arith)))
 joined_at operator.And ts us rest f h at le a b = and_raised at le (and (a grammar.And (omega arith)) (b grammar.Un (omega arith)))
 
-joined_back : (o : Sign) (m l : ℕ) (ts us rest : List Sign) (f h : Formula) → role o ≡ Infix m → l ≤ m → Untabled (Level tt (left_level mu_grammar tt m)) ts f (o ∷ us) → Untabled (Level tt (right_level mu_grammar tt m)) us h rest → Untabled (Level tt l) ts (Rattle.ml_mu.specs.Tables.join o f h) rest
+joined_back : (o : Sign) (m l : ℕ) (ts us rest : List Sign) (f h : Formula) → role o ≡ Infix m → l ≤ m → Untabled (Level tt (left_level mu_grammar tt m)) ts f (o ∷ us) → Untabled (Level tt (right_level mu_grammar tt m)) us h rest → Untabled (Level tt l) ts (Rattle.ml_mu.specs.private.Tables.join o f h) rest
 joined_back (Connective o) m l ts us rest f h is le a b =
     let same : m ≡ operator_level o = cc in
     λ at below. joined_at o ts us rest f h at (omega arith)

@@ -1,23 +1,17 @@
--- words, taken apart
-pub mod Words
 -- the grammar is the one of the tables
 pub mod GrammarTables
 -- the tables are regular and can be completed
 pub mod MuGrammar
--- the program's stack
-pub mod Stacks
--- steps behind an operand
-pub mod Steps
 -- names in texts
 pub mod Names
--- what comes of an item
-pub mod Items
 -- what a text counts is what its formula has
 pub mod Counting
 -- names are spelled as they must be
 pub mod Spelled
 -- variables that are fine are bound and positive
 pub mod Fine
+-- variables that are bound and positive are fine
+pub mod FaultFree
 -- from what was read to what parse answers
 pub mod Parsed
 -- a text has one answer at most
@@ -32,13 +26,21 @@ pub mod Evaluation
 pub mod Inclusion
 -- a meaning has one flag for each state
 pub mod MeaningFlags
+-- the pieces of canonical texts
+pub mod CanonicalPieces
+-- the signs that words are
+pub mod WordSigns
 -- canonical texts
 pub mod CanonicalTexts
 -- positive bodies are monotone
 pub mod Monotone
 -- the n-th iterate is a fixpoint, the least or the greatest
 pub mod Fixpoints
--- the lines of a head
-pub mod HeadLines
--- canonical texts are parsed, and heads are read back
+-- names in texts and formulas are short
+pub mod ShortNames
+-- canonical texts pass no limit
+pub mod CanonicalLimits
+-- canonical texts are parsed
 pub mod CanonicalParsed
+-- canonical texts stand in one line
+pub mod CanonicalLines

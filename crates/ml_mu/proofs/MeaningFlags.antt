@@ -9,7 +9,7 @@ use Rattle.std.proofs.lemmas.List.{length-map, length-replicate}
 use Rattle.std.proofs.lemmas.List.FromFn.{length-map-range_with_len}
 use Rattle.ml_lists.proofs.Iterates.{iterate_keeps}
 use Rattle.ml_base.specs.Structure.{Structure, lists, is_member}
-use Rattle.ml_mu.specs.Environment.{HaveFlags}
+use Rattle.ml_mu.specs.Meaning.{HaveFlags}
 use Rattle.ml_mu.specs.Formula.{Formula, Const, Prop, Var, Not, Binary, Modal, Binder, Diamond, Square, Least, Greatest}
 use Rattle.ml_mu.specs.Meaning.{Given, given_set, truth_of, some_edge, every_edge, first_iterate, meaning}
 
@@ -36,7 +36,3 @@ meaning_flags m g (Binder Least x f) flags =
 meaning_flags m g (Binder Greatest x f) flags =
     iterate_keeps (λ set. length set ≡ m.states) (λ set. meaning m ((x, set) ∷ g) f) (first_iterate m Greatest) m.states
     (length-replicate m.states true) (λ set long. meaning_flags m ((x, set) ∷ g) f (long, flags))
-
--- without given sets
-pub closed_flags : (m : Structure) (f : Formula) → length (meaning m [] f) ≡ m.states
-closed_flags m f = meaning_flags m [] f tt

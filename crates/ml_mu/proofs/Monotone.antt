@@ -17,7 +17,7 @@ use Rattle.ml_lists.specs.Iterate.{iterate}
 use Rattle.ml_lists.proofs.Iterates.{iterates_related}
 use Rattle.ml_text.specs.declared.token.Operator.TheVariants as operator
 use Rattle.ml_base.specs.Structure.{Structure, StateSet, is_member}
-use Rattle.ml_mu.specs.Environment.{HaveFlags}
+use Rattle.ml_mu.specs.Meaning.{HaveFlags}
 use Rattle.ml_mu.specs.Formula.{Formula, Const, Prop, Var, Not, Binary, Modal, Binder, Diamond, Square, Fixpoint, Least, Greatest}
 use Rattle.ml_mu.specs.Meaning.{Given, given_set, truth_of, some_edge, every_edge, first_iterate, meaning}
 use Rattle.ml_mu.specs.Variables.{occurs_only, is_positive}
@@ -229,8 +229,3 @@ greatest_descends m x f g (suc k) positive flags =
       meaning_flags m ((x, step (iterate k step (first_iterate m Greatest))) ∷ g) f (before.1, flags),
       before.1,
     )
-
--- without other given sets
-pub positive_grows : (m : Structure) (q : Fixpoint) (x : List ℕ) (f : Formula) (s t : StateSet) → is_positive (Binder q x f) ≡ true
-    → length s ≡ m.states → length t ≡ m.states → Within s t → Within (meaning m ((x, s) ∷ []) f) (meaning m ((x, t) ∷ []) f)
-positive_grows m q x f s t positive s_flags t_flags within = body_grows m q x f [] s t positive tt s_flags t_flags within

@@ -10,7 +10,7 @@ use Rattle.ml_mu.specs.Formula.{Formula, Modality, Diamond, Square, Fixpoint}
 use Rattle.ml_mu.specs.Signs.{Sign, Const, Close, Ends, Dot, Upper}
 use Rattle.ml_mu.specs.Grammar as grammar
 use Rattle.ml_mu.specs.Grammar.{IsReadAs}
-use Rattle.ml_mu.specs.Tables.{Wait, BehindBegin, BehindAction, BehindFixpoint, BehindVariable, BehindInside, Hold, Negation, Modal, Binder, Group, shift_operand, resume, mu_grammar}
+use Rattle.ml_mu.specs.private.Tables.{Wait, BehindBegin, BehindAction, BehindFixpoint, BehindVariable, BehindInside, Hold, Negation, Modal, Binder, Group, shift_operand, resume, mu_grammar}
 use Rattle.ml_mu.proofs.GrammarTables.{Tabled, tight, tabled, untabled}
 
 never_opens : (t : Sign) (k : Hold) → shift_operand t ≡ Some (Opens k) → ⊥

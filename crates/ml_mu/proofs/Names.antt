@@ -1,76 +1,86 @@
--- Names in texts: where they may stand, and what a word that is too long can be.
+-- Names in texts: which words are names, and of which bytes of a token a name is made.
 --
---   takes_operand, takes_begin, takes_fixpoint == forms of which a name may come next
---   takes_none      == behind an operand no name comes
+--   name_of_lower, name_of_upper == a word that isn't reserved is a name by its first letter
+--   free_word       == a word that is no constant and no binder's word isn't reserved
+--   no_binder, some_binder == a word that is a binder's, and one that isn't
 --   short_name      == a token that is no longer than a name has a short name, if it has one
---   long_is_name    == a word longer than a name is no word of the language
-use Rattle.std.proofs.Common.{◌≡◌, ℕ, ◌<◌, ◌≤◌, Bool, true, false, List, [], ◌∷◌, length, Option, Some, None, refl, sym, ◌∙◌, ap, subst, ⊎_elim, arith, codes, bytes_eq, ◌&&◌, ◌||◌, ◌==◌, le-leb, nat_le, nat_lt, not, cond, ltb-true, ltb-false, ◌-◌, take, drop, length-take, length-drop}
+--   cut_name        == so has a longer one, where its name is cut
+--   can_name        == so a sign can be made of each token
+use Rattle.std.proofs.Common.{◌≡◌, ℕ, zero, suc, ◌≤◌, Bool, true, false, List, [], ◌∷◌, length, Option, Some, None, refl, sym, ◌∙◌, ap, subst, ⊎_elim, arith, codes, bytes_eq, ◌&&◌, ◌||◌, ◌==◌, le-leb, nat_le, nat_lt, not, cond, ltb-true, ltb-false, ◌-◌, take, drop, slice_index, length-take, length-drop}
 use Rattle.std.specs.List.{list_all}
 use Rattle.std.specs.Char.{is_ascii_alphabetic}
 use Rattle.std.proofs.Math.Path.{fun_ext}
-use Rattle.std.proofs.lemmas.Bool.{cases_Bool, and_parts, and_from, or_left, or_right}
-use Rattle.std.proofs.lemmas.Slice.Eq.{bytes_eq-Decides}
-use Rattle.ml_base.specs.Name.{is_name, is_name_byte}
+use Rattle.std.proofs.lemmas.Bool.{cases_Bool, and_parts, and_from, or_left, or_right, not_from_false, cond-true, cond-false}
+use Rattle.std.proofs.lemmas.List.{take-take}
+use Rattle.std.proofs.lemmas.List.Sums.{list_all-from_AllPass}
+use Rattle.ml_base.specs.Name.{is_name, is_name_byte, longest_name}
 use Rattle.ml_text.specs.Bytes.{is_lower, is_upper, is_digit, is_word_byte}
 use Rattle.ml_text.specs.declared.token.Token.{Token}
 use Rattle.ml_text.specs.declared.token.Token.TheVariants as token
-use Rattle.ml_text.specs.Refusals.{Neither, longest_name}
-use Rattle.ml_text.specs.Machine.{Held, Left, Stack, behind}
-use Rattle.ml_text.specs.Words.{constant_of}
-use Rattle.ml_mu.specs.Formula.{Formula}
-use Rattle.ml_mu.specs.Signs.{Sign, Lower, Upper, Unknown, IsName, HasShortName, sign_of, byte_sign, word_sign, word_sign_by, name_sign}
-use Rattle.ml_mu.specs.Text.{is_word, bracket_of}
+use Rattle.ml_text.specs.declared.token.Placed.{Placed}
+use Rattle.ml_text.specs.Items.{is_word, is_long_word, bytes_of, name_bytes}
+use Rattle.ml_text.specs.Words.{constant_of, IsWord}
+use Rattle.ml_text.proofs.ItemSteps.{short_bytes}
+use Rattle.ml_mu.specs.Formula.{Fixpoint, Least, Greatest}
+use Rattle.ml_mu.specs.Signs.{Sign, Binds, Lower, Upper, Unknown, HasShortName, sign_of, byte_sign, word_sign_by, name_sign}
+use Rattle.ml_mu.specs.Text.{sign_at}
 use Rattle.ml_mu.specs.Spelling.{is_proposition, is_variable, is_word_from, is_reserved}
-use Rattle.ml_mu.specs.Tables.{Negation, Modal, Binder, Group, mu_grammar}
+use Rattle.ml_mu.specs.private.SignViews.{named}
+use Rattle.ml_mu.specs.declared.signs.Kind.{Kind}
+use Rattle.ml_mu.specs.declared.signs.Kind.TheVariants as kind
+use Rattle.ml_mu.proofs.Spelled.{IsSpelledSign, spelled_sign}
 
--- no name comes behind an operand
-pub behind_name : (stack : Stack mu_grammar) (v : Formula) (t : Sign) → IsName t → behind mu_grammar stack v t ≡ None
-behind_name [] v (Lower p) is = refl
-behind_name [] v (Upper p) is = refl
-behind_name [] v Unknown is = refl
-behind_name (Held Negation ∷ stack) v (Lower p) is = behind_name stack _ (Lower p) tt
-behind_name (Held Negation ∷ stack) v (Upper p) is = behind_name stack _ (Upper p) tt
-behind_name (Held Negation ∷ stack) v Unknown is = behind_name stack _ Unknown tt
-behind_name (Held (Modal m a) ∷ stack) v (Lower p) is = behind_name stack _ (Lower p) tt
-behind_name (Held (Modal m a) ∷ stack) v (Upper p) is = behind_name stack _ (Upper p) tt
-behind_name (Held (Modal m a) ∷ stack) v Unknown is = behind_name stack _ Unknown tt
-behind_name (Held (Binder q x) ∷ stack) v (Lower p) is = behind_name stack _ (Lower p) tt
-behind_name (Held (Binder q x) ∷ stack) v (Upper p) is = behind_name stack _ (Upper p) tt
-behind_name (Held (Binder q x) ∷ stack) v Unknown is = behind_name stack _ Unknown tt
-behind_name (Held Group ∷ stack) v (Lower p) is = refl
-behind_name (Held Group ∷ stack) v (Upper p) is = refl
-behind_name (Held Group ∷ stack) v Unknown is = refl
-behind_name (Left s m o u ∷ stack) v (Lower p) is = behind_name stack _ (Lower p) tt
-behind_name (Left s m o u ∷ stack) v (Upper p) is = behind_name stack _ (Upper p) tt
-behind_name (Left s m o u ∷ stack) v Unknown is = behind_name stack _ Unknown tt
-behind_name stack v _ is = absurd is
+-- ---- which words are names
 
--- ---- words that are too long
+pub name_of_lower : (w : List ℕ) → IsWord w → is_reserved w ≡ false → is_lower (slice_index w 0) ≡ true → Lower w ≡ name_sign w
+name_of_lower [] word free lower = absurd word
+name_of_lower (b ∷ bs) word free lower =
+    let bytes = list_all-from_AllPass is_word_byte bs word.1 in
+    let is : is_proposition (b ∷ bs) ≡ true = and_from (is_word_from is_lower (b ∷ bs)) (not (is_reserved (b ∷ bs))) (and_from (is_lower b) (list_all is_word_byte bs) lower bytes) (not_from_false (is_reserved (b ∷ bs)) free) in
+    sym (cond-true (is_proposition (b ∷ bs)) (Lower (b ∷ bs)) (cond (is_variable (b ∷ bs)) (Upper (b ∷ bs)) Unknown) is)
 
-differs : (word w : List ℕ) → length w < length word → bytes_eq word w ≡ false
-differs word w less =
-    ⊎_elim
-    (λ (same : bytes_eq word w ≡ true). let is = (bytes_eq-Decides word w).0 same in absurd (omega (arith, ap length is)))
-    (λ (other : bytes_eq word w ≡ false). other)
-    (cases_Bool (bytes_eq word w))
+upper_by : (l u : Bool) → (l || u) ≡ true → l ≡ false → u ≡ true
+upper_by true u is other = absurd (cc)
+upper_by false u is other = is
 
-no_constant : (word : List ℕ) → 64 < length word → constant_of word ≡ None
+pub name_of_upper : (w : List ℕ) → IsWord w → is_lower (slice_index w 0) ≡ false → Upper w ≡ name_sign w
+name_of_upper [] word other = absurd word
+name_of_upper (b ∷ bs) word other =
+    let bytes = list_all-from_AllPass is_word_byte bs word.1 in
+    let no : is_proposition (b ∷ bs) ≡ false = ap (λ l. (l && list_all is_word_byte bs) && not (is_reserved (b ∷ bs))) other in
+    let is : is_variable (b ∷ bs) ≡ true = and_from (is_upper b) (list_all is_word_byte bs) (upper_by (is_lower b) (is_upper b) word.0 other) bytes in
+    sym (cond-false (is_proposition (b ∷ bs)) (Lower (b ∷ bs)) (cond (is_variable (b ∷ bs)) (Upper (b ∷ bs)) Unknown) no
+    ∙ cond-true (is_variable (b ∷ bs)) (Upper (b ∷ bs)) Unknown is)
+
+free_by : (a b c d m n : Bool) → cond (a || (b || false)) (Some true) (cond (c || (d || false)) (Some false) None) ≡ None → m ≡ false → n ≡ false → (a || (b || (c || (d || (m || (n || false)))))) ≡ false
+free_by true b c d m n is x y = absurd (cc)
+free_by false true c d m n is x y = absurd (cc)
+free_by false false true d m n is x y = absurd (cc)
+free_by false false false true m n is x y = absurd (cc)
+free_by false false false false m n is x y = ap (λ v. v || (n || false)) x ∙ ap (λ v. v || false) y
+
+pub free_word : (w : List ℕ) → constant_of w ≡ None → bytes_eq w (codes "mu") ≡ false → bytes_eq w (codes "nu") ≡ false → is_reserved w ≡ false
 unfolding constant_of
-no_constant word long =
-    simp (differs word (codes "tt") (omega arith), differs word (codes "true") (omega arith), differs word (codes "ff") (omega arith), differs word (codes "false") (omega arith))
+free_word w is x y = free_by (bytes_eq w (codes "tt")) (bytes_eq w (codes "true")) (bytes_eq w (codes "ff")) (bytes_eq w (codes "false")) (bytes_eq w (codes "mu")) (bytes_eq w (codes "nu")) is x y
 
-name_sign-name : (word : List ℕ) (a b : Bool) → is_proposition word ≡ a → is_variable word ≡ b → IsName (cond a (Lower word) (cond b (Upper word) Unknown))
-name_sign-name word true b x y = tt
-name_sign-name word false true x y = tt
-name_sign-name word false false x y = tt
+-- the binder's word, as the program finds it
+abbrev pub binder_by : Bool → Bool → Option Fixpoint
+binder_by m n = cond m (Some Least) (cond n (Some Greatest) None)
 
-long_word : (word : List ℕ) → 64 < length word → word_sign word ≡ name_sign word
-long_word word long =
-    ap (λ o. word_sign_by o word) (no_constant word long)
-    ∙ simp (differs word (codes "mu") (omega arith), differs word (codes "nu") (omega arith))
+pub no_binder : (m n : Bool) → None ≡ binder_by m n → (m ≡ false) × (n ≡ false)
+no_binder true n is = absurd (cc)
+no_binder false true is = absurd (cc)
+no_binder false false is = (refl, refl)
 
-pub long_is_name : (word : List ℕ) → 64 < length word → IsName (word_sign word)
-long_is_name word long = subst IsName (sym (long_word word long)) (name_sign-name word (is_proposition word) (is_variable word) refl refl)
+pub some_binder : (m n : Bool) (q : Fixpoint) (other : Sign) → Some q ≡ binder_by m n → Binds q ≡ cond m (Binds Least) (cond n (Binds Greatest) other)
+some_binder true n q other is = let same : q ≡ Least = cc in ap Binds same
+some_binder false true q other is = let same : q ≡ Greatest = cc in ap Binds same
+some_binder false false q other is = absurd (cc)
+
+pub other_word : (m n : Bool) (other : Sign) → m ≡ false → n ≡ false → cond m (Binds Least) (cond n (Binds Greatest) other) ≡ other
+other_word true n other x y = absurd (cc)
+other_word false true other x y = absurd (cc)
+other_word false false other x y = refl
 
 -- ---- names that are short enough
 
@@ -85,23 +95,23 @@ word_byte false true false x = refl
 word_byte false false true x = refl
 word_byte false false false x = refl
 
-name_bytes : (bs : List ℕ) → list_all is_word_byte bs ≡ list_all is_name_byte bs
-name_bytes bs = ap (λ p. list_all p bs) (fun_ext (λ b. word_byte (is_lower b) (is_upper b) (is_digit b) (b == 95)))
+same_bytes : (bs : List ℕ) → list_all is_word_byte bs ≡ list_all is_name_byte bs
+same_bytes bs = ap (λ p. list_all p bs) (fun_ext (λ b. word_byte (is_lower b) (is_upper b) (is_digit b) (b == 95)))
 
 name_from : (begins : ℕ → Bool) → ((b : ℕ) → begins b ≡ true → is_ascii_alphabetic b ≡ true) → (w : List ℕ) → is_word_from begins w ≡ true → length w ≤ 64 → is_name w ≡ true
 name_from begins letter [] word short = absurd (cc)
 name_from begins letter (b ∷ bs) word short =
     let parts = and_parts (begins b) (list_all is_word_byte bs) word in
     let first = letter b parts.0 in
-    let others = sym (name_bytes bs) ∙ parts.1 in
+    let others = sym (same_bytes bs) ∙ parts.1 in
     let fits = le-leb (length (b ∷ bs)) 64 short in
     and_from (is_ascii_alphabetic b && list_all is_name_byte bs) (nat_le (length (b ∷ bs)) 64)
     (and_from (is_ascii_alphabetic b) (list_all is_name_byte bs) first others) fits
 
-lower_name : (w : List ℕ) → is_proposition w ≡ true → length w ≤ 64 → is_name w ≡ true
+pub lower_name : (w : List ℕ) → is_proposition w ≡ true → length w ≤ 64 → is_name w ≡ true
 lower_name w is short = name_from is_lower (λ b lower. or_right (is_upper b) (is_lower b) lower) w (and_parts (is_word_from is_lower w) (not (is_reserved w)) is).0 short
 
-upper_name : (w : List ℕ) → is_variable w ≡ true → length w ≤ 64 → is_name w ≡ true
+pub upper_name : (w : List ℕ) → is_variable w ≡ true → length w ≤ 64 → is_name w ≡ true
 upper_name w is short = name_from is_upper (λ b upper. or_left (is_upper b) (is_lower b) upper) w is short
 
 -- what holds of both signs holds of the one that is chosen
@@ -138,19 +148,61 @@ short_name (token.Operator o) bytes n short size = tt
 short_name (token.Byte b) bytes n short size = byte_name b
 short_name token.Word bytes n short size = short_word bytes (constant_of bytes) (let le = ltb-false longest_name n short in omega (arith, le, size))
 
--- a word that is longer than a name
-pub long_name : (t : Token) (bytes : List ℕ) (n : ℕ) → (is_word t && nat_lt longest_name n) ≡ true → length bytes ≡ n → IsName (sign_of t bytes)
-long_name token.Not bytes n long size = absurd (cc)
-long_name (token.Operator o) bytes n long size = absurd (cc)
-long_name (token.Byte b) bytes n long size = absurd (cc)
-long_name token.Word bytes n long size = long_is_name bytes (let lt = ltb-true longest_name n long in omega (arith, lt, size))
+-- ---- names that are cut
 
-pub name_bracket : (s : Sign) → IsName s → bracket_of s ≡ Neither
-name_bracket (Lower p) is = refl
-name_bracket (Upper x) is = refl
-name_bracket Unknown is = refl
-name_bracket _ is = absurd is
+bytes_cut : (n : ℕ) (bs : List ℕ) → list_all is_word_byte bs ≡ true → list_all is_word_byte (take n bs) ≡ true
+bytes_cut zero bs all = refl
+bytes_cut (suc n) [] all = refl
+bytes_cut (suc n) (b ∷ bs) all =
+    let parts = and_parts (is_word_byte b) (list_all is_word_byte bs) all in
+    and_from (is_word_byte b) (list_all is_word_byte (take n bs)) parts.0 (bytes_cut n bs parts.1)
+
+word_cut : (begins : ℕ → Bool) (n : ℕ) (w : List ℕ) → 1 ≤ n → is_word_from begins w ≡ true → is_word_from begins (take n w) ≡ true
+word_cut begins zero w some is = absurd (omega arith)
+word_cut begins (suc n) [] some is = is
+word_cut begins (suc n) (b ∷ bs) some is =
+    let parts = and_parts (begins b) (list_all is_word_byte bs) is in
+    and_from (begins b) (list_all is_word_byte (take n bs)) parts.0 (bytes_cut n bs parts.1)
+
+cut_length : (w : List ℕ) → length (take 64 w) ≤ 64
+cut_length w = omega (arith, length-take 64 w)
+
+-- the first bytes of a name are one
+pub cut_name : (k : Kind) (w : List ℕ) (s : Sign) → named k w ≡ s → IsSpelledSign s → HasShortName (named k (take 64 w))
+cut_name kind.Lower w s is spelled =
+    let word : is_proposition w ≡ true = subst IsSpelledSign (sym is) spelled in
+    name_from is_lower (λ b lower. or_right (is_upper b) (is_lower b) lower) (take 64 w)
+    (word_cut is_lower 64 w (omega arith) (and_parts (is_word_from is_lower w) (not (is_reserved w)) word).0) (cut_length w)
+cut_name kind.Upper w s is spelled =
+    let word : is_variable w ≡ true = subst IsSpelledSign (sym is) spelled in
+    name_from is_upper (λ b upper. or_left (is_upper b) (is_lower b) upper) (take 64 w)
+    (word_cut is_upper 64 w (omega arith) word) (cut_length w)
+cut_name kind.Not w s is spelled = tt
+cut_name (kind.Connective c) w s is spelled = tt
+cut_name (kind.Const b) w s is spelled = tt
+cut_name kind.Open w s is spelled = tt
+cut_name kind.Close w s is spelled = tt
+cut_name (kind.Begins m) w s is spelled = tt
+cut_name (kind.Ends m) w s is spelled = tt
+cut_name (kind.Binds q) w s is spelled = tt
+cut_name kind.Dot w s is spelled = tt
+cut_name kind.Blank w s is spelled = tt
+cut_name kind.Unknown w s is spelled = tt
 
 -- the bytes of a token within the text
 pub token_length : (text : List ℕ) (start end : ℕ) → start ≤ end → end ≤ length text → length (take (end - start) (drop start text)) ≡ end - start
 token_length text start end before within = omega (arith, length-take (end - start) (drop start text), length-drop start text)
+
+-- a sign can be made of each token
+pub can_name : (k : Kind) (text : List ℕ) (p : Placed) → p.start ≤ p.end → p.end ≤ length text → named k (bytes_of text p) ≡ sign_at text p → HasShortName (named k (name_bytes text p))
+can_name k text p before within is =
+    ⊎_elim
+    (λ (long : is_long_word p ≡ true).
+    let parts = and_parts (is_word p.token) (nat_lt longest_name (p.end - p.start)) long in
+    let more = ltb-true longest_name (p.end - p.start) parts.1 in
+    let cut : name_bytes text p ≡ take 64 (bytes_of text p) = ap (λ b. take (cond b longest_name (p.end - p.start)) (drop p.start text)) long ∙ sym (take-take 64 (p.end - p.start) (drop p.start text) (omega (arith, more))) in
+    subst (λ w. HasShortName (named k w)) (sym cut) (cut_name k (bytes_of text p) (sign_at text p) is (spelled_sign p.token (bytes_of text p))))
+    (λ (short : is_long_word p ≡ false).
+    subst (λ w. HasShortName (named k w)) (sym (short_bytes text p short))
+    (subst HasShortName (sym is) (short_name p.token (bytes_of text p) (p.end - p.start) short (token_length text p.start p.end before within))))
+    (cases_Bool (is_long_word p))

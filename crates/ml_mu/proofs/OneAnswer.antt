@@ -15,7 +15,7 @@ use Rattle.ml_mu.specs.Canonical.{canonical_text}
 use Rattle.ml_mu.specs.Formula.{Formula}
 use Rattle.ml_mu.specs.Grammar.{IsReadAs}
 use Rattle.ml_mu.specs.Parsing.{CanonicalStandsForOne, IsParsedAs, IsRefusedBy, ComesFirst, HasFault, StandForOne, NeverBoth, ParsedOnce, RefusedOnce}
-use Rattle.ml_mu.specs.Tables.{mu_grammar}
+use Rattle.ml_mu.specs.private.Tables.{mu_grammar}
 use Rattle.ml_mu.specs.Text.{items, variable_places}
 use Rattle.ml_mu.specs.VariableFaults.{Standing, Fine, Unbound, NotPositive, standings, fault_at, are_fine}
 use Rattle.ml_mu.proofs.CanonicalTexts.{canonical_stands}

@@ -15,21 +15,23 @@ use Rattle.ml_base.specs.declared.parse_refusal.ParseRefusal.{ParseRefusal}
 use Rattle.ml_base.specs.declared.parse_refusal.ParseRefusal.TheVariants as refusal
 use Rattle.ml_text.specs.declared.token.WordStart.TheVariants.{AnyLetter}
 use Rattle.ml_text.specs.Tokens.{tokens}
-use Rattle.ml_text.specs.Refusals.{Cause, Syntax, TooMany, TooNested, NameTooLong, IsAccepted}
-use Rattle.ml_text.specs.Reading.{Outcome, Found, Refused, text_outcome}
-use Rattle.ml_text.proofs.Exact.{Fits, IsOutcome, exact, few_items}
+use Rattle.ml_text.specs.Refusals.{Cause, Syntax, TooMany, TooNested, NameTooLong, IsAccepted, most_occurrences}
+use Rattle.ml_text.specs.private.Reading.{Outcome, Found, Refused, text_outcome}
+use Rattle.ml_text.proofs.Exact.{IsOutcome, exact, few_items}
+use Rattle.ml_text.proofs.Fits.{Fits}
 use Rattle.ml_mu.specs.Formula.{Formula, occurrences}
 use Rattle.ml_mu.specs.Grammar.{IsReadAs}
 use Rattle.ml_mu.specs.Parsing.{IsParsedAs, IsRefusedBy, ComesFirst}
-use Rattle.ml_mu.specs.ReadingViews.{IsRefusal}
-use Rattle.ml_mu.specs.Tables.{mu_grammar}
+use Rattle.ml_text.specs.private.Progress.{IsRefusal}
+use Rattle.ml_mu.specs.private.Tables.{mu_grammar}
 use Rattle.ml_mu.specs.Text.{items, variable_places}
 use Rattle.ml_mu.specs.VariableFaults.{Standing, Fine, Unbound, NotPositive, standings, fault_at, are_fine}
-use Rattle.ml_mu.specs.VariableViews.{IsFaultOf}
+use Rattle.ml_mu.specs.private.VariableViews.{IsFaultOf}
 use Rattle.ml_mu.specs.WellFormed.{IsWellFormed}
 use Rattle.ml_mu.proofs.Counting.{counts, counted_items, words_are_variables, variables, length-places, length-standings}
 use Rattle.ml_mu.proofs.Fine.{IsWellBound, fine_well}
 use Rattle.ml_mu.proofs.MuGrammar.{mu_regular, mu_completable, stands_read, read_stands}
+use Rattle.ml_mu.proofs.ShortNames.{text_short}
 use Rattle.ml_mu.proofs.Spelled.{items_spelled, reads_spelled}
 
 pub mu_fits : Fits mu_grammar IsReadAs
@@ -56,7 +58,7 @@ refused_first text (refusal.Unbound at) is = absurd is
 refused_first text (refusal.NotPositive at) is = absurd is
 refused_first text refusal.NoMemory is = tt
 
-pub accepted_small : (text : List ℕ) (f : Formula) → IsAccepted IsReadAs (items text) f → occurrences f ≤ 1000
+pub accepted_small : (text : List ℕ) (f : Formula) → IsAccepted IsReadAs (items text) f → occurrences f ≤ most_occurrences
 accepted_small text f accepted =
     let few = few_items (items text) (λ k fault. accepted.keeps TooMany k fault) in
     let same = counted_items text false (tokens AnyLetter text) in
@@ -68,6 +70,7 @@ accepted_fine text f accepted fine =
     let w : IsWellBound f = fine_well f fine in
     record {
       is_small = accepted_small text f accepted;
+      names_are_short = text_short text f accepted;
       names_are_spelled = (reads_spelled accepted.stands (items_spelled text false (tokens AnyLetter text))).0;
       variables_are_bound = w.bound;
       variables_are_positive = w.positive;
@@ -90,23 +93,23 @@ no_fault_fine (NotPositive ∷ ss) (at ∷ places) same is = absurd (cc)
 pub faultless_fine : (text : List ℕ) (f : Formula) → IsAccepted IsReadAs (items text) f → fault_at (standings f) (variable_places (items text)) ≡ None → are_fine (standings f) ≡ true
 faultless_fine text f accepted is = no_fault_fine (standings f) (variable_places (items text)) (length-faults text f accepted) is
 
--- ---- the same, as the program has it: the standings of the variables as a list
+-- ---- the same, as the program has it: the standings of the variables, and their places
 
-pub fault_refused : (text : List ℕ) (f : Formula) (ss : List Standing) (e : ParseRefusal) → mu_outcome text ≡ Found f → ss ≡ standings f → IsFaultOf e (fault_at ss (variable_places (items text))) → IsRefusedBy text e
-fault_refused text f ss (refusal.Unbound at) found same is = (f, found_accepted text f found, ap (λ s. fault_at s (variable_places (items text))) (sym same) ∙ is)
-fault_refused text f ss (refusal.NotPositive at) found same is = (f, found_accepted text f found, ap (λ s. fault_at s (variable_places (items text))) (sym same) ∙ is)
-fault_refused text f ss (refusal.Syntax at) found same is = absurd is
-fault_refused text f ss (refusal.TooMany at) found same is = absurd is
-fault_refused text f ss (refusal.TooNested at) found same is = absurd is
-fault_refused text f ss (refusal.NameTooLong at) found same is = absurd is
-fault_refused text f ss refusal.NoMemory found same is = absurd is
+pub fault_refused : (text : List ℕ) (f : Formula) (ss : List Standing) (places : List ℕ) (e : ParseRefusal) → mu_outcome text ≡ Found f → ss ≡ standings f → places ≡ variable_places (items text) → IsFaultOf e (fault_at ss places) → IsRefusedBy text e
+fault_refused text f ss places (refusal.Unbound at) found same there is = (f, found_accepted text f found, sym (ap (λ ps. fault_at (standings f) ps) there) ∙ ap (λ s. fault_at s places) (sym same) ∙ is)
+fault_refused text f ss places (refusal.NotPositive at) found same there is = (f, found_accepted text f found, sym (ap (λ ps. fault_at (standings f) ps) there) ∙ ap (λ s. fault_at s places) (sym same) ∙ is)
+fault_refused text f ss places (refusal.Syntax at) found same there is = absurd is
+fault_refused text f ss places (refusal.TooMany at) found same there is = absurd is
+fault_refused text f ss places (refusal.TooNested at) found same there is = absurd is
+fault_refused text f ss places (refusal.NameTooLong at) found same there is = absurd is
+fault_refused text f ss places refusal.NoMemory found same there is = absurd is
 
-pub found_parsed : (text : List ℕ) (f : Formula) (ss : List Standing) → mu_outcome text ≡ Found f → ss ≡ standings f → fault_at ss (variable_places (items text)) ≡ None → IsParsedAs text f
-found_parsed text f ss found same none =
+pub found_parsed : (text : List ℕ) (f : Formula) (ss : List Standing) (places : List ℕ) → mu_outcome text ≡ Found f → ss ≡ standings f → places ≡ variable_places (items text) → fault_at ss places ≡ None → IsParsedAs text f
+found_parsed text f ss places found same there none =
     let accepted = found_accepted text f found in
-    record { accepted = accepted; fine = faultless_fine text f accepted (ap (λ s. fault_at s (variable_places (items text))) (sym same) ∙ none) }
+    record { accepted = accepted; fine = faultless_fine text f accepted (sym (ap (λ ps. fault_at (standings f) ps) there) ∙ ap (λ s. fault_at s places) (sym same) ∙ none) }
 
-pub found_small : (text : List ℕ) (f : Formula) → mu_outcome text ≡ Found f → occurrences f ≤ 1000
+pub found_small : (text : List ℕ) (f : Formula) → mu_outcome text ≡ Found f → occurrences f ≤ most_occurrences
 found_small text f found = accepted_small text f (found_accepted text f found)
 
 pub parsed_well : (text : List ℕ) (f : Formula) → IsParsedAs text f → IsWellFormed f

@@ -7,7 +7,7 @@ use Rattle.std.proofs.Common.{◌≡◌, ℕ, ◌⊎◌, List, [], ◌∷◌, Op
 use Rattle.ml_base.specs.declared.parse_refusal.ParseRefusal.{ParseRefusal}
 use Rattle.ml_base.specs.declared.parse_refusal.ParseRefusal.TheVariants as refusal
 use Rattle.ml_text.specs.Refusals.{Cause, Syntax, TooMany, TooNested, NameTooLong, IsAccepted}
-use Rattle.ml_text.specs.Reading.{Outcome, Found, Refused}
+use Rattle.ml_text.specs.private.Reading.{Outcome, Found, Refused}
 use Rattle.ml_mu.specs.Formula.{Formula}
 use Rattle.ml_mu.specs.Grammar.{IsReadAs}
 use Rattle.ml_mu.specs.Parsing.{IsParsedAs, IsRefusedBy, ComesFirst, HasFault, SomeAnswer}

@@ -23,7 +23,8 @@ use Rattle.ml_mu.specs.Signs.{Sign, Connective, Blank, Lower, Upper, Unknown, ac
 use Rattle.ml_mu.specs.Grammar as grammar
 use Rattle.ml_mu.specs.Grammar.{Reads, iff_alone, iff, imp_alone, imp, or_alone, or, and_alone, and, negation, modal, modal_blank, binder, group, constant, proposition, variable}
 use Rattle.ml_mu.specs.Spelling.{is_proposition, is_variable, is_action, is_spelled, is_word_from, is_reserved}
-use Rattle.ml_mu.specs.Text.{weight_of, silences, item_by, sign_at, items_from, places_from, with_place}
+use Rattle.ml_text.specs.Items.{bytes_of}
+use Rattle.ml_mu.specs.Text.{silences, sign_at, items_from}
 
 -- ---- spelled names
 
@@ -70,7 +71,7 @@ spelled_sign token.Word bytes = spelled_word bytes (constant_of bytes)
 
 pub items_spelled : (text : List ℕ) (silent : Bool) (ps : List Placed) → AreSpelled (signs_of (items_from text silent ps))
 items_spelled text silent [] = tt
-items_spelled text silent (p ∷ ps) = (spelled_sign p.token (Rattle.ml_mu.specs.Text.bytes_of text p), items_spelled text (silences (sign_at text p)) ps)
+items_spelled text silent (p ∷ ps) = (spelled_sign p.token (bytes_of text p), items_spelled text (silences (sign_at text p)) ps)
 
 -- ---- formulas
 

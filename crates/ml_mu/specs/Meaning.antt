@@ -7,13 +7,14 @@
 -- states, or takes some away, until two are equal, the n-th is a fixpoint.
 --
 --   Given             == the sets that the free variables mean, innermost binder first
+--   HaveFlags n g     == each given set has n flags
 --   given_set m g x   == the set that the variable x means; a variable without a binder means the empty set
 --   truth_of op a b   == the truth table of a connective
 --   first_iterate m q == the set from which a fixpoint is approached: nowhere for the least, everywhere for the greatest
 --   some_edge m a s   == has the state s an edge by the action a into the set?
 --   every_edge m a s  == do all edges by the action a from s lead into the set?
 --   meaning m g f     == the set of the states of m at which f holds
-use Rattle.std.specs.Prelude.{ℕ, ◌==◌, Bool, ◌&&◌, ◌||◌, not, if◌then◌else◌, List, [], ◌∷◌, map}
+use Rattle.std.specs.Prelude.{ℕ, ◌==◌, ◌≡◌, Bool, ◌&&◌, ◌||◌, not, if◌then◌else◌, List, [], ◌∷◌, length, map}
 use Rattle.std.specs.List.{list_any, list_all}
 use Rattle.std.specs.Str.{bytes_eq}
 use Rattle.ml_lists.specs.Iterate.{iterate}
@@ -24,6 +25,10 @@ use Rattle.ml_mu.specs.Formula.{Formula, Const, Prop, Var, Not, Binary, Modal, B
 
 abbrev pub Given : Type 0
 Given = List (List ℕ × StateSet)
+
+abbrev pub HaveFlags : ℕ → Given → Type 0
+HaveFlags n [] = Unit {0}
+HaveFlags n (g ∷ gs) = (length g.1 ≡ n) × HaveFlags n gs
 
 abbrev pub given_set : Structure → Given → List ℕ → StateSet
 given_set m [] x = nowhere m

@@ -5,8 +5,8 @@
 --
 --   IsParsedAs text f   == the text is one of f, keeps the limits, and no variable is at fault
 --   IsRefusedBy text e  == the text is refused with this answer
---   StandForOne, CanonicalStandsForOne, SomeAnswer, ParsedOnce, RefusedOnce, NeverBoth, ParsedAreWellFormed == the laws
---                          of these notions
+--   StandForOne, CanonicalStandsForOne, SomeAnswer, ParsedOnce, RefusedOnce, NeverBoth, ParsedAreWellFormed,
+--   CanonicalIsParsed == the laws of these notions
 use Rattle.std.specs.Prelude.{ℕ, ◌≡◌, ◌≢◌, ◌⊎◌, List, length, Some, true, IsTrue}
 use Rattle.ml_base.specs.declared.parse_refusal.ParseRefusal.{ParseRefusal}
 use Rattle.ml_base.specs.declared.parse_refusal.ParseRefusal.TheVariants as refusal
@@ -71,3 +71,7 @@ CanonicalStandsForOne = (f g : Formula) → IsTrue (is_spelled f) → IsTextOf (
 -- the formulas that are parsed are well formed
 abbrev pub ParsedAreWellFormed : Type 0
 ParsedAreWellFormed = (text : List ℕ) (f : Formula) → IsParsedAs text f → IsWellFormed f
+
+-- the canonical text of a well-formed formula is parsed as it
+abbrev pub CanonicalIsParsed : Type 0
+CanonicalIsParsed = (f : Formula) → IsWellFormed f → IsParsedAs (canonical_text f) f

@@ -7,8 +7,7 @@
 --   word_sign word      == the sign that a word is
 --   byte_sign b         == the sign that a byte is that is a token by itself; most are in no text of the grammar
 --   sign_of t bytes     == the sign that a token with these bytes is
---   HasShortName s      == if the sign has a name, it is one of the program's, of at most 64 bytes
---   IsName s            == a word that is no word of the language
+--   HasShortName s      == if the sign has a name, it is one that the program can hold, of at most 64 bytes
 --   action_of s         == the action that a sign is, if it is one
 use Rattle.std.specs.Prelude.{ℕ, ◌==◌, Bool, List, Option, Some, None, if◌then◌else◌, codes, bytes_eq, IsTrue}
 use Rattle.ml_base.specs.Name.{is_name}
@@ -74,12 +73,6 @@ abbrev pub HasShortName : Sign → Type 0
 HasShortName (Lower p) = IsShortWord p
 HasShortName (Upper x) = IsShortWord x
 HasShortName _ = Unit {0}
-
-abbrev pub IsName : Sign → Type 0
-IsName (Lower p) = Unit {0}
-IsName (Upper x) = Unit {0}
-IsName Unknown = Unit {0}
-IsName _ = ⊥
 
 abbrev pub action_of : Sign → Option (List ℕ)
 action_of Blank = Some (codes "_")

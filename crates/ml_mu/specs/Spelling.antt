@@ -9,9 +9,11 @@
 --   is_variable name     == a word that begins with an upper-case letter
 --   is_action name       == a word that isn't reserved, or `_`
 --   is_spelled f         == are all names in f propositions, variables and actions where they stand as such?
-use Rattle.std.specs.Prelude.{ℕ, Bool, true, false, ◌&&◌, ◌||◌, not, List, [], ◌∷◌, codes}
+--   HasShortNames f      == no name in f has more bytes than a name may have
+use Rattle.std.specs.Prelude.{ℕ, ◌≤◌, Bool, true, false, ◌&&◌, ◌||◌, not, List, [], ◌∷◌, length, codes}
 use Rattle.std.specs.List.{list_any, list_all}
 use Rattle.std.specs.Str.{bytes_eq}
+use Rattle.ml_base.specs.Name.{longest_name}
 use Rattle.ml_text.specs.Bytes.{is_lower, is_upper, is_letter, is_word_byte}
 use Rattle.ml_mu.specs.Formula.{Formula, Const, Prop, Var, Not, Binary, Modal, Binder}
 
@@ -42,3 +44,12 @@ is_spelled (Not f) = is_spelled f
 is_spelled (Binary op f g) = is_spelled f && is_spelled g
 is_spelled (Modal m a f) = is_action a && is_spelled f
 is_spelled (Binder q x f) = is_variable x && is_spelled f
+
+abbrev pub HasShortNames : Formula → Type 0
+HasShortNames (Const b) = Unit {0}
+HasShortNames (Prop p) = length p ≤ longest_name
+HasShortNames (Var x) = length x ≤ longest_name
+HasShortNames (Not f) = HasShortNames f
+HasShortNames (Binary op f g) = HasShortNames f × HasShortNames g
+HasShortNames (Modal m a f) = (length a ≤ longest_name) × HasShortNames f
+HasShortNames (Binder q x f) = (length x ≤ longest_name) × HasShortNames f

@@ -5,17 +5,19 @@
 --
 --   weight_of s          == as how many occurrences a sign counts
 --   silences s           == the sign behind s counts nothing
---   item_of ..           == the item that a token of the text is
+--   is_variable_at ..    == a sign is a variable that isn't silent
+--   mu_signs             == the signs of mu texts; the context of a sign is whether it is silent
 --   items text           == the items of a text
 --   variable_places is   == the offsets of the variables among the items, in the order of the text
 --   IsTextOf text f      == the text is one of f by the grammar
-use Rattle.std.specs.Prelude.{ℕ, ◌-◌, ◌&&◌, Bool, true, false, nat_lt, if◌then◌else◌, List, [], ◌∷◌, take, drop}
-use Rattle.ml_text.specs.declared.token.Token.{Token}
-use Rattle.ml_text.specs.declared.token.Token.TheVariants as token
+use Rattle.std.specs.Prelude.{ℕ, Bool, true, false, if◌then◌else◌, List}
 use Rattle.ml_text.specs.declared.token.WordStart.TheVariants.{AnyLetter}
 use Rattle.ml_text.specs.declared.token.Placed.{Placed}
-use Rattle.ml_text.specs.Tokens.{tokens}
-use Rattle.ml_text.specs.Refusals.{Bracket, Opening, Closing, Neither, Item, signs_of, longest_name}
+use Rattle.ml_text.specs.Items as text_items
+use Rattle.ml_text.specs.Items.{SignTable, bytes_of}
+use Rattle.ml_text.specs.Refusals.{Item, signs_of}
+use Rattle.ml_text.specs.declared.limits.Bracket.{Bracket}
+use Rattle.ml_text.specs.declared.limits.Bracket.TheVariants.{Opening, Closing, Neither}
 use Rattle.ml_mu.specs.Formula.{Formula, weight}
 use Rattle.ml_mu.specs.Signs.{Sign, Not, Connective, Const, Open, Close, Begins, Binds, Lower, Upper, sign_of}
 use Rattle.ml_mu.specs.Grammar.{IsReadAs}
@@ -40,42 +42,35 @@ bracket_of Open = Opening
 bracket_of Close = Closing
 bracket_of _ = Neither
 
-abbrev pub is_word : Token → Bool
-is_word token.Word = true
-is_word _ = false
-
--- the bytes of a token
-abbrev pub bytes_of : List ℕ → Placed → List ℕ
-bytes_of text p = take (p.end - p.start) (drop p.start text)
-
--- the item of a sign, which is silent directly behind a sign that silences
-abbrev pub item_by : Bool → Sign → Placed → Item Sign
-item_by silent s p = record {
-  sign = s;
-  at = p.start;
-  weight = if silent then 0 else weight_of s;
-  bracket = bracket_of s;
-  is_long = is_word p.token && nat_lt longest_name (p.end - p.start);
-}
-
 abbrev pub sign_at : List ℕ → Placed → Sign
 sign_at text p = sign_of p.token (bytes_of text p)
 
+abbrev pub is_variable_at : Bool → Sign → Bool
+is_variable_at false (Upper x) = true
+is_variable_at _ _ = false
+
+abbrev pub mu_signs : SignTable Sign Bool
+mu_signs = record {
+  words = AnyLetter;
+  sign_at = sign_at;
+  first = false;
+  behind = silences;
+  weight = λ silent s. if silent then 0 else weight_of s;
+  bracket = bracket_of;
+  is_noted = is_variable_at;
+}
+
+abbrev pub item_by : List ℕ → Bool → Placed → Item Sign
+item_by text silent p = text_items.item_at mu_signs text silent p
+
 abbrev pub items_from : List ℕ → Bool → List Placed → List (Item Sign)
-items_from text silent [] = []
-items_from text silent (p ∷ ps) = item_by silent (sign_at text p) p ∷ items_from text (silences (sign_at text p)) ps
+items_from text silent ps = text_items.items_from mu_signs text silent ps
 
 abbrev pub items : List ℕ → List (Item Sign)
-items text = items_from text false (tokens AnyLetter text)
-
--- the offset of a variable, in front of the others
-abbrev pub with_place : Bool → Sign → ℕ → List ℕ → List ℕ
-with_place false (Upper x) at places = at ∷ places
-with_place _ _ at places = places
+items text = text_items.items mu_signs text
 
 abbrev pub places_from : Bool → List (Item Sign) → List ℕ
-places_from silent [] = []
-places_from silent (i ∷ is) = with_place silent i.sign i.at (places_from (silences i.sign) is)
+places_from silent is = text_items.noted_from mu_signs silent is
 
 abbrev pub variable_places : List (Item Sign) → List ℕ
 variable_places is = places_from false is

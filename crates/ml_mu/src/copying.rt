@@ -5,6 +5,7 @@ ghost use Rattle.ml_mu.specs.Term.{formula_of};
 
 use crate::{Formula, Term};
 use ml_base::NoMemory;
+use ml_text::MOST_OCCURRENCES;
 use std::alloc::Global;
 
 /// An equal formula.
@@ -69,13 +70,13 @@ fn copy_term(alloc: Global, term: &Term) -> Result<Term, NoMemory>
 /// Cost: linear in them. No call is nested deeper than the formula.
 pub fn occurrences(formula: &Formula) -> u32
     ensures number { result ≡ occurrences formula.now }
-    ensures range { (1 ≤ result) × (result ≤ 1000) }
+    ensures range { (1 ≤ result) × (result ≤ MOST_OCCURRENCES) }
 {
     count(formula.root())
 }
 
 fn count(term: &Term) -> u32
-    requires { occurrences (formula_of term.now) ≤ 1000 }
+    requires { occurrences (formula_of term.now) ≤ MOST_OCCURRENCES }
     ensures number { result ≡ occurrences (formula_of term.now) }
     ensures some { 1 ≤ result }
 {

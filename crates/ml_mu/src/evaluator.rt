@@ -5,7 +5,8 @@ ghost use Rattle.ml_lists.specs.Iterate.{iterate};
 ghost use Rattle.ml_base.specs.Structure as kripke;
 ghost use Rattle.ml_mu.specs.Formula as plain;
 ghost use Rattle.ml_mu.specs.Meaning as mean;
-ghost use Rattle.ml_mu.specs.Environment.{given_of, HaveFlags};
+ghost use Rattle.ml_mu.specs.private.Environment.{given_of};
+ghost use Rattle.ml_mu.specs.Meaning.{HaveFlags};
 ghost use Rattle.ml_mu.specs.Term.{formula_of};
 
 use crate::{Formula, Term};
@@ -13,9 +14,6 @@ use ml_base::{Action, Edge, Name, NoMemory};
 use ml_kripke::Structure;
 use ml_text::Operator;
 use std::alloc::Global;
-
-#[cfg(test)]
-mod tests;
 
 // the variables in force with the sets that they mean, innermost binder first
 #[derive(Drop)]

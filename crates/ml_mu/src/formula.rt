@@ -11,7 +11,7 @@ pub struct Formula {
 
 impl Model for Formula {
     ghost use Rattle.ml_mu.specs.Formula as plain;
-    ghost use Rattle.ml_mu.specs.FormulaCode.{formula_code};
+    ghost use Rattle.ml_mu.specs.private.FormulaCode.{formula_code};
 
     ghost Value = { plain.Formula };
 

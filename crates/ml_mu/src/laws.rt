@@ -1,12 +1,11 @@
 // What holds of texts, formulas and meanings by their definitions alone: the functions do nothing, their contracts are
 // the theorems.
-ghost use Rattle.std.specs.Prelude.{◌≡◌, ℕ, true, List, [], ◌∷◌, length};
+ghost use Rattle.std.specs.Prelude.{◌≡◌, ℕ, true, List, ◌∷◌, length};
 ghost use Rattle.ml_base.specs.Structure.{Structure, StateSet, is_member};
 ghost use Rattle.ml_mu.specs.Formula.{Formula, Binder, Fixpoint, Least, Greatest};
-ghost use Rattle.ml_mu.specs.HeadRules.{HeadOrFault, HeadsReadBack, OneHead, OneHeadFault};
-ghost use Rattle.ml_mu.specs.Meaning.{meaning};
+ghost use Rattle.ml_mu.specs.Meaning.{Given, HaveFlags, meaning};
 ghost use Rattle.ml_mu.specs.Variables.{is_positive};
-ghost use Rattle.ml_mu.specs.Parsing.{CanonicalStandsForOne, NeverBoth, ParsedAreWellFormed, ParsedOnce, RefusedOnce, SomeAnswer, StandForOne};
+ghost use Rattle.ml_mu.specs.Parsing.{CanonicalIsParsed, CanonicalStandsForOne, NeverBoth, ParsedAreWellFormed, ParsedOnce, RefusedOnce, SomeAnswer, StandForOne};
 
 /// A text stands for one formula at most, by the grammar alone.
 #[tactic(auto, using(crate::proofs::OneAnswer::one_formula))]
@@ -19,6 +18,12 @@ pub fn one_formula()
 #[tactic(auto, using(crate::proofs::OneAnswer::canonical_one))]
 pub fn canonical_text()
     ensures { CanonicalStandsForOne }
+{}
+
+/// The canonical text of a well-formed formula is parsed as it, within all limits. So every formula that a program holds
+/// is read back from what `print` writes.
+pub fn canonical_text_is_parsed()
+    ensures { CanonicalIsParsed }
 {}
 
 /// A text has exactly one answer but want of memory: it is parsed as one formula, or it is refused in one way.
@@ -39,45 +44,35 @@ pub fn parsed_are_well_formed()
     ensures { ParsedAreWellFormed }
 {}
 
-/// A text is a head for an answer, or its head has a first bad line, never both; it is a head about one problem at
-/// most, and has one first bad line at most. So whoever answers one of them for each text answers each exactly where it
-/// is said to come.
-pub fn one_head()
-    ensures exclusive { HeadOrFault }
-    ensures head { OneHead }
-    ensures fault { OneHeadFault }
-{}
-
-/// The head of a written document about a formula that was parsed is read as it was written, whatever stands behind it.
-pub fn heads_are_read_back()
-    ensures { HeadsReadBack }
-{}
-
-/// The meaning of a formula is a set of states: it has one flag for each.
-#[tactic(auto, using(crate::proofs::MeaningFlags::closed_flags))]
+/// The meaning of a formula is a set of states: it has one flag for each, where the given sets have.
+#[tactic(auto, using(crate::proofs::MeaningFlags::meaning_flags))]
 pub fn one_flag_for_each_state()
-    ensures { (m : Structure) (f : Formula) → length (meaning m [] f) ≡ m.states }
+    ensures { (m : Structure) (g : Given) (f : Formula) → HaveFlags m.states g → length (meaning m g f) ≡ m.states }
 {}
 
-/// A positive body grows with the set that its variable means.
+/// A positive body grows with the set that its variable means, whatever sets the other variables mean.
 pub fn positive_bodies_grow()
-    ensures { (m : Structure) (q : Fixpoint) (x : List ℕ) (f : Formula) (s t : StateSet) → is_positive (Binder q x f) ≡ true
-        → length s ≡ m.states → length t ≡ m.states
+    ensures { (m : Structure) (g : Given) (q : Fixpoint) (x : List ℕ) (f : Formula) (s t : StateSet) → HaveFlags m.states g
+        → is_positive (Binder q x f) ≡ true → length s ≡ m.states → length t ≡ m.states
         → ((k : ℕ) → is_member s k ≡ true → is_member t k ≡ true)
-        → (k : ℕ) → is_member (meaning m ((x, s) ∷ []) f) k ≡ true → is_member (meaning m ((x, t) ∷ []) f) k ≡ true }
+        → (k : ℕ) → is_member (meaning m ((x, s) ∷ g) f) k ≡ true → is_member (meaning m ((x, t) ∷ g) f) k ≡ true }
 {}
 
-/// What a positive binder means is a fixpoint of its body: of mu the least, of nu the greatest.
+/// What a positive binder means is a fixpoint of its body, whatever sets the other variables mean: of mu the least, of
+/// nu the greatest.
 ///
 /// `fixpoint`: the body makes of that set the set itself. `least`: it lies within each set in which what the body
 /// makes of it lies. `greatest`: each set that lies within what the body makes of it lies within it.
 pub fn binders_mean_fixpoints()
-    ensures fixpoint { (m : Structure) (q : Fixpoint) (x : List ℕ) (f : Formula) → is_positive (Binder q x f) ≡ true
-        → meaning m ((x, meaning m [] (Binder q x f)) ∷ []) f ≡ meaning m [] (Binder q x f) }
-    ensures least { (m : Structure) (x : List ℕ) (f : Formula) (s : StateSet) → is_positive (Binder Least x f) ≡ true
-        → length s ≡ m.states → ((k : ℕ) → is_member (meaning m ((x, s) ∷ []) f) k ≡ true → is_member s k ≡ true)
-        → (k : ℕ) → is_member (meaning m [] (Binder Least x f)) k ≡ true → is_member s k ≡ true }
-    ensures greatest { (m : Structure) (x : List ℕ) (f : Formula) (s : StateSet) → is_positive (Binder Greatest x f) ≡ true
-        → length s ≡ m.states → ((k : ℕ) → is_member s k ≡ true → is_member (meaning m ((x, s) ∷ []) f) k ≡ true)
-        → (k : ℕ) → is_member s k ≡ true → is_member (meaning m [] (Binder Greatest x f)) k ≡ true }
+    ensures fixpoint { (m : Structure) (g : Given) (q : Fixpoint) (x : List ℕ) (f : Formula) → HaveFlags m.states g
+        → is_positive (Binder q x f) ≡ true
+        → meaning m ((x, meaning m g (Binder q x f)) ∷ g) f ≡ meaning m g (Binder q x f) }
+    ensures least { (m : Structure) (g : Given) (x : List ℕ) (f : Formula) (s : StateSet) → HaveFlags m.states g
+        → is_positive (Binder Least x f) ≡ true → length s ≡ m.states
+        → ((k : ℕ) → is_member (meaning m ((x, s) ∷ g) f) k ≡ true → is_member s k ≡ true)
+        → (k : ℕ) → is_member (meaning m g (Binder Least x f)) k ≡ true → is_member s k ≡ true }
+    ensures greatest { (m : Structure) (g : Given) (x : List ℕ) (f : Formula) (s : StateSet) → HaveFlags m.states g
+        → is_positive (Binder Greatest x f) ≡ true → length s ≡ m.states
+        → ((k : ℕ) → is_member s k ≡ true → is_member (meaning m ((x, s) ∷ g) f) k ≡ true)
+        → (k : ℕ) → is_member s k ≡ true → is_member (meaning m g (Binder Greatest x f)) k ≡ true }
 {}

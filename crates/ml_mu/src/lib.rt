@@ -6,34 +6,25 @@
 // structure, and `holds` asks for one state. The module `laws` has what is true of texts and of meanings: a text has
 // one answer, binders mean fixpoints.
 //
-// The heads of documents are defined here too: as they are written in `specs/Head.antt`, as they are read in
-// `specs/HeadRules.antt`, whose rules are the `HeadRule`s. Their readers stand above.
-//
-// Below stand `ml_base` (names, structures), `ml_kripke` (the structures that a program holds), `ml_lines` (the words of
-// heads), `ml_text` (tokens and grammars) and `ml_lists` (iterates); above stand the graph of a formula and the program.
+// Below stand `ml_base` (names, structures), `ml_kripke` (the structures that a program holds), `ml_lines` (lines),
+// `ml_text` (tokens and grammars) and `ml_lists` (iterates); above stand the graph of a formula and the program.
 #![tactic(auto)]
 
 mod copying;
 mod evaluator;
 mod forms;
 mod formula;
-mod head_rule;
 pub mod laws;
+mod logic;
 mod parsing;
 mod printing;
-mod progress;
-mod reading;
 mod signs;
-mod spelling;
 mod term;
-#[cfg(test)]
-mod tests;
 mod variables;
 
 pub use copying::{copy, occurrences};
 pub use evaluator::{evaluate, holds};
 pub use formula::Formula;
-pub use head_rule::HeadRule;
 pub use parsing::parse;
-pub use printing::print;
+pub use printing::{append_text, print};
 pub use term::Term;

@@ -3,9 +3,10 @@ ghost use Rattle.std.specs.Prelude.{MatchResult};
 ghost use Rattle.ml_mu.specs.Parsing.{IsParsedAs, IsRefusedBy};
 
 use crate::Formula;
-use crate::reading::read;
+use crate::logic::Mu;
 use crate::variables::{first_fault, standings};
 use ml_base::ParseRefusal;
+use ml_text::{Reading, read};
 use std::alloc::Global;
 
 /// The formula that a text stands for.
@@ -28,10 +29,10 @@ use std::alloc::Global;
 pub fn parse(alloc: Global, text: &[u8]) -> Result<Formula, ParseRefusal>
     ensures { MatchResult result (IsParsedAs text.now) (IsRefusedBy text.now) }
 {
-    let term = read(alloc, text)?;
-    let standings = standings(alloc, &term)?;
-    match first_fault(text, standings.as_slice()) {
+    let Reading { tree, places } = read::<Mu>(alloc, &Mu, text)?;
+    let standings = standings(alloc, &tree)?;
+    match first_fault(standings.as_slice(), places.as_slice()) {
         Some(refusal) => Err(refusal),
-        None => Ok(Formula::new(term)),
+        None => Ok(Formula::new(tree)),
     }
 }

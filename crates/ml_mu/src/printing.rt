@@ -1,7 +1,9 @@
 // The canonical text of a formula.
 ghost use Rattle.std.specs.Prelude.{◌≡◌, ◌++◌, List, ℕ, IfOk, OnOk, codes};
 ghost use Rattle.ml_mu.specs.Canonical.{canonical_text, action_text};
+ghost use Rattle.ml_mu.specs.Parsing.{IsParsedAs};
 ghost use Rattle.ml_mu.specs.Term.{formula_of};
+ghost use Rattle.ml_mu.specs.WellFormed.{IsWellFormed};
 
 use crate::{Formula, Term};
 use ml_base::{Action, Name, NoMemory};
@@ -14,11 +16,26 @@ use std::alloc::{AllocError, Global};
 ///
 /// Cost: linear in the text.
 pub fn print(alloc: Global, formula: &Formula) -> Result<Vec<u8>, NoMemory>
-    ensures { IfOk result (λ text. text.items ≡ canonical_text formula.now) }
+    ensures text { IfOk result (λ text. text.items ≡ canonical_text formula.now) }
+    ensures reads_back { IfOk result (λ text. IsParsedAs text.items formula.now) }
 {
     let mut text = Vec::new(alloc);
-    write_term(&mut text, formula.root())?;
+    append_text(&mut text, formula)?;
     Ok(text)
+}
+
+/// Appends the canonical text of a formula, as `print` gives it. Whoever asks also learns what the type keeps.
+///
+/// # Errors
+/// `NoMemory` alone, and then a part of the text may stand in `out`.
+///
+/// Cost: linear in the text, over many calls.
+pub fn append_text(out: &mut Vec<u8>, formula: &Formula) -> Result<(), NoMemory>
+    ensures text { OnOk result (out.new.items ≡ out.old.items ++ canonical_text formula.now) }
+    ensures well_formed { IsWellFormed formula.now }
+{
+    write_term(out, formula.root())?;
+    Ok(())
 }
 
 #[cycle(printer)]

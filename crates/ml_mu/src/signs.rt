@@ -1,12 +1,16 @@
 // The signs of mu texts: tokens as the grammar sees them.
-ghost use Rattle.std.specs.Prelude.{◌≡◌, ℕ, IfOk, List};
+ghost use Rattle.std.specs.Prelude.{◌≡◌, ℕ, ◌≤◌, false, if◌then◌else◌, bytes_eq, codes, IfOk, List, None, Some};
+ghost use Rattle.std.specs.Option.{option_map};
+ghost use Rattle.ml_text.specs.Spelling.{Spells};
+ghost use Rattle.ml_text.specs.Words.{IsWord};
+ghost use Rattle.ml_mu.specs.Formula as plain;
 ghost use Rattle.ml_mu.specs.Signs as grammar;
-ghost use Rattle.ml_mu.specs.SignViews.{named, sign_view};
-ghost use Rattle.ml_mu.specs.Text.{silences};
+ghost use Rattle.ml_mu.specs.Spelling as spelling;
+ghost use Rattle.ml_mu.specs.private.SignViews.{fixpoint_of, named, sign_view};
+ghost use Rattle.ml_mu.specs.Text.{bracket_of, is_variable_at, silences, weight_of};
 
-use crate::spelling::{is_proposition, is_variable};
-use ml_base::{Name, NameRefusal, NoMemory};
-use ml_text::{Operator, Token, constant_of};
+use ml_base::{Name, NoMemory};
+use ml_text::{Bracket, Operator, Token, WordStart, constant_of, is_lower};
 use std::alloc::Global;
 
 #[derive(Clone, Copy)]
@@ -63,18 +67,42 @@ pub(crate) enum Sign {
     Unknown,
 }
 
+// a word that isn't reserved, by its first letter
+#[tactic(auto, using(crate::proofs::Names::name_of_lower, crate::proofs::Names::name_of_upper))]
+fn name_kind(word: &[u8]) -> Kind
+    requires word { IsWord word.now }
+    requires free { spelling.is_reserved word.now ≡ false }
+    ensures { named result word.now ≡ grammar.name_sign word.now }
+{
+    if is_lower(word[0]) {
+        Kind::Lower
+    } else {
+        Kind::Upper
+    }
+}
+
+// the binder whose word this is
+fn binder_of(word: &[u8]) -> Option<Fixpoint>
+    ensures { option_map fixpoint_of result ≡ (if bytes_eq word.now (codes "mu") then Some plain.Least
+        else (if bytes_eq word.now (codes "nu") then Some plain.Greatest else None)) }
+{
+    match word {
+        b"mu" => Some(Fixpoint::Least),
+        b"nu" => Some(Fixpoint::Greatest),
+        _ => None,
+    }
+}
+
 fn word_kind(word: &[u8]) -> Kind
+    requires { IsWord word.now }
     ensures { named result word.now ≡ grammar.word_sign word.now }
 {
     if let Some(value) = constant_of(word) {
         return Kind::Const(value);
     }
-    match word {
-        b"mu" => Kind::Binds(Fixpoint::Least),
-        b"nu" => Kind::Binds(Fixpoint::Greatest),
-        _ if is_proposition(word) => Kind::Lower,
-        _ if is_variable(word) => Kind::Upper,
-        _ => Kind::Unknown,
+    match binder_of(word) {
+        Some(fixpoint) => Kind::Binds(fixpoint),
+        None => name_kind(word),
     }
 }
 
@@ -96,6 +124,7 @@ fn byte_kind(byte: u8) -> Kind
 
 /// What a token with these bytes is.
 pub(crate) fn kind_of(token: Token, bytes: &[u8]) -> Kind
+    requires { Spells WordStart.AnyLetter bytes.now token }
     ensures { named result bytes.now ≡ grammar.sign_of token bytes.now }
 {
     match token {
@@ -111,18 +140,6 @@ pub(crate) fn silences(kind: Kind) -> bool
     ensures { (word : List ℕ) → result ≡ silences (named kind word) }
 {
     matches!(kind, Kind::Begins(_) | Kind::Binds(_))
-}
-
-// a name of at most 64 bytes
-fn name_of(alloc: Global, word: &[u8]) -> Result<Name, NoMemory>
-    requires { grammar.IsShortWord word.now }
-    ensures { IfOk result (λ name. name ≡ word.now) }
-{
-    match Name::new(alloc, word) {
-        Ok(name) => Ok(name),
-        Err(NameRefusal::NoMemory) => Err(NoMemory),
-        Err(NameRefusal::NotAName) => unreachable!(),
-    }
 }
 
 /// The sign of a kind, whose name has these bytes.
@@ -141,8 +158,52 @@ pub(crate) fn sign_of(alloc: Global, kind: Kind, bytes: &[u8]) -> Result<Sign, N
         Kind::Binds(fixpoint) => Sign::Binds(fixpoint),
         Kind::Dot => Sign::Dot,
         Kind::Blank => Sign::Blank,
-        Kind::Lower => Sign::Lower(name_of(alloc, bytes)?),
-        Kind::Upper => Sign::Upper(name_of(alloc, bytes)?),
+        Kind::Lower => Sign::Lower(Name::from_bytes(alloc, bytes)?),
+        Kind::Upper => Sign::Upper(Name::from_bytes(alloc, bytes)?),
         Kind::Unknown => Sign::Unknown,
     })
+}
+
+// as how many occurrences a token counts
+fn weight(kind: Kind) -> u32
+    ensures weight { (word : List ℕ) → result ≡ weight_of (named kind word) }
+    ensures small { result ≤ 3 }
+{
+    match kind {
+        Kind::Connective(Operator::Iff) => 3,
+        Kind::Not
+        | Kind::Connective(_)
+        | Kind::Const(_)
+        | Kind::Begins(_)
+        | Kind::Binds(_)
+        | Kind::Lower
+        | Kind::Upper => 1,
+        _ => 0,
+    }
+}
+
+/// As how many occurrences a token counts, where it may be silent.
+pub(crate) fn counted(silent: bool, kind: Kind) -> u32
+    ensures count { (word : List ℕ) → result ≡ (if silent then 0 else weight_of (named kind word)) }
+    ensures small { result ≤ 3 }
+{
+    if silent { 0 } else { weight(kind) }
+}
+
+/// Which parenthesis a token is.
+pub(crate) fn bracket(kind: Kind) -> Bracket
+    ensures { (word : List ℕ) → result ≡ bracket_of (named kind word) }
+{
+    match kind {
+        Kind::Open => Bracket::Opening,
+        Kind::Close => Bracket::Closing,
+        _ => Bracket::Neither,
+    }
+}
+
+/// Is a token the place of a variable?
+pub(crate) fn is_variable(silent: bool, kind: Kind) -> bool
+    ensures { (word : List ℕ) → result ≡ is_variable_at silent (named kind word) }
+{
+    !silent && matches!(kind, Kind::Upper)
 }

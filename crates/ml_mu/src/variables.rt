@@ -1,16 +1,13 @@
 // How the variables of a formula stand: which of them have no binder or aren't positive.
-ghost use Rattle.std.specs.Prelude.{◌≡◌, ℕ, ◌+◌, ◌≤◌, ◌∷◌, ◌++◌, if◌then◌else◌, List, map, IfOk, MatchOption, None, OnOk, Some};
+ghost use Rattle.std.specs.Prelude.{◌≡◌, ◌+◌, ◌≤◌, ◌++◌, map, IfOk, MatchOption, None, OnOk, Some};
 ghost use Rattle.ml_mu.specs.Formula.{occurrences};
-ghost use Rattle.ml_mu.specs.SignViews.{named};
 ghost use Rattle.ml_mu.specs.Term.{formula_of};
-ghost use Rattle.ml_mu.specs.Text.{items, variable_places, with_place};
 ghost use Rattle.ml_mu.specs.VariableFaults as faults;
-ghost use Rattle.ml_mu.specs.VariableViews.{IsFaultOf, scope_view, standing_view};
+ghost use Rattle.ml_mu.specs.private.VariableViews.{IsFaultOf, scope_view, standing_view};
 
 use crate::Term;
-use crate::signs::{Kind, kind_of, silences};
 use ml_base::{Name, NoMemory, ParseRefusal};
-use ml_text::{WordStart, next_token};
+use ml_text::MOST_OCCURRENCES;
 use std::alloc::{AllocError, Global};
 
 /// How a variable stands.
@@ -53,8 +50,8 @@ fn collect(
     iffs: u32,
     found: &mut Vec<Standing>,
 ) -> Result<(), AllocError>
-    requires few_negations { negations + occurrences (formula_of term.now) ≤ 1000 }
-    requires few_iffs { iffs + occurrences (formula_of term.now) ≤ 1000 }
+    requires few_negations { negations + occurrences (formula_of term.now) ≤ MOST_OCCURRENCES }
+    requires few_iffs { iffs + occurrences (formula_of term.now) ≤ MOST_OCCURRENCES }
     ensures { OnOk result (map standing_view found.new.items
         ≡ map standing_view found.old.items
         ++ faults.standings_in (scope_view scope.now) negations iffs (formula_of term.now)) }
@@ -90,7 +87,7 @@ fn collect(
 
 /// How the variables of a term stand, in the order of the text.
 pub(crate) fn standings(alloc: Global, term: &Term) -> Result<Vec<Standing>, NoMemory>
-    requires { occurrences (formula_of term.now) ≤ 1000 }
+    requires { occurrences (formula_of term.now) ≤ MOST_OCCURRENCES }
     ensures { IfOk result (λ found. map standing_view found.items ≡ faults.standings (formula_of term.now)) }
 {
     let mut found = Vec::new(alloc);
@@ -111,35 +108,23 @@ fn fault_here(standing: Standing, at: u64) -> Option<ParseRefusal>
     }
 }
 
-// does a variable stand here?
-fn is_place(kind: Kind, silent: bool) -> bool
-    ensures { (word : List ℕ) (at : ℕ) (places : List ℕ) →
-        with_place silent (named kind word) at places ≡ (if result then at ∷ places else places) }
-{
-    !silent && matches!(kind, Kind::Upper)
-}
-
-/// The refusal at the first variable of a text that is at fault, if one is; they stand so, in the order of the text.
-pub(crate) fn first_fault(text: &[u8], standings: &[Standing]) -> Option<ParseRefusal>
-    ensures { let first = faults.fault_at (map standing_view standings.now) (variable_places (items text.now)) in
+/// The refusal at the first variable that is at fault, if one is: they stand so, and at these places, in the order of
+/// the text.
+pub(crate) fn first_fault(standings: &[Standing], places: &[u64]) -> Option<ParseRefusal>
+    ensures { let first = faults.fault_at (map standing_view standings.now) places.now in
         MatchOption result (first ≡ None) (λ refusal. IsFaultOf refusal first) }
 {
-    let mut rest = standings;
-    let mut silent = false;
-    let mut at = 0;
-    while let Some(placed) = next_token(text, WordStart::AnyLetter, at) {
-        let kind = kind_of(placed.token, &text[placed.start..placed.end]);
-        if is_place(kind, silent) {
-            let Some((standing, others)) = rest.split_first() else {
-                return None;
-            };
-            if let Some(refusal) = fault_here(*standing, placed.start as u64) {
-                return Some(refusal);
-            }
-            rest = others;
+    let mut standings = standings;
+    let mut places = places;
+    while let Some((standing, others)) = standings.split_first() {
+        let Some((at, later)) = places.split_first() else {
+            return None;
+        };
+        if let Some(refusal) = fault_here(*standing, *at) {
+            return Some(refusal);
         }
-        silent = silences(kind);
-        at = placed.end;
+        standings = others;
+        places = later;
     }
     None
 }

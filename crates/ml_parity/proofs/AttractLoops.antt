@@ -20,13 +20,13 @@ use borrow.Author.Tests.{eqb-true}
 use Rattle.ml_parity.specs.Game.{ParityGame, HasMove, size, moves_of}
 use Rattle.ml_parity.specs.Refusal.{lists_of}
 use Rattle.ml_parity.specs.declared.players.Player.{Player}
-use Rattle.ml_parity.specs.Parts.{part, KeepsBehind}
-use Rattle.ml_parity.specs.FastSteps.{place_of, number_at, times, moves_before, ArePredecessors, IsAttracting, IsLeft, IsRow}
+use Rattle.ml_parity.specs.private.Parts.{part, KeepsBehind}
+use Rattle.ml_parity.specs.private.SolverSteps.{place_of, number_at, times, moves_before, ArePredecessors, IsAttracting, IsLeft, IsRow}
 use Rattle.ml_parity.proofs.Boards.{move_to}
 use Rattle.ml_parity.proofs.Attracting.{followed}
-use Rattle.ml_parity.proofs.KeptBehind.{in_to, keeps_more, keeps_on}
+use Rattle.ml_parity.proofs.WaitingFrames.{in_to, keeps_more, keeps_on}
 use Rattle.ml_parity.proofs.Refusals.{lists_of-at}
-use Rattle.ml_parity.proofs.Rows.{at_place}
+use Rattle.ml_parity.proofs.VertexOrder.{at_place}
 use Rattle.ml_parity.proofs.Occurrences.{times_here, times_other, entry_counts, counts_entry, before_next, same_part}
 
 -- the count of u is counted down

@@ -12,9 +12,9 @@ use borrow.Author.Tests.{ltb-true}
 use Rattle.ml_parity.specs.declared.players.Player.{Player}
 use Rattle.ml_parity.specs.Player.{opponent}
 use Rattle.ml_parity.specs.Game.{ParityGame, HasMove, size, owner_of, moves_of}
-use Rattle.ml_parity.specs.SinkGame.{board_of}
-use Rattle.ml_parity.specs.Parts.{part, MoveInto, IsPart, LeadsBack, IsAttracted}
-use Rattle.ml_parity.specs.FastSteps.{times, moves_before, IsLeft, IsRemoved, IsAttracting}
+use Rattle.ml_parity.specs.private.SinkGame.{board_of}
+use Rattle.ml_parity.specs.private.Parts.{part, MoveInto, IsPart, LeadsBack, IsAttracted}
+use Rattle.ml_parity.specs.private.SolverSteps.{times, moves_before, IsLeft, IsRemoved, IsAttracting}
 use Rattle.ml_parity.proofs.Boards.{move_to}
 use Rattle.ml_parity.proofs.Opponents.{not_both}
 use Rattle.ml_parity.proofs.Occurrences.{times_here, times_other, counts_entry, contains_counts, before_next, same_part}

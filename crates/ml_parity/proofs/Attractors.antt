@@ -11,8 +11,8 @@ use Rattle.ml_lists.proofs.Search.{search}
 use Rattle.ml_lists.proofs.Loops.{around, loop_is_flat}
 use Rattle.ml_parity.specs.declared.players.Player.{Player}
 use Rattle.ml_parity.specs.Player.{opponent}
-use Rattle.ml_parity.specs.Sinks.{Board, Holds, Step, Loop, GoodFor}
-use Rattle.ml_parity.specs.Parts.{part, SolvesPart, MoveInto, IsPart, IsAttracted, IsGiven}
+use Rattle.ml_parity.specs.private.Sinks.{Board, Holds, Step, Loop, GoodFor}
+use Rattle.ml_parity.specs.private.Parts.{part, SolvesPart, MoveInto, IsPart, IsAttracted, IsGiven}
 use Rattle.ml_parity.proofs.Opponents.{cases_player, opponent-opponent}
 
 -- a number is at least the bound, or below it

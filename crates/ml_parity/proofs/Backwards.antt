@@ -10,7 +10,7 @@ use Rattle.std.proofs.lemmas.List.{get_or_past, get_or-map, length-map, map-set}
 use Rattle.std.proofs.lemmas.List.Sums.{sum_by-append, count_by_more_yes, count_by_more_no}
 use Rattle.ml_parity.specs.Game.{ParityGame, size, moves_of}
 use Rattle.ml_parity.specs.Refusal.{lists_of}
-use Rattle.ml_parity.specs.FastSteps.{times, ArePredecessors, IsAdded}
+use Rattle.ml_parity.specs.private.SolverSteps.{times, ArePredecessors, IsAdded}
 use Rattle.ml_parity.proofs.Occurrences.{times_here, times_other}
 use Rattle.ml_parity.proofs.HeightRaises.{written}
 use Rattle.ml_parity.proofs.HeightTables.{all_empty}

@@ -20,8 +20,8 @@ use Rattle.ml_parity.specs.declared.players.Player.{Player}
 use Rattle.ml_parity.specs.Player.{opponent, side}
 use Rattle.ml_parity.specs.Game.{ParityGame, IsGame, HasMove, owner_of, priority_of, moves_of, size}
 use Rattle.ml_parity.specs.Winner.{IsPlay, winner, Follows, WinsFrom}
-use Rattle.ml_parity.specs.Sinks.{SomeMove, EveryMove, Holds, Loop, Step, GoodFor, Solves}
-use Rattle.ml_parity.specs.SinkGame.{board_of}
+use Rattle.ml_parity.specs.private.Sinks.{SomeMove, EveryMove, Holds, Loop, Step, GoodFor, Solves}
+use Rattle.ml_parity.specs.private.SinkGame.{board_of}
 use Rattle.ml_parity.proofs.Opponents.{cases_player}
 use Rattle.ml_parity.proofs.LeastLost.{held_step}
 use Rattle.ml_parity.proofs.Sinks.{Decides}

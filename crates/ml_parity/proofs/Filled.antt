@@ -12,8 +12,8 @@ use Rattle.ml_parity.specs.declared.players.Player.{Player}
 use Rattle.ml_parity.specs.Game.{ParityGame, IsGame, HasMove, owner_of, size}
 use Rattle.ml_parity.specs.Winner.{WinsFrom}
 use Rattle.ml_parity.specs.Solution.{IsSolution, FirstElsewhere, winner_at, choice_at}
-use Rattle.ml_parity.specs.Sinks.{Holds, Solves}
-use Rattle.ml_parity.specs.SinkGame.{board_of, flag_at, FilledBelow, SolvesLists}
+use Rattle.ml_parity.specs.private.Sinks.{Holds, Solves}
+use Rattle.ml_parity.specs.private.SinkGame.{board_of, flag_at, FilledBelow, SolvesLists}
 use Rattle.ml_parity.proofs.Opponents.{is_or_not}
 use Rattle.ml_parity.proofs.Boards.{all_live, first_move, solution_wins}
 

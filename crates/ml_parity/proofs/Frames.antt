@@ -13,16 +13,16 @@ use Rattle.std.proofs.lemmas.List.{reverse-append}
 use Rattle.std.proofs.lemmas.List.Sums.{sum_by-append, sum_by-cons}
 use Rattle.std.proofs.Math.Nat.{pow-le-pow_right, pow-succ'}
 use Rattle.ml_parity.specs.declared.players.Player.{Player}
-use Rattle.ml_parity.specs.declared.fast_turns.Half.{Half}
-use Rattle.ml_parity.specs.declared.fast_turns.Half.TheVariants.{First, Second}
-use Rattle.ml_parity.specs.declared.fast_turns.Frame.{Frame}
+use Rattle.ml_parity.specs.declared.zielonka.recursion.Half.{Half}
+use Rattle.ml_parity.specs.declared.zielonka.recursion.Half.TheVariants.{First, Second}
+use Rattle.ml_parity.specs.declared.zielonka.recursion.Frame.{Frame}
 use Rattle.ml_parity.specs.Game.{ParityGame, size}
-use Rattle.ml_parity.specs.SinkGame.{board_of}
-use Rattle.ml_parity.specs.Parts.{KeepsBehind, IsPart, SolvesPart, IsSecondHalf}
-use Rattle.ml_parity.specs.FastFrames.{HalfWaits, FrameWaits, Waits, EndsFirstHalf, BeginsFirstHalf, BeginsSecondHalf, weight, half_weight}
+use Rattle.ml_parity.specs.private.SinkGame.{board_of}
+use Rattle.ml_parity.specs.private.Parts.{KeepsBehind, IsPart, SolvesPart, IsSecondHalf}
+use Rattle.ml_parity.specs.private.SolverFrames.{HalfWaits, FrameWaits, Waits, EndsFirstHalf, BeginsFirstHalf, BeginsSecondHalf, weight, half_weight}
 use Rattle.ml_parity.proofs.Attractors.{rest_is_part}
 use Rattle.ml_parity.proofs.Halves.{second_solved}
-use Rattle.ml_parity.proofs.KeptBehind.{keeps_more, kept_first, kept_second}
+use Rattle.ml_parity.proofs.WaitingFrames.{keeps_more, kept_first, kept_second}
 
 -- a half waits for a smaller part
 half_low : (h : Half) (g : ParityGame) (place : ℕ → ℕ) (n mid rest : ℕ) (q : Player) (win : ℕ → Player) (s : ℕ → ℕ)

@@ -10,8 +10,8 @@ use borrow.Author.Tests.{ltb-true}
 use Rattle.ml_lists.proofs.Loops.{around}
 use Rattle.ml_parity.specs.declared.players.Player.{Player}
 use Rattle.ml_parity.specs.Player.{opponent}
-use Rattle.ml_parity.specs.Sinks.{Board, Holds, Loop, GoodFor}
-use Rattle.ml_parity.specs.Parts.{part, SolvesPart, IsFirm, IsFirstHalf, IsSecondHalf, Gathers}
+use Rattle.ml_parity.specs.private.Sinks.{Board, Holds, Loop, GoodFor}
+use Rattle.ml_parity.specs.private.Parts.{part, SolvesPart, IsFirm, IsFirstHalf, IsSecondHalf, Gathers}
 use Rattle.ml_parity.proofs.Opponents.{cases_player, opponent-opponent, not_both}
 use Rattle.ml_parity.proofs.Attractors.{loop_inside, above}
 

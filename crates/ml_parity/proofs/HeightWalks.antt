@@ -18,8 +18,8 @@ use Rattle.std.proofs.Common.{ℕ, zero, suc, ◌≡◌, ◌+◌, ◌-◌, ◌%�
 use Rattle.std.proofs.lemmas.Bool.{cases_eq, cond-true, cond-false}
 use Rattle.std.proofs.lemmas.List.Elements.{All-contains}
 use Rattle.ml_lists.proofs.Pigeons.{pigeons_list, TwiceInList}
-use Rattle.ml_parity.specs.declared.heights_graph.Arc.{Arc}
-use Rattle.ml_parity.specs.HeightSteps.{Settled, SettledAlong, LoopAt}
+use Rattle.ml_parity.specs.declared.one_sided.graph.Arc.{Arc}
+use Rattle.ml_parity.specs.private.HeightSteps.{Settled, SettledAlong, LoopAt}
 use Rattle.ml_parity.specs.Heights.{OneSidedGraph, IsOneSided, IsWalk, count_at, IsEvenCycle, Attained}
 
 -- a walk, and a walk from where it ends

@@ -14,7 +14,7 @@ use Rattle.ml_lists.proofs.Search.{search}
 use Rattle.ml_lists.proofs.Update.{update-same, update-other}
 use Rattle.ml_parity.specs.declared.players.Player.{Player}
 use Rattle.ml_parity.specs.Player.{side}
-use Rattle.ml_parity.specs.Sinks.{Board, Holds, Loop, GoodFor, Solves}
+use Rattle.ml_parity.specs.private.Sinks.{Board, Holds, Loop, GoodFor, Solves}
 
 -- the live vertices without t
 abbrev pub live_without : (ℕ → Bool) → ℕ → ℕ → Bool

@@ -19,7 +19,7 @@ use Rattle.ml_lists.proofs.Update.{update-same, update-other}
 use Rattle.ml_lists.proofs.Loops.{around}
 use Rattle.ml_parity.specs.declared.players.Player.{Player}
 use Rattle.ml_parity.specs.Player.{opponent, side}
-use Rattle.ml_parity.specs.Sinks.{Board, Holds, Step, Loop, GoodFor, Solves}
+use Rattle.ml_parity.specs.private.Sinks.{Board, Holds, Step, Loop, GoodFor, Solves}
 use Rattle.ml_parity.proofs.Opponents.{cases_player, not_both, same_player, same_player-true, same_player-false, is_or_not}
 use Rattle.ml_parity.proofs.LeastKept.{live_without, over_with}
 

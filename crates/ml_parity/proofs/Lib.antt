@@ -8,8 +8,8 @@ pub mod Attractors
 pub mod Backwards
 -- from games to boards and back
 pub mod Boards
--- certificates by ranks are right
-pub mod Certificates
+-- winners are carried from one game to another
+pub mod Carried
 -- the comparison of two games that differ at some vertices
 pub mod Comparison
 -- from an answer on the board of a game to a solution
@@ -31,9 +31,9 @@ pub mod HeightTables
 -- walks in one-sided graphs: joined, cut, and counted
 pub mod HeightWalks
 -- winning is kept along plays that follow the strategy
-pub mod Kept
+pub mod AlongPlays
 -- what waits is kept while a part is solved
-pub mod KeptBehind
+pub mod WaitingFrames
 -- the induction of the determinacy law, its first case
 pub mod LeastKept
 -- and its second case
@@ -53,11 +53,13 @@ pub mod PlainSteps
 -- lists that are a game, and lists that are none
 pub mod Refusals
 -- loops over the places of a row
-pub mod RowLoops
+pub mod VertexOrderLoops
 -- rows of vertices, and vertices that are moved to the end of a part
-pub mod Rows
+pub mod VertexOrder
 -- every game with finitely many live vertices has a solution
 pub mod Sinks
+-- vertices with one move, and vertices that are forced to one
+pub mod SingleMoves
 -- what a solution tells
 pub mod SolutionFacts
 -- the turns of the fast solver

@@ -4,7 +4,7 @@
 --   LeastBelow g live n t        == t is a live vertex below n, and none below n has a lower priority
 use Rattle.std.proofs.Common.{ℕ, ◌≡◌, ◌<◌, ◌≤◌, Bool, true, List}
 use Rattle.ml_parity.specs.Game.{ParityGame, priority_of}
-use Rattle.ml_parity.specs.SinkGame.{flag_at}
+use Rattle.ml_parity.specs.private.SinkGame.{flag_at}
 
 -- t is a live vertex below n, and none below n has a lower priority
 pub record LeastBelow (g : ParityGame) (live : List Bool) (n t : ℕ) : Type 0 where

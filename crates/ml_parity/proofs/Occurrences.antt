@@ -11,8 +11,8 @@ use Rattle.std.proofs.lemmas.List.Sums.{sum_by-cons}
 use Rattle.std.specs.List.{count_by, Contains}
 use Rattle.std.proofs.Math.Path.{fun_ext}
 use Rattle.ml_lists.specs.Search.{Found}
-use Rattle.ml_parity.specs.Parts.{part}
-use Rattle.ml_parity.specs.FastSteps.{times}
+use Rattle.ml_parity.specs.private.Parts.{part}
+use Rattle.ml_parity.specs.private.SolverSteps.{times}
 
 -- one entry more, which passes
 pub counts-true : (p : ℕ → Bool) (x : ℕ) (xs : List ℕ) → p x ≡ true → count_by p (x ∷ xs) ≡ 1 + count_by p xs

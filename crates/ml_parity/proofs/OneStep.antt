@@ -8,8 +8,8 @@ use Rattle.ml_parity.specs.declared.players.Player.{Player}
 use Rattle.ml_parity.specs.Player.{opponent}
 use Rattle.ml_parity.specs.Game.{ParityGame, IsGame, HasMove, owner_of, size}
 use Rattle.ml_parity.specs.Winner.{Wins}
-use Rattle.ml_parity.specs.Sinks.{Holds}
-use Rattle.ml_parity.specs.SinkGame.{board_of}
+use Rattle.ml_parity.specs.private.Sinks.{Holds}
+use Rattle.ml_parity.specs.private.SinkGame.{board_of}
 use Rattle.ml_parity.proofs.Opponents.{cases_player, opponent-opponent, not_both}
 use Rattle.ml_parity.proofs.Winners.{Winners, winners, won}
 

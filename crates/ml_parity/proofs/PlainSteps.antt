@@ -19,8 +19,8 @@ use Rattle.ml_parity.specs.declared.players.Player.TheVariants.{Even}
 use Rattle.ml_parity.specs.Player.{opponent, side}
 use Rattle.ml_parity.specs.Game.{ParityGame, owner_of, priority_of, moves_of}
 use Rattle.ml_parity.specs.Solution.{winner_at, choice_at}
-use Rattle.ml_parity.specs.Sinks.{Holds, Solves, EveryMove}
-use Rattle.ml_parity.specs.SinkGame.{board_of, flag_at, SolvesLists, IsLeastLive, IsWithoutWon, IsMerged}
+use Rattle.ml_parity.specs.private.Sinks.{Holds, Solves, EveryMove}
+use Rattle.ml_parity.specs.private.SinkGame.{board_of, flag_at, SolvesLists, IsLeastLive, IsWithoutWon, IsMerged}
 use Rattle.ml_parity.proofs.Opponents.{cases_player, opponent-opponent, is_or_not, same_player, same_player-true, same_player-false}
 use Rattle.ml_parity.proofs.Boards.{each_move}
 use Rattle.ml_parity.proofs.LeastKept.{live_without, over_with, least_kept}

@@ -19,7 +19,7 @@ use Rattle.ml_lists.proofs.Update.{update-same}
 use Rattle.ml_lists.proofs.Counting.{count_strict, count_zero, count_mono}
 use Rattle.ml_parity.specs.declared.players.Player.{Player}
 use Rattle.ml_parity.specs.Player.{opponent, side}
-use Rattle.ml_parity.specs.Sinks.{Board, SomeMove, EveryMove, Holds, Solves, Solution}
+use Rattle.ml_parity.specs.private.Sinks.{Board, SomeMove, EveryMove, Holds, Solves, Solution}
 use Rattle.ml_parity.proofs.Opponents.{cases_player, opponent-opponent, not_both, same_player}
 use Rattle.ml_parity.proofs.LeastKept.{live_without, over_with, live_without-true, least_kept}
 use Rattle.ml_parity.proofs.LeastLost.{live_frozen, over_frozen, joined, least_lost}

@@ -13,7 +13,7 @@ use Rattle.ml_parity.specs.Winner.{WinsFrom, Wins}
 use Rattle.ml_parity.specs.Solution.{GameSolution, IsSolution, winner_at, choice_at}
 use Rattle.ml_parity.proofs.Opponents.{cases_player}
 use Rattle.ml_parity.proofs.Winners.{clash}
-use Rattle.ml_parity.proofs.Kept.{kept_by_move}
+use Rattle.ml_parity.proofs.AlongPlays.{kept_by_move}
 use Rattle.ml_parity.proofs.OneStep.{other_vertex_won}
 
 module _ (g : ParityGame) (ok : IsGame g) (s : GameSolution) (solution : IsSolution g s) where

@@ -10,11 +10,11 @@ use Rattle.std.specs.List.{count_by}
 use Rattle.ml_parity.specs.declared.players.Player.{Player}
 use Rattle.ml_parity.specs.Player.{opponent, side}
 use Rattle.ml_parity.specs.Game.{ParityGame, HasMove, priority_of, moves_of}
-use Rattle.ml_parity.specs.Sinks.{Board, Solves}
-use Rattle.ml_parity.specs.SinkGame.{board_of}
-use Rattle.ml_parity.specs.Parts.{part, SolvesPart, IsPart, IsAttracted, IsGiven, IsFirm, IsFirstHalf, IsSecondHalf, Gathers, KeepsBehind}
-use Rattle.ml_parity.specs.FastSteps.{IsLeft, IsLowest, ChoosesInside, Gives}
-use Rattle.ml_parity.proofs.KeptBehind.{in_to, in_from, out_from, kept_inside, kept_firm}
+use Rattle.ml_parity.specs.private.Sinks.{Board, Solves}
+use Rattle.ml_parity.specs.private.SinkGame.{board_of}
+use Rattle.ml_parity.specs.private.Parts.{part, SolvesPart, IsPart, IsAttracted, IsGiven, IsFirm, IsFirstHalf, IsSecondHalf, Gathers, KeepsBehind}
+use Rattle.ml_parity.specs.private.SolverSteps.{IsLeft, IsLowest, ChoosesInside, Gives}
+use Rattle.ml_parity.proofs.WaitingFrames.{in_to, in_from, out_from, kept_inside, kept_firm}
 use Rattle.ml_parity.proofs.Halves.{first_solved}
 use Rattle.ml_parity.proofs.Opponents.{cases_player}
 use Rattle.ml_parity.proofs.Occurrences.{same_part}

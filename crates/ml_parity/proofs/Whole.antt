@@ -12,14 +12,14 @@ use Rattle.std.proofs.lemmas.Bool.{cases_lt}
 use Rattle.std.proofs.lemmas.List.{get_or_past}
 use Rattle.std.proofs.Math.Path.{fun_ext}
 use Rattle.ml_parity.specs.declared.players.Player.{Player}
-use Rattle.ml_parity.specs.declared.fast_attract.Work.{Work}
+use Rattle.ml_parity.specs.declared.zielonka.attractor.Work.{Work}
 use Rattle.ml_parity.specs.Game.{ParityGame, IsGame, size, moves_of}
 use Rattle.ml_parity.specs.Solution.{winner_at, choice_at}
-use Rattle.ml_parity.specs.Sinks.{Solves}
-use Rattle.ml_parity.specs.SinkGame.{board_of, SolvesLists}
-use Rattle.ml_parity.specs.Parts.{part, SolvesPart, IsPart}
-use Rattle.ml_parity.specs.FastSteps.{place_of, number_at, places, choices, lefts, IsLeft, IsRow, IsWork}
-use Rattle.ml_parity.specs.FastFrames.{SolvesWhole, IsAtPart}
+use Rattle.ml_parity.specs.private.Sinks.{Solves}
+use Rattle.ml_parity.specs.private.SinkGame.{board_of, SolvesLists}
+use Rattle.ml_parity.specs.private.Parts.{part, SolvesPart, IsPart}
+use Rattle.ml_parity.specs.private.SolverSteps.{place_of, number_at, places, choices, lefts, IsLeft, IsRow, IsWork}
+use Rattle.ml_parity.specs.private.SolverFrames.{SolvesWhole, IsAtPart}
 use Rattle.ml_parity.proofs.Boards.{move_to}
 use Rattle.ml_parity.proofs.Filled.{all_set}
 use Rattle.ml_parity.proofs.Occurrences.{counts-true}

@@ -19,8 +19,8 @@ use Rattle.ml_parity.specs.Player.{opponent}
 use Rattle.ml_parity.specs.Game.{ParityGame, IsGame, HasMove, owner_of, moves_of, size}
 use Rattle.ml_parity.specs.Winner.{IsPlay, WinsFrom, Wins}
 use Rattle.ml_parity.specs.Law.{DeterminacyLaw}
-use Rattle.ml_parity.specs.Sinks.{Holds, GoodMove, Solution}
-use Rattle.ml_parity.specs.SinkGame.{board_of}
+use Rattle.ml_parity.specs.private.Sinks.{Holds, GoodMove, Solution}
+use Rattle.ml_parity.specs.private.SinkGame.{board_of}
 use Rattle.ml_parity.proofs.Opponents.{cases_player, no_own_opponent, same_player, same_player-true, same_player-false}
 use Rattle.ml_parity.proofs.Sinks.{solution}
 use Rattle.ml_parity.proofs.Boards.{decides, first_move, all_live, solution_wins}

@@ -5,7 +5,7 @@
 --   RowsFall q from to     == the numbers to don't exceed the numbers from up to index q / 2; for an even q the last is less
 use Rattle.std.specs.Prelude.{ℕ, ◌≡◌, ◌/◌, ◌%◌, ◌<◌, ◌≤◌, List, map, get_or}
 use Rattle.std.specs.Global.{Vec}
-use Rattle.ml_parity.specs.declared.heights_graph.Arc.{Arc}
+use Rattle.ml_parity.specs.declared.one_sided.graph.Arc.{Arc}
 use Rattle.ml_parity.specs.Heights.{OneSidedGraph}
 
 -- the graph that these values hold

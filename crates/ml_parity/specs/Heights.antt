@@ -21,7 +21,7 @@
 --   AreLongest g rows    == each number is that largest number
 --   AtMost n rows        == no height is above n
 use Rattle.std.specs.Prelude.{ℕ, ◌≡◌, ◌+◌, ◌/◌, ◌%◌, ◌<◌, ◌≤◌, List, [], ◌∷◌, length, get_or, Contains, All, cond, eqb}
-use Rattle.ml_parity.specs.declared.heights_graph.Arc.{Arc}
+use Rattle.ml_parity.specs.declared.one_sided.graph.Arc.{Arc}
 
 -- how many vertices, the greatest priority that may occur, and the arcs
 pub record OneSidedGraph : Type 0 where

@@ -2,7 +2,7 @@
 
 ghost use Rattle.std.specs.Prelude.{◌≡◌, length};
 ghost use Rattle.ml_parity.specs.Game.{size};
-ghost use Rattle.ml_parity.specs.SinkGame.{FilledBelow};
+ghost use Rattle.ml_parity.specs.private.SinkGame.{FilledBelow};
 
 use crate::games::Game;
 use crate::players::Player;

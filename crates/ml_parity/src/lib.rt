@@ -12,42 +12,30 @@
 // - `heights` treats a graph in which one player makes all moves (`OneSided::build`): it counts the longest walks, or finds
 //   a cycle of even lowest priority. `heights_ok` tests numbers against the definition (`specs/Heights.antt`).
 // The lemmas beside the law are for the proofs of crates above: `proofs/Winners.antt` (the winners as a map),
-// `OneStep` (a vertex by its successors), `Kept` (along plays), `Comparison` (two games that differ at some vertices),
-// `Memory` (finite memory is not needed), `Certificates` (ranks that fall along moves), `SolutionFacts` (what a solution
-// tells), `HeightTables` (the longest counts are heights; where there are heights there is no even cycle).
+// `OneStep` (a vertex by its successors), `SingleMoves` (sinks, and vertices that are forced to one move), `AlongPlays`
+// (along plays that follow the strategy), `Carried` (winners carried from one game to another along a map of a region,
+// with the same players or with exchanged ones), `Comparison` (two games that differ at some vertices of a region),
+// `Memory` (finite memory is not needed), `SolutionFacts` (what a solution tells), `HeightTables` (the longest counts are
+// heights; where there are heights there is no even cycle).
 //
 // Below stand `ml_lists`, the mathematics of lists, loops and search, and `ml_base`, for its error. Above stand the crates whose answers are games:
 // checking games of structures and graphs, and the decision game.
 #![tactic(auto)]
 
-mod fast;
-mod fast_attract;
-mod fast_moves;
-mod fast_row;
-mod fast_turns;
 mod fill;
 pub mod games;
-pub mod heights_answer;
-pub mod heights_check;
-mod heights_cycles;
-pub mod heights_graph;
-mod heights_order;
-pub mod heights_search;
 pub mod laws;
+pub mod one_sided;
 pub mod plain;
 pub mod players;
 pub mod solutions;
+mod zielonka;
 
-pub use fast::solve;
 pub use games::{Game, GameRefusal};
-pub use heights_answer::{EvenCycle, Heights};
-pub use heights_check::heights_ok;
-pub use heights_graph::{Arc, OneSided};
-pub use heights_search::heights;
+pub use one_sided::answer::{EvenCycle, Heights};
+pub use one_sided::check::heights_ok;
+pub use one_sided::graph::{Arc, OneSided};
+pub use one_sided::search::heights;
 pub use players::Player;
 pub use solutions::Solution;
-
-#[cfg(test)]
-mod heights_tests;
-#[cfg(test)]
-mod tests;
+pub use zielonka::solve;

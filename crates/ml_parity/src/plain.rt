@@ -3,13 +3,14 @@
 ghost use Rattle.std.specs.Prelude.{◌≡◌, ◌<◌, ℕ, true, length, IfOk, MatchOption, slice_set};
 ghost use Rattle.ml_parity.specs.Game.{size};
 ghost use Rattle.ml_parity.specs.Solution.{IsSolution, FirstElsewhere, winner_at};
-ghost use Rattle.ml_parity.specs.SinkGame.{board_of, flag_at, SolvesLists, IsLeastLive, IsWithoutWon, IsMerged};
-ghost use Rattle.ml_parity.specs.Sinks.{Holds};
+ghost use Rattle.ml_parity.specs.private.SinkGame.{board_of, flag_at, SolvesLists, IsLeastLive, IsWithoutWon, IsMerged};
+ghost use Rattle.ml_parity.specs.private.Sinks.{Holds};
 
 use crate::fill::with_first_moves;
 use crate::games::Game;
 use crate::players::Player;
 use crate::solutions::Solution;
+use ml_base::NoMemory;
 use std::alloc::{AllocError, Global};
 
 /// A copy of the entries with one of them changed.
@@ -142,10 +143,14 @@ fn solve_live(
 /// Solves a parity game: who wins each vertex, and by which moves.
 ///
 /// At a vertex whose owner wins it, the choice is the move of a positional strategy with which that player wins from
-/// every vertex of that player; at each other vertex it is the first successor. Answers `AllocError` where memory ends.
-/// Costs a number of steps that doubles with each vertex: this is the recursion of the determinacy law, to test faster
+/// every vertex of that player; at each other vertex it is the first successor.
+///
+/// # Errors
+/// `NoMemory` alone.
+///
+/// Cost: a number of steps that doubles with each vertex. This is the recursion of the determinacy law, to test faster
 /// solvers against. Source: Haddad's short proof of positional determinacy, with one vertex a call made a sink.
-pub fn solve_plain(alloc: Global, game: &Game) -> Result<Solution, AllocError>
+pub fn solve_plain(alloc: Global, game: &Game) -> Result<Solution, NoMemory>
     ensures ok { IfOk result (IsSolution game.now) }
     ensures elsewhere { IfOk result (FirstElsewhere game.now) }
 {

@@ -8,7 +8,8 @@ use Rattle.std.proofs.Common.{◌≡◌, ℕ, ◌≤◌, false, List, ◌∷◌,
 use Rattle.ml_text.specs.declared.token.Operator.{Operator}
 use Rattle.ml_text.specs.declared.token.Operator.TheVariants as operator
 use Rattle.ml_text.specs.Grammar as tables
-use Rattle.ml_text.specs.Grammar.{Infix, Postfix, Whole, More, Read, Inner, Opens, Part, Level, Operand, Rest, Behind, alone, joined, postfixed, form, whole, sign, read, inner, opens, left_level, right_level}
+use Rattle.ml_text.specs.Grammar.{Whole, More, Read, Inner, Opens, Part, Level, Operand, Rest, Behind, alone, joined, postfixed, form, whole, sign, read, inner, opens, left_level, right_level}
+use Rattle.ml_text.specs.declared.forms.Role.TheVariants.{Infix, Postfix}
 use Rattle.ml_pdl.specs.Formula as plain
 use Rattle.ml_pdl.specs.Formula.{Formula, Program, Modality, Diamond, Square}
 use Rattle.ml_pdl.specs.Signs as signs

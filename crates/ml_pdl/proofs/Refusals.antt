@@ -6,7 +6,7 @@
 use Rattle.std.proofs.Common.{List, ap, subst}
 use Rattle.ml_text.specs.Grammar.{StandsFor}
 use Rattle.ml_text.specs.Refusals.{Item, IsAccepted, signs_of}
-use Rattle.ml_text.proofs.Exact.{Fits}
+use Rattle.ml_text.proofs.Fits.{Fits}
 use Rattle.ml_text.proofs.SameTexts.{SameTexts, other_way, fault_same}
 use Rattle.ml_pdl.specs.Signs.{Sign}
 use Rattle.ml_pdl.specs.Grammar.{IsReadAs}

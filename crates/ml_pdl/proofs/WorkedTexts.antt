@@ -11,8 +11,9 @@
 --   accepted              == texts that stand for formulas
 use Rattle.std.proofs.Common.{◌≡◌, ℕ, true, false, ◌+◌, List, [], ◌∷◌, length, refl, codes}
 use Rattle.ml_text.specs.declared.token.Operator.TheVariants.{And}
-use Rattle.ml_text.specs.Refusals.{Item, Neither, Syntax}
-use Rattle.ml_text.specs.Reading.{Outcome, Found, Refused, text_outcome}
+use Rattle.ml_text.specs.Refusals.{Item, Syntax}
+use Rattle.ml_text.specs.declared.limits.Bracket.TheVariants.{Neither}
+use Rattle.ml_text.specs.private.Reading.{Outcome, Found, Refused, text_outcome}
 use Rattle.ml_pdl.specs.Formula as plain
 use Rattle.ml_pdl.specs.Formula.{Formula, Diamond, Square}
 use Rattle.ml_pdl.specs.Signs.{Sign, Unmarked, Not, Connective, Const, Open, Close, Begins, Ends, Plus, Semicolon, Star, Question, Blank, Lower, Upper}

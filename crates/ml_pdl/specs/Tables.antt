@@ -18,7 +18,9 @@
 use Rattle.std.specs.Prelude.{ℕ, zero, suc, Bool, true, nat_le, List, Option, Some, None, codes}
 use Rattle.ml_text.specs.declared.token.Operator.{Operator}
 use Rattle.ml_text.specs.declared.token.Operator.TheVariants as operator
-use Rattle.ml_text.specs.Grammar.{Grammar, Role, Infix, Postfix, Outside, Mode, Whole, More, Turn, Read, Inner, Opens}
+use Rattle.ml_text.specs.Grammar.{Grammar, Mode, Whole, More, Turn, Read, Inner, Opens}
+use Rattle.ml_text.specs.declared.forms.Role.{Role}
+use Rattle.ml_text.specs.declared.forms.Role.TheVariants.{Infix, Postfix, Outside}
 use Rattle.ml_pdl.specs.Formula as plain
 use Rattle.ml_pdl.specs.Formula.{Formula, Program, Modality, Diamond, Square}
 use Rattle.ml_pdl.specs.Signs.{Sign, Marked, Unmarked, Not, Connective, Const, Open, Close, Begins, Ends, Plus, Semicolon, Star, Question, Blank, Lower, Upper}

@@ -1,8 +1,26 @@
 // Tests of texts, documents and the program as a whole. They stand here, above all crates that they call, so that
 // none of those is proved a second time for its tests. Tests of games, traces and histories stand in `ml_tests`.
 //
-//   program_tests  the worked rows of the program, over sources and sinks in memory, and the examples of examples/
+//   document_tests  documents with a structure, readable and broken
+//   kripke_tests    structures, and the texts of models
+//   line_tests      lines written and cut
+//   meaning_tests   formulas with the states at which they hold
+//   mu_tests        texts of the mu-calculus and their formulas
+//   program_tests   the worked rows of the program, over sources and sinks in memory
+//   text_tests      the tokens of texts
 #![tactic(auto)]
 
 #[cfg(test)]
+mod document_tests;
+#[cfg(test)]
+mod kripke_tests;
+#[cfg(test)]
+mod line_tests;
+#[cfg(test)]
+mod meaning_tests;
+#[cfg(test)]
+mod mu_tests;
+#[cfg(test)]
 mod program_tests;
+#[cfg(test)]
+mod text_tests;

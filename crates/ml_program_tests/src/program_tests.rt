@@ -1,8 +1,8 @@
 // The worked rows, over sources and sinks in memory.
 ghost use Rattle.std.specs.Prelude.{◌≤◌};
 
-use ml_driver::{Status, run};
 use ml_base::{MemSink, MemSource};
+use ml_driver::{Status, run};
 use std::alloc::{AllocError, Global};
 use std::test::Fail;
 
@@ -155,7 +155,7 @@ fn texts(rt: HostRuntime) -> Result<(), Fail> {
         ("check-model", LITERALS, 0, "holds\n"),
         (
             "check-model",
-            "mlsolver 1\nanswer unsatisfiable\nlogic mu\nsense plain\nformula <>p\nend\n",
+            "mlsolver 1\nanswer unsatisfiable\nlogic mu\nsense plain\nformula (mu X. <>X)\nnames 2\nentries 4\nentry 0\nsequent 0\nlive 1\nitem 0 - 0\nheights 0 0 2\ngo 2 1 neutral\nentry 1\nsequent 4\nlive 1\nitem 4 - 0\nitem 4 1 0\nheights 0 0 1\ngo 2 2 neutral\nentry 2\nsequent 4\nlive 2\nitem 4 - 0\nitem 4 1 0 1\nheights 0 0 0\ngo 2 3 green 1\nentry 3\nsequent 4\nlive 2\nitem 4 - 0\nitem 4 1 0 1\nheights 0 0 0\ngo 2 3 green 1\nend\n",
             4,
             "refused document line 2 rule 3\n",
         ),
@@ -174,35 +174,71 @@ fn texts(rt: HostRuntime) -> Result<(), Fail> {
     Ok(())
 }
 
+type Repeated = (&'static [u8], usize);
+
+// pieces of text, each so many times
+fn repeated(alloc: Global, pieces: &[Repeated]) -> Result<Vec<u8>, AllocError> {
+    let mut text = Vec::new(alloc);
+    for (piece, times) in pieces {
+        for _ in 0..*times {
+            text.extend_from_slice(piece)?;
+        }
+    }
+    Ok(text)
+}
+
+const HEAD: &[u8] = b"mlsolver 1\nanswer satisfiable\nlogic mu\nsense plain\nformula ";
+
+const BODY_OF_P: &[u8] = b"\nstates 1\nstart 0\nstate 0 p\nend\n";
+
+const BODY: &[u8] = b"\nstates 1\nstart 0\nstate 0 ";
+
+const END: &[u8] = b"\nend\n";
+
+// Texts at the limits and one past them, with their whole outputs.
 #[test]
 fn lengths(rt: HostRuntime) -> Result<(), Fail> {
-    let rows = [
+    let rows: [(&[Repeated], u8, &[Repeated]); 7] = [
         (
-            b"p".as_slice(),
-            b" & p".as_slice(),
-            499,
-            b"".as_slice(),
+            &[(b"p", 1), (b" & p", 499)],
             0,
-            b"".as_slice(),
+            &[
+                (HEAD, 1),
+                (b"(", 499),
+                (b"p", 1),
+                (b" & p)", 499),
+                (BODY_OF_P, 1),
+            ],
         ),
-        (b"p", b" & p", 500, b"", 4, b"refused text rule 4 at 2000\n"),
-        (b"", b"(", 1001, b"p", 4, b"refused text rule 5 at 1000\n"),
-        (b"", b"p", 64, b"", 0, b""),
-        (b"", b"p", 65, b"", 4, b"refused text rule 6 at 0\n"),
-        (b"", b" ", 1_048_575, b"p", 0, b""),
-        (b"", b" ", 1_048_577, b"", 4, b"refused length\n"),
+        (
+            &[(b"p", 1), (b" & p", 500)],
+            4,
+            &[(b"refused text rule 4 at 2000\n", 1)],
+        ),
+        (
+            &[(b"(", 1001), (b"p", 1), (b")", 1001)],
+            4,
+            &[(b"refused text rule 5 at 1000\n", 1)],
+        ),
+        (
+            &[(b"p", 64)],
+            0,
+            &[(HEAD, 1), (b"p", 64), (BODY, 1), (b"p", 64), (END, 1)],
+        ),
+        (&[(b"p", 65)], 4, &[(b"refused text rule 6 at 0\n", 1)]),
+        (
+            &[(b" ", 1_048_575), (b"p", 1)],
+            0,
+            &[(HEAD, 1), (b"p", 1), (BODY_OF_P, 1)],
+        ),
+        (&[(b" ", 1_048_577)], 4, &[(b"refused length\n", 1)]),
     ];
-    for (front, middle, times, back, status, output) in rows {
-        let mut text = Vec::from_slice(rt.alloc(), front)?;
-        for _ in 0..times {
-            text.extend_from_slice(middle)?;
-        }
-        text.extend_from_slice(back)?;
+    for (text, status, output) in rows {
+        let text = repeated(rt.alloc(), text)?;
+        let output = repeated(rt.alloc(), output)?;
         let (code, taken) = answer(rt.alloc(), "decide mu", &text, 100_000, &[], &[])?;
         assert_eq!(rt; code, status);
-        if status == 4 {
-            assert_eq!(rt; taken.as_slice(), output);
-        }
+        assert_eq!(rt; taken.as_slice(), output.as_slice());
     }
     Ok(())
 }

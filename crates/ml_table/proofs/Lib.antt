@@ -12,3 +12,7 @@ pub mod Verdicts
 pub mod Labels
 -- the two halves of a search
 pub mod Halves
+-- ordered lists of names
+pub mod OrderedNames
+-- every formula in form has a verdict
+pub mod SomeVerdict

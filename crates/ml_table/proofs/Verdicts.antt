@@ -11,7 +11,8 @@ use Rattle.ml_base.proofs.Listing.{lists_iff, among_iff}
 use Rattle.ml_kripke.specs.Ordered.{IsOrdered, IsBuiltFrom}
 use Rattle.ml_mu.specs.Formula.{Formula}
 use Rattle.ml_mu.specs.Meaning.{meaning}
-use Rattle.ml_table.specs.Propositional.{is_propositional, value_under, different_propositions, propositions_after, most_propositions, IsInForm, HoldsInModel, HoldsNowhere}
+use Rattle.ml_mu.specs.Problem.{IsSatisfiable}
+use Rattle.ml_table.specs.Propositional.{is_propositional, value_under, different_propositions, propositions_after, most_propositions, plain, IsInForm, HoldsInModel}
 use Rattle.ml_table.specs.Assignments.{assigned, chosen_names, IsFound, IsExhausted}
 use Rattle.ml_table.proofs.Among.{is_among}
 use Rattle.ml_table.proofs.Propositions.{value_agrees, distinct_after}
@@ -27,8 +28,8 @@ length-map_test : (ps : List (List ℕ)) (t : List ℕ → Bool) → length (map
 length-map_test [] t = refl
 length-map_test (p ∷ ps) t = ap suc (length-map_test ps t)
 
-pub exhausted_nowhere : (f : Formula) → is_propositional f ≡ true → IsExhausted (value_of f (different_propositions f)) (length (different_propositions f)) [] → HoldsNowhere f
-exhausted_nowhere f is exhausted m s inside holds =
+pub exhausted_nowhere : (f : Formula) → is_propositional f ≡ true → IsExhausted (value_of f (different_propositions f)) (length (different_propositions f)) [] → ¬ (IsSatisfiable (plain f))
+exhausted_nowhere f is exhausted (m, is_structure, (s, inside, holds)) =
     let ps : List (List ℕ) = different_propositions f in
     let agree : value_of f ps (map (lists m s) ps) ≡ value_under (lists m s) f =
     value_agrees [] f (assigned ps (map (lists m s) ps)) (lists m s) (λ p here. assigned-map ps (lists m s) p here) in
@@ -80,9 +81,9 @@ in_form f root names are = record {
   few = subst (λ g. length (different_propositions g) ≤ most_propositions) are.tree (subst (λ ps. length ps ≤ most_propositions) are.pushed are.few);
 }
 
-pub nowhere : (f root : Formula) (names slice : List (List ℕ)) (values : List Bool) → AreNames f root names → slice ≡ names → values ≡ [] → IsExhausted (value_of root slice) (length slice) values → HoldsNowhere f
+pub nowhere : (f root : Formula) (names slice : List (List ℕ)) (values : List Bool) → AreNames f root names → slice ≡ names → values ≡ [] → IsExhausted (value_of root slice) (length slice) values → ¬ (IsSatisfiable (plain f))
 nowhere f root names slice values are same none exhausted =
-    subst HoldsNowhere are.tree
+    subst (λ g. ¬ (IsSatisfiable (plain g))) are.tree
     (exhausted_nowhere root are.propositional
     (subst (λ ps. IsExhausted (value_of root ps) (length ps) []) (same ∙ are.pushed)
     (subst (λ bs. IsExhausted (value_of root slice) (length slice) bs) none exhausted)))

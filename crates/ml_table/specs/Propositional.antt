@@ -11,7 +11,6 @@
 --   different_propositions f   == the different propositions of f, in the order in which they first stand
 --   IsInForm f                 == f is propositional, and has at most 16 different propositions
 --   HoldsInModel f m           == m is a structure of one state, in order, at which f holds
---   HoldsNowhere f             == f holds at no state of any structure
 --   IsVerdict f v              == the verdict v is right for f
 use Rattle.std.specs.Prelude.{ℕ, ◌≡◌, ◌<◌, ◌≤◌, Bool, true, false, ◌&&◌, not, if◌then◌else◌, List, [], ◌∷◌, ◌++◌, length, IsTrue}
 use Rattle.std.specs.List.{list_any}
@@ -20,7 +19,7 @@ use Rattle.ml_base.specs.Structure.{Structure, IsStructure}
 use Rattle.ml_kripke.specs.Ordered.{IsOrdered}
 use Rattle.ml_mu.specs.Formula.{Formula, Const, Prop, Var, Not, Binary, Modal, Binder}
 use Rattle.ml_mu.specs.Meaning.{truth_of}
-use Rattle.ml_mu.specs.Problem.{Problem, HoldsAt}
+use Rattle.ml_mu.specs.Problem.{Problem, HoldsAt, IsSatisfiable}
 use Rattle.ml_table.specs.declared.table.Table.{Table}
 use Rattle.ml_table.specs.declared.table.Table.TheVariants.{Satisfiable, Unsatisfiable, OutOfForm}
 
@@ -74,10 +73,7 @@ pub record HoldsInModel (f : Formula) (m : Structure) : Type 0 where
   pub one_state : m.states ≡ 1
   pub holds : HoldsAt m 0 (plain f)
 
-abbrev pub HoldsNowhere : Formula → Type 0
-HoldsNowhere f = (m : Structure) (s : ℕ) → s < m.states → HoldsAt m s (plain f) → ⊥
-
 abbrev pub IsVerdict : Formula → Table → Type 0
 IsVerdict f (Satisfiable m) = IsInForm f × HoldsInModel f m
-IsVerdict f Unsatisfiable = IsInForm f × HoldsNowhere f
+IsVerdict f Unsatisfiable = IsInForm f × ¬ (IsSatisfiable (plain f))
 IsVerdict f OutOfForm = IsInForm f → ⊥

@@ -9,12 +9,18 @@
 #![tactic(auto)]
 
 pub mod games;
+#[cfg(test)]
+mod graph_tests;
 pub mod graphs;
+#[cfg(test)]
+mod heights_tests;
+#[cfg(test)]
+mod history_tests;
 pub mod letters;
 pub mod not_made;
 pub mod numbers;
 #[cfg(test)]
-mod history_tests;
+mod parity_tests;
 #[cfg(test)]
 mod tests;
 #[cfg(test)]

@@ -9,7 +9,9 @@
 --   loosen              == what is read at a level is read at each looser one
 use Rattle.std.proofs.Common.{◌≡◌, ℕ, ◌+◌, ◌<◌, ◌≤◌, ◌⊎◌, true, false, List, Option, Some, None, refl, sym, ◌∙◌, ap, subst, inl, inr, ⊎_elim, arith, leb-false}
 use Rattle.std.proofs.lemmas.Bool.{cases_Bool, cond-true, cond-false, lt-leb, cases_lt}
-use Rattle.ml_text.specs.Grammar.{Grammar, Role, Infix, Postfix, Outside, Level, Reads, alone, joined, left_level, right_level, role_takes, takes}
+use Rattle.ml_text.specs.Grammar.{Grammar, Level, Reads, alone, joined, left_level, right_level, role_takes, takes}
+use Rattle.ml_text.specs.declared.forms.Role.{Role}
+use Rattle.ml_text.specs.declared.forms.Role.TheVariants.{Infix, Postfix, Outside}
 
 abbrev pub RoleFollows : (g : Grammar) → g.Sort → ℕ → Role → Type 0
 RoleFollows g s l (Infix m) = (m < l) ⊎ ((m ≡ l) × (g.groups_left s l ≡ true))

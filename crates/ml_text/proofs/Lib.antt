@@ -22,6 +22,12 @@ pub mod Complete
 pub mod Sound
 -- signs that begin a text, and signs that begin none
 pub mod Viable
+-- the first items of a text
+pub mod FirstItems
+-- relations that are the one of the tables
+pub mod Fits
+-- what is at fault at an item
+pub mod ItemFaults
 -- what comes of a text within limits is exact
 pub mod Exact
 -- a step, split as a program does it
@@ -34,3 +40,9 @@ pub mod Scans
 pub mod Fronts
 -- relations by which the same signs stand for something
 pub mod SameTexts
+-- the stack that a program holds
+pub mod Stacks
+-- signs that do the same, but for what they make
+pub mod Alike
+-- what comes of an item
+pub mod ItemSteps

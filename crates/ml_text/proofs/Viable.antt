@@ -8,7 +8,7 @@ use Rattle.std.proofs.Common.{◌≡◌, List, [], ◌∷◌, ◌++◌, Option, 
 use Rattle.std.specs.Prelude.{option_and_then}
 use Rattle.ml_text.specs.Grammar.{Grammar, Mode, Whole, More, front, StandsFor, IsRegular, IsStop, Ending, IsCompletable}
 use Rattle.ml_text.specs.Refusals.{BeginsText}
-use Rattle.ml_text.specs.Machine.{Held, Left, Stack, State, start_state, step, parse, run}
+use Rattle.ml_text.specs.private.Machine.{Held, Left, Stack, State, start_state, step, parse, run}
 use Rattle.ml_text.proofs.Complete.{pop, complete, found}
 use Rattle.ml_text.proofs.Sound.{stands}
 

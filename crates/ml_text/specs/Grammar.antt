@@ -1,7 +1,7 @@
 -- Grammars of the kind that the four logics have, over any signs and any trees, and what their texts stand for.
 --
--- A grammar has operands, and operators between them. Operators have levels: a greater level binds tighter, and all
--- operators of one level group to the same side. An operand is written in one of several forms; a form is read from
+-- A grammar has operands, and operators between them. Operators have levels, their precedence: a greater level binds
+-- tighter. All operators of one level group to the same side, their associativity. An operand is written in one of several forms; a form is read from
 -- left to right, sign by sign, and may hold operands itself (the operand behind a negation, what stands between
 -- parentheses). So a form is given as an automaton: what it does at a sign, and what it does behind an operand that it
 -- holds. A grammar may have several sorts of operands, each with its own forms and operators (formulas and programs).
@@ -22,11 +22,8 @@
 --   IsRegular g          == no form lets a held operand begin with the very sign that begins the form
 --   IsCompletable g      == each form that is begun can be ended
 use Rattle.std.specs.Prelude.{ℕ, ◌+◌, ◌≤◌, ◌≡◌, Bool, true, false, if◌then◌else◌, nat_le, List, [], ◌∷◌, ◌++◌, Option, Some, None}
-
-pub data Role : Type 0 where
-  Infix : ℕ → Role
-  Postfix : Role
-  Outside : Role
+use Rattle.ml_text.specs.declared.forms.Role.{Role}
+use Rattle.ml_text.specs.declared.forms.Role.TheVariants.{Infix, Postfix, Outside}
 
 pub data Mode (Tree Wait : Type 0) : Type 0 where
   Whole : Tree → Mode Tree Wait

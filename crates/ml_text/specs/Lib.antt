@@ -8,9 +8,9 @@ pub mod Words
 pub mod Spelling
 -- grammars with operators of levels, over any signs
 pub mod Grammar
--- the machine that reads their texts
-pub mod Machine
 -- limits, and where texts are refused
 pub mod Refusals
--- how a text is read within limits
-pub mod Reading
+-- texts as items
+pub mod Items
+-- what private contracts cite
+pub mod private

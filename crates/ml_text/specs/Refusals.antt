@@ -21,9 +21,9 @@
 --   IsAccepted R items f    == the signs stand for f, and no cause comes at all
 --   offset_of items end k   == where the place k is in the text, whose end is given
 use Rattle.std.specs.Prelude.{ℕ, zero, suc, ◌+◌, ◌-◌, ◌<◌, ◌≤◌, ◌≡◌, ◌⊎◌, Bool, true, false, List, [], ◌∷◌, ◌++◌, length, map, take, sum_by}
-
-pub data Bracket : Type 0 where
-  Opening Closing Neither : Bracket
+use Rattle.ml_text.specs.declared.limits.TheConstants.{MOST_OCCURRENCES, MOST_OPEN}
+use Rattle.ml_text.specs.declared.limits.Bracket.{Bracket}
+use Rattle.ml_text.specs.declared.limits.Bracket.TheVariants.{Opening, Closing, Neither}
 
 pub record Item (Sign : Type 0) : Type 0 where
   pub sign : Sign
@@ -32,15 +32,12 @@ pub record Item (Sign : Type 0) : Type 0 where
   pub bracket : Bracket
   pub is_long : Bool
 
--- the limits that all logics share
+-- the limits that all logics share, beside the one on names
 abbrev pub most_occurrences : ℕ
-most_occurrences = 1000
+most_occurrences = MOST_OCCURRENCES
 
 abbrev pub most_open : ℕ
-most_open = 1000
-
-abbrev pub longest_name : ℕ
-longest_name = 64
+most_open = MOST_OPEN
 
 abbrev pub signs_of : {Sign : Type 0} → List (Item Sign) → List Sign
 signs_of items = map (λ i. i.sign) items

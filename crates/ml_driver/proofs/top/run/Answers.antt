@@ -2,14 +2,14 @@
 use Rattle.std.proofs.Common.{◌<◌, [], None, Some, refl, sym, ◌∙◌, subst, inl, inr, arith, length}
 use Rattle.ml_driver.specs.declared.status.Status.TheVariants as status
 use Rattle.ml_driver.specs.Statuses.{longest_input, refused_words, refused_length}
-use Rattle.ml_driver.specs.Run.{IsDue, Wrote}
+use Rattle.ml_driver.specs.Run.{IsDue, IsWhole, Wrote}
 use Rattle.ml_driver.proofs.Endings.{ended_written, ended_with, too_long_due}
 use Rattle.ml_driver.proofs.top.run.Goals as goal
 
 pub returns-in_default : goal.returns-in_default
 returns-in_default g c =
     ended_with None _ _ _ (sym c.command_of.ensures ∙ c.in_default.is)
-    (ended_written None _ [] status.Words refused_words _ (refl, refl) refl refl c.written.ensures)
+    (ended_written None _ [] status.Words refused_words _ (refl, refl) refl refl c.written.ensures.is_whole c.written.ensures.wrote)
 
 pub returns-in-Err-TooLong : goal.returns-in-Err-TooLong
 returns-in-Err-TooLong g c =
@@ -19,7 +19,7 @@ returns-in-Err-TooLong g c =
     let long : longest_input command < length gives.0 = omega (arith, gives.2, c.longest_input.ensures) in
     ended_with (Some command) _ _ _ (sym c.command_of.ensures ∙ c.in-Some.is)
     (ended_written (Some command) _ gives.0 status.Text refused_length _ (gives.1, inr long) calm (too_long_due command gives.0 long)
-    c.written-in-Err-TooLong.ensures)
+    c.written-in-Err-TooLong.ensures.is_whole c.written-in-Err-TooLong.ensures.wrote)
 
 pub returns-in-Ok-outcome : goal.returns-in-Ok-outcome
 returns-in-Ok-outcome g c =
@@ -28,5 +28,6 @@ returns-in-Ok-outcome g c =
     (ended_written (Some command) _ c.in-Ok.text.items c.in-Ok-outcome.output.status c.in-Ok-outcome.output.bytes.items _
     (c.in-Ok.ensures.given, inl c.in-Ok.ensures.end) c.in-Ok.ensures.calm
     (subst (λ t. IsDue (Some command) t c.in-Ok-outcome.output.status c.in-Ok-outcome.output.bytes.items) c.deref.ensures.value c.in-Ok-outcome.ensures)
+    (subst IsWhole c.deref-in-Ok-outcome.ensures.value c.written-in-Ok-outcome.ensures.is_whole)
     (subst (λ o. Wrote (g.K.Sink.taken c.args.sink.now) (g.K.Sink.taken c.written-in-Ok-outcome.new.sink) (g.K.Sink.faults c.args.sink.now) (g.K.Sink.faults c.written-in-Ok-outcome.new.sink) c.in-Ok-outcome.output.status o c.written-in-Ok-outcome.result)
-    c.deref-in-Ok-outcome.ensures.value c.written-in-Ok-outcome.ensures))
+    c.deref-in-Ok-outcome.ensures.value c.written-in-Ok-outcome.ensures.wrote))

@@ -1,6 +1,6 @@
 use Rattle.std.proofs.Common.{◌≡◌, ◌+◌, length, ap, arith}
 use Rattle.std.proofs.lemmas.Bool.Decides.{nat_tests}
-use Rattle.ml_kripke.proofs.Ends.{nothing_behind}
+use Rattle.ml_kripke.proofs.BodyFaults.{nothing_behind}
 use Rattle.ml_kripke.proofs.read.ended.Goals as goal
 
 pub returns-else-is_empty-clause-refused : goal.returns-else-is_empty-clause-refused

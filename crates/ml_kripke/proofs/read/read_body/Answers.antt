@@ -1,10 +1,12 @@
-use Rattle.std.proofs.Common.{◌+◌, None, map, ap, sym, subst, ◌∙◌, arith}
+use Rattle.std.proofs.Common.{◌+◌, None, map, ap, refl, sym, subst, ◌∙◌, arith}
 use Rattle.std.proofs.lemmas.Result.{err_from_is_err_and}
 use Rattle.ml_kripke.specs.BodyRules.{AtEdge}
 use Rattle.ml_kripke.specs.ModelText.{model_text}
 use Rattle.ml_kripke.specs.Ordered.{HasNames}
-use Rattle.ml_kripke.specs.Refusals.{TellsFault}
-use Rattle.ml_kripke.proofs.Whole.{from_states, from_body, from_rows, parts_structure, parts_ordered, parts_named, whole_text}
+use Rattle.ml_kripke.specs.private.Refusals.{TellsFault}
+use Rattle.ml_kripke.proofs.ModelParts.{parts_structure, parts_ordered, parts_named, whole_text}
+use Rattle.ml_kripke.proofs.BodyFaults.{from_states, from_body, from_rows}
+use Rattle.ml_kripke.proofs.GoodLines.{at_state_done}
 use Rattle.ml_kripke.proofs.OneText.{length-state_lines}
 use Rattle.ml_kripke.proofs.read.read_body.Goals as goal
 
@@ -13,8 +15,8 @@ returns-in_err-start-clause-refused c =
     let p = err_from_is_err_and c.from_residual-in_err-start.result c.from_residual-in_err-start.ensures.1 in
     let first = c.in_ok-states.ensures.read in
     rw (p.1, p.2)
-    (from_states c.in_ok-states.states c.args.line c.args.bytes.now c.in_ok-states.starts.now c.in_err-start.field-0.0 first.0 first.1
-    first.2 c.in_err-start.ensures.refused)
+    (from_states c.in_ok-states.states c.args.line c.in_err-start.field-0.0 first.2 c.args.bytes.now c.in_ok-states.starts.now first.0 first.1
+    c.in_err-start.ensures.refused)
 
 pub returns-in_err-labels-clause-refused : goal.returns-in_err-labels-clause-refused
 returns-in_err-labels-clause-refused c =
@@ -53,7 +55,8 @@ returns-in_err-edges-clause-refused c =
     rw (p.1, p.2)
     (from_body n c.in_ok-start.start c.args.line c.args.bytes.now c.in_ok-states.starts.now c.in_ok-start.behind.now told first.0 second.0
     first.1 first.2 second.1
-    (from_rows n (c.args.line + 2) c.in_ok-start.behind.now rest rows told third.0 third.1 first.2 at))
+    (from_rows n (c.args.line + 2) told first.2 n (c.args.line + 2 + n) c.in_ok-start.behind.now rest rows third.0 third.1 refl (omega arith)
+    (subst (λ place. TellsFault place (c.args.line + 2 + n) rest told) (sym (at_state_done n n (omega arith))) at)))
 
 pub of_parts-requires-clause-is_structure : goal.of_parts-requires-clause-is_structure
 of_parts-requires-clause-is_structure c =

@@ -1,12 +1,11 @@
 use Rattle.std.proofs.Common.{◌≡◌, ◌+◌, ◌-◌, length, slice_get, None, ap, sym, subst, ◌∙◌, arith}
 use Rattle.ml_lines.specs.Reading.{lines_of, words_of}
 use Rattle.ml_kripke.specs.BodyRules.{AtEdge, AtNothing}
-use Rattle.ml_kripke.specs.BodyParts.{IsEdgeLine}
-use Rattle.ml_kripke.specs.Refusals.{TellsRule, TellsFault}
-use Rattle.ml_kripke.proofs.Chains.{last_is}
-use Rattle.ml_kripke.proofs.Ends.{if_err_weaker, end_refused}
-use Rattle.ml_kripke.proofs.Parts.{AreEdgesTo, edge_read}
-use Rattle.ml_kripke.proofs.PartFaults.{edge_refused, edge_missing}
+use Rattle.ml_kripke.specs.private.BodyParts.{IsEdgeLine}
+use Rattle.ml_kripke.specs.private.Refusals.{TellsRule, TellsFault}
+use Rattle.ml_lists.proofs.Chains.{last_is}
+use Rattle.ml_kripke.proofs.BodyReads.{AreEdgesTo, edge_read}
+use Rattle.ml_kripke.proofs.BodyFaults.{edge_refused, edge_missing, end_refused, if_err_weaker}
 use Rattle.ml_kripke.proofs.read.read_edges.Goals as goal
 
 pub returns-in-Ok-None-clause-refused : goal.returns-in-Ok-None-clause-refused
@@ -18,8 +17,8 @@ returns-in-Ok-None-clause-refused c =
     let behind = c.in-Some.behind.now in
     if_err_weaker c.ended.result (TellsFault AtNothing (at + 1) behind) (TellsFault (AtEdge c.args.states None) c.args.line c.args.text.now)
     (λ told tells.
-    end_refused c.args.states c.args.line at c.args.text.now c.loop-words.rest.now behind edges (words_of c.in-Some.words.now) told
-    c.ranges.states.fits at_is c.loop-words.invariant c.in-Some.ensures.lines c.in-Some.ensures.left is_end tells)
+    end_refused c.args.states c.args.line told c.ranges.states.fits at c.args.text.now c.loop-words.rest.now edges at_is c.loop-words.invariant
+    behind (words_of c.in-Some.words.now) c.in-Some.ensures.lines c.in-Some.ensures.left c.in-Some.ensures.shorter is_end tells)
     c.ended.ensures.refused
 
 pub returns-in-Err-clause-refused : goal.returns-in-Err-clause-refused
@@ -29,8 +28,8 @@ returns-in-Err-clause-refused c =
     omega (arith, c.len.ensures, c.deref.ensures.len, ap length c.deref.ensures.value) in
     let last = c.last.ensures.value ∙ ap (λ es. slice_get es (length es - 1)) c.deref.ensures.value ∙ sym (last_is edges) in
     let words = words_of c.in-Some.words.now in
-    edge_refused c.args.states c.args.line (c.args.line + c.len.result) c.args.text.now c.loop-words.rest.now edges c.at_line.result
-    c.ranges.states.fits at_is c.loop-words.invariant words (lines_of c.in-Some.behind.now) c.in-Err.refusal c.in-Some.ensures.lines
+    edge_refused c.args.states c.args.line c.at_line.result c.ranges.states.fits (c.args.line + c.len.result) c.args.text.now
+    c.loop-words.rest.now edges at_is c.loop-words.invariant words (lines_of c.in-Some.behind.now) c.in-Err.refusal c.in-Some.ensures.lines
     (subst (λ before. TellsRule (AtEdge c.args.states before) words c.in-Err.refusal) last c.in-Err.ensures.refused) c.at_line.ensures
 
 pub loop-words-preserved : goal.loop-words-preserved
@@ -49,5 +48,5 @@ pub returns-in-None-clause-refused : goal.returns-in-None-clause-refused
 returns-in-None-clause-refused c =
     let edges = c.loop-words.edges.items in
     let at_is : c.args.line + c.len.result ≡ c.args.line + length edges = omega (arith, c.len.ensures) in
-    edge_missing c.args.states c.args.line (c.args.line + c.len.result) c.args.text.now c.loop-words.rest.now edges c.fault.result
-    c.ranges.states.fits at_is c.loop-words.invariant c.in-None.ensures.lines c.fault.ensures
+    edge_missing c.args.states c.args.line c.fault.result c.ranges.states.fits (c.args.line + c.len.result) c.args.text.now
+    c.loop-words.rest.now edges at_is c.loop-words.invariant c.in-None.ensures.lines c.fault.ensures

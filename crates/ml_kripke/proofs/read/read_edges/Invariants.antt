@@ -1,5 +1,5 @@
 use Rattle.std.proofs.Common.{length}
-use Rattle.ml_kripke.proofs.Parts.{AreEdgesTo}
+use Rattle.ml_kripke.proofs.BodyReads.{AreEdgesTo}
 use Rattle.ml_kripke.proofs.read.read_edges.Given as goal
 
 abbrev pub invariant-loop-words : goal.invariant-loop-words

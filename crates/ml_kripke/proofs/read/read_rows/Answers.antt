@@ -1,8 +1,8 @@
 use Rattle.std.proofs.Common.{◌+◌, ◌∷◌, [], map, ap, sym, subst, ◌∙◌, arith}
 use Rattle.std.proofs.lemmas.List.{map-append}
 use Rattle.ml_lines.specs.Reading.{lines_of, words_of}
-use Rattle.ml_kripke.proofs.Parts.{AreRowsTo, row_read}
-use Rattle.ml_kripke.proofs.PartFaults.{rows_room, state_refused, state_missing}
+use Rattle.ml_kripke.proofs.BodyReads.{AreRowsTo, row_read, rows_room}
+use Rattle.ml_kripke.proofs.BodyFaults.{state_refused, state_missing}
 use Rattle.ml_kripke.proofs.read.read_rows.Goals as goal
 
 pub overflow_add-at : goal.overflow_add-at
@@ -13,16 +13,16 @@ overflow_add-at c =
 pub returns-in-Err-clause-refused : goal.returns-in-Err-clause-refused
 returns-in-Err-clause-refused c =
     let rows = map (λ row. row.items) c.loop-state.rows.items in
-    state_refused c.args.states c.args.line c.loop-state.state (c.args.line + c.from.result) c.args.text.now c.loop-state.rest.now rows
-    c.at_line.result c.ranges.states.fits (ap (λ i. c.args.line + i) c.from.ensures) c.loop-state.invariant c.loop-state-test.true
+    state_refused c.args.states c.args.line c.at_line.result c.ranges.states.fits c.loop-state.state (c.args.line + c.from.result)
+    c.args.text.now c.loop-state.rest.now rows (ap (λ i. c.args.line + i) c.from.ensures) c.loop-state.invariant c.loop-state-test.true
     (words_of c.in-Some.words.now) (lines_of c.in-Some.behind.now) c.in-Err.refusal c.in-Some.ensures.lines
     (c.in-Err.ensures.refused c.args.states) c.at_line.ensures
 
 pub returns-in-None-clause-refused : goal.returns-in-None-clause-refused
 returns-in-None-clause-refused c =
     let rows = map (λ row. row.items) c.loop-state.rows.items in
-    state_missing c.args.states c.args.line c.loop-state.state (c.args.line + c.from.result) c.args.text.now c.loop-state.rest.now rows
-    c.fault.result c.ranges.states.fits (ap (λ i. c.args.line + i) c.from.ensures) c.loop-state.invariant c.loop-state-test.true
+    state_missing c.args.states c.args.line c.fault.result c.ranges.states.fits c.loop-state.state (c.args.line + c.from.result)
+    c.args.text.now c.loop-state.rest.now rows (ap (λ i. c.args.line + i) c.from.ensures) c.loop-state.invariant c.loop-state-test.true
     c.in-None.ensures.lines c.fault.ensures
 
 pub loop-state-preserved : goal.loop-state-preserved

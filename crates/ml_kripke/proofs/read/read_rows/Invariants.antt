@@ -1,5 +1,5 @@
 use Rattle.std.proofs.Common.{map}
-use Rattle.ml_kripke.proofs.Parts.{AreRowsTo}
+use Rattle.ml_kripke.proofs.BodyReads.{AreRowsTo}
 use Rattle.ml_kripke.proofs.read.read_rows.Given as goal
 
 abbrev pub invariant-loop-state : goal.invariant-loop-state

@@ -3,7 +3,7 @@ use Rattle.std.specs.Option.{option_copied}
 use Rattle.std.proofs.lemmas.Bool.{true≢false}
 use Rattle.std.proofs.lemmas.Slice.Eq.{bytes_eq-Decides}
 use Rattle.ml_lines.specs.Reading.{words_of}
-use Rattle.ml_kripke.proofs.EdgeWords.{other_edge, other_kind, no_end}
+use Rattle.ml_kripke.proofs.BrokenRules.{other_edge, other_kind, no_end}
 use Rattle.ml_kripke.proofs.read_line.edge_of.Goals as goal
 
 pub returns-in-Err-NotAName-clause-refused : goal.returns-in-Err-NotAName-clause-refused

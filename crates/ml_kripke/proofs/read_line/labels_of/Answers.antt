@@ -1,7 +1,7 @@
 use Rattle.std.proofs.Common.{ap, Err}
 use Rattle.std.specs.Option.{option_copied}
 use Rattle.ml_lines.specs.Reading.{words_of, words_behind}
-use Rattle.ml_kripke.proofs.StateWords.{other_number, other_labels}
+use Rattle.ml_kripke.proofs.BrokenRules.{other_number, other_labels}
 use Rattle.ml_kripke.proofs.read_line.labels_of.Goals as goal
 
 pub returns-in-Err-NotAName-clause-refused : goal.returns-in-Err-NotAName-clause-refused

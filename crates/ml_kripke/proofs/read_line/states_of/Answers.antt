@@ -1,7 +1,7 @@
 use Rattle.std.proofs.Common.{ap, ◌∙◌}
 use Rattle.ml_lines.specs.Lines.{number}
 use Rattle.ml_lines.specs.Reading.{words_of}
-use Rattle.ml_kripke.proofs.Lowest.{no_states}
+use Rattle.ml_kripke.proofs.BrokenRules.{no_states}
 use Rattle.ml_kripke.proofs.read_line.states_of.Goals as goal
 
 pub returns-then-states-eq0-clause-refused : goal.returns-then-states-eq0-clause-refused

@@ -1,7 +1,7 @@
 use Rattle.std.proofs.Common.{◌≡◌, ◌∙◌, arith}
 use Rattle.std.proofs.lemmas.Iterator.Adapters.{YieldsList-from_vec}
 use Rattle.std.proofs.lemmas.Iterator.Consumers.{YieldsList-turn}
-use Rattle.ml_kripke.proofs.Rows.{rows_none, length_rows, row_pushed, label_in_range}
+use Rattle.ml_kripke.proofs.LabelRows.{rows_none, length_rows, row_pushed, label_in_range}
 use Rattle.ml_kripke.proofs.structure.rows.Goals as goal
 
 pub loop-state-init : goal.loop-state-init

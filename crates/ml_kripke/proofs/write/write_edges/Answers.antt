@@ -2,7 +2,7 @@ use Rattle.std.proofs.Common.{arith}
 use Rattle.std.proofs.lemmas.Grind.{common_steps}
 use Rattle.ml_base.specs.declared.structure.Edge.{Edge}
 use Rattle.ml_base.specs.Name.{IsAction}
-use Rattle.ml_kripke.proofs.Members.{All-more_read}
+use Rattle.ml_lists.proofs.Members.{All-more_read}
 use Rattle.ml_kripke.proofs.write.write_edges.Goals as goal
 
 pub loop-edge-preserved : goal.loop-edge-preserved

@@ -3,8 +3,8 @@ use Rattle.std.proofs.lemmas.Grind.{common_steps}
 use Rattle.std.proofs.lemmas.List.{take_all}
 use Rattle.std.proofs.lemmas.Result.{on_ok_weaker}
 use Rattle.ml_base.specs.Name.{IsName}
-use Rattle.ml_kripke.proofs.Members.{All-more_read, All-read}
-use Rattle.ml_kripke.proofs.Text.{state_written}
+use Rattle.ml_lists.proofs.Members.{All-more_read, All-read}
+use Rattle.ml_kripke.proofs.WrittenStates.{state_written}
 use Rattle.ml_kripke.proofs.write.write_state.Goals as goal
 
 pub loop-label-preserved : goal.loop-label-preserved

@@ -1,8 +1,8 @@
 use Rattle.std.proofs.Common.{◌≡◌, ◌<◌, ◌≤◌, All, length, map, get_or, sym, ◌∙◌, ap, arith}
 use Rattle.std.proofs.lemmas.List.{get_or-map, length-map}
 use Rattle.ml_base.specs.Name.{IsName}
-use Rattle.ml_kripke.proofs.Members.{All-more_read, All-read}
-use Rattle.ml_kripke.proofs.Text.{states_more}
+use Rattle.ml_lists.proofs.Members.{All-more_read, All-read}
+use Rattle.ml_kripke.proofs.WrittenStates.{states_more}
 use Rattle.ml_kripke.proofs.write.write_states.Goals as goal
 
 pub loop-state-preserved : goal.loop-state-preserved

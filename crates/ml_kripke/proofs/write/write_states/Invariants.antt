@@ -1,6 +1,6 @@
 use Rattle.std.proofs.Common.{◌≡◌, ◌++◌, All, map, take, drop}
 use Rattle.ml_base.specs.Name.{IsName}
-use Rattle.ml_kripke.proofs.Text.{states_text}
+use Rattle.ml_kripke.proofs.WrittenStates.{states_text}
 use Rattle.ml_kripke.proofs.write.write_states.Given as goal
 
 abbrev pub invariant-loop-state : goal.invariant-loop-state

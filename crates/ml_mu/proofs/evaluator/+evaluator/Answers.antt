@@ -1,6 +1,6 @@
 use Rattle.std.proofs.Common.{length, replicate, sym, ap, ◌∙◌, arith}
 use Rattle.std.proofs.lemmas.Result.{IfOk-weaker}
-use Rattle.ml_mu.specs.Environment.{given_of}
+use Rattle.ml_mu.specs.private.Environment.{given_of}
 use Rattle.ml_mu.specs.Meaning.{meaning}
 use Rattle.ml_mu.specs.Term.{formula_of}
 use Rattle.ml_mu.proofs.Evaluation.{constant_value, binary_value, binary_flags, body_step, stops_early, same_flags}

@@ -2,7 +2,7 @@
 -- An iterate is one by its number, and has one flag for each state.
 use Rattle.std.proofs.Common.{◌≡◌, ◌+◌, ◌*◌, length}
 use Rattle.ml_lists.specs.Iterate.{iterate}
-use Rattle.ml_mu.specs.Environment.{given_of}
+use Rattle.ml_mu.specs.private.Environment.{given_of}
 use Rattle.ml_mu.specs.Formula.{occurrences}
 use Rattle.ml_mu.specs.Term.{formula_of}
 use Rattle.ml_mu.proofs.Evaluation.{body_step}

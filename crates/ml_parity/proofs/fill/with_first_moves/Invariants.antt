@@ -1,5 +1,5 @@
 -- Below the vertex the choices are filled up.
-use Rattle.ml_parity.specs.SinkGame.{FilledBelow}
+use Rattle.ml_parity.specs.private.SinkGame.{FilledBelow}
 use Rattle.ml_parity.proofs.fill.with_first_moves.Given as goal
 
 abbrev pub invariant-loop-vertex : goal.invariant-loop-vertex

@@ -5,8 +5,8 @@ use Rattle.ml_parity.specs.Player.{opponent, side}
 use Rattle.ml_parity.specs.Game.{priority_of}
 use Rattle.ml_lists.specs.Counting.{count}
 use Rattle.ml_parity.specs.Solution.{winner_at}
-use Rattle.ml_parity.specs.Sinks.{Holds}
-use Rattle.ml_parity.specs.SinkGame.{board_of, flag_at}
+use Rattle.ml_parity.specs.private.Sinks.{Holds}
+use Rattle.ml_parity.specs.private.SinkGame.{board_of, flag_at}
 use Rattle.ml_parity.proofs.Opponents.{other_player}
 use Rattle.ml_parity.proofs.PlainSteps.{first_falls, second_falls, first_game, SecondGame, second_game, least_kept_lists, least_lost_lists}
 use Rattle.ml_parity.proofs.plain.+solve_live.Goals as goal

@@ -2,7 +2,7 @@
 use Rattle.std.proofs.Common.{List, arith, ap, ◌∙◌, ◌≡◌, true, replicate, subst}
 use Rattle.ml_parity.specs.declared.players.Player.{Player}
 use Rattle.ml_parity.specs.Game.{size}
-use Rattle.ml_parity.specs.SinkGame.{FilledBelow}
+use Rattle.ml_parity.specs.private.SinkGame.{FilledBelow}
 use Rattle.ml_parity.proofs.Filled.{solution_of_lists}
 use Rattle.ml_parity.proofs.plain.solve_plain.Goals as goal
 

@@ -1,7 +1,7 @@
 -- Before v the flags of what the player won are taken away; from v on they are as they were.
 use Rattle.std.proofs.Common.{ℕ, ◌≡◌, ◌<◌, ◌≤◌, length, false}
 use Rattle.ml_parity.specs.Solution.{winner_at}
-use Rattle.ml_parity.specs.SinkGame.{flag_at}
+use Rattle.ml_parity.specs.private.SinkGame.{flag_at}
 use Rattle.ml_parity.proofs.plain.without_won.Given as goal
 
 abbrev pub invariant-loop-v : goal.invariant-loop-v

@@ -1,0 +1,2 @@
+-- the set at which a player wins a binder is a least one
+pub mod LeastSets

@@ -1,0 +1,95 @@
+-- A text is a head or has one first bad line, and never both.
+--
+--   judges          == each line is judged at each place
+--   some_head       == one of the two
+--   head_or_fault   == never both
+--   one_fault       == a text has one first bad line at most
+use Rattle.std.proofs.Common.{◌≡◌, ◌⊎◌, Bool, true, false, [], ◌∷◌, codes, inl, inr, ap, ⊎_elim, get_or}
+use Rattle.ml_base.specs.declared.doc_fault.DocFault.{DocFault}
+use Rattle.ml_base.specs.declared.parse_refusal.ParseRefusal.{ParseRefusal}
+use Rattle.ml_base.specs.declared.parse_refusal.ParseRefusal.TheVariants as refusal
+use Rattle.ml_lines.specs.Lines.{Line}
+use Rattle.ml_lines.specs.Reading.{lines_of}
+use Rattle.ml_lines.proofs.DecidedWords.{decided_line}
+use Rattle.ml_lines.proofs.Faults as text
+use Rattle.ml_lists.specs.Documents.{IsReadable, Judges}
+use Rattle.ml_lists.proofs.Decided.{Decided, decided_bytes, decided_same}
+use Rattle.ml_lists.proofs.Documents.{judged}
+use Rattle.ml_mu.specs.Formula.{Formula}
+use Rattle.ml_mu.specs.Parsing.{IsParsedAs, IsRefusedBy}
+use Rattle.ml_mu.proofs.OneAnswer.{parsed_or_refused}
+use Rattle.ml_mu.proofs.SomeAnswer.{some_answer}
+use Rattle.ml_front.specs.Head.{title_line, answer_line, logic_line, sense_line}
+use Rattle.ml_front.specs.HeadRules.{AtTitle, AtAnswer, AtLogic, AtSense, AtFormula, Behind, IsFormulaLine, formula_bytes, rules, head, IsHeadFault, SomeHead, HeadOrFault, OneHeadFault}
+use Rattle.ml_front.specs.declared.answer.Answer.{Answer}
+use Rattle.ml_front.specs.declared.answer.Answer.TheVariants.{Satisfiable, Unsatisfiable, Undecided}
+use Rattle.ml_front.proofs.ReadableHeads.{head_readable, readable_head}
+
+is_answer : (line : Line) → Decided ((b : Answer) × (line ≡ answer_line b))
+is_answer line =
+    go (decided_line line (answer_line Satisfiable)) (decided_line line (answer_line Unsatisfiable)) (decided_line line (answer_line Undecided))
+  where
+    go : Decided (line ≡ answer_line Satisfiable)
+        → Decided (line ≡ answer_line Unsatisfiable)
+        → Decided (line ≡ answer_line Undecided)
+        → Decided ((b : Answer) × (line ≡ answer_line b))
+    go (inl is) s t = inl (Satisfiable, is)
+    go (inr n) (inl is) t = inl (Unsatisfiable, is)
+    go (inr n) (inr m) (inl is) = inl (Undecided, is)
+    go (inr n) (inr m) (inr l) = inr none
+      where
+        none : (b : Answer) × (line ≡ answer_line b) → ⊥
+        none (Satisfiable, is) = n is
+        none (Unsatisfiable, is) = m is
+        none (Undecided, is) = l is
+
+is_sense : (line : Line) → Decided ((negated : Bool) × (line ≡ sense_line negated))
+is_sense line = go (decided_line line (sense_line false)) (decided_line line (sense_line true))
+  where
+    go : Decided (line ≡ sense_line false)
+        → Decided (line ≡ sense_line true)
+        → Decided ((negated : Bool) × (line ≡ sense_line negated))
+    go (inl is) s = inl (false, is)
+    go (inr n) (inl is) = inl (true, is)
+    go (inr n) (inr m) = inr none
+      where
+        none : (negated : Bool) × (line ≡ sense_line negated) → ⊥
+        none (false, is) = n is
+        none (true, is) = m is
+
+is_formula : (line : Line) → Decided (IsFormulaLine line)
+is_formula [] = inr (λ (w, ws, is). cc)
+is_formula (x ∷ []) = inr (λ (w, ws, is). cc)
+is_formula (x ∷ w ∷ ws) =
+    decided_same (λ (is : x ≡ codes "formula"). (w, ws, ap (λ v. v ∷ w ∷ ws) is)) (λ (v, vs, is). ap (λ l. get_or l 0 []) is)
+    (decided_bytes x (codes "formula"))
+
+has_formula : (line : Line) → Decided ((f : Formula) × IsParsedAs (formula_bytes line) f)
+has_formula line = go (some_answer (formula_bytes line))
+  where
+    go : ((f : Formula) × IsParsedAs (formula_bytes line) f)
+        ⊎ ((e : ParseRefusal) × (e ≡ refusal.NoMemory → ⊥) × IsRefusedBy (formula_bytes line) e)
+        → Decided ((f : Formula) × IsParsedAs (formula_bytes line) f)
+    go (inl parsed) = inl parsed
+    go (inr (e, some, refused)) = inr (λ (f, parsed). some (parsed_or_refused (formula_bytes line) f e parsed refused))
+
+pub judges : (a : Answer) → Judges (head a)
+judges a AtTitle line = judged line (rules a AtTitle) (decided_line line title_line, λ _. tt)
+judges a AtAnswer line = judged line (rules a AtAnswer) (is_answer line, λ _. (decided_line line (answer_line a), λ _. tt))
+judges a AtLogic line = judged line (rules a AtLogic) (decided_line line logic_line, λ _. tt)
+judges a AtSense line = judged line (rules a AtSense) (is_sense line, λ _. tt)
+judges a AtFormula line = judged line (rules a AtFormula) (is_formula line, λ _. (has_formula line, λ _. tt))
+judges a Behind line = judged line (rules a Behind) tt
+
+pub some_head : SomeHead
+some_head a t =
+    ⊎_elim
+    (λ (readable : IsReadable (head a) AtTitle (lines_of t)). inl (readable_head a t readable))
+    (λ (fault : (f : DocFault) × IsHeadFault a t f). inr fault)
+    (text.readable_or_fault (λ left. head a) 1 AtTitle t (judges a))
+
+pub head_or_fault : HeadOrFault
+head_or_fault a t p rest fault h found = text.readable_no_fault (λ left. head a) 1 AtTitle t fault (head_readable a t p rest h) found
+
+pub one_fault : OneHeadFault
+one_fault a t e f x y = text.one_fault (λ left. head a) 1 AtTitle t e f x y

@@ -1,0 +1,102 @@
+-- The head of a document as it is read, and as a format.
+--
+-- The lines 1 to 5 are a head for an answer where they are the lines of a written head, but that any text that is
+-- parsed as the formula may stand in place of its canonical text. Where they are none, the first bad line tells why,
+-- with the first rule that it breaks. A line that is missing is the line of no words. What stands behind the fifth line
+-- has no rules here.
+--
+--   IsHead a text p rest    == the text is a head that gives the answer a about the problem p, and then the rest
+--   HeadPlace, after        == what stands at a line, and behind it
+--   formula_bytes line      == what stands behind the first blank of a line
+--   IsFormulaLine line      == the line is `formula`, a blank, and anything
+--   rule_number r           == the number of a rule, from 1 to 3
+--   rules a place           == the rules of a line at a place, where the answer a is wanted
+--   head a                  == the places with their rules
+--   IsHeadFault a text f    == f tells the first bad line of the head, and the lowest rule that it breaks
+--   SomeHead, HeadOrFault, OneHead, OneHeadFault, HeadsReadBack == the laws of these notions
+use Rattle.std.specs.Prelude.{ℕ, ◌≡◌, ◌⊎◌, Bool, false, List, [], ◌∷◌, ◌++◌, drop, codes}
+use Rattle.std.specs.List.{list_any, join_with_byte}
+use Rattle.ml_base.specs.declared.doc_fault.DocFault.{DocFault}
+use Rattle.ml_lines.specs.Faults.{IsFault}
+use Rattle.ml_lines.specs.Lines.{Word, Line, text_of}
+use Rattle.ml_lines.specs.Reading.{is_line_end}
+use Rattle.ml_lists.specs.Documents.{Format, Rule, rule}
+use Rattle.ml_mu.specs.Formula.{Formula}
+use Rattle.ml_mu.specs.Parsing.{IsParsedAs}
+use Rattle.ml_mu.specs.Problem.{Problem}
+use Rattle.ml_mu.specs.WellFormed.{IsWellFormed}
+use Rattle.ml_front.specs.Head.{title_line, answer_line, logic_line, sense_line, lines_about, head_lines}
+use Rattle.ml_front.specs.declared.answer.Answer.{Answer}
+use Rattle.ml_front.specs.declared.head_rule.HeadRule.{HeadRule}
+use Rattle.ml_front.specs.declared.head_rule.HeadRule.TheVariants.{OfKind, Parses, Answers}
+
+-- the formula's text stands in one line
+pub record IsHead (a : Answer) (text : List ℕ) (p : Problem) (rest : List ℕ) : Type 0 where
+  pub formula_text : List ℕ
+  pub in_one_line : list_any is_line_end formula_text ≡ false
+  pub is_text : text ≡ text_of (lines_about a p.negated formula_text) ++ rest
+  pub is_parsed : IsParsedAs formula_text p.formula
+
+-- ---- the rules
+
+pub data HeadPlace : Type 0 where
+  AtTitle AtAnswer AtLogic AtSense AtFormula Behind : HeadPlace
+
+abbrev pub after : HeadPlace → Line → HeadPlace
+after AtTitle line = AtAnswer
+after AtAnswer line = AtLogic
+after AtLogic line = AtSense
+after AtSense line = AtFormula
+after AtFormula line = Behind
+after Behind line = Behind
+
+abbrev pub formula_bytes : Line → List ℕ
+formula_bytes line = join_with_byte 32 (drop 1 line)
+
+abbrev pub IsFormulaLine : Line → Type 0
+IsFormulaLine line = (w : Word) × (ws : Line) × (line ≡ codes "formula" ∷ w ∷ ws)
+
+abbrev pub rule_number : HeadRule → ℕ
+rule_number OfKind = 1
+rule_number Parses = 2
+rule_number Answers = 3
+
+abbrev asks : HeadRule → (Line → Type 0) → Rule Line
+asks r = rule (rule_number r)
+
+abbrev pub rules : Answer → HeadPlace → List (Rule Line)
+rules a AtTitle = asks OfKind (λ line. line ≡ title_line) ∷ []
+rules a AtAnswer = asks OfKind (λ line. (b : Answer) × (line ≡ answer_line b)) ∷ asks Answers (λ line. line ≡ answer_line a) ∷ []
+rules a AtLogic = asks OfKind (λ line. line ≡ logic_line) ∷ []
+rules a AtSense = asks OfKind (λ line. (negated : Bool) × (line ≡ sense_line negated)) ∷ []
+rules a AtFormula = asks OfKind IsFormulaLine ∷ asks Parses (λ line. (f : Formula) × IsParsedAs (formula_bytes line) f) ∷ []
+rules a Behind = []
+
+abbrev pub head : Answer → Format Line HeadPlace
+head a = record { rules = rules a; after = after; missing = [] }
+
+abbrev pub IsHeadFault : Answer → List ℕ → DocFault → Type 0
+IsHeadFault a text fault = IsFault (λ left. head a) 1 AtTitle text fault
+
+-- ---- laws
+
+-- a text is a head, or has a first bad line
+abbrev pub SomeHead : Type 0
+SomeHead = (a : Answer) (text : List ℕ)
+    → ((p : Problem) × (rest : List ℕ) × IsHead a text p rest) ⊎ ((fault : DocFault) × IsHeadFault a text fault)
+
+-- a head has no bad line
+abbrev pub HeadOrFault : Type 0
+HeadOrFault = (a : Answer) (text : List ℕ) (p : Problem) (rest : List ℕ) (fault : DocFault) → IsHead a text p rest → IsHeadFault a text fault → ⊥
+
+-- a text is a head about one problem at most, with one rest
+abbrev pub OneHead : Type 0
+OneHead = (a : Answer) (text : List ℕ) (p q : Problem) (rest more : List ℕ) → IsHead a text p rest → IsHead a text q more → (p ≡ q) × (rest ≡ more)
+
+-- a text has one first bad line at most
+abbrev pub OneHeadFault : Type 0
+OneHeadFault = (a : Answer) (text : List ℕ) (e f : DocFault) → IsHeadFault a text e → IsHeadFault a text f → e ≡ f
+
+-- the head of a written document about a well-formed formula is read as it was written
+abbrev pub HeadsReadBack : Type 0
+HeadsReadBack = (a : Answer) (p : Problem) (rest : List ℕ) → IsWellFormed p.formula → IsHead a (text_of (head_lines a p) ++ rest) p rest

@@ -1,0 +1,16 @@
+-- references of nodes, in range and out of range
+pub mod References
+-- the odd priorities, sorted and each once
+pub mod OddPriorities
+-- places of names
+pub mod Places
+-- where edges lead, row by row
+pub mod EdgeRows
+-- ranges of numbers, one number longer
+pub mod Ranges
+-- how a checking game is made
+pub mod Making
+-- the checking game, vertex by vertex
+pub mod CheckingGame
+-- one step of the checking game
+pub mod OneStep

@@ -1,0 +1,8 @@
+-- modal graphs
+pub mod Graph
+-- the checking game of a graph and a structure, and where the graph holds
+pub mod CheckingGame
+-- what only private contracts cite
+pub mod private
+-- where a graph holds at a node, told by the nodes to which it refers
+pub mod Laws

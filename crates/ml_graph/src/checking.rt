@@ -1,0 +1,299 @@
+// The checking game of a graph and a structure.
+ghost use Rattle.std.specs.Prelude.{◌≡◌, ◌<◌, ◌+◌, ◌*◌, ◌++◌, ◌≤◌, ℕ, [], ◌∷◌, IfOk, OnOk, List, length, map, position};
+ghost use Rattle.std.specs.List.{IsDistinct};
+ghost use Rattle.std.specs.Str.{bytes_eq};
+ghost use Rattle.ml_base.specs.Structure.{lists};
+ghost use Rattle.ml_parity.specs.Game.{IsGame};
+ghost use Rattle.ml_parity.specs.Refusal.{game_of};
+ghost use Rattle.ml_graph.specs.Graph.{size, prop_at, action_at};
+ghost use Rattle.ml_graph.specs.CheckingGame.{Vertex, Pair, Sink, vertex_number, mover, targets, pairs_at, successors, vertices, checking_game};
+ghost use Rattle.ml_graph.specs.private.Making.{HasAdded, IsLookup, numbers_or_sink, HasTargets, HasTruths, HasVertices};
+
+use crate::modal_graph::ModalGraph;
+use crate::node::Node;
+use ml_base::{Action, Edge, NoMemory};
+use ml_kripke::Structure;
+use ml_parity::{Game, Player};
+use std::alloc::Global;
+
+/// The vertices of a game that were made so far.
+#[derive(Drop)]
+struct Vertices {
+    owner: Vec<Player>,
+    priority: Vec<u32>,
+    successors: Vec<Vec<u64>>,
+}
+
+/// Who owns the vertices with this node.
+fn mover(node: Node) -> Player
+    ensures { result ≡ mover node }
+{
+    match node {
+        Node::And { .. } | Node::Square { .. } => Player::Odd,
+        _ => Player::Even,
+    }
+}
+
+/// The place of an action in a list, if it stands there.
+fn place_of(actions: &[Action], action: &Action) -> Option<usize>
+    ensures { result ≡ position (λ a. bytes_eq a action.now) actions.now }
+{
+    actions.iter().position(|a| a == action)
+}
+
+/// Adds to the rows where one edge leads, if its action is one of these.
+fn add_edge(rows: &mut [Vec<u32>], actions: &[Action], edge: &Edge) -> Result<(), NoMemory>
+    requires distinct { IsDistinct bytes_eq actions.now }
+    requires fits { edge.now.source * length actions.now + length actions.now ≤ length rows.old }
+    ensures rows { OnOk result (HasAdded actions.now edge.now rows.old rows.new) }
+{
+    let Some(action) = place_of(actions, &edge.action) else {
+        return Ok(());
+    };
+    rows[edge.source as usize * actions.len() + action].push(edge.target)?;
+    Ok(())
+}
+
+/// For each state and each action of the graph, state by state, where the edges lead.
+///
+/// Want of memory is answered too where there would be more rows than a vector has.
+fn edge_rows(
+    alloc: Global,
+    graph: &ModalGraph,
+    structure: &Structure,
+) -> Result<Vec<Vec<u32>>, NoMemory>
+    ensures { IfOk result (λ rows. HasTargets graph.now structure.now structure.now.edges rows.items) }
+{
+    let actions = graph.actions();
+    let Some(count) = actions.len().checked_mul(structure.states() as usize) else {
+        return Err(NoMemory);
+    };
+    let mut rows = Vec::new(alloc);
+    for _ in 0..count {
+        rows.push(Vec::new(alloc))?;
+    }
+    for edge in structure.edges() {
+        add_edge(&mut rows, actions, edge)?;
+    }
+    Ok(rows)
+}
+
+/// For each state and each proposition of the graph, state by state, whether it is true there.
+fn truths(alloc: Global, graph: &ModalGraph, structure: &Structure) -> Result<Vec<bool>, NoMemory>
+    ensures { IfOk result (λ truths. HasTruths graph.now structure.now truths.items) }
+{
+    let mut truths = Vec::new(alloc);
+    for state in 0..structure.states() {
+        for prop in graph.props() {
+            truths.push(structure.has_label(state, prop))?;
+        }
+    }
+    Ok(truths)
+}
+
+/// The number of the pair of a state and a node, in a graph of so many nodes.
+fn pair(state: u32, size: u32, node: u32) -> u64
+    ensures { result ≡ state * size + node }
+{
+    state as u64 * size as u64 + node as u64
+}
+
+/// The numbers of the pairs of these states and a node, or of the sink if there are no states.
+fn pairs_or_sink(
+    alloc: Global,
+    states: &[u32],
+    size: u32,
+    node: u32,
+    sink: u64,
+) -> Result<Vec<u64>, NoMemory>
+    ensures { IfOk result (λ moves. moves.items ≡ numbers_or_sink size node sink states.now) }
+{
+    if states.is_empty() {
+        return Ok(vec![in alloc; sink]?);
+    }
+    Ok(
+        states
+            .iter()
+            .map(|state| pair(*state, size, node))
+            .collect(alloc)?,
+    )
+}
+
+/// What is looked up while a game is made.
+#[derive(Drop)]
+struct Lookup {
+    truths: Vec<bool>,
+    targets: Vec<Vec<u32>>,
+}
+
+impl Lookup {
+    /// Whether a proposition of the graph is true at a state.
+    fn is_true(&self, graph: &ModalGraph, structure: &Structure, state: u32, prop: u32) -> bool
+        requires looked { IsLookup graph.now structure.now self.now }
+        requires state { state < structure.now.states }
+        requires prop { prop < length graph.now.props }
+        ensures { result ≡ lists structure.now state (prop_at graph.now prop) }
+    {
+        self.truths[state as usize * graph.props().len() + prop as usize]
+    }
+
+    /// Where the edges of an action of the graph lead from a state.
+    fn targets(&self, graph: &ModalGraph, structure: &Structure, state: u32, action: u32) -> &[u32]
+        requires looked { IsLookup graph.now structure.now self.now }
+        requires state { state < structure.now.states }
+        requires action { action < length graph.now.actions }
+        ensures { result.now ≡ targets structure.now state (action_at graph.now action) }
+    {
+        &self.targets[state as usize * graph.actions().len() + action as usize]
+    }
+
+    /// The moves from the pair of a state and a node.
+    fn moves(
+        &self,
+        alloc: Global,
+        graph: &ModalGraph,
+        structure: &Structure,
+        state: u32,
+        n: u32,
+    ) -> Result<Vec<u64>, NoMemory>
+        requires looked { IsLookup graph.now structure.now self.now }
+        requires state { state < structure.now.states }
+        requires node { n < size graph.now }
+        ensures { IfOk result (λ moves. moves.items ≡ map (vertex_number graph.now structure.now) (successors graph.now structure.now (Pair state n))) }
+    {
+        let size = graph.size();
+        let good = pair(structure.states(), size, 0);
+        let bad = good + 1;
+        match *graph.node(n) {
+            Node::True => Ok(vec![in alloc; good]?),
+            Node::False => Ok(vec![in alloc; bad]?),
+            Node::Lit { prop, positive } => {
+                let holds = self.is_true(graph, structure, state, prop) == positive;
+                Ok(vec![in alloc; if holds { good } else { bad }]?)
+            }
+            Node::And { left, right } | Node::Or { left, right } => {
+                Ok(vec![in alloc; pair(state, size, left), pair(state, size, right)]?)
+            }
+            Node::Diamond { action, to } => {
+                let targets = self.targets(graph, structure, state, action);
+                pairs_or_sink(alloc, targets, size, to, bad)
+            }
+            Node::Square { action, to } => {
+                let targets = self.targets(graph, structure, state, action);
+                pairs_or_sink(alloc, targets, size, to, good)
+            }
+        }
+    }
+}
+
+impl Vertices {
+    /// Adds a vertex.
+    fn push(&mut self, owner: Player, priority: u32, moves: Vec<u64>) -> Result<(), NoMemory>
+        ensures owners { OnOk result (self.new.owner.items ≡ self.old.owner.items ++ owner ∷ []) }
+        ensures priorities { OnOk result (self.new.priority.items ≡ self.old.priority.items ++ priority ∷ []) }
+        ensures moves { OnOk result (self.new.successors.items ≡ self.old.successors.items ++ moves ∷ []) }
+    {
+        self.owner.push(owner)?;
+        self.priority.push(priority)?;
+        self.successors.push(moves)?;
+        Ok(())
+    }
+
+    /// Adds the pairs of a state and each node of the graph.
+    fn push_pairs(
+        &mut self,
+        alloc: Global,
+        graph: &ModalGraph,
+        structure: &Structure,
+        lookup: &Lookup,
+        state: u32,
+    ) -> Result<(), NoMemory>
+        requires looked { IsLookup graph.now structure.now lookup.now }
+        requires state { state < structure.now.states }
+        ensures { OnOk result ((vs : List Vertex) → HasVertices graph.now structure.now self.old vs
+            → HasVertices graph.now structure.now self.new (vs ++ pairs_at graph.now state)) }
+    {
+        for n in 0..graph.size() {
+            let moves = lookup.moves(alloc, graph, structure, state, n)?;
+            self.push(mover(*graph.node(n)), graph.priority(n), moves)?;
+        }
+        Ok(())
+    }
+
+    /// Adds the sink of a priority.
+    fn push_sink(
+        &mut self,
+        alloc: Global,
+        graph: &ModalGraph,
+        structure: &Structure,
+        priority: u32,
+    ) -> Result<(), NoMemory>
+        requires { priority < 2 }
+        ensures { OnOk result ((vs : List Vertex) → HasVertices graph.now structure.now self.old vs
+            → HasVertices graph.now structure.now self.new (vs ++ Sink priority ∷ [])) }
+    {
+        let number = pair(structure.states(), graph.size(), 0) + priority as u64;
+        self.push(Player::Even, priority, vec![in alloc; number]?)?;
+        Ok(())
+    }
+}
+
+/// All vertices of the checking game.
+fn all_vertices(
+    alloc: Global,
+    graph: &ModalGraph,
+    structure: &Structure,
+) -> Result<Vertices, NoMemory>
+    ensures made { IfOk result (λ made. HasVertices graph.now structure.now made (vertices graph.now structure.now)) }
+    ensures game { IfOk result (λ made. IsGame (game_of made.owner made.priority made.successors)) }
+{
+    let lookup = Lookup {
+        truths: truths(alloc, graph, structure)?,
+        targets: edge_rows(alloc, graph, structure)?,
+    };
+    let count = pair(structure.states(), graph.size(), 2) as usize;
+    let mut made = Vertices {
+        owner: Vec::with_capacity(alloc, count)?,
+        priority: Vec::with_capacity(alloc, count)?,
+        successors: Vec::with_capacity(alloc, count)?,
+    };
+    for state in 0..structure.states() {
+        made.push_pairs(alloc, graph, structure, &lookup, state)?;
+    }
+    made.push_sink(alloc, graph, structure, 0)?;
+    made.push_sink(alloc, graph, structure, 1)?;
+    Ok(made)
+}
+
+/// The checking game of a graph and a structure, and the vertex of a state and the root.
+///
+/// The pair of the state s and the node n has the number `s * size + n`; behind the pairs stand the sink of priority 0 and
+/// then that of priority 1. `ml_parity::solve` says who wins: the graph holds at the state exactly if Even wins the vertex.
+///
+/// # Errors
+/// `NoMemory` alone.
+///
+/// Cost: linear in the game, and for its tables in the edges times the actions of the graph, and in the labels times its
+/// propositions. Source: Stirling, Local model checking games (1995).
+pub fn checking_game(
+    alloc: Global,
+    graph: &ModalGraph,
+    structure: &Structure,
+    state: u32,
+) -> Result<(Game, u64), NoMemory>
+    requires { state < structure.now.states }
+    ensures game { IfOk result (λ r. r.0 ≡ checking_game graph.now structure.now) }
+    ensures vertex { IfOk result (λ r. r.1 ≡ vertex_number graph.now structure.now (Pair state graph.now.root)) }
+{
+    let Vertices {
+        owner,
+        priority,
+        successors,
+    } = all_vertices(alloc, graph, structure)?;
+    let game = Game {
+        owner,
+        priority,
+        successors,
+    };
+    Ok((game, pair(state, graph.size(), graph.root())))
+}

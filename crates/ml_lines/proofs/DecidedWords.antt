@@ -1,0 +1,23 @@
+-- What is asked of the words of a line is decided.
+--
+--   decided_line    == the equality of lines
+--   decided_words   == that each word has a byte
+--   decided_number  == that a word is a number
+use Rattle.std.proofs.Common.{◌≡◌, ◌^◌, ◌<◌}
+use Rattle.std.specs.List.{list_all}
+use Rattle.ml_lines.specs.Lines.{Word, Line, number}
+use Rattle.ml_lines.specs.Reading.{AreWords, IsNumber, is_word, value}
+use Rattle.ml_lines.proofs.Numbers.{own_value}
+use Rattle.ml_lists.proofs.Decided.{Decided, decided_both, decided_bytes, decided_less, decided_list, decided_same, decided_test}
+
+pub decided_line : (l k : Line) → Decided (l ≡ k)
+decided_line = decided_list decided_bytes
+
+pub decided_words : (line : Line) → Decided (AreWords line)
+decided_words line = decided_test (list_all is_word line)
+
+-- a word is a number exactly where it is that of its value
+pub decided_number : (w : Word) → Decided (IsNumber w)
+decided_number w =
+    decided_same (λ (h : (value w < 2 ^ 32) × (w ≡ number (value w))). (value w, h.0, h.1)) (own_value w)
+    (decided_both (decided_less (value w) (2 ^ 32)) (decided_bytes w (number (value w))))

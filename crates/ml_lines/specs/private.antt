@@ -1,0 +1,2 @@
+-- a text that begins with lines that were read
+pub mod Fronts

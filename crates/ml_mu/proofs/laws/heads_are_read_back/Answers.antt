@@ -1,5 +1,0 @@
-use Rattle.ml_mu.proofs.CanonicalParsed.{heads_read_back}
-use Rattle.ml_mu.proofs.laws.heads_are_read_back.Goals as goal
-
-pub returns : goal.returns
-returns c = heads_read_back

@@ -1,0 +1,5 @@
+use Rattle.ml_mu.proofs.Names.{can_name}
+use Rattle.ml_mu.proofs.logic.MuLogic.kind_of.Goals as goal
+
+pub returns-clause-can_name : goal.returns-clause-can_name
+returns-clause-can_name c = can_name c.kind_of.result c.args.text.now c.args.placed c.requires.place.0 c.requires.place.1 c.kind_of.ensures

@@ -1,6 +1,0 @@
--- The lowest priority in front of `at`.
-use Rattle.ml_parity.proofs.RowLoops.{LowestSoFar}
-use Rattle.ml_parity.proofs.fast_row.lowest_priority.Given as goal
-
-abbrev pub invariant-loop-at : goal.invariant-loop-at
-invariant-loop-at l = LowestSoFar l.game l.row.order.items l.at l.lowest

@@ -1,7 +1,0 @@
--- The rows have the largest counts for the even priorities so far.
-use Rattle.ml_parity.specs.HeightSteps.{AreLongestBelow}
-use Rattle.ml_parity.specs.Refusal.{lists_of}
-use Rattle.ml_parity.proofs.heights_search.heights.Given as goal
-
-abbrev pub invariant-loop-half : goal.invariant-loop-half
-invariant-loop-half l = AreLongestBelow l.graph l.half (lists_of l.rows.items)

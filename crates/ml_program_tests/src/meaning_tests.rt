@@ -1,0 +1,104 @@
+// Formulas with the states at which they hold, worked out by hand.
+use ml_base::{Action, Edge, Name, NoMemory};
+use ml_kripke::Structure;
+use ml_mu::{evaluate, holds, parse};
+use std::alloc::Global;
+use std::test::Fail;
+
+// Four states. By `_`: from 0 to 1, and 1 and 2 to each other. By `a`: from 2 to 3, and 3 to itself.
+// p holds at 2, q at 1 and at 3.
+fn four_states(alloc: Global) -> Result<Structure, Fail> {
+    let mut labels = Vec::new(alloc);
+    for (state, name) in [(1, b"q"), (2, b"p"), (3, b"q")] {
+        labels
+            .push((state, Name::new(alloc, name.as_slice())?))
+            .map_err(NoMemory::from)?;
+    }
+    let mut edges = Vec::new(alloc);
+    for (source, action, target) in [
+        (0, b"_", 1),
+        (1, b"_", 2),
+        (2, b"_", 1),
+        (2, b"a", 3),
+        (3, b"a", 3),
+    ] {
+        let action = Action::new(alloc, action.as_slice())?;
+        edges
+            .push(Edge {
+                source,
+                action,
+                target,
+            })
+            .map_err(NoMemory::from)?;
+    }
+    Ok(Structure::build(alloc, 4, labels, edges)?)
+}
+
+// Does the formula of this text hold at these states and at no others?
+fn means(
+    alloc: Global,
+    structure: &Structure,
+    text: &[u8],
+    states: [bool; 4],
+) -> Result<bool, Fail> {
+    let formula = parse(alloc, text)?;
+    let set = evaluate(alloc, &formula, structure)?;
+    Ok(set.as_slice() == states.as_slice())
+}
+
+#[test]
+fn meanings(rt: HostRuntime) -> Result<(), Fail> {
+    let structure = four_states(rt.alloc())?;
+    let rows: [(&[u8], [bool; 4]); 12] = [
+        (b"tt", [true, true, true, true]),
+        (b"p -> q", [true, true, false, true]),
+        (b"p <-> q", [true, false, false, false]),
+        (b"<>q", [true, false, true, false]),
+        (b"<a>q", [false, false, true, true]),
+        (b"[]q", [true, false, true, true]),
+        (b"[a]ff", [true, true, false, false]),
+        (b"!<>p", [true, false, true, true]),
+        (b"mu X. p | <>X", [true, true, true, false]),
+        (b"nu X. <>X", [true, true, true, false]),
+        (b"mu X. []X", [false, false, false, true]),
+        // its iterates grow state by state: 2 and 3, then 1, then 0
+        (b"mu X. p | []X", [true, true, true, true]),
+    ];
+    for (text, states) in rows {
+        assert!(rt; means(rt.alloc(), &structure, text, states)?, "{text:?}");
+    }
+    Ok(())
+}
+
+#[test]
+fn meanings_of_fixpoints(rt: HostRuntime) -> Result<(), Fail> {
+    let structure = four_states(rt.alloc())?;
+    let rows: [(&[u8], [bool; 4]); 9] = [
+        // nested: p again and again, and q for ever from some time on
+        (b"nu X. mu Y. <>((p & X) | Y)", [true, true, true, false]),
+        (b"mu X. nu Y. (q & <a>Y) | <a>X", [false, false, true, true]),
+        // unguarded
+        (b"mu X. X", [false, false, false, false]),
+        (b"nu X. X", [true, true, true, true]),
+        (b"mu X. X | p", [false, false, true, false]),
+        (b"mu X. nu Y. X | Y", [true, true, true, true]),
+        (b"nu X. mu Y. X & Y", [false, false, false, false]),
+        // rebound: with the outer X inside, 1 would be left out; behind the inner binder X is the outer one again
+        (b"mu X. p | <>(nu X. <>X)", [true, true, true, false]),
+        (b"nu X. (mu X. p | <a>X) | <a>X", [false, false, true, true]),
+    ];
+    for (text, states) in rows {
+        assert!(rt; means(rt.alloc(), &structure, text, states)?, "{text:?}");
+    }
+    Ok(())
+}
+
+#[test]
+fn states(rt: HostRuntime) -> Result<(), Fail> {
+    let structure = four_states(rt.alloc())?;
+    let formula = parse(rt.alloc(), b"!p & q")?;
+    assert_eq!(rt; structure.states(), 4);
+    assert!(rt; holds(rt.alloc(), &formula, &structure, 1)?);
+    assert!(rt; !holds(rt.alloc(), &formula, &structure, 2)?);
+    Ok(())
+}
