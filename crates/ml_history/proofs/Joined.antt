@@ -1,10 +1,9 @@
 -- Sets and rows of vertices, one more at a time.
 --
 --   insert_next          == a set into which an ascending list goes in its order is a front of the list
---   joined_same          == rows of vertices that make one forest are one
 --   row_next, row_at     == a list made of a row vertex by vertex: one vertex more, and the one at a place
 --   above-append         == one more than the greatest of two lists
---   above_next, writes_next, places_next    == what the loops over rows keep
+--   above_next, places_next    == what the loops over rows keep
 use Rattle.std.proofs.Common.{◌≡◌, ◌↔◌, Bool, IsTrue, ℕ, zero, suc, ◌+◌, ◌<◌, max, arith, ltb, eqb, cond, List, [], ◌∷◌, ◌++◌, length, get_or, take, drop, map, refl, sym, subst, ap, ◌∙◌, inl, inr, append_assoc}
 use Rattle.std.specs.List.{flat_map, fold}
 use Rattle.std.proofs.lemmas.Bool.{cond-false, le-ltb, ne_eqb}
@@ -16,9 +15,8 @@ use Rattle.ml_lists.specs.Member.{IsMember}
 use Rattle.ml_lists.proofs.Member.{place-member}
 use Rattle.ml_trace.specs.Stack.{Item}
 use Rattle.ml_history.specs.Forest.{Forest, Empty, Tree, names, places, lies_at, below}
-use Rattle.ml_history.specs.HistoryOrder.{pair_writes}
 use Rattle.ml_history.specs.HistoryStep.{above}
-use Rattle.ml_history.specs.TreeWalks.{behind, writes}
+use Rattle.ml_history.specs.TreeWalks.{behind}
 use Rattle.ml_history.specs.Vertices.{Rooted, joined}
 
 -- a number above all of a set goes to its end
@@ -45,29 +43,9 @@ insert_next s xs i up low e =
 
 -- ---- rows
 
--- rows of vertices that make one forest are one
-pub joined_same : (vs ws : List Rooted) → joined vs ≡ joined ws → vs ≡ ws
-joined_same [] [] e = refl
-joined_same [] (w ∷ ws) e = absurd (cc)
-joined_same (v ∷ vs) [] e = absurd (cc)
-joined_same (v ∷ vs) (w ∷ ws) e =
-    let ages : v.age ≡ w.age = cc in
-    let owns : v.own ≡ w.own = cc in
-    let children : v.children ≡ w.children = cc in
-    let younger : joined vs ≡ joined ws = cc in
-    let rest = joined_same vs ws younger in
-    λ i. record { age = ages i; own = owns i; children = children i } ∷ rest i
-
 -- a vertex as it is seen, from its parts
 abbrev pub rooted : ℕ → List ℕ → Forest → Rooted
 rooted age own children = record { age = age; own = own; children = children }
-
--- two vertices of one age with one set are the same where their children are
-pub vertex_same : (a b : ℕ) (own own' : List ℕ) (vs ws : List Rooted) (v w : Rooted) (r : Bool) → rooted a own (joined vs) ≡ v → rooted b own' (joined ws) ≡ w → a ≡ b → own ≡ own' → (IsTrue r ↔ vs ≡ ws) → (IsTrue r ↔ v ≡ w)
-vertex_same a b own own' vs ws v w r view view' e f (to, from) = (
-  λ t. let same = to t in sym view ∙ (λ i. rooted (e i) (f i) (joined (same i))) ∙ view',
-  λ same. from (joined_same vs ws (ap (λ (u : Rooted). u.children) (view ∙ same ∙ sym view'))),
-)
 
 -- a list made of a row vertex by vertex
 module _ {X : Type 0} (F : Forest → List X) (here : Rooted → List X) (empty : F Empty ≡ []) (part : (v : Rooted) (y : Forest) → F (Tree v.age v.own v.children y) ≡ here v ++ F y) where
@@ -109,19 +87,6 @@ above_next s i age own children v view low at =
     let c = above-append (names children) (age ∷ []) in
     let d = above-append (names (joined (take i s))) (names children ++ age ∷ []) in
     omega arith
-
-writes_part : (v : Rooted) (y : Forest) → writes (Tree v.age v.own v.children y) ≡ (writes v.children ++ flat_map (pair_writes v.age) v.own) ++ writes y
-writes_part v y = sym (append_assoc (writes v.children) (flat_map (pair_writes v.age) v.own) (writes y))
-
--- what is fed of a row with one vertex more
-pub writes_next : {S : Type 0} (write : S → List ℕ → S) (s : List Rooted) (i age : ℕ) (own : List ℕ) (children : Forest) (v : Rooted) (start before between after : S) → rooted age own children ≡ v → i < length s → v ≡ get_or s i v → before ≡ fold write start (writes (joined (take i s))) → between ≡ fold write before (writes children) → after ≡ fold write between (flat_map (pair_writes age) own) → after ≡ fold write start (writes (joined (take (i + 1) s)))
-writes_next write s i age own children v start before between after view low at p q r =
-    let e : rooted age own children ≡ get_or s i (rooted age own children) = subst (λ u. u ≡ get_or s i u) (sym view) at in
-    let one = row_next writes (λ u. writes u.children ++ flat_map (pair_writes u.age) u.own) refl writes_part s i (rooted age own children) low e in
-    r ∙ ap (λ u. fold write u (flat_map (pair_writes age) own)) (q ∙ ap (λ u. fold write u (writes children)) p)
-    ∙ sym (fold-append write (fold write start (writes (joined (take i s)))) (writes children) (flat_map (pair_writes age) own))
-    ∙ sym (fold-append write start (writes (joined (take i s))) (writes children ++ flat_map (pair_writes age) own))
-    ∙ ap (fold write start) (sym one)
 
 -- the places of the children, behind the age of their parent and what leads to it
 behind-below : (path : List ℕ) (age : ℕ) (ps : List (Item ℕ)) → map (behind path) (map (below age) ps) ≡ map (behind (path ++ age ∷ [])) ps

@@ -3,37 +3,33 @@
 --   kept_is_plain    == their items are a history with small states
 --   live-above       == the number of names in use is one more than the greatest age
 --   start_is_kept    == the tree of one state
---   kept_eq          == whether the trees are one is whether the items are
 --   sorted_items     == the states with their stacks, sorted by states, are the items
 use Rattle.std.proofs.Common.{◌≡◌, ℕ, suc, ◌+◌, ◌<◌, ◌≤◌, ◌^◌, ◌⊎◌, ◌↔◌, inl, inr, arith, Bool, IsTrue, true, false, List, [], ◌∷◌, get_or, map, sum_by, refl, sym, subst, ap, ◌∙◌}
 use Rattle.std.specs.List.Sorted.{IsPermutation, IsNonDecreasingBy}
 use Rattle.std.specs.Prelude.{Vec}
 use Rattle.std.specs.declared.alloc.Global.{Global}
 use Rattle.std.proofs.lemmas.Bool.{cases_Bool, cases_lt}
-use Rattle.std.proofs.lemmas.List.Sorted.{IsPermutation-map, IsPermutation-sym, Contains-permutation, sum_by-IsPermutation}
+use Rattle.std.proofs.lemmas.List.Sorted.{IsPermutation-map, IsPermutation-sym, sum_by-IsPermutation}
 use Rattle.std.proofs.lemmas.List.Sums.{sum_by-cons}
 use Rattle.ml_lists.specs.Ascending.{IsAscending}
 use Rattle.ml_lists.specs.Member.{IsMember}
 use Rattle.ml_lists.proofs.Member.{Image, Place, member-map, member-map_from, member-place}
-use Rattle.ml_lists.proofs.Members.{member_of_contains, contains_of_member}
+use Rattle.ml_lists.proofs.Permuted.{permuted-member}
 use Rattle.ml_trace.specs.Stack.{Item}
 use Rattle.ml_history.specs.Forest.{Forest, Empty, Tree, names, places, items, IsApart, IsProper}
-use Rattle.ml_history.specs.HistoryOrder.{history_eq, history_eq_equiv, history_eq-same}
 use Rattle.ml_history.specs.HistoryStep.{above, live}
-use Rattle.ml_history.specs.Plain.{IsPlain}
+use Rattle.ml_history.specs.History.{IsSmallHistory}
 use Rattle.ml_history.specs.Stacks.{stacked}
 use Rattle.ml_history.specs.TreeWalks.{behind}
 use Rattle.ml_history.specs.Vertices.{Rooted, joined, IsKept}
 use Rattle.ml_history.proofs.Arranged.{state_of, arranged-member, member-arranged, items_same}
 use Rattle.ml_history.proofs.Forests.{places-states}
-use Rattle.ml_history.proofs.Joined.{joined_same}
-use Rattle.ml_history.proofs.OfferOrder.{items_determine}
 use Rattle.ml_history.proofs.PlainStep.{live-small}
 use Rattle.ml_history.proofs.Proper.{items-member, names-live, live-names, proper_is_history}
 use Rattle.ml_history.proofs.Times.{once_for, times, apart-times, times-apart}
 
 -- the items of a tree that is kept are a history with small states
-pub kept_is_plain : (f : Forest) → IsKept f → IsPlain (items f)
+pub kept_is_plain : (f : Forest) → IsKept f → IsSmallHistory (items f)
 kept_is_plain f kept = record {
   history = proper_is_history f kept.proper;
   small = λ a m. kept.small a.state (subst (IsMember a.state) (places-states f) (member-map state_of a (places f) (items-member f a m)));
@@ -88,24 +84,6 @@ start_is_kept q low = record {
     small p (inl e) = subst (λ v. v < 2 ^ 30) (sym e) low
     small p (inr m) = absurd m
 
--- ---- equality
-
--- whether the trees are one is whether the items are
-pub kept_eq : (vs ws : List Rooted) (r : Bool) → IsKept (joined vs) → IsKept (joined ws) → (IsTrue r ↔ vs ≡ ws) → r ≡ history_eq (items (joined vs)) (items (joined ws))
-kept_eq vs ws r p q e = by_test (cases_Bool r) (cases_Bool (history_eq (items (joined vs)) (items (joined ws))))
-  where
-    by_test : (r ≡ true) ⊎ (r ≡ false) → (history_eq (items (joined vs)) (items (joined ws)) ≡ true) ⊎ (history_eq (items (joined vs)) (items (joined ws)) ≡ false) → r ≡ history_eq (items (joined vs)) (items (joined ws))
-    by_test (inl t) (inl s) = t ∙ sym s
-    by_test (inl t) (inr s) =
-        let same : vs ≡ ws = e.0 t in
-        let alike : history_eq (items (joined vs)) (items (joined ws)) ≡ true = subst (λ us. history_eq (items (joined vs)) (items (joined us)) ≡ true) same (history_eq_equiv.refl (items (joined vs))) in
-        absurd (cc)
-    by_test (inr t) (inl s) =
-        let same = joined_same vs ws (items_determine (joined vs) (joined ws) p.proper q.proper (history_eq-same (items (joined vs)) (items (joined ws)) s)) in
-        let truth : r ≡ true = e.1 same in
-        absurd (cc)
-    by_test (inr t) (inr s) = t ∙ sym s
-
 -- ---- the sorted list
 
 -- keys that do not descend and stand apart ascend
@@ -138,9 +116,6 @@ first_part a = a.0
 stacked_states : (ss : List (ℕ × Vec ℕ Global)) → map state_of (map stacked ss) ≡ map (λ a. a.0) ss
 stacked_states [] = refl
 stacked_states (s ∷ ss) = ap (λ l. s.0 ∷ l) (stacked_states ss)
-
-pub permuted-member : {X : Type 0} (v : X) (xs ys : List X) → IsPermutation xs ys → IsMember v xs → IsMember v ys
-permuted-member v xs ys p m = member_of_contains v ys (Contains-permutation xs ys v p (contains_of_member v xs m))
 
 -- states with their stacks, sorted by states, are the items
 pub sorted_items : (ss ss' : List (ℕ × Vec ℕ Global)) (f : Forest) → IsProper f → map stacked ss ≡ places f → IsPermutation ss ss' → IsNonDecreasingBy (λ (a : ℕ × Vec ℕ Global). a.0) ss' → map stacked ss' ≡ items f

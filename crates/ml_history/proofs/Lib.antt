@@ -7,7 +7,7 @@ pub mod Taken
 -- stacks cut after a name
 pub mod Cut
 -- names of items: which stand, which end a stack, how many are in use
-pub mod Names
+pub mod NamesInUse
 -- stacks that are offered
 pub mod OfferedStacks
 -- the mark, by the least red and the least green name
@@ -46,8 +46,6 @@ pub mod PlainStep
 pub mod LetterSets
 -- lists in the order of a relation
 pub mod InOrder
--- places stand in the order of offers
-pub mod PlacesInOrder
 -- sets and rows of vertices, one more at a time
 pub mod Joined
 -- how often a number stands in a list
@@ -76,8 +74,6 @@ pub mod Renewed
 pub mod TreeSteps
 -- rows of vertices in the program
 pub mod Rows
--- the items of a tree in the order of offers
-pub mod OfferOrder
 -- histories as the program keeps them
 pub mod Kept
 -- the transitions that leave a state
@@ -90,5 +86,17 @@ pub mod Laying
 pub mod Flags
 -- the step of a history that the program holds, from its parts
 pub mod TreeProgram
--- how trees compare, state by state
-pub mod ByState
+-- stacks laid out in flat arrays
+pub mod LaidOut
+-- the names in use in a line, worst offer first
+pub mod NameLine
+-- the line of names is the order of offers, backwards
+pub mod OrderOfNames
+-- the best offers, one at a time
+pub mod BestOffers
+-- the names of offered stacks, and the stacks that are cut
+pub mod CutOffers
+-- the step on flat arrays, from its parts
+pub mod FlatStep
+-- lists of items, one item after the other
+pub mod ItemByItem

@@ -26,7 +26,7 @@ use Rattle.ml_trace.specs.NamesCondition.{bound}
 use Rattle.ml_trace.specs.Stack.{Item, has, ends_in}
 use Rattle.ml_trace.proofs.Stacks.{has-member, member-has, ends-map}
 use Rattle.ml_history.specs.HistoryStep.{live, offers, last_name, taken_along, stands, is_last, is_full, cut, survives, is_red, is_green, through, new_number, renumbered, step_mark}
-use Rattle.ml_history.proofs.Names.{Standing, stands-from, stands-in, is_last-in, live-has}
+use Rattle.ml_history.proofs.NamesInUse.{Standing, stands-from, stands-in, is_last-in, live-has}
 use Rattle.ml_history.proofs.Offers.{Offer, offer_from}
 use Rattle.ml_history.proofs.OfferedStacks.{offered-has, offered-accepting, ends-append}
 use Rattle.ml_history.proofs.StepMark.{mark_of-red, mark_of-green, mark_of-neutral}

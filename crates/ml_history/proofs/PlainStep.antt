@@ -20,10 +20,9 @@ use Rattle.ml_trace.specs.Automaton.{HasSmallEnds}
 use Rattle.ml_trace.specs.declared.letters.Transition.{Transition}
 use Rattle.ml_trace.specs.declared.marks.Mark.{Mark}
 use Rattle.ml_trace.specs.Stack.{Item, ends_in}
-use Rattle.ml_history.specs.History.{IsHistory}
+use Rattle.ml_history.specs.History.{IsHistory, IsSmallHistory}
 use Rattle.ml_history.specs.HistoryStep.{live, taken_along, is_full, is_last, cut, stands, mark_of, stepped, step_mark}
-use Rattle.ml_history.specs.Plain.{IsPlain}
-use Rattle.ml_history.proofs.Names.{is_last-in}
+use Rattle.ml_history.proofs.NamesInUse.{is_last-in}
 use Rattle.ml_history.proofs.OneStep.{Behind, behind, taken_from}
 use Rattle.ml_history.proofs.StepKeeps.{step_is_history}
 
@@ -98,7 +97,7 @@ pub ascending_length : (xs : List ℕ) (n : ℕ) → IsAscending xs → ((x : �
 ascending_length xs n a high = omega (arith, ascending_between xs 0 n a (omega arith) (λ x i. omega arith) high)
 
 -- a history of states below 2^30 has at most 2^30 names in use
-pub live-small : (h : List (Item ℕ)) → IsPlain h → live h ≤ 2 ^ 30
+pub live-small : (h : List (Item ℕ)) → IsSmallHistory h → live h ≤ 2 ^ 30
 live-small h plain =
     let few = ascending_length (map (λ (a : Item ℕ). a.state) h) (2 ^ 30) plain.history.states_ascend (λ x i. from_image x (member-map_from (λ (a : Item ℕ). a.state) x h i)) in
     omega (arith, few, live-length h plain.history, length-map h (λ (a : Item ℕ). a.state))
@@ -109,7 +108,7 @@ live-small h plain =
 -- ---- the step
 
 -- a step along a letter leads from such a history to such a history
-pub step_is_plain : (h : List (Item ℕ)) (letter : List Transition) → IsPlain h → HasSmallEnds letter → IsPlain (stepped h letter)
+pub step_is_plain : (h : List (Item ℕ)) (letter : List Transition) → IsSmallHistory h → HasSmallEnds letter → IsSmallHistory (stepped h letter)
 step_is_plain h letter plain ends = record {
   history = step_is_history h letter plain.history;
   small = λ a m. from_behind a (behind (taken_along h letter) a m);

@@ -13,7 +13,7 @@ use Rattle.ml_history.specs.History.{IsHistory}
 use Rattle.ml_history.specs.HistoryStep.{live}
 use Rattle.ml_history.proofs.Arranged.{arranged-member, member-arranged, arranged-ascends}
 use Rattle.ml_history.proofs.Forests.{places-states, owns-some, places-not_empty, places-names, names-places, places-ascend, places-agree}
-use Rattle.ml_history.proofs.Names.{live-has, live-witness}
+use Rattle.ml_history.proofs.NamesInUse.{live-has, live-witness}
 
 -- the items of a forest are its places
 pub items-member : (f : Forest) (v : Item ℕ) → IsMember v (items f) → IsMember v (places f)

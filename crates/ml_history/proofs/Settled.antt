@@ -22,7 +22,7 @@ use Rattle.ml_history.specs.TreeStep.{lay_full, settled, full_here, fulls}
 use Rattle.ml_history.proofs.Arranged.{state_of}
 use Rattle.ml_history.proofs.Cut.{through-stops, through-goes}
 use Rattle.ml_history.proofs.Forests.{places-states, places-not_empty, places-names, OwnsSome}
-use Rattle.ml_history.proofs.Names.{stands-from, stands-in, is_last-from, is_last-in}
+use Rattle.ml_history.proofs.NamesInUse.{stands-from, stands-in, is_last-from, is_last-in}
 use Rattle.ml_history.proofs.Times.{times, times-append, times-member, member-times, apart-times, times-apart, apart-left, apart-right, apart-both}
 
 -- whether a vertex is full, at which the states o lie, and below which the states qs

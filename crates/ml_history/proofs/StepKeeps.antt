@@ -17,7 +17,7 @@ use Rattle.ml_trace.proofs.Stacks.{ends-has, has-member, member-has, ends-map}
 use Rattle.ml_history.specs.History.{IsHistory, start, up_to}
 use Rattle.ml_history.specs.HistoryStep.{live, last_name, offers, taken_along, stands, is_last, is_full, cut, survives, through, stepped, after}
 use Rattle.ml_history.proofs.Cut.{through-stops, through-goes, through-has, through-keeps_end, through-whole, through-not_empty, through-ascending, through-up_to}
-use Rattle.ml_history.proofs.Names.{Ending, StandsFrom, stands-in, is_last-from, live-has, live-witness}
+use Rattle.ml_history.proofs.NamesInUse.{Ending, StandsFrom, stands-in, is_last-from, live-has, live-witness}
 use Rattle.ml_history.proofs.Offers.{Offer}
 use Rattle.ml_history.proofs.OfferedStacks.{offered-has, offered-not_empty, offered-up_to, offered-accepting, last_name-ends, up_to-end}
 use Rattle.ml_history.proofs.OneStep.{Behind, behind, behind_in, InCut, survives_in, cut_survives, taken_from, renumbered_name}

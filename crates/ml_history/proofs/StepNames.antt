@@ -16,7 +16,7 @@ use Rattle.ml_history.specs.CycleLaws.{entry}
 use Rattle.ml_history.specs.History.{IsHistory}
 use Rattle.ml_history.specs.HistoryStep.{live, taken_along, is_full, stepped, step_mark}
 use Rattle.ml_history.proofs.Cut.{through-has, through-keeps_end, through-advanced}
-use Rattle.ml_history.proofs.Names.{live-has}
+use Rattle.ml_history.proofs.NamesInUse.{live-has}
 use Rattle.ml_history.proofs.Offers.{Offer}
 use Rattle.ml_history.proofs.OfferedStacks.{offered-old, offered-plain, offered-ascends}
 use Rattle.ml_history.proofs.OneStep.{Kept, behind, behind_name, behind_end, taken_from, full_ends_none, below_bound, bound_in_use, green_kept, stands_behind}

@@ -21,7 +21,7 @@ use Rattle.ml_history.specs.HistoryStep.{live, stands, is_last, is_full, cut, ne
 use Rattle.ml_history.specs.TreeStep.{settled, fulls, renewed, walked}
 use Rattle.ml_history.proofs.Arranged.{Within, items_same, members-list_any}
 use Rattle.ml_history.proofs.Forests.{places-names, names-places, OwnsSome}
-use Rattle.ml_history.proofs.Names.{stands-from, stands-in}
+use Rattle.ml_history.proofs.NamesInUse.{stands-from, stands-in}
 use Rattle.ml_history.proofs.Proper.{proper_is_history, items-member, member-items}
 use Rattle.ml_history.proofs.Renewed.{number_by, renewed-from, renewed-has, renewed-names, renewed-apart, renewed-rise, renewed-owns, renewed-root}
 use Rattle.ml_history.proofs.Renumber.{KeepsOrder}

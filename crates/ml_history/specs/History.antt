@@ -5,10 +5,11 @@
 -- That children lie properly inside their parent says that some stack ends at each vertex. A child is younger than its
 -- parent: stacks ascend.
 --
---   up_to y s      == the stack s up to the name y and with it
---   IsHistory h    == h is a history
---   start q        == the history of the state q alone, with the stack 0
-use Rattle.std.specs.Prelude.{◌≡◌, ℕ, ◌<◌, true, ◌==◌, List, [], ◌∷◌, map, ◌≢◌}
+--   up_to y s         == the stack s up to the name y and with it
+--   IsHistory h       == h is a history
+--   IsSmallHistory h  == h is a history whose states have numbers below 2^30
+--   start q           == the history of the state q alone, with the stack 0
+use Rattle.std.specs.Prelude.{◌≡◌, ℕ, ◌<◌, ◌^◌, true, ◌==◌, List, [], ◌∷◌, map, ◌≢◌}
 use Rattle.ml_lists.specs.Ascending.{IsAscending}
 use Rattle.ml_lists.specs.Member.{IsMember}
 use Rattle.ml_trace.specs.Stack.{Item, has, ends_in}
@@ -30,6 +31,11 @@ pub record IsHistory (h : List (Item ℕ)) : Type 0 where
   pub agree : (a b : Item ℕ) (y : ℕ) → IsMember a h → IsMember b h → has y a.stack ≡ true → has y b.stack ≡ true → up_to y a.stack ≡ up_to y b.stack
   -- the names in use are 0, 1 and so on, without a gap, and some stack ends in each
   pub each_ends : (y : ℕ) → y < live h → (a : Item ℕ) × IsMember a h × (ends_in y a.stack ≡ true)
+
+-- h is a history whose states have numbers below 2^30
+pub record IsSmallHistory (h : List (Item ℕ)) : Type 0 where
+  pub history : IsHistory h
+  pub small : (a : Item ℕ) → IsMember a h → a.state < 2 ^ 30
 
 -- the history of the state q alone, with the stack 0
 abbrev pub start : ℕ → List (Item ℕ)

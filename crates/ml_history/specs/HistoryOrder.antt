@@ -1,17 +1,16 @@
 -- How histories compare, and what a hash reads of them.
 --
 -- Histories compare as the lists of their items do: item by item, and of two items first the states, then the stacks
--- name by name. A hash reads each state with the last name of its stack, in the order in which offers beat one another:
--- a tree gives them in this order by one walk, and they determine the history.
+-- name by name. A hash reads the states, and then the names of all stacks. Where each stack of a history begins with
+-- the one root that it has, these determine the history.
 --
 --   item_eq, history_eq     == the items are one; the histories are one
 --   item_cmp, history_cmp   == how two items, and two histories, compare
---   goes_in a bs            == the items bs with a, behind those whose stacks beat its own
---   by_offers h             == the items of h, those with the better stacks first, and of one stack by states
---   hash_writes h           == the state and the last name of each of these
+--   names_of h              == the names of the stacks of h, one stack behind the other
+--   hash_writes h           == what a hash reads of h
 --
 -- The laws of these stand below them: history_eq and history_cmp are an equivalence and an order that agree.
-use Rattle.std.specs.Prelude.{◌≡◌, ℕ, Bool, true, nat_eq, if◌then◌else◌, List, [], ◌∷◌, ◌++◌, refl}
+use Rattle.std.specs.Prelude.{◌≡◌, ℕ, Bool, true, nat_eq, List, [], ◌∷◌, ◌++◌, map, refl}
 use Rattle.std.specs.List.{flat_map}
 use Rattle.std.specs.declared.cmp.Ordering.{Ordering}
 use Rattle.std.specs.Ordering.{nat_cmp, on, then_cmp, eq_of_both, eq_by_cmp}
@@ -23,7 +22,6 @@ use Rattle.std.proofs.Common.{subst}
 use Rattle.std.proofs.lemmas.Bool.{eqb-true}
 use Rattle.std.proofs.lemmas.Cmp.{on_total, then_total, on_equiv, and_equiv, nat_cmp_total, nat_eq_equiv, nat_list_cmp_total, nat_list_eq_equiv, lists_total, lists_equiv}
 use Rattle.ml_trace.specs.Stack.{Item}
-use Rattle.ml_history.specs.HistoryStep.{beats, last_name}
 
 -- the items are one
 abbrev pub item_eq : Item ℕ → Item ℕ → Bool
@@ -41,23 +39,13 @@ history_eq = pointwise item_eq
 abbrev pub history_cmp : List (Item ℕ) → List (Item ℕ) → Ordering
 history_cmp = slice_cmp item_cmp
 
--- the items bs with a, behind those whose stacks beat its own
-abbrev pub goes_in : Item ℕ → List (Item ℕ) → List (Item ℕ)
-goes_in a [] = a ∷ []
-goes_in a (b ∷ bs) = if beats b.stack a.stack then b ∷ goes_in a bs else a ∷ (b ∷ bs)
+-- the names of the stacks, one stack behind the other
+abbrev pub names_of : List (Item ℕ) → List ℕ
+names_of h = flat_map (λ (a : Item ℕ). a.stack) h
 
--- the items, those with the better stacks first, and of one stack by states
-abbrev pub by_offers : List (Item ℕ) → List (Item ℕ)
-by_offers [] = []
-by_offers (a ∷ as') = goes_in a (by_offers as')
-
--- what a hash reads of a state and a name
-abbrev pub pair_writes : ℕ → ℕ → HashWrites
-pair_writes name q = fed.u32 q ++ fed.u32 name
-
--- the state and the last name of each item
+-- what a hash reads of a history: its states, and then the names of all stacks
 abbrev pub hash_writes : List (Item ℕ) → HashWrites
-hash_writes h = flat_map (λ (a : Item ℕ). pair_writes (last_name a.stack) a.state) (by_offers h)
+hash_writes h = fed.slice fed.u32 (map (λ (a : Item ℕ). a.state) h) ++ fed.slice fed.u32 (names_of h)
 
 -- ---- laws
 

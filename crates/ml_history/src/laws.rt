@@ -4,7 +4,7 @@ ghost use Rattle.ml_trace.specs.Marks.{is_odd, lowest_mark};
 ghost use Rattle.ml_history.specs.CycleLaws.{StepsAreHistories, StepsTraceNames, LettersAreSets, AcceptingCycle, OddMarkHasRun, RunHasOddMark};
 ghost use Rattle.ml_history.specs.HistoryStep.{after, marks_along};
 
-use crate::tree_history::History;
+use crate::flat::History;
 use ml_trace::Letter;
 
 /// The start is a history, and a step leads from a history to a history.
@@ -38,12 +38,12 @@ pub fn runs_have_odd_marks()
 pub fn odd_mark_has_run(start: &History, word: &[Letter])
     ensures { word.now ≢ [] → after start.now word.now ≡ start.now → is_odd (lowest_mark (marks_along start.now word.now)) ≡ true → AcceptingCycle start.now word.now }
 {
-    start.is_history();
+    start.keeps();
 }
 
 /// The second cycle law for one history and one word.
 pub fn run_has_odd_mark(start: &History, word: &[Letter])
     ensures { word.now ≢ [] → after start.now word.now ≡ start.now → AcceptingCycle start.now word.now → is_odd (lowest_mark (marks_along start.now word.now)) ≡ true }
 {
-    start.is_history();
+    start.keeps();
 }

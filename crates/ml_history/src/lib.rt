@@ -5,33 +5,22 @@
 // stands inside stacks is green. The marks of the steps tell which words have an accepting run: that is what the two
 // cycle laws say (`laws`).
 //
-// `History` holds the stacks as a tree with a vertex for each name: begin with `History::start`, and then `step`,
-// `stacks`, `live` and `copy`. Histories compare and hash by their stacks. What a step makes of a history is defined on
-// lists of states with stacks (`specs/HistoryStep`); `PlainHistory` computes it so, slowly, and stays as the reference.
+// A reader needs one page: `specs/History` (what a history is) and `specs/HistoryStep` (the step and its mark). All else
+// is proof. Three types compute the step, each in a module of its own, and each is proved equal to the definition:
+// - `History` (`flat`) holds the stacks in flat arrays, and is the one to use: begin with `History::start`, and then
+//   `step`, `stacks`, `live` and `copy`. Histories compare and hash by their arrays.
+// - `tree::TreeHistory` holds them as a tree with a vertex for each name, as the literature draws them.
+// - `plain::PlainHistory` follows the definition line by line, slowly, and stays as the reference.
 //
 // Below: ml_lists (general mathematics), ml_base (want of memory), ml_trace (letters, runs, marks). Above: the decision
 // game, whose positions hold a history.
 #![tactic(auto)]
 
-mod comparing;
-mod drafts;
-mod items;
+pub mod flat;
 pub mod laws;
-mod marking;
-mod moves;
-mod offering;
-mod plain;
-mod renewal;
-mod renumbering;
-#[cfg(test)]
-mod tests;
-mod tree;
-mod tree_history;
-#[cfg(test)]
-mod tree_tests;
-mod walk;
+mod names;
+pub mod plain;
+pub mod tree;
 
-pub use items::Stacked;
+pub use flat::History;
 pub use ml_trace::Mark;
-pub use plain::PlainHistory;
-pub use tree_history::History;

@@ -5,10 +5,15 @@ ghost use Rattle.std.specs.Prelude.{◌≡◌, ◌<◌, ◌^◌, IfOk};
 ghost use Rattle.ml_history.specs.History.{start, IsHistory};
 ghost use Rattle.ml_history.specs.HistoryStep.{live, stepped, step_mark};
 
-use crate::items::Stacked;
-use crate::marking::mark;
-use crate::offering::{live, offers, taken};
-use crate::renumbering::{cut, renumbered};
+mod items;
+mod marking;
+mod offering;
+mod renumbering;
+
+use crate::plain::marking::mark;
+use crate::plain::offering::{live, offers, taken};
+use crate::plain::renumbering::{cut, renumbered};
+pub use items::Stacked;
 use ml_base::NoMemory;
 use ml_trace::{Letter, Mark};
 use std::alloc::Global;
@@ -26,11 +31,11 @@ impl Model for PlainHistory {
 
     ghost Value = { List (Item ℕ) };
 
-    ghost use Rattle.ml_history.specs.Plain.{IsPlain};
+    ghost use Rattle.ml_history.specs.History.{IsSmallHistory};
 
     ghost view = { λ h. h.items.items };
 
-    ghost invariant = { λ h. IsPlain h.items.items };
+    ghost invariant = { λ h. IsSmallHistory h.items.items };
 }
 
 impl PlainHistory {

@@ -1,154 +1,132 @@
-// Vertices, and what is computed by walks over them.
-ghost use Rattle.std.specs.Prelude.{◌≡◌, ◌↔◌, ◌++◌, IsTrue, IfOk, OnOk, map, fold};
-ghost use Rattle.std.specs.List.{flat_map};
-ghost use Rattle.ml_history.specs.Forest.{names, places, lies_at};
-ghost use Rattle.ml_history.specs.HistoryOrder.{pair_writes};
-ghost use Rattle.ml_history.specs.HistoryStep.{above};
+// Histories as trees: the form in which the literature draws them.
+ghost use Rattle.std.specs.Prelude.{◌≡◌, ◌<◌, ◌^◌, ◌↔◌, IsTrue, IfOk, Some, map};
+ghost use Rattle.ml_history.specs.History.{start, IsHistory, IsSmallHistory};
+ghost use Rattle.ml_history.specs.HistoryStep.{live, stepped, step_mark};
 ghost use Rattle.ml_history.specs.Stacks.{stacked};
-ghost use Rattle.ml_history.specs.TreeWalks.{behind, writes};
-ghost use Rattle.ml_history.specs.Vertices.{joined};
 
+mod drafts;
+mod moves;
+mod renewal;
+mod vertices;
+mod walk;
+
+use crate::tree::moves::Moves;
+use crate::tree::renewal::renew;
+use crate::tree::vertices::{Vertex, above, push_places};
+use crate::tree::walk::walk;
 use ml_base::{IdSet, NoMemory};
+use ml_trace::{Letter, Mark};
 use std::alloc::Global;
-use std::hash::Hasher;
+use std::collections::HashSet;
 use std::marker::Model;
 
-/// A vertex of a history as a tree: its age, the states whose stack ends at it, and its children, the older ones first.
+/// A history: some states of the trace automaton, each with a stack of names. Contracts see the list of the states with
+/// their stacks, by ascending states.
+///
+/// It is held as a tree: a vertex for each name, and the stack of a state is the way from the root down to the vertex at
+/// which the state lies. The type keeps that siblings are disjoint, that some state lies at each vertex (so children lie
+/// properly inside their parent), that a child is younger than its parent and younger siblings stand to the right, that
+/// the names are 0 to one less than their count, and that states have numbers below 2^30. A history without states has
+/// no root.
 #[derive(Debug, Drop)]
-pub(crate) struct Vertex {
-    pub(crate) age: u32,
-    pub(crate) own: IdSet,
-    pub(crate) children: Vec<Vertex>,
+pub struct TreeHistory {
+    roots: Vec<Vertex>,
 }
 
-impl Model for Vertex {
-    ghost use Rattle.std.proofs.Common.{arith};
-    ghost use Rattle.ml_history.specs.Vertices.{Rooted, joined, vertices, most-vertices, rooted_code};
+impl Model for TreeHistory {
+    ghost use Rattle.std.specs.Prelude.{ℕ, List};
+    ghost use Rattle.ml_trace.specs.Stack.{Item};
 
-    ghost Value = { Rooted };
+    ghost Value = { List (Item ℕ) };
 
-    ghost coded = { rooted_code };
+    ghost use Rattle.ml_history.specs.Forest.{items};
+    ghost use Rattle.ml_history.specs.Vertices.{joined, IsKept};
 
-    ghost view = { λ v. record { age = v.age; own = v.own; children = joined v.children.items } };
+    ghost view = { λ h. items (joined h.roots.items) };
 
-    ghost size = { λ v. vertices v.children };
-
-    ghost size_decreases = { λ v h. omega (arith, most-vertices v.children.items) };
+    ghost invariant = { λ h. IsKept (joined h.roots.items) };
 }
 
-// The set again.
-fn copied_set(alloc: Global, set: &IdSet) -> Result<IdSet, NoMemory>
-    ensures { IfOk result (λ copy. copy ≡ set.now) }
-{
-    let mut copy = IdSet::new(alloc);
-    for x in set.values() {
-        copy.insert(*x)?;
-    }
-    Ok(copy)
-}
-
-// The siblings again.
-pub(crate) fn copied(alloc: Global, siblings: &[Vertex]) -> Result<Vec<Vertex>, NoMemory>
-    ensures { IfOk result (λ copy. copy.items ≡ siblings.now) }
-{
-    let mut copy = Vec::new(alloc);
-    for vertex in siblings {
-        copy.push(Vertex {
-            age: vertex.age,
-            own: copied_set(alloc, &vertex.own)?,
-            children: copied(alloc, vertex.children.as_slice())?,
+impl TreeHistory {
+    /// The history of one state, with the stack 0. The state has a number below 2^30. O(1).
+    ///
+    /// # Errors
+    /// `NoMemory` alone.
+    pub fn start(alloc: Global, state: u32) -> Result<TreeHistory, NoMemory>
+        requires { state < 2 ^ 30 }
+        ensures { IfOk result (λ h. h ≡ start state) }
+    {
+        let mut own = IdSet::new(alloc);
+        own.insert(state)?;
+        let mut roots = Vec::new(alloc);
+        roots.push(Vertex {
+            age: 0,
+            own,
+            children: Vec::new(alloc),
         })?;
+        Ok(TreeHistory { roots })
     }
-    Ok(copy)
-}
 
-// One more than the greatest age, or 0.
-pub(crate) fn above(siblings: &[Vertex]) -> u64
-    ensures { result ≡ above (names (joined siblings.now)) }
-{
-    let mut most: u64 = 0;
-    for vertex in siblings {
-        let children = above(vertex.children.as_slice());
-        most = most.max(children).max(u64::from(vertex.age) + 1);
+    /// The states with their stacks, the innermost name last, by ascending states.
+    ///
+    /// # Errors
+    /// `NoMemory` alone.
+    ///
+    /// Cost: linear in the names of all stacks, and the sort of the states.
+    pub fn stacks(&self) -> Result<Vec<(u32, Vec<u32>)>, NoMemory>
+        ensures { IfOk result (λ all. map stacked all.items ≡ self.now) }
+    {
+        let alloc = *self.roots.allocator();
+        let mut stacks = Vec::new(alloc);
+        push_places(alloc, self.roots.as_slice(), &[], &mut stacks)?;
+        stacks.sort_by_key(|a| a.0)?;
+        Ok(stacks)
     }
-    most
-}
 
-// Appends the states of the set with this stack.
-fn push_own(
-    alloc: Global,
-    own: &IdSet,
-    stack: &[u32],
-    stacks: &mut Vec<(u32, Vec<u32>)>,
-) -> Result<(), NoMemory>
-    ensures { OnOk result (map stacked stacks.new.items ≡ map stacked stacks.old.items ++ map (lies_at stack.now) own.now) }
-{
-    for state in own.values() {
-        stacks.push((*state, Vec::from_slice(alloc, stack)?))?;
+    /// The number of names in use. It takes no memory, and is linear in them.
+    pub fn live(&self) -> u32
+        ensures value { result ≡ live self.now }
+        ensures history { IsHistory self.now }
+    {
+        above(self.roots.as_slice()) as u32
     }
-    Ok(())
-}
 
-// Appends the states that lie at the siblings or below them, with their stacks; the path leads down to the siblings.
-pub(crate) fn push_places(
-    alloc: Global,
-    siblings: &[Vertex],
-    path: &[u32],
-    stacks: &mut Vec<(u32, Vec<u32>)>,
-) -> Result<(), NoMemory>
-    ensures { OnOk result (map stacked stacks.new.items ≡ map stacked stacks.old.items ++ map (behind path.now) (places (joined siblings.now))) }
-{
-    for vertex in siblings {
-        let mut stack = Vec::from_slice(alloc, path)?;
-        stack.push(vertex.age)?;
-        push_places(alloc, vertex.children.as_slice(), stack.as_slice(), stacks)?;
-        push_own(alloc, &vertex.own, stack.as_slice(), stacks)?;
+    // What the type keeps; the call does nothing.
+    pub(crate) fn keeps(&self)
+        ensures { IsSmallHistory self.now }
+    {
+        let _roots = &self.roots;
     }
-    Ok(())
-}
 
-// Whether the two vertices are the same.
-#[cycle(same)]
-fn same_vertex(a: &Vertex, b: &Vertex) -> bool
-    ensures { IsTrue result ↔ a.now ≡ b.now }
-{
-    a.age == b.age
-        && a.own.values() == b.own.values()
-        && same(a.children.as_slice(), b.children.as_slice())
-}
-
-// Whether the siblings are the same.
-#[cycle(same)]
-pub(crate) fn same(left: &[Vertex], right: &[Vertex]) -> bool
-    ensures { IsTrue result ↔ left.now ≡ right.now }
-{
-    if left.len() != right.len() {
-        return false;
-    }
-    for (i, a) in left.iter().enumerate() {
-        if !same_vertex(a, &right[i]) {
-            return false;
-        }
-    }
-    true
-}
-
-// Feeds the states, each with the name.
-fn feed_own<H: Hasher>(name: u32, own: &IdSet, state: &mut H)
-    ensures { state.new ≡ fold H.write state.old (flat_map (pair_writes name) own.now) }
-{
-    for q in own.values() {
-        state.write_u32(*q);
-        state.write_u32(name);
-    }
-}
-
-// Feeds the states that lie at the siblings or below them, each with the age of its vertex.
-pub(crate) fn feed<H: Hasher>(siblings: &[Vertex], state: &mut H)
-    ensures { state.new ≡ fold H.write state.old (writes (joined siblings.now)) }
-{
-    for vertex in siblings {
-        feed(vertex.children.as_slice(), state);
-        feed_own(vertex.age, &vertex.own, state);
+    /// The history after the step along the letter, and the mark of the step.
+    ///
+    /// The walk over the tree lists states in the order of offers: children first, older siblings before younger ones,
+    /// and a vertex behind its children. So the first offer to a state is the best one, and no stacks are compared.
+    ///
+    /// # Errors
+    /// `NoMemory` alone.
+    ///
+    /// Cost: a sort of the transitions of the letter and of the states behind the step; for each state a look for its
+    /// transitions, logarithmic in their number; and linear in the names, and in the depth of the tree for each state.
+    /// Source: the history trees of Schewe and the ages of Piterman.
+    pub fn step(&self, letter: &Letter) -> Result<(TreeHistory, Mark), NoMemory>
+        ensures history { IfOk result (λ r. r.0 ≡ stepped self.now letter.now) }
+        ensures mark { IfOk result (λ r. r.1 ≡ step_mark self.now letter.now) }
+    {
+        let alloc = *self.roots.allocator();
+        let used = self.live();
+        let moves = Moves::of(alloc, letter.transitions())?;
+        let mut seen = HashSet::new(alloc);
+        let mut full = Vec::new(alloc);
+        let drafts = walk(
+            alloc,
+            used,
+            &moves,
+            self.roots.as_slice(),
+            &mut seen,
+            &mut full,
+        )?;
+        let (roots, mark) = renew(alloc, used, drafts.as_slice(), full.as_slice())?;
+        Ok((TreeHistory { roots }, mark))
     }
 }

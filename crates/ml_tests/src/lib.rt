@@ -14,6 +14,8 @@ mod graph_tests;
 pub mod graphs;
 #[cfg(test)]
 mod heights_tests;
+#[cfg(test)]
+mod history_tests;
 pub mod letters;
 pub mod not_made;
 pub mod numbers;

@@ -1,0 +1,8 @@
+use Rattle.std.proofs.Common.{subst}
+use Rattle.ml_history.specs.History.{IsSmallHistory}
+use Rattle.ml_history.specs.Vertices.{joined}
+use Rattle.ml_history.proofs.Kept.{kept_is_plain}
+use Rattle.ml_history.proofs.tree.TreeHistory.keeps.Goals as goal
+
+pub returns : goal.returns
+returns c = subst IsSmallHistory c.self.view_is (kept_is_plain (joined c.self.inside.roots.items) c.self.invariant)
