@@ -1,9 +1,12 @@
 // The modal graph of a formula of the mu-calculus, and why the checking game on it agrees with the formula's meaning.
 //
+// Begin with `graph_of`, which makes the graph that `specs/MuGraph.antt` says; the module `laws` has the agreement.
+//
 // Below stand `ml_mu`, for formulas, and `ml_graph`, for graphs and the checking game.
 #![tactic(auto)]
 
 mod graph;
 pub mod laws;
+mod names;
 
 pub use graph::graph_of;
