@@ -40,52 +40,6 @@ fn start(alloc: Global) -> Result<Three, NoMemory> {
     })
 }
 
-// The stacks 0: 0; 1: 0 1; 2: 0 2, made from the start by two steps.
-fn three_states(alloc: Global) -> Result<Option<Three>, Fail> {
-    let one = letter(alloc, &[along(0, 0, false), along(0, 1, true)])?;
-    let two = letter(
-        alloc,
-        &[along(0, 0, false), along(1, 1, false), along(0, 2, true)],
-    )?;
-    match step(&start(alloc)?, &one)? {
-        None => Ok(None),
-        Some((first, _)) => Ok(step(&first, &two)?.map(|next| next.0)),
-    }
-}
-
-// Whether the step of the three states along the transitions has this mark, and leads to these states with these
-// stacks, in each form; and the flat history of the tree, and a copy of the flat one, are equal to it.
-fn leads_to(
-    alloc: Global,
-    transitions: &[Transition],
-    mark: Mark,
-    wanted: &[(u32, &[u32])],
-) -> Result<bool, Fail> {
-    let along = letter(alloc, transitions)?;
-    let Some(before) = three_states(alloc)? else {
-        return Ok(false);
-    };
-    match step(&before, &along)? {
-        None => Ok(false),
-        Some((next, is)) => {
-            let stacks = next.flat.stacks()?;
-            let of_tree = History::of_tree(&next.tree)?;
-            Ok(
-                is == mark
-                    && stacks.len() == wanted.len()
-                    && stacks
-                        .iter()
-                        .zip(wanted)
-                        .all(|(a, b)| a.0 == b.0 && a.1.as_slice() == b.1)
-                    && of_tree == next.flat
-                    && next.flat.copy()? == of_tree
-                    && of_tree.cmp(&next.flat) == Ordering::Equal
-                    && next.flat != before.flat,
-            )
-        }
-    }
-}
-
 // Are the three forms the same states with the same stacks, with so many names?
 fn agree(three: &Three) -> Result<bool, NoMemory> {
     let items = three.plain.items();
@@ -140,33 +94,82 @@ fn first_step_apart(alloc: Global, count: u64) -> Result<Option<u64>, Fail> {
 }
 
 #[test]
-fn worked_steps(rt: HostRuntime) -> Result<(), Fail> {
-    let alloc = rt.alloc();
-    // a name that is lost, and names numbered anew
-    let lost = [along(0, 0, false), along(2, 2, false)];
-    assert!(rt; leads_to(alloc, &lost, Mark::Red(1), &[(0, &[0]), (2, &[0, 1])])?);
-    // the older name wins
-    let older = [along(0, 0, false), along(1, 3, false), along(2, 3, false)];
-    assert!(rt; leads_to(alloc, &older, Mark::Red(2), &[(0, &[0]), (3, &[0, 1])])?);
-    // a name that no stack ends in is green, and the stacks are cut behind it
-    let full = [along(1, 1, false), along(2, 2, false)];
-    assert!(rt; leads_to(alloc, &full, Mark::Green(0), &[(1, &[0]), (2, &[0])])?);
-    // no transition loses all
-    assert!(rt; leads_to(alloc, &[], Mark::Red(0), &[])?);
+fn histories_step_alike(rt: HostRuntime) -> Result<(), Fail> {
+    assert_eq!(rt; first_step_apart(rt.alloc(), 200)?, None);
+    Ok(())
+}
+
+// Whether the history has these states with these stacks.
+fn is(history: &History, wanted: &[(u32, &[u32])]) -> Result<bool, Fail> {
+    let stacks = history.stacks()?;
+    Ok(
+        stacks.len() == wanted.len()
+            && stacks
+                .iter()
+                .zip(wanted)
+                .all(|(a, b)| a.0 == b.0 && a.1.as_slice() == b.1),
+    )
+}
+
+// The stacks 5: 0; 6: 0 1; 7: 0 2, made from the start at 5 by two steps.
+fn three_states(alloc: Global) -> Result<History, Fail> {
+    let one = letter(alloc, &[along(5, 5, false), along(5, 6, true)])?;
+    let two = letter(
+        alloc,
+        &[along(5, 5, false), along(6, 6, false), along(5, 7, true)],
+    )?;
+    let (history, _) = History::start(alloc, 5)?.step(&one)?;
+    Ok(history.step(&two)?.0)
+}
+
+#[test]
+fn start_has_one_name(rt: HostRuntime) -> Result<(), Fail> {
+    let start = History::start(rt.alloc(), 5)?;
+    assert!(rt; is(&start, &[(5, &[0])])? && start.live() == 1);
+    Ok(())
+}
+
+#[test]
+fn no_transition_loses_all(rt: HostRuntime) -> Result<(), Fail> {
+    let start = History::start(rt.alloc(), 0)?;
+    let (history, mark) = start.step(&letter(rt.alloc(), &[])?)?;
+    assert!(rt; is(&history, &[])? && history.live() == 0 && mark == Mark::Red(0));
     Ok(())
 }
 
 #[test]
 fn accepting_loop_is_green(rt: HostRuntime) -> Result<(), Fail> {
-    let alloc = rt.alloc();
-    let before = start(alloc)?;
-    let next = step(&before, &letter(alloc, &[along(0, 0, true)])?)?;
-    assert!(rt; next.is_some_and(|next| next.0.flat == before.flat && next.1 == Mark::Green(0)));
+    let start = History::start(rt.alloc(), 0)?;
+    let (history, mark) = start.step(&letter(rt.alloc(), &[along(0, 0, true)])?)?;
+    assert!(rt; history == start && mark == Mark::Green(0));
     Ok(())
 }
 
 #[test]
-fn histories_step_alike(rt: HostRuntime) -> Result<(), Fail> {
-    assert_eq!(rt; first_step_apart(rt.alloc(), 200)?, None);
+fn lost_name_renumbers(rt: HostRuntime) -> Result<(), Fail> {
+    let three = three_states(rt.alloc())?;
+    let (history, mark) = three.step(&letter(
+        rt.alloc(),
+        &[along(5, 5, false), along(7, 7, false)],
+    )?)?;
+    let copy = history.copy()?;
+    assert!(rt; is(&copy, &[(5, &[0]), (7, &[0, 1])])? && copy == history && mark == Mark::Red(1));
+    Ok(())
+}
+
+#[test]
+fn older_name_wins(rt: HostRuntime) -> Result<(), Fail> {
+    let three = three_states(rt.alloc())?;
+    let transitions = [along(5, 5, false), along(6, 8, false), along(7, 8, false)];
+    let (history, mark) = three.step(&letter(rt.alloc(), &transitions)?)?;
+    assert!(rt; is(&history, &[(5, &[0]), (8, &[0, 1])])? && mark == Mark::Red(2));
+    Ok(())
+}
+
+#[test]
+fn lower_state_comes_first(rt: HostRuntime) -> Result<(), Fail> {
+    let low = History::start(rt.alloc(), 5)?;
+    let high = History::start(rt.alloc(), 7)?;
+    assert!(rt; low.cmp(&high) == Ordering::Less && low != high);
     Ok(())
 }
