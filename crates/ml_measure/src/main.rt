@@ -10,6 +10,7 @@
 
 mod counts;
 mod failure;
+mod forms;
 mod measure;
 
 use crate::failure::Failure;

@@ -2,7 +2,9 @@
 
 use crate::counts::{highest, read_game, read_graph, read_letter, won_by_even};
 use crate::failure::Failure;
+use crate::forms::Form;
 use ml_history::History;
+use ml_history::tree::TreeHistory;
 use ml_parity::{Game, OneSided, heights, solve};
 use ml_tests::{
     Numbers, chain, deep_letter, ladder, random_blocks, random_game, random_letter, slow_row,
@@ -20,10 +22,16 @@ pub enum Measurement {
     Games,
     /// Solving a game of so many vertices that is deep.
     Ladder,
-    /// A hundred steps of a history along random letters over so many states, with ten transitions a state.
+    /// A hundred steps of a history along random letters over so many states, with ten transitions a state; as flat
+    /// arrays, and as trees.
     Histories,
+    Trees,
     /// So many steps of a history, of which each makes the longest stack longer by one.
     Deep,
+    DeepTrees,
+    /// So many steps of the usual size in a game, of ten states along random letters of thirty transitions.
+    Usual,
+    UsualTrees,
     /// Heights of a chain of so many arcs.
     Chain,
     /// Heights of a random graph of so many vertices, as many arcs and 16 even priorities.
@@ -42,7 +50,11 @@ impl Measurement {
             "games" => Some(Measurement::Games),
             "ladder" => Some(Measurement::Ladder),
             "histories" => Some(Measurement::Histories),
+            "trees" => Some(Measurement::Trees),
             "deep" => Some(Measurement::Deep),
+            "deep-trees" => Some(Measurement::DeepTrees),
+            "usual" => Some(Measurement::Usual),
+            "usual-trees" => Some(Measurement::UsualTrees),
             "chain" => Some(Measurement::Chain),
             "blocks" => Some(Measurement::Blocks),
             "row" => Some(Measurement::Row),
@@ -131,31 +143,31 @@ struct Steps {
 }
 
 /// Steps along a letter.
-fn step_along<R: Clock>(
+fn step_along<R: Clock, F: Form + Drop>(
     rt: &R,
-    history: &History,
+    history: &F,
     letter: &Letter,
     steps: &mut Steps,
-) -> Result<History, Failure> {
+) -> Result<F, Failure> {
     let start = Instant::now(rt)?;
     steps.sum = steps.sum.wrapping_add(read_letter(letter));
     steps.read = steps.read.saturating_add(start.elapsed(rt)?);
     let start = Instant::now(rt)?;
-    let (next, _) = history.step(letter)?;
+    let next = history.next(letter)?;
     steps.work = steps.work.saturating_add(start.elapsed(rt)?);
     Ok(next)
 }
 
 /// Prints what the steps led to.
-fn print_steps<R: Print>(
+fn print_steps<R: Print, F: Form + Drop>(
     rt: &R,
-    history: &History,
+    history: &F,
     steps: Steps,
     is_timed: bool,
 ) -> Result<(), Failure> {
     let sum = steps.sum;
-    let states = history.stacks()?.len();
-    let names = history.live();
+    let states = history.states()?;
+    let names = history.names();
     println!(rt; "letters of sum {sum}: {states} states with {names} names")?;
     print_time(rt, is_timed, steps.read, steps.work)
 }
@@ -166,32 +178,41 @@ const NO_STEPS: Steps = Steps {
     sum: 0,
 };
 
-/// A hundred steps along random letters over so many states.
-fn step_histories<R: Print + Clock + AllocGlobal>(
+/// So many steps along random letters over so many states, with so many transitions a state.
+fn step_random<R: Print + Clock + AllocGlobal, F: Form + Drop>(
     rt: &R,
-    size: u32,
+    start: F,
+    count: u32,
+    states: u32,
+    transitions: u64,
     is_timed: bool,
 ) -> Result<(), Failure> {
-    let states = size.max(1);
+    let states = states.max(1);
     let mut numbers = Numbers::new(1);
     let mut steps = NO_STEPS;
-    let mut history = History::start(rt.alloc(), 0)?;
-    for _ in 0..100 {
-        let letter = random_letter(rt.alloc(), &mut numbers, states, states as u64 * 10)?;
+    let mut history = start;
+    for _ in 0..count {
+        let letter = random_letter(
+            rt.alloc(),
+            &mut numbers,
+            states,
+            states as u64 * transitions,
+        )?;
         history = step_along(rt, &history, &letter, &mut steps)?;
     }
     print_steps(rt, &history, steps, is_timed)
 }
 
 /// So many steps along the letter that makes stacks longer.
-fn step_deeper<R: Print + Clock + AllocGlobal>(
+fn step_deeper<R: Print + Clock + AllocGlobal, F: Form + Drop>(
     rt: &R,
+    start: F,
     size: u32,
     is_timed: bool,
 ) -> Result<(), Failure> {
     let letter = deep_letter(rt.alloc(), size)?;
     let mut steps = NO_STEPS;
-    let mut history = History::start(rt.alloc(), 0)?;
+    let mut history = start;
     for _ in 0..size {
         history = step_along(rt, &history, &letter, &mut steps)?;
     }
@@ -213,8 +234,18 @@ pub(crate) fn measure<R: Print + Clock + AllocGlobal>(
             solve_game(rt, &game, is_timed)
         }
         Measurement::Ladder => solve_game(rt, &ladder(alloc, size)?, is_timed),
-        Measurement::Histories => step_histories(rt, size, is_timed),
-        Measurement::Deep => step_deeper(rt, size, is_timed),
+        Measurement::Histories => {
+            step_random(rt, History::start(alloc, 0)?, 100, size, 10, is_timed)
+        }
+        Measurement::Trees => {
+            step_random(rt, TreeHistory::start(alloc, 0)?, 100, size, 10, is_timed)
+        }
+        Measurement::Deep => step_deeper(rt, History::start(alloc, 0)?, size, is_timed),
+        Measurement::DeepTrees => step_deeper(rt, TreeHistory::start(alloc, 0)?, size, is_timed),
+        Measurement::Usual => { step_random(rt, History::start(alloc, 0)?, size, 10, 3, is_timed) }
+        Measurement::UsualTrees => {
+            step_random(rt, TreeHistory::start(alloc, 0)?, size, 10, 3, is_timed)
+        }
         Measurement::Chain => count_heights(rt, &chain(alloc, size as u64)?, is_timed),
         Measurement::Blocks => {
             let arcs = size as u64;
@@ -236,7 +267,11 @@ pub(crate) fn measure_small<R: Print + Clock + AllocGlobal>(rt: &R) -> Result<()
         (Measurement::Games, 1000),
         (Measurement::Ladder, 1000),
         (Measurement::Histories, 100),
+        (Measurement::Trees, 100),
         (Measurement::Deep, 100),
+        (Measurement::DeepTrees, 100),
+        (Measurement::Usual, 100),
+        (Measurement::UsualTrees, 100),
         (Measurement::Chain, 1000),
         (Measurement::Blocks, 1000),
         (Measurement::Row, 100),

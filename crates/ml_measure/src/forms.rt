@@ -1,0 +1,48 @@
+// The forms of histories that are measured.
+
+use crate::failure::Failure;
+use ml_history::History;
+use ml_history::tree::TreeHistory;
+use ml_trace::Letter;
+
+/// A form in which a program holds a history.
+pub trait Form: Sized {
+    /// The history after the step along the letter.
+    fn next(&self, letter: &Letter) -> Result<Self, Failure>;
+
+    /// The number of its states.
+    fn states(&self) -> Result<usize, Failure>;
+
+    /// The number of names in use.
+    fn names(&self) -> u32;
+}
+
+impl Form for History {
+    fn next(&self, letter: &Letter) -> Result<History, Failure> {
+        let (next, _) = self.step(letter)?;
+        Ok(next)
+    }
+
+    fn states(&self) -> Result<usize, Failure> {
+        Ok(self.stacks()?.len())
+    }
+
+    fn names(&self) -> u32 {
+        self.live()
+    }
+}
+
+impl Form for TreeHistory {
+    fn next(&self, letter: &Letter) -> Result<TreeHistory, Failure> {
+        let (next, _) = self.step(letter)?;
+        Ok(next)
+    }
+
+    fn states(&self) -> Result<usize, Failure> {
+        Ok(self.stacks()?.len())
+    }
+
+    fn names(&self) -> u32 {
+        self.live()
+    }
+}
