@@ -1,4 +1,4 @@
--- Which words are propositions and actions of propositional dynamic logic.
+-- Which words are propositions of propositional dynamic logic.
 --
 -- A word is a letter with the letters, digits and `_` behind it. The words of the constants are reserved: they are no
 -- names.
@@ -6,10 +6,9 @@
 --   is_reserved name     == is it tt, true, ff or false?
 --   is_word_from t name  == is it a word whose first letter passes the test t?
 --   is_proposition name  == a word that begins with a lower-case letter and isn't reserved
---   is_action name       == a word that isn't reserved, or `_`
-use Rattle.std.specs.Prelude.{ℕ, Bool, false, ◌&&◌, ◌||◌, not, List, [], ◌∷◌, codes, bytes_eq}
+use Rattle.std.specs.Prelude.{ℕ, Bool, false, ◌&&◌, not, List, [], ◌∷◌, codes, bytes_eq}
 use Rattle.std.specs.List.{list_any, list_all}
-use Rattle.ml_text.specs.Bytes.{is_lower, is_letter, is_word_byte}
+use Rattle.ml_text.specs.Bytes.{is_lower, is_word_byte}
 
 abbrev pub reserved : List (List ℕ)
 reserved = codes "tt" ∷ codes "true" ∷ codes "ff" ∷ codes "false" ∷ []
@@ -23,6 +22,3 @@ is_word_from begins (b ∷ rest) = begins b && list_all is_word_byte rest
 
 abbrev pub is_proposition : List ℕ → Bool
 is_proposition name = is_word_from is_lower name && not (is_reserved name)
-
-abbrev pub is_action : List ℕ → Bool
-is_action name = bytes_eq name (codes "_") || (is_word_from is_letter name && not (is_reserved name))

@@ -1,6 +1,6 @@
 -- The grammar of PDL texts as tables, for the machine of `ml_text`: the forms of operands, and the operators.
 --
--- Private contracts and proofs cite this. That these tables are the grammar of `Grammar.antt` is proved.
+-- Nobody has to believe them: the law `texts_are_those_of_the_tables` says that they are the grammar of `Grammar.antt`.
 --
 -- Formulas and programs are two sorts, whose trees are one type. A lower-case name where a program is to come is a tree
 -- by itself: the sign `?` behind it makes it the test of a proposition, and without that sign it is an action. No other
