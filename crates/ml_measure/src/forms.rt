@@ -6,7 +6,7 @@ use ml_history::tree::TreeHistory;
 use ml_trace::Letter;
 
 /// A form in which a program holds a history.
-pub trait Form: Sized {
+pub(crate) trait Form: Sized {
     /// The history after the step along the letter.
     fn next(&self, letter: &Letter) -> Result<Self, Failure>;
 
