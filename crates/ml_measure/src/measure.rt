@@ -178,7 +178,7 @@ const NO_STEPS: Steps = Steps {
     sum: 0,
 };
 
-/// So many steps along random letters over so many states, with so many transitions a state.
+/// So many steps along random letters over so many states, with so many transitions each.
 fn step_random<R: Print + Clock + AllocGlobal, F: Form + Drop>(
     rt: &R,
     start: F,
@@ -192,12 +192,7 @@ fn step_random<R: Print + Clock + AllocGlobal, F: Form + Drop>(
     let mut steps = NO_STEPS;
     let mut history = start;
     for _ in 0..count {
-        let letter = random_letter(
-            rt.alloc(),
-            &mut numbers,
-            states,
-            states as u64 * transitions,
-        )?;
+        let letter = random_letter(rt.alloc(), &mut numbers, states, transitions)?;
         history = step_along(rt, &history, &letter, &mut steps)?;
     }
     print_steps(rt, &history, steps, is_timed)
@@ -235,16 +230,30 @@ pub(crate) fn measure<R: Print + Clock + AllocGlobal>(
         }
         Measurement::Ladder => solve_game(rt, &ladder(alloc, size)?, is_timed),
         Measurement::Histories => {
-            step_random(rt, History::start(alloc, 0)?, 100, size, 10, is_timed)
+            step_random(
+                rt,
+                History::start(alloc, 0)?,
+                100,
+                size,
+                size as u64 * 10,
+                is_timed,
+            )
         }
         Measurement::Trees => {
-            step_random(rt, TreeHistory::start(alloc, 0)?, 100, size, 10, is_timed)
+            step_random(
+                rt,
+                TreeHistory::start(alloc, 0)?,
+                100,
+                size,
+                size as u64 * 10,
+                is_timed,
+            )
         }
         Measurement::Deep => step_deeper(rt, History::start(alloc, 0)?, size, is_timed),
         Measurement::DeepTrees => step_deeper(rt, TreeHistory::start(alloc, 0)?, size, is_timed),
-        Measurement::Usual => { step_random(rt, History::start(alloc, 0)?, size, 10, 3, is_timed) }
+        Measurement::Usual => { step_random(rt, History::start(alloc, 0)?, size, 10, 30, is_timed) }
         Measurement::UsualTrees => {
-            step_random(rt, TreeHistory::start(alloc, 0)?, size, 10, 3, is_timed)
+            step_random(rt, TreeHistory::start(alloc, 0)?, size, 10, 30, is_timed)
         }
         Measurement::Chain => count_heights(rt, &chain(alloc, size as u64)?, is_timed),
         Measurement::Blocks => {
