@@ -1,0 +1,4 @@
+-- refutations as plain data
+pub mod Refutation
+-- the plain refutation that one of the program stands for
+pub mod Views
