@@ -6,3 +6,5 @@ pub mod Views
 pub mod GoStep
 -- what a refutation asks of a graph: the rules of acceptance
 pub mod Acceptance
+-- what the types of the program need
+pub mod private
