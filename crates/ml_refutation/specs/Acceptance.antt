@@ -24,7 +24,7 @@
 --   rules r e part        == what a part of entry e asks of a graph
 --   IsAccepted g r        == each part of each entry of r keeps its rules, in g
 --   IsFirstBad g r e k n  == part k of entry e is the first one that breaks a rule, and n is the lowest one that it breaks
-use Rattle.std.specs.Prelude.{ℕ, ◌+◌, ◌*◌, ◌≡◌, ◌<◌, true, List, [], ◌∷◌, ◌++◌, length, get_or, map, All}
+use Rattle.std.specs.Prelude.{ℕ, ◌*◌, ◌≡◌, ◌<◌, true, List, [], ◌∷◌, ◌++◌, length, get_or, map, All}
 use Rattle.ml_lists.specs.Documents.{Rule, rule, KeepsAll, IsFirstBroken}
 use Rattle.ml_lists.specs.Member.{IsMember}
 use Rattle.ml_parity.specs.Heights.{FallsAlong}
@@ -73,7 +73,7 @@ pub data Part : Type 0 where
   Decided : Branch → Part
 
 abbrev pub parts : Entry → List Part
-parts e = Sequent ∷ (Live ∷ (map Item e.traces.items ++ map Decided (branches [] e.decision)))
+parts e = Sequent ∷ Live ∷ map Item e.traces.items ++ map Decided (branches [] e.decision)
 
 -- ---- what they ask of a graph
 
@@ -121,10 +121,10 @@ branch_rules r e c (Split n left right) = rule 5 (SplitsOpenOr (entry_at r e).se
 branch_rules r e c (Clash x) = rule 6 (Clashes (entry_at r e).sequent c x) ∷ []
 branch_rules r e c (Go d f m) =
     rule 7 (LeavesByDiamond (entry_at r e).sequent c d)
-    ∷ (rule 8 (LeadsWithinTargets (entry_at r e).sequent c d (entry_at r f).sequent)
-      ∷ (rule 9 (TracesNames (entry_at r e) c d (entry_at r f) m)
-        ∷ (rule 10 (λ g. HeightsFall r e f m)
-          ∷ [])))
+    ∷ rule 8 (LeadsWithinTargets (entry_at r e).sequent c d (entry_at r f).sequent)
+    ∷ rule 9 (TracesNames (entry_at r e) c d (entry_at r f) m)
+    ∷ rule 10 (λ g. HeightsFall r e f m)
+    ∷ []
 
 abbrev pub rules : Refutation → ℕ → Part → List (Rule Graph)
 rules r e Sequent = rule 2 (IsWellStarted r e) ∷ []

@@ -1,2 +1,0 @@
--- what an accepted refutation tells
-pub mod Soundness
