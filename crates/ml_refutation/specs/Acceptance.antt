@@ -49,7 +49,7 @@ use Rattle.ml_refutation.specs.GoStep.{HasTransition}
 -- ---- parts
 
 -- past the last entry, where nobody asks: no nodes
-abbrev no_entry : Entry
+abbrev pub no_entry : Entry
 no_entry = record { sequent = []; traces = record { live = 0; items = [] }; heights = []; decision = Clash (cause.False 0) }
 
 abbrev pub entry_at : Refutation → ℕ → Entry
