@@ -36,8 +36,8 @@ use Rattle.ml_sequent.specs.Step.{LeadsOut, IsTarget}
 use Rattle.ml_refutation.specs.Refutation.{Refutation, IsRefutation, IsEntry, Decision, Split, Clash, Go, IsDecided, IsMarkOf}
 use Rattle.ml_refutation.specs.GoStep.{GoStep, HasTransition}
 use Rattle.ml_refutation.specs.Acceptance.{entry_at, no_entry, Branch, branches, Decided, rules, OfSpread, Item, IsAccepted, HeightsFall}
-use Rattle.ml_refute_check.proofs.Choosing.{side_with}
-use Rattle.ml_refute_check.proofs.FollowedWalks.{won_behind}
+use Rattle.ml_sequent.proofs.ChoicesWith.{side_with}
+use Rattle.ml_parity.proofs.FollowedWalks.{won_behind}
 use Rattle.ml_refute_check.proofs.Positions.{vertex, Move, Walk, IsWon, takes, free_move, Agrees, walk_to, won_spread, no_clash}
 
 module _ (g : Graph) (m : Structure) (g_ok : IsGraph g) (m_ok : IsStructure m) (strategy : ℕ → ℕ)

@@ -30,7 +30,7 @@ use Rattle.ml_trace.proofs.Runs.{accepting-is_run}
 use Rattle.ml_graph.specs.Graph.{Graph, IsGraph, odd_priorities}
 use Rattle.ml_graph.specs.CheckingGame.{checking_game}
 use Rattle.ml_refutation.specs.GoStep.{GoStep, HasTransition}
-use Rattle.ml_refute_check.proofs.FollowedWalks.{walks_joined, closed_walk_good, odd_is_not_even}
+use Rattle.ml_parity.proofs.FollowedWalks.{walks_joined, closed_walk_good, odd_is_not_even}
 use Rattle.ml_refute_check.proofs.Positions.{vertex, Walk, IsWon}
 use Rattle.ml_refute_check.proofs.Descent.{Plays}
 

@@ -1,7 +1,3 @@
--- walks in a parity game that follow a strategy
-pub mod FollowedWalks
--- a choice with one side more
-pub mod Choosing
 -- local walks as walks of the checking game
 pub mod Positions
 -- down the decision of an entry
@@ -10,3 +6,7 @@ pub mod Descent
 pub mod GuessedRuns
 -- round entries and states
 pub mod EntryLoops
+-- refutations that were worked out by hand
+pub mod WorkedRefutations
+-- one first bad part at most
+pub mod OneFault

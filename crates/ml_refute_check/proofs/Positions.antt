@@ -37,7 +37,7 @@ use Rattle.ml_sequent.specs.Choice.{side_of, chosen}
 use Rattle.ml_sequent.specs.LocalWalk.{LocalWalk, stays, goes, InSpread, children, children_of, chosen_child}
 use Rattle.ml_sequent.specs.Spread.{SpreadList, IsCause, IsOddCycle}
 use Rattle.ml_sequent.proofs.LocalWalks.{end_low}
-use Rattle.ml_refute_check.proofs.FollowedWalks.{FollowedMove, FollowedWalk, last, before, won_behind, closed_walk_good, odd_is_not_even}
+use Rattle.ml_parity.proofs.FollowedWalks.{FollowedMove, FollowedWalk, last, before, won_behind, closed_walk_good, odd_is_not_even}
 
 module _ (g : Graph) (m : Structure) (g_ok : IsGraph g) (m_ok : IsStructure m) (strategy : ℕ → ℕ)
     (is_strategy : IsStrategyOf (checking_game g m) Even strategy) where
