@@ -5,12 +5,14 @@
 // Begin with `Name::new`, `read_all` and `write_all`. `MemSource` and `MemSink` stand in memory, for tests;
 // `StdSource` and `StdSink` stand on std's readers and writers, and tell nothing of the bytes.
 //
-// An `IdSet` is a finite set of numbers, as they name states, nodes and propositions.
+// An `IdSet` is a finite set of numbers, as they name states, nodes and propositions. `Version`, `DocFault` and
+// `DocRefusal` are of documents, `ParseRefusal` of formulas: in which words they are written, and why they are refused.
 //
 // Below stands `ml_lists`, general mathematics. Whatever speaks of names, or reads and writes, stands above.
 #![tactic(auto)]
 
 mod doc_fault;
+mod doc_refusal;
 mod id_set;
 pub mod laws;
 pub mod memory;
@@ -24,9 +26,11 @@ pub mod streams;
 mod structure;
 #[cfg(test)]
 mod tests;
+mod version;
 pub mod whole;
 
 pub use doc_fault::DocFault;
+pub use doc_refusal::DocRefusal;
 pub use id_set::IdSet;
 pub use memory::{MemSink, MemSource};
 pub use name::{Action, LONGEST_NAME, Name, NameRefusal};
@@ -36,4 +40,5 @@ pub use sink::Sink;
 pub use source::{Failed, Source};
 pub use streams::{StdSink, StdSource};
 pub use structure::Edge;
+pub use version::Version;
 pub use whole::{ReadRefusal, WriteRefusal, read_all, write_all};

@@ -4,7 +4,7 @@ use Rattle.ml_graph.specs.Graph.{node_at, size}
 use Rattle.ml_graph.specs.CheckingGame.{successors_of, pairs_or_sink}
 use Rattle.ml_graph.proofs.References.{prop_in_range, diamond_action, square_action}
 use Rattle.ml_graph.proofs.Making.{modal_moves, sink_number}
-use Rattle.ml_graph.proofs.checking.Lookup.moves.Goals as goal
+use Rattle.ml_graph.proofs.checking.moves_from.Goals as goal
 
 pub is_true-requires-clause-prop : goal.is_true-requires-clause-prop
 is_true-requires-clause-prop c =
