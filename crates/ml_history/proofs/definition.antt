@@ -28,3 +28,5 @@ pub mod StepKeeps
 pub mod WorkedSteps
 -- letters stand for sets
 pub mod LetterSets
+-- which states have a stack behind a step
+pub mod SteppedStates

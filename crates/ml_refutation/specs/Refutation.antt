@@ -27,7 +27,7 @@ use Rattle.ml_trace.specs.declared.marks.Mark.TheVariants.{Red, Green, Neutral}
 use Rattle.ml_trace.specs.Stack as traced
 use Rattle.ml_sequent.specs.declared.clashes.ClashCause.{ClashCause}
 use Rattle.ml_sequent.specs.declared.clashes.ClashCause.TheVariants as cause
-use Rattle.ml_refutation.specs.declared.TheConstants.{NESTING_LIMIT}
+use Rattle.ml_refutation.specs.declared.refutation.TheConstants.{NESTING_LIMIT}
 
 pub data Decision : Type 0 where
   Split : ℕ → Decision → Decision → Decision

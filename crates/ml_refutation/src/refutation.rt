@@ -1,6 +1,7 @@
 // Refutations: why no structure meets a graph, entry by entry.
 ghost use Rattle.ml_refutation.specs.Refutation.{IsRefutation};
 ghost use Rattle.ml_refutation.specs.Views.{of_parts};
+ghost use Rattle.ml_refutation.specs.private.Propositions.{prop_refutation};
 
 /// How deep splits may be nested in a decision.
 pub const NESTING_LIMIT: u32 = 4096;
@@ -69,7 +70,7 @@ pub struct Entry {
 pub struct Refutation {
     pub names: u32,
     pub entries: Vec<Entry>,
-    pub ghost is_refutation: { IsRefutation (of_parts names entries) },
+    pub ghost is_refutation: { IsRefutation (of_parts names entries) } by { prop_refutation (of_parts names entries) },
 }
 
 impl Refutation {
