@@ -11,6 +11,7 @@
 --   no_clash_refused                  == the third one isn't
 use Rattle.std.proofs.Common.{ℕ, zero, suc, ◌≡◌, ◌*◌, ◌<◌, ◌≤◌, ◌%◌, ◌/◌, ◌==◌, inl, inr, Bool, true, false, List, [], ◌∷◌, Option, Some, None, refl, sym, subst, arith}
 use Rattle.std.proofs.lemmas.Bool.Decides.{nat_tests}
+use Rattle.ml_lists.specs.Ascending.{IsAscending}
 use Rattle.ml_lists.specs.Member.{IsMember}
 use Rattle.ml_lists.specs.Documents.{KeepsAll}
 use Rattle.ml_lists.proofs.Member.{member-All, Passing, list_any-member}
@@ -18,6 +19,7 @@ use Rattle.ml_parity.specs.Heights.{height_of}
 use Rattle.ml_trace.specs.declared.letters.AutomatonState.{AutomatonState}
 use Rattle.ml_trace.specs.declared.marks.Mark.{Mark}
 use Rattle.ml_trace.specs.declared.marks.Mark.TheVariants.{Green, Neutral}
+use Rattle.ml_trace.specs.Automaton.{Leads}
 use Rattle.ml_trace.specs.NamesCondition.{NamesCondition, Predecessor, Progress}
 use Rattle.ml_trace.specs.Stack as traced
 use Rattle.ml_graph.specs.declared.node.Node.TheVariants as node
@@ -83,7 +85,7 @@ variable_walk = goes 4 0 (inl refl) binder_walk
 is_binder_spread : IsSpreadOf least_loop (0 ∷ []) [] binder_spread
 is_binder_spread = record { choice = refl; ascends = ascends; low = low; nodes = λ n. (there n, back n) }
   where
-    ascends : Rattle.ml_lists.specs.Ascending.IsAscending (0 ∷ 2 ∷ [])
+    ascends : IsAscending (0 ∷ 2 ∷ [])
     ascends = ((λ y h. first y h), ((λ y h. absurd h), tt))
       where
         first : (y : ℕ) → IsMember y (2 ∷ []) → 0 < y
@@ -96,8 +98,10 @@ is_binder_spread = record { choice = refl; ascends = ascends; low = low; nodes =
     low n (inr (inr h)) = absurd h
 
     there : (n : ℕ) → IsMember n (0 ∷ 2 ∷ []) → InSpread least_loop [] (0 ∷ []) n
-    there n (inl e) = subst (InSpread least_loop [] (0 ∷ [])) (sym e) (record { from = 0; member = inl refl; lowest = 1; walk = stays 0 })
-    there n (inr (inl e)) = subst (InSpread least_loop [] (0 ∷ [])) (sym e) (record { from = 0; member = inl refl; lowest = 1; walk = binder_walk })
+    there n (inl e) = subst (InSpread least_loop [] (0 ∷ [])) (sym e)
+        (record { from = 0; member = inl refl; lowest = 1; walk = stays 0 })
+    there n (inr (inl e)) = subst (InSpread least_loop [] (0 ∷ [])) (sym e)
+        (record { from = 0; member = inl refl; lowest = 1; walk = binder_walk })
     there n (inr (inr h)) = absurd h
 
     closed : (n next : ℕ)
@@ -110,7 +114,8 @@ is_binder_spread = record { choice = refl; ascends = ascends; low = low; nodes =
         at_binder (inl i) = inr (inl i)
         at_binder (inr (inl i)) = inr (inl i)
         at_binder (inr (inr i)) = absurd i
-    closed n next (inr (inl e)) h = absurd (let none : ⊥ = subst (λ k. IsMember next (children least_loop [] k)) e h in none)
+    closed n next (inr (inl e)) h = absurd (let none : ⊥ = subst
+        (λ k. IsMember next (children least_loop [] k)) e h in none)
     closed n next (inr (inr h)) i = absurd h
 
     back : (n : ℕ) → InSpread least_loop [] (0 ∷ []) n → IsMember n (0 ∷ 2 ∷ [])
@@ -123,7 +128,7 @@ is_binder_spread = record { choice = refl; ascends = ascends; low = low; nodes =
 is_variable_spread : IsSpreadOf least_loop (4 ∷ []) [] variable_spread
 is_variable_spread = record { choice = refl; ascends = ascends; low = low; nodes = λ n. (there n, back n) }
   where
-    ascends : Rattle.ml_lists.specs.Ascending.IsAscending (0 ∷ 2 ∷ 4 ∷ [])
+    ascends : IsAscending (0 ∷ 2 ∷ 4 ∷ [])
     ascends = ((λ y h. first y h), ((λ y h. second y h), ((λ y h. absurd h), tt)))
       where
         first : (y : ℕ) → IsMember y (2 ∷ 4 ∷ []) → 0 < y
@@ -142,9 +147,12 @@ is_variable_spread = record { choice = refl; ascends = ascends; low = low; nodes
     low n (inr (inr (inr h))) = absurd h
 
     there : (n : ℕ) → IsMember n (0 ∷ 2 ∷ 4 ∷ []) → InSpread least_loop [] (4 ∷ []) n
-    there n (inl e) = subst (InSpread least_loop [] (4 ∷ [])) (sym e) (record { from = 4; member = inl refl; lowest = 1; walk = goes 4 0 (inl refl) (stays 0) })
-    there n (inr (inl e)) = subst (InSpread least_loop [] (4 ∷ [])) (sym e) (record { from = 4; member = inl refl; lowest = 1; walk = variable_walk })
-    there n (inr (inr (inl e))) = subst (InSpread least_loop [] (4 ∷ [])) (sym e) (record { from = 4; member = inl refl; lowest = 2; walk = stays 4 })
+    there n (inl e) = subst (InSpread least_loop [] (4 ∷ [])) (sym e)
+        (record { from = 4; member = inl refl; lowest = 1; walk = goes 4 0 (inl refl) (stays 0) })
+    there n (inr (inl e)) = subst (InSpread least_loop [] (4 ∷ [])) (sym e)
+        (record { from = 4; member = inl refl; lowest = 1; walk = variable_walk })
+    there n (inr (inr (inl e))) = subst (InSpread least_loop [] (4 ∷ [])) (sym e)
+        (record { from = 4; member = inl refl; lowest = 2; walk = stays 4 })
     there n (inr (inr (inr h))) = absurd h
 
     closed : (n next : ℕ)
@@ -157,7 +165,8 @@ is_variable_spread = record { choice = refl; ascends = ascends; low = low; nodes
         at_binder (inl i) = inr (inl i)
         at_binder (inr (inl i)) = inr (inl i)
         at_binder (inr (inr i)) = absurd i
-    closed n next (inr (inl e)) h = absurd (let none : ⊥ = subst (λ k. IsMember next (children least_loop [] k)) e h in none)
+    closed n next (inr (inl e)) h = absurd (let none : ⊥ = subst
+        (λ k. IsMember next (children least_loop [] k)) e h in none)
     closed n next (inr (inr (inl e))) h = at_variable (subst (λ k. IsMember next (children least_loop [] k)) e h)
       where
         at_variable : IsMember next (0 ∷ 0 ∷ []) → IsMember next (0 ∷ 2 ∷ 4 ∷ [])
@@ -175,7 +184,8 @@ is_variable_spread = record { choice = refl; ascends = ascends; low = low; nodes
 
 -- along the diamond the variable is reached
 target : (sp : SpreadList) (n : ℕ) → IsMember n (4 ∷ []) → IsTarget least_loop sp 2 n
-target sp n (inl e) = subst (IsTarget least_loop sp 2) (sym e) (record { leaving = 2; leads = record { action = 0; child = 4; is_diamond = refl; leaves = inl (refl, refl) } })
+target sp n (inl e) = subst (IsTarget least_loop sp 2) (sym e)
+    (record { leaving = 2; leads = record { action = 0; child = 4; is_diamond = refl; leaves = inl (refl, refl) } })
 target sp n (inr h) = absurd h
 
 abbrev binder_step : GoStep
@@ -185,7 +195,7 @@ abbrev variable_step : GoStep
 variable_step = record { sequent = 4 ∷ []; spread = variable_spread; diamond = 2; next = 4 ∷ [] }
 
 -- the transitions that are traced: no guess is made yet, one is made, and one is kept and met
-from_binder : (odd : Option ℕ) → (Rattle.ml_trace.specs.Automaton.Leads (1 ∷ []) 1 None odd false)
+from_binder : (odd : Option ℕ) → (Leads (1 ∷ []) 1 None odd false)
     → HasTransition least_loop binder_step (record { node = 0; odd = None }) (record { node = 4; odd = odd }) false
 from_binder odd leads = record {
   trace = record { from = 0; lowest = 1; to = 4 };
@@ -197,8 +207,9 @@ from_binder odd leads = record {
 }
 
 from_variable : (before behind : Option ℕ) (accepting : Bool)
-    → (Rattle.ml_trace.specs.Automaton.Leads (1 ∷ []) 1 before behind accepting)
-    → HasTransition least_loop variable_step (record { node = 4; odd = before }) (record { node = 4; odd = behind }) accepting
+    → (Leads (1 ∷ []) 1 before behind accepting)
+    → HasTransition least_loop variable_step (record { node = 4; odd = before })
+    (record { node = 4; odd = behind }) accepting
 from_variable before behind accepting leads = record {
   trace = record { from = 4; lowest = 1; to = 4 };
   is_trace = record { from = inl refl; leaving = 2; walk = variable_walk; leads = record { action = 0; child = 4; is_diamond = refl; leaves = inl (refl, refl) } };
@@ -237,9 +248,16 @@ first_step = record {
 }
   where
     from_item : (odd : Option ℕ)
-        → (Rattle.ml_trace.specs.Automaton.Leads (1 ∷ []) 1 None odd false)
+        → (Leads (1 ∷ []) 1 None odd false)
         → Predecessor (HasTransition least_loop) binder_step traces_first 0 (item 4 odd (0 ∷ []))
-    from_item odd leads = record { item = item 0 None (0 ∷ []); accepting = false; member = inl refl; named = refl; transition = from_binder odd leads }
+    from_item odd leads = record {
+      item = item 0 None
+          (0 ∷ []);
+      accepting = false;
+      member = inl refl;
+      named = refl;
+      transition = from_binder odd leads;
+    }
 
     traced_back : (y : ℕ)
         → y < 1
@@ -247,8 +265,11 @@ first_step = record {
         → IsMember a traces_second.items
         → traced.has y a.stack ≡ true
         → Predecessor (HasTransition least_loop) binder_step traces_first y a
-    traced_back zero low a (inl e) named = subst (Predecessor (HasTransition least_loop) binder_step traces_first 0) (sym e) (from_item None refl)
-    traced_back zero low a (inr (inl e)) named = subst (Predecessor (HasTransition least_loop) binder_step traces_first 0) (sym e) (from_item (Some 1) (inl refl, refl))
+    traced_back zero low a (inl e) named = subst (Predecessor (HasTransition least_loop) binder_step traces_first 0)
+        (sym e) (from_item None refl)
+    traced_back zero low a (inr (inl e)) named = subst
+        (Predecessor (HasTransition least_loop) binder_step traces_first 0) (sym e)
+        (from_item (Some 1) (inl refl, refl))
     traced_back zero low a (inr (inr h)) named = absurd h
     traced_back (suc y) low a h named = absurd (omega arith)
 
@@ -258,8 +279,10 @@ first_step = record {
         → IsMember a traces_second.items
         → traced.IsAdvanced y a.stack
         → Progress (HasTransition least_loop) binder_step traces_first y a
-    advanced_back y low a (inl e) adv = absurd (not_advanced y (subst (λ (b : traced.Item AutomatonState). traced.IsAdvanced y b.stack) e adv))
-    advanced_back y low a (inr (inl e)) adv = absurd (not_advanced y (subst (λ (b : traced.Item AutomatonState). traced.IsAdvanced y b.stack) e adv))
+    advanced_back y low a (inl e) adv = absurd
+        (not_advanced y (subst (λ (b : traced.Item AutomatonState). traced.IsAdvanced y b.stack) e adv))
+    advanced_back y low a (inr (inl e)) adv = absurd
+        (not_advanced y (subst (λ (b : traced.Item AutomatonState). traced.IsAdvanced y b.stack) e adv))
     advanced_back y low a (inr (inr h)) adv = absurd h
 
 second_step : NamesCondition (HasTransition least_loop) variable_step Neutral traces_second traces_third
@@ -273,10 +296,25 @@ second_step = record {
 }
   where
     without_guess : Predecessor (HasTransition least_loop) variable_step traces_second 0 (item 4 None (0 ∷ []))
-    without_guess = record { item = item 4 None (0 ∷ []); accepting = false; member = inl refl; named = refl; transition = from_variable None None false refl }
+    without_guess = record {
+      item = item 4 None
+          (0 ∷ []);
+      accepting = false;
+      member = inl refl;
+      named = refl;
+      transition = from_variable None None false refl;
+    }
 
     with_guess : Predecessor (HasTransition least_loop) variable_step traces_second 0 (item 4 (Some 1) (0 ∷ 1 ∷ []))
-    with_guess = record { item = item 4 (Some 1) (0 ∷ []); accepting = true; member = inr (inl refl); named = refl; transition = from_variable (Some 1) (Some 1) true (refl, inl refl, omega arith, refl) }
+    with_guess = record {
+      item = item 4 (Some 1) (0 ∷ []);
+      accepting = true;
+      member = inr
+          (inl refl);
+      named = refl;
+      transition = from_variable (Some 1) (Some 1) true
+          (refl, inl refl, omega arith, refl);
+    }
 
     traced_back : (y : ℕ)
         → y < 1
@@ -284,8 +322,10 @@ second_step = record {
         → IsMember a traces_third.items
         → traced.has y a.stack ≡ true
         → Predecessor (HasTransition least_loop) variable_step traces_second y a
-    traced_back zero low a (inl e) named = subst (Predecessor (HasTransition least_loop) variable_step traces_second 0) (sym e) without_guess
-    traced_back zero low a (inr (inl e)) named = subst (Predecessor (HasTransition least_loop) variable_step traces_second 0) (sym e) with_guess
+    traced_back zero low a (inl e) named = subst (Predecessor (HasTransition least_loop) variable_step traces_second 0)
+        (sym e) without_guess
+    traced_back zero low a (inr (inl e)) named = subst
+        (Predecessor (HasTransition least_loop) variable_step traces_second 0) (sym e) with_guess
     traced_back zero low a (inr (inr h)) named = absurd h
     traced_back (suc y) low a h named = absurd (omega arith)
 
@@ -295,8 +335,11 @@ second_step = record {
         → IsMember a traces_third.items
         → traced.IsAdvanced y a.stack
         → Progress (HasTransition least_loop) variable_step traces_second y a
-    advanced_back y low a (inl e) adv = absurd (not_advanced y (subst (λ (b : traced.Item AutomatonState). traced.IsAdvanced y b.stack) e adv))
-    advanced_back zero low a (inr (inl e)) adv = subst (Progress (HasTransition least_loop) variable_step traces_second 0) (sym e) (record { before = with_guess; progress = inr refl })
+    advanced_back y low a (inl e) adv = absurd
+        (not_advanced y (subst (λ (b : traced.Item AutomatonState). traced.IsAdvanced y b.stack) e adv))
+    advanced_back zero low a (inr (inl e)) adv = subst
+        (Progress (HasTransition least_loop) variable_step traces_second 0) (sym e)
+        (record { before = with_guess; progress = inr refl })
     advanced_back (suc y) low a (inr (inl e)) adv = absurd (omega arith)
     advanced_back y low a (inr (inr h)) adv = absurd h
 
@@ -306,20 +349,38 @@ green_step = record {
   green_in_use = λ x e. let is : 1 ≡ x = green_name x e in (omega arith, omega arith);
   traced = traced_back;
   advanced = advanced_back;
-  green_traced = λ x e. subst (λ y. (a : traced.Item AutomatonState) → IsMember a traces_third.items → traced.has y a.stack ≡ true → Progress (HasTransition least_loop) variable_step traces_third y a) (green_name x e) traced_green;
-  green_reset = λ x e. subst (λ y. (a : traced.Item AutomatonState) → IsMember a traces_third.items → traced.IsAdvanced y a.stack → ⊥) (green_name x e) reset;
+  green_traced = λ x e. subst (λ y. (a : traced.Item AutomatonState) → IsMember a traces_third.items
+      → traced.has y a.stack ≡ true → Progress (HasTransition least_loop) variable_step traces_third y a)
+      (green_name x e) traced_green;
+  green_reset = λ x e. subst (λ y. (a : traced.Item AutomatonState) → IsMember a traces_third.items
+      → traced.IsAdvanced y a.stack → ⊥) (green_name x e) reset;
 }
   where
     green_name : (x : ℕ) → Green 1 ≡ Green x → 1 ≡ x
     green_name x e = cc
 
     without_guess : Predecessor (HasTransition least_loop) variable_step traces_third 0 (item 4 None (0 ∷ []))
-    without_guess = record { item = item 4 None (0 ∷ []); accepting = false; member = inl refl; named = refl; transition = from_variable None None false refl }
+    without_guess = record {
+      item = item 4 None
+          (0 ∷ []);
+      accepting = false;
+      member = inl refl;
+      named = refl;
+      transition = from_variable None None false refl;
+    }
 
     with_guess : (y : ℕ)
         → traced.has y (0 ∷ 1 ∷ []) ≡ true
         → Predecessor (HasTransition least_loop) variable_step traces_third y (item 4 (Some 1) (0 ∷ 1 ∷ []))
-    with_guess y named = record { item = item 4 (Some 1) (0 ∷ 1 ∷ []); accepting = true; member = inr (inl refl); named = named; transition = from_variable (Some 1) (Some 1) true (refl, inl refl, omega arith, refl) }
+    with_guess y named = record {
+      item = item 4 (Some 1) (0 ∷ 1 ∷ []);
+      accepting = true;
+      member = inr
+          (inl refl);
+      named = named;
+      transition = from_variable (Some 1) (Some 1) true
+          (refl, inl refl, omega arith, refl);
+    }
 
     accepts : (y : ℕ)
         → traced.has y (0 ∷ 1 ∷ []) ≡ true
@@ -332,8 +393,10 @@ green_step = record {
         → IsMember a traces_third.items
         → traced.has y a.stack ≡ true
         → Predecessor (HasTransition least_loop) variable_step traces_third y a
-    traced_back zero low a (inl e) named = subst (Predecessor (HasTransition least_loop) variable_step traces_third 0) (sym e) without_guess
-    traced_back zero low a (inr (inl e)) named = subst (Predecessor (HasTransition least_loop) variable_step traces_third 0) (sym e) (with_guess 0 refl)
+    traced_back zero low a (inl e) named = subst (Predecessor (HasTransition least_loop) variable_step traces_third 0)
+        (sym e) without_guess
+    traced_back zero low a (inr (inl e)) named = subst
+        (Predecessor (HasTransition least_loop) variable_step traces_third 0) (sym e) (with_guess 0 refl)
     traced_back zero low a (inr (inr h)) named = absurd h
     traced_back (suc y) low a h named = absurd (omega arith)
 
@@ -343,30 +406,40 @@ green_step = record {
         → IsMember a traces_third.items
         → traced.IsAdvanced y a.stack
         → Progress (HasTransition least_loop) variable_step traces_third y a
-    advanced_back y low a (inl e) adv = absurd (not_advanced y (subst (λ (b : traced.Item AutomatonState). traced.IsAdvanced y b.stack) e adv))
-    advanced_back y low a (inr (inl e)) adv = subst (Progress (HasTransition least_loop) variable_step traces_third y) (sym e) (accepts y (subst (λ (b : traced.Item AutomatonState). traced.has y b.stack ≡ true) e adv.0))
+    advanced_back y low a (inl e) adv = absurd
+        (not_advanced y (subst (λ (b : traced.Item AutomatonState). traced.IsAdvanced y b.stack) e adv))
+    advanced_back y low a (inr (inl e)) adv = subst (Progress (HasTransition least_loop) variable_step traces_third y)
+        (sym e) (accepts y (subst (λ (b : traced.Item AutomatonState). traced.has y b.stack ≡ true) e adv.0))
     advanced_back y low a (inr (inr h)) adv = absurd h
 
     traced_green : (a : traced.Item AutomatonState)
         → IsMember a traces_third.items
         → traced.has 1 a.stack ≡ true
         → Progress (HasTransition least_loop) variable_step traces_third 1 a
-    traced_green a (inl e) named = let wrong : 1 ≡ 0 = only_zero 1 (subst (λ (b : traced.Item AutomatonState). traced.has 1 b.stack ≡ true) e named) in absurd (omega (arith, wrong))
-    traced_green a (inr (inl e)) named = subst (Progress (HasTransition least_loop) variable_step traces_third 1) (sym e) (accepts 1 refl)
+    traced_green a (inl e) named = let wrong : 1 ≡ 0 = only_zero 1
+        (subst (λ (b : traced.Item AutomatonState). traced.has 1 b.stack ≡ true) e named) in absurd
+        (omega (arith, wrong))
+    traced_green a (inr (inl e)) named = subst (Progress (HasTransition least_loop) variable_step traces_third 1)
+        (sym e) (accepts 1 refl)
     traced_green a (inr (inr h)) named = absurd h
 
     reset : (a : traced.Item AutomatonState) → IsMember a traces_third.items → traced.IsAdvanced 1 a.stack → ⊥
     reset a (inl e) adv = not_advanced 1 (subst (λ (b : traced.Item AutomatonState). traced.IsAdvanced 1 b.stack) e adv)
-    reset a (inr (inl e)) adv = let last = subst (λ (b : traced.Item AutomatonState). traced.ends_in 1 b.stack ≡ false) e adv.1 in let wrong : true ≡ false = last in absurd (cc)
+    reset a (inr (inl e)) adv = let last = subst
+        (λ
+        (b : traced.Item AutomatonState). traced.ends_in 1 b.stack ≡ false) e adv.1 in let wrong : true ≡ false = last in absurd (cc)
     reset a (inr (inr h)) adv = absurd h
 
 -- the heights of two entries, number by number
 rows_fall : (e f top : ℕ) → top ≤ 4
-    → ((k : ℕ) → k ≤ 2 → k ≤ top / 2 → height_of (heights_of least_loop_refutation) (2 * k) f ≤ height_of (heights_of least_loop_refutation) (2 * k) e)
-    → (p : ℕ) → p % 2 ≡ 0 → p ≤ top → height_of (heights_of least_loop_refutation) p f ≤ height_of (heights_of least_loop_refutation) p e
+    → ((k : ℕ) → k ≤ 2 → k ≤ top / 2 → height_of (heights_of least_loop_refutation) (2 * k) f ≤ height_of
+    (heights_of least_loop_refutation) (2 * k) e)
+    → (p : ℕ) → p % 2 ≡ 0 → p ≤ top → height_of (heights_of least_loop_refutation) p f ≤ height_of
+    (heights_of least_loop_refutation) p e
 rows_fall e f top top_low falls p even low =
     let half : p ≡ 2 * (p / 2) = omega arith in
-    subst (λ k. height_of (heights_of least_loop_refutation) k f ≤ height_of (heights_of least_loop_refutation) k e) (sym half) (falls (p / 2) (omega arith) (omega arith))
+    subst (λ k. height_of (heights_of least_loop_refutation) k f ≤ height_of (heights_of least_loop_refutation) k e)
+    (sym half) (falls (p / 2) (omega arith) (omega arith))
 
 falls_first : HeightsFall least_loop_refutation 0 1 Neutral
 falls_first = record { stays = rows_fall 0 1 4 (omega arith) each; falls = λ even. omega arith }
@@ -374,7 +447,8 @@ falls_first = record { stays = rows_fall 0 1 4 (omega arith) each; falls = λ ev
     each : (k : ℕ)
         → k ≤ 2
         → k ≤ 4 / 2
-        → height_of (heights_of least_loop_refutation) (2 * k) 1 ≤ height_of (heights_of least_loop_refutation) (2 * k) 0
+        → height_of (heights_of least_loop_refutation) (2 * k) 1 ≤ height_of (heights_of least_loop_refutation)
+        (2 * k) 0
     each zero low high = omega arith
     each (suc zero) low high = omega arith
     each (suc (suc zero)) low high = omega arith
@@ -386,7 +460,8 @@ falls_second = record { stays = rows_fall 1 2 4 (omega arith) each; falls = λ e
     each : (k : ℕ)
         → k ≤ 2
         → k ≤ 4 / 2
-        → height_of (heights_of least_loop_refutation) (2 * k) 2 ≤ height_of (heights_of least_loop_refutation) (2 * k) 1
+        → height_of (heights_of least_loop_refutation) (2 * k) 2 ≤ height_of (heights_of least_loop_refutation)
+        (2 * k) 1
     each zero low high = omega arith
     each (suc zero) low high = omega arith
     each (suc (suc zero)) low high = omega arith
@@ -398,7 +473,8 @@ falls_green = record { stays = rows_fall 2 3 3 (omega arith) each; falls = λ ev
     each : (k : ℕ)
         → k ≤ 2
         → k ≤ 3 / 2
-        → height_of (heights_of least_loop_refutation) (2 * k) 3 ≤ height_of (heights_of least_loop_refutation) (2 * k) 2
+        → height_of (heights_of least_loop_refutation) (2 * k) 3 ≤ height_of (heights_of least_loop_refutation)
+        (2 * k) 2
     each zero low high = omega arith
     each (suc zero) low high = omega arith
     each (suc (suc zero)) low high = omega arith
@@ -473,7 +549,12 @@ first_go : Keeps 0 (goes_to 1 Neutral)
 first_go = (
   record { spread = binder_spread; is_spread = is_binder_spread; holds = (inr (inl refl), refl) },
   (
-    record { spread = binder_spread; is_spread = is_binder_spread; holds = member-All (IsTarget least_loop binder_spread 2) (4 ∷ []) (target binder_spread) },
+    record {
+      spread = binder_spread;
+      is_spread = is_binder_spread;
+      holds = member-All
+          (IsTarget least_loop binder_spread 2) (4 ∷ []) (target binder_spread);
+    },
     (
       record { spread = binder_spread; is_spread = is_binder_spread; holds = first_step },
       (falls_first, tt),
@@ -485,7 +566,12 @@ second_go : Keeps 1 (goes_to 2 Neutral)
 second_go = (
   record { spread = variable_spread; is_spread = is_variable_spread; holds = (inr (inl refl), refl) },
   (
-    record { spread = variable_spread; is_spread = is_variable_spread; holds = member-All (IsTarget least_loop variable_spread 2) (4 ∷ []) (target variable_spread) },
+    record {
+      spread = variable_spread;
+      is_spread = is_variable_spread;
+      holds = member-All
+          (IsTarget least_loop variable_spread 2) (4 ∷ []) (target variable_spread);
+    },
     (
       record { spread = variable_spread; is_spread = is_variable_spread; holds = second_step },
       (falls_second, tt),
@@ -497,7 +583,12 @@ third_go : Keeps 2 (goes_to 3 (Green 1))
 third_go = (
   record { spread = variable_spread; is_spread = is_variable_spread; holds = (inr (inl refl), refl) },
   (
-    record { spread = variable_spread; is_spread = is_variable_spread; holds = member-All (IsTarget least_loop variable_spread 2) (4 ∷ []) (target variable_spread) },
+    record {
+      spread = variable_spread;
+      is_spread = is_variable_spread;
+      holds = member-All
+          (IsTarget least_loop variable_spread 2) (4 ∷ []) (target variable_spread);
+    },
     (
       record { spread = variable_spread; is_spread = is_variable_spread; holds = green_step },
       (falls_green, tt),
@@ -509,7 +600,12 @@ fourth_go : Keeps 3 (goes_to 3 (Green 1))
 fourth_go = (
   record { spread = variable_spread; is_spread = is_variable_spread; holds = (inr (inl refl), refl) },
   (
-    record { spread = variable_spread; is_spread = is_variable_spread; holds = member-All (IsTarget least_loop variable_spread 2) (4 ∷ []) (target variable_spread) },
+    record {
+      spread = variable_spread;
+      is_spread = is_variable_spread;
+      holds = member-All
+          (IsTarget least_loop variable_spread 2) (4 ∷ []) (target variable_spread);
+    },
     (
       record { spread = variable_spread; is_spread = is_variable_spread; holds = green_step },
       (falls_again, tt),
@@ -524,17 +620,40 @@ least_loop_accepted zero part low h =
     (record { in_graph = member-All (λ n. n < 6) (0 ∷ []) (one_node 0 (omega arith)); starts = λ e. refl }, tt)
     (first_names, tt) (record { member = inl refl; occurs = tt }, tt) first_go part h
 least_loop_accepted (suc zero) part low h =
-    of_five (Keeps 1) Sequent Live (Item (item 4 None (0 ∷ []))) (Item (item 4 (Some 1) (0 ∷ []))) (goes_to 2 Neutral)
-    (record { in_graph = member-All (λ n. n < 6) (4 ∷ []) (one_node 4 (omega arith)); starts = λ e. absurd (omega arith) }, tt)
-    (second_names, tt) (record { member = inl refl; occurs = tt }, tt) (record { member = inl refl; occurs = inl refl }, tt) second_go part h
+    of_five (Keeps 1) Sequent Live (Item (item 4 None (0 ∷ []))) (Item (item 4 (Some 1) (0 ∷ []))) (goes_to 2 Neutral) (
+      record {
+        in_graph = member-All (λ n. n < 6) (4 ∷ []) (one_node 4 (omega arith));
+        starts = λ e. absurd
+            (omega arith);
+      },
+      tt,
+    )
+    (second_names, tt) (record { member = inl refl; occurs = tt }, tt)
+    (record { member = inl refl; occurs = inl refl }, tt) second_go part h
 least_loop_accepted (suc (suc zero)) part low h =
-    of_five (Keeps 2) Sequent Live (Item (item 4 None (0 ∷ []))) (Item (item 4 (Some 1) (0 ∷ 1 ∷ []))) (goes_to 3 (Green 1))
-    (record { in_graph = member-All (λ n. n < 6) (4 ∷ []) (one_node 4 (omega arith)); starts = λ e. absurd (omega arith) }, tt)
-    (third_names, tt) (record { member = inl refl; occurs = tt }, tt) (record { member = inl refl; occurs = inl refl }, tt) third_go part h
+    of_five (Keeps 2) Sequent Live (Item (item 4 None (0 ∷ []))) (Item (item 4 (Some 1) (0 ∷ 1 ∷ [])))
+    (goes_to 3 (Green 1)) (
+      record {
+        in_graph = member-All (λ n. n < 6) (4 ∷ []) (one_node 4 (omega arith));
+        starts = λ e. absurd
+            (omega arith);
+      },
+      tt,
+    )
+    (third_names, tt) (record { member = inl refl; occurs = tt }, tt)
+    (record { member = inl refl; occurs = inl refl }, tt) third_go part h
 least_loop_accepted (suc (suc (suc zero))) part low h =
-    of_five (Keeps 3) Sequent Live (Item (item 4 None (0 ∷ []))) (Item (item 4 (Some 1) (0 ∷ 1 ∷ []))) (goes_to 3 (Green 1))
-    (record { in_graph = member-All (λ n. n < 6) (4 ∷ []) (one_node 4 (omega arith)); starts = λ e. absurd (omega arith) }, tt)
-    (third_names, tt) (record { member = inl refl; occurs = tt }, tt) (record { member = inl refl; occurs = inl refl }, tt) fourth_go part h
+    of_five (Keeps 3) Sequent Live (Item (item 4 None (0 ∷ []))) (Item (item 4 (Some 1) (0 ∷ 1 ∷ [])))
+    (goes_to 3 (Green 1)) (
+      record {
+        in_graph = member-All (λ n. n < 6) (4 ∷ []) (one_node 4 (omega arith));
+        starts = λ e. absurd
+            (omega arith);
+      },
+      tt,
+    )
+    (third_names, tt) (record { member = inl refl; occurs = tt }, tt)
+    (record { member = inl refl; occurs = inl refl }, tt) fourth_go part h
 least_loop_accepted (suc (suc (suc (suc e)))) part low h = absurd (omega arith)
 
 -- ---- a green name that stands in no item
@@ -547,7 +666,16 @@ empty_name_refutation = record {
   names = 2;
   entries =
       record { sequent = 0 ∷ []; traces = traces_first; heights = 0 ∷ 0 ∷ 1 ∷ []; decision = Go 2 1 Neutral }
-      ∷ record { sequent = 4 ∷ []; traces = record { live = 2; items = item 4 None (0 ∷ []) ∷ [] }; heights = 0 ∷ 0 ∷ 0 ∷ []; decision = Go 2 1 (Green 1) }
+      ∷ record {
+        sequent = 4 ∷ [];
+        traces = record {
+          live = 2;
+          items = item 4 None
+              (0 ∷ []) ∷ [];
+        };
+        heights = 0 ∷ 0 ∷ 0 ∷ [];
+        decision = Go 2 1 (Green 1);
+      }
       ∷ [];
 }
 
@@ -561,7 +689,9 @@ empty_name_refused accepted = from ((accepted 1 Live (omega arith) (inr (inl ref
             → IsMember a (item 4 None (0 ∷ []) ∷ [])
             → traced.has 1 a.stack ≡ true
             → ⊥
-        by_item a (inl e) named = let wrong : 1 ≡ 0 = only_zero 1 (subst (λ (b : traced.Item AutomatonState). traced.has 1 b.stack ≡ true) e named) in absurd (omega (arith, wrong))
+        by_item a (inl e) named = let wrong : 1 ≡ 0 = only_zero 1
+            (subst (λ (b : traced.Item AutomatonState). traced.has 1 b.stack ≡ true) e named) in absurd
+            (omega (arith, wrong))
         by_item a (inr h) named = absurd h
 
 -- ---- a right side that is no clash
@@ -579,12 +709,19 @@ abbrev pub no_clash_refutation : Refutation
 no_clash_refutation = record {
   names = 1;
   entries =
-      record { sequent = 0 ∷ []; traces = traces_first; heights = 0 ∷ 0 ∷ []; decision = Split 0 (Clash (cause.False 2)) (Clash (cause.False 4)) }
+      record {
+        sequent = 0 ∷ [];
+        traces = traces_first;
+        heights = 0 ∷ 0 ∷ [];
+        decision = Split 0 (Clash (cause.False 2))
+            (Clash (cause.False 4));
+      }
       ∷ [];
 }
 
 pub no_clash_refused : IsAccepted one_false_side no_clash_refutation → ⊥
 no_clash_refused accepted =
-    let clash = (accepted 0 (Decided (record { choice = with_side [] 0 Right; decision = Clash (cause.False 4) })) (omega arith) (inr (inr (inr (inr (inr (inl refl))))))).0 in
+    let clash = (accepted 0 (Decided (record { choice = with_side [] 0 Right; decision = Clash (cause.False 4) }))
+    (omega arith) (inr (inr (inr (inr (inr (inl refl))))))).0 in
     let wrong : node.Lit 0 true ≡ node.False = clash.holds.1 in
     absurd (cc)
