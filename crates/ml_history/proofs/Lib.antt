@@ -100,3 +100,5 @@ pub mod CutOffers
 pub mod FlatStep
 -- lists of items, one item after the other
 pub mod ItemByItem
+-- which states have a stack behind a step
+pub mod SteppedStates

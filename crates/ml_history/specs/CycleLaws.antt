@@ -12,7 +12,9 @@
 --   StepsAreHistories      == the start is a history, and so is what a step makes of one
 --   LettersAreSets         == neither the order nor repeats of the transitions of a letter change a step
 --   StepsTraceNames        == each step of a history satisfies the condition on names
-use Rattle.std.specs.Prelude.{◌≡◌, ◌≢◌, ℕ, true, List, []}
+--   HasState h q           == the state q has a stack in h
+--   StepsFollowLetters     == behind a step those states have a stack to which a transition leads from one that had one
+use Rattle.std.specs.Prelude.{◌≡◌, ◌≢◌, ◌↔◌, ℕ, Bool, true, List, []}
 use Rattle.ml_lists.specs.Member.{IsMember}
 use Rattle.ml_trace.specs.declared.letters.Transition.{Transition}
 use Rattle.ml_trace.specs.LabelledLoop.{CyclicRun}
@@ -57,3 +59,20 @@ LettersAreSets =
 -- each step of a history satisfies the condition on names
 abbrev pub StepsTraceNames : Type 0
 StepsTraceNames = (h : List (Item ℕ)) (letter : List Transition) → IsHistory h → NamesCondition in_letter letter (step_mark h letter) (entry h) (entry (stepped h letter))
+
+-- the state q has a stack in h
+pub record HasState (h : List (Item ℕ)) (q : ℕ) : Type 0 where
+  pub item : Item ℕ
+  pub member : IsMember item h
+  pub state_is : item.state ≡ q
+
+-- a transition of the letter leads to q from a state that has a stack in h
+pub record IsLedTo (h : List (Item ℕ)) (letter : List Transition) (q : ℕ) : Type 0 where
+  pub from : ℕ
+  pub accepting : Bool
+  pub has_stack : HasState h from
+  pub transition : in_letter letter from q accepting
+
+-- behind a step exactly the states have a stack to which a transition leads from one that had one
+abbrev pub StepsFollowLetters : Type 0
+StepsFollowLetters = (h : List (Item ℕ)) (letter : List Transition) (q : ℕ) → HasState (stepped h letter) q ↔ IsLedTo h letter q

@@ -10,3 +10,5 @@ pub mod Marked
 pub mod Firsts
 -- causes of clashes
 pub mod Causes
+-- a choice with one side more
+pub mod ChoicesWith

@@ -1,0 +1,10 @@
+-- the texts of refutations
+pub mod RefutationText
+-- the text that is written of a refutation
+pub mod WrittenText
+-- kinds of lines
+pub mod LineKinds
+-- the rules of a body, and its first bad line
+pub mod BodyRules
+-- laws of these texts
+pub mod Laws

@@ -1,0 +1,84 @@
+-- The text that is written of a refutation, in both versions.
+--
+-- In version 2 the tables have each sequent and each stack of the refutation once, in the order of first use, and each is
+-- named by its place there.
+--
+--   each_once xs           == the lists xs, each once, in the order in which they come first
+--   place_in xs x          == the place of x in xs
+--   sequents_of r, stacks_of r == the sequents of the entries, and the stacks of their items, each once
+--   Writing                == how the first lines of an entry and the words for a stack are written
+--   in_full, by_tables qs ks == in full; by the places in these tables
+--   entry_lines W i e      == the lines of the entry e, whose number is i
+--   entries_lines W i es   == those of the entries es, numbered from i on
+--   written_lines v r      == the lines of the body of r
+--   written_text v r       == these lines as bytes
+use Rattle.std.specs.Prelude.{ℕ, ◌+◌, List, [], ◌∷◌, ◌++◌, map, length, fold, if◌then◌else◌}
+use Rattle.std.specs.List.{flat_map, list_any, position_or_len}
+use Rattle.std.specs.Str.{bytes_eq}
+use Rattle.ml_base.specs.declared.version.Version.{Version}
+use Rattle.ml_base.specs.declared.version.Version.TheVariants.{One, Two}
+use Rattle.ml_lines.specs.Lines.{Word, Line, number, text_of}
+use Rattle.ml_refutation.specs.Refutation.{Refutation, Entry}
+use Rattle.ml_refutation_text.specs.RefutationText.{numbers, names_line, entries_line, sequents_line, stacks_line, sequent_line, stack_line, numbered_line, entry_line, live_line, item_line, heights_line, decision_lines, end_line}
+
+-- ---- tables
+
+abbrev pub with_new : List (List ℕ) → List ℕ → List (List ℕ)
+with_new known x = if list_any (bytes_eq x) known then known else known ++ x ∷ []
+
+abbrev pub each_once : List (List ℕ) → List (List ℕ)
+each_once xs = fold with_new [] xs
+
+abbrev pub place_in : List (List ℕ) → List ℕ → ℕ
+place_in known x = position_or_len (bytes_eq x) known
+
+abbrev pub used_stacks : Entry → List (List ℕ)
+used_stacks e = map (λ a. a.stack) e.traces.items
+
+abbrev pub sequents_of : Refutation → List (List ℕ)
+sequents_of r = each_once (map (λ e. e.sequent) r.entries)
+
+abbrev pub stacks_of : Refutation → List (List ℕ)
+stacks_of r = each_once (flat_map used_stacks r.entries)
+
+-- ---- lines
+
+pub record Writing : Type 0 where
+  pub head : ℕ → List ℕ → List Line
+  pub words : List ℕ → List Word
+
+abbrev pub in_full : Writing
+in_full = record { head = λ i sequent. numbered_line i ∷ sequent_line sequent ∷ []; words = numbers }
+
+abbrev pub by_tables : List (List ℕ) → List (List ℕ) → Writing
+by_tables sequents stacks = record {
+  head = λ i sequent. entry_line i (place_in sequents sequent) ∷ [];
+  words = λ names. number (place_in stacks names) ∷ [];
+}
+
+abbrev pub entry_lines : Writing → ℕ → Entry → List Line
+entry_lines W i e =
+    W.head i e.sequent
+    ++ live_line e.traces.live
+    ∷ (map (λ a. item_line a.state (W.words a.stack)) e.traces.items ++ heights_line e.heights ∷ decision_lines e.decision)
+
+abbrev pub entries_lines : Writing → ℕ → List Entry → List Line
+entries_lines W i [] = []
+entries_lines W i (e ∷ entries) = entry_lines W i e ++ entries_lines W (i + 1) entries
+
+abbrev pub table_lines : List (List ℕ) → List (List ℕ) → List Line
+table_lines sequents stacks =
+    sequents_line (length sequents) ∷ (map sequent_line sequents ++ stacks_line (number (length stacks)) ∷ map stack_line stacks)
+
+-- the entries with their number, and the end
+abbrev pub last_lines : Writing → List Entry → List Line
+last_lines W entries = entries_line (length entries) ∷ (entries_lines W 0 entries ++ end_line ∷ [])
+
+abbrev pub written_lines : Version → Refutation → List Line
+written_lines One r = names_line r.names ∷ last_lines in_full r.entries
+written_lines Two r =
+    names_line r.names
+    ∷ (table_lines (sequents_of r) (stacks_of r) ++ last_lines (by_tables (sequents_of r) (stacks_of r)) r.entries)
+
+abbrev pub written_text : Version → Refutation → List ℕ
+written_text v r = text_of (written_lines v r)
