@@ -39,7 +39,15 @@ pub fn append_head(out: &mut Vec<u8>, problem: &Problem, answer: Answer) -> Resu
     append_pair(out, b"mlsolver", version_word(Version::Two))?;
     append_pair(out, b"answer", answer.word())?;
     append_pair(out, b"logic", logic(&problem.formula).word())?;
-    append_pair(out, b"sense", if problem.negated { b"negated" } else { b"plain" })?;
+    append_pair(
+        out,
+        b"sense",
+        if problem.negated {
+            b"negated"
+        } else {
+            b"plain"
+        },
+    )?;
     append_formula(out, &problem.formula)
 }
 

@@ -11,4 +11,3 @@ place-requires-clause-names c =
     let props : c.collect.new.props.items ≡ props_onto term [] = c.in_ok-collect.ensures.props ∙ ap (props_onto term) c.new-props.ensures.items in
     let actions : c.collect.new.actions.items ≡ actions_onto term [] = c.in_ok-collect.ensures.actions ∙ ap (actions_onto term) c.new-actions.ensures.items in
     (omega (arith, ap length c.as_slice.ensures.value, ap length props, few_props term [], c.requires), omega (arith, ap length c.as_slice-2.ensures.value, ap length actions, few_actions term [], c.requires))
-
