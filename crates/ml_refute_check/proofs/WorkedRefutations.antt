@@ -7,11 +7,15 @@
 --
 --   least_loop, least_loop_refutation == the graph of the first, and its refutation
 --   least_loop_accepted               == it is accepted
+--   least_loop_holds_nowhere          == so its graph holds at no state of any structure
 --   empty_name_refused                == the second one isn't
 --   no_clash_refused                  == the third one isn't
-use Rattle.std.proofs.Common.{ℕ, zero, suc, ◌≡◌, ◌*◌, ◌<◌, ◌≤◌, ◌%◌, ◌/◌, ◌==◌, inl, inr, Bool, true, false, List, [], ◌∷◌, Option, Some, None, refl, sym, subst, arith}
+use Rattle.std.proofs.Common.{ℕ, zero, suc, ◌≡◌, ◌*◌, ◌<◌, ◌≤◌, ◌%◌, ◌/◌, ◌==◌, inl, inr, Bool, true, false, List, [], ◌∷◌, Option, Some, None, refl, sym, subst, arith, All}
 use Rattle.std.proofs.lemmas.Bool.Decides.{nat_tests}
 use Rattle.ml_lists.specs.Ascending.{IsAscending}
+use Rattle.ml_lists.proofs.Ascending.{ascending-one, ascending-cons}
+use Rattle.ml_base.specs.Structure.{Structure, IsStructure}
+use Rattle.std.specs.List.{IsDistinct}
 use Rattle.ml_lists.specs.Member.{IsMember}
 use Rattle.ml_lists.specs.Documents.{KeepsAll}
 use Rattle.ml_lists.proofs.Member.{member-All, Passing, list_any-member}
@@ -23,7 +27,9 @@ use Rattle.ml_trace.specs.Automaton.{Leads}
 use Rattle.ml_trace.specs.NamesCondition.{NamesCondition, Predecessor, Progress}
 use Rattle.ml_trace.specs.Stack as traced
 use Rattle.ml_graph.specs.declared.node.Node.TheVariants as node
-use Rattle.ml_graph.specs.Graph.{Graph}
+use Rattle.ml_graph.specs.Graph.{Graph, IsGraph, references}
+use Rattle.ml_graph.specs.CheckingGame.{Holds}
+use Rattle.ml_graph.proofs.References.{all_in_range}
 use Rattle.ml_sequent.specs.declared.choice.Side.TheVariants.{Right}
 use Rattle.ml_sequent.specs.declared.clashes.ClashCause.TheVariants as cause
 use Rattle.ml_sequent.specs.Choice.{with_side}
@@ -31,9 +37,10 @@ use Rattle.ml_sequent.specs.LocalWalk.{LocalWalk, stays, goes, InSpread, childre
 use Rattle.ml_sequent.specs.Spread.{SpreadList, IsSpreadOf}
 use Rattle.ml_sequent.specs.Step.{IsTarget}
 use Rattle.ml_sequent.proofs.LocalWalks.{stays_inside}
-use Rattle.ml_refutation.specs.Refutation.{Refutation, Split, Clash, Go}
+use Rattle.ml_refutation.specs.Refutation.{Refutation, Split, Clash, Go, Fits, IsStack, IsItem, IsTraced, IsMarkOf, IsEntry, IsRefutation}
 use Rattle.ml_refutation.specs.GoStep.{GoStep, HasTransition}
-use Rattle.ml_refutation.specs.Acceptance.{Part, Sequent, Live, Item, Decided, rules, IsAccepted, heights_of, HeightsFall}
+use Rattle.ml_refutation.specs.Acceptance.{entry_at, Part, Sequent, Live, Item, Decided, rules, IsAccepted, heights_of, HeightsFall}
+use Rattle.ml_refute_check.proofs.EntryLoops.{accepted_holds_nowhere}
 
 abbrev item : ℕ → Option ℕ → List ℕ → traced.Item AutomatonState
 item n odd stack = record { state = record { node = n; odd = odd }; stack = stack }
@@ -655,6 +662,128 @@ least_loop_accepted (suc (suc (suc zero))) part low h =
     (third_names, tt) (record { member = inl refl; occurs = tt }, tt)
     (record { member = inl refl; occurs = inl refl }, tt) fourth_go part h
 least_loop_accepted (suc (suc (suc (suc e)))) part low h = absurd (omega arith)
+
+-- ---- the theorem, used
+
+-- all of one, two, three and four things
+all_one : {X : Type 0} → (P : X → Type 0) (a : X) → P a → All P (a ∷ [])
+all_one {X} P a pa = member-All P (a ∷ []) of_member
+  where
+    of_member : (x : X) → IsMember x (a ∷ []) → P x
+    of_member x (inl e) = subst P (sym e) pa
+    of_member x (inr h) = absurd h
+
+all_two : {X : Type 0} → (P : X → Type 0) (a b : X) → P a → P b → All P (a ∷ b ∷ [])
+all_two {X} P a b pa pb = member-All P (a ∷ b ∷ []) of_member
+  where
+    of_member : (x : X) → IsMember x (a ∷ b ∷ []) → P x
+    of_member x (inl e) = subst P (sym e) pa
+    of_member x (inr (inl e)) = subst P (sym e) pb
+    of_member x (inr (inr h)) = absurd h
+
+all_three : {X : Type 0} → (P : X → Type 0) (a b c : X) → P a → P b → P c → All P (a ∷ b ∷ c ∷ [])
+all_three {X} P a b c pa pb pc = member-All P (a ∷ b ∷ c ∷ []) of_member
+  where
+    of_member : (x : X) → IsMember x (a ∷ b ∷ c ∷ []) → P x
+    of_member x (inl e) = subst P (sym e) pa
+    of_member x (inr (inl e)) = subst P (sym e) pb
+    of_member x (inr (inr (inl e))) = subst P (sym e) pc
+    of_member x (inr (inr (inr h))) = absurd h
+
+all_four : {X : Type 0} → (P : X → Type 0) (a b c d : X) → P a → P b → P c → P d → All P (a ∷ b ∷ c ∷ d ∷ [])
+all_four {X} P a b c d pa pb pc pd = member-All P (a ∷ b ∷ c ∷ d ∷ []) of_member
+  where
+    of_member : (x : X) → IsMember x (a ∷ b ∷ c ∷ d ∷ []) → P x
+    of_member x (inl e) = subst P (sym e) pa
+    of_member x (inr (inl e)) = subst P (sym e) pb
+    of_member x (inr (inr (inl e))) = subst P (sym e) pc
+    of_member x (inr (inr (inr (inl e)))) = subst P (sym e) pd
+    of_member x (inr (inr (inr (inr h)))) = absurd h
+
+-- the graph is one
+least_loop_is_graph : IsGraph least_loop
+unfolding IsDistinct
+least_loop_is_graph = record {
+  priorities = refl;
+  in_range = all_in_range (references least_loop) refl;
+  props_differ = tt;
+  actions_differ = (tt, tt);
+}
+
+-- and the refutation is one
+stack_of_zero : (live : ℕ) → 0 < live → IsStack live (0 ∷ [])
+stack_of_zero live low = record {
+  some = omega arith;
+  ascends = ascending-one 0;
+  below = all_one (λ x. x < live) 0 low;
+}
+
+stack_of_two : IsStack 2 (0 ∷ 1 ∷ [])
+stack_of_two = record {
+  some = omega arith;
+  ascends = ascending-cons 0 1 [] (omega arith) (ascending-one 1);
+  below = all_two (λ x. x < 2) 0 1 (omega arith) (omega arith);
+}
+
+traced_first : IsTraced 2 traces_first
+traced_first = record {
+  within = omega arith;
+  ascend = (tt, tt);
+  are_items = all_one (IsItem 1) (item 0 None (0 ∷ []))
+      (record { node_fits = omega arith; guess_fits = tt; is_stack = stack_of_zero 1 (omega arith) });
+}
+
+traced_second : IsTraced 2 traces_second
+traced_second = record {
+  within = omega arith;
+  ascend = (tt, (refl, tt));
+  are_items = all_two (IsItem 1) (item 4 None (0 ∷ [])) (item 4 (Some 1) (0 ∷ []))
+      (record { node_fits = omega arith; guess_fits = tt; is_stack = stack_of_zero 1 (omega arith) })
+      (record { node_fits = omega arith; guess_fits = omega arith; is_stack = stack_of_zero 1 (omega arith) });
+}
+
+traced_third : IsTraced 2 traces_third
+traced_third = record {
+  within = omega arith;
+  ascend = (tt, (refl, tt));
+  are_items = all_two (IsItem 2) (item 4 None (0 ∷ [])) (item 4 (Some 1) (0 ∷ 1 ∷ []))
+      (record { node_fits = omega arith; guess_fits = tt; is_stack = stack_of_zero 2 (omega arith) })
+      (record { node_fits = omega arith; guess_fits = omega arith; is_stack = stack_of_two });
+}
+
+is_entry : (n : ℕ) (traces : traced.Entry AutomatonState) (last f : ℕ) (k : Mark)
+    → n < 6
+    → IsTraced 2 traces
+    → last < 6
+    → f < 4
+    → IsMarkOf 2 k
+    → IsEntry 2 4 (record { sequent = n ∷ []; traces = traces; heights = 0 ∷ 0 ∷ last ∷ []; decision = Go 2 f k })
+is_entry n traces last f k low is_traced small f_low in_use = record {
+  nodes_fit = all_one Fits n (omega arith);
+  ascends = ascending-one n;
+  is_traced = is_traced;
+  heights_fit = all_three Fits 0 0 last (omega arith) (omega arith) (omega arith);
+  a_height_each = refl;
+  is_decided = (omega arith, f_low, in_use);
+  nested = omega arith;
+}
+
+least_loop_is_refutation : IsRefutation least_loop_refutation
+least_loop_is_refutation = record {
+  names_fit = omega arith;
+  has_start = omega arith;
+  entries_fit = omega arith;
+  are_entries = all_four (IsEntry 2 4) (entry_at least_loop_refutation 0) (entry_at least_loop_refutation 1)
+      (entry_at least_loop_refutation 2) (entry_at least_loop_refutation 3)
+      (is_entry 0 traces_first 2 1 Neutral (omega arith) traced_first (omega arith) (omega arith) tt)
+      (is_entry 4 traces_second 1 2 Neutral (omega arith) traced_second (omega arith) (omega arith) tt)
+      (is_entry 4 traces_third 0 3 (Green 1) (omega arith) traced_third (omega arith) (omega arith) (omega arith))
+      (is_entry 4 traces_third 0 3 (Green 1) (omega arith) traced_third (omega arith) (omega arith) (omega arith));
+}
+
+-- so the graph of `mu X. <>X` holds nowhere
+pub least_loop_holds_nowhere : (m : Structure) → IsStructure m → (s : ℕ) → s < m.states → Holds least_loop m s → ⊥
+least_loop_holds_nowhere = accepted_holds_nowhere least_loop least_loop_refutation least_loop_is_graph least_loop_is_refutation least_loop_accepted
 
 -- ---- a green name that stands in no item
 
