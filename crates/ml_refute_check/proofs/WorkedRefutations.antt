@@ -554,7 +554,7 @@ goes_to f m = Decided (record { choice = []; decision = Go 2 f m })
 
 first_go : Keeps 0 (goes_to 1 Neutral)
 first_go = (
-  record { spread = binder_spread; is_spread = is_binder_spread; holds = (inr (inl refl), refl) },
+  record { spread = binder_spread; is_spread = is_binder_spread; holds = record { member = inr (inl refl); holds = refl } },
   (
     record {
       spread = binder_spread;
@@ -571,7 +571,7 @@ first_go = (
 
 second_go : Keeps 1 (goes_to 2 Neutral)
 second_go = (
-  record { spread = variable_spread; is_spread = is_variable_spread; holds = (inr (inl refl), refl) },
+  record { spread = variable_spread; is_spread = is_variable_spread; holds = record { member = inr (inl refl); holds = refl } },
   (
     record {
       spread = variable_spread;
@@ -588,7 +588,7 @@ second_go = (
 
 third_go : Keeps 2 (goes_to 3 (Green 1))
 third_go = (
-  record { spread = variable_spread; is_spread = is_variable_spread; holds = (inr (inl refl), refl) },
+  record { spread = variable_spread; is_spread = is_variable_spread; holds = record { member = inr (inl refl); holds = refl } },
   (
     record {
       spread = variable_spread;
@@ -605,7 +605,7 @@ third_go = (
 
 fourth_go : Keeps 3 (goes_to 3 (Green 1))
 fourth_go = (
-  record { spread = variable_spread; is_spread = is_variable_spread; holds = (inr (inl refl), refl) },
+  record { spread = variable_spread; is_spread = is_variable_spread; holds = record { member = inr (inl refl); holds = refl } },
   (
     record {
       spread = variable_spread;
