@@ -21,8 +21,9 @@ pub fn one_fault()
     ensures lowest { RulesRise }
 {}
 
-/// Of a formula of the mu-calculus whose variables are bound and positive, in its plain sense and negated: where a
-/// refutation breaks no rule in its graph, no structure has a state at which the problem holds.
+/// Of a problem whose formula means something by its logic (in the mu-calculus: its variables are bound and positive):
+/// where a refutation breaks no rule in its graph, no admitted structure, of any number of states, has a state at which
+/// the problem holds.
 ///
 /// Does nothing when called.
 pub fn refuted_is_unsatisfiable()
