@@ -37,7 +37,7 @@ use Rattle.ml_sequent.specs.declared.clashes.ClashCause.TheVariants as cause
 use Rattle.ml_sequent.specs.Choice.{with_side}
 use Rattle.ml_sequent.specs.LocalWalk.{LocalWalk, stays, goes, InSpread, children}
 use Rattle.ml_sequent.specs.Spread.{SpreadList, IsSpreadOf, IsCause}
-use Rattle.ml_sequent.specs.Step.{IsTarget}
+use Rattle.ml_sequent.specs.Step.{LeadsOut, IsTarget}
 use Rattle.ml_sequent.proofs.LocalWalks.{stays_inside}
 use Rattle.ml_refutation.specs.Refutation.{Refutation, Split, Clash, Go, Fits, IsStack, IsItem, IsTraced, IsMarkOf, IsEntry, IsRefutation}
 use Rattle.ml_refutation.specs.GoStep.{GoStep, HasTransition}
@@ -205,10 +205,14 @@ is_variable_spread = record { choice = refl; ascends = ascends; low = low; nodes
         of_start k (inl e) = inr (inr (inl e))
         of_start k (inr h) = absurd h
 
+-- the diamond leads to the variable
+diamond_leads : (ps : List ℕ) (sp : SpreadList) → LeadsOut (loop_graph ps) sp 2 2 4
+diamond_leads ps sp = record { action = 0; child = 4; is_diamond = refl; leaves = inl (refl, refl) }
+
 -- along the diamond the variable is reached
 target : (ps : List ℕ) (sp : SpreadList) (n : ℕ) → IsMember n (4 ∷ []) → IsTarget (loop_graph ps) sp 2 n
 target ps sp n (inl e) = subst (IsTarget (loop_graph ps) sp 2) (sym e)
-    (record { leaving = 2; leads = record { action = 0; child = 4; is_diamond = refl; leaves = inl (refl, refl) } })
+    (record { leaving = 2; leads = diamond_leads ps sp })
 target ps sp n (inr h) = absurd h
 
 abbrev binder_step : GoStep
@@ -222,7 +226,12 @@ from_binder : (odd : Option ℕ) → (Leads (1 ∷ []) 1 None odd false)
     → HasTransition least_loop binder_step (record { node = 0; odd = None }) (record { node = 4; odd = odd }) false
 from_binder odd leads = record {
   trace = record { from = 0; lowest = 1; to = 4 };
-  is_trace = record { from = inl refl; leaving = 2; walk = binder_walk; leads = record { action = 0; child = 4; is_diamond = refl; leaves = inl (refl, refl) } };
+  is_trace = record {
+    from = inl refl;
+    leaving = 2;
+    walk = binder_walk;
+    leads = diamond_leads least_loop.priorities binder_spread;
+  };
   stays = inl refl;
   begins = refl;
   ends = refl;
@@ -235,7 +244,12 @@ from_variable : (before behind : Option ℕ) (accepting : Bool)
     (record { node = 4; odd = behind }) accepting
 from_variable before behind accepting leads = record {
   trace = record { from = 4; lowest = 1; to = 4 };
-  is_trace = record { from = inl refl; leaving = 2; walk = variable_walk; leads = record { action = 0; child = 4; is_diamond = refl; leaves = inl (refl, refl) } };
+  is_trace = record {
+    from = inl refl;
+    leaving = 2;
+    walk = variable_walk;
+    leads = diamond_leads least_loop.priorities variable_spread;
+  };
   stays = inl refl;
   begins = refl;
   ends = refl;
@@ -837,7 +851,9 @@ least_loop_is_refutation = record {
 
 -- so the graph of `mu X. <>X` holds nowhere
 pub least_loop_holds_nowhere : (m : Structure) → IsStructure m → (s : ℕ) → s < m.states → Holds least_loop m s → ⊥
-least_loop_holds_nowhere = accepted_holds_nowhere least_loop least_loop_refutation least_loop_is_graph least_loop_is_refutation least_loop_accepted
+least_loop_holds_nowhere =
+    accepted_holds_nowhere least_loop least_loop_refutation least_loop_is_graph least_loop_is_refutation
+    least_loop_accepted
 
 -- ---- a green name that stands in no item
 
@@ -885,7 +901,7 @@ unguessed_step = record {
         from = inl refl;
         leaving = 2;
         walk = goes 0 2 (inl refl) (stays 2);
-        leads = record { action = 0; child = 4; is_diamond = refl; leaves = inl (refl, refl) };
+        leads = diamond_leads greatest_loop.priorities binder_spread;
       };
       stays = inl refl;
       begins = refl;
@@ -958,7 +974,11 @@ empty_name_first_bad = record {
         (record { in_graph = all_one (λ n. n < 6) 0 (omega arith); starts = λ e. refl }, tt)
         (first_names, tt)
         (record { member = inl refl; occurs = tt }, tt) (
-          record { spread = binder_spread; is_spread = is_binder_spread greatest_loop.priorities; holds = record { member = inr (inl refl); holds = refl } },
+          record {
+            spread = binder_spread;
+            is_spread = is_binder_spread greatest_loop.priorities;
+            holds = record { member = inr (inl refl); holds = refl };
+          },
           (
             record {
               spread = binder_spread;
@@ -1114,7 +1134,11 @@ no_clash_first_bad = record {
     before (suc zero) low = (names, tt)
     before (suc (suc zero)) low = (record { member = inl refl; occurs = tt }, tt)
     before (suc (suc (suc zero))) low = (
-      record { spread = record { nodes = 0 ∷ []; choice = [] }; is_spread = or_spread; holds = record { member = inl refl; is_open = record { left = 2; right = 4; is_or = refl; unchosen = refl } } },
+      record {
+        spread = record { nodes = 0 ∷ []; choice = [] };
+        is_spread = or_spread;
+        holds = record { member = inl refl; is_open = record { left = 2; right = 4; is_or = refl; unchosen = refl } };
+      },
       tt,
     )
     before (suc (suc (suc (suc zero)))) low = (
