@@ -20,7 +20,6 @@ mod making;
 mod phase;
 mod questions;
 mod reach;
-mod search;
 mod sequent;
 mod sets;
 mod spreads;
