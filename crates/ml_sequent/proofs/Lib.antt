@@ -8,6 +8,8 @@ pub mod OwnSpreads
 pub mod Firsts
 -- causes of clashes
 pub mod Causes
+-- a choice with one side more
+pub mod ChoicesWith
 -- the search along local walks
 pub mod Reaching
 -- ways of the search, and local walks
