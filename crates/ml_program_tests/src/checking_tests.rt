@@ -11,6 +11,7 @@ use std::alloc::Global;
 use std::test::Fail;
 
 // numbers that look random, and are the same in each run
+#[derive(Drop)]
 struct Numbers {
     state: u64,
 }
