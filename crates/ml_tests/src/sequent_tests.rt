@@ -77,17 +77,6 @@ fn spreads_by_hand(rt: HostRuntime) -> Result<(), Fail> {
         P,
         NOT_P,
     ];
-    // p | q, with one bar, and q a fixpoint of its own: True
-    let either = [
-        Node::Or { left: 2, right: 4 },
-        Node::And { left: 3, right: 5 },
-        P,
-        NOT_P,
-        Node::True,
-        Node::True,
-        P,
-        NOT_P,
-    ];
     // a fixpoint at 0 and its dual at 1, and a node with a diamond and False
     let fixpoints = [
         to(2),
@@ -124,9 +113,6 @@ fn spreads_by_hand(rt: HostRuntime) -> Result<(), Fail> {
         ),
         row(excluded, even, 0, None, None, Some(0), 0),
         row(excluded, even, 0, Some((0, Side::Left)), None, None, 0),
-        row(either, even, 0, None, None, Some(0), 0),
-
-
         row(
             fixpoints,
             binders,
