@@ -8,5 +8,8 @@
 #![tactic(auto)]
 
 mod body_rule;
+mod tables;
+mod writing;
 
 pub use body_rule::BodyRule;
+pub use writing::{append_refutation, write};
