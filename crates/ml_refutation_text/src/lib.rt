@@ -8,6 +8,7 @@
 #![tactic(auto)]
 
 mod body_rule;
+pub mod laws;
 mod tables;
 mod writing;
 
