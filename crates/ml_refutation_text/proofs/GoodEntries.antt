@@ -264,33 +264,33 @@ module _ (v : Version) (left : List ℕ) (names wanted : ℕ) (small : Fits name
 
 -- ---- a body
 
-first_run : (v : Version) (form : Form) (names : ℕ) (lines : List Line) → Fits names → IsForm v names form → FirstLines form names lines
-    → Run v [] AtNames lines (AtEntries names form) × SequentsFit form
-first_run One InFull names lines fits is written =
-    (subst (λ ls. Run One [] AtNames ls (AtEntries names InFull)) (sym written) (names_run One [] names fits), tt)
-first_run One (ByTables qs ks) names lines fits is written = absurd is
-first_run Two InFull names lines fits is written = absurd is
-first_run Two (ByTables qs ks) names lines fits is (w, spells, written) =
-    let F = body Two [] in
+first_run : (v : Version) (left : List ℕ) (form : Form) (names : ℕ) (lines : List Line) → Fits names → IsForm v names form → FirstLines form names lines
+    → Run v left AtNames lines (AtEntries names form) × SequentsFit form
+first_run One left InFull names lines fits is written =
+    (subst (λ ls. Run One left AtNames ls (AtEntries names InFull)) (sym written) (names_run One left names fits), tt)
+first_run One left (ByTables qs ks) names lines fits is written = absurd is
+first_run Two left InFull names lines fits is written = absurd is
+first_run Two left (ByTables qs ks) names lines fits is (w, spells, written) =
+    let F = body Two left in
     let tables : List Line = sequents_line (length qs) ∷ map sequent_line qs in
     let stacks : List Line = stacks_line w ∷ map stack_line ks in
     let run =
     run_on F AtNames (AtSequents names) (AtEntries names (ByTables qs ks)) (names_line names ∷ []) (tables ++ stacks)
-    (names_run Two [] names fits)
+    (names_run Two left names fits)
     (run_on F (AtSequents names) (AtStacks names qs) (AtEntries names (ByTables qs ks)) tables stacks
-    (sequents_run Two [] names qs is.sequents_fit is.nodes_fit is.sequents_ascend) (stacks_run Two [] names qs ks w fits spells is.are_stacks)) in
-    (subst (λ ls. Run Two [] AtNames ls (AtEntries names (ByTables qs ks))) (sym written) run, is.sequents_fit)
+    (sequents_run Two left names qs is.sequents_fit is.nodes_fit is.sequents_ascend) (stacks_run Two left names qs ks w fits spells is.are_stacks)) in
+    (subst (λ ls. Run Two left AtNames ls (AtEntries names (ByTables qs ks))) (sym written) run, is.sequents_fit)
 
-pub body_run : (v : Version) (form : Form) (r : Refutation) (lines : List Line) → IsRefutation r → IsForm v r.names form
-    → BodyLines form r lines → Run v [] AtNames lines (AtNothing r)
-body_run v form r lines is is_form written =
-    let F = body v [] in
+pub body_run : (v : Version) (left : List ℕ) (form : Form) (r : Refutation) (lines : List Line) → IsRefutation r → IsForm v r.names form
+    → BodyLines form r lines → Run v left AtNames lines (AtNothing r)
+body_run v left form r lines is is_form written =
+    let F = body v left in
     let count = length r.entries in
     let k = known r.names form count in
-    let first = first_run v form r.names written.first is.names_fit is_form written.are_first in
-    let counts = entries_run v [] r.names form count is.entries_fit is.has_start in
-    let entries = entries_from v [] r.names count is.names_fit form [] r.entries written.entries is.entries_fit (omega arith) first.1 is.are_entries written.are_entries in
-    subst (λ ls. Run v [] AtNames ls (AtNothing r)) (sym written.are_lines)
+    let first = first_run v left form r.names written.first is.names_fit is_form written.are_first in
+    let counts = entries_run v left r.names form count is.entries_fit is.has_start in
+    let entries = entries_from v left r.names count is.names_fit form [] r.entries written.entries is.entries_fit (omega arith) first.1 is.are_entries written.are_entries in
+    subst (λ ls. Run v left AtNames ls (AtNothing r)) (sym written.are_lines)
     (run_on F AtNames (AtEntries r.names form) (AtNothing r) written.first (entries_line count ∷ (written.entries ++ end_line ∷ [])) first.0
     (run_on F (AtEntries r.names form) (at_entry k []) (AtNothing r) (entries_line count ∷ []) (written.entries ++ end_line ∷ []) counts
-    (run_on F (at_entry k []) (AtEnd r) (AtNothing r) written.entries (end_line ∷ []) entries (end_run v [] r))))
+    (run_on F (at_entry k []) (AtEnd r) (AtNothing r) written.entries (end_line ∷ []) entries (end_run v left r))))

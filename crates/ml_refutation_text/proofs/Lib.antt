@@ -14,3 +14,7 @@ pub mod ReadWords
 pub mod GoodLines
 -- the lines of entries and of a whole body are good
 pub mod GoodEntries
+-- good lines have neither blanks nor LFs in their words
+pub mod PlainLines
+-- a text is of one refutation at most
+pub mod RefutationTexts

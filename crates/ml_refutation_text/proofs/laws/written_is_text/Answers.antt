@@ -1,5 +1,4 @@
 use Rattle.ml_refutation_text.proofs.WrittenTexts as proved
-use Rattle.ml_refutation_text.proofs.GoodEntries.{head_run}
 use Rattle.ml_refutation_text.proofs.laws.written_is_text.Goals as goal
 
 pub returns : goal.returns
