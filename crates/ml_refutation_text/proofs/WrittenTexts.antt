@@ -18,7 +18,7 @@ use Rattle.ml_trace.specs.declared.letters.AutomatonState.{AutomatonState}
 use Rattle.ml_trace.specs.Stack as traced
 use Rattle.ml_refutation.specs.Refutation.{Refutation, Entry, Fits, IsStack, IsItem, IsEntry, IsRefutation}
 use Rattle.ml_refutation_text.specs.RefutationText.{Spells, Form, InFull, ByTables, HeadLines, StackWords, ItemLines, EntryLines, EntriesLines, AreTables, IsTextOf, item_line, end_line, entries_line}
-use Rattle.ml_refutation_text.specs.WrittenText.{Writing, in_full, by_tables, used_stacks, each_once, sequents_of, stacks_of, place_in, entry_lines, entries_lines, last_lines, written_lines, written_text}
+use Rattle.ml_refutation_text.specs.WrittenText.{IsCounted, Writing, in_full, by_tables, used_stacks, each_once, sequents_of, stacks_of, place_in, entry_lines, entries_lines, last_lines, written_lines, written_text}
 use Rattle.ml_refutation_text.proofs.TableEntries.{Has, made_has, made_all, made_length, has_inside, has_place}
 
 -- ---- both forms
@@ -129,8 +129,7 @@ full_heads i q any = refl
 full_words : (ns : List ℕ) → Unit {0} → StackWords InFull ns (in_full.words ns)
 full_words ns any = refl
 
-pub written_is_text : (v : Version) (r : Refutation) → IsRefutation r → length (stacks_of r.entries) < 2 ^ 64
-    → IsTextOf v (written_text v r) r
+pub written_is_text : (v : Version) (r : Refutation) → IsRefutation r → IsCounted v r → IsTextOf v (written_text v r) r
 written_is_text One r is few = record {
   form = InFull;
   is_form = tt;

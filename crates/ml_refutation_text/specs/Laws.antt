@@ -7,12 +7,12 @@
 --   FaultOrRefutation     == and never both
 --   ReadableIsRefutation  == a text has no bad line exactly where it is that of a refutation
 --   OneFault              == a text has one first bad line at most
-use Rattle.std.specs.Prelude.{ℕ, ◌≡◌, ◌↔◌, ◌⊎◌, ◌<◌, ◌^◌, List, length}
+use Rattle.std.specs.Prelude.{ℕ, ◌≡◌, ◌↔◌, ◌⊎◌, List}
 use Rattle.ml_base.specs.declared.doc_fault.DocFault.{DocFault}
 use Rattle.ml_base.specs.declared.version.Version.{Version}
 use Rattle.ml_refutation.specs.Refutation.{Refutation, IsRefutation}
 use Rattle.ml_refutation_text.specs.RefutationText.{IsTextOf}
-use Rattle.ml_refutation_text.specs.WrittenText.{stacks_of, written_text}
+use Rattle.ml_refutation_text.specs.WrittenText.{IsCounted, written_text}
 use Rattle.ml_refutation_text.specs.BodyRules.{IsFaultOf, IsReadableBody}
 
 abbrev pub IsRefutationText : Version → List ℕ → Type 0
@@ -22,10 +22,8 @@ abbrev pub OneRefutation : Type 0
 OneRefutation = (v : Version) (text : List ℕ) (r s : Refutation)
     → IsRefutation r → IsRefutation s → IsTextOf v text r → IsTextOf v text s → r ≡ s
 
--- (the number of stacks is written as one of 64 bits)
 abbrev pub WrittenIsText : Type 0
-WrittenIsText = (v : Version) (r : Refutation) → IsRefutation r → length (stacks_of r.entries) < 2 ^ 64
-    → IsTextOf v (written_text v r) r
+WrittenIsText = (v : Version) (r : Refutation) → IsRefutation r → IsCounted v r → IsTextOf v (written_text v r) r
 
 abbrev pub RefutationOrFault : Type 0
 RefutationOrFault = (v : Version) (text : List ℕ) (first : ℕ)

@@ -15,7 +15,8 @@
 --   lines_by_tables es     == the tables of the entries es, and then these by their places there
 --   written_lines v r      == the lines of the body of r
 --   written_text v r       == these lines as bytes
-use Rattle.std.specs.Prelude.{ℕ, ◌+◌, List, [], ◌∷◌, ◌++◌, map, length, fold, if◌then◌else◌}
+--   IsCounted v r          == what is counted in the version v has a number of 64 bits
+use Rattle.std.specs.Prelude.{ℕ, ◌+◌, ◌<◌, ◌^◌, ⊤, List, [], ◌∷◌, ◌++◌, map, length, fold, if◌then◌else◌}
 use Rattle.std.specs.List.{flat_map, list_any, position_or_len}
 use Rattle.std.specs.Str.{bytes_eq}
 use Rattle.ml_base.specs.declared.version.Version.{Version}
@@ -89,3 +90,7 @@ written_lines Two r = names_line r.names ∷ lines_by_tables r.entries
 
 abbrev pub written_text : Version → Refutation → List ℕ
 written_text v r = text_of (written_lines v r)
+
+abbrev pub IsCounted : Version → Refutation → Type 0
+IsCounted One r = ⊤
+IsCounted Two r = length (stacks_of r.entries) < 2 ^ 64

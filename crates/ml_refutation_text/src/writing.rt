@@ -3,8 +3,8 @@ ghost use Rattle.std.specs.Prelude.{◌≡◌, ◌+◌, ◌<◌, ◌^◌, [], �
 ghost use Rattle.std.specs.List.{flat_map};
 ghost use Rattle.ml_lines.specs.Lines.{number, next, line_text, text_of};
 ghost use Rattle.ml_refutation.specs.Views.{cause_of, mark_of, decision_of, item_of, entry_of, of_parts};
-ghost use Rattle.ml_refutation_text.specs.RefutationText.{numbers, guess_word, item_line, clash_line, go_line, decision_lines};
-ghost use Rattle.ml_refutation_text.specs.WrittenText.{written_text, entry_lines, entries_lines, last_lines, lines_by_tables};
+ghost use Rattle.ml_refutation_text.specs.RefutationText.{IsTextOf, numbers, guess_word, item_line, clash_line, go_line, decision_lines};
+ghost use Rattle.ml_refutation_text.specs.WrittenText.{IsCounted, stacks_of as used, written_text, entry_lines, entries_lines, last_lines, lines_by_tables};
 ghost use Rattle.ml_refutation_text.specs.private.Filings.{shown, writing_of};
 
 use crate::tables::{Filing, Table, Tables, place_of, sequents_of, stacks_of};
@@ -25,7 +25,8 @@ pub fn write(
     refutation: &Refutation,
     version: Version,
 ) -> Result<Vec<u8>, NoMemory>
-    ensures { IfOk result (λ bytes. bytes.items ≡ written_text version (of_parts refutation.now.names refutation.now.entries)) }
+    ensures text { IfOk result (λ bytes. bytes.items ≡ written_text version (of_parts refutation.now.names refutation.now.entries)) }
+    ensures is_text { IfOk result (λ bytes. IsTextOf version bytes.items (of_parts refutation.now.names refutation.now.entries)) }
 {
     let mut out = Vec::new(alloc);
     append_refutation(alloc, &mut out, refutation, version)?;
@@ -44,7 +45,8 @@ pub fn append_refutation(
     refutation: &Refutation,
     version: Version,
 ) -> Result<(), NoMemory>
-    ensures { OnOk result (out.new.items ≡ out.old.items ++ written_text version (of_parts refutation.now.names refutation.now.entries)) }
+    ensures text { OnOk result (out.new.items ≡ out.old.items ++ written_text version (of_parts refutation.now.names refutation.now.entries)) }
+    ensures counted { OnOk result (IsCounted version (of_parts refutation.now.names refutation.now.entries)) }
 {
     write_numbered(out, b"names", u64::from(refutation.names))?;
     let entries = refutation.entries.as_slice();
@@ -56,7 +58,8 @@ pub fn append_refutation(
 
 // the tables, and the entries by their places there
 fn write_by_tables(alloc: Global, out: &mut Vec<u8>, entries: &[Entry]) -> Result<(), NoMemory>
-    ensures { OnOk result (out.new.items ≡ out.old.items ++ text_of (lines_by_tables (map entry_of entries.now))) }
+    ensures text { OnOk result (out.new.items ≡ out.old.items ++ text_of (lines_by_tables (map entry_of entries.now))) }
+    ensures counted { OnOk result (length (used (map entry_of entries.now)) < 2 ^ 64) }
 {
     let sequents = sequents_of(alloc, entries)?;
     let stacks = stacks_of(alloc, entries)?;
@@ -67,7 +70,8 @@ fn write_by_tables(alloc: Global, out: &mut Vec<u8>, entries: &[Entry]) -> Resul
 
 // a table with its number of lines
 fn write_table(out: &mut Vec<u8>, many: &[u8], one: &[u8], table: &Table) -> Result<(), NoMemory>
-    ensures { OnOk result (out.new.items ≡ out.old.items
+    ensures counted { length (shown table.now.keys) < 2 ^ 64 }
+    ensures text { OnOk result (out.new.items ≡ out.old.items
         ++ text_of ((many.now ∷ number (length (shown table.now.keys)) ∷ []) ∷ map (λ ns. one.now ∷ numbers ns) (shown table.now.keys))) }
 {
     write_numbered(out, many, table.len() as u64)?;
