@@ -18,3 +18,5 @@ pub mod GoodEntries
 pub mod PlainLines
 -- a text is of one refutation at most
 pub mod RefutationTexts
+-- whether a line keeps the rules of its place is decided
+pub mod JudgedLines

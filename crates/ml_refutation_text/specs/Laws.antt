@@ -3,11 +3,11 @@
 --   IsRefutationText v t  == t is the text of a refutation in the version v
 --   OneRefutation         == of one refutation at most
 --   WrittenIsText         == the text that is written of a refutation is one of it, in each version
---   RefutationOrFault     == a text is that of a refutation, or has a first bad line
---   FaultOrRefutation     == and never both
---   ReadableIsRefutation  == a text has no bad line exactly where it is that of a refutation
+--   ReadableOrFault       == a text has no bad line, or a first one
+--   FaultOrReadable       == and never both
+--   RefutationsAreReadable == a text of a refutation has no bad line
 --   OneFault              == a text has one first bad line at most
-use Rattle.std.specs.Prelude.{ℕ, ◌≡◌, ◌↔◌, ◌⊎◌, List}
+use Rattle.std.specs.Prelude.{ℕ, ◌≡◌, ◌⊎◌, List}
 use Rattle.ml_base.specs.declared.doc_fault.DocFault.{DocFault}
 use Rattle.ml_base.specs.declared.version.Version.{Version}
 use Rattle.ml_refutation.specs.Refutation.{Refutation, IsRefutation}
@@ -25,16 +25,16 @@ OneRefutation = (v : Version) (text : List ℕ) (r s : Refutation)
 abbrev pub WrittenIsText : Type 0
 WrittenIsText = (v : Version) (r : Refutation) → IsRefutation r → IsCounted v r → IsTextOf v (written_text v r) r
 
-abbrev pub RefutationOrFault : Type 0
-RefutationOrFault = (v : Version) (text : List ℕ) (first : ℕ)
-    → IsRefutationText v text ⊎ ((fault : DocFault) × IsFaultOf v text first fault)
+abbrev pub ReadableOrFault : Type 0
+ReadableOrFault = (v : Version) (text : List ℕ) (first : ℕ)
+    → IsReadableBody v text ⊎ ((fault : DocFault) × IsFaultOf v text first fault)
 
-abbrev pub FaultOrRefutation : Type 0
-FaultOrRefutation = (v : Version) (text : List ℕ) (first : ℕ) (fault : DocFault)
-    → IsRefutationText v text → IsFaultOf v text first fault → ⊥
+abbrev pub FaultOrReadable : Type 0
+FaultOrReadable = (v : Version) (text : List ℕ) (first : ℕ) (fault : DocFault)
+    → IsReadableBody v text → IsFaultOf v text first fault → ⊥
 
-abbrev pub ReadableIsRefutation : Type 0
-ReadableIsRefutation = (v : Version) (text : List ℕ) → IsReadableBody v text ↔ IsRefutationText v text
+abbrev pub RefutationsAreReadable : Type 0
+RefutationsAreReadable = (v : Version) (text : List ℕ) → IsRefutationText v text → IsReadableBody v text
 
 abbrev pub OneFault : Type 0
 OneFault = (v : Version) (text : List ℕ) (first : ℕ) (e f : DocFault)

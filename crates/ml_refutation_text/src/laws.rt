@@ -1,5 +1,5 @@
 // What holds of texts of refutations, whoever made them.
-ghost use Rattle.ml_refutation_text.specs.Laws.{WrittenIsText, OneRefutation, FaultOrRefutation, OneFault};
+ghost use Rattle.ml_refutation_text.specs.Laws.{FaultOrReadable, OneFault, OneRefutation, ReadableOrFault, RefutationsAreReadable, WrittenIsText};
 
 /// The text that is written of a refutation, of not too many stacks to count them, is a text of it, in both versions.
 pub fn written_is_text()
@@ -11,8 +11,11 @@ pub fn one_refutation()
     ensures { OneRefutation }
 {}
 
-/// A text of a refutation has no first bad line, and a text has one first bad line at most.
+/// A text has no bad line or a first one, exactly one of the two, and one first bad line at most, which breaks one lowest
+/// rule; a text of a refutation has none.
 pub fn one_fault()
-    ensures exclusive { FaultOrRefutation }
+    ensures one { ReadableOrFault }
+    ensures exclusive { FaultOrReadable }
     ensures fault { OneFault }
+    ensures readable { RefutationsAreReadable }
 {}
