@@ -1,5 +1,6 @@
 // Laws over the definitions alone: no caller runs these functions, their contracts are the theorems.
 ghost use Rattle.std.specs.Prelude.{◌≡◌, ◌↔◌, ◌⊎◌, ℕ, List};
+ghost use Rattle.ml_base.specs.declared.name.TheConstants.{LONGEST_NAME};
 ghost use Rattle.ml_lists.specs.Ascending.{IsAscending, ascending, insert_once};
 ghost use Rattle.ml_lists.specs.Member.{IsMember};
 
@@ -19,4 +20,9 @@ pub fn inserted_is_the_set()
 #[tactic(auto, using(crate::proofs::IdSets::ascending_is_set))]
 pub fn ascending_is_the_set()
     ensures { (xs : List ℕ) → IsAscending (ascending xs) × ((y : ℕ) → IsMember y (ascending xs) ↔ IsMember y xs) }
+{}
+
+/// Names have at most 64 bytes.
+pub fn limits()
+    ensures { LONGEST_NAME ≡ 64 }
 {}

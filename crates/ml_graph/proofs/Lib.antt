@@ -6,6 +6,10 @@ pub mod OddPriorities
 pub mod Places
 -- where edges lead, row by row
 pub mod EdgeRows
+-- which propositions are labels, flag by flag
+pub mod Truths
+-- the edges of a structure, state by state
+pub mod EdgesLeft
 -- ranges of numbers, one number longer
 pub mod Ranges
 -- how a checking game is made

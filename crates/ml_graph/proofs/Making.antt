@@ -1,7 +1,6 @@
--- How a checking game is made: truths row by row, the moves of a pair, and vertices one behind the other.
+-- How a checking game is made: what is noted at a state, the moves of a pair, and vertices one behind the other.
 --
---   truths_more      == the truths of one state more
---   has_truths       == the truths of all states can be looked up
+--   looked           == what was noted at a state is what is true there, and where its edges lead
 --   sink_or_pairs    == the numbers of pairs, or of a sink
 --   some_pairs       == where there are states, they are those of pairs
 --   sink_number      == the number of a sink, as the program computes it
@@ -9,60 +8,53 @@
 --   vertex_more, pair_more == one vertex more, and the pair of one node more
 --   all_pairs        == the pairs of one state more
 --   with_sinks       == the two sinks behind all pairs
---   row_count        == how many rows of targets there are
 --   made_game        == lists with all vertices are the checking game
-use Rattle.std.proofs.Common.{ℕ, ◌≡◌, ◌+◌, ◌*◌, ◌<◌, ◌≤◌, ◌==◌, Bool, false, List, [], ◌∷◌, ◌++◌, length, get_or, map, take, Result, Ok, Err, IfOk, refl, sym, ap, ◌∙◌, subst, arith, append_assoc}
+use Rattle.std.proofs.Common.{ℕ, ◌≡◌, ◌+◌, ◌*◌, ◌==◌, false, List, [], ◌∷◌, ◌++◌, length, get_or, map, Result, Ok, Err, IfOk, refl, sym, ap, ◌∙◌, subst, arith, append_assoc}
 use Rattle.std.specs.Global.{Vec}
 use Rattle.std.specs.List.{flat_map, range_with_len}
-use Rattle.std.proofs.lemmas.List.{map-append, take_all, length-map, get_or-map}
+use Rattle.std.proofs.lemmas.List.{map-append}
 use Rattle.std.proofs.lemmas.Simd.{map-map}
-use Rattle.std.proofs.lemmas.List.FromFn.{length-range_with_len, get_or-range_with_len}
-use Rattle.ml_base.specs.Structure.{Structure, lists}
-use Rattle.ml_lists.proofs.Grids.{length-even_rows, get_or-even_row}
+use Rattle.ml_base.specs.declared.structure.Edge.{Edge}
+use Rattle.ml_base.specs.Structure.{Structure}
 use Rattle.ml_parity.specs.declared.players.Player.{Player}
 use Rattle.ml_parity.specs.Refusal.{lists_of, game_of}
+use Rattle.ml_graph.specs.declared.at_state.AtState.{AtState}
 use Rattle.ml_graph.specs.declared.checking.Vertices.{Vertices}
 use Rattle.ml_graph.specs.Graph.{Graph, size, node_at}
 use Rattle.ml_graph.specs.CheckingGame.{Vertex, Pair, Sink, owner_at, priority_at_vertex, vertex_number, successors, successors_of, pairs_or_sink, pairs_at, vertices, checking_game}
-use Rattle.ml_graph.specs.private.Making.{HasTruths, HasVertices, numbers_or_sink}
+use Rattle.ml_graph.specs.private.Making.{AreEdgesOf, HasTruths, HasTargets, HasVertices, IsFor, IsAt, numbers_or_sink}
 use Rattle.ml_graph.proofs.Ranges.{flat_map-more, map-more}
 
--- the truths at the state s
-abbrev pub truths_at : Graph → Structure → ℕ → List Bool
-truths_at g m s = map (lists m s) g.props
-
--- the truths of one state more
-pub truths_more : (g : Graph) (m : Structure) (truths : List Bool) (s k : ℕ) → length g.props ≤ k
-    → truths ≡ flat_map (truths_at g m) (range_with_len 0 s) ++ map (lists m s) (take k g.props)
-    → truths ≡ flat_map (truths_at g m) (range_with_len 0 (s + 1))
-truths_more g m truths s k all is =
-    is
-    ∙ ap (λ ps. flat_map (truths_at g m) (range_with_len 0 s) ++ map (lists m s) ps) (take_all k g.props all)
-    ∙ sym (flat_map-more (truths_at g m) s)
-
--- the truths of all states can be looked up
-pub has_truths : (g : Graph) (m : Structure) (truths : List Bool)
-    → truths ≡ flat_map (truths_at g m) (range_with_len 0 m.states) → HasTruths g m truths
-has_truths g m truths is = record {
-  size = ap length is ∙ length-even_rows (truths_at g m) w even states ∙ ap (λ n. n * w) (length-range_with_len 0 m.states);
-  truth = λ s p s_low p_low.
-      ap (λ xs. get_or xs (s * w + p) false) is
-      ∙ get_or-even_row (truths_at g m) w even states s p 0 false (omega (arith, length-range_with_len 0 m.states)) p_low
-      ∙ ap (λ k. get_or (truths_at g m k) p false) (state s s_low)
-      ∙ get_or-map (lists m s) g.props p [] false p_low;
-}
-  where
-    w : ℕ
-    w = length g.props
-
-    states : List ℕ
-    states = range_with_len 0 m.states
-
-    state : (s : ℕ) → s < m.states → get_or states s 0 ≡ s
-    state s low = let at : 0 + s ≡ s = omega arith in get_or-range_with_len 0 m.states s 0 low ∙ at
-
-    even : (s : ℕ) → length (truths_at g m s) ≡ w
-    even s = length-map g.props (lists m s)
+-- what was noted at a state is what is true there, and where its edges lead
+pub looked : (g : Graph) (m : Structure) (s : ℕ) (at at2 : AtState) (labels : List (List ℕ)) (es : List Edge)
+    → IsFor g at
+    → at2.props ≡ at.props
+    → at2.actions ≡ at.actions
+    → labels ≡ get_or m.labels s []
+    → AreEdgesOf m s es
+    → HasTruths at.props.keys labels at2.truths.items
+    → HasTargets at.actions.keys es at2.targets.items
+    → IsAt g m s at2
+looked g m s at at2 labels es has props actions of_state edges truths targets =
+    let names : at2.props.keys ≡ g.props = ap (λ x. x.keys) props ∙ has.props in
+    let acts : at2.actions.keys ≡ g.actions = ap (λ x. x.keys) actions ∙ has.actions in
+    let true_here : HasTruths g.props (get_or m.labels s []) at2.truths.items =
+    subst (λ ls. HasTruths g.props ls at2.truths.items) of_state
+    (subst (λ ps. HasTruths ps labels at2.truths.items) has.props truths) in
+    let leads : HasTargets g.actions es at2.targets.items =
+    subst (λ xs. HasTargets xs es at2.targets.items) has.actions targets in
+    record {
+      names = record {
+        props = names;
+        actions = acts;
+        truths = true_here.size;
+        targets = leads.size;
+        props_differ = has.props_differ;
+        actions_differ = has.actions_differ;
+      };
+      truth = true_here.truth;
+      row = λ a low. leads.row a low ∙ sym (edges (get_or g.actions a []));
+    }
 
 -- the numbers of pairs, or of a sink
 pub sink_or_pairs : (g : Graph) (m : Structure) (to p : ℕ) (ts : List ℕ)
@@ -88,18 +80,23 @@ pub modal_moves : {E : Type 0}
     → successors_of g m s (node_at g n) ≡ pairs_or_sink to p ts
     → IfOk r (λ v. v.items ≡ map (vertex_number g m) (successors_of g m s (node_at g n)))
 modal_moves g m s n to p width sink ts (Ok v) is w k next =
-    is ∙ ap (λ x. numbers_or_sink x to sink ts) w ∙ ap (λ x. numbers_or_sink (size g) to x ts) k ∙ sink_or_pairs g m to p ts ∙ ap (map (vertex_number g m)) (sym next)
+    is ∙ ap (λ x. numbers_or_sink x to sink ts) w ∙ ap (λ x. numbers_or_sink (size g) to x ts) k
+    ∙ sink_or_pairs g m to p ts ∙ ap (map (vertex_number g m)) (sym next)
 modal_moves g m s n to p width sink ts (Err e) is w k next = is
 
 -- one vertex more
 pub vertex_more : (g : Graph) (m : Structure) (made made2 : Vertices) (vs : List Vertex) (v : Vertex) (owner : Player)
     (priority : ℕ) (moves : Vec ℕ)
-    → HasVertices g m made vs → made2.owner.items ≡ made.owner.items ++ owner ∷ [] → made2.priority.items ≡ made.priority.items ++ priority ∷ []
-    → made2.successors.items ≡ made.successors.items ++ moves ∷ [] → owner ≡ owner_at g v → priority ≡ priority_at_vertex g v
+    → HasVertices g m made vs → made2.owner.items ≡ made.owner.items ++ owner ∷ [] → made2.priority.items
+    ≡ made.priority.items ++ priority ∷ []
+    → made2.successors.items ≡ made.successors.items ++ moves ∷ [] → owner ≡ owner_at g v → priority
+    ≡ priority_at_vertex g v
     → moves.items ≡ map (vertex_number g m) (successors g m v) → HasVertices g m made2 (vs ++ v ∷ [])
 vertex_more g m made made2 vs v owner priority moves has owners priorities lists own prio next = record {
-  owners = owners ∙ ap (λ xs. xs ++ owner ∷ []) has.owners ∙ ap (λ o. map (owner_at g) vs ++ o ∷ []) own ∙ sym (map-append (owner_at g) vs (v ∷ []));
-  priorities = priorities ∙ ap (λ xs. xs ++ priority ∷ []) has.priorities ∙ ap (λ o. map (priority_at_vertex g) vs ++ o ∷ []) prio ∙ sym (map-append (priority_at_vertex g) vs (v ∷ []));
+  owners = owners ∙ ap (λ xs. xs ++ owner ∷ []) has.owners ∙ ap (λ o. map (owner_at g) vs ++ o ∷ []) own
+      ∙ sym (map-append (owner_at g) vs (v ∷ []));
+  priorities = priorities ∙ ap (λ xs. xs ++ priority ∷ []) has.priorities
+      ∙ ap (λ o. map (priority_at_vertex g) vs ++ o ∷ []) prio ∙ sym (map-append (priority_at_vertex g) vs (v ∷ []));
   moves =
       ap lists_of lists
       ∙ map-append (λ (x : Vec ℕ). x.items) made.successors.items (moves ∷ [])
@@ -111,15 +108,20 @@ vertex_more g m made made2 vs v owner priority moves has owners priorities lists
 -- the pair of a state and one node more
 pub pair_more : (g : Graph) (m : Structure) (made made2 : Vertices) (vs : List Vertex) (s n : ℕ) (owner : Player)
     (priority : ℕ) (moves : Vec ℕ)
-    → HasVertices g m made (vs ++ map (Pair s) (range_with_len 0 n)) → made2.owner.items ≡ made.owner.items ++ owner ∷ []
-    → made2.priority.items ≡ made.priority.items ++ priority ∷ [] → made2.successors.items ≡ made.successors.items ++ moves ∷ []
+    → HasVertices g m made (vs ++ map (Pair s) (range_with_len 0 n)) → made2.owner.items
+    ≡ made.owner.items ++ owner ∷ []
+    → made2.priority.items ≡ made.priority.items ++ priority ∷ [] → made2.successors.items
+    ≡ made.successors.items ++ moves ∷ []
     → owner ≡ owner_at g (Pair s n) → priority ≡ priority_at_vertex g (Pair s n)
     → moves.items ≡ map (vertex_number g m) (successors g m (Pair s n))
     → HasVertices g m made2 (vs ++ map (Pair s) (range_with_len 0 (n + 1)))
 pair_more g m made made2 vs s n owner priority moves has owners priorities lists own prio next =
-    let longer : (vs ++ map (Pair s) (range_with_len 0 n)) ++ Pair s n ∷ [] ≡ vs ++ map (Pair s) (range_with_len 0 (n + 1)) =
-    append_assoc vs (map (Pair s) (range_with_len 0 n)) (Pair s n ∷ []) ∙ ap (λ xs. vs ++ xs) (sym (map-more (Pair s) n)) in
-    subst (HasVertices g m made2) longer (vertex_more g m made made2 (vs ++ map (Pair s) (range_with_len 0 n)) (Pair s n) owner priority moves has owners priorities lists own prio next)
+    let longer : (vs ++ map (Pair s) (range_with_len 0 n)) ++ Pair s n ∷ []
+    ≡ vs ++ map (Pair s) (range_with_len 0 (n + 1)) =
+    append_assoc vs (map (Pair s) (range_with_len 0 n)) (Pair s n ∷ [])
+    ∙ ap (λ xs. vs ++ xs) (sym (map-more (Pair s) n)) in
+    subst (HasVertices g m made2) longer (vertex_more g m made made2 (vs ++ map (Pair s) (range_with_len 0 n))
+    (Pair s n) owner priority moves has owners priorities lists own prio next)
 
 -- the pairs of all states, and then the two sinks
 pub all_pairs : (g : Graph) (m : Structure) (made made2 : Vertices) (s : ℕ)
@@ -127,18 +129,8 @@ pub all_pairs : (g : Graph) (m : Structure) (made made2 : Vertices) (s : ℕ)
     → ((vs : List Vertex) → HasVertices g m made vs → HasVertices g m made2 (vs ++ pairs_at g s))
     → HasVertices g m made2 (flat_map (pairs_at g) (range_with_len 0 (s + 1)))
 all_pairs g m made made2 s has more =
-    subst (HasVertices g m made2) (sym (flat_map-more (pairs_at g) s)) (more (flat_map (pairs_at g) (range_with_len 0 s)) has)
-
--- how many rows there are
-pub row_count : (rows counter count w s a b : ℕ)
-    → rows ≡ counter
-    → count ≤ counter
-    → counter ≤ count
-    → count ≡ w * s
-    → w ≡ a
-    → s ≡ b → rows ≡ b * a
-row_count rows counter count w s a b e low high is width states =
-    let product : w * s ≡ a * b = ap (λ x. x * s) width ∙ ap (λ x. a * x) states in omega arith
+    subst (HasVertices g m made2) (sym (flat_map-more (pairs_at g) s))
+    (more (flat_map (pairs_at g) (range_with_len 0 s)) has)
 
 -- the vertices that were made are a game
 pub made_game : (g : Graph) (m : Structure) (made : Vertices) → HasVertices g m made (vertices g m)
@@ -153,5 +145,7 @@ pub with_sinks : (g : Graph) (m : Structure) (made made2 made3 : Vertices) (stat
     → HasVertices g m made3 (vertices g m)
 with_sinks g m made made2 made3 states all has first second =
     let pairs : List Vertex = flat_map (pairs_at g) (range_with_len 0 m.states) in
-    let here : HasVertices g m made pairs = subst (λ n. HasVertices g m made (flat_map (pairs_at g) (range_with_len 0 n))) all has in
-    subst (HasVertices g m made3) (append_assoc pairs (Sink 0 ∷ []) (Sink 1 ∷ [])) (second (pairs ++ Sink 0 ∷ []) (first pairs here))
+    let here : HasVertices g m made pairs =
+    subst (λ n. HasVertices g m made (flat_map (pairs_at g) (range_with_len 0 n))) all has in
+    subst (HasVertices g m made3) (append_assoc pairs (Sink 0 ∷ []) (Sink 1 ∷ []))
+    (second (pairs ++ Sink 0 ∷ []) (first pairs here))

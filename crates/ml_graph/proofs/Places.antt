@@ -2,12 +2,15 @@
 --
 --   position_hit, position_miss == where a test first passes, and where it doesn't pass at all
 --   same_place                  == a name has one place
+--   found_at                    == a name that is found is equal to that name alone
 --   one_name                    == a list of one name has none twice
-use Rattle.std.proofs.Common.{ℕ, zero, suc, ◌≡◌, ◌<◌, ◌≤◌, ⊎_elim, Bool, true, false, cond, nat_lt, List, [], ◌∷◌, length, get_or, Some, None, refl, sym, subst, arith}
-use Rattle.std.specs.List.{position, position_or_len, IsDistinct, AllByRecursion}
+--   name_added                  == the names up to a place, and then the name at it
+use Rattle.std.proofs.Common.{ℕ, zero, suc, ◌≡◌, ◌+◌, ◌<◌, ◌≤◌, ◌==◌, ◌⊎◌, inl, inr, ⊎_elim, Bool, true, false, cond, ◌||◌, if◌then◌else◌, nat_lt, List, [], ◌∷◌, ◌++◌, length, get_or, take, Some, None, refl, sym, ap, ◌∙◌, subst, arith}
+use Rattle.std.specs.List.{list_any, position, position_or_len, IsDistinct, AllByRecursion}
 use Rattle.std.specs.Str.{bytes_eq}
-use Rattle.std.proofs.lemmas.Bool.{cases_lt}
+use Rattle.std.proofs.lemmas.Bool.{cases_eq, cases_lt}
 use Rattle.std.proofs.lemmas.Bool.Decides.{nat_tests}
+use Rattle.std.proofs.lemmas.List.{take_more}
 use Rattle.std.proofs.lemmas.List.Sums.{fails_before_first, passes_at_first}
 use Rattle.std.proofs.lemmas.Slice.Eq.{bytes_eq-Decides}
 
@@ -60,10 +63,66 @@ pub same_place : (xs : List (List ℕ)) → IsDistinct bytes_eq xs → (i j : �
     → get_or xs i [] ≡ get_or xs j [] → i ≡ j
 same_place xs different i j i_low j_low same =
     ⊎_elim (λ (less : i < j). absurd (apart xs different i j less j_low same))
-    (λ (other : j ≤ i). ⊎_elim (λ (less : j < i). absurd (apart xs different j i less i_low (sym same))) (λ (also : i ≤ j). omega arith) (cases_lt j i))
+    (λ (other : j ≤ i). ⊎_elim (λ (less : j < i). absurd (apart xs different j i less i_low (sym same)))
+    (λ (also : i ≤ j). omega arith) (cases_lt j i))
     (cases_lt i j)
 
 -- one name differs from all others
 pub one_name : (x : List ℕ) → IsDistinct bytes_eq (x ∷ [])
 unfolding IsDistinct
 one_name x = (tt, tt)
+
+-- a name that is found is equal to the name at its place, and to no other
+pub found_at : (xs : List (List ℕ)) → IsDistinct bytes_eq xs → (x : List ℕ) (i : ℕ) → position (bytes_eq x) xs ≡ Some i
+    → (i < length xs) × ((k : ℕ) → k < length xs → bytes_eq x (get_or xs k []) ≡ (k == i))
+found_at xs different x i is = (hit.0, λ k low. by_place k low (cases_eq k i))
+  where
+    hit : (i < length xs) × (bytes_eq x (get_or xs i []) ≡ true)
+    hit = position_hit (bytes_eq x) xs i [] is
+
+    name : x ≡ get_or xs i []
+    name = (bytes_eq-Decides x (get_or xs i [])).0 hit.1
+
+    by_test : (k : ℕ) (b : Bool) → k < length xs → bytes_eq x (get_or xs k []) ≡ b → (k ≡ i → ⊥) → b ≡ false
+    by_test k false low equal other = refl
+    by_test k true low equal other =
+        absurd (other (same_place xs different k i low hit.0
+        (sym ((bytes_eq-Decides x (get_or xs k [])).0 equal) ∙ name)))
+
+    by_place : (k : ℕ) → k < length xs → (k ≡ i) ⊎ (k ≡ i → ⊥) → bytes_eq x (get_or xs k []) ≡ (k == i)
+    by_place k low (inl here) =
+        let test : (k == i) ≡ true = grind (arith, nat_tests) in
+        ap (λ j. bytes_eq x (get_or xs j [])) here ∙ hit.1 ∙ sym test
+    by_place k low (inr there) =
+        let test : (k == i) ≡ false = grind (arith, nat_tests) in
+        by_test k (bytes_eq x (get_or xs k [])) low refl there ∙ sym test
+
+-- no name stands before its place
+fresh : (xs : List (List ℕ)) → IsDistinct bytes_eq xs → (i : ℕ) (x : List ℕ) → i < length xs → x ≡ get_or xs i x
+    → list_any (bytes_eq x) (take i xs) ≡ false
+unfolding IsDistinct
+fresh [] different i x low is = absurd (omega arith)
+fresh (y ∷ ys) different zero x low is = refl
+fresh (y ∷ ys) different (suc i) x low is =
+    ap (λ b. b || list_any (bytes_eq x) (take i ys)) (by_test (bytes_eq x y) refl)
+    ∙ fresh ys different.1 i x (omega arith) is
+  where
+    unequal : bytes_eq y (get_or ys i x) ≡ false
+    unequal = all_at (λ z. bytes_eq y z ≡ false) ys x different.0 i (omega arith)
+
+    by_test : (b : Bool) → bytes_eq x y ≡ b → b ≡ false
+    by_test false equal = refl
+    by_test true equal =
+        let same : x ≡ y = (bytes_eq-Decides x y).0 equal in
+        let again : bytes_eq y (get_or ys i x) ≡ true = (bytes_eq-Decides y (get_or ys i x)).1 (sym same ∙ is) in
+        let other : bytes_eq y (get_or ys i x) ≡ false = unequal in
+        cc
+
+-- the names up to a place, and then the name at it
+pub name_added : (xs : List (List ℕ)) → IsDistinct bytes_eq xs → (i : ℕ) (x : List ℕ) → i < length xs
+    → x ≡ get_or xs i x
+    → (if list_any (bytes_eq x) (take i xs) then take i xs else take i xs ++ x ∷ []) ≡ take (i + 1) xs
+name_added xs different i x low is =
+    ap (λ b. if b then take i xs else take i xs ++ x ∷ []) (fresh xs different i x low is)
+    ∙ ap (λ y. take i xs ++ y ∷ []) is
+    ∙ sym (take_more xs i x low)

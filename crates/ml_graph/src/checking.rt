@@ -1,17 +1,15 @@
 // The checking game of a graph and a structure.
-ghost use Rattle.std.specs.Prelude.{◌≡◌, ◌<◌, ◌+◌, ◌*◌, ◌++◌, ◌≤◌, ℕ, [], ◌∷◌, IfOk, OnOk, List, length, map, position};
-ghost use Rattle.std.specs.List.{IsDistinct};
-ghost use Rattle.std.specs.Str.{bytes_eq};
-ghost use Rattle.ml_base.specs.Structure.{lists};
+ghost use Rattle.std.specs.Prelude.{◌≡◌, ◌<◌, ◌+◌, ◌*◌, ◌++◌, [], ◌∷◌, IfOk, OnOk, List, map};
 ghost use Rattle.ml_parity.specs.Game.{IsGame};
 ghost use Rattle.ml_parity.specs.Refusal.{game_of};
-ghost use Rattle.ml_graph.specs.Graph.{size, prop_at, action_at};
-ghost use Rattle.ml_graph.specs.CheckingGame.{Vertex, Pair, Sink, vertex_number, mover, targets, pairs_at, successors, vertices, checking_game};
-ghost use Rattle.ml_graph.specs.private.Making.{HasAdded, IsLookup, numbers_or_sink, HasTargets, HasTruths, HasVertices};
+ghost use Rattle.ml_graph.specs.Graph.{size};
+ghost use Rattle.ml_graph.specs.CheckingGame.{Vertex, Pair, Sink, vertex_number, mover, pairs_at, successors, vertices, checking_game};
+ghost use Rattle.ml_graph.specs.private.Making.{IsAt, numbers_or_sink, HasVertices};
 
+use crate::at_state::{AtState, count_leaving};
 use crate::modal_graph::ModalGraph;
 use crate::node::Node;
-use ml_base::{Action, Edge, NoMemory};
+use ml_base::NoMemory;
 use ml_kripke::Structure;
 use ml_parity::{Game, Player};
 use std::alloc::Global;
@@ -32,63 +30,6 @@ fn mover(node: Node) -> Player
         Node::And { .. } | Node::Square { .. } => Player::Odd,
         _ => Player::Even,
     }
-}
-
-/// The place of an action in a list, if it stands there.
-fn place_of(actions: &[Action], action: &Action) -> Option<usize>
-    ensures { result ≡ position (λ a. bytes_eq a action.now) actions.now }
-{
-    actions.iter().position(|a| a == action)
-}
-
-/// Adds to the rows where one edge leads, if its action is one of these.
-fn add_edge(rows: &mut [Vec<u32>], actions: &[Action], edge: &Edge) -> Result<(), NoMemory>
-    requires distinct { IsDistinct bytes_eq actions.now }
-    requires fits { edge.now.source * length actions.now + length actions.now ≤ length rows.old }
-    ensures rows { OnOk result (HasAdded actions.now edge.now rows.old rows.new) }
-{
-    let Some(action) = place_of(actions, &edge.action) else {
-        return Ok(());
-    };
-    rows[edge.source as usize * actions.len() + action].push(edge.target)?;
-    Ok(())
-}
-
-/// For each state and each action of the graph, state by state, where the edges lead.
-///
-/// Want of memory is answered too where there would be more rows than a vector has.
-fn edge_rows(
-    alloc: Global,
-    graph: &ModalGraph,
-    structure: &Structure,
-) -> Result<Vec<Vec<u32>>, NoMemory>
-    ensures { IfOk result (λ rows. HasTargets graph.now structure.now structure.now.edges rows.items) }
-{
-    let actions = graph.actions();
-    let Some(count) = actions.len().checked_mul(structure.states() as usize) else {
-        return Err(NoMemory);
-    };
-    let mut rows = Vec::new(alloc);
-    for _ in 0..count {
-        rows.push(Vec::new(alloc))?;
-    }
-    for edge in structure.edges() {
-        add_edge(&mut rows, actions, edge)?;
-    }
-    Ok(rows)
-}
-
-/// For each state and each proposition of the graph, state by state, whether it is true there.
-fn truths(alloc: Global, graph: &ModalGraph, structure: &Structure) -> Result<Vec<bool>, NoMemory>
-    ensures { IfOk result (λ truths. HasTruths graph.now structure.now truths.items) }
-{
-    let mut truths = Vec::new(alloc);
-    for state in 0..structure.states() {
-        for prop in graph.props() {
-            truths.push(structure.has_label(state, prop))?;
-        }
-    }
-    Ok(truths)
 }
 
 /// The number of the pair of a state and a node, in a graph of so many nodes.
@@ -119,69 +60,39 @@ fn pairs_or_sink(
     )
 }
 
-/// What is looked up while a game is made.
-#[derive(Drop)]
-struct Lookup {
-    truths: Vec<bool>,
-    targets: Vec<Vec<u32>>,
-}
-
-impl Lookup {
-    /// Whether a proposition of the graph is true at a state.
-    fn is_true(&self, graph: &ModalGraph, structure: &Structure, state: u32, prop: u32) -> bool
-        requires looked { IsLookup graph.now structure.now self.now }
-        requires state { state < structure.now.states }
-        requires prop { prop < length graph.now.props }
-        ensures { result ≡ lists structure.now state (prop_at graph.now prop) }
-    {
-        self.truths[state as usize * graph.props().len() + prop as usize]
-    }
-
-    /// Where the edges of an action of the graph lead from a state.
-    fn targets(&self, graph: &ModalGraph, structure: &Structure, state: u32, action: u32) -> &[u32]
-        requires looked { IsLookup graph.now structure.now self.now }
-        requires state { state < structure.now.states }
-        requires action { action < length graph.now.actions }
-        ensures { result.now ≡ targets structure.now state (action_at graph.now action) }
-    {
-        &self.targets[state as usize * graph.actions().len() + action as usize]
-    }
-
-    /// The moves from the pair of a state and a node.
-    fn moves(
-        &self,
-        alloc: Global,
-        graph: &ModalGraph,
-        structure: &Structure,
-        state: u32,
-        n: u32,
-    ) -> Result<Vec<u64>, NoMemory>
-        requires looked { IsLookup graph.now structure.now self.now }
-        requires state { state < structure.now.states }
-        requires node { n < size graph.now }
-        ensures { IfOk result (λ moves. moves.items ≡ map (vertex_number graph.now structure.now) (successors graph.now structure.now (Pair state n))) }
-    {
-        let size = graph.size();
-        let good = pair(structure.states(), size, 0);
-        let bad = good + 1;
-        match *graph.node(n) {
-            Node::True => Ok(vec![in alloc; good]?),
-            Node::False => Ok(vec![in alloc; bad]?),
-            Node::Lit { prop, positive } => {
-                let holds = self.is_true(graph, structure, state, prop) == positive;
-                Ok(vec![in alloc; if holds { good } else { bad }]?)
-            }
-            Node::And { left, right } | Node::Or { left, right } => {
-                Ok(vec![in alloc; pair(state, size, left), pair(state, size, right)]?)
-            }
-            Node::Diamond { action, to } => {
-                let targets = self.targets(graph, structure, state, action);
-                pairs_or_sink(alloc, targets, size, to, bad)
-            }
-            Node::Square { action, to } => {
-                let targets = self.targets(graph, structure, state, action);
-                pairs_or_sink(alloc, targets, size, to, good)
-            }
+/// The moves from the pair of a state and a node.
+fn moves_from(
+    alloc: Global,
+    graph: &ModalGraph,
+    structure: &Structure,
+    at: &AtState,
+    state: u32,
+    n: u32,
+) -> Result<Vec<u64>, NoMemory>
+    requires here { IsAt graph.now structure.now state at.now }
+    requires node { n < size graph.now }
+    ensures { IfOk result (λ moves. moves.items ≡ map (vertex_number graph.now structure.now) (successors graph.now structure.now (Pair state n))) }
+{
+    let size = graph.size();
+    let good = pair(structure.states(), size, 0);
+    let bad = good + 1;
+    match *graph.node(n) {
+        Node::True => Ok(vec![in alloc; good]?),
+        Node::False => Ok(vec![in alloc; bad]?),
+        Node::Lit { prop, positive } => {
+            let holds = at.is_true(graph, structure, state, prop) == positive;
+            Ok(vec![in alloc; if holds { good } else { bad }]?)
+        }
+        Node::And { left, right } | Node::Or { left, right } => {
+            Ok(vec![in alloc; pair(state, size, left), pair(state, size, right)]?)
+        }
+        Node::Diamond { action, to } => {
+            let targets = at.targets(graph, structure, state, action);
+            pairs_or_sink(alloc, targets, size, to, bad)
+        }
+        Node::Square { action, to } => {
+            let targets = at.targets(graph, structure, state, action);
+            pairs_or_sink(alloc, targets, size, to, good)
         }
     }
 }
@@ -205,16 +116,15 @@ impl Vertices {
         alloc: Global,
         graph: &ModalGraph,
         structure: &Structure,
-        lookup: &Lookup,
+        at: &AtState,
         state: u32,
     ) -> Result<(), NoMemory>
-        requires looked { IsLookup graph.now structure.now lookup.now }
-        requires state { state < structure.now.states }
+        requires here { IsAt graph.now structure.now state at.now }
         ensures { OnOk result ((vs : List Vertex) → HasVertices graph.now structure.now self.old vs
             → HasVertices graph.now structure.now self.new (vs ++ pairs_at graph.now state)) }
     {
         for n in 0..graph.size() {
-            let moves = lookup.moves(alloc, graph, structure, state, n)?;
+            let moves = moves_from(alloc, graph, structure, at, state, n)?;
             self.push(mover(*graph.node(n)), graph.priority(n), moves)?;
         }
         Ok(())
@@ -247,18 +157,19 @@ fn all_vertices(
     ensures made { IfOk result (λ made. HasVertices graph.now structure.now made (vertices graph.now structure.now)) }
     ensures game { IfOk result (λ made. IsGame (game_of made.owner made.priority made.successors)) }
 {
-    let lookup = Lookup {
-        truths: truths(alloc, graph, structure)?,
-        targets: edge_rows(alloc, graph, structure)?,
-    };
     let count = pair(structure.states(), graph.size(), 2) as usize;
     let mut made = Vertices {
         owner: Vec::with_capacity(alloc, count)?,
         priority: Vec::with_capacity(alloc, count)?,
         successors: Vec::with_capacity(alloc, count)?,
     };
+    let mut at = AtState::of(alloc, graph)?;
+    let mut edges = structure.edges();
     for state in 0..structure.states() {
-        made.push_pairs(alloc, graph, structure, &lookup, state)?;
+        let (leaving, later) = edges.split_at(count_leaving(edges, state));
+        at.look(graph, structure, state, leaving)?;
+        made.push_pairs(alloc, graph, structure, &at, state)?;
+        edges = later;
     }
     made.push_sink(alloc, graph, structure, 0)?;
     made.push_sink(alloc, graph, structure, 1)?;
@@ -273,8 +184,8 @@ fn all_vertices(
 /// # Errors
 /// `NoMemory` alone.
 ///
-/// Cost: linear in the game, and for its tables in the edges times the actions of the graph, and in the labels times its
-/// propositions. Source: Stirling, Local model checking games (1995).
+/// Cost: linear in the game, where each name of the graph stands at a node, and in the structure; a name is looked up by
+/// its hash. (Else linear in the states times the names, too.) Source: Stirling, Local model checking games (1995).
 pub fn checking_game(
     alloc: Global,
     graph: &ModalGraph,

@@ -2,8 +2,8 @@
 
 ghost use Rattle.ml_graph.specs.Laws.{OneStepLaw};
 
-/// Where a graph holds at a node is told by where it holds at the nodes to which the node refers, as the names of the
-/// nodes say. Graphs and structures are of any size.
+/// Where a graph holds at a node of it is told by where it holds at the nodes to which the node refers, as the names of
+/// the nodes say: at each state of a structure. Graphs and structures are of any size; all their numbers are in range.
 ///
 /// Does nothing when called.
 pub fn one_step()

@@ -13,6 +13,7 @@
 // the four logics, the local phase of the decision, and the checkers.
 #![tactic(auto)]
 
+mod at_state;
 mod checking;
 pub mod laws;
 mod modal_graph;

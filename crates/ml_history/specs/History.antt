@@ -5,9 +5,8 @@
 -- That children lie properly inside their parent says that some stack ends at each vertex. A child is younger than its
 -- parent: stacks ascend.
 --
--- Stacks may begin with different names, so a history may have several roots: the step never makes a second one, and
--- nothing proved needs that there is one. Any map from states to stacks would be wider: the cycle laws would hold of it,
--- but a written refutation needs stacks that ascend and agree.
+-- Stacks may begin with different names, so several roots are allowed: what is asked is wider than one tree. It is
+-- narrower than any map from states to stacks, of which stacks need neither ascend nor agree.
 --
 --   up_to y s         == the stack s up to the name y and with it
 --   IsHistory h       == h is a history
@@ -32,7 +31,12 @@ pub record IsHistory (h : List (Item ℕ)) : Type 0 where
   -- its names ascend
   pub stacks_ascend : (a : Item ℕ) → IsMember a h → IsAscending a.stack
   -- two stacks that share a name agree up to it
-  pub agree : (a b : Item ℕ) (y : ℕ) → IsMember a h → IsMember b h → has y a.stack ≡ true → has y b.stack ≡ true → up_to y a.stack ≡ up_to y b.stack
+  pub agree : (a b : Item ℕ) (y : ℕ)
+      → IsMember a h
+      → IsMember b h
+      → has y a.stack ≡ true
+      → has y b.stack ≡ true
+      → up_to y a.stack ≡ up_to y b.stack
   -- the names in use are 0, 1 and so on, without a gap, and some stack ends in each
   pub each_ends : (y : ℕ) → y < live h → (a : Item ℕ) × IsMember a h × (ends_in y a.stack ≡ true)
 

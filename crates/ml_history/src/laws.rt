@@ -1,7 +1,7 @@
 // Laws over the definitions of the trace automaton and the history step. Each stands on a function that does nothing.
 ghost use Rattle.std.specs.Prelude.{◌≡◌, ◌≢◌, true, []};
 ghost use Rattle.ml_trace.specs.Marks.{is_odd, lowest_mark};
-ghost use Rattle.ml_history.specs.CycleLaws.{StepsAreHistories, StepsTraceNames, LettersAreSets, AcceptingCycle, OddMarkHasRun, RunHasOddMark};
+ghost use Rattle.ml_history.specs.CycleLaws.{StepsAreHistories, StepsFollowLetters, StepsTraceNames, LettersAreSets, AcceptingCycle, OddMarkHasRun, RunHasOddMark};
 ghost use Rattle.ml_history.specs.HistoryStep.{after, marks_along};
 
 use crate::flat::History;
@@ -15,6 +15,11 @@ pub fn steps_are_histories()
 /// Letters stand for sets: neither the order nor repeats of their transitions change a step or its mark.
 pub fn letters_are_sets()
     ensures { LettersAreSets }
+{}
+
+/// Behind a step exactly those states have a stack to which a transition leads from a state that had one.
+pub fn steps_follow_letters()
+    ensures { StepsFollowLetters }
 {}
 
 /// Each step of a history satisfies the condition on names that a refutation is checked for.

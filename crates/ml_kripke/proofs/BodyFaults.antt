@@ -24,14 +24,14 @@ use Rattle.ml_kripke.specs.ModelText.{states_line, start_line, state_lines, edge
 use Rattle.ml_kripke.specs.private.Refusals.{TellsRule, TellsFault, at_line}
 use Rattle.ml_kripke.specs.declared.body_rule.BodyRule.TheVariants.{OfKind}
 use Rattle.ml_kripke.specs.declared.read_line.LineRefusal.{LineRefusal}
-use Rattle.ml_kripke.specs.declared.read.ModelRefusal.{ModelRefusal}
-use Rattle.ml_kripke.specs.declared.read.ModelRefusal.TheVariants.{Fault}
+use Rattle.ml_base.specs.declared.doc_refusal.DocRefusal.{DocRefusal}
+use Rattle.ml_base.specs.declared.doc_refusal.DocRefusal.TheVariants.{Fault}
 use Rattle.ml_kripke.proofs.BrokenRules.{missing_state, missing_edge}
 use Rattle.ml_kripke.proofs.ToldFaults.{tells_missing, tells_here, tells_line, tells_behind}
 use Rattle.ml_kripke.proofs.GoodLines.{good_end, at_state_below}
 use Rattle.ml_kripke.proofs.BodyReads.{AreRowsTo, AreEdgesTo, states_read, start_read, rows_read, edges_read}
 
-module _ (n k : ℕ) (told : ModelRefusal) (fits : n < 2 ^ 32) where
+module _ (n k : ℕ) (told : DocRefusal) (fits : n < 2 ^ 32) where
   -- ---- the first two lines
 
   pub from_states : (text rest : List ℕ)
@@ -101,7 +101,7 @@ module _ (n k : ℕ) (told : ModelRefusal) (fits : n < 2 ^ 32) where
         (goes_on rest [] rest end_line behind (goes_begin rest) is left shorter)
         (line_read at (AtEdge n before) end_line (lines_of behind) nothing_read (good_end (left_of rest) n before)) tells)
 
-pub from_body : (n s k : ℕ) (text first second : List ℕ) (told : ModelRefusal) → GoesOn text (states_line n ∷ []) first
+pub from_body : (n s k : ℕ) (text first second : List ℕ) (told : DocRefusal) → GoesOn text (states_line n ∷ []) first
     → GoesOn first (start_line s ∷ []) second → 0 < n → n < 2 ^ 32 → s < n → TellsFault (at_state n 0) (k + 2) second told
     → TellsFault AtStates k text told
 from_body n s k text first second told goes goes' some fits below tells =
@@ -112,7 +112,7 @@ from_body n s k text first second told goes goes' some fits below tells =
 
 -- ---- the end
 
-pub nothing_behind : (k : ℕ) (text : List ℕ) (told : ModelRefusal) → text ≢ []
+pub nothing_behind : (k : ℕ) (text : List ℕ) (told : DocRefusal) → text ≢ []
     → told ≡ Fault (record { line = k; rule = rule_number OfKind }) → TellsFault AtNothing k text told
 nothing_behind k text told some is = go (fronts (slice_split is_line_end text)) refl
   where

@@ -12,12 +12,12 @@ use Rattle.ml_kripke.specs.BodyRules.{Place, body, rules, rule_number}
 use Rattle.ml_kripke.specs.private.Refusals.{Breaks, TellsRule, TellsFault, at_line}
 use Rattle.ml_kripke.specs.declared.read_line.LineRefusal.{LineRefusal}
 use Rattle.ml_kripke.specs.declared.read_line.LineRefusal.TheVariants as LineRefusals
-use Rattle.ml_kripke.specs.declared.read.ModelRefusal.{ModelRefusal}
-use Rattle.ml_kripke.specs.declared.read.ModelRefusal.TheVariants.{Fault, NoMemory}
+use Rattle.ml_base.specs.declared.doc_refusal.DocRefusal.{DocRefusal}
+use Rattle.ml_base.specs.declared.doc_refusal.DocRefusal.TheVariants.{Fault, NoMemory}
 use Rattle.ml_kripke.specs.declared.body_rule.BodyRule.{BodyRule}
 
 module _ (place : Place) (k : ℕ) (text : List ℕ) where
-  module _ (refusal : ModelRefusal) (rule : BodyRule) (is : refusal ≡ Fault (record { line = k; rule = rule_number rule })) where
+  module _ (refusal : DocRefusal) (rule : BodyRule) (is : refusal ≡ Fault (record { line = k; rule = rule_number rule })) where
     pub tells_missing : lines_of text ≡ []
         → IsFirstBroken (rules (left_of text) place) [] (rule_number rule)
         → TellsFault place k text refusal
@@ -37,7 +37,7 @@ module _ (place : Place) (k : ℕ) (text : List ℕ) where
       tells_here (Fault (record { line = k; rule = rule_number rule })) rule refl line lines begins broken
   tells_line line lines LineRefusals.NoMemory begins broken = tt
 
-  pub tells_behind : (lines : List Line) (rest : List ℕ) (j : ℕ) (at : Place) (refusal : ModelRefusal)
+  pub tells_behind : (lines : List Line) (rest : List ℕ) (j : ℕ) (at : Place) (refusal : DocRefusal)
       → GoesOn text lines rest
       → IsReadTo (body (left_of text)) k place (lines ++ lines_of rest) j at (lines_of rest) → TellsFault at j rest refusal
       → TellsFault place k text refusal

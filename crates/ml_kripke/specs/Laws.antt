@@ -10,11 +10,13 @@
 --   ModelOrFault    == a text is that of a model in order, or has a first bad line
 --   ReadableIsModel == a text has no bad line exactly where it is that of a model in order
 --   OneFault        == a text has one first bad line at most
+--   RulesRise       == the rules of each line rise by their numbers, so the first one that is broken is the lowest
 use Rattle.std.specs.Prelude.{ℕ, ◌≡◌, ◌↔◌, ◌⊎◌, ◌^◌, ◌<◌, List, [], slice_index_or, Contains}
 use Rattle.ml_base.specs.declared.doc_fault.DocFault.{DocFault}
 use Rattle.ml_base.specs.declared.structure.Edge.{Edge}
 use Rattle.ml_base.specs.Structure.{Structure, IsStructure}
-use Rattle.ml_kripke.specs.BodyRules.{IsFaultOf, IsReadableBody}
+use Rattle.ml_lists.specs.Documents.{NumbersRise}
+use Rattle.ml_kripke.specs.BodyRules.{body, IsFaultOf, IsReadableBody}
 use Rattle.ml_kripke.specs.Ordered.{IsOrdered, HasNames}
 use Rattle.ml_kripke.specs.ModelText.{model_text}
 
@@ -51,3 +53,6 @@ ReadableIsModel = (text : List ℕ) → IsReadableBody text ↔ IsModelText text
 
 abbrev pub OneFault : Type 0
 OneFault = (text : List ℕ) (first : ℕ) (e f : DocFault) → IsFaultOf text first e → IsFaultOf text first f → e ≡ f
+
+abbrev pub RulesRise : Type 0
+RulesRise = (left : List ℕ) → NumbersRise (body left)

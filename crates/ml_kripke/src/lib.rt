@@ -20,6 +20,6 @@ mod write;
 
 pub use body_rule::BodyRule;
 pub use model::Model;
-pub use read::{ModelRefusal, read_model};
+pub use read::read_model;
 pub use structure::{Structure, StructureRefusal};
 pub use write::{append_model, write_model};

@@ -14,20 +14,9 @@ use crate::body_rule::BodyRule;
 use crate::model::Model;
 use crate::read_line::{LineRefusal, edge_of, labels_of, start_of, states_of};
 use crate::structure::Structure;
-use ml_base::{DocFault, Edge, Name};
+use ml_base::{DocFault, DocRefusal, Edge, Name};
 use ml_lines::split_line;
-use std::alloc::{AllocFailed, Global};
-use thiserror::Error;
-
-/// Why a text is no model's.
-#[derive(Clone, Copy, Debug, PartialEq, Eq, Error)]
-pub enum ModelRefusal {
-    /// The first bad line, and the lowest rule that it breaks, from 11 to 17.
-    #[error("a bad line")]
-    Fault(DocFault),
-    #[error("out of memory")]
-    NoMemory,
-}
+use std::alloc::Global;
 
 /// The model whose text this is: the body of a satisfiable document, whose first line has this number.
 ///
@@ -39,17 +28,17 @@ pub enum ModelRefusal {
 /// above the one before it. `NoMemory`.
 ///
 /// Cost: linear in the bytes. It takes memory for what it has read, not for what a number announces.
-pub fn read_model(alloc: Global, bytes: &[u8], first_line: u64) -> Result<Model, ModelRefusal>
+pub fn read_model(alloc: Global, bytes: &[u8], first_line: u64) -> Result<Model, DocRefusal>
     requires { first_line ≤ 2 ^ 63 }
     ensures text { IfOk result (λ m. bytes.now ≡ model_text m.structure m.start) }
     ensures names { IfOk result (λ m. HasNames m.structure) }
-    ensures refused { (fault : DocFault) → IsErrOf result (ModelRefusal.Fault fault) → IsFaultOf bytes.now first_line fault }
-    ensures no_model { (fault : DocFault) → IsErrOf result (ModelRefusal.Fault fault) → ¬ (IsModelText bytes.now) }
+    ensures refused { (fault : DocFault) → IsErrOf result (DocRefusal.Fault fault) → IsFaultOf bytes.now first_line fault }
+    ensures no_model { (fault : DocFault) → IsErrOf result (DocRefusal.Fault fault) → ¬ (IsModelText bytes.now) }
 {
     read_body(alloc, bytes, first_line)
 }
 
-fn read_body(alloc: Global, bytes: &[u8], line: u64) -> Result<Model, ModelRefusal>
+fn read_body(alloc: Global, bytes: &[u8], line: u64) -> Result<Model, DocRefusal>
     requires { line ≤ 2 ^ 63 }
     ensures text { IfOk result (λ m. bytes.now ≡ model_text m.structure m.start) }
     ensures names { IfOk result (λ m. HasNames m.structure) }
@@ -62,26 +51,16 @@ fn read_body(alloc: Global, bytes: &[u8], line: u64) -> Result<Model, ModelRefus
     Ok(Model::new(Structure::of_parts(states, labels, edges), start))
 }
 
-impl<T: Drop> From<AllocFailed<T>> for ModelRefusal {
-    ghost use Rattle.ml_kripke.specs.declared.read.ModelRefusal.TheVariants as refusal;
-
-    ghost from_gives = { λ _ e. e ≡ refusal.NoMemory };
-
-    fn from(_: AllocFailed<T>) -> ModelRefusal {
-        ModelRefusal::NoMemory
-    }
-}
-
-fn fault(line: u64, rule: BodyRule) -> ModelRefusal
-    ensures { result ≡ ModelRefusal.Fault (record { line = line; rule = rule_number rule }) }
+fn fault(line: u64, rule: BodyRule) -> DocRefusal
+    ensures { result ≡ DocRefusal.Fault (record { line = line; rule = rule_number rule }) }
 {
-    ModelRefusal::Fault(DocFault {
+    DocRefusal::Fault(DocFault {
         line,
         rule: rule.number(),
     })
 }
 
-fn read_states(text: &[u8], line: u64) -> Result<(u32, &[u8]), ModelRefusal>
+fn read_states(text: &[u8], line: u64) -> Result<(u32, &[u8]), DocRefusal>
     ensures read { IfOk result (λ r. GoesOn text.now (states_line r.0 ∷ []) r.1.now × (0 < r.0) × (r.0 < 2 ^ 32)) }
     ensures refused { IfErr result (TellsFault AtStates line text.now) }
 {
@@ -94,7 +73,7 @@ fn read_states(text: &[u8], line: u64) -> Result<(u32, &[u8]), ModelRefusal>
     }
 }
 
-fn read_start(text: &[u8], line: u64, states: u32) -> Result<(u32, &[u8]), ModelRefusal>
+fn read_start(text: &[u8], line: u64, states: u32) -> Result<(u32, &[u8]), DocRefusal>
     ensures read { IfOk result (λ r. GoesOn text.now (start_line r.0 ∷ []) r.1.now × (r.0 < states)) }
     ensures refused { IfErr result (TellsFault (AtStart states) line text.now) }
 {
@@ -113,7 +92,7 @@ fn read_rows(
     text: &[u8],
     line: u64,
     states: u32,
-) -> Result<(Vec<Vec<Name>>, &[u8]), ModelRefusal>
+) -> Result<(Vec<Vec<Name>>, &[u8]), DocRefusal>
     requires { line + length text.now < 2 ^ 64 }
     ensures read { IfOk result (λ r. let rows = map (λ row. row.items) r.0.items in
         GoesOn text.now (state_lines 0 rows) r.1.now × AreRows states rows) }
@@ -138,7 +117,7 @@ fn read_rows(
 }
 
 // the edges, up to the line `end` and the end of the text
-fn read_edges(alloc: Global, text: &[u8], line: u64, states: u32) -> Result<Vec<Edge>, ModelRefusal>
+fn read_edges(alloc: Global, text: &[u8], line: u64, states: u32) -> Result<Vec<Edge>, DocRefusal>
     requires { line + length text.now < 2 ^ 64 }
     ensures read { IfOk result (λ edges. IsWholeEnd text.now states edges.items) }
     ensures refused { IfErr result (TellsFault (AtEdge states None) line text.now) }
@@ -162,7 +141,7 @@ fn read_edges(alloc: Global, text: &[u8], line: u64, states: u32) -> Result<Vec<
 }
 
 // the edges, where nothing follows the line `end`, which has this number
-fn ended(edges: Vec<Edge>, rest: &[u8], line: u64) -> Result<Vec<Edge>, ModelRefusal>
+fn ended(edges: Vec<Edge>, rest: &[u8], line: u64) -> Result<Vec<Edge>, DocRefusal>
     requires { line + 1 < 2 ^ 64 }
     ensures read { IfOk result (λ es. (es.items ≡ edges.items) × (rest.now ≡ [])) }
     ensures refused { IfErr result (TellsFault AtNothing (line + 1) rest.now) }
@@ -174,11 +153,11 @@ fn ended(edges: Vec<Edge>, rest: &[u8], line: u64) -> Result<Vec<Edge>, ModelRef
     }
 }
 
-fn at_line(line: u64, refusal: LineRefusal) -> ModelRefusal
+fn at_line(line: u64, refusal: LineRefusal) -> DocRefusal
     ensures { result ≡ refusals.at_line line refusal }
 {
     match refusal {
         LineRefusal::Breaks(rule) => fault(line, rule),
-        LineRefusal::NoMemory => ModelRefusal::NoMemory,
+        LineRefusal::NoMemory => DocRefusal::NoMemory,
     }
 }

@@ -5,6 +5,7 @@
 --   ascending-is                           == it is ascending
 --   ascending_same                         == two ascending lists with the same members are one
 --   ascending-apart                        == an earlier entry of an ascending list is below a later one
+--   ascending-one, ascending-cons          == a list of one entry ascends, and one with a lower entry put in front
 use Rattle.std.proofs.Common.{ℕ, ◌≡◌, ◌<◌, ◌⊎◌, inl, inr, arith, true, false, cond, List, [], ◌∷◌, eqb, ltb, refl, sym, subst, ◌∙◌, zero, suc, length, get_or}
 use Rattle.std.proofs.lemmas.Bool.{cases_Bool, cond-true, cond-false, ltb-true, ltb-false, eqb-true, eqb-false}
 use Rattle.ml_lists.specs.Member.{IsMember}
@@ -137,3 +138,15 @@ ascending_same (x ∷ xs) (y ∷ ys) a b to from = λ i. heads i ∷ ascending_s
     sooner : (v : ℕ) → y < v → (v ≡ x) ⊎ IsMember v xs → IsMember v xs
     sooner v high (inl same) = let e = heads in absurd (omega arith)
     sooner v high (inr m) = m
+
+-- a list of one entry ascends
+pub ascending-one : (x : ℕ) → IsAscending (x ∷ [])
+ascending-one x = ((λ y m. absurd m), tt)
+
+-- an ascending list with a lower entry in front of its first one ascends
+pub ascending-cons : (x y : ℕ) (ys : List ℕ) → x < y → IsAscending (y ∷ ys) → IsAscending (x ∷ (y ∷ ys))
+ascending-cons x y ys low a = (above, a)
+  where
+    above : (v : ℕ) → IsMember v (y ∷ ys) → x < v
+    above v (inl e) = omega arith
+    above v (inr m) = let later = a.0 v m in omega arith

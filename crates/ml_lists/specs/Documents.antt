@@ -20,7 +20,11 @@
 --                                 the number j, where the first one of ls stands at p and has the number k
 --   IsJudged rs l              == the line l keeps all rules rs, or there is a first one that it breaks
 --   Judges F                   == each line is judged at each place
+--   numbers rs                 == the numbers of the rules rs
+--   NumbersRise F              == at each place the numbers of the rules rise, so that the first rule that a line breaks
+--                                 is the one with the lowest number
 use Rattle.std.specs.Prelude.{ℕ, ◌+◌, ◌≡◌, ◌⊎◌, ⊤, List, [], ◌∷◌}
+use Rattle.ml_lists.specs.Ascending.{IsAscending}
 
 pub record Rule (Line : Type 0) : Type 1 where
   pub number : ℕ
@@ -46,6 +50,10 @@ IsFirstBroken (first ∷ others) line number =
 abbrev pub IsJudged : {Line : Type 0} → List (Rule Line) → Line → Type 0
 IsJudged rules line = KeepsAll rules line ⊎ ((number : ℕ) × IsFirstBroken rules line number)
 
+abbrev pub numbers : {Line : Type 0} → List (Rule Line) → List ℕ
+numbers [] = []
+numbers (first ∷ others) = first.number ∷ numbers others
+
 module _ {Line Place : Type 0} (F : Format Line Place) where
   abbrev pub IsGood : Place → Line → Type 0
   IsGood place line = KeepsAll (F.rules place) line
@@ -62,6 +70,9 @@ module _ {Line Place : Type 0} (F : Format Line Place) where
 
   abbrev pub Judges : Type 0
   Judges = (place : Place) (line : Line) → IsJudged (F.rules place) line
+
+  abbrev pub NumbersRise : Type 0
+  NumbersRise = (place : Place) → IsAscending (numbers (F.rules place))
 
   pub data IsReadTo (k : ℕ) (place : Place) (lines : List Line) : ℕ → Place → List Line → Type 0 where
     nothing_read : IsReadTo k place lines k place lines

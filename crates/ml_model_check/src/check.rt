@@ -3,9 +3,9 @@ ghost use Rattle.std.specs.Prelude.{IfOk};
 ghost use Rattle.ml_model_check.specs.Checked.{IsCheckedAs};
 
 use crate::checked::Checked;
-use ml_base::NoMemory;
+use ml_base::{DocRefusal, NoMemory};
 use ml_front::{Answer, HeadRefusal, read_head};
-use ml_kripke::{ModelRefusal, read_model};
+use ml_kripke::read_model;
 use ml_mu::holds;
 use std::alloc::Global;
 
@@ -37,8 +37,8 @@ pub fn check_document(alloc: Global, bytes: &[u8]) -> Result<Checked, NoMemory>
     };
     let model = match read_model(alloc, head.body, FIRST_BODY_LINE) {
         Ok(model) => model,
-        Err(ModelRefusal::Fault(fault)) => return Ok(Checked::Unreadable(fault)),
-        Err(ModelRefusal::NoMemory) => return Err(NoMemory),
+        Err(DocRefusal::Fault(fault)) => return Ok(Checked::Unreadable(fault)),
+        Err(DocRefusal::NoMemory) => return Err(NoMemory),
     };
     if holds(alloc, &head.formula, &model.structure, model.start)? == head.negated {
         Ok(Checked::Fails)

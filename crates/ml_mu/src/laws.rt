@@ -13,8 +13,8 @@ pub fn one_formula()
     ensures { StandForOne }
 {}
 
-/// The canonical text of a formula stands for it and for no other, by the grammar alone. So what `print` writes is a
-/// text of the formula that was printed.
+/// The canonical text of a formula whose names are spelled as they must be stands for it and for no other, by the
+/// grammar alone. So what `print` writes is a text of the formula that was printed.
 #[tactic(auto, using(crate::proofs::OneAnswer::canonical_one))]
 pub fn canonical_text()
     ensures { CanonicalStandsForOne }
@@ -50,7 +50,8 @@ pub fn one_flag_for_each_state()
     ensures { (m : Structure) (g : Given) (f : Formula) → HaveFlags m.states g → length (meaning m g f) ≡ m.states }
 {}
 
-/// A positive body grows with the set that its variable means, whatever sets the other variables mean.
+/// A positive body grows with the set that its variable means, whatever sets the other variables mean; each set has one
+/// flag for each state.
 pub fn positive_bodies_grow()
     ensures { (m : Structure) (g : Given) (q : Fixpoint) (x : List ℕ) (f : Formula) (s t : StateSet) → HaveFlags m.states g
         → is_positive (Binder q x f) ≡ true → length s ≡ m.states → length t ≡ m.states
@@ -59,7 +60,7 @@ pub fn positive_bodies_grow()
 {}
 
 /// What a positive binder means is a fixpoint of its body, whatever sets the other variables mean: of mu the least, of
-/// nu the greatest.
+/// nu the greatest. Each set has one flag for each state.
 ///
 /// `fixpoint`: the body makes of that set the set itself. `least`: it lies within each set in which what the body
 /// makes of it lies. `greatest`: each set that lies within what the body makes of it lies within it.

@@ -1,6 +1,6 @@
 // Structures built, models read from their texts, and texts that are no model's.
-use ml_base::{Action, DocFault, Edge, Name};
-use ml_kripke::{Model, ModelRefusal, Structure, StructureRefusal, read_model, write_model};
+use ml_base::{Action, DocFault, DocRefusal, Edge, Name};
+use ml_kripke::{Model, Structure, StructureRefusal, read_model, write_model};
 use std::alloc::Global;
 use std::test::Fail;
 
@@ -75,7 +75,7 @@ fn broken_texts(rt: HostRuntime) -> Result<(), Fail> {
     let alloc = rt.alloc();
     for (text, line, rule) in BROKEN {
         match read_model(alloc, text, 6) {
-            Err(ModelRefusal::Fault(fault)) => {
+            Err(DocRefusal::Fault(fault)) => {
                 assert_eq!(rt; fault, DocFault { line, rule });
             }
             _ => assert!(rt; false),

@@ -10,3 +10,13 @@ pub mod Marked
 pub mod Firsts
 -- causes of clashes
 pub mod Causes
+-- a choice with one side more
+pub mod ChoicesWith
+-- the search along local walks
+pub mod Reaching
+-- ways of the search, and local walks
+pub mod RankedWalks
+-- the triples of a step
+pub mod Traces
+-- what a search from a sequent found is its spread
+pub mod SpreadFound

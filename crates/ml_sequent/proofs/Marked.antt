@@ -7,7 +7,7 @@
 --   is_spread       == of a search from a sequent without a floor, they are its spread
 --   own_spread      == the spread of a set is the spread of its own nodes
 --   spread_low, spread_all == the nodes of a spread are nodes
-use Rattle.std.proofs.Common.{ℕ, zero, suc, ◌≡◌, ◌+◌, ◌<◌, ◌≤◌, ◌⊎◌, inl, inr, Bool, true, false, cond, List, [], ◌∷◌, ◌++◌, length, get_or, filter, All, append-nil, refl, sym, ap, ◌∙◌, subst, arith, ◌↔◌}
+use Rattle.std.proofs.Common.{ℕ, zero, suc, ◌≡◌, ◌+◌, ◌<◌, ◌≤◌, ◌⊎◌, inl, inr, Bool, true, false, cond, List, [], ◌∷◌, ◌++◌, length, get_or, filter, All, append-nil, refl, sym, ap, ◌∙◌, subst, arith, ◌↔◌, Result, Ok, Err, IfOk}
 use Rattle.std.specs.List.{range_with_len}
 use Rattle.std.proofs.lemmas.Bool.{cases_Bool, cases_eq, cond-true, cond-false}
 use Rattle.std.proofs.lemmas.List.Elements.{filter-append}
@@ -135,3 +135,10 @@ own_spread g C c sp is = record {
   where
     closed : (n m : ℕ) → IsMember n sp.nodes → IsMember m (children g c n) → IsMember m sp.nodes
     closed n m h child = (is.nodes m).1 ((spread_is_least g c C).closed n m ((is.nodes n).0 h) child)
+
+-- so is the one that a call answers
+pub own_spread_ok : {E : Type 0} → (g : Graph) (C : List ℕ) (c : List (ℕ × Side)) (answer : Result SpreadList E)
+    → IfOk answer (IsSpreadOf g C c)
+    → IfOk answer (IsSpread g)
+own_spread_ok g C c (Ok sp) is = own_spread g C c sp is
+own_spread_ok g C c (Err e) is = is

@@ -11,18 +11,25 @@
 // game, which asks these calls of each position, and the checker of refutations.
 #![tactic(auto)]
 
+mod children;
 mod choice;
 mod clashes;
 pub mod laws;
+mod levels;
 mod making;
+mod phase;
 mod questions;
+mod reach;
 mod search;
 mod sequent;
+mod sets;
 mod spreads;
+mod stepping;
 
 pub use choice::{Choice, Side};
 pub use clashes::{ClashCause, clash};
-pub use making::spread;
+pub use making::{spread, step};
+pub use phase::LocalPhase;
 pub use questions::{diamonds, open_or};
 pub use sequent::Sequent;
 pub use spreads::Spread;

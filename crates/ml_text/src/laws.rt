@@ -1,8 +1,9 @@
-// Laws of tokens, over the definitions alone: no caller runs these functions, their contracts are the theorems.
+// Laws of tokens and limits, over the definitions alone: no caller runs these functions, their contracts are the theorems.
 ghost use Rattle.std.specs.Prelude.{◌≡◌, ℕ, ◌<◌, false, List, ◌∷◌, length, slice_index, if◌then◌else◌};
 ghost use Rattle.ml_text.specs.Bytes.{is_blank};
 ghost use Rattle.ml_text.specs.Spelling.{AreTokens, IsLongestToken, Spells, tokens_over};
 ghost use Rattle.ml_text.specs.Tokens.{front_token, tokens};
+ghost use Rattle.ml_text.specs.declared.limits.TheConstants.{MOST_OCCURRENCES, MOST_OPEN};
 ghost use Rattle.ml_text.specs.declared.token.Placed.{Placed};
 ghost use Rattle.ml_text.specs.declared.token.Token.{Token};
 ghost use Rattle.ml_text.specs.declared.token.WordStart.{WordStart};
@@ -29,4 +30,10 @@ pub fn tokens_cover()
     ensures only { (w : WordStart) (text : List ℕ) (ps : List Placed) → AreTokens w text 0 ps → ps ≡ tokens w text }
     ensures bytes { (w : WordStart) (text : List ℕ) (k : ℕ) → k < length text →
         tokens_over (tokens w text) k ≡ (if is_blank (slice_index text k) then 0 else 1) }
+{}
+
+/// A formula has at most 1,000 occurrences, and at most 1,000 parentheses are open at a time.
+pub fn limits()
+    ensures occurrences { MOST_OCCURRENCES ≡ 1000 }
+    ensures parentheses { MOST_OPEN ≡ 1000 }
 {}

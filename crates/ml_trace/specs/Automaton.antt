@@ -10,7 +10,7 @@
 --   states_per_node odds           == how many states each node has: 1 + o
 --   number odds s                  == the number of the state s
 --   state_of odds n                == the state with the number n
---   NumbersAreStates               == numbers and states are one-to-one
+--   NumbersAreStates               == numbers and states are one-to-one, where the odd priorities ascend
 --   IsState odds s                 == the odd priority of s, if it has one, is one of the list
 --   Leads odds k g g' accepting    == a triple with the lowest priority k leads from the guess g to the guess g'
 --   Gives odds t m                 == the triple t gives the transition m
@@ -61,7 +61,7 @@ IsGuess odds (Some d) = IsMember d odds
 abbrev pub IsState : List ℕ → AutomatonState → Type 0
 IsState odds s = IsGuess odds s.odd
 
--- numbers and states are one-to-one, whatever the odd priorities are
+-- numbers and states are one-to-one, whichever odd priorities ascend
 abbrev pub NumbersAreStates : Type 0
 NumbersAreStates =
     (odds : List ℕ) → IsAscending odds → ((s : AutomatonState) → IsState odds s → state_of odds (number odds s) ≡ s) × ((n : ℕ) → number odds (state_of odds n) ≡ n)

@@ -3,8 +3,8 @@ ghost use Rattle.ml_trace.specs.Automaton.{NumbersAreStates};
 ghost use Rattle.ml_trace.specs.LabelledLoop.{OddLoopHasRun};
 ghost use Rattle.ml_trace.specs.Marks.{PrioritiesAgree};
 
-/// The numbering is one-to-one: the state with the number of a state is that state, and the number of the state with a
-/// number is that number.
+/// Where the odd priorities ascend, the numbering is one-to-one: the state with the number of a state of the automaton is
+/// that state, and the number of the state with a number is that number.
 pub fn numbers_are_states()
     ensures { NumbersAreStates }
 {}

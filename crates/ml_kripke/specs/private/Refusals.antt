@@ -6,13 +6,13 @@
 --   TellsFault place k text e  == the refusal e tells the first bad line of the text, which stands at this place and is
 --                                 counted from k, if it isn't for want of memory
 use Rattle.std.specs.Prelude.{ℕ, ⊤, List}
+use Rattle.ml_base.specs.declared.doc_refusal.DocRefusal.{DocRefusal}
+use Rattle.ml_base.specs.declared.doc_refusal.DocRefusal.TheVariants as refused
 use Rattle.ml_lines.specs.Lines.{Line}
 use Rattle.ml_lines.specs.Faults.{IsFault}
 use Rattle.ml_lists.specs.Documents.{IsFirstBroken}
 use Rattle.ml_kripke.specs.BodyRules.{Place, body, rules, rule_number}
 use Rattle.ml_kripke.specs.declared.body_rule.BodyRule.{BodyRule}
-use Rattle.ml_kripke.specs.declared.read.ModelRefusal.{ModelRefusal}
-use Rattle.ml_kripke.specs.declared.read.ModelRefusal.TheVariants as model
 use Rattle.ml_kripke.specs.declared.read_line.LineRefusal.{LineRefusal}
 use Rattle.ml_kripke.specs.declared.read_line.LineRefusal.TheVariants as line
 
@@ -23,10 +23,10 @@ abbrev pub TellsRule : Place → Line → LineRefusal → Type 0
 TellsRule place l (line.Breaks rule) = Breaks place l rule
 TellsRule place l line.NoMemory = ⊤
 
-abbrev pub TellsFault : Place → ℕ → List ℕ → ModelRefusal → Type 0
-TellsFault place k text (model.Fault fault) = IsFault body k place text fault
-TellsFault place k text model.NoMemory = ⊤
+abbrev pub TellsFault : Place → ℕ → List ℕ → DocRefusal → Type 0
+TellsFault place k text (refused.Fault fault) = IsFault body k place text fault
+TellsFault place k text refused.NoMemory = ⊤
 
-abbrev pub at_line : ℕ → LineRefusal → ModelRefusal
-at_line k (line.Breaks rule) = model.Fault (record { line = k; rule = rule_number rule })
-at_line k line.NoMemory = model.NoMemory
+abbrev pub at_line : ℕ → LineRefusal → DocRefusal
+at_line k (line.Breaks rule) = refused.Fault (record { line = k; rule = rule_number rule })
+at_line k line.NoMemory = refused.NoMemory

@@ -1,4 +1,4 @@
-use Rattle.ml_kripke.proofs.OneFault.{fault_or_model, model_or_fault, one_fault, readable_is_model}
+use Rattle.ml_kripke.proofs.OneFault.{fault_or_model, model_or_fault, one_fault, readable_is_model, rules_rise}
 use Rattle.ml_kripke.proofs.laws.one_fault.Goals as goal
 
 pub returns-clause-one : goal.returns-clause-one
@@ -12,3 +12,6 @@ returns-clause-fault c = one_fault
 
 pub returns-clause-readable : goal.returns-clause-readable
 returns-clause-readable c = readable_is_model
+
+pub returns-clause-lowest : goal.returns-clause-lowest
+returns-clause-lowest c = rules_rise

@@ -1,0 +1,2 @@
+-- what an accepted refutation tells
+pub mod Soundness
