@@ -20,3 +20,7 @@ pub mod PlainLines
 pub mod RefutationTexts
 -- whether a line keeps the rules of its place is decided
 pub mod JudgedLines
+-- texts worked out by hand
+mod WorkedTexts
+-- what has no bad line is a text of a refutation
+pub mod ReadableTexts

@@ -1,7 +1,7 @@
 -- Lines that are good have neither a blank nor an LF in their words.
 --
 --   digits_without     == digits are neither
---   kinds_plain        == a line of a kind whose fixed words are plain is plain
+--   kinds_plain, place_plain == a line of a kind whose fixed words are plain is plain
 --   run_plain          == so are good lines one behind the other, where nothing may stand behind the last one
 use Rattle.std.proofs.Common.{◌≡◌, ◌==◌, ℕ, ◌+◌, ◌^◌, ◌<◌, ◌≤◌, ◌⊎◌, Bool, true, false, ◌||◌, ◌&&◌, nat_le, List, [], ◌∷◌, length, All, codes, refl, sym, ap, subst, ◌∙◌, inl, inr, arith}
 use Rattle.std.specs.Str.{all_ascii_digits}
@@ -118,7 +118,7 @@ item_plain : (form : Form) → IsPlainKind (item_kind form)
 item_plain InFull = record { some = omega arith; no_blank = (refl, (tt, (tt, (tt, tt)))); no_end = (refl, (tt, (tt, (tt, tt)))) }
 item_plain (ByTables qs ks) = record { some = omega arith; no_blank = (refl, (tt, (tt, (tt, tt)))); no_end = (refl, (tt, (tt, (tt, tt)))) }
 
-place_plain : (p : Place) → ArePlainKinds (kinds p)
+pub place_plain : (p : Place) → ArePlainKinds (kinds p)
 place_plain AtNames = (record { some = omega arith; no_blank = (refl, (tt, tt)); no_end = (refl, (tt, tt)) }, tt)
 place_plain (AtSequents n) = (record { some = omega arith; no_blank = (refl, (tt, tt)); no_end = (refl, (tt, tt)) }, tt)
 place_plain (AtTableSequent n size rows) = (record { some = omega arith; no_blank = (refl, tt); no_end = (refl, tt) }, tt)

@@ -3,6 +3,7 @@
 --   is_number, are_numbers        == a number's word is a number, and so are those of numbers
 --   words_first, words_number, words_numbers == words with numbers among them have bytes
 --   value_back, values_back       == the values of the words for numbers
+--   no_dash                       == no number is written `-`
 --   guess_back, guess_word_fits, guess_is_word == the odd priority of an item, or none, and that its word is as it must be
 --   differ                        == words that differ aren't equal
 --   spelt_is_word                 == a word that spells a number has a byte
@@ -53,7 +54,7 @@ values_back (n ∷ ns) fit =
     λ i. first i ∷ others i
 
 -- no number is written `-`
-no_dash : (n : ℕ) → Fits n → bytes_eq (number n) (codes "-") ≡ false
+pub no_dash : (n : ℕ) → Fits n → bytes_eq (number n) (codes "-") ≡ false
 no_dash n fits = go (bytes_eq (number n) (codes "-")) refl
   where
     go : (b : Bool) → bytes_eq (number n) (codes "-") ≡ b → bytes_eq (number n) (codes "-") ≡ false

@@ -1,7 +1,7 @@
 -- A text is of one refutation at most, and has no bad line where it is of one.
 --
 --   text_lines            == the lines of a text of a refutation are good, and end with it
---   one_refutation, refutations_are_readable, readable_or_fault, fault_or_readable, one_fault == the laws
+--   one_refutation, readable_is_refutation, readable_or_fault, fault_or_readable, one_fault == the laws
 use Rattle.std.proofs.Common.{◌≡◌, ℕ, List, [], ◌∷◌, refl, sym, ap, subst, ◌∙◌}
 use Rattle.ml_base.specs.declared.version.Version.{Version}
 use Rattle.ml_lines.specs.Lines.{text_of}
@@ -10,8 +10,9 @@ use Rattle.ml_lines.proofs.Faults as text
 use Rattle.ml_lines.proofs.WrittenLines.{lines_read}
 use Rattle.ml_refutation.specs.Refutation.{Refutation, IsRefutation}
 use Rattle.ml_refutation_text.specs.RefutationText.{IsTextOf}
-use Rattle.ml_refutation_text.specs.Laws.{OneRefutation, ReadableOrFault, FaultOrReadable, RefutationsAreReadable, OneFault}
-use Rattle.ml_refutation_text.specs.BodyRules.{Place, AtNames, AtSequents, AtTableSequent, AtStacks, AtTableStack, AtEntries, AtEntry, AtSequent, AtLive, AtItem, AtDecision, AtEnd, AtNothing, body}
+use Rattle.ml_refutation_text.specs.Laws.{OneRefutation, ReadableOrFault, FaultOrReadable, ReadableIsRefutation, IsRefutationText, OneFault}
+use Rattle.ml_refutation_text.specs.BodyRules.{Place, AtNames, AtSequents, AtTableSequent, AtStacks, AtTableStack, AtEntries, AtEntry, AtSequent, AtLive, AtItem, AtDecision, AtEnd, AtNothing, body, IsReadableBody}
+use Rattle.ml_refutation_text.proofs.ReadableTexts.{readable_is_text}
 use Rattle.ml_refutation_text.proofs.Runs.{Runs, one_end, run_readable}
 use Rattle.ml_refutation_text.proofs.GoodEntries.{body_run}
 use Rattle.ml_refutation_text.proofs.JudgedLines.{judges}
@@ -55,11 +56,14 @@ one_refutation v t r s is_r is_s first second =
     let b = text_lines v t s is_s second in
     ap (end_of r) (one_end (body v []) AtNames (AtNothing r) (AtNothing s) (lines_of t) a.run b.run)
 
-pub refutations_are_readable : RefutationsAreReadable
-refutations_are_readable v t (r, is, written) =
+refutation_readable : (v : Version) (t : List ℕ) → IsRefutationText v t → IsReadableBody v t
+refutation_readable v t (r, is, written) =
     let lines = text_lines v t r is written in
     run_readable (body v (left_of t)) AtNames (AtNothing r) (lines_of t)
     (subst (λ left. Runs (body v left) AtNames (lines_of t) (AtNothing r)) (sym lines.none_left) lines.run) ((refl, lines.none_left), tt)
+
+pub readable_is_refutation : ReadableIsRefutation
+readable_is_refutation v t = (readable_is_text v t, refutation_readable v t)
 
 pub readable_or_fault : ReadableOrFault
 readable_or_fault v t first = text.readable_or_fault (body v) first AtNames t (judges v (left_of t))

@@ -5,9 +5,9 @@
 --   WrittenIsText         == the text that is written of a refutation is one of it, in each version
 --   ReadableOrFault       == a text has no bad line, or a first one
 --   FaultOrReadable       == and never both
---   RefutationsAreReadable == a text of a refutation has no bad line
+--   ReadableIsRefutation  == a text has no bad line exactly where it is that of a refutation
 --   OneFault              == a text has one first bad line at most
-use Rattle.std.specs.Prelude.{ℕ, ◌≡◌, ◌⊎◌, List}
+use Rattle.std.specs.Prelude.{ℕ, ◌≡◌, ◌↔◌, ◌⊎◌, List}
 use Rattle.ml_base.specs.declared.doc_fault.DocFault.{DocFault}
 use Rattle.ml_base.specs.declared.version.Version.{Version}
 use Rattle.ml_refutation.specs.Refutation.{Refutation, IsRefutation}
@@ -33,8 +33,8 @@ abbrev pub FaultOrReadable : Type 0
 FaultOrReadable = (v : Version) (text : List ℕ) (first : ℕ) (fault : DocFault)
     → IsReadableBody v text → IsFaultOf v text first fault → ⊥
 
-abbrev pub RefutationsAreReadable : Type 0
-RefutationsAreReadable = (v : Version) (text : List ℕ) → IsRefutationText v text → IsReadableBody v text
+abbrev pub ReadableIsRefutation : Type 0
+ReadableIsRefutation = (v : Version) (text : List ℕ) → IsReadableBody v text ↔ IsRefutationText v text
 
 abbrev pub OneFault : Type 0
 OneFault = (v : Version) (text : List ℕ) (first : ℕ) (e f : DocFault)

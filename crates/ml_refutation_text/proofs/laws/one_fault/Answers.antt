@@ -11,4 +11,4 @@ pub returns-clause-fault : goal.returns-clause-fault
 returns-clause-fault c = proved.one_fault
 
 pub returns-clause-readable : goal.returns-clause-readable
-returns-clause-readable c = proved.refutations_are_readable
+returns-clause-readable c = proved.readable_is_refutation
