@@ -5,7 +5,7 @@
 --   place_shown      == the place of a list in a table is that in what it shows
 --   table_more, stacks_more == one more of some lists is put into a table, and the stacks of one more entry
 --   place_found, place_missing == it is what a look-up gives, and otherwise the table's length
-use Rattle.std.proofs.Common.{◌≡◌, ℕ, ◌+◌, ◌<◌, ◌≤◌, Bool, true, false, cond, not, List, [], ◌∷◌, ◌++◌, Option, None, Some, Bor, length, map, fold, take, get_or, refl, sym, ap, subst, ◌∙◌, inl, inr, ◌⊎◌, arith, nat_lt}
+use Rattle.std.proofs.Common.{◌≡◌, ℕ, ◌+◌, ◌<◌, ◌≤◌, Bool, true, false, cond, not, List, [], ◌∷◌, ◌++◌, None, Some, Bor, length, map, fold, take, get_or, refl, sym, ap, ◌∙◌, inl, inr, ◌⊎◌, arith, nat_lt}
 use Rattle.std.proofs.lemmas.Bool.{cases_lt}
 use Rattle.std.proofs.lemmas.Bool.Decides.{nat_tests}
 use Rattle.std.proofs.lemmas.List.{map-append, take_more, append-nil}
@@ -56,6 +56,7 @@ module _ {X : Type 0} (p : X → Bool) where
     where
       apart : None ≡ Some (position_or_len p xs) → length xs ≡ position_or_len p xs
       apart e = absurd (cc)
+
       go : (position_or_len p xs < length xs) ⊎ (length xs ≤ position_or_len p xs) → length xs ≡ position_or_len p xs
       go (inl below) =
           let e : nat_lt (position_or_len p xs) (length xs) ≡ true = grind (arith, nat_tests) in

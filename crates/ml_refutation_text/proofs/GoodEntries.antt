@@ -3,8 +3,8 @@
 --   head_run, items_run, heights_run  == the lines of an entry before its decision
 --   entry_run, entries_run            == those of an entry, and of the entries
 --   body_run                          == those of a body
-use Rattle.std.proofs.Common.{◌≡◌, ℕ, ◌+◌, ◌^◌, ◌<◌, ◌≤◌, ◌⊎◌, Bool, true, false, cond, nat_lt, List, [], ◌∷◌, ◌++◌, Option, None, Some, length, drop, map, get_or, All, codes, refl, sym, ap, subst, ◌∙◌, inl, inr, length-append, append_assoc, arith}
-use Rattle.std.specs.Prelude.{slice_get, slice_index_or}
+use Rattle.std.proofs.Common.{◌≡◌, ℕ, ◌+◌, ◌<◌, ◌≤◌, true, false, cond, nat_lt, List, [], ◌∷◌, ◌++◌, Option, None, Some, length, map, All, codes, refl, sym, ap, subst, ◌∙◌, inl, inr, length-append, append_assoc, arith}
+use Rattle.std.specs.Prelude.{slice_index_or}
 use Rattle.std.proofs.lemmas.Bool.Decides.{nat_tests}
 use Rattle.std.proofs.lemmas.List.{append-nil, length-map, map-append}
 use Rattle.std.proofs.lemmas.List.Elements.{All-nil, All-head, All-tail}
@@ -15,14 +15,13 @@ use Rattle.ml_lines.specs.Lines.{Word, Line, number}
 use Rattle.ml_lines.specs.Reading.{AreWords, IsNumber, value}
 use Rattle.ml_lists.specs.Ascending.{IsAscending}
 use Rattle.ml_lists.specs.Chains.{last_of}
-use Rattle.ml_lists.specs.Documents.{IsGood}
 use Rattle.ml_trace.specs.declared.letters.AutomatonState.{AutomatonState}
 use Rattle.ml_trace.specs.Stack as traced
-use Rattle.ml_refutation.specs.Refutation.{Refutation, Entry, Fits, FitsGuess, IsAbove, AreAbove, IsStack, IsItem, IsEntry, IsRefutation, nesting}
-use Rattle.ml_refutation_text.specs.RefutationText.{Spells, Form, InFull, ByTables, numbers, names_line, entries_line, sequents_line, stacks_line, stack_line, numbered_line, entry_line, sequent_line, live_line, guess_word, item_line, heights_line, decision_lines, end_line, HeadLines, StackWords, ItemLine, ItemLines, EntryLines, EntriesLines, FirstLines, BodyLines, IsForm}
+use Rattle.ml_refutation.specs.Refutation.{Refutation, Entry, Fits, FitsGuess, IsAbove, AreAbove, IsItem, IsEntry, IsRefutation}
+use Rattle.ml_refutation_text.specs.RefutationText.{Spells, Form, InFull, ByTables, numbers, names_line, entries_line, sequents_line, stacks_line, stack_line, sequent_line, live_line, guess_word, item_line, heights_line, decision_lines, end_line, HeadLines, StackWords, ItemLines, EntryLines, EntriesLines, FirstLines, BodyLines, IsForm}
 use Rattle.ml_refutation_text.specs.LineKinds.{IsOfKind, HaveNumbers}
-use Rattle.ml_refutation_text.specs.BodyRules.{Known, Begun, Place, AtNames, AtSequents, AtStacks, AtEntries, AtEntry, AtSequent, AtLive, AtItem, AtDecision, AtEnd, AtNothing, IsNextItem, item_kind, heights_kind, state_of, stack_of, at_entry, whole, closed, with_item, after, after_names, body}
-use Rattle.ml_refutation_text.proofs.Runs.{Runs, run_on}
+use Rattle.ml_refutation_text.specs.BodyRules.{Known, Begun, Place, AtNames, AtSequents, AtStacks, AtEntries, AtEntry, AtLive, AtItem, AtDecision, AtEnd, AtNothing, IsNextItem, item_kind, heights_kind, state_of, stack_of, at_entry, body}
+use Rattle.ml_refutation_text.proofs.Runs.{run_on}
 use Rattle.ml_refutation_text.proofs.ReadWords.{is_number, are_numbers, words_first, words_number, words_numbers, value_back, values_back, guess_back, guess_word_fits, guess_is_word, differ, spelt_is_word}
 use Rattle.ml_refutation_text.proofs.GoodLines.{Run, numbered_of, numbered_fits, names_fit, sequent_good, sequent_fits, names_run, entries_run, end_run, sequents_run, stacks_run, live_run, decision_run}
 
@@ -64,22 +63,20 @@ full_item : (s : AutomatonState) (ns : List ℕ) → 0 < length ns → All Fits 
 full_item s [] some fit node guess = absurd (omega (arith, some))
 full_item s (x ∷ xs) some fit node guess = record {
   of_kind = (item_words s (numbers (x ∷ xs)) node guess (words_numbers (x ∷ xs) fit), (refl, (tt, (tt, (tt, tt)))));
-  numbers_are =
-      (
-        (λ _. (tt, (is_number s.node node, (guess_word_fits s.odd guess, (is_number x (All-head Fits x xs fit), are_numbers xs (All-tail Fits x xs fit)))))),
-        ((λ kind. absurd (no_heights (number s.node ∷ guess_word s.odd ∷ numbers (x ∷ xs)) kind)), tt),
-      );
+  numbers_are = (
+    (λ _. (tt, (is_number s.node node, (guess_word_fits s.odd guess, (is_number x (All-head Fits x xs fit), are_numbers xs (All-tail Fits x xs fit)))))),
+    ((λ kind. absurd (no_heights (number s.node ∷ guess_word s.odd ∷ numbers (x ∷ xs)) kind)), tt),
+  );
 }
 
 table_item : (qs ks : List (List ℕ)) (s : AutomatonState) (w : Word) (t : ℕ) → Spells w t → Fits s.node → FitsGuess s.odd
     → IsItemLine (ByTables qs ks) (item_line s (w ∷ []))
 table_item qs ks s w t spells node guess = record {
   of_kind = (item_words s (w ∷ []) node guess (words_first w [] (spelt_is_word w t spells) refl), (refl, (tt, (tt, (tt, refl)))));
-  numbers_are =
-      (
-        (λ _. (tt, (is_number s.node node, (guess_word_fits s.odd guess, ((t, spells), All-nil IsNumber))))),
-        ((λ kind. absurd (no_heights (number s.node ∷ guess_word s.odd ∷ w ∷ []) kind)), tt),
-      );
+  numbers_are = (
+    (λ _. (tt, (is_number s.node node, (guess_word_fits s.odd guess, ((t, spells), All-nil IsNumber))))),
+    ((λ kind. absurd (no_heights (number s.node ∷ guess_word s.odd ∷ w ∷ []) kind)), tt),
+  );
 }
 
 module _ (v : Version) (left : List ℕ) (names wanted : ℕ) (small : Fits names) where
@@ -90,8 +87,7 @@ module _ (v : Version) (left : List ℕ) (names wanted : ℕ) (small : Fits name
       let k = known names InFull wanted in
       let i = length es in
       let back = values_back q fit in
-      subst (λ ls. Run v left (AtEntry k es) ls (AtLive k es q)) (sym is)
-      (
+      subst (λ ls. Run v left (AtEntry k es) ls (AtLive k es q)) (sym is) (
         (inl (numbered_of v left (codes "entry") i refl fits), (numbered_fits v left (codes "entry") i fits, (value_back i fits, (tt, tt)))),
         (
           (inl (sequent_good v left q fit), (sequent_fits v left q fit, (subst IsAscending (sym back) ascends, tt))),
@@ -104,8 +100,7 @@ module _ (v : Version) (left : List ℕ) (names wanted : ℕ) (small : Fits name
       let below : s < length qs = slice_get_within qs s q there in
       let small : Fits s = omega (arith, below, tables) in
       let back = value_back s small in
-      subst (λ ls. Run v left (AtEntry k es) ls (AtLive k es q)) (sym is)
-      (
+      subst (λ ls. Run v left (AtEntry k es) ls (AtLive k es q)) (sym is) (
         (
           inl (words_first (codes "entry") (number i ∷ number s ∷ []) refl (words_number i (number s ∷ []) fits (words_number s [] small refl)), (refl, (tt, (tt, refl)))),
           (
@@ -139,8 +134,7 @@ module _ (v : Version) (left : List ℕ) (names wanted : ℕ) (small : Fits name
         let fit = names_fit v left live a.stack (omega (arith, within, small)) is.is_stack.below in
         let line = full_item a.state a.stack is.is_stack.some fit is.node_fits is.guess_fits in
         let back = values_back a.stack fit in
-        subst (λ ws. Run v left (at_item InFull before) (item_line a.state ws ∷ []) (at_item InFull (before ++ a ∷ []))) (sym spelt)
-        (
+        subst (λ ws. Run v left (at_item InFull before) (item_line a.state ws ∷ []) (at_item InFull (before ++ a ∷ []))) (sym spelt) (
           (
             inl line.of_kind,
             (
@@ -159,8 +153,7 @@ module _ (v : Version) (left : List ℕ) (names wanted : ℕ) (small : Fits name
         let back : slice_index_or ks (value w) [] ≡ a.stack =
         ap (λ n. slice_index_or ks n []) spells.is_value ∙ get_or_from_slice_get ks t a.stack [] there in
         let below : value w < length ks = omega (arith, spells.is_value, slice_get_within ks t a.stack there) in
-        subst (λ ws. Run v left (at_item form before) (item_line a.state ws ∷ []) (at_item form (before ++ a ∷ []))) (sym spelt)
-        (
+        subst (λ ws. Run v left (at_item form before) (item_line a.state ws ∷ []) (at_item form (before ++ a ∷ []))) (sym spelt) (
           (
             inl line.of_kind,
             (

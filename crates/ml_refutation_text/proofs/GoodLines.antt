@@ -4,32 +4,28 @@
 --   sequents_run, stacks_run         == the number of lines of a table, and these
 --   head_run, live_run, items_run, heights_run == the lines of an entry before its decision
 --   leaf_run, decision_run           == a clash or a go, and a whole decision
-use Rattle.std.proofs.Common.{◌≡◌, ℕ, zero, suc, ◌+◌, ◌^◌, ◌<◌, ◌≤◌, ◌⊎◌, Bool, true, false, cond, ◌&&◌, nat_lt, max, List, [], ◌∷◌, ◌++◌, Option, None, Some, length, drop, map, get_or, All, codes, refl, sym, ap, subst, ◌∙◌, inl, inr, length-append, append_assoc, arith}
-use Rattle.std.specs.Prelude.{slice_get, slice_index_or}
+use Rattle.std.proofs.Common.{◌≡◌, ℕ, ◌+◌, ◌<◌, ◌≤◌, true, false, cond, nat_lt, max, List, [], ◌∷◌, ◌++◌, length, map, All, codes, refl, sym, ap, subst, ◌∙◌, inl, inr, length-append, append_assoc, arith}
 use Rattle.std.proofs.lemmas.Bool.Decides.{nat_tests}
 use Rattle.std.proofs.Math.Nat.{le-max_left, le-max_right}
-use Rattle.std.proofs.lemmas.List.{append-nil, map-append}
-use Rattle.std.proofs.lemmas.List.Elements.{All-nil, All-cons, All-head, All-tail, All-weaker}
+use Rattle.std.proofs.lemmas.List.{append-nil}
+use Rattle.std.proofs.lemmas.List.Elements.{All-nil, All-head, All-tail, All-weaker}
 use Rattle.ml_base.specs.declared.version.Version.{Version}
 use Rattle.ml_lines.specs.Lines.{Word, Line, number}
-use Rattle.ml_lines.specs.Reading.{is_word, AreWords, IsNumber, value, word}
+use Rattle.ml_lines.specs.Reading.{is_word, AreWords, IsNumber, word}
 use Rattle.ml_lists.specs.Ascending.{IsAscending}
-use Rattle.ml_lists.specs.Chains.{last_of}
 use Rattle.ml_lists.specs.Documents.{KeepsAll}
 use Rattle.std.specs.Str.{bytes_eq}
-use Rattle.ml_trace.specs.declared.letters.AutomatonState.{AutomatonState}
 use Rattle.ml_trace.specs.declared.marks.Mark.{Mark}
 use Rattle.ml_trace.specs.declared.marks.Mark.TheVariants.{Red, Green, Neutral}
-use Rattle.ml_trace.specs.Stack as traced
 use Rattle.ml_sequent.specs.declared.clashes.ClashCause.{ClashCause}
 use Rattle.ml_sequent.specs.declared.clashes.ClashCause.TheVariants.{False, Pair, Cycle}
-use Rattle.ml_refutation.specs.Refutation.{Refutation, Entry, Decision, Split, Clash, Go, Fits, FitsCause, IsMarkOf, IsAbove, AreAbove, IsStack, IsItem, IsDecided, nesting}
+use Rattle.ml_refutation.specs.Refutation.{Refutation, Entry, Decision, Split, Clash, Go, Fits, FitsCause, IsMarkOf, IsStack, IsDecided, nesting}
 use Rattle.ml_refutation.specs.declared.refutation.TheConstants.{NESTING_LIMIT}
-use Rattle.ml_refutation_text.specs.RefutationText.{Spells, Form, InFull, ByTables, numbers, names_line, entries_line, sequents_line, stacks_line, sequent_line, stack_line, numbered_line, entry_line, live_line, guess_word, item_line, heights_line, split_line, clash_line, go_line, decision_lines, end_line, HeadLines, StackWords, ItemLine, ItemLines}
+use Rattle.ml_refutation_text.specs.RefutationText.{Spells, Form, ByTables, numbers, names_line, entries_line, sequents_line, stacks_line, sequent_line, stack_line, live_line, split_line, clash_line, go_line, decision_lines, end_line}
 use Rattle.ml_refutation_text.specs.LineKinds.{Kind, IsOfKind, HaveNumbers}
-use Rattle.ml_refutation_text.specs.BodyRules.{numbered, sequent_kind, stack_kind, clash_kinds, go_kinds, further_rules, mark_of, Known, Around, InLeft, InRight, Begun, Place, AtNames, AtSequents, AtTableSequent, AtStacks, AtTableStack, AtEntries, AtEntry, AtSequent, AtLive, AtItem, AtDecision, AtEnd, AtNothing, values, state_of, stack_of, leaf_of, at_sequent_table, at_stack_table, at_entry, whole, closed, with_item, after_names, after, body}
+use Rattle.ml_refutation_text.specs.BodyRules.{numbered, sequent_kind, stack_kind, clash_kinds, go_kinds, further_rules, mark_of, Known, Around, InLeft, InRight, Begun, Place, AtNames, AtSequents, AtTableSequent, AtStacks, AtTableStack, AtEntries, AtLive, AtItem, AtDecision, AtEnd, AtNothing, at_sequent_table, at_stack_table, at_entry, closed, after_names, body}
 use Rattle.ml_refutation_text.proofs.Runs.{Runs, run_on}
-use Rattle.ml_refutation_text.proofs.ReadWords.{is_number, are_numbers, words_first, words_number, words_numbers, value_back, values_back, guess_back, guess_word_fits, guess_is_word, differ, spelt_is_word}
+use Rattle.ml_refutation_text.proofs.ReadWords.{is_number, are_numbers, words_first, words_number, words_numbers, value_back, values_back, differ, spelt_is_word}
 
 -- the parts of a split are nested less deep
 nest_left : (l r around limit : ℕ) → 1 + max l r + around ≤ limit
@@ -92,12 +88,11 @@ module _ (v : Version) (left : List ℕ) where
       sequents_from n size all more (omega (arith, length-append rows (q ∷ []), full)) (All-tail (All Fits) q more fit)
       (All-tail IsAscending q more ascend) in
       subst (λ p. Run p (map sequent_line (q ∷ more)) (AtStacks n (rows ++ q ∷ more)))
-      (sym (ap (λ b. cond b (AtTableSequent n size rows) (AtStacks n rows)) below))
-      (
+      (sym (ap (λ b. cond b (AtTableSequent n size rows) (AtStacks n rows)) below)) (
         (inl (sequent_good q fits), (sequent_fits q fits, (subst IsAscending (sym back) ascends, tt))),
         subst (λ p. Run p (map sequent_line more) (AtStacks n (rows ++ q ∷ more)))
-        (ap (λ ns. at_sequent_table n size (rows ++ ns ∷ [])) (sym back))
-        (subst (λ ls. Run (at_sequent_table n size all) (map sequent_line more) (AtStacks n ls)) (append_assoc rows (q ∷ []) more) others),
+            (ap (λ ns. at_sequent_table n size (rows ++ ns ∷ [])) (sym back))
+            (subst (λ ls. Run (at_sequent_table n size all) (map sequent_line more) (AtStacks n ls)) (append_assoc rows (q ∷ []) more) others),
       )
 
   pub sequents_run : (n : ℕ) (qs : List (List ℕ)) → Fits (length qs) → All (All Fits) qs → All IsAscending qs
@@ -105,7 +100,7 @@ module _ (v : Version) (left : List ℕ) where
   sequents_run n qs small fit ascend = (
     (inl (numbered_of (codes "sequents") (length qs) refl small), (numbered_fits (codes "sequents") (length qs) small, tt)),
     subst (λ size. Run (at_sequent_table n size []) (map sequent_line qs) (AtStacks n qs)) (sym (value_back (length qs) small))
-    (sequents_from n (length qs) [] qs (omega arith) fit ascend),
+        (sequents_from n (length qs) [] qs (omega arith) fit ascend),
   )
 
   stack_good : (ns : List ℕ) → 0 < length ns → All Fits ns → IsOfKind stack_kind (stack_line ns)
@@ -135,16 +130,15 @@ module _ (v : Version) (left : List ℕ) where
       let others =
       stacks_from n qs size all more fits (omega (arith, length-append rows (ns ∷ []), full)) (All-tail (IsStack n) ns more are) in
       subst (λ p. Run p (map stack_line (ns ∷ more)) (AtEntries n (ByTables qs (rows ++ ns ∷ more))))
-      (sym (ap (λ b. cond b (AtTableStack n qs size rows) (AtEntries n (ByTables qs rows))) below))
-      (
+      (sym (ap (λ b. cond b (AtTableStack n qs size rows) (AtEntries n (ByTables qs rows))) below)) (
         (
           inl (stack_good ns is.some fit),
           (stack_fits ns fit, (subst (λ xs. IsAscending xs × All (λ x. x < n) xs) (sym back) (is.ascends, is.below), tt)),
         ),
         subst (λ p. Run p (map stack_line more) (AtEntries n (ByTables qs (rows ++ ns ∷ more))))
-        (ap (λ xs. at_stack_table n qs size (rows ++ xs ∷ [])) (sym back))
-        (subst (λ ls. Run (at_stack_table n qs size all) (map stack_line more) (AtEntries n (ByTables qs ls)))
-        (append_assoc rows (ns ∷ []) more) others),
+            (ap (λ xs. at_stack_table n qs size (rows ++ xs ∷ [])) (sym back))
+            (subst (λ ls. Run (at_stack_table n qs size all) (map stack_line more) (AtEntries n (ByTables qs ls)))
+            (append_assoc rows (ns ∷ []) more) others),
       )
 
   pub stacks_run : (n : ℕ) (qs ks : List (List ℕ)) (w : Word) → Fits n → Spells w (length ks) → All (IsStack n) ks
@@ -155,7 +149,7 @@ module _ (v : Version) (left : List ℕ) where
       (((λ _. (tt, ((length ks, spells), All-nil IsNumber))), tt), tt),
     ),
     subst (λ size. Run (at_stack_table n qs size []) (map stack_line ks) (AtEntries n (ByTables qs ks))) (sym spells.is_value)
-    (stacks_from n qs (length ks) [] ks fits (omega arith) are),
+        (stacks_from n qs (length ks) [] ks fits (omega arith) are),
   )
 
   -- ---- the lines of an entry before its decision
@@ -220,8 +214,7 @@ module _ (v : Version) (left : List ℕ) where
       (
         inr (inl (words_first (codes "clash") (codes "false" ∷ number n ∷ []) refl (words_first (codes "false") (number n ∷ []) refl (words_number n [] fits refl)), (refl, (refl, (tt, refl))))),
         (
-          no_split (codes "clash") (codes "false" ∷ number n ∷ []) (clash_kinds ++ go_kinds) refl
-          (
+          no_split (codes "clash") (codes "false" ∷ number n ∷ []) (clash_kinds ++ go_kinds) refl (
             (λ _. (tt, (tt, (is_number n fits, All-nil IsNumber)))),
             (
               (λ no. absurd (differ (codes "false") (codes "pair") refl no.1.1.0)),
@@ -237,8 +230,7 @@ module _ (v : Version) (left : List ℕ) where
       (
         inr (inr (inl (words_first (codes "clash") (codes "pair" ∷ number p ∷ number q ∷ []) refl (words_first (codes "pair") (number p ∷ number q ∷ []) refl (words_number p (number q ∷ []) fits.0 (words_number q [] fits.1 refl))), (refl, (refl, (tt, (tt, refl))))))),
         (
-          no_split (codes "clash") (codes "pair" ∷ number p ∷ number q ∷ []) (clash_kinds ++ go_kinds) refl
-          (
+          no_split (codes "clash") (codes "pair" ∷ number p ∷ number q ∷ []) (clash_kinds ++ go_kinds) refl (
             (λ no. absurd (differ (codes "pair") (codes "false") refl no.1.1.0)),
             (
               (λ _. (tt, (tt, (is_number p fits.0, (is_number q fits.1, All-nil IsNumber))))),
@@ -254,8 +246,7 @@ module _ (v : Version) (left : List ℕ) where
       (
         inr (inr (inr (inl (words_first (codes "clash") (codes "cycle" ∷ number n ∷ []) refl (words_first (codes "cycle") (number n ∷ []) refl (words_number n [] fits refl)), (refl, (refl, (tt, refl))))))),
         (
-          no_split (codes "clash") (codes "cycle" ∷ number n ∷ []) (clash_kinds ++ go_kinds) refl
-          (
+          no_split (codes "clash") (codes "cycle" ∷ number n ∷ []) (clash_kinds ++ go_kinds) refl (
             (λ no. absurd (differ (codes "cycle") (codes "false") refl no.1.1.0)),
             (
               (λ no. absurd (differ (codes "cycle") (codes "pair") refl no.1.1.0)),
@@ -295,14 +286,13 @@ module _ (v : Version) (left : List ℕ) where
             ))))),
             (
               no_split (codes "go") (number d ∷ number e ∷ others) (clash_kinds ++ go_kinds) refl
-              (no_clash (codes "go") (number d ∷ number e ∷ others) go_kinds refl
-              (
-                (λ _. (tt, (is_number d fits, (is_number e fits', (tt, (is_number x fit, All-nil IsNumber)))))),
-                (
-                  (λ no. absurd (differ (codes "red") (codes "green") refl no.1.1.1.1.0)),
-                  ((λ no. absurd (differ (codes "red") (codes "neutral") refl no.1.1.1.1.0)), tt),
-                ),
-              )),
+                  (no_clash (codes "go") (number d ∷ number e ∷ others) go_kinds refl (
+                    (λ _. (tt, (is_number d fits, (is_number e fits', (tt, (is_number x fit, All-nil IsNumber)))))),
+                    (
+                      (λ no. absurd (differ (codes "red") (codes "green") refl no.1.1.1.1.0)),
+                      ((λ no. absurd (differ (codes "red") (codes "neutral") refl no.1.1.1.1.0)), tt),
+                    ),
+                  )),
               go_ranges around d e (Red x) others fits' within back is,
             ),
           ),
@@ -319,14 +309,13 @@ module _ (v : Version) (left : List ℕ) where
             )))))),
             (
               no_split (codes "go") (number d ∷ number e ∷ others) (clash_kinds ++ go_kinds) refl
-              (no_clash (codes "go") (number d ∷ number e ∷ others) go_kinds refl
-              (
-                (λ no. absurd (differ (codes "green") (codes "red") refl no.1.1.1.1.0)),
-                (
-                  (λ _. (tt, (is_number d fits, (is_number e fits', (tt, (is_number x fit, All-nil IsNumber)))))),
-                  ((λ no. absurd (differ (codes "green") (codes "neutral") refl no.1.1.1.1.0)), tt),
-                ),
-              )),
+                  (no_clash (codes "go") (number d ∷ number e ∷ others) go_kinds refl (
+                    (λ no. absurd (differ (codes "green") (codes "red") refl no.1.1.1.1.0)),
+                    (
+                      (λ _. (tt, (is_number d fits, (is_number e fits', (tt, (is_number x fit, All-nil IsNumber)))))),
+                      ((λ no. absurd (differ (codes "green") (codes "neutral") refl no.1.1.1.1.0)), tt),
+                    ),
+                  )),
               go_ranges around d e (Green x) others fits' within back is,
             ),
           ),
@@ -338,14 +327,13 @@ module _ (v : Version) (left : List ℕ) where
             inr (inr (inr (inr (inr (inr (inl (go_words d e others fits fits' refl, (refl, (tt, (tt, (refl, refl))))))))))),
             (
               no_split (codes "go") (number d ∷ number e ∷ others) (clash_kinds ++ go_kinds) refl
-              (no_clash (codes "go") (number d ∷ number e ∷ others) go_kinds refl
-              (
-                (λ no. absurd (differ (codes "neutral") (codes "red") refl no.1.1.1.1.0)),
-                (
-                  (λ no. absurd (differ (codes "neutral") (codes "green") refl no.1.1.1.1.0)),
-                  ((λ _. (tt, (is_number d fits, (is_number e fits', (tt, All-nil IsNumber))))), tt),
-                ),
-              )),
+                  (no_clash (codes "go") (number d ∷ number e ∷ others) go_kinds refl (
+                    (λ no. absurd (differ (codes "neutral") (codes "red") refl no.1.1.1.1.0)),
+                    (
+                      (λ no. absurd (differ (codes "neutral") (codes "green") refl no.1.1.1.1.0)),
+                      ((λ _. (tt, (is_number d fits, (is_number e fits', (tt, All-nil IsNumber))))), tt),
+                    ),
+                  )),
               go_ranges around d e Neutral others fits' within refl is,
             ),
           ),

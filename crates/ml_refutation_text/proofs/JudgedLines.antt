@@ -11,7 +11,7 @@ use Rattle.ml_lines.specs.Reading.{IsNumber, value, word}
 use Rattle.ml_lines.proofs.DecidedWords.{decided_line, decided_words, decided_number}
 use Rattle.ml_lists.specs.Ascending.{IsAscending}
 use Rattle.ml_lists.specs.Chains.{last_of}
-use Rattle.ml_lists.specs.Documents.{Rule, Judges, IsJudged}
+use Rattle.ml_lists.specs.Documents.{Judges}
 use Rattle.ml_lists.specs.Member.{IsMember}
 use Rattle.ml_lists.proofs.Decided as is
 use Rattle.ml_lists.proofs.Decided.{Decided}
@@ -22,8 +22,8 @@ use Rattle.ml_trace.specs.declared.marks.Mark.TheVariants.{Red, Green, Neutral}
 use Rattle.ml_trace.specs.Stack as traced
 use Rattle.ml_refutation.specs.Refutation.{IsAbove, IsMarkOf, comes_before}
 use Rattle.ml_refutation.specs.declared.refutation.TheConstants.{NESTING_LIMIT}
-use Rattle.ml_refutation_text.specs.RefutationText.{Spells, Form, InFull, ByTables}
-use Rattle.ml_refutation_text.specs.LineKinds.{Slot, Fixed, ANumber, AGuess, AnySize, Kind, IsSpelt, MayFollow, InSlot, FitsSlot, InSlots, FitSlots, IsOfKind, HasNumbers, IsOfKinds, HaveNumbers}
+use Rattle.ml_refutation_text.specs.RefutationText.{Form, InFull, ByTables}
+use Rattle.ml_refutation_text.specs.LineKinds.{Slot, Fixed, ANumber, AGuess, AnySize, Kind, IsSpelt, MayFollow, InSlot, FitsSlot, InSlots, FitSlots, IsOfKind, IsOfKinds, HaveNumbers}
 use Rattle.ml_refutation_text.specs.BodyRules.{Place, AtNames, AtSequents, AtTableSequent, AtStacks, AtTableStack, AtEntries, AtEntry, AtSequent, AtLive, AtItem, AtDecision, AtEnd, AtNothing, IsNextItem, SequentInTable, StackInTable, values, state_of, stack_of, mark_of, kinds, further_rules, rules, body}
 
 decided_implies : {P Q : Type 0} → Decided P → Decided Q → Decided (P → Q)
@@ -37,7 +37,7 @@ spelt : (w : Word) → Decided (IsSpelt w)
 spelt w =
     is.decided_same
     (λ (parts : (all_ascii_digits w ≡ true) × ((0 < length w) × (get_or w 0 0 ≡ 48 → length w ≡ 1))).
-      (value w, record { digits = parts.0; some = parts.1.0; no_zero_leads = parts.1.1; is_value = refl }))
+    (value w, record { digits = parts.0; some = parts.1.0; no_zero_leads = parts.1.1; is_value = refl }))
     (λ s. (s.1.digits, (s.1.some, s.1.no_zero_leads)))
     (is.decided_both (is.decided_test (all_ascii_digits w))
     (is.decided_both (is.decided_less 0 (length w)) (decided_implies (is.decided_number (get_or w 0 0) 48) (is.decided_number (length w) 1))))
@@ -89,6 +89,7 @@ above_all x (y ∷ ys) = is.decided_same there back (is.decided_both (is.decided
     there : (x < y) × ((z : ℕ) → IsMember z ys → x < z) → (z : ℕ) → IsMember z (y ∷ ys) → x < z
     there less z (inl same) = omega (arith, same, less.0)
     there less z (inr later) = less.1 z later
+
     back : ((z : ℕ) → IsMember z (y ∷ ys) → x < z) → (x < y) × ((z : ℕ) → IsMember z ys → x < z)
     back all = (all y (inl refl), λ z later. all z (inr later))
 

@@ -3,10 +3,9 @@
 --   digits_without     == digits are neither
 --   kinds_plain, place_plain == a line of a kind whose fixed words are plain is plain
 --   run_plain          == so are good lines one behind the other, where nothing may stand behind the last one
-use Rattle.std.proofs.Common.{◌≡◌, ◌==◌, ℕ, ◌+◌, ◌^◌, ◌<◌, ◌≤◌, ◌⊎◌, Bool, true, false, ◌||◌, ◌&&◌, nat_le, List, [], ◌∷◌, length, All, codes, refl, sym, ap, subst, ◌∙◌, inl, inr, arith}
+use Rattle.std.proofs.Common.{◌≡◌, ◌==◌, ℕ, ◌<◌, ◌≤◌, Bool, true, false, ◌||◌, ◌&&◌, nat_le, List, [], ◌∷◌, length, All, codes, refl, ap, ◌∙◌, inl, inr, arith}
 use Rattle.std.specs.Str.{all_ascii_digits}
 use Rattle.std.specs.Char.{is_ascii_digit}
-use Rattle.std.proofs.lemmas.Bool.{true≢false}
 use Rattle.std.proofs.lemmas.Bool.Decides.{nat_tests}
 use Rattle.std.proofs.lemmas.List.Elements.{All-head, All-tail}
 use Rattle.ml_base.specs.declared.version.Version.{Version}
@@ -15,9 +14,9 @@ use Rattle.ml_lines.specs.Reading.{IsNumber}
 use Rattle.ml_lines.proofs.Numbers.{digits-number}
 use Rattle.ml_lines.proofs.Unique.{has, avoids, IsPlain, ArePlain}
 use Rattle.ml_lists.specs.Documents.{IsGood}
-use Rattle.ml_refutation_text.specs.RefutationText.{Spells, Form, InFull, ByTables}
-use Rattle.ml_refutation_text.specs.LineKinds.{Slot, Fixed, ANumber, AGuess, AnySize, Kind, MayFollow, InSlot, FitsSlot, InSlots, FitSlots, IsOfKind, HasNumbers, IsOfKinds, HaveNumbers}
-use Rattle.ml_refutation_text.specs.BodyRules.{Place, AtNames, AtSequents, AtTableSequent, AtStacks, AtTableStack, AtEntries, AtEntry, AtSequent, AtLive, AtItem, AtDecision, AtEnd, AtNothing, Known, entry_kind, item_kind, after, body, kinds}
+use Rattle.ml_refutation_text.specs.RefutationText.{Form, InFull, ByTables}
+use Rattle.ml_refutation_text.specs.LineKinds.{Slot, Fixed, ANumber, AGuess, AnySize, Kind, InSlot, FitsSlot, InSlots, FitSlots, IsOfKind, HasNumbers, IsOfKinds, HaveNumbers}
+use Rattle.ml_refutation_text.specs.BodyRules.{Place, AtNames, AtSequents, AtTableSequent, AtStacks, AtTableStack, AtEntries, AtEntry, AtSequent, AtLive, AtItem, AtDecision, AtEnd, AtNothing, entry_kind, item_kind, after, body, kinds}
 use Rattle.ml_refutation_text.proofs.Runs.{Runs}
 
 -- ---- words

@@ -4,8 +4,7 @@
 --   Stands p L            == the lines L, behind which stands p, are those of what p keeps
 --   step                  == so are they with one more good line
 --   readable_is_text      == a text without a bad line is one of a refutation
-use Rattle.std.proofs.Common.{◌≡◌, ℕ, zero, suc, ◌+◌, ◌-◌, ◌^◌, ◌<◌, ◌≤◌, ◌⊎◌, Bool, true, false, cond, nat_lt, max, List, [], ◌∷◌, ◌++◌, Option, None, Some, length, drop, map, get_or, All, codes, refl, sym, ap, subst, ◌∙◌, inl, inr, length-append, append_assoc, arith}
-use Rattle.std.specs.Prelude.{slice_get, slice_index_or}
+use Rattle.std.proofs.Common.{◌≡◌, ℕ, ◌+◌, ◌-◌, ◌<◌, ◌≤◌, ◌⊎◌, Bool, true, false, cond, nat_lt, max, List, [], ◌∷◌, ◌++◌, Option, None, Some, length, drop, map, All, codes, refl, sym, ap, subst, ◌∙◌, inl, inr, length-append, append_assoc, arith}
 use Rattle.std.specs.Str.{bytes_eq}
 use Rattle.std.proofs.Math.Nat.{max-le}
 use Rattle.std.proofs.lemmas.Bool.{cases_lt}
@@ -32,9 +31,9 @@ use Rattle.ml_sequent.specs.declared.clashes.ClashCause.TheVariants.{False, Pair
 use Rattle.ml_trace.specs.declared.letters.AutomatonState.{AutomatonState}
 use Rattle.ml_refutation.specs.Refutation.{Refutation, Entry, Decision, Split, Clash, Go, IsMarkOf, Fits, FitsGuess, IsAbove, AreAbove, IsStack, IsItem, IsDecided, IsEntry, IsRefutation, nesting}
 use Rattle.ml_refutation.specs.declared.refutation.TheConstants.{NESTING_LIMIT}
-use Rattle.ml_refutation_text.specs.RefutationText.{Spells, Form, InFull, ByTables, numbers, names_line, entries_line, sequents_line, stacks_line, sequent_line, stack_line, numbered_line, entry_line, live_line, guess_word, item_line, heights_line, split_line, decision_lines, end_line, HeadLines, StackWords, ItemLine, ItemLines, EntryLines, EntriesLines, FirstLines, BodyLines, AreTables, IsForm, IsTextOf}
-use Rattle.ml_refutation_text.specs.LineKinds.{Slot, Kind, kind, FitsSlot, IsOfKind, HasNumbers, Fixed, ANumber, AGuess, AnySize, InSlots, FitSlots, open_kind, IsOfKinds, HaveNumbers}
-use Rattle.ml_refutation_text.specs.BodyRules.{kinds, Begins, mark_of, clash_kinds, go_kinds, item_kind, heights_kind, entry_kind, guess_of, IsNextItem, StackInTable, Known, Around, InLeft, InRight, Begun, Place, AtNames, AtSequents, AtTableSequent, AtStacks, AtTableStack, AtEntries, AtEntry, AtSequent, AtLive, AtItem, AtDecision, AtEnd, AtNothing, numbered, sequent_kind, stack_kind, values, state_of, stack_of, leaf_of, at_sequent_table, at_stack_table, at_entry, whole, closed, with_item, after_names, after, body, IsReadableBody}
+use Rattle.ml_refutation_text.specs.RefutationText.{Spells, Form, InFull, ByTables, numbers, names_line, entries_line, sequents_line, stacks_line, sequent_line, stack_line, numbered_line, entry_line, live_line, guess_word, heights_line, split_line, decision_lines, end_line, HeadLines, ItemLine, ItemLines, EntryLines, EntriesLines, FirstLines, BodyLines, AreTables, IsForm}
+use Rattle.ml_refutation_text.specs.LineKinds.{Slot, kind, FitsSlot, IsOfKind, HasNumbers, Fixed, ANumber, AGuess, AnySize, InSlots, FitSlots, open_kind, IsOfKinds, HaveNumbers}
+use Rattle.ml_refutation_text.specs.BodyRules.{kinds, Begins, mark_of, clash_kinds, go_kinds, item_kind, heights_kind, guess_of, IsNextItem, StackInTable, Known, Around, InLeft, InRight, Begun, Place, AtNames, AtSequents, AtTableSequent, AtStacks, AtTableStack, AtEntries, AtEntry, AtSequent, AtLive, AtItem, AtDecision, AtEnd, AtNothing, numbered, stack_kind, values, state_of, stack_of, leaf_of, at_sequent_table, at_stack_table, at_entry, whole, closed, with_item, after_names, after, body, IsReadableBody}
 
 -- ---- good lines are those of their values
 
@@ -323,8 +322,7 @@ entries_push form i [] e lines more is one =
     let same : i + length {A = Entry} [] ≡ i = omega arith in
     (more, [], subst (λ n. EntryLines form n e more) same one, refl, ap (λ ls. ls ++ more) is ∙ sym (append-nil more))
 entries_push form i (x ∷ es) e lines more (first, others, is_first, rest, is) one =
-    let same : i + length (x ∷ es) ≡ i + 1 + length es = omega arith in
-    (
+    let same : i + length (x ∷ es) ≡ i + 1 + length es = omega arith in (
       first,
       others ++ more,
       is_first,

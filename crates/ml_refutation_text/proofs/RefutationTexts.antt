@@ -4,7 +4,6 @@
 --   one_refutation, readable_is_refutation, readable_or_fault, fault_or_readable, one_fault == the laws
 use Rattle.std.proofs.Common.{◌≡◌, ℕ, List, [], ◌∷◌, refl, sym, ap, subst, ◌∙◌}
 use Rattle.ml_base.specs.declared.version.Version.{Version}
-use Rattle.ml_lines.specs.Lines.{text_of}
 use Rattle.ml_lines.specs.Reading.{lines_of, left_of}
 use Rattle.ml_lines.proofs.Faults as text
 use Rattle.ml_lines.proofs.WrittenLines.{lines_read}

@@ -4,7 +4,7 @@
 --   step, run_on       == one line; lines, and then further ones
 --   one_end            == behind the same lines stands one place
 --   run_readable       == where the place behind them may be the end, the lines are readable
-use Rattle.std.proofs.Common.{◌≡◌, List, [], ◌∷◌, ◌++◌, refl, sym, subst, ◌∙◌}
+use Rattle.std.proofs.Common.{◌≡◌, List, [], ◌∷◌, ◌++◌, sym, subst, ◌∙◌}
 use Rattle.ml_lists.specs.Documents.{Format, IsGood, IsReadable}
 
 module _ {Line Place : Type 0} (F : Format Line Place) where

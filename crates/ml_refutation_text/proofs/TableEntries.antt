@@ -5,9 +5,9 @@
 --   made_all         == what holds of all lists holds of all lines of that table
 --   made_length      == that table isn't longer than they are
 --   has_inside, has_place == what stands in a table stands at its place there
-use Rattle.std.proofs.Common.{◌≡◌, ℕ, zero, suc, ◌+◌, ◌<◌, ◌≤◌, Bool, true, false, cond, not, ◌||◌, List, [], ◌∷◌, ◌++◌, Some, length, fold, get_or, All, refl, sym, ap, subst, ◌∙◌, length-append, arith}
+use Rattle.std.proofs.Common.{◌≡◌, ℕ, suc, ◌+◌, ◌<◌, ◌≤◌, Bool, true, false, cond, not, ◌||◌, List, [], ◌∷◌, ◌++◌, Some, length, fold, get_or, All, refl, sym, ap, ◌∙◌, length-append, arith}
 use Rattle.std.specs.Prelude.{slice_get}
-use Rattle.std.specs.List.{list_any, position_or_len, AllByRecursion}
+use Rattle.std.specs.List.{list_any, AllByRecursion}
 use Rattle.std.specs.Str.{bytes_eq}
 use Rattle.std.proofs.lemmas.List.Elements.{All-nil, All-head, All-tail, All-push}
 use Rattle.std.proofs.lemmas.List.Folds.{list_any-append}
@@ -73,6 +73,7 @@ fold_length ks (x ∷ xs) = go (fold_length (with_new ks x) xs) (one (list_any (
     one : (b : Bool) → length (cond b ks (ks ++ x ∷ [])) ≤ length ks + 1
     one true = omega arith
     one false = omega (arith, length-append ks (x ∷ []))
+
     go : length (fold with_new (with_new ks x) xs) ≤ length (with_new ks x) + length xs
         → length (with_new ks x) ≤ length ks + 1
         → length (fold with_new (with_new ks x) xs) ≤ length ks + length (x ∷ xs)

@@ -2,12 +2,11 @@
 -- written.
 use Rattle.std.proofs.Common.{◌≡◌, ℕ, List, [], ◌∷◌, Option, None, Some, codes, refl}
 use Rattle.ml_base.specs.declared.version.Version.TheVariants.{One, Two}
-use Rattle.ml_lines.specs.Lines.{Line, number}
+use Rattle.ml_lines.specs.Lines.{number}
 use Rattle.ml_trace.specs.declared.letters.AutomatonState.{AutomatonState}
-use Rattle.ml_trace.specs.declared.marks.Mark.{Mark}
 use Rattle.ml_trace.specs.declared.marks.Mark.TheVariants.{Green, Neutral}
 use Rattle.ml_trace.specs.Stack as traced
-use Rattle.ml_sequent.specs.declared.clashes.ClashCause.TheVariants.{False, Pair}
+use Rattle.ml_sequent.specs.declared.clashes.ClashCause.TheVariants.{False}
 use Rattle.ml_refutation.specs.Refutation.{Refutation, Entry, Decision, Split, Clash, Go}
 use Rattle.ml_refutation_text.specs.WrittenText.{written_lines}
 

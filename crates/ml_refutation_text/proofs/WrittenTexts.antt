@@ -4,21 +4,21 @@
 --   spells_number        == a number's word spells it
 --   tables_are           == the tables of a refutation are as what they stand for
 --   written_is_text      == the written text is one of the refutation
-use Rattle.std.proofs.Common.{◌≡◌, ℕ, zero, suc, get_or, ◌+◌, ◌^◌, ◌<◌, ◌≤◌, List, [], ◌∷◌, ◌++◌, length, map, All, refl, sym, ap, subst, ◌∙◌, length-append, append_assoc, arith}
+use Rattle.std.proofs.Common.{◌≡◌, ℕ, zero, suc, get_or, ◌+◌, ◌^◌, ◌<◌, ◌≤◌, List, [], ◌∷◌, ◌++◌, length, map, All, refl, ap, arith}
 use Rattle.std.specs.List.{flat_map, AllByRecursion}
 use Rattle.std.proofs.lemmas.Fmt.{decimal_nonempty, first_decimal, decimal_digit}
 use Rattle.std.proofs.lemmas.List.{length-map}
 use Rattle.std.proofs.lemmas.List.Elements.{All-nil, All-head, All-tail, All-append, All-map, All-weaker}
 use Rattle.ml_base.specs.declared.version.Version.{Version}
 use Rattle.ml_base.specs.declared.version.Version.TheVariants.{One, Two}
-use Rattle.ml_lines.specs.Lines.{Word, Line, number}
+use Rattle.ml_lines.specs.Lines.{number}
 use Rattle.ml_lines.proofs.Numbers.{value-number, digits-number}
 use Rattle.ml_lists.specs.Ascending.{IsAscending}
 use Rattle.ml_trace.specs.declared.letters.AutomatonState.{AutomatonState}
 use Rattle.ml_trace.specs.Stack as traced
 use Rattle.ml_refutation.specs.Refutation.{Refutation, Entry, Fits, IsStack, IsItem, IsEntry, IsRefutation}
-use Rattle.ml_refutation_text.specs.RefutationText.{Spells, Form, InFull, ByTables, HeadLines, StackWords, ItemLines, EntryLines, EntriesLines, AreTables, IsTextOf, item_line, end_line, entries_line}
-use Rattle.ml_refutation_text.specs.WrittenText.{IsCounted, Writing, in_full, by_tables, used_stacks, each_once, sequents_of, stacks_of, place_in, entry_lines, entries_lines, last_lines, written_lines, written_text}
+use Rattle.ml_refutation_text.specs.RefutationText.{Spells, Form, InFull, ByTables, HeadLines, StackWords, ItemLines, EntryLines, EntriesLines, AreTables, IsTextOf, item_line}
+use Rattle.ml_refutation_text.specs.WrittenText.{IsCounted, Writing, in_full, by_tables, used_stacks, sequents_of, stacks_of, place_in, entry_lines, entries_lines, written_lines, written_text}
 use Rattle.ml_refutation_text.proofs.TableEntries.{Has, made_has, made_all, made_length, has_inside, has_place}
 
 -- ---- both forms

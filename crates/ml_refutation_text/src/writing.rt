@@ -20,11 +20,7 @@ use std::alloc::Global;
 /// `NoMemory` alone.
 ///
 /// Cost: linear in the text of version 1, in both versions.
-pub fn write(
-    alloc: Global,
-    refutation: &Refutation,
-    version: Version,
-) -> Result<Vec<u8>, NoMemory>
+pub fn write(alloc: Global, refutation: &Refutation, version: Version) -> Result<Vec<u8>, NoMemory>
     ensures text { IfOk result (λ bytes. bytes.items ≡ written_text version (of_parts refutation.now.names refutation.now.entries)) }
     ensures is_text { IfOk result (λ bytes. IsTextOf version bytes.items (of_parts refutation.now.names refutation.now.entries)) }
 {
