@@ -37,7 +37,11 @@ state_back : (s : AutomatonState) (words : List Word) → Fits s.node → FitsGu
 state_back s words fits guess =
     let node = value_back s.node fits in let odd = guess_back s.odd guess in λ i. record { node = node i; odd = odd i }
 
-item_words : (s : AutomatonState) (words : Line) → Fits s.node → FitsGuess s.odd → AreWords words → AreWords (item_line s words)
+item_words : (s : AutomatonState) (words : Line)
+    → Fits s.node
+    → FitsGuess s.odd
+    → AreWords words
+    → AreWords (item_line s words)
 item_words s words fits guess are =
     words_first (codes "item") (number s.node ∷ guess_word s.odd ∷ words) refl
     (words_number s.node (guess_word s.odd ∷ words) fits (words_first (guess_word s.odd) words (guess_is_word s.odd guess) are))
@@ -69,7 +73,10 @@ full_item s (x ∷ xs) some fit node guess = record {
   );
 }
 
-table_item : (qs ks : List (List ℕ)) (s : AutomatonState) (w : Word) (t : ℕ) → Spells w t → Fits s.node → FitsGuess s.odd
+table_item : (qs ks : List (List ℕ)) (s : AutomatonState) (w : Word) (t : ℕ)
+    → Spells w t
+    → Fits s.node
+    → FitsGuess s.odd
     → IsItemLine (ByTables qs ks) (item_line s (w ∷ []))
 table_item qs ks s w t spells node guess = record {
   of_kind = (item_words s (w ∷ []) node guess (words_first w [] (spelt_is_word w t spells) refl), (refl, (tt, (tt, (tt, refl)))));
@@ -116,7 +123,8 @@ module _ (v : Version) (left : List ℕ) (names wanted : ℕ) (small : Fits name
     abbrev at_item : Form → List (traced.Item AutomatonState) → Place
     at_item form items = AtItem (known names form wanted) es q (record { live = live; items = items })
 
-    next_item : (form : Form) (before : List (traced.Item AutomatonState)) (a : traced.Item AutomatonState) (words : List Word)
+    next_item : (form : Form) (before : List (traced.Item AutomatonState)) (a : traced.Item AutomatonState)
+        (words : List Word)
         → IsItem live a → IsAbove (last_of None (map (λ b. b.state) before)) a.state
         → stack_of form (item_line a.state words) ≡ a.stack
         → IsNextItem form (record { live = live; items = before }) (item_line a.state words)
@@ -127,7 +135,8 @@ module _ (v : Version) (left : List ℕ) (names wanted : ℕ) (small : Fits name
       in_use = subst (All (λ x. x < live)) (sym back) is.is_stack.below;
     }
 
-    item_run : (form : Form) (before : List (traced.Item AutomatonState)) (a : traced.Item AutomatonState) (words : List Word)
+    item_run : (form : Form) (before : List (traced.Item AutomatonState)) (a : traced.Item AutomatonState)
+        (words : List Word)
         → IsItem live a → IsAbove (last_of None (map (λ b. b.state) before)) a.state → StackWords form a.stack words
         → Run v left (at_item form before) (item_line a.state words ∷ []) (at_item form (before ++ a ∷ []))
     item_run InFull before a words is above spelt =
@@ -186,7 +195,9 @@ module _ (v : Version) (left : List ℕ) (names wanted : ℕ) (small : Fits name
         (run_on (body v left) (at_item form before) (at_item form (before ++ a ∷ [])) (at_item form (before ++ a ∷ items)) (line ∷ []) others one
         (subst (λ all. Run v left (at_item form (before ++ a ∷ [])) others (at_item form all)) (append_assoc before (a ∷ []) items) more))
 
-    heights_run : (form : Form) (items : List (traced.Item AutomatonState)) (hs : List ℕ) → All Fits hs → length hs ≡ names + 1
+    heights_run : (form : Form) (items : List (traced.Item AutomatonState)) (hs : List ℕ)
+        → All Fits hs
+        → length hs ≡ names + 1
         → Run v left (at_item form items) (heights_line hs ∷ [])
         (AtDecision (known names form wanted) es (record { sequent = q; traces = record { live = live; items = items }; heights = hs }) [])
     heights_run form items hs fit count = (
@@ -208,7 +219,10 @@ module _ (v : Version) (left : List ℕ) (names wanted : ℕ) (small : Fits name
 
   -- ---- entries
 
-  pub entry_run : (form : Form) (es : List Entry) (e : Entry) (lines : List Line) → Fits wanted → length es < wanted → SequentsFit form
+  pub entry_run : (form : Form) (es : List Entry) (e : Entry) (lines : List Line)
+      → Fits wanted
+      → length es < wanted
+      → SequentsFit form
       → IsEntry names wanted e → EntryLines form (length es) e lines
       → Run v left (AtEntry (known names form wanted) es) lines (at_entry (known names form wanted) (es ++ e ∷ []))
   entry_run form es e lines few here tables is written =
@@ -233,7 +247,9 @@ module _ (v : Version) (left : List ℕ) (names wanted : ℕ) (small : Fits name
       (heights_line e.heights ∷ last) items
       (run_on F (AtItem k es e.sequent e.traces) (AtDecision k es b []) behind (heights_line e.heights ∷ []) last heights decided))))
 
-  entries_from : (form : Form) (es more : List Entry) (lines : List Line) → Fits wanted → length es + length more ≡ wanted
+  entries_from : (form : Form) (es more : List Entry) (lines : List Line)
+      → Fits wanted
+      → length es + length more ≡ wanted
       → SequentsFit form → All (IsEntry names wanted) more → EntriesLines form (length es) more lines
       → Run v left (at_entry (known names form wanted) es) lines (AtEnd (record { names = names; entries = es ++ more }))
   entries_from form es [] lines few full tables are written =
@@ -257,7 +273,10 @@ module _ (v : Version) (left : List ℕ) (names wanted : ℕ) (small : Fits name
 
 -- ---- a body
 
-first_run : (v : Version) (left : List ℕ) (form : Form) (names : ℕ) (lines : List Line) → Fits names → IsForm v names form → FirstLines form names lines
+first_run : (v : Version) (left : List ℕ) (form : Form) (names : ℕ) (lines : List Line)
+    → Fits names
+    → IsForm v names form
+    → FirstLines form names lines
     → Run v left AtNames lines (AtEntries names form) × SequentsFit form
 first_run One left InFull names lines fits is written =
     (subst (λ ls. Run One left AtNames ls (AtEntries names InFull)) (sym written) (names_run One left names fits), tt)
@@ -274,7 +293,9 @@ first_run Two left (ByTables qs ks) names lines fits is (w, spells, written) =
     (sequents_run Two left names qs is.sequents_fit is.nodes_fit is.sequents_ascend) (stacks_run Two left names qs ks w fits spells is.are_stacks)) in
     (subst (λ ls. Run Two left AtNames ls (AtEntries names (ByTables qs ks))) (sym written) run, is.sequents_fit)
 
-pub body_run : (v : Version) (left : List ℕ) (form : Form) (r : Refutation) (lines : List Line) → IsRefutation r → IsForm v r.names form
+pub body_run : (v : Version) (left : List ℕ) (form : Form) (r : Refutation) (lines : List Line)
+    → IsRefutation r
+    → IsForm v r.names form
     → BodyLines form r lines → Run v left AtNames lines (AtNothing r)
 body_run v left form r lines is is_form written =
     let F = body v left in

@@ -40,7 +40,10 @@ module _ (v : Version) (left : List ℕ) where
   Run = Runs (body v left)
 
   -- a fixed word and a number
-  pub numbered_of : (fixed : Word) (n : ℕ) → is_word fixed ≡ true → Fits n → IsOfKind (numbered fixed) (fixed ∷ number n ∷ [])
+  pub numbered_of : (fixed : Word) (n : ℕ)
+      → is_word fixed ≡ true
+      → Fits n
+      → IsOfKind (numbered fixed) (fixed ∷ number n ∷ [])
   numbered_of fixed n word fits = (words_first fixed (number n ∷ []) word (words_number n [] fits refl), (refl, (tt, refl)))
 
   pub numbered_fits : (fixed : Word) (n : ℕ) → Fits n → HaveNumbers (numbered fixed ∷ []) (fixed ∷ number n ∷ [])
@@ -73,7 +76,9 @@ module _ (v : Version) (left : List ℕ) where
   pub sequent_fits : (q : List ℕ) → All Fits q → HaveNumbers (sequent_kind ∷ []) (sequent_line q)
   sequent_fits q fit = ((λ _. (tt, are_numbers q fit)), tt)
 
-  sequents_from : (n : ℕ) (size : ℕ) (rows more : List (List ℕ)) → length rows + length more ≡ size → All (All Fits) more
+  sequents_from : (n : ℕ) (size : ℕ) (rows more : List (List ℕ))
+      → length rows + length more ≡ size
+      → All (All Fits) more
       → All IsAscending more → Run (at_sequent_table n size rows) (map sequent_line more) (AtStacks n (rows ++ more))
   sequents_from n size rows [] full fit ascend =
       let none : nat_lt (length rows) size ≡ false = grind (arith, nat_tests) in
@@ -115,7 +120,9 @@ module _ (v : Version) (left : List ℕ) where
   pub names_fit : (live : ℕ) (ns : List ℕ) → Fits live → All (λ x. x < live) ns → All Fits ns
   names_fit live ns fits below = All-weaker (λ x. x < live) Fits (λ x less. omega (arith, fits, less)) ns below
 
-  stacks_from : (n : ℕ) (qs : List (List ℕ)) (size : ℕ) (rows more : List (List ℕ)) → Fits n → length rows + length more ≡ size
+  stacks_from : (n : ℕ) (qs : List (List ℕ)) (size : ℕ) (rows more : List (List ℕ))
+      → Fits n
+      → length rows + length more ≡ size
       → All (IsStack n) more → Run (at_stack_table n qs size rows) (map stack_line more) (AtEntries n (ByTables qs (rows ++ more)))
   stacks_from n qs size rows [] fits full are =
       let none : nat_lt (length rows) size ≡ false = grind (arith, nat_tests) in
@@ -202,7 +209,8 @@ module _ (v : Version) (left : List ℕ) where
     )
 
     -- the rules of ranges, for a clash
-    clash_ranges : (x : ClashCause) (around : List Around) → KeepsAll (further_rules (AtDecision k es b around)) (clash_line x)
+    clash_ranges : (x : ClashCause) (around : List Around)
+        → KeepsAll (further_rules (AtDecision k es b around)) (clash_line x)
     clash_ranges x around = (
       (λ no. absurd (differ (codes "clash") (codes "go") refl no)),
       ((λ no. absurd (differ (codes "clash") (codes "split") refl no)), tt),
@@ -266,14 +274,22 @@ module _ (v : Version) (left : List ℕ) where
         words_first (codes "go") (number d ∷ number e ∷ others) refl (words_number d (number e ∷ others) fits (words_number e others fits' words))
 
     -- the rules of ranges, for a go
-    go_ranges : (around : List Around) (d e : ℕ) (m : Mark) (others : Line) → Fits e → e < k.wanted → mark_of (codes "go" ∷ number d ∷ number e ∷ others) ≡ m
+    go_ranges : (around : List Around) (d e : ℕ) (m : Mark) (others : Line)
+        → Fits e
+        → e < k.wanted
+        → mark_of (codes "go" ∷ number d ∷ number e ∷ others) ≡ m
         → IsMarkOf k.names m → KeepsAll (further_rules (AtDecision k es b around)) (codes "go" ∷ number d ∷ number e ∷ others)
     go_ranges around d e m others fits within back is = (
       (λ _. (omega (arith, value_back e fits, within), subst (IsMarkOf k.names) (sym back) is)),
       ((λ no. absurd (differ (codes "go") (codes "split") refl no)), tt),
     )
 
-    go_run : (around : List Around) (d e : ℕ) (m : Mark) → Fits d → Fits e → Fits k.names → e < k.wanted → IsMarkOf k.names m
+    go_run : (around : List Around) (d e : ℕ) (m : Mark)
+        → Fits d
+        → Fits e
+        → Fits k.names
+        → e < k.wanted
+        → IsMarkOf k.names m
         → Run (AtDecision k es b around) (go_line d e m ∷ []) (closed k es b around (Go d e m))
     go_run around d e (Red x) fits fits' small within is =
         let others : Line = codes "red" ∷ number x ∷ [] in
@@ -340,7 +356,10 @@ module _ (v : Version) (left : List ℕ) where
           (λ i. closed k es b around (Go (value_back d fits i) (value_back e fits' i) Neutral)),
         )
 
-    pub decision_run : (d : Decision) (around : List Around) → Fits k.names → Fits k.wanted → IsDecided k.names k.wanted d
+    pub decision_run : (d : Decision) (around : List Around)
+        → Fits k.names
+        → Fits k.wanted
+        → IsDecided k.names k.wanted d
         → nesting d + length around ≤ NESTING_LIMIT
         → Run (AtDecision k es b around) (decision_lines d) (closed k es b around d)
     decision_run (Split n l r) around small few is deep =

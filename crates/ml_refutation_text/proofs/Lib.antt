@@ -22,5 +22,9 @@ pub mod RefutationTexts
 pub mod JudgedLines
 -- texts worked out by hand
 mod WorkedTexts
+-- good lines are those of their values
+pub mod ReadLines
+-- what was read so far is what the place keeps
+pub mod Standing
 -- what has no bad line is a text of a refutation
 pub mod ReadableTexts

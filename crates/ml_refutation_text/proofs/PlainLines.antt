@@ -102,7 +102,11 @@ abbrev pub ArePlainKinds : List Kind → Type 0
 ArePlainKinds [] = Unit {0}
 ArePlainKinds (k ∷ ks) = IsPlainKind k × ArePlainKinds ks
 
-pub kinds_plain : (ks : List Kind) (line : Line) → ArePlainKinds ks → IsOfKinds ks line → HaveNumbers ks line → IsPlain line
+pub kinds_plain : (ks : List Kind) (line : Line)
+    → ArePlainKinds ks
+    → IsOfKinds ks line
+    → HaveNumbers ks line
+    → IsPlain line
 kinds_plain [] line plain is fits = absurd is
 kinds_plain (k ∷ ks) line plain (inl here) fits = kind_plain k line plain.0 here (fits.0 here)
 kinds_plain (k ∷ ks) line plain (inr later) fits = kinds_plain ks line plain.1 later fits.1

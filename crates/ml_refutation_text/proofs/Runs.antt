@@ -12,7 +12,10 @@ module _ {Line Place : Type 0} (F : Format Line Place) where
   Runs place [] behind = place ≡ behind
   Runs place (line ∷ lines) behind = IsGood F place line × Runs (F.after place line) lines behind
 
-  pub run_on : (p q r : Place) (first second : List Line) → Runs p first q → Runs q second r → Runs p (first ++ second) r
+  pub run_on : (p q r : Place) (first second : List Line)
+      → Runs p first q
+      → Runs q second r
+      → Runs p (first ++ second) r
   run_on p q r [] second is run = subst (λ place. Runs place second r) (sym is) run
   run_on p q r (line ∷ first) second run others = (run.0, run_on (F.after p line) q r first second run.1 others)
 

@@ -39,7 +39,10 @@ entries_done W entries i written all past so_far =
     sym (append-nil written) ∙ ap (λ rest. written ++ text_of (entries_lines W i rest)) (sym (drop_all i entries past)) ∙ so_far
 
 -- four parts, written one behind the other
-pub four_parts : (out first second third a b c d : List ℕ) → first ≡ out ++ a → second ≡ first ++ b → third ≡ second ++ c
+pub four_parts : (out first second third a b c d : List ℕ)
+    → first ≡ out ++ a
+    → second ≡ first ++ b
+    → third ≡ second ++ c
     → third ++ d ≡ out ++ (a ++ (b ++ (c ++ d)))
 four_parts out first second third a b c d is_first is_second is_third =
     ap (λ text. text ++ d) (is_third ∙ ap (λ text. text ++ c) (is_second ∙ ap (λ text. text ++ b) is_first))

@@ -23,7 +23,9 @@ use Rattle.ml_refutation_text.proofs.TableEntries.{Has, made_has, made_all, made
 
 -- ---- both forms
 
-split_all : {X : Type 0} (P : X → Type 0) (xs ys : List X) → AllByRecursion P (xs ++ ys) → AllByRecursion P xs × AllByRecursion P ys
+split_all : {X : Type 0} (P : X → Type 0) (xs ys : List X)
+    → AllByRecursion P (xs ++ ys)
+    → AllByRecursion P xs × AllByRecursion P ys
 split_all P [] ys all = (tt, all)
 split_all P (x ∷ xs) ys all = let parts = split_all P xs ys all.1 in ((all.0, parts.0), parts.1)
 
@@ -83,7 +85,9 @@ spells_number n fits = record {
   is_value = value-number n fits;
 }
 
-stacks_all : (names : ℕ) (es : List Entry) → All (λ e. All (IsStack names) (used_stacks e)) es → All (IsStack names) (flat_map used_stacks es)
+stacks_all : (names : ℕ) (es : List Entry)
+    → All (λ e. All (IsStack names) (used_stacks e)) es
+    → All (IsStack names) (flat_map used_stacks es)
 stacks_all names [] all = All-nil (IsStack names)
 stacks_all names (e ∷ es) all =
     let P : Entry → Type 0 = λ e. All (IsStack names) (used_stacks e) in
