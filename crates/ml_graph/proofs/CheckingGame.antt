@@ -42,14 +42,20 @@ module _ (g : Graph) (m : Structure) where
 
   pairs-length : length (flat_map (pairs_at g) (range_with_len 0 m.states)) ≡ m.states * size g
   pairs-length =
-      length-even_rows (pairs_at g) (size g) even (range_with_len 0 m.states) ∙ ap (λ n. n * size g) (length-range_with_len 0 m.states)
+      length-even_rows (pairs_at g) (size g) even (range_with_len 0 m.states)
+      ∙ ap (λ n. n * size g) (length-range_with_len 0 m.states)
 
   -- how many vertices there are
   pub vertices-length : length (vertices g m) ≡ m.states * size g + 2
-  vertices-length = omega (arith, length-append (flat_map (pairs_at g) (range_with_len 0 m.states)) (Sink 0 ∷ Sink 1 ∷ []), pairs-length)
+  vertices-length = omega (
+    arith,
+    length-append (flat_map (pairs_at g) (range_with_len 0 m.states)) (Sink 0 ∷ Sink 1 ∷ []),
+    pairs-length,
+  )
 
   pair_low : (s n : ℕ) → s < m.states → n < size g → s * size g + n < m.states * size g
-  pair_low s n s_low n_low = let whole : (s + 1) * size g ≤ m.states * size g = mul-le-mul_right (size g) (omega arith) in omega arith
+  pair_low s n s_low n_low = let whole : (s + 1) * size g ≤ m.states * size g =
+      mul-le-mul_right (size g) (omega arith) in omega arith
 
   -- a vertex has a number below the size of the game
   pub number_low : (v : Vertex) → IsVertex g m v → vertex_number g m v < m.states * size g + 2
@@ -60,12 +66,15 @@ module _ (g : Graph) (m : Structure) where
   pub vertex_at : (v : Vertex) → IsVertex g m v → get_or (vertices g m) (vertex_number g m v) (Sink 0) ≡ v
   vertex_at (Pair s n) is =
       let state : 0 + s ≡ s = omega arith in
-      get_or_append_left (flat_map (pairs_at g) (range_with_len 0 m.states)) (Sink 0 ∷ Sink 1 ∷ []) (Sink 0) (s * size g + n) (omega (arith, pairs-length, pair_low s n is.0 is.1))
-      ∙ get_or-even_row (pairs_at g) (size g) even (range_with_len 0 m.states) s n 0 (Sink 0) (omega (arith, length-range_with_len 0 m.states)) is.1
+      get_or_append_left (flat_map (pairs_at g) (range_with_len 0 m.states)) (Sink 0 ∷ Sink 1 ∷ []) (Sink 0)
+      (s * size g + n) (omega (arith, pairs-length, pair_low s n is.0 is.1))
+      ∙ get_or-even_row (pairs_at g) (size g) even (range_with_len 0 m.states) s n 0 (Sink 0)
+      (omega (arith, length-range_with_len 0 m.states)) is.1
       ∙ ap (λ k. get_or (pairs_at g k) n (Sink 0)) (get_or-range_with_len 0 m.states s 0 is.0 ∙ state)
       ∙ get_or-map-range_with_len (Pair s) 0 (size g) n n (Sink 0) is.1 (omega arith)
   vertex_at (Sink p) is =
-      let at : m.states * size g + p ≡ length (flat_map (pairs_at g) (range_with_len 0 m.states)) + p = omega (arith, pairs-length) in
+      let at : m.states * size g + p ≡ length (flat_map (pairs_at g) (range_with_len 0 m.states)) + p =
+      omega (arith, pairs-length) in
       ap (λ k. get_or (vertices g m) k (Sink 0)) at
       ∙ get_or-append-add (flat_map (pairs_at g) (range_with_len 0 m.states)) (Sink 0 ∷ Sink 1 ∷ []) p (Sink 0)
       ∙ sink_at p is
@@ -78,20 +87,23 @@ module _ (g : Graph) (m : Structure) where
   -- what the game has at the number of a vertex
   pub owner_is : (v : Vertex) → IsVertex g m v → owner_of (checking_game g m) (vertex_number g m v) ≡ owner_at g v
   owner_is v is =
-      get_or-map (owner_at g) (vertices g m) (vertex_number g m v) (Sink 0) Even (omega (arith, vertices-length, number_low v is))
+      get_or-map (owner_at g) (vertices g m) (vertex_number g m v) (Sink 0) Even
+      (omega (arith, vertices-length, number_low v is))
       ∙ ap (owner_at g) (vertex_at v is)
 
   pub priority_is : (v : Vertex)
       → IsVertex g m v
       → priority_of (checking_game g m) (vertex_number g m v) ≡ priority_at_vertex g v
   priority_is v is =
-      get_or-map (priority_at_vertex g) (vertices g m) (vertex_number g m v) (Sink 0) 0 (omega (arith, vertices-length, number_low v is))
+      get_or-map (priority_at_vertex g) (vertices g m) (vertex_number g m v) (Sink 0) 0
+      (omega (arith, vertices-length, number_low v is))
       ∙ ap (priority_at_vertex g) (vertex_at v is)
 
   pub moves_are : (v : Vertex) → IsVertex g m v
       → moves_of (checking_game g m) (vertex_number g m v) ≡ map (vertex_number g m) (successors g m v)
   moves_are v is =
-      get_or-map (λ x. map (vertex_number g m) (successors g m x)) (vertices g m) (vertex_number g m v) (Sink 0) [] (omega (arith, vertices-length, number_low v is))
+      get_or-map (λ x. map (vertex_number g m) (successors g m x)) (vertices g m) (vertex_number g m v) (Sink 0) []
+      (omega (arith, vertices-length, number_low v is))
       ∙ ap (λ x. map (vertex_number g m) (successors g m x)) (vertex_at v is)
 
 -- a member of a range from 0 is below its end
@@ -107,7 +119,8 @@ module _ (g : Graph) (m : Structure) where
   -- all vertices are vertices
   pub is_vertex : (v : Vertex) → IsMember v (vertices g m) → IsVertex g m v
   is_vertex v h =
-      ⊎_elim (λ (pair : IsMember v (flat_map (pairs_at g) (range_with_len 0 m.states))). of_state (member-flat_map_from (pairs_at g) v (range_with_len 0 m.states) pair))
+      ⊎_elim (λ (pair : IsMember v (flat_map (pairs_at g) (range_with_len 0 m.states))). of_state
+      (member-flat_map_from (pairs_at g) v (range_with_len 0 m.states) pair))
       (λ (sink : IsMember v (Sink 0 ∷ Sink 1 ∷ [])). of_sink sink)
       (member-append v (flat_map (pairs_at g) (range_with_len 0 m.states)) (Sink 0 ∷ Sink 1 ∷ []) h)
     where
@@ -120,7 +133,8 @@ module _ (g : Graph) (m : Structure) where
       of_node s low image = subst (IsVertex g m) (sym image.holds) (low, below (size g) image.from image.member)
 
       of_state : InList (pairs_at g) v (range_with_len 0 m.states) → IsVertex g m v
-      of_state found = of_node found.from (below m.states found.from found.member) (member-map_from (Pair found.from) v (range_with_len 0 (size g)) found.inside)
+      of_state found = of_node found.from (below m.states found.from found.member)
+          (member-map_from (Pair found.from) v (range_with_len 0 (size g)) found.inside)
 
   -- each vertex leads somewhere
   pub leads_on : (v : Vertex) → 0 < length (successors g m v)
@@ -151,7 +165,8 @@ target_is_state m ok s a t h =
         → t < m.states
     of_edge image =
         let test : Edge → Bool = λ e. (e.source == s) && bytes_eq e.action a in
-        let joins = All-member (λ (e : Edge). (e.source < m.states) × (e.target < m.states)) m.edges ok.joins_states image.from (member-filter_from test image.from m.edges image.member).0 in
+        let joins = All-member (λ (e : Edge). (e.source < m.states) × (e.target < m.states)) m.edges ok.joins_states
+        image.from (member-filter_from test image.from m.edges image.member).0 in
         subst (λ k. k < m.states) (sym image.holds) joins.1
 
 module _ (g : Graph) (m : Structure) (g_ok : IsGraph g) (m_ok : IsStructure m) where
@@ -189,11 +204,18 @@ module _ (g : Graph) (m : Structure) (g_ok : IsGraph g) (m_ok : IsStructure m) w
       of_node : (x : Node) → node_at g n ≡ x → IsMember w (successors_of g m s x) → IsVertex g m w
       of_node node.True e h = one_sink w 0 (omega arith) h
       of_node node.False e h = one_sink w 1 (omega arith) h
-      of_node (node.Lit p positive) e h = one_sink w (cond (beq (lists m s (prop_at g p)) positive) 0 1) (literal_sink (beq (lists m s (prop_at g p)) positive)) h
-      of_node (node.And l r) e h = two_pairs w s l r is.0 (and_left g g_ok n is.1 l r e) (and_right g g_ok n is.1 l r e) h
+      of_node (node.Lit p positive) e h =
+          one_sink w (cond (beq (lists m s (prop_at g p)) positive) 0 1)
+          (literal_sink (beq (lists m s (prop_at g p)) positive)) h
+      of_node (node.And l r) e h = two_pairs w s l r is.0 (and_left g g_ok n is.1 l r e) (and_right g g_ok n is.1 l r e)
+          h
       of_node (node.Or l r) e h = two_pairs w s l r is.0 (or_left g g_ok n is.1 l r e) (or_right g g_ok n is.1 l r e) h
-      of_node (node.Diamond a to) e h = pairs_lead to 1 (targets m s (action_at g a)) (diamond_target g g_ok n is.1 a to e) (omega arith) (target_is_state m m_ok s (action_at g a)) w h
-      of_node (node.Square a to) e h = pairs_lead to 0 (targets m s (action_at g a)) (square_target g g_ok n is.1 a to e) (omega arith) (target_is_state m m_ok s (action_at g a)) w h
+      of_node (node.Diamond a to) e h =
+          pairs_lead to 1 (targets m s (action_at g a)) (diamond_target g g_ok n is.1 a to e) (omega arith)
+          (target_is_state m m_ok s (action_at g a)) w h
+      of_node (node.Square a to) e h =
+          pairs_lead to 0 (targets m s (action_at g a)) (square_target g g_ok n is.1 a to e) (omega arith)
+          (target_is_state m m_ok s (action_at g a)) w h
   leads_to_vertices (Sink p) is w h = one_sink w p is h
 
   size_is : length (checking_game g m).owner ≡ m.states * size g + 2
@@ -206,17 +228,20 @@ module _ (g : Graph) (m : Structure) (g_ok : IsGraph g) (m_ok : IsStructure m) w
   moves_at_place : (k : ℕ) → k < m.states * size g + 2
       → moves_of (checking_game g m) k ≡ map (vertex_number g m) (successors g m (get_or (vertices g m) k (Sink 0)))
   moves_at_place k low =
-      get_or-map (λ x. map (vertex_number g m) (successors g m x)) (vertices g m) k (Sink 0) [] (omega (arith, vertices-length g m))
+      get_or-map (λ x. map (vertex_number g m) (successors g m x)) (vertices g m) k (Sink 0) []
+      (omega (arith, vertices-length g m))
 
   -- the checking game is a game
   pub is_game : IsGame (checking_game g m)
   is_game = record {
     priorities = length-map (vertices g m) (priority_at_vertex g) ∙ sym (length-map (vertices g m) (owner_at g));
-    lists = length-map (vertices g m) (λ v. map (vertex_number g m) (successors g m v)) ∙ sym (length-map (vertices g m) (owner_at g));
+    lists = length-map (vertices g m) (λ v. map (vertex_number g m) (successors g m v))
+        ∙ sym (length-map (vertices g m) (owner_at g));
     goes_on = λ v low.
         let v_low : v < m.states * size g + 2 = omega (arith, size_is) in
         let some = leads_on g m (get_or (vertices g m) v (Sink 0)) in
-        subst (λ ws. 0 < length ws) (sym (moves_at_place v v_low)) (omega (arith, length-map (successors g m (get_or (vertices g m) v (Sink 0))) (vertex_number g m)));
+        subst (λ ws. 0 < length ws) (sym (moves_at_place v v_low))
+        (omega (arith, length-map (successors g m (get_or (vertices g m) v (Sink 0))) (vertex_number g m)));
     in_range = λ v w move. at_place v w move (cases_lt v (m.states * size g + 2));
   }
     where
@@ -227,7 +252,8 @@ module _ (g : Graph) (m : Structure) (g_ok : IsGraph g) (m_ok : IsStructure m) w
       at_place v w move (inl low) =
           let x : Vertex = get_or (vertices g m) v (Sink 0) in
           let vertex = is_vertex g m x (place-member (vertices g m) v (Sink 0) (omega (arith, vertices-length g m))) in
-          let member = member_of_contains w (map (vertex_number g m) (successors g m x)) (subst (λ ws. Contains ws w) (moves_at_place v low) move) in
+          let member = member_of_contains w (map (vertex_number g m) (successors g m x))
+          (subst (λ ws. Contains ws w) (moves_at_place v low) move) in
           of_image x vertex (member-map_from (vertex_number g m) w (successors g m x) member)
         where
           of_image : (x : Vertex)
@@ -238,5 +264,10 @@ module _ (g : Graph) (m : Structure) (g_ok : IsGraph g) (m_ok : IsStructure m) w
               let low = number_low g m image.from (leads_to_vertices x vertex image.from image.member) in
               omega (arith, size_is, image.holds)
       at_place v w move (inr high) =
-          let none = get_or_past (checking_game g m).successors v [] (omega (arith, length-map (vertices g m) (λ x. map (vertex_number g m) (successors g m x)), vertices-length g m)) in
+          let none = get_or_past (checking_game g m).successors v []
+          (omega (
+            arith,
+            length-map (vertices g m) (λ x. map (vertex_number g m) (successors g m x)),
+            vertices-length g m,
+          )) in
           absurd (contains_none w (subst (λ ws. Contains ws w) none move))

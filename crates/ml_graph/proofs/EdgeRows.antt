@@ -19,10 +19,13 @@ use Rattle.ml_graph.specs.private.Making.{targets_by, AreEmpty, HasTargets, HasA
 targets_by-append : (xs ys : List Edge) (a : List ℕ) → targets_by (xs ++ ys) a ≡ targets_by xs a ++ targets_by ys a
 targets_by-append xs ys a =
     let test : Edge → Bool = λ e. bytes_eq e.action a in
-    ap (map (λ (e : Edge). e.target)) (filter-append test xs ys) ∙ map-append (λ (e : Edge). e.target) (filter test xs) (filter test ys)
+    ap (map (λ (e : Edge). e.target)) (filter-append test xs ys)
+    ∙ map-append (λ (e : Edge). e.target) (filter test xs) (filter test ys)
 
 -- an edge has its target in the row of its action alone
-of_one : (e : Edge) (a : List ℕ) (b : Bool) → bytes_eq e.action a ≡ b → targets_by (e ∷ []) a ≡ cond b (e.target ∷ []) []
+of_one : (e : Edge) (a : List ℕ) (b : Bool)
+    → bytes_eq e.action a ≡ b
+    → targets_by (e ∷ []) a ≡ cond b (e.target ∷ []) []
 of_one e a true is = ap (λ c. map (λ (x : Edge). x.target) (cond c (e ∷ []) [])) is
 of_one e a false is = ap (λ c. map (λ (x : Edge). x.target) (cond c (e ∷ []) [])) is
 
@@ -31,7 +34,8 @@ pub none_added : (actions : List (List ℕ)) (e : Edge) (rows : List (Vec ℕ))
 none_added actions e rows none = record {
   size = refl;
   row = λ a low.
-      sym (ap (λ t. get_or (lists_of rows) a [] ++ t) (of_one e (get_or actions a []) false (none a low)) ∙ append-nil (get_or (lists_of rows) a []));
+      sym (ap (λ t. get_or (lists_of rows) a [] ++ t) (of_one e (get_or actions a []) false (none a low))
+      ∙ append-nil (get_or (lists_of rows) a []));
 }
 
 pub one_added : (actions : List (List ℕ)) (e : Edge) (rows : List (Vec ℕ)) (j : ℕ) (row old : Vec ℕ)
@@ -48,7 +52,8 @@ one_added actions e rows j row old j_low tests grown = record {
     behind = lists_of (set rows j row)
 
     by_place : (a : ℕ) → a < length actions → (a ≡ j) ⊎ (a ≡ j → ⊥)
-        → get_or (lists_of (set rows j row)) a [] ≡ get_or (lists_of rows) a [] ++ targets_by (e ∷ []) (get_or actions a [])
+        → get_or (lists_of (set rows j row)) a []
+        ≡ get_or (lists_of rows) a [] ++ targets_by (e ∷ []) (get_or actions a [])
     by_place a low (inl here) =
         let test : (a == j) ≡ true = grind (arith, nat_tests) in
         let added = of_one e (get_or actions a []) true (tests a low ∙ test) in
@@ -58,7 +63,8 @@ one_added actions e rows j row old j_low tests grown = record {
         ∙ get_or-set_same (lists_of rows) j row.items [] (omega (arith, length-map rows (λ (x : Vec ℕ). x.items))) in
         let before : get_or (lists_of rows) a [] ≡ (get_or rows j old).items =
         ap (λ i. get_or (lists_of rows) i []) here ∙ get_or-map (λ (x : Vec ℕ). x.items) rows j old [] j_low in
-        there ∙ grown ∙ ap (λ xs. xs ++ e.target ∷ []) (sym before) ∙ ap (λ t. get_or (lists_of rows) a [] ++ t) (sym added)
+        there ∙ grown ∙ ap (λ xs. xs ++ e.target ∷ []) (sym before)
+        ∙ ap (λ t. get_or (lists_of rows) a [] ++ t) (sym added)
     by_place a low (inr there) =
         let test : (a == j) ≡ false = grind (arith, nat_tests) in
         let nothing = of_one e (get_or actions a []) false (tests a low ∙ test) in

@@ -26,28 +26,40 @@ use Rattle.ml_graph.specs.private.Making.{targets_in, targets_by, AreEdgesOf, Ar
 
 -- ---- targets of some edges
 
-targets_in-append : (xs ys : List Edge) (s : ℕ) (a : List ℕ) → targets_in (xs ++ ys) s a ≡ targets_in xs s a ++ targets_in ys s a
+targets_in-append : (xs ys : List Edge) (s : ℕ) (a : List ℕ)
+    → targets_in (xs ++ ys) s a ≡ targets_in xs s a ++ targets_in ys s a
 targets_in-append xs ys s a =
     let test : Edge → Bool = λ e. (e.source == s) && bytes_eq e.action a in
-    ap (map (λ (e : Edge). e.target)) (filter-append test xs ys) ∙ map-append (λ (e : Edge). e.target) (filter test xs) (filter test ys)
+    ap (map (λ (e : Edge). e.target)) (filter-append test xs ys)
+    ∙ map-append (λ (e : Edge). e.target) (filter test xs) (filter test ys)
 
 -- edges of other states lead nowhere from this one
-none_leave : (s : ℕ) (a : List ℕ) (es : List Edge) → AllByRecursion (λ e. (e.source == s) ≡ false) es → targets_in es s a ≡ []
+none_leave : (s : ℕ) (a : List ℕ) (es : List Edge)
+    → AllByRecursion (λ e. (e.source == s) ≡ false) es
+    → targets_in es s a ≡ []
 none_leave s a [] others = refl
 none_leave s a (e ∷ es) others =
-    ap (λ b. map (λ (x : Edge). x.target) (cond (b && bytes_eq e.action a) (e ∷ filter (λ x. (x.source == s) && bytes_eq x.action a) es) (filter (λ x. (x.source == s) && bytes_eq x.action a) es))) others.0
+    ap (λ b. map (λ (x : Edge). x.target) (cond (b && bytes_eq e.action a)
+    (e ∷ filter (λ x. (x.source == s) && bytes_eq x.action a) es)
+    (filter (λ x. (x.source == s) && bytes_eq x.action a) es))) others.0
     ∙ none_leave s a es others.1
 
 -- of edges that all leave the state, the action alone is asked
-all_leave : (s : ℕ) (a : List ℕ) (es : List Edge) → AllByRecursion (λ e. (e.source == s) ≡ true) es → targets_in es s a ≡ targets_by es a
+all_leave : (s : ℕ) (a : List ℕ) (es : List Edge)
+    → AllByRecursion (λ e. (e.source == s) ≡ true) es
+    → targets_in es s a ≡ targets_by es a
 all_leave s a [] here = refl
 all_leave s a (e ∷ es) here =
-    ap (λ b. map (λ (x : Edge). x.target) (cond (b && bytes_eq e.action a) (e ∷ filter (λ x. (x.source == s) && bytes_eq x.action a) es) (filter (λ x. (x.source == s) && bytes_eq x.action a) es))) here.0
+    ap (λ b. map (λ (x : Edge). x.target) (cond (b && bytes_eq e.action a)
+    (e ∷ filter (λ x. (x.source == s) && bytes_eq x.action a) es)
+    (filter (λ x. (x.source == s) && bytes_eq x.action a) es))) here.0
     ∙ by_test (bytes_eq e.action a) (all_leave s a es here.1)
   where
     by_test : (b : Bool) → targets_in es s a ≡ targets_by es a
-        → map (λ (x : Edge). x.target) (cond b (e ∷ filter (λ x. (x.source == s) && bytes_eq x.action a) es) (filter (λ x. (x.source == s) && bytes_eq x.action a) es))
-        ≡ map (λ (x : Edge). x.target) (cond b (e ∷ filter (λ x. bytes_eq x.action a) es) (filter (λ x. bytes_eq x.action a) es))
+        → map (λ (x : Edge). x.target) (cond b (e ∷ filter (λ x. (x.source == s) && bytes_eq x.action a) es)
+        (filter (λ x. (x.source == s) && bytes_eq x.action a) es))
+        ≡ map (λ (x : Edge). x.target) (cond b (e ∷ filter (λ x. bytes_eq x.action a) es)
+        (filter (λ x. bytes_eq x.action a) es))
     by_test true rest = ap (λ ts. e.target ∷ ts) rest
     by_test false rest = rest
 
@@ -58,7 +70,8 @@ source_rises : (e f : Edge) → edge_cmp e f ≡ Less → e.source ≤ f.source
 source_rises e f less = go (nat_lt e.source f.source) refl (e.source == f.source) refl less
   where
     go : (b : Bool) → nat_lt e.source f.source ≡ b → (c : Bool) → (e.source == f.source) ≡ c
-        → ordering_then (cond b Less (cond c Equal Greater)) (ordering_then (slice_cmp nat_cmp e.action f.action) (nat_cmp e.target f.target)) ≡ Less
+        → ordering_then (cond b Less (cond c Equal Greater))
+        (ordering_then (slice_cmp nat_cmp e.action f.action) (nat_cmp e.target f.target)) ≡ Less
         → e.source ≤ f.source
     go true is c at below = grind (arith, nat_tests)
     go false is true at below = grind (arith, nat_tests)
@@ -155,7 +168,8 @@ edges_of m s es left = λ a.
     let k = count_of s es in
     let cut = is_cut s es left.ascend left.from_here in
     in_two m s k es left s a (omega arith)
-    ∙ ap (λ ts. targets_in (take k es) s a ++ ts) (none_leave s a (drop k es) (past_others s (s + 1) (omega arith) (drop k es) cut.later))
+    ∙ ap (λ ts. targets_in (take k es) s a ++ ts)
+    (none_leave s a (drop k es) (past_others s (s + 1) (omega arith) (drop k es) cut.later))
     ∙ append-nil (targets_in (take k es) s a)
     ∙ all_leave s a (take k es) cut.here
 
@@ -169,7 +183,8 @@ left_behind m s es left =
       from_here = cut.later;
       same = λ t a from.
           in_two m s k es left t a (omega (arith, from))
-          ∙ ap (λ ts. ts ++ targets_in (drop k es) t a) (none_leave t a (take k es) (here_others s t (omega (arith, from)) (take k es) cut.here));
+          ∙ ap (λ ts. ts ++ targets_in (drop k es) t a)
+          (none_leave t a (take k es) (here_others s t (omega (arith, from)) (take k es) cut.here));
     }
 
 -- they are no more than there are

@@ -39,10 +39,19 @@ looked g m s at at2 labels es has props actions of_state edges truths targets =
     let names : at2.props.keys ≡ g.props = ap (λ x. x.keys) props ∙ has.props in
     let acts : at2.actions.keys ≡ g.actions = ap (λ x. x.keys) actions ∙ has.actions in
     let true_here : HasTruths g.props (get_or m.labels s []) at2.truths.items =
-    subst (λ ls. HasTruths g.props ls at2.truths.items) of_state (subst (λ ps. HasTruths ps labels at2.truths.items) has.props truths) in
-    let leads : HasTargets g.actions es at2.targets.items = subst (λ xs. HasTargets xs es at2.targets.items) has.actions targets in
+    subst (λ ls. HasTruths g.props ls at2.truths.items) of_state
+    (subst (λ ps. HasTruths ps labels at2.truths.items) has.props truths) in
+    let leads : HasTargets g.actions es at2.targets.items =
+    subst (λ xs. HasTargets xs es at2.targets.items) has.actions targets in
     record {
-      names = record { props = names; actions = acts; truths = true_here.size; targets = leads.size; props_differ = has.props_differ; actions_differ = has.actions_differ };
+      names = record {
+        props = names;
+        actions = acts;
+        truths = true_here.size;
+        targets = leads.size;
+        props_differ = has.props_differ;
+        actions_differ = has.actions_differ;
+      };
       truth = true_here.truth;
       row = λ a low. leads.row a low ∙ sym (edges (get_or g.actions a []));
     }
@@ -71,18 +80,23 @@ pub modal_moves : {E : Type 0}
     → successors_of g m s (node_at g n) ≡ pairs_or_sink to p ts
     → IfOk r (λ v. v.items ≡ map (vertex_number g m) (successors_of g m s (node_at g n)))
 modal_moves g m s n to p width sink ts (Ok v) is w k next =
-    is ∙ ap (λ x. numbers_or_sink x to sink ts) w ∙ ap (λ x. numbers_or_sink (size g) to x ts) k ∙ sink_or_pairs g m to p ts ∙ ap (map (vertex_number g m)) (sym next)
+    is ∙ ap (λ x. numbers_or_sink x to sink ts) w ∙ ap (λ x. numbers_or_sink (size g) to x ts) k
+    ∙ sink_or_pairs g m to p ts ∙ ap (map (vertex_number g m)) (sym next)
 modal_moves g m s n to p width sink ts (Err e) is w k next = is
 
 -- one vertex more
 pub vertex_more : (g : Graph) (m : Structure) (made made2 : Vertices) (vs : List Vertex) (v : Vertex) (owner : Player)
     (priority : ℕ) (moves : Vec ℕ)
-    → HasVertices g m made vs → made2.owner.items ≡ made.owner.items ++ owner ∷ [] → made2.priority.items ≡ made.priority.items ++ priority ∷ []
-    → made2.successors.items ≡ made.successors.items ++ moves ∷ [] → owner ≡ owner_at g v → priority ≡ priority_at_vertex g v
+    → HasVertices g m made vs → made2.owner.items ≡ made.owner.items ++ owner ∷ [] → made2.priority.items
+    ≡ made.priority.items ++ priority ∷ []
+    → made2.successors.items ≡ made.successors.items ++ moves ∷ [] → owner ≡ owner_at g v → priority
+    ≡ priority_at_vertex g v
     → moves.items ≡ map (vertex_number g m) (successors g m v) → HasVertices g m made2 (vs ++ v ∷ [])
 vertex_more g m made made2 vs v owner priority moves has owners priorities lists own prio next = record {
-  owners = owners ∙ ap (λ xs. xs ++ owner ∷ []) has.owners ∙ ap (λ o. map (owner_at g) vs ++ o ∷ []) own ∙ sym (map-append (owner_at g) vs (v ∷ []));
-  priorities = priorities ∙ ap (λ xs. xs ++ priority ∷ []) has.priorities ∙ ap (λ o. map (priority_at_vertex g) vs ++ o ∷ []) prio ∙ sym (map-append (priority_at_vertex g) vs (v ∷ []));
+  owners = owners ∙ ap (λ xs. xs ++ owner ∷ []) has.owners ∙ ap (λ o. map (owner_at g) vs ++ o ∷ []) own
+      ∙ sym (map-append (owner_at g) vs (v ∷ []));
+  priorities = priorities ∙ ap (λ xs. xs ++ priority ∷ []) has.priorities
+      ∙ ap (λ o. map (priority_at_vertex g) vs ++ o ∷ []) prio ∙ sym (map-append (priority_at_vertex g) vs (v ∷ []));
   moves =
       ap lists_of lists
       ∙ map-append (λ (x : Vec ℕ). x.items) made.successors.items (moves ∷ [])
@@ -94,15 +108,20 @@ vertex_more g m made made2 vs v owner priority moves has owners priorities lists
 -- the pair of a state and one node more
 pub pair_more : (g : Graph) (m : Structure) (made made2 : Vertices) (vs : List Vertex) (s n : ℕ) (owner : Player)
     (priority : ℕ) (moves : Vec ℕ)
-    → HasVertices g m made (vs ++ map (Pair s) (range_with_len 0 n)) → made2.owner.items ≡ made.owner.items ++ owner ∷ []
-    → made2.priority.items ≡ made.priority.items ++ priority ∷ [] → made2.successors.items ≡ made.successors.items ++ moves ∷ []
+    → HasVertices g m made (vs ++ map (Pair s) (range_with_len 0 n)) → made2.owner.items
+    ≡ made.owner.items ++ owner ∷ []
+    → made2.priority.items ≡ made.priority.items ++ priority ∷ [] → made2.successors.items
+    ≡ made.successors.items ++ moves ∷ []
     → owner ≡ owner_at g (Pair s n) → priority ≡ priority_at_vertex g (Pair s n)
     → moves.items ≡ map (vertex_number g m) (successors g m (Pair s n))
     → HasVertices g m made2 (vs ++ map (Pair s) (range_with_len 0 (n + 1)))
 pair_more g m made made2 vs s n owner priority moves has owners priorities lists own prio next =
-    let longer : (vs ++ map (Pair s) (range_with_len 0 n)) ++ Pair s n ∷ [] ≡ vs ++ map (Pair s) (range_with_len 0 (n + 1)) =
-    append_assoc vs (map (Pair s) (range_with_len 0 n)) (Pair s n ∷ []) ∙ ap (λ xs. vs ++ xs) (sym (map-more (Pair s) n)) in
-    subst (HasVertices g m made2) longer (vertex_more g m made made2 (vs ++ map (Pair s) (range_with_len 0 n)) (Pair s n) owner priority moves has owners priorities lists own prio next)
+    let longer : (vs ++ map (Pair s) (range_with_len 0 n)) ++ Pair s n ∷ []
+    ≡ vs ++ map (Pair s) (range_with_len 0 (n + 1)) =
+    append_assoc vs (map (Pair s) (range_with_len 0 n)) (Pair s n ∷ [])
+    ∙ ap (λ xs. vs ++ xs) (sym (map-more (Pair s) n)) in
+    subst (HasVertices g m made2) longer (vertex_more g m made made2 (vs ++ map (Pair s) (range_with_len 0 n))
+    (Pair s n) owner priority moves has owners priorities lists own prio next)
 
 -- the pairs of all states, and then the two sinks
 pub all_pairs : (g : Graph) (m : Structure) (made made2 : Vertices) (s : ℕ)
@@ -110,7 +129,8 @@ pub all_pairs : (g : Graph) (m : Structure) (made made2 : Vertices) (s : ℕ)
     → ((vs : List Vertex) → HasVertices g m made vs → HasVertices g m made2 (vs ++ pairs_at g s))
     → HasVertices g m made2 (flat_map (pairs_at g) (range_with_len 0 (s + 1)))
 all_pairs g m made made2 s has more =
-    subst (HasVertices g m made2) (sym (flat_map-more (pairs_at g) s)) (more (flat_map (pairs_at g) (range_with_len 0 s)) has)
+    subst (HasVertices g m made2) (sym (flat_map-more (pairs_at g) s))
+    (more (flat_map (pairs_at g) (range_with_len 0 s)) has)
 
 -- the vertices that were made are a game
 pub made_game : (g : Graph) (m : Structure) (made : Vertices) → HasVertices g m made (vertices g m)
@@ -125,5 +145,7 @@ pub with_sinks : (g : Graph) (m : Structure) (made made2 made3 : Vertices) (stat
     → HasVertices g m made3 (vertices g m)
 with_sinks g m made made2 made3 states all has first second =
     let pairs : List Vertex = flat_map (pairs_at g) (range_with_len 0 m.states) in
-    let here : HasVertices g m made pairs = subst (λ n. HasVertices g m made (flat_map (pairs_at g) (range_with_len 0 n))) all has in
-    subst (HasVertices g m made3) (append_assoc pairs (Sink 0 ∷ []) (Sink 1 ∷ [])) (second (pairs ++ Sink 0 ∷ []) (first pairs here))
+    let here : HasVertices g m made pairs =
+    subst (λ n. HasVertices g m made (flat_map (pairs_at g) (range_with_len 0 n))) all has in
+    subst (HasVertices g m made3) (append_assoc pairs (Sink 0 ∷ []) (Sink 1 ∷ []))
+    (second (pairs ++ Sink 0 ∷ []) (first pairs here))

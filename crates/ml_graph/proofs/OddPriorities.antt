@@ -15,6 +15,11 @@ use Rattle.ml_lists.proofs.Members.{member_of_contains, contains_of_member}
 
 pub sorted_once : (xs ys : List ℕ) → IsPermutation xs ys → IsSorted nat_cmp ys → dedup eqb ys ≡ ascending xs
 sorted_once xs ys same sorted =
-    ascending_same (dedup eqb ys) (ascending xs) (ascending_of_increasing (dedup eqb ys) (IsStrictlyIncreasing-dedup ys sorted)) (ascending-is xs)
-    (λ v m. member-ascending v xs (member_of_contains v xs (Contains-permutation ys xs v (IsPermutation-sym xs ys same) (Contains-from_dedup eqb ys v (contains_of_member v (dedup eqb ys) m)))))
-    (λ v m. member_of_contains v (dedup eqb ys) (Contains-dedup_nat ys v (Contains-permutation xs ys v same (contains_of_member v xs (ascending-member v xs m)))))
+    ascending_same (dedup eqb ys) (ascending xs)
+    (ascending_of_increasing (dedup eqb ys) (IsStrictlyIncreasing-dedup ys sorted)) (ascending-is xs)
+    (λ v m. member-ascending v xs
+    (member_of_contains v xs (Contains-permutation ys xs v (IsPermutation-sym xs ys same)
+    (Contains-from_dedup eqb ys v (contains_of_member v (dedup eqb ys) m)))))
+    (λ v m. member_of_contains v (dedup eqb ys)
+    (Contains-dedup_nat ys v (Contains-permutation xs ys v same
+    (contains_of_member v xs (ascending-member v xs m)))))

@@ -36,7 +36,8 @@ module _ (g : Graph) (m : Structure) (g_ok : IsGraph g) (m_ok : IsStructure m) w
   -- a sink is won by the player of its priority
   pub sink_holds : (p : ℕ) → p < 2 → EvenWins (Sink p) ↔ (Even ≡ side p)
   sink_holds p low =
-      let won = sink_won (checking_game g m) (is_game g m g_ok m_ok) Even (vertex_number g m (Sink p)) (vertex_low (Sink p) low) (moves_are g m (Sink p) low) in
+      let won = sink_won (checking_game g m) (is_game g m g_ok m_ok) Even (vertex_number g m (Sink p))
+      (vertex_low (Sink p) low) (moves_are g m (Sink p) low) in
       let same = priority_is g m (Sink p) low in
       ((λ a. won.0 a ∙ ap side same), (λ e. won.1 (e ∙ ap side (sym same))))
 
@@ -50,36 +51,50 @@ module _ (g : Graph) (m : Structure) (g_ok : IsGraph g) (m_ok : IsStructure m) w
   move_to : (v : Vertex) → IsVertex g m v → (w : Vertex) → IsMember w (successors g m v)
       → HasMove (checking_game g m) (vertex_number g m v) (vertex_number g m w)
   move_to v is w h =
-      subst (λ ws. Contains ws (vertex_number g m w)) (sym (moves_are g m v is)) (contains_of_member (vertex_number g m w) (map (vertex_number g m) (successors g m v)) (member-map (vertex_number g m) w (successors g m v) h))
+      subst (λ ws. Contains ws (vertex_number g m w)) (sym (moves_are g m v is))
+      (contains_of_member (vertex_number g m w) (map (vertex_number g m) (successors g m v))
+      (member-map (vertex_number g m) w (successors g m v) h))
 
   move_from : (v : Vertex) → IsVertex g m v → (x : ℕ) → HasMove (checking_game g m) (vertex_number g m v) x
       → Image (vertex_number g m) x (successors g m v)
   move_from v is x move =
-      member-map_from (vertex_number g m) x (successors g m v) (member_of_contains x (map (vertex_number g m) (successors g m v)) (subst (λ ws. Contains ws x) (moves_are g m v is) move))
+      member-map_from (vertex_number g m) x (successors g m v)
+      (member_of_contains x (map (vertex_number g m) (successors g m v))
+      (subst (λ ws. Contains ws x) (moves_are g m v is) move))
 
   -- Even's vertex is won if some vertex is to which it leads
   pub even_step : (v : Vertex) → IsVertex g m v → owner_at g v ≡ Even → EvenWins v ↔ SomeWon (successors g m v)
-  even_step v is own = (there, λ w. step.1 (record { to = vertex_number g m w.to; move = move_to v is w.to w.member; wins = w.wins }))
+  even_step v is own =
+      (there, λ w. step.1 (record { to = vertex_number g m w.to; move = move_to v is w.to w.member; wins = w.wins }))
     where
-      step : Wins (checking_game g m) Even (vertex_number g m v) ↔ WinningMove (checking_game g m) Even (vertex_number g m v)
-      step = own_vertex_won (checking_game g m) (is_game g m g_ok m_ok) Even (vertex_number g m v) (vertex_low v is) (owner_is g m v is ∙ own)
+      step : Wins (checking_game g m) Even (vertex_number g m v) ↔ WinningMove (checking_game g m) Even
+          (vertex_number g m v)
+      step = own_vertex_won (checking_game g m) (is_game g m g_ok m_ok) Even (vertex_number g m v) (vertex_low v is)
+          (owner_is g m v is ∙ own)
 
       there : EvenWins v → SomeWon (successors g m v)
       there a =
           let good = step.0 a in
           let image = move_from v is good.to good.move in
-          record { to = image.from; member = image.member; wins = subst (Wins (checking_game g m) Even) image.holds good.wins }
+          record {
+            to = image.from;
+            member = image.member;
+            wins = subst (Wins (checking_game g m) Even) image.holds good.wins;
+          }
 
   -- Odd's vertex is won if every vertex is to which it leads
   pub odd_step : (v : Vertex) → IsVertex g m v → owner_at g v ≡ Odd
       → EvenWins v ↔ ((w : Vertex) → IsMember w (successors g m v) → EvenWins w)
   odd_step v is own = (
     (λ a w h. step.0 a (vertex_number g m w) (move_to v is w h)),
-    (λ every. step.1 (λ x move. let image = move_from v is x move in subst (Wins (checking_game g m) Even) (sym image.holds) (every image.from image.member))),
+    (λ every. step.1 (λ x move. let image = move_from v is x move in
+        subst (Wins (checking_game g m) Even) (sym image.holds) (every image.from image.member))),
   )
     where
-      step : Wins (checking_game g m) Even (vertex_number g m v) ↔ ((x : ℕ) → HasMove (checking_game g m) (vertex_number g m v) x → Wins (checking_game g m) Even x)
-      step = other_vertex_won (checking_game g m) (is_game g m g_ok m_ok) Even (vertex_number g m v) (vertex_low v is) (owner_is g m v is ∙ own)
+      step : Wins (checking_game g m) Even (vertex_number g m v) ↔
+          ((x : ℕ) → HasMove (checking_game g m) (vertex_number g m v) x → Wins (checking_game g m) Even x)
+      step = other_vertex_won (checking_game g m) (is_game g m g_ok m_ok) Even (vertex_number g m v) (vertex_low v is)
+          (owner_is g m v is ∙ own)
 
   -- ---- the kinds of nodes
 
@@ -91,7 +106,8 @@ module _ (g : Graph) (m : Structure) (g_ok : IsGraph g) (m_ok : IsStructure m) w
       → successors g m v ≡ Sink p ∷ []
       → EvenWins v ↔ (Even ≡ side p)
   to_sink v is p low next =
-      let one = single_move (checking_game g m) (is_game g m g_ok m_ok) Even (vertex_number g m v) (vertex_number g m (Sink p)) (vertex_low v is) (moves_are g m v is ∙ ap (map (vertex_number g m)) next) in
+      let one = single_move (checking_game g m) (is_game g m g_ok m_ok) Even (vertex_number g m v)
+      (vertex_number g m (Sink p)) (vertex_low v is) (moves_are g m v is ∙ ap (map (vertex_number g m)) next) in
       let sink = sink_holds p low in
       ((λ a. sink.0 (one.0 a)), (λ e. one.1 (sink.1 e)))
 
@@ -125,12 +141,17 @@ module _ (g : Graph) (m : Structure) (g_ok : IsGraph g) (m_ok : IsStructure m) w
           of_image : (some : SomeWon (successors g m v))
               → Image (λ s. Pair s to) some.to (t ∷ ts)
               → (x : ℕ) × Contains (t ∷ ts) x × HoldsAt g m x to
-          of_image some image = (image.from, contains_of_member image.from (t ∷ ts) image.member, subst EvenWins image.holds some.wins)
+          of_image some image = (
+            image.from,
+            contains_of_member image.from (t ∷ ts) image.member,
+            subst EvenWins image.holds some.wins,
+          )
 
       back : ((x : ℕ) × Contains (t ∷ ts) x × HoldsAt g m x to) → EvenWins v
       back h =
           let member = member-map (λ s. Pair s to) h.0 (t ∷ ts) (member_of_contains h.0 (t ∷ ts) h.1) in
-          (even_step v is own).1 (record { to = Pair h.0 to; member = subst (IsMember (Pair h.0 to)) (sym next) member; wins = h.2 })
+          (even_step v is own).1
+          (record { to = Pair h.0 to; member = subst (IsMember (Pair h.0 to)) (sym next) member; wins = h.2 })
 
   -- every target, where there are pairs
   square : (v : Vertex)
@@ -143,20 +164,27 @@ module _ (g : Graph) (m : Structure) (g_ok : IsGraph g) (m_ok : IsStructure m) w
       let s = to_sink v is 0 (omega arith) next in
       ((λ a t c. absurd (contains_none t c)), (λ h. s.1 refl))
   square v is own to (t ∷ ts) next = (
-    (λ a x c. (odd_step v is own).0 a (Pair x to) (subst (IsMember (Pair x to)) (sym next) (member-map (λ s. Pair s to) x (t ∷ ts) (member_of_contains x (t ∷ ts) c)))),
-    (λ h. (odd_step v is own).1 (λ w member. of_image h w (member-map_from (λ s. Pair s to) w (t ∷ ts) (subst (IsMember w) next member)))),
+    (λ a x c. (odd_step v is own).0 a (Pair x to)
+        (subst (IsMember (Pair x to)) (sym next)
+        (member-map (λ s. Pair s to) x (t ∷ ts) (member_of_contains x (t ∷ ts) c)))),
+    (λ h. (odd_step v is own).1
+        (λ w member. of_image h w (member-map_from (λ s. Pair s to) w (t ∷ ts) (subst (IsMember w) next member)))),
   )
     where
       of_image : ((x : ℕ) → Contains (t ∷ ts) x → HoldsAt g m x to)
           → (w : Vertex)
           → Image (λ s. Pair s to) w (t ∷ ts)
           → EvenWins w
-      of_image h w image = subst EvenWins (sym image.holds) (h image.from (contains_of_member image.from (t ∷ ts) image.member))
+      of_image h w image = subst EvenWins (sym image.holds)
+          (h image.from (contains_of_member image.from (t ∷ ts) image.member))
 
   both : (v : Vertex) → IsVertex g m v → owner_at g v ≡ Odd → (l r : Vertex) → successors g m v ≡ l ∷ r ∷ []
       → EvenWins v ↔ (EvenWins l × EvenWins r)
   both v is own l r next = (
-    (λ a. ((odd_step v is own).0 a l (subst (IsMember l) (sym next) (inl refl)), (odd_step v is own).0 a r (subst (IsMember r) (sym next) (inr (inl refl))))),
+    (λ a. (
+      (odd_step v is own).0 a l (subst (IsMember l) (sym next) (inl refl)),
+      (odd_step v is own).0 a r (subst (IsMember r) (sym next) (inr (inl refl))),
+    )),
     (λ h. (odd_step v is own).1 (λ w member. of_member h w (subst (IsMember w) next member))),
   )
     where
@@ -175,11 +203,14 @@ module _ (g : Graph) (m : Structure) (g_ok : IsGraph g) (m_ok : IsStructure m) w
       of_member w a (inr (inr e)) = absurd e
 
       there : EvenWins v → EvenWins l ⊎ EvenWins r
-      there a = let some = (even_step v is own).0 a in of_member some.to some.wins (subst (IsMember some.to) next some.member)
+      there a = let some = (even_step v is own).0 a in
+          of_member some.to some.wins (subst (IsMember some.to) next some.member)
 
       back : EvenWins l ⊎ EvenWins r → EvenWins v
-      back (inl a) = (even_step v is own).1 (record { to = l; member = subst (IsMember l) (sym next) (inl refl); wins = a })
-      back (inr a) = (even_step v is own).1 (record { to = r; member = subst (IsMember r) (sym next) (inr (inl refl)); wins = a })
+      back (inl a) = (even_step v is own).1
+          (record { to = l; member = subst (IsMember l) (sym next) (inl refl); wins = a })
+      back (inr a) = (even_step v is own).1
+          (record { to = r; member = subst (IsMember r) (sym next) (inr (inl refl)); wins = a })
 
   -- a node, by its kind
   by_kind : (s n : ℕ) → IsVertex g m (Pair s n) → (x : Node) → node_at g n ≡ x → HoldsAt g m s n ↔ NodeHolds g m s x
@@ -189,11 +220,14 @@ module _ (g : Graph) (m : Structure) (g_ok : IsGraph g) (m_ok : IsStructure m) w
   by_kind s n is node.False e =
       let sink = to_sink (Pair s n) is 1 (omega arith) (ap (successors_of g m s) e) in
       ((λ a. let odd = sink.0 a in cc), (λ h. absurd h))
-  by_kind s n is (node.Lit p positive) e = literal (Pair s n) is (lists m s (prop_at g p)) positive (ap (successors_of g m s) e)
+  by_kind s n is (node.Lit p positive) e =
+      literal (Pair s n) is (lists m s (prop_at g p)) positive (ap (successors_of g m s) e)
   by_kind s n is (node.And l r) e = both (Pair s n) is (ap mover e) (Pair s l) (Pair s r) (ap (successors_of g m s) e)
   by_kind s n is (node.Or l r) e = either (Pair s n) is (ap mover e) (Pair s l) (Pair s r) (ap (successors_of g m s) e)
-  by_kind s n is (node.Diamond a to) e = diamond (Pair s n) is (ap mover e) to (targets m s (action_at g a)) (ap (successors_of g m s) e)
-  by_kind s n is (node.Square a to) e = square (Pair s n) is (ap mover e) to (targets m s (action_at g a)) (ap (successors_of g m s) e)
+  by_kind s n is (node.Diamond a to) e =
+      diamond (Pair s n) is (ap mover e) to (targets m s (action_at g a)) (ap (successors_of g m s) e)
+  by_kind s n is (node.Square a to) e =
+      square (Pair s n) is (ap mover e) to (targets m s (action_at g a)) (ap (successors_of g m s) e)
 
 -- where a node holds is told by the nodes to which it refers
 pub one_step : OneStepLaw

@@ -63,7 +63,8 @@ pub same_place : (xs : List (List ℕ)) → IsDistinct bytes_eq xs → (i j : �
     → get_or xs i [] ≡ get_or xs j [] → i ≡ j
 same_place xs different i j i_low j_low same =
     ⊎_elim (λ (less : i < j). absurd (apart xs different i j less j_low same))
-    (λ (other : j ≤ i). ⊎_elim (λ (less : j < i). absurd (apart xs different j i less i_low (sym same))) (λ (also : i ≤ j). omega arith) (cases_lt j i))
+    (λ (other : j ≤ i). ⊎_elim (λ (less : j < i). absurd (apart xs different j i less i_low (sym same)))
+    (λ (also : i ≤ j). omega arith) (cases_lt j i))
     (cases_lt i j)
 
 -- one name differs from all others
@@ -85,7 +86,8 @@ found_at xs different x i is = (hit.0, λ k low. by_place k low (cases_eq k i))
     by_test : (k : ℕ) (b : Bool) → k < length xs → bytes_eq x (get_or xs k []) ≡ b → (k ≡ i → ⊥) → b ≡ false
     by_test k false low equal other = refl
     by_test k true low equal other =
-        absurd (other (same_place xs different k i low hit.0 (sym ((bytes_eq-Decides x (get_or xs k [])).0 equal) ∙ name)))
+        absurd (other (same_place xs different k i low hit.0
+        (sym ((bytes_eq-Decides x (get_or xs k [])).0 equal) ∙ name)))
 
     by_place : (k : ℕ) → k < length xs → (k ≡ i) ⊎ (k ≡ i → ⊥) → bytes_eq x (get_or xs k []) ≡ (k == i)
     by_place k low (inl here) =

@@ -32,7 +32,8 @@ option_map-or f (Some x) p = refl
 pub first_bad-append : (xs ys : List Reference) → first_bad (xs ++ ys) ≡ option_or (first_bad xs) (first_bad ys)
 first_bad-append xs ys =
     ap (option_map (λ (r : Reference). r.number)) (find-append (λ (r : Reference). nat_le r.bound r.number) xs ys)
-    ∙ option_map-or (λ (r : Reference). r.number) (find (λ (r : Reference). nat_le r.bound r.number) xs) (find (λ (r : Reference). nat_le r.bound r.number) ys)
+    ∙ option_map-or (λ (r : Reference). r.number) (find (λ (r : Reference). nat_le r.bound r.number) xs)
+    (find (λ (r : Reference). nat_le r.bound r.number) ys)
 
 -- of the nodes from place i on, it is in node i, or else in a later one
 pub first_bad_node : (f : Node → List Reference) (nodes : List Node) (i : ℕ) (rest : List Reference) → i < length nodes
@@ -61,7 +62,8 @@ pub all_in_range : (refs : List Reference) → first_bad refs ≡ None → All (
 all_in_range [] e = All-nil (λ (r : Reference). r.number < r.bound)
 all_in_range (r ∷ refs) e =
     let here = passed (nat_le r.bound r.number) r (find (λ (x : Reference). nat_le x.bound x.number) refs) e in
-    All-cons (λ (x : Reference). x.number < x.bound) r refs (in_range r.bound r.number here.0) (all_in_range refs here.1)
+    All-cons (λ (x : Reference). x.number < x.bound) r refs (in_range r.bound r.number here.0)
+    (all_in_range refs here.1)
 
 -- and where all are in range, none is bad
 pub none_bad : (refs : List Reference) → All (λ r. r.number < r.bound) refs → first_bad refs ≡ None
@@ -69,12 +71,15 @@ none_bad [] all = refl
 none_bad (r ∷ refs) all =
     let here = not_bad r.bound r.number (All-head (λ (x : Reference). x.number < x.bound) r refs all) in
     let rest = none_bad refs (All-tail (λ (x : Reference). x.number < x.bound) r refs all) in
-    ap (λ (b : Bool). option_map (λ (x : Reference). x.number) (cond b (Some r) (find (λ (x : Reference). nat_le x.bound x.number) refs))) here ∙ rest
+    ap (λ (b : Bool). option_map (λ (x : Reference). x.number)
+    (cond b (Some r) (find (λ (x : Reference). nat_le x.bound x.number) refs))) here ∙ rest
 
 -- what a node has that is out of range is the first of all, where the nodes before it have nothing
 pub found : (nodes : List Node) (root p a i k : ℕ) → i < length nodes
     → Some k ≡ first_bad (references_of (length nodes) p a (get_or nodes i node.True))
-    → first_bad (references_from nodes root p a) ≡ first_bad (flat_map (references_of (length nodes) p a) (drop i nodes) ++ record { number = root; bound = length nodes } ∷ [])
+    → first_bad (references_from nodes root p a)
+    ≡ first_bad (flat_map (references_of (length nodes) p a)
+    (drop i nodes) ++ record { number = root; bound = length nodes } ∷ [])
     → Some k ≡ first_bad (references_from nodes root p a)
 found nodes root p a i k low here before =
     let rest : List Reference = record { number = root; bound = length nodes } ∷ [] in
@@ -92,7 +97,8 @@ pub root_in_range : (g : Graph) → IsGraph g → g.root < size g
 root_in_range g ok =
     let r : Reference = record { number = g.root; bound = size g } in
     let nodes : List Reference = flat_map (references_of (size g) (length g.props) (length g.actions)) g.nodes in
-    All-member (λ (x : Reference). x.number < x.bound) (references g) ok.in_range r (member-append_right r nodes (r ∷ []) (inl refl))
+    All-member (λ (x : Reference). x.number < x.bound) (references g) ok.in_range r
+    (member-append_right r nodes (r ∷ []) (inl refl))
 
 -- what a node of a graph refers to is in range
 module _ (g : Graph) (ok : IsGraph g) (n : ℕ) (low : n < size g) where
@@ -108,10 +114,12 @@ module _ (g : Graph) (ok : IsGraph g) (n : ℕ) (low : n < size g) where
   -- a field of a node whose references are known
   field_of : (x : Node) → node_at g n ≡ x → (r : Reference)
       → IsMember r (references_of (size g) (length g.props) (length g.actions) x) → r.number < r.bound
-  field_of x is r m = field_in_range r (subst (λ y. IsMember r (references_of (size g) (length g.props) (length g.actions) y)) (sym is) m)
+  field_of x is r m = field_in_range r
+      (subst (λ y. IsMember r (references_of (size g) (length g.props) (length g.actions) y)) (sym is) m)
 
   pub prop_in_range : (p : ℕ) (positive : Bool) → node_at g n ≡ node.Lit p positive → p < length g.props
-  prop_in_range p positive is = field_of (node.Lit p positive) is (record { number = p; bound = length g.props }) (inl refl)
+  prop_in_range p positive is = field_of (node.Lit p positive) is (record { number = p; bound = length g.props })
+      (inl refl)
 
   pub diamond_action : (a to : ℕ) → node_at g n ≡ node.Diamond a to → a < length g.actions
   diamond_action a to is = field_of (node.Diamond a to) is (record { number = a; bound = length g.actions }) (inl refl)

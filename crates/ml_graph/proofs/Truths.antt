@@ -79,7 +79,8 @@ pub label_found : (props labels : List (List ℕ)) (truths truths2 : List Bool) 
 label_found props labels truths truths2 k i x differ has low is found set_is =
     let place = found_at props differ x i found in
     let more = truth_more props (take k labels) truths x i has place.0 place.1 in
-    subst (HasTruths props (take (k + 1) labels)) (sym set_is) (subst (λ ls. HasTruths props ls (set truths i true)) (up_to labels k x low is) more)
+    subst (HasTruths props (take (k + 1) labels)) (sym set_is)
+    (subst (λ ls. HasTruths props ls (set truths i true)) (up_to labels k x low is) more)
 
 pub label_unknown : (props labels : List (List ℕ)) (truths truths2 : List Bool) (k : ℕ) (x : List ℕ)
     → HasTruths props (take k labels) truths
@@ -90,4 +91,5 @@ pub label_unknown : (props labels : List (List ℕ)) (truths truths2 : List Bool
     → HasTruths props (take (k + 1) labels) truths2
 label_unknown props labels truths truths2 k x has low is unknown same =
     let kept = truth_kept props (take k labels) truths x has (position_miss (bytes_eq x) props [] unknown) in
-    subst (HasTruths props (take (k + 1) labels)) (sym same) (subst (λ ls. HasTruths props ls truths) (up_to labels k x low is) kept)
+    subst (HasTruths props (take (k + 1) labels)) (sym same)
+    (subst (λ ls. HasTruths props ls truths) (up_to labels k x low is) kept)

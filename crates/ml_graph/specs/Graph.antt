@@ -66,8 +66,10 @@ references_of n p a node.False = []
 references_of n p a (node.Lit prop positive) = record { number = prop; bound = p } ∷ []
 references_of n p a (node.And l r) = record { number = l; bound = n } ∷ record { number = r; bound = n } ∷ []
 references_of n p a (node.Or l r) = record { number = l; bound = n } ∷ record { number = r; bound = n } ∷ []
-references_of n p a (node.Diamond action to) = record { number = action; bound = a } ∷ record { number = to; bound = n } ∷ []
-references_of n p a (node.Square action to) = record { number = action; bound = a } ∷ record { number = to; bound = n } ∷ []
+references_of n p a (node.Diamond action to) =
+    record { number = action; bound = a } ∷ record { number = to; bound = n } ∷ []
+references_of n p a (node.Square action to) =
+    record { number = action; bound = a } ∷ record { number = to; bound = n } ∷ []
 
 -- to what nodes refer, and then the root
 abbrev pub references_from : List Node → (root props actions : ℕ) → List Reference
@@ -103,4 +105,11 @@ odd_priorities g = ascending (filter (λ d. d % 2 == 1) g.priorities)
 
 -- the graph of the lists that a program holds
 abbrev pub graph_of : Vec Node → Vec ℕ → ℕ → Vec (List ℕ) → Vec (List ℕ) → Graph
-graph_of nodes priorities root props actions = record { nodes = nodes.items; priorities = priorities.items; root = root; props = props.items; actions = actions.items }
+graph_of nodes priorities root props actions =
+    record {
+      nodes = nodes.items;
+      priorities = priorities.items;
+      root = root;
+      props = props.items;
+      actions = actions.items;
+    }

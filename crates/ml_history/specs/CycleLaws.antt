@@ -41,24 +41,30 @@ pub record ReturnsTo (h : List (Item ℕ)) (w : List (List Transition)) : Type 0
 
 -- the first law: if the lowest mark is odd, some state has an accepting run to itself
 abbrev pub OddMarkHasRun : Type 0
-OddMarkHasRun = (h : List (Item ℕ)) (w : List (List Transition)) → ReturnsTo h w → is_odd (lowest_mark (marks_along h w)) ≡ true → AcceptingCycle h w
+OddMarkHasRun = (h : List (Item ℕ)) (w : List (List Transition)) → ReturnsTo h w
+    → is_odd (lowest_mark (marks_along h w)) ≡ true → AcceptingCycle h w
 
 -- the second law: if some state has an accepting run to itself, the lowest mark is odd
 abbrev pub RunHasOddMark : Type 0
-RunHasOddMark = (h : List (Item ℕ)) (w : List (List Transition)) → ReturnsTo h w → AcceptingCycle h w → is_odd (lowest_mark (marks_along h w)) ≡ true
+RunHasOddMark = (h : List (Item ℕ)) (w : List (List Transition)) → ReturnsTo h w → AcceptingCycle h w
+    → is_odd (lowest_mark (marks_along h w)) ≡ true
 
 -- the start is a history, and so is what a step makes of one
 abbrev pub StepsAreHistories : Type 0
-StepsAreHistories = ((q : ℕ) → IsHistory (start q)) × ((h : List (Item ℕ)) (letter : List Transition) → IsHistory h → IsHistory (stepped h letter))
+StepsAreHistories = ((q : ℕ) → IsHistory (start q))
+    × ((h : List (Item ℕ)) (letter : List Transition) → IsHistory h → IsHistory (stepped h letter))
 
 -- neither the order nor repeats of the transitions of a letter change a step or its mark
 abbrev pub LettersAreSets : Type 0
 LettersAreSets =
-    (h : List (Item ℕ)) (l m : List Transition) → ((t : Transition) → IsMember t l → IsMember t m) → ((t : Transition) → IsMember t m → IsMember t l) → (stepped h l ≡ stepped h m) × (step_mark h l ≡ step_mark h m)
+    (h : List (Item ℕ)) (l m : List Transition) → ((t : Transition) → IsMember t l → IsMember t m)
+    → ((t : Transition) → IsMember t m → IsMember t l) → (stepped h l ≡ stepped h m)
+    × (step_mark h l ≡ step_mark h m)
 
 -- each step of a history satisfies the condition on names
 abbrev pub StepsTraceNames : Type 0
-StepsTraceNames = (h : List (Item ℕ)) (letter : List Transition) → IsHistory h → NamesCondition in_letter letter (step_mark h letter) (entry h) (entry (stepped h letter))
+StepsTraceNames = (h : List (Item ℕ)) (letter : List Transition) → IsHistory h
+    → NamesCondition in_letter letter (step_mark h letter) (entry h) (entry (stepped h letter))
 
 -- the state q has a stack in h
 pub record HasState (h : List (Item ℕ)) (q : ℕ) : Type 0 where
@@ -75,4 +81,5 @@ pub record IsLedTo (h : List (Item ℕ)) (letter : List Transition) (q : ℕ) : 
 
 -- behind a step exactly the states have a stack to which a transition leads from one that had one
 abbrev pub StepsFollowLetters : Type 0
-StepsFollowLetters = (h : List (Item ℕ)) (letter : List Transition) (q : ℕ) → HasState (stepped h letter) q ↔ IsLedTo h letter q
+StepsFollowLetters = (h : List (Item ℕ)) (letter : List Transition) (q : ℕ)
+    → HasState (stepped h letter) q ↔ IsLedTo h letter q

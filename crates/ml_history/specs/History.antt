@@ -31,7 +31,12 @@ pub record IsHistory (h : List (Item ℕ)) : Type 0 where
   -- its names ascend
   pub stacks_ascend : (a : Item ℕ) → IsMember a h → IsAscending a.stack
   -- two stacks that share a name agree up to it
-  pub agree : (a b : Item ℕ) (y : ℕ) → IsMember a h → IsMember b h → has y a.stack ≡ true → has y b.stack ≡ true → up_to y a.stack ≡ up_to y b.stack
+  pub agree : (a b : Item ℕ) (y : ℕ)
+      → IsMember a h
+      → IsMember b h
+      → has y a.stack ≡ true
+      → has y b.stack ≡ true
+      → up_to y a.stack ≡ up_to y b.stack
   -- the names in use are 0, 1 and so on, without a gap, and some stack ends in each
   pub each_ends : (y : ℕ) → y < live h → (a : Item ℕ) × IsMember a h × (ends_in y a.stack ≡ true)
 

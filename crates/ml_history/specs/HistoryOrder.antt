@@ -50,17 +50,20 @@ hash_writes h = fed.slice fed.u32 (map (λ (a : Item ℕ). a.state) h) ++ fed.sl
 -- ---- laws
 
 item_eq_equiv : IsEquivalence item_eq
-item_eq_equiv = and_equiv (on_equiv (λ (a : Item ℕ). a.state) nat_eq_equiv) (on_equiv (λ (a : Item ℕ). a.stack) nat_list_eq_equiv)
+item_eq_equiv = and_equiv (on_equiv (λ (a : Item ℕ). a.state) nat_eq_equiv)
+    (on_equiv (λ (a : Item ℕ). a.stack) nat_list_eq_equiv)
 
 item_ties : (a b : Item ℕ) → item_eq a b ≡ eq_by_cmp item_cmp a b
 item_ties a b =
-    both_tied (nat_eq a.state b.state) (pointwise nat_eq a.stack b.stack) (nat_cmp a.state b.state) (slice_cmp nat_cmp a.stack b.stack) (unsigned_ties a.state b.state) (texts_ties a.stack b.stack)
+    both_tied (nat_eq a.state b.state) (pointwise nat_eq a.stack b.stack) (nat_cmp a.state b.state)
+    (slice_cmp nat_cmp a.stack b.stack) (unsigned_ties a.state b.state) (texts_ties a.stack b.stack)
 
 pub history_eq_equiv : IsEquivalence history_eq
 history_eq_equiv = lists_equiv item_eq_equiv
 
 pub history_cmp_total : IsTotalOrder history_cmp
-history_cmp_total = lists_total (then_total (on_total (λ (a : Item ℕ). a.state) nat_cmp_total) (on_total (λ (a : Item ℕ). a.stack) nat_list_cmp_total))
+history_cmp_total = lists_total (then_total (on_total (λ (a : Item ℕ). a.state) nat_cmp_total)
+    (on_total (λ (a : Item ℕ). a.stack) nat_list_cmp_total))
 
 pub history_ties : (h g : List (Item ℕ)) → history_eq h g ≡ eq_by_cmp history_cmp h g
 history_ties h g = lists_ties item_cmp item_ties h g
@@ -68,8 +71,10 @@ history_ties h g = lists_ties item_cmp item_ties h g
 -- histories of which history_eq holds are one
 item_eq-same : (a b : Item ℕ) → item_eq a b ≡ true → a ≡ b
 item_eq-same a b e =
-    let states_same = eqb-true a.state b.state (first_so (nat_eq a.state b.state) (pointwise nat_eq a.stack b.stack) e) in
-    let stacks_are = (bytes_decides a.stack b.stack).0 (second_so (nat_eq a.state b.state) (pointwise nat_eq a.stack b.stack) e) in
+    let states_same = eqb-true a.state b.state
+    (first_so (nat_eq a.state b.state) (pointwise nat_eq a.stack b.stack) e) in
+    let stacks_are = (bytes_decides a.stack b.stack).0
+    (second_so (nat_eq a.state b.state) (pointwise nat_eq a.stack b.stack) e) in
     λ i. record { state = states_same i; stack = stacks_are i }
 
 pub history_eq-same : (h g : List (Item ℕ)) → history_eq h g ≡ true → h ≡ g

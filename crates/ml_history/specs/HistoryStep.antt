@@ -57,7 +57,8 @@ offered r accepting s = if accepting then s ++ (r + last_name s) ∷ [] else s
 
 -- the offers of one transition: the stack of its source, where it has one, for its target
 abbrev pub offers_along : List (Item ℕ) → Transition → List (Item ℕ)
-offers_along h t = map (λ (a : Item ℕ). record { state = t.to; stack = offered (live h) t.accepting a.stack }) (filter (λ (a : Item ℕ). a.state == t.from) h)
+offers_along h t = map (λ (a : Item ℕ). record { state = t.to; stack = offered (live h) t.accepting a.stack })
+    (filter (λ (a : Item ℕ). a.state == t.from) h)
 
 -- the offers of all transitions of a letter
 abbrev pub offers : List (Item ℕ) → List Transition → List (Item ℕ)
@@ -86,7 +87,8 @@ offered_to q os = map (λ (a : Item ℕ). a.stack) (filter (λ (a : Item ℕ). a
 
 -- each state to which there is an offer, ascending, with the best one
 abbrev pub taken : List (Item ℕ) → List (Item ℕ)
-taken os = map (λ q. record { state = q; stack = best (offered_to q os) }) (ascending (map (λ (a : Item ℕ). a.state) os))
+taken os = map (λ q. record { state = q; stack = best (offered_to q os) })
+    (ascending (map (λ (a : Item ℕ). a.state) os))
 
 -- ---- 3. full names, and the cut
 
@@ -156,7 +158,8 @@ stepped h letter = renumbered (cut (taken_along h letter))
 
 -- the mark of the step (each name is below 2r, where r names are in use before the step)
 abbrev pub step_mark : List (Item ℕ) → List Transition → Mark
-step_mark h letter = mark_of (least (is_red (live h) (taken_along h letter)) (2 * live h)) (least (is_green (taken_along h letter)) (2 * live h))
+step_mark h letter = mark_of (least (is_red (live h) (taken_along h letter)) (2 * live h))
+    (least (is_green (taken_along h letter)) (2 * live h))
 
 -- the history after the steps along a word
 abbrev pub after : List (Item ℕ) → List (List Transition) → List (Item ℕ)

@@ -6,3 +6,15 @@ pub mod Arrays
 pub mod Keys
 -- the names in use in a line, worst offer first
 pub mod Line
+-- histories as trees, as plain data
+pub mod Forest
+-- what the targets take, one offer at a time
+pub mod Puts
+-- what the vertices that a program holds are seen as
+pub mod Vertices
+-- what walks over a forest give
+pub mod TreeWalks
+-- the history step on trees, in four passes
+pub mod TreeStep
+-- the transitions of a letter, grouped by their sources
+pub mod Moves

@@ -5,7 +5,7 @@ ghost use Rattle.ml_lists.specs.Least.{least};
 ghost use Rattle.ml_lists.specs.Member.{IsMember};
 ghost use Rattle.ml_trace.specs.Stack.{has};
 ghost use Rattle.ml_history.specs.HistoryStep.{above, last_name, mark_of};
-ghost use Rattle.ml_history.specs.TreeStep.{flagged};
+ghost use Rattle.ml_history.specs.private.TreeStep.{flagged};
 
 use ml_base::NoMemory;
 use ml_trace::Mark;

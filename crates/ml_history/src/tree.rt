@@ -39,8 +39,8 @@ impl Model for TreeHistory {
 
     ghost Value = { List (Item ℕ) };
 
-    ghost use Rattle.ml_history.specs.Forest.{items};
-    ghost use Rattle.ml_history.specs.Vertices.{joined, IsKept};
+    ghost use Rattle.ml_history.specs.private.Forest.{items};
+    ghost use Rattle.ml_history.specs.private.Vertices.{joined, IsKept};
 
     ghost view = { λ h. items (joined h.roots.items) };
 

@@ -54,3 +54,9 @@ pub mod Grids
 pub mod MappedLasso
 -- lists in another order
 pub mod Permuted
+-- how often a number stands in a list
+pub mod Times
+-- lists of which one has the members of another
+pub mod Within
+-- lists in the order of a relation
+pub mod InOrder

@@ -30,3 +30,9 @@ pub mod Least
 pub mod Iterate
 -- lists in which each element is above the one before it
 pub mod Chains
+-- how often a number stands in a list, and lists in which each stands once
+pub mod Times
+-- lists of which one has the members of another
+pub mod Within
+-- lists in breadth-first order
+pub mod BreadthFirst

@@ -30,7 +30,8 @@ pub kept_along : (g : ParityGame) (p : Player) (s : ℕ → ℕ) (v : ℕ) → W
     → entry l 0 ≡ v → Follows g p s l → (k : ℕ) → k ≤ length l.entries → WinsFrom g p s (get_or (round l) k 0)
 kept_along g p s v wins l play begins follows =
     lasso_keeps l (WinsFrom g p s)
-    (λ k low here. kept_by_move g p s (get_or (round l) k 0) (get_or (round l) (k + 1) 0) here (play.joined k low) (follows k low))
+    (λ k low here. kept_by_move g p s (get_or (round l) k 0) (get_or (round l) (k + 1) 0) here (play.joined k low)
+    (follows k low))
     (subst (WinsFrom g p s) (sym (round-entry l 0 (omega (arith, play.starts)) ∙ begins)) wins)
 
 -- each vertex of such a play is won by that player

@@ -32,7 +32,8 @@ use Rattle.ml_parity.proofs.Occurrences.{times_here, times_other, entry_counts, 
 -- the count of u is counted down
 pub left_here : (left : List ℕ) (u x : ℕ) → x + 1 ≡ number_at left u → number_at (set left u x) u + 1 ≡ number_at left u
 left_here left u x less =
-    let low : u < length left = ⊎_elim (λ (h : u < length left). h) (λ (h : length left ≤ u). absurd (omega (arith, get_or_past left u 0 h))) (cases_lt u (length left)) in
+    let low : u < length left = ⊎_elim (λ (h : u < length left). h)
+    (λ (h : length left ≤ u). absurd (omega (arith, get_or_past left u 0 h))) (cases_lt u (length left)) in
     let e = get_or-set_same left u x 0 low in
     omega arith
 
@@ -45,7 +46,9 @@ pub next_entry : (xs : List ℕ) (k : ℕ) → k < length xs → drop k xs ≡ g
 next_entry xs k low = drop-cons xs k 0 low ∙ ap (λ j. get_or xs k 0 ∷ drop j xs) (sym (add-one k))
 
 -- a vertex that stands among the predecessors has such a move
-pub preds_move : (g : ParityGame) (w : ℕ) (preds : List ℕ) → ((u : ℕ) → times u preds ≡ times w (moves_of g u)) → (k : ℕ)
+pub preds_move : (g : ParityGame) (w : ℕ) (preds : List ℕ)
+    → ((u : ℕ) → times u preds ≡ times w (moves_of g u))
+    → (k : ℕ)
     → k < length preds → HasMove g (get_or preds k 0) w
 preds_move g w preds each k low =
     let u : ℕ = get_or preds k 0 in
@@ -64,7 +67,9 @@ move_low g long u w move = ⊎_elim
     (cases_lt u (size g))
 
 -- the counts when the vertex w, at place a, is taken up
-pub taken_up : (g : ParityGame) (place : ℕ → ℕ) (a w : ℕ) (left : ℕ → ℕ) (preds : List ℕ) → IsLeft g place (a + 1) left → place w ≡ a
+pub taken_up : (g : ParityGame) (place : ℕ → ℕ) (a w : ℕ) (left : ℕ → ℕ) (preds : List ℕ)
+    → IsLeft g place (a + 1) left
+    → place w ≡ a
     → ((x : ℕ) → place x ≡ a → x ≡ w) → ((u : ℕ) → times u preds ≡ times w (moves_of g u)) → (v : ℕ) → v < size g
     → left v ≡ moves_before g place a v + times v preds
 taken_up g place a w left preds is_left here one each v low =
@@ -74,7 +79,8 @@ taken_up g place a w left preds is_left here one each v low =
     omega arith
 
 -- the counts when a predecessor is seen
-pub one_counted : (g : ParityGame) (place place2 : ℕ → ℕ) (a u : ℕ) (left : List ℕ) (todo : List ℕ) → 0 < number_at left u
+pub one_counted : (g : ParityGame) (place place2 : ℕ → ℕ) (a u : ℕ) (left : List ℕ) (todo : List ℕ)
+    → 0 < number_at left u
     → ((v : ℕ) → place v < a → place2 v < a) → ((v : ℕ) → a ≤ place v → a ≤ place2 v)
     → ((v : ℕ) → v < size g → number_at left v ≡ moves_before g place a v + times v (u ∷ todo)) → (v : ℕ) → v < size g
     → number_at (set left u (number_at left u - 1)) v ≡ moves_before g place2 a v + times v todo
@@ -83,11 +89,14 @@ one_counted g place place2 a u left todo some inside outside lefts v low = by_ca
     same : moves_before g place2 a v ≡ moves_before g place a v
     same = ap (λ (test : ℕ → Bool). count_by test (moves_of g v)) (same_part place place2 a inside outside)
 
-    by_case : (v ≡ u) ⊎ (v ≡ u → ⊥) → number_at (set left u (number_at left u - 1)) v ≡ moves_before g place2 a v + times v todo
+    by_case : (v ≡ u) ⊎ (v ≡ u → ⊥)
+        → number_at (set left u (number_at left u - 1)) v ≡ moves_before g place2 a v + times v todo
     by_case (inl here) =
         let e = lefts v low in
         let t = times_here v u todo (sym here) in
-        let one : number_at (set left u (number_at left u - 1)) v + 1 ≡ number_at left v = ap (λ x. number_at (set left u (number_at left u - 1)) x + 1) here ∙ left_here left u (number_at left u - 1) (omega arith) ∙ sym (ap (number_at left) here) in
+        let one : number_at (set left u (number_at left u - 1)) v + 1 ≡ number_at left v =
+        ap (λ x. number_at (set left u (number_at left u - 1)) x + 1) here
+        ∙ left_here left u (number_at left u - 1) (omega arith) ∙ sym (ap (number_at left) here) in
         omega (arith, same)
     by_case (inr other) =
         let e = lefts v low in
@@ -96,15 +105,22 @@ one_counted g place place2 a u left todo some inside outside lefts v low = by_ca
         omega (arith, same)
 
 -- one more of the first entries
-times_take : (v : ℕ) (xs : List ℕ) (k : ℕ) → k < length xs → times v (take (k + 1) xs) ≡ times v (take k xs) + times v (get_or xs k 0 ∷ [])
+times_take : (v : ℕ) (xs : List ℕ) (k : ℕ)
+    → k < length xs
+    → times v (take (k + 1) xs) ≡ times v (take k xs) + times v (get_or xs k 0 ∷ [])
 times_take v xs k low = by_case (cases_eq (get_or xs k 0) v)
   where
-    by_case : (get_or xs k 0 ≡ v) ⊎ (get_or xs k 0 ≡ v → ⊥) → times v (take (k + 1) xs) ≡ times v (take k xs) + times v (get_or xs k 0 ∷ [])
-    by_case (inl same) = let t = times_here v (get_or xs k 0) [] same in omega (arith, count_by_more_yes (λ y. nat_eq y v) xs k 0 low (eq-eqb (get_or xs k 0) v same))
-    by_case (inr other) = let t = times_other v (get_or xs k 0) [] other in omega (arith, count_by_more_no (λ y. nat_eq y v) xs k 0 low (ne_eqb (get_or xs k 0) v other))
+    by_case : (get_or xs k 0 ≡ v) ⊎ (get_or xs k 0 ≡ v → ⊥)
+        → times v (take (k + 1) xs) ≡ times v (take k xs) + times v (get_or xs k 0 ∷ [])
+    by_case (inl same) = let t = times_here v (get_or xs k 0) [] same in
+        omega (arith, count_by_more_yes (λ y. nat_eq y v) xs k 0 low (eq-eqb (get_or xs k 0) v same))
+    by_case (inr other) = let t = times_other v (get_or xs k 0) [] other in
+        omega (arith, count_by_more_no (λ y. nat_eq y v) xs k 0 low (ne_eqb (get_or xs k 0) v other))
 
 -- there is room to count one up
-pub room_left : (g : ParityGame) (old left : List ℕ) (preds : List ℕ) (k : ℕ) → k < length preds → get_or preds k 0 < size g
+pub room_left : (g : ParityGame) (old left : List ℕ) (preds : List ℕ) (k : ℕ)
+    → k < length preds
+    → get_or preds k 0 < size g
     → ((v : ℕ) → v < size g → number_at old v + times v preds ≤ length (moves_of g v))
     → ((v : ℕ) → v < size g → number_at left v ≡ number_at old v + times v (take k preds))
     → number_at left (get_or preds k 0) < length (moves_of g (get_or preds k 0))
@@ -114,7 +130,8 @@ room_left g old left preds k low vertex room so =
     let e = so u vertex in
     let more = times_take u preds k low in
     let one = times_here u u [] refl in
-    let no_more : times u (take (k + 1) preds) ≤ times u preds = sum_by-take-le (λ x. cond (nat_eq x u) 1 0) preds (k + 1) in
+    let no_more : times u (take (k + 1) preds) ≤ times u preds =
+    sum_by-take-le (λ x. cond (nat_eq x u) 1 0) preds (k + 1) in
     omega arith
 
 -- one is counted up
@@ -129,7 +146,8 @@ one_up g old left preds k x long low vertex is so v inside = by_case (cases_eq v
 
     by_case : (v ≡ u) ⊎ (v ≡ u → ⊥) → number_at (set left u x) v ≡ number_at old v + times v (take (k + 1) preds)
     by_case (inl same) =
-        let at : number_at (set left u x) v ≡ x = ap (number_at (set left u x)) same ∙ get_or-set_same left u x 0 (omega arith) in
+        let at : number_at (set left u x) v ≡ x = ap (number_at (set left u x)) same
+        ∙ get_or-set_same left u x 0 (omega arith) in
         let e = so v inside in
         let more = times_take v preds k low in
         let one = times_here v u [] (sym same) in
@@ -173,15 +191,19 @@ module _ (g : ParityGame) (order place : List ℕ) (row : IsRow order place) (lo
   pub taken_left : (n : ℕ) → n ≡ at + 1 → IsLeft g (place_of place) n (number_at left) → (v : ℕ) → v < size g
       → number_at left v ≡ moves_before g (place_of place) (place_of place w) v + times v preds
   taken_left n next is_left v inside =
-      let at_next : IsLeft g (place_of place) (at + 1) (number_at left) = subst (λ a. IsLeft g (place_of place) a (number_at left)) next is_left in
-      subst (λ a. number_at left v ≡ moves_before g (place_of place) a v + times v preds) (sym stands_at) (taken_up g (place_of place) at w (number_at left) preds at_next stands_at alone_at preds_at v inside)
+      let at_next : IsLeft g (place_of place) (at + 1) (number_at left) =
+      subst (λ a. IsLeft g (place_of place) a (number_at left)) next is_left in
+      subst (λ a. number_at left v ≡ moves_before g (place_of place) a v + times v preds) (sym stands_at)
+      (taken_up g (place_of place) at w (number_at left) preds at_next stands_at alone_at preds_at v inside)
 
   -- and the attractor that is being made
   pub taken_attracting : (n : ℕ) → n ≡ at + 1 → (whole mid rest : ℕ) (q : Player) (s : ℕ → ℕ) → rest ≤ at
       → IsAttracting g (place_of place) whole mid rest n q s (number_at left) []
       → IsAttracting g (place_of place) whole mid rest at q s (number_at left) preds
   taken_attracting n next whole mid rest q s fits before =
-      followed g (place_of place) whole mid rest at q s (number_at left) w preds (subst (λ a. IsAttracting g (place_of place) whole mid rest a q s (number_at left) []) next before) fits stands_at alone_at preds_at
+      followed g (place_of place) whole mid rest at q s (number_at left) w preds
+      (subst (λ a. IsAttracting g (place_of place) whole mid rest a q s (number_at left) []) next before) fits
+      stands_at alone_at preds_at
 
   -- there is room to count them all up
   module _ (is_left : IsLeft g (place_of place) at (number_at left)) where
@@ -204,8 +226,11 @@ module _ (g : ParityGame) (order place : List ℕ) (row : IsRow order place) (lo
     all_up left2 up v inside = up v inside ∙ next v inside
 
 -- a vertex whose predecessor is still to be seen has a move left
-pub some_left : (g : ParityGame) (place : ℕ → ℕ) (a : ℕ) (left preds : List ℕ) (k : ℕ) → k < length preds → get_or preds k 0 < size g
-    → ((v : ℕ) → v < size g → number_at left v ≡ moves_before g place a v + times v (drop k preds)) → 0 < number_at left (get_or preds k 0)
+pub some_left : (g : ParityGame) (place : ℕ → ℕ) (a : ℕ) (left preds : List ℕ) (k : ℕ)
+    → k < length preds
+    → get_or preds k 0 < size g
+    → ((v : ℕ) → v < size g → number_at left v ≡ moves_before g place a v + times v (drop k preds))
+    → 0 < number_at left (get_or preds k 0)
 some_left g place a left preds k low vertex lefts =
     let u : ℕ = get_or preds k 0 in
     let e = lefts u vertex in
@@ -214,21 +239,30 @@ some_left g place a left preds k low vertex lefts =
     omega arith
 
 -- the first of the places behind a part stay behind it, and the others in it
-pub still_behind : (r a : ℕ) (place place2 : ℕ → ℕ) (win : ℕ → Player) (s s2 : ℕ → ℕ) → KeepsBehind r place win s place2 win s2 → r ≤ a
+pub still_behind : (r a : ℕ) (place place2 : ℕ → ℕ) (win : ℕ → Player) (s s2 : ℕ → ℕ)
+    → KeepsBehind r place win s place2 win s2
+    → r ≤ a
     → (v : ℕ) → a ≤ place v → a ≤ place2 v
 still_behind r a place place2 win s s2 kept fits v far = let same = kept.behind v (omega arith) in omega arith
 
 -- the counts, when the first of the predecessors that are still to be seen is counted
-pub counted_turn : (g : ParityGame) (place place2 : ℕ → ℕ) (r a : ℕ) (win : ℕ → Player) (s s2 : ℕ → ℕ) (left left2 preds : List ℕ) (k : ℕ)
+pub counted_turn : (g : ParityGame) (place place2 : ℕ → ℕ) (r a : ℕ) (win : ℕ → Player) (s s2 : ℕ → ℕ)
+    (left left2 preds : List ℕ) (k : ℕ)
     → KeepsBehind r place win s place2 win s2 → r ≤ a → k < length preds → get_or preds k 0 < size g
     → left2 ≡ set left (get_or preds k 0) (number_at left (get_or preds k 0) - 1)
     → ((v : ℕ) → v < size g → number_at left v ≡ moves_before g place a v + times v (drop k preds))
     → (v : ℕ) → v < size g → number_at left2 v ≡ moves_before g place2 a v + times v (drop (k + 1) preds)
 counted_turn g place place2 r a win s s2 left left2 preds k kept fits low vertex counted lefts v inside =
     ap (λ (xs : List ℕ). number_at xs v) counted
-    ∙ one_counted g place place2 a (get_or preds k 0) left (drop (k + 1) preds) (some_left g place a left preds k low vertex lefts) (in_to r place win s place2 win s2 kept a fits) (still_behind r a place place2 win s s2 kept fits) (λ u here. lefts u here ∙ ap (λ (xs : List ℕ). moves_before g place a u + times u xs) (next_entry preds k low)) v inside
+    ∙ one_counted g place place2 a (get_or preds k 0) left (drop (k + 1) preds)
+    (some_left g place a left preds k low vertex lefts) (in_to r place win s place2 win s2 kept a fits)
+    (still_behind r a place place2 win s s2 kept fits)
+    (λ u here. lefts u here ∙ ap (λ (xs : List ℕ). moves_before g place a u + times u xs) (next_entry preds k low))
+    v inside
 
 -- what is kept, one step further
 pub kept_turn : (r r2 : ℕ) (place place2 place3 : ℕ → ℕ) (win : ℕ → Player) (s s2 s3 : ℕ → ℕ) → r2 ≤ r
-    → KeepsBehind r place win s place2 win s2 → KeepsBehind r2 place2 win s2 place3 win s3 → KeepsBehind r place win s place3 win s3
-kept_turn r r2 place place2 place3 win s s2 s3 fits k l = keeps_on r place place2 place3 win win win s s2 s3 k (keeps_more r2 place2 win s2 place3 win s3 l r fits)
+    → KeepsBehind r place win s place2 win s2 → KeepsBehind r2 place2 win s2 place3 win s3
+    → KeepsBehind r place win s place3 win s3
+kept_turn r r2 place place2 place3 win s s2 s3 fits k l =
+    keeps_on r place place2 place3 win win win s s2 s3 k (keeps_more r2 place2 win s2 place3 win s3 l r fits)

@@ -20,14 +20,23 @@ use Rattle.ml_parity.proofs.Opponents.{not_both}
 use Rattle.ml_parity.proofs.Occurrences.{times_here, times_other, counts_entry, contains_counts, before_next, same_part}
 
 -- a move in front of the place is counted
-pub move_before : (g : ParityGame) (place : ℕ → ℕ) (n v w : ℕ) → HasMove g v w → place w < n → 0 < moves_before g place n v
+pub move_before : (g : ParityGame) (place : ℕ → ℕ) (n v w : ℕ)
+    → HasMove g v w
+    → place w < n
+    → 0 < moves_before g place n v
 move_before g place n v w move inside = contains_counts (part place n) (moves_of g v) w move (lt-ltb (place w) n inside)
 
 -- where some move is counted, there is one
-pub before_move : (g : ParityGame) (place : ℕ → ℕ) (n v : ℕ) → 0 < moves_before g place n v → MoveInto (board_of g) place n v
+pub before_move : (g : ParityGame) (place : ℕ → ℕ) (n v : ℕ)
+    → 0 < moves_before g place n v
+    → MoveInto (board_of g) place n v
 before_move g place n v some =
     let f = counts_entry (part place n) (moves_of g v) some in
-    record { to = get_or (moves_of g v) f.place 0; move = move_to g v f.place f.below; inside = ltb-true (place (get_or (moves_of g v) f.place 0)) n f.holds }
+    record {
+      to = get_or (moves_of g v) f.place 0;
+      move = move_to g v f.place f.below;
+      inside = ltb-true (place (get_or (moves_of g v) f.place 0)) n f.holds;
+    }
 
 -- at first the gathered vertices alone are attracted
 pub began : (g : ParityGame) (place : ℕ → ℕ) (n mid : ℕ) (q : Player) (win : ℕ → Player) (s left : ℕ → ℕ) → mid ≤ n
@@ -50,7 +59,8 @@ began g place n mid q win s left fits low is_part is_left = record {
 }
 
 -- the vertex at the next place is taken up, with all its predecessors still to be seen
-pub followed : (g : ParityGame) (place : ℕ → ℕ) (n mid rest a : ℕ) (q : Player) (s left : ℕ → ℕ) (w : ℕ) (preds : List ℕ)
+pub followed : (g : ParityGame) (place : ℕ → ℕ) (n mid rest a : ℕ) (q : Player) (s left : ℕ → ℕ) (w : ℕ)
+    (preds : List ℕ)
     → IsAttracting g place n mid rest (a + 1) q s left [] → rest ≤ a → place w ≡ a → ((x : ℕ) → place x ≡ a → x ≡ w)
     → ((u : ℕ) → times u preds ≡ times w (moves_of g u)) → IsAttracting g place n mid rest a q s left preds
 followed g place n mid rest a q s left w preds before reached here one each = record {
@@ -65,21 +75,28 @@ followed g place n mid rest a q s left w preds before reached here one each = re
       omega arith;
   own = before.own;
   other = before.other;
-  seen_own = λ v x early own move inside. seen v x move (before.seen_own v x early own move inside) (cases_lt (place x) a);
+  seen_own = λ v x early own move inside.
+      seen v x move (before.seen_own v x early own move inside) (cases_lt (place x) a);
   seen_other = before.seen_other;
 }
   where
-    seen : (v x : ℕ) → HasMove g v x → (place x < a + 1) ⊎ (0 < times v []) → (place x < a) ⊎ (a ≤ place x) → (place x < a) ⊎ (0 < times v preds)
+    seen : (v x : ℕ)
+        → HasMove g v x
+        → (place x < a + 1) ⊎ (0 < times v [])
+        → (place x < a) ⊎ (a ≤ place x)
+        → (place x < a) ⊎ (0 < times v preds)
     seen v x move o (inl low) = inl low
     seen v x move (inr some) (inr late) = absurd (omega arith)
     seen v x move (inl low) (inr late) =
         let same : x ≡ w = one x (omega arith) in
-        let some : 0 < times w (moves_of g v) = contains_counts (λ y. nat_eq y w) (moves_of g v) x move (eq-eqb x w same) in
+        let some : 0 < times w (moves_of g v) =
+        contains_counts (λ y. nat_eq y w) (moves_of g v) x move (eq-eqb x w same) in
         let p = each v in
         inr (omega arith)
 
 -- when all is followed, the attractor is made
-pub finished : (g : ParityGame) (place : ℕ → ℕ) (n mid rest : ℕ) (q : Player) (s left : ℕ → ℕ) → ((v : ℕ) → place v < n → v < size g)
+pub finished : (g : ParityGame) (place : ℕ → ℕ) (n mid rest : ℕ) (q : Player) (s left : ℕ → ℕ)
+    → ((v : ℕ) → place v < n → v < size g)
     → IsAttracting g place n mid rest rest q s left [] → IsAttracted (board_of g) place n mid rest q s
 finished g place n mid rest q s left vertex a = record {
   low = a.low;
@@ -120,7 +137,8 @@ module _ (g : ParityGame) (place : ℕ → ℕ) (n mid rest a : ℕ) (q : Player
   still v w other (inr some) = let t = times_other v u todo (λ same. other (sym same)) in inr (omega arith)
 
   -- a predecessor that stands behind already, or whose owner is the opponent and that has other moves
-  pub stays : (rest ≤ place u) ⊎ ((owner_of g u ≡ opponent q) × (0 < left2 u)) → IsAttracting g place n mid rest a q s left2 todo
+  pub stays : (rest ≤ place u) ⊎ ((owner_of g u ≡ opponent q) × (0 < left2 u))
+      → IsAttracting g place n mid rest a q s left2 todo
   stays why = record {
     low = before.low;
     high = before.high;
@@ -129,11 +147,17 @@ module _ (g : ParityGame) (place : ℕ → ℕ) (n mid rest a : ℕ) (q : Player
     lefts = lefts;
     own = before.own;
     other = before.other;
-    seen_own = λ v w early own move inside. still v w (λ same. not_own v early own same why) (before.seen_own v w early own move inside);
+    seen_own = λ v w early own move inside.
+        still v w (λ same. not_own v early own same why) (before.seen_own v w early own move inside);
     seen_other = λ v early other. seen v early other (cases_eq v u) why;
   }
     where
-      not_own : (v : ℕ) → place v < rest → owner_of g v ≡ q → v ≡ u → (rest ≤ place u) ⊎ ((owner_of g u ≡ opponent q) × (0 < left2 u)) → ⊥
+      not_own : (v : ℕ)
+          → place v < rest
+          → owner_of g v ≡ q
+          → v ≡ u
+          → (rest ≤ place u) ⊎ ((owner_of g u ≡ opponent q) × (0 < left2 u))
+          → ⊥
       not_own v early own same (inl late) = omega (arith, ap place same)
       not_own v early own same (inr m) = not_both (owner_of g v) q own (ap (owner_of g) same ∙ m.0)
 
@@ -144,8 +168,10 @@ module _ (g : ParityGame) (place : ℕ → ℕ) (n mid rest a : ℕ) (q : Player
       seen v early other (inr differs) m = omega (arith, others v differs, before.seen_other v early other)
 
   -- a predecessor that is attracted, and goes to the end of what is left
-  module _ (place2 : ℕ → ℕ) (rest2 : ℕ) (s2 : ℕ → ℕ) (w : ℕ) (removed : IsRemoved place place2 rest u) (less : rest2 + 1 ≡ rest)
-      (at : place w ≡ a) (inside_a : a < n) (move : HasMove g u w) (chooses : s2 u ≡ w) (keeps : (v : ℕ) → (v ≡ u → ⊥) → s2 v ≡ s v)
+  module _ (place2 : ℕ → ℕ) (rest2 : ℕ) (s2 : ℕ → ℕ) (w : ℕ) (removed : IsRemoved place place2 rest u)
+      (less : rest2 + 1 ≡ rest)
+      (at : place w ≡ a) (inside_a : a < n) (move : HasMove g u w) (chooses : s2 u ≡ w)
+      (keeps : (v : ℕ) → (v ≡ u → ⊥) → s2 v ≡ s v)
       (why : (owner_of g u ≡ q) ⊎ (left2 u ≡ 0)) (vertex : u < size g) where
     -- parts from a on are the same
     part_in : (m v : ℕ) → rest ≤ m → place v < m → place2 v < m
@@ -160,15 +186,20 @@ module _ (g : ParityGame) (place : ℕ → ℕ) (n mid rest a : ℕ) (q : Player
     part_out m v fits late = omega (arith, removed.behind v (omega arith))
 
     part_from : (m v : ℕ) → rest ≤ m → place2 v < m → place v < m
-    part_from m v fits low = ⊎_elim (λ (h : place v < m). h) (λ (h : m ≤ place v). absurd (omega (arith, part_out m v fits h))) (cases_lt (place v) m)
+    part_from m v fits low = ⊎_elim (λ (h : place v < m). h)
+        (λ (h : m ≤ place v). absurd (omega (arith, part_out m v fits h))) (cases_lt (place v) m)
 
     -- a vertex of what is left now is another one, and was of what was left
     left_now : (v : ℕ) → place2 v < rest2 → (v ≡ u → ⊥) × (place v < rest)
-    left_now v low = ((λ same. omega (arith, ap place2 same, removed.here)), part_from rest v (omega arith) (omega arith))
+    left_now v low = (
+      (λ same. omega (arith, ap place2 same, removed.here)),
+      part_from rest v (omega arith) (omega arith),
+    )
 
     -- any other vertex that is behind was behind
     behind_now : (v : ℕ) → (v ≡ u → ⊥) → rest2 ≤ place2 v → rest ≤ place v
-    behind_now v other late = ⊎_elim (λ (h : place v < rest). absurd (omega (arith, removed.kept v other h))) (λ (h : rest ≤ place v). h) (cases_lt (place v) rest)
+    behind_now v other late = ⊎_elim (λ (h : place v < rest). absurd (omega (arith, removed.kept v other h)))
+        (λ (h : rest ≤ place v). h) (cases_lt (place v) rest)
 
     -- where no move is left, each move leads to where it was followed
     all_seen : left2 u ≡ 0 → (x : ℕ) → HasMove g u x → a ≤ place x
@@ -187,7 +218,8 @@ module _ (g : ParityGame) (place : ℕ → ℕ) (n mid rest a : ℕ) (q : Player
       reached = omega (arith, before.reached);
       within = before.within;
       lefts = λ v low.
-          lefts v low ∙ ap (λ (test : ℕ → Bool). count_by test (moves_of g v) + times v todo) (sym (same_part place place2 a (λ x. part_in a x before.reached) (λ x. part_out a x before.reached)));
+          lefts v low ∙ ap (λ (test : ℕ → Bool). count_by test (moves_of g v) + times v todo)
+          (sym (same_part place place2 a (λ x. part_in a x before.reached) (λ x. part_out a x before.reached)));
       own = λ v late low mine. own v late low mine (cases_eq v u);
       other = λ v x late low theirs m inside. other v x late low theirs m inside (cases_eq v u);
       seen_own = λ v x low mine m inside.
@@ -195,7 +227,8 @@ module _ (g : ParityGame) (place : ℕ → ℕ) (n mid rest a : ℕ) (q : Player
           ⊎_elim
           (λ (h : place x < a). inl (part_in a x before.reached h))
           (λ (h : 0 < times v todo). inr h)
-          (still v x l.0 (before.seen_own v x l.1 mine m (part_from n x (omega (arith, before.reached, before.within)) inside)));
+          (still v x l.0 (before.seen_own v x l.1 mine m
+          (part_from n x (omega (arith, before.reached, before.within)) inside)));
       seen_other = λ v low other.
           let l = left_now v low in
           let e = others v l.0 in
@@ -212,7 +245,8 @@ module _ (g : ParityGame) (place : ℕ → ℕ) (n mid rest a : ℕ) (q : Player
               behind = omega (arith, removed.here, before.reached);
               inside = omega arith;
             } in
-            subst (λ x. LeadsBack (board_of g) place2 n x (s2 x)) (sym same) (subst (λ x. LeadsBack (board_of g) place2 n u x) (sym chooses) back)
+            subst (λ x. LeadsBack (board_of g) place2 n x (s2 x)) (sym same)
+            (subst (λ x. LeadsBack (board_of g) place2 n u x) (sym chooses) back)
         own v late low mine (inr other) =
             let was : rest ≤ place v = behind_now v other late in
             let same = removed.behind v was in
@@ -233,9 +267,16 @@ module _ (g : ParityGame) (place : ℕ → ℕ) (n mid rest a : ℕ) (q : Player
             by_why (inl mine) = absurd (not_both (owner_of g u) q mine (ap (owner_of g) (sym same) ∙ theirs))
             by_why (inr none) =
                 let far : a ≤ place x = all_seen none x (subst (λ y. HasMove g y x) same m) in
-                omega (arith, ap place2 same, removed.here, removed.behind x (omega (arith, before.reached)), before.reached)
+                omega (
+                  arith,
+                  ap place2 same,
+                  removed.here,
+                  removed.behind x (omega (arith, before.reached)),
+                  before.reached,
+                )
         other v x late low theirs m inside (inr differs) =
             let was : rest ≤ place v = behind_now v differs late in
             let same = removed.behind v was in
-            let further = before.other v x was (omega arith) theirs m (part_from n x (omega (arith, before.reached, before.within)) inside) in
+            let further = before.other v x was (omega arith) theirs m
+            (part_from n x (omega (arith, before.reached, before.within)) inside) in
             omega (arith, removed.behind x (omega arith))

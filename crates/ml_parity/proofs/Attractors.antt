@@ -35,7 +35,8 @@ loop_inside b place n win s p c m loop k fits = by_place (cases_lt k m)
         omega (arith, at 0 loop.long, closed)
 
 module _ (b : Board) (place : ℕ → ℕ) (n mid rest : ℕ) (q : Player) (win : ℕ → Player) (s : ℕ → ℕ)
-    (is_part : IsPart b place n win) (attracted : IsAttracted b place n mid rest q s) (given : IsGiven place rest n win q) where
+    (is_part : IsPart b place n win) (attracted : IsAttracted b place n mid rest q s)
+    (given : IsGiven place rest n win q) where
   -- a step within the part from an attracted vertex leads further back
   back : (p : Player) (v w : ℕ) → Step b (part place n) win s p v w → rest ≤ place v → place v < mid → place w < n
       → place v < place w
@@ -73,7 +74,8 @@ module _ (b : Board) (place : ℕ → ℕ) (n mid rest : ℕ) (q : Player) (win 
       by_end v w low move outside (inr out) = is_part.leaves v w (omega (arith, attracted.low, attracted.high)) move out
       by_end v w low move outside (inl inside) = ⊎_elim
           (λ (own : b.owner v ≡ q). absurd (omega (arith, attracted.closed_own v w low own move inside)))
-          (λ (other : b.owner v ≡ opponent q). given w outside inside ∙ sym (opponent-opponent q) ∙ sym (ap opponent other))
+          (λ (other : b.owner v ≡ opponent q). given w outside inside ∙ sym (opponent-opponent q)
+          ∙ sym (ap opponent other))
           (cases_player (b.owner v) q)
 
       by_owner : (v : ℕ) → place v < rest → (b.owner v ≡ q) ⊎ (b.owner v ≡ opponent q) → MoveInto b place rest v
@@ -84,7 +86,8 @@ module _ (b : Board) (place : ℕ → ℕ) (n mid rest : ℕ) (q : Player) (win 
 
   -- the part is solved if what is left of it is, and what attracts is kept by q, with good loops
   module _ (top_keeps : (v : ℕ) → mid ≤ place v → place v < n → Holds b win q (s v) v)
-      (top_loops : (c : ℕ → ℕ) (m k : ℕ) → Loop b (part place n) win s q c m → k < m → mid ≤ place (c k) → GoodFor b q c m)
+      (top_loops : (c : ℕ → ℕ) (m k : ℕ) → Loop b (part place n) win s q c m → k < m → mid ≤ place (c k)
+      → GoodFor b q c m)
       (below : SolvesPart b place rest win s) where
     keeps : (v : ℕ) → place v < n → Holds b win (win v) (s v) v
     keeps v inside = by_place (cases_lt (place v) rest) (cases_lt (place v) mid)
@@ -100,7 +103,9 @@ module _ (b : Board) (place : ℕ → ℕ) (n mid rest : ℕ) (q : Player) (win 
     -- a loop that avoids what attracts does not meet the attractor
     avoids : (p : Player) (c : ℕ → ℕ) (m : ℕ) → Loop b (part place n) win s p c m
         → ((k : ℕ) → k < m → place (c k) < mid) → (k : ℕ) → k < m → rest ≤ place (c k) → ⊥
-    avoids p c m loop low k within late = loop_is_flat r m closed (λ j below. omega (arith, rises j below)) 0 loop.long (omega (arith, rises 0 loop.long, inside 1 loop.long))
+    avoids p c m loop low k within late =
+        loop_is_flat r m closed (λ j below. omega (arith, rises j below)) 0 loop.long
+        (omega (arith, rises 0 loop.long, inside 1 loop.long))
       where
         inside : (j : ℕ) → j ≤ m → place (c j) < n
         inside = loop_inside b place n win s p c m loop
@@ -112,16 +117,21 @@ module _ (b : Board) (place : ℕ → ℕ) (n mid rest : ℕ) (q : Player) (win 
         closed = ap (λ v. n - place v) loop.closed
 
         late_next : (j : ℕ) → j < m → rest ≤ place (c j) → rest ≤ place (c (j + 1))
-        late_next j below here = omega (arith, back p (c j) (c (j + 1)) (loop.steps j below) here (low j below) (inside (j + 1) (omega arith)))
+        late_next j below here = omega (
+          arith,
+          back p (c j) (c (j + 1)) (loop.steps j below) here (low j below) (inside (j + 1) (omega arith)),
+        )
 
         all_late : (j : ℕ) → j ≤ m → rest ≤ place (c j)
         all_late = around c (λ v. rest ≤ place v) m loop.closed late_next k (omega arith) late
 
         rises : (j : ℕ) → j < m → place (c j) < place (c (j + 1))
-        rises j below = back p (c j) (c (j + 1)) (loop.steps j below) (all_late j (omega arith)) (low j below) (inside (j + 1) (omega arith))
+        rises j below = back p (c j) (c (j + 1)) (loop.steps j below) (all_late j (omega arith)) (low j below)
+            (inside (j + 1) (omega arith))
 
     loops : (p : Player) (c : ℕ → ℕ) (m : ℕ) → Loop b (part place n) win s p c m → GoodFor b p c m
-    loops p c m loop = by_top (search (λ k. mid ≤ place (c k)) (λ k. place (c k) < mid) (λ k. from_or_below (place (c k)) mid) m)
+    loops p c m loop = by_top (search (λ k. mid ≤ place (c k)) (λ k. place (c k) < mid)
+        (λ k. from_or_below (place (c k)) mid) m)
       where
         inside : (j : ℕ) → j ≤ m → place (c j) < n
         inside = loop_inside b place n win s p c m loop
@@ -142,9 +152,12 @@ module _ (b : Board) (place : ℕ → ℕ) (n mid rest : ℕ) (q : Player) (win 
 
         by_top : Found (λ k. mid ≤ place (c k)) m ⊎ ((k : ℕ) → k < m → place (c k) < mid) → GoodFor b p c m
         by_top (inl f) =
-            let mine : q ≡ p = sym (given (c f.place) (omega (arith, attracted.low, f.holds)) (inside f.place (omega (arith, f.below)))) ∙ (loop.steps f.place f.below).mine in
-            subst (λ p. GoodFor b p c m) mine (top_loops c m f.place (subst (λ p. Loop b (part place n) win s p c m) (sym mine) loop) f.below f.holds)
-        by_top (inr low) = by_rest low (search (λ k. rest ≤ place (c k)) (λ k. place (c k) < rest) (λ k. from_or_below (place (c k)) rest) m)
+            let mine : q ≡ p = sym (given (c f.place) (omega (arith, attracted.low, f.holds))
+            (inside f.place (omega (arith, f.below)))) ∙ (loop.steps f.place f.below).mine in
+            subst (λ p. GoodFor b p c m) mine
+            (top_loops c m f.place (subst (λ p. Loop b (part place n) win s p c m) (sym mine) loop) f.below f.holds)
+        by_top (inr low) = by_rest low (search (λ k. rest ≤ place (c k)) (λ k. place (c k) < rest)
+            (λ k. from_or_below (place (c k)) rest) m)
 
     pub above : SolvesPart b place n win s
     above = record {

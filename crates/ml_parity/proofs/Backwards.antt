@@ -22,10 +22,16 @@ pub record PredecessorsBelow (g : ParityGame) (preds : List (List ℕ)) (n : ℕ
   pub none : (v u : ℕ) → v < size g → n ≤ u → times u (get_or preds v []) ≡ 0
 
 -- all vertices are done
-pub below_all : (g : ParityGame) (preds : List (List ℕ)) → length g.successors ≡ size g → PredecessorsBelow g preds (size g) → ArePredecessors g preds
+pub below_all : (g : ParityGame) (preds : List (List ℕ))
+    → length g.successors ≡ size g
+    → PredecessorsBelow g preds (size g)
+    → ArePredecessors g preds
 below_all g preds long b = record { lists = b.lists; each = λ v u low. by_place v u low (cases_lt u (size g)) }
   where
-    by_place : (v u : ℕ) → v < size g → (u < size g) ⊎ (size g ≤ u) → times u (get_or preds v []) ≡ times v (moves_of g u)
+    by_place : (v u : ℕ)
+        → v < size g
+        → (u < size g) ⊎ (size g ≤ u)
+        → times u (get_or preds v []) ≡ times v (moves_of g u)
     by_place v u low (inl inside) = b.each v u low inside
     by_place v u low (inr past) = b.none v u low past ∙ ap (times v) (sym (get_or_past g.successors u [] (omega arith)))
 
@@ -38,7 +44,11 @@ below_more g preds preds2 u b a = record {
   none = λ v x low late. a.elsewhere v x (omega (arith, b.lists)) (λ same. omega arith) ∙ b.none v x low (omega arith);
 }
   where
-    each : (v x : ℕ) → v < size g → x < u + 1 → (x ≡ u) ⊎ (x ≡ u → ⊥) → times x (get_or preds2 v []) ≡ times v (moves_of g x)
+    each : (v x : ℕ)
+        → v < size g
+        → x < u + 1
+        → (x ≡ u) ⊎ (x ≡ u → ⊥)
+        → times x (get_or preds2 v []) ≡ times v (moves_of g x)
     each v x low early (inl same) =
         let now = a.here v (omega (arith, b.lists)) in
         let before = b.none v u low (omega arith) in
@@ -51,7 +61,8 @@ times_last : (v u : ℕ) (xs : List ℕ) → times v (xs ++ u ∷ []) ≡ times 
 times_last v u xs = sum_by-append (λ x. cond (nat_eq x v) 1 0) xs (u ∷ [])
 
 -- one move more
-pub added_more : (old : List (List ℕ)) (rows : List (Vec ℕ)) (u i w : ℕ) (moves : List ℕ) (m n : Vec ℕ) → i < length moves
+pub added_more : (old : List (List ℕ)) (rows : List (Vec ℕ)) (u i w : ℕ) (moves : List ℕ) (m n : Vec ℕ)
+    → i < length moves
     → w ≡ get_or moves i 0 → w < length rows → n.items ≡ (get_or rows w m).items ++ u ∷ []
     → IsAdded old (lists_of rows) u (take i moves) → IsAdded old (lists_of (set rows w n)) u (take (i + 1) moves)
 added_more old rows u i w moves m n inside is low grown so = record {
@@ -64,7 +75,8 @@ added_more old rows u i w moves m n inside is low grown so = record {
     written = map-set (λ (r : Vec ℕ). r.items) rows w n
 
     kept : (v : ℕ) → (v ≡ w → ⊥) → get_or (lists_of (set rows w n)) v [] ≡ get_or (lists_of rows) v []
-    kept v other = ap (λ (xs : List (List ℕ)). get_or xs v []) written ∙ get_or-set_other (lists_of rows) w v n.items [] other
+    kept v other = ap (λ (xs : List (List ℕ)). get_or xs v []) written
+        ∙ get_or-set_other (lists_of rows) w v n.items [] other
 
     long : length (lists_of rows) ≡ length rows
     long = length-map rows (λ (r : Vec ℕ). r.items)
@@ -77,19 +89,25 @@ added_more old rows u i w moves m n inside is low grown so = record {
         ∙ ap (λ (xs : List ℕ). xs ++ u ∷ []) (sym (get_or-map (λ (r : Vec ℕ). r.items) rows w m [] low))
 
     -- at w, one more
-    more : (x : ℕ) → times x (get_or (lists_of (set rows w n)) w []) ≡ times x (get_or (lists_of rows) w []) + times x (u ∷ [])
+    more : (x : ℕ)
+        → times x (get_or (lists_of (set rows w n)) w []) ≡ times x (get_or (lists_of rows) w []) + times x (u ∷ [])
     more x = ap (times x) at ∙ times_last x u (get_or (lists_of rows) w [])
 
     here : (v : ℕ) → v < length old → (w ≡ v) ⊎ (w ≡ v → ⊥)
         → times u (get_or (lists_of (set rows w n)) v []) ≡ times u (get_or old v []) + times v (take (i + 1) moves)
     here v below (inl same) =
-        let count = count_by_more_yes (λ y. nat_eq y v) moves i 0 inside (eq-eqb (get_or moves i 0) v (sym is ∙ same)) in
-        let one : times u (get_or (lists_of (set rows w n)) v []) ≡ times u (get_or (lists_of rows) v []) + times u (u ∷ []) = subst (λ j. times u (get_or (lists_of (set rows w n)) j []) ≡ times u (get_or (lists_of rows) j []) + times u (u ∷ [])) same (more u) in
+        let count = count_by_more_yes (λ y. nat_eq y v) moves i 0 inside
+        (eq-eqb (get_or moves i 0) v (sym is ∙ same)) in
+        let one : times u (get_or (lists_of (set rows w n)) v [])
+        ≡ times u (get_or (lists_of rows) v []) + times u (u ∷ []) =
+        subst (λ j. times u (get_or (lists_of (set rows w n)) j [])
+        ≡ times u (get_or (lists_of rows) j []) + times u (u ∷ [])) same (more u) in
         let before = so.here v below in
         let unit = times_here u u [] refl in
         omega arith
     here v below (inr other) =
-        let count = count_by_more_no (λ y. nat_eq y v) moves i 0 inside (ne_eqb (get_or moves i 0) v (λ e. other (is ∙ e))) in
+        let count = count_by_more_no (λ y. nat_eq y v) moves i 0 inside
+        (ne_eqb (get_or moves i 0) v (λ e. other (is ∙ e))) in
         let same = ap (times u) (kept v (λ e. other (sym e))) in
         let before = so.here v below in
         omega arith
@@ -97,14 +115,20 @@ added_more old rows u i w moves m n inside is low grown so = record {
     elsewhere : (v x : ℕ) → v < length old → (x ≡ u → ⊥) → (v ≡ w) ⊎ (v ≡ w → ⊥)
         → times x (get_or (lists_of (set rows w n)) v []) ≡ times x (get_or old v [])
     elsewhere v x below other (inl same) =
-        let one : times x (get_or (lists_of (set rows w n)) v []) ≡ times x (get_or (lists_of rows) v []) + times x (u ∷ []) = subst (λ j. times x (get_or (lists_of (set rows w n)) j []) ≡ times x (get_or (lists_of rows) j []) + times x (u ∷ [])) (sym same) (more x) in
+        let one : times x (get_or (lists_of (set rows w n)) v [])
+        ≡ times x (get_or (lists_of rows) v []) + times x (u ∷ []) =
+        subst (λ j. times x (get_or (lists_of (set rows w n)) j [])
+        ≡ times x (get_or (lists_of rows) j []) + times x (u ∷ [])) (sym same) (more x) in
         let before = so.elsewhere v x below other in
         let none = times_other x u [] (λ e. other (sym e)) in
         omega arith
     elsewhere v x below other (inr differs) = ap (times x) (kept v differs) ∙ so.elsewhere v x below other
 
 -- no vertex so far
-pub below_none : (g : ParityGame) (rows : List (Vec ℕ)) (n : ℕ) → n ≡ size g → length rows ≡ n → All (λ (r : Vec ℕ). r.items ≡ []) rows
+pub below_none : (g : ParityGame) (rows : List (Vec ℕ)) (n : ℕ)
+    → n ≡ size g
+    → length rows ≡ n
+    → All (λ (r : Vec ℕ). r.items ≡ []) rows
     → PredecessorsBelow g (lists_of rows) 0
 below_none g rows n is long empty = record {
   lists = length-map rows (λ (r : Vec ℕ). r.items) ∙ long ∙ is;
@@ -113,10 +137,15 @@ below_none g rows n is long empty = record {
 }
 
 -- one vertex more, as the program adds it
-pub below_turn : (g : ParityGame) (k u : ℕ) (rows slice new ys : List (Vec ℕ)) (moves : List ℕ) → k ≡ length rows → slice ≡ rows
+pub below_turn : (g : ParityGame) (k u : ℕ) (rows slice new ys : List (Vec ℕ)) (moves : List ℕ)
+    → k ≡ length rows
+    → slice ≡ rows
     → moves ≡ moves_of g u → PredecessorsBelow g (lists_of rows) u → IsAdded (lists_of slice) (lists_of new) u moves
     → PredecessorsBelow g (lists_of (take k (new ++ ys))) (u + 1)
 below_turn g k u rows slice new ys moves count same is b a =
-    let long : k ≡ length new = count ∙ sym (ap length same) ∙ sym (length-map slice (λ (r : Vec ℕ). r.items)) ∙ sym a.lists ∙ length-map new (λ (r : Vec ℕ). r.items) in
-    let from : IsAdded (lists_of rows) (lists_of new) u (moves_of g u) = subst₂ (λ (xs : List (Vec ℕ)) (ms : List ℕ). IsAdded (lists_of xs) (lists_of new) u ms) same is a in
-    subst (λ (xs : List (Vec ℕ)). PredecessorsBelow g (lists_of xs) (u + 1)) (sym (written k new ys long)) (below_more g (lists_of rows) (lists_of new) u b from)
+    let long : k ≡ length new = count ∙ sym (ap length same) ∙ sym (length-map slice (λ (r : Vec ℕ). r.items))
+    ∙ sym a.lists ∙ length-map new (λ (r : Vec ℕ). r.items) in
+    let from : IsAdded (lists_of rows) (lists_of new) u (moves_of g u) =
+    subst₂ (λ (xs : List (Vec ℕ)) (ms : List ℕ). IsAdded (lists_of xs) (lists_of new) u ms) same is a in
+    subst (λ (xs : List (Vec ℕ)). PredecessorsBelow g (lists_of xs) (u + 1)) (sym (written k new ys long))
+    (below_more g (lists_of rows) (lists_of new) u b from)

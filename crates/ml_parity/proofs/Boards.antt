@@ -39,12 +39,16 @@ each_move g P v each x move =
 
 -- of each vertex it is decided: some move leads to where p wins, or every move to where the opponent does
 pub decides : (g : ParityGame) → Decides (board_of g)
-decides g win p v = from (search (λ k. win (get_or (moves_of g v) k 0) ≡ p) (λ k. win (get_or (moves_of g v) k 0) ≡ opponent p) (λ k. cases_player (win (get_or (moves_of g v) k 0)) p) (length (moves_of g v)))
+decides g win p v = from (search (λ k. win (get_or (moves_of g v) k 0) ≡ p)
+    (λ k. win (get_or (moves_of g v) k 0) ≡ opponent p) (λ k. cases_player (win (get_or (moves_of g v) k 0)) p)
+    (length (moves_of g v)))
   where
     from :
-        Found (λ k. win (get_or (moves_of g v) k 0) ≡ p) (length (moves_of g v)) ⊎ ((k : ℕ) → k < length (moves_of g v) → win (get_or (moves_of g v) k 0) ≡ opponent p)
+        Found (λ k. win (get_or (moves_of g v) k 0) ≡ p) (length (moves_of g v))
+        ⊎ ((k : ℕ) → k < length (moves_of g v) → win (get_or (moves_of g v) k 0) ≡ opponent p)
         → SomeMove (board_of g) win p v ⊎ EveryMove (board_of g) win (opponent p) v
-    from (inl f) = inl (record { to = get_or (moves_of g v) f.place 0; move = move_to g v f.place f.below; wins = f.holds })
+    from (inl f) = inl
+        (record { to = get_or (moves_of g v) f.place 0; move = move_to g v f.place f.below; wins = f.holds })
     from (inr every) = inr (each_move g (λ x. win x ≡ opponent p) v every)
 
 -- the winner of a play is the player for whom its loop, as a sequence, is good
@@ -56,11 +60,13 @@ winner_is g l p starts good = ap side lowest ∙ here ∙ good.right
     at k low = round-entry l (l.start + k) (omega arith)
 
     reach : (j : ℕ) → l.start ≤ j → j < length l.entries → on_loop l (j - l.start) ≡ entry l j
-    reach j later low = let e : l.start + (j - l.start) ≡ j = omega arith in at (j - l.start) (omega arith) ∙ ap (entry l) e
+    reach j later low = let e : l.start + (j - l.start) ≡ j = omega arith in at (j - l.start) (omega arith)
+        ∙ ap (entry l) e
 
     least : (j : ℕ) → l.start ≤ j → j < length l.entries
         → priority_of g (entry l (l.start + good.place)) ≤ priority_of g (entry l j)
-    least j later low = subst₂ (λ x y. priority_of g x ≤ priority_of g y) (at good.place good.below) (reach j later low) (good.least (j - l.start) (omega arith))
+    least j later low = subst₂ (λ x y. priority_of g x ≤ priority_of g y) (at good.place good.below) (reach j later low)
+        (good.least (j - l.start) (omega arith))
 
     lowest : lowest_on_loop (priority_of g) l ≡ priority_of g (entry l (l.start + good.place))
     lowest = lowest_on_loop_is (priority_of g) l (l.start + good.place) (omega arith) (omega (arith, good.below)) least
@@ -72,10 +78,14 @@ winner_is g l p starts good = ap side lowest ∙ here ∙ good.right
 pub winner_of_sequence : (g : ParityGame) (c : ℕ → ℕ) (i j k : ℕ) (p : Player) → i ≤ k → k < j
     → ((l : ℕ) → i ≤ l → l < j → priority_of g (c k) ≤ priority_of g (c l)) → side (priority_of g (c k)) ≡ p
     → winner g (lasso_of c i j) ≡ p
-winner_of_sequence g c i j k p later low least right = ap side lowest ∙ ap (λ v. side (priority_of g v)) (lasso_of-entry c i j k low) ∙ right
+winner_of_sequence g c i j k p later low least right = ap side lowest
+    ∙ ap (λ v. side (priority_of g v)) (lasso_of-entry c i j k low) ∙ right
   where
     lowest : lowest_on_loop (priority_of g) (lasso_of c i j) ≡ priority_of g (entry (lasso_of c i j) k)
-    lowest = lowest_on_loop_is (priority_of g) (lasso_of c i j) k later (omega (arith, lasso_of-length c i j)) (λ l from below. subst₂ (λ x y. priority_of g x ≤ priority_of g y) (sym (lasso_of-entry c i j k low)) (sym (lasso_of-entry c i j l (omega (arith, lasso_of-length c i j)))) (least l from (omega (arith, lasso_of-length c i j))))
+    lowest = lowest_on_loop_is (priority_of g) (lasso_of c i j) k later (omega (arith, lasso_of-length c i j))
+        (λ l from below. subst₂ (λ x y. priority_of g x ≤ priority_of g y) (sym (lasso_of-entry c i j k low))
+        (sym (lasso_of-entry c i j l (omega (arith, lasso_of-length c i j))))
+        (least l from (omega (arith, lasso_of-length c i j))))
 
 -- the first successor of a vertex is a move
 pub first_move : (g : ParityGame) → IsGame g → (v : ℕ) → v < size g → HasMove g v (get_or (moves_of g v) 0 0)
@@ -90,7 +100,8 @@ abbrev pub AgreesWith : ParityGame → (ℕ → Player) → (ℕ → ℕ) → (�
 AgreesWith g win s choice = (v : ℕ) → v < size g → owner_of g v ≡ win v → choice v ≡ s v
 
 -- a choice that agrees with a solution of the board wins each vertex for its winner
-module _ (g : ParityGame) (ok : IsGame g) (over win : ℕ → Player) (s choice : ℕ → ℕ) (solves : Solves (board_of g) (all_live g) over win s) (agrees : AgreesWith g win s choice) where
+module _ (g : ParityGame) (ok : IsGame g) (over win : ℕ → Player) (s choice : ℕ → ℕ)
+    (solves : Solves (board_of g) (all_live g) over win s) (agrees : AgreesWith g win s choice) where
   -- at a vertex of the game its winner holds the choice of the solution
   held : (v : ℕ) → v < size g → Holds (board_of g) win (win v) (s v) v
   held v low = solves.keeps v (lt-ltb v (size g) low)
@@ -98,15 +109,19 @@ module _ (g : ParityGame) (ok : IsGame g) (over win : ℕ → Player) (s choice 
   -- along a play of a winner who follows the choice, all vertices belong to that player
   kept : (p : Player) (l : Lasso) → IsPlay g l → Follows g p choice l → entry l 0 < size g → win (entry l 0) ≡ p
       → (k : ℕ) → k ≤ length l.entries → (get_or (round l) k 0 < size g) × (win (get_or (round l) k 0) ≡ p)
-  kept p l play follows low wins = lasso_keeps l (λ x. (x < size g) × (win x ≡ p)) next (subst (λ x. (x < size g) × (win x ≡ p)) (sym (round-entry l 0 (omega (arith, play.starts)))) (low, wins))
+  kept p l play follows low wins =
+      lasso_keeps l (λ x. (x < size g) × (win x ≡ p)) next
+      (subst (λ x. (x < size g) × (win x ≡ p)) (sym (round-entry l 0 (omega (arith, play.starts)))) (low, wins))
     where
       next : (k : ℕ) → k < length l.entries → (get_or (round l) k 0 < size g) × (win (get_or (round l) k 0) ≡ p)
           → (get_or (round l) (k + 1) 0 < size g) × (win (get_or (round l) (k + 1) 0) ≡ p)
       next k below here =
           let v : ℕ = get_or (round l) k 0 in
-          let by_p : Holds (board_of g) win p (s v) v = subst (λ q. Holds (board_of g) win q (s v) v) here.1 (held v here.0) in (
+          let by_p : Holds (board_of g) win p (s v) v =
+          subst (λ q. Holds (board_of g) win q (s v) v) here.1 (held v here.0) in (
             ok.in_range v (get_or (round l) (k + 1) 0) (play.joined k below),
-            held_step (board_of g) win p (s v) v (get_or (round l) (k + 1) 0) by_p (play.joined k below) (λ own. follows k below own ∙ agrees v here.0 (own ∙ sym here.1)),
+            held_step (board_of g) win p (s v) v (get_or (round l) (k + 1) 0) by_p (play.joined k below)
+                (λ own. follows k below own ∙ agrees v here.0 (own ∙ sym here.1)),
           )
 
   -- so the loop of the play is a loop of that player's
@@ -134,4 +149,5 @@ module _ (g : ParityGame) (ok : IsGame g) (over win : ℕ → Player) (s choice 
   solution_wins v low l play begins follows =
       let first_low : entry l 0 < size g = subst (λ x. x < size g) (sym begins) low in
       let wins : win (entry l 0) ≡ win v = ap win begins in
-      winner_is g l (win v) play.starts (solves.loops (win v) (on_loop l) (loop_length l) (loop (win v) l play follows first_low wins))
+      winner_is g l (win v) play.starts (solves.loops (win v) (on_loop l) (loop_length l)
+      (loop (win v) l play follows first_low wins))

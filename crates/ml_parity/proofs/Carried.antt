@@ -85,7 +85,9 @@ picked f (x ∷ xs) z y m is = by_test (cases_Bool (eqb (f x) z)) (λ (later : I
           is = ap f first ∙ eqb-true (f x) z t;
           member = subst (λ w. IsMember w (x ∷ xs)) (sym first) (inl refl);
         }
-    by_test (inr t) rest = of_rest (rest (⊎_elim (λ (e : y ≡ x). absurd (eqb-false (f x) z t (ap f (sym e) ∙ is))) (λ (later : IsMember y xs). later) m))
+    by_test (inr t) rest = of_rest
+        (rest (⊎_elim (λ (e : y ≡ x). absurd (eqb-false (f x) z t (ap f (sym e) ∙ is)))
+        (λ (later : IsMember y xs). later) m))
       where
         of_rest : Picked f xs z → Picked f (x ∷ xs) z
         of_rest r =
@@ -104,7 +106,8 @@ pub record MoveTo (g : ParityGame) (f : ℕ → ℕ) (x z : ℕ) : Type 0 where
   pub is : f to ≡ z
 
 -- at x the map f carries p's part: p keeps each move, the opponent gets no new one, and the moves stay in the region R
-pub record IsCarried (g h : ParityGame) (f : ℕ → ℕ) (turn : Player → Player) (raise : ℕ) (R : ℕ → Type 0) (p : Player) (x : ℕ) : Type 0 where
+pub record IsCarried (g h : ParityGame) (f : ℕ → ℕ) (turn : Player → Player) (raise : ℕ) (R : ℕ → Type 0) (p : Player)
+    (x : ℕ) : Type 0 where
   pub owner : owner_of h (f x) ≡ turn (owner_of g x)
   pub priority : priority_of h (f x) ≡ priority_of g x + raise
   pub own : owner_of g x ≡ p → (y : ℕ) → HasMove g x y → HasMove h (f x) (f y)
@@ -150,7 +153,10 @@ module _ (g h : ParityGame) (g_ok : IsGame g) (h_ok : IsGame h) (f : ℕ → ℕ
 
   is_carried : (x : ℕ) → Disputed x → IsCarried g h f turn raise R p x
   is_carried x d = ⊎_elim
-      (λ (known : Wins g p x → Wins h (turn p) (f x)). absurd (not_both (wh.win (f x)) (turn p) (wh.only (f x) (turn p) (region.image_low x d.inside) (known (won g wg p x (region.low x d.inside) d.in_g))) d.in_h))
+      (λ (known : Wins g p x → Wins h (turn p) (f x)).
+      absurd (not_both (wh.win (f x)) (turn p)
+      (wh.only (f x) (turn p) (region.image_low x d.inside) (known (won g wg p x (region.low x d.inside) d.in_g)))
+      d.in_h))
       (λ (c : IsCarried g h f turn raise R p x). c)
       (better x d.inside)
 
@@ -165,7 +171,8 @@ module _ (g h : ParityGame) (g_ok : IsGame g) (h_ok : IsGame h) (f : ℕ → ℕ
       keeps_g = subst (λ q. Holds (board_of g) wg.win q (wg.choice x) x) d.in_g (wg.keeps x (region.low x d.inside))
 
       keeps_h : Holds (board_of h) wh.win (opponent (turn p)) (wh.choice (f x)) (f x)
-      keeps_h = subst (λ q. Holds (board_of h) wh.win q (wh.choice (f x)) (f x)) d.in_h (wh.keeps (f x) (region.image_low x d.inside))
+      keeps_h = subst (λ q. Holds (board_of h) wh.win q (wh.choice (f x)) (f x)) d.in_h
+          (wh.keeps (f x) (region.image_low x d.inside))
 
       by_owner : (owner_of g x ≡ p) ⊎ (owner_of g x ≡ opponent p) → Goes x
       by_owner (inl own) =
@@ -180,13 +187,15 @@ module _ (g h : ParityGame) (g_ok : IsGame g) (h_ok : IsGame h) (f : ℕ → ℕ
             by_g = λ o. is;
             by_h = λ o. absurd (not_both (owner_of h (f x)) (turn p) own_h o);
             priority = c.priority;
-            again = subst Disputed (sym is) (record { inside = c.inside (wg.choice x) good.move; in_g = good.wins; in_h = lost });
+            again = subst Disputed (sym is)
+                (record { inside = c.inside (wg.choice x) good.move; in_g = good.wins; in_h = lost });
           }
       by_owner (inr own) =
           let own_h : owner_of h (f x) ≡ opponent (turn p) = c.owner ∙ ap turn own ∙ turning.opponents p in
           let good = keeps_h.own own_h in
           let m = c.other own (wh.choice (f x)) good.move in
-          let found = picked f (moves_of g x) (wh.choice (f x)) m.to (member_of_contains m.to (moves_of g x) m.move) m.is in
+          let found = picked f (moves_of g x) (wh.choice (f x)) m.to (member_of_contains m.to (moves_of g x) m.move)
+          m.is in
           let mg : HasMove g x (back x) = contains_of_member (back x) (moves_of g x) found.member in
           let is = together-other g p wg.choice back x own in
           let image : f (back x) ≡ wh.choice (f x) = found.is in
@@ -205,18 +214,32 @@ module _ (g h : ParityGame) (g_ok : IsGame g) (h_ok : IsGame h) (f : ℕ → ℕ
 
   -- no vertex is disputed
   none_disputed : (v : ℕ) → Disputed v → ⊥
-  none_disputed v d = from (walk_lasso next Disputed (size g) (λ x e. region.low x e.inside) (λ x e. (goes x e).again) v d)
+  none_disputed v d = from (walk_lasso next Disputed (size g) (λ x e. region.low x e.inside) (λ x e. (goes x e).again) v
+      d)
     where
       from : WalkLasso next Disputed v → ⊥
       from l =
           let at : ℕ → ℕ = λ k. get_or (round l.lasso) k 0 in
-          let here : (k : ℕ) → k < length l.lasso.entries → Goes (at k) = λ k below. goes (at k) (l.inside k (omega arith)) in
-          let image : (k : ℕ) → k < length l.lasso.entries + 1 → get_or (round (mapped f l.lasso)) k 0 ≡ f (at k) = λ k below. mapped-round f l.lasso l.starts k (omega arith) in
-          let play_g : IsPlay g l.lasso = record { starts = l.starts; joined = λ k below. subst (HasMove g (at k)) (sym (l.steps k below)) (here k below).move_g } in
-          let play_h : IsPlay h (mapped f l.lasso) = mapped_is f l.lasso l.starts (HasMove h) (λ k below. subst (λ y. HasMove h (f (at k)) (f y)) (sym (l.steps k below)) (here k below).move_h) in
-          let for_p : winner g l.lasso ≡ p = subst (λ q. winner g l.lasso ≡ q) d.in_g (wg.wins v (region.low v d.inside) l.lasso play_g l.begins (λ k below own. l.steps k below ∙ (here k below).by_g (own ∙ d.in_g))) in
-          let begins : entry (mapped f l.lasso) 0 ≡ f v = mapped-entry f l.lasso l.starts 0 (omega (arith, l.starts)) ∙ ap f l.begins in
-          let follows : (k : ℕ) → k < length (map f l.lasso.entries) → owner_of h (get_or (round (mapped f l.lasso)) k 0) ≡ wh.win (f v) → get_or (round (mapped f l.lasso)) (k + 1) 0 ≡ wh.choice (get_or (round (mapped f l.lasso)) k 0) =
+          let here : (k : ℕ) → k < length l.lasso.entries → Goes (at k) =
+          λ k below. goes (at k) (l.inside k (omega arith)) in
+          let image : (k : ℕ) → k < length l.lasso.entries + 1 → get_or (round (mapped f l.lasso)) k 0 ≡ f (at k) =
+          λ k below. mapped-round f l.lasso l.starts k (omega arith) in
+          let play_g : IsPlay g l.lasso = record {
+            starts = l.starts;
+            joined = λ k below. subst (HasMove g (at k)) (sym (l.steps k below)) (here k below).move_g;
+          } in
+          let play_h : IsPlay h (mapped f l.lasso) =
+          mapped_is f l.lasso l.starts (HasMove h)
+          (λ k below. subst (λ y. HasMove h (f (at k)) (f y)) (sym (l.steps k below)) (here k below).move_h) in
+          let for_p : winner g l.lasso ≡ p =
+          subst (λ q. winner g l.lasso ≡ q) d.in_g
+          (wg.wins v (region.low v d.inside) l.lasso play_g l.begins
+          (λ k below own. l.steps k below ∙ (here k below).by_g (own ∙ d.in_g))) in
+          let begins : entry (mapped f l.lasso) 0 ≡ f v = mapped-entry f l.lasso l.starts 0 (omega (arith, l.starts))
+          ∙ ap f l.begins in
+          let follows : (k : ℕ) → k < length (map f l.lasso.entries)
+          → owner_of h (get_or (round (mapped f l.lasso)) k 0) ≡ wh.win (f v)
+          → get_or (round (mapped f l.lasso)) (k + 1) 0 ≡ wh.choice (get_or (round (mapped f l.lasso)) k 0) =
           λ k low own.
           let below : k < length l.lasso.entries = omega (arith, length-map l.lasso.entries f) in
           let image_k = image k (omega arith) in
@@ -225,21 +248,29 @@ module _ (g h : ParityGame) (g_ok : IsGame g) (h_ok : IsGame h) (f : ℕ → ℕ
           ∙ (here k below).by_h (ap (owner_of h) (sym image_k) ∙ own ∙ d.in_h)
           ∙ ap wh.choice (sym image_k)
           in
-          let for_other : winner h (mapped f l.lasso) ≡ opponent (turn p) = subst (λ q. winner h (mapped f l.lasso) ≡ q) d.in_h (wh.wins (f v) (region.image_low v d.inside) (mapped f l.lasso) play_h begins follows) in
-          let same : winner h (mapped f l.lasso) ≡ turn (winner g l.lasso) = ap side (mapped-lowest f l.lasso l.starts (priority_of g) (priority_of h) raise (λ j low. subst (λ x. priority_of h (f x) ≡ priority_of g x + raise) (round-entry l.lasso j low) (here j low).priority)) ∙ turning.sides (lowest_on_loop (priority_of g) l.lasso) in
+          let for_other : winner h (mapped f l.lasso) ≡ opponent (turn p) =
+          subst (λ q. winner h (mapped f l.lasso) ≡ q) d.in_h
+          (wh.wins (f v) (region.image_low v d.inside) (mapped f l.lasso) play_h begins follows) in
+          let same : winner h (mapped f l.lasso) ≡ turn (winner g l.lasso) =
+          ap side (mapped-lowest f l.lasso l.starts (priority_of g) (priority_of h) raise
+          (λ j low. subst (λ x. priority_of h (f x) ≡ priority_of g x + raise) (round-entry l.lasso j low)
+          (here j low).priority)) ∙ turning.sides (lowest_on_loop (priority_of g) l.lasso) in
           no_own_opponent (turn p) (sym (same ∙ ap turn for_p) ∙ for_other)
 
   -- what p wins in g, the turned player wins in h
   pub carried : (v : ℕ) → R v → Wins g p v → Wins h (turn p) (f v)
   carried v inside a = ⊎_elim
       (λ (mine : wh.win (f v) ≡ turn p). won h wh (turn p) (f v) (region.image_low v inside) mine)
-      (λ (lost : wh.win (f v) ≡ opponent (turn p)). absurd (none_disputed v (record { inside = inside; in_g = wg.only v p (region.low v inside) a; in_h = lost })))
+      (λ (lost : wh.win (f v) ≡ opponent (turn p)).
+      absurd (none_disputed v
+      (record { inside = inside; in_g = wg.only v p (region.low v inside) a; in_h = lost })))
       (cases_player (wh.win (f v)) (turn p))
 
 -- ---- both players
 
 -- at x the map carries both players' parts: its image has the images of its moves, and no others
-pub record IsCopied (g h : ParityGame) (f : ℕ → ℕ) (turn : Player → Player) (raise : ℕ) (R : ℕ → Type 0) (x : ℕ) : Type 0 where
+pub record IsCopied (g h : ParityGame) (f : ℕ → ℕ) (turn : Player → Player) (raise : ℕ) (R : ℕ → Type 0) (x : ℕ) : Type
+    0 where
   pub owner : owner_of h (f x) ≡ turn (owner_of g x)
   pub priority : priority_of h (f x) ≡ priority_of g x + raise
   pub there : (y : ℕ) → HasMove g x y → HasMove h (f x) (f y)
@@ -252,7 +283,14 @@ module _ (g h : ParityGame) (g_ok : IsGame g) (h_ok : IsGame h) (f : ℕ → ℕ
   carries : (p : Player) (x : ℕ) → R x → (Wins g p x → Wins h (turn p) (f x)) ⊎ IsCarried g h f turn raise R p x
   carries p x inside = ⊎_elim
       (λ (known : (q : Player) → Wins g q x → Wins h (turn q) (f x)). inl (known p))
-      (λ (c : IsCopied g h f turn raise R x). inr (record { owner = c.owner; priority = c.priority; own = λ o. c.there; other = λ o. c.back; inside = c.inside }))
+      (λ (c : IsCopied g h f turn raise R x).
+      inr (record {
+        owner = c.owner;
+        priority = c.priority;
+        own = λ o. c.there;
+        other = λ o. c.back;
+        inside = c.inside;
+      }))
       (better x inside)
 
   -- what either player wins in g, exactly that the turned player wins in h
@@ -263,6 +301,8 @@ module _ (g h : ParityGame) (g_ok : IsGame g) (h_ok : IsGame h) (f : ℕ → ℕ
       back b = ⊎_elim
           (λ (mine : Wins g p v). mine)
           (λ (lost : Wins g (opponent p) v).
-          let other = carried g h g_ok h_ok f turn raise turning R region (opponent p) (carries (opponent p)) v inside lost in
-          absurd (clash h h_ok (turn p) (f v) (region.image_low v inside) b (subst (λ q. Wins h q (f v)) (turning.opponents p) other)))
+          let other = carried g h g_ok h_ok f turn raise turning R region (opponent p) (carries (opponent p)) v inside
+          lost in
+          absurd (clash h h_ok (turn p) (f v) (region.image_low v inside) b
+          (subst (λ q. Wins h q (f v)) (turning.opponents p) other)))
           (won_by_either g g_ok p v (region.low v inside))

@@ -23,7 +23,8 @@ all_set g live is = ap flag_at is ∙ fun_ext (λ v. by_place v (cases_lt v (siz
   where
     by_place : (v : ℕ) → (v < size g) ⊎ (size g ≤ v) → flag_at (replicate (size g) true) v ≡ all_live g v
     by_place v (inl low) = get_or-replicate (size g) v true false low ∙ sym (lt-ltb v (size g) low)
-    by_place v (inr past) = get_or_past (replicate (size g) true) v false (omega (arith, length-replicate (size g) true)) ∙ sym (le-ltb v (size g) past)
+    by_place v (inr past) = get_or_past (replicate (size g) true) v false
+        (omega (arith, length-replicate (size g) true)) ∙ sym (le-ltb v (size g) past)
 
 -- with all vertices live, an answer on the board, filled up, is a solution of the game
 module _ (g : ParityGame) (ok : IsGame g) (live : List Bool) (sinks win : List Player) (old choice : List ℕ) (n : ℕ)
@@ -31,7 +32,8 @@ module _ (g : ParityGame) (ok : IsGame g) (live : List Bool) (sinks win : List P
     (winners : length win ≡ size g) (choices : length old ≡ size g)
     (solves : SolvesLists g live sinks win old) (filled : FilledBelow g win old choice n) where
   board_solved : Solves (board_of g) (all_live g) (winner_at sinks) (winner_at win) (choice_at old)
-  board_solved = subst (λ (l : ℕ → Bool). Solves (board_of g) l (winner_at sinks) (winner_at win) (choice_at old)) (all_set g live all) solves
+  board_solved = subst (λ (l : ℕ → Bool). Solves (board_of g) l (winner_at sinks) (winner_at win) (choice_at old))
+      (all_set g live all) solves
 
   -- there is a move at each vertex
   moves : (v : ℕ) → v < size g → HasMove g v (choice_at choice v)
@@ -46,14 +48,19 @@ module _ (g : ParityGame) (ok : IsGame g) (live : List Bool) (sinks win : List P
       by_owner (inr other) = subst (HasMove g v) (sym (filled.other v (omega arith) other)) (first_move g ok v low)
 
   wins : (v : ℕ) → v < size g → WinsFrom g (winner_at win v) (choice_at choice) v
-  wins = solution_wins g ok (winner_at sinks) (winner_at win) (choice_at old) (choice_at choice) board_solved (λ v low own. filled.own v (omega arith) own)
+  wins = solution_wins g ok (winner_at sinks) (winner_at win) (choice_at old) (choice_at choice) board_solved
+      (λ v low own. filled.own v (omega arith) own)
 
   pub solution_of_lists : IsSolution g (record { winner = win; choice = choice })
   solution_of_lists = record {
     winners = winners;
     choices = filled.size ∙ choices;
     strategies = λ p v low own. moves v low;
-    right = λ v low. record { strategy = choice_at choice; is_strategy = λ x below own. moves x below; wins = wins v low };
+    right = λ v low. record {
+      strategy = choice_at choice;
+      is_strategy = λ x below own. moves x below;
+      wins = wins v low;
+    };
     wins = wins;
   }
 

@@ -18,7 +18,9 @@ pub record FieldsOf (owner : Vec Player) (priority : Vec ℕ) (successors : Vec 
   pub is : game_of owner priority successors ≡ g
   pub game : IsGame (game_of owner priority successors)
 
-module _ (owner : Vec Player) (priority : Vec ℕ) (successors : Vec (Vec ℕ)) (g : ParityGame) (f : FieldsOf owner priority successors g) (v : ℕ) (low : v < size g) (m : Vec ℕ) (read : m ≡ get_or successors.items v m) (xs : List ℕ) (same : xs ≡ m.items) where
+module _ (owner : Vec Player) (priority : Vec ℕ) (successors : Vec (Vec ℕ)) (g : ParityGame)
+    (f : FieldsOf owner priority successors g) (v : ℕ) (low : v < size g) (m : Vec ℕ)
+    (read : m ≡ get_or successors.items v m) (xs : List ℕ) (same : xs ≡ m.items) where
   -- so g is a game
   is_game : IsGame g
   is_game = subst IsGame f.is f.game
@@ -27,7 +29,8 @@ module _ (owner : Vec Player) (priority : Vec ℕ) (successors : Vec (Vec ℕ)) 
   pub moves_read : xs ≡ moves_of g v
   moves_read =
       let here : v < length owner.items = subst (λ (h : ParityGame). v < size h) (sym f.is) low in
-      let there : v < length successors.items = omega (arith, f.game.lists, length-map successors.items (λ (x : Vec ℕ). x.items)) in
+      let there : v < length successors.items =
+      omega (arith, f.game.lists, length-map successors.items (λ (x : Vec ℕ). x.items)) in
       same ∙ sym (lists_of-at successors.items v m there read) ∙ ap (λ (h : ParityGame). moves_of h v) f.is
 
   -- there is one
@@ -38,5 +41,10 @@ module _ (owner : Vec Player) (priority : Vec ℕ) (successors : Vec (Vec ℕ)) 
   pub read_low : (k d : ℕ) → k < length xs → get_or xs k d < size g
   read_low k d below =
       let inside : k < length (moves_of g v) = omega (arith, ap length moves_read) in
-      let move : HasMove g v (get_or xs k d) = (k, inside, get_or_default (moves_of g v) k (get_or xs k d) d inside ∙ ap (λ (ys : List ℕ). get_or ys k d) (sym moves_read)) in
+      let move : HasMove g v (get_or xs k d) = (
+        k,
+        inside,
+        get_or_default (moves_of g v) k (get_or xs k d) d inside
+            ∙ ap (λ (ys : List ℕ). get_or ys k d) (sym moves_read),
+      ) in
       is_game.in_range v (get_or xs k d) move

@@ -19,7 +19,8 @@ module _ (b : Board) (place : ℕ → ℕ) (n mid rest : ℕ) (q : Player) (win 
     (half : IsFirstHalf b place n mid rest q win s) (won : (v : ℕ) → place v < rest → win v ≡ q) where
   -- q wins the whole part
   pub all_won : (v : ℕ) → place v < n → win v ≡ q
-  all_won v inside = ⊎_elim (λ (low : place v < rest). won v low) (λ (late : rest ≤ place v). half.given v late inside) (cases_lt (place v) rest)
+  all_won v inside = ⊎_elim (λ (low : place v < rest). won v low) (λ (late : rest ≤ place v). half.given v late inside)
+      (cases_lt (place v) rest)
 
   -- q keeps to the vertices of lowest priority, since each move in the part is won
   lowest_keeps : (v : ℕ) → mid ≤ place v → place v < n → Holds b win q (s v) v
@@ -27,7 +28,8 @@ module _ (b : Board) (place : ℕ → ℕ) (n mid rest : ℕ) (q : Player) (win 
     own = λ own. let m = half.chosen v top inside own in record { move = m.0; wins = all_won (s v) m.1 };
     other = λ other w move. ⊎_elim
         (λ (within : place w < n). all_won w within)
-        (λ (outside : n ≤ place w). half.is_part.leaves v w inside move outside ∙ ap opponent other ∙ opponent-opponent q)
+        (λ (outside : n ≤ place w). half.is_part.leaves v w inside move outside ∙ ap opponent other
+        ∙ opponent-opponent q)
         (cases_lt (place w) n);
   }
 
@@ -45,7 +47,8 @@ module _ (b : Board) (place : ℕ → ℕ) (n mid rest : ℕ) (q : Player) (win 
 
   -- where q won all that was left, the part is solved as winners and choices stand
   pub first_solved : SolvesPart b place rest win s → SolvesPart b place n win s
-  first_solved below = above b place n mid rest q win s half.is_part half.attracted half.given lowest_keeps lowest_loops below
+  first_solved below = above b place n mid rest q win s half.is_part half.attracted half.given lowest_keeps lowest_loops
+      below
 
 -- where what was left is solved, the part is, in the second half
 module _ (b : Board) (place : ℕ → ℕ) (n mid rest : ℕ) (q : Player) (win : ℕ → Player) (s : ℕ → ℕ)
@@ -67,17 +70,20 @@ module _ (b : Board) (place : ℕ → ℕ) (n mid rest : ℕ) (q : Player) (win 
           inside = loop_inside b place n win s q c m loop j (omega arith)
 
           by_owner : (b.owner (c j) ≡ q) ⊎ (b.owner (c j) ≡ opponent q) → mid ≤ place (c (j + 1))
-          by_owner (inl own) = subst (λ w. mid ≤ place w) (sym ((loop.steps j below).chosen own)) (half.firm.own (c j) here inside own).behind
+          by_owner (inl own) = subst (λ w. mid ≤ place w) (sym ((loop.steps j below).chosen own))
+              (half.firm.own (c j) here inside own).behind
           by_owner (inr other) = (half.firm.other (c j) (c (j + 1)) here inside other (loop.steps j below).move).0
 
       stays : (j : ℕ) → j ≤ m → mid ≤ place (c j)
       stays = around c (λ v. mid ≤ place v) m loop.closed next k (omega arith) top
 
   pub second_solved : SolvesPart b place rest win s → SolvesPart b place n win s
-  second_solved below = above b place n mid rest q win s half.is_part half.attracted half.given firm_keeps firm_loops below
+  second_solved below = above b place n mid rest q win s half.is_part half.attracted half.given firm_keeps firm_loops
+      below
 
 -- what the opponent of q won in the first half is the opponent's for good, once it is moved to the end of the part
-module _ (b : Board) (place : ℕ → ℕ) (n mid rest : ℕ) (q : Player) (win : ℕ → Player) (s : ℕ → ℕ) (place2 : ℕ → ℕ) (mid2 : ℕ)
+module _ (b : Board) (place : ℕ → ℕ) (n mid rest : ℕ) (q : Player) (win : ℕ → Player) (s : ℕ → ℕ) (place2 : ℕ → ℕ)
+    (mid2 : ℕ)
     (half : IsFirstHalf b place n mid rest q win s) (below : SolvesPart b place rest win s)
     (gathers : Gathers place place2 n mid2 (λ v. win v ≡ opponent q)) where
   -- what was moved was left, and the opponent won it
@@ -87,7 +93,9 @@ module _ (b : Board) (place : ℕ → ℕ) (n mid rest : ℕ) (q : Player) (win 
       lost : win v ≡ opponent q
       lost = gathers.passes v top inside
 
-      by_place : (place v < n) ⊎ (n ≤ place v) → (place v < rest) ⊎ (rest ≤ place v) → (place v < rest) × (win v ≡ opponent q)
+      by_place : (place v < n) ⊎ (n ≤ place v)
+          → (place v < rest) ⊎ (rest ≤ place v)
+          → (place v < rest) × (win v ≡ opponent q)
       by_place (inr outside) t = absurd (omega (arith, gathers.behind v outside))
       by_place (inl within) (inl low) = (low, lost)
       by_place (inl within) (inr late) = absurd (not_both (win v) q (half.given v late within) lost)

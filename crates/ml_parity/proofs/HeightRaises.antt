@@ -46,25 +46,38 @@ attained_set g p xs a x old e member high is fits = record {
     here = get_or-set_same xs a.from x 0 (omega (arith, e.begins, old.size))
 
     low : (v : ℕ) → (v ≡ a.from) ⊎ (v ≡ a.from → ⊥) → get_or (set xs a.from x) v 0 ≤ g.size
-    low v (inl same) = subst (λ (n : ℕ). n ≤ g.size) (sym (ap (λ (k : ℕ). get_or (set xs a.from x) k 0) same ∙ here)) fits
+    low v (inl same) = subst (λ (n : ℕ). n ≤ g.size) (sym (ap (λ (k : ℕ). get_or (set xs a.from x) k 0) same ∙ here))
+        fits
     low v (inr other) = subst (λ (n : ℕ). n ≤ g.size) (sym (get_or-set_other xs a.from v x 0 other)) (old.low v)
 
     attained : (v : ℕ) → (v ≡ a.from) ⊎ (v ≡ a.from → ⊥) → Attained g p v (get_or (set xs a.from x) v 0)
     attained v (inl same) =
         subst (λ (k : ℕ). Attained g p k (get_or (set xs a.from x) k 0)) (sym same)
-        (subst (Attained g p a.from) (sym (here ∙ is)) (attained_more g p (number_at xs a.to) a member high (old.attained a.to)))
+        (subst (Attained g p a.from) (sym (here ∙ is))
+        (attained_more g p (number_at xs a.to) a member high (old.attained a.to)))
     attained v (inr other) = subst (Attained g p v) (sym (get_or-set_other xs a.from v x 0 other)) (old.attained v)
 
 -- where an arc asks for more than there are vertices, there is a loop
-pub too_high : (h g : OneSidedGraph) → h ≡ g → IsOneSided h → (p : ℕ) (xs : List ℕ) (a : Arc) (x : ℕ) → AreAttained g p xs
+pub too_high : (h g : OneSidedGraph)
+    → h ≡ g
+    → IsOneSided h
+    → (p : ℕ) (xs : List ℕ) (a : Arc) (x : ℕ)
+    → AreAttained g p xs
     → Contains g.arcs a → p ≤ a.priority → x ≡ count_at p (a ∷ []) + number_at xs a.to → g.size < x → LoopAt g p
 too_high h g view one p xs a x old member high is many =
-    attained_loop g (subst IsOneSided view one) p a.from x (subst (Attained g p a.from) (sym is) (attained_more g p (number_at xs a.to) a member high (old.attained a.to))) many
+    attained_loop g (subst IsOneSided view one) p a.from x
+    (subst (Attained g p a.from) (sym is) (attained_more g p (number_at xs a.to) a member high (old.attained a.to)))
+    many
 
 -- a raise leaves less room
-pub room_falls : (n : ℕ) (xs : List ℕ) (i x : ℕ) → i < length xs → get_or xs i 0 < x → x ≤ n → room n (set xs i x) < room n xs
+pub room_falls : (n : ℕ) (xs : List ℕ) (i x : ℕ)
+    → i < length xs
+    → get_or xs i 0 < x
+    → x ≤ n
+    → room n (set xs i x) < room n xs
 room_falls n xs i x low more fits =
-    let sum : room n (set xs i x) + (n - get_or xs i 0) ≡ room n xs + (n - x) = sum_by-set (λ (y : ℕ). n - y) xs i x 0 low in
+    let sum : room n (set xs i x) + (n - get_or xs i 0) ≡ room n xs + (n - x) =
+    sum_by-set (λ (y : ℕ). n - y) xs i x 0 low in
     omega arith
 
 -- ---- passes
@@ -80,15 +93,22 @@ pub settled_more : (g : OneSidedGraph) (p : ℕ) (xs : List ℕ) (i : ℕ) (a : 
 settled_more g p xs i a is old last k d below = by_case (cases_eq k i)
   where
     by_case : (k ≡ i) ⊎ (k ≡ i → ⊥) → SettledAlong p (number_at xs) (get_or g.arcs k d)
-    by_case (inl same) = subst (SettledAlong p (number_at xs)) (sym (ap (λ (j : ℕ). get_or g.arcs j d) same ∙ is d)) last
+    by_case (inl same) = subst (SettledAlong p (number_at xs)) (sym (ap (λ (j : ℕ). get_or g.arcs j d) same ∙ is d))
+        last
     by_case (inr other) = old k d (omega arith)
 
 -- a pass that raised nothing goes on with an arc that raises nothing
 pub pass_stays : (g : OneSidedGraph) (p : ℕ) (old xs new : List ℕ) (i : ℕ) (a : Arc) (raised : Bool)
     → ((d : Arc) → get_or g.arcs i d ≡ a) → IsPass g p old xs i (so_far raised) → RaisesAlong g p xs new a Stays
     → IsPass g p old new (i + 1) (so_far raised)
-pass_stays g p old xs new i a true is so step = subst (λ (ys : List ℕ). room g.size ys < room g.size old) (sym step.0) so
-pass_stays g p old xs new i a false is so step = (step.0 ∙ so.0, settled_more g p new i a is (λ k d low. subst (λ (ys : List ℕ). SettledAlong p (number_at ys) (get_or g.arcs k d)) (sym step.0) (so.1 k d low)) step.1)
+pass_stays g p old xs new i a true is so step =
+    subst (λ (ys : List ℕ). room g.size ys < room g.size old) (sym step.0) so
+pass_stays g p old xs new i a false is so step = (
+  step.0 ∙ so.0,
+  settled_more g p new i a is
+      (λ k d low. subst (λ (ys : List ℕ). SettledAlong p (number_at ys) (get_or g.arcs k d)) (sym step.0) (so.1 k d low))
+      step.1,
+)
 
 -- a pass goes on with an arc that raises something
 pub pass_raised : (g : OneSidedGraph) (p : ℕ) (old xs new : List ℕ) (i : ℕ) (a : Arc) (raised : Bool)
@@ -101,10 +121,16 @@ pass_raised g p old xs new i a false so step =
 -- ---- beginning and end
 
 -- attained numbers that no arc raises are the largest
-pub column_of : (g : OneSidedGraph) (p : ℕ) (xs : List ℕ) → AreAttained g p xs → Settled g p (number_at xs) → IsColumn g p xs
+pub column_of : (g : OneSidedGraph) (p : ℕ) (xs : List ℕ)
+    → AreAttained g p xs
+    → Settled g p (number_at xs)
+    → IsColumn g p xs
 column_of g p xs at settled = record {
   size = at.size;
-  most = λ v low. record { attained = at.attained v; largest = λ ys w walk. omega (arith, walk_keeps g p (number_at xs) settled v w ys walk) };
+  most = λ v low. record {
+    attained = at.attained v;
+    largest = λ ys w walk. omega (arith, walk_keeps g p (number_at xs) settled v w ys walk);
+  };
 }
 
 -- what a vector holds after its items were written through a slice

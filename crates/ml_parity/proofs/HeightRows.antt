@@ -37,7 +37,8 @@ row_of g rows shape v low m xs read same =
 -- the arc that the program reads is that of the graph
 pub arc_same : (h g : OneSidedGraph) → h ≡ g → (arcs : List Arc) → arcs ≡ h.arcs → (i : ℕ) (d : Arc)
     → get_or g.arcs i d ≡ get_or arcs i d
-arc_same h g view arcs value i d = sym (ap (λ (xs : List Arc). get_or xs i d) (value ∙ ap (λ (k : OneSidedGraph). k.arcs) view))
+arc_same h g view arcs value i d = sym (ap (λ (xs : List Arc). get_or xs i d)
+    (value ∙ ap (λ (k : OneSidedGraph). k.arcs) view))
 
 -- whatever stands in for what lies past the end
 pub arc_here : (h g : OneSidedGraph) → h ≡ g → (arcs : List Arc) → arcs ≡ h.arcs → (i : ℕ) (e : Arc) → i < length arcs
@@ -51,8 +52,11 @@ arcs_length h g view arcs value = ap length value ∙ ap (λ (k : OneSidedGraph)
 -- and it is an arc of the graph
 pub arc_member : (h g : OneSidedGraph) → h ≡ g → (arcs : List Arc) → arcs ≡ h.arcs → (i : ℕ) (e : Arc) → i < length arcs
     → Contains g.arcs (get_or arcs i e)
-arc_member h g view arcs value i e low =
-    (i, subst (λ (n : ℕ). i < n) (arcs_length h g view arcs value) low, arc_here h g view arcs value i e low (get_or arcs i e))
+arc_member h g view arcs value i e low = (
+  i,
+  subst (λ (n : ℕ). i < n) (arcs_length h g view arcs value) low,
+  arc_here h g view arcs value i e low (get_or arcs i e),
+)
 
 -- an arc that the program reads by its number
 pub arc_among : (h g : OneSidedGraph) → h ≡ g → (k : ℕ) (a : Arc) → k < length h.arcs → a ≡ get_or h.arcs k a
@@ -60,7 +64,10 @@ pub arc_among : (h g : OneSidedGraph) → h ≡ g → (k : ℕ) (a : Arc) → k 
 arc_among h g view k a low read = subst (λ (m : OneSidedGraph). Contains m.arcs a) view (k, low, sym read)
 
 -- what the program reads at the ends of an arc
-pub arc_rows : (g : OneSidedGraph) (rows : List (Vec ℕ)) → IsOneSided g → HasShape g (lists_of rows) → (i : ℕ) (d a : Arc)
+pub arc_rows : (g : OneSidedGraph) (rows : List (Vec ℕ))
+    → IsOneSided g
+    → HasShape g (lists_of rows)
+    → (i : ℕ) (d a : Arc)
     → i < length g.arcs → get_or g.arcs i d ≡ a
     → (m n : Vec ℕ) (xs ys : List ℕ) → m ≡ get_or rows a.from m → n ≡ get_or rows a.to n → xs ≡ m.items → ys ≡ n.items
     → ArcRows (lists_of rows) a xs ys
@@ -85,14 +92,17 @@ pub arc_read : (h g : OneSidedGraph) (rows : List (Vec ℕ)) → h ≡ g → IsO
     → xs ≡ m.items → ys ≡ n.items → ArcRows (lists_of rows) (get_or arcs i d) xs ys
 arc_read h g rows view one shape arcs value i d low m n xs ys =
     let here : length arcs ≡ length g.arcs = ap length value ∙ ap (λ (k : OneSidedGraph). length k.arcs) view in
-    arc_rows g rows (subst IsOneSided view one) shape i d (get_or arcs i d) (omega arith) (arc_same h g view arcs value i d) m n xs ys
+    arc_rows g rows (subst IsOneSided view one) shape i d (get_or arcs i d) (omega arith)
+    (arc_same h g view arcs value i d) m n xs ys
 
 -- if they fall from row to row, the heights fall along the arc
 pub falls-from : (rows : List (List ℕ)) (a : Arc) (xs ys : List ℕ) → ArcRows rows a xs ys
     → RowsFall a.priority xs ys → FallsAlong rows a
 falls-from rows a xs ys r f = record {
-  stays = λ p even low. subst₂ (λ (fs ts : List ℕ). get_or ts (p / 2) 0 ≤ get_or fs (p / 2) 0) r.begins r.ends (f.stays (p / 2) (omega arith));
-  falls = λ even. subst₂ (λ (fs ts : List ℕ). get_or ts (a.priority / 2) 0 < get_or fs (a.priority / 2) 0) r.begins r.ends (f.falls even);
+  stays = λ p even low. subst₂ (λ (fs ts : List ℕ). get_or ts (p / 2) 0 ≤ get_or fs (p / 2) 0) r.begins r.ends
+      (f.stays (p / 2) (omega arith));
+  falls = λ even. subst₂ (λ (fs ts : List ℕ). get_or ts (a.priority / 2) 0 < get_or fs (a.priority / 2) 0) r.begins
+      r.ends (f.falls even);
 }
 
 -- and only then
@@ -100,14 +110,16 @@ pub falls-to : (rows : List (List ℕ)) (a : Arc) (xs ys : List ℕ) → ArcRows
     → FallsAlong rows a → RowsFall a.priority xs ys
 falls-to rows a xs ys r f = record {
   stays = λ k low. subst₂ (λ (fs ts : List ℕ). get_or ts k 0 ≤ get_or fs k 0) (sym r.begins) (sym r.ends) (stays k low);
-  falls = λ even. subst₂ (λ (fs ts : List ℕ). get_or ts (a.priority / 2) 0 < get_or fs (a.priority / 2) 0) (sym r.begins) (sym r.ends) (f.falls even);
+  falls = λ even. subst₂ (λ (fs ts : List ℕ). get_or ts (a.priority / 2) 0 < get_or fs (a.priority / 2) 0)
+      (sym r.begins) (sym r.ends) (f.falls even);
 }
   where
     stays : (k : ℕ) → k ≤ a.priority / 2
         → get_or (get_or rows a.to []) k 0 ≤ get_or (get_or rows a.from []) k 0
     stays k low =
         let e : 2 * k / 2 ≡ k = omega arith in
-        subst (λ (i : ℕ). get_or (get_or rows a.to []) i 0 ≤ get_or (get_or rows a.from []) i 0) e (f.stays (2 * k) (omega arith) (omega arith))
+        subst (λ (i : ℕ). get_or (get_or rows a.to []) i 0 ≤ get_or (get_or rows a.from []) i 0) e
+        (f.stays (2 * k) (omega arith) (omega arith))
 
 -- one arc more along which they fall
 pub falls_more : (rows : List (List ℕ)) (arcs : List Arc) (i : ℕ) (e a : Arc) → i < length arcs → get_or arcs i e ≡ a
@@ -117,7 +129,8 @@ falls_more rows arcs i e a low is old last k d below = by_case (cases_eq k i)
   where
     by_case : (k ≡ i) ⊎ (k ≡ i → ⊥) → FallsAlong rows (get_or arcs k d)
     by_case (inl same) =
-        subst (FallsAlong rows) (sym is ∙ get_or_default arcs i e d low ∙ ap (λ (j : ℕ). get_or arcs j d) (sym same)) last
+        subst (FallsAlong rows) (sym is ∙ get_or_default arcs i e d low ∙ ap (λ (j : ℕ). get_or arcs j d) (sym same))
+        last
     by_case (inr other) = old k d (omega arith)
 
 -- ---- the shape
@@ -134,11 +147,13 @@ pub row_more : (rows : List (Vec ℕ)) (n i : ℕ) (m : Vec ℕ) → i < length 
 row_more rows n i m low read long old v below = by_case (cases_eq v i)
   where
     by_case : (v ≡ i) ⊎ (v ≡ i → ⊥) → length (get_or (lists_of rows) v []) ≡ n
-    by_case (inl same) = ap (λ (j : ℕ). length (get_or (lists_of rows) j [])) same ∙ read_length rows i m low read ∙ long
+    by_case (inl same) = ap (λ (j : ℕ). length (get_or (lists_of rows) j [])) same ∙ read_length rows i m low read
+        ∙ long
     by_case (inr other) = old v (omega arith)
 
 -- a row of another length
 pub no_shape_by_row : (g : OneSidedGraph) (rows : List (Vec ℕ)) (i : ℕ) (m : Vec ℕ) → i < length rows
     → m ≡ get_or rows i m → (vec_len m ≡ g.top / 2 + 1 → ⊥) → HasShape g (lists_of rows) → ⊥
 no_shape_by_row g rows i m low read other shape =
-    other (sym (read_length rows i m low read) ∙ shape.numbers i (omega (arith, low, shape.vertices, length-map rows (λ (x : Vec ℕ). x.items))))
+    other (sym (read_length rows i m low read)
+    ∙ shape.numbers i (omega (arith, low, shape.vertices, length-map rows (λ (x : Vec ℕ). x.items))))

@@ -26,7 +26,12 @@ pub comes_more : (steps ys : List Arc) (i j goal v : ℕ) → i ≤ length steps
     → Comes (steps ++ ys) j goal v
 comes_more steps ys i j goal v fits more (inl same) = inl same
 comes_more steps ys i j goal v fits more (inr k) =
-    inr (k.0, omega (arith, k.1), λ d. ap (λ (a : Arc). a.from) (get_or_append_left steps ys d k.0 (omega (arith, k.1))) ∙ k.2 d)
+    inr (
+      k.0,
+      omega (arith, k.1),
+      λ d. ap (λ (a : Arc). a.from) (get_or_append_left steps ys d k.0 (omega (arith, k.1)))
+          ∙ k.2 d,
+    )
 
 -- the flag of a vertex after one is set
 flag_set : (found : List Bool) (t v : ℕ) → t < length found → flag_at (set found t true) v ≡ true
@@ -38,7 +43,10 @@ flag_set found t v low is = by_case (cases_eq v t)
     by_case (inr other) = inr (sym (get_or-set_other found t v true false other) ∙ is)
 
 -- what is set stays set
-flag_kept : (found : List Bool) (t v : ℕ) → t < length found → flag_at found v ≡ true → flag_at (set found t true) v ≡ true
+flag_kept : (found : List Bool) (t v : ℕ)
+    → t < length found
+    → flag_at found v ≡ true
+    → flag_at (set found t true) v ≡ true
 flag_kept found t v low is = by_case (cases_eq v t)
   where
     by_case : (v ≡ t) ⊎ (v ≡ t → ⊥) → flag_at (set found t true) v ≡ true
@@ -98,11 +106,18 @@ search_more g p goal found steps a e s member high at = record {
         subst (λ (b : Arc). Comes (steps ++ a ∷ []) k goal b.to) (sym (get_or_push steps a d k here))
         (comes_more steps (a ∷ []) (length steps) k goal a.to (omega arith) (omega arith) (s.comes a.to at))
 
-    comes : (v : ℕ) → (v ≡ a.from) ⊎ (flag_at found v ≡ true) → Comes (steps ++ a ∷ []) (length (steps ++ a ∷ [])) goal v
+    comes : (v : ℕ)
+        → (v ≡ a.from) ⊎ (flag_at found v ≡ true)
+        → Comes (steps ++ a ∷ []) (length (steps ++ a ∷ [])) goal v
     comes v (inl same) =
-        inr (length steps, omega (arith, long), λ d. ap (λ (b : Arc). b.from) (get_or_push steps a d (length steps) refl) ∙ sym same)
+        inr (
+          length steps,
+          omega (arith, long),
+          λ d. ap (λ (b : Arc). b.from) (get_or_push steps a d (length steps) refl) ∙ sym same,
+        )
     comes v (inr flagged) =
-        comes_more steps (a ∷ []) (length steps) (length (steps ++ a ∷ [])) goal v (omega arith) (omega (arith, long)) (s.comes v flagged)
+        comes_more steps (a ∷ []) (length steps) (length (steps ++ a ∷ [])) goal v (omega arith) (omega (arith, long))
+        (s.comes v flagged)
 
 -- a pass over arcs, one arc more along which something was found
 spread_found : (g : OneSidedGraph) (p : ℕ) (old found new : List Bool) (i : ℕ) (a : Arc) (changed : Bool)
@@ -129,7 +144,8 @@ spread_stays : (g : OneSidedGraph) (p : ℕ) (old found new : List Bool) (i : �
 spread_stays g p old found new i a true is so step = subst (λ (f : List Bool). missing f < missing old) (sym step.0) so
 spread_stays g p old found new i a false is so step = (
   step.0 ∙ so.0,
-  found_more g p new i a is (λ k d low. subst (λ (f : List Bool). FoundAlong p f (get_or g.arcs k d)) (sym step.0) (so.1 k d low)) step.1,
+  found_more g p new i a is (λ k d low.
+      subst (λ (f : List Bool). FoundAlong p f (get_or g.arcs k d)) (sym step.0) (so.1 k d low)) step.1,
 )
 
 -- a pass over arcs, one arc more
@@ -137,9 +153,11 @@ pub spread_more : (g : OneSidedGraph) (p : ℕ) (old found new : List Bool) (i :
     → ((d : Arc) → get_or g.arcs i d ≡ a) → IsSpread g p old found i changed → FindsAlong p found new a some
     → ((some ≡ true) × (next ≡ true)) ⊎ ((some ≡ false) × (next ≡ changed)) → IsSpread g p old new (i + 1) next
 spread_more g p old found new i a changed some next is so step (inl e) =
-    subst (IsSpread g p old new (i + 1)) (sym e.1) (spread_found g p old found new i a changed so (subst (FindsAlong p found new a) e.0 step))
+    subst (IsSpread g p old new (i + 1)) (sym e.1)
+    (spread_found g p old found new i a changed so (subst (FindsAlong p found new a) e.0 step))
 spread_more g p old found new i a changed some next is so step (inr e) =
-    subst (IsSpread g p old new (i + 1)) (sym e.1) (spread_stays g p old found new i a changed is so (subst (FindsAlong p found new a) e.0 step))
+    subst (IsSpread g p old new (i + 1)) (sym e.1)
+    (spread_stays g p old found new i a changed is so (subst (FindsAlong p found new a) e.0 step))
 
 -- a pass in some order, one arc more
 pub spread_on : (g : OneSidedGraph) (p : ℕ) (old found new : List Bool) (changed some next : Bool)
@@ -170,14 +188,19 @@ chain_push v w (x ∷ xs) a chain from = (chain.0, chain_push x.to w xs a chain.
 chain_walk : (g : OneSidedGraph) (p v w : ℕ) (xs : List Arc) → Chain v xs w → All (IsHigh g p) xs → IsWalk g p v xs w
 chain_walk g p v w [] chain every = chain
 chain_walk g p v w (x ∷ xs) chain every =
-    let h : IsHigh g p x = every 0 x (omega arith) in
-    (record { member = h.member; leaves = chain.0; high = h.high }, chain_walk g p x.to w xs chain.1 (λ k d low. every (suc k) d (omega arith)))
+    let h : IsHigh g p x = every 0 x (omega arith) in (
+      record { member = h.member; leaves = chain.0; high = h.high },
+      chain_walk g p x.to w xs chain.1 (λ k d low. every (suc k) d (omega arith)),
+    )
 
 -- a way along the steps of a search is a walk
-pub walk_of_way : (g : OneSidedGraph) (p v goal : ℕ) (steps xs : List Arc) → All (IsHigh g p) steps → IsWay steps v goal xs
+pub walk_of_way : (g : OneSidedGraph) (p v goal : ℕ) (steps xs : List Arc)
+    → All (IsHigh g p) steps
+    → IsWay steps v goal xs
     → IsWalk g p v xs goal
 walk_of_way g p v goal steps xs high way =
-    chain_walk g p v goal xs way.chain (λ k d low. All-contains (IsHigh g p) steps (get_or xs k d) high (way.among k d low))
+    chain_walk g p v goal xs way.chain (λ k d low.
+    All-contains (IsHigh g p) steps (get_or xs k d) high (way.among k d low))
 
 -- where nothing is to be found any more, each vertex with a walk to the goal is found
 pub found_by_walk : (g : OneSidedGraph) (p : ℕ) (found : List Bool) → All (FoundAlong p found) g.arcs → (v w : ℕ)
@@ -185,14 +208,16 @@ pub found_by_walk : (g : OneSidedGraph) (p : ℕ) (found : List Bool) → All (F
 found_by_walk g p found closed v w [] walk at = ap (flag_at found) walk ∙ at
 found_by_walk g p found closed v w (x ∷ xs) walk at =
     let next = found_by_walk g p found closed x.to w xs walk.1 at in
-    ap (flag_at found) (sym walk.0.leaves) ∙ All-contains (FoundAlong p found) g.arcs x closed walk.0.member walk.0.high next
+    ap (flag_at found) (sym walk.0.leaves)
+    ∙ All-contains (FoundAlong p found) g.arcs x closed walk.0.member walk.0.high next
 
 -- where nothing is to be found any more, a vertex that is not found has no walk to the goal
 pub none_by_search : (g : OneSidedGraph) (p goal : ℕ) (old new : List Bool) (steps : List Arc) (changed : Bool) (v : ℕ)
     → IsSearch g p goal new steps → IsSpread g p old new (length g.arcs) changed → changed ≡ false
     → flag_at new v ≡ false → (xs : List Arc) → IsWalk g p v xs goal → ⊥
 none_by_search g p goal old new steps changed v s spread rests missed xs walk =
-    let still : IsSpread g p old new (length g.arcs) false = subst (IsSpread g p old new (length g.arcs)) rests spread in
+    let still : IsSpread g p old new (length g.arcs) false =
+    subst (IsSpread g p old new (length g.arcs)) rests spread in
     false≢true (sym missed ∙ found_by_walk g p new (λ k d low. still.1 k d low) v goal xs walk s.begins)
 
 -- ---- cycles
@@ -209,7 +234,8 @@ cycle_push g p a xs even member level walk = record {
   lowest = p;
   even = even;
   begins = a.to;
-  leads_back = walk_join g p a.to a.from a.to xs (a ∷ []) walk (record { member = member; leaves = refl; high = omega arith }, refl);
+  leads_back = walk_join g p a.to a.from a.to xs (a ∷ []) walk
+      (record { member = member; leaves = refl; high = omega arith }, refl);
   met = count-last p xs a level;
 }
 

@@ -59,7 +59,11 @@ even_cycle_of g p a back even member level leads = record {
 
 -- settled numbers refuse such cycles
 pub settled_no_cycle : (g : OneSidedGraph) (f : ℕ → ℕ) (xs : List Arc) (c : IsEvenCycle g xs) → Settled g c.lowest f → ⊥
-settled_no_cycle g f xs c settled = omega (arith, walk_keeps g c.lowest f settled c.begins c.begins xs c.leads_back, c.met)
+settled_no_cycle g f xs c settled = omega (
+  arith,
+  walk_keeps g c.lowest f settled c.begins c.begins xs c.leads_back,
+  c.met,
+)
 
 -- ---- cutting a walk
 
@@ -70,11 +74,13 @@ codes code p (a ∷ xs) = cond (eqb a.priority p) (code a ∷ codes code p xs) (
 
 codes-one : (code : Arc → ℕ) (p : ℕ) (a : Arc) (xs : List Arc) → a.priority ≡ p
     → codes code p (a ∷ xs) ≡ code a ∷ codes code p xs
-codes-one code p a xs same = cond-true (eqb a.priority p) (code a ∷ codes code p xs) (codes code p xs) (eq-eqb a.priority p same)
+codes-one code p a xs same = cond-true (eqb a.priority p) (code a ∷ codes code p xs) (codes code p xs)
+    (eq-eqb a.priority p same)
 
 codes-none : (code : Arc → ℕ) (p : ℕ) (a : Arc) (xs : List Arc) → (a.priority ≡ p → ⊥)
     → codes code p (a ∷ xs) ≡ codes code p xs
-codes-none code p a xs other = cond-false (eqb a.priority p) (code a ∷ codes code p xs) (codes code p xs) (ne_eqb a.priority p other)
+codes-none code p a xs other = cond-false (eqb a.priority p) (code a ∷ codes code p xs) (codes code p xs)
+    (ne_eqb a.priority p other)
 
 -- there are as many as counted
 codes-length : (code : Arc → ℕ) (p : ℕ) (xs : List Arc) → length (codes code p xs) ≡ count_at p xs
@@ -104,7 +110,8 @@ cut_at : (g : OneSidedGraph) (code : Arc → ℕ) (p v w : ℕ) (xs : List Arc) 
     → i < length (codes code p xs) → CutAt g code p v w xs i
 cut_at g code p v w [] i walk low = absurd (omega arith)
 cut_at g code p v w (a ∷ xs) i walk low =
-    by_case (cases_eq a.priority p) i low (λ (k : ℕ) (below : k < length (codes code p xs)). cut_at g code p a.to w xs k walk.1 below)
+    by_case (cases_eq a.priority p) i low (λ (k : ℕ) (below : k < length (codes code p xs)). cut_at g code p a.to w xs k
+    walk.1 below)
   where
     step : (i : ℕ) → (e : codes code p (a ∷ xs) ≡ codes code p xs) → CutAt g code p a.to w xs i
         → CutAt g code p v w (a ∷ xs) i
@@ -134,7 +141,8 @@ cut_at g code p v w (a ∷ xs) i walk low =
       here = ap (λ (l : List ℕ). get_or l (suc i) 0) e ∙ c.here;
       later = λ j.
           let k : suc (suc i) + j ≡ suc (suc i + j) = omega arith in
-          ap (λ (l : List ℕ). get_or l (suc (suc i) + j) 0) e ∙ ap (λ (n : ℕ). get_or (code a ∷ codes code p xs) n 0) k ∙ c.later j;
+          ap (λ (l : List ℕ). get_or l (suc (suc i) + j) 0) e ∙ ap (λ (n : ℕ). get_or (code a ∷ codes code p xs) n 0) k
+          ∙ c.later j;
       fewer = omega (arith, ap length e, c.fewer);
     }
 
@@ -170,7 +178,8 @@ pub many_loop : (g : OneSidedGraph) (code : Arc → ℕ) (n p v w : ℕ) (xs : L
     → ((a b : Arc) → code a ≡ code b → a.from ≡ b.from)
     → IsWalk g p v xs w → n < count_at p xs → LoopAt g p
 many_loop g code n p v w xs low same walk many =
-    twice (pigeons_list n (codes code p xs) (omega (arith, many, codes-length code p xs)) (λ k below. fits k (cut_at g code p v w xs k walk below)))
+    twice (pigeons_list n (codes code p xs) (omega (arith, many, codes-length code p xs))
+    (λ k below. fits k (cut_at g code p v w xs k walk below)))
   where
     fits : (k : ℕ) → CutAt g code p v w xs k → get_or (codes code p xs) k 0 < n
     fits k c = omega (arith, c.here, low c.arc c.member c.level)
@@ -182,7 +191,8 @@ many_loop g code n p v w xs low same walk many =
       member = c.member;
       level = c.level;
       back = d.before;
-      leads = subst (λ (k : ℕ). IsWalk g p c.arc.to d.before k) (same d.arc c.arc (sym (sym c.here ∙ e ∙ c.later j ∙ d.here))) d.leads;
+      leads = subst (λ (k : ℕ). IsWalk g p c.arc.to d.before k)
+          (same d.arc c.arc (sym (sym c.here ∙ e ∙ c.later j ∙ d.here))) d.leads;
     }
 
     twice : TwiceInList (codes code p xs) → LoopAt g p

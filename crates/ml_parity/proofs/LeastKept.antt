@@ -48,7 +48,8 @@ pub least_kept : (b : Board) (live : ℕ → Bool) (over : ℕ → Player) (t : 
     → live t ≡ true → ((v : ℕ) → live v ≡ true → b.priority t ≤ b.priority v)
     → Solves b (live_without live t) (over_with over t (side (b.priority t))) win s
     → Holds b win (side (b.priority t)) w t → Solves b live over win (update s t w)
-least_kept b live over t win s w t_live least first held = record { ends = ends; keeps = λ v alive. keeps v alive (cases_eq v t); loops = loops }
+least_kept b live over t win s w t_live least first held =
+    record { ends = ends; keeps = λ v alive. keeps v alive (cases_eq v t); loops = loops }
   where
     won_t : win t ≡ side (b.priority t)
     won_t = first.ends t (update-same live t false t refl) ∙ update-same over t (side (b.priority t)) t refl
@@ -61,10 +62,12 @@ least_kept b live over t win s w t_live least first held = record { ends = ends;
     keeps : (v : ℕ) → live v ≡ true → (v ≡ t) ⊎ (v ≡ t → ⊥) → Holds b win (win v) (update s t w v) v
     keeps v alive (inl same) =
         let at_t : Holds b win (win t) (update s t w t) t =
-        subst (λ x. Holds b win (win t) x t) (sym (update-same s t w t refl)) (subst (λ p. Holds b win p w t) (sym won_t) held) in
+        subst (λ x. Holds b win (win t) x t) (sym (update-same s t w t refl))
+        (subst (λ p. Holds b win p w t) (sym won_t) held) in
         subst (λ u. Holds b win (win u) (update s t w u) u) (sym same) at_t
     keeps v alive (inr other) =
-        subst (λ x. Holds b win (win v) x v) (sym (update-other s t w v other)) (first.keeps v (update-other live t false v other ∙ alive))
+        subst (λ x. Holds b win (win v) x v) (sym (update-other s t w v other))
+        (first.keeps v (update-other live t false v other ∙ alive))
 
     loops : (p : Player) (c : ℕ → ℕ) (m : ℕ) → Loop b live win (update s t w) p c m → GoodFor b p c m
     loops p c m loop = by_case (search (λ k. c k ≡ t) (λ k. c k ≡ t → ⊥) (λ k. cases_eq (c k) t) m)

@@ -39,13 +39,15 @@ joined t w win j s s2 = update (λ v. cond (same_player (win v) j) (s v) (s2 v))
 joined-won : (t w : ℕ) (win : ℕ → Player) (j : Player) (s s2 : ℕ → ℕ) (v : ℕ) → (v ≡ t → ⊥) → win v ≡ j
     → joined t w win j s s2 v ≡ s v
 joined-won t w win j s s2 v other won =
-    update-other (λ u. cond (same_player (win u) j) (s u) (s2 u)) t w v other ∙ cond-true (same_player (win v) j) (s v) (s2 v) (same_player-true (win v) j won)
+    update-other (λ u. cond (same_player (win u) j) (s u) (s2 u)) t w v other
+    ∙ cond-true (same_player (win v) j) (s v) (s2 v) (same_player-true (win v) j won)
 
 -- the choice where j did not win, away from t
 joined-lost : (t w : ℕ) (win : ℕ → Player) (j : Player) (s s2 : ℕ → ℕ) (v : ℕ) → (v ≡ t → ⊥) → (win v ≡ j → ⊥)
     → joined t w win j s s2 v ≡ s2 v
 joined-lost t w win j s s2 v other lost =
-    update-other (λ u. cond (same_player (win u) j) (s u) (s2 u)) t w v other ∙ cond-false (same_player (win v) j) (s v) (s2 v) (same_player-false (win v) j lost)
+    update-other (λ u. cond (same_player (win u) j) (s u) (s2 u)) t w v other
+    ∙ cond-false (same_player (win v) j) (s v) (s2 v) (same_player-false (win v) j lost)
 
 -- the choice at t
 joined-least : (t w : ℕ) (win : ℕ → Player) (j : Player) (s s2 : ℕ → ℕ) → joined t w win j s s2 t ≡ w
@@ -54,17 +56,20 @@ joined-least t w win j s s2 = update-same (λ u. cond (same_player (win u) j) (s
 -- a vertex that j won is frozen
 pub live_frozen-won : (live : ℕ → Bool) (t : ℕ) (win : ℕ → Player) (j : Player) (v : ℕ) → win v ≡ j
     → live_frozen live t win j v ≡ false
-live_frozen-won live t win j v won = cond-true (same_player (win v) j) false (live_without live t v) (same_player-true (win v) j won)
+live_frozen-won live t win j v won =
+    cond-true (same_player (win v) j) false (live_without live t v) (same_player-true (win v) j won)
 
 -- any other is as live as in the first game
 pub live_frozen-lost : (live : ℕ → Bool) (t : ℕ) (win : ℕ → Player) (j : Player) (v : ℕ) → (win v ≡ j → ⊥)
     → live_frozen live t win j v ≡ live_without live t v
-live_frozen-lost live t win j v lost = cond-false (same_player (win v) j) false (live_without live t v) (same_player-false (win v) j lost)
+live_frozen-lost live t win j v lost =
+    cond-false (same_player (win v) j) false (live_without live t v) (same_player-false (win v) j lost)
 
 -- a vertex that is not live in the first game is not live in the second
 pub live_frozen-dead : (live : ℕ → Bool) (t : ℕ) (win : ℕ → Player) (j : Player) (v : ℕ)
     → live_without live t v ≡ false → live_frozen live t win j v ≡ false
-live_frozen-dead live t win j v dead = cond_both (same_player (win v) j) false (live_without live t v) (λ x. x ≡ false) (λ e. refl) (λ e. dead)
+live_frozen-dead live t win j v dead =
+    cond_both (same_player (win v) j) false (live_without live t v) (λ x. x ≡ false) (λ e. refl) (λ e. dead)
 
 -- what is held by one map is held by another that gives the player no less
 holds_more : (b : Board) (win win2 : ℕ → Player) (p : Player) (w v : ℕ) → ((x : ℕ) → win x ≡ p → win2 x ≡ p)
@@ -84,11 +89,13 @@ held_step b win p w v x held move chosen = by_case (cases_player (b.owner v) p)
     by_case (inr other) = held.other other x move
 
 -- where j, the opponent of i, holds a move from t, both solutions together serve with t live
-module _ (b : Board) (live : ℕ → Bool) (over : ℕ → Player) (t : ℕ) (win : ℕ → Player) (s : ℕ → ℕ) (w : ℕ) (win2 : ℕ → Player) (s2 : ℕ → ℕ)
+module _ (b : Board) (live : ℕ → Bool) (over : ℕ → Player) (t : ℕ) (win : ℕ → Player) (s : ℕ → ℕ) (w : ℕ)
+    (win2 : ℕ → Player) (s2 : ℕ → ℕ)
     (t_live : live t ≡ true)
     (first : Solves b (live_without live t) (over_with over t (side (b.priority t))) win s)
     (held : Holds b win (opponent (side (b.priority t))) w t)
-    (second : Solves b (live_frozen live t win (opponent (side (b.priority t)))) (over_frozen t win (opponent (side (b.priority t)))) win2 s2) where
+    (second : Solves b (live_frozen live t win (opponent (side (b.priority t))))
+    (over_frozen t win (opponent (side (b.priority t)))) win2 s2) where
   -- for whom the priority of t is good, and the opponent
   abbrev i : Player
   i = side (b.priority t)
@@ -109,7 +116,8 @@ module _ (b : Board) (live : ℕ → Bool) (over : ℕ → Player) (t : ℕ) (wi
 
   -- j wins t now
   decided_t : win2 t ≡ j
-  decided_t = second.ends t (live_frozen-dead live t win j t (update-same live t false t refl)) ∙ update-same win t j t refl
+  decided_t = second.ends t (live_frozen-dead live t win j t (update-same live t false t refl))
+      ∙ update-same win t j t refl
 
   -- what j won, j still wins
   decided : (v : ℕ) → win v ≡ j → win2 v ≡ j
@@ -155,14 +163,18 @@ module _ (b : Board) (live : ℕ → Bool) (over : ℕ → Player) (t : ℕ) (wi
       let for_j : Holds b win2 j (choice v) v = holds_more b win win2 j (choice v) v decided (firm v alive is_firm) in
       subst (λ p. Holds b win2 p (choice v) v) (sym (decided_firm v is_firm)) for_j
   keeps v alive (inr out) =
-      let alive2 : live_frozen live t win j v ≡ true = live_frozen-lost live t win j v out.1 ∙ update-other live t false v out.0 ∙ alive in
+      let alive2 : live_frozen live t win j v ≡ true = live_frozen-lost live t win j v out.1
+      ∙ update-other live t false v out.0 ∙ alive in
       subst (λ x. Holds b win2 (win2 v) x v) (sym (joined-lost t w win j s s2 v out.0 out.1)) (second.keeps v alive2)
 
   -- a step of j's from a firm vertex leads to what j won
   down : (p : Player) (v x : ℕ) → Step b live win2 choice p v x → (v ≡ t) ⊎ (win v ≡ j) → (p ≡ j) × (win x ≡ j)
   down p v x step is_firm =
-      let same : p ≡ j = sym step.mine ∙ decided_firm v is_firm in
-      (same, held_step b win j (choice v) v x (firm v step.alive is_firm) step.move (λ own. step.chosen (own ∙ sym same)))
+      let same : p ≡ j = sym step.mine ∙ decided_firm v is_firm in (
+        same,
+        held_step b win j (choice v) v x (firm v step.alive is_firm) step.move
+            (λ own. step.chosen (own ∙ sym same)),
+      )
 
   -- a loop with a firm vertex lies where j won, and is a loop of the first solution
   firm_loop : (p : Player) (c : ℕ → ℕ) (m : ℕ) → Loop b live win2 choice p c m
@@ -170,7 +182,8 @@ module _ (b : Board) (live : ℕ → Bool) (over : ℕ → Player) (t : ℕ) (wi
   firm_loop p c m loop f =
       let here = down p (c f.place) (c (f.place + 1)) (loop.steps f.place f.below) f.holds in
       let won : (k : ℕ) → k ≤ m → win (c k) ≡ j =
-      around c (λ v. win v ≡ j) m loop.closed (λ k low h. (down p (c k) (c (k + 1)) (loop.steps k low) (inr h)).1) (f.place + 1) (omega (arith, f.below)) here.1 in
+      around c (λ v. win v ≡ j) m loop.closed (λ k low h. (down p (c k) (c (k + 1)) (loop.steps k low) (inr h)).1)
+      (f.place + 1) (omega (arith, f.below)) here.1 in
       first.loops p c m (record {
         long = loop.long;
         closed = loop.closed;
@@ -178,7 +191,8 @@ module _ (b : Board) (live : ℕ → Bool) (over : ℕ → Player) (t : ℕ) (wi
           alive = update-other live t false (c k) (not_t (c k) (won k (omega arith))) ∙ (loop.steps k low).alive;
           mine = won k (omega arith) ∙ sym here.0;
           move = (loop.steps k low).move;
-          chosen = λ own. (loop.steps k low).chosen own ∙ joined-won t w win j s s2 (c k) (not_t (c k) (won k (omega arith))) (won k (omega arith));
+          chosen = λ own. (loop.steps k low).chosen own
+              ∙ joined-won t w win j s s2 (c k) (not_t (c k) (won k (omega arith))) (won k (omega arith));
         };
       })
 
@@ -189,7 +203,8 @@ module _ (b : Board) (live : ℕ → Bool) (over : ℕ → Player) (t : ℕ) (wi
     long = loop.long;
     closed = loop.closed;
     steps = λ k low. record {
-      alive = live_frozen-lost live t win j (c k) (out k low).1 ∙ update-other live t false (c k) (out k low).0 ∙ (loop.steps k low).alive;
+      alive = live_frozen-lost live t win j (c k) (out k low).1 ∙ update-other live t false (c k) (out k low).0
+          ∙ (loop.steps k low).alive;
       mine = (loop.steps k low).mine;
       move = (loop.steps k low).move;
       chosen = λ own. (loop.steps k low).chosen own ∙ joined-lost t w win j s s2 (c k) (out k low).0 (out k low).1;
@@ -200,5 +215,7 @@ module _ (b : Board) (live : ℕ → Bool) (over : ℕ → Player) (t : ℕ) (wi
   least_lost = record {
     ends = ends;
     keeps = λ v alive. keeps v alive (firm_or_not v);
-    loops = λ p c m loop. ⊎_elim (firm_loop p c m loop) (other_loop p c m loop) (search (λ k. (c k ≡ t) ⊎ (win (c k) ≡ j)) (λ k. (c k ≡ t → ⊥) × (win (c k) ≡ j → ⊥)) (λ k. firm_or_not (c k)) m);
+    loops = λ p c m loop. ⊎_elim (firm_loop p c m loop) (other_loop p c m loop)
+        (search (λ k. (c k ≡ t) ⊎ (win (c k) ≡ j)) (λ k. (c k ≡ t → ⊥) × (win (c k) ≡ j → ⊥)) (λ k. firm_or_not (c k))
+        m);
   }

@@ -33,14 +33,16 @@ pub record MemoryStrategy (A : Type 0) : Type 0 where
   pub update : ℕ → A → ℕ → A
 
 -- step k of the sequences of vertices and memories is one of that way to play
-pub record MemoryStep (g : ParityGame) (p : Player) (A : Type 0) (way : MemoryStrategy A) (c : ℕ → ℕ) (memory : ℕ → A) (k : ℕ) : Type 0 where
+pub record MemoryStep (g : ParityGame) (p : Player) (A : Type 0) (way : MemoryStrategy A) (c : ℕ → ℕ) (memory : ℕ → A)
+    (k : ℕ) : Type 0 where
   pub move : HasMove g (c k) (c (k + 1))
   pub chosen : owner_of g (c k) ≡ p → c (k + 1) ≡ way.move (c k) (memory k)
   pub remembers : memory (k + 1) ≡ way.update (c k) (memory k) (c (k + 1))
 
 -- where the invariant holds of a vertex and a memory: the move is a move, the invariant is kept by each move that
 -- respects it, and codes below the bound tell the memories apart
-pub record IsMemoryStrategyOf (g : ParityGame) (p : Player) (A : Type 0) (way : MemoryStrategy A) (Inv : ℕ → A → Type 0) (code : A → ℕ) (bound : ℕ) : Type 0 where
+pub record IsMemoryStrategyOf (g : ParityGame) (p : Player) (A : Type 0) (way : MemoryStrategy A) (Inv : ℕ → A → Type 0)
+    (code : A → ℕ) (bound : ℕ) : Type 0 where
   pub is_move : (x : ℕ) (m : A) → x < size g → Inv x m → owner_of g x ≡ p → HasMove g x (way.move x m)
   pub kept : (x : ℕ) (m : A) (y : ℕ) → x < size g → Inv x m → HasMove g x y → (owner_of g x ≡ p → y ≡ way.move x m)
       → Inv y (way.update x m y)
@@ -56,17 +58,21 @@ WinsWithMemory g p A way Inv v m0 =
     → c i ≡ c j → memory i ≡ memory j → winner g (lasso_of c i j) ≡ p
 
 -- a way to play with memory that wins from v gives a positional strategy that wins from v
-module _ (g : ParityGame) (ok : IsGame g) (p : Player) (A : Type 0) (way : MemoryStrategy A) (Inv : ℕ → A → Type 0) (code : A → ℕ) (bound : ℕ)
-    (is_way : IsMemoryStrategyOf g p A way Inv code bound) (v : ℕ) (m0 : A) (v_low : v < size g) (first : Inv v m0) (good : WinsWithMemory g p A way Inv v m0) where
+module _ (g : ParityGame) (ok : IsGame g) (p : Player) (A : Type 0) (way : MemoryStrategy A) (Inv : ℕ → A → Type 0)
+    (code : A → ℕ) (bound : ℕ)
+    (is_way : IsMemoryStrategyOf g p A way Inv code bound) (v : ℕ) (m0 : A) (v_low : v < size g) (first : Inv v m0)
+    (good : WinsWithMemory g p A way Inv v m0) where
   -- the move from a vertex with a memory, where the opponent plays t
   abbrev target : (ℕ → ℕ) → ℕ × A → ℕ
   target t q = cond (same_player (owner_of g q.0) p) (way.move q.0 q.1) (t q.0)
 
   target-own : (t : ℕ → ℕ) (q : ℕ × A) → owner_of g q.0 ≡ p → target t q ≡ way.move q.0 q.1
-  target-own t q own = cond-true (same_player (owner_of g q.0) p) (way.move q.0 q.1) (t q.0) (same_player-true (owner_of g q.0) p own)
+  target-own t q own = cond-true (same_player (owner_of g q.0) p) (way.move q.0 q.1) (t q.0)
+      (same_player-true (owner_of g q.0) p own)
 
   target-other : (t : ℕ → ℕ) (q : ℕ × A) → owner_of g q.0 ≡ opponent p → target t q ≡ t q.0
-  target-other t q own = cond-false (same_player (owner_of g q.0) p) (way.move q.0 q.1) (t q.0) (same_player-false (owner_of g q.0) p (λ o. no_own_opponent p (sym o ∙ own)))
+  target-other t q own = cond-false (same_player (owner_of g q.0) p) (way.move q.0 q.1) (t q.0)
+      (same_player-false (owner_of g q.0) p (λ o. no_own_opponent p (sym o ∙ own)))
 
   abbrev next : (ℕ → ℕ) → ℕ × A → ℕ × A
   next t q = (target t q, way.update q.0 q.1 (target t q))
@@ -87,8 +93,10 @@ module _ (g : ParityGame) (ok : IsGame g) (p : Player) (A : Type 0) (way : Memor
   module _ (t : ℕ → ℕ) (t_moves : (x : ℕ) → x < size g → owner_of g x ≡ opponent p → HasMove g x (t x)) where
     move : (q : ℕ × A) → Fine q → HasMove g q.0 (target t q)
     move q f = ⊎_elim
-        (λ (own : owner_of g q.0 ≡ p). subst (HasMove g q.0) (sym (target-own t q own)) (is_way.is_move q.0 q.1 f.low f.inv own))
-        (λ (own : owner_of g q.0 ≡ opponent p). subst (HasMove g q.0) (sym (target-other t q own)) (t_moves q.0 f.low own))
+        (λ (own : owner_of g q.0 ≡ p). subst (HasMove g q.0) (sym (target-own t q own))
+        (is_way.is_move q.0 q.1 f.low f.inv own))
+        (λ (own : owner_of g q.0 ≡ opponent p).
+        subst (HasMove g q.0) (sym (target-other t q own)) (t_moves q.0 f.low own))
         (cases_player (owner_of g q.0) p)
 
     fine : (q : ℕ × A) → Fine q → Fine (next t q)
@@ -102,7 +110,8 @@ module _ (g : ParityGame) (ok : IsGame g) (p : Player) (A : Type 0) (way : Memor
 
     -- the walk comes back to a pair, so it makes a lasso that follows both
     clash : ((l : Lasso) → IsPlay g l → entry l 0 ≡ v → Follows g (opponent p) t l → winner g l ≡ opponent p) → ⊥
-    clash wins = from (pigeons (bound * size g) (λ k. code_of (walk (next t) (v, m0) k)) (λ k low. code_low (walk (next t) (v, m0) k) (along k)))
+    clash wins = from (pigeons (bound * size g) (λ k. code_of (walk (next t) (v, m0) k))
+        (λ k low. code_low (walk (next t) (v, m0) k) (along k)))
       where
         from : Twice (λ k. code_of (walk (next t) (v, m0) k)) (bound * size g) → ⊥
         from r =
@@ -110,33 +119,46 @@ module _ (g : ParityGame) (ok : IsGame g) (p : Player) (A : Type 0) (way : Memor
             let memory : ℕ → A = λ k. (walk (next t) (v, m0) k).1 in
             let i : ℕ = r.first in
             let j : ℕ = r.second in
-            let parts = same_from_place (c i) (code (memory i)) (c j) (code (memory j)) bound (is_way.bounded (c i) (memory i) (along i).inv) (is_way.bounded (c j) (memory j) (along j).inv) r.same in
-            let same_memory : memory i ≡ memory j = is_way.apart (c i) (c j) (memory i) (memory j) (along i).inv (along j).inv parts.1 in
-            let after : (k : ℕ) → walk (next t) (v, m0) (k + 1) ≡ next t (walk (next t) (v, m0) k) = λ k. walk-add-one (next t) (v, m0) k in
-            let c_after : (k : ℕ) → c (k + 1) ≡ target t (walk (next t) (v, m0) k) = λ k. ap (λ (q : ℕ × A). q.0) (after k) in
-            let c_move : (k : ℕ) → HasMove g (c k) (c (k + 1)) = λ k. subst (HasMove g (c k)) (sym (c_after k)) (move (walk (next t) (v, m0) k) (along k)) in
+            let parts = same_from_place (c i) (code (memory i)) (c j) (code (memory j)) bound
+            (is_way.bounded (c i) (memory i) (along i).inv) (is_way.bounded (c j) (memory j) (along j).inv)
+            r.same in
+            let same_memory : memory i ≡ memory j =
+            is_way.apart (c i) (c j) (memory i) (memory j) (along i).inv (along j).inv parts.1 in
+            let after : (k : ℕ) → walk (next t) (v, m0) (k + 1) ≡ next t (walk (next t) (v, m0) k) =
+            λ k. walk-add-one (next t) (v, m0) k in
+            let c_after : (k : ℕ) → c (k + 1) ≡ target t (walk (next t) (v, m0) k) =
+            λ k. ap (λ (q : ℕ × A). q.0) (after k) in
+            let c_move : (k : ℕ) → HasMove g (c k) (c (k + 1)) =
+            λ k. subst (HasMove g (c k)) (sym (c_after k)) (move (walk (next t) (v, m0) k) (along k)) in
             let step : (k : ℕ) → MemoryStep g p A way c memory k = λ k. record {
               move = c_move k;
               chosen = λ own. c_after k ∙ target-own t (walk (next t) (v, m0) k) own;
               remembers = ap (λ (q : ℕ × A). q.1) (after k) ∙ ap (way.update (c k) (memory k)) (sym (c_after k));
             } in
-            let for_p : winner g (lasso_of c i j) ≡ p = good c memory i j r.apart refl refl (λ k low. step k) (λ k low. (along k).inv) parts.0 same_memory in
+            let for_p : winner g (lasso_of c i j) ≡ p =
+            good c memory i j r.apart refl refl (λ k low. step k) (λ k low. (along k).inv) parts.0 same_memory in
             let play : IsPlay g (lasso_of c i j) = lasso_of_is (HasMove g) c i j r.apart parts.0 (λ k low. c_move k) in
             let begins : entry (lasso_of c i j) 0 ≡ v = lasso_of-entry c i j 0 (omega (arith, r.apart)) in
-            let for_other : winner g (lasso_of c i j) ≡ opponent p = wins (lasso_of c i j) play begins (λ k low. follow c i j r.apart parts.0 c_after k (omega (arith, lasso_of-length c i j, low))) in
+            let for_other : winner g (lasso_of c i j) ≡ opponent p =
+            wins (lasso_of c i j) play begins (λ k low.
+            follow c i j r.apart parts.0 c_after k (omega (arith, lasso_of-length c i j, low))) in
             no_own_opponent p (sym for_p ∙ for_other)
           where
             follow : (c : ℕ → ℕ) (i j : ℕ) → i < j → c i ≡ c j
-                → ((k : ℕ) → c (k + 1) ≡ cond (same_player (owner_of g (c k)) p) (way.move (c k) (walk (next t) (v, m0) k).1) (t (c k)))
+                → ((k : ℕ) → c (k + 1) ≡ cond (same_player (owner_of g (c k)) p)
+                (way.move (c k) (walk (next t) (v, m0) k).1) (t (c k)))
                 → (k : ℕ) → k < j → owner_of g (get_or (round (lasso_of c i j)) k 0) ≡ opponent p
                 → get_or (round (lasso_of c i j)) (k + 1) 0 ≡ t (get_or (round (lasso_of c i j)) k 0)
             follow c i j apart same after k low own =
-                let here : get_or (round (lasso_of c i j)) k 0 ≡ c k = lasso_of-round c i j k apart same (omega arith) in
-                let there : get_or (round (lasso_of c i j)) (k + 1) 0 ≡ c (k + 1) = lasso_of-round c i j (k + 1) apart same (omega arith) in
+                let here : get_or (round (lasso_of c i j)) k 0 ≡ c k =
+                lasso_of-round c i j k apart same (omega arith) in
+                let there : get_or (round (lasso_of c i j)) (k + 1) 0 ≡ c (k + 1) =
+                lasso_of-round c i j (k + 1) apart same (omega arith) in
                 let is_other : owner_of g (c k) ≡ opponent p = ap (owner_of g) (sym here) ∙ own in
                 there
                 ∙ after k
-                ∙ cond-false (same_player (owner_of g (c k)) p) (way.move (c k) (walk (next t) (v, m0) k).1) (t (c k)) (same_player-false (owner_of g (c k)) p (λ o. no_own_opponent p (sym o ∙ is_other)))
+                ∙ cond-false (same_player (owner_of g (c k)) p) (way.move (c k) (walk (next t) (v, m0) k).1) (t (c k))
+                (same_player-false (owner_of g (c k)) p (λ o. no_own_opponent p (sym o ∙ is_other)))
                 ∙ ap t (sym here)
 
   pub memory_wins : Wins g p v

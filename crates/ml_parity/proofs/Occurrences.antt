@@ -16,12 +16,14 @@ use Rattle.ml_parity.specs.private.SolverSteps.{times}
 
 -- one entry more, which passes
 pub counts-true : (p : ℕ → Bool) (x : ℕ) (xs : List ℕ) → p x ≡ true → count_by p (x ∷ xs) ≡ 1 + count_by p xs
-counts-true p x xs passes = sum_by-cons (λ y. cond (p y) 1 0) x xs ∙ ap (λ n. n + count_by p xs) (cond-true (p x) 1 0 passes)
+counts-true p x xs passes = sum_by-cons (λ y. cond (p y) 1 0) x xs
+    ∙ ap (λ n. n + count_by p xs) (cond-true (p x) 1 0 passes)
 
 -- one entry more, which fails
 pub counts-false : (p : ℕ → Bool) (x : ℕ) (xs : List ℕ) → p x ≡ false → count_by p (x ∷ xs) ≡ count_by p xs
 counts-false p x xs fails =
-    sum_by-cons (λ y. cond (p y) 1 0) x xs ∙ ap (λ n. n + count_by p xs) (cond-false (p x) 1 0 fails) ∙ zero-add (count_by p xs)
+    sum_by-cons (λ y. cond (p y) 1 0) x xs ∙ ap (λ n. n + count_by p xs) (cond-false (p x) 1 0 fails)
+    ∙ zero-add (count_by p xs)
 
 -- the number itself
 pub times_here : (v x : ℕ) (xs : List ℕ) → x ≡ v → times v (x ∷ xs) ≡ 1 + times v xs
@@ -33,7 +35,8 @@ times_other v x xs other = counts-false (λ y. nat_eq y v) x xs (ne_eqb x v othe
 
 -- no more than with one entry more
 pub counts_more : (p : ℕ → Bool) (x : ℕ) (xs : List ℕ) → count_by p xs ≤ count_by p (x ∷ xs)
-counts_more p x xs = ⊎_elim (λ (t : p x ≡ true). omega (arith, counts-true p x xs t)) (λ (f : p x ≡ false). omega (arith, counts-false p x xs f)) (cases_Bool (p x))
+counts_more p x xs = ⊎_elim (λ (t : p x ≡ true). omega (arith, counts-true p x xs t))
+    (λ (f : p x ≡ false). omega (arith, counts-false p x xs f)) (cases_Bool (p x))
 
 -- where an entry passes, the count is positive
 pub entry_counts : (p : ℕ → Bool) (xs : List ℕ) (k : ℕ) → k < length xs → p (get_or xs k 0) ≡ true → 0 < count_by p xs
@@ -62,7 +65,8 @@ contains_counts p xs x member passes =
 pub before_next : (place : ℕ → ℕ) (a w : ℕ) → place w ≡ a → ((x : ℕ) → place x ≡ a → x ≡ w) → (xs : List ℕ)
     → count_by (part place (a + 1)) xs ≡ count_by (part place a) xs + times w xs
 before_next place a w here one [] = refl
-before_next place a w here one (x ∷ xs) = by_place (cases_lt (place x) a) (cases_eq (place x) a) (before_next place a w here one xs)
+before_next place a w here one (x ∷ xs) =
+    by_place (cases_lt (place x) a) (cases_eq (place x) a) (before_next place a w here one xs)
   where
     by_place : (place x < a) ⊎ (a ≤ place x) → (place x ≡ a) ⊎ (place x ≡ a → ⊥)
         → count_by (part place (a + 1)) xs ≡ count_by (part place a) xs + times w xs
@@ -78,14 +82,17 @@ before_next place a w here one (x ∷ xs) = by_place (cases_lt (place x) a) (cas
         let at = times_other w x xs (λ same. other (ap place same ∙ here)) in
         omega arith
     by_place (inr late) (inr other) rest =
-        let later : a + 1 ≤ place x = ⊎_elim (λ (h : a < place x). omega arith) (λ (h : place x ≤ a). absurd (other (omega arith))) (cases_lt a (place x)) in
+        let later : a + 1 ≤ place x = ⊎_elim (λ (h : a < place x). omega arith)
+        (λ (h : place x ≤ a). absurd (other (omega arith))) (cases_lt a (place x)) in
         let all = counts-false (part place (a + 1)) x xs (le-ltb (place x) (a + 1) later) in
         let front = counts-false (part place a) x xs (le-ltb (place x) a late) in
         let at = times_other w x xs (λ same. other (ap place same ∙ here)) in
         omega arith
 
 -- two rows with one part
-pub same_part : (place place2 : ℕ → ℕ) (a : ℕ) → ((v : ℕ) → place v < a → place2 v < a) → ((v : ℕ) → a ≤ place v → a ≤ place2 v)
+pub same_part : (place place2 : ℕ → ℕ) (a : ℕ)
+    → ((v : ℕ) → place v < a → place2 v < a)
+    → ((v : ℕ) → a ≤ place v → a ≤ place2 v)
     → part place2 a ≡ part place a
 same_part place place2 a inside outside = fun_ext (λ v. by_place v (cases_lt (place v) a))
   where

@@ -35,7 +35,11 @@ own_vertex_won g ok p v low own = (there, back)
     there : Wins g p v → WinningMove g p v
     there a =
         let good = (kept_by g w p v low (w.only v p low a)).own own in
-        record { to = w.choice v; move = good.move; wins = won g w p (w.choice v) (ok.in_range v (w.choice v) good.move) good.wins }
+        record {
+          to = w.choice v;
+          move = good.move;
+          wins = won g w p (w.choice v) (ok.in_range v (w.choice v) good.move) good.wins;
+        }
 
     back : WinningMove g p v → Wins g p v
     back m = by_case (cases_player (w.win v) p)
@@ -64,4 +68,5 @@ other_vertex_won g ok p v low own = (there, back)
         by_case (inl mine) = won g w p v low mine
         by_case (inr lost) =
             let good = (kept_by g w (opponent p) v low lost).own own in
-            absurd (not_both (w.win (w.choice v)) p (w.only (w.choice v) p (ok.in_range v (w.choice v) good.move) (every (w.choice v) good.move)) good.wins)
+            absurd (not_both (w.win (w.choice v)) p (w.only (w.choice v) p (ok.in_range v (w.choice v) good.move)
+            (every (w.choice v) good.move)) good.wins)

@@ -35,7 +35,8 @@ not_both p q same other = no_own_opponent q (sym same ∙ other)
 -- two players are equal, or they are not
 pub is_or_not : (p q : Player) → (p ≡ q) ⊎ (p ≡ q → ⊥)
 is_or_not p q =
-    ⊎_elim (λ (same : p ≡ q). inl same) (λ (other : p ≡ opponent q). inr (λ same. not_both p q same other)) (cases_player p q)
+    ⊎_elim (λ (same : p ≡ q). inl same) (λ (other : p ≡ opponent q). inr (λ same. not_both p q same other))
+    (cases_player p q)
 
 -- the test of equality of two players
 abbrev pub same_player : Player → Player → Bool
@@ -67,4 +68,5 @@ same_player-from_true Odd Odd h = refl
 
 -- who is not a player is the opponent of that player
 pub other_player : (p q : Player) → (p ≡ q → ⊥) → p ≡ opponent q
-other_player p q different = ⊎_elim (λ (same : p ≡ q). absurd (different same)) (λ (other : p ≡ opponent q). other) (cases_player p q)
+other_player p q different = ⊎_elim (λ (same : p ≡ q). absurd (different same)) (λ (other : p ≡ opponent q). other)
+    (cases_player p q)

@@ -21,7 +21,8 @@ lists_of-at xs v m low is = get_or-map (λ (x : Vec ℕ). x.items) xs v m [] low
 -- a vertex whose vector is not empty is no dead end
 pub not_dead : (xs : List (Vec ℕ)) (v : ℕ) (m : Vec ℕ) (entries : List ℕ) (t : Bool) → v < length xs
     → m ≡ get_or xs v m → entries ≡ m.items → (entries ≡ [] → t ≡ true) → t ≡ false → IsDeadEnd (lists_of xs) v → ⊥
-not_dead xs v m entries t low is same test fails dead = false≢true (sym fails ∙ test (same ∙ sym (lists_of-at xs v m low is) ∙ dead))
+not_dead xs v m entries t low is same test fails dead =
+    false≢true (sym fails ∙ test (same ∙ sym (lists_of-at xs v m low is) ∙ dead))
 
 -- a vertex leaves the range if the vector there has an entry out of range
 pub leaves-from : (xs : List (Vec ℕ)) (v n : ℕ) (m : Vec ℕ) (entries : List ℕ) → v < length xs → m ≡ get_or xs v m
@@ -42,7 +43,8 @@ module _ (owner : Vec Player) (priority : Vec ℕ) (successors : Vec (Vec ℕ)) 
   is_game priorities lists none_dead none_leaves = record {
     priorities = sym priority.ok.0 ∙ priorities ∙ owner.ok.0;
     lists = lengths;
-    goes_on = λ v low. goes_on v (omega (arith, owner.ok.0)) (cases_lt 0 (length (get_or (lists_of successors.items) v [])));
+    goes_on = λ v low. goes_on v (omega (arith, owner.ok.0))
+        (cases_lt 0 (length (get_or (lists_of successors.items) v [])));
     in_range = λ v w move. in_range v w move (cases_lt v (vec_len owner)) (cases_lt w (vec_len owner));
   }
     where
@@ -53,7 +55,8 @@ module _ (owner : Vec Player) (priority : Vec ℕ) (successors : Vec (Vec ℕ)) 
           (length (get_or (lists_of successors.items) v []) ≤ 0)
           → 0 < length (get_or (lists_of successors.items) v [])
       goes_on v low (inl some) = some
-      goes_on v low (inr none) = absurd (none_dead v low (nil_from_length (get_or (lists_of successors.items) v []) (omega arith)))
+      goes_on v low (inr none) =
+          absurd (none_dead v low (nil_from_length (get_or (lists_of successors.items) v []) (omega arith)))
 
       in_range : (v w : ℕ) → HasMove (game_of owner priority successors) v w
           → (v < vec_len owner) ⊎ (vec_len owner ≤ v) → (w < vec_len owner) ⊎ (vec_len owner ≤ w)
@@ -61,7 +64,8 @@ module _ (owner : Vec Player) (priority : Vec ℕ) (successors : Vec (Vec ℕ)) 
       in_range v w move a (inl low) = omega (arith, owner.ok.0)
       in_range v w move (inl a) (inr high) = absurd (none_leaves v a (w, move, high))
       in_range v w move (inr past) (inr high) =
-          let nothing : get_or (lists_of successors.items) v [] ≡ [] = get_or_past (lists_of successors.items) v [] (omega (arith, lengths, owner.ok.0)) in
+          let nothing : get_or (lists_of successors.items) v [] ≡ [] =
+          get_or_past (lists_of successors.items) v [] (omega (arith, lengths, owner.ok.0)) in
           absurd (omega (arith, move.1, ap length nothing))
 
   -- they are none if some vertex leaves the range

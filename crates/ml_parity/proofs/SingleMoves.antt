@@ -61,11 +61,14 @@ single_move g ok p v w low one = ⊎_elim own other (cases_player (owner_of g v)
 sink_lowest : (g : ParityGame) (v : ℕ) → moves_of g v ≡ v ∷ [] → (l : Lasso) → IsPlay g l → entry l 0 ≡ v
     → winner g l ≡ side (priority_of g v)
 sink_lowest g v one l play begins =
-    ap side (lowest_on_loop_is (priority_of g) l l.start (omega arith) play.starts (λ j later low. omega (arith, ap (priority_of g) (there l.start play.starts), ap (priority_of g) (there j low))) ∙ ap (priority_of g) (there l.start play.starts))
+    ap side (lowest_on_loop_is (priority_of g) l l.start (omega arith) play.starts
+    (λ j later low. omega (arith, ap (priority_of g) (there l.start play.starts), ap (priority_of g) (there j low)))
+    ∙ ap (priority_of g) (there l.start play.starts))
   where
     stays : (k : ℕ) → k ≤ length l.entries → get_or (round l) k 0 ≡ v
     stays = lasso_keeps l (λ x. x ≡ v)
-        (λ k low here. only_move g v v (get_or (round l) (k + 1) 0) one (subst (λ x. HasMove g x (get_or (round l) (k + 1) 0)) here (play.joined k low)))
+        (λ k low here. only_move g v v (get_or (round l) (k + 1) 0) one
+        (subst (λ x. HasMove g x (get_or (round l) (k + 1) 0)) here (play.joined k low)))
         (round-entry l 0 (omega (arith, play.starts)) ∙ begins)
 
     there : (k : ℕ) → k < length l.entries → entry l k ≡ v
@@ -92,7 +95,9 @@ sink_won g ok p v low one = (there, λ e. subst (λ q. Wins g q v) (sym e) (sink
     there : Wins g p v → p ≡ side (priority_of g v)
     there a = ⊎_elim
         (λ (same : p ≡ side (priority_of g v)). same)
-        (λ (other : p ≡ opponent (side (priority_of g v))). absurd (clash g ok (side (priority_of g v)) v low (sink_winner g ok v low one) (subst (λ q. Wins g q v) other a)))
+        (λ (other : p ≡ opponent (side (priority_of g v))).
+        absurd (clash g ok (side (priority_of g v)) v low (sink_winner g ok v low one)
+        (subst (λ q. Wins g q v) other a)))
         (cases_player p (side (priority_of g v)))
 
 -- ---- forcing
@@ -108,7 +113,8 @@ forced g to = record g { successors = map (λ v. forced_moves (to v) (moves_of g
 
 module _ (g : ParityGame) (to : ℕ → Option ℕ) where
   forced-moves : (v : ℕ) → v < size g → moves_of (forced g to) v ≡ forced_moves (to v) (moves_of g v)
-  forced-moves v low = get_or-map-range_with_len (λ x. forced_moves (to x) (moves_of g x)) 0 (size g) v v [] low (omega arith)
+  forced-moves v low = get_or-map-range_with_len (λ x. forced_moves (to x) (moves_of g x)) 0 (size g) v v [] low
+      (omega arith)
 
   -- a vertex that isn't forced has the moves that it had
   pub forced-free : (v : ℕ) → v < size g → to v ≡ None → moves_of (forced g to) v ≡ moves_of g v
@@ -123,7 +129,8 @@ module _ (g : ParityGame) (to : ℕ → Option ℕ) where
   forced_is_game ok low = record {
     priorities = ok.priorities;
     lists = length-map-range_with_len (λ x. forced_moves (to x) (moves_of g x)) 0 (size g);
-    goes_on = λ v v_low. subst (λ (xs : List ℕ). 0 < length xs) (sym (forced-moves v v_low)) (some (to v) (moves_of g v) (ok.goes_on v v_low));
+    goes_on = λ v v_low. subst (λ (xs : List ℕ). 0 < length xs) (sym (forced-moves v v_low))
+        (some (to v) (moves_of g v) (ok.goes_on v v_low));
     in_range = λ v w move. at_vertex v w move (cases_lt v (size g));
   }
     where
@@ -140,7 +147,9 @@ module _ (g : ParityGame) (to : ℕ → Option ℕ) where
           from (inr none) = absurd none
 
       at_vertex : (v w : ℕ) → HasMove (forced g to) v w → (v < size g) ⊎ (size g ≤ v) → w < size g
-      at_vertex v w move (inl v_low) = of_moves v w (to v) refl (subst (λ (xs : List ℕ). Contains xs w) (forced-moves v v_low) move)
+      at_vertex v w move (inl v_low) =
+          of_moves v w (to v) refl (subst (λ (xs : List ℕ). Contains xs w) (forced-moves v v_low) move)
       at_vertex v w move (inr high) =
-          let none = get_or_past (forced g to).successors v [] (omega (arith, length-map-range_with_len (λ x. forced_moves (to x) (moves_of g x)) 0 (size g))) in
+          let none = get_or_past (forced g to).successors v []
+          (omega (arith, length-map-range_with_len (λ x. forced_moves (to x) (moves_of g x)) 0 (size g))) in
           absurd (contains_none w (subst (λ (xs : List ℕ). Contains xs w) none move))

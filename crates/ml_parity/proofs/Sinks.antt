@@ -58,11 +58,18 @@ either_holds b decides win i t = by_owner (cases_player (b.owner t) i)
     by_owner : (b.owner t ≡ i) ⊎ (b.owner t ≡ opponent i) → HeldMove b win i t ⊎ HeldMove b win (opponent i) t
     by_owner (inl own) = ⊎_elim
         (λ (m : SomeMove b win i t). inl (record { to = m.to; held = held_by_owner b win i t m.to own m.move m.wins }))
-        (λ (every : EveryMove b win (opponent i) t). inr (record { to = t; held = held_by_other b win (opponent i) t t (own ∙ sym (opponent-opponent i)) every }))
+        (λ (every : EveryMove b win (opponent i) t). inr
+        (record { to = t; held = held_by_other b win (opponent i) t t (own ∙ sym (opponent-opponent i)) every }))
         (decides win i t)
     by_owner (inr own) = ⊎_elim
-        (λ (m : SomeMove b win (opponent i) t). inr (record { to = m.to; held = held_by_owner b win (opponent i) t m.to own m.move m.wins }))
-        (λ (every : EveryMove b win (opponent (opponent i)) t). inl (record { to = t; held = held_by_other b win i t t own (subst (λ p. EveryMove b win p t) (opponent-opponent i) every) }))
+        (λ (m : SomeMove b win (opponent i) t).
+        inr (record { to = m.to; held = held_by_owner b win (opponent i) t m.to own m.move m.wins }))
+        (λ (every : EveryMove b win (opponent (opponent i)) t). inl
+        (record {
+          to = t;
+          held = held_by_other b win i t t own
+              (subst (λ p. EveryMove b win p t) (opponent-opponent i) every);
+        }))
         (decides win (opponent i) t)
 
 -- without live vertices the sinks solve the game
@@ -77,28 +84,35 @@ nobody_lives b live over s none = record {
 -- the first game has fewer live vertices
 pub fewer_without : (live : ℕ → Bool) (t n : ℕ) → t < n → live t ≡ true → count (live_without live t) n < count live n
 fewer_without live t n low alive =
-    count_strict (live_without live t) live n (λ v below h. (live_without-true live t v h).1) t low (update-same live t false t refl) alive
+    count_strict (live_without live t) live n (λ v below h. (live_without-true live t v h).1) t low
+    (update-same live t false t refl) alive
 
 -- a live vertex of the second game is live in the first
 pub frozen_without : (live : ℕ → Bool) (t : ℕ) (win : ℕ → Player) (j : Player) (v : ℕ)
     → live_frozen live t win j v ≡ true → live_without live t v ≡ true
-frozen_without live t win j v = cond_both (same_player (win v) j) false (live_without live t v) (λ x. x ≡ true → live_without live t v ≡ true) (λ e h. absurd (cc)) (λ e h. h)
+frozen_without live t win j v =
+    cond_both (same_player (win v) j) false (live_without live t v) (λ x. x ≡ true → live_without live t v ≡ true)
+    (λ e h. absurd (cc)) (λ e h. h)
 
 -- the second game has no more live vertices than the first
 pub fewer_frozen : (live : ℕ → Bool) (t n : ℕ) (win : ℕ → Player) (j : Player)
     → count (live_frozen live t win j) n ≤ count (live_without live t) n
-fewer_frozen live t n win j = count_mono (live_frozen live t win j) (live_without live t) n (λ v below h. frozen_without live t win j v h)
+fewer_frozen live t n win j = count_mono (live_frozen live t win j) (live_without live t) n
+    (λ v below h. frozen_without live t win j v h)
 
 -- the claim for at most so many live vertices below n
 Solvable : Board → ℕ → ℕ → Type 0
-Solvable b n fuel = (live : ℕ → Bool) (over : ℕ → Player) → count live n ≤ fuel → ((v : ℕ) → live v ≡ true → v < n) → Solution b live over
+Solvable b n fuel = (live : ℕ → Bool) (over : ℕ → Player) → count live n ≤ fuel → ((v : ℕ) → live v ≡ true → v < n)
+    → Solution b live over
 
 -- one more live vertex
 step : (b : Board) → Decides b → (n fuel : ℕ) → Solvable b n fuel → (live : ℕ → Bool) (over : ℕ → Player)
     → count live n ≤ suc fuel → ((v : ℕ) → live v ≡ true → v < n) → Least (λ v. live v ≡ true) b.priority n
     → Solution b live over
 unfolding Solvable
-step b decides n fuel smaller live over few bounded m = by_first (smaller (live_without live t) (over_with over t i) (omega (arith, fewer)) (λ v h. bounded v (live_without-true live t v h).1))
+step b decides n fuel smaller live over few bounded m =
+    by_first (smaller (live_without live t) (over_with over t i) (omega (arith, fewer))
+    (λ v h. bounded v (live_without-true live t v h).1))
   where
     t : ℕ
     t = m.place
@@ -129,10 +143,13 @@ step b decides n fuel smaller live over few bounded m = by_first (smaller (live_
 
     again : (f : Solution b (live_without live t) (over_with over t i))
         → Solution b (live_frozen live t f.win (opponent i)) (over_frozen t f.win (opponent i))
-    again f = smaller (live_frozen live t f.win (opponent i)) (over_frozen t f.win (opponent i)) (omega (arith, fewer, fewer_frozen live t n f.win (opponent i))) (λ v h. bounded v (live_without-true live t v (frozen_without live t f.win (opponent i) v h)).1)
+    again f = smaller (live_frozen live t f.win (opponent i)) (over_frozen t f.win (opponent i))
+        (omega (arith, fewer, fewer_frozen live t n f.win (opponent i)))
+        (λ v h. bounded v (live_without-true live t v (frozen_without live t f.win (opponent i) v h)).1)
 
     by_first : Solution b (live_without live t) (over_with over t i) → Solution b live over
-    by_first f = ⊎_elim (λ (h : HeldMove b f.win i t). kept f h) (λ (h : HeldMove b f.win (opponent i) t). lost f h (again f)) (either_holds b decides f.win i t)
+    by_first f = ⊎_elim (λ (h : HeldMove b f.win i t). kept f h)
+        (λ (h : HeldMove b f.win (opponent i) t). lost f h (again f)) (either_holds b decides f.win i t)
 
 -- every game with finitely many live vertices has a solution
 pub solution : (b : Board) → Decides b → (n fuel : ℕ) (live : ℕ → Bool) (over : ℕ → Player) → count live n ≤ fuel

@@ -24,7 +24,8 @@ module _ (g : ParityGame) (ok : IsGame g) (s : GameSolution) (solution : IsSolut
       there : Wins g p v → winner_at s.winner v ≡ p
       there a = ⊎_elim
           (λ (same : winner_at s.winner v ≡ p). same)
-          (λ (other : winner_at s.winner v ≡ opponent p). absurd (clash g ok p v low a (subst (λ q. Wins g q v) other (solution.right v low))))
+          (λ (other : winner_at s.winner v ≡ opponent p).
+          absurd (clash g ok p v low a (subst (λ q. Wins g q v) other (solution.right v low))))
           (cases_player (winner_at s.winner v) p)
 
   -- where a solution names p, its choices win for p
@@ -40,13 +41,16 @@ module _ (g : ParityGame) (ok : IsGame g) (s : GameSolution) (solution : IsSolut
       (solution_winner p (choice_at s.choice v) (ok.in_range v (choice_at s.choice v) move)).0 (record {
         strategy = choice_at s.choice;
         is_strategy = solution.strategies p;
-        wins = kept_by_move g p (choice_at s.choice) v (choice_at s.choice v) (solution_wins_from p v low is) move (λ o. refl);
+        wins = kept_by_move g p (choice_at s.choice) v (choice_at s.choice v) (solution_wins_from p v low is) move
+            (λ o. refl);
       })
 
   -- where it names the owner's opponent, it does so at every successor
   pub solution_other : (p : Player) (v : ℕ) → v < size g → owner_of g v ≡ opponent p → winner_at s.winner v ≡ p
       → (x : ℕ) → HasMove g v x → winner_at s.winner x ≡ p
-  solution_other p v low own is x move = (solution_winner p x (ok.in_range v x move)).0 ((other_vertex_won g ok p v low own).0 ((solution_winner p v low).1 is) x move)
+  solution_other p v low own is x move =
+      (solution_winner p x (ok.in_range v x move)).0
+      ((other_vertex_won g ok p v low own).0 ((solution_winner p v low).1 is) x move)
 
 -- two solutions of a game name the same winners
 pub solutions_agree : (g : ParityGame) → IsGame g → (s t : GameSolution) → IsSolution g s → IsSolution g t → (v : ℕ)

@@ -22,19 +22,28 @@ use Rattle.ml_parity.proofs.Occurrences.{same_part}
 -- gathering changes nothing of a part but its order
 module _ (place place2 : ℕ → ℕ) (n mid : ℕ) (P : ℕ → Type 0) (gathers : Gathers place place2 n mid P) where
   pub gathers_kept : (win : ℕ → Player) (s : ℕ → ℕ) → KeepsBehind n place win s place2 win s
-  gathers_kept win s = record { behind = gathers.behind; inside = gathers.inside; winners = λ v far. refl; choices = λ v far. refl }
+  gathers_kept win s = record {
+    behind = gathers.behind;
+    inside = gathers.inside;
+    winners = λ v far. refl;
+    choices = λ v far. refl;
+  }
 
   -- it is the same part
   pub gathers_same : part place2 n ≡ part place n
   gathers_same = same_part place place2 n gathers.inside (λ v far. let same = gathers.behind v far in omega arith)
 
   pub gathers_left : (g : ParityGame) (left : ℕ → ℕ) → IsLeft g place n left → IsLeft g place2 n left
-  gathers_left g left is_left v low = is_left v low ∙ ap (λ (test : ℕ → Bool). count_by test (moves_of g v)) (sym gathers_same)
+  gathers_left g left is_left v low = is_left v low
+      ∙ ap (λ (test : ℕ → Bool). count_by test (moves_of g v)) (sym gathers_same)
 
   pub gathers_part : (b : Board) (win : ℕ → Player) → IsPart b place n win → IsPart b place2 n win
-  gathers_part b win p = kept_inside n place win (λ v. v) place2 win (λ v. v) (gathers_kept win (λ v. v)) n (omega arith) b p
+  gathers_part b win p = kept_inside n place win (λ v. v) place2 win (λ v. v) (gathers_kept win (λ v. v)) n
+      (omega arith) b p
 
-  pub gathers_solved : (b : Board) (win : ℕ → Player) (s : ℕ → ℕ) → SolvesPart b place n win s → SolvesPart b place2 n win s
+  pub gathers_solved : (b : Board) (win : ℕ → Player) (s : ℕ → ℕ)
+      → SolvesPart b place n win s
+      → SolvesPart b place2 n win s
   gathers_solved b win s h = subst (λ (live : ℕ → Bool). Solves b live win win s) (sym gathers_same) h
 
 -- the vertices of lowest priority are some
@@ -47,7 +56,8 @@ some_gathered g place place2 n mid p lowest gathers = by_place (cases_lt (place2
     by_place (inr late) = let inside = gathers.inside lowest.vertex lowest.inside in omega arith
 
 -- the steps make the first half
-module _ (g : ParityGame) (place0 place1 place2 : ℕ → ℕ) (n mid rest p : ℕ) (q : Player) (win win2 : ℕ → Player) (s s1 s2 : ℕ → ℕ)
+module _ (g : ParityGame) (place0 place1 place2 : ℕ → ℕ) (n mid rest p : ℕ) (q : Player) (win win2 : ℕ → Player)
+    (s s1 s2 : ℕ → ℕ)
     (is_part : IsPart (board_of g) place0 n win) (lowest : IsLowest g place0 n p) (good : q ≡ side p)
     (gathers : Gathers place0 place1 n mid (λ v. priority_of g v ≡ p)) (chooses : ChoosesInside g place1 n mid n q s s1)
     (kept : KeepsBehind mid place1 win s1 place2 win s2) (attracted : IsAttracted (board_of g) place2 n mid rest q s2)
@@ -68,7 +78,8 @@ module _ (g : ParityGame) (place0 place1 place2 : ℕ → ℕ) (n mid rest p : �
 
   -- the vertices behind mid are those of lowest priority
   top : (t : ℕ) → mid ≤ place2 t → place2 t < n → priority_of g t ≡ p
-  top t late inside = gathers.passes t (out_from mid place1 win s1 place2 win s2 kept mid (omega arith) t late) (in_from mid place1 win s1 place2 win s2 kept n gathers.fits t inside)
+  top t late inside = gathers.passes t (out_from mid place1 win s1 place2 win s2 kept mid (omega arith) t late)
+      (in_from mid place1 win s1 place2 win s2 kept n gathers.fits t inside)
 
   pub first_made : IsFirstHalf (board_of g) place2 n mid rest q win2 s2
   first_made = record {
@@ -83,11 +94,13 @@ module _ (g : ParityGame) (place0 place1 place2 : ℕ → ℕ) (n mid rest p : �
     chosen = λ t late inside own.
         let late1 = out_from mid place1 win s1 place2 win s2 kept mid (omega arith) t late in
         let m = chooses.chosen t late1 (in_from mid place1 win s1 place2 win s2 kept n gathers.fits t inside) own in
-        subst (λ w. HasMove g t w × (place2 w < n)) (sym (kept.choices t late1)) (m.0, in_to mid place1 win s1 place2 win s2 kept n gathers.fits (s1 t) m.1);
+        subst (λ w. HasMove g t w × (place2 w < n)) (sym (kept.choices t late1))
+        (m.0, in_to mid place1 win s1 place2 win s2 kept n gathers.fits (s1 t) m.1);
   }
 
 -- the steps make the second half
-module _ (b : Board) (place0 place1 place2 : ℕ → ℕ) (n mid rest : ℕ) (q : Player) (win win2 : ℕ → Player) (s s2 : ℕ → ℕ) (P : ℕ → Type 0)
+module _ (b : Board) (place0 place1 place2 : ℕ → ℕ) (n mid rest : ℕ) (q : Player) (win win2 : ℕ → Player) (s s2 : ℕ → ℕ)
+    (P : ℕ → Type 0)
     (is_part : IsPart b place0 n win) (gathers : Gathers place0 place1 n mid P) (firm : IsFirm b place1 n mid q win s)
     (won : IsGiven place1 mid n win q)
     (kept : KeepsBehind mid place1 win s place2 win s2) (attracted : IsAttracted b place2 n mid rest q s2)
@@ -135,7 +148,8 @@ module _ (b : Board) (place place2 : ℕ → ℕ) (n mid rest mid2 : ℕ) (q : P
     (gathers : Gathers place place2 n mid2 (λ v. win v ≡ opponent q)) where
   -- nothing, and the part is solved
   pub none_lost : mid2 ≡ n → SolvesPart b place2 n win s
-  none_lost none = gathers_solved place place2 n mid2 (λ v. win v ≡ opponent q) gathers b win s (first_solved b place n mid rest q win s half won solves)
+  none_lost none = gathers_solved place place2 n mid2 (λ v. win v ≡ opponent q) gathers b win s
+      (first_solved b place n mid rest q win s half won solves)
     where
       won : (v : ℕ) → place v < rest → win v ≡ q
       won v low = ⊎_elim

@@ -12,12 +12,15 @@ use Rattle.ml_parity.specs.private.SolverSteps.{place_of, IsRow, IsRemoved, IsGa
 
 -- what stands in front of some place of the row is a vertex
 pub is_vertex : (place : List ℕ) (v n : ℕ) → n ≤ length place → place_of place v < n → v < length place
-is_vertex place v n fits low = ⊎_elim (λ (h : v < length place). h) (λ (past : length place ≤ v). absurd (omega (arith, get_or_past place v (length place) past))) (cases_lt v (length place))
+is_vertex place v n fits low = ⊎_elim (λ (h : v < length place). h)
+    (λ (past : length place ≤ v). absurd (omega (arith, get_or_past place v (length place) past)))
+    (cases_lt v (length place))
 
 module _ (order place : List ℕ) (row : IsRow order place) where
   -- at a place stands the vertex that the order names there
   pub at_place : (v k : ℕ) → k < length place → place_of place v ≡ k → v ≡ get_or order k 0
-  at_place v k low here = sym (row.there v (is_vertex place v (length place) (omega arith) (omega arith))) ∙ ap (λ j. get_or order j 0) here
+  at_place v k low here = sym (row.there v (is_vertex place v (length place) (omega arith) (omega arith)))
+      ∙ ap (λ j. get_or order j 0) here
 
   -- so at a place stands one vertex
   pub unique : (v u : ℕ) → u < length place → place_of place v ≡ place_of place u → v ≡ u
@@ -56,14 +59,16 @@ module _ (order place order2 place2 : List ℕ) (n u last at : ℕ) (row : IsRow
   -- where a vertex stands now: the one that is removed, the last one, or another
   abbrev Moved : ℕ → Type 0
   Moved v = ((v ≡ u) × (place_of place2 v ≡ n - 1))
-      ⊎ (((v ≡ u → ⊥) × (v ≡ last) × (place_of place2 v ≡ at)) ⊎ ((v ≡ u → ⊥) × (v ≡ last → ⊥) × (place_of place2 v ≡ place_of place v)))
+      ⊎ (((v ≡ u → ⊥) × (v ≡ last) × (place_of place2 v ≡ at))
+      ⊎ ((v ≡ u → ⊥) × (v ≡ last → ⊥) × (place_of place2 v ≡ place_of place v)))
 
   new_place : (v : ℕ) → Moved v
   new_place v = by_case (cases_eq v u) (cases_eq v last)
     where
       by_case : (v ≡ u) ⊎ (v ≡ u → ⊥) → (v ≡ last) ⊎ (v ≡ last → ⊥) → Moved v
       by_case (inl same) t = inl (same, ap (place_of place2) same ∙ e.place_first)
-      by_case (inr other) (inl same) = inr (inl (other, same, ap (place_of place2) same ∙ e.place_last (λ h. other (same ∙ h))))
+      by_case (inr other) (inl same) =
+          inr (inl (other, same, ap (place_of place2) same ∙ e.place_last (λ h. other (same ∙ h))))
       by_case (inr other) (inr neither) = inr (inr (other, neither, e.place_kept v other neither))
 
   new_back : (k : ℕ) → k < length place → place_of place2 (get_or order2 k 0) ≡ k
@@ -81,7 +86,9 @@ module _ (order place order2 place2 : List ℕ) (n u last at : ℕ) (row : IsRow
           let not_last : get_or order k 0 ≡ last → ⊥ = λ h. inner (sym here ∙ ap (place_of place) h ∙ last_at) in
           ap (place_of place2) (e.order_kept k inner whole) ∙ e.place_kept (get_or order k 0) not_u not_last ∙ here
 
-  new_there : (v : ℕ) → v < length place → (place_of place2 v < length place) × (get_or order2 (place_of place2 v) 0 ≡ v)
+  new_there : (v : ℕ)
+      → v < length place
+      → (place_of place2 v < length place) × (get_or order2 (place_of place2 v) 0 ≡ v)
   new_there v below = by_case (new_place v)
     where
       by_case : Moved v
@@ -91,7 +98,8 @@ module _ (order place order2 place2 : List ℕ) (n u last at : ℕ) (row : IsRow
           let not_end : at ≡ n - 1 → ⊥ = λ h. p.0 (p.1 ∙ same_last h) in
           (omega (arith, p.2), ap (λ j. get_or order2 j 0) p.2 ∙ e.at_hole not_end ∙ sym p.1)
       by_case (inr (inr p)) =
-          let not_end : place_of place v ≡ n - 1 → ⊥ = λ h. p.1 (unique order place row v last last_low (h ∙ sym last_at)) in
+          let not_end : place_of place v ≡ n - 1 → ⊥ =
+          λ h. p.1 (unique order place row v last last_low (h ∙ sym last_at)) in
           let not_at : place_of place v ≡ at → ⊥ = λ h. p.0 (unique order place row v u u_low (h ∙ is_at)) in
           let here = row.placed v below in (
             omega (arith, p.2),
@@ -109,7 +117,8 @@ module _ (order place order2 place2 : List ℕ) (n u last at : ℕ) (row : IsRow
   }
     where
       vertices : (k : ℕ) → k < length place → get_or order2 k 0 < length place2
-      vertices k below = is_vertex place2 (get_or order2 k 0) (length place) (omega (arith, e.places)) (omega (arith, new_back k below))
+      vertices k below = is_vertex place2 (get_or order2 k 0) (length place) (omega (arith, e.places))
+          (omega (arith, new_back k below))
 
   -- and the vertex is removed
   pub removed_exchanged : IsRemoved (place_of place) (place_of place2) n u
@@ -132,10 +141,13 @@ module _ (order place order2 place2 : List ℕ) (n u last at : ℕ) (row : IsRow
       kept v other inside (inr (inl p)) =
           let not_end : at ≡ n - 1 → ⊥ = λ h. other (p.1 ∙ same_last h) in
           let inner : (at < n - 1) ⊎ (n - 1 ≤ at) = cases_lt at (n - 1) in
-          ⊎_elim (λ (h : at < n - 1). omega (arith, p.2)) (λ (h : n - 1 ≤ at). absurd (not_end (omega (arith, is_at)))) inner
+          ⊎_elim (λ (h : at < n - 1). omega (arith, p.2)) (λ (h : n - 1 ≤ at). absurd (not_end (omega (arith, is_at))))
+          inner
       kept v other inside (inr (inr p)) =
-          let not_end : place_of place v ≡ n - 1 → ⊥ = λ h. p.1 (unique order place row v last last_low (h ∙ sym last_at)) in
-          ⊎_elim (λ (h : place_of place v < n - 1). omega (arith, p.2)) (λ (h : n - 1 ≤ place_of place v). absurd (not_end (omega arith))) (cases_lt (place_of place v) (n - 1))
+          let not_end : place_of place v ≡ n - 1 → ⊥ =
+          λ h. p.1 (unique order place row v last last_low (h ∙ sym last_at)) in
+          ⊎_elim (λ (h : place_of place v < n - 1). omega (arith, p.2))
+          (λ (h : n - 1 ≤ place_of place v). absurd (not_end (omega arith))) (cases_lt (place_of place v) (n - 1))
 
       early : (v : ℕ) → place_of place v < place_of place u → Moved v → place_of place2 v ≡ place_of place v
       early v before (inl p) = absurd (omega (arith, ap (place_of place) p.0))
@@ -155,11 +167,16 @@ exchanged order place n u last at row fits low is_last is_at = record {
   orders = order_length ∙ row.size;
   places = place_length;
   at_end = get_or-set_same (set order at last) (n - 1) u 0 (omega (arith, length-set order at last, row.size));
-  at_hole = λ inner. get_or-set_other (set order at last) (n - 1) at u 0 inner ∙ get_or-set_same order at last 0 (omega (arith, row.size));
-  order_kept = λ k inner whole. get_or-set_other (set order at last) (n - 1) k u 0 inner ∙ get_or-set_other order at k last 0 whole;
-  place_first = get_or-set_same (set place last at) u (n - 1) _ (omega (arith, length-set place last at, is_vertex place u n fits low));
-  place_last = λ other. get_or-set_other (set place last at) u last (n - 1) _ other ∙ get_or-set_same place last at _ last_low;
-  place_kept = λ v other neither. get_or-set_other (set place last at) u v (n - 1) _ other ∙ get_or-set_other place last v at _ neither ∙ ap (get_or place v) place_length;
+  at_hole = λ inner. get_or-set_other (set order at last) (n - 1) at u 0 inner
+      ∙ get_or-set_same order at last 0 (omega (arith, row.size));
+  order_kept = λ k inner whole. get_or-set_other (set order at last) (n - 1) k u 0 inner
+      ∙ get_or-set_other order at k last 0 whole;
+  place_first = get_or-set_same (set place last at) u (n - 1) _
+      (omega (arith, length-set place last at, is_vertex place u n fits low));
+  place_last = λ other. get_or-set_other (set place last at) u last (n - 1) _ other
+      ∙ get_or-set_same place last at _ last_low;
+  place_kept = λ v other neither. get_or-set_other (set place last at) u v (n - 1) _ other
+      ∙ get_or-set_other place last v at _ neither ∙ ap (get_or place v) place_length;
 }
   where
     order_length : length (set (set order at last) (n - 1) u) ≡ length order
@@ -210,7 +227,12 @@ module _ (place place2 : ℕ → ℕ) (n rest k u : ℕ) (P : ℕ → Type 0) (b
       inside v low (inr other) (inl early) = omega (arith, removed.kept v other early, before.fits)
       inside v low (inr other) (inr late) = omega (arith, removed.behind v late)
 
-      passes : (v : ℕ) → rest2 ≤ place3 v → place3 v < n → (v ≡ u) ⊎ (v ≡ u → ⊥) → (place2 v < rest) ⊎ (rest ≤ place2 v) → P v
+      passes : (v : ℕ)
+          → rest2 ≤ place3 v
+          → place3 v < n
+          → (v ≡ u) ⊎ (v ≡ u → ⊥)
+          → (place2 v < rest) ⊎ (rest ≤ place2 v)
+          → P v
       passes v far low (inl same) t = subst P (sym same) holds
       passes v far low (inr other) (inl early) = absurd (omega (arith, removed.kept v other early))
       passes v far low (inr other) (inr late) = before.passes v late (omega (arith, removed.behind v late))
@@ -228,7 +250,8 @@ module _ (place place2 : ℕ → ℕ) (n rest k u : ℕ) (P : ℕ → Type 0) (b
 
 -- the same, over the lists of the program: the vertex in front of `at` is looked at
 module _ (order place : List ℕ) (row : IsRow order place) (place0 : ℕ → ℕ) (n rest at u : ℕ) (P : ℕ → Type 0)
-    (before : IsGathering place0 (place_of place) n rest at P) (some : 0 < at) (fits : n ≤ length place) (is : u ≡ get_or order (at - 1) u) where
+    (before : IsGathering place0 (place_of place) n rest at P) (some : 0 < at) (fits : n ≤ length place)
+    (is : u ≡ get_or order (at - 1) u) where
   at_low : at - 1 < length place
   at_low = omega (arith, before.reached, before.fits)
 
@@ -239,14 +262,17 @@ module _ (order place : List ℕ) (row : IsRow order place) (place0 : ℕ → �
   here = ap (place_of place) is_there ∙ row.back (at - 1) at_low
 
   one : (v : ℕ) → place_of place v ≡ place_of place u → v ≡ u
-  one v same = unique order place row v u (is_vertex place u (length place) (omega arith) (omega (arith, here, at_low))) same
+  one v same = unique order place row v u (is_vertex place u (length place) (omega arith) (omega (arith, here, at_low)))
+      same
 
   before_as : IsGathering place0 (place_of place) n rest (at - 1 + 1) P
-  before_as = let e : at ≡ at - 1 + 1 = omega arith in subst (λ a. IsGathering place0 (place_of place) n rest a P) e before
+  before_as = let e : at ≡ at - 1 + 1 = omega arith in
+      subst (λ a. IsGathering place0 (place_of place) n rest a P) e before
 
   pub gather_less : (P u → ⊥) → IsGathering place0 (place_of place) n rest (at - 1) P
   gather_less fails = gathered_less place0 (place_of place) n rest (at - 1) u P before_as here one fails
 
   pub gather_more : (place3 : ℕ → ℕ) (rest2 : ℕ) → P u → IsRemoved (place_of place) place3 rest u → rest2 + 1 ≡ rest
       → IsGathering place0 place3 n rest2 (at - 1) P
-  gather_more place3 rest2 holds removed less = gathered_more place0 (place_of place) n rest (at - 1) u P before_as here one place3 rest2 holds removed less
+  gather_more place3 rest2 holds removed less =
+      gathered_more place0 (place_of place) n rest (at - 1) u P before_as here one place3 rest2 holds removed less

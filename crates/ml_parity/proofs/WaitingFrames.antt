@@ -15,15 +15,18 @@ module _ (r : ℕ) (place : ℕ → ℕ) (win : ℕ → Player) (s : ℕ → ℕ
     (kept : KeepsBehind r place win s place2 win2 s2) where
   -- a vertex of a larger part stays one
   pub in_to : (n : ℕ) → r ≤ n → (v : ℕ) → place v < n → place2 v < n
-  in_to n fits v inside = ⊎_elim (λ (low : place v < r). omega (arith, kept.inside v low)) (λ (late : r ≤ place v). omega (arith, kept.behind v late)) (cases_lt (place v) r)
+  in_to n fits v inside = ⊎_elim (λ (low : place v < r). omega (arith, kept.inside v low))
+      (λ (late : r ≤ place v). omega (arith, kept.behind v late)) (cases_lt (place v) r)
 
   -- and was one
   pub in_from : (n : ℕ) → r ≤ n → (v : ℕ) → place2 v < n → place v < n
-  in_from n fits v inside = ⊎_elim (λ (low : place v < r). omega arith) (λ (late : r ≤ place v). omega (arith, kept.behind v late)) (cases_lt (place v) r)
+  in_from n fits v inside = ⊎_elim (λ (low : place v < r). omega arith)
+      (λ (late : r ≤ place v). omega (arith, kept.behind v late)) (cases_lt (place v) r)
 
   -- a vertex behind a part from r on was behind it
   pub out_from : (n : ℕ) → r ≤ n → (v : ℕ) → n ≤ place2 v → n ≤ place v
-  out_from n fits v late = ⊎_elim (λ (low : place v < n). absurd (omega (arith, in_to n fits v low))) (λ (out : n ≤ place v). out) (cases_lt (place v) n)
+  out_from n fits v late = ⊎_elim (λ (low : place v < n). absurd (omega (arith, in_to n fits v low)))
+      (λ (out : n ≤ place v). out) (cases_lt (place v) n)
 
   -- and it has its place
   pub same_from : (n : ℕ) → r ≤ n → (v : ℕ) → n ≤ place2 v → place2 v ≡ place v
@@ -123,7 +126,8 @@ module _ (r : ℕ) (place : ℕ → ℕ) (win : ℕ → Player) (s : ℕ → ℕ
       is_part = kept_inside n fits b h.is_part;
       attracted = kept_attracted h.attracted;
       given = kept_given n q h.given fits;
-      lowest = λ t v late inside within. h.lowest t v (out_from mid low t late) (in_from n fits t inside) (in_from n fits v within);
+      lowest = λ t v late inside within.
+          h.lowest t v (out_from mid low t late) (in_from n fits t inside) (in_from n fits v within);
       good = λ t late inside. h.good t (out_from mid low t late) (in_from n fits t inside);
       chosen = λ t late inside own.
           let out = out_from mid low t late in
@@ -148,7 +152,8 @@ module _ (r : ℕ) (place : ℕ → ℕ) (win : ℕ → Player) (s : ℕ → ℕ
 
 -- one change after another
 pub keeps_on : (r : ℕ) (place place2 place3 : ℕ → ℕ) (win win2 win3 : ℕ → Player) (s s2 s3 : ℕ → ℕ)
-    → KeepsBehind r place win s place2 win2 s2 → KeepsBehind r place2 win2 s2 place3 win3 s3 → KeepsBehind r place win s place3 win3 s3
+    → KeepsBehind r place win s place2 win2 s2 → KeepsBehind r place2 win2 s2 place3 win3 s3
+    → KeepsBehind r place win s place3 win3 s3
 keeps_on r place place2 place3 win win2 win3 s s2 s3 k l = record {
   behind = λ v late. let same = k.behind v late in l.behind v (omega arith) ∙ same;
   inside = λ v low. l.inside v (k.inside v low);
@@ -158,4 +163,9 @@ keeps_on r place place2 place3 win win2 win3 s s2 s3 k l = record {
 
 -- no change
 pub keeps_itself : (r : ℕ) (place : ℕ → ℕ) (win : ℕ → Player) (s : ℕ → ℕ) → KeepsBehind r place win s place win s
-keeps_itself r place win s = record { behind = λ v late. refl; inside = λ v low. low; winners = λ v late. refl; choices = λ v late. refl }
+keeps_itself r place win s = record {
+  behind = λ v late. refl;
+  inside = λ v low. low;
+  winners = λ v late. refl;
+  choices = λ v late. refl;
+}

@@ -23,8 +23,8 @@ use Rattle.ml_trace.specs.Stack.{Item}
 use Rattle.ml_history.specs.CycleLaws.{HasState, IsLedTo}
 use Rattle.ml_history.specs.History.{IsHistory, start}
 use Rattle.ml_history.specs.HistoryStep.{stepped}
-use Rattle.ml_history.proofs.StepKeeps.{start-is, step_is_history}
-use Rattle.ml_history.proofs.SteppedStates.{steps_follow_letters}
+use Rattle.ml_history.proofs.definition.StepKeeps.{start-is, step_is_history}
+use Rattle.ml_history.proofs.definition.SteppedStates.{steps_follow_letters}
 use Rattle.ml_sequent.specs.declared.choice.Side.TheVariants.{Left, Right}
 use Rattle.ml_sequent.specs.LocalWalk.{LocalWalk, InSpread}
 use Rattle.ml_sequent.specs.Spread.{SpreadList, IsSpreadOf, is_diamond}

@@ -15,23 +15,22 @@
 --   no_accepting_loop      == where a node is won, no accepting run leads from it round a tour to itself
 use Rattle.std.proofs.Common.{ℕ, zero, suc, ◌≡◌, ◌≤◌, ◌%◌, ◌==◌, inl, inr, min, Bool, true, List, [], ◌∷◌, ◌++◌, Option, Some, None, refl, sym, ap, ◌∙◌, subst, arith}
 use Rattle.std.proofs.lemmas.Bool.Decides.{nat_tests}
-use Rattle.ml_base.specs.Structure.{Structure, IsStructure}
+use Rattle.ml_base.specs.Structure.{Structure}
 use Rattle.ml_lists.specs.Member.{IsMember}
 use Rattle.ml_lists.specs.Repeated.{repeated}
 use Rattle.ml_lists.proofs.Ascending.{ascending-member}
 use Rattle.ml_lists.proofs.Member.{member-filter_from}
 use Rattle.std.specs.List.{filter}
 use Rattle.ml_parity.specs.declared.players.Player.TheVariants.{Even}
-use Rattle.ml_parity.specs.Winner.{IsStrategyOf}
 use Rattle.ml_trace.specs.declared.letters.AutomatonState.{AutomatonState}
 use Rattle.ml_trace.specs.Automaton.{Leads}
 use Rattle.ml_trace.specs.Run.{Run, AcceptingRun}
 use Rattle.ml_trace.proofs.Runs.{accepting-is_run}
-use Rattle.ml_graph.specs.Graph.{Graph, IsGraph, odd_priorities}
+use Rattle.ml_graph.specs.Graph.{Graph, odd_priorities}
 use Rattle.ml_graph.specs.CheckingGame.{checking_game}
 use Rattle.ml_refutation.specs.GoStep.{GoStep, HasTransition}
 use Rattle.ml_parity.proofs.FollowedWalks.{walks_joined, closed_walk_good, odd_is_not_even}
-use Rattle.ml_refute_check.proofs.Positions.{vertex, Walk, IsWon}
+use Rattle.ml_refute_check.proofs.Positions.{Board, vertex, Walk, IsWon}
 use Rattle.ml_refute_check.proofs.Descent.{Plays}
 
 -- ---- guesses
@@ -57,7 +56,8 @@ never_accepts odds k (Some d) h = let wrong = h.1 in absurd (cc)
 -- an odd priority that occurs is odd
 occurring_is_odd : (g : Graph) (d : ℕ) → IsMember d (odd_priorities g) → d % 2 ≡ 1
 occurring_is_odd g d h =
-    let test = (member-filter_from (λ e. e % 2 == 1) d g.priorities (ascending-member d (filter (λ e. e % 2 == 1) g.priorities) h)).1 in
+    let test = (member-filter_from (λ e. e % 2 == 1) d g.priorities
+    (ascending-member d (filter (λ e. e % 2 == 1) g.priorities) h)).1 in
     grind (arith, nat_tests)
 
 module _ (g : Graph) where
@@ -66,7 +66,8 @@ module _ (g : Graph) where
       → p.odd ≡ Some d
       → Guessed (odd_priorities g) a.trace.lowest d q.odd accepting
   guessed l p q accepting d a is =
-      stays_guessed (odd_priorities g) a.trace.lowest d q.odd accepting (subst (λ o. Leads (odd_priorities g) a.trace.lowest o q.odd accepting) is a.leads)
+      stays_guessed (odd_priorities g) a.trace.lowest d q.odd accepting
+      (subst (λ o. Leads (odd_priorities g) a.trace.lowest o q.odd accepting) is a.leads)
 
   -- a run keeps its guess
   pub run_keeps_guess : (w : List GoStep) (p q : AutomatonState) (d : ℕ) → Run (HasTransition g) w p q → p.odd ≡ Some d
@@ -79,7 +80,8 @@ module _ (g : Graph) where
       → (d : ℕ) × (q.odd ≡ Some d)
   some_guess [] p q run is = absurd run
   some_guess (l ∷ w) p q (inl run) is =
-      absurd (never_accepts (odd_priorities g) run.1.trace.lowest run.0.odd (subst (λ o. Leads (odd_priorities g) run.1.trace.lowest o run.0.odd true) is run.1.leads))
+      absurd (never_accepts (odd_priorities g) run.1.trace.lowest run.0.odd
+      (subst (λ o. Leads (odd_priorities g) run.1.trace.lowest o run.0.odd true) is run.1.leads))
   some_guess (l ∷ w) p q (inr run) is = by_guess run.0.odd refl (λ none. some_guess w run.0 q run.3 none)
     where
       by_guess : (o : Option ℕ)
@@ -87,22 +89,31 @@ module _ (g : Graph) where
           → (run.0.odd ≡ None → (d : ℕ) × (q.odd ≡ Some d))
           → (d : ℕ) × (q.odd ≡ Some d)
       by_guess None e later = later e
-      by_guess (Some d) e later = (d, run_keeps_guess w run.0 q d (accepting-is_run (HasTransition g) w run.0 q run.3) e)
+      by_guess (Some d) e later = (
+        d,
+        run_keeps_guess w run.0 q d
+            (accepting-is_run (HasTransition g) w run.0 q run.3) e,
+      )
 
 -- ---- tours
 
-module _ (g : Graph) (m : Structure) (g_ok : IsGraph g) (m_ok : IsStructure m) (strategy : ℕ → ℕ)
-    (is_strategy : IsStrategyOf (checking_game g m) Even strategy) where
+module _ (board : Board) where
+  abbrev g : Graph
+  g = board.graph
+
+  abbrev m : Structure
+  m = board.structure
+
   abbrev at : ℕ → ℕ → ℕ
-  at t n = vertex g m g_ok m_ok strategy is_strategy t n
+  at t n = vertex board t n
 
   abbrev Goes : ℕ → ℕ → ℕ → Type 0
-  Goes v k w = Walk g m g_ok m_ok strategy is_strategy v k w
+  Goes v k w = Walk board v k w
 
   -- the steps are walks from a state on to a state
   abbrev pub Tours : List GoStep → ℕ → ℕ → Type 0
   Tours [] t u = t ≡ u
-  Tours (l ∷ w) t u = (x : ℕ) × Plays g m g_ok m_ok strategy is_strategy l t x × Tours w x u
+  Tours (l ∷ w) t u = (x : ℕ) × Plays board l t x × Tours w x u
 
   pub tours-append : (v w : List GoStep) (t x u : ℕ) → Tours v t x → Tours w x u → Tours (v ++ w) t u
   tours-append [] w t x u same rest = subst (λ y. Tours w y u) (sym same) rest
@@ -120,23 +131,25 @@ module _ (g : Graph) (m : Structure) (g_ok : IsGraph g) (m_ok : IsStructure m) (
   high_joined : (d v k w x : ℕ) → d ≤ k → Goes v k w → GoesHigh d w x → GoesHigh d v x
   high_joined d v k w x high walk (stands e) = goes_on k high (subst (λ y. Goes v k y) e walk)
   high_joined d v k w x high walk (goes_on j j_high rest) =
-      goes_on (min k j) (omega arith) (walks_joined (checking_game g m) Even strategy v k w j x walk rest)
+      goes_on (min k j) (omega arith) (walks_joined (checking_game g m) Even board.strategy v k w j x walk rest)
 
   exact_joined : (d v k w x : ℕ) → d ≡ k → Goes v k w → GoesHigh d w x → Goes v d x
   exact_joined d v k w x same walk (stands e) = subst (λ y. Goes v d y) e (subst (λ i. Goes v i w) (sym same) walk)
   exact_joined d v k w x same walk (goes_on j j_high rest) =
       let low : min k j ≡ d = omega arith in
-      subst (λ i. Goes v i x) low (walks_joined (checking_game g m) Even strategy v k w j x walk rest)
+      subst (λ i. Goes v i x) low (walks_joined (checking_game g m) Even board.strategy v k w j x walk rest)
 
   -- a run with the guess d is a walk with no lower priority, or stands
   pub run_goes_high : (w : List GoStep) (t u : ℕ) (p q : AutomatonState) (d : ℕ)
       → Tours w t u
       → Run (HasTransition g) w p q
       → p.odd ≡ Some d → GoesHigh d (at t p.node) (at u q.node)
-  run_goes_high [] t u p q d tour same is = stands (ap (λ x. at x p.node) tour ∙ ap (λ (s : AutomatonState). at u s.node) same)
+  run_goes_high [] t u p q d tour same is = stands
+      (ap (λ x. at x p.node) tour ∙ ap (λ (s : AutomatonState). at u s.node) same)
   run_goes_high (l ∷ w) t u p q d tour run is =
       let guess = guessed g l p run.0 run.1 d run.2 is in
-      high_joined d (at t p.node) run.2.trace.lowest (at tour.0 run.0.node) (at u q.node) guess.high (tour.1 p run.0 run.1 run.2)
+      high_joined d (at t p.node) run.2.trace.lowest (at tour.0 run.0.node) (at u q.node) guess.high
+      (tour.1 p run.0 run.1 run.2)
       (run_goes_high w tour.0 u run.0 q d tour.2 run.3 guess.same)
 
   -- an accepting one
@@ -154,7 +167,8 @@ module _ (g : Graph) (m : Structure) (g_ok : IsGraph g) (m_ok : IsStructure m) (
       let exact : d ≡ run.1.trace.lowest = grind (arith, nat_tests) in
       record {
         occurs = guess.occurs;
-        walk = exact_joined d (at t p.node) run.1.trace.lowest (at tour.0 run.0.node) (at u q.node) exact (tour.1 p run.0 true run.1)
+        walk = exact_joined d (at t p.node) run.1.trace.lowest (at tour.0 run.0.node) (at u q.node) exact
+            (tour.1 p run.0 true run.1)
             (run_goes_high w tour.0 u run.0 q d tour.2 run.2 guess.same);
       }
   accepting_meets (l ∷ w) t u p q d tour (inr run) is =
@@ -164,14 +178,15 @@ module _ (g : Graph) (m : Structure) (g_ok : IsGraph g) (m_ok : IsStructure m) (
       record {
         occurs = guess.occurs;
         walk = subst (λ i. Goes (at t p.node) i (at u q.node)) low
-            (walks_joined (checking_game g m) Even strategy (at t p.node) run.2.trace.lowest (at tour.0 run.0.node) d (at u q.node) (tour.1 p run.0 run.1 run.2) later.walk);
+            (walks_joined (checking_game g m) Even board.strategy (at t p.node) run.2.trace.lowest
+            (at tour.0 run.0.node) d (at u q.node) (tour.1 p run.0 run.1 run.2) later.walk);
       }
 
   -- where a node is won, no accepting run leads from it round a tour to itself
   pub no_accepting_loop : (w : List GoStep) (t : ℕ) (p : AutomatonState)
       → Tours w t t
       → AcceptingRun (HasTransition g) w p p
-      → IsWon g m g_ok m_ok strategy is_strategy t p.node → ⊥
+      → IsWon board t p.node → ⊥
   no_accepting_loop w t p tour run won = by_guess p.odd refl
     where
       by_guess : (o : Option ℕ) → p.odd ≡ o → ⊥
@@ -181,4 +196,5 @@ module _ (g : Graph) (m : Structure) (g_ok : IsGraph g) (m_ok : IsStructure m) (
           absurd (cc)
       by_guess (Some d) is =
           let meets = accepting_meets w t t p p d tour run is in
-          odd_is_not_even d (occurring_is_odd g d meets.occurs) (closed_walk_good (checking_game g m) Even strategy (at t p.node) d meets.walk won.wins)
+          odd_is_not_even d (occurring_is_odd g d meets.occurs)
+          (closed_walk_good (checking_game g m) Even board.strategy (at t p.node) d meets.walk won.wins)

@@ -11,6 +11,7 @@ use Rattle.ml_lists.specs.Documents.{numbers}
 use Rattle.ml_lists.proofs.Documents.{kept_not_broken, one_broken}
 use Rattle.ml_lists.proofs.Member.{place-member}
 use Rattle.ml_graph.specs.Graph.{Graph}
+use Rattle.ml_sequent.specs.declared.choice.Side.{Side}
 use Rattle.ml_refutation.specs.Refutation.{Refutation, Decision, Split, Clash, Go}
 use Rattle.ml_refutation.specs.Acceptance.{entry_at, Sequent, Live, Item, Decided, parts, rules, IsFirstBad}
 use Rattle.ml_refute_check.specs.Soundness.{FaultOrAccepted, OneFault, RulesRise}
@@ -32,7 +33,8 @@ module _ (g : Graph) (r : Refutation) where
 
   no_earlier_part : (e k n j o : ℕ) → IsFirstBad g r e k n → IsFirstBad g r e j o → k < j → ⊥
   no_earlier_part e k n j o first second less =
-      kept_not_broken g (rules r e (get_or (parts (entry_at r e)) k Sequent)) n (second.parts_before k less) first.broken
+      kept_not_broken g (rules r e (get_or (parts (entry_at r e)) k Sequent)) n
+      (second.parts_before k less) first.broken
 
   same_entry : (e k n f j o : ℕ) → IsFirstBad g r e k n → IsFirstBad g r f j o → e ≡ f
   same_entry e k n f j o first second = by_order (cases_lt e f) (cases_lt f e)
@@ -56,14 +58,18 @@ one_fault g r e k number f j other first second =
     let entry : e ≡ f = same_entry g r e k number f j other first second in
     let here : IsFirstBad g r e j other = subst (λ x. IsFirstBad g r x j other) (sym entry) second in
     let part : k ≡ j = same_part g r e k number j other first here in
-    let there : IsFirstBad g r e k other = subst (λ x. IsFirstBad g r e x other) (sym part) here in
-    (entry, part, one_broken g (rules r e (get_or (parts (entry_at r e)) k Sequent)) number other first.broken there.broken)
+    let there : IsFirstBad g r e k other = subst (λ x. IsFirstBad g r e x other) (sym part) here in (
+      entry,
+      part,
+      one_broken g
+          (rules r e (get_or (parts (entry_at r e)) k Sequent)) number other first.broken there.broken,
+    )
 
 one_number : (n : ℕ) → IsAscending (n ∷ [])
 one_number n = ((λ y h. absurd h), tt)
 
 rises : (decision : Decision) (r : Refutation) (e : ℕ)
-    (c : List (ℕ × Rattle.ml_sequent.specs.declared.choice.Side.Side))
+    (c : List (ℕ × Side))
     → IsAscending (numbers (rules r e (Decided (record { choice = c; decision = decision }))))
 rises (Split n left right) r e c = one_number 5
 rises (Clash x) r e c = one_number 6

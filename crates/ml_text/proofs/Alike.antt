@@ -78,6 +78,7 @@ pub goes_alike : (g : Grammar) (t u : g.Sign)
 goes_alike g t u like (More q) stack = enters_alike g t u like stack q
 goes_alike g t u like (Whole v) stack =
     ap is_some (behind-reduce g stack v t)
-    ∙ ap (λ s. is_some (resolved g t s)) (reduce-same g (Some t) (Some u) (λ s l. ap (role_takes l) (like.role s)) stack v)
+    ∙ ap (λ s. is_some (resolved g t s)) (reduce-same g (Some t) (Some u) (λ s l. ap (role_takes l) (like.role s)) stack
+    v)
     ∙ resolves_alike g t u like (reduce g (Some u) stack v).0 (reduce g (Some u) stack v).1
     ∙ sym (ap is_some (behind-reduce g stack v u))

@@ -13,11 +13,13 @@ begins_word-letter LowerCase b begins = or_left (is_lower b) (is_upper b) begins
 -- a byte of words is none of the four blanks
 pub word_byte-no_blank : (b : ℕ) → is_word_byte b ≡ true → is_blank b ≡ false
 word_byte-no_blank b word =
-    let at : (c : ℕ) → is_word_byte c ≡ false → b == c ≡ true → is_blank b ≡ false = λ c other is. absurd (false≢true (sym other ∙ sym (ap is_word_byte (eqb-true b c is)) ∙ word)) in
+    let at : (c : ℕ) → is_word_byte c ≡ false → b == c ≡ true → is_blank b ≡ false =
+    λ c other is. absurd (false≢true (sym other ∙ sym (ap is_word_byte (eqb-true b c is)) ∙ word)) in
     ⊎_elim
     (λ (blank : is_blank b ≡ true).
     ⊎_elim
-    (λ h. ⊎_elim (λ h'. ⊎_elim (λ h''. at 32 refl h'') (λ h''. at 9 refl h'') (or_cases _ _ h')) (λ h'. at 13 refl h') (or_cases _ _ h))
+    (λ h. ⊎_elim (λ h'. ⊎_elim (λ h''. at 32 refl h'') (λ h''. at 9 refl h'') (or_cases _ _ h')) (λ h'. at 13 refl h')
+    (or_cases _ _ h))
     (λ h. at 10 refl h)
     (or_cases _ _ blank))
     (λ (other : is_blank b ≡ false). other)

@@ -13,12 +13,16 @@ use Rattle.ml_text.specs.Refusals.{Item, counted, open_behind_one, open_from, is
 pub take_all : {A : Type 0} (items before rest : List A) → items ≡ before ++ rest → take (length before) items ≡ before
 take_all items before rest is = ap (take (length before)) is ∙ take-append_seam before rest
 
-pub take_one : {A : Type 0} (items before : List A) (i : A) (rest : List A) → items ≡ before ++ i ∷ rest → take (length before + 1) items ≡ before ++ i ∷ []
+pub take_one : {A : Type 0} (items before : List A) (i : A) (rest : List A)
+    → items ≡ before ++ i ∷ rest
+    → take (length before + 1) items ≡ before ++ i ∷ []
 take_one items before i rest is =
     let longer : length (before ++ i ∷ []) ≡ length before + 1 = length-append before (i ∷ []) in
-    ap (λ n. take n items) (sym longer) ∙ take_all items (before ++ i ∷ []) rest (is ∙ sym (append_assoc before (i ∷ []) rest))
+    ap (λ n. take n items) (sym longer)
+    ∙ take_all items (before ++ i ∷ []) rest (is ∙ sym (append_assoc before (i ∷ []) rest))
 
-pub counted-last : {Sign : Type 0} (before : List (Item Sign)) (i : Item Sign) → counted (before ++ i ∷ []) ≡ counted before + i.weight
+pub counted-last : {Sign : Type 0} (before : List (Item Sign)) (i : Item Sign)
+    → counted (before ++ i ∷ []) ≡ counted before + i.weight
 counted-last {Sign} before i =
     let weigh : Item Sign → ℕ = λ j. j.weight in
     let split = sum_by-append weigh before (i ∷ []) in
@@ -26,15 +30,18 @@ counted-last {Sign} before i =
     let none : counted {Sign = Sign} [] ≡ 0 = refl in
     omega (arith, split, one)
 
-pub open_from-last : {Sign : Type 0} (n : ℕ) (before : List (Item Sign)) (i : Item Sign) → open_from n (before ++ i ∷ []) ≡ open_behind_one i.bracket (open_from n before)
+pub open_from-last : {Sign : Type 0} (n : ℕ) (before : List (Item Sign)) (i : Item Sign)
+    → open_from n (before ++ i ∷ []) ≡ open_behind_one i.bracket (open_from n before)
 open_from-last n [] i = refl
 open_from-last n (j ∷ before) i = open_from-last (open_behind_one j.bracket n) before i
 
-pub is_long_at-last : {Sign : Type 0} (before : List (Item Sign)) (i : Item Sign) (rest : List (Item Sign)) → is_long_at (before ++ i ∷ rest) (length before) ≡ i.is_long
+pub is_long_at-last : {Sign : Type 0} (before : List (Item Sign)) (i : Item Sign) (rest : List (Item Sign))
+    → is_long_at (before ++ i ∷ rest) (length before) ≡ i.is_long
 is_long_at-last [] i rest = refl
 is_long_at-last (j ∷ before) i rest = is_long_at-last before i rest
 
-pub offset-last : {Sign : Type 0} (before : List (Item Sign)) (i : Item Sign) (rest : List (Item Sign)) (end : ℕ) → offset_of (before ++ i ∷ rest) end (length before) ≡ i.at
+pub offset-last : {Sign : Type 0} (before : List (Item Sign)) (i : Item Sign) (rest : List (Item Sign)) (end : ℕ)
+    → offset_of (before ++ i ∷ rest) end (length before) ≡ i.at
 offset-last [] i rest end = refl
 offset-last (j ∷ before) i rest end = offset-last before i rest end
 

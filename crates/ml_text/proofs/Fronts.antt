@@ -16,7 +16,10 @@ Begins g (Rest (Whole f)) ts = Unit {0}
 Begins g (Rest (More q)) ts = BeginsWith g q ts
 Begins g (Behind t turn) ts = turn ≡ None → ⊥
 
-begins : (g : Grammar) → {p : Part g} {ts : List g.Sign} {f : g.Tree} {rest : List g.Sign} → Reads g p ts f rest → Begins g p ts
+begins : (g : Grammar)
+    → {p : Part g} {ts : List g.Sign} {f : g.Tree} {rest : List g.Sign}
+    → Reads g p ts f rest
+    → Begins g p ts
 begins g (alone r) = begins g r
 begins g (joined o m is le a b) = begins g a
 begins g (postfixed o is makes r) = begins g r
@@ -27,5 +30,8 @@ begins g (read r) = λ e. cc
 begins g (inner a un b) = λ e. cc
 begins g (opens a un b) = λ e. cc
 
-pub begins_with : (g : Grammar) → {s : g.Sort} {l : ℕ} {ts rest : List g.Sign} {f : g.Tree} → Reads g (Level s l) ts f rest → BeginsWith g (g.start s) ts
+pub begins_with : (g : Grammar)
+    → {s : g.Sort} {l : ℕ} {ts rest : List g.Sign} {f : g.Tree}
+    → Reads g (Level s l) ts f rest
+    → BeginsWith g (g.start s) ts
 begins_with g r = begins g r

@@ -35,7 +35,8 @@ pub item_stuck : (g : Grammar) (end : ℕ) (m : Mode g.Tree g.Wait) (stack : Sta
     → is_some (step g m stack i.sign) ≡ false
     → outcome g end m stack count depth (i ∷ rest) ≡ Refused Syntax i.at
 item_stuck g end m stack count depth i rest is =
-    stuck_by (then_comes g end (count + i.weight) (open_behind_one i.bracket depth) rest) (cause_at (count + i.weight) (open_behind_one i.bracket depth) i.is_long) (step g m stack i.sign) i.at is
+    stuck_by (then_comes g end (count + i.weight) (open_behind_one i.bracket depth) rest)
+    (cause_at (count + i.weight) (open_behind_one i.bracket depth) i.is_long) (step g m stack i.sign) i.at is
 
 is_refusal : {Tree : Type 0} (c : Cause) (at : ℕ) (out : Outcome Tree)
     → out ≡ Refused c at
@@ -62,7 +63,8 @@ pub item_limited : (g : Grammar) (end : ℕ) (m : Mode g.Tree g.Wait) (stack : S
     → limit_refusal (count + i.weight) (open_behind_one i.bracket depth) i.is_long i.at ≡ Some e
     → IsRefusal e (outcome g end m stack count depth (i ∷ rest))
 item_limited g end m stack count depth i rest e goes is =
-    limited_by (then_comes g end (count + i.weight) (open_behind_one i.bracket depth) rest) (cause_at (count + i.weight) (open_behind_one i.bracket depth) i.is_long) (step g m stack i.sign) i.at e goes is
+    limited_by (then_comes g end (count + i.weight) (open_behind_one i.bracket depth) rest)
+    (cause_at (count + i.weight) (open_behind_one i.bracket depth) i.is_long) (step g m stack i.sign) i.at e goes is
 
 -- the item keeps all limits
 pub record IsWithin (count depth : ℕ) (long : Bool) : Type 0 where
@@ -84,7 +86,8 @@ within_by : (count depth : ℕ) (long a b : Bool)
 within_by count depth long true b x y none is = absurd (cc)
 within_by count depth long false true x y none is = absurd (cc)
 within_by count depth true false false x y none is = absurd (cc)
-within_by count depth false false false x y none is = record { few = ltb-false most_occurrences count x; flat = ltb-false most_open depth y; short = refl; none = none }
+within_by count depth false false false x y none is =
+    record { few = ltb-false most_occurrences count x; flat = ltb-false most_open depth y; short = refl; none = none }
 
 pub unlimited : (count depth : ℕ) (long : Bool) (at : ℕ)
     → limit_refusal count depth long at ≡ None
@@ -97,14 +100,16 @@ pub item_goes : (g : Grammar) (end : ℕ) (m : Mode g.Tree g.Wait) (stack : Stac
     (rest : List (Item g.Sign)) (s : State g)
     → step g m stack i.sign ≡ Some s
     → IsWithin (count + i.weight) (open_behind_one i.bracket depth) i.is_long
-    → outcome g end m stack count depth (i ∷ rest) ≡ outcome g end s.0 s.1 (count + i.weight) (open_behind_one i.bracket depth) rest
+    → outcome g end m stack count depth (i ∷ rest)
+    ≡ outcome g end s.0 s.1 (count + i.weight) (open_behind_one i.bracket depth) rest
 item_goes g end m stack count depth i rest s goes within =
     let next = then_comes g end (count + i.weight) (open_behind_one i.bracket depth) rest in
     ap (λ o. next_outcome next (cause_at (count + i.weight) (open_behind_one i.bracket depth) i.is_long) o i.at) goes
     ∙ ap (λ c. next_outcome next c (Some s) i.at) within.none
 
 pub short_bytes : (text : List ℕ) (p : Placed) → is_long_word p ≡ false → name_bytes text p ≡ bytes_of text p
-short_bytes text p short = ap (λ b. take (cond b Rattle.ml_base.specs.Name.longest_name (p.end - p.start)) (drop p.start text)) short
+short_bytes text p short = ap (λ b.
+    take (cond b Rattle.ml_base.specs.Name.longest_name (p.end - p.start)) (drop p.start text)) short
 
 -- ---- with the sign that the program made, whose name may be cut
 
@@ -137,9 +142,12 @@ pub limited_like : (g : Grammar) (end : ℕ) (m : Mode g.Tree g.Wait) (stack : S
     → IsRefusal e (outcome g end m stack count depth (i ∷ rest))
 limited_like g end m stack count depth i rest t s total open_now long e like goes sum deep is refused =
     item_limited g end m stack count depth i rest e (goes_alike g i.sign t like m stack ∙ ap is_some (sym goes))
-    (sym (refused ∙ ap (λ n. limit_refusal n open_now long i.at) sum ∙ ap (λ n. limit_refusal (count + i.weight) n long i.at) deep ∙ ap (λ b. limit_refusal (count + i.weight) (open_behind_one i.bracket depth) b i.at) is))
+    (sym (refused ∙ ap (λ n. limit_refusal n open_now long i.at) sum
+    ∙ ap (λ n. limit_refusal (count + i.weight) n long i.at) deep
+    ∙ ap (λ b. limit_refusal (count + i.weight) (open_behind_one i.bracket depth) b i.at) is))
 
-pub record Kept (g : Grammar) (m : Mode g.Tree g.Wait) (stack : Stack g) (count depth : ℕ) (i : Item g.Sign) (s : State g) (total open_now : ℕ) : Type 0 where
+pub record Kept (g : Grammar) (m : Mode g.Tree g.Wait) (stack : Stack g) (count depth : ℕ) (i : Item g.Sign)
+    (s : State g) (total open_now : ℕ) : Type 0 where
   pub few : total ≤ most_occurrences
   pub flat : open_now ≤ most_open
   pub comes : (end : ℕ) (rest : List (Item g.Sign))
@@ -156,7 +164,9 @@ pub goes_as : (g : Grammar) (m : Mode g.Tree g.Wait) (stack : Stack g) (count de
     → Kept g m stack count depth i s total open_now
 goes_as g m stack count depth i t s total open_now long same goes sum deep is none =
     let within : IsWithin total open_now long = unlimited total open_now long i.at (sym none) in
-    let inside : IsWithin (count + i.weight) (open_behind_one i.bracket depth) i.is_long = subst (λ b. IsWithin (count + i.weight) (open_behind_one i.bracket depth) b) is (subst (λ d. IsWithin (count + i.weight) d long) deep (subst (λ n. IsWithin n open_now long) sum within)) in
+    let inside : IsWithin (count + i.weight) (open_behind_one i.bracket depth) i.is_long =
+    subst (λ b. IsWithin (count + i.weight) (open_behind_one i.bracket depth) b) is
+    (subst (λ d. IsWithin (count + i.weight) d long) deep (subst (λ n. IsWithin n open_now long) sum within)) in
     let stepped : step g m stack i.sign ≡ Some s = ap (step g m stack) (sym (same within.short)) ∙ sym goes in
     record {
       few = within.few;

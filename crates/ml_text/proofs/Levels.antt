@@ -68,35 +68,52 @@ right_level-above g s m =
 left_follows_by : (g : Grammar) (s : g.Sort) (m : ℕ) → RoleFollows g s (left_level g s m) (Infix m)
 left_follows_by g s m =
     ⊎_elim
-    (λ (e : g.groups_left s m ≡ true). let is = left_level-left g s m e in subst (λ l. RoleFollows g s l (Infix m)) (sym is) (inr (refl, e)))
-    (λ (e : g.groups_left s m ≡ false). let is = left_level-right g s m e in subst (λ l. RoleFollows g s l (Infix m)) (sym is) (inl (omega arith)))
+    (λ (e : g.groups_left s m ≡ true). let is = left_level-left g s m e in
+    subst (λ l. RoleFollows g s l (Infix m)) (sym is) (inr (refl, e)))
+    (λ (e : g.groups_left s m ≡ false). let is = left_level-right g s m e in
+    subst (λ l. RoleFollows g s l (Infix m)) (sym is) (inl (omega arith)))
     (cases_Bool (g.groups_left s m))
 
-pub left_follows : (g : Grammar) (s : g.Sort) (m : ℕ) (o : g.Sign) → g.role s o ≡ Infix m → Follows g s (left_level g s m) (Some o)
+pub left_follows : (g : Grammar) (s : g.Sort) (m : ℕ) (o : g.Sign)
+    → g.role s o ≡ Infix m
+    → Follows g s (left_level g s m) (Some o)
 left_follows g s m o is = subst (RoleFollows g s (left_level g s m)) (sym is) (left_follows_by g s m)
 
 -- the right operand of a level from l on takes less than what an operand of the level l takes
-right_above : (g : Grammar) (s : g.Sort) (l m k : ℕ) → l ≤ m → (k < l) ⊎ ((k ≡ l) × (g.groups_left s l ≡ true)) → k < right_level g s m
+right_above : (g : Grammar) (s : g.Sort) (l m k : ℕ)
+    → l ≤ m
+    → (k < l) ⊎ ((k ≡ l) × (g.groups_left s l ≡ true))
+    → k < right_level g s m
 right_above g s l m k le (inl below) = let above = right_level-above g s m in omega (arith, above)
 right_above g s l m k le (inr same) =
     ⊎_elim
     (λ (e : g.groups_left s m ≡ true). let is = right_level-left g s m e in let at = same.0 in omega (arith, is, at))
     (λ (e : g.groups_left s m ≡ false). ⊎_elim
     (λ (less : l < m). let is = right_level-right g s m e in let at = same.0 in omega (arith, is, at))
-    (λ (ge : m ≤ l). let eq : m ≡ l = omega arith in let there = ap (g.groups_left s) eq in let left = same.1 in absurd (cc))
+    (λ (ge : m ≤ l). let eq : m ≡ l = omega arith in let there = ap (g.groups_left s) eq in let left = same.1 in
+    absurd (cc))
     (cases_lt l m))
     (cases_Bool (g.groups_left s m))
 
-right_role_untaken : (g : Grammar) (s : g.Sort) (l m : ℕ) (r : Role) → l ≤ m → RoleFollows g s l r → role_takes (right_level g s m) r ≡ false
+right_role_untaken : (g : Grammar) (s : g.Sort) (l m : ℕ) (r : Role)
+    → l ≤ m
+    → RoleFollows g s l r
+    → role_takes (right_level g s m) r ≡ false
 right_role_untaken g s l m (Infix k) le h = lt-leb (right_level g s m) k (right_above g s l m k le h)
 right_role_untaken g s l m Postfix le h = absurd h
 right_role_untaken g s l m Outside le h = refl
 
-pub right_untaken : (g : Grammar) (s : g.Sort) (l m : ℕ) (n : Option g.Sign) → l ≤ m → Follows g s l n → takes g s (right_level g s m) n ≡ false
+pub right_untaken : (g : Grammar) (s : g.Sort) (l m : ℕ) (n : Option g.Sign)
+    → l ≤ m
+    → Follows g s l n
+    → takes g s (right_level g s m) n ≡ false
 right_untaken g s l m None le h = refl
 right_untaken g s l m (Some t) le h = right_role_untaken g s l m (g.role s t) le h
 
-pub right_follows : (g : Grammar) (s : g.Sort) (l m : ℕ) (n : Option g.Sign) → l ≤ m → Follows g s l n → Follows g s (right_level g s m) n
+pub right_follows : (g : Grammar) (s : g.Sort) (l m : ℕ) (n : Option g.Sign)
+    → l ≤ m
+    → Follows g s l n
+    → Follows g s (right_level g s m) n
 right_follows g s l m n le h = untaken_follows g s (right_level g s m) n (right_untaken g s l m n le h)
 
 -- an operator that the right operand of a level can't take may follow what was joined at that level
@@ -117,6 +134,9 @@ left_level-right_level g s k m below =
     (cases_lt k m)
 
 -- what is read at a level is read at each looser one
-pub loosen : (g : Grammar) {s : g.Sort} {l : ℕ} {ts rest : List g.Sign} {f : g.Tree} (k : ℕ) → k ≤ l → Reads g (Level s l) ts f rest → Reads g (Level s k) ts f rest
+pub loosen : (g : Grammar) {s : g.Sort} {l : ℕ} {ts rest : List g.Sign} {f : g.Tree} (k : ℕ)
+    → k ≤ l
+    → Reads g (Level s l) ts f rest
+    → Reads g (Level s k) ts f rest
 loosen g k below (alone r) = alone r
 loosen g k below (joined o m is le a b) = joined o m is (omega arith) a b

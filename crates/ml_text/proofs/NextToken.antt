@@ -16,17 +16,26 @@ abbrev pub slice : List ℕ → Placed → List ℕ
 slice text p = take (p.end - p.start) (drop p.start text)
 
 -- the first of the tokens from a byte on, and the others
-pub first_is_next : (w : WordStart) (text : List ℕ) (i : ℕ) (p : Placed) (ps : List Placed) → tokens_from w text i ≡ p ∷ ps → IsNextToken w text i p
+pub first_is_next : (w : WordStart) (text : List ℕ) (i : ℕ) (p : Placed) (ps : List Placed)
+    → tokens_from w text i ≡ p ∷ ps
+    → IsNextToken w text i p
 first_is_next w text i p ps is = (subst (AreTokens w text i) is (are_tokens w text i)).0
 
-pub others_from_end : (w : WordStart) (text : List ℕ) (i : ℕ) (p : Placed) (ps : List Placed) → tokens_from w text i ≡ p ∷ ps → ps ≡ tokens_from w text p.end
-others_from_end w text i p ps is = are_tokens-only w text p.end ps (subst (AreTokens w text i) is (are_tokens w text i)).1
+pub others_from_end : (w : WordStart) (text : List ℕ) (i : ℕ) (p : Placed) (ps : List Placed)
+    → tokens_from w text i ≡ p ∷ ps
+    → ps ≡ tokens_from w text p.end
+others_from_end w text i p ps is =
+    are_tokens-only w text p.end ps (subst (AreTokens w text i) is (are_tokens w text i)).1
 
 -- no token is left exactly if only blanks are
-pub none_left-blank : (w : WordStart) (text : List ℕ) (i : ℕ) → tokens_from w text i ≡ [] → AllBlank text i (length text)
+pub none_left-blank : (w : WordStart) (text : List ℕ) (i : ℕ)
+    → tokens_from w text i ≡ []
+    → AllBlank text i (length text)
 none_left-blank w text i is = subst (AreTokens w text i) is (are_tokens w text i)
 
-pub blank-none_left : (w : WordStart) (text : List ℕ) (i : ℕ) → AllBlank text i (length text) → tokens_from w text i ≡ []
+pub blank-none_left : (w : WordStart) (text : List ℕ) (i : ℕ)
+    → AllBlank text i (length text)
+    → tokens_from w text i ≡ []
 blank-none_left w text i blank = sym (are_tokens-only w text i [] blank)
 
 module _ (w : WordStart) (text : List ℕ) (i : ℕ) (p : Placed) (next : IsNextToken w text i p) where

@@ -15,14 +15,20 @@ use Rattle.ml_text.proofs.Complete.{behind-popped, behind-taken}
 pub reduce-popped : (g : Grammar) (n : Option g.Sign) (fr : Frame g) (stack : Stack g) (v : g.Tree)
     → takes g (frame_sort g fr) (frame_level g fr) n ≡ false
     → reduce g n (fr ∷ stack) v ≡ reduced g (λ w. reduce g n stack w) (popped g fr v) stack
-reduce-popped g n (Held k) stack v e = cond-false (takes g (g.sort k) (g.level k) n) (Whole v, Held k ∷ stack) (reduced g (λ w. reduce g n stack w) (g.resume k v) stack) e
-reduce-popped g n (Left s m o u) stack v e = cond-false (takes g s (right_level g s m) n) (Whole v, Left s m o u ∷ stack) (reduce g n stack (g.join o u v)) e
+reduce-popped g n (Held k) stack v e =
+    cond-false (takes g (g.sort k) (g.level k) n) (Whole v, Held k ∷ stack)
+    (reduced g (λ w. reduce g n stack w) (g.resume k v) stack) e
+reduce-popped g n (Left s m o u) stack v e =
+    cond-false (takes g s (right_level g s m) n) (Whole v, Left s m o u ∷ stack) (reduce g n stack (g.join o u v)) e
 
 pub reduce-stops : (g : Grammar) (n : Option g.Sign) (fr : Frame g) (stack : Stack g) (v : g.Tree)
     → takes g (frame_sort g fr) (frame_level g fr) n ≡ true
     → reduce g n (fr ∷ stack) v ≡ (Whole v, fr ∷ stack)
-reduce-stops g n (Held k) stack v e = cond-true (takes g (g.sort k) (g.level k) n) (Whole v, Held k ∷ stack) (reduced g (λ w. reduce g n stack w) (g.resume k v) stack) e
-reduce-stops g n (Left s m o u) stack v e = cond-true (takes g s (right_level g s m) n) (Whole v, Left s m o u ∷ stack) (reduce g n stack (g.join o u v)) e
+reduce-stops g n (Held k) stack v e =
+    cond-true (takes g (g.sort k) (g.level k) n) (Whole v, Held k ∷ stack)
+    (reduced g (λ w. reduce g n stack w) (g.resume k v) stack) e
+reduce-stops g n (Left s m o u) stack v e =
+    cond-true (takes g s (right_level g s m) n) (Whole v, Left s m o u ∷ stack) (reduce g n stack (g.join o u v)) e
 
 -- a state, resolved
 abbrev pub resolved : (g : Grammar) → g.Sign → State g → Option (State g)
@@ -39,8 +45,11 @@ pub behind-reduce : (g : Grammar) (stack : Stack g) (v : g.Tree) (t : g.Sign)
 behind-reduce g [] v t = refl
 behind-reduce g (fr ∷ stack) v t =
     ⊎_elim
-    (λ (taken : takes g (frame_sort g fr) (frame_level g fr) (Some t) ≡ true). behind-taken g (fr ∷ stack) v t taken ∙ sym (ap (resolved g t) (reduce-stops g (Some t) fr stack v taken)))
-    (λ (untaken : takes g (frame_sort g fr) (frame_level g fr) (Some t) ≡ false). behind-popped g fr stack v t untaken ∙ step-reduced g t (popped g fr v) stack (λ w. behind-reduce g stack w t) ∙ sym (ap (resolved g t) (reduce-popped g (Some t) fr stack v untaken)))
+    (λ (taken : takes g (frame_sort g fr) (frame_level g fr) (Some t) ≡ true). behind-taken g (fr ∷ stack) v t taken
+    ∙ sym (ap (resolved g t) (reduce-stops g (Some t) fr stack v taken)))
+    (λ (untaken : takes g (frame_sort g fr) (frame_level g fr) (Some t) ≡ false). behind-popped g fr stack v t untaken
+    ∙ step-reduced g t (popped g fr v) stack (λ w. behind-reduce g stack w t)
+    ∙ sym (ap (resolved g t) (reduce-popped g (Some t) fr stack v untaken)))
     (cases_Bool (takes g (frame_sort g fr) (frame_level g fr) (Some t)))
 
 -- the tree of a whole form
@@ -71,12 +80,15 @@ pub reduce-same : (g : Grammar) (n k : Option g.Sign)
     → reduce g n stack v ≡ reduce g k stack v
 reduce-same g n k same [] v = refl
 reduce-same g n k same (fr ∷ stack) v =
-    let here : takes g (frame_sort g fr) (frame_level g fr) n ≡ takes g (frame_sort g fr) (frame_level g fr) k = same (frame_sort g fr) (frame_level g fr) in
+    let here : takes g (frame_sort g fr) (frame_level g fr) n ≡ takes g (frame_sort g fr) (frame_level g fr) k =
+    same (frame_sort g fr) (frame_level g fr) in
     ⊎_elim
-    (λ (taken : takes g (frame_sort g fr) (frame_level g fr) k ≡ true). reduce-stops g n fr stack v (here ∙ taken) ∙ sym (reduce-stops g k fr stack v taken))
+    (λ (taken : takes g (frame_sort g fr) (frame_level g fr) k ≡ true). reduce-stops g n fr stack v (here ∙ taken)
+    ∙ sym (reduce-stops g k fr stack v taken))
     (λ (untaken : takes g (frame_sort g fr) (frame_level g fr) k ≡ false).
     reduce-popped g n fr stack v (here ∙ untaken)
-    ∙ reduced-same g (popped g fr v) stack (λ w. reduce g n stack w) (λ w. reduce g k stack w) (λ w. reduce-same g n k same stack w)
+    ∙ reduced-same g (popped g fr v) stack (λ w. reduce g n stack w) (λ w. reduce g k stack w)
+    (λ w. reduce-same g n k same stack w)
     ∙ sym (reduce-popped g k fr stack v untaken))
     (cases_Bool (takes g (frame_sort g fr) (frame_level g fr) k))
 

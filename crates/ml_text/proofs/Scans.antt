@@ -21,30 +21,47 @@ spelt_at text p = (p.token, take (p.end - p.start) (drop p.start text))
 pub data Scans (w : WordStart) : List ℕ → List Spelt → Type 0 where
   ends : Scans w [] []
   blank : {rest : List ℕ} {ss : List Spelt} (b : ℕ) → is_blank b ≡ true → Scans w rest ss → Scans w (b ∷ rest) ss
-  piece : {rest : List ℕ} {ss : List Spelt} (t : Token) (b : ℕ) (bs : List ℕ) → is_blank b ≡ false → front_token w b (bs ++ rest) ≡ (t, suc (length bs)) → Scans w rest ss → Scans w (b ∷ (bs ++ rest)) ((t, b ∷ bs) ∷ ss)
+  piece : {rest : List ℕ} {ss : List Spelt} (t : Token) (b : ℕ) (bs : List ℕ)
+      → is_blank b ≡ false
+      → front_token w b (bs ++ rest) ≡ (t, suc (length bs))
+      → Scans w rest ss
+      → Scans w (b ∷ (bs ++ rest)) ((t, b ∷ bs) ∷ ss)
 
-tokens_at-blank : (n : ℕ) (w : WordStart) (i b : ℕ) (rest : List ℕ) → is_blank b ≡ true → tokens_at (suc n) w i (b ∷ rest) ≡ tokens_at n w (i + 1) rest
+tokens_at-blank : (n : ℕ) (w : WordStart) (i b : ℕ) (rest : List ℕ)
+    → is_blank b ≡ true
+    → tokens_at (suc n) w i (b ∷ rest) ≡ tokens_at n w (i + 1) rest
 unfolding tokens_at
 tokens_at-blank n w i b rest is = cond-true _ _ _ is
 
 -- the token that stands at a place, and the others
-at_piece : (n : ℕ) (w : WordStart) (i b : ℕ) (rest : List ℕ) (t : Token) (size : ℕ) → is_blank b ≡ false → front_token w b rest ≡ (t, size) → tokens_at (suc n) w i (b ∷ rest) ≡ (record { token = t; start = i; end = i + size }) ∷ tokens_at n w (i + size) (drop size (b ∷ rest))
+at_piece : (n : ℕ) (w : WordStart) (i b : ℕ) (rest : List ℕ) (t : Token) (size : ℕ) → is_blank b ≡ false
+    → front_token w b rest ≡ (t, size) → tokens_at (suc n) w i (b ∷ rest)
+    ≡ (record { token = t; start = i; end = i + size }) ∷ tokens_at n w (i + size) (drop size (b ∷ rest))
 unfolding tokens_at
 at_piece n w i b rest t size other front =
     cond-false _ _ _ other
-    ∙ ap (λ (f : Token × ℕ). (record { token = f.0; start = i; end = i + f.1 }) ∷ tokens_at n w (i + f.1) (drop f.1 (b ∷ rest))) front
+    ∙ ap (λ (f : Token × ℕ). (record { token = f.0; start = i; end = i + f.1 }) ∷ tokens_at n w (i + f.1)
+    (drop f.1 (b ∷ rest))) front
 
 no_tokens : (n : ℕ) (w : WordStart) (i : ℕ) → tokens_at n w i [] ≡ []
 unfolding tokens_at
 no_tokens zero w i = refl
 no_tokens (suc n) w i = refl
 
-spelt_piece : (text0 : List ℕ) (i : ℕ) (t : Token) (b : ℕ) (bs rest : List ℕ) → drop i text0 ≡ b ∷ (bs ++ rest) → spelt_at text0 (record { token = t; start = i; end = i + suc (length bs) }) ≡ (t, b ∷ bs)
+spelt_piece : (text0 : List ℕ) (i : ℕ) (t : Token) (b : ℕ) (bs rest : List ℕ) → drop i text0 ≡ b ∷ (bs ++ rest)
+    → spelt_at text0 (record { token = t; start = i; end = i + suc (length bs) }) ≡ (t, b ∷ bs)
 spelt_piece text0 i t b bs rest there =
     let size : i + suc (length bs) - i ≡ suc (length bs) = omega arith in
-    ap (λ n. (t, take n (drop i text0))) size ∙ ap (λ xs. (t, take (suc (length bs)) xs)) there ∙ ap (λ xs. (t, xs)) (take-append_seam (b ∷ bs) rest)
+    ap (λ n. (t, take n (drop i text0))) size ∙ ap (λ xs. (t, take (suc (length bs)) xs)) there
+    ∙ ap (λ xs. (t, xs)) (take-append_seam (b ∷ bs) rest)
 
-pub scans_at : (w : WordStart) {text : List ℕ} {ss : List Spelt} → Scans w text ss → (n i : ℕ) → length text ≤ n → (text0 : List ℕ) → drop i text0 ≡ text → map (spelt_at text0) (tokens_at n w i text) ≡ ss
+pub scans_at : (w : WordStart) {text : List ℕ} {ss : List Spelt}
+    → Scans w text ss
+    → (n i : ℕ)
+    → length text ≤ n
+    → (text0 : List ℕ)
+    → drop i text0 ≡ text
+    → map (spelt_at text0) (tokens_at n w i text) ≡ ss
 scans_at w ends n i fits text0 there = ap (map (spelt_at text0)) (no_tokens n w i)
 scans_at w (blank b is r) zero i fits text0 there = absurd (omega arith)
 scans_at w (blank {rest = rest} b is r) (suc n) i fits text0 there =
@@ -54,10 +71,14 @@ scans_at w (piece t b bs is front r) zero i fits text0 there = absurd (omega ari
 scans_at w (piece {rest = rest} t b bs is front r) (suc n) i fits text0 there =
     let next : drop (suc (length bs)) (b ∷ (bs ++ rest)) ≡ rest = drop-append_seam bs rest in
     ap (map (spelt_at text0)) (at_piece n w i b (bs ++ rest) t (suc (length bs)) is front)
-    ∙ ap (λ s. s ∷ map (spelt_at text0) (tokens_at n w (i + suc (length bs)) (drop (suc (length bs)) (b ∷ (bs ++ rest))))) (spelt_piece text0 i t b bs rest there)
+    ∙ ap (λ s. s ∷ map (spelt_at text0) (tokens_at n w (i + suc (length bs))
+    (drop (suc (length bs)) (b ∷ (bs ++ rest))))) (spelt_piece text0 i t b bs rest there)
     ∙ ap (λ xs. (t, b ∷ bs) ∷ map (spelt_at text0) (tokens_at n w (i + suc (length bs)) xs)) next
-    ∙ ap (λ ss. (t, b ∷ bs) ∷ ss) (scans_at w r n (i + suc (length bs)) (omega (arith, length-append bs rest)) text0 (sym (drop-drop (suc (length bs)) i text0) ∙ ap (drop (suc (length bs))) there ∙ next))
+    ∙ ap (λ ss. (t, b ∷ bs) ∷ ss) (scans_at w r n (i + suc (length bs)) (omega (arith, length-append bs rest)) text0
+    (sym (drop-drop (suc (length bs)) i text0) ∙ ap (drop (suc (length bs))) there ∙ next))
 
-pub scans_tokens : (w : WordStart) (text : List ℕ) (ss : List Spelt) → Scans w text ss → map (spelt_at text) (tokens w text) ≡ ss
+pub scans_tokens : (w : WordStart) (text : List ℕ) (ss : List Spelt)
+    → Scans w text ss
+    → map (spelt_at text) (tokens w text) ≡ ss
 unfolding tokens tokens_from
 scans_tokens w text ss r = scans_at w r (length text) 0 (omega arith) text refl

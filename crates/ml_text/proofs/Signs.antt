@@ -21,20 +21,36 @@ pub starts_with-fits : (text s : List ℕ) → starts_with nat_eq text s ≡ tru
 starts_with-fits text s e = omega (arith, ap length (starts_with-front text s e), length-take (length s) text)
 
 -- the choice at one spelling, by the outcome of the test
-pub longest_sign-taken : (e : List ℕ × Token) (es : List (List ℕ × Token)) (text : List ℕ) → starts_with nat_eq text e.0 ≡ true → is_longer e (longest_sign es text) ≡ true → longest_sign (e ∷ es) text ≡ Some (e.1, length e.0)
+pub longest_sign-taken : (e : List ℕ × Token) (es : List (List ℕ × Token)) (text : List ℕ)
+    → starts_with nat_eq text e.0 ≡ true
+    → is_longer e (longest_sign es text) ≡ true
+    → longest_sign (e ∷ es) text ≡ Some (e.1, length e.0)
 unfolding longest_sign
-longest_sign-taken e es text starts longer = cond-true (starts_with nat_eq text e.0 && is_longer e (longest_sign es text)) (Some (e.1, length e.0)) (longest_sign es text) (and_from _ _ starts longer)
+longest_sign-taken e es text starts longer =
+    cond-true (starts_with nat_eq text e.0 && is_longer e (longest_sign es text)) (Some (e.1, length e.0))
+    (longest_sign es text) (and_from _ _ starts longer)
 
-pub longest_sign-other : (e : List ℕ × Token) (es : List (List ℕ × Token)) (text : List ℕ) → starts_with nat_eq text e.0 ≡ false → longest_sign (e ∷ es) text ≡ longest_sign es text
+pub longest_sign-other : (e : List ℕ × Token) (es : List (List ℕ × Token)) (text : List ℕ)
+    → starts_with nat_eq text e.0 ≡ false
+    → longest_sign (e ∷ es) text ≡ longest_sign es text
 unfolding longest_sign
-longest_sign-other e es text starts = cond-false (starts_with nat_eq text e.0 && is_longer e (longest_sign es text)) (Some (e.1, length e.0)) (longest_sign es text) (and_left _ _ starts)
+longest_sign-other e es text starts =
+    cond-false (starts_with nat_eq text e.0 && is_longer e (longest_sign es text)) (Some (e.1, length e.0))
+    (longest_sign es text) (and_left _ _ starts)
 
-pub longest_sign-shorter : (e : List ℕ × Token) (es : List (List ℕ × Token)) (text : List ℕ) → is_longer e (longest_sign es text) ≡ false → longest_sign (e ∷ es) text ≡ longest_sign es text
+pub longest_sign-shorter : (e : List ℕ × Token) (es : List (List ℕ × Token)) (text : List ℕ)
+    → is_longer e (longest_sign es text) ≡ false
+    → longest_sign (e ∷ es) text ≡ longest_sign es text
 unfolding longest_sign
-longest_sign-shorter e es text longer = cond-false (starts_with nat_eq text e.0 && is_longer e (longest_sign es text)) (Some (e.1, length e.0)) (longest_sign es text) (and_right _ _ longer)
+longest_sign-shorter e es text longer =
+    cond-false (starts_with nat_eq text e.0 && is_longer e (longest_sign es text)) (Some (e.1, length e.0))
+    (longest_sign es text) (and_right _ _ longer)
 
 -- an element of a list is its first one or one of the others
-contains_cases_at : {X : Type 0} (x : X) (xs : List X) (y : X) (k : ℕ) → k < length (x ∷ xs) → get_or (x ∷ xs) k y ≡ y → (x ≡ y) ⊎ Contains xs y
+contains_cases_at : {X : Type 0} (x : X) (xs : List X) (y : X) (k : ℕ)
+    → k < length (x ∷ xs)
+    → get_or (x ∷ xs) k y ≡ y
+    → (x ≡ y) ⊎ Contains xs y
 contains_cases_at x xs y zero within is = inl is
 contains_cases_at x xs y (suc k) within is = inr (k, omega arith, is)
 
@@ -53,7 +69,9 @@ pub record Found (es : List (List ℕ × Token)) (text : List ℕ) (best : Token
   pub starts : starts_with nat_eq text spelling ≡ true
   pub long : length spelling ≡ best.1
 
-found_later : (e : List ℕ × Token) (es : List (List ℕ × Token)) (text : List ℕ) (best : Token × ℕ) → Found es text best → Found (e ∷ es) text best
+found_later : (e : List ℕ × Token) (es : List (List ℕ × Token)) (text : List ℕ) (best : Token × ℕ)
+    → Found es text best
+    → Found (e ∷ es) text best
 found_later e es text best f = record {
   spelling = f.spelling;
   listed = contains_later e es (f.spelling, best.0) f.listed;
@@ -61,7 +79,9 @@ found_later e es text best f = record {
   long = f.long;
 }
 
-found_first : (e : List ℕ × Token) (es : List (List ℕ × Token)) (text : List ℕ) → starts_with nat_eq text e.0 ≡ true → Found (e ∷ es) text (e.1, length e.0)
+found_first : (e : List ℕ × Token) (es : List (List ℕ × Token)) (text : List ℕ)
+    → starts_with nat_eq text e.0 ≡ true
+    → Found (e ∷ es) text (e.1, length e.0)
 found_first e es text starts = record {
   spelling = e.0;
   listed = contains_first e es;
@@ -70,15 +90,20 @@ found_first e es text starts = record {
 }
 
 -- what is answered is a spelling of the table with which the text begins
-pub longest_sign-found : (es : List (List ℕ × Token)) (text : List ℕ) (best : Token × ℕ) → longest_sign es text ≡ Some best → Found es text best
+pub longest_sign-found : (es : List (List ℕ × Token)) (text : List ℕ) (best : Token × ℕ)
+    → longest_sign es text ≡ Some best
+    → Found es text best
 unfolding longest_sign
 longest_sign-found [] text best is = absurd (cc)
 longest_sign-found (e ∷ es) text best is =
-    let later : longest_sign (e ∷ es) text ≡ longest_sign es text → Found (e ∷ es) text best = λ same. found_later e es text best (longest_sign-found es text best (sym same ∙ is)) in
+    let later : longest_sign (e ∷ es) text ≡ longest_sign es text → Found (e ∷ es) text best =
+    λ same. found_later e es text best (longest_sign-found es text best (sym same ∙ is)) in
     ⊎_elim
     (λ (starts : starts_with nat_eq text e.0 ≡ true).
     ⊎_elim
-    (λ (longer : is_longer e (longest_sign es text) ≡ true). let here : (e.1, length e.0) ≡ best = cc (longest_sign-taken e es text starts longer, is) in subst (Found (e ∷ es) text) here (found_first e es text starts))
+    (λ (longer : is_longer e (longest_sign es text) ≡ true). let here : (e.1, length e.0)
+    ≡ best = cc (longest_sign-taken e es text starts longer, is) in
+    subst (Found (e ∷ es) text) here (found_first e es text starts))
     (λ (shorter : is_longer e (longest_sign es text) ≡ false). later (longest_sign-shorter e es text shorter))
     (cases_Bool (is_longer e (longest_sign es text))))
     (λ (other : starts_with nat_eq text e.0 ≡ false). later (longest_sign-other e es text other))
@@ -91,7 +116,9 @@ pub record AtLeast (n : ℕ) (answer : Option (Token × ℕ)) : Type 0 where
   pub long : n ≤ best.1
 
 -- a spelling that is not longer than the best so far
-not_longer : (e : List ℕ × Token) (answer : Option (Token × ℕ)) → is_longer e answer ≡ false → AtLeast (length e.0) answer
+not_longer : (e : List ℕ × Token) (answer : Option (Token × ℕ))
+    → is_longer e answer ≡ false
+    → AtLeast (length e.0) answer
 not_longer e None shorter = absurd (cc)
 not_longer e (Some best) shorter = record { best = best; is = refl; long = ltb-false best.1 (length e.0) shorter }
 
@@ -100,36 +127,55 @@ at_least_along : (n : ℕ) (old new : Option (Token × ℕ)) → new ≡ old →
 at_least_along n old new same a = record { best = a.best; is = same ∙ a.is; long = a.long }
 
 -- a spelling that is longer than an answer of at least n is longer than n
-is_longer-above : (e : List ℕ × Token) (n : ℕ) (answer : Option (Token × ℕ)) → AtLeast n answer → is_longer e answer ≡ true → n ≤ length e.0
+is_longer-above : (e : List ℕ × Token) (n : ℕ) (answer : Option (Token × ℕ))
+    → AtLeast n answer
+    → is_longer e answer ≡ true
+    → n ≤ length e.0
 is_longer-above e n answer a longer =
     let above : a.best.1 < length e.0 = ltb-true a.best.1 (length e.0) (sym (ap (is_longer e) a.is) ∙ longer) in
     omega (arith, a.long)
 
 -- the next spelling of the table leaves no shorter answer
-longest_sign-keeps : (d : List ℕ × Token) (es : List (List ℕ × Token)) (text : List ℕ) (n : ℕ) → AtLeast n (longest_sign es text) → AtLeast n (longest_sign (d ∷ es) text)
+longest_sign-keeps : (d : List ℕ × Token) (es : List (List ℕ × Token)) (text : List ℕ) (n : ℕ)
+    → AtLeast n (longest_sign es text)
+    → AtLeast n (longest_sign (d ∷ es) text)
 longest_sign-keeps d es text n a =
     ⊎_elim
     (λ (starts : starts_with nat_eq text d.0 ≡ true).
     ⊎_elim
-    (λ (longer : is_longer d (longest_sign es text) ≡ true). record { best = (d.1, length d.0); is = longest_sign-taken d es text starts longer; long = is_longer-above d n (longest_sign es text) a longer })
-    (λ (shorter : is_longer d (longest_sign es text) ≡ false). at_least_along n _ _ (longest_sign-shorter d es text shorter) a)
+    (λ (longer : is_longer d (longest_sign es text) ≡ true).
+    record {
+      best = (d.1, length d.0);
+      is = longest_sign-taken d es text starts longer;
+      long = is_longer-above d n (longest_sign es text) a longer;
+    })
+    (λ (shorter : is_longer d (longest_sign es text) ≡ false). at_least_along n _ _
+    (longest_sign-shorter d es text shorter) a)
     (cases_Bool (is_longer d (longest_sign es text))))
     (λ (other : starts_with nat_eq text d.0 ≡ false). at_least_along n _ _ (longest_sign-other d es text other) a)
     (cases_Bool (starts_with nat_eq text d.0))
 
 -- a spelling with which the text begins leaves no shorter answer
-longest_sign-first : (e : List ℕ × Token) (es : List (List ℕ × Token)) (text : List ℕ) → starts_with nat_eq text e.0 ≡ true → AtLeast (length e.0) (longest_sign (e ∷ es) text)
+longest_sign-first : (e : List ℕ × Token) (es : List (List ℕ × Token)) (text : List ℕ)
+    → starts_with nat_eq text e.0 ≡ true
+    → AtLeast (length e.0) (longest_sign (e ∷ es) text)
 longest_sign-first e es text starts =
     ⊎_elim
-    (λ (longer : is_longer e (longest_sign es text) ≡ true). record { best = (e.1, length e.0); is = longest_sign-taken e es text starts longer; long = omega arith })
-    (λ (shorter : is_longer e (longest_sign es text) ≡ false). at_least_along (length e.0) _ _ (longest_sign-shorter e es text shorter) (not_longer e (longest_sign es text) shorter))
+    (λ (longer : is_longer e (longest_sign es text) ≡ true).
+    record { best = (e.1, length e.0); is = longest_sign-taken e es text starts longer; long = omega arith })
+    (λ (shorter : is_longer e (longest_sign es text) ≡ false). at_least_along (length e.0) _ _
+    (longest_sign-shorter e es text shorter) (not_longer e (longest_sign es text) shorter))
     (cases_Bool (is_longer e (longest_sign es text)))
 
 -- every spelling of the table with which the text begins is at most as long as what is answered
-pub longest_sign-longest : (es : List (List ℕ × Token)) (text : List ℕ) (e : List ℕ × Token) → Contains es e → starts_with nat_eq text e.0 ≡ true → AtLeast (length e.0) (longest_sign es text)
+pub longest_sign-longest : (es : List (List ℕ × Token)) (text : List ℕ) (e : List ℕ × Token)
+    → Contains es e
+    → starts_with nat_eq text e.0 ≡ true
+    → AtLeast (length e.0) (longest_sign es text)
 longest_sign-longest [] text e listed starts = absurd (omega (arith, listed.1))
 longest_sign-longest (d ∷ es) text e listed starts =
     ⊎_elim
-    (λ (same : d ≡ e). subst (λ x. AtLeast (length x.0) (longest_sign (d ∷ es) text)) same (longest_sign-first d es text (subst (λ x. starts_with nat_eq text x.0 ≡ true) (sym same) starts)))
+    (λ (same : d ≡ e). subst (λ x. AtLeast (length x.0) (longest_sign (d ∷ es) text)) same
+    (longest_sign-first d es text (subst (λ x. starts_with nat_eq text x.0 ≡ true) (sym same) starts)))
     (λ (later : Contains es e). longest_sign-keeps d es text (length e.0) (longest_sign-longest es text e later starts))
     (contains_cases d es e listed)

@@ -12,13 +12,18 @@ pub pushed_frame : {K C S O T W H : Type 0} (t : Tables K C S O T W H) (frames :
     (f : Frame S O T H)
     → stack_view t (frames ++ f ∷ []) ≡ frame_view t f ∷ stack_view t frames
 pushed_frame t frames f =
-    ap reverse (map-append (frame_view t) frames (f ∷ [])) ∙ reverse-append (map (frame_view t) frames) (frame_view t f ∷ [])
+    ap reverse (map-append (frame_view t) frames (f ∷ []))
+    ∙ reverse-append (map (frame_view t) frames) (frame_view t f ∷ [])
 
 pub popped_frame : {K C S O T W H : Type 0} (t : Tables K C S O T W H) (old new : List (Frame S O T H))
     (result : Option (Frame S O T H)) (top : Frame S O T H) (n : t.grammar.Sign)
     → old ≡ new ++ option_to_list result → result ≡ Some top → IsUntaken t.grammar (frame_view t top) n
-    → MatchOption result (IsStopped t.grammar (stack_view t old) n × (new ≡ old)) (λ frame. (stack_view t old ≡ frame_view t frame ∷ stack_view t new) × IsUntaken t.grammar (frame_view t frame) n)
+    → MatchOption result (IsStopped t.grammar (stack_view t old) n × (new ≡ old))
+    (λ frame. (stack_view t old ≡ frame_view t frame ∷ stack_view t new)
+    × IsUntaken t.grammar (frame_view t frame) n)
 popped_frame t old new result top n items is untaken =
     let last : old ≡ new ++ top ∷ [] = items ∙ ap (λ r. new ++ option_to_list r) is in
-    subst (λ r. MatchOption r (IsStopped t.grammar (stack_view t old) n × (new ≡ old)) (λ frame. (stack_view t old ≡ frame_view t frame ∷ stack_view t new) × IsUntaken t.grammar (frame_view t frame) n)) (sym is)
+    subst (λ r. MatchOption r (IsStopped t.grammar (stack_view t old) n × (new ≡ old))
+    (λ frame. (stack_view t old ≡ frame_view t frame ∷ stack_view t new)
+    × IsUntaken t.grammar (frame_view t frame) n)) (sym is)
     (ap (stack_view t) last ∙ pushed_frame t new top, untaken)

@@ -28,7 +28,11 @@ stack_at h i = (item_at h i).stack
 -- places of names tell which stacks of h beat which
 pub record TellOffers (places : List ℕ) (h : List (Item ℕ)) : Type 0 where
   pub count : length places ≡ live h
-  pub tell : (a b : Item ℕ) → IsMember a h → IsMember b h → beats a.stack b.stack ≡ nat_lt (slice_index_or places (last_name a.stack) 0) (slice_index_or places (last_name b.stack) 0)
+  pub tell : (a b : Item ℕ)
+      → IsMember a h
+      → IsMember b h
+      → beats a.stack b.stack ≡ nat_lt (slice_index_or places (last_name a.stack) 0)
+      (slice_index_or places (last_name b.stack) 0)
 
 -- the item that the offer makes
 abbrev pub offered_by : List (Item ℕ) → Offer → Item ℕ

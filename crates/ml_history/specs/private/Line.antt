@@ -52,7 +52,8 @@ parent_in parents y = slice_index_or parents y 0
 
 -- each name's parent is older, or it has none
 abbrev pub IsTree : List ℕ → Type 0
-IsTree parents = (y : ℕ) → y < length parents → (slice_index_or parents y 0 < y) ⊎ (slice_index_or parents y 0 ≡ length parents)
+IsTree parents = (y : ℕ) → y < length parents → (slice_index_or parents y 0 < y)
+    ⊎ (slice_index_or parents y 0 ≡ length parents)
 
 -- next leads along the line of all names
 pub record AreLinks (next parents : List ℕ) : Type 0 where
@@ -62,4 +63,7 @@ pub record AreLinks (next parents : List ℕ) : Type 0 where
 -- the places of the names: they fall along the line, down to 0
 pub record ArePlaces (places parents : List ℕ) : Type 0 where
   pub count : length places ≡ length parents
-  pub fall : (k : ℕ) → k < length parents → slice_index_or places (slice_index_or (line (parent_in parents) (length parents) (length parents)) (k + 1) 0) 0 ≡ length parents - 1 - k
+  pub fall : (k : ℕ)
+      → k < length parents
+      → slice_index_or places (slice_index_or (line (parent_in parents) (length parents) (length parents)) (k + 1) 0) 0
+      ≡ length parents - 1 - k

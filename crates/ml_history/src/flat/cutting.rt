@@ -6,7 +6,7 @@ ghost use Rattle.ml_trace.specs.Stack.{has, ends_in};
 ghost use Rattle.ml_history.specs.declared.flat.offers.Offer.{Offer};
 ghost use Rattle.ml_history.specs.History.{IsSmallHistory};
 ghost use Rattle.ml_history.specs.HistoryStep.{live, last_name, is_full, through, cut};
-ghost use Rattle.ml_history.specs.TreeStep.{flagged};
+ghost use Rattle.ml_history.specs.private.TreeStep.{flagged};
 ghost use Rattle.ml_history.specs.private.Keys.{offered_by};
 
 use crate::flat::History;

@@ -1,7 +1,7 @@
 // The first two parts of the step: offers, and what the targets take.
 ghost use Rattle.std.specs.Prelude.{◌≡◌, ◌+◌, ◌^◌, ◌<◌, ◌≤◌, ◌++◌, IfOk, IfErr, OnOk};
 ghost use Rattle.ml_history.specs.HistoryStep.{above, live, last_name, offered, offers_along, offers, taken};
-ghost use Rattle.ml_history.specs.Puts.{StandsAt, GoesAt, put};
+ghost use Rattle.ml_history.specs.private.Puts.{StandsAt, GoesAt, put};
 
 use crate::names::{above, last_name};
 use crate::plain::items::{Stacked, beats};

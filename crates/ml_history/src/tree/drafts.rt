@@ -1,8 +1,8 @@
 // Drafts of vertices: what a step makes of a tree, before its names are numbered anew.
 ghost use Rattle.std.specs.Prelude.{◌≡◌, ◌++◌, OnOk};
-ghost use Rattle.ml_history.specs.Forest.{Empty, states};
-ghost use Rattle.ml_history.specs.TreeStep.{lay, full_here, beside};
-ghost use Rattle.ml_history.specs.Vertices.{joined};
+ghost use Rattle.ml_history.specs.private.Forest.{Empty, states};
+ghost use Rattle.ml_history.specs.private.TreeStep.{lay, full_here, beside};
+ghost use Rattle.ml_history.specs.private.Vertices.{joined};
 
 use ml_base::NoMemory;
 use std::alloc::Global;
@@ -18,7 +18,7 @@ pub(crate) struct Draft {
 
 impl Model for Draft {
     ghost use Rattle.std.proofs.Common.{arith};
-    ghost use Rattle.ml_history.specs.Vertices.{Rooted, joined, vertices, most-vertices, rooted_code};
+    ghost use Rattle.ml_history.specs.private.Vertices.{Rooted, joined, vertices, most-vertices, rooted_code};
 
     ghost Value = { Rooted };
 

@@ -2,8 +2,8 @@
 ghost use Rattle.std.specs.Prelude.{◌≡◌, ◌++◌, ◌↔◌, Bool, IfOk, OnOk};
 ghost use Rattle.ml_lists.specs.Member.{IsMember};
 ghost use Rattle.ml_trace.specs.declared.letters.Transition.{Transition};
-ghost use Rattle.ml_history.specs.Moves.{ends};
-ghost use Rattle.ml_history.specs.TreeStep.{targets};
+ghost use Rattle.ml_history.specs.private.Moves.{ends};
+ghost use Rattle.ml_history.specs.private.TreeStep.{targets};
 
 use ml_base::NoMemory;
 use ml_trace::Transition;
@@ -23,7 +23,7 @@ impl Model for Moves {
 
     ghost Value = { List Transition };
 
-    ghost use Rattle.ml_history.specs.Moves.{RiseBySource};
+    ghost use Rattle.ml_history.specs.private.Moves.{RiseBySource};
 
     ghost view = { λ m. m.by_source.items };
 

@@ -5,10 +5,10 @@ ghost use Rattle.ml_lists.specs.Counting.{count};
 ghost use Rattle.ml_lists.specs.Least.{least};
 ghost use Rattle.ml_lists.specs.Member.{IsMember};
 ghost use Rattle.ml_trace.specs.Stack.{has};
-ghost use Rattle.ml_history.specs.Forest.{names};
+ghost use Rattle.ml_history.specs.private.Forest.{names};
 ghost use Rattle.ml_history.specs.HistoryStep.{mark_of};
-ghost use Rattle.ml_history.specs.TreeStep.{renewed, flagged};
-ghost use Rattle.ml_history.specs.Vertices.{joined};
+ghost use Rattle.ml_history.specs.private.TreeStep.{renewed, flagged};
+ghost use Rattle.ml_history.specs.private.Vertices.{joined};
 
 use crate::names::{flags_of, mark, numbers};
 use crate::tree::drafts::Draft;

@@ -1,10 +1,10 @@
 // Vertices, and what is computed by walks over them.
 ghost use Rattle.std.specs.Prelude.{◌≡◌, ◌++◌, OnOk, map};
-ghost use Rattle.ml_history.specs.Forest.{names, places, lies_at};
+ghost use Rattle.ml_history.specs.private.Forest.{names, places, lies_at};
 ghost use Rattle.ml_history.specs.HistoryStep.{above};
 ghost use Rattle.ml_history.specs.Stacks.{stacked};
-ghost use Rattle.ml_history.specs.TreeWalks.{behind};
-ghost use Rattle.ml_history.specs.Vertices.{joined};
+ghost use Rattle.ml_history.specs.private.TreeWalks.{behind};
+ghost use Rattle.ml_history.specs.private.Vertices.{joined};
 
 use ml_base::{IdSet, NoMemory};
 use std::alloc::Global;
@@ -20,7 +20,7 @@ pub(crate) struct Vertex {
 
 impl Model for Vertex {
     ghost use Rattle.std.proofs.Common.{arith};
-    ghost use Rattle.ml_history.specs.Vertices.{Rooted, joined, vertices, most-vertices, rooted_code};
+    ghost use Rattle.ml_history.specs.private.Vertices.{Rooted, joined, vertices, most-vertices, rooted_code};
 
     ghost Value = { Rooted };
 

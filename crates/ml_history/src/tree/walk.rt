@@ -2,9 +2,9 @@
 ghost use Rattle.std.specs.Prelude.{◌≡◌, ℕ, ◌+◌, ◌<◌, ◌^◌, [], ◌∷◌, ◌++◌, IfOk, OnOk};
 ghost use Rattle.std.specs.List.{flat_map};
 ghost use Rattle.ml_lists.specs.Member.{IsMember};
-ghost use Rattle.ml_history.specs.Forest.{Empty, names};
-ghost use Rattle.ml_history.specs.TreeStep.{targets, moved, news, with_one, with_all, seen_by, Laid};
-ghost use Rattle.ml_history.specs.Vertices.{joined};
+ghost use Rattle.ml_history.specs.private.Forest.{Empty, names};
+ghost use Rattle.ml_history.specs.private.TreeStep.{targets, moved, news, with_one, with_all, seen_by, Laid};
+ghost use Rattle.ml_history.specs.private.Vertices.{joined};
 
 use crate::tree::drafts::{Draft, lay};
 use crate::tree::moves::Moves;

@@ -10,6 +10,9 @@ loop-label-preserved c =
     let k = c.loop-label.label-index in
     let x = c.label-item.result in
     elim c.match-get_index_of.branch [
-      | in-Some w ↦ label_found props labels c.loop-label.truths c.match-get_index_of.truths k w.in-Some.prop x c.requires.distinct c.loop-label.invariant c.loop-label-test.true c.label-item.is (sym w.in-Some.ensures.index) w.truths-is
-      | in_default w ↦ label_unknown props labels c.loop-label.truths c.match-get_index_of.truths k x c.loop-label.invariant c.loop-label-test.true c.label-item.is (sym w.in_default.ensures.index) w.truths-is
+      | in-Some w ↦ label_found props labels c.loop-label.truths c.match-get_index_of.truths k w.in-Some.prop x
+          c.requires.distinct c.loop-label.invariant c.loop-label-test.true c.label-item.is
+          (sym w.in-Some.ensures.index) w.truths-is
+      | in_default w ↦ label_unknown props labels c.loop-label.truths c.match-get_index_of.truths k x
+          c.loop-label.invariant c.loop-label-test.true c.label-item.is (sym w.in_default.ensures.index) w.truths-is
     ]

@@ -25,7 +25,8 @@ loop-state-preserved c =
     let s = c.loop-state.state in
     let back = c.split_at.ensures.back ∙ ap (λ k. drop k es) c.count_leaving.ensures in
     record {
-      made = all_pairs g m c.loop-state.made c.push_pairs.new.self s c.loop-state.invariant.made c.in_ok-push_pairs.ensures;
+      made = all_pairs g m c.loop-state.made c.push_pairs.new.self s c.loop-state.invariant.made
+          c.in_ok-push_pairs.ensures;
       left = subst (AreLeft m (s + 1)) (sym back) (left_behind m s es c.loop-state.invariant.left);
       names = c.in_ok-look.ensures.names;
     }
@@ -33,8 +34,10 @@ loop-state-preserved c =
 pub returns-clause-made : goal.returns-clause-made
 returns-clause-made c =
     let all : c.loop-state.state ≡ c.args.structure.now.states = omega arith in
-    with_sinks c.args.graph.now c.args.structure.now c.loop-state.made _ _ c.loop-state.state all c.loop-state.invariant.made c.in_ok-push_sink.ensures c.in_ok-push_sink-2.ensures
+    with_sinks c.args.graph.now c.args.structure.now c.loop-state.made _ _ c.loop-state.state all
+    c.loop-state.invariant.made c.in_ok-push_sink.ensures c.in_ok-push_sink-2.ensures
 
 pub returns-clause-game : goal.returns-clause-game
 returns-clause-game c =
-    subst IsGame (sym (made_game c.args.graph.now c.args.structure.now _ (returns-clause-made c))) (is_game c.args.graph.now c.args.structure.now c.size.ensures.is_graph c.states-state-end.ensures.is_structure)
+    subst IsGame (sym (made_game c.args.graph.now c.args.structure.now _ (returns-clause-made c)))
+    (is_game c.args.graph.now c.args.structure.now c.size.ensures.is_graph c.states-state-end.ensures.is_structure)

@@ -1,4 +1,4 @@
-use Rattle.ml_history.proofs.LetterSets.{letters_are_sets}
+use Rattle.ml_history.proofs.definition.LetterSets.{letters_are_sets}
 use Rattle.ml_history.proofs.laws.letters_are_sets.Goals as goal
 
 pub returns : goal.returns

@@ -1,5 +1,5 @@
 use Rattle.std.proofs.Common.{◌+◌, ◌∙◌, arith, get_or, max, ap}
-use Rattle.ml_history.proofs.PlainItems.{above_at, above_more}
+use Rattle.ml_history.proofs.plain_step.PlainItems.{above_at, above_more}
 use Rattle.ml_history.proofs.names.above.Goals as goal
 
 pub overflow_add-x : goal.overflow_add-x

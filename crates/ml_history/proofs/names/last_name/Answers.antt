@@ -1,4 +1,4 @@
-use Rattle.ml_history.proofs.PlainStacks.{last_at}
+use Rattle.ml_history.proofs.plain_step.PlainStacks.{last_at}
 use Rattle.std.proofs.Common.{arith}
 use Rattle.ml_history.proofs.names.last_name.Goals as goal
 

@@ -1,5 +1,5 @@
 use Rattle.std.proofs.Common.{◌≡◌, ℕ, ◌<◌, false, ◌&&◌}
-use Rattle.ml_history.specs.TreeStep.{flagged}
+use Rattle.ml_history.specs.private.TreeStep.{flagged}
 use Rattle.ml_history.proofs.names.least_green.Given as goal
 
 abbrev pub invariant-loop-y : goal.invariant-loop-y

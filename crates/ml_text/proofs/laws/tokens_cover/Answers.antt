@@ -13,4 +13,5 @@ returns-clause-only c = λ w text ps all. are_tokens-only w text 0 ps all
 
 pub returns-clause-bytes : goal.returns-clause-bytes
 unfolding tokens
-returns-clause-bytes c = λ w text k below. tokens_over-each w text 0 (tokens_from w text 0) (are_tokens w text 0) k (omega arith) below
+returns-clause-bytes c = λ w text k below.
+    tokens_over-each w text 0 (tokens_from w text 0) (are_tokens w text 0) k (omega arith) below

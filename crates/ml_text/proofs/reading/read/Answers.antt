@@ -19,12 +19,16 @@ loop-placed-init g c =
       limits = omega arith;
       within = omega arith;
       comes =
-          ap (λ q. outcome t.grammar (length text) (More q) [] 0 0 (items t.signs text)) (sym (c.start.ensures ∙ ap t.grammar.start c.whole.ensures))
-          ∙ ap (λ fs. outcome t.grammar (length text) (More (t.wait c.start.result)) (stack_view t fs) 0 0 (items t.signs text)) (sym c.new.ensures.items)
-          ∙ ap (λ k. outcome t.grammar (length text) (More (t.wait c.start.result)) (stack_view t c.new.result.items) 0 0 (items_from t.signs text k toks)) (sym c.first.ensures);
+          ap (λ q. outcome t.grammar (length text) (More q) [] 0 0 (items t.signs text))
+          (sym (c.start.ensures ∙ ap t.grammar.start c.whole.ensures))
+          ∙ ap (λ fs. outcome t.grammar (length text) (More (t.wait c.start.result)) (stack_view t fs) 0 0
+          (items t.signs text)) (sym c.new.ensures.items)
+          ∙ ap (λ k. outcome t.grammar (length text) (More (t.wait c.start.result)) (stack_view t c.new.result.items) 0
+          0 (items_from t.signs text k toks)) (sym c.first.ensures);
       places =
           ap (λ k. noted_from t.signs k (items_from t.signs text k toks)) (sym c.first.ensures)
-          ∙ ap (λ xs. xs ++ noted_from t.signs c.first.result (items_from t.signs text c.first.result toks)) (sym c.new-2.ensures.items);
+          ∙ ap (λ xs. xs ++ noted_from t.signs c.first.result (items_from t.signs text c.first.result toks))
+          (sym c.new-2.ensures.items);
     }
 
 pub read_item-requires-clause-spells : goal.read_item-requires-clause-spells
@@ -32,8 +36,11 @@ read_item-requires-clause-spells g c =
     let t = g.L.Logic.tables in
     let text = c.args.text.now in
     let placed = c.in-Some.placed in
-    let split : tokens_from t.signs.words text c.loop-placed.at ≡ placed ∷ tokens_from t.signs.words text placed.end = subst (λ w. tokens_from w text c.loop-placed.at ≡ placed ∷ tokens_from w text placed.end) c.words.ensures c.in-Some.ensures.tokens in
-    (first_is_next t.signs.words text c.loop-placed.at placed (tokens_from t.signs.words text placed.end) split).longest.spells
+    let split : tokens_from t.signs.words text c.loop-placed.at ≡ placed ∷ tokens_from t.signs.words text placed.end =
+    subst (λ w. tokens_from w text c.loop-placed.at ≡ placed ∷ tokens_from w text placed.end) c.words.ensures
+    c.in-Some.ensures.tokens in
+    (first_is_next t.signs.words text c.loop-placed.at placed (tokens_from t.signs.words text placed.end)
+    split).longest.spells
 
 pub returns-in_err-progress : goal.returns-in_err-progress
 returns-in_err-progress g c =
@@ -41,11 +48,15 @@ returns-in_err-progress g c =
     let text = c.args.text.now in
     let placed = c.in-Some.placed in
     let p = c.loop-placed.progress in
-    let split : tokens_from t.signs.words text c.loop-placed.at ≡ placed ∷ tokens_from t.signs.words text placed.end = subst (λ w. tokens_from w text c.loop-placed.at ≡ placed ∷ tokens_from w text placed.end) c.words.ensures c.in-Some.ensures.tokens in
+    let split : tokens_from t.signs.words text c.loop-placed.at ≡ placed ∷ tokens_from t.signs.words text placed.end =
+    subst (λ w. tokens_from w text c.loop-placed.at ≡ placed ∷ tokens_from w text placed.end) c.words.ensures
+    c.in-Some.ensures.tokens in
     let item = item_at t.signs text p.context placed in
     let rest = items_from t.signs text (t.signs.behind item.sign) (tokens_from t.signs.words text placed.end) in
-    let same = c.loop-placed.invariant.comes ∙ ap (λ ps. outcome_from t (length text) p (items_from t.signs text p.context ps)) split in
-    let refused = subst (IsRefusal c.in_err-progress.field-0.0) (sym same) (c.in_err-progress.ensures (length text) rest) in
+    let same = c.loop-placed.invariant.comes
+    ∙ ap (λ ps. outcome_from t (length text) p (items_from t.signs text p.context ps)) split in
+    let refused = subst (IsRefusal c.in_err-progress.field-0.0) (sym same)
+    (c.in_err-progress.ensures (length text) rest) in
     search rules
 
 pub loop-placed-preserved : goal.loop-placed-preserved
@@ -56,7 +67,9 @@ loop-placed-preserved g c =
     let p = c.loop-placed.progress in
     let next = c.in_ok-progress.progress in
     let goes = c.in_ok-progress.ensures in
-    let split : tokens_from t.signs.words text c.loop-placed.at ≡ placed ∷ tokens_from t.signs.words text placed.end = subst (λ w. tokens_from w text c.loop-placed.at ≡ placed ∷ tokens_from w text placed.end) c.words.ensures c.in-Some.ensures.tokens in
+    let split : tokens_from t.signs.words text c.loop-placed.at ≡ placed ∷ tokens_from t.signs.words text placed.end =
+    subst (λ w. tokens_from w text c.loop-placed.at ≡ placed ∷ tokens_from w text placed.end) c.words.ensures
+    c.in-Some.ensures.tokens in
     let item = item_at t.signs text p.context placed in
     let left = tokens_from t.signs.words text placed.end in
     let rest = items_from t.signs text (t.signs.behind item.sign) left in
@@ -71,7 +84,8 @@ loop-placed-preserved g c =
       places =
           c.loop-placed.invariant.places
           ∙ ap (λ ps. p.places.items ++ noted_from t.signs p.context (items_from t.signs text p.context ps)) split
-          ∙ noted_more (t.signs.is_noted p.context item.sign) item.at p.places.items (noted_from t.signs (t.signs.behind item.sign) rest)
+          ∙ noted_more (t.signs.is_noted p.context item.sign) item.at p.places.items
+          (noted_from t.signs (t.signs.behind item.sign) rest)
           ∙ ap (λ xs. xs ++ noted_from t.signs (t.signs.behind item.sign) rest) (sym goes.places)
           ∙ ap (λ k. next.places.items ++ noted_from t.signs k (items_from t.signs text k left)) (sym goes.context);
     }

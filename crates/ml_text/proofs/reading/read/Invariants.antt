@@ -12,7 +12,8 @@ invariant-loop-placed g l =
     record {
       limits : KeepsLimits l.progress;
       within : l.at ≤ length l.text;
-      comes : text_outcome t.grammar (length l.fn.text) (items t.signs l.fn.text) ≡ outcome_from t (length l.text) l.progress rest;
+      comes : text_outcome t.grammar (length l.fn.text) (items t.signs l.fn.text)
+          ≡ outcome_from t (length l.text) l.progress rest;
       places : noted t.signs l.fn.text ≡ l.progress.places.items ++ noted_from t.signs l.progress.context rest;
     }
 

@@ -19,7 +19,12 @@ pub invariant_of-result : goal.invariant_of-result
 invariant_of-result c =
     let g = graph_of c.args.nodes c.args.priorities c.args.root c.args.props c.args.actions in
     let none : first_out_of_range g ≡ None = cc in (
-      record { priorities = omega arith; in_range = all_in_range _ none; props_differ = c.requires.props; actions_differ = c.requires.actions },
+      record {
+        priorities = omega arith;
+        in_range = all_in_range _ none;
+        props_differ = c.requires.props;
+        actions_differ = c.requires.actions;
+      },
       omega arith,
     )
 

@@ -7,16 +7,17 @@ use Rattle.ml_trace.specs.Stack.{has}
 use Rattle.ml_history.specs.History.{IsSmallHistory}
 use Rattle.ml_history.specs.HistoryOrder.{names_of}
 use Rattle.ml_history.specs.HistoryStep.{above, live, taken_along, cut, is_full, mark_of, stepped}
-use Rattle.ml_history.specs.TreeStep.{flagged}
+use Rattle.ml_history.specs.private.TreeStep.{flagged}
 use Rattle.ml_history.specs.private.Arrays.{IsHeld, renamed}
 use Rattle.ml_history.specs.private.Keys.{offered_by}
-use Rattle.ml_history.proofs.FlatStep.{cut_low, flat_stepped, flat_mark}
-use Rattle.ml_history.proofs.LaidOut.{live-names_of}
-use Rattle.ml_history.proofs.PlainStep.{live-small, step_is_plain}
+use Rattle.ml_history.proofs.arrays.FlatStep.{cut_low, flat_stepped, flat_mark}
+use Rattle.ml_history.proofs.arrays.StackLayout.{live-names_of}
+use Rattle.ml_history.proofs.plain_step.PlainStep.{live-small, step_is_plain}
 use Rattle.ml_history.proofs.flat.History.step.Goals as goal
 
 pub full_names-requires-clause-sources : goal.full_names-requires-clause-sources
-full_names-requires-clause-sources c = λ o m. c.in_ok-best.ensures.sources o (subst (IsMember o) c.as_slice-2.ensures.value m)
+full_names-requires-clause-sources c =
+    λ o m. c.in_ok-best.ensures.sources o (subst (IsMember o) c.as_slice-2.ensures.value m)
 
 pub cut-requires-clause-sources : goal.cut-requires-clause-sources
 cut-requires-clause-sources c = λ o m. c.in_ok-best.ensures.sources o (subst (IsMember o) c.as_slice-3.ensures.value m)
@@ -31,34 +32,55 @@ pub flags_of-requires : goal.flags_of-requires
 flags_of-requires c = λ y m.
     let h = c.args.self.now in
     let kept : IsSmallHistory h = subst IsSmallHistory c.self.view_is c.self.invariant.kept in
-    let taken = ap (map (offered_by h)) c.as_slice-3.ensures.value ∙ c.in_ok-best.ensures.taken ∙ ap (taken_along h) c.transitions.ensures.value in
+    let taken = ap (map (offered_by h)) c.as_slice-3.ensures.value ∙ c.in_ok-best.ensures.taken
+    ∙ ap (taken_along h) c.transitions.ensures.value in
     let is : c.in_ok-cut.cut ≡ cut (taken_along h c.args.letter.now) = c.in_ok-cut.ensures ∙ ap cut taken in
     let low = cut_low h c.args.letter.now kept.history y (subst (IsMember y) (c.names.ensures ∙ ap names_of is) m) in
     let used = c.self.invariant.live_is ∙ ap live c.self.view_is in
     omega (arith, low, used)
 
 pub mark-mark-requires-clause-few : goal.mark-mark-requires-clause-few
-mark-mark-requires-clause-few c = omega (arith, live-small c.self.inside.stacks c.self.invariant.kept, c.self.invariant.live_is)
+mark-mark-requires-clause-few c = omega (
+  arith,
+  live-small c.self.inside.stacks c.self.invariant.kept,
+  c.self.invariant.live_is,
+)
 
 pub numbers-requires : goal.numbers-requires
-numbers-requires c = omega (arith, live-small c.self.inside.stacks c.self.invariant.kept, c.self.invariant.live_is, c.in_ok-standing.ensures.count, ap length c.as_slice-7.ensures.value)
+numbers-requires c = omega (
+  arith,
+  live-small c.self.inside.stacks c.self.invariant.kept,
+  c.self.invariant.live_is,
+  c.in_ok-standing.ensures.count,
+  ap length c.as_slice-7.ensures.value,
+)
 
 pub renamed-stacks-requires : goal.renamed-stacks-requires
 renamed-stacks-requires c = λ y m.
     let h = c.args.self.now in
     let kept : IsSmallHistory h = subst IsSmallHistory c.self.view_is c.self.invariant.kept in
-    let taken = ap (map (offered_by h)) c.as_slice-3.ensures.value ∙ c.in_ok-best.ensures.taken ∙ ap (taken_along h) c.transitions.ensures.value in
+    let taken = ap (map (offered_by h)) c.as_slice-3.ensures.value ∙ c.in_ok-best.ensures.taken
+    ∙ ap (taken_along h) c.transitions.ensures.value in
     let is : c.in_ok-cut.cut ≡ cut (taken_along h c.args.letter.now) = c.in_ok-cut.ensures ∙ ap cut taken in
     let low = cut_low h c.args.letter.now kept.history y (subst (λ t. IsMember y (names_of t)) is m) in
     let used = c.self.invariant.live_is ∙ ap live c.self.view_is in
-    omega (arith, low, used, ap length c.as_slice-8.ensures.value, c.in_ok-numbers.ensures.count, ap length c.as_slice-7.ensures.value, c.in_ok-standing.ensures.count)
+    omega (
+      arith,
+      low,
+      used,
+      ap length c.as_slice-8.ensures.value,
+      c.in_ok-numbers.ensures.count,
+      ap length c.as_slice-7.ensures.value,
+      c.in_ok-standing.ensures.count,
+    )
 
 pub above-live-requires : goal.above-live-requires
 above-live-requires c =
     let h = c.args.self.now in
     let letter = c.args.letter.now in
     let kept : IsSmallHistory h = subst IsSmallHistory c.self.view_is c.self.invariant.kept in
-    let taken = ap (map (offered_by h)) c.as_slice-3.ensures.value ∙ c.in_ok-best.ensures.taken ∙ ap (taken_along h) c.transitions.ensures.value in
+    let taken = ap (map (offered_by h)) c.as_slice-3.ensures.value ∙ c.in_ok-best.ensures.taken
+    ∙ ap (taken_along h) c.transitions.ensures.value in
     let is : c.in_ok-cut.cut ≡ cut (taken_along h letter) = c.in_ok-cut.ensures ∙ ap cut taken in
     let used = c.self.invariant.live_is ∙ ap live c.self.view_is in
     let flags = c.in_ok-standing.ensures.flags ∙ ap (λ ns y. has y ns) c.names.ensures in
@@ -66,18 +88,27 @@ above-live-requires c =
     let next : c.renamed-stacks.result ≡ stepped h letter =
     c.renamed-stacks.ensures
     ∙ ap (λ ns. renamed (λ y. get_or ns y 0) c.in_ok-cut.cut) c.as_slice-8.ensures.value
-    ∙ flat_stepped h letter c.in_ok-cut.cut standing c.in_ok-numbers.numbers.items kept.history is flags (omega (arith, c.in_ok-standing.ensures.count, used))
-    (λ y low. c.in_ok-numbers.ensures.numbers y (omega (arith, low, ap length c.as_slice-7.ensures.value)) ∙ ap (λ fs. count (flagged fs) y) c.as_slice-7.ensures.value)
+    ∙ flat_stepped h letter c.in_ok-cut.cut standing c.in_ok-numbers.numbers.items kept.history is flags
+    (omega (arith, c.in_ok-standing.ensures.count, used))
+    (λ y low. c.in_ok-numbers.ensures.numbers y (omega (arith, low, ap length c.as_slice-7.ensures.value))
+    ∙ ap (λ fs. count (flagged fs) y) c.as_slice-7.ensures.value)
     in
-    let behind : IsSmallHistory (stepped h letter) = step_is_plain h letter kept (subst HasSmallEnds c.transitions.ensures.value c.transitions.ensures.small) in
-    omega (arith, live-small (stepped h letter) behind, ap above c.names-2.ensures ∙ sym (live-names_of c.renamed-stacks.result) ∙ ap live next)
+    let behind : IsSmallHistory (stepped h letter) =
+    step_is_plain h letter kept (subst HasSmallEnds c.transitions.ensures.value c.transitions.ensures.small) in
+    omega (
+      arith,
+      live-small (stepped h letter) behind,
+      ap above c.names-2.ensures
+          ∙ sym (live-names_of c.renamed-stacks.result) ∙ ap live next,
+    )
 
 pub invariant_of-result : goal.invariant_of-result
 invariant_of-result c =
     let h = c.args.self.now in
     let letter = c.args.letter.now in
     let kept : IsSmallHistory h = subst IsSmallHistory c.self.view_is c.self.invariant.kept in
-    let taken = ap (map (offered_by h)) c.as_slice-3.ensures.value ∙ c.in_ok-best.ensures.taken ∙ ap (taken_along h) c.transitions.ensures.value in
+    let taken = ap (map (offered_by h)) c.as_slice-3.ensures.value ∙ c.in_ok-best.ensures.taken
+    ∙ ap (taken_along h) c.transitions.ensures.value in
     let is : c.in_ok-cut.cut ≡ cut (taken_along h letter) = c.in_ok-cut.ensures ∙ ap cut taken in
     let used = c.self.invariant.live_is ∙ ap live c.self.view_is in
     let flags = c.in_ok-standing.ensures.flags ∙ ap (λ ns y. has y ns) c.names.ensures in
@@ -85,10 +116,13 @@ invariant_of-result c =
     let next : c.renamed-stacks.result ≡ stepped h letter =
     c.renamed-stacks.ensures
     ∙ ap (λ ns. renamed (λ y. get_or ns y 0) c.in_ok-cut.cut) c.as_slice-8.ensures.value
-    ∙ flat_stepped h letter c.in_ok-cut.cut standing c.in_ok-numbers.numbers.items kept.history is flags (omega (arith, c.in_ok-standing.ensures.count, used))
-    (λ y low. c.in_ok-numbers.ensures.numbers y (omega (arith, low, ap length c.as_slice-7.ensures.value)) ∙ ap (λ fs. count (flagged fs) y) c.as_slice-7.ensures.value)
+    ∙ flat_stepped h letter c.in_ok-cut.cut standing c.in_ok-numbers.numbers.items kept.history is flags
+    (omega (arith, c.in_ok-standing.ensures.count, used))
+    (λ y low. c.in_ok-numbers.ensures.numbers y (omega (arith, low, ap length c.as_slice-7.ensures.value))
+    ∙ ap (λ fs. count (flagged fs) y) c.as_slice-7.ensures.value)
     in
-    let behind : IsSmallHistory (stepped h letter) = step_is_plain h letter kept (subst HasSmallEnds c.transitions.ensures.value c.transitions.ensures.small) in
+    let behind : IsSmallHistory (stepped h letter) =
+    step_is_plain h letter kept (subst HasSmallEnds c.transitions.ensures.value c.transitions.ensures.small) in
     record {
       kept = subst IsSmallHistory (sym next) behind;
       live_is = c.above-live.ensures ∙ ap above c.names-2.ensures ∙ sym (live-names_of c.renamed-stacks.result);
@@ -99,7 +133,8 @@ returns-clause-history c =
     let h = c.args.self.now in
     let letter = c.args.letter.now in
     let kept : IsSmallHistory h = subst IsSmallHistory c.self.view_is c.self.invariant.kept in
-    let taken = ap (map (offered_by h)) c.as_slice-3.ensures.value ∙ c.in_ok-best.ensures.taken ∙ ap (taken_along h) c.transitions.ensures.value in
+    let taken = ap (map (offered_by h)) c.as_slice-3.ensures.value ∙ c.in_ok-best.ensures.taken
+    ∙ ap (taken_along h) c.transitions.ensures.value in
     let is : c.in_ok-cut.cut ≡ cut (taken_along h letter) = c.in_ok-cut.ensures ∙ ap cut taken in
     let used = c.self.invariant.live_is ∙ ap live c.self.view_is in
     let flags = c.in_ok-standing.ensures.flags ∙ ap (λ ns y. has y ns) c.names.ensures in
@@ -107,10 +142,13 @@ returns-clause-history c =
     let next : c.renamed-stacks.result ≡ stepped h letter =
     c.renamed-stacks.ensures
     ∙ ap (λ ns. renamed (λ y. get_or ns y 0) c.in_ok-cut.cut) c.as_slice-8.ensures.value
-    ∙ flat_stepped h letter c.in_ok-cut.cut standing c.in_ok-numbers.numbers.items kept.history is flags (omega (arith, c.in_ok-standing.ensures.count, used))
-    (λ y low. c.in_ok-numbers.ensures.numbers y (omega (arith, low, ap length c.as_slice-7.ensures.value)) ∙ ap (λ fs. count (flagged fs) y) c.as_slice-7.ensures.value)
+    ∙ flat_stepped h letter c.in_ok-cut.cut standing c.in_ok-numbers.numbers.items kept.history is flags
+    (omega (arith, c.in_ok-standing.ensures.count, used))
+    (λ y low. c.in_ok-numbers.ensures.numbers y (omega (arith, low, ap length c.as_slice-7.ensures.value))
+    ∙ ap (λ fs. count (flagged fs) y) c.as_slice-7.ensures.value)
     in
-    let behind : IsSmallHistory (stepped h letter) = step_is_plain h letter kept (subst HasSmallEnds c.transitions.ensures.value c.transitions.ensures.small) in
+    let behind : IsSmallHistory (stepped h letter) =
+    step_is_plain h letter kept (subst HasSmallEnds c.transitions.ensures.value c.transitions.ensures.small) in
     next
 
 pub returns-clause-mark : goal.returns-clause-mark
@@ -118,11 +156,18 @@ returns-clause-mark c =
     let h = c.args.self.now in
     let letter = c.args.letter.now in
     let kept : IsSmallHistory h = subst IsSmallHistory c.self.view_is c.self.invariant.kept in
-    let taken = ap (map (offered_by h)) c.as_slice-3.ensures.value ∙ c.in_ok-best.ensures.taken ∙ ap (taken_along h) c.transitions.ensures.value in
+    let taken = ap (map (offered_by h)) c.as_slice-3.ensures.value ∙ c.in_ok-best.ensures.taken
+    ∙ ap (taken_along h) c.transitions.ensures.value in
     let is : c.in_ok-cut.cut ≡ cut (taken_along h letter) = c.in_ok-cut.ensures ∙ ap cut taken in
     let used = c.self.invariant.live_is ∙ ap live c.self.view_is in
     let flags = c.in_ok-standing.ensures.flags ∙ ap (λ ns y. has y ns) c.names.ensures in
-    flat_mark h letter (taken_along h letter) c.in_ok-cut.cut c.self.inside.live c.in_ok-full.full.items c.in_ok-standing.standing.items c.mark-mark.result used refl is
-    (λ y. c.in_ok-full.ensures.flags y ∙ ap (λ bs. is_full (map (offered_by h) bs) y) c.as_slice-2.ensures.value ∙ ap (λ t. is_full t y) (c.in_ok-best.ensures.taken ∙ ap (taken_along h) c.transitions.ensures.value))
+    flat_mark h letter (taken_along h letter) c.in_ok-cut.cut c.self.inside.live c.in_ok-full.full.items
+    c.in_ok-standing.standing.items c.mark-mark.result used refl is
+    (λ y. c.in_ok-full.ensures.flags y ∙ ap (λ bs. is_full (map (offered_by h) bs) y) c.as_slice-2.ensures.value
+    ∙ ap (λ t. is_full t y) (c.in_ok-best.ensures.taken ∙ ap (taken_along h) c.transitions.ensures.value))
     flags
-    (c.mark-mark.ensures ∙ (λ i. mark_of (least (λ y. ltb y c.self.inside.live && not (flagged (c.as_slice-6.ensures.value i) y)) (2 * c.self.inside.live)) (least (λ y. flagged (c.as_slice-5.ensures.value i) y && flagged (c.as_slice-6.ensures.value i) y) (2 * c.self.inside.live))))
+    (c.mark-mark.ensures
+    ∙ (λ i. mark_of (least (λ y. ltb y c.self.inside.live && not (flagged (c.as_slice-6.ensures.value i) y))
+    (2 * c.self.inside.live))
+    (least (λ y. flagged (c.as_slice-5.ensures.value i) y && flagged (c.as_slice-6.ensures.value i) y)
+    (2 * c.self.inside.live))))

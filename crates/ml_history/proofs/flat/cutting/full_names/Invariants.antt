@@ -1,4 +1,4 @@
-use Rattle.ml_history.proofs.CutOffers.{Marked}
+use Rattle.ml_history.proofs.arrays.CutOffers.{Marked}
 use Rattle.ml_history.proofs.flat.cutting.full_names.Given as goal
 
 abbrev pub invariant-loop-offer : goal.invariant-loop-offer

@@ -1,5 +1,5 @@
-use Rattle.ml_history.specs.TreeStep.{flagged}
-use Rattle.ml_history.proofs.CutOffers.{Through}
+use Rattle.ml_history.specs.private.TreeStep.{flagged}
+use Rattle.ml_history.proofs.arrays.CutOffers.{Through}
 use Rattle.ml_history.proofs.flat.cutting.push_through.Given as goal
 
 abbrev pub invariant-loop-name : goal.invariant-loop-name

@@ -1,5 +1,5 @@
 use Rattle.std.proofs.Common.{ℕ}
-use Rattle.ml_history.proofs.BestOffers.{BestSoFar}
+use Rattle.ml_history.proofs.arrays.BestOffers.{BestSoFar}
 use Rattle.ml_history.proofs.flat.offers.best_offers.Given as goal
 
 abbrev pub invariant-loop-transition : goal.invariant-loop-transition

@@ -1,5 +1,5 @@
 use Rattle.std.proofs.Common.{sym}
-use Rattle.ml_history.proofs.OrderOfNames.{before_last-short, before_last-at}
+use Rattle.ml_history.proofs.arrays.OrderOfNames.{before_last-short, before_last-at}
 use Rattle.ml_history.proofs.flat.places.before_last.Goals as goal
 
 pub returns-in_default : goal.returns-in_default

@@ -7,4 +7,5 @@ use Rattle.ml_history.proofs.flat.places.parents.Given as goal
 abbrev pub invariant-loop-i : goal.invariant-loop-i
 invariant-loop-i l =
     (length l.parents.items ≡ live l.history)
-    × ((j : ℕ) → j < l.i → get_or l.parents.items (last_name (stack_at l.history j)) 0 ≡ before_last (live l.history) (stack_at l.history j))
+    × ((j : ℕ) → j < l.i → get_or l.parents.items (last_name (stack_at l.history j)) 0
+    ≡ before_last (live l.history) (stack_at l.history j))

@@ -1,8 +1,8 @@
 use Rattle.std.proofs.Common.{◌≡◌, ◌≤◌, ◌^◌, ◌∙◌, length, ap, subst, sym, arith}
 use Rattle.std.proofs.lemmas.Result.{IfOk-weaker}
 use Rattle.ml_history.specs.private.Line.{AreParents, IsTree, AreLinks, ArePlaces}
-use Rattle.ml_history.proofs.OrderOfNames.{paths, tell_offers}
-use Rattle.ml_history.proofs.PlainStep.{live-small}
+use Rattle.ml_history.proofs.arrays.OrderOfNames.{paths, tell_offers}
+use Rattle.ml_history.proofs.plain_step.PlainStep.{live-small}
 use Rattle.ml_history.proofs.flat.places.places.Goals as goal
 
 pub links-requires-clause-few : goal.links-requires-clause-few
@@ -12,7 +12,8 @@ links-requires-clause-few c =
 
 pub links-requires-clause-tree : goal.links-requires-clause-tree
 links-requires-clause-tree c =
-    subst IsTree (sym c.as_slice.ensures.value) (paths c.args.history.now c.requires.history c.in_ok-parents.parents.items c.in_ok-parents.ensures).older
+    subst IsTree (sym c.as_slice.ensures.value)
+    (paths c.args.history.now c.requires.history c.in_ok-parents.parents.items c.in_ok-parents.ensures).older
 
 pub places_along-requires-clause-few : goal.places_along-requires-clause-few
 places_along-requires-clause-few c =
@@ -21,7 +22,8 @@ places_along-requires-clause-few c =
 
 pub places_along-requires-clause-tree : goal.places_along-requires-clause-tree
 places_along-requires-clause-tree c =
-    subst IsTree (sym c.as_slice-2.ensures.value) (paths c.args.history.now c.requires.history c.in_ok-parents.parents.items c.in_ok-parents.ensures).older
+    subst IsTree (sym c.as_slice-2.ensures.value)
+    (paths c.args.history.now c.requires.history c.in_ok-parents.parents.items c.in_ok-parents.ensures).older
 
 pub places_along-requires-clause-links : goal.places_along-requires-clause-links
 places_along-requires-clause-links c =
@@ -32,5 +34,6 @@ pub returns : goal.returns
 returns c =
     let h = c.args.history.now in
     IfOk-weaker c.places_along.result _ _
-    (λ places at. tell_offers h c.in_ok-parents.parents.items places.items c.requires.history c.in_ok-parents.ensures (subst (ArePlaces places.items) c.as_slice-2.ensures.value at))
+    (λ places at. tell_offers h c.in_ok-parents.parents.items places.items c.requires.history c.in_ok-parents.ensures
+    (subst (ArePlaces places.items) c.as_slice-2.ensures.value at))
     c.places_along.ensures

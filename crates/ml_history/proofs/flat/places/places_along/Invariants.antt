@@ -6,4 +6,6 @@ abbrev pub invariant-loop-k : goal.invariant-loop-k
 invariant-loop-k l =
     (length l.places.items ≡ length l.parents)
     × (l.name ≡ get_or (line (parent_in l.parents) (length l.parents) (length l.parents)) l.k 0)
-    × ((j : ℕ) → j < l.k → get_or l.places.items (get_or (line (parent_in l.parents) (length l.parents) (length l.parents)) (j + 1) 0) 0 ≡ length l.parents - 1 - j)
+    × ((j : ℕ) → j < l.k → get_or l.places.items
+    (get_or (line (parent_in l.parents) (length l.parents) (length l.parents)) (j + 1) 0) 0
+    ≡ length l.parents - 1 - j)

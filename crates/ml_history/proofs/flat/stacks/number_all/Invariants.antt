@@ -1,5 +1,5 @@
 use Rattle.std.proofs.Common.{◌≡◌, ℕ, get_or}
-use Rattle.ml_history.proofs.LaidOut.{numbered}
+use Rattle.ml_history.proofs.arrays.StackLayout.{numbered}
 use Rattle.ml_history.proofs.flat.stacks.number_all.Given as goal
 
 abbrev pub invariant-loop-name : goal.invariant-loop-name

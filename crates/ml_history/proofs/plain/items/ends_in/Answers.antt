@@ -1,4 +1,4 @@
-use Rattle.ml_history.proofs.PlainStacks.{ends_at}
+use Rattle.ml_history.proofs.plain_step.PlainStacks.{ends_at}
 use Rattle.std.proofs.Common.{arith}
 use Rattle.ml_history.proofs.plain.items.ends_in.Goals as goal
 

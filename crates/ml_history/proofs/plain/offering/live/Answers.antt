@@ -1,5 +1,5 @@
 use Rattle.std.proofs.Common.{◌∙◌, arith, max, ap, ◌≡◌, take, ℕ}
-use Rattle.ml_history.proofs.PlainItems.{live_at, live_more}
+use Rattle.ml_history.proofs.plain_step.PlainItems.{live_at, live_more}
 use Rattle.ml_history.specs.HistoryStep.{above, live}
 use Rattle.ml_history.proofs.plain.offering.live.Goals as goal
 use Rattle.ml_trace.specs.Stack.{Item}

@@ -1,5 +1,5 @@
 use Rattle.std.proofs.Common.{arith, ap, ◌≡◌, ℕ}
-use Rattle.ml_history.proofs.PlainItems.{last_name-live}
+use Rattle.ml_history.proofs.plain_step.PlainItems.{last_name-live}
 use Rattle.ml_history.specs.HistoryStep.{last_name}
 use Rattle.ml_history.proofs.plain.offering.push_offers.Goals as goal
 use Rattle.ml_trace.specs.Stack.{Item}

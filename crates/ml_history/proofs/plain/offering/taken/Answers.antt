@@ -1,6 +1,6 @@
 use Rattle.std.proofs.Common.{◌∙◌, sym, ap}
-use Rattle.ml_history.specs.Puts.{put_all}
-use Rattle.ml_history.proofs.Putting.{put_all-append, put_all-taken}
+use Rattle.ml_history.specs.private.Puts.{put_all}
+use Rattle.ml_history.proofs.plain_step.OfferInsertion.{put_all-append, put_all-taken}
 use Rattle.ml_history.proofs.plain.offering.taken.Goals as goal
 
 pub loop-offer-init : goal.loop-offer-init

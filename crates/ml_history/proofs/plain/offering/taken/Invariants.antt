@@ -1,6 +1,6 @@
 use Rattle.std.proofs.Common.{◌≡◌, vec_len}
 use Rattle.ml_history.specs.HistoryStep.{taken}
-use Rattle.ml_history.specs.Puts.{put_all}
+use Rattle.ml_history.specs.private.Puts.{put_all}
 use Rattle.ml_history.proofs.plain.offering.taken.Given as goal
 
 abbrev pub invariant-loop-offer : goal.invariant-loop-offer

@@ -1,5 +1,5 @@
 use Rattle.std.proofs.Common.{◌≡◌, take}
-use Rattle.ml_history.proofs.PlainItems.{renumbered_by}
+use Rattle.ml_history.proofs.plain_step.PlainItems.{renumbered_by}
 use Rattle.ml_history.proofs.plain.renumbering.renumbered.Given as goal
 
 abbrev pub invariant-loop-a : goal.invariant-loop-a

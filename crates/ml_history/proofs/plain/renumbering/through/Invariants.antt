@@ -4,4 +4,7 @@ use Rattle.ml_history.proofs.plain.renumbering.through.Given as goal
 
 abbrev pub invariant-loop-name : goal.invariant-loop-name
 invariant-loop-name l =
-    record { made : l.names.items ≡ take l.name-index l.stack; none : (k : ℕ) → k < l.name-index → is_full l.taken (get_or l.stack k 0) ≡ false }
+    record {
+      made : l.names.items ≡ take l.name-index l.stack;
+      none : (k : ℕ) → k < l.name-index → is_full l.taken (get_or l.stack k 0) ≡ false;
+    }

@@ -1,5 +1,5 @@
 use Rattle.std.proofs.Common.{◌≡◌, ◌++◌, take}
-use Rattle.ml_history.specs.Moves.{ends}
+use Rattle.ml_history.specs.private.Moves.{ends}
 use Rattle.ml_history.proofs.tree.moves.push_ends.Given as goal
 
 abbrev pub invariant-loop-t : goal.invariant-loop-t

@@ -1,6 +1,6 @@
 use Rattle.std.proofs.Common.{◌≡◌, get_or, take}
-use Rattle.ml_history.specs.TreeStep.{renewed}
-use Rattle.ml_history.specs.Vertices.{joined}
+use Rattle.ml_history.specs.private.TreeStep.{renewed}
+use Rattle.ml_history.specs.private.Vertices.{joined}
 use Rattle.ml_history.proofs.tree.renewal.+renewed.Given as goal
 
 abbrev pub invariant-loop-draft : goal.invariant-loop-draft

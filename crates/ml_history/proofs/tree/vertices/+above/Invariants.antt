@@ -1,7 +1,7 @@
 use Rattle.std.proofs.Common.{◌≡◌, take}
-use Rattle.ml_history.specs.Forest.{names}
+use Rattle.ml_history.specs.private.Forest.{names}
 use Rattle.ml_history.specs.HistoryStep.{above}
-use Rattle.ml_history.specs.Vertices.{joined}
+use Rattle.ml_history.specs.private.Vertices.{joined}
 use Rattle.ml_history.proofs.tree.vertices.+above.Given as goal
 
 abbrev pub invariant-loop-vertex : goal.invariant-loop-vertex

@@ -1,6 +1,6 @@
 use Rattle.std.proofs.Common.{◌≡◌, take}
 use Rattle.std.specs.List.{flat_map}
-use Rattle.ml_history.specs.TreeStep.{targets}
+use Rattle.ml_history.specs.private.TreeStep.{targets}
 use Rattle.ml_history.proofs.tree.walk.targets_of.Given as goal
 
 abbrev pub invariant-loop-from : goal.invariant-loop-from

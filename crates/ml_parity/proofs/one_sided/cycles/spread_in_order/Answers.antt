@@ -6,9 +6,17 @@ use Rattle.ml_parity.proofs.one_sided.cycles.spread_in_order.Goals.{then-branch,
 
 pub loop-k-preserved : goal.loop-k-preserved
 loop-k-preserved c =
-    let joined : ((c.in_ok-find_at.field-0 ≡ true) × (c.if-branch.changed ≡ true)) ⊎ ((c.in_ok-find_at.field-0 ≡ false) × (c.if-branch.changed ≡ c.loop-k.changed)) = elim c.if-branch.branch [ then-branch w ↦ inl (w.if-branch.true, w.changed-is) | else-branch w ↦ inr (w.if-branch.false, w.changed-is) ] in
+    let joined : ((c.in_ok-find_at.field-0 ≡ true) × (c.if-branch.changed ≡ true))
+    ⊎ ((c.in_ok-find_at.field-0 ≡ false) × (c.if-branch.changed ≡ c.loop-k.changed)) =
+    elim c.if-branch.branch [
+      | then-branch w ↦ inl (w.if-branch.true, w.changed-is)
+      | else-branch w ↦
+          inr (w.if-branch.false, w.changed-is)
+    ] in
     record {
       search = c.in_ok-find_at.ensures.search;
       goal = c.in_ok-find_at.ensures.goal ∙ c.loop-k.invariant.goal;
-      spread = spread_on c.args.graph.now c.args.priority c.args.search.now.found.items c.loop-k.search.found.items c.find_at.new.search.found.items c.loop-k.changed c.in_ok-find_at.field-0 c.if-branch.changed c.loop-k.invariant.spread c.in_ok-find_at.ensures.spread joined;
+      spread = spread_on c.args.graph.now c.args.priority c.args.search.now.found.items c.loop-k.search.found.items
+          c.find_at.new.search.found.items c.loop-k.changed c.in_ok-find_at.field-0 c.if-branch.changed
+          c.loop-k.invariant.spread c.in_ok-find_at.ensures.spread joined;
     }

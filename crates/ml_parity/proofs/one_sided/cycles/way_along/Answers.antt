@@ -13,7 +13,16 @@ loop-rest-preserved-then-step-at c =
     let a : Arc = get_or c.args.steps.now (c.loop-rest.rest - 1) d in
     record {
       low = omega (arith, c.loop-rest.invariant.low);
-      chain = subst (λ xs. Chain c.args.start xs a.to) (sym c.in_ok-push.ensures.items) (chain_push c.args.start c.loop-rest.at c.loop-rest.way.items a c.loop-rest.invariant.chain c.if-step-at.true);
-      among = subst (All (Contains c.args.steps.now)) (sym c.in_ok-push.ensures.items) (All-push (Contains c.args.steps.now) c.loop-rest.way.items a c.loop-rest.invariant.among (c.loop-rest.rest - 1, omega (arith, c.loop-rest.invariant.low, c.loop-rest-test.true), get_or_default c.args.steps.now (c.loop-rest.rest - 1) a d (omega (arith, c.loop-rest.invariant.low, c.loop-rest-test.true))));
-      comes = c.requires.back (c.loop-rest.rest - 1) d (omega (arith, c.loop-rest.invariant.low, c.loop-rest-test.true));
+      chain = subst (λ xs. Chain c.args.start xs a.to) (sym c.in_ok-push.ensures.items)
+          (chain_push c.args.start c.loop-rest.at c.loop-rest.way.items a c.loop-rest.invariant.chain
+          c.if-step-at.true);
+      among = subst (All (Contains c.args.steps.now)) (sym c.in_ok-push.ensures.items)
+          (All-push (Contains c.args.steps.now) c.loop-rest.way.items a c.loop-rest.invariant.among (
+            c.loop-rest.rest - 1,
+            omega (arith, c.loop-rest.invariant.low, c.loop-rest-test.true),
+            get_or_default c.args.steps.now (c.loop-rest.rest - 1) a d
+                (omega (arith, c.loop-rest.invariant.low, c.loop-rest-test.true)),
+          ));
+      comes = c.requires.back (c.loop-rest.rest - 1) d
+          (omega (arith, c.loop-rest.invariant.low, c.loop-rest-test.true));
     }

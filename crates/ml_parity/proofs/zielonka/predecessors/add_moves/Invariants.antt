@@ -5,4 +5,5 @@ use Rattle.ml_parity.specs.private.SolverSteps.{IsAdded}
 use Rattle.ml_parity.proofs.zielonka.predecessors.add_moves.Given as goal
 
 abbrev pub invariant-loop-to : goal.invariant-loop-to
-invariant-loop-to l = IsAdded (lists_of l.initial.predecessors) (lists_of l.predecessors) l.vertex (take l.to-index l.moves)
+invariant-loop-to l = IsAdded (lists_of l.initial.predecessors) (lists_of l.predecessors) l.vertex
+    (take l.to-index l.moves)

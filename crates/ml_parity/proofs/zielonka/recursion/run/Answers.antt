@@ -9,8 +9,11 @@ use Rattle.ml_parity.proofs.zielonka.recursion.run.Goals as goal
 
 pub loop-frames-init : goal.loop-frames-init
 loop-frames-init c =
-    subst (λ n. IsOpen c.args.game.now c.new-frames.result.items c.args.work.now c.args.winner.now n) (sym c.size.ensures.vertices) (record {
+    subst (λ n. IsOpen c.args.game.now c.new-frames.result.items c.args.work.now c.args.winner.now n)
+    (sym c.size.ensures.vertices) (record {
       at_part = c.requires.begins;
-      waits = whole_waits c.args.game.now c.new-frames.result.items _ (place_of c.args.work.now.row.place.items) (winner_at c.args.winner.now) (choice_at c.args.work.now.choice.items) c.new-frames.ensures.items refl;
-      part = whole_part c.args.game.now c.requires.game c.args.work.now.row.order.items c.args.work.now.row.place.items c.requires.begins.work.row c.requires.begins.work.vertices (winner_at c.args.winner.now);
+      waits = whole_waits c.args.game.now c.new-frames.result.items _ (place_of c.args.work.now.row.place.items)
+          (winner_at c.args.winner.now) (choice_at c.args.work.now.choice.items) c.new-frames.ensures.items refl;
+      part = whole_part c.args.game.now c.requires.game c.args.work.now.row.order.items c.args.work.now.row.place.items
+          c.requires.begins.work.row c.requires.begins.work.vertices (winner_at c.args.winner.now);
     })

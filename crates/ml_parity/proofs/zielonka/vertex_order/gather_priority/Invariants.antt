@@ -8,7 +8,8 @@ abbrev pub invariant-loop-at : goal.invariant-loop-at
 invariant-loop-at l = record {
   row : IsRow l.row.order.items l.row.place.items;
   size : length l.row.place.items ≡ length l.initial.row.place.items;
-  gathering : IsGathering (place_of l.initial.row.place.items) (place_of l.row.place.items) l.count l.rest l.at (λ v. priority_of l.game v ≡ l.priority);
+  gathering : IsGathering (place_of l.initial.row.place.items) (place_of l.row.place.items) l.count l.rest l.at
+      (λ v. priority_of l.game v ≡ l.priority);
 }
 
 abbrev pub decreases-loop-at : goal.decreases-loop-at

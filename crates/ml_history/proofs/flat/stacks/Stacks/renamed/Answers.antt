@@ -2,7 +2,7 @@ use Rattle.std.proofs.Common.{◌≡◌, ◌<◌, ℕ, ◌∙◌, length, get_or
 use Rattle.ml_lists.specs.Member.{IsMember}
 use Rattle.ml_history.specs.HistoryOrder.{names_of}
 use Rattle.ml_history.specs.private.Arrays.{read, AreLaidOut, renamed}
-use Rattle.ml_history.proofs.LaidOut.{laid_read, laid_itself, laid-renamed}
+use Rattle.ml_history.proofs.arrays.StackLayout.{laid_read, laid_itself, laid-renamed}
 use Rattle.ml_history.proofs.flat.stacks.Stacks.renamed.Goals as goal
 
 pub numbered-requires : goal.numbered-requires
@@ -17,7 +17,8 @@ of-requires c =
     let h = read a.states.items a.starts.items a.names.items in
     let number = λ (y : ℕ). get_or c.args.numbers.now y 0 in
     let laid = laid-renamed a.states.items a.starts.items a.names.items h number c.self.invariant in
-    subst (λ ns. AreLaidOut a.states.items a.starts.items ns (read a.states.items a.starts.items ns)) (sym c.numbered.ensures)
+    subst (λ ns. AreLaidOut a.states.items a.starts.items ns (read a.states.items a.starts.items ns))
+    (sym c.numbered.ensures)
     (laid_itself a.states.items a.starts.items (map number a.names.items) (renamed number h) laid)
 
 pub returns : goal.returns

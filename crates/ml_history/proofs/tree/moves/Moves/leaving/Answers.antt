@@ -3,9 +3,9 @@ use Rattle.std.proofs.lemmas.List.{take_all, length-drop}
 use Rattle.std.proofs.lemmas.List.Sorted.{IsPartitionPoint-from_clause, IsPartitionedBy-ltb, IsPartitionedBy-leb, IsNonDecreasingBy-drop}
 use Rattle.std.specs.List.Sorted.{IsPartitionPoint}
 use Rattle.ml_trace.specs.declared.letters.Transition.{Transition}
-use Rattle.ml_history.specs.Moves.{RiseBySource}
-use Rattle.ml_history.specs.TreeStep.{targets}
-use Rattle.ml_history.proofs.Leaving.{leaving_targets}
+use Rattle.ml_history.specs.private.Moves.{RiseBySource}
+use Rattle.ml_history.specs.private.TreeStep.{targets}
+use Rattle.ml_history.proofs.trees.LeavingTransitions.{leaving_targets}
 use Rattle.ml_history.proofs.tree.moves.Moves.leaving.Goals as goal
 
 pub returns : goal.returns
@@ -16,10 +16,17 @@ returns c =
     let rest = take (length ts - i) (drop i ts) in
     let is : rest ≡ drop i ts = take_all (length ts - i) (drop i ts) (omega (arith, length-drop i ts)) in
     let rise : RiseBySource ts = subst RiseBySource (sym c.deref.ensures.value) c.self.invariant in
-    let rise' : RiseBySource rest = subst RiseBySource (sym is) (IsNonDecreasingBy-drop (λ (t : Transition). t.from) i ts rise) in
+    let rise' : RiseBySource rest =
+    subst RiseBySource (sym is) (IsNonDecreasingBy-drop (λ (t : Transition). t.from) i ts rise) in
     let again : c.deref-2.result.now ≡ ts = c.deref-2.ensures.value ∙ sym c.deref.ensures.value in
     let low : i ≤ length ts = subst (λ us. i ≤ length us) again c.partition_point.ensures.bound in
-    let first = IsPartitionPoint-from_clause (λ (t : Transition). ltb t.from q) c.deref-2.result.now i c.partition_point.ensures.partitioned (IsPartitionedBy-ltb (λ (t : Transition). t.from) c.deref-2.result.now q (subst RiseBySource (sym again) rise)) (λ a r f' k. search rules) in
-    let one = subst (λ us. IsPartitionPoint (λ (t : Transition). ltb t.from q ≡ true) (λ (t : Transition). ltb t.from q ≡ false) us i) again first in
-    let two = IsPartitionPoint-from_clause (λ (t : Transition). leb t.from q) rest c.partition_point-2.result c.partition_point-2.ensures.partitioned (IsPartitionedBy-leb (λ (t : Transition). t.from) rest q rise') (λ a r f' k. search rules) in
-    λ acc. leaving_targets ts rest q i c.partition_point-2.result is low one c.partition_point-2.ensures.bound two acc ∙ ap (λ l. targets l acc q) (c.deref.ensures.value ∙ c.self.view_is)
+    let first = IsPartitionPoint-from_clause (λ (t : Transition). ltb t.from q) c.deref-2.result.now i
+    c.partition_point.ensures.partitioned (IsPartitionedBy-ltb (λ (t : Transition). t.from) c.deref-2.result.now q
+    (subst RiseBySource (sym again) rise)) (λ a r f' k. search rules) in
+    let one = subst (λ us. IsPartitionPoint (λ (t : Transition). ltb t.from q ≡ true)
+    (λ (t : Transition). ltb t.from q ≡ false) us i) again first in
+    let two = IsPartitionPoint-from_clause (λ (t : Transition). leb t.from q) rest c.partition_point-2.result
+    c.partition_point-2.ensures.partitioned (IsPartitionedBy-leb (λ (t : Transition). t.from) rest q rise')
+    (λ a r f' k. search rules) in
+    λ acc. leaving_targets ts rest q i c.partition_point-2.result is low one c.partition_point-2.ensures.bound two acc
+    ∙ ap (λ l. targets l acc q) (c.deref.ensures.value ∙ c.self.view_is)

@@ -1,0 +1,16 @@
+-- Lemmas: histories as flat arrays, and the step on them.
+
+-- stacks laid out in flat arrays
+pub mod StackLayout
+-- the names in use in a line, worst offer first
+pub mod NameLine
+-- the line of names is the order of offers, backwards
+pub mod OrderOfNames
+-- the best offers, one at a time
+pub mod BestOffers
+-- the names of offered stacks, and the stacks that are cut
+pub mod CutOffers
+-- the step on flat arrays, from its parts
+pub mod FlatStep
+-- lists of items, one item after the other
+pub mod ItemByItem

@@ -1,0 +1,16 @@
+-- entries of a list by their places
+pub mod Places
+-- the condition on names, carried along a map of states
+pub mod CarriedNames
+-- the step along a diamond, in the words of refutations
+pub mod GoSteps
+-- what stands in a decision
+pub mod Decisions
+-- the entries are positions that are reached
+pub mod Entries
+-- the graph of the go's
+pub mod GoGraph
+-- no rule is broken
+pub mod Accepted
+-- turns of the decision game, as vertices of its parity game
+pub mod Turns
