@@ -233,10 +233,10 @@ module _ (board : Board) where
       go_on : (c : List (ℕ × Side)) → Chosen c t → (d f : ℕ) (k : Mark) → f < length r.entries → IsMarkOf r.names k
           → KeepsAll (rules r e (Decided (record { choice = c; decision = Go d f k }))) g
           → Leads e t
-      go_on c agrees d f k f_low fits keeps = along (diamond_of (node_at g d) keeps.0.holds.1)
+      go_on c agrees d f k f_low fits keeps = along (diamond_of (node_at g d) keeps.0.holds.holds)
         where
           won_d : Won t d
-          won_d = spread_won c agrees keeps.0.spread keeps.0.is_spread d keeps.0.holds.0
+          won_d = spread_won c agrees keeps.0.spread keeps.0.is_spread d keeps.0.holds.member
 
           along : ((a : ℕ) × ((to : ℕ) × (node_at g d ≡ node.Diamond a to))) → Leads e t
           along is = record {

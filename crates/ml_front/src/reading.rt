@@ -1,10 +1,10 @@
 // Reading the head of a document.
 ghost use Rattle.std.specs.Prelude.{◌≡◌, ℕ, List, [], ◌∷◌, IfOk, IfErr, IsErrOf, MatchOption, codes};
 ghost use Rattle.ml_base.specs.declared.doc_fault.DocFault.{DocFault};
+ghost use Rattle.ml_base.specs.declared.version.Version.{Version};
 ghost use Rattle.ml_lines.specs.Lines.{Word, Line};
 ghost use Rattle.ml_lines.specs.Reading.{words_of};
 ghost use Rattle.ml_lines.specs.private.Fronts.{GoesOn};
-ghost use Rattle.ml_mu.specs.Problem.{Problem};
 ghost use Rattle.ml_front.specs.Head.{title_line, answer_line, logic_line, sense_line};
 ghost use Rattle.ml_front.specs.HeadRules.{IsHead, IsHeadFault, AtTitle, AtAnswer, AtLogic, AtSense, rule_number};
 ghost use Rattle.ml_front.specs.private.HeadParts as parts;
@@ -12,19 +12,12 @@ ghost use Rattle.ml_front.specs.private.HeadParts.{first_line, IsPair, Breaks, I
 
 use crate::answer::{Answer, answer_of};
 use crate::head_rule::HeadRule;
-use ml_base::{DocFault, ParseRefusal};
+use crate::logic::{Logic, logic_of};
+use crate::problem::{AnyFormula, Problem, parse};
+use crate::title::version_of;
+use ml_base::{DocFault, DocRefusal, ParseRefusal, Version};
 use ml_lines::{more_words, split_line, two_words};
-use ml_mu::{Formula, parse};
 use std::alloc::Global;
-
-/// Why a text has no head.
-#[derive(Clone, Copy, Debug, PartialEq, Eq)]
-pub enum HeadRefusal {
-    /// The first bad line, and the lowest rule that it breaks, from 1 to 3.
-    Fault(DocFault),
-    /// Out of memory.
-    NoMemory,
-}
 
 // Why a line has no formula.
 #[derive(Clone, Copy, Debug, PartialEq, Eq)]
@@ -34,83 +27,81 @@ pub(crate) enum FormulaRefusal {
     NoMemory,
 }
 
-/// What a head says: the formula with its sense; and what stands behind the head.
+/// What a head says, in which version; and what stands behind it.
 #[derive(Drop)]
 pub struct Head<'a> {
-    pub formula: Formula,
-    pub negated: bool,
-    pub body: &'a [u8],
+    pub problem: Problem,
+    pub version: Version,
+    pub rest: &'a [u8],
 }
 
-/// The head with which a document begins, where this answer is wanted: its first five lines.
+/// The head with which a document begins, where this answer is wanted: its first five lines, in either version.
 ///
 /// # Errors
 /// `Fault` exactly where the text begins with no such head, with the first bad line, counted from 1, and the lowest rule
 /// that is broken there: 1 where a line is missing or not of the kind that stands there; 2 where the formula is refused
 /// by its parser; 3 where the answer is another one. `NoMemory`.
 ///
-/// Cost: linear in the lines of the head, and that of `ml_mu::parse`.
-pub fn read_head(alloc: Global, text: &[u8], wanted: Answer) -> Result<Head, HeadRefusal>
-    ensures read { IfOk result (λ h. IsHead wanted text.now (record { formula = h.formula; negated = h.negated }) h.body.now) }
-    ensures refused { (fault : DocFault) → IsErrOf result (HeadRefusal.Fault fault) → IsHeadFault wanted text.now fault }
-    ensures no_head { (fault : DocFault) → IsErrOf result (HeadRefusal.Fault fault) → (p : Problem) (rest : List ℕ) → ¬ (IsHead wanted text.now p rest) }
+/// Cost: linear in the lines of the head, and that of the logic's parser.
+pub fn read_head(alloc: Global, text: &[u8], wanted: Answer) -> Result<Head, DocRefusal>
+    ensures read { IfOk result (λ h. IsHead wanted text.now h.version h.problem h.rest.now) }
+    ensures refused { (fault : DocFault) → IsErrOf result (DocRefusal.Fault fault) → IsHeadFault wanted text.now fault }
+    ensures no_head { (fault : DocFault) → IsErrOf result (DocRefusal.Fault fault)
+        → (v : Version) (p : Problem) (rest : List ℕ) → ¬ (IsHead wanted text.now v p rest) }
 {
     read_lines(alloc, text, wanted)
 }
 
-fn read_lines(alloc: Global, text: &[u8], wanted: Answer) -> Result<Head, HeadRefusal>
-    ensures read { IfOk result (λ h. IsHead wanted text.now (record { formula = h.formula; negated = h.negated }) h.body.now) }
+fn read_lines(alloc: Global, text: &[u8], wanted: Answer) -> Result<Head, DocRefusal>
+    ensures read { IfOk result (λ h. IsHead wanted text.now h.version h.problem h.rest.now) }
     ensures refused { IfErr result (TellsHead wanted text.now) }
 {
-    let answer = match read_title(text) {
-        Ok(rest) => rest,
+    let (version, answer) = match read_title(text) {
+        Ok(title) => title,
         Err(rule) => return Err(fault(1, rule)),
     };
     let logic = match read_answer(answer, wanted) {
         Ok(rest) => rest,
         Err(rule) => return Err(fault(2, rule)),
     };
-    let sense = match read_logic(logic) {
-        Ok(rest) => rest,
+    let (logic, sense) = match read_logic(logic) {
+        Ok(told) => told,
         Err(rule) => return Err(fault(3, rule)),
     };
     let (negated, formula) = match read_sense(sense) {
         Ok(read) => read,
         Err(rule) => return Err(fault(4, rule)),
     };
-    match read_formula(alloc, formula) {
-        Ok((formula, body)) => Ok(Head {
-            formula,
-            negated,
-            body,
+    match read_formula(alloc, logic, formula) {
+        Ok((formula, rest)) => Ok(Head {
+            problem: Problem { formula, negated },
+            version,
+            rest,
         }),
         Err(FormulaRefusal::Breaks(rule)) => Err(fault(5, rule)),
-        Err(FormulaRefusal::NoMemory) => Err(HeadRefusal::NoMemory),
+        Err(FormulaRefusal::NoMemory) => Err(DocRefusal::NoMemory),
     }
 }
 
-fn fault(line: u64, rule: HeadRule) -> HeadRefusal
-    ensures { result ≡ HeadRefusal.Fault (record { line = line; rule = rule_number rule }) }
+fn fault(line: u64, rule: HeadRule) -> DocRefusal
+    ensures { result ≡ DocRefusal.Fault (record { line = line; rule = rule_number rule }) }
 {
-    HeadRefusal::Fault(DocFault {
+    DocRefusal::Fault(DocFault {
         line,
         rule: rule.number(),
     })
 }
 
-// what stands behind the line `mlsolver 1`
-fn read_title(text: &[u8]) -> Result<&[u8], HeadRule>
-    ensures read { IfOk result (λ rest. GoesOn text.now (title_line ∷ []) rest.now) }
+// the version, and what stands behind the title
+fn read_title(text: &[u8]) -> Result<(Version, &[u8]), HeadRule>
+    ensures read { IfOk result (λ r. GoesOn text.now (title_line r.0 ∷ []) r.1.now) }
     ensures refused { IfErr result (λ rule. (a : Answer) → Breaks a AtTitle (first_line text.now) rule) }
 {
     match pair(text, b"mlsolver") {
-        Some((version, rest)) => {
-            if version == b"1".as_slice() {
-                Ok(rest)
-            } else {
-                Err(HeadRule::OfKind)
-            }
-        }
+        Some((word, rest)) => match version_of(word) {
+            Some(version) => Ok((version, rest)),
+            None => Err(HeadRule::OfKind),
+        },
         None => Err(HeadRule::OfKind),
     }
 }
@@ -135,19 +126,16 @@ fn read_answer(text: &[u8], wanted: Answer) -> Result<&[u8], HeadRule>
     }
 }
 
-// what stands behind the line `logic mu`
-fn read_logic(text: &[u8]) -> Result<&[u8], HeadRule>
-    ensures read { IfOk result (λ rest. GoesOn text.now (logic_line ∷ []) rest.now) }
+// the logic, and what stands behind its line
+fn read_logic(text: &[u8]) -> Result<(Logic, &[u8]), HeadRule>
+    ensures read { IfOk result (λ r. GoesOn text.now (logic_line r.0 ∷ []) r.1.now) }
     ensures refused { IfErr result (λ rule. (a : Answer) → Breaks a AtLogic (first_line text.now) rule) }
 {
     match pair(text, b"logic") {
-        Some((logic, rest)) => {
-            if logic == b"mu".as_slice() {
-                Ok(rest)
-            } else {
-                Err(HeadRule::OfKind)
-            }
-        }
+        Some((word, rest)) => match logic_of(word) {
+            Some(logic) => Ok((logic, rest)),
+            None => Err(HeadRule::OfKind),
+        },
         None => Err(HeadRule::OfKind),
     }
 }
@@ -155,7 +143,7 @@ fn read_logic(text: &[u8]) -> Result<&[u8], HeadRule>
 // is the sense negated? and what stands behind its line
 fn read_sense(text: &[u8]) -> Result<(bool, &[u8]), HeadRule>
     ensures read { IfOk result (λ r. GoesOn text.now (sense_line r.0 ∷ []) r.1.now) }
-    ensures refused { IfErr result (λ rule. (a : Answer) → Breaks a AtSense (first_line text.now) rule) }
+    ensures refused { IfErr result (λ rule. (a : Answer) (l : Logic) → Breaks a (AtSense l) (first_line text.now) rule) }
 {
     match pair(text, b"sense") {
         Some((sense, rest)) => {
@@ -172,13 +160,17 @@ fn read_sense(text: &[u8]) -> Result<(bool, &[u8]), HeadRule>
 }
 
 // the formula of the line, and what stands behind the line
-fn read_formula(alloc: Global, text: &[u8]) -> Result<(Formula, &[u8]), FormulaRefusal>
-    ensures read { IfOk result (λ r. IsFormulaRead text.now r.0 r.1.now) }
-    ensures refused { IfErr result (λ e. (a : Answer) → TellsFormula a text.now e) }
+fn read_formula(
+    alloc: Global,
+    logic: Logic,
+    text: &[u8],
+) -> Result<(AnyFormula, &[u8]), FormulaRefusal>
+    ensures read { IfOk result (λ r. IsFormulaRead logic text.now r.0 r.1.now) }
+    ensures refused { IfErr result (λ e. (a : Answer) → TellsFormula a logic text.now e) }
 {
     match split_line(text) {
         Some((line, rest)) => match formula_text(line) {
-            Some(given) => match parse(alloc, given) {
+            Some(given) => match parse(alloc, logic, given) {
                 Ok(formula) => Ok((formula, rest)),
                 Err(refusal) => Err(formula_refusal(refusal)),
             },
