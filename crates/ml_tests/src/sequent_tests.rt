@@ -1,34 +1,13 @@
 // The local phase on graphs of small formulas, worked out by hand.
 
-use crate::graph_tests::graph_of;
+use crate::graph_tests::{NOT_P, P, graph_of};
 use ml_graph::Node;
 use ml_sequent::{Choice, ClashCause, Sequent, Side, clash, diamonds, open_or, spread};
 use std::alloc::Global;
 use std::test::Fail;
 
-// The literals of p.
-const P: Node = Node::Lit {
-    prop: 0,
-    positive: true,
-};
-
-const NOT_P: Node = Node::Lit {
-    prop: 0,
-    positive: false,
-};
-
-// A graph of eight nodes, a sequent of one node, and what is asked of its spread: the clash, the open or-node, and how
-// many diamonds there are.
-#[derive(Clone, Copy, Debug)]
-struct Row {
-    nodes: [Node; 8],
-    priorities: [u32; 8],
-    from: u32,
-    chosen: Option<(u32, Side)>,
-    clash: Option<ClashCause>,
-    open: Option<u32>,
-    diamonds: usize,
-}
+// What is asked of a spread: the clash, the open or-node, and how many diamonds there are.
+type Answer = (Option<ClashCause>, Option<u32>, usize);
 
 // A node that is another one.
 fn to(node: u32) -> Node {
@@ -38,21 +17,24 @@ fn to(node: u32) -> Node {
     }
 }
 
-// What is answered of the row's spread; `None` if the row is no graph or the node none of it.
-fn answers(
+// What is answered of the spread of a node; `None` if the lists are no graph or the node none of it.
+fn answer(
     alloc: Global,
-    row: &Row,
-) -> Result<Option<(Option<ClashCause>, Option<u32>, usize)>, Fail> {
-    let Ok(graph) = graph_of(alloc, &row.nodes, &row.priorities, 0)? else {
+    nodes: &[Node; 8],
+    priorities: &[u32; 8],
+    from: u32,
+    chosen: Option<(u32, Side)>,
+) -> Result<Option<Answer>, Fail> {
+    let Ok(graph) = graph_of(alloc, nodes, priorities, 0)? else {
         return Ok(None);
     };
-    let sequent = Sequent::of(alloc, &[row.from])?;
+    let sequent = Sequent::of(alloc, &[from])?;
     let size = graph.size();
     if !sequent.values().iter().all(|n| *n < size) {
         return Ok(None);
     }
     let mut choice = Choice::empty(alloc);
-    if let Some((node, side)) = row.chosen {
+    if let Some((node, side)) = chosen {
         choice = choice.with(node, side)?;
     }
     let spread = spread(alloc, &graph, &sequent, &choice)?;
@@ -61,10 +43,13 @@ fn answers(
     Ok(Some((cause, open_or(&graph, &spread), diamonds.len())))
 }
 
-#[test]
-fn spreads_by_hand(rt: HostRuntime) -> Result<(), Fail> {
-    // p | !p, with one bar: both signs of each occurrence
-    let excluded = [
+// The same of `p | !p`, with one bar: both signs of each occurrence.
+fn of_excluded(
+    alloc: Global,
+    from: u32,
+    chosen: Option<(u32, Side)>,
+) -> Result<Option<Answer>, Fail> {
+    let nodes = [
         Node::Or { left: 2, right: 4 },
         Node::And { left: 3, right: 5 },
         P,
@@ -74,8 +59,16 @@ fn spreads_by_hand(rt: HostRuntime) -> Result<(), Fail> {
         P,
         NOT_P,
     ];
-    // a fixpoint at 0 and its dual at 1, and a node with a diamond and False
-    let fixpoints = [
+    answer(alloc, &nodes, &[2; 8], from, chosen)
+}
+
+// The same of a fixpoint at 0 and its dual at 1, and a node with a diamond and False.
+fn of_fixpoints(
+    alloc: Global,
+    from: u32,
+    chosen: Option<(u32, Side)>,
+) -> Result<Option<Answer>, Fail> {
+    let nodes = [
         to(2),
         to(3),
         to(0),
@@ -85,76 +78,85 @@ fn spreads_by_hand(rt: HostRuntime) -> Result<(), Fail> {
         Node::Or { left: 7, right: 5 },
         Node::False,
     ];
-    let even = [2; 8];
-    let binders = [1, 0, 2, 2, 2, 2, 2, 2];
-    let row = |nodes: [Node; 8], priorities: [u32; 8], from: u32, chosen: Option<
-        (u32, Side),
-    >, clash: Option<ClashCause>, open: Option<u32>, diamonds: usize| Row {
-        nodes,
-        priorities,
-        from,
-        chosen,
-        clash,
-        open,
-        diamonds,
-    };
-    let rows = [
-        row(
-            excluded,
-            even,
-            1,
-            None,
-            Some(ClashCause::Pair(6, 3)),
-            None,
-            0,
-        ),
-        row(excluded, even, 0, None, None, Some(0), 0),
-        row(excluded, even, 0, Some((0, Side::Left)), None, None, 0),
-        row(
-            fixpoints,
-            binders,
-            0,
-            None,
-            Some(ClashCause::Cycle(0)),
-            None,
-            0,
-        ),
-        row(fixpoints, binders, 1, None, None, None, 0),
-        row(fixpoints, binders, 4, None, None, Some(6), 1),
-        row(
-            fixpoints,
-            binders,
-            4,
-            Some((6, Side::Left)),
-            Some(ClashCause::False(7)),
-            None,
-            1,
-        ),
-        row(fixpoints, binders, 4, Some((6, Side::Right)), None, None, 1),
-    ];
-    for row in rows {
-        assert_eq!(rt;
-            answers(rt.alloc(), &row)?,
-            Some((row.clash, row.open, row.diamonds)),
-            "{row:?}"
-        );
-    }
+    answer(alloc, &nodes, &[1, 0, 2, 2, 2, 2, 2, 2], from, chosen)
+}
+
+#[test]
+fn both_signs_clash(rt: HostRuntime) -> Result<(), Fail> {
+    let found = of_excluded(rt.alloc(), 1, None)?;
+    assert!(rt; found == Some((Some(ClashCause::Pair(6, 3)), None, 0)));
     Ok(())
 }
 
 #[test]
-fn sequents_and_choices_are_lists(rt: HostRuntime) -> Result<(), Fail> {
+fn or_is_open_until_it_is_chosen(rt: HostRuntime) -> Result<(), Fail> {
+    let found = of_excluded(rt.alloc(), 0, None)?;
+    assert!(rt; found == Some((None, Some(0), 0)));
+    let left = of_excluded(rt.alloc(), 0, Some((0, Side::Left)))?;
+    assert!(rt; left == Some((None, None, 0)));
+    Ok(())
+}
+
+#[test]
+fn odd_cycle_clashes(rt: HostRuntime) -> Result<(), Fail> {
+    let found = of_fixpoints(rt.alloc(), 0, None)?;
+    assert!(rt; found == Some((Some(ClashCause::Cycle(0)), None, 0)));
+    Ok(())
+}
+
+#[test]
+fn even_cycle_does_not_clash(rt: HostRuntime) -> Result<(), Fail> {
+    let found = of_fixpoints(rt.alloc(), 1, None)?;
+    assert!(rt; found == Some((None, None, 0)));
+    Ok(())
+}
+
+#[test]
+fn diamonds_are_counted(rt: HostRuntime) -> Result<(), Fail> {
+    let found = of_fixpoints(rt.alloc(), 4, None)?;
+    assert!(rt; found == Some((None, Some(6), 1)));
+    let right = of_fixpoints(rt.alloc(), 4, Some((6, Side::Right)))?;
+    assert!(rt; right == Some((None, None, 1)));
+    Ok(())
+}
+
+#[test]
+fn false_clashes(rt: HostRuntime) -> Result<(), Fail> {
+    let left = of_fixpoints(rt.alloc(), 4, Some((6, Side::Left)))?;
+    assert!(rt; left == Some((Some(ClashCause::False(7)), None, 1)));
+    Ok(())
+}
+
+#[test]
+fn sequents_are_sets(rt: HostRuntime) -> Result<(), Fail> {
     let sequent = Sequent::of(rt.alloc(), &[5, 2, 5, 3])?;
-    assert_eq!(rt; sequent.nodes(rt.alloc())?.as_slice(), [2, 3, 5].as_slice());
-    assert_eq!(rt; sequent.copy()?.values(), [2, 3, 5].as_slice());
-    let empty = Choice::empty(rt.alloc());
-    assert!(rt; empty.is_empty());
-    let one = empty.with(4, Side::Right)?;
-    let two = one.with(1, Side::Left)?;
-    let rows = [(0, None), (1, Some(Side::Left)), (4, Some(Side::Right))];
-    for (node, wanted) in rows {
-        assert_eq!(rt; two.side(node), wanted, "{node}");
-    }
-    assert!(rt; !two.copy()?.is_empty());
+    assert!(rt; sequent.values() == [2, 3, 5].as_slice());
+    let copy = sequent.copy()?;
+    assert!(rt; copy.values() == sequent.values());
+    let nodes = sequent.nodes(rt.alloc())?;
+    assert!(rt; nodes.as_slice() == sequent.values());
+    Ok(())
+}
+
+// The choice of the right side at 4 and the left side at 1.
+fn two_sides(alloc: Global) -> Result<Choice, Fail> {
+    let one = Choice::empty(alloc).with(4, Side::Right)?;
+    Ok(one.with(1, Side::Left)?)
+}
+
+#[test]
+fn choices_have_sides(rt: HostRuntime) -> Result<(), Fail> {
+    let choice = two_sides(rt.alloc())?;
+    assert!(rt; choice.side(0).is_none());
+    assert!(rt; choice.side(1) == Some(Side::Left));
+    assert!(rt; choice.side(4) == Some(Side::Right));
+    Ok(())
+}
+
+#[test]
+fn choices_are_copied(rt: HostRuntime) -> Result<(), Fail> {
+    assert!(rt; Choice::empty(rt.alloc()).is_empty());
+    let copy = two_sides(rt.alloc())?.copy()?;
+    assert!(rt; !copy.is_empty());
     Ok(())
 }
