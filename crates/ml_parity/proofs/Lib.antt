@@ -68,3 +68,5 @@ pub mod Turns
 pub mod Whole
 -- who wins each vertex: the determinacy law
 pub mod Winners
+-- walks that follow a strategy
+pub mod FollowedWalks

@@ -1,0 +1,2 @@
+-- what is true of each position that is reached
+pub mod Reached

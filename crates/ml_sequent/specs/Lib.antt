@@ -1,5 +1,7 @@
 -- which child is taken at an or-node
 pub mod Choice
+-- when choices are equal
+pub mod ChoiceEquality
 -- local walks, with the lowest priority on them
 pub mod LocalWalk
 -- spreads, clashes, open or-nodes

@@ -1,4 +1,8 @@
--- the search along local walks
-pub mod Search
 -- tests of nodes, and the first node of a list that passes one
 pub mod Tests
+-- local children as the program gives them
+pub mod Children
+-- the search, with the lowest priority on the way
+pub mod Reach
+-- where local walks leave a spread
+pub mod Exits

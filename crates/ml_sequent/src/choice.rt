@@ -1,14 +1,16 @@
 // Which child is taken at an or-node.
 ghost use Rattle.std.specs.Prelude.{◌≡◌, ◌≤◌, ◌↔◌, [], ◌∷◌, ◌++◌, None, IsTrue, IfOk, length, take, drop};
 ghost use Rattle.ml_sequent.specs.declared.choice.Side.{Side};
-ghost use Rattle.ml_sequent.specs.Choice.{side_of, with_side};
+ghost use Rattle.ml_sequent.specs.Choice.{IsChoice, side_of, with_side};
+ghost use Rattle.ml_sequent.specs.ChoiceEquality.{choice_eq, choice_eq_equiv, choice_writes};
 
 use ml_base::NoMemory;
 use std::alloc::Global;
+use std::hash::{Hash, Hasher};
 use std::marker::Model;
 
 /// A side of an or-node.
-#[derive(Clone, Copy, Debug, PartialEq, Eq)]
+#[derive(Clone, Copy, Debug, PartialEq, Eq, Hash)]
 pub enum Side {
     Left,
     Right,
@@ -51,7 +53,7 @@ impl Choice {
 
     /// The side that was chosen at a node; `None` exactly where none was.
     ///
-    /// Cost: linear in the choice.
+    /// Cost: logarithmic in the choice.
     pub fn side(&self, node: u32) -> Option<Side>
         ensures { result ≡ side_of self.now node }
     {
@@ -84,16 +86,50 @@ impl Choice {
     }
 }
 
-/// The side at a node, in a list of pairs.
+/// Choices are equal if their lists are.
+///
+/// Cost: linear in the choices; no memory.
+impl PartialEq for Choice {
+    ghost use Rattle.std.specs.Cmp.{partial_equiv_from_equiv};
+
+    ghost eq = { choice_eq };
+
+    ghost laws = { partial_equiv_from_equiv choice_eq_equiv };
+
+    fn eq(&self, other: &Choice) -> bool
+        ensures value { result ≡ choice_eq self.now other.now }
+        ensures exact { IsTrue result ↔ self.now ≡ other.now }
+    {
+        self.pairs == other.pairs
+    }
+}
+
+impl Eq for Choice {
+    ghost laws = { choice_eq_equiv };
+}
+
+impl Hash for Choice {
+    ghost use Rattle.std.proofs.Common.{ap};
+    ghost use Rattle.ml_sequent.specs.ChoiceEquality.{choice_eq-same};
+
+    ghost hash_input = { choice_writes };
+
+    ghost respects_eq = { λ c d e. ap choice_writes (choice_eq-same c d e) };
+
+    fn hash<H: Hasher>(&self, state: &mut H) {
+        self.pairs.hash(state);
+    }
+}
+
+/// The side at a node, in a list of pairs that ascends.
 fn side_at(pairs: &[(u32, Side)], node: u32) -> Option<Side>
+    requires { IsChoice pairs.now }
     ensures { result ≡ side_of pairs.now node }
 {
-    for pair in pairs {
-        if pair.0 == node {
-            return Some(pair.1);
-        }
+    match pairs.binary_search_by_key(&node, |pair| pair.0) {
+        Ok(place) => Some(pairs[place].1),
+        Err(_) => None,
     }
-    None
 }
 
 /// The pairs with one more, in the order of nodes.

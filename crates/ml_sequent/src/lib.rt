@@ -6,23 +6,31 @@
 // The calls to know:
 // - `spread` makes the spread of a sequent under a choice.
 // - `clash` says why a spread can't hold, `open_or` where a side is still to be chosen, `diamonds` what leads on.
+// - `step` goes on along a diamond, to the next sequent, and tells the local traces.
+// - `LocalPhase` has the same calls for many spreads of one graph, and lends them its memory.
 //
 // Below stand `ml_graph`, for graphs, and `ml_trace`, whose letters are made of local traces. Above stand the decision
 // game, which asks these calls of each position, and the checker of refutations.
 #![tactic(auto)]
 
+mod children;
 mod choice;
 mod clashes;
 pub mod laws;
+mod levels;
 mod making;
+mod phase;
 mod questions;
-mod search;
+mod reach;
 mod sequent;
+mod sets;
 mod spreads;
+mod stepping;
 
 pub use choice::{Choice, Side};
 pub use clashes::{ClashCause, clash};
-pub use making::spread;
+pub use making::{spread, step};
+pub use phase::LocalPhase;
 pub use questions::{diamonds, open_or};
 pub use sequent::Sequent;
 pub use spreads::Spread;

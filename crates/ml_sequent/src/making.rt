@@ -1,16 +1,20 @@
-// How a spread is made.
-ghost use Rattle.std.specs.Prelude.{◌≡◌, ◌<◌, IfOk, length, filter, All};
-ghost use Rattle.std.specs.List.{range_with_len};
+// How a spread and a step are made: by a local phase that serves one call.
+ghost use Rattle.std.specs.Prelude.{◌≡◌, ◌<◌, IfOk, length, map, All};
 ghost use Rattle.ml_graph.specs.Graph.{size};
 ghost use Rattle.ml_sequent.specs.Spread.{IsSpread, IsSpreadOf};
-ghost use Rattle.ml_sequent.specs.private.Search.{mark};
+ghost use Rattle.ml_sequent.specs.Step.{IsDiamondOf, IsStep};
+ghost use Rattle.ml_sequent.specs.private.Reach.{IsRanked, HasRoom};
 
 use crate::choice::Choice;
-use crate::search::reached;
+use crate::levels::Levels;
+use crate::phase::LocalPhase;
+use crate::reach::{Reach, reach_all};
 use crate::sequent::Sequent;
+use crate::sets::ascending;
 use crate::spreads::Spread;
 use ml_base::NoMemory;
 use ml_graph::ModalGraph;
+use ml_trace::LocalTraces;
 use std::alloc::Global;
 
 /// The spread of a sequent under a choice: the least set of nodes that has the sequent, both children of each of its
@@ -19,7 +23,7 @@ use std::alloc::Global;
 /// # Errors
 /// `NoMemory` alone.
 ///
-/// Cost: linear in the nodes of the graph; each node of the spread is visited once.
+/// Cost: that of a local phase, and then that of its spread.
 pub fn spread(
     alloc: Global,
     graph: &ModalGraph,
@@ -30,20 +34,47 @@ pub fn spread(
     ensures of { IfOk result (IsSpreadOf graph.now sequent.now choice.now) }
     ensures is_spread { IfOk result (IsSpread graph.now) }
 {
-    let marks = reached(alloc, graph, choice, 0, sequent.values())?;
-    Ok(Spread::of(marked(alloc, &marks, graph.size())?, choice.copy()?))
+    LocalPhase::new(alloc, graph)?.spread(sequent, choice)
 }
 
-/// The marked numbers below `size`, ascending.
-fn marked(alloc: Global, marks: &[bool], size: u32) -> Result<Vec<u32>, NoMemory>
-    requires { length marks.now ≡ size }
-    ensures { IfOk result (λ nodes. nodes.items ≡ filter (mark marks.now) (range_with_len 0 size)) }
+/// The step along a diamond of the spread of a sequent: the nodes that have to hold behind it, and the local traces, by
+/// which nodes of the sequent each of them is reached, with which lowest priorities.
+///
+/// # Errors
+/// `NoMemory` alone.
+///
+/// Cost: that of a local phase, and then that of its step.
+pub fn step(
+    alloc: Global,
+    graph: &ModalGraph,
+    sequent: &Sequent,
+    spread: &Spread,
+    diamond: u32,
+) -> Result<(Sequent, LocalTraces), NoMemory>
+    requires spread { IsSpreadOf graph.now sequent.now spread.now.choice spread.now }
+    requires diamond { IsDiamondOf graph.now spread.now diamond }
+    ensures { IfOk result (λ made. IsStep graph.now sequent.now spread.now diamond made.0 made.1) }
 {
-    let mut nodes = Vec::new(alloc);
-    for m in 0..size {
-        if marks[m as usize] {
-            nodes.push(m)?;
-        }
-    }
-    Ok(nodes)
+    LocalPhase::new(alloc, graph)?.step(sequent, spread, diamond)
+}
+
+/// The spread of a sequent under a choice, by a search.
+pub(crate) fn spread_by(
+    alloc: Global,
+    graph: &ModalGraph,
+    levels: &Levels,
+    reach: &mut Reach,
+    sequent: &Sequent,
+    choice: &Choice,
+) -> Result<Spread, NoMemory>
+    requires nodes { All (λ n. n < size graph.now) sequent.now }
+    requires ranked { IsRanked graph.now levels.now }
+    requires room { HasRoom graph.now levels.now reach.old }
+    ensures room { HasRoom graph.now levels.now reach.new }
+    ensures of { IfOk result (IsSpreadOf graph.now sequent.now choice.now) }
+{
+    let _size = graph.size();
+    reach_all(graph, choice, levels, sequent.values(), reach)?;
+    let nodes = reach.found().iter().map(|v| v.node).collect(alloc)?;
+    Ok(Spread::of(ascending(nodes), choice.copy()?))
 }

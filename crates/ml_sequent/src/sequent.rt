@@ -6,6 +6,7 @@ ghost use Rattle.std.specs.Hash as fed;
 ghost use Rattle.std.specs.Hash.{same_Alike};
 ghost use Rattle.ml_lists.specs.Ascending.{IsAscending, ascending};
 
+use crate::sets::ascending;
 use ml_base::{IdSet, NoMemory};
 use std::alloc::Global;
 use std::hash::{Hash, Hasher};
@@ -35,12 +36,16 @@ impl Sequent {
     pub fn of(alloc: Global, nodes: &[u32]) -> Result<Sequent, NoMemory>
         ensures { IfOk result (λ sequent. sequent ≡ ascending nodes.now) }
     {
-        let mut members = Vec::from_slice(alloc, nodes)?;
-        members.sort_unstable();
-        members.dedup();
-        Ok(Sequent {
-            nodes: IdSet::from_ascending(members),
-        })
+        Ok(Sequent::of_members(Vec::from_slice(alloc, nodes)?))
+    }
+
+    /// The set of the given nodes, in any order and with any repeats. It takes no memory.
+    pub(crate) fn of_members(nodes: Vec<u32>) -> Sequent
+        ensures { result ≡ ascending nodes.items }
+    {
+        Sequent {
+            nodes: IdSet::from_ascending(ascending(nodes)),
+        }
     }
 
     /// The nodes, ascending, as a list of one's own.

@@ -9,12 +9,12 @@ use std::alloc::Global;
 use std::test::Fail;
 
 // The literals of p.
-pub(crate) const P: Node = Node::Lit {
+const P: Node = Node::Lit {
     prop: 0,
     positive: true,
 };
 
-pub(crate) const NOT_P: Node = Node::Lit {
+const NOT_P: Node = Node::Lit {
     prop: 0,
     positive: false,
 };

@@ -1,13 +1,37 @@
 // The local phase on graphs of small formulas, worked out by hand.
+ghost use Rattle.std.specs.Prelude.{◌<◌, All};
+ghost use Rattle.ml_graph.specs.Graph.{size};
 
-use crate::graph_tests::{NOT_P, P, graph_of};
-use ml_graph::Node;
-use ml_sequent::{Choice, ClashCause, Sequent, Side, clash, diamonds, open_or, spread};
+use crate::graph_tests::graph_of;
+use ml_graph::{ModalGraph, Node};
+use ml_sequent::{Choice, ClashCause, Sequent, Side, clash, diamonds, open_or, spread, step};
+use ml_trace::{LocalTraces, Triple};
 use std::alloc::Global;
 use std::test::Fail;
 
-// What is asked of a spread: the clash, the open or-node, and how many diamonds there are.
-type Answer = (Option<ClashCause>, Option<u32>, usize);
+// The literals of p.
+const P: Node = Node::Lit {
+    prop: 0,
+    positive: true,
+};
+
+const NOT_P: Node = Node::Lit {
+    prop: 0,
+    positive: false,
+};
+
+// A graph of eight nodes, a sequent of one node, and what is asked of its spread: the clash, the open or-node, and how
+// many diamonds there are.
+#[derive(Clone, Copy, Debug)]
+struct Row {
+    nodes: [Node; 8],
+    priorities: [u32; 8],
+    from: u32,
+    chosen: Option<(u32, Side)>,
+    clash: Option<ClashCause>,
+    open: Option<u32>,
+    diamonds: usize,
+}
 
 // A node that is another one.
 fn to(node: u32) -> Node {
@@ -17,24 +41,21 @@ fn to(node: u32) -> Node {
     }
 }
 
-// What is answered of the spread of a node; `None` if the lists are no graph or the node none of it.
-fn answer(
+// What is answered of the row's spread; `None` if the row is no graph or the node none of it.
+fn answers(
     alloc: Global,
-    nodes: &[Node; 8],
-    priorities: &[u32; 8],
-    from: u32,
-    chosen: Option<(u32, Side)>,
-) -> Result<Option<Answer>, Fail> {
-    let Ok(graph) = graph_of(alloc, nodes, priorities, 0)? else {
+    row: &Row,
+) -> Result<Option<(Option<ClashCause>, Option<u32>, usize)>, Fail> {
+    let Ok(graph) = graph_of(alloc, &row.nodes, &row.priorities, 0)? else {
         return Ok(None);
     };
-    let sequent = Sequent::of(alloc, &[from])?;
+    let sequent = Sequent::of(alloc, &[row.from])?;
     let size = graph.size();
     if !sequent.values().iter().all(|n| *n < size) {
         return Ok(None);
     }
     let mut choice = Choice::empty(alloc);
-    if let Some((node, side)) = chosen {
+    if let Some((node, side)) = row.chosen {
         choice = choice.with(node, side)?;
     }
     let spread = spread(alloc, &graph, &sequent, &choice)?;
@@ -43,13 +64,10 @@ fn answer(
     Ok(Some((cause, open_or(&graph, &spread), diamonds.len())))
 }
 
-// The same of `p | !p`, with one bar: both signs of each occurrence.
-fn of_excluded(
-    alloc: Global,
-    from: u32,
-    chosen: Option<(u32, Side)>,
-) -> Result<Option<Answer>, Fail> {
-    let nodes = [
+#[test]
+fn spreads_by_hand(rt: HostRuntime) -> Result<(), Fail> {
+    // p | !p, with one bar: both signs of each occurrence
+    let excluded = [
         Node::Or { left: 2, right: 4 },
         Node::And { left: 3, right: 5 },
         P,
@@ -59,16 +77,19 @@ fn of_excluded(
         P,
         NOT_P,
     ];
-    answer(alloc, &nodes, &[2; 8], from, chosen)
-}
-
-// The same of a fixpoint at 0 and its dual at 1, and a node with a diamond and False.
-fn of_fixpoints(
-    alloc: Global,
-    from: u32,
-    chosen: Option<(u32, Side)>,
-) -> Result<Option<Answer>, Fail> {
-    let nodes = [
+    // p | q, with one bar, and q a fixpoint of its own: True
+    let either = [
+        Node::Or { left: 2, right: 4 },
+        Node::And { left: 3, right: 5 },
+        P,
+        NOT_P,
+        Node::True,
+        Node::True,
+        P,
+        NOT_P,
+    ];
+    // a fixpoint at 0 and its dual at 1, and a node with a diamond and False
+    let fixpoints = [
         to(2),
         to(3),
         to(0),
@@ -78,85 +99,163 @@ fn of_fixpoints(
         Node::Or { left: 7, right: 5 },
         Node::False,
     ];
-    answer(alloc, &nodes, &[1, 0, 2, 2, 2, 2, 2, 2], from, chosen)
-}
+    let even = [2; 8];
+    let binders = [1, 0, 2, 2, 2, 2, 2, 2];
+    let row = |nodes: [Node; 8], priorities: [u32; 8], from: u32, chosen: Option<
+        (u32, Side),
+    >, clash: Option<ClashCause>, open: Option<u32>, diamonds: usize| Row {
+        nodes,
+        priorities,
+        from,
+        chosen,
+        clash,
+        open,
+        diamonds,
+    };
+    let rows = [
+        row(
+            excluded,
+            even,
+            1,
+            None,
+            Some(ClashCause::Pair(6, 3)),
+            None,
+            0,
+        ),
+        row(excluded, even, 0, None, None, Some(0), 0),
+        row(excluded, even, 0, Some((0, Side::Left)), None, None, 0),
+        row(either, even, 0, None, None, Some(0), 0),
 
-#[test]
-fn both_signs_clash(rt: HostRuntime) -> Result<(), Fail> {
-    let found = of_excluded(rt.alloc(), 1, None)?;
-    assert!(rt; found == Some((Some(ClashCause::Pair(6, 3)), None, 0)));
+
+        row(
+            fixpoints,
+            binders,
+            0,
+            None,
+            Some(ClashCause::Cycle(0)),
+            None,
+            0,
+        ),
+        row(fixpoints, binders, 1, None, None, None, 0),
+        row(fixpoints, binders, 4, None, None, Some(6), 1),
+        row(
+            fixpoints,
+            binders,
+            4,
+            Some((6, Side::Left)),
+            Some(ClashCause::False(7)),
+            None,
+            1,
+        ),
+        row(fixpoints, binders, 4, Some((6, Side::Right)), None, None, 1),
+    ];
+    for row in rows {
+        assert_eq!(rt;
+            answers(rt.alloc(), &row)?,
+            Some((row.clash, row.open, row.diamonds)),
+            "{row:?}"
+        );
+    }
     Ok(())
 }
 
 #[test]
-fn or_is_open_until_it_is_chosen(rt: HostRuntime) -> Result<(), Fail> {
-    let found = of_excluded(rt.alloc(), 0, None)?;
-    assert!(rt; found == Some((None, Some(0), 0)));
-    let left = of_excluded(rt.alloc(), 0, Some((0, Side::Left)))?;
-    assert!(rt; left == Some((None, None, 0)));
-    Ok(())
-}
-
-#[test]
-fn odd_cycle_clashes(rt: HostRuntime) -> Result<(), Fail> {
-    let found = of_fixpoints(rt.alloc(), 0, None)?;
-    assert!(rt; found == Some((Some(ClashCause::Cycle(0)), None, 0)));
-    Ok(())
-}
-
-#[test]
-fn even_cycle_does_not_clash(rt: HostRuntime) -> Result<(), Fail> {
-    let found = of_fixpoints(rt.alloc(), 1, None)?;
-    assert!(rt; found == Some((None, None, 0)));
-    Ok(())
-}
-
-#[test]
-fn diamonds_are_counted(rt: HostRuntime) -> Result<(), Fail> {
-    let found = of_fixpoints(rt.alloc(), 4, None)?;
-    assert!(rt; found == Some((None, Some(6), 1)));
-    let right = of_fixpoints(rt.alloc(), 4, Some((6, Side::Right)))?;
-    assert!(rt; right == Some((None, None, 1)));
-    Ok(())
-}
-
-#[test]
-fn false_clashes(rt: HostRuntime) -> Result<(), Fail> {
-    let left = of_fixpoints(rt.alloc(), 4, Some((6, Side::Left)))?;
-    assert!(rt; left == Some((Some(ClashCause::False(7)), None, 1)));
-    Ok(())
-}
-
-#[test]
-fn sequents_are_sets(rt: HostRuntime) -> Result<(), Fail> {
+fn sequents_and_choices_are_lists(rt: HostRuntime) -> Result<(), Fail> {
     let sequent = Sequent::of(rt.alloc(), &[5, 2, 5, 3])?;
-    assert!(rt; sequent.values() == [2, 3, 5].as_slice());
-    let copy = sequent.copy()?;
-    assert!(rt; copy.values() == sequent.values());
-    let nodes = sequent.nodes(rt.alloc())?;
-    assert!(rt; nodes.as_slice() == sequent.values());
+    assert_eq!(rt; sequent.nodes(rt.alloc())?.as_slice(), [2, 3, 5].as_slice());
+    assert_eq!(rt; sequent.copy()?.values(), [2, 3, 5].as_slice());
+    let empty = Choice::empty(rt.alloc());
+    assert!(rt; empty.is_empty());
+    let one = empty.with(4, Side::Right)?;
+    let two = one.with(1, Side::Left)?;
+    let rows = [(0, None), (1, Some(Side::Left)), (4, Some(Side::Right))];
+    for (node, wanted) in rows {
+        assert_eq!(rt; two.side(node), wanted, "{node}");
+    }
+    assert!(rt; !two.copy()?.is_empty());
     Ok(())
 }
 
-// The choice of the right side at 4 and the left side at 1.
-fn two_sides(alloc: Global) -> Result<Choice, Fail> {
-    let one = Choice::empty(alloc).with(4, Side::Right)?;
-    Ok(one.with(1, Side::Left)?)
+// The step along the first diamond of a sequent's spread, with no side chosen; `None` if it has no diamond.
+fn first_step(
+    alloc: Global,
+    graph: &ModalGraph,
+    sequent: &Sequent,
+) -> Result<Option<(Sequent, LocalTraces)>, Fail>
+    requires { All (λ n. n < size graph.now) sequent.now }
+{
+    let spread = spread(alloc, graph, sequent, &Choice::empty(alloc))?;
+    let diamonds = diamonds(alloc, graph, &spread)?;
+    if diamonds.is_empty() {
+        return Ok(None);
+    }
+    Ok(Some(step(alloc, graph, sequent, &spread, diamonds[0])?))
+}
+
+// The step of a graph of eight nodes from a sequent of one.
+fn step_of(
+    alloc: Global,
+    nodes: &[Node; 8],
+    priorities: &[u32; 8],
+    from: u32,
+) -> Result<Option<(Sequent, LocalTraces)>, Fail> {
+    let Ok(graph) = graph_of(alloc, nodes, priorities, 0)? else {
+        return Ok(None);
+    };
+    let sequent = Sequent::of(alloc, &[from])?;
+    let size = graph.size();
+    if !sequent.values().iter().all(|n| *n < size) {
+        return Ok(None);
+    }
+    first_step(alloc, &graph, &sequent)
+}
+
+// A triple.
+fn triple(from: u32, lowest: u32, to: u32) -> Triple {
+    Triple { from, lowest, to }
 }
 
 #[test]
-fn choices_have_sides(rt: HostRuntime) -> Result<(), Fail> {
-    let choice = two_sides(rt.alloc())?;
-    assert!(rt; choice.side(0).is_none());
-    assert!(rt; choice.side(1) == Some(Side::Left));
-    assert!(rt; choice.side(4) == Some(Side::Right));
+fn step_of_a_least_fixpoint(rt: HostRuntime) -> Result<(), Fail> {
+    // mu X. <>X: the binder and its dual, the modalities, and the variable, twice
+    let nodes = [
+        to(2),
+        to(3),
+        Node::Diamond { action: 0, to: 4 },
+        Node::Square { action: 0, to: 5 },
+        to(0),
+        to(1),
+        P,
+        NOT_P,
+    ];
+    let Some((next, traces)) = step_of(rt.alloc(), &nodes, &[1, 0, 2, 2, 2, 2, 2, 2], 0)? else {
+        return Ok(());
+    };
+    assert_eq!(rt; next.nodes(rt.alloc())?.as_slice(), [4].as_slice());
+    assert_eq!(rt; next.copy()?.values(), [4].as_slice());
+    assert_eq!(rt; traces.triples(), [triple(0, 1, 4)].as_slice());
     Ok(())
 }
 
 #[test]
-fn choices_are_copied(rt: HostRuntime) -> Result<(), Fail> {
-    assert!(rt; Choice::empty(rt.alloc()).is_empty());
-    let copy = two_sides(rt.alloc())?.copy()?;
-    assert!(rt; !copy.is_empty());
+fn step_with_several_lowest_priorities(rt: HostRuntime) -> Result<(), Fail> {
+    let nodes = [
+        Node::And { left: 1, right: 2 },
+        Node::And { left: 3, right: 4 },
+        to(3),
+        Node::Diamond { action: 0, to: 6 },
+        Node::Square { action: 0, to: 7 },
+        Node::Square { action: 0, to: 0 },
+        Node::True,
+        Node::True,
+    ];
+    let Some((next, traces)) = step_of(rt.alloc(), &nodes, &[4, 1, 3, 5, 5, 5, 2, 2], 0)? else {
+        return Ok(());
+    };
+    assert_eq!(rt; next.values(), [6, 7].as_slice());
+    for wanted in [triple(0, 1, 6), triple(0, 3, 6), triple(0, 1, 7)] {
+        assert!(rt; traces.triples().contains(&wanted), "{wanted:?}");
+    }
+    assert_eq!(rt; traces.triples().len(), 3);
     Ok(())
 }

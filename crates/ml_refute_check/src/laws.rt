@@ -1,0 +1,31 @@
+// Laws about the definitions alone: empty functions, each of whose contract is a theorem.
+
+ghost use Rattle.ml_refute_check.specs.Problems.{RefutedIsUnsatisfiable};
+ghost use Rattle.ml_refute_check.specs.Soundness.{AcceptedHoldsNowhere, FaultOrAccepted, OneFault, RulesRise};
+
+/// Where a refutation breaks no rule in a graph, the graph holds at no state of any structure. Graphs, refutations and
+/// structures are of any size; how the refutation was made doesn't matter.
+///
+/// Does nothing when called.
+pub fn accepted_holds_nowhere()
+    ensures law { AcceptedHoldsNowhere }
+{}
+
+/// A refutation isn't both accepted and bad at a first part, it has one first bad part at most, and that one breaks one
+/// lowest rule: the rules of a part rise by their numbers.
+///
+/// Does nothing when called.
+pub fn one_fault()
+    ensures exclusive { FaultOrAccepted }
+    ensures fault { OneFault }
+    ensures lowest { RulesRise }
+{}
+
+/// Of a problem whose formula means something by its logic (in the mu-calculus: its variables are bound and positive):
+/// where a refutation breaks no rule in its graph, no admitted structure, of any number of states, has a state at which
+/// the problem holds.
+///
+/// Does nothing when called.
+pub fn refuted_is_unsatisfiable()
+    ensures { RefutedIsUnsatisfiable }
+{}

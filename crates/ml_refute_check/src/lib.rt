@@ -1,0 +1,10 @@
+// The checker of refutations, and why an accepted one can be trusted.
+//
+// `laws::accepted_holds_nowhere` is the theorem: a graph for which a refutation is accepted holds at no state of any
+// structure.
+//
+// Below stand `ml_refutation`, which has the rules of acceptance, and `ml_graph` with the checking game, in whose words
+// it is said where a graph holds.
+#![tactic(auto)]
+
+pub mod laws;

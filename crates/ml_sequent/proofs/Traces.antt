@@ -1,0 +1,276 @@
+-- The triples of a step.
+--
+--   exits_more      == the triples of one place more
+--   found_traces    == the triples of what a search from a node found are the local walks that lead out
+--   traces_more     == the triples from one node more
+--   exit_leads, leads_exit == to lead out along a diamond, as the program tells it and as the step says it
+--   sequent_low     == the nodes of a sequent that has a spread are nodes
+--   step_is         == such triples and their targets are a step
+use Rattle.std.proofs.Common.{ℕ, ◌≡◌, ◌+◌, ◌<◌, ◌⊎◌, inl, inr, ⊎_elim, ◌↔◌, ◌==◌, min, Bool, true, false, List, [], ◌∷◌, ◌++◌, map, length, get_or, take, Option, Some, None, cond, refl, sym, ap, ◌∙◌, subst, arith, append_assoc, append-nil}
+use Rattle.std.specs.List.{flat_map}
+use Rattle.std.proofs.lemmas.Bool.{eqb-true, cond-true}
+use Rattle.std.proofs.lemmas.Bool.Decides.{nat_tests}
+use Rattle.std.proofs.lemmas.List.{take_more}
+use Rattle.std.proofs.lemmas.List.Concat.{flat_map-append}
+use Rattle.ml_lists.specs.Ascending.{IsAscending, ascending}
+use Rattle.ml_lists.specs.Member.{IsMember}
+use Rattle.ml_lists.proofs.Ascending.{ascending-is, ascending-member, member-ascending}
+use Rattle.ml_lists.proofs.Member.{InList, Image, member-append, member-append_left, member-append_right, member-flat_map, member-flat_map_from, member-map, member-map_from}
+use Rattle.ml_graph.specs.declared.node.Node.{Node}
+use Rattle.ml_graph.specs.declared.node.Node.TheVariants as node
+use Rattle.ml_graph.specs.Graph.{Graph, IsGraph, size, node_at, priority_at}
+use Rattle.ml_trace.specs.declared.letters.Triple.{Triple}
+use Rattle.ml_sequent.specs.declared.choice.Side.{Side}
+use Rattle.ml_sequent.specs.declared.reach.Visit.{Visit}
+use Rattle.ml_sequent.specs.LocalWalk.{LocalWalk, stays, InSpread}
+use Rattle.ml_sequent.specs.Spread.{SpreadList, IsSpreadOf, is_diamond}
+use Rattle.ml_sequent.specs.Step.{IsDiamondOf, LeadsOut, IsTarget, IsTrace, IsStep}
+use Rattle.ml_sequent.specs.private.Exits.{exit_of, exits, triple_to, action_of, IsTraceFrom}
+use Rattle.ml_sequent.specs.private.Reach.{Leads, IsReached, onward, ranked, LevelList, IsRanked, HasReached}
+use Rattle.ml_sequent.proofs.LocalWalks.{walk_low}
+use Rattle.ml_sequent.proofs.RankedWalks as walks
+use Rattle.ml_sequent.proofs.RankedWalks.{level_order}
+
+-- the triples of one place more
+pub exits_more : (f : Visit → List Triple) (found : List Visit) (i : ℕ) (d : Visit) (old traces : List Triple)
+    → i < length found
+    → traces ≡ old ++ flat_map f (take i found)
+    → traces ++ f (get_or found i d) ≡ old ++ flat_map f (take (i + 1) found)
+exits_more f found i d old traces low before =
+    ap (λ xs. xs ++ f (get_or found i d)) before
+    ∙ append_assoc old (flat_map f (take i found)) (f (get_or found i d))
+    ∙ ap (λ xs. old ++ xs) (sym (ap (flat_map f) (take_more found i d low)
+    ∙ flat_map-append f (take i found) (get_or found i d ∷ [])
+    ∙ ap (λ xs. flat_map f (take i found) ++ xs) (append-nil (f (get_or found i d)))))
+
+-- what a place gives
+record Given (from lowest : ℕ) (o : Option ℕ) (t : Triple) : Type 0 where
+  pub from_is : t.from ≡ from
+  pub lowest_is : t.lowest ≡ lowest
+  pub leads : o ≡ Some t.to
+
+given : (from lowest : ℕ) (o : Option ℕ) (t : Triple) → IsMember t (triple_to from lowest o) → Given from lowest o t
+given from lowest None t h = absurd h
+given from lowest (Some m) t (inl e) = record {
+  from_is = ap (λ (x : Triple). x.from) e;
+  lowest_is = ap (λ (x : Triple). x.lowest) e;
+  leads = ap (λ (k : ℕ). Some k) (sym (ap (λ (x : Triple). x.to) e));
+}
+given from lowest (Some m) t (inr none) = absurd none
+
+gives : (from lowest : ℕ) (o : Option ℕ) (t : Triple) → Given from lowest o t → IsMember t (triple_to from lowest o)
+gives from lowest o t w =
+    let from_is = w.from_is in
+    let lowest_is = w.lowest_is in
+    subst (λ p. IsMember t (triple_to from lowest p)) (sym w.leads) (inl (λ i. record { from = from_is i; lowest = lowest_is i; to = t.to }))
+
+module _ (g : Graph) (c : List (ℕ × Side)) (levels : LevelList) (ok : IsGraph g) (is : IsRanked g levels) (a d : ℕ) where
+  -- the triples of what a search from a node found are the local walks from it that lead out
+  pub found_traces : (n : ℕ) (found : List Visit) → n < size g
+      → HasReached (onward g c levels.ranks) (ranked levels.ranks n ∷ []) found
+      → (t : Triple)
+      → IsMember t (flat_map (exits g levels.priorities a d n) found) ↔ ((t.from ≡ n) × IsTraceFrom g c a d t)
+  found_traces n found low has t = (
+    (λ h. of_place (member-flat_map_from (exits g levels.priorities a d n) t found h)),
+    (λ h. of_trace h.0 h.1),
+  )
+    where
+      of_way : (v : Visit) → Given n (get_or levels.priorities v.rank 0) (exit_of a d v.node (node_at g v.node)) t
+          → walks.Traced g c levels ok is (ranked levels.ranks n) v
+          → (t.from ≡ n) × IsTraceFrom g c a d t
+      of_way v w r =
+          let below = walk_low g c n (get_or levels.priorities r.rank 0) v.node r.walk in
+          let order = level_order levels.priorities r.rank (get_or levels.ranks n 0) is.ascends r.low (is.low n low) (omega (arith, is.right n low)) in
+          let rank_is : r.rank ≡ v.rank = omega (arith, r.holds) in
+          let lowest_is : get_or levels.priorities r.rank 0 ≡ t.lowest = ap (λ k. get_or levels.priorities k 0) rank_is ∙ sym w.lowest_is in (
+            w.from_is,
+            record {
+              leaving = v.node;
+              walk = subst (λ k. LocalWalk g c t.from k v.node) lowest_is (subst (λ k. LocalWalk g c k (get_or levels.priorities r.rank 0) v.node) (sym w.from_is) r.walk);
+              leads = w.leads;
+            },
+          )
+
+      of_reached : (v : Visit) → Given n (get_or levels.priorities v.rank 0) (exit_of a d v.node (node_at g v.node)) t
+          → IsReached (onward g c levels.ranks) (ranked levels.ranks n ∷ []) v
+          → (t.from ≡ n) × IsTraceFrom g c a d t
+      of_reached v w r = ⊎_elim
+          (λ (e : r.from ≡ ranked levels.ranks n).
+          of_way v w (walks.traced g c levels ok is (ranked levels.ranks n) v low (omega arith) (subst (λ u. Leads (onward g c levels.ranks) u v) e r.way)))
+          (λ (none : IsMember r.from []). absurd none)
+          r.member
+
+      of_place : InList (exits g levels.priorities a d n) t found → (t.from ≡ n) × IsTraceFrom g c a d t
+      of_place p =
+          of_reached p.from (given n (get_or levels.priorities p.from.rank 0) (exit_of a d p.from.node (node_at g p.from.node)) t p.inside) ((has p.from).0 p.member)
+
+      of_ranked : t.from ≡ n → (w : IsTraceFrom g c a d t) → walks.Ranked g c levels ok is n t.lowest w.leaving
+          → LocalWalk g c n t.lowest w.leaving
+          → IsMember t (flat_map (exits g levels.priorities a d n) found)
+      of_ranked from w r walk =
+          let below = walk_low g c n t.lowest w.leaving walk in
+          let order = level_order levels.priorities r.rank (get_or levels.ranks n 0) is.ascends r.low (is.low n low) (omega (arith, is.right n low, r.holds)) in
+          let v : Visit = record { node = w.leaving; rank = min (get_or levels.ranks n 0) r.rank } in
+          let rank_is : r.rank ≡ min (get_or levels.ranks n 0) r.rank = omega arith in
+          let lowest_is : t.lowest ≡ get_or levels.priorities (min (get_or levels.ranks n 0) r.rank) 0 = sym r.holds ∙ ap (λ k. get_or levels.priorities k 0) rank_is in
+          let member = (has v).1 (record { from = ranked levels.ranks n; member = inl refl; way = r.way (get_or levels.ranks n 0) (omega arith) }) in
+          member-flat_map (exits g levels.priorities a d n) v t found member
+          (gives n (get_or levels.priorities v.rank 0) (exit_of a d v.node (node_at g v.node)) t (record { from_is = from; lowest_is = lowest_is; leads = w.leads }))
+
+      of_trace : t.from ≡ n → IsTraceFrom g c a d t → IsMember t (flat_map (exits g levels.priorities a d n) found)
+      of_trace from w =
+          let walk = subst (λ k. LocalWalk g c k t.lowest w.leaving) from w.walk in
+          of_ranked from w (walks.ranked g c levels ok is n t.lowest w.leaving low walk) walk
+
+  -- the triples from one node more
+  pub traces_more : (nodes : List ℕ) (i : ℕ) (found : List Visit) (traces traces2 : List Triple) → i < length nodes
+      → get_or nodes i 0 < size g
+      → HasReached (onward g c levels.ranks) (ranked levels.ranks (get_or nodes i 0) ∷ []) found
+      → traces2 ≡ traces ++ flat_map (exits g levels.priorities a d (get_or nodes i 0)) found
+      → ((t : Triple) → IsMember t traces ↔ (IsMember t.from (take i nodes) × IsTraceFrom g c a d t))
+      → (t : Triple) → IsMember t traces2 ↔ (IsMember t.from (take (i + 1) nodes) × IsTraceFrom g c a d t)
+  traces_more nodes i found traces traces2 low node_low has more before t = (
+    (λ h. of_member (member-append t traces (flat_map (exits g levels.priorities a d (get_or nodes i 0)) found) (subst (IsMember t) more h))),
+    (λ h. subst (IsMember t) (sym more) (of_trace h.1 (member-append t.from (take i nodes) (get_or nodes i 0 ∷ []) (subst (IsMember t.from) (take_more nodes i 0 low) h.0)))),
+  )
+    where
+      here : IsMember t (flat_map (exits g levels.priorities a d (get_or nodes i 0)) found) ↔ ((t.from ≡ get_or nodes i 0) × IsTraceFrom g c a d t)
+      here = found_traces (get_or nodes i 0) found node_low has t
+
+      longer : IsMember t.from (take i nodes ++ get_or nodes i 0 ∷ []) → IsMember t.from (take (i + 1) nodes)
+      longer h = subst (IsMember t.from) (sym (take_more nodes i 0 low)) h
+
+      of_member : IsMember t traces ⊎ IsMember t (flat_map (exits g levels.priorities a d (get_or nodes i 0)) found)
+          → IsMember t.from (take (i + 1) nodes) × IsTraceFrom g c a d t
+      of_member (inl old) = let o = (before t).0 old in (longer (member-append_left t.from (take i nodes) (get_or nodes i 0 ∷ []) o.0), o.1)
+      of_member (inr new) = let o = here.0 new in (longer (member-append_right t.from (take i nodes) (get_or nodes i 0 ∷ []) (inl o.0)), o.1)
+
+      of_trace : IsTraceFrom g c a d t → IsMember t.from (take i nodes) ⊎ IsMember t.from (get_or nodes i 0 ∷ [])
+          → IsMember t (traces ++ flat_map (exits g levels.priorities a d (get_or nodes i 0)) found)
+      of_trace w (inl earlier) = member-append_left t traces (flat_map (exits g levels.priorities a d (get_or nodes i 0)) found) ((before t).1 (earlier, w))
+      of_trace w (inr (inl e)) = member-append_right t traces (flat_map (exits g levels.priorities a d (get_or nodes i 0)) found) (here.1 (e, w))
+      of_trace w (inr (inr none)) = absurd none
+
+-- ---- leading out
+
+-- a test that gave something passed
+tested : (b : Bool) (to m : ℕ) → cond b (Some to) None ≡ Some m → (b ≡ true) × (to ≡ m)
+tested true to m e = (refl, cc)
+tested false to m e = absurd (cc)
+
+same_test : (k : ℕ) → (k == k) ≡ true
+same_test k = grind (arith, nat_tests)
+
+module _ (g : Graph) (sp : SpreadList) (a d child : ℕ) (is : node_at g d ≡ node.Diamond a child) where
+  -- what the program tells of a node of the spread
+  pub exit_leads : (e m : ℕ) → IsMember e sp.nodes → exit_of a d e (node_at g e) ≡ Some m → LeadsOut g sp d e m
+  exit_leads e m member leads = of_node (node_at g e) refl leads
+    where
+      out : ((e ≡ d) × (m ≡ child)) ⊎ (IsMember e sp.nodes × (node_at g e ≡ node.Square a m)) → LeadsOut g sp d e m
+      out leaves = record { action = a; child = child; is_diamond = is; leaves = leaves }
+
+      of_diamond : (b to : ℕ) → node_at g e ≡ node.Diamond b to → e ≡ d → to ≡ m → m ≡ child
+      of_diamond b to here same found =
+          let both : node.Diamond b to ≡ node.Diamond a child = sym here ∙ ap (node_at g) same ∙ is in
+          let children_are : to ≡ child = cc in
+          sym found ∙ children_are
+
+      of_node : (x : Node) → node_at g e ≡ x → exit_of a d e x ≡ Some m → LeadsOut g sp d e m
+      of_node node.True here h = absurd (cc)
+      of_node node.False here h = absurd (cc)
+      of_node (node.Lit p positive) here h = absurd (cc)
+      of_node (node.And l r) here h = absurd (cc)
+      of_node (node.Or l r) here h = absurd (cc)
+      of_node (node.Diamond b to) here h =
+          let t = tested (e == d) to m h in
+          let same = eqb-true e d t.0 in
+          out (inl (same, of_diamond b to here same t.1))
+      of_node (node.Square b to) here h =
+          let t = tested (b == a) to m h in
+          let same = eqb-true b a t.0 in
+          let found = t.1 in
+          out (inr (member, here ∙ (λ i. node.Square (same i) (found i))))
+
+  -- and the other way round
+  pub leads_exit : (e m : ℕ) → LeadsOut g sp d e m → exit_of a d e (node_at g e) ≡ Some m
+  leads_exit e m l =
+      let both : node.Diamond a child ≡ node.Diamond l.action l.child = sym is ∙ l.is_diamond in
+      let actions : a ≡ l.action = cc in
+      let children_are : child ≡ l.child = cc in
+      ⊎_elim
+      (λ (own : (e ≡ d) × (m ≡ l.child)).
+      ap (exit_of a d e) (ap (node_at g) own.0 ∙ is) ∙ cond-true (e == d) (Some child) None (subst (λ k. (e == k) ≡ true) own.0 (same_test e)) ∙ ap (λ (k : ℕ). Some k) (children_are ∙ sym own.1))
+      (λ (square : IsMember e sp.nodes × (node_at g e ≡ node.Square l.action m)).
+      ap (exit_of a d e) square.1 ∙ cond-true (l.action == a) (Some m) None (subst (λ k. (l.action == k) ≡ true) (sym actions) (same_test l.action)))
+      l.leaves
+
+-- a diamond node is one of its action
+record Diamonds (x : Node) : Type 0 where
+  pub child : ℕ
+  pub holds : x ≡ node.Diamond (action_of x) child
+
+diamond_is : (x : Node) → is_diamond x ≡ true → Diamonds x
+diamond_is node.True e = absurd (cc)
+diamond_is node.False e = absurd (cc)
+diamond_is (node.Lit p positive) e = absurd (cc)
+diamond_is (node.And l r) e = absurd (cc)
+diamond_is (node.Or l r) e = absurd (cc)
+diamond_is (node.Diamond a to) e = record { child = to; holds = refl }
+diamond_is (node.Square a to) e = absurd (cc)
+
+-- such triples and their targets are a step
+pub step_is : (g : Graph) (C : List ℕ) (sp : SpreadList) (d : ℕ) (next : List ℕ) (made : List Triple)
+    → IsSpreadOf g C sp.choice sp
+    → IsDiamondOf g sp d
+    → next ≡ ascending (map (λ (t : Triple). t.to) made)
+    → ((t : Triple) → IsMember t made ↔ (IsMember t.from C × IsTraceFrom g sp.choice (action_of (node_at g d)) d t))
+    → IsStep g C sp d next made
+step_is g C sp d next made of diamond next_is traces_are = by_child (diamond_is (node_at g d) diamond.holds)
+  where
+    by_child : Diamonds (node_at g d) → IsStep g C sp d next made
+    by_child x = record {
+      ascends = subst IsAscending (sym next_is) (ascending-is (map (λ (t : Triple). t.to) made));
+      targets = λ m. (
+        (λ h. of_image m (member-map_from (λ (t : Triple). t.to) m made (ascending-member m (map (λ (t : Triple). t.to) made) (subst (IsMember m) next_is h)))),
+        (λ h. of_target m h.leaving h.leads (in_spread h.leaving m h.leads)),
+      );
+      traces = λ t. ((λ h. trace_of t ((traces_are t).0 h)), (λ w. (traces_are t).1 (w.from, record { leaving = w.leaving; walk = w.walk; leads = leads_exit g sp (action_of (node_at g d)) d x.child x.holds w.leaving t.to w.leads })));
+    }
+      where
+        reached : (n k m : ℕ) → IsMember n C → LocalWalk g sp.choice n k m → IsMember m sp.nodes
+        reached n k m h walk = (of.nodes m).1 (record { from = n; member = h; lowest = k; walk = walk })
+
+        trace_of : (t : Triple)
+            → IsMember t.from C × IsTraceFrom g sp.choice (action_of (node_at g d)) d t
+            → IsTrace g C sp d t
+        trace_of t h = record {
+          from = h.0;
+          leaving = h.1.leaving;
+          walk = h.1.walk;
+          leads = exit_leads g sp (action_of (node_at g d)) d x.child x.holds h.1.leaving t.to (reached t.from t.lowest h.1.leaving h.0 h.1.walk) h.1.leads;
+        }
+
+        of_image : (m : ℕ) → Image (λ (t : Triple). t.to) m made → IsTarget g sp d m
+        of_image m i =
+            let w = trace_of i.from ((traces_are i.from).0 i.member) in
+            record { leaving = w.leaving; leads = subst (LeadsOut g sp d w.leaving) (sym i.holds) w.leads }
+
+        in_spread : (e m : ℕ) → LeadsOut g sp d e m → InSpread g sp.choice C e
+        in_spread e m l = (of.nodes e).0 (⊎_elim
+            (λ (own : (e ≡ d) × (m ≡ l.child)). subst (λ k. IsMember k sp.nodes) (sym own.0) diamond.member)
+            (λ (square : IsMember e sp.nodes × (node_at g e ≡ node.Square l.action m)). square.0)
+            l.leaves)
+
+        of_target : (m e : ℕ) → LeadsOut g sp d e m → InSpread g sp.choice C e → IsMember m next
+        of_target m e l s =
+            let t : Triple = record { from = s.from; lowest = s.lowest; to = m } in
+            let member = (traces_are t).1 (s.member, record { leaving = e; walk = s.walk; leads = leads_exit g sp (action_of (node_at g d)) d x.child x.holds e m l }) in
+            subst (IsMember m) (sym next_is) (member-ascending m (map (λ (u : Triple). u.to) made) (member-map (λ (u : Triple). u.to) t made member))
+
+-- the nodes of a sequent that has a spread are nodes
+pub sequent_low : (g : Graph) (C : List ℕ) (sp : SpreadList) (n : ℕ)
+    → IsSpreadOf g C sp.choice sp
+    → IsMember n C
+    → n < size g
+sequent_low g C sp n of h =
+    of.low n ((of.nodes n).1 (record { from = n; member = h; lowest = priority_at g n; walk = stays n }))

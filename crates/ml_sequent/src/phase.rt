@@ -1,0 +1,161 @@
+// The local phase of one graph, with memory that serves many calls.
+ghost use Rattle.std.specs.Prelude.{◌≡◌, ◌<◌, ℕ, IfOk, MatchOption, All, filter};
+ghost use Rattle.ml_graph.specs.Graph.{size, node_at};
+ghost use Rattle.ml_sequent.specs.Spread.{IsSpread, IsSpreadOf, IsCause, IsFirstCause, IsOpenOr, IsLeastOpenOr, is_diamond};
+ghost use Rattle.ml_sequent.specs.declared.clashes.ClashCause.{ClashCause};
+ghost use Rattle.ml_sequent.specs.Step.{IsDiamondOf, IsStep};
+
+use crate::choice::Choice;
+use crate::clashes::{ClashCause, clash_by};
+use crate::levels::Levels;
+use crate::making::spread_by;
+use crate::questions::{diamonds, open_or};
+use crate::reach::Reach;
+use crate::sequent::Sequent;
+use crate::spreads::Spread;
+use crate::stepping::step_by;
+use ml_base::NoMemory;
+use ml_graph::ModalGraph;
+use ml_trace::LocalTraces;
+use std::alloc::Global;
+use std::marker::Model;
+
+/// The local phase of one graph: what depends on the graph alone is made once, and the memory of each call serves the
+/// next. Contracts see the graph.
+#[derive(Drop)]
+pub struct LocalPhase<'a> {
+    graph: &'a ModalGraph,
+    levels: Levels,
+    reach: Reach,
+    alloc: Global,
+}
+
+impl<'a> Model for LocalPhase<'a> {
+    ghost use Rattle.ml_graph.specs.Graph.{Graph};
+    ghost use Rattle.ml_sequent.specs.private.Reach.{IsRanked, HasRoom};
+
+    ghost Value = { Graph };
+
+    ghost view = { λ a. a.graph.now };
+
+    ghost invariant = { λ a. record { ranked : IsRanked a.graph.now a.levels; room : HasRoom a.graph.now a.levels a.reach } };
+}
+
+impl<'a> LocalPhase<'a> {
+    /// The local phase of a graph.
+    ///
+    /// # Errors
+    /// `NoMemory` alone.
+    ///
+    /// Cost: `n log n` in the nodes, and linear in the nodes times the different priorities.
+    pub fn new(alloc: Global, graph: &'a ModalGraph) -> Result<LocalPhase<'a>, NoMemory>
+        ensures { IfOk result (λ phase. phase ≡ graph.now) }
+    {
+        let levels = Levels::of(alloc, graph)?;
+        let reach = Reach::new(alloc, graph.size(), levels.width())?;
+        Ok(LocalPhase {
+            graph,
+            levels,
+            reach,
+            alloc,
+        })
+    }
+
+    /// As the function `spread`.
+    ///
+    /// # Errors
+    /// `NoMemory` alone.
+    ///
+    /// Cost: `n log n` in the nodes of the spread, each of which is visited once.
+    pub fn spread(&mut self, sequent: &Sequent, choice: &Choice) -> Result<Spread, NoMemory>
+        requires { All (λ n. n < size self.old) sequent.now }
+        ensures graph { self.new ≡ self.old }
+        ensures of { IfOk result (IsSpreadOf self.old sequent.now choice.now) }
+        ensures is_spread { IfOk result (IsSpread self.old) }
+    {
+        spread_by(
+            self.alloc,
+            self.graph,
+            &self.levels,
+            &mut self.reach,
+            sequent,
+            choice,
+        )
+    }
+
+    /// As the function `step`.
+    ///
+    /// # Errors
+    /// `NoMemory` alone.
+    ///
+    /// Cost: for each node of the sequent, linear in the pairs of a node of the spread and a lowest priority, each of which
+    /// is visited once.
+    pub fn step(
+        &mut self,
+        sequent: &Sequent,
+        spread: &Spread,
+        diamond: u32,
+    ) -> Result<(Sequent, LocalTraces), NoMemory>
+        requires spread { IsSpreadOf self.old sequent.now spread.now.choice spread.now }
+        requires diamond { IsDiamondOf self.old spread.now diamond }
+        ensures graph { self.new ≡ self.old }
+        ensures step { IfOk result (λ made. IsStep self.old sequent.now spread.now diamond made.0 made.1) }
+    {
+        step_by(
+            self.alloc,
+            self.graph,
+            &self.levels,
+            &mut self.reach,
+            sequent,
+            spread,
+            diamond,
+        )
+    }
+
+    /// As the function `clash`.
+    ///
+    /// # Errors
+    /// `NoMemory` alone.
+    ///
+    /// Cost: linear in the spread and the propositions of the graph, and, for each node of odd priority in the spread,
+    /// linear in what it reaches through nodes of no lower priority.
+    pub fn clash(&mut self, spread: &Spread) -> Result<Option<ClashCause>, NoMemory>
+        requires { IsSpread self.old spread.now }
+        ensures graph { self.new ≡ self.old }
+        ensures cause { IfOk result (λ found. MatchOption
+            found
+            ((x : ClashCause) → ¬ (IsCause self.old spread.now x))
+            (IsFirstCause self.old spread.now)) }
+    {
+        clash_by(
+            self.alloc,
+            self.graph,
+            &self.levels,
+            &mut self.reach,
+            spread,
+        )
+    }
+
+    /// As the function `open_or`.
+    ///
+    /// Cost: linear in the spread times the logarithm of the choice. It takes no memory.
+    pub fn open_or(&self, spread: &Spread) -> Option<u32>
+        requires { IsSpread self.now spread.now }
+        ensures { MatchOption result ((n : ℕ) → ¬ (IsOpenOr self.now spread.now n)) (IsLeastOpenOr self.now spread.now) }
+    {
+        open_or(self.graph, spread)
+    }
+
+    /// As the function `diamonds`.
+    ///
+    /// # Errors
+    /// `NoMemory` alone.
+    ///
+    /// Cost: linear in the spread.
+    pub fn diamonds(&self, spread: &Spread) -> Result<Vec<u32>, NoMemory>
+        requires { IsSpread self.now spread.now }
+        ensures { IfOk result (λ diamonds. diamonds.items ≡ filter (λ n. is_diamond (node_at self.now n)) spread.now.nodes) }
+    {
+        diamonds(self.alloc, self.graph, spread)
+    }
+}

@@ -1,0 +1,135 @@
+// The step along a diamond, with its local traces.
+ghost use Rattle.std.specs.Prelude.{◌≡◌, ◌<◌, ◌++◌, ◌↔◌, IfOk, OnOk, length, All};
+ghost use Rattle.std.specs.List.{flat_map};
+ghost use Rattle.ml_graph.specs.Graph.{size, node_at};
+ghost use Rattle.ml_lists.specs.Member.{IsMember};
+ghost use Rattle.ml_trace.specs.declared.letters.Triple.{Triple};
+ghost use Rattle.ml_sequent.specs.Spread.{IsSpreadOf};
+ghost use Rattle.ml_sequent.specs.Step.{IsDiamondOf, IsStep};
+ghost use Rattle.ml_sequent.specs.private.Exits.{exit_of, exits, action_of, IsTraceFrom};
+ghost use Rattle.ml_sequent.specs.private.Reach.{IsRanked, HasRoom};
+
+use crate::choice::Choice;
+use crate::levels::Levels;
+use crate::reach::{Reach, Visit, reach_from};
+use crate::sequent::Sequent;
+use crate::spreads::Spread;
+use ml_base::NoMemory;
+use ml_graph::{ModalGraph, Node};
+use ml_trace::{LocalTraces, Triple};
+use std::alloc::Global;
+
+/// The action of a Diamond; of other nodes, of which nobody asks, the first one.
+fn action_of(node: Node) -> u32
+    ensures { result ≡ action_of node }
+{
+    match node {
+        Node::Diamond { action, .. } => action,
+        _ => 0,
+    }
+}
+
+/// The child to which a node leads out along a diamond with this action; `None` where it doesn't.
+fn exit_of(graph: &ModalGraph, action: u32, diamond: u32, node: u32) -> Option<u32>
+    requires { node < size graph.now }
+    ensures { result ≡ exit_of action diamond node (node_at graph.now node) }
+{
+    match *graph.node(node) {
+        Node::Diamond { to, .. } if node == diamond => Some(to),
+        Node::Square { action: other, to } if other == action => Some(to),
+        _ => None,
+    }
+}
+
+/// Appends the triples of the places that lead out.
+fn push_exits(
+    graph: &ModalGraph,
+    levels: &Levels,
+    action: u32,
+    diamond: u32,
+    from: u32,
+    found: &[Visit],
+    traces: &mut Vec<Triple>,
+) -> Result<(), NoMemory>
+    requires nodes { All (λ v. (v.node < size graph.now) × (v.rank < length levels.now.priorities)) found.now }
+    ensures { OnOk result (traces.new.items ≡ traces.old.items ++ flat_map (exits graph.now levels.now.priorities action diamond from) found.now) }
+{
+    for visit in found {
+        if let Some(to) = exit_of(graph, action, diamond, visit.node) {
+            traces.push(Triple {
+                from,
+                lowest: levels.priority(visit.rank),
+                to,
+            })?;
+        }
+    }
+    Ok(())
+}
+
+/// The local traces from these nodes along a diamond with this action.
+fn traces_from(
+    alloc: Global,
+    graph: &ModalGraph,
+    choice: &Choice,
+    levels: &Levels,
+    action: u32,
+    diamond: u32,
+    nodes: &[u32],
+    reach: &mut Reach,
+) -> Result<Vec<Triple>, NoMemory>
+    requires nodes { All (λ n. n < size graph.now) nodes.now }
+    requires ranked { IsRanked graph.now levels.now }
+    requires room { HasRoom graph.now levels.now reach.old }
+    ensures room { HasRoom graph.now levels.now reach.new }
+    ensures traces { IfOk result (λ traces. (t : Triple)
+        → IsMember t traces.items ↔ (IsMember t.from nodes.now × IsTraceFrom graph.now choice.now action diamond t)) }
+{
+    let _size = graph.size();
+    let mut traces = Vec::new(alloc);
+    for node in nodes {
+        reach_from(graph, choice, levels, *node, reach)?;
+        push_exits(
+            graph,
+            levels,
+            action,
+            diamond,
+            *node,
+            reach.found(),
+            &mut traces,
+        )?;
+    }
+    Ok(traces)
+}
+
+/// The step along a diamond.
+pub(crate) fn step_by(
+    alloc: Global,
+    graph: &ModalGraph,
+    levels: &Levels,
+    reach: &mut Reach,
+    sequent: &Sequent,
+    spread: &Spread,
+    diamond: u32,
+) -> Result<(Sequent, LocalTraces), NoMemory>
+    requires spread { IsSpreadOf graph.now sequent.now spread.now.choice spread.now }
+    requires diamond { IsDiamondOf graph.now spread.now diamond }
+    requires ranked { IsRanked graph.now levels.now }
+    requires room { HasRoom graph.now levels.now reach.old }
+    ensures room { HasRoom graph.now levels.now reach.new }
+    ensures step { IfOk result (λ made. IsStep graph.now sequent.now spread.now diamond made.0 made.1) }
+{
+    let _size = graph.size();
+    let action = action_of(*graph.node(diamond));
+    let traces = traces_from(
+        alloc,
+        graph,
+        spread.choice(),
+        levels,
+        action,
+        diamond,
+        sequent.values(),
+        reach,
+    )?;
+    let targets = traces.iter().map(|t| t.to).collect(alloc)?;
+    Ok((Sequent::of_members(targets), LocalTraces::new(traces)))
+}
