@@ -125,8 +125,6 @@ fn spreads_by_hand(rt: HostRuntime) -> Result<(), Fail> {
         row(excluded, even, 0, None, None, Some(0), 0),
         row(excluded, even, 0, Some((0, Side::Left)), None, None, 0),
         row(either, even, 0, None, None, Some(0), 0),
-
-
         row(
             fixpoints,
             binders,
