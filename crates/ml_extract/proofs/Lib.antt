@@ -1,0 +1,6 @@
+-- closed local walks
+pub mod LocalLoops
+-- what the theorem is said of
+pub mod Setting
+-- what Even's moves choose, and where diamonds lead then
+pub mod Choosing
