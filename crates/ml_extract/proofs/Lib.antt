@@ -4,3 +4,7 @@ pub mod LocalLoops
 pub mod Setting
 -- what Even's moves choose, and where diamonds lead then
 pub mod Choosing
+-- states by their numbers, and edges
+pub mod Numbering
+-- what a play does at a state
+pub mod AtNodes
