@@ -1,2 +1,6 @@
 -- what is true of each position that is reached
 pub mod Reached
+-- the parity game of an arena, vertex by vertex
+pub mod ArenaGame
+-- the neutral priority stands above those of all marks
+pub mod NeutralPriority

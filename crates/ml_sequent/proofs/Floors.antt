@@ -73,7 +73,11 @@ module _ (g : Graph) (c : List (ℕ × Side)) (ranks : List ℕ) (floor : ℕ) w
       moves v u (member-filter (λ (x : Visit). nat_le floor x.rank) u (onward g c ranks v) h (le_test floor u.rank (omega arith))) (way_above u w high way)
 
 -- a search behind a node that comes back to it shows that it is on a cycle, and the other way round
-pub on_cycle : (g : Graph) (c : List (ℕ × Side)) (levels : LevelList) → IsGraph g → IsRanked g levels → (n : ℕ) (found : List Visit) → n < size g
+pub on_cycle : (g : Graph) (c : List (ℕ × Side)) (levels : LevelList)
+    → IsGraph g
+    → IsRanked g levels
+    → (n : ℕ) (found : List Visit)
+    → n < size g
     → HasReached (behind g c levels.ranks (get_or levels.ranks n 0)) (behind g c levels.ranks (get_or levels.ranks n 0) (ranked levels.ranks n)) found
     → IsMember (ranked levels.ranks n) found ↔ OnCycle g c n
 on_cycle g c levels ok is n found low has = (
@@ -81,7 +85,8 @@ on_cycle g c levels ok is n found low has = (
   (λ o. (has (ranked levels.ranks n)).1 (of_cycle o (walks.ranked g c levels ok is o.next o.lowest n (children_low g c ok n o.next low o.child) o.walk))),
 )
   where
-    of_child : (r : IsReached (behind g c levels.ranks (get_or levels.ranks n 0)) (behind g c levels.ranks (get_or levels.ranks n 0) (ranked levels.ranks n)) (ranked levels.ranks n))
+    of_child :
+        (r : IsReached (behind g c levels.ranks (get_or levels.ranks n 0)) (behind g c levels.ranks (get_or levels.ranks n 0) (ranked levels.ranks n)) (ranked levels.ranks n))
         → get_or levels.ranks n 0 ≤ r.from.rank
         → Image (onto levels.ranks (get_or levels.ranks n 0)) r.from (children g c n)
         → OnCycle g c n

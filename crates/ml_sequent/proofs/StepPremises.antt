@@ -11,7 +11,9 @@ use Rattle.ml_sequent.specs.Spread.{SpreadList, IsSpreadOf, is_diamond}
 use Rattle.ml_sequent.specs.Step.{IsDiamondOf}
 
 -- a spread under a choice is one under the choice that it tells
-pub own_choice : (g : Graph) (C : List ℕ) (c : List (ℕ × Side)) (sp : SpreadList) → IsSpreadOf g C c sp → IsSpreadOf g C sp.choice sp
+pub own_choice : (g : Graph) (C : List ℕ) (c : List (ℕ × Side)) (sp : SpreadList)
+    → IsSpreadOf g C c sp
+    → IsSpreadOf g C sp.choice sp
 own_choice g C c sp is = subst (λ ch. IsSpreadOf g C ch sp) (sym is.choice) is
 
 -- each of the diamonds of a spread is a diamond node of it

@@ -1,0 +1,10 @@
+-- closed local walks
+pub mod LocalLoops
+-- what the theorem is said of
+pub mod Setting
+-- what Even's moves choose, and where diamonds lead then
+pub mod Choosing
+-- states by their numbers, and edges
+pub mod Numbering
+-- what a play does at a state
+pub mod AtNodes

@@ -1,0 +1,6 @@
+-- a list without repeats
+pub mod Firsts
+-- the model that Even's moves make
+pub mod Model
+-- what is true of it
+pub mod Extraction
