@@ -3,27 +3,24 @@
 --   branches_kept       == a decision keeps the rules of branches
 --   names_stand, items_stand == the traces of an entry keep theirs
 --   extracted_accepted  == the theorem
-use Rattle.std.proofs.Common.{ℕ, zero, suc, ◌≡◌, ◌+◌, ◌*◌, ◌<◌, ◌⊎◌, inl, inr, true, ◌==◌, List, [], ◌∷◌, ◌++◌, Some, length, get_or, map, slice_get, filter, All, refl, sym, ap, ◌∙◌, subst, arith}
+use Rattle.std.proofs.Common.{ℕ, ◌≡◌, ◌*◌, ◌<◌, ◌⊎◌, inl, inr, true, List, [], Some, length, map, slice_get, All, refl, sym, ap, ◌∙◌, subst}
 use Rattle.ml_lists.specs.Documents.{KeepsAll}
 use Rattle.ml_lists.specs.Member.{IsMember}
-use Rattle.ml_lists.proofs.Ascending.{ascending-is}
 use Rattle.ml_lists.proofs.Member.{member-append, member-append_left, member-append_right, member-map, member-map_from, member-filter_from, member-All, Image}
 use Rattle.ml_graph.specs.Graph.{Graph, size, node_at, odd_priorities}
-use Rattle.ml_history.specs.HistoryStep.{live}
 use Rattle.ml_parity.specs.declared.one_sided.graph.Arc.{Arc}
 use Rattle.ml_parity.specs.Heights.{FallsAlong}
 use Rattle.ml_parity.specs.Solution.{GameSolution}
 use Rattle.ml_product.specs.Arena.{Arena, IsArenaOf}
-use Rattle.ml_product.specs.Position.{Position, start_of, with_chosen}
+use Rattle.ml_product.specs.Position.{Position, with_chosen}
 use Rattle.ml_product.proofs.Reached.{Facts, IsTraced}
-use Rattle.ml_refutation.specs.Acceptance.{entry_at, Branch, branches, Part, Sequent, Live, Item, Decided, parts, rules, OfSpread, IsWellStarted, StandsIn, TracesNames, heights_of, IsAccepted}
+use Rattle.ml_refutation.specs.Acceptance.{entry_at, Branch, branches, Part, Item, Decided, parts, rules, OfSpread, IsWellStarted, StandsIn, TracesNames, heights_of, IsAccepted}
 use Rattle.ml_refutation.specs.GoStep.{HasTransition}
-use Rattle.ml_refutation.specs.Refutation.{Refutation, Entry, Decision, Split, Clash, Go}
+use Rattle.ml_refutation.specs.Refutation.{Refutation, Decision, Split, Clash, Go}
 use Rattle.ml_sequent.specs.declared.choice.Side.{Side}
 use Rattle.ml_sequent.specs.declared.choice.Side.TheVariants.{Left, Right}
-use Rattle.ml_sequent.specs.declared.clashes.ClashCause.{ClashCause}
 use Rattle.ml_sequent.specs.Choice.{with_side}
-use Rattle.ml_sequent.specs.Spread.{SpreadList, IsSpreadOf, IsOpenOr, IsCause, is_diamond}
+use Rattle.ml_sequent.specs.Spread.{IsOpenOr, IsCause, is_diamond}
 use Rattle.ml_sequent.specs.Step.{IsTarget}
 use Rattle.ml_trace.specs.declared.letters.AutomatonState.{AutomatonState}
 use Rattle.ml_trace.specs.declared.marks.Mark.{Mark}
@@ -82,7 +79,10 @@ module _ (g : Graph) (a : Arena) (arena : IsArenaOf g a) (s : GameSolution) (r :
       condition : NamesCondition (HasTransition g) (record { sequent = p.sequent; spread = at.spread; diamond = d; next = go.next.sequent }) m (traces_of g p.history) (traces_of g go.next.history)
       condition = go_names g p go.next at.spread d go.is_diamond.leads b.facts b.low m go.marked go.is_mark
 
-      at_entries : (c n : List ℕ) (t u : traced.Entry AutomatonState) → c ≡ p.sequent → n ≡ go.next.sequent → t ≡ traces_of g p.history
+      at_entries : (c n : List ℕ) (t u : traced.Entry AutomatonState)
+          → c ≡ p.sequent
+          → n ≡ go.next.sequent
+          → t ≡ traces_of g p.history
           → u ≡ traces_of g go.next.history
           → OfSpread g c p.choice (λ sp. NamesCondition (HasTransition g) (record { sequent = c; spread = sp; diamond = d; next = n }) m t u)
       at_entries c n t u c_is n_is t_is u_is =

@@ -5,8 +5,7 @@
 --
 --   carried_item, carried == the images of an item and of an entry
 --   names_carried         == the condition is carried
-use Rattle.std.proofs.Common.{ℕ, ◌≡◌, ◌<◌, Bool, true, List, map, sym, subst}
-use Rattle.ml_lists.specs.Member.{IsMember}
+use Rattle.std.proofs.Common.{ℕ, ◌≡◌, ◌<◌, Bool, true, map, sym, subst}
 use Rattle.ml_lists.proofs.Member.{member-map, member-map_from, Image}
 use Rattle.ml_trace.specs.declared.marks.Mark.{Mark}
 use Rattle.ml_trace.specs.declared.marks.Mark.TheVariants.{Green}

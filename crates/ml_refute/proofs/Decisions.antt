@@ -8,7 +8,7 @@
 --   chosen_facts    == with one side more the same facts are true
 --   spread_here     == each decision stands at a spread of its position
 --   nodes_low       == so the nodes of the sequent are in the graph
-use Rattle.std.proofs.Common.{ℕ, ◌≡◌, ◌<◌, ◌⊎◌, inl, inr, List, [], ◌∷◌, refl, sym, ap, ◌∙◌, subst}
+use Rattle.std.proofs.Common.{ℕ, ◌≡◌, ◌<◌, ◌⊎◌, inl, inr, List, refl, sym, subst}
 use Rattle.ml_lists.specs.Member.{IsMember}
 use Rattle.ml_lists.proofs.Member.{member-append}
 use Rattle.ml_graph.specs.Graph.{Graph, size, priority_at}
@@ -40,7 +40,8 @@ pub record GoIn (g : Graph) (a : Arena) (s : GameSolution) (ps : List Position) 
 
 module _ (g : Graph) (a : Arena) (s : GameSolution) (ps : List Position) where
   -- what stands below a split
-  above_split : (p : Position) (o : ℕ) (x : Side) (f : ℕ) (m : Mark) → GoIn g a s ps (with_chosen g p o x) f m
+  abbrev pub above_split : (p : Position) (o : ℕ) (x : Side) (f : ℕ) (m : Mark)
+      → GoIn g a s ps (with_chosen g p o x) f m
       → GoIn g a s ps p f m
   above_split p o x f m i = record {
     here = i.here;
@@ -94,11 +95,16 @@ module _ (g : Graph) (a : Arena) (s : GameSolution) (ps : List Position) where
     pub arc_is : arc ≡ record { from = e; priority = priority top mark; to = entry }
     pub go : GoIn g a s ps p entry mark
 
-  arc_above : (top e : ℕ) (p : Position) (o : ℕ) (x : Side) (arc : Arc) → ArcOf top e (with_chosen g p o x) arc → ArcOf top e p arc
+  arc_above : (top e : ℕ) (p : Position) (o : ℕ) (x : Side) (arc : Arc)
+      → ArcOf top e (with_chosen g p o x) arc
+      → ArcOf top e p arc
   arc_above top e p o x arc l =
       record { entry = l.entry; mark = l.mark; arc_is = l.arc_is; go = above_split p o x l.entry l.mark l.go }
 
-  pub go_of_arc : (top e : ℕ) (p : Position) (d : Decision) → IsDecisionAt g a s ps p d → (arc : Arc) → IsMember arc (arcs_of top e d)
+  pub go_of_arc : (top e : ℕ) (p : Position) (d : Decision)
+      → IsDecisionAt g a s ps p d
+      → (arc : Arc)
+      → IsMember arc (arcs_of top e d)
       → ArcOf top e p arc
   go_of_arc top e p (Split o left right) is arc inside =
       by_side (member-append arc (arcs_of top e left) (arcs_of top e right) inside) (go_of_arc top e (with_chosen g p o Left) left is.1 arc) (go_of_arc top e (with_chosen g p o Right) right is.2 arc)
@@ -138,7 +144,11 @@ module _ (g : Graph) (a : Arena) (s : GameSolution) (ps : List Position) where
   spread_here p (Go d f m) is = record { spread = is.spread; is_spread = is.is_spread }
 
   -- so the nodes of the sequent are in the graph
-  pub nodes_low : (p : Position) (d : Decision) → IsDecisionAt g a s ps p d → (n : ℕ) → IsMember n p.sequent → n < size g
+  pub nodes_low : (p : Position) (d : Decision)
+      → IsDecisionAt g a s ps p d
+      → (n : ℕ)
+      → IsMember n p.sequent
+      → n < size g
   nodes_low p d is n inside =
       let here = spread_here p d is in
       here.is_spread.low n ((here.is_spread.nodes n).1 (record { from = n; member = inside; lowest = priority_at g n; walk = stays n }))

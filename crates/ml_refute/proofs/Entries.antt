@@ -5,7 +5,7 @@
 --   is_reached      == each is reached
 --   facts_at        == so what is true of reached positions is true of it
 --   low_at          == and its nodes are in the graph
-use Rattle.std.proofs.Common.{ℕ, zero, suc, ◌≡◌, ◌+◌, ◌<◌, ◌⊎◌, inl, inr, List, [], ◌∷◌, Some, length, get_or, map, slice_get, refl, sym, ap, ◌∙◌, subst, arith}
+use Rattle.std.proofs.Common.{ℕ, zero, suc, ◌≡◌, ◌<◌, [], Some, length, get_or, map, slice_get, sym, ◌∙◌, subst, arith}
 use Rattle.std.proofs.lemmas.List.{get_or-map}
 use Rattle.std.proofs.lemmas.List.FromFn.{length-range_with_len, get_or-range_with_len}
 use Rattle.std.specs.List.{range_with_len}
@@ -19,7 +19,7 @@ use Rattle.ml_product.proofs.Reached.{Facts, reached_facts}
 use Rattle.ml_refutation.specs.Acceptance.{entry_at, no_entry}
 use Rattle.ml_refutation.specs.Refutation.{Refutation, Entry}
 use Rattle.ml_refute.specs.Extracted.{leads_to, IsOutlineOf, IsEntryAt}
-use Rattle.ml_refute.proofs.Decisions.{GoIn, LedTo, go_to, nodes_low}
+use Rattle.ml_refute.proofs.Decisions.{LedTo, go_to, nodes_low}
 use Rattle.ml_refute.proofs.Places.{placed_member, placed_low, Taken, place_taken}
 
 module _ (g : Graph) (a : Arena) (arena : IsArenaOf g a) (s : GameSolution) (r : Refutation) (o : IsOutlineOf g a s r) where
@@ -46,6 +46,7 @@ module _ (g : Graph) (a : Arena) (arena : IsArenaOf g a) (s : GameSolution) (r :
     pub before : ℕ
     pub earlier : before < e
     pub before_at : At before
+    pub leads : IsMember e (leads_to (entry_at r before).decision)
     pub led : LedTo g a s o.positions before_at.position e
 
   pub led_from : (k : ℕ) → suc k < length r.entries → LedFrom (suc k)
@@ -56,7 +57,9 @@ module _ (g : Graph) (a : Arena) (arena : IsArenaOf g a) (s : GameSolution) (r :
           let place = get_or-range_with_len 0 (length r.entries) (suc k) 0 low in
           omega (arith, place)
 
-      at_row : (j : ℕ) → j < suc k → IsMember (get_or (range_with_len 0 (length r.entries)) (suc k) 0) (get_or (map (λ (e : Entry). leads_to e.decision) r.entries) j [])
+      at_row : (j : ℕ)
+          → j < suc k
+          → IsMember (get_or (range_with_len 0 (length r.entries)) (suc k) 0) (get_or (map (λ (e : Entry). leads_to e.decision) r.entries) j [])
           → IsMember (suc k) (leads_to (entry_at r j).decision)
       at_row j early inside =
           subst (λ v. IsMember v (leads_to (entry_at r j).decision)) number_is
@@ -70,11 +73,15 @@ module _ (g : Graph) (a : Arena) (arena : IsArenaOf g a) (s : GameSolution) (r :
             before = j;
             earlier = early;
             before_at = here;
+            leads = at_row j early inside;
             led = go_to g a s o.positions here.position (entry_at r j).decision here.is_entry.decision (suc k) (at_row j early inside);
           }
 
   -- a position that a go leads to is one of the arena
-  pub go_reached : (p : Position) (f : ℕ) (q : Position) → slice_get o.positions f ≡ Some q → LedTo g a s o.positions p f → IsReached g q
+  pub go_reached : (p : Position) (f : ℕ) (q : Position)
+      → slice_get o.positions f ≡ Some q
+      → LedTo g a s o.positions p f
+      → IsReached g q
   go_reached p f q placed l =
       let next = l.go.is_go.next in
       let same : Some next ≡ Some q = sym l.go.is_go.is_entry ∙ placed in

@@ -8,7 +8,7 @@
 use Rattle.std.proofs.Common.{ℕ, zero, suc, ◌≡◌, ◌+◌, ◌*◌, ◌<◌, ◌≤◌, ◌%◌, ◌⊎◌, inl, inr, List, [], ◌∷◌, Some, length, get_or, slice_get, All, refl, sym, ap, ◌∙◌, subst, arith}
 use Rattle.ml_lists.specs.Member.{IsMember}
 use Rattle.ml_lists.proofs.Member.{member-append, member-append_left, member-append_right, member-All, All-member, place-member}
-use Rattle.ml_graph.specs.Graph.{Graph, size}
+use Rattle.ml_graph.specs.Graph.{Graph}
 use Rattle.ml_history.specs.HistoryStep.{live}
 use Rattle.ml_parity.specs.declared.one_sided.graph.Arc.{Arc}
 use Rattle.ml_parity.specs.Heights.{IsOneSided, FallsAlong, AreLongest, AreHeights}
@@ -18,11 +18,11 @@ use Rattle.ml_product.specs.Arena.{Arena, IsArenaOf}
 use Rattle.ml_product.specs.Position.{Position}
 use Rattle.ml_product.proofs.Reached.{Facts}
 use Rattle.ml_refutation.specs.Acceptance.{entry_at, no_entry, heights_of}
-use Rattle.ml_refutation.specs.Refutation.{Refutation, Entry, Decision, IsMarkOf}
+use Rattle.ml_refutation.specs.Refutation.{Refutation, Entry, IsMarkOf}
 use Rattle.ml_trace.specs.declared.marks.Mark.{Mark}
 use Rattle.ml_trace.specs.declared.marks.Mark.TheVariants.{Red, Green, Neutral}
 use Rattle.ml_trace.specs.Marks.{priority}
-use Rattle.ml_refute.specs.Extracted.{traces_of, IsOutlineOf, arcs_of, arcs_from, go_graph}
+use Rattle.ml_refute.specs.Extracted.{IsOutlineOf, arcs_of, arcs_from, go_graph}
 use Rattle.ml_refute.proofs.Decisions.{GoIn, ArcOf, go_of_arc}
 use Rattle.ml_refute.proofs.Entries.{At, position_at, facts_at, low_at}
 use Rattle.ml_refute.proofs.GoSteps.{go_mark_in_use}
@@ -73,7 +73,7 @@ mark_at_most names (Red x) low = omega arith
 mark_at_most names (Green x) low = omega arith
 mark_at_most names Neutral low = omega arith
 
-more_names : (live names : ℕ) (m : Mark) → live ≤ names → IsMarkOf live m → IsMarkOf names m
+pub more_names : (live names : ℕ) (m : Mark) → live ≤ names → IsMarkOf live m → IsMarkOf names m
 more_names live names (Red x) le low = omega arith
 more_names live names (Green x) le low = omega arith
 more_names live names Neutral le low = tt
@@ -86,6 +86,7 @@ module _ (g : Graph) (a : Arena) (arena : IsArenaOf g a) (s : GameSolution) (r :
     pub begins : ℕ
     pub is_entry : begins < length r.entries
     pub here : At g a arena s r o begins
+    pub inside : IsMember arc (arcs_of (2 * r.names) begins (entry_at r begins).decision)
     pub arc_is : ArcOf g a s o.positions (2 * r.names) begins here.position arc
 
   pub go_arc : (arc : Arc) → IsMember arc (go_graph r).arcs → GoArc arc
@@ -95,11 +96,13 @@ module _ (g : Graph) (a : Arena) (arena : IsArenaOf g a) (s : GameSolution) (r :
       from i =
           let here = position_at g a arena s r o i.place i.below in
           let same : 0 + i.place ≡ i.place = omega arith in
+          let inside_here = subst (λ e. IsMember arc (arcs_of (2 * r.names) e (entry_at r i.place).decision)) same i.inside in
           record {
             begins = i.place;
             is_entry = i.below;
             here = here;
-            arc_is = go_of_arc g a s o.positions (2 * r.names) i.place here.position (entry_at r i.place).decision here.is_entry.decision arc (subst (λ e. IsMember arc (arcs_of (2 * r.names) e (entry_at r i.place).decision)) same i.inside);
+            inside = inside_here;
+            arc_is = go_of_arc g a s o.positions (2 * r.names) i.place here.position (entry_at r i.place).decision here.is_entry.decision arc inside_here;
           }
 
   -- the names in use at an entry are among those of the refutation
@@ -120,7 +123,10 @@ module _ (g : Graph) (a : Arena) (arena : IsArenaOf g a) (s : GameSolution) (r :
   }
 
   -- the mark of a go has one of the refutation's names
-  pub mark_low : (e : ℕ) (h : At g a arena s r o e) → e < length r.entries → (f : ℕ) (m : Mark) → GoIn g a s o.positions h.position f m
+  pub mark_low : (e : ℕ) (h : At g a arena s r o e)
+      → e < length r.entries
+      → (f : ℕ) (m : Mark)
+      → GoIn g a s o.positions h.position f m
       → IsMarkOf r.names m
   mark_low e h low f m go =
       let facts = facts_below h.position f m go (facts_at g a arena s r o e h.position h.placed) in

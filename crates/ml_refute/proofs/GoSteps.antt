@@ -12,7 +12,7 @@
 --   live_low        == no more names are in use than the automaton has states
 --   same_mark       == marks whose numbers fit and are equal are equal
 --   go_mark         == the mark whose number the next position has is that of the history step
-use Rattle.std.proofs.Common.{ℕ, ◌≡◌, ◌+◌, ◌*◌, ◌<◌, ◌≤◌, ◌%◌, ◌==◌, Bool, true, List, Option, Some, None, filter, length, map, refl, sym, ap, ◌∙◌, subst, arith, ltb, not}
+use Rattle.std.proofs.Common.{ℕ, ◌≡◌, ◌*◌, ◌<◌, ◌≤◌, ◌%◌, ◌==◌, Bool, List, Option, Some, None, filter, map, refl, sym, ap, ◌∙◌, subst, arith, ltb, not}
 use Rattle.std.proofs.lemmas.Bool.{and_parts, ltb-true}
 use Rattle.std.proofs.lemmas.List.{length-map}
 use Rattle.std.proofs.lemmas.Nat.{mul-add-lt}
@@ -21,7 +21,6 @@ use Rattle.ml_lists.proofs.Ascending.{ascending-is}
 use Rattle.ml_lists.proofs.Member.{Image, member-map_from}
 use Rattle.ml_graph.specs.Graph.{Graph, size, odd_priorities}
 use Rattle.ml_history.specs.CycleLaws.{entry}
-use Rattle.ml_history.specs.History.{IsHistory}
 use Rattle.ml_history.specs.HistoryStep.{live, taken_along, is_red, is_green, survives, stepped, step_mark}
 use Rattle.ml_history.proofs.definition.OneStep.{green_kept}
 use Rattle.ml_history.proofs.definition.StepMark.{mark_of-red}
@@ -50,7 +49,9 @@ use Rattle.ml_refute.proofs.CarriedNames.{names_carried}
 -- ---- marks
 
 -- the mark of a history step has a name in use
-pub mark_in_use : (h : List (Item ℕ)) (letter : List Transition) (m : Mark) → step_mark h letter ≡ m → IsMarkOf (live h) m
+pub mark_in_use : (h : List (Item ℕ)) (letter : List Transition) (m : Mark)
+    → step_mark h letter ≡ m
+    → IsMarkOf (live h) m
 mark_in_use h letter (Red x) e =
     let says = mark_of-red (is_red (live h) (taken_along h letter)) (is_green (taken_along h letter)) (2 * live h) x e in
     let parts = and_parts (ltb x (live h)) (not (survives (taken_along h letter) x)) says.passes in
@@ -82,13 +83,15 @@ same_mark top Neutral Neutral low other same = refl
 
 -- ---- guesses
 
-guess_before : (odds : List ℕ) (k : ℕ) (before behind : Option ℕ) (accepting : Bool) → Leads odds k before behind accepting
+guess_before : (odds : List ℕ) (k : ℕ) (before behind : Option ℕ) (accepting : Bool)
+    → Leads odds k before behind accepting
     → IsGuess odds before
 guess_before odds k None behind accepting leads = tt
 guess_before odds k (Some c) None accepting leads = absurd leads
 guess_before odds k (Some c) (Some e) accepting leads = leads.1
 
-guess_behind : (odds : List ℕ) (k : ℕ) (before behind : Option ℕ) (accepting : Bool) → Leads odds k before behind accepting
+guess_behind : (odds : List ℕ) (k : ℕ) (before behind : Option ℕ) (accepting : Bool)
+    → Leads odds k before behind accepting
     → IsGuess odds behind
 guess_behind odds k before None accepting leads = tt
 guess_behind odds k None (Some e) accepting leads = leads.0
@@ -105,7 +108,11 @@ module _ (g : Graph) where
       ap (state_of (odd_priorities g)) e ∙ state_of-number (odd_priorities g) s (ascending-is (filter (λ d. d % 2 == 1) g.priorities)) is
 
   -- the states of a history whose nodes are in the graph are states of its automaton
-  pub state_low : (p : Position) → Facts g p → ((n : ℕ) → IsMember n p.sequent → n < size g) → (a : Item ℕ) → IsMember a p.history
+  pub state_low : (p : Position)
+      → Facts g p
+      → ((n : ℕ) → IsMember n p.sequent → n < size g)
+      → (a : Item ℕ)
+      → IsMember a p.history
       → a.state < automaton_states g
   state_low p facts low a inside = from (facts.traced a inside)
     where

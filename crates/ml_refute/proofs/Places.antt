@@ -5,7 +5,7 @@
 --   member_placed   == a member stands at a place
 --   placed_low      == a place at which something stands is below the length
 --   place_taken     == at a place below the length something stands
-use Rattle.std.proofs.Common.{ℕ, zero, suc, ◌≡◌, ◌<◌, inl, inr, List, [], ◌∷◌, Option, Some, None, length, slice_get, refl, sym, ap, arith}
+use Rattle.std.proofs.Common.{ℕ, zero, suc, ◌≡◌, ◌<◌, inl, inr, List, [], ◌∷◌, Some, length, slice_get, refl, sym, ap, arith}
 use Rattle.ml_lists.specs.Member.{IsMember}
 
 pub placed_member : {X : Type 0} (xs : List X) (i : ℕ) (x : X) → slice_get xs i ≡ Some x → IsMember x xs

@@ -5,7 +5,7 @@
 --   owner_at, moves_at, priority_at == the parity game at a position
 --   Split_at, split_at == where an or-node is open, Even may go to both sides
 --   odd_at         == where nothing is open and there is a diamond, Odd moves
-use Rattle.std.proofs.Common.{ℕ, zero, suc, ◌≡◌, ◌+◌, ◌<◌, ◌≤◌, ◌⊎◌, inl, inr, List, [], ◌∷◌, ◌++◌, Some, None, length, get_or, map, slice_get, Contains, refl, sym, ap, ◌∙◌, subst, arith}
+use Rattle.std.proofs.Common.{ℕ, zero, suc, ◌≡◌, ◌+◌, ◌<◌, ◌≤◌, ◌⊎◌, inl, inr, List, [], ◌∷◌, Some, length, get_or, map, slice_get, Contains, refl, sym, ap, ◌∙◌, subst, arith}
 use Rattle.std.proofs.lemmas.Bool.{cases_lt}
 use Rattle.std.proofs.lemmas.List.{get_or-map, length-map, get_or_append_left}
 use Rattle.std.proofs.lemmas.Option.{get_or_from_slice_get}
@@ -13,11 +13,10 @@ use Rattle.ml_lists.specs.Member.{IsMember}
 use Rattle.ml_lists.proofs.Ascending.{ascending_same}
 use Rattle.ml_lists.proofs.Members.{contains_head, contains_later}
 use Rattle.ml_graph.specs.Graph.{Graph}
-use Rattle.ml_parity.specs.declared.players.Player.{Player}
 use Rattle.ml_parity.specs.declared.players.Player.TheVariants.{Even, Odd}
 use Rattle.ml_parity.specs.Game.{HasMove, owner_of, moves_of, priority_of}
-use Rattle.ml_product.specs.Arena.{Arena, IsVertexOf, AreVertices, IsPlayed, IsArenaOf, game_of}
-use Rattle.ml_product.specs.DecisionGame.{Verdict, Clashing, Open, Leading, Settled, Target, To, mover, IsResolved, IsVerdictOf, diamonds_of, AreMoves, Turn, AreDifferent}
+use Rattle.ml_product.specs.Arena.{Arena, AreVertices, IsPlayed, IsArenaOf, game_of}
+use Rattle.ml_product.specs.DecisionGame.{Verdict, Clashing, Open, Leading, Settled, Target, To, mover, IsResolved, IsVerdictOf, diamonds_of, AreMoves, AreDifferent}
 use Rattle.ml_product.specs.Position.{Position, with_chosen}
 use Rattle.ml_sequent.specs.declared.choice.Side.{Side}
 use Rattle.ml_sequent.specs.declared.choice.Side.TheVariants.{Left, Right}
@@ -25,7 +24,11 @@ use Rattle.ml_sequent.specs.Spread.{SpreadList, IsSpreadOf, IsLeastOpenOr}
 use Rattle.ml_refute.proofs.Places.{placed_member, placed_low}
 
 -- different positions have different places
-pub same_place : (ps : List Position) → AreDifferent ps → (i j : ℕ) (p : Position) → slice_get ps i ≡ Some p → slice_get ps j ≡ Some p
+pub same_place : (ps : List Position)
+    → AreDifferent ps
+    → (i j : ℕ) (p : Position)
+    → slice_get ps i ≡ Some p
+    → slice_get ps j ≡ Some p
     → i ≡ j
 same_place [] apart i j p e f = cc
 same_place (x ∷ xs) apart zero zero p e f = refl
@@ -107,7 +110,10 @@ module _ (g : Graph) (a : Arena) (arena : IsArenaOf g a) (v : ℕ) (p : Position
           by_first (inr le) (inl early) = inr (inl early)
           by_first (inr le) (inr ge) = inr (inr (omega arith))
 
-      of_moves : (m : ℕ) → m ≡ n → (ts : List Target) → ts ≡ To (with_chosen g p m Left) ∷ To (with_chosen g p m Right) ∷ []
+      of_moves : (m : ℕ)
+          → m ≡ n
+          → (ts : List Target)
+          → ts ≡ To (with_chosen g p m Left) ∷ To (with_chosen g p m Right) ∷ []
           → (ws : List ℕ)
           → AreVertices a.positions ts ws
           → get_or a.moves v [] ≡ ws
@@ -116,7 +122,8 @@ module _ (g : Graph) (a : Arena) (arena : IsArenaOf g a) (v : ℕ) (p : Position
       of_moves m m_is ts ts_is ws vs ws_is owner_is =
           from (subst (λ x. AreVertices a.positions x ws) (ts_is ∙ ap (λ k. To (with_chosen g p k Left) ∷ To (with_chosen g p k Right) ∷ []) m_is) vs)
         where
-          from : AreVertices a.positions (To (with_chosen g p n Left) ∷ To (with_chosen g p n Right) ∷ []) ws → SplitAt n
+          from : AreVertices a.positions (To (with_chosen g p n Left) ∷ To (with_chosen g p n Right) ∷ []) ws
+              → SplitAt n
           from (l, rest, l_is, (k, none, k_is, none_is, rest_is), ws_are) =
               let all : moves_of (game_of a) v ≡ l ∷ k ∷ none = moves_at ∙ ws_is ∙ ws_are ∙ ap (λ x. l ∷ x) rest_is in
               record {
@@ -129,7 +136,10 @@ module _ (g : Graph) (a : Arena) (arena : IsArenaOf g a) (v : ℕ) (p : Position
                 to_right = subst (λ x. Contains x k) (sym all) (contains_later l (k ∷ none) k (contains_head k none));
               }
 
-      of_turn : (x : Verdict) → turn.turn.verdict ≡ x → IsVerdictOf g turn.turn.spread x → AreMoves g p turn.turn.spread x turn.turn.targets
+      of_turn : (x : Verdict)
+          → turn.turn.verdict ≡ x
+          → IsVerdictOf g turn.turn.spread x
+          → AreMoves g p turn.turn.spread x turn.turn.targets
           → SplitAt n
       of_turn Clashing e at moves = absurd (is_here.0 at.0 at.1)
       of_turn (Open m) e at moves =
@@ -138,7 +148,10 @@ module _ (g : Graph) (a : Arena) (arena : IsArenaOf g a) (v : ℕ) (p : Position
       of_turn Settled e at moves = absurd (at.0.none_open n is_here.1.is_open)
 
   -- where nothing is open and there is a diamond, Odd moves
-  pub odd_at : (d : ℕ) (sp : SpreadList) → IsSpreadOf g p.sequent p.choice sp → IsResolved g sp → IsMember d (diamonds_of g sp)
+  pub odd_at : (d : ℕ) (sp : SpreadList)
+      → IsSpreadOf g p.sequent p.choice sp
+      → IsResolved g sp
+      → IsMember d (diamonds_of g sp)
       → owner_of (game_of a) v ≡ Odd
   odd_at d sp is_spread resolved inside =
       owner_at ∙ turn.owner_is ∙ of_turn turn.turn.verdict turn.turn.is_verdict
