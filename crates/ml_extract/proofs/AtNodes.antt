@@ -10,8 +10,7 @@
 --   Next, next_at    == the state to which a diamond leads
 --   Crossing         == a move of the play from a node to a node of a next state
 --   AtNode, at_node  == what the play does at a node: it goes to a child, or crosses to a next state
-use Rattle.std.proofs.Common.{ℕ, ◌≡◌, ◌<◌, ◌⊎◌, inl, inr, Bool, true, false, List, [], ◌∷◌, map, length, get_or, slice_get, slice_index_or, Option, Some, None, Contains, refl, sym, ap, ◌∙◌, subst}
-use Rattle.std.proofs.lemmas.Bool.{cases_Bool}
+use Rattle.std.proofs.Common.{ℕ, ◌≡◌, inl, inr, Bool, true, false, List, [], ◌∷◌, map, slice_get, slice_index_or, Option, Some, None, Contains, refl, sym, ap, ◌∙◌, subst}
 use Rattle.ml_base.proofs.Listing.{lists_iff}
 use Rattle.ml_base.specs.Structure.{lists}
 use Rattle.ml_lists.specs.Member.{IsMember}
@@ -19,8 +18,8 @@ use Rattle.ml_lists.proofs.Member.{Image, member-map, member-map_from, member-fi
 use Rattle.ml_lists.proofs.Members.{member_of_contains, contains_of_member, contains_none}
 use Rattle.ml_graph.specs.declared.node.Node.{Node}
 use Rattle.ml_graph.specs.declared.node.Node.TheVariants as node
-use Rattle.ml_graph.specs.Graph.{Graph, size, node_at, prop_at, action_at}
-use Rattle.ml_graph.specs.CheckingGame.{Vertex, Pair, mover, owner_at, vertex_number, successors, successors_of, pairs_or_sink, targets, checking_game}
+use Rattle.ml_graph.specs.Graph.{node_at, prop_at, action_at}
+use Rattle.ml_graph.specs.CheckingGame.{Vertex, Pair, mover, vertex_number, successors, successors_of, pairs_or_sink, targets, checking_game}
 use Rattle.ml_graph.specs.Laws.{NodeHolds}
 use Rattle.ml_graph.proofs.CheckingGame.{IsVertex, owner_is, moves_are, is_game}
 use Rattle.ml_graph.proofs.OneStep.{one_step, vertex_low}
@@ -36,10 +35,10 @@ use Rattle.ml_sequent.specs.declared.choice.Side.TheVariants.{Left, Right}
 use Rattle.ml_sequent.specs.declared.clashes.ClashCause.TheVariants as cause
 use Rattle.ml_sequent.specs.Choice.{side_of, chosen}
 use Rattle.ml_sequent.specs.LocalWalk.{stays, goes, children, children_of, chosen_child}
-use Rattle.ml_sequent.specs.Spread.{SpreadList, IsSpreadOf, IsPair, is_diamond}
+use Rattle.ml_sequent.specs.Spread.{IsPair, is_diamond}
 use Rattle.ml_sequent.specs.Step.{LeadsOut}
 use Rattle.ml_product.specs.Position.{Position, Follows}
-use Rattle.ml_product.specs.DecisionGame.{IsResolved, diamonds_of}
+use Rattle.ml_product.specs.DecisionGame.{diamonds_of}
 use Rattle.ml_product.specs.Arena.{game_of}
 use Rattle.ml_product.proofs.ArenaGame.{member_of_get}
 use Rattle.ml_extract.specs.Model.{PositionAt, State, nexts, IsLabel, IsModelEdge}
@@ -104,6 +103,7 @@ module _ (S : Setting) (t : AtState S) where
   -- the state to which a diamond leads
   pub record Next (d : ℕ) : Type 0 where
     pub place : AtState S
+    pub member : IsMember d t.state.spread.nodes
     pub follows : Follows S.g (resolved_at S t).position t.state.spread d place.position
     pub step : EvenMove S t.state.last place.state.first
 
@@ -120,6 +120,7 @@ module _ (S : Setting) (t : AtState S) where
           stands = w.stands;
           won = won_behind (game_of S.a) Even (even_moves S) t.state.last y.first w.move (resolved_at S t).won;
         };
+        member = w.inside;
         follows = w.follows;
         step = w.move;
       }
@@ -205,7 +206,7 @@ module _ (S : Setting) (t : AtState S) where
       no_partner p is label =
           let partner_low = (resolved_at S t).is_spread.low label.literal label.member in
           let same : p ≡ label.prop = same_place S.g.props S.g_ok.props_differ p label.prop (prop_in_range S.g S.g_ok n vertex.1 p false is)
-              (prop_in_range S.g S.g_ok label.literal partner_low label.prop true label.is_positive) label.named in
+          (prop_in_range S.g S.g_ok label.literal partner_low label.prop true label.is_positive) label.named in
           let two : IsPair S.g label.literal n = record {
             prop = p;
             positive = subst (λ q. node_at S.g label.literal ≡ node.Lit q true) (sym same) label.is_positive;
@@ -301,8 +302,8 @@ module _ (S : Setting) (t : AtState S) where
               let to_is : slice_get S.model.states j ≡ Some k.to = subst (λ i. slice_get S.model.states i ≡ Some k.to) e.target_is k.to_is in
               let diamond_low = (way_of S t.position t.state.first t.state.last t.state.spread (resolved_at S t) k.diamond k.to.first leads).inside in
               let action_is : k.action ≡ a = same_place S.g.actions S.g_ok.actions_differ k.action a
-                  (diamond_action S.g S.g_ok k.diamond ((resolved_at S t).is_spread.low k.diamond diamond_low) k.action k.child k.is_diamond)
-                  (square_action S.g S.g_ok n vertex.1 a to is) (sym k.action_is ∙ e.action_is) in
+              (diamond_action S.g S.g_ok k.diamond ((resolved_at S t).is_spread.low k.diamond diamond_low) k.action k.child k.is_diamond)
+              (square_action S.g S.g_ok n vertex.1 a to is) (sym k.action_is ∙ e.action_is) in
               crosses (record {
                 diamond = k.diamond;
                 next = next_at k.diamond j k.to to_is leads;

@@ -10,7 +10,7 @@
 --   Chosen, down    == the position that Even's moves end with
 --   Way, way_of     == where a diamond of the spread leads
 --   way_for         == each diamond has a position to which it leads
-use Rattle.std.proofs.Common.{ℕ, ◌≡◌, ◌+◌, ◌<◌, ◌≤◌, ◌%◌, ◌⊎◌, inl, inr, min, Bool, true, List, [], ◌∷◌, length, get_or, slice_get, Some, Contains, refl, sym, ap, ◌∙◌, subst, arith}
+use Rattle.std.proofs.Common.{ℕ, ◌≡◌, ◌<◌, ◌%◌, ◌⊎◌, inl, inr, min, true, List, [], ◌∷◌, length, get_or, slice_get, Some, Contains, refl, sym, ap, ◌∙◌, subst, arith}
 use Rattle.std.specs.List.{zip}
 use Rattle.std.proofs.lemmas.Option.{slice_get_within}
 use Rattle.ml_lists.specs.Member.{IsMember}
@@ -20,17 +20,16 @@ use Rattle.ml_lists.proofs.Members.{member_of_contains, contains_of_member, cont
 use Rattle.ml_graph.specs.Graph.{Graph, node_at}
 use Rattle.ml_parity.specs.declared.players.Player.TheVariants.{Even, Odd}
 use Rattle.ml_parity.specs.Game.{HasMove, size, owner_of, priority_of, moves_of}
-use Rattle.ml_parity.proofs.FollowedWalks.{FollowedMove, FollowedWalk, last, before, won_behind, closed_walk_good, odd_is_not_even}
+use Rattle.ml_parity.proofs.FollowedWalks.{last, before, won_behind, closed_walk_good, odd_is_not_even}
 use Rattle.ml_sequent.specs.declared.choice.Side.{Side}
 use Rattle.ml_sequent.specs.declared.choice.Side.TheVariants.{Left, Right}
-use Rattle.ml_sequent.specs.declared.clashes.ClashCause.{ClashCause}
-use Rattle.ml_sequent.specs.Spread.{SpreadList, IsSpreadOf, IsCause, IsOpenOr, is_diamond}
+use Rattle.ml_sequent.specs.Spread.{SpreadList, IsSpreadOf, IsOpenOr, is_diamond}
 use Rattle.ml_product.specs.Position.{Position, with_chosen, neutral, Follows}
-use Rattle.ml_product.specs.DecisionGame.{Verdict, Clashing, Open, Leading, Settled, Target, To, Lost, Won, IsResolved, IsVerdictOf, AreSteps, AreMoves, mover, diamonds_of}
+use Rattle.ml_product.specs.DecisionGame.{Verdict, Clashing, Open, Leading, Settled, Target, To, Lost, IsResolved, IsVerdictOf, AreSteps, AreMoves, mover, diamonds_of}
 use Rattle.ml_product.specs.Arena.{IsVertexOf, AreVertices, IsPlayed, game_of}
 use Rattle.ml_product.proofs.ArenaGame.{here, size_is, owner_at, moves_at, priority_at, lost_moves, lost_priority, target_of, TargetOf}
 use Rattle.ml_product.proofs.NeutralPriority.{priority_at_most}
-use Rattle.ml_extract.specs.Model.{PositionAt, SpreadAt, Chooses, ends, moves, State, nexts}
+use Rattle.ml_extract.specs.Model.{PositionAt, SpreadAt, Chooses, ends, moves}
 use Rattle.ml_extract.proofs.Setting.{Setting, even_moves, WonByMoves, EvenMove, EvenWalk}
 
 -- ---- one spread

@@ -8,3 +8,9 @@ pub mod Choosing
 pub mod Numbering
 -- what a play does at a state
 pub mod AtNodes
+-- a play leaves each state
+pub mod LeavingStates
+-- from a state to a next one
+pub mod CrossedEdges
+-- round states and nodes: the theorem
+pub mod Loops

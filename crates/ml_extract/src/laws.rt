@@ -1,0 +1,12 @@
+// Laws about the definitions alone: empty functions, each of whose contract is a theorem.
+
+ghost use Rattle.ml_extract.specs.Extraction.{ModelsHold};
+
+/// Where Even wins the decision game of a graph, the model of Even's moves is a structure at whose start the graph holds,
+/// each of its states is reached from the start along edges, and each edge has the action of a diamond of the graph. Graphs
+/// and arenas are of any size; which solution of the arena's game Even's moves are taken from doesn't matter.
+///
+/// Does nothing when called.
+pub fn models_hold()
+    ensures { ModelsHold }
+{}
