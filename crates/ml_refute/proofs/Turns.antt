@@ -18,7 +18,8 @@ use Rattle.std.proofs.lemmas.Option.{slice_get_within}
 use Rattle.ml_product.proofs.ArenaGame.{owner_at, moves_at}
 use Rattle.ml_product.proofs.OnePlace.{same_spread}
 
-module _ (g : Graph) (a : Arena) (arena : IsArenaOf g a) (v : ℕ) (p : Position) (placed : slice_get a.positions v ≡ Some p) where
+module _ (g : Graph) (a : Arena) (arena : IsArenaOf g a) (v : ℕ) (p : Position)
+    (placed : slice_get a.positions v ≡ Some p) where
   low : v < length a.positions
   low = slice_get_within a.positions v p placed
 
@@ -69,12 +70,14 @@ module _ (g : Graph) (a : Arena) (arena : IsArenaOf g a) (v : ℕ) (p : Position
           → get_or a.owners v Even ≡ Even
           → SplitAt n
       of_moves m m_is ts ts_is ws vs ws_is owner_is =
-          from (subst (λ x. AreVertices a.positions x ws) (ts_is ∙ ap (λ k. To (with_chosen g p k Left) ∷ To (with_chosen g p k Right) ∷ []) m_is) vs)
+          from (subst (λ x. AreVertices a.positions x ws)
+          (ts_is ∙ ap (λ k. To (with_chosen g p k Left) ∷ To (with_chosen g p k Right) ∷ []) m_is) vs)
         where
           from : AreVertices a.positions (To (with_chosen g p n Left) ∷ To (with_chosen g p n Right) ∷ []) ws
               → SplitAt n
           from (l, rest, l_is, (k, none, k_is, none_is, rest_is), ws_are) =
-              let all : moves_of (game_of a) v ≡ l ∷ k ∷ none = moves_at g a arena v low ∙ ws_is ∙ ws_are ∙ ap (λ x. l ∷ x) rest_is in
+              let all : moves_of (game_of a) v ≡ l ∷ k ∷ none = moves_at g a arena v low ∙ ws_is ∙ ws_are ∙ ap
+              (λ x. l ∷ x) rest_is in
               record {
                 left = l;
                 right = k;
@@ -92,7 +95,8 @@ module _ (g : Graph) (a : Arena) (arena : IsArenaOf g a) (v : ℕ) (p : Position
           → SplitAt n
       of_turn Clashing e at moves = absurd (is_here.0 at.0 at.1)
       of_turn (Open m) e at moves =
-          of_moves m (one_least m at.1 (compare m)) turn.turn.targets moves (get_or a.moves v []) turn.moves_are refl (turn.owner_is ∙ ap mover e)
+          of_moves m (one_least m at.1 (compare m)) turn.turn.targets moves (get_or a.moves v []) turn.moves_are refl
+          (turn.owner_is ∙ ap mover e)
       of_turn (Leading ds) e at moves = absurd (at.0.none_open n is_here.1.is_open)
       of_turn Settled e at moves = absurd (at.0.none_open n is_here.1.is_open)
 
