@@ -7,7 +7,7 @@ use Rattle.std.proofs.Common.{◌≡◌, ℕ, ◌≤◌, List, length, Some, Non
 use Rattle.ml_mu.specs.Formula.{Formula}
 use Rattle.ml_mu.specs.Parsing.{IsParsedAs}
 use Rattle.ml_mu.proofs.OneAnswer.{one_formula, parsed_or_refused}
-use Rattle.ml_mu.specs.Problem.{IsSatisfiable}
+use Rattle.ml_front.specs.Problems.{IsSatisfiable}
 use Rattle.ml_table.specs.Propositional.{plain, IsInForm}
 use Rattle.ml_model_check.specs.Checked.{Shows, ShowsNot}
 use Rattle.ml_model_check.specs.declared.checked.Checked.TheVariants as checked

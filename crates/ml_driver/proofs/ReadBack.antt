@@ -2,6 +2,7 @@
 --
 --   decided_are_checked  == and finds to hold
 use Rattle.std.proofs.Common.{refl, sym, subst, arith}
+use Rattle.ml_base.specs.declared.version.Version.TheVariants.{Two}
 use Rattle.ml_kripke.specs.Laws.{IsWritten}
 use Rattle.ml_table.specs.Propositional.{plain}
 use Rattle.ml_model_check.specs.Checked.{IsDocument}
@@ -23,5 +24,5 @@ decided_are_checked w done =
     in
     let shown : IsDocument done.output p m 0 =
     subst (λ t. IsDocument t p m 0) (sym x.is_written)
-    (documents_read_back p m 0 (parsed_well done.text x.formula x.is_parsed) written x.holds.is_ordered) in
+    (documents_read_back Two p m 0 (parsed_well done.text x.formula x.is_parsed) written x.holds.is_ordered) in
     (done.is_whole, (record { problem = p; structure = m; start = 0; is_document = shown; holds = x.holds.holds }, refl))

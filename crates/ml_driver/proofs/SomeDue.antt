@@ -12,7 +12,7 @@ use Rattle.ml_base.specs.Structure.{Structure}
 use Rattle.ml_kripke.specs.Ordered.{HasNames}
 use Rattle.ml_mu.specs.Formula.{Formula}
 use Rattle.ml_mu.specs.Parsing.{IsParsedAs, IsRefusedBy}
-use Rattle.ml_mu.specs.Problem.{IsSatisfiable}
+use Rattle.ml_front.specs.Problems.{IsSatisfiable}
 use Rattle.ml_mu.proofs.SomeAnswer.{some_answer}
 use Rattle.ml_table.specs.Propositional.{is_propositional, different_propositions, most_propositions, plain, IsInForm, HoldsInModel}
 use Rattle.ml_mu.proofs.Parsed.{parsed_well}

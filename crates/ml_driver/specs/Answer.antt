@@ -7,7 +7,7 @@ use Rattle.std.specs.Prelude.{ℕ, ◌≡◌, List, Some}
 use Rattle.ml_kripke.specs.Ordered.{HasNames}
 use Rattle.ml_mu.specs.Parsing.{IsParsedAs, IsRefusedBy}
 use Rattle.ml_mu.specs.Formula.{Formula}
-use Rattle.ml_mu.specs.Problem.{IsSatisfiable}
+use Rattle.ml_front.specs.Problems.{IsSatisfiable}
 use Rattle.ml_table.specs.Propositional.{plain, IsInForm, HoldsInModel}
 use Rattle.ml_driver.specs.declared.answer.Answer.{Answer}
 use Rattle.ml_driver.specs.declared.answer.Answer.TheVariants.{Satisfiable, Unsatisfiable, RefusedText, RefusedForm}

@@ -30,7 +30,7 @@ use Rattle.ml_base.specs.Whole.{AppendsPart, Gives}
 use Rattle.ml_kripke.specs.Ordered.{HasNames}
 use Rattle.ml_mu.specs.Formula.{Formula}
 use Rattle.ml_mu.specs.Parsing.{IsParsedAs, IsRefusedBy}
-use Rattle.ml_mu.specs.Problem.{IsSatisfiable}
+use Rattle.ml_front.specs.Problems.{IsSatisfiable}
 use Rattle.ml_table.specs.Propositional.{plain, IsInForm, HoldsInModel}
 use Rattle.ml_base.specs.declared.doc_fault.DocFault.{DocFault}
 use Rattle.ml_base.specs.declared.parse_refusal.ParseRefusal.{ParseRefusal}

@@ -8,7 +8,7 @@ ghost use Rattle.ml_driver.specs.Answer.{status_of, IsText};
 
 use crate::Status;
 use ml_base::{NoMemory, ParseRefusal};
-use ml_front::append_head;
+use ml_front::{AnyFormula, Problem, append_head};
 use ml_kripke::{Model, append_model};
 use ml_lines::{end_line, write_next_number, write_next_word, write_word};
 use ml_mu::Formula;
@@ -35,21 +35,21 @@ pub(crate) struct Output {
 }
 
 /// What an answer makes the program say. Want of memory is no refusal of a text, and no answer has it as one.
-pub(crate) fn output_of(alloc: Global, answer: &Answer) -> Result<Output, NoMemory>
-    ensures { IfOk result (λ output. (output.status ≡ status_of answer.now) × IsText answer.now output.bytes.items) }
+pub(crate) fn output_of(alloc: Global, answer: Answer) -> Result<Output, NoMemory>
+    ensures { IfOk result (λ output. (output.status ≡ status_of answer) × IsText answer output.bytes.items) }
 {
     Ok(match answer {
         Answer::Satisfiable(formula, model) => Output {
             status: Status::Yes,
-            bytes: satisfiable_document(alloc, formula, model)?,
+            bytes: satisfiable_document(alloc, &plain(formula), &model)?,
         },
         Answer::Unsatisfiable(formula) => Output {
             status: Status::No,
-            bytes: unsatisfiable_document(alloc, formula)?,
+            bytes: unsatisfiable_document(alloc, &plain(formula))?,
         },
         Answer::RefusedText(refusal) => Output {
             status: Status::Text,
-            bytes: refusal_line(alloc, *refusal)?,
+            bytes: refusal_line(alloc, refusal)?,
         },
         Answer::RefusedForm => Output {
             status: Status::Text,
@@ -86,26 +86,36 @@ fn refused_at(alloc: Global, rule: u64, at: u64) -> Result<Vec<u8>, NoMemory>
     Ok(line)
 }
 
-fn unsatisfiable_document(alloc: Global, formula: &Formula) -> Result<Vec<u8>, NoMemory>
-    ensures { IfOk result (λ output. output.items ≡ document.unsatisfiable_document (plain formula.now)) }
+// the plain problem of a formula
+fn plain(formula: Formula) -> Problem
+    ensures { result ≡ plain formula }
+{
+    Problem {
+        formula: AnyFormula::Mu(formula),
+        negated: false,
+    }
+}
+
+fn unsatisfiable_document(alloc: Global, problem: &Problem) -> Result<Vec<u8>, NoMemory>
+    ensures { IfOk result (λ output. output.items ≡ document.unsatisfiable_document problem.now) }
 {
     let mut output = Vec::new(alloc);
-    append_head(&mut output, ml_front::Answer::Unsatisfiable, formula, false)?;
+    append_head(&mut output, problem, ml_front::Answer::Unsatisfiable)?;
     output.extend_from_slice(b"end\n")?;
     Ok(output)
 }
 
 fn satisfiable_document(
     alloc: Global,
-    formula: &Formula,
+    problem: &Problem,
     model: &Model,
 ) -> Result<Vec<u8>, NoMemory>
     ensures text { IfOk result (λ output.
-        output.items ≡ document.satisfiable_document (plain formula.now) model.now.structure model.now.start) }
+        output.items ≡ document.satisfiable_document problem.now model.now.structure model.now.start) }
     ensures named { OnOk result (HasNames model.now.structure) }
 {
     let mut output = Vec::new(alloc);
-    append_head(&mut output, ml_front::Answer::Satisfiable, formula, false)?;
+    append_head(&mut output, problem, ml_front::Answer::Satisfiable)?;
     append_model(&mut output, model)?;
     Ok(output)
 }

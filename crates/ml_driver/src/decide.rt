@@ -18,7 +18,7 @@ pub(crate) fn decide_mu(alloc: Global, text: &[u8]) -> Result<Output, NoMemory>
     ensures { IfOk result (λ output. IsDue (Some Command.DecideMu) text.now output.status output.bytes.items) }
 {
     let answer = answer_to(alloc, text)?;
-    let output = output_of(alloc, &answer)?;
+    let output = output_of(alloc, answer)?;
     Ok(output)
 }
 

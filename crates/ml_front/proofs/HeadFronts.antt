@@ -9,8 +9,11 @@ use Rattle.std.proofs.Common.{◌≡◌, ◌≢◌, ℕ, ◌+◌, ◌⊎◌, Boo
 use Rattle.std.specs.List.{join_with_byte}
 use Rattle.std.proofs.lemmas.List.Splits.{join_with_byte-slice_split}
 use Rattle.ml_base.specs.declared.doc_fault.DocFault.{DocFault}
+use Rattle.ml_base.specs.declared.doc_refusal.DocRefusal.{DocRefusal}
+use Rattle.ml_base.specs.declared.doc_refusal.DocRefusal.TheVariants as refused
 use Rattle.ml_base.specs.declared.parse_refusal.ParseRefusal.{ParseRefusal}
 use Rattle.ml_base.specs.declared.parse_refusal.ParseRefusal.TheVariants as parser
+use Rattle.ml_base.specs.declared.version.Version.{Version}
 use Rattle.ml_lines.specs.Lines.{Line, text_of}
 use Rattle.ml_lines.specs.Faults.{IsFault}
 use Rattle.ml_lines.specs.Reading.{lines_of, left_of, words_of, is_blank}
@@ -19,34 +22,30 @@ use Rattle.ml_lines.proofs.Cuts.{some_part}
 use Rattle.ml_lines.proofs.Faults.{fault_here, fault_missing, fault_behind}
 use Rattle.ml_lines.proofs.WrittenLines.{text_read}
 use Rattle.ml_lists.specs.Documents.{IsGood, nothing_read, line_read}
-use Rattle.ml_mu.specs.Formula.{Formula}
-use Rattle.ml_mu.specs.Parsing.{IsParsedAs, IsRefusedBy}
-use Rattle.ml_mu.proofs.OneAnswer.{parsed_or_refused}
 use Rattle.ml_front.specs.Head.{title_line, answer_line, logic_line, sense_line}
-use Rattle.ml_front.specs.HeadRules.{IsHead, IsHeadFault, HeadPlace, AtTitle, AtAnswer, AtLogic, AtSense, AtFormula, after, head, rule_number}
+use Rattle.ml_front.specs.HeadRules.{IsHead, IsHeadFault, IsFormulaOf, HeadPlace, AtTitle, AtAnswer, AtLogic, AtSense, AtFormula, after, head, rule_number}
 use Rattle.ml_front.specs.private.HeadParts.{first_line, Breaks, IsFormulaRead, TellsHead, TellsFormula, formula_refusal}
 use Rattle.ml_front.specs.declared.answer.Answer.{Answer}
 use Rattle.ml_front.specs.declared.head_rule.HeadRule.{HeadRule}
 use Rattle.ml_front.specs.declared.head_rule.HeadRule.TheVariants.{Parses}
-use Rattle.ml_front.specs.declared.read.HeadRefusal.{HeadRefusal}
-use Rattle.ml_front.specs.declared.read.HeadRefusal.TheVariants as refused
-use Rattle.ml_front.specs.declared.read.FormulaRefusal.TheVariants as formula
+use Rattle.ml_front.specs.declared.logic.Logic.{Logic}
+use Rattle.ml_front.specs.declared.problem.AnyFormula.{AnyFormula}
+use Rattle.ml_front.specs.declared.reading.FormulaRefusal.TheVariants as formula
+use Rattle.ml_front.specs.Logics.{logic_of, IsParsedAs, IsRefusedBy}
+use Rattle.ml_front.proofs.Logics.{formula_or_refused, logic_read}
 use Rattle.ml_front.proofs.ReadableHeads.{Begins, formula_line, head_of_lines}
 
 -- ---- the formula
 
-unparsed : (a : Answer) (text given : List ℕ)
+unparsed : (a : Answer) (l : Logic) (text given : List ℕ)
     → first_line text ≡ codes "formula" ∷ words_of given
-    → ((f : Formula) → ¬ (IsParsedAs given f))
-    → Breaks a AtFormula (first_line text) Parses
-unparsed a text given is never =
-    subst (λ line. Breaks a AtFormula line Parses) (sym is)
+    → ¬ (IsFormulaOf l given)
+    → Breaks a (AtFormula l) (first_line text) Parses
+unparsed a l text given is never =
+    subst (λ line. Breaks a (AtFormula l) line Parses) (sym is)
     (inr (
       formula_line (words_of given) (some_part is_blank given),
-      inl (
-        refl,
-        λ (f, parsed). never f (subst (λ t. IsParsedAs t f) (join_with_byte-slice_split 32 given) parsed),
-      ),
+      inl (refl, λ parsed. never (subst (IsFormulaOf l) (join_with_byte-slice_split 32 given) parsed)),
     ))
 
 -- want of memory alone is no refusal of the text
@@ -60,17 +59,19 @@ refusal_told (parser.TooMany at) = inr (λ is. cc, refl)
 refusal_told (parser.TooNested at) = inr (λ is. cc, refl)
 refusal_told (parser.NameTooLong at) = inr (λ is. cc, refl)
 
-pub formula_refused : (a : Answer) (text given : List ℕ) (more : List Line) (e : ParseRefusal)
-    → lines_of text ≡ (codes "formula" ∷ words_of given) ∷ more → IsRefusedBy given e → TellsFormula a text (formula_refusal e)
-formula_refused a text given more e begins refuses = go (refusal_told e)
+pub formula_refused : (a : Answer) (l : Logic) (text given : List ℕ) (more : List Line) (e : ParseRefusal)
+    → lines_of text ≡ (codes "formula" ∷ words_of given) ∷ more
+    → IsRefusedBy l given e
+    → TellsFormula a l text (formula_refusal e)
+formula_refused a l text given more e begins refuses = go (refusal_told e)
   where
     go : (e ≡ parser.NoMemory) ⊎ ((e ≢ parser.NoMemory) × (formula_refusal e ≡ formula.Breaks Parses))
-        → TellsFormula a text (formula_refusal e)
-    go (inl is) = subst (λ r. TellsFormula a text (formula_refusal r)) (sym is) tt
+        → TellsFormula a l text (formula_refusal e)
+    go (inl is) = subst (λ r. TellsFormula a l text (formula_refusal r)) (sym is) tt
     go (inr (other, told)) =
-        subst (TellsFormula a text) (sym told)
-        (unparsed a text given (ap (λ lines. slice_index_or lines 0 []) begins)
-        (λ f parsed. other (parsed_or_refused given f e parsed refuses)))
+        subst (TellsFormula a l text) (sym told)
+        (unparsed a l text given (ap (λ lines. slice_index_or lines 0 []) begins)
+        (λ (f, of_logic, parsed). other (formula_or_refused l given f e of_logic parsed refuses)))
 
 -- ---- the first bad line
 
@@ -89,7 +90,7 @@ module _ (a : Answer) (text : List ℕ) where
         (line_read k place line (lines_of behind) nothing_read good) found)
 
     -- the first line of the rest, or a missing one, breaks a rule
-    pub tells : (r : HeadRule) (told : HeadRefusal) → Breaks a place (first_line rest) r
+    pub tells : (r : HeadRule) (told : DocRefusal) → Breaks a place (first_line rest) r
         → told ≡ refused.Fault (record { line = k; rule = rule_number r }) → TellsHead a text told
     tells r told breaks is = subst (TellsHead a text) (sym is) (so_far (record { line = k; rule = rule_number r }) (go (lines_of rest) refl))
       where
@@ -104,46 +105,50 @@ module _ (a : Answer) (text : List ℕ) where
   pub begin : SoFar 1 AtTitle text
   begin fault found = found
 
-  module _ (r1 : List ℕ) (first : GoesOn text (title_line ∷ []) r1) where
+  module _ (v : Version) (r1 : List ℕ) (first : GoesOn text (title_line v ∷ []) r1) where
     pub behind_title : SoFar 2 AtAnswer r1
-    behind_title = one_more 1 AtTitle text begin title_line r1 first (refl, tt)
+    behind_title = one_more 1 AtTitle text begin (title_line v) r1 first ((v, refl), tt)
 
     module _ (r2 : List ℕ) (second : GoesOn r1 (answer_line a ∷ []) r2) where
       pub behind_answer : SoFar 3 AtLogic r2
       behind_answer = one_more 2 AtAnswer r1 behind_title (answer_line a) r2 second ((a, refl), (refl, tt))
 
-      module _ (r3 : List ℕ) (third : GoesOn r2 (logic_line ∷ []) r3) where
-        pub behind_logic : SoFar 4 AtSense r3
-        behind_logic = one_more 3 AtLogic r2 behind_answer logic_line r3 third (refl, tt)
+      module _ (l : Logic) (r3 : List ℕ) (third : GoesOn r2 (logic_line l ∷ []) r3) where
+        pub behind_logic : SoFar 4 (AtSense l) r3
+        behind_logic =
+            subst (λ k. SoFar 4 (AtSense k) r3) (logic_read l)
+            (one_more 3 AtLogic r2 behind_answer (logic_line l) r3 third ((l, refl), tt))
 
         module _ (negated : Bool) (r4 : List ℕ) (fourth : GoesOn r3 (sense_line negated ∷ []) r4) where
-          pub behind_sense : SoFar 5 AtFormula r4
-          behind_sense = one_more 4 AtSense r3 behind_logic (sense_line negated) r4 fourth ((negated, refl), tt)
+          pub behind_sense : SoFar 5 (AtFormula l) r4
+          behind_sense = one_more 4 (AtSense l) r3 behind_logic (sense_line negated) r4 fourth ((negated, refl), tt)
 
-          pub whole_head : (f : Formula) (rest : List ℕ) → IsFormulaRead r4 f rest
-              → IsHead a text (record { formula = f; negated = negated }) rest
+          pub whole_head : (f : AnyFormula) (rest : List ℕ) → IsFormulaRead l r4 f rest
+              → IsHead a text v (record { formula = f; negated = negated }) rest
           whole_head f rest last = go (words_of last.given) refl
             where
               lines : lines_of text
-                  ≡ title_line ∷ answer_line a ∷ logic_line ∷ sense_line negated ∷ (codes "formula" ∷ words_of last.given) ∷ lines_of rest
+                  ≡ title_line v ∷ answer_line a ∷ logic_line (logic_of f) ∷ sense_line negated ∷ (codes "formula" ∷ words_of last.given) ∷ lines_of rest
               lines =
-                  first.lines_are ∙ ap (λ ls. title_line ∷ ls) (second.lines_are ∙ ap (λ ls. answer_line a ∷ ls) (third.lines_are
-                  ∙ ap (λ ls. logic_line ∷ ls) (fourth.lines_are ∙ ap (λ ls. sense_line negated ∷ ls) last.goes.lines_are)))
+                  first.lines_are ∙ ap (λ ls. title_line v ∷ ls) (second.lines_are ∙ ap (λ ls. answer_line a ∷ ls)
+                  (third.lines_are ∙ ap (λ k. logic_line k ∷ lines_of r3) (sym last.of_logic)
+                  ∙ ap (λ ls. logic_line (logic_of f) ∷ ls) (fourth.lines_are ∙ ap (λ ls. sense_line negated ∷ ls) last.goes.lines_are)))
 
               left : left_of rest ≡ left_of text
               left = sym (first.left_is ∙ second.left_is ∙ third.left_is ∙ fourth.left_is ∙ last.goes.left_is)
 
-              go : (ws : Line) → words_of last.given ≡ ws → IsHead a text (record { formula = f; negated = negated }) rest
+              go : (ws : Line) → words_of last.given ≡ ws → IsHead a text v (record { formula = f; negated = negated }) rest
               go [] none = let some = some_part is_blank last.given in absurd (omega (arith, some, ap length none))
               go (w ∷ ws) is =
                   let begins : Begins a (lines_of text) = record {
+                    version = v;
                     negated = negated;
                     w = w;
                     ws = ws;
                     f = f;
                     more = lines_of rest;
                     lines_are =
-                        lines ∙ ap (λ vs. title_line ∷ answer_line a ∷ logic_line ∷ sense_line negated ∷ (codes "formula" ∷ vs) ∷ lines_of rest) is;
+                        lines ∙ ap (λ vs. title_line v ∷ answer_line a ∷ logic_line (logic_of f) ∷ sense_line negated ∷ (codes "formula" ∷ vs) ∷ lines_of rest) is;
                     is_parsed =
                         subst (λ t. IsParsedAs t f) (sym (join_with_byte-slice_split 32 last.given) ∙ ap (join_with_byte 32) is) last.is_parsed;
                   } in

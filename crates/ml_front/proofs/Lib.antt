@@ -1,3 +1,5 @@
+-- what each logic proves, said of all
+pub mod Logics
 -- the lines of a head
 pub mod HeadLines
 -- a text is readable as a head exactly where it is one
@@ -8,3 +10,5 @@ pub mod OneFault
 pub mod HeadFronts
 -- what is written is read back
 pub mod ReadBack
+-- the graphs of problems
+pub mod Graphs

@@ -6,8 +6,8 @@
 --   one_fault       == a text has one first bad line at most
 use Rattle.std.proofs.Common.{◌≡◌, ◌⊎◌, Bool, true, false, [], ◌∷◌, codes, inl, inr, ap, ⊎_elim, get_or}
 use Rattle.ml_base.specs.declared.doc_fault.DocFault.{DocFault}
-use Rattle.ml_base.specs.declared.parse_refusal.ParseRefusal.{ParseRefusal}
-use Rattle.ml_base.specs.declared.parse_refusal.ParseRefusal.TheVariants as refusal
+use Rattle.ml_base.specs.declared.version.Version.{Version}
+use Rattle.ml_base.specs.declared.version.Version.TheVariants.{One, Two}
 use Rattle.ml_lines.specs.Lines.{Line}
 use Rattle.ml_lines.specs.Reading.{lines_of}
 use Rattle.ml_lines.proofs.DecidedWords.{decided_line}
@@ -15,15 +15,36 @@ use Rattle.ml_lines.proofs.Faults as text
 use Rattle.ml_lists.specs.Documents.{IsReadable, Judges}
 use Rattle.ml_lists.proofs.Decided.{Decided, decided_bytes, decided_same}
 use Rattle.ml_lists.proofs.Documents.{judged}
-use Rattle.ml_mu.specs.Formula.{Formula}
-use Rattle.ml_mu.specs.Parsing.{IsParsedAs, IsRefusedBy}
-use Rattle.ml_mu.proofs.OneAnswer.{parsed_or_refused}
-use Rattle.ml_mu.proofs.SomeAnswer.{some_answer}
 use Rattle.ml_front.specs.Head.{title_line, answer_line, logic_line, sense_line}
 use Rattle.ml_front.specs.HeadRules.{AtTitle, AtAnswer, AtLogic, AtSense, AtFormula, Behind, IsFormulaLine, formula_bytes, rules, head, IsHeadFault, SomeHead, HeadOrFault, OneHeadFault}
 use Rattle.ml_front.specs.declared.answer.Answer.{Answer}
 use Rattle.ml_front.specs.declared.answer.Answer.TheVariants.{Satisfiable, Unsatisfiable, Undecided}
+use Rattle.ml_front.specs.declared.logic.Logic.{Logic}
+use Rattle.ml_front.specs.declared.logic.Logic.TheVariants as logic
+use Rattle.ml_front.proofs.Logics.{has_formula}
 use Rattle.ml_front.proofs.ReadableHeads.{head_readable, readable_head}
+
+is_title : (line : Line) → Decided ((v : Version) × (line ≡ title_line v))
+is_title line = go (decided_line line (title_line One)) (decided_line line (title_line Two))
+  where
+    go : Decided (line ≡ title_line One) → Decided (line ≡ title_line Two) → Decided ((v : Version) × (line ≡ title_line v))
+    go (inl is) t = inl (One, is)
+    go (inr n) (inl is) = inl (Two, is)
+    go (inr n) (inr m) = inr none
+      where
+        none : (v : Version) × (line ≡ title_line v) → ⊥
+        none (One, is) = n is
+        none (Two, is) = m is
+
+is_logic : (line : Line) → Decided ((l : Logic) × (line ≡ logic_line l))
+is_logic line = go (decided_line line (logic_line logic.Mu))
+  where
+    go : Decided (line ≡ logic_line logic.Mu) → Decided ((l : Logic) × (line ≡ logic_line l))
+    go (inl is) = inl (logic.Mu, is)
+    go (inr n) = inr none
+      where
+        none : (l : Logic) × (line ≡ logic_line l) → ⊥
+        none (logic.Mu, is) = n is
 
 is_answer : (line : Line) → Decided ((b : Answer) × (line ≡ answer_line b))
 is_answer line =
@@ -64,21 +85,13 @@ is_formula (x ∷ w ∷ ws) =
     decided_same (λ (is : x ≡ codes "formula"). (w, ws, ap (λ v. v ∷ w ∷ ws) is)) (λ (v, vs, is). ap (λ l. get_or l 0 []) is)
     (decided_bytes x (codes "formula"))
 
-has_formula : (line : Line) → Decided ((f : Formula) × IsParsedAs (formula_bytes line) f)
-has_formula line = go (some_answer (formula_bytes line))
-  where
-    go : ((f : Formula) × IsParsedAs (formula_bytes line) f)
-        ⊎ ((e : ParseRefusal) × (e ≡ refusal.NoMemory → ⊥) × IsRefusedBy (formula_bytes line) e)
-        → Decided ((f : Formula) × IsParsedAs (formula_bytes line) f)
-    go (inl parsed) = inl parsed
-    go (inr (e, some, refused)) = inr (λ (f, parsed). some (parsed_or_refused (formula_bytes line) f e parsed refused))
-
 pub judges : (a : Answer) → Judges (head a)
-judges a AtTitle line = judged line (rules a AtTitle) (decided_line line title_line, λ _. tt)
+judges a AtTitle line = judged line (rules a AtTitle) (is_title line, λ _. tt)
 judges a AtAnswer line = judged line (rules a AtAnswer) (is_answer line, λ _. (decided_line line (answer_line a), λ _. tt))
-judges a AtLogic line = judged line (rules a AtLogic) (decided_line line logic_line, λ _. tt)
-judges a AtSense line = judged line (rules a AtSense) (is_sense line, λ _. tt)
-judges a AtFormula line = judged line (rules a AtFormula) (is_formula line, λ _. (has_formula line, λ _. tt))
+judges a AtLogic line = judged line (rules a AtLogic) (is_logic line, λ _. tt)
+judges a (AtSense l) line = judged line (rules a (AtSense l)) (is_sense line, λ _. tt)
+judges a (AtFormula l) line =
+    judged line (rules a (AtFormula l)) (is_formula line, λ _. (has_formula l (formula_bytes line), λ _. tt))
 judges a Behind line = judged line (rules a Behind) tt
 
 pub some_head : SomeHead
@@ -89,7 +102,8 @@ some_head a t =
     (text.readable_or_fault (λ left. head a) 1 AtTitle t (judges a))
 
 pub head_or_fault : HeadOrFault
-head_or_fault a t p rest fault h found = text.readable_no_fault (λ left. head a) 1 AtTitle t fault (head_readable a t p rest h) found
+head_or_fault a t v p rest fault h found =
+    text.readable_no_fault (λ left. head a) 1 AtTitle t fault (head_readable a t v p rest h) found
 
 pub one_fault : OneHeadFault
 one_fault a t e f x y = text.one_fault (λ left. head a) 1 AtTitle t e f x y

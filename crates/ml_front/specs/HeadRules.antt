@@ -5,10 +5,12 @@
 -- with the first rule that it breaks. A line that is missing is the line of no words. What stands behind the fifth line
 -- has no rules here.
 --
---   IsHead a text p rest    == the text is a head that gives the answer a about the problem p, and then the rest
+--   IsHead a text v p rest  == the text is a head in the version v that gives the answer a about the problem p, and then
+--                              the rest
 --   HeadPlace, after        == what stands at a line, and behind it
 --   formula_bytes line      == what stands behind the first blank of a line
 --   IsFormulaLine line      == the line is `formula`, a blank, and anything
+--   IsFormulaOf l text      == the text stands for a formula of the logic l
 --   rule_number r           == the number of a rule, from 1 to 3
 --   rules a place           == the rules of a line at a place, where the answer a is wanted
 --   head a                  == the places with their rules
@@ -17,37 +19,41 @@
 use Rattle.std.specs.Prelude.{ℕ, ◌≡◌, ◌⊎◌, Bool, false, List, [], ◌∷◌, ◌++◌, drop, codes}
 use Rattle.std.specs.List.{list_any, join_with_byte}
 use Rattle.ml_base.specs.declared.doc_fault.DocFault.{DocFault}
+use Rattle.ml_base.specs.declared.version.Version.{Version}
 use Rattle.ml_lines.specs.Faults.{IsFault}
 use Rattle.ml_lines.specs.Lines.{Word, Line, text_of}
-use Rattle.ml_lines.specs.Reading.{is_line_end}
+use Rattle.ml_lines.specs.Reading.{is_line_end, word}
 use Rattle.ml_lists.specs.Documents.{Format, Rule, rule}
-use Rattle.ml_mu.specs.Formula.{Formula}
-use Rattle.ml_mu.specs.Parsing.{IsParsedAs}
-use Rattle.ml_mu.specs.Problem.{Problem}
-use Rattle.ml_mu.specs.WellFormed.{IsWellFormed}
 use Rattle.ml_front.specs.Head.{title_line, answer_line, logic_line, sense_line, lines_about, head_lines}
+use Rattle.ml_front.specs.Logics.{logic_of, logic_named, IsParsedAs, IsWellFormed}
 use Rattle.ml_front.specs.declared.answer.Answer.{Answer}
 use Rattle.ml_front.specs.declared.head_rule.HeadRule.{HeadRule}
 use Rattle.ml_front.specs.declared.head_rule.HeadRule.TheVariants.{OfKind, Parses, Answers}
+use Rattle.ml_front.specs.declared.logic.Logic.{Logic}
+use Rattle.ml_front.specs.declared.problem.AnyFormula.{AnyFormula}
+use Rattle.ml_front.specs.declared.problem.Problem.{Problem}
 
 -- the formula's text stands in one line
-pub record IsHead (a : Answer) (text : List ℕ) (p : Problem) (rest : List ℕ) : Type 0 where
+pub record IsHead (a : Answer) (text : List ℕ) (v : Version) (p : Problem) (rest : List ℕ) : Type 0 where
   pub formula_text : List ℕ
   pub in_one_line : list_any is_line_end formula_text ≡ false
-  pub is_text : text ≡ text_of (lines_about a p.negated formula_text) ++ rest
+  pub is_text : text ≡ text_of (lines_about v a (logic_of p.formula) p.negated formula_text) ++ rest
   pub is_parsed : IsParsedAs formula_text p.formula
 
 -- ---- the rules
 
+-- behind the line of the logic a place knows the logic
 pub data HeadPlace : Type 0 where
-  AtTitle AtAnswer AtLogic AtSense AtFormula Behind : HeadPlace
+  AtTitle AtAnswer AtLogic : HeadPlace
+  AtSense AtFormula : Logic → HeadPlace
+  Behind : HeadPlace
 
 abbrev pub after : HeadPlace → Line → HeadPlace
 after AtTitle line = AtAnswer
 after AtAnswer line = AtLogic
-after AtLogic line = AtSense
-after AtSense line = AtFormula
-after AtFormula line = Behind
+after AtLogic line = AtSense (logic_named (word line 1))
+after (AtSense l) line = AtFormula l
+after (AtFormula l) line = Behind
 after Behind line = Behind
 
 abbrev pub formula_bytes : Line → List ℕ
@@ -55,6 +61,10 @@ formula_bytes line = join_with_byte 32 (drop 1 line)
 
 abbrev pub IsFormulaLine : Line → Type 0
 IsFormulaLine line = (w : Word) × (ws : Line) × (line ≡ codes "formula" ∷ w ∷ ws)
+
+-- the text stands for a formula of the logic
+abbrev pub IsFormulaOf : Logic → List ℕ → Type 0
+IsFormulaOf l text = (f : AnyFormula) × (logic_of f ≡ l) × IsParsedAs text f
 
 abbrev pub rule_number : HeadRule → ℕ
 rule_number OfKind = 1
@@ -65,11 +75,11 @@ abbrev asks : HeadRule → (Line → Type 0) → Rule Line
 asks r = rule (rule_number r)
 
 abbrev pub rules : Answer → HeadPlace → List (Rule Line)
-rules a AtTitle = asks OfKind (λ line. line ≡ title_line) ∷ []
+rules a AtTitle = asks OfKind (λ line. (v : Version) × (line ≡ title_line v)) ∷ []
 rules a AtAnswer = asks OfKind (λ line. (b : Answer) × (line ≡ answer_line b)) ∷ asks Answers (λ line. line ≡ answer_line a) ∷ []
-rules a AtLogic = asks OfKind (λ line. line ≡ logic_line) ∷ []
-rules a AtSense = asks OfKind (λ line. (negated : Bool) × (line ≡ sense_line negated)) ∷ []
-rules a AtFormula = asks OfKind IsFormulaLine ∷ asks Parses (λ line. (f : Formula) × IsParsedAs (formula_bytes line) f) ∷ []
+rules a AtLogic = asks OfKind (λ line. (l : Logic) × (line ≡ logic_line l)) ∷ []
+rules a (AtSense l) = asks OfKind (λ line. (negated : Bool) × (line ≡ sense_line negated)) ∷ []
+rules a (AtFormula l) = asks OfKind IsFormulaLine ∷ asks Parses (λ line. IsFormulaOf l (formula_bytes line)) ∷ []
 rules a Behind = []
 
 abbrev pub head : Answer → Format Line HeadPlace
@@ -83,20 +93,23 @@ IsHeadFault a text fault = IsFault (λ left. head a) 1 AtTitle text fault
 -- a text is a head, or has a first bad line
 abbrev pub SomeHead : Type 0
 SomeHead = (a : Answer) (text : List ℕ)
-    → ((p : Problem) × (rest : List ℕ) × IsHead a text p rest) ⊎ ((fault : DocFault) × IsHeadFault a text fault)
+    → ((v : Version) × (p : Problem) × (rest : List ℕ) × IsHead a text v p rest) ⊎ ((fault : DocFault) × IsHeadFault a text fault)
 
 -- a head has no bad line
 abbrev pub HeadOrFault : Type 0
-HeadOrFault = (a : Answer) (text : List ℕ) (p : Problem) (rest : List ℕ) (fault : DocFault) → IsHead a text p rest → IsHeadFault a text fault → ⊥
+HeadOrFault = (a : Answer) (text : List ℕ) (v : Version) (p : Problem) (rest : List ℕ) (fault : DocFault)
+    → IsHead a text v p rest → IsHeadFault a text fault → ⊥
 
--- a text is a head about one problem at most, with one rest
+-- a text is a head in one version and about one problem at most, with one rest
 abbrev pub OneHead : Type 0
-OneHead = (a : Answer) (text : List ℕ) (p q : Problem) (rest more : List ℕ) → IsHead a text p rest → IsHead a text q more → (p ≡ q) × (rest ≡ more)
+OneHead = (a : Answer) (text : List ℕ) (v w : Version) (p q : Problem) (rest more : List ℕ)
+    → IsHead a text v p rest → IsHead a text w q more → (v ≡ w) × (p ≡ q) × (rest ≡ more)
 
 -- a text has one first bad line at most
 abbrev pub OneHeadFault : Type 0
 OneHeadFault = (a : Answer) (text : List ℕ) (e f : DocFault) → IsHeadFault a text e → IsHeadFault a text f → e ≡ f
 
--- the head of a written document about a well-formed formula is read as it was written
+-- the head of a written document about a well-formed formula is read as it was written, in either version
 abbrev pub HeadsReadBack : Type 0
-HeadsReadBack = (a : Answer) (p : Problem) (rest : List ℕ) → IsWellFormed p.formula → IsHead a (text_of (head_lines a p) ++ rest) p rest
+HeadsReadBack = (a : Answer) (v : Version) (p : Problem) (rest : List ℕ)
+    → IsWellFormed p.formula → IsHead a (text_of (head_lines v a p) ++ rest) v p rest

@@ -1,9 +1,18 @@
-// What holds of heads by their definitions alone: the functions do nothing, their contracts are the theorems.
+// What holds of heads and of graphs by their definitions alone: the functions do nothing, their contracts are the
+// theorems.
+ghost use Rattle.ml_front.specs.Graphs.{GraphsAgree};
 ghost use Rattle.ml_front.specs.HeadRules.{HeadOrFault, HeadsReadBack, OneHead, OneHeadFault, SomeHead};
 
-/// A text is a head for an answer, or its head has a first bad line, exactly one of the two; it is a head about one
-/// problem at most, with one rest, and has one first bad line at most. So `read_head` answers each exactly where it is
-/// said to come, but for want of memory.
+/// The graph of a problem holds where the problem does: on every structure of which the formula's logic speaks, of any
+/// number of states, at every state. The formula has to mean something by its logic; in the mu-calculus that is that its
+/// variables are bound and positive.
+pub fn agrees()
+    ensures { GraphsAgree }
+{}
+
+/// A text is a head for an answer, or its head has a first bad line, exactly one of the two; it is a head in one version
+/// and about one problem at most, with one rest, and has one first bad line at most. So `read_head` answers each exactly
+/// where it is said to come, but for want of memory.
 pub fn one_head()
     ensures one { SomeHead }
     ensures exclusive { HeadOrFault }
@@ -11,8 +20,8 @@ pub fn one_head()
     ensures fault { OneHeadFault }
 {}
 
-/// The head of a written document about a well-formed formula is read as it was written, whatever stands behind it. So
-/// what `append_head` writes is read back.
+/// The head of a written document about a well-formed formula is read as it was written, in either version, whatever
+/// stands behind it. So what `write_head` writes is read back.
 pub fn heads_are_read_back()
     ensures { HeadsReadBack }
 {}

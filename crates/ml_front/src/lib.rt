@@ -1,20 +1,33 @@
-// The heads of documents: what is answered, of which formula, in which logic and sense.
+// Problems of all logics, and the heads of documents about them.
+//
+// A `Problem` is a formula of any logic with its sense. `read` gives the problem of a text, `negated` the one in the
+// other sense, `print` the canonical text, and `graph` the modal graph that holds where the problem does; what a problem
+// asks stands in `specs/Problems.antt`. Whoever stands above needs no word of any one logic.
 //
 // A document begins with five lines, its head, and goes on with a body. `read_head` reads the head where one answer is
-// wanted, and tells the first bad line where there is none; `append_head` writes it. What a head is, and by which rules
-// it is refused, stands in `specs/HeadRules.antt`; `laws` says that each text is a head or is refused at one line.
+// wanted, in either version, and tells the first bad line where there is none; `write_head` writes it. What a head is,
+// and by which rules it is refused, stands in `specs/HeadRules.antt`.
 //
-// Below stand `ml_lines` (lines and words), `ml_lists` (documents as places and rules) and `ml_mu` (formulas); above
-// stand the crates that check and write documents.
+// `laws` says that the graph of a problem holds where the problem does, and that each text is a head or is refused at
+// one line.
+//
+// Below stand the formulas of the logics (`ml_mu`) and their graphs (`ml_mu_graph`), `ml_graph` (graphs), `ml_lines`
+// (lines and words) and `ml_lists` (documents as places and rules); above stand the crates that decide problems, and
+// those that check and write documents.
 #![tactic(auto)]
 
 mod answer;
 mod head_rule;
 pub mod laws;
-mod read;
-mod write;
+mod logic;
+mod problem;
+mod reading;
+mod title;
+mod writing;
 
 pub use answer::Answer;
 pub use head_rule::HeadRule;
-pub use read::{Head, HeadRefusal, read_head};
-pub use write::append_head;
+pub use logic::Logic;
+pub use problem::{AnyFormula, Problem, copy, graph, negated, print, read};
+pub use reading::{Head, read_head};
+pub use writing::{append_head, write_head};

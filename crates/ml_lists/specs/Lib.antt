@@ -34,3 +34,5 @@ pub mod Chains
 pub mod Times
 -- lists of which one has the members of another
 pub mod Within
+-- lists in breadth-first order
+pub mod BreadthFirst

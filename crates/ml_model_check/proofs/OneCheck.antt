@@ -8,16 +8,18 @@
 --   one_fault        == a text has one first bad line at most
 --   one_check        == so checking finds one thing at most
 use Rattle.std.proofs.Common.{◌≡◌, ℕ, ◌⊎◌, Bool, true, false, not, List, [], refl, sym, ap, subst, ◌∙◌, inl, inr}
-use Rattle.ml_base.specs.Structure.{Structure, is_member}
+use Rattle.ml_base.specs.Structure.{Structure}
 use Rattle.ml_base.specs.declared.doc_fault.DocFault.{DocFault}
+use Rattle.ml_base.specs.declared.version.Version.{Version}
 use Rattle.ml_kripke.specs.BodyRules.{IsFaultOf}
 use Rattle.ml_kripke.specs.Laws.{IsModelText}
 use Rattle.ml_kripke.proofs.OneFault as body
 use Rattle.ml_kripke.proofs.OneText.{one_text}
 use Rattle.ml_front.specs.HeadRules.{IsHead, IsHeadFault}
 use Rattle.ml_front.specs.declared.answer.Answer.TheVariants.{Satisfiable}
-use Rattle.ml_mu.specs.Meaning.{meaning}
-use Rattle.ml_mu.specs.Problem.{Problem, HoldsAt}
+use Rattle.ml_front.specs.Problems.{HoldsAt}
+use Rattle.ml_front.specs.declared.problem.Problem.{Problem}
+use Rattle.ml_front.proofs.Logics.{holds_or_fails}
 use Rattle.ml_front.proofs.HeadLines.{one_head}
 use Rattle.ml_front.proofs.OneFault as head
 use Rattle.ml_model_check.specs.Checked.{IsDocument, IsDocumentFault, OneCheck, SomeCheck, IsCheckedAs, Shows, ShowsNot, first_body_line}
@@ -29,25 +31,25 @@ pub one_document : (text : List ℕ) (p q : Problem) (m n : Structure) (s t : �
     → IsDocument text q n t
     → (p ≡ q) × ((m ≡ n) × (s ≡ t))
 one_document text p q m n s t x y =
-    let heads = one_head Satisfiable text p q x.body y.body x.has_head y.has_head in
-    (heads.0, one_text m n s t x.is_written y.is_written (sym x.has_body ∙ heads.1 ∙ y.has_body))
+    let heads = one_head Satisfiable text x.version y.version p q x.body y.body x.has_head y.has_head in
+    (heads.1, one_text m n s t x.is_written y.is_written (sym x.has_body ∙ heads.2 ∙ y.has_body))
 
 pub document_fault : (text : List ℕ) (p : Problem) (m : Structure) (s : ℕ) (fault : DocFault)
     → IsDocument text p m s
     → IsDocumentFault text fault
     → ⊥
-document_fault text p m s fault x (inl of_head) = head.head_or_fault Satisfiable text p x.body fault x.has_head of_head
+document_fault text p m s fault x (inl of_head) = head.head_or_fault Satisfiable text x.version p x.body fault x.has_head of_head
 document_fault text p m s fault x (inr of_body) =
-    let heads = one_head Satisfiable text p of_body.problem x.body of_body.body x.has_head of_body.has_head in
-    body.fault_or_model of_body.body first_body_line fault (m, s, x.is_written, x.is_ordered, sym heads.1 ∙ x.has_body) of_body.is_fault
+    let heads = one_head Satisfiable text x.version of_body.version p of_body.problem x.body of_body.body x.has_head of_body.has_head in
+    body.fault_or_model of_body.body first_body_line fault (m, s, x.is_written, x.is_ordered, sym heads.2 ∙ x.has_body) of_body.is_fault
 
 pub one_fault : (text : List ℕ) (e f : DocFault) → IsDocumentFault text e → IsDocumentFault text f → e ≡ f
 one_fault text e f (inl x) (inl y) = head.one_fault Satisfiable text e f x y
-one_fault text e f (inl x) (inr y) = absurd (head.head_or_fault Satisfiable text y.problem y.body e y.has_head x)
-one_fault text e f (inr x) (inl y) = absurd (head.head_or_fault Satisfiable text x.problem x.body f x.has_head y)
+one_fault text e f (inl x) (inr y) = absurd (head.head_or_fault Satisfiable text y.version y.problem y.body e y.has_head x)
+one_fault text e f (inr x) (inl y) = absurd (head.head_or_fault Satisfiable text x.version x.problem x.body f x.has_head y)
 one_fault text e f (inr x) (inr y) =
-    let heads = one_head Satisfiable text x.problem y.problem x.body y.body x.has_head y.has_head in
-    body.one_fault y.body first_body_line e f (subst (λ b. IsFaultOf b first_body_line e) heads.1 x.is_fault) y.is_fault
+    let heads = one_head Satisfiable text x.version y.version x.problem y.problem x.body y.body x.has_head y.has_head in
+    body.one_fault y.body first_body_line e f (subst (λ b. IsFaultOf b first_body_line e) heads.2 x.is_fault) y.is_fault
 
 holds_fails : (text : List ℕ) → Shows text → ShowsNot text → ⊥
 holds_fails text x y =
@@ -84,23 +86,17 @@ pub document_or_fault : (text : List ℕ)
     → ((p : Problem) × (m : Structure) × (s : ℕ) × IsDocument text p m s) ⊎ ((fault : DocFault) × IsDocumentFault text fault)
 document_or_fault text = by_head (head.some_head Satisfiable text)
   where
-    by_body : (p : Problem) (rest : List ℕ) → IsHead Satisfiable text p rest
+    by_body : (v : Version) (p : Problem) (rest : List ℕ) → IsHead Satisfiable text v p rest
         → IsModelText rest ⊎ ((fault : DocFault) × IsFaultOf rest first_body_line fault)
         → ((q : Problem) × (m : Structure) × (s : ℕ) × IsDocument text q m s) ⊎ ((fault : DocFault) × IsDocumentFault text fault)
-    by_body p rest h (inl (m, s, written, ordered, is)) =
-        inl (p, m, s, record { body = rest; has_head = h; has_body = is; is_written = written; is_ordered = ordered })
-    by_body p rest h (inr (fault, found)) = inr (fault, inr (record { problem = p; body = rest; has_head = h; is_fault = found }))
+    by_body v p rest h (inl (m, s, written, ordered, is)) =
+        inl (p, m, s, record { version = v; body = rest; has_head = h; has_body = is; is_written = written; is_ordered = ordered })
+    by_body v p rest h (inr (fault, found)) = inr (fault, inr (record { version = v; problem = p; body = rest; has_head = h; is_fault = found }))
 
-    by_head : ((p : Problem) × (rest : List ℕ) × IsHead Satisfiable text p rest) ⊎ ((fault : DocFault) × IsHeadFault Satisfiable text fault)
+    by_head : ((v : Version) × (p : Problem) × (rest : List ℕ) × IsHead Satisfiable text v p rest) ⊎ ((fault : DocFault) × IsHeadFault Satisfiable text fault)
         → ((q : Problem) × (m : Structure) × (s : ℕ) × IsDocument text q m s) ⊎ ((fault : DocFault) × IsDocumentFault text fault)
-    by_head (inl (p, rest, h)) = by_body p rest h (body.model_or_fault rest first_body_line)
+    by_head (inl (v, p, rest, h)) = by_body v p rest h (body.model_or_fault rest first_body_line)
     by_head (inr (fault, found)) = inr (fault, inl found)
-
-same_or_not : (a b : Bool) → (a ≡ b) ⊎ (a ≡ b → ⊥)
-same_or_not true true = inl refl
-same_or_not false false = inl refl
-same_or_not true false = inr (λ e. cc)
-same_or_not false true = inr (λ e. cc)
 
 pub shows_or_fault : (text : List ℕ) → Shows text ⊎ (ShowsNot text ⊎ ((fault : DocFault) × IsDocumentFault text fault))
 shows_or_fault text = go (document_or_fault text)
@@ -112,7 +108,7 @@ shows_or_fault text = go (document_or_fault text)
 
     go : ((p : Problem) × (m : Structure) × (s : ℕ) × IsDocument text p m s) ⊎ ((fault : DocFault) × IsDocumentFault text fault)
         → Shows text ⊎ (ShowsNot text ⊎ ((fault : DocFault) × IsDocumentFault text fault))
-    go (inl (p, m, s, is)) = tested p m s is (same_or_not (is_member (meaning m [] p.formula) s) (not p.negated))
+    go (inl (p, m, s, is)) = tested p m s is (holds_or_fails m s p)
     go (inr fault) = inr (inr fault)
 
 pub some_check : SomeCheck

@@ -8,9 +8,10 @@ use Rattle.ml_front.proofs.ReadBack.{heads_read_back}
 use Rattle.ml_model_check.specs.Checked.{DocumentsReadBack}
 
 pub documents_read_back : DocumentsReadBack
-documents_read_back p m start well written ordered = record {
+documents_read_back v p m start well written ordered = record {
+  version = v;
   body = model_text m start;
-  has_head = heads_read_back Satisfiable p (model_text m start) well;
+  has_head = heads_read_back Satisfiable v p (model_text m start) well;
   has_body = refl;
   is_written = written;
   is_ordered = ordered;

@@ -1,7 +1,7 @@
 -- Documents that show a structure, and what checking one finds.
 --
 -- A document shows a structure for a problem where its head answers `satisfiable` about the problem, and its body is
--- the text of a structure in order with a state to start from. Whether the problem holds there is not asked of the
+-- the text of a structure in order with a state to start from; the head may be in either version. Whether the problem holds there is not asked of the
 -- document: that is what is checked. Where a document shows none, its first bad line tells why. The lines of the body
 -- are counted on from those of the head, so from 6 on.
 --
@@ -12,6 +12,7 @@
 use Rattle.std.specs.Prelude.{ℕ, ◌≡◌, ◌⊎◌, List, ◌++◌}
 use Rattle.ml_base.specs.Structure.{Structure}
 use Rattle.ml_base.specs.declared.doc_fault.DocFault.{DocFault}
+use Rattle.ml_base.specs.declared.version.Version.{Version}
 use Rattle.ml_lines.specs.Lines.{text_of}
 use Rattle.ml_kripke.specs.BodyRules.{IsFaultOf}
 use Rattle.ml_kripke.specs.Laws.{IsWritten}
@@ -20,8 +21,9 @@ use Rattle.ml_kripke.specs.Ordered.{IsOrdered}
 use Rattle.ml_front.specs.Head.{head_lines}
 use Rattle.ml_front.specs.declared.answer.Answer.TheVariants.{Satisfiable}
 use Rattle.ml_front.specs.HeadRules.{IsHead, IsHeadFault}
-use Rattle.ml_mu.specs.Problem.{Problem, HoldsAt}
-use Rattle.ml_mu.specs.WellFormed.{IsWellFormed}
+use Rattle.ml_front.specs.Logics.{IsWellFormed}
+use Rattle.ml_front.specs.Problems.{HoldsAt}
+use Rattle.ml_front.specs.declared.problem.Problem.{Problem}
 use Rattle.ml_model_check.specs.declared.checked.Checked.{Checked}
 use Rattle.ml_model_check.specs.declared.checked.Checked.TheVariants.{Holds, Fails, Unreadable, NotTotal, ClosureTooLarge}
 
@@ -30,17 +32,19 @@ abbrev pub first_body_line : ℕ
 first_body_line = 6
 
 pub record IsDocument (text : List ℕ) (p : Problem) (m : Structure) (start : ℕ) : Type 0 where
+  pub version : Version
   pub body : List ℕ
-  pub has_head : IsHead Satisfiable text p body
+  pub has_head : IsHead Satisfiable text version p body
   pub has_body : body ≡ model_text m start
   pub is_written : IsWritten m start
   pub is_ordered : IsOrdered m
 
 -- the first bad line is one of a body behind a head
 pub record IsFaultOfBody (text : List ℕ) (fault : DocFault) : Type 0 where
+  pub version : Version
   pub problem : Problem
   pub body : List ℕ
-  pub has_head : IsHead Satisfiable text problem body
+  pub has_head : IsHead Satisfiable text version problem body
   pub is_fault : IsFaultOf body first_body_line fault
 
 abbrev pub IsDocumentFault : List ℕ → DocFault → Type 0
@@ -81,8 +85,8 @@ SomeCheck = (text : List ℕ) → (c : Checked) × IsCheckedAs text c
 abbrev pub OneCheck : Type 0
 OneCheck = (text : List ℕ) (c d : Checked) → IsCheckedAs text c → IsCheckedAs text d → c ≡ d
 
--- what is written for a well-formed formula, with a structure in order and a start, is read back
+-- what is written for a well-formed formula, with a structure in order and a start, is read back, in either version
 abbrev pub DocumentsReadBack : Type 0
-DocumentsReadBack = (p : Problem) (m : Structure) (start : ℕ)
+DocumentsReadBack = (v : Version) (p : Problem) (m : Structure) (start : ℕ)
     → IsWellFormed p.formula → IsWritten m start → IsOrdered m
-    → IsDocument (text_of (head_lines Satisfiable p) ++ model_text m start) p m start
+    → IsDocument (text_of (head_lines v Satisfiable p) ++ model_text m start) p m start

@@ -2,19 +2,20 @@
 ghost use Rattle.std.specs.Prelude.{IfOk};
 ghost use Rattle.ml_model_check.specs.Checked.{IsCheckedAs};
 
+use crate::check_refusal::CheckRefusal;
 use crate::checked::Checked;
+use crate::holding::holds;
 use ml_base::{DocRefusal, NoMemory};
-use ml_front::{Answer, HeadRefusal, read_head};
+use ml_front::{Answer, read_head};
 use ml_kripke::read_model;
-use ml_mu::holds;
 use std::alloc::Global;
 
 const FIRST_BODY_LINE: u64 = 6;
 
 /// Does the problem of a document hold at the start of the document's structure?
 ///
-/// The document answers `satisfiable`: the five lines of its head, and then the text of a model. It may have any
-/// length.
+/// The document answers `satisfiable`: the five lines of its head, in either version, and then the text of a model. It may
+/// have any length.
 ///
 /// - `Holds` exactly where the bytes are such a document, and its formula, in its sense, holds at the start;
 /// - `Fails` exactly where they are, and it doesn't;
@@ -26,23 +27,25 @@ const FIRST_BODY_LINE: u64 = 6;
 /// # Errors
 /// `NoMemory` alone.
 ///
-/// Cost: linear in the bytes to read them, and then that of `ml_mu::evaluate`.
+/// Cost: linear in the bytes to read them, and then that of `holds`.
 pub fn check_document(alloc: Global, bytes: &[u8]) -> Result<Checked, NoMemory>
     ensures { IfOk result (IsCheckedAs bytes.now) }
 {
     let head = match read_head(alloc, bytes, Answer::Satisfiable) {
         Ok(head) => head,
-        Err(HeadRefusal::Fault(fault)) => return Ok(Checked::Unreadable(fault)),
-        Err(HeadRefusal::NoMemory) => return Err(NoMemory),
+        Err(DocRefusal::Fault(fault)) => return Ok(Checked::Unreadable(fault)),
+        Err(DocRefusal::NoMemory) => return Err(NoMemory),
     };
-    let model = match read_model(alloc, head.body, FIRST_BODY_LINE) {
+    let model = match read_model(alloc, head.rest, FIRST_BODY_LINE) {
         Ok(model) => model,
         Err(DocRefusal::Fault(fault)) => return Ok(Checked::Unreadable(fault)),
         Err(DocRefusal::NoMemory) => return Err(NoMemory),
     };
-    if holds(alloc, &head.formula, &model.structure, model.start)? == head.negated {
-        Ok(Checked::Fails)
-    } else {
-        Ok(Checked::Holds)
+    match holds(alloc, &head.problem, &model.structure, model.start) {
+        Ok(true) => Ok(Checked::Holds),
+        Ok(false) => Ok(Checked::Fails),
+        Err(CheckRefusal::NotTotal(state)) => Ok(Checked::NotTotal(state)),
+        Err(CheckRefusal::ClosureTooLarge) => Ok(Checked::ClosureTooLarge),
+        Err(CheckRefusal::NoMemory) => Err(NoMemory),
     }
 }

@@ -9,7 +9,8 @@ pub fn one_check()
     ensures once { OneCheck }
 {}
 
-/// What is written for a well-formed formula, with a structure in order and a start, is read back as these.
+/// What is written for a well-formed formula, with a structure in order and a start, is read back as these, in either
+/// version.
 pub fn documents_are_read_back()
     ensures { DocumentsReadBack }
 {}

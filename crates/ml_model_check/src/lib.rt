@@ -1,16 +1,21 @@
-// Structures checked from their documents alone.
+// Structures checked: whether a problem holds at a state.
 //
-// `check_document` reads a document that answers `satisfiable`, and computes whether the problem of its head holds at
-// the start of the structure of its body. It trusts nothing of who wrote the document: what it answers is said of the
-// bytes, by the definitions of heads (`ml_front`), of bodies (`ml_kripke`) and of meanings (`ml_mu`).
+// `holds` answers it of a problem of any logic and a structure in hand. `check_document` reads a document that answers
+// `satisfiable`, and answers whether the problem of its head holds at the start of the structure of its body. It trusts
+// nothing of who wrote the document: what it answers is said of the bytes, by the definitions of heads (`ml_front`), of
+// bodies (`ml_kripke`) and of problems (`ml_front`).
 //
-// Below stand `ml_base`, `ml_lines` (lines and words), `ml_front` (heads), `ml_kripke` (bodies) and `ml_mu` (formulas and
-// meanings); above stands the program.
+// Below stand `ml_base`, `ml_lines` (lines and words), `ml_front` (problems and heads), `ml_kripke` (bodies), `ml_mu`
+// (formulas and meanings), `ml_graph` (the checking game) and `ml_parity` (its solver); above stands the program.
 #![tactic(auto)]
 
 mod check;
+mod check_refusal;
 mod checked;
+mod holding;
 pub mod laws;
 
 pub use check::check_document;
+pub use check_refusal::CheckRefusal;
 pub use checked::Checked;
+pub use holding::holds;

@@ -1,13 +1,12 @@
--- Problems: what is asked of a formula, and when the answer is yes.
+-- Problems of the mu-calculus: a formula with a sense, and where it holds.
 --
--- A problem is a formula with a sense. That it holds at a state is a proposition and no test: in other logics
--- it speaks of infinitely many paths, so it can't be computed from its definition there, and one notion serves all.
+-- That a problem holds at a state is a proposition and no test: in other logics it speaks of infinitely many paths, so it
+-- can't be computed from its definition there. What is said of problems of all logics stands in `ml_front`.
 --
---   Problem           == a formula, and whether it is negated
---   HoldsAt m s p     == the problem p holds at the state s of the structure m
---   IsSatisfiable p   == some structure, of any number of states, has a state at which p holds
-use Rattle.std.specs.Prelude.{ℕ, ◌<◌, ◌≡◌, Bool, not, []}
-use Rattle.ml_base.specs.Structure.{Structure, IsStructure, is_member}
+--   Problem        == a formula, and whether it is negated
+--   HoldsAt m s p  == the problem p holds at the state s of the structure m
+use Rattle.std.specs.Prelude.{ℕ, ◌≡◌, Bool, not, []}
+use Rattle.ml_base.specs.Structure.{Structure, is_member}
 use Rattle.ml_mu.specs.Formula.{Formula}
 use Rattle.ml_mu.specs.Meaning.{meaning}
 
@@ -18,6 +17,3 @@ pub record Problem : Type 0 where
 -- a plain problem holds where its formula does, a negated one where its formula doesn't
 abbrev pub HoldsAt : Structure → ℕ → Problem → Type 0
 HoldsAt m s p = is_member (meaning m [] p.formula) s ≡ not p.negated
-
-abbrev pub IsSatisfiable : Problem → Type 0
-IsSatisfiable p = (m : Structure) × IsStructure m × ((s : ℕ) × (s < m.states) × HoldsAt m s p)

@@ -2,6 +2,7 @@
 --
 --   agree           == at each occurrence that stands in a graph whose binders around are cut open
 --   agreement       == of a whole formula: its graph holds at a state exactly where the problem does
+--   graphs_agree    == so graphs agree with formulas
 use Rattle.std.proofs.Common.{◌≡◌, ◌↔◌, ℕ, ◌+◌, ◌*◌, ◌<◌, Bool, true, false, not, [], ◌∷◌, refl, sym, subst, arith}
 use Rattle.ml_base.specs.Structure.{Structure, IsStructure, is_member}
 use Rattle.ml_graph.specs.Graph.{Graph}
@@ -11,6 +12,7 @@ use Rattle.ml_mu.specs.Formula.{Formula, Const, Prop, Var, Not, Binary, Modal, B
 use Rattle.ml_mu.specs.Meaning.{Given, meaning}
 use Rattle.ml_mu.specs.Problem as problem
 use Rattle.ml_mu.specs.Variables.{is_bound, is_positive}
+use Rattle.ml_mu_graph.specs.Laws.{GraphsAgree}
 use Rattle.ml_mu_graph.specs.MuGraph.{binders, Around, IsGraphOf}
 use Rattle.ml_mu_graph.proofs.CutOpen.{cut, marked}
 use Rattle.ml_mu_graph.proofs.CutSituations.{fresh, inner}
@@ -84,3 +86,6 @@ module _ (f : Formula) (g : Graph) (m : Structure) (m_ok : IsStructure m) (bound
       let says = (whole true is).fails s low in
       let turn = not_true (is_member (meaning m [] f) s) in
       subst (λ n. HoldsAt g m s n ↔ (is_member (meaning m [] f) s ≡ false)) (sym is.root_is) (λ h. turn.0 (says.0 h), λ e. says.1 (turn.1 e))
+
+pub graphs_agree : GraphsAgree
+graphs_agree f negated g bound positives is m m_ok s low = agreement f g m m_ok bound positives negated is s low

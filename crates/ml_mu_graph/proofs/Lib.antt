@@ -25,3 +25,5 @@ pub mod Made
 pub mod Binding
 -- the agreement of game and meaning
 pub mod Agreement
+-- the lists of a formula make a graph
+pub mod InRange

@@ -5,12 +5,13 @@ ghost use Rattle.ml_mu.specs.Formula as mu;
 ghost use Rattle.ml_mu.specs.Formula.{occurrences};
 ghost use Rattle.ml_mu.specs.Term.{formula_of};
 ghost use Rattle.ml_mu_graph.specs.MuGraph as graph;
+ghost use Rattle.ml_mu_graph.specs.Laws.{HoldsWhere};
 ghost use Rattle.ml_mu_graph.specs.MuGraph.{IsGraphOf};
 ghost use Rattle.ml_mu_graph.specs.private.NodeList as listed;
 ghost use Rattle.ml_mu_graph.specs.private.Views.{scope_view};
 
 use crate::names::{Names, action, collect, proposition};
-use ml_base::{Name, NoMemory};
+use ml_base::{Action, Name, NoMemory};
 use ml_graph::{ModalGraph, Node};
 use ml_mu::{Formula, Term};
 use ml_text::{MOST_OCCURRENCES, Operator};
@@ -386,17 +387,23 @@ fn root_of(negated: bool) -> u32
     if negated { 1 } else { 0 }
 }
 
-/// The modal graph of a formula, or of its negation.
-///
-/// # Errors
-/// `NoMemory` alone.
-///
-/// Cost: one pass over the formula; a name is looked up among those before it, and a variable among the binders around
-/// it. No call is nested deeper than the formula, which has at most 1,000 occurrences.
-pub fn graph_of(alloc: Global, formula: &Formula, negated: bool) -> Result<ModalGraph, NoMemory>
-    ensures { IfOk result (λ g. IsGraphOf g formula.now negated) }
+// the lists of a graph
+#[derive(Drop)]
+struct Lists {
+    nodes: Vec<Node>,
+    priorities: Vec<u32>,
+    props: Vec<Name>,
+    actions: Vec<Action>,
+}
+
+// the lists of a term's graph
+fn lists_of(alloc: Global, term: &Term) -> Result<Lists, NoMemory>
+    requires { occurrences (formula_of term.now) ≤ MOST_OCCURRENCES }
+    ensures props { IfOk result (λ l. l.props.items ≡ listed.props_onto (formula_of term.now) []) }
+    ensures actions { IfOk result (λ l. l.actions.items ≡ listed.actions_onto (formula_of term.now) []) }
+    ensures nodes { IfOk result (λ l. l.nodes.items ≡ listed.nodes_of l.props.items l.actions.items [] 0 (formula_of term.now)) }
+    ensures priorities { IfOk result (λ l. l.priorities.items ≡ listed.priorities_of (2 * graph.binders (formula_of term.now)) 0 (formula_of term.now)) }
 {
-    let term = formula.root();
     let mut props = Vec::new(alloc);
     let mut actions = Vec::new(alloc);
     collect(term, &mut props, &mut actions)?;
@@ -417,9 +424,34 @@ pub fn graph_of(alloc: Global, formula: &Formula, negated: bool) -> Result<Modal
         0,
         term,
     )?;
-    let Draft { nodes, priorities } = draft;
-    match ModalGraph::build(nodes, priorities, root_of(negated), props, actions) {
+    Ok(Lists {
+        nodes: draft.nodes,
+        priorities: draft.priorities,
+        props,
+        actions,
+    })
+}
+
+/// The modal graph of a formula, or of its negation: it holds exactly where the formula does, or doesn't.
+///
+/// # Errors
+/// `NoMemory` alone.
+///
+/// Cost: one pass over the formula; a name is looked up among those before it, and a variable among the binders around
+/// it. No call is nested deeper than the formula, which has at most 1,000 occurrences.
+pub fn graph_of(alloc: Global, formula: &Formula, negated: bool) -> Result<ModalGraph, NoMemory>
+    ensures graph { IfOk result (λ g. IsGraphOf g formula.now negated) }
+    ensures agrees { IfOk result (λ g. HoldsWhere g (record { formula = formula.now; negated = negated })) }
+{
+    let lists = lists_of(alloc, formula.root())?;
+    match ModalGraph::build(
+        lists.nodes,
+        lists.priorities,
+        root_of(negated),
+        lists.props,
+        lists.actions,
+    ) {
         Ok(graph) => Ok(graph),
-        Err(_) => Err(NoMemory),
+        Err(_) => unreachable!(),
     }
 }

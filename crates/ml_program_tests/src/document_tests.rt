@@ -3,7 +3,15 @@ use ml_base::DocFault;
 use ml_model_check::{Checked, check_document};
 use std::test::Fail;
 
-const GOOD: [(&'static str, Checked); 6] = [
+const GOOD: [(&'static str, Checked); 8] = [
+    (
+        "mlsolver 2\nanswer satisfiable\nlogic mu\nsense plain\nformula <>p\nstates 1\nstart 0\nstate 0 p\nedge 0 _ 0\nend\n",
+        Checked::Holds,
+    ),
+    (
+        "mlsolver 2\nanswer satisfiable\nlogic mu\nsense negated\nformula <>p\nstates 1\nstart 0\nstate 0 p\nedge 0 _ 0\nend\n",
+        Checked::Fails,
+    ),
     (
         "mlsolver 1\nanswer satisfiable\nlogic mu\nsense plain\nformula <>p\nstates 1\nstart 0\nstate 0 p\nedge 0 _ 0\nend\n",
         Checked::Holds,
@@ -34,10 +42,11 @@ const GOOD: [(&'static str, Checked); 6] = [
 const HEAD: &str = "mlsolver 1\nanswer satisfiable\nlogic mu\nsense plain\nformula <>p\n";
 
 // texts that are put behind a head or stand alone, with the first bad line and its rule
-const BROKEN: [(bool, &'static str, u64, u32); 53] = [
+const BROKEN: [(bool, &'static str, u64, u32); 54] = [
     (false, "", 1, 1),
     (false, "mlsolver 1", 1, 1),
-    (false, "mlsolver 2\nanswer satisfiable\n", 1, 1),
+    (false, "mlsolver 3\nanswer satisfiable\n", 1, 1),
+    (false, "mlsolver 2\nanswer satisfiable\n", 3, 1),
     (false, "mlsolver 01\n", 1, 1),
     (false, "mlsolver  1\n", 1, 1),
     (false, "mlsolver 1\r\n", 1, 1),

@@ -1,6 +1,7 @@
 // Tests of texts, documents and the program as a whole. They stand here, above all crates that they call, so that
 // none of those is proved a second time for its tests. Tests of games, traces and histories stand in `ml_tests`.
 //
+//   checking_tests  the meaning of formulas against the checking game, on formulas and structures that look random
 //   document_tests  documents with a structure, readable and broken
 //   kripke_tests    structures, and the texts of models
 //   line_tests      lines written and cut
@@ -10,6 +11,8 @@
 //   text_tests      the tokens of texts
 #![tactic(auto)]
 
+#[cfg(test)]
+mod checking_tests;
 #[cfg(test)]
 mod document_tests;
 #[cfg(test)]

@@ -7,14 +7,21 @@ use std::alloc::{AllocError, Global};
 use std::test::Fail;
 
 const LITERALS: &str =
-    "mlsolver 1\nanswer satisfiable\nlogic mu\nsense plain\nformula (p & !q)\nstates 1\nstart 0\nstate 0 p\nend\n";
+    "mlsolver 2\nanswer satisfiable\nlogic mu\nsense plain\nformula (p & !q)\nstates 1\nstart 0\nstate 0 p\nend\n";
 
 // <>p at a state with an edge to itself
 const CHECKED: &str =
-    "mlsolver 1\nanswer satisfiable\nlogic mu\nsense plain\nformula <>p\nstates 1\nstart 0\nstate 0\nedge 0 _ 0\nend\n";
+    "mlsolver 2\nanswer satisfiable\nlogic mu\nsense plain\nformula <>p\nstates 1\nstart 0\nstate 0\nedge 0 _ 0\nend\n";
 
 // the same where p is true at the state
 const CHECKED_WITH_P: &str =
+    "mlsolver 2\nanswer satisfiable\nlogic mu\nsense plain\nformula <>p\nstates 1\nstart 0\nstate 0 p\nedge 0 _ 0\nend\n";
+
+// both in version 1
+const CHECKED_IN_ONE: &str =
+    "mlsolver 1\nanswer satisfiable\nlogic mu\nsense plain\nformula <>p\nstates 1\nstart 0\nstate 0\nedge 0 _ 0\nend\n";
+
+const CHECKED_WITH_P_IN_ONE: &str =
     "mlsolver 1\nanswer satisfiable\nlogic mu\nsense plain\nformula <>p\nstates 1\nstart 0\nstate 0 p\nedge 0 _ 0\nend\n";
 
 fn words_of(alloc: Global, line: &str) -> Result<Vec<String>, AllocError> {
@@ -56,79 +63,79 @@ fn texts(rt: HostRuntime) -> Result<(), Fail> {
             "decide mu",
             " \t!q\r& p",
             0,
-            "mlsolver 1\nanswer satisfiable\nlogic mu\nsense plain\nformula (!q & p)\nstates 1\nstart 0\nstate 0 p\nend\n",
+            "mlsolver 2\nanswer satisfiable\nlogic mu\nsense plain\nformula (!q & p)\nstates 1\nstart 0\nstate 0 p\nend\n",
         ),
         (
             "decide mu",
             "b & a & !c & aa",
             0,
-            "mlsolver 1\nanswer satisfiable\nlogic mu\nsense plain\nformula (((b & a) & !c) & aa)\nstates 1\nstart 0\nstate 0 a aa b\nend\n",
+            "mlsolver 2\nanswer satisfiable\nlogic mu\nsense plain\nformula (((b & a) & !c) & aa)\nstates 1\nstart 0\nstate 0 a aa b\nend\n",
         ),
         (
             "decide mu",
             "!p",
             0,
-            "mlsolver 1\nanswer satisfiable\nlogic mu\nsense plain\nformula !p\nstates 1\nstart 0\nstate 0\nend\n",
+            "mlsolver 2\nanswer satisfiable\nlogic mu\nsense plain\nformula !p\nstates 1\nstart 0\nstate 0\nend\n",
         ),
         (
             "decide mu",
             "tt",
             0,
-            "mlsolver 1\nanswer satisfiable\nlogic mu\nsense plain\nformula tt\nstates 1\nstart 0\nstate 0\nend\n",
+            "mlsolver 2\nanswer satisfiable\nlogic mu\nsense plain\nformula tt\nstates 1\nstart 0\nstate 0\nend\n",
         ),
         (
             "decide mu",
             "p && q /\\ r",
             0,
-            "mlsolver 1\nanswer satisfiable\nlogic mu\nsense plain\nformula ((p & q) & r)\nstates 1\nstart 0\nstate 0 p q r\nend\n",
+            "mlsolver 2\nanswer satisfiable\nlogic mu\nsense plain\nformula ((p & q) & r)\nstates 1\nstart 0\nstate 0 p q r\nend\n",
         ),
         (
             "decide mu",
             "~(p | q)",
             0,
-            "mlsolver 1\nanswer satisfiable\nlogic mu\nsense plain\nformula !(p | q)\nstates 1\nstart 0\nstate 0\nend\n",
+            "mlsolver 2\nanswer satisfiable\nlogic mu\nsense plain\nformula !(p | q)\nstates 1\nstart 0\nstate 0\nend\n",
         ),
         (
             "decide mu",
             "p & (p -> q)",
             0,
-            "mlsolver 1\nanswer satisfiable\nlogic mu\nsense plain\nformula (p & (p -> q))\nstates 1\nstart 0\nstate 0 p q\nend\n",
+            "mlsolver 2\nanswer satisfiable\nlogic mu\nsense plain\nformula (p & (p -> q))\nstates 1\nstart 0\nstate 0 p q\nend\n",
         ),
         (
             "decide mu",
             "(p <-> q) & !p & (q | r)",
             0,
-            "mlsolver 1\nanswer satisfiable\nlogic mu\nsense plain\nformula (((p <-> q) & !p) & (q | r))\nstates 1\nstart 0\nstate 0 r\nend\n",
+            "mlsolver 2\nanswer satisfiable\nlogic mu\nsense plain\nformula (((p <-> q) & !p) & (q | r))\nstates 1\nstart 0\nstate 0 r\nend\n",
         ),
         (
             "decide mu",
             "ff | p",
             0,
-            "mlsolver 1\nanswer satisfiable\nlogic mu\nsense plain\nformula (ff | p)\nstates 1\nstart 0\nstate 0 p\nend\n",
+            "mlsolver 2\nanswer satisfiable\nlogic mu\nsense plain\nformula (ff | p)\nstates 1\nstart 0\nstate 0 p\nend\n",
         ),
         (
             "decide mu",
             "p & !p",
             1,
-            "mlsolver 1\nanswer unsatisfiable\nlogic mu\nsense plain\nformula (p & !p)\nend\n",
+            "mlsolver 2\nanswer unsatisfiable\nlogic mu\nsense plain\nformula (p & !p)\nend\n",
         ),
         (
             "decide mu",
             "ff",
             1,
-            "mlsolver 1\nanswer unsatisfiable\nlogic mu\nsense plain\nformula ff\nend\n",
+            "mlsolver 2\nanswer unsatisfiable\nlogic mu\nsense plain\nformula ff\nend\n",
         ),
         (
             "decide mu",
             "!(p -> (q -> p))",
             1,
-            "mlsolver 1\nanswer unsatisfiable\nlogic mu\nsense plain\nformula !(p -> (q -> p))\nend\n",
+            "mlsolver 2\nanswer unsatisfiable\nlogic mu\nsense plain\nformula !(p -> (q -> p))\nend\n",
         ),
         (
             "decide mu",
             "(p | q) & (p -> r) & (q -> r) & !r",
             1,
-            "mlsolver 1\nanswer unsatisfiable\nlogic mu\nsense plain\nformula ((((p | q) & (p -> r)) & (q -> r)) & !r)\nend\n",
+            "mlsolver 2\nanswer unsatisfiable\nlogic mu\nsense plain\nformula ((((p | q) & (p -> r)) & (q -> r)) & !r)\nend\n",
         ),
         ("decide mu", "<>p", 4, "refused form\n"),
         ("decide mu", "[] ff", 4, "refused form\n"),
@@ -152,10 +159,18 @@ fn texts(rt: HostRuntime) -> Result<(), Fail> {
         ("", "p", 3, "refused words\n"),
         ("check-model", CHECKED, 1, "fails\n"),
         ("check-model", CHECKED_WITH_P, 0, "holds\n"),
+        ("check-model", CHECKED_IN_ONE, 1, "fails\n"),
+        ("check-model", CHECKED_WITH_P_IN_ONE, 0, "holds\n"),
         ("check-model", LITERALS, 0, "holds\n"),
         (
             "check-model",
             "mlsolver 1\nanswer unsatisfiable\nlogic mu\nsense plain\nformula (mu X. <>X)\nnames 2\nentries 4\nentry 0\nsequent 0\nlive 1\nitem 0 - 0\nheights 0 0 2\ngo 2 1 neutral\nentry 1\nsequent 4\nlive 1\nitem 4 - 0\nitem 4 1 0\nheights 0 0 1\ngo 2 2 neutral\nentry 2\nsequent 4\nlive 2\nitem 4 - 0\nitem 4 1 0 1\nheights 0 0 0\ngo 2 3 green 1\nentry 3\nsequent 4\nlive 2\nitem 4 - 0\nitem 4 1 0 1\nheights 0 0 0\ngo 2 3 green 1\nend\n",
+            4,
+            "refused document line 2 rule 3\n",
+        ),
+        (
+            "check-model",
+            "mlsolver 2\nanswer unsatisfiable\nlogic mu\nsense plain\nformula (mu X. <>X)\nnames 2\nsequents 2\nsequent 0\nsequent 4\nstacks 2\nstack 0\nstack 0 1\nentries 4\nentry 0 0\nlive 1\nitem 0 - 0\nheights 0 0 2\ngo 2 1 neutral\nentry 1 1\nlive 1\nitem 4 - 0\nitem 4 1 0\nheights 0 0 1\ngo 2 2 neutral\nentry 2 1\nlive 2\nitem 4 - 0\nitem 4 1 1\nheights 0 0 0\ngo 2 3 green 1\nentry 3 1\nlive 2\nitem 4 - 0\nitem 4 1 1\nheights 0 0 0\ngo 2 3 green 1\nend\n",
             4,
             "refused document line 2 rule 3\n",
         ),
@@ -187,7 +202,7 @@ fn repeated(alloc: Global, pieces: &[Repeated]) -> Result<Vec<u8>, AllocError> {
     Ok(text)
 }
 
-const HEAD: &[u8] = b"mlsolver 1\nanswer satisfiable\nlogic mu\nsense plain\nformula ";
+const HEAD: &[u8] = b"mlsolver 2\nanswer satisfiable\nlogic mu\nsense plain\nformula ";
 
 const BODY_OF_P: &[u8] = b"\nstates 1\nstart 0\nstate 0 p\nend\n";
 
@@ -251,7 +266,7 @@ fn faults(rt: HostRuntime) -> Result<(), Fail> {
     assert_eq!(rt; taken.len(), 0);
     let (code, taken) = answer(rt.alloc(), "decide mu", text, 10, &[], &[2])?;
     assert_eq!(rt; code, 6);
-    assert_eq!(rt; taken.as_slice(), b"mlsolver 1".as_slice());
+    assert_eq!(rt; taken.as_slice(), b"mlsolver 2".as_slice());
     let (code, taken) = answer(rt.alloc(), "decide", text, 10, &[1], &[1])?;
     assert_eq!(rt; code, 6);
     assert_eq!(rt; taken.len(), 0);

@@ -24,7 +24,7 @@
 --   rules r e part        == what a part of entry e asks of a graph
 --   IsAccepted g r        == each part of each entry of r keeps its rules, in g
 --   IsFirstBad g r e k n  == part k of entry e is the first one that breaks a rule, and n is the lowest one that it breaks
-use Rattle.std.specs.Prelude.{ℕ, ◌*◌, ◌≡◌, ◌<◌, true, List, [], ◌∷◌, ◌++◌, length, get_or, map, All}
+use Rattle.std.specs.Prelude.{ℕ, ◌*◌, ◌≡◌, ◌<◌, List, [], ◌∷◌, ◌++◌, length, get_or, map, All}
 use Rattle.ml_lists.specs.Documents.{Rule, rule, KeepsAll, IsFirstBroken}
 use Rattle.ml_lists.specs.Member.{IsMember}
 use Rattle.ml_parity.specs.Heights.{FallsAlong}
@@ -35,14 +35,14 @@ use Rattle.ml_trace.specs.LabelledLoop.{EachNameStands}
 use Rattle.ml_trace.specs.Marks.{priority}
 use Rattle.ml_trace.specs.NamesCondition.{NamesCondition}
 use Rattle.ml_trace.specs.Stack as traced
-use Rattle.ml_graph.specs.Graph.{Graph, size, node_at, odd_priorities}
+use Rattle.ml_graph.specs.Graph.{Graph, size, odd_priorities}
 use Rattle.ml_sequent.specs.declared.choice.Side.{Side}
 use Rattle.ml_sequent.specs.declared.choice.Side.TheVariants.{Left, Right}
 use Rattle.ml_sequent.specs.declared.clashes.ClashCause.{ClashCause}
 use Rattle.ml_sequent.specs.declared.clashes.ClashCause.TheVariants as cause
 use Rattle.ml_sequent.specs.Choice.{with_side}
-use Rattle.ml_sequent.specs.Spread.{SpreadList, IsSpreadOf, IsOpenOr, IsCause, is_diamond}
-use Rattle.ml_sequent.specs.Step.{IsTarget}
+use Rattle.ml_sequent.specs.Spread.{SpreadList, IsSpreadOf, IsOpenOr, IsCause}
+use Rattle.ml_sequent.specs.Step.{IsDiamondOf, IsTarget}
 use Rattle.ml_refutation.specs.Refutation.{Refutation, Entry, Decision, Split, Clash, Go}
 use Rattle.ml_refutation.specs.GoStep.{HasTransition}
 
@@ -98,7 +98,7 @@ abbrev pub Clashes : List ℕ → List (ℕ × Side) → ClashCause → Graph �
 Clashes sequent c x g = OfSpread g sequent c (λ sp. IsCause g sp x)
 
 abbrev pub LeavesByDiamond : List ℕ → List (ℕ × Side) → ℕ → Graph → Type 0
-LeavesByDiamond sequent c d g = OfSpread g sequent c (λ sp. IsMember d sp.nodes × (is_diamond (node_at g d) ≡ true))
+LeavesByDiamond sequent c d g = OfSpread g sequent c (λ sp. IsDiamondOf g sp d)
 
 abbrev pub LeadsWithinTargets : List ℕ → List (ℕ × Side) → ℕ → List ℕ → Graph → Type 0
 LeadsWithinTargets sequent c d next g = OfSpread g sequent c (λ sp. All (IsTarget g sp d) next)

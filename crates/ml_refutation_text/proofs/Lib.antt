@@ -1,0 +1,30 @@
+-- lists, each once, and their places
+pub mod EachOnce
+-- lines and texts that are written part by part
+pub mod WrittenLines
+-- what stands in a table that is made of lists
+pub mod TableEntries
+-- what is written is a text of the refutation
+pub mod WrittenTexts
+-- lines that are good one behind the other
+pub mod Runs
+-- what the words of written lines are read as
+pub mod ReadWords
+-- the lines of a refutation are good
+pub mod GoodLines
+-- the lines of entries and of a whole body are good
+pub mod GoodEntries
+-- good lines have neither blanks nor LFs in their words
+pub mod PlainLines
+-- a text is of one refutation at most
+pub mod RefutationTexts
+-- whether a line keeps the rules of its place is decided
+pub mod JudgedLines
+-- texts worked out by hand
+mod WorkedTexts
+-- good lines are those of their values
+pub mod ReadLines
+-- what was read so far is what the place keeps
+pub mod Standing
+-- what has no bad line is a text of a refutation
+pub mod ReadableTexts

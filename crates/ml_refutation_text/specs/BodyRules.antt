@@ -38,7 +38,7 @@ use Rattle.ml_sequent.specs.declared.clashes.ClashCause.{ClashCause}
 use Rattle.ml_sequent.specs.declared.clashes.ClashCause.TheVariants.{False, Pair, Cycle}
 use Rattle.ml_refutation.specs.Refutation.{Refutation, Entry, Decision, Split, Clash, Go, IsAbove, IsMarkOf}
 use Rattle.ml_refutation.specs.declared.refutation.TheConstants.{NESTING_LIMIT}
-use Rattle.ml_refutation_text.specs.RefutationText.{Form, InFull, ByTables, end_line}
+use Rattle.ml_refutation_text.specs.RefutationText.{Form, InFull, ByTables}
 use Rattle.ml_refutation_text.specs.LineKinds.{Kind, Fixed, ANumber, AGuess, AnySize, kind, open_kind, IsOfKinds, HaveNumbers}
 use Rattle.ml_refutation_text.specs.declared.body_rule.BodyRule.{BodyRule}
 use Rattle.ml_refutation_text.specs.declared.body_rule.BodyRule.TheVariants.{OfKind, Numbers, HasEntries, NextEntry, SequentAscends, LiveWithin, ItemsAscend, HeightForEach, GoInRange, Nesting, InTables}

@@ -2,9 +2,9 @@
 --
 --   IsRefutationText v t  == t is the text of a refutation in the version v
 --   OneRefutation         == of one refutation at most
---   EachHasText           == each refutation has a text, in each version
---   RefutationOrFault     == a text is that of a refutation, or has a first bad line
---   FaultOrRefutation     == and never both
+--   WrittenIsText         == the text that is written of a refutation is one of it, in each version
+--   ReadableOrFault       == a text has no bad line, or a first one
+--   FaultOrReadable       == and never both
 --   ReadableIsRefutation  == a text has no bad line exactly where it is that of a refutation
 --   OneFault              == a text has one first bad line at most
 use Rattle.std.specs.Prelude.{ℕ, ◌≡◌, ◌↔◌, ◌⊎◌, List}
@@ -12,6 +12,7 @@ use Rattle.ml_base.specs.declared.doc_fault.DocFault.{DocFault}
 use Rattle.ml_base.specs.declared.version.Version.{Version}
 use Rattle.ml_refutation.specs.Refutation.{Refutation, IsRefutation}
 use Rattle.ml_refutation_text.specs.RefutationText.{IsTextOf}
+use Rattle.ml_refutation_text.specs.WrittenText.{IsCounted, written_text}
 use Rattle.ml_refutation_text.specs.BodyRules.{IsFaultOf, IsReadableBody}
 
 abbrev pub IsRefutationText : Version → List ℕ → Type 0
@@ -21,16 +22,16 @@ abbrev pub OneRefutation : Type 0
 OneRefutation = (v : Version) (text : List ℕ) (r s : Refutation)
     → IsRefutation r → IsRefutation s → IsTextOf v text r → IsTextOf v text s → r ≡ s
 
-abbrev pub EachHasText : Type 0
-EachHasText = (v : Version) (r : Refutation) → IsRefutation r → (text : List ℕ) × IsTextOf v text r
+abbrev pub WrittenIsText : Type 0
+WrittenIsText = (v : Version) (r : Refutation) → IsRefutation r → IsCounted v r → IsTextOf v (written_text v r) r
 
-abbrev pub RefutationOrFault : Type 0
-RefutationOrFault = (v : Version) (text : List ℕ) (first : ℕ)
-    → IsRefutationText v text ⊎ ((fault : DocFault) × IsFaultOf v text first fault)
+abbrev pub ReadableOrFault : Type 0
+ReadableOrFault = (v : Version) (text : List ℕ) (first : ℕ)
+    → IsReadableBody v text ⊎ ((fault : DocFault) × IsFaultOf v text first fault)
 
-abbrev pub FaultOrRefutation : Type 0
-FaultOrRefutation = (v : Version) (text : List ℕ) (first : ℕ) (fault : DocFault)
-    → IsRefutationText v text → IsFaultOf v text first fault → ⊥
+abbrev pub FaultOrReadable : Type 0
+FaultOrReadable = (v : Version) (text : List ℕ) (first : ℕ) (fault : DocFault)
+    → IsReadableBody v text → IsFaultOf v text first fault → ⊥
 
 abbrev pub ReadableIsRefutation : Type 0
 ReadableIsRefutation = (v : Version) (text : List ℕ) → IsReadableBody v text ↔ IsRefutationText v text

@@ -8,3 +8,5 @@ pub mod LineKinds
 pub mod BodyRules
 -- laws of these texts
 pub mod Laws
+-- what private contracts cite
+pub mod private

@@ -9,6 +9,8 @@
 --   IsSpelt w          == w spells some number, however great
 --   InSlots, IsOfKind  == the line has the words of the slots; and is of the kind
 --   FitSlots, HasNumbers == what stands for a number is one
+--   IsOfKinds ks l     == l is of one of the kinds ks
+--   HaveNumbers ks l   == of whichever of them it is, it has its numbers
 use Rattle.std.specs.Prelude.{ℕ, ◌≡◌, ◌⊎◌, ⊤, Bool, true, false, List, [], ◌∷◌, codes, All}
 use Rattle.ml_lines.specs.Lines.{Word, Line}
 use Rattle.ml_lines.specs.Reading.{AreWords, IsNumber}
@@ -66,10 +68,12 @@ IsOfKind k line = AreWords line × InSlots k.further k.slots line
 abbrev pub HasNumbers : Kind → Line → Type 0
 HasNumbers k line = FitSlots k.slots line
 
--- of one of these kinds, and with numbers as it has them
+-- of one of these kinds
 abbrev pub IsOfKinds : List Kind → Line → Type 0
 IsOfKinds [] line = ⊥
 IsOfKinds (k ∷ kinds) line = IsOfKind k line ⊎ IsOfKinds kinds line
 
+-- whichever of the kinds the line is of, it has its numbers
 abbrev pub HaveNumbers : List Kind → Line → Type 0
-HaveNumbers kinds line = All (λ k. IsOfKind k line → HasNumbers k line) kinds
+HaveNumbers [] line = ⊤
+HaveNumbers (k ∷ kinds) line = (IsOfKind k line → HasNumbers k line) × HaveNumbers kinds line

@@ -5,14 +5,18 @@
 --
 --   each_once xs           == the lists xs, each once, in the order in which they come first
 --   place_in xs x          == the place of x in xs
---   sequents_of r, stacks_of r == the sequents of the entries, and the stacks of their items, each once
+--   sequents_of es, stacks_of es == the sequents of the entries es, and the stacks of their items, each once
 --   Writing                == how the first lines of an entry and the words for a stack are written
 --   in_full, by_tables qs ks == in full; by the places in these tables
 --   entry_lines W i e      == the lines of the entry e, whose number is i
 --   entries_lines W i es   == those of the entries es, numbered from i on
+--   table_lines qs ks      == the lines of these tables, with their numbers
+--   last_lines W es        == the entries es with their number, and the end
+--   lines_by_tables es     == the tables of the entries es, and then these by their places there
 --   written_lines v r      == the lines of the body of r
 --   written_text v r       == these lines as bytes
-use Rattle.std.specs.Prelude.{ℕ, ◌+◌, List, [], ◌∷◌, ◌++◌, map, length, fold, if◌then◌else◌}
+--   IsCounted v r          == what is counted in the version v has a number of 64 bits
+use Rattle.std.specs.Prelude.{ℕ, ◌+◌, ◌<◌, ◌^◌, ⊤, List, [], ◌∷◌, ◌++◌, map, length, fold, if◌then◌else◌}
 use Rattle.std.specs.List.{flat_map, list_any, position_or_len}
 use Rattle.std.specs.Str.{bytes_eq}
 use Rattle.ml_base.specs.declared.version.Version.{Version}
@@ -35,11 +39,11 @@ place_in known x = position_or_len (bytes_eq x) known
 abbrev pub used_stacks : Entry → List (List ℕ)
 used_stacks e = map (λ a. a.stack) e.traces.items
 
-abbrev pub sequents_of : Refutation → List (List ℕ)
-sequents_of r = each_once (map (λ e. e.sequent) r.entries)
+abbrev pub sequents_of : List Entry → List (List ℕ)
+sequents_of entries = each_once (map (λ e. e.sequent) entries)
 
-abbrev pub stacks_of : Refutation → List (List ℕ)
-stacks_of r = each_once (flat_map used_stacks r.entries)
+abbrev pub stacks_of : List Entry → List (List ℕ)
+stacks_of entries = each_once (flat_map used_stacks entries)
 
 -- ---- lines
 
@@ -74,11 +78,19 @@ table_lines sequents stacks =
 abbrev pub last_lines : Writing → List Entry → List Line
 last_lines W entries = entries_line (length entries) ∷ (entries_lines W 0 entries ++ end_line ∷ [])
 
+-- the tables, and then the entries by their places there
+abbrev pub lines_by_tables : List Entry → List Line
+lines_by_tables entries =
+    table_lines (sequents_of entries) (stacks_of entries)
+    ++ last_lines (by_tables (sequents_of entries) (stacks_of entries)) entries
+
 abbrev pub written_lines : Version → Refutation → List Line
 written_lines One r = names_line r.names ∷ last_lines in_full r.entries
-written_lines Two r =
-    names_line r.names
-    ∷ (table_lines (sequents_of r) (stacks_of r) ++ last_lines (by_tables (sequents_of r) (stacks_of r)) r.entries)
+written_lines Two r = names_line r.names ∷ lines_by_tables r.entries
 
 abbrev pub written_text : Version → Refutation → List ℕ
 written_text v r = text_of (written_lines v r)
+
+abbrev pub IsCounted : Version → Refutation → Type 0
+IsCounted One r = ⊤
+IsCounted Two r = length (stacks_of r.entries) < 2 ^ 64

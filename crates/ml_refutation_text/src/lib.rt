@@ -8,5 +8,9 @@
 #![tactic(auto)]
 
 mod body_rule;
+pub mod laws;
+mod tables;
+mod writing;
 
 pub use body_rule::BodyRule;
+pub use writing::{append_refutation, write};

@@ -233,10 +233,10 @@ module _ (board : Board) where
       go_on : (c : List (ℕ × Side)) → Chosen c t → (d f : ℕ) (k : Mark) → f < length r.entries → IsMarkOf r.names k
           → KeepsAll (rules r e (Decided (record { choice = c; decision = Go d f k }))) g
           → Leads e t
-      go_on c agrees d f k f_low fits keeps = along (diamond_of (node_at g d) keeps.0.holds.1)
+      go_on c agrees d f k f_low fits keeps = along (diamond_of (node_at g d) keeps.0.holds.holds)
         where
           won_d : Won t d
-          won_d = spread_won c agrees keeps.0.spread keeps.0.is_spread d keeps.0.holds.0
+          won_d = spread_won c agrees keeps.0.spread keeps.0.is_spread d keeps.0.holds.member
 
           along : ((a : ℕ) × ((to : ℕ) × (node_at g d ≡ node.Diamond a to))) → Leads e t
           along is = record {
@@ -280,7 +280,8 @@ module _ (board : Board) where
               won_target : (n : ℕ) → IsTarget g keeps.1.0.spread d n → Won edge.state n
               won_target n target =
                   let here = won_leaving keeps.1.0.spread keeps.1.0.is_spread target.leaving n target.leads in
-                  let next = leaves_to t d is.0 is.1.0 t_low won_d is.1.1 edge keeps.1.0.spread target.leaving n here.is_node target.leads in
+                  let sp = keeps.1.0.spread in
+                  let next = leaves_to t d is.0 is.1.0 t_low won_d is.1.1 edge sp target.leaving n here.is_node target.leads in
                   record {
                     is_node = next.is_node;
                     wins = won_behind (checking_game g m) Even board.strategy (at t target.leaving)
@@ -300,7 +301,8 @@ module _ (board : Board) where
               play p q accepting a =
                   let sp = keeps.1.1.0.spread in
                   let here = won_leaving sp keeps.1.1.0.is_spread a.is_trace.leaving a.trace.to a.is_trace.leads in
-                  let next = leaves_to t d is.0 is.1.0 t_low won_d is.1.1 edge sp a.is_trace.leaving a.trace.to here.is_node a.is_trace.leads in
+                  let next = leaves_to t d is.0 is.1.0 t_low won_d is.1.1 edge sp a.is_trace.leaving a.trace.to here.is_node
+                  a.is_trace.leads in
                   let local = subst
                   (λ x. LocalWalk g x a.trace.from a.trace.lowest a.is_trace.leaving) keeps.1.1.0.is_spread.choice a.is_trace.walk in
                   let walk = walk_to board c t t_low agrees a.trace.from a.trace.lowest a.is_trace.leaving

@@ -10,3 +10,5 @@ pub mod EntryLoops
 pub mod WorkedRefutations
 -- one first bad part at most
 pub mod OneFault
+-- problems whose graph a refutation is accepted for
+pub mod Refuted

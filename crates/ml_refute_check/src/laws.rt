@@ -1,5 +1,6 @@
 // Laws about the definitions alone: empty functions, each of whose contract is a theorem.
 
+ghost use Rattle.ml_refute_check.specs.Problems.{RefutedIsUnsatisfiable};
 ghost use Rattle.ml_refute_check.specs.Soundness.{AcceptedHoldsNowhere, FaultOrAccepted, OneFault, RulesRise};
 
 /// Where a refutation breaks no rule in a graph, the graph holds at no state of any structure. Graphs, refutations and
@@ -18,4 +19,13 @@ pub fn one_fault()
     ensures exclusive { FaultOrAccepted }
     ensures fault { OneFault }
     ensures lowest { RulesRise }
+{}
+
+/// Of a problem whose formula means something by its logic (in the mu-calculus: its variables are bound and positive):
+/// where a refutation breaks no rule in its graph, no admitted structure, of any number of states, has a state at which
+/// the problem holds.
+///
+/// Does nothing when called.
+pub fn refuted_is_unsatisfiable()
+    ensures { RefutedIsUnsatisfiable }
 {}

@@ -1,10 +1,9 @@
 -- Clashes: what the searches for each kind of cause say of causes.
 --
---   on_cycle        == a search behind a node that comes back to it, and the other way round
 --   false_cause, pair_cause, cycle_cause == the first of each kind is the first cause, where none of an earlier kind is
 --   negatives_same, negatives_noted == the first negative literals of one node more
 --   no_cause        == where there is none of any kind, there is no cause
-use Rattle.std.proofs.Common.{ℕ, ◌≡◌, ◌<◌, ◌==◌, ◌⊎◌, inl, inr, ◌↔◌, Bool, true, false, ◌+◌, List, [], ◌∷◌, length, get_or, take, find, Option, Some, None, refl, sym, ap, ◌∙◌, arith}
+use Rattle.std.proofs.Common.{ℕ, ◌≡◌, ◌<◌, ◌==◌, ◌⊎◌, inl, inr, Bool, true, false, ◌+◌, List, [], ◌∷◌, length, get_or, take, find, Option, Some, None, refl, sym, ap, ◌∙◌, arith}
 use Rattle.std.proofs.lemmas.Bool.{cases_eq, eqb-true, cond-true, cond-false}
 use Rattle.std.proofs.lemmas.List.{take_more}
 use Rattle.std.proofs.lemmas.List.Folds.{find-append}
@@ -14,27 +13,13 @@ use Rattle.ml_lists.specs.Ascending.{IsAscending}
 use Rattle.ml_lists.specs.Member.{IsMember}
 use Rattle.ml_graph.specs.declared.node.Node.{Node}
 use Rattle.ml_graph.specs.declared.node.Node.TheVariants as node
-use Rattle.ml_graph.specs.Graph.{Graph, IsGraph, size, node_at, priority_at}
+use Rattle.ml_graph.specs.Graph.{Graph, IsGraph, size, node_at}
 use Rattle.ml_graph.proofs.References.{prop_in_range}
-use Rattle.ml_sequent.specs.declared.choice.Side.{Side}
 use Rattle.ml_sequent.specs.declared.clashes.ClashCause.{ClashCause}
 use Rattle.ml_sequent.specs.declared.clashes.ClashCause.TheVariants as cause
-use Rattle.ml_sequent.specs.LocalWalk.{children}
-use Rattle.ml_sequent.specs.Spread.{SpreadList, IsCause, IsFirstCause, IsPair, OnCycle, IsOddCycle, comes_before}
-use Rattle.ml_sequent.specs.private.Search.{mark, HasReached}
+use Rattle.ml_sequent.specs.Spread.{SpreadList, IsCause, IsFirstCause, IsPair, IsOddCycle, comes_before}
 use Rattle.ml_sequent.specs.private.Tests.{is_false, is_negative, negative_sign, negative_of, partner, partner_of, positive_prop, negative_prop, if_positive, if_negative, HasNegatives, IsFirstPair, IsFirstOddCycle}
 use Rattle.ml_sequent.proofs.Firsts.{FoundFirst, found_first, found_none}
-
--- ---- cycles
-
--- a search behind a node through nodes of no lower priority comes back to it exactly if it is on a cycle
-pub on_cycle : (g : Graph) (c : List (ℕ × Side)) (n : ℕ) (marks : List Bool)
-    → HasReached g c (priority_at g n) (children g c n) marks
-    → (mark marks n ≡ true) ↔ OnCycle g c n
-on_cycle g c n marks has = (
-  (λ h. let r = (has.marked n).0 h in record { next = r.from; child = r.member; lowest = r.lowest; walk = r.walk; high = r.high }),
-  (λ o. (has.marked n).1 (record { from = o.next; member = o.child; lowest = o.lowest; walk = o.walk; high = o.high })),
-)
 
 -- ---- nodes by tests
 

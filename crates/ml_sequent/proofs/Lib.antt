@@ -1,11 +1,9 @@
 -- local walks
 pub mod LocalWalks
--- the search along local walks
-pub mod Searching
 -- choices, as lists of pairs
 pub mod Choices
--- marked numbers, and the spread that they are
-pub mod Marked
+-- spreads, and what callers have in hand
+pub mod OwnSpreads
 -- the first node of an ascending list with a property
 pub mod Firsts
 -- causes of clashes
@@ -20,3 +18,7 @@ pub mod RankedWalks
 pub mod Traces
 -- what a search from a sequent found is its spread
 pub mod SpreadFound
+-- what callers have in hand meets what a step asks
+pub mod StepPremises
+-- searches with a floor, and closed local walks
+pub mod Floors

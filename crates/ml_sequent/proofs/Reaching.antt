@@ -11,7 +11,7 @@
 --   found_low        == what a search found are places of the graph
 --   some_rank        == a graph with a node has a rank
 --   finished         == what a finished search answers
---   visited_two, visited_more == two places, and the places of one node more
+--   visited_two, visited_more == places in two parts, and the places of one node more
 --   search_begins    == when the first places are visited
 --   search_goes_on   == when the places behind one more are visited
 --   search_ends      == when all that was found went on
@@ -199,15 +199,15 @@ visited_old found v h = record { new = []; grown = sym (append-nil found); all =
 pub visited_new : (found : List Visit) (v : Visit) → IsVisited (v ∷ []) found (found ++ v ∷ [])
 visited_new found v = record { new = v ∷ []; grown = refl; all = λ k h. member-append_right k found (v ∷ []) h; only = λ k h. h }
 
--- two places, where the second visit is the answer
-pub visited_two : {T E : Type 0} → (v w : Visit) (ks found found2 found3 : List Visit) (answer : Result T E)
-    → IsVisited (v ∷ []) found found2
-    → OnOk answer (IsVisited (w ∷ []) found2 found3)
-    → ks ≡ v ∷ w ∷ []
+-- places in two parts, where the second visit is the answer
+pub visited_two : {T E : Type 0} → (as' bs ks found found2 found3 : List Visit) (answer : Result T E)
+    → IsVisited as' found found2
+    → OnOk answer (IsVisited bs found2 found3)
+    → ks ≡ as' ++ bs
     → OnOk answer (IsVisited ks found found3)
-visited_two v w ks found found2 found3 (Ok u) one two is =
-    subst (λ js. IsVisited js found found3) (sym is) (visited_join (v ∷ []) (w ∷ []) found found2 found3 one two)
-visited_two v w ks found found2 found3 (Err e) one two is = two
+visited_two as' bs ks found found2 found3 (Ok u) one two is =
+    subst (λ js. IsVisited js found found3) (sym is) (visited_join as' bs found found2 found3 one two)
+visited_two as' bs ks found found2 found3 (Err e) one two is = two
 
 -- what was found stays
 pub visited_kept : (ks found found2 : List Visit)

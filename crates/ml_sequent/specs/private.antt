@@ -1,5 +1,3 @@
--- the search along local walks
-pub mod Search
 -- tests of nodes, and the first node of a list that passes one
 pub mod Tests
 -- local children as the program gives them

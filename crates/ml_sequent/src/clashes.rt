@@ -6,10 +6,13 @@ ghost use Rattle.ml_lists.specs.Member.{IsMember};
 ghost use Rattle.ml_graph.specs.Graph.{size, node_at};
 ghost use Rattle.ml_sequent.specs.declared.clashes.ClashCause.{ClashCause};
 ghost use Rattle.ml_sequent.specs.Spread.{IsSpread, IsCause, IsFirstCause, IsOddCycle};
+ghost use Rattle.ml_sequent.specs.private.Reach.{IsRanked, HasRoom};
 ghost use Rattle.ml_sequent.specs.private.Tests.{is_false, negative_prop, positive_prop, partner, HasNegatives, IsFirstPair, IsFirstOddCycle};
 
 use crate::choice::Choice;
-use crate::search::reached_behind;
+use crate::levels::Levels;
+use crate::phase::LocalPhase;
+use crate::reach::{Reach, Visit, reach_behind};
 use crate::spreads::Spread;
 use ml_base::NoMemory;
 use ml_graph::{ModalGraph, Node};
@@ -139,59 +142,68 @@ fn first_pair(
 
 /// Does the node have an odd priority, and lie on a closed local walk through nodes of no lower priority?
 fn on_odd_cycle(
-    alloc: Global,
     graph: &ModalGraph,
     choice: &Choice,
+    levels: &Levels,
     node: u32,
+    reach: &mut Reach,
 ) -> Result<bool, NoMemory>
-    requires { node < size graph.now }
-    ensures { IfOk result (λ b. IsTrue b ↔ IsOddCycle graph.now choice.now node) }
+    requires node { node < size graph.now }
+    requires ranked { IsRanked graph.now levels.now }
+    requires room { HasRoom graph.now levels.now reach.old }
+    ensures room { HasRoom graph.now levels.now reach.new }
+    ensures cycle { IfOk result (λ b. IsTrue b ↔ IsOddCycle graph.now choice.now node) }
 {
-    let priority = graph.priority(node);
-    if priority % 2 == 0 {
+    let _size = graph.size();
+    if graph.priority(node) % 2 == 0 {
         return Ok(false);
     }
-    let marks = reached_behind(alloc, graph, choice, priority, node)?;
-    Ok(marks.get(node as usize) == Some(&true))
+    reach_behind(graph, choice, levels, node, reach)?;
+    Ok(reach.has(Visit {
+        node,
+        rank: levels.rank(node),
+    }))
 }
 
 /// The first such node among these.
 fn first_cycle(
-    alloc: Global,
     graph: &ModalGraph,
     choice: &Choice,
+    levels: &Levels,
     nodes: &[u32],
+    reach: &mut Reach,
 ) -> Result<Option<u32>, NoMemory>
     requires low { All (λ n. n < size graph.now) nodes.now }
     requires ascends { IsAscending nodes.now }
-    ensures { IfOk result (λ found. MatchOption
+    requires ranked { IsRanked graph.now levels.now }
+    requires room { HasRoom graph.now levels.now reach.old }
+    ensures room { HasRoom graph.now levels.now reach.new }
+    ensures first { IfOk result (λ found. MatchOption
         found
         ((n : ℕ) → IsMember n nodes.now → ¬ (IsOddCycle graph.now choice.now n))
         (IsFirstOddCycle graph.now choice.now nodes.now)) }
 {
     for node in nodes {
-        if on_odd_cycle(alloc, graph, choice, *node)? {
+        if on_odd_cycle(graph, choice, levels, *node, reach)? {
             return Ok(Some(*node));
         }
     }
     Ok(None)
 }
 
-/// Why the spread clashes: the first cause in the order of variants, and in each by the numbers; `None` exactly where it
-/// doesn't clash.
-///
-/// # Errors
-/// `NoMemory` alone.
-///
-/// Cost: linear in the spread and the propositions of the graph, and linear in the graph for each node of odd priority in
-/// the spread.
-pub fn clash(
+/// Why the spread clashes, by searches.
+pub(crate) fn clash_by(
     alloc: Global,
     graph: &ModalGraph,
+    levels: &Levels,
+    reach: &mut Reach,
     spread: &Spread,
 ) -> Result<Option<ClashCause>, NoMemory>
-    requires { IsSpread graph.now spread.now }
-    ensures { IfOk result (λ found. MatchOption
+    requires spread { IsSpread graph.now spread.now }
+    requires ranked { IsRanked graph.now levels.now }
+    requires room { HasRoom graph.now levels.now reach.old }
+    ensures room { HasRoom graph.now levels.now reach.new }
+    ensures cause { IfOk result (λ found. MatchOption
         found
         ((x : ClashCause) → ¬ (IsCause graph.now spread.now x))
         (IsFirstCause graph.now spread.now)) }
@@ -203,8 +215,29 @@ pub fn clash(
     if let Some(pair) = first_pair(alloc, graph, nodes)? {
         return Ok(Some(ClashCause::Pair(pair.0, pair.1)));
     }
-    match first_cycle(alloc, graph, spread.choice(), nodes)? {
+    match first_cycle(graph, spread.choice(), levels, nodes, reach)? {
         Some(node) => Ok(Some(ClashCause::Cycle(node))),
         None => Ok(None),
     }
+}
+
+/// Why the spread clashes: the first cause in the order of variants, and in each by the numbers; `None` exactly where it
+/// doesn't clash.
+///
+/// # Errors
+/// `NoMemory` alone.
+///
+/// Cost: that of a local phase, and then that of its clash.
+pub fn clash(
+    alloc: Global,
+    graph: &ModalGraph,
+    spread: &Spread,
+) -> Result<Option<ClashCause>, NoMemory>
+    requires { IsSpread graph.now spread.now }
+    ensures { IfOk result (λ found. MatchOption
+        found
+        ((x : ClashCause) → ¬ (IsCause graph.now spread.now x))
+        (IsFirstCause graph.now spread.now)) }
+{
+    LocalPhase::new(alloc, graph)?.clash(spread)
 }

@@ -6,6 +6,8 @@
 // The calls to know:
 // - `spread` makes the spread of a sequent under a choice.
 // - `clash` says why a spread can't hold, `open_or` where a side is still to be chosen, `diamonds` what leads on.
+// - `step` goes on along a diamond, to the next sequent, and tells the local traces.
+// - `LocalPhase` has the same calls for many spreads of one graph, and lends them its memory.
 //
 // Below stand `ml_graph`, for graphs, and `ml_trace`, whose letters are made of local traces. Above stand the decision
 // game, which asks these calls of each position, and the checker of refutations.
@@ -20,7 +22,6 @@ mod making;
 mod phase;
 mod questions;
 mod reach;
-mod search;
 mod sequent;
 mod sets;
 mod spreads;

@@ -1,12 +1,15 @@
 // The local phase of one graph, with memory that serves many calls.
-ghost use Rattle.std.specs.Prelude.{◌≡◌, ◌<◌, IfOk, All};
-ghost use Rattle.ml_graph.specs.Graph.{size};
-ghost use Rattle.ml_sequent.specs.Spread.{IsSpread, IsSpreadOf};
+ghost use Rattle.std.specs.Prelude.{◌≡◌, ◌<◌, ℕ, IfOk, MatchOption, All, filter};
+ghost use Rattle.ml_graph.specs.Graph.{size, node_at};
+ghost use Rattle.ml_sequent.specs.Spread.{IsSpread, IsSpreadOf, IsCause, IsFirstCause, IsOpenOr, IsLeastOpenOr, is_diamond};
+ghost use Rattle.ml_sequent.specs.declared.clashes.ClashCause.{ClashCause};
 ghost use Rattle.ml_sequent.specs.Step.{IsDiamondOf, IsStep};
 
 use crate::choice::Choice;
+use crate::clashes::{ClashCause, clash_by};
 use crate::levels::Levels;
 use crate::making::spread_by;
+use crate::questions::{diamonds, open_or};
 use crate::reach::Reach;
 use crate::sequent::Sequent;
 use crate::spreads::Spread;
@@ -107,5 +110,52 @@ impl<'a> LocalPhase<'a> {
             spread,
             diamond,
         )
+    }
+
+    /// As the function `clash`.
+    ///
+    /// # Errors
+    /// `NoMemory` alone.
+    ///
+    /// Cost: linear in the spread and the propositions of the graph, and, for each node of odd priority in the spread,
+    /// linear in what it reaches through nodes of no lower priority.
+    pub fn clash(&mut self, spread: &Spread) -> Result<Option<ClashCause>, NoMemory>
+        requires { IsSpread self.old spread.now }
+        ensures graph { self.new ≡ self.old }
+        ensures cause { IfOk result (λ found. MatchOption
+            found
+            ((x : ClashCause) → ¬ (IsCause self.old spread.now x))
+            (IsFirstCause self.old spread.now)) }
+    {
+        clash_by(
+            self.alloc,
+            self.graph,
+            &self.levels,
+            &mut self.reach,
+            spread,
+        )
+    }
+
+    /// As the function `open_or`.
+    ///
+    /// Cost: linear in the spread times the logarithm of the choice. It takes no memory.
+    pub fn open_or(&self, spread: &Spread) -> Option<u32>
+        requires { IsSpread self.now spread.now }
+        ensures { MatchOption result ((n : ℕ) → ¬ (IsOpenOr self.now spread.now n)) (IsLeastOpenOr self.now spread.now) }
+    {
+        open_or(self.graph, spread)
+    }
+
+    /// As the function `diamonds`.
+    ///
+    /// # Errors
+    /// `NoMemory` alone.
+    ///
+    /// Cost: linear in the spread.
+    pub fn diamonds(&self, spread: &Spread) -> Result<Vec<u32>, NoMemory>
+        requires { IsSpread self.now spread.now }
+        ensures { IfOk result (λ diamonds. diamonds.items ≡ filter (λ n. is_diamond (node_at self.now n)) spread.now.nodes) }
+    {
+        diamonds(self.alloc, self.graph, spread)
     }
 }

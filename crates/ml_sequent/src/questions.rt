@@ -22,7 +22,7 @@ fn is_open(graph: &ModalGraph, choice: &Choice, node: u32) -> bool
 
 /// The least or-node of the spread for which no side was chosen; `None` exactly where there is none.
 ///
-/// Cost: linear in the spread times the choice. It takes no memory.
+/// Cost: linear in the spread times the logarithm of the choice. It takes no memory.
 pub fn open_or(graph: &ModalGraph, spread: &Spread) -> Option<u32>
     requires { IsSpread graph.now spread.now }
     ensures { MatchOption result ((n : ℕ) → ¬ (IsOpenOr graph.now spread.now n)) (IsLeastOpenOr graph.now spread.now) }

@@ -1,10 +1,10 @@
 // The search along local walks: it visits each place once, and its memory serves many searches.
-ghost use Rattle.std.specs.Prelude.{◌≡◌, ◌+◌, ◌*◌, ◌<◌, ◌≤◌, ℕ, true, List, [], ◌∷◌, IfOk, OnOk, length, map, All};
+ghost use Rattle.std.specs.Prelude.{◌≡◌, ◌+◌, ◌*◌, ◌<◌, ◌≤◌, ℕ, true, List, [], ◌∷◌, IfOk, OnOk, IsTrue, ◌↔◌, length, get_or, map, All};
 ghost use Rattle.ml_lists.specs.Member.{IsMember};
 ghost use Rattle.ml_graph.specs.Graph.{size};
 ghost use Rattle.ml_sequent.specs.LocalWalk.{children};
 ghost use Rattle.ml_sequent.specs.declared.reach.Visit.{Visit};
-ghost use Rattle.ml_sequent.specs.private.Reach.{mark, code, onto, onward, unranked, ranked, IsVisited, IsSearch, HasReached, IsRanked, HasRoom};
+ghost use Rattle.ml_sequent.specs.private.Reach.{mark, code, onto, onward, above, behind, unranked, ranked, IsVisited, IsSearch, HasReached, IsRanked, HasRoom};
 
 use crate::children::{LocalChildren, children};
 use crate::choice::Choice;
@@ -80,6 +80,15 @@ impl Reach {
         Ok(())
     }
 
+    /// Was the place found?
+    pub fn has(&self, visit: Visit) -> bool
+        requires rank { visit.rank < self.now.width }
+        requires room { self.now.width * visit.node + visit.rank < self.now.room }
+        ensures { IsTrue result ↔ IsMember visit self.now.found }
+    {
+        self.marks[self.width * visit.node as usize + visit.rank as usize]
+    }
+
     /// What was found.
     pub fn found(&self) -> &[Visit]
         ensures value { result.now ≡ self.now.found }
@@ -102,29 +111,35 @@ fn unmark(width: usize, found: &[Visit], marks: &mut Vec<bool>)
     }
 }
 
-/// Visits the place at a node that is entered with a rank.
+/// Visits the place at a node that is entered with a rank, unless its rank is below the floor.
 fn visit_onto(
+    graph: &ModalGraph,
     levels: &Levels,
+    floor: u32,
     rank: u32,
     node: u32,
     reach: &mut Reach,
-    graph: &ModalGraph,
 ) -> Result<(), NoMemory>
     requires node { node < size graph.now }
     requires ranked { IsRanked graph.now levels.now }
     requires room { HasRoom graph.now levels.now reach.old }
     ensures room { HasRoom graph.now levels.now reach.new }
-    ensures visited { OnOk result (IsVisited (onto levels.now.ranks rank node ∷ []) reach.old.found reach.new.found) }
+    ensures visited { OnOk result (IsVisited (above floor (onto levels.now.ranks rank node ∷ [])) reach.old.found reach.new.found) }
 {
+    let _size = graph.size();
     let rank = rank.min(levels.rank(node));
+    if rank < floor {
+        return Ok(());
+    }
     reach.visit(Visit { node, rank })
 }
 
-/// Visits the places to which the search goes on.
+/// Visits the places to which the search goes on, but for those with ranks below the floor.
 fn go_on(
     graph: &ModalGraph,
     choice: &Choice,
     levels: &Levels,
+    floor: u32,
     visit: Visit,
     reach: &mut Reach,
 ) -> Result<(), NoMemory>
@@ -132,14 +147,14 @@ fn go_on(
     requires ranked { IsRanked graph.now levels.now }
     requires room { HasRoom graph.now levels.now reach.old }
     ensures room { HasRoom graph.now levels.now reach.new }
-    ensures visited { OnOk result (IsVisited (onward graph.now choice.now levels.now.ranks visit) reach.old.found reach.new.found) }
+    ensures visited { OnOk result (IsVisited (behind graph.now choice.now levels.now.ranks floor visit) reach.old.found reach.new.found) }
 {
     match children(graph, choice, visit.node) {
         LocalChildren::Leaf => Ok(()),
-        LocalChildren::One(child) => visit_onto(levels, visit.rank, child, reach, graph),
+        LocalChildren::One(child) => visit_onto(graph, levels, floor, visit.rank, child, reach),
         LocalChildren::Two(left, right) => {
-            visit_onto(levels, visit.rank, left, reach, graph)?;
-            visit_onto(levels, visit.rank, right, reach, graph)
+            visit_onto(graph, levels, floor, visit.rank, left, reach)?;
+            visit_onto(graph, levels, floor, visit.rank, right, reach)
         }
     }
 }
@@ -149,19 +164,20 @@ fn finish(
     graph: &ModalGraph,
     choice: &Choice,
     levels: &Levels,
+    floor: u32,
     reach: &mut Reach,
 ) -> Result<(), NoMemory>
     requires ranked { IsRanked graph.now levels.now }
     requires room { HasRoom graph.now levels.now reach.old }
     ensures room { HasRoom graph.now levels.now reach.new }
     ensures reached { OnOk result ((C : List Visit)
-        → IsSearch (onward graph.now choice.now levels.now.ranks) C 0 reach.old.found
-        → HasReached (onward graph.now choice.now levels.now.ranks) C reach.new.found) }
+        → IsSearch (behind graph.now choice.now levels.now.ranks floor) C 0 reach.old.found
+        → HasReached (behind graph.now choice.now levels.now.ranks floor) C reach.new.found) }
 {
     let mut i = 0;
     while i < reach.found().len() {
         let visit = reach.found()[i];
-        go_on(graph, choice, levels, visit, reach)?;
+        go_on(graph, choice, levels, floor, visit, reach)?;
         i += 1;
     }
     Ok(())
@@ -188,7 +204,7 @@ pub(crate) fn reach_all(
             rank: 0,
         })?;
     }
-    finish(graph, choice, levels, reach)
+    finish(graph, choice, levels, 0, reach)
 }
 
 /// Finds what local walks reach from a node, with the ranks of the lowest priorities on them.
@@ -210,5 +226,36 @@ pub(crate) fn reach_from(
         node,
         rank: levels.rank(node),
     })?;
-    finish(graph, choice, levels, reach)
+    finish(graph, choice, levels, 0, reach)
+}
+
+/// Finds what local walks reach from the children of a node through nodes of no lower priority; each place that it finds
+/// has the rank of the node.
+pub(crate) fn reach_behind(
+    graph: &ModalGraph,
+    choice: &Choice,
+    levels: &Levels,
+    node: u32,
+    reach: &mut Reach,
+) -> Result<(), NoMemory>
+    requires node { node < size graph.now }
+    requires ranked { IsRanked graph.now levels.now }
+    requires room { HasRoom graph.now levels.now reach.old }
+    ensures room { HasRoom graph.now levels.now reach.new }
+    ensures reached { OnOk result (HasReached
+        (behind graph.now choice.now levels.now.ranks (get_or levels.now.ranks node 0))
+        (behind graph.now choice.now levels.now.ranks (get_or levels.now.ranks node 0) (ranked levels.now.ranks node))
+        reach.new.found) }
+{
+    reach.clear();
+    let floor = levels.rank(node);
+    go_on(
+        graph,
+        choice,
+        levels,
+        floor,
+        Visit { node, rank: floor },
+        reach,
+    )?;
+    finish(graph, choice, levels, floor, reach)
 }

@@ -14,7 +14,7 @@ use Rattle.ml_base.specs.Structure.{Structure, IsStructure}
 use Rattle.ml_kripke.specs.Ordered.{IsOrdered, IsBuiltFrom, HasNames}
 use Rattle.ml_lists.proofs.Members.{contains_head, contains_later, contains_cases, contains_none}
 use Rattle.ml_mu.specs.Formula.{Formula, Const, Prop, Var, Not, Binary, Modal, Binder}
-use Rattle.ml_mu.specs.Problem.{IsSatisfiable}
+use Rattle.ml_front.specs.Problems.{IsSatisfiable}
 use Rattle.ml_mu.specs.Spelling.{HasShortNames, is_spelled, is_action, is_variable}
 use Rattle.ml_mu.proofs.Names.{lower_name}
 use Rattle.std.proofs.lemmas.Bool.{and_parts}

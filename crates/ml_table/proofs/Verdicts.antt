@@ -11,7 +11,7 @@ use Rattle.ml_base.proofs.Listing.{lists_iff, among_iff}
 use Rattle.ml_kripke.specs.Ordered.{IsOrdered, IsBuiltFrom}
 use Rattle.ml_mu.specs.Formula.{Formula}
 use Rattle.ml_mu.specs.Meaning.{meaning}
-use Rattle.ml_mu.specs.Problem.{IsSatisfiable}
+use Rattle.ml_front.specs.Problems.{IsSatisfiable}
 use Rattle.ml_table.specs.Propositional.{is_propositional, value_under, different_propositions, propositions_after, most_propositions, plain, IsInForm, HoldsInModel}
 use Rattle.ml_table.specs.Assignments.{assigned, chosen_names, IsFound, IsExhausted}
 use Rattle.ml_table.proofs.Among.{is_among}

@@ -16,10 +16,12 @@ use Rattle.std.specs.Prelude.{ℕ, ◌≡◌, ◌<◌, ◌≤◌, Bool, true, fa
 use Rattle.std.specs.List.{list_any}
 use Rattle.std.specs.Str.{bytes_eq}
 use Rattle.ml_base.specs.Structure.{Structure, IsStructure}
+use Rattle.ml_front.specs.Problems.{HoldsAt, IsSatisfiable}
+use Rattle.ml_front.specs.declared.problem.AnyFormula.TheVariants.{Mu}
+use Rattle.ml_front.specs.declared.problem.Problem.{Problem}
 use Rattle.ml_kripke.specs.Ordered.{IsOrdered}
 use Rattle.ml_mu.specs.Formula.{Formula, Const, Prop, Var, Not, Binary, Modal, Binder}
 use Rattle.ml_mu.specs.Meaning.{truth_of}
-use Rattle.ml_mu.specs.Problem.{Problem, HoldsAt, IsSatisfiable}
 use Rattle.ml_table.specs.declared.table.Table.{Table}
 use Rattle.ml_table.specs.declared.table.Table.TheVariants.{Satisfiable, Unsatisfiable, OutOfForm}
 
@@ -65,7 +67,7 @@ pub record IsInForm (f : Formula) : Type 0 where
   pub few : length (different_propositions f) ≤ most_propositions
 
 abbrev pub plain : Formula → Problem
-plain f = record { formula = f; negated = false }
+plain f = record { formula = Mu f; negated = false }
 
 pub record HoldsInModel (f : Formula) (m : Structure) : Type 0 where
   pub is_structure : IsStructure m

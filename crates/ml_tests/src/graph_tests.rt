@@ -8,6 +8,17 @@ use ml_parity::{Player, solve};
 use std::alloc::Global;
 use std::test::Fail;
 
+// The literals of p.
+const P: Node = Node::Lit {
+    prop: 0,
+    positive: true,
+};
+
+const NOT_P: Node = Node::Lit {
+    prop: 0,
+    positive: false,
+};
+
 // The graph of these nodes and priorities, with the one proposition p and the one action `_`.
 pub(crate) fn graph_of(
     alloc: Global,
@@ -49,75 +60,71 @@ fn holds(alloc: Global, graph: &ModalGraph, structure: &Structure, state: u32) -
     Ok(solution.winner.get(vertex as usize) == Some(&Player::Even))
 }
 
+// The number that is refused of a graph of one node, if one is.
+fn refused(alloc: Global, node: Node, root: u32) -> Result<Option<u32>, Fail> {
+    match graph_of(alloc, &[node], &[0], root)? {
+        Err(GraphRefusal::OutOfRange(number)) => Ok(Some(number)),
+        _ => Ok(None),
+    }
+}
+
 #[test]
-fn numbers_out_of_range(rt: HostRuntime) -> Result<(), Fail> {
-    let one = graph_of(rt.alloc(), &[Node::True], &[0], 1)?;
-    assert!(rt; matches!(one, Err(GraphRefusal::OutOfRange(1))));
-    let two = graph_of(rt.alloc(), &[Node::Or { left: 3, right: 2 }], &[0], 5)?;
-    assert!(rt; matches!(two, Err(GraphRefusal::OutOfRange(3))));
+fn root_out_of_range(rt: HostRuntime) -> Result<(), Fail> {
+    assert!(rt; refused(rt.alloc(), Node::True, 1)? == Some(1));
     Ok(())
 }
 
-// Nodes with their priorities, the root, the odd priorities, and whether the graph holds at each of the three states.
-#[derive(Clone, Copy, Debug)]
-struct Row {
-    nodes: [Node; 3],
-    priorities: [u32; 3],
-    root: u32,
-    odds: &'static [u32],
-    holds: [bool; 3],
+#[test]
+fn first_number_out_of_range(rt: HostRuntime) -> Result<(), Fail> {
+    assert!(rt; refused(rt.alloc(), Node::Or { left: 3, right: 2 }, 5)? == Some(3));
+    Ok(())
 }
 
-#[test]
-fn checking_games_by_hand(rt: HostRuntime) -> Result<(), Fail> {
-    let p = Node::Lit {
-        prop: 0,
-        positive: true,
-    };
-    let not_p = Node::Lit {
-        prop: 0,
-        positive: false,
-    };
-    let next = Node::Diamond { action: 0, to: 0 };
-    let all_next = Node::Square { action: 0, to: 0 };
-    let rows = [
-        // p comes at some time: least X with p or <_>X
-        Row {
-            nodes: [Node::Or { left: 1, right: 2 }, p, next],
-            priorities: [1, 2, 2],
-            root: 0,
-            odds: &[1],
-            holds: [true, true, false],
-        },
-        // always not p, whatever edges are taken: greatest X with not p and [_]X
-        Row {
-            nodes: [Node::And { left: 1, right: 2 }, not_p, all_next],
-            priorities: [0, 2, 2],
-            root: 0,
-            odds: &[],
-            holds: [false, false, true],
-        },
-        // some way goes on for ever: greatest X with <_>X
-        Row {
-            nodes: [Node::And { left: 2, right: 2 }, Node::True, next],
-            priorities: [0, 3, 2],
-            root: 2,
-            odds: &[3],
-            holds: [true, true, false],
-        },
-    ];
-    let structure = three_states(rt.alloc())?;
-    assert_eq!(rt; structure.states(), 3);
-    for row in rows {
-        let graph = graph_of(rt.alloc(), &row.nodes, &row.priorities, row.root)??;
-        assert_eq!(rt; graph.odd_priorities()?.as_slice(), row.odds);
-        for (state, wanted) in [(0, row.holds[0]), (1, row.holds[1]), (2, row.holds[2])] {
-            assert_eq!(rt;
-                holds(rt.alloc(), &graph, &structure, state)?,
-                wanted,
-                "{state} {row:?}"
-            );
-        }
+// The odd priorities of a graph of three nodes, and whether it holds at each of the three states, by its checking game.
+fn holds_at(
+    alloc: Global,
+    nodes: &[Node; 3],
+    priorities: &[u32; 3],
+    root: u32,
+) -> Result<(Vec<u32>, [bool; 3]), Fail> {
+    let structure = three_states(alloc)?;
+    let graph = graph_of(alloc, nodes, priorities, root)??;
+    let mut found = [false; 3];
+    for state in 0..structure.states().min(3) {
+        found[state as usize] = holds(alloc, &graph, &structure, state)?;
     }
+    Ok((graph.odd_priorities()?, found))
+}
+
+const NEXT: Node = Node::Diamond { action: 0, to: 0 };
+
+// p comes at some time: least X with p or <_>X.
+#[test]
+fn least_fixpoint_by_hand(rt: HostRuntime) -> Result<(), Fail> {
+    let nodes = [Node::Or { left: 1, right: 2 }, P, NEXT];
+    let (odds, found) = holds_at(rt.alloc(), &nodes, &[1, 2, 2], 0)?;
+    assert!(rt; odds.as_slice() == [1].as_slice() && found == [true, true, false]);
+    Ok(())
+}
+
+// Always not p, whatever edges are taken: greatest X with not p and [_]X.
+#[test]
+fn greatest_fixpoint_by_hand(rt: HostRuntime) -> Result<(), Fail> {
+    let nodes = [
+        Node::And { left: 1, right: 2 },
+        NOT_P,
+        Node::Square { action: 0, to: 0 },
+    ];
+    let (odds, found) = holds_at(rt.alloc(), &nodes, &[0, 2, 2], 0)?;
+    assert!(rt; odds.is_empty() && found == [false, false, true]);
+    Ok(())
+}
+
+// Some way goes on for ever: greatest X with <_>X.
+#[test]
+fn endless_way_by_hand(rt: HostRuntime) -> Result<(), Fail> {
+    let nodes = [Node::And { left: 2, right: 2 }, Node::True, NEXT];
+    let (odds, found) = holds_at(rt.alloc(), &nodes, &[0, 3, 2], 2)?;
+    assert!(rt; odds.as_slice() == [3].as_slice() && found == [true, true, false]);
     Ok(())
 }

@@ -46,111 +46,121 @@ fn heights_of_rows(alloc: Global, numbers: &[&[u64]]) -> Result<Heights, AllocEr
     Ok(Heights { rows })
 }
 
-/// A graph, and its heights or the arcs of an even cycle.
-#[derive(Clone, Copy)]
-struct Worked {
+/// Whether these are the heights that are found of the graph of these arcs.
+fn has_heights(
+    alloc: Global,
     size: u64,
     top: u32,
-    arcs: &'static [Row],
-    rows: &'static [&'static [u64]],
-    cycle: &'static [Row],
+    arcs: &[Row],
+    wanted: &[&[u64]],
+) -> Result<bool, Fail> {
+    let graph = graph_of_rows(alloc, size, top, arcs)?.ok_or("no graph")?;
+    let Ok(found) = heights(alloc, &graph)? else {
+        return Ok(false);
+    };
+    let rows = found.rows.iter().map(Vec::as_slice);
+    Ok(
+        heights_ok(&graph, &found)
+            && found.rows.len() == wanted.len()
+            && rows.zip(wanted).all(|(row, wanted)| row == *wanted),
+    )
+}
+
+/// Whether this is the even cycle that is found in the graph of these arcs.
+fn has_cycle(
+    alloc: Global,
+    size: u64,
+    top: u32,
+    arcs: &[Row],
+    wanted: &[Row],
+) -> Result<bool, Fail> {
+    let graph = graph_of_rows(alloc, size, top, arcs)?.ok_or("no graph")?;
+    let Err(found) = heights(alloc, &graph)? else {
+        return Ok(false);
+    };
+    let arcs = found.arcs.iter();
+    Ok(
+        found.arcs.len() == wanted.len()
+            && arcs.zip(wanted).all(|(arc, wanted)| (arc.from, arc.priority, arc.to) == *wanted),
+    )
 }
 
 #[test]
-fn heights_of_small_graphs(rt: HostRuntime) -> Result<(), Fail> {
-    let table = [
-        // no vertex
-        Worked {
-            size: 0,
-            top: 0,
-            arcs: &[],
-            rows: &[],
-            cycle: &[],
-        },
-        // a loop of an even and of an odd priority
-        Worked {
-            size: 1,
-            top: 2,
-            arcs: &[(0, 0, 0)],
-            rows: &[],
-            cycle: &[(0, 0, 0)],
-        },
-        Worked {
-            size: 1,
-            top: 2,
-            arcs: &[(0, 1, 0)],
-            rows: &[&[0, 0]],
-            cycle: &[],
-        },
-        // a loop of the top alone
-        Worked {
-            size: 1,
-            top: 2,
-            arcs: &[(0, 2, 0)],
-            rows: &[],
-            cycle: &[(0, 2, 0)],
-        },
-        // a chain: an arc of another priority on the way does not count
-        Worked {
-            size: 4,
-            top: 2,
-            arcs: &[(0, 0, 1), (1, 1, 2), (2, 0, 3)],
-            rows: &[&[2, 0], &[1, 0], &[1, 0], &[0, 0]],
-            cycle: &[],
-        },
-        // an arc twice, and a cycle of odd lowest priority beside it
-        Worked {
-            size: 2,
-            top: 2,
-            arcs: &[(0, 1, 1), (1, 1, 0), (0, 2, 1), (0, 2, 1)],
-            rows: &[&[0, 1], &[0, 0]],
-            cycle: &[],
-        },
-        // an arc of a lower priority is not followed
-        Worked {
-            size: 2,
-            top: 2,
-            arcs: &[(0, 1, 1), (1, 2, 0)],
-            rows: &[&[0, 0], &[0, 1]],
-            cycle: &[],
-        },
-        // round a cycle, and out of it; and a part of its own
-        Worked {
-            size: 4,
-            top: 4,
-            arcs: &[(0, 3, 1), (1, 3, 0), (1, 2, 2), (3, 1, 3)],
-            rows: &[&[0, 1, 0], &[0, 1, 0], &[0, 0, 0], &[0, 0, 0]],
-            cycle: &[],
-        },
-        // the lowest priority of a cycle decides
-        Worked {
-            size: 2,
-            top: 4,
-            arcs: &[(0, 3, 1), (1, 2, 0)],
-            rows: &[],
-            cycle: &[(0, 3, 1), (1, 2, 0)],
-        },
-    ];
-    let alloc = rt.alloc();
-    for worked in &table {
-        let graph = graph_of_rows(alloc, worked.size, worked.top, worked.arcs)?.ok_or("no graph")?;
-        match heights(alloc, &graph)? {
-            Ok(found) => {
-                assert!(rt; worked.cycle.is_empty());
-                assert!(rt; heights_ok(&graph, &found));
-                assert_eq!(rt; found.rows.len(), worked.rows.len());
-                for (row, wanted) in found.rows.iter().zip(worked.rows) {
-                    assert_eq!(rt; row.as_slice(), *wanted);
-                }
-            }
-            Err(found) => {
-                assert_eq!(rt; found.arcs.len(), worked.cycle.len());
-                for (arc, wanted) in found.arcs.iter().zip(worked.cycle) {
-                    assert_eq!(rt; (arc.from, arc.priority, arc.to), *wanted);
-                }
-            }
-        }
-    }
+fn no_vertex(rt: HostRuntime) -> Result<(), Fail> {
+    assert!(rt; has_heights(rt.alloc(), 0, 0, &[], &[])?);
+    Ok(())
+}
+
+#[test]
+fn even_loop(rt: HostRuntime) -> Result<(), Fail> {
+    assert!(rt; has_cycle(rt.alloc(), 1, 2, &[(0, 0, 0)], &[(0, 0, 0)])?);
+    Ok(())
+}
+
+#[test]
+fn odd_loop(rt: HostRuntime) -> Result<(), Fail> {
+    assert!(rt; has_heights(rt.alloc(), 1, 2, &[(0, 1, 0)], &[&[0, 0]])?);
+    Ok(())
+}
+
+#[test]
+fn loop_of_the_top(rt: HostRuntime) -> Result<(), Fail> {
+    assert!(rt; has_cycle(rt.alloc(), 1, 2, &[(0, 2, 0)], &[(0, 2, 0)])?);
+    Ok(())
+}
+
+// An arc of another priority on the way does not count.
+#[test]
+fn chain_of_two_priorities(rt: HostRuntime) -> Result<(), Fail> {
+    let arcs = [(0, 0, 1), (1, 1, 2), (2, 0, 3)];
+    assert!(rt;
+        has_heights(
+            rt.alloc(),
+            4,
+            2,
+            &arcs,
+            &[&[2, 0], &[1, 0], &[1, 0], &[0, 0]]
+        )?
+    );
+    Ok(())
+}
+
+// An arc twice, and a cycle of odd lowest priority beside it.
+#[test]
+fn arc_twice(rt: HostRuntime) -> Result<(), Fail> {
+    let arcs = [(0, 1, 1), (1, 1, 0), (0, 2, 1), (0, 2, 1)];
+    assert!(rt; has_heights(rt.alloc(), 2, 2, &arcs, &[&[0, 1], &[0, 0]])?);
+    Ok(())
+}
+
+// An arc of a lower priority is not followed.
+#[test]
+fn lower_priority(rt: HostRuntime) -> Result<(), Fail> {
+    assert!(rt;
+        has_heights(
+            rt.alloc(),
+            2,
+            2,
+            &[(0, 1, 1), (1, 2, 0)],
+            &[&[0, 0], &[0, 1]]
+        )?
+    );
+    Ok(())
+}
+
+// Round a cycle, and out of it; and a part of its own.
+#[test]
+fn out_of_a_cycle(rt: HostRuntime) -> Result<(), Fail> {
+    let arcs = [(0, 3, 1), (1, 3, 0), (1, 2, 2), (3, 1, 3)];
+    let wanted: [&[u64]; 4] = [&[0, 1, 0], &[0, 1, 0], &[0, 0, 0], &[0, 0, 0]];
+    assert!(rt; has_heights(rt.alloc(), 4, 4, &arcs, &wanted)?);
+    Ok(())
+}
+
+#[test]
+fn lowest_priority_of_a_cycle_decides(rt: HostRuntime) -> Result<(), Fail> {
+    let arcs = [(0, 3, 1), (1, 2, 0)];
+    assert!(rt; has_cycle(rt.alloc(), 2, 4, &arcs, &arcs)?);
     Ok(())
 }
 

@@ -1,8 +1,11 @@
 // The local phase on graphs of small formulas, worked out by hand.
+ghost use Rattle.std.specs.Prelude.{◌<◌, All};
+ghost use Rattle.ml_graph.specs.Graph.{size};
 
 use crate::graph_tests::graph_of;
-use ml_graph::Node;
-use ml_sequent::{Choice, ClashCause, Sequent, Side, clash, diamonds, open_or, spread};
+use ml_graph::{ModalGraph, Node};
+use ml_sequent::{Choice, ClashCause, Sequent, Side, clash, diamonds, open_or, spread, step};
+use ml_trace::{LocalTraces, Triple};
 use std::alloc::Global;
 use std::test::Fail;
 
@@ -156,5 +159,89 @@ fn sequents_and_choices_are_lists(rt: HostRuntime) -> Result<(), Fail> {
         assert_eq!(rt; two.side(node), wanted, "{node}");
     }
     assert!(rt; !two.copy()?.is_empty());
+    Ok(())
+}
+
+// The step along the first diamond of a sequent's spread, with no side chosen; `None` if it has no diamond.
+fn first_step(
+    alloc: Global,
+    graph: &ModalGraph,
+    sequent: &Sequent,
+) -> Result<Option<(Sequent, LocalTraces)>, Fail>
+    requires { All (λ n. n < size graph.now) sequent.now }
+{
+    let spread = spread(alloc, graph, sequent, &Choice::empty(alloc))?;
+    let diamonds = diamonds(alloc, graph, &spread)?;
+    if diamonds.is_empty() {
+        return Ok(None);
+    }
+    Ok(Some(step(alloc, graph, sequent, &spread, diamonds[0])?))
+}
+
+// The step of a graph of eight nodes from a sequent of one.
+fn step_of(
+    alloc: Global,
+    nodes: &[Node; 8],
+    priorities: &[u32; 8],
+    from: u32,
+) -> Result<Option<(Sequent, LocalTraces)>, Fail> {
+    let Ok(graph) = graph_of(alloc, nodes, priorities, 0)? else {
+        return Ok(None);
+    };
+    let sequent = Sequent::of(alloc, &[from])?;
+    let size = graph.size();
+    if !sequent.values().iter().all(|n| *n < size) {
+        return Ok(None);
+    }
+    first_step(alloc, &graph, &sequent)
+}
+
+// A triple.
+fn triple(from: u32, lowest: u32, to: u32) -> Triple {
+    Triple { from, lowest, to }
+}
+
+#[test]
+fn step_of_a_least_fixpoint(rt: HostRuntime) -> Result<(), Fail> {
+    // mu X. <>X: the binder and its dual, the modalities, and the variable, twice
+    let nodes = [
+        to(2),
+        to(3),
+        Node::Diamond { action: 0, to: 4 },
+        Node::Square { action: 0, to: 5 },
+        to(0),
+        to(1),
+        P,
+        NOT_P,
+    ];
+    let Some((next, traces)) = step_of(rt.alloc(), &nodes, &[1, 0, 2, 2, 2, 2, 2, 2], 0)? else {
+        return Ok(());
+    };
+    assert_eq!(rt; next.nodes(rt.alloc())?.as_slice(), [4].as_slice());
+    assert_eq!(rt; next.copy()?.values(), [4].as_slice());
+    assert_eq!(rt; traces.triples(), [triple(0, 1, 4)].as_slice());
+    Ok(())
+}
+
+#[test]
+fn step_with_several_lowest_priorities(rt: HostRuntime) -> Result<(), Fail> {
+    let nodes = [
+        Node::And { left: 1, right: 2 },
+        Node::And { left: 3, right: 4 },
+        to(3),
+        Node::Diamond { action: 0, to: 6 },
+        Node::Square { action: 0, to: 7 },
+        Node::Square { action: 0, to: 0 },
+        Node::True,
+        Node::True,
+    ];
+    let Some((next, traces)) = step_of(rt.alloc(), &nodes, &[4, 1, 3, 5, 5, 5, 2, 2], 0)? else {
+        return Ok(());
+    };
+    assert_eq!(rt; next.values(), [6, 7].as_slice());
+    for wanted in [triple(0, 1, 6), triple(0, 3, 6), triple(0, 1, 7)] {
+        assert!(rt; traces.triples().contains(&wanted), "{wanted:?}");
+    }
+    assert_eq!(rt; traces.triples().len(), 3);
     Ok(())
 }

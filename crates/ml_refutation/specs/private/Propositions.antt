@@ -2,7 +2,7 @@
 --
 --   prop_ascending, prop_above, prop_guess, prop_cause, prop_mark, prop_decided == so is each part that goes by cases
 --   prop_refutation        == so is the whole
-use Rattle.std.proofs.Common.{◌≡◌, ℕ, List, [], ◌∷◌, Option, None, Some}
+use Rattle.std.proofs.Common.{ℕ, List, [], ◌∷◌, Option, None, Some}
 use Rattle.std.proofs.Props.{props}
 use Rattle.ml_lists.specs.Ascending.{IsAscending}
 use Rattle.ml_trace.specs.declared.letters.AutomatonState.{AutomatonState}
@@ -10,7 +10,7 @@ use Rattle.ml_trace.specs.declared.marks.Mark.{Mark}
 use Rattle.ml_trace.specs.declared.marks.Mark.TheVariants.{Red, Green, Neutral}
 use Rattle.ml_sequent.specs.declared.clashes.ClashCause.{ClashCause}
 use Rattle.ml_sequent.specs.declared.clashes.ClashCause.TheVariants as cause
-use Rattle.ml_refutation.specs.Refutation.{Refutation, Decision, Split, Clash, Go, FitsGuess, FitsCause, IsMarkOf, IsAbove, AreAbove, IsDecided, IsEntry, IsRefutation}
+use Rattle.ml_refutation.specs.Refutation.{Refutation, Decision, Split, Clash, Go, FitsGuess, FitsCause, IsMarkOf, IsAbove, AreAbove, IsDecided, IsRefutation}
 
 pub prop_ascending : (xs : List ℕ) → IsProp (IsAscending xs)
 prop_ascending [] = hlevel props

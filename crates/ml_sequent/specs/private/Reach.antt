@@ -6,6 +6,8 @@
 --
 --   onto ranks r n        == the place at node n that is entered with rank r
 --   onward g c ranks v    == the places to which the search goes on from v
+--   above floor vs        == those of the places vs whose rank is not below the floor
+--   behind g c ranks floor v == the places to which a search with a floor goes on
 --   unranked n, ranked ranks n == the place at n where a search begins, with rank 0 and with its own
 --   Leads next v w        == a way along `next` leads from v to w, at least nowhere
 --   IsReached next C w    == such a way leads from a place of C to w
@@ -17,7 +19,7 @@
 --   HasReached next C found == found has exactly what is reached from C
 --   IsRanked g levels     == levels has the priorities of g, ascending, and the rank of each node
 --   HasRoom g levels r    == a search has room for all places of g
-use Rattle.std.specs.Prelude.{ℕ, ◌≡◌, ◌+◌, ◌*◌, ◌<◌, ◌≤◌, ◌↔◌, min, Bool, true, false, not, List, ◌++◌, map, length, get_or}
+use Rattle.std.specs.Prelude.{ℕ, ◌≡◌, ◌+◌, ◌*◌, ◌<◌, ◌≤◌, ◌↔◌, min, Bool, true, false, not, List, ◌++◌, map, filter, length, get_or, nat_le}
 use Rattle.ml_lists.specs.Ascending.{IsAscending}
 use Rattle.ml_lists.specs.Counting.{count}
 use Rattle.ml_lists.specs.Member.{IsMember}
@@ -35,6 +37,14 @@ onto ranks r n = record { node = n; rank = min r (get_or ranks n 0) }
 -- the places to which the search goes on
 abbrev pub onward : Graph → List (ℕ × Side) → List ℕ → Visit → List Visit
 onward g c ranks v = map (onto ranks v.rank) (children g c v.node)
+
+-- the places of a list whose rank is not below the floor
+abbrev pub above : ℕ → List Visit → List Visit
+above floor vs = filter (λ v. nat_le floor v.rank) vs
+
+-- the places to which a search with a floor goes on
+abbrev pub behind : Graph → List (ℕ × Side) → List ℕ → ℕ → Visit → List Visit
+behind g c ranks floor v = above floor (onward g c ranks v)
 
 -- the first place at a node of a sequent, where ranks don't matter
 abbrev pub unranked : ℕ → Visit

@@ -1,6 +1,6 @@
 use Rattle.std.proofs.Common.{List, ℕ, ◌<◌, get_or, sym, ap, subst, length, arith}
 use Rattle.ml_graph.specs.Graph.{size}
-use Rattle.ml_sequent.proofs.Marked.{spread_low}
+use Rattle.ml_sequent.proofs.OwnSpreads.{spread_low}
 use Rattle.ml_sequent.proofs.questions.diamonds.Goals as goal
 
 pub node-requires : goal.node-requires

@@ -2,7 +2,7 @@ use Rattle.std.proofs.Common.{List, ℕ, ◌<◌, get_or, sym, ap, subst, length
 use Rattle.ml_graph.specs.Graph.{size}
 use Rattle.ml_sequent.specs.Spread.{IsOpenNode, IsLeastOpenOr}
 use Rattle.ml_sequent.proofs.Firsts.{least_open, none_open}
-use Rattle.ml_sequent.proofs.Marked.{spread_low}
+use Rattle.ml_sequent.proofs.OwnSpreads.{spread_low}
 use Rattle.ml_sequent.proofs.questions.open_or.Goals as goal
 
 pub is_open-requires : goal.is_open-requires

@@ -1,7 +1,9 @@
-use Rattle.std.proofs.Common.{ℕ, ◌∙◌, List, [], ◌<◌, get_or, map, subst, arith}
+use Rattle.std.proofs.Common.{ℕ, OnOk, ◌∙◌, List, [], ◌<◌, get_or, map, subst, arith}
 use Rattle.std.proofs.lemmas.List.{take_all}
 use Rattle.ml_graph.specs.Graph.{size}
-use Rattle.ml_sequent.specs.private.Reach.{onward, unranked, IsVisited}
+use Rattle.ml_sequent.specs.declared.reach.Visit.{Visit}
+use Rattle.ml_sequent.specs.private.Reach.{behind, unranked, IsVisited, HasReached}
+use Rattle.ml_sequent.proofs.Floors.{all_above}
 use Rattle.ml_sequent.proofs.Reaching.{has_room, some_rank, finished, search_begins, visited_more}
 use Rattle.ml_sequent.proofs.reach.reach_all.Goals as goal
 
@@ -19,8 +21,11 @@ loop-node-preserved c = record {
 
 pub returns-clause-reached : goal.returns-clause-reached
 returns-clause-reached c =
-    let next = onward c.args.graph.now c.args.choice.now c.args.levels.now.ranks in
+    let g = c.args.graph.now in
+    let ranks = c.args.levels.now.ranks in
+    let next = behind g c.args.choice.now ranks 0 in
     let all = take_all c.loop-node.node-index c.args.nodes.now (omega arith) in
     let visited = subst (λ (ks : List ℕ). IsVisited (map unranked ks) [] c.loop-node.reach.found) all c.loop-node.invariant.visited in
-    finished next (map unranked c.args.nodes.now) c.loop-node.reach.found c.finish.new.reach.found c.finish.result c.finish.ensures.reached
-    (search_begins next (map unranked c.args.nodes.now) c.loop-node.reach.found visited)
+    subst (λ (f : Visit → List Visit). OnOk c.finish.result (HasReached f (map unranked c.args.nodes.now) c.finish.new.reach.found)) (all_above g c.args.choice.now ranks)
+    (finished next (map unranked c.args.nodes.now) c.loop-node.reach.found c.finish.new.reach.found c.finish.result c.finish.ensures.reached
+    (search_begins next (map unranked c.args.nodes.now) c.loop-node.reach.found visited))

@@ -1,6 +1,6 @@
 use Rattle.std.proofs.Common.{IfOk, subst}
 use Rattle.ml_sequent.specs.Spread.{IsSpreadOf}
-use Rattle.ml_sequent.proofs.Marked.{own_spread_ok}
+use Rattle.ml_sequent.proofs.OwnSpreads.{own_spread_ok}
 use Rattle.ml_sequent.proofs.phase.LocalPhase.spread.Goals as goal
 
 pub returns-clause-is_spread : goal.returns-clause-is_spread

@@ -1,0 +1,120 @@
+// Problems of all logics.
+ghost use Rattle.std.specs.Prelude.{◌≡◌, false, not, IfOk, IfErr, IsErrOf};
+ghost use Rattle.ml_front.specs.Logics.{canonical_text, logic_of, IsParsedAs, IsRefusedBy};
+ghost use Rattle.ml_front.specs.Graphs.{HoldsWhere, IsGraphOf};
+
+use crate::logic::Logic;
+use ml_base::{NoMemory, ParseRefusal};
+use ml_graph::{BlockRefusal, ModalGraph};
+use ml_mu_graph::graph_of;
+use std::alloc::Global;
+
+/// A formula of any logic.
+#[derive(Drop)]
+pub enum AnyFormula {
+    Mu(ml_mu::Formula),
+}
+
+/// A formula with its sense: a plain problem asks for a state at which the formula holds, a negated one for a state at
+/// which it doesn't.
+#[derive(Drop)]
+pub struct Problem {
+    pub formula: AnyFormula,
+    pub negated: bool,
+}
+
+/// The plain problem of a text's formula, by the logic's parser.
+///
+/// # Errors
+/// Those of the parser, where and as it says (`ml_mu::parse`).
+///
+/// Cost: that of the parser.
+pub fn read(alloc: Global, logic: Logic, text: &[u8]) -> Result<Problem, ParseRefusal>
+    ensures of_logic { IfOk result (λ p. logic_of p.formula ≡ logic) }
+    ensures parsed { IfOk result (λ p. IsParsedAs text.now p.formula) }
+    ensures plain { IfOk result (λ p. p.negated ≡ false) }
+    ensures refused { IfErr result (IsRefusedBy logic text.now) }
+{
+    match parse(alloc, logic, text) {
+        Ok(formula) => Ok(Problem {
+            formula,
+            negated: false,
+        }),
+        Err(refusal) => Err(refusal),
+    }
+}
+
+/// The formula that a text stands for in a logic.
+pub(crate) fn parse(alloc: Global, logic: Logic, text: &[u8]) -> Result<AnyFormula, ParseRefusal>
+    ensures of_logic { IfOk result (λ f. logic_of f ≡ logic) }
+    ensures parsed { IfOk result (IsParsedAs text.now) }
+    ensures refused { IfErr result (IsRefusedBy logic text.now) }
+{
+    match logic {
+        Logic::Mu => match ml_mu::parse(alloc, text) {
+            Ok(formula) => Ok(AnyFormula::Mu(formula)),
+            Err(refusal) => Err(refusal),
+        },
+    }
+}
+
+/// The same formula in the other sense.
+pub fn negated(problem: Problem) -> Problem
+    ensures formula { result.formula ≡ problem.formula }
+    ensures sense { result.negated ≡ not problem.negated }
+{
+    Problem {
+        formula: problem.formula,
+        negated: !problem.negated,
+    }
+}
+
+/// An equal problem.
+///
+/// # Errors
+/// `NoMemory` alone.
+///
+/// Cost: that of the logic's `copy`.
+pub fn copy(alloc: Global, problem: &Problem) -> Result<Problem, NoMemory>
+    ensures { IfOk result (λ copied. copied ≡ problem.now) }
+{
+    match &problem.formula {
+        AnyFormula::Mu(formula) => Ok(Problem {
+            formula: AnyFormula::Mu(ml_mu::copy(alloc, formula)?),
+            negated: problem.negated,
+        }),
+    }
+}
+
+/// The canonical text of the problem's formula, which is read back as the same formula.
+///
+/// # Errors
+/// `NoMemory` alone.
+///
+/// Cost: linear in the text.
+pub fn print(alloc: Global, problem: &Problem) -> Result<Vec<u8>, NoMemory>
+    ensures text { IfOk result (λ text. text.items ≡ canonical_text problem.now.formula) }
+    ensures reads_back { IfOk result (λ text. IsParsedAs text.items problem.now.formula) }
+{
+    match &problem.formula {
+        AnyFormula::Mu(formula) => ml_mu::print(alloc, formula),
+    }
+}
+
+/// The graph of a problem: on every admitted structure it holds exactly where the problem does.
+///
+/// `_max` is how many nodes a closure may have; a formula of the mu-calculus has none.
+///
+/// # Errors
+/// `NoMemory` alone, so far.
+///
+/// Cost: that of the logic's translation (`ml_mu_graph::graph_of`).
+pub fn graph(alloc: Global, problem: &Problem, _max: u32) -> Result<ModalGraph, BlockRefusal>
+    ensures graph { IfOk result (λ g. IsGraphOf g problem.now) }
+    ensures agrees { IfOk result (λ g. HoldsWhere g problem.now) }
+    ensures fits { ¬ (IsErrOf result BlockRefusal.ClosureTooLarge) }
+{
+    match &problem.formula {
+        AnyFormula::Mu(formula) => Ok(graph_of(alloc, formula, problem.negated)?),
+    }
+}

@@ -1,0 +1,84 @@
+// Writing the head of a document.
+ghost use Rattle.std.specs.Prelude.{◌≡◌, ◌++◌, [], ◌∷◌, codes, IfOk, OnOk};
+ghost use Rattle.ml_base.specs.declared.version.Version.TheVariants as version;
+ghost use Rattle.ml_lines.specs.Lines.{line_text, text_of};
+ghost use Rattle.ml_front.specs.Head.{head_lines};
+ghost use Rattle.ml_front.specs.Logics.{canonical_text, logic_of};
+
+use crate::answer::Answer;
+use crate::logic::Logic;
+use crate::problem::{AnyFormula, Problem};
+use crate::title::version_word;
+use ml_base::{NoMemory, Version};
+use ml_lines::{end_line, write_next_word, write_word};
+use std::alloc::Global;
+
+/// The five lines of the head of a document with this answer, in version 2.
+///
+/// # Errors
+/// `NoMemory` alone.
+///
+/// Cost: linear in the text.
+pub fn write_head(alloc: Global, problem: &Problem, answer: Answer) -> Result<Vec<u8>, NoMemory>
+    ensures { IfOk result (λ text. text.items ≡ text_of (head_lines version.Two answer problem.now)) }
+{
+    let mut text = Vec::new(alloc);
+    append_head(&mut text, problem, answer)?;
+    Ok(text)
+}
+
+/// Appends the head of a document, as `write_head` gives it.
+///
+/// # Errors
+/// `NoMemory` alone, and then a part of the head may stand in `out`.
+///
+/// Cost: linear in the text.
+pub fn append_head(out: &mut Vec<u8>, problem: &Problem, answer: Answer) -> Result<(), NoMemory>
+    ensures { OnOk result (out.new.items ≡ out.old.items ++ text_of (head_lines version.Two answer problem.now)) }
+{
+    append_pair(out, b"mlsolver", version_word(Version::Two))?;
+    append_pair(out, b"answer", answer.word())?;
+    append_pair(out, b"logic", logic(&problem.formula).word())?;
+    append_pair(
+        out,
+        b"sense",
+        if problem.negated {
+            b"negated"
+        } else {
+            b"plain"
+        },
+    )?;
+    append_formula(out, &problem.formula)
+}
+
+fn logic(formula: &AnyFormula) -> Logic
+    ensures { result ≡ logic_of formula.now }
+{
+    match formula {
+        AnyFormula::Mu(_) => Logic::Mu,
+    }
+}
+
+fn append_pair(out: &mut Vec<u8>, first: &[u8], second: &[u8]) -> Result<(), NoMemory>
+    ensures { OnOk result (out.new.items ≡ out.old.items ++ line_text (first.now ∷ second.now ∷ [])) }
+{
+    write_word(out, first)?;
+    write_next_word(out, second)?;
+    end_line(out)
+}
+
+fn append_formula(out: &mut Vec<u8>, formula: &AnyFormula) -> Result<(), NoMemory>
+    ensures { OnOk result (out.new.items ≡ out.old.items ++ line_text (codes "formula" ∷ canonical_text formula.now ∷ [])) }
+{
+    write_word(out, b"formula ")?;
+    append_text(out, formula)?;
+    end_line(out)
+}
+
+fn append_text(out: &mut Vec<u8>, formula: &AnyFormula) -> Result<(), NoMemory>
+    ensures { OnOk result (out.new.items ≡ out.old.items ++ canonical_text formula.now) }
+{
+    match formula {
+        AnyFormula::Mu(formula) => ml_mu::append_text(out, formula),
+    }
+}

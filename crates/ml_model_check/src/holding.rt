@@ -1,0 +1,126 @@
+// Whether a problem holds at a state of a structure.
+ghost use Rattle.std.specs.Prelude.{◌↔◌, ◌<◌, ℕ, IfOk, IsErrOf, IsTrue};
+ghost use Rattle.ml_graph.specs.CheckingGame.{Holds};
+ghost use Rattle.ml_front.specs.Logics.{logic_of};
+ghost use Rattle.ml_front.specs.Problems.{HoldsAs, HoldsAt, IsAdmitted};
+ghost use Rattle.ml_front.specs.declared.problem.AnyFormula.TheVariants.{Mu};
+
+use crate::check_refusal::CheckRefusal;
+use ml_base::NoMemory;
+use ml_front::{AnyFormula, Problem, graph};
+use ml_graph::{BlockRefusal, ModalGraph, checking_game};
+use ml_kripke::Structure;
+use ml_mu::{Formula, Term};
+use ml_parity::{Player, solve};
+use std::alloc::Global;
+
+// How many nodes a closure has at most.
+const MOST_NODES: u32 = 4_096;
+
+// Up to so many binders one inside the other the meaning of a formula is computed as it is defined; past them, where the
+// iterates of inner binders multiply with those of outer ones, the checking game is solved.
+const MOST_NESTED: u32 = 2;
+
+/// Does a problem hold at this state of a structure?
+///
+/// # Errors
+/// `NoMemory` alone, so far.
+///
+/// Cost: a formula of the mu-calculus with at most two binders one inside the other costs what `ml_mu::evaluate` does;
+/// with more, what `ml_parity::solve` does on a game with twice as many vertices as there are pairs of a state and an
+/// occurrence. No call is nested deeper than the formula, which has at most 1,000 occurrences.
+pub fn holds(
+    alloc: Global,
+    problem: &Problem,
+    structure: &Structure,
+    state: u32,
+) -> Result<bool, CheckRefusal>
+    requires { state < structure.now.states }
+    ensures holds { IfOk result (λ holds. IsTrue holds ↔ HoldsAt structure.now state problem.now) }
+    ensures total { (s : ℕ) → ¬ (IsErrOf result (CheckRefusal.NotTotal s)) }
+    ensures fits { ¬ (IsErrOf result CheckRefusal.ClosureTooLarge) }
+{
+    // whoever asks a structure for its states learns what its type keeps
+    let _states = structure.states();
+    match &problem.formula {
+        AnyFormula::Mu(formula) => {
+            if nests_deeper(formula.root(), MOST_NESTED) {
+                holds_by_game(alloc, problem, structure, state)
+            } else {
+                let holds = holds_by_meaning(alloc, formula, problem.negated, structure, state)?;
+                Ok(holds)
+            }
+        }
+    }
+}
+
+// by the sets that a formula of the mu-calculus means
+fn holds_by_meaning(
+    alloc: Global,
+    formula: &Formula,
+    negated: bool,
+    structure: &Structure,
+    state: u32,
+) -> Result<bool, NoMemory>
+    requires { state < structure.now.states }
+    ensures { IfOk result (λ holds. IsTrue holds ↔ HoldsAs structure.now state negated (Mu formula.now)) }
+{
+    let member = ml_mu::holds(alloc, formula, structure, state)?;
+    Ok(member != negated)
+}
+
+// by the game on the problem's graph
+fn holds_by_game(
+    alloc: Global,
+    problem: &Problem,
+    structure: &Structure,
+    state: u32,
+) -> Result<bool, CheckRefusal>
+    requires state { state < structure.now.states }
+    requires admitted { IsAdmitted (logic_of problem.now.formula) structure.now }
+    ensures holds { IfOk result (λ holds. IsTrue holds ↔ HoldsAt structure.now state problem.now) }
+    ensures total { (s : ℕ) → ¬ (IsErrOf result (CheckRefusal.NotTotal s)) }
+    ensures fits { ¬ (IsErrOf result CheckRefusal.ClosureTooLarge) }
+{
+    let graph = match graph(alloc, problem, MOST_NODES) {
+        Ok(graph) => graph,
+        Err(BlockRefusal::ClosureTooLarge) => return Err(CheckRefusal::ClosureTooLarge),
+        Err(BlockRefusal::NoMemory) => return Err(CheckRefusal::NoMemory),
+    };
+    let holds = graph_holds(alloc, &graph, structure, state)?;
+    Ok(holds)
+}
+
+// does a graph hold at the state?
+fn graph_holds(
+    alloc: Global,
+    graph: &ModalGraph,
+    structure: &Structure,
+    state: u32,
+) -> Result<bool, NoMemory>
+    requires { state < structure.now.states }
+    ensures { IfOk result (λ holds. IsTrue holds ↔ Holds graph.now structure.now state) }
+{
+    let _root = graph.root();
+    let (game, vertex) = checking_game(alloc, graph, structure, state)?;
+    let solution = solve(alloc, &game)?;
+    match solution.winner[vertex as usize] {
+        Player::Even => Ok(true),
+        Player::Odd => Ok(false),
+    }
+}
+
+// has the term more than so many binders one inside the other?
+fn nests_deeper(term: &Term, binders: u32) -> bool {
+    match term {
+        Term::Const(_) | Term::Prop(_) | Term::Var(_) => false,
+        Term::Not(operand) | Term::Diamond(_, operand) | Term::Square(_, operand) => {
+            nests_deeper(operand, binders)
+        }
+        Term::And(left, right)
+        | Term::Or(left, right)
+        | Term::Implies(left, right)
+        | Term::Iff(left, right) => nests_deeper(left, binders) || nests_deeper(right, binders),
+        Term::Mu(_, body) | Term::Nu(_, body) => binders == 0 || nests_deeper(body, binders - 1),
+    }
+}

@@ -1,0 +1,21 @@
+// What holds of texts of refutations, whoever made them.
+ghost use Rattle.ml_refutation_text.specs.Laws.{FaultOrReadable, OneFault, OneRefutation, ReadableIsRefutation, ReadableOrFault, WrittenIsText};
+
+/// The text that is written of a refutation, of not too many stacks to count them, is a text of it, in both versions.
+pub fn written_is_text()
+    ensures { WrittenIsText }
+{}
+
+/// A text is of one refutation at most, in each version.
+pub fn one_refutation()
+    ensures { OneRefutation }
+{}
+
+/// A text has no bad line or a first one, exactly one of the two, and one first bad line at most, which breaks one lowest
+/// rule. It has none exactly where it is the text of a refutation.
+pub fn one_fault()
+    ensures one { ReadableOrFault }
+    ensures exclusive { FaultOrReadable }
+    ensures fault { OneFault }
+    ensures readable { ReadableIsRefutation }
+{}

@@ -1,0 +1,69 @@
+// The tables of version 2: each sequent and each stack of a refutation once, in the order of first use.
+ghost use Rattle.std.specs.Prelude.{◌≡◌, [], map, fold, IfOk, OnOk};
+ghost use Rattle.std.specs.List.{flat_map};
+ghost use Rattle.ml_refutation.specs.Views.{item_of, entry_of};
+ghost use Rattle.ml_refutation_text.specs.WrittenText.{each_once, with_new, place_in, used_stacks};
+ghost use Rattle.ml_refutation_text.specs.private.Filings.{shown};
+
+use indexmap::IndexSet;
+use ml_base::NoMemory;
+use ml_refutation::{Entry, Item};
+use std::alloc::Global;
+
+/// Lists, each once.
+pub(crate) type Table<'a> = IndexSet<&'a [u32]>;
+
+/// The sequents and the stacks of a refutation, each once.
+#[derive(Drop)]
+pub(crate) struct Tables<'a> {
+    pub(crate) sequents: Table<'a>,
+    pub(crate) stacks: Table<'a>,
+}
+
+/// How sequents and stacks are written: in full, or by their places in tables.
+#[derive(Drop)]
+pub(crate) enum Filing<'a> {
+    InFull,
+    ByTables(Tables<'a>),
+}
+
+// the sequents of the entries, each once
+pub(crate) fn sequents_of<'a>(alloc: Global, entries: &'a [Entry]) -> Result<Table<'a>, NoMemory>
+    ensures { IfOk result (λ table. shown table.keys ≡ each_once (map (λ e. e.sequent) (map entry_of entries.now))) }
+{
+    let mut table = IndexSet::new(alloc);
+    for entry in entries {
+        table.insert(entry.sequent.as_slice())?;
+    }
+    Ok(table)
+}
+
+// the stacks of the items of the entries, each once
+pub(crate) fn stacks_of<'a>(alloc: Global, entries: &'a [Entry]) -> Result<Table<'a>, NoMemory>
+    ensures { IfOk result (λ table. shown table.keys ≡ each_once (flat_map used_stacks (map entry_of entries.now))) }
+{
+    let mut table = IndexSet::new(alloc);
+    for entry in entries {
+        add_stacks(&mut table, entry.items.as_slice())?;
+    }
+    Ok(table)
+}
+
+fn add_stacks<'a>(table: &mut Table<'a>, items: &'a [Item]) -> Result<(), NoMemory>
+    ensures { OnOk result (shown table.new.keys ≡ fold with_new (shown table.old.keys) (map (λ a. a.stack) (map item_of items.now))) }
+{
+    for item in items {
+        table.insert(item.stack.as_slice())?;
+    }
+    Ok(())
+}
+
+// the place of a list in a table
+pub(crate) fn place_of(table: &Table, list: &[u32]) -> usize
+    ensures { result ≡ place_in (shown table.now.keys) list.now }
+{
+    match table.get_index_of(list) {
+        Some(place) => place,
+        None => table.len(),
+    }
+}

@@ -1,0 +1,254 @@
+// The text of a refutation.
+ghost use Rattle.std.specs.Prelude.{◌≡◌, ◌+◌, ◌<◌, ◌^◌, [], ◌∷◌, ◌++◌, map, length, codes, IfOk, OnOk};
+ghost use Rattle.std.specs.List.{flat_map};
+ghost use Rattle.ml_lines.specs.Lines.{number, next, line_text, text_of};
+ghost use Rattle.ml_refutation.specs.Views.{cause_of, mark_of, decision_of, item_of, entry_of, of_parts};
+ghost use Rattle.ml_refutation_text.specs.RefutationText.{IsTextOf, numbers, guess_word, item_line, clash_line, go_line, decision_lines};
+ghost use Rattle.ml_refutation_text.specs.WrittenText.{IsCounted, stacks_of as used, written_text, entry_lines, entries_lines, last_lines, lines_by_tables};
+ghost use Rattle.ml_refutation_text.specs.private.Filings.{shown, writing_of};
+
+use crate::tables::{Filing, Table, Tables, place_of, sequents_of, stacks_of};
+use ml_base::{NoMemory, Version};
+use ml_lines::{end_line, write_next_number, write_next_word, write_word};
+use ml_refutation::{Cause, Decision, Entry, Item, Refutation, Step};
+use std::alloc::Global;
+
+/// The text of a refutation in a version: the body of an unsatisfiable document. In version 2 each sequent and each stack
+/// stands once in its table, in the order of first use.
+///
+/// # Errors
+/// `NoMemory` alone.
+///
+/// Cost: linear in the text of version 1, in both versions.
+pub fn write(alloc: Global, refutation: &Refutation, version: Version) -> Result<Vec<u8>, NoMemory>
+    ensures text { IfOk result (λ bytes. bytes.items ≡ written_text version (of_parts refutation.now.names refutation.now.entries)) }
+    ensures is_text { IfOk result (λ bytes. IsTextOf version bytes.items (of_parts refutation.now.names refutation.now.entries)) }
+{
+    let mut out = Vec::new(alloc);
+    append_refutation(alloc, &mut out, refutation, version)?;
+    Ok(out)
+}
+
+/// Appends the text of a refutation, as `write` gives it.
+///
+/// # Errors
+/// `NoMemory` alone, and then a part of the text may stand in `out`.
+///
+/// Cost: as `write`, over many calls.
+pub fn append_refutation(
+    alloc: Global,
+    out: &mut Vec<u8>,
+    refutation: &Refutation,
+    version: Version,
+) -> Result<(), NoMemory>
+    ensures text { OnOk result (out.new.items ≡ out.old.items ++ written_text version (of_parts refutation.now.names refutation.now.entries)) }
+    ensures counted { OnOk result (IsCounted version (of_parts refutation.now.names refutation.now.entries)) }
+{
+    write_numbered(out, b"names", u64::from(refutation.names))?;
+    let entries = refutation.entries.as_slice();
+    match version {
+        Version::One => write_last(out, entries, &Filing::InFull),
+        Version::Two => write_by_tables(alloc, out, entries),
+    }
+}
+
+// the tables, and the entries by their places there
+fn write_by_tables(alloc: Global, out: &mut Vec<u8>, entries: &[Entry]) -> Result<(), NoMemory>
+    ensures text { OnOk result (out.new.items ≡ out.old.items ++ text_of (lines_by_tables (map entry_of entries.now))) }
+    ensures counted { OnOk result (length (used (map entry_of entries.now)) < 2 ^ 64) }
+{
+    let sequents = sequents_of(alloc, entries)?;
+    let stacks = stacks_of(alloc, entries)?;
+    write_table(out, b"sequents", b"sequent", &sequents)?;
+    write_table(out, b"stacks", b"stack", &stacks)?;
+    write_last(out, entries, &Filing::ByTables(Tables { sequents, stacks }))
+}
+
+// a table with its number of lines
+fn write_table(out: &mut Vec<u8>, many: &[u8], one: &[u8], table: &Table) -> Result<(), NoMemory>
+    ensures counted { length (shown table.now.keys) < 2 ^ 64 }
+    ensures text { OnOk result (out.new.items ≡ out.old.items
+        ++ text_of ((many.now ∷ number (length (shown table.now.keys)) ∷ []) ∷ map (λ ns. one.now ∷ numbers ns) (shown table.now.keys))) }
+{
+    write_numbered(out, many, table.len() as u64)?;
+    for list in table.as_slice() {
+        write_listed(out, one, *list)?;
+    }
+    Ok(())
+}
+
+// the entries with their number, and the end
+fn write_last(out: &mut Vec<u8>, entries: &[Entry], filing: &Filing) -> Result<(), NoMemory>
+    ensures { OnOk result (out.new.items ≡ out.old.items ++ text_of (last_lines (writing_of filing.now) (map entry_of entries.now))) }
+{
+    write_numbered(out, b"entries", entries.len() as u64)?;
+    write_entries(out, entries, filing)?;
+    write_word(out, b"end")?;
+    end_line(out)
+}
+
+fn write_entries(out: &mut Vec<u8>, entries: &[Entry], filing: &Filing) -> Result<(), NoMemory>
+    ensures { OnOk result (out.new.items ≡ out.old.items ++ text_of (entries_lines (writing_of filing.now) 0 (map entry_of entries.now))) }
+{
+    for (i, entry) in entries.iter().enumerate() {
+        write_entry(out, i, entry, filing)?;
+    }
+    Ok(())
+}
+
+fn write_entry(out: &mut Vec<u8>, i: usize, entry: &Entry, filing: &Filing) -> Result<(), NoMemory>
+    ensures { OnOk result (out.new.items ≡ out.old.items ++ text_of (entry_lines (writing_of filing.now) i (entry_of entry.now))) }
+{
+    write_head(out, i, entry.sequent.as_slice(), filing)?;
+    write_numbered(out, b"live", u64::from(entry.live))?;
+    write_items(out, entry.items.as_slice(), filing)?;
+    write_listed(out, b"heights", entry.heights.as_slice())?;
+    write_decision(out, &entry.decision)
+}
+
+fn write_head(out: &mut Vec<u8>, i: usize, sequent: &[u32], filing: &Filing) -> Result<(), NoMemory>
+    ensures { OnOk result (out.new.items ≡ out.old.items ++ text_of ((writing_of filing.now).head i sequent.now)) }
+{
+    match filing {
+        Filing::InFull => {
+            write_numbered(out, b"entry", i as u64)?;
+            write_listed(out, b"sequent", sequent)
+        }
+        Filing::ByTables(tables) => {
+            write_word(out, b"entry")?;
+            write_next_number(out, i as u64)?;
+            write_next_number(out, place_of(&tables.sequents, sequent) as u64)?;
+            end_line(out)
+        }
+    }
+}
+
+fn write_items(out: &mut Vec<u8>, items: &[Item], filing: &Filing) -> Result<(), NoMemory>
+    ensures { OnOk result (out.new.items ≡ out.old.items
+        ++ text_of (map (λ a. item_line a.state ((writing_of filing.now).words a.stack)) (map item_of items.now))) }
+{
+    for item in items {
+        write_item(out, item, filing)?;
+    }
+    Ok(())
+}
+
+fn write_item(out: &mut Vec<u8>, item: &Item, filing: &Filing) -> Result<(), NoMemory>
+    ensures { OnOk result (out.new.items ≡ out.old.items
+        ++ line_text (item_line (item_of item.now).state ((writing_of filing.now).words item.now.stack.items))) }
+{
+    write_word(out, b"item")?;
+    write_next_number(out, u64::from(item.node))?;
+    write_guess(out, item.odd)?;
+    write_stack(out, item.stack.as_slice(), filing)?;
+    end_line(out)
+}
+
+// a blank, and the odd priority or `-`
+fn write_guess(out: &mut Vec<u8>, odd: Option<u32>) -> Result<(), NoMemory>
+    ensures { OnOk result (out.new.items ≡ out.old.items ++ next (guess_word odd)) }
+{
+    match odd {
+        None => write_next_word(out, b"-"),
+        Some(odd) => write_next_number(out, u64::from(odd)),
+    }
+}
+
+// the words for a stack, each behind a blank
+fn write_stack(out: &mut Vec<u8>, stack: &[u32], filing: &Filing) -> Result<(), NoMemory>
+    ensures { OnOk result (out.new.items ≡ out.old.items ++ flat_map next ((writing_of filing.now).words stack.now)) }
+{
+    match filing {
+        Filing::InFull => write_numbers(out, stack),
+        Filing::ByTables(tables) => write_next_number(out, place_of(&tables.stacks, stack) as u64),
+    }
+}
+
+// the lines of a decision, in preorder
+fn write_decision(out: &mut Vec<u8>, decision: &Decision) -> Result<(), NoMemory>
+    ensures { OnOk result (out.new.items ≡ out.old.items ++ text_of (decision_lines (decision_of decision.now))) }
+{
+    match decision {
+        Decision::Split { node, left, right } => {
+            write_numbered(out, b"split", u64::from(*node))?;
+            write_decision(out, left)?;
+            write_decision(out, right)
+        }
+        Decision::Clash(cause) => write_clash(out, *cause),
+        Decision::Go {
+            diamond,
+            entry,
+            mark,
+        } => write_go(out, *diamond, *entry, *mark),
+    }
+}
+
+fn write_clash(out: &mut Vec<u8>, cause: Cause) -> Result<(), NoMemory>
+    ensures { OnOk result (out.new.items ≡ out.old.items ++ line_text (clash_line (cause_of cause))) }
+{
+    write_word(out, b"clash")?;
+    match cause {
+        Cause::False(node) => {
+            write_next_word(out, b"false")?;
+            write_next_number(out, u64::from(node))?;
+        }
+        Cause::Pair(positive, negative) => {
+            write_next_word(out, b"pair")?;
+            write_next_number(out, u64::from(positive))?;
+            write_next_number(out, u64::from(negative))?;
+        }
+        Cause::Cycle(node) => {
+            write_next_word(out, b"cycle")?;
+            write_next_number(out, u64::from(node))?;
+        }
+    }
+    end_line(out)
+}
+
+fn write_go(out: &mut Vec<u8>, diamond: u32, entry: u32, mark: Step) -> Result<(), NoMemory>
+    ensures { OnOk result (out.new.items ≡ out.old.items ++ line_text (go_line diamond entry (mark_of mark))) }
+{
+    write_word(out, b"go")?;
+    write_next_number(out, u64::from(diamond))?;
+    write_next_number(out, u64::from(entry))?;
+    match mark {
+        Step::Red(name) => {
+            write_next_word(out, b"red")?;
+            write_next_number(out, u64::from(name))?;
+        }
+        Step::Green(name) => {
+            write_next_word(out, b"green")?;
+            write_next_number(out, u64::from(name))?;
+        }
+        Step::Neutral => write_next_word(out, b"neutral")?,
+    }
+    end_line(out)
+}
+
+// a word with one number behind it
+fn write_numbered(out: &mut Vec<u8>, word: &[u8], n: u64) -> Result<(), NoMemory>
+    ensures { OnOk result (out.new.items ≡ out.old.items ++ line_text (word.now ∷ number n ∷ [])) }
+{
+    write_word(out, word)?;
+    write_next_number(out, n)?;
+    end_line(out)
+}
+
+// a word with numbers behind it
+fn write_listed(out: &mut Vec<u8>, word: &[u8], ns: &[u32]) -> Result<(), NoMemory>
+    ensures { OnOk result (out.new.items ≡ out.old.items ++ line_text (word.now ∷ numbers ns.now)) }
+{
+    write_word(out, word)?;
+    write_numbers(out, ns)?;
+    end_line(out)
+}
+
+// numbers, each behind a blank
+fn write_numbers(out: &mut Vec<u8>, ns: &[u32]) -> Result<(), NoMemory>
+    ensures { OnOk result (out.new.items ≡ out.old.items ++ flat_map next (numbers ns.now)) }
+{
+    for n in ns {
+        write_next_number(out, u64::from(*n))?;
+    }
+    Ok(())
+}

@@ -1,0 +1,170 @@
+-- Turns of the decision game, as vertices of its parity game.
+--
+--   same_place     == different positions have different places
+--   same_spread    == a position has one spread
+--   owner_at, moves_at, priority_at == the parity game at a position
+--   Split_at, split_at == where an or-node is open, Even may go to both sides
+--   odd_at         == where nothing is open and there is a diamond, Odd moves
+use Rattle.std.proofs.Common.{ℕ, zero, suc, ◌≡◌, ◌+◌, ◌<◌, ◌≤◌, ◌⊎◌, inl, inr, List, [], ◌∷◌, Some, length, get_or, map, slice_get, Contains, refl, sym, ap, ◌∙◌, subst, arith}
+use Rattle.std.proofs.lemmas.Bool.{cases_lt}
+use Rattle.std.proofs.lemmas.List.{get_or-map, length-map, get_or_append_left}
+use Rattle.std.proofs.lemmas.Option.{get_or_from_slice_get}
+use Rattle.ml_lists.specs.Member.{IsMember}
+use Rattle.ml_lists.proofs.Ascending.{ascending_same}
+use Rattle.ml_lists.proofs.Members.{contains_head, contains_later}
+use Rattle.ml_graph.specs.Graph.{Graph}
+use Rattle.ml_parity.specs.declared.players.Player.TheVariants.{Even, Odd}
+use Rattle.ml_parity.specs.Game.{HasMove, owner_of, moves_of, priority_of}
+use Rattle.ml_product.specs.Arena.{Arena, AreVertices, IsPlayed, IsArenaOf, game_of}
+use Rattle.ml_product.specs.DecisionGame.{Verdict, Clashing, Open, Leading, Settled, Target, To, mover, IsResolved, IsVerdictOf, diamonds_of, AreMoves, AreDifferent}
+use Rattle.ml_product.specs.Position.{Position, with_chosen}
+use Rattle.ml_sequent.specs.declared.choice.Side.{Side}
+use Rattle.ml_sequent.specs.declared.choice.Side.TheVariants.{Left, Right}
+use Rattle.ml_sequent.specs.Spread.{SpreadList, IsSpreadOf, IsLeastOpenOr}
+use Rattle.ml_refute.proofs.Places.{placed_member, placed_low}
+
+-- different positions have different places
+pub same_place : (ps : List Position)
+    → AreDifferent ps
+    → (i j : ℕ) (p : Position)
+    → slice_get ps i ≡ Some p
+    → slice_get ps j ≡ Some p
+    → i ≡ j
+same_place [] apart i j p e f = cc
+same_place (x ∷ xs) apart zero zero p e f = refl
+same_place (x ∷ xs) apart zero (suc j) p e f =
+    let same : p ≡ x = cc in
+    absurd (apart.0 (subst (λ y. IsMember y xs) same (placed_member xs j p f)))
+same_place (x ∷ xs) apart (suc i) zero p e f =
+    let same : p ≡ x = cc in
+    absurd (apart.0 (subst (λ y. IsMember y xs) same (placed_member xs i p e)))
+same_place (x ∷ xs) apart (suc i) (suc j) p e f = ap suc (same_place xs apart.1 i j p e f)
+
+-- a position has one spread
+pub same_spread : (g : Graph) (c : List ℕ) (h : List (ℕ × Side)) (x y : SpreadList)
+    → IsSpreadOf g c h x
+    → IsSpreadOf g c h y
+    → x ≡ y
+same_spread g c h x y at_x at_y = λ i. record { nodes = nodes i; choice = choices i }
+  where
+    nodes : x.nodes ≡ y.nodes
+    nodes =
+        ascending_same x.nodes y.nodes at_x.ascends at_y.ascends
+        (λ n m. (at_y.nodes n).1 ((at_x.nodes n).0 m))
+        (λ n m. (at_x.nodes n).1 ((at_y.nodes n).0 m))
+
+    choices : x.choice ≡ y.choice
+    choices = at_x.choice ∙ sym at_y.choice
+
+module _ (g : Graph) (a : Arena) (arena : IsArenaOf g a) (v : ℕ) (p : Position) (placed : slice_get a.positions v ≡ Some p) where
+  low : v < length a.positions
+  low = placed_low a.positions v p placed
+
+  pub owner_at : owner_of (game_of a) v ≡ get_or a.owners v Even
+  owner_at = get_or_append_left a.owners (Even ∷ Even ∷ []) Even v (omega (arith, low, arena.an_owner_each))
+
+  pub moves_at : moves_of (game_of a) v ≡ get_or a.moves v []
+  moves_at =
+      get_or_append_left a.moves ((length a.positions ∷ []) ∷ ((length a.positions + 1) ∷ []) ∷ []) [] v (omega (arith, low, arena.moves_each))
+
+  pub priority_is : priority_of (game_of a) v ≡ p.priority
+  priority_is =
+      get_or_append_left (map (λ (q : Position). q.priority) a.positions) (1 ∷ 0 ∷ []) 0 v (omega (arith, low, length-map a.positions (λ (q : Position). q.priority)))
+      ∙ get_or-map (λ (q : Position). q.priority) a.positions v p 0 low
+      ∙ ap (λ (q : Position). q.priority) (get_or_from_slice_get a.positions v p p placed)
+
+  turn : IsPlayed g a.positions p (get_or a.owners v Even) (get_or a.moves v [])
+  turn = arena.played v p placed
+
+  -- the vertices of the two sides of an or-node
+  pub record SplitAt (n : ℕ) : Type 0 where
+    pub left : ℕ
+    pub right : ℕ
+    pub left_is : slice_get a.positions left ≡ Some (with_chosen g p n Left)
+    pub right_is : slice_get a.positions right ≡ Some (with_chosen g p n Right)
+    pub is_even : owner_of (game_of a) v ≡ Even
+    pub to_left : HasMove (game_of a) v left
+    pub to_right : HasMove (game_of a) v right
+
+  -- where an or-node is open, Even may go to both sides
+  pub split_at : (n : ℕ) (sp : SpreadList) → IsSpreadOf g p.sequent p.choice sp → IsVerdictOf g sp (Open n) → SplitAt n
+  split_at n sp is_spread is =
+      of_turn turn.turn.verdict refl turn.turn.is_verdict turn.turn.are_moves
+    where
+      same : turn.turn.spread ≡ sp
+      same = same_spread g p.sequent p.choice turn.turn.spread sp turn.turn.is_spread is_spread
+
+      is_here : IsVerdictOf g turn.turn.spread (Open n)
+      is_here = subst (λ x. IsVerdictOf g x (Open n)) (sym same) is
+
+      one_least : (m : ℕ) → IsLeastOpenOr g turn.turn.spread m → (n < m) ⊎ (m < n) ⊎ (m ≡ n) → m ≡ n
+      one_least m least (inl early) = absurd (least.least n early is_here.1.is_open)
+      one_least m least (inr (inl early)) = absurd (is_here.1.least m early least.is_open)
+      one_least m least (inr (inr e)) = e
+
+      compare : (m : ℕ) → (n < m) ⊎ (m < n) ⊎ (m ≡ n)
+      compare m = by_first (cases_lt n m) (cases_lt m n)
+        where
+          by_first : (n < m) ⊎ (m ≤ n) → (m < n) ⊎ (n ≤ m) → (n < m) ⊎ (m < n) ⊎ (m ≡ n)
+          by_first (inl early) other = inl early
+          by_first (inr le) (inl early) = inr (inl early)
+          by_first (inr le) (inr ge) = inr (inr (omega arith))
+
+      of_moves : (m : ℕ)
+          → m ≡ n
+          → (ts : List Target)
+          → ts ≡ To (with_chosen g p m Left) ∷ To (with_chosen g p m Right) ∷ []
+          → (ws : List ℕ)
+          → AreVertices a.positions ts ws
+          → get_or a.moves v [] ≡ ws
+          → get_or a.owners v Even ≡ Even
+          → SplitAt n
+      of_moves m m_is ts ts_is ws vs ws_is owner_is =
+          from (subst (λ x. AreVertices a.positions x ws) (ts_is ∙ ap (λ k. To (with_chosen g p k Left) ∷ To (with_chosen g p k Right) ∷ []) m_is) vs)
+        where
+          from : AreVertices a.positions (To (with_chosen g p n Left) ∷ To (with_chosen g p n Right) ∷ []) ws
+              → SplitAt n
+          from (l, rest, l_is, (k, none, k_is, none_is, rest_is), ws_are) =
+              let all : moves_of (game_of a) v ≡ l ∷ k ∷ none = moves_at ∙ ws_is ∙ ws_are ∙ ap (λ x. l ∷ x) rest_is in
+              record {
+                left = l;
+                right = k;
+                left_is = l_is;
+                right_is = k_is;
+                is_even = owner_at ∙ owner_is;
+                to_left = subst (λ x. Contains x l) (sym all) (contains_head l (k ∷ none));
+                to_right = subst (λ x. Contains x k) (sym all) (contains_later l (k ∷ none) k (contains_head k none));
+              }
+
+      of_turn : (x : Verdict)
+          → turn.turn.verdict ≡ x
+          → IsVerdictOf g turn.turn.spread x
+          → AreMoves g p turn.turn.spread x turn.turn.targets
+          → SplitAt n
+      of_turn Clashing e at moves = absurd (is_here.0 at.0 at.1)
+      of_turn (Open m) e at moves =
+          of_moves m (one_least m at.1 (compare m)) turn.turn.targets moves (get_or a.moves v []) turn.moves_are refl (turn.owner_is ∙ ap mover e)
+      of_turn (Leading ds) e at moves = absurd (at.0.none_open n is_here.1.is_open)
+      of_turn Settled e at moves = absurd (at.0.none_open n is_here.1.is_open)
+
+  -- where nothing is open and there is a diamond, Odd moves
+  pub odd_at : (d : ℕ) (sp : SpreadList)
+      → IsSpreadOf g p.sequent p.choice sp
+      → IsResolved g sp
+      → IsMember d (diamonds_of g sp)
+      → owner_of (game_of a) v ≡ Odd
+  odd_at d sp is_spread resolved inside =
+      owner_at ∙ turn.owner_is ∙ of_turn turn.turn.verdict turn.turn.is_verdict
+    where
+      same : turn.turn.spread ≡ sp
+      same = same_spread g p.sequent p.choice turn.turn.spread sp turn.turn.is_spread is_spread
+
+      here : IsResolved g turn.turn.spread
+      here = subst (IsResolved g) (sym same) resolved
+
+      of_turn : (x : Verdict) → IsVerdictOf g turn.turn.spread x → mover x ≡ Odd
+      of_turn Clashing at = absurd (here.no_clash at.0 at.1)
+      of_turn (Open m) at = absurd (here.none_open m at.1.is_open)
+      of_turn (Leading ds) at = refl
+      of_turn Settled at =
+          absurd (subst (λ ds. IsMember d ds) at.1 (subst (λ x. IsMember d (diamonds_of g x)) (sym same) inside))

@@ -1,0 +1,33 @@
+-- What is true of extracted refutations.
+--
+-- That they break no rule doesn't rest on who wins: their heights are the longest counts in the graph of the go's, and
+-- with these no rule is broken. That there are such counts does: it is asked that Odd wins the start.
+--
+--   ExtractedAccepted   == the extracted refutation breaks no rule of acceptance
+--   NoEvenCycle         == where Odd wins the start, no cycle of go's is even, so that the counts exist
+--   ExtractedRefutation == it is a refutation with numbers of 32 bits and splits that aren't nested too deep, where the graph
+--                          has no more nodes than splits may be nested, and its priorities and the number of positions fit
+use Rattle.std.specs.Prelude.{◌≡◌, ◌≤◌, length, All}
+use Rattle.ml_graph.specs.Graph.{Graph, IsGraph, size}
+use Rattle.ml_parity.specs.declared.players.Player.TheVariants.{Odd}
+use Rattle.ml_parity.specs.Heights.{IsOneSided, EvenCycleIn}
+use Rattle.ml_parity.specs.Solution.{GameSolution, IsSolution, winner_at}
+use Rattle.ml_product.specs.Arena.{Arena, IsArenaOf, game_of}
+use Rattle.ml_refutation.specs.declared.refutation.TheConstants.{NESTING_LIMIT}
+use Rattle.ml_refutation.specs.Refutation.{Refutation, IsRefutation, Fits}
+use Rattle.ml_refutation.specs.Acceptance.{IsAccepted}
+use Rattle.ml_refute.specs.Extracted.{IsOutlineOf, go_graph, IsRefutationOf}
+
+abbrev pub ExtractedAccepted : Type 0
+ExtractedAccepted =
+    (g : Graph) (a : Arena) (s : GameSolution) (r : Refutation) → IsArenaOf g a → IsRefutationOf g a s r → IsAccepted g r
+
+abbrev pub NoEvenCycle : Type 0
+NoEvenCycle =
+    (g : Graph) (a : Arena) (s : GameSolution) (r : Refutation) → IsArenaOf g a → IsSolution (game_of a) s → winner_at s.winner 0 ≡ Odd
+    → IsOutlineOf g a s r → IsOneSided (go_graph r) × (¬ (EvenCycleIn (go_graph r)))
+
+abbrev pub ExtractedRefutation : Type 0
+ExtractedRefutation =
+    (g : Graph) (a : Arena) (s : GameSolution) (r : Refutation) → IsGraph g → size g ≤ NESTING_LIMIT → All Fits g.priorities
+    → Fits (length a.positions) → IsArenaOf g a → IsRefutationOf g a s r → IsRefutation r

@@ -1,0 +1,4 @@
+-- the refutation that a solution of the decision game makes
+pub mod Extracted
+-- what is true of it
+pub mod Laws
