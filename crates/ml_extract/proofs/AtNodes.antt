@@ -94,11 +94,15 @@ module _ (S : Setting) (t : AtState S) where
   })
 
   -- and so are the children of those that are
-  pub child_in : (n e : ℕ) → IsMember n t.state.spread.nodes → IsMember e (children S.g t.state.spread.choice n) → IsMember e t.state.spread.nodes
+  pub child_in : (n e : ℕ)
+      → IsMember n t.state.spread.nodes
+      → IsMember e (children S.g t.state.spread.choice n)
+      → IsMember e t.state.spread.nodes
   child_in n e m child =
       let c = resolved_at S t in
       let is = subst (λ d. IsMember e (children S.g d n)) c.is_spread.choice child in
-      (c.is_spread.nodes e).1 (spread_along S.g c.position.choice c.position.sequent n _ e ((c.is_spread.nodes n).0 m) (goes n e is (stays e)))
+      (c.is_spread.nodes e).1 (spread_along S.g c.position.choice c.position.sequent n _ e ((c.is_spread.nodes n).0 m)
+      (goes n e is (stays e)))
 
   -- the state to which a diamond leads
   pub record Next (d : ℕ) : Type 0 where
@@ -107,8 +111,12 @@ module _ (S : Setting) (t : AtState S) where
     pub follows : Follows S.g (resolved_at S t).position t.state.spread d place.position
     pub step : EvenMove S t.state.last place.state.first
 
-  pub next_at : (d j : ℕ) (y : State) → slice_get S.model.states j ≡ Some y → IsMember (d, y.first) (nexts S.g S.a t.state) → Next d
-  next_at d j y is leads = from (way_of S t.position t.state.first t.state.last t.state.spread (resolved_at S t) d y.first leads)
+  pub next_at : (d j : ℕ) (y : State)
+      → slice_get S.model.states j ≡ Some y
+      → IsMember (d, y.first) (nexts S.g S.a t.state)
+      → Next d
+  next_at d j y is leads =
+      from (way_of S t.position t.state.first t.state.last t.state.spread (resolved_at S t) d y.first leads)
     where
       from : Way S (resolved_at S t).position t.state.spread t.state.last d y.first → Next d
       from w = record {
@@ -150,7 +158,8 @@ module _ (S : Setting) (t : AtState S) where
       not_holding h =
           let m_ok = is_structure S in
           let even = (one_step S.g S.m S.g_ok m_ok t.number n vertex.0 vertex.1).1 h in
-          clash (checking_game S.g S.m) (is_game S.g S.m S.g_ok m_ok) Even (pair S t.number n) (vertex_low S.g S.m S.g_ok m_ok (Pair t.number n) vertex) even
+          clash (checking_game S.g S.m) (is_game S.g S.m S.g_ok m_ok) Even (pair S t.number n)
+          (vertex_low S.g S.m S.g_ok m_ok (Pair t.number n) vertex) even
           (record { strategy = R.moves; is_strategy = R.is_strategy; wins = wins })
 
       -- a move at a vertex of Even's
@@ -158,9 +167,12 @@ module _ (S : Setting) (t : AtState S) where
           → OddMove S R (pair S t.number n) (vertex_number S.g S.m w)
       free_move own w h = record {
         move = subst (λ ws. Contains ws (vertex_number S.g S.m w)) (sym (moves_are S.g S.m (Pair t.number n) vertex))
-            (contains_of_member (vertex_number S.g S.m w) (map (vertex_number S.g S.m) (successors S.g S.m (Pair t.number n)))
+            (contains_of_member (vertex_number S.g S.m w) (map (vertex_number S.g S.m)
+            (successors S.g S.m (Pair t.number n)))
             (member-map (vertex_number S.g S.m) w (successors S.g S.m (Pair t.number n)) h));
-        chosen = λ odd. absurd (let wrong : Even ≡ Odd = sym own ∙ sym (owner_is S.g S.m (Pair t.number n) vertex) ∙ odd in cc);
+        chosen =
+            λ odd. absurd (let wrong : Even ≡ Odd = sym own ∙ sym (owner_is S.g S.m (Pair t.number n) vertex)
+            ∙ odd in cc);
       }
 
       -- Odd's move at a vertex of Odd's
@@ -170,20 +182,28 @@ module _ (S : Setting) (t : AtState S) where
         pub reply : OddMove S R (pair S t.number n) (vertex_number S.g S.m to)
 
       odd_reply : mover (node_at S.g n) ≡ Odd → Reply
-      odd_reply own = from (member-map_from (vertex_number S.g S.m) (R.moves (pair S t.number n)) (successors S.g S.m (Pair t.number n)) among)
+      odd_reply own =
+          from (member-map_from (vertex_number S.g S.m) (R.moves (pair S t.number n))
+          (successors S.g S.m (Pair t.number n)) among)
         where
           owned : owner_of (checking_game S.g S.m) (pair S t.number n) ≡ Odd
           owned = owner_is S.g S.m (Pair t.number n) vertex ∙ own
 
           move : HasMove (checking_game S.g S.m) (pair S t.number n) (R.moves (pair S t.number n))
-          move = R.is_strategy (pair S t.number n) (vertex_low S.g S.m S.g_ok (is_structure S) (Pair t.number n) vertex) owned
+          move =
+              R.is_strategy (pair S t.number n) (vertex_low S.g S.m S.g_ok (is_structure S) (Pair t.number n) vertex)
+              owned
 
-          among : IsMember (R.moves (pair S t.number n)) (map (vertex_number S.g S.m) (successors S.g S.m (Pair t.number n)))
+          among : IsMember (R.moves (pair S t.number n)) (map (vertex_number S.g S.m)
+              (successors S.g S.m (Pair t.number n)))
           among =
-              member_of_contains (R.moves (pair S t.number n)) (map (vertex_number S.g S.m) (successors S.g S.m (Pair t.number n)))
-              (subst (λ ws. Contains ws (R.moves (pair S t.number n))) (moves_are S.g S.m (Pair t.number n) vertex) move)
+              member_of_contains (R.moves (pair S t.number n)) (map (vertex_number S.g S.m)
+              (successors S.g S.m (Pair t.number n)))
+              (subst (λ ws. Contains ws (R.moves (pair S t.number n))) (moves_are S.g S.m (Pair t.number n) vertex)
+              move)
 
-          from : Image (vertex_number S.g S.m) (R.moves (pair S t.number n)) (successors S.g S.m (Pair t.number n)) → Reply
+          from : Image (vertex_number S.g S.m) (R.moves (pair S t.number n)) (successors S.g S.m (Pair t.number n))
+              → Reply
           from i = record {
             to = i.from;
             successor = i.member;
@@ -198,14 +218,17 @@ module _ (S : Setting) (t : AtState S) where
       positive : (p : ℕ) → node_at S.g n ≡ node.Lit p true → lists S.m t.number (prop_at S.g p) ≡ true
       positive p is =
           let name = prop_at S.g p in
-          let label : IsLabel S.g t.state name = record { literal = n; prop = p; member = member; is_positive = is; named = refl } in
-          (lists_iff S.m t.number name).1 (contains_of_member name (slice_index_or S.m.labels t.number []) ((S.model.labels t.number t.state t.is_state name).1 label))
+          let label : IsLabel S.g t.state name =
+          record { literal = n; prop = p; member = member; is_positive = is; named = refl } in
+          (lists_iff S.m t.number name).1 (contains_of_member name (slice_index_or S.m.labels t.number [])
+          ((S.model.labels t.number t.state t.is_state name).1 label))
 
       -- both literals of a proposition would be a clash
       no_partner : (p : ℕ) → node_at S.g n ≡ node.Lit p false → IsLabel S.g t.state (prop_at S.g p) → ⊥
       no_partner p is label =
           let partner_low = (resolved_at S t).is_spread.low label.literal label.member in
-          let same : p ≡ label.prop = same_place S.g.props S.g_ok.props_differ p label.prop (prop_in_range S.g S.g_ok n vertex.1 p false is)
+          let same : p ≡ label.prop =
+          same_place S.g.props S.g_ok.props_differ p label.prop (prop_in_range S.g S.g_ok n vertex.1 p false is)
           (prop_in_range S.g S.g_ok label.literal partner_low label.prop true label.is_positive) label.named in
           let two : IsPair S.g label.literal n = record {
             prop = p;
@@ -214,15 +237,22 @@ module _ (S : Setting) (t : AtState S) where
           } in
           (resolved_at S t).resolved.no_clash (cause.Pair label.literal n) (label.member, member, two)
 
-      negative : (p : ℕ) → node_at S.g n ≡ node.Lit p false → (b : Bool) → lists S.m t.number (prop_at S.g p) ≡ b → lists S.m t.number (prop_at S.g p) ≡ false
+      negative : (p : ℕ)
+          → node_at S.g n ≡ node.Lit p false
+          → (b : Bool)
+          → lists S.m t.number (prop_at S.g p) ≡ b
+          → lists S.m t.number (prop_at S.g p) ≡ false
       negative p is false e = e
       negative p is true e =
           let name = prop_at S.g p in
-          absurd (no_partner p is ((S.model.labels t.number t.state t.is_state name).0 (member_of_contains name (slice_index_or S.m.labels t.number []) ((lists_iff S.m t.number name).0 e))))
+          absurd (no_partner p is ((S.model.labels t.number t.state t.is_state name).0
+          (member_of_contains name (slice_index_or S.m.labels t.number []) ((lists_iff S.m t.number name).0 e))))
 
       literal : (p : ℕ) (sign : Bool) → node_at S.g n ≡ node.Lit p sign → ⊥
       literal p true is = not_holding (subst (NodeHolds S.g S.m t.number) (sym is) (positive p is))
-      literal p false is = not_holding (subst (NodeHolds S.g S.m t.number) (sym is) (negative p is (lists S.m t.number (prop_at S.g p)) refl))
+      literal p false is =
+          not_holding (subst (NodeHolds S.g S.m t.number) (sym is)
+          (negative p is (lists S.m t.number (prop_at S.g p)) refl))
 
       -- ---- local moves
 
@@ -232,9 +262,16 @@ module _ (S : Setting) (t : AtState S) where
           child : (e : ℕ) → IsMember e (l ∷ r ∷ []) → IsMember e (children S.g t.state.spread.choice n)
           child e h = subst (λ x. IsMember e (children_of t.state.spread.choice n x)) (sym is) h
 
-          by_place : (w : Vertex) → OddMove S R (pair S t.number n) (vertex_number S.g S.m w) → IsMember w (Pair t.number l ∷ Pair t.number r ∷ []) → AtNode n
-          by_place w move (inl left) = inside l (child l (inl refl)) (subst (λ v. OddMove S R (pair S t.number n) (vertex_number S.g S.m v)) left move)
-          by_place w move (inr (inl right)) = inside r (child r (inr (inl refl))) (subst (λ v. OddMove S R (pair S t.number n) (vertex_number S.g S.m v)) right move)
+          by_place : (w : Vertex)
+              → OddMove S R (pair S t.number n) (vertex_number S.g S.m w)
+              → IsMember w (Pair t.number l ∷ Pair t.number r ∷ [])
+              → AtNode n
+          by_place w move (inl left) =
+              inside l (child l (inl refl)) (subst (λ v. OddMove S R (pair S t.number n) (vertex_number S.g S.m v))
+              left move)
+          by_place w move (inr (inl right)) =
+              inside r (child r (inr (inl refl))) (subst (λ v. OddMove S R (pair S t.number n)
+              (vertex_number S.g S.m v)) right move)
           by_place w move (inr (inr none)) = absurd none
 
           from : Reply → AtNode n
@@ -244,13 +281,24 @@ module _ (S : Setting) (t : AtState S) where
       side_member i l r Left = inl refl
       side_member i l r Right = inr (inl refl)
 
-      at_or : (l r : ℕ) → node_at S.g n ≡ node.Or l r → (o : Option Side) → side_of t.state.spread.choice n ≡ o → AtNode n
+      at_or : (l r : ℕ)
+          → node_at S.g n ≡ node.Or l r
+          → (o : Option Side)
+          → side_of t.state.spread.choice n ≡ o
+          → AtNode n
       at_or l r is None side =
-          absurd ((resolved_at S t).resolved.none_open n (record { member = member; is_open = record { left = l; right = r; is_or = is; unchosen = side } }))
+          absurd ((resolved_at S t).resolved.none_open n (record {
+            member = member;
+            is_open = record { left = l; right = r; is_or = is; unchosen = side };
+          }))
       at_or l r is (Some x) side =
-          let first : IsMember (chosen x l r) (chosen_child (side_of t.state.spread.choice n) l r) = subst (λ o. IsMember (chosen x l r) (chosen_child o l r)) (sym side) (inl refl) in
-          inside (chosen x l r) (subst (λ y. IsMember (chosen x l r) (children_of t.state.spread.choice n y)) (sym is) first)
-          (free_move (ap mover is) (Pair t.number (chosen x l r)) (subst (IsMember (Pair t.number (chosen x l r))) (sym (ap (successors_of S.g S.m t.number) is)) (side_member t.number l r x)))
+          let first : IsMember (chosen x l r) (chosen_child (side_of t.state.spread.choice n) l r) =
+          subst (λ o. IsMember (chosen x l r) (chosen_child o l r)) (sym side) (inl refl) in
+          inside (chosen x l r) (subst (λ y. IsMember (chosen x l r) (children_of t.state.spread.choice n y)) (sym is)
+          first)
+          (free_move (ap mover is) (Pair t.number (chosen x l r))
+          (subst (IsMember (Pair t.number (chosen x l r))) (sym (ap (successors_of S.g S.m t.number) is))
+          (side_member t.number l r x)))
 
       -- ---- along edges
 
@@ -260,14 +308,16 @@ module _ (S : Setting) (t : AtState S) where
 
       at_diamond : (a to : ℕ) → node_at S.g n ≡ node.Diamond a to → AtNode n
       unfolding next_at
-      at_diamond a to is = from (way_for S t.position t.state.first t.state.last t.state.spread (resolved_at S t) n among)
+      at_diamond a to is =
+          from (way_for S t.position t.state.first t.state.last t.state.spread (resolved_at S t) n among)
         where
           among : IsMember n (diamonds_of S.g t.state.spread)
           among = member-filter (λ k. is_diamond (node_at S.g k)) n t.state.spread.nodes member (ap is_diamond is)
 
           to_state : (u : ℕ) → IsMember (n, u) (nexts S.g S.a t.state) → StateAt S.model.states u → AtNode n
           to_state u leads y =
-              let leads_there : IsMember (n, y.state.first) (nexts S.g S.a t.state) = subst (λ v. IsMember (n, v) (nexts S.g S.a t.state)) (sym y.first_is) leads in
+              let leads_there : IsMember (n, y.state.first) (nexts S.g S.a t.state) =
+              subst (λ v. IsMember (n, v) (nexts S.g S.a t.state)) (sym y.first_is) leads in
               let edge = edge_for S t.number y.number t.state y.state t.is_state y.stands n a to leads_there is in
               let target = target_in S.m t.number (action_at S.g a) y.number edge in
               crosses (record {
@@ -276,7 +326,8 @@ module _ (S : Setting) (t : AtState S) where
                 child = to;
                 leads = record { action = a; child = to; is_diamond = is; leaves = inl (refl, refl) };
                 move = free_move (ap mover is) (Pair y.number to)
-                    (subst (IsMember (Pair y.number to)) (sym (ap (successors_of S.g S.m t.number) is)) (pair_member to 1 y.number (targets S.m t.number (action_at S.g a)) target));
+                    (subst (IsMember (Pair y.number to)) (sym (ap (successors_of S.g S.m t.number) is))
+                    (pair_member to 1 y.number (targets S.m t.number (action_at S.g a)) target));
               })
 
           from : ((u : ℕ) × IsMember (n, u) (nexts S.g S.a t.state)) → AtNode n
@@ -285,7 +336,10 @@ module _ (S : Setting) (t : AtState S) where
               (state_for S t.state (member_of_get S.model.states t.number t.state t.is_state) w.0
               (member-map (λ (next : ℕ × ℕ). next.1) (n, w.0) (nexts S.g S.a t.state) w.1))
 
-      same_state : (x y : State) → slice_get S.model.states t.number ≡ Some x → slice_get S.model.states t.number ≡ Some y → x ≡ y
+      same_state : (x y : State)
+          → slice_get S.model.states t.number ≡ Some x
+          → slice_get S.model.states t.number ≡ Some y
+          → x ≡ y
       same_state x y a b = let e : Some x ≡ Some y = sym a ∙ b in cc
 
       at_square : (a to : ℕ) → node_at S.g n ≡ node.Square a to → AtNode n
@@ -295,14 +349,25 @@ module _ (S : Setting) (t : AtState S) where
           name : List ℕ
           name = action_at S.g a
 
-          by_edge : (j : ℕ) → OddMove S R (pair S t.number n) (pair S j to) → (e : EdgeTo S.m t.number (action_at S.g a) j) → IsModelEdge S.g S.a S.model.states e.edge → AtNode n
+          by_edge : (j : ℕ)
+              → OddMove S R (pair S t.number n) (pair S j to)
+              → (e : EdgeTo S.m t.number (action_at S.g a) j)
+              → IsModelEdge S.g S.a S.model.states e.edge
+              → AtNode n
           by_edge j move e k =
-              let state_is : k.from ≡ t.state = same_state k.from t.state (subst (λ i. slice_get S.model.states i ≡ Some k.from) e.source_is k.from_is) t.is_state in
-              let leads : IsMember (k.diamond, k.to.first) (nexts S.g S.a t.state) = subst (λ x. IsMember (k.diamond, k.to.first) (nexts S.g S.a x)) state_is k.leads in
-              let to_is : slice_get S.model.states j ≡ Some k.to = subst (λ i. slice_get S.model.states i ≡ Some k.to) e.target_is k.to_is in
-              let diamond_low = (way_of S t.position t.state.first t.state.last t.state.spread (resolved_at S t) k.diamond k.to.first leads).inside in
+              let state_is : k.from ≡ t.state =
+              same_state k.from t.state (subst (λ i. slice_get S.model.states i ≡ Some k.from) e.source_is
+              k.from_is) t.is_state in
+              let leads : IsMember (k.diamond, k.to.first) (nexts S.g S.a t.state) =
+              subst (λ x. IsMember (k.diamond, k.to.first) (nexts S.g S.a x)) state_is k.leads in
+              let to_is : slice_get S.model.states j ≡ Some k.to =
+              subst (λ i. slice_get S.model.states i ≡ Some k.to) e.target_is k.to_is in
+              let diamond_low =
+              (way_of S t.position t.state.first t.state.last t.state.spread (resolved_at S t) k.diamond
+              k.to.first leads).inside in
               let action_is : k.action ≡ a = same_place S.g.actions S.g_ok.actions_differ k.action a
-              (diamond_action S.g S.g_ok k.diamond ((resolved_at S t).is_spread.low k.diamond diamond_low) k.action k.child k.is_diamond)
+              (diamond_action S.g S.g_ok k.diamond ((resolved_at S t).is_spread.low k.diamond diamond_low) k.action
+              k.child k.is_diamond)
               (square_action S.g S.g_ok n vertex.1 a to is) (sym k.action_is ∙ e.action_is) in
               crosses (record {
                 diamond = k.diamond;
@@ -317,15 +382,22 @@ module _ (S : Setting) (t : AtState S) where
                 move = move;
               })
 
-          by_target : (j : ℕ) → OddMove S R (pair S t.number n) (pair S j to) → IsMember j (targets S.m t.number (action_at S.g a)) → AtNode n
+          by_target : (j : ℕ)
+              → OddMove S R (pair S t.number n) (pair S j to)
+              → IsMember j (targets S.m t.number (action_at S.g a))
+              → AtNode n
           by_target j move target =
               let e = target_from S.m t.number (action_at S.g a) j target in
               by_edge j move e ((S.model.edges e.edge).0 e.member)
 
-          by_targets : (ts : List ℕ) → targets S.m t.number (action_at S.g a) ≡ ts → (w : Vertex) → OddMove S R (pair S t.number n) (vertex_number S.g S.m w)
+          by_targets : (ts : List ℕ)
+              → targets S.m t.number (action_at S.g a) ≡ ts
+              → (w : Vertex)
+              → OddMove S R (pair S t.number n) (vertex_number S.g S.m w)
               → IsMember w (pairs_or_sink to 0 ts) → AtNode n
           by_targets [] none w move h =
-              absurd (not_holding (subst (NodeHolds S.g S.m t.number) (sym is) (λ u c. absurd (contains_none u (subst (λ us. Contains us u) none c)))))
+              absurd (not_holding (subst (NodeHolds S.g S.m t.number) (sym is)
+              (λ u c. absurd (contains_none u (subst (λ us. Contains us u) none c)))))
           by_targets (x ∷ xs) some w move h = of_image (member-map_from (λ s. Pair s to) w (x ∷ xs) h)
             where
               of_image : Image (λ s. Pair s to) w (x ∷ xs) → AtNode n
@@ -334,7 +406,9 @@ module _ (S : Setting) (t : AtState S) where
                   (subst (IsMember i.from) (sym some) i.member)
 
           from : Reply → AtNode n
-          from o = by_targets (targets S.m t.number (action_at S.g a)) refl o.to o.reply (subst (IsMember o.to) (ap (successors_of S.g S.m t.number) is) o.successor)
+          from o =
+              by_targets (targets S.m t.number (action_at S.g a)) refl o.to o.reply
+              (subst (IsMember o.to) (ap (successors_of S.g S.m t.number) is) o.successor)
 
       by_kind : (x : Node) → node_at S.g n ≡ x → AtNode n
       by_kind node.True is = absurd (not_holding (subst (NodeHolds S.g S.m t.number) (sym is) tt))

@@ -38,16 +38,21 @@ same_parts : (x y : SpreadList) → x.nodes ≡ y.nodes → x.choice ≡ y.choic
 same_parts x y e f = λ i. record { nodes = e i; choice = f i }
 
 -- a set of nodes has one spread under a choice
-pub same_spread : (g : Graph) (C : List ℕ) (c : List (ℕ × Side)) (x y : SpreadList) → IsSpreadOf g C c x → IsSpreadOf g C c y → x ≡ y
+pub same_spread : (g : Graph) (C : List ℕ) (c : List (ℕ × Side)) (x y : SpreadList)
+    → IsSpreadOf g C c x
+    → IsSpreadOf g C c y
+    → x ≡ y
 same_spread g C c x y p q =
     same_parts x y
-    (ascending_same x.nodes y.nodes p.ascends q.ascends (λ v i. (q.nodes v).1 ((p.nodes v).0 i)) (λ v i. (p.nodes v).1 ((q.nodes v).0 i)))
+    (ascending_same x.nodes y.nodes p.ascends q.ascends (λ v i. (q.nodes v).1 ((p.nodes v).0 i))
+    (λ v i. (p.nodes v).1 ((q.nodes v).0 i)))
     (p.choice ∙ sym q.choice)
 
 -- ---- diamonds and their vertices
 
 -- where the diamond d leads from p
-pub record Along (g : Graph) (positions : List Position) (p : Position) (sp : SpreadList) (ds vs : List ℕ) (d v : ℕ) : Type 0 where
+pub record Along (g : Graph) (positions : List Position) (p : Position) (sp : SpreadList) (ds vs : List ℕ)
+    (d v : ℕ) : Type 0 where
   pub diamond : IsMember d ds
   pub vertex : IsMember v vs
   pub position : Position
@@ -59,12 +64,15 @@ module _ (g : Graph) (positions : List Position) (p : Position) (sp : SpreadList
       → (d v : ℕ) → IsMember (d, v) (zip ds vs) → Along g positions p sp ds vs d v
   along [] ts vs steps vertices d v m = absurd m
   along (e ∷ ds) ts vs (q, others, follows, rest, is) vertices d v m =
-      from (subst (λ xs. AreVertices positions xs vs) is vertices) (λ behind later. along ds others behind rest later d v)
+      from (subst (λ xs. AreVertices positions xs vs) is vertices)
+      (λ behind later. along ds others behind rest later d v)
     where
       from : AreVertices positions (To q ∷ others) vs
-          → ((behind : List ℕ) → AreVertices positions others behind → IsMember (d, v) (zip ds behind) → Along g positions p sp ds behind d v)
+          → ((behind : List ℕ) → AreVertices positions others behind → IsMember (d, v) (zip ds behind) → Along g
+          positions p sp ds behind d v)
           → Along g positions p sp (e ∷ ds) vs d v
-      from (w, behind, stands, later, are) onward = by_place (subst (λ xs. IsMember (d, v) (zip (e ∷ ds) xs)) are m) (onward behind later)
+      from (w, behind, stands, later, are) onward =
+          by_place (subst (λ xs. IsMember (d, v) (zip (e ∷ ds) xs)) are m) (onward behind later)
         where
           by_place : IsMember (d, v) ((e, w) ∷ zip ds behind)
               → (IsMember (d, v) (zip ds behind) → Along g positions p sp ds behind d v)
@@ -93,17 +101,21 @@ module _ (g : Graph) (positions : List Position) (p : Position) (sp : SpreadList
       → (d : ℕ) → IsMember d ds → (v : ℕ) × IsMember (d, v) (zip ds vs)
   paired [] ts vs steps vertices d m = absurd m
   paired (e ∷ ds) ts vs (q, others, follows, rest, is) vertices d m =
-      from (subst (λ xs. AreVertices positions xs vs) is vertices) (λ behind later. paired ds others behind rest later d)
+      from (subst (λ xs. AreVertices positions xs vs) is vertices)
+      (λ behind later. paired ds others behind rest later d)
     where
       from : AreVertices positions (To q ∷ others) vs
-          → ((behind : List ℕ) → AreVertices positions others behind → IsMember d ds → (v : ℕ) × IsMember (d, v) (zip ds behind))
+          → ((behind : List ℕ) → AreVertices positions others behind → IsMember d ds → (v : ℕ) × IsMember (d, v)
+          (zip ds behind))
           → (v : ℕ) × IsMember (d, v) (zip (e ∷ ds) vs)
       from (w, behind, stands, later, are) onward = by_place m (onward behind later)
         where
           back : (v : ℕ) → IsMember (d, v) (zip (e ∷ ds) (w ∷ behind)) → IsMember (d, v) (zip (e ∷ ds) vs)
           back v i = subst (λ xs. IsMember (d, v) (zip (e ∷ ds) xs)) (sym are) i
 
-          by_place : (d ≡ e) ⊎ IsMember d ds → (IsMember d ds → (v : ℕ) × IsMember (d, v) (zip ds behind)) → (v : ℕ) × IsMember (d, v) (zip (e ∷ ds) vs)
+          by_place : (d ≡ e) ⊎ IsMember d ds
+              → (IsMember d ds → (v : ℕ) × IsMember (d, v) (zip ds behind))
+              → (v : ℕ) × IsMember (d, v) (zip (e ∷ ds) vs)
           by_place (inl same) again = (w, back w (inl (ap (λ x. (x, w)) same)))
           by_place (inr i) again = let o = again i in (o.0, back o.0 (inr o.1))
 
@@ -116,13 +128,16 @@ module _ (S : Setting) where
   own_move v low own = record { move = S.solved.strategies Even v low own; chosen = λ o. refl }
 
   odd_move : (v w : ℕ) → owner_of (game_of S.a) v ≡ Odd → HasMove (game_of S.a) v w → EvenMove S v w
-  odd_move v w own move = record { move = move; chosen = λ even. absurd (let wrong : Even ≡ Odd = sym even ∙ own in cc) }
+  odd_move v w own move =
+      record { move = move; chosen = λ even. absurd (let wrong : Even ≡ Odd = sym even ∙ own in cc) }
 
   -- the only move
   single_move : (v w : ℕ) → v < size (game_of S.a) → moves_of (game_of S.a) v ≡ w ∷ [] → EvenMove S v w
   single_move v w low is = record {
     move = subst (λ ms. Contains ms w) (sym is) (contains_head w []);
-    chosen = λ own. only (member_of_contains (even_moves S v) (w ∷ []) (subst (λ ms. Contains ms (even_moves S v)) is (S.solved.strategies Even v low own)));
+    chosen =
+        λ own. only (member_of_contains (even_moves S v) (w ∷ [])
+        (subst (λ ms. Contains ms (even_moves S v)) is (S.solved.strategies Even v low own)));
   }
     where
       only : IsMember (even_moves S v) (w ∷ []) → w ≡ even_moves S v
@@ -164,22 +179,34 @@ module _ (S : Setting) where
       where
         from : AreVertices S.a.positions (Lost ∷ []) (get_or S.a.moves v []) → ⊥
         from (w, others, w_is, none, are) =
-            let single : moves_of (game_of S.a) v ≡ length S.a.positions ∷ [] = moves_at S.g S.a S.arena v inside ∙ are ∙ ap (λ x. x ∷ others) w_is ∙ ap (λ xs. length S.a.positions ∷ xs) none in
-            lost_not_won (won_behind (game_of S.a) Even (even_moves S) v (length S.a.positions) (single_move v (length S.a.positions) (low_of v p stands) single) won)
+            let single : moves_of (game_of S.a) v ≡ length S.a.positions ∷ [] =
+            moves_at S.g S.a S.arena v inside ∙ are ∙ ap (λ x. x ∷ others) w_is ∙ ap
+            (λ xs. length S.a.positions ∷ xs) none in
+            lost_not_won (won_behind (game_of S.a) Even (even_moves S) v (length S.a.positions)
+            (single_move v (length S.a.positions) (low_of v p stands) single) won)
 
     -- Even's choice
     chosen : (o : ℕ) → owner_of (game_of S.a) v ≡ Even → IsOpenOr S.g played.turn.spread o
         → played.turn.targets ≡ To (with_chosen S.g p o Left) ∷ To (with_chosen S.g p o Right) ∷ []
         → AtWon v p played.turn.spread
-    chosen o own is_open is = from (target_of S.a.positions played.turn.targets (get_or S.a.moves v []) played.moves_are (even_moves S v) member)
+    chosen o own is_open is =
+        from (target_of S.a.positions played.turn.targets (get_or S.a.moves v []) played.moves_are (even_moves S v)
+        member)
       where
         member : IsMember (even_moves S v) (get_or S.a.moves v [])
         member =
             subst (λ ms. IsMember (even_moves S v) ms) (moves_at S.g S.a S.arena v inside)
-            (member_of_contains (even_moves S v) (moves_of (game_of S.a) v) (S.solved.strategies Even v (low_of v p stands) own))
+            (member_of_contains (even_moves S v) (moves_of (game_of S.a) v)
+            (S.solved.strategies Even v (low_of v p stands) own))
 
-        side : (t : Target) → IsVertexOf S.a.positions t (even_moves S v) → (x : Side) → t ≡ To (with_chosen S.g p o x) → AtWon v p played.turn.spread
-        side t at x t_is = choosing o x is_open (subst (λ u. IsVertexOf S.a.positions u (even_moves S v)) t_is at) (own_move v (low_of v p stands) own)
+        side : (t : Target)
+            → IsVertexOf S.a.positions t (even_moves S v)
+            → (x : Side)
+            → t ≡ To (with_chosen S.g p o x)
+            → AtWon v p played.turn.spread
+        side t at x t_is =
+            choosing o x is_open (subst (λ u. IsVertexOf S.a.positions u (even_moves S v)) t_is at)
+            (own_move v (low_of v p stands) own)
 
         by_place : (t : Target) → IsVertexOf S.a.positions t (even_moves S v)
             → IsMember t (To (with_chosen S.g p o Left) ∷ To (with_chosen S.g p o Right) ∷ [])
@@ -199,17 +226,21 @@ module _ (S : Setting) where
     by_verdict Clashing own is are = absurd (lost are)
     by_verdict (Open o) own is are = chosen o own is.1.is_open are
     by_verdict (Leading ds) own is are =
-        leading played.turn.targets is.0 (subst (λ es. AreSteps S.g p played.turn.spread es played.turn.targets) is.1 are) played.moves_are own
+        leading played.turn.targets is.0 (subst (λ es. AreSteps S.g p played.turn.spread es played.turn.targets) is.1
+        are) played.moves_are own
     by_verdict Settled own is are = settled is.0 is.1
 
     at_won : AtWon v p played.turn.spread
-    at_won = by_verdict played.turn.verdict (owner_at S.g S.a S.arena v inside ∙ played.owner_is) played.turn.is_verdict played.turn.are_moves
+    at_won =
+        by_verdict played.turn.verdict (owner_at S.g S.a S.arena v inside ∙ played.owner_is) played.turn.is_verdict
+        played.turn.are_moves
 
   -- the same, with the spread that was named
   at_spread : (v : ℕ) (sp : SpreadList) (h : SpreadAt S.g S.a v sp) → WonByMoves S v → AtWon v h.position sp
   at_spread v sp h won =
       let turn = (S.arena.played v h.position h.stands).turn in
-      subst (AtWon v h.position) (same_spread S.g h.position.sequent h.position.choice turn.spread sp turn.is_spread h.is_spread) (at_won v h.position h.stands won (S.arena.played v h.position h.stands))
+      subst (AtWon v h.position) (same_spread S.g h.position.sequent h.position.choice turn.spread sp turn.is_spread
+      h.is_spread) (at_won v h.position h.stands won (S.arena.played v h.position h.stands))
 
   -- ---- down the choices
 
@@ -226,7 +257,11 @@ module _ (S : Setting) where
   same_position : (v : ℕ) (p q : Position) → PositionAt S.a v p → PositionAt S.a v q → p ≡ q
   same_position v p q a b = let e : Some p ≡ Some q = sym a ∙ b in cc
 
-  at_end : (v : ℕ) (sp : SpreadList) (h : SpreadAt S.g S.a v sp) → ((n : ℕ) → IsOpenOr S.g sp n → ⊥) → WonByMoves S v → (p : Position) → p ≡ h.position
+  at_end : (v : ℕ) (sp : SpreadList) (h : SpreadAt S.g S.a v sp)
+      → ((n : ℕ) → IsOpenOr S.g sp n → ⊥)
+      → WonByMoves S v
+      → (p : Position)
+      → p ≡ h.position
       → Chosen p v v sp
   at_end v sp h none won p same = from (at_spread v sp h won)
     where
@@ -247,9 +282,12 @@ module _ (S : Setting) where
       from (leading ts r steps vertices own) = with_resolved r
       from (settled r no_diamonds) = with_resolved r
 
-  one_choice : (v w n : ℕ) (open_sp sp : SpreadList) (h : SpreadAt S.g S.a v open_sp) → IsOpenOr S.g open_sp n → WonByMoves S v
+  one_choice : (v w n : ℕ) (open_sp sp : SpreadList) (h : SpreadAt S.g S.a v open_sp)
+      → IsOpenOr S.g open_sp n
+      → WonByMoves S v
       → (p : Position) → PositionAt S.a v p → p ≡ h.position
-      → ((q : Position) → PositionAt S.a (even_moves S v) q → WonByMoves S (even_moves S v) → Chosen q (even_moves S v) w sp)
+      → ((q : Position) → PositionAt S.a (even_moves S v) q → WonByMoves S (even_moves S v) → Chosen q
+      (even_moves S v) w sp)
       → Chosen p v w sp
   one_choice v w n open_sp sp h is_open won p stands same again = from (at_spread v open_sp h won)
     where
@@ -257,10 +295,19 @@ module _ (S : Setting) where
       from (leading ts r steps vertices own) = absurd (r.none_open n is_open)
       from (settled r no_diamonds) = absurd (r.none_open n is_open)
       from (choosing o x here_open next move) =
-          let c = again (with_chosen S.g h.position o x) next (won_behind (game_of S.a) Even (even_moves S) v (even_moves S v) move won) in
-          let high : priority_of (game_of S.a) (even_moves S v) ≡ neutral S.g = priority_at S.g S.a S.arena (even_moves S v) (with_chosen S.g h.position o x) next in
-          let low : min (priority_of (game_of S.a) v) (priority_of (game_of S.a) (even_moves S v)) ≡ priority_of (game_of S.a) v =
-          omega (arith, priority_at S.g S.a S.arena v p stands, priority_at_most S.g p (here S.g S.a S.arena v p stands)) in
+          let c =
+          again (with_chosen S.g h.position o x) next (won_behind (game_of S.a) Even (even_moves S) v
+          (even_moves S v) move won) in
+          let high : priority_of (game_of S.a) (even_moves S v) ≡ neutral S.g =
+          priority_at S.g S.a S.arena (even_moves S v) (with_chosen S.g h.position o x) next in
+          let low : min (priority_of (game_of S.a) v) (priority_of (game_of S.a) (even_moves S v)) ≡ priority_of
+          (game_of S.a) v =
+          omega (
+            arith,
+            priority_at S.g S.a S.arena v p stands,
+            priority_at_most S.g p
+                (here S.g S.a S.arena v p stands),
+          ) in
           record {
             position = c.position;
             stands = c.stands;
@@ -269,14 +316,22 @@ module _ (S : Setting) where
             is_spread = c.is_spread;
             resolved = c.resolved;
             won = c.won;
-            goes_on = λ y last_move. subst (λ k. EvenWalk S v k y) low (before v (even_moves S v) move (c.goes_on y last_move));
+            goes_on =
+                λ y last_move. subst (λ k. EvenWalk S v k y) low (before v (even_moves S v) move
+                (c.goes_on y last_move));
           }
 
   -- the position that Even's moves end with
-  pub down : (v w : ℕ) (sp : SpreadList) → Chooses S.g S.a S.s v w sp → (p : Position) → PositionAt S.a v p → WonByMoves S v → Chosen p v w sp
+  pub down : (v w : ℕ) (sp : SpreadList)
+      → Chooses S.g S.a S.s v w sp
+      → (p : Position)
+      → PositionAt S.a v p
+      → WonByMoves S v
+      → Chosen p v w sp
   down v w sp (ends _ _ h none) p stands won = at_end v sp h none won p (same_position v p h.position stands h.stands)
   down v w sp (moves _ _ n open_sp _ h is_open rest) p stands won =
-      one_choice v w n open_sp sp h is_open won p stands (same_position v p h.position stands h.stands) (λ q q_stands q_won. down (even_moves S v) w sp rest q q_stands q_won)
+      one_choice v w n open_sp sp h is_open won p stands (same_position v p h.position stands h.stands)
+      (λ q q_stands q_won. down (even_moves S v) w sp rest q q_stands q_won)
 
   -- ---- along the diamonds
 
@@ -293,14 +348,18 @@ module _ (S : Setting) where
     at_last : AtWon w c.position sp
     at_last = at_spread w sp (record { position = c.position; stands = c.stands; is_spread = c.is_spread }) c.won
 
-    pub way_of : (d u : ℕ) → IsMember (d, u) (zip (diamonds_of S.g sp) (get_or S.a.moves w [])) → Way c.position sp w d u
+    pub way_of : (d u : ℕ)
+        → IsMember (d, u) (zip (diamonds_of S.g sp) (get_or S.a.moves w []))
+        → Way c.position sp w d u
     way_of d u m = from at_last
       where
         from : AtWon w c.position sp → Way c.position sp w d u
         from (choosing o x is_open next move) = absurd (c.resolved.none_open o is_open)
         from (settled r none) = absurd (subst (λ ds. IsMember (d, u) (zip ds (get_or S.a.moves w []))) none m)
         from (leading ts r steps vertices own) =
-            let o = along S.g S.a.positions c.position sp (diamonds_of S.g sp) ts (get_or S.a.moves w []) steps vertices d u m in
+            let o =
+            along S.g S.a.positions c.position sp (diamonds_of S.g sp) ts (get_or S.a.moves w []) steps vertices d
+            u m in
             let kept = member-filter_from (λ n. is_diamond (node_at S.g n)) d sp.nodes o.diamond in
             let low = slice_get_within S.a.positions w c.position c.stands in
             record {
@@ -309,14 +368,19 @@ module _ (S : Setting) where
               position = o.position;
               stands = o.stands;
               follows = o.follows;
-              move = odd_move w u own (subst (λ ms. Contains ms u) (sym (moves_at S.g S.a S.arena w low)) (contains_of_member u (get_or S.a.moves w []) o.vertex));
+              move =
+                  odd_move w u own (subst (λ ms. Contains ms u) (sym (moves_at S.g S.a S.arena w low))
+                  (contains_of_member u (get_or S.a.moves w []) o.vertex));
             }
 
     -- each diamond has a position to which it leads
-    pub way_for : (d : ℕ) → IsMember d (diamonds_of S.g sp) → (u : ℕ) × IsMember (d, u) (zip (diamonds_of S.g sp) (get_or S.a.moves w []))
+    pub way_for : (d : ℕ)
+        → IsMember d (diamonds_of S.g sp)
+        → (u : ℕ) × IsMember (d, u) (zip (diamonds_of S.g sp) (get_or S.a.moves w []))
     way_for d m = from at_last
       where
         from : AtWon w c.position sp → (u : ℕ) × IsMember (d, u) (zip (diamonds_of S.g sp) (get_or S.a.moves w []))
         from (choosing o x is_open next move) = absurd (c.resolved.none_open o is_open)
         from (settled r none) = absurd (subst (λ ds. IsMember d ds) none m)
-        from (leading ts r steps vertices own) = paired S.g S.a.positions c.position sp (diamonds_of S.g sp) ts (get_or S.a.moves w []) steps vertices d m
+        from (leading ts r steps vertices own) =
+            paired S.g S.a.positions c.position sp (diamonds_of S.g sp) ts (get_or S.a.moves w []) steps vertices d m

@@ -46,12 +46,14 @@ pub record Step (S : Setting) (R : Rival S) (t : AtState S) (n : ℕ) : Type 0 w
   pub lowest : ℕ
   pub occurs : IsMember lowest S.g.priorities
   pub walk : OddWalk S R (pair S t.number n) lowest (pair S next.place.number next.node)
-  pub traced : (m : Transition) → Gives (odd_priorities S.g) (record { from = n; lowest = lowest; to = next.node }) m → IsMember m letter
+  pub traced : (m : Transition) → Gives (odd_priorities S.g) (record { from = n; lowest = lowest; to = next.node }) m
+      → IsMember m letter
   pub history : next.place.position.history ≡ stepped t.position.history letter
   pub marked : next.place.position.priority ≡ priority (neutral S.g) (step_mark t.position.history letter)
   pub play : EvenWalk S t.state.first (priority_of (game_of S.a) t.state.first) next.place.state.first
 
-module _ (S : Setting) (R : Rival S) (t : AtState S) (n : ℕ) (member : IsMember n t.position.sequent) (wins : OddWins S R t.number n) where
+module _ (S : Setting) (R : Rival S) (t : AtState S) (n : ℕ) (member : IsMember n t.position.sequent)
+    (wins : OddWins S R t.number n) where
   step_along : Leaving S R t n → Step S R t n
   step_along l =
       let c = resolved_at S t in
@@ -71,8 +73,12 @@ module _ (S : Setting) (R : Rival S) (t : AtState S) (n : ℕ) (member : IsMembe
           place = x.next.place;
           node = x.child;
           member = (f.is_step.targets x.child).1 (record { leaving = l.exit; leads = x.leads });
-          wins = won_at_end (checking_game S.g S.m) Odd R.moves (pair S t.number n) l.lowest (pair S x.next.place.number x.child) walk wins;
-          guesses = step_guesses S.g c.position x.next.place.position t.state.spread x.diamond c.is_spread x.next.member f end_facts;
+          wins =
+              won_at_end (checking_game S.g S.m) Odd R.moves (pair S t.number n) l.lowest
+              (pair S x.next.place.number x.child) walk wins;
+          guesses =
+              step_guesses S.g c.position x.next.place.position t.state.spread x.diamond c.is_spread x.next.member f
+              end_facts;
         };
         letter = f.letter;
         lowest = l.lowest;

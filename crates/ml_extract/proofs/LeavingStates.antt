@@ -64,7 +64,10 @@ module _ (S : Setting) (R : Rival S) (t : AtState S) where
   course_stays n member = record { walk = stays n; plays = priority_here n member }
 
   -- one move more at the end
-  course_more : (n k m e : ℕ) → IsMember e t.state.spread.nodes → Course n k m → IsMember e (children S.g t.state.spread.choice m)
+  course_more : (n k m e : ℕ)
+      → IsMember e t.state.spread.nodes
+      → Course n k m
+      → IsMember e (children S.g t.state.spread.choice m)
       → OddMove S R (pair S t.number m) (pair S t.number e) → Course n (min k (priority_at S.g e)) e
   course_more n k m e member c child move = record {
     walk = walk_more S.g t.state.spread.choice n k m e c.walk child;
@@ -92,26 +95,36 @@ module _ (S : Setting) (R : Rival S) (t : AtState S) where
     pub course : Course next lowest n
 
   -- where a local walk comes from the spread, it stays in it
-  along_walk : (a k b : ℕ) → LocalWalk S.g t.state.spread.choice a k b → IsMember a t.state.spread.nodes → IsMember b t.state.spread.nodes
+  along_walk : (a k b : ℕ)
+      → LocalWalk S.g t.state.spread.choice a k b
+      → IsMember a t.state.spread.nodes
+      → IsMember b t.state.spread.nodes
   along_walk a k b (stays _) here = here
   along_walk a k b (goes {k = j} _ e child w) here = along_walk e j b w (child_in S t a e here child)
 
   -- and its lowest priority is one of the graph's
-  pub lowest_occurs : (n k m : ℕ) → LocalWalk S.g t.state.spread.choice n k m → IsMember n t.state.spread.nodes → IsMember k S.g.priorities
+  pub lowest_occurs : (n k m : ℕ)
+      → LocalWalk S.g t.state.spread.choice n k m
+      → IsMember n t.state.spread.nodes
+      → IsMember k S.g.priorities
   lowest_occurs n k m w member =
       let l = lowest_node S.g t.state.spread.choice n k m w in
       let low = node_low l.node (along_walk n l.before l.node l.to member) in
-      subst (λ i. IsMember i S.g.priorities) l.exact (place-member S.g.priorities l.node 0 (omega (arith, S.g_ok.priorities)))
+      subst (λ i. IsMember i S.g.priorities) l.exact (place-member S.g.priorities l.node 0
+      (omega (arith, S.g_ok.priorities)))
 
   -- it doesn't come back to where it began
   no_return : (n : ℕ) → IsMember n t.state.spread.nodes → OddWins S R t.number n → OnWay n n → ⊥
-  no_return n member wins o = on_cycle (lowest_on_cycle S.g t.state.spread.choice n o.next o.lowest o.child o.course.walk)
+  no_return n member wins o =
+      on_cycle (lowest_on_cycle S.g t.state.spread.choice n o.next o.lowest o.child o.course.walk)
     where
       odd : o.lowest % 2 ≡ 1
       odd =
-          let next_wins = won_behind (checking_game S.g S.m) Odd R.moves (pair S t.number n) (pair S t.number o.next) o.move wins in
+          let next_wins =
+          won_behind (checking_game S.g S.m) Odd R.moves (pair S t.number n) (pair S t.number o.next) o.move wins in
           odd_side o.lowest
-          (closed_walk_good (checking_game S.g S.m) Odd R.moves (pair S t.number o.next) o.lowest (o.course.plays (pair S t.number o.next) o.move) next_wins)
+          (closed_walk_good (checking_game S.g S.m) Odd R.moves (pair S t.number o.next) o.lowest
+          (o.course.plays (pair S t.number o.next) o.move) next_wins)
 
       on_cycle : CycleOn S.g t.state.spread.choice o.next o.lowest → ⊥
       on_cycle c =
@@ -149,7 +162,8 @@ module _ (S : Setting) (R : Rival S) (t : AtState S) where
   }
 
   stays_longer : (moves n e : ℕ) → Known n → LocalMove n e → Staying moves e → Staying (suc moves) n
-  stays_longer moves n e known first s = record { way = in_front n s.way; begins = refl; known = all_known; steps = steps }
+  stays_longer moves n e known first s =
+      record { way = in_front n s.way; begins = refl; known = all_known; steps = steps }
     where
       all_known : (k : ℕ) → k ≤ suc moves → Known (in_front n s.way k)
       all_known zero low = known
@@ -170,12 +184,16 @@ module _ (S : Setting) (R : Rival S) (t : AtState S) where
   }
 
   leaves_or_stays : (moves n : ℕ) → Known n → Leaving n ⊎ Staying moves n
-  leaves_or_stays zero n known = inr (record { way = λ k. n; begins = refl; known = λ k low. known; steps = λ k low. absurd (omega arith) })
-  leaves_or_stays (suc moves) n known = by_node (at_node S t R n known.member known.wins) (λ e later. leaves_or_stays moves e later)
+  leaves_or_stays zero n known =
+      inr (record { way = λ k. n; begins = refl; known = λ k low. known; steps = λ k low. absurd (omega arith) })
+  leaves_or_stays (suc moves) n known =
+      by_node (at_node S t R n known.member known.wins) (λ e later. leaves_or_stays moves e later)
     where
       by_node : AtNode S t R n → ((e : ℕ) → Known e → Leaving e ⊎ Staying moves e) → Leaving n ⊎ Staying (suc moves) n
-      by_node (crosses x) again = inl (record { lowest = priority_at S.g n; exit = n; course = course_stays n known.member; crossing = x })
-      by_node (inside e child move) again = joined (again e (known_behind n e known (record { child = child; move = move })))
+      by_node (crosses x) again =
+          inl (record { lowest = priority_at S.g n; exit = n; course = course_stays n known.member; crossing = x })
+      by_node (inside e child move) again =
+          joined (again e (known_behind n e known (record { child = child; move = move })))
         where
           joined : Leaving e ⊎ Staying moves e → Leaving n ⊎ Staying (suc moves) n
           joined (inl l) = inl (leaves_later n e known (record { child = child; move = move }) l)
@@ -203,7 +221,9 @@ module _ (S : Setting) (R : Rival S) (t : AtState S) where
         child = so_far.child;
         move = so_far.move;
         lowest = min so_far.lowest (priority_at S.g (s.way (k + suc d + 1)));
-        course = course_more so_far.next so_far.lowest (s.way (k + suc d)) (s.way (k + suc d + 1)) there.member so_far.course more.child more.move;
+        course =
+            course_more so_far.next so_far.lowest (s.way (k + suc d)) (s.way (k + suc d + 1)) there.member
+            so_far.course more.child more.move;
       })
 
   not_staying : (n : ℕ) → Staying (size S.g) n → ⊥
@@ -215,7 +235,8 @@ module _ (S : Setting) (R : Rival S) (t : AtState S) where
           let far : twice.first + suc d ≡ twice.second = omega (arith, twice.apart) in
           let round = on_way (size S.g) n s twice.first d (omega (arith, twice.apart, twice.within)) in
           let known = s.known twice.first (omega (arith, twice.apart, twice.within)) in
-          no_return (s.way twice.first) known.member known.wins (subst (OnWay (s.way twice.first)) (ap s.way far ∙ sym twice.same) round)
+          no_return (s.way twice.first) known.member known.wins (subst (OnWay (s.way twice.first))
+          (ap s.way far ∙ sym twice.same) round)
 
   -- a play that follows a winning strategy of Odd's leaves the state
   pub leave : (n : ℕ) → IsMember n t.state.spread.nodes → OddWins S R t.number n → Leaving n

@@ -41,7 +41,9 @@ module _ (g : Graph) (c : List (ℕ × Side)) where
   }
   lowest_node n k m (goes {k = j} _ next child w) = by_case (cases_lt (priority_at g n) j) (lowest_node next j m w)
     where
-      by_case : (priority_at g n < j) ⊎ (j ≤ priority_at g n) → LowestNode next j m → LowestNode n (min (priority_at g n) j) m
+      by_case : (priority_at g n < j) ⊎ (j ≤ priority_at g n)
+          → LowestNode next j m
+          → LowestNode n (min (priority_at g n) j) m
       by_case (inl first) l = record {
         node = n;
         exact = omega arith;
@@ -74,13 +76,14 @@ module _ (g : Graph) (c : List (ℕ × Side)) where
       → OnCycle g c node
   around n next k before node behind child to (stays _) exact high_before high_behind high =
       record { next = next; child = child; lowest = before; walk = to; high = omega arith }
-  around n next k before node behind child to (goes {k = i} _ first here w) exact high_before high_behind high = record {
-    next = first;
-    child = here;
-    lowest = min i (min (priority_at g n) before);
-    walk = walk_joined g c first i n (min (priority_at g n) before) node w (goes n next child to);
-    high = omega arith;
-  }
+  around n next k before node behind child to (goes {k = i} _ first here w) exact high_before high_behind high =
+      record {
+        next = first;
+        child = here;
+        lowest = min i (min (priority_at g n) before);
+        walk = walk_joined g c first i n (min (priority_at g n) before) node w (goes n next child to);
+        high = omega arith;
+      }
 
   -- on a closed walk this node is on a cycle
   pub record CycleOn (n k : ℕ) : Type 0 where
@@ -98,9 +101,18 @@ module _ (g : Graph) (c : List (ℕ × Side)) where
         exact = l.exact;
         before = l.before;
         to = l.to;
-        cycle = around n next k l.before l.node l.behind child l.to l.onward l.exact l.before_high l.behind_high (end_low g c next k n w);
+        cycle =
+            around n next k l.before l.node l.behind child l.to l.onward l.exact l.before_high l.behind_high
+            (end_low g c next k n w);
       }
 
   -- what a local walk reaches from the spread is in the spread
   pub spread_along : (C : List ℕ) (n k m : ℕ) → InSpread g c C n → LocalWalk g c n k m → InSpread g c C m
-  spread_along C n k m s w = record { from = s.from; member = s.member; lowest = min s.lowest k; walk = walk_joined g c s.from s.lowest n k m s.walk w }
+  spread_along C n k m s w =
+      record {
+        from = s.from;
+        member = s.member;
+        lowest = min s.lowest k;
+        walk = walk_joined g c s.from s.lowest n k m
+            s.walk w;
+      }

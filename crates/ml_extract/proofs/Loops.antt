@@ -84,7 +84,8 @@ module _ (S : Setting) (R : Rival S) where
 
   reach-add : (i n : ℕ) (p : Entered S R) → reach (i + n) p ≡ reach n (reach i p)
   reach-add zero n p = let e : zero + n ≡ n = omega arith in ap (λ k. reach k p) e
-  reach-add (suc i) n p = let e : suc i + n ≡ suc (i + n) = omega arith in ap (λ k. reach k p) e ∙ reach-add i n (onward p)
+  reach-add (suc i) n p =
+      let e : suc i + n ≡ suc (i + n) = omega arith in ap (λ k. reach k p) e ∙ reach-add i n (onward p)
 
   -- the letters on the way
   abbrev word : ℕ → Entered S R → List (List Transition)
@@ -127,18 +128,21 @@ module _ (S : Setting) (R : Rival S) where
   fits : (n : ℕ) (p : Entered S R) (k : Mark) → IsMember k (marks_along (history_of p) (word n p)) → FitsBelow top k
   fits zero p k h = absurd h
   fits (suc n) p k (inl same) = subst (FitsBelow top) (sym same) (fits_first p (go p).letter)
-  fits (suc n) p k (inr h) = fits n (onward p) k (subst (λ x. IsMember k (marks_along x (word n (onward p)))) (sym (go p).history) h)
+  fits (suc n) p k (inr h) =
+      fits n (onward p) k (subst (λ x. IsMember k (marks_along x (word n (onward p)))) (sym (go p).history) h)
 
   -- the lowest priority of the positions behind one step and n more
   abbrev lowest_behind : ℕ → Entered S R → ℕ
   lowest_behind n p = lowest (priority_at (onward p)) (priorities n (onward p))
 
   lowest_mark_is : (n : ℕ) (p : Entered S R)
-      → lowest (priority top (step_mark (history_of p) (go p).letter)) (map (priority top) (marks_along (stepped (history_of p) (go p).letter) (word n (onward p))))
+      → lowest (priority top (step_mark (history_of p) (go p).letter))
+      (map (priority top) (marks_along (stepped (history_of p) (go p).letter) (word n (onward p))))
       ≡ lowest_behind n p
   lowest_mark_is n p =
       let rest : List (List Transition) = word n (onward p) in
-      ap (λ k. lowest k (map (priority top) (marks_along (stepped (history_of p) (go p).letter) rest))) (sym (go p).marked)
+      ap (λ k. lowest k (map (priority top) (marks_along (stepped (history_of p) (go p).letter) rest)))
+      (sym (go p).marked)
       ∙ ap (λ h. lowest (priority_at (onward p)) (map (priority top) (marks_along h rest))) (sym (go p).history)
       ∙ ap (lowest (priority_at (onward p))) (marks_are n (onward p))
 
@@ -155,12 +159,14 @@ module _ (S : Setting) (R : Rival S) where
   odd_walk : (n : ℕ) (p : Entered S R) → OddWalk S R (vertex p) (low n p) (vertex (reach (suc n) p))
   odd_walk zero p = (go p).walk
   odd_walk (suc n) p =
-      walks_joined (checking_game S.g S.m) Odd R.moves (vertex p) (go p).lowest (vertex (onward p)) (low n (onward p)) (vertex (reach (suc (suc n)) p))
+      walks_joined (checking_game S.g S.m) Odd R.moves (vertex p) (go p).lowest (vertex (onward p)) (low n (onward p))
+      (vertex (reach (suc (suc n)) p))
       (go p).walk (odd_walk n (onward p))
 
   low_occurs : (n : ℕ) (p : Entered S R) → IsMember (low n p) S.g.priorities
   low_occurs zero p = (go p).occurs
-  low_occurs (suc n) p = member_of_both S.g.priorities (go p).lowest (low n (onward p)) (go p).occurs (low_occurs n (onward p))
+  low_occurs (suc n) p =
+      member_of_both S.g.priorities (go p).lowest (low n (onward p)) (go p).occurs (low_occurs n (onward p))
 
   -- ---- the run of a guess
 
@@ -170,32 +176,47 @@ module _ (S : Setting) (R : Rival S) where
 
     takes : (p : Entered S R) (accepting : Bool) → d ≤ (go p).lowest → accepting ≡ (d == (go p).lowest)
         → in_letter (go p).letter (guess p) (guess (onward p)) accepting
-    takes p accepting high is = (go p).traced (record { from = guess p; to = guess (onward p); accepting = accepting }) (record {
-      before = Some d;
-      behind = Some d;
-      leads = (refl, occurs, high, is);
-      from_is = refl;
-      to_is = refl;
-    })
+    takes p accepting high is =
+        (go p).traced (record { from = guess p; to = guess (onward p); accepting = accepting }) (record {
+          before = Some d;
+          behind = Some d;
+          leads = (refl, occurs, high, is);
+          from_is = refl;
+          to_is = refl;
+        })
 
     runs : (n : ℕ) (p : Entered S R) → d ≤ low n p → Run in_letter (word (suc n) p) (guess p) (guess (reach (suc n) p))
     runs zero p high = (guess (onward p), d == (go p).lowest, takes p (d == (go p).lowest) high refl, refl)
-    runs (suc n) p high =
-        (guess (onward p), d == (go p).lowest, takes p (d == (go p).lowest) (omega arith) refl, runs n (onward p) (omega arith))
+    runs (suc n) p high = (
+      guess (onward p),
+      d == (go p).lowest,
+      takes p (d == (go p).lowest) (omega arith) refl,
+      runs n (onward p)
+          (omega arith),
+    )
 
     meets : (p : Entered S R) → d ≡ (go p).lowest → in_letter (go p).letter (guess p) (guess (onward p)) true
     meets p exact = takes p true (omega arith) (sym ((Decides-eqb d (go p).lowest).1 exact))
 
     -- it accepts where it is the lowest priority
-    accepts : (n : ℕ) (p : Entered S R) → d ≡ low n p → AcceptingRun in_letter (word (suc n) p) (guess p) (guess (reach (suc n) p))
+    accepts : (n : ℕ) (p : Entered S R)
+        → d ≡ low n p
+        → AcceptingRun in_letter (word (suc n) p) (guess p) (guess (reach (suc n) p))
     accepts zero p exact = inl (guess (onward p), meets p exact, refl)
     accepts (suc n) p exact = by_case (cases_lt (low n (onward p)) (go p).lowest) (λ e. accepts n (onward p) e)
       where
         by_case : (low n (onward p) < (go p).lowest) ⊎ ((go p).lowest ≤ low n (onward p))
-            → (d ≡ low n (onward p) → AcceptingRun in_letter (word (suc n) (onward p)) (guess (onward p)) (guess (reach (suc (suc n)) p)))
+            → (d ≡ low n (onward p) → AcceptingRun in_letter (word (suc n) (onward p)) (guess (onward p))
+            (guess (reach (suc (suc n)) p)))
             → AcceptingRun in_letter (word (suc (suc n)) p) (guess p) (guess (reach (suc (suc n)) p))
         by_case (inl later) rest =
-            inr (guess (onward p), d == (go p).lowest, takes p (d == (go p).lowest) (omega arith) refl, rest (omega arith))
+            inr (
+              guess (onward p),
+              d == (go p).lowest,
+              takes p (d == (go p).lowest) (omega arith) refl,
+              rest
+                  (omega arith),
+            )
         by_case (inr first) rest = inl (guess (onward p), meets p (omega arith), runs n (onward p) (omega arith))
 
   -- ---- the play of the decision game
@@ -210,14 +231,16 @@ module _ (S : Setting) (R : Rival S) where
   even_walk : (n : ℕ) (p : Entered S R) → EvenWalk S (place_of p) (even_low n p) (place_of (reach (suc n) p))
   even_walk zero p = (go p).play
   even_walk (suc n) p =
-      walks_joined (game_of S.a) Even (even_moves S) (place_of p) (priority_of (game_of S.a) (place_of p)) (place_of (onward p)) (even_low n (onward p)) (place_of (reach (suc (suc n)) p))
+      walks_joined (game_of S.a) Even (even_moves S) (place_of p) (priority_of (game_of S.a) (place_of p))
+      (place_of (onward p)) (even_low n (onward p)) (place_of (reach (suc (suc n)) p))
       (go p).play (even_walk n (onward p))
 
   priority_is : (p : Entered S R) → priority_of (game_of S.a) (place_of p) ≡ priority_at p
   priority_is p = arena.priority_at S.g S.a S.arena (place_of p) p.place.position p.place.stands
 
   -- with the last position it has the lowest of the first one and of the marks
-  tally : (n : ℕ) (p : Entered S R) → min (even_low n p) (priority_at (reach (suc n) p)) ≡ min (priority_at p) (lowest_behind n p)
+  tally : (n : ℕ) (p : Entered S R)
+      → min (even_low n p) (priority_at (reach (suc n) p)) ≡ min (priority_at p) (lowest_behind n p)
   tally zero p = let e = priority_is p in ap (λ k. min k (priority_at (onward p))) e
   tally (suc n) p =
       let e = priority_is p in
@@ -240,36 +263,47 @@ module _ (S : Setting) (R : Rival S) where
   same_position : (v : ℕ) (p q : Position) → PositionAt S.a v p → PositionAt S.a v q → p ≡ q
   same_position v p q a b = let e : Some p ≡ Some q = sym a ∙ b in cc
 
-  module _ (n : ℕ) (p : Entered S R) (same_number : (reach (suc n) p).place.number ≡ p.place.number) (same_node : (reach (suc n) p).node ≡ p.node) where
+  module _ (n : ℕ) (p : Entered S R) (same_number : (reach (suc n) p).place.number ≡ p.place.number)
+      (same_node : (reach (suc n) p).node ≡ p.node) where
     state_is : (reach (suc n) p).place.state ≡ p.place.state
     state_is =
         same_state (reach (suc n) p).place.state p.place.state p.place.number
-        (subst (λ k. slice_get S.model.states k ≡ Some (reach (suc n) p).place.state) same_number (reach (suc n) p).place.is_state) p.place.is_state
+        (subst (λ k. slice_get S.model.states k ≡ Some (reach (suc n) p).place.state) same_number
+        (reach (suc n) p).place.is_state) p.place.is_state
 
     position_is : (reach (suc n) p).place.position ≡ p.place.position
     position_is =
         same_position p.place.state.first (reach (suc n) p).place.position p.place.position
-        (subst (λ (x : State). PositionAt S.a x.first (reach (suc n) p).place.position) state_is (reach (suc n) p).place.stands) p.place.stands
+        (subst (λ (x : State). PositionAt S.a x.first (reach (suc n) p).place.position) state_is
+        (reach (suc n) p).place.stands) p.place.stands
 
     -- Odd wins the play of the checking game
     low_is_odd : low n p % 2 ≡ 1
     low_is_odd =
-        let back : vertex (reach (suc n) p) ≡ vertex p = ap (λ k. pair S k (reach (suc n) p).node) same_number ∙ ap (pair S p.place.number) same_node in
+        let back : vertex (reach (suc n) p) ≡ vertex p =
+        ap (λ k. pair S k (reach (suc n) p).node) same_number ∙ ap (pair S p.place.number) same_node in
         let round = subst (OddWalk S R (vertex p) (low n p)) back (odd_walk n p) in
         odd_side (low n p) (closed_walk_good (checking_game S.g S.m) Odd R.moves (vertex p) (low n p) round p.wins)
 
     occurs : IsMember (low n p) (odd_priorities S.g)
     occurs =
         let test : (low n p % 2 == 1) ≡ true = (Decides-eqb (low n p % 2) 1).1 low_is_odd in
-        member-ascending (low n p) (filter (λ d. d % 2 == 1) S.g.priorities) (member-filter (λ d. d % 2 == 1) (low n p) S.g.priorities (low_occurs n p) test)
+        member-ascending (low n p) (filter (λ d. d % 2 == 1) S.g.priorities)
+        (member-filter (λ d. d % 2 == 1) (low n p) S.g.priorities (low_occurs n p) test)
 
     -- so its guess has an accepting run to itself
     cycle : AcceptingCycle (history_of p) (word (suc n) p)
     cycle =
-        let stack : HasState (history_of p) (numbered S.g p.node (Some (low n p))) = p.guesses.guessed p.node (low n p) p.member occurs in
-        let back : numbered S.g (reach (suc n) p).node (Some (low n p)) ≡ numbered S.g p.node (Some (low n p)) = ap (λ k. numbered S.g k (Some (low n p))) same_node in
-        let run = subst (AcceptingRun in_letter (word (suc n) p) (numbered S.g p.node (Some (low n p)))) back (accepts (low n p) occurs n p refl) in
-        let once = subst (λ w. AcceptingRun in_letter w (numbered S.g p.node (Some (low n p))) (numbered S.g p.node (Some (low n p)))) (sym (repeated-one (word (suc n) p))) run in
+        let stack : HasState (history_of p) (numbered S.g p.node (Some (low n p))) =
+        p.guesses.guessed p.node (low n p) p.member occurs in
+        let back : numbered S.g (reach (suc n) p).node (Some (low n p)) ≡ numbered S.g p.node (Some (low n p)) =
+        ap (λ k. numbered S.g k (Some (low n p))) same_node in
+        let run =
+        subst (AcceptingRun in_letter (word (suc n) p) (numbered S.g p.node (Some (low n p)))) back
+        (accepts (low n p) occurs n p refl) in
+        let once =
+        subst (λ w. AcceptingRun in_letter w (numbered S.g p.node (Some (low n p)))
+        (numbered S.g p.node (Some (low n p)))) (sym (repeated-one (word (suc n) p))) run in
         record {
           item = stack.item;
           member = stack.member;
@@ -291,7 +325,8 @@ module _ (S : Setting) (R : Rival S) where
         let odd = run_has_odd_mark (history_of p) (word (suc n) p) returns cycle in
         let even_top : top % 2 ≡ 0 = omega arith in
         ap (λ k. k % 2) (sym (lowest_mark_is n p))
-        ∙ (priorities_agree top (step_mark (history_of p) (go p).letter) (marks_along (stepped (history_of p) (go p).letter) (word n (onward p))) even_top (fits (suc n) p)).1 odd
+        ∙ (priorities_agree top (step_mark (history_of p) (go p).letter)
+        (marks_along (stepped (history_of p) (go p).letter) (word n (onward p))) even_top (fits (suc n) p)).1 odd
 
     -- but Even wins the play of the decision game
     no_loop : ⊥
@@ -301,7 +336,8 @@ module _ (S : Setting) (R : Rival S) where
         let end = ends_with n p in
         let back : priority_at (reach (suc n) p) ≡ priority_at p = ap (λ (q : Position). q.priority) position_is in
         let same : even_low n p ≡ lowest_behind n p = omega arith in
-        let round = subst (EvenWalk S (place_of p) (even_low n p)) (ap (λ (x : State). x.first) state_is) (even_walk n p) in
+        let round =
+        subst (EvenWalk S (place_of p) (even_low n p)) (ap (λ (x : State). x.first) state_is) (even_walk n p) in
         let good = closed_walk_good (game_of S.a) Even (even_moves S) (place_of p) (even_low n p) round p.place.won in
         odd_is_not_even (even_low n p) (ap (λ k. k % 2) same ∙ mark_is_odd) good
 
@@ -319,15 +355,22 @@ module _ (S : Setting) (R : Rival S) where
   -- so no state is entered
   pub never_entered : Entered S R → ⊥
   never_entered p =
-      from (pigeons (size S.g * S.m.states) (λ k. code (reach k p)) (λ k few. mul-add-lt (reach k p).place.number (size S.g) (reach k p).node S.m.states (number_low (reach k p)) (node_low (reach k p))))
+      from (pigeons (size S.g * S.m.states) (λ k. code (reach k p))
+      (λ k few. mul-add-lt (reach k p).place.number (size S.g) (reach k p).node S.m.states (number_low (reach k p))
+      (node_low (reach k p))))
     where
       from : Twice (λ k. code (reach k p)) (size S.g * S.m.states) → ⊥
       from twice =
-          let parts = same_from_place (reach twice.first p).place.number (reach twice.first p).node (reach twice.second p).place.number (reach twice.second p).node (size S.g) (node_low (reach twice.first p)) (node_low (reach twice.second p)) twice.same in
+          let parts =
+          same_from_place (reach twice.first p).place.number (reach twice.first p).node
+          (reach twice.second p).place.number (reach twice.second p).node (size S.g)
+          (node_low (reach twice.first p)) (node_low (reach twice.second p)) twice.same in
           let n : ℕ = twice.second - suc twice.first in
           let far : twice.second ≡ twice.first + suc n = omega (arith, twice.apart) in
-          let back : reach twice.second p ≡ reach (suc n) (reach twice.first p) = ap (λ k. reach k p) far ∙ reach-add twice.first (suc n) p in
-          no_loop n (reach twice.first p) (ap (λ (x : Entered S R). x.place.number) (sym back) ∙ sym parts.0) (ap (λ (x : Entered S R). x.node) (sym back) ∙ sym parts.1)
+          let back : reach twice.second p ≡ reach (suc n) (reach twice.first p) =
+          ap (λ k. reach k p) far ∙ reach-add twice.first (suc n) p in
+          no_loop n (reach twice.first p) (ap (λ (x : Entered S R). x.place.number) (sym back) ∙ sym parts.0)
+          (ap (λ (x : Entered S R). x.node) (sym back) ∙ sym parts.1)
 
 -- ---- the theorem
 
@@ -349,7 +392,8 @@ module _ (S : Setting) where
       won : WonByMoves S 0
       won =
           let ok = arena.is_game S.g S.a S.arena in
-          solution_wins_from (game_of S.a) ok S.s S.solved Even 0 low ((solution_winner (game_of S.a) ok S.s S.solved Even 0 low).0 S.even_wins)
+          solution_wins_from (game_of S.a) ok S.s S.solved Even 0 low
+          ((solution_winner (game_of S.a) ok S.s S.solved Even 0 low).0 S.even_wins)
 
   no_rival : (R : Rival S) → OddWins S R 0 S.g.root → ⊥
   unfolding start_state
@@ -357,12 +401,16 @@ module _ (S : Setting) where
 
   -- the graph holds at the start
   holds_at_start : Holds S.g S.m 0
-  holds_at_start = from (won_by_either (checking_game S.g S.m) (is_game S.g S.m S.g_ok m_ok) Even (pair S 0 S.g.root) (vertex_low S.g S.m S.g_ok m_ok (Pair 0 S.g.root) (m_ok.has_state, root_in_range S.g S.g_ok)))
+  holds_at_start =
+      from (won_by_either (checking_game S.g S.m) (is_game S.g S.m S.g_ok m_ok) Even (pair S 0 S.g.root)
+      (vertex_low S.g S.m S.g_ok m_ok (Pair 0 S.g.root) (m_ok.has_state, root_in_range S.g S.g_ok)))
     where
       m_ok : IsStructure S.m
       m_ok = is_structure S
 
-      from : Wins (checking_game S.g S.m) Even (pair S 0 S.g.root) ⊎ Wins (checking_game S.g S.m) Odd (pair S 0 S.g.root) → Holds S.g S.m 0
+      from : Wins (checking_game S.g S.m) Even (pair S 0 S.g.root) ⊎ Wins (checking_game S.g S.m) Odd
+          (pair S 0 S.g.root)
+          → Holds S.g S.m 0
       from (inl even) = even
       from (inr odd) = absurd (no_rival (record { moves = odd.strategy; is_strategy = odd.is_strategy }) odd.wins)
 

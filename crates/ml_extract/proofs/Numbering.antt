@@ -39,7 +39,10 @@ pub member-firsts : (v : ℕ) (xs : List ℕ) → IsMember v xs → IsMember v (
 member-firsts v [] m = absurd m
 member-firsts v (x ∷ xs) m = by_case (cases_eq v x) m (member-firsts v xs)
   where
-    by_case : (v ≡ x) ⊎ (v ≡ x → ⊥) → (v ≡ x) ⊎ IsMember v xs → (IsMember v xs → IsMember v (firsts xs)) → IsMember v (firsts (x ∷ xs))
+    by_case : (v ≡ x) ⊎ (v ≡ x → ⊥)
+        → (v ≡ x) ⊎ IsMember v xs
+        → (IsMember v xs → IsMember v (firsts xs))
+        → IsMember v (firsts (x ∷ xs))
     by_case (inl same) i later = inl same
     by_case (inr other) (inl same) later = absurd (other same)
     by_case (inr other) (inr i) later =
@@ -101,14 +104,20 @@ pub record IsDiamondOf (g : Graph) (sp : SpreadList) (d : ℕ) : Type 0 where
   pub child : ℕ
   pub is : node_at g d ≡ node.Diamond action child
 
-pub leading_diamond : (g : Graph) (a : Arena) (x : State) (d v : ℕ) → IsMember (d, v) (nexts g a x) → IsDiamondOf g x.spread d
+pub leading_diamond : (g : Graph) (a : Arena) (x : State) (d v : ℕ)
+    → IsMember (d, v) (nexts g a x)
+    → IsDiamondOf g x.spread d
 leading_diamond g a x d v m =
-    let kept = member-filter_from (λ n. is_diamond (node_at g n)) d x.spread.nodes (zip_first (diamonds_of g x.spread) (get_or a.moves x.last []) d v m) in
+    let kept =
+    member-filter_from (λ n. is_diamond (node_at g n)) d x.spread.nodes
+    (zip_first (diamonds_of g x.spread) (get_or a.moves x.last []) d v m) in
     let is = diamond_of (node_at g d) kept.1 in
     record { member = kept.0; action = is.0; child = is.1.0; is = is.1.1 }
 
 -- the spread of a state is that of its last position
-pub last_spread : (g : Graph) (a : Arena) (s : GameSolution) (v w : ℕ) (sp : SpreadList) → Chooses g a s v w sp → SpreadAt g a w sp
+pub last_spread : (g : Graph) (a : Arena) (s : GameSolution) (v w : ℕ) (sp : SpreadList)
+    → Chooses g a s v w sp
+    → SpreadAt g a w sp
 last_spread g a s v w sp (ends _ _ h none) = h
 last_spread g a s v w sp (moves _ _ n open_sp _ h is_open rest) = last_spread g a s _ w sp rest
 
@@ -117,10 +126,15 @@ module _ (S : Setting) where
   first_state = head_state S.model.states _ S.model.are_states.in_order
 
   -- each next position is one where a state begins
-  pub state_for : (x : State) → IsMember x S.model.states → (v : ℕ) → IsMember v (next_positions S.g S.a x) → StateAt S.model.states v
+  pub state_for : (x : State)
+      → IsMember x S.model.states
+      → (v : ℕ)
+      → IsMember v (next_positions S.g S.a x)
+      → StateAt S.model.states v
   state_for x inside v m =
       let next = inr (member-flat_map (next_positions S.g S.a) x v S.model.states inside m) in
-      state_at S.model.states v (subst (IsMember v) (sym S.model.are_states.in_order) (member-firsts v (0 ∷ flat_map (next_positions S.g S.a) S.model.states) next))
+      state_at S.model.states v (subst (IsMember v) (sym S.model.are_states.in_order)
+      (member-firsts v (0 ∷ flat_map (next_positions S.g S.a) S.model.states) next))
 
   pub state_low : (k : ℕ) (x : State) → slice_get S.model.states k ≡ Some x → k < S.m.states
   state_low k x is = omega (arith, slice_get_within S.model.states k x is, S.model.a_state_each)
@@ -131,47 +145,57 @@ module _ (S : Setting) where
     has_state = state_low 0 first_state.state first_state.stands;
     labels_states = S.model.labels_each ∙ sym S.model.a_state_each;
     joins_states = member-All (λ (e : Edge). (e.source < S.m.states) × (e.target < S.m.states)) S.m.edges
-        (λ e m. let k = (S.model.edges e).0 m in (state_low e.source k.from k.from_is, state_low e.target k.to k.to_is));
+        (λ e m. let k = (S.model.edges e).0 m in (
+          state_low e.source k.from k.from_is,
+          state_low e.target k.to
+              k.to_is,
+        ));
   }
 
   -- an edge for each diamond that leads to a state
   pub edge_for : (i j : ℕ) (x y : State) → slice_get S.model.states i ≡ Some x → slice_get S.model.states j ≡ Some y
       → (d a to : ℕ) → IsMember (d, y.first) (nexts S.g S.a x) → node_at S.g d ≡ node.Diamond a to
       → IsMember (record { source = i; action = action_at S.g a; target = j }) S.m.edges
-  edge_for i j x y x_is y_is d a to leads is = (S.model.edges (record { source = i; action = action_at S.g a; target = j })).1 (record {
-    from = x;
-    to = y;
-    from_is = x_is;
-    to_is = y_is;
-    diamond = d;
-    leads = leads;
-    action = a;
-    child = to;
-    is_diamond = is;
-    action_is = refl;
-  })
+  edge_for i j x y x_is y_is d a to leads is =
+      (S.model.edges (record { source = i; action = action_at S.g a; target = j })).1 (record {
+        from = x;
+        to = y;
+        from_is = x_is;
+        to_is = y_is;
+        diamond = d;
+        leads = leads;
+        action = a;
+        child = to;
+        is_diamond = is;
+        action_is = refl;
+      })
 
   -- each state is reached along edges
   by_number : (fuel k : ℕ) → k ≤ fuel → (x : State) → slice_get S.model.states k ≡ Some x → IsReachedFrom S.m S.start k
   by_number fuel zero low x is = subst (IsReachedFrom S.m S.start) S.model.starts itself
   by_number zero (suc k) low x is = absurd (omega arith)
-  by_number (suc fuel) (suc k) low x is = from (S.model.are_states.reached (suc k) x (omega arith) is) (λ j j_low y y_is. by_number fuel j j_low y y_is)
+  by_number (suc fuel) (suc k) low x is =
+      from (S.model.are_states.reached (suc k) x (omega arith) is) (λ j j_low y y_is. by_number fuel j j_low y y_is)
     where
       from : ComesBefore S.g S.a S.model.states (suc k) x
           → ((j : ℕ) → j ≤ fuel → (y : State) → slice_get S.model.states j ≡ Some y → IsReachedFrom S.m S.start j)
           → IsReachedFrom S.m S.start (suc k)
       from c again = of_image (member-map_from (λ (next : ℕ × ℕ). next.1) x.first (nexts S.g S.a c.state) c.leads)
         where
-          of_image : Image (λ (next : ℕ × ℕ). next.1) x.first (nexts S.g S.a c.state) → IsReachedFrom S.m S.start (suc k)
+          of_image : Image (λ (next : ℕ × ℕ). next.1) x.first (nexts S.g S.a c.state)
+              → IsReachedFrom S.m S.start (suc k)
           of_image i =
-              let leads : IsMember (i.from.0, x.first) (nexts S.g S.a c.state) = subst (λ v. IsMember (i.from.0, v) (nexts S.g S.a c.state)) (sym i.holds) i.member in
+              let leads : IsMember (i.from.0, x.first) (nexts S.g S.a c.state) =
+              subst (λ v. IsMember (i.from.0, v) (nexts S.g S.a c.state)) (sym i.holds) i.member in
               let d = leading_diamond S.g S.a c.state i.from.0 x.first leads in
               along (record { source = c.place; action = action_at S.g d.action; target = suc k })
               (again c.place (omega (arith, c.earlier)) c.state c.stands)
               (edge_for c.place (suc k) c.state x c.stands is i.from.0 d.action d.child leads d.is)
 
   pub reached_from_start : (k : ℕ) → k < S.m.states → IsReachedFrom S.m S.start k
-  reached_from_start k low = by_number k k (omega arith) (get_or S.model.states k first_state.state) (slice_get-get_or S.model.states k first_state.state (omega (arith, S.model.a_state_each)))
+  reached_from_start k low =
+      by_number k k (omega arith) (get_or S.model.states k first_state.state)
+      (slice_get-get_or S.model.states k first_state.state (omega (arith, S.model.a_state_each)))
 
   -- each edge has a diamond's action
   pub has_diamond : (e : Edge) → IsMember e S.m.edges → HasDiamond S.g e
@@ -194,14 +218,16 @@ module _ (S : Setting) where
 leaving : (i : ℕ) → List ℕ → Edge → Bool
 leaving i name e = (e.source == i) && bytes_eq e.action name
 
-pub target_in : (m : Structure) (i : ℕ) (name : List ℕ) (j : ℕ) → IsMember (record { source = i; action = name; target = j }) m.edges → IsMember j (targets m i name)
+pub target_in : (m : Structure) (i : ℕ) (name : List ℕ) (j : ℕ) → IsMember
+    (record { source = i; action = name; target = j }) m.edges → IsMember j (targets m i name)
 unfolding leaving
 target_in m i name j inside =
     let e : Edge = record { source = i; action = name; target = j } in
     let source : (i == i) ≡ true = (Decides-eqb i i).1 refl in
     let action : bytes_eq name name ≡ true = (bytes_eq-Decides name name).1 refl in
     let passes : leaving i name e ≡ true = subst (λ b. (b && bytes_eq name name) ≡ true) (sym source) action in
-    member-map (λ (x : Edge). x.target) e (filter (leaving i name) m.edges) (member-filter (leaving i name) e m.edges inside passes)
+    member-map (λ (x : Edge). x.target) e (filter (leaving i name) m.edges)
+    (member-filter (leaving i name) e m.edges inside passes)
 
 both_true : (x y : Bool) → (x && y) ≡ true → (x ≡ true) × (y ≡ true)
 both_true true y e = (refl, e)
@@ -216,7 +242,8 @@ pub record EdgeTo (m : Structure) (i : ℕ) (name : List ℕ) (j : ℕ) : Type 0
 
 pub target_from : (m : Structure) (i : ℕ) (name : List ℕ) (j : ℕ) → IsMember j (targets m i name) → EdgeTo m i name j
 unfolding leaving
-target_from m i name j inside = of_image (member-map_from (λ (x : Edge). x.target) j (filter (leaving i name) m.edges) inside)
+target_from m i name j inside =
+    of_image (member-map_from (λ (x : Edge). x.target) j (filter (leaving i name) m.edges) inside)
   where
     of_image : Image (λ (x : Edge). x.target) j (filter (leaving i name) m.edges) → EdgeTo m i name j
     of_image k =

@@ -9,7 +9,7 @@
 --   names_fit           == there are at most as many names in use as states of the automaton
 --   mark_fits           == the number of a step's mark is below the neutral priority
 --   priority_at_most    == no position that is reached has a greater priority than the neutral one
-use Rattle.std.proofs.Common.{ℕ, ◌≡◌, ◌+◌, ◌*◌, ◌%◌, ◌==◌, ◌<◌, ◌≤◌, ◌⊎◌, inl, inr, List, [], ◌∷◌, length, map, refl, sym, ap, ◌∙◌, subst, arith}
+use Rattle.std.proofs.Common.{ℕ, ◌≡◌, ◌+◌, ◌*◌, ◌%◌, ◌==◌, ◌<◌, ◌≤◌, ◌⊎◌, inl, inr, List, [], ◌∷◌, map, refl, sym, ap, subst, arith}
 use Rattle.std.proofs.Math.Nat.{mul-le-mul_right}
 use Rattle.std.proofs.lemmas.List.{length-map}
 use Rattle.ml_lists.specs.Member.{IsMember}
@@ -20,7 +20,7 @@ use Rattle.ml_graph.specs.Graph.{Graph, size, node_at, odd_priorities}
 use Rattle.ml_trace.specs.declared.letters.Transition.{Transition}
 use Rattle.ml_trace.specs.declared.marks.Mark.{Mark}
 use Rattle.ml_trace.specs.declared.marks.Mark.TheVariants.{Red, Green, Neutral}
-use Rattle.ml_trace.specs.Automaton.{number, guess_place, states_per_node}
+use Rattle.ml_trace.specs.Automaton.{states_per_node}
 use Rattle.ml_trace.specs.Marks.{priority, FitsBelow}
 use Rattle.ml_trace.specs.NamesCondition.{NamesCondition, bound}
 use Rattle.ml_trace.specs.Run.{in_letter}
@@ -34,14 +34,18 @@ use Rattle.ml_sequent.specs.declared.choice.Side.{Side}
 use Rattle.ml_sequent.specs.declared.choice.Side.TheVariants.{Left, Right}
 use Rattle.ml_sequent.specs.LocalWalk.{stays}
 use Rattle.ml_sequent.specs.Spread.{SpreadList, IsSpreadOf, is_diamond}
-use Rattle.ml_product.specs.Position.{Position, start_of, with_chosen, automaton_states, neutral, Follows}
-use Rattle.ml_product.specs.DecisionGame.{Verdict, Clashing, Open, Leading, Settled, Target, To, Lost, Won, AreSteps, AreMoves, IsVerdictOf, Turn, IsReached, at_start, by_move, diamonds_of}
+use Rattle.ml_product.specs.Position.{Position, with_chosen, automaton_states, neutral, Follows}
+use Rattle.ml_product.specs.DecisionGame.{Verdict, Clashing, Open, Leading, Settled, Target, To, Lost, Won, AreSteps, AreMoves, IsVerdictOf, Turn, IsReached, at_start, by_move}
 use Rattle.ml_product.proofs.Reached.{Facts, IsTraced, reached_facts}
 
 -- a position to which a move leads
 pub data MovesTo (g : Graph) (p q : Position) : Type 0 where
   chooses : (o : ℕ) (x : Side) → q ≡ with_chosen g p o x → MovesTo g p q
-  steps : (sp : SpreadList) (d : ℕ) → IsSpreadOf g p.sequent p.choice sp → IsMember d sp.nodes → Follows g p sp d q → MovesTo g p q
+  steps : (sp : SpreadList) (d : ℕ)
+      → IsSpreadOf g p.sequent p.choice sp
+      → IsMember d sp.nodes
+      → Follows g p sp d q
+      → MovesTo g p q
 
 module _ (g : Graph) (p q : Position) where
   along_steps : (sp : SpreadList) → IsSpreadOf g p.sequent p.choice sp → (ds : List ℕ) (ts : List Target)
@@ -51,10 +55,12 @@ module _ (g : Graph) (p q : Position) where
       → MovesTo g p q
   along_steps sp is_spread [] ts inside are m = absurd (subst (λ v. IsMember (To q) v) are m)
   along_steps sp is_spread (d ∷ ds) ts inside (r, others, follows, rest, is) m =
-      by_place (subst (λ v. IsMember (To q) v) is m) (λ later. along_steps sp is_spread ds others (λ e i. inside e (inr i)) rest later)
+      by_place (subst (λ v. IsMember (To q) v) is m) (λ later. along_steps sp is_spread ds others
+      (λ e i. inside e (inr i)) rest later)
     where
       by_place : (To q ≡ To r) ⊎ IsMember (To q) others → (IsMember (To q) others → MovesTo g p q) → MovesTo g p q
-      by_place (inl same) behind = let e : r ≡ q = cc in steps sp d is_spread (inside d (inl refl)) (subst (Follows g p sp d) e follows)
+      by_place (inl same) behind =
+          let e : r ≡ q = cc in steps sp d is_spread (inside d (inl refl)) (subst (Follows g p sp d) e follows)
       by_place (inr later) behind = behind later
 
   by_verdict : (sp : SpreadList) (v : Verdict) (ts : List Target)
@@ -89,22 +95,33 @@ module _ (g : Graph) (p q : Position) where
   moves_to t m = by_verdict t.spread t.verdict t.targets t.is_spread t.is_verdict t.are_moves m
 
 -- the nodes of a sequent with a spread are nodes of the graph
-pub sequent_low : (g : Graph) (p : Position) (sp : SpreadList) → IsSpreadOf g p.sequent p.choice sp → (n : ℕ) → IsMember n p.sequent → n < size g
+pub sequent_low : (g : Graph) (p : Position) (sp : SpreadList)
+    → IsSpreadOf g p.sequent p.choice sp
+    → (n : ℕ)
+    → IsMember n p.sequent
+    → n < size g
 sequent_low g p sp is n m = is.low n ((is.nodes n).1 (record { from = n; member = m; lowest = _; walk = stays n }))
 
-module _ (g : Graph) (p : Position) (facts : Facts g p) (sp : SpreadList) (is_spread : IsSpreadOf g p.sequent p.choice sp) where
+module _ (g : Graph) (p : Position) (facts : Facts g p) (sp : SpreadList)
+    (is_spread : IsSpreadOf g p.sequent p.choice sp) where
   state_low : (a : Item ℕ) → IsMember a p.history → a.state < automaton_states g
   state_low a m =
       let t : IsTraced g p.sequent a = facts.traced a m in
       let node : t.state.node < size g = sequent_low g p sp is_spread t.state.node t.member in
-      let place = guess_place-le (odd_priorities g) t.state.odd (ascending-is (filter (λ d. d % 2 == 1) g.priorities)) t.is_state in
-      let whole : (t.state.node + 1) * states_per_node (odd_priorities g) ≤ size g * states_per_node (odd_priorities g) = mul-le-mul_right (states_per_node (odd_priorities g)) (omega arith) in
+      let place =
+      guess_place-le (odd_priorities g) t.state.odd (ascending-is (filter (λ d. d % 2 == 1) g.priorities))
+      t.is_state in
+      let whole : (t.state.node + 1) * states_per_node (odd_priorities g) ≤ size g * states_per_node
+      (odd_priorities g) = mul-le-mul_right (states_per_node (odd_priorities g)) (omega arith) in
       omega (arith, t.numbered_so)
 
   -- there are at most as many names in use as states of the automaton
   pub names_fit : live p.history ≤ automaton_states g
   names_fit =
-      let few = ascending_length (map (λ (a : Item ℕ). a.state) p.history) (automaton_states g) facts.is_history.states_ascend (λ x m. of_image x (member-map_from (λ (a : Item ℕ). a.state) x p.history m)) in
+      let few =
+      ascending_length (map (λ (a : Item ℕ). a.state) p.history) (automaton_states g)
+      facts.is_history.states_ascend (λ x m. of_image x (member-map_from (λ (a : Item ℕ). a.state) x p.history
+      m)) in
       omega (arith, live-length p.history facts.is_history, length-map p.history (λ (a : Item ℕ). a.state))
     where
       of_image : (x : ℕ) → Image (λ (a : Item ℕ). a.state) x p.history → x < automaton_states g
@@ -114,12 +131,14 @@ module _ (g : Graph) (p : Position) (facts : Facts g p) (sp : SpreadList) (is_sp
   pub mark_fits : (letter : List Transition) → FitsBelow (neutral g) (step_mark p.history letter)
   mark_fits letter = by_mark (step_mark p.history letter) refl
     where
-      names : NamesCondition in_letter letter (step_mark p.history letter) (entry p.history) (entry (stepped p.history letter))
+      names : NamesCondition in_letter letter (step_mark p.history letter) (entry p.history)
+          (entry (stepped p.history letter))
       names = step_names p.history letter facts.is_history
 
       by_mark : (k : Mark) → step_mark p.history letter ≡ k → FitsBelow (neutral g) k
       by_mark (Red x) is =
-          let low : bound (live p.history) (Red x) ≤ live p.history = subst (λ k. bound (live p.history) k ≤ live p.history) is names.in_use.0 in
+          let low : bound (live p.history) (Red x) ≤ live p.history =
+          subst (λ k. bound (live p.history) k ≤ live p.history) is names.in_use.0 in
           omega (arith, names_fit)
       by_mark (Green x) is = omega (arith, names_fit, (names.green_in_use x is).0)
       by_mark Neutral is = tt

@@ -7,18 +7,17 @@
 --   start_facts     == the facts are true of the start
 --   step_facts      == a step keeps them, and behind it everything is guessed
 --   reached_facts   == they are true of each position that is reached
-use Rattle.std.proofs.Common.{ℕ, ◌≡◌, ◌<◌, ◌⊎◌, ◌==◌, Bool, true, false, inl, inr, List, [], ◌∷◌, Option, Some, None, refl, sym, subst, ap, ◌∙◌, filter, length}
+use Rattle.std.proofs.Common.{ℕ, ◌≡◌, ◌⊎◌, Bool, false, inl, inr, List, [], ◌∷◌, Option, Some, None, refl, sym, subst, ap}
 use Rattle.ml_lists.specs.Ascending.{IsAscending}
 use Rattle.ml_lists.specs.Member.{IsMember}
 use Rattle.ml_lists.proofs.Ascending.{ascending-one}
 use Rattle.ml_lists.proofs.Member.{member-filter_from}
-use Rattle.ml_graph.specs.Graph.{Graph, IsGraph, size, node_at, odd_priorities}
+use Rattle.ml_graph.specs.Graph.{Graph, node_at, odd_priorities}
 use Rattle.ml_graph.specs.declared.node.Node.TheVariants as node
 use Rattle.ml_trace.specs.declared.letters.AutomatonState.{AutomatonState}
 use Rattle.ml_trace.specs.declared.letters.Transition.{Transition}
 use Rattle.ml_trace.specs.declared.letters.Triple.{Triple}
-use Rattle.ml_trace.specs.Automaton.{number, IsState, IsGuess, Leads, Gives, IsLetterOf}
-use Rattle.ml_trace.specs.Run.{in_letter}
+use Rattle.ml_trace.specs.Automaton.{number, IsState, IsGuess, Leads, Gives}
 use Rattle.ml_trace.specs.Stack.{Item}
 use Rattle.ml_history.specs.CycleLaws.{HasState, IsLedTo}
 use Rattle.ml_history.specs.History.{IsHistory, start}
@@ -28,9 +27,9 @@ use Rattle.ml_history.proofs.definition.SteppedStates.{steps_follow_letters}
 use Rattle.ml_sequent.specs.declared.choice.Side.TheVariants.{Left, Right}
 use Rattle.ml_sequent.specs.LocalWalk.{LocalWalk, InSpread}
 use Rattle.ml_sequent.specs.Spread.{SpreadList, IsSpreadOf, is_diamond}
-use Rattle.ml_sequent.specs.Step.{LeadsOut, IsTarget, IsTrace, IsStep}
+use Rattle.ml_sequent.specs.Step.{LeadsOut, IsTarget, IsTrace}
 use Rattle.ml_product.specs.Position.{Position, start_of, with_chosen, Follows}
-use Rattle.ml_product.specs.DecisionGame.{Verdict, Clashing, Open, Leading, Settled, Target, To, Lost, Won, AreSteps, AreMoves, Turn, IsVerdictOf, diamonds_of, IsReached, at_start, by_move}
+use Rattle.ml_product.specs.DecisionGame.{Verdict, Clashing, Open, Leading, Settled, Target, To, Lost, Won, AreSteps, AreMoves, IsVerdictOf, IsReached, at_start, by_move}
 
 -- the state of a node with a guess, by its number
 abbrev pub numbered : Graph → ℕ → Option ℕ → ℕ
