@@ -1,6 +1,5 @@
 -- The states of the model by their numbers, and its edges.
 --
---   member-firsts   == a list without its repeats has the same members
 --   StateAt         == the state that begins at a position
 --   first_state     == the state 0 begins at position 0
 --   state_for       == each next position is one where a state begins
@@ -9,17 +8,18 @@
 --   is_structure    == the model is a structure
 --   reached_from_start, has_diamond == each state is reached along edges, each edge has a diamond's action
 --   target_in, target_from == where the edges of an action lead
-use Rattle.std.proofs.Common.{ℕ, zero, suc, ◌≡◌, ◌<◌, ◌≤◌, ◌==◌, ◌⊎◌, inl, inr, Bool, true, false, ◌&&◌, not, List, [], ◌∷◌, get_or, slice_get, map, Some, refl, sym, ap, ◌∙◌, subst, arith}
-use Rattle.std.specs.List.{flat_map, zip, filter}
+use Rattle.std.proofs.Common.{ℕ, zero, suc, ◌≡◌, ◌<◌, ◌≤◌, ◌==◌, inl, inr, Bool, true, false, ◌&&◌, List, [], ◌∷◌, length, get_or, slice_get, map, Some, refl, sym, ap, ◌∙◌, subst, arith}
+use Rattle.std.specs.List.{zip, filter}
 use Rattle.std.specs.Str.{bytes_eq}
-use Rattle.std.proofs.lemmas.Bool.{cases_eq}
-use Rattle.std.proofs.lemmas.Bool.Decides.{nat_tests, Decides-eqb}
-use Rattle.std.proofs.lemmas.Option.{slice_get_within, slice_get-get_or}
+use Rattle.std.proofs.lemmas.Bool.Decides.{Decides-eqb}
+use Rattle.std.proofs.lemmas.List.{get_or-map, length-map}
+use Rattle.std.proofs.lemmas.Option.{slice_get_within, slice_get-get_or, get_or_from_slice_get}
 use Rattle.std.proofs.lemmas.Slice.Eq.{bytes_eq-Decides}
 use Rattle.ml_base.specs.declared.structure.Edge.{Edge}
 use Rattle.ml_base.specs.Structure.{Structure, IsStructure}
 use Rattle.ml_lists.specs.Member.{IsMember}
-use Rattle.ml_lists.proofs.Member.{Image, member-map, member-map_from, member-filter, member-filter_from, member-flat_map, member-place, member-All, Place}
+use Rattle.ml_lists.proofs.BreadthFirst.{row_inside}
+use Rattle.ml_lists.proofs.Member.{Image, member-map, member-map_from, member-filter, member-filter_from, member-place, member-All, Place}
 use Rattle.ml_graph.specs.declared.node.Node.{Node}
 use Rattle.ml_graph.specs.declared.node.Node.TheVariants as node
 use Rattle.ml_graph.specs.Graph.{Graph, node_at, action_at}
@@ -29,25 +29,9 @@ use Rattle.ml_sequent.specs.Spread.{SpreadList, is_diamond}
 use Rattle.ml_product.specs.DecisionGame.{diamonds_of}
 use Rattle.ml_product.specs.Arena.{Arena}
 use Rattle.ml_product.proofs.ArenaGame.{member_of_get}
-use Rattle.ml_extract.specs.Firsts.{firsts}
-use Rattle.ml_extract.specs.Model.{SpreadAt, Chooses, ends, moves, State, nexts, next_positions, ComesBefore}
+use Rattle.ml_extract.specs.Model.{SpreadAt, Chooses, ends, moves, State, nexts, next_positions}
 use Rattle.ml_extract.specs.Extraction.{IsReachedFrom, itself, along, HasDiamond}
 use Rattle.ml_extract.proofs.Setting.{Setting}
-
--- a list without its repeats has the same members
-pub member-firsts : (v : ℕ) (xs : List ℕ) → IsMember v xs → IsMember v (firsts xs)
-member-firsts v [] m = absurd m
-member-firsts v (x ∷ xs) m = by_case (cases_eq v x) m (member-firsts v xs)
-  where
-    by_case : (v ≡ x) ⊎ (v ≡ x → ⊥)
-        → (v ≡ x) ⊎ IsMember v xs
-        → (IsMember v xs → IsMember v (firsts xs))
-        → IsMember v (firsts (x ∷ xs))
-    by_case (inl same) i later = inl same
-    by_case (inr other) (inl same) later = absurd (other same)
-    by_case (inr other) (inr i) later =
-        let passes : not (v == x) ≡ true = grind (arith, nat_tests) in
-        inr (member-filter (λ y. not (y == x)) v (firsts xs) (later i) passes)
 
 -- the state that begins at position v
 pub record StateAt (xs : List State) (v : ℕ) : Type 0 where
@@ -123,7 +107,7 @@ last_spread g a s v w sp (moves _ _ n open_sp _ h is_open rest) = last_spread g 
 
 module _ (S : Setting) where
   pub first_state : FirstState S.model.states
-  first_state = head_state S.model.states _ S.model.are_states.in_order
+  first_state = head_state S.model.states _ S.model.are_states.breadth_first.in_order
 
   -- each next position is one where a state begins
   pub state_for : (x : State)
@@ -132,9 +116,44 @@ module _ (S : Setting) where
       → IsMember v (next_positions S.g S.a x)
       → StateAt S.model.states v
   state_for x inside v m =
-      let next = inr (member-flat_map (next_positions S.g S.a) x v S.model.states inside m) in
-      state_at S.model.states v (subst (IsMember v) (sym S.model.are_states.in_order)
-      (member-firsts v (0 ∷ flat_map (next_positions S.g S.a) S.model.states) next))
+      let row = member-map (next_positions S.g S.a) x S.model.states inside in
+      state_at S.model.states v (row_inside 0 (map (next_positions S.g S.a) S.model.states)
+      (map (λ (y : State). y.first) S.model.states)
+      S.model.are_states.breadth_first (next_positions S.g S.a x) row v m)
+
+  -- each state but the first is the next position of one before it
+  record ComesBefore (k : ℕ) (x : State) : Type 0 where
+    pub place : ℕ
+    pub state : State
+    pub earlier : place < k
+    pub stands : slice_get S.model.states place ≡ Some state
+    pub leads : IsMember x.first (next_positions S.g S.a state)
+
+  comes_before : (k : ℕ) (x : State) → 0 < k → slice_get S.model.states k ≡ Some x → ComesBefore k x
+  comes_before k x later is =
+      from (S.model.are_states.breadth_first.from_earlier k later
+      (omega (arith, k_low, length-map S.model.states (λ (y : State). y.first))))
+    where
+      k_low : k < length S.model.states
+      k_low = slice_get_within S.model.states k x is
+
+      first_is : get_or (map (λ (y : State). y.first) S.model.states) k 0 ≡ x.first
+      first_is =
+          get_or-map (λ (y : State). y.first) S.model.states k x 0 k_low
+          ∙ ap (λ (y : State). y.first) (get_or_from_slice_get S.model.states k x x is)
+
+      from : ((j : ℕ) × (j < k) × IsMember (get_or (map (λ (y : State). y.first) S.model.states) k 0) (get_or (map (next_positions S.g S.a) S.model.states) j []))
+          → ComesBefore k x
+      from (j, early, inside) =
+          let row_is = get_or-map (next_positions S.g S.a) S.model.states j x [] (omega (arith, k_low)) in
+          record {
+            place = j;
+            state = get_or S.model.states j x;
+            earlier = early;
+            stands = slice_get-get_or S.model.states j x (omega (arith, k_low));
+            leads = subst (λ v. IsMember v (next_positions S.g S.a (get_or S.model.states j x))) first_is
+                (subst (λ row. IsMember (get_or (map (λ (y : State). y.first) S.model.states) k 0) row) row_is inside);
+          }
 
   pub state_low : (k : ℕ) (x : State) → slice_get S.model.states k ≡ Some x → k < S.m.states
   state_low k x is = omega (arith, slice_get_within S.model.states k x is, S.model.a_state_each)
@@ -175,9 +194,9 @@ module _ (S : Setting) where
   by_number fuel zero low x is = subst (IsReachedFrom S.m S.start) S.model.starts itself
   by_number zero (suc k) low x is = absurd (omega arith)
   by_number (suc fuel) (suc k) low x is =
-      from (S.model.are_states.reached (suc k) x (omega arith) is) (λ j j_low y y_is. by_number fuel j j_low y y_is)
+      from (comes_before (suc k) x (omega arith) is) (λ j j_low y y_is. by_number fuel j j_low y y_is)
     where
-      from : ComesBefore S.g S.a S.model.states (suc k) x
+      from : ComesBefore (suc k) x
           → ((j : ℕ) → j ≤ fuel → (y : State) → slice_get S.model.states j ≡ Some y → IsReachedFrom S.m S.start j)
           → IsReachedFrom S.m S.start (suc k)
       from c again = of_image (member-map_from (λ (next : ℕ × ℕ). next.1) x.first (nexts S.g S.a c.state) c.leads)
