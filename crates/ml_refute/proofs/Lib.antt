@@ -24,3 +24,13 @@ pub mod Items
 pub mod Sizes
 -- an extracted refutation is a refutation
 pub mod WellFormed
+-- a spread has one first cause
+pub mod FirstCauses
+-- numbers that stand in their order when they come first
+pub mod InOrder
+-- decisions from one position, with the entries numbered in two ways
+pub mod Alike
+-- the entries are numbered in one way
+pub mod OnePositions
+-- a solution makes one refutation
+pub mod OneRefutation

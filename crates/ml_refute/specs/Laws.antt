@@ -3,6 +3,7 @@
 -- That they break no rule doesn't rest on who wins: their heights are the longest counts in the graph of the go's, and
 -- with these no rule is broken. That there are such counts does: it is asked that Odd wins the start.
 --
+--   OneRefutation       == a solution makes one refutation at most
 --   ExtractedAccepted   == the extracted refutation breaks no rule of acceptance
 --   NoEvenCycle         == where Odd wins the start, no cycle of go's is even, so that the counts exist
 --   ExtractedRefutation == it is a refutation with numbers of 32 bits and splits that aren't nested too deep, where the
@@ -18,6 +19,11 @@ use Rattle.ml_refutation.specs.declared.refutation.TheConstants.{NESTING_LIMIT}
 use Rattle.ml_refutation.specs.Refutation.{Refutation, IsRefutation, Fits}
 use Rattle.ml_refutation.specs.Acceptance.{IsAccepted}
 use Rattle.ml_refute.specs.Extracted.{IsOutlineOf, go_graph, IsRefutationOf}
+
+abbrev pub OneRefutation : Type 0
+OneRefutation =
+    (g : Graph) (a : Arena) (s : GameSolution) (r q : Refutation) → IsArenaOf g a → IsRefutationOf g a s r
+    → IsRefutationOf g a s q → r ≡ q
 
 abbrev pub ExtractedAccepted : Type 0
 ExtractedAccepted =
