@@ -34,3 +34,5 @@ pub mod Alike
 pub mod OnePositions
 -- a solution makes one refutation
 pub mod OneRefutation
+-- an extracted refutation, worked out by hand
+pub mod WorkedExtraction
