@@ -36,3 +36,5 @@ pub mod OnePositions
 pub mod OneRefutation
 -- an extracted refutation, worked out by hand
 pub mod WorkedExtraction
+-- what Odd's choice leads to
+pub mod Progress
