@@ -5,8 +5,7 @@
 -- of the automaton; in the refutation neutral is just above its own names. Both orders agree.
 --
 --   numbers_agree   == the order of the marks' numbers doesn't depend on the number of neutral
---   vertex_of       == the vertex of an entry
---   entry_won       == Odd wins it
+--   entry_won       == Odd wins the vertex of each entry
 --   ArcsWalk, walk_of_arcs == the arcs of a walk, as a walk of the game
 --   no_even_cycle   == the theorem
 use Rattle.std.proofs.Common.{ℕ, zero, suc, ◌≡◌, ◌*◌, ◌<◌, ◌≤◌, ◌%◌, ◌⊎◌, inl, inr, min, eqb, eq-eqb, List, [], ◌∷◌, Some, length, slice_get, sym, ap, ◌∙◌, subst, arith, length-append}
@@ -19,7 +18,7 @@ use Rattle.ml_parity.specs.Player.{side}
 use Rattle.ml_parity.specs.Heights.{IsWalk, count_at, IsEvenCycle, EvenCycleIn}
 use Rattle.ml_parity.specs.Solution.{IsSolution, choice_at, winner_at}
 use Rattle.ml_parity.specs.Winner.{WinsFrom}
-use Rattle.ml_parity.proofs.FollowedWalks.{won_at_end, walks_joined, closed_walk_good}
+use Rattle.ml_parity.proofs.FollowedWalks.{won_behind, walks_joined, closed_walk_good}
 use Rattle.ml_parity.proofs.HeightWalks.{counts-none}
 use Rattle.ml_product.specs.Arena.{game_of}
 use Rattle.ml_product.specs.Position.{Position, neutral}
@@ -31,6 +30,7 @@ use Rattle.std.proofs.lemmas.Option.{slice_get_within}
 use Rattle.ml_product.proofs.OnePlace.{PlaceOf, place_of}
 use Rattle.ml_refute.specs.Extracted.{arcs_of, go_graph}
 use Rattle.ml_refute.proofs.Decisions.{GoIn}
+use Rattle.ml_refute.proofs.EntryVertices.{Entered, entered, walk_on, entry_keeps}
 use Rattle.ml_refute.proofs.Entries.{Extraction, At, position_at, LedFrom, led_from, is_reached}
 use Rattle.ml_refute.proofs.GoGraph.{GoArc, go_arc, mark_low}
 use Rattle.ml_refute.proofs.GoSteps.{number_fits}
@@ -79,89 +79,14 @@ module _ (X : Extraction) (solution : IsSolution (game_of X.a) X.s) (odd : winne
   abbrev Won : ℕ → Type 0
   Won v = WinsFrom (game_of X.a) Odd (choice_at X.s.choice) v
 
-  -- ---- entries and their vertices
-
-  -- an entry with its vertex
-  pub record Entered (e : ℕ) : Type 0 where
-    pub here : At X e
-    pub vertex : ℕ
-    pub stands : slice_get X.a.positions vertex ≡ Some here.position
-
-  entered : (e : ℕ) → e < length X.r.entries → Entered e
-  entered e low = from (position_at X e low)
+  -- Odd wins the vertex of each entry
+  entry_won : (e : ℕ) (p : Position) → slice_get X.o.positions e ≡ Some p → (v : ℕ) → slice_get X.a.positions v ≡ Some p → Won v
+  entry_won e p placed v stands =
+      entry_keeps X solution Won at_start (won_behind (game_of X.a) Odd (choice_at X.s.choice)) (suc e) e (omega arith) p placed v stands
     where
-      from : At X e → Entered e
-      from h = with_place (place_of h.position X.a.positions
-          ((X.arena.are_reached h.position).1 (is_reached X e h.position h.placed)))
-        where
-          with_place : PlaceOf h.position X.a.positions → Entered e
-          with_place p = record { here = h; vertex = p.place; stands = p.stands }
-
-  -- the walk to an entry to which an entry leads
-  walk_on : (e : ℕ) (h : At X e) (v : ℕ) → slice_get X.a.positions v ≡ Some h.position → (arc : Arc)
-      → IsMember arc (arcs_of top e (entry_at X.r e).decision)
-      → ArcWalk X solution top e v h.position arc
-  walk_on e h v stands arc inside =
-      walk_of_arc X solution top e (entry_at X.r e).decision v h.position stands h.is_entry.decision arc inside
-
-  -- Odd wins the vertex of each entry; n is above it
-  entry_won : (n e : ℕ)
-      → e < n
-      → (p : Position)
-      → slice_get X.o.positions e ≡ Some p
-      → (v : ℕ)
-      → slice_get X.a.positions v ≡ Some p
-      → Won v
-  entry_won zero e low p placed v stands = absurd (omega arith)
-  entry_won (suc n) zero low p placed v stands = subst Won (sym at_start) won
-    where
-      at_start : v ≡ 0
-      at_start = same_place X.a.positions X.arena.are_different v 0 p stands (sym X.o.starts ∙ placed)
-
-      won : Won 0
-      won = subst (λ x. WinsFrom (game_of X.a) x (choice_at X.s.choice) 0) odd
+      at_start : Won 0
+      at_start = subst (λ x. WinsFrom (game_of X.a) x (choice_at X.s.choice) 0) odd
           (solution.wins 0 (omega (arith, length-append X.a.owners (Even ∷ Even ∷ []))))
-  entry_won (suc n) (suc k) low p placed v stands =
-      from (led_from X k (omega (arith, slice_get_within X.o.positions (suc k) p placed, X.o.a_position_each)))
-      (λ e early. entry_won n e (omega arith))
-    where
-      of_arc : (l : LedFrom X (suc k)) (u : ℕ)
-          → slice_get X.a.positions u ≡ Some l.before_at.position
-          → Won u
-          → ArcTo top l.before (entry_at X.r l.before).decision (suc k)
-          → Won v
-      of_arc l u u_stands u_won arc =
-          along (walk_on l.before l.before_at u u_stands
-          (record { from = l.before; priority = priority top arc.mark; to = suc k }) arc.inside)
-        where
-          along : ArcWalk X solution top l.before u l.before_at.position
-              (record { from = l.before; priority = priority top arc.mark; to = suc k })
-              → Won v
-          along w =
-              let entry_is : suc k ≡ w.entry = ap (λ (x : Arc). x.to) w.arc_is in
-              let same_next : Some w.walk.go.is_go.next ≡ Some p = sym w.walk.go.is_go.is_entry ∙ ap
-              (slice_get X.o.positions) (sym entry_is) ∙ placed in
-              let same : w.walk.go.is_go.next ≡ p = cc in
-              let here : w.walk.vertex ≡ v = same_place X.a.positions X.arena.are_different w.walk.vertex v p
-              (w.walk.stands ∙ ap Some same) stands in
-              subst Won here (won_at_end (game_of X.a) Odd (choice_at X.s.choice) u w.walk.lowest w.walk.vertex
-              w.walk.walk u_won)
-
-      from : LedFrom X (suc k)
-          → ((e : ℕ) → e < suc k → (q : Position) → slice_get X.o.positions e ≡ Some q → (u : ℕ)
-          → slice_get X.a.positions u ≡ Some q → Won u)
-          → Won v
-      from l earlier_won =
-          of_vertex (entered l.before
-          (omega (arith, l.earlier, slice_get_within X.o.positions (suc k) p placed, X.o.a_position_each)))
-        where
-          of_vertex : Entered l.before → Won v
-          of_vertex b =
-              let same : Some b.here.position ≡ Some l.before_at.position = sym b.here.placed ∙ l.before_at.placed in
-              let u_stands : slice_get X.a.positions b.vertex ≡ Some l.before_at.position = b.stands ∙ same in
-              of_arc l b.vertex u_stands (earlier_won l.before l.earlier l.before_at.position l.before_at.placed
-              b.vertex u_stands)
-              (arc_to top l.before (entry_at X.r l.before).decision (suc k) l.leads)
 
   -- ---- walks of arcs
 
@@ -183,7 +108,7 @@ module _ (X : Extraction) (solution : IsSolution (game_of X.a) X.s) (odd : winne
       from : GoArc X x → ArcWalk X solution top e v p x
       from i =
           let here : i.begins ≡ e = sym (ap (λ (y : Arc). y.from) i.arc_is.arc_is) ∙ leaves in
-          walk_on e (at_entry e p placed) v stands x (subst (λ k. IsMember x (arcs_of top k (entry_at X.r k).decision))
+          walk_on X solution e (at_entry e p placed) v stands x (subst (λ k. IsMember x (arcs_of top k (entry_at X.r k).decision))
           here i.inside)
 
   -- the mark of a go of the entry fits
@@ -345,11 +270,11 @@ module _ (X : Extraction) (solution : IsSolution (game_of X.a) X.s) (odd : winne
     no_cycle even x xs b walk some = from (go_arc X x (member_of_contains x (go_graph X.r).arcs walk.0.member))
       where
         from : GoArc X x → ⊥
-        from i = of_entry (entered b
+        from i = of_entry (entered X solution b
             (subst (λ k. k < length X.r.entries) (sym (ap (λ (y : Arc). y.from) i.arc_is.arc_is) ∙ walk.0.leaves)
             i.is_entry))
           where
-            of_entry : Entered b → ⊥
+            of_entry : Entered X solution b → ⊥
             of_entry h = of_walk (walk_of_arcs xs x b h.vertex h.here.position h.here.placed h.stands
                 (ends_high xs x b b walk h.here.position h.here.placed) b walk)
               where
@@ -363,7 +288,7 @@ module _ (X : Extraction) (solution : IsSolution (game_of X.a) X.s) (odd : winne
                     (c.meets some) in
                     let good = closed_walk_good (game_of X.a) Odd (choice_at X.s.choice) h.vertex c.lowest
                     (subst (Walk X solution h.vertex c.lowest) back c.walk)
-                    (entry_won (suc b) b (omega arith) h.here.position h.here.placed h.vertex h.stands) in
+                    (entry_won b h.here.position h.here.placed h.vertex h.stands) in
                     even_is_not_odd in_game (even_agrees top (neutral X.g) lowest_mark (omega arith) even)
                     (sym (ap side exact) ∙ good)
                   where

@@ -14,6 +14,8 @@ pub mod Accepted
 pub mod Turns
 -- a go as a walk of the decision game
 pub mod GoWalks
+-- what is true of the vertices of entries
+pub mod EntryVertices
 -- no cycle of go's is even
 pub mod GoCycles
 -- different positions among others
