@@ -4,32 +4,20 @@
 --   walk_on          == each arc of an entry is a walk from its vertex
 --   along_walk       == what moves keep, walks keep
 --   entry_keeps      == what is true of the start, and kept by moves, is true of the vertices of all entries
-use Rattle.std.proofs.Common.{ℕ, zero, suc, ◌≡◌, ◌*◌, ◌<◌, ◌≤◌, ◌%◌, ◌⊎◌, inl, inr, min, eqb, eq-eqb, List, [], ◌∷◌, Some, length, slice_get, sym, ap, ◌∙◌, subst, arith, length-append}
-use Rattle.std.proofs.lemmas.Bool.{cases_eq, cond-true}
+use Rattle.std.proofs.Common.{ℕ, zero, suc, ◌≡◌, ◌*◌, ◌<◌, Some, length, slice_get, sym, ap, ◌∙◌, subst, arith}
 use Rattle.ml_lists.specs.Member.{IsMember}
-use Rattle.ml_lists.proofs.Members.{member_of_contains}
 use Rattle.ml_parity.specs.declared.one_sided.graph.Arc.{Arc}
-use Rattle.ml_parity.specs.declared.players.Player.TheVariants.{Even, Odd}
-use Rattle.ml_parity.specs.Player.{side}
-use Rattle.ml_parity.specs.Heights.{IsWalk, count_at, IsEvenCycle, EvenCycleIn}
-use Rattle.ml_parity.specs.Solution.{IsSolution, choice_at, winner_at}
-use Rattle.ml_parity.specs.Winner.{WinsFrom}
-use Rattle.ml_parity.proofs.FollowedWalks.{won_at_end, walks_joined, closed_walk_good}
-use Rattle.ml_parity.proofs.HeightWalks.{counts-none}
+use Rattle.ml_parity.specs.declared.players.Player.TheVariants.{Odd}
+use Rattle.ml_parity.specs.Solution.{IsSolution, choice_at}
 use Rattle.ml_product.specs.Arena.{game_of}
-use Rattle.ml_product.specs.Position.{Position, neutral}
+use Rattle.ml_product.specs.Position.{Position}
 use Rattle.ml_refutation.specs.Acceptance.{entry_at}
-use Rattle.ml_trace.specs.declared.marks.Mark.{Mark}
-use Rattle.ml_trace.specs.declared.marks.Mark.TheVariants.{Red, Green, Neutral}
-use Rattle.ml_trace.specs.Marks.{priority, FitsBelow}
+use Rattle.ml_trace.specs.Marks.{priority}
 use Rattle.std.proofs.lemmas.Option.{slice_get_within}
 use Rattle.ml_product.proofs.OnePlace.{PlaceOf, place_of}
-use Rattle.ml_refute.specs.Extracted.{arcs_of, go_graph}
-use Rattle.ml_refute.proofs.Decisions.{GoIn}
+use Rattle.ml_refute.specs.Extracted.{arcs_of}
 use Rattle.ml_refute.proofs.Entries.{Extraction, At, position_at, LedFrom, led_from, is_reached}
-use Rattle.ml_refute.proofs.GoGraph.{GoArc, go_arc, mark_low}
-use Rattle.ml_refute.proofs.GoSteps.{number_fits}
-use Rattle.ml_refute.proofs.GoWalks.{ArcTo, arc_to, Walk, ArcWalk, walk_of_arc}
+use Rattle.ml_refute.proofs.GoWalks.{ArcTo, arc_to, ArcWalk, walk_of_arc}
 use Rattle.ml_product.proofs.OnePlace.{same_place}
 use Rattle.ml_parity.proofs.FollowedWalks.{FollowedMove, FollowedWalk, last, before}
 
@@ -122,4 +110,3 @@ module _ (X : Extraction) (solution : IsSolution (game_of X.a) X.s) where
                 of_arc l b.vertex u_stands (earlier_has l.before l.earlier l.before_at.position l.before_at.placed
                 b.vertex u_stands)
                 (arc_to top l.before (entry_at X.r l.before).decision (suc k) l.leads)
-

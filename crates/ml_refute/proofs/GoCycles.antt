@@ -8,7 +8,7 @@
 --   entry_won       == Odd wins the vertex of each entry
 --   ArcsWalk, walk_of_arcs == the arcs of a walk, as a walk of the game
 --   no_even_cycle   == the theorem
-use Rattle.std.proofs.Common.{ℕ, zero, suc, ◌≡◌, ◌*◌, ◌<◌, ◌≤◌, ◌%◌, ◌⊎◌, inl, inr, min, eqb, eq-eqb, List, [], ◌∷◌, Some, length, slice_get, sym, ap, ◌∙◌, subst, arith, length-append}
+use Rattle.std.proofs.Common.{ℕ, suc, ◌≡◌, ◌*◌, ◌<◌, ◌≤◌, ◌%◌, ◌⊎◌, inl, inr, min, eqb, eq-eqb, List, [], ◌∷◌, Some, length, slice_get, sym, ap, ◌∙◌, subst, arith, length-append}
 use Rattle.std.proofs.lemmas.Bool.{cases_eq, cond-true}
 use Rattle.ml_lists.specs.Member.{IsMember}
 use Rattle.ml_lists.proofs.Members.{member_of_contains}
@@ -27,14 +27,13 @@ use Rattle.ml_trace.specs.declared.marks.Mark.{Mark}
 use Rattle.ml_trace.specs.declared.marks.Mark.TheVariants.{Red, Green, Neutral}
 use Rattle.ml_trace.specs.Marks.{priority, FitsBelow}
 use Rattle.std.proofs.lemmas.Option.{slice_get_within}
-use Rattle.ml_product.proofs.OnePlace.{PlaceOf, place_of}
 use Rattle.ml_refute.specs.Extracted.{arcs_of, go_graph}
 use Rattle.ml_refute.proofs.Decisions.{GoIn}
 use Rattle.ml_refute.proofs.EntryVertices.{Entered, entered, walk_on, entry_keeps}
-use Rattle.ml_refute.proofs.Entries.{Extraction, At, position_at, LedFrom, led_from, is_reached}
+use Rattle.ml_refute.proofs.Entries.{Extraction, At}
 use Rattle.ml_refute.proofs.GoGraph.{GoArc, go_arc, mark_low}
 use Rattle.ml_refute.proofs.GoSteps.{number_fits}
-use Rattle.ml_refute.proofs.GoWalks.{ArcTo, arc_to, Walk, ArcWalk, walk_of_arc}
+use Rattle.ml_refute.proofs.GoWalks.{Walk, ArcWalk}
 use Rattle.ml_product.proofs.OnePlace.{same_place}
 
 -- ---- marks
@@ -80,9 +79,14 @@ module _ (X : Extraction) (solution : IsSolution (game_of X.a) X.s) (odd : winne
   Won v = WinsFrom (game_of X.a) Odd (choice_at X.s.choice) v
 
   -- Odd wins the vertex of each entry
-  entry_won : (e : ℕ) (p : Position) → slice_get X.o.positions e ≡ Some p → (v : ℕ) → slice_get X.a.positions v ≡ Some p → Won v
+  entry_won : (e : ℕ) (p : Position)
+      → slice_get X.o.positions e ≡ Some p
+      → (v : ℕ)
+      → slice_get X.a.positions v ≡ Some p
+      → Won v
   entry_won e p placed v stands =
-      entry_keeps X solution Won at_start (won_behind (game_of X.a) Odd (choice_at X.s.choice)) (suc e) e (omega arith) p placed v stands
+      entry_keeps X solution Won at_start (won_behind (game_of X.a) Odd (choice_at X.s.choice)) (suc e) e (omega arith)
+      p placed v stands
     where
       at_start : Won 0
       at_start = subst (λ x. WinsFrom (game_of X.a) x (choice_at X.s.choice) 0) odd
@@ -108,7 +112,8 @@ module _ (X : Extraction) (solution : IsSolution (game_of X.a) X.s) (odd : winne
       from : GoArc X x → ArcWalk X solution top e v p x
       from i =
           let here : i.begins ≡ e = sym (ap (λ (y : Arc). y.from) i.arc_is.arc_is) ∙ leaves in
-          walk_on X solution e (at_entry e p placed) v stands x (subst (λ k. IsMember x (arcs_of top k (entry_at X.r k).decision))
+          walk_on X solution e (at_entry e p placed) v stands x
+          (subst (λ k. IsMember x (arcs_of top k (entry_at X.r k).decision))
           here i.inside)
 
   -- the mark of a go of the entry fits

@@ -40,3 +40,5 @@ pub mod OneRefutation
 pub mod WorkedExtraction
 -- what Odd's choice leads to
 pub mod Progress
+-- the entries are what Odd's moves reach
+pub mod ReachedByOdd

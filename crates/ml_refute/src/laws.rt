@@ -1,6 +1,14 @@
 // Laws about the definitions alone: empty functions, each of whose contract is a theorem.
 
-ghost use Rattle.ml_refute.specs.Laws.{ExtractedAccepted, ExtractedRefutation, NoEvenCycle, OneRefutation};
+ghost use Rattle.ml_refute.specs.Laws.{EntriesAreReached, ExtractedAccepted, ExtractedRefutation, NoEvenCycle, OneRefutation};
+
+/// The positions of the entries are exactly those without a choice that plays from the start meet in which Odd makes the
+/// solution's moves.
+///
+/// Does nothing when called.
+pub fn entries_are_reached()
+    ensures law { EntriesAreReached }
+{}
 
 /// A solution of a graph's decision game makes one refutation at most: entries, their order, decisions, marks, names and
 /// heights are determined.
