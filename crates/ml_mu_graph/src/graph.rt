@@ -10,7 +10,7 @@ ghost use Rattle.ml_mu_graph.specs.MuGraph.{IsGraphOf};
 ghost use Rattle.ml_mu_graph.specs.private.NodeList as listed;
 ghost use Rattle.ml_mu_graph.specs.private.Views.{scope_view};
 
-use crate::names::{Names, action, collect, proposition};
+use crate::names::Names;
 use ml_base::{Action, Name, NoMemory};
 use ml_graph::{ModalGraph, Node};
 use ml_mu::{Formula, Term};
@@ -201,20 +201,20 @@ fn placed(nodes: &[Node]) -> u32
 #[cycle(placing)]
 fn place<'a>(
     draft: &mut Draft,
-    names: &Names<'_>,
+    names: &Names,
     plain: u32,
     scope: &'a Scope<'a>,
     depth: u32,
     at: u32,
     term: &'a Term,
 ) -> Result<(), AllocError>
-    requires names { (length names.now.props.now < 2 ^ 32) × (length names.now.actions.now < 2 ^ 32) }
+    requires names { (length names.now.props.keys < 2 ^ 32) × (length names.now.actions.keys < 2 ^ 32) }
     requires start { length draft.old.nodes.items ≡ 2 * at }
     requires few { at + occurrences (formula_of term.now) ≤ 1000 }
     requires binders { (x : _) → graph.binder_of (scope_view scope.now) x ≤ 1000 }
     requires deep { depth ≤ at }
     ensures nodes { OnOk result (draft.new.nodes.items ≡ draft.old.nodes.items
-        ++ listed.nodes_of names.now.props.now names.now.actions.now (scope_view scope.now) at (formula_of term.now)) }
+        ++ listed.nodes_of names.now.props.keys names.now.actions.keys (scope_view scope.now) at (formula_of term.now)) }
     ensures priorities { OnOk result (draft.new.priorities.items ≡ draft.old.priorities.items
         ++ listed.priorities_of plain depth (formula_of term.now)) }
 {
@@ -222,7 +222,7 @@ fn place<'a>(
     match term {
         Term::Const(value) => put(draft, (constant(*value), constant(!*value)), usual),
         Term::Prop(name) => {
-            let prop = proposition(names, name);
+            let prop = names.proposition(name);
             let yes = Node::Lit {
                 prop,
                 positive: true,
@@ -302,7 +302,7 @@ fn place<'a>(
             )
         }
         Term::Diamond(name, operand) => {
-            let action = action(names, name);
+            let action = names.action(name);
             let some = Node::Diamond {
                 action,
                 to: positive(at + 1),
@@ -315,7 +315,7 @@ fn place<'a>(
             place(draft, names, plain, scope, depth, at + 1, operand)
         }
         Term::Square(name, operand) => {
-            let action = action(names, name);
+            let action = names.action(name);
             let every = Node::Square {
                 action,
                 to: positive(at + 1),
@@ -352,7 +352,7 @@ fn place<'a>(
 #[cycle(placing)]
 fn place_both<'a>(
     draft: &mut Draft,
-    names: &Names<'_>,
+    names: &Names,
     plain: u32,
     scope: &'a Scope<'a>,
     depth: u32,
@@ -361,13 +361,13 @@ fn place_both<'a>(
     left: &'a Term,
     right: &'a Term,
 ) -> Result<(), AllocError>
-    requires names { (length names.now.props.now < 2 ^ 32) × (length names.now.actions.now < 2 ^ 32) }
+    requires names { (length names.now.props.keys < 2 ^ 32) × (length names.now.actions.keys < 2 ^ 32) }
     requires start { length draft.old.nodes.items ≡ 2 * at }
     requires few { at + occurrences (mu.Binary operator (formula_of left.now) (formula_of right.now)) ≤ 1000 }
     requires binders { (x : _) → graph.binder_of (scope_view scope.now) x ≤ 1000 }
     requires deep { depth ≤ at }
     ensures nodes { OnOk result (draft.new.nodes.items ≡ draft.old.nodes.items
-        ++ listed.nodes_of names.now.props.now names.now.actions.now (scope_view scope.now) at (mu.Binary operator (formula_of left.now) (formula_of right.now))) }
+        ++ listed.nodes_of names.now.props.keys names.now.actions.keys (scope_view scope.now) at (mu.Binary operator (formula_of left.now) (formula_of right.now))) }
     ensures priorities { OnOk result (draft.new.priorities.items ≡ draft.old.priorities.items
         ++ listed.priorities_of plain depth (mu.Binary operator (formula_of left.now) (formula_of right.now))) }
 {
@@ -404,16 +404,10 @@ fn lists_of(alloc: Global, term: &Term) -> Result<Lists, NoMemory>
     ensures nodes { IfOk result (λ l. l.nodes.items ≡ listed.nodes_of l.props.items l.actions.items [] 0 (formula_of term.now)) }
     ensures priorities { IfOk result (λ l. l.priorities.items ≡ listed.priorities_of (2 * graph.binders (formula_of term.now)) 0 (formula_of term.now)) }
 {
-    let mut props = Vec::new(alloc);
-    let mut actions = Vec::new(alloc);
-    collect(term, &mut props, &mut actions)?;
+    let names = Names::of(alloc, term)?;
     let mut draft = Draft {
         nodes: Vec::new(alloc),
         priorities: Vec::new(alloc),
-    };
-    let names = Names {
-        props: props.as_slice(),
-        actions: actions.as_slice(),
     };
     place(
         &mut draft,
@@ -424,6 +418,7 @@ fn lists_of(alloc: Global, term: &Term) -> Result<Lists, NoMemory>
         0,
         term,
     )?;
+    let (props, actions) = names.into_lists(alloc)?;
     Ok(Lists {
         nodes: draft.nodes,
         priorities: draft.priorities,

@@ -17,7 +17,7 @@ use Rattle.ml_mu.specs.Formula.{Formula, Const, Prop, Var, Not, Binary, Modal, B
 use Rattle.ml_mu_graph.specs.MuGraph.{positive, negative, Around, binder_of, constant, modality, dual, binder_priority, opposite}
 
 abbrev pub with_name : List (List ℕ) → List ℕ → List (List ℕ)
-with_name ps p = if list_any (λ q. bytes_eq q p) ps then ps else ps ++ p ∷ []
+with_name ps p = if list_any (bytes_eq p) ps then ps else ps ++ p ∷ []
 
 abbrev pub props_onto : Formula → List (List ℕ) → List (List ℕ)
 props_onto (Const b) ps = ps
@@ -38,7 +38,7 @@ actions_onto (Modal m a f) acts = actions_onto f (with_name acts a)
 actions_onto (Binder q x f) acts = actions_onto f acts
 
 abbrev pub place_of : List (List ℕ) → List ℕ → ℕ
-place_of ps p = unwrap_or (position (λ q. bytes_eq q p) ps) 0
+place_of ps p = unwrap_or (position (bytes_eq p) ps) 0
 
 abbrev pub lead_to : ℕ → Node
 lead_to n = node.And n n
