@@ -1,6 +1,8 @@
-use Rattle.std.proofs.Common.{◌≤◌, [], length, ap, arith}
+use Rattle.std.proofs.Common.{ℕ, ◌≤◌, [], length, ap, arith}
 use Rattle.ml_mu.specs.Formula.{occurrences}
 use Rattle.ml_mu.specs.Term.{formula_of}
+use Rattle.ml_mu_graph.specs.private.Views.{none_around, around}
+use Rattle.ml_mu_graph.proofs.Bindings.{low_same}
 use Rattle.ml_mu_graph.proofs.NameLists.{few_actions, few_props}
 use Rattle.ml_mu_graph.proofs.graph.lists_of.Goals as goal
 
@@ -9,3 +11,7 @@ place-requires-clause-names c =
     let term = formula_of c.args.term.now in
     let names = c.in_ok-names.ensures in
     (omega (arith, ap length names.props, few_props term [], c.requires), omega (arith, ap length names.actions, few_actions term [], c.requires))
+
+pub place-requires-clause-binders : goal.place-requires-clause-binders
+place-requires-clause-binders c =
+    low_same none_around (around c.new-binders.result) 1000 c.new-binders.ensures (λ y. omega arith)
