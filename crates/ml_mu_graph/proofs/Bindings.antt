@@ -3,7 +3,7 @@
 --   put_at      == where the map has another binder at a variable, that one stands inside the others
 --   left_again  == a binder that is entered and left for the outer one leaves the binders as they were
 --   low_same, low_inside == no occurrence is above a bound, with the same binders, and with one that isn't either
-use Rattle.std.proofs.Common.{ℕ, ◌≡◌, ◌≤◌, ◌⊎◌, ⊎_elim, Bool, true, false, cond, bytes_eq, if◌then◌else◌, List, Option, Bor, unwrap_or, refl, sym, ap, ◌∙◌, subst}
+use Rattle.std.proofs.Common.{ℕ, ◌≡◌, ◌≤◌, ⊎_elim, Bool, true, false, cond, bytes_eq, List, Option, unwrap_or, refl, sym, ap, ◌∙◌, subst}
 use Rattle.std.specs.HashMap as hash
 use Rattle.std.proofs.lemmas.Bool.{cases_Bool, cond-true, cond-false}
 use Rattle.std.proofs.lemmas.Map.Text.{hash_map_updates_str}

@@ -12,12 +12,11 @@ use Rattle.std.proofs.lemmas.Map.Keys.{IsDistinct-tail}
 use Rattle.ml_graph.proofs.Places.{one_name}
 use Rattle.ml_graph.specs.Graph.{Graph, IsGraph, Reference, references_of, size}
 use Rattle.ml_graph.specs.declared.node.Node.{Node}
-use Rattle.ml_graph.specs.declared.node.Node.TheVariants as node
 use Rattle.ml_text.specs.declared.token.Operator.{Operator}
 use Rattle.ml_text.specs.declared.token.Operator.TheVariants as operator
 use Rattle.ml_mu.specs.Formula.{Formula, Const, Prop, Var, Not, Binary, Modal, Binder, Modality, Diamond, Square, occurrences, weight}
 use Rattle.ml_mu_graph.specs.MuGraph.{binders, constant, dual, modality, negative, positive}
-use Rattle.ml_mu_graph.specs.private.NodeList.{bound, lead_to, nodes_of, operator_nodes, priorities_of, props_onto, actions_onto, place_of}
+use Rattle.ml_mu_graph.specs.private.NodeList.{bound, nodes_of, operator_nodes, priorities_of, props_onto, actions_onto, place_of}
 use Rattle.ml_mu_graph.specs.private.Views.{none_around}
 use Rattle.ml_mu_graph.proofs.Made.{names_among}
 use Rattle.ml_mu_graph.proofs.NameLists.{AreAmong, place_found, distinct_actions, distinct_props}

@@ -1,10 +1,10 @@
 -- The graph that was made of a formula is its graph.
 --
 --   graph_made  == lists that are those of a formula make its graph
-use Rattle.std.proofs.Common.{◌≡◌, ℕ, ◌*◌, Bool, true, List, [], ◌++◌, length, refl, sym, ◌∙◌, ap, subst, if◌then◌else◌}
+use Rattle.std.proofs.Common.{◌≡◌, ℕ, ◌*◌, Bool, true, List, [], length, refl, sym, ◌∙◌, ap, subst, if◌then◌else◌}
 use Rattle.std.proofs.lemmas.List.{append-nil}
 use Rattle.ml_graph.specs.Graph.{Graph, IsGraph}
-use Rattle.ml_mu.specs.Formula.{Formula, occurrences}
+use Rattle.ml_mu.specs.Formula.{Formula}
 use Rattle.ml_mu_graph.specs.MuGraph.{binders, IsGraphOf}
 use Rattle.ml_mu_graph.specs.private.NodeList.{props_onto, actions_onto, nodes_of, priorities_of}
 use Rattle.ml_mu_graph.specs.private.Views.{none_around}

@@ -3,16 +3,16 @@
 --   length-nodes, length-priorities == two for each occurrence
 --   NamesIn ps acts f   == each name of f is at its place
 --   stands            == the nodes and priorities of a formula say what stands there
-use Rattle.std.proofs.Common.{◌≡◌, ℕ, ◌+◌, ◌*◌, ◌/◌, ◌≤◌, Bool, true, false, not, List, [], ◌∷◌, ◌++◌, length, get_or, refl, sym, ◌∙◌, ap, subst, arith, length-append, append_assoc, take, drop}
+use Rattle.std.proofs.Common.{◌≡◌, ℕ, ◌+◌, ◌*◌, ◌/◌, ◌≤◌, List, [], ◌∷◌, ◌++◌, length, get_or, refl, sym, ◌∙◌, ap, subst, arith, length-append, append_assoc, take, drop}
 use Rattle.std.proofs.Math.Seq.{take-append_seam, drop-append_seam}
-use Rattle.ml_graph.specs.Graph.{Graph, size, node_at, priority_at, prop_at, action_at}
+use Rattle.ml_graph.specs.Graph.{Graph}
 use Rattle.ml_graph.specs.declared.node.Node.{Node}
 use Rattle.ml_graph.specs.declared.node.Node.TheVariants as node
 use Rattle.ml_text.specs.declared.token.Operator.{Operator}
 use Rattle.ml_text.specs.declared.token.Operator.TheVariants as operator
-use Rattle.ml_mu.specs.Formula.{Formula, Const, Prop, Var, Not, Binary, Modal, Binder, Fixpoint, Least, Greatest, Modality, Diamond, Square, occurrences, weight}
-use Rattle.ml_mu_graph.specs.MuGraph.{positive, negative, Around, binder_of, constant, modality, dual, binder_priority, opposite, IsNode, LeadsTo, IsLiteral, IsModality, StandsAt}
-use Rattle.ml_mu_graph.specs.private.NodeList.{place_of, lead_to, operator_nodes, operator_holes, operator_priorities, bound, nodes_of, priorities_of}
+use Rattle.ml_mu.specs.Formula.{Formula, Const, Prop, Var, Not, Binary, Modal, Binder, occurrences, weight}
+use Rattle.ml_mu_graph.specs.MuGraph.{positive, negative, Around, binder_of, binder_priority, opposite, IsNode, StandsAt}
+use Rattle.ml_mu_graph.specs.private.NodeList.{place_of, operator_nodes, operator_holes, operator_priorities, bound, nodes_of, priorities_of}
 use Rattle.ml_mu_graph.proofs.Holding.{Holds, held_first, held_later, held_left, held_right, held_at}
 
 length-operator : (op : Operator) (i l r : ℕ) → length (operator_nodes op i l r) ≡ 2 * weight op

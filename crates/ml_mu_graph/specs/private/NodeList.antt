@@ -9,7 +9,7 @@
 --   priorities_of k d f         == their priorities, with d binders around
 --
 -- Binders around are a function here, from a variable to the occurrence of its innermost one.
-use Rattle.std.specs.Prelude.{ℕ, ◌+◌, Bool, true, false, not, if◌then◌else◌, List, [], ◌∷◌, ◌++◌, length, unwrap_or, position}
+use Rattle.std.specs.Prelude.{ℕ, ◌+◌, true, false, not, if◌then◌else◌, List, [], ◌∷◌, ◌++◌, unwrap_or, position}
 use Rattle.std.specs.List.{list_any}
 use Rattle.std.specs.Str.{bytes_eq}
 use Rattle.ml_graph.specs.declared.node.Node.{Node}

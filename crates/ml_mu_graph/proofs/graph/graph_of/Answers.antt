@@ -1,4 +1,4 @@
-use Rattle.std.proofs.Common.{◌≡◌, ◌*◌, [], length, ap, refl, sym, ◌∙◌, subst, ◌≤◌, true, false, arith}
+use Rattle.std.proofs.Common.{◌≡◌, ◌*◌, [], length, ap, sym, ◌∙◌, subst, ◌≤◌, true, false, arith}
 use Rattle.std.specs.List.{IsDistinct}
 use Rattle.std.specs.Str.{bytes_eq}
 use Rattle.ml_graph.specs.Graph.{graph_of}
