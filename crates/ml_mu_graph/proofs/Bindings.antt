@@ -33,8 +33,10 @@ module _ (x : List ℕ) (i : ℕ) (b : List ℕ → ℕ) where
   rebound : (y : List ℕ) → bound x (b x) (bound x i b) y ≡ b y
   rebound y =
       ⊎_elim
-      (λ (here : bytes_eq x y ≡ true). cond-true (bytes_eq x y) (b x) (bound x i b y) here ∙ ap b ((bytes_eq-Decides x y).0 here))
-      (λ (other : bytes_eq x y ≡ false). cond-false (bytes_eq x y) (b x) (bound x i b y) other ∙ cond-false (bytes_eq x y) i (b y) other)
+      (λ (here : bytes_eq x y ≡ true).
+      cond-true (bytes_eq x y) (b x) (bound x i b y) here ∙ ap b ((bytes_eq-Decides x y).0 here))
+      (λ (other : bytes_eq x y ≡ false).
+      cond-false (bytes_eq x y) (b x) (bound x i b y) other ∙ cond-false (bytes_eq x y) i (b y) other)
       (cases_Bool (bytes_eq x y))
 
   pub left_again : (inside behind last : List ℕ → ℕ) (outer : ℕ) → inside ≡ bound x i b → behind ≡ inside → outer ≡ b x

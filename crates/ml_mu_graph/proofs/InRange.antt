@@ -99,7 +99,8 @@ module _ (n : ℕ) (ps acts : List (List ℕ)) where
   one_more y i b low around x =
       ⊎_elim
       (λ (here : bytes_eq y x ≡ true). subst (λ k. 2 * k + 1 < n) (sym (cond-true (bytes_eq y x) i (b x) here)) low)
-      (λ (other : bytes_eq y x ≡ false). subst (λ k. 2 * k + 1 < n) (sym (cond-false (bytes_eq y x) i (b x) other)) (around x))
+      (λ (other : bytes_eq y x ≡ false).
+      subst (λ k. 2 * k + 1 < n) (sym (cond-false (bytes_eq y x) i (b x) other)) (around x))
       (cases_Bool (bytes_eq y x))
 
   pub nodes_fit : (b : List ℕ → ℕ) (i : ℕ) (f : Formula)
@@ -147,7 +148,8 @@ module _ (n : ℕ) (ps acts : List (List ℕ)) where
         two (positive (i + 1)) n (positive (i + 1)) n (omega (arith, room, some)) (omega (arith, room, some)),
         (
           two (negative (i + 1)) n (negative (i + 1)) n (omega (arith, room, some)) (omega (arith, room, some)),
-          nodes_fit (bound x i b) (i + 1) f among (omega (arith, room)) (one_more x i b (omega (arith, room, some)) around),
+          nodes_fit (bound x i b) (i + 1) f among (omega (arith, room))
+              (one_more x i b (omega (arith, room, some)) around),
         ),
       )
 

@@ -15,12 +15,19 @@ use Rattle.ml_mu_graph.proofs.NodeLists.{length-nodes, stands}
 whole : {A : Type 0} (xs ys : List A) → xs ≡ ys → Holds xs 0 ys
 whole xs ys is = record { before = []; behind = []; split = is ∙ sym (append-nil ys); starts = refl }
 
-pub names_among : (f : Formula) (ps acts : List (List ℕ)) → ps ≡ props_onto f [] → acts ≡ actions_onto f [] → AreAmong ps acts f
+pub names_among : (f : Formula) (ps acts : List (List ℕ))
+    → ps ≡ props_onto f []
+    → acts ≡ actions_onto f []
+    → AreAmong ps acts f
 names_among f ps acts there here =
     all_among f [] [] ps acts
     (λ p is. subst (λ qs. is_among qs p ≡ true) (sym there) is) (λ p is. subst (λ qs. is_among qs p ≡ true) (sym here) is)
 
-pub graph_made : (g : Graph) (f : Formula) (negated : Bool) → IsGraph g → g.props ≡ props_onto f [] → g.actions ≡ actions_onto f [] → g.nodes ≡ nodes_of g.props g.actions none_around 0 f
+pub graph_made : (g : Graph) (f : Formula) (negated : Bool)
+    → IsGraph g
+    → g.props ≡ props_onto f []
+    → g.actions ≡ actions_onto f []
+    → g.nodes ≡ nodes_of g.props g.actions none_around 0 f
     → g.priorities ≡ priorities_of (2 * binders f) 0 f → g.root ≡ (if negated then 1 else 0) → IsGraphOf g f negated
 graph_made g f negated is_graph props actions nodes priorities root = record {
   is_graph = is_graph;

@@ -31,13 +31,15 @@ pub kept_among : (ps : List (List ℕ)) (p q : List ℕ) → is_among ps p ≡ t
 kept_among ps p q is =
     ⊎_elim
     (λ (there : is_among ps q ≡ true). ap (λ l. is_among l p) (cond-true (is_among ps q) ps (ps ++ q ∷ []) there) ∙ is)
-    (λ (fresh : is_among ps q ≡ false). ap (λ l. is_among l p) (cond-false (is_among ps q) ps (ps ++ q ∷ []) fresh) ∙ among_more ps p q is)
+    (λ (fresh : is_among ps q ≡ false).
+    ap (λ l. is_among l p) (cond-false (is_among ps q) ps (ps ++ q ∷ []) fresh) ∙ among_more ps p q is)
     (cases_Bool (is_among ps q))
 
 pub added_among : (ps : List (List ℕ)) (p : List ℕ) → is_among (with_name ps p) p ≡ true
 added_among ps p =
     ⊎_elim
-    (λ (there : is_among ps p ≡ true). ap (λ l. is_among l p) (cond-true (is_among ps p) ps (ps ++ p ∷ []) there) ∙ there)
+    (λ (there : is_among ps p ≡ true).
+    ap (λ l. is_among l p) (cond-true (is_among ps p) ps (ps ++ p ∷ []) there) ∙ there)
     (λ (fresh : is_among ps p ≡ false).
     ap (λ l. is_among l p) (cond-false (is_among ps p) ps (ps ++ p ∷ []) fresh)
     ∙ list_any-append (bytes_eq p) ps (p ∷ [])
@@ -50,21 +52,32 @@ or_parts_false : (a b : Bool) → (a || b) ≡ false → (a ≡ false) × (b ≡
 or_parts_false true b is = absurd (cc)
 or_parts_false false b is = (refl, is)
 
-all_more : (q p : List ℕ) (ps : List (List ℕ)) → AllByRecursion (λ y. bytes_eq q y ≡ false) ps → bytes_eq q p ≡ false → AllByRecursion (λ y. bytes_eq q y ≡ false) (ps ++ p ∷ [])
+all_more : (q p : List ℕ) (ps : List (List ℕ))
+    → AllByRecursion (λ y. bytes_eq q y ≡ false) ps
+    → bytes_eq q p ≡ false
+    → AllByRecursion (λ y. bytes_eq q y ≡ false) (ps ++ p ∷ [])
 all_more q p [] all other = (other, tt)
 all_more q p (r ∷ ps) all other = (all.0, all_more q p ps all.1 other)
 
-distinct_more : (ps : List (List ℕ)) (p : List ℕ) → IsDistinct bytes_eq ps → is_among ps p ≡ false → IsDistinct bytes_eq (ps ++ p ∷ [])
+distinct_more : (ps : List (List ℕ)) (p : List ℕ)
+    → IsDistinct bytes_eq ps
+    → is_among ps p ≡ false
+    → IsDistinct bytes_eq (ps ++ p ∷ [])
 distinct_more [] p distinct fresh = IsDistinct-cons bytes_eq p [] tt distinct
 distinct_more (q ∷ ps) p distinct fresh =
     let parts = or_parts_false (bytes_eq p q) (is_among ps p) fresh in
-    IsDistinct-cons bytes_eq q (ps ++ p ∷ []) (all_more q p ps (IsDistinct-head bytes_eq q ps distinct) (nat_list_eq_equiv.symm q p ∙ parts.0)) (distinct_more ps p (IsDistinct-tail bytes_eq q ps distinct) parts.1)
+    let other : bytes_eq q p ≡ false = nat_list_eq_equiv.symm q p ∙ parts.0 in
+    IsDistinct-cons bytes_eq q (ps ++ p ∷ []) (all_more q p ps (IsDistinct-head bytes_eq q ps distinct) other)
+    (distinct_more ps p (IsDistinct-tail bytes_eq q ps distinct) parts.1)
 
 pub distinct_with : (ps : List (List ℕ)) (p : List ℕ) → IsDistinct bytes_eq ps → IsDistinct bytes_eq (with_name ps p)
 distinct_with ps p distinct =
     ⊎_elim
-    (λ (there : is_among ps p ≡ true). subst (IsDistinct bytes_eq) (sym (cond-true (is_among ps p) ps (ps ++ p ∷ []) there)) distinct)
-    (λ (fresh : is_among ps p ≡ false). subst (IsDistinct bytes_eq) (sym (cond-false (is_among ps p) ps (ps ++ p ∷ []) fresh)) (distinct_more ps p distinct fresh))
+    (λ (there : is_among ps p ≡ true).
+    subst (IsDistinct bytes_eq) (sym (cond-true (is_among ps p) ps (ps ++ p ∷ []) there)) distinct)
+    (λ (fresh : is_among ps p ≡ false).
+    subst (IsDistinct bytes_eq) (sym (cond-false (is_among ps p) ps (ps ++ p ∷ []) fresh))
+    (distinct_more ps p distinct fresh))
     (cases_Bool (is_among ps p))
 
 pub distinct_props : (f : Formula) (ps : List (List ℕ)) → IsDistinct bytes_eq ps → IsDistinct bytes_eq (props_onto f ps)
@@ -76,7 +89,9 @@ distinct_props (Binary op f h) ps d = distinct_props h (props_onto f ps) (distin
 distinct_props (Modal m a f) ps d = distinct_props f ps d
 distinct_props (Binder q x f) ps d = distinct_props f ps d
 
-pub distinct_actions : (f : Formula) (ps : List (List ℕ)) → IsDistinct bytes_eq ps → IsDistinct bytes_eq (actions_onto f ps)
+pub distinct_actions : (f : Formula) (ps : List (List ℕ))
+    → IsDistinct bytes_eq ps
+    → IsDistinct bytes_eq (actions_onto f ps)
 distinct_actions (Const b) ps d = d
 distinct_actions (Prop p) ps d = d
 distinct_actions (Var x) ps d = d
@@ -120,7 +135,9 @@ place_found ps p is =
 
 -- ---- the names of a formula
 
-pub props_among : (f : Formula) (ps : List (List ℕ)) (p : List ℕ) → is_among ps p ≡ true → is_among (props_onto f ps) p ≡ true
+pub props_among : (f : Formula) (ps : List (List ℕ)) (p : List ℕ)
+    → is_among ps p ≡ true
+    → is_among (props_onto f ps) p ≡ true
 props_among (Const b) ps p is = is
 props_among (Prop q) ps p is = kept_among ps p q is
 props_among (Var x) ps p is = is
@@ -129,7 +146,9 @@ props_among (Binary op f h) ps p is = props_among h (props_onto f ps) p (props_a
 props_among (Modal m a f) ps p is = props_among f ps p is
 props_among (Binder q x f) ps p is = props_among f ps p is
 
-pub actions_among : (f : Formula) (ps : List (List ℕ)) (p : List ℕ) → is_among ps p ≡ true → is_among (actions_onto f ps) p ≡ true
+pub actions_among : (f : Formula) (ps : List (List ℕ)) (p : List ℕ)
+    → is_among ps p ≡ true
+    → is_among (actions_onto f ps) p ≡ true
 actions_among (Const b) ps p is = is
 actions_among (Prop q) ps p is = is
 actions_among (Var x) ps p is = is
@@ -152,17 +171,23 @@ AreAmong ps acts (Binder q x f) = AreAmong ps acts f
 abbrev Covers : List (List ℕ) → List (List ℕ) → Type 0
 Covers ps qs = (p : List ℕ) → is_among ps p ≡ true → is_among qs p ≡ true
 
-pub all_among : (f : Formula) (ps acts qs bs : List (List ℕ)) → Covers (props_onto f ps) qs → Covers (actions_onto f acts) bs → AreAmong qs bs f
+pub all_among : (f : Formula) (ps acts qs bs : List (List ℕ))
+    → Covers (props_onto f ps) qs
+    → Covers (actions_onto f acts) bs
+    → AreAmong qs bs f
 all_among (Const b) ps acts qs bs there here = tt
 all_among (Prop p) ps acts qs bs there here = there p (added_among ps p)
 all_among (Var x) ps acts qs bs there here = tt
 all_among (Not f) ps acts qs bs there here = all_among f ps acts qs bs there here
 all_among (Binary op f h) ps acts qs bs there here = (
-  all_among f ps acts qs bs (λ p is. there p (props_among h (props_onto f ps) p is)) (λ p is. here p (actions_among h (actions_onto f acts) p is)),
+  all_among f ps acts qs bs (λ p is. there p (props_among h (props_onto f ps) p is))
+      (λ p is. here p (actions_among h (actions_onto f acts) p is)),
   all_among h (props_onto f ps) (actions_onto f acts) qs bs there here,
 )
-all_among (Modal m a f) ps acts qs bs there here =
-    (here a (actions_among f (with_name acts a) a (added_among acts a)), all_among f ps (with_name acts a) qs bs there here)
+all_among (Modal m a f) ps acts qs bs there here = (
+  here a (actions_among f (with_name acts a) a (added_among acts a)),
+  all_among f ps (with_name acts a) qs bs there here,
+)
 all_among (Binder q x f) ps acts qs bs there here = all_among f ps acts qs bs there here
 
 pub names_in : (f : Formula) (ps acts : List (List ℕ)) → AreAmong ps acts f → NamesIn ps acts f
@@ -178,8 +203,11 @@ names_in (Binder q x f) ps acts is = names_in f ps acts is
 with_length : (ps : List (List ℕ)) (p : List ℕ) → length (with_name ps p) ≤ length ps + 1
 with_length ps p =
     ⊎_elim
-    (λ (there : is_among ps p ≡ true). let same = ap length (cond-true (is_among ps p) ps (ps ++ p ∷ []) there) in omega (arith, same))
-    (λ (fresh : is_among ps p ≡ false). let more = ap length (cond-false (is_among ps p) ps (ps ++ p ∷ []) fresh) in omega (arith, more, length-append ps (p ∷ [])))
+    (λ (there : is_among ps p ≡ true).
+    let same = ap length (cond-true (is_among ps p) ps (ps ++ p ∷ []) there) in omega (arith, same))
+    (λ (fresh : is_among ps p ≡ false).
+    let more = ap length (cond-false (is_among ps p) ps (ps ++ p ∷ []) fresh) in
+    omega (arith, more, length-append ps (p ∷ [])))
     (cases_Bool (is_among ps p))
 
 pub few_props : (f : Formula) (ps : List (List ℕ)) → length (props_onto f ps) ≤ length ps + occurrences f

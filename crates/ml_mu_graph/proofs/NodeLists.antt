@@ -27,7 +27,8 @@ length-operator_priorities operator.Or k = refl
 length-operator_priorities operator.Implies k = refl
 length-operator_priorities operator.Iff k = refl
 
-pub length-nodes : (ps acts : List (List ℕ)) (b : List ℕ → ℕ) (i : ℕ) (f : Formula) → length (nodes_of ps acts b i f) ≡ 2 * occurrences f
+pub length-nodes : (ps acts : List (List ℕ)) (b : List ℕ → ℕ) (i : ℕ) (f : Formula)
+    → length (nodes_of ps acts b i f) ≡ 2 * occurrences f
 length-nodes ps acts b i (Const v) = refl
 length-nodes ps acts b i (Prop p) = refl
 length-nodes ps acts b i (Var x) = refl
@@ -79,7 +80,10 @@ pub record Pair (g : Graph) (n : ℕ) (a b : Node) (p q : ℕ) (nodes : List Nod
   pub nodes_behind : Holds g.nodes (n + 2) nodes
   pub priorities_behind : Holds g.priorities (n + 2) priorities
 
-pair : (g : Graph) (n : ℕ) (a b : Node) (p q : ℕ) (nodes : List Node) (priorities : List ℕ) → Holds g.nodes n (a ∷ b ∷ nodes) → Holds g.priorities n (p ∷ q ∷ priorities) → Pair g n a b p q nodes priorities
+pair : (g : Graph) (n : ℕ) (a b : Node) (p q : ℕ) (nodes : List Node) (priorities : List ℕ)
+    → Holds g.nodes n (a ∷ b ∷ nodes)
+    → Holds g.priorities n (p ∷ q ∷ priorities)
+    → Pair g n a b p q nodes priorities
 pair g n a b p q nodes priorities h k =
     let h1 = held_later g.nodes n a (b ∷ nodes) h in
     let k1 = held_later g.priorities n p (q ∷ priorities) k in
@@ -115,7 +119,9 @@ operands g k d n bs l r f h left right nodes priorities =
           held_at g.priorities (n + length (priorities_of k d f)) (2 * r) (priorities_of k d h) ps (held_right g.priorities n (priorities_of k d f) (priorities_of k d h) priorities);
     }
 
-pub stands : (g : Graph) (k : ℕ) (bs : Around) (i : ℕ) (f : Formula) → NamesIn g.props g.actions f → Holds g.nodes (2 * i) (nodes_of g.props g.actions (binder_of bs) i f)
+pub stands : (g : Graph) (k : ℕ) (bs : Around) (i : ℕ) (f : Formula)
+    → NamesIn g.props g.actions f
+    → Holds g.nodes (2 * i) (nodes_of g.props g.actions (binder_of bs) i f)
     → Holds g.priorities (2 * i) (priorities_of k (length bs) f) → StandsAt g k bs i f
 stands g k bs i (Const b) names nodes priorities =
     let p = pair g (2 * i) _ _ k k [] [] nodes priorities in (p.first, p.second)
@@ -183,41 +189,79 @@ length-holes operator.Or = refl
 length-holes operator.Implies = refl
 length-holes operator.Iff = refl
 
-pub length-after : (old after : List Node) (op : Operator) (at : ℕ) (ps acts : List (List ℕ)) (b : List ℕ → ℕ) (f : Formula) → length old ≡ 2 * at
-    → after ≡ (old ++ operator_holes op) ++ nodes_of ps acts b (at + weight op) f → length after ≡ 2 * (at + weight op + occurrences f)
-length-after old after op at ps acts b f start is =
-    omega (
-      arith,
-      ap length is,
-      length-append (old ++ operator_holes op) (nodes_of ps acts b (at + weight op) f),
-      length-append old (operator_holes op),
-      length-holes op,
-      length-nodes ps acts b (at + weight op) f,
-      start,
-    )
+-- a connective at the occurrence `at`, once its left operand f is placed behind its holes
+pub record LeftPlaced (old after : List Node) (op : Operator) (at : ℕ) (ps acts : List (List ℕ)) (b : List ℕ → ℕ)
+    (f : Formula) : Type 0 where
+  pub nodes : after ≡ (old ++ operator_holes op) ++ nodes_of ps acts b (at + weight op) f
+  pub size : length after ≡ 2 * (at + weight op + occurrences f)
 
-pub closed : (old after new : List Node) (op : Operator) (at second : ℕ) (ps acts : List (List ℕ)) (b : List ℕ → ℕ) (f h : Formula) → length old ≡ 2 * at
-    → after ≡ ((old ++ operator_holes op) ++ nodes_of ps acts b (at + weight op) f) ++ nodes_of ps acts b second h
+pub left_placed : (old opened after : List Node) (op : Operator) (at w : ℕ) (ps acts : List (List ℕ))
+    (b : List ℕ → ℕ) (f : Formula)
+    → length old ≡ 2 * at
+    → opened ≡ old ++ operator_holes op
+    → w ≡ weight op
+    → after ≡ opened ++ nodes_of ps acts b (at + w) f
+    → LeftPlaced old after op at ps acts b f
+left_placed old opened after op at w ps acts b f start holes is_weight is =
+    let left = nodes_of ps acts b (at + weight op) f in
+    let nodes : after ≡ (old ++ operator_holes op) ++ left =
+    is ∙ ap (λ xs. xs ++ nodes_of ps acts b (at + w) f) holes
+    ∙ ap (λ v. (old ++ operator_holes op) ++ nodes_of ps acts b (at + v) f) is_weight in
+    record {
+      nodes = nodes;
+      size =
+          omega (
+            arith,
+            ap length nodes,
+            length-append (old ++ operator_holes op) left,
+            length-append old (operator_holes op),
+            length-holes op,
+            length-nodes ps acts b (at + weight op) f,
+            start,
+          );
+    }
+
+-- the connective's own nodes are written over its holes, once the right operand h is placed too
+pub closed : (old after both new : List Node) (op : Operator) (at w second : ℕ) (ps acts : List (List ℕ))
+    (b c : List ℕ → ℕ) (f h : Formula)
+    → length old ≡ 2 * at
+    → LeftPlaced old after op at ps acts b f
     → second ≡ at + weight op + occurrences f
-    → new ≡ take (2 * at) after ++ (operator_nodes op at (at + weight op) second ++ drop (2 * at + length (operator_nodes op at (at + weight op) second)) after)
+    → c ≡ b
+    → both ≡ after ++ nodes_of ps acts c second h
+    → w ≡ weight op
+    → (let block = operator_nodes op at (at + w) second in
+    new ≡ take (2 * at) both ++ (block ++ drop (2 * at + length block) both))
     → new ≡ old ++ nodes_of ps acts b at (Binary op f h)
-closed old after new op at second ps acts b f h start is number written =
+closed old after both new op at w second ps acts b c f h start placed number same is is_weight over =
     let l = nodes_of ps acts b (at + weight op) f in
     let r = nodes_of ps acts b second h in
     let block = operator_nodes op at (at + weight op) second in
     let holes = operator_holes op in
-    let apart : after ≡ old ++ (holes ++ (l ++ r)) = is ∙ append_assoc (old ++ holes) l r ∙ append_assoc old holes (l ++ r) in
-    let joint : after ≡ (old ++ holes) ++ (l ++ r) = is ∙ append_assoc (old ++ holes) l r in
-    let front : take (2 * at) after ≡ old = ap (λ n. take n after) (sym start) ∙ ap (take (length old)) apart ∙ take-append_seam old (holes ++ (l ++ r)) in
-    let size : 2 * at + length block ≡ length (old ++ holes) = omega (arith, length-append old holes, length-holes op, length-operator op at (at + weight op) second, start) in
-    let back : drop (2 * at + length block) after ≡ l ++ r = ap (λ n. drop n after) size ∙ ap (drop (length (old ++ holes))) joint ∙ drop-append_seam (old ++ holes) (l ++ r) in
-    written
-    ∙ ap (λ xs. xs ++ (block ++ drop (2 * at + length block) after)) front
+    let joint : both ≡ (old ++ holes) ++ (l ++ r) =
+    is ∙ ap (λ d. after ++ nodes_of ps acts d second h) same ∙ ap (λ xs. xs ++ r) placed.nodes
+    ∙ append_assoc (old ++ holes) l r in
+    let apart : both ≡ old ++ (holes ++ (l ++ r)) = joint ∙ append_assoc old holes (l ++ r) in
+    let front : take (2 * at) both ≡ old =
+    ap (λ n. take n both) (sym start) ∙ ap (take (length old)) apart ∙ take-append_seam old (holes ++ (l ++ r)) in
+    let size : 2 * at + length block ≡ length (old ++ holes) =
+    omega (arith, length-append old holes, length-holes op, length-operator op at (at + weight op) second, start) in
+    let back : drop (2 * at + length block) both ≡ l ++ r =
+    ap (λ n. drop n both) size ∙ ap (drop (length (old ++ holes))) joint ∙ drop-append_seam (old ++ holes) (l ++ r) in
+    over
+    ∙ ap (λ v. let block = operator_nodes op at (at + v) second in
+    take (2 * at) both ++ (block ++ drop (2 * at + length block) both)) is_weight
+    ∙ ap (λ xs. xs ++ (block ++ drop (2 * at + length block) both)) front
     ∙ ap (λ xs. old ++ (block ++ xs)) back
     ∙ ap (λ n. old ++ (operator_nodes op at (at + weight op) n ++ (l ++ nodes_of ps acts b n h))) number
 
-pub half : (n m : ℕ) → n ≡ 2 * m → n / 2 ≡ m
-half n m is = omega (arith, is)
+-- half of the nodes so far is the number of the right operand
+pub second_number : (op : Operator) (at : ℕ) (f : Formula) (after slice : List Node) (second : ℕ)
+    → length after ≡ 2 * (at + weight op + occurrences f)
+    → slice ≡ after
+    → second ≡ length slice / 2
+    → second ≡ at + weight op + occurrences f
+second_number op at f after slice second size is half = omega (arith, size, ap length is, half)
 
 pub one_symbol : (f : Formula) → 1 ≤ occurrences f
 one_symbol (Const b) = omega arith

@@ -344,7 +344,8 @@ fn place_both<'a>(
     requires binders { (x : _) → around binders.old x ≤ 1000 }
     requires deep { depth ≤ at }
     ensures nodes { OnOk result (draft.new.nodes.items ≡ draft.old.nodes.items
-        ++ listed.nodes_of names.now.props.keys names.now.actions.keys (around binders.old) at (mu.Binary operator (formula_of left.now) (formula_of right.now))) }
+        ++ listed.nodes_of names.now.props.keys names.now.actions.keys (around binders.old) at
+        (mu.Binary operator (formula_of left.now) (formula_of right.now))) }
     ensures priorities { OnOk result (draft.new.priorities.items ≡ draft.old.priorities.items
         ++ listed.priorities_of plain depth (mu.Binary operator (formula_of left.now) (formula_of right.now))) }
     ensures around { OnOk result (around binders.new ≡ around binders.old) }
@@ -376,7 +377,8 @@ fn place_body<'a>(
     requires binders { (x : _) → around binders.old x ≤ 1000 }
     requires deep { depth ≤ at }
     ensures nodes { OnOk result (draft.new.nodes.items ≡ draft.old.nodes.items
-        ++ listed.nodes_of names.now.props.keys names.now.actions.keys (listed.bound variable.now at (around binders.old)) (at + 1) (formula_of body.now)) }
+        ++ listed.nodes_of names.now.props.keys names.now.actions.keys (listed.bound variable.now at (around binders.old))
+        (at + 1) (formula_of body.now)) }
     ensures priorities { OnOk result (draft.new.priorities.items ≡ draft.old.priorities.items
         ++ listed.priorities_of plain (depth + 1) (formula_of body.now)) }
     ensures around { OnOk result (around binders.new ≡ around binders.old) }
@@ -439,9 +441,8 @@ fn lists_of(alloc: Global, term: &Term) -> Result<Lists, NoMemory>
 /// # Errors
 /// `NoMemory` alone.
 ///
-/// Cost: one pass over the formula for its names and one for its nodes; names and variables are looked up by their
-/// hashes, so the time is linear in the formula on average. Calls are nested at most twice as deep as the formula, which
-/// has at most 1,000 occurrences.
+/// Cost: linear in the formula on average, since names and variables are looked up by their hashes. Calls are nested at
+/// most twice as deep as the formula, which has at most 1,000 occurrences.
 pub fn graph_of(alloc: Global, formula: &Formula, negated: bool) -> Result<ModalGraph, NoMemory>
     ensures graph { IfOk result (λ g. IsGraphOf g formula.now negated) }
     ensures agrees { IfOk result (λ g. HoldsWhere g (record { formula = formula.now; negated = negated })) }

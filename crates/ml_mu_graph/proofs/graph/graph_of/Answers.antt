@@ -19,7 +19,8 @@ build-requires-clause-few c =
     let made = c.in_ok-lists.ensures in
     let f = formula_of c.root.result.now in
     let small = subst (λ f. occurrences f ≤ 1000) (sym c.root.ensures.tree) c.root.ensures.well_formed.is_small in
-    omega (arith, lists.nodes.ok.0, ap length made.nodes, length-nodes lists.props.items lists.actions.items none_around 0 f, small)
+    let size = length-nodes lists.props.items lists.actions.items none_around 0 f in
+    omega (arith, lists.nodes.ok.0, ap length made.nodes, size, small)
 
 pub build-requires-clause-priorities : goal.build-requires-clause-priorities
 build-requires-clause-priorities c =
@@ -31,11 +32,13 @@ build-requires-clause-priorities c =
 
 pub build-requires-clause-props : goal.build-requires-clause-props
 build-requires-clause-props c =
-    subst (IsDistinct bytes_eq) (sym c.in_ok-lists.ensures.props) (distinct_props (formula_of c.root.result.now) [] none_twice)
+    subst (IsDistinct bytes_eq) (sym c.in_ok-lists.ensures.props)
+    (distinct_props (formula_of c.root.result.now) [] none_twice)
 
 pub build-requires-clause-actions : goal.build-requires-clause-actions
 build-requires-clause-actions c =
-    subst (IsDistinct bytes_eq) (sym c.in_ok-lists.ensures.actions) (distinct_actions (formula_of c.root.result.now) [] none_twice)
+    subst (IsDistinct bytes_eq) (sym c.in_ok-lists.ensures.actions)
+    (distinct_actions (formula_of c.root.result.now) [] none_twice)
 
 pub unreachable-requires : goal.unreachable-requires
 unreachable-requires c =

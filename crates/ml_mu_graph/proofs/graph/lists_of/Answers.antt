@@ -8,8 +8,10 @@ use Rattle.ml_mu_graph.proofs.graph.lists_of.Goals as goal
 pub place-requires-clause-names : goal.place-requires-clause-names
 place-requires-clause-names c =
     let term = formula_of c.args.term.now in
-    let names = c.in_ok-names.ensures in
-    (omega (arith, ap length names.props, few_props term [], c.requires), omega (arith, ap length names.actions, few_actions term [], c.requires))
+    let names = c.in_ok-names.ensures in (
+      omega (arith, ap length names.props, few_props term [], c.requires),
+      omega (arith, ap length names.actions, few_actions term [], c.requires),
+    )
 
 pub place-requires-clause-binders : goal.place-requires-clause-binders
 place-requires-clause-binders c =
