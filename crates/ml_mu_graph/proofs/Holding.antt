@@ -3,7 +3,7 @@
 --   Holds xs n ys  == from the place n on, xs has the elements of ys
 --   held_first, held_later    == its first element, and the others
 --   held_left, held_right     == the parts of what stands there
-use Rattle.std.proofs.Common.{◌≡◌, ℕ, ◌+◌, suc, List, [], ◌∷◌, ◌++◌, length, get_or, refl, sym, ◌∙◌, ap, subst, arith, append_assoc, length-append}
+use Rattle.std.proofs.Common.{◌≡◌, ℕ, ◌+◌, List, [], ◌∷◌, ◌++◌, length, get_or, refl, sym, ◌∙◌, ap, subst, append_assoc, length-append}
 
 pub record Holds {A : Type 0} (xs : List A) (n : ℕ) (ys : List A) : Type 0 where
   pub before : List A

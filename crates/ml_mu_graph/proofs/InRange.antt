@@ -12,12 +12,12 @@ use Rattle.std.proofs.lemmas.Map.Keys.{IsDistinct-tail}
 use Rattle.ml_graph.proofs.Places.{one_name}
 use Rattle.ml_graph.specs.Graph.{Graph, IsGraph, Reference, references_of, size}
 use Rattle.ml_graph.specs.declared.node.Node.{Node}
-use Rattle.ml_graph.specs.declared.node.Node.TheVariants as node
 use Rattle.ml_text.specs.declared.token.Operator.{Operator}
 use Rattle.ml_text.specs.declared.token.Operator.TheVariants as operator
 use Rattle.ml_mu.specs.Formula.{Formula, Const, Prop, Var, Not, Binary, Modal, Binder, Modality, Diamond, Square, occurrences, weight}
-use Rattle.ml_mu_graph.specs.MuGraph.{Around, binder_of, binders, constant, dual, modality, negative, positive}
-use Rattle.ml_mu_graph.specs.private.NodeList.{lead_to, nodes_of, operator_nodes, priorities_of, props_onto, actions_onto, place_of}
+use Rattle.ml_mu_graph.specs.MuGraph.{binders, constant, dual, modality, negative, positive}
+use Rattle.ml_mu_graph.specs.private.NodeList.{bound, nodes_of, operator_nodes, priorities_of, props_onto, actions_onto, place_of}
+use Rattle.ml_mu_graph.specs.private.Views.{none_around}
 use Rattle.ml_mu_graph.proofs.Made.{names_among}
 use Rattle.ml_mu_graph.proofs.NameLists.{AreAmong, place_found, distinct_actions, distinct_props}
 use Rattle.ml_mu_graph.proofs.NodeLists.{length-nodes, length-priorities, one_symbol}
@@ -92,63 +92,64 @@ module _ (n : ℕ) (ps acts : List (List ℕ)) where
   )
 
   -- the nodes of all binders around are nodes
-  abbrev Bounds : Around → Type 0
-  Bounds bs = (x : List ℕ) → 2 * binder_of bs x + 1 < n
+  abbrev Bounds : (List ℕ → ℕ) → Type 0
+  Bounds b = (x : List ℕ) → 2 * b x + 1 < n
 
-  one_more : (y : List ℕ) (i : ℕ) (bs : Around) → 2 * i + 1 < n → Bounds bs → Bounds ((y, i) ∷ bs)
-  one_more y i bs low around x =
+  one_more : (y : List ℕ) (i : ℕ) (b : List ℕ → ℕ) → 2 * i + 1 < n → Bounds b → Bounds (bound y i b)
+  one_more y i b low around x =
       ⊎_elim
-      (λ (here : bytes_eq y x ≡ true). subst (λ b. 2 * b + 1 < n) (sym (cond-true (bytes_eq y x) i (binder_of bs x) here)) low)
-      (λ (other : bytes_eq y x ≡ false). subst (λ b. 2 * b + 1 < n) (sym (cond-false (bytes_eq y x) i (binder_of bs x) other)) (around x))
+      (λ (here : bytes_eq y x ≡ true). subst (λ k. 2 * k + 1 < n) (sym (cond-true (bytes_eq y x) i (b x) here)) low)
+      (λ (other : bytes_eq y x ≡ false).
+      subst (λ k. 2 * k + 1 < n) (sym (cond-false (bytes_eq y x) i (b x) other)) (around x))
       (cases_Bool (bytes_eq y x))
 
-  pub nodes_fit : (bs : Around) (i : ℕ) (f : Formula)
+  pub nodes_fit : (b : List ℕ → ℕ) (i : ℕ) (f : Formula)
       → AreAmong ps acts f
       → 2 * (i + occurrences f) ≤ n
-      → Bounds bs
-      → AllFit (nodes_of ps acts bs i f)
-  nodes_fit bs i (Const b) among room around = (constant_fits b, (constant_fits (not b), tt))
-  nodes_fit bs i (Prop p) among room around =
+      → Bounds b
+      → AllFit (nodes_of ps acts b i f)
+  nodes_fit b i (Const v) among room around = (constant_fits v, (constant_fits (not v), tt))
+  nodes_fit b i (Prop p) among room around =
       let found = place_found ps p among in
       (one (place_of ps p) (length ps) found.below, (one (place_of ps p) (length ps) found.below, tt))
-  nodes_fit bs i (Var x) among room around =
-      let b = binder_of bs x in
+  nodes_fit b i (Var x) among room around =
       let low = around x in (
-        two (positive b) n (positive b) n (omega (arith, low)) (omega (arith, low)),
-        (two (negative b) n (negative b) n (omega (arith, low)) (omega (arith, low)), tt),
+        two (positive (b x)) n (positive (b x)) n (omega (arith, low)) (omega (arith, low)),
+        (two (negative (b x)) n (negative (b x)) n (omega (arith, low)) (omega (arith, low)), tt),
       )
-  nodes_fit bs i (Not f) among room around =
+  nodes_fit b i (Not f) among room around =
       let some = one_symbol f in (
         two (negative (i + 1)) n (negative (i + 1)) n (omega (arith, room, some)) (omega (arith, room, some)),
         (
           two (positive (i + 1)) n (positive (i + 1)) n (omega (arith, room, some)) (omega (arith, room, some)),
-          nodes_fit bs (i + 1) f among (omega (arith, room)) around,
+          nodes_fit b (i + 1) f among (omega (arith, room)) around,
         ),
       )
-  nodes_fit bs i (Binary op f h) among room around =
+  nodes_fit b i (Binary op f h) among room around =
       let l = i + weight op in
       let r = l + occurrences f in
       let left = one_symbol f in
       let right = one_symbol h in
-      both_fit (operator_nodes op i l r) (nodes_of ps acts bs l f ++ nodes_of ps acts bs r h)
+      both_fit (operator_nodes op i l r) (nodes_of ps acts b l f ++ nodes_of ps acts b r h)
       (operator_fits op i l r (omega (arith, room)) (omega (arith, room, left, right)) (omega (arith, room, left, right)))
-      (both_fit (nodes_of ps acts bs l f) (nodes_of ps acts bs r h) (nodes_fit bs l f among.0 (omega (arith, room)) around)
-      (nodes_fit bs r h among.1 (omega (arith, room)) around))
-  nodes_fit bs i (Modal m a f) among room around =
+      (both_fit (nodes_of ps acts b l f) (nodes_of ps acts b r h) (nodes_fit b l f among.0 (omega (arith, room)) around)
+      (nodes_fit b r h among.1 (omega (arith, room)) around))
+  nodes_fit b i (Modal m a f) among room around =
       let some = one_symbol f in
       let known = (place_found acts a among.0).below in (
         modality_fits m (place_of acts a) (positive (i + 1)) known (omega (arith, room, some)),
         (
           modality_fits (dual m) (place_of acts a) (negative (i + 1)) known (omega (arith, room, some)),
-          nodes_fit bs (i + 1) f among.1 (omega (arith, room)) around,
+          nodes_fit b (i + 1) f among.1 (omega (arith, room)) around,
         ),
       )
-  nodes_fit bs i (Binder q x f) among room around =
+  nodes_fit b i (Binder q x f) among room around =
       let some = one_symbol f in (
         two (positive (i + 1)) n (positive (i + 1)) n (omega (arith, room, some)) (omega (arith, room, some)),
         (
           two (negative (i + 1)) n (negative (i + 1)) n (omega (arith, room, some)) (omega (arith, room, some)),
-          nodes_fit ((x, i) ∷ bs) (i + 1) f among (omega (arith, room)) (one_more x i bs (omega (arith, room, some)) around),
+          nodes_fit (bound x i b) (i + 1) f among (omega (arith, room))
+              (one_more x i b (omega (arith, room, some)) around),
         ),
       )
 
@@ -163,17 +164,17 @@ root_low false n two = omega arith
 pub lists_make_graph : (g : Graph) (f : Formula) (negated : Bool)
     → g.props ≡ props_onto f []
     → g.actions ≡ actions_onto f []
-    → g.nodes ≡ nodes_of g.props g.actions [] 0 f
+    → g.nodes ≡ nodes_of g.props g.actions none_around 0 f
     → g.priorities ≡ priorities_of (2 * binders f) 0 f
     → g.root ≡ (if negated then 1 else 0)
     → IsGraph g
 lists_make_graph g f negated props actions nodes priorities root =
-    let long : size g ≡ 2 * occurrences f = ap length nodes ∙ length-nodes g.props g.actions [] 0 f in
+    let long : size g ≡ 2 * occurrences f = ap length nodes ∙ length-nodes g.props g.actions none_around 0 f in
     let some = one_symbol f in
     let n = size g in
     let refs = references_of n (length g.props) (length g.actions) in
     let fit =
-    nodes_fit n g.props g.actions [] 0 f (names_among f g.props g.actions props actions) (omega (arith, long))
+    nodes_fit n g.props g.actions none_around 0 f (names_among f g.props g.actions props actions) (omega (arith, long))
     (λ x. omega (arith, long, some)) in
     let low : g.root < n = subst (λ r. r < n) (sym root) (root_low negated n (omega (arith, long, some))) in
     record {
@@ -181,7 +182,7 @@ lists_make_graph g f negated props actions nodes priorities root =
       in_range =
           All-append IsInRange (flat_map refs g.nodes) (record { number = g.root; bound = n } ∷ [])
           (subst (λ xs. All IsInRange (flat_map refs xs)) (sym nodes)
-          (all_in_range n g.props g.actions (nodes_of g.props g.actions [] 0 f) fit))
+          (all_in_range n g.props g.actions (nodes_of g.props g.actions none_around 0 f) fit))
           (one n g.props g.actions g.root n low);
       props_differ = subst (IsDistinct bytes_eq) (sym props) (distinct_props f [] none_twice);
       actions_differ = subst (IsDistinct bytes_eq) (sym actions) (distinct_actions f [] none_twice);

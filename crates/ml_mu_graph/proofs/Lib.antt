@@ -19,6 +19,8 @@ pub mod Holding
 pub mod NodeLists
 -- the names of a formula
 pub mod NameLists
+-- binders around, entered and left
+pub mod Bindings
 -- the graph that was made
 pub mod Made
 -- the induction at binders

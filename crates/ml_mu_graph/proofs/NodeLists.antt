@@ -3,16 +3,16 @@
 --   length-nodes, length-priorities == two for each occurrence
 --   NamesIn ps acts f   == each name of f is at its place
 --   stands            == the nodes and priorities of a formula say what stands there
-use Rattle.std.proofs.Common.{◌≡◌, ℕ, ◌+◌, ◌*◌, ◌/◌, ◌≤◌, Bool, true, false, not, List, [], ◌∷◌, ◌++◌, length, get_or, refl, sym, ◌∙◌, ap, subst, arith, length-append, append_assoc, take, drop}
+use Rattle.std.proofs.Common.{◌≡◌, ℕ, ◌+◌, ◌*◌, ◌/◌, ◌≤◌, List, [], ◌∷◌, ◌++◌, length, get_or, refl, sym, ◌∙◌, ap, subst, arith, length-append, append_assoc, take, drop}
 use Rattle.std.proofs.Math.Seq.{take-append_seam, drop-append_seam}
-use Rattle.ml_graph.specs.Graph.{Graph, size, node_at, priority_at, prop_at, action_at}
+use Rattle.ml_graph.specs.Graph.{Graph}
 use Rattle.ml_graph.specs.declared.node.Node.{Node}
 use Rattle.ml_graph.specs.declared.node.Node.TheVariants as node
 use Rattle.ml_text.specs.declared.token.Operator.{Operator}
 use Rattle.ml_text.specs.declared.token.Operator.TheVariants as operator
-use Rattle.ml_mu.specs.Formula.{Formula, Const, Prop, Var, Not, Binary, Modal, Binder, Fixpoint, Least, Greatest, Modality, Diamond, Square, occurrences, weight}
-use Rattle.ml_mu_graph.specs.MuGraph.{positive, negative, Around, binder_of, constant, modality, dual, binder_priority, opposite, IsNode, LeadsTo, IsLiteral, IsModality, StandsAt}
-use Rattle.ml_mu_graph.specs.private.NodeList.{place_of, lead_to, operator_nodes, operator_holes, operator_priorities, nodes_of, priorities_of}
+use Rattle.ml_mu.specs.Formula.{Formula, Const, Prop, Var, Not, Binary, Modal, Binder, occurrences, weight}
+use Rattle.ml_mu_graph.specs.MuGraph.{positive, negative, Around, binder_of, binder_priority, opposite, IsNode, StandsAt}
+use Rattle.ml_mu_graph.specs.private.NodeList.{place_of, operator_nodes, operator_holes, operator_priorities, bound, nodes_of, priorities_of}
 use Rattle.ml_mu_graph.proofs.Holding.{Holds, held_first, held_later, held_left, held_right, held_at}
 
 length-operator : (op : Operator) (i l r : ℕ) → length (operator_nodes op i l r) ≡ 2 * weight op
@@ -27,24 +27,25 @@ length-operator_priorities operator.Or k = refl
 length-operator_priorities operator.Implies k = refl
 length-operator_priorities operator.Iff k = refl
 
-pub length-nodes : (ps acts : List (List ℕ)) (bs : Around) (i : ℕ) (f : Formula) → length (nodes_of ps acts bs i f) ≡ 2 * occurrences f
-length-nodes ps acts bs i (Const b) = refl
-length-nodes ps acts bs i (Prop p) = refl
-length-nodes ps acts bs i (Var x) = refl
-length-nodes ps acts bs i (Not f) = omega (arith, length-nodes ps acts bs (i + 1) f)
-length-nodes ps acts bs i (Binary op f h) =
+pub length-nodes : (ps acts : List (List ℕ)) (b : List ℕ → ℕ) (i : ℕ) (f : Formula)
+    → length (nodes_of ps acts b i f) ≡ 2 * occurrences f
+length-nodes ps acts b i (Const v) = refl
+length-nodes ps acts b i (Prop p) = refl
+length-nodes ps acts b i (Var x) = refl
+length-nodes ps acts b i (Not f) = omega (arith, length-nodes ps acts b (i + 1) f)
+length-nodes ps acts b i (Binary op f h) =
     let l = i + weight op in
     let r = l + occurrences f in
     omega (
       arith,
-      length-append (operator_nodes op i l r) (nodes_of ps acts bs l f ++ nodes_of ps acts bs r h),
-      length-append (nodes_of ps acts bs l f) (nodes_of ps acts bs r h),
+      length-append (operator_nodes op i l r) (nodes_of ps acts b l f ++ nodes_of ps acts b r h),
+      length-append (nodes_of ps acts b l f) (nodes_of ps acts b r h),
       length-operator op i l r,
-      length-nodes ps acts bs l f,
-      length-nodes ps acts bs r h,
+      length-nodes ps acts b l f,
+      length-nodes ps acts b r h,
     )
-length-nodes ps acts bs i (Modal m a f) = omega (arith, length-nodes ps acts bs (i + 1) f)
-length-nodes ps acts bs i (Binder q x f) = omega (arith, length-nodes ps acts ((x, i) ∷ bs) (i + 1) f)
+length-nodes ps acts b i (Modal m a f) = omega (arith, length-nodes ps acts b (i + 1) f)
+length-nodes ps acts b i (Binder q x f) = omega (arith, length-nodes ps acts (bound x i b) (i + 1) f)
 
 pub length-priorities : (k d : ℕ) (f : Formula) → length (priorities_of k d f) ≡ 2 * occurrences f
 length-priorities k d (Const b) = refl
@@ -79,7 +80,10 @@ pub record Pair (g : Graph) (n : ℕ) (a b : Node) (p q : ℕ) (nodes : List Nod
   pub nodes_behind : Holds g.nodes (n + 2) nodes
   pub priorities_behind : Holds g.priorities (n + 2) priorities
 
-pair : (g : Graph) (n : ℕ) (a b : Node) (p q : ℕ) (nodes : List Node) (priorities : List ℕ) → Holds g.nodes n (a ∷ b ∷ nodes) → Holds g.priorities n (p ∷ q ∷ priorities) → Pair g n a b p q nodes priorities
+pair : (g : Graph) (n : ℕ) (a b : Node) (p q : ℕ) (nodes : List Node) (priorities : List ℕ)
+    → Holds g.nodes n (a ∷ b ∷ nodes)
+    → Holds g.priorities n (p ∷ q ∷ priorities)
+    → Pair g n a b p q nodes priorities
 pair g n a b p q nodes priorities h k =
     let h1 = held_later g.nodes n a (b ∷ nodes) h in
     let k1 = held_later g.priorities n p (q ∷ priorities) k in
@@ -93,18 +97,18 @@ pair g n a b p q nodes priorities h k =
 
 -- the operands of a connective
 record Operands (g : Graph) (k d : ℕ) (bs : Around) (l r : ℕ) (f h : Formula) : Type 0 where
-  pub left_nodes : Holds g.nodes (2 * l) (nodes_of g.props g.actions bs l f)
+  pub left_nodes : Holds g.nodes (2 * l) (nodes_of g.props g.actions (binder_of bs) l f)
   pub left_priorities : Holds g.priorities (2 * l) (priorities_of k d f)
-  pub right_nodes : Holds g.nodes (2 * r) (nodes_of g.props g.actions bs r h)
+  pub right_nodes : Holds g.nodes (2 * r) (nodes_of g.props g.actions (binder_of bs) r h)
   pub right_priorities : Holds g.priorities (2 * r) (priorities_of k d h)
 
 operands : (g : Graph) (k d n : ℕ) (bs : Around) (l r : ℕ) (f h : Formula) → n ≡ 2 * l → r ≡ l + occurrences f
-    → Holds g.nodes n (nodes_of g.props g.actions bs l f ++ nodes_of g.props g.actions bs r h)
+    → Holds g.nodes n (nodes_of g.props g.actions (binder_of bs) l f ++ nodes_of g.props g.actions (binder_of bs) r h)
     → Holds g.priorities n (priorities_of k d f ++ priorities_of k d h) → Operands g k d bs l r f h
 operands g k d n bs l r f h left right nodes priorities =
-    let fs = nodes_of g.props g.actions bs l f in
-    let hs = nodes_of g.props g.actions bs r h in
-    let ns : n + length fs ≡ 2 * r = omega (arith, length-nodes g.props g.actions bs l f, left, right) in
+    let fs = nodes_of g.props g.actions (binder_of bs) l f in
+    let hs = nodes_of g.props g.actions (binder_of bs) r h in
+    let ns : n + length fs ≡ 2 * r = omega (arith, length-nodes g.props g.actions (binder_of bs) l f, left, right) in
     let ps : n + length (priorities_of k d f) ≡ 2 * r = omega (arith, length-priorities k d f, left, right) in
     record {
       left_nodes = held_at g.nodes n (2 * l) fs left (held_left g.nodes n fs hs nodes);
@@ -115,7 +119,9 @@ operands g k d n bs l r f h left right nodes priorities =
           held_at g.priorities (n + length (priorities_of k d f)) (2 * r) (priorities_of k d h) ps (held_right g.priorities n (priorities_of k d f) (priorities_of k d h) priorities);
     }
 
-pub stands : (g : Graph) (k : ℕ) (bs : Around) (i : ℕ) (f : Formula) → NamesIn g.props g.actions f → Holds g.nodes (2 * i) (nodes_of g.props g.actions bs i f)
+pub stands : (g : Graph) (k : ℕ) (bs : Around) (i : ℕ) (f : Formula)
+    → NamesIn g.props g.actions f
+    → Holds g.nodes (2 * i) (nodes_of g.props g.actions (binder_of bs) i f)
     → Holds g.priorities (2 * i) (priorities_of k (length bs) f) → StandsAt g k bs i f
 stands g k bs i (Const b) names nodes priorities =
     let p = pair g (2 * i) _ _ k k [] [] nodes priorities in (p.first, p.second)
@@ -125,7 +131,7 @@ stands g k bs i (Prop p) names nodes priorities =
 stands g k bs i (Var x) names nodes priorities =
     let p = pair g (2 * i) _ _ k k [] [] nodes priorities in (p.first, p.second)
 stands g k bs i (Not f) names nodes priorities =
-    let p = pair g (2 * i) _ _ k k (nodes_of g.props g.actions bs (i + 1) f) (priorities_of k (length bs) f) nodes priorities in (
+    let p = pair g (2 * i) _ _ k k (nodes_of g.props g.actions (binder_of bs) (i + 1) f) (priorities_of k (length bs) f) nodes priorities in (
       p.first,
       p.second,
       stands g k bs (i + 1) f names (held_at g.nodes (2 * i + 2) (2 * (i + 1)) _ (omega arith) p.nodes_behind)
@@ -160,14 +166,14 @@ stands g k bs i (Binary operator.Iff f h) names nodes priorities =
       stands g k bs (i + 3 + occurrences f) h names.1 o.right_nodes o.right_priorities,
     )
 stands g k bs i (Modal m a f) names nodes priorities =
-    let p = pair g (2 * i) _ _ k k (nodes_of g.props g.actions bs (i + 1) f) (priorities_of k (length bs) f) nodes priorities in (
+    let p = pair g (2 * i) _ _ k k (nodes_of g.props g.actions (binder_of bs) (i + 1) f) (priorities_of k (length bs) f) nodes priorities in (
       (place_of g.actions a, p.first, names.0),
       (place_of g.actions a, p.second, names.0),
       stands g k bs (i + 1) f names.1 (held_at g.nodes (2 * i + 2) (2 * (i + 1)) _ (omega arith) p.nodes_behind)
           (held_at g.priorities (2 * i + 2) (2 * (i + 1)) _ (omega arith) p.priorities_behind),
     )
 stands g k bs i (Binder q x f) names nodes priorities =
-    let p = pair g (2 * i) _ _ (binder_priority q (length bs)) (binder_priority (opposite q) (length bs)) (nodes_of g.props g.actions ((x, i) ∷ bs) (i + 1) f) (priorities_of k (length bs + 1) f) nodes priorities in
+    let p = pair g (2 * i) _ _ (binder_priority q (length bs)) (binder_priority (opposite q) (length bs)) (nodes_of g.props g.actions (binder_of ((x, i) ∷ bs)) (i + 1) f) (priorities_of k (length bs + 1) f) nodes priorities in
     let deeper : length bs + 1 ≡ length ((x, i) ∷ bs) = omega arith in (
       p.first,
       p.second,
@@ -183,41 +189,79 @@ length-holes operator.Or = refl
 length-holes operator.Implies = refl
 length-holes operator.Iff = refl
 
-pub length-after : (old after : List Node) (op : Operator) (at : ℕ) (ps acts : List (List ℕ)) (bs : Around) (f : Formula) → length old ≡ 2 * at
-    → after ≡ (old ++ operator_holes op) ++ nodes_of ps acts bs (at + weight op) f → length after ≡ 2 * (at + weight op + occurrences f)
-length-after old after op at ps acts bs f start is =
-    omega (
-      arith,
-      ap length is,
-      length-append (old ++ operator_holes op) (nodes_of ps acts bs (at + weight op) f),
-      length-append old (operator_holes op),
-      length-holes op,
-      length-nodes ps acts bs (at + weight op) f,
-      start,
-    )
+-- a connective at the occurrence `at`, once its left operand f is placed behind its holes
+pub record LeftPlaced (old after : List Node) (op : Operator) (at : ℕ) (ps acts : List (List ℕ)) (b : List ℕ → ℕ)
+    (f : Formula) : Type 0 where
+  pub nodes : after ≡ (old ++ operator_holes op) ++ nodes_of ps acts b (at + weight op) f
+  pub size : length after ≡ 2 * (at + weight op + occurrences f)
 
-pub closed : (old after new : List Node) (op : Operator) (at second : ℕ) (ps acts : List (List ℕ)) (bs : Around) (f h : Formula) → length old ≡ 2 * at
-    → after ≡ ((old ++ operator_holes op) ++ nodes_of ps acts bs (at + weight op) f) ++ nodes_of ps acts bs second h
+pub left_placed : (old opened after : List Node) (op : Operator) (at w : ℕ) (ps acts : List (List ℕ))
+    (b : List ℕ → ℕ) (f : Formula)
+    → length old ≡ 2 * at
+    → opened ≡ old ++ operator_holes op
+    → w ≡ weight op
+    → after ≡ opened ++ nodes_of ps acts b (at + w) f
+    → LeftPlaced old after op at ps acts b f
+left_placed old opened after op at w ps acts b f start holes is_weight is =
+    let left = nodes_of ps acts b (at + weight op) f in
+    let nodes : after ≡ (old ++ operator_holes op) ++ left =
+    is ∙ ap (λ xs. xs ++ nodes_of ps acts b (at + w) f) holes
+    ∙ ap (λ v. (old ++ operator_holes op) ++ nodes_of ps acts b (at + v) f) is_weight in
+    record {
+      nodes = nodes;
+      size =
+          omega (
+            arith,
+            ap length nodes,
+            length-append (old ++ operator_holes op) left,
+            length-append old (operator_holes op),
+            length-holes op,
+            length-nodes ps acts b (at + weight op) f,
+            start,
+          );
+    }
+
+-- the connective's own nodes are written over its holes, once the right operand h is placed too
+pub closed : (old after both new : List Node) (op : Operator) (at w second : ℕ) (ps acts : List (List ℕ))
+    (b c : List ℕ → ℕ) (f h : Formula)
+    → length old ≡ 2 * at
+    → LeftPlaced old after op at ps acts b f
     → second ≡ at + weight op + occurrences f
-    → new ≡ take (2 * at) after ++ (operator_nodes op at (at + weight op) second ++ drop (2 * at + length (operator_nodes op at (at + weight op) second)) after)
-    → new ≡ old ++ nodes_of ps acts bs at (Binary op f h)
-closed old after new op at second ps acts bs f h start is number written =
-    let l = nodes_of ps acts bs (at + weight op) f in
-    let r = nodes_of ps acts bs second h in
+    → c ≡ b
+    → both ≡ after ++ nodes_of ps acts c second h
+    → w ≡ weight op
+    → (let block = operator_nodes op at (at + w) second in
+    new ≡ take (2 * at) both ++ (block ++ drop (2 * at + length block) both))
+    → new ≡ old ++ nodes_of ps acts b at (Binary op f h)
+closed old after both new op at w second ps acts b c f h start placed number same is is_weight over =
+    let l = nodes_of ps acts b (at + weight op) f in
+    let r = nodes_of ps acts b second h in
     let block = operator_nodes op at (at + weight op) second in
     let holes = operator_holes op in
-    let apart : after ≡ old ++ (holes ++ (l ++ r)) = is ∙ append_assoc (old ++ holes) l r ∙ append_assoc old holes (l ++ r) in
-    let joint : after ≡ (old ++ holes) ++ (l ++ r) = is ∙ append_assoc (old ++ holes) l r in
-    let front : take (2 * at) after ≡ old = ap (λ n. take n after) (sym start) ∙ ap (take (length old)) apart ∙ take-append_seam old (holes ++ (l ++ r)) in
-    let size : 2 * at + length block ≡ length (old ++ holes) = omega (arith, length-append old holes, length-holes op, length-operator op at (at + weight op) second, start) in
-    let back : drop (2 * at + length block) after ≡ l ++ r = ap (λ n. drop n after) size ∙ ap (drop (length (old ++ holes))) joint ∙ drop-append_seam (old ++ holes) (l ++ r) in
-    written
-    ∙ ap (λ xs. xs ++ (block ++ drop (2 * at + length block) after)) front
+    let joint : both ≡ (old ++ holes) ++ (l ++ r) =
+    is ∙ ap (λ d. after ++ nodes_of ps acts d second h) same ∙ ap (λ xs. xs ++ r) placed.nodes
+    ∙ append_assoc (old ++ holes) l r in
+    let apart : both ≡ old ++ (holes ++ (l ++ r)) = joint ∙ append_assoc old holes (l ++ r) in
+    let front : take (2 * at) both ≡ old =
+    ap (λ n. take n both) (sym start) ∙ ap (take (length old)) apart ∙ take-append_seam old (holes ++ (l ++ r)) in
+    let size : 2 * at + length block ≡ length (old ++ holes) =
+    omega (arith, length-append old holes, length-holes op, length-operator op at (at + weight op) second, start) in
+    let back : drop (2 * at + length block) both ≡ l ++ r =
+    ap (λ n. drop n both) size ∙ ap (drop (length (old ++ holes))) joint ∙ drop-append_seam (old ++ holes) (l ++ r) in
+    over
+    ∙ ap (λ v. let block = operator_nodes op at (at + v) second in
+    take (2 * at) both ++ (block ++ drop (2 * at + length block) both)) is_weight
+    ∙ ap (λ xs. xs ++ (block ++ drop (2 * at + length block) both)) front
     ∙ ap (λ xs. old ++ (block ++ xs)) back
-    ∙ ap (λ n. old ++ (operator_nodes op at (at + weight op) n ++ (l ++ nodes_of ps acts bs n h))) number
+    ∙ ap (λ n. old ++ (operator_nodes op at (at + weight op) n ++ (l ++ nodes_of ps acts b n h))) number
 
-pub half : (n m : ℕ) → n ≡ 2 * m → n / 2 ≡ m
-half n m is = omega (arith, is)
+-- half of the nodes so far is the number of the right operand
+pub second_number : (op : Operator) (at : ℕ) (f : Formula) (after slice : List Node) (second : ℕ)
+    → length after ≡ 2 * (at + weight op + occurrences f)
+    → slice ≡ after
+    → second ≡ length slice / 2
+    → second ≡ at + weight op + occurrences f
+second_number op at f after slice second size is half = omega (arith, size, ap length is, half)
 
 pub one_symbol : (f : Formula) → 1 ≤ occurrences f
 one_symbol (Const b) = omega arith

@@ -8,37 +8,15 @@ ghost use Rattle.ml_mu_graph.specs.MuGraph as graph;
 ghost use Rattle.ml_mu_graph.specs.Laws.{HoldsWhere};
 ghost use Rattle.ml_mu_graph.specs.MuGraph.{IsGraphOf};
 ghost use Rattle.ml_mu_graph.specs.private.NodeList as listed;
-ghost use Rattle.ml_mu_graph.specs.private.Views.{scope_view};
+ghost use Rattle.ml_mu_graph.specs.private.Views.{none_around, around};
 
-use crate::names::{Names, action, collect, proposition};
+use crate::binders::Binders;
+use crate::names::Names;
 use ml_base::{Action, Name, NoMemory};
 use ml_graph::{ModalGraph, Node};
 use ml_mu::{Formula, Term};
 use ml_text::{MOST_OCCURRENCES, Operator};
 use std::alloc::{AllocError, Global};
-
-// the binders around a place, the innermost first, each with its occurrence
-#[derive(Clone, Copy)]
-enum Scope<'a> {
-    Outermost,
-    Inside(&'a Name, u32, &'a Scope<'a>),
-}
-
-// the occurrence of the innermost binder of the name
-fn binder_of(scope: &Scope<'_>, name: &Name) -> u32
-    ensures { result ≡ graph.binder_of (scope_view scope.now) name.now }
-{
-    match scope {
-        Scope::Outermost => 0,
-        Scope::Inside(bound, at, outer) => {
-            if bound.bytes() == name.bytes() {
-                *at
-            } else {
-                binder_of(outer, name)
-            }
-        }
-    }
-}
 
 // the two nodes of an occurrence
 fn positive(at: u32) -> u32
@@ -71,21 +49,21 @@ fn constant(value: bool) -> Node
 }
 
 // how many binders a term has
-fn binders(term: &Term) -> u32
+fn count_binders(term: &Term) -> u32
     requires { occurrences (formula_of term.now) ≤ MOST_OCCURRENCES }
     ensures number { result ≡ graph.binders (formula_of term.now) }
     ensures few { result ≤ occurrences (formula_of term.now) }
 {
     match term {
         Term::Const(_) | Term::Prop(_) | Term::Var(_) => 0,
-        Term::Not(operand) | Term::Diamond(_, operand) | Term::Square(_, operand) => binders(
+        Term::Not(operand) | Term::Diamond(_, operand) | Term::Square(_, operand) => count_binders(
             operand,
         ),
         Term::And(left, right)
         | Term::Or(left, right)
         | Term::Implies(left, right)
-        | Term::Iff(left, right) => binders(left) + binders(right),
-        Term::Mu(_, body) | Term::Nu(_, body) => 1 + binders(body),
+        | Term::Iff(left, right) => count_binders(left) + count_binders(right),
+        Term::Mu(_, body) | Term::Nu(_, body) => 1 + count_binders(body),
     }
 }
 
@@ -201,28 +179,29 @@ fn placed(nodes: &[Node]) -> u32
 #[cycle(placing)]
 fn place<'a>(
     draft: &mut Draft,
-    names: &Names<'_>,
+    names: &Names,
     plain: u32,
-    scope: &'a Scope<'a>,
+    binders: &mut Binders<'a>,
     depth: u32,
     at: u32,
     term: &'a Term,
 ) -> Result<(), AllocError>
-    requires names { (length names.now.props.now < 2 ^ 32) × (length names.now.actions.now < 2 ^ 32) }
+    requires names { (length names.now.props.keys < 2 ^ 32) × (length names.now.actions.keys < 2 ^ 32) }
     requires start { length draft.old.nodes.items ≡ 2 * at }
     requires few { at + occurrences (formula_of term.now) ≤ 1000 }
-    requires binders { (x : _) → graph.binder_of (scope_view scope.now) x ≤ 1000 }
+    requires binders { (x : _) → around binders.old x ≤ 1000 }
     requires deep { depth ≤ at }
     ensures nodes { OnOk result (draft.new.nodes.items ≡ draft.old.nodes.items
-        ++ listed.nodes_of names.now.props.now names.now.actions.now (scope_view scope.now) at (formula_of term.now)) }
+        ++ listed.nodes_of names.now.props.keys names.now.actions.keys (around binders.old) at (formula_of term.now)) }
     ensures priorities { OnOk result (draft.new.priorities.items ≡ draft.old.priorities.items
         ++ listed.priorities_of plain depth (formula_of term.now)) }
+    ensures around { OnOk result (around binders.new ≡ around binders.old) }
 {
     let usual = (plain, plain);
     match term {
         Term::Const(value) => put(draft, (constant(*value), constant(!*value)), usual),
         Term::Prop(name) => {
-            let prop = proposition(names, name);
+            let prop = names.proposition(name);
             let yes = Node::Lit {
                 prop,
                 positive: true,
@@ -234,7 +213,7 @@ fn place<'a>(
             put(draft, (yes, no), usual)
         }
         Term::Var(name) => {
-            let binder = binder_of(scope, name);
+            let binder = binders.of(name);
             put(
                 draft,
                 (lead_to(positive(binder)), lead_to(negative(binder))),
@@ -247,14 +226,14 @@ fn place<'a>(
                 (lead_to(negative(at + 1)), lead_to(positive(at + 1))),
                 usual,
             )?;
-            place(draft, names, plain, scope, depth, at + 1, operand)
+            place(draft, names, plain, binders, depth, at + 1, operand)
         }
         Term::And(left, right) => {
             place_both(
                 draft,
                 names,
                 plain,
-                scope,
+                binders,
                 depth,
                 at,
                 Operator::And,
@@ -267,7 +246,7 @@ fn place<'a>(
                 draft,
                 names,
                 plain,
-                scope,
+                binders,
                 depth,
                 at,
                 Operator::Or,
@@ -280,7 +259,7 @@ fn place<'a>(
                 draft,
                 names,
                 plain,
-                scope,
+                binders,
                 depth,
                 at,
                 Operator::Implies,
@@ -293,7 +272,7 @@ fn place<'a>(
                 draft,
                 names,
                 plain,
-                scope,
+                binders,
                 depth,
                 at,
                 Operator::Iff,
@@ -302,7 +281,7 @@ fn place<'a>(
             )
         }
         Term::Diamond(name, operand) => {
-            let action = action(names, name);
+            let action = names.action(name);
             let some = Node::Diamond {
                 action,
                 to: positive(at + 1),
@@ -312,10 +291,10 @@ fn place<'a>(
                 to: negative(at + 1),
             };
             put(draft, (some, every), usual)?;
-            place(draft, names, plain, scope, depth, at + 1, operand)
+            place(draft, names, plain, binders, depth, at + 1, operand)
         }
         Term::Square(name, operand) => {
-            let action = action(names, name);
+            let action = names.action(name);
             let every = Node::Square {
                 action,
                 to: positive(at + 1),
@@ -325,7 +304,7 @@ fn place<'a>(
                 to: negative(at + 1),
             };
             put(draft, (every, some), usual)?;
-            place(draft, names, plain, scope, depth, at + 1, operand)
+            place(draft, names, plain, binders, depth, at + 1, operand)
         }
         Term::Mu(name, body) => {
             put(
@@ -333,8 +312,7 @@ fn place<'a>(
                 (lead_to(positive(at + 1)), lead_to(negative(at + 1))),
                 (2 * depth + 1, 2 * depth),
             )?;
-            let inside = Scope::Inside(name, at, &*scope);
-            place(draft, names, plain, &inside, depth + 1, at + 1, body)
+            place_body(draft, names, plain, binders, depth, at, name, body)
         }
         Term::Nu(name, body) => {
             put(
@@ -342,8 +320,7 @@ fn place<'a>(
                 (lead_to(positive(at + 1)), lead_to(negative(at + 1))),
                 (2 * depth, 2 * depth + 1),
             )?;
-            let inside = Scope::Inside(name, at, &*scope);
-            place(draft, names, plain, &inside, depth + 1, at + 1, body)
+            place_body(draft, names, plain, binders, depth, at, name, body)
         }
     }
 }
@@ -352,32 +329,63 @@ fn place<'a>(
 #[cycle(placing)]
 fn place_both<'a>(
     draft: &mut Draft,
-    names: &Names<'_>,
+    names: &Names,
     plain: u32,
-    scope: &'a Scope<'a>,
+    binders: &mut Binders<'a>,
     depth: u32,
     at: u32,
     operator: Operator,
     left: &'a Term,
     right: &'a Term,
 ) -> Result<(), AllocError>
-    requires names { (length names.now.props.now < 2 ^ 32) × (length names.now.actions.now < 2 ^ 32) }
+    requires names { (length names.now.props.keys < 2 ^ 32) × (length names.now.actions.keys < 2 ^ 32) }
     requires start { length draft.old.nodes.items ≡ 2 * at }
     requires few { at + occurrences (mu.Binary operator (formula_of left.now) (formula_of right.now)) ≤ 1000 }
-    requires binders { (x : _) → graph.binder_of (scope_view scope.now) x ≤ 1000 }
+    requires binders { (x : _) → around binders.old x ≤ 1000 }
     requires deep { depth ≤ at }
     ensures nodes { OnOk result (draft.new.nodes.items ≡ draft.old.nodes.items
-        ++ listed.nodes_of names.now.props.now names.now.actions.now (scope_view scope.now) at (mu.Binary operator (formula_of left.now) (formula_of right.now))) }
+        ++ listed.nodes_of names.now.props.keys names.now.actions.keys (around binders.old) at
+        (mu.Binary operator (formula_of left.now) (formula_of right.now))) }
     ensures priorities { OnOk result (draft.new.priorities.items ≡ draft.old.priorities.items
         ++ listed.priorities_of plain depth (mu.Binary operator (formula_of left.now) (formula_of right.now))) }
+    ensures around { OnOk result (around binders.new ≡ around binders.old) }
 {
     open(draft, operator, plain)?;
     let first = at + weight(operator);
-    place(draft, names, plain, scope, depth, first, left)?;
+    place(draft, names, plain, binders, depth, first, left)?;
     let second = placed(draft.nodes.as_slice());
-    place(draft, names, plain, scope, depth, second, right)?;
+    place(draft, names, plain, binders, depth, second, right)?;
     close(&mut draft.nodes, operator, at, first, second);
     Ok(())
+}
+
+// the same of a binder's body: a variable leads to this binder inside it, and to the outer one behind it
+#[cycle(placing)]
+fn place_body<'a>(
+    draft: &mut Draft,
+    names: &Names,
+    plain: u32,
+    binders: &mut Binders<'a>,
+    depth: u32,
+    at: u32,
+    variable: &'a Name,
+    body: &'a Term,
+) -> Result<(), AllocError>
+    requires names { (length names.now.props.keys < 2 ^ 32) × (length names.now.actions.keys < 2 ^ 32) }
+    requires start { length draft.old.nodes.items ≡ 2 * (at + 1) }
+    requires few { at + 1 + occurrences (formula_of body.now) ≤ 1000 }
+    requires binders { (x : _) → around binders.old x ≤ 1000 }
+    requires deep { depth ≤ at }
+    ensures nodes { OnOk result (draft.new.nodes.items ≡ draft.old.nodes.items
+        ++ listed.nodes_of names.now.props.keys names.now.actions.keys (listed.bound variable.now at (around binders.old))
+        (at + 1) (formula_of body.now)) }
+    ensures priorities { OnOk result (draft.new.priorities.items ≡ draft.old.priorities.items
+        ++ listed.priorities_of plain (depth + 1) (formula_of body.now)) }
+    ensures around { OnOk result (around binders.new ≡ around binders.old) }
+{
+    let outer = binders.enter(variable, at)?;
+    place(draft, names, plain, binders, depth + 1, at + 1, body)?;
+    binders.leave(variable, outer)
 }
 
 // the root is the first occurrence, or its negation
@@ -401,29 +409,25 @@ fn lists_of(alloc: Global, term: &Term) -> Result<Lists, NoMemory>
     requires { occurrences (formula_of term.now) ≤ MOST_OCCURRENCES }
     ensures props { IfOk result (λ l. l.props.items ≡ listed.props_onto (formula_of term.now) []) }
     ensures actions { IfOk result (λ l. l.actions.items ≡ listed.actions_onto (formula_of term.now) []) }
-    ensures nodes { IfOk result (λ l. l.nodes.items ≡ listed.nodes_of l.props.items l.actions.items [] 0 (formula_of term.now)) }
+    ensures nodes { IfOk result (λ l. l.nodes.items ≡ listed.nodes_of l.props.items l.actions.items none_around 0 (formula_of term.now)) }
     ensures priorities { IfOk result (λ l. l.priorities.items ≡ listed.priorities_of (2 * graph.binders (formula_of term.now)) 0 (formula_of term.now)) }
 {
-    let mut props = Vec::new(alloc);
-    let mut actions = Vec::new(alloc);
-    collect(term, &mut props, &mut actions)?;
+    let names = Names::of(alloc, term)?;
+    let mut binders = Binders::new(alloc);
     let mut draft = Draft {
         nodes: Vec::new(alloc),
         priorities: Vec::new(alloc),
     };
-    let names = Names {
-        props: props.as_slice(),
-        actions: actions.as_slice(),
-    };
     place(
         &mut draft,
         &names,
-        2 * binders(term),
-        &Scope::Outermost,
+        2 * count_binders(term),
+        &mut binders,
         0,
         0,
         term,
     )?;
+    let (props, actions) = names.into_lists(alloc)?;
     Ok(Lists {
         nodes: draft.nodes,
         priorities: draft.priorities,
@@ -437,8 +441,8 @@ fn lists_of(alloc: Global, term: &Term) -> Result<Lists, NoMemory>
 /// # Errors
 /// `NoMemory` alone.
 ///
-/// Cost: one pass over the formula; a name is looked up among those before it, and a variable among the binders around
-/// it. No call is nested deeper than the formula, which has at most 1,000 occurrences.
+/// Cost: linear in the formula on average, since names and variables are looked up by their hashes. Calls are nested at
+/// most twice as deep as the formula, which has at most 1,000 occurrences.
 pub fn graph_of(alloc: Global, formula: &Formula, negated: bool) -> Result<ModalGraph, NoMemory>
     ensures graph { IfOk result (λ g. IsGraphOf g formula.now negated) }
     ensures agrees { IfOk result (λ g. HoldsWhere g (record { formula = formula.now; negated = negated })) }

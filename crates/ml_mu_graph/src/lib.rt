@@ -5,6 +5,7 @@
 // Below stand `ml_mu`, for formulas, and `ml_graph`, for graphs and the checking game.
 #![tactic(auto)]
 
+mod binders;
 mod graph;
 pub mod laws;
 mod names;

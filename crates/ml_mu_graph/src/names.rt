@@ -1,55 +1,50 @@
 // The names of a formula's graph: its propositions and its actions, each once, in the order of the text.
-ghost use Rattle.std.specs.Prelude.{◌≡◌, ◌<◌, ◌^◌, length, position, OnOk};
-ghost use Rattle.std.specs.List.{list_any};
-ghost use Rattle.std.specs.Str.{bytes_eq};
+ghost use Rattle.std.specs.Prelude.{◌≡◌, ◌<◌, ◌^◌, [], length, OnOk, IfOk};
 ghost use Rattle.ml_mu.specs.Term.{formula_of};
 ghost use Rattle.ml_mu_graph.specs.private.NodeList as listed;
 
+use indexmap::IndexSet;
 use ml_base::{Action, Name, NoMemory};
 use ml_mu::Term;
+use std::alloc::{AllocError, Global};
 
-fn has_proposition(props: &[Name], name: &Name) -> bool
-    ensures { result ≡ list_any (λ q. bytes_eq q name.now) props.now }
-{
-    props.iter().any(|prop| prop.bytes() == name.bytes())
-}
-
-fn has_action(actions: &[Action], name: &Action) -> bool
-    ensures { result ≡ list_any (λ q. bytes_eq q name.now) actions.now }
-{
-    actions.iter().any(|action| action.bytes() == name.bytes())
+// the names of a graph
+#[derive(Drop)]
+pub(crate) struct Names {
+    pub props: IndexSet<Name>,
+    pub actions: IndexSet<Action>,
 }
 
 // a proposition is added, unless it is there
-fn add_proposition(props: &mut Vec<Name>, name: &Name) -> Result<(), NoMemory>
-    ensures { OnOk result (props.new.items ≡ listed.with_name props.old.items name.now) }
+fn add_proposition(props: &mut IndexSet<Name>, name: &Name) -> Result<(), NoMemory>
+    ensures { OnOk result (props.new.keys ≡ listed.with_name props.old.keys name.now) }
 {
-    if has_proposition(props.as_slice(), name) {
+    if props.contains(name) {
         return Ok(());
     }
-    props.push(name.copy()?)?;
+    props.insert(name.copy()?)?;
     Ok(())
 }
 
 // an action is added, unless it is there
-fn add_action(actions: &mut Vec<Action>, name: &Action) -> Result<(), NoMemory>
-    ensures { OnOk result (actions.new.items ≡ listed.with_name actions.old.items name.now) }
+fn add_action(actions: &mut IndexSet<Action>, name: &Action) -> Result<(), NoMemory>
+    ensures { OnOk result (actions.new.keys ≡ listed.with_name actions.old.keys name.now) }
 {
-    if has_action(actions.as_slice(), name) {
+    if actions.contains(name) {
         return Ok(());
     }
-    actions.push(name.copy()?)?;
+    actions.insert(name.copy()?)?;
     Ok(())
 }
 
 // the propositions and the actions of a term, in the order of the text
-pub(crate) fn collect(
+fn collect(
     term: &Term,
-    props: &mut Vec<Name>,
-    actions: &mut Vec<Action>,
+    props: &mut IndexSet<Name>,
+    actions: &mut IndexSet<Action>,
 ) -> Result<(), NoMemory>
-    ensures props { OnOk result (props.new.items ≡ listed.props_onto (formula_of term.now) props.old.items) }
-    ensures actions { OnOk result (actions.new.items ≡ listed.actions_onto (formula_of term.now) actions.old.items) }
+    ensures props { OnOk result (props.new.keys ≡ listed.props_onto (formula_of term.now) props.old.keys) }
+    ensures actions { OnOk result (actions.new.keys ≡ listed.actions_onto (formula_of term.now) actions.old.keys) }
 {
     match term {
         Term::Const(_) | Term::Var(_) => Ok(()),
@@ -70,43 +65,49 @@ pub(crate) fn collect(
     }
 }
 
-// the names of a graph
-#[derive(Drop)]
-pub(crate) struct Names<'a> {
-    pub props: &'a [Name],
-    pub actions: &'a [Action],
-}
-
-fn find_proposition(props: &[Name], name: &Name) -> Option<usize>
-    ensures { result ≡ position (λ q. bytes_eq q name.now) props.now }
-{
-    props.iter().position(|prop| prop.bytes() == name.bytes())
-}
-
-fn find_action(actions: &[Action], name: &Action) -> Option<usize>
-    ensures { result ≡ position (λ q. bytes_eq q name.now) actions.now }
-{
-    actions
-        .iter()
-        .position(|action| action.bytes() == name.bytes())
-}
-
-pub(crate) fn proposition(names: &Names<'_>, name: &Name) -> u32
-    requires { length names.now.props.now < 2 ^ 32 }
-    ensures { result ≡ listed.place_of names.now.props.now name.now }
-{
-    match find_proposition(names.props, name) {
-        Some(place) => place as u32,
-        None => 0,
+impl Names {
+    // the names of a term
+    pub(crate) fn of(alloc: Global, term: &Term) -> Result<Names, NoMemory>
+        ensures props { IfOk result (λ names. names.props.keys ≡ listed.props_onto (formula_of term.now) []) }
+        ensures actions { IfOk result (λ names. names.actions.keys ≡ listed.actions_onto (formula_of term.now) []) }
+    {
+        let mut props = IndexSet::new(alloc);
+        let mut actions = IndexSet::new(alloc);
+        collect(term, &mut props, &mut actions)?;
+        Ok(Names { props, actions })
     }
-}
 
-pub(crate) fn action(names: &Names<'_>, name: &Action) -> u32
-    requires { length names.now.actions.now < 2 ^ 32 }
-    ensures { result ≡ listed.place_of names.now.actions.now name.now }
-{
-    match find_action(names.actions, name) {
-        Some(place) => place as u32,
-        None => 0,
+    // the place of a proposition
+    pub(crate) fn proposition(&self, name: &Name) -> u32
+        requires { length self.now.props.keys < 2 ^ 32 }
+        ensures { result ≡ listed.place_of self.now.props.keys name.now }
+    {
+        match self.props.get_index_of(name) {
+            Some(place) => place as u32,
+            None => 0,
+        }
+    }
+
+    // the place of an action
+    pub(crate) fn action(&self, name: &Action) -> u32
+        requires { length self.now.actions.keys < 2 ^ 32 }
+        ensures { result ≡ listed.place_of self.now.actions.keys name.now }
+    {
+        match self.actions.get_index_of(name) {
+            Some(place) => place as u32,
+            None => 0,
+        }
+    }
+
+    // the propositions and the actions as lists
+    pub(crate) fn into_lists(self, alloc: Global) -> Result<(Vec<Name>, Vec<Action>), AllocError>
+        ensures props { IfOk result (λ lists. lists.0.items ≡ self.props.keys) }
+        ensures actions { IfOk result (λ lists. lists.1.items ≡ self.actions.keys) }
+    {
+        let Names { props, actions } = self;
+        Ok((
+            props.into_iter().collect(alloc)?,
+            actions.into_iter().collect(alloc)?,
+        ))
     }
 }

@@ -4,9 +4,12 @@
 --   props_onto f ps             == these, and behind them the propositions of f
 --   actions_onto f as           == these, and behind them the actions of f
 --   place_of ps p               == the place of the name p
---   nodes_of ps acts bs i f       == the nodes of f as the occurrence i, with these names and the binders bs around
+--   bound x i b                 == the binders b, and inside them one of x as the occurrence i
+--   nodes_of ps acts b i f      == the nodes of f as the occurrence i, with these names and the binders b around
 --   priorities_of k d f         == their priorities, with d binders around
-use Rattle.std.specs.Prelude.{ℕ, ◌+◌, Bool, true, false, not, if◌then◌else◌, List, [], ◌∷◌, ◌++◌, length, unwrap_or, position}
+--
+-- Binders around are a function here, from a variable to the occurrence of its innermost one.
+use Rattle.std.specs.Prelude.{ℕ, ◌+◌, true, false, not, if◌then◌else◌, List, [], ◌∷◌, ◌++◌, unwrap_or, position}
 use Rattle.std.specs.List.{list_any}
 use Rattle.std.specs.Str.{bytes_eq}
 use Rattle.ml_graph.specs.declared.node.Node.{Node}
@@ -14,10 +17,10 @@ use Rattle.ml_graph.specs.declared.node.Node.TheVariants as node
 use Rattle.ml_text.specs.declared.token.Operator.{Operator}
 use Rattle.ml_text.specs.declared.token.Operator.TheVariants as operator
 use Rattle.ml_mu.specs.Formula.{Formula, Const, Prop, Var, Not, Binary, Modal, Binder, occurrences, weight}
-use Rattle.ml_mu_graph.specs.MuGraph.{positive, negative, Around, binder_of, constant, modality, dual, binder_priority, opposite}
+use Rattle.ml_mu_graph.specs.MuGraph.{positive, negative, constant, modality, dual, binder_priority, opposite}
 
 abbrev pub with_name : List (List ℕ) → List ℕ → List (List ℕ)
-with_name ps p = if list_any (λ q. bytes_eq q p) ps then ps else ps ++ p ∷ []
+with_name ps p = if list_any (bytes_eq p) ps then ps else ps ++ p ∷ []
 
 abbrev pub props_onto : Formula → List (List ℕ) → List (List ℕ)
 props_onto (Const b) ps = ps
@@ -38,7 +41,7 @@ actions_onto (Modal m a f) acts = actions_onto f (with_name acts a)
 actions_onto (Binder q x f) acts = actions_onto f acts
 
 abbrev pub place_of : List (List ℕ) → List ℕ → ℕ
-place_of ps p = unwrap_or (position (λ q. bytes_eq q p) ps) 0
+place_of ps p = unwrap_or (position (bytes_eq p) ps) 0
 
 abbrev pub lead_to : ℕ → Node
 lead_to n = node.And n n
@@ -73,21 +76,24 @@ operator_priorities operator.Or k = k ∷ k ∷ []
 operator_priorities operator.Implies k = k ∷ k ∷ []
 operator_priorities operator.Iff k = k ∷ k ∷ k ∷ k ∷ k ∷ k ∷ []
 
-abbrev pub nodes_of : List (List ℕ) → List (List ℕ) → Around → ℕ → Formula → List Node
-nodes_of ps acts bs i (Const b) = constant b ∷ constant (not b) ∷ []
-nodes_of ps acts bs i (Prop p) = node.Lit (place_of ps p) true ∷ node.Lit (place_of ps p) false ∷ []
-nodes_of ps acts bs i (Var x) = lead_to (positive (binder_of bs x)) ∷ lead_to (negative (binder_of bs x)) ∷ []
-nodes_of ps acts bs i (Not f) =
-    lead_to (negative (i + 1)) ∷ lead_to (positive (i + 1)) ∷ nodes_of ps acts bs (i + 1) f
-nodes_of ps acts bs i (Binary op f h) =
+abbrev pub bound : List ℕ → ℕ → (List ℕ → ℕ) → List ℕ → ℕ
+bound x i b y = if bytes_eq x y then i else b y
+
+abbrev pub nodes_of : List (List ℕ) → List (List ℕ) → (List ℕ → ℕ) → ℕ → Formula → List Node
+nodes_of ps acts b i (Const v) = constant v ∷ constant (not v) ∷ []
+nodes_of ps acts b i (Prop p) = node.Lit (place_of ps p) true ∷ node.Lit (place_of ps p) false ∷ []
+nodes_of ps acts b i (Var x) = lead_to (positive (b x)) ∷ lead_to (negative (b x)) ∷ []
+nodes_of ps acts b i (Not f) =
+    lead_to (negative (i + 1)) ∷ lead_to (positive (i + 1)) ∷ nodes_of ps acts b (i + 1) f
+nodes_of ps acts b i (Binary op f h) =
     let l = i + weight op in let r = l + occurrences f in
-    operator_nodes op i l r ++ (nodes_of ps acts bs l f ++ nodes_of ps acts bs r h)
-nodes_of ps acts bs i (Modal m a f) =
+    operator_nodes op i l r ++ (nodes_of ps acts b l f ++ nodes_of ps acts b r h)
+nodes_of ps acts b i (Modal m a f) =
     modality m (place_of acts a) (positive (i + 1))
     ∷ modality (dual m) (place_of acts a) (negative (i + 1))
-    ∷ nodes_of ps acts bs (i + 1) f
-nodes_of ps acts bs i (Binder q x f) =
-    lead_to (positive (i + 1)) ∷ lead_to (negative (i + 1)) ∷ nodes_of ps acts ((x, i) ∷ bs) (i + 1) f
+    ∷ nodes_of ps acts b (i + 1) f
+nodes_of ps acts b i (Binder q x f) =
+    lead_to (positive (i + 1)) ∷ lead_to (negative (i + 1)) ∷ nodes_of ps acts (bound x i b) (i + 1) f
 
 abbrev pub priorities_of : ℕ → ℕ → Formula → List ℕ
 priorities_of k d (Const b) = k ∷ k ∷ []

@@ -9,3 +9,6 @@ decreases-place l = 2 * occurrences (formula_of l.term.now)
 
 abbrev pub decreases-place_both : goal.decreases-place_both
 decreases-place_both l = 2 * occurrences (formula_of l.left.now) + 2 * occurrences (formula_of l.right.now) + 1
+
+abbrev pub decreases-place_body : goal.decreases-place_body
+decreases-place_body l = 2 * occurrences (formula_of l.body.now) + 1

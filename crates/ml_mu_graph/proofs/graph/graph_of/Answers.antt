@@ -1,10 +1,11 @@
-use Rattle.std.proofs.Common.{◌≡◌, ◌*◌, [], length, ap, refl, sym, ◌∙◌, subst, ◌≤◌, true, false, arith}
+use Rattle.std.proofs.Common.{◌≡◌, ◌*◌, [], length, ap, sym, ◌∙◌, subst, ◌≤◌, true, false, arith}
 use Rattle.std.specs.List.{IsDistinct}
 use Rattle.std.specs.Str.{bytes_eq}
 use Rattle.ml_graph.specs.Graph.{graph_of}
 use Rattle.ml_mu.specs.Formula.{occurrences}
 use Rattle.ml_mu.specs.Term.{formula_of}
 use Rattle.ml_mu_graph.specs.MuGraph.{binders, IsGraphOf}
+use Rattle.ml_mu_graph.specs.private.Views.{none_around}
 use Rattle.ml_mu_graph.proofs.Agreement.{graphs_agree}
 use Rattle.ml_mu_graph.proofs.InRange.{lists_make_graph, none_twice}
 use Rattle.ml_mu_graph.proofs.Made.{graph_made}
@@ -18,7 +19,8 @@ build-requires-clause-few c =
     let made = c.in_ok-lists.ensures in
     let f = formula_of c.root.result.now in
     let small = subst (λ f. occurrences f ≤ 1000) (sym c.root.ensures.tree) c.root.ensures.well_formed.is_small in
-    omega (arith, lists.nodes.ok.0, ap length made.nodes, length-nodes lists.props.items lists.actions.items [] 0 f, small)
+    let size = length-nodes lists.props.items lists.actions.items none_around 0 f in
+    omega (arith, lists.nodes.ok.0, ap length made.nodes, size, small)
 
 pub build-requires-clause-priorities : goal.build-requires-clause-priorities
 build-requires-clause-priorities c =
@@ -26,15 +28,17 @@ build-requires-clause-priorities c =
     let made = c.in_ok-lists.ensures in
     let f = formula_of c.root.result.now in
     lists.priorities.ok.0 ∙ ap length made.priorities ∙ length-priorities (2 * binders f) 0 f
-    ∙ sym (lists.nodes.ok.0 ∙ ap length made.nodes ∙ length-nodes lists.props.items lists.actions.items [] 0 f)
+    ∙ sym (lists.nodes.ok.0 ∙ ap length made.nodes ∙ length-nodes lists.props.items lists.actions.items none_around 0 f)
 
 pub build-requires-clause-props : goal.build-requires-clause-props
 build-requires-clause-props c =
-    subst (IsDistinct bytes_eq) (sym c.in_ok-lists.ensures.props) (distinct_props (formula_of c.root.result.now) [] none_twice)
+    subst (IsDistinct bytes_eq) (sym c.in_ok-lists.ensures.props)
+    (distinct_props (formula_of c.root.result.now) [] none_twice)
 
 pub build-requires-clause-actions : goal.build-requires-clause-actions
 build-requires-clause-actions c =
-    subst (IsDistinct bytes_eq) (sym c.in_ok-lists.ensures.actions) (distinct_actions (formula_of c.root.result.now) [] none_twice)
+    subst (IsDistinct bytes_eq) (sym c.in_ok-lists.ensures.actions)
+    (distinct_actions (formula_of c.root.result.now) [] none_twice)
 
 pub unreachable-requires : goal.unreachable-requires
 unreachable-requires c =
