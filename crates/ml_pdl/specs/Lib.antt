@@ -1,5 +1,9 @@
 -- formulas and programs
 pub mod Formula
+-- what formulas and programs mean
+pub mod Meaning
+-- problems
+pub mod Problem
 -- which words are propositions and actions
 pub mod Spelling
 -- the signs of texts

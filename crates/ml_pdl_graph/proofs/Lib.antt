@@ -1,0 +1,2 @@
+-- walks for ever
+pub mod EndlessWalks

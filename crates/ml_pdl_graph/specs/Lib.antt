@@ -1,0 +1,2 @@
+-- the modal graph of a formula
+pub mod PdlGraph
