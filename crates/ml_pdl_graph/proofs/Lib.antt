@@ -1,2 +1,4 @@
 -- walks for ever
 pub mod EndlessWalks
+-- who wins the nodes of a graph
+pub mod Players
