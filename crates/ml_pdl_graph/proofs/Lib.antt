@@ -2,3 +2,5 @@
 pub mod EndlessWalks
 -- who wins the nodes of a graph
 pub mod Players
+-- runs of programs as walks
+pub mod Runs
