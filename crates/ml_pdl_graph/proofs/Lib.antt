@@ -4,3 +4,5 @@ pub mod EndlessWalks
 pub mod Players
 -- runs of programs as walks
 pub mod Runs
+-- stars and repetitions as fixpoints
+pub mod StarRelations
