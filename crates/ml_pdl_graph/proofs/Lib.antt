@@ -6,3 +6,5 @@ pub mod Players
 pub mod Runs
 -- stars and repetitions as fixpoints
 pub mod StarRelations
+-- where no run leads
+pub mod NoRuns
