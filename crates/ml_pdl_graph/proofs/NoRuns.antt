@@ -22,8 +22,8 @@ use Rattle.ml_base.specs.Structure.{Structure, IsStructure, is_member}
 use Rattle.ml_parity.specs.declared.players.Player.{Player}
 use Rattle.ml_parity.specs.declared.players.Player.TheVariants.{Even, Odd}
 use Rattle.ml_parity.specs.Player.{opponent, side}
-use Rattle.ml_parity.specs.Game.{owner_of, priority_of}
-use Rattle.ml_parity.specs.Winner.{WinsFrom, Wins}
+use Rattle.ml_parity.specs.Game.{HasMove, owner_of, priority_of}
+use Rattle.ml_parity.specs.Winner.{IsStrategyOf, WinsFrom, Wins}
 use Rattle.ml_parity.proofs.FollowedWalks.{FollowedMove, last, won_behind}
 use Rattle.ml_parity.proofs.Opponents.{no_own_opponent}
 use Rattle.ml_parity.proofs.SingleMoves.{sink_won}
@@ -31,7 +31,7 @@ use Rattle.ml_graph.specs.declared.node.Node.{Node}
 use Rattle.ml_graph.specs.declared.node.Node.TheVariants as node
 use Rattle.ml_graph.specs.Graph.{Graph, IsGraph, size, node_at, priority_at, action_at}
 use Rattle.ml_graph.specs.CheckingGame.{Vertex, Pair, Sink, mover, vertex_number, vertices, successors, successors_of, pairs_or_sink, targets, checking_game}
-use Rattle.ml_graph.proofs.CheckingGame.{IsVertex, moves_are, vertex_at, owner_is, priority_is, target_is_state, is_game}
+use Rattle.ml_graph.proofs.CheckingGame.{IsVertex, leads_to_vertices, moves_are, vertex_at, owner_is, priority_is, target_is_state, is_game}
 use Rattle.ml_graph.proofs.OneStep.{vertex_low}
 use Rattle.ml_pdl.specs.Formula.{Formula, Program, Act, Seq, Alt, Star, Test, occurrences, program_occurrences}
 use Rattle.ml_pdl.specs.Meaning.{Relation, has_edge, meaning, relation}
@@ -322,3 +322,173 @@ module _ (g : Graph) (m : Structure) (g_ok : IsGraph g) (m_ok : IsStructure m) (
   unmet_low (Star p) i K s n (inl (same, never)) = first_low i (i + (1 + program_occurrences p)) n (omega arith) same
   unmet_low (Star p) i K s n (inr h) = let low = unmet_low p (i + 1) (into m (relation m (Star p)) K) s n h in omega (arith, low)
   unmet_low (Test f) i K s n (same, never) = first_low i (i + (1 + occurrences f)) n (omega arith) same
+
+  -- ---- so the player doesn't win one
+
+  abbrev node_number : Vertex → ℕ
+  node_number (Pair s n) = n
+  node_number (Sink p) = 0
+
+  -- the node of a vertex
+  abbrev node_in : ℕ → ℕ
+  node_in v = node_number (get_or (vertices g m) v (Sink 0))
+
+  node_in_is : (s n : ℕ) → s < m.states → n < size g → node_in (place s n) ≡ n
+  node_in_is s n s_low n_low = ap node_number (vertex_at g m (Pair s n) (s_low, n_low))
+
+  abbrev bad : ℕ
+  bad = star_priority e
+
+  -- of a walk among them from v to w with the lowest priority k
+  pub record Known (v k w : ℕ) : Type 0 where
+    pub high : bad ≤ k
+    pub first : k ≤ priority_of (checking_game g m) v
+    pub onward : (node_in v < node_in w) ⊎ ((priority_of (checking_game g m) w ≡ bad) ⊎ (k ≡ bad))
+
+  known_joined : (v j w k x : ℕ) → Known v j w → Known w k x → Known v (min j k) x
+  known_joined v j w k x a b = record {
+    high = omega (arith, a.high, b.high);
+    first = omega (arith, a.first);
+    onward = by_first a.onward;
+  }
+    where
+      meets : (min j k ≡ bad) → (node_in v < node_in x) ⊎ ((priority_of (checking_game g m) x ≡ bad) ⊎ (min j k ≡ bad))
+      meets is = inr (inr is)
+
+      by_second : node_in v < node_in w → (node_in w < node_in x) ⊎ ((priority_of (checking_game g m) x ≡ bad) ⊎ (k ≡ bad))
+          → (node_in v < node_in x) ⊎ ((priority_of (checking_game g m) x ≡ bad) ⊎ (min j k ≡ bad))
+      by_second less (inl more) = inl (omega (arith, less, more))
+      by_second less (inr (inl star)) = inr (inl star)
+      by_second less (inr (inr is)) = meets (omega (arith, is, a.high))
+
+      by_first : (node_in v < node_in w) ⊎ ((priority_of (checking_game g m) w ≡ bad) ⊎ (j ≡ bad))
+          → (node_in v < node_in x) ⊎ ((priority_of (checking_game g m) x ≡ bad) ⊎ (min j k ≡ bad))
+      by_first (inl less) = by_second less b.onward
+      by_first (inr (inl star)) = meets (omega (arith, star, b.first, b.high, a.high))
+      by_first (inr (inr is)) = meets (omega (arith, is, b.high))
+
+  bad_side : (d : Bool) → side (star_priority d) ≡ opponent (player_of d)
+  bad_side true = refl
+  bad_side false = refl
+
+  closed_bad : (v k : ℕ) → Known v k v → side k ≡ opponent (player_of e)
+  closed_bad v k a = from a.onward
+    where
+      is_bad : k ≡ bad → side k ≡ opponent (player_of e)
+      is_bad is = ap side is ∙ bad_side e
+
+      from : (node_in v < node_in v) ⊎ ((priority_of (checking_game g m) v ≡ bad) ⊎ (k ≡ bad)) → side k ≡ opponent (player_of e)
+      from (inl less) = absurd (omega (arith, less))
+      from (inr (inl star)) = is_bad (omega (arith, star, a.first, a.high))
+      from (inr (inr is)) = is_bad is
+
+  module _ (p : Program) (i k : ℕ) (K : ℕ → Bool) (w : Runs g e i k p) (tests : Tests g m g_ok m_ok e i p)
+      (room : 2 * (i + program_occurrences p) ≤ size g)
+      (known : (t : ℕ) → t < m.states → Tells g m g_ok m_ok (player_of e) t k (K t)) (k_low : k < size g)
+      (strategy : ℕ → ℕ) (is_strategy : IsStrategyOf (checking_game g m) (player_of e) strategy) where
+    -- an unmet node that the strategy wins
+    record Stuck : Type 0 where
+      pub state : ℕ
+      pub node : ℕ
+      pub low : state < m.states
+      pub unmet : Unmet m e p i K state node
+      pub wins : WinsFrom (checking_game g m) (player_of e) strategy (place state node)
+
+    abbrev vertex : Stuck → ℕ
+    vertex x = place x.state x.node
+
+    is_vertex : (s n : ℕ) → s < m.states → Unmet m e p i K s n → IsVertex g m (Pair s n)
+    is_vertex s n low unmet = (low, let small = unmet_low p i K s n unmet in omega (arith, small, room))
+
+    abbrev Allowed : ℕ → ℕ → ℕ → Type 0
+    Allowed n t x = (Unmet m e p i K t x × ((n < x) ⊎ (priority_at g x ≡ bad))) ⊎ Wins (checking_game g m) them (place t x)
+
+    out_lost : (t : ℕ) → t < m.states → K t ≡ false → Wins (checking_game g m) them (place t k)
+    out_lost t t_low none = (tells_other g m g_ok m_ok (player_of e) t k t_low k_low (K t) (known t t_low)).1 (ap not none)
+
+    caught : (x : Stuck) → Trapped Allowed x.state x.node
+    caught x = trapped p i k K Allowed w tests room (λ n t y u order. inl (u, order)) (λ n t low t_low none. inr (out_lost t t_low none)) x.state x.node x.low x.unmet
+
+    abbrev Next : Stuck → Type 0
+    Next x = Onward (checking_game g m) (player_of e) strategy Known Stuck vertex x
+
+    never_theirs : (x : Stuck) (v : Vertex) → IsVertex g m v → FollowedMove (checking_game g m) (player_of e) strategy (vertex x) (vertex_number g m v)
+        → Wins (checking_game g m) them (vertex_number g m v) → ⊥
+    never_theirs x v is move theirs =
+        let mine : Wins (checking_game g m) (player_of e) (vertex_number g m v) =
+        record { strategy = strategy; is_strategy = is_strategy; wins = won_behind (checking_game g m) (player_of e) strategy (vertex x) (vertex_number g m v) move x.wins } in
+        never_both g m g_ok m_ok (player_of e) v is mine theirs
+
+    onward : (x : Stuck) (t y : ℕ) → t < m.states → FollowedMove (checking_game g m) (player_of e) strategy (vertex x) (place t y)
+        → Unmet m e p i K t y → (x.node < y) ⊎ (priority_at g y ≡ bad) → Next x
+    onward x t y t_low move unmet order = record {
+      to = record { state = t; node = y; low = t_low; unmet = unmet; wins = won_behind (checking_game g m) (player_of e) strategy (vertex x) (place t y) move x.wins };
+      stretch = record {
+        lowest = priority_of (checking_game g m) (vertex x);
+        way = last (vertex x) (place t y) move;
+        known = record {
+          high = let high = unmet_priority p i k K w x.state x.node x.unmet in omega (arith, high, priority_is g m (Pair x.state x.node) here);
+          first = omega arith;
+          onward = by_order order;
+        };
+      };
+    }
+      where
+        here : IsVertex g m (Pair x.state x.node)
+        here = is_vertex x.state x.node x.low x.unmet
+
+        there : IsVertex g m (Pair t y)
+        there = is_vertex t y t_low unmet
+
+        by_order : (x.node < y) ⊎ (priority_at g y ≡ bad)
+            → (node_in (vertex x) < node_in (place t y)) ⊎ ((priority_of (checking_game g m) (place t y) ≡ bad) ⊎ (priority_of (checking_game g m) (vertex x) ≡ bad))
+        by_order (inl less) = inl (omega (arith, less, node_in_is x.state x.node here.0 here.1, node_in_is t y there.0 there.1))
+        by_order (inr star) = inr (inl (priority_is g m (Pair t y) there ∙ star))
+
+    by_going : (x : Stuck) (u : Vertex) → IsVertex g m u → FollowedMove (checking_game g m) (player_of e) strategy (vertex x) (vertex_number g m u)
+        → Going Allowed x.node u → Next x
+    by_going x u is move (inr theirs) = absurd (never_theirs x u is move theirs)
+    by_going x u is move (inl a) = by_allowed a.allowed
+      where
+        moved : FollowedMove (checking_game g m) (player_of e) strategy (vertex x) (place a.state a.node)
+        moved = subst (λ v. FollowedMove (checking_game g m) (player_of e) strategy (vertex x) (vertex_number g m v)) a.is move
+
+        by_allowed : Allowed x.node a.state a.node → Next x
+        by_allowed (inl (unmet, order)) = onward x a.state a.node a.low moved unmet order
+        by_allowed (inr theirs) = absurd (never_theirs x (Pair a.state a.node) (subst (IsVertex g m) a.is is) moved theirs)
+
+    next : (x : Stuck) → Next x
+    next x = from (caught x)
+      where
+        here : IsVertex g m (Pair x.state x.node)
+        here = is_vertex x.state x.node x.low x.unmet
+
+        from : Trapped Allowed x.state x.node → Next x
+        from (inl (own, all)) =
+            let own_here = owner_is g m (Pair x.state x.node) here ∙ own in
+            let move = is_strategy (vertex x) (vertex_low g m g_ok m_ok (Pair x.state x.node) here) own_here in
+            let image = move_from g m g_ok m_ok (Pair x.state x.node) here (strategy (vertex x)) move in
+            by_going x image.from (leads_to_vertices g m g_ok m_ok (Pair x.state x.node) here image.from image.member)
+            (record { move = subst (HasMove (checking_game g m) (vertex x)) image.holds move; chosen = λ mine. sym image.holds })
+            (all image.from image.member)
+        from (inr (other, some)) =
+            by_going x some.to (leads_to_vertices g m g_ok m_ok (Pair x.state x.node) here some.to some.member)
+            (record {
+              move = move_to g m g_ok m_ok (Pair x.state x.node) here some.to some.member;
+              chosen = λ mine. absurd (no_own_opponent (player_of e) (sym mine ∙ owner_is g m (Pair x.state x.node) here ∙ other));
+            })
+            some.goes
+
+    pub stuck_lost : (s n : ℕ) → s < m.states → Unmet m e p i K s n → WinsFrom (checking_game g m) (player_of e) strategy (place s n) → ⊥
+    stuck_lost s n s_low unmet wins =
+        never_for_ever (checking_game g m) (player_of e) strategy Known Stuck vertex
+        (λ x. vertex_low g m g_ok m_ok (Pair x.state x.node) (is_vertex x.state x.node x.low x.unmet))
+        known_joined closed_bad next
+        (record { state = s; node = n; low = s_low; unmet = unmet; wins = wins }) wins
+
+  -- where no run of a program leads into the set at which the continuation is won, the player doesn't win
+  pub unmet_lost : (p : Program) (i k : ℕ) (K : ℕ → Bool) → Runs g e i k p → Tests g m g_ok m_ok e i p → 2 * (i + program_occurrences p) ≤ size g
+      → ((t : ℕ) → t < m.states → Tells g m g_ok m_ok (player_of e) t k (K t)) → k < size g
+      → (s : ℕ) → s < m.states → into m (relation m p) K s ≡ false → WinsAt g m g_ok m_ok (player_of e) s (node_of e i) → ⊥
+  unmet_lost p i k K w tests room known k_low s s_low never a =
+      stuck_lost p i k K w tests room known k_low a.strategy a.is_strategy s (node_of e i) s_low (start_unmet m e p i K s never) a.wins
