@@ -8,3 +8,5 @@ pub mod Runs
 pub mod StarRelations
 -- where no run leads
 pub mod NoRuns
+-- programs and infinite repetition
+pub mod Programs

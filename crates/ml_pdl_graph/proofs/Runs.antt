@@ -197,13 +197,22 @@ module _ (g : Graph) (m : Structure) (g_ok : IsGraph g) (m_ok : IsStructure m) (
       from w is (inr (inl one)) = inr (is ∙ ap (vertex_number g m) one)
       from w is (inr (inr none)) = absurd none
 
+  -- the move of a node that only leads on
+  pub single_move : (s n t : ℕ) → s < m.states → n < size g → node_at g n ≡ node.And t t → FollowedMove (checking_game g m) them strategy (place s n) (place s t)
+  single_move s n t s_low n_low is = record {
+    move = move_to g m g_ok m_ok (Pair s n) (s_low, n_low) (Pair s t) (subst (λ y. IsMember (Pair s t) (successors_of g m s y)) (sym is) (inl refl));
+    chosen = λ own. ⊎_elim
+        (λ (a : strategy (place s n) ≡ place s t). sym a)
+        (λ (a : strategy (place s n) ≡ place s t). sym a)
+        (chosen_is s n s_low n_low (sym (owner_is g m (Pair s n) (s_low, n_low)) ∙ own) t t (ap (successors_of g m s) is));
+  }
+
   single_step : (s n t : ℕ) → s < m.states → n < size g → 2 ≤ priority_at g n → node_at g n ≡ node.And t t → Walked (place s n) (place s t)
-  single_step s n t s_low n_low high is =
-      step s n s t s_low n_low high (subst (λ y. IsMember (Pair s t) (successors_of g m s y)) (sym is) (inl refl))
-      (λ theirs. ⊎_elim
-      (λ (a : strategy (place s n) ≡ place s t). sym a)
-      (λ (a : strategy (place s n) ≡ place s t). sym a)
-      (chosen_is s n s_low n_low theirs t t (ap (successors_of g m s) is)))
+  single_step s n t s_low n_low high is = record {
+    lowest = priority_of (checking_game g m) (place s n);
+    high = omega (arith, high, priority_is g m (Pair s n) (s_low, n_low));
+    way = last (place s n) (place s t) (single_move s n t s_low n_low is);
+  }
 
   -- at a test whose formula holds the strategy goes on
   test_step : (s n l k : ℕ) → s < m.states → n < size g → 2 ≤ priority_at g n → l < size g → node_at g n ≡ other_by e l k
