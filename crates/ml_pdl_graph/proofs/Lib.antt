@@ -10,3 +10,7 @@ pub mod StarRelations
 pub mod NoRuns
 -- programs and infinite repetition
 pub mod Programs
+-- formulas by their operands
+pub mod Connectives
+-- the agreement of game and meaning
+pub mod Agreement

@@ -151,8 +151,10 @@ module _ (g : Graph) (m : Structure) (g_ok : IsGraph g) (m_ok : IsStructure m) (
   leads_trapped P s n t is goes = by_sign e refl
     where
       by_sign : (d : Bool) → d ≡ e → Trapped P s n
-      by_sign true same = inr (ap mover is ∙ ap (λ x. opponent (player_of x)) same,
-          record { to = Pair s t; member = subst (λ x. IsMember (Pair s t) (successors_of g m s x)) (sym is) (inl refl); goes = goes })
+      by_sign true same = inr (
+        ap mover is ∙ ap (λ x. opponent (player_of x)) same,
+        record { to = Pair s t; member = subst (λ x. IsMember (Pair s t) (successors_of g m s x)) (sym is) (inl refl); goes = goes },
+      )
       by_sign false same = inl (ap mover is ∙ ap player_of same, λ u h. from u (subst (λ x. IsMember u (successors_of g m s x)) is h))
         where
           from : (u : Vertex) → IsMember u (Pair s t ∷ Pair s t ∷ []) → Going P n u
@@ -208,9 +210,12 @@ module _ (g : Graph) (m : Structure) (g_ok : IsGraph g) (m_ok : IsStructure m) (
   go_trapped : (P : ℕ → ℕ → ℕ → Type 0) (s n a k : ℕ) → node_at g n ≡ go_by e a k
       → ((t : ℕ) → t < m.states → IsMember t (targets m s (action_at g a)) → P n t k) → Trapped P s n
   go_trapped P s n a k is each =
-      inl (ap mover is ∙ go_mover e a k, λ u h. of_targets P n k (targets m s (action_at g a))
-          (λ t inside. let low = target_is_state m m_ok s (action_at g a) t inside in (low, each t low inside)) u
-          (subst (IsMember u) (ap (successors_of g m s) is ∙ go_children e s a k) h))
+      inl (
+        ap mover is ∙ go_mover e a k,
+        λ u h. of_targets P n k (targets m s (action_at g a))
+            (λ t inside. let low = target_is_state m m_ok s (action_at g a) t inside in (low, each t low inside)) u
+            (subst (IsMember u) (ap (successors_of g m s) is ∙ go_children e s a k) h),
+      )
 
   before_next : (i j : ℕ) → i < j → node_of e i < node_of e j
   before_next i j less = let a = node_range e i in let b = node_range e j in omega (arith, less, a.1, b.0)
