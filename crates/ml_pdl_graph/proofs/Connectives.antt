@@ -3,18 +3,18 @@
 --   meaning_flags   == a meaning has a flag for each state
 --   Both            == a formula is shown at its node of either sign
 --   both_const, both_prop, both_not, both_and, both_or, both_implies, both_iff, both_modal, both_repeat == each case
-use Rattle.std.proofs.Common.{◌≡◌, ℕ, zero, suc, ◌+◌, ◌*◌, ◌<◌, ◌≤◌, Bool, true, false, ◌&&◌, ◌||◌, not, List, [], ◌∷◌, length, map, refl, sym, ap, subst, ◌∙◌, arith}
+use Rattle.std.proofs.Common.{◌≡◌, ℕ, zero, suc, ◌+◌, ◌*◌, ◌<◌, ◌≤◌, Bool, true, false, ◌&&◌, ◌||◌, not, List, [], ◌∷◌, length, refl, sym, ap, subst, ◌∙◌, arith}
 use Rattle.std.specs.List.{list_any, list_all, range_with_len}
 use Rattle.std.proofs.lemmas.List.{get_or-map, length-map, length-replicate}
 use Rattle.std.proofs.lemmas.List.FromFn.{length-map-range_with_len}
 use Rattle.ml_lists.specs.Iterate.{iterate}
-use Rattle.ml_base.specs.Structure.{Structure, IsStructure, StateSet, lists, is_member, states_where, everywhere}
+use Rattle.ml_base.specs.Structure.{Structure, IsStructure, lists, is_member, everywhere}
 use Rattle.ml_graph.specs.Graph.{Graph, IsGraph, size, node_at, prop_at}
 use Rattle.ml_graph.specs.declared.node.Node.TheVariants as node
 use Rattle.ml_text.specs.declared.token.Operator.TheVariants as operator
 use Rattle.ml_pdl.specs.Formula.{Formula, Const, Prop, Not, Binary, Modal, Repeat, Program, Diamond, Square, occurrences, program_occurrences}
 use Rattle.ml_pdl.specs.Meaning.{Relation, truth_of, some_run, every_run, modal, meaning, relation}
-use Rattle.ml_pdl_graph.specs.PdlGraph.{positive, negative, StandsAt, ProgramStandsAt}
+use Rattle.ml_pdl_graph.specs.PdlGraph.{positive, negative, StandsAt}
 use Rattle.ml_pdl_graph.proofs.Players.{player_of, node_of, own_by, other_by, node_range, into, Tells, tells_turned, tells_own, tells_other_by, tells_leads, tells_constant, tells_negated_constant, tells_literal, tells_negated_literal}
 use Rattle.ml_pdl_graph.proofs.Runs.{Runs, Shown, Tests, runs_of, turn, some_occurrence}
 use Rattle.ml_pdl_graph.proofs.Programs.{program_told, repeat_told}

@@ -5,7 +5,7 @@
 --
 --   Onward           == a walk from the vertex of a situation to that of a next one; Q is what is known of it
 --   never_for_ever   == the strategy doesn't win from such a situation
-use Rattle.std.proofs.Common.{ℕ, zero, suc, ◌≡◌, ◌<◌, ◌≤◌, ◌⊎◌, min, ⊎_elim, sym, ap, subst, arith}
+use Rattle.std.proofs.Common.{ℕ, zero, suc, ◌≡◌, ◌<◌, min, ⊎_elim, sym, subst, arith}
 use Rattle.std.proofs.lemmas.Bool.{cases_eq}
 use Rattle.ml_lists.specs.Walk.{walk}
 use Rattle.ml_lists.specs.Pigeons.{Twice}

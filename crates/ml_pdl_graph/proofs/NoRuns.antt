@@ -10,35 +10,31 @@
 --                        leads to such vertices, at the opponent's nodes by some move
 --   trapped           == unmet nodes are trapped
 --   unmet_lost        == the player doesn't win one
-use Rattle.std.proofs.Common.{◌≡◌, ◌↔◌, ℕ, zero, suc, ◌+◌, ◌*◌, ◌<◌, ◌≤◌, ◌==◌, ◌⊎◌, Bool, true, false, ◌&&◌, ◌||◌, not, min, List, [], ◌∷◌, get_or, inl, inr, refl, sym, ap, subst, ◌∙◌, ⊎_elim, arith}
-use Rattle.std.specs.List.{list_any}
+use Rattle.std.proofs.Common.{◌≡◌, ℕ, ◌+◌, ◌*◌, ◌<◌, ◌≤◌, ◌==◌, ◌⊎◌, Bool, true, false, ◌&&◌, not, min, List, [], ◌∷◌, get_or, inl, inr, refl, sym, ap, subst, ◌∙◌, ⊎_elim, arith}
 use Rattle.std.specs.Str.{bytes_eq}
 use Rattle.std.proofs.lemmas.Bool.{false≢true, and_parts, and_from, or_left, or_right, cases_Bool}
 use Rattle.std.proofs.lemmas.Bool.Decides.{nat_tests}
 use Rattle.ml_lists.specs.Member.{IsMember}
-use Rattle.ml_lists.proofs.Member.{Image, member-map_from, member-filter_from, member-list_any}
+use Rattle.ml_lists.proofs.Member.{member-map_from, member-filter_from, member-list_any}
 use Rattle.ml_base.specs.declared.structure.Edge.{Edge}
 use Rattle.ml_base.specs.Structure.{Structure, IsStructure, is_member}
 use Rattle.ml_parity.specs.declared.players.Player.{Player}
-use Rattle.ml_parity.specs.declared.players.Player.TheVariants.{Even, Odd}
 use Rattle.ml_parity.specs.Player.{opponent, side}
-use Rattle.ml_parity.specs.Game.{HasMove, owner_of, priority_of}
+use Rattle.ml_parity.specs.Game.{HasMove, priority_of}
 use Rattle.ml_parity.specs.Winner.{IsStrategyOf, WinsFrom, Wins}
 use Rattle.ml_parity.proofs.FollowedWalks.{FollowedMove, last, won_behind}
 use Rattle.ml_parity.proofs.Opponents.{no_own_opponent}
 use Rattle.ml_parity.proofs.SingleMoves.{sink_won}
-use Rattle.ml_graph.specs.declared.node.Node.{Node}
 use Rattle.ml_graph.specs.declared.node.Node.TheVariants as node
 use Rattle.ml_graph.specs.Graph.{Graph, IsGraph, size, node_at, priority_at, action_at}
 use Rattle.ml_graph.specs.CheckingGame.{Vertex, Pair, Sink, mover, vertex_number, vertices, successors, successors_of, pairs_or_sink, targets, checking_game}
 use Rattle.ml_graph.proofs.CheckingGame.{IsVertex, leads_to_vertices, moves_are, vertex_at, owner_is, priority_is, target_is_state, is_game}
 use Rattle.ml_graph.proofs.OneStep.{vertex_low}
 use Rattle.ml_pdl.specs.Formula.{Formula, Program, Act, Seq, Alt, Star, Test, occurrences, program_occurrences}
-use Rattle.ml_pdl.specs.Meaning.{Relation, has_edge, meaning, relation}
-use Rattle.ml_pdl_graph.specs.PdlGraph.{plain}
+use Rattle.ml_pdl.specs.Meaning.{has_edge, meaning, relation}
 use Rattle.ml_pdl_graph.proofs.EndlessWalks.{Onward, never_for_ever}
-use Rattle.ml_pdl_graph.proofs.Players.{player_of, node_of, own_by, other_by, go_by, own_mover, other_mover, go_mover, own_children, other_children, node_range, into, of_run, no_run, never_run, at, WinsAt, Tells, move_to, move_from, never_both, one_of_both, tells_other}
-use Rattle.ml_pdl_graph.proofs.Runs.{star_priority, Runs, Shown, Tests, some_occurrence, some_program_occurrence}
+use Rattle.ml_pdl_graph.proofs.Players.{player_of, node_of, own_by, other_by, go_by, own_mover, other_mover, go_mover, own_children, other_children, node_range, into, of_run, no_run, never_run, at, WinsAt, Tells, move_to, move_from, never_both, tells_other}
+use Rattle.ml_pdl_graph.proofs.Runs.{star_priority, Runs, Tests, some_occurrence}
 use Rattle.ml_pdl_graph.proofs.StarRelations.{star_stays, star_first}
 
 -- the first node of a program, where no run leads into the set

@@ -12,26 +12,25 @@
 --   Tells g m q s n b      == q wins the node n at the state s exactly if b is true
 --   tells_other            == the opponent wins it exactly if b is false
 --   tells_leads, tells_own, tells_other_by, tells_go, tells_literal, tells_constant == at a node of each kind
-use Rattle.std.proofs.Common.{◌≡◌, ◌↔◌, ℕ, zero, suc, ◌+◌, ◌*◌, ◌<◌, ◌≤◌, ◌⊎◌, Bool, true, false, ◌&&◌, ◌||◌, not, List, [], ◌∷◌, length, map, Contains, inl, inr, refl, sym, ap, subst, ◌∙◌, ⊎_elim, arith}
+use Rattle.std.proofs.Common.{◌≡◌, ◌↔◌, ℕ, zero, suc, ◌+◌, ◌*◌, ◌<◌, ◌≤◌, ◌⊎◌, Bool, true, false, ◌&&◌, ◌||◌, not, [], ◌∷◌, map, Contains, inl, inr, refl, sym, ap, subst, ◌∙◌, ⊎_elim, arith}
 use Rattle.std.specs.List.{list_any, range_with_len}
 use Rattle.std.proofs.lemmas.Bool.{false≢true, and_parts, and_from, cases_Bool}
 use Rattle.std.proofs.lemmas.List.FromFn.{length-range_with_len, get_or-range_with_len}
 use Rattle.ml_lists.specs.Member.{IsMember}
-use Rattle.ml_lists.proofs.Member.{Image, member-map, member-map_from, list_any-member, member-list_any, place-member, member-place}
+use Rattle.ml_lists.proofs.Member.{Image, member-map, member-map_from, list_any-member, member-list_any, place-member}
 use Rattle.ml_lists.proofs.Members.{member_of_contains, contains_of_member}
 use Rattle.ml_base.specs.Structure.{Structure, IsStructure, lists}
 use Rattle.ml_parity.specs.declared.players.Player.{Player}
 use Rattle.ml_parity.specs.declared.players.Player.TheVariants.{Even, Odd}
 use Rattle.ml_parity.specs.Player.{opponent}
-use Rattle.ml_parity.specs.Game.{ParityGame, HasMove}
+use Rattle.ml_parity.specs.Game.{HasMove}
 use Rattle.ml_parity.specs.Winner.{Wins}
 use Rattle.ml_parity.proofs.OneStep.{WinningMove, own_vertex_won, other_vertex_won}
-use Rattle.ml_parity.proofs.Opponents.{opponent-opponent}
 use Rattle.ml_parity.proofs.Winners.{won_by_either, clash}
 use Rattle.ml_graph.specs.declared.node.Node.{Node}
 use Rattle.ml_graph.specs.declared.node.Node.TheVariants as node
 use Rattle.ml_graph.specs.Graph.{Graph, IsGraph, size, node_at, prop_at}
-use Rattle.ml_graph.specs.CheckingGame.{Vertex, Pair, Sink, owner_at, mover, vertex_number, successors, successors_of, checking_game, HoldsAt}
+use Rattle.ml_graph.specs.CheckingGame.{Vertex, Pair, mover, vertex_number, successors, successors_of, checking_game, HoldsAt}
 use Rattle.ml_graph.proofs.CheckingGame.{IsVertex, owner_is, moves_are, is_game}
 use Rattle.ml_graph.proofs.OneStep.{vertex_low, one_step}
 use Rattle.ml_graph.specs.Laws.{NodeHolds}

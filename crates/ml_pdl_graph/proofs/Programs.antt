@@ -2,8 +2,8 @@
 --
 --   program_told  == so it is
 --   repeat_told   == and an infinite repetition exactly where its program can be run for ever
-use Rattle.std.proofs.Common.{◌≡◌, ◌↔◌, ℕ, ◌+◌, ◌*◌, ◌<◌, ◌≤◌, ◌⊎◌, Bool, true, false, not, min, inl, inr, refl, sym, ap, subst, ◌∙◌, ⊎_elim, arith}
-use Rattle.std.proofs.lemmas.Bool.{false≢true, cases_Bool}
+use Rattle.std.proofs.Common.{◌≡◌, ℕ, ◌+◌, ◌*◌, ◌<◌, ◌≤◌, Bool, true, false, min, refl, ap, ◌∙◌, ⊎_elim, arith}
+use Rattle.std.proofs.lemmas.Bool.{cases_Bool}
 use Rattle.ml_base.specs.Structure.{Structure, IsStructure, is_member}
 use Rattle.ml_parity.specs.declared.players.Player.{Player}
 use Rattle.ml_parity.specs.Player.{opponent, side}
@@ -22,7 +22,7 @@ use Rattle.ml_pdl.specs.Meaning.{meaning, relation}
 use Rattle.ml_pdl_graph.proofs.EndlessWalks.{Onward, never_for_ever}
 use Rattle.ml_pdl_graph.proofs.NoRuns.{unmet_lost}
 use Rattle.ml_pdl_graph.proofs.Players.{player_of, node_of, node_range, into, run_of, at, WinsAt, Tells, never_both, one_of_both, tells_leads}
-use Rattle.ml_pdl_graph.proofs.Runs.{Runs, Tests, Walked, walked, single_move, some_program_occurrence}
+use Rattle.ml_pdl_graph.proofs.Runs.{Runs, Tests, walked, single_move, some_program_occurrence}
 use Rattle.ml_pdl_graph.proofs.StarRelations.{repeat_goes_on, repeat_has}
 
 module _ (g : Graph) (m : Structure) (g_ok : IsGraph g) (m_ok : IsStructure m) (e : Bool) where

@@ -6,8 +6,7 @@
 --   Test, Tests         == the formula of a test is won by that player where it holds; so are those of all tests of p
 --   Walked v w          == a walk from v to w that follows a strategy of the opponent's, through no priority below 2
 --   walked              == where the opponent wins a program's node, a run of the program is such a walk
-use Rattle.std.proofs.Common.{◌≡◌, ◌↔◌, ℕ, zero, suc, ◌+◌, ◌*◌, ◌<◌, ◌≤◌, ◌==◌, ◌⊎◌, Bool, true, false, ◌&&◌, ◌||◌, min, List, [], ◌∷◌, inl, inr, refl, sym, ap, subst, ◌∙◌, ⊎_elim, arith}
-use Rattle.std.specs.List.{list_any}
+use Rattle.std.proofs.Common.{◌≡◌, ℕ, zero, suc, ◌+◌, ◌*◌, ◌<◌, ◌≤◌, ◌==◌, ◌⊎◌, Bool, true, false, ◌&&◌, min, List, [], ◌∷◌, inl, inr, refl, sym, ap, subst, ◌∙◌, ⊎_elim, arith}
 use Rattle.std.specs.Str.{bytes_eq}
 use Rattle.std.proofs.lemmas.Bool.{false≢true, and_parts, or_cases}
 use Rattle.std.proofs.lemmas.Bool.Decides.{nat_tests}
@@ -18,20 +17,20 @@ use Rattle.ml_base.specs.declared.structure.Edge.{Edge}
 use Rattle.ml_base.specs.Structure.{Structure, IsStructure, is_member}
 use Rattle.ml_parity.specs.declared.players.Player.{Player}
 use Rattle.ml_parity.specs.Player.{opponent}
-use Rattle.ml_parity.specs.Game.{HasMove, owner_of, priority_of}
+use Rattle.ml_parity.specs.Game.{priority_of}
 use Rattle.ml_parity.specs.Winner.{IsStrategyOf, WinsFrom, Wins}
 use Rattle.ml_parity.proofs.FollowedWalks.{FollowedMove, FollowedWalk, last, walks_joined, won_behind, won_at_end}
 use Rattle.ml_parity.proofs.Opponents.{no_own_opponent}
 use Rattle.ml_graph.specs.declared.node.Node.{Node}
 use Rattle.ml_graph.specs.declared.node.Node.TheVariants as node
 use Rattle.ml_graph.specs.Graph.{Graph, IsGraph, size, node_at, priority_at, action_at}
-use Rattle.ml_graph.specs.CheckingGame.{Vertex, Pair, Sink, mover, vertex_number, successors, successors_of, pairs_or_sink, targets, checking_game}
-use Rattle.ml_graph.proofs.CheckingGame.{IsVertex, owner_is, priority_is}
+use Rattle.ml_graph.specs.CheckingGame.{Vertex, Pair, mover, vertex_number, successors, successors_of, pairs_or_sink, targets, checking_game}
+use Rattle.ml_graph.proofs.CheckingGame.{owner_is, priority_is}
 use Rattle.ml_graph.proofs.OneStep.{vertex_low}
 use Rattle.ml_pdl.specs.Formula.{Formula, Const, Prop, Not, Binary, Modal, Repeat, Program, Act, Seq, Alt, Star, Test, occurrences, program_occurrences}
 use Rattle.ml_pdl.specs.Meaning.{Relation, identity, either, followed_by, has_edge, meaning, relation}
 use Rattle.ml_pdl_graph.specs.PdlGraph.{positive, negative, plain, ProgramStandsAt}
-use Rattle.ml_pdl_graph.proofs.Players.{player_of, node_of, own_by, other_by, go_by, own_mover, other_mover, go_mover, own_children, other_children, node_range, into, run_of, at, WinsAt, Tells, move_to, move_from, never_both}
+use Rattle.ml_pdl_graph.proofs.Players.{player_of, node_of, own_by, other_by, go_by, own_mover, other_mover, go_mover, own_children, other_children, node_range, run_of, at, WinsAt, Tells, move_to, move_from, never_both}
 
 abbrev pub star_priority : Bool → ℕ
 star_priority true = 3
