@@ -4,6 +4,8 @@ pub mod Formula
 pub mod Meaning
 -- problems
 pub mod Problem
+-- stars and infinite repetitions without iterates
+pub mod Laws
 -- which words are propositions and actions
 pub mod Spelling
 -- the signs of texts

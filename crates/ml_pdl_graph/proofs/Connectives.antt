@@ -1,6 +1,5 @@
 -- The nodes of formulas, by their operands.
 --
---   meaning_flags   == a meaning has a flag for each state
 --   Both            == a formula is shown at its node of either sign
 --   both_const, both_prop, both_not, both_and, both_or, both_implies, both_iff, both_modal, both_repeat == each case
 use Rattle.std.proofs.Common.{◌≡◌, ℕ, zero, suc, ◌+◌, ◌*◌, ◌<◌, ◌≤◌, Bool, true, false, ◌&&◌, ◌||◌, not, List, [], ◌∷◌, length, refl, sym, ap, subst, ◌∙◌, arith}
@@ -15,25 +14,16 @@ use Rattle.ml_text.specs.declared.token.Operator.TheVariants as operator
 use Rattle.ml_pdl.specs.Formula.{Formula, Const, Prop, Not, Binary, Modal, Repeat, Program, Diamond, Square, occurrences, program_occurrences}
 use Rattle.ml_pdl.specs.Meaning.{Relation, truth_of, some_run, every_run, modal, meaning, relation}
 use Rattle.ml_pdl_graph.specs.PdlGraph.{positive, negative, StandsAt}
-use Rattle.ml_pdl_graph.proofs.Players.{player_of, node_of, own_by, other_by, node_range, into, Tells, tells_turned, tells_own, tells_other_by, tells_leads, tells_constant, tells_negated_constant, tells_literal, tells_negated_literal}
+use Rattle.ml_pdl_graph.proofs.Players.{player_of, node_of, own_by, other_by, node_range, Tells, tells_turned, tells_own, tells_other_by, tells_leads, tells_constant, tells_negated_constant, tells_literal, tells_negated_literal}
 use Rattle.ml_pdl_graph.proofs.Runs.{Runs, Shown, Tests, runs_of, turn, some_occurrence}
 use Rattle.ml_pdl_graph.proofs.Programs.{program_told, repeat_told}
-use Rattle.ml_pdl_graph.proofs.StarRelations.{member_where}
+use Rattle.ml_pdl.proofs.MeaningFlags.{meaning_flags}
+use Rattle.ml_pdl.proofs.RunsInto.{into}
+use Rattle.ml_pdl.proofs.StarRelations.{member_where}
 
-iterate_flags : (m : Structure) (r : Relation) (k : ℕ) → length (iterate k (modal m Diamond r) (everywhere m)) ≡ m.states
-iterate_flags m r zero = length-replicate m.states true
-iterate_flags m r (suc k) = length-map-range_with_len (some_run m r (iterate k (modal m Diamond r) (everywhere m))) 0 m.states
-
-pub meaning_flags : (m : Structure) (f : Formula) → length (meaning m f) ≡ m.states
-meaning_flags m (Const b) = length-map-range_with_len (λ s. b) 0 m.states
-meaning_flags m (Prop p) = length-map-range_with_len (λ s. lists m s p) 0 m.states
-meaning_flags m (Not f) = length-map (meaning m f) not ∙ meaning_flags m f
-meaning_flags m (Binary op f h) = length-map-range_with_len (λ s. truth_of op (is_member (meaning m f) s) (is_member (meaning m h) s)) 0 m.states
-meaning_flags m (Modal Diamond p f) = length-map-range_with_len (some_run m (relation m p) (meaning m f)) 0 m.states
-meaning_flags m (Modal Square p f) = length-map-range_with_len (every_run m (relation m p) (meaning m f)) 0 m.states
-meaning_flags m (Repeat p) = iterate_flags m (relation m p) m.states
-
-member_not : (m : Structure) (f : Formula) (s : ℕ) → s < m.states → is_member (meaning m (Not f)) s ≡ not (is_member (meaning m f) s)
+member_not : (m : Structure) (f : Formula) (s : ℕ)
+    → s < m.states
+    → is_member (meaning m (Not f)) s ≡ not (is_member (meaning m f) s)
 member_not m f s low = get_or-map not (meaning m f) s false false (omega (arith, meaning_flags m f, low))
 
 not_not : (b : Bool) → not (not b) ≡ b
@@ -61,7 +51,8 @@ not_or true b = refl
 not_or false b = refl
 
 -- no run leads out of the set exactly if every run leads into it
-every_is : (r v : ℕ → Bool) (ts : List ℕ) → not (list_any (λ t. r t && not (v t)) ts) ≡ list_all (λ t. not (r t) || v t) ts
+every_is : (r v : ℕ → Bool) (ts : List ℕ)
+    → not (list_any (λ t. r t && not (v t)) ts) ≡ list_all (λ t. not (r t) || v t) ts
 every_is r v [] = refl
 every_is r v (t ∷ ts) =
     not_or (r t && not (v t)) (list_any (λ u. r u && not (v u)) ts)
@@ -110,13 +101,25 @@ module _ (g : Graph) (m : Structure) (g_ok : IsGraph g) (m_ok : IsStructure m) w
     leads : (t : ℕ) (b : Bool) → node_at g (node_of e i) ≡ node.And t t → TellsAt e s t b → TellsAt e s (node_of e i) b
     leads t b is x = tells_leads g m g_ok m_ok s (node_of e i) s_low (low_of e i n some room) e t b is x
 
-    own : (l r : ℕ) (a b : Bool) → node_at g (node_of e i) ≡ own_by e l r → TellsAt e s l a → TellsAt e s r b → TellsAt e s (node_of e i) (a || b)
+    own : (l r : ℕ) (a b : Bool)
+        → node_at g (node_of e i) ≡ own_by e l r
+        → TellsAt e s l a
+        → TellsAt e s r b
+        → TellsAt e s (node_of e i) (a || b)
     own l r a b is x y = tells_own g m g_ok m_ok s (node_of e i) s_low (low_of e i n some room) e l r a b is x y
 
-    other : (l r : ℕ) (a b : Bool) → node_at g (node_of e i) ≡ other_by e l r → TellsAt e s l a → TellsAt e s r b → TellsAt e s (node_of e i) (a && b)
+    other : (l r : ℕ) (a b : Bool)
+        → node_at g (node_of e i) ≡ other_by e l r
+        → TellsAt e s l a
+        → TellsAt e s r b
+        → TellsAt e s (node_of e i) (a && b)
     other l r a b is x y = tells_other_by g m g_ok m_ok s (node_of e i) s_low (low_of e i n some room) e l r a b is x y
 
-  pub both_not : (f : Formula) (i : ℕ) → StandsAt g i (Not f) → 2 * (i + occurrences (Not f)) ≤ size g → Both (i + 1) f → Both i (Not f)
+  pub both_not : (f : Formula) (i : ℕ)
+      → StandsAt g i (Not f)
+      → 2 * (i + occurrences (Not f)) ≤ size g
+      → Both (i + 1) f
+      → Both i (Not f)
   both_not f i w room x e s s_low =
       same e s (node_of e i) (not (is_member (meaning m f) s)) (is_member (meaning m (Not f)) s) (sym (member_not m f s s_low))
       (leads e i (1 + occurrences f) s s_low room (omega arith) (node_of (not e) (i + 1)) (not (is_member (meaning m f) s)) (by_sign e)
@@ -126,18 +129,23 @@ module _ (g : Graph) (m : Structure) (g_ok : IsGraph g) (m_ok : IsStructure m) w
       by_sign true = w.0.0
       by_sign false = w.1.0
 
-  pub both_and : (f h : Formula) (i : ℕ) → StandsAt g i (Binary operator.And f h) → 2 * (i + occurrences (Binary operator.And f h)) ≤ size g
+  pub both_and : (f h : Formula) (i : ℕ)
+      → StandsAt g i (Binary operator.And f h)
+      → 2 * (i + occurrences (Binary operator.And f h)) ≤ size g
       → Both (i + 1) f → Both (i + 1 + occurrences f) h → Both i (Binary operator.And f h)
   both_and f h i w room x y e s s_low =
       same e s (node_of e i) _ (is_member (meaning m (Binary operator.And f h)) s) (sym (member_where m _ s s_low))
       (other e i (1 + occurrences f + occurrences h) s s_low room (omega arith) (node_of e (i + 1)) (node_of e (i + 1 + occurrences f)) (is_member (meaning m f) s) (is_member (meaning m h) s) (by_sign e)
       (x e s s_low) (y e s s_low))
     where
-      by_sign : (d : Bool) → node_at g (node_of d i) ≡ other_by d (node_of d (i + 1)) (node_of d (i + 1 + occurrences f))
+      by_sign : (d : Bool)
+          → node_at g (node_of d i) ≡ other_by d (node_of d (i + 1)) (node_of d (i + 1 + occurrences f))
       by_sign true = w.0.0
       by_sign false = w.1.0
 
-  pub both_or : (f h : Formula) (i : ℕ) → StandsAt g i (Binary operator.Or f h) → 2 * (i + occurrences (Binary operator.Or f h)) ≤ size g
+  pub both_or : (f h : Formula) (i : ℕ)
+      → StandsAt g i (Binary operator.Or f h)
+      → 2 * (i + occurrences (Binary operator.Or f h)) ≤ size g
       → Both (i + 1) f → Both (i + 1 + occurrences f) h → Both i (Binary operator.Or f h)
   both_or f h i w room x y e s s_low =
       same e s (node_of e i) _ (is_member (meaning m (Binary operator.Or f h)) s) (sym (member_where m _ s s_low))
@@ -148,18 +156,23 @@ module _ (g : Graph) (m : Structure) (g_ok : IsGraph g) (m_ok : IsStructure m) w
       by_sign true = w.0.0
       by_sign false = w.1.0
 
-  pub both_implies : (f h : Formula) (i : ℕ) → StandsAt g i (Binary operator.Implies f h) → 2 * (i + occurrences (Binary operator.Implies f h)) ≤ size g
+  pub both_implies : (f h : Formula) (i : ℕ)
+      → StandsAt g i (Binary operator.Implies f h)
+      → 2 * (i + occurrences (Binary operator.Implies f h)) ≤ size g
       → Both (i + 1) f → Both (i + 1 + occurrences f) h → Both i (Binary operator.Implies f h)
   both_implies f h i w room x y e s s_low =
       same e s (node_of e i) _ (is_member (meaning m (Binary operator.Implies f h)) s) (sym (member_where m _ s s_low))
       (own e i (1 + occurrences f + occurrences h) s s_low room (omega arith) (node_of (not e) (i + 1)) (node_of e (i + 1 + occurrences f)) (not (is_member (meaning m f) s)) (is_member (meaning m h) s) (by_sign e)
       (denied f (i + 1) (omega (arith, room)) x e s s_low) (y e s s_low))
     where
-      by_sign : (d : Bool) → node_at g (node_of d i) ≡ own_by d (node_of (not d) (i + 1)) (node_of d (i + 1 + occurrences f))
+      by_sign : (d : Bool)
+          → node_at g (node_of d i) ≡ own_by d (node_of (not d) (i + 1)) (node_of d (i + 1 + occurrences f))
       by_sign true = w.0.0
       by_sign false = w.1.0
 
-  pub both_iff : (f h : Formula) (i : ℕ) → StandsAt g i (Binary operator.Iff f h) → 2 * (i + occurrences (Binary operator.Iff f h)) ≤ size g
+  pub both_iff : (f h : Formula) (i : ℕ)
+      → StandsAt g i (Binary operator.Iff f h)
+      → 2 * (i + occurrences (Binary operator.Iff f h)) ≤ size g
       → Both (i + 3) f → Both (i + 3 + occurrences f) h → Both i (Binary operator.Iff f h)
   both_iff f h i w room x y true s s_low =
       let a : Bool = is_member (meaning m f) s in let b : Bool = is_member (meaning m h) s in
@@ -187,7 +200,9 @@ module _ (g : Graph) (m : Structure) (g_ok : IsGraph g) (m_ok : IsStructure m) w
   continues_turned true r = refl
   continues_turned false r = refl
 
-  pub both_diamond : (p : Program) (f : Formula) (i : ℕ) → StandsAt g i (Modal Diamond p f) → 2 * (i + occurrences (Modal Diamond p f)) ≤ size g
+  pub both_diamond : (p : Program) (f : Formula) (i : ℕ)
+      → StandsAt g i (Modal Diamond p f)
+      → 2 * (i + occurrences (Modal Diamond p f)) ≤ size g
       → ((e : Bool) → Tests g m g_ok m_ok e (i + 1) p) → Both (i + 1 + program_occurrences p) f → Both i (Modal Diamond p f)
   both_diamond p f i w room tests x e s s_low =
       let r : ℕ = i + 1 + program_occurrences p in
@@ -203,7 +218,9 @@ module _ (g : Graph) (m : Structure) (g_ok : IsGraph g) (m_ok : IsStructure m) w
       by_sign false = w.1.0
 
   -- a box is what its negation's diamond denies
-  pub both_square : (p : Program) (f : Formula) (i : ℕ) → StandsAt g i (Modal Square p f) → 2 * (i + occurrences (Modal Square p f)) ≤ size g
+  pub both_square : (p : Program) (f : Formula) (i : ℕ)
+      → StandsAt g i (Modal Square p f)
+      → 2 * (i + occurrences (Modal Square p f)) ≤ size g
       → ((e : Bool) → Tests g m g_ok m_ok e (i + 1) p) → Both (i + 1 + program_occurrences p) f → Both i (Modal Square p f)
   both_square p f i w room tests x e s s_low =
       same e s (node_of e i) (not (into m (relation m p) out s)) (is_member (meaning m (Modal Square p f)) s)

@@ -4,8 +4,6 @@ pub mod EndlessWalks
 pub mod Players
 -- runs of programs as walks
 pub mod Runs
--- stars and repetitions as fixpoints
-pub mod StarRelations
 -- where no run leads
 pub mod NoRuns
 -- programs and infinite repetition

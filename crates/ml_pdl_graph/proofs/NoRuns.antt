@@ -32,10 +32,11 @@ use Rattle.ml_graph.proofs.CheckingGame.{IsVertex, leads_to_vertices, moves_are,
 use Rattle.ml_graph.proofs.OneStep.{vertex_low}
 use Rattle.ml_pdl.specs.Formula.{Formula, Program, Act, Seq, Alt, Star, Test, occurrences, program_occurrences}
 use Rattle.ml_pdl.specs.Meaning.{has_edge, meaning, relation}
+use Rattle.ml_pdl.proofs.RunsInto.{equal_number, into, of_run, no_run, never_run}
+use Rattle.ml_pdl.proofs.StarRelations.{star_stays, star_first}
 use Rattle.ml_pdl_graph.proofs.EndlessWalks.{Onward, never_for_ever}
-use Rattle.ml_pdl_graph.proofs.Players.{player_of, node_of, own_by, other_by, go_by, own_mover, other_mover, go_mover, own_children, other_children, node_range, into, of_run, no_run, never_run, at, WinsAt, Tells, move_to, move_from, never_both, tells_other}
+use Rattle.ml_pdl_graph.proofs.Players.{player_of, node_of, own_by, other_by, go_by, own_mover, other_mover, go_mover, own_children, other_children, node_range, at, WinsAt, Tells, move_to, move_from, never_both, tells_other}
 use Rattle.ml_pdl_graph.proofs.Runs.{star_priority, Runs, Tests, some_occurrence}
-use Rattle.ml_pdl_graph.proofs.StarRelations.{star_stays, star_first}
 
 -- the first node of a program, where no run leads into the set
 abbrev pub Start : Structure → Bool → Program → ℕ → (ℕ → Bool) → ℕ → ℕ → Type 0
@@ -52,7 +53,9 @@ Unmet m e (Star p) i K s n =
     Start m e (Star p) i K s n ⊎ Unmet m e p (i + 1) (into m (relation m (Star p)) K) s n
 Unmet m e (Test f) i K s n = Start m e (Test f) i K s n
 
-pub start_unmet : (m : Structure) (e : Bool) (p : Program) (i : ℕ) (K : ℕ → Bool) (s : ℕ) → into m (relation m p) K s ≡ false → Unmet m e p i K s (node_of e i)
+pub start_unmet : (m : Structure) (e : Bool) (p : Program) (i : ℕ) (K : ℕ → Bool) (s : ℕ)
+    → into m (relation m p) K s ≡ false
+    → Unmet m e p i K s (node_of e i)
 start_unmet m e (Act name) i K s never = (refl, never)
 start_unmet m e (Seq p q) i K s never = inl (refl, never)
 start_unmet m e (Alt p q) i K s never = inl (refl, never)
@@ -67,9 +70,6 @@ three true true false x y z = absurd (false≢true z)
 three true false c x y z = absurd (false≢true y)
 three false b c x y z = absurd (false≢true x)
 
-equal_number : (t : ℕ) → (t == t) ≡ true
-equal_number t = grind (arith, nat_tests)
-
 target_edge : (m : Structure) (a : List ℕ) (s t : ℕ) → IsMember t (targets m s a) → has_edge m a s t ≡ true
 target_edge m a s t h =
     let image = member-map_from (λ (d : Edge). d.target) t _ h in
@@ -80,7 +80,9 @@ target_edge m a s t h =
     (subst (λ x. (image.from.target == x) ≡ true) (sym image.holds) (equal_number image.from.target)))
 
 module _ (m : Structure) (K : ℕ → Bool) (s : ℕ) (s_low : s < m.states) where
-  seq_unmet : (p q : Program) → into m (relation m (Seq p q)) K s ≡ false → into m (relation m p) (into m (relation m q) K) s ≡ false
+  seq_unmet : (p q : Program)
+      → into m (relation m (Seq p q)) K s ≡ false
+      → into m (relation m p) (into m (relation m q) K) s ≡ false
   seq_unmet p q never = never_run m (relation m p) (into m (relation m q) K) s
       (λ u u_low run inside. absurd (false≢true (sym (none u u_low run) ∙ inside)))
     where
@@ -100,7 +102,9 @@ module _ (m : Structure) (K : ℕ → Bool) (s : ℕ) (s_low : s < m.states) whe
   here_unmet : (p : Program) → into m (relation m (Star p)) K s ≡ false → K s ≡ false
   here_unmet p never = no_run m (relation m (Star p)) K s never s s_low (star_stays m p s)
 
-  round_unmet : (p : Program) → into m (relation m (Star p)) K s ≡ false → into m (relation m p) (into m (relation m (Star p)) K) s ≡ false
+  round_unmet : (p : Program)
+      → into m (relation m (Star p)) K s ≡ false
+      → into m (relation m p) (into m (relation m (Star p)) K) s ≡ false
   round_unmet p never = never_run m (relation m p) (into m (relation m (Star p)) K) s
       (λ u u_low run inside. absurd (false≢true (sym (none u u_low run) ∙ inside)))
     where
@@ -143,7 +147,10 @@ module _ (g : Graph) (m : Structure) (g_ok : IsGraph g) (m_ok : IsStructure m) (
   to_pair P n t k t_low h = inl (record { state = t; node = k; is = refl; low = t_low; allowed = h })
 
   -- at nodes of each kind
-  leads_trapped : (P : ℕ → ℕ → ℕ → Type 0) (s n t : ℕ) → node_at g n ≡ node.And t t → Going P n (Pair s t) → Trapped P s n
+  leads_trapped : (P : ℕ → ℕ → ℕ → Type 0) (s n t : ℕ)
+      → node_at g n ≡ node.And t t
+      → Going P n (Pair s t)
+      → Trapped P s n
   leads_trapped P s n t is goes = by_sign e refl
     where
       by_sign : (d : Bool) → d ≡ e → Trapped P s n
@@ -158,7 +165,11 @@ module _ (g : Graph) (m : Structure) (g_ok : IsGraph g) (m_ok : IsStructure m) (
           from u (inr (inl one)) = subst (Going P n) (sym one) goes
           from u (inr (inr none)) = absurd none
 
-  own_trapped : (P : ℕ → ℕ → ℕ → Type 0) (s n l r : ℕ) → node_at g n ≡ own_by e l r → Going P n (Pair s l) → Going P n (Pair s r) → Trapped P s n
+  own_trapped : (P : ℕ → ℕ → ℕ → Type 0) (s n l r : ℕ)
+      → node_at g n ≡ own_by e l r
+      → Going P n (Pair s l)
+      → Going P n (Pair s r)
+      → Trapped P s n
   own_trapped P s n l r is a b =
       inl (ap mover is ∙ own_mover e l r, λ u h. from u (subst (IsMember u) (ap (successors_of g m s) is ∙ own_children g m s e l r) h))
     where
@@ -167,7 +178,12 @@ module _ (g : Graph) (m : Structure) (g_ok : IsGraph g) (m_ok : IsStructure m) (
       from u (inr (inl one)) = subst (Going P n) (sym one) b
       from u (inr (inr none)) = absurd none
 
-  other_trapped : (P : ℕ → ℕ → ℕ → Type 0) (s n l r : ℕ) → node_at g n ≡ other_by e l r → (u : Vertex) → IsMember u (Pair s l ∷ Pair s r ∷ []) → Going P n u → Trapped P s n
+  other_trapped : (P : ℕ → ℕ → ℕ → Type 0) (s n l r : ℕ)
+      → node_at g n ≡ other_by e l r
+      → (u : Vertex)
+      → IsMember u (Pair s l ∷ Pair s r ∷ [])
+      → Going P n u
+      → Trapped P s n
   other_trapped P s n l r is u h goes =
       inr (ap mover is ∙ other_mover e l r, record { to = u; member = subst (IsMember u) (sym (ap (successors_of g m s) is ∙ other_children g m s e l r)) h; goes = goes })
 
@@ -190,7 +206,8 @@ module _ (g : Graph) (m : Structure) (g_ok : IsGraph g) (m_ok : IsStructure m) (
       (vertex_low g m g_ok m_ok (Sink (sink_for e)) (sink_low e)) (moves_are g m (Sink (sink_for e)) (sink_low e))).1
       (sink_side e ∙ ap side (sym (priority_is g m (Sink (sink_for e)) (sink_low e))))
 
-  go_children : (d : Bool) (s a k : ℕ) → successors_of g m s (go_by d a k) ≡ pairs_or_sink k (sink_for d) (targets m s (action_at g a))
+  go_children : (d : Bool) (s a k : ℕ)
+      → successors_of g m s (go_by d a k) ≡ pairs_or_sink k (sink_for d) (targets m s (action_at g a))
   go_children true s a k = refl
   go_children false s a k = refl
 
@@ -218,7 +235,9 @@ module _ (g : Graph) (m : Structure) (g_ok : IsGraph g) (m_ok : IsStructure m) (
 
   -- ---- unmet nodes are trapped
 
-  pub trapped : (p : Program) (i k : ℕ) (K : ℕ → Bool) (P : ℕ → ℕ → ℕ → Type 0) → Runs g e i k p → Tests g m g_ok m_ok e i p
+  pub trapped : (p : Program) (i k : ℕ) (K : ℕ → Bool) (P : ℕ → ℕ → ℕ → Type 0)
+      → Runs g e i k p
+      → Tests g m g_ok m_ok e i p
       → 2 * (i + program_occurrences p) ≤ size g
       → ((n t x : ℕ) → Unmet m e p i K t x → (n < x) ⊎ (priority_at g x ≡ star_priority e) → P n t x)
       → ((n t : ℕ) → n < 2 * (i + program_occurrences p) → t < m.states → K t ≡ false → P n t k)
@@ -297,7 +316,11 @@ module _ (g : Graph) (m : Structure) (g_ok : IsGraph g) (m_ok : IsStructure m) (
   low_star true = omega arith
   low_star false = omega arith
 
-  unmet_priority : (p : Program) (i k : ℕ) (K : ℕ → Bool) → Runs g e i k p → (s n : ℕ) → Unmet m e p i K s n → star_priority e ≤ priority_at g n
+  unmet_priority : (p : Program) (i k : ℕ) (K : ℕ → Bool)
+      → Runs g e i k p
+      → (s n : ℕ)
+      → Unmet m e p i K s n
+      → star_priority e ≤ priority_at g n
   unmet_priority (Act name) i k K w s n (same, never) = let low = low_star e in omega (arith, ap (priority_at g) same, w.2, low)
   unmet_priority (Seq p q) i k K w s n (inl (same, never)) = let low = low_star e in omega (arith, ap (priority_at g) same, w.1, low)
   unmet_priority (Seq p q) i k K w s n (inr (inl h)) = unmet_priority p (i + 1) (node_of e (i + 1 + program_occurrences p)) (into m (relation m q) K) w.2 s n h
@@ -356,7 +379,8 @@ module _ (g : Graph) (m : Structure) (g_ok : IsGraph g) (m_ok : IsStructure m) (
       meets : (min j k ≡ bad) → (node_in v < node_in x) ⊎ ((priority_of (checking_game g m) x ≡ bad) ⊎ (min j k ≡ bad))
       meets is = inr (inr is)
 
-      by_second : node_in v < node_in w → (node_in w < node_in x) ⊎ ((priority_of (checking_game g m) x ≡ bad) ⊎ (k ≡ bad))
+      by_second : node_in v < node_in w
+          → (node_in w < node_in x) ⊎ ((priority_of (checking_game g m) x ≡ bad) ⊎ (k ≡ bad))
           → (node_in v < node_in x) ⊎ ((priority_of (checking_game g m) x ≡ bad) ⊎ (min j k ≡ bad))
       by_second less (inl more) = inl (omega (arith, less, more))
       by_second less (inr (inl star)) = inr (inl star)
@@ -378,7 +402,8 @@ module _ (g : Graph) (m : Structure) (g_ok : IsGraph g) (m_ok : IsStructure m) (
       is_bad : k ≡ bad → side k ≡ opponent (player_of e)
       is_bad is = ap side is ∙ bad_side e
 
-      from : (node_in v < node_in v) ⊎ ((priority_of (checking_game g m) v ≡ bad) ⊎ (k ≡ bad)) → side k ≡ opponent (player_of e)
+      from : (node_in v < node_in v) ⊎ ((priority_of (checking_game g m) v ≡ bad) ⊎ (k ≡ bad))
+          → side k ≡ opponent (player_of e)
       from (inl less) = absurd (omega (arith, less))
       from (inr (inl star)) = is_bad (omega (arith, star, a.first, a.high))
       from (inr (inr is)) = is_bad is
@@ -413,14 +438,18 @@ module _ (g : Graph) (m : Structure) (g_ok : IsGraph g) (m_ok : IsStructure m) (
     abbrev Next : Stuck → Type 0
     Next x = Onward (checking_game g m) (player_of e) strategy Known Stuck vertex x
 
-    never_theirs : (x : Stuck) (v : Vertex) → IsVertex g m v → FollowedMove (checking_game g m) (player_of e) strategy (vertex x) (vertex_number g m v)
+    never_theirs : (x : Stuck) (v : Vertex)
+        → IsVertex g m v
+        → FollowedMove (checking_game g m) (player_of e) strategy (vertex x) (vertex_number g m v)
         → Wins (checking_game g m) them (vertex_number g m v) → ⊥
     never_theirs x v is move theirs =
         let mine : Wins (checking_game g m) (player_of e) (vertex_number g m v) =
         record { strategy = strategy; is_strategy = is_strategy; wins = won_behind (checking_game g m) (player_of e) strategy (vertex x) (vertex_number g m v) move x.wins } in
         never_both g m g_ok m_ok (player_of e) v is mine theirs
 
-    onward : (x : Stuck) (t y : ℕ) → t < m.states → FollowedMove (checking_game g m) (player_of e) strategy (vertex x) (place t y)
+    onward : (x : Stuck) (t y : ℕ)
+        → t < m.states
+        → FollowedMove (checking_game g m) (player_of e) strategy (vertex x) (place t y)
         → Unmet m e p i K t y → (x.node < y) ⊎ (priority_at g y ≡ bad) → Next x
     onward x t y t_low move unmet order = record {
       to = record { state = t; node = y; low = t_low; unmet = unmet; wins = won_behind (checking_game g m) (player_of e) strategy (vertex x) (place t y) move x.wins };
@@ -446,7 +475,9 @@ module _ (g : Graph) (m : Structure) (g_ok : IsGraph g) (m_ok : IsStructure m) (
         by_order (inl less) = inl (omega (arith, less, node_in_is x.state x.node here.0 here.1, node_in_is t y there.0 there.1))
         by_order (inr star) = inr (inl (priority_is g m (Pair t y) there ∙ star))
 
-    by_going : (x : Stuck) (u : Vertex) → IsVertex g m u → FollowedMove (checking_game g m) (player_of e) strategy (vertex x) (vertex_number g m u)
+    by_going : (x : Stuck) (u : Vertex)
+        → IsVertex g m u
+        → FollowedMove (checking_game g m) (player_of e) strategy (vertex x) (vertex_number g m u)
         → Going Allowed x.node u → Next x
     by_going x u is move (inr theirs) = absurd (never_theirs x u is move theirs)
     by_going x u is move (inl a) = by_allowed a.allowed
@@ -480,7 +511,11 @@ module _ (g : Graph) (m : Structure) (g_ok : IsGraph g) (m_ok : IsStructure m) (
             })
             some.goes
 
-    pub stuck_lost : (s n : ℕ) → s < m.states → Unmet m e p i K s n → WinsFrom (checking_game g m) (player_of e) strategy (place s n) → ⊥
+    pub stuck_lost : (s n : ℕ)
+        → s < m.states
+        → Unmet m e p i K s n
+        → WinsFrom (checking_game g m) (player_of e) strategy (place s n)
+        → ⊥
     stuck_lost s n s_low unmet wins =
         never_for_ever (checking_game g m) (player_of e) strategy Known Stuck vertex
         (λ x. vertex_low g m g_ok m_ok (Pair x.state x.node) (is_vertex x.state x.node x.low x.unmet))
@@ -488,7 +523,10 @@ module _ (g : Graph) (m : Structure) (g_ok : IsGraph g) (m_ok : IsStructure m) (
         (record { state = s; node = n; low = s_low; unmet = unmet; wins = wins }) wins
 
   -- where no run of a program leads into the set at which the continuation is won, the player doesn't win
-  pub unmet_lost : (p : Program) (i k : ℕ) (K : ℕ → Bool) → Runs g e i k p → Tests g m g_ok m_ok e i p → 2 * (i + program_occurrences p) ≤ size g
+  pub unmet_lost : (p : Program) (i k : ℕ) (K : ℕ → Bool)
+      → Runs g e i k p
+      → Tests g m g_ok m_ok e i p
+      → 2 * (i + program_occurrences p) ≤ size g
       → ((t : ℕ) → t < m.states → Tells g m g_ok m_ok (player_of e) t k (K t)) → k < size g
       → (s : ℕ) → s < m.states → into m (relation m p) K s ≡ false → WinsAt g m g_ok m_ok (player_of e) s (node_of e i) → ⊥
   unmet_lost p i k K w tests room known k_low s s_low never a =

@@ -8,16 +8,13 @@
 --   player_of e            == that player; node_of e i the node of occurrence i
 --   own_by, other_by, go_by == with the two children, the node at which that player moves, and that at which the opponent
 --                             does; the node at which the player takes an edge
---   into m r K s           == is s related by r to some state of K?
 --   Tells g m q s n b      == q wins the node n at the state s exactly if b is true
 --   tells_other            == the opponent wins it exactly if b is false
---   tells_leads, tells_own, tells_other_by, tells_go, tells_literal, tells_constant == at a node of each kind
+--   tells_leads, tells_own, tells_other_by, tells_literal, tells_constant == at a node of each kind
 use Rattle.std.proofs.Common.{◌≡◌, ◌↔◌, ℕ, zero, suc, ◌+◌, ◌*◌, ◌<◌, ◌≤◌, ◌⊎◌, Bool, true, false, ◌&&◌, ◌||◌, not, [], ◌∷◌, map, Contains, inl, inr, refl, sym, ap, subst, ◌∙◌, ⊎_elim, arith}
-use Rattle.std.specs.List.{list_any, range_with_len}
 use Rattle.std.proofs.lemmas.Bool.{false≢true, and_parts, and_from, cases_Bool}
-use Rattle.std.proofs.lemmas.List.FromFn.{length-range_with_len, get_or-range_with_len}
 use Rattle.ml_lists.specs.Member.{IsMember}
-use Rattle.ml_lists.proofs.Member.{Image, member-map, member-map_from, list_any-member, member-list_any, place-member}
+use Rattle.ml_lists.proofs.Member.{Image, member-map, member-map_from}
 use Rattle.ml_lists.proofs.Members.{member_of_contains, contains_of_member}
 use Rattle.ml_base.specs.Structure.{Structure, IsStructure, lists}
 use Rattle.ml_parity.specs.declared.players.Player.{Player}
@@ -34,7 +31,6 @@ use Rattle.ml_graph.specs.CheckingGame.{Vertex, Pair, mover, vertex_number, succ
 use Rattle.ml_graph.proofs.CheckingGame.{IsVertex, owner_is, moves_are, is_game}
 use Rattle.ml_graph.proofs.OneStep.{vertex_low, one_step}
 use Rattle.ml_graph.specs.Laws.{NodeHolds}
-use Rattle.ml_pdl.specs.Meaning.{Relation}
 use Rattle.ml_pdl_graph.specs.PdlGraph.{positive, negative, constant}
 
 abbrev pub player_of : Bool → Player
@@ -69,11 +65,13 @@ pub go_mover : (e : Bool) (a to : ℕ) → mover (go_by e a to) ≡ player_of e
 go_mover true a to = refl
 go_mover false a to = refl
 
-pub own_children : (g : Graph) (m : Structure) (s : ℕ) (e : Bool) (l r : ℕ) → successors_of g m s (own_by e l r) ≡ Pair s l ∷ Pair s r ∷ []
+pub own_children : (g : Graph) (m : Structure) (s : ℕ) (e : Bool) (l r : ℕ)
+    → successors_of g m s (own_by e l r) ≡ Pair s l ∷ Pair s r ∷ []
 own_children g m s true l r = refl
 own_children g m s false l r = refl
 
-pub other_children : (g : Graph) (m : Structure) (s : ℕ) (e : Bool) (l r : ℕ) → successors_of g m s (other_by e l r) ≡ Pair s l ∷ Pair s r ∷ []
+pub other_children : (g : Graph) (m : Structure) (s : ℕ) (e : Bool) (l r : ℕ)
+    → successors_of g m s (other_by e l r) ≡ Pair s l ∷ Pair s r ∷ []
 other_children g m s true l r = refl
 other_children g m s false l r = refl
 
@@ -84,54 +82,6 @@ node_range false i = (omega arith, omega arith)
 pub other_player : (e : Bool) → player_of (not e) ≡ opponent (player_of e)
 other_player true = refl
 other_player false = refl
-
--- ---- runs into a set
-
-abbrev pub into : Structure → Relation → (ℕ → Bool) → ℕ → Bool
-into m r K s = list_any (λ t. r s t && K t) (range_with_len 0 m.states)
-
-pub record RunInto (m : Structure) (r : Relation) (K : ℕ → Bool) (s : ℕ) : Type 0 where
-  pub state : ℕ
-  pub low : state < m.states
-  pub run : r s state ≡ true
-  pub inside : K state ≡ true
-
-in_range : (n a k : ℕ) → IsMember k (range_with_len a n) → k < a + n
-in_range zero a k h = absurd h
-in_range (suc n) a k (inl e) = omega (arith, e)
-in_range (suc n) a k (inr h) = let low = in_range n (a + 1) k h in omega (arith, low)
-
-pub state_low : (n k : ℕ) → IsMember k (range_with_len 0 n) → k < n
-state_low n k h = let low = in_range n 0 k h in omega (arith, low)
-
-pub state_member : (n k : ℕ) → k < n → IsMember k (range_with_len 0 n)
-state_member n k low =
-    let is : (0 + k) ≡ k = omega arith in
-    subst (λ x. IsMember x (range_with_len 0 n)) (get_or-range_with_len 0 n k 0 low ∙ is) (place-member (range_with_len 0 n) k 0 (omega (arith, low, length-range_with_len 0 n)))
-
-module _ (m : Structure) (r : Relation) (K : ℕ → Bool) (s : ℕ) where
-  pub run_of : into m r K s ≡ true → RunInto m r K s
-  run_of is =
-      let some = list_any-member (λ t. r s t && K t) (range_with_len 0 m.states) is in
-      let parts = and_parts (r s some.item) (K some.item) some.passes in
-      record { state = some.item; low = state_low m.states some.item some.member; run = parts.0; inside = parts.1 }
-
-  pub of_run : (t : ℕ) → t < m.states → r s t ≡ true → K t ≡ true → into m r K s ≡ true
-  of_run t low run inside = member-list_any (λ u. r s u && K u) t (range_with_len 0 m.states) (state_member m.states t low) (and_from (r s t) (K t) run inside)
-
-  pub no_run : into m r K s ≡ false → (t : ℕ) → t < m.states → r s t ≡ true → K t ≡ false
-  no_run never t low run =
-      ⊎_elim
-      (λ (is : K t ≡ true). absurd (false≢true (sym never ∙ of_run t low run is)))
-      (λ (out : K t ≡ false). out)
-      (cases_Bool (K t))
-
-  pub never_run : ((t : ℕ) → t < m.states → r s t ≡ true → K t ≡ true → ⊥) → into m r K s ≡ false
-  never_run never =
-      ⊎_elim
-      (λ (is : into m r K s ≡ true). let some = run_of is in absurd (never some.state some.low some.run some.inside))
-      (λ (out : into m r K s ≡ false). out)
-      (cases_Bool (into m r K s))
 
 -- ---- who wins
 
@@ -176,14 +126,25 @@ module _ (g : Graph) (m : Structure) (g_ok : IsGraph g) (m_ok : IsStructure m) w
       (member_of_contains x (map (vertex_number g m) (successors g m v))
       (subst (λ ws. Contains ws x) (moves_are g m v is) move))
 
-  pub never_both : (q : Player) (v : Vertex) → IsVertex g m v → Wins (checking_game g m) q (vertex_number g m v) → Wins (checking_game g m) (opponent q) (vertex_number g m v) → ⊥
+  pub never_both : (q : Player) (v : Vertex)
+      → IsVertex g m v
+      → Wins (checking_game g m) q (vertex_number g m v)
+      → Wins (checking_game g m) (opponent q) (vertex_number g m v)
+      → ⊥
   never_both q v is = clash (checking_game g m) (is_game g m g_ok m_ok) q (vertex_number g m v) (vertex_low g m g_ok m_ok v is)
 
-  pub one_of_both : (q : Player) (v : Vertex) → IsVertex g m v → Wins (checking_game g m) q (vertex_number g m v) ⊎ Wins (checking_game g m) (opponent q) (vertex_number g m v)
+  pub one_of_both : (q : Player) (v : Vertex)
+      → IsVertex g m v
+      → Wins (checking_game g m) q (vertex_number g m v) ⊎ Wins (checking_game g m) (opponent q) (vertex_number g m v)
   one_of_both q v is = won_by_either (checking_game g m) (is_game g m g_ok m_ok) q (vertex_number g m v) (vertex_low g m g_ok m_ok v is)
 
   -- the opponent wins exactly where the player doesn't
-  pub tells_other : (q : Player) (s n : ℕ) → s < m.states → n < size g → (b : Bool) → Tells q s n b → Tells (opponent q) s n (not b)
+  pub tells_other : (q : Player) (s n : ℕ)
+      → s < m.states
+      → n < size g
+      → (b : Bool)
+      → Tells q s n b
+      → Tells (opponent q) s n (not b)
   tells_other q s n s_low n_low true says = (
     λ other. absurd (never_both q (Pair s n) (s_low, n_low) (says.1 refl) other),
     λ e. absurd (false≢true e),
@@ -194,11 +155,20 @@ module _ (g : Graph) (m : Structure) (g_ok : IsGraph g) (m_ok : IsStructure m) w
   )
 
   -- with the other sign
-  pub tells_turned : (e : Bool) (s n : ℕ) → s < m.states → n < size g → (b : Bool) → Tells (player_of e) s n b → Tells (player_of (not e)) s n (not b)
+  pub tells_turned : (e : Bool) (s n : ℕ)
+      → s < m.states
+      → n < size g
+      → (b : Bool)
+      → Tells (player_of e) s n b
+      → Tells (player_of (not e)) s n (not b)
   tells_turned e s n s_low n_low b says = subst (λ q. Tells q s n (not b)) (sym (other_player e)) (tells_other (player_of e) s n s_low n_low b says)
 
   module _ (s n : ℕ) (s_low : s < m.states) (n_low : n < size g) where
-    own_won : (q : Player) (x : Node) → node_at g n ≡ x → mover x ≡ q → (l r : ℕ) → successors_of g m s x ≡ Pair s l ∷ Pair s r ∷ []
+    own_won : (q : Player) (x : Node)
+        → node_at g n ≡ x
+        → mover x ≡ q
+        → (l r : ℕ)
+        → successors_of g m s x ≡ Pair s l ∷ Pair s r ∷ []
         → WinsAt q s n ↔ (WinsAt q s l ⊎ WinsAt q s r)
     own_won q x is own l r next = (
       λ a. let good = step.0 a in let image = move_from (Pair s n) (s_low, n_low) good.to good.move in
@@ -216,12 +186,19 @@ module _ (g : Graph) (m : Structure) (g_ok : IsGraph g) (m_ok : IsStructure m) w
         step = own_vertex_won (checking_game g m) (is_game g m g_ok m_ok) q (at s n) (vertex_low g m g_ok m_ok (Pair s n) (s_low, n_low))
             (owner_is g m (Pair s n) (s_low, n_low) ∙ ap mover is ∙ own)
 
-        there : (w : Vertex) → Wins (checking_game g m) q (vertex_number g m w) → IsMember w (Pair s l ∷ Pair s r ∷ []) → WinsAt q s l ⊎ WinsAt q s r
+        there : (w : Vertex)
+            → Wins (checking_game g m) q (vertex_number g m w)
+            → IsMember w (Pair s l ∷ Pair s r ∷ [])
+            → WinsAt q s l ⊎ WinsAt q s r
         there w a (inl e) = inl (subst (λ v. Wins (checking_game g m) q (vertex_number g m v)) e a)
         there w a (inr (inl e)) = inr (subst (λ v. Wins (checking_game g m) q (vertex_number g m v)) e a)
         there w a (inr (inr none)) = absurd none
 
-    other_won : (q : Player) (x : Node) → node_at g n ≡ x → mover x ≡ opponent q → (l r : ℕ) → successors_of g m s x ≡ Pair s l ∷ Pair s r ∷ []
+    other_won : (q : Player) (x : Node)
+        → node_at g n ≡ x
+        → mover x ≡ opponent q
+        → (l r : ℕ)
+        → successors_of g m s x ≡ Pair s l ∷ Pair s r ∷ []
         → WinsAt q s n ↔ (WinsAt q s l × WinsAt q s r)
     other_won q x is own l r next = (
       λ a. (
@@ -239,33 +216,47 @@ module _ (g : Graph) (m : Structure) (g_ok : IsGraph g) (m_ok : IsStructure m) w
         step = other_vertex_won (checking_game g m) (is_game g m g_ok m_ok) q (at s n) (vertex_low g m g_ok m_ok (Pair s n) (s_low, n_low))
             (owner_is g m (Pair s n) (s_low, n_low) ∙ ap mover is ∙ own)
 
-        there : (WinsAt q s l × WinsAt q s r) → (w : Vertex) → IsMember w (Pair s l ∷ Pair s r ∷ []) → Wins (checking_game g m) q (vertex_number g m w)
+        there : (WinsAt q s l × WinsAt q s r)
+            → (w : Vertex)
+            → IsMember w (Pair s l ∷ Pair s r ∷ [])
+            → Wins (checking_game g m) q (vertex_number g m w)
         there h w (inl e) = subst (λ v. Wins (checking_game g m) q (vertex_number g m v)) (sym e) h.0
         there h w (inr (inl e)) = subst (λ v. Wins (checking_game g m) q (vertex_number g m v)) (sym e) h.1
         there h w (inr (inr none)) = absurd none
 
-    pub tells_own : (e : Bool) (l r : ℕ) (a b : Bool) → node_at g n ≡ own_by e l r → Tells (player_of e) s l a → Tells (player_of e) s r b
+    pub tells_own : (e : Bool) (l r : ℕ) (a b : Bool)
+        → node_at g n ≡ own_by e l r
+        → Tells (player_of e) s l a
+        → Tells (player_of e) s r b
         → Tells (player_of e) s n (a || b)
     tells_own e l r a b is x y =
         says_by (WinsAt (player_of e) s n) (WinsAt (player_of e) s l ⊎ WinsAt (player_of e) s r) (a || b)
         (own_won (player_of e) (own_by e l r) is (own_mover e l r) l r (own_children g m s e l r))
         (either_says (WinsAt (player_of e) s l) (WinsAt (player_of e) s r) a b x y)
 
-    pub tells_other_by : (e : Bool) (l r : ℕ) (a b : Bool) → node_at g n ≡ other_by e l r → Tells (player_of e) s l a → Tells (player_of e) s r b
+    pub tells_other_by : (e : Bool) (l r : ℕ) (a b : Bool)
+        → node_at g n ≡ other_by e l r
+        → Tells (player_of e) s l a
+        → Tells (player_of e) s r b
         → Tells (player_of e) s n (a && b)
     tells_other_by e l r a b is x y =
         says_by (WinsAt (player_of e) s n) (WinsAt (player_of e) s l × WinsAt (player_of e) s r) (a && b)
         (other_won (player_of e) (other_by e l r) is (other_mover e l r) l r (other_children g m s e l r))
         (both_say (WinsAt (player_of e) s l) (WinsAt (player_of e) s r) a b x y)
 
-    pub leads_won : (e : Bool) (t : ℕ) → node_at g n ≡ node.And t t → WinsAt (player_of e) s n ↔ WinsAt (player_of e) s t
+    pub leads_won : (e : Bool) (t : ℕ)
+        → node_at g n ≡ node.And t t
+        → WinsAt (player_of e) s n ↔ WinsAt (player_of e) s t
     leads_won true t is =
         let one = other_won Even (node.And t t) is refl t t refl in (λ a. (one.0 a).0, λ a. one.1 (a, a))
     leads_won false t is =
         let one = own_won Odd (node.And t t) is refl t t refl in
         (λ a. ⊎_elim (λ (h : WinsAt Odd s t). h) (λ (h : WinsAt Odd s t). h) (one.0 a), λ a. one.1 (inl a))
 
-    pub tells_leads : (e : Bool) (t : ℕ) (b : Bool) → node_at g n ≡ node.And t t → Tells (player_of e) s t b → Tells (player_of e) s n b
+    pub tells_leads : (e : Bool) (t : ℕ) (b : Bool)
+        → node_at g n ≡ node.And t t
+        → Tells (player_of e) s t b
+        → Tells (player_of e) s n b
     tells_leads e t b is x = says_by (WinsAt (player_of e) s n) (WinsAt (player_of e) s t) b (leads_won e t is) x
 
     holds : (x : Node) → node_at g n ≡ x → HoldsAt g m s n ↔ NodeHolds g m s x
@@ -275,7 +266,9 @@ module _ (g : Graph) (m : Structure) (g_ok : IsGraph g) (m_ok : IsStructure m) w
     even_constant true is = let one = holds node.True is in (λ h. refl, λ e. one.1 tt)
     even_constant false is = let one = holds node.False is in (λ h. absurd (one.0 h), λ e. absurd (false≢true e))
 
-    even_literal : (q : ℕ) (sign : Bool) → node_at g n ≡ node.Lit q sign → HoldsAt g m s n ↔ (lists m s (prop_at g q) ≡ sign)
+    even_literal : (q : ℕ) (sign : Bool)
+        → node_at g n ≡ node.Lit q sign
+        → HoldsAt g m s n ↔ (lists m s (prop_at g q) ≡ sign)
     even_literal q sign is = holds (node.Lit q sign) is
 
     not_not : (b : Bool) → not (not b) ≡ b

@@ -19,11 +19,12 @@ use Rattle.ml_graph.proofs.CheckingGame.{priority_is, is_game}
 use Rattle.ml_graph.proofs.OneStep.{vertex_low}
 use Rattle.ml_pdl.specs.Formula.{Program, Repeat, program_occurrences}
 use Rattle.ml_pdl.specs.Meaning.{meaning, relation}
+use Rattle.ml_pdl.proofs.RunsInto.{into, run_of}
+use Rattle.ml_pdl.proofs.StarRelations.{repeat_goes_on, repeat_has}
 use Rattle.ml_pdl_graph.proofs.EndlessWalks.{Onward, never_for_ever}
 use Rattle.ml_pdl_graph.proofs.NoRuns.{unmet_lost}
-use Rattle.ml_pdl_graph.proofs.Players.{player_of, node_of, node_range, into, run_of, at, WinsAt, Tells, never_both, one_of_both, tells_leads}
+use Rattle.ml_pdl_graph.proofs.Players.{player_of, node_of, node_range, at, WinsAt, Tells, never_both, one_of_both, tells_leads}
 use Rattle.ml_pdl_graph.proofs.Runs.{Runs, Tests, walked, single_move, some_program_occurrence}
-use Rattle.ml_pdl_graph.proofs.StarRelations.{repeat_goes_on, repeat_has}
 
 module _ (g : Graph) (m : Structure) (g_ok : IsGraph g) (m_ok : IsStructure m) (e : Bool) where
   abbrev place : ℕ → ℕ → ℕ
@@ -145,7 +146,11 @@ module _ (g : Graph) (m : Structure) (g_ok : IsGraph g) (m_ok : IsStructure m) (
             };
           }
 
-      pub never_kept : (s : ℕ) → s < m.states → is_member (meaning m (Repeat p)) s ≡ true → WinsFrom (checking_game g m) them strategy (place s own) → ⊥
+      pub never_kept : (s : ℕ)
+          → s < m.states
+          → is_member (meaning m (Repeat p)) s ≡ true
+          → WinsFrom (checking_game g m) them strategy (place s own)
+          → ⊥
       never_kept s s_low inside lost =
           never_for_ever (checking_game g m) them strategy Known Round vertex
           (λ x. vertex_low g m g_ok m_ok (Pair x.state own) (x.low, own_low))

@@ -29,8 +29,9 @@ use Rattle.ml_graph.proofs.CheckingGame.{owner_is, priority_is}
 use Rattle.ml_graph.proofs.OneStep.{vertex_low}
 use Rattle.ml_pdl.specs.Formula.{Formula, Const, Prop, Not, Binary, Modal, Repeat, Program, Act, Seq, Alt, Star, Test, occurrences, program_occurrences}
 use Rattle.ml_pdl.specs.Meaning.{Relation, identity, either, followed_by, has_edge, meaning, relation}
+use Rattle.ml_pdl.proofs.RunsInto.{same_number, run_of}
 use Rattle.ml_pdl_graph.specs.PdlGraph.{positive, negative, plain, ProgramStandsAt}
-use Rattle.ml_pdl_graph.proofs.Players.{player_of, node_of, own_by, other_by, go_by, own_mover, other_mover, go_mover, own_children, other_children, node_range, run_of, at, WinsAt, Tells, move_to, move_from, never_both}
+use Rattle.ml_pdl_graph.proofs.Players.{player_of, node_of, own_by, other_by, go_by, own_mover, other_mover, go_mover, own_children, other_children, node_range, at, WinsAt, Tells, move_to, move_from, never_both}
 
 abbrev pub star_priority : Bool → ℕ
 star_priority true = 3
@@ -109,16 +110,14 @@ some_program_occurrence (Star p) = omega arith
 some_program_occurrence (Test f) = omega arith
 
 -- to all targets of an edge
-pub go_pairs : (g : Graph) (m : Structure) (s : ℕ) (e : Bool) (a k : ℕ) → (p : ℕ) × (successors_of g m s (go_by e a k) ≡ pairs_or_sink k p (targets m s (action_at g a)))
+pub go_pairs : (g : Graph) (m : Structure) (s : ℕ) (e : Bool) (a k : ℕ)
+    → (p : ℕ) × (successors_of g m s (go_by e a k) ≡ pairs_or_sink k p (targets m s (action_at g a)))
 go_pairs g m s true a k = (1, refl)
 go_pairs g m s false a k = (0, refl)
 
 target_pair : (k p : ℕ) (ts : List ℕ) (t : ℕ) → IsMember t ts → IsMember (Pair t k) (pairs_or_sink k p ts)
 target_pair k p [] t h = absurd h
 target_pair k p (x ∷ xs) t h = member-map (λ u. Pair u k) t (x ∷ xs) h
-
-pub same_number : (s t : ℕ) → (s == t) ≡ true → s ≡ t
-same_number s t is = grind (arith, nat_tests)
 
 three : (a b c : Bool) → (a && b && c) ≡ true → (a ≡ true) × (b ≡ true) × (c ≡ true)
 three true true true is = (refl, refl, refl)
@@ -166,7 +165,11 @@ module _ (g : Graph) (m : Structure) (g_ok : IsGraph g) (m_ok : IsStructure m) (
   kept v w a lost = won_at_end (checking_game g m) them strategy v a.lowest w a.way lost
 
   -- one step, at a node of the player's or of a single child
-  step : (s n t k : ℕ) → s < m.states → n < size g → 2 ≤ priority_at g n → IsMember (Pair t k) (successors g m (Pair s n))
+  step : (s n t k : ℕ)
+      → s < m.states
+      → n < size g
+      → 2 ≤ priority_at g n
+      → IsMember (Pair t k) (successors g m (Pair s n))
       → (mover (node_at g n) ≡ them → place t k ≡ strategy (place s n)) → Walked (place s n) (place t k)
   step s n t k s_low n_low high h chosen = record {
     lowest = priority_of (checking_game g m) (place s n);
@@ -177,27 +180,45 @@ module _ (g : Graph) (m : Structure) (g_ok : IsGraph g) (m_ok : IsStructure m) (
     });
   }
 
-  own_step : (s n t k : ℕ) → s < m.states → n < size g → 2 ≤ priority_at g n → (x : Node) → node_at g n ≡ x → mover x ≡ player_of e
+  own_step : (s n t k : ℕ)
+      → s < m.states
+      → n < size g
+      → 2 ≤ priority_at g n
+      → (x : Node)
+      → node_at g n ≡ x
+      → mover x ≡ player_of e
       → IsMember (Pair t k) (successors_of g m s x) → Walked (place s n) (place t k)
   own_step s n t k s_low n_low high x is own h =
       step s n t k s_low n_low high (subst (λ y. IsMember (Pair t k) (successors_of g m s y)) (sym is) h)
       (λ theirs. absurd (no_own_opponent (player_of e) (sym own ∙ sym (ap mover is) ∙ theirs)))
 
   -- the strategy's own move is one to a child
-  chosen_is : (s n : ℕ) → s < m.states → n < size g → mover (node_at g n) ≡ them → (l r : ℕ) → successors_of g m s (node_at g n) ≡ Pair s l ∷ Pair s r ∷ []
+  chosen_is : (s n : ℕ)
+      → s < m.states
+      → n < size g
+      → mover (node_at g n) ≡ them
+      → (l r : ℕ)
+      → successors_of g m s (node_at g n) ≡ Pair s l ∷ Pair s r ∷ []
       → (strategy (place s n) ≡ place s l) ⊎ (strategy (place s n) ≡ place s r)
   chosen_is s n s_low n_low own l r next =
       let move = is_strategy (place s n) (vertex_low g m g_ok m_ok (Pair s n) (s_low, n_low)) (owner_is g m (Pair s n) (s_low, n_low) ∙ own) in
       let image = move_from g m g_ok m_ok (Pair s n) (s_low, n_low) (strategy (place s n)) move in
       from image.from image.holds (subst (IsMember image.from) next image.member)
     where
-      from : (w : Vertex) → strategy (place s n) ≡ vertex_number g m w → IsMember w (Pair s l ∷ Pair s r ∷ []) → (strategy (place s n) ≡ place s l) ⊎ (strategy (place s n) ≡ place s r)
+      from : (w : Vertex)
+          → strategy (place s n) ≡ vertex_number g m w
+          → IsMember w (Pair s l ∷ Pair s r ∷ [])
+          → (strategy (place s n) ≡ place s l) ⊎ (strategy (place s n) ≡ place s r)
       from w is (inl one) = inl (is ∙ ap (vertex_number g m) one)
       from w is (inr (inl one)) = inr (is ∙ ap (vertex_number g m) one)
       from w is (inr (inr none)) = absurd none
 
   -- the move of a node that only leads on
-  pub single_move : (s n t : ℕ) → s < m.states → n < size g → node_at g n ≡ node.And t t → FollowedMove (checking_game g m) them strategy (place s n) (place s t)
+  pub single_move : (s n t : ℕ)
+      → s < m.states
+      → n < size g
+      → node_at g n ≡ node.And t t
+      → FollowedMove (checking_game g m) them strategy (place s n) (place s t)
   single_move s n t s_low n_low is = record {
     move = move_to g m g_ok m_ok (Pair s n) (s_low, n_low) (Pair s t) (subst (λ y. IsMember (Pair s t) (successors_of g m s y)) (sym is) (inl refl));
     chosen = λ own. ⊎_elim
@@ -206,7 +227,12 @@ module _ (g : Graph) (m : Structure) (g_ok : IsGraph g) (m_ok : IsStructure m) (
         (chosen_is s n s_low n_low (sym (owner_is g m (Pair s n) (s_low, n_low)) ∙ own) t t (ap (successors_of g m s) is));
   }
 
-  single_step : (s n t : ℕ) → s < m.states → n < size g → 2 ≤ priority_at g n → node_at g n ≡ node.And t t → Walked (place s n) (place s t)
+  single_step : (s n t : ℕ)
+      → s < m.states
+      → n < size g
+      → 2 ≤ priority_at g n
+      → node_at g n ≡ node.And t t
+      → Walked (place s n) (place s t)
   single_step s n t s_low n_low high is = record {
     lowest = priority_of (checking_game g m) (place s n);
     high = omega (arith, high, priority_is g m (Pair s n) (s_low, n_low));
@@ -214,7 +240,12 @@ module _ (g : Graph) (m : Structure) (g_ok : IsGraph g) (m_ok : IsStructure m) (
   }
 
   -- at a test whose formula holds the strategy goes on
-  test_step : (s n l k : ℕ) → s < m.states → n < size g → 2 ≤ priority_at g n → l < size g → node_at g n ≡ other_by e l k
+  test_step : (s n l k : ℕ)
+      → s < m.states
+      → n < size g
+      → 2 ≤ priority_at g n
+      → l < size g
+      → node_at g n ≡ other_by e l k
       → WinsAt g m g_ok m_ok (player_of e) s l → Lost (place s n) → Walked (place s n) (place s k)
   test_step s n l k s_low n_low high l_low is shown lost =
       step s n s k s_low n_low high (subst (IsMember (Pair s k)) (sym next) (inr (inl refl))) (λ theirs. sym goes)
@@ -287,7 +318,11 @@ module _ (g : Graph) (m : Structure) (g_ok : IsGraph g) (m_ok : IsStructure m) (
   tested_low : (i : ℕ) (f : Formula) → 2 * (i + (1 + occurrences f)) ≤ size g → node_of e (i + 1) < size g
   tested_low i f room = let range = node_range e (i + 1) in let some = some_occurrence f in omega (arith, room, range.1, some)
 
-  pub walked : (p : Program) (i k : ℕ) → Runs g e i k p → Tests g m g_ok m_ok e i p → 2 * (i + program_occurrences p) ≤ size g → Claim p i k
+  pub walked : (p : Program) (i k : ℕ)
+      → Runs g e i k p
+      → Tests g m g_ok m_ok e i p
+      → 2 * (i + program_occurrences p) ≤ size g
+      → Claim p i k
   walked (Act name) i k w tests room s t s_low t_low is lost =
       let pairs = go_pairs g m s e w.0 k in
       own_step s (node_of e i) t k s_low (first_low i 0 room) (omega (arith, w.2)) (go_by e w.0 k) w.1 (go_mover e w.0 k)
