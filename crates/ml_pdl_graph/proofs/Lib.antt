@@ -12,3 +12,5 @@ pub mod Programs
 pub mod Connectives
 -- the agreement of game and meaning
 pub mod Agreement
+-- a graph worked out by hand
+mod WorkedGraph
