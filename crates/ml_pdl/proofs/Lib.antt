@@ -10,3 +10,9 @@ pub mod Marks
 pub mod Refusals
 -- texts worked out by hand
 mod WorkedTexts
+-- runs into a set
+pub mod RunsInto
+-- stars and repetitions as fixpoints
+pub mod StarRelations
+-- flags of meanings
+pub mod MeaningFlags

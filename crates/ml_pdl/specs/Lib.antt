@@ -1,5 +1,11 @@
 -- formulas and programs
 pub mod Formula
+-- what formulas and programs mean
+pub mod Meaning
+-- problems
+pub mod Problem
+-- stars and infinite repetitions without iterates
+pub mod Laws
 -- which words are propositions and actions
 pub mod Spelling
 -- the signs of texts

@@ -1,10 +1,11 @@
-// What holds of texts by their grammar alone: the functions do nothing, their contracts are the theorems.
+// What holds of texts by their grammar alone, and of meanings: the functions do nothing, their contracts are the theorems.
 ghost use Rattle.std.specs.Prelude.{◌≡◌, List};
 ghost use Rattle.ml_text.specs.Grammar.{IsRegular, IsCompletable, StandsFor};
 ghost use Rattle.ml_pdl.specs.Formula.{Formula};
 ghost use Rattle.ml_pdl.specs.Signs.{Sign};
 ghost use Rattle.ml_pdl.specs.Grammar.{IsReadAs};
 ghost use Rattle.ml_pdl.specs.Marks.{MarksAreOfTests};
+ghost use Rattle.ml_pdl.specs.Laws.{StarsAreLeast, RepetitionsAreGreatest};
 ghost use Rattle.ml_pdl.specs.Tables.{Phrase, OfFormula, pdl_grammar};
 
 /// The texts of the grammar are those of its tables, so all that is proved of the machine that reads tables holds of
@@ -29,4 +30,15 @@ pub fn marks_are_of_tests()
 #[tactic(auto, using(crate::proofs::PdlGrammar::one_formula))]
 pub fn one_formula()
     ensures { (ts : List Sign) (f g : Formula) → IsReadAs ts f → IsReadAs ts g → f ≡ g }
+{}
+
+/// A star relates exactly the states that finitely many runs of its program join: it is the least relation that has them.
+pub fn stars_are_least()
+    ensures { StarsAreLeast }
+{}
+
+/// The states at which a program can be repeated for ever are the greatest set from each state of which a run of it leads
+/// into the set.
+pub fn repetitions_are_greatest()
+    ensures { RepetitionsAreGreatest }
 {}

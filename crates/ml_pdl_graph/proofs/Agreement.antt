@@ -1,0 +1,78 @@
+-- The game on a formula's graph agrees with the formula's meaning.
+--
+--   shown         == at each occurrence that stands in a graph, its nodes are won as the formula's meaning says
+--   tests_shown   == and so are those of the tests of a program
+--   graphs_agree  == so graphs agree with formulas
+use Rattle.std.proofs.Common.{◌≡◌, ◌↔◌, ℕ, ◌+◌, ◌*◌, ◌<◌, ◌≤◌, Bool, true, false, not, refl, sym, subst, arith}
+use Rattle.ml_base.specs.Structure.{Structure, IsStructure, is_member}
+use Rattle.ml_graph.specs.Graph.{Graph, IsGraph, size}
+use Rattle.ml_graph.specs.CheckingGame.{HoldsAt, Holds}
+use Rattle.ml_text.specs.declared.token.Operator.TheVariants as operator
+use Rattle.ml_pdl.specs.Formula.{Formula, Const, Prop, Not, Binary, Modal, Repeat, Diamond, Square, Program, Act, Seq, Alt, Star, Test, occurrences, program_occurrences}
+use Rattle.ml_pdl.specs.Meaning.{meaning}
+use Rattle.ml_pdl.specs.Problem as problem
+use Rattle.ml_pdl_graph.specs.Laws.{GraphsAgree}
+use Rattle.ml_pdl_graph.specs.PdlGraph.{positive, negative, diamond, box, StandsAt, ProgramStandsAt, IsGraphOf}
+use Rattle.ml_pdl_graph.proofs.Players.{tells_turned}
+use Rattle.ml_pdl_graph.proofs.Runs.{Tests, some_occurrence}
+use Rattle.ml_pdl_graph.proofs.Connectives.{Both, both_const, both_prop, both_not, both_and, both_or, both_implies, both_iff, both_diamond, both_square, both_repeat}
+
+module _ (g : Graph) (m : Structure) (g_ok : IsGraph g) (m_ok : IsStructure m) where
+  mutual
+    pub shown : (f : Formula) (i : ℕ) → StandsAt g i f → 2 * (i + occurrences f) ≤ size g → Both g m g_ok m_ok i f
+    shown (Const b) i w room = both_const g m g_ok m_ok b i w room
+    shown (Prop p) i w room = both_prop g m g_ok m_ok p i w room
+    shown (Not f) i w room = both_not g m g_ok m_ok f i w room (shown f (i + 1) w.2 (omega (arith, room)))
+    shown (Binary operator.And f h) i w room =
+        both_and g m g_ok m_ok f h i w room (shown f (i + 1) w.2 (omega (arith, room))) (shown h (i + 1 + occurrences f) w.3 (omega (arith, room)))
+    shown (Binary operator.Or f h) i w room =
+        both_or g m g_ok m_ok f h i w room (shown f (i + 1) w.2 (omega (arith, room))) (shown h (i + 1 + occurrences f) w.3 (omega (arith, room)))
+    shown (Binary operator.Implies f h) i w room =
+        both_implies g m g_ok m_ok f h i w room (shown f (i + 1) w.2 (omega (arith, room))) (shown h (i + 1 + occurrences f) w.3 (omega (arith, room)))
+    shown (Binary operator.Iff f h) i w room =
+        both_iff g m g_ok m_ok f h i w room (shown f (i + 3) w.6 (omega (arith, room))) (shown h (i + 3 + occurrences f) w.7 (omega (arith, room)))
+    shown (Modal Diamond p f) i w room =
+        both_diamond g m g_ok m_ok p f i w room
+        (tests_shown p (i + 1) (positive (i + 1 + program_occurrences p)) (negative (i + 1 + program_occurrences p)) w.2 (omega (arith, room)))
+        (shown f (i + 1 + program_occurrences p) w.3 (omega (arith, room)))
+    shown (Modal Square p f) i w room =
+        both_square g m g_ok m_ok p f i w room
+        (tests_shown p (i + 1) (negative (i + 1 + program_occurrences p)) (positive (i + 1 + program_occurrences p)) w.2 (omega (arith, room)))
+        (shown f (i + 1 + program_occurrences p) w.3 (omega (arith, room)))
+    shown (Repeat p) i w room =
+        both_repeat g m g_ok m_ok p i w room (tests_shown p (i + 1) (positive i) (negative i) w.2 (omega (arith, room)))
+
+    pub tests_shown : (p : Program) (i d b : ℕ) → ProgramStandsAt g i d b p → 2 * (i + program_occurrences p) ≤ size g
+        → (e : Bool) → Tests g m g_ok m_ok e i p
+    tests_shown (Act name) i d b w room e = tt
+    tests_shown (Seq p q) i d b w room e = (
+      tests_shown p (i + 1) (diamond (i + 1 + program_occurrences p)) (box (i + 1 + program_occurrences p)) w.2 (omega (arith, room)) e,
+      tests_shown q (i + 1 + program_occurrences p) d b w.3 (omega (arith, room)) e,
+    )
+    tests_shown (Alt p q) i d b w room e = (
+      tests_shown p (i + 1) d b w.2 (omega (arith, room)) e,
+      tests_shown q (i + 1 + program_occurrences p) d b w.3 (omega (arith, room)) e,
+    )
+    tests_shown (Star p) i d b w room e = tests_shown p (i + 1) (diamond i) (box i) w.2 (omega (arith, room)) e
+    tests_shown (Test f) i d b w room e = shown f (i + 1) w.2 (omega (arith, room)) e
+
+not_true : (b : Bool) → (not b ≡ true) ↔ (b ≡ false)
+not_true true = (λ e. sym e, λ e. sym e)
+not_true false = (λ e. refl, λ e. refl)
+
+module _ (f : Formula) (g : Graph) (m : Structure) (m_ok : IsStructure m) where
+  agreement : (negated : Bool) → IsGraphOf g f negated → (s : ℕ) → s < m.states
+      → Holds g m s ↔ problem.HoldsAt m s (record { formula = f; negated = negated })
+  agreement false is s low =
+      subst (λ n. HoldsAt g m s n ↔ (is_member (meaning m f) s ≡ true)) (sym is.root_is)
+      (shown g m is.is_graph m_ok f 0 is.stands (omega (arith, is.two_for_each)) true s low)
+  agreement true is s low =
+      let some = some_occurrence f in
+      let says : HoldsAt g m s (negative 0) ↔ (not (is_member (meaning m f) s) ≡ true) =
+      tells_turned g m is.is_graph m_ok false s (negative 0) low (omega (arith, is.two_for_each, some)) (is_member (meaning m f) s)
+      (shown g m is.is_graph m_ok f 0 is.stands (omega (arith, is.two_for_each)) false s low) in
+      let turn = not_true (is_member (meaning m f) s) in
+      subst (λ n. HoldsAt g m s n ↔ (is_member (meaning m f) s ≡ false)) (sym is.root_is) (λ h. turn.0 (says.0 h), λ e. says.1 (turn.1 e))
+
+pub graphs_agree : GraphsAgree
+graphs_agree f negated g is m m_ok s low = agreement f g m m_ok negated is s low

@@ -1,0 +1,16 @@
+-- walks for ever
+pub mod EndlessWalks
+-- who wins the nodes of a graph
+pub mod Players
+-- runs of programs as walks
+pub mod Runs
+-- where no run leads
+pub mod NoRuns
+-- programs and infinite repetition
+pub mod Programs
+-- formulas by their operands
+pub mod Connectives
+-- the agreement of game and meaning
+pub mod Agreement
+-- a graph worked out by hand
+mod WorkedGraph

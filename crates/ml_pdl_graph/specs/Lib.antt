@@ -1,0 +1,4 @@
+-- the modal graph of a formula
+pub mod PdlGraph
+-- that it agrees with the formula's meaning
+pub mod Laws

@@ -1,0 +1,128 @@
+-- The modal graph of a formula of PDL.
+--
+-- Occurrences of formulas and programs are numbered in preorder from 0: an operator before its operands, left before right,
+-- a modality before its program and its program before its formula; an iff takes three numbers in a row. Occurrence i has
+-- two nodes, 2i and 2i + 1. Of a formula these are for itself and for its negation. Of a program they are for its diamond
+-- and for its box, and each of the two has a continuation: the node at which it goes on where a run has ended. So a node is
+-- at one place of a run, and what is still to be run is read off the continuations. A star goes on, or runs its program
+-- with itself as the continuation; an infinite repetition is the continuation of its own program.
+--
+-- The node of a star lies on a cycle that is not to be gone round for ever by the player who looks for a run: its diamond
+-- has an odd priority, its box an even one. That of an infinite repetition is to be gone round for ever, so the other way
+-- round, and below the stars'. Every other node has a priority above these.
+--
+--   positive i, negative i == the two nodes of occurrence i; diamond i, box i == the same of a program
+--   IsNode g n v p         == the node n of g is v, with the priority p
+--   LeadsTo g n t p        == the node n only leads on, to t
+--   IsLiteral, IsModality  == the node n is a literal of a named proposition; a modality by a named action
+--   StandsAt g i f         == at the occurrence i of g stands the formula f
+--   ProgramStandsAt g i d b p == at the occurrence i of g stands the program p, whose diamond goes on at the node d and
+--                             whose box at the node b
+--   IsGraphOf g f negated  == g is the graph of f, or of its negation
+use Rattle.std.specs.Prelude.{ℕ, ◌≡◌, ◌+◌, ◌*◌, Bool, true, false, not, if◌then◌else◌, List}
+use Rattle.ml_graph.specs.Graph.{Graph, IsGraph, size, node_at, priority_at, prop_at, action_at}
+use Rattle.ml_graph.specs.declared.node.Node.{Node}
+use Rattle.ml_graph.specs.declared.node.Node.TheVariants as node
+use Rattle.ml_text.specs.declared.token.Operator.TheVariants as operator
+use Rattle.ml_pdl.specs.Formula.{Formula, Const, Prop, Not, Binary, Modal, Repeat, Program, Act, Seq, Alt, Star, Test, Diamond, Square, occurrences, program_occurrences}
+
+abbrev pub positive : ℕ → ℕ
+positive i = 2 * i
+
+abbrev pub negative : ℕ → ℕ
+negative i = 2 * i + 1
+
+abbrev pub diamond : ℕ → ℕ
+diamond i = 2 * i
+
+abbrev pub box : ℕ → ℕ
+box i = 2 * i + 1
+
+-- the priority of nodes that are of no star and of no infinite repetition
+abbrev pub plain : ℕ
+plain = 4
+
+abbrev pub IsNode : Graph → ℕ → Node → ℕ → Type 0
+IsNode g n value priority = (node_at g n ≡ value) × (priority_at g n ≡ priority)
+
+abbrev pub LeadsTo : Graph → ℕ → ℕ → ℕ → Type 0
+LeadsTo g n target priority = IsNode g n (node.And target target) priority
+
+abbrev pub constant : Bool → Node
+constant true = node.True
+constant false = node.False
+
+abbrev pub IsLiteral : Graph → ℕ → List ℕ → Bool → Type 0
+IsLiteral g n name is_positive = (p : ℕ) × IsNode g n (node.Lit p is_positive) plain × (prop_at g p ≡ name)
+
+abbrev mutual
+  pub StandsAt : Graph → ℕ → Formula → Type 0
+  StandsAt g i (Const b) =
+      IsNode g (positive i) (constant b) plain × IsNode g (negative i) (constant (not b)) plain
+  StandsAt g i (Prop p) = IsLiteral g (positive i) p true × IsLiteral g (negative i) p false
+  StandsAt g i (Not f) =
+      LeadsTo g (positive i) (negative (i + 1)) plain × LeadsTo g (negative i) (positive (i + 1)) plain
+      × StandsAt g (i + 1) f
+  StandsAt g i (Binary operator.And f h) =
+      let l = i + 1 in let r = l + occurrences f in
+      IsNode g (positive i) (node.And (positive l) (positive r)) plain
+      × IsNode g (negative i) (node.Or (negative l) (negative r)) plain
+      × StandsAt g l f × StandsAt g r h
+  StandsAt g i (Binary operator.Or f h) =
+      let l = i + 1 in let r = l + occurrences f in
+      IsNode g (positive i) (node.Or (positive l) (positive r)) plain
+      × IsNode g (negative i) (node.And (negative l) (negative r)) plain
+      × StandsAt g l f × StandsAt g r h
+  StandsAt g i (Binary operator.Implies f h) =
+      let l = i + 1 in let r = l + occurrences f in
+      IsNode g (positive i) (node.Or (negative l) (positive r)) plain
+      × IsNode g (negative i) (node.And (positive l) (negative r)) plain
+      × StandsAt g l f × StandsAt g r h
+  -- both or neither; one and not the other
+  StandsAt g i (Binary operator.Iff f h) =
+      let both = i + 1 in let neither = i + 2 in let l = i + 3 in let r = l + occurrences f in
+      IsNode g (positive i) (node.Or (positive both) (positive neither)) plain
+      × IsNode g (negative i) (node.Or (negative both) (negative neither)) plain
+      × IsNode g (positive both) (node.And (positive l) (positive r)) plain
+      × IsNode g (negative both) (node.And (positive l) (negative r)) plain
+      × IsNode g (positive neither) (node.And (negative l) (negative r)) plain
+      × IsNode g (negative neither) (node.And (negative l) (positive r)) plain
+      × StandsAt g l f × StandsAt g r h
+  StandsAt g i (Modal Diamond p f) =
+      let l = i + 1 in let r = l + program_occurrences p in
+      LeadsTo g (positive i) (diamond l) plain × LeadsTo g (negative i) (box l) plain
+      × ProgramStandsAt g l (positive r) (negative r) p × StandsAt g r f
+  StandsAt g i (Modal Square p f) =
+      let l = i + 1 in let r = l + program_occurrences p in
+      LeadsTo g (positive i) (box l) plain × LeadsTo g (negative i) (diamond l) plain
+      × ProgramStandsAt g l (negative r) (positive r) p × StandsAt g r f
+  StandsAt g i (Repeat p) =
+      let l = i + 1 in
+      LeadsTo g (positive i) (diamond l) 0 × LeadsTo g (negative i) (box l) 1
+      × ProgramStandsAt g l (positive i) (negative i) p
+
+  pub ProgramStandsAt : Graph → ℕ → ℕ → ℕ → Program → Type 0
+  ProgramStandsAt g i d b (Act name) =
+      (a : ℕ) × IsNode g (diamond i) (node.Diamond a d) plain × IsNode g (box i) (node.Square a b) plain × (action_at g a ≡ name)
+  ProgramStandsAt g i d b (Seq p q) =
+      let l = i + 1 in let r = l + program_occurrences p in
+      LeadsTo g (diamond i) (diamond l) plain × LeadsTo g (box i) (box l) plain
+      × ProgramStandsAt g l (diamond r) (box r) p × ProgramStandsAt g r d b q
+  ProgramStandsAt g i d b (Alt p q) =
+      let l = i + 1 in let r = l + program_occurrences p in
+      IsNode g (diamond i) (node.Or (diamond l) (diamond r)) plain × IsNode g (box i) (node.And (box l) (box r)) plain
+      × ProgramStandsAt g l d b p × ProgramStandsAt g r d b q
+  ProgramStandsAt g i d b (Star p) =
+      let l = i + 1 in
+      IsNode g (diamond i) (node.Or d (diamond l)) 3 × IsNode g (box i) (node.And b (box l)) 2
+      × ProgramStandsAt g l (diamond i) (box i) p
+  ProgramStandsAt g i d b (Test f) =
+      let l = i + 1 in
+      IsNode g (diamond i) (node.And (positive l) d) plain × IsNode g (box i) (node.Or (negative l) b) plain
+      × StandsAt g l f
+
+pub record IsGraphOf (g : Graph) (f : Formula) (negated : Bool) : Type 0 where
+  pub is_graph : IsGraph g
+  pub two_for_each : size g ≡ 2 * occurrences f
+  pub stands : StandsAt g 0 f
+  pub root_is : g.root ≡ (if negated then negative 0 else positive 0)
