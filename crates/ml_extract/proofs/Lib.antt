@@ -1,3 +1,5 @@
+-- breadth-first lists
+pub mod BreadthFirst
 -- closed local walks
 pub mod LocalLoops
 -- what the theorem is said of
@@ -14,3 +16,5 @@ pub mod LeavingStates
 pub mod CrossedEdges
 -- round states and nodes: the theorem
 pub mod Loops
+-- a graph, an arena and a solution have one model
+pub mod OneModel

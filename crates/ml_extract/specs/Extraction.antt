@@ -4,6 +4,7 @@
 --   HasDiamond g e      == the edge has the action of a diamond of g
 --   Extracted g m s     == m is a structure and s a state of it, at which the graph holds; every state is reached from s,
 --                          and every edge has the action of a diamond
+--   OneModel            == a graph, an arena and a solution have one model at most
 --   ModelsHold          == where Even wins the decision game, its model is such a structure with its start
 use Rattle.std.specs.Prelude.{ℕ, ◌≡◌, ◌<◌}
 use Rattle.ml_base.specs.declared.structure.Edge.{Edge}
@@ -36,6 +37,11 @@ pub record Extracted (g : Graph) (m : Structure) (start : ℕ) : Type 0 where
   pub holds : Holds g m start
   pub reached : (t : ℕ) → t < m.states → IsReachedFrom m start t
   pub along_diamonds : (e : Edge) → IsMember e m.edges → HasDiamond g e
+
+abbrev pub OneModel : Type 0
+OneModel =
+    (g : Graph) (a : Arena) (s : GameSolution) (m n : Structure) (i j : ℕ) → IsModelOf g a s m i → IsModelOf g a s n j
+    → (m ≡ n) × (i ≡ j)
 
 abbrev pub ModelsHold : Type 0
 ModelsHold =

@@ -1,5 +1,3 @@
--- a list without repeats
-pub mod Firsts
 -- the model that Even's moves make
 pub mod Model
 -- what is true of it

@@ -11,17 +11,18 @@
 --   State                == the numbers of the position where a state begins and of that where nothing is left to choose,
 --                           and the spread of the latter, which is the state's spread
 --   nexts g a x          == the diamonds of the state's spread, each with the number of the position to which it leads
---   AreStates g a s xs   == xs are the states, breadth first: position 0, and then the next positions of the states in their
---                           order, each of them once; each but the first is the next position of an earlier state
+--   next_positions g a x == these numbers
+--   AreStates g a s xs   == xs are the states: they begin at position 0 and at the next positions of states, breadth first
 --   IsLabel g x p        == p is the name of a proposition whose positive literal is in the state's spread
 --   IsModelEdge g a xs e == e has the action of a diamond of its source's spread, and leads to the state that begins at the
 --                           position to which the diamond leads
 --   IsModelOf g a s m i  == m is the model of these states, labels and edges, nothing twice, and i is the state 0
 use Rattle.std.specs.Prelude.{ℕ, ◌≡◌, ◌<◌, ◌↔◌, true, List, [], ◌∷◌, map, length, get_or, slice_get, slice_index_or, Some}
-use Rattle.std.specs.List.{flat_map, zip}
+use Rattle.std.specs.List.{zip}
 use Rattle.ml_base.specs.declared.structure.Edge.{Edge}
 use Rattle.ml_base.specs.Structure.{Structure}
 use Rattle.ml_kripke.specs.Ordered.{IsOrdered}
+use Rattle.ml_lists.specs.BreadthFirst.{IsBreadthFirst}
 use Rattle.ml_lists.specs.Member.{IsMember}
 use Rattle.ml_parity.specs.Solution.{GameSolution, choice_at}
 use Rattle.ml_graph.specs.declared.node.Node.TheVariants as node
@@ -30,7 +31,6 @@ use Rattle.ml_sequent.specs.Spread.{SpreadList, IsSpreadOf, IsOpenOr}
 use Rattle.ml_product.specs.Position.{Position}
 use Rattle.ml_product.specs.DecisionGame.{diamonds_of}
 use Rattle.ml_product.specs.Arena.{Arena}
-use Rattle.ml_extract.specs.Firsts.{firsts}
 
 abbrev pub PositionAt : Arena → ℕ → Position → Type 0
 PositionAt a v p = slice_get a.positions v ≡ Some p
@@ -64,18 +64,9 @@ nexts g a x = zip (diamonds_of g x.spread) (get_or a.moves x.last [])
 abbrev pub next_positions : Graph → Arena → State → List ℕ
 next_positions g a x = map (λ next. next.1) (nexts g a x)
 
--- the state x is the next position of one of the states before place k
-pub record ComesBefore (g : Graph) (a : Arena) (xs : List State) (k : ℕ) (x : State) : Type 0 where
-  pub place : ℕ
-  pub state : State
-  pub earlier : place < k
-  pub stands : slice_get xs place ≡ Some state
-  pub leads : IsMember x.first (next_positions g a state)
-
 pub record AreStates (g : Graph) (a : Arena) (s : GameSolution) (xs : List State) : Type 0 where
   pub chosen : (x : State) → IsMember x xs → Chooses g a s x.first x.last x.spread
-  pub in_order : map (λ x. x.first) xs ≡ firsts (0 ∷ flat_map (next_positions g a) xs)
-  pub reached : (k : ℕ) (x : State) → 0 < k → slice_get xs k ≡ Some x → ComesBefore g a xs k x
+  pub breadth_first : IsBreadthFirst 0 (map (next_positions g a) xs) (map (λ x. x.first) xs)
 
 -- ---- labels and edges
 
