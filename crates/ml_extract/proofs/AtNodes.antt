@@ -1,8 +1,9 @@
 -- What a play of the checking game does at a state of the model, while it follows a strategy of Odd's that wins.
 --
--- It is at a node of the state's spread. The node doesn't hold, so it is no literal and no constant: the spread has no clash,
--- and the labels are its positive literals. At an And the play goes to a child by Odd's choice, at an Or to the child that
--- Even's moves chose, at a diamond to the state to which it leads, and at a square along an edge of Odd's choice.
+-- It is at a node of the state's spread. The node doesn't hold, so it is no literal and no constant: the spread has
+-- no clash, and the labels are its positive literals. At an And the play goes to a child by Odd's choice, at an Or to
+-- the child that Even's moves chose, at a diamond to the state to which it leads, and at a square along an edge of
+-- Odd's choice.
 --
 --   Rival            == a strategy of Odd's in the checking game of the model
 --   pair, OddMove, OddWalk == the vertex of a state and a node; a move, and a walk, that follow Odd's strategy
@@ -43,7 +44,7 @@ use Rattle.ml_product.specs.Arena.{game_of}
 use Rattle.ml_product.proofs.ArenaGame.{member_of_get}
 use Rattle.ml_extract.specs.Model.{PositionAt, State, nexts, IsLabel, IsModelEdge}
 use Rattle.ml_extract.proofs.Setting.{Setting, even_moves, WonByMoves, EvenMove}
-use Rattle.ml_extract.proofs.LocalLoops.{spread_along}
+use Rattle.ml_sequent.proofs.LocalLoops.{spread_along}
 use Rattle.ml_extract.proofs.Choosing.{Chosen, down, Way, way_of, way_for}
 use Rattle.ml_extract.proofs.Numbering.{StateAt, state_for, state_low, is_structure, edge_for, target_in, EdgeTo, target_from}
 

@@ -1,8 +1,8 @@
 -- What Even's moves choose, and where the diamonds lead then, in the decision game that Even wins.
 --
--- Lost isn't won, so no spread on the way clashes: where an or-node is open, Even's move chooses a side of it, and where
--- none is, the position is resolved. The choices are pieces of a play that have no lower priority than the position where
--- they begin.
+-- Lost isn't won, so no spread on the way clashes: where an or-node is open, Even's move chooses a side of it, and
+-- where none is, the position is resolved. The choices are pieces of a play that have no lower priority than the
+-- position where they begin.
 --
 --   same_spread     == a set of nodes has one spread under a choice
 --   lost_not_won    == Lost isn't won
@@ -25,7 +25,7 @@ use Rattle.ml_sequent.specs.declared.choice.Side.{Side}
 use Rattle.ml_sequent.specs.declared.choice.Side.TheVariants.{Left, Right}
 use Rattle.ml_sequent.specs.Spread.{SpreadList, IsSpreadOf, IsOpenOr, is_diamond}
 use Rattle.ml_product.specs.Position.{Position, with_chosen, neutral, Follows}
-use Rattle.ml_product.specs.DecisionGame.{Verdict, Clashing, Open, Leading, Settled, Target, To, Lost, IsResolved, IsVerdictOf, AreSteps, AreMoves, mover, diamonds_of}
+use Rattle.ml_product.specs.DecisionGame.{Verdict, Clashing, Open, Leading, Settled, Target, To, Lost, Won, IsResolved, IsVerdictOf, AreSteps, AreMoves, mover, diamonds_of}
 use Rattle.ml_product.specs.Arena.{IsVertexOf, AreVertices, IsPlayed, game_of}
 use Rattle.ml_product.proofs.ArenaGame.{here, size_is, owner_at, moves_at, priority_at, lost_moves, lost_priority, target_of, TargetOf}
 use Rattle.ml_product.proofs.NeutralPriority.{priority_at_most}
@@ -119,6 +119,34 @@ module _ (g : Graph) (positions : List Position) (p : Position) (sp : SpreadList
           by_place (inl same) again = (w, back w (inl (ap (λ x. (x, w)) same)))
           by_place (inr i) again = let o = again i in (o.0, back o.0 (inr o.1))
 
+  pub paired_back : (ds : List ℕ) (ts : List Target) (vs : List ℕ)
+      → AreSteps g p sp ds ts
+      → AreVertices positions ts vs
+      → (v : ℕ)
+      → IsMember v vs
+      → (d : ℕ) × IsMember (d, v) (zip ds vs)
+  paired_back [] ts vs steps vertices v m =
+      let none : vs ≡ [] = subst (λ xs. AreVertices positions xs vs) steps vertices in
+      absurd (subst (λ xs. IsMember v xs) none m)
+  paired_back (e ∷ ds) ts vs (q, others, follows, rest, is) vertices v m =
+      from (subst (λ xs. AreVertices positions xs vs) is vertices)
+      (λ behind later. paired_back ds others behind rest later v)
+    where
+      from : AreVertices positions (To q ∷ others) vs
+          → ((behind : List ℕ) → AreVertices positions others behind → IsMember v behind → (d : ℕ) × IsMember (d, v)
+          (zip ds behind))
+          → (d : ℕ) × IsMember (d, v) (zip (e ∷ ds) vs)
+      from (w, behind, stands, later, are) onward = by_place (subst (λ xs. IsMember v xs) are m) (onward behind later)
+        where
+          back : (d : ℕ) → IsMember (d, v) (zip (e ∷ ds) (w ∷ behind)) → IsMember (d, v) (zip (e ∷ ds) vs)
+          back d i = subst (λ xs. IsMember (d, v) (zip (e ∷ ds) xs)) (sym are) i
+
+          by_place : (v ≡ w) ⊎ IsMember v behind
+              → (IsMember v behind → (d : ℕ) × IsMember (d, v) (zip ds behind))
+              → (d : ℕ) × IsMember (d, v) (zip (e ∷ ds) vs)
+          by_place (inl same) again = (e, back e (inl (ap (λ x. (e, x)) same)))
+          by_place (inr i) again = let o = again i in (o.0, back o.0 (inr o.1))
+
 module _ (S : Setting) where
   low_of : (v : ℕ) (p : Position) → PositionAt S.a v p → v < size (game_of S.a)
   low_of v p stands = omega (arith, size_is S.g S.a S.arena, slice_get_within S.a.positions v p stands)
@@ -132,7 +160,7 @@ module _ (S : Setting) where
       record { move = move; chosen = λ even. absurd (let wrong : Even ≡ Odd = sym even ∙ own in cc) }
 
   -- the only move
-  single_move : (v w : ℕ) → v < size (game_of S.a) → moves_of (game_of S.a) v ≡ w ∷ [] → EvenMove S v w
+  pub single_move : (v w : ℕ) → v < size (game_of S.a) → moves_of (game_of S.a) v ≡ w ∷ [] → EvenMove S v w
   single_move v w low is = record {
     move = subst (λ ms. Contains ms w) (sym is) (contains_head w []);
     chosen =
@@ -156,6 +184,7 @@ module _ (S : Setting) where
   -- what happens at a position that is won
   pub data AtWon (v : ℕ) (p : Position) (sp : SpreadList) : Type 0 where
     choosing : (o : ℕ) (x : Side)
+        → owner_of (game_of S.a) v ≡ Even
         → IsOpenOr S.g sp o
         → PositionAt S.a (even_moves S v) (with_chosen S.g p o x)
         → EvenMove S v (even_moves S v)
@@ -166,7 +195,10 @@ module _ (S : Setting) where
         → AreVertices S.a.positions ts (get_or S.a.moves v [])
         → owner_of (game_of S.a) v ≡ Odd
         → AtWon v p sp
-    settled : IsResolved S.g sp → diamonds_of S.g sp ≡ [] → AtWon v p sp
+    settled : IsResolved S.g sp
+        → diamonds_of S.g sp ≡ []
+        → AreVertices S.a.positions (Won ∷ []) (get_or S.a.moves v [])
+        → AtWon v p sp
 
   module _ (v : ℕ) (p : Position) (stands : PositionAt S.a v p) (won : WonByMoves S v)
       (played : IsPlayed S.g S.a.positions p (get_or S.a.owners v Even) (get_or S.a.moves v [])) where
@@ -205,7 +237,7 @@ module _ (S : Setting) where
             → t ≡ To (with_chosen S.g p o x)
             → AtWon v p played.turn.spread
         side t at x t_is =
-            choosing o x is_open (subst (λ u. IsVertexOf S.a.positions u (even_moves S v)) t_is at)
+            choosing o x own is_open (subst (λ u. IsVertexOf S.a.positions u (even_moves S v)) t_is at)
             (own_move v (low_of v p stands) own)
 
         by_place : (t : Target) → IsVertexOf S.a.positions t (even_moves S v)
@@ -228,7 +260,8 @@ module _ (S : Setting) where
     by_verdict (Leading ds) own is are =
         leading played.turn.targets is.0 (subst (λ es. AreSteps S.g p played.turn.spread es played.turn.targets) is.1
         are) played.moves_are own
-    by_verdict Settled own is are = settled is.0 is.1
+    by_verdict Settled own is are =
+        settled is.0 is.1 (subst (λ ts. AreVertices S.a.positions ts (get_or S.a.moves v [])) are played.moves_are)
 
     at_won : AtWon v p played.turn.spread
     at_won =
@@ -236,7 +269,7 @@ module _ (S : Setting) where
         played.turn.are_moves
 
   -- the same, with the spread that was named
-  at_spread : (v : ℕ) (sp : SpreadList) (h : SpreadAt S.g S.a v sp) → WonByMoves S v → AtWon v h.position sp
+  pub at_spread : (v : ℕ) (sp : SpreadList) (h : SpreadAt S.g S.a v sp) → WonByMoves S v → AtWon v h.position sp
   at_spread v sp h won =
       let turn = (S.arena.played v h.position h.stands).turn in
       subst (AtWon v h.position) (same_spread S.g h.position.sequent h.position.choice turn.spread sp turn.is_spread
@@ -278,9 +311,9 @@ module _ (S : Setting) where
       }
 
       from : AtWon v h.position sp → Chosen p v v sp
-      from (choosing o x is_open stands move) = absurd (none o is_open)
+      from (choosing o x own is_open stands move) = absurd (none o is_open)
       from (leading ts r steps vertices own) = with_resolved r
-      from (settled r no_diamonds) = with_resolved r
+      from (settled r no_diamonds vertices) = with_resolved r
 
   one_choice : (v w n : ℕ) (open_sp sp : SpreadList) (h : SpreadAt S.g S.a v open_sp)
       → IsOpenOr S.g open_sp n
@@ -293,8 +326,8 @@ module _ (S : Setting) where
     where
       from : AtWon v h.position open_sp → Chosen p v w sp
       from (leading ts r steps vertices own) = absurd (r.none_open n is_open)
-      from (settled r no_diamonds) = absurd (r.none_open n is_open)
-      from (choosing o x here_open next move) =
+      from (settled r no_diamonds vertices) = absurd (r.none_open n is_open)
+      from (choosing o x own here_open next move) =
           let c =
           again (with_chosen S.g h.position o x) next (won_behind (game_of S.a) Even (even_moves S) v
           (even_moves S v) move won) in
@@ -354,8 +387,8 @@ module _ (S : Setting) where
     way_of d u m = from at_last
       where
         from : AtWon w c.position sp → Way c.position sp w d u
-        from (choosing o x is_open next move) = absurd (c.resolved.none_open o is_open)
-        from (settled r none) = absurd (subst (λ ds. IsMember (d, u) (zip ds (get_or S.a.moves w []))) none m)
+        from (choosing o x own is_open next move) = absurd (c.resolved.none_open o is_open)
+        from (settled r none vertices) = absurd (subst (λ ds. IsMember (d, u) (zip ds (get_or S.a.moves w []))) none m)
         from (leading ts r steps vertices own) =
             let o =
             along S.g S.a.positions c.position sp (diamonds_of S.g sp) ts (get_or S.a.moves w []) steps vertices d
@@ -380,7 +413,7 @@ module _ (S : Setting) where
     way_for d m = from at_last
       where
         from : AtWon w c.position sp → (u : ℕ) × IsMember (d, u) (zip (diamonds_of S.g sp) (get_or S.a.moves w []))
-        from (choosing o x is_open next move) = absurd (c.resolved.none_open o is_open)
-        from (settled r none) = absurd (subst (λ ds. IsMember d ds) none m)
+        from (choosing o x own is_open next move) = absurd (c.resolved.none_open o is_open)
+        from (settled r none vertices) = absurd (subst (λ ds. IsMember d ds) none m)
         from (leading ts r steps vertices own) =
             paired S.g S.a.positions c.position sp (diamonds_of S.g sp) ts (get_or S.a.moves w []) steps vertices d m

@@ -1,7 +1,3 @@
--- breadth-first lists
-pub mod BreadthFirst
--- closed local walks
-pub mod LocalLoops
 -- what the theorem is said of
 pub mod Setting
 -- what Even's moves choose, and where diamonds lead then
@@ -18,3 +14,5 @@ pub mod CrossedEdges
 pub mod Loops
 -- a graph, an arena and a solution have one model
 pub mod OneModel
+-- where the states begin
+pub mod MetStates

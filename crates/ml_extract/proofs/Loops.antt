@@ -1,11 +1,11 @@
 -- The theorem: the graph holds at the start of the model.
 --
--- Suppose that a strategy of Odd's wins from the start. Then from a state that the play entered, at a node, it comes to a
--- next one, for ever; there are finitely many pairs of a state and a node, so one comes again. Between the two times the
--- play of the checking game has an odd lowest priority d, since Odd wins it. The guess d has a stack in the history of the
--- state where the loop begins, since it was entered by a step; it is kept on the whole loop, and where d is met its
--- transition accepts. By the second cycle law the lowest mark of the steps on the loop is odd. But they are the priorities of
--- a play of the decision game that follows Even's moves, which win.
+-- Suppose that a strategy of Odd's wins from the start. Then from a state that the play entered, at a node, it comes
+-- to a next one, for ever; there are finitely many pairs of a state and a node, so one comes again. Between the two
+-- times the play of the checking game has an odd lowest priority d, since Odd wins it. The guess d has a stack in the
+-- history of the state where the loop begins, since it was entered by a step; it is kept on the whole loop, and where
+-- d is met its transition accepts. By the second cycle law the lowest mark of the steps on the loop is odd. But they
+-- are the priorities of a play of the decision game that follows Even's moves, which win.
 --
 --   onward, reach    == the next state that is entered, and the one behind so many steps
 --   word             == the letters on the way
@@ -375,6 +375,14 @@ module _ (S : Setting) (R : Rival S) where
 -- ---- the theorem
 
 module _ (S : Setting) where
+  -- Even's moves win from vertex 0
+  pub won_at_start : WonByMoves S 0
+  won_at_start =
+      let ok = arena.is_game S.g S.a S.arena in
+      let low : 0 < Rattle.ml_parity.specs.Game.size (game_of S.a) = omega (arith, arena.size_is S.g S.a S.arena) in
+      solution_wins_from (game_of S.a) ok S.s S.solved Even 0 low
+      ((solution_winner (game_of S.a) ok S.s S.solved Even 0 low).0 S.even_wins)
+
   -- the start of the model
   start_state : FirstState S.model.states → AtState S
   start_state x = record {
@@ -383,17 +391,8 @@ module _ (S : Setting) where
     is_state = x.stands;
     position = start_of S.g;
     stands = subst (λ v. PositionAt S.a v (start_of S.g)) (sym x.first_is) S.arena.starts;
-    won = subst (WonByMoves S) (sym x.first_is) won;
+    won = subst (WonByMoves S) (sym x.first_is) won_at_start;
   }
-    where
-      low : 0 < Rattle.ml_parity.specs.Game.size (game_of S.a)
-      low = omega (arith, arena.size_is S.g S.a S.arena)
-
-      won : WonByMoves S 0
-      won =
-          let ok = arena.is_game S.g S.a S.arena in
-          solution_wins_from (game_of S.a) ok S.s S.solved Even 0 low
-          ((solution_winner (game_of S.a) ok S.s S.solved Even 0 low).0 S.even_wins)
 
   no_rival : (R : Rival S) → OddWins S R 0 S.g.root → ⊥
   unfolding start_state
@@ -425,15 +424,15 @@ module _ (S : Setting) where
 
 -- where Even wins the decision game, the model of Even's moves is a structure at whose start the graph holds
 pub models_hold : ModelsHold
-models_hold g a s g_ok is solved even_wins m start model = extracted (record {
+models_hold g a s m start even model = extracted (record {
   g = g;
   a = a;
   s = s;
   m = m;
   start = start;
-  g_ok = g_ok;
-  arena = is;
-  solved = solved;
-  even_wins = even_wins;
+  g_ok = even.is_graph;
+  arena = even.is_arena;
+  solved = even.is_solution;
+  even_wins = even.wins;
   model = model;
 })

@@ -9,11 +9,10 @@
 --   Earlier, earlier_state == each state but the first is the next one of an earlier state
 --   reached_from_start, has_diamond == each state is reached along edges, each edge has a diamond's action
 --   target_in, target_from == where the edges of an action lead
-use Rattle.std.proofs.Common.{length, ℕ, zero, suc, ◌≡◌, ◌<◌, ◌≤◌, ◌==◌, ◌⊎◌, inl, inr, Bool, true, false, ◌&&◌, not, List, [], ◌∷◌, get_or, slice_get, map, Some, refl, sym, ap, ◌∙◌, subst, arith}
+use Rattle.std.proofs.Common.{length, ℕ, zero, suc, ◌≡◌, ◌<◌, ◌≤◌, ◌==◌, inl, inr, Bool, true, false, ◌&&◌, List, [], ◌∷◌, get_or, slice_get, map, Some, refl, sym, ap, ◌∙◌, subst, arith}
 use Rattle.std.specs.List.{flat_map, zip, filter}
 use Rattle.std.specs.Str.{bytes_eq}
-use Rattle.std.proofs.lemmas.Bool.{cases_eq}
-use Rattle.std.proofs.lemmas.Bool.Decides.{nat_tests, Decides-eqb}
+use Rattle.std.proofs.lemmas.Bool.Decides.{Decides-eqb}
 use Rattle.std.proofs.lemmas.List.{get_or-map, length-map}
 use Rattle.std.proofs.lemmas.Option.{slice_get_within, slice_get-get_or, get_or_from_slice_get}
 use Rattle.std.proofs.lemmas.Slice.Eq.{bytes_eq-Decides}
@@ -32,7 +31,7 @@ use Rattle.ml_product.specs.Arena.{Arena}
 use Rattle.ml_product.proofs.ArenaGame.{member_of_get}
 use Rattle.ml_extract.specs.Model.{SpreadAt, Chooses, ends, moves, State, nexts, next_positions, IsModelOf}
 use Rattle.ml_extract.specs.Extraction.{IsReachedFrom, itself, along, HasDiamond}
-use Rattle.ml_extract.proofs.BreadthFirst.{member-each_once}
+use Rattle.ml_lists.proofs.BreadthFirst.{member-each_once}
 use Rattle.ml_extract.proofs.Setting.{Setting}
 
 -- the state that begins at position v
@@ -108,7 +107,9 @@ last_spread g a s v w sp (ends _ _ h none) = h
 last_spread g a s v w sp (moves _ _ n open_sp _ h is_open rest) = last_spread g a s _ w sp rest
 
 -- the model is a structure
-pub structure_of : (g : Graph) (a : Arena) (s : GameSolution) (m : Structure) (start : ℕ) → IsModelOf g a s m start → IsStructure m
+pub structure_of : (g : Graph) (a : Arena) (s : GameSolution) (m : Structure) (start : ℕ)
+    → IsModelOf g a s m start
+    → IsStructure m
 structure_of g a s m start model = record {
   has_state = low 0 first.state first.stands;
   labels_states = model.labels_each ∙ sym model.a_state_each;
@@ -174,7 +175,8 @@ module _ (S : Setting) where
 
   pub earlier_state : (k : ℕ) (x : State) → 0 < k → slice_get S.model.states k ≡ Some x → Earlier k x
   earlier_state k x behind is =
-      from (S.model.are_states.breadth_first.from_earlier k behind (omega (arith, low, length-map S.model.states (λ (y : State). y.first))))
+      from (S.model.are_states.breadth_first.from_earlier k behind
+      (omega (arith, low, length-map S.model.states (λ (y : State). y.first))))
     where
       low : k < length S.model.states
       low = slice_get_within S.model.states k x is
@@ -184,7 +186,8 @@ module _ (S : Setting) where
           get_or-map (λ (y : State). y.first) S.model.states k x 0 low
           ∙ ap (λ (y : State). y.first) (get_or_from_slice_get S.model.states k x x is)
 
-      from : ((j : ℕ) × (j < k) × IsMember (get_or (map (λ (y : State). y.first) S.model.states) k 0) (get_or (map (next_positions S.g S.a) S.model.states) j []))
+      from : ((j : ℕ) × (j < k) × IsMember (get_or (map (λ (y : State). y.first) S.model.states) k 0)
+          (get_or (map (next_positions S.g S.a) S.model.states) j []))
           → Earlier k x
       from (j, less, m) =
           let j_low : j < length S.model.states = omega (arith, low) in

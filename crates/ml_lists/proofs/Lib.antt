@@ -60,3 +60,5 @@ pub mod Times
 pub mod Within
 -- lists in the order of a relation
 pub mod InOrder
+-- breadth-first lists
+pub mod BreadthFirst

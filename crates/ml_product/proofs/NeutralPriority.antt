@@ -1,7 +1,7 @@
 -- The neutral priority stands above those of all marks.
 --
--- Names in use are at most as many as items, and these at most as many as states of the trace automaton. So the mark of a
--- step has a number below the neutral priority.
+-- Names in use are at most as many as items, and these at most as many as states of the trace automaton. So the mark
+-- of a step has a number below the neutral priority.
 --
 --   MovesTo             == a position to which a move leads: with one more side, or by a step along a diamond
 --   moves_to            == each move to a position is one of these

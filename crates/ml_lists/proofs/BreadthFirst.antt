@@ -118,23 +118,31 @@ module _ {X : Type 0} (key : X → ℕ) (row : X → List ℕ) (start : ℕ) whe
           ∙ ap (λ k. get_or (map key front ++ key x ∷ map key back) k 0) at
           ∙ get_or-append-add (map key front) (key x ∷ map key back) 0 0
 
-      from : ((j : ℕ) × (j < length front) × IsMember (get_or (map key (front ++ x ∷ back)) (length front) 0) (get_or (map row (front ++ x ∷ back)) j []))
+      from : ((j : ℕ) × (j < length front) × IsMember (get_or (map key (front ++ x ∷ back)) (length front) 0)
+          (get_or (map row (front ++ x ∷ back)) j []))
           → IsMember (key x) (found front)
       from (j, earlier, m) =
           let low : j < length (map row front) = omega (arith, length-map front row) in
           let row_is : get_or (map row (front ++ x ∷ back)) j [] ≡ get_or (map row front) j [] =
-          ap (λ rs. get_or rs j []) (map-append row front (x ∷ back)) ∙ get_or_append_left (map row front) (map row (x ∷ back)) [] j low in
-          let here = subst (IsMember (key x)) row_is (subst (λ k. IsMember k (get_or (map row (front ++ x ∷ back)) j [])) key_is m) in
+          ap (λ rs. get_or rs j []) (map-append row front (x ∷ back)) ∙ get_or_append_left (map row front)
+          (map row (x ∷ back)) [] j low in
+          let here =
+          subst (IsMember (key x)) row_is (subst (λ k. IsMember k (get_or (map row (front ++ x ∷ back)) j []))
+          key_is m) in
           member-each_once (key x) (start ∷ flat_map (λ r. r) (map row front))
-          (inr (member-flat_map (λ r. r) (get_or (map row front) j []) (key x) (map row front) (place-member (map row front) j [] low) here))
+          (inr (member-flat_map (λ r. r) (get_or (map row front) j []) (key x) (map row front)
+          (place-member (map row front) j [] low) here))
 
   -- what a front leads to begins the list
-  found_first : (front rest : List X) → Ordered (front ++ rest) → (more : List ℕ) × (map key (front ++ rest) ≡ found front ++ more)
+  found_first : (front rest : List X)
+      → Ordered (front ++ rest)
+      → (more : List ℕ) × (map key (front ++ rest) ≡ found front ++ more)
   found_first front rest o =
       let whole = flat_map (λ (r : List ℕ). r) (map row front) in
       let r = each_once-front (start ∷ whole) (flat_map (λ r. r) (map row rest)) in
       let rows : flat_map (λ (r : List ℕ). r) (map row (front ++ rest)) ≡ whole ++ flat_map (λ r. r) (map row rest) =
-      ap (flat_map (λ (r : List ℕ). r)) (map-append row front rest) ∙ flat_map-append (λ (r : List ℕ). r) (map row front) (map row rest) in
+      ap (flat_map (λ (r : List ℕ). r)) (map-append row front rest) ∙ flat_map-append (λ (r : List ℕ). r)
+      (map row front) (map row rest) in
       (r.0, o.in_order ∙ ap (λ zs. each_once (start ∷ zs)) rows ∙ r.1)
 
   -- the next entry is what is found next
@@ -148,12 +156,17 @@ module _ {X : Type 0} (key : X → ℕ) (row : X → List ℕ) (start : ℕ) whe
       keys = map-append key front (x ∷ back)
 
       once : AreOnce (map key front ++ key x ∷ map key back)
-      once = subst AreOnce (sym o.in_order ∙ keys) (each_once-is (start ∷ flat_map (λ r. r) (map row (front ++ x ∷ back))))
+      once =
+          subst AreOnce (sym o.in_order ∙ keys) (each_once-is (start ∷ flat_map (λ r. r) (map row (front ++ x ∷ back))))
 
-      by_front : (more : List ℕ) → map key front ++ key x ∷ map key back ≡ found front ++ more → Fronts (map key front) (found front)
+      by_front : (more : List ℕ)
+          → map key front ++ key x ∷ map key back ≡ found front ++ more
+          → Fronts (map key front) (found front)
           → (rest : List ℕ) × (found front ≡ map key front ++ key x ∷ rest)
       by_front more e (shorter rest is) =
-          let inside = subst (IsMember (key x)) (sym is) (member-append_left (key x) (found front) rest (next_found front x back o some)) in
+          let inside =
+          subst (IsMember (key x)) (sym is) (member-append_left (key x) (found front) rest
+          (next_found front x back o some)) in
           absurd (once_apart (map key front) (key x) (map key back) once inside)
       by_front more e (longer z rest is) =
           let both : map key front ++ key x ∷ map key back ≡ map key front ++ (z ∷ rest ++ more) =
@@ -162,17 +175,23 @@ module _ {X : Type 0} (key : X → ℕ) (row : X → List ℕ) (start : ℕ) whe
           let same : z ≡ key x = cc in
           (rest, is ∙ ap (λ k. map key front ++ k ∷ rest) same)
 
-      from : ((more : List ℕ) × (map key (front ++ x ∷ back) ≡ found front ++ more)) → (rest : List ℕ) × (found front ≡ map key front ++ key x ∷ rest)
+      from : ((more : List ℕ) × (map key (front ++ x ∷ back) ≡ found front ++ more))
+          → (rest : List ℕ) × (found front ≡ map key front ++ key x ∷ rest)
       from (more, e) =
           let whole = sym keys ∙ e in
           by_front more whole (fronts (map key front) (key x ∷ map key back) (found front) more whole)
 
   -- where the list ends, nothing more is found
-  nothing_behind : (front : List X) (y : X) (ys : List X) → Ordered (front ++ []) → Ordered (front ++ y ∷ ys) → 0 < length front → ⊥
+  nothing_behind : (front : List X) (y : X) (ys : List X)
+      → Ordered (front ++ [])
+      → Ordered (front ++ y ∷ ys)
+      → 0 < length front
+      → ⊥
   nothing_behind front y ys ended o some =
       let next = next_is front y ys o some in
       let whole = subst Ordered (append-nil front) ended in
-      let sizes : length (map key front) ≡ length (map key front ++ key y ∷ next.0) = ap length (whole.in_order ∙ next.1) in
+      let sizes : length (map key front) ≡ length (map key front ++ key y ∷ next.0) =
+      ap length (whole.in_order ∙ next.1) in
       omega (arith, length-append (map key front) (key y ∷ next.0))
 
   module _ (P : X → Type 0) (one : (x y : X) → P x → P y → key x ≡ key y → x ≡ y) where
@@ -189,12 +208,17 @@ module _ {X : Type 0} (key : X → ℕ) (row : X → List ℕ) (start : ℕ) whe
     same_rest front (x ∷ xs) (y ∷ ys) o p some all_x all_y =
         let next_x = next_is front x xs o some in
         let next_y = next_is front y ys p some in
-        let tails = append_cancel_left (map key front) (key x ∷ next_x.0) (key y ∷ next_y.0) (sym next_x.1 ∙ next_y.1) in
+        let tails =
+        append_cancel_left (map key front) (key x ∷ next_x.0) (key y ∷ next_y.0) (sym next_x.1 ∙ next_y.1) in
         let keys : key x ≡ key y = cc in
         let same : x ≡ y = one x y (all_x x (inl refl)) (all_y y (inl refl)) keys in
         let o_next = subst Ordered (sym (append_assoc front (x ∷ []) xs)) o in
-        let p_next = subst Ordered (sym (append_assoc front (x ∷ []) ys)) (subst (λ z. Ordered (front ++ z ∷ ys)) (sym same) p) in
-        let rest = same_rest (front ++ x ∷ []) xs ys o_next p_next (omega (arith, length-append front (x ∷ []))) (λ z m. all_x z (inr m)) (λ z m. all_y z (inr m)) in
+        let p_next =
+        subst Ordered (sym (append_assoc front (x ∷ []) ys)) (subst (λ z. Ordered (front ++ z ∷ ys)) (sym same)
+        p) in
+        let rest =
+        same_rest (front ++ x ∷ []) xs ys o_next p_next (omega (arith, length-append front (x ∷ [])))
+        (λ z m. all_x z (inr m)) (λ z m. all_y z (inr m)) in
         ap (λ z. z ∷ xs) same ∙ ap (λ zs. y ∷ zs) rest
 
     -- two breadth-first lists whose entries are known by their numbers are one
@@ -212,5 +236,7 @@ module _ {X : Type 0} (key : X → ℕ) (row : X → List ℕ) (start : ℕ) whe
         let x_is : key x ≡ start = cc in
         let y_is : key y ≡ start = cc in
         let same : x ≡ y = one x y (all_x x (inl refl)) (all_y y (inl refl)) (x_is ∙ sym y_is) in
-        let rest = same_rest (x ∷ []) xs ys o (subst (λ z. Ordered (z ∷ ys)) (sym same) p) (omega arith) (λ z m. all_x z (inr m)) (λ z m. all_y z (inr m)) in
+        let rest =
+        same_rest (x ∷ []) xs ys o (subst (λ z. Ordered (z ∷ ys)) (sym same) p) (omega arith)
+        (λ z m. all_x z (inr m)) (λ z m. all_y z (inr m)) in
         ap (λ z. z ∷ xs) same ∙ ap (λ zs. y ∷ zs) rest
