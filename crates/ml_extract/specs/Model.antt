@@ -7,16 +7,16 @@
 --
 --   PositionAt a v p     == p is the position with the number v
 --   SpreadAt g a v sp    == sp is the spread of the position with the number v
---   Chooses g a s v w sp == from position v Even's moves choose until no or-node is open: at position w, with its spread sp
---   State                == where a state begins, and where nothing is left to choose, by the numbers of these positions;
+--   Chooses g a s v w sp == from position v Even's moves choose until no or-node is open: at position w with spread sp
+--   State                == where a state begins, and where nothing is left to choose, by the numbers of the positions;
 --                           and the spread of the latter, which is the state's spread
 --   nexts g a x          == the diamonds of the state's spread, each with the number of the position to which it leads
 --   next_positions g a x == these numbers
 --   AreStates g a s xs   == xs are the states, breadth first: the first one begins at position 0, and the others at the
 --                           next positions of states
 --   IsLabel g x name     == it is the name of a proposition whose positive literal is in the state's spread
---   IsModelEdge g a xs e == of some diamond of the state that e leaves, e has the action, and leads to the state that begins
---                           at the position to which this diamond leads
+--   IsModelEdge g a xs e == of some diamond of the state that e leaves, e has the action, and leads to the state that
+--                           begins at the position to which this diamond leads
 --   IsModelOf g a s m i  == m has these states, labels and edges, nothing twice, and i is the first state
 use Rattle.std.specs.Prelude.{ℕ, ◌≡◌, ◌↔◌, true, List, [], map, length, get_or, slice_get, slice_index_or, Some}
 use Rattle.std.specs.List.{zip}

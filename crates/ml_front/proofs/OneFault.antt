@@ -4,7 +4,8 @@
 --   some_head       == one of the two
 --   head_or_fault   == never both
 --   one_fault       == a text has one first bad line at most
-use Rattle.std.proofs.Common.{◌≡◌, ◌⊎◌, Bool, true, false, [], ◌∷◌, codes, inl, inr, ap, ⊎_elim, get_or}
+--   head_rules_rise == the numbers of the rules of a line rise
+use Rattle.std.proofs.Common.{◌≡◌, ◌⊎◌, Bool, true, false, [], ◌∷◌, codes, inl, inr, ap, ⊎_elim, get_or, arith}
 use Rattle.ml_base.specs.declared.doc_fault.DocFault.{DocFault}
 use Rattle.ml_base.specs.declared.version.Version.{Version}
 use Rattle.ml_base.specs.declared.version.Version.TheVariants.{One, Two}
@@ -12,11 +13,12 @@ use Rattle.ml_lines.specs.Lines.{Line}
 use Rattle.ml_lines.specs.Reading.{lines_of}
 use Rattle.ml_lines.proofs.DecidedWords.{decided_line}
 use Rattle.ml_lines.proofs.Faults as text
+use Rattle.ml_lists.proofs.Ascending.{ascending-one, ascending-cons}
 use Rattle.ml_lists.specs.Documents.{IsReadable, Judges}
 use Rattle.ml_lists.proofs.Decided.{Decided, decided_bytes, decided_same}
 use Rattle.ml_lists.proofs.Documents.{judged}
 use Rattle.ml_front.specs.Head.{title_line, answer_line, logic_line, sense_line}
-use Rattle.ml_front.specs.HeadRules.{AtTitle, AtAnswer, AtLogic, AtSense, AtFormula, Behind, IsFormulaLine, formula_bytes, rules, head, IsHeadFault, SomeHead, HeadOrFault, OneHeadFault}
+use Rattle.ml_front.specs.HeadRules.{AtTitle, AtAnswer, AtLogic, AtSense, AtFormula, Behind, IsFormulaLine, formula_bytes, rules, head, IsHeadFault, SomeHead, HeadOrFault, OneHeadFault, HeadRulesRise}
 use Rattle.ml_front.specs.declared.answer.Answer.{Answer}
 use Rattle.ml_front.specs.declared.answer.Answer.TheVariants.{Satisfiable, Unsatisfiable, Undecided}
 use Rattle.ml_front.specs.declared.logic.Logic.{Logic}
@@ -107,3 +109,11 @@ head_or_fault a t v p rest fault h found =
 
 pub one_fault : OneHeadFault
 one_fault a t e f x y = text.one_fault (λ left. head a) 1 AtTitle t e f x y
+
+pub head_rules_rise : HeadRulesRise
+head_rules_rise a AtTitle = ascending-one 1
+head_rules_rise a AtAnswer = ascending-cons 1 3 [] (omega arith) (ascending-one 3)
+head_rules_rise a AtLogic = ascending-one 1
+head_rules_rise a (AtSense l) = ascending-one 1
+head_rules_rise a (AtFormula l) = ascending-cons 1 2 [] (omega arith) (ascending-one 2)
+head_rules_rise a Behind = tt

@@ -15,7 +15,7 @@
 --   rules a place           == the rules of a line at a place, where the answer a is wanted
 --   head a                  == the places with their rules
 --   IsHeadFault a text f    == f tells the first bad line of the head, and the lowest rule that it breaks
---   SomeHead, HeadOrFault, OneHead, OneHeadFault, HeadsReadBack == the laws of these notions
+--   SomeHead, HeadOrFault, OneHead, OneHeadFault, HeadRulesRise, HeadsReadBack == the laws of these notions
 use Rattle.std.specs.Prelude.{ℕ, ◌≡◌, ◌⊎◌, Bool, false, List, [], ◌∷◌, ◌++◌, drop, codes}
 use Rattle.std.specs.List.{list_any, join_with_byte}
 use Rattle.ml_base.specs.declared.doc_fault.DocFault.{DocFault}
@@ -23,7 +23,7 @@ use Rattle.ml_base.specs.declared.version.Version.{Version}
 use Rattle.ml_lines.specs.Faults.{IsFault}
 use Rattle.ml_lines.specs.Lines.{Word, Line, text_of}
 use Rattle.ml_lines.specs.Reading.{is_line_end, word}
-use Rattle.ml_lists.specs.Documents.{Format, Rule, rule}
+use Rattle.ml_lists.specs.Documents.{Format, NumbersRise, Rule, rule}
 use Rattle.ml_front.specs.Head.{title_line, answer_line, logic_line, sense_line, lines_about, head_lines}
 use Rattle.ml_front.specs.Logics.{logic_of, logic_named, IsParsedAs, IsWellFormed}
 use Rattle.ml_front.specs.declared.answer.Answer.{Answer}
@@ -108,6 +108,10 @@ OneHead = (a : Answer) (text : List ℕ) (v w : Version) (p q : Problem) (rest m
 -- a text has one first bad line at most
 abbrev pub OneHeadFault : Type 0
 OneHeadFault = (a : Answer) (text : List ℕ) (e f : DocFault) → IsHeadFault a text e → IsHeadFault a text f → e ≡ f
+
+-- the rules of each line rise by their numbers, so the first one that is broken is the lowest
+abbrev pub HeadRulesRise : Type 0
+HeadRulesRise = (a : Answer) → NumbersRise (head a)
 
 -- the head of a written document about a well-formed formula is read as it was written, in either version
 abbrev pub HeadsReadBack : Type 0

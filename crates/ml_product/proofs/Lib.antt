@@ -4,3 +4,5 @@ pub mod Reached
 pub mod ArenaGame
 -- the neutral priority stands above those of all marks
 pub mod NeutralPriority
+-- what there is one of: spreads, and places of positions
+pub mod OnePlace

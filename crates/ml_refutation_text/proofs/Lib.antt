@@ -28,3 +28,5 @@ pub mod ReadLines
 pub mod Standing
 -- what has no bad line is a text of a refutation
 pub mod ReadableTexts
+-- the rules of a line rise by their numbers
+pub mod RisingRules

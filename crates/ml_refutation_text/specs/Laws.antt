@@ -7,13 +7,15 @@
 --   FaultOrReadable       == and never both
 --   ReadableIsRefutation  == a text has no bad line exactly where it is that of a refutation
 --   OneFault              == a text has one first bad line at most
+--   RulesRise             == the rules of each line rise by their numbers, so the first one that is broken is the lowest
 use Rattle.std.specs.Prelude.{ℕ, ◌≡◌, ◌↔◌, ◌⊎◌, List}
 use Rattle.ml_base.specs.declared.doc_fault.DocFault.{DocFault}
 use Rattle.ml_base.specs.declared.version.Version.{Version}
 use Rattle.ml_refutation.specs.Refutation.{Refutation, IsRefutation}
 use Rattle.ml_refutation_text.specs.RefutationText.{IsTextOf}
 use Rattle.ml_refutation_text.specs.WrittenText.{IsCounted, written_text}
-use Rattle.ml_refutation_text.specs.BodyRules.{IsFaultOf, IsReadableBody}
+use Rattle.ml_lists.specs.Documents.{NumbersRise}
+use Rattle.ml_refutation_text.specs.BodyRules.{body, IsFaultOf, IsReadableBody}
 
 abbrev pub IsRefutationText : Version → List ℕ → Type 0
 IsRefutationText v text = (r : Refutation) × IsRefutation r × IsTextOf v text r
@@ -39,3 +41,6 @@ ReadableIsRefutation = (v : Version) (text : List ℕ) → IsReadableBody v text
 abbrev pub OneFault : Type 0
 OneFault = (v : Version) (text : List ℕ) (first : ℕ) (e f : DocFault)
     → IsFaultOf v text first e → IsFaultOf v text first f → e ≡ f
+
+abbrev pub RulesRise : Type 0
+RulesRise = (v : Version) (left : List ℕ) → NumbersRise (body v left)

@@ -11,17 +11,17 @@
 use Rattle.std.proofs.Common.{ℕ, ◌≡◌, ◌<◌, ◌⊎◌, inl, inr, List, refl, sym, subst}
 use Rattle.ml_lists.specs.Member.{IsMember}
 use Rattle.ml_lists.proofs.Member.{member-append}
-use Rattle.ml_graph.specs.Graph.{Graph, size, priority_at}
+use Rattle.ml_graph.specs.Graph.{Graph, size}
 use Rattle.ml_parity.specs.declared.one_sided.graph.Arc.{Arc}
 use Rattle.ml_parity.specs.Solution.{GameSolution}
 use Rattle.ml_product.specs.Arena.{Arena}
 use Rattle.ml_product.specs.DecisionGame.{IsResolved}
 use Rattle.ml_product.specs.Position.{Position, with_chosen}
+use Rattle.ml_product.proofs.NeutralPriority.{sequent_low}
 use Rattle.ml_product.proofs.Reached.{Facts}
 use Rattle.ml_refutation.specs.Refutation.{Decision, Split, Clash, Go}
 use Rattle.ml_sequent.specs.declared.choice.Side.{Side}
 use Rattle.ml_sequent.specs.declared.choice.Side.TheVariants.{Left, Right}
-use Rattle.ml_sequent.specs.LocalWalk.{stays}
 use Rattle.ml_sequent.specs.Spread.{SpreadList, IsSpreadOf}
 use Rattle.ml_trace.specs.declared.marks.Mark.{Mark}
 use Rattle.ml_trace.specs.Marks.{priority}
@@ -149,9 +149,9 @@ module _ (g : Graph) (a : Arena) (s : GameSolution) (ps : List Position) where
       → (n : ℕ)
       → IsMember n p.sequent
       → n < size g
-  nodes_low p d is n inside =
+  nodes_low p d is =
       let here = spread_here p d is in
-      here.is_spread.low n ((here.is_spread.nodes n).1 (record { from = n; member = inside; lowest = priority_at g n; walk = stays n }))
+      sequent_low g p here.spread here.is_spread
 
 -- with one side more the same facts are true
 pub chosen_facts : (g : Graph) (p : Position) (o : ℕ) (x : Side) → Facts g p → Facts g (with_chosen g p o x)

@@ -20,25 +20,35 @@ use Rattle.ml_refutation.specs.Acceptance.{entry_at, no_entry}
 use Rattle.ml_refutation.specs.Refutation.{Refutation, Entry}
 use Rattle.ml_refute.specs.Extracted.{leads_to, IsOutlineOf, IsEntryAt}
 use Rattle.ml_refute.proofs.Decisions.{LedTo, go_to, nodes_low}
-use Rattle.ml_refute.proofs.Places.{placed_member, placed_low, Taken, place_taken}
+use Rattle.std.proofs.lemmas.Option.{slice_get_within, slice_get-get_or}
+use Rattle.ml_product.proofs.ArenaGame.{member_of_get}
 
-module _ (g : Graph) (a : Arena) (arena : IsArenaOf g a) (s : GameSolution) (r : Refutation) (o : IsOutlineOf g a s r) where
+-- a graph, its arena, a solution, and a refutation that is the solution's as far as its heights
+pub record Extraction : Type 0 where
+  pub g : Graph
+  pub a : Arena
+  pub arena : IsArenaOf g a
+  pub s : GameSolution
+  pub r : Refutation
+  pub o : IsOutlineOf g a s r
+
+module _ (X : Extraction) where
   -- each entry has a position
   pub record At (e : ℕ) : Type 0 where
     pub position : Position
-    pub placed : slice_get o.positions e ≡ Some position
-    pub is_entry : IsEntryAt g a s o.positions position (entry_at r e)
+    pub placed : slice_get X.o.positions e ≡ Some position
+    pub is_entry : IsEntryAt X.g X.a X.s X.o.positions position (entry_at X.r e)
 
-  pub position_at : (e : ℕ) → e < length r.entries → At e
-  position_at e low = from (place_taken o.positions e (omega (arith, o.a_position_each)))
-    where
-      from : Taken o.positions e → At e
-      from t = record { position = t.entry; placed = t.stands; is_entry = o.are_entries e t.entry t.stands }
+  pub position_at : (e : ℕ) → e < length X.r.entries → At e
+  position_at e low =
+      let p : Position = get_or X.o.positions e (start_of X.g) in
+      let placed = slice_get-get_or X.o.positions e (start_of X.g) (omega (arith, X.o.a_position_each)) in
+      record { position = p; placed = placed; is_entry = X.o.are_entries e p placed }
 
   -- that of entry 0 is the start
-  pub start_is : (p : Position) → slice_get o.positions 0 ≡ Some p → p ≡ start_of g
+  pub start_is : (p : Position) → slice_get X.o.positions 0 ≡ Some p → p ≡ start_of X.g
   start_is p placed =
-      let same : Some p ≡ Some (start_of g) = sym placed ∙ o.starts ∙ arena.starts in
+      let same : Some p ≡ Some (start_of X.g) = sym placed ∙ X.o.starts ∙ X.arena.starts in
       cc
 
   -- an entry but the first has an earlier one that leads to it
@@ -46,26 +56,26 @@ module _ (g : Graph) (a : Arena) (arena : IsArenaOf g a) (s : GameSolution) (r :
     pub before : ℕ
     pub earlier : before < e
     pub before_at : At before
-    pub leads : IsMember e (leads_to (entry_at r before).decision)
-    pub led : LedTo g a s o.positions before_at.position e
+    pub leads : IsMember e (leads_to (entry_at X.r before).decision)
+    pub led : LedTo X.g X.a X.s X.o.positions before_at.position e
 
-  pub led_from : (k : ℕ) → suc k < length r.entries → LedFrom (suc k)
-  led_from k low = from (o.breadth_first.from_earlier (suc k) (omega arith) (omega (arith, length-range_with_len 0 (length r.entries))))
+  pub led_from : (k : ℕ) → suc k < length X.r.entries → LedFrom (suc k)
+  led_from k low = from (X.o.breadth_first.from_earlier (suc k) (omega arith) (omega (arith, length-range_with_len 0 (length X.r.entries))))
     where
-      number_is : get_or (range_with_len 0 (length r.entries)) (suc k) 0 ≡ suc k
+      number_is : get_or (range_with_len 0 (length X.r.entries)) (suc k) 0 ≡ suc k
       number_is =
-          let place = get_or-range_with_len 0 (length r.entries) (suc k) 0 low in
+          let place = get_or-range_with_len 0 (length X.r.entries) (suc k) 0 low in
           omega (arith, place)
 
       at_row : (j : ℕ)
           → j < suc k
-          → IsMember (get_or (range_with_len 0 (length r.entries)) (suc k) 0) (get_or (map (λ (e : Entry). leads_to e.decision) r.entries) j [])
-          → IsMember (suc k) (leads_to (entry_at r j).decision)
+          → IsMember (get_or (range_with_len 0 (length X.r.entries)) (suc k) 0) (get_or (map (λ (e : Entry). leads_to e.decision) X.r.entries) j [])
+          → IsMember (suc k) (leads_to (entry_at X.r j).decision)
       at_row j early inside =
-          subst (λ v. IsMember v (leads_to (entry_at r j).decision)) number_is
-          (subst (λ row. IsMember (get_or (range_with_len 0 (length r.entries)) (suc k) 0) row) (get_or-map (λ (e : Entry). leads_to e.decision) r.entries j no_entry [] (omega arith)) inside)
+          subst (λ v. IsMember v (leads_to (entry_at X.r j).decision)) number_is
+          (subst (λ row. IsMember (get_or (range_with_len 0 (length X.r.entries)) (suc k) 0) row) (get_or-map (λ (e : Entry). leads_to e.decision) X.r.entries j no_entry [] (omega arith)) inside)
 
-      from : ((j : ℕ) × (j < suc k) × IsMember (get_or (range_with_len 0 (length r.entries)) (suc k) 0) (get_or (map (λ (e : Entry). leads_to e.decision) r.entries) j []))
+      from : ((j : ℕ) × (j < suc k) × IsMember (get_or (range_with_len 0 (length X.r.entries)) (suc k) 0) (get_or (map (λ (e : Entry). leads_to e.decision) X.r.entries) j []))
           → LedFrom (suc k)
       from (j, early, inside) =
           let here = position_at j (omega arith) in
@@ -74,31 +84,35 @@ module _ (g : Graph) (a : Arena) (arena : IsArenaOf g a) (s : GameSolution) (r :
             earlier = early;
             before_at = here;
             leads = at_row j early inside;
-            led = go_to g a s o.positions here.position (entry_at r j).decision here.is_entry.decision (suc k) (at_row j early inside);
+            led = go_to X.g X.a X.s X.o.positions here.position (entry_at X.r j).decision here.is_entry.decision (suc k) (at_row j early inside);
           }
 
   -- a position that a go leads to is one of the arena
   pub go_reached : (p : Position) (f : ℕ) (q : Position)
-      → slice_get o.positions f ≡ Some q
-      → LedTo g a s o.positions p f
-      → IsReached g q
+      → slice_get X.o.positions f ≡ Some q
+      → LedTo X.g X.a X.s X.o.positions p f
+      → IsReached X.g q
   go_reached p f q placed l =
       let next = l.go.is_go.next in
       let same : Some next ≡ Some q = sym l.go.is_go.is_entry ∙ placed in
       let here : next ≡ q = cc in
-      subst (IsReached g) here ((arena.are_reached next).0 (placed_member a.positions _ next l.go.is_go.is_choice.chosen))
+      subst (IsReached X.g) here ((X.arena.are_reached next).0 (member_of_get X.a.positions _ next l.go.is_go.is_choice.chosen))
 
   -- each is reached
-  pub is_reached : (e : ℕ) (p : Position) → slice_get o.positions e ≡ Some p → IsReached g p
-  is_reached zero p placed = subst (IsReached g) (sym (start_is p placed)) at_start
-  is_reached (suc k) p placed = from (led_from k (omega (arith, placed_low o.positions (suc k) p placed, o.a_position_each)))
+  pub is_reached : (e : ℕ) (p : Position) → slice_get X.o.positions e ≡ Some p → IsReached X.g p
+  is_reached zero p placed = subst (IsReached X.g) (sym (start_is p placed)) at_start
+  is_reached (suc k) p placed = from (led_from k (omega (arith, slice_get_within X.o.positions (suc k) p placed, X.o.a_position_each)))
     where
-      from : LedFrom (suc k) → IsReached g p
+      from : LedFrom (suc k) → IsReached X.g p
       from l = go_reached l.before_at.position (suc k) p placed l.led
 
-  pub facts_at : (e : ℕ) (p : Position) → slice_get o.positions e ≡ Some p → Facts g p
-  facts_at e p placed = reached_facts g p (is_reached e p placed)
+  pub facts_at : (e : ℕ) (p : Position) → slice_get X.o.positions e ≡ Some p → Facts X.g p
+  facts_at e p placed = reached_facts X.g p (is_reached e p placed)
 
-  pub low_at : (e : ℕ) (p : Position) → slice_get o.positions e ≡ Some p → (n : ℕ) → IsMember n p.sequent → n < size g
+  pub low_at : (e : ℕ) (p : Position)
+      → slice_get X.o.positions e ≡ Some p
+      → (n : ℕ)
+      → IsMember n p.sequent
+      → n < size X.g
   low_at e p placed =
-      nodes_low g a s o.positions p (entry_at r e).decision (o.are_entries e p placed).decision
+      nodes_low X.g X.a X.s X.o.positions p (entry_at X.r e).decision (X.o.are_entries e p placed).decision

@@ -13,30 +13,29 @@ use Rattle.std.proofs.Common.{ℕ, zero, suc, ◌≡◌, ◌+◌, ◌*◌, ◌<�
 use Rattle.std.proofs.lemmas.Bool.{cases_eq, cond-true}
 use Rattle.ml_lists.specs.Member.{IsMember}
 use Rattle.ml_lists.proofs.Members.{member_of_contains}
-use Rattle.ml_graph.specs.Graph.{Graph}
 use Rattle.ml_parity.specs.declared.one_sided.graph.Arc.{Arc}
 use Rattle.ml_parity.specs.declared.players.Player.TheVariants.{Even, Odd}
 use Rattle.ml_parity.specs.Player.{side}
 use Rattle.ml_parity.specs.Heights.{IsWalk, count_at, IsEvenCycle, EvenCycleIn}
-use Rattle.ml_parity.specs.Solution.{GameSolution, IsSolution, choice_at, winner_at}
+use Rattle.ml_parity.specs.Solution.{IsSolution, choice_at, winner_at}
 use Rattle.ml_parity.specs.Winner.{WinsFrom}
 use Rattle.ml_parity.proofs.FollowedWalks.{won_at_end, walks_joined, closed_walk_good}
 use Rattle.ml_parity.proofs.HeightWalks.{counts-none}
-use Rattle.ml_product.specs.Arena.{Arena, IsArenaOf, game_of}
+use Rattle.ml_product.specs.Arena.{game_of}
 use Rattle.ml_product.specs.Position.{Position, neutral}
 use Rattle.ml_refutation.specs.Acceptance.{entry_at}
-use Rattle.ml_refutation.specs.Refutation.{Refutation}
 use Rattle.ml_trace.specs.declared.marks.Mark.{Mark}
 use Rattle.ml_trace.specs.declared.marks.Mark.TheVariants.{Red, Green, Neutral}
 use Rattle.ml_trace.specs.Marks.{priority, FitsBelow}
-use Rattle.ml_refute.specs.Extracted.{IsOutlineOf, arcs_of, go_graph}
+use Rattle.std.proofs.lemmas.Option.{slice_get_within}
+use Rattle.ml_product.proofs.OnePlace.{PlaceOf, place_of}
+use Rattle.ml_refute.specs.Extracted.{arcs_of, go_graph}
 use Rattle.ml_refute.proofs.Decisions.{GoIn}
-use Rattle.ml_refute.proofs.Entries.{At, position_at, LedFrom, led_from, is_reached}
+use Rattle.ml_refute.proofs.Entries.{Extraction, At, position_at, LedFrom, led_from, is_reached}
 use Rattle.ml_refute.proofs.GoGraph.{GoArc, go_arc, mark_low}
-use Rattle.ml_refute.proofs.GoSteps.{mark_fits}
+use Rattle.ml_refute.proofs.GoSteps.{number_fits}
 use Rattle.ml_refute.proofs.GoWalks.{ArcTo, arc_to, Walk, ArcWalk, walk_of_arc}
-use Rattle.ml_refute.proofs.Places.{Placed, member_placed, placed_low}
-use Rattle.ml_refute.proofs.Turns.{same_place}
+use Rattle.ml_product.proofs.OnePlace.{same_place}
 
 -- ---- marks
 
@@ -73,176 +72,181 @@ even_is_not_odd k even odd =
     let wrong : Even ≡ Odd = sym good ∙ odd in
     absurd (cc)
 
-module _ (g : Graph) (a : Arena) (arena : IsArenaOf g a) (s : GameSolution) (solution : IsSolution (game_of a) s)
-    (odd : winner_at s.winner 0 ≡ Odd) (r : Refutation) (o : IsOutlineOf g a s r) where
+module _ (X : Extraction) (solution : IsSolution (game_of X.a) X.s) (odd : winner_at X.s.winner 0 ≡ Odd) where
   abbrev top : ℕ
-  top = 2 * r.names
+  top = 2 * X.r.names
 
   abbrev Won : ℕ → Type 0
-  Won v = WinsFrom (game_of a) Odd (choice_at s.choice) v
+  Won v = WinsFrom (game_of X.a) Odd (choice_at X.s.choice) v
 
   -- ---- entries and their vertices
 
   -- an entry with its vertex
   pub record Entered (e : ℕ) : Type 0 where
-    pub here : At g a arena s r o e
+    pub here : At X e
     pub vertex : ℕ
-    pub stands : slice_get a.positions vertex ≡ Some here.position
+    pub stands : slice_get X.a.positions vertex ≡ Some here.position
 
-  entered : (e : ℕ) → e < length r.entries → Entered e
-  entered e low = from (position_at g a arena s r o e low)
+  entered : (e : ℕ) → e < length X.r.entries → Entered e
+  entered e low = from (position_at X e low)
     where
-      from : At g a arena s r o e → Entered e
-      from h = with_place (member_placed a.positions h.position ((arena.are_reached h.position).1 (is_reached g a arena s r o e h.position h.placed)))
+      from : At X e → Entered e
+      from h = with_place (place_of h.position X.a.positions ((X.arena.are_reached h.position).1 (is_reached X e h.position h.placed)))
         where
-          with_place : Placed h.position a.positions → Entered e
+          with_place : PlaceOf h.position X.a.positions → Entered e
           with_place p = record { here = h; vertex = p.place; stands = p.stands }
 
   -- the walk to an entry to which an entry leads
-  walk_on : (e : ℕ) (h : At g a arena s r o e) (v : ℕ) → slice_get a.positions v ≡ Some h.position → (arc : Arc)
-      → IsMember arc (arcs_of top e (entry_at r e).decision)
-      → ArcWalk g a arena s solution o.positions top e v h.position arc
+  walk_on : (e : ℕ) (h : At X e) (v : ℕ) → slice_get X.a.positions v ≡ Some h.position → (arc : Arc)
+      → IsMember arc (arcs_of top e (entry_at X.r e).decision)
+      → ArcWalk X solution top e v h.position arc
   walk_on e h v stands arc inside =
-      walk_of_arc g a arena s solution o.positions top e (entry_at r e).decision v h.position stands h.is_entry.decision arc inside
+      walk_of_arc X solution top e (entry_at X.r e).decision v h.position stands h.is_entry.decision arc inside
 
   -- Odd wins the vertex of each entry; n is above it
   entry_won : (n e : ℕ)
       → e < n
       → (p : Position)
-      → slice_get o.positions e ≡ Some p
+      → slice_get X.o.positions e ≡ Some p
       → (v : ℕ)
-      → slice_get a.positions v ≡ Some p
+      → slice_get X.a.positions v ≡ Some p
       → Won v
   entry_won zero e low p placed v stands = absurd (omega arith)
   entry_won (suc n) zero low p placed v stands = subst Won (sym at_start) won
     where
       at_start : v ≡ 0
-      at_start = same_place a.positions arena.are_different v 0 p stands (sym o.starts ∙ placed)
+      at_start = same_place X.a.positions X.arena.are_different v 0 p stands (sym X.o.starts ∙ placed)
 
       won : Won 0
-      won = subst (λ x. WinsFrom (game_of a) x (choice_at s.choice) 0) odd (solution.wins 0 (omega (arith, Rattle.std.proofs.Common.length-append a.owners (Even ∷ Even ∷ []))))
+      won = subst (λ x. WinsFrom (game_of X.a) x (choice_at X.s.choice) 0) odd (solution.wins 0 (omega (arith, Rattle.std.proofs.Common.length-append X.a.owners (Even ∷ Even ∷ []))))
   entry_won (suc n) (suc k) low p placed v stands =
-      from (led_from g a arena s r o k (omega (arith, placed_low o.positions (suc k) p placed, o.a_position_each))) (λ e early. entry_won n e (omega arith))
+      from (led_from X k (omega (arith, slice_get_within X.o.positions (suc k) p placed, X.o.a_position_each))) (λ e early. entry_won n e (omega arith))
     where
-      of_arc : (l : LedFrom g a arena s r o (suc k)) (u : ℕ)
-          → slice_get a.positions u ≡ Some l.before_at.position
+      of_arc : (l : LedFrom X (suc k)) (u : ℕ)
+          → slice_get X.a.positions u ≡ Some l.before_at.position
           → Won u
-          → ArcTo top l.before (entry_at r l.before).decision (suc k)
+          → ArcTo top l.before (entry_at X.r l.before).decision (suc k)
           → Won v
       of_arc l u u_stands u_won arc =
           along (walk_on l.before l.before_at u u_stands (record { from = l.before; priority = priority top arc.mark; to = suc k }) arc.inside)
         where
-          along : ArcWalk g a arena s solution o.positions top l.before u l.before_at.position (record { from = l.before; priority = priority top arc.mark; to = suc k })
+          along : ArcWalk X solution top l.before u l.before_at.position (record { from = l.before; priority = priority top arc.mark; to = suc k })
               → Won v
           along w =
               let entry_is : suc k ≡ w.entry = ap (λ (x : Arc). x.to) w.arc_is in
-              let same_next : Some w.walk.go.is_go.next ≡ Some p = sym w.walk.go.is_go.is_entry ∙ ap (slice_get o.positions) (sym entry_is) ∙ placed in
+              let same_next : Some w.walk.go.is_go.next ≡ Some p = sym w.walk.go.is_go.is_entry ∙ ap (slice_get X.o.positions) (sym entry_is) ∙ placed in
               let same : w.walk.go.is_go.next ≡ p = cc in
-              let here : w.walk.vertex ≡ v = same_place a.positions arena.are_different w.walk.vertex v p (w.walk.stands ∙ ap Some same) stands in
-              subst Won here (won_at_end (game_of a) Odd (choice_at s.choice) u w.walk.lowest w.walk.vertex w.walk.walk u_won)
+              let here : w.walk.vertex ≡ v = same_place X.a.positions X.arena.are_different w.walk.vertex v p (w.walk.stands ∙ ap Some same) stands in
+              subst Won here (won_at_end (game_of X.a) Odd (choice_at X.s.choice) u w.walk.lowest w.walk.vertex w.walk.walk u_won)
 
-      from : LedFrom g a arena s r o (suc k)
-          → ((e : ℕ) → e < suc k → (q : Position) → slice_get o.positions e ≡ Some q → (u : ℕ) → slice_get a.positions u ≡ Some q → Won u)
+      from : LedFrom X (suc k)
+          → ((e : ℕ) → e < suc k → (q : Position) → slice_get X.o.positions e ≡ Some q → (u : ℕ) → slice_get X.a.positions u ≡ Some q → Won u)
           → Won v
-      from l earlier_won = of_vertex (entered l.before (omega (arith, l.earlier, placed_low o.positions (suc k) p placed, o.a_position_each)))
+      from l earlier_won = of_vertex (entered l.before (omega (arith, l.earlier, slice_get_within X.o.positions (suc k) p placed, X.o.a_position_each)))
         where
           of_vertex : Entered l.before → Won v
           of_vertex b =
               let same : Some b.here.position ≡ Some l.before_at.position = sym b.here.placed ∙ l.before_at.placed in
-              let u_stands : slice_get a.positions b.vertex ≡ Some l.before_at.position = b.stands ∙ same in
+              let u_stands : slice_get X.a.positions b.vertex ≡ Some l.before_at.position = b.stands ∙ same in
               of_arc l b.vertex u_stands (earlier_won l.before l.earlier l.before_at.position l.before_at.placed b.vertex u_stands)
-              (arc_to top l.before (entry_at r l.before).decision (suc k) l.leads)
+              (arc_to top l.before (entry_at X.r l.before).decision (suc k) l.leads)
 
   -- ---- walks of arcs
 
-  abbrev at_entry : (e : ℕ) (p : Position) → slice_get o.positions e ≡ Some p → At g a arena s r o e
-  at_entry e p placed = record { position = p; placed = placed; is_entry = o.are_entries e p placed }
+  abbrev at_entry : (e : ℕ) (p : Position) → slice_get X.o.positions e ≡ Some p → At X e
+  at_entry e p placed = record { position = p; placed = placed; is_entry = X.o.are_entries e p placed }
 
-  entry_in : (e : ℕ) (p : Position) → slice_get o.positions e ≡ Some p → e < length r.entries
-  entry_in e p placed = omega (arith, placed_low o.positions e p placed, o.a_position_each)
+  entry_in : (e : ℕ) (p : Position) → slice_get X.o.positions e ≡ Some p → e < length X.r.entries
+  entry_in e p placed = omega (arith, slice_get_within X.o.positions e p placed, X.o.a_position_each)
 
   -- an arc from the entry e, as a walk from its vertex
-  arc_walk : (x : Arc) (e v : ℕ) (p : Position) → slice_get o.positions e ≡ Some p → slice_get a.positions v ≡ Some p
-      → IsMember x (go_graph r).arcs
+  arc_walk : (x : Arc) (e v : ℕ) (p : Position)
+      → slice_get X.o.positions e ≡ Some p
+      → slice_get X.a.positions v ≡ Some p
+      → IsMember x (go_graph X.r).arcs
       → x.from ≡ e
-      → ArcWalk g a arena s solution o.positions top e v p x
-  arc_walk x e v p placed stands inside leaves = from (go_arc g a arena s r o x inside)
+      → ArcWalk X solution top e v p x
+  arc_walk x e v p placed stands inside leaves = from (go_arc X x inside)
     where
-      from : GoArc g a arena s r o x → ArcWalk g a arena s solution o.positions top e v p x
+      from : GoArc X x → ArcWalk X solution top e v p x
       from i =
           let here : i.begins ≡ e = sym (ap (λ (y : Arc). y.from) i.arc_is.arc_is) ∙ leaves in
-          walk_on e (at_entry e p placed) v stands x (subst (λ k. IsMember x (arcs_of top k (entry_at r k).decision)) here i.inside)
+          walk_on e (at_entry e p placed) v stands x (subst (λ k. IsMember x (arcs_of top k (entry_at X.r k).decision)) here i.inside)
 
   -- the mark of a go of the entry fits
-  go_fits : (e : ℕ) (p : Position) (f : ℕ) (m : Mark) → slice_get o.positions e ≡ Some p → GoIn g a s o.positions p f m
+  go_fits : (e : ℕ) (p : Position) (f : ℕ) (m : Mark)
+      → slice_get X.o.positions e ≡ Some p
+      → GoIn X.g X.a X.s X.o.positions p f m
       → FitsBelow top m
   go_fits e p f m placed go =
-      mark_fits r.names top m (omega arith) (mark_low g a arena s r o e (at_entry e p placed) (entry_in e p placed) f m go)
+      number_fits X.r.names top m (omega arith) (mark_low X e (at_entry e p placed) (entry_in e p placed) f m go)
 
   -- let the mark have the lowest number on the way
-  module _ (lowest_mark : Mark) (fits_top : FitsBelow top lowest_mark) (fits_game : FitsBelow (neutral g) lowest_mark) where
+  module _ (lowest_mark : Mark) (fits_top : FitsBelow top lowest_mark) (fits_game : FitsBelow (neutral X.g) lowest_mark) where
     abbrev in_file : ℕ
     in_file = priority top lowest_mark
 
     abbrev in_game : ℕ
-    in_game = priority (neutral g) lowest_mark
+    in_game = priority (neutral X.g) lowest_mark
 
     -- where an arc of no lower number leads, the priority is no lower
     arc_high : (x : Arc)
-        → IsMember x (go_graph r).arcs
+        → IsMember x (go_graph X.r).arcs
         → in_file ≤ x.priority
         → (q : Position)
-        → slice_get o.positions x.to ≡ Some q
+        → slice_get X.o.positions x.to ≡ Some q
         → in_game ≤ q.priority
-    arc_high x inside high q placed = from (go_arc g a arena s r o x inside)
+    arc_high x inside high q placed = from (go_arc X x inside)
       where
-        from : GoArc g a arena s r o x → in_game ≤ q.priority
+        from : GoArc X x → in_game ≤ q.priority
         from i =
             let m = i.arc_is.mark in
             let go = i.arc_is.go in
             let to_is : x.to ≡ i.arc_is.entry = ap (λ (y : Arc). y.to) i.arc_is.arc_is in
             let number_is : x.priority ≡ priority top m = ap (λ (y : Arc). y.priority) i.arc_is.arc_is in
-            let same_next : Some go.is_go.next ≡ Some q = sym go.is_go.is_entry ∙ ap (slice_get o.positions) (sym to_is) ∙ placed in
+            let same_next : Some go.is_go.next ≡ Some q = sym go.is_go.is_entry ∙ ap (slice_get X.o.positions) (sym to_is) ∙ placed in
             let same : go.is_go.next ≡ q = cc in
-            let up = numbers_agree top (neutral g) lowest_mark m fits_top (go_fits i.begins i.here.position i.arc_is.entry m i.here.placed go) fits_game (omega (arith, number_is, high)) in
-            let here : q.priority ≡ priority (neutral g) m = ap (λ (y : Position). y.priority) (sym same) ∙ go.is_go.marked in
+            let up = numbers_agree top (neutral X.g) lowest_mark m fits_top (go_fits i.begins i.here.position i.arc_is.entry m i.here.placed go) fits_game (omega (arith, number_is, high)) in
+            let here : q.priority ≡ priority (neutral X.g) m = ap (λ (y : Position). y.priority) (sym same) ∙ go.is_go.marked in
             omega (arith, up, here)
 
     -- the end of a walk of arcs has no lower priority
-    ends_high : (xs : List Arc) (x : Arc) (e w : ℕ) → IsWalk (go_graph r) in_file e (x ∷ xs) w → (q : Position)
-        → slice_get o.positions w ≡ Some q → in_game ≤ q.priority
+    ends_high : (xs : List Arc) (x : Arc) (e w : ℕ) → IsWalk (go_graph X.r) in_file e (x ∷ xs) w → (q : Position)
+        → slice_get X.o.positions w ≡ Some q → in_game ≤ q.priority
     ends_high [] x e w walk q placed =
-        arc_high x (member_of_contains x (go_graph r).arcs walk.0.member) walk.0.high q (subst (λ k. slice_get o.positions k ≡ Some q) (sym walk.1) placed)
+        arc_high x (member_of_contains x (go_graph X.r).arcs walk.0.member) walk.0.high q (subst (λ k. slice_get X.o.positions k ≡ Some q) (sym walk.1) placed)
     ends_high (y ∷ ys) x e w walk q placed = ends_high ys y x.to w walk.1 q placed
 
     -- arcs from the vertex v of p to the entry w, as a walk of the game
     record ArcsWalk (v : ℕ) (p : Position) (xs : List Arc) (w : ℕ) : Type 0 where
       pub end : Position
       pub vertex : ℕ
-      pub is_entry : slice_get o.positions w ≡ Some end
-      pub stands : slice_get a.positions vertex ≡ Some end
+      pub is_entry : slice_get X.o.positions w ≡ Some end
+      pub stands : slice_get X.a.positions vertex ≡ Some end
       pub lowest : ℕ
-      pub walk : Walk g a arena s solution o.positions v lowest vertex
+      pub walk : Walk X solution v lowest vertex
       pub high : in_game ≤ lowest
       pub low : lowest ≤ p.priority
       pub meets : 0 < count_at in_file xs → (lowest ≤ in_game) ⊎ (end.priority ≡ in_game)
 
-    one_arc : (x : Arc) (e v : ℕ) (p : Position) → slice_get o.positions e ≡ Some p → slice_get a.positions v ≡ Some p
+    one_arc : (x : Arc) (e v : ℕ) (p : Position)
+        → slice_get X.o.positions e ≡ Some p
+        → slice_get X.a.positions v ≡ Some p
         → in_game ≤ p.priority
-        → IsMember x (go_graph r).arcs
+        → IsMember x (go_graph X.r).arcs
         → x.from ≡ e
         → ArcsWalk v p (x ∷ []) x.to
     one_arc x e v p placed stands high inside leaves = from (arc_walk x e v p placed stands inside leaves)
       where
-        from : ArcWalk g a arena s solution o.positions top e v p x → ArcsWalk v p (x ∷ []) x.to
+        from : ArcWalk X solution top e v p x → ArcsWalk v p (x ∷ []) x.to
         from w = record {
           end = w.walk.go.is_go.next;
           vertex = w.walk.vertex;
-          is_entry = subst (λ k. slice_get o.positions k ≡ Some w.walk.go.is_go.next) (sym to_is) w.walk.go.is_go.is_entry;
+          is_entry = subst (λ k. slice_get X.o.positions k ≡ Some w.walk.go.is_go.next) (sym to_is) w.walk.go.is_go.is_entry;
           stands = w.walk.stands;
           lowest = w.walk.lowest;
           walk = w.walk.walk;
-          high = w.walk.high in_game high (up_to_top (neutral g) lowest_mark fits_game);
+          high = w.walk.high in_game high (up_to_top (neutral X.g) lowest_mark fits_game);
           low = w.walk.low;
           meets = λ some. inr (met (cases_eq x.priority in_file) some);
         }
@@ -259,8 +263,8 @@ module _ (g : Graph) (a : Arena) (arena : IsArenaOf g a) (s : GameSolution) (sol
             met : (x.priority ≡ in_file) ⊎ (x.priority ≡ in_file → ⊥) → 0 < count_at in_file (x ∷ [])
                 → w.walk.go.is_go.next.priority ≡ in_game
             met (inl same) some =
-                let up = numbers_agree top (neutral g) lowest_mark w.mark fits_top fits fits_game (omega (arith, number_is, same)) in
-                let down = numbers_agree top (neutral g) w.mark lowest_mark fits fits_top w.walk.go.is_go.is_mark (omega (arith, number_is, same)) in
+                let up = numbers_agree top (neutral X.g) lowest_mark w.mark fits_top fits fits_game (omega (arith, number_is, same)) in
+                let down = numbers_agree top (neutral X.g) w.mark lowest_mark fits fits_top w.walk.go.is_go.is_mark (omega (arith, number_is, same)) in
                 omega (arith, up, down, w.walk.go.is_go.marked)
             met (inr other) some = absurd (omega (arith, some, counts-none in_file x [] other))
 
@@ -272,7 +276,7 @@ module _ (g : Graph) (a : Arena) (arena : IsArenaOf g a) (s : GameSolution) (sol
       is_entry = rest.is_entry;
       stands = rest.stands;
       lowest = min first.lowest rest.lowest;
-      walk = walks_joined (game_of a) Odd (choice_at s.choice) v first.lowest first.vertex rest.lowest rest.vertex first.walk rest.walk;
+      walk = walks_joined (game_of X.a) Odd (choice_at X.s.choice) v first.lowest first.vertex rest.lowest rest.vertex first.walk rest.walk;
       high = omega (arith, first.high, rest.high);
       low = omega (arith, first.low);
       meets = λ some. meets (cases_eq (count_at in_file (x ∷ [])) 0) some;
@@ -295,28 +299,28 @@ module _ (g : Graph) (a : Arena) (arena : IsArenaOf g a) (s : GameSolution) (sol
         meets (inr other) some = by_first (first.meets (omega (arith, other)))
 
     walk_of_arcs : (xs : List Arc) (x : Arc) (e v : ℕ) (p : Position)
-        → slice_get o.positions e ≡ Some p
-        → slice_get a.positions v ≡ Some p
+        → slice_get X.o.positions e ≡ Some p
+        → slice_get X.a.positions v ≡ Some p
         → in_game ≤ p.priority
         → (w : ℕ)
-        → IsWalk (go_graph r) in_file e (x ∷ xs) w
+        → IsWalk (go_graph X.r) in_file e (x ∷ xs) w
         → ArcsWalk v p (x ∷ xs) w
     walk_of_arcs [] x e v p placed stands high w walk =
-        subst (ArcsWalk v p (x ∷ [])) walk.1 (one_arc x e v p placed stands high (member_of_contains x (go_graph r).arcs walk.0.member) walk.0.leaves)
+        subst (ArcsWalk v p (x ∷ [])) walk.1 (one_arc x e v p placed stands high (member_of_contains x (go_graph X.r).arcs walk.0.member) walk.0.leaves)
     walk_of_arcs (y ∷ ys) x e v p placed stands high w walk =
-        let inside = member_of_contains x (go_graph r).arcs walk.0.member in
+        let inside = member_of_contains x (go_graph X.r).arcs walk.0.member in
         let first = one_arc x e v p placed stands high inside walk.0.leaves in
         joined x y ys v p x.to w first (walk_of_arcs ys y x.to first.vertex first.end first.is_entry first.stands (arc_high x inside walk.0.high first.end first.is_entry) w walk.1)
 
     -- so no cycle has this lowest number, if it is even
     no_cycle : priority top lowest_mark % 2 ≡ 0
         → (x : Arc) (xs : List Arc) (b : ℕ)
-        → IsWalk (go_graph r) in_file b (x ∷ xs) b
+        → IsWalk (go_graph X.r) in_file b (x ∷ xs) b
         → 0 < count_at in_file (x ∷ xs) → ⊥
-    no_cycle even x xs b walk some = from (go_arc g a arena s r o x (member_of_contains x (go_graph r).arcs walk.0.member))
+    no_cycle even x xs b walk some = from (go_arc X x (member_of_contains x (go_graph X.r).arcs walk.0.member))
       where
-        from : GoArc g a arena s r o x → ⊥
-        from i = of_entry (entered b (subst (λ k. k < length r.entries) (sym (ap (λ (y : Arc). y.from) i.arc_is.arc_is) ∙ walk.0.leaves) i.is_entry))
+        from : GoArc X x → ⊥
+        from i = of_entry (entered b (subst (λ k. k < length X.r.entries) (sym (ap (λ (y : Arc). y.from) i.arc_is.arc_is) ∙ walk.0.leaves) i.is_entry))
           where
             of_entry : Entered b → ⊥
             of_entry h = of_walk (walk_of_arcs xs x b h.vertex h.here.position h.here.placed h.stands (ends_high xs x b b walk h.here.position h.here.placed) b walk)
@@ -325,10 +329,10 @@ module _ (g : Graph) (a : Arena) (arena : IsArenaOf g a) (s : GameSolution) (sol
                 of_walk c =
                     let same_end : Some c.end ≡ Some h.here.position = sym c.is_entry ∙ h.here.placed in
                     let end_is : c.end ≡ h.here.position = cc in
-                    let back : c.vertex ≡ h.vertex = same_place a.positions arena.are_different c.vertex h.vertex h.here.position (c.stands ∙ ap Some end_is) h.stands in
+                    let back : c.vertex ≡ h.vertex = same_place X.a.positions X.arena.are_different c.vertex h.vertex h.here.position (c.stands ∙ ap Some end_is) h.stands in
                     let exact : c.lowest ≡ in_game = lowest_is (ap (λ (y : Position). y.priority) end_is) (c.meets some) in
-                    let good = closed_walk_good (game_of a) Odd (choice_at s.choice) h.vertex c.lowest (subst (Walk g a arena s solution o.positions h.vertex c.lowest) back c.walk) (entry_won (suc b) b (omega arith) h.here.position h.here.placed h.vertex h.stands) in
-                    even_is_not_odd in_game (even_agrees top (neutral g) lowest_mark (omega arith) even) (sym (ap side exact) ∙ good)
+                    let good = closed_walk_good (game_of X.a) Odd (choice_at X.s.choice) h.vertex c.lowest (subst (Walk X solution h.vertex c.lowest) back c.walk) (entry_won (suc b) b (omega arith) h.here.position h.here.placed h.vertex h.stands) in
+                    even_is_not_odd in_game (even_agrees top (neutral X.g) lowest_mark (omega arith) even) (sym (ap side exact) ∙ good)
                   where
                     lowest_is : c.end.priority ≡ h.here.position.priority
                         → (c.lowest ≤ in_game) ⊎ (c.end.priority ≡ in_game)
@@ -341,32 +345,32 @@ module _ (g : Graph) (a : Arena) (arena : IsArenaOf g a) (s : GameSolution) (sol
   -- an arc of the walk with the number
   record Met (q : ℕ) : Type 0 where
     pub arc : Arc
-    pub inside : IsMember arc (go_graph r).arcs
+    pub inside : IsMember arc (go_graph X.r).arcs
     pub number : arc.priority ≡ q
 
-  met_on : (q : ℕ) (xs : List Arc) (e w : ℕ) → IsWalk (go_graph r) q e xs w → 0 < count_at q xs → Met q
+  met_on : (q : ℕ) (xs : List Arc) (e w : ℕ) → IsWalk (go_graph X.r) q e xs w → 0 < count_at q xs → Met q
   met_on q [] e w walk some = absurd (omega arith)
   met_on q (x ∷ xs) e w walk some = by_first (cases_eq x.priority q) (met_on q xs x.to w walk.1)
     where
       by_first : (x.priority ≡ q) ⊎ (x.priority ≡ q → ⊥) → (0 < count_at q xs → Met q) → Met q
       by_first (inl same) rest =
-          record { arc = x; inside = member_of_contains x (go_graph r).arcs walk.0.member; number = same }
+          record { arc = x; inside = member_of_contains x (go_graph X.r).arcs walk.0.member; number = same }
       by_first (inr other) rest = rest (omega (arith, some, counts-none q x xs other))
 
-  pub no_even_cycle : EvenCycleIn (go_graph r) → ⊥
+  pub no_even_cycle : EvenCycleIn (go_graph X.r) → ⊥
   no_even_cycle cycle = from cycle.arcs cycle.is_even
     where
-      from : (xs : List Arc) → IsEvenCycle (go_graph r) xs → ⊥
+      from : (xs : List Arc) → IsEvenCycle (go_graph X.r) xs → ⊥
       from [] c = absurd (omega (arith, c.met))
       from (x ∷ xs) c = of_arc (met_on c.lowest (x ∷ xs) c.begins c.begins c.leads_back c.met)
         where
           of_arc : Met c.lowest → ⊥
-          of_arc m = of_go (go_arc g a arena s r o m.arc m.inside)
+          of_arc m = of_go (go_arc X m.arc m.inside)
             where
-              of_go : GoArc g a arena s r o m.arc → ⊥
+              of_go : GoArc X m.arc → ⊥
               of_go i =
                   let number_is : c.lowest ≡ priority top i.arc_is.mark = sym m.number ∙ ap (λ (y : Arc). y.priority) i.arc_is.arc_is in
                   no_cycle i.arc_is.mark (go_fits i.begins i.here.position i.arc_is.entry i.arc_is.mark i.here.placed i.arc_is.go) i.arc_is.go.is_go.is_mark
                   (subst (λ k. k % 2 ≡ 0) number_is c.even) x xs c.begins
-                  (subst (λ k. IsWalk (go_graph r) k c.begins (x ∷ xs) c.begins) number_is c.leads_back)
+                  (subst (λ k. IsWalk (go_graph X.r) k c.begins (x ∷ xs) c.begins) number_is c.leads_back)
                   (subst (λ k. 0 < count_at k (x ∷ xs)) number_is c.met)

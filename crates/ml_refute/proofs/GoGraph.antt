@@ -8,25 +8,22 @@
 use Rattle.std.proofs.Common.{ℕ, zero, suc, ◌≡◌, ◌+◌, ◌*◌, ◌<◌, ◌≤◌, ◌%◌, ◌⊎◌, inl, inr, List, [], ◌∷◌, Some, length, get_or, slice_get, All, refl, sym, ap, ◌∙◌, subst, arith}
 use Rattle.ml_lists.specs.Member.{IsMember}
 use Rattle.ml_lists.proofs.Member.{member-append, member-append_left, member-append_right, member-All, All-member, place-member}
-use Rattle.ml_graph.specs.Graph.{Graph}
 use Rattle.ml_history.specs.HistoryStep.{live}
 use Rattle.ml_parity.specs.declared.one_sided.graph.Arc.{Arc}
 use Rattle.ml_parity.specs.Heights.{IsOneSided, FallsAlong, AreLongest, AreHeights}
-use Rattle.ml_parity.specs.Solution.{GameSolution}
 use Rattle.ml_parity.proofs.HeightTables.{longest_heights}
-use Rattle.ml_product.specs.Arena.{Arena, IsArenaOf}
 use Rattle.ml_product.specs.Position.{Position}
 use Rattle.ml_product.proofs.Reached.{Facts}
 use Rattle.ml_refutation.specs.Acceptance.{entry_at, no_entry, heights_of}
-use Rattle.ml_refutation.specs.Refutation.{Refutation, Entry, IsMarkOf}
+use Rattle.ml_refutation.specs.Refutation.{Entry, IsMarkOf}
 use Rattle.ml_trace.specs.declared.marks.Mark.{Mark}
 use Rattle.ml_trace.specs.declared.marks.Mark.TheVariants.{Red, Green, Neutral}
 use Rattle.ml_trace.specs.Marks.{priority}
-use Rattle.ml_refute.specs.Extracted.{IsOutlineOf, arcs_of, arcs_from, go_graph}
+use Rattle.std.proofs.lemmas.Option.{slice_get_within}
+use Rattle.ml_refute.specs.Extracted.{arcs_of, arcs_from, go_graph}
 use Rattle.ml_refute.proofs.Decisions.{GoIn, ArcOf, go_of_arc}
-use Rattle.ml_refute.proofs.Entries.{At, position_at, facts_at, low_at}
+use Rattle.ml_refute.proofs.Entries.{Extraction, At, position_at, facts_at}
 use Rattle.ml_refute.proofs.GoSteps.{go_mark_in_use}
-use Rattle.ml_refute.proofs.Places.{placed_low}
 
 -- ---- arcs of a list of entries
 
@@ -80,89 +77,91 @@ more_names live names Neutral le low = tt
 
 -- ---- those of an extracted refutation
 
-module _ (g : Graph) (a : Arena) (arena : IsArenaOf g a) (s : GameSolution) (r : Refutation) (o : IsOutlineOf g a s r) where
+module _ (X : Extraction) where
   -- each arc is that of a go of an entry
   pub record GoArc (arc : Arc) : Type 0 where
     pub begins : ℕ
-    pub is_entry : begins < length r.entries
-    pub here : At g a arena s r o begins
-    pub inside : IsMember arc (arcs_of (2 * r.names) begins (entry_at r begins).decision)
-    pub arc_is : ArcOf g a s o.positions (2 * r.names) begins here.position arc
+    pub is_entry : begins < length X.r.entries
+    pub here : At X begins
+    pub inside : IsMember arc (arcs_of (2 * X.r.names) begins (entry_at X.r begins).decision)
+    pub arc_is : ArcOf X.g X.a X.s X.o.positions (2 * X.r.names) begins here.position arc
 
-  pub go_arc : (arc : Arc) → IsMember arc (go_graph r).arcs → GoArc arc
-  go_arc arc inside = from (arc_at (2 * r.names) 0 r.entries arc inside)
+  pub go_arc : (arc : Arc) → IsMember arc (go_graph X.r).arcs → GoArc arc
+  go_arc arc inside = from (arc_at (2 * X.r.names) 0 X.r.entries arc inside)
     where
-      from : ArcAt (2 * r.names) 0 r.entries arc → GoArc arc
+      from : ArcAt (2 * X.r.names) 0 X.r.entries arc → GoArc arc
       from i =
-          let here = position_at g a arena s r o i.place i.below in
+          let here = position_at X i.place i.below in
           let same : 0 + i.place ≡ i.place = omega arith in
-          let inside_here = subst (λ e. IsMember arc (arcs_of (2 * r.names) e (entry_at r i.place).decision)) same i.inside in
+          let inside_here = subst (λ e. IsMember arc (arcs_of (2 * X.r.names) e (entry_at X.r i.place).decision)) same i.inside in
           record {
             begins = i.place;
             is_entry = i.below;
             here = here;
             inside = inside_here;
-            arc_is = go_of_arc g a s o.positions (2 * r.names) i.place here.position (entry_at r i.place).decision here.is_entry.decision arc inside_here;
+            arc_is = go_of_arc X.g X.a X.s X.o.positions (2 * X.r.names) i.place here.position (entry_at X.r i.place).decision here.is_entry.decision arc inside_here;
           }
 
   -- the names in use at an entry are among those of the refutation
-  pub live_within : (e : ℕ) (h : At g a arena s r o e) → e < length r.entries → live h.position.history ≤ r.names
+  pub live_within : (e : ℕ) (h : At X e) → e < length X.r.entries → live h.position.history ≤ X.r.names
   live_within e h low =
-      let within : (entry_at r e).traces.live ≤ r.names =
-      All-member (λ (x : Entry). x.traces.live ≤ r.names) r.entries o.names.bounds (entry_at r e) (place-member r.entries e no_entry low) in
-      let same : (entry_at r e).traces.live ≡ live h.position.history = ap (λ t. t.live) h.is_entry.traces in
+      let within : (entry_at X.r e).traces.live ≤ X.r.names =
+      All-member (λ (x : Entry). x.traces.live ≤ X.r.names) X.r.entries X.o.names.bounds (entry_at X.r e) (place-member X.r.entries e no_entry low) in
+      let same : (entry_at X.r e).traces.live ≡ live h.position.history = ap (λ t. t.live) h.is_entry.traces in
       omega (arith, within, same)
 
   -- the facts at a go
-  pub facts_below : (p : Position) (f : ℕ) (m : Mark) (go : GoIn g a s o.positions p f m) → Facts g p → Facts g go.here
+  pub facts_below : (p : Position) (f : ℕ) (m : Mark) (go : GoIn X.g X.a X.s X.o.positions p f m)
+      → Facts X.g p
+      → Facts X.g go.here
   facts_below p f m go facts = record {
     ascends = subst Rattle.ml_lists.specs.Ascending.IsAscending (sym go.same_sequent) facts.ascends;
-    stands = λ n i. subst (λ h. Rattle.ml_history.specs.CycleLaws.HasState h (Rattle.ml_product.proofs.Reached.numbered g n Rattle.std.proofs.Common.None)) (sym go.same_history) (facts.stands n (subst (λ c. IsMember n c) go.same_sequent i));
-    traced = λ b i. subst (λ c. Rattle.ml_product.proofs.Reached.IsTraced g c b) (sym go.same_sequent) (facts.traced b (subst (λ h. IsMember b h) go.same_history i));
+    stands = λ n i. subst (λ h. Rattle.ml_history.specs.CycleLaws.HasState h (Rattle.ml_product.proofs.Reached.numbered X.g n Rattle.std.proofs.Common.None)) (sym go.same_history) (facts.stands n (subst (λ c. IsMember n c) go.same_sequent i));
+    traced = λ b i. subst (λ c. Rattle.ml_product.proofs.Reached.IsTraced X.g c b) (sym go.same_sequent) (facts.traced b (subst (λ h. IsMember b h) go.same_history i));
     is_history = subst Rattle.ml_history.specs.History.IsHistory (sym go.same_history) facts.is_history;
   }
 
   -- the mark of a go has one of the refutation's names
-  pub mark_low : (e : ℕ) (h : At g a arena s r o e)
-      → e < length r.entries
+  pub mark_low : (e : ℕ) (h : At X e)
+      → e < length X.r.entries
       → (f : ℕ) (m : Mark)
-      → GoIn g a s o.positions h.position f m
-      → IsMarkOf r.names m
+      → GoIn X.g X.a X.s X.o.positions h.position f m
+      → IsMarkOf X.r.names m
   mark_low e h low f m go =
-      let facts = facts_below h.position f m go (facts_at g a arena s r o e h.position h.placed) in
-      let in_use = go_mark_in_use g go.here go.is_go.next go.spread go.diamond go.is_go.is_diamond.leads facts (λ n i. low_at g a arena s r o e h.position h.placed n (subst (λ c. IsMember n c) go.same_sequent i)) m go.is_go.marked go.is_go.is_mark in
-      more_names (live go.here.history) r.names m (subst (λ k. live k ≤ r.names) (sym go.same_history) (live_within e h low)) in_use
+      let facts = facts_below h.position f m go (facts_at X e h.position h.placed) in
+      let in_use = go_mark_in_use X.g go.here go.is_go.next go.spread go.diamond go.is_go.is_diamond.leads facts go.is_spread m go.is_go.marked go.is_go.is_mark in
+      more_names (live go.here.history) X.r.names m (subst (λ k. live k ≤ X.r.names) (sym go.same_history) (live_within e h low)) in_use
 
   -- the entry of a go is one
-  pub entry_low : (p : Position) (f : ℕ) (m : Mark) → GoIn g a s o.positions p f m → f < length r.entries
-  entry_low p f m go = let low = placed_low o.positions f go.is_go.next go.is_go.is_entry in omega (arith, low, o.a_position_each)
+  pub entry_low : (p : Position) (f : ℕ) (m : Mark) → GoIn X.g X.a X.s X.o.positions p f m → f < length X.r.entries
+  entry_low p f m go = let low = slice_get_within X.o.positions f go.is_go.next go.is_go.is_entry in omega (arith, low, X.o.a_position_each)
 
   -- the go's are a one-sided graph
-  pub is_one_sided : IsOneSided (go_graph r)
+  pub is_one_sided : IsOneSided (go_graph X.r)
   is_one_sided = record {
     even = omega arith;
-    priorities = member-All (λ (x : Arc). x.priority ≤ 2 * r.names) (go_graph r).arcs (λ x i. priority_low x (go_arc x i));
-    begins = member-All (λ (x : Arc). x.from < length r.entries) (go_graph r).arcs (λ x i. begins_low x (go_arc x i));
-    ends = member-All (λ (x : Arc). x.to < length r.entries) (go_graph r).arcs (λ x i. ends_low x (go_arc x i));
+    priorities = member-All (λ (x : Arc). x.priority ≤ 2 * X.r.names) (go_graph X.r).arcs (λ x i. priority_low x (go_arc x i));
+    begins = member-All (λ (x : Arc). x.from < length X.r.entries) (go_graph X.r).arcs (λ x i. begins_low x (go_arc x i));
+    ends = member-All (λ (x : Arc). x.to < length X.r.entries) (go_graph X.r).arcs (λ x i. ends_low x (go_arc x i));
   }
     where
-      priority_low : (x : Arc) → GoArc x → x.priority ≤ 2 * r.names
+      priority_low : (x : Arc) → GoArc x → x.priority ≤ 2 * X.r.names
       priority_low x i =
-          subst (λ (y : Arc). y.priority ≤ 2 * r.names) (sym i.arc_is.arc_is) (mark_at_most r.names i.arc_is.mark (mark_low i.begins i.here i.is_entry i.arc_is.entry i.arc_is.mark i.arc_is.go))
+          subst (λ (y : Arc). y.priority ≤ 2 * X.r.names) (sym i.arc_is.arc_is) (mark_at_most X.r.names i.arc_is.mark (mark_low i.begins i.here i.is_entry i.arc_is.entry i.arc_is.mark i.arc_is.go))
 
-      begins_low : (x : Arc) → GoArc x → x.from < length r.entries
-      begins_low x i = subst (λ (y : Arc). y.from < length r.entries) (sym i.arc_is.arc_is) i.is_entry
+      begins_low : (x : Arc) → GoArc x → x.from < length X.r.entries
+      begins_low x i = subst (λ (y : Arc). y.from < length X.r.entries) (sym i.arc_is.arc_is) i.is_entry
 
-      ends_low : (x : Arc) → GoArc x → x.to < length r.entries
+      ends_low : (x : Arc) → GoArc x → x.to < length X.r.entries
       ends_low x i =
-          subst (λ (y : Arc). y.to < length r.entries) (sym i.arc_is.arc_is) (entry_low i.here.position i.arc_is.entry i.arc_is.mark i.arc_is.go)
+          subst (λ (y : Arc). y.to < length X.r.entries) (sym i.arc_is.arc_is) (entry_low i.here.position i.arc_is.entry i.arc_is.mark i.arc_is.go)
 
   -- where the heights are the longest counts, they fall along each arc of an entry
-  pub falls : AreLongest (go_graph r) (heights_of r) → (e : ℕ) → e < length r.entries → (arc : Arc)
-      → IsMember arc (arcs_of (2 * r.names) e (entry_at r e).decision)
-      → FallsAlong (heights_of r) arc
+  pub falls : AreLongest (go_graph X.r) (heights_of X.r) → (e : ℕ) → e < length X.r.entries → (arc : Arc)
+      → IsMember arc (arcs_of (2 * X.r.names) e (entry_at X.r e).decision)
+      → FallsAlong (heights_of X.r) arc
   falls longest e low arc inside =
-      let heights : AreHeights (go_graph r) (heights_of r) = longest_heights (go_graph r) (heights_of r) is_one_sided longest in
+      let heights : AreHeights (go_graph X.r) (heights_of X.r) = longest_heights (go_graph X.r) (heights_of X.r) is_one_sided longest in
       let same : e ≡ 0 + e = omega arith in
-      All-member (FallsAlong (heights_of r)) (go_graph r).arcs heights.along arc
-      (arc_in (2 * r.names) 0 r.entries e arc low (subst (λ k. IsMember arc (arcs_of (2 * r.names) k (entry_at r e).decision)) same inside))
+      All-member (FallsAlong (heights_of X.r)) (go_graph X.r).arcs heights.along arc
+      (arc_in (2 * X.r.names) 0 X.r.entries e arc low (subst (λ k. IsMember arc (arcs_of (2 * X.r.names) k (entry_at X.r e).decision)) same inside))

@@ -9,40 +9,37 @@
 --   carries         == a transition of the letter is one of the step
 --   names           == the condition on names, with the mark of the history step
 --   mark_in_use     == the mark of a history step has a name in use
---   live_low        == no more names are in use than the automaton has states
+--   number_fits     == so its number is below neutral, where neutral is above twice the names in use
 --   same_mark       == marks whose numbers fit and are equal are equal
 --   go_mark         == the mark whose number the next position has is that of the history step
-use Rattle.std.proofs.Common.{ℕ, ◌≡◌, ◌*◌, ◌<◌, ◌≤◌, ◌%◌, ◌==◌, Bool, List, Option, Some, None, filter, map, refl, sym, ap, ◌∙◌, subst, arith, ltb, not}
+use Rattle.std.proofs.Common.{ℕ, ◌≡◌, ◌*◌, ◌≤◌, ◌%◌, ◌==◌, Bool, List, Option, Some, None, filter, refl, sym, ap, ◌∙◌, subst, arith, ltb, not}
 use Rattle.std.proofs.lemmas.Bool.{and_parts, ltb-true}
-use Rattle.std.proofs.lemmas.List.{length-map}
-use Rattle.std.proofs.lemmas.Nat.{mul-add-lt}
 use Rattle.ml_lists.specs.Member.{IsMember}
 use Rattle.ml_lists.proofs.Ascending.{ascending-is}
-use Rattle.ml_lists.proofs.Member.{Image, member-map_from}
-use Rattle.ml_graph.specs.Graph.{Graph, size, odd_priorities}
+use Rattle.ml_graph.specs.Graph.{Graph, odd_priorities}
 use Rattle.ml_history.specs.CycleLaws.{entry}
 use Rattle.ml_history.specs.HistoryStep.{live, taken_along, is_red, is_green, survives, stepped, step_mark}
 use Rattle.ml_history.proofs.definition.OneStep.{green_kept}
 use Rattle.ml_history.proofs.definition.StepMark.{mark_of-red}
 use Rattle.ml_history.proofs.definition.StepNames.{step_names}
-use Rattle.ml_history.proofs.plain_step.PlainStep.{live-length, ascending_length}
-use Rattle.ml_product.specs.Position.{Position, automaton_states, neutral, Follows}
-use Rattle.ml_product.proofs.Reached.{Facts, IsTraced}
+use Rattle.ml_product.specs.Position.{Position, neutral, Follows}
+use Rattle.ml_product.proofs.NeutralPriority.{mark_fits}
+use Rattle.ml_product.proofs.Reached.{Facts}
 use Rattle.ml_refutation.specs.GoStep.{GoStep, HasTransition}
 use Rattle.ml_refutation.specs.Refutation.{IsMarkOf}
-use Rattle.ml_sequent.specs.Spread.{SpreadList}
+use Rattle.ml_sequent.specs.Spread.{SpreadList, IsSpreadOf}
 use Rattle.ml_sequent.specs.Step.{IsTrace}
 use Rattle.ml_trace.specs.declared.letters.AutomatonState.{AutomatonState}
 use Rattle.ml_trace.specs.declared.letters.Transition.{Transition}
 use Rattle.ml_trace.specs.declared.letters.Triple.{Triple}
 use Rattle.ml_trace.specs.declared.marks.Mark.{Mark}
 use Rattle.ml_trace.specs.declared.marks.Mark.TheVariants.{Red, Green, Neutral}
-use Rattle.ml_trace.specs.Automaton.{states_per_node, number, state_of, IsGuess, Leads, Gives}
+use Rattle.ml_trace.specs.Automaton.{number, state_of, IsGuess, Leads, Gives}
 use Rattle.ml_trace.specs.Marks.{priority, FitsBelow}
 use Rattle.ml_trace.specs.NamesCondition.{NamesCondition}
 use Rattle.ml_trace.specs.Run.{in_letter}
 use Rattle.ml_trace.specs.Stack.{Item}
-use Rattle.ml_trace.proofs.Numbers.{state_of-number, guess_place-le}
+use Rattle.ml_trace.proofs.Numbers.{state_of-number}
 use Rattle.ml_refute.specs.Extracted.{traces_of}
 use Rattle.ml_refute.proofs.CarriedNames.{names_carried}
 
@@ -60,10 +57,10 @@ mark_in_use h letter (Green x) e = (green_kept h letter x e).in_use
 mark_in_use h letter Neutral e = tt
 
 -- so its number is below neutral, where neutral is above twice the names in use
-pub mark_fits : (names top : ℕ) (m : Mark) → 2 * names ≤ top → IsMarkOf names m → FitsBelow top m
-mark_fits names top (Red x) high low = omega arith
-mark_fits names top (Green x) high low = omega arith
-mark_fits names top Neutral high low = tt
+pub number_fits : (names top : ℕ) (m : Mark) → 2 * names ≤ top → IsMarkOf names m → FitsBelow top m
+number_fits names top (Red x) high low = omega arith
+number_fits names top (Green x) high low = omega arith
+number_fits names top Neutral high low = tt
 
 -- marks whose numbers fit and are equal are equal
 pub same_mark : (top : ℕ) (m n : Mark)
@@ -98,40 +95,11 @@ guess_behind odds k None (Some e) accepting leads = leads.0
 guess_behind odds k (Some c) (Some e) accepting leads = subst (λ v. IsMember v odds) (sym leads.0) leads.1
 
 module _ (g : Graph) where
-  abbrev odds : List ℕ
-  odds = odd_priorities g
-
   -- the state with the number of a state of the graph
   pub state_numbered : (v : ℕ) (s : AutomatonState) → IsGuess (odd_priorities g) s.odd → v ≡ number (odd_priorities g) s
       → state_of (odd_priorities g) v ≡ s
   state_numbered v s is e =
       ap (state_of (odd_priorities g)) e ∙ state_of-number (odd_priorities g) s (ascending-is (filter (λ d. d % 2 == 1) g.priorities)) is
-
-  -- the states of a history whose nodes are in the graph are states of its automaton
-  pub state_low : (p : Position)
-      → Facts g p
-      → ((n : ℕ) → IsMember n p.sequent → n < size g)
-      → (a : Item ℕ)
-      → IsMember a p.history
-      → a.state < automaton_states g
-  state_low p facts low a inside = from (facts.traced a inside)
-    where
-      from : IsTraced g p.sequent a → a.state < automaton_states g
-      from t =
-          let place = guess_place-le (odd_priorities g) t.state.odd (ascending-is (filter (λ d. d % 2 == 1) g.priorities)) t.is_state in
-          let below : t.state.node < size g = low t.state.node t.member in
-          let fits = mul-add-lt t.state.node (states_per_node (odd_priorities g)) (Rattle.ml_trace.specs.Automaton.guess_place (odd_priorities g) t.state.odd) (size g) below place in
-          omega (arith, fits, t.numbered_so)
-
-  -- no more names are in use than the automaton has states
-  pub live_low : (p : Position) → Facts g p → ((n : ℕ) → IsMember n p.sequent → n < size g)
-      → live p.history ≤ automaton_states g
-  live_low p facts low =
-      let few = ascending_length (map (λ (a : Item ℕ). a.state) p.history) (automaton_states g) facts.is_history.states_ascend (λ x i. from_image x (member-map_from (λ (a : Item ℕ). a.state) x p.history i)) in
-      omega (arith, few, live-length p.history facts.is_history, length-map p.history (λ (a : Item ℕ). a.state))
-    where
-      from_image : (x : ℕ) → Image (λ (a : Item ℕ). a.state) x p.history → x < automaton_states g
-      from_image x i = subst (λ v. v < automaton_states g) (sym i.holds) (state_low p facts low i.from i.member)
 
 -- ---- the step
 
@@ -173,14 +141,12 @@ module _ (g : Graph) (p q : Position) (sp : SpreadList) (d : ℕ) (f : Follows g
       subst (λ h. NamesCondition (HasTransition g) go_step (step_mark p.history f.letter) (traces_of g p.history) (traces_of g h)) (sym f.history)
       (names_carried in_letter (HasTransition g) (state_of (odd_priorities g)) f.letter go_step carries (step_mark p.history f.letter) (entry p.history) (entry (stepped p.history f.letter)) (step_names p.history f.letter facts.is_history))
 
-  module _ (facts : Facts g p) (low : (n : ℕ) → IsMember n p.sequent → n < size g) (m : Mark)
+  module _ (facts : Facts g p) (is_spread : IsSpreadOf g p.sequent p.choice sp) (m : Mark)
       (marked : q.priority ≡ priority (neutral g) m) (is_mark : FitsBelow (neutral g) m) where
     -- the mark whose number the next position has is that of the history step
     go_mark : m ≡ step_mark p.history f.letter
     go_mark =
-        let few = live_low g p facts low in
-        let used = mark_in_use p.history f.letter (step_mark p.history f.letter) refl in
-        let fits = mark_fits (live p.history) (neutral g) (step_mark p.history f.letter) (omega arith) used in
+        let fits = mark_fits g p facts sp is_spread f.letter in
         same_mark (neutral g) m (step_mark p.history f.letter) is_mark fits (sym marked ∙ f.marked)
 
     -- so it has a name in use

@@ -1,5 +1,3 @@
--- entries of a list by their places
-pub mod Places
 -- the condition on names, carried along a map of states
 pub mod CarriedNames
 -- the step along a diamond, in the words of refutations

@@ -1,77 +1,26 @@
 -- Turns of the decision game, as vertices of its parity game.
 --
---   same_place     == different positions have different places
---   same_spread    == a position has one spread
---   owner_at, moves_at, priority_at == the parity game at a position
---   Split_at, split_at == where an or-node is open, Even may go to both sides
+--   SplitAt, split_at == where an or-node is open, Even may go to both sides
 --   odd_at         == where nothing is open and there is a diamond, Odd moves
-use Rattle.std.proofs.Common.{ℕ, zero, suc, ◌≡◌, ◌+◌, ◌<◌, ◌≤◌, ◌⊎◌, inl, inr, List, [], ◌∷◌, Some, length, get_or, map, slice_get, Contains, refl, sym, ap, ◌∙◌, subst, arith}
+use Rattle.std.proofs.Common.{ℕ, ◌≡◌, ◌<◌, ◌≤◌, ◌⊎◌, inl, inr, List, [], ◌∷◌, Some, length, get_or, slice_get, Contains, refl, sym, ap, ◌∙◌, subst, arith}
 use Rattle.std.proofs.lemmas.Bool.{cases_lt}
-use Rattle.std.proofs.lemmas.List.{get_or-map, length-map, get_or_append_left}
-use Rattle.std.proofs.lemmas.Option.{get_or_from_slice_get}
 use Rattle.ml_lists.specs.Member.{IsMember}
-use Rattle.ml_lists.proofs.Ascending.{ascending_same}
 use Rattle.ml_lists.proofs.Members.{contains_head, contains_later}
 use Rattle.ml_graph.specs.Graph.{Graph}
 use Rattle.ml_parity.specs.declared.players.Player.TheVariants.{Even, Odd}
-use Rattle.ml_parity.specs.Game.{HasMove, owner_of, moves_of, priority_of}
+use Rattle.ml_parity.specs.Game.{HasMove, owner_of, moves_of}
 use Rattle.ml_product.specs.Arena.{Arena, AreVertices, IsPlayed, IsArenaOf, game_of}
-use Rattle.ml_product.specs.DecisionGame.{Verdict, Clashing, Open, Leading, Settled, Target, To, mover, IsResolved, IsVerdictOf, diamonds_of, AreMoves, AreDifferent}
+use Rattle.ml_product.specs.DecisionGame.{Verdict, Clashing, Open, Leading, Settled, Target, To, mover, IsResolved, IsVerdictOf, diamonds_of, AreMoves}
 use Rattle.ml_product.specs.Position.{Position, with_chosen}
-use Rattle.ml_sequent.specs.declared.choice.Side.{Side}
 use Rattle.ml_sequent.specs.declared.choice.Side.TheVariants.{Left, Right}
 use Rattle.ml_sequent.specs.Spread.{SpreadList, IsSpreadOf, IsLeastOpenOr}
-use Rattle.ml_refute.proofs.Places.{placed_member, placed_low}
-
--- different positions have different places
-pub same_place : (ps : List Position)
-    → AreDifferent ps
-    → (i j : ℕ) (p : Position)
-    → slice_get ps i ≡ Some p
-    → slice_get ps j ≡ Some p
-    → i ≡ j
-same_place [] apart i j p e f = cc
-same_place (x ∷ xs) apart zero zero p e f = refl
-same_place (x ∷ xs) apart zero (suc j) p e f =
-    let same : p ≡ x = cc in
-    absurd (apart.0 (subst (λ y. IsMember y xs) same (placed_member xs j p f)))
-same_place (x ∷ xs) apart (suc i) zero p e f =
-    let same : p ≡ x = cc in
-    absurd (apart.0 (subst (λ y. IsMember y xs) same (placed_member xs i p e)))
-same_place (x ∷ xs) apart (suc i) (suc j) p e f = ap suc (same_place xs apart.1 i j p e f)
-
--- a position has one spread
-pub same_spread : (g : Graph) (c : List ℕ) (h : List (ℕ × Side)) (x y : SpreadList)
-    → IsSpreadOf g c h x
-    → IsSpreadOf g c h y
-    → x ≡ y
-same_spread g c h x y at_x at_y = λ i. record { nodes = nodes i; choice = choices i }
-  where
-    nodes : x.nodes ≡ y.nodes
-    nodes =
-        ascending_same x.nodes y.nodes at_x.ascends at_y.ascends
-        (λ n m. (at_y.nodes n).1 ((at_x.nodes n).0 m))
-        (λ n m. (at_x.nodes n).1 ((at_y.nodes n).0 m))
-
-    choices : x.choice ≡ y.choice
-    choices = at_x.choice ∙ sym at_y.choice
+use Rattle.std.proofs.lemmas.Option.{slice_get_within}
+use Rattle.ml_product.proofs.ArenaGame.{owner_at, moves_at}
+use Rattle.ml_product.proofs.OnePlace.{same_spread}
 
 module _ (g : Graph) (a : Arena) (arena : IsArenaOf g a) (v : ℕ) (p : Position) (placed : slice_get a.positions v ≡ Some p) where
   low : v < length a.positions
-  low = placed_low a.positions v p placed
-
-  pub owner_at : owner_of (game_of a) v ≡ get_or a.owners v Even
-  owner_at = get_or_append_left a.owners (Even ∷ Even ∷ []) Even v (omega (arith, low, arena.an_owner_each))
-
-  pub moves_at : moves_of (game_of a) v ≡ get_or a.moves v []
-  moves_at =
-      get_or_append_left a.moves ((length a.positions ∷ []) ∷ ((length a.positions + 1) ∷ []) ∷ []) [] v (omega (arith, low, arena.moves_each))
-
-  pub priority_is : priority_of (game_of a) v ≡ p.priority
-  priority_is =
-      get_or_append_left (map (λ (q : Position). q.priority) a.positions) (1 ∷ 0 ∷ []) 0 v (omega (arith, low, length-map a.positions (λ (q : Position). q.priority)))
-      ∙ get_or-map (λ (q : Position). q.priority) a.positions v p 0 low
-      ∙ ap (λ (q : Position). q.priority) (get_or_from_slice_get a.positions v p p placed)
+  low = slice_get_within a.positions v p placed
 
   turn : IsPlayed g a.positions p (get_or a.owners v Even) (get_or a.moves v [])
   turn = arena.played v p placed
@@ -125,13 +74,13 @@ module _ (g : Graph) (a : Arena) (arena : IsArenaOf g a) (v : ℕ) (p : Position
           from : AreVertices a.positions (To (with_chosen g p n Left) ∷ To (with_chosen g p n Right) ∷ []) ws
               → SplitAt n
           from (l, rest, l_is, (k, none, k_is, none_is, rest_is), ws_are) =
-              let all : moves_of (game_of a) v ≡ l ∷ k ∷ none = moves_at ∙ ws_is ∙ ws_are ∙ ap (λ x. l ∷ x) rest_is in
+              let all : moves_of (game_of a) v ≡ l ∷ k ∷ none = moves_at g a arena v low ∙ ws_is ∙ ws_are ∙ ap (λ x. l ∷ x) rest_is in
               record {
                 left = l;
                 right = k;
                 left_is = l_is;
                 right_is = k_is;
-                is_even = owner_at ∙ owner_is;
+                is_even = owner_at g a arena v low ∙ owner_is;
                 to_left = subst (λ x. Contains x l) (sym all) (contains_head l (k ∷ none));
                 to_right = subst (λ x. Contains x k) (sym all) (contains_later l (k ∷ none) k (contains_head k none));
               }
@@ -154,7 +103,7 @@ module _ (g : Graph) (a : Arena) (arena : IsArenaOf g a) (v : ℕ) (p : Position
       → IsMember d (diamonds_of g sp)
       → owner_of (game_of a) v ≡ Odd
   odd_at d sp is_spread resolved inside =
-      owner_at ∙ turn.owner_is ∙ of_turn turn.turn.verdict turn.turn.is_verdict
+      owner_at g a arena v low ∙ turn.owner_is ∙ of_turn turn.turn.verdict turn.turn.is_verdict
     where
       same : turn.turn.spread ≡ sp
       same = same_spread g p.sequent p.choice turn.turn.spread sp turn.turn.is_spread is_spread

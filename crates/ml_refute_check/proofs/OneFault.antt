@@ -1,6 +1,6 @@
--- An accepted refutation has no first bad part, and another one has one at most.
+-- An accepted refutation has no first bad part, and another one has one at most. (`SomeFault` has that it has one.)
 --
---   fault_or_accepted == no first bad part where all parts keep their rules
+--   never_both        == no first bad part where all parts keep their rules
 --   one_fault         == two first bad parts are one, and break one lowest rule
 --   rules_rise        == the rules of each part rise by their numbers
 use Rattle.std.proofs.Common.{ℕ, ◌≡◌, ◌<◌, ◌≤◌, ◌⊎◌, inl, inr, List, [], ◌∷◌, get_or, sym, subst, arith}
@@ -14,11 +14,11 @@ use Rattle.ml_graph.specs.Graph.{Graph}
 use Rattle.ml_sequent.specs.declared.choice.Side.{Side}
 use Rattle.ml_refutation.specs.Refutation.{Refutation, Decision, Split, Clash, Go}
 use Rattle.ml_refutation.specs.Acceptance.{entry_at, Sequent, Live, Item, Decided, parts, rules, IsFirstBad}
-use Rattle.ml_refute_check.specs.Soundness.{FaultOrAccepted, OneFault, RulesRise}
+use Rattle.ml_refute_check.specs.Soundness.{NeverBoth, OneFault, RulesRise}
 
 -- no first bad part where all parts keep their rules
-pub fault_or_accepted : FaultOrAccepted
-fault_or_accepted g r e k number accepted bad =
+pub never_both : NeverBoth
+never_both g r e k number accepted bad =
     let part = get_or (parts (entry_at r e)) k Sequent in
     let member = place-member (parts (entry_at r e)) k Sequent bad.is_part in
     kept_not_broken g (rules r e part) number (accepted e part bad.is_entry member) bad.broken

@@ -1,10 +1,14 @@
 -- What an accepted refutation tells, and what one that isn't accepted has.
 --
+-- In a graph, a refutation is accepted or has exactly one first bad part, which breaks exactly one lowest rule; never
+-- both. This asks nothing of the refutation.
+--
 --   AcceptedHoldsNowhere == where a refutation is accepted for a graph, the graph holds at no state of any structure
---   FaultOrAccepted      == an accepted refutation has no first bad part
+--   AcceptedOrFault      == in a graph, a refutation is accepted or has a first bad part
+--   NeverBoth            == an accepted refutation has no first bad part
 --   OneFault             == a refutation has one first bad part at most, which breaks one lowest rule
 --   RulesRise            == the rules of each part rise by their numbers, so the first one that is broken is the lowest
-use Rattle.std.specs.Prelude.{ℕ, ◌<◌, ◌≡◌}
+use Rattle.std.specs.Prelude.{ℕ, ◌<◌, ◌≡◌, ◌⊎◌}
 use Rattle.ml_base.specs.Structure.{Structure, IsStructure}
 use Rattle.ml_lists.specs.Ascending.{IsAscending}
 use Rattle.ml_lists.specs.Documents.{numbers}
@@ -18,8 +22,13 @@ AcceptedHoldsNowhere =
     (g : Graph) (r : Refutation) → IsGraph g → IsRefutation r → IsAccepted g r
     → (m : Structure) → IsStructure m → (s : ℕ) → s < m.states → Holds g m s → ⊥
 
-abbrev pub FaultOrAccepted : Type 0
-FaultOrAccepted = (g : Graph) (r : Refutation) (e k number : ℕ) → IsAccepted g r → IsFirstBad g r e k number → ⊥
+abbrev pub AcceptedOrFault : Type 0
+AcceptedOrFault =
+    (g : Graph) (r : Refutation) → IsGraph g
+    → IsAccepted g r ⊎ ((e : ℕ) × (k : ℕ) × (number : ℕ) × IsFirstBad g r e k number)
+
+abbrev pub NeverBoth : Type 0
+NeverBoth = (g : Graph) (r : Refutation) (e k number : ℕ) → IsAccepted g r → IsFirstBad g r e k number → ⊥
 
 abbrev pub OneFault : Type 0
 OneFault =

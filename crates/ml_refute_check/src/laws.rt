@@ -1,7 +1,7 @@
 // Laws about the definitions alone: empty functions, each of whose contract is a theorem.
 
 ghost use Rattle.ml_refute_check.specs.Problems.{RefutedIsUnsatisfiable};
-ghost use Rattle.ml_refute_check.specs.Soundness.{AcceptedHoldsNowhere, FaultOrAccepted, OneFault, RulesRise};
+ghost use Rattle.ml_refute_check.specs.Soundness.{AcceptedHoldsNowhere, AcceptedOrFault, NeverBoth, OneFault, RulesRise};
 
 /// Where a refutation breaks no rule in a graph, the graph holds at no state of any structure. Graphs, refutations and
 /// structures are of any size; how the refutation was made doesn't matter.
@@ -11,12 +11,14 @@ pub fn accepted_holds_nowhere()
     ensures law { AcceptedHoldsNowhere }
 {}
 
-/// A refutation isn't both accepted and bad at a first part, it has one first bad part at most, and that one breaks one
-/// lowest rule: the rules of a part rise by their numbers.
+/// In a graph, a refutation is accepted or has a first bad part, and never both. It has one first bad part at most, and
+/// that one breaks one lowest rule: the rules of a part rise by their numbers. So a refutation that isn't accepted has
+/// exactly one first bad part, with exactly one lowest rule. Nothing is asked of the refutation.
 ///
 /// Does nothing when called.
 pub fn one_fault()
-    ensures exclusive { FaultOrAccepted }
+    ensures some { AcceptedOrFault }
+    ensures exclusive { NeverBoth }
     ensures fault { OneFault }
     ensures lowest { RulesRise }
 {}

@@ -1,4 +1,5 @@
 use Rattle.ml_refutation_text.proofs.RefutationTexts as proved
+use Rattle.ml_refutation_text.proofs.RisingRules.{rules_rise}
 use Rattle.ml_refutation_text.proofs.laws.one_fault.Goals as goal
 
 pub returns-clause-one : goal.returns-clause-one
@@ -12,3 +13,6 @@ returns-clause-fault c = proved.one_fault
 
 pub returns-clause-readable : goal.returns-clause-readable
 returns-clause-readable c = proved.readable_is_refutation
+
+pub returns-clause-lowest : goal.returns-clause-lowest
+returns-clause-lowest c = rules_rise

@@ -4,6 +4,7 @@ use Rattle.ml_refute.proofs.laws.extracted_are_accepted.Goals as goal
 
 pub returns : goal.returns
 returns c = record {
-  law = λ g a s r arena is. extracted_accepted g a arena s r is;
-  is_refutation = λ g a s r g_ok small priorities_fit positions_fit arena is. extracted_refutation g g_ok small priorities_fit a positions_fit arena s r is;
+  law = λ g a s r arena is. extracted_accepted (record { g = g; a = a; arena = arena; s = s; r = r; o = is.outline }) is.heights;
+  is_refutation = λ g a s r g_ok small priorities_fit positions_fit arena is.
+      extracted_refutation (record { g = g; a = a; arena = arena; s = s; r = r; o = is.outline }) is.heights g_ok small priorities_fit positions_fit;
 }
