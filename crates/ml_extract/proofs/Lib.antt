@@ -1,3 +1,5 @@
+-- the decision game with a solution in which Even wins
+pub mod Board
 -- what the theorem is said of
 pub mod Setting
 -- what Even's moves choose, and where diamonds lead then

@@ -56,7 +56,8 @@ use Rattle.ml_product.proofs.NeutralPriority.{mark_fits, sequent_low}
 use Rattle.ml_product.proofs.Reached.{numbered}
 use Rattle.ml_extract.specs.Model.{PositionAt, State}
 use Rattle.ml_extract.specs.Extraction.{Extracted, ModelsHold}
-use Rattle.ml_extract.proofs.Setting.{Setting, even_moves, WonByMoves, EvenWalk}
+use Rattle.ml_extract.proofs.Board.{won_at_first}
+use Rattle.ml_extract.proofs.Setting.{Setting, board, even_moves, WonByMoves, EvenWalk}
 use Rattle.ml_extract.proofs.Numbering.{FirstState, first_state, state_low, is_structure, reached_from_start, has_diamond}
 use Rattle.ml_extract.proofs.AtNodes.{Rival, pair, OddWalk, OddWins, AtState}
 use Rattle.ml_extract.proofs.LeavingStates.{odd_side}
@@ -375,14 +376,6 @@ module _ (S : Setting) (R : Rival S) where
 -- ---- the theorem
 
 module _ (S : Setting) where
-  -- Even's moves win from vertex 0
-  pub won_at_start : WonByMoves S 0
-  won_at_start =
-      let ok = arena.is_game S.g S.a S.arena in
-      let low : 0 < Rattle.ml_parity.specs.Game.size (game_of S.a) = omega (arith, arena.size_is S.g S.a S.arena) in
-      solution_wins_from (game_of S.a) ok S.s S.solved Even 0 low
-      ((solution_winner (game_of S.a) ok S.s S.solved Even 0 low).0 S.even_wins)
-
   -- the start of the model
   start_state : FirstState S.model.states → AtState S
   start_state x = record {
@@ -391,7 +384,7 @@ module _ (S : Setting) where
     is_state = x.stands;
     position = start_of S.g;
     stands = subst (λ v. PositionAt S.a v (start_of S.g)) (sym x.first_is) S.arena.starts;
-    won = subst (WonByMoves S) (sym x.first_is) won_at_start;
+    won = subst (WonByMoves S) (sym x.first_is) (won_at_first (board S));
   }
 
   no_rival : (R : Rival S) → OddWins S R 0 S.g.root → ⊥

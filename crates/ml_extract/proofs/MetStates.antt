@@ -25,11 +25,11 @@ use Rattle.ml_product.specs.Arena.{AreVertices, game_of}
 use Rattle.ml_product.proofs.ArenaGame.{member_of_get, moves_at, lost_moves, won_moves, is_game}
 use Rattle.ml_extract.specs.Model.{PositionAt, SpreadAt, Chooses, ends, moves, State, nexts}
 use Rattle.ml_extract.specs.Extraction.{IsMet, at_first, by_move, StatesAreMet}
-use Rattle.ml_extract.proofs.Setting.{Setting, even_moves, WonByMoves, EvenMove, EvenWalk}
+use Rattle.ml_extract.proofs.Setting.{Setting, board, even_moves, WonByMoves, EvenMove, EvenWalk}
 use Rattle.ml_extract.proofs.Choosing.{AtWon, choosing, leading, settled, at_spread, paired_back, way_of}
 use Rattle.ml_extract.proofs.Numbering.{StateAt, first_state, state_for, Earlier, earlier_state}
 use Rattle.ml_extract.proofs.AtNodes.{AtState, resolved_at}
-use Rattle.ml_extract.proofs.Loops.{won_at_start}
+use Rattle.ml_extract.proofs.Board.{won_at_first}
 
 -- a choice with a side more isn't empty
 with_side_some : (c : List (ℕ × Side)) (o : ℕ) (x : Side) → with_side c o x ≡ [] → ⊥
@@ -79,7 +79,7 @@ module _ (S : Setting) where
           let leads : IsMember (i.from.0, x.first) (nexts S.g S.a c.state) =
           subst (λ v. IsMember (i.from.0, v) (nexts S.g S.a c.state)) (sym i.holds) i.member in
           let way =
-          way_of S t.position c.state.first c.state.last c.state.spread (resolved_at S t) i.from.0 x.first leads in
+          way_of (board S) t.position c.state.first c.state.last c.state.spread (resolved_at S t) i.from.0 x.first leads in
           record {
             position = way.position;
             stands = way.stands;
@@ -96,7 +96,7 @@ module _ (S : Setting) where
       record {
         position = start_of S.g;
         stands = subst (λ v. PositionAt S.a v (start_of S.g)) (sym first_is) S.arena.starts;
-        won = subst (WonByMoves S) (sym first_is) (won_at_start S);
+        won = subst (WonByMoves S) (sym first_is) (won_at_first (board S));
         met = subst Met (sym first_is) at_first;
         unchosen = refl;
       }
@@ -130,7 +130,7 @@ module _ (S : Setting) where
         rest =
             subst (λ v. Chooses S.g S.a S.s v x.state.last x.state.spread) x.first_is
             (S.model.are_states.chosen x.state member);
-        won = won_at_start S;
+        won = won_at_first (board S);
         entered = λ p stands none. sym x.first_is;
       }
 
@@ -222,7 +222,7 @@ module _ (S : Setting) where
         → ((n : ℕ) → IsOpenOr S.g sp n → ⊥)
         → v ≡ c.state.last
         → sp ≡ c.state.spread
-        → AtWon S v h.position sp
+        → AtWon (board S) v h.position sp
         → OnCourse w
     by_end sp h none v_is sp_is (choosing o x own is_open next chosen) = absurd (none o is_open)
     by_end sp h none v_is sp_is (settled r no_diamonds vertices) = absurd (to_won vertices)
@@ -239,7 +239,7 @@ module _ (S : Setting) where
     by_choice : (n : ℕ) (sp : SpreadList) (h : SpreadAt S.g S.a v sp)
         → IsOpenOr S.g sp n
         → Chooses S.g S.a S.s (even_moves S v) c.state.last c.state.spread
-        → AtWon S v h.position sp
+        → AtWon (board S) v h.position sp
         → OnCourse w
     by_choice n sp h is_open rest (leading ts r steps vertices own) = absurd (r.none_open n is_open)
     by_choice n sp h is_open rest (settled r no_diamonds vertices) = absurd (r.none_open n is_open)
@@ -255,12 +255,12 @@ module _ (S : Setting) where
       → (c : OnCourse v)
       → last_one ≡ c.state.last → sp ≡ c.state.spread → OnCourse w
   by_course v w last_one sp (ends _ _ h none) move low c last_is sp_is =
-      by_end v w move low c sp h none last_is sp_is (at_spread S v sp h c.won)
+      by_end v w move low c sp h none last_is sp_is (at_spread (board S) v sp h c.won)
   by_course v w last_one sp (moves _ _ n here _ h is_open rest) move low c last_is sp_is =
       by_choice v w move low c n here h is_open
       (subst (λ u. Chooses S.g S.a S.s (even_moves S v) u c.state.spread) last_is
       (subst (Chooses S.g S.a S.s (even_moves S v) last_one) sp_is rest))
-      (at_spread S v here h c.won)
+      (at_spread (board S) v here h c.won)
 
   -- so it is of each position that is met
   pub on_course : (v : ℕ) → Met v → v < length S.a.positions → OnCourse v
