@@ -18,3 +18,5 @@ pub mod Loops
 pub mod OneModel
 -- where the states begin
 pub mod MetStates
+-- Even's moves end
+pub mod EndOfChoices
