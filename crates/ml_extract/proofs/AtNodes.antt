@@ -41,7 +41,7 @@ use Rattle.ml_sequent.specs.Step.{LeadsOut}
 use Rattle.ml_product.specs.Position.{Position, Follows}
 use Rattle.ml_product.specs.DecisionGame.{diamonds_of}
 use Rattle.ml_product.specs.Arena.{game_of}
-use Rattle.ml_product.proofs.ArenaGame.{member_of_get}
+use Rattle.ml_product.proofs.ArenaGame.{member_of_get, same_entry}
 use Rattle.ml_extract.specs.Model.{PositionAt, State, nexts, IsLabel, IsModelEdge}
 use Rattle.ml_extract.proofs.Setting.{Setting, board, even_moves, WonByMoves, EvenMove}
 use Rattle.ml_sequent.proofs.LocalLoops.{spread_along}
@@ -337,12 +337,6 @@ module _ (S : Setting) (t : AtState S) where
               (state_for S t.state (member_of_get S.model.states t.number t.state t.is_state) w.0
               (member-map (λ (next : ℕ × ℕ). next.1) (n, w.0) (nexts S.g S.a t.state) w.1))
 
-      same_state : (x y : State)
-          → slice_get S.model.states t.number ≡ Some x
-          → slice_get S.model.states t.number ≡ Some y
-          → x ≡ y
-      same_state x y a b = let e : Some x ≡ Some y = sym a ∙ b in cc
-
       at_square : (a to : ℕ) → node_at S.g n ≡ node.Square a to → AtNode n
       unfolding next_at
       at_square a to is = from (odd_reply (ap mover is))
@@ -357,7 +351,8 @@ module _ (S : Setting) (t : AtState S) where
               → AtNode n
           by_edge j move e k =
               let state_is : k.from ≡ t.state =
-              same_state k.from t.state (subst (λ i. slice_get S.model.states i ≡ Some k.from) e.source_is
+              same_entry S.model.states t.number k.from t.state (subst (λ i. slice_get S.model.states i ≡ Some k.from)
+              e.source_is
               k.from_is) t.is_state in
               let leads : IsMember (k.diamond, k.to.first) (nexts S.g S.a t.state) =
               subst (λ x. IsMember (k.diamond, k.to.first) (nexts S.g S.a x)) state_is k.leads in

@@ -5,7 +5,7 @@
 --   WonByMoves     == with these moves Even wins from the vertex
 --   EvenMove, EvenWalk == a move, and a walk, that follow Even's moves
 --   won_at_first   == Even's moves win from vertex 0
-use Rattle.std.proofs.Common.{ℕ, ◌≡◌, ◌+◌, ◌<◌, length, arith}
+use Rattle.std.proofs.Common.{ℕ, ◌<◌, arith}
 use Rattle.ml_graph.specs.Graph.{Graph, IsGraph}
 use Rattle.ml_parity.specs.declared.players.Player.TheVariants.{Even}
 use Rattle.ml_parity.specs.Game.{size}

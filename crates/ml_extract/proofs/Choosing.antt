@@ -4,7 +4,6 @@
 -- where none is, the position is resolved. The choices are pieces of a play that have no lower priority than the
 -- position where they begin.
 --
---   same_spread     == a set of nodes has one spread under a choice
 --   lost_not_won    == Lost isn't won
 --   AtWon, at_won   == what happens at a position that is won: Even chooses, or diamonds lead on, or it is settled
 --   Chosen, down    == the position that Even's moves end with
@@ -14,7 +13,6 @@ use Rattle.std.proofs.Common.{ℕ, ◌≡◌, ◌<◌, ◌%◌, ◌⊎◌, inl, 
 use Rattle.std.specs.List.{zip}
 use Rattle.std.proofs.lemmas.Option.{slice_get_within}
 use Rattle.ml_lists.specs.Member.{IsMember}
-use Rattle.ml_lists.proofs.Ascending.{ascending_same}
 use Rattle.ml_lists.proofs.Member.{member-filter_from}
 use Rattle.ml_lists.proofs.Members.{member_of_contains, contains_of_member, contains_head}
 use Rattle.ml_graph.specs.Graph.{Graph, node_at}
@@ -27,26 +25,11 @@ use Rattle.ml_sequent.specs.Spread.{SpreadList, IsSpreadOf, IsOpenOr, is_diamond
 use Rattle.ml_product.specs.Position.{Position, with_chosen, neutral, Follows}
 use Rattle.ml_product.specs.DecisionGame.{Verdict, Clashing, Open, Leading, Settled, Target, To, Lost, Won, IsResolved, IsVerdictOf, AreSteps, AreMoves, mover, diamonds_of}
 use Rattle.ml_product.specs.Arena.{IsVertexOf, AreVertices, IsPlayed, game_of}
-use Rattle.ml_product.proofs.ArenaGame.{here, size_is, owner_at, moves_at, priority_at, lost_moves, lost_priority, target_of, TargetOf}
+use Rattle.ml_product.proofs.OnePlace.{same_spread}
+use Rattle.ml_product.proofs.ArenaGame.{same_entry, here, size_is, owner_at, moves_at, priority_at, lost_moves, lost_priority, target_of, TargetOf}
 use Rattle.ml_product.proofs.NeutralPriority.{priority_at_most}
 use Rattle.ml_extract.specs.Model.{PositionAt, SpreadAt, Chooses, ends, moves}
 use Rattle.ml_extract.proofs.Board.{Board, even_moves, WonByMoves, EvenMove, EvenWalk}
-
--- ---- one spread
-
-same_parts : (x y : SpreadList) → x.nodes ≡ y.nodes → x.choice ≡ y.choice → x ≡ y
-same_parts x y e f = λ i. record { nodes = e i; choice = f i }
-
--- a set of nodes has one spread under a choice
-pub same_spread : (g : Graph) (C : List ℕ) (c : List (ℕ × Side)) (x y : SpreadList)
-    → IsSpreadOf g C c x
-    → IsSpreadOf g C c y
-    → x ≡ y
-same_spread g C c x y p q =
-    same_parts x y
-    (ascending_same x.nodes y.nodes p.ascends q.ascends (λ v i. (q.nodes v).1 ((p.nodes v).0 i))
-    (λ v i. (p.nodes v).1 ((q.nodes v).0 i)))
-    (p.choice ∙ sym q.choice)
 
 -- ---- diamonds and their vertices
 
@@ -287,9 +270,6 @@ module _ (B : Board) where
     pub won : WonByMoves B w
     pub goes_on : (x : ℕ) → EvenMove B w x → EvenWalk B v (priority_of (game_of B.a) v) x
 
-  same_position : (v : ℕ) (p q : Position) → PositionAt B.a v p → PositionAt B.a v q → p ≡ q
-  same_position v p q a b = let e : Some p ≡ Some q = sym a ∙ b in cc
-
   at_end : (v : ℕ) (sp : SpreadList) (h : SpreadAt B.g B.a v sp)
       → ((n : ℕ) → IsOpenOr B.g sp n → ⊥)
       → WonByMoves B v
@@ -361,9 +341,10 @@ module _ (B : Board) where
       → PositionAt B.a v p
       → WonByMoves B v
       → Chosen p v w sp
-  down v w sp (ends _ _ h none) p stands won = at_end v sp h none won p (same_position v p h.position stands h.stands)
+  down v w sp (ends _ _ h none) p stands won =
+      at_end v sp h none won p (same_entry B.a.positions v p h.position stands h.stands)
   down v w sp (moves _ _ n open_sp _ h is_open rest) p stands won =
-      one_choice v w n open_sp sp h is_open won p stands (same_position v p h.position stands h.stands)
+      one_choice v w n open_sp sp h is_open won p stands (same_entry B.a.positions v p h.position stands h.stands)
       (λ q q_stands q_won. down (even_moves B v) w sp rest q q_stands q_won)
 
   -- ---- along the diamonds

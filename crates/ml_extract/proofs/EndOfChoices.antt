@@ -3,7 +3,7 @@
 -- Each choice decides one more node, and there are only so many.
 --
 --   Ending, ends_from == where Even's moves end, and the spread there
-use Rattle.std.proofs.Common.{ℕ, zero, suc, ◌≡◌, ◌+◌, ◌<◌, ◌≤◌, length, slice_get, arith}
+use Rattle.std.proofs.Common.{ℕ, zero, suc, ◌+◌, ◌<◌, length, arith}
 use Rattle.ml_graph.specs.Graph.{size}
 use Rattle.ml_parity.proofs.FollowedWalks.{won_behind}
 use Rattle.ml_parity.specs.declared.players.Player.TheVariants.{Even}
@@ -42,14 +42,24 @@ module _ (B : Board) where
       spread = record { position = p; stands = stands; is_spread = turn.is_spread }
 
       by_turn : AtWon B v p turn.spread
-          → ((w : ℕ) (q : Position) → PositionAt B.a w q → WonByMoves B w → size B.g < length q.choice + fuel → Ending w)
+          → ((w : ℕ) (q : Position) → PositionAt B.a w q → WonByMoves B w → size B.g < length q.choice + fuel → Ending
+          w)
           → Ending v
-      by_turn (leading ts r steps vertices own) again = record { last = v; spread = turn.spread; chooses = ends v turn.spread spread r.none_open }
-      by_turn (settled r none vertices) again = record { last = v; spread = turn.spread; chooses = ends v turn.spread spread r.none_open }
+      by_turn (leading ts r steps vertices own) again =
+          record { last = v; spread = turn.spread; chooses = ends v turn.spread spread r.none_open }
+      by_turn (settled r none vertices) again =
+          record { last = v; spread = turn.spread; chooses = ends v turn.spread spread r.none_open }
       by_turn (choosing o x own is_open next move) again =
           let won_there = won_behind (game_of B.a) Even (even_moves B) v (even_moves B v) move won in
-          let e = again (even_moves B v) (with_chosen B.g p o x) next won_there (omega (arith, with_side_length p.choice o x)) in
-          record { last = e.last; spread = e.spread; chooses = moves v e.last o turn.spread e.spread spread is_open e.chooses }
+          let e =
+          again (even_moves B v) (with_chosen B.g p o x) next won_there
+          (omega (arith, with_side_length p.choice o x)) in
+          record {
+            last = e.last;
+            spread = e.spread;
+            chooses = moves v e.last o turn.spread e.spread spread is_open
+                e.chooses;
+          }
 
   pub ends_from : (v : ℕ) (p : Position) → PositionAt B.a v p → WonByMoves B v → Ending v
   ends_from v p stands won = within (suc (size B.g)) v p stands won (omega arith)

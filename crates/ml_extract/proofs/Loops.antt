@@ -38,7 +38,6 @@ use Rattle.ml_parity.specs.declared.players.Player.TheVariants.{Even, Odd}
 use Rattle.ml_parity.specs.Game.{priority_of}
 use Rattle.ml_parity.specs.Winner.{Wins}
 use Rattle.ml_parity.proofs.FollowedWalks.{walks_joined, closed_walk_good, odd_is_not_even}
-use Rattle.ml_parity.proofs.SolutionFacts.{solution_winner, solution_wins_from}
 use Rattle.ml_parity.proofs.Winners.{won_by_either}
 use Rattle.ml_trace.specs.declared.letters.Transition.{Transition}
 use Rattle.ml_trace.specs.declared.marks.Mark.{Mark}
@@ -258,23 +257,17 @@ module _ (S : Setting) (R : Rival S) where
 
   -- ---- the loop
 
-  same_state : (x y : State) (k : ℕ) → slice_get S.model.states k ≡ Some x → slice_get S.model.states k ≡ Some y → x ≡ y
-  same_state x y k a b = let e : Some x ≡ Some y = sym a ∙ b in cc
-
-  same_position : (v : ℕ) (p q : Position) → PositionAt S.a v p → PositionAt S.a v q → p ≡ q
-  same_position v p q a b = let e : Some p ≡ Some q = sym a ∙ b in cc
-
   module _ (n : ℕ) (p : Entered S R) (same_number : (reach (suc n) p).place.number ≡ p.place.number)
       (same_node : (reach (suc n) p).node ≡ p.node) where
     state_is : (reach (suc n) p).place.state ≡ p.place.state
     state_is =
-        same_state (reach (suc n) p).place.state p.place.state p.place.number
+        arena.same_entry S.model.states p.place.number (reach (suc n) p).place.state p.place.state
         (subst (λ k. slice_get S.model.states k ≡ Some (reach (suc n) p).place.state) same_number
         (reach (suc n) p).place.is_state) p.place.is_state
 
     position_is : (reach (suc n) p).place.position ≡ p.place.position
     position_is =
-        same_position p.place.state.first (reach (suc n) p).place.position p.place.position
+        arena.same_entry S.a.positions p.place.state.first (reach (suc n) p).place.position p.place.position
         (subst (λ (x : State). PositionAt S.a x.first (reach (suc n) p).place.position) state_is
         (reach (suc n) p).place.stands) p.place.stands
 

@@ -22,7 +22,7 @@ use Rattle.ml_sequent.specs.Spread.{SpreadList, IsOpenOr}
 use Rattle.ml_product.specs.Position.{Position, start_of, with_chosen}
 use Rattle.ml_product.specs.DecisionGame.{diamonds_of, Won}
 use Rattle.ml_product.specs.Arena.{AreVertices, game_of}
-use Rattle.ml_product.proofs.ArenaGame.{member_of_get, moves_at, lost_moves, won_moves, is_game}
+use Rattle.ml_product.proofs.ArenaGame.{member_of_get, same_entry, moves_at, lost_moves, won_moves, is_game}
 use Rattle.ml_extract.specs.Model.{PositionAt, SpreadAt, Chooses, ends, moves, State, nexts}
 use Rattle.ml_extract.specs.Extraction.{IsMet, at_first, by_move, StatesAreMet}
 use Rattle.ml_extract.proofs.Setting.{Setting, board, even_moves, WonByMoves, EvenMove, EvenWalk}
@@ -51,9 +51,6 @@ module _ (S : Setting) where
   met_along v k w (before {k = i} _ next move walk) met =
       met_along next i w walk (by_move v next met move.move move.chosen)
 
-  same_position : (v : ℕ) (p q : Position) → PositionAt S.a v p → PositionAt S.a v q → p ≡ q
-  same_position v p q a b = let e : Some p ≡ Some q = sym a ∙ b in cc
-
   -- ---- each state begins at a position that is met, with an empty choice
 
   pub record MetAt (x : State) : Type 0 where
@@ -79,7 +76,8 @@ module _ (S : Setting) where
           let leads : IsMember (i.from.0, x.first) (nexts S.g S.a c.state) =
           subst (λ v. IsMember (i.from.0, v) (nexts S.g S.a c.state)) (sym i.holds) i.member in
           let way =
-          way_of (board S) t.position c.state.first c.state.last c.state.spread (resolved_at S t) i.from.0 x.first leads in
+          way_of (board S) t.position c.state.first c.state.last c.state.spread (resolved_at S t) i.from.0 x.first
+          leads in
           record {
             position = way.position;
             stands = way.stands;
@@ -207,7 +205,7 @@ module _ (S : Setting) where
       rest = rest;
       won = won_there;
       entered = λ q here none.
-          let same = same_position w (with_chosen S.g p o x) q stands here in
+          let same = same_entry S.a.positions w (with_chosen S.g p o x) q stands here in
           absurd (with_side_some p.choice o x (ap (λ (r : Position). r.choice) same ∙ none));
     }
 
@@ -276,7 +274,8 @@ module _ (S : Setting) where
         of_state : (x : State) → v ≡ x.first → MetAt x → Met v × (p.choice ≡ [])
         of_state x is here =
             let same =
-            same_position v here.position p (subst (λ u. PositionAt S.a u here.position) (sym is) here.stands)
+            same_entry S.a.positions v here.position p (subst (λ u. PositionAt S.a u here.position) (sym is)
+            here.stands)
             stands in
             (subst Met (sym is) here.met, ap (λ (q : Position). q.choice) (sym same) ∙ here.unchosen)
 

@@ -23,7 +23,7 @@ use Rattle.ml_product.specs.Arena.{Arena}
 use Rattle.ml_extract.specs.Extraction.{OneModel}
 use Rattle.ml_extract.specs.Model.{SpreadAt, Chooses, ends, moves, State, next_positions, AreStates, IsModelEdge, IsModelOf}
 use Rattle.ml_lists.proofs.BreadthFirst.{one_breadth_first}
-use Rattle.ml_extract.proofs.Choosing.{same_spread}
+use Rattle.ml_product.proofs.OnePlace.{same_spread}
 use Rattle.ml_extract.proofs.Numbering.{structure_of}
 
 module _ (g : Graph) (a : Arena) (s : GameSolution) where

@@ -4,7 +4,7 @@
 --   ChoiceFacts      == the choice is one, of nodes of the graph
 --   reached_choice   == so is that of each position that is reached
 --   chosen_few       == so there are at most as many sides as nodes
-use Rattle.std.proofs.Common.{ℕ, suc, ◌≡◌, ◌<◌, ◌≤◌, ◌⊎◌, inl, inr, Bool, true, false, nat_lt, List, [], ◌∷◌, length, map, Some, None, refl, sym, ap, ◌∙◌, subst, arith}
+use Rattle.std.proofs.Common.{ℕ, suc, ◌≡◌, ◌<◌, ◌≤◌, ◌⊎◌, inl, inr, true, false, nat_lt, List, [], ◌∷◌, length, map, None, refl, sym, ap, ◌∙◌, subst, arith}
 use Rattle.std.proofs.lemmas.Bool.{cases_Bool, cond-true, cond-false}
 use Rattle.std.proofs.lemmas.List.{length-map}
 use Rattle.ml_lists.specs.Member.{IsMember}
@@ -74,7 +74,7 @@ reached_choice g p (by_move before _ turn reached m) = by_kind (moves_to g befor
     by_kind (steps sp d is_spread inside f) old = subst (ChoiceFacts g) (sym f.unchosen) (no_choice g)
     by_kind (chooses sp o x is_spread is_open is) old =
         let unchosen : side_of before.choice o ≡ None =
-            subst (λ c. side_of c o ≡ None) is_spread.choice is_open.is_open.unchosen in
+        subst (λ c. side_of c o ≡ None) is_spread.choice is_open.is_open.unchosen in
         subst (ChoiceFacts g) (ap (λ (q : Position). q.choice) (sym is)) (record {
           is_choice = with_is_choice before.choice o x old.is_choice unchosen;
           low = λ n i. at_node n (with_side_nodes before.choice o x n i);
