@@ -27,7 +27,8 @@ member_of_get xs k x is =
     subst (λ y. IsMember y xs) (get_or_from_slice_get xs k x x is) (place-member xs k x (slice_get_within xs k x is))
 
 -- a place has one element
-pub same_entry : {X : Type 0} (xs : List X) (k : ℕ) (x y : X) → slice_get xs k ≡ Some x → slice_get xs k ≡ Some y → x ≡ y
+pub same_entry : {X : Type 0} (xs : List X) (k : ℕ) (x y : X) → slice_get xs k ≡ Some x → slice_get xs k ≡ Some y → x
+    ≡ y
 same_entry xs k x y a b = let e : Some x ≡ Some y = sym a ∙ b in cc
 
 -- ---- targets and their vertices

@@ -82,7 +82,8 @@ module _ (g : Graph) (p q : Position) where
     where
       chosen : (To q ≡ To (with_chosen g p o Left)) ⊎ ((To q ≡ To (with_chosen g p o Right)) ⊎ ⊥) → MovesTo g p q
       chosen (inl same) = chooses sp o Left is_spread is.1.is_open (let e : q ≡ with_chosen g p o Left = cc in e)
-      chosen (inr (inl same)) = chooses sp o Right is_spread is.1.is_open (let e : q ≡ with_chosen g p o Right = cc in e)
+      chosen (inr (inl same)) =
+          chooses sp o Right is_spread is.1.is_open (let e : q ≡ with_chosen g p o Right = cc in e)
       chosen (inr (inr none)) = absurd none
   by_verdict sp (Leading ds) ts is_spread is are m =
       along_steps sp is_spread ds ts
@@ -159,7 +160,8 @@ priority_at_most g p at_start = omega arith
 priority_at_most g p (by_move before _ turn reached m) = by_kind (moves_to g before p turn m)
   where
     by_kind : MovesTo g before p → p.priority ≤ neutral g
-    by_kind (chooses sp o x is_spread is_open is) = let e : p.priority ≡ neutral g = ap (λ (q : Position). q.priority) is in omega arith
+    by_kind (chooses sp o x is_spread is_open is) =
+        let e : p.priority ≡ neutral g = ap (λ (q : Position). q.priority) is in omega arith
     by_kind (steps sp d is_spread inside f) =
         let fits = mark_fits g before (reached_facts g before reached) sp is_spread f.letter in
         omega (arith, f.marked, fits_at_most (neutral g) (step_mark before.history f.letter) fits)

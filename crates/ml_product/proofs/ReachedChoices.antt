@@ -68,7 +68,8 @@ no_choice g = record { is_choice = tt; low = λ n m. absurd m }
 -- so is that of each position that is reached
 pub reached_choice : (g : Graph) (p : Position) → IsReached g p → ChoiceFacts g p.choice
 reached_choice g p at_start = no_choice g
-reached_choice g p (by_move before _ turn reached m) = by_kind (moves_to g before p turn m) (reached_choice g before reached)
+reached_choice g p (by_move before _ turn reached m) =
+    by_kind (moves_to g before p turn m) (reached_choice g before reached)
   where
     by_kind : MovesTo g before p → ChoiceFacts g before.choice → ChoiceFacts g p.choice
     by_kind (steps sp d is_spread inside f) old = subst (ChoiceFacts g) (sym f.unchosen) (no_choice g)
