@@ -20,3 +20,5 @@ pub mod OneModel
 pub mod MetStates
 -- Even's moves end
 pub mod EndOfChoices
+-- a model that was worked out by hand
+pub mod WorkedModel
