@@ -31,7 +31,7 @@ use Rattle.ml_product.specs.Arena.{Arena}
 use Rattle.ml_product.proofs.ArenaGame.{member_of_get}
 use Rattle.ml_extract.specs.Model.{SpreadAt, Chooses, ends, moves, State, nexts, next_positions, IsModelOf}
 use Rattle.ml_extract.specs.Extraction.{IsReachedFrom, itself, along, HasDiamond}
-use Rattle.ml_lists.proofs.BreadthFirst.{member-each_once}
+use Rattle.ml_lists.proofs.BreadthFirst.{row_inside}
 use Rattle.ml_extract.proofs.Setting.{Setting}
 
 -- the state that begins at position v
@@ -134,11 +134,10 @@ module _ (S : Setting) where
       → IsMember v (next_positions S.g S.a x)
       → StateAt S.model.states v
   state_for x inside v m =
-      let rows : List (List ℕ) = map (next_positions S.g S.a) S.model.states in
-      let row = member-map (next_positions S.g S.a) x S.model.states inside in
-      let next = inr (member-flat_map (λ r. r) (next_positions S.g S.a x) v rows row m) in
-      state_at S.model.states v (subst (IsMember v) (sym S.model.are_states.breadth_first.in_order)
-      (member-each_once v (0 ∷ flat_map (λ r. r) rows) next))
+      state_at S.model.states v
+      (row_inside 0 (map (next_positions S.g S.a) S.model.states) (map (λ (y : State). y.first) S.model.states)
+      S.model.are_states.breadth_first (next_positions S.g S.a x)
+      (member-map (next_positions S.g S.a) x S.model.states inside) v m)
 
   pub state_low : (k : ℕ) (x : State) → slice_get S.model.states k ≡ Some x → k < S.m.states
   state_low k x is = omega (arith, slice_get_within S.model.states k x is, S.model.a_state_each)

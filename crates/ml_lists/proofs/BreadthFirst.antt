@@ -1,6 +1,7 @@
 -- A breadth-first list is determined by its start and the rows of its entries.
 --
 --   member-each_once    == a list with each entry once has the same members
+--   row_inside          == what an entry leads to is an entry
 --   AreOnce, each_once-is == nothing stands in it twice
 --   each_once-front     == that of a longer list begins with it
 --   one_breadth_first   == two breadth-first lists whose entries are known by their numbers are one
@@ -29,6 +30,18 @@ member-each_once v (x ∷ xs) m = by_case (cases_eq v x) m (member-each_once v x
     by_case (inr other) (inr i) later =
         let passes : not (v == x) ≡ true = grind (arith, nat_tests) in
         inr (member-filter (λ y. not (y == x)) v (each_once xs) (later i) passes)
+
+-- what an entry leads to is an entry
+pub row_inside : (start : ℕ) (rows : List (List ℕ)) (xs : List ℕ)
+    → IsBreadthFirst start rows xs
+    → (row : List ℕ)
+    → IsMember row rows
+    → (v : ℕ)
+    → IsMember v row
+    → IsMember v xs
+row_inside start rows xs order row inside v m =
+    subst (IsMember v) (sym order.in_order)
+    (member-each_once v (start ∷ flat_map (λ r. r) rows) (inr (member-flat_map (λ r. r) row v rows inside m)))
 
 -- nothing stands there twice
 abbrev pub AreOnce : List ℕ → Type 0

@@ -28,7 +28,8 @@ use Rattle.ml_trace.specs.Marks.{priority}
 use Rattle.ml_refute.specs.Extracted.{leads_to, IsGo, IsDecisionAt, arcs_of}
 
 -- a go of the decision at p, to the entry f with the mark m
-pub record GoIn (g : Graph) (a : Arena) (s : GameSolution) (ps : List Position) (p : Position) (f : ℕ) (m : Mark) : Type 0 where
+pub record GoIn (g : Graph) (a : Arena) (s : GameSolution) (ps : List Position) (p : Position) (f : ℕ)
+    (m : Mark) : Type 0 where
   pub here : Position
   pub spread : SpreadList
   pub diamond : ℕ
@@ -64,7 +65,8 @@ module _ (g : Graph) (a : Arena) (s : GameSolution) (ps : List Position) where
 
   pub go_to : (p : Position) (d : Decision) → IsDecisionAt g a s ps p d → (f : ℕ) → IsMember f (leads_to d) → LedTo p f
   go_to p (Split o left right) is f inside =
-      by_side (member-append f (leads_to left) (leads_to right) inside) (go_to (with_chosen g p o Left) left is.1 f) (go_to (with_chosen g p o Right) right is.2 f)
+      by_side (member-append f (leads_to left) (leads_to right) inside) (go_to (with_chosen g p o Left) left is.1 f)
+      (go_to (with_chosen g p o Right) right is.2 f)
     where
       by_side : IsMember f (leads_to left) ⊎ IsMember f (leads_to right)
           → (IsMember f (leads_to left) → LedTo (with_chosen g p o Left) f)
@@ -107,7 +109,9 @@ module _ (g : Graph) (a : Arena) (s : GameSolution) (ps : List Position) where
       → IsMember arc (arcs_of top e d)
       → ArcOf top e p arc
   go_of_arc top e p (Split o left right) is arc inside =
-      by_side (member-append arc (arcs_of top e left) (arcs_of top e right) inside) (go_of_arc top e (with_chosen g p o Left) left is.1 arc) (go_of_arc top e (with_chosen g p o Right) right is.2 arc)
+      by_side (member-append arc (arcs_of top e left) (arcs_of top e right) inside)
+      (go_of_arc top e (with_chosen g p o Left) left is.1 arc) (go_of_arc top e (with_chosen g p o Right) right is.2
+      arc)
     where
       by_side : IsMember arc (arcs_of top e left) ⊎ IsMember arc (arcs_of top e right)
           → (IsMember arc (arcs_of top e left) → ArcOf top e (with_chosen g p o Left) arc)

@@ -17,7 +17,8 @@ pub record Around {X : Type 0} (x : X) (xs : List X) : Type 0 where
 pub around : {X : Type 0} (x : X) (xs : List X) → IsMember x xs → Around x xs
 around x [] m = absurd m
 around x (y ∷ ys) (inl same) = record { front = []; back = ys; is = ap (λ z. z ∷ ys) (sym same) }
-around x (y ∷ ys) (inr m) = let i = around x ys m in record { front = y ∷ i.front; back = i.back; is = ap (λ zs. y ∷ zs) i.is }
+around x (y ∷ ys) (inr m) = let i = around x ys m in
+    record { front = y ∷ i.front; back = i.back; is = ap (λ zs. y ∷ zs) i.is }
 
 -- another member stands in one of the two lists
 beside : {X : Type 0} (x y : X) (front back : List X)
@@ -38,5 +39,6 @@ different_within [] ys apart within = omega arith
 different_within (x ∷ xs) ys apart within =
     let i = around x ys (within x (inl refl)) in
     let rest = different_within xs (i.front ++ i.back) apart.1
-    (λ p m. beside x p i.front i.back (λ same. apart.0 (subst (λ q. IsMember q xs) same m)) (subst (λ zs. IsMember p zs) i.is (within p (inr m)))) in
+    (λ p m. beside x p i.front i.back (λ same. apart.0 (subst (λ q. IsMember q xs) same m))
+    (subst (λ zs. IsMember p zs) i.is (within p (inr m)))) in
     omega (arith, rest, ap length i.is, length-append i.front (x ∷ i.back), length-append i.front i.back)

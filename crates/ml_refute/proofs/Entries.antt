@@ -5,7 +5,7 @@
 --   is_reached      == each is reached
 --   facts_at        == so what is true of reached positions is true of it
 --   low_at          == and its nodes are in the graph
-use Rattle.std.proofs.Common.{ℕ, zero, suc, ◌≡◌, ◌<◌, [], Some, length, get_or, map, slice_get, sym, ◌∙◌, subst, arith}
+use Rattle.std.proofs.Common.{ℕ, List, zero, suc, ◌≡◌, ◌<◌, [], Some, length, get_or, map, slice_get, sym, ◌∙◌, subst, arith}
 use Rattle.std.proofs.lemmas.List.{get_or-map}
 use Rattle.std.proofs.lemmas.List.FromFn.{length-range_with_len, get_or-range_with_len}
 use Rattle.std.specs.List.{range_with_len}
@@ -59,24 +59,30 @@ module _ (X : Extraction) where
     pub leads : IsMember e (leads_to (entry_at X.r before).decision)
     pub led : LedTo X.g X.a X.s X.o.positions before_at.position e
 
+  -- the numbers of the entries, and to which each leads
+  abbrev numbers : List ℕ
+  numbers = range_with_len 0 (length X.r.entries)
+
+  abbrev rows : List (List ℕ)
+  rows = map (λ (e : Entry). leads_to e.decision) X.r.entries
+
   pub led_from : (k : ℕ) → suc k < length X.r.entries → LedFrom (suc k)
-  led_from k low = from (X.o.breadth_first.from_earlier (suc k) (omega arith) (omega (arith, length-range_with_len 0 (length X.r.entries))))
+  led_from k low =
+      from (X.o.breadth_first.from_earlier (suc k) (omega arith) (omega (arith, length-range_with_len 0 (length X.r.entries))))
     where
-      number_is : get_or (range_with_len 0 (length X.r.entries)) (suc k) 0 ≡ suc k
-      number_is =
-          let place = get_or-range_with_len 0 (length X.r.entries) (suc k) 0 low in
-          omega (arith, place)
+      number_is : get_or numbers (suc k) 0 ≡ suc k
+      number_is = let place = get_or-range_with_len 0 (length X.r.entries) (suc k) 0 low in omega (arith, place)
 
       at_row : (j : ℕ)
           → j < suc k
-          → IsMember (get_or (range_with_len 0 (length X.r.entries)) (suc k) 0) (get_or (map (λ (e : Entry). leads_to e.decision) X.r.entries) j [])
+          → IsMember (get_or numbers (suc k) 0) (get_or rows j [])
           → IsMember (suc k) (leads_to (entry_at X.r j).decision)
       at_row j early inside =
+          let row_is = get_or-map (λ (e : Entry). leads_to e.decision) X.r.entries j no_entry [] (omega arith) in
           subst (λ v. IsMember v (leads_to (entry_at X.r j).decision)) number_is
-          (subst (λ row. IsMember (get_or (range_with_len 0 (length X.r.entries)) (suc k) 0) row) (get_or-map (λ (e : Entry). leads_to e.decision) X.r.entries j no_entry [] (omega arith)) inside)
+          (subst (λ row. IsMember (get_or numbers (suc k) 0) row) row_is inside)
 
-      from : ((j : ℕ) × (j < suc k) × IsMember (get_or (range_with_len 0 (length X.r.entries)) (suc k) 0) (get_or (map (λ (e : Entry). leads_to e.decision) X.r.entries) j []))
-          → LedFrom (suc k)
+      from : ((j : ℕ) × (j < suc k) × IsMember (get_or numbers (suc k) 0) (get_or rows j [])) → LedFrom (suc k)
       from (j, early, inside) =
           let here = position_at j (omega arith) in
           record {
@@ -84,7 +90,8 @@ module _ (X : Extraction) where
             earlier = early;
             before_at = here;
             leads = at_row j early inside;
-            led = go_to X.g X.a X.s X.o.positions here.position (entry_at X.r j).decision here.is_entry.decision (suc k) (at_row j early inside);
+            led = go_to X.g X.a X.s X.o.positions here.position (entry_at X.r j).decision here.is_entry.decision (suc k)
+                (at_row j early inside);
           }
 
   -- a position that a go leads to is one of the arena
@@ -96,12 +103,14 @@ module _ (X : Extraction) where
       let next = l.go.is_go.next in
       let same : Some next ≡ Some q = sym l.go.is_go.is_entry ∙ placed in
       let here : next ≡ q = cc in
-      subst (IsReached X.g) here ((X.arena.are_reached next).0 (member_of_get X.a.positions _ next l.go.is_go.is_choice.chosen))
+      subst (IsReached X.g) here
+      ((X.arena.are_reached next).0 (member_of_get X.a.positions _ next l.go.is_go.is_choice.chosen))
 
   -- each is reached
   pub is_reached : (e : ℕ) (p : Position) → slice_get X.o.positions e ≡ Some p → IsReached X.g p
   is_reached zero p placed = subst (IsReached X.g) (sym (start_is p placed)) at_start
-  is_reached (suc k) p placed = from (led_from k (omega (arith, slice_get_within X.o.positions (suc k) p placed, X.o.a_position_each)))
+  is_reached (suc k) p placed =
+      from (led_from k (omega (arith, slice_get_within X.o.positions (suc k) p placed, X.o.a_position_each)))
     where
       from : LedFrom (suc k) → IsReached X.g p
       from l = go_reached l.before_at.position (suc k) p placed l.led

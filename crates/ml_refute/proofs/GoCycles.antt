@@ -1,15 +1,14 @@
 -- Where Odd wins the start, no cycle of go's is even.
 --
--- The go's of a cycle are walks that follow Odd's choices, so the cycle is a closed walk from a vertex that Odd wins, and
--- its lowest priority is odd. This is the number of its lowest mark in the game, where neutral is above all marks of the
--- automaton; in the refutation neutral is just above its own names. Both orders agree.
+-- The go's of a cycle are walks that follow Odd's choices, so the cycle is a closed walk from a vertex that Odd wins,
+-- and its lowest priority is odd. This is the number of its lowest mark in the game, where neutral is above all marks
+-- of the automaton; in the refutation neutral is just above its own names. Both orders agree.
 --
 --   numbers_agree   == the order of the marks' numbers doesn't depend on the number of neutral
---   vertex_of       == the vertex of an entry
---   entry_won       == Odd wins it
+--   entry_won       == Odd wins the vertex of each entry
 --   ArcsWalk, walk_of_arcs == the arcs of a walk, as a walk of the game
 --   no_even_cycle   == the theorem
-use Rattle.std.proofs.Common.{ℕ, zero, suc, ◌≡◌, ◌+◌, ◌*◌, ◌<◌, ◌≤◌, ◌%◌, ◌⊎◌, inl, inr, min, eqb, eq-eqb, List, [], ◌∷◌, Some, length, get_or, slice_get, Contains, refl, sym, ap, ◌∙◌, subst, arith}
+use Rattle.std.proofs.Common.{ℕ, suc, ◌≡◌, ◌*◌, ◌<◌, ◌≤◌, ◌%◌, ◌⊎◌, inl, inr, min, eqb, eq-eqb, List, [], ◌∷◌, Some, length, slice_get, sym, ap, ◌∙◌, subst, arith, length-append}
 use Rattle.std.proofs.lemmas.Bool.{cases_eq, cond-true}
 use Rattle.ml_lists.specs.Member.{IsMember}
 use Rattle.ml_lists.proofs.Members.{member_of_contains}
@@ -19,7 +18,7 @@ use Rattle.ml_parity.specs.Player.{side}
 use Rattle.ml_parity.specs.Heights.{IsWalk, count_at, IsEvenCycle, EvenCycleIn}
 use Rattle.ml_parity.specs.Solution.{IsSolution, choice_at, winner_at}
 use Rattle.ml_parity.specs.Winner.{WinsFrom}
-use Rattle.ml_parity.proofs.FollowedWalks.{won_at_end, walks_joined, closed_walk_good}
+use Rattle.ml_parity.proofs.FollowedWalks.{won_behind, walks_joined, closed_walk_good}
 use Rattle.ml_parity.proofs.HeightWalks.{counts-none}
 use Rattle.ml_product.specs.Arena.{game_of}
 use Rattle.ml_product.specs.Position.{Position, neutral}
@@ -28,13 +27,13 @@ use Rattle.ml_trace.specs.declared.marks.Mark.{Mark}
 use Rattle.ml_trace.specs.declared.marks.Mark.TheVariants.{Red, Green, Neutral}
 use Rattle.ml_trace.specs.Marks.{priority, FitsBelow}
 use Rattle.std.proofs.lemmas.Option.{slice_get_within}
-use Rattle.ml_product.proofs.OnePlace.{PlaceOf, place_of}
 use Rattle.ml_refute.specs.Extracted.{arcs_of, go_graph}
 use Rattle.ml_refute.proofs.Decisions.{GoIn}
-use Rattle.ml_refute.proofs.Entries.{Extraction, At, position_at, LedFrom, led_from, is_reached}
+use Rattle.ml_refute.proofs.EntryVertices.{Entered, entered, walk_on, entry_keeps}
+use Rattle.ml_refute.proofs.Entries.{Extraction, At}
 use Rattle.ml_refute.proofs.GoGraph.{GoArc, go_arc, mark_low}
 use Rattle.ml_refute.proofs.GoSteps.{number_fits}
-use Rattle.ml_refute.proofs.GoWalks.{ArcTo, arc_to, Walk, ArcWalk, walk_of_arc}
+use Rattle.ml_refute.proofs.GoWalks.{Walk, ArcWalk}
 use Rattle.ml_product.proofs.OnePlace.{same_place}
 
 -- ---- marks
@@ -79,77 +78,19 @@ module _ (X : Extraction) (solution : IsSolution (game_of X.a) X.s) (odd : winne
   abbrev Won : ℕ → Type 0
   Won v = WinsFrom (game_of X.a) Odd (choice_at X.s.choice) v
 
-  -- ---- entries and their vertices
-
-  -- an entry with its vertex
-  pub record Entered (e : ℕ) : Type 0 where
-    pub here : At X e
-    pub vertex : ℕ
-    pub stands : slice_get X.a.positions vertex ≡ Some here.position
-
-  entered : (e : ℕ) → e < length X.r.entries → Entered e
-  entered e low = from (position_at X e low)
-    where
-      from : At X e → Entered e
-      from h = with_place (place_of h.position X.a.positions ((X.arena.are_reached h.position).1 (is_reached X e h.position h.placed)))
-        where
-          with_place : PlaceOf h.position X.a.positions → Entered e
-          with_place p = record { here = h; vertex = p.place; stands = p.stands }
-
-  -- the walk to an entry to which an entry leads
-  walk_on : (e : ℕ) (h : At X e) (v : ℕ) → slice_get X.a.positions v ≡ Some h.position → (arc : Arc)
-      → IsMember arc (arcs_of top e (entry_at X.r e).decision)
-      → ArcWalk X solution top e v h.position arc
-  walk_on e h v stands arc inside =
-      walk_of_arc X solution top e (entry_at X.r e).decision v h.position stands h.is_entry.decision arc inside
-
-  -- Odd wins the vertex of each entry; n is above it
-  entry_won : (n e : ℕ)
-      → e < n
-      → (p : Position)
+  -- Odd wins the vertex of each entry
+  entry_won : (e : ℕ) (p : Position)
       → slice_get X.o.positions e ≡ Some p
       → (v : ℕ)
       → slice_get X.a.positions v ≡ Some p
       → Won v
-  entry_won zero e low p placed v stands = absurd (omega arith)
-  entry_won (suc n) zero low p placed v stands = subst Won (sym at_start) won
+  entry_won e p placed v stands =
+      entry_keeps X solution Won at_start (won_behind (game_of X.a) Odd (choice_at X.s.choice)) (suc e) e (omega arith)
+      p placed v stands
     where
-      at_start : v ≡ 0
-      at_start = same_place X.a.positions X.arena.are_different v 0 p stands (sym X.o.starts ∙ placed)
-
-      won : Won 0
-      won = subst (λ x. WinsFrom (game_of X.a) x (choice_at X.s.choice) 0) odd (solution.wins 0 (omega (arith, Rattle.std.proofs.Common.length-append X.a.owners (Even ∷ Even ∷ []))))
-  entry_won (suc n) (suc k) low p placed v stands =
-      from (led_from X k (omega (arith, slice_get_within X.o.positions (suc k) p placed, X.o.a_position_each))) (λ e early. entry_won n e (omega arith))
-    where
-      of_arc : (l : LedFrom X (suc k)) (u : ℕ)
-          → slice_get X.a.positions u ≡ Some l.before_at.position
-          → Won u
-          → ArcTo top l.before (entry_at X.r l.before).decision (suc k)
-          → Won v
-      of_arc l u u_stands u_won arc =
-          along (walk_on l.before l.before_at u u_stands (record { from = l.before; priority = priority top arc.mark; to = suc k }) arc.inside)
-        where
-          along : ArcWalk X solution top l.before u l.before_at.position (record { from = l.before; priority = priority top arc.mark; to = suc k })
-              → Won v
-          along w =
-              let entry_is : suc k ≡ w.entry = ap (λ (x : Arc). x.to) w.arc_is in
-              let same_next : Some w.walk.go.is_go.next ≡ Some p = sym w.walk.go.is_go.is_entry ∙ ap (slice_get X.o.positions) (sym entry_is) ∙ placed in
-              let same : w.walk.go.is_go.next ≡ p = cc in
-              let here : w.walk.vertex ≡ v = same_place X.a.positions X.arena.are_different w.walk.vertex v p (w.walk.stands ∙ ap Some same) stands in
-              subst Won here (won_at_end (game_of X.a) Odd (choice_at X.s.choice) u w.walk.lowest w.walk.vertex w.walk.walk u_won)
-
-      from : LedFrom X (suc k)
-          → ((e : ℕ) → e < suc k → (q : Position) → slice_get X.o.positions e ≡ Some q → (u : ℕ) → slice_get X.a.positions u ≡ Some q → Won u)
-          → Won v
-      from l earlier_won = of_vertex (entered l.before (omega (arith, l.earlier, slice_get_within X.o.positions (suc k) p placed, X.o.a_position_each)))
-        where
-          of_vertex : Entered l.before → Won v
-          of_vertex b =
-              let same : Some b.here.position ≡ Some l.before_at.position = sym b.here.placed ∙ l.before_at.placed in
-              let u_stands : slice_get X.a.positions b.vertex ≡ Some l.before_at.position = b.stands ∙ same in
-              of_arc l b.vertex u_stands (earlier_won l.before l.earlier l.before_at.position l.before_at.placed b.vertex u_stands)
-              (arc_to top l.before (entry_at X.r l.before).decision (suc k) l.leads)
+      at_start : Won 0
+      at_start = subst (λ x. WinsFrom (game_of X.a) x (choice_at X.s.choice) 0) odd
+          (solution.wins 0 (omega (arith, length-append X.a.owners (Even ∷ Even ∷ []))))
 
   -- ---- walks of arcs
 
@@ -171,7 +112,9 @@ module _ (X : Extraction) (solution : IsSolution (game_of X.a) X.s) (odd : winne
       from : GoArc X x → ArcWalk X solution top e v p x
       from i =
           let here : i.begins ≡ e = sym (ap (λ (y : Arc). y.from) i.arc_is.arc_is) ∙ leaves in
-          walk_on e (at_entry e p placed) v stands x (subst (λ k. IsMember x (arcs_of top k (entry_at X.r k).decision)) here i.inside)
+          walk_on X solution e (at_entry e p placed) v stands x
+          (subst (λ k. IsMember x (arcs_of top k (entry_at X.r k).decision))
+          here i.inside)
 
   -- the mark of a go of the entry fits
   go_fits : (e : ℕ) (p : Position) (f : ℕ) (m : Mark)
@@ -182,7 +125,8 @@ module _ (X : Extraction) (solution : IsSolution (game_of X.a) X.s) (odd : winne
       number_fits X.r.names top m (omega arith) (mark_low X e (at_entry e p placed) (entry_in e p placed) f m go)
 
   -- let the mark have the lowest number on the way
-  module _ (lowest_mark : Mark) (fits_top : FitsBelow top lowest_mark) (fits_game : FitsBelow (neutral X.g) lowest_mark) where
+  module _ (lowest_mark : Mark) (fits_top : FitsBelow top lowest_mark)
+      (fits_game : FitsBelow (neutral X.g) lowest_mark) where
     abbrev in_file : ℕ
     in_file = priority top lowest_mark
 
@@ -204,17 +148,22 @@ module _ (X : Extraction) (solution : IsSolution (game_of X.a) X.s) (odd : winne
             let go = i.arc_is.go in
             let to_is : x.to ≡ i.arc_is.entry = ap (λ (y : Arc). y.to) i.arc_is.arc_is in
             let number_is : x.priority ≡ priority top m = ap (λ (y : Arc). y.priority) i.arc_is.arc_is in
-            let same_next : Some go.is_go.next ≡ Some q = sym go.is_go.is_entry ∙ ap (slice_get X.o.positions) (sym to_is) ∙ placed in
+            let same_next : Some go.is_go.next ≡ Some q = sym go.is_go.is_entry ∙ ap (slice_get X.o.positions)
+            (sym to_is) ∙ placed in
             let same : go.is_go.next ≡ q = cc in
-            let up = numbers_agree top (neutral X.g) lowest_mark m fits_top (go_fits i.begins i.here.position i.arc_is.entry m i.here.placed go) fits_game (omega (arith, number_is, high)) in
-            let here : q.priority ≡ priority (neutral X.g) m = ap (λ (y : Position). y.priority) (sym same) ∙ go.is_go.marked in
+            let up = numbers_agree top (neutral X.g) lowest_mark m fits_top
+            (go_fits i.begins i.here.position i.arc_is.entry m i.here.placed go) fits_game
+            (omega (arith, number_is, high)) in
+            let here : q.priority ≡ priority (neutral X.g) m = ap (λ (y : Position). y.priority) (sym same)
+            ∙ go.is_go.marked in
             omega (arith, up, here)
 
     -- the end of a walk of arcs has no lower priority
     ends_high : (xs : List Arc) (x : Arc) (e w : ℕ) → IsWalk (go_graph X.r) in_file e (x ∷ xs) w → (q : Position)
         → slice_get X.o.positions w ≡ Some q → in_game ≤ q.priority
     ends_high [] x e w walk q placed =
-        arc_high x (member_of_contains x (go_graph X.r).arcs walk.0.member) walk.0.high q (subst (λ k. slice_get X.o.positions k ≡ Some q) (sym walk.1) placed)
+        arc_high x (member_of_contains x (go_graph X.r).arcs walk.0.member) walk.0.high q
+        (subst (λ k. slice_get X.o.positions k ≡ Some q) (sym walk.1) placed)
     ends_high (y ∷ ys) x e w walk q placed = ends_high ys y x.to w walk.1 q placed
 
     -- arcs from the vertex v of p to the entry w, as a walk of the game
@@ -242,7 +191,8 @@ module _ (X : Extraction) (solution : IsSolution (game_of X.a) X.s) (odd : winne
         from w = record {
           end = w.walk.go.is_go.next;
           vertex = w.walk.vertex;
-          is_entry = subst (λ k. slice_get X.o.positions k ≡ Some w.walk.go.is_go.next) (sym to_is) w.walk.go.is_go.is_entry;
+          is_entry = subst (λ k. slice_get X.o.positions k ≡ Some w.walk.go.is_go.next)
+              (sym to_is) w.walk.go.is_go.is_entry;
           stands = w.walk.stands;
           lowest = w.walk.lowest;
           walk = w.walk.walk;
@@ -263,8 +213,10 @@ module _ (X : Extraction) (solution : IsSolution (game_of X.a) X.s) (odd : winne
             met : (x.priority ≡ in_file) ⊎ (x.priority ≡ in_file → ⊥) → 0 < count_at in_file (x ∷ [])
                 → w.walk.go.is_go.next.priority ≡ in_game
             met (inl same) some =
-                let up = numbers_agree top (neutral X.g) lowest_mark w.mark fits_top fits fits_game (omega (arith, number_is, same)) in
-                let down = numbers_agree top (neutral X.g) w.mark lowest_mark fits fits_top w.walk.go.is_go.is_mark (omega (arith, number_is, same)) in
+                let up = numbers_agree top (neutral X.g) lowest_mark w.mark fits_top fits fits_game
+                (omega (arith, number_is, same)) in
+                let down = numbers_agree top (neutral X.g) w.mark lowest_mark fits fits_top w.walk.go.is_go.is_mark
+                (omega (arith, number_is, same)) in
                 omega (arith, up, down, w.walk.go.is_go.marked)
             met (inr other) some = absurd (omega (arith, some, counts-none in_file x [] other))
 
@@ -276,7 +228,8 @@ module _ (X : Extraction) (solution : IsSolution (game_of X.a) X.s) (odd : winne
       is_entry = rest.is_entry;
       stands = rest.stands;
       lowest = min first.lowest rest.lowest;
-      walk = walks_joined (game_of X.a) Odd (choice_at X.s.choice) v first.lowest first.vertex rest.lowest rest.vertex first.walk rest.walk;
+      walk = walks_joined (game_of X.a) Odd (choice_at X.s.choice) v first.lowest first.vertex rest.lowest rest.vertex
+          first.walk rest.walk;
       high = omega (arith, first.high, rest.high);
       low = omega (arith, first.low);
       meets = λ some. meets (cases_eq (count_at in_file (x ∷ [])) 0) some;
@@ -306,11 +259,13 @@ module _ (X : Extraction) (solution : IsSolution (game_of X.a) X.s) (odd : winne
         → IsWalk (go_graph X.r) in_file e (x ∷ xs) w
         → ArcsWalk v p (x ∷ xs) w
     walk_of_arcs [] x e v p placed stands high w walk =
-        subst (ArcsWalk v p (x ∷ [])) walk.1 (one_arc x e v p placed stands high (member_of_contains x (go_graph X.r).arcs walk.0.member) walk.0.leaves)
+        subst (ArcsWalk v p (x ∷ [])) walk.1
+        (one_arc x e v p placed stands high (member_of_contains x (go_graph X.r).arcs walk.0.member) walk.0.leaves)
     walk_of_arcs (y ∷ ys) x e v p placed stands high w walk =
         let inside = member_of_contains x (go_graph X.r).arcs walk.0.member in
         let first = one_arc x e v p placed stands high inside walk.0.leaves in
-        joined x y ys v p x.to w first (walk_of_arcs ys y x.to first.vertex first.end first.is_entry first.stands (arc_high x inside walk.0.high first.end first.is_entry) w walk.1)
+        joined x y ys v p x.to w first (walk_of_arcs ys y x.to first.vertex first.end first.is_entry first.stands
+        (arc_high x inside walk.0.high first.end first.is_entry) w walk.1)
 
     -- so no cycle has this lowest number, if it is even
     no_cycle : priority top lowest_mark % 2 ≡ 0
@@ -320,19 +275,27 @@ module _ (X : Extraction) (solution : IsSolution (game_of X.a) X.s) (odd : winne
     no_cycle even x xs b walk some = from (go_arc X x (member_of_contains x (go_graph X.r).arcs walk.0.member))
       where
         from : GoArc X x → ⊥
-        from i = of_entry (entered b (subst (λ k. k < length X.r.entries) (sym (ap (λ (y : Arc). y.from) i.arc_is.arc_is) ∙ walk.0.leaves) i.is_entry))
+        from i = of_entry (entered X solution b
+            (subst (λ k. k < length X.r.entries) (sym (ap (λ (y : Arc). y.from) i.arc_is.arc_is) ∙ walk.0.leaves)
+            i.is_entry))
           where
-            of_entry : Entered b → ⊥
-            of_entry h = of_walk (walk_of_arcs xs x b h.vertex h.here.position h.here.placed h.stands (ends_high xs x b b walk h.here.position h.here.placed) b walk)
+            of_entry : Entered X solution b → ⊥
+            of_entry h = of_walk (walk_of_arcs xs x b h.vertex h.here.position h.here.placed h.stands
+                (ends_high xs x b b walk h.here.position h.here.placed) b walk)
               where
                 of_walk : ArcsWalk h.vertex h.here.position (x ∷ xs) b → ⊥
                 of_walk c =
                     let same_end : Some c.end ≡ Some h.here.position = sym c.is_entry ∙ h.here.placed in
                     let end_is : c.end ≡ h.here.position = cc in
-                    let back : c.vertex ≡ h.vertex = same_place X.a.positions X.arena.are_different c.vertex h.vertex h.here.position (c.stands ∙ ap Some end_is) h.stands in
-                    let exact : c.lowest ≡ in_game = lowest_is (ap (λ (y : Position). y.priority) end_is) (c.meets some) in
-                    let good = closed_walk_good (game_of X.a) Odd (choice_at X.s.choice) h.vertex c.lowest (subst (Walk X solution h.vertex c.lowest) back c.walk) (entry_won (suc b) b (omega arith) h.here.position h.here.placed h.vertex h.stands) in
-                    even_is_not_odd in_game (even_agrees top (neutral X.g) lowest_mark (omega arith) even) (sym (ap side exact) ∙ good)
+                    let back : c.vertex ≡ h.vertex = same_place X.a.positions X.arena.are_different c.vertex h.vertex
+                    h.here.position (c.stands ∙ ap Some end_is) h.stands in
+                    let exact : c.lowest ≡ in_game = lowest_is (ap (λ (y : Position). y.priority) end_is)
+                    (c.meets some) in
+                    let good = closed_walk_good (game_of X.a) Odd (choice_at X.s.choice) h.vertex c.lowest
+                    (subst (Walk X solution h.vertex c.lowest) back c.walk)
+                    (entry_won b h.here.position h.here.placed h.vertex h.stands) in
+                    even_is_not_odd in_game (even_agrees top (neutral X.g) lowest_mark (omega arith) even)
+                    (sym (ap side exact) ∙ good)
                   where
                     lowest_is : c.end.priority ≡ h.here.position.priority
                         → (c.lowest ≤ in_game) ⊎ (c.end.priority ≡ in_game)
@@ -369,8 +332,10 @@ module _ (X : Extraction) (solution : IsSolution (game_of X.a) X.s) (odd : winne
             where
               of_go : GoArc X m.arc → ⊥
               of_go i =
-                  let number_is : c.lowest ≡ priority top i.arc_is.mark = sym m.number ∙ ap (λ (y : Arc). y.priority) i.arc_is.arc_is in
-                  no_cycle i.arc_is.mark (go_fits i.begins i.here.position i.arc_is.entry i.arc_is.mark i.here.placed i.arc_is.go) i.arc_is.go.is_go.is_mark
+                  let number_is : c.lowest ≡ priority top i.arc_is.mark = sym m.number ∙ ap (λ (y : Arc). y.priority)
+                  i.arc_is.arc_is in
+                  no_cycle i.arc_is.mark (go_fits i.begins i.here.position i.arc_is.entry i.arc_is.mark i.here.placed
+                  i.arc_is.go) i.arc_is.go.is_go.is_mark
                   (subst (λ k. k % 2 ≡ 0) number_is c.even) x xs c.begins
                   (subst (λ k. IsWalk (go_graph X.r) k c.begins (x ∷ xs) c.begins) number_is c.leads_back)
                   (subst (λ k. 0 < count_at k (x ∷ xs)) number_is c.met)

@@ -1,8 +1,8 @@
 -- The step of the decision game along a diamond, in the words of refutations.
 --
--- The history step keeps the condition on names at numbered states, and its mark names a name in use. Numbers are states
--- one-to-one, so the condition holds of nodes and odd priorities; and there are too few names for a mark's number to be
--- that of another one.
+-- The history step keeps the condition on names at numbered states, and its mark names a name in use. Numbers and states
+-- are one-to-one, so the condition holds of nodes and odd priorities; and there are too few names for a mark's number to
+-- be that of another one.
 --
 --   state_numbered  == the state with the number of a state of the graph
 --   go_step         == the step from p to q along the diamond d
@@ -50,7 +50,8 @@ pub mark_in_use : (h : List (Item ℕ)) (letter : List Transition) (m : Mark)
     → step_mark h letter ≡ m
     → IsMarkOf (live h) m
 mark_in_use h letter (Red x) e =
-    let says = mark_of-red (is_red (live h) (taken_along h letter)) (is_green (taken_along h letter)) (2 * live h) x e in
+    let says = mark_of-red (is_red (live h) (taken_along h letter)) (is_green (taken_along h letter)) (2 * live h) x
+    e in
     let parts = and_parts (ltb x (live h)) (not (survives (taken_along h letter) x)) says.passes in
     ltb-true x (live h) parts.0
 mark_in_use h letter (Green x) e = (green_kept h letter x e).in_use
@@ -99,7 +100,8 @@ module _ (g : Graph) where
   pub state_numbered : (v : ℕ) (s : AutomatonState) → IsGuess (odd_priorities g) s.odd → v ≡ number (odd_priorities g) s
       → state_of (odd_priorities g) v ≡ s
   state_numbered v s is e =
-      ap (state_of (odd_priorities g)) e ∙ state_of-number (odd_priorities g) s (ascending-is (filter (λ d. d % 2 == 1) g.priorities)) is
+      ap (state_of (odd_priorities g)) e ∙ state_of-number (odd_priorities g) s
+      (ascending-is (filter (λ d. d % 2 == 1) g.priorities)) is
 
 -- ---- the step
 
@@ -113,33 +115,41 @@ module _ (g : Graph) (p q : Position) (sp : SpreadList) (d : ℕ) (f : Follows g
       → HasTransition g go_step (state_of (odd_priorities g) v) (state_of (odd_priorities g) w) accepting
   carries v w accepting inside = from ((f.is_letter (record { from = v; to = w; accepting = accepting })).0 inside)
     where
-      from : ((t : Triple) × IsMember t f.traces × Gives (odd_priorities g) t (record { from = v; to = w; accepting = accepting }))
+      from : ((t : Triple) × IsMember t f.traces × Gives (odd_priorities g) t
+          (record { from = v; to = w; accepting = accepting }))
           → HasTransition g go_step (state_of (odd_priorities g) v) (state_of (odd_priorities g) w) accepting
       from (t, member, gives) =
           let trace : IsTrace g p.sequent sp d t = (f.is_step.traces t).0 member in
           let source : AutomatonState = record { node = t.from; odd = gives.before } in
           let target : AutomatonState = record { node = t.to; odd = gives.behind } in
           let before : state_of (odd_priorities g) v ≡ source =
-          state_numbered g v source (guess_before (odd_priorities g) t.lowest gives.before gives.behind accepting gives.leads) gives.from_is in
+          state_numbered g v source (guess_before (odd_priorities g) t.lowest gives.before gives.behind accepting
+          gives.leads) gives.from_is in
           let behind : state_of (odd_priorities g) w ≡ target =
-          state_numbered g w target (guess_behind (odd_priorities g) t.lowest gives.before gives.behind accepting gives.leads) gives.to_is in
+          state_numbered g w target (guess_behind (odd_priorities g) t.lowest gives.before gives.behind accepting
+          gives.leads) gives.to_is in
           let leads_on : Leads (odd_priorities g) t.lowest gives.before (state_of (odd_priorities g) w).odd accepting =
-          subst (λ (o : Option ℕ). Leads (odd_priorities g) t.lowest gives.before o accepting) (sym (ap (λ (s : AutomatonState). s.odd) behind)) gives.leads in
+          subst (λ (o : Option ℕ). Leads (odd_priorities g) t.lowest gives.before o accepting)
+          (sym (ap (λ (s : AutomatonState). s.odd) behind)) gives.leads in
           record {
             trace = t;
             is_trace = trace;
             stays = (f.is_step.targets t.to).1 (record { leaving = trace.leaving; leads = trace.leads });
             begins = ap (λ (s : AutomatonState). s.node) before;
             ends = ap (λ (s : AutomatonState). s.node) behind;
-            leads = subst (λ (o : Option ℕ). Leads (odd_priorities g) t.lowest o (state_of (odd_priorities g) w).odd accepting) (sym (ap (λ (s : AutomatonState). s.odd) before)) leads_on;
+            leads = subst (λ (o : Option ℕ). Leads (odd_priorities g) t.lowest o (state_of (odd_priorities g) w).odd
+                accepting) (sym (ap (λ (s : AutomatonState). s.odd) before)) leads_on;
           }
 
   -- the condition on names, with the mark of the history step
   pub names : Facts g p
       → NamesCondition (HasTransition g) go_step (step_mark p.history f.letter) (traces_of g p.history) (traces_of g q.history)
   names facts =
-      subst (λ h. NamesCondition (HasTransition g) go_step (step_mark p.history f.letter) (traces_of g p.history) (traces_of g h)) (sym f.history)
-      (names_carried in_letter (HasTransition g) (state_of (odd_priorities g)) f.letter go_step carries (step_mark p.history f.letter) (entry p.history) (entry (stepped p.history f.letter)) (step_names p.history f.letter facts.is_history))
+      subst (λ h. NamesCondition (HasTransition g) go_step (step_mark p.history f.letter) (traces_of g p.history)
+      (traces_of g h)) (sym f.history)
+      (names_carried in_letter (HasTransition g) (state_of (odd_priorities g)) f.letter go_step carries
+      (step_mark p.history f.letter) (entry p.history) (entry (stepped p.history f.letter))
+      (step_names p.history f.letter facts.is_history))
 
   module _ (facts : Facts g p) (is_spread : IsSpreadOf g p.sequent p.choice sp) (m : Mark)
       (marked : q.priority ≡ priority (neutral g) m) (is_mark : FitsBelow (neutral g) m) where
@@ -156,4 +166,5 @@ module _ (g : Graph) (p q : Position) (sp : SpreadList) (d : ℕ) (f : Follows g
     -- and with it the condition on names holds
     pub go_names : NamesCondition (HasTransition g) go_step m (traces_of g p.history) (traces_of g q.history)
     go_names =
-        subst (λ k. NamesCondition (HasTransition g) go_step k (traces_of g p.history) (traces_of g q.history)) (sym go_mark) (names facts)
+        subst (λ k. NamesCondition (HasTransition g) go_step k (traces_of g p.history) (traces_of g q.history))
+        (sym go_mark) (names facts)

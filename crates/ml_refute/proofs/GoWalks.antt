@@ -7,12 +7,12 @@
 --   ArcWalk          == the same, for an arc
 --   walk_of_arc      == each arc of a decision has one
 --   arc_to           == each entry to which a decision leads has an arc
-use Rattle.std.proofs.Common.{ℕ, ◌≡◌, ◌<◌, ◌≤◌, ◌⊎◌, inl, inr, min, List, [], ◌∷◌, Some, slice_get, refl, sym, ap, ◌∙◌, subst, arith}
+use Rattle.std.proofs.Common.{ℕ, ◌≡◌, ◌<◌, ◌≤◌, ◌⊎◌, inl, inr, min, [], ◌∷◌, Some, slice_get, refl, sym, ap, ◌∙◌, subst, arith, length-append}
 use Rattle.ml_lists.specs.Member.{IsMember}
 use Rattle.ml_lists.proofs.Member.{member-append, member-append_left, member-append_right}
 use Rattle.ml_parity.specs.declared.one_sided.graph.Arc.{Arc}
 use Rattle.ml_parity.specs.declared.players.Player.TheVariants.{Even, Odd}
-use Rattle.ml_parity.specs.Game.{owner_of, priority_of, size}
+use Rattle.ml_parity.specs.Game.{owner_of, priority_of, size, HasMove}
 use Rattle.ml_parity.specs.Solution.{IsSolution, choice_at}
 use Rattle.ml_parity.proofs.FollowedWalks.{FollowedMove, FollowedWalk, last, before}
 use Rattle.ml_product.specs.Arena.{game_of}
@@ -44,10 +44,20 @@ arc_to top e (Split o left right) f inside =
         → (IsMember f (leads_to right) → ArcTo top e right f) → ArcTo top e (Split o left right) f
     by_side (inl l) at_left at_right =
         let arc = at_left l in
-        record { mark = arc.mark; inside = member-append_left (record { from = e; priority = priority top arc.mark; to = f }) (arcs_of top e left) (arcs_of top e right) arc.inside }
+        record {
+          mark = arc.mark;
+          inside = member-append_left
+              (record { from = e; priority = priority top arc.mark; to = f }) (arcs_of top e left) (arcs_of top e right)
+              arc.inside;
+        }
     by_side (inr r) at_left at_right =
         let arc = at_right r in
-        record { mark = arc.mark; inside = member-append_right (record { from = e; priority = priority top arc.mark; to = f }) (arcs_of top e left) (arcs_of top e right) arc.inside }
+        record {
+          mark = arc.mark;
+          inside = member-append_right
+              (record { from = e; priority = priority top arc.mark; to = f }) (arcs_of top e left) (arcs_of top e right)
+              arc.inside;
+        }
 arc_to top e (Clash x) f inside = absurd inside
 arc_to top e (Go d k m) f (inl same) =
     record { mark = m; inside = inl (ap (λ x. record { from = e; priority = priority top m; to = x }) same) }
@@ -93,9 +103,14 @@ module _ (X : Extraction) (solution : IsSolution (game_of X.a) X.s) where
       is_go = at.holds.1;
     };
     vertex = choice_at X.s.choice v;
-    stands = subst (λ x. slice_get X.a.positions (choice_at X.s.choice x) ≡ Some go.next) (sym here) go.is_choice.chosen;
+    stands = subst (λ x. slice_get X.a.positions (choice_at X.s.choice x) ≡ Some go.next)
+        (sym here) go.is_choice.chosen;
     lowest = priority_of (game_of X.a) v;
-    walk = last v (choice_at X.s.choice v) (record { move = solution.strategies Odd v v_low is_odd; chosen = λ own. refl });
+    walk = last v (choice_at X.s.choice v) (record {
+      move = solution.strategies Odd v v_low is_odd;
+      chosen =
+          λ own. refl;
+    });
     low = omega (arith, is_priority);
     high = λ k below within. omega (arith, is_priority);
   }
@@ -115,7 +130,7 @@ module _ (X : Extraction) (solution : IsSolution (game_of X.a) X.s) where
       v_low : v < size (game_of X.a)
       v_low =
           let low = slice_get_within X.a.positions v p placed in
-          omega (arith, X.arena.an_owner_each, Rattle.std.proofs.Common.length-append X.a.owners (Even ∷ Even ∷ []))
+          omega (arith, X.arena.an_owner_each, length-append X.a.owners (Even ∷ Even ∷ []))
 
   -- a move of Even's in front
   behind_side : (top e v w : ℕ) (p : Position) (n : ℕ) (x : Side) (arc : Arc)
@@ -142,7 +157,7 @@ module _ (X : Extraction) (solution : IsSolution (game_of X.a) X.s) where
 
   even_move : (v w : ℕ)
       → owner_of (game_of X.a) v ≡ Even
-      → Rattle.ml_parity.specs.Game.HasMove (game_of X.a) v w
+      → HasMove (game_of X.a) v w
       → Move v w
   even_move v w even move =
       record { move = move; chosen = λ own. let wrong : Even ≡ Odd = sym even ∙ own in cc }

@@ -1,6 +1,6 @@
 -- The items of an entry are in order.
 --
--- Numbers of states ascend by node, and at one node by the guess: none first, and then the odd priorities in their order.
+-- Numbers of states ascend by node, and at one node by the guess: none first, and then the odd priorities in order.
 --
 --   numbers_come_before == of two numbers the lower one is of a state that comes before
 --   items_ascend        == items with ascending numbers have states in their order
@@ -56,29 +56,37 @@ numbers_come_before odds up m n low = by_node (cases_lt (m / states_per_node odd
         → comes_before (state_of odds m) (state_of odds n) ≡ true
     by_node (inl less) =
         or_left (ltb (m / states_per_node odds) (n / states_per_node odds))
-        (eqb (m / states_per_node odds) (n / states_per_node odds) && guess_before (guess_at odds (m % states_per_node odds)) (guess_at odds (n % states_per_node odds)))
+        (eqb (m / states_per_node odds) (n / states_per_node odds) && guess_before
+        (guess_at odds (m % states_per_node odds)) (guess_at odds (n % states_per_node odds)))
         (lt-ltb (m / states_per_node odds) (n / states_per_node odds) less)
     by_node (inr le) =
         let w : ℕ = states_per_node odds in
         let same : m / states_per_node odds ≡ n / states_per_node odds = same_node le in
         or_right (ltb (m / states_per_node odds) (n / states_per_node odds))
-        (eqb (m / states_per_node odds) (n / states_per_node odds) && guess_before (guess_at odds (m % states_per_node odds)) (guess_at odds (n % states_per_node odds)))
-        (and_from (eqb (m / states_per_node odds) (n / states_per_node odds)) (guess_before (guess_at odds (m % states_per_node odds)) (guess_at odds (n % states_per_node odds)))
+        (eqb (m / states_per_node odds) (n / states_per_node odds) && guess_before
+        (guess_at odds (m % states_per_node odds)) (guess_at odds (n % states_per_node odds)))
+        (and_from (eqb (m / states_per_node odds) (n / states_per_node odds))
+        (guess_before (guess_at odds (m % states_per_node odds)) (guess_at odds (n % states_per_node odds)))
         (eq-eqb (m / states_per_node odds) (n / states_per_node odds) same)
-        (places_come_before odds up (m % states_per_node odds) (n % states_per_node odds) (place_low same) (omega arith)))
+        (places_come_before odds up (m % states_per_node odds) (n % states_per_node odds) (place_low same)
+        (omega arith)))
       where
         same_node : n / states_per_node odds ≤ m / states_per_node odds
             → m / states_per_node odds ≡ n / states_per_node odds
         same_node few =
-            let up_to : m / states_per_node odds ≤ n / states_per_node odds = quotients_grow m n (states_per_node odds) (omega arith) (omega arith) in
+            let up_to : m / states_per_node odds ≤ n / states_per_node odds = quotients_grow m n (states_per_node odds)
+            (omega arith) (omega arith) in
             omega arith
 
         place_low : m / states_per_node odds ≡ n / states_per_node odds
             → m % states_per_node odds < n % states_per_node odds
         place_low node =
-            let whole_m : m / states_per_node odds * states_per_node odds + m % states_per_node odds ≡ m = omega arith in
-            let whole_n : n / states_per_node odds * states_per_node odds + n % states_per_node odds ≡ n = omega arith in
-            let rows : m / states_per_node odds * states_per_node odds ≡ n / states_per_node odds * states_per_node odds = ap (λ k. k * states_per_node odds) node in
+            let whole_m : m / states_per_node odds * states_per_node odds + m % states_per_node odds ≡ m =
+            omega arith in
+            let whole_n : n / states_per_node odds * states_per_node odds + n % states_per_node odds ≡ n =
+            omega arith in
+            let rows : m / states_per_node odds * states_per_node odds ≡ n / states_per_node odds * states_per_node
+            odds = ap (λ k. k * states_per_node odds) node in
             omega arith
 
 -- a number below, if there is one before

@@ -14,6 +14,8 @@ pub mod Accepted
 pub mod Turns
 -- a go as a walk of the decision game
 pub mod GoWalks
+-- what is true of the vertices of entries
+pub mod EntryVertices
 -- no cycle of go's is even
 pub mod GoCycles
 -- different positions among others
@@ -24,3 +26,19 @@ pub mod Items
 pub mod Sizes
 -- an extracted refutation is a refutation
 pub mod WellFormed
+-- a spread has one first cause
+pub mod FirstCauses
+-- numbers that stand in their order when they come first
+pub mod InOrder
+-- decisions from one position, with the entries numbered in two ways
+pub mod Alike
+-- the entries are numbered in one way
+pub mod OnePositions
+-- a solution makes one refutation
+pub mod OneRefutation
+-- an extracted refutation, worked out by hand
+pub mod WorkedExtraction
+-- what Odd's choice leads to
+pub mod Progress
+-- the entries are what Odd's moves reach
+pub mod ReachedByOdd

@@ -48,7 +48,8 @@ choice_node (p ∷ c) n x k m = by_test (cases_Bool (ltb n p.0)) (choice_node c 
     by_test (inl t) rest =
         subst (λ v. IsMember k (nodes_of v)) (cond-true (ltb n p.0) ((n, x) ∷ p ∷ c) (p ∷ with_side c n x) t) m
     by_test (inr f) rest =
-        at_head (subst (λ v. IsMember k (nodes_of v)) (cond-false (ltb n p.0) ((n, x) ∷ p ∷ c) (p ∷ with_side c n x) f) m) rest
+        at_head (subst (λ v. IsMember k (nodes_of v)) (cond-false (ltb n p.0) ((n, x) ∷ p ∷ c) (p ∷ with_side c n x) f)
+        m) rest
 
 -- with one side more it is longer by one
 pub choice_longer : (c : List (ℕ × Side)) (n : ℕ) (x : Side) → length (with_side c n x) ≡ length c + 1
@@ -58,9 +59,11 @@ choice_longer (p ∷ c) n x = by_test (cases_Bool (ltb n p.0)) (choice_longer c 
     by_test : (ltb n p.0 ≡ true) ⊎ (ltb n p.0 ≡ false) → length (with_side c n x) ≡ length c + 1
         → length (with_side (p ∷ c) n x) ≡ length (p ∷ c) + 1
     by_test (inl t) rest =
-        let e = ap (λ (v : List (ℕ × Side)). length v) (cond-true (ltb n p.0) ((n, x) ∷ p ∷ c) (p ∷ with_side c n x) t) in omega (arith, e)
+        let e = ap (λ (v : List (ℕ × Side)). length v) (cond-true (ltb n p.0) ((n, x) ∷ p ∷ c) (p ∷ with_side c n x)
+        t) in omega (arith, e)
     by_test (inr f) rest =
-        let e = ap (λ (v : List (ℕ × Side)). length v) (cond-false (ltb n p.0) ((n, x) ∷ p ∷ c) (p ∷ with_side c n x) f) in
+        let e = ap (λ (v : List (ℕ × Side)). length v) (cond-false (ltb n p.0) ((n, x) ∷ p ∷ c) (p ∷ with_side c n x)
+        f) in
         omega (arith, e, rest)
 
 -- a choice of nodes of the graph
@@ -91,7 +94,8 @@ module _ (g : Graph) (a : Arena) (s : GameSolution) (ps : List Position) where
   nesting_low (Split n left right) p at is =
       let «open» = at.0.holds.1.is_open in
       let low : n < size g = at.0.is_spread.low n «open».member in
-      let unchosen : side_of p.choice n ≡ None = subst (λ c. side_of c n ≡ None) at.0.is_spread.choice «open».is_open.unchosen in
+      let unchosen : side_of p.choice n ≡ None = subst (λ c. side_of c n ≡ None) at.0.is_spread.choice
+      «open».is_open.unchosen in
       let on_left = nesting_low left (with_chosen g p n Left) at.1 (one_more p.choice n Left low unchosen is) in
       let on_right = nesting_low right (with_chosen g p n Right) at.2 (one_more p.choice n Right low unchosen is) in
       omega (arith, on_left, on_right, choice_longer p.choice n Left, choice_longer p.choice n Right)

@@ -1,24 +1,27 @@
 -- Turns of the decision game, as vertices of its parity game.
 --
 --   SplitAt, split_at == where an or-node is open, Even may go to both sides
+--   lost_at        == where something clashes, the one move goes to Lost
 --   odd_at         == where nothing is open and there is a diamond, Odd moves
 use Rattle.std.proofs.Common.{ℕ, ◌≡◌, ◌<◌, ◌≤◌, ◌⊎◌, inl, inr, List, [], ◌∷◌, Some, length, get_or, slice_get, Contains, refl, sym, ap, ◌∙◌, subst, arith}
 use Rattle.std.proofs.lemmas.Bool.{cases_lt}
 use Rattle.ml_lists.specs.Member.{IsMember}
-use Rattle.ml_lists.proofs.Members.{contains_head, contains_later}
+use Rattle.ml_lists.proofs.Members.{contains_head, contains_later, member_of_contains}
 use Rattle.ml_graph.specs.Graph.{Graph}
 use Rattle.ml_parity.specs.declared.players.Player.TheVariants.{Even, Odd}
 use Rattle.ml_parity.specs.Game.{HasMove, owner_of, moves_of}
 use Rattle.ml_product.specs.Arena.{Arena, AreVertices, IsPlayed, IsArenaOf, game_of}
-use Rattle.ml_product.specs.DecisionGame.{Verdict, Clashing, Open, Leading, Settled, Target, To, mover, IsResolved, IsVerdictOf, diamonds_of, AreMoves}
+use Rattle.ml_product.specs.DecisionGame.{Verdict, Clashing, Open, Leading, Settled, Target, To, Lost, mover, IsResolved, IsVerdictOf, diamonds_of, AreMoves}
 use Rattle.ml_product.specs.Position.{Position, with_chosen}
 use Rattle.ml_sequent.specs.declared.choice.Side.TheVariants.{Left, Right}
-use Rattle.ml_sequent.specs.Spread.{SpreadList, IsSpreadOf, IsLeastOpenOr}
+use Rattle.ml_sequent.specs.declared.clashes.ClashCause.{ClashCause}
+use Rattle.ml_sequent.specs.Spread.{SpreadList, IsSpreadOf, IsCause, IsLeastOpenOr}
 use Rattle.std.proofs.lemmas.Option.{slice_get_within}
 use Rattle.ml_product.proofs.ArenaGame.{owner_at, moves_at}
 use Rattle.ml_product.proofs.OnePlace.{same_spread}
 
-module _ (g : Graph) (a : Arena) (arena : IsArenaOf g a) (v : ℕ) (p : Position) (placed : slice_get a.positions v ≡ Some p) where
+module _ (g : Graph) (a : Arena) (arena : IsArenaOf g a) (v : ℕ) (p : Position)
+    (placed : slice_get a.positions v ≡ Some p) where
   low : v < length a.positions
   low = slice_get_within a.positions v p placed
 
@@ -34,6 +37,7 @@ module _ (g : Graph) (a : Arena) (arena : IsArenaOf g a) (v : ℕ) (p : Position
     pub is_even : owner_of (game_of a) v ≡ Even
     pub to_left : HasMove (game_of a) v left
     pub to_right : HasMove (game_of a) v right
+    pub only : (w : ℕ) → HasMove (game_of a) v w → (w ≡ left) ⊎ (w ≡ right)
 
   -- where an or-node is open, Even may go to both sides
   pub split_at : (n : ℕ) (sp : SpreadList) → IsSpreadOf g p.sequent p.choice sp → IsVerdictOf g sp (Open n) → SplitAt n
@@ -59,6 +63,11 @@ module _ (g : Graph) (a : Arena) (arena : IsArenaOf g a) (v : ℕ) (p : Position
           by_first (inr le) (inl early) = inr (inl early)
           by_first (inr le) (inr ge) = inr (inr (omega arith))
 
+      one_of : {l k : ℕ} (w : ℕ) → IsMember w (l ∷ k ∷ []) → (w ≡ l) ⊎ (w ≡ k)
+      one_of w (inl is_left) = inl is_left
+      one_of w (inr (inl is_right)) = inr is_right
+      one_of w (inr (inr none)) = absurd none
+
       of_moves : (m : ℕ)
           → m ≡ n
           → (ts : List Target)
@@ -69,12 +78,14 @@ module _ (g : Graph) (a : Arena) (arena : IsArenaOf g a) (v : ℕ) (p : Position
           → get_or a.owners v Even ≡ Even
           → SplitAt n
       of_moves m m_is ts ts_is ws vs ws_is owner_is =
-          from (subst (λ x. AreVertices a.positions x ws) (ts_is ∙ ap (λ k. To (with_chosen g p k Left) ∷ To (with_chosen g p k Right) ∷ []) m_is) vs)
+          from (subst (λ x. AreVertices a.positions x ws)
+          (ts_is ∙ ap (λ k. To (with_chosen g p k Left) ∷ To (with_chosen g p k Right) ∷ []) m_is) vs)
         where
           from : AreVertices a.positions (To (with_chosen g p n Left) ∷ To (with_chosen g p n Right) ∷ []) ws
               → SplitAt n
           from (l, rest, l_is, (k, none, k_is, none_is, rest_is), ws_are) =
-              let all : moves_of (game_of a) v ≡ l ∷ k ∷ none = moves_at g a arena v low ∙ ws_is ∙ ws_are ∙ ap (λ x. l ∷ x) rest_is in
+              let all : moves_of (game_of a) v ≡ l ∷ k ∷ none = moves_at g a arena v low ∙ ws_is ∙ ws_are ∙ ap
+              (λ x. l ∷ x) rest_is in
               record {
                 left = l;
                 right = k;
@@ -83,6 +94,9 @@ module _ (g : Graph) (a : Arena) (arena : IsArenaOf g a) (v : ℕ) (p : Position
                 is_even = owner_at g a arena v low ∙ owner_is;
                 to_left = subst (λ x. Contains x l) (sym all) (contains_head l (k ∷ none));
                 to_right = subst (λ x. Contains x k) (sym all) (contains_later l (k ∷ none) k (contains_head k none));
+                only = λ w move. one_of w
+                    (member_of_contains w (l ∷ k ∷ []) (subst (λ x. Contains x w) (all ∙ ap (λ x. l ∷ k ∷ x) none_is)
+                    move));
               }
 
       of_turn : (x : Verdict)
@@ -92,7 +106,8 @@ module _ (g : Graph) (a : Arena) (arena : IsArenaOf g a) (v : ℕ) (p : Position
           → SplitAt n
       of_turn Clashing e at moves = absurd (is_here.0 at.0 at.1)
       of_turn (Open m) e at moves =
-          of_moves m (one_least m at.1 (compare m)) turn.turn.targets moves (get_or a.moves v []) turn.moves_are refl (turn.owner_is ∙ ap mover e)
+          of_moves m (one_least m at.1 (compare m)) turn.turn.targets moves (get_or a.moves v []) turn.moves_are refl
+          (turn.owner_is ∙ ap mover e)
       of_turn (Leading ds) e at moves = absurd (at.0.none_open n is_here.1.is_open)
       of_turn Settled e at moves = absurd (at.0.none_open n is_here.1.is_open)
 
@@ -117,3 +132,33 @@ module _ (g : Graph) (a : Arena) (arena : IsArenaOf g a) (v : ℕ) (p : Position
       of_turn (Leading ds) at = refl
       of_turn Settled at =
           absurd (subst (λ ds. IsMember d ds) at.1 (subst (λ x. IsMember d (diamonds_of g x)) (sym same) inside))
+
+  -- where something clashes, the one move goes to Lost
+  pub lost_at : (c : ClashCause) (sp : SpreadList) → IsSpreadOf g p.sequent p.choice sp → IsCause g sp c → (w : ℕ)
+      → HasMove (game_of a) v w → w ≡ length a.positions
+  lost_at c sp is_spread is w move = of_turn turn.turn.verdict turn.turn.is_verdict turn.turn.are_moves
+    where
+      same : turn.turn.spread ≡ sp
+      same = same_spread g p.sequent p.choice turn.turn.spread sp turn.turn.is_spread is_spread
+
+      here : IsCause g turn.turn.spread c
+      here = subst (λ x. IsCause g x c) (sym same) is
+
+      lost : AreVertices a.positions (Lost ∷ []) (get_or a.moves v []) → w ≡ length a.positions
+      lost (x, others, x_is, none, are) =
+          of_one (member_of_contains w (x ∷ [])
+          (subst (λ ms. Contains ms w) (moves_at g a arena v low ∙ are ∙ ap (λ z. x ∷ z) none) move))
+        where
+          of_one : IsMember w (x ∷ []) → w ≡ length a.positions
+          of_one (inl e) = e ∙ x_is
+          of_one (inr e) = absurd e
+
+      of_turn : (x : Verdict)
+          → IsVerdictOf g turn.turn.spread x
+          → AreMoves g p turn.turn.spread x turn.turn.targets
+          → w ≡ length a.positions
+      of_turn Clashing at moves = lost (subst (λ ts. AreVertices a.positions ts (get_or a.moves v [])) moves
+          turn.moves_are)
+      of_turn (Open m) at moves = absurd (at.0 c here)
+      of_turn (Leading ds) at moves = absurd (at.0.no_clash c here)
+      of_turn Settled at moves = absurd (at.0.no_clash c here)

@@ -7,14 +7,14 @@
 --   entry_is             == an entry is one
 --   extracted_refutation == the theorem
 use Rattle.std.proofs.Common.{ℕ, ◌≡◌, ◌*◌, ◌/◌, ◌<◌, ◌≤◌, ◌≢◌, ◌==◌, ◌%◌, List, [], ◌∷◌, Option, Some, None, length, get_or, filter, All, refl, sym, ap, ◌∙◌, subst, arith}
-use Rattle.std.proofs.lemmas.List.{get_or-map, length-map}
+use Rattle.std.proofs.lemmas.List.{get_or-map, get_or_default}
 use Rattle.std.proofs.lemmas.List.Sums.{length-filter, count_by-le-length}
 use Rattle.std.proofs.lemmas.Nat.{mul-le}
 use Rattle.ml_lists.specs.Ascending.{IsAscending}
 use Rattle.ml_lists.specs.Member.{IsMember}
 use Rattle.ml_lists.proofs.Ascending.{ascending-is, ascending-member}
-use Rattle.ml_lists.proofs.Member.{All-member, member-All, member-place, place-member, member-filter_from, member-map_from, Image}
-use Rattle.ml_graph.specs.Graph.{Graph, IsGraph, size, odd_priorities}
+use Rattle.ml_lists.proofs.Member.{All-member, member-All, member-place, member-filter_from, member-map_from, Image, Place}
+use Rattle.ml_graph.specs.Graph.{IsGraph, size, odd_priorities, node_at}
 use Rattle.ml_history.specs.HistoryStep.{live}
 use Rattle.ml_history.proofs.definition.NamesInUse.{live-has}
 use Rattle.ml_parity.specs.Heights.{AreLongest}
@@ -25,11 +25,11 @@ use Rattle.ml_product.proofs.Reached.{Facts, IsTraced}
 use Rattle.ml_refutation.specs.declared.refutation.TheConstants.{NESTING_LIMIT}
 use Rattle.ml_refutation.specs.Acceptance.{entry_at, no_entry, heights_of}
 use Rattle.ml_refutation.specs.Refutation as plain
-use Rattle.ml_refutation.specs.Refutation.{Refutation, Entry, Decision, Split, Clash, Go, Fits, FitsGuess, FitsCause, IsStack, IsItem, IsDecided, IsEntry, IsRefutation, IsMarkOf}
+use Rattle.ml_refutation.specs.Refutation.{Refutation, Entry, Decision, Split, Clash, Go, Fits, FitsGuess, FitsCause, IsStack, IsItem, IsDecided, IsEntry, IsRefutation, IsMarkOf, nesting}
 use Rattle.ml_sequent.specs.declared.choice.Side.TheVariants.{Left, Right}
 use Rattle.ml_sequent.specs.declared.clashes.ClashCause.{ClashCause}
 use Rattle.ml_sequent.specs.declared.clashes.ClashCause.TheVariants as cause
-use Rattle.ml_sequent.specs.Spread.{SpreadList, IsSpreadOf, IsCause}
+use Rattle.ml_sequent.specs.Spread.{SpreadList, IsCause, is_diamond}
 use Rattle.ml_sequent.proofs.RankedWalks.{few_different}
 use Rattle.ml_trace.specs.declared.letters.AutomatonState.{AutomatonState}
 use Rattle.ml_trace.specs.Automaton.{states_per_node, state_of, IsGuess}
@@ -45,10 +45,11 @@ use Rattle.ml_refute.proofs.Entries.{Extraction, At, position_at, facts_at, low_
 use Rattle.ml_refute.proofs.GoGraph.{is_one_sided, live_within, more_names}
 use Rattle.ml_refute.proofs.GoSteps.{state_numbered, go_mark_in_use}
 use Rattle.ml_refute.proofs.Items.{items_ascend}
-use Rattle.ml_refute.proofs.Sizes.{nesting_low}
+use Rattle.ml_refute.proofs.Sizes.{nesting_low, IsChoiceIn}
 
 module _ (X : Extraction) (longest : AreLongest (go_graph X.r) (heights_of X.r)) (g_ok : IsGraph X.g)
-    (small : size X.g ≤ NESTING_LIMIT) (priorities_fit : All Fits X.g.priorities) (positions_fit : Fits (length X.a.positions)) where
+    (small : size X.g ≤ NESTING_LIMIT) (priorities_fit : All Fits X.g.priorities)
+    (positions_fit : Fits (length X.a.positions)) where
   node_fits : (n : ℕ) → n < size X.g → Fits n
   node_fits n low = omega arith
 
@@ -57,7 +58,14 @@ module _ (X : Extraction) (longest : AreLongest (go_graph X.r) (heights_of X.r))
   few_states : automaton_states X.g ≤ 4096 * 4097
   few_states =
       let odds_few : length (odd_priorities X.g) ≤ size X.g =
-      omega (arith, few_different (filter (λ d. d % 2 == 1) X.g.priorities), length-filter (λ d. d % 2 == 1) X.g.priorities, count_by-le-length (λ d. d % 2 == 1) X.g.priorities, g_ok.priorities) in
+      omega (
+        arith,
+        few_different (filter (λ d. d % 2 == 1) X.g.priorities),
+        length-filter (λ d. d % 2 == 1)
+            X.g.priorities,
+        count_by-le-length (λ d. d % 2 == 1) X.g.priorities,
+        g_ok.priorities,
+      ) in
       let product = mul-le (size X.g) (states_per_node (odd_priorities X.g)) 4096 4097 (omega arith) (omega arith) in
       omega (arith, product)
 
@@ -81,13 +89,15 @@ module _ (X : Extraction) (longest : AreLongest (go_graph X.r) (heights_of X.r))
   names_low =
       let place = member-place X.o.names.entry X.r.entries X.o.names.member in
       let few = live_few place.place place.below (position_at X place.place place.below) in
-      let same : (entry_at X.r place.place).traces.live ≡ X.r.names = ap (λ (x : Entry). x.traces.live) (place.holds no_entry) ∙ X.o.names.is in
+      let same : (entry_at X.r place.place).traces.live ≡ X.r.names = ap (λ (x : Entry). x.traces.live)
+      (place.holds no_entry) ∙ X.o.names.is in
       omega (arith, few, same, few_states)
 
   -- and no more entries than positions
   entries_low : length X.r.entries ≤ length X.a.positions
   entries_low =
-      let few = different_within X.o.positions X.a.positions X.o.are_different (λ p m. of_place p (place_of p X.o.positions m)) in
+      let few = different_within X.o.positions X.a.positions X.o.are_different
+      (λ p m. of_place p (place_of p X.o.positions m)) in
       omega (arith, few, X.o.a_position_each)
     where
       of_place : (p : Position) → PlaceOf p X.o.positions → IsMember p X.a.positions
@@ -116,9 +126,11 @@ module _ (X : Extraction) (longest : AreLongest (go_graph X.r) (heights_of X.r))
   )
   decided (Clash x) p known within few at = cause_fits at.spread x at.is_spread.low at.holds.is_cause
   decided (Go d f m) p known within few at = (
-    node_fits d (at.is_spread.low d (member-filter_from (λ n. Rattle.ml_sequent.specs.Spread.is_diamond (Rattle.ml_graph.specs.Graph.node_at X.g n)) d at.spread.nodes go.is_diamond.is_diamond).0),
+    node_fits d (at.is_spread.low d (member-filter_from (λ n. is_diamond (node_at X.g n)) d at.spread.nodes
+        go.is_diamond.is_diamond).0),
     omega (arith, slice_get_within X.o.positions f go.next go.is_entry, X.o.a_position_each),
-    more_names (live p.history) X.r.names m few (go_mark_in_use X.g p go.next at.spread d go.is_diamond.leads known at.is_spread m go.marked go.is_mark),
+    more_names (live p.history) X.r.names m few (go_mark_in_use X.g p go.next at.spread d go.is_diamond.leads known
+        at.is_spread m go.marked go.is_mark),
   )
     where
       go : IsGo X.g X.a X.s X.o.positions p at.spread d f m
@@ -129,7 +141,8 @@ module _ (X : Extraction) (longest : AreLongest (go_graph X.r) (heights_of X.r))
   guess_fits : (guess : Option ℕ) → IsGuess (odd_priorities X.g) guess → FitsGuess guess
   guess_fits None at = tt
   guess_fits (Some d) at =
-      All-member Fits X.g.priorities priorities_fit d (member-filter_from (λ e. e % 2 == 1) d X.g.priorities (ascending-member d (filter (λ e. e % 2 == 1) X.g.priorities) at)).0
+      All-member Fits X.g.priorities priorities_fit d (member-filter_from (λ e. e % 2 == 1) d X.g.priorities
+      (ascending-member d (filter (λ e. e % 2 == 1) X.g.priorities) at)).0
 
   not_empty : (xs : List ℕ) → xs ≢ [] → 0 < length xs
   not_empty [] some = absurd (some refl)
@@ -145,14 +158,18 @@ module _ (X : Extraction) (longest : AreLongest (go_graph X.r) (heights_of X.r))
     where
       of_traced : IsTraced X.g p.sequent x → IsItem (live p.history) (carried_item (state_of (odd_priorities X.g)) x)
       of_traced t =
-          let state_is : state_of (odd_priorities X.g) x.state ≡ t.state = state_numbered X.g x.state t.state t.is_state t.numbered_so in
+          let state_is : state_of (odd_priorities X.g) x.state ≡ t.state = state_numbered X.g x.state t.state t.is_state
+          t.numbered_so in
           record {
-            node_fits = subst (λ (y : AutomatonState). Fits y.node) (sym state_is) (node_fits t.state.node (within t.state.node t.member));
-            guess_fits = subst (λ (y : AutomatonState). FitsGuess y.odd) (sym state_is) (guess_fits t.state.odd t.is_state);
+            node_fits = subst (λ (y : AutomatonState). Fits y.node) (sym state_is)
+                (node_fits t.state.node (within t.state.node t.member));
+            guess_fits = subst (λ (y : AutomatonState). FitsGuess y.odd) (sym state_is)
+                (guess_fits t.state.odd t.is_state);
             is_stack = record {
               some = not_empty x.stack (known.is_history.not_empty x inside);
               ascends = known.is_history.stacks_ascend x inside;
-              below = member-All (λ y. y < live p.history) x.stack (λ y m. live-has p.history y x inside (member-has y x.stack m));
+              below = member-All (λ y. y < live p.history) x.stack
+                  (λ y m. live-has p.history y x inside (member-has y x.stack m));
             };
           }
 
@@ -163,8 +180,10 @@ module _ (X : Extraction) (longest : AreLongest (go_graph X.r) (heights_of X.r))
       → plain.IsTraced X.r.names (traces_of X.g p.history)
   traces_are p known within few = record {
     within = few;
-    ascend = items_ascend (odd_priorities X.g) (ascending-is (filter (λ d. d % 2 == 1) X.g.priorities)) None p.history tt known.is_history.states_ascend;
-    are_items = member-All (IsItem (live p.history)) (traces_of X.g p.history).items (λ x m. of_image x (member-map_from (carried_item (state_of (odd_priorities X.g))) x p.history m));
+    ascend = items_ascend (odd_priorities X.g) (ascending-is (filter (λ d. d % 2 == 1) X.g.priorities)) None p.history
+        tt known.is_history.states_ascend;
+    are_items = member-All (IsItem (live p.history)) (traces_of X.g p.history).items
+        (λ x m. of_image x (member-map_from (carried_item (state_of (odd_priorities X.g))) x p.history m));
   }
     where
       of_image : (x : traced.Item AutomatonState)
@@ -182,7 +201,8 @@ module _ (X : Extraction) (longest : AreLongest (go_graph X.r) (heights_of X.r))
       let most = longest_low (go_graph X.r) (heights_of X.r) (is_one_sided X) longest (2 * k) e in
       let half : (2 * k) / 2 ≡ k = omega arith in
       let here : get_or (get_or (heights_of X.r) e []) ((2 * k) / 2) 0 ≡ get_or (entry_at X.r e).heights k d =
-      ap (λ row. get_or row ((2 * k) / 2) 0) (row_is e low) ∙ ap (λ j. get_or (entry_at X.r e).heights j 0) half ∙ Rattle.std.proofs.lemmas.List.get_or_default (entry_at X.r e).heights k 0 d below in
+      ap (λ row. get_or row ((2 * k) / 2) 0) (row_is e low) ∙ ap (λ j. get_or (entry_at X.r e).heights j 0) half
+      ∙ get_or_default (entry_at X.r e).heights k 0 d below in
       omega (arith, most, here, entries_low)
 
   entry_is : (e : ℕ) → e < length X.r.entries → At X e → IsEntry X.r.names (length X.r.entries) (entry_at X.r e)
@@ -192,19 +212,22 @@ module _ (X : Extraction) (longest : AreLongest (go_graph X.r) (heights_of X.r))
       let within = nodes_low e low h in
       let few = live_within X e h low in
       record {
-        nodes_fit = subst (All Fits) (sym h.is_entry.sequent) (member-All Fits p.sequent (λ n m. node_fits n (within n m)));
+        nodes_fit = subst (All Fits) (sym h.is_entry.sequent)
+            (member-All Fits p.sequent (λ n m. node_fits n (within n m)));
         ascends = subst IsAscending (sym h.is_entry.sequent) known.ascends;
         is_traced = subst (plain.IsTraced X.r.names) (sym h.is_entry.traces) (traces_are p known within few);
         heights_fit = height_fits e low;
-        a_height_each = let rows = longest.shape.numbers e low in let half : 2 * X.r.names / 2 ≡ X.r.names = omega arith in omega (arith, rows, half, ap (λ (row : List ℕ). length row) (row_is e low));
+        a_height_each = let rows = longest.shape.numbers e low in
+            let half : 2 * X.r.names / 2 ≡ X.r.names = omega arith in
+            omega (arith, rows, half, ap (λ (row : List ℕ). length row) (row_is e low));
         is_decided = decided (entry_at X.r e).decision p known within few h.is_entry.decision;
         nested = nested;
       }
     where
-      nested : Rattle.ml_refutation.specs.Refutation.nesting (entry_at X.r e).decision ≤ NESTING_LIMIT
+      nested : nesting (entry_at X.r e).decision ≤ NESTING_LIMIT
       nested =
           let deep = nesting_low X.g X.a X.s X.o.positions (entry_at X.r e).decision h.position h.is_entry.decision
-          (subst (Rattle.ml_refute.proofs.Sizes.IsChoiceIn X.g) (sym h.is_entry.unchosen) (record { is_choice = tt; low = λ k m. absurd m })) in
+          (subst (IsChoiceIn X.g) (sym h.is_entry.unchosen) (record { is_choice = tt; low = λ k m. absurd m })) in
           omega (arith, deep)
 
   -- the theorem
@@ -213,11 +236,13 @@ module _ (X : Extraction) (longest : AreLongest (go_graph X.r) (heights_of X.r))
     names_fit = names_low;
     has_start = let place = member-place X.o.names.entry X.r.entries X.o.names.member in omega (arith, place.below);
     entries_fit = omega (arith, entries_low);
-    are_entries = member-All (IsEntry X.r.names (length X.r.entries)) X.r.entries (λ x m. of_place x (member-place x X.r.entries m));
+    are_entries = member-All (IsEntry X.r.names (length X.r.entries)) X.r.entries
+        (λ x m. of_place x (member-place x X.r.entries m));
   }
     where
       of_place : (x : Entry)
-          → Rattle.ml_lists.proofs.Member.Place x X.r.entries
+          → Place x X.r.entries
           → IsEntry X.r.names (length X.r.entries) x
       of_place x i =
-          subst (IsEntry X.r.names (length X.r.entries)) (i.holds no_entry) (entry_is i.place i.below (position_at X i.place i.below))
+          subst (IsEntry X.r.names (length X.r.entries)) (i.holds no_entry)
+          (entry_is i.place i.below (position_at X i.place i.below))

@@ -64,7 +64,8 @@ pub record IsLeastTo (g : Graph) (p : Position) (sp : SpreadList) (q : Position)
   pub least : (c : ℕ) → c < d → IsMember c (diamonds_of g sp) → Follows g p sp c q → ⊥
 
 -- the entries are those of the positions ps; the mark is the one whose priority the next position has
-pub record IsGo (g : Graph) (a : Arena) (s : GameSolution) (ps : List Position) (p : Position) (sp : SpreadList) (d f : ℕ) (m : Mark) : Type 0 where
+pub record IsGo (g : Graph) (a : Arena) (s : GameSolution) (ps : List Position) (p : Position) (sp : SpreadList) (d f : ℕ)
+    (m : Mark) : Type 0 where
   pub next : Position
   pub is_choice : Chooses a s p next
   pub is_diamond : IsLeastTo g p sp next d
@@ -81,7 +82,8 @@ IsDecisionAt g a s ps p (Split o left right) =
     × IsDecisionAt g a s ps (with_chosen g p o Right) right
 IsDecisionAt g a s ps p (Go d f m) = OfSpread g p.sequent p.choice (λ sp. IsResolved g sp × IsGo g a s ps p sp d f m)
 
-pub record IsEntryAt (g : Graph) (a : Arena) (s : GameSolution) (ps : List Position) (p : Position) (e : Entry) : Type 0 where
+pub record IsEntryAt (g : Graph) (a : Arena) (s : GameSolution) (ps : List Position) (p : Position)
+    (e : Entry) : Type 0 where
   pub unchosen : p.choice ≡ []
   pub sequent : e.sequent ≡ p.sequent
   pub traces : e.traces ≡ traces_of g p.history

@@ -1,6 +1,22 @@
 // Laws about the definitions alone: empty functions, each of whose contract is a theorem.
 
-ghost use Rattle.ml_refute.specs.Laws.{ExtractedAccepted, ExtractedRefutation, NoEvenCycle};
+ghost use Rattle.ml_refute.specs.Laws.{EntriesAreReached, ExtractedAccepted, ExtractedRefutation, NoEvenCycle, OneRefutation};
+
+/// The positions of the entries are exactly those without a choice that plays from the start meet in which Odd makes the
+/// solution's moves.
+///
+/// Does nothing when called.
+pub fn entries_are_reached()
+    ensures law { EntriesAreReached }
+{}
+
+/// A solution of a graph's decision game makes one refutation at most: entries, their order, decisions, marks, names and
+/// heights are determined.
+///
+/// Does nothing when called.
+pub fn one_refutation()
+    ensures law { OneRefutation }
+{}
 
 /// The refutation that a solution of a graph's decision game makes breaks no rule of acceptance in that graph; and what can
 /// be asked of a refutation without a graph it keeps too, where the graph is of at most 4,096 nodes and its priorities and
