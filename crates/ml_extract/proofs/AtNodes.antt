@@ -1,8 +1,9 @@
 -- What a play of the checking game does at a state of the model, while it follows a strategy of Odd's that wins.
 --
--- It is at a node of the state's spread. The node doesn't hold, so it is no literal and no constant: the spread has no clash,
--- and the labels are its positive literals. At an And the play goes to a child by Odd's choice, at an Or to the child that
--- Even's moves chose, at a diamond to the state to which it leads, and at a square along an edge of Odd's choice.
+-- It is at a node of the state's spread. The node doesn't hold, so it is no literal and no constant: the spread has
+-- no clash, and the labels are its positive literals. At an And the play goes to a child by Odd's choice, at an Or to
+-- the child that Even's moves chose, at a diamond to the state to which it leads, and at a square along an edge of
+-- Odd's choice.
 --
 --   Rival            == a strategy of Odd's in the checking game of the model
 --   pair, OddMove, OddWalk == the vertex of a state and a node; a move, and a walk, that follow Odd's strategy
@@ -40,10 +41,10 @@ use Rattle.ml_sequent.specs.Step.{LeadsOut}
 use Rattle.ml_product.specs.Position.{Position, Follows}
 use Rattle.ml_product.specs.DecisionGame.{diamonds_of}
 use Rattle.ml_product.specs.Arena.{game_of}
-use Rattle.ml_product.proofs.ArenaGame.{member_of_get}
+use Rattle.ml_product.proofs.ArenaGame.{member_of_get, same_entry}
 use Rattle.ml_extract.specs.Model.{PositionAt, State, nexts, IsLabel, IsModelEdge}
-use Rattle.ml_extract.proofs.Setting.{Setting, even_moves, WonByMoves, EvenMove}
-use Rattle.ml_extract.proofs.LocalLoops.{spread_along}
+use Rattle.ml_extract.proofs.Setting.{Setting, board, even_moves, WonByMoves, EvenMove}
+use Rattle.ml_sequent.proofs.LocalLoops.{spread_along}
 use Rattle.ml_extract.proofs.Choosing.{Chosen, down, Way, way_of, way_for}
 use Rattle.ml_extract.proofs.Numbering.{StateAt, state_for, state_low, is_structure, edge_for, target_in, EdgeTo, target_from}
 
@@ -74,9 +75,9 @@ pub record AtState (S : Setting) : Type 0 where
   pub won : WonByMoves S state.first
 
 -- the position that Even's moves end with there
-pub resolved_at : (S : Setting) (t : AtState S) → Chosen S t.position t.state.first t.state.last t.state.spread
+pub resolved_at : (S : Setting) (t : AtState S) → Chosen (board S) t.position t.state.first t.state.last t.state.spread
 resolved_at S t =
-    down S t.state.first t.state.last t.state.spread
+    down (board S) t.state.first t.state.last t.state.spread
     (S.model.are_states.chosen t.state (member_of_get S.model.states t.number t.state t.is_state))
     t.position t.stands t.won
 
@@ -116,9 +117,9 @@ module _ (S : Setting) (t : AtState S) where
       → IsMember (d, y.first) (nexts S.g S.a t.state)
       → Next d
   next_at d j y is leads =
-      from (way_of S t.position t.state.first t.state.last t.state.spread (resolved_at S t) d y.first leads)
+      from (way_of (board S) t.position t.state.first t.state.last t.state.spread (resolved_at S t) d y.first leads)
     where
-      from : Way S (resolved_at S t).position t.state.spread t.state.last d y.first → Next d
+      from : Way (board S) (resolved_at S t).position t.state.spread t.state.last d y.first → Next d
       from w = record {
         place = record {
           number = j;
@@ -309,7 +310,7 @@ module _ (S : Setting) (t : AtState S) where
       at_diamond : (a to : ℕ) → node_at S.g n ≡ node.Diamond a to → AtNode n
       unfolding next_at
       at_diamond a to is =
-          from (way_for S t.position t.state.first t.state.last t.state.spread (resolved_at S t) n among)
+          from (way_for (board S) t.position t.state.first t.state.last t.state.spread (resolved_at S t) n among)
         where
           among : IsMember n (diamonds_of S.g t.state.spread)
           among = member-filter (λ k. is_diamond (node_at S.g k)) n t.state.spread.nodes member (ap is_diamond is)
@@ -336,12 +337,6 @@ module _ (S : Setting) (t : AtState S) where
               (state_for S t.state (member_of_get S.model.states t.number t.state t.is_state) w.0
               (member-map (λ (next : ℕ × ℕ). next.1) (n, w.0) (nexts S.g S.a t.state) w.1))
 
-      same_state : (x y : State)
-          → slice_get S.model.states t.number ≡ Some x
-          → slice_get S.model.states t.number ≡ Some y
-          → x ≡ y
-      same_state x y a b = let e : Some x ≡ Some y = sym a ∙ b in cc
-
       at_square : (a to : ℕ) → node_at S.g n ≡ node.Square a to → AtNode n
       unfolding next_at
       at_square a to is = from (odd_reply (ap mover is))
@@ -356,14 +351,15 @@ module _ (S : Setting) (t : AtState S) where
               → AtNode n
           by_edge j move e k =
               let state_is : k.from ≡ t.state =
-              same_state k.from t.state (subst (λ i. slice_get S.model.states i ≡ Some k.from) e.source_is
+              same_entry S.model.states t.number k.from t.state (subst (λ i. slice_get S.model.states i ≡ Some k.from)
+              e.source_is
               k.from_is) t.is_state in
               let leads : IsMember (k.diamond, k.to.first) (nexts S.g S.a t.state) =
               subst (λ x. IsMember (k.diamond, k.to.first) (nexts S.g S.a x)) state_is k.leads in
               let to_is : slice_get S.model.states j ≡ Some k.to =
               subst (λ i. slice_get S.model.states i ≡ Some k.to) e.target_is k.to_is in
               let diamond_low =
-              (way_of S t.position t.state.first t.state.last t.state.spread (resolved_at S t) k.diamond
+              (way_of (board S) t.position t.state.first t.state.last t.state.spread (resolved_at S t) k.diamond
               k.to.first leads).inside in
               let action_is : k.action ≡ a = same_place S.g.actions S.g_ok.actions_differ k.action a
               (diamond_action S.g S.g_ok k.diamond ((resolved_at S t).is_spread.low k.diamond diamond_low) k.action

@@ -1,10 +1,9 @@
 -- What Even's moves choose, and where the diamonds lead then, in the decision game that Even wins.
 --
--- Lost isn't won, so no spread on the way clashes: where an or-node is open, Even's move chooses a side of it, and where
--- none is, the position is resolved. The choices are pieces of a play that have no lower priority than the position where
--- they begin.
+-- Lost isn't won, so no spread on the way clashes: where an or-node is open, Even's move chooses a side of it, and
+-- where none is, the position is resolved. The choices are pieces of a play that have no lower priority than the
+-- position where they begin.
 --
---   same_spread     == a set of nodes has one spread under a choice
 --   lost_not_won    == Lost isn't won
 --   AtWon, at_won   == what happens at a position that is won: Even chooses, or diamonds lead on, or it is settled
 --   Chosen, down    == the position that Even's moves end with
@@ -14,7 +13,6 @@ use Rattle.std.proofs.Common.{ℕ, ◌≡◌, ◌<◌, ◌%◌, ◌⊎◌, inl, 
 use Rattle.std.specs.List.{zip}
 use Rattle.std.proofs.lemmas.Option.{slice_get_within}
 use Rattle.ml_lists.specs.Member.{IsMember}
-use Rattle.ml_lists.proofs.Ascending.{ascending_same}
 use Rattle.ml_lists.proofs.Member.{member-filter_from}
 use Rattle.ml_lists.proofs.Members.{member_of_contains, contains_of_member, contains_head}
 use Rattle.ml_graph.specs.Graph.{Graph, node_at}
@@ -25,28 +23,13 @@ use Rattle.ml_sequent.specs.declared.choice.Side.{Side}
 use Rattle.ml_sequent.specs.declared.choice.Side.TheVariants.{Left, Right}
 use Rattle.ml_sequent.specs.Spread.{SpreadList, IsSpreadOf, IsOpenOr, is_diamond}
 use Rattle.ml_product.specs.Position.{Position, with_chosen, neutral, Follows}
-use Rattle.ml_product.specs.DecisionGame.{Verdict, Clashing, Open, Leading, Settled, Target, To, Lost, IsResolved, IsVerdictOf, AreSteps, AreMoves, mover, diamonds_of}
+use Rattle.ml_product.specs.DecisionGame.{Verdict, Clashing, Open, Leading, Settled, Target, To, Lost, Won, IsResolved, IsVerdictOf, AreSteps, AreMoves, mover, diamonds_of}
 use Rattle.ml_product.specs.Arena.{IsVertexOf, AreVertices, IsPlayed, game_of}
-use Rattle.ml_product.proofs.ArenaGame.{here, size_is, owner_at, moves_at, priority_at, lost_moves, lost_priority, target_of, TargetOf}
+use Rattle.ml_product.proofs.OnePlace.{same_spread}
+use Rattle.ml_product.proofs.ArenaGame.{same_entry, here, size_is, owner_at, moves_at, priority_at, lost_moves, lost_priority, target_of, TargetOf}
 use Rattle.ml_product.proofs.NeutralPriority.{priority_at_most}
 use Rattle.ml_extract.specs.Model.{PositionAt, SpreadAt, Chooses, ends, moves}
-use Rattle.ml_extract.proofs.Setting.{Setting, even_moves, WonByMoves, EvenMove, EvenWalk}
-
--- ---- one spread
-
-same_parts : (x y : SpreadList) → x.nodes ≡ y.nodes → x.choice ≡ y.choice → x ≡ y
-same_parts x y e f = λ i. record { nodes = e i; choice = f i }
-
--- a set of nodes has one spread under a choice
-pub same_spread : (g : Graph) (C : List ℕ) (c : List (ℕ × Side)) (x y : SpreadList)
-    → IsSpreadOf g C c x
-    → IsSpreadOf g C c y
-    → x ≡ y
-same_spread g C c x y p q =
-    same_parts x y
-    (ascending_same x.nodes y.nodes p.ascends q.ascends (λ v i. (q.nodes v).1 ((p.nodes v).0 i))
-    (λ v i. (p.nodes v).1 ((q.nodes v).0 i)))
-    (p.choice ∙ sym q.choice)
+use Rattle.ml_extract.proofs.Board.{Board, even_moves, WonByMoves, EvenMove, EvenWalk}
 
 -- ---- diamonds and their vertices
 
@@ -119,153 +102,183 @@ module _ (g : Graph) (positions : List Position) (p : Position) (sp : SpreadList
           by_place (inl same) again = (w, back w (inl (ap (λ x. (x, w)) same)))
           by_place (inr i) again = let o = again i in (o.0, back o.0 (inr o.1))
 
-module _ (S : Setting) where
-  low_of : (v : ℕ) (p : Position) → PositionAt S.a v p → v < size (game_of S.a)
-  low_of v p stands = omega (arith, size_is S.g S.a S.arena, slice_get_within S.a.positions v p stands)
+  pub paired_back : (ds : List ℕ) (ts : List Target) (vs : List ℕ)
+      → AreSteps g p sp ds ts
+      → AreVertices positions ts vs
+      → (v : ℕ)
+      → IsMember v vs
+      → (d : ℕ) × IsMember (d, v) (zip ds vs)
+  paired_back [] ts vs steps vertices v m =
+      let none : vs ≡ [] = subst (λ xs. AreVertices positions xs vs) steps vertices in
+      absurd (subst (λ xs. IsMember v xs) none m)
+  paired_back (e ∷ ds) ts vs (q, others, follows, rest, is) vertices v m =
+      from (subst (λ xs. AreVertices positions xs vs) is vertices)
+      (λ behind later. paired_back ds others behind rest later v)
+    where
+      from : AreVertices positions (To q ∷ others) vs
+          → ((behind : List ℕ) → AreVertices positions others behind → IsMember v behind → (d : ℕ) × IsMember (d, v)
+          (zip ds behind))
+          → (d : ℕ) × IsMember (d, v) (zip (e ∷ ds) vs)
+      from (w, behind, stands, later, are) onward = by_place (subst (λ xs. IsMember v xs) are m) (onward behind later)
+        where
+          back : (d : ℕ) → IsMember (d, v) (zip (e ∷ ds) (w ∷ behind)) → IsMember (d, v) (zip (e ∷ ds) vs)
+          back d i = subst (λ xs. IsMember (d, v) (zip (e ∷ ds) xs)) (sym are) i
+
+          by_place : (v ≡ w) ⊎ IsMember v behind
+              → (IsMember v behind → (d : ℕ) × IsMember (d, v) (zip ds behind))
+              → (d : ℕ) × IsMember (d, v) (zip (e ∷ ds) vs)
+          by_place (inl same) again = (e, back e (inl (ap (λ x. (e, x)) same)))
+          by_place (inr i) again = let o = again i in (o.0, back o.0 (inr o.1))
+
+module _ (B : Board) where
+  low_of : (v : ℕ) (p : Position) → PositionAt B.a v p → v < size (game_of B.a)
+  low_of v p stands = omega (arith, size_is B.g B.a B.arena, slice_get_within B.a.positions v p stands)
 
   -- Even's own move, and a move of Odd's
-  own_move : (v : ℕ) → v < size (game_of S.a) → owner_of (game_of S.a) v ≡ Even → EvenMove S v (even_moves S v)
-  own_move v low own = record { move = S.solved.strategies Even v low own; chosen = λ o. refl }
+  own_move : (v : ℕ) → v < size (game_of B.a) → owner_of (game_of B.a) v ≡ Even → EvenMove B v (even_moves B v)
+  own_move v low own = record { move = B.solved.strategies Even v low own; chosen = λ o. refl }
 
-  odd_move : (v w : ℕ) → owner_of (game_of S.a) v ≡ Odd → HasMove (game_of S.a) v w → EvenMove S v w
+  odd_move : (v w : ℕ) → owner_of (game_of B.a) v ≡ Odd → HasMove (game_of B.a) v w → EvenMove B v w
   odd_move v w own move =
       record { move = move; chosen = λ even. absurd (let wrong : Even ≡ Odd = sym even ∙ own in cc) }
 
   -- the only move
-  single_move : (v w : ℕ) → v < size (game_of S.a) → moves_of (game_of S.a) v ≡ w ∷ [] → EvenMove S v w
+  pub single_move : (v w : ℕ) → v < size (game_of B.a) → moves_of (game_of B.a) v ≡ w ∷ [] → EvenMove B v w
   single_move v w low is = record {
     move = subst (λ ms. Contains ms w) (sym is) (contains_head w []);
     chosen =
-        λ own. only (member_of_contains (even_moves S v) (w ∷ [])
-        (subst (λ ms. Contains ms (even_moves S v)) is (S.solved.strategies Even v low own)));
+        λ own. only (member_of_contains (even_moves B v) (w ∷ [])
+        (subst (λ ms. Contains ms (even_moves B v)) is (B.solved.strategies Even v low own)));
   }
     where
-      only : IsMember (even_moves S v) (w ∷ []) → w ≡ even_moves S v
+      only : IsMember (even_moves B v) (w ∷ []) → w ≡ even_moves B v
       only (inl same) = sym same
       only (inr none) = absurd none
 
   -- Lost isn't won
-  lost_not_won : WonByMoves S (length S.a.positions) → ⊥
+  lost_not_won : WonByMoves B (length B.a.positions) → ⊥
   lost_not_won won =
-      let lost : ℕ = length S.a.positions in
-      let low : lost < size (game_of S.a) = omega (arith, size_is S.g S.a S.arena) in
-      let round = last lost lost (single_move lost lost low (lost_moves S.g S.a S.arena)) in
-      odd_is_not_even (priority_of (game_of S.a) lost) (ap (λ k. k % 2) (lost_priority S.g S.a S.arena))
-      (closed_walk_good (game_of S.a) Even (even_moves S) lost (priority_of (game_of S.a) lost) round won)
+      let lost : ℕ = length B.a.positions in
+      let low : lost < size (game_of B.a) = omega (arith, size_is B.g B.a B.arena) in
+      let round = last lost lost (single_move lost lost low (lost_moves B.g B.a B.arena)) in
+      odd_is_not_even (priority_of (game_of B.a) lost) (ap (λ k. k % 2) (lost_priority B.g B.a B.arena))
+      (closed_walk_good (game_of B.a) Even (even_moves B) lost (priority_of (game_of B.a) lost) round won)
 
   -- what happens at a position that is won
   pub data AtWon (v : ℕ) (p : Position) (sp : SpreadList) : Type 0 where
     choosing : (o : ℕ) (x : Side)
-        → IsOpenOr S.g sp o
-        → PositionAt S.a (even_moves S v) (with_chosen S.g p o x)
-        → EvenMove S v (even_moves S v)
+        → owner_of (game_of B.a) v ≡ Even
+        → IsOpenOr B.g sp o
+        → PositionAt B.a (even_moves B v) (with_chosen B.g p o x)
+        → EvenMove B v (even_moves B v)
         → AtWon v p sp
     leading : (ts : List Target)
-        → IsResolved S.g sp
-        → AreSteps S.g p sp (diamonds_of S.g sp) ts
-        → AreVertices S.a.positions ts (get_or S.a.moves v [])
-        → owner_of (game_of S.a) v ≡ Odd
+        → IsResolved B.g sp
+        → AreSteps B.g p sp (diamonds_of B.g sp) ts
+        → AreVertices B.a.positions ts (get_or B.a.moves v [])
+        → owner_of (game_of B.a) v ≡ Odd
         → AtWon v p sp
-    settled : IsResolved S.g sp → diamonds_of S.g sp ≡ [] → AtWon v p sp
+    settled : IsResolved B.g sp
+        → diamonds_of B.g sp ≡ []
+        → AreVertices B.a.positions (Won ∷ []) (get_or B.a.moves v [])
+        → AtWon v p sp
 
-  module _ (v : ℕ) (p : Position) (stands : PositionAt S.a v p) (won : WonByMoves S v)
-      (played : IsPlayed S.g S.a.positions p (get_or S.a.owners v Even) (get_or S.a.moves v [])) where
-    inside : v < length S.a.positions
-    inside = slice_get_within S.a.positions v p stands
+  module _ (v : ℕ) (p : Position) (stands : PositionAt B.a v p) (won : WonByMoves B v)
+      (played : IsPlayed B.g B.a.positions p (get_or B.a.owners v Even) (get_or B.a.moves v [])) where
+    inside : v < length B.a.positions
+    inside = slice_get_within B.a.positions v p stands
 
     -- to Lost alone
     lost : played.turn.targets ≡ Lost ∷ [] → ⊥
-    lost is = from (subst (λ ts. AreVertices S.a.positions ts (get_or S.a.moves v [])) is played.moves_are)
+    lost is = from (subst (λ ts. AreVertices B.a.positions ts (get_or B.a.moves v [])) is played.moves_are)
       where
-        from : AreVertices S.a.positions (Lost ∷ []) (get_or S.a.moves v []) → ⊥
+        from : AreVertices B.a.positions (Lost ∷ []) (get_or B.a.moves v []) → ⊥
         from (w, others, w_is, none, are) =
-            let single : moves_of (game_of S.a) v ≡ length S.a.positions ∷ [] =
-            moves_at S.g S.a S.arena v inside ∙ are ∙ ap (λ x. x ∷ others) w_is ∙ ap
-            (λ xs. length S.a.positions ∷ xs) none in
-            lost_not_won (won_behind (game_of S.a) Even (even_moves S) v (length S.a.positions)
-            (single_move v (length S.a.positions) (low_of v p stands) single) won)
+            let single : moves_of (game_of B.a) v ≡ length B.a.positions ∷ [] =
+            moves_at B.g B.a B.arena v inside ∙ are ∙ ap (λ x. x ∷ others) w_is ∙ ap
+            (λ xs. length B.a.positions ∷ xs) none in
+            lost_not_won (won_behind (game_of B.a) Even (even_moves B) v (length B.a.positions)
+            (single_move v (length B.a.positions) (low_of v p stands) single) won)
 
     -- Even's choice
-    chosen : (o : ℕ) → owner_of (game_of S.a) v ≡ Even → IsOpenOr S.g played.turn.spread o
-        → played.turn.targets ≡ To (with_chosen S.g p o Left) ∷ To (with_chosen S.g p o Right) ∷ []
+    chosen : (o : ℕ) → owner_of (game_of B.a) v ≡ Even → IsOpenOr B.g played.turn.spread o
+        → played.turn.targets ≡ To (with_chosen B.g p o Left) ∷ To (with_chosen B.g p o Right) ∷ []
         → AtWon v p played.turn.spread
     chosen o own is_open is =
-        from (target_of S.a.positions played.turn.targets (get_or S.a.moves v []) played.moves_are (even_moves S v)
+        from (target_of B.a.positions played.turn.targets (get_or B.a.moves v []) played.moves_are (even_moves B v)
         member)
       where
-        member : IsMember (even_moves S v) (get_or S.a.moves v [])
+        member : IsMember (even_moves B v) (get_or B.a.moves v [])
         member =
-            subst (λ ms. IsMember (even_moves S v) ms) (moves_at S.g S.a S.arena v inside)
-            (member_of_contains (even_moves S v) (moves_of (game_of S.a) v)
-            (S.solved.strategies Even v (low_of v p stands) own))
+            subst (λ ms. IsMember (even_moves B v) ms) (moves_at B.g B.a B.arena v inside)
+            (member_of_contains (even_moves B v) (moves_of (game_of B.a) v)
+            (B.solved.strategies Even v (low_of v p stands) own))
 
         side : (t : Target)
-            → IsVertexOf S.a.positions t (even_moves S v)
+            → IsVertexOf B.a.positions t (even_moves B v)
             → (x : Side)
-            → t ≡ To (with_chosen S.g p o x)
+            → t ≡ To (with_chosen B.g p o x)
             → AtWon v p played.turn.spread
         side t at x t_is =
-            choosing o x is_open (subst (λ u. IsVertexOf S.a.positions u (even_moves S v)) t_is at)
+            choosing o x own is_open (subst (λ u. IsVertexOf B.a.positions u (even_moves B v)) t_is at)
             (own_move v (low_of v p stands) own)
 
-        by_place : (t : Target) → IsVertexOf S.a.positions t (even_moves S v)
-            → IsMember t (To (with_chosen S.g p o Left) ∷ To (with_chosen S.g p o Right) ∷ [])
+        by_place : (t : Target) → IsVertexOf B.a.positions t (even_moves B v)
+            → IsMember t (To (with_chosen B.g p o Left) ∷ To (with_chosen B.g p o Right) ∷ [])
             → AtWon v p played.turn.spread
         by_place t at (inl left) = side t at Left left
         by_place t at (inr (inl right)) = side t at Right right
         by_place t at (inr (inr none)) = absurd none
 
-        from : TargetOf S.a.positions played.turn.targets (even_moves S v) → AtWon v p played.turn.spread
+        from : TargetOf B.a.positions played.turn.targets (even_moves B v) → AtWon v p played.turn.spread
         from t = by_place t.target t.is_vertex (subst (λ ts. IsMember t.target ts) is t.member)
 
     by_verdict : (x : Verdict)
-        → owner_of (game_of S.a) v ≡ mover x
-        → IsVerdictOf S.g played.turn.spread x
-        → AreMoves S.g p played.turn.spread x played.turn.targets
+        → owner_of (game_of B.a) v ≡ mover x
+        → IsVerdictOf B.g played.turn.spread x
+        → AreMoves B.g p played.turn.spread x played.turn.targets
         → AtWon v p played.turn.spread
     by_verdict Clashing own is are = absurd (lost are)
     by_verdict (Open o) own is are = chosen o own is.1.is_open are
     by_verdict (Leading ds) own is are =
-        leading played.turn.targets is.0 (subst (λ es. AreSteps S.g p played.turn.spread es played.turn.targets) is.1
+        leading played.turn.targets is.0 (subst (λ es. AreSteps B.g p played.turn.spread es played.turn.targets) is.1
         are) played.moves_are own
-    by_verdict Settled own is are = settled is.0 is.1
+    by_verdict Settled own is are =
+        settled is.0 is.1 (subst (λ ts. AreVertices B.a.positions ts (get_or B.a.moves v [])) are played.moves_are)
 
     at_won : AtWon v p played.turn.spread
     at_won =
-        by_verdict played.turn.verdict (owner_at S.g S.a S.arena v inside ∙ played.owner_is) played.turn.is_verdict
+        by_verdict played.turn.verdict (owner_at B.g B.a B.arena v inside ∙ played.owner_is) played.turn.is_verdict
         played.turn.are_moves
 
   -- the same, with the spread that was named
-  at_spread : (v : ℕ) (sp : SpreadList) (h : SpreadAt S.g S.a v sp) → WonByMoves S v → AtWon v h.position sp
+  pub at_spread : (v : ℕ) (sp : SpreadList) (h : SpreadAt B.g B.a v sp) → WonByMoves B v → AtWon v h.position sp
   at_spread v sp h won =
-      let turn = (S.arena.played v h.position h.stands).turn in
-      subst (AtWon v h.position) (same_spread S.g h.position.sequent h.position.choice turn.spread sp turn.is_spread
-      h.is_spread) (at_won v h.position h.stands won (S.arena.played v h.position h.stands))
+      let turn = (B.arena.played v h.position h.stands).turn in
+      subst (AtWon v h.position) (same_spread B.g h.position.sequent h.position.choice turn.spread sp turn.is_spread
+      h.is_spread) (at_won v h.position h.stands won (B.arena.played v h.position h.stands))
 
   -- ---- down the choices
 
   pub record Chosen (p : Position) (v w : ℕ) (sp : SpreadList) : Type 0 where
     pub position : Position
-    pub stands : PositionAt S.a w position
+    pub stands : PositionAt B.a w position
     pub sequent_is : position.sequent ≡ p.sequent
     pub history_is : position.history ≡ p.history
-    pub is_spread : IsSpreadOf S.g position.sequent position.choice sp
-    pub resolved : IsResolved S.g sp
-    pub won : WonByMoves S w
-    pub goes_on : (x : ℕ) → EvenMove S w x → EvenWalk S v (priority_of (game_of S.a) v) x
+    pub is_spread : IsSpreadOf B.g position.sequent position.choice sp
+    pub resolved : IsResolved B.g sp
+    pub won : WonByMoves B w
+    pub goes_on : (x : ℕ) → EvenMove B w x → EvenWalk B v (priority_of (game_of B.a) v) x
 
-  same_position : (v : ℕ) (p q : Position) → PositionAt S.a v p → PositionAt S.a v q → p ≡ q
-  same_position v p q a b = let e : Some p ≡ Some q = sym a ∙ b in cc
-
-  at_end : (v : ℕ) (sp : SpreadList) (h : SpreadAt S.g S.a v sp)
-      → ((n : ℕ) → IsOpenOr S.g sp n → ⊥)
-      → WonByMoves S v
+  at_end : (v : ℕ) (sp : SpreadList) (h : SpreadAt B.g B.a v sp)
+      → ((n : ℕ) → IsOpenOr B.g sp n → ⊥)
+      → WonByMoves B v
       → (p : Position)
       → p ≡ h.position
       → Chosen p v v sp
   at_end v sp h none won p same = from (at_spread v sp h won)
     where
-      with_resolved : IsResolved S.g sp → Chosen p v v sp
+      with_resolved : IsResolved B.g sp → Chosen p v v sp
       with_resolved r = record {
         position = h.position;
         stands = h.stands;
@@ -278,35 +291,35 @@ module _ (S : Setting) where
       }
 
       from : AtWon v h.position sp → Chosen p v v sp
-      from (choosing o x is_open stands move) = absurd (none o is_open)
+      from (choosing o x own is_open stands move) = absurd (none o is_open)
       from (leading ts r steps vertices own) = with_resolved r
-      from (settled r no_diamonds) = with_resolved r
+      from (settled r no_diamonds vertices) = with_resolved r
 
-  one_choice : (v w n : ℕ) (open_sp sp : SpreadList) (h : SpreadAt S.g S.a v open_sp)
-      → IsOpenOr S.g open_sp n
-      → WonByMoves S v
-      → (p : Position) → PositionAt S.a v p → p ≡ h.position
-      → ((q : Position) → PositionAt S.a (even_moves S v) q → WonByMoves S (even_moves S v) → Chosen q
-      (even_moves S v) w sp)
+  one_choice : (v w n : ℕ) (open_sp sp : SpreadList) (h : SpreadAt B.g B.a v open_sp)
+      → IsOpenOr B.g open_sp n
+      → WonByMoves B v
+      → (p : Position) → PositionAt B.a v p → p ≡ h.position
+      → ((q : Position) → PositionAt B.a (even_moves B v) q → WonByMoves B (even_moves B v) → Chosen q
+      (even_moves B v) w sp)
       → Chosen p v w sp
   one_choice v w n open_sp sp h is_open won p stands same again = from (at_spread v open_sp h won)
     where
       from : AtWon v h.position open_sp → Chosen p v w sp
       from (leading ts r steps vertices own) = absurd (r.none_open n is_open)
-      from (settled r no_diamonds) = absurd (r.none_open n is_open)
-      from (choosing o x here_open next move) =
+      from (settled r no_diamonds vertices) = absurd (r.none_open n is_open)
+      from (choosing o x own here_open next move) =
           let c =
-          again (with_chosen S.g h.position o x) next (won_behind (game_of S.a) Even (even_moves S) v
-          (even_moves S v) move won) in
-          let high : priority_of (game_of S.a) (even_moves S v) ≡ neutral S.g =
-          priority_at S.g S.a S.arena (even_moves S v) (with_chosen S.g h.position o x) next in
-          let low : min (priority_of (game_of S.a) v) (priority_of (game_of S.a) (even_moves S v)) ≡ priority_of
-          (game_of S.a) v =
+          again (with_chosen B.g h.position o x) next (won_behind (game_of B.a) Even (even_moves B) v
+          (even_moves B v) move won) in
+          let high : priority_of (game_of B.a) (even_moves B v) ≡ neutral B.g =
+          priority_at B.g B.a B.arena (even_moves B v) (with_chosen B.g h.position o x) next in
+          let low : min (priority_of (game_of B.a) v) (priority_of (game_of B.a) (even_moves B v)) ≡ priority_of
+          (game_of B.a) v =
           omega (
             arith,
-            priority_at S.g S.a S.arena v p stands,
-            priority_at_most S.g p
-                (here S.g S.a S.arena v p stands),
+            priority_at B.g B.a B.arena v p stands,
+            priority_at_most B.g p
+                (here B.g B.a B.arena v p stands),
           ) in
           record {
             position = c.position;
@@ -317,51 +330,52 @@ module _ (S : Setting) where
             resolved = c.resolved;
             won = c.won;
             goes_on =
-                λ y last_move. subst (λ k. EvenWalk S v k y) low (before v (even_moves S v) move
+                λ y last_move. subst (λ k. EvenWalk B v k y) low (before v (even_moves B v) move
                 (c.goes_on y last_move));
           }
 
   -- the position that Even's moves end with
   pub down : (v w : ℕ) (sp : SpreadList)
-      → Chooses S.g S.a S.s v w sp
+      → Chooses B.g B.a B.s v w sp
       → (p : Position)
-      → PositionAt S.a v p
-      → WonByMoves S v
+      → PositionAt B.a v p
+      → WonByMoves B v
       → Chosen p v w sp
-  down v w sp (ends _ _ h none) p stands won = at_end v sp h none won p (same_position v p h.position stands h.stands)
+  down v w sp (ends _ _ h none) p stands won =
+      at_end v sp h none won p (same_entry B.a.positions v p h.position stands h.stands)
   down v w sp (moves _ _ n open_sp _ h is_open rest) p stands won =
-      one_choice v w n open_sp sp h is_open won p stands (same_position v p h.position stands h.stands)
-      (λ q q_stands q_won. down (even_moves S v) w sp rest q q_stands q_won)
+      one_choice v w n open_sp sp h is_open won p stands (same_entry B.a.positions v p h.position stands h.stands)
+      (λ q q_stands q_won. down (even_moves B v) w sp rest q q_stands q_won)
 
   -- ---- along the diamonds
 
   -- where a diamond of the spread leads
   pub record Way (p : Position) (sp : SpreadList) (w d v : ℕ) : Type 0 where
     pub inside : IsMember d sp.nodes
-    pub passes : is_diamond (node_at S.g d) ≡ true
+    pub passes : is_diamond (node_at B.g d) ≡ true
     pub position : Position
-    pub stands : PositionAt S.a v position
-    pub follows : Follows S.g p sp d position
-    pub move : EvenMove S w v
+    pub stands : PositionAt B.a v position
+    pub follows : Follows B.g p sp d position
+    pub move : EvenMove B w v
 
   module _ (p : Position) (v w : ℕ) (sp : SpreadList) (c : Chosen p v w sp) where
     at_last : AtWon w c.position sp
     at_last = at_spread w sp (record { position = c.position; stands = c.stands; is_spread = c.is_spread }) c.won
 
     pub way_of : (d u : ℕ)
-        → IsMember (d, u) (zip (diamonds_of S.g sp) (get_or S.a.moves w []))
+        → IsMember (d, u) (zip (diamonds_of B.g sp) (get_or B.a.moves w []))
         → Way c.position sp w d u
     way_of d u m = from at_last
       where
         from : AtWon w c.position sp → Way c.position sp w d u
-        from (choosing o x is_open next move) = absurd (c.resolved.none_open o is_open)
-        from (settled r none) = absurd (subst (λ ds. IsMember (d, u) (zip ds (get_or S.a.moves w []))) none m)
+        from (choosing o x own is_open next move) = absurd (c.resolved.none_open o is_open)
+        from (settled r none vertices) = absurd (subst (λ ds. IsMember (d, u) (zip ds (get_or B.a.moves w []))) none m)
         from (leading ts r steps vertices own) =
             let o =
-            along S.g S.a.positions c.position sp (diamonds_of S.g sp) ts (get_or S.a.moves w []) steps vertices d
+            along B.g B.a.positions c.position sp (diamonds_of B.g sp) ts (get_or B.a.moves w []) steps vertices d
             u m in
-            let kept = member-filter_from (λ n. is_diamond (node_at S.g n)) d sp.nodes o.diamond in
-            let low = slice_get_within S.a.positions w c.position c.stands in
+            let kept = member-filter_from (λ n. is_diamond (node_at B.g n)) d sp.nodes o.diamond in
+            let low = slice_get_within B.a.positions w c.position c.stands in
             record {
               inside = kept.0;
               passes = kept.1;
@@ -369,18 +383,18 @@ module _ (S : Setting) where
               stands = o.stands;
               follows = o.follows;
               move =
-                  odd_move w u own (subst (λ ms. Contains ms u) (sym (moves_at S.g S.a S.arena w low))
-                  (contains_of_member u (get_or S.a.moves w []) o.vertex));
+                  odd_move w u own (subst (λ ms. Contains ms u) (sym (moves_at B.g B.a B.arena w low))
+                  (contains_of_member u (get_or B.a.moves w []) o.vertex));
             }
 
     -- each diamond has a position to which it leads
     pub way_for : (d : ℕ)
-        → IsMember d (diamonds_of S.g sp)
-        → (u : ℕ) × IsMember (d, u) (zip (diamonds_of S.g sp) (get_or S.a.moves w []))
+        → IsMember d (diamonds_of B.g sp)
+        → (u : ℕ) × IsMember (d, u) (zip (diamonds_of B.g sp) (get_or B.a.moves w []))
     way_for d m = from at_last
       where
-        from : AtWon w c.position sp → (u : ℕ) × IsMember (d, u) (zip (diamonds_of S.g sp) (get_or S.a.moves w []))
-        from (choosing o x is_open next move) = absurd (c.resolved.none_open o is_open)
-        from (settled r none) = absurd (subst (λ ds. IsMember d ds) none m)
+        from : AtWon w c.position sp → (u : ℕ) × IsMember (d, u) (zip (diamonds_of B.g sp) (get_or B.a.moves w []))
+        from (choosing o x own is_open next move) = absurd (c.resolved.none_open o is_open)
+        from (settled r none vertices) = absurd (subst (λ ds. IsMember d ds) none m)
         from (leading ts r steps vertices own) =
-            paired S.g S.a.positions c.position sp (diamonds_of S.g sp) ts (get_or S.a.moves w []) steps vertices d m
+            paired B.g B.a.positions c.position sp (diamonds_of B.g sp) ts (get_or B.a.moves w []) steps vertices d m

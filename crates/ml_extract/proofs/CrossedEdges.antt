@@ -1,8 +1,8 @@
 -- From a state of the model to a next one, as a piece of two plays and of a run.
 --
--- A play that follows a winning strategy of Odd's enters a state at a node of its sequent. It leaves it along a diamond: a
--- piece of a play of the checking game; a local trace of the step along the diamond, with the same lowest priority; and a
--- piece of a play of the decision game that follows Even's moves.
+-- A play that follows a winning strategy of Odd's enters a state at a node of its sequent. It leaves it along a
+-- diamond: a piece of a play of the checking game; a local trace of the step along the diamond, with the same lowest
+-- priority; and a piece of a play of the decision game that follows Even's moves.
 --
 --   Entered    == a state that was entered by a step, at a node of its sequent, where Odd's strategy wins
 --   Step, step == the next one, with the letter of the step

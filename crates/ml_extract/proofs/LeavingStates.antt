@@ -1,8 +1,8 @@
 -- A play that follows a winning strategy of Odd's leaves each state.
 --
--- Suppose that it made as many local moves at a state as there are nodes. Then it came to a node twice, and between the two
--- times there is a closed local walk. Since Odd wins, its lowest priority is odd; then some node on it is on an odd cycle,
--- which would be a clash of the state's spread.
+-- Suppose that it made as many local moves at a state as there are nodes. Then it came to a node twice, and between
+-- the two times there is a closed local walk. Since Odd wins, its lowest priority is odd; then some node on it is on
+-- an odd cycle, which would be a clash of the state's spread.
 --
 --   Course          == a local walk all of whose moves follow Odd's strategy
 --   OnWay           == one of at least one move
@@ -26,7 +26,7 @@ use Rattle.ml_sequent.specs.declared.clashes.ClashCause.TheVariants as cause
 use Rattle.ml_sequent.specs.LocalWalk.{LocalWalk, stays, goes, children}
 use Rattle.ml_sequent.proofs.LocalWalks.{walk_more}
 use Rattle.ml_extract.proofs.Setting.{Setting}
-use Rattle.ml_extract.proofs.LocalLoops.{CycleOn, lowest_on_cycle, lowest_node}
+use Rattle.ml_sequent.proofs.LocalLoops.{CycleOn, lowest_on_cycle, lowest_node}
 use Rattle.ml_extract.proofs.Numbering.{state_low}
 use Rattle.ml_extract.proofs.AtNodes.{Rival, pair, OddMove, OddWalk, OddWins, AtState, resolved_at, child_in, Crossing, AtNode, inside, crosses, at_node}
 

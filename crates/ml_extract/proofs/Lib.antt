@@ -1,5 +1,5 @@
--- closed local walks
-pub mod LocalLoops
+-- the decision game with a solution in which Even wins
+pub mod Board
 -- what the theorem is said of
 pub mod Setting
 -- what Even's moves choose, and where diamonds lead then
@@ -14,3 +14,11 @@ pub mod LeavingStates
 pub mod CrossedEdges
 -- round states and nodes: the theorem
 pub mod Loops
+-- a graph, an arena and a solution have one model
+pub mod OneModel
+-- where the states begin
+pub mod MetStates
+-- Even's moves end
+pub mod EndOfChoices
+-- a model that was worked out by hand
+pub mod WorkedModel

@@ -1,11 +1,11 @@
 -- The theorem: the graph holds at the start of the model.
 --
--- Suppose that a strategy of Odd's wins from the start. Then from a state that the play entered, at a node, it comes to a
--- next one, for ever; there are finitely many pairs of a state and a node, so one comes again. Between the two times the
--- play of the checking game has an odd lowest priority d, since Odd wins it. The guess d has a stack in the history of the
--- state where the loop begins, since it was entered by a step; it is kept on the whole loop, and where d is met its
--- transition accepts. By the second cycle law the lowest mark of the steps on the loop is odd. But they are the priorities of
--- a play of the decision game that follows Even's moves, which win.
+-- Suppose that a strategy of Odd's wins from the start. Then from a state that the play entered, at a node, it comes
+-- to a next one, for ever; there are finitely many pairs of a state and a node, so one comes again. Between the two
+-- times the play of the checking game has an odd lowest priority d, since Odd wins it. The guess d has a stack in the
+-- history of the state where the loop begins, since it was entered by a step; it is kept on the whole loop, and where
+-- d is met its transition accepts. By the second cycle law the lowest mark of the steps on the loop is odd. But they
+-- are the priorities of a play of the decision game that follows Even's moves, which win.
 --
 --   onward, reach    == the next state that is entered, and the one behind so many steps
 --   word             == the letters on the way
@@ -38,7 +38,6 @@ use Rattle.ml_parity.specs.declared.players.Player.TheVariants.{Even, Odd}
 use Rattle.ml_parity.specs.Game.{priority_of}
 use Rattle.ml_parity.specs.Winner.{Wins}
 use Rattle.ml_parity.proofs.FollowedWalks.{walks_joined, closed_walk_good, odd_is_not_even}
-use Rattle.ml_parity.proofs.SolutionFacts.{solution_winner, solution_wins_from}
 use Rattle.ml_parity.proofs.Winners.{won_by_either}
 use Rattle.ml_trace.specs.declared.letters.Transition.{Transition}
 use Rattle.ml_trace.specs.declared.marks.Mark.{Mark}
@@ -56,7 +55,8 @@ use Rattle.ml_product.proofs.NeutralPriority.{mark_fits, sequent_low}
 use Rattle.ml_product.proofs.Reached.{numbered}
 use Rattle.ml_extract.specs.Model.{PositionAt, State}
 use Rattle.ml_extract.specs.Extraction.{Extracted, ModelsHold}
-use Rattle.ml_extract.proofs.Setting.{Setting, even_moves, WonByMoves, EvenWalk}
+use Rattle.ml_extract.proofs.Board.{won_at_first}
+use Rattle.ml_extract.proofs.Setting.{Setting, board, even_moves, WonByMoves, EvenWalk}
 use Rattle.ml_extract.proofs.Numbering.{FirstState, first_state, state_low, is_structure, reached_from_start, has_diamond}
 use Rattle.ml_extract.proofs.AtNodes.{Rival, pair, OddWalk, OddWins, AtState}
 use Rattle.ml_extract.proofs.LeavingStates.{odd_side}
@@ -257,23 +257,17 @@ module _ (S : Setting) (R : Rival S) where
 
   -- ---- the loop
 
-  same_state : (x y : State) (k : ℕ) → slice_get S.model.states k ≡ Some x → slice_get S.model.states k ≡ Some y → x ≡ y
-  same_state x y k a b = let e : Some x ≡ Some y = sym a ∙ b in cc
-
-  same_position : (v : ℕ) (p q : Position) → PositionAt S.a v p → PositionAt S.a v q → p ≡ q
-  same_position v p q a b = let e : Some p ≡ Some q = sym a ∙ b in cc
-
   module _ (n : ℕ) (p : Entered S R) (same_number : (reach (suc n) p).place.number ≡ p.place.number)
       (same_node : (reach (suc n) p).node ≡ p.node) where
     state_is : (reach (suc n) p).place.state ≡ p.place.state
     state_is =
-        same_state (reach (suc n) p).place.state p.place.state p.place.number
+        arena.same_entry S.model.states p.place.number (reach (suc n) p).place.state p.place.state
         (subst (λ k. slice_get S.model.states k ≡ Some (reach (suc n) p).place.state) same_number
         (reach (suc n) p).place.is_state) p.place.is_state
 
     position_is : (reach (suc n) p).place.position ≡ p.place.position
     position_is =
-        same_position p.place.state.first (reach (suc n) p).place.position p.place.position
+        arena.same_entry S.a.positions p.place.state.first (reach (suc n) p).place.position p.place.position
         (subst (λ (x : State). PositionAt S.a x.first (reach (suc n) p).place.position) state_is
         (reach (suc n) p).place.stands) p.place.stands
 
@@ -383,17 +377,8 @@ module _ (S : Setting) where
     is_state = x.stands;
     position = start_of S.g;
     stands = subst (λ v. PositionAt S.a v (start_of S.g)) (sym x.first_is) S.arena.starts;
-    won = subst (WonByMoves S) (sym x.first_is) won;
+    won = subst (WonByMoves S) (sym x.first_is) (won_at_first (board S));
   }
-    where
-      low : 0 < Rattle.ml_parity.specs.Game.size (game_of S.a)
-      low = omega (arith, arena.size_is S.g S.a S.arena)
-
-      won : WonByMoves S 0
-      won =
-          let ok = arena.is_game S.g S.a S.arena in
-          solution_wins_from (game_of S.a) ok S.s S.solved Even 0 low
-          ((solution_winner (game_of S.a) ok S.s S.solved Even 0 low).0 S.even_wins)
 
   no_rival : (R : Rival S) → OddWins S R 0 S.g.root → ⊥
   unfolding start_state
@@ -425,15 +410,15 @@ module _ (S : Setting) where
 
 -- where Even wins the decision game, the model of Even's moves is a structure at whose start the graph holds
 pub models_hold : ModelsHold
-models_hold g a s g_ok is solved even_wins m start model = extracted (record {
+models_hold g a s m start even model = extracted (record {
   g = g;
   a = a;
   s = s;
   m = m;
   start = start;
-  g_ok = g_ok;
-  arena = is;
-  solved = solved;
-  even_wins = even_wins;
+  g_ok = even.is_graph;
+  arena = even.is_arena;
+  solved = even.is_solution;
+  even_wins = even.wins;
   model = model;
 })

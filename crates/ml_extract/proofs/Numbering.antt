@@ -5,10 +5,11 @@
 --   state_for       == each next position is one where a state begins
 --   diamond_of      == a node that passes the test is a diamond
 --   last_spread     == the spread of a state is that of its last position
---   is_structure    == the model is a structure
+--   structure_of    == the model is a structure
+--   Earlier, earlier_state == each state but the first is the next one of an earlier state
 --   reached_from_start, has_diamond == each state is reached along edges, each edge has a diamond's action
 --   target_in, target_from == where the edges of an action lead
-use Rattle.std.proofs.Common.{ℕ, zero, suc, ◌≡◌, ◌<◌, ◌≤◌, ◌==◌, inl, inr, Bool, true, false, ◌&&◌, List, [], ◌∷◌, length, get_or, slice_get, map, Some, refl, sym, ap, ◌∙◌, subst, arith}
+use Rattle.std.proofs.Common.{length, ℕ, zero, suc, ◌≡◌, ◌<◌, ◌≤◌, ◌==◌, inl, inr, Bool, true, false, ◌&&◌, List, [], ◌∷◌, get_or, slice_get, map, Some, refl, sym, ap, ◌∙◌, subst, arith}
 use Rattle.std.specs.List.{zip, filter}
 use Rattle.std.specs.Str.{bytes_eq}
 use Rattle.std.proofs.lemmas.Bool.Decides.{Decides-eqb}
@@ -18,7 +19,6 @@ use Rattle.std.proofs.lemmas.Slice.Eq.{bytes_eq-Decides}
 use Rattle.ml_base.specs.declared.structure.Edge.{Edge}
 use Rattle.ml_base.specs.Structure.{Structure, IsStructure}
 use Rattle.ml_lists.specs.Member.{IsMember}
-use Rattle.ml_lists.proofs.BreadthFirst.{row_inside}
 use Rattle.ml_lists.proofs.Member.{Image, member-map, member-map_from, member-filter, member-filter_from, member-place, member-All, Place}
 use Rattle.ml_graph.specs.declared.node.Node.{Node}
 use Rattle.ml_graph.specs.declared.node.Node.TheVariants as node
@@ -29,8 +29,9 @@ use Rattle.ml_sequent.specs.Spread.{SpreadList, is_diamond}
 use Rattle.ml_product.specs.DecisionGame.{diamonds_of}
 use Rattle.ml_product.specs.Arena.{Arena}
 use Rattle.ml_product.proofs.ArenaGame.{member_of_get}
-use Rattle.ml_extract.specs.Model.{SpreadAt, Chooses, ends, moves, State, nexts, next_positions}
+use Rattle.ml_extract.specs.Model.{SpreadAt, Chooses, ends, moves, State, nexts, next_positions, IsModelOf}
 use Rattle.ml_extract.specs.Extraction.{IsReachedFrom, itself, along, HasDiamond}
+use Rattle.ml_lists.proofs.BreadthFirst.{row_inside}
 use Rattle.ml_extract.proofs.Setting.{Setting}
 
 -- the state that begins at position v
@@ -105,6 +106,23 @@ pub last_spread : (g : Graph) (a : Arena) (s : GameSolution) (v w : ℕ) (sp : S
 last_spread g a s v w sp (ends _ _ h none) = h
 last_spread g a s v w sp (moves _ _ n open_sp _ h is_open rest) = last_spread g a s _ w sp rest
 
+-- the model is a structure
+pub structure_of : (g : Graph) (a : Arena) (s : GameSolution) (m : Structure) (start : ℕ)
+    → IsModelOf g a s m start
+    → IsStructure m
+structure_of g a s m start model = record {
+  has_state = low 0 first.state first.stands;
+  labels_states = model.labels_each ∙ sym model.a_state_each;
+  joins_states = member-All (λ (e : Edge). (e.source < m.states) × (e.target < m.states)) m.edges
+      (λ e i. let k = (model.edges e).0 i in (low e.source k.from k.from_is, low e.target k.to k.to_is));
+}
+  where
+    first : FirstState model.states
+    first = head_state model.states _ model.are_states.breadth_first.in_order
+
+    low : (k : ℕ) (x : State) → slice_get model.states k ≡ Some x → k < m.states
+    low k x is = omega (arith, slice_get_within model.states k x is, model.a_state_each)
+
 module _ (S : Setting) where
   pub first_state : FirstState S.model.states
   first_state = head_state S.model.states _ S.model.are_states.breadth_first.in_order
@@ -116,60 +134,16 @@ module _ (S : Setting) where
       → IsMember v (next_positions S.g S.a x)
       → StateAt S.model.states v
   state_for x inside v m =
-      let row = member-map (next_positions S.g S.a) x S.model.states inside in
-      state_at S.model.states v (row_inside 0 (map (next_positions S.g S.a) S.model.states)
-      (map (λ (y : State). y.first) S.model.states)
-      S.model.are_states.breadth_first (next_positions S.g S.a x) row v m)
-
-  -- each state but the first is the next position of one before it
-  record ComesBefore (k : ℕ) (x : State) : Type 0 where
-    pub place : ℕ
-    pub state : State
-    pub earlier : place < k
-    pub stands : slice_get S.model.states place ≡ Some state
-    pub leads : IsMember x.first (next_positions S.g S.a state)
-
-  comes_before : (k : ℕ) (x : State) → 0 < k → slice_get S.model.states k ≡ Some x → ComesBefore k x
-  comes_before k x later is =
-      from (S.model.are_states.breadth_first.from_earlier k later
-      (omega (arith, k_low, length-map S.model.states (λ (y : State). y.first))))
-    where
-      k_low : k < length S.model.states
-      k_low = slice_get_within S.model.states k x is
-
-      first_is : get_or (map (λ (y : State). y.first) S.model.states) k 0 ≡ x.first
-      first_is =
-          get_or-map (λ (y : State). y.first) S.model.states k x 0 k_low
-          ∙ ap (λ (y : State). y.first) (get_or_from_slice_get S.model.states k x x is)
-
-      from : ((j : ℕ) × (j < k) × IsMember (get_or (map (λ (y : State). y.first) S.model.states) k 0) (get_or (map (next_positions S.g S.a) S.model.states) j []))
-          → ComesBefore k x
-      from (j, early, inside) =
-          let row_is = get_or-map (next_positions S.g S.a) S.model.states j x [] (omega (arith, k_low)) in
-          record {
-            place = j;
-            state = get_or S.model.states j x;
-            earlier = early;
-            stands = slice_get-get_or S.model.states j x (omega (arith, k_low));
-            leads = subst (λ v. IsMember v (next_positions S.g S.a (get_or S.model.states j x))) first_is
-                (subst (λ row. IsMember (get_or (map (λ (y : State). y.first) S.model.states) k 0) row) row_is inside);
-          }
+      state_at S.model.states v
+      (row_inside 0 (map (next_positions S.g S.a) S.model.states) (map (λ (y : State). y.first) S.model.states)
+      S.model.are_states.breadth_first (next_positions S.g S.a x)
+      (member-map (next_positions S.g S.a) x S.model.states inside) v m)
 
   pub state_low : (k : ℕ) (x : State) → slice_get S.model.states k ≡ Some x → k < S.m.states
   state_low k x is = omega (arith, slice_get_within S.model.states k x is, S.model.a_state_each)
 
-  -- the model is a structure
   pub is_structure : IsStructure S.m
-  is_structure = record {
-    has_state = state_low 0 first_state.state first_state.stands;
-    labels_states = S.model.labels_each ∙ sym S.model.a_state_each;
-    joins_states = member-All (λ (e : Edge). (e.source < S.m.states) × (e.target < S.m.states)) S.m.edges
-        (λ e m. let k = (S.model.edges e).0 m in (
-          state_low e.source k.from k.from_is,
-          state_low e.target k.to
-              k.to_is,
-        ));
-  }
+  is_structure = structure_of S.g S.a S.s S.m S.start S.model
 
   -- an edge for each diamond that leads to a state
   pub edge_for : (i j : ℕ) (x y : State) → slice_get S.model.states i ≡ Some x → slice_get S.model.states j ≡ Some y
@@ -190,13 +164,49 @@ module _ (S : Setting) where
       })
 
   -- each state is reached along edges
+  -- each state but the first is the next one of an earlier state
+  pub record Earlier (k : ℕ) (x : State) : Type 0 where
+    pub place : ℕ
+    pub state : State
+    pub earlier : place < k
+    pub stands : slice_get S.model.states place ≡ Some state
+    pub leads : IsMember x.first (next_positions S.g S.a state)
+
+  pub earlier_state : (k : ℕ) (x : State) → 0 < k → slice_get S.model.states k ≡ Some x → Earlier k x
+  earlier_state k x behind is =
+      from (S.model.are_states.breadth_first.from_earlier k behind
+      (omega (arith, low, length-map S.model.states (λ (y : State). y.first))))
+    where
+      low : k < length S.model.states
+      low = slice_get_within S.model.states k x is
+
+      key_is : get_or (map (λ (y : State). y.first) S.model.states) k 0 ≡ x.first
+      key_is =
+          get_or-map (λ (y : State). y.first) S.model.states k x 0 low
+          ∙ ap (λ (y : State). y.first) (get_or_from_slice_get S.model.states k x x is)
+
+      from : ((j : ℕ) × (j < k) × IsMember (get_or (map (λ (y : State). y.first) S.model.states) k 0)
+          (get_or (map (next_positions S.g S.a) S.model.states) j []))
+          → Earlier k x
+      from (j, less, m) =
+          let j_low : j < length S.model.states = omega (arith, low) in
+          let row_is = get_or-map (next_positions S.g S.a) S.model.states j x [] j_low in
+          record {
+            place = j;
+            state = get_or S.model.states j x;
+            earlier = less;
+            stands = slice_get-get_or S.model.states j x j_low;
+            leads = subst (λ v. IsMember v (next_positions S.g S.a (get_or S.model.states j x))) key_is
+                (subst (IsMember (get_or (map (λ (y : State). y.first) S.model.states) k 0)) row_is m);
+          }
+
   by_number : (fuel k : ℕ) → k ≤ fuel → (x : State) → slice_get S.model.states k ≡ Some x → IsReachedFrom S.m S.start k
   by_number fuel zero low x is = subst (IsReachedFrom S.m S.start) S.model.starts itself
   by_number zero (suc k) low x is = absurd (omega arith)
   by_number (suc fuel) (suc k) low x is =
-      from (comes_before (suc k) x (omega arith) is) (λ j j_low y y_is. by_number fuel j j_low y y_is)
+      from (earlier_state (suc k) x (omega arith) is) (λ j j_low y y_is. by_number fuel j j_low y y_is)
     where
-      from : ComesBefore (suc k) x
+      from : Earlier (suc k) x
           → ((j : ℕ) → j ≤ fuel → (y : State) → slice_get S.model.states j ≡ Some y → IsReachedFrom S.m S.start j)
           → IsReachedFrom S.m S.start (suc k)
       from c again = of_image (member-map_from (λ (next : ℕ × ℕ). next.1) x.first (nexts S.g S.a c.state) c.leads)

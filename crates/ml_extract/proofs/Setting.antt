@@ -1,18 +1,18 @@
 -- What the theorem on extracted models is said of.
 --
---   Setting        == a graph with its arena, a solution of the arena's game in which Even wins, and the model
---   even_moves     == Even's moves
---   WonByMoves     == with these moves Even wins from the vertex
---   EvenMove, EvenWalk == a move, and a walk, that follow Even's moves
+--   Setting == a board, on which Even wins, and the model
+--   board   == the board
+--   even_moves, WonByMoves, EvenMove, EvenWalk == those of the board
 use Rattle.std.proofs.Common.{ℕ}
 use Rattle.ml_base.specs.Structure.{Structure}
 use Rattle.ml_graph.specs.Graph.{Graph, IsGraph}
 use Rattle.ml_parity.specs.declared.players.Player.TheVariants.{Even}
-use Rattle.ml_parity.specs.Solution.{GameSolution, IsSolution, choice_at}
-use Rattle.ml_parity.specs.Winner.{Wins, WinsFrom}
-use Rattle.ml_parity.proofs.FollowedWalks.{FollowedMove, FollowedWalk}
+use Rattle.ml_parity.specs.Solution.{GameSolution, IsSolution}
+use Rattle.ml_parity.specs.Winner.{Wins}
 use Rattle.ml_product.specs.Arena.{Arena, IsArenaOf, game_of}
 use Rattle.ml_extract.specs.Model.{IsModelOf}
+use Rattle.ml_extract.proofs.Board.{Board}
+use Rattle.ml_extract.proofs.Board as boards
 
 pub record Setting : Type 0 where
   pub g : Graph
@@ -26,14 +26,25 @@ pub record Setting : Type 0 where
   pub even_wins : Wins (game_of a) Even 0
   pub model : IsModelOf g a s m start
 
+abbrev pub board : Setting → Board
+board S = record {
+  g = S.g;
+  a = S.a;
+  s = S.s;
+  g_ok = S.g_ok;
+  arena = S.arena;
+  solved = S.solved;
+  even_wins = S.even_wins;
+}
+
 abbrev pub even_moves : Setting → ℕ → ℕ
-even_moves S = choice_at S.s.choice
+even_moves S = boards.even_moves (board S)
 
 abbrev pub WonByMoves : Setting → ℕ → Type 0
-WonByMoves S v = WinsFrom (game_of S.a) Even (even_moves S) v
+WonByMoves S v = boards.WonByMoves (board S) v
 
 abbrev pub EvenMove : Setting → ℕ → ℕ → Type 0
-EvenMove S v w = FollowedMove (game_of S.a) Even (even_moves S) v w
+EvenMove S v w = boards.EvenMove (board S) v w
 
 abbrev pub EvenWalk : Setting → ℕ → ℕ → ℕ → Type 0
-EvenWalk S v k w = FollowedWalk (game_of S.a) Even (even_moves S) v k w
+EvenWalk S v k w = boards.EvenWalk (board S) v k w

@@ -1,22 +1,23 @@
 -- The model that Even's moves make, where Even wins the decision game.
 --
--- Even plays the moves of a solution. At a position with an empty choice Even's moves choose sides of or-nodes, until no
--- or-node is open: this is all that one state of the model has to meet. Along each diamond of the spread they end with the
--- game goes on to a next position with an empty choice, and so to a next state. The states are the positions that are come
--- to in this way, numbered breadth first. Odd's moves, along the diamonds, are all followed; of Even's, the solution's alone.
+-- Even plays the moves of a solution. At a position with an empty choice these moves choose sides of or-nodes, until
+-- no or-node is open: what is known then is all that one state of the model has to meet. Each diamond of the spread
+-- that they end with leads to a next position with an empty choice, and so to a next state. So of Even's moves those
+-- of the solution are followed, and of Odd's all. The states are numbered breadth first, diamonds ascending.
 --
 --   PositionAt a v p     == p is the position with the number v
 --   SpreadAt g a v sp    == sp is the spread of the position with the number v
---   Chooses g a s v w sp == from position v Even's moves choose until, at position w with the spread sp, no or-node is open
---   State                == the numbers of the position where a state begins and of that where nothing is left to choose,
+--   Chooses g a s v w sp == from position v Even's moves choose until no or-node is open: at position w with spread sp
+--   State                == where a state begins, and where nothing is left to choose, by the numbers of the positions;
 --                           and the spread of the latter, which is the state's spread
 --   nexts g a x          == the diamonds of the state's spread, each with the number of the position to which it leads
---   AreStates g a s xs   == xs are the states, breadth first: position 0, and then the next positions of the states in their
---                           order, each of them once; each but the first is the next position of an earlier state
---   IsLabel g x p        == p is the name of a proposition whose positive literal is in the state's spread
---   IsModelEdge g a xs e == e has the action of a diamond of its source's spread, and leads to the state that begins at the
---                           position to which the diamond leads
---   IsModelOf g a s m i  == m is the model of these states, labels and edges, nothing twice, and i is the state 0
+--   next_positions g a x == these numbers
+--   AreStates g a s xs   == xs are the states, breadth first: the first one begins at position 0, and the others at the
+--                           next positions of states
+--   IsLabel g x name     == it is the name of a proposition whose positive literal is in the state's spread
+--   IsModelEdge g a xs e == of some diamond of the state that e leaves, e has the action, and leads to the state that
+--                           begins at the position to which this diamond leads
+--   IsModelOf g a s m i  == m has these states, labels and edges, nothing twice, and i is the first state
 use Rattle.std.specs.Prelude.{ℕ, ◌≡◌, ◌↔◌, true, List, [], map, length, get_or, slice_get, slice_index_or, Some}
 use Rattle.std.specs.List.{zip}
 use Rattle.ml_base.specs.declared.structure.Edge.{Edge}

@@ -60,5 +60,5 @@ pub mod Times
 pub mod Within
 -- lists in the order of a relation
 pub mod InOrder
--- lists in breadth-first order
+-- breadth-first lists
 pub mod BreadthFirst

@@ -1,5 +1,6 @@
 -- The parity game of an arena, vertex by vertex.
 --
+--   member_of_get, same_entry == an element that is read is a member; a place has one
 --   here                == a position with a number is one that is reached
 --   owner_at, moves_at, priority_at == of a position's vertex: those of the position
 --   lost_moves, lost_priority       == the vertex behind the positions leads to itself, with the priority 1
@@ -24,6 +25,11 @@ use Rattle.ml_product.specs.Arena.{Arena, IsVertexOf, AreVertices, IsPlayed, IsA
 pub member_of_get : {X : Type 0} (xs : List X) (k : ℕ) (x : X) → slice_get xs k ≡ Some x → IsMember x xs
 member_of_get xs k x is =
     subst (λ y. IsMember y xs) (get_or_from_slice_get xs k x x is) (place-member xs k x (slice_get_within xs k x is))
+
+-- a place has one element
+pub same_entry : {X : Type 0} (xs : List X) (k : ℕ) (x y : X) → slice_get xs k ≡ Some x → slice_get xs k ≡ Some y → x
+    ≡ y
+same_entry xs k x y a b = let e : Some x ≡ Some y = sym a ∙ b in cc
 
 -- ---- targets and their vertices
 

@@ -6,3 +6,5 @@ pub mod ArenaGame
 pub mod NeutralPriority
 -- what there is one of: spreads, and places of positions
 pub mod OnePlace
+-- the choice of each position that is reached
+pub mod ReachedChoices

@@ -1,7 +1,7 @@
 -- The neutral priority stands above those of all marks.
 --
--- Names in use are at most as many as items, and these at most as many as states of the trace automaton. So the mark of a
--- step has a number below the neutral priority.
+-- Names in use are at most as many as items, and these at most as many as states of the trace automaton. So the mark
+-- of a step has a number below the neutral priority.
 --
 --   MovesTo             == a position to which a move leads: with one more side, or by a step along a diamond
 --   moves_to            == each move to a position is one of these
@@ -33,14 +33,18 @@ use Rattle.ml_history.proofs.plain_step.PlainStep.{live-length, ascending_length
 use Rattle.ml_sequent.specs.declared.choice.Side.{Side}
 use Rattle.ml_sequent.specs.declared.choice.Side.TheVariants.{Left, Right}
 use Rattle.ml_sequent.specs.LocalWalk.{stays}
-use Rattle.ml_sequent.specs.Spread.{SpreadList, IsSpreadOf, is_diamond}
+use Rattle.ml_sequent.specs.Spread.{SpreadList, IsSpreadOf, IsOpenOr, is_diamond}
 use Rattle.ml_product.specs.Position.{Position, with_chosen, automaton_states, neutral, Follows}
 use Rattle.ml_product.specs.DecisionGame.{Verdict, Clashing, Open, Leading, Settled, Target, To, Lost, Won, AreSteps, AreMoves, IsVerdictOf, Turn, IsReached, at_start, by_move}
 use Rattle.ml_product.proofs.Reached.{Facts, IsTraced, reached_facts}
 
 -- a position to which a move leads
 pub data MovesTo (g : Graph) (p q : Position) : Type 0 where
-  chooses : (o : ℕ) (x : Side) → q ≡ with_chosen g p o x → MovesTo g p q
+  chooses : (sp : SpreadList) (o : ℕ) (x : Side)
+      → IsSpreadOf g p.sequent p.choice sp
+      → IsOpenOr g sp o
+      → q ≡ with_chosen g p o x
+      → MovesTo g p q
   steps : (sp : SpreadList) (d : ℕ)
       → IsSpreadOf g p.sequent p.choice sp
       → IsMember d sp.nodes
@@ -77,8 +81,9 @@ module _ (g : Graph) (p q : Position) where
   by_verdict sp (Open o) ts is_spread is are m = chosen (subst (λ v. IsMember (To q) v) are m)
     where
       chosen : (To q ≡ To (with_chosen g p o Left)) ⊎ ((To q ≡ To (with_chosen g p o Right)) ⊎ ⊥) → MovesTo g p q
-      chosen (inl same) = chooses o Left (let e : q ≡ with_chosen g p o Left = cc in e)
-      chosen (inr (inl same)) = chooses o Right (let e : q ≡ with_chosen g p o Right = cc in e)
+      chosen (inl same) = chooses sp o Left is_spread is.1.is_open (let e : q ≡ with_chosen g p o Left = cc in e)
+      chosen (inr (inl same)) =
+          chooses sp o Right is_spread is.1.is_open (let e : q ≡ with_chosen g p o Right = cc in e)
       chosen (inr (inr none)) = absurd none
   by_verdict sp (Leading ds) ts is_spread is are m =
       along_steps sp is_spread ds ts
@@ -155,7 +160,8 @@ priority_at_most g p at_start = omega arith
 priority_at_most g p (by_move before _ turn reached m) = by_kind (moves_to g before p turn m)
   where
     by_kind : MovesTo g before p → p.priority ≤ neutral g
-    by_kind (chooses o x is) = let e : p.priority ≡ neutral g = ap (λ (q : Position). q.priority) is in omega arith
+    by_kind (chooses sp o x is_spread is_open is) =
+        let e : p.priority ≡ neutral g = ap (λ (q : Position). q.priority) is in omega arith
     by_kind (steps sp d is_spread inside f) =
         let fits = mark_fits g before (reached_facts g before reached) sp is_spread f.letter in
         omega (arith, f.marked, fits_at_most (neutral g) (step_mark before.history f.letter) fits)

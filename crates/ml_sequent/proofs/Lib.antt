@@ -22,3 +22,5 @@ pub mod SpreadFound
 pub mod StepPremises
 -- searches with a floor, and closed local walks
 pub mod Floors
+-- closed local walks
+pub mod LocalLoops

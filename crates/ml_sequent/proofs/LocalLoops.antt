@@ -1,7 +1,7 @@
 -- Closed local walks.
 --
--- The lowest priority of a local walk is that of a node on it. Where the walk is closed, this node is on a closed walk of
--- its own through nodes of no lower priority.
+-- The lowest priority of a local walk is that of a node on it. Where the walk is closed, this node is on a closed
+-- walk of its own through nodes of no lower priority.
 --
 --   LowestNode         == a node on a walk that has its lowest priority, and the two parts of the walk
 --   lowest_node        == there is one
