@@ -24,3 +24,5 @@ pub mod DecidedSpreads
 pub mod DecidedNames
 -- a refutation is accepted or has a first bad part
 pub mod SomeFault
+-- checking finds exactly one thing
+pub mod OneVerdict

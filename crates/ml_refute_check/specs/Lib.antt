@@ -2,3 +2,5 @@
 pub mod Soundness
 -- what an accepted refutation tells of a problem
 pub mod Problems
+-- what checking a refutation against a graph finds
+pub mod Verdicts
