@@ -26,3 +26,5 @@ pub mod DecidedNames
 pub mod SomeFault
 -- checking finds exactly one thing
 pub mod OneVerdict
+-- flags of the names that stand in items
+pub mod NamesStand

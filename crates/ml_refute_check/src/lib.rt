@@ -9,6 +9,7 @@
 #![tactic(auto)]
 
 pub mod laws;
+mod parts;
 mod verdict;
 
 pub use verdict::{Fault, Verdict};
