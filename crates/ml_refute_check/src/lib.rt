@@ -8,6 +8,7 @@
 // (`laws::one_verdict`); the call that finds it is to come.
 #![tactic(auto)]
 
+mod branches;
 pub mod laws;
 mod parts;
 mod verdict;

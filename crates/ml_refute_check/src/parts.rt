@@ -82,7 +82,7 @@ fn is_guess(odds: &[u32], guess: Option<u32>) -> bool
 }
 
 /// Is the number one of these, which ascend?
-fn has_number(numbers: &[u32], number: u32) -> bool
+pub(crate) fn has_number(numbers: &[u32], number: u32) -> bool
     requires { IsAscending numbers.now }
     ensures { IsTrue result ↔ IsMember number numbers.now }
 {
