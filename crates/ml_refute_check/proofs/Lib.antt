@@ -28,3 +28,7 @@ pub mod SomeFault
 pub mod OneVerdict
 -- flags of the names that stand in items
 pub mod NamesStand
+-- where a name comes from, as it is searched for
+pub mod Sources
+-- names that are traced back, and the condition on names
+pub mod NamesTraced

@@ -1,11 +1,11 @@
 -- Flags of the names that stand in items.
 --
 --   names_stand == where exactly the names that stand are flagged, all flags are set exactly where each name in use stands
-use Rattle.std.proofs.Common.{◌≡◌, ◌↔◌, ℕ, ◌<◌, ◌≤◌, Bool, true, false, List, length, get_or, map, take, All, IsTrue, sym, ap, ◌∙◌, subst, arith}
+use Rattle.std.proofs.Common.{◌≡◌, ◌↔◌, ℕ, ◌≤◌, Bool, true, false, List, length, get_or, map, take, All, IsTrue, sym, ap, ◌∙◌, subst, arith}
 use Rattle.std.proofs.lemmas.List.{take_all, get_or_default}
 use Rattle.std.specs.List.{list_any}
 use Rattle.ml_lists.specs.Member.{IsMember}
-use Rattle.ml_lists.proofs.Member.{Image, member-map, member-map_from, Passing, list_any-member, member-list_any}
+use Rattle.ml_lists.proofs.Member.{member-map, member-map_from, list_any-member, member-list_any}
 use Rattle.ml_trace.specs.declared.letters.AutomatonState.{AutomatonState}
 use Rattle.ml_trace.specs.LabelledLoop.{EachNameStands}
 use Rattle.ml_trace.specs.Stack as traced

@@ -4,3 +4,5 @@ pub mod Soundness
 pub mod Problems
 -- what checking a refutation against a graph finds
 pub mod Verdicts
+-- what private contracts cite
+pub mod private

@@ -10,6 +10,7 @@
 
 mod branches;
 pub mod laws;
+mod names;
 mod parts;
 mod verdict;
 

@@ -1,4 +1,4 @@
-use Rattle.std.proofs.Common.{ℕ, ◌<◌, ◌≡◌, ◌∙◌, refl, subst, sym, arith, below_more}
+use Rattle.std.proofs.Common.{◌∙◌, refl, subst, sym, arith, below_more}
 use Rattle.std.proofs.lemmas.Bool.{true≢false}
 use Rattle.std.proofs.lemmas.List.{get_or_default}
 use Rattle.ml_lists.specs.Member.{IsMember}
