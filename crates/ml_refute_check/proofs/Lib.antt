@@ -24,3 +24,11 @@ pub mod DecidedSpreads
 pub mod DecidedNames
 -- a refutation is accepted or has a first bad part
 pub mod SomeFault
+-- checking finds exactly one thing
+pub mod OneVerdict
+-- flags of the names that stand in items
+pub mod NamesStand
+-- where a name comes from, as it is searched for
+pub mod Sources
+-- names that are traced back, and the condition on names
+pub mod NamesTraced

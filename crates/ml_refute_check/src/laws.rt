@@ -2,6 +2,7 @@
 
 ghost use Rattle.ml_refute_check.specs.Problems.{RefutedIsUnsatisfiable};
 ghost use Rattle.ml_refute_check.specs.Soundness.{AcceptedHoldsNowhere, AcceptedOrFault, NeverBoth, OneFault, RulesRise};
+ghost use Rattle.ml_refute_check.specs.Verdicts.{OneVerdict};
 
 /// Where a refutation breaks no rule in a graph, the graph holds at no state of any structure. Graphs, refutations and
 /// structures are of any size; how the refutation was made doesn't matter.
@@ -21,6 +22,14 @@ pub fn one_fault()
     ensures exclusive { NeverBoth }
     ensures fault { OneFault }
     ensures lowest { RulesRise }
+{}
+
+/// Checking a refutation in a graph finds exactly one thing: that it is accepted, or its first bad part with the lowest
+/// rule that this part breaks.
+///
+/// Does nothing when called.
+pub fn one_verdict()
+    ensures law { OneVerdict }
 {}
 
 /// Of a problem whose formula means something by its logic (in the mu-calculus: its variables are bound and positive):

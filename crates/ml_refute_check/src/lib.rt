@@ -4,7 +4,14 @@
 // structure.
 //
 // Below stand `ml_refutation`, which has the rules of acceptance, and `ml_graph` with the checking game, in whose words
-// it is said where a graph holds.
+// it is said where a graph holds. `Verdict` is what checking a refutation finds, exactly one thing each time
+// (`laws::one_verdict`); the call that finds it is to come.
 #![tactic(auto)]
 
+mod branches;
 pub mod laws;
+mod names;
+mod parts;
+mod verdict;
+
+pub use verdict::{Fault, Verdict};

@@ -1,0 +1,42 @@
+-- Flags of the names that stand in items.
+--
+--   names_stand == where exactly the names that stand are flagged, all flags are set exactly where each name in use stands
+use Rattle.std.proofs.Common.{◌≡◌, ◌↔◌, ℕ, ◌≤◌, Bool, true, false, List, length, get_or, map, take, All, IsTrue, sym, ap, ◌∙◌, subst, arith}
+use Rattle.std.proofs.lemmas.List.{take_all, get_or_default}
+use Rattle.std.specs.List.{list_any}
+use Rattle.ml_lists.specs.Member.{IsMember}
+use Rattle.ml_lists.proofs.Member.{member-map, member-map_from, list_any-member, member-list_any}
+use Rattle.ml_trace.specs.declared.letters.AutomatonState.{AutomatonState}
+use Rattle.ml_trace.specs.LabelledLoop.{EachNameStands}
+use Rattle.ml_trace.specs.Stack as traced
+use Rattle.ml_trace.specs.Stack.{has}
+use Rattle.ml_refutation.specs.declared.refutation.Item.{Item}
+use Rattle.ml_refutation.specs.Views.{item_of}
+
+module _ (live : ℕ) (items : List Item) (flags : List Bool) (i : ℕ)
+    (long : length flags ≡ live)
+    (flagged : (y : ℕ) → get_or flags y false ≡ list_any (λ (a : Item). has y a.stack.items) (take i items))
+    (past : length items ≤ i) where
+  abbrev traces : traced.Entry AutomatonState
+  traces = record { live = live; items = map item_of items }
+
+  of_all : (y : ℕ) → get_or flags y false ≡ list_any (λ (a : Item). has y a.stack.items) items
+  of_all y = flagged y ∙ ap (list_any (λ (a : Item). has y a.stack.items)) (take_all i items past)
+
+  stands : All (λ flag. flag ≡ true) flags → EachNameStands traces
+  stands all y low =
+      let p = list_any-member (λ (a : Item). has y a.stack.items) items (sym (of_all y) ∙ all y false (omega arith)) in
+      (item_of p.item, member-map item_of p.item items p.member, p.passes)
+
+  set : EachNameStands traces → All (λ flag. flag ≡ true) flags
+  set each k d low = get_or_default flags k d false low ∙ of_all k ∙ of_item (each k (omega arith))
+    where
+      of_item : (a : traced.Item AutomatonState) × IsMember a (map item_of items) × (has k a.stack ≡ true)
+          → list_any (λ (a : Item). has k a.stack.items) items ≡ true
+      of_item h =
+          let image = member-map_from item_of h.0 items h.1 in
+          member-list_any (λ (a : Item). has k a.stack.items) image.from items image.member
+          (subst (λ (a : traced.Item AutomatonState). has k a.stack ≡ true) image.holds h.2)
+
+  pub names_stand : (b : Bool) → (IsTrue b ↔ All (λ flag. flag ≡ true) flags) → IsTrue b ↔ EachNameStands traces
+  names_stand b told = ((λ h. stands (told.0 h)), (λ each. told.1 (set each)))

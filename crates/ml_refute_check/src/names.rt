@@ -1,0 +1,247 @@
+// The condition on names along a `go`, over the local traces of its step.
+ghost use Rattle.std.specs.Prelude.{◌≡◌, ◌↔◌, ◌⊎◌, ◌<◌, ◌≤◌, ℕ, Bool, false, true, List, length, All, IfOk, IsTrue};
+ghost use Rattle.ml_lists.specs.Ascending.{IsAscending};
+ghost use Rattle.ml_refute_check.specs.private.Sources.{IsSource, SourceAmong, HasSource, Serves, IsNameTraced, IsItemTraced, AreInUse, LeadInto, green_of, traces_of};
+ghost use Rattle.ml_refutation.specs.Views.{mark_of};
+ghost use Rattle.ml_graph.specs.Graph.{Graph, odd_priorities};
+ghost use Rattle.ml_lists.specs.Member.{IsMember};
+ghost use Rattle.ml_refutation.specs.GoStep.{GoStep, HasTransition};
+ghost use Rattle.ml_sequent.specs.Step.{IsTrace};
+ghost use Rattle.ml_trace.specs.declared.letters.Triple.{Triple};
+ghost use Rattle.ml_trace.specs.NamesCondition.{NamesCondition, bound};
+ghost use Rattle.ml_trace.specs.Stack.{has, ends_in, IsAdvanced};
+
+use crate::branches::leads;
+use crate::parts::has_number;
+use ml_base::NoMemory;
+use ml_refutation::{Entry, Item, Step};
+use ml_trace::Triple;
+use std::alloc::Global;
+
+/// Does the name stand in the stack?
+fn has(name: u32, stack: &[u32]) -> bool
+    ensures { result ≡ has name stack.now }
+{
+    for other in stack {
+        if *other == name {
+            return true;
+        }
+    }
+    false
+}
+
+/// Is this the last name of the stack?
+fn ends_in(name: u32, stack: &[u32]) -> bool
+    ensures { result ≡ ends_in name stack.now }
+{
+    match stack {
+        [.., last] => *last == name,
+        [] => false,
+    }
+}
+
+/// Does the item have the name, and, where progress is asked for, is it advanced in it, or the transition accepting?
+fn serves(name: u32, progress: bool, stack: &[u32], accepting: bool) -> bool
+    ensures { IsTrue result ↔ Serves name progress stack.now accepting }
+{
+    has(name, stack) && (!progress || accepting || !ends_in(name, stack))
+}
+
+/// Does the trace lead from one item to another, so that the first one serves?
+fn is_source(
+    odds: &[u32],
+    trace: &Triple,
+    name: u32,
+    progress: bool,
+    item: &Item,
+    behind: &Item,
+) -> bool
+    requires { IsAscending odds.now }
+    ensures { IsTrue result ↔ IsSource odds.now trace.now name progress item.now behind.now }
+{
+    if item.node != trace.from || behind.node != trace.to {
+        return false;
+    }
+    match leads(odds, trace.lowest, item.odd, behind.odd) {
+        Some(accepting) => serves(name, progress, &item.stack, accepting),
+        None => false,
+    }
+}
+
+/// Does the trace lead to the item from one of these that serves?
+fn comes_along(
+    odds: &[u32],
+    trace: &Triple,
+    name: u32,
+    progress: bool,
+    items: &[Item],
+    behind: &Item,
+) -> bool
+    requires { IsAscending odds.now }
+    ensures { IsTrue result ↔ SourceAmong odds.now trace.now name progress items.now behind.now }
+{
+    for item in items {
+        if is_source(odds, trace, name, progress, item, behind) {
+            return true;
+        }
+    }
+    false
+}
+
+/// Does some trace lead to the item from one of these that serves?
+fn has_source(
+    odds: &[u32],
+    traces: &[Triple],
+    name: u32,
+    progress: bool,
+    items: &[Item],
+    behind: &Item,
+) -> bool
+    requires { IsAscending odds.now }
+    ensures { IsTrue result ↔ HasSource odds.now traces.now name progress items.now behind.now }
+{
+    for trace in traces {
+        if comes_along(odds, trace, name, progress, items, behind) {
+            return true;
+        }
+    }
+    false
+}
+
+/// Is the name of the item traced back, where it is below the bound or green?
+fn name_traced(
+    odds: &[u32],
+    traces: &[Triple],
+    bound: u32,
+    green: Option<u32>,
+    items: &[Item],
+    name: u32,
+    behind: &Item,
+) -> bool
+    requires { IsAscending odds.now }
+    ensures { IsTrue result ↔ IsNameTraced odds.now traces.now bound green items.now name behind.now }
+{
+    let is_last = ends_in(name, &behind.stack);
+    if name < bound && !has_source(odds, traces, name, !is_last, items, behind) {
+        return false;
+    }
+    match green {
+        Some(other) if other == name => is_last
+            && has_source(odds, traces, name, true, items, behind),
+        _ => true,
+    }
+}
+
+/// Is each name of the item traced back, where it is below the bound or green?
+fn item_traced(
+    odds: &[u32],
+    traces: &[Triple],
+    bound: u32,
+    green: Option<u32>,
+    items: &[Item],
+    behind: &Item,
+) -> bool
+    requires { IsAscending odds.now }
+    ensures { IsTrue result ↔ IsItemTraced odds.now traces.now bound green items.now behind.now }
+{
+    for name in &behind.stack {
+        if !name_traced(odds, traces, bound, green, items, *name, behind) {
+            return false;
+        }
+    }
+    true
+}
+
+/// Is each name of each item behind the step traced back, where it is below the bound or green?
+fn items_traced(
+    odds: &[u32],
+    traces: &[Triple],
+    bound: u32,
+    green: Option<u32>,
+    items: &[Item],
+    behind: &[Item],
+) -> bool
+    requires { IsAscending odds.now }
+    ensures { IsTrue result ↔ All (IsItemTraced odds.now traces.now bound green items.now) behind.now }
+{
+    for item in behind {
+        if !item_traced(odds, traces, bound, green, items, item) {
+            return false;
+        }
+    }
+    true
+}
+
+/// Below which names are traced.
+fn bound_of(live: u32, mark: Step) -> u32
+    ensures { result ≡ bound live (mark_of mark) }
+{
+    match mark {
+        Step::Red(name) | Step::Green(name) => name,
+        Step::Neutral => live,
+    }
+}
+
+/// The green name of the mark, if it has one.
+fn green_of(mark: Step) -> Option<u32>
+    ensures { result ≡ green_of (mark_of mark) }
+{
+    match mark {
+        Step::Green(name) => Some(name),
+        _ => None,
+    }
+}
+
+/// Are bound and green name in use before and behind the step?
+fn are_in_use(bound: u32, green: Option<u32>, live: u32, live_behind: u32) -> bool
+    ensures { IsTrue result ↔ AreInUse bound green live live_behind }
+{
+    if bound > live || bound > live_behind {
+        return false;
+    }
+    match green {
+        Some(name) => name < live && name < live_behind,
+        None => true,
+    }
+}
+
+/// The traces that lead to one of these nodes.
+fn lead_into(alloc: Global, made: &[Triple], next: &[u32]) -> Result<Vec<Triple>, NoMemory>
+    requires { IsAscending next.now }
+    ensures { IfOk result (λ traces. LeadInto next.now made.now traces.items) }
+{
+    let mut traces = Vec::new(alloc);
+    for trace in made {
+        if has_number(next, trace.to) {
+            traces.push(*trace)?;
+        }
+    }
+    Ok(traces)
+}
+
+/// Does a step meet the condition on names, along which these traces were made, into a sequent with these nodes?
+pub(crate) fn keeps_names(
+    alloc: Global,
+    odds: &[u32],
+    made: &[Triple],
+    next: &[u32],
+    mark: Step,
+    before: &Entry,
+    behind: &Entry,
+) -> Result<bool, NoMemory>
+    requires odds { IsAscending odds.now }
+    requires next { IsAscending next.now }
+    ensures { IfOk result (λ b. (g : Graph) (step : GoStep)
+        → odds.now ≡ odd_priorities g
+        → next.now ≡ step.next
+        → ((t : Triple) → IsMember t made.now ↔ IsTrace g step.sequent step.spread step.diamond t)
+        → IsTrue b ↔ NamesCondition (HasTransition g) step (mark_of mark) (traces_of before.now) (traces_of behind.now)) }
+{
+    let bound = bound_of(before.live, mark);
+    let green = green_of(mark);
+    if !are_in_use(bound, green, before.live, behind.live) {
+        return Ok(false);
+    }
+    let traces = lead_into(alloc, made, next)?;
+    Ok(items_traced(odds, &traces, bound, green, &before.items, &behind.items))
+}

@@ -1,0 +1,90 @@
+// What the parts of an entry before its decision are asked: its sequent, its names in use and its items.
+ghost use Rattle.std.specs.Prelude.{◌≡◌, ◌↔◌, ◌<◌, ◌||◌, false, true, ℕ, [], ◌∷◌, length, map, slice_index_or, All, IfOk, IsTrue};
+ghost use Rattle.ml_graph.specs.Graph.{size};
+ghost use Rattle.ml_lists.specs.Ascending.{IsAscending};
+ghost use Rattle.ml_lists.specs.Member.{IsMember};
+ghost use Rattle.ml_refutation.specs.Views.{item_of};
+ghost use Rattle.ml_trace.specs.Automaton.{IsGuess};
+ghost use Rattle.ml_trace.specs.LabelledLoop.{EachNameStands};
+ghost use Rattle.ml_trace.specs.Stack.{has};
+
+use ml_base::NoMemory;
+use ml_graph::ModalGraph;
+use ml_refutation::Item;
+use std::alloc::Global;
+
+/// Are these nodes of the graph, and those of the first entry the root alone?
+pub(crate) fn starts_well(graph: &ModalGraph, sequent: &[u32], entry: usize) -> bool
+    ensures { IsTrue result ↔ (All (λ n. n < size graph.now) sequent.now × (entry ≡ 0 → sequent.now ≡ graph.now.root ∷ [])) }
+{
+    let size = graph.size();
+    sequent.iter().all(|node| *node < size) && (entry != 0 || is_one(sequent, graph.root()))
+}
+
+/// Is this the list of one number?
+fn is_one(numbers: &[u32], number: u32) -> bool
+    ensures { IsTrue result ↔ numbers.now ≡ number ∷ [] }
+{
+    match numbers {
+        [one] => *one == number,
+        _ => false,
+    }
+}
+
+/// Does each name in use stand in some item?
+pub(crate) fn names_stand(alloc: Global, live: u32, items: &[Item]) -> Result<bool, NoMemory>
+    requires { All (λ a. All (λ y. y < live) a.stack.items) items.now }
+    ensures { IfOk result (λ b. IsTrue b ↔ EachNameStands (record { live = live; items = map item_of items.now })) }
+{
+    let mut stand = vec![in alloc; false; live as usize]?;
+    for item in items {
+        note(&item.stack, &mut stand);
+    }
+    Ok(all_set(&stand))
+}
+
+/// Flags these names.
+fn note(names: &[u32], flags: &mut [bool])
+    requires { All (λ y. y < length flags.old) names.now }
+    ensures size { length flags.new ≡ length flags.old }
+    ensures flags { (y : ℕ) → slice_index_or flags.new y false ≡ (slice_index_or flags.old y false || has y names.now) }
+{
+    for name in names {
+        flags[*name as usize] = true;
+    }
+}
+
+/// Are all flags set?
+fn all_set(flags: &[bool]) -> bool
+    ensures { IsTrue result ↔ All (λ flag. flag ≡ true) flags.now }
+{
+    flags.iter().all(|flag| *flag)
+}
+
+/// Is the item's node one of the sequent, and its odd priority, if it has one, one of these?
+pub(crate) fn item_stands(sequent: &[u32], odds: &[u32], item: &Item) -> bool
+    requires sequent { IsAscending sequent.now }
+    requires odds { IsAscending odds.now }
+    ensures { IsTrue result ↔ (IsMember item.now.node sequent.now × IsGuess odds.now item.now.odd) }
+{
+    has_number(sequent, item.node) && is_guess(odds, item.odd)
+}
+
+/// Is the guess one of these odd priorities, or none?
+fn is_guess(odds: &[u32], guess: Option<u32>) -> bool
+    requires { IsAscending odds.now }
+    ensures { IsTrue result ↔ IsGuess odds.now guess }
+{
+    match guess {
+        Some(odd) => has_number(odds, odd),
+        None => true,
+    }
+}
+
+/// Is the number one of these, which ascend?
+pub(crate) fn has_number(numbers: &[u32], number: u32) -> bool
+    requires { IsAscending numbers.now }
+    ensures { IsTrue result ↔ IsMember number numbers.now }
+{
+    numbers.binary_search(&number).is_ok()
+}
