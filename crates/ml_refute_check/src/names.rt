@@ -220,6 +220,8 @@ fn lead_into(alloc: Global, made: &[Triple], next: &[u32]) -> Result<Vec<Triple>
 }
 
 /// Does a step meet the condition on names, along which these traces were made, into a sequent with these nodes?
+///
+/// Cost: for each name of each item behind the step, at most the traces times the items before it.
 pub(crate) fn keeps_names(
     alloc: Global,
     odds: &[u32],
