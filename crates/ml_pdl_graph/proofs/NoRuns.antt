@@ -1,19 +1,19 @@
 -- Where no run of a program leads into a set, the player who looks for one doesn't win.
 --
--- The nodes of a program at the states from which what is still to be run doesn't lead into the set are a trap: where that
--- player moves, all moves stay among them, and where the opponent moves, some move does, or the opponent has won. A star's
--- priority is bad for the player; and away from stars' nodes the numbers of nodes grow, so a walk that goes on for ever in
--- the trap comes to a star's node again and again.
+-- The nodes of a program at the states from which what is still to be run doesn't lead into the set are a trap: where
+-- that player moves, all moves stay among them, and where the opponent moves, some move does, or the opponent has won.
+-- A star's priority is bad for the player; and away from stars' nodes the numbers of nodes grow, so a walk that goes on
+-- for ever in the trap comes to a star's node again and again.
 --
 --   Unmet p i K s n   == n is a node of p at i, and from s what is still to be run at n doesn't lead into K
 --   Going, Trapped    == a vertex is one of those that P allows, or the opponent wins it; a pair of a state and a node
 --                        leads to such vertices, at the opponent's nodes by some move
 --   trapped           == unmet nodes are trapped
+--   Known             == what is known of a walk among them
 --   unmet_lost        == the player doesn't win one
 use Rattle.std.proofs.Common.{◌≡◌, ℕ, ◌+◌, ◌*◌, ◌<◌, ◌≤◌, ◌==◌, ◌⊎◌, Bool, true, false, ◌&&◌, not, min, List, [], ◌∷◌, get_or, inl, inr, refl, sym, ap, subst, ◌∙◌, ⊎_elim, arith}
 use Rattle.std.specs.Str.{bytes_eq}
 use Rattle.std.proofs.lemmas.Bool.{false≢true, and_parts, and_from, or_left, or_right, cases_Bool}
-use Rattle.std.proofs.lemmas.Bool.Decides.{nat_tests}
 use Rattle.ml_lists.specs.Member.{IsMember}
 use Rattle.ml_lists.proofs.Member.{member-map_from, member-filter_from, member-list_any}
 use Rattle.ml_base.specs.declared.structure.Edge.{Edge}
@@ -93,11 +93,15 @@ module _ (m : Structure) (K : ℕ → Bool) (s : ℕ) (s_low : s < m.states) whe
 
   left_unmet : (p q : Program) → into m (relation m (Alt p q)) K s ≡ false → into m (relation m p) K s ≡ false
   left_unmet p q never = never_run m (relation m p) K s
-      (λ t t_low run inside. absurd (false≢true (sym (no_run m (relation m (Alt p q)) K s never t t_low (or_left (relation m p s t) (relation m q s t) run)) ∙ inside)))
+      (λ t t_low run inside. absurd (false≢true
+      (sym (no_run m (relation m (Alt p q)) K s never t t_low (or_left (relation m p s t) (relation m q s t) run))
+      ∙ inside)))
 
   right_unmet : (p q : Program) → into m (relation m (Alt p q)) K s ≡ false → into m (relation m q) K s ≡ false
   right_unmet p q never = never_run m (relation m q) K s
-      (λ t t_low run inside. absurd (false≢true (sym (no_run m (relation m (Alt p q)) K s never t t_low (or_right (relation m p s t) (relation m q s t) run)) ∙ inside)))
+      (λ t t_low run inside. absurd (false≢true
+      (sym (no_run m (relation m (Alt p q)) K s never t t_low (or_right (relation m p s t) (relation m q s t) run))
+      ∙ inside)))
 
   here_unmet : (p : Program) → into m (relation m (Star p)) K s ≡ false → K s ≡ false
   here_unmet p never = no_run m (relation m (Star p)) K s never s s_low (star_stays m p s)
@@ -114,7 +118,9 @@ module _ (m : Structure) (K : ℕ → Bool) (s : ℕ) (s_low : s < m.states) whe
           (star_first m p s u t s_low u_low t_low run more)) ∙ inside)))
 
   test_unmet : (f : Formula) → into m (relation m (Test f)) K s ≡ false → is_member (meaning m f) s ≡ true → K s ≡ false
-  test_unmet f never shown = no_run m (relation m (Test f)) K s never s s_low (and_from (s == s) (is_member (meaning m f) s) (equal_number s) shown)
+  test_unmet f never shown =
+      no_run m (relation m (Test f)) K s never s s_low
+      (and_from (s == s) (is_member (meaning m f) s) (equal_number s) shown)
 
 module _ (g : Graph) (m : Structure) (g_ok : IsGraph g) (m_ok : IsStructure m) (e : Bool) where
   abbrev place : ℕ → ℕ → ℕ
@@ -156,9 +162,14 @@ module _ (g : Graph) (m : Structure) (g_ok : IsGraph g) (m_ok : IsStructure m) (
       by_sign : (d : Bool) → d ≡ e → Trapped P s n
       by_sign true same = inr (
         ap mover is ∙ ap (λ x. opponent (player_of x)) same,
-        record { to = Pair s t; member = subst (λ x. IsMember (Pair s t) (successors_of g m s x)) (sym is) (inl refl); goes = goes },
+        record {
+          to = Pair s t;
+          member = subst (λ x. IsMember (Pair s t) (successors_of g m s x)) (sym is) (inl refl);
+          goes = goes;
+        },
       )
-      by_sign false same = inl (ap mover is ∙ ap player_of same, λ u h. from u (subst (λ x. IsMember u (successors_of g m s x)) is h))
+      by_sign false same =
+          inl (ap mover is ∙ ap player_of same, λ u h. from u (subst (λ x. IsMember u (successors_of g m s x)) is h))
         where
           from : (u : Vertex) → IsMember u (Pair s t ∷ Pair s t ∷ []) → Going P n u
           from u (inl one) = subst (Going P n) (sym one) goes
@@ -171,7 +182,11 @@ module _ (g : Graph) (m : Structure) (g_ok : IsGraph g) (m_ok : IsStructure m) (
       → Going P n (Pair s r)
       → Trapped P s n
   own_trapped P s n l r is a b =
-      inl (ap mover is ∙ own_mover e l r, λ u h. from u (subst (IsMember u) (ap (successors_of g m s) is ∙ own_children g m s e l r) h))
+      inl (
+        ap mover is ∙ own_mover e l r,
+        λ u h. from u
+            (subst (IsMember u) (ap (successors_of g m s) is ∙ own_children g m s e l r) h),
+      )
     where
       from : (u : Vertex) → IsMember u (Pair s l ∷ Pair s r ∷ []) → Going P n u
       from u (inl one) = subst (Going P n) (sym one) a
@@ -185,7 +200,14 @@ module _ (g : Graph) (m : Structure) (g_ok : IsGraph g) (m_ok : IsStructure m) (
       → Going P n u
       → Trapped P s n
   other_trapped P s n l r is u h goes =
-      inr (ap mover is ∙ other_mover e l r, record { to = u; member = subst (IsMember u) (sym (ap (successors_of g m s) is ∙ other_children g m s e l r)) h; goes = goes })
+      inr (
+        ap mover is ∙ other_mover e l r,
+        record {
+          to = u;
+          member = subst (IsMember u) (sym (ap (successors_of g m s) is ∙ other_children g m s e l r)) h;
+          goes = goes;
+        },
+      )
 
   -- where there is no edge the opponent wins
   abbrev sink_for : Bool → ℕ
@@ -213,7 +235,8 @@ module _ (g : Graph) (m : Structure) (g_ok : IsGraph g) (m_ok : IsStructure m) (
 
   of_targets : (P : ℕ → ℕ → ℕ → Type 0) (n k : ℕ) (ts : List ℕ) → ((t : ℕ) → IsMember t ts → (t < m.states) × P n t k)
       → (u : Vertex) → IsMember u (pairs_or_sink k (sink_for e) ts) → Going P n u
-  of_targets P n k [] each u (inl one) = inr (subst (λ v. Wins (checking_game g m) them (vertex_number g m v)) (sym one) sink_lost)
+  of_targets P n k [] each u (inl one) =
+      inr (subst (λ v. Wins (checking_game g m) them (vertex_number g m v)) (sym one) sink_lost)
   of_targets P n k [] each u (inr none) = absurd none
   of_targets P n k (x ∷ xs) each u h =
       let image = member-map_from (λ t. Pair t k) u (x ∷ xs) h in
@@ -246,18 +269,22 @@ module _ (g : Graph) (m : Structure) (g_ok : IsGraph g) (m_ok : IsStructure m) (
       subst (λ x. Trapped P s x) (sym same)
       (go_trapped P s (node_of e i) w.0 k w.1 (λ t t_low h.
       out (node_of e i) t (let range = node_range e i in omega (arith, range.1)) t_low
-      (no_run m (relation m (Act name)) K s never t t_low (target_edge m name s t (subst (λ x. IsMember t (targets m s x)) w.3 h)))))
+      (no_run m (relation m (Act name)) K s never t t_low
+      (target_edge m name s t (subst (λ x. IsMember t (targets m s x)) w.3 h)))))
   trapped (Seq p q) i k K P w tests room inside out s n s_low (inl (same, never)) =
       let l : ℕ = i + 1 in
       subst (λ x. Trapped P s x) (sym same)
       (leads_trapped P s (node_of e i) (node_of e l) w.0 (to_pair P (node_of e i) s (node_of e l) s_low
-      (inside (node_of e i) s (node_of e l) (inr (inl (start_unmet m e p l (into m (relation m q) K) s (seq_unmet m K s s_low p q never)))) (inl (before_next i l (omega arith))))))
+      (inside (node_of e i) s (node_of e l)
+      (inr (inl (start_unmet m e p l (into m (relation m q) K) s (seq_unmet m K s s_low p q never))))
+      (inl (before_next i l (omega arith))))))
   trapped (Seq p q) i k K P w tests room inside out s n s_low (inr (inl h)) =
       let l : ℕ = i + 1 in
       let r : ℕ = i + 1 + program_occurrences p in
       trapped p l (node_of e r) (into m (relation m q) K) P w.2 tests.0 (omega (arith, room))
       (λ j t x u order. inside j t x (inr (inl u)) order)
-      (λ j t low t_low none. inside j t (node_of e r) (inr (inr (start_unmet m e q r K t none))) (inl (let range = node_range e r in omega (arith, low, range.0))))
+      (λ j t low t_low none. inside j t (node_of e r) (inr (inr (start_unmet m e q r K t none)))
+      (inl (let range = node_range e r in omega (arith, low, range.0))))
       s n s_low h
   trapped (Seq p q) i k K P w tests room inside out s n s_low (inr (inr h)) =
       let r : ℕ = i + 1 + program_occurrences p in
@@ -270,8 +297,12 @@ module _ (g : Graph) (m : Structure) (g_ok : IsGraph g) (m_ok : IsStructure m) (
       let r : ℕ = i + 1 + program_occurrences p in
       subst (λ x. Trapped P s x) (sym same)
       (own_trapped P s (node_of e i) (node_of e l) (node_of e r) w.0
-      (to_pair P (node_of e i) s (node_of e l) s_low (inside (node_of e i) s (node_of e l) (inr (inl (start_unmet m e p l K s (left_unmet m K s s_low p q never)))) (inl (before_next i l (omega arith)))))
-      (to_pair P (node_of e i) s (node_of e r) s_low (inside (node_of e i) s (node_of e r) (inr (inr (start_unmet m e q r K s (right_unmet m K s s_low p q never)))) (inl (before_next i r (omega arith))))))
+      (to_pair P (node_of e i) s (node_of e l) s_low
+      (inside (node_of e i) s (node_of e l) (inr (inl (start_unmet m e p l K s (left_unmet m K s s_low p q never))))
+      (inl (before_next i l (omega arith)))))
+      (to_pair P (node_of e i) s (node_of e r) s_low
+      (inside (node_of e i) s (node_of e r) (inr (inr (start_unmet m e q r K s (right_unmet m K s s_low p q never))))
+      (inl (before_next i r (omega arith))))))
   trapped (Alt p q) i k K P w tests room inside out s n s_low (inr (inl h)) =
       trapped p (i + 1) k K P w.2 tests.0 (omega (arith, room))
       (λ j t x u order. inside j t x (inr (inl u)) order)
@@ -286,9 +317,12 @@ module _ (g : Graph) (m : Structure) (g_ok : IsGraph g) (m_ok : IsStructure m) (
       let l : ℕ = i + 1 in
       subst (λ x. Trapped P s x) (sym same)
       (own_trapped P s (node_of e i) k (node_of e l) w.0
-      (to_pair P (node_of e i) s k s_low (out (node_of e i) s (let range = node_range e i in omega (arith, range.1)) s_low (here_unmet m K s s_low p never)))
+      (to_pair P (node_of e i) s k s_low
+      (out (node_of e i) s (let range = node_range e i in omega (arith, range.1)) s_low
+      (here_unmet m K s s_low p never)))
       (to_pair P (node_of e i) s (node_of e l) s_low (inside (node_of e i) s (node_of e l)
-      (inr (start_unmet m e p l (into m (relation m (Star p)) K) s (round_unmet m K s s_low p never))) (inl (before_next i l (omega arith))))))
+      (inr (start_unmet m e p l (into m (relation m (Star p)) K) s (round_unmet m K s s_low p never)))
+      (inl (before_next i l (omega arith))))))
   trapped (Star p) i k K P w tests room inside out s n s_low (inr h) =
       trapped p (i + 1) (node_of e i) (into m (relation m (Star p)) K) P w.2 tests (omega (arith, room))
       (λ j t x u order. inside j t x (inr u) order)
@@ -301,14 +335,18 @@ module _ (g : Graph) (m : Structure) (g_ok : IsGraph g) (m_ok : IsStructure m) (
       (⊎_elim
       (λ (yes_f : is_member (meaning m f) s ≡ true).
       other_trapped P s (node_of e i) (node_of e l) k w.0 (Pair s k) (inr (inl refl))
-      (to_pair P (node_of e i) s k s_low (out (node_of e i) s (let range = node_range e i in omega (arith, range.1)) s_low (test_unmet m K s s_low f never yes_f))))
+      (to_pair P (node_of e i) s k s_low
+      (out (node_of e i) s (let range = node_range e i in omega (arith, range.1)) s_low
+      (test_unmet m K s s_low f never yes_f))))
       (λ (no_f : is_member (meaning m f) s ≡ false).
       other_trapped P s (node_of e i) (node_of e l) k w.0 (Pair s (node_of e l)) (inl refl)
-      (inr ((tells_other g m g_ok m_ok (player_of e) s (node_of e l) s_low (tested_low i f room) holds (tests s s_low)).1 (ap not no_f))))
+      (inr ((tells_other g m g_ok m_ok (player_of e) s (node_of e l) s_low (tested_low i f room) holds
+      (tests s s_low)).1 (ap not no_f))))
       (cases_Bool (is_member (meaning m f) s)))
     where
       tested_low : (j : ℕ) (h : Formula) → 2 * (j + (1 + occurrences h)) ≤ size g → node_of e (j + 1) < size g
-      tested_low j h fits = let range = node_range e (j + 1) in let some = some_occurrence h in omega (arith, fits, range.1, some)
+      tested_low j h fits =
+          let range = node_range e (j + 1) in let some = some_occurrence h in omega (arith, fits, range.1, some)
 
   -- ---- priorities and numbers of unmet nodes
 
@@ -321,30 +359,42 @@ module _ (g : Graph) (m : Structure) (g_ok : IsGraph g) (m_ok : IsStructure m) (
       → (s n : ℕ)
       → Unmet m e p i K s n
       → star_priority e ≤ priority_at g n
-  unmet_priority (Act name) i k K w s n (same, never) = let low = low_star e in omega (arith, ap (priority_at g) same, w.2, low)
-  unmet_priority (Seq p q) i k K w s n (inl (same, never)) = let low = low_star e in omega (arith, ap (priority_at g) same, w.1, low)
-  unmet_priority (Seq p q) i k K w s n (inr (inl h)) = unmet_priority p (i + 1) (node_of e (i + 1 + program_occurrences p)) (into m (relation m q) K) w.2 s n h
+  unmet_priority (Act name) i k K w s n (same, never) =
+      let low = low_star e in omega (arith, ap (priority_at g) same, w.2, low)
+  unmet_priority (Seq p q) i k K w s n (inl (same, never)) =
+      let low = low_star e in omega (arith, ap (priority_at g) same, w.1, low)
+  unmet_priority (Seq p q) i k K w s n (inr (inl h)) =
+      unmet_priority p (i + 1) (node_of e (i + 1 + program_occurrences p)) (into m (relation m q) K) w.2 s n h
   unmet_priority (Seq p q) i k K w s n (inr (inr h)) = unmet_priority q (i + 1 + program_occurrences p) k K w.3 s n h
-  unmet_priority (Alt p q) i k K w s n (inl (same, never)) = let low = low_star e in omega (arith, ap (priority_at g) same, w.1, low)
+  unmet_priority (Alt p q) i k K w s n (inl (same, never)) =
+      let low = low_star e in omega (arith, ap (priority_at g) same, w.1, low)
   unmet_priority (Alt p q) i k K w s n (inr (inl h)) = unmet_priority p (i + 1) k K w.2 s n h
   unmet_priority (Alt p q) i k K w s n (inr (inr h)) = unmet_priority q (i + 1 + program_occurrences p) k K w.3 s n h
   unmet_priority (Star p) i k K w s n (inl (same, never)) = omega (arith, ap (priority_at g) same, w.1)
-  unmet_priority (Star p) i k K w s n (inr h) = unmet_priority p (i + 1) (node_of e i) (into m (relation m (Star p)) K) w.2 s n h
-  unmet_priority (Test f) i k K w s n (same, never) = let low = low_star e in omega (arith, ap (priority_at g) same, w.1, low)
+  unmet_priority (Star p) i k K w s n (inr h) =
+      unmet_priority p (i + 1) (node_of e i) (into m (relation m (Star p)) K) w.2 s n h
+  unmet_priority (Test f) i k K w s n (same, never) =
+      let low = low_star e in omega (arith, ap (priority_at g) same, w.1, low)
 
   first_low : (i j n : ℕ) → i < j → n ≡ node_of e i → n < 2 * j
   first_low i j n less same = let range = node_range e i in omega (arith, less, same, range.1)
 
   unmet_low : (p : Program) (i : ℕ) (K : ℕ → Bool) (s n : ℕ) → Unmet m e p i K s n → n < 2 * (i + program_occurrences p)
   unmet_low (Act name) i K s n (same, never) = first_low i (i + 1) n (omega arith) same
-  unmet_low (Seq p q) i K s n (inl (same, never)) = first_low i (i + (1 + program_occurrences p + program_occurrences q)) n (omega arith) same
-  unmet_low (Seq p q) i K s n (inr (inl h)) = let low = unmet_low p (i + 1) (into m (relation m q) K) s n h in omega (arith, low)
-  unmet_low (Seq p q) i K s n (inr (inr h)) = let low = unmet_low q (i + 1 + program_occurrences p) K s n h in omega (arith, low)
-  unmet_low (Alt p q) i K s n (inl (same, never)) = first_low i (i + (1 + program_occurrences p + program_occurrences q)) n (omega arith) same
+  unmet_low (Seq p q) i K s n (inl (same, never)) =
+      first_low i (i + (1 + program_occurrences p + program_occurrences q)) n (omega arith) same
+  unmet_low (Seq p q) i K s n (inr (inl h)) =
+      let low = unmet_low p (i + 1) (into m (relation m q) K) s n h in omega (arith, low)
+  unmet_low (Seq p q) i K s n (inr (inr h)) =
+      let low = unmet_low q (i + 1 + program_occurrences p) K s n h in omega (arith, low)
+  unmet_low (Alt p q) i K s n (inl (same, never)) =
+      first_low i (i + (1 + program_occurrences p + program_occurrences q)) n (omega arith) same
   unmet_low (Alt p q) i K s n (inr (inl h)) = let low = unmet_low p (i + 1) K s n h in omega (arith, low)
-  unmet_low (Alt p q) i K s n (inr (inr h)) = let low = unmet_low q (i + 1 + program_occurrences p) K s n h in omega (arith, low)
+  unmet_low (Alt p q) i K s n (inr (inr h)) =
+      let low = unmet_low q (i + 1 + program_occurrences p) K s n h in omega (arith, low)
   unmet_low (Star p) i K s n (inl (same, never)) = first_low i (i + (1 + program_occurrences p)) n (omega arith) same
-  unmet_low (Star p) i K s n (inr h) = let low = unmet_low p (i + 1) (into m (relation m (Star p)) K) s n h in omega (arith, low)
+  unmet_low (Star p) i K s n (inr h) =
+      let low = unmet_low p (i + 1) (into m (relation m (Star p)) K) s n h in omega (arith, low)
   unmet_low (Test f) i K s n (same, never) = first_low i (i + (1 + occurrences f)) n (omega arith) same
 
   -- ---- so the player doesn't win one
@@ -427,13 +477,17 @@ module _ (g : Graph) (m : Structure) (g_ok : IsGraph g) (m_ok : IsStructure m) (
     is_vertex s n low unmet = (low, let small = unmet_low p i K s n unmet in omega (arith, small, room))
 
     abbrev Allowed : ℕ → ℕ → ℕ → Type 0
-    Allowed n t x = (Unmet m e p i K t x × ((n < x) ⊎ (priority_at g x ≡ bad))) ⊎ Wins (checking_game g m) them (place t x)
+    Allowed n t x =
+        (Unmet m e p i K t x × ((n < x) ⊎ (priority_at g x ≡ bad))) ⊎ Wins (checking_game g m) them (place t x)
 
     out_lost : (t : ℕ) → t < m.states → K t ≡ false → Wins (checking_game g m) them (place t k)
-    out_lost t t_low none = (tells_other g m g_ok m_ok (player_of e) t k t_low k_low (K t) (known t t_low)).1 (ap not none)
+    out_lost t t_low none =
+        (tells_other g m g_ok m_ok (player_of e) t k t_low k_low (K t) (known t t_low)).1 (ap not none)
 
     caught : (x : Stuck) → Trapped Allowed x.state x.node
-    caught x = trapped p i k K Allowed w tests room (λ n t y u order. inl (u, order)) (λ n t low t_low none. inr (out_lost t t_low none)) x.state x.node x.low x.unmet
+    caught x =
+        trapped p i k K Allowed w tests room (λ n t y u order. inl (u, order))
+        (λ n t low t_low none. inr (out_lost t t_low none)) x.state x.node x.low x.unmet
 
     abbrev Next : Stuck → Type 0
     Next x = Onward (checking_game g m) (player_of e) strategy Known Stuck vertex x
@@ -444,7 +498,12 @@ module _ (g : Graph) (m : Structure) (g_ok : IsGraph g) (m_ok : IsStructure m) (
         → Wins (checking_game g m) them (vertex_number g m v) → ⊥
     never_theirs x v is move theirs =
         let mine : Wins (checking_game g m) (player_of e) (vertex_number g m v) =
-        record { strategy = strategy; is_strategy = is_strategy; wins = won_behind (checking_game g m) (player_of e) strategy (vertex x) (vertex_number g m v) move x.wins } in
+        record {
+          strategy = strategy;
+          is_strategy = is_strategy;
+          wins = won_behind (checking_game g m) (player_of e)
+              strategy (vertex x) (vertex_number g m v) move x.wins;
+        } in
         never_both g m g_ok m_ok (player_of e) v is mine theirs
 
     onward : (x : Stuck) (t y : ℕ)
@@ -452,12 +511,23 @@ module _ (g : Graph) (m : Structure) (g_ok : IsGraph g) (m_ok : IsStructure m) (
         → FollowedMove (checking_game g m) (player_of e) strategy (vertex x) (place t y)
         → Unmet m e p i K t y → (x.node < y) ⊎ (priority_at g y ≡ bad) → Next x
     onward x t y t_low move unmet order = record {
-      to = record { state = t; node = y; low = t_low; unmet = unmet; wins = won_behind (checking_game g m) (player_of e) strategy (vertex x) (place t y) move x.wins };
+      to =
+          record {
+            state = t;
+            node = y;
+            low = t_low;
+            unmet = unmet;
+            wins = won_behind (checking_game g m) (player_of e)
+                strategy (vertex x) (place t y) move x.wins;
+          };
       stretch = record {
         lowest = priority_of (checking_game g m) (vertex x);
         way = last (vertex x) (place t y) move;
         known = record {
-          high = let high = unmet_priority p i k K w x.state x.node x.unmet in omega (arith, high, priority_is g m (Pair x.state x.node) here);
+          high =
+              let high =
+              unmet_priority p i k K w x.state x.node x.unmet in omega
+              (arith, high, priority_is g m (Pair x.state x.node) here);
           first = omega arith;
           onward = by_order order;
         };
@@ -471,8 +541,10 @@ module _ (g : Graph) (m : Structure) (g_ok : IsGraph g) (m_ok : IsStructure m) (
         there = is_vertex t y t_low unmet
 
         by_order : (x.node < y) ⊎ (priority_at g y ≡ bad)
-            → (node_in (vertex x) < node_in (place t y)) ⊎ ((priority_of (checking_game g m) (place t y) ≡ bad) ⊎ (priority_of (checking_game g m) (vertex x) ≡ bad))
-        by_order (inl less) = inl (omega (arith, less, node_in_is x.state x.node here.0 here.1, node_in_is t y there.0 there.1))
+            → (node_in (vertex x) < node_in (place t y))
+            ⊎ ((priority_of (checking_game g m) (place t y) ≡ bad) ⊎ (priority_of (checking_game g m) (vertex x) ≡ bad))
+        by_order (inl less) =
+            inl (omega (arith, less, node_in_is x.state x.node here.0 here.1, node_in_is t y there.0 there.1))
         by_order (inr star) = inr (inl (priority_is g m (Pair t y) there ∙ star))
 
     by_going : (x : Stuck) (u : Vertex)
@@ -483,11 +555,14 @@ module _ (g : Graph) (m : Structure) (g_ok : IsGraph g) (m_ok : IsStructure m) (
     by_going x u is move (inl a) = by_allowed a.allowed
       where
         moved : FollowedMove (checking_game g m) (player_of e) strategy (vertex x) (place a.state a.node)
-        moved = subst (λ v. FollowedMove (checking_game g m) (player_of e) strategy (vertex x) (vertex_number g m v)) a.is move
+        moved =
+            subst (λ v. FollowedMove (checking_game g m) (player_of e) strategy (vertex x) (vertex_number g m v)) a.is
+            move
 
         by_allowed : Allowed x.node a.state a.node → Next x
         by_allowed (inl (unmet, order)) = onward x a.state a.node a.low moved unmet order
-        by_allowed (inr theirs) = absurd (never_theirs x (Pair a.state a.node) (subst (IsVertex g m) a.is is) moved theirs)
+        by_allowed (inr theirs) =
+            absurd (never_theirs x (Pair a.state a.node) (subst (IsVertex g m) a.is is) moved theirs)
 
     next : (x : Stuck) → Next x
     next x = from (caught x)
@@ -501,13 +576,19 @@ module _ (g : Graph) (m : Structure) (g_ok : IsGraph g) (m_ok : IsStructure m) (
             let move = is_strategy (vertex x) (vertex_low g m g_ok m_ok (Pair x.state x.node) here) own_here in
             let image = move_from g m g_ok m_ok (Pair x.state x.node) here (strategy (vertex x)) move in
             by_going x image.from (leads_to_vertices g m g_ok m_ok (Pair x.state x.node) here image.from image.member)
-            (record { move = subst (HasMove (checking_game g m) (vertex x)) image.holds move; chosen = λ mine. sym image.holds })
+            (record {
+              move = subst (HasMove (checking_game g m) (vertex x)) image.holds move;
+              chosen = λ mine. sym
+                  image.holds;
+            })
             (all image.from image.member)
         from (inr (other, some)) =
             by_going x some.to (leads_to_vertices g m g_ok m_ok (Pair x.state x.node) here some.to some.member)
             (record {
               move = move_to g m g_ok m_ok (Pair x.state x.node) here some.to some.member;
-              chosen = λ mine. absurd (no_own_opponent (player_of e) (sym mine ∙ owner_is g m (Pair x.state x.node) here ∙ other));
+              chosen =
+                  λ mine. absurd (no_own_opponent (player_of e)
+                  (sym mine ∙ owner_is g m (Pair x.state x.node) here ∙ other));
             })
             some.goes
 
@@ -528,6 +609,8 @@ module _ (g : Graph) (m : Structure) (g_ok : IsGraph g) (m_ok : IsStructure m) (
       → Tests g m g_ok m_ok e i p
       → 2 * (i + program_occurrences p) ≤ size g
       → ((t : ℕ) → t < m.states → Tells g m g_ok m_ok (player_of e) t k (K t)) → k < size g
-      → (s : ℕ) → s < m.states → into m (relation m p) K s ≡ false → WinsAt g m g_ok m_ok (player_of e) s (node_of e i) → ⊥
+      → (s : ℕ) → s < m.states → into m (relation m p) K s ≡ false → WinsAt g m g_ok m_ok (player_of e) s (node_of e i)
+      → ⊥
   unmet_lost p i k K w tests room known k_low s s_low never a =
-      stuck_lost p i k K w tests room known k_low a.strategy a.is_strategy s (node_of e i) s_low (start_unmet m e p i K s never) a.wins
+      stuck_lost p i k K w tests room known k_low a.strategy a.is_strategy s (node_of e i) s_low
+      (start_unmet m e p i K s never) a.wins

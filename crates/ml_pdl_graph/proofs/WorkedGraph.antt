@@ -1,8 +1,8 @@
 -- The graph of a formula, worked out by hand from the table: [(a;p?)+b*]repeat(a).
 --
--- It has each kind of program, a box, and an infinite repetition. Occurrences 0 to 9 are the box, `+`, `;`, a, the test, p,
--- the star, b, the repetition and its a. What stands behind the program is the repetition: for boxes its positive node, 16,
--- and for diamonds its negative one, 17.
+-- It has each kind of program, a box, and an infinite repetition. Occurrences 0 to 9 are the box, `+`, `;`, a, the
+-- test, p, the star, b, the repetition and its a. What stands behind the program is the repetition: for boxes its
+-- positive node, 16, and for diamonds its negative one, 17.
 --
 --   worked, worked_graph == the formula and its graph
 --   is_its_graph         == the graph is the formula's, and with the other root that of its negation
@@ -16,7 +16,8 @@ use Rattle.ml_pdl_graph.specs.PdlGraph.{IsGraphOf}
 
 abbrev worked : Formula
 worked =
-    Modal Square (Alt (Seq (Act (codes "a")) (Test (Prop (codes "p")))) (Star (Act (codes "b")))) (Repeat (Act (codes "a")))
+    Modal Square (Alt (Seq (Act (codes "a")) (Test (Prop (codes "p")))) (Star (Act (codes "b"))))
+    (Repeat (Act (codes "a")))
 
 abbrev worked_graph : Bool → Graph
 worked_graph negated = record {
