@@ -14,7 +14,7 @@ use Rattle.ml_pdl.specs.Problem as problem
 use Rattle.ml_pdl_graph.specs.Laws.{GraphsAgree}
 use Rattle.ml_pdl_graph.specs.PdlGraph.{positive, negative, diamond, box, StandsAt, ProgramStandsAt, IsGraphOf}
 use Rattle.ml_pdl_graph.proofs.Players.{tells_turned}
-use Rattle.ml_pdl_graph.proofs.Runs.{Tests, some_occurrence}
+use Rattle.ml_pdl_graph.proofs.ProgramNodes.{Tests, some_occurrence}
 use Rattle.ml_pdl_graph.proofs.Connectives.{Both, both_const, both_prop, both_not, both_and, both_or, both_implies, both_iff, both_diamond, both_square, both_repeat}
 
 module _ (g : Graph) (m : Structure) (g_ok : IsGraph g) (m_ok : IsStructure m) where

@@ -14,7 +14,7 @@ use Rattle.ml_pdl.specs.Formula.{Formula, Const, Prop, Not, Binary, Modal, Repea
 use Rattle.ml_pdl.specs.Meaning.{some_run, every_run, meaning, relation}
 use Rattle.ml_pdl_graph.specs.PdlGraph.{positive, negative, StandsAt}
 use Rattle.ml_pdl_graph.proofs.Players.{player_of, node_of, own_by, other_by, node_range, Tells, tells_turned, tells_own, tells_other_by, tells_leads, tells_constant, tells_negated_constant, tells_literal, tells_negated_literal}
-use Rattle.ml_pdl_graph.proofs.Runs.{Runs, Shown, Tests, runs_of, turn, some_occurrence}
+use Rattle.ml_pdl_graph.proofs.ProgramNodes.{NodesAt, Shown, Tests, nodes_of, turn, some_occurrence}
 use Rattle.ml_pdl_graph.proofs.Programs.{program_told, repeat_told}
 use Rattle.ml_pdl.proofs.MeaningFlags.{meaning_flags}
 use Rattle.ml_pdl.proofs.RunsInto.{into}
@@ -232,7 +232,7 @@ module _ (g : Graph) (m : Structure) (g_ok : IsGraph g) (m_ok : IsStructure m) w
       (leads e i (1 + program_occurrences p + occurrences f) s s_low room (omega arith) (node_of e (i + 1))
       (into m (relation m p) (is_member (meaning m f)) s) (by_sign e)
       (program_told g m g_ok m_ok e p (i + 1) (node_of e r) (is_member (meaning m f))
-      (subst (λ k. Runs g e (i + 1) k p) (continues e r) (runs_of g e p (i + 1) (positive r) (negative r) w.2))
+      (subst (λ k. NodesAt g e (i + 1) k p) (continues e r) (nodes_of g e p (i + 1) (positive r) (negative r) w.2))
       (tests e) (omega (arith, room)) (x e)
       (low_of e r (occurrences f) (some_occurrence f) (omega (arith, room))) s s_low))
     where
@@ -265,8 +265,8 @@ module _ (g : Graph) (m : Structure) (g_ok : IsGraph g) (m_ok : IsStructure m) w
       found d =
           let r : ℕ = i + 1 + program_occurrences p in
           program_told g m g_ok m_ok d p (i + 1) (node_of (not d) r) out
-          (subst (λ k. Runs g d (i + 1) k p) (continues_turned d r)
-          (runs_of g d p (i + 1) (negative r) (positive r) w.2)) (tests d) (omega (arith, room))
+          (subst (λ k. NodesAt g d (i + 1) k p) (continues_turned d r)
+          (nodes_of g d p (i + 1) (negative r) (positive r) w.2)) (tests d) (omega (arith, room))
           (denied f r (omega (arith, room)) x d)
           (low_of (not d) r (occurrences f) (some_occurrence f) (omega (arith, room))) s s_low
 
@@ -286,8 +286,8 @@ module _ (g : Graph) (m : Structure) (g_ok : IsGraph g) (m_ok : IsStructure m) w
   pub both_repeat : (p : Program) (i : ℕ) → StandsAt g i (Repeat p) → 2 * (i + occurrences (Repeat p)) ≤ size g
       → ((e : Bool) → Tests g m g_ok m_ok e (i + 1) p) → Both i (Repeat p)
   both_repeat p i w room tests true =
-      repeat_told g m g_ok m_ok true p i w.0.0 w.0.1 (runs_of g true p (i + 1) (positive i) (negative i) w.2)
+      repeat_told g m g_ok m_ok true p i w.0.0 w.0.1 (nodes_of g true p (i + 1) (positive i) (negative i) w.2)
       (tests true) room
   both_repeat p i w room tests false =
-      repeat_told g m g_ok m_ok false p i w.1.0 w.1.1 (runs_of g false p (i + 1) (positive i) (negative i) w.2)
+      repeat_told g m g_ok m_ok false p i w.1.0 w.1.1 (nodes_of g false p (i + 1) (positive i) (negative i) w.2)
       (tests false) room

@@ -1,8 +1,8 @@
 -- Who wins the nodes of a graph, for both players alike.
 --
--- With a sign goes a player: with positive nodes and diamonds Even, who shows that the formula holds, or finds a run; with
--- negative nodes and boxes Odd, who shows that the formula's negation fails, or finds a run by which the box fails. So a
--- formula holds exactly where the player of the sign wins its node of that sign, and all is said once.
+-- With a sign goes a player: with positive nodes and diamonds Even, who shows that the formula holds, or finds a run;
+-- with negative nodes and boxes Odd, who shows that the formula's negation fails, or finds a run by which the box
+-- fails. So a formula holds exactly where the player of the sign wins its node of that sign, and all is said once.
 --
 --   player_of e            == that player; node_of e i the node of occurrence i
 --   own_by, other_by, go_by == the node with two children at which that player moves, that at which the opponent does,

@@ -24,7 +24,8 @@ use Rattle.ml_pdl.proofs.StarRelations.{repeat_goes_on, repeat_has}
 use Rattle.ml_pdl_graph.proofs.EndlessWalks.{Onward, never_for_ever}
 use Rattle.ml_pdl_graph.proofs.NoRuns.{unmet_lost}
 use Rattle.ml_pdl_graph.proofs.Players.{player_of, node_of, node_range, at, WinsAt, Tells, never_both, one_of_both, tells_leads}
-use Rattle.ml_pdl_graph.proofs.Runs.{Runs, Tests, walked, single_move, some_program_occurrence}
+use Rattle.ml_pdl_graph.proofs.ProgramNodes.{NodesAt, Tests, some_program_occurrence}
+use Rattle.ml_pdl_graph.proofs.Runs.{walked, single_move}
 
 module _ (g : Graph) (m : Structure) (g_ok : IsGraph g) (m_ok : IsStructure m) (e : Bool) where
   abbrev place : ℕ → ℕ → ℕ
@@ -39,7 +40,7 @@ module _ (g : Graph) (m : Structure) (g_ok : IsGraph g) (m_ok : IsStructure m) (
   node_low : (i n : ℕ) → 1 ≤ n → 2 * (i + n) ≤ size g → node_of e i < size g
   node_low i n some room = let range = node_range e i in omega (arith, range.1, room, some)
 
-  module _ (p : Program) (i k : ℕ) (K : ℕ → Bool) (w : Runs g e i k p) (tests : Tests g m g_ok m_ok e i p)
+  module _ (p : Program) (i k : ℕ) (K : ℕ → Bool) (w : NodesAt g e i k p) (tests : Tests g m g_ok m_ok e i p)
       (room : 2 * (i + program_occurrences p) ≤ size g)
       (known : (t : ℕ) → t < m.states → Tells g m g_ok m_ok us t k (K t)) (k_low : k < size g) where
     pub program_told : (s : ℕ) → s < m.states → Tells g m g_ok m_ok us s (node_of e i) (into m (relation m p) K s)
@@ -82,7 +83,7 @@ module _ (g : Graph) (m : Structure) (g_ok : IsGraph g) (m_ok : IsStructure m) (
   repeat_priority false = 1
 
   module _ (p : Program) (i : ℕ) (leads : node_at g (node_of e i) ≡ node.And (node_of e (i + 1)) (node_of e (i + 1)))
-      (priority : priority_at g (node_of e i) ≡ repeat_priority e) (w : Runs g e (i + 1) (node_of e i) p)
+      (priority : priority_at g (node_of e i) ≡ repeat_priority e) (w : NodesAt g e (i + 1) (node_of e i) p)
       (tests : Tests g m g_ok m_ok e (i + 1) p) (room : 2 * (i + (1 + program_occurrences p)) ≤ size g) where
     abbrev own : ℕ
     own = node_of e i
