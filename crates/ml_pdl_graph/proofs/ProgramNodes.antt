@@ -41,8 +41,9 @@ NodesAt g e i k (Star p) =
 NodesAt g e i k (Test f) =
     (node_at g (node_of e i) ≡ other_by e (node_of e (i + 1)) k) × (priority_at g (node_of e i) ≡ plain)
 
-pub nodes_of : (g : Graph) (e : Bool) (p : Program) (i d b : ℕ) → ProgramStandsAt g i d b p → NodesAt g e i (turn e d b)
-p
+pub nodes_of : (g : Graph) (e : Bool) (p : Program) (i d b : ℕ)
+    → ProgramStandsAt g i d b p
+    → NodesAt g e i (turn e d b) p
 nodes_of g true (Act name) i d b s = (s.0, s.1.0, s.1.1, s.3)
 nodes_of g false (Act name) i d b s = (s.0, s.2.0, s.2.1, s.3)
 nodes_of g true (Seq p q) i d b s = (
