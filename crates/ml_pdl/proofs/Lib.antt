@@ -16,3 +16,5 @@ pub mod RunsInto
 pub mod StarRelations
 -- flags of meanings
 pub mod MeaningFlags
+-- meanings worked out by hand
+mod WorkedMeanings

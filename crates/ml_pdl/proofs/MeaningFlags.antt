@@ -12,13 +12,15 @@ use Rattle.ml_pdl.specs.Meaning.{Relation, truth_of, some_run, every_run, modal,
 iterate_flags : (m : Structure) (r : Relation) (k : ℕ)
     → length (iterate k (modal m Diamond r) (everywhere m)) ≡ m.states
 iterate_flags m r zero = length-replicate m.states true
-iterate_flags m r (suc k) = length-map-range_with_len (some_run m r (iterate k (modal m Diamond r) (everywhere m))) 0 m.states
+iterate_flags m r (suc k) =
+    length-map-range_with_len (some_run m r (iterate k (modal m Diamond r) (everywhere m))) 0 m.states
 
 pub meaning_flags : (m : Structure) (f : Formula) → length (meaning m f) ≡ m.states
 meaning_flags m (Const b) = length-map-range_with_len (λ s. b) 0 m.states
 meaning_flags m (Prop p) = length-map-range_with_len (λ s. lists m s p) 0 m.states
 meaning_flags m (Not f) = length-map (meaning m f) not ∙ meaning_flags m f
-meaning_flags m (Binary op f h) = length-map-range_with_len (λ s. truth_of op (is_member (meaning m f) s) (is_member (meaning m h) s)) 0 m.states
+meaning_flags m (Binary op f h) =
+    length-map-range_with_len (λ s. truth_of op (is_member (meaning m f) s) (is_member (meaning m h) s)) 0 m.states
 meaning_flags m (Modal Diamond p f) = length-map-range_with_len (some_run m (relation m p) (meaning m f)) 0 m.states
 meaning_flags m (Modal Square p f) = length-map-range_with_len (every_run m (relation m p) (meaning m f)) 0 m.states
 meaning_flags m (Repeat p) = iterate_flags m (relation m p) m.states

@@ -4,7 +4,7 @@
 --   into m r K s    == is s related by r to some state of K?
 --   run_of, of_run  == it is exactly if some state of K is one to which r relates s
 --   no_run          == where it isn't, r relates s to no state of K
-use Rattle.std.proofs.Common.{◌≡◌, ℕ, zero, suc, ◌+◌, ◌<◌, ◌==◌, Bool, true, false, ◌&&◌, ◌∷◌, inl, inr, sym, subst, ◌∙◌, ⊎_elim, arith}
+use Rattle.std.proofs.Common.{◌≡◌, ℕ, zero, suc, ◌+◌, ◌<◌, ◌==◌, Bool, true, false, ◌&&◌, inl, inr, sym, subst, ◌∙◌, ⊎_elim, arith}
 use Rattle.std.specs.List.{list_any, range_with_len}
 use Rattle.std.proofs.lemmas.Bool.{false≢true, and_parts, and_from, cases_Bool}
 use Rattle.std.proofs.lemmas.Bool.Decides.{nat_tests}
@@ -40,7 +40,8 @@ state_low n k h = let low = in_range n 0 k h in omega (arith, low)
 pub state_member : (n k : ℕ) → k < n → IsMember k (range_with_len 0 n)
 state_member n k low =
     let is : (0 + k) ≡ k = omega arith in
-    subst (λ x. IsMember x (range_with_len 0 n)) (get_or-range_with_len 0 n k 0 low ∙ is) (place-member (range_with_len 0 n) k 0 (omega (arith, low, length-range_with_len 0 n)))
+    subst (λ x. IsMember x (range_with_len 0 n)) (get_or-range_with_len 0 n k 0 low ∙ is)
+    (place-member (range_with_len 0 n) k 0 (omega (arith, low, length-range_with_len 0 n)))
 
 module _ (m : Structure) (r : Relation) (K : ℕ → Bool) (s : ℕ) where
   pub run_of : into m r K s ≡ true → RunInto m r K s
@@ -50,7 +51,9 @@ module _ (m : Structure) (r : Relation) (K : ℕ → Bool) (s : ℕ) where
       record { state = some.item; low = state_low m.states some.item some.member; run = parts.0; inside = parts.1 }
 
   pub of_run : (t : ℕ) → t < m.states → r s t ≡ true → K t ≡ true → into m r K s ≡ true
-  of_run t low run inside = member-list_any (λ u. r s u && K u) t (range_with_len 0 m.states) (state_member m.states t low) (and_from (r s t) (K t) run inside)
+  of_run t low run inside =
+      member-list_any (λ u. r s u && K u) t (range_with_len 0 m.states) (state_member m.states t low)
+      (and_from (r s t) (K t) run inside)
 
   pub no_run : into m r K s ≡ false → (t : ℕ) → t < m.states → r s t ≡ true → K t ≡ false
   no_run never t low run =

@@ -1,4 +1,5 @@
--- What a star relates, and at which states a program can be repeated for ever: the n-th iterates on n states are fixpoints.
+-- What a star relates, and at which states a program can be repeated for ever: the n-th iterates on n states are
+-- fixpoints.
 --
 --   member_where    == a member of the states that pass a test passes it
 --   star_stays      == a star relates each state to itself
@@ -8,7 +9,6 @@
 --   stars_are_least, repetitions_are_greatest == the laws
 use Rattle.std.proofs.Common.{◌≡◌, ℕ, zero, suc, ◌+◌, ◌-◌, ◌<◌, ◌==◌, Bool, true, false, not, refl, sym, ap, subst, ◌∙◌, ⊎_elim, arith}
 use Rattle.std.proofs.lemmas.Bool.{false≢true, or_cases, or_left, or_right}
-use Rattle.std.proofs.lemmas.Bool.Decides.{nat_tests}
 use Rattle.std.proofs.lemmas.List.{get_or-replicate}
 use Rattle.std.proofs.lemmas.List.FromFn.{get_or-map-range_with_len}
 use Rattle.ml_lists.specs.Growing.{Grows, Stable}
@@ -18,7 +18,7 @@ use Rattle.ml_lists.proofs.Growing.{stable_soon}
 use Rattle.ml_base.specs.Structure.{Structure, StateSet, is_member, states_where, everywhere}
 use Rattle.ml_pdl.specs.Formula.{Program, Star, Repeat, Diamond}
 use Rattle.ml_pdl.specs.Meaning.{Relation, identity, either, followed_by, some_run, modal, relation, meaning}
-use Rattle.ml_pdl.specs.Laws.{HasRuns, GoesOn, StarsAreLeast, RepetitionsAreGreatest}
+use Rattle.ml_pdl.specs.Laws.{HasRuns, StarsAreLeast, RepetitionsAreGreatest}
 use Rattle.ml_pdl.proofs.RunsInto.{same_number, equal_number, into, run_of, of_run}
 
 pub member_where : (m : Structure) (test : ℕ → Bool) (s : ℕ) → s < m.states → is_member (states_where m test) s ≡ test s
@@ -57,7 +57,8 @@ module _ (m : Structure) (r : Relation) where
       (λ (same : (s == t) ≡ true). or_left (s == t) (followed_by m b r s t) same)
       (λ (runs : followed_by m a r s t ≡ true).
       let some = run_of m a (λ u. r u t) s runs in
-      or_right (s == t) (followed_by m b r s t) (of_run m b (λ u. r u t) s some.state some.low (within some.state some.low some.run) some.inside))
+      or_right (s == t) (followed_by m b r s t)
+      (of_run m b (λ u. r u t) s some.state some.low (within some.state some.low some.run) some.inside))
       (or_cases (s == t) (followed_by m a r s t) is)
 
   grows : (s : ℕ) → Grows m.states (λ k t. rounds k s t)
@@ -65,7 +66,9 @@ module _ (m : Structure) (r : Relation) where
   grows s (suc k) t low is = more_rounds s (rounds k) (rounds (suc k)) (grows s k) t low is
 
   stands : (s : ℕ) → Stable m.states (λ k t. rounds k s t) m.states
-  stands s = still m.states (λ k t. rounds k s t) (grows s) (λ k stable t low is. more_rounds s (rounds (suc k)) (rounds k) stable t low is)
+  stands s =
+      still m.states (λ k t. rounds k s t) (grows s)
+      (λ k stable t low is. more_rounds s (rounds (suc k)) (rounds k) stable t low is)
 
   abbrev all : Relation
   all = rounds m.states
@@ -75,7 +78,8 @@ module _ (m : Structure) (r : Relation) where
   stays_at (suc k) s = or_left (s == s) (followed_by m (rounds k) r s s) (equal_number s)
 
   last_round : (s u t : ℕ) → u < m.states → t < m.states → all s u ≡ true → r u t ≡ true → all s t ≡ true
-  last_round s u t u_low t_low a b = stands s t t_low (or_right (s == t) (followed_by m all r s t) (of_run m all (λ v. r v t) s u u_low a b))
+  last_round s u t u_low t_low a b =
+      stands s t t_low (or_right (s == t) (followed_by m all r s t) (of_run m all (λ v. r v t) s u u_low a b))
 
   first_round : (k s u t : ℕ)
       → u < m.states
@@ -88,10 +92,12 @@ module _ (m : Structure) (r : Relation) where
       last_round s s t s_low t_low (stays_at m.states s) (subst (λ x. r s x ≡ true) (same_number u t b) a)
   first_round (suc k) s u t u_low t_low s_low a b =
       ⊎_elim
-      (λ (same : (u == t) ≡ true). last_round s s t s_low t_low (stays_at m.states s) (subst (λ x. r s x ≡ true) (same_number u t same) a))
+      (λ (same : (u == t) ≡ true). last_round s s t s_low t_low (stays_at m.states s)
+      (subst (λ x. r s x ≡ true) (same_number u t same) a))
       (λ (runs : followed_by m (rounds k) r u t ≡ true).
       let some = run_of m (rounds k) (λ v. r v t) u runs in
-      last_round s some.state t some.low t_low (first_round k s u some.state u_low some.low s_low a some.run) some.inside)
+      last_round s some.state t some.low t_low (first_round k s u some.state u_low some.low s_low a some.run)
+      some.inside)
       (or_cases (u == t) (followed_by m (rounds k) r u t) b)
 
 module _ (m : Structure) (p : Program) where
@@ -118,8 +124,10 @@ module _ (m : Structure) (p : Program) where
   leads : (a b : StateSet) → ((t : ℕ) → t < m.states → is_member a t ≡ true → is_member b t ≡ true)
       → (s : ℕ) → s < m.states → is_member (lead a) s ≡ true → is_member (lead b) s ≡ true
   leads a b within s low is =
-      let some = run_of m (relation m p) (is_member a) s (sym (member_where m (some_run m (relation m p) a) s low) ∙ is) in
-      member_where m (some_run m (relation m p) b) s low ∙ of_run m (relation m p) (is_member b) s some.state some.low some.run (within some.state some.low some.inside)
+      let some = run_of m (relation m p) (is_member a) s
+      (sym (member_where m (some_run m (relation m p) a) s low) ∙ is) in
+      member_where m (some_run m (relation m p) b) s low ∙ of_run m (relation m p) (is_member b) s some.state some.low
+      some.run (within some.state some.low some.inside)
 
   all_in : (t : ℕ) → t < m.states → is_member (everywhere m) t ≡ true
   all_in t low = get_or-replicate m.states t true false low
@@ -146,7 +154,8 @@ module _ (m : Structure) (p : Program) where
   gone_still : Stable m.states gone m.states
   gone_still = still m.states gone gone_grows
       (λ k stable s low is. turned (is_member (kept (suc k)) s) (is_member (kept (suc (suc k))) s)
-      (λ inside. leads (kept k) (kept (suc k)) (λ t t_low h. back (is_member (kept (suc k)) t) (is_member (kept k) t) (stable t t_low) h) s low inside) is)
+      (λ inside. leads (kept k) (kept (suc k))
+      (λ t t_low h. back (is_member (kept (suc k)) t) (is_member (kept k) t) (stable t t_low) h) s low inside) is)
 
   pub repeat_goes_on : (s : ℕ)
       → s < m.states
@@ -162,7 +171,8 @@ module _ (m : Structure) (p : Program) where
   has K goes (suc k) s low is =
       let some = run_of m (relation m p) K s (goes s low is) in
       member_where m (some_run m (relation m p) (kept k)) s low
-      ∙ of_run m (relation m p) (is_member (kept k)) s some.state some.low some.run (has K goes k some.state some.low some.inside)
+      ∙ of_run m (relation m p) (is_member (kept k)) s some.state some.low some.run
+      (has K goes k some.state some.low some.inside)
 
   pub repeat_has : (K : ℕ → Bool) → ((s : ℕ) → s < m.states → K s ≡ true → into m (relation m p) K s ≡ true)
       → (s : ℕ) → s < m.states → K s ≡ true → is_member (meaning m (Repeat p)) s ≡ true
@@ -179,7 +189,8 @@ has_rounds m p q has (suc k) s t s_low t_low is =
     (λ (same : (s == t) ≡ true). subst (λ x. q s x ≡ true) (same_number s t same) (has.stays s s_low))
     (λ (runs : followed_by m (rounds m (relation m p) k) (relation m p) s t ≡ true).
     let some = run_of m (rounds m (relation m p) k) (λ u. relation m p u t) s runs in
-    has.goes_on s some.state t s_low some.low t_low (has_rounds m p q has k s some.state s_low some.low some.run) some.inside)
+    has.goes_on s some.state t s_low some.low t_low (has_rounds m p q has k s some.state s_low some.low some.run)
+    some.inside)
     (or_cases (s == t) (followed_by m (rounds m (relation m p) k) (relation m p) s t) is)
 
 pub stars_are_least : StarsAreLeast

@@ -29,4 +29,5 @@ abbrev pub RepetitionsAreGreatest : Type 0
 RepetitionsAreGreatest =
     (m : Structure) (p : Program)
     → GoesOn m p (is_member (meaning m (Repeat p)))
-    × ((set : ℕ → Bool) → GoesOn m p set → (s : ℕ) → s < m.states → set s ≡ true → is_member (meaning m (Repeat p)) s ≡ true)
+    × ((set : ℕ → Bool) → GoesOn m p set → (s : ℕ) → s < m.states → set s ≡ true → is_member (meaning m (Repeat p))
+    s ≡ true)

@@ -1,11 +1,11 @@
 -- What formulas and programs mean: the set of the states of a structure at which a formula holds, and the relation
 -- between states that a program is.
 --
--- Sets of states are lists with one flag per state, and a relation is a test on pairs of states, so both are computed. (Of
--- numbers that are no states nothing is asked.) A program relates a state to those in which a run of it from there may
--- end. On n states the star is the n-th iterate of "the identity, or what we have followed by the program", from the
--- identity: a run that visits no state twice has less than n steps. Infinite repetition is the n-th iterate of "a run leads
--- into what we have", from the set of all states.
+-- Sets of states are lists with one flag per state, and a relation is a test on pairs of states, so both are computed.
+-- (Of numbers that are no states nothing is asked.) A program relates a state to those in which a run of it from there
+-- may end. On n states the star is the n-th iterate of "the identity, or what we have followed by the program", from
+-- the identity: what some number of rounds relates, fewer than n rounds relate. Infinite repetition is the n-th iterate
+-- of "a run leads into what we have", from the set of all states.
 --
 --   Relation              == a relation between states
 --   truth_of op a b       == the truth table of a connective
@@ -15,6 +15,7 @@
 --   followed_by m r q     == the one relation and then the other
 --   some_run m r set s    == is s related by r to some state of the set?
 --   every_run m r set s   == are all states to which s is related by r in the set?
+--   modal m d r set       == the states at which the one or the other is so
 --   meaning m f           == the set of the states of m at which f holds
 --   relation m p          == the relation that p is
 use Rattle.std.specs.Prelude.{ℕ, ◌==◌, Bool, ◌&&◌, ◌||◌, not, List, map}

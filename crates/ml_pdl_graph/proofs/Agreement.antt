@@ -14,7 +14,7 @@ use Rattle.ml_pdl.specs.Problem as problem
 use Rattle.ml_pdl_graph.specs.Laws.{GraphsAgree}
 use Rattle.ml_pdl_graph.specs.PdlGraph.{positive, negative, diamond, box, StandsAt, ProgramStandsAt, IsGraphOf}
 use Rattle.ml_pdl_graph.proofs.Players.{tells_turned}
-use Rattle.ml_pdl_graph.proofs.Runs.{Tests, some_occurrence}
+use Rattle.ml_pdl_graph.proofs.ProgramNodes.{Tests, some_occurrence}
 use Rattle.ml_pdl_graph.proofs.Connectives.{Both, both_const, both_prop, both_not, both_and, both_or, both_implies, both_iff, both_diamond, both_square, both_repeat}
 
 module _ (g : Graph) (m : Structure) (g_ok : IsGraph g) (m_ok : IsStructure m) where
@@ -24,20 +24,26 @@ module _ (g : Graph) (m : Structure) (g_ok : IsGraph g) (m_ok : IsStructure m) w
     shown (Prop p) i w room = both_prop g m g_ok m_ok p i w room
     shown (Not f) i w room = both_not g m g_ok m_ok f i w room (shown f (i + 1) w.2 (omega (arith, room)))
     shown (Binary operator.And f h) i w room =
-        both_and g m g_ok m_ok f h i w room (shown f (i + 1) w.2 (omega (arith, room))) (shown h (i + 1 + occurrences f) w.3 (omega (arith, room)))
+        both_and g m g_ok m_ok f h i w room (shown f (i + 1) w.2 (omega (arith, room)))
+        (shown h (i + 1 + occurrences f) w.3 (omega (arith, room)))
     shown (Binary operator.Or f h) i w room =
-        both_or g m g_ok m_ok f h i w room (shown f (i + 1) w.2 (omega (arith, room))) (shown h (i + 1 + occurrences f) w.3 (omega (arith, room)))
+        both_or g m g_ok m_ok f h i w room (shown f (i + 1) w.2 (omega (arith, room)))
+        (shown h (i + 1 + occurrences f) w.3 (omega (arith, room)))
     shown (Binary operator.Implies f h) i w room =
-        both_implies g m g_ok m_ok f h i w room (shown f (i + 1) w.2 (omega (arith, room))) (shown h (i + 1 + occurrences f) w.3 (omega (arith, room)))
+        both_implies g m g_ok m_ok f h i w room (shown f (i + 1) w.2 (omega (arith, room)))
+        (shown h (i + 1 + occurrences f) w.3 (omega (arith, room)))
     shown (Binary operator.Iff f h) i w room =
-        both_iff g m g_ok m_ok f h i w room (shown f (i + 3) w.6 (omega (arith, room))) (shown h (i + 3 + occurrences f) w.7 (omega (arith, room)))
+        both_iff g m g_ok m_ok f h i w room (shown f (i + 3) w.6 (omega (arith, room)))
+        (shown h (i + 3 + occurrences f) w.7 (omega (arith, room)))
     shown (Modal Diamond p f) i w room =
         both_diamond g m g_ok m_ok p f i w room
-        (tests_shown p (i + 1) (positive (i + 1 + program_occurrences p)) (negative (i + 1 + program_occurrences p)) w.2 (omega (arith, room)))
+        (tests_shown p (i + 1) (positive (i + 1 + program_occurrences p)) (negative (i + 1 + program_occurrences p)) w.2
+        (omega (arith, room)))
         (shown f (i + 1 + program_occurrences p) w.3 (omega (arith, room)))
     shown (Modal Square p f) i w room =
         both_square g m g_ok m_ok p f i w room
-        (tests_shown p (i + 1) (negative (i + 1 + program_occurrences p)) (positive (i + 1 + program_occurrences p)) w.2 (omega (arith, room)))
+        (tests_shown p (i + 1) (negative (i + 1 + program_occurrences p)) (positive (i + 1 + program_occurrences p)) w.2
+        (omega (arith, room)))
         (shown f (i + 1 + program_occurrences p) w.3 (omega (arith, room)))
     shown (Repeat p) i w room =
         both_repeat g m g_ok m_ok p i w room (tests_shown p (i + 1) (positive i) (negative i) w.2 (omega (arith, room)))
@@ -46,7 +52,8 @@ module _ (g : Graph) (m : Structure) (g_ok : IsGraph g) (m_ok : IsStructure m) w
         → (e : Bool) → Tests g m g_ok m_ok e i p
     tests_shown (Act name) i d b w room e = tt
     tests_shown (Seq p q) i d b w room e = (
-      tests_shown p (i + 1) (diamond (i + 1 + program_occurrences p)) (box (i + 1 + program_occurrences p)) w.2 (omega (arith, room)) e,
+      tests_shown p (i + 1) (diamond (i + 1 + program_occurrences p)) (box (i + 1 + program_occurrences p)) w.2
+          (omega (arith, room)) e,
       tests_shown q (i + 1 + program_occurrences p) d b w.3 (omega (arith, room)) e,
     )
     tests_shown (Alt p q) i d b w room e = (
@@ -69,10 +76,12 @@ module _ (f : Formula) (g : Graph) (m : Structure) (m_ok : IsStructure m) where
   agreement true is s low =
       let some = some_occurrence f in
       let says : HoldsAt g m s (negative 0) ↔ (not (is_member (meaning m f) s) ≡ true) =
-      tells_turned g m is.is_graph m_ok false s (negative 0) low (omega (arith, is.two_for_each, some)) (is_member (meaning m f) s)
+      tells_turned g m is.is_graph m_ok false s (negative 0) low (omega (arith, is.two_for_each, some))
+      (is_member (meaning m f) s)
       (shown g m is.is_graph m_ok f 0 is.stands (omega (arith, is.two_for_each)) false s low) in
       let turn = not_true (is_member (meaning m f) s) in
-      subst (λ n. HoldsAt g m s n ↔ (is_member (meaning m f) s ≡ false)) (sym is.root_is) (λ h. turn.0 (says.0 h), λ e. says.1 (turn.1 e))
+      subst (λ n. HoldsAt g m s n ↔ (is_member (meaning m f) s ≡ false)) (sym is.root_is)
+      (λ h. turn.0 (says.0 h), λ e. says.1 (turn.1 e))
 
 pub graphs_agree : GraphsAgree
 graphs_agree f negated g is m m_ok s low = agreement f g m m_ok negated is s low

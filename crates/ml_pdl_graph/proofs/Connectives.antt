@@ -1,21 +1,20 @@
 -- The nodes of formulas, by their operands.
 --
 --   Both            == a formula is shown at its node of either sign
---   both_const, both_prop, both_not, both_and, both_or, both_implies, both_iff, both_modal, both_repeat == each case
-use Rattle.std.proofs.Common.{◌≡◌, ℕ, zero, suc, ◌+◌, ◌*◌, ◌<◌, ◌≤◌, Bool, true, false, ◌&&◌, ◌||◌, not, List, [], ◌∷◌, length, refl, sym, ap, subst, ◌∙◌, arith}
+--   both_const, both_prop, both_not, both_and, both_or, both_implies, both_iff, both_diamond,
+--   both_square, both_repeat == each case
+use Rattle.std.proofs.Common.{◌≡◌, ℕ, ◌+◌, ◌*◌, ◌<◌, ◌≤◌, Bool, true, false, ◌&&◌, ◌||◌, not, List, [], ◌∷◌, refl, sym, ap, subst, ◌∙◌, arith}
 use Rattle.std.specs.List.{list_any, list_all, range_with_len}
-use Rattle.std.proofs.lemmas.List.{get_or-map, length-map, length-replicate}
-use Rattle.std.proofs.lemmas.List.FromFn.{length-map-range_with_len}
-use Rattle.ml_lists.specs.Iterate.{iterate}
-use Rattle.ml_base.specs.Structure.{Structure, IsStructure, lists, is_member, everywhere}
+use Rattle.std.proofs.lemmas.List.{get_or-map}
+use Rattle.ml_base.specs.Structure.{Structure, IsStructure, lists, is_member}
 use Rattle.ml_graph.specs.Graph.{Graph, IsGraph, size, node_at, prop_at}
 use Rattle.ml_graph.specs.declared.node.Node.TheVariants as node
 use Rattle.ml_text.specs.declared.token.Operator.TheVariants as operator
 use Rattle.ml_pdl.specs.Formula.{Formula, Const, Prop, Not, Binary, Modal, Repeat, Program, Diamond, Square, occurrences, program_occurrences}
-use Rattle.ml_pdl.specs.Meaning.{Relation, truth_of, some_run, every_run, modal, meaning, relation}
+use Rattle.ml_pdl.specs.Meaning.{some_run, every_run, meaning, relation}
 use Rattle.ml_pdl_graph.specs.PdlGraph.{positive, negative, StandsAt}
 use Rattle.ml_pdl_graph.proofs.Players.{player_of, node_of, own_by, other_by, node_range, Tells, tells_turned, tells_own, tells_other_by, tells_leads, tells_constant, tells_negated_constant, tells_literal, tells_negated_literal}
-use Rattle.ml_pdl_graph.proofs.Runs.{Runs, Shown, Tests, runs_of, turn, some_occurrence}
+use Rattle.ml_pdl_graph.proofs.ProgramNodes.{NodesAt, Shown, Tests, nodes_of, turn, some_occurrence}
 use Rattle.ml_pdl_graph.proofs.Programs.{program_told, repeat_told}
 use Rattle.ml_pdl.proofs.MeaningFlags.{meaning_flags}
 use Rattle.ml_pdl.proofs.RunsInto.{into}
@@ -76,24 +75,30 @@ module _ (g : Graph) (m : Structure) (g_ok : IsGraph g) (m_ok : IsStructure m) w
   denied : (f : Formula) (i : ℕ) → 2 * (i + occurrences f) ≤ size g → Both i f → (e : Bool) (s : ℕ) → s < m.states
       → TellsAt e s (node_of (not e) i) (not (is_member (meaning m f) s))
   denied f i room both true s s_low =
-      tells_turned g m g_ok m_ok false s (negative i) s_low (low_of false i (occurrences f) (some_occurrence f) room) (is_member (meaning m f) s) (both false s s_low)
+      tells_turned g m g_ok m_ok false s (negative i) s_low (low_of false i (occurrences f) (some_occurrence f) room)
+      (is_member (meaning m f) s) (both false s s_low)
   denied f i room both false s s_low =
-      tells_turned g m g_ok m_ok true s (positive i) s_low (low_of true i (occurrences f) (some_occurrence f) room) (is_member (meaning m f) s) (both true s s_low)
+      tells_turned g m g_ok m_ok true s (positive i) s_low (low_of true i (occurrences f) (some_occurrence f) room)
+      (is_member (meaning m f) s) (both true s s_low)
 
   pub both_const : (b : Bool) (i : ℕ) → StandsAt g i (Const b) → 2 * (i + 1) ≤ size g → Both i (Const b)
   both_const b i w room true s s_low =
-      same true s (positive i) b (is_member (meaning m (Const b)) s) (sym (member_where m (λ t. b) s s_low)) (tells_constant g m g_ok m_ok s (positive i) s_low (omega (arith, room)) b w.0.0)
+      same true s (positive i) b (is_member (meaning m (Const b)) s) (sym (member_where m (λ t. b) s s_low))
+      (tells_constant g m g_ok m_ok s (positive i) s_low (omega (arith, room)) b w.0.0)
   both_const b i w room false s s_low =
-      same false s (negative i) b (is_member (meaning m (Const b)) s) (sym (member_where m (λ t. b) s s_low)) (tells_negated_constant g m g_ok m_ok s (negative i) s_low (omega (arith, room)) b w.1.0)
+      same false s (negative i) b (is_member (meaning m (Const b)) s) (sym (member_where m (λ t. b) s s_low))
+      (tells_negated_constant g m g_ok m_ok s (negative i) s_low (omega (arith, room)) b w.1.0)
 
   pub both_prop : (p : List ℕ) (i : ℕ) → StandsAt g i (Prop p) → 2 * (i + 1) ≤ size g → Both i (Prop p)
   both_prop p i w room true s s_low =
       let here = w.0 in
-      same true s (positive i) (lists m s (prop_at g here.0)) (is_member (meaning m (Prop p)) s) (ap (lists m s) here.2 ∙ sym (member_where m (λ t. lists m t p) s s_low))
+      same true s (positive i) (lists m s (prop_at g here.0)) (is_member (meaning m (Prop p)) s)
+      (ap (lists m s) here.2 ∙ sym (member_where m (λ t. lists m t p) s s_low))
       (tells_literal g m g_ok m_ok s (positive i) s_low (omega (arith, room)) here.0 here.1.0)
   both_prop p i w room false s s_low =
       let here = w.1 in
-      same false s (negative i) (lists m s (prop_at g here.0)) (is_member (meaning m (Prop p)) s) (ap (lists m s) here.2 ∙ sym (member_where m (λ t. lists m t p) s s_low))
+      same false s (negative i) (lists m s (prop_at g here.0)) (is_member (meaning m (Prop p)) s)
+      (ap (lists m s) here.2 ∙ sym (member_where m (λ t. lists m t p) s s_low))
       (tells_negated_literal g m g_ok m_ok s (negative i) s_low (omega (arith, room)) here.0 here.1.0)
 
   -- a node of a connective, by that of an operand of either sign
@@ -121,8 +126,10 @@ module _ (g : Graph) (m : Structure) (g_ok : IsGraph g) (m_ok : IsStructure m) w
       → Both (i + 1) f
       → Both i (Not f)
   both_not f i w room x e s s_low =
-      same e s (node_of e i) (not (is_member (meaning m f) s)) (is_member (meaning m (Not f)) s) (sym (member_not m f s s_low))
-      (leads e i (1 + occurrences f) s s_low room (omega arith) (node_of (not e) (i + 1)) (not (is_member (meaning m f) s)) (by_sign e)
+      same e s (node_of e i) (not (is_member (meaning m f) s)) (is_member (meaning m (Not f)) s)
+      (sym (member_not m f s s_low))
+      (leads e i (1 + occurrences f) s s_low room (omega arith) (node_of (not e) (i + 1))
+      (not (is_member (meaning m f) s)) (by_sign e)
       (denied f (i + 1) (omega (arith, room)) x e s s_low))
     where
       by_sign : (d : Bool) → node_at g (node_of d i) ≡ node.And (node_of (not d) (i + 1)) (node_of (not d) (i + 1))
@@ -135,7 +142,8 @@ module _ (g : Graph) (m : Structure) (g_ok : IsGraph g) (m_ok : IsStructure m) w
       → Both (i + 1) f → Both (i + 1 + occurrences f) h → Both i (Binary operator.And f h)
   both_and f h i w room x y e s s_low =
       same e s (node_of e i) _ (is_member (meaning m (Binary operator.And f h)) s) (sym (member_where m _ s s_low))
-      (other e i (1 + occurrences f + occurrences h) s s_low room (omega arith) (node_of e (i + 1)) (node_of e (i + 1 + occurrences f)) (is_member (meaning m f) s) (is_member (meaning m h) s) (by_sign e)
+      (other e i (1 + occurrences f + occurrences h) s s_low room (omega arith) (node_of e (i + 1))
+      (node_of e (i + 1 + occurrences f)) (is_member (meaning m f) s) (is_member (meaning m h) s) (by_sign e)
       (x e s s_low) (y e s s_low))
     where
       by_sign : (d : Bool)
@@ -149,7 +157,8 @@ module _ (g : Graph) (m : Structure) (g_ok : IsGraph g) (m_ok : IsStructure m) w
       → Both (i + 1) f → Both (i + 1 + occurrences f) h → Both i (Binary operator.Or f h)
   both_or f h i w room x y e s s_low =
       same e s (node_of e i) _ (is_member (meaning m (Binary operator.Or f h)) s) (sym (member_where m _ s s_low))
-      (own e i (1 + occurrences f + occurrences h) s s_low room (omega arith) (node_of e (i + 1)) (node_of e (i + 1 + occurrences f)) (is_member (meaning m f) s) (is_member (meaning m h) s) (by_sign e)
+      (own e i (1 + occurrences f + occurrences h) s s_low room (omega arith) (node_of e (i + 1))
+      (node_of e (i + 1 + occurrences f)) (is_member (meaning m f) s) (is_member (meaning m h) s) (by_sign e)
       (x e s s_low) (y e s s_low))
     where
       by_sign : (d : Bool) → node_at g (node_of d i) ≡ own_by d (node_of d (i + 1)) (node_of d (i + 1 + occurrences f))
@@ -162,7 +171,8 @@ module _ (g : Graph) (m : Structure) (g_ok : IsGraph g) (m_ok : IsStructure m) w
       → Both (i + 1) f → Both (i + 1 + occurrences f) h → Both i (Binary operator.Implies f h)
   both_implies f h i w room x y e s s_low =
       same e s (node_of e i) _ (is_member (meaning m (Binary operator.Implies f h)) s) (sym (member_where m _ s s_low))
-      (own e i (1 + occurrences f + occurrences h) s s_low room (omega arith) (node_of (not e) (i + 1)) (node_of e (i + 1 + occurrences f)) (not (is_member (meaning m f) s)) (is_member (meaning m h) s) (by_sign e)
+      (own e i (1 + occurrences f + occurrences h) s s_low room (omega arith) (node_of (not e) (i + 1))
+      (node_of e (i + 1 + occurrences f)) (not (is_member (meaning m f) s)) (is_member (meaning m h) s) (by_sign e)
       (denied f (i + 1) (omega (arith, room)) x e s s_low) (y e s s_low))
     where
       by_sign : (d : Bool)
@@ -177,19 +187,28 @@ module _ (g : Graph) (m : Structure) (g_ok : IsGraph g) (m_ok : IsStructure m) w
   both_iff f h i w room x y true s s_low =
       let a : Bool = is_member (meaning m f) s in let b : Bool = is_member (meaning m h) s in
       let n : ℕ = occurrences f + occurrences h in
-      same true s (positive i) ((a && b) || (not a && not b)) (is_member (meaning m (Binary operator.Iff f h)) s) (iff_is a b ∙ sym (member_where m _ s s_low))
-      (own true i (3 + n) s s_low (omega (arith, room)) (omega arith) (positive (i + 1)) (positive (i + 2)) (a && b) (not a && not b) w.0.0
-      (other true (i + 1) (2 + n) s s_low (omega (arith, room)) (omega arith) (positive (i + 3)) (positive (i + 3 + occurrences f)) a b w.2.0 (x true s s_low) (y true s s_low))
-      (other true (i + 2) (1 + n) s s_low (omega (arith, room)) (omega arith) (negative (i + 3)) (negative (i + 3 + occurrences f)) (not a) (not b) w.4.0
-      (denied f (i + 3) (omega (arith, room)) x true s s_low) (denied h (i + 3 + occurrences f) (omega (arith, room)) y true s s_low)))
+      same true s (positive i) ((a && b) || (not a && not b)) (is_member (meaning m (Binary operator.Iff f h)) s)
+      (iff_is a b ∙ sym (member_where m _ s s_low))
+      (own true i (3 + n) s s_low (omega (arith, room)) (omega arith) (positive (i + 1)) (positive (i + 2)) (a && b)
+      (not a && not b) w.0.0
+      (other true (i + 1) (2 + n) s s_low (omega (arith, room)) (omega arith) (positive (i + 3))
+      (positive (i + 3 + occurrences f)) a b w.2.0 (x true s s_low) (y true s s_low))
+      (other true (i + 2) (1 + n) s s_low (omega (arith, room)) (omega arith) (negative (i + 3))
+      (negative (i + 3 + occurrences f)) (not a) (not b) w.4.0
+      (denied f (i + 3) (omega (arith, room)) x true s s_low)
+      (denied h (i + 3 + occurrences f) (omega (arith, room)) y true s s_low)))
   both_iff f h i w room x y false s s_low =
       let a : Bool = is_member (meaning m f) s in let b : Bool = is_member (meaning m h) s in
       let n : ℕ = occurrences f + occurrences h in
-      same false s (negative i) ((not a || b) && (a || not b)) (is_member (meaning m (Binary operator.Iff f h)) s) (not_iff_is a b ∙ sym (member_where m _ s s_low))
-      (other false i (3 + n) s s_low (omega (arith, room)) (omega arith) (negative (i + 1)) (negative (i + 2)) (not a || b) (a || not b) w.1.0
-      (own false (i + 1) (2 + n) s s_low (omega (arith, room)) (omega arith) (positive (i + 3)) (negative (i + 3 + occurrences f)) (not a) b w.3.0
+      same false s (negative i) ((not a || b) && (a || not b)) (is_member (meaning m (Binary operator.Iff f h)) s)
+      (not_iff_is a b ∙ sym (member_where m _ s s_low))
+      (other false i (3 + n) s s_low (omega (arith, room)) (omega arith) (negative (i + 1)) (negative (i + 2))
+      (not a || b) (a || not b) w.1.0
+      (own false (i + 1) (2 + n) s s_low (omega (arith, room)) (omega arith) (positive (i + 3))
+      (negative (i + 3 + occurrences f)) (not a) b w.3.0
       (denied f (i + 3) (omega (arith, room)) x false s s_low) (y false s s_low))
-      (own false (i + 2) (1 + n) s s_low (omega (arith, room)) (omega arith) (negative (i + 3)) (positive (i + 3 + occurrences f)) a (not b) w.5.0
+      (own false (i + 2) (1 + n) s s_low (omega (arith, room)) (omega arith) (negative (i + 3))
+      (positive (i + 3 + occurrences f)) a (not b) w.5.0
       (x false s s_low) (denied h (i + 3 + occurrences f) (omega (arith, room)) y false s s_low)))
 
   continues : (e : Bool) (r : ℕ) → turn e (positive r) (negative r) ≡ node_of e r
@@ -203,14 +222,18 @@ module _ (g : Graph) (m : Structure) (g_ok : IsGraph g) (m_ok : IsStructure m) w
   pub both_diamond : (p : Program) (f : Formula) (i : ℕ)
       → StandsAt g i (Modal Diamond p f)
       → 2 * (i + occurrences (Modal Diamond p f)) ≤ size g
-      → ((e : Bool) → Tests g m g_ok m_ok e (i + 1) p) → Both (i + 1 + program_occurrences p) f → Both i (Modal Diamond p f)
+      → ((e : Bool) → Tests g m g_ok m_ok e (i + 1) p) → Both (i + 1 + program_occurrences p) f → Both i
+      (Modal Diamond p f)
   both_diamond p f i w room tests x e s s_low =
       let r : ℕ = i + 1 + program_occurrences p in
-      same e s (node_of e i) (into m (relation m p) (is_member (meaning m f)) s) (is_member (meaning m (Modal Diamond p f)) s)
+      same e s (node_of e i) (into m (relation m p) (is_member (meaning m f)) s)
+      (is_member (meaning m (Modal Diamond p f)) s)
       (sym (member_where m (some_run m (relation m p) (meaning m f)) s s_low))
-      (leads e i (1 + program_occurrences p + occurrences f) s s_low room (omega arith) (node_of e (i + 1)) (into m (relation m p) (is_member (meaning m f)) s) (by_sign e)
+      (leads e i (1 + program_occurrences p + occurrences f) s s_low room (omega arith) (node_of e (i + 1))
+      (into m (relation m p) (is_member (meaning m f)) s) (by_sign e)
       (program_told g m g_ok m_ok e p (i + 1) (node_of e r) (is_member (meaning m f))
-      (subst (λ k. Runs g e (i + 1) k p) (continues e r) (runs_of g e p (i + 1) (positive r) (negative r) w.2)) (tests e) (omega (arith, room)) (x e)
+      (subst (λ k. NodesAt g e (i + 1) k p) (continues e r) (nodes_of g e p (i + 1) (positive r) (negative r) w.2))
+      (tests e) (omega (arith, room)) (x e)
       (low_of e r (occurrences f) (some_occurrence f) (omega (arith, room))) s s_low))
     where
       by_sign : (d : Bool) → node_at g (node_of d i) ≡ node.And (node_of d (i + 1)) (node_of d (i + 1))
@@ -221,11 +244,14 @@ module _ (g : Graph) (m : Structure) (g_ok : IsGraph g) (m_ok : IsStructure m) w
   pub both_square : (p : Program) (f : Formula) (i : ℕ)
       → StandsAt g i (Modal Square p f)
       → 2 * (i + occurrences (Modal Square p f)) ≤ size g
-      → ((e : Bool) → Tests g m g_ok m_ok e (i + 1) p) → Both (i + 1 + program_occurrences p) f → Both i (Modal Square p f)
+      → ((e : Bool) → Tests g m g_ok m_ok e (i + 1) p) → Both (i + 1 + program_occurrences p) f → Both i
+      (Modal Square p f)
   both_square p f i w room tests x e s s_low =
       same e s (node_of e i) (not (into m (relation m p) out s)) (is_member (meaning m (Modal Square p f)) s)
-      (every_is (relation m p s) (is_member (meaning m f)) (range_with_len 0 m.states) ∙ sym (member_where m (every_run m (relation m p) (meaning m f)) s s_low))
-      (leads e i (1 + program_occurrences p + occurrences f) s s_low room (omega arith) (node_of (not e) (i + 1)) (not (into m (relation m p) out s)) (by_sign e) (turned e))
+      (every_is (relation m p s) (is_member (meaning m f)) (range_with_len 0 m.states) ∙ sym
+      (member_where m (every_run m (relation m p) (meaning m f)) s s_low))
+      (leads e i (1 + program_occurrences p + occurrences f) s s_low room (omega arith) (node_of (not e) (i + 1))
+      (not (into m (relation m p) out s)) (by_sign e) (turned e))
     where
       out : ℕ → Bool
       out t = not (is_member (meaning m f) t)
@@ -239,19 +265,29 @@ module _ (g : Graph) (m : Structure) (g_ok : IsGraph g) (m_ok : IsStructure m) w
       found d =
           let r : ℕ = i + 1 + program_occurrences p in
           program_told g m g_ok m_ok d p (i + 1) (node_of (not d) r) out
-          (subst (λ k. Runs g d (i + 1) k p) (continues_turned d r) (runs_of g d p (i + 1) (negative r) (positive r) w.2)) (tests d) (omega (arith, room))
-          (denied f r (omega (arith, room)) x d) (low_of (not d) r (occurrences f) (some_occurrence f) (omega (arith, room))) s s_low
+          (subst (λ k. NodesAt g d (i + 1) k p) (continues_turned d r)
+          (nodes_of g d p (i + 1) (negative r) (positive r) w.2)) (tests d) (omega (arith, room))
+          (denied f r (omega (arith, room)) x d)
+          (low_of (not d) r (occurrences f) (some_occurrence f) (omega (arith, room))) s s_low
 
       low : (d : Bool) → node_of d (i + 1) < size g
-      low d = low_of d (i + 1) (program_occurrences p + occurrences f) (let some = some_occurrence f in omega (arith, some)) (omega (arith, room))
+      low d =
+          low_of d (i + 1) (program_occurrences p + occurrences f) (let some = some_occurrence f in omega (arith, some))
+          (omega (arith, room))
 
       turned : (d : Bool) → TellsAt d s (node_of (not d) (i + 1)) (not (into m (relation m p) out s))
-      turned true = tells_turned g m g_ok m_ok false s (negative (i + 1)) s_low (low false) (into m (relation m p) out s) (found false)
-      turned false = tells_turned g m g_ok m_ok true s (positive (i + 1)) s_low (low true) (into m (relation m p) out s) (found true)
+      turned true =
+          tells_turned g m g_ok m_ok false s (negative (i + 1)) s_low (low false) (into m (relation m p) out s)
+          (found false)
+      turned false =
+          tells_turned g m g_ok m_ok true s (positive (i + 1)) s_low (low true) (into m (relation m p) out s)
+          (found true)
 
   pub both_repeat : (p : Program) (i : ℕ) → StandsAt g i (Repeat p) → 2 * (i + occurrences (Repeat p)) ≤ size g
       → ((e : Bool) → Tests g m g_ok m_ok e (i + 1) p) → Both i (Repeat p)
   both_repeat p i w room tests true =
-      repeat_told g m g_ok m_ok true p i w.0.0 w.0.1 (runs_of g true p (i + 1) (positive i) (negative i) w.2) (tests true) room
+      repeat_told g m g_ok m_ok true p i w.0.0 w.0.1 (nodes_of g true p (i + 1) (positive i) (negative i) w.2)
+      (tests true) room
   both_repeat p i w room tests false =
-      repeat_told g m g_ok m_ok false p i w.1.0 w.1.1 (runs_of g false p (i + 1) (positive i) (negative i) w.2) (tests false) room
+      repeat_told g m g_ok m_ok false p i w.1.0 w.1.1 (nodes_of g false p (i + 1) (positive i) (negative i) w.2)
+      (tests false) room

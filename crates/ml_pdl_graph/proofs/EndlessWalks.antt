@@ -1,7 +1,8 @@
 -- Walks that follow a strategy and go on for ever.
 --
--- Where a strategy wins, no situation can be left by a walk that follows it to a next situation, for ever, if the lowest
--- priority of each closed walk of these is bad for its player: there are finitely many vertices, so one comes again.
+-- Where a strategy wins, no situation can be left by a walk that follows it to a next situation, for ever, if the
+-- lowest priority of each closed walk of these is bad for its player: there are finitely many vertices, so one comes
+-- again.
 --
 --   Onward           == a walk from the vertex of a situation to that of a next one; Q is what is known of it
 --   never_for_ever   == the strategy doesn't win from such a situation
@@ -23,7 +24,8 @@ pub record Stretch (g : ParityGame) (p : Player) (s : ℕ → ℕ) (Q : ℕ → 
   pub way : FollowedWalk g p s v lowest w
   pub known : Q v lowest w
 
-pub record Onward (g : ParityGame) (p : Player) (s : ℕ → ℕ) (Q : ℕ → ℕ → ℕ → Type 0) (S : Type 0) (vertex : S → ℕ) (x : S) : Type 0 where
+pub record Onward (g : ParityGame) (p : Player) (s : ℕ → ℕ) (Q : ℕ → ℕ → ℕ → Type 0) (S : Type 0) (vertex : S → ℕ)
+    (x : S) : Type 0 where
   pub to : S
   pub stretch : Stretch g p s Q (vertex x) (vertex to)
 
@@ -46,8 +48,10 @@ module _ (g : ParityGame) (p : Player) (s : ℕ → ℕ) (Q : ℕ → ℕ → �
   between x i zero less = absurd (omega arith)
   between x i (suc j) less =
       ⊎_elim
-      (λ (same : i ≡ j). subst (λ n. Stretch g p s Q (vertex (at x n)) (vertex (at x (suc j)))) (sym same) (next (at x j)).stretch)
-      (λ (apart : i ≡ j → ⊥). both (vertex (at x i)) (vertex (at x j)) (vertex (at x (suc j))) (between x i j (omega arith)) (next (at x j)).stretch)
+      (λ (same : i ≡ j). subst (λ n. Stretch g p s Q (vertex (at x n)) (vertex (at x (suc j)))) (sym same)
+      (next (at x j)).stretch)
+      (λ (apart : i ≡ j → ⊥). both (vertex (at x i)) (vertex (at x j)) (vertex (at x (suc j)))
+      (between x i j (omega arith)) (next (at x j)).stretch)
       (cases_eq i j)
 
   wins_on : (x : S) (k : ℕ) → WinsFrom g p s (vertex x) → WinsFrom g p s (vertex (at x k))
@@ -62,5 +66,7 @@ module _ (g : ParityGame) (p : Player) (s : ℕ → ℕ) (Q : ℕ → ℕ → �
       from : Twice (λ k. vertex (at x k)) (size g) → ⊥
       from t =
           let v : ℕ = vertex (at x t.first) in
-          let closed : Stretch g p s Q v v = subst (Stretch g p s Q v) (sym t.same) (between x t.first t.second t.apart) in
-          not_both (side closed.lowest) p (closed_walk_good g p s v closed.lowest closed.way (wins_on x t.first wins)) (bad v closed.lowest closed.known)
+          let closed : Stretch g p s Q v v =
+          subst (Stretch g p s Q v) (sym t.same) (between x t.first t.second t.apart) in
+          not_both (side closed.lowest) p (closed_walk_good g p s v closed.lowest closed.way (wins_on x t.first wins))
+          (bad v closed.lowest closed.known)

@@ -2,9 +2,13 @@
 pub mod EndlessWalks
 -- who wins the nodes of a graph
 pub mod Players
+-- programs in a graph
+pub mod ProgramNodes
 -- runs of programs as walks
 pub mod Runs
 -- where no run leads
+pub mod Unmet
+pub mod Traps
 pub mod NoRuns
 -- programs and infinite repetition
 pub mod Programs

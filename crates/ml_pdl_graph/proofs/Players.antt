@@ -1,18 +1,17 @@
 -- Who wins the nodes of a graph, for both players alike.
 --
--- With a sign e goes the player who shows something at the nodes with that sign: Even, who shows a formula at its positive
--- node or finds a run at a program's diamond, and Odd, who refutes the formula at its negative node, or finds a run at the
--- box that is to be refuted. So a formula holds exactly where that player wins its node, with either sign, and all is said
--- once.
+-- With a sign goes a player: with positive nodes and diamonds Even, who shows that the formula holds, or finds a run;
+-- with negative nodes and boxes Odd, who shows that the formula's negation fails, or finds a run by which the box
+-- fails. So a formula holds exactly where the player of the sign wins its node of that sign, and all is said once.
 --
 --   player_of e            == that player; node_of e i the node of occurrence i
---   own_by, other_by, go_by == with the two children, the node at which that player moves, and that at which the opponent
---                             does; the node at which the player takes an edge
+--   own_by, other_by, go_by == the node with two children at which that player moves, that at which the opponent does,
+--                             and the node at which the player takes an edge
 --   Tells g m q s n b      == q wins the node n at the state s exactly if b is true
 --   tells_other            == the opponent wins it exactly if b is false
 --   tells_leads, tells_own, tells_other_by, tells_literal, tells_constant == at a node of each kind
-use Rattle.std.proofs.Common.{◌≡◌, ◌↔◌, ℕ, zero, suc, ◌+◌, ◌*◌, ◌<◌, ◌≤◌, ◌⊎◌, Bool, true, false, ◌&&◌, ◌||◌, not, [], ◌∷◌, map, Contains, inl, inr, refl, sym, ap, subst, ◌∙◌, ⊎_elim, arith}
-use Rattle.std.proofs.lemmas.Bool.{false≢true, and_parts, and_from, cases_Bool}
+use Rattle.std.proofs.Common.{◌≡◌, ◌↔◌, ℕ, ◌+◌, ◌*◌, ◌<◌, ◌≤◌, ◌⊎◌, Bool, true, false, ◌&&◌, ◌||◌, not, [], ◌∷◌, map, Contains, inl, inr, refl, sym, ap, subst, ◌∙◌, ⊎_elim, arith}
+use Rattle.std.proofs.lemmas.Bool.{false≢true, and_parts, and_from}
 use Rattle.ml_lists.specs.Member.{IsMember}
 use Rattle.ml_lists.proofs.Member.{Image, member-map, member-map_from}
 use Rattle.ml_lists.proofs.Members.{member_of_contains, contains_of_member}
@@ -89,7 +88,8 @@ abbrev pub Says : Type 0 → Bool → Type 0
 Says P b = P ↔ (b ≡ true)
 
 both_say : (P Q : Type 0) (a b : Bool) → Says P a → Says Q b → Says (P × Q) (a && b)
-both_say P Q a b x y = (λ h. and_from a b (x.0 h.0) (y.0 h.1), λ e. let parts = and_parts a b e in (x.1 parts.0, y.1 parts.1))
+both_say P Q a b x y =
+    (λ h. and_from a b (x.0 h.0) (y.0 h.1), λ e. let parts = and_parts a b e in (x.1 parts.0, y.1 parts.1))
 
 either_says : (P Q : Type 0) (a b : Bool) → Says P a → Says Q b → Says (P ⊎ Q) (a || b)
 either_says P Q true b x y = (λ h. refl, λ e. inl (x.1 refl))
@@ -131,12 +131,14 @@ module _ (g : Graph) (m : Structure) (g_ok : IsGraph g) (m_ok : IsStructure m) w
       → Wins (checking_game g m) q (vertex_number g m v)
       → Wins (checking_game g m) (opponent q) (vertex_number g m v)
       → ⊥
-  never_both q v is = clash (checking_game g m) (is_game g m g_ok m_ok) q (vertex_number g m v) (vertex_low g m g_ok m_ok v is)
+  never_both q v is =
+      clash (checking_game g m) (is_game g m g_ok m_ok) q (vertex_number g m v) (vertex_low g m g_ok m_ok v is)
 
   pub one_of_both : (q : Player) (v : Vertex)
       → IsVertex g m v
       → Wins (checking_game g m) q (vertex_number g m v) ⊎ Wins (checking_game g m) (opponent q) (vertex_number g m v)
-  one_of_both q v is = won_by_either (checking_game g m) (is_game g m g_ok m_ok) q (vertex_number g m v) (vertex_low g m g_ok m_ok v is)
+  one_of_both q v is =
+      won_by_either (checking_game g m) (is_game g m g_ok m_ok) q (vertex_number g m v) (vertex_low g m g_ok m_ok v is)
 
   -- the opponent wins exactly where the player doesn't
   pub tells_other : (q : Player) (s n : ℕ)
@@ -151,7 +153,8 @@ module _ (g : Graph) (m : Structure) (g_ok : IsGraph g) (m_ok : IsStructure m) w
   )
   tells_other q s n s_low n_low false says = (
     λ other. refl,
-    λ e. ⊎_elim (λ (own : WinsAt q s n). absurd (false≢true (says.0 own))) (λ (other : WinsAt (opponent q) s n). other) (one_of_both q (Pair s n) (s_low, n_low)),
+    λ e. ⊎_elim (λ (own : WinsAt q s n). absurd (false≢true (says.0 own))) (λ (other : WinsAt (opponent q) s n). other)
+        (one_of_both q (Pair s n) (s_low, n_low)),
   )
 
   -- with the other sign
@@ -161,7 +164,8 @@ module _ (g : Graph) (m : Structure) (g_ok : IsGraph g) (m_ok : IsStructure m) w
       → (b : Bool)
       → Tells (player_of e) s n b
       → Tells (player_of (not e)) s n (not b)
-  tells_turned e s n s_low n_low b says = subst (λ q. Tells q s n (not b)) (sym (other_player e)) (tells_other (player_of e) s n s_low n_low b says)
+  tells_turned e s n s_low n_low b says =
+      subst (λ q. Tells q s n (not b)) (sym (other_player e)) (tells_other (player_of e) s n s_low n_low b says)
 
   module _ (s n : ℕ) (s_low : s < m.states) (n_low : n < size g) where
     own_won : (q : Player) (x : Node)
@@ -172,10 +176,21 @@ module _ (g : Graph) (m : Structure) (g_ok : IsGraph g) (m_ok : IsStructure m) w
         → WinsAt q s n ↔ (WinsAt q s l ⊎ WinsAt q s r)
     own_won q x is own l r next = (
       λ a. let good = step.0 a in let image = move_from (Pair s n) (s_low, n_low) good.to good.move in
-          there image.from (subst (Wins (checking_game g m) q) image.holds good.wins) (subst (IsMember image.from) leads image.member),
+          there image.from (subst (Wins (checking_game g m) q) image.holds good.wins)
+          (subst (IsMember image.from) leads image.member),
       λ h. ⊎_elim
-          (λ (a : WinsAt q s l). step.1 (record { to = at s l; move = move_to (Pair s n) (s_low, n_low) (Pair s l) (subst (IsMember (Pair s l)) (sym leads) (inl refl)); wins = a }))
-          (λ (a : WinsAt q s r). step.1 (record { to = at s r; move = move_to (Pair s n) (s_low, n_low) (Pair s r) (subst (IsMember (Pair s r)) (sym leads) (inr (inl refl))); wins = a }))
+          (λ (a : WinsAt q s l). step.1 (record {
+            to = at s l;
+            move = move_to (Pair s n) (s_low, n_low) (Pair s l)
+                (subst (IsMember (Pair s l)) (sym leads) (inl refl));
+            wins = a;
+          }))
+          (λ (a : WinsAt q s r). step.1 (record {
+            to = at s r;
+            move = move_to (Pair s n) (s_low, n_low) (Pair s r)
+                (subst (IsMember (Pair s r)) (sym leads) (inr (inl refl)));
+            wins = a;
+          }))
           h,
     )
       where
@@ -183,7 +198,9 @@ module _ (g : Graph) (m : Structure) (g_ok : IsGraph g) (m_ok : IsStructure m) w
         leads = ap (successors_of g m s) is ∙ next
 
         step : WinsAt q s n ↔ WinningMove (checking_game g m) q (at s n)
-        step = own_vertex_won (checking_game g m) (is_game g m g_ok m_ok) q (at s n) (vertex_low g m g_ok m_ok (Pair s n) (s_low, n_low))
+        step =
+            own_vertex_won (checking_game g m) (is_game g m g_ok m_ok) q (at s n)
+            (vertex_low g m g_ok m_ok (Pair s n) (s_low, n_low))
             (owner_is g m (Pair s n) (s_low, n_low) ∙ ap mover is ∙ own)
 
         there : (w : Vertex)
@@ -202,18 +219,23 @@ module _ (g : Graph) (m : Structure) (g_ok : IsGraph g) (m_ok : IsStructure m) w
         → WinsAt q s n ↔ (WinsAt q s l × WinsAt q s r)
     other_won q x is own l r next = (
       λ a. (
-        step.0 a (at s l) (move_to (Pair s n) (s_low, n_low) (Pair s l) (subst (IsMember (Pair s l)) (sym leads) (inl refl))),
-        step.0 a (at s r) (move_to (Pair s n) (s_low, n_low) (Pair s r) (subst (IsMember (Pair s r)) (sym leads) (inr (inl refl)))),
+        step.0 a (at s l) (move_to (Pair s n) (s_low, n_low) (Pair s l)
+            (subst (IsMember (Pair s l)) (sym leads) (inl refl))),
+        step.0 a (at s r) (move_to (Pair s n) (s_low, n_low) (Pair s r)
+            (subst (IsMember (Pair s r)) (sym leads) (inr (inl refl)))),
       ),
       λ h. step.1 (λ v move. let image = move_from (Pair s n) (s_low, n_low) v move in
-          subst (Wins (checking_game g m) q) (sym image.holds) (there h image.from (subst (IsMember image.from) leads image.member))),
+          subst (Wins (checking_game g m) q) (sym image.holds)
+          (there h image.from (subst (IsMember image.from) leads image.member))),
     )
       where
         leads : successors g m (Pair s n) ≡ Pair s l ∷ Pair s r ∷ []
         leads = ap (successors_of g m s) is ∙ next
 
         step : WinsAt q s n ↔ ((v : ℕ) → HasMove (checking_game g m) (at s n) v → Wins (checking_game g m) q v)
-        step = other_vertex_won (checking_game g m) (is_game g m g_ok m_ok) q (at s n) (vertex_low g m g_ok m_ok (Pair s n) (s_low, n_low))
+        step =
+            other_vertex_won (checking_game g m) (is_game g m g_ok m_ok) q (at s n)
+            (vertex_low g m g_ok m_ok (Pair s n) (s_low, n_low))
             (owner_is g m (Pair s n) (s_low, n_low) ∙ ap mover is ∙ own)
 
         there : (WinsAt q s l × WinsAt q s r)
@@ -283,7 +305,8 @@ module _ (g : Graph) (m : Structure) (g_ok : IsGraph g) (m_ok : IsStructure m) w
     tells_constant = even_constant
 
     pub tells_negated_constant : (b : Bool) → node_at g n ≡ constant (not b) → Tells Odd s n b
-    tells_negated_constant b is = subst (Tells Odd s n) (not_not b) (tells_other Even s n s_low n_low (not b) (even_constant (not b) is))
+    tells_negated_constant b is =
+        subst (Tells Odd s n) (not_not b) (tells_other Even s n s_low n_low (not b) (even_constant (not b) is))
 
     pub tells_literal : (q : ℕ) → node_at g n ≡ node.Lit q true → Tells Even s n (lists m s (prop_at g q))
     tells_literal q is = even_literal q true is

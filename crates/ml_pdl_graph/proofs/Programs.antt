@@ -1,6 +1,6 @@
 -- A program's node is won by the player of its sign exactly where a run of it leads to where the continuation is won.
 --
---   program_told  == so it is
+--   program_told  == it is
 --   repeat_told   == and an infinite repetition exactly where its program can be run for ever
 use Rattle.std.proofs.Common.{◌≡◌, ℕ, ◌+◌, ◌*◌, ◌<◌, ◌≤◌, Bool, true, false, min, refl, ap, ◌∙◌, ⊎_elim, arith}
 use Rattle.std.proofs.lemmas.Bool.{cases_Bool}
@@ -24,7 +24,8 @@ use Rattle.ml_pdl.proofs.StarRelations.{repeat_goes_on, repeat_has}
 use Rattle.ml_pdl_graph.proofs.EndlessWalks.{Onward, never_for_ever}
 use Rattle.ml_pdl_graph.proofs.NoRuns.{unmet_lost}
 use Rattle.ml_pdl_graph.proofs.Players.{player_of, node_of, node_range, at, WinsAt, Tells, never_both, one_of_both, tells_leads}
-use Rattle.ml_pdl_graph.proofs.Runs.{Runs, Tests, walked, single_move, some_program_occurrence}
+use Rattle.ml_pdl_graph.proofs.ProgramNodes.{NodesAt, Tests, some_program_occurrence}
+use Rattle.ml_pdl_graph.proofs.Runs.{walked, single_move}
 
 module _ (g : Graph) (m : Structure) (g_ok : IsGraph g) (m_ok : IsStructure m) (e : Bool) where
   abbrev place : ℕ → ℕ → ℕ
@@ -39,7 +40,7 @@ module _ (g : Graph) (m : Structure) (g_ok : IsGraph g) (m_ok : IsStructure m) (
   node_low : (i n : ℕ) → 1 ≤ n → 2 * (i + n) ≤ size g → node_of e i < size g
   node_low i n some room = let range = node_range e i in omega (arith, range.1, room, some)
 
-  module _ (p : Program) (i k : ℕ) (K : ℕ → Bool) (w : Runs g e i k p) (tests : Tests g m g_ok m_ok e i p)
+  module _ (p : Program) (i k : ℕ) (K : ℕ → Bool) (w : NodesAt g e i k p) (tests : Tests g m g_ok m_ok e i p)
       (room : 2 * (i + program_occurrences p) ≤ size g)
       (known : (t : ℕ) → t < m.states → Tells g m g_ok m_ok us t k (K t)) (k_low : k < size g) where
     pub program_told : (s : ℕ) → s < m.states → Tells g m g_ok m_ok us s (node_of e i) (into m (relation m p) K s)
@@ -49,34 +50,40 @@ module _ (g : Graph) (m : Structure) (g_ok : IsGraph g) (m_ok : IsStructure m) (
         there wins =
             ⊎_elim
             (λ (is : into m (relation m p) K s ≡ true). is)
-            (λ (never : into m (relation m p) K s ≡ false). absurd (unmet_lost g m g_ok m_ok e p i k K w tests room known k_low s s_low never wins))
+            (λ (never : into m (relation m p) K s ≡ false). absurd
+            (unmet_lost g m g_ok m_ok e p i k K w tests room known k_low s s_low never wins))
             (cases_Bool (into m (relation m p) K s))
 
         -- the opponent's strategy can't keep a run from where the continuation is won
         lost : into m (relation m p) K s ≡ true → WinsAt g m g_ok m_ok them s (node_of e i) → ⊥
         lost is theirs =
             let some = run_of m (relation m p) K s is in
-            let way = walked g m g_ok m_ok e theirs.strategy theirs.is_strategy p i k w tests room s some.state s_low some.low some.run theirs.wins in
+            let way = walked g m g_ok m_ok e theirs.strategy theirs.is_strategy p i k w tests room s some.state s_low
+            some.low some.run theirs.wins in
             let there_too : Wins (checking_game g m) them (place some.state k) = record {
               strategy = theirs.strategy;
               is_strategy = theirs.is_strategy;
-              wins = won_at_end (checking_game g m) them theirs.strategy (place s (node_of e i)) way.lowest (place some.state k) way.way theirs.wins;
+              wins =
+                  won_at_end (checking_game g m) them theirs.strategy (place s (node_of e i)) way.lowest
+                  (place some.state k) way.way theirs.wins;
             } in
-            never_both g m g_ok m_ok us (Pair some.state k) (some.low, k_low) ((known some.state some.low).1 some.inside) there_too
+            never_both g m g_ok m_ok us (Pair some.state k) (some.low, k_low)
+            ((known some.state some.low).1 some.inside) there_too
 
         back : into m (relation m p) K s ≡ true → WinsAt g m g_ok m_ok us s (node_of e i)
         back is =
             ⊎_elim
             (λ (ours : WinsAt g m g_ok m_ok us s (node_of e i)). ours)
             (λ (theirs : WinsAt g m g_ok m_ok them s (node_of e i)). absurd (lost is theirs))
-            (one_of_both g m g_ok m_ok us (Pair s (node_of e i)) (s_low, node_low i (program_occurrences p) (some_program_occurrence p) room))
+            (one_of_both g m g_ok m_ok us (Pair s (node_of e i))
+            (s_low, node_low i (program_occurrences p) (some_program_occurrence p) room))
 
   abbrev pub repeat_priority : Bool → ℕ
   repeat_priority true = 0
   repeat_priority false = 1
 
   module _ (p : Program) (i : ℕ) (leads : node_at g (node_of e i) ≡ node.And (node_of e (i + 1)) (node_of e (i + 1)))
-      (priority : priority_at g (node_of e i) ≡ repeat_priority e) (w : Runs g e (i + 1) (node_of e i) p)
+      (priority : priority_at g (node_of e i) ≡ repeat_priority e) (w : NodesAt g e (i + 1) (node_of e i) p)
       (tests : Tests g m g_ok m_ok e (i + 1) p) (room : 2 * (i + (1 + program_occurrences p)) ≤ size g) where
     abbrev own : ℕ
     own = node_of e i
@@ -93,8 +100,10 @@ module _ (g : Graph) (m : Structure) (g_ok : IsGraph g) (m_ok : IsStructure m) (
 
     K_says : (s : ℕ) → s < m.states → Tells g m g_ok m_ok us s own (K s)
     K_says s s_low = (
-      λ wins. same_player-true (who.win (place s own)) us (who.only (place s own) us (vertex_low g m g_ok m_ok (Pair s own) (s_low, own_low)) wins),
-      λ is. won (checking_game g m) who us (place s own) (vertex_low g m g_ok m_ok (Pair s own) (s_low, own_low)) (same_player-from_true (who.win (place s own)) us is),
+      λ wins. same_player-true (who.win (place s own)) us
+          (who.only (place s own) us (vertex_low g m g_ok m_ok (Pair s own) (s_low, own_low)) wins),
+      λ is. won (checking_game g m) who us (place s own) (vertex_low g m g_ok m_ok (Pair s own) (s_low, own_low))
+          (same_player-from_true (who.win (place s own)) us is),
     )
 
     round_says : (s : ℕ) → s < m.states → Tells g m g_ok m_ok us s own (into m (relation m p) K s)
@@ -104,7 +113,8 @@ module _ (g : Graph) (m : Structure) (g_ok : IsGraph g) (m_ok : IsStructure m) (
 
     there : (s : ℕ) → s < m.states → WinsAt g m g_ok m_ok us s own → is_member (meaning m (Repeat p)) s ≡ true
     there s s_low wins =
-        repeat_has m p K (λ t t_low is. (round_says t t_low).0 ((K_says t t_low).1 is)) s s_low ((K_says s s_low).0 wins)
+        repeat_has m p K (λ t t_low is. (round_says t t_low).0 ((K_says t t_low).1 is)) s s_low
+        ((K_says s s_low).0 wins)
 
     module _ (strategy : ℕ → ℕ) (is_strategy : IsStrategyOf (checking_game g m) them strategy) where
       record Round : Type 0 where
@@ -132,17 +142,30 @@ module _ (g : Graph) (m : Structure) (g_ok : IsGraph g) (m_ok : IsStructure m) (
 
       next : (x : Round) → Onward (checking_game g m) them strategy Known Round vertex x
       next x =
-          let some = run_of m (relation m p) (is_member (meaning m (Repeat p))) x.state (repeat_goes_on m p x.state x.low x.inside) in
-          let begin = single_move g m g_ok m_ok e strategy is_strategy x.state own (node_of e (i + 1)) x.low own_low leads in
-          let behind = won_behind (checking_game g m) them strategy (vertex x) (place x.state (node_of e (i + 1))) begin x.lost in
-          let way = walked g m g_ok m_ok e strategy is_strategy p (i + 1) own w tests (omega (arith, room)) x.state some.state x.low some.low some.run behind in
-          let lost = won_at_end (checking_game g m) them strategy (place x.state (node_of e (i + 1))) way.lowest (place some.state own) way.way behind in
+          let some = run_of m (relation m p) (is_member (meaning m (Repeat p))) x.state
+          (repeat_goes_on m p x.state x.low x.inside) in
+          let begin = single_move g m g_ok m_ok e strategy is_strategy x.state own (node_of e (i + 1)) x.low own_low
+          leads in
+          let behind = won_behind (checking_game g m) them strategy (vertex x) (place x.state (node_of e (i + 1))) begin
+          x.lost in
+          let way = walked g m g_ok m_ok e strategy is_strategy p (i + 1) own w tests (omega (arith, room)) x.state
+          some.state x.low some.low some.run behind in
+          let lost = won_at_end (checking_game g m) them strategy (place x.state (node_of e (i + 1))) way.lowest
+          (place some.state own) way.way behind in
           record {
             to = record { state = some.state; low = some.low; inside = some.inside; lost = lost };
             stretch = record {
               lowest = min (priority_of (checking_game g m) (vertex x)) way.lowest;
               way = before (vertex x) (place x.state (node_of e (i + 1))) begin way.way;
-              known = let one = small e in omega (arith, priority_is g m (Pair x.state own) (x.low, own_low), priority, one, way.high);
+              known =
+                  let one =
+                  small e in omega (
+                    arith,
+                    priority_is g m (Pair x.state own) (x.low, own_low),
+                    priority,
+                    one,
+                    way.high,
+                  );
             };
           }
 
@@ -162,6 +185,7 @@ module _ (g : Graph) (m : Structure) (g_ok : IsGraph g) (m_ok : IsStructure m) (
       there s s_low,
       λ is. ⊎_elim
           (λ (ours : WinsAt g m g_ok m_ok us s own). ours)
-          (λ (theirs : WinsAt g m g_ok m_ok them s own). absurd (never_kept theirs.strategy theirs.is_strategy s s_low is theirs.wins))
+          (λ (theirs : WinsAt g m g_ok m_ok them s own). absurd
+          (never_kept theirs.strategy theirs.is_strategy s s_low is theirs.wins))
           (one_of_both g m g_ok m_ok us (Pair s own) (s_low, own_low)),
     )

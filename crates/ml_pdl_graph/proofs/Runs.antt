@@ -1,15 +1,10 @@
--- Programs in a graph, seen by the player who looks for a run.
+-- Runs of programs as walks.
 --
---   star_priority e     == the priority of a star's node, which is bad for that player
---   Runs g e i k p      == at the occurrence i, with the sign e, stand the nodes of p, which go on at the node k
---   runs_of             == where a program stands in a graph, they do with either sign
---   Test, Tests         == the formula of a test is won by that player where it holds; so are those of all tests of p
---   Walked v w          == a walk from v to w that follows a strategy of the opponent's, through no priority below 2
---   walked              == where the opponent wins a program's node, a run of the program is such a walk
+--   Walked v w  == a walk from v to w that follows a strategy of the opponent's, through no priority below 2
+--   walked      == where the opponent wins a program's node, a run of the program is such a walk
 use Rattle.std.proofs.Common.{◌≡◌, ℕ, zero, suc, ◌+◌, ◌*◌, ◌<◌, ◌≤◌, ◌==◌, ◌⊎◌, Bool, true, false, ◌&&◌, min, List, [], ◌∷◌, inl, inr, refl, sym, ap, subst, ◌∙◌, ⊎_elim, arith}
 use Rattle.std.specs.Str.{bytes_eq}
 use Rattle.std.proofs.lemmas.Bool.{false≢true, and_parts, or_cases}
-use Rattle.std.proofs.lemmas.Bool.Decides.{nat_tests}
 use Rattle.ml_lists.specs.Iterate.{iterate}
 use Rattle.ml_lists.specs.Member.{IsMember}
 use Rattle.ml_lists.proofs.Member.{list_any-member, member-map, member-filter}
@@ -27,87 +22,11 @@ use Rattle.ml_graph.specs.Graph.{Graph, IsGraph, size, node_at, priority_at, act
 use Rattle.ml_graph.specs.CheckingGame.{Vertex, Pair, mover, vertex_number, successors, successors_of, pairs_or_sink, targets, checking_game}
 use Rattle.ml_graph.proofs.CheckingGame.{owner_is, priority_is}
 use Rattle.ml_graph.proofs.OneStep.{vertex_low}
-use Rattle.ml_pdl.specs.Formula.{Formula, Const, Prop, Not, Binary, Modal, Repeat, Program, Act, Seq, Alt, Star, Test, occurrences, program_occurrences}
+use Rattle.ml_pdl.specs.Formula.{Formula, Program, Act, Seq, Alt, Star, Test, occurrences, program_occurrences}
 use Rattle.ml_pdl.specs.Meaning.{Relation, identity, either, followed_by, has_edge, meaning, relation}
 use Rattle.ml_pdl.proofs.RunsInto.{same_number, run_of}
-use Rattle.ml_pdl_graph.specs.PdlGraph.{positive, negative, plain, ProgramStandsAt}
-use Rattle.ml_pdl_graph.proofs.Players.{player_of, node_of, own_by, other_by, go_by, own_mover, other_mover, go_mover, own_children, other_children, node_range, at, WinsAt, Tells, move_to, move_from, never_both}
-
-abbrev pub star_priority : Bool → ℕ
-star_priority true = 3
-star_priority false = 2
-
--- a thing of the diamond, or of the box
-abbrev pub turn : Bool → ℕ → ℕ → ℕ
-turn true d b = d
-turn false d b = b
-
-abbrev pub Runs : Graph → Bool → ℕ → ℕ → Program → Type 0
-Runs g e i k (Act name) =
-    (a : ℕ) × (node_at g (node_of e i) ≡ go_by e a k) × (priority_at g (node_of e i) ≡ plain) × (action_at g a ≡ name)
-Runs g e i k (Seq p q) =
-    (node_at g (node_of e i) ≡ node.And (node_of e (i + 1)) (node_of e (i + 1))) × (priority_at g (node_of e i) ≡ plain)
-    × Runs g e (i + 1) (node_of e (i + 1 + program_occurrences p)) p × Runs g e (i + 1 + program_occurrences p) k q
-Runs g e i k (Alt p q) =
-    (node_at g (node_of e i) ≡ own_by e (node_of e (i + 1)) (node_of e (i + 1 + program_occurrences p)))
-    × (priority_at g (node_of e i) ≡ plain)
-    × Runs g e (i + 1) k p × Runs g e (i + 1 + program_occurrences p) k q
-Runs g e i k (Star p) =
-    (node_at g (node_of e i) ≡ own_by e k (node_of e (i + 1))) × (priority_at g (node_of e i) ≡ star_priority e)
-    × Runs g e (i + 1) (node_of e i) p
-Runs g e i k (Test f) =
-    (node_at g (node_of e i) ≡ other_by e (node_of e (i + 1)) k) × (priority_at g (node_of e i) ≡ plain)
-
-pub runs_of : (g : Graph) (e : Bool) (p : Program) (i d b : ℕ) → ProgramStandsAt g i d b p → Runs g e i (turn e d b) p
-runs_of g true (Act name) i d b s = (s.0, s.1.0, s.1.1, s.3)
-runs_of g false (Act name) i d b s = (s.0, s.2.0, s.2.1, s.3)
-runs_of g true (Seq p q) i d b s = (
-  s.0.0,
-  s.0.1,
-  runs_of g true p (i + 1) (positive (i + 1 + program_occurrences p)) (negative (i + 1 + program_occurrences p)) s.2,
-  runs_of g true q (i + 1 + program_occurrences p) d b s.3,
-)
-runs_of g false (Seq p q) i d b s = (
-  s.1.0,
-  s.1.1,
-  runs_of g false p (i + 1) (positive (i + 1 + program_occurrences p)) (negative (i + 1 + program_occurrences p)) s.2,
-  runs_of g false q (i + 1 + program_occurrences p) d b s.3,
-)
-runs_of g true (Alt p q) i d b s =
-    (s.0.0, s.0.1, runs_of g true p (i + 1) d b s.2, runs_of g true q (i + 1 + program_occurrences p) d b s.3)
-runs_of g false (Alt p q) i d b s =
-    (s.1.0, s.1.1, runs_of g false p (i + 1) d b s.2, runs_of g false q (i + 1 + program_occurrences p) d b s.3)
-runs_of g true (Star p) i d b s = (s.0.0, s.0.1, runs_of g true p (i + 1) (positive i) (negative i) s.2)
-runs_of g false (Star p) i d b s = (s.1.0, s.1.1, runs_of g false p (i + 1) (positive i) (negative i) s.2)
-runs_of g true (Test f) i d b s = s.0
-runs_of g false (Test f) i d b s = s.1
-
--- a formula's node is won by the player of its sign where the formula holds
-abbrev pub Shown : (g : Graph) (m : Structure) → IsGraph g → IsStructure m → Bool → ℕ → Formula → Type 0
-Shown g m g_ok m_ok e i f = (s : ℕ) → s < m.states → Tells g m g_ok m_ok (player_of e) s (node_of e i) (is_member (meaning m f) s)
-
-abbrev pub Tests : (g : Graph) (m : Structure) → IsGraph g → IsStructure m → Bool → ℕ → Program → Type 0
-Tests g m g_ok m_ok e i (Act name) = Unit {0}
-Tests g m g_ok m_ok e i (Seq p q) = Tests g m g_ok m_ok e (i + 1) p × Tests g m g_ok m_ok e (i + 1 + program_occurrences p) q
-Tests g m g_ok m_ok e i (Alt p q) = Tests g m g_ok m_ok e (i + 1) p × Tests g m g_ok m_ok e (i + 1 + program_occurrences p) q
-Tests g m g_ok m_ok e i (Star p) = Tests g m g_ok m_ok e (i + 1) p
-Tests g m g_ok m_ok e i (Test f) = Shown g m g_ok m_ok e (i + 1) f
-
--- a formula has an occurrence, and so does a program
-pub some_occurrence : (f : Formula) → 1 ≤ occurrences f
-some_occurrence (Const b) = omega arith
-some_occurrence (Prop p) = omega arith
-some_occurrence (Not f) = omega arith
-some_occurrence (Binary op f h) = let some = some_occurrence f in omega (arith, some)
-some_occurrence (Modal d p f) = omega arith
-some_occurrence (Repeat p) = omega arith
-
-pub some_program_occurrence : (p : Program) → 1 ≤ program_occurrences p
-some_program_occurrence (Act a) = omega arith
-some_program_occurrence (Seq p q) = omega arith
-some_program_occurrence (Alt p q) = omega arith
-some_program_occurrence (Star p) = omega arith
-some_program_occurrence (Test f) = omega arith
+use Rattle.ml_pdl_graph.proofs.Players.{player_of, node_of, own_by, other_by, go_by, own_mover, other_mover, go_mover, own_children, other_children, node_range, at, WinsAt, move_to, move_from, never_both}
+use Rattle.ml_pdl_graph.proofs.ProgramNodes.{star_priority, NodesAt, Tests, some_occurrence}
 
 -- to all targets of an edge
 pub go_pairs : (g : Graph) (m : Structure) (s : ℕ) (e : Bool) (a k : ℕ)
@@ -136,7 +55,9 @@ edge_target m a s t is =
     let some = list_any-member (λ d. (d.source == s) && bytes_eq d.action a && (d.target == t)) m.edges is in
     let parts = three (some.item.source == s) (bytes_eq some.item.action a) (some.item.target == t) some.passes in
     subst (λ x. IsMember x (targets m s a)) (same_number some.item.target t parts.2)
-    (member-map (λ (d : Edge). d.target) some.item _ (member-filter (λ d. (d.source == s) && bytes_eq d.action a) some.item m.edges some.member (two (some.item.source == s) (bytes_eq some.item.action a) parts.0 parts.1)))
+    (member-map (λ (d : Edge). d.target) some.item _
+    (member-filter (λ d. (d.source == s) && bytes_eq d.action a) some.item m.edges some.member
+    (two (some.item.source == s) (bytes_eq some.item.action a) parts.0 parts.1)))
 
 module _ (g : Graph) (m : Structure) (g_ok : IsGraph g) (m_ok : IsStructure m) (e : Bool) (strategy : ℕ → ℕ)
     (is_strategy : IsStrategyOf (checking_game g m) (opponent (player_of e)) strategy) where
@@ -201,7 +122,8 @@ module _ (g : Graph) (m : Structure) (g_ok : IsGraph g) (m_ok : IsStructure m) (
       → successors_of g m s (node_at g n) ≡ Pair s l ∷ Pair s r ∷ []
       → (strategy (place s n) ≡ place s l) ⊎ (strategy (place s n) ≡ place s r)
   chosen_is s n s_low n_low own l r next =
-      let move = is_strategy (place s n) (vertex_low g m g_ok m_ok (Pair s n) (s_low, n_low)) (owner_is g m (Pair s n) (s_low, n_low) ∙ own) in
+      let move = is_strategy (place s n) (vertex_low g m g_ok m_ok (Pair s n) (s_low, n_low))
+      (owner_is g m (Pair s n) (s_low, n_low) ∙ own) in
       let image = move_from g m g_ok m_ok (Pair s n) (s_low, n_low) (strategy (place s n)) move in
       from image.from image.holds (subst (IsMember image.from) next image.member)
     where
@@ -220,11 +142,14 @@ module _ (g : Graph) (m : Structure) (g_ok : IsGraph g) (m_ok : IsStructure m) (
       → node_at g n ≡ node.And t t
       → FollowedMove (checking_game g m) them strategy (place s n) (place s t)
   single_move s n t s_low n_low is = record {
-    move = move_to g m g_ok m_ok (Pair s n) (s_low, n_low) (Pair s t) (subst (λ y. IsMember (Pair s t) (successors_of g m s y)) (sym is) (inl refl));
+    move =
+        move_to g m g_ok m_ok (Pair s n) (s_low, n_low) (Pair s t)
+        (subst (λ y. IsMember (Pair s t) (successors_of g m s y)) (sym is) (inl refl));
     chosen = λ own. ⊎_elim
         (λ (a : strategy (place s n) ≡ place s t). sym a)
         (λ (a : strategy (place s n) ≡ place s t). sym a)
-        (chosen_is s n s_low n_low (sym (owner_is g m (Pair s n) (s_low, n_low)) ∙ own) t t (ap (successors_of g m s) is));
+        (chosen_is s n s_low n_low (sym (owner_is g m (Pair s n) (s_low, n_low)) ∙ own) t t
+        (ap (successors_of g m s) is));
   }
 
   single_step : (s n t : ℕ)
@@ -259,9 +184,12 @@ module _ (g : Graph) (m : Structure) (g_ok : IsGraph g) (m_ok : IsStructure m) (
       goes : strategy (place s n) ≡ place s k
       goes = ⊎_elim
           (λ (a : strategy (place s n) ≡ place s l).
-          let move = is_strategy (place s n) (vertex_low g m g_ok m_ok (Pair s n) (s_low, n_low)) (owner_is g m (Pair s n) (s_low, n_low) ∙ theirs_here) in
-          let behind = won_behind (checking_game g m) them strategy (place s n) (strategy (place s n)) (record { move = move; chosen = λ own. refl }) lost in
-          let wins : Wins (checking_game g m) them (place s l) = record { strategy = strategy; is_strategy = is_strategy; wins = subst Lost a behind } in
+          let move = is_strategy (place s n) (vertex_low g m g_ok m_ok (Pair s n) (s_low, n_low))
+          (owner_is g m (Pair s n) (s_low, n_low) ∙ theirs_here) in
+          let behind = won_behind (checking_game g m) them strategy (place s n) (strategy (place s n))
+          (record { move = move; chosen = λ own. refl }) lost in
+          let wins : Wins (checking_game g m) them (place s l) =
+          record { strategy = strategy; is_strategy = is_strategy; wins = subst Lost a behind } in
           absurd (never_both g m g_ok m_ok (player_of e) (Pair s l) (s_low, l_low) shown wins))
           (λ (a : strategy (place s n) ≡ place s k). a)
           (chosen_is s n s_low n_low theirs_here l k next)
@@ -280,7 +208,9 @@ module _ (g : Graph) (m : Structure) (g_ok : IsGraph g) (m_ok : IsStructure m) (
 
   -- what is claimed of a program at an occurrence
   abbrev Claim : Program → ℕ → ℕ → Type 0
-  Claim p i k = (s t : ℕ) → s < m.states → t < m.states → relation m p s t ≡ true → Lost (place s (node_of e i)) → Walked (place s (node_of e i)) (place t k)
+  Claim p i k =
+      (s t : ℕ) → s < m.states → t < m.states → relation m p s t ≡ true → Lost (place s (node_of e i)) → Walked
+      (place s (node_of e i)) (place t k)
 
   by_sign : (d : Bool) → 2 ≤ star_priority d
   by_sign true = omega arith
@@ -290,7 +220,7 @@ module _ (g : Graph) (m : Structure) (g_ok : IsGraph g) (m_ok : IsStructure m) (
   star_high i same = let high = by_sign e in omega (arith, same, high)
 
   -- of as many rounds of a star
-  rounds : (p : Program) (i k : ℕ) → Runs g e i k (Star p) → node_of e i < size g → Claim p (i + 1) (node_of e i)
+  rounds : (p : Program) (i k : ℕ) → NodesAt g e i k (Star p) → node_of e i < size g → Claim p (i + 1) (node_of e i)
       → (j s t : ℕ) → s < m.states → t < m.states
       → iterate j (λ r. either identity (followed_by m r (relation m p))) identity s t ≡ true
       → Lost (place s (node_of e i)) → Way (place s (node_of e i)) (place t (node_of e i))
@@ -302,11 +232,15 @@ module _ (g : Graph) (m : Structure) (g_ok : IsGraph g) (m_ok : IsStructure m) (
       let some = run_of m (before) (λ u. relation m p u t) s more in
       let u : ℕ = some.state in
       let first = rounds p i k w n_low inner j s u s_low some.low some.run lost in
-      let begin = own_step u (node_of e i) u (node_of e (i + 1)) some.low n_low (star_high i w.1) (own_by e k (node_of e (i + 1))) w.0 (own_mover e k (node_of e (i + 1)))
-      (subst (IsMember (Pair u (node_of e (i + 1)))) (sym (own_children g m u e k (node_of e (i + 1)))) (inr (inl refl))) in
-      let there = kept (place u (node_of e i)) (place u (node_of e (i + 1))) begin (way_kept (place s (node_of e i)) (place u (node_of e i)) first lost) in
+      let begin = own_step u (node_of e i) u (node_of e (i + 1)) some.low n_low (star_high i w.1)
+      (own_by e k (node_of e (i + 1))) w.0 (own_mover e k (node_of e (i + 1)))
+      (subst (IsMember (Pair u (node_of e (i + 1)))) (sym (own_children g m u e k (node_of e (i + 1))))
+      (inr (inl refl))) in
+      let there = kept (place u (node_of e i)) (place u (node_of e (i + 1))) begin
+      (way_kept (place s (node_of e i)) (place u (node_of e i)) first lost) in
       inr (way_on (place s (node_of e i)) (place u (node_of e i)) (place t (node_of e i)) first
-      (joined (place u (node_of e i)) (place u (node_of e (i + 1))) (place t (node_of e i)) begin (inner u t some.low t_low some.inside there))))
+      (joined (place u (node_of e i)) (place u (node_of e (i + 1))) (place t (node_of e i)) begin
+      (inner u t some.low t_low some.inside there))))
       (or_cases (s == t) (followed_by m before (relation m p) s t) is)
     where
       before : Relation
@@ -316,16 +250,18 @@ module _ (g : Graph) (m : Structure) (g_ok : IsGraph g) (m_ok : IsStructure m) (
   first_low i n room = let range = node_range e i in omega (arith, room, range.1)
 
   tested_low : (i : ℕ) (f : Formula) → 2 * (i + (1 + occurrences f)) ≤ size g → node_of e (i + 1) < size g
-  tested_low i f room = let range = node_range e (i + 1) in let some = some_occurrence f in omega (arith, room, range.1, some)
+  tested_low i f room =
+      let range = node_range e (i + 1) in let some = some_occurrence f in omega (arith, room, range.1, some)
 
   pub walked : (p : Program) (i k : ℕ)
-      → Runs g e i k p
+      → NodesAt g e i k p
       → Tests g m g_ok m_ok e i p
       → 2 * (i + program_occurrences p) ≤ size g
       → Claim p i k
   walked (Act name) i k w tests room s t s_low t_low is lost =
       let pairs = go_pairs g m s e w.0 k in
-      own_step s (node_of e i) t k s_low (first_low i 0 room) (omega (arith, w.2)) (go_by e w.0 k) w.1 (go_mover e w.0 k)
+      own_step s (node_of e i) t k s_low (first_low i 0 room) (omega (arith, w.2)) (go_by e w.0 k) w.1
+      (go_mover e w.0 k)
       (subst (IsMember (Pair t k)) (sym pairs.1) (target_pair k pairs.0 (targets m s (action_at g w.0)) t
       (subst (λ x. IsMember t (targets m s x)) (sym w.3) (edge_target m name s t is))))
   walked (Seq p q) i k w tests room s t s_low t_low is lost =
@@ -333,7 +269,8 @@ module _ (g : Graph) (m : Structure) (g_ok : IsGraph g) (m_ok : IsStructure m) (
       let u : ℕ = some.state in
       let l : ℕ = i + 1 in
       let r : ℕ = i + 1 + program_occurrences p in
-      let begin = single_step s (node_of e i) (node_of e l) s_low (first_low i (program_occurrences p + program_occurrences q) (omega (arith, room))) (omega (arith, w.1)) w.0 in
+      let begin = single_step s (node_of e i) (node_of e l) s_low
+      (first_low i (program_occurrences p + program_occurrences q) (omega (arith, room))) (omega (arith, w.1)) w.0 in
       let at_p = kept (place s (node_of e i)) (place s (node_of e l)) begin lost in
       let through = walked p l (node_of e r) w.2 tests.0 (omega (arith, room)) s u s_low some.low some.run at_p in
       let at_q = kept (place s (node_of e l)) (place u (node_of e r)) through at_p in
@@ -345,26 +282,34 @@ module _ (g : Graph) (m : Structure) (g_ok : IsGraph g) (m_ok : IsStructure m) (
       let r : ℕ = i + 1 + program_occurrences p in
       let n_low = first_low i (program_occurrences p + program_occurrences q) (omega (arith, room)) in
       let high : 2 ≤ priority_at g (node_of e i) = omega (arith, w.1) in
-      let to_l = own_step s (node_of e i) s (node_of e l) s_low n_low high (own_by e (node_of e l) (node_of e r)) w.0 (own_mover e (node_of e l) (node_of e r))
+      let to_l = own_step s (node_of e i) s (node_of e l) s_low n_low high (own_by e (node_of e l) (node_of e r)) w.0
+      (own_mover e (node_of e l) (node_of e r))
       (subst (IsMember (Pair s (node_of e l))) (sym (own_children g m s e (node_of e l) (node_of e r))) (inl refl)) in
-      let to_r = own_step s (node_of e i) s (node_of e r) s_low n_low high (own_by e (node_of e l) (node_of e r)) w.0 (own_mover e (node_of e l) (node_of e r))
-      (subst (IsMember (Pair s (node_of e r))) (sym (own_children g m s e (node_of e l) (node_of e r))) (inr (inl refl))) in
+      let to_r = own_step s (node_of e i) s (node_of e r) s_low n_low high (own_by e (node_of e l) (node_of e r)) w.0
+      (own_mover e (node_of e l) (node_of e r))
+      (subst (IsMember (Pair s (node_of e r))) (sym (own_children g m s e (node_of e l) (node_of e r)))
+      (inr (inl refl))) in
       ⊎_elim
       (λ (a : relation m p s t ≡ true). joined (place s (node_of e i)) (place s (node_of e l)) (place t k) to_l
-      (walked p l k w.2 tests.0 (omega (arith, room)) s t s_low t_low a (kept (place s (node_of e i)) (place s (node_of e l)) to_l lost)))
+      (walked p l k w.2 tests.0 (omega (arith, room)) s t s_low t_low a
+      (kept (place s (node_of e i)) (place s (node_of e l)) to_l lost)))
       (λ (a : relation m q s t ≡ true). joined (place s (node_of e i)) (place s (node_of e r)) (place t k) to_r
-      (walked q r k w.3 tests.1 (omega (arith, room)) s t s_low t_low a (kept (place s (node_of e i)) (place s (node_of e r)) to_r lost)))
+      (walked q r k w.3 tests.1 (omega (arith, room)) s t s_low t_low a
+      (kept (place s (node_of e i)) (place s (node_of e r)) to_r lost)))
       (or_cases (relation m p s t) (relation m q s t) is)
   walked (Star p) i k w tests room s t s_low t_low is lost =
       let l : ℕ = i + 1 in
       let n_low = first_low i (program_occurrences p) (omega (arith, room)) in
-      let way = rounds p i k w n_low (walked p l (node_of e i) w.2 tests (omega (arith, room))) m.states s t s_low t_low is lost in
+      let way = rounds p i k w n_low (walked p l (node_of e i) w.2 tests (omega (arith, room))) m.states s t s_low t_low
+      is lost in
       way_on (place s (node_of e i)) (place t (node_of e i)) (place t k) way
-      (own_step t (node_of e i) t k t_low n_low (star_high i w.1) (own_by e k (node_of e l)) w.0 (own_mover e k (node_of e l))
+      (own_step t (node_of e i) t k t_low n_low (star_high i w.1) (own_by e k (node_of e l)) w.0
+      (own_mover e k (node_of e l))
       (subst (IsMember (Pair t k)) (sym (own_children g m t e k (node_of e l))) (inl refl)))
   walked (Test f) i k w tests room s t s_low t_low is lost =
       let l : ℕ = i + 1 in
       let parts = and_parts (s == t) (is_member (meaning m f) s) is in
       subst (λ x. Walked (place s (node_of e i)) (place x k)) (same_number s t parts.0)
-      (test_step s (node_of e i) (node_of e l) k s_low (first_low i (occurrences f) (omega (arith, room))) (omega (arith, w.1)) (tested_low i f room) w.0
+      (test_step s (node_of e i) (node_of e l) k s_low (first_low i (occurrences f) (omega (arith, room)))
+      (omega (arith, w.1)) (tested_low i f room) w.0
       ((tests s s_low).1 parts.1) lost)

@@ -1,22 +1,31 @@
 -- The graph of a formula, worked out by hand from the table: [(a;p?)+b*]repeat(a).
 --
--- It has each kind of program, a box, and an infinite repetition. Occurrences 0 to 9 are the box, `+`, `;`, a, the test, p,
--- the star, b, the repetition and its a. What stands behind the program is the repetition: for boxes its positive node, 16,
--- and for diamonds its negative one, 17.
+-- It has each kind of program, a box, and an infinite repetition. Occurrences 0 to 9 are the box, `+`, `;`, a, the
+-- test, p, the star, b, the repetition and its a. What stands behind the program is the repetition: for boxes its
+-- positive node, 16, and for diamonds its negative one, 17.
 --
 --   worked, worked_graph == the formula and its graph
 --   is_its_graph         == the graph is the formula's, and with the other root that of its negation
-use Rattle.std.proofs.Common.{Bool, true, false, [], ◌∷◌, if◌then◌else◌, codes, refl}
+--   turning              == a structure: a leads from 0, where p is true, to 0, and b from 1 to 0
+--   holds_at_turn, negation_holds == so by the law the graph holds at 0, and that of the negation at 1
+use Rattle.std.proofs.Common.{◌<◌, Bool, true, false, [], ◌∷◌, if◌then◌else◌, codes, inl, inr, refl, ap, arith}
 use Rattle.std.specs.List.{IsDistinct}
+use Rattle.ml_lists.specs.Member.{IsMember}
+use Rattle.ml_lists.proofs.Member.{member-All}
+use Rattle.ml_base.specs.declared.structure.Edge.{Edge}
+use Rattle.ml_base.specs.Structure.{Structure, IsStructure}
+use Rattle.ml_graph.specs.CheckingGame.{Holds}
 use Rattle.ml_graph.specs.Graph.{Graph, IsGraph, references}
 use Rattle.ml_graph.specs.declared.node.Node.TheVariants as node
 use Rattle.ml_graph.proofs.References.{all_in_range}
 use Rattle.ml_pdl.specs.Formula.{Formula, Prop, Modal, Square, Repeat, Act, Seq, Alt, Star, Test}
 use Rattle.ml_pdl_graph.specs.PdlGraph.{IsGraphOf}
+use Rattle.ml_pdl_graph.proofs.Agreement.{graphs_agree}
 
 abbrev worked : Formula
 worked =
-    Modal Square (Alt (Seq (Act (codes "a")) (Test (Prop (codes "p")))) (Star (Act (codes "b")))) (Repeat (Act (codes "a")))
+    Modal Square (Alt (Seq (Act (codes "a")) (Test (Prop (codes "p")))) (Star (Act (codes "b"))))
+    (Repeat (Act (codes "a")))
 
 abbrev worked_graph : Bool → Graph
 worked_graph negated = record {
@@ -85,3 +94,29 @@ is_its_graph negated = record {
   );
   root_is = refl;
 }
+
+abbrev turning : Structure
+turning = record {
+  states = 2;
+  labels = (codes "p" ∷ []) ∷ [] ∷ [];
+  edges =
+      record { source = 0; action = codes "a"; target = 0 } ∷ record { source = 1; action = codes "b"; target = 0 } ∷ [];
+}
+
+turning_is : IsStructure turning
+turning_is = record {
+  has_state = omega arith;
+  labels_states = refl;
+  joins_states = member-All (λ e. (e.source < 2) × (e.target < 2)) turning.edges low;
+}
+  where
+    low : (e : Edge) → IsMember e turning.edges → (e.source < 2) × (e.target < 2)
+    low e (inl is) = (omega (arith, ap (λ d. d.source) is), omega (arith, ap (λ d. d.target) is))
+    low e (inr (inl is)) = (omega (arith, ap (λ d. d.source) is), omega (arith, ap (λ d. d.target) is))
+    low e (inr (inr none)) = absurd none
+
+holds_at_turn : Holds (worked_graph false) turning 0
+holds_at_turn = (graphs_agree worked false (worked_graph false) (is_its_graph false) turning turning_is 0 (omega arith)).1 refl
+
+negation_holds : Holds (worked_graph true) turning 1
+negation_holds = (graphs_agree worked true (worked_graph true) (is_its_graph true) turning turning_is 1 (omega arith)).1 refl

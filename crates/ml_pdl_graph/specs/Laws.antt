@@ -1,7 +1,7 @@
 -- The game on a formula's graph, and the formula's meaning.
 --
---   HoldsWhere g p == on each structure, of any number of states, the graph g holds at the states at which the problem p
---                     does
+--   HoldsWhere g p == on each structure, of any number of states, the graph g holds at the states at which the problem
+--                     p does
 --   GraphsAgree    == of each formula, in its plain sense and negated: its graph holds where the problem does
 use Rattle.std.specs.Prelude.{ℕ, ◌<◌, ◌↔◌, Bool}
 use Rattle.ml_base.specs.Structure.{Structure, IsStructure}

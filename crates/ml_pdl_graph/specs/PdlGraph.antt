@@ -1,20 +1,21 @@
 -- The modal graph of a formula of PDL.
 --
--- Occurrences of formulas and programs are numbered in preorder from 0: an operator before its operands, left before right,
--- a modality before its program and its program before its formula; an iff takes three numbers in a row. Occurrence i has
--- two nodes, 2i and 2i + 1. Of a formula these are for itself and for its negation. Of a program they are for its diamond
--- and for its box, and each of the two has a continuation: the node at which it goes on where a run has ended. So a node is
--- at one place of a run, and what is still to be run is read off the continuations. A star goes on, or runs its program
--- with itself as the continuation; an infinite repetition is the continuation of its own program.
+-- Occurrences of formulas and programs are numbered in preorder from 0: an operator before its operands, left before
+-- right, a modality before its program and its program before its formula; an iff takes three numbers in a row.
+-- Occurrence i has two nodes, 2i and 2i + 1. Of a formula these are for itself and for its negation. Of a program they
+-- are for its diamond and for its box, and each of the two has a continuation: the node at which it goes on where a run
+-- has ended. So a node is at one place of a run, and what is still to be run is read off the continuations. A star goes
+-- on, or runs its program with itself as the continuation; an infinite repetition is the continuation of its own
+-- program.
 --
--- The node of a star lies on a cycle that is not to be gone round for ever by the player who looks for a run: its diamond
--- has an odd priority, its box an even one. That of an infinite repetition is to be gone round for ever, so the other way
--- round, and below the stars'. Every other node has a priority above these.
+-- The node of a star lies on a cycle that is not to be gone round for ever by the player who looks for a run: its
+-- diamond has an odd priority, its box an even one. That of an infinite repetition is to be gone round for ever, so the
+-- other way round, and below the stars'. Every other node has a priority above these.
 --
 --   positive i, negative i == the two nodes of occurrence i; diamond i, box i == the same of a program
 --   IsNode g n v p         == the node n of g is v, with the priority p
 --   LeadsTo g n t p        == the node n only leads on, to t
---   IsLiteral, IsModality  == the node n is a literal of a named proposition; a modality by a named action
+--   IsLiteral g n name b   == the node n is the literal of the proposition with this name, positive where b is true
 --   StandsAt g i f         == at the occurrence i of g stands the formula f
 --   ProgramStandsAt g i d b p == at the occurrence i of g stands the program p, whose diamond goes on at the node d and
 --                             whose box at the node b
@@ -103,7 +104,8 @@ abbrev mutual
 
   pub ProgramStandsAt : Graph → ℕ → ℕ → ℕ → Program → Type 0
   ProgramStandsAt g i d b (Act name) =
-      (a : ℕ) × IsNode g (diamond i) (node.Diamond a d) plain × IsNode g (box i) (node.Square a b) plain × (action_at g a ≡ name)
+      (a : ℕ) × IsNode g (diamond i) (node.Diamond a d) plain × IsNode g (box i) (node.Square a b) plain
+      × (action_at g a ≡ name)
   ProgramStandsAt g i d b (Seq p q) =
       let l = i + 1 in let r = l + program_occurrences p in
       LeadsTo g (diamond i) (diamond l) plain × LeadsTo g (box i) (box l) plain
