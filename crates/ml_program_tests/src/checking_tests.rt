@@ -163,6 +163,30 @@ fn meaning_and_game_agree(rt: HostRuntime) -> Result<(), Fail> {
     Ok(())
 }
 
+// unguarded formulas, nested binders, a name that is bound twice, and a binder below a negation
+#[test]
+fn worked_formulas(rt: HostRuntime) -> Result<(), Fail> {
+    let alloc = rt.alloc();
+    let texts: [&[u8]; 6] = [
+        b"mu X. X",
+        b"nu X. X",
+        b"mu X. (p | <>X)",
+        b"nu X. mu Y. <>((p & X) | Y)",
+        b"nu X. (mu X. X) | X",
+        b"mu X. !(nu Y. !X & Y)",
+    ];
+    let mut numbers = Numbers { state: 3 };
+    for text in texts {
+        let problem = read(alloc, Logic::Mu, text)?;
+        let structure = random_structure(alloc, &mut numbers)?;
+        for state in 0..structure.states() {
+            let meant = by_meaning(alloc, &problem, &structure, state)?;
+            assert_eq!(rt; by_game(alloc, &problem, &structure, state)?, meant);
+        }
+    }
+    Ok(())
+}
+
 // the odd priorities of the graph of a least fixpoint
 #[test]
 fn odd_priorities(rt: HostRuntime) -> Result<(), Fail> {
