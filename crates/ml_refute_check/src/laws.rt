@@ -4,8 +4,9 @@ ghost use Rattle.ml_refute_check.specs.Problems.{RefutedIsUnsatisfiable};
 ghost use Rattle.ml_refute_check.specs.Soundness.{AcceptedHoldsNowhere, AcceptedOrFault, NeverBoth, OneFault, RulesRise};
 ghost use Rattle.ml_refute_check.specs.Verdicts.{OneVerdict};
 
-/// Where a refutation breaks no rule in a graph, the graph holds at no state of any structure. Graphs, refutations and
-/// structures are of any size; how the refutation was made doesn't matter.
+/// Where a refutation breaks no rule in a graph, the graph holds at no state of any structure. Asked is that the refutation
+/// keeps what every one keeps (`IsRefutation`), and that graph and structure are such; of any size; how the refutation was
+/// made doesn't matter.
 ///
 /// Does nothing when called.
 pub fn accepted_holds_nowhere()
@@ -33,8 +34,8 @@ pub fn one_verdict()
 {}
 
 /// Of a problem whose formula means something by its logic (in the mu-calculus: its variables are bound and positive):
-/// where a refutation breaks no rule in its graph, no admitted structure, of any number of states, has a state at which
-/// the problem holds.
+/// where a refutation, which keeps what every one keeps (`IsRefutation`), breaks no rule in its graph, no admitted
+/// structure, of any number of states, has a state at which the problem holds.
 ///
 /// Does nothing when called.
 pub fn refuted_is_unsatisfiable()
