@@ -4,9 +4,9 @@ ghost use Rattle.ml_refute_check.specs.Problems.{RefutedIsUnsatisfiable};
 ghost use Rattle.ml_refute_check.specs.Soundness.{AcceptedHoldsNowhere, AcceptedOrFault, NeverBoth, OneFault, RulesRise};
 ghost use Rattle.ml_refute_check.specs.Verdicts.{OneVerdict};
 
-/// Where a refutation breaks no rule in a graph, the graph holds at no state of any structure. Asked is that the refutation
-/// keeps what every one keeps (`IsRefutation`), and that graph and structure are such; of any size; how the refutation was
-/// made doesn't matter.
+/// Where a refutation breaks no rule in a graph, the graph holds at no state of any structure. Asked is that the
+/// refutation keeps what every one keeps (`IsRefutation`), and that graph and structure are such. All three may be of
+/// any size, and how the refutation was made doesn't matter.
 ///
 /// Does nothing when called.
 pub fn accepted_holds_nowhere()
