@@ -3,32 +3,41 @@
 --   ended_written  == a status that is due, with its output written or partly written, ends the call as it should
 --   ended_with     == the same, where the words are a command
 --   too_long_due   == an input past the limit of its command is refused by its length
-use Rattle.std.proofs.Common.{◌≡◌, ℕ, ◌<◌, length, List, Option, Some, None, refl, sym, subst, ⊎_elim}
+use Rattle.std.proofs.Common.{◌≡◌, ℕ, ◌<◌, length, List, Option, Some, None, refl, sym, subst, inl, ⊎_elim}
 use Rattle.std.specs.Io.KnownBytes.{append_known}
 use Rattle.ml_base.specs.Faults.{Rose}
 use Rattle.ml_base.specs.Whole.{AppendsPart}
 use Rattle.ml_driver.specs.declared.command.Command.{Command}
-use Rattle.ml_driver.specs.declared.command.Command.TheVariants.{DecideMu, CheckModel}
+use Rattle.ml_driver.specs.declared.command.Command.TheVariants.{Decide, Valid, CheckModel, CheckRefutation, Migrate}
 use Rattle.ml_driver.specs.declared.status.Status.{Status}
-use Rattle.ml_driver.specs.declared.status.Status.TheVariants.{Yes, No, Undecided, Words, Text, ReadFault, WriteFault, NoMemory, Unconfirmed}
+use Rattle.ml_driver.specs.declared.status.Status.TheVariants.{Yes, No, Undecided, Words, Text, ReadFault, WriteFault, NoMemory}
 use Rattle.ml_driver.specs.Statuses.{longest_input, refused_length}
-use Rattle.ml_driver.specs.Run.{by_length, document_by_length, IsDue, World, WasRead, IsWhole, Answered, FailedToWrite, Ended, Wrote}
+use Rattle.ml_driver.specs.Run.{document_by_length, IsDue, World, WasRead, IsWhole, Answered, FailedToWrite, Ended, Wrote}
 
 -- what is due is never a fault or want of memory
 no_fault_due : (c : Option Command) (text output : List ℕ) → IsDue c text ReadFault output → ⊥
 no_fault_due None text output due = due
-no_fault_due (Some DecideMu) text output due = due
+no_fault_due (Some (Decide l n)) text output due = due
+no_fault_due (Some (Valid l n)) text output due = due
 no_fault_due (Some CheckModel) text output due = due
+no_fault_due (Some CheckRefutation) text output due = due
+no_fault_due (Some Migrate) text output due = due
 
 no_write_fault_due : (c : Option Command) (text output : List ℕ) → IsDue c text WriteFault output → ⊥
 no_write_fault_due None text output due = due
-no_write_fault_due (Some DecideMu) text output due = due
+no_write_fault_due (Some (Decide l n)) text output due = due
+no_write_fault_due (Some (Valid l n)) text output due = due
 no_write_fault_due (Some CheckModel) text output due = due
+no_write_fault_due (Some CheckRefutation) text output due = due
+no_write_fault_due (Some Migrate) text output due = due
 
 no_want_due : (c : Option Command) (text output : List ℕ) → IsDue c text NoMemory output → ⊥
 no_want_due None text output due = due
-no_want_due (Some DecideMu) text output due = due
+no_want_due (Some (Decide l n)) text output due = due
+no_want_due (Some (Valid l n)) text output due = due
 no_want_due (Some CheckModel) text output due = due
+no_want_due (Some CheckRefutation) text output due = due
+no_want_due (Some Migrate) text output due = due
 
 answered_ended : (c : Option Command) (w : World) (status : Status) → Answered c w status → Ended c w status
 answered_ended c w Yes answered = answered
@@ -39,7 +48,6 @@ answered_ended c w Text answered = answered
 answered_ended c w ReadFault answered = absurd (no_fault_due c answered.text answered.output answered.is_due)
 answered_ended c w WriteFault answered = absurd (no_write_fault_due c answered.text answered.output answered.is_due)
 answered_ended c w NoMemory answered = absurd (no_want_due c answered.text answered.output answered.is_due)
-answered_ended c w Unconfirmed answered = answered
 
 pub ended_written : (c : Option Command) (w : World) (text : List ℕ) (due : Status) (output : List ℕ) (status : Status) → WasRead c w text → w.source_faults_after ≡ w.source_faults_before → IsDue c text due output → IsWhole output → Wrote w.taken_before w.taken_after w.sink_faults_before w.sink_faults_after due output status → Ended c w status
 ended_written c w text due output status read calm is_due whole_output wrote =
@@ -75,5 +83,8 @@ ended_with c d w status same ended = subst (λ k. Ended k w status) (sym same) e
 
 -- an input past the limit of its command is refused by its length
 pub too_long_due : (c : Command) (text : List ℕ) → longest_input c < length text → IsDue (Some c) text Text refused_length
-too_long_due DecideMu text long = by_length (long, refl)
+too_long_due (Decide l n) text long = inl (long, refl)
+too_long_due (Valid l n) text long = inl (long, refl)
 too_long_due CheckModel text long = document_by_length (long, refl)
+too_long_due CheckRefutation text long = document_by_length (long, refl)
+too_long_due Migrate text long = document_by_length (long, refl)

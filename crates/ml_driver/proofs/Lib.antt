@@ -1,10 +1,22 @@
 -- how a call ends
 pub mod Endings
--- what is due for an answer
-pub mod Dues
+-- graphs that differ in the numbers of names
+pub mod AlikeGraphs
+-- their decision games have the same positions
+pub mod SamePositions
+-- the graphs of problems
+pub mod ProblemGraphs
+-- a decision is what is due
+pub mod Answered
+-- the words as they are taken apart
+pub mod FoundWords
+-- documents with a refutation
+pub mod RefutationDocuments
 -- one status is due
 pub mod OneDue
 -- what is written is read back
 pub mod ReadBack
 -- some status is due
 pub mod SomeDue
+-- words worked out by hand
+pub mod WorkedWords

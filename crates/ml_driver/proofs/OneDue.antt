@@ -1,23 +1,29 @@
 -- One status is due.
 --
---   Decided, Checks       == which statuses are due for the two commands, with the reason of each
---   decided, checks       == what is due is one of these
+--   Told, Checks, Verdicts, Migrates == what is due for the commands, with the reason of each
+--   one_answer            == one status answers a question
+--   answers_are_exact     == and says what is true
 --   one_due               == one status is due at most
-use Rattle.std.proofs.Common.{◌≡◌, ℕ, ◌≤◌, List, length, Some, None, refl, sym, ap, subst, ◌∙◌, arith}
-use Rattle.ml_mu.specs.Formula.{Formula}
-use Rattle.ml_mu.specs.Parsing.{IsParsedAs}
-use Rattle.ml_mu.proofs.OneAnswer.{one_formula, parsed_or_refused}
+use Rattle.std.proofs.Common.{◌≡◌, ◌⊎◌, ℕ, ◌≤◌, Bool, true, false, List, length, Some, None, refl, sym, ap, ap₂, subst, ◌∙◌, inl, inr, arith}
 use Rattle.ml_front.specs.Problems.{IsSatisfiable}
-use Rattle.ml_table.specs.Propositional.{plain, IsInForm}
-use Rattle.ml_model_check.specs.Checked.{Shows, ShowsNot}
+use Rattle.ml_front.specs.declared.problem.Problem.{Problem}
+use Rattle.ml_front.proofs.Logics.{formula_once, formula_or_refused}
+use Rattle.ml_driver.specs.Decision.{IsAnswered, IsAnsweredIn, IsClosed, IsProblem, LeftOpen, Refuted, RefusedText, Satisfied, StaysOpen}
+use Rattle.ml_driver.specs.declared.question.Question.{Question}
+use Rattle.ml_model_check.specs.Checked.{Shows, ShowsNot, IsDocumentFault}
 use Rattle.ml_model_check.specs.declared.checked.Checked.TheVariants as checked
 use Rattle.ml_model_check.proofs.OneCheck.{one_check}
-use Rattle.ml_driver.specs.declared.command.Command.TheVariants.{DecideMu, CheckModel}
+use Rattle.ml_driver.specs.declared.command.Command.TheVariants.{Decide, Valid, CheckModel, CheckRefutation, Migrate}
 use Rattle.ml_driver.specs.declared.status.Status.{Status}
-use Rattle.ml_driver.specs.declared.status.Status.TheVariants.{Yes, No, Words, Text}
-use Rattle.ml_driver.specs.Statuses.{longest_text, longest_document, refusal_line}
-use Rattle.ml_driver.specs.Run.{IsDue, IsSatisfied, IsUnsatisfied, IsRefused, by_length, by_text, by_form, IsRefusedDocument, document_by_length, by_line}
-use Rattle.ml_driver.specs.Laws.{OneDue}
+use Rattle.ml_driver.specs.declared.status.Status.TheVariants.{Yes, No, Undecided, Words, Text}
+use Rattle.ml_driver.specs.Statuses.{longest_document, refusal_line}
+use Rattle.ml_driver.specs.Run.{IsDue, plainly, for_negation, IsAcceptedRefutation, IsRejectedRefutation, IsRefusedDocument, document_by_length, by_line}
+use Rattle.ml_refute_check.specs.Documents as refuted
+use Rattle.ml_refute_check.specs.Documents.{IsMigrated}
+use Rattle.ml_refute_check.specs.declared.verdict.Verdict.TheVariants as verdict
+use Rattle.ml_refute_check.proofs.OneVerdict.{one_verdict}
+use Rattle.ml_driver.proofs.RefutationDocuments.{no_refutation_at_fault}
+use Rattle.ml_driver.specs.Laws.{AnswersAreExact, IsExact, OneDue, says, open_at, satisfiable_at, unsatisfiable_at}
 
 -- ---- words that are no command
 
@@ -25,55 +31,129 @@ words_due : (text : List ℕ) (s : Status) (out : List ℕ) → IsDue None text 
 words_due text Words out due = refl
 words_due text _ out due = absurd due
 
--- ---- decide mu
+-- ---- decide and valid
 
-same_formula : (text : List ℕ) (f g : Formula) → IsParsedAs text f → IsParsedAs text g → f ≡ g
-same_formula text f g x y = one_formula text f g x.accepted.stands y.accepted.stands
+same_problem : (q : Question) (text : List ℕ) (p r : Problem) → IsProblem q text p → IsProblem q text r → p ≡ r
+same_problem q text p r x y =
+    ap₂ (λ f n. record { formula = f; negated = n })
+    (formula_once text p.formula r.formula (x.of_logic ∙ sym y.of_logic) x.is_parsed y.is_parsed) (x.in_sense ∙ sym y.in_sense)
 
-sat_unsat : (text out more : List ℕ) → IsSatisfied text out → IsUnsatisfied text more → ⊥
-sat_unsat text out more x y =
-    let same = same_formula text y.formula x.formula y.is_parsed x.is_parsed in
-    subst (λ f. ¬ (IsSatisfiable (plain f))) same y.is_unsatisfiable
-    (x.structure, x.holds.is_structure, (0, x.holds.is_structure.has_state, x.holds.holds))
+problem_refused : (q : Question) (text more : List ℕ) (p : Problem) → IsProblem q text p → RefusedText q text more → ⊥
+problem_refused q text more p x (inl long) = omega (arith, x.is_short, long.0)
+problem_refused q text more p x (inr r) =
+    let none = formula_or_refused q.logic text p.formula r.refusal x.of_logic x.is_parsed r.is_refused in
+    let line = r.is_written ∙ ap refusal_line none in
+    absurd (cc)
 
--- a text of a formula in form is refused for no reason
-in_form : (text more : List ℕ) (f : Formula) → length text ≤ longest_text → IsParsedAs text f → IsInForm f → IsRefused text more → ⊥
-in_form text more f short parsed form (by_length long) = absurd (omega (arith, short, long.0))
-in_form text more f short parsed form (by_text fits r) =
-    let none = parsed_or_refused text f r.refusal parsed r.is_refused in let line = r.is_written ∙ ap refusal_line none in absurd (cc)
-in_form text more f short parsed form (by_form fits r) =
-    r.is_not_in_form (subst IsInForm (same_formula text f r.formula parsed r.is_parsed) form)
+-- what may be told of a text
+data Told (q : Question) (text out : List ℕ) : Type 0 where
+  held : Satisfied q text out → Told q text out
+  excluded : Refuted q text out → Told q text out
+  open_left : LeftOpen q text out → Told q text out
+  refused : RefusedText q text out → Told q text out
 
-data Decided (text out : List ℕ) : Status → Type 0 where
-  satisfied : length text ≤ longest_text → IsSatisfied text out → Decided text out Yes
-  unsatisfied : length text ≤ longest_text → IsUnsatisfied text out → Decided text out No
-  refused : IsRefused text out → Decided text out Text
+told_as : (negated : Bool) (q : Question) (text out : List ℕ) → Told q text out → Status
+told_as false q text out (held x) = Yes
+told_as true q text out (held x) = No
+told_as false q text out (excluded x) = No
+told_as true q text out (excluded x) = Yes
+told_as negated q text out (open_left x) = Undecided
+told_as negated q text out (refused x) = Text
 
-decided : (text : List ℕ) (s : Status) (out : List ℕ) → IsDue (Some DecideMu) text s out → Decided text out s
-decided text Yes out due = satisfied due.0 due.1
-decided text No out due = unsatisfied due.0 due.1
-decided text Text out due = refused due
-decided text _ out due = absurd due
+told : (negated : Bool) (q : Question) (text : List ℕ) (s : Status) (out : List ℕ) → IsAnsweredIn negated q text s out
+    → (k : Told q text out) × (s ≡ told_as negated q text out k)
+unfolding told_as
+told false q text Yes out x = (held x, refl)
+told false q text No out x = (excluded x, refl)
+told true q text Yes out x = (excluded x, refl)
+told true q text No out x = (held x, refl)
+told false q text Undecided out x = (open_left x, refl)
+told true q text Undecided out x = (open_left x, refl)
+told false q text Text out x = (refused x, refl)
+told true q text Text out x = (refused x, refl)
+told false q text _ out x = absurd x
+told true q text _ out x = absurd x
 
-one_decided : (text : List ℕ) (s t : Status) (out more : List ℕ) → Decided text out s → Decided text more t → s ≡ t
-one_decided text s t out more (satisfied short x) (satisfied fits y) = refl
-one_decided text s t out more (satisfied short x) (unsatisfied fits y) = absurd (sat_unsat text out more x y)
-one_decided text s t out more (satisfied short x) (refused y) = absurd (in_form text more x.formula short x.is_parsed x.is_in_form y)
-one_decided text s t out more (unsatisfied short x) (satisfied fits y) = absurd (sat_unsat text more out y x)
-one_decided text s t out more (unsatisfied short x) (unsatisfied fits y) = refl
-one_decided text s t out more (unsatisfied short x) (refused y) = absurd (in_form text more x.formula short x.is_parsed x.is_in_form y)
-one_decided text s t out more (refused x) (satisfied fits y) = absurd (in_form text out y.formula fits y.is_parsed y.is_in_form x)
-one_decided text s t out more (refused x) (unsatisfied fits y) = absurd (in_form text out y.formula fits y.is_parsed y.is_in_form x)
-one_decided text s t out more (refused x) (refused y) = refl
+sat_unsat : (q : Question) (text out more : List ℕ) → Satisfied q text out → Refuted q text more → ⊥
+sat_unsat q text out more x y =
+    let same = same_problem q text y.problem x.problem y.is_problem x.is_problem in
+    subst (λ p. ¬ (IsSatisfiable p)) same y.is_unsatisfiable
+    (x.structure, x.is_admitted, (x.start, x.can_be_written.is_state, x.holds))
+
+closed_open : (q : Question) (text more : List ℕ) (p : Problem) → IsProblem q text p → IsClosed q p → LeftOpen q text more → ⊥
+closed_open q text more p is closed y =
+    closed y.cause
+    (subst (λ r. StaysOpen q r y.cause) (same_problem q text y.problem p y.is_problem is) y.stays_open)
+
+one_told : (negated : Bool) (q : Question) (text out more : List ℕ) (k : Told q text out) (j : Told q text more)
+    → told_as negated q text out k ≡ told_as negated q text more j
+unfolding told_as
+one_told false q text out more (held x) (held y) = refl
+one_told true q text out more (held x) (held y) = refl
+one_told negated q text out more (held x) (excluded y) = absurd (sat_unsat q text out more x y)
+one_told negated q text out more (held x) (open_left y) = absurd (closed_open q text more x.problem x.is_problem x.is_closed y)
+one_told negated q text out more (held x) (refused y) = absurd (problem_refused q text more x.problem x.is_problem y)
+one_told negated q text out more (excluded x) (held y) = absurd (sat_unsat q text more out y x)
+one_told false q text out more (excluded x) (excluded y) = refl
+one_told true q text out more (excluded x) (excluded y) = refl
+one_told negated q text out more (excluded x) (open_left y) = absurd (closed_open q text more x.problem x.is_problem x.is_closed y)
+one_told negated q text out more (excluded x) (refused y) = absurd (problem_refused q text more x.problem x.is_problem y)
+one_told negated q text out more (open_left x) (held y) = absurd (closed_open q text out y.problem y.is_problem y.is_closed x)
+one_told negated q text out more (open_left x) (excluded y) = absurd (closed_open q text out y.problem y.is_problem y.is_closed x)
+one_told negated q text out more (open_left x) (open_left y) = refl
+one_told negated q text out more (open_left x) (refused y) = absurd (problem_refused q text more x.problem x.is_problem y)
+one_told negated q text out more (refused x) (held y) = absurd (problem_refused q text out y.problem y.is_problem x)
+one_told negated q text out more (refused x) (excluded y) = absurd (problem_refused q text out y.problem y.is_problem x)
+one_told negated q text out more (refused x) (open_left y) = absurd (problem_refused q text out y.problem y.is_problem x)
+one_told negated q text out more (refused x) (refused y) = refl
+
+exact_as : (negated : Bool) (q : Question) (text out : List ℕ) (p : Problem) (s : Status) → q.negated ≡ negated → IsProblem q text p
+    → (k : Told q text out) → s ≡ told_as negated q text out k → IsExact q p s
+unfolding told_as
+exact_as negated q text out p s is problem (open_left y) same =
+    open_at y.cause (subst (λ r. StaysOpen q r y.cause) (same_problem q text y.problem p y.is_problem problem) y.stays_open) (of_open negated y same)
+  where
+    of_open : (negated : Bool) (y : LeftOpen q text out) → s ≡ told_as negated q text out (open_left y) → s ≡ Undecided
+    of_open true y same = same
+    of_open false y same = same
+exact_as negated q text out p s is problem (refused y) same = absurd (problem_refused q text out p problem y)
+exact_as negated q text out p s is problem (held y) same =
+    let one = same_problem q text y.problem p y.is_problem problem in
+    satisfiable_at (subst (IsClosed q) one y.is_closed)
+    (subst IsSatisfiable one (y.structure, y.is_admitted, (y.start, y.can_be_written.is_state, y.holds)))
+    (subst (λ b. s ≡ says b true) (sym is) (of_held negated y same))
+  where
+    of_held : (negated : Bool) (y : Satisfied q text out) → s ≡ told_as negated q text out (held y) → s ≡ says negated true
+    of_held true y same = same
+    of_held false y same = same
+exact_as negated q text out p s is problem (excluded y) same =
+    let one = same_problem q text y.problem p y.is_problem problem in
+    unsatisfiable_at (subst (IsClosed q) one y.is_closed) (subst (λ r. ¬ (IsSatisfiable r)) one y.is_unsatisfiable)
+    (subst (λ b. s ≡ says b false) (sym is) (of_excluded negated y same))
+  where
+    of_excluded : (negated : Bool) (y : Refuted q text out) → s ≡ told_as negated q text out (excluded y) → s ≡ says negated false
+    of_excluded true y same = same
+    of_excluded false y same = same
+
+pub answers_are_exact : AnswersAreExact
+answers_are_exact q text p s out problem answered =
+    let k = told q.negated q text s out answered in
+    exact_as q.negated q text out p s refl problem k.0 k.1
+
+pub one_answer : (q : Question) (text : List ℕ) (s t : Status) (out more : List ℕ) → IsAnswered q text s out → IsAnswered q text t more → s ≡ t
+one_answer q text s t out more x y =
+    let k = told q.negated q text s out x in
+    let j = told q.negated q text t more y in
+    k.1 ∙ one_told q.negated q text out more k.0 j.0 ∙ sym j.1
 
 -- ---- check-model
 
-shown_refused : (text more : List ℕ) → length text ≤ longest_document → Shows text → IsRefusedDocument text more → ⊥
+shown_refused : (text more : List ℕ) → length text ≤ longest_document → Shows text → IsRefusedDocument (IsDocumentFault text) text more → ⊥
 shown_refused text more short x (document_by_length long) = absurd (omega (arith, short, long.0))
 shown_refused text more short x (by_line fits r) =
     let same = one_check text checked.Holds (checked.Unreadable r.fault) x r.is_fault in absurd (cc)
 
-shown_not_refused : (text more : List ℕ) → length text ≤ longest_document → ShowsNot text → IsRefusedDocument text more → ⊥
+shown_not_refused : (text more : List ℕ) → length text ≤ longest_document → ShowsNot text → IsRefusedDocument (IsDocumentFault text) text more → ⊥
 shown_not_refused text more short x (document_by_length long) = absurd (omega (arith, short, long.0))
 shown_not_refused text more short x (by_line fits r) =
     let same = one_check text checked.Fails (checked.Unreadable r.fault) x r.is_fault in absurd (cc)
@@ -84,7 +164,7 @@ shown_both text x y = let same = one_check text checked.Holds checked.Fails x y 
 data Checks (text out : List ℕ) : Status → Type 0 where
   holds : length text ≤ longest_document → Shows text → Checks text out Yes
   fails : length text ≤ longest_document → ShowsNot text → Checks text out No
-  unreadable : IsRefusedDocument text out → Checks text out Text
+  unreadable : IsRefusedDocument (IsDocumentFault text) text out → Checks text out Text
 
 checks : (text : List ℕ) (s : Status) (out : List ℕ) → IsDue (Some CheckModel) text s out → Checks text out s
 checks text Yes out due = holds due.0 due.1.0
@@ -103,7 +183,74 @@ one_checked text s t out more (unreadable x) (holds fits y) = absurd (shown_refu
 one_checked text s t out more (unreadable x) (fails fits y) = absurd (shown_not_refused text out fits y x)
 one_checked text s t out more (unreadable x) (unreadable y) = refl
 
+-- ---- check-refutation
+
+data Verdicts (text out : List ℕ) : Status → Type 0 where
+  accepted : length text ≤ longest_document → IsAcceptedRefutation text out → Verdicts text out Yes
+  rejected : length text ≤ longest_document → IsRejectedRefutation text out → Verdicts text out No
+  no_refutation : IsRefusedDocument (refuted.IsDocumentFault text) text out → Verdicts text out Text
+
+verdicts : (text : List ℕ) (s : Status) (out : List ℕ) → IsDue (Some CheckRefutation) text s out → Verdicts text out s
+verdicts text Yes out due = accepted due.0 due.1
+verdicts text No out due = rejected due.0 due.1
+verdicts text Text out due = no_refutation due
+verdicts text _ out due = absurd due
+
+accepted_rejected : (text out more : List ℕ) → IsAcceptedRefutation text out → IsRejectedRefutation text more → ⊥
+accepted_rejected text out more x y =
+    let same = one_verdict text verdict.Accepted (verdict.Rejected y.line y.rule) x.is_accepted y.is_rejected in absurd (cc)
+
+accepted_refused : (text out more : List ℕ) → length text ≤ longest_document → IsAcceptedRefutation text out
+    → IsRefusedDocument (refuted.IsDocumentFault text) text more → ⊥
+accepted_refused text out more short x (document_by_length long) = absurd (omega (arith, short, long.0))
+accepted_refused text out more short x (by_line fits r) =
+    let same = one_verdict text verdict.Accepted (verdict.Unreadable r.fault) x.is_accepted r.is_fault in absurd (cc)
+
+rejected_refused : (text out more : List ℕ) → length text ≤ longest_document → IsRejectedRefutation text out
+    → IsRefusedDocument (refuted.IsDocumentFault text) text more → ⊥
+rejected_refused text out more short x (document_by_length long) = absurd (omega (arith, short, long.0))
+rejected_refused text out more short x (by_line fits r) =
+    let same = one_verdict text (verdict.Rejected x.line x.rule) (verdict.Unreadable r.fault) x.is_rejected r.is_fault in absurd (cc)
+
+one_judged : (text : List ℕ) (s t : Status) (out more : List ℕ) → Verdicts text out s → Verdicts text more t → s ≡ t
+one_judged text s t out more (accepted short x) (accepted fits y) = refl
+one_judged text s t out more (accepted short x) (rejected fits y) = absurd (accepted_rejected text out more x y)
+one_judged text s t out more (accepted short x) (no_refutation y) = absurd (accepted_refused text out more short x y)
+one_judged text s t out more (rejected short x) (accepted fits y) = absurd (accepted_rejected text more out y x)
+one_judged text s t out more (rejected short x) (rejected fits y) = refl
+one_judged text s t out more (rejected short x) (no_refutation y) = absurd (rejected_refused text out more short x y)
+one_judged text s t out more (no_refutation x) (accepted fits y) = absurd (accepted_refused text more out fits y x)
+one_judged text s t out more (no_refutation x) (rejected fits y) = absurd (rejected_refused text more out fits y x)
+one_judged text s t out more (no_refutation x) (no_refutation y) = refl
+
+-- ---- migrate
+
+data Migrates (text out : List ℕ) : Status → Type 0 where
+  migrated : length text ≤ longest_document → IsMigrated text out → Migrates text out Yes
+  no_document : IsRefusedDocument (refuted.IsDocumentFault text) text out → Migrates text out Text
+
+migrates : (text : List ℕ) (s : Status) (out : List ℕ) → IsDue (Some Migrate) text s out → Migrates text out s
+migrates text Yes out due = migrated due.0 due.1
+migrates text Text out due = no_document due
+migrates text _ out due = absurd due
+
+migrated_refused : (text out more : List ℕ) → length text ≤ longest_document → IsMigrated text out
+    → IsRefusedDocument (refuted.IsDocumentFault text) text more → ⊥
+migrated_refused text out more short x (document_by_length long) = absurd (omega (arith, short, long.0))
+migrated_refused text out more short x (by_line fits r) =
+    no_refutation_at_fault text x.version x.problem x.refutation r.fault x.is_document r.is_fault
+
+one_migrated : (text : List ℕ) (s t : Status) (out more : List ℕ) → Migrates text out s → Migrates text more t → s ≡ t
+one_migrated text s t out more (migrated short x) (migrated fits y) = refl
+one_migrated text s t out more (migrated short x) (no_document y) = absurd (migrated_refused text out more short x y)
+one_migrated text s t out more (no_document x) (migrated fits y) = absurd (migrated_refused text more out fits y x)
+one_migrated text s t out more (no_document x) (no_document y) = refl
+
 pub one_due : OneDue
 one_due None text s t out more x y = words_due text s out x ∙ sym (words_due text t more y)
-one_due (Some DecideMu) text s t out more x y = one_decided text s t out more (decided text s out x) (decided text t more y)
+one_due (Some (Decide l n)) text s t out more x y = one_answer (plainly l n) text s t out more x y
+one_due (Some (Valid l n)) text s t out more x y = one_answer (for_negation l n) text s t out more x y
 one_due (Some CheckModel) text s t out more x y = one_checked text s t out more (checks text s out x) (checks text t more y)
+one_due (Some CheckRefutation) text s t out more x y =
+    one_judged text s t out more (verdicts text s out x) (verdicts text t more y)
+one_due (Some Migrate) text s t out more x y = one_migrated text s t out more (migrates text s out x) (migrates text t more y)

@@ -1,22 +1,59 @@
 -- Laws of what is due.
 --
---   SomeDue          == for a command, or words that are none, and an input, some status is due, with some output
+--   ReadsNoFormula c == c reads documents, or the words are no command
+--   SomeDue          == for such a command, or words that are none, and an input, some status is due, with some output
 --   OneDue           == one status is due at most
---   DecidedAreChecked == what `decide mu` wrote where it found a structure, `check-model` reads, and finds to hold
-use Rattle.std.specs.Prelude.{ℕ, ◌≡◌, List, Option, Some}
+--   IsExact q p s    == the status s says of the problem p what is true of it
+--   AnswersAreExact  == each answer to a question is exact
+--   DecidedAreChecked, RefutedAreAccepted == the documents that `decide` and `valid` write are found to be right by
+--                       `check-model` and `check-refutation`
+use Rattle.std.specs.Prelude.{ℕ, ◌≡◌, Bool, true, false, List, Option, Some}
+use Rattle.ml_driver.specs.declared.command.Command.TheVariants.{Decide, Valid}
 use Rattle.ml_driver.specs.declared.command.Command.{Command}
-use Rattle.ml_driver.specs.declared.command.Command.TheVariants.{DecideMu, CheckModel}
+use Rattle.ml_model_check.specs.Checked.{Shows}
+use Rattle.ml_front.specs.Problems.{IsSatisfiable}
+use Rattle.ml_front.specs.declared.problem.Problem.{Problem}
+use Rattle.ml_refute_check.specs.Documents.{IsAcceptedDocument}
+use Rattle.ml_driver.specs.declared.cause.Cause.{Cause}
+use Rattle.ml_driver.specs.declared.status.Status.TheVariants.{Yes, No, Undecided}
+use Rattle.ml_driver.specs.Decision.{IsAnswered, IsClosed, IsProblem, Refuted, Satisfied, StaysOpen}
+use Rattle.ml_driver.specs.declared.question.Question.{Question}
 use Rattle.ml_driver.specs.declared.status.Status.{Status}
-use Rattle.ml_driver.specs.declared.status.Status.TheVariants.{Yes}
-use Rattle.ml_driver.specs.Statuses.{holds_line}
-use Rattle.ml_driver.specs.Run.{IsDue, World, Answered}
+use Rattle.ml_driver.specs.Run.{IsDue}
 
 abbrev pub OneDue : Type 0
 OneDue = (c : Option Command) (text : List ℕ) (s t : Status) (out more : List ℕ) → IsDue c text s out → IsDue c text t more → s ≡ t
 
-abbrev pub SomeDue : Type 0
-SomeDue = (c : Option Command) (text : List ℕ) → (s : Status) × ((out : List ℕ) × IsDue c text s out)
+-- the command reads a document, or the words are no command
+abbrev pub ReadsNoFormula : Option Command → Type 0
+ReadsNoFormula (Some (Decide l n)) = ⊥
+ReadsNoFormula (Some (Valid l n)) = ⊥
+ReadsNoFormula _ = Unit {0}
 
+abbrev pub SomeDue : Type 0
+SomeDue = (c : Option Command) (text : List ℕ) → ReadsNoFormula c → (s : Status) × ((out : List ℕ) × IsDue c text s out)
+
+-- the status that says whether the problem is satisfiable, where the question is about the negation or isn't
+abbrev pub says : Bool → Bool → Status
+says false true = Yes
+says false false = No
+says true true = No
+says true false = Yes
+
+-- a status that answers a question about the problem of a text says that the problem stays undecided, exactly where it
+-- does; and else that it is satisfiable, or that it isn't, and so it is
+pub data IsExact (q : Question) (p : Problem) (s : Status) : Type 0 where
+  open_at : (c : Cause) → StaysOpen q p c → s ≡ Undecided → IsExact q p s
+  satisfiable_at : IsClosed q p → IsSatisfiable p → s ≡ says q.negated true → IsExact q p s
+  unsatisfiable_at : IsClosed q p → ¬ (IsSatisfiable p) → s ≡ says q.negated false → IsExact q p s
+
+abbrev pub AnswersAreExact : Type 0
+AnswersAreExact = (q : Question) (text : List ℕ) (p : Problem) (s : Status) (out : List ℕ)
+    → IsProblem q text p → IsAnswered q text s out → IsExact q p s
+
+-- the document with a structure is one that `check-model` finds to hold, and the one with a refutation is accepted
 abbrev pub DecidedAreChecked : Type 0
-DecidedAreChecked =
-    (w : World) (done : Answered (Some DecideMu) w Yes) → IsDue (Some CheckModel) done.output Yes holds_line
+DecidedAreChecked = (q : Question) (text out : List ℕ) → Satisfied q text out → Shows out
+
+abbrev pub RefutedAreAccepted : Type 0
+RefutedAreAccepted = (q : Question) (text out : List ℕ) → Refuted q text out → IsAcceptedDocument out

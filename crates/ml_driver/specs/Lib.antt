@@ -1,12 +1,14 @@
 -- the words of the command line
 pub mod Words
 -- documents
-pub mod Document
+pub mod Documents
 -- the exit statuses
 pub mod Statuses
+-- what a problem is decided to be
+pub mod Decision
 -- what a call of `run` answers and leaves behind
 pub mod Run
--- answers before they are written
-pub mod Answer
+-- what private contracts cite
+pub mod private
 -- laws of what is due
 pub mod Laws

@@ -4,13 +4,13 @@
 -- never comes with an output of another one. What is said of bytes read and written is said of a source and a sink
 -- that tell their bytes; of others the clauses on faults remain.
 --
---   IsSatisfied text out      == out is a document about the formula of the text, with a structure and a state at which
---                                that formula holds
---   IsUnsatisfied text out    == out is a document about the formula of the text, which no structure satisfies
---   IsRefused text out        == out says why the text is refused: by its length, by the parser, or by its form
+--   plainly l n, for_negation l n == what `decide` and `valid` ask: of the formula, and of its negation
 --   IsChecked text out        == out says that the problem of the document holds where the document says so
 --   IsRefuted text out        == out says that it doesn't
---   IsRefusedDocument text out == out says why the document is refused: by its length, or by its first bad line
+--   IsAcceptedRefutation text out == out says that the document's refutation is accepted, and its problem holds nowhere
+--   IsRejectedRefutation text out == out says at which line it isn't accepted, and by which rule
+--   IsRefusedDocument F text out == out says why the document is refused: by its length, or by its first bad line, which
+--                                F tells
 --   IsDue c text status out   == for the command c, or for words that are none, this status and this output are due
 --                                where the input is the text
 --   World                     == what a call found and left: the bytes of the source, those of the sink, both counts of
@@ -22,66 +22,34 @@
 --                                command
 --   IsWhole out               == out isn't longer than the documents that are read
 --   Ended c w status          == what is true when the call has answered this status
-use Rattle.std.specs.Prelude.{ℕ, ◌≡◌, ◌<◌, ◌≤◌, ◌⊎◌, List, [], length, Option, Some, None, IsSome}
+use Rattle.std.specs.Prelude.{ℕ, ◌≡◌, ◌<◌, ◌≤◌, ◌⊎◌, true, false, List, [], length, Option, Some, None, IsSome}
 use Rattle.std.specs.Io.KnownBytes.{IsAtEnd, append_known, prepend_known}
 use Rattle.ml_base.specs.Faults.{Rose}
-use Rattle.ml_base.specs.Structure.{Structure}
 use Rattle.ml_base.specs.Whole.{AppendsPart, Gives}
-use Rattle.ml_kripke.specs.Ordered.{HasNames}
-use Rattle.ml_mu.specs.Formula.{Formula}
-use Rattle.ml_mu.specs.Parsing.{IsParsedAs, IsRefusedBy}
-use Rattle.ml_front.specs.Problems.{IsSatisfiable}
-use Rattle.ml_table.specs.Propositional.{plain, IsInForm, HoldsInModel}
 use Rattle.ml_base.specs.declared.doc_fault.DocFault.{DocFault}
-use Rattle.ml_base.specs.declared.parse_refusal.ParseRefusal.{ParseRefusal}
-use Rattle.ml_model_check.specs.Checked.{Shows, ShowsNot, IsDocumentFault}
+use Rattle.ml_model_check.specs.Checked as shown
+use Rattle.ml_model_check.specs.Checked.{Shows, ShowsNot}
+use Rattle.ml_refute_check.specs.Documents as refuted
+use Rattle.ml_refute_check.specs.Documents.{IsAcceptedDocument, IsMigrated, IsRejectedAt, HoldsNowhere}
 use Rattle.ml_driver.specs.declared.command.Command.{Command}
-use Rattle.ml_driver.specs.declared.command.Command.TheVariants.{DecideMu, CheckModel}
+use Rattle.ml_driver.specs.declared.command.Command.TheVariants.{Decide, Valid, CheckModel, CheckRefutation, Migrate}
 use Rattle.ml_driver.specs.declared.status.Status.{Status}
-use Rattle.ml_driver.specs.declared.status.Status.TheVariants.{Yes, No, Undecided, Words, Text, ReadFault, WriteFault, NoMemory, Unconfirmed}
-use Rattle.ml_driver.specs.Document.{satisfiable_document, unsatisfiable_document}
-use Rattle.ml_driver.specs.Statuses.{longest_text, longest_document, longest_input, refused_words, refused_form, refused_length, refusal_line, holds_line, fails_line, refused_document}
+use Rattle.ml_driver.specs.declared.status.Status.TheVariants.{Yes, No, Undecided, Words, Text, ReadFault, WriteFault, NoMemory}
+use Rattle.ml_driver.specs.Decision.{IsAnswered}
+use Rattle.ml_driver.specs.declared.question.Question.{Question}
+use Rattle.ml_front.specs.declared.logic.Logic.{Logic}
+use Rattle.ml_driver.specs.Statuses.{longest_document, longest_input, refused_words, refused_length, holds_line, fails_line, accepted_line, rejected_line, refused_document}
 
--- the formula holds at the written state of the written structure
-pub record IsSatisfied (text out : List ℕ) : Type 0 where
-  pub formula : Formula
-  pub structure : Structure
-  pub is_parsed : IsParsedAs text formula
-  pub is_in_form : IsInForm formula
-  pub has_names : HasNames structure
-  pub holds : HoldsInModel formula structure
-  pub is_written : out ≡ satisfiable_document (plain formula) structure 0
+-- what `decide` and `valid` ask
+abbrev pub plainly : Logic → ℕ → Question
+plainly l n = record { logic = l; negated = false; limit = n }
 
--- no structure has a state at which the formula holds
-pub record IsUnsatisfied (text out : List ℕ) : Type 0 where
-  pub formula : Formula
-  pub is_parsed : IsParsedAs text formula
-  pub is_in_form : IsInForm formula
-  pub is_unsatisfiable : ¬ (IsSatisfiable (plain formula))
-  pub is_written : out ≡ unsatisfiable_document (plain formula)
+abbrev pub for_negation : Logic → ℕ → Question
+for_negation l n = record { logic = l; negated = true; limit = n }
 
--- the parser refuses the text, for this cause and at this byte
-pub record IsRefusedText (text out : List ℕ) : Type 0 where
-  pub refusal : ParseRefusal
-  pub is_refused : IsRefusedBy text refusal
-  pub is_written : Some out ≡ refusal_line refusal
-
--- the text is one of a formula that isn't decided yet: one with a modality, a binder, or too many propositions
-pub record IsOutOfForm (text out : List ℕ) : Type 0 where
-  pub formula : Formula
-  pub is_parsed : IsParsedAs text formula
-  pub is_not_in_form : IsInForm formula → ⊥
-  pub is_written : out ≡ refused_form
-
--- the input is longer than the limit of the command: what was given of it is
-abbrev pub IsTooLong : Command → List ℕ → List ℕ → Type 0
-IsTooLong c text out = (longest_input c < length text) × (out ≡ refused_length)
-
--- the three reasons to refuse the input
-pub data IsRefused (text out : List ℕ) : Type 0 where
-  by_length : IsTooLong DecideMu text out → IsRefused text out
-  by_text : length text ≤ longest_text → IsRefusedText text out → IsRefused text out
-  by_form : length text ≤ longest_text → IsOutOfForm text out → IsRefused text out
+-- the input is longer than its limit: what was given of it is
+abbrev pub IsTooLong : ℕ → List ℕ → List ℕ → Type 0
+IsTooLong limit text out = (limit < length text) × (out ≡ refused_length)
 
 -- the document shows a structure, and its problem holds at the start
 abbrev pub IsChecked : List ℕ → List ℕ → Type 0
@@ -91,25 +59,42 @@ IsChecked text out = Shows text × (out ≡ holds_line)
 abbrev pub IsRefuted : List ℕ → List ℕ → Type 0
 IsRefuted text out = ShowsNot text × (out ≡ fails_line)
 
+-- the document shows a refutation that is accepted for its problem; so what it answers is true
+pub record IsAcceptedRefutation (text out : List ℕ) : Type 0 where
+  pub is_accepted : IsAcceptedDocument text
+  pub is_true : HoldsNowhere text
+  pub is_written : out ≡ accepted_line
+
+-- the document shows a refutation, and this is its first line with a broken rule
+pub record IsRejectedRefutation (text out : List ℕ) : Type 0 where
+  pub line : ℕ
+  pub rule : ℕ
+  pub is_rejected : IsRejectedAt text line rule
+  pub is_written : out ≡ rejected_line line rule
+
 -- the document has a first bad line
-pub record IsUnreadable (text out : List ℕ) : Type 0 where
+pub record IsUnreadable (IsFault : DocFault → Type 0) (out : List ℕ) : Type 0 where
   pub fault : DocFault
-  pub is_fault : IsDocumentFault text fault
+  pub is_fault : IsFault fault
   pub is_written : out ≡ refused_document fault
 
 -- the two reasons to refuse a document
-pub data IsRefusedDocument (text out : List ℕ) : Type 0 where
-  document_by_length : IsTooLong CheckModel text out → IsRefusedDocument text out
-  by_line : length text ≤ longest_document → IsUnreadable text out → IsRefusedDocument text out
+pub data IsRefusedDocument (IsFault : DocFault → Type 0) (text out : List ℕ) : Type 0 where
+  document_by_length : IsTooLong longest_document text out → IsRefusedDocument IsFault text out
+  by_line : length text ≤ longest_document → IsUnreadable IsFault out → IsRefusedDocument IsFault text out
 
 abbrev pub IsDue : Option Command → List ℕ → Status → List ℕ → Type 0
 IsDue None text Words out = out ≡ refused_words
-IsDue (Some DecideMu) text Yes out = (length text ≤ longest_text) × IsSatisfied text out
-IsDue (Some DecideMu) text No out = (length text ≤ longest_text) × IsUnsatisfied text out
-IsDue (Some DecideMu) text Text out = IsRefused text out
+IsDue (Some (Decide l n)) text status out = IsAnswered (plainly l n) text status out
+IsDue (Some (Valid l n)) text status out = IsAnswered (for_negation l n) text status out
 IsDue (Some CheckModel) text Yes out = (length text ≤ longest_document) × IsChecked text out
 IsDue (Some CheckModel) text No out = (length text ≤ longest_document) × IsRefuted text out
-IsDue (Some CheckModel) text Text out = IsRefusedDocument text out
+IsDue (Some CheckModel) text Text out = IsRefusedDocument (shown.IsDocumentFault text) text out
+IsDue (Some CheckRefutation) text Yes out = (length text ≤ longest_document) × IsAcceptedRefutation text out
+IsDue (Some CheckRefutation) text No out = (length text ≤ longest_document) × IsRejectedRefutation text out
+IsDue (Some CheckRefutation) text Text out = IsRefusedDocument (refuted.IsDocumentFault text) text out
+IsDue (Some Migrate) text Yes out = (length text ≤ longest_document) × IsMigrated text out
+IsDue (Some Migrate) text Text out = IsRefusedDocument (refuted.IsDocumentFault text) text out
 IsDue _ _ _ _ = ⊥
 
 pub record World : Type 0 where
@@ -184,7 +169,6 @@ Ended c w Text = Answered c w Text
 Ended c w ReadFault = FailedToRead c w
 Ended c w WriteFault = FailedToWrite c w
 Ended c w NoMemory = LackedMemory c w
-Ended c w Unconfirmed = Answered c w Unconfirmed
 
 -- a status and its output were due, and were written: the whole of it, or a part where the sink failed
 abbrev pub Wrote : Option (List ℕ) → Option (List ℕ) → ℕ → ℕ → Status → List ℕ → Status → Type 0

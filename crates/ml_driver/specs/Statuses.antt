@@ -2,13 +2,14 @@
 --
 --   code_of status   == its number
 --   refused_words    == the line for words that are no command
---   refused_form     == the line for a formula that isn't decided yet
 --   longest_text     == the limit on the length of a formula's text
 --   longest_document == the limit on the length of a document
 --   longest_input c  == the limit on the length of the input of a command
 --   refused_length   == the line for a longer input
 --   holds_line       == the line for a document whose problem holds where the document says so
 --   fails_line       == the line for one whose problem doesn't
+--   accepted_line    == the line for a document whose refutation is accepted
+--   rejected_line l k == the line for one whose refutation isn't: the first line with a broken rule, and the lowest such rule
 --   refused_document f == the line for a document that can't be read: its first bad line, and the rule that it breaks
 --   refusal_line e   == the line for a text that the parser refuses: the number of its cause, and the byte
 use Rattle.std.specs.Prelude.{ℕ, List, [], ◌∷◌, codes, Option, Some, None}
@@ -17,10 +18,10 @@ use Rattle.ml_base.specs.declared.parse_refusal.ParseRefusal.{ParseRefusal}
 use Rattle.ml_base.specs.declared.parse_refusal.ParseRefusal.TheVariants as refusal
 use Rattle.ml_lines.specs.Lines.{number, line_text}
 use Rattle.ml_driver.specs.declared.command.Command.{Command}
-use Rattle.ml_driver.specs.declared.command.Command.TheVariants.{DecideMu, CheckModel}
+use Rattle.ml_driver.specs.declared.command.Command.TheVariants.{Decide, Valid, CheckModel, CheckRefutation, Migrate}
 use Rattle.ml_driver.specs.declared.command.TheConstants.{LONGEST_TEXT, LONGEST_DOCUMENT}
 use Rattle.ml_driver.specs.declared.status.Status.{Status}
-use Rattle.ml_driver.specs.declared.status.Status.TheVariants.{Yes, No, Undecided, Words, Text, ReadFault, WriteFault, NoMemory, Unconfirmed}
+use Rattle.ml_driver.specs.declared.status.Status.TheVariants.{Yes, No, Undecided, Words, Text, ReadFault, WriteFault, NoMemory}
 
 abbrev pub code_of : Status → ℕ
 code_of Yes = 0
@@ -31,13 +32,9 @@ code_of Text = 4
 code_of ReadFault = 5
 code_of WriteFault = 6
 code_of NoMemory = 7
-code_of Unconfirmed = 8
 
 abbrev pub refused_words : List ℕ
 refused_words = line_text (codes "refused" ∷ codes "words" ∷ [])
-
-abbrev pub refused_form : List ℕ
-refused_form = line_text (codes "refused" ∷ codes "form" ∷ [])
 
 abbrev pub longest_text : ℕ
 longest_text = LONGEST_TEXT
@@ -46,8 +43,11 @@ abbrev pub longest_document : ℕ
 longest_document = LONGEST_DOCUMENT
 
 abbrev pub longest_input : Command → ℕ
-longest_input DecideMu = longest_text
+longest_input (Decide l n) = longest_text
+longest_input (Valid l n) = longest_text
 longest_input CheckModel = longest_document
+longest_input CheckRefutation = longest_document
+longest_input Migrate = longest_document
 
 abbrev pub refused_length : List ℕ
 refused_length = line_text (codes "refused" ∷ codes "length" ∷ [])
@@ -57,6 +57,13 @@ holds_line = line_text (codes "holds" ∷ [])
 
 abbrev pub fails_line : List ℕ
 fails_line = line_text (codes "fails" ∷ [])
+
+abbrev pub accepted_line : List ℕ
+accepted_line = line_text (codes "accepted" ∷ [])
+
+abbrev pub rejected_line : ℕ → ℕ → List ℕ
+rejected_line line rule =
+    line_text (codes "rejected" ∷ codes "line" ∷ number line ∷ codes "rule" ∷ number rule ∷ [])
 
 abbrev pub refused_document : DocFault → List ℕ
 refused_document fault =

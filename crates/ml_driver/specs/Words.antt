@@ -1,13 +1,119 @@
 -- The words of the command line.
 --
---   command_of ws  == the command that the words are, if they are one: `decide mu` or `check-model`
-use Rattle.std.specs.Prelude.{ℕ, List, [], ◌∷◌, Option, Some, None, if◌then◌else◌, codes}
-use Rattle.std.specs.Cmp.Lexicographic.{pointwise}
+-- The words are taken apart by `clap`, as the words of one simple command: three positionals, of which the first one has
+-- to be there, and one option with a value, which may stand anywhere. What `clap` makes of words is its own definition;
+-- what is made of the parts stands here, in a table of commands. Words that `clap` refuses, and parts that are no row of
+-- the table, are no command.
+--
+--   cli                == the command that `clap` is told
+--   faults_of words    == the faults that `clap` finds in the words
+--   rows_in words      == what it finds in words without a fault
+--   logic_named w      == the logic that the word w names
+--   is_digit b         == the byte b is a decimal digit
+--   value_from v w     == the value of the digits w behind a number v that was read; none past the greatest limit, or
+--                         where a byte is no digit
+--   limit_named w      == the limit that the word w tells: one to six digits, from 1 to 200,000; without a word 50,000
+--   Parts              == the words as they are taken apart: three positionals and the option's value
+--   decided_by, bare_by == the rows of the table with and without a logic
+--   row p              == the command whose row the parts p are
+--   if_faultless ks c  == c, where there is no fault
+--   parts_in rows      == the parts that `clap` found
+--   command_of words   == the command that the words are, if they are one
+use Rattle.std.specs.Prelude.{ℕ, ◌+◌, ◌-◌, ◌*◌, ◌&&◌, Bool, true, List, [], ◌∷◌, length, Option, Some, None, if◌then◌else◌, nat_le, option_and_then, codes}
 use Rattle.std.specs.Str.{bytes_eq}
+use Rattle.clap.specs.Words.{App, Kinds, Row, first_of, fault_of, matches_of, new_app, new_rule, with_rule}
+use Rattle.ml_lines.specs.Lines.{Word}
+use Rattle.ml_front.specs.Logics.{logic_word}
+use Rattle.ml_front.specs.declared.logic.Logic.{Logic}
+use Rattle.ml_front.specs.declared.logic.Logic.TheVariants.{Mu}
 use Rattle.ml_driver.specs.declared.command.Command.{Command}
-use Rattle.ml_driver.specs.declared.command.Command.TheVariants.{DecideMu, CheckModel}
+use Rattle.ml_driver.specs.declared.command.Command.TheVariants.{Decide, Valid, CheckModel, CheckRefutation, Migrate}
+use Rattle.ml_driver.specs.declared.command.TheConstants.{DEFAULT_LIMIT, GREATEST_LIMIT, LONGEST_LIMIT}
 
-abbrev pub command_of : List (List ℕ) → Option Command
-command_of words =
-    if pointwise bytes_eq words (codes "decide" ∷ codes "mu" ∷ []) then Some DecideMu
-    else (if pointwise bytes_eq words (codes "check-model" ∷ []) then Some CheckModel else None)
+-- ---- what `clap` is told
+
+unfoldable pub cli : App
+cli =
+    let bare = new_app (codes "mlsolver") in
+    let plain = record bare { top = record bare.top { no_binary_name = true; disable_help_flag = true } } in
+    let command = record (new_rule (codes "command")) { required = true } in
+    let limit = record (new_rule (codes "limit")) { long = Some (codes "limit") } in
+    with_rule (with_rule (with_rule (with_rule plain command) (new_rule (codes "subject"))) (new_rule (codes "count"))) limit
+
+-- the faults that `clap` finds in words, and what it finds in words without a fault
+unfoldable pub faults_of : List Word → Kinds
+faults_of words = fault_of cli words
+
+unfoldable pub rows_in : List Word → List Row
+rows_in words = matches_of cli words
+
+-- ---- the parts
+
+abbrev pub logic_named : Word → Option Logic
+logic_named w = if bytes_eq w (logic_word Mu) then Some Mu else None
+
+abbrev pub is_digit : ℕ → Bool
+is_digit b = nat_le 48 b && nat_le b 57
+
+abbrev pub digit_on : ℕ → ℕ → Option ℕ
+digit_on v b = if is_digit b && nat_le (v * 10 + (b - 48)) GREATEST_LIMIT then Some (v * 10 + (b - 48)) else None
+
+abbrev pub value_from : ℕ → Word → Option ℕ
+value_from v [] = Some v
+value_from v (b ∷ w) = option_and_then (λ (u : ℕ). value_from u w) (digit_on v b)
+
+abbrev pub at_least_one : ℕ → Option ℕ
+at_least_one v = if nat_le 1 v then Some v else None
+
+abbrev pub limit_named : Option Word → Option ℕ
+limit_named None = Some DEFAULT_LIMIT
+limit_named (Some w) =
+    if nat_le 1 (length w) && nat_le (length w) LONGEST_LIMIT then option_and_then at_least_one (value_from 0 w) else None
+
+pub record Parts : Type 0 where
+  pub command : Option Word
+  pub subject : Option Word
+  pub count : Option Word
+  pub limit : Option Word
+
+-- ---- the table
+
+-- a command with a logic and a limit
+abbrev pub decided_by : Word → Logic → ℕ → Option Command
+decided_by w l n =
+    if bytes_eq w (codes "decide") then Some (Decide l n)
+    else (if bytes_eq w (codes "valid") then Some (Valid l n) else None)
+
+-- a command that stands alone
+abbrev pub bare_by : Word → Option Command
+bare_by w =
+    if bytes_eq w (codes "check-model") then Some CheckModel
+    else (if bytes_eq w (codes "check-refutation") then Some CheckRefutation
+    else (if bytes_eq w (codes "migrate") then Some Migrate else None))
+
+abbrev pub row_of : Option Word → Option Word → Option Word → Option Word → Option Command
+row_of (Some w) (Some subject) None limit =
+    option_and_then (λ (l : Logic). option_and_then (decided_by w l) (limit_named limit)) (logic_named subject)
+row_of (Some w) None None None = bare_by w
+row_of _ _ _ _ = None
+
+abbrev pub row : Parts → Option Command
+row p = row_of p.command p.subject p.count p.limit
+
+-- ---- the words
+
+abbrev pub parts_in : List Row → Parts
+parts_in rows = record {
+  command = first_of (codes "command") rows;
+  subject = first_of (codes "subject") rows;
+  count = first_of (codes "count") rows;
+  limit = first_of (codes "limit") rows;
+}
+
+-- `clap` finds no fault in the words
+abbrev pub if_faultless : Kinds → Option Command → Option Command
+if_faultless [] c = c
+if_faultless (k ∷ ks) c = None
+
+abbrev pub command_of : List Word → Option Command
+command_of words = if_faultless (faults_of words) (row (parts_in (rows_in words)))

@@ -1,14 +1,15 @@
-// Checking a document that shows a structure.
+// Checking documents, and migrating them.
 ghost use Rattle.std.specs.Prelude.{◌≡◌, ◌≤◌, length, IfOk, Some};
 ghost use Rattle.ml_driver.specs.Run.{IsDue};
 ghost use Rattle.ml_driver.specs.Statuses as statuses;
 ghost use Rattle.ml_driver.specs.Statuses.{longest_document};
 
-use crate::answer::Output;
+use crate::output::Output;
 use crate::{Command, Status};
-use ml_base::{DocFault, NoMemory};
+use ml_base::{DocFault, DocRefusal, NoMemory};
 use ml_lines::{end_line, write_next_number, write_next_word, write_word};
 use ml_model_check::{Checked, check_document};
+use ml_refute_check::{Verdict, check};
 use std::alloc::Global;
 
 // what is due for `check-model` on a document
@@ -31,6 +32,58 @@ pub(crate) fn check_model(alloc: Global, text: &[u8]) -> Result<Output, NoMemory
         },
         Checked::NotTotal(_) | Checked::ClosureTooLarge => unreachable!(),
     })
+}
+
+// what is due for `check-refutation` on a document
+pub(crate) fn check_refutation(alloc: Global, text: &[u8]) -> Result<Output, NoMemory>
+    requires { length text.now ≤ longest_document }
+    ensures { IfOk result (λ output. IsDue (Some Command.CheckRefutation) text.now output.status output.bytes.items) }
+{
+    Ok(match check(alloc, text)? {
+        Verdict::Accepted => Output {
+            status: Status::Yes,
+            bytes: Vec::from_slice(alloc, b"accepted\n")?,
+        },
+        Verdict::Rejected { line, rule } => Output {
+            status: Status::No,
+            bytes: rejected(alloc, line, rule)?,
+        },
+        Verdict::Unreadable(fault) => Output {
+            status: Status::Text,
+            bytes: refused_document(alloc, fault)?,
+        },
+    })
+}
+
+// what is due for `migrate` on a document
+pub(crate) fn migrate(alloc: Global, text: &[u8]) -> Result<Output, NoMemory>
+    requires { length text.now ≤ longest_document }
+    ensures { IfOk result (λ output. IsDue (Some Command.Migrate) text.now output.status output.bytes.items) }
+{
+    Ok(match ml_refute_check::migrate(alloc, text) {
+        Ok(document) => Output {
+            status: Status::Yes,
+            bytes: document,
+        },
+        Err(DocRefusal::Fault(fault)) => Output {
+            status: Status::Text,
+            bytes: refused_document(alloc, fault)?,
+        },
+        Err(DocRefusal::NoMemory) => return Err(NoMemory),
+    })
+}
+
+fn rejected(alloc: Global, number: u64, rule: u32) -> Result<Vec<u8>, NoMemory>
+    ensures { IfOk result (λ line. line.items ≡ statuses.rejected_line number rule) }
+{
+    let mut line = Vec::new(alloc);
+    write_word(&mut line, b"rejected")?;
+    write_next_word(&mut line, b"line")?;
+    write_next_number(&mut line, number)?;
+    write_next_word(&mut line, b"rule")?;
+    write_next_number(&mut line, u64::from(rule))?;
+    end_line(&mut line)?;
+    Ok(line)
 }
 
 fn refused_document(alloc: Global, fault: DocFault) -> Result<Vec<u8>, NoMemory>

@@ -1,15 +1,32 @@
-// The words of the command line.
-ghost use Rattle.std.specs.Prelude.{◌≡◌, map};
+// The commands, and the words that ask for them.
+ghost use Rattle.std.specs.Prelude.{◌≡◌, ◌≢◌, ◌≤◌, [], map, option_map, IfOk, IfSome, MatchOption};
 ghost use Rattle.std.specs.String.{string_bytes};
+ghost use Rattle.clap.specs.Words.{app_of, found_of, kind_of, rows_of};
+ghost use Rattle.ml_driver.specs.declared.command.TheConstants.{GREATEST_LIMIT};
 ghost use Rattle.ml_driver.specs.Words as command_line;
+ghost use Rattle.ml_driver.specs.Words.{cli, faults_of, parts_in, row_of, rows_in};
+ghost use Rattle.ml_driver.specs.private.Refused.{is_refusal};
+ghost use Rattle.ml_driver.specs.private.SomeLimit.{HasSomeLimit};
+
+use clap::error::ErrorKind;
+use clap::{Arg, ArgMatches, Error};
+use ml_base::NoMemory;
+use ml_front::Logic;
+use std::alloc::{AllocError, Global};
 
 /// What the words ask for.
 #[derive(Clone, Copy, Debug, PartialEq, Eq)]
 pub enum Command {
-    /// `decide mu`: is the formula on the input satisfiable?
-    DecideMu,
+    /// `decide LOGIC`: is the formula on the input satisfiable? The decision game may have as many positions as the limit.
+    Decide { logic: Logic, limit: u32 },
+    /// `valid LOGIC`: does the formula on the input hold at every state, so that its negation is unsatisfiable?
+    Valid { logic: Logic, limit: u32 },
     /// `check-model`: does the problem of the document on the input hold at the start of the document's structure?
     CheckModel,
+    /// `check-refutation`: is the refutation of the document on the input accepted for the document's problem?
+    CheckRefutation,
+    /// `migrate`: the document with a refutation on the input, in version 2.
+    Migrate,
 }
 
 /// How many bytes a formula's text has at most.
@@ -17,6 +34,15 @@ pub const LONGEST_TEXT: u64 = 1_048_576;
 
 /// How many bytes a document has at most, 2^63 - 1: no slice of bytes is longer.
 pub const LONGEST_DOCUMENT: u64 = 0x7fff_ffff_ffff_ffff;
+
+/// How many positions a decision game may have, where the words don't say.
+pub const DEFAULT_LIMIT: u32 = 50_000;
+
+/// How many positions a decision game may have at most.
+pub const GREATEST_LIMIT: u32 = 200_000;
+
+/// How many digits a limit has at most.
+pub const LONGEST_LIMIT: usize = 6;
 
 impl Command {
     ghost use Rattle.ml_driver.specs.Statuses.{longest_input};
@@ -26,21 +52,188 @@ impl Command {
         ensures { result ≡ longest_input self }
     {
         match self {
-            Command::DecideMu => LONGEST_TEXT,
-            Command::CheckModel => LONGEST_DOCUMENT,
+            Command::Decide { .. } | Command::Valid { .. } => LONGEST_TEXT,
+            Command::CheckModel | Command::CheckRefutation | Command::Migrate => LONGEST_DOCUMENT,
         }
     }
 }
 
-/// The command that the words are, without the program's name, or `None` where they are none.
-pub fn command_of(words: &[String]) -> Option<Command>
-    ensures { result ≡ command_line.command_of (map string_bytes words.now) }
+/// The command that the words are, without the program's name, or `None` where they are none: `clap` takes them apart, and
+/// a table says which parts are a command.
+///
+/// # Errors
+/// `NoMemory` alone.
+///
+/// Cost: linear in the words.
+pub fn command_of(alloc: Global, words: &[String]) -> Result<Option<Command>, NoMemory>
+    ensures command { IfOk result (λ c. c ≡ command_line.command_of (map string_bytes words.now)) }
+    ensures some { IfOk result (λ c. IfSome c HasSomeLimit) }
 {
-    match words {
-        [command, logic] if command.as_str() == "decide" && logic.as_str() == "mu" => {
-            Some(Command::DecideMu)
+    match taken_apart(alloc, words)? {
+        Some(matches) => Ok(command_in(&matches)),
+        None => Ok(None),
+    }
+}
+
+// what `clap` finds in the words, or `None` where it refuses them
+fn taken_apart<'a>(alloc: Global, words: &'a [String]) -> Result<Option<ArgMatches<'a>>, NoMemory>
+    ensures { IfOk result (λ found. MatchOption found
+        (faults_of (map string_bytes words.entry.now) ≢ [])
+        (λ m. (faults_of (map string_bytes words.entry.now) ≡ []) × (rows_of (found_of m) ≡ rows_in (map string_bytes words.entry.now)))) }
+{
+    let cli = match cli(alloc) {
+        Ok(cli) => cli,
+        Err(AllocError) => return Err(NoMemory),
+    };
+    match cli.try_get_matches_from(words) {
+        Ok(matches) => Ok(Some(matches)),
+        Err(error) => match refused(&error) {
+            true => Ok(None),
+            false => Err(NoMemory),
+        },
+    }
+}
+
+fn cli<'a>(alloc: Global) -> Result<clap::Command<'a>, AllocError>
+    ensures { IfOk result (λ c. app_of c ≡ cli) }
+{
+    let command = Arg::new(alloc, "command").required(true);
+    let limit = Arg::new(alloc, "limit").long("limit");
+    clap::Command::new(alloc, "mlsolver")
+        .no_binary_name(true)
+        .disable_help_flag(true)
+        .arg(command)?
+        .arg(Arg::new(alloc, "subject"))?
+        .arg(Arg::new(alloc, "count"))?
+        .arg(limit)
+}
+
+// the words are at fault, and memory isn't
+fn refused(error: &Error) -> bool
+    ensures { result ≡ is_refusal (kind_of error.now) }
+{
+    !matches!(error.kind(), ErrorKind::OutOfMemory)
+}
+
+// ---- the table
+
+fn command_in(matches: &ArgMatches<'_>) -> Option<Command>
+    ensures command { result ≡ command_line.row (parts_in (rows_of (found_of matches.now))) }
+    ensures some { IfSome result HasSomeLimit }
+{
+    row(
+        matches.get_str("command"),
+        matches.get_str("subject"),
+        matches.get_str("count"),
+        matches.get_str("limit"),
+    )
+}
+
+fn row(
+    command: Option<&str>,
+    subject: Option<&str>,
+    count: Option<&str>,
+    limit: Option<&str>,
+) -> Option<Command>
+    ensures command { result ≡ row_of (option_map (λ s. s.now) command.entry) (option_map (λ s. s.now) subject.entry)
+        (option_map (λ s. s.now) count.entry) (option_map (λ s. s.now) limit.entry) }
+    ensures some { IfSome result HasSomeLimit }
+{
+    match (command, subject, count, limit) {
+        (Some(command), Some(subject), None, limit) => {
+            let logic = logic_named(subject)?;
+            let limit = limit_named(limit)?;
+            decided_by(command, logic, limit)
         }
-        [command] if command.as_str() == "check-model" => Some(Command::CheckModel),
+        (Some(command), None, None, None) => bare_by(command),
         _ => None,
+    }
+}
+
+fn decided_by(command: &str, logic: Logic, limit: u32) -> Option<Command>
+    requires { 1 ≤ limit }
+    ensures command { result ≡ command_line.decided_by command.now logic limit }
+    ensures some { IfSome result HasSomeLimit }
+{
+    if command == "decide" {
+        Some(Command::Decide { logic, limit })
+    } else if command == "valid" {
+        Some(Command::Valid { logic, limit })
+    } else {
+        None
+    }
+}
+
+fn bare_by(command: &str) -> Option<Command>
+    ensures command { result ≡ command_line.bare_by command.now }
+    ensures some { IfSome result HasSomeLimit }
+{
+    if command == "check-model" {
+        Some(Command::CheckModel)
+    } else if command == "check-refutation" {
+        Some(Command::CheckRefutation)
+    } else if command == "migrate" {
+        Some(Command::Migrate)
+    } else {
+        None
+    }
+}
+
+fn logic_named(word: &str) -> Option<Logic>
+    ensures { result ≡ command_line.logic_named word.now }
+{
+    if word.as_bytes() == Logic::Mu.word() {
+        Some(Logic::Mu)
+    } else {
+        None
+    }
+}
+
+// ---- limits
+
+fn limit_named(word: Option<&str>) -> Option<u32>
+    ensures limit { result ≡ command_line.limit_named (option_map (λ s. s.now) word.entry) }
+    ensures some { IfSome result (λ limit. 1 ≤ limit) }
+{
+    let Some(word) = word else {
+        return Some(DEFAULT_LIMIT);
+    };
+    if word.is_empty() || word.len() > LONGEST_LIMIT {
+        return None;
+    }
+    match value_from(0, word.as_bytes()) {
+        Some(0) | None => None,
+        Some(limit) => Some(limit),
+    }
+}
+
+// the value of digits behind a number that was read
+fn value_from(read: u32, digits: &[u8]) -> Option<u32>
+    requires { read ≤ GREATEST_LIMIT }
+    ensures { result ≡ command_line.value_from read digits.now }
+{
+    match digits.split_first() {
+        None => Some(read),
+        Some((digit, rest)) => {
+            let read = digit_on(read, *digit)?;
+            value_from(read, rest)
+        }
+    }
+}
+
+// the number with a digit more
+fn digit_on(read: u32, digit: u8) -> Option<u32>
+    requires { read ≤ GREATEST_LIMIT }
+    ensures value { result ≡ command_line.digit_on read digit }
+    ensures bound { IfSome result (λ value. value ≤ GREATEST_LIMIT) }
+{
+    if !digit.is_ascii_digit() {
+        return None;
+    }
+    let value = read * 10 + u32::from(digit - b'0');
+    if value <= GREATEST_LIMIT {
+        Some(value)
+    } else {
+        None
     }
 }

@@ -1,39 +1,69 @@
-// Deciding a formula: by the table of assignments where it is propositional.
-ghost use Rattle.std.specs.Prelude.{◌≤◌, length, IfOk, Some};
-ghost use Rattle.ml_driver.specs.Answer.{IsAnswer};
-ghost use Rattle.ml_driver.specs.Run.{IsDue};
+// Deciding the formula of a text, or its negation.
+ghost use Rattle.std.specs.Prelude.{◌≡◌, ◌≤◌, length, IfOk};
+ghost use Rattle.ml_front.specs.Logics.{IsParsedAs};
+ghost use Rattle.ml_driver.specs.Decision.{IsAnswered, IsProblem};
 ghost use Rattle.ml_driver.specs.Statuses.{longest_text};
+ghost use Rattle.ml_driver.specs.private.Decisions.{status_in};
 
-use crate::Command;
-use crate::answer::{Answer, Output, output_of};
+use crate::Status;
+use crate::deciding::{Decision, decision_of};
+use crate::documents::document;
+use crate::output::{Output, refusal_line};
+use crate::question::Question;
 use ml_base::{NoMemory, ParseRefusal};
-use ml_kripke::Model;
-use ml_mu::parse;
-use ml_table::{Table, decide_by_table};
+use ml_front::{Problem, negated, read};
 use std::alloc::Global;
 
-// what is due for `decide mu` on a text
-pub(crate) fn decide_mu(alloc: Global, text: &[u8]) -> Result<Output, NoMemory>
-    requires { length text.now ≤ longest_text }
-    ensures { IfOk result (λ output. IsDue (Some Command.DecideMu) text.now output.status output.bytes.items) }
+// what is due for a question on a text
+pub(crate) fn decide(alloc: Global, question: Question, text: &[u8]) -> Result<Output, NoMemory>
+    requires short { length text.now ≤ longest_text }
+    requires some { 1 ≤ question.limit }
+    ensures { IfOk result (λ output. IsAnswered question text.now output.status output.bytes.items) }
 {
-    let answer = answer_to(alloc, text)?;
-    let output = output_of(alloc, answer)?;
-    Ok(output)
+    match read(alloc, question.logic, text) {
+        Ok(plain) => {
+            let problem = if question.negated {
+                negated(plain)
+            } else {
+                plain
+            };
+            answer(alloc, question, text, &problem)
+        }
+        Err(ParseRefusal::NoMemory) => Err(NoMemory),
+        Err(refusal) => Ok(Output {
+            status: Status::Text,
+            bytes: refusal_line(alloc, refusal)?,
+        }),
+    }
 }
 
-// the answer to `decide mu` on a text
-fn answer_to(alloc: Global, text: &[u8]) -> Result<Answer, NoMemory>
-    ensures { IfOk result (IsAnswer text.now) }
+// what is due for the problem of the text
+fn answer(
+    alloc: Global,
+    question: Question,
+    _text: &[u8],
+    problem: &Problem,
+) -> Result<Output, NoMemory>
+    requires problem { IsProblem question _text.now problem.now }
+    requires some { 1 ≤ question.limit }
+    ensures { IfOk result (λ output. IsAnswered question _text.now output.status output.bytes.items) }
 {
-    let formula = match parse(alloc, text) {
-        Ok(formula) => formula,
-        Err(ParseRefusal::NoMemory) => return Err(NoMemory),
-        Err(refusal) => return Ok(Answer::RefusedText(refusal)),
-    };
-    Ok(match decide_by_table(alloc, &formula)? {
-        Table::Satisfiable(structure) => Answer::Satisfiable(formula, Model::new(structure, 0)),
-        Table::Unsatisfiable => Answer::Unsatisfiable(formula),
-        Table::OutOfForm => Answer::RefusedForm,
+    let decision = decision_of(alloc, problem, question.limit)?;
+    Ok(Output {
+        status: status_in(question.negated, &decision),
+        bytes: document(alloc, problem, &decision)?,
     })
+}
+
+// where the question is about the negation, a refutation says yes
+fn status_in(negated: bool, decision: &Decision) -> Status
+    ensures { result ≡ status_in negated decision.now }
+{
+    match decision {
+        Decision::Satisfiable(_) if negated => Status::No,
+        Decision::Satisfiable(_) => Status::Yes,
+        Decision::Unsatisfiable(_) if negated => Status::Yes,
+        Decision::Unsatisfiable(_) => Status::No,
+        Decision::Undecided(_) => Status::Undecided,
+    }
 }

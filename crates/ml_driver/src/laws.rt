@@ -1,18 +1,27 @@
 // What holds of what is due by its definition alone: the functions do nothing, their contracts are the theorems.
 ghost use Rattle.std.specs.Prelude.{◌≡◌, ◌+◌, ◌^◌};
 ghost use Rattle.ml_driver.specs.declared.command.TheConstants.{LONGEST_TEXT, LONGEST_DOCUMENT};
-ghost use Rattle.ml_driver.specs.Laws.{DecidedAreChecked, OneDue, SomeDue};
+ghost use Rattle.ml_driver.specs.Laws.{AnswersAreExact, DecidedAreChecked, OneDue, RefutedAreAccepted, SomeDue};
 
-/// For a command, or words that are none, and an input, exactly one status is due. So `run` answers each status exactly
-/// where it is due, unless an end failed or memory was wanting.
+/// For a command, or words that are none, and an input, one status is due at most. So where `run` answers a status, no
+/// other one is due. For the commands that read documents, and for words that are none, some status is due as well. That
+/// one is due for `decide` and `valid` too isn't a law yet: it is known of each call that answers.
 pub fn one_due()
     ensures some { SomeDue }
     ensures one { OneDue }
 {}
 
-/// A document that `decide mu` wrote with a structure is one of which `check-model` answers that its problem holds.
+/// An answer to a question about a text that stands for a formula is exact: undecided only where the closure is too large
+/// or the game passes the limit, and else it tells whether the problem is satisfiable.
+pub fn answers_are_exact()
+    ensures { AnswersAreExact }
+{}
+
+/// The documents that are due for `decide` and `valid` are found to be right: `check-model` answers of one with a structure
+/// that its problem holds, and `check-refutation` accepts one with a refutation.
 pub fn decided_are_checked()
-    ensures { DecidedAreChecked }
+    ensures satisfied { DecidedAreChecked }
+    ensures refuted { RefutedAreAccepted }
 {}
 
 /// The text of a formula has at most 1,048,576 bytes, a document at most 2^63 - 1.

@@ -7,14 +7,20 @@
 // Below stand all crates that it calls; above stands only the program `mlsolver`.
 #![tactic(auto)]
 
-mod answer;
+mod cause;
 mod check;
 mod command;
 mod decide;
+mod deciding;
+mod documents;
 pub mod laws;
+mod output;
+mod question;
 mod status;
 mod top;
 
+pub use cause::{Cause, MOST_NODES};
 pub use command::{Command, LONGEST_DOCUMENT, LONGEST_TEXT, command_of};
+pub use question::Question;
 pub use status::Status;
 pub use top::run;

@@ -20,8 +20,6 @@ pub enum Status {
     WriteFault,
     /// Memory was wanting.
     NoMemory,
-    /// A document failed its own check.
-    Unconfirmed,
 }
 
 impl Status {

@@ -4,10 +4,12 @@ ghost use Rattle.std.specs.String.{string_bytes};
 ghost use Rattle.ml_driver.specs.Words as command_line;
 ghost use Rattle.ml_driver.specs.Statuses.{longest_input};
 ghost use Rattle.ml_driver.specs.Run.{Ended, IsDue, IsWhole, Wrote};
+ghost use Rattle.ml_driver.specs.private.SomeLimit.{HasSomeLimit};
 
-use crate::answer::Output;
-use crate::check::check_model;
-use crate::decide::decide_mu;
+use crate::check::{check_model, check_refutation, migrate};
+use crate::decide::decide;
+use crate::output::Output;
+use crate::question::Question;
 use crate::{Command, Status, command_of};
 use ml_base::{NoMemory, ReadRefusal, Sink, Source, read_all, write_all};
 use std::alloc::Global;
@@ -44,8 +46,10 @@ pub fn run<S: Source, K: Sink>(
       sink_faults_after = K.faults sink.new;
     }) result }
 {
-    let Some(command) = command_of(words) else {
-        return written(sink, Status::Words, b"refused words\n");
+    let command = match command_of(alloc, words) {
+        Ok(Some(command)) => command,
+        Ok(None) => return written(sink, Status::Words, b"refused words\n"),
+        Err(NoMemory) => return Status::NoMemory,
     };
     let text = match read_all(alloc, source, command.longest_input()) {
         Ok(text) => text,
@@ -61,12 +65,30 @@ pub fn run<S: Source, K: Sink>(
 
 // what is due for a command on a text
 fn outcome(alloc: Global, command: Command, text: &[u8]) -> Result<Output, NoMemory>
-    requires { length text.now ≤ longest_input command }
+    requires short { length text.now ≤ longest_input command }
+    requires some { HasSomeLimit command }
     ensures { IfOk result (λ output. IsDue (Some command) text.now output.status output.bytes.items) }
 {
     match command {
-        Command::DecideMu => decide_mu(alloc, text),
+        Command::Decide { logic, limit } => {
+            let question = Question {
+                logic,
+                negated: false,
+                limit,
+            };
+            decide(alloc, question, text)
+        }
+        Command::Valid { logic, limit } => {
+            let question = Question {
+                logic,
+                negated: true,
+                limit,
+            };
+            decide(alloc, question, text)
+        }
         Command::CheckModel => check_model(alloc, text),
+        Command::CheckRefutation => check_refutation(alloc, text),
+        Command::Migrate => migrate(alloc, text),
     }
 }
 

@@ -1,6 +1,7 @@
 -- The decision game of a graph with a solution, in which Even wins.
 --
 --   Board          == a graph with its arena, and a solution of the arena's game in which Even wins vertex 0
+--   board_of       == the board of these
 --   even_moves     == Even's moves
 --   WonByMoves     == with these moves Even wins from the vertex
 --   EvenMove, EvenWalk == a move, and a walk, that follow Even's moves
@@ -15,6 +16,7 @@ use Rattle.ml_parity.proofs.FollowedWalks.{FollowedMove, FollowedWalk}
 use Rattle.ml_parity.proofs.SolutionFacts.{solution_winner, solution_wins_from}
 use Rattle.ml_product.specs.Arena.{Arena, IsArenaOf, game_of}
 use Rattle.ml_product.proofs.ArenaGame.{size_is, is_game}
+use Rattle.ml_extract.specs.Extraction.{EvenWins}
 
 pub record Board : Type 0 where
   pub g : Graph
@@ -24,6 +26,18 @@ pub record Board : Type 0 where
   pub arena : IsArenaOf g a
   pub solved : IsSolution (game_of a) s
   pub even_wins : Wins (game_of a) Even 0
+
+-- the board of a graph, an arena and a solution by which Even wins
+abbrev pub board_of : (g : Graph) (a : Arena) (s : GameSolution) → EvenWins g a s → Board
+board_of g a s even = record {
+  g = g;
+  a = a;
+  s = s;
+  g_ok = even.is_graph;
+  arena = even.is_arena;
+  solved = even.is_solution;
+  even_wins = even.wins;
+}
 
 abbrev pub even_moves : Board → ℕ → ℕ
 even_moves B = choice_at B.s.choice

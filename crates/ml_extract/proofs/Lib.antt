@@ -22,3 +22,13 @@ pub mod MetStates
 pub mod EndOfChoices
 -- a model that was worked out by hand
 pub mod WorkedModel
+-- breadth-first lists as they grow
+pub mod GrowingFirst
+-- Even's move at a position that is won
+pub mod WonEnds
+-- states as they are numbered
+pub mod NumberedStates
+-- labels and edges as they are gathered
+pub mod GatheredParts
+-- what is known of a numbered state
+pub mod StateParts

@@ -27,7 +27,7 @@ use Rattle.ml_product.proofs.OnePlace.{same_spread}
 use Rattle.ml_extract.proofs.Numbering.{structure_of}
 
 module _ (g : Graph) (a : Arena) (s : GameSolution) where
-  spread_here : (v : ℕ) (x y : SpreadList) → SpreadAt g a v x → SpreadAt g a v y → x ≡ y
+  pub spread_here : (v : ℕ) (x y : SpreadList) → SpreadAt g a v x → SpreadAt g a v y → x ≡ y
   spread_here v x y h k =
       let both : Some h.position ≡ Some k.position = sym h.stands ∙ k.stands in
       let same : h.position ≡ k.position = cc in

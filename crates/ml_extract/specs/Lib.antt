@@ -2,3 +2,5 @@
 pub mod Model
 -- what is true of it
 pub mod Extraction
+-- what only private contracts cite
+pub mod private

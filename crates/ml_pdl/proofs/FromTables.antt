@@ -13,10 +13,10 @@ use Rattle.ml_text.specs.declared.forms.Role.TheVariants.{Infix, Postfix}
 use Rattle.ml_pdl.specs.Formula as plain
 use Rattle.ml_pdl.specs.Formula.{Formula, Program, Modality, Diamond, Square}
 use Rattle.ml_pdl.specs.Signs as signs
-use Rattle.ml_pdl.specs.Signs.{Sign, Mark, Marked, Unmarked, Not, Connective, Const, Open, Close, Begins, Ends, Plus, Semicolon, Question, Blank, Lower, Upper, action_of}
+use Rattle.ml_pdl.specs.Signs.{Sign, Mark, Marked, Unmarked, Not, Connective, Const, Open, Close, Begins, Ends, Repeats, Plus, Semicolon, Question, Blank, Lower, Upper, action_of}
 use Rattle.ml_pdl.specs.Grammar as grammar
-use Rattle.ml_pdl.specs.Grammar.{Reads, iff_alone, iff, imp_alone, imp, or_alone, or, and_alone, and, negation, modal, modal_blank, group, constant, proposition, ReadsProgram, alt_alone, alt, seq_alone, seq, star_alone, star, action, test, program_group, ReadsTested, tested_negation, tested_constant, tested_proposition, tested_group}
-use Rattle.ml_pdl.specs.Tables.{Phrase, OfFormula, OfProgram, Name, formula_of, program_of, negated, Sort, Formulas, Programs, Wait, FormulaStart, ProgramStart, BehindBegin, BehindProgram, BehindFormulaInside, BehindProgramInside, BehindTestInside, BehindNegations, BehindTested, Hold, Negation, ModalProgram, Modal, FormulaGroup, ProgramGroup, TestGroup, PdlTurn, shift, resume, role, operator_level, join, post, pdl_grammar}
+use Rattle.ml_pdl.specs.Grammar.{Reads, iff_alone, iff, imp_alone, imp, or_alone, or, and_alone, and, negation, modal, modal_blank, repetition, group, constant, proposition, ReadsProgram, alt_alone, alt, seq_alone, seq, star_alone, star, action, test, program_group, ReadsTested, tested_negation, tested_constant, tested_proposition, tested_group}
+use Rattle.ml_pdl.specs.Tables.{Phrase, OfFormula, OfProgram, Name, formula_of, program_of, negated, Sort, Formulas, Programs, Wait, FormulaStart, ProgramStart, BehindBegin, BehindProgram, BehindRepeat, BehindRepeatInside, BehindFormulaInside, BehindProgramInside, BehindTestInside, BehindNegations, BehindTested, Hold, Negation, ModalProgram, Modal, FormulaGroup, ProgramGroup, RepeatGroup, TestGroup, PdlTurn, shift, resume, role, operator_level, join, post, pdl_grammar}
 use Rattle.ml_pdl.proofs.ToTables.{Tabled}
 
 -- ---- levels
@@ -126,6 +126,8 @@ Completes FormulaStart ts v rest = AsFormula grammar.Un ts v rest
 Completes ProgramStart ts v rest = AsProgram grammar.Base ts v rest
 Completes (BehindBegin m) ts v rest = AsFormula grammar.Un (Begins m ∷ ts) v rest
 Completes (BehindProgram m p) ts v rest = (us : List Sign) → ReadsProgram grammar.Prog us p ts → AsFormula grammar.Un (Begins m ∷ us) v rest
+Completes BehindRepeat ts v rest = AsFormula grammar.Un (Repeats ∷ ts) v rest
+Completes (BehindRepeatInside p) ts v rest = (us : List Sign) (k : Mark) → ReadsProgram grammar.Prog us p ts → AsFormula grammar.Un (Repeats ∷ Open k ∷ us) v rest
 Completes (BehindFormulaInside h) ts v rest = (us : List Sign) (k : Mark) → Reads grammar.Iff us h ts → AsFormula grammar.Un (Open k ∷ us) v rest
 Completes (BehindProgramInside p) ts v rest = (us : List Sign) → ReadsProgram grammar.Prog us p ts → AsProgram grammar.Base (Open Unmarked ∷ us) v rest
 Completes (BehindTestInside h) ts v rest = (ts ≡ Close ∷ Question ∷ rest) × (OfProgram (plain.Test h) ≡ v)
@@ -138,6 +140,7 @@ Enters Negation ts v rest = (h : Formula) × Reads grammar.Un ts h rest × (OfFo
 Enters (ModalProgram m) ts v rest = Unit {0}
 Enters (Modal m p) ts v rest = (h : Formula) × Reads grammar.Un ts h rest × (OfFormula (plain.Modal m p h) ≡ v)
 Enters FormulaGroup ts v rest = (k : Mark) → AsFormula grammar.Un (Open k ∷ ts) v rest
+Enters RepeatGroup ts v rest = (k : Mark) → AsFormula grammar.Un (Repeats ∷ Open k ∷ ts) v rest
 Enters ProgramGroup ts v rest = AsProgram grammar.Base (Open Unmarked ∷ ts) v rest
 Enters (TestGroup n) ts v rest = (h : Formula) × Reads grammar.Iff ts h (Close ∷ Question ∷ rest) × (OfProgram (plain.Test (negated n h)) ≡ v)
 
@@ -223,6 +226,7 @@ formula_completes (Const b) ts rest v r = whole_formula (Const b ∷ ts) ts rest
 formula_completes (Lower p) ts rest v r = whole_formula (Lower p ∷ ts) ts rest (plain.Prop p) v r (proposition p)
 formula_completes (Open k) ts rest v r = r k
 formula_completes (Begins m) ts rest v r = r
+formula_completes Repeats ts rest v r = r
 formula_completes _ ts rest v r = absurd r
 
 begin_completes : (m : Modality) (t : Sign) (ts rest : List Sign) (v : Phrase) → OfTurn t (shift (BehindBegin m) t) ts v rest → AsFormula grammar.Un (Begins m ∷ t ∷ ts) v rest
@@ -246,6 +250,10 @@ sign_completes FormulaStart t ts rest v r = formula_completes t ts rest v r
 sign_completes ProgramStart t ts rest v r = program_completes t ts rest v r
 sign_completes (BehindBegin m) t ts rest v r = begin_completes m t ts rest v r
 sign_completes (BehindProgram m p) t ts rest v r = end_completes m p t ts rest v r
+sign_completes BehindRepeat (Open k) ts rest v r = r k
+sign_completes BehindRepeat _ ts rest v r = absurd r
+sign_completes (BehindRepeatInside p) Close ts rest v r = λ us k a. whole_formula (Repeats ∷ Open k ∷ us) ts rest (plain.Repeat p) v r (repetition k a)
+sign_completes (BehindRepeatInside p) _ ts rest v r = absurd r
 sign_completes (BehindFormulaInside h) Close ts rest v r = λ us k a. whole_formula (Open k ∷ us) ts rest h v r (group k a)
 sign_completes (BehindFormulaInside h) _ ts rest v r = absurd r
 sign_completes (BehindProgramInside p) Close ts rest v r = λ us a. whole_program (Open Unmarked ∷ us) ts rest p v r (program_group a)
@@ -273,6 +281,7 @@ inner_enters Negation ts us rest w v a r = (formula_of w, subst (λ x. Reads gra
 inner_enters (ModalProgram m) ts us rest w v a r = tt
 inner_enters (Modal m p) ts us rest w v a r = (formula_of w, subst (λ x. Reads grammar.Un ts (formula_of w) x) r.1 (held_formula ts us w a), r.0)
 inner_enters FormulaGroup ts us rest w v a r = λ k. r ts k (held_group ts us w a)
+inner_enters RepeatGroup ts us rest w v a r = λ k. r ts k (held_program ts us w a)
 inner_enters ProgramGroup ts us rest w v a r = r ts (held_program ts us w a)
 inner_enters (TestGroup n) ts us rest w v a r = (formula_of w, subst (λ x. Reads grammar.Iff ts (formula_of w) x) r.0 (held_group ts us w a), r.1)
 

@@ -18,3 +18,31 @@ pub mod StarRelations
 pub mod MeaningFlags
 -- meanings worked out by hand
 mod WorkedMeanings
+-- names are spelled as they must be
+pub mod Spelled
+-- names in texts
+pub mod Names
+-- negations in front of tests
+pub mod Negations
+-- marks, told from bytes
+pub mod MarkBytes
+-- what a text counts is what its formula has
+pub mod Counting
+-- names in texts and formulas are short
+pub mod ShortNames
+-- from what was read to what parse answers
+pub mod Parsed
+-- a text has one answer
+pub mod OneAnswer
+-- the signs of a text are marked
+pub mod MarkedTexts
+-- the pieces of canonical texts
+pub mod CanonicalPieces
+-- the signs that words are
+pub mod WordSigns
+-- canonical texts
+pub mod CanonicalTexts
+-- canonical texts pass no limit
+pub mod CanonicalLimits
+-- canonical texts are parsed
+pub mod CanonicalParsed

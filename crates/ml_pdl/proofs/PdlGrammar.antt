@@ -6,14 +6,14 @@
 --   read_stands     == what the grammar reads, the tables stand for
 --   one_formula     == signs stand for one formula at most
 use Rattle.std.proofs.Common.{◌≡◌, true, List, [], ◌∷◌, ◌++◌, Some, refl, ap, subst, arith}
-use Rattle.ml_text.specs.Grammar.{More, Inner, Opens, Behind, Operand, Rest, sign, read, form, whole, front, IsStop, IsRegular, Ending, IsCompletable, StandsFor}
+use Rattle.ml_text.specs.Grammar.{More, Inner, Opens, Behind, Operand, Rest, alone, inner, sign, read, form, whole, front, IsStop, IsRegular, Ending, IsCompletable, StandsFor}
 use Rattle.ml_text.proofs.Complete.{one_tree}
 use Rattle.ml_pdl.specs.Formula as plain
 use Rattle.ml_pdl.specs.Formula.{Formula, Program, Modality, Diamond, Square}
 use Rattle.ml_pdl.specs.Signs.{Sign, Marked, Unmarked, Const, Open, Close, Ends, Question, Blank}
 use Rattle.ml_pdl.specs.Grammar as grammar
 use Rattle.ml_pdl.specs.Grammar.{IsReadAs}
-use Rattle.ml_pdl.specs.Tables.{Phrase, OfFormula, OfProgram, Name, formula_of, program_of, negated, Sort, Formulas, Programs, Wait, FormulaStart, ProgramStart, BehindBegin, BehindProgram, BehindFormulaInside, BehindProgramInside, BehindTestInside, BehindNegations, BehindTested, Hold, Negation, ModalProgram, Modal, FormulaGroup, ProgramGroup, TestGroup, blank, shift, start, resume, pdl_grammar}
+use Rattle.ml_pdl.specs.Tables.{Phrase, OfFormula, OfProgram, Name, formula_of, program_of, negated, Sort, Formulas, Programs, Wait, FormulaStart, ProgramStart, BehindBegin, BehindProgram, BehindRepeat, BehindRepeatInside, BehindFormulaInside, BehindProgramInside, BehindTestInside, BehindNegations, BehindTested, Hold, Negation, ModalProgram, Modal, FormulaGroup, ProgramGroup, RepeatGroup, TestGroup, blank, shift, start, resume, pdl_grammar}
 use Rattle.ml_pdl.proofs.ToTables.{Tabled, modal_read, tabled}
 use Rattle.ml_pdl.proofs.FromTables.{AsFormula, untabled}
 
@@ -37,6 +37,10 @@ modal_true t m p rest = modal_read m p (read_true rest)
 test_end : (f : Formula) (rest : List Sign) → Tabled (Rest (More (BehindTested f))) (Question ∷ rest) (OfProgram (plain.Test f)) rest
 test_end f rest = sign (read whole)
 
+-- `_)` ends a repetition
+read_blank : (rest : List Sign) → Tabled (Operand Programs) (Blank ∷ rest) (OfProgram blank) rest
+read_blank rest = form (sign (read whole))
+
 ending : (q : Wait) → Ending pdl_grammar q
 ending FormulaStart = record { signs = Const true ∷ []; tree = OfFormula (plain.Const true); reads = λ rest stop. sign (read whole) }
 ending ProgramStart = record { signs = Blank ∷ []; tree = OfProgram blank; reads = λ rest stop. sign (read whole) }
@@ -44,6 +48,12 @@ ending (BehindBegin Diamond) = record { signs = Ends Diamond ∷ Const true ∷ 
 ending (BehindBegin Square) = record { signs = Ends Square ∷ Const true ∷ []; tree = OfFormula (plain.Modal Square blank (plain.Const true)); reads = λ rest stop. sign (modal_true (Ends Square) Square blank rest) }
 ending (BehindProgram Diamond p) = record { signs = Ends Diamond ∷ Const true ∷ []; tree = OfFormula (plain.Modal Diamond p (plain.Const true)); reads = λ rest stop. sign (modal_true (Ends Diamond) Diamond p rest) }
 ending (BehindProgram Square p) = record { signs = Ends Square ∷ Const true ∷ []; tree = OfFormula (plain.Modal Square p (plain.Const true)); reads = λ rest stop. sign (modal_true (Ends Square) Square p rest) }
+ending BehindRepeat = record {
+  signs = Open Unmarked ∷ Blank ∷ Close ∷ [];
+  tree = OfFormula (plain.Repeat blank);
+  reads = λ rest stop. sign (inner (alone (read_blank (Close ∷ rest))) refl (sign (read whole)));
+}
+ending (BehindRepeatInside p) = record { signs = Close ∷ []; tree = OfFormula (plain.Repeat p); reads = λ rest stop. sign (read whole) }
 ending (BehindFormulaInside f) = record { signs = Close ∷ []; tree = OfFormula f; reads = λ rest stop. sign (read whole) }
 ending (BehindProgramInside p) = record { signs = Close ∷ []; tree = OfProgram p; reads = λ rest stop. sign (read whole) }
 ending (BehindTestInside f) = record { signs = Close ∷ Question ∷ []; tree = OfProgram (plain.Test f); reads = λ rest stop. sign (read (test_end f rest)) }
@@ -73,6 +83,9 @@ closes (ModalProgram m) v q is rest =
     subst (λ w. IsStop pdl_grammar (front ((ending w).signs ++ rest))) same (stop_program m (program_of v) rest)
 closes FormulaGroup v q is rest =
     let same : BehindFormulaInside (formula_of v) ≡ q = cc in
+    subst (λ w. IsStop pdl_grammar (front ((ending w).signs ++ rest))) same (stop_close rest)
+closes RepeatGroup v q is rest =
+    let same : BehindRepeatInside (program_of v) ≡ q = cc in
     subst (λ w. IsStop pdl_grammar (front ((ending w).signs ++ rest))) same (stop_close rest)
 closes ProgramGroup v q is rest =
     let same : BehindProgramInside (program_of v) ≡ q = cc in

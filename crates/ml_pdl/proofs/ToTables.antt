@@ -15,9 +15,9 @@ use Rattle.ml_text.proofs.Levels.{loosen}
 use Rattle.ml_pdl.specs.Formula as plain
 use Rattle.ml_pdl.specs.Formula.{Formula, Program, Modality, Diamond, Square}
 use Rattle.ml_pdl.specs.Signs as signs
-use Rattle.ml_pdl.specs.Signs.{Sign, Mark, Marked, Unmarked, Not, Connective, Const, Open, Close, Begins, Ends, Plus, Semicolon, Question, Blank, Lower, Upper, action_of}
+use Rattle.ml_pdl.specs.Signs.{Sign, Mark, Marked, Unmarked, Not, Connective, Const, Open, Close, Begins, Ends, Repeats, Plus, Semicolon, Question, Blank, Lower, Upper, action_of}
 use Rattle.ml_pdl.specs.Grammar as grammar
-use Rattle.ml_pdl.specs.Grammar.{Reads, iff_alone, iff, imp_alone, imp, or_alone, or, and_alone, and, negation, modal, modal_blank, group, constant, proposition, ReadsProgram, alt_alone, alt, seq_alone, seq, star_alone, star, action, test, program_group, ReadsTested, tested_negation, tested_constant, tested_proposition, tested_group, opens_program}
+use Rattle.ml_pdl.specs.Grammar.{Reads, iff_alone, iff, imp_alone, imp, or_alone, or, and_alone, and, negation, modal, modal_blank, repetition, group, constant, proposition, ReadsProgram, alt_alone, alt, seq_alone, seq, star_alone, star, action, test, program_group, ReadsTested, tested_negation, tested_constant, tested_proposition, tested_group, opens_program}
 use Rattle.ml_pdl.specs.Tables.{Phrase, OfFormula, OfProgram, Name, program_of, negated, Formulas, Programs, BehindBegin, BehindProgram, BehindNegations, BehindTested, ModalProgram, Modal, PdlTurn, Wait, blank, shift, shift_program, pdl_grammar}
 
 abbrev pub Tabled : Part pdl_grammar → List Sign → Phrase → List Sign → Type 0
@@ -127,6 +127,13 @@ group_test : {ts rest : List Sign} {f : Formula} (k : Mark) → opens_program (O
 group_test {f = f} Marked e r = test_tabled (form (sign (inner r refl (sign (read (question_read f))))))
 group_test Unmarked e r = absurd (cc)
 
+repeat_tabled : {ts rest : List Sign} {p : Program} (k : Mark)
+    → TabledProgram (Level Programs 0) ts p (Close ∷ rest)
+    → Tabled (Operand Formulas) (Repeats ∷ Open k ∷ ts) (OfFormula (plain.Repeat p)) rest
+repeat_tabled {ts} {rest} {p} k a =
+    subst (λ x. Tabled (Operand Formulas) (Repeats ∷ Open k ∷ ts) (OfFormula (plain.Repeat x)) rest) a.2
+    (form (sign (read (sign (inner a.1 refl (sign (read whole)))))))
+
 -- ---- all of it
 
 mutual
@@ -142,6 +149,7 @@ mutual
   tabled (negation {rest = rest} r) = form (sign (inner (alone (tabled r)) (tight (front rest)) whole))
   tabled (modal m a b) = modal_tabled m (tabled_program a) (tabled b)
   tabled (modal_blank m r) = form (sign (read (sign_by (Some (Inner (Modal m blank))) (begin_end m) (modal_read m blank (tabled r)))))
+  tabled (repetition k r) = repeat_tabled k (tabled_program r)
   tabled (group k r) = form (sign (inner (tabled r) refl (sign (read whole))))
   tabled (constant b) = form (sign (read whole))
   tabled (proposition p) = form (sign (read whole))

@@ -3,7 +3,7 @@
 --   iff  = imp [ IFF iff ]               imp = or [ IMP imp ]
 --   or   = and { OR and }                and = un { AND un }
 --   un   = NOT un | "<" [ prog ] ">" un | "[" [ prog ] "]" un
---        | "(" iff ")" | TT | FF | PROP
+--        | "repeat" "(" prog ")" | "(" iff ")" | TT | FF | PROP
 --   prog = seq { "+" seq }               seq = star { ";" star }
 --   star = base { "*" }                  base = ACT | test | "(" prog ")"
 --   test = { NOT } ( TT | FF | PROP | "(" iff ")" ) "?"
@@ -26,7 +26,7 @@ use Rattle.ml_text.specs.declared.token.Operator.TheVariants as operator
 use Rattle.ml_pdl.specs.Formula as plain
 use Rattle.ml_pdl.specs.Formula.{Formula, Program, Modality}
 use Rattle.ml_pdl.specs.Signs as sign
-use Rattle.ml_pdl.specs.Signs.{Sign, Mark, Unmarked, Not, Connective, Const, Open, Close, Begins, Ends, Plus, Semicolon, Question, Lower, action_of}
+use Rattle.ml_pdl.specs.Signs.{Sign, Mark, Unmarked, Not, Connective, Const, Open, Close, Begins, Ends, Repeats, Plus, Semicolon, Question, Lower, action_of}
 
 pub data Level : Type 0 where
   Iff Imp Or And Un : Level
@@ -57,6 +57,8 @@ mutual
     -- "<" prog ">" un, "[" prog "]" un, and both without the program
     modal : {ts us rest : List Sign} {p : Program} {f : Formula} (m : Modality) → ReadsProgram Prog ts p (Ends m ∷ us) → Reads Un us f rest → Reads Un (Begins m ∷ ts) (plain.Modal m p f) rest
     modal_blank : {ts rest : List Sign} {f : Formula} (m : Modality) → Reads Un ts f rest → Reads Un (Begins m ∷ Ends m ∷ ts) (plain.Modal m (plain.Act (codes "_")) f) rest
+    -- "repeat" "(" prog ")"
+    repetition : {ts rest : List Sign} {p : Program} (k : Mark) → ReadsProgram Prog ts p (Close ∷ rest) → Reads Un (Repeats ∷ Open k ∷ ts) (plain.Repeat p) rest
     -- "(" iff ")"
     group : {ts rest : List Sign} {f : Formula} (k : Mark) → Reads Iff ts f (Close ∷ rest) → Reads Un (Open k ∷ ts) f rest
     -- TT, FF, PROP

@@ -6,8 +6,12 @@ pub mod Meaning
 pub mod Problem
 -- stars and infinite repetitions without iterates
 pub mod Laws
+-- the plain formula of a term
+pub mod Term
 -- which words are propositions and actions
 pub mod Spelling
+-- the formulas that the program holds
+pub mod WellFormed
 -- the signs of texts
 pub mod Signs
 -- which parentheses are marked
@@ -16,3 +20,11 @@ pub mod Marks
 pub mod Grammar
 -- the grammar as tables
 pub mod Tables
+-- texts as items
+pub mod Text
+-- the canonical text
+pub mod Canonical
+-- what is parsed, and what is refused
+pub mod Parsing
+-- what private contracts cite
+pub mod private

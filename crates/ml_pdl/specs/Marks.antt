@@ -6,10 +6,11 @@
 --   open_behind n ts    == of n open parentheses and those of ts, how many are open behind ts; none where ts close one too many
 --   IsTestBehind ts     == behind a `(` stand signs whose parentheses are partners of one another, then `)` and `?`
 --   is_test_behind n ts == the same as a test, where n further parentheses are open
+--   with_mark b t       == the sign t, marked where b is true if it is a `(`
 --   marked ts           == the signs ts with the marks that they have as a text
 --   MarksAreOfTests     == the law that the test says so
-use Rattle.std.specs.Prelude.{◌≡◌, ℕ, zero, suc, Bool, true, false, List, [], ◌∷◌, ◌++◌, Option, Some, None, if◌then◌else◌, IsTrue, ◌↔◌}
-use Rattle.ml_pdl.specs.Signs.{Sign, Marked, Unmarked, Open, Close, Question}
+use Rattle.std.specs.Prelude.{◌≡◌, ℕ, zero, suc, Bool, true, false, List, [], ◌∷◌, ◌++◌, Option, Some, None, IsTrue, ◌↔◌}
+use Rattle.ml_pdl.specs.Signs.{Sign, Mark, Marked, Unmarked, Open, Close, Question}
 
 abbrev pub open_behind : ℕ → List Sign → Option ℕ
 open_behind n [] = Some n
@@ -32,10 +33,17 @@ is_test_behind zero (Close ∷ ts) = asks ts
 is_test_behind (suc n) (Close ∷ ts) = is_test_behind n ts
 is_test_behind n (_ ∷ ts) = is_test_behind n ts
 
+abbrev pub mark_of : Bool → Mark
+mark_of true = Marked
+mark_of false = Unmarked
+
+abbrev pub with_mark : Bool → Sign → Sign
+with_mark b (Open k) = Open (mark_of b)
+with_mark b t = t
+
 abbrev pub marked : List Sign → List Sign
 marked [] = []
-marked (Open k ∷ ts) = Open (if is_test_behind 0 ts then Marked else Unmarked) ∷ marked ts
-marked (t ∷ ts) = t ∷ marked ts
+marked (t ∷ ts) = with_mark (is_test_behind 0 ts) t ∷ marked ts
 
 abbrev pub MarksAreOfTests : Type 0
 MarksAreOfTests = (ts : List Sign) → IsTrue (is_test_behind 0 ts) ↔ IsTestBehind ts

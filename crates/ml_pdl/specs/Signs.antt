@@ -1,6 +1,6 @@
 -- The signs of PDL texts: the tokens as the grammar sees them.
 --
--- A word is a constant, or a name with its bytes: one that begins with a lower-case letter may be a proposition, and
+-- A word is a constant, `repeat`, or a name with its bytes: one that begins with a lower-case letter may be a proposition, and
 -- each may be an action. `_` is an action. An opening parenthesis is marked or not, and the mark is a part of the sign:
 -- a token by itself gives an unmarked one, and which are marked is said of whole texts (`Marks.antt`).
 --
@@ -9,8 +9,10 @@
 --   word_sign word      == the sign that a word is
 --   byte_sign b         == the sign that a byte is that is a token by itself; most are in no text of the grammar
 --   sign_of t bytes     == the sign that a token with these bytes is
+--   HasShortName s      == if the sign has a name, it is one that the program can hold, of at most 64 bytes
 --   action_of s         == the action that a sign is, if it is one
-use Rattle.std.specs.Prelude.{ℕ, ◌==◌, Bool, List, Option, Some, None, if◌then◌else◌, codes}
+use Rattle.std.specs.Prelude.{ℕ, ◌==◌, Bool, List, Option, Some, None, if◌then◌else◌, codes, bytes_eq, IsTrue}
+use Rattle.ml_base.specs.Name.{is_name}
 use Rattle.ml_text.specs.declared.token.Operator.{Operator}
 use Rattle.ml_text.specs.declared.token.Token.{Token}
 use Rattle.ml_text.specs.declared.token.Token.TheVariants as token
@@ -31,6 +33,8 @@ pub data Sign : Type 0 where
   Close : Sign
   -- `<` or `[`, and `>` or `]`
   Begins Ends : Modality → Sign
+  -- the word `repeat`
+  Repeats : Sign
   -- `+`, `;`, `*`, `?` and `_`
   Plus Semicolon Star Question Blank : Sign
   -- a name that begins with a lower-case or an upper-case letter
@@ -44,7 +48,7 @@ name_sign word =
 
 abbrev pub word_sign_by : Option Bool → List ℕ → Sign
 word_sign_by (Some b) word = Const b
-word_sign_by None word = name_sign word
+word_sign_by None word = if bytes_eq word (codes "repeat") then Repeats else name_sign word
 
 abbrev pub word_sign : List ℕ → Sign
 word_sign word = word_sign_by (constant_of word) word
@@ -69,6 +73,11 @@ sign_of token.Not bytes = Not
 sign_of (token.Operator o) bytes = Connective o
 sign_of token.Word bytes = word_sign bytes
 sign_of (token.Byte b) bytes = byte_sign b
+
+abbrev pub HasShortName : Sign → Type 0
+HasShortName (Lower p) = IsTrue (is_name p)
+HasShortName (Upper x) = IsTrue (is_name x)
+HasShortName _ = Unit {0}
 
 abbrev pub action_of : Sign → Option (List ℕ)
 action_of Blank = Some (codes "_")

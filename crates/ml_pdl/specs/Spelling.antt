@@ -1,17 +1,22 @@
--- Which words are propositions of propositional dynamic logic.
+-- Which words are propositions and actions of propositional dynamic logic.
 --
--- A word is a letter with the letters, digits and `_` behind it. The words of the constants are reserved: they are no
--- names.
+-- A word is a letter with the letters, digits and `_` behind it. The words of the constants and `repeat` are reserved:
+-- they are no names.
 --
---   is_reserved name     == is it tt, true, ff or false?
+--   is_reserved name     == is it tt, true, ff, false or repeat?
 --   is_word_from t name  == is it a word whose first letter passes the test t?
 --   is_proposition name  == a word that begins with a lower-case letter and isn't reserved
-use Rattle.std.specs.Prelude.{ℕ, Bool, false, ◌&&◌, not, List, [], ◌∷◌, codes, bytes_eq}
+--   is_action name       == a word that isn't reserved, or `_`
+--   is_spelled f, program_is_spelled p       == are all names there propositions and actions where they stand as such?
+--   HasShortNames f, ProgramHasShortNames p  == no name there has more bytes than a name may have
+use Rattle.std.specs.Prelude.{ℕ, ◌≤◌, Bool, true, false, ◌&&◌, ◌||◌, not, List, [], ◌∷◌, length, codes, bytes_eq}
 use Rattle.std.specs.List.{list_any, list_all}
-use Rattle.ml_text.specs.Bytes.{is_lower, is_word_byte}
+use Rattle.ml_base.specs.Name.{longest_name}
+use Rattle.ml_text.specs.Bytes.{is_lower, is_letter, is_word_byte}
+use Rattle.ml_pdl.specs.Formula.{Formula, Const, Prop, Not, Binary, Modal, Repeat, Program, Act, Seq, Alt, Star, Test}
 
 abbrev pub reserved : List (List ℕ)
-reserved = codes "tt" ∷ codes "true" ∷ codes "ff" ∷ codes "false" ∷ []
+reserved = codes "tt" ∷ codes "true" ∷ codes "ff" ∷ codes "false" ∷ codes "repeat" ∷ []
 
 abbrev pub is_reserved : List ℕ → Bool
 is_reserved name = list_any (bytes_eq name) reserved
@@ -22,3 +27,38 @@ is_word_from begins (b ∷ rest) = begins b && list_all is_word_byte rest
 
 abbrev pub is_proposition : List ℕ → Bool
 is_proposition name = is_word_from is_lower name && not (is_reserved name)
+
+abbrev pub is_action : List ℕ → Bool
+is_action name = bytes_eq name (codes "_") || (is_word_from is_letter name && not (is_reserved name))
+
+abbrev mutual
+  pub is_spelled : Formula → Bool
+  is_spelled (Const b) = true
+  is_spelled (Prop p) = is_proposition p
+  is_spelled (Not f) = is_spelled f
+  is_spelled (Binary op f g) = is_spelled f && is_spelled g
+  is_spelled (Modal m p f) = program_is_spelled p && is_spelled f
+  is_spelled (Repeat p) = program_is_spelled p
+
+  pub program_is_spelled : Program → Bool
+  program_is_spelled (Act a) = is_action a
+  program_is_spelled (Seq p q) = program_is_spelled p && program_is_spelled q
+  program_is_spelled (Alt p q) = program_is_spelled p && program_is_spelled q
+  program_is_spelled (Star p) = program_is_spelled p
+  program_is_spelled (Test f) = is_spelled f
+
+abbrev mutual
+  pub HasShortNames : Formula → Type 0
+  HasShortNames (Const b) = Unit {0}
+  HasShortNames (Prop p) = length p ≤ longest_name
+  HasShortNames (Not f) = HasShortNames f
+  HasShortNames (Binary op f g) = HasShortNames f × HasShortNames g
+  HasShortNames (Modal m p f) = ProgramHasShortNames p × HasShortNames f
+  HasShortNames (Repeat p) = ProgramHasShortNames p
+
+  pub ProgramHasShortNames : Program → Type 0
+  ProgramHasShortNames (Act a) = length a ≤ longest_name
+  ProgramHasShortNames (Seq p q) = ProgramHasShortNames p × ProgramHasShortNames q
+  ProgramHasShortNames (Alt p q) = ProgramHasShortNames p × ProgramHasShortNames q
+  ProgramHasShortNames (Star p) = ProgramHasShortNames p
+  ProgramHasShortNames (Test f) = HasShortNames f

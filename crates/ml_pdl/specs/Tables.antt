@@ -23,7 +23,7 @@ use Rattle.ml_text.specs.declared.forms.Role.{Role}
 use Rattle.ml_text.specs.declared.forms.Role.TheVariants.{Infix, Postfix, Outside}
 use Rattle.ml_pdl.specs.Formula as plain
 use Rattle.ml_pdl.specs.Formula.{Formula, Program, Modality, Diamond, Square}
-use Rattle.ml_pdl.specs.Signs.{Sign, Marked, Unmarked, Not, Connective, Const, Open, Close, Begins, Ends, Plus, Semicolon, Star, Question, Blank, Lower, Upper}
+use Rattle.ml_pdl.specs.Signs.{Sign, Marked, Unmarked, Not, Connective, Const, Open, Close, Begins, Ends, Repeats, Plus, Semicolon, Star, Question, Blank, Lower, Upper}
 
 pub data Phrase : Type 0 where
   OfFormula : Formula → Phrase
@@ -55,6 +55,9 @@ pub data Wait : Type 0 where
   -- behind `<` or `[`, and behind the program there
   BehindBegin : Modality → Wait
   BehindProgram : Modality → Program → Wait
+  -- behind `repeat`, and behind the program in its parentheses
+  BehindRepeat : Wait
+  BehindRepeatInside : Program → Wait
   -- behind what stands between parentheses: a formula, a program, the formula of a test
   BehindFormulaInside : Formula → Wait
   BehindProgramInside : Program → Wait
@@ -70,6 +73,8 @@ pub data Hold : Type 0 where
   Modal : Modality → Program → Hold
   -- what stands between parentheses; in a test, behind so many negations
   FormulaGroup ProgramGroup : Hold
+  -- the same behind `repeat`
+  RepeatGroup : Hold
   TestGroup : ℕ → Hold
 
 abbrev pub PdlTurn : Type 0
@@ -84,6 +89,7 @@ shift_formula (Const b) = Some (Read (Whole (OfFormula (plain.Const b))))
 shift_formula (Lower p) = Some (Read (Whole (OfFormula (plain.Prop p))))
 shift_formula (Open k) = Some (Inner FormulaGroup)
 shift_formula (Begins m) = Some (Read (More (BehindBegin m)))
+shift_formula Repeats = Some (Read (More BehindRepeat))
 shift_formula _ = None
 
 -- in a test, behind n negations
@@ -119,6 +125,10 @@ abbrev pub shift_close : Mode Phrase Wait → Sign → Option PdlTurn
 shift_close m Close = Some (Read m)
 shift_close m _ = None
 
+abbrev pub shift_repeat : Sign → Option PdlTurn
+shift_repeat (Open k) = Some (Inner RepeatGroup)
+shift_repeat _ = None
+
 abbrev pub shift_tested : Formula → Sign → Option PdlTurn
 shift_tested f Question = Some (Read (Whole (OfProgram (plain.Test f))))
 shift_tested f _ = None
@@ -128,6 +138,8 @@ shift FormulaStart t = shift_formula t
 shift ProgramStart t = shift_program t
 shift (BehindBegin m) t = shift_begin m t
 shift (BehindProgram m p) t = shift_end m p t
+shift BehindRepeat t = shift_repeat t
+shift (BehindRepeatInside p) t = shift_close (Whole (OfFormula (plain.Repeat p))) t
 shift (BehindFormulaInside f) t = shift_close (Whole (OfFormula f)) t
 shift (BehindProgramInside p) t = shift_close (Whole (OfProgram p)) t
 shift (BehindTestInside f) t = shift_close (More (BehindTested f)) t
@@ -141,6 +153,7 @@ start Programs = ProgramStart
 abbrev pub sort : Hold → Sort
 sort (ModalProgram m) = Programs
 sort ProgramGroup = Programs
+sort RepeatGroup = Programs
 sort _ = Formulas
 
 abbrev pub level : Hold → ℕ
@@ -153,6 +166,7 @@ resume Negation v = Whole (OfFormula (plain.Not (formula_of v)))
 resume (ModalProgram m) v = More (BehindProgram m (program_of v))
 resume (Modal m p) v = Whole (OfFormula (plain.Modal m p (formula_of v)))
 resume FormulaGroup v = More (BehindFormulaInside (formula_of v))
+resume RepeatGroup v = More (BehindRepeatInside (program_of v))
 resume ProgramGroup v = More (BehindProgramInside (program_of v))
 resume (TestGroup n) v = More (BehindTestInside (negated n (formula_of v)))
 

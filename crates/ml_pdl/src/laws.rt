@@ -5,6 +5,8 @@ ghost use Rattle.ml_pdl.specs.Formula.{Formula};
 ghost use Rattle.ml_pdl.specs.Signs.{Sign};
 ghost use Rattle.ml_pdl.specs.Grammar.{IsReadAs};
 ghost use Rattle.ml_pdl.specs.Marks.{MarksAreOfTests};
+ghost use Rattle.ml_pdl.specs.Parsing.{CanonicalIsParsed, CanonicalStandsForOne, NeverBoth, ParsedAreWellFormed, ParsedOnce, RefusedOnce, SomeAnswer, StandForOne};
+ghost use Rattle.ml_pdl.specs.Text.{MarksAreOfTexts};
 ghost use Rattle.ml_pdl.specs.Laws.{StarsAreLeast, RepetitionsAreGreatest};
 ghost use Rattle.ml_pdl.specs.Tables.{Phrase, OfFormula, pdl_grammar};
 
@@ -26,10 +28,52 @@ pub fn marks_are_of_tests()
     ensures { MarksAreOfTests }
 {}
 
+/// The signs of a text are those of its tokens, of which the parentheses are marked as the whole text says.
+#[tactic(auto, using(crate::proofs::MarkedTexts::marks_are_of_texts))]
+pub fn marks_are_of_texts()
+    ensures { MarksAreOfTexts }
+{}
+
 /// Signs stand for one formula at most, by the grammar alone.
 #[tactic(auto, using(crate::proofs::PdlGrammar::one_formula))]
 pub fn one_formula()
     ensures { (ts : List Sign) (f g : Formula) → IsReadAs ts f → IsReadAs ts g → f ≡ g }
+{}
+
+/// A text stands for one formula at most, by the grammar alone.
+#[tactic(auto, using(crate::proofs::OneAnswer::one_text_formula))]
+pub fn texts_stand_for_one()
+    ensures { StandForOne }
+{}
+
+/// The canonical text of a formula whose names are spelled as they must be stands for it and for no other, by the
+/// grammar alone. So what `print` writes is a text of the formula that was printed.
+#[tactic(auto, using(crate::proofs::CanonicalParsed::canonical_one))]
+pub fn canonical_text()
+    ensures { CanonicalStandsForOne }
+{}
+
+/// The canonical text of a well-formed formula is parsed as it, within all limits. So every formula that a program holds
+/// is read back from what `print` writes.
+pub fn canonical_text_is_parsed()
+    ensures { CanonicalIsParsed }
+{}
+
+/// A text has exactly one answer but want of memory: it is parsed as one formula, or it is refused in one way.
+///
+/// `some`: one of the two comes. `parsed` and `refused`: each comes in one way at most. `exclusive`: never both come. So
+/// `parse` answers each exactly where it is said to come.
+pub fn one_answer()
+    ensures some { SomeAnswer }
+    ensures parsed { ParsedOnce }
+    ensures refused { RefusedOnce }
+    ensures exclusive { NeverBoth }
+{}
+
+/// What a text is parsed as is well formed: small, with names spelled as they must be.
+#[tactic(auto, using(crate::proofs::Parsed::parsed_well))]
+pub fn parsed_are_well_formed()
+    ensures { ParsedAreWellFormed }
 {}
 
 /// A star relates exactly the states that finitely many runs of its program join: it is the least relation that has them.

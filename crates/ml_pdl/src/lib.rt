@@ -1,12 +1,27 @@
 // Propositional dynamic logic: its formulas and programs, what they mean, and their texts.
 //
-// Formulas and programs are the plain data of `specs/Formula.antt`; what they mean stands in `specs/Meaning.antt`, and
-// where a problem holds in `specs/Problem.antt`. Their texts are those of `specs/Grammar.antt`, in which infinite
-// repetition isn't yet. The module `laws` has what is true of texts: the grammar is the one of the tables that the machine
-// of `ml_text` reads by.
+// Begin with `Formula`, which contracts see as the plain formula of `specs/Formula.antt`; `parse` gives the formula of a
+// text, exactly as `specs/Grammar.antt`, `specs/Text.antt` and `specs/Parsing.antt` say, and `print` its canonical text.
+// What formulas and programs mean stands in `specs/Meaning.antt`, and where a problem holds in `specs/Problem.antt`. The
+// module `laws` has what is true of texts and of meanings.
 //
 // Below stand `ml_text`, with tokens and grammars, and `ml_base`, with structures; above stands `ml_pdl_graph`, with their
 // graphs.
 #![tactic(auto)]
 
+mod copying;
+mod forms;
+mod formula;
 pub mod laws;
+mod logic;
+mod marking;
+mod parsing;
+mod printing;
+mod signs;
+mod term;
+
+pub use copying::{copy, occurrences};
+pub use formula::Formula;
+pub use parsing::parse;
+pub use printing::{append_text, print};
+pub use term::{Program, Term};

@@ -18,3 +18,13 @@ pub mod Connectives
 pub mod Agreement
 -- a graph worked out by hand
 mod WorkedGraph
+-- lists that stand in a list
+pub mod Holding
+-- the lists of a graph, as what stands there
+pub mod NodeLists
+-- the names of a formula
+pub mod NameLists
+-- the graph that was made
+pub mod Made
+-- numbers in range
+pub mod InRange

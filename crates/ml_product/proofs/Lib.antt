@@ -8,3 +8,29 @@ pub mod NeutralPriority
 pub mod OnePlace
 -- the choice of each position that is reached
 pub mod ReachedChoices
+-- the parity game of an arena as it is held
+pub mod HeldGames
+-- the code of a position, and the bound of positions
+pub mod bound
+-- each parity game has a solution
+pub mod SomeSolution
+-- lists to which something was added
+pub mod Added
+-- a position gets a number
+pub mod Interning
+-- stored positions are equal if they are one
+pub mod StoredEquality
+-- what there is one of: where a step leads, and the moves of a position
+pub mod OneTurn
+-- the sequents of positions that are reached
+pub mod ReachedSequents
+-- vertices of targets, while positions come
+pub mod Vertices
+-- what an exploration has found
+pub mod Explored
+-- a number that is allowed, and one that is not
+pub mod Numbering
+-- what a turn makes of the pool
+pub mod Turning
+-- the end of an exploration
+pub mod Ended

@@ -4,5 +4,9 @@ pub mod Position
 pub mod DecisionGame
 -- the game as a list of positions
 pub mod Arena
+-- positions as an arena lends them
+pub mod View
 -- how many positions it has at most
 pub mod Bound
+-- what only private contracts cite
+pub mod private

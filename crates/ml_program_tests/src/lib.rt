@@ -1,16 +1,22 @@
 // Tests of texts, documents and the program as a whole. They stand here, above all crates that they call, so that
 // none of those is proved a second time for its tests. Tests of games, traces and histories stand in `ml_tests`.
 //
+//   check_tests     documents with a refutation, accepted, rejected and unreadable
 //   checking_tests  the meaning of formulas against the checking game, on formulas and structures that look random
 //   document_tests  documents with a structure, readable and broken
 //   kripke_tests    structures, and the texts of models
 //   line_tests      lines written and cut
 //   meaning_tests   formulas with the states at which they hold
 //   mu_tests        texts of the mu-calculus and their formulas
+//   pdl_tests       texts of PDL and their formulas
 //   program_tests   the worked rows of the program, over sources and sinks in memory
+//   refutation_tests  refutations read from their texts in both versions, and broken ones
 //   text_tests      the tokens of texts
+//   words_tests     words of the command line
 #![tactic(auto)]
 
+#[cfg(test)]
+mod check_tests;
 #[cfg(test)]
 mod checking_tests;
 #[cfg(test)]
@@ -24,6 +30,12 @@ mod meaning_tests;
 #[cfg(test)]
 mod mu_tests;
 #[cfg(test)]
+mod pdl_tests;
+#[cfg(test)]
 mod program_tests;
 #[cfg(test)]
+mod refutation_tests;
+#[cfg(test)]
 mod text_tests;
+#[cfg(test)]
+mod words_tests;

@@ -24,6 +24,18 @@ const CHECKED_IN_ONE: &str =
 const CHECKED_WITH_P_IN_ONE: &str =
     "mlsolver 1\nanswer satisfiable\nlogic mu\nsense plain\nformula <>p\nstates 1\nstart 0\nstate 0 p\nedge 0 _ 0\nend\n";
 
+// a path that comes to an end, and never does
+const REFUTED: &str =
+    "mlsolver 2\nanswer unsatisfiable\nlogic mu\nsense plain\nformula (mu X. <>X)\nnames 2\nsequents 2\nsequent 0\nsequent 4\nstacks 2\nstack 0\nstack 0 1\nentries 4\nentry 0 0\nlive 1\nitem 0 - 0\nheights 0 0 2\ngo 2 1 neutral\nentry 1 1\nlive 1\nitem 4 - 0\nitem 4 1 0\nheights 0 0 1\ngo 2 2 neutral\nentry 2 1\nlive 2\nitem 4 - 0\nitem 4 1 1\nheights 0 0 0\ngo 2 3 green 1\nentry 3 1\nlive 2\nitem 4 - 0\nitem 4 1 1\nheights 0 0 0\ngo 2 3 green 1\nend\n";
+
+// the same in version 1
+const REFUTED_IN_ONE: &str =
+    "mlsolver 1\nanswer unsatisfiable\nlogic mu\nsense plain\nformula (mu X. <>X)\nnames 2\nentries 4\nentry 0\nsequent 0\nlive 1\nitem 0 - 0\nheights 0 0 2\ngo 2 1 neutral\nentry 1\nsequent 4\nlive 1\nitem 4 - 0\nitem 4 1 0\nheights 0 0 1\ngo 2 2 neutral\nentry 2\nsequent 4\nlive 2\nitem 4 - 0\nitem 4 1 0 1\nheights 0 0 0\ngo 2 3 green 1\nentry 3\nsequent 4\nlive 2\nitem 4 - 0\nitem 4 1 0 1\nheights 0 0 0\ngo 2 3 green 1\nend\n";
+
+// a name that no item has
+const REJECTED: &str =
+    "mlsolver 1\nanswer unsatisfiable\nlogic mu\nsense plain\nformula (nu X. <>X)\nnames 2\nentries 2\nentry 0\nsequent 0\nlive 1\nitem 0 - 0\nheights 0 0 1\ngo 2 1 neutral\nentry 1\nsequent 4\nlive 2\nitem 4 - 0\nheights 0 0 0\ngo 2 1 green 1\nend\n";
+
 fn words_of(alloc: Global, line: &str) -> Result<Vec<String>, AllocError> {
     let mut words = Vec::new(alloc);
     for word in line.split_whitespace() {
@@ -113,39 +125,6 @@ fn texts(rt: HostRuntime) -> Result<(), Fail> {
             0,
             "mlsolver 2\nanswer satisfiable\nlogic mu\nsense plain\nformula (ff | p)\nstates 1\nstart 0\nstate 0 p\nend\n",
         ),
-        (
-            "decide mu",
-            "p & !p",
-            1,
-            "mlsolver 2\nanswer unsatisfiable\nlogic mu\nsense plain\nformula (p & !p)\nend\n",
-        ),
-        (
-            "decide mu",
-            "ff",
-            1,
-            "mlsolver 2\nanswer unsatisfiable\nlogic mu\nsense plain\nformula ff\nend\n",
-        ),
-        (
-            "decide mu",
-            "!(p -> (q -> p))",
-            1,
-            "mlsolver 2\nanswer unsatisfiable\nlogic mu\nsense plain\nformula !(p -> (q -> p))\nend\n",
-        ),
-        (
-            "decide mu",
-            "(p | q) & (p -> r) & (q -> r) & !r",
-            1,
-            "mlsolver 2\nanswer unsatisfiable\nlogic mu\nsense plain\nformula ((((p | q) & (p -> r)) & (q -> r)) & !r)\nend\n",
-        ),
-        ("decide mu", "<>p", 4, "refused form\n"),
-        ("decide mu", "[] ff", 4, "refused form\n"),
-        ("decide mu", "nu X. X", 4, "refused form\n"),
-        (
-            "decide mu",
-            "a&b&c&d&e&f&g&h&i&j&k&l&m&n&o&p&q",
-            4,
-            "refused form\n",
-        ),
         ("decide mu", "p q", 4, "refused text rule 1 at 2\n"),
         ("decide mu", "p &", 4, "refused text rule 1 at 3\n"),
         ("decide mu", "", 4, "refused text rule 1 at 0\n"),
@@ -162,18 +141,6 @@ fn texts(rt: HostRuntime) -> Result<(), Fail> {
         ("check-model", CHECKED_IN_ONE, 1, "fails\n"),
         ("check-model", CHECKED_WITH_P_IN_ONE, 0, "holds\n"),
         ("check-model", LITERALS, 0, "holds\n"),
-        (
-            "check-model",
-            "mlsolver 1\nanswer unsatisfiable\nlogic mu\nsense plain\nformula (mu X. <>X)\nnames 2\nentries 4\nentry 0\nsequent 0\nlive 1\nitem 0 - 0\nheights 0 0 2\ngo 2 1 neutral\nentry 1\nsequent 4\nlive 1\nitem 4 - 0\nitem 4 1 0\nheights 0 0 1\ngo 2 2 neutral\nentry 2\nsequent 4\nlive 2\nitem 4 - 0\nitem 4 1 0 1\nheights 0 0 0\ngo 2 3 green 1\nentry 3\nsequent 4\nlive 2\nitem 4 - 0\nitem 4 1 0 1\nheights 0 0 0\ngo 2 3 green 1\nend\n",
-            4,
-            "refused document line 2 rule 3\n",
-        ),
-        (
-            "check-model",
-            "mlsolver 2\nanswer unsatisfiable\nlogic mu\nsense plain\nformula (mu X. <>X)\nnames 2\nsequents 2\nsequent 0\nsequent 4\nstacks 2\nstack 0\nstack 0 1\nentries 4\nentry 0 0\nlive 1\nitem 0 - 0\nheights 0 0 2\ngo 2 1 neutral\nentry 1 1\nlive 1\nitem 4 - 0\nitem 4 1 0\nheights 0 0 1\ngo 2 2 neutral\nentry 2 1\nlive 2\nitem 4 - 0\nitem 4 1 1\nheights 0 0 0\ngo 2 3 green 1\nentry 3 1\nlive 2\nitem 4 - 0\nitem 4 1 1\nheights 0 0 0\ngo 2 3 green 1\nend\n",
-            4,
-            "refused document line 2 rule 3\n",
-        ),
         ("check-model", "", 4, "refused document line 1 rule 1\n"),
         ("check-model mu", CHECKED, 3, "refused words\n"),
         ("decide check-model", "p", 3, "refused words\n"),
@@ -185,6 +152,130 @@ fn texts(rt: HostRuntime) -> Result<(), Fail> {
             assert_eq!(rt; code, status, "{words}: {text}");
             assert_eq!(rt; taken.as_slice(), output.as_bytes(), "{words}: {text}");
         }
+    }
+    Ok(())
+}
+
+// Decisions of formulas that aren't propositional, of negations, and within limits; each document that was written is read
+// by the command that checks it.
+#[test]
+fn decisions(rt: HostRuntime) -> Result<(), Fail> {
+    let rows = [
+        (
+            "decide mu --limit 1",
+            "tt",
+            0,
+            "mlsolver 2\nanswer satisfiable\nlogic mu\nsense plain\nformula tt\nstates 1\nstart 0\nstate 0\nend\n",
+        ),
+        (
+            "decide mu --limit 2",
+            "p | q",
+            2,
+            "mlsolver 2\nanswer undecided\nlogic mu\nsense plain\nformula (p | q)\ncause positions 2\nend\n",
+        ),
+        (
+            "decide mu",
+            "p & !p",
+            1,
+            "mlsolver 2\nanswer unsatisfiable\nlogic mu\nsense plain\nformula (p & !p)\nnames 1\nsequents 1\nsequent 0\nstacks 1\nstack 0\nentries 1\nentry 0 0\nlive 1\nitem 0 - 0\nheights 0 0\nclash pair 2 7\nend\n",
+        ),
+        (
+            "decide mu",
+            "mu X. X",
+            1,
+            "mlsolver 2\nanswer unsatisfiable\nlogic mu\nsense plain\nformula (mu X. X)\nnames 1\nsequents 1\nsequent 0\nstacks 1\nstack 0\nentries 1\nentry 0 0\nlive 1\nitem 0 - 0\nheights 0 0\nclash cycle 0\nend\n",
+        ),
+        (
+            "decide mu",
+            "nu X. X",
+            0,
+            "mlsolver 2\nanswer satisfiable\nlogic mu\nsense plain\nformula (nu X. X)\nstates 1\nstart 0\nstate 0\nend\n",
+        ),
+        (
+            "decide mu --limit 4",
+            "mu X. <>X",
+            1,
+            "mlsolver 2\nanswer unsatisfiable\nlogic mu\nsense plain\nformula (mu X. <>X)\nnames 2\nsequents 2\nsequent 0\nsequent 4\nstacks 2\nstack 0\nstack 0 1\nentries 4\nentry 0 0\nlive 1\nitem 0 - 0\nheights 0 0 2\ngo 2 1 neutral\nentry 1 1\nlive 1\nitem 4 - 0\nitem 4 1 0\nheights 0 0 1\ngo 2 2 neutral\nentry 2 1\nlive 2\nitem 4 - 0\nitem 4 1 1\nheights 0 0 0\ngo 2 3 green 1\nentry 3 1\nlive 2\nitem 4 - 0\nitem 4 1 1\nheights 0 0 0\ngo 2 3 green 1\nend\n",
+        ),
+        (
+            "decide mu --limit 3",
+            "mu X. <>X",
+            2,
+            "mlsolver 2\nanswer undecided\nlogic mu\nsense plain\nformula (mu X. <>X)\ncause positions 3\nend\n",
+        ),
+        (
+            "decide mu --limit 2",
+            "nu X. <>X",
+            0,
+            "mlsolver 2\nanswer satisfiable\nlogic mu\nsense plain\nformula (nu X. <>X)\nstates 2\nstart 0\nstate 0\nstate 1\nedge 0 _ 1\nedge 1 _ 1\nend\n",
+        ),
+        (
+            "decide mu",
+            "[] ff",
+            0,
+            "mlsolver 2\nanswer satisfiable\nlogic mu\nsense plain\nformula []ff\nstates 1\nstart 0\nstate 0\nend\n",
+        ),
+        (
+            "decide mu",
+            "<>p",
+            0,
+            "mlsolver 2\nanswer satisfiable\nlogic mu\nsense plain\nformula <>p\nstates 2\nstart 0\nstate 0\nstate 1 p\nedge 0 _ 1\nend\n",
+        ),
+        (
+            "valid mu",
+            "p | !p",
+            0,
+            "mlsolver 2\nanswer unsatisfiable\nlogic mu\nsense negated\nformula (p | !p)\nnames 1\nsequents 1\nsequent 1\nstacks 1\nstack 0\nentries 1\nentry 0 0\nlive 1\nitem 1 - 0\nheights 0 0\nclash pair 6 3\nend\n",
+        ),
+        (
+            "valid mu",
+            "p",
+            1,
+            "mlsolver 2\nanswer satisfiable\nlogic mu\nsense negated\nformula p\nstates 1\nstart 0\nstate 0\nend\n",
+        ),
+        (
+            "valid mu --limit 1",
+            "p & q",
+            2,
+            "mlsolver 2\nanswer undecided\nlogic mu\nsense negated\nformula (p & q)\ncause positions 1\nend\n",
+        ),
+    ];
+    for (words, text, status, output) in rows {
+        let (code, taken) = answer(rt.alloc(), words, text.as_bytes(), 100_000, &[], &[])?;
+        assert_eq!(rt; code, status, "{words}: {text}");
+        assert_eq!(rt; taken.as_slice(), output.as_bytes(), "{words}: {text}");
+    }
+    Ok(())
+}
+
+// Documents of refutations, as the commands on them answer.
+#[test]
+fn refutations(rt: HostRuntime) -> Result<(), Fail> {
+    let rows = [
+        ("check-refutation", REFUTED, 0, "accepted\n"),
+        ("check-refutation", REFUTED_IN_ONE, 0, "accepted\n"),
+        ("migrate", REFUTED_IN_ONE, 0, REFUTED),
+        ("migrate", REFUTED, 0, REFUTED),
+        (
+            "check-model",
+            REFUTED,
+            4,
+            "refused document line 2 rule 3\n",
+        ),
+        (
+            "check-refutation",
+            LITERALS,
+            4,
+            "refused document line 2 rule 3\n",
+        ),
+        ("check-refutation", REJECTED, 1, "rejected line 16 rule 3\n"),
+        ("migrate", "", 4, "refused document line 1 rule 1\n"),
+        ("migrate mu", REFUTED, 3, "refused words\n"),
+    ];
+    for (words, text, status, output) in rows {
+        let (code, taken) = answer(rt.alloc(), words, text.as_bytes(), 100_000, &[], &[])?;
+        assert_eq!(rt; code, status, "{words}");
+        assert_eq!(rt; taken.as_slice(), output.as_bytes(), "{words}");
     }
     Ok(())
 }
@@ -271,6 +362,5 @@ fn faults(rt: HostRuntime) -> Result<(), Fail> {
     assert_eq!(rt; code, 6);
     assert_eq!(rt; taken.len(), 0);
     assert_eq!(rt; Status::NoMemory.code(), 7);
-    assert_eq!(rt; Status::Unconfirmed.code(), 8);
     Ok(())
 }

@@ -21,6 +21,7 @@ use Rattle.ml_refutation.specs.Refutation.{Refutation, Entry, Fits, FitsGuess, I
 use Rattle.ml_refutation_text.specs.RefutationText.{Spells, Form, InFull, ByTables, numbers, names_line, entries_line, sequents_line, stacks_line, stack_line, sequent_line, live_line, guess_word, item_line, heights_line, decision_lines, end_line, HeadLines, StackWords, ItemLines, EntryLines, EntriesLines, FirstLines, BodyLines, IsForm}
 use Rattle.ml_refutation_text.specs.LineKinds.{IsOfKind, HaveNumbers}
 use Rattle.ml_refutation_text.specs.BodyRules.{Known, Begun, Place, AtNames, AtSequents, AtStacks, AtEntries, AtEntry, AtLive, AtItem, AtDecision, AtEnd, AtNothing, IsNextItem, item_kind, heights_kind, state_of, stack_of, at_entry, body}
+use Rattle.ml_refutation_text.specs.private.ItemReads.{MayStand, SomeIn}
 use Rattle.ml_refutation_text.proofs.Runs.{run_on}
 use Rattle.ml_refutation_text.proofs.ReadWords.{is_number, are_numbers, words_first, words_number, words_numbers, value_back, values_back, guess_back, guess_word_fits, guess_is_word, differ, spelt_is_word}
 use Rattle.ml_refutation_text.proofs.GoodLines.{Run, numbered_of, numbered_fits, names_fit, sequent_good, sequent_fits, names_run, entries_run, end_run, sequents_run, stacks_run, live_run, decision_run}
@@ -33,7 +34,7 @@ abbrev pub SequentsFit : Form → Type 0
 SequentsFit InFull = Unit {0}
 SequentsFit (ByTables sequents stacks) = Fits (length sequents)
 
-state_back : (s : AutomatonState) (words : List Word) → Fits s.node → FitsGuess s.odd → state_of (item_line s words) ≡ s
+pub state_back : (s : AutomatonState) (words : List Word) → Fits s.node → FitsGuess s.odd → state_of (item_line s words) ≡ s
 state_back s words fits guess =
     let node = value_back s.node fits in let odd = guess_back s.odd guess in λ i. record { node = node i; odd = odd i }
 
@@ -55,14 +56,14 @@ last_push before [] x = refl
 last_push before (y ∷ ys) x = last_push (Some y) ys x
 
 -- a line is of the kind of items, and has its numbers
-record IsItemLine (form : Form) (line : Line) : Type 0 where
+pub record IsItemLine (form : Form) (line : Line) : Type 0 where
   pub of_kind : IsOfKind (item_kind form) line
   pub numbers_are : HaveNumbers (item_kind form ∷ heights_kind ∷ []) line
 
 no_heights : (others : Line) → IsOfKind heights_kind (codes "item" ∷ others) → ⊥
 no_heights others kind = differ (codes "item") (codes "heights") refl kind.1.0
 
-full_item : (s : AutomatonState) (ns : List ℕ) → 0 < length ns → All Fits ns → Fits s.node → FitsGuess s.odd
+pub full_item : (s : AutomatonState) (ns : List ℕ) → 0 < length ns → All Fits ns → Fits s.node → FitsGuess s.odd
     → IsItemLine InFull (item_line s (numbers ns))
 full_item s [] some fit node guess = absurd (omega (arith, some))
 full_item s (x ∷ xs) some fit node guess = record {
@@ -73,7 +74,7 @@ full_item s (x ∷ xs) some fit node guess = record {
   );
 }
 
-table_item : (qs ks : List (List ℕ)) (s : AutomatonState) (w : Word) (t : ℕ)
+pub table_item : (qs ks : List (List ℕ)) (s : AutomatonState) (w : Word) (t : ℕ)
     → Spells w t
     → Fits s.node
     → FitsGuess s.odd
@@ -85,6 +86,19 @@ table_item qs ks s w t spells node guess = record {
     ((λ kind. absurd (no_heights (number s.node ∷ guess_word s.odd ∷ w ∷ []) kind)), tt),
   );
 }
+
+-- what an item keeps without its table
+pub may_stand : (live : ℕ) (a : traced.Item AutomatonState) → IsItem live a → MayStand live a
+may_stand live a is = record {
+  node_fits = is.node_fits;
+  guess_fits = is.guess_fits;
+  ascends = is.is_stack.ascends;
+  below = is.is_stack.below;
+}
+
+some_in : (live : ℕ) (form : Form) (a : traced.Item AutomatonState) → IsItem live a → SomeIn form a.stack
+some_in live InFull a is = is.is_stack.some
+some_in live (ByTables qs ks) a is = tt
 
 module _ (v : Version) (left : List ℕ) (names wanted : ℕ) (small : Fits names) where
   pub head_run : (form : Form) (es : List Entry) (q : List ℕ) (lines : List Line) → Fits (length es) → SequentsFit form
@@ -125,23 +139,23 @@ module _ (v : Version) (left : List ℕ) (names wanted : ℕ) (small : Fits name
 
     next_item : (form : Form) (before : List (traced.Item AutomatonState)) (a : traced.Item AutomatonState)
         (words : List Word)
-        → IsItem live a → IsAbove (last_of None (map (λ b. b.state) before)) a.state
+        → MayStand live a → IsAbove (last_of None (map (λ b. b.state) before)) a.state
         → stack_of form (item_line a.state words) ≡ a.stack
         → IsNextItem form (record { live = live; items = before }) (item_line a.state words)
     next_item form before a words is above back = record {
       is_above =
           subst (IsAbove (last_of None (map (λ b. b.state) before))) (sym (state_back a.state words is.node_fits is.guess_fits)) above;
-      ascends = subst IsAscending (sym back) is.is_stack.ascends;
-      in_use = subst (All (λ x. x < live)) (sym back) is.is_stack.below;
+      ascends = subst IsAscending (sym back) is.ascends;
+      in_use = subst (All (λ x. x < live)) (sym back) is.below;
     }
 
-    item_run : (form : Form) (before : List (traced.Item AutomatonState)) (a : traced.Item AutomatonState)
+    pub item_run : (form : Form) (before : List (traced.Item AutomatonState)) (a : traced.Item AutomatonState)
         (words : List Word)
-        → IsItem live a → IsAbove (last_of None (map (λ b. b.state) before)) a.state → StackWords form a.stack words
+        → MayStand live a → SomeIn form a.stack → IsAbove (last_of None (map (λ b. b.state) before)) a.state → StackWords form a.stack words
         → Run v left (at_item form before) (item_line a.state words ∷ []) (at_item form (before ++ a ∷ []))
-    item_run InFull before a words is above spelt =
-        let fit = names_fit v left live a.stack (omega (arith, within, small)) is.is_stack.below in
-        let line = full_item a.state a.stack is.is_stack.some fit is.node_fits is.guess_fits in
+    item_run InFull before a words is some above spelt =
+        let fit = names_fit v left live a.stack (omega (arith, within, small)) is.below in
+        let line = full_item a.state a.stack some fit is.node_fits is.guess_fits in
         let back = values_back a.stack fit in
         subst (λ ws. Run v left (at_item InFull before) (item_line a.state ws ∷ []) (at_item InFull (before ++ a ∷ []))) (sym spelt) (
           (
@@ -156,7 +170,7 @@ module _ (v : Version) (left : List ℕ) (names wanted : ℕ) (small : Fits name
           ),
           (λ i. at_item InFull (before ++ record { state = state_back a.state (numbers a.stack) is.node_fits is.guess_fits i; stack = back i } ∷ [])),
         )
-    item_run (ByTables qs ks) before a words is above (t, w, spells, there, spelt) =
+    item_run (ByTables qs ks) before a words is some above (t, w, spells, there, spelt) =
         let form = ByTables qs ks in
         let line = table_item qs ks a.state w t spells is.node_fits is.guess_fits in
         let back : slice_index_or ks (value w) [] ≡ a.stack =
@@ -185,7 +199,8 @@ module _ (v : Version) (left : List ℕ) (names wanted : ℕ) (small : Fits name
     items_run form before (a ∷ items) lines are above (line, others, first, rest, is) =
         let one : Run v left (at_item form before) (line ∷ []) (at_item form (before ++ a ∷ [])) =
         subst (λ l. Run v left (at_item form before) (l ∷ []) (at_item form (before ++ a ∷ []))) (sym first.is_line)
-        (item_run form before a first.words (All-head (IsItem live) a items are) above.0 first.for_stack) in
+        (item_run form before a first.words (may_stand live a (All-head (IsItem live) a items are))
+        (some_in live form a (All-head (IsItem live) a items are)) above.0 first.for_stack) in
         let last : last_of None (map (λ b. b.state) (before ++ a ∷ [])) ≡ Some a.state =
         ap (last_of None) (map-append (λ b. b.state) before (a ∷ [])) ∙ last_push None (map (λ b. b.state) before) a.state in
         let more =
@@ -195,7 +210,7 @@ module _ (v : Version) (left : List ℕ) (names wanted : ℕ) (small : Fits name
         (run_on (body v left) (at_item form before) (at_item form (before ++ a ∷ [])) (at_item form (before ++ a ∷ items)) (line ∷ []) others one
         (subst (λ all. Run v left (at_item form (before ++ a ∷ [])) others (at_item form all)) (append_assoc before (a ∷ []) items) more))
 
-    heights_run : (form : Form) (items : List (traced.Item AutomatonState)) (hs : List ℕ)
+    pub heights_run : (form : Form) (items : List (traced.Item AutomatonState)) (hs : List ℕ)
         → All Fits hs
         → length hs ≡ names + 1
         → Run v left (at_item form items) (heights_line hs ∷ [])

@@ -3,6 +3,7 @@
 --   names_run, entries_run, end_run  == the first line, the number of entries, the last line
 --   sequents_run, stacks_run         == the number of lines of a table, and these
 --   head_run, live_run, items_run, heights_run == the lines of an entry before its decision
+--   go_usual, mark_back              == a go is of its kind, and tells its mark
 --   leaf_run, decision_run           == a clash or a go, and a whole decision
 use Rattle.std.proofs.Common.{◌≡◌, ℕ, ◌+◌, ◌<◌, ◌≤◌, true, false, cond, nat_lt, max, List, [], ◌∷◌, ◌++◌, length, map, All, codes, refl, sym, ap, subst, ◌∙◌, inl, inr, length-append, append_assoc, arith}
 use Rattle.std.proofs.lemmas.Bool.Decides.{nat_tests}
@@ -21,9 +22,10 @@ use Rattle.ml_sequent.specs.declared.clashes.ClashCause.{ClashCause}
 use Rattle.ml_sequent.specs.declared.clashes.ClashCause.TheVariants.{False, Pair, Cycle}
 use Rattle.ml_refutation.specs.Refutation.{Refutation, Entry, Decision, Split, Clash, Go, Fits, FitsCause, IsMarkOf, IsStack, IsDecided, nesting}
 use Rattle.ml_refutation.specs.declared.refutation.TheConstants.{NESTING_LIMIT}
-use Rattle.ml_refutation_text.specs.RefutationText.{Spells, Form, ByTables, numbers, names_line, entries_line, sequents_line, stacks_line, sequent_line, stack_line, live_line, split_line, clash_line, go_line, decision_lines, end_line}
-use Rattle.ml_refutation_text.specs.LineKinds.{Kind, IsOfKind, HaveNumbers}
+use Rattle.ml_refutation_text.specs.RefutationText.{Spells, Form, ByTables, numbers, names_line, entries_line, sequents_line, stacks_line, sequent_line, stack_line, live_line, split_line, clash_line, go_line, mark_words, decision_lines, end_line}
+use Rattle.ml_refutation_text.specs.LineKinds.{Kind, IsOfKind, IsOfKinds, HaveNumbers}
 use Rattle.ml_refutation_text.specs.BodyRules.{numbered, sequent_kind, stack_kind, clash_kinds, go_kinds, further_rules, mark_of, Known, Around, InLeft, InRight, Begun, Place, AtNames, AtSequents, AtTableSequent, AtStacks, AtTableStack, AtEntries, AtLive, AtItem, AtDecision, AtEnd, AtNothing, at_sequent_table, at_stack_table, at_entry, closed, after_names, body}
+use Rattle.ml_refutation_text.specs.private.BranchReads.{FitsMark}
 use Rattle.ml_refutation_text.proofs.Runs.{Runs, run_on}
 use Rattle.ml_refutation_text.proofs.ReadWords.{is_number, are_numbers, words_first, words_number, words_numbers, value_back, values_back, differ, spelt_is_word}
 
@@ -108,11 +110,11 @@ module _ (v : Version) (left : List ℕ) where
         (sequents_from n (length qs) [] qs (omega arith) fit ascend),
   )
 
-  stack_good : (ns : List ℕ) → 0 < length ns → All Fits ns → IsOfKind stack_kind (stack_line ns)
+  pub stack_good : (ns : List ℕ) → 0 < length ns → All Fits ns → IsOfKind stack_kind (stack_line ns)
   stack_good [] some fit = absurd (omega (arith, some))
   stack_good (x ∷ xs) some fit = (words_first (codes "stack") (numbers (x ∷ xs)) refl (words_numbers (x ∷ xs) fit), (refl, (tt, tt)))
 
-  stack_fits : (ns : List ℕ) → All Fits ns → HaveNumbers (stack_kind ∷ []) (stack_line ns)
+  pub stack_fits : (ns : List ℕ) → All Fits ns → HaveNumbers (stack_kind ∷ []) (stack_line ns)
   stack_fits [] fit = ((λ _. (tt, tt)), tt)
   stack_fits (x ∷ xs) fit = ((λ _. (tt, (is_number x (All-head Fits x xs fit), are_numbers xs (All-tail Fits x xs fit)))), tt)
 
@@ -192,7 +194,7 @@ module _ (v : Version) (left : List ℕ) where
   no_split first others more other numbers = ((λ no. absurd (differ first (codes "split") other no.1.0)), numbers)
 
   module _ (k : Known) (es : List Entry) (b : Begun) where
-    split_run : (around : List Around) (n : ℕ) → Fits n → length around < NESTING_LIMIT
+    pub split_run : (around : List Around) (n : ℕ) → Fits n → length around < NESTING_LIMIT
         → Run (AtDecision k es b around) (split_line n ∷ []) (AtDecision k es b (InLeft n ∷ around))
     split_run around n fits deep = (
       (
@@ -284,6 +286,63 @@ module _ (v : Version) (left : List ℕ) where
       ((λ no. absurd (differ (codes "go") (codes "split") refl no)), tt),
     )
 
+    pub go_usual : (d e : ℕ) (m : Mark) → Fits d → Fits e → FitsMark m
+        → IsOfKinds (numbered (codes "split") ∷ (clash_kinds ++ go_kinds)) (go_line d e m)
+        × HaveNumbers (numbered (codes "split") ∷ (clash_kinds ++ go_kinds)) (go_line d e m)
+    go_usual d e (Red x) fits fits' fit =
+        let others : Line = codes "red" ∷ number x ∷ [] in (
+          inr (inr (inr (inr (inl (
+            go_words d e others fits fits' (words_first (codes "red") (number x ∷ []) refl (words_number x [] fit refl)),
+            (refl, (tt, (tt, (refl, (tt, refl))))),
+          ))))),
+          no_split (codes "go") (number d ∷ number e ∷ others) (clash_kinds ++ go_kinds) refl
+              (no_clash (codes "go") (number d ∷ number e ∷ others) go_kinds refl (
+                (λ _. (tt, (is_number d fits, (is_number e fits', (tt, (is_number x fit, All-nil IsNumber)))))),
+                (
+                  (λ no. absurd (differ (codes "red") (codes "green") refl no.1.1.1.1.0)),
+                  ((λ no. absurd (differ (codes "red") (codes "neutral") refl no.1.1.1.1.0)), tt),
+                ),
+              )),
+        )
+    go_usual d e (Green x) fits fits' fit =
+        let others : Line = codes "green" ∷ number x ∷ [] in (
+          inr (inr (inr (inr (inr (inl (
+            go_words d e others fits fits' (words_first (codes "green") (number x ∷ []) refl (words_number x [] fit refl)),
+            (refl, (tt, (tt, (refl, (tt, refl))))),
+          )))))),
+          no_split (codes "go") (number d ∷ number e ∷ others) (clash_kinds ++ go_kinds) refl
+              (no_clash (codes "go") (number d ∷ number e ∷ others) go_kinds refl (
+                (λ no. absurd (differ (codes "green") (codes "red") refl no.1.1.1.1.0)),
+                (
+                  (λ _. (tt, (is_number d fits, (is_number e fits', (tt, (is_number x fit, All-nil IsNumber)))))),
+                  ((λ no. absurd (differ (codes "green") (codes "neutral") refl no.1.1.1.1.0)), tt),
+                ),
+              )),
+        )
+    go_usual d e Neutral fits fits' fit =
+        let others : Line = codes "neutral" ∷ [] in (
+          inr (inr (inr (inr (inr (inr (inl (go_words d e others fits fits' refl, (refl, (tt, (tt, (refl, refl))))))))))),
+          no_split (codes "go") (number d ∷ number e ∷ others) (clash_kinds ++ go_kinds) refl
+              (no_clash (codes "go") (number d ∷ number e ∷ others) go_kinds refl (
+                (λ no. absurd (differ (codes "neutral") (codes "red") refl no.1.1.1.1.0)),
+                (
+                  (λ no. absurd (differ (codes "neutral") (codes "green") refl no.1.1.1.1.0)),
+                  ((λ _. (tt, (is_number d fits, (is_number e fits', (tt, All-nil IsNumber))))), tt),
+                ),
+              )),
+        )
+
+    mark_fits : (m : Mark) → Fits k.names → IsMarkOf k.names m → FitsMark m
+    mark_fits (Red x) small is = omega (arith, small, is)
+    mark_fits (Green x) small is = omega (arith, small, is)
+    mark_fits Neutral small is = tt
+
+    -- what the words behind the entry tell
+    pub mark_back : (d e : ℕ) (m : Mark) → FitsMark m → mark_of (go_line d e m) ≡ m
+    mark_back d e (Red x) fits = ap Red (value_back x fits)
+    mark_back d e (Green x) fits = ap Green (value_back x fits)
+    mark_back d e Neutral fits = refl
+
     go_run : (around : List Around) (d e : ℕ) (m : Mark)
         → Fits d
         → Fits e
@@ -291,69 +350,12 @@ module _ (v : Version) (left : List ℕ) where
         → e < k.wanted
         → IsMarkOf k.names m
         → Run (AtDecision k es b around) (go_line d e m ∷ []) (closed k es b around (Go d e m))
-    go_run around d e (Red x) fits fits' small within is =
-        let others : Line = codes "red" ∷ number x ∷ [] in
-        let fit : Fits x = omega (arith, small, is) in
-        let back = ap Red (value_back x fit) in (
-          (
-            inr (inr (inr (inr (inl (
-              go_words d e others fits fits' (words_first (codes "red") (number x ∷ []) refl (words_number x [] fit refl)),
-              (refl, (tt, (tt, (refl, (tt, refl))))),
-            ))))),
-            (
-              no_split (codes "go") (number d ∷ number e ∷ others) (clash_kinds ++ go_kinds) refl
-                  (no_clash (codes "go") (number d ∷ number e ∷ others) go_kinds refl (
-                    (λ _. (tt, (is_number d fits, (is_number e fits', (tt, (is_number x fit, All-nil IsNumber)))))),
-                    (
-                      (λ no. absurd (differ (codes "red") (codes "green") refl no.1.1.1.1.0)),
-                      ((λ no. absurd (differ (codes "red") (codes "neutral") refl no.1.1.1.1.0)), tt),
-                    ),
-                  )),
-              go_ranges around d e (Red x) others fits' within back is,
-            ),
-          ),
+    go_run around d e m fits fits' small within is =
+        let fit = mark_fits m small is in
+        let usual = go_usual d e m fits fits' fit in
+        let back = mark_back d e m fit in (
+          (usual.0, (usual.1, go_ranges around d e m (mark_words m) fits' within back is)),
           (λ i. closed k es b around (Go (value_back d fits i) (value_back e fits' i) (back i))),
-        )
-    go_run around d e (Green x) fits fits' small within is =
-        let others : Line = codes "green" ∷ number x ∷ [] in
-        let fit : Fits x = omega (arith, small, is) in
-        let back = ap Green (value_back x fit) in (
-          (
-            inr (inr (inr (inr (inr (inl (
-              go_words d e others fits fits' (words_first (codes "green") (number x ∷ []) refl (words_number x [] fit refl)),
-              (refl, (tt, (tt, (refl, (tt, refl))))),
-            )))))),
-            (
-              no_split (codes "go") (number d ∷ number e ∷ others) (clash_kinds ++ go_kinds) refl
-                  (no_clash (codes "go") (number d ∷ number e ∷ others) go_kinds refl (
-                    (λ no. absurd (differ (codes "green") (codes "red") refl no.1.1.1.1.0)),
-                    (
-                      (λ _. (tt, (is_number d fits, (is_number e fits', (tt, (is_number x fit, All-nil IsNumber)))))),
-                      ((λ no. absurd (differ (codes "green") (codes "neutral") refl no.1.1.1.1.0)), tt),
-                    ),
-                  )),
-              go_ranges around d e (Green x) others fits' within back is,
-            ),
-          ),
-          (λ i. closed k es b around (Go (value_back d fits i) (value_back e fits' i) (back i))),
-        )
-    go_run around d e Neutral fits fits' small within is =
-        let others : Line = codes "neutral" ∷ [] in (
-          (
-            inr (inr (inr (inr (inr (inr (inl (go_words d e others fits fits' refl, (refl, (tt, (tt, (refl, refl))))))))))),
-            (
-              no_split (codes "go") (number d ∷ number e ∷ others) (clash_kinds ++ go_kinds) refl
-                  (no_clash (codes "go") (number d ∷ number e ∷ others) go_kinds refl (
-                    (λ no. absurd (differ (codes "neutral") (codes "red") refl no.1.1.1.1.0)),
-                    (
-                      (λ no. absurd (differ (codes "neutral") (codes "green") refl no.1.1.1.1.0)),
-                      ((λ _. (tt, (is_number d fits, (is_number e fits', (tt, All-nil IsNumber))))), tt),
-                    ),
-                  )),
-              go_ranges around d e Neutral others fits' within refl is,
-            ),
-          ),
-          (λ i. closed k es b around (Go (value_back d fits i) (value_back e fits' i) Neutral)),
         )
 
     pub decision_run : (d : Decision) (around : List Around)

@@ -20,6 +20,8 @@ pub mod PlainLines
 pub mod RefutationTexts
 -- whether a line keeps the rules of its place is decided
 pub mod JudgedLines
+-- how many stacks a refutation has at most
+pub mod StackCounts
 -- texts worked out by hand
 mod WorkedTexts
 -- good lines are those of their values
@@ -30,3 +32,27 @@ pub mod Standing
 pub mod ReadableTexts
 -- the rules of a line rise by their numbers
 pub mod RisingRules
+-- words that are numbers, word by word
+pub mod NumberWords
+-- whether numbers ascend, tested one by one
+pub mod AscendingTests
+-- the lines of a decision that are read, and the first rules that others break
+pub mod BranchLines
+-- a decision with the splits that it completes
+pub mod ClosedBranches
+-- going from place to place through a text, and where it is refused
+pub mod Going
+-- a decision, read line by line
+pub mod BranchesRead
+-- the lines of the traces of an entry, and the first rules that they break
+pub mod ItemLines
+-- the traces of an entry, read line by line
+pub mod TracesRead
+-- the lines of the tables, and the first rules that they break
+pub mod RowLines
+-- the tables, read line by line
+pub mod TablesRead
+-- entries, read line by line
+pub mod EntriesRead
+-- a whole body, read from its first line to its end
+pub mod BodyRead

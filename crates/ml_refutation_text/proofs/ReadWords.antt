@@ -7,14 +7,17 @@
 --   guess_back, guess_word_fits, guess_is_word == the odd priority of an item, or none, and that its word is as it must be
 --   differ                        == words that differ aren't equal
 --   spelt_is_word                 == a word that spells a number has a byte
-use Rattle.std.proofs.Common.{◌≡◌, ℕ, Bool, true, false, cond, ◌&&◌, List, [], ◌∷◌, Option, None, Some, All, codes, refl, sym, ap, ◌∙◌, inl, inr, arith}
+--   same_word, other_word         == words that were compared with fixed ones
+--   words_are, first_word, some_word == the words of a line, by its first one
+use Rattle.std.proofs.Common.{◌≡◌, ℕ, ◌<◌, Bool, true, false, cond, ◌&&◌, List, [], ◌∷◌, length, Option, None, Some, All, codes, refl, sym, ap, ◌∙◌, inl, inr, arith}
 use Rattle.std.specs.List.{list_all}
 use Rattle.std.specs.Str.{bytes_eq, all_ascii_digits}
 use Rattle.std.proofs.lemmas.Bool.{true≢false}
 use Rattle.std.proofs.lemmas.Slice.Eq.{bytes_eq-Decides}
 use Rattle.std.proofs.lemmas.List.Elements.{All-nil, All-cons, All-head, All-tail}
 use Rattle.ml_lines.specs.Lines.{Word, Line, number}
-use Rattle.ml_lines.specs.Reading.{AreWords, IsNumber, is_word, value}
+use Rattle.ml_lines.specs.Reading.{AreWords, IsNumber, is_word, is_blank, value, words_of, words_behind}
+use Rattle.ml_lines.proofs.Cuts.{some_part}
 use Rattle.ml_lines.proofs.Numbers.{value-number, digits-number}
 use Rattle.ml_lines.proofs.WordBytes.{number-is_word}
 use Rattle.ml_refutation.specs.Refutation.{Fits, FitsGuess}
@@ -82,3 +85,25 @@ spelt_is_word (b ∷ bs) n spells = refl
 
 pub differ : (a b : Word) → bytes_eq a b ≡ false → a ≡ b → ⊥
 differ a b no_test same = true≢false (sym ((bytes_eq-Decides a b).1 same) ∙ no_test)
+
+-- ---- words that were compared with fixed ones
+
+pub same_word : (a b k : Word) → true ≡ bytes_eq a b → b ≡ k → a ≡ k
+same_word a b k test is = (bytes_eq-Decides a b).0 (sym test) ∙ is
+
+pub other_word : (a b k : Word) → false ≡ bytes_eq a b → b ≡ k → bytes_eq a k ≡ false
+other_word a b k test is = ap (bytes_eq a) (sym is) ∙ sym test
+
+-- the words of a line, by its first one and what stands behind it
+pub words_are : (words : Line) (w : Word) (behind : Option (List ℕ)) (rest : List ℕ) → words ≡ w ∷ words_behind behind
+    → behind ≡ Some rest → words ≡ w ∷ words_of rest
+words_are words w behind rest is behind_is = is ∙ ap (λ b. w ∷ words_behind b) behind_is
+
+pub first_word : (words : Line) (w k : Word) (behind : Option (List ℕ)) (rest : List ℕ) → words ≡ w ∷ words_behind behind
+    → behind ≡ Some rest → w ≡ k → words ≡ k ∷ words_of rest
+first_word words w k behind rest is behind_is same =
+    words_are words w behind rest is behind_is ∙ ap (λ v. v ∷ words_of rest) same
+
+-- a line has a word
+pub some_word : (line : List ℕ) → 0 < length (words_of line)
+some_word line = some_part is_blank line

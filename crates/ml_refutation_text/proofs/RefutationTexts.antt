@@ -1,5 +1,6 @@
 -- A text is of one refutation at most, and has no bad line where it is of one.
 --
+--   same_end              == what was read is told by the end
 --   text_lines            == the lines of a text of a refutation are good, and end with it
 --   one_refutation, readable_is_refutation, readable_or_fault, fault_or_readable, one_fault == the laws
 use Rattle.std.proofs.Common.{◌≡◌, ℕ, List, [], ◌∷◌, refl, sym, ap, subst, ◌∙◌}
@@ -18,11 +19,11 @@ use Rattle.ml_refutation_text.proofs.JudgedLines.{judges}
 use Rattle.ml_refutation_text.proofs.PlainLines.{run_plain}
 
 -- the lines of the text run from the first place to the end, with the refutation
-record RunsTo (v : Version) (t : List ℕ) (r : Refutation) : Type 0 where
+pub record RunsTo (v : Version) (t : List ℕ) (r : Refutation) : Type 0 where
   pub run : Runs (body v []) AtNames (lines_of t) (AtNothing r)
   pub none_left : left_of t ≡ []
 
-text_lines : (v : Version) (t : List ℕ) (r : Refutation) → IsRefutation r → IsTextOf v t r → RunsTo v t r
+pub text_lines : (v : Version) (t : List ℕ) (r : Refutation) → IsRefutation r → IsTextOf v t r → RunsTo v t r
 text_lines v t r is written =
     let plain = run_plain v 0 [] AtNames (AtNothing r) written.lines (body_run v (0 ∷ []) written.form r written.lines is written.is_form written.are_lines) in
     let read = lines_read written.lines plain in record {
@@ -47,6 +48,11 @@ end_of other (AtItem k es q traces) = other
 end_of other (AtDecision k es b around) = other
 end_of other (AtEnd r) = other
 end_of other (AtNothing r) = r
+
+-- what was read is told by the end
+pub same_end : (r s : Refutation) → AtNothing r ≡ AtNothing s → r ≡ s
+unfolding end_of
+same_end r s same = ap (end_of r) same
 
 pub one_refutation : OneRefutation
 unfolding end_of

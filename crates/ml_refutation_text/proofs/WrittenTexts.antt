@@ -1,24 +1,23 @@
 -- What is written of a refutation is a text of it.
 --
 --   entries_written      == the lines of entries that are written are lines of them, in full and by tables
---   spells_number        == a number's word spells it
 --   tables_are           == the tables of a refutation are as what they stand for
---   written_is_text      == the written text is one of the refutation
+--   has_text             == the written text is one of the refutation
+--   written_is_text      == so it is of one whose stacks were counted
 use Rattle.std.proofs.Common.{◌≡◌, ℕ, zero, suc, get_or, ◌+◌, ◌^◌, ◌<◌, ◌≤◌, List, [], ◌∷◌, ◌++◌, length, map, All, refl, ap, arith}
 use Rattle.std.specs.List.{flat_map, AllByRecursion}
-use Rattle.std.proofs.lemmas.Fmt.{decimal_nonempty, first_decimal, decimal_digit}
 use Rattle.std.proofs.lemmas.List.{length-map}
 use Rattle.std.proofs.lemmas.List.Elements.{All-nil, All-head, All-tail, All-append, All-map, All-weaker}
 use Rattle.ml_base.specs.declared.version.Version.{Version}
 use Rattle.ml_base.specs.declared.version.Version.TheVariants.{One, Two}
 use Rattle.ml_lines.specs.Lines.{number}
-use Rattle.ml_lines.proofs.Numbers.{value-number, digits-number}
 use Rattle.ml_lists.specs.Ascending.{IsAscending}
 use Rattle.ml_trace.specs.declared.letters.AutomatonState.{AutomatonState}
 use Rattle.ml_trace.specs.Stack as traced
 use Rattle.ml_refutation.specs.Refutation.{Refutation, Entry, Fits, IsStack, IsItem, IsEntry, IsRefutation}
 use Rattle.ml_refutation_text.specs.RefutationText.{Spells, Form, InFull, ByTables, HeadLines, StackWords, ItemLines, EntryLines, EntriesLines, AreTables, IsTextOf, item_line}
 use Rattle.ml_refutation_text.specs.WrittenText.{IsCounted, Writing, in_full, by_tables, used_stacks, sequents_of, stacks_of, place_in, entry_lines, entries_lines, written_lines, written_text}
+use Rattle.ml_refutation_text.proofs.StackCounts.{spells_wide, few_stacks}
 use Rattle.ml_refutation_text.proofs.TableEntries.{Has, made_has, made_all, made_length, has_inside, has_place}
 
 -- ---- both forms
@@ -73,18 +72,6 @@ module _ (W : Writing) (F : Form) (IsHead IsUsed : List ℕ → Type 0)
 
 -- ---- tables
 
-no_zero_leads : (n : ℕ) → n < 2 ^ 64 → get_or (number n) 0 0 ≡ 48 → length (number n) ≡ 1
-no_zero_leads zero fits lead = ap length (decimal_digit 0 (omega arith))
-no_zero_leads (suc n) fits lead = absurd (omega (arith, first_decimal (suc n) (omega arith) fits, lead))
-
-pub spells_number : (n : ℕ) → n < 2 ^ 64 → Spells (number n) n
-spells_number n fits = record {
-  digits = digits-number n fits;
-  some = decimal_nonempty n fits;
-  no_zero_leads = no_zero_leads n fits;
-  is_value = value-number n fits;
-}
-
 stacks_all : (names : ℕ) (es : List Entry)
     → All (λ e. All (IsStack names) (used_stacks e)) es
     → All (IsStack names) (flat_map used_stacks es)
@@ -133,8 +120,8 @@ full_heads i q any = refl
 full_words : (ns : List ℕ) → Unit {0} → StackWords InFull ns (in_full.words ns)
 full_words ns any = refl
 
-pub written_is_text : (v : Version) (r : Refutation) → IsRefutation r → IsCounted v r → IsTextOf v (written_text v r) r
-written_is_text One r is few = record {
+pub has_text : (v : Version) (r : Refutation) → IsRefutation r → IsTextOf v (written_text v r) r
+has_text One r is = record {
   form = InFull;
   is_form = tt;
   lines = written_lines One r;
@@ -150,22 +137,27 @@ written_is_text One r is few = record {
   };
   is_text = refl;
 }
-written_is_text Two r is few =
+has_text Two r is =
     let qs = sequents_of r.entries in
-    let ks = stacks_of r.entries in record {
+    let ks = stacks_of r.entries in
+    let few = few_stacks r is in record {
       form = ByTables qs ks;
       is_form = tables_are r is;
       lines = written_lines Two r;
       are_lines = record {
         first = _;
         entries = entries_lines (by_tables qs ks) 0 r.entries;
-        are_first = (number (length ks), spells_number (length ks) few, refl);
+        are_first = (number (length ks), spells_wide (length ks) few, refl);
         are_entries =
             entries_written (by_tables qs ks) (ByTables qs ks) (Has qs) (Has ks)
             (λ i q has. (place_in qs q, has_place qs q has, refl))
-            (λ ns has. (place_in ks ns, number (place_in ks ns), spells_number (place_in ks ns) (omega (arith, has_inside ks ns has, few)), has_place ks ns has, refl)) 0 r.entries
+            (λ ns has. (place_in ks ns, number (place_in ks ns), spells_wide (place_in ks ns) (omega (arith, has_inside ks ns has, few)), has_place ks ns has, refl)) 0 r.entries
             (made_has (map (λ e. e.sequent) r.entries)) (made_has (flat_map used_stacks r.entries));
         are_lines = refl;
       };
       is_text = refl;
     }
+
+-- the same of what was counted, as a call says it
+pub written_is_text : (v : Version) (r : Refutation) → IsRefutation r → IsCounted v r → IsTextOf v (written_text v r) r
+written_is_text v r is counted = has_text v r is

@@ -13,7 +13,7 @@ use Rattle.ml_base.specs.declared.doc_fault.DocFault.{DocFault}
 use Rattle.ml_base.specs.declared.version.Version.{Version}
 use Rattle.ml_refutation.specs.Refutation.{Refutation, IsRefutation}
 use Rattle.ml_refutation_text.specs.RefutationText.{IsTextOf}
-use Rattle.ml_refutation_text.specs.WrittenText.{IsCounted, written_text}
+use Rattle.ml_refutation_text.specs.WrittenText.{written_text}
 use Rattle.ml_lists.specs.Documents.{NumbersRise}
 use Rattle.ml_refutation_text.specs.BodyRules.{body, IsFaultOf, IsReadableBody}
 
@@ -25,7 +25,7 @@ OneRefutation = (v : Version) (text : List ℕ) (r s : Refutation)
     → IsRefutation r → IsRefutation s → IsTextOf v text r → IsTextOf v text s → r ≡ s
 
 abbrev pub WrittenIsText : Type 0
-WrittenIsText = (v : Version) (r : Refutation) → IsRefutation r → IsCounted v r → IsTextOf v (written_text v r) r
+WrittenIsText = (v : Version) (r : Refutation) → IsRefutation r → IsTextOf v (written_text v r) r
 
 abbrev pub ReadableOrFault : Type 0
 ReadableOrFault = (v : Version) (text : List ℕ) (first : ℕ)

@@ -6,6 +6,8 @@ pub mod WrittenText
 pub mod LineKinds
 -- the rules of a body, and its first bad line
 pub mod BodyRules
+-- the lines at which the parts of entries begin
+pub mod PartLines
 -- laws of these texts
 pub mod Laws
 -- what private contracts cite

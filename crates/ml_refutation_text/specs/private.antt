@@ -2,3 +2,15 @@
 
 -- how the program writes sequents and stacks
 pub mod Filings
+-- what the reader of a body knows
+pub mod Reads
+-- what it knows of words
+pub mod WordReads
+-- what it knows of the lines of an entry
+pub mod ItemReads
+-- what it knows of the lines of a decision
+pub mod BranchReads
+-- what it knows of tables and of the first lines of entries
+pub mod EntryReads
+-- what it knows of a whole body
+pub mod BodyReads

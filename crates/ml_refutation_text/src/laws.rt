@@ -1,7 +1,7 @@
 // What holds of texts of refutations, whoever made them.
 ghost use Rattle.ml_refutation_text.specs.Laws.{FaultOrReadable, OneFault, OneRefutation, ReadableIsRefutation, ReadableOrFault, RulesRise, WrittenIsText};
 
-/// The text that is written of a refutation, of not too many stacks to count them, is a text of it, in both versions.
+/// The text that is written of a refutation is a text of it, in both versions: so each refutation has a text.
 pub fn written_is_text()
     ensures { WrittenIsText }
 {}

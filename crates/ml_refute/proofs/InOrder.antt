@@ -13,7 +13,7 @@ use Rattle.ml_lists.proofs.BreadthFirst.{member-each_once}
 use Rattle.ml_lists.proofs.Member.{member-filter}
 
 -- one test after the other
-filter_both : (t u : ℕ → Bool) (xs : List ℕ) → filter t (filter u xs) ≡ filter (λ y. u y && t y) xs
+pub filter_both : (t u : ℕ → Bool) (xs : List ℕ) → filter t (filter u xs) ≡ filter (λ y. u y && t y) xs
 filter_both t u [] = refl
 filter_both t u (x ∷ xs) = by_test (cases_Bool (u x)) (filter_both t u xs)
   where

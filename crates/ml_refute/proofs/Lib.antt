@@ -42,3 +42,11 @@ pub mod WorkedExtraction
 pub mod Progress
 -- the entries are what Odd's moves reach
 pub mod ReachedByOdd
+-- what is done at a vertex that Odd wins
+pub mod Leaving
+-- numbers that come in turn
+pub mod NumbersInTurn
+-- entries as they are found
+pub mod FoundEntries
+-- the refutation, put together of them
+pub mod PuttingTogether

@@ -180,6 +180,12 @@ module _ (g : Graph) (a : Arena) (arena : IsArenaOf g a) (s : GameSolution) wher
     pub is_mark : FitsBelow (neutral g) mark
     pub unchosen : next.choice ≡ []
     pub wins : Won_by_odd (choice_at s.choice v)
+    -- the diamond has the place that the choice has among the moves
+    pub place : ℕ
+    pub is_first : IsFirst (λ k. get_or (get_or a.moves v []) k 0 ≡ choice_at s.choice v)
+        (length (get_or a.moves v [])) place
+    pub fits : place < length (diamonds_of g sp)
+    pub diamond_is : diamond ≡ get_or (diamonds_of g sp) place 0
 
   module _ (solution : IsSolution (game_of a) s) (v : ℕ) (p : Position) (placed : slice_get a.positions v ≡ Some p)
       (facts : Facts g p)
@@ -194,12 +200,13 @@ module _ (g : Graph) (a : Arena) (arena : IsArenaOf g a) (s : GameSolution) wher
     -- Odd's choice is the vertex at a place of the moves, of which it is the first such
     along : (ds : List ℕ) (ts : List Target) (vs : List ℕ)
         → ds ≡ diamonds_of g sp
+        → vs ≡ get_or a.moves v []
         → AreSteps g p sp ds ts
         → AreVertices a.positions ts vs
         → owner_of (game_of a) v ≡ Odd
         → IsMember (choice_at s.choice v) vs
         → GoesOn v p sp
-    along ds ts vs ds_are steps vertices is_odd inside =
+    along ds ts vs ds_are vs_are steps vertices is_odd inside =
         from (search_first (λ k. get_or vs k 0 ≡ choice_at s.choice v)
         (λ k. cases_eq (get_or vs k 0) (choice_at s.choice v)) (length vs))
       where
@@ -234,6 +241,11 @@ module _ (g : Graph) (a : Arena) (arena : IsArenaOf g a) (s : GameSolution) wher
                 chosen =
                     λ own. refl;
               }) wins;
+          place = k;
+          is_first = subst (λ (ws : List ℕ). IsFirst (λ j. get_or ws j 0 ≡ choice_at s.choice v) (length ws) k) vs_are
+              first;
+          fits = subst (λ (xs : List ℕ). k < length xs) ds_are t.fits;
+          diamond_is = ap (λ (xs : List ℕ). get_or xs k 0) ds_are;
         }
           where
             stands : slice_get a.positions (choice_at s.choice v) ≡ Some t.next
@@ -310,7 +322,7 @@ module _ (g : Graph) (a : Arena) (arena : IsArenaOf g a) (s : GameSolution) wher
         of_turn (Leading ds) e at moves =
             let is_odd : owner_of (game_of a) v ≡ Odd = owner_at g a arena v low ∙ turn.owner_is ∙ ap mover e in
             let move = solution.strategies Odd v (omega (arith, low, size_is g a arena)) is_odd in
-            along ds turn.turn.targets (get_or a.moves v []) (at.1 ∙ ap (diamonds_of g) same)
+            along ds turn.turn.targets (get_or a.moves v []) (at.1 ∙ ap (diamonds_of g) same) refl
             (subst (λ x. AreSteps g p x ds turn.turn.targets) same moves)
             turn.moves_are is_odd (member_of_contains (choice_at s.choice v) (get_or a.moves v [])
             (subst (λ ms. Contains ms (choice_at s.choice v)) (moves_at g a arena v low) move))

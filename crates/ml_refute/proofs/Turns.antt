@@ -34,6 +34,7 @@ module _ (g : Graph) (a : Arena) (arena : IsArenaOf g a) (v : ℕ) (p : Position
     pub right : ℕ
     pub left_is : slice_get a.positions left ≡ Some (with_chosen g p n Left)
     pub right_is : slice_get a.positions right ≡ Some (with_chosen g p n Right)
+    pub moves_are : get_or a.moves v [] ≡ left ∷ right ∷ []
     pub is_even : owner_of (game_of a) v ≡ Even
     pub to_left : HasMove (game_of a) v left
     pub to_right : HasMove (game_of a) v right
@@ -91,6 +92,7 @@ module _ (g : Graph) (a : Arena) (arena : IsArenaOf g a) (v : ℕ) (p : Position
                 right = k;
                 left_is = l_is;
                 right_is = k_is;
+                moves_are = ws_is ∙ ws_are ∙ ap (λ x. l ∷ x) rest_is ∙ ap (λ x. l ∷ k ∷ x) none_is;
                 is_even = owner_at g a arena v low ∙ owner_is;
                 to_left = subst (λ x. Contains x l) (sym all) (contains_head l (k ∷ none));
                 to_right = subst (λ x. Contains x k) (sym all) (contains_later l (k ∷ none) k (contains_head k none));

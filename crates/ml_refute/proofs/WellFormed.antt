@@ -1,8 +1,8 @@
 -- An extracted refutation is a refutation, in numbers of 32 bits.
 --
---   names_low            == there are no more names than states of the automaton
+--   names_few            == there are no more names than states of the automaton
 --   entries_low          == and no more entries than positions
---   decided              == a decision leads to entries, with names that there are
+--   decided, decided_at  == a decision leads to entries, with names that there are
 --   is_traced            == items ascend, and their stacks are of names in use
 --   entry_is             == an entry is one
 --   extracted_refutation == the theorem
@@ -47,9 +47,7 @@ use Rattle.ml_refute.proofs.GoSteps.{state_numbered, go_mark_in_use}
 use Rattle.ml_refute.proofs.Items.{items_ascend}
 use Rattle.ml_refute.proofs.Sizes.{nesting_low, IsChoiceIn}
 
-module _ (X : Extraction) (longest : AreLongest (go_graph X.r) (heights_of X.r)) (g_ok : IsGraph X.g)
-    (small : size X.g ≤ NESTING_LIMIT) (priorities_fit : All Fits X.g.priorities)
-    (positions_fit : Fits (length X.a.positions)) where
+module _ (X : Extraction) (g_ok : IsGraph X.g) (small : size X.g ≤ NESTING_LIMIT) where
   node_fits : (n : ℕ) → n < size X.g → Fits n
   node_fits n low = omega arith
 
@@ -85,13 +83,16 @@ module _ (X : Extraction) (longest : AreLongest (go_graph X.r) (heights_of X.r))
         omega (arith, names_fit X.g h.position facts here.spread here.is_spread, live_is)
 
   -- there are no more names than states of the automaton
-  names_low : Fits X.r.names
-  names_low =
+  pub names_few : X.r.names ≤ 4096 * 4097
+  names_few =
       let place = member-place X.o.names.entry X.r.entries X.o.names.member in
       let few = live_few place.place place.below (position_at X place.place place.below) in
       let same : (entry_at X.r place.place).traces.live ≡ X.r.names = ap (λ (x : Entry). x.traces.live)
       (place.holds no_entry) ∙ X.o.names.is in
       omega (arith, few, same, few_states)
+
+  names_low : Fits X.r.names
+  names_low = omega (arith, names_few)
 
   -- and no more entries than positions
   entries_low : length X.r.entries ≤ length X.a.positions
@@ -113,7 +114,7 @@ module _ (X : Extraction) (longest : AreLongest (go_graph X.r) (heights_of X.r))
   cause_fits sp (cause.Pair p q) within at = (node_fits p (within p at.0), node_fits q (within q at.1))
   cause_fits sp (cause.Cycle n) within at = node_fits n (within n at.0)
 
-  decided : (d : Decision) (p : Position)
+  pub decided : (d : Decision) (p : Position)
       → Facts X.g p
       → ((n : ℕ) → IsMember n p.sequent → n < size X.g)
       → live p.history ≤ X.r.names
@@ -136,113 +137,124 @@ module _ (X : Extraction) (longest : AreLongest (go_graph X.r) (heights_of X.r))
       go : IsGo X.g X.a X.s X.o.positions p at.spread d f m
       go = at.holds.1
 
-  -- ---- items
-
-  guess_fits : (guess : Option ℕ) → IsGuess (odd_priorities X.g) guess → FitsGuess guess
-  guess_fits None at = tt
-  guess_fits (Some d) at =
-      All-member Fits X.g.priorities priorities_fit d (member-filter_from (λ e. e % 2 == 1) d X.g.priorities
-      (ascending-member d (filter (λ e. e % 2 == 1) X.g.priorities) at)).0
-
-  not_empty : (xs : List ℕ) → xs ≢ [] → 0 < length xs
-  not_empty [] some = absurd (some refl)
-  not_empty (x ∷ xs) some = omega arith
-
-  item_is : (p : Position)
-      → Facts X.g p
-      → ((n : ℕ) → IsMember n p.sequent → n < size X.g)
-      → (x : traced.Item ℕ)
-      → IsMember x p.history
-      → IsItem (live p.history) (carried_item (state_of (odd_priorities X.g)) x)
-  item_is p known within x inside = of_traced (known.traced x inside)
+  -- the decision of an entry
+  pub decided_at : (e : ℕ) → e < length X.r.entries → IsDecided X.r.names (length X.r.entries) (entry_at X.r e).decision
+  decided_at e low = of_entry (position_at X e low)
     where
-      of_traced : IsTraced X.g p.sequent x → IsItem (live p.history) (carried_item (state_of (odd_priorities X.g)) x)
-      of_traced t =
-          let state_is : state_of (odd_priorities X.g) x.state ≡ t.state = state_numbered X.g x.state t.state t.is_state
-          t.numbered_so in
-          record {
-            node_fits = subst (λ (y : AutomatonState). Fits y.node) (sym state_is)
-                (node_fits t.state.node (within t.state.node t.member));
-            guess_fits = subst (λ (y : AutomatonState). FitsGuess y.odd) (sym state_is)
-                (guess_fits t.state.odd t.is_state);
-            is_stack = record {
-              some = not_empty x.stack (known.is_history.not_empty x inside);
-              ascends = known.is_history.stacks_ascend x inside;
-              below = member-All (λ y. y < live p.history) x.stack
-                  (λ y m. live-has p.history y x inside (member-has y x.stack m));
-            };
-          }
+      of_entry : At X e → IsDecided X.r.names (length X.r.entries) (entry_at X.r e).decision
+      of_entry h =
+          decided (entry_at X.r e).decision h.position (facts e low h) (nodes_low e low h) (live_within X e h low)
+          h.is_entry.decision
 
-  traces_are : (p : Position)
-      → Facts X.g p
-      → ((n : ℕ) → IsMember n p.sequent → n < size X.g)
-      → live p.history ≤ X.r.names
-      → plain.IsTraced X.r.names (traces_of X.g p.history)
-  traces_are p known within few = record {
-    within = few;
-    ascend = items_ascend (odd_priorities X.g) (ascending-is (filter (λ d. d % 2 == 1) X.g.priorities)) None p.history
-        tt known.is_history.states_ascend;
-    are_items = member-All (IsItem (live p.history)) (traces_of X.g p.history).items
-        (λ x m. of_image x (member-map_from (carried_item (state_of (odd_priorities X.g))) x p.history m));
-  }
-    where
-      of_image : (x : traced.Item AutomatonState)
-          → Image (carried_item (state_of (odd_priorities X.g))) x p.history
-          → IsItem (live p.history) x
-      of_image x i = subst (IsItem (live p.history)) (sym i.holds) (item_is p known within i.from i.member)
+  module _ (longest : AreLongest (go_graph X.r) (heights_of X.r)) (priorities_fit : All Fits X.g.priorities)
+      (positions_fit : Fits (length X.a.positions)) where
+    -- ---- items
 
-  -- ---- entries
+    guess_fits : (guess : Option ℕ) → IsGuess (odd_priorities X.g) guess → FitsGuess guess
+    guess_fits None at = tt
+    guess_fits (Some d) at =
+        All-member Fits X.g.priorities priorities_fit d (member-filter_from (λ e. e % 2 == 1) d X.g.priorities
+        (ascending-member d (filter (λ e. e % 2 == 1) X.g.priorities) at)).0
 
-  row_is : (e : ℕ) → e < length X.r.entries → get_or (heights_of X.r) e [] ≡ (entry_at X.r e).heights
-  row_is e low = get_or-map (λ (x : Entry). x.heights) X.r.entries e no_entry [] low
+    not_empty : (xs : List ℕ) → xs ≢ [] → 0 < length xs
+    not_empty [] some = absurd (some refl)
+    not_empty (x ∷ xs) some = omega arith
 
-  height_fits : (e : ℕ) → e < length X.r.entries → All Fits (entry_at X.r e).heights
-  height_fits e low k d below =
-      let most = longest_low (go_graph X.r) (heights_of X.r) (is_one_sided X) longest (2 * k) e in
-      let half : (2 * k) / 2 ≡ k = omega arith in
-      let here : get_or (get_or (heights_of X.r) e []) ((2 * k) / 2) 0 ≡ get_or (entry_at X.r e).heights k d =
-      ap (λ row. get_or row ((2 * k) / 2) 0) (row_is e low) ∙ ap (λ j. get_or (entry_at X.r e).heights j 0) half
-      ∙ get_or_default (entry_at X.r e).heights k 0 d below in
-      omega (arith, most, here, entries_low)
+    item_is : (p : Position)
+        → Facts X.g p
+        → ((n : ℕ) → IsMember n p.sequent → n < size X.g)
+        → (x : traced.Item ℕ)
+        → IsMember x p.history
+        → IsItem (live p.history) (carried_item (state_of (odd_priorities X.g)) x)
+    item_is p known within x inside = of_traced (known.traced x inside)
+      where
+        of_traced : IsTraced X.g p.sequent x → IsItem (live p.history) (carried_item (state_of (odd_priorities X.g)) x)
+        of_traced t =
+            let state_is : state_of (odd_priorities X.g) x.state ≡ t.state = state_numbered X.g x.state t.state t.is_state
+            t.numbered_so in
+            record {
+              node_fits = subst (λ (y : AutomatonState). Fits y.node) (sym state_is)
+                  (node_fits t.state.node (within t.state.node t.member));
+              guess_fits = subst (λ (y : AutomatonState). FitsGuess y.odd) (sym state_is)
+                  (guess_fits t.state.odd t.is_state);
+              is_stack = record {
+                some = not_empty x.stack (known.is_history.not_empty x inside);
+                ascends = known.is_history.stacks_ascend x inside;
+                below = member-All (λ y. y < live p.history) x.stack
+                    (λ y m. live-has p.history y x inside (member-has y x.stack m));
+              };
+            }
 
-  entry_is : (e : ℕ) → e < length X.r.entries → At X e → IsEntry X.r.names (length X.r.entries) (entry_at X.r e)
-  entry_is e low h =
-      let p = h.position in
-      let known = facts e low h in
-      let within = nodes_low e low h in
-      let few = live_within X e h low in
-      record {
-        nodes_fit = subst (All Fits) (sym h.is_entry.sequent)
-            (member-All Fits p.sequent (λ n m. node_fits n (within n m)));
-        ascends = subst IsAscending (sym h.is_entry.sequent) known.ascends;
-        is_traced = subst (plain.IsTraced X.r.names) (sym h.is_entry.traces) (traces_are p known within few);
-        heights_fit = height_fits e low;
-        a_height_each = let rows = longest.shape.numbers e low in
-            let half : 2 * X.r.names / 2 ≡ X.r.names = omega arith in
-            omega (arith, rows, half, ap (λ (row : List ℕ). length row) (row_is e low));
-        is_decided = decided (entry_at X.r e).decision p known within few h.is_entry.decision;
-        nested = nested;
-      }
-    where
-      nested : nesting (entry_at X.r e).decision ≤ NESTING_LIMIT
-      nested =
-          let deep = nesting_low X.g X.a X.s X.o.positions (entry_at X.r e).decision h.position h.is_entry.decision
-          (subst (IsChoiceIn X.g) (sym h.is_entry.unchosen) (record { is_choice = tt; low = λ k m. absurd m })) in
-          omega (arith, deep)
+    traces_are : (p : Position)
+        → Facts X.g p
+        → ((n : ℕ) → IsMember n p.sequent → n < size X.g)
+        → live p.history ≤ X.r.names
+        → plain.IsTraced X.r.names (traces_of X.g p.history)
+    traces_are p known within few = record {
+      within = few;
+      ascend = items_ascend (odd_priorities X.g) (ascending-is (filter (λ d. d % 2 == 1) X.g.priorities)) None p.history
+          tt known.is_history.states_ascend;
+      are_items = member-All (IsItem (live p.history)) (traces_of X.g p.history).items
+          (λ x m. of_image x (member-map_from (carried_item (state_of (odd_priorities X.g))) x p.history m));
+    }
+      where
+        of_image : (x : traced.Item AutomatonState)
+            → Image (carried_item (state_of (odd_priorities X.g))) x p.history
+            → IsItem (live p.history) x
+        of_image x i = subst (IsItem (live p.history)) (sym i.holds) (item_is p known within i.from i.member)
 
-  -- the theorem
-  pub extracted_refutation : IsRefutation X.r
-  extracted_refutation = record {
-    names_fit = names_low;
-    has_start = let place = member-place X.o.names.entry X.r.entries X.o.names.member in omega (arith, place.below);
-    entries_fit = omega (arith, entries_low);
-    are_entries = member-All (IsEntry X.r.names (length X.r.entries)) X.r.entries
-        (λ x m. of_place x (member-place x X.r.entries m));
-  }
-    where
-      of_place : (x : Entry)
-          → Place x X.r.entries
-          → IsEntry X.r.names (length X.r.entries) x
-      of_place x i =
-          subst (IsEntry X.r.names (length X.r.entries)) (i.holds no_entry)
-          (entry_is i.place i.below (position_at X i.place i.below))
+    -- ---- entries
+
+    row_is : (e : ℕ) → e < length X.r.entries → get_or (heights_of X.r) e [] ≡ (entry_at X.r e).heights
+    row_is e low = get_or-map (λ (x : Entry). x.heights) X.r.entries e no_entry [] low
+
+    height_fits : (e : ℕ) → e < length X.r.entries → All Fits (entry_at X.r e).heights
+    height_fits e low k d below =
+        let most = longest_low (go_graph X.r) (heights_of X.r) (is_one_sided X) longest (2 * k) e in
+        let half : (2 * k) / 2 ≡ k = omega arith in
+        let here : get_or (get_or (heights_of X.r) e []) ((2 * k) / 2) 0 ≡ get_or (entry_at X.r e).heights k d =
+        ap (λ row. get_or row ((2 * k) / 2) 0) (row_is e low) ∙ ap (λ j. get_or (entry_at X.r e).heights j 0) half
+        ∙ get_or_default (entry_at X.r e).heights k 0 d below in
+        omega (arith, most, here, entries_low)
+
+    entry_is : (e : ℕ) → e < length X.r.entries → At X e → IsEntry X.r.names (length X.r.entries) (entry_at X.r e)
+    entry_is e low h =
+        let p = h.position in
+        let known = facts e low h in
+        let within = nodes_low e low h in
+        let few = live_within X e h low in
+        record {
+          nodes_fit = subst (All Fits) (sym h.is_entry.sequent)
+              (member-All Fits p.sequent (λ n m. node_fits n (within n m)));
+          ascends = subst IsAscending (sym h.is_entry.sequent) known.ascends;
+          is_traced = subst (plain.IsTraced X.r.names) (sym h.is_entry.traces) (traces_are p known within few);
+          heights_fit = height_fits e low;
+          a_height_each = let rows = longest.shape.numbers e low in
+              let half : 2 * X.r.names / 2 ≡ X.r.names = omega arith in
+              omega (arith, rows, half, ap (λ (row : List ℕ). length row) (row_is e low));
+          is_decided = decided (entry_at X.r e).decision p known within few h.is_entry.decision;
+          nested = nested;
+        }
+      where
+        nested : nesting (entry_at X.r e).decision ≤ NESTING_LIMIT
+        nested =
+            let deep = nesting_low X.g X.a X.s X.o.positions (entry_at X.r e).decision h.position h.is_entry.decision
+            (subst (IsChoiceIn X.g) (sym h.is_entry.unchosen) (record { is_choice = tt; low = λ k m. absurd m })) in
+            omega (arith, deep)
+
+    -- the theorem
+    pub extracted_refutation : IsRefutation X.r
+    extracted_refutation = record {
+      names_fit = names_low;
+      has_start = let place = member-place X.o.names.entry X.r.entries X.o.names.member in omega (arith, place.below);
+      entries_fit = omega (arith, entries_low);
+      are_entries = member-All (IsEntry X.r.names (length X.r.entries)) X.r.entries
+          (λ x m. of_place x (member-place x X.r.entries m));
+    }
+      where
+        of_place : (x : Entry)
+            → Place x X.r.entries
+            → IsEntry X.r.names (length X.r.entries) x
+        of_place x i =
+            subst (IsEntry X.r.names (length X.r.entries)) (i.holds no_entry)
+            (entry_is i.place i.below (position_at X i.place i.below))

@@ -2,3 +2,5 @@
 pub mod Extracted
 -- what is true of it
 pub mod Laws
+-- what only private contracts cite
+pub mod private

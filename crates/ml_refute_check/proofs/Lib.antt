@@ -25,10 +25,29 @@ pub mod DecidedNames
 -- a refutation is accepted or has a first bad part
 pub mod SomeFault
 -- checking finds exactly one thing
-pub mod OneVerdict
+pub mod OneFinding
 -- flags of the names that stand in items
 pub mod NamesStand
 -- where a name comes from, as it is searched for
 pub mod Sources
 -- names that are traced back, and the condition on names
 pub mod NamesTraced
+-- what checking parts one by one finds
+pub mod PartsFound
+-- what checking the branches of a decision finds
+pub mod BranchesFound
+-- what the tests of a `go` tell of its rules
+pub mod GoFound
+-- what checking the parts of an entry before its decision finds
+pub mod EntryFound
+-- what an accepted document tells, and documents that are written
+pub mod Accepted
+-- documents as they are read and rejected
+pub mod Rejected
+-- two graphs of one problem, and what a refutation asks of them
+pub mod AlikeGraphs
+pub mod GraphsOfProblems
+-- checking a document finds one thing at most
+pub mod OneVerdict
+-- checking a document finds something
+pub mod SomeVerdict

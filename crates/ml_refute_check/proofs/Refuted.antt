@@ -16,7 +16,7 @@ use Rattle.ml_front.proofs.Graphs.{graphs_agree}
 use Rattle.ml_refute_check.specs.Problems.{RefutedIsUnsatisfiable}
 use Rattle.ml_refute_check.proofs.EntryLoops.{accepted_holds_nowhere}
 
-graph_of : (g : Graph) (negated : Bool) (f : AnyFormula) → IsGraphAs g negated f → IsGraph g
+pub graph_of : (g : Graph) (negated : Bool) (f : AnyFormula) → IsGraphAs g negated f → IsGraph g
 graph_of g negated (Mu f) is = is.is_graph
 
 structure_of : (l : Logic) (m : Structure) → IsAdmitted l m → IsStructure m

@@ -1,8 +1,9 @@
 // Laws about the definitions alone: empty functions, each of whose contract is a theorem.
 
+ghost use Rattle.ml_refute_check.specs.Laws.{AcceptedIsTrue, AlikeChecked, DocumentsReadBack, OneVerdict, SomeVerdict};
 ghost use Rattle.ml_refute_check.specs.Problems.{RefutedIsUnsatisfiable};
 ghost use Rattle.ml_refute_check.specs.Soundness.{AcceptedHoldsNowhere, AcceptedOrFault, NeverBoth, OneFault, RulesRise};
-ghost use Rattle.ml_refute_check.specs.Verdicts.{OneVerdict};
+ghost use Rattle.ml_refute_check.specs.Findings.{OneFinding};
 
 /// Where a refutation breaks no rule in a graph, the graph holds at no state of any structure. Asked is that the
 /// refutation keeps what every one keeps (`IsRefutation`), and that graph and structure are such. All three may be of
@@ -29,8 +30,8 @@ pub fn one_fault()
 /// rule that this part breaks.
 ///
 /// Does nothing when called.
-pub fn one_verdict()
-    ensures law { OneVerdict }
+pub fn one_finding()
+    ensures law { OneFinding }
 {}
 
 /// Of a problem whose formula means something by its logic (in the mu-calculus: its variables are bound and positive):
@@ -40,4 +41,30 @@ pub fn one_verdict()
 /// Does nothing when called.
 pub fn refuted_is_unsatisfiable()
     ensures { RefutedIsUnsatisfiable }
+{}
+
+/// Where a document is accepted, what it answers is true: no structure has a state at which its problem holds. This asks
+/// nothing of who wrote the document, nor how.
+///
+/// Does nothing when called.
+pub fn accepted_is_true()
+    ensures { AcceptedIsTrue }
+{}
+
+/// The document that is written for a problem and a refutation shows these; so `migrate` loses nothing.
+///
+/// Does nothing when called.
+pub fn documents_are_read_back()
+    ensures { DocumentsReadBack }
+{}
+
+/// Checking a text finds exactly one thing: so `check` answers each exactly where it is said to come, but for want of
+/// memory. What it accepts follows from the problem and the refutation alone, and not from how they are written; so it
+/// accepts what `migrate` writes exactly where it accepts what was read.
+///
+/// Does nothing when called.
+pub fn one_verdict()
+    ensures some { SomeVerdict }
+    ensures once { OneVerdict }
+    ensures alike { AlikeChecked }
 {}

@@ -1,18 +1,30 @@
 // The checker of refutations, and why an accepted one can be trusted.
 //
-// `laws::accepted_holds_nowhere` is the theorem: a graph for which a refutation is accepted holds at no state of any
-// structure.
+// The calls to know:
+// - `check` reads a document that answers `unsatisfiable`, and answers whether it is true by the rules of acceptance. What it
+//   accepts is true: no structure has a state at which the document's problem holds.
+// - `check_refutation` checks a refutation against a graph.
+// - `migrate` writes a document of either version anew, in version 2.
 //
-// Below stand `ml_refutation`, which has the rules of acceptance, and `ml_graph` with the checking game, in whose words
-// it is said where a graph holds. `Verdict` is what checking a refutation finds, exactly one thing each time
-// (`laws::one_verdict`); the call that finds it is to come. `parts`, `branches` and `names` have the tests of single rules,
-// all but that of clashes.
+// `laws::accepted_holds_nowhere` is the theorem: a graph for which a refutation is accepted holds at no state of any
+// structure. `specs/Documents.antt` says which documents are accepted, rejected and unreadable.
+//
+// Below stand `ml_refutation`, which has the rules of acceptance, `ml_refutation_text` with their texts, `ml_sequent` with
+// the local phase, `ml_front` with problems and heads, and `ml_graph` with the checking game, in whose words it is said where
+// a graph holds. No history, no game of the decision and no solver is among them.
 #![tactic(auto)]
 
 mod branches;
+mod check_graph;
+mod checker;
+mod document;
+mod finding;
 pub mod laws;
 mod names;
 mod parts;
 mod verdict;
 
-pub use verdict::{Fault, Verdict};
+pub use check_graph::check_refutation;
+pub use document::{check, migrate};
+pub use finding::{Fault, Finding};
+pub use verdict::Verdict;

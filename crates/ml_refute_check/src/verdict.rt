@@ -1,22 +1,14 @@
-// What checking a refutation against a graph finds.
+// What checking an unsatisfiable document finds.
+use ml_base::DocFault;
 
-/// Where a refutation is refused: the first part that breaks a rule of acceptance, by the place of its entry and its own
-/// place among the parts of this entry, both counted from 0, and the lowest rule that it breaks.
-///
-/// The parts of an entry are its sequent, its names in use, each of its items, and each branch of its decision in
-/// preorder.
-#[derive(Clone, Copy, Debug, PartialEq, Eq)]
-pub struct Fault {
-    pub entry: usize,
-    pub part: usize,
-    pub rule: u32,
-}
-
-/// What checking a refutation against a graph finds.
+/// What checking an unsatisfiable document finds.
 #[derive(Clone, Copy, Debug, PartialEq, Eq)]
 pub enum Verdict {
-    /// No part of it breaks a rule.
+    /// The document shows a refutation that breaks no rule: its problem holds nowhere.
     Accepted,
-    /// This part is the first one that breaks a rule.
-    Rejected(Fault),
+    /// The document shows no refutation: its first bad line, and the lowest rule that this line breaks.
+    Unreadable(DocFault),
+    /// The document shows a refutation, and this line, counted from 1, is the first with a broken rule of acceptance, of
+    /// which this is the lowest.
+    Rejected { line: u64, rule: u32 },
 }

@@ -1,7 +1,8 @@
 -- A choice with one side more.
 --
 --   side_with == a side of the choice with one more is that one, or was there before
-use Rattle.std.proofs.Common.{ℕ, ◌≡◌, ◌==◌, ◌⊎◌, inl, inr, Bool, true, false, cond, nat_lt, List, [], ◌∷◌, Option, Some, None, refl, ◌∙◌, subst, arith}
+--   side_new, side_kept == it has the new side, and what was chosen before
+use Rattle.std.proofs.Common.{ℕ, ◌≡◌, ◌==◌, ◌⊎◌, inl, inr, Bool, true, false, cond, nat_lt, List, [], ◌∷◌, Option, Some, None, refl, sym, ap, ◌∙◌, subst, arith}
 use Rattle.std.proofs.lemmas.Bool.{cases_Bool, cond-true, cond-false}
 use Rattle.std.proofs.lemmas.Bool.Decides.{nat_tests}
 use Rattle.ml_sequent.specs.declared.choice.Side.{Side}
@@ -48,3 +49,64 @@ side_with (p ∷ c) n x k y is = by_test (cases_Bool (nat_lt n p.0)) (side_with 
     by_test (inr more) rest =
         let list = cond-false (nat_lt n p.0) ((n, x) ∷ p ∷ c) (p ∷ with_side c n x) more in
         here_or_later (first_or_later (p.0 == k) p.1 y (side_of (with_side c n x) k) (subst (λ (d : List (ℕ × Side)). side_of d k ≡ Some y) list is)) rest
+
+-- a choice says nothing of a node exactly where its first pair is of another one, and the rest says nothing
+first_other : (b : Bool) (x : Side) (o : Option Side) → cond b (Some x) o ≡ None → (b ≡ false) × (o ≡ None)
+first_other true x o e = cc
+first_other false x o e = (refl, e)
+
+-- the choice with one side more has it
+pub side_new : (c : List (ℕ × Side)) (n : ℕ) (x : Side) → side_of c n ≡ None → side_of (with_side c n x) n ≡ Some x
+side_new [] n x none =
+    let test : (n == n) ≡ true = grind (arith, nat_tests) in
+    cond-true (n == n) (Some x) None test
+side_new (p ∷ c) n x none = by_test (cases_Bool (nat_lt n p.0)) (first_other (p.0 == n) p.1 (side_of c n) none) (side_new c n x)
+  where
+    by_test : (nat_lt n p.0 ≡ true) ⊎ (nat_lt n p.0 ≡ false)
+        → ((p.0 == n) ≡ false) × (side_of c n ≡ None)
+        → (side_of c n ≡ None → side_of (with_side c n x) n ≡ Some x)
+        → side_of (with_side (p ∷ c) n x) n ≡ Some x
+    by_test (inl less) other rest =
+        let test : (n == n) ≡ true = grind (arith, nat_tests) in
+        ap (λ (d : List (ℕ × Side)). side_of d n) (cond-true (nat_lt n p.0) ((n, x) ∷ p ∷ c) (p ∷ with_side c n x) less)
+        ∙ cond-true (n == n) (Some x) (side_of (p ∷ c) n) test
+    by_test (inr more) other rest =
+        ap (λ (d : List (ℕ × Side)). side_of d n) (cond-false (nat_lt n p.0) ((n, x) ∷ p ∷ c) (p ∷ with_side c n x) more)
+        ∙ cond-false (p.0 == n) (Some p.1) (side_of (with_side c n x) n) other.0
+        ∙ rest other.1
+
+-- and what was chosen before
+pub side_kept : (c : List (ℕ × Side)) (n : ℕ) (x : Side) (k : ℕ) (y : Side) → side_of c n ≡ None → side_of c k ≡ Some y
+    → side_of (with_side c n x) k ≡ Some y
+side_kept [] n x k y none is = cc
+side_kept (p ∷ c) n x k y none is = by_test (cases_Bool (nat_lt n p.0)) (first_other (p.0 == n) p.1 (side_of c n) none) (side_kept c n x k y)
+  where
+    apart : (n == k) ≡ false
+    apart = by_eq (cases_Bool (n == k))
+      where
+        by_eq : ((n == k) ≡ true) ⊎ ((n == k) ≡ false) → (n == k) ≡ false
+        by_eq (inr e) = e
+        by_eq (inl e) =
+            let same : n ≡ k = grind (arith, nat_tests) in
+            let both = sym none ∙ ap (side_of (p ∷ c)) same ∙ is in
+            absurd (cc)
+
+    later : (d : List (ℕ × Side)) → (side_of c k ≡ Some y → side_of d k ≡ Some y) → side_of (p ∷ d) k ≡ Some y
+    later d rest = by_pair (first_or_later (p.0 == k) p.1 y (side_of c k) is)
+      where
+        by_pair : (((p.0 == k) ≡ true) × (p.1 ≡ y)) ⊎ (((p.0 == k) ≡ false) × (side_of c k ≡ Some y))
+            → side_of (p ∷ d) k ≡ Some y
+        by_pair (inl h) = cond-true (p.0 == k) (Some p.1) (side_of d k) h.0 ∙ ap Some h.1
+        by_pair (inr h) = cond-false (p.0 == k) (Some p.1) (side_of d k) h.0 ∙ rest h.1
+
+    by_test : (nat_lt n p.0 ≡ true) ⊎ (nat_lt n p.0 ≡ false)
+        → ((p.0 == n) ≡ false) × (side_of c n ≡ None)
+        → (side_of c n ≡ None → side_of c k ≡ Some y → side_of (with_side c n x) k ≡ Some y)
+        → side_of (with_side (p ∷ c) n x) k ≡ Some y
+    by_test (inl less) other rest =
+        ap (λ (d : List (ℕ × Side)). side_of d k) (cond-true (nat_lt n p.0) ((n, x) ∷ p ∷ c) (p ∷ with_side c n x) less)
+        ∙ cond-false (n == k) (Some x) (side_of (p ∷ c) k) apart
+        ∙ is
+    by_test (inr more) other rest =
+        ap (λ (d : List (ℕ × Side)). side_of d k) (cond-false (nat_lt n p.0) ((n, x) ∷ p ∷ c) (p ∷ with_side c n x) more)
+        ∙ later (with_side c n x) (rest other.1)

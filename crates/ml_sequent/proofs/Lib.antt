@@ -10,8 +10,12 @@ pub mod Firsts
 pub mod Causes
 -- a choice with one side more
 pub mod ChoicesWith
+-- spreads under a choice with one side more
+pub mod LongerSpreads
 -- the search along local walks
 pub mod Reaching
+-- searches that go on from one child
+pub mod LongerSearches
 -- ways of the search, and local walks
 pub mod RankedWalks
 -- the triples of a step
@@ -24,3 +28,17 @@ pub mod StepPremises
 pub mod Floors
 -- closed local walks
 pub mod LocalLoops
+-- walks depth first along a path
+pub mod PathWalks
+-- lists of stages
+pub mod FrameLists
+-- their three steps
+pub mod PathSteps
+-- the least number with a property
+pub mod LeastLoops
+-- the last frame ends
+pub mod PathCloses
+-- each step lessens what is left
+pub mod PathMeasures
+-- odd priorities, one after the other
+pub mod OddPriorities

@@ -13,6 +13,7 @@
 --   finished         == what a finished search answers
 --   visited_two, visited_more == places in two parts, and the places of one node more
 --   search_begins    == when the first places are visited
+--   search_continues == the same, where the first ones of them lead to no others than these
 --   search_goes_on   == when the places behind one more are visited
 --   search_ends      == when all that was found went on
 use Rattle.std.proofs.Common.{ℕ, ◌≡◌, ◌+◌, ◌*◌, ◌<◌, ◌≤◌, ◌⊎◌, inl, inr, ⊎_elim, Bool, true, false, not, List, [], ◌∷◌, ◌++◌, length, get_or, set, map, take, replicate, refl, sym, ap, ◌∙◌, subst, arith, length-append, append_assoc, append-nil, mul-le-mul_left, Result, Ok, Err, OnOk, All}
@@ -256,12 +257,13 @@ some_rank g levels n is low = let rank = is.low n low in omega arith
 -- ---- searches
 
 -- what a finished search answers, of one that is known to have begun
-pub finished : {T E : Type 0} → (next : Visit → List Visit) (C found found2 : List Visit) (answer : Result T E)
-    → OnOk answer ((D : List Visit) → IsSearch next D 0 found → HasReached next D found2)
-    → IsSearch next C 0 found
+pub finished : {T E : Type 0} → (next : Visit → List Visit) (C : List Visit) (i : ℕ) (found found2 : List Visit)
+    (answer : Result T E)
+    → OnOk answer ((D : List Visit) → IsSearch next D i found → HasReached next D found2)
+    → IsSearch next C i found
     → OnOk answer (HasReached next C found2)
-finished next C found found2 (Ok u) f s = f C s
-finished next C found found2 (Err e) f s = f
+finished next C i found found2 (Ok u) f s = f C s
+finished next C i found found2 (Err e) f s = f
 
 -- the places of one node more
 pub visited_more : (ks : List ℕ) (i : ℕ) (f : ℕ → Visit) (found found2 : List Visit) → i < length ks
@@ -287,6 +289,17 @@ module _ (next : Visit → List Visit) (C : List Visit) where
     within = omega arith;
     sound = λ w h. record { from = w; member = v.only w (subst (IsMember w) v.grown h); way = ends w };
     closed = λ k d low e h. absurd (omega arith);
+    seeded = v.all;
+  }
+
+  -- when the first places are visited, of which the first ones lead to no others than these
+  pub search_continues : (i : ℕ) (found : List Visit) → IsVisited C [] found → i ≤ length found
+      → ((k : ℕ) (d : Visit) → k < i → (e : Visit) → IsMember e (next (get_or found k d)) → IsMember e C)
+      → IsSearch next C i found
+  search_continues i found v within closed = record {
+    within = within;
+    sound = λ w h. record { from = w; member = v.only w (subst (IsMember w) v.grown h); way = ends w };
+    closed = λ k d low e h. v.all e (closed k d low e h);
     seeded = v.all;
   }
 

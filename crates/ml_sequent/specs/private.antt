@@ -6,3 +6,5 @@ pub mod Children
 pub mod Reach
 -- where local walks leave a spread
 pub mod Exits
+-- strongly connected parts
+pub mod ConnectedParts

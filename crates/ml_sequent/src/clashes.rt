@@ -6,11 +6,14 @@ ghost use Rattle.ml_lists.specs.Member.{IsMember};
 ghost use Rattle.ml_graph.specs.Graph.{size, node_at};
 ghost use Rattle.ml_sequent.specs.declared.clashes.ClashCause.{ClashCause};
 ghost use Rattle.ml_sequent.specs.Spread.{IsSpread, IsCause, IsFirstCause, IsOddCycle};
+ghost use Rattle.ml_sequent.specs.private.ConnectedParts.{HasStages};
 ghost use Rattle.ml_sequent.specs.private.Reach.{IsRanked, HasRoom};
-ghost use Rattle.ml_sequent.specs.private.Tests.{is_false, negative_prop, positive_prop, partner, HasNegatives, IsFirstPair, IsFirstOddCycle};
+ghost use Rattle.ml_sequent.specs.private.Tests.{is_false, negative_prop, positive_prop, partner, HasNegatives, IsFirstPair};
 
 use crate::choice::Choice;
+use crate::cycles::first_cycle;
 use crate::levels::Levels;
+use crate::parts::Parts;
 use crate::phase::LocalPhase;
 use crate::reach::{Reach, Visit, reach_behind};
 use crate::spreads::Spread;
@@ -30,7 +33,7 @@ pub enum ClashCause {
 }
 
 /// Is this False?
-fn is_false(node: Node) -> bool
+pub(crate) fn is_false(node: Node) -> bool
     ensures { result ≡ is_false node }
 {
     matches!(node, Node::False)
@@ -50,7 +53,7 @@ fn first_false(graph: &ModalGraph, nodes: &[u32]) -> Option<u32>
 }
 
 /// The proposition of a negative literal.
-fn negative_prop(node: Node) -> Option<u32>
+pub(crate) fn negative_prop(node: Node) -> Option<u32>
     ensures { result ≡ negative_prop node }
 {
     match node {
@@ -93,7 +96,7 @@ fn negatives(alloc: Global, graph: &ModalGraph, nodes: &[u32]) -> Result<Vec<Opt
 }
 
 /// The proposition of a positive literal.
-fn positive_prop(node: Node) -> Option<u32>
+pub(crate) fn positive_prop(node: Node) -> Option<u32>
     ensures { result ≡ positive_prop node }
 {
     match node {
@@ -141,7 +144,7 @@ fn first_pair(
 }
 
 /// Does the node have an odd priority, and lie on a closed local walk through nodes of no lower priority?
-fn on_odd_cycle(
+pub(crate) fn on_odd_cycle(
     graph: &ModalGraph,
     choice: &Choice,
     levels: &Levels,
@@ -165,44 +168,16 @@ fn on_odd_cycle(
     }))
 }
 
-/// The first such node among these.
-fn first_cycle(
-    graph: &ModalGraph,
-    choice: &Choice,
-    levels: &Levels,
-    nodes: &[u32],
-    reach: &mut Reach,
-) -> Result<Option<u32>, NoMemory>
-    requires low { All (λ n. n < size graph.now) nodes.now }
-    requires ascends { IsAscending nodes.now }
-    requires ranked { IsRanked graph.now levels.now }
-    requires room { HasRoom graph.now levels.now reach.old }
-    ensures room { HasRoom graph.now levels.now reach.new }
-    ensures first { IfOk result (λ found. MatchOption
-        found
-        ((n : ℕ) → IsMember n nodes.now → ¬ (IsOddCycle graph.now choice.now n))
-        (IsFirstOddCycle graph.now choice.now nodes.now)) }
-{
-    for node in nodes {
-        if on_odd_cycle(graph, choice, levels, *node, reach)? {
-            return Ok(Some(*node));
-        }
-    }
-    Ok(None)
-}
-
-/// Why the spread clashes, by searches.
+/// Why the spread clashes, by a walk over it for each of its odd priorities.
 pub(crate) fn clash_by(
     alloc: Global,
     graph: &ModalGraph,
-    levels: &Levels,
-    reach: &mut Reach,
+    parts: &mut Parts,
     spread: &Spread,
 ) -> Result<Option<ClashCause>, NoMemory>
     requires spread { IsSpread graph.now spread.now }
-    requires ranked { IsRanked graph.now levels.now }
-    requires room { HasRoom graph.now levels.now reach.old }
-    ensures room { HasRoom graph.now levels.now reach.new }
+    requires size { HasStages graph.now parts.old }
+    ensures size { length parts.new.stages ≡ length parts.old.stages }
     ensures cause { IfOk result (λ found. MatchOption
         found
         ((x : ClashCause) → ¬ (IsCause graph.now spread.now x))
@@ -215,7 +190,7 @@ pub(crate) fn clash_by(
     if let Some(pair) = first_pair(alloc, graph, nodes)? {
         return Ok(Some(ClashCause::Pair(pair.0, pair.1)));
     }
-    match first_cycle(graph, spread.choice(), levels, nodes, reach)? {
+    match first_cycle(alloc, graph, spread.choice(), nodes, parts)? {
         Some(node) => Ok(Some(ClashCause::Cycle(node))),
         None => Ok(None),
     }

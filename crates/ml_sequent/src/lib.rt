@@ -13,12 +13,16 @@
 // game, which asks these calls of each position, and the checker of refutations.
 #![tactic(auto)]
 
+mod checking;
 mod children;
 mod choice;
 mod clashes;
+mod cycles;
+mod extending;
 pub mod laws;
 mod levels;
 mod making;
+mod parts;
 mod phase;
 mod questions;
 mod reach;

@@ -1,14 +1,18 @@
 // The local phase of one graph, with memory that serves many calls.
-ghost use Rattle.std.specs.Prelude.{◌≡◌, ◌<◌, ℕ, IfOk, MatchOption, All, filter};
+ghost use Rattle.std.specs.Prelude.{◌≡◌, ◌<◌, ◌↔◌, ℕ, List, IfOk, IsTrue, MatchOption, All, filter};
 ghost use Rattle.ml_graph.specs.Graph.{size, node_at};
+ghost use Rattle.ml_sequent.specs.Choice.{with_side};
 ghost use Rattle.ml_sequent.specs.Spread.{IsSpread, IsSpreadOf, IsCause, IsFirstCause, IsOpenOr, IsLeastOpenOr, is_diamond};
 ghost use Rattle.ml_sequent.specs.declared.clashes.ClashCause.{ClashCause};
 ghost use Rattle.ml_sequent.specs.Step.{IsDiamondOf, IsStep};
 
-use crate::choice::Choice;
+use crate::checking::is_cause_by;
+use crate::choice::{Choice, Side};
 use crate::clashes::{ClashCause, clash_by};
+use crate::extending::extend_by;
 use crate::levels::Levels;
 use crate::making::spread_by;
+use crate::parts::Parts;
 use crate::questions::{diamonds, open_or};
 use crate::reach::Reach;
 use crate::sequent::Sequent;
@@ -27,18 +31,20 @@ pub struct LocalPhase<'a> {
     graph: &'a ModalGraph,
     levels: Levels,
     reach: Reach,
+    parts: Parts,
     alloc: Global,
 }
 
 impl<'a> Model for LocalPhase<'a> {
     ghost use Rattle.ml_graph.specs.Graph.{Graph};
+    ghost use Rattle.ml_sequent.specs.private.ConnectedParts.{HasStages};
     ghost use Rattle.ml_sequent.specs.private.Reach.{IsRanked, HasRoom};
 
     ghost Value = { Graph };
 
     ghost view = { λ a. a.graph.now };
 
-    ghost invariant = { λ a. record { ranked : IsRanked a.graph.now a.levels; room : HasRoom a.graph.now a.levels a.reach } };
+    ghost invariant = { λ a. record { ranked : IsRanked a.graph.now a.levels; room : HasRoom a.graph.now a.levels a.reach; stages : HasStages a.graph.now a.parts } };
 }
 
 impl<'a> LocalPhase<'a> {
@@ -53,10 +59,12 @@ impl<'a> LocalPhase<'a> {
     {
         let levels = Levels::of(alloc, graph)?;
         let reach = Reach::new(alloc, graph.size(), levels.width())?;
+        let parts = Parts::new(alloc, graph.size())?;
         Ok(LocalPhase {
             graph,
             levels,
             reach,
+            parts,
             alloc,
         })
     }
@@ -117,8 +125,8 @@ impl<'a> LocalPhase<'a> {
     /// # Errors
     /// `NoMemory` alone.
     ///
-    /// Cost: linear in the spread and the propositions of the graph, and, for each node of odd priority in the spread,
-    /// linear in what it reaches through nodes of no lower priority.
+    /// Cost: `n log n` in the nodes of the spread and linear in the propositions of the graph, and then linear in the spread
+    /// for each odd priority that occurs in it, times the logarithm of the choice.
     pub fn clash(&mut self, spread: &Spread) -> Result<Option<ClashCause>, NoMemory>
         requires { IsSpread self.old spread.now }
         ensures graph { self.new ≡ self.old }
@@ -127,12 +135,47 @@ impl<'a> LocalPhase<'a> {
             ((x : ClashCause) → ¬ (IsCause self.old spread.now x))
             (IsFirstCause self.old spread.now)) }
     {
-        clash_by(
+        clash_by(self.alloc, self.graph, &mut self.parts, spread)
+    }
+
+    /// Is this a cause of a clash in the spread? Its numbers may be any.
+    ///
+    /// # Errors
+    /// `NoMemory` alone.
+    ///
+    /// Cost: logarithmic in the spread; for a cycle also linear in what its node reaches through nodes of no lower
+    /// priority.
+    pub fn is_cause(&mut self, spread: &Spread, cause: ClashCause) -> Result<bool, NoMemory>
+        requires { IsSpread self.old spread.now }
+        ensures graph { self.new ≡ self.old }
+        ensures cause { IfOk result (λ b. IsTrue b ↔ IsCause self.old spread.now cause) }
+    {
+        is_cause_by(self.graph, &self.levels, &mut self.reach, spread, cause)
+    }
+
+    /// The spread with a side chosen at one of its open or-nodes: of each sequent of which this is the spread, the
+    /// spread under the choice with that side.
+    ///
+    /// # Errors
+    /// `NoMemory` alone.
+    ///
+    /// Cost: `n log n` in the nodes of the new spread; only those that are new go on to their children.
+    pub fn extended(&mut self, spread: &Spread, node: u32, side: Side) -> Result<Spread, NoMemory>
+        requires spread { IsSpread self.old spread.now }
+        requires node { IsOpenOr self.old spread.now node }
+        ensures graph { self.new ≡ self.old }
+        ensures of { IfOk result (λ longer. (C : List ℕ) → IsSpreadOf self.old C spread.now.choice spread.now
+            → IsSpreadOf self.old C (with_side spread.now.choice node side) longer) }
+        ensures is_spread { IfOk result (IsSpread self.old) }
+    {
+        extend_by(
             self.alloc,
             self.graph,
             &self.levels,
             &mut self.reach,
             spread,
+            node,
+            side,
         )
     }
 

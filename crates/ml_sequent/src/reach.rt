@@ -159,26 +159,50 @@ fn go_on(
     }
 }
 
-/// Goes on from all that was found, until nothing is new.
+/// Goes on from all that was found behind the first `done` places, until nothing is new.
 fn finish(
     graph: &ModalGraph,
     choice: &Choice,
     levels: &Levels,
     floor: u32,
+    done: usize,
     reach: &mut Reach,
 ) -> Result<(), NoMemory>
     requires ranked { IsRanked graph.now levels.now }
     requires room { HasRoom graph.now levels.now reach.old }
     ensures room { HasRoom graph.now levels.now reach.new }
     ensures reached { OnOk result ((C : List Visit)
-        → IsSearch (behind graph.now choice.now levels.now.ranks floor) C 0 reach.old.found
+        → IsSearch (behind graph.now choice.now levels.now.ranks floor) C done reach.old.found
         → HasReached (behind graph.now choice.now levels.now.ranks floor) C reach.new.found) }
 {
-    let mut i = 0;
+    let mut i = done;
     while i < reach.found().len() {
         let visit = reach.found()[i];
         go_on(graph, choice, levels, floor, visit, reach)?;
         i += 1;
+    }
+    Ok(())
+}
+
+/// Visits these nodes with rank 0, and forgets what was found before.
+fn visit_all(
+    graph: &ModalGraph,
+    levels: &Levels,
+    nodes: &[u32],
+    reach: &mut Reach,
+) -> Result<(), NoMemory>
+    requires nodes { All (λ n. n < size graph.now) nodes.now }
+    requires ranked { IsRanked graph.now levels.now }
+    requires room { HasRoom graph.now levels.now reach.old }
+    ensures room { HasRoom graph.now levels.now reach.new }
+    ensures visited { OnOk result (IsVisited (map unranked nodes.now) [] reach.new.found) }
+{
+    reach.clear();
+    for node in nodes {
+        reach.visit(Visit {
+            node: *node,
+            rank: 0,
+        })?;
     }
     Ok(())
 }
@@ -197,14 +221,35 @@ pub(crate) fn reach_all(
     ensures room { HasRoom graph.now levels.now reach.new }
     ensures reached { OnOk result (HasReached (onward graph.now choice.now levels.now.ranks) (map unranked nodes.now) reach.new.found) }
 {
-    reach.clear();
-    for node in nodes {
-        reach.visit(Visit {
-            node: *node,
-            rank: 0,
-        })?;
-    }
-    finish(graph, choice, levels, 0, reach)
+    visit_all(graph, levels, nodes, reach)?;
+    finish(graph, choice, levels, 0, 0, reach)
+}
+
+/// Finds what local walks reach from a child and these nodes, where these lead to one another and to the child alone: it
+/// goes on from the child.
+pub(crate) fn reach_more(
+    graph: &ModalGraph,
+    choice: &Choice,
+    levels: &Levels,
+    nodes: &[u32],
+    child: u32,
+    reach: &mut Reach,
+) -> Result<(), NoMemory>
+    requires nodes { All (λ n. n < size graph.now) nodes.now }
+    requires closed { (n m : ℕ) → IsMember n nodes.now → IsMember m (children graph.now choice.now n) → IsMember m (child ∷ nodes.now) }
+    requires child { child < size graph.now }
+    requires ranked { IsRanked graph.now levels.now }
+    requires room { HasRoom graph.now levels.now reach.old }
+    ensures room { HasRoom graph.now levels.now reach.new }
+    ensures reached { OnOk result (HasReached (onward graph.now choice.now levels.now.ranks) (map unranked (child ∷ nodes.now)) reach.new.found) }
+{
+    visit_all(graph, levels, nodes, reach)?;
+    let done = reach.found().len();
+    reach.visit(Visit {
+        node: child,
+        rank: 0,
+    })?;
+    finish(graph, choice, levels, 0, done, reach)
 }
 
 /// Finds what local walks reach from a node, with the ranks of the lowest priorities on them.
@@ -226,7 +271,7 @@ pub(crate) fn reach_from(
         node,
         rank: levels.rank(node),
     })?;
-    finish(graph, choice, levels, 0, reach)
+    finish(graph, choice, levels, 0, 0, reach)
 }
 
 /// Finds what local walks reach from the children of a node through nodes of no lower priority; each place that it finds
@@ -257,5 +302,5 @@ pub(crate) fn reach_behind(
         Visit { node, rank: floor },
         reach,
     )?;
-    finish(graph, choice, levels, floor, reach)
+    finish(graph, choice, levels, floor, 0, reach)
 }

@@ -8,6 +8,8 @@
 // Below stand the crates whose programs are compared; above stands `ml_measure`.
 #![tactic(auto)]
 
+#[cfg(test)]
+mod extract_tests;
 pub mod games;
 #[cfg(test)]
 mod graph_tests;
@@ -21,6 +23,10 @@ pub mod not_made;
 pub mod numbers;
 #[cfg(test)]
 mod parity_tests;
+#[cfg(test)]
+mod product_tests;
+#[cfg(test)]
+mod refute_tests;
 #[cfg(test)]
 mod sequent_tests;
 #[cfg(test)]

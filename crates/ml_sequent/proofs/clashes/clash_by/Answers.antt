@@ -3,8 +3,9 @@ use Rattle.ml_graph.specs.Graph.{size, node_at}
 use Rattle.ml_lists.specs.Member.{IsMember}
 use Rattle.ml_sequent.specs.Spread.{IsOddCycle}
 use Rattle.ml_sequent.specs.private.Tests.{is_false, partner, IsFirstPair, IsFirstOddCycle}
+use Rattle.ml_sequent.specs.private.ConnectedParts.{IsClosedIn}
 use Rattle.ml_sequent.proofs.Causes.{false_cause, pair_cause, cycle_cause, no_cause}
-use Rattle.ml_sequent.proofs.OwnSpreads.{spread_all}
+use Rattle.ml_sequent.proofs.OwnSpreads.{spread_all, spread_closed}
 use Rattle.ml_sequent.proofs.clashes.clash_by.Goals as goal
 
 pub first_false-requires : goal.first_false-requires
@@ -15,9 +16,12 @@ pub first_pair-requires-clause-low : goal.first_pair-requires-clause-low
 first_pair-requires-clause-low c =
     subst (λ (xs : List ℕ). All (λ n. n < size c.args.graph.now) xs) (sym c.nodes-nodes.ensures.value) (spread_all c.args.graph.now c.args.spread.now c.requires.spread)
 
-pub first_cycle-requires-clause-low : goal.first_cycle-requires-clause-low
-first_cycle-requires-clause-low c =
-    subst (λ (xs : List ℕ). All (λ n. n < size c.args.graph.now) xs) (sym c.nodes-nodes.ensures.value) (spread_all c.args.graph.now c.args.spread.now c.requires.spread)
+pub first_cycle-requires-clause-nodes : goal.first_cycle-requires-clause-nodes
+first_cycle-requires-clause-nodes c =
+    let g = c.args.graph.now in
+    let sp = c.args.spread.now in
+    subst (λ (xs : List ℕ). IsClosedIn g c.choice.result.now xs) (sym c.nodes-nodes.ensures.value)
+    (subst (λ ch. IsClosedIn g ch sp.nodes) (sym c.choice.ensures) (spread_closed g sp c.requires.spread))
 
 pub returns-in-Some-clause-cause : goal.returns-in-Some-clause-cause
 returns-in-Some-clause-cause c =

@@ -7,7 +7,7 @@ abbrev pub invariant-loop-i : goal.invariant-loop-i
 invariant-loop-i l = record {
   room : HasRoom l.graph l.levels l.reach;
   search : (C : List Visit)
-      → IsSearch (behind l.graph l.choice l.levels.ranks l.floor) C 0 l.initial.reach.found
+      → IsSearch (behind l.graph l.choice l.levels.ranks l.floor) C l.done l.initial.reach.found
       → IsSearch (behind l.graph l.choice l.levels.ranks l.floor) C l.i l.reach.found;
 }
 

@@ -1,0 +1,114 @@
+-- A decision that is found for a problem is what is due, once it is written.
+--
+--   Written            == what the types of a decision keep
+--   answered           == a decision with its document answers the question
+--   refused_answered   == a refusal of the parser with its line does
+use Rattle.std.proofs.Common.{◌≡◌, ◌⊎◌, ◌≤◌, ◌<◌, ◌^◌, ℕ, Bool, true, false, List, length, Some, refl, sym, ◌∙◌, ap, subst, inl, inr, arith}
+use Rattle.ml_base.specs.declared.parse_refusal.ParseRefusal.{ParseRefusal}
+use Rattle.ml_front.specs.Logics.{IsRefusedBy}
+use Rattle.ml_front.specs.declared.problem.Problem.{Problem}
+use Rattle.ml_kripke.specs.Ordered.{HasNames, IsOrdered}
+use Rattle.ml_kripke.specs.declared.model.Model.{Model}
+use Rattle.ml_refutation.specs.Refutation.{IsRefutation}
+use Rattle.ml_refutation.specs.Views.{of_parts}
+use Rattle.ml_refutation.specs.declared.refutation.Refutation.{Refutation}
+use Rattle.ml_refute_check.proofs.Refuted.{refuted_is_unsatisfiable}
+use Rattle.ml_refute_check.specs.Documents.{HasLargeClosure, document_of}
+use Rattle.ml_driver.specs.Decision.{IsAnsweredIn, IsProblem, IsClosed, LeftOpen, PassesLimit, Refuted, Satisfied, StaysOpen}
+use Rattle.ml_driver.specs.Documents.{satisfiable_document, undecided_document}
+use Rattle.ml_driver.specs.Statuses.{longest_text, refusal_line}
+use Rattle.ml_driver.specs.declared.cause.Cause.{Cause}
+use Rattle.ml_driver.specs.declared.cause.Cause.TheVariants.{Positions, Closure}
+use Rattle.ml_driver.specs.declared.deciding.Decision.{Decision}
+use Rattle.ml_driver.specs.declared.deciding.Decision.TheVariants as decision
+use Rattle.ml_driver.specs.declared.question.Question.{Question}
+use Rattle.ml_driver.specs.declared.status.Status.{Status}
+use Rattle.ml_driver.specs.declared.status.Status.TheVariants as status
+use Rattle.ml_driver.specs.private.Decisions.{IsDecisionOf, IsDocumentFor, IsFound, IsFoundOf, IsWon, status_in}
+use Rattle.ml_driver.proofs.ProblemGraphs.{admitted, keeps_limit, meaningful, well_formed}
+
+closed : (q : Question) (p : Problem) → (HasLargeClosure p.formula → ⊥) → (PassesLimit p q.limit → ⊥) → IsClosed q p
+closed q p fits keeps (Positions n) stays = keeps stays.2
+closed q p fits keeps Closure stays = fits stays
+
+module _ (q : Question) (text : List ℕ) (p : Problem) (is_problem : IsProblem q text p) (out : List ℕ) where
+  satisfied : (m : Model) (found : IsFoundOf p q.limit (decision.Satisfiable m)) → (HasLargeClosure p.formula → ⊥)
+      → IsWon found.graph (decision.Satisfiable m) → (PassesLimit p q.limit → ⊥)
+      → IsDocumentFor p (decision.Satisfiable m) out → Satisfied q text out
+  satisfied m found fits won keeps written =
+      let state = won.0.is_state in
+      let is_admitted = admitted found.graph p.formula m.structure m.start won.0 in
+      record {
+        problem = p;
+        structure = m.structure;
+        start = m.start;
+        is_problem = is_problem;
+        is_closed = closed q p fits keeps;
+        is_admitted = is_admitted;
+        can_be_written =
+            record { is_structure = won.0.is_structure; has_names = written.1; fits = won.2; is_state = state };
+        is_ordered = won.1;
+        holds = (found.agrees m.structure is_admitted m.start state).0 won.0.holds;
+        is_written = written.0;
+      }
+
+  refuted : (r : Refutation) (found : IsFoundOf p q.limit (decision.Unsatisfiable r)) → (HasLargeClosure p.formula → ⊥)
+      → IsWon found.graph (decision.Unsatisfiable r) → (PassesLimit p q.limit → ⊥)
+      → IsDocumentFor p (decision.Unsatisfiable r) out → Refuted q text out
+  refuted r found fits won keeps written =
+      let plain = of_parts r.names r.entries in
+      record {
+        problem = p;
+        refutation = plain;
+        graph = found.graph;
+        is_problem = is_problem;
+        is_closed = closed q p fits keeps;
+        is_unsatisfiable =
+            refuted_is_unsatisfiable p found.graph plain (meaningful p.formula (well_formed text p.formula is_problem.is_parsed))
+            found.is_graph r.is_refutation won;
+        is_graph = found.is_graph;
+        is_refutation = r.is_refutation;
+        is_accepted = won;
+        is_written = written.0;
+      }
+
+  left_open : (c : Cause) → StaysOpen q p c → out ≡ undecided_document p c → LeftOpen q text out
+  left_open c stays written =
+      record { problem = p; cause = c; is_problem = is_problem; stays_open = stays; is_written = written }
+
+  open_in : (negated : Bool) → LeftOpen q text out → IsAnsweredIn negated q text status.Undecided out
+  open_in true left = left
+  open_in false left = left
+
+  by_limit : (negated : Bool) (d : Decision) → (HasLargeClosure p.formula → ⊥) → (found : IsFoundOf p q.limit d) → IsFound found.graph q.limit d
+      → IsDocumentFor p d out → IsAnsweredIn negated q text (status_in negated d) out
+  by_limit false (decision.Satisfiable m) fits found (inl won) written =
+      satisfied m found fits won.0 (keeps_limit p found.graph q.limit found.is_graph won.1) written
+  by_limit true (decision.Satisfiable m) fits found (inl won) written =
+      satisfied m found fits won.0 (keeps_limit p found.graph q.limit found.is_graph won.1) written
+  by_limit false (decision.Unsatisfiable r) fits found (inl won) written =
+      refuted r found fits won.0 (keeps_limit p found.graph q.limit found.is_graph won.1) written
+  by_limit true (decision.Unsatisfiable r) fits found (inl won) written =
+      refuted r found fits won.0 (keeps_limit p found.graph q.limit found.is_graph won.1) written
+  by_limit negated (decision.Undecided c) fits found (inl won) written = absurd won.0
+  by_limit negated d fits found (inr passed) written =
+      let document = subst (λ e. IsDocumentFor p e out) passed.0 written in
+      subst (λ e. IsAnsweredIn negated q text (status_in negated e) out) (sym passed.0)
+      (open_in negated
+      (left_open (Positions q.limit)
+      (refl, fits, record { graph = found.graph; is_graph = found.is_graph; has_more = passed.1 }) document))
+
+  pub answered : (negated : Bool) (d : Decision) → IsDecisionOf p q.limit d → IsDocumentFor p d out
+      → IsAnsweredIn negated q text (status_in negated d) out
+  answered negated d (inl (fits, found)) written = by_limit negated d fits found found.is_found written
+  answered negated d (inr (is, large)) written =
+      let document = subst (λ e. IsDocumentFor p e out) is written in
+      subst (λ e. IsAnsweredIn negated q text (status_in negated e) out) (sym is)
+      (open_in negated (left_open Closure large document))
+
+pub refused_answered : (negated : Bool) (q : Question) (text out : List ℕ) (e : ParseRefusal) → length text ≤ longest_text
+    → IsRefusedBy q.logic text e → Some out ≡ refusal_line e → IsAnsweredIn negated q text status.Text out
+refused_answered true q text out e short refused written =
+    inr (record { refusal = e; is_short = short; is_refused = refused; is_written = written })
+refused_answered false q text out e short refused written =
+    inr (record { refusal = e; is_short = short; is_refused = refused; is_written = written })

@@ -1,0 +1,91 @@
+-- The graphs of problems, and their decision games: what the program needs of them, logic by logic.
+--
+--   well_formed, meaningful == of formulas that texts stand for
+--   graph_is, graph_small   == the graphs of a formula are graphs, with at most 4,096 nodes where it is well-formed
+--   has_room                == a trace automaton of a graph with so few nodes is small
+--   admitted                == the structure that is extracted for a graph is one of which the formula's logic speaks
+--   few_positions           == an arena with at most n positions is that of a game without more
+--   same_positions          == the graphs of a problem have games with the same positions
+--   keeps_limit             == so a graph whose game keeps a limit tells that of its problem
+use Rattle.std.proofs.Common.{◌≡◌, ℕ, ◌+◌, ◌*◌, ◌^◌, ◌<◌, ◌≤◌, ◌%◌, ◌==◌, nat_lt, if◌then◌else◌, Bool, true, false, List, [], ◌∷◌, length, filter, refl, sym, subst, arith}
+use Rattle.std.proofs.lemmas.List.Sums.{count_by-le-length, length-filter}
+use Rattle.std.proofs.Math.Nat.{mul-le-mul}
+use Rattle.ml_base.specs.Structure.{Structure}
+use Rattle.ml_extract.specs.Extraction.{Extracted}
+use Rattle.ml_front.specs.Graphs.{IsGraphAs, IsGraphOf, IsMeaningful}
+use Rattle.ml_front.specs.Logics.{IsParsedAs, IsWellFormed, logic_of}
+use Rattle.ml_front.specs.Problems.{IsAdmitted}
+use Rattle.ml_front.specs.declared.problem.AnyFormula.{AnyFormula}
+use Rattle.ml_front.specs.declared.problem.AnyFormula.TheVariants.{Mu}
+use Rattle.ml_front.specs.declared.problem.Problem.{Problem}
+use Rattle.ml_graph.specs.Graph.{Graph, IsGraph, odd_priorities, size}
+use Rattle.ml_lists.specs.Ascending.{ascending, insert_once}
+use Rattle.ml_mu.proofs.Parsed.{parsed_well}
+use Rattle.ml_product.specs.Arena.{Arena, IsArenaOf}
+use Rattle.ml_product.specs.DecisionGame.{HasMoreThan}
+use Rattle.ml_product.specs.Position.{automaton_states}
+use Rattle.ml_refute.proofs.Different.{different_within}
+use Rattle.ml_driver.proofs.AlikeGraphs.{graphs_alike}
+use Rattle.ml_driver.proofs.SamePositions.{more_there}
+use Rattle.ml_driver.specs.Decision.{PassesLimit}
+use Rattle.ml_driver.specs.declared.cause.TheConstants.{MOST_NODES}
+
+pub well_formed : (text : List ℕ) (f : AnyFormula) → IsParsedAs text f → IsWellFormed f
+well_formed text (Mu f) parsed = parsed_well text f parsed
+
+pub meaningful : (f : AnyFormula) → IsWellFormed f → IsMeaningful f
+meaningful (Mu f) well = (well.variables_are_bound, well.variables_are_positive)
+
+pub graph_is : (g : Graph) (negated : Bool) (f : AnyFormula) → IsGraphAs g negated f → IsGraph g
+graph_is g negated (Mu f) is = is.is_graph
+
+pub graph_small : (g : Graph) (negated : Bool) (f : AnyFormula) → IsWellFormed f → IsGraphAs g negated f → size g ≤ MOST_NODES
+graph_small g negated (Mu f) well is = omega (arith, well.is_small, is.two_for_each)
+
+pub admitted : (g : Graph) (f : AnyFormula) (m : Structure) (start : ℕ) → Extracted g m start → IsAdmitted (logic_of f) m
+admitted g (Mu f) m start extracted = extracted.is_structure
+
+-- ---- the trace automaton
+
+inserted : (x : ℕ) (xs : List ℕ) → length (insert_once x xs) ≤ length xs + 1
+inserted x [] = omega arith
+inserted x (y ∷ ys) = by_order (nat_lt x y) (x == y) (inserted x ys)
+  where
+    by_order : (before same : Bool) → length (insert_once x ys) ≤ length ys + 1
+        → length (if before then x ∷ (y ∷ ys) else (if same then y ∷ ys else y ∷ insert_once x ys)) ≤ length (y ∷ ys) + 1
+    by_order true same rest = omega arith
+    by_order false true rest = omega arith
+    by_order false false rest = omega (arith, rest)
+
+ascended : (xs : List ℕ) → length (ascending xs) ≤ length xs
+ascended [] = omega arith
+ascended (x ∷ xs) = omega (arith, inserted x (ascending xs), ascended xs)
+
+bounded : (a b : ℕ) → a ≤ 4096 → b ≤ 4097 → a * b ≤ 4096 * 4097
+bounded a b low under = mul-le-mul low under
+
+pub has_room : (g : Graph) → IsGraph g → size g ≤ MOST_NODES → automaton_states g ≤ 2 ^ 30
+has_room g is small =
+    let odds = ascended (filter (λ d. d % 2 == 1) g.priorities) in
+    let p : ℕ → Bool = λ d. d % 2 == 1 in
+    let some = length-filter p g.priorities in
+    let few = count_by-le-length p g.priorities in
+    omega (arith, bounded (size g) (length (odd_priorities g) + 1) small (omega (arith, odds, some, few, is.priorities, small)))
+
+-- ---- positions
+
+pub few_positions : (g : Graph) (a : Arena) (n : ℕ) → IsArenaOf g a → length a.positions ≤ n → HasMoreThan g n → ⊥
+few_positions g a n arena few more =
+    omega (
+      arith,
+      few,
+      more.are_more,
+      different_within more.positions a.positions more.are_different
+          (λ p m. (arena.are_reached p).1 (more.are_reached p m)),
+    )
+
+pub same_positions : (p : Problem) (g h : Graph) (n : ℕ) → IsGraphOf g p → IsGraphOf h p → HasMoreThan g n → HasMoreThan h n
+same_positions p g h n is other more = more_there g h (graphs_alike p g h is other) n more
+
+pub keeps_limit : (p : Problem) (g : Graph) (n : ℕ) → IsGraphOf g p → (HasMoreThan g n → ⊥) → PassesLimit p n → ⊥
+keeps_limit p g n is few passes = few (same_positions p passes.graph g n passes.is_graph is passes.has_more)

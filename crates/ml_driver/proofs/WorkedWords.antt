@@ -1,0 +1,56 @@
+-- Words worked out by hand: what the definitions make of them, with `clap`'s own.
+use Rattle.std.proofs.Common.{◌≡◌, List, [], ◌∷◌, Some, None, refl, codes}
+use Rattle.clap.proofs.OnLiterals.{clap_on_literals}
+use Rattle.ml_front.specs.declared.logic.Logic.TheVariants.{Mu}
+use Rattle.ml_driver.specs.declared.command.Command.TheVariants.{Decide, CheckModel}
+use Rattle.ml_driver.specs.Words.{cli, command_of, faults_of, rows_in}
+
+bare : command_of (codes "decide" ∷ codes "mu" ∷ []) ≡ Some (Decide Mu 50000)
+unfolding cli faults_of rows_in clap_on_literals
+bare = refl
+
+with_limit : command_of (codes "decide" ∷ codes "mu" ∷ codes "--limit" ∷ codes "200000" ∷ []) ≡ Some (Decide Mu 200000)
+unfolding cli faults_of rows_in clap_on_literals
+with_limit = refl
+
+-- the option may stand in front, with its value behind a sign, with leading zeros
+in_front : command_of (codes "--limit=000001" ∷ codes "decide" ∷ codes "mu" ∷ []) ≡ Some (Decide Mu 1)
+unfolding cli faults_of rows_in clap_on_literals
+in_front = refl
+
+check : command_of (codes "check-model" ∷ []) ≡ Some CheckModel
+unfolding cli faults_of rows_in clap_on_literals
+check = refl
+
+none : command_of [] ≡ None
+unfolding cli faults_of rows_in clap_on_literals
+none = refl
+
+zero_positions : command_of (codes "decide" ∷ codes "mu" ∷ codes "--limit=0" ∷ []) ≡ None
+unfolding cli faults_of rows_in clap_on_literals
+zero_positions = refl
+
+too_many_positions : command_of (codes "decide" ∷ codes "mu" ∷ codes "--limit=200001" ∷ []) ≡ None
+unfolding cli faults_of rows_in clap_on_literals
+too_many_positions = refl
+
+no_digits : command_of (codes "decide" ∷ codes "mu" ∷ codes "--limit=1x" ∷ []) ≡ None
+unfolding cli faults_of rows_in clap_on_literals
+no_digits = refl
+
+no_logic : command_of (codes "decide" ∷ codes "s4" ∷ []) ≡ None
+unfolding cli faults_of rows_in clap_on_literals
+no_logic = refl
+
+-- the option goes with no other command
+alone : command_of (codes "check-model" ∷ codes "--limit=5" ∷ []) ≡ None
+unfolding cli faults_of rows_in clap_on_literals
+alone = refl
+
+help : command_of (codes "--help" ∷ []) ≡ None
+unfolding cli faults_of rows_in clap_on_literals
+help = refl
+
+twice : command_of (codes "decide" ∷ codes "mu" ∷ codes "--limit=5" ∷ codes "--limit=5" ∷ []) ≡ None
+unfolding cli faults_of rows_in clap_on_literals
+twice = refl

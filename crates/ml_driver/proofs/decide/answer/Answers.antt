@@ -1,0 +1,16 @@
+-- The decision is what is due, once it is written.
+use Rattle.std.proofs.Common.{sym, subst}
+use Rattle.ml_driver.proofs.Answered.{answered}
+use Rattle.ml_driver.proofs.ProblemGraphs.{well_formed}
+use Rattle.ml_driver.specs.Decision.{IsAnswered}
+use Rattle.ml_driver.proofs.decide.answer.Goals as goal
+
+pub decision_of-requires-clause-well_formed : goal.decision_of-requires-clause-well_formed
+decision_of-requires-clause-well_formed c =
+    well_formed c.args._text.now c.args.problem.now.formula c.requires.problem.is_parsed
+
+pub returns : goal.returns
+returns c =
+    subst (λ s. IsAnswered c.args.question c.args._text.now s c.in_ok-document.field-0.items) (sym c.status_in.ensures)
+    (answered c.args.question c.args._text.now c.args.problem.now c.requires.problem c.in_ok-document.field-0.items
+    c.args.question.negated c.in_ok-decision.decision c.in_ok-decision.ensures c.in_ok-document.ensures)

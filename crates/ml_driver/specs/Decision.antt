@@ -1,0 +1,116 @@
+-- What a problem of any logic is decided to be.
+--
+-- A question is a logic, a sense and a limit on the positions of the decision game. It is asked of a text: the problem is
+-- the formula that the text stands for, in this sense. Whether the limit is kept is told by the definition of the game
+-- alone. The graphs of a problem differ in the names that they list and in their order, so their games have the same
+-- positions, and it doesn't matter which graph is meant.
+--
+--   IsProblem q text p    == p is the problem of the text
+--   PassesLimit p n       == the decision game of a graph of p has more than n positions
+--   StaysOpen q p c       == p stays undecided for the cause c: a large closure, or else a game past the limit
+--   IsClosed q p          == for no cause
+--   Satisfied q text out  == out is a document about the problem of the text, with a structure and a state at which it
+--                            holds
+--   Refuted q text out    == out is a document about it, with a refutation that is accepted for it; it holds nowhere
+--   LeftOpen q text out   == out is a document about it, with the cause for which it stays undecided
+--   RefusedText q text out == out says why the text is refused: by its length, or by the parser
+--   IsAnswered q text s out == this status and this output are due: where the question is about the negation, a
+--                            refutation says yes
+use Rattle.std.specs.Prelude.{ℕ, ◌≡◌, ◌<◌, ◌≤◌, ◌⊎◌, Bool, true, false, List, length, Some}
+use Rattle.ml_base.specs.Structure.{Structure}
+use Rattle.ml_base.specs.declared.parse_refusal.ParseRefusal.{ParseRefusal}
+use Rattle.ml_kripke.specs.Laws.{IsWritten}
+use Rattle.ml_kripke.specs.Ordered.{IsOrdered}
+use Rattle.ml_front.specs.Graphs.{IsGraphOf}
+use Rattle.ml_front.specs.Logics.{logic_of, IsParsedAs, IsRefusedBy}
+use Rattle.ml_front.specs.Problems.{HoldsAt, IsAdmitted, IsSatisfiable}
+use Rattle.ml_front.specs.declared.problem.Problem.{Problem}
+use Rattle.ml_graph.specs.Graph.{Graph}
+use Rattle.ml_product.specs.DecisionGame.{HasMoreThan}
+use Rattle.ml_refutation.specs.Acceptance.{IsAccepted}
+use Rattle.ml_refutation.specs.Refutation.{Refutation, IsRefutation}
+use Rattle.ml_refute_check.specs.Documents.{HasLargeClosure, document_of}
+use Rattle.ml_driver.specs.declared.cause.Cause.{Cause}
+use Rattle.ml_driver.specs.declared.cause.Cause.TheVariants.{Positions, Closure}
+use Rattle.ml_driver.specs.declared.question.Question.{Question}
+use Rattle.ml_driver.specs.declared.status.Status.{Status}
+use Rattle.ml_driver.specs.declared.status.Status.TheVariants.{Yes, No, Undecided, Text}
+use Rattle.ml_driver.specs.Documents.{satisfiable_document, undecided_document}
+use Rattle.ml_driver.specs.Statuses.{longest_text, refused_length, refusal_line}
+
+pub record IsProblem (q : Question) (text : List ℕ) (p : Problem) : Type 0 where
+  pub is_short : length text ≤ longest_text
+  pub of_logic : logic_of p.formula ≡ q.logic
+  pub in_sense : p.negated ≡ q.negated
+  pub is_parsed : IsParsedAs text p.formula
+
+-- ---- limits
+
+pub record PassesLimit (p : Problem) (n : ℕ) : Type 0 where
+  pub graph : Graph
+  pub is_graph : IsGraphOf graph p
+  pub has_more : HasMoreThan graph n
+
+abbrev pub StaysOpen : Question → Problem → Cause → Type 0
+StaysOpen q p (Positions n) = (n ≡ q.limit) × (¬ (HasLargeClosure p.formula)) × PassesLimit p q.limit
+StaysOpen q p Closure = HasLargeClosure p.formula
+
+abbrev pub IsClosed : Question → Problem → Type 0
+IsClosed q p = (c : Cause) → ¬ (StaysOpen q p c)
+
+-- ---- answers
+
+-- the problem holds at the written state of the written structure
+pub record Satisfied (q : Question) (text out : List ℕ) : Type 0 where
+  pub problem : Problem
+  pub structure : Structure
+  pub start : ℕ
+  pub is_problem : IsProblem q text problem
+  pub is_closed : IsClosed q problem
+  pub is_admitted : IsAdmitted (logic_of problem.formula) structure
+  pub can_be_written : IsWritten structure start
+  pub is_ordered : IsOrdered structure
+  pub holds : HoldsAt structure start problem
+  pub is_written : out ≡ satisfiable_document problem structure start
+
+-- no admitted structure has a state at which the problem holds, and the written refutation is accepted
+pub record Refuted (q : Question) (text out : List ℕ) : Type 0 where
+  pub problem : Problem
+  pub refutation : Refutation
+  pub graph : Graph
+  pub is_problem : IsProblem q text problem
+  pub is_closed : IsClosed q problem
+  pub is_unsatisfiable : ¬ (IsSatisfiable problem)
+  pub is_graph : IsGraphOf graph problem
+  pub is_refutation : IsRefutation refutation
+  pub is_accepted : IsAccepted graph refutation
+  pub is_written : out ≡ document_of problem refutation
+
+pub record LeftOpen (q : Question) (text out : List ℕ) : Type 0 where
+  pub problem : Problem
+  pub cause : Cause
+  pub is_problem : IsProblem q text problem
+  pub stays_open : StaysOpen q problem cause
+  pub is_written : out ≡ undecided_document problem cause
+
+-- the parser refuses the text, for this cause and at this byte
+pub record RefusedByParser (q : Question) (text out : List ℕ) : Type 0 where
+  pub refusal : ParseRefusal
+  pub is_short : length text ≤ longest_text
+  pub is_refused : IsRefusedBy q.logic text refusal
+  pub is_written : Some out ≡ refusal_line refusal
+
+abbrev pub RefusedText : Question → List ℕ → List ℕ → Type 0
+RefusedText q text out = ((longest_text < length text) × (out ≡ refused_length)) ⊎ RefusedByParser q text out
+
+abbrev pub IsAnsweredIn : Bool → Question → List ℕ → Status → List ℕ → Type 0
+IsAnsweredIn false q text Yes out = Satisfied q text out
+IsAnsweredIn false q text No out = Refuted q text out
+IsAnsweredIn true q text Yes out = Refuted q text out
+IsAnsweredIn true q text No out = Satisfied q text out
+IsAnsweredIn _ q text Undecided out = LeftOpen q text out
+IsAnsweredIn _ q text Text out = RefusedText q text out
+IsAnsweredIn _ q text _ out = ⊥
+
+abbrev pub IsAnswered : Question → List ℕ → Status → List ℕ → Type 0
+IsAnswered q = IsAnsweredIn q.negated q

@@ -1,0 +1,27 @@
+-- Documents that the program writes, all in version 2. The one with a refutation is `document_of` of `ml_refute_check`.
+--
+--   satisfiable_document p m s == the document that says that the problem p holds at the state s of the structure m
+--   cause_line c               == the line for a cause: `cause positions N` or `cause closure 4096`
+--   undecided_document p c     == the document that says that p stays undecided, for the cause c
+use Rattle.std.specs.Prelude.{ℕ, List, [], ◌∷◌, ◌++◌, codes}
+use Rattle.ml_base.specs.Structure.{Structure}
+use Rattle.ml_base.specs.declared.version.Version.TheVariants.{Two}
+use Rattle.ml_lines.specs.Lines.{Line, line_text, number, text_of}
+use Rattle.ml_kripke.specs.ModelText.{model_text}
+use Rattle.ml_front.specs.Head.{head_lines}
+use Rattle.ml_front.specs.declared.answer.Answer.TheVariants.{Satisfiable, Undecided}
+use Rattle.ml_front.specs.declared.problem.Problem.{Problem}
+use Rattle.ml_driver.specs.declared.cause.Cause.{Cause}
+use Rattle.ml_driver.specs.declared.cause.Cause.TheVariants.{Positions, Closure}
+use Rattle.ml_driver.specs.declared.cause.TheConstants.{MOST_NODES}
+
+abbrev pub satisfiable_document : Problem → Structure → ℕ → List ℕ
+satisfiable_document p m s = text_of (head_lines Two Satisfiable p) ++ model_text m s
+
+abbrev pub cause_line : Cause → Line
+cause_line (Positions n) = codes "cause" ∷ codes "positions" ∷ number n ∷ []
+cause_line Closure = codes "cause" ∷ codes "closure" ∷ number MOST_NODES ∷ []
+
+abbrev pub undecided_document : Problem → Cause → List ℕ
+undecided_document p c =
+    text_of (head_lines Two Undecided p) ++ text_of (cause_line c ∷ (codes "end" ∷ []) ∷ [])

@@ -1,0 +1,89 @@
+// The documents that are written.
+ghost use Rattle.std.specs.Prelude.{◌≡◌, ◌++◌, IfOk, OnOk};
+ghost use Rattle.ml_base.specs.declared.version.Version.TheVariants.{Two};
+ghost use Rattle.ml_kripke.specs.Ordered.{HasNames};
+ghost use Rattle.ml_lines.specs.Lines.{line_text};
+ghost use Rattle.ml_refutation.specs.Views.{of_parts};
+ghost use Rattle.ml_refutation_text.specs.WrittenText.{IsCounted};
+ghost use Rattle.ml_refute_check.specs.Documents.{document_of};
+ghost use Rattle.ml_driver.specs.Documents as documents;
+ghost use Rattle.ml_driver.specs.private.Decisions.{IsDocumentFor};
+
+use crate::cause::{Cause, MOST_NODES};
+use crate::deciding::Decision;
+use ml_base::{NoMemory, Version};
+use ml_front::{Answer, Problem, append_head};
+use ml_kripke::{Model, append_model};
+use ml_lines::{end_line, write_next_number, write_next_word, write_word};
+use ml_refutation::Refutation;
+use ml_refutation_text::append_refutation;
+use std::alloc::Global;
+
+// the document of a decision
+pub(crate) fn document(
+    alloc: Global,
+    problem: &Problem,
+    decision: &Decision,
+) -> Result<Vec<u8>, NoMemory>
+    ensures { IfOk result (λ output. IsDocumentFor problem.now decision.now output.items) }
+{
+    match decision {
+        Decision::Satisfiable(model) => satisfiable(alloc, problem, model),
+        Decision::Unsatisfiable(refutation) => unsatisfiable(alloc, problem, refutation),
+        Decision::Undecided(cause) => undecided(alloc, problem, *cause),
+    }
+}
+
+fn satisfiable(alloc: Global, problem: &Problem, model: &Model) -> Result<Vec<u8>, NoMemory>
+    ensures text { IfOk result (λ output.
+        output.items ≡ documents.satisfiable_document problem.now model.now.structure model.now.start) }
+    ensures named { OnOk result (HasNames model.now.structure) }
+{
+    let mut output = Vec::new(alloc);
+    append_head(&mut output, problem, Answer::Satisfiable)?;
+    append_model(&mut output, model)?;
+    Ok(output)
+}
+
+fn unsatisfiable(
+    alloc: Global,
+    problem: &Problem,
+    refutation: &Refutation,
+) -> Result<Vec<u8>, NoMemory>
+    ensures text { IfOk result (λ output.
+        output.items ≡ document_of problem.now (of_parts refutation.now.names refutation.now.entries)) }
+    ensures counted { OnOk result (IsCounted Two (of_parts refutation.now.names refutation.now.entries)) }
+{
+    let mut output = Vec::new(alloc);
+    append_head(&mut output, problem, Answer::Unsatisfiable)?;
+    append_refutation(alloc, &mut output, refutation, Version::Two)?;
+    Ok(output)
+}
+
+fn undecided(alloc: Global, problem: &Problem, cause: Cause) -> Result<Vec<u8>, NoMemory>
+    ensures { IfOk result (λ output. output.items ≡ documents.undecided_document problem.now cause) }
+{
+    let mut output = Vec::new(alloc);
+    append_head(&mut output, problem, Answer::Undecided)?;
+    append_cause(&mut output, cause)?;
+    write_word(&mut output, b"end")?;
+    end_line(&mut output)?;
+    Ok(output)
+}
+
+fn append_cause(output: &mut Vec<u8>, cause: Cause) -> Result<(), NoMemory>
+    ensures { OnOk result (output.new.items ≡ output.old.items ++ line_text (documents.cause_line cause)) }
+{
+    write_word(output, b"cause")?;
+    match cause {
+        Cause::Positions(limit) => {
+            write_next_word(output, b"positions")?;
+            write_next_number(output, u64::from(limit))?;
+        }
+        Cause::Closure => {
+            write_next_word(output, b"closure")?;
+            write_next_number(output, u64::from(MOST_NODES))?;
+        }
+    }
+    end_line(output)
+}

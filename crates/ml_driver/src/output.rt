@@ -1,0 +1,44 @@
+// Outputs, and the lines that refuse a text.
+ghost use Rattle.std.specs.Prelude.{◌≡◌, IfOk, Some};
+ghost use Rattle.ml_driver.specs.Statuses as statuses;
+
+use crate::Status;
+use ml_base::{NoMemory, ParseRefusal};
+use ml_lines::{end_line, write_next_number, write_next_word, write_word};
+use std::alloc::Global;
+
+/// A status with the whole output that goes with it.
+#[derive(Drop)]
+pub(crate) struct Output {
+    pub(crate) status: Status,
+    pub(crate) bytes: Vec<u8>,
+}
+
+// want of memory is no refusal of a text
+pub(crate) fn refusal_line(alloc: Global, refusal: ParseRefusal) -> Result<Vec<u8>, NoMemory>
+    ensures { IfOk result (λ line. Some line.items ≡ statuses.refusal_line refusal) }
+{
+    match refusal {
+        ParseRefusal::Syntax { at } => refused_at(alloc, 1, at),
+        ParseRefusal::Unbound { at } => refused_at(alloc, 2, at),
+        ParseRefusal::NotPositive { at } => refused_at(alloc, 3, at),
+        ParseRefusal::TooMany { at } => refused_at(alloc, 4, at),
+        ParseRefusal::TooNested { at } => refused_at(alloc, 5, at),
+        ParseRefusal::NameTooLong { at } => refused_at(alloc, 6, at),
+        ParseRefusal::NoMemory => Err(NoMemory),
+    }
+}
+
+fn refused_at(alloc: Global, rule: u64, at: u64) -> Result<Vec<u8>, NoMemory>
+    ensures { IfOk result (λ line. Some line.items ≡ statuses.refused_at rule at) }
+{
+    let mut line = Vec::new(alloc);
+    write_word(&mut line, b"refused")?;
+    write_next_word(&mut line, b"text")?;
+    write_next_word(&mut line, b"rule")?;
+    write_next_number(&mut line, rule)?;
+    write_next_word(&mut line, b"at")?;
+    write_next_number(&mut line, at)?;
+    end_line(&mut line)?;
+    Ok(line)
+}

@@ -1,0 +1,11 @@
+// What a command asks of a text.
+use ml_front::Logic;
+
+/// What a command asks of a text: is the formula, or its negation, satisfiable? The decision game may have as many
+/// positions as the limit.
+#[derive(Clone, Copy, Debug, PartialEq, Eq)]
+pub struct Question {
+    pub logic: Logic,
+    pub negated: bool,
+    pub limit: u32,
+}

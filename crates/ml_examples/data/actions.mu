@@ -1,0 +1,1 @@
+<send>(mu X. ack | <wait>X) & [send][wait]!ack & [send]!ack

@@ -1,0 +1,196 @@
+-- What is known of a numbered state by the position where Even's choices end, so that its parts can be gathered.
+--
+--   numbered_few    == there are at most as many states as positions
+--   Here, here_at   == the state that ends at this position
+--   spread_is       == the spread of the position is that of the state
+--   sequent_fits    == its sequent has nodes of the graph
+--   diamonds_fit, are_diamonds, all_begin == what is asked of the diamonds of its spread, and where they lead
+--   gathered_more   == with the parts of one state more
+--   all_in_range    == the labels and edges of all states are of states that there are
+use Rattle.std.proofs.Common.{ℕ, ◌≡◌, ◌+◌, ◌<◌, ◌≤◌, ◌⊎◌, inl, inr, true, false, List, [], ◌∷◌, ◌++◌, length, get_or, slice_get, map, find, nat_le, Some, None, All, refl, sym, ap, ◌∙◌, subst, arith}
+use Rattle.std.specs.List.{zip, flat_map}
+use Rattle.std.proofs.lemmas.Bool.{cond-false}
+use Rattle.std.proofs.lemmas.Bool.Decides.{nat_tests}
+use Rattle.std.proofs.lemmas.List.{get_or_default, length-map, get_or-map}
+use Rattle.std.proofs.lemmas.Option.{slice_get_within, slice_get-get_or}
+use Rattle.ml_base.specs.declared.structure.Edge.{Edge}
+use Rattle.ml_kripke.specs.Ordered.{first_bad_state, named_states, ends}
+use Rattle.ml_lists.specs.Member.{IsMember}
+use Rattle.ml_lists.proofs.Member.{Image, member-All, member-append, member-map_from, member-filter_from, InList, member-flat_map_from}
+use Rattle.ml_graph.specs.Graph.{Graph, size, node_at}
+use Rattle.ml_parity.specs.Solution.{GameSolution}
+use Rattle.ml_sequent.specs.Spread.{SpreadList, IsSpreadOf, is_diamond}
+use Rattle.ml_product.specs.Position.{Position}
+use Rattle.ml_product.specs.DecisionGame.{diamonds_of}
+use Rattle.ml_product.specs.Arena.{Arena}
+use Rattle.ml_product.proofs.ArenaGame.{member_of_get, same_entry}
+use Rattle.ml_product.proofs.NeutralPriority.{sequent_low}
+use Rattle.ml_extract.specs.Model.{State, SpreadAt, Chooses, ends as choice_ends, moves, nexts}
+use Rattle.ml_extract.specs.private.Gathered.{names_in, labelled, edge_to, AreGathered}
+use Rattle.ml_extract.specs.private.Numbered.{AreNumbered}
+use Rattle.ml_extract.proofs.GatheredParts.{once, begins_there, one_more}
+use Rattle.ml_extract.proofs.GrowingFirst.{few_below}
+use Rattle.ml_extract.proofs.Numbering.{last_spread}
+use Rattle.ml_extract.proofs.OneModel.{spread_here}
+
+-- where choices begin, there is a position
+first_low : (g : Graph) (a : Arena) (s : GameSolution) (v w : ℕ) (sp : SpreadList)
+    → Chooses g a s v w sp
+    → v < length a.positions
+first_low g a s v w sp (choice_ends _ _ h none) = slice_get_within a.positions v h.position h.stands
+first_low g a s v w sp (moves _ _ n here _ h is_open rest) = slice_get_within a.positions v h.position h.stands
+
+-- no number is at or above a bound
+none_above : (k : ℕ) (xs : List ℕ) → ((v : ℕ) → IsMember v xs → v < k) → find (nat_le k) xs ≡ None
+none_above k [] low = refl
+none_above k (x ∷ xs) low =
+    let here = low x (inl refl) in
+    let below : nat_le k x ≡ false = grind (arith, nat_tests) in
+    cond-false (nat_le k x) (Some x) (find (nat_le k) xs) below ∙ none_above k xs (λ v m. low v (inr m))
+
+module _ (g : Graph) (a : Arena) (s : GameSolution) (fs ls : List ℕ) (n : AreNumbered g a s fs ls) where
+  pub same_lengths : length fs ≡ length ls
+  same_lengths =
+      ap length (sym n.firsts_are) ∙ length-map n.states (λ (x : State). x.first)
+      ∙ sym (length-map n.states (λ (x : State). x.last)) ∙ ap length n.lasts_are
+
+  -- there are at most as many states as positions
+  pub numbered_few : length fs ≤ length a.positions
+  numbered_few =
+      few_below (length a.positions) fs (once g a s fs ls n)
+      (λ v m. of_image v (member-map_from (λ (x : State). x.first) v n.states (subst (IsMember v)
+      (sym n.firsts_are) m)))
+    where
+      of_image : (v : ℕ) → Image (λ (x : State). x.first) v n.states → v < length a.positions
+      of_image v i =
+          let low = first_low g a s i.from.first i.from.last i.from.spread (n.are_states.chosen i.from i.member) in
+          omega (arith, i.holds)
+
+  -- the state that ends at this position
+  pub record Here (i last : ℕ) : Type 0 where
+    pub state : State
+    pub is : slice_get n.states i ≡ Some state
+    pub last_is : state.last ≡ last
+    pub at : SpreadAt g a last state.spread
+
+  pub here_at : (i last : ℕ) → i < length ls → last ≡ get_or ls i last → Here i last
+  here_at i last low read =
+      let nowhere : State = record { first = 0; last = 0; spread = record { nodes = []; choice = [] } } in
+      let last_is : last ≡ get_or ls i 0 = read ∙ get_or_default ls i last 0 low in
+      let inside : i < length n.states =
+      omega (arith, ap length n.lasts_are, length-map n.states (λ (x : State). x.last)) in
+      let x : State = get_or n.states i nowhere in
+      let is : slice_get n.states i ≡ Some x = slice_get-get_or n.states i nowhere inside in
+      let same : x.last ≡ last =
+      sym (get_or-map (λ (y : State). y.last) n.states i nowhere 0 inside) ∙ ap (λ vs. get_or vs i 0) n.lasts_are
+      ∙ sym last_is in
+      let at = last_spread g a s x.first x.last x.spread (n.are_states.chosen x (member_of_get n.states i x is)) in
+      record { state = x; is = is; last_is = same; at = subst (λ v. SpreadAt g a v x.spread) same at }
+
+  module _ (i last : ℕ) (h : Here i last) where
+    pub position_low : last < length a.positions
+    position_low = slice_get_within a.positions last h.at.position h.at.stands
+
+    pub spread_is : (p : Position) → slice_get a.positions last ≡ Some p → (sp : SpreadList)
+        → IsSpreadOf g p.sequent p.choice sp
+        → sp ≡ h.state.spread
+    spread_is p stands sp is =
+        spread_here g a s last sp h.state.spread (record { position = p; stands = stands; is_spread = is }) h.at
+
+    pub sequent_fits : (p : Position) → slice_get a.positions last ≡ Some p → All (λ k. k < size g) p.sequent
+    sequent_fits p stands =
+        let same = same_entry a.positions last h.at.position p h.at.stands stands in
+        member-All (λ k. k < size g) p.sequent
+        (λ k m. sequent_low g p h.state.spread (subst (λ (q : Position). IsSpreadOf g q.sequent q.choice h.state.spread)
+        same h.at.is_spread) k m)
+
+    -- the diamonds as they are read from a spread of the position, in a graph that is g
+    pub diamonds_are : (p : Position)
+        → slice_get a.positions last ≡ Some p
+        → (f : Graph) (sp : SpreadList) (ds : List ℕ)
+        → f ≡ g
+        → IsSpreadOf f p.sequent p.choice sp
+        → ds ≡ diamonds_of f sp
+        → ds ≡ diamonds_of g h.state.spread
+    diamonds_are p stands f sp ds same is ds_is =
+        ds_is ∙ ap (λ k. diamonds_of k sp) same
+        ∙ ap (diamonds_of g) (spread_is p stands sp (subst (λ k. IsSpreadOf k p.sequent p.choice sp) same is))
+
+    pub diamonds_fit : (ds : List ℕ) → ds ≡ diamonds_of g h.state.spread → All (λ k. k < size g) ds
+    diamonds_fit ds is =
+        subst (All (λ k. k < size g)) (sym is)
+        (member-All (λ k. k < size g) (diamonds_of g h.state.spread)
+        (λ k m. h.at.is_spread.low k (member-filter_from (λ x. is_diamond (node_at g x)) k h.state.spread.nodes m).0))
+
+    pub are_diamonds : (ds : List ℕ) → ds ≡ diamonds_of g h.state.spread → All (λ k. is_diamond (node_at g k) ≡ true) ds
+    are_diamonds ds is =
+        subst (All (λ k. is_diamond (node_at g k) ≡ true)) (sym is)
+        (member-All (λ k. is_diamond (node_at g k) ≡ true) (diamonds_of g h.state.spread)
+        (λ k m. (member-filter_from (λ x. is_diamond (node_at g x)) k h.state.spread.nodes m).1))
+
+    nexts_are : (ds vs : List ℕ)
+        → ds ≡ diamonds_of g h.state.spread
+        → vs ≡ get_or a.moves last []
+        → zip ds vs ≡ nexts g a h.state
+    nexts_are ds vs ds_is vs_is = λ j. zip (ds_is j) ((vs_is ∙ ap (λ v. get_or a.moves v []) (sym h.last_is)) j)
+
+    pub all_begin : (ds vs : List ℕ)
+        → ds ≡ diamonds_of g h.state.spread
+        → vs ≡ get_or a.moves last []
+        → All (λ (next : ℕ × ℕ). IsMember next.1 fs) (zip ds vs)
+    all_begin ds vs ds_is vs_is =
+        subst (All (λ (next : ℕ × ℕ). IsMember next.1 fs)) (sym (nexts_are ds vs ds_is vs_is))
+        (member-All (λ (next : ℕ × ℕ). IsMember next.1 fs) (nexts g a h.state)
+        (λ next m. begins_there g a s fs ls n h.state (member_of_get n.states i h.state h.is) next.0 next.1 m))
+
+    -- with the parts of one state more
+    pub gathered_more : (ds vs : List ℕ) (sp : SpreadList) (labels more_labels : List (ℕ × List ℕ))
+        (edges more_edges : List Edge)
+        → ds ≡ diamonds_of g h.state.spread
+        → vs ≡ get_or a.moves last []
+        → sp ≡ h.state.spread
+        → more_labels ≡ labels ++ labelled i (names_in g sp)
+        → more_edges ≡ edges ++ map (edge_to g fs i) (zip ds vs)
+        → AreGathered g a n.states i labels edges
+        → AreGathered g a n.states (i + 1) more_labels more_edges
+    gathered_more ds vs sp labels more_labels edges more_edges ds_is vs_is sp_is labels_is edges_is old =
+        one_more g a s fs ls n i h.state h.is labels more_labels edges more_edges old
+        (labels_is ∙ ap (λ x. labels ++ labelled i (names_in g x)) sp_is)
+        (edges_is ∙ ap (λ ps. edges ++ map (edge_to g fs i) ps) (nexts_are ds vs ds_is vs_is))
+
+  -- ---- all states
+
+  states_long : length n.states ≡ length ls
+  states_long = sym (length-map n.states (λ (x : State). x.last)) ∙ ap length n.lasts_are
+
+  pub some_state : 0 < length ls
+  some_state =
+      let first = ap length n.are_states.breadth_first.in_order in
+      omega (arith, first, states_long, length-map n.states (λ (x : State). x.first))
+
+  -- the labels and edges of all states are of states that there are
+  pub all_in_range : (labels : List (ℕ × List ℕ)) (edges : List Edge)
+      → AreGathered g a n.states (length ls) labels edges
+      → first_bad_state (length ls) labels edges ≡ None
+  all_in_range labels edges old = none_above (length ls) (named_states labels edges) (λ v m. low v m)
+    where
+      of_end : (v : ℕ) (e : Edge) → IsMember e edges → IsMember v (ends e) → v < length ls
+      of_end v e m (inl source) = let h = (old.edges_are e).0 m in omega (arith, h.0)
+      of_end v e m (inr (inl target)) =
+          let h = (old.edges_are e).0 m in
+          omega (arith, slice_get_within n.states e.target h.1.to h.1.to_is, states_long)
+      of_end v e m (inr (inr none)) = absurd none
+
+      of_label : (v : ℕ) → Image (λ (label : ℕ × List ℕ). label.0) v labels → v < length ls
+      of_label v i = let h = (old.labels_are i.from.0 i.from.1).0 i.member in omega (arith, h.0, i.holds)
+
+      of_edge : (v : ℕ) → InList ends v edges → v < length ls
+      of_edge v i = of_end v i.from i.member i.inside
+
+      low : (v : ℕ) → IsMember v (named_states labels edges) → v < length ls
+      low v m = by_part (member-append v (map (λ (label : ℕ × List ℕ). label.0) labels) (flat_map ends edges) m)
+        where
+          by_part : IsMember v (map (λ (label : ℕ × List ℕ). label.0) labels) ⊎ IsMember v (flat_map ends edges)
+              → v < length ls
+          by_part (inl here) = of_label v (member-map_from (λ (label : ℕ × List ℕ). label.0) v labels here)
+          by_part (inr here) = of_edge v (member-flat_map_from ends v edges here)

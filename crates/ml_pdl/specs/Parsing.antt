@@ -1,0 +1,69 @@
+-- What `parse` answers: which formula a text stands for within the limits, or where it is refused, for the first of the
+-- four causes of `Refusals.antt`. PDL has no variables: a text is never refused for one.
+--
+--   IsParsedAs text f   == the text is one of f, and keeps the limits
+--   IsRefusedBy text e  == the text is refused with this answer
+--   StandForOne, CanonicalStandsForOne, SomeAnswer, ParsedOnce, RefusedOnce, NeverBoth, ParsedAreWellFormed,
+--   CanonicalIsParsed == the laws of these notions
+use Rattle.std.specs.Prelude.{ℕ, ◌≡◌, ◌≢◌, ◌⊎◌, List, length, IsTrue}
+use Rattle.ml_base.specs.declared.parse_refusal.ParseRefusal.{ParseRefusal}
+use Rattle.ml_base.specs.declared.parse_refusal.ParseRefusal.TheVariants as refusal
+use Rattle.ml_text.specs.Refusals as cause
+use Rattle.ml_text.specs.Refusals.{Cause, IsRefused, IsAccepted, offset_of}
+use Rattle.ml_pdl.specs.Canonical.{canonical_text}
+use Rattle.ml_pdl.specs.Formula.{Formula}
+use Rattle.ml_pdl.specs.Grammar.{IsReadAs}
+use Rattle.ml_pdl.specs.Spelling.{is_spelled}
+use Rattle.ml_pdl.specs.Text.{IsTextOf, items}
+use Rattle.ml_pdl.specs.WellFormed.{IsWellFormed}
+
+abbrev pub IsParsedAs : List ℕ → Formula → Type 0
+IsParsedAs text f = IsAccepted IsReadAs (items text) f
+
+-- this cause is the first, and comes at this byte
+abbrev pub ComesFirst : List ℕ → Cause → ℕ → Type 0
+ComesFirst text c at = (k : ℕ) × IsRefused IsReadAs (items text) c k × (at ≡ offset_of (items text) (length text) k)
+
+abbrev pub IsRefusedBy : List ℕ → ParseRefusal → Type 0
+IsRefusedBy text (refusal.Syntax at) = ComesFirst text cause.Syntax at
+IsRefusedBy text (refusal.Unbound at) = ⊥
+IsRefusedBy text (refusal.NotPositive at) = ⊥
+IsRefusedBy text (refusal.TooMany at) = ComesFirst text cause.TooMany at
+IsRefusedBy text (refusal.TooNested at) = ComesFirst text cause.TooNested at
+IsRefusedBy text (refusal.NameTooLong at) = ComesFirst text cause.NameTooLong at
+-- want of memory is the one answer that says nothing of the text
+IsRefusedBy text refusal.NoMemory = Unit {0}
+
+-- ---- laws
+
+-- a text stands for one formula at most
+abbrev pub StandForOne : Type 0
+StandForOne = (text : List ℕ) (f g : Formula) → IsTextOf text f → IsTextOf text g → f ≡ g
+
+-- each text is parsed as some formula, or is refused for a reason of its own
+abbrev pub SomeAnswer : Type 0
+SomeAnswer = (text : List ℕ) → ((f : Formula) × IsParsedAs text f) ⊎ ((e : ParseRefusal) × (e ≢ refusal.NoMemory) × IsRefusedBy text e)
+
+-- a text is parsed as one formula at most
+abbrev pub ParsedOnce : Type 0
+ParsedOnce = (text : List ℕ) (f g : Formula) → IsParsedAs text f → IsParsedAs text g → f ≡ g
+
+-- what is parsed as a formula is refused by nothing but want of memory
+abbrev pub NeverBoth : Type 0
+NeverBoth = (text : List ℕ) (f : Formula) (e : ParseRefusal) → IsParsedAs text f → IsRefusedBy text e → e ≡ refusal.NoMemory
+
+-- but for want of memory, a text is refused in one way at most
+abbrev pub RefusedOnce : Type 0
+RefusedOnce = (text : List ℕ) (e d : ParseRefusal) → (e ≢ refusal.NoMemory) → (d ≢ refusal.NoMemory) → IsRefusedBy text e → IsRefusedBy text d → e ≡ d
+
+-- the canonical text of a formula whose names are spelled as they must be stands for it, and for no other
+abbrev pub CanonicalStandsForOne : Type 0
+CanonicalStandsForOne = (f g : Formula) → IsTrue (is_spelled f) → IsTextOf (canonical_text f) f × (IsTextOf (canonical_text f) g → g ≡ f)
+
+-- the formulas that are parsed are well formed
+abbrev pub ParsedAreWellFormed : Type 0
+ParsedAreWellFormed = (text : List ℕ) (f : Formula) → IsParsedAs text f → IsWellFormed f
+
+-- the canonical text of a well-formed formula is parsed as it
+abbrev pub CanonicalIsParsed : Type 0
+CanonicalIsParsed = (f : Formula) → IsWellFormed f → IsParsedAs (canonical_text f) f

@@ -1,0 +1,81 @@
+-- PDL texts: their items, with what each counts, and the marks of their parentheses.
+--
+-- A modality is counted at its first sign, a test at its `?`, a repetition at its word, and each other symbol at its own
+-- sign; the action `_` of a modality without a program is counted where the modality's program ends. Which parentheses
+-- are marked is told from the whole text, before anything is read: a `(` whose partner is directly followed by `?`.
+--
+--   weight_of b s        == as how many occurrences a sign counts; b says whether it stands directly behind `<` or `[`
+--   begins_modality s    == is s `<` or `[`?
+--   sign_by text p       == the sign that a token is by itself
+--   signs_behind text i  == the same, of all tokens from the byte i on
+--   sign_at text p       == the sign that a token of the text is: a `(` with its mark
+--   pdl_signs            == the signs of PDL texts; the context of a sign is whether it stands directly behind `<` or `[`
+--   items text           == the items of a text
+--   IsTextOf text f      == the text is one of f by the grammar
+--   MarksAreOfTexts      == the law that the signs of a text are those of its tokens, marked as `Marks.antt` says
+use Rattle.std.specs.Prelude.{ℕ, ◌≡◌, Bool, true, false, List, map}
+use Rattle.ml_text.specs.declared.token.WordStart.TheVariants.{AnyLetter}
+use Rattle.ml_text.specs.declared.token.Placed.{Placed}
+use Rattle.ml_text.specs.Tokens.{tokens, tokens_from}
+use Rattle.ml_text.specs.Items as text_items
+use Rattle.ml_text.specs.Items.{SignTable, bytes_of}
+use Rattle.ml_text.specs.Refusals.{Item, signs_of}
+use Rattle.ml_text.specs.declared.limits.Bracket.{Bracket}
+use Rattle.ml_text.specs.declared.limits.Bracket.TheVariants.{Opening, Closing, Neither}
+use Rattle.ml_pdl.specs.Formula.{Formula, weight}
+use Rattle.ml_pdl.specs.Signs.{Sign, Not, Connective, Const, Open, Close, Begins, Ends, Repeats, Plus, Semicolon, Star, Question, Blank, Lower, Upper, Unknown, sign_of}
+use Rattle.ml_pdl.specs.Marks.{is_test_behind, marked, with_mark}
+use Rattle.ml_pdl.specs.Grammar.{IsReadAs}
+
+abbrev pub end_weight : Bool → ℕ
+end_weight true = 1
+end_weight false = 0
+
+abbrev pub weight_of : Bool → Sign → ℕ
+weight_of b (Connective o) = weight o
+weight_of b (Ends m) = end_weight b
+weight_of b (Open k) = 0
+weight_of b Close = 0
+weight_of b Unknown = 0
+weight_of b _ = 1
+
+abbrev pub begins_modality : Sign → Bool
+begins_modality (Begins m) = true
+begins_modality _ = false
+
+abbrev pub bracket_of : Sign → Bracket
+bracket_of (Open k) = Opening
+bracket_of Close = Closing
+bracket_of _ = Neither
+
+abbrev pub sign_by : List ℕ → Placed → Sign
+sign_by text p = sign_of p.token (bytes_of text p)
+
+abbrev pub signs_behind : List ℕ → ℕ → List Sign
+signs_behind text i = map (sign_by text) (tokens_from AnyLetter text i)
+
+abbrev pub sign_at : List ℕ → Placed → Sign
+sign_at text p = with_mark (is_test_behind 0 (signs_behind text p.end)) (sign_by text p)
+
+abbrev pub pdl_signs : SignTable Sign Bool
+pdl_signs = record {
+  words = AnyLetter;
+  sign_at = sign_at;
+  first = false;
+  behind = begins_modality;
+  weight = weight_of;
+  bracket = bracket_of;
+  is_noted = λ b s. false;
+}
+
+abbrev pub items_from : List ℕ → Bool → List Placed → List (Item Sign)
+items_from text b ps = text_items.items_from pdl_signs text b ps
+
+abbrev pub items : List ℕ → List (Item Sign)
+items text = text_items.items pdl_signs text
+
+abbrev pub IsTextOf : List ℕ → Formula → Type 0
+IsTextOf text f = IsReadAs (signs_of (items text)) f
+
+abbrev pub MarksAreOfTexts : Type 0
+MarksAreOfTexts = (text : List ℕ) → signs_of (items text) ≡ marked (map (sign_by text) (tokens AnyLetter text))

@@ -1,0 +1,29 @@
+-- What the reader of texts asks of PDL.
+--
+--   pdl_tables  == its grammar and its signs, and what the values of the program stand for
+use Rattle.std.specs.Prelude.{Bool}
+use Rattle.ml_text.specs.private.Tables.{Tables}
+use Rattle.ml_pdl.specs.Signs.{HasShortName}
+use Rattle.ml_pdl.specs.Tables.{pdl_grammar}
+use Rattle.ml_pdl.specs.Text.{pdl_signs}
+use Rattle.ml_pdl.specs.private.FormViews.{sort_view, phrase_view, wait_view, hold_view}
+use Rattle.ml_pdl.specs.private.SignViews.{named, sign_view}
+use Rattle.ml_pdl.specs.declared.forms.Phrase.{Phrase}
+use Rattle.ml_pdl.specs.declared.forms.Sort.{Sort}
+use Rattle.ml_pdl.specs.declared.forms.Wait.{Wait}
+use Rattle.ml_pdl.specs.declared.forms.Hold.{Hold}
+use Rattle.ml_pdl.specs.declared.signs.Kind.{Kind}
+use Rattle.ml_pdl.specs.declared.signs.Sign.{Sign}
+
+abbrev pub pdl_tables : Tables Kind Bool Sort Sign Phrase Wait Hold
+pdl_tables = record {
+  grammar = pdl_grammar;
+  signs = pdl_signs;
+  named = named;
+  CanName = λ kind word. HasShortName (named kind word);
+  sort = sort_view;
+  sign = sign_view;
+  tree = phrase_view;
+  wait = wait_view;
+  hold = hold_view;
+}

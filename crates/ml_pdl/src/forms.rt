@@ -1,0 +1,402 @@
+// The forms of operands: what a token does to a form, and what a form is behind its operand.
+ghost use Rattle.std.specs.Prelude.{◌≡◌, ◌+◌, IfOk};
+ghost use Rattle.std.specs.Option.{option_map};
+ghost use Rattle.ml_text.specs.Grammar.{Read, Whole};
+ghost use Rattle.ml_text.specs.private.Views.{GivesBack, mode_view, turn_view};
+ghost use Rattle.ml_pdl.specs.private.FormViews.{hold_view, phrase_view, wait_view};
+ghost use Rattle.ml_pdl.specs.private.Reader.{pdl_tables};
+ghost use Rattle.ml_pdl.specs.private.SignViews.{modality_of, sign_view};
+ghost use Rattle.ml_pdl.specs.Tables as tables;
+ghost use Rattle.ml_pdl.specs.Formula as plain;
+ghost use Rattle.ml_pdl.specs.Term.{formula_of, program_of};
+
+use crate::signs::{Mark, Modality, Sign};
+use crate::{Program, Term};
+use ml_base::{Action, Name, NoMemory};
+use ml_text::{Mode, Operator};
+use std::alloc::Global;
+
+// what a part of a text stands for; a name may become an action or the proposition of a test
+#[derive(Drop)]
+pub(crate) enum Phrase {
+    Formula(Term),
+    Program(Program),
+    Name(Name),
+}
+
+// the sorts of operands
+#[derive(Clone, Copy)]
+pub(crate) enum Sort {
+    Formulas,
+    Programs,
+}
+
+// a form of which a token is to come
+#[derive(Drop)]
+pub(crate) enum Wait {
+    FormulaStart,
+    ProgramStart,
+    BehindBegin(Modality),
+    BehindProgram(Modality, Program),
+    BehindRepeat,
+    BehindRepeatInside(Program),
+    BehindFormulaInside(Term),
+    BehindProgramInside(Program),
+    BehindTestInside(Term),
+    // in a test, behind so many negations
+    BehindNegations(u32),
+    // in a test, where its `?` is to come
+    BehindTested(Term),
+}
+
+// a form of which an operand is to come
+#[derive(Drop)]
+pub(crate) enum Hold {
+    Negation,
+    ModalProgram(Modality),
+    Modal(Modality, Program),
+    FormulaGroup,
+    ProgramGroup,
+    RepeatGroup,
+    // in a test, behind so many negations
+    TestGroup(u32),
+}
+
+// what a token does to a form
+type Turn = ml_text::Turn<Sign, Phrase, Wait, Hold>;
+
+/// The formula that a tree is; one that is a program never comes to it.
+pub(crate) fn as_formula(phrase: Phrase) -> Term
+    ensures { formula_of result ≡ tables.formula_of (phrase_view phrase) }
+{
+    match phrase {
+        Phrase::Formula(term) => term,
+        Phrase::Program(_) => Term::Const(true),
+        Phrase::Name(name) => Term::Prop(name),
+    }
+}
+
+// the program that a tree is; one that is a formula never comes to it
+fn as_program(alloc: Global, phrase: Phrase) -> Result<Program, NoMemory>
+    ensures { IfOk result (λ program. program_of program ≡ tables.program_of (phrase_view phrase)) }
+{
+    Ok(match phrase {
+        Phrase::Formula(term) => Program::Test(Box::new(alloc, term)?),
+        Phrase::Program(program) => program,
+        Phrase::Name(name) => Program::Act(Action::from_name(name)),
+    })
+}
+
+// a formula behind so many negations
+#[tactic(auto, using(crate::proofs::Negations::negated_less))]
+fn negated(alloc: Global, negations: u32, term: Term) -> Result<Term, NoMemory>
+    ensures { IfOk result (λ negated. formula_of negated ≡ tables.negated negations (formula_of term)) }
+{
+    let mut left = negations;
+    let mut term = term;
+    while left > 0 {
+        term = Term::Not(Box::new(alloc, term)?);
+        left -= 1;
+    }
+    Ok(term)
+}
+
+#[inline(always)]
+fn shift_formula(sign: Sign) -> Option<Turn>
+    ensures { option_map (turn_view pdl_tables) result ≡ tables.shift_formula (sign_view sign) }
+{
+    match sign {
+        Sign::Not => Some(Turn::Inner(Hold::Negation)),
+        Sign::Const(value) => Some(Turn::Read(Mode::Whole(Phrase::Formula(Term::Const(value))))),
+        Sign::Lower(name) => Some(Turn::Read(Mode::Whole(Phrase::Formula(Term::Prop(name))))),
+        Sign::Open(_) => Some(Turn::Inner(Hold::FormulaGroup)),
+        Sign::Begins(modality) => Some(Turn::Read(Mode::More(Wait::BehindBegin(modality)))),
+        Sign::Repeats => Some(Turn::Read(Mode::More(Wait::BehindRepeat))),
+        _ => None,
+    }
+}
+
+// one negation more; a number that doesn't fit is want of memory, and the limit on occurrences comes long before
+fn one_more(negations: u32) -> Result<u32, NoMemory>
+    ensures { IfOk result (λ more. more ≡ negations + 1) }
+{
+    negations.checked_add(1).ok_or(NoMemory)
+}
+
+// in a test, behind so many negations
+fn shift_test(alloc: Global, negations: u32, sign: Sign) -> Result<Option<Turn>, NoMemory>
+    ensures { IfOk result (λ turn.
+        option_map (turn_view pdl_tables) turn ≡ tables.shift_test negations (sign_view sign)) }
+{
+    let tested = match sign {
+        Sign::Not => {
+            let more = one_more(negations)?;
+            return Ok(Some(Turn::Read(Mode::More(Wait::BehindNegations(more)))));
+        }
+        Sign::Open(_) => return Ok(Some(Turn::Inner(Hold::TestGroup(negations)))),
+        Sign::Const(value) => negated(alloc, negations, Term::Const(value))?,
+        Sign::Lower(name) => negated(alloc, negations, Term::Prop(name))?,
+        _ => return Ok(None),
+    };
+    Ok(Some(Turn::Read(Mode::More(Wait::BehindTested(tested)))))
+}
+
+fn act(action: Action) -> Turn
+    ensures { turn_view pdl_tables result ≡ Read (Whole (tables.OfProgram (plain.Act action))) }
+{
+    Turn::Read(Mode::Whole(Phrase::Program(Program::Act(action))))
+}
+
+fn shift_program(alloc: Global, sign: Sign) -> Result<Option<Turn>, NoMemory>
+    ensures { IfOk result (λ turn.
+        option_map (turn_view pdl_tables) turn ≡ tables.shift_program (sign_view sign)) }
+{
+    match sign {
+        Sign::Blank => Ok(Some(act(Action::blank(alloc)?))),
+        Sign::Upper(name) => Ok(Some(act(Action::from_name(name)))),
+        Sign::Lower(name) => Ok(Some(Turn::Read(Mode::Whole(Phrase::Name(name))))),
+        Sign::Open(Mark::Unmarked) => Ok(Some(Turn::Inner(Hold::ProgramGroup))),
+        Sign::Open(Mark::Marked) => shift_test(alloc, 0, Sign::Open(Mark::Marked)),
+        Sign::Not => shift_test(alloc, 0, Sign::Not),
+        Sign::Const(value) => shift_test(alloc, 0, Sign::Const(value)),
+        _ => Ok(None),
+    }
+}
+
+fn shift_begin(alloc: Global, modality: Modality, sign: Sign) -> Result<Option<Turn>, NoMemory>
+    ensures turn { IfOk result (λ turn.
+        option_map (turn_view pdl_tables) turn ≡ tables.shift_begin (modality_of modality) (sign_view sign)) }
+    ensures gives_back { IfOk result (λ turn. GivesBack pdl_tables turn (sign_view sign)) }
+{
+    match (modality, sign) {
+        (Modality::Diamond, Sign::Ends(Modality::Diamond))
+        | (Modality::Square, Sign::Ends(Modality::Square)) => {
+            let program = Program::Act(Action::blank(alloc)?);
+            Ok(Some(Turn::Inner(Hold::Modal(modality, program))))
+        }
+        (modality, sign) => Ok(Some(Turn::Opens(Hold::ModalProgram(modality), sign))),
+    }
+}
+
+fn shift_end(modality: Modality, program: Program, sign: Sign) -> Option<Turn>
+    ensures { option_map (turn_view pdl_tables) result
+        ≡ tables.shift_end (modality_of modality) (program_of program) (sign_view sign) }
+{
+    match (modality, sign) {
+        (Modality::Diamond, Sign::Ends(Modality::Diamond))
+        | (Modality::Square, Sign::Ends(Modality::Square)) => {
+            Some(Turn::Inner(Hold::Modal(modality, program)))
+        }
+        _ => None,
+    }
+}
+
+// behind what stands between parentheses
+fn shift_close(mode: Mode<Phrase, Wait>, sign: Sign) -> Option<Turn>
+    ensures { option_map (turn_view pdl_tables) result ≡ tables.shift_close (mode_view pdl_tables mode) (sign_view sign) }
+{
+    match sign {
+        Sign::Close => Some(Turn::Read(mode)),
+        _ => None,
+    }
+}
+
+fn shift_repeat(sign: Sign) -> Option<Turn>
+    ensures { option_map (turn_view pdl_tables) result ≡ tables.shift_repeat (sign_view sign) }
+{
+    match sign {
+        Sign::Open(_) => Some(Turn::Inner(Hold::RepeatGroup)),
+        _ => None,
+    }
+}
+
+fn shift_tested(alloc: Global, tested: Term, sign: Sign) -> Result<Option<Turn>, NoMemory>
+    ensures { IfOk result (λ turn.
+        option_map (turn_view pdl_tables) turn ≡ tables.shift_tested (formula_of tested) (sign_view sign)) }
+{
+    match sign {
+        Sign::Question => {
+            let test = Program::Test(Box::new(alloc, tested)?);
+            Ok(Some(Turn::Read(Mode::Whole(Phrase::Program(test)))))
+        }
+        _ => Ok(None),
+    }
+}
+
+fn repetition(alloc: Global, program: Program) -> Result<Phrase, NoMemory>
+    ensures { IfOk result (λ phrase. phrase_view phrase ≡ tables.OfFormula (plain.Repeat (program_of program))) }
+{
+    Ok(Phrase::Formula(Term::Repeat(Box::new(alloc, program)?)))
+}
+
+/// What a token does to a form of which one is to come; `None` where no text goes on so.
+#[inline(always)]
+pub(crate) fn shift(alloc: Global, wait: Wait, sign: Sign) -> Result<Option<Turn>, NoMemory>
+    ensures turn { IfOk result (λ turn.
+        option_map (turn_view pdl_tables) turn ≡ tables.shift (wait_view wait) (sign_view sign)) }
+    ensures gives_back { IfOk result (λ turn. GivesBack pdl_tables turn (sign_view sign)) }
+{
+    match wait {
+        Wait::FormulaStart => Ok(shift_formula(sign)),
+        Wait::ProgramStart => shift_program(alloc, sign),
+        Wait::BehindBegin(modality) => shift_begin(alloc, modality, sign),
+        Wait::BehindProgram(modality, program) => Ok(shift_end(modality, program, sign)),
+        Wait::BehindRepeat => Ok(shift_repeat(sign)),
+        Wait::BehindRepeatInside(program) => {
+            let whole = repetition(alloc, program)?;
+            Ok(shift_close(Mode::Whole(whole), sign))
+        }
+        Wait::BehindFormulaInside(term) => {
+            Ok(shift_close(Mode::Whole(Phrase::Formula(term)), sign))
+        }
+        Wait::BehindProgramInside(program) => {
+            Ok(shift_close(Mode::Whole(Phrase::Program(program)), sign))
+        }
+        Wait::BehindTestInside(term) => {
+            Ok(shift_close(Mode::More(Wait::BehindTested(term)), sign))
+        }
+        Wait::BehindNegations(negations) => shift_test(alloc, negations, sign),
+        Wait::BehindTested(tested) => shift_tested(alloc, tested, sign),
+    }
+}
+
+// a modality behind its formula
+fn modal(
+    alloc: Global,
+    modality: Modality,
+    program: Program,
+    operand: Term,
+) -> Result<Term, NoMemory>
+    ensures { IfOk result (λ term.
+        formula_of term ≡ plain.Modal (modality_of modality) (program_of program) (formula_of operand)) }
+{
+    let program = Box::new(alloc, program)?;
+    let operand = Box::new(alloc, operand)?;
+    Ok(match modality {
+        Modality::Diamond => Term::Diamond(program, operand),
+        Modality::Square => Term::Square(program, operand),
+    })
+}
+
+/// A form behind its operand.
+pub(crate) fn resume(
+    alloc: Global,
+    hold: Hold,
+    operand: Phrase,
+) -> Result<Mode<Phrase, Wait>, NoMemory>
+    ensures { IfOk result (λ mode. mode_view pdl_tables mode ≡ tables.resume (hold_view hold) (phrase_view operand)) }
+{
+    Ok(match hold {
+        Hold::Negation => {
+            let operand = Box::new(alloc, as_formula(operand))?;
+            Mode::Whole(Phrase::Formula(Term::Not(operand)))
+        }
+        Hold::ModalProgram(modality) => {
+            let program = as_program(alloc, operand)?;
+            Mode::More(Wait::BehindProgram(modality, program))
+        }
+        Hold::Modal(modality, program) => {
+            let term = modal(alloc, modality, program, as_formula(operand))?;
+            Mode::Whole(Phrase::Formula(term))
+        }
+        Hold::FormulaGroup => Mode::More(Wait::BehindFormulaInside(as_formula(operand))),
+        Hold::ProgramGroup => Mode::More(Wait::BehindProgramInside(as_program(alloc, operand)?)),
+        Hold::RepeatGroup => Mode::More(Wait::BehindRepeatInside(as_program(alloc, operand)?)),
+        Hold::TestGroup(negations) => {
+            let tested = negated(alloc, negations, as_formula(operand))?;
+            Mode::More(Wait::BehindTestInside(tested))
+        }
+    })
+}
+
+// two formulas with a connective between them
+fn connected(alloc: Global, operator: Operator, left: Term, right: Term) -> Result<Term, NoMemory>
+    ensures { IfOk result (λ term.
+        formula_of term ≡ plain.Binary operator (formula_of left) (formula_of right)) }
+{
+    let left = Box::new(alloc, left)?;
+    let right = Box::new(alloc, right)?;
+    Ok(match operator {
+        Operator::Iff => Term::Iff(left, right),
+        Operator::Implies => Term::Implies(left, right),
+        Operator::Or => Term::Or(left, right),
+        Operator::And => Term::And(left, right),
+    })
+}
+
+fn join_formulas(
+    alloc: Global,
+    operator: Operator,
+    left: Phrase,
+    right: Phrase,
+) -> Result<Phrase, NoMemory>
+    ensures { IfOk result (λ phrase. phrase_view phrase ≡ tables.OfFormula (plain.Binary operator
+        (tables.formula_of (phrase_view left)) (tables.formula_of (phrase_view right)))) }
+{
+    let term = connected(alloc, operator, as_formula(left), as_formula(right))?;
+    Ok(Phrase::Formula(term))
+}
+
+fn choice(alloc: Global, left: Phrase, right: Phrase) -> Result<Phrase, NoMemory>
+    ensures { IfOk result (λ phrase. phrase_view phrase ≡ tables.OfProgram (plain.Alt
+        (tables.program_of (phrase_view left)) (tables.program_of (phrase_view right)))) }
+{
+    let left = Box::new(alloc, as_program(alloc, left)?)?;
+    let right = Box::new(alloc, as_program(alloc, right)?)?;
+    Ok(Phrase::Program(Program::Alt(left, right)))
+}
+
+fn sequence(alloc: Global, left: Phrase, right: Phrase) -> Result<Phrase, NoMemory>
+    ensures { IfOk result (λ phrase. phrase_view phrase ≡ tables.OfProgram (plain.Seq
+        (tables.program_of (phrase_view left)) (tables.program_of (phrase_view right)))) }
+{
+    let left = Box::new(alloc, as_program(alloc, left)?)?;
+    let right = Box::new(alloc, as_program(alloc, right)?)?;
+    Ok(Phrase::Program(Program::Seq(left, right)))
+}
+
+/// Two operands with an operator between them.
+pub(crate) fn join(
+    alloc: Global,
+    sign: Sign,
+    left: Phrase,
+    right: Phrase,
+) -> Result<Phrase, NoMemory>
+    ensures { IfOk result (λ phrase.
+        phrase_view phrase ≡ tables.join (sign_view sign) (phrase_view left) (phrase_view right)) }
+{
+    match sign {
+        Sign::Connective(operator) => join_formulas(alloc, operator, left, right),
+        Sign::Plus => choice(alloc, left, right),
+        Sign::Semicolon => sequence(alloc, left, right),
+        _ => Ok(left),
+    }
+}
+
+// the test of a name; nothing else is tested without a form of its own
+fn test_of(alloc: Global, operand: Phrase) -> Result<Option<Phrase>, NoMemory>
+    ensures { IfOk result (λ phrase. option_map phrase_view phrase ≡ tables.test_of (phrase_view operand)) }
+{
+    match operand {
+        Phrase::Name(name) => {
+            let tested = Box::new(alloc, Term::Prop(name))?;
+            Ok(Some(Phrase::Program(Program::Test(tested))))
+        }
+        _ => Ok(None),
+    }
+}
+
+/// An operand with a sign behind it; `None` where no text goes on so.
+pub(crate) fn post(alloc: Global, sign: Sign, operand: Phrase) -> Result<Option<Phrase>, NoMemory>
+    ensures { IfOk result (λ phrase.
+        option_map phrase_view phrase ≡ tables.post (sign_view sign) (phrase_view operand)) }
+{
+    match sign {
+        Sign::Star => {
+            let program = Box::new(alloc, as_program(alloc, operand)?)?;
+            Ok(Some(Phrase::Program(Program::Star(program))))
+        }
+        Sign::Question => test_of(alloc, operand),
+        _ => Ok(None),
+    }
+}

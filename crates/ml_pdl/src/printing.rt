@@ -1,0 +1,165 @@
+// The canonical text of a formula.
+ghost use Rattle.std.specs.Prelude.{◌≡◌, ◌++◌, [], if◌then◌else◌, IfOk, OnOk, codes};
+ghost use Rattle.ml_pdl.specs.Canonical.{canonical_text, program_text, whole_program};
+ghost use Rattle.ml_pdl.specs.Parsing.{IsParsedAs};
+ghost use Rattle.ml_pdl.specs.Term.{formula_of, program_of};
+ghost use Rattle.ml_pdl.specs.WellFormed.{IsWellFormed};
+
+use crate::{Formula, Program, Term};
+use ml_base::NoMemory;
+use std::alloc::{AllocError, Global};
+
+/// The canonical text of a formula, which is read back as the same formula.
+///
+/// # Errors
+/// `NoMemory` alone.
+///
+/// Cost: linear in the text. No call is nested deeper than twice the formula.
+pub fn print(alloc: Global, formula: &Formula) -> Result<Vec<u8>, NoMemory>
+    ensures text { IfOk result (λ text. text.items ≡ canonical_text formula.now) }
+    ensures reads_back { IfOk result (λ text. IsParsedAs text.items formula.now) }
+{
+    let mut text = Vec::new(alloc);
+    append_text(&mut text, formula)?;
+    Ok(text)
+}
+
+/// Appends the canonical text of a formula, as `print` gives it. Whoever asks also learns what the type keeps.
+///
+/// # Errors
+/// `NoMemory` alone, and then a part of the text may stand in `out`.
+///
+/// Cost: linear in the text, over many calls.
+pub fn append_text(out: &mut Vec<u8>, formula: &Formula) -> Result<(), NoMemory>
+    ensures text { OnOk result (out.new.items ≡ out.old.items ++ canonical_text formula.now) }
+    ensures well_formed { IsWellFormed formula.now }
+{
+    write_term(out, formula.root())?;
+    Ok(())
+}
+
+#[cycle(printer)]
+fn write_term(text: &mut Vec<u8>, term: &Term) -> Result<(), AllocError>
+    ensures { OnOk result (text.new.items ≡ text.old.items ++ canonical_text (formula_of term.now)) }
+{
+    match term {
+        Term::Const(true) => text.extend_from_slice(b"tt"),
+        Term::Const(false) => text.extend_from_slice(b"ff"),
+        Term::Prop(name) => text.extend_from_slice(name.bytes()),
+        Term::Not(operand) => {
+            text.extend_from_slice(b"!")?;
+            write_term(text, operand)
+        }
+        Term::And(left, right) => write_binary(text, left, b" & ", right),
+        Term::Or(left, right) => write_binary(text, left, b" | ", right),
+        Term::Implies(left, right) => write_binary(text, left, b" -> ", right),
+        Term::Iff(left, right) => write_binary(text, left, b" <-> ", right),
+        Term::Diamond(program, operand) => write_modal(text, b"<", program, b">", operand),
+        Term::Square(program, operand) => write_modal(text, b"[", program, b"]", operand),
+        Term::Repeat(program) => {
+            text.extend_from_slice(b"repeat(")?;
+            write_program(text, program)?;
+            text.extend_from_slice(b")")
+        }
+    }
+}
+
+// `(left sign right)`; the sign has its blanks
+#[cycle(printer)]
+fn write_binary(
+    text: &mut Vec<u8>,
+    left: &Term,
+    sign: &[u8],
+    right: &Term,
+) -> Result<(), AllocError>
+    ensures { OnOk result (text.new.items ≡
+        text.old.items ++ (codes "(" ++ canonical_text (formula_of left.now) ++ sign.now
+        ++ canonical_text (formula_of right.now) ++ codes ")")) }
+{
+    text.extend_from_slice(b"(")?;
+    write_term(text, left)?;
+    text.extend_from_slice(sign)?;
+    write_term(text, right)?;
+    text.extend_from_slice(b")")
+}
+
+// the operand behind the two signs of its modality
+#[cycle(printer)]
+fn write_modal(
+    text: &mut Vec<u8>,
+    opens: &[u8],
+    program: &Program,
+    closes: &[u8],
+    operand: &Term,
+) -> Result<(), AllocError>
+    ensures { OnOk result (text.new.items ≡
+        text.old.items ++ (opens.now ++ whole_program (program_of program.now) (program_text (program_of program.now))
+        ++ closes.now ++ canonical_text (formula_of operand.now))) }
+{
+    text.extend_from_slice(opens)?;
+    write_whole(text, program)?;
+    text.extend_from_slice(closes)?;
+    write_term(text, operand)
+}
+
+// the program between the signs of a modality, unless it is `_`
+#[cycle(printer)]
+fn write_whole(text: &mut Vec<u8>, program: &Program) -> Result<(), AllocError>
+    ensures { OnOk result (text.new.items ≡
+        text.old.items ++ whole_program (program_of program.now) (program_text (program_of program.now))) }
+{
+    if is_blank(program) {
+        return Ok(());
+    }
+    write_program(text, program)
+}
+
+// is it the action `_`?
+fn is_blank(program: &Program) -> bool
+    ensures { whole_program (program_of program.now) (program_text (program_of program.now))
+        ≡ (if result then [] else program_text (program_of program.now)) }
+{
+    match program {
+        Program::Act(action) => action.bytes() == b"_".as_slice(),
+        _ => false,
+    }
+}
+
+#[cycle(printer)]
+fn write_program(text: &mut Vec<u8>, program: &Program) -> Result<(), AllocError>
+    ensures { OnOk result (text.new.items ≡ text.old.items ++ program_text (program_of program.now)) }
+{
+    match program {
+        Program::Act(action) => text.extend_from_slice(action.bytes()),
+        Program::Seq(left, right) => write_joined(text, left, b";", right),
+        Program::Alt(left, right) => write_joined(text, left, b"+", right),
+        Program::Star(operand) => {
+            write_program(text, operand)?;
+            text.extend_from_slice(b"*")
+        }
+        Program::Test(formula) => {
+            text.extend_from_slice(b"(")?;
+            write_term(text, formula)?;
+            text.extend_from_slice(b")?")
+        }
+    }
+}
+
+// `(left sign right)`
+#[cycle(printer)]
+fn write_joined(
+    text: &mut Vec<u8>,
+    left: &Program,
+    sign: &[u8],
+    right: &Program,
+) -> Result<(), AllocError>
+    ensures { OnOk result (text.new.items ≡
+        text.old.items ++ (codes "(" ++ program_text (program_of left.now) ++ sign.now
+        ++ program_text (program_of right.now) ++ codes ")")) }
+{
+    text.extend_from_slice(b"(")?;
+    write_program(text, left)?;
+    text.extend_from_slice(sign)?;
+    write_program(text, right)?;
+    text.extend_from_slice(b")")
+}

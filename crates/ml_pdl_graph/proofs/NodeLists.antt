@@ -1,0 +1,323 @@
+-- Where the lists of a formula's graph stand in a graph, the formula stands.
+--
+--   length-nodes, length-program_nodes, .. == two for each occurrence
+--   NamesIn ps acts f, ProgramNamesIn ps acts p == each name of f, or of p, is at its place
+--   stands, program_stands                 == the nodes and priorities of a formula, or of a program, say what stands there
+--   one_symbol, program_symbol, one_weight == each formula, program and connective has an occurrence
+use Rattle.std.proofs.Common.{◌≡◌, ℕ, ◌+◌, ◌*◌, ◌≤◌, List, [], ◌∷◌, ◌++◌, length, get_or, refl, ap, subst, arith, length-append}
+use Rattle.ml_graph.specs.Graph.{Graph}
+use Rattle.ml_graph.specs.declared.node.Node.{Node}
+use Rattle.ml_graph.specs.declared.node.Node.TheVariants as node
+use Rattle.ml_text.specs.declared.token.Operator.{Operator}
+use Rattle.ml_text.specs.declared.token.Operator.TheVariants as operator
+use Rattle.ml_pdl.specs.Formula.{Formula, Const, Prop, Not, Binary, Modal, Repeat, Program, Act, Seq, Alt, Star, Test, Diamond, Square, occurrences, program_occurrences, weight}
+use Rattle.ml_pdl_graph.specs.PdlGraph.{positive, negative, diamond, box, plain, IsNode, StandsAt, ProgramStandsAt}
+use Rattle.ml_pdl_graph.specs.private.NodeList.{place_of, operator_nodes, operator_priorities, nodes_of, program_nodes, priorities_of, program_priorities}
+use Rattle.ml_pdl_graph.proofs.Holding.{Holds, held_first, held_later, held_left, held_right, held_at}
+
+length-operator : (op : Operator) (i l r : ℕ) → length (operator_nodes op i l r) ≡ 2 * weight op
+length-operator operator.And i l r = refl
+length-operator operator.Or i l r = refl
+length-operator operator.Implies i l r = refl
+length-operator operator.Iff i l r = refl
+
+length-operator_priorities : (op : Operator) → length (operator_priorities op) ≡ 2 * weight op
+length-operator_priorities operator.And = refl
+length-operator_priorities operator.Or = refl
+length-operator_priorities operator.Implies = refl
+length-operator_priorities operator.Iff = refl
+
+mutual
+  pub length-nodes : (ps acts : List (List ℕ)) (i : ℕ) (f : Formula) → length (nodes_of ps acts i f) ≡ 2 * occurrences f
+  length-nodes ps acts i (Const v) = refl
+  length-nodes ps acts i (Prop p) = refl
+  length-nodes ps acts i (Not f) = omega (arith, length-nodes ps acts (i + 1) f)
+  length-nodes ps acts i (Binary op f h) =
+      let l = i + weight op in
+      let r = l + occurrences f in
+      omega (
+        arith,
+        length-append (operator_nodes op i l r) (nodes_of ps acts l f ++ nodes_of ps acts r h),
+        length-append (nodes_of ps acts l f) (nodes_of ps acts r h),
+        length-operator op i l r,
+        length-nodes ps acts l f,
+        length-nodes ps acts r h,
+      )
+  length-nodes ps acts i (Modal Diamond p f) =
+      let l = i + 1 in
+      let r = l + program_occurrences p in
+      omega (
+        arith,
+        length-append (program_nodes ps acts l (positive r) (negative r) p) (nodes_of ps acts r f),
+        length-program_nodes ps acts l (positive r) (negative r) p,
+        length-nodes ps acts r f,
+      )
+  length-nodes ps acts i (Modal Square p f) =
+      let l = i + 1 in
+      let r = l + program_occurrences p in
+      omega (
+        arith,
+        length-append (program_nodes ps acts l (negative r) (positive r) p) (nodes_of ps acts r f),
+        length-program_nodes ps acts l (negative r) (positive r) p,
+        length-nodes ps acts r f,
+      )
+  length-nodes ps acts i (Repeat p) = omega (arith, length-program_nodes ps acts (i + 1) (positive i) (negative i) p)
+
+  pub length-program_nodes : (ps acts : List (List ℕ)) (i d b : ℕ) (p : Program)
+      → length (program_nodes ps acts i d b p) ≡ 2 * program_occurrences p
+  length-program_nodes ps acts i d b (Act a) = refl
+  length-program_nodes ps acts i d b (Seq p q) =
+      let l = i + 1 in
+      let r = l + program_occurrences p in
+      omega (
+        arith,
+        length-append (program_nodes ps acts l (diamond r) (box r) p) (program_nodes ps acts r d b q),
+        length-program_nodes ps acts l (diamond r) (box r) p,
+        length-program_nodes ps acts r d b q,
+      )
+  length-program_nodes ps acts i d b (Alt p q) =
+      let l = i + 1 in
+      let r = l + program_occurrences p in
+      omega (
+        arith,
+        length-append (program_nodes ps acts l d b p) (program_nodes ps acts r d b q),
+        length-program_nodes ps acts l d b p,
+        length-program_nodes ps acts r d b q,
+      )
+  length-program_nodes ps acts i d b (Star p) = omega (arith, length-program_nodes ps acts (i + 1) (diamond i) (box i) p)
+  length-program_nodes ps acts i d b (Test f) = omega (arith, length-nodes ps acts (i + 1) f)
+
+mutual
+  pub length-priorities : (f : Formula) → length (priorities_of f) ≡ 2 * occurrences f
+  length-priorities (Const b) = refl
+  length-priorities (Prop p) = refl
+  length-priorities (Not f) = omega (arith, length-priorities f)
+  length-priorities (Binary op f h) =
+      omega (
+        arith,
+        length-append (operator_priorities op) (priorities_of f ++ priorities_of h),
+        length-append (priorities_of f) (priorities_of h),
+        length-operator_priorities op,
+        length-priorities f,
+        length-priorities h,
+      )
+  length-priorities (Modal m p f) =
+      omega (arith, length-append (program_priorities p) (priorities_of f), length-program_priorities p, length-priorities f)
+  length-priorities (Repeat p) = omega (arith, length-program_priorities p)
+
+  pub length-program_priorities : (p : Program) → length (program_priorities p) ≡ 2 * program_occurrences p
+  length-program_priorities (Act a) = refl
+  length-program_priorities (Seq p q) =
+      omega (arith, length-append (program_priorities p) (program_priorities q), length-program_priorities p, length-program_priorities q)
+  length-program_priorities (Alt p q) =
+      omega (arith, length-append (program_priorities p) (program_priorities q), length-program_priorities p, length-program_priorities q)
+  length-program_priorities (Star p) = omega (arith, length-program_priorities p)
+  length-program_priorities (Test f) = omega (arith, length-priorities f)
+
+abbrev mutual
+  pub NamesIn : List (List ℕ) → List (List ℕ) → Formula → Type 0
+  NamesIn ps acts (Const b) = Unit {0}
+  NamesIn ps acts (Prop p) = get_or ps (place_of ps p) [] ≡ p
+  NamesIn ps acts (Not f) = NamesIn ps acts f
+  NamesIn ps acts (Binary op f h) = NamesIn ps acts f × NamesIn ps acts h
+  NamesIn ps acts (Modal m p f) = ProgramNamesIn ps acts p × NamesIn ps acts f
+  NamesIn ps acts (Repeat p) = ProgramNamesIn ps acts p
+
+  pub ProgramNamesIn : List (List ℕ) → List (List ℕ) → Program → Type 0
+  ProgramNamesIn ps acts (Act a) = get_or acts (place_of acts a) [] ≡ a
+  ProgramNamesIn ps acts (Seq p q) = ProgramNamesIn ps acts p × ProgramNamesIn ps acts q
+  ProgramNamesIn ps acts (Alt p q) = ProgramNamesIn ps acts p × ProgramNamesIn ps acts q
+  ProgramNamesIn ps acts (Star p) = ProgramNamesIn ps acts p
+  ProgramNamesIn ps acts (Test f) = NamesIn ps acts f
+
+-- lists of a part stand in those of a graph, as the occurrence i
+pub record Stand (g : Graph) (i : ℕ) (nodes : List Node) (priorities : List ℕ) : Type 0 where
+  pub nodes_held : Holds g.nodes (2 * i) nodes
+  pub priorities_held : Holds g.priorities (2 * i) priorities
+
+-- two nodes at an occurrence, and what stands behind them
+pub record Pair (g : Graph) (i : ℕ) (a b : Node) (p q : ℕ) (nodes : List Node) (priorities : List ℕ) : Type 0 where
+  pub first : IsNode g (2 * i) a p
+  pub second : IsNode g (2 * i + 1) b q
+  pub behind : Stand g (i + 1) nodes priorities
+
+pair : (g : Graph) (i : ℕ) (a b : Node) (p q : ℕ) (nodes : List Node) (priorities : List ℕ)
+    → Stand g i (a ∷ b ∷ nodes) (p ∷ q ∷ priorities)
+    → Pair g i a b p q nodes priorities
+pair g i a b p q nodes priorities s =
+    let n = 2 * i in
+    let h = s.nodes_held in
+    let k = s.priorities_held in
+    let h1 = held_later g.nodes n a (b ∷ nodes) h in
+    let k1 = held_later g.priorities n p (q ∷ priorities) k in
+    record {
+      first = (held_first g.nodes n a (b ∷ nodes) node.True h, held_first g.priorities n p (q ∷ priorities) 0 k);
+      second = (held_first g.nodes (n + 1) b nodes node.True h1, held_first g.priorities (n + 1) q priorities 0 k1);
+      behind = record {
+        nodes_held = held_at g.nodes (n + 1 + 1) (2 * (i + 1)) nodes (omega arith) (held_later g.nodes (n + 1) b nodes h1);
+        priorities_held =
+            held_at g.priorities (n + 1 + 1) (2 * (i + 1)) priorities (omega arith)
+            (held_later g.priorities (n + 1) q priorities k1);
+      };
+    }
+
+-- two parts behind one another, of which the first has so many occurrences
+pub record Parts (g : Graph) (l r : ℕ) (xs ys : List Node) (ps qs : List ℕ) : Type 0 where
+  pub left : Stand g l xs ps
+  pub right : Stand g r ys qs
+
+parts : (g : Graph) (l r size : ℕ) (xs ys : List Node) (ps qs : List ℕ)
+    → Stand g l (xs ++ ys) (ps ++ qs)
+    → length xs ≡ 2 * size
+    → length ps ≡ 2 * size
+    → r ≡ l + size
+    → Parts g l r xs ys ps qs
+parts g l r size xs ys ps qs s long wide is = record {
+  left = record {
+    nodes_held = held_left g.nodes (2 * l) xs ys s.nodes_held;
+    priorities_held = held_left g.priorities (2 * l) ps qs s.priorities_held;
+  };
+  right = record {
+    nodes_held =
+        held_at g.nodes (2 * l + length xs) (2 * r) ys (omega (arith, long, is))
+        (held_right g.nodes (2 * l) xs ys s.nodes_held);
+    priorities_held =
+        held_at g.priorities (2 * l + length ps) (2 * r) qs (omega (arith, wide, is))
+        (held_right g.priorities (2 * l) ps qs s.priorities_held);
+  };
+}
+
+-- the two operands of a connective
+operands : (g : Graph) (l r : ℕ) (f h : Formula)
+    → Stand g l (nodes_of g.props g.actions l f ++ nodes_of g.props g.actions r h) (priorities_of f ++ priorities_of h)
+    → r ≡ l + occurrences f
+    → Parts g l r (nodes_of g.props g.actions l f) (nodes_of g.props g.actions r h) (priorities_of f) (priorities_of h)
+operands g l r f h s is =
+    parts g l r (occurrences f) (nodes_of g.props g.actions l f) (nodes_of g.props g.actions r h) (priorities_of f)
+    (priorities_of h) s (length-nodes g.props g.actions l f) (length-priorities f) is
+
+-- a program and the formula behind it
+modal_parts : (g : Graph) (l r d b : ℕ) (p : Program) (f : Formula)
+    → Stand g l (program_nodes g.props g.actions l d b p ++ nodes_of g.props g.actions r f) (program_priorities p ++ priorities_of f)
+    → r ≡ l + program_occurrences p
+    → Parts g l r (program_nodes g.props g.actions l d b p) (nodes_of g.props g.actions r f) (program_priorities p) (priorities_of f)
+modal_parts g l r d b p f s is =
+    parts g l r (program_occurrences p) (program_nodes g.props g.actions l d b p) (nodes_of g.props g.actions r f)
+    (program_priorities p) (priorities_of f) s (length-program_nodes g.props g.actions l d b p) (length-program_priorities p) is
+
+-- two programs
+program_parts : (g : Graph) (l r d b e c : ℕ) (p q : Program)
+    → Stand g l (program_nodes g.props g.actions l d b p ++ program_nodes g.props g.actions r e c q)
+    (program_priorities p ++ program_priorities q)
+    → r ≡ l + program_occurrences p
+    → Parts g l r (program_nodes g.props g.actions l d b p) (program_nodes g.props g.actions r e c q)
+    (program_priorities p) (program_priorities q)
+program_parts g l r d b e c p q s is =
+    parts g l r (program_occurrences p) (program_nodes g.props g.actions l d b p) (program_nodes g.props g.actions r e c q)
+    (program_priorities p) (program_priorities q) s (length-program_nodes g.props g.actions l d b p)
+    (length-program_priorities p) is
+
+mutual
+  pub stands : (g : Graph) (i : ℕ) (f : Formula)
+      → NamesIn g.props g.actions f
+      → Stand g i (nodes_of g.props g.actions i f) (priorities_of f)
+      → StandsAt g i f
+  stands g i (Const b) names s = let p = pair g i _ _ plain plain [] [] s in (p.first, p.second)
+  stands g i (Prop p) names s =
+      let q = pair g i _ _ plain plain [] [] s in
+      ((place_of g.props p, q.first, names), (place_of g.props p, q.second, names))
+  stands g i (Not f) names s =
+      let p = pair g i _ _ plain plain _ _ s in (p.first, p.second, stands g (i + 1) f names p.behind)
+  stands g i (Binary operator.And f h) names s =
+      let p = pair g i _ _ plain plain _ _ s in
+      let o = operands g (i + 1) (i + 1 + occurrences f) f h p.behind refl in
+      (p.first, p.second, stands g (i + 1) f names.0 o.left, stands g (i + 1 + occurrences f) h names.1 o.right)
+  stands g i (Binary operator.Or f h) names s =
+      let p = pair g i _ _ plain plain _ _ s in
+      let o = operands g (i + 1) (i + 1 + occurrences f) f h p.behind refl in
+      (p.first, p.second, stands g (i + 1) f names.0 o.left, stands g (i + 1 + occurrences f) h names.1 o.right)
+  stands g i (Binary operator.Implies f h) names s =
+      let p = pair g i _ _ plain plain _ _ s in
+      let o = operands g (i + 1) (i + 1 + occurrences f) f h p.behind refl in
+      (p.first, p.second, stands g (i + 1) f names.0 o.left, stands g (i + 1 + occurrences f) h names.1 o.right)
+  stands g i (Binary operator.Iff f h) names s =
+      let p = pair g i _ _ plain plain _ _ s in
+      let q = pair g (i + 1) _ _ plain plain _ _ p.behind in
+      let r = pair g (i + 1 + 1) _ _ plain plain _ _ q.behind in
+      let l = i + 3 in
+      let two : i + 1 + 1 ≡ i + 2 = omega arith in
+      let three : i + 1 + 1 + 1 ≡ i + 3 = omega arith in
+      let behind = subst (λ k. Stand g k (nodes_of g.props g.actions l f ++ nodes_of g.props g.actions (l + occurrences f) h) (priorities_of f ++ priorities_of h)) three r.behind in
+      let o = operands g l (l + occurrences f) f h behind refl in (
+        p.first,
+        p.second,
+        q.first,
+        q.second,
+        subst (λ k. IsNode g (positive k) (node.And (negative l) (negative (l + occurrences f))) plain) two r.first,
+        subst (λ k. IsNode g (negative k) (node.And (negative l) (positive (l + occurrences f))) plain) two r.second,
+        stands g l f names.0 o.left,
+        stands g (l + occurrences f) h names.1 o.right,
+      )
+  stands g i (Modal Diamond p f) names s =
+      let l = i + 1 in
+      let r = l + program_occurrences p in
+      let here = pair g i _ _ plain plain _ _ s in
+      let o = modal_parts g l r (positive r) (negative r) p f here.behind refl in
+      (here.first, here.second, program_stands g l (positive r) (negative r) p names.0 o.left, stands g r f names.1 o.right)
+  stands g i (Modal Square p f) names s =
+      let l = i + 1 in
+      let r = l + program_occurrences p in
+      let here = pair g i _ _ plain plain _ _ s in
+      let o = modal_parts g l r (negative r) (positive r) p f here.behind refl in
+      (here.first, here.second, program_stands g l (negative r) (positive r) p names.0 o.left, stands g r f names.1 o.right)
+  stands g i (Repeat p) names s =
+      let here = pair g i _ _ 0 1 _ _ s in
+      (here.first, here.second, program_stands g (i + 1) (positive i) (negative i) p names here.behind)
+
+  pub program_stands : (g : Graph) (i d b : ℕ) (p : Program)
+      → ProgramNamesIn g.props g.actions p
+      → Stand g i (program_nodes g.props g.actions i d b p) (program_priorities p)
+      → ProgramStandsAt g i d b p
+  program_stands g i d b (Act a) names s =
+      let q = pair g i _ _ plain plain [] [] s in (place_of g.actions a, q.first, q.second, names)
+  program_stands g i d b (Seq p q) names s =
+      let l = i + 1 in
+      let r = l + program_occurrences p in
+      let here = pair g i _ _ plain plain _ _ s in
+      let o = program_parts g l r (diamond r) (box r) d b p q here.behind refl in
+      (here.first, here.second, program_stands g l (diamond r) (box r) p names.0 o.left, program_stands g r d b q names.1 o.right)
+  program_stands g i d b (Alt p q) names s =
+      let l = i + 1 in
+      let r = l + program_occurrences p in
+      let here = pair g i _ _ plain plain _ _ s in
+      let o = program_parts g l r d b d b p q here.behind refl in
+      (here.first, here.second, program_stands g l d b p names.0 o.left, program_stands g r d b q names.1 o.right)
+  program_stands g i d b (Star p) names s =
+      let here = pair g i _ _ 3 2 _ _ s in
+      (here.first, here.second, program_stands g (i + 1) (diamond i) (box i) p names here.behind)
+  program_stands g i d b (Test f) names s =
+      let here = pair g i _ _ plain plain _ _ s in
+      (here.first, here.second, stands g (i + 1) f names here.behind)
+
+-- ---- each has an occurrence
+
+pub one_weight : (op : Operator) → 1 ≤ weight op
+one_weight operator.And = omega arith
+one_weight operator.Or = omega arith
+one_weight operator.Implies = omega arith
+one_weight operator.Iff = omega arith
+
+pub one_symbol : (f : Formula) → 1 ≤ occurrences f
+one_symbol (Const b) = omega arith
+one_symbol (Prop p) = omega arith
+one_symbol (Not f) = omega arith
+one_symbol (Binary op f h) = omega (arith, one_weight op)
+one_symbol (Modal m p f) = omega arith
+one_symbol (Repeat p) = omega arith
+
+pub program_symbol : (p : Program) → 1 ≤ program_occurrences p
+program_symbol (Act a) = omega arith
+program_symbol (Seq p q) = omega arith
+program_symbol (Alt p q) = omega arith
+program_symbol (Star p) = omega arith
+program_symbol (Test f) = omega arith

@@ -1,0 +1,4 @@
+-- What private contracts and proofs cite; what a formula's graph is, is said without it.
+
+-- the lists of a graph
+pub mod NodeList

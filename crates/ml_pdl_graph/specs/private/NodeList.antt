@@ -1,0 +1,134 @@
+-- The lists of a formula's graph: names, nodes and priorities, in the order in which a program makes them.
+--
+--   with_name ps p                == the names ps, and behind them p if it isn't among them
+--   props_onto f ps, program_props_onto p ps         == these, and behind them the propositions of f, or of p
+--   actions_onto f acts, program_actions_onto p acts == these, and behind them the actions
+--   place_of ps p                 == the place of the name p
+--   nodes_of ps acts i f          == the nodes of f as the occurrence i, with these names
+--   program_nodes ps acts i d b p == those of the program p, whose diamond goes on at the node d and whose box at b
+--   priorities_of f, program_priorities p == their priorities
+use Rattle.std.specs.Prelude.{ℕ, ◌+◌, true, false, not, if◌then◌else◌, List, [], ◌∷◌, ◌++◌, unwrap_or, position}
+use Rattle.std.specs.List.{list_any}
+use Rattle.std.specs.Str.{bytes_eq}
+use Rattle.ml_graph.specs.declared.node.Node.{Node}
+use Rattle.ml_graph.specs.declared.node.Node.TheVariants as node
+use Rattle.ml_text.specs.declared.token.Operator.{Operator}
+use Rattle.ml_text.specs.declared.token.Operator.TheVariants as operator
+use Rattle.ml_pdl.specs.Formula.{Formula, Const, Prop, Not, Binary, Modal, Repeat, Program, Act, Seq, Alt, Star, Test, Diamond, Square, occurrences, program_occurrences, weight}
+use Rattle.ml_pdl_graph.specs.PdlGraph.{positive, negative, diamond, box, constant, plain}
+
+abbrev pub with_name : List (List ℕ) → List ℕ → List (List ℕ)
+with_name ps p = if list_any (bytes_eq p) ps then ps else ps ++ p ∷ []
+
+abbrev mutual
+  pub props_onto : Formula → List (List ℕ) → List (List ℕ)
+  props_onto (Const b) ps = ps
+  props_onto (Prop p) ps = with_name ps p
+  props_onto (Not f) ps = props_onto f ps
+  props_onto (Binary op f h) ps = props_onto h (props_onto f ps)
+  props_onto (Modal m p f) ps = props_onto f (program_props_onto p ps)
+  props_onto (Repeat p) ps = program_props_onto p ps
+
+  pub program_props_onto : Program → List (List ℕ) → List (List ℕ)
+  program_props_onto (Act a) ps = ps
+  program_props_onto (Seq p q) ps = program_props_onto q (program_props_onto p ps)
+  program_props_onto (Alt p q) ps = program_props_onto q (program_props_onto p ps)
+  program_props_onto (Star p) ps = program_props_onto p ps
+  program_props_onto (Test f) ps = props_onto f ps
+
+abbrev mutual
+  pub actions_onto : Formula → List (List ℕ) → List (List ℕ)
+  actions_onto (Const b) acts = acts
+  actions_onto (Prop p) acts = acts
+  actions_onto (Not f) acts = actions_onto f acts
+  actions_onto (Binary op f h) acts = actions_onto h (actions_onto f acts)
+  actions_onto (Modal m p f) acts = actions_onto f (program_actions_onto p acts)
+  actions_onto (Repeat p) acts = program_actions_onto p acts
+
+  pub program_actions_onto : Program → List (List ℕ) → List (List ℕ)
+  program_actions_onto (Act a) acts = with_name acts a
+  program_actions_onto (Seq p q) acts = program_actions_onto q (program_actions_onto p acts)
+  program_actions_onto (Alt p q) acts = program_actions_onto q (program_actions_onto p acts)
+  program_actions_onto (Star p) acts = program_actions_onto p acts
+  program_actions_onto (Test f) acts = actions_onto f acts
+
+abbrev pub place_of : List (List ℕ) → List ℕ → ℕ
+place_of ps p = unwrap_or (position (bytes_eq p) ps) 0
+
+abbrev pub lead_to : ℕ → Node
+lead_to n = node.And n n
+
+-- the nodes of a connective as the occurrence i, with its operands as l and r
+abbrev pub operator_nodes : Operator → ℕ → ℕ → ℕ → List Node
+operator_nodes operator.And i l r =
+    node.And (positive l) (positive r) ∷ node.Or (negative l) (negative r) ∷ []
+operator_nodes operator.Or i l r =
+    node.Or (positive l) (positive r) ∷ node.And (negative l) (negative r) ∷ []
+operator_nodes operator.Implies i l r =
+    node.Or (negative l) (positive r) ∷ node.And (positive l) (negative r) ∷ []
+operator_nodes operator.Iff i l r =
+    node.Or (positive (i + 1)) (positive (i + 2))
+    ∷ node.Or (negative (i + 1)) (negative (i + 2))
+    ∷ node.And (positive l) (positive r)
+    ∷ node.And (positive l) (negative r)
+    ∷ node.And (negative l) (negative r)
+    ∷ node.And (negative l) (positive r)
+    ∷ []
+
+abbrev pub operator_priorities : Operator → List ℕ
+operator_priorities operator.And = plain ∷ plain ∷ []
+operator_priorities operator.Or = plain ∷ plain ∷ []
+operator_priorities operator.Implies = plain ∷ plain ∷ []
+operator_priorities operator.Iff = plain ∷ plain ∷ plain ∷ plain ∷ plain ∷ plain ∷ []
+
+abbrev mutual
+  pub nodes_of : List (List ℕ) → List (List ℕ) → ℕ → Formula → List Node
+  nodes_of ps acts i (Const v) = constant v ∷ constant (not v) ∷ []
+  nodes_of ps acts i (Prop p) = node.Lit (place_of ps p) true ∷ node.Lit (place_of ps p) false ∷ []
+  nodes_of ps acts i (Not f) =
+      lead_to (negative (i + 1)) ∷ lead_to (positive (i + 1)) ∷ nodes_of ps acts (i + 1) f
+  nodes_of ps acts i (Binary op f h) =
+      let l = i + weight op in let r = l + occurrences f in
+      operator_nodes op i l r ++ (nodes_of ps acts l f ++ nodes_of ps acts r h)
+  nodes_of ps acts i (Modal Diamond p f) =
+      let l = i + 1 in let r = l + program_occurrences p in
+      lead_to (diamond l) ∷ lead_to (box l)
+      ∷ (program_nodes ps acts l (positive r) (negative r) p ++ nodes_of ps acts r f)
+  nodes_of ps acts i (Modal Square p f) =
+      let l = i + 1 in let r = l + program_occurrences p in
+      lead_to (box l) ∷ lead_to (diamond l)
+      ∷ (program_nodes ps acts l (negative r) (positive r) p ++ nodes_of ps acts r f)
+  nodes_of ps acts i (Repeat p) =
+      lead_to (diamond (i + 1)) ∷ lead_to (box (i + 1)) ∷ program_nodes ps acts (i + 1) (positive i) (negative i) p
+
+  pub program_nodes : List (List ℕ) → List (List ℕ) → ℕ → ℕ → ℕ → Program → List Node
+  program_nodes ps acts i d b (Act a) =
+      node.Diamond (place_of acts a) d ∷ node.Square (place_of acts a) b ∷ []
+  program_nodes ps acts i d b (Seq p q) =
+      let l = i + 1 in let r = l + program_occurrences p in
+      lead_to (diamond l) ∷ lead_to (box l)
+      ∷ (program_nodes ps acts l (diamond r) (box r) p ++ program_nodes ps acts r d b q)
+  program_nodes ps acts i d b (Alt p q) =
+      let l = i + 1 in let r = l + program_occurrences p in
+      node.Or (diamond l) (diamond r) ∷ node.And (box l) (box r)
+      ∷ (program_nodes ps acts l d b p ++ program_nodes ps acts r d b q)
+  program_nodes ps acts i d b (Star p) =
+      node.Or d (diamond (i + 1)) ∷ node.And b (box (i + 1)) ∷ program_nodes ps acts (i + 1) (diamond i) (box i) p
+  program_nodes ps acts i d b (Test f) =
+      node.And (positive (i + 1)) d ∷ node.Or (negative (i + 1)) b ∷ nodes_of ps acts (i + 1) f
+
+abbrev mutual
+  pub priorities_of : Formula → List ℕ
+  priorities_of (Const b) = plain ∷ plain ∷ []
+  priorities_of (Prop p) = plain ∷ plain ∷ []
+  priorities_of (Not f) = plain ∷ plain ∷ priorities_of f
+  priorities_of (Binary op f h) = operator_priorities op ++ (priorities_of f ++ priorities_of h)
+  priorities_of (Modal m p f) = plain ∷ plain ∷ (program_priorities p ++ priorities_of f)
+  priorities_of (Repeat p) = 0 ∷ 1 ∷ program_priorities p
+
+  pub program_priorities : Program → List ℕ
+  program_priorities (Act a) = plain ∷ plain ∷ []
+  program_priorities (Seq p q) = plain ∷ plain ∷ (program_priorities p ++ program_priorities q)
+  program_priorities (Alt p q) = plain ∷ plain ∷ (program_priorities p ++ program_priorities q)
+  program_priorities (Star p) = 3 ∷ 2 ∷ program_priorities p
+  program_priorities (Test f) = plain ∷ plain ∷ priorities_of f

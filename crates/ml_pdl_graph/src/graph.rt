@@ -1,0 +1,460 @@
+// The graph of a formula.
+ghost use Rattle.std.specs.Prelude.{◌≡◌, ◌+◌, ◌*◌, ◌^◌, ◌≤◌, ◌<◌, ◌++◌, if◌then◌else◌, [], ◌∷◌, length, IfOk, OnOk};
+ghost use Rattle.ml_graph.specs.declared.node.Node.TheVariants as graph_node;
+ghost use Rattle.ml_pdl.specs.Formula as pdl;
+ghost use Rattle.ml_pdl.specs.Formula.{occurrences, program_occurrences};
+ghost use Rattle.ml_pdl.specs.Term.{formula_of, program_of};
+ghost use Rattle.ml_pdl_graph.specs.PdlGraph as graph;
+ghost use Rattle.ml_pdl_graph.specs.Laws.{HoldsWhere};
+ghost use Rattle.ml_pdl_graph.specs.PdlGraph.{IsGraphOf};
+ghost use Rattle.ml_pdl_graph.specs.private.NodeList as listed;
+
+use crate::names::Names;
+use ml_base::{Action, Name, NoMemory};
+use ml_graph::{ModalGraph, Node};
+use ml_pdl::{Formula, Program, Term};
+use ml_text::{MOST_OCCURRENCES, Operator};
+use std::alloc::{AllocError, Global};
+
+// the two nodes of an occurrence, of a program those of its diamond and of its box
+fn positive(at: u32) -> u32
+    requires { at < 1000 + 1000 }
+    ensures { result ≡ graph.positive at }
+{
+    2 * at
+}
+
+fn negative(at: u32) -> u32
+    requires { at < 1000 + 1000 }
+    ensures { result ≡ graph.negative at }
+{
+    2 * at + 1
+}
+
+fn lead_to(to: u32) -> Node
+    ensures { result ≡ listed.lead_to to }
+{
+    Node::And {
+        left: to,
+        right: to,
+    }
+}
+
+fn constant(value: bool) -> Node
+    ensures { result ≡ graph.constant value }
+{
+    if value { Node::True } else { Node::False }
+}
+
+fn and(left: u32, right: u32) -> Node
+    ensures { result ≡ graph_node.And left right }
+{
+    Node::And { left, right }
+}
+
+fn or(left: u32, right: u32) -> Node
+    ensures { result ≡ graph_node.Or left right }
+{
+    Node::Or { left, right }
+}
+
+// how many occurrences a term has
+#[cycle(counting)]
+fn count(term: &Term) -> u32
+    requires { occurrences (formula_of term.now) ≤ MOST_OCCURRENCES }
+    ensures { result ≡ occurrences (formula_of term.now) }
+{
+    match term {
+        Term::Const(_) | Term::Prop(_) => 1,
+        Term::Not(operand) => 1 + count(operand),
+        Term::And(left, right) | Term::Or(left, right) | Term::Implies(left, right) => {
+            1 + count(left) + count(right)
+        }
+        Term::Iff(left, right) => 3 + count(left) + count(right),
+        Term::Diamond(program, operand) | Term::Square(program, operand) => {
+            1 + count_program(program) + count(operand)
+        }
+        Term::Repeat(program) => 1 + count_program(program),
+    }
+}
+
+#[cycle(counting)]
+fn count_program(program: &Program) -> u32
+    requires { program_occurrences (program_of program.now) ≤ MOST_OCCURRENCES }
+    ensures { result ≡ program_occurrences (program_of program.now) }
+{
+    match program {
+        Program::Act(_) => 1,
+        Program::Seq(left, right) | Program::Alt(left, right) => {
+            1 + count_program(left) + count_program(right)
+        }
+        Program::Star(operand) => 1 + count_program(operand),
+        Program::Test(formula) => 1 + count(formula),
+    }
+}
+
+// the nodes and priorities so far
+#[derive(Drop)]
+struct Draft {
+    nodes: Vec<Node>,
+    priorities: Vec<u32>,
+}
+
+// two nodes of an occurrence, with their priorities
+fn put(draft: &mut Draft, nodes: (Node, Node), priorities: (u32, u32)) -> Result<(), AllocError>
+    ensures nodes { OnOk result (draft.new.nodes.items ≡ draft.old.nodes.items ++ nodes.0 ∷ nodes.1 ∷ []) }
+    ensures priorities { OnOk result (draft.new.priorities.items ≡ draft.old.priorities.items ++ priorities.0 ∷ priorities.1 ∷ []) }
+{
+    draft.nodes.push(nodes.0)?;
+    draft.nodes.push(nodes.1)?;
+    draft.priorities.push(priorities.0)?;
+    draft.priorities.push(priorities.1)?;
+    Ok(())
+}
+
+// the same of nodes that are of no star and of no infinite repetition
+fn put_plain(draft: &mut Draft, nodes: (Node, Node)) -> Result<(), AllocError>
+    ensures nodes { OnOk result (draft.new.nodes.items ≡ draft.old.nodes.items ++ nodes.0 ∷ nodes.1 ∷ []) }
+    ensures priorities { OnOk result (draft.new.priorities.items
+        ≡ draft.old.priorities.items ++ graph.plain ∷ graph.plain ∷ []) }
+{
+    put(draft, nodes, (4, 4))
+}
+
+fn weight(operator: Operator) -> u32
+    ensures { result ≡ pdl.weight operator }
+{
+    match operator {
+        Operator::Iff => 3,
+        Operator::Implies | Operator::Or | Operator::And => 1,
+    }
+}
+
+// the nodes of a connective as the occurrence `at`, with its operands as l and r
+fn put_connective(
+    draft: &mut Draft,
+    operator: Operator,
+    at: u32,
+    l: u32,
+    r: u32,
+) -> Result<(), AllocError>
+    requires { (at ≤ 1000) × (l ≤ 1000) × (r ≤ 1000) }
+    ensures nodes { OnOk result (draft.new.nodes.items ≡ draft.old.nodes.items ++ listed.operator_nodes operator at l r) }
+    ensures priorities { OnOk result (draft.new.priorities.items
+        ≡ draft.old.priorities.items ++ listed.operator_priorities operator) }
+{
+    match operator {
+        Operator::And => put_plain(
+            draft,
+            (and(positive(l), positive(r)), or(negative(l), negative(r))),
+        ),
+        Operator::Or => put_plain(
+            draft,
+            (or(positive(l), positive(r)), and(negative(l), negative(r))),
+        ),
+        Operator::Implies => put_plain(
+            draft,
+            (or(negative(l), positive(r)), and(positive(l), negative(r))),
+        ),
+        Operator::Iff => {
+            let both = at + 1;
+            let neither = at + 2;
+            put_plain(
+                draft,
+                (
+                    or(positive(both), positive(neither)),
+                    or(negative(both), negative(neither)),
+                ),
+            )?;
+            put_plain(
+                draft,
+                (and(positive(l), positive(r)), and(positive(l), negative(r))),
+            )?;
+            put_plain(
+                draft,
+                (and(negative(l), negative(r)), and(negative(l), positive(r))),
+            )
+        }
+    }
+}
+
+// the nodes and priorities of a term as the occurrence `at`
+#[cycle(placing)]
+fn place(draft: &mut Draft, names: &Names, at: u32, term: &Term) -> Result<(), AllocError>
+    requires names { (length names.now.props.keys < 2 ^ 32) × (length names.now.actions.keys < 2 ^ 32) }
+    requires few { at + occurrences (formula_of term.now) ≤ 1000 }
+    ensures nodes { OnOk result (draft.new.nodes.items ≡ draft.old.nodes.items
+        ++ listed.nodes_of names.now.props.keys names.now.actions.keys at (formula_of term.now)) }
+    ensures priorities { OnOk result (draft.new.priorities.items ≡ draft.old.priorities.items
+        ++ listed.priorities_of (formula_of term.now)) }
+{
+    match term {
+        Term::Const(value) => put_plain(draft, (constant(*value), constant(!*value))),
+        Term::Prop(name) => {
+            let prop = names.proposition(name);
+            let yes = Node::Lit {
+                prop,
+                positive: true,
+            };
+            let no = Node::Lit {
+                prop,
+                positive: false,
+            };
+            put_plain(draft, (yes, no))
+        }
+        Term::Not(operand) => {
+            put_plain(
+                draft,
+                (lead_to(negative(at + 1)), lead_to(positive(at + 1))),
+            )?;
+            place(draft, names, at + 1, operand)
+        }
+        Term::And(left, right) => place_both(draft, names, at, Operator::And, left, right),
+        Term::Or(left, right) => place_both(draft, names, at, Operator::Or, left, right),
+        Term::Implies(left, right) => place_both(draft, names, at, Operator::Implies, left, right),
+        Term::Iff(left, right) => place_both(draft, names, at, Operator::Iff, left, right),
+        Term::Diamond(program, operand) => place_diamond(draft, names, at, program, operand),
+        Term::Square(program, operand) => place_square(draft, names, at, program, operand),
+        Term::Repeat(program) => {
+            put(
+                draft,
+                (lead_to(positive(at + 1)), lead_to(negative(at + 1))),
+                (0, 1),
+            )?;
+            let again = (positive(at), negative(at));
+            place_program(draft, names, at + 1, again, program)
+        }
+    }
+}
+
+// the same of a connective
+#[cycle(placing)]
+fn place_both(
+    draft: &mut Draft,
+    names: &Names,
+    at: u32,
+    operator: Operator,
+    left: &Term,
+    right: &Term,
+) -> Result<(), AllocError>
+    requires names { (length names.now.props.keys < 2 ^ 32) × (length names.now.actions.keys < 2 ^ 32) }
+    requires few { at + occurrences (pdl.Binary operator (formula_of left.now) (formula_of right.now)) ≤ 1000 }
+    ensures nodes { OnOk result (draft.new.nodes.items ≡ draft.old.nodes.items
+        ++ listed.nodes_of names.now.props.keys names.now.actions.keys at
+        (pdl.Binary operator (formula_of left.now) (formula_of right.now))) }
+    ensures priorities { OnOk result (draft.new.priorities.items ≡ draft.old.priorities.items
+        ++ listed.priorities_of (pdl.Binary operator (formula_of left.now) (formula_of right.now))) }
+{
+    let l = at + weight(operator);
+    let r = l + count(left);
+    put_connective(draft, operator, at, l, r)?;
+    place(draft, names, l, left)?;
+    place(draft, names, r, right)
+}
+
+// the same of `<p>f`
+#[cycle(placing)]
+fn place_diamond(
+    draft: &mut Draft,
+    names: &Names,
+    at: u32,
+    program: &Program,
+    operand: &Term,
+) -> Result<(), AllocError>
+    requires names { (length names.now.props.keys < 2 ^ 32) × (length names.now.actions.keys < 2 ^ 32) }
+    requires few { at + occurrences (pdl.Modal pdl.Diamond (program_of program.now) (formula_of operand.now)) ≤ 1000 }
+    ensures nodes { OnOk result (draft.new.nodes.items ≡ draft.old.nodes.items
+        ++ listed.nodes_of names.now.props.keys names.now.actions.keys at
+        (pdl.Modal pdl.Diamond (program_of program.now) (formula_of operand.now))) }
+    ensures priorities { OnOk result (draft.new.priorities.items ≡ draft.old.priorities.items
+        ++ listed.priorities_of (pdl.Modal pdl.Diamond (program_of program.now) (formula_of operand.now))) }
+{
+    let l = at + 1;
+    let r = l + count_program(program);
+    put_plain(draft, (lead_to(positive(l)), lead_to(negative(l))))?;
+    place_program(draft, names, l, (positive(r), negative(r)), program)?;
+    place(draft, names, r, operand)
+}
+
+// the same of `[p]f`
+#[cycle(placing)]
+fn place_square(
+    draft: &mut Draft,
+    names: &Names,
+    at: u32,
+    program: &Program,
+    operand: &Term,
+) -> Result<(), AllocError>
+    requires names { (length names.now.props.keys < 2 ^ 32) × (length names.now.actions.keys < 2 ^ 32) }
+    requires few { at + occurrences (pdl.Modal pdl.Square (program_of program.now) (formula_of operand.now)) ≤ 1000 }
+    ensures nodes { OnOk result (draft.new.nodes.items ≡ draft.old.nodes.items
+        ++ listed.nodes_of names.now.props.keys names.now.actions.keys at
+        (pdl.Modal pdl.Square (program_of program.now) (formula_of operand.now))) }
+    ensures priorities { OnOk result (draft.new.priorities.items ≡ draft.old.priorities.items
+        ++ listed.priorities_of (pdl.Modal pdl.Square (program_of program.now) (formula_of operand.now))) }
+{
+    let l = at + 1;
+    let r = l + count_program(program);
+    put_plain(draft, (lead_to(negative(l)), lead_to(positive(l))))?;
+    place_program(draft, names, l, (negative(r), positive(r)), program)?;
+    place(draft, names, r, operand)
+}
+
+// the nodes and priorities of a program as the occurrence `at`, whose diamond and box go on at these nodes
+#[cycle(placing)]
+fn place_program(
+    draft: &mut Draft,
+    names: &Names,
+    at: u32,
+    next: (u32, u32),
+    program: &Program,
+) -> Result<(), AllocError>
+    requires names { (length names.now.props.keys < 2 ^ 32) × (length names.now.actions.keys < 2 ^ 32) }
+    requires few { at + program_occurrences (program_of program.now) ≤ 1000 }
+    ensures nodes { OnOk result (draft.new.nodes.items ≡ draft.old.nodes.items
+        ++ listed.program_nodes names.now.props.keys names.now.actions.keys at next.0 next.1 (program_of program.now)) }
+    ensures priorities { OnOk result (draft.new.priorities.items ≡ draft.old.priorities.items
+        ++ listed.program_priorities (program_of program.now)) }
+{
+    let l = at + 1;
+    match program {
+        Program::Act(name) => {
+            let action = names.action(name);
+            let some = Node::Diamond { action, to: next.0 };
+            let every = Node::Square { action, to: next.1 };
+            put_plain(draft, (some, every))
+        }
+        Program::Seq(left, right) => place_sequence(draft, names, at, next, left, right),
+        Program::Alt(left, right) => place_choice(draft, names, at, next, left, right),
+        Program::Star(operand) => {
+            put(
+                draft,
+                (or(next.0, positive(l)), and(next.1, negative(l))),
+                (3, 2),
+            )?;
+            let again = (positive(at), negative(at));
+            place_program(draft, names, l, again, operand)
+        }
+        Program::Test(formula) => {
+            put_plain(draft, (and(positive(l), next.0), or(negative(l), next.1)))?;
+            place(draft, names, l, formula)
+        }
+    }
+}
+
+// the same of `p;q`
+#[cycle(placing)]
+fn place_sequence(
+    draft: &mut Draft,
+    names: &Names,
+    at: u32,
+    next: (u32, u32),
+    left: &Program,
+    right: &Program,
+) -> Result<(), AllocError>
+    requires names { (length names.now.props.keys < 2 ^ 32) × (length names.now.actions.keys < 2 ^ 32) }
+    requires few { at + program_occurrences (pdl.Seq (program_of left.now) (program_of right.now)) ≤ 1000 }
+    ensures nodes { OnOk result (draft.new.nodes.items ≡ draft.old.nodes.items
+        ++ listed.program_nodes names.now.props.keys names.now.actions.keys at next.0 next.1
+        (pdl.Seq (program_of left.now) (program_of right.now))) }
+    ensures priorities { OnOk result (draft.new.priorities.items ≡ draft.old.priorities.items
+        ++ listed.program_priorities (pdl.Seq (program_of left.now) (program_of right.now))) }
+{
+    let l = at + 1;
+    let r = l + count_program(left);
+    put_plain(draft, (lead_to(positive(l)), lead_to(negative(l))))?;
+    place_program(draft, names, l, (positive(r), negative(r)), left)?;
+    place_program(draft, names, r, next, right)
+}
+
+// the same of `p+q`
+#[cycle(placing)]
+fn place_choice(
+    draft: &mut Draft,
+    names: &Names,
+    at: u32,
+    next: (u32, u32),
+    left: &Program,
+    right: &Program,
+) -> Result<(), AllocError>
+    requires names { (length names.now.props.keys < 2 ^ 32) × (length names.now.actions.keys < 2 ^ 32) }
+    requires few { at + program_occurrences (pdl.Alt (program_of left.now) (program_of right.now)) ≤ 1000 }
+    ensures nodes { OnOk result (draft.new.nodes.items ≡ draft.old.nodes.items
+        ++ listed.program_nodes names.now.props.keys names.now.actions.keys at next.0 next.1
+        (pdl.Alt (program_of left.now) (program_of right.now))) }
+    ensures priorities { OnOk result (draft.new.priorities.items ≡ draft.old.priorities.items
+        ++ listed.program_priorities (pdl.Alt (program_of left.now) (program_of right.now))) }
+{
+    let l = at + 1;
+    let r = l + count_program(left);
+    put_plain(
+        draft,
+        (or(positive(l), positive(r)), and(negative(l), negative(r))),
+    )?;
+    place_program(draft, names, l, next, left)?;
+    place_program(draft, names, r, next, right)
+}
+
+// the root is the first occurrence, or its negation
+fn root_of(negated: bool) -> u32
+    ensures { result ≡ (if negated then 1 else 0) }
+{
+    if negated { 1 } else { 0 }
+}
+
+// the lists of a graph
+#[derive(Drop)]
+struct Lists {
+    nodes: Vec<Node>,
+    priorities: Vec<u32>,
+    props: Vec<Name>,
+    actions: Vec<Action>,
+}
+
+// the lists of a term's graph
+fn lists_of(alloc: Global, term: &Term) -> Result<Lists, NoMemory>
+    requires { occurrences (formula_of term.now) ≤ MOST_OCCURRENCES }
+    ensures props { IfOk result (λ l. l.props.items ≡ listed.props_onto (formula_of term.now) []) }
+    ensures actions { IfOk result (λ l. l.actions.items ≡ listed.actions_onto (formula_of term.now) []) }
+    ensures nodes { IfOk result (λ l. l.nodes.items ≡ listed.nodes_of l.props.items l.actions.items 0 (formula_of term.now)) }
+    ensures priorities { IfOk result (λ l. l.priorities.items ≡ listed.priorities_of (formula_of term.now)) }
+{
+    let names = Names::of(alloc, term)?;
+    let mut draft = Draft {
+        nodes: Vec::new(alloc),
+        priorities: Vec::new(alloc),
+    };
+    place(&mut draft, &names, 0, term)?;
+    let (props, actions) = names.into_lists(alloc)?;
+    Ok(Lists {
+        nodes: draft.nodes,
+        priorities: draft.priorities,
+        props,
+        actions,
+    })
+}
+
+/// The modal graph of a formula, or of its negation: it holds exactly where the formula does, or doesn't.
+///
+/// # Errors
+/// `NoMemory` alone.
+///
+/// Cost: names are looked up by their hashes, on average in the time that a name takes. Where an operand stands behind
+/// another one, the occurrences of the first are counted again, so the time is at most quadratic in the occurrences, of
+/// which there are 1,000 at most. Calls are nested at most twice as deep as the formula.
+pub fn graph_of(alloc: Global, formula: &Formula, negated: bool) -> Result<ModalGraph, NoMemory>
+    ensures graph { IfOk result (λ g. IsGraphOf g formula.now negated) }
+    ensures agrees { IfOk result (λ g. HoldsWhere g (record { formula = formula.now; negated = negated })) }
+{
+    let lists = lists_of(alloc, formula.root())?;
+    match ModalGraph::build(
+        lists.nodes,
+        lists.priorities,
+        root_of(negated),
+        lists.props,
+        lists.actions,
+    ) {
+        Ok(graph) => Ok(graph),
+        Err(_) => unreachable!(),
+    }
+}

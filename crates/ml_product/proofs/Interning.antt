@@ -1,0 +1,202 @@
+-- A position gets a number: that of an equal position, or a new one.
+--
+--   different_more == different positions, and one that isn't among them, are different
+--   shown_same     == what was added to the tables changes no position
+--   beside_pool, beside_added == the same for a position that has the sequent and the history of another one
+--   still_pool, still_added == behind an addition the pool keeps what it has to, and has the position
+use Rattle.std.proofs.Common.{ℕ, suc, ◌≡◌, ◌+◌, ◌<◌, ◌≤◌, ◌⊎◌, inl, inr, List, [], ◌∷◌, ◌++◌, length, map, slice_get, get_or, Some, refl, sym, ap, ◌∙◌, subst, arith}
+use Rattle.std.specs.Option.{option_map}
+use Rattle.std.proofs.lemmas.List.{map_push}
+use Rattle.std.proofs.lemmas.Option.{slice_get_within, slice_get-get_or, slice_get-map, get_or_from_slice_get}
+use Rattle.ml_lists.specs.Member.{IsMember}
+use Rattle.ml_lists.proofs.Member.{Image, member-map_from, member-append}
+use Rattle.ml_sequent.specs.declared.choice.Side.{Side}
+use Rattle.ml_trace.specs.Stack.{Item}
+use Rattle.ml_product.specs.Position.{Position}
+use Rattle.ml_product.specs.DecisionGame.{AreDifferent}
+use Rattle.ml_product.specs.declared.stored.Stored.{Stored}
+use Rattle.ml_product.specs.private.Shared.{seen, shown, IsWithin, AreWithin}
+use Rattle.ml_product.specs.private.Pools.{IsAdded, IsPool, beside}
+use Rattle.ml_product.proofs.OnePlace.{PlaceOf, place_of}
+use Rattle.ml_product.proofs.Added.{added_all, added_once, added_long, added_early, added_get}
+
+-- different positions, and one that isn't among them
+pub different_more : (ps : List Position) (p : Position) → AreDifferent ps → ¬ (IsMember p ps) → AreDifferent (ps ++ p ∷ [])
+different_more [] p apart new = (λ m. m, tt)
+different_more (q ∷ ps) p apart new = (
+  λ m. by_part (member-append q ps (p ∷ []) m),
+  different_more ps p apart.1 (λ m. new (inr m)),
+)
+  where
+    by_part : IsMember q ps ⊎ IsMember q (p ∷ []) → ⊥
+    by_part (inl there) = apart.0 there
+    by_part (inr (inl same)) = new (inl (sym same))
+    by_part (inr (inr none)) = none
+
+-- maps that agree where something stands
+map_alike : {X Y : Type 0} (f h : X → Y) (xs : List X) → ((k : ℕ) (x : X) → slice_get xs k ≡ Some x → f x ≡ h x)
+    → map f xs ≡ map h xs
+map_alike f h [] alike = refl
+map_alike f h (x ∷ xs) alike =
+    let here = alike 0 x refl in
+    let rest = map_alike f h xs (λ k y at. alike (suc k) y at) in
+    λ i. here i ∷ rest i
+
+module _ (ss ts : List (List ℕ)) (hs gs : List (List (Item ℕ))) (xs ys : List Stored)
+    (s : List ℕ) (h : List (Item ℕ)) (x : Stored) (v : ℕ)
+    (pool : IsPool ss hs xs)
+    (at_s : IsAdded ss s ts x.sequent)
+    (at_h : IsAdded hs h gs x.history)
+    (at_x : IsAdded xs x ys v) where
+  seen_same : (k : ℕ) (y : Stored) → slice_get xs k ≡ Some y → seen ts gs y ≡ seen ss hs y
+  seen_same k y at =
+      let w = pool.within k y at in
+      let sequents = added_get ss ts s x.sequent at_s y.sequent [] w.sequent in
+      let histories = added_get hs gs h x.history at_h y.history [] w.history in
+      λ i. record { sequent = sequents i; history = histories i; priority = y.priority; choice = y.choice }
+
+  -- what was added to the tables changes no position
+  pub shown_same : shown ts gs xs ≡ shown ss hs xs
+  shown_same = map_alike (seen ts gs) (seen ss hs) xs seen_same
+
+  is_within : IsWithin ts gs x
+  is_within = record {
+    sequent = slice_get_within ts x.sequent s at_s.stands;
+    history = slice_get_within gs x.history h at_h.stands;
+  }
+
+  old_within : (k : ℕ) (y : Stored) → slice_get xs k ≡ Some y → IsWithin ts gs y
+  old_within k y at =
+      let w = pool.within k y at in record {
+        sequent = omega (arith, w.sequent, (added_long ss ts s x.sequent at_s).0);
+        history = omega (arith, w.history, (added_long hs gs h x.history at_h).0);
+      }
+
+  all_within : AreWithin ts gs ys
+  all_within k y at = added_all xs ys x v at_x (IsWithin ts gs) old_within is_within k y at
+
+  few : {Y : Type 0} (us bs : List Y) (b : Y) (i : ℕ)
+      → IsAdded us b bs i
+      → length us ≤ length xs
+      → (ys ≡ xs → i < length us)
+      → length bs ≤ length ys
+  few us bs b i a less early = by_kind at_x.grown
+    where
+      by_kind : (ys ≡ xs) ⊎ ((ys ≡ xs ++ x ∷ []) × ¬ (IsMember x xs)) → length bs ≤ length ys
+      by_kind (inl old) =
+          let e = ap length (added_early us bs b i a (early old)) in let f = ap length old in omega arith
+      by_kind (inr new) =
+          let e : length ys ≡ length xs + 1 = ap length new.0 ∙ more xs in
+          omega (arith, (added_long us bs b i a).1)
+        where
+          more : (zs : List Stored) → length (zs ++ x ∷ []) ≡ length zs + 1
+          more [] = refl
+          more (z ∷ zs) = let e = more zs in omega arith
+
+  early : ys ≡ xs → IsWithin ss hs x
+  early old = pool.within v x (subst (λ zs. slice_get zs v ≡ Some x) old at_x.stands)
+
+  -- two positions that show the same are stored as one
+  stored_same : (y : Stored) → IsWithin ts gs y → seen ts gs x ≡ seen ts gs y → x ≡ y
+  stored_same y w e =
+      let sequents : x.sequent ≡ y.sequent =
+      added_once ss ts s x.sequent at_s pool.sequents_once x.sequent y.sequent (get_or ts y.sequent [])
+      (slice_get-get_or ts x.sequent [] is_within.sequent ∙ ap (λ (p : Position). Some p.sequent) e)
+      (slice_get-get_or ts y.sequent [] w.sequent) in
+      let histories : x.history ≡ y.history =
+      added_once hs gs h x.history at_h pool.histories_once x.history y.history (get_or gs y.history [])
+      (slice_get-get_or gs x.history [] is_within.history ∙ ap (λ (p : Position). Some p.history) e)
+      (slice_get-get_or gs y.history [] w.history) in
+      let priorities : x.priority ≡ y.priority = ap (λ (p : Position). p.priority) e in
+      let choices : x.choice ≡ y.choice = ap (λ (p : Position). p.choice) e in
+      λ i. record { sequent = sequents i; history = histories i; priority = priorities i; choice = choices i }
+
+  not_shown : ¬ (IsMember x xs) → ¬ (IsMember (seen ts gs x) (shown ss hs xs))
+  not_shown new m = by_image (member-map_from (seen ts gs) (seen ts gs x) xs (subst (IsMember (seen ts gs x)) (sym shown_same) m))
+    where
+      by_image : Image (seen ts gs) (seen ts gs x) xs → ⊥
+      by_image i =
+          let p : PlaceOf i.from xs = place_of i.from xs i.member in
+          new (subst (λ z. IsMember z xs) (sym (stored_same i.from (old_within p.place i.from p.stands) i.holds)) i.member)
+
+  grown : (shown ts gs ys ≡ shown ss hs xs)
+      ⊎ ((shown ts gs ys ≡ shown ss hs xs ++ seen ts gs x ∷ []) × ¬ (IsMember (seen ts gs x) (shown ss hs xs)))
+  grown = by_kind at_x.grown
+    where
+      by_kind : (ys ≡ xs) ⊎ ((ys ≡ xs ++ x ∷ []) × ¬ (IsMember x xs))
+          → (shown ts gs ys ≡ shown ss hs xs)
+          ⊎ ((shown ts gs ys ≡ shown ss hs xs ++ seen ts gs x ∷ []) × ¬ (IsMember (seen ts gs x) (shown ss hs xs)))
+      by_kind (inl old) = inl (ap (shown ts gs) old ∙ shown_same)
+      by_kind (inr new) = inr (
+        ap (shown ts gs) new.0 ∙ map_push (seen ts gs) xs x ∙ ap (λ ps. ps ++ seen ts gs x ∷ []) shown_same,
+        not_shown new.1,
+      )
+
+  different : AreDifferent (shown ts gs ys)
+  different = by_kind grown
+    where
+      by_kind : (shown ts gs ys ≡ shown ss hs xs)
+          ⊎ ((shown ts gs ys ≡ shown ss hs xs ++ seen ts gs x ∷ []) × ¬ (IsMember (seen ts gs x) (shown ss hs xs)))
+          → AreDifferent (shown ts gs ys)
+      by_kind (inl old) = subst AreDifferent (sym old) pool.are_different
+      by_kind (inr new) =
+          subst AreDifferent (sym new.0) (different_more (shown ss hs xs) (seen ts gs x) pool.are_different new.1)
+
+  pub still_pool : IsPool ts gs ys
+  still_pool = record {
+    sequents_once = added_once ss ts s x.sequent at_s pool.sequents_once;
+    histories_once = added_once hs gs h x.history at_h pool.histories_once;
+    within = all_within;
+    few_sequents = few ss ts s x.sequent at_s pool.few_sequents (λ old. (early old).sequent);
+    few_histories = few hs gs h x.history at_h pool.few_histories (λ old. (early old).history);
+    are_different = different;
+  }
+
+  seen_made : seen ts gs x ≡ record { sequent = s; history = h; priority = x.priority; choice = x.choice }
+  seen_made =
+      let sequents = get_or_from_slice_get ts x.sequent s [] at_s.stands in
+      let histories = get_or_from_slice_get gs x.history h [] at_h.stands in
+      λ i. record { sequent = sequents i; history = histories i; priority = x.priority; choice = x.choice }
+
+  seen_added : IsAdded (shown ss hs xs) (seen ts gs x) (shown ts gs ys) v
+  seen_added = record {
+    stands = slice_get-map (seen ts gs) ys v ∙ ap (option_map (seen ts gs)) at_x.stands;
+    grown = grown;
+  }
+
+  -- the pool has the position
+  pub still_added : IsAdded (shown ss hs xs) (record { sequent = s; history = h; priority = x.priority; choice = x.choice })
+      (shown ts gs ys) v
+  still_added = subst (λ p. IsAdded (shown ss hs xs) p (shown ts gs ys) v) seen_made seen_added
+
+-- the same for a position that has the sequent and the history of another one
+module _ (ss : List (List ℕ)) (hs : List (List (Item ℕ))) (xs ys : List Stored)
+    (old : Stored) (k priority : ℕ) (choice : List (ℕ × Side)) (v : ℕ) (p : Position)
+    (pool : IsPool ss hs xs)
+    (old_at : slice_get xs k ≡ Some old)
+    (at : slice_get (shown ss hs xs) k ≡ Some p)
+    (at_x : IsAdded xs (record { sequent = old.sequent; history = old.history; priority = priority; choice = choice }) ys v) where
+  abbrev new : Stored
+  new = record { sequent = old.sequent; history = old.history; priority = priority; choice = choice }
+
+  same_position : seen ss hs old ≡ p
+  same_position =
+      let e : Some (seen ss hs old) ≡ Some p =
+      ap (option_map (seen ss hs)) (sym old_at) ∙ sym (slice_get-map (seen ss hs) xs k) ∙ at in cc
+
+  stands_still : {Y : Type 0} (us : List Y) (y d : Y) (i : ℕ) → i < length us → get_or us i d ≡ y → IsAdded us y us i
+  stands_still us y d i low is = record { stands = slice_get-get_or us i d low ∙ ap Some is; grown = inl refl }
+
+  at_s : IsAdded ss p.sequent ss old.sequent
+  at_s = stands_still ss p.sequent [] old.sequent (pool.within k old old_at).sequent
+      (ap (λ (q : Position). q.sequent) same_position)
+
+  at_h : IsAdded hs p.history hs old.history
+  at_h = stands_still hs p.history [] old.history (pool.within k old old_at).history
+      (ap (λ (q : Position). q.history) same_position)
+
+  pub beside_pool : IsPool ss hs ys
+  beside_pool = still_pool ss ss hs hs xs ys p.sequent p.history new v pool at_s at_h at_x
+
+  pub beside_added : IsAdded (shown ss hs xs) (beside p priority choice) (shown ss hs ys) v
+  beside_added = still_added ss ss hs hs xs ys p.sequent p.history new v pool at_s at_h at_x

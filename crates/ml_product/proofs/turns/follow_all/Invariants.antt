@@ -1,0 +1,9 @@
+use Rattle.std.proofs.Common.{◌≡◌, take, map}
+use Rattle.ml_product.specs.DecisionGame.{AreSteps}
+use Rattle.ml_product.specs.View.{viewed}
+use Rattle.ml_product.specs.private.Exploring.{target_of}
+use Rattle.ml_product.proofs.turns.follow_all.Given as goal
+
+abbrev pub invariant-loop-diamond : goal.invariant-loop-diamond
+invariant-loop-diamond l = (l.phase ≡ l.fn.phase)
+    × AreSteps l.fn.phase (viewed l.view) l.spread (take l.diamond-index l.diamonds) (map target_of l.made.items)

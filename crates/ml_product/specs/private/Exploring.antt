@@ -1,0 +1,108 @@
+-- The steps of the exploration.
+--
+--   AreTerms g t       == t has the odd priorities of g, and its neutral priority
+--   Explores g limit b == what a pool keeps while g is explored: its positions are reached, and at most limit
+--   IsLonger ps qs     == the list qs begins with ps
+--   IsNumbered         == a position got a number, and there are no more positions than are allowed
+--   HasNoRoom          == it is a new one, and there are as many positions as are allowed
+--   at_place g ps v    == the position at place v of ps; past the end, where nobody asks, the start
+--   Becomes g limit ps b == the pool with the positions ps has become b, which keeps what it has to
+--   IsAt g limit b v sp == sp is the spread of the position at v
+--   target_of x        == the target that is the position made as x
+--   IsLed              == the vertices are those of the moves from the position at v, along diamonds
+--   IsTurned           == the pool that was has become that which is, and what is found at the position at v was recorded
+--   IsStarted g b      == the pool has the start alone
+--   arena_of b rs      == the arena of the pool with what was recorded
+--   AreTurned          == so it was for all positions with numbers below that of what was recorded
+use Rattle.std.specs.Prelude.{ℕ, ◌≡◌, ◌<◌, ◌≤◌, List, [], ◌∷◌, ◌++◌, length, map, slice_get, get_or, Some}
+use Rattle.std.specs.Global.{Vec}
+use Rattle.ml_lists.specs.Member.{IsMember}
+use Rattle.ml_graph.specs.Graph.{Graph, odd_priorities}
+use Rattle.ml_sequent.specs.Spread.{SpreadList, IsSpreadOf}
+use Rattle.ml_product.specs.Position.{Position, start_of, neutral}
+use Rattle.ml_product.specs.DecisionGame.{Target, To, IsReached}
+use Rattle.ml_product.specs.Arena.{Arena}
+use Rattle.ml_product.specs.declared.following.Terms.{Terms}
+use Rattle.ml_product.specs.declared.pool.Fresh.{Fresh}
+use Rattle.ml_product.specs.declared.pool.Pool.{Pool}
+use Rattle.ml_product.specs.declared.recorded.Recorded.{Recorded}
+use Rattle.ml_product.specs.declared.recorded.Recorded.TheVariants as recorded
+use Rattle.ml_product.specs.private.Pools.{positions_of, position_of, KeepsPool, IsAdded}
+use Rattle.ml_product.specs.private.Recorded.{owner_of, moves_of, IsRecorded}
+
+-- the odd priorities of the graph, and its neutral priority
+pub record AreTerms (g : Graph) (t : Terms) : Type 0 where
+  pub odds : t.odds.items ≡ odd_priorities g
+  pub neutral_is : t.neutral ≡ neutral g
+
+-- what a pool keeps while the graph is explored
+pub record Explores (g : Graph) (limit : ℕ) (b : Pool) : Type 0 where
+  pub is_pool : KeepsPool b
+  pub are_reached : (p : Position) → IsMember p (positions_of b) → IsReached g p
+  pub few : length (positions_of b) ≤ limit
+
+-- one list begins with the other
+pub record IsLonger (ps qs : List Position) : Type 0 where
+  pub more : List Position
+  pub is : qs ≡ ps ++ more
+
+-- a position got a number
+pub record IsNumbered (limit : ℕ) (ps : List Position) (p : Position) (b : Pool) (v : ℕ) : Type 0 where
+  pub is_pool : KeepsPool b
+  pub added : IsAdded ps p (positions_of b) v
+  pub few : length (positions_of b) ≤ limit
+
+-- it is a new one, and there are as many as are allowed
+pub record HasNoRoom (limit : ℕ) (ps : List Position) (p : Position) : Type 0 where
+  pub full : length ps ≡ limit
+  pub is_new : ¬ (IsMember p ps)
+
+-- the position at a place
+abbrev pub at_place : Graph → List Position → ℕ → Position
+at_place g ps v = get_or ps v (start_of g)
+
+-- the pool that was has become that which is
+pub record Becomes (g : Graph) (limit : ℕ) (ps : List Position) (b : Pool) : Type 0 where
+  pub explores : Explores g limit b
+  pub longer : IsLonger ps (positions_of b)
+
+-- the spread is that of the position at v
+pub record IsAt (g : Graph) (limit : ℕ) (b : Pool) (v : ℕ) (sp : SpreadList) : Type 0 where
+  pub explores : Explores g limit b
+  pub number : v < length (positions_of b)
+  pub is_spread : IsSpreadOf g (at_place g (positions_of b) v).sequent (at_place g (positions_of b) v).choice sp
+
+-- the target of a position that was made
+abbrev pub target_of : Fresh → Target
+target_of x = To (position_of x)
+
+-- and the vertices are those of the moves from the position at v, along diamonds
+pub record IsLed (g : Graph) (limit : ℕ) (ps : List Position) (v : ℕ) (b : Pool) (vs : Vec ℕ) : Type 0 where
+  pub becomes : Becomes g limit ps b
+  pub recorded : IsRecorded g (positions_of b) (at_place g ps v) (recorded.Led vs)
+
+-- and what is found at the position at v was recorded
+pub record IsTurned (g : Graph) (limit : ℕ) (ps : List Position) (v : ℕ) (b : Pool) (r : Recorded) : Type 0 where
+  pub becomes : Becomes g limit ps b
+  pub recorded : IsRecorded g (positions_of b) (at_place g ps v) r
+
+-- so it was for all positions with numbers below that of what was recorded
+pub record AreTurned (g : Graph) (limit : ℕ) (b : Pool) (rs : List Recorded) : Type 0 where
+  pub explores : Explores g limit b
+  pub starts : slice_get (positions_of b) 0 ≡ Some (start_of g)
+  pub within : length rs ≤ length (positions_of b)
+  pub recorded : (v : ℕ) → v < length rs
+      → IsRecorded g (positions_of b) (at_place g (positions_of b) v) (get_or rs v recorded.Lost)
+
+-- the pool has the start alone
+pub record IsStarted (g : Graph) (b : Pool) : Type 0 where
+  pub is_pool : KeepsPool b
+  pub alone : positions_of b ≡ start_of g ∷ []
+
+-- the arena of what was recorded
+abbrev pub arena_of : Pool → List Recorded → Arena
+arena_of b rs = record {
+  positions = positions_of b;
+  owners = map owner_of rs;
+  moves = map (moves_of (length (positions_of b))) rs;
+}

@@ -1,0 +1,116 @@
+// The decision game as a program holds it, over shared parts.
+ghost use Rattle.std.specs.Prelude.{◌≡◌, ◌<◌, [], length, get_or, slice_get, Some, IfOk};
+ghost use Rattle.ml_parity.specs.declared.players.Player.TheVariants.{Even};
+ghost use Rattle.ml_product.specs.Arena.{game_of};
+ghost use Rattle.ml_parity.specs.Refusal.{lists_of};
+ghost use Rattle.ml_product.specs.View.{viewed};
+ghost use Rattle.ml_product.specs.private.Shared.{IsHeld};
+ghost use Rattle.ml_product.specs.private.Pools.{positions_of};
+
+use crate::gaming::{owners_of, priorities_of, successors_of};
+use crate::pool::Pool;
+use crate::view::View;
+use ml_base::NoMemory;
+use ml_parity::{Game, Player};
+use std::marker::Model;
+
+/// The positions of a decision game, each with its owner and its moves. A move is a vertex of the game that `game` makes.
+///
+/// Contracts see the three lists (`specs/Arena.antt`). Equal sequents are held once, and so are equal histories.
+#[derive(Drop)]
+pub struct Arena {
+    pool: Pool,
+    owners: Vec<Player>,
+    moves: Vec<Vec<u64>>,
+}
+
+impl Model for Arena {
+    ghost use Rattle.ml_parity.specs.Refusal.{lists_of};
+    ghost use Rattle.ml_product.specs.Arena as arenas;
+    ghost use Rattle.ml_product.specs.private.Shared.{IsHeld};
+    ghost use Rattle.ml_product.specs.private.Pools.{positions_of};
+
+    ghost Value = { arenas.Arena };
+
+    ghost view = { λ a. record {
+      positions = positions_of a.pool;
+      owners = a.owners.items;
+      moves = lists_of a.moves.items;
+    } };
+
+    ghost invariant = { λ a. IsHeld a.pool.sequents.keys a.pool.histories.keys a.pool.positions.keys a.owners.items (lists_of a.moves.items) };
+}
+
+impl Arena {
+    // the arena of these positions, with their owners and moves
+    pub(crate) fn of(pool: Pool, owners: Vec<Player>, moves: Vec<Vec<u64>>) -> Arena
+        requires { IsHeld pool.sequents.keys pool.histories.keys pool.positions.keys owners.items (lists_of moves.items) }
+        ensures { result ≡ record { positions = positions_of pool; owners = owners.items; moves = lists_of moves.items } }
+    {
+        Arena {
+            pool,
+            owners,
+            moves,
+        }
+    }
+
+    /// How many positions there are. They are the vertices below this number.
+    ///
+    /// Cost: constant.
+    pub fn size(&self) -> u32
+        ensures { result ≡ length self.now.positions }
+    {
+        self.pool.len() as u32
+    }
+
+    /// A position.
+    ///
+    /// Cost: constant.
+    pub fn position(&self, v: u32) -> View<'_>
+        requires { v < length self.now.positions }
+        ensures { slice_get self.now.positions v ≡ Some (viewed result) }
+    {
+        self.pool.view(v as usize)
+    }
+
+    /// The moves of a position: vertices of the game.
+    ///
+    /// Cost: constant.
+    pub fn moves(&self, v: u32) -> &[u64]
+        requires { v < length self.now.positions }
+        ensures { result.now ≡ get_or self.now.moves v [] }
+    {
+        &self.moves[v as usize]
+    }
+
+    /// Who moves at a position.
+    ///
+    /// Cost: constant.
+    pub fn owner(&self, v: u32) -> Player
+        requires { v < length self.now.positions }
+        ensures { result ≡ get_or self.now.owners v Even }
+    {
+        self.owners[v as usize]
+    }
+
+    /// The parity game: the positions by their places, then Lost and Won.
+    ///
+    /// # Errors
+    /// `NoMemory` alone.
+    ///
+    /// Cost: linear in the positions and their moves, with a vector for each position.
+    pub fn game(&self) -> Result<Game, NoMemory>
+        ensures { IfOk result (λ game. game ≡ game_of self.now) }
+    {
+        let alloc = *self.owners.allocator();
+        let size = self.pool.len() as u64;
+        let owner = owners_of(alloc, &self.owners)?;
+        let priority = priorities_of(alloc, self.pool.stored())?;
+        let successors = successors_of(alloc, &self.moves, size)?;
+        Ok(Game {
+            owner,
+            priority,
+            successors,
+        })
+    }
+}

@@ -1,0 +1,156 @@
+// The exploration of a decision game.
+ghost use Rattle.std.specs.Prelude.{◌≡◌, ◌≤◌, ◌<◌, ◌^◌, ◌↔◌, [], IsTrue, IfOk, OnOk, IsErrOf, length, map};
+ghost use Rattle.ml_graph.specs.Graph.{IsGraph};
+ghost use Rattle.ml_parity.specs.Refusal.{lists_of};
+ghost use Rattle.ml_product.specs.Arena as arenas;
+ghost use Rattle.ml_product.specs.Position.{automaton_states};
+ghost use Rattle.ml_product.specs.DecisionGame.{HasMoreThan};
+ghost use Rattle.ml_product.specs.declared.refusals.ExploreRefusal.TheVariants as refusal;
+ghost use Rattle.ml_product.specs.private.Shared.{IsHeld};
+ghost use Rattle.ml_product.specs.private.Pools.{positions_of};
+ghost use Rattle.ml_product.specs.private.Recorded.{owner_of, moves_of};
+ghost use Rattle.ml_product.specs.private.Exploring.{AreTerms, IsStarted, AreTurned, arena_of};
+
+use crate::arena::Arena;
+use crate::following::Terms;
+use crate::pool::{Fresh, Pool};
+use crate::recorded::Recorded;
+use crate::refusals::ExploreRefusal;
+use crate::turns::turn;
+use ml_base::NoMemory;
+use ml_graph::ModalGraph;
+use ml_history::History;
+use ml_parity::Player;
+use ml_sequent::{Choice, LocalPhase, Sequent};
+use ml_trace::{AutomatonState, STATE_LIMIT, number};
+use std::alloc::Global;
+
+/// Whether the trace automaton of a graph has few enough states for its decision game to be explored: 2^30 at most.
+///
+/// # Errors
+/// `NoMemory` alone.
+///
+/// Cost: `n log n` in the nodes.
+pub fn fits(graph: &ModalGraph) -> Result<bool, NoMemory>
+    ensures { IfOk result (λ fits. IsTrue fits ↔ (automaton_states graph.now ≤ 1073741824)) }
+{
+    let odds = graph.odd_priorities()?;
+    let states = (graph.size() as usize).checked_mul(odds.len() + 1);
+    Ok(states.is_some_and(|n| n <= STATE_LIMIT as usize))
+}
+
+// what is asked of the graph at each position
+fn terms_of(graph: &ModalGraph) -> Result<Terms, NoMemory>
+    requires { automaton_states graph.now ≤ 2 ^ 30 }
+    ensures { IfOk result (AreTerms graph.now) }
+{
+    let odds = graph.odd_priorities()?;
+    let states = graph.size() as usize * (odds.len() + 1);
+    Ok(Terms {
+        odds,
+        neutral: 2 * (states as u32 + 1),
+    })
+}
+
+// the start alone
+fn started(alloc: Global, graph: &ModalGraph, terms: &Terms) -> Result<Pool, NoMemory>
+    requires small { automaton_states graph.now ≤ 2 ^ 30 }
+    requires terms { AreTerms graph.now terms.now }
+    ensures { IfOk result (IsStarted graph.now) }
+{
+    let node = graph.root();
+    let state = number(&AutomatonState { node, odd: None }, &terms.odds);
+    let fresh = Fresh {
+        sequent: Sequent::of(alloc, &[node])?,
+        history: History::start(alloc, state)?,
+        priority: terms.neutral,
+        choice: Choice::empty(alloc),
+    };
+    let mut pool = Pool::new(alloc);
+    pool.intern(fresh)?;
+    Ok(pool)
+}
+
+// what is done at each position, until there are no new ones
+fn turns(
+    alloc: Global,
+    phase: &mut LocalPhase,
+    terms: &Terms,
+    pool: &mut Pool,
+    limit: u32,
+) -> Result<Vec<Recorded>, ExploreRefusal>
+    requires is_graph { IsGraph phase.old }
+    requires small { automaton_states phase.old ≤ 2 ^ 30 }
+    requires terms { AreTerms phase.old terms.now }
+    requires turned { AreTurned phase.old limit pool.old [] }
+    ensures turned { IfOk result (λ turns. AreTurned phase.old limit pool.new turns.items) }
+    ensures whole { IfOk result (λ turns. length turns.items ≡ length (positions_of pool.new)) }
+    ensures passed { IsErrOf result refusal.Passed → HasMoreThan phase.old limit }
+{
+    let mut turns = Vec::new(alloc);
+    while turns.len() < pool.len() {
+        let turn = turn(alloc, phase, terms, pool, limit, turns.len() as u32)?;
+        turns.push(turn)?;
+    }
+    Ok(turns)
+}
+
+// who moves at each position
+fn players(alloc: Global, turns: &[Recorded]) -> Result<Vec<Player>, NoMemory>
+    ensures { IfOk result (λ players. players.items ≡ map owner_of turns.now) }
+{
+    let mut players = Vec::with_capacity(alloc, turns.len())?;
+    for turn in turns {
+        players.push(turn.owner())?;
+    }
+    Ok(players)
+}
+
+// the moves of each position
+fn vertices(alloc: Global, turns: Vec<Recorded>, size: u64) -> Result<Vec<Vec<u64>>, NoMemory>
+    requires { size < 2 ^ 32 }
+    ensures { IfOk result (λ all. lists_of all.items ≡ map (moves_of size) turns.items) }
+{
+    let mut all = Vec::with_capacity(alloc, turns.len())?;
+    for turn in turns {
+        all.push(turn.into_moves(alloc, size)?)?;
+    }
+    Ok(all)
+}
+
+// the arena of what was found
+fn closed(alloc: Global, pool: Pool, turns: Vec<Recorded>) -> Result<Arena, NoMemory>
+    requires { IsHeld pool.sequents.keys pool.histories.keys pool.positions.keys
+        (map owner_of turns.items) (map (moves_of (length (positions_of pool))) turns.items) }
+    ensures { IfOk result (λ arena. arena ≡ arena_of pool turns.items) }
+{
+    let size = pool.len() as u64;
+    let owners = players(alloc, &turns)?;
+    let moves = vertices(alloc, turns, size)?;
+    Ok(Arena::of(pool, owners, moves))
+}
+
+/// The decision game of a graph, if it has at most so many positions.
+///
+/// `limit` is 1 or more, and the trace automaton of the graph has at most 2^30 states, which `fits` tests.
+///
+/// # Errors
+/// `Passed` exactly where the game has more than `limit` positions; `NoMemory`.
+///
+/// Cost: for each position its spread, its clash and its steps (`ml_sequent::LocalPhase`), a step of its history for each
+/// diamond, and a hash of each position that a move leads to.
+pub fn explore(alloc: Global, graph: &ModalGraph, limit: u32) -> Result<Arena, ExploreRefusal>
+    requires some { 1 ≤ limit }
+    requires few_states { automaton_states graph.now ≤ 1073741824 }
+    ensures arena { IfOk result (arenas.IsArenaOf graph.now) }
+    ensures within { IfOk result (λ arena. length arena.positions ≤ limit) }
+    ensures not_passed { OnOk result (¬ (HasMoreThan graph.now limit)) }
+    ensures passed { IsErrOf result refusal.Passed → HasMoreThan graph.now limit }
+{
+    let _size = graph.size();
+    let terms = terms_of(graph)?;
+    let mut pool = started(alloc, graph, &terms)?;
+    let mut phase = LocalPhase::new(alloc, graph)?;
+    let turns = turns(alloc, &mut phase, &terms, &mut pool, limit)?;
+    Ok(closed(alloc, pool, turns)?)
+}

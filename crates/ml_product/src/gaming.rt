@@ -1,0 +1,51 @@
+// The lists of an arena's parity game: those of the positions, and behind them Lost and Won.
+ghost use Rattle.std.specs.Prelude.{◌≡◌, ◌+◌, ◌<◌, ◌^◌, [], ◌∷◌, ◌++◌, map, IfOk};
+ghost use Rattle.ml_parity.specs.declared.players.Player.TheVariants.{Even};
+ghost use Rattle.ml_parity.specs.Refusal.{lists_of};
+
+use crate::stored::Stored;
+use ml_base::NoMemory;
+use ml_parity::Player;
+use std::alloc::Global;
+
+// who moves: at Lost and Won, Even
+pub(crate) fn owners_of(alloc: Global, owners: &[Player]) -> Result<Vec<Player>, NoMemory>
+    ensures { IfOk result (λ all. all.items ≡ owners.now ++ Even ∷ Even ∷ []) }
+{
+    let mut all = Vec::with_capacity(alloc, owners.len() + 2)?;
+    all.extend_from_slice(owners)?;
+    all.push(Player::Even)?;
+    all.push(Player::Even)?;
+    Ok(all)
+}
+
+// the priorities: of Lost an odd one, of Won an even one
+pub(crate) fn priorities_of(alloc: Global, positions: &[Stored]) -> Result<Vec<u32>, NoMemory>
+    ensures { IfOk result (λ all. all.items ≡ map (λ x. x.priority) positions.now ++ 1 ∷ 0 ∷ []) }
+{
+    let mut all = Vec::with_capacity(alloc, positions.len() + 2)?;
+    for position in positions {
+        all.push(position.priority)?;
+    }
+    all.push(1)?;
+    all.push(0)?;
+    Ok(all)
+}
+
+// the moves: from Lost and Won to themselves alone
+pub(crate) fn successors_of(
+    alloc: Global,
+    moves: &[Vec<u64>],
+    size: u64,
+) -> Result<Vec<Vec<u64>>, NoMemory>
+    requires { size < 2 ^ 32 }
+    ensures { IfOk result (λ all. lists_of all.items ≡ lists_of moves.now ++ (size ∷ []) ∷ ((size + 1) ∷ []) ∷ []) }
+{
+    let mut all = Vec::with_capacity(alloc, moves.len() + 2)?;
+    for list in moves {
+        all.push(Vec::from_slice(alloc, list)?)?;
+    }
+    all.push(Vec::from_slice(alloc, &[size])?)?;
+    all.push(Vec::from_slice(alloc, &[size + 1])?)?;
+    Ok(all)
+}

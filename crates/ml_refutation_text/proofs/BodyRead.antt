@@ -1,0 +1,246 @@
+-- A whole body, read from its first line to its end.
+--
+--   names_goes, count_goes, no_entries, end_goes, not_end, behind_end == the lines that are no part of an entry or a table
+--   body_size           == how many lines a body has
+--   text_size           == how many lines a text of a refutation has
+--   runs_of             == what was read to a place runs there
+--   at_end, to_entries  == behind the last entry; from the first line to the entries
+--   body_read           == a text that was read to its end is one of what was read
+--   one_parts           == the parts of the entries of a text begin at one list of lines
+use Rattle.std.proofs.Common.{◌≡◌, ◌≢◌, ℕ, ◌+◌, ◌<◌, ◌≤◌, false, cond, nat_lt, List, [], ◌∷◌, ◌++◌, length, map, codes, inl, inr, refl, sym, ap, subst, ◌∙◌, length-append, append_assoc, arith}
+use Rattle.std.specs.List.{slice_split, join_with_byte}
+use Rattle.std.proofs.lemmas.Bool.Decides.{nat_tests}
+use Rattle.std.proofs.lemmas.List.{append-nil, length-map}
+use Rattle.std.proofs.lemmas.List.Splits.{join_with_byte-slice_split}
+use Rattle.ml_base.specs.declared.version.Version.{Version}
+use Rattle.ml_base.specs.declared.version.Version.TheVariants.{One, Two}
+use Rattle.ml_base.specs.declared.doc_refusal.DocRefusal.{DocRefusal}
+use Rattle.ml_base.specs.declared.doc_refusal.DocRefusal.TheVariants as refused
+use Rattle.ml_lines.specs.Lines.{Line, text_of, number}
+use Rattle.ml_lines.specs.Reading.{lines_of, left_of, words_of, fronts, is_line_end, is_blank}
+use Rattle.ml_lines.proofs.Cuts.{some_part}
+use Rattle.ml_lines.proofs.WrittenLines.{lines_read, text_read}
+use Rattle.ml_lists.specs.Documents.{Format, IsReadTo, nothing_read, line_read, IsFirstBroken}
+use Rattle.ml_trace.specs.Stack as traced
+use Rattle.ml_trace.specs.declared.letters.AutomatonState.{AutomatonState}
+use Rattle.ml_refutation.specs.Refutation.{Refutation, Entry, Fits, IsRefutation}
+use Rattle.ml_refutation_text.specs.RefutationText.{Form, InFull, ByTables, names_line, entries_line, sequent_line, stack_line, stacks_line, live_line, heights_line, end_line, decision_lines, HeadLines, ItemLines, EntriesLines, FirstLines, BodyLines, IsForm, IsTextOf}
+use Rattle.ml_refutation_text.specs.BodyRules.{Place, AtNames, AtEntries, AtEntry, AtEnd, AtNothing, after_names, after, at_entry, rule_number, body}
+use Rattle.ml_refutation_text.specs.LineKinds.{kind, Fixed, IsOfKinds}
+use Rattle.ml_lines.proofs.Faults.{fault_here, fault_missing}
+use Rattle.ml_refutation_text.specs.PartLines.{head_size, entry_size, entries_size, parts_from, lines_before, AreLinesOf}
+use Rattle.ml_refutation_text.specs.private.Reads.{IsNext, Goes, Breaks, TellsFault, version_of}
+use Rattle.ml_refutation_text.specs.private.ItemReads.{knows}
+use Rattle.ml_refutation_text.specs.private.BodyReads.{IsBodyRead}
+use Rattle.ml_refutation_text.specs.declared.lines.EntryLines.{EntryLines}
+use Rattle.ml_refutation_text.specs.declared.rest.Rest.{Rest}
+use Rattle.ml_refutation_text.specs.declared.body_rule.BodyRule.{BodyRule}
+use Rattle.ml_refutation_text.specs.declared.body_rule.BodyRule.TheVariants.{OfKind, HasEntries}
+use Rattle.ml_refutation_text.proofs.ReadWords.{value_back}
+use Rattle.ml_refutation_text.proofs.Runs.{Runs, run_on, run_readable, one_end}
+use Rattle.ml_refutation_text.proofs.GoodLines.{numbered_of, numbered_fits, names_run, entries_run, end_run}
+use Rattle.ml_refutation_text.proofs.GoodEntries.{body_run}
+use Rattle.ml_refutation_text.proofs.PlainLines.{run_plain}
+use Rattle.ml_refutation_text.proofs.ReadableTexts.{readable_is_text}
+use Rattle.ml_refutation_text.proofs.RefutationTexts.{text_lines, same_end}
+use Rattle.ml_refutation_text.proofs.Going.{goes_on, goes_run}
+
+-- ---- single lines
+
+module _ (v : Version) (at rest : Rest) where
+  pub names_goes : (n : ℕ) → Fits n → IsNext at (names_line n) rest → Goes v AtNames at (after_names v n) rest
+  names_goes n fits next =
+      goes_run v AtNames (after_names v n) at rest (names_line n) (names_line n) next refl (λ left. names_run v left n fits)
+
+  pub count_goes : (names : ℕ) (F : Form) (count : ℕ) → Fits count → IsNext at (entries_line count) rest → 0 < count
+      → Goes v (AtEntries names F) at (at_entry (knows names F count) []) rest
+  count_goes names F count fits next some =
+      goes_run v (AtEntries names F) (at_entry (knows names F count) []) at rest (entries_line count) (entries_line count) next refl
+      (λ left. entries_run v left names F count fits some)
+
+  pub end_goes : (r : Refutation) (line : Line) → IsNext at line rest → line ≡ end_line → Goes v (AtEnd r) at (AtNothing r) rest
+  end_goes r line next is = goes_run v (AtEnd r) (AtNothing r) at rest line end_line next is (λ left. end_run v left r)
+
+pub no_entries : (names : ℕ) (F : Form) (count : ℕ) → Fits count → count ≤ 0 → Breaks (AtEntries names F) (entries_line count) HasEntries
+no_entries names F count fits none left =
+    inr (
+      inl (numbered_of One left (codes "entries") count refl fits),
+      inr (
+        numbered_fits One left (codes "entries") count fits,
+        inl (refl, λ some. absurd (omega (arith, some, none, value_back count fits))),
+      ),
+    )
+
+bytes_of : (bytes : List ℕ) → join_with_byte 32 (words_of bytes) ≡ bytes
+bytes_of bytes = join_with_byte-slice_split 32 bytes
+
+pub end_is : (bytes : List ℕ) → bytes ≡ codes "end" → words_of bytes ≡ end_line
+end_is bytes is = ap words_of is
+
+pub not_end : (r : Refutation) (bytes : List ℕ) → bytes ≢ codes "end" → Breaks (AtEnd r) (words_of bytes) OfKind
+not_end r bytes apart left = inl (refl, none)
+  where
+    is_end : (line : Line) → IsOfKinds (kind (Fixed (codes "end") ∷ []) ∷ []) line → line ≡ end_line
+    is_end [] (inl of) = absurd of.1
+    is_end (w ∷ line) (inl of) = λ i. of.1.0 i ∷ of.1.1 i
+    is_end line (inr never) = absurd never
+
+    none : IsOfKinds (kind (Fixed (codes "end") ∷ []) ∷ []) (words_of bytes) → ⊥
+    none of = apart (sym (bytes_of bytes) ∙ ap (join_with_byte 32) (is_end (words_of bytes) of))
+
+-- where bytes follow the end, the line behind it is the first bad one
+pub behind_end : (v : Version) (r : Refutation) (at : Rest) (told : DocRefusal) → at.text.now ≢ []
+    → told ≡ refused.Fault (record { line = at.line; rule = rule_number OfKind }) → TellsFault v (AtNothing r) at told
+behind_end v r at told some is = go (fronts (slice_split is_line_end at.text.now)) refl
+  where
+    go : (parts : List (List ℕ)) → fronts (slice_split is_line_end at.text.now) ≡ parts → TellsFault v (AtNothing r) at told
+    go [] none =
+        let no_lines : lines_of at.text.now ≡ [] = ap (map words_of) none in
+        let all_left : left_of at.text.now ≡ at.text.now = sym (ap (λ lines. text_of lines ++ left_of at.text.now) no_lines) ∙ text_read at.text.now in
+        subst (TellsFault v (AtNothing r) at) (sym is)
+        (fault_missing (body v) at.line (AtNothing r) at.text.now 21 no_lines (inl (refl, λ kind. some (sym all_left ∙ kind.1))))
+    go (part ∷ parts) first =
+        let begins : lines_of at.text.now ≡ words_of part ∷ map words_of parts = ap (map words_of) first in
+        subst (TellsFault v (AtNothing r) at) (sym is)
+        (fault_here (body v) at.line (AtNothing r) at.text.now 21 (words_of part) (map words_of parts) begins
+        (inl (refl, λ kind. absurd (omega (arith, ap length kind.0, some_part is_blank part)))))
+
+-- ---- how many lines
+
+item_count : (F : Form) (items : List (traced.Item AutomatonState)) (lines : List Line) → ItemLines F items lines → length lines ≡ length items
+item_count F [] lines is = ap length is
+item_count F (a ∷ items) lines (line, others, first, rest, is) = omega (arith, ap length is, item_count F items others rest)
+
+head_count : (v : Version) (names : ℕ) (F : Form) (i : ℕ) (q : List ℕ) (lines : List Line) → IsForm v names F → HeadLines F i q lines
+    → length lines ≡ head_size v
+head_count One names InFull i q lines form is = ap length is
+head_count One names (ByTables qs ks) i q lines form is = absurd form
+head_count Two names InFull i q lines form is = absurd form
+head_count Two names (ByTables qs ks) i q lines form (s, there, is) = ap length is
+
+entries_count : (v : Version) (names : ℕ) (F : Form) (i : ℕ) (es : List Entry) (lines : List Line) → IsForm v names F
+    → EntriesLines F i es lines → length lines ≡ entries_size v es
+entries_count v names F i [] lines form is = ap length is
+entries_count v names F i (e ∷ es) lines form (first, others, one, rest, is) =
+    omega (
+      arith,
+      ap length is,
+      length-append first others,
+      ap length one.are_lines,
+      length-append one.head (live_line e.traces.live ∷ (one.items ++ heights_line e.heights ∷ decision_lines e.decision)),
+      length-append one.items (heights_line e.heights ∷ decision_lines e.decision),
+      head_count v names F i e.sequent one.head form one.is_head,
+      item_count F e.traces.items one.items one.are_items,
+      entries_count v names F (i + 1) es others form rest,
+    )
+
+first_count : (v : Version) (F : Form) (names : ℕ) (lines : List Line) → FirstLines F names lines → length lines + 1 ≡ lines_before F
+first_count v InFull names lines is = omega (arith, ap length is)
+first_count v (ByTables qs ks) names lines (w, spells, is) =
+    omega (
+      arith,
+      ap length is,
+      length-append (map sequent_line qs) (stacks_line w ∷ map stack_line ks),
+      length-map qs sequent_line,
+      length-map ks stack_line,
+    )
+
+pub body_size : (v : Version) (F : Form) (r : Refutation) (lines : List Line) → IsForm v r.names F → BodyLines F r lines
+    → length lines ≡ lines_before F + entries_size v r.entries + 1
+body_size v F r lines form is =
+    omega (
+      arith,
+      ap length is.are_lines,
+      length-append is.first (entries_line (length r.entries) ∷ (is.entries ++ end_line ∷ [])),
+      length-append is.entries (end_line ∷ []),
+      first_count v F r.names is.first is.are_first,
+      entries_count v r.names F 0 r.entries is.entries form is.are_entries,
+    )
+
+-- ---- what was read to a place
+
+pub record RunsOf (v : Version) (left : List ℕ) (k : ℕ) (p : Place) (lines : List Line) (j : ℕ) (q : Place) (rest : List Line) : Type 0 where
+  pub front : List Line
+  pub is_front : lines ≡ front ++ rest
+  pub run : Runs (body v left) p front q
+  pub counted : j ≡ k + length front
+
+pub runs_of : (v : Version) (left : List ℕ) (k : ℕ) (p : Place) (lines : List Line) (j : ℕ) (q : Place) (rest : List Line)
+    → IsReadTo (body v left) k p lines j q rest → RunsOf v left k p lines j q rest
+runs_of v left k p lines j q rest nothing_read = record { front = []; is_front = refl; run = refl; counted = omega arith }
+runs_of v left k p lines j q rest (line_read i at line more before good) =
+    let so_far = runs_of v left k p lines i at (line ∷ more) before in record {
+      front = so_far.front ++ line ∷ [];
+      is_front = so_far.is_front ∙ sym (append_assoc so_far.front (line ∷ []) more);
+      run = run_on (body v left) p at (after v at line) so_far.front (line ∷ []) so_far.run (good, refl);
+      counted = omega (arith, so_far.counted, length-append so_far.front (line ∷ []));
+    }
+
+-- ---- the parts of a body
+
+-- behind the last entry
+pub at_end : (v : Version) (names wanted : ℕ) (F : Form) (es : List Entry) (p : Place) (at rest : Rest) → length es ≡ wanted
+    → Goes v p at (at_entry (knows names F wanted) es) rest → Goes v p at (AtEnd (record { names = names; entries = es })) rest
+at_end v names wanted F es p at rest full goes =
+    let test : nat_lt (length es) wanted ≡ false = grind (arith, nat_tests, full) in
+    subst (λ b. Goes v p at (cond b (AtEntry (knows names F wanted) es) (AtEnd (record { names = names; entries = es }))) rest) test goes
+
+module _ (v : Version) (names wanted : ℕ) (F : Form) (at a b c : Rest) where
+  pub to_entries : Goes v AtNames at (after_names v names) a → Goes v (after_names v names) a (AtEntries names F) b
+      → Goes v (AtEntries names F) b (at_entry (knows names F wanted) []) c → Goes v AtNames at (at_entry (knows names F wanted) []) c
+  to_entries first second third =
+      goes_on v AtNames (after_names v names) (at_entry (knows names F wanted) []) at a c first
+      (goes_on v (after_names v names) (AtEntries names F) (at_entry (knows names F wanted) []) a b c second third)
+
+-- ---- a whole text
+
+pub text_size : (v : Version) (t : List ℕ) (r : Refutation) → IsRefutation r → (written : IsTextOf v t r)
+    → length (lines_of t) ≡ lines_before written.form + entries_size v r.entries + 1
+text_size v t r is written =
+    let plain = run_plain v 0 [] AtNames (AtNothing r) written.lines (body_run v (0 ∷ []) written.form r written.lines is written.is_form written.are_lines) in
+    let read = lines_read written.lines plain in
+    ap length (ap lines_of written.is_text ∙ read.0) ∙ body_size v written.form r written.lines written.is_form written.are_lines
+
+module _ (v : Version) (at rest : Rest) (r : Refutation) (goes : Goes v AtNames at (AtNothing r) rest) (none : rest.text.now ≡ []) where
+  pub record IsWhole : Type 0 where
+    pub is : IsRefutation r
+    pub written : IsTextOf v at.text.now r
+    pub counted : rest.line ≡ at.line + length (lines_of at.text.now)
+
+  whole_read : IsWhole
+  whole_read =
+      let t = at.text.now in
+      let read = runs_of v (left_of t) at.line AtNames (lines_of t) rest.line (AtNothing r) (lines_of rest.text.now) goes.read in
+      let left : left_of t ≡ [] = goes.left_is ∙ ap left_of none in
+      let full : lines_of t ≡ read.front = read.is_front ∙ ap (λ text. read.front ++ lines_of text) none ∙ append-nil read.front in
+      let run = subst (λ ls. Runs (body v (left_of t)) AtNames ls (AtNothing r)) (sym full) read.run in
+      let readable = run_readable (body v (left_of t)) AtNames (AtNothing r) (lines_of t) run ((refl, left), tt) in
+      let text = readable_is_text v t readable in
+      let lines = text_lines v t text.0 text.1 text.2 in
+      let mine = subst (λ l. Runs (body v l) AtNames (lines_of t) (AtNothing r)) left run in
+      let same = same_end r text.0 (one_end (body v []) AtNames (AtNothing r) (AtNothing text.0) (lines_of t) mine lines.run) in record {
+        is = subst IsRefutation (sym same) text.1;
+        written = subst (IsTextOf v t) (sym same) text.2;
+        counted = omega (arith, read.counted, ap length full);
+      }
+
+  pub body_read : (start before : ℕ) (parts : List EntryLines) → start ≡ at.line + before → parts ≡ parts_from v start r.entries
+      → rest.line ≡ start + entries_size v r.entries + 1 → IsBodyRead v at.text.now at.line r parts
+  body_read start before parts begins are counted =
+      let whole = whole_read in
+      let size = text_size v at.text.now r whole.is whole.written in
+      let first : start ≡ at.line + lines_before whole.written.form = omega (arith, begins, counted, whole.counted, size) in record {
+        is_refutation = whole.is;
+        are_lines = record {
+          written = whole.written;
+          are_parts = are ∙ ap (λ n. parts_from v n r.entries) first;
+        };
+      }
+
+pub one_parts : (v : Version) (t : List ℕ) (n : ℕ) (r : Refutation) (ps qs : List EntryLines) → IsRefutation r
+    → AreLinesOf v t n r ps → AreLinesOf v t n r qs → ps ≡ qs
+one_parts v t n r ps qs is first second =
+    let one = text_size v t r is first.written in
+    let two = text_size v t r is second.written in
+    let same : n + lines_before first.written.form ≡ n + lines_before second.written.form = omega (arith, one, two) in
+    first.are_parts ∙ ap (λ m. parts_from v m r.entries) same ∙ sym second.are_parts

@@ -1,0 +1,157 @@
+-- The tables of version 2, read line by line.
+--
+--   SequentsTo n at rows rest    == from `at` up to `rest` these rows of a table of n sequents were read
+--   StacksTo m n at rows rest    == so of a table of n stacks, with m names
+--   row_there                    == the row at a place
+--   rows_begin, row_more, rows_done, and so on == before any line, one more, and behind the last one
+use Rattle.std.proofs.Common.{◌≡◌, ℕ, ◌+◌, ◌-◌, ◌<◌, ◌≤◌, ◌^◌, true, false, cond, min, nat_lt, List, [], ◌∷◌, ◌++◌, Some, get_or, slice_get, length, map, All, refl, sym, ap, subst, ◌∙◌, length-append, arith}
+use Rattle.std.specs.Global.{Vec}
+use Rattle.std.proofs.lemmas.Bool.Decides.{nat_tests}
+use Rattle.std.proofs.lemmas.List.{map-append, length-map, get_or-map}
+use Rattle.std.proofs.lemmas.Option.{slice_get-get_or}
+use Rattle.ml_base.specs.declared.version.Version.{Version}
+use Rattle.ml_base.specs.declared.version.Version.TheVariants.{One}
+use Rattle.ml_base.specs.declared.doc_refusal.DocRefusal.{DocRefusal}
+use Rattle.ml_lines.specs.Lines.{Word, Line}
+use Rattle.ml_lines.specs.Reading.{value}
+use Rattle.ml_refutation.specs.Refutation.{Fits, IsStack}
+use Rattle.ml_refutation_text.specs.RefutationText.{Spells, ByTables, sequents_line, sequent_line, stacks_line, stack_line}
+use Rattle.ml_refutation_text.specs.BodyRules.{Place, AtSequents, AtTableSequent, AtStacks, AtTableStack, AtEntries, at_sequent_table, at_stack_table, body}
+use Rattle.ml_refutation_text.specs.private.Reads.{rows_in, HasRoom, IsNext, Goes, IsUsual, TellsRule, TellsFault, at_line}
+use Rattle.ml_refutation_text.specs.private.EntryReads.{IsSequentRead, TellsSequent}
+use Rattle.ml_refutation_text.specs.declared.rest.Rest.{Rest}
+use Rattle.ml_refutation_text.specs.declared.rest.LineRefusal.{LineRefusal}
+use Rattle.ml_refutation_text.proofs.Runs.{Runs}
+use Rattle.ml_refutation_text.proofs.RowLines.{sequents_first, sequent_row, stacks_first, stack_row}
+use Rattle.ml_refutation_text.proofs.Going.{goes_begin, goes_on, goes_run, fault_on, refused_line, room_on}
+
+rows_push : (rows more : List (Vec ℕ)) (row : Vec ℕ) → more ≡ rows ++ row ∷ [] → rows_in more ≡ rows_in rows ++ row.items ∷ []
+rows_push rows more row is = ap rows_in is ∙ map-append (λ r. r.items) rows (row ∷ [])
+
+pub length-rows : (rows : List (Vec ℕ)) → length (rows_in rows) ≡ length rows
+length-rows rows = length-map rows (λ r. r.items)
+
+-- the row at a place
+pub row_there : (rows : List (Vec ℕ)) (i : ℕ) (row : Vec ℕ) (ns : List ℕ) → i < length rows → row ≡ get_or rows i row → ns ≡ row.items
+    → slice_get (rows_in rows) i ≡ Some ns
+row_there rows i row ns inside is same =
+    let within : i < length (rows_in rows) = omega (arith, inside, length-rows rows) in
+    slice_get-get_or (rows_in rows) i row.items within
+    ∙ ap Some (get_or-map (λ r. r.items) rows i row row.items inside ∙ ap (λ r. r.items) (sym is) ∙ sym same)
+
+module _ (size : ℕ) (at : Rest) where
+  pub record SequentsTo (rows : List (Vec ℕ)) (rest : Rest) : Type 0 where
+    pub goes : (v : Version) (names : ℕ) → Goes v (at_sequent_table names size []) at (at_sequent_table names size (rows_in rows)) rest
+    pub counted : rest.line ≡ at.line + length rows
+
+  pub rows_begin : SequentsTo [] at
+  rows_begin = record { goes = λ v names. goes_begin v (at_sequent_table names size []) at; counted = omega arith }
+
+  module _ (rows : List (Vec ℕ)) (rest : Rest) (so_far : SequentsTo rows rest) where
+    pub rows_room : HasRoom at → HasRoom rest
+    rows_room room = room_on One (at_sequent_table 0 size []) (at_sequent_table 0 size (rows_in rows)) at rest (so_far.goes One 0) room
+
+    module _ (below : length rows < size) where
+      -- the next line is one of the table
+      at_row : (v : Version) (names : ℕ) → Goes v (at_sequent_table names size []) at (AtTableSequent names size (rows_in rows)) rest
+      at_row v names =
+          let test : nat_lt (length (rows_in rows)) size ≡ true = grind (arith, nat_tests, length-rows rows, below) in
+          subst (λ b. Goes v (at_sequent_table names size []) at (cond b (AtTableSequent names size (rows_in rows)) (AtStacks names (rows_in rows))) rest)
+          test (so_far.goes v names)
+
+      pub row_refused : (e : DocRefusal) → TellsSequent rest e → (v : Version) (names : ℕ) → TellsFault v (at_sequent_table names size []) at e
+      row_refused e tells v names =
+          fault_on v (at_sequent_table names size []) (AtTableSequent names size (rows_in rows)) at rest e (at_row v names)
+          (tells.in_table v names size (rows_in rows))
+
+      pub row_more : (row : Vec ℕ) (more : List (Vec ℕ)) (behind : Rest) → IsSequentRead rest row.items behind → more ≡ rows ++ row ∷ []
+          → SequentsTo more behind
+      row_more row more behind read pushed = record {
+        goes = λ v names.
+            let p = AtTableSequent names size (rows_in rows) in
+            goes_on v (at_sequent_table names size []) p (at_sequent_table names size (rows_in more)) at rest behind (at_row v names)
+            (goes_run v p (at_sequent_table names size (rows_in more)) rest behind (sequent_line row.items) (sequent_line row.items) read.next refl
+            (λ left.
+            subst (λ rs. Runs (body v left) p (sequent_line row.items ∷ []) (at_sequent_table names size rs)) (sym (rows_push rows more row pushed))
+            (sequent_row v left names size (rows_in rows) row.items read.fit read.ascends)));
+        counted = omega (arith, so_far.counted, read.next.counted, ap length pushed, length-append rows (row ∷ []));
+      }
+
+    -- behind the last line
+    pub rows_done : size ≤ length rows → (v : Version) (names : ℕ) → Goes v (at_sequent_table names size []) at (AtStacks names (rows_in rows)) rest
+    rows_done full v names =
+        let test : nat_lt (length (rows_in rows)) size ≡ false = grind (arith, nat_tests, length-rows rows, full) in
+        subst (λ b. Goes v (at_sequent_table names size []) at (cond b (AtTableSequent names size (rows_in rows)) (AtStacks names (rows_in rows))) rest)
+        test (so_far.goes v names)
+
+-- behind the number of sequents
+pub sequents_begin : (v : Version) (names size : ℕ) (at behind : Rest) → Fits size → IsNext at (sequents_line size) behind
+    → Goes v (AtSequents names) at (at_sequent_table names size []) behind
+sequents_begin v names size at behind fits next =
+    goes_run v (AtSequents names) (at_sequent_table names size []) at behind (sequents_line size) (sequents_line size) next refl
+    (λ left. sequents_first v left names size fits)
+
+-- ---- stacks
+
+module _ (names size : ℕ) (at : Rest) where
+  pub record StacksTo (rows : List (Vec ℕ)) (rest : Rest) : Type 0 where
+    pub goes : (v : Version) (qs : List (List ℕ)) → Goes v (at_stack_table names qs size []) at (at_stack_table names qs size (rows_in rows)) rest
+    pub counted : rest.line ≡ at.line + length rows
+
+  pub stack_rows_begin : StacksTo [] at
+  stack_rows_begin = record { goes = λ v qs. goes_begin v (at_stack_table names qs size []) at; counted = omega arith }
+
+  module _ (rows : List (Vec ℕ)) (rest : Rest) (so_far : StacksTo rows rest) where
+    pub stack_rows_room : HasRoom at → HasRoom rest
+    stack_rows_room room = room_on One (at_stack_table names [] size []) (at_stack_table names [] size (rows_in rows)) at rest (so_far.goes One []) room
+
+    module _ (below : length rows < size) where
+      at_stack : (v : Version) (qs : List (List ℕ)) → Goes v (at_stack_table names qs size []) at (AtTableStack names qs size (rows_in rows)) rest
+      at_stack v qs =
+          let test : nat_lt (length (rows_in rows)) size ≡ true = grind (arith, nat_tests, length-rows rows, below) in
+          subst (λ b. Goes v (at_stack_table names qs size []) at (cond b (AtTableStack names qs size (rows_in rows)) (AtEntries names (ByTables qs (rows_in rows)))) rest)
+          test (so_far.goes v qs)
+
+      pub stack_missing : (e : DocRefusal) → ((v : Version) (p : Place) → IsUsual p → TellsFault v p rest e)
+          → (v : Version) (qs : List (List ℕ)) → TellsFault v (at_stack_table names qs size []) at e
+      stack_missing e missing v qs =
+          fault_on v (at_stack_table names qs size []) (AtTableStack names qs size (rows_in rows)) at rest e (at_stack v qs)
+          (missing v (AtTableStack names qs size (rows_in rows)) tt)
+
+      module _ (line : Line) (behind : Rest) (next : IsNext rest line behind) where
+        pub stack_refused : (e : LineRefusal) (told : DocRefusal) → told ≡ at_line rest.line e
+            → ((qs rows : List (List ℕ)) (size : ℕ) → TellsRule (AtTableStack names qs size rows) line e)
+            → (v : Version) (qs : List (List ℕ)) → TellsFault v (at_stack_table names qs size []) at told
+        stack_refused e told is tells v qs =
+            let p = AtTableStack names qs size (rows_in rows) in
+            fault_on v (at_stack_table names qs size []) p at rest told (at_stack v qs)
+            (subst (TellsFault v p rest) (sym is) (refused_line v p rest behind line e next (tells qs (rows_in rows) size)))
+
+        pub stack_more : (row : Vec ℕ) (more : List (Vec ℕ)) → Fits names → line ≡ stack_line row.items → IsStack names row.items
+            → more ≡ rows ++ row ∷ [] → StacksTo more behind
+        stack_more row more small is stack pushed = record {
+          goes = λ v qs.
+              let p = AtTableStack names qs size (rows_in rows) in
+              goes_on v (at_stack_table names qs size []) p (at_stack_table names qs size (rows_in more)) at rest behind (at_stack v qs)
+              (goes_run v p (at_stack_table names qs size (rows_in more)) rest behind line (stack_line row.items) next is
+              (λ left.
+              subst (λ rs. Runs (body v left) p (stack_line row.items ∷ []) (at_stack_table names qs size rs)) (sym (rows_push rows more row pushed))
+              (stack_row v left names qs size (rows_in rows) row.items small stack)));
+          counted = omega (arith, so_far.counted, next.counted, ap length pushed, length-append rows (row ∷ []));
+        }
+
+    -- behind the last line: fewer were read than there are numbers of 64 bits
+    pub stacks_done : (capped : ℕ) → capped ≡ min size (2 ^ 64 - 1) → capped ≤ length rows → 0 < at.line → HasRoom rest
+        → (v : Version) (qs : List (List ℕ)) → Goes v (at_stack_table names qs size []) at (AtEntries names (ByTables qs (rows_in rows))) rest
+    stacks_done capped is full some room v qs =
+        let all : size ≤ length rows = omega (arith, is, full, some, room, so_far.counted) in
+        let test : nat_lt (length (rows_in rows)) size ≡ false = grind (arith, nat_tests, length-rows rows, all) in
+        subst (λ b. Goes v (at_stack_table names qs size []) at (cond b (AtTableStack names qs size (rows_in rows)) (AtEntries names (ByTables qs (rows_in rows)))) rest)
+        test (so_far.goes v qs)
+
+-- behind the number of stacks
+pub stacks_begin : (v : Version) (names : ℕ) (qs : List (List ℕ)) (w : Word) (at behind : Rest) (line : Line) → Spells w (value w) → IsNext at line behind
+    → line ≡ stacks_line w → Goes v (AtStacks names qs) at (at_stack_table names qs (value w) []) behind
+stacks_begin v names qs w at behind line spells next is =
+    goes_run v (AtStacks names qs) (at_stack_table names qs (value w) []) at behind line (stacks_line w) next is
+    (λ left. stacks_first v left names qs w spells)

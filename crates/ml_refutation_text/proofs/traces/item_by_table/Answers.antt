@@ -1,0 +1,48 @@
+use Rattle.std.proofs.Common.{◌≡◌, [], ◌∷◌, codes, ap, subst, arith, ◌∙◌, Some, slice_get}
+use Rattle.std.specs.Option.{option_copied}
+use Rattle.ml_lines.specs.Reading.{words_of, value}
+use Rattle.ml_refutation_text.specs.private.ItemReads.{before_of}
+use Rattle.ml_refutation_text.specs.private.Reads.{rows_in}
+use Rattle.ml_refutation_text.proofs.ItemLines.{table_no_names, table_lacks, table_is}
+use Rattle.ml_refutation_text.proofs.traces.item_by_table.Goals as goal
+
+pub returns-then-not-comes_behind-clause-refused : goal.returns-then-not-comes_behind-clause-refused
+returns-then-not-comes_behind-clause-refused c =
+    let line = words_of c.args.line.now in
+    let state = c.in-Some-read_state.ensures in
+    λ names qs wanted es q traces no_heights stand.
+    table_no_names names wanted es q traces qs (rows_in c.args.stacks.now) line c.in-Some.node.now c.in-Some.guess.now
+    c.in-Some-one_word.place.now
+    (c.in-Some.ensures.1 ∙ ap (λ ws. codes "item" ∷ c.in-Some.node.now ∷ c.in-Some.guess.now ∷ ws) c.in-Some-one_word.ensures)
+    c.args.live (before_of (option_copied c.args.before))
+    (record { node = c.in-Some-read_state.node; odd = c.in-Some-read_state.odd }) stand state.0 state.2 state.1 state.3
+    c.in-Some-read_any.ensures.0 (λ both. c.comes_behind.ensures.otherwise c.if-not-comes_behind.true both.0)
+
+pub returns-in-Err-clause-refused : goal.returns-in-Err-clause-refused
+returns-in-Err-clause-refused c =
+    let line = words_of c.args.line.now in
+    let state = c.in-Some-read_state.ensures in
+    λ names qs wanted es q traces no_heights stand.
+    table_lacks names wanted es q traces qs (rows_in c.args.stacks.now) line c.in-Some.node.now c.in-Some.guess.now
+    c.in-Some-one_word.place.now
+    (c.in-Some.ensures.1 ∙ ap (λ ws. codes "item" ∷ c.in-Some.node.now ∷ c.in-Some.guess.now ∷ ws) c.in-Some-one_word.ensures)
+    c.args.live (before_of (option_copied c.args.before))
+    (record { node = c.in-Some-read_state.node; odd = c.in-Some-read_state.odd }) stand state.0 state.2 state.1 state.3
+    c.in-Some-read_any.ensures.0 c.in-Some-read_any.place c.in-Err.refusal c.in-Some-read_any.ensures.1
+    (c.comes_behind.ensures.yes c.if-not-comes_behind.false) c.in-Err.ensures.refused
+
+pub returns-in-Ok-clause-read : goal.returns-in-Ok-clause-read
+returns-in-Ok-clause-read c =
+    let line = words_of c.args.line.now in
+    let state = c.in-Some-read_state.ensures in
+    let p = c.in-Some-one_word.place.now in
+    let read = c.in-Ok.ensures.read in
+    let ks = rows_in c.args.stacks.now in
+    let same : c.in-Some-read_any.place ≡ value p = omega (arith, c.in-Some-read_any.ensures.1, read.1) in
+    λ qs.
+    table_is qs ks line c.args.live (before_of (option_copied c.args.before))
+    (record { node = c.in-Some-read_state.node; odd = c.in-Some-read_state.odd }) c.in-Ok.stack.items p
+    (c.in-Some.ensures.1 ∙ ap (λ ws. codes "item" ∷ c.in-Some.node.now ∷ c.in-Some.guess.now ∷ ws) c.in-Some-one_word.ensures
+    ∙ (λ i. codes "item" ∷ state.0 i ∷ state.2 i ∷ p ∷ []))
+    c.in-Some-read_any.ensures.0 (subst (λ t. slice_get ks t ≡ Some c.in-Ok.stack.items) same read.0) state.1 state.3
+    (c.comes_behind.ensures.yes c.if-not-comes_behind.false) read.2

@@ -1,0 +1,10 @@
+use Rattle.std.specs.Option.{option_copied}
+use Rattle.ml_lines.specs.Reading.{words_behind}
+use Rattle.ml_refutation_text.proofs.NumberWords.{AreNumbersTo, size_left}
+use Rattle.ml_refutation_text.proofs.words.read_numbers.Given as goal
+
+abbrev pub invariant-loop-left : goal.invariant-loop-left
+invariant-loop-left l = AreNumbersTo (words_behind (option_copied l.fn.behind)) l.ns.items (option_copied l.left)
+
+abbrev pub decreases-loop-left : goal.decreases-loop-left
+decreases-loop-left l = size_left (option_copied l.left)

@@ -1,0 +1,23 @@
+// What a text tells before its entries.
+
+/// Sequents and stacks, each as a line of a table of version 2 has it.
+#[derive(Drop)]
+pub(crate) struct ReadTables {
+    pub(crate) sequents: Vec<Vec<u32>>,
+    pub(crate) stacks: Vec<Vec<u32>>,
+}
+
+/// Sequents and stacks in full, or by their places in tables.
+#[derive(Drop)]
+pub(crate) enum Form {
+    InFull,
+    ByTables(ReadTables),
+}
+
+/// The number of names, the form, and how many entries there are to be.
+#[derive(Drop)]
+pub(crate) struct Known {
+    pub(crate) names: u32,
+    pub(crate) form: Form,
+    pub(crate) wanted: u32,
+}

@@ -1,0 +1,55 @@
+// Lists of numbers as a text has them: whether they ascend, and their copies.
+ghost use Rattle.std.specs.Prelude.{◌≡◌, ◌<◌, false, nat_lt, IsTrue, IfOk, All};
+ghost use Rattle.std.specs.List.{list_all};
+ghost use Rattle.ml_lists.specs.Ascending.{IsAscending};
+ghost use Rattle.ml_refutation_text.specs.private.ItemReads.{ascends_behind, AreNames};
+
+use ml_base::NoMemory;
+use std::alloc::Global;
+
+// do the numbers strictly ascend?
+pub(crate) fn ascends(ns: &[u32]) -> bool
+    ensures yes { IsTrue result → IsAscending ns.now }
+    ensures otherwise { result ≡ false → ¬ (IsAscending ns.now) }
+{
+    match ns.split_first() {
+        Some((first, others)) => ascends_from(*first, others),
+        None => true,
+    }
+}
+
+// do the numbers strictly ascend, all above the first one?
+fn ascends_from(first: u32, others: &[u32]) -> bool
+    ensures { result ≡ ascends_behind first others.now }
+{
+    let mut last = first;
+    for n in others {
+        if *n <= last {
+            return false;
+        }
+        last = *n;
+    }
+    true
+}
+
+// are these names strictly ascending and below the bound?
+pub(crate) fn are_names(ns: &[u32], bound: u32) -> bool
+    ensures yes { IsTrue result → AreNames bound ns.now }
+    ensures otherwise { result ≡ false → ¬ (AreNames bound ns.now) }
+{
+    ascends(ns) && all_below(ns, bound)
+}
+
+fn all_below(ns: &[u32], bound: u32) -> bool
+    ensures { result ≡ list_all (λ n. nat_lt n bound) ns.now }
+{
+    ns.iter().all(|n| *n < bound)
+}
+
+pub(crate) fn copied(alloc: Global, ns: &[u32]) -> Result<Vec<u32>, NoMemory>
+    ensures { IfOk result (λ copy. copy.items ≡ ns.now) }
+{
+    let mut copy = Vec::new(alloc);
+    copy.extend_from_slice(ns)?;
+    Ok(copy)
+}

@@ -1,0 +1,6 @@
+-- What nobody has to believe: what only private contracts cite.
+
+-- the entries as they are found
+pub mod Found
+-- the refutation as it is put together
+pub mod PutTogether

@@ -1,0 +1,183 @@
+// What is done at a position of a decision game that Odd wins.
+ghost use Rattle.std.specs.Prelude.{◌≡◌, ◌<◌, ◌==◌, ℕ, [], length, get_or, IfOk};
+ghost use Rattle.std.specs.List.{position_or_len};
+ghost use Rattle.ml_parity.specs.Solution.{choice_at};
+ghost use Rattle.ml_product.specs.DecisionGame.{IsResolved};
+ghost use Rattle.ml_product.specs.Position.{neutral, start_of};
+ghost use Rattle.ml_refutation.specs.Views.{cause_of, mark_of};
+ghost use Rattle.ml_trace.specs.declared.marks.Mark.{Mark};
+ghost use Rattle.ml_trace.specs.Marks.{priority, FitsBelow};
+ghost use Rattle.ml_refute.specs.private.Found.{OddWins, IsWon, IsSpreadAt, LeavesTo, IsTurnAt, AreSides};
+
+use ml_base::NoMemory;
+use ml_graph::ModalGraph;
+use ml_parity::Solution;
+use ml_product::Arena;
+use ml_refutation::{Cause, Step};
+use ml_sequent::{ClashCause, LocalPhase, Spread};
+
+/// What is done at a position.
+#[derive(Clone, Copy, Debug)]
+pub(crate) enum Turn {
+    /// The spread clashes.
+    Clash(Cause),
+    /// This is the least or-node at which a side is still to be chosen.
+    Open(u32),
+    /// Odd's choice leads along this diamond, the least one that leads there.
+    Leave(u32),
+}
+
+/// The decision game of a graph, with a solution by which Odd wins it.
+#[derive(Clone, Copy)]
+pub(crate) struct LostGame<'a> {
+    pub graph: &'a ModalGraph,
+    pub arena: &'a Arena,
+    pub solution: &'a Solution,
+}
+
+impl LostGame<'_> {
+    /// What is done at a position.
+    ///
+    /// # Errors
+    /// `NoMemory` alone.
+    ///
+    /// Cost: that of the local phase, and linear in the moves.
+    pub(crate) fn turn_at(&self, phase: &mut LocalPhase, v: u32) -> Result<Turn, NoMemory>
+        requires odd { OddWins self.now.graph.now self.now.arena.now self.now.solution.now }
+        requires won { IsWon self.now.arena.now self.now.solution.now v }
+        requires graph { phase.old ≡ self.now.graph.now }
+        ensures graph { phase.new ≡ phase.old }
+        ensures turn { IfOk result (IsTurnAt self.now.graph.now self.now.arena.now self.now.solution.now v) }
+    {
+        let position = self.arena.position(v);
+        let spread = phase.spread(position.sequent, position.choice)?;
+        self.turn_in(phase, v, &spread)
+    }
+
+    /// What is done at a position with this spread.
+    fn turn_in(&self, phase: &mut LocalPhase, v: u32, spread: &Spread) -> Result<Turn, NoMemory>
+        requires odd { OddWins self.now.graph.now self.now.arena.now self.now.solution.now }
+        requires won { IsWon self.now.arena.now self.now.solution.now v }
+        requires graph { phase.old ≡ self.now.graph.now }
+        requires spread { IsSpreadAt self.now.graph.now self.now.arena.now v spread.now }
+        ensures graph { phase.new ≡ phase.old }
+        ensures turn { IfOk result (IsTurnAt self.now.graph.now self.now.arena.now self.now.solution.now v) }
+    {
+        match phase.clash(spread)? {
+            Some(cause) => Ok(Turn::Clash(cause_of(cause))),
+            None => match phase.open_or(spread) {
+                Some(node) => Ok(Turn::Open(node)),
+                None => Ok(Turn::Leave(self.diamond_of(phase, v, spread)?)),
+            },
+        }
+    }
+
+    /// The least diamond along which Odd's choice leads, where nothing clashes and no or-node is open.
+    fn diamond_of(&self, phase: &LocalPhase, v: u32, spread: &Spread) -> Result<u32, NoMemory>
+        requires odd { OddWins self.now.graph.now self.now.arena.now self.now.solution.now }
+        requires won { IsWon self.now.arena.now self.now.solution.now v }
+        requires graph { phase.now ≡ self.now.graph.now }
+        requires spread { IsSpreadAt self.now.graph.now self.now.arena.now v spread.now }
+        requires resolved { IsResolved self.now.graph.now spread.now }
+        ensures { IfOk result (LeavesTo self.now.graph.now self.now.arena.now self.now.solution.now v spread.now) }
+    {
+        let diamonds = phase.diamonds(spread)?;
+        let place = self.place_of_choice(v);
+        Ok(diamonds[place])
+    }
+
+    /// The first place of the choice among the moves.
+    fn place_of_choice(&self, v: u32) -> usize
+        requires odd { OddWins self.now.graph.now self.now.arena.now self.now.solution.now }
+        requires won { IsWon self.now.arena.now self.now.solution.now v }
+        ensures { result ≡ position_or_len
+            (λ w. w == choice_at self.now.solution.now.choice v)
+            (get_or self.now.arena.now.moves v []) }
+    {
+        place_in(self.arena.moves(v), self.choice_at(v))
+    }
+
+    /// The choice at a vertex.
+    fn choice_at(&self, v: u32) -> u64
+        requires odd { OddWins self.now.graph.now self.now.arena.now self.now.solution.now }
+        requires won { IsWon self.now.arena.now self.now.solution.now v }
+        ensures { result ≡ choice_at self.now.solution.now.choice v }
+    {
+        let solution = self.solution;
+        solution.choice[v as usize]
+    }
+
+    /// Where Odd's choice leads from a vertex that is left.
+    pub(crate) fn next_of(&self, v: u32) -> u32
+        requires odd { OddWins self.now.graph.now self.now.arena.now self.now.solution.now }
+        requires won { IsWon self.now.arena.now self.now.solution.now v }
+        requires next { IsWon self.now.arena.now self.now.solution.now (choice_at self.now.solution.now.choice v) }
+        ensures { result ≡ choice_at self.now.solution.now.choice v }
+    {
+        let _size = self.arena.size();
+        self.choice_at(v) as u32
+    }
+
+    /// The vertices of both sides of the or-node that is open.
+    pub(crate) fn sides_of(&self, v: u32, node: u32) -> (u32, u32)
+        requires odd { OddWins self.now.graph.now self.now.arena.now self.now.solution.now }
+        requires won { IsWon self.now.arena.now self.now.solution.now v }
+        requires turn { IsTurnAt self.now.graph.now self.now.arena.now self.now.solution.now v (Turn.Open node) }
+        ensures { AreSides self.now.graph.now self.now.arena.now self.now.solution.now v node result.0 result.1 }
+    {
+        let _size = self.arena.size();
+        let moves = self.arena.moves(v);
+        (moves[0] as u32, moves[1] as u32)
+    }
+
+    /// The mark whose priority a position has.
+    pub(crate) fn mark_of(&self, v: u32) -> Step
+        requires odd { OddWins self.now.graph.now self.now.arena.now self.now.solution.now }
+        requires low { v < length self.now.arena.now.positions }
+        ensures { (m : Mark)
+            → FitsBelow (neutral self.now.graph.now) m
+            → (get_or self.now.arena.now.positions v (start_of self.now.graph.now)).priority ≡ priority (neutral self.now.graph.now) m
+            → mark_of result ≡ m }
+    {
+        mark_with(
+            self.arena.position(0).priority,
+            self.arena.position(v).priority,
+        )
+    }
+}
+
+/// The mark with a priority, where this is the neutral one.
+fn mark_with(neutral: u32, number: u32) -> Step
+    ensures { (m : Mark) → FitsBelow neutral m → number ≡ priority neutral m → mark_of result ≡ m }
+{
+    if number == neutral {
+        Step::Neutral
+    } else if number % 2 == 0 {
+        Step::Red(number / 2)
+    } else {
+        Step::Green(number / 2)
+    }
+}
+
+/// The first place of a vertex among these.
+fn place_in(vertices: &[u64], v: u64) -> usize
+    ensures { result ≡ position_or_len (λ w. w == v) vertices.now }
+{
+    for (i, w) in vertices.iter().enumerate() {
+        if *w == v {
+            return i;
+        }
+    }
+    vertices.len()
+}
+
+/// The cause, as a file names it.
+fn cause_of(cause: ClashCause) -> Cause
+    ensures { cause_of result ≡ cause }
+{
+    match cause {
+        ClashCause::False(node) => Cause::False(node),
+        ClashCause::Pair(positive, negative) => Cause::Pair(positive, negative),
+        ClashCause::Cycle(node) => Cause::Cycle(node),
+    }
+}

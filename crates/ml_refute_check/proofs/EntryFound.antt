@@ -1,0 +1,227 @@
+-- What checking the parts of an entry before its decision finds.
+--
+--   item_told, items_more, items_first, items_all == items, one by one
+--   start_told, live_told  == the tests of the sequent and of the names in use tell exactly whether their rules are kept
+--   front_refused_2, front_refused_3, front_later, front_kept == what is found of the three together
+--   live_low        == the names of an entry's items are in use
+--   ascending_again, start_stands == the sequent of an entry as a set, and its spread
+--   odds_ascend     == the odd priorities of a graph ascend
+--   entry_of_index  == an entry that a program reads by its place
+--   whole_front, whole_later, whole_kept == what is found of an entry
+use Rattle.std.proofs.Common.{◌≡◌, ◌↔◌, ℕ, zero, suc, ◌+◌, ◌<◌, ◌≤◌, ◌%◌, ◌==◌, filter, Bool, true, false, List, [], ◌∷◌, ◌++◌, Option, None, Some, All, length, get_or, take, map, IsTrue, inl, inr, refl, sym, ap, ◌∙◌, subst, arith}
+use Rattle.std.proofs.lemmas.Bool.{true≢false}
+use Rattle.std.proofs.lemmas.List.{map-append, take_more, take_all, get_or-map, length-map}
+use Rattle.std.specs.Global.{Vec}
+use Rattle.ml_lists.specs.Ascending.{IsAscending, ascending}
+use Rattle.ml_lists.specs.Member.{IsMember}
+use Rattle.ml_lists.proofs.Ascending.{ascending-is, ascending_same, ascending-member, member-ascending}
+use Rattle.ml_graph.specs.Graph.{Graph, size, odd_priorities}
+use Rattle.ml_trace.specs.Automaton.{IsGuess}
+use Rattle.ml_trace.specs.LabelledLoop.{EachNameStands}
+use Rattle.ml_refutation.specs.Refutation as plain
+use Rattle.ml_refutation.specs.Refutation.{IsRefutation, IsEntry, IsTraced}
+use Rattle.ml_refutation.specs.Acceptance as acceptance
+use Rattle.ml_refutation.specs.Acceptance.{entry_at, no_entry, parts, StandsIn, IsWellStarted}
+use Rattle.ml_refutation.specs.Views.{item_of, entry_of, of_parts}
+use Rattle.ml_refutation.specs.declared.refutation.Entry.{Entry}
+use Rattle.ml_refutation.specs.declared.refutation.Item.{Item}
+use Rattle.ml_refute_check.specs.declared.finding.BadPart.{BadPart}
+use Rattle.ml_sequent.specs.declared.choice.Side.{Side}
+use Rattle.ml_sequent.specs.Spread.{SpreadList, IsSpreadOf, IsSpread}
+use Rattle.ml_refute_check.specs.private.Parts.{Question, Stands, Keeps, KeepEach, FirstBadIn, Finds, IsEntryOf, front_parts, branch_parts}
+use Rattle.ml_refute_check.proofs.PartsFound.{keep_both, found_first, found_next, found_behind, found_before, none_next, none_behind, parts_are}
+
+module _ (q : Question) (e : ℕ) where
+  abbrev sequent : List ℕ
+  sequent = (entry_at q.refutation e).sequent
+
+  abbrev Stand : Item → Type 0
+  Stand a = StandsIn sequent (item_of a) q.graph
+
+  abbrev pub item_parts : List Item → List acceptance.Part
+  item_parts xs = map acceptance.Item (map item_of xs)
+
+  pub item_told : (nodes odds : List ℕ) (a : Item) (b : Bool) → nodes ≡ sequent → odds ≡ odd_priorities q.graph
+      → (IsTrue b ↔ (IsMember a.node nodes × IsGuess odds a.odd))
+      → IsTrue b ↔ Stand a
+  item_told nodes odds a b nodes_are odds_are told = (
+    λ h. let both = told.0 h in record {
+      member = subst (IsMember a.node) nodes_are both.0;
+      occurs = subst (λ ds. IsGuess ds a.odd) odds_are both.1;
+    },
+    λ s. told.1 (subst (IsMember a.node) (sym nodes_are) s.member, subst (λ ds. IsGuess ds a.odd) (sym odds_are) s.occurs),
+  )
+
+  one_item : (a : Item) → Stand a → KeepEach q e (item_parts (a ∷ []))
+  unfolding KeepEach
+  one_item a stands = ((stands, tt), tt)
+
+  pub no_items : KeepEach q e []
+  unfolding KeepEach
+  no_items = tt
+
+  pub items_more : (xs : List Item) (k : ℕ) (a : Item) → k < length xs → a ≡ get_or xs k a → Stand a
+      → KeepEach q e (item_parts (take k xs)) → KeepEach q e (item_parts (take (k + 1) xs))
+  items_more xs k a low is stands keep =
+      subst (λ ys. KeepEach q e (item_parts ys)) (sym (take_more xs k a low))
+      (subst (KeepEach q e) (sym split)
+      (keep_both q e (item_parts (take k xs)) (item_parts (get_or xs k a ∷ [])) keep
+      (one_item (get_or xs k a) (subst Stand is stands))))
+    where
+      split : item_parts (take k xs ++ get_or xs k a ∷ []) ≡ item_parts (take k xs) ++ item_parts (get_or xs k a ∷ [])
+      split =
+          ap (map acceptance.Item) (map-append item_of (take k xs) (get_or xs k a ∷ []))
+          ∙ map-append acceptance.Item (map item_of (take k xs)) (map item_of (get_or xs k a ∷ []))
+
+  first_item : (xs : List Item) (k : ℕ) (a : Item) → k < length xs → a ≡ get_or xs k a → ¬ (Stand a)
+      → KeepEach q e (item_parts (take k xs)) → FirstBadIn q e (item_parts xs) k 4
+  unfolding FirstBadIn KeepEach
+  first_item [] k a low is fails keep = absurd (omega arith)
+  first_item (x ∷ xs) zero a low is fails keep = inl (refl, λ s. fails (subst Stand (sym is) s))
+  first_item (x ∷ xs) (suc k) a low is fails keep = (keep.0, first_item xs k a (omega arith) is fails keep.1)
+
+  pub items_first : (xs : List Item) (k : ℕ) (a : Item) → k < length xs → a ≡ get_or xs k a → ¬ (Stand a)
+      → KeepEach q e (item_parts (take k xs)) → Finds q e (item_parts xs) (Some (record { part = k; rule = 4 }))
+  unfolding Finds
+  items_first xs k a low is fails keep = first_item xs k a low is fails keep
+
+  pub items_all : (xs : List Item) (k : ℕ) → length xs ≤ k → KeepEach q e (item_parts (take k xs)) → Finds q e (item_parts xs) None
+  unfolding Finds
+  items_all xs k past keep = subst (λ ys. KeepEach q e (item_parts ys)) (take_all k xs past) keep
+
+  -- ---- the parts before the decision
+
+  module _ (entry : plain.Entry) (is : IsEntryOf q e entry) where
+    abbrev WellStarted : Type 0
+    WellStarted = IsWellStarted q.refutation e q.graph
+
+    pub start_told : (nodes : List ℕ) (b : Bool) → nodes ≡ entry.sequent
+        → (IsTrue b ↔ (All (λ n. n < size q.graph) nodes × (e ≡ 0 → nodes ≡ q.graph.root ∷ [])))
+        → IsTrue b ↔ WellStarted
+    start_told nodes b nodes_are told =
+        let same : nodes ≡ sequent = nodes_are ∙ sym (ap (λ (x : plain.Entry). x.sequent) is.is) in (
+          λ h. let both = told.0 h in record {
+            in_graph = subst (All (λ n. n < size q.graph)) same both.0;
+            starts = λ first. sym same ∙ both.1 first;
+          },
+          λ w. told.1 (subst (All (λ n. n < size q.graph)) (sym same) w.in_graph, λ first. same ∙ w.starts first),
+        )
+
+    pub live_told : (b : Bool) → (IsTrue b ↔ EachNameStands entry.traces) → IsTrue b ↔ EachNameStands (entry_at q.refutation e).traces
+    live_told b told = subst (λ (x : plain.Entry). IsTrue b ↔ EachNameStands x.traces) (sym is.is) told
+
+    abbrev others : List acceptance.Part
+    others = map acceptance.Item entry.traces.items
+
+    pub front_refused_2 : ¬ WellStarted → Finds q e (front_parts entry) (Some (record { part = 0; rule = 2 }))
+    unfolding front_parts
+    front_refused_2 not =
+        found_first q e acceptance.Sequent (acceptance.Live ∷ others) (record { part = 0; rule = 2 }) refl (inl (refl, not))
+
+    pub front_refused_3 : WellStarted → ¬ (EachNameStands (entry_at q.refutation e).traces)
+        → Finds q e (front_parts entry) (Some (record { part = 1; rule = 3 }))
+    unfolding front_parts
+    front_refused_3 well not =
+        found_next q e acceptance.Sequent (acceptance.Live ∷ others) (record { part = 0; rule = 3 }) (record { part = 1; rule = 3 }) refl refl
+        (well, tt) (found_first q e acceptance.Live others (record { part = 0; rule = 3 }) refl (inl (refl, not)))
+
+    pub front_later : (bad moved : BadPart) → WellStarted → EachNameStands (entry_at q.refutation e).traces
+        → moved.part ≡ 2 + bad.part → moved.rule ≡ bad.rule → Finds q e others (Some bad)
+        → Finds q e (front_parts entry) (Some moved)
+    unfolding front_parts
+    front_later bad moved well stand part rule found =
+        let mid : BadPart = record { part = 1 + bad.part; rule = bad.rule } in
+        found_next q e acceptance.Sequent (acceptance.Live ∷ others) mid moved (omega (arith, part)) rule (well, tt)
+        (found_next q e acceptance.Live others bad mid refl refl (stand, tt) found)
+
+    pub front_kept : WellStarted → EachNameStands (entry_at q.refutation e).traces → Finds q e others None → Finds q e (front_parts entry) None
+    unfolding front_parts
+    front_kept well stand none =
+        none_next q e acceptance.Sequent (acceptance.Live ∷ others) (well, tt) (none_next q e acceptance.Live others (stand, tt) none)
+
+    pub front_starts : Finds q e (front_parts entry) None → All (λ n. n < size q.graph) entry.sequent
+    unfolding front_parts Finds KeepEach
+    front_starts none =
+        subst (λ (x : plain.Entry). All (λ n. n < size q.graph) x.sequent) is.is none.0.0.in_graph
+
+    -- ---- the whole entry
+
+    whole : front_parts entry ++ branch_parts [] entry.decision ≡ parts (entry_at q.refutation e)
+    whole = sym (parts_are entry) ∙ ap parts (sym is.is)
+
+    front_size : length (front_parts entry) ≡ 2 + length entry.traces.items
+    unfolding front_parts
+    front_size = omega (arith, length-map entry.traces.items acceptance.Item)
+
+    pub whole_front : (bad : BadPart) → Finds q e (front_parts entry) (Some bad) → Finds q e (parts (entry_at q.refutation e)) (Some bad)
+    whole_front bad found =
+        subst (λ ps. Finds q e ps (Some bad)) whole (found_before q e (front_parts entry) (branch_parts [] entry.decision) bad found)
+
+    pub whole_later : (items : ℕ) (bad mid moved : BadPart) → items ≡ length entry.traces.items
+        → mid.part ≡ items + bad.part → mid.rule ≡ bad.rule → moved.part ≡ 2 + mid.part → moved.rule ≡ mid.rule
+        → Finds q e (front_parts entry) None → Finds q e (branch_parts [] entry.decision) (Some bad)
+        → Finds q e (parts (entry_at q.refutation e)) (Some moved)
+    whole_later items bad mid moved counted mid_part mid_rule part rule none found =
+        subst (λ ps. Finds q e ps (Some moved)) whole
+        (found_behind q e (front_parts entry) (branch_parts [] entry.decision) bad moved
+        (omega (arith, front_size, counted, mid_part, part)) (rule ∙ mid_rule) none found)
+
+    pub whole_kept : Finds q e (front_parts entry) None → Finds q e (branch_parts [] entry.decision) None
+        → Finds q e (parts (entry_at q.refutation e)) None
+    whole_kept none others_none =
+        subst (λ ps. Finds q e ps None) whole (none_behind q e (front_parts entry) (branch_parts [] entry.decision) none others_none)
+
+pub odds_ascend : (g : Graph) (odds : List ℕ) → odds ≡ odd_priorities g → IsAscending odds
+odds_ascend g odds is =
+    subst IsAscending (sym is) (ascending-is (filter (λ d. d % 2 == 1) g.priorities))
+
+-- the names of an entry's items are in use
+pub live_low : (names live : ℕ) (items xs : List Item) → xs ≡ items
+    → IsTraced names (record { live = live; items = map item_of items })
+    → All (λ (a : Item). All (λ y. y < live) a.stack.items) xs
+live_low names live items xs same traced =
+    subst (All (λ (a : Item). All (λ y. y < live) a.stack.items)) (sym same)
+    (λ k d low.
+    let is = get_or-map item_of items k d (item_of d) low in
+    subst (λ a. All (λ y. y < live) a.stack) is
+    (traced.are_items k (item_of d) (omega (arith, low, length-map items item_of))).is_stack.below)
+
+-- ---- the spread of an entry's sequent
+
+pub ascending_again : (xs made nodes : List ℕ) → made ≡ ascending xs → xs ≡ nodes → IsAscending nodes → made ≡ nodes
+ascending_again xs made nodes made_is xs_are ascends =
+    made_is ∙ ap ascending xs_are
+    ∙ ascending_same (ascending nodes) nodes (ascending-is nodes) ascends (λ v h. ascending-member v nodes h)
+    (λ v h. member-ascending v nodes h)
+
+pub start_stands : (q : Question) (e : ℕ) (entry : plain.Entry) (nodes : List ℕ) (c : List (ℕ × Side)) (sp : SpreadList) (h : Graph)
+    → h ≡ q.graph
+    → IsEntryOf q e entry
+    → nodes ≡ entry.sequent
+    → All (λ n. n < size q.graph) entry.sequent
+    → IsSpreadOf h nodes c sp
+    → IsSpread h sp
+    → Stands q e nodes sp
+start_stands q e entry nodes c sp h same is nodes_are low spread own = record {
+  of_entry = nodes_are ∙ sym (ap (λ (x : plain.Entry). x.sequent) is.is);
+  low = subst (All (λ n. n < size q.graph)) (sym nodes_are) low;
+  is_spread = subst (λ g. IsSpreadOf g nodes sp.choice sp) same (subst (λ ch. IsSpreadOf h nodes ch sp) (sym spread.choice) spread);
+  is_own = subst (λ g. IsSpread g sp) same own;
+}
+
+-- ---- an entry by its place
+
+pub entry_of_index : (g : Graph) (names : ℕ) (entries : Vec Entry) (place : ℕ) (x : Entry)
+    → IsRefutation (of_parts names entries)
+    → place < length entries.items
+    → x ≡ get_or entries.items place x
+    → IsEntryOf (record { graph = g; refutation = of_parts names entries }) place (entry_of x)
+entry_of_index g names entries place x is_refutation low is = record { is = here; is_entry = entry }
+  where
+    here : get_or (map entry_of entries.items) place no_entry ≡ entry_of x
+    here = get_or-map entry_of entries.items place x no_entry low ∙ ap entry_of (sym is)
+
+    entry : IsEntry names (length (map entry_of entries.items)) (entry_of x)
+    entry =
+        subst (IsEntry names (length (map entry_of entries.items))) here
+        (is_refutation.are_entries place no_entry (omega (arith, length-map entries.items entry_of)))

@@ -1,0 +1,90 @@
+-- Documents that show a refutation, as they are read and rejected.
+--
+--   document_of_shown == what was read of a text, it shows
+--   as_many_lines     == as many entries begin at lines as there are
+--   rejected_there    == a text is rejected at the line of the first bad part
+--   migrated          == what is written of what was read
+use Rattle.std.proofs.Common.{◌≡◌, ℕ, ◌+◌, ◌<◌, ◌⊎◌, List, [], ◌∷◌, Some, length, get_or, map, slice_get, inl, inr, refl, sym, ap, ◌∙◌, subst, arith}
+use Rattle.std.proofs.lemmas.List.{length-map}
+use Rattle.std.proofs.lemmas.Option.{slice_get-get_or}
+use Rattle.ml_base.specs.declared.version.Version.{Version}
+use Rattle.ml_base.specs.declared.version.Version.TheVariants.{Two}
+use Rattle.ml_graph.specs.Graph.{Graph}
+use Rattle.ml_front.specs.Graphs.{IsGraphOf}
+use Rattle.ml_front.specs.declared.problem.Problem.{Problem}
+use Rattle.ml_refutation.specs.Refutation.{Entry}
+use Rattle.ml_refutation.specs.Acceptance.{entry_at, IsAccepted, IsFirstBad}
+use Rattle.ml_refutation.specs.Views.{of_parts, entry_of}
+use Rattle.ml_refutation.specs.declared.refutation.Refutation as held
+use Rattle.ml_refutation_text.specs.PartLines.{parts_from, parts_of, entry_size}
+use Rattle.ml_refutation_text.specs.WrittenText.{IsCounted}
+use Rattle.ml_refutation_text.specs.declared.lines.EntryLines.{EntryLines}
+use Rattle.ml_refutation_text.specs.declared.lines.Lines.{Lines}
+use Rattle.ml_refute_check.specs.Documents.{IsDocument, IsMigrated, IsRejectedAt, IsRejectedBy, document_of, line_of}
+use Rattle.ml_refute_check.specs.private.Shown.{IsShown}
+use Rattle.ml_refute_check.proofs.Accepted.{documents_read_back, well_formed_read}
+
+pub document_of_shown : (text : List ℕ) (p : Problem) (r : held.Refutation) (lines : Lines) (shown : IsShown text p r lines)
+    → IsDocument text shown.version p (of_parts r.names r.entries)
+document_of_shown text p r lines shown = record {
+  body = shown.body;
+  has_head = shown.has_head;
+  is_refutation = r.is_refutation;
+  has_body = shown.has_body;
+}
+
+pub length-parts : (v : Version) (n : ℕ) (es : List Entry) → length (parts_from v n es) ≡ length es
+length-parts v n [] = refl
+length-parts v n (e ∷ es) = let rest = length-parts v (n + entry_size v e) es in omega (arith, rest)
+
+pub as_many_lines : (text : List ℕ) (p : Problem) (r : held.Refutation) (lines : Lines) → IsShown text p r lines
+    → length lines.entries.items ≡ length r.entries.items
+as_many_lines text p r lines shown =
+    ap length shown.are_lines.are_parts ∙ length-parts shown.version _ (map entry_of r.entries.items)
+    ∙ length-map r.entries.items entry_of
+
+pub rejected_there : (text : List ℕ) (p : Problem) (r : held.Refutation) (lines : Lines) (shown : IsShown text p r lines)
+    (g : Graph) (entry part number line : ℕ)
+    → IsGraphOf g p
+    → IsFirstBad g (of_parts r.names r.entries) entry part number
+    → ((at : EntryLines) → slice_get lines.entries.items entry ≡ Some at
+    → line ≡ line_of at (length (entry_at (of_parts r.names r.entries) entry).traces.items) part)
+    → IsRejectedAt text line number
+unfolding document_of_shown
+rejected_there text p r lines shown g entry part number line is_graph first told =
+    let none : EntryLines = record { sequent = 0; live = 0; items = 0; heights = 0; decision = 0 } in
+    let there =
+    slice_get-get_or lines.entries.items entry none
+    (omega (arith, first.is_entry, as_many_lines text p r lines shown, length-map r.entries.items entry_of)) in
+    inr (record {
+      version = shown.version;
+      problem = p;
+      refutation = of_parts r.names r.entries;
+      is_document = document_of_shown text p r lines shown;
+      graph = g;
+      is_graph = is_graph;
+      entry = entry;
+      part = part;
+      is_first = first;
+      lines = lines.entries.items;
+      are_lines = shown.are_lines;
+      at = get_or lines.entries.items entry none;
+      of_entry = there;
+      is_line = told (get_or lines.entries.items entry none) there;
+    })
+
+pub migrated : (text out : List ℕ) (p : Problem) (r : held.Refutation) (lines : Lines)
+    → IsShown text p r lines
+    → out ≡ document_of p (of_parts r.names r.entries)
+    → IsCounted Two (of_parts r.names r.entries)
+    → IsMigrated text out
+migrated text out p r lines shown is counted = record {
+  version = shown.version;
+  problem = p;
+  refutation = of_parts r.names r.entries;
+  is_document = document_of_shown text p r lines shown;
+  is_written = is;
+  shows_the_same = subst (λ t. IsDocument t Two p (of_parts r.names r.entries)) (sym is)
+      (documents_read_back p (of_parts r.names r.entries)
+      (well_formed_read shown.has_head.formula_text p.formula shown.has_head.is_parsed) r.is_refutation counted);
+}

@@ -1,0 +1,125 @@
+-- Checking a document finds something.
+--
+--   some_graph   == each problem of a well-formed formula has a graph
+--   some_verdict == a text is accepted, rejected or unreadable
+use Rattle.std.proofs.Common.{◌≡◌, ℕ, ◌+◌, ◌*◌, ◌<◌, ◌⊎◌, Bool, true, if◌then◌else◌, List, [], Some, length, get_or, slice_get, inl, inr, refl, sym, ap, ◌∙◌, subst, arith}
+use Rattle.std.proofs.lemmas.Option.{slice_get-get_or}
+use Rattle.ml_base.specs.declared.doc_fault.DocFault.{DocFault}
+use Rattle.ml_base.specs.declared.version.Version.{Version}
+use Rattle.ml_graph.specs.Graph.{Graph, IsGraph}
+use Rattle.ml_front.specs.declared.answer.Answer.TheVariants.{Unsatisfiable}
+use Rattle.ml_front.specs.declared.problem.Problem.{Problem}
+use Rattle.ml_front.specs.declared.problem.AnyFormula.{AnyFormula}
+use Rattle.ml_front.specs.declared.problem.AnyFormula.TheVariants.{Mu}
+use Rattle.ml_front.specs.Graphs.{IsGraphAs, IsGraphOf}
+use Rattle.ml_front.specs.HeadRules.{IsHead, IsHeadFault}
+use Rattle.ml_front.proofs.OneFault as head
+use Rattle.ml_mu.specs.Formula.{Formula}
+use Rattle.ml_mu_graph.specs.MuGraph as mu
+use Rattle.ml_mu_graph.specs.MuGraph.{binders}
+use Rattle.ml_mu_graph.specs.private.NodeList.{props_onto, actions_onto, nodes_of, priorities_of}
+use Rattle.ml_mu_graph.specs.private.Views.{none_around}
+use Rattle.ml_mu_graph.proofs.InRange.{lists_make_graph}
+use Rattle.ml_mu_graph.proofs.Made.{graph_made}
+use Rattle.ml_refutation.specs.Refutation.{Refutation, IsRefutation, Entry}
+use Rattle.ml_refutation.specs.Acceptance.{entry_at, IsAccepted, IsFirstBad}
+use Rattle.ml_refutation_text.specs.BodyRules.{IsFaultOf, IsReadableBody}
+use Rattle.ml_refutation_text.specs.PartLines.{parts_from, lines_before, entry_size}
+use Rattle.ml_refutation_text.specs.RefutationText.{IsTextOf}
+use Rattle.ml_refutation_text.specs.declared.lines.EntryLines.{EntryLines}
+use Rattle.ml_refutation_text.proofs.RefutationTexts as body
+use Rattle.ml_refute_check.specs.Documents.{IsDocument, IsVerdict, line_of, first_body_line}
+use Rattle.ml_refute_check.specs.Laws.{SomeVerdict}
+use Rattle.ml_refute_check.specs.declared.verdict.Verdict.{Verdict}
+use Rattle.ml_refute_check.specs.declared.verdict.Verdict.TheVariants.{Accepted, Unreadable, Rejected}
+use Rattle.ml_refute_check.proofs.Refuted.{graph_of}
+use Rattle.ml_refute_check.proofs.Rejected.{length-parts}
+use Rattle.ml_refute_check.proofs.SomeFault.{some_fault}
+
+graph_as : Formula → Bool → Graph
+graph_as f negated = record {
+  nodes = nodes_of (props_onto f []) (actions_onto f []) none_around 0 f;
+  priorities = priorities_of (2 * binders f) 0 f;
+  root = if negated then 1 else 0;
+  props = props_onto f [];
+  actions = actions_onto f [];
+}
+
+is_graph_as : (f : Formula) (negated : Bool) → mu.IsGraphOf (graph_as f negated) f negated
+unfolding graph_as
+is_graph_as f negated =
+    graph_made (graph_as f negated) f negated (lists_make_graph (graph_as f negated) f negated refl refl refl refl refl)
+    refl refl refl refl refl
+
+some_graph : (f : AnyFormula) (negated : Bool) → (g : Graph) × IsGraphAs g negated f
+some_graph (Mu f) negated = (graph_as f negated, is_graph_as f negated)
+
+module _ (text : List ℕ) (v : Version) (p : Problem) (r : Refutation) (x : IsDocument text v p r) (g : Graph) (is_graph : IsGraphOf g p) where
+  lines : List EntryLines
+  lines = parts_from v (first_body_line + lines_before x.has_body.form) r.entries
+
+  none : EntryLines
+  none = record { sequent = 0; live = 0; items = 0; heights = 0; decision = 0 }
+
+  many : length lines ≡ length r.entries
+  unfolding lines
+  many = length-parts v (first_body_line + lines_before x.has_body.form) r.entries
+
+  of_finding : IsAccepted g r ⊎ ((e : ℕ) × (k : ℕ) × (number : ℕ) × IsFirstBad g r e k number) → (w : Verdict) × IsVerdict text w
+  unfolding lines
+  of_finding (inl accepted) = (
+    Accepted,
+    record {
+      version = v;
+      problem = p;
+      refutation = r;
+      is_document = x;
+      graph = g;
+      is_graph = is_graph;
+      is_accepted = accepted;
+    },
+  )
+  of_finding (inr (e, k, number, first)) =
+      let at = get_or lines e none in (
+        Rejected (line_of at (length (entry_at r e).traces.items) k) number,
+        inr (record {
+          version = v;
+          problem = p;
+          refutation = r;
+          is_document = x;
+          graph = g;
+          is_graph = is_graph;
+          entry = e;
+          part = k;
+          is_first = first;
+          lines = lines;
+          are_lines = record { written = x.has_body; are_parts = refl };
+          at = at;
+          of_entry = slice_get-get_or lines e none (omega (arith, first.is_entry, many));
+          is_line = refl;
+        }),
+      )
+
+of_document : (text : List ℕ) (v : Version) (p : Problem) (r : Refutation) → IsDocument text v p r
+    → (g : Graph) × IsGraphAs g p.negated p.formula
+    → (w : Verdict) × IsVerdict text w
+of_document text v p r x (g, is_graph) =
+    of_finding text v p r x g is_graph (some_fault g r (graph_of g p.negated p.formula is_graph))
+
+of_body : (text : List ℕ) (v : Version) (p : Problem) (rest : List ℕ) → IsHead Unsatisfiable text v p rest
+    → IsReadableBody v rest ⊎ ((fault : DocFault) × IsFaultOf v rest first_body_line fault)
+    → (w : Verdict) × IsVerdict text w
+of_body text v p rest h (inl readable) =
+    let read = (body.readable_is_refutation v rest).0 readable in
+    of_document text v p read.0 (record { body = rest; has_head = h; is_refutation = read.1; has_body = read.2 }) (some_graph p.formula p.negated)
+of_body text v p rest h (inr (fault, found)) =
+    (Unreadable fault, inr (record { version = v; problem = p; body = rest; has_head = h; is_fault = found }))
+
+of_head : (text : List ℕ)
+    → ((v : Version) × (p : Problem) × (rest : List ℕ) × IsHead Unsatisfiable text v p rest) ⊎ ((fault : DocFault) × IsHeadFault Unsatisfiable text fault)
+    → (w : Verdict) × IsVerdict text w
+of_head text (inl (v, p, rest, h)) = of_body text v p rest h (body.readable_or_fault v rest first_body_line)
+of_head text (inr (fault, found)) = (Unreadable fault, inl found)
+
+pub some_verdict : SomeVerdict
+some_verdict text = of_head text (head.some_head Unsatisfiable text)

@@ -1,0 +1,151 @@
+-- Documents that answer `unsatisfiable`, and what checking one finds.
+--
+-- A document shows a refutation for a problem where its head answers `unsatisfiable` about the problem, and its body is a
+-- text of the refutation, in the version that the head tells. Where a document shows none, its first bad line tells why;
+-- the lines of the body are counted on from those of the head, so from 6 on. What is shown is accepted where the
+-- refutation breaks no rule of acceptance in the problem's graph. Else the document is rejected at the line of the first
+-- part that breaks one; or at the line of the formula, whose closure is too large to have a graph. Who wrote the document,
+-- and how, is asked nowhere.
+--
+--   IsDocument text v p r == the text shows, in the version v, the refutation r for the problem p
+--   IsDocumentFault text f == f tells the first bad line of the text, and the lowest rule that it breaks
+--   IsAcceptedDocument text == the text shows a refutation that is accepted in the graph of its problem
+--   HasLargeClosure f      == the closure of the formula f is too large: never in the mu-calculus, which has none
+--   line_of at n k         == the line of part k of an entry with n items, whose parts begin at these lines
+--   IsRejectedBy text entry part number line == the text shows a refutation whose first bad part is this one, with this
+--                             lowest rule that it breaks, and which stands at this line
+--   IsRejectedAt text line number == the text shows a refutation, and this is its first line with a broken rule, and the
+--                             lowest one
+--   IsVerdict text v       == v is what checking the text finds
+--   HoldsNowhere text      == the text answers `unsatisfiable` about a problem, and that is true
+--   IsMigrated text other  == the text shows a refutation for a problem, and the other text is what is written of the two
+--   document_of p r        == the document that is written for the problem p and the refutation r
+use Rattle.std.specs.Prelude.{ℕ, ◌≡◌, ◌⊎◌, ◌+◌, ◌-◌, ◌==◌, nat_lt, List, ◌++◌, Some, length, slice_get, if◌then◌else◌}
+use Rattle.ml_base.specs.declared.doc_fault.DocFault.{DocFault}
+use Rattle.ml_base.specs.declared.version.Version.{Version}
+use Rattle.ml_base.specs.declared.version.Version.TheVariants.{Two}
+use Rattle.ml_lines.specs.Lines.{text_of}
+use Rattle.ml_graph.specs.Graph.{Graph}
+use Rattle.ml_front.specs.declared.answer.Answer.TheVariants.{Unsatisfiable}
+use Rattle.ml_front.specs.declared.problem.AnyFormula.{AnyFormula}
+use Rattle.ml_front.specs.declared.problem.AnyFormula.TheVariants.{Mu}
+use Rattle.ml_front.specs.declared.problem.Problem.{Problem}
+use Rattle.ml_front.specs.Graphs.{IsGraphOf}
+use Rattle.ml_front.specs.Head.{head_lines}
+use Rattle.ml_front.specs.HeadRules.{IsHead, IsHeadFault}
+use Rattle.ml_front.specs.Problems.{IsSatisfiable}
+use Rattle.ml_refutation.specs.Refutation.{Refutation, IsRefutation}
+use Rattle.ml_refutation.specs.Acceptance.{entry_at, IsAccepted, IsFirstBad}
+use Rattle.ml_refutation_text.specs.BodyRules.{IsFaultOf}
+use Rattle.ml_refutation_text.specs.PartLines.{AreLinesOf}
+use Rattle.ml_refutation_text.specs.RefutationText.{IsTextOf}
+use Rattle.ml_refutation_text.specs.WrittenText.{written_text}
+use Rattle.ml_refutation_text.specs.declared.lines.EntryLines.{EntryLines}
+use Rattle.ml_refute_check.specs.declared.verdict.Verdict.{Verdict}
+use Rattle.ml_refute_check.specs.declared.verdict.Verdict.TheVariants.{Accepted, Unreadable, Rejected}
+
+-- the number of the line of the formula, and that of the first line of a body
+abbrev pub formula_line : ℕ
+formula_line = 5
+
+abbrev pub first_body_line : ℕ
+first_body_line = 6
+
+-- ---- what a text shows
+
+pub record IsDocument (text : List ℕ) (v : Version) (p : Problem) (r : Refutation) : Type 0 where
+  pub body : List ℕ
+  pub has_head : IsHead Unsatisfiable text v p body
+  pub is_refutation : IsRefutation r
+  pub has_body : IsTextOf v body r
+
+-- the first bad line is one of a body behind a head
+pub record IsFaultOfBody (text : List ℕ) (fault : DocFault) : Type 0 where
+  pub version : Version
+  pub problem : Problem
+  pub body : List ℕ
+  pub has_head : IsHead Unsatisfiable text version problem body
+  pub is_fault : IsFaultOf version body first_body_line fault
+
+abbrev pub IsDocumentFault : List ℕ → DocFault → Type 0
+IsDocumentFault text fault = IsHeadFault Unsatisfiable text fault ⊎ IsFaultOfBody text fault
+
+-- ---- what checking it finds
+
+-- the text shows a refutation that is accepted in the graph of its problem
+pub record IsAcceptedDocument (text : List ℕ) : Type 0 where
+  pub version : Version
+  pub problem : Problem
+  pub refutation : Refutation
+  pub is_document : IsDocument text version problem refutation
+  pub graph : Graph
+  pub is_graph : IsGraphOf graph problem
+  pub is_accepted : IsAccepted graph refutation
+
+abbrev pub HasLargeClosure : AnyFormula → Type 0
+HasLargeClosure (Mu f) = ⊥
+
+pub record IsWithoutGraph (text : List ℕ) : Type 0 where
+  pub version : Version
+  pub problem : Problem
+  pub refutation : Refutation
+  pub is_document : IsDocument text version problem refutation
+  pub has_large_closure : HasLargeClosure problem.formula
+
+-- first the sequent and the names in use, then the items, and last the branches of the decision
+abbrev pub line_of : EntryLines → ℕ → ℕ → ℕ
+line_of at items part =
+    if part == 0 then at.sequent
+    else if part == 1 then at.live
+    else if nat_lt (part - 2) items then at.items + (part - 2)
+    else at.decision + (part - 2 - items)
+
+-- the text shows a refutation whose first bad part, with the lowest rule that it breaks, stands at this line
+pub record IsRejectedBy (text : List ℕ) (line number : ℕ) : Type 0 where
+  pub version : Version
+  pub problem : Problem
+  pub refutation : Refutation
+  pub is_document : IsDocument text version problem refutation
+  pub graph : Graph
+  pub is_graph : IsGraphOf graph problem
+  pub entry : ℕ
+  pub part : ℕ
+  pub is_first : IsFirstBad graph refutation entry part number
+  pub lines : List EntryLines
+  pub are_lines : AreLinesOf version is_document.body first_body_line refutation lines
+  pub at : EntryLines
+  pub of_entry : slice_get lines entry ≡ Some at
+  pub is_line : line ≡ line_of at (length (entry_at refutation entry).traces.items) part
+
+abbrev pub IsRejectedAt : List ℕ → ℕ → ℕ → Type 0
+IsRejectedAt text line number =
+    (IsWithoutGraph text × (line ≡ formula_line) × (number ≡ 1)) ⊎ IsRejectedBy text line number
+
+abbrev pub IsVerdict : List ℕ → Verdict → Type 0
+IsVerdict text Accepted = IsAcceptedDocument text
+IsVerdict text (Unreadable fault) = IsDocumentFault text fault
+IsVerdict text (Rejected line number) = IsRejectedAt text line number
+
+-- ---- what it tells
+
+-- the text answers `unsatisfiable` about a problem, and no admitted structure has a state at which the problem holds
+pub record HoldsNowhere (text : List ℕ) : Type 0 where
+  pub version : Version
+  pub problem : Problem
+  pub body : List ℕ
+  pub has_head : IsHead Unsatisfiable text version problem body
+  pub holds_nowhere : ¬ (IsSatisfiable problem)
+
+-- ---- what is written
+
+abbrev pub document_of : Problem → Refutation → List ℕ
+document_of p r = text_of (head_lines Two Unsatisfiable p) ++ written_text Two r
+
+-- the text shows a refutation, and the other one is the document that is written of it, which shows the same
+pub record IsMigrated (text other : List ℕ) : Type 0 where
+  pub version : Version
+  pub problem : Problem
+  pub refutation : Refutation
+  pub is_document : IsDocument text version problem refutation
+  pub is_written : other ≡ document_of problem refutation
+  pub shows_the_same : IsDocument other Two problem refutation

@@ -1,0 +1,43 @@
+// Checking a refutation against a graph.
+ghost use Rattle.std.specs.Prelude.{IfOk};
+ghost use Rattle.ml_refutation.specs.Views.{of_parts};
+ghost use Rattle.ml_refute_check.specs.Findings.{IsFinding};
+
+use crate::checker::Checker;
+use crate::finding::{Fault, Finding};
+use ml_base::NoMemory;
+use ml_graph::ModalGraph;
+use ml_refutation::Refutation;
+use ml_sequent::LocalPhase;
+use std::alloc::Global;
+
+/// Does a refutation break no rule of acceptance in a graph? If it does, its first part that breaks one, with the lowest
+/// rule that this part breaks.
+///
+/// # Errors
+/// `NoMemory` alone.
+///
+/// Cost: one walk over each decision. At a split its side's nodes are added to the spread; a clash costs what its check
+/// costs (`LocalPhase::is_cause`), and a `go` its step (`LocalPhase::step`) with what its names cost (`keeps_names`). Calls
+/// are nested as deep as splits are.
+pub fn check_refutation(
+    alloc: Global,
+    graph: &ModalGraph,
+    refutation: &Refutation,
+) -> Result<Finding, NoMemory>
+    ensures { IfOk result (IsFinding graph.now (of_parts refutation.now.names refutation.now.entries)) }
+{
+    let checker = Checker::new(alloc, graph, refutation)?;
+    let mut phase = LocalPhase::new(alloc, graph)?;
+    for place in 0..refutation.entries.len() {
+        match checker.check_entry(&mut phase, place)? {
+            Some(bad) => return Ok(Finding::Rejected(Fault {
+                entry: place,
+                part: bad.part,
+                rule: bad.rule,
+            })),
+            None => {}
+        }
+    }
+    Ok(Finding::Accepted)
+}

@@ -1,0 +1,311 @@
+// A refutation that is checked in a graph, entry by entry.
+ghost use Rattle.std.specs.Prelude.{◌≡◌, ◌<◌, ◌+◌, ◌++◌, [], ◌∷◌, length, map, All, IfOk};
+ghost use Rattle.ml_graph.specs.Graph.{size};
+ghost use Rattle.ml_refutation.specs.Acceptance as acceptance;
+ghost use Rattle.ml_refutation.specs.Acceptance.{entry_at, parts};
+ghost use Rattle.ml_refutation.specs.Refutation as plain;
+ghost use Rattle.ml_refutation.specs.Refutation.{IsDecided, IsMarkOf};
+ghost use Rattle.ml_refutation.specs.Views.{cause_of, mark_of, decision_of, entry_of, item_of};
+ghost use Rattle.ml_refute_check.specs.private.Parts.{Finds, Stands, IsEntryOf, Asks, question, front_parts, branch_parts, count_branches};
+
+use crate::branches::{
+    heights_fall, leads_within, leaves_by_diamond, mark_priority, splits_open_or,
+};
+use crate::finding::BadPart;
+use crate::names::keeps_names;
+use crate::parts::{item_stands, names_stand, starts_well};
+use ml_base::NoMemory;
+use ml_graph::ModalGraph;
+use ml_refutation::{Cause, Decision, Entry, Refutation, Step};
+use ml_sequent::{Choice, ClashCause, LocalPhase, Sequent, Side, Spread};
+use std::alloc::Global;
+
+/// A refutation that is checked in a graph, and the odd priorities of the graph.
+#[derive(Drop)]
+pub(crate) struct Checker<'a> {
+    alloc: Global,
+    graph: &'a ModalGraph,
+    refutation: &'a Refutation,
+    odds: Vec<u32>,
+}
+
+impl<'a> Checker<'a> {
+    /// The checker of a refutation in a graph.
+    pub(crate) fn new(
+        alloc: Global,
+        graph: &'a ModalGraph,
+        refutation: &'a Refutation,
+    ) -> Result<Checker<'a>, NoMemory>
+        ensures graph { IfOk result (λ checker. checker.graph.now ≡ graph.now) }
+        ensures refutation { IfOk result (λ checker. checker.refutation.now ≡ refutation.now) }
+        ensures asks { IfOk result (λ checker. Asks checker.graph.now checker.odds.items) }
+    {
+        let _size = graph.size();
+        let odds = graph.odd_priorities()?;
+        Ok(Checker {
+            alloc,
+            graph,
+            refutation,
+            odds,
+        })
+    }
+
+    /// An entry of the refutation.
+    fn entry(&self, place: usize) -> &'a Entry
+        requires { place < length self.now.refutation.now.entries.items }
+        ensures { IsEntryOf (question self.now.graph.now self.now.refutation.now) place (entry_of result.now) }
+    {
+        &self.refutation.entries[place]
+    }
+
+    /// The first bad part of an entry.
+    pub(crate) fn check_entry(
+        &self,
+        phase: &mut LocalPhase,
+        place: usize,
+    ) -> Result<Option<BadPart>, NoMemory>
+        requires asks { Asks self.now.graph.now self.now.odds.items }
+        requires phase { phase.old ≡ self.now.graph.now }
+        requires place { place < length self.now.refutation.now.entries.items }
+        ensures phase { phase.new ≡ phase.old }
+        ensures found { IfOk result (Finds (question self.now.graph.now self.now.refutation.now) place (parts (entry_at (question self.now.graph.now self.now.refutation.now).refutation place))) }
+    {
+        let entry = self.entry(place);
+        match self.check_front(place, entry)? {
+            Some(bad) => Ok(Some(bad)),
+            None => match self.check_tree(phase, place, entry)? {
+                Some(bad) => Ok(Some(later(later(bad, entry.items.len())?, 2)?)),
+                None => Ok(None),
+            },
+        }
+    }
+
+    /// The first bad one of the parts before the decision.
+    fn check_front(&self, place: usize, entry: &Entry) -> Result<Option<BadPart>, NoMemory>
+        requires asks { Asks self.now.graph.now self.now.odds.items }
+        requires entry { IsEntryOf (question self.now.graph.now self.now.refutation.now) place (entry_of entry.now) }
+        ensures { IfOk result (Finds (question self.now.graph.now self.now.refutation.now) place (front_parts (entry_of entry.now))) }
+    {
+        if !starts_well(self.graph, &entry.sequent, place) {
+            return Ok(Some(BadPart { part: 0, rule: 2 }));
+        }
+        if !names_stand(self.alloc, entry.live, &entry.items)? {
+            return Ok(Some(BadPart { part: 1, rule: 3 }));
+        }
+        match self.check_items(place, entry) {
+            Some(bad) => Ok(Some(later(bad, 2)?)),
+            None => Ok(None),
+        }
+    }
+
+    /// The first bad item.
+    fn check_items(&self, place: usize, entry: &Entry) -> Option<BadPart>
+        requires asks { Asks self.now.graph.now self.now.odds.items }
+        requires entry { IsEntryOf (question self.now.graph.now self.now.refutation.now) place (entry_of entry.now) }
+        ensures { Finds (question self.now.graph.now self.now.refutation.now) place (map acceptance.Item (map item_of entry.now.items.items)) result }
+    {
+        for (k, item) in entry.items.iter().enumerate() {
+            if !item_stands(&entry.sequent, &self.odds, item) {
+                return Some(BadPart { part: k, rule: 4 });
+            }
+        }
+        None
+    }
+
+    /// The first bad branch of the decision of an entry, whose sequent is one of nodes of the graph.
+    fn check_tree(
+        &self,
+        phase: &mut LocalPhase,
+        place: usize,
+        entry: &Entry,
+    ) -> Result<Option<BadPart>, NoMemory>
+        requires asks { Asks self.now.graph.now self.now.odds.items }
+        requires phase { phase.old ≡ self.now.graph.now }
+        requires entry { IsEntryOf (question self.now.graph.now self.now.refutation.now) place (entry_of entry.now) }
+        requires low { All (λ n. n < size self.now.graph.now) entry.now.sequent.items }
+        ensures phase { phase.new ≡ phase.old }
+        ensures found { IfOk result (Finds (question self.now.graph.now self.now.refutation.now) place (branch_parts [] (decision_of entry.now.decision))) }
+    {
+        let sequent = Sequent::of(self.alloc, &entry.sequent)?;
+        let spread = phase.spread(&sequent, &Choice::empty(self.alloc))?;
+        self.check_decision(phase, place, entry, &sequent, &spread, &entry.decision)
+    }
+
+    /// The first bad branch of a decision at this spread.
+    fn check_decision(
+        &self,
+        phase: &mut LocalPhase,
+        place: usize,
+        entry: &Entry,
+        sequent: &Sequent,
+        spread: &Spread,
+        decision: &Decision,
+    ) -> Result<Option<BadPart>, NoMemory>
+        requires asks { Asks self.now.graph.now self.now.odds.items }
+        requires phase { phase.old ≡ self.now.graph.now }
+        requires entry { IsEntryOf (question self.now.graph.now self.now.refutation.now) place (entry_of entry.now) }
+        requires stands { Stands (question self.now.graph.now self.now.refutation.now) place sequent.now spread.now }
+        requires decided { IsDecided self.now.refutation.now.names (length self.now.refutation.now.entries.items) (decision_of decision.now) }
+        ensures phase { phase.new ≡ phase.old }
+        ensures found { IfOk result (Finds (question self.now.graph.now self.now.refutation.now) place (branch_parts spread.now.choice (decision_of decision.now))) }
+    {
+        match decision {
+            Decision::Split { node, left, right } => {
+                if !splits_open_or(self.graph, spread, *node) {
+                    return Ok(Some(BadPart { part: 0, rule: 5 }));
+                }
+                let at_left = phase.extended(spread, *node, Side::Left)?;
+                match self.check_decision(phase, place, entry, sequent, &at_left, left)? {
+                    Some(bad) => Ok(Some(later(bad, 1)?)),
+                    None => {
+                        let at_right = phase.extended(spread, *node, Side::Right)?;
+                        match self.check_decision(phase, place, entry, sequent, &at_right, right)? {
+                            Some(bad) => Ok(Some(later(later(bad, count_branches(left)?)?, 1)?)),
+                            None => Ok(None),
+                        }
+                    }
+                }
+            }
+            Decision::Clash(cause) => self.check_clash(phase, place, sequent, spread, *cause),
+            Decision::Go {
+                diamond,
+                entry: target,
+                mark,
+            } => self.check_go(
+                phase,
+                place,
+                entry,
+                sequent,
+                spread,
+                *diamond,
+                *target as usize,
+                *mark,
+            ),
+        }
+    }
+
+    /// Whether a clash is bad at this spread.
+    fn check_clash(
+        &self,
+        phase: &mut LocalPhase,
+        place: usize,
+        sequent: &Sequent,
+        spread: &Spread,
+        cause: Cause,
+    ) -> Result<Option<BadPart>, NoMemory>
+        requires asks { Asks self.now.graph.now self.now.odds.items }
+        requires phase { phase.old ≡ self.now.graph.now }
+        requires stands { Stands (question self.now.graph.now self.now.refutation.now) place sequent.now spread.now }
+        ensures phase { phase.new ≡ phase.old }
+        ensures found { IfOk result (Finds (question self.now.graph.now self.now.refutation.now) place (branch_parts spread.now.choice (plain.Clash (cause_of cause)))) }
+    {
+        if phase.is_cause(spread, clash_cause(cause))? {
+            Ok(None)
+        } else {
+            Ok(Some(BadPart { part: 0, rule: 6 }))
+        }
+    }
+
+    /// Whether leaving the entry along a diamond is bad at this spread, and the lowest rule that it breaks.
+    fn check_go(
+        &self,
+        phase: &mut LocalPhase,
+        place: usize,
+        entry: &Entry,
+        sequent: &Sequent,
+        spread: &Spread,
+        diamond: u32,
+        target: usize,
+        mark: Step,
+    ) -> Result<Option<BadPart>, NoMemory>
+        requires asks { Asks self.now.graph.now self.now.odds.items }
+        requires phase { phase.old ≡ self.now.graph.now }
+        requires entry { IsEntryOf (question self.now.graph.now self.now.refutation.now) place (entry_of entry.now) }
+        requires stands { Stands (question self.now.graph.now self.now.refutation.now) place sequent.now spread.now }
+        requires target { target < length self.now.refutation.now.entries.items }
+        requires mark { IsMarkOf self.now.refutation.now.names (mark_of mark) }
+        ensures phase { phase.new ≡ phase.old }
+        ensures found { IfOk result (Finds (question self.now.graph.now self.now.refutation.now) place
+            (branch_parts spread.now.choice (plain.Go diamond target (mark_of mark)))) }
+    {
+        if !leaves_by_diamond(self.graph, spread, diamond) {
+            return Ok(Some(BadPart { part: 0, rule: 7 }));
+        }
+        let (targets, traces) = phase.step(sequent, spread, diamond)?;
+        let behind = self.entry(target);
+        if !leads_within(targets.values(), &behind.sequent) {
+            return Ok(Some(BadPart { part: 0, rule: 8 }));
+        }
+        if !keeps_names(
+            self.alloc,
+            &self.odds,
+            traces.triples(),
+            &behind.sequent,
+            mark,
+            entry,
+            behind,
+        )? {
+            return Ok(Some(BadPart { part: 0, rule: 9 }));
+        }
+        if !heights_fall(
+            mark_priority(self.refutation.names, mark),
+            &entry.heights,
+            &behind.heights,
+        ) {
+            return Ok(Some(BadPart { part: 0, rule: 10 }));
+        }
+        Ok(None)
+    }
+}
+
+/// The cause of a clash that a file names.
+fn clash_cause(cause: Cause) -> ClashCause
+    ensures { result ≡ cause_of cause }
+{
+    match cause {
+        Cause::False(node) => ClashCause::False(node),
+        Cause::Pair(positive, negative) => ClashCause::Pair(positive, negative),
+        Cause::Cycle(node) => ClashCause::Cycle(node),
+    }
+}
+
+/// A bad part behind so many others. No memory holds more parts than a number counts.
+fn later(bad: BadPart, before: usize) -> Result<BadPart, NoMemory>
+    ensures part { IfOk result (λ moved. moved.part ≡ before + bad.part) }
+    ensures rule { IfOk result (λ moved. moved.rule ≡ bad.rule) }
+{
+    match bad.part.checked_add(before) {
+        Some(part) => Ok(BadPart {
+            part,
+            rule: bad.rule,
+        }),
+        None => Err(NoMemory),
+    }
+}
+
+/// How many branches a decision has.
+fn count_branches(decision: &Decision) -> Result<usize, NoMemory>
+    ensures { IfOk result (λ count. count ≡ count_branches (decision_of decision.now)) }
+{
+    match decision {
+        Decision::Split { left, right, .. } => {
+            let of_left = count_branches(left)?;
+            let of_right = count_branches(right)?;
+            sum_after_one(of_left, of_right)
+        }
+        Decision::Clash(_) | Decision::Go { .. } => Ok(1),
+    }
+}
+
+/// One more than the sum of two numbers. No memory holds more branches than a number counts.
+fn sum_after_one(first: usize, second: usize) -> Result<usize, NoMemory>
+    ensures { IfOk result (λ sum. sum ≡ 1 + (first + second)) }
+{
+    match first.checked_add(second) {
+        Some(sum) => match sum.checked_add(1) {
+            Some(more) => Ok(more),
+            None => Err(NoMemory),
+        },
+        None => Err(NoMemory),
+    }
+}
