@@ -41,6 +41,9 @@ const EXAMPLES: [(&str, &str); 27] = [
 
 const ROOM: u64 = 1_000_000;
 
+// the lines of a head
+const HEAD_LINES: u8 = 5;
+
 // what the program answers to these words on a text: its status and its output
 fn answer(alloc: Global, command: &str, text: Vec<u8>) -> Result<(u8, Vec<u8>), NoMemory> {
     let mut words = Vec::new(alloc);
@@ -69,12 +72,12 @@ fn shown(output: &[u8]) -> &[u8] {
     if checking(output) != Some("check-refutation") {
         return output;
     }
-    let mut lines = 0;
+    let mut left: u8 = HEAD_LINES;
     for (at, byte) in output.iter().enumerate() {
         if *byte == b'\n' {
-            lines += 1;
+            left = left.saturating_sub(1);
         }
-        if lines == 5 {
+        if left == 0 {
             return &output[..at + 1];
         }
     }
