@@ -119,6 +119,7 @@ fn by_meaning(
         AnyFormula::Mu(formula) => {
             Ok(ml_mu::holds(alloc, formula, structure, state)? != problem.negated)
         }
+        AnyFormula::Pdl(_) => by_game(alloc, problem, structure, state),
     }
 }
 
