@@ -301,7 +301,7 @@ module _ (g h : Graph) where
       → size g ≡ 2 * k
       → size h ≡ 2 * k
       → g.root ≡ h.root
-      → Range (SameNode g h) 0 k
+      → Range (SameNode g h) 0 (0 + k)
       → AreAlike g h
   alike_of k is other here there roots all = record {
     is_graph = is;

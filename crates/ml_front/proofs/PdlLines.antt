@@ -54,6 +54,14 @@ modality_in_line : (m : Modality) (text : List ℕ) → IsInLine text → IsInLi
 modality_in_line Diamond text is = three_in_line (codes "<") text (codes ">") refl is refl
 modality_in_line Square text is = three_in_line (codes "[") text (codes "]") refl is refl
 
+-- what stands between the signs of a modality
+whole_in_line : (p : Program) → IsInLine (program_text p) → IsInLine (whole_program p (program_text p))
+whole_in_line (Act a) is = unless_blank (bytes_eq a (codes "_")) a is
+whole_in_line (Seq p q) is = is
+whole_in_line (Alt p q) is = is
+whole_in_line (Star p) is = is
+whole_in_line (Test f) is = is
+
 mutual
   pub canonical_in_line : (f : Formula) → is_spelled f ≡ true → IsInLine (canonical_text f)
   canonical_in_line (plain.Const true) is = refl
@@ -68,7 +76,7 @@ mutual
   canonical_in_line (plain.Modal m p f) is =
       let parts = and_parts (program_is_spelled p) (is_spelled f) is in
       both_in_line (modality_text m (whole_program p (program_text p))) (canonical_text f)
-      (modality_in_line m (whole_program p (program_text p)) (whole_in_line p parts.0)) (canonical_in_line f parts.1)
+      (modality_in_line m (whole_program p (program_text p)) (whole_in_line p (program_in_line p parts.0))) (canonical_in_line f parts.1)
   canonical_in_line (plain.Repeat p) is =
       three_in_line (codes "repeat(") (program_text p) (codes ")") refl (program_in_line p is) refl
 
@@ -84,11 +92,3 @@ mutual
       (program_in_line q parts.1) refl
   program_in_line (Star p) is = both_in_line (program_text p) (codes "*") (program_in_line p is) refl
   program_in_line (Test f) is = three_in_line (codes "(") (canonical_text f) (codes ")?") refl (canonical_in_line f is) refl
-
-  -- what stands between the signs of a modality
-  whole_in_line : (p : Program) → program_is_spelled p ≡ true → IsInLine (whole_program p (program_text p))
-  whole_in_line (Act a) is = unless_blank (bytes_eq a (codes "_")) a (action_in_line a is)
-  whole_in_line (Seq p q) is = program_in_line (Seq p q) is
-  whole_in_line (Alt p q) is = program_in_line (Alt p q) is
-  whole_in_line (Star p) is = program_in_line (Star p) is
-  whole_in_line (Test f) is = program_in_line (Test f) is
