@@ -237,7 +237,9 @@ fn by_meaning(
         AnyFormula::Mu(formula) => {
             Ok(ml_mu::holds(alloc, formula, structure, state)? != problem.negated)
         }
-        AnyFormula::Pdl(_) => by_game(alloc, problem, structure, state),
+        AnyFormula::Pdl(formula) => {
+            Ok(ml_pdl_meaning::holds(alloc, formula, structure, state)? != problem.negated)
+        }
     }
 }
 
