@@ -1,8 +1,6 @@
 -- how a call ends
 pub mod Endings
--- graphs that differ in the numbers of names
-pub mod AlikeGraphs
--- their decision games have the same positions
+-- the decision games of graphs that differ in the numbers of names have the same positions
 pub mod SamePositions
 -- the graphs of problems
 pub mod ProblemGraphs

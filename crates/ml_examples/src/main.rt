@@ -9,7 +9,7 @@ use std::alloc::Global;
 use std::io::Write;
 use std::{fs, io};
 
-const EXAMPLES: [(&str, &str); 27] = [
+const EXAMPLES: [(&str, &str); 39] = [
     ("decide mu", "pigeons.mu"),
     ("decide mu", "fewer_pigeons.mu"),
     ("decide mu", "triangle.mu"),
@@ -34,9 +34,21 @@ const EXAMPLES: [(&str, &str); 27] = [
     ("decide mu", "turns.mu"),
     ("decide mu", "response.mu"),
     ("decide mu", "actions.mu"),
+    ("valid pdl", "invariant.pdl"),
+    ("valid pdl", "branches.pdl"),
+    ("valid pdl", "two_orders.pdl"),
+    ("decide pdl", "nested_stars.pdl"),
+    ("decide pdl", "always_goes_on.pdl"),
+    ("decide pdl", "a_then_b.pdl"),
+    ("valid pdl", "standing_still.pdl"),
+    ("valid pdl", "every_other.pdl"),
+    ("decide pdl", "retry.pdl"),
+    ("decide pdl", "repeat_alone.pdl"),
     ("check-model", "often.doc"),
     ("check-model", "once.doc"),
     ("check-model", "unordered.doc"),
+    ("check-model", "lights.doc"),
+    ("check-model", "dark.doc"),
 ];
 
 const ROOM: u64 = 1_000_000;
