@@ -1,6 +1,6 @@
 // Why a measurement ended.
 
-use ml_base::NoMemory;
+use ml_base::{DocRefusal, NoMemory};
 use ml_tests::NotMade;
 use std::alloc::AllocError;
 use std::io;
@@ -9,12 +9,14 @@ use thiserror::Error;
 /// Why a measurement ended.
 #[derive(Debug, Drop, Error)]
 pub enum Failure {
-    #[error("write small, or games, ladder, histories, deep, usual, trees, deep-trees, usual-trees, chain, blocks, row or cycle with a size")]
+    #[error("write small, or games, ladder, histories, deep, usual, trees, deep-trees, usual-trees, chain, blocks, row, cycle, or made, read, written or checked with -chain, -wide or -tree, with a size")]
     Words,
     #[error("out of memory")]
     NoMemory,
     #[error("{0}")]
     NotMade(NotMade),
+    #[error("{0}")]
+    Document(DocRefusal),
     #[error("{0}")]
     Io(io::Error),
 }
@@ -34,6 +36,12 @@ impl From<NoMemory> for Failure {
 impl From<NotMade> for Failure {
     fn from(reason: NotMade) -> Failure {
         Failure::NotMade(reason)
+    }
+}
+
+impl From<DocRefusal> for Failure {
+    fn from(refusal: DocRefusal) -> Failure {
+        Failure::Document(refusal)
     }
 }
 
