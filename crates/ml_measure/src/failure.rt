@@ -1,6 +1,6 @@
 // Why a measurement ended.
 
-use ml_base::{NameRefusal, NoMemory};
+use ml_base::{DocRefusal, NameRefusal, NoMemory};
 use ml_graph::GraphRefusal;
 use ml_product::ExploreRefusal;
 use ml_tests::NotMade;
@@ -11,7 +11,7 @@ use thiserror::Error;
 /// Why a measurement ended.
 #[derive(Debug, Drop, Error)]
 pub enum Failure {
-    #[error("write small, or games, ladder, histories, deep, usual, trees, deep-trees, usual-trees, chain, blocks, row, cycle, wide-refutation or long-refutation with a size")]
+    #[error("write small, or games, ladder, histories, deep, usual, trees, deep-trees, usual-trees, chain, blocks, row, cycle, wide-refutation or long-refutation, or made, read, written or checked with -chain, -wide or -tree, with a size")]
     Words,
     #[error("out of memory")]
     NoMemory,
@@ -19,6 +19,8 @@ pub enum Failure {
     NotRefuted,
     #[error("{0}")]
     NotMade(NotMade),
+    #[error("{0}")]
+    Document(DocRefusal),
     #[error("{0}")]
     Io(io::Error),
 }
@@ -65,6 +67,12 @@ impl From<ExploreRefusal> for Failure {
 impl From<NotMade> for Failure {
     fn from(reason: NotMade) -> Failure {
         Failure::NotMade(reason)
+    }
+}
+
+impl From<DocRefusal> for Failure {
+    fn from(refusal: DocRefusal) -> Failure {
+        Failure::Document(refusal)
     }
 }
 

@@ -12,6 +12,7 @@ mod counts;
 mod failure;
 mod forms;
 mod measure;
+mod refutations;
 mod refuting;
 
 use crate::failure::Failure;
@@ -46,8 +47,14 @@ fn wished(rt: &(impl Env + AllocGlobal)) -> Result<Option<Wish>, Failure> {
 }
 
 fn main(rt: HostRuntime) -> Result<(), Failure> {
+    if refutations::is_answered(&rt)? {
+        return Ok(());
+    }
     match wished(&rt)? {
-        None => measure_small(&rt),
+        None => {
+            measure_small(&rt)?;
+            refutations::work_small(&rt)
+        }
         Some(wish) => measure(&rt, wish.measurement, wish.size, wish.is_timed),
     }
 }

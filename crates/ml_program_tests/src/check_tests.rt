@@ -1,5 +1,6 @@
 // Documents with a refutation: checked, and written anew.
-use ml_base::DocFault;
+use ml_base::{DocFault, DocRefusal, MemSink, MemSource};
+use ml_driver::run;
 use ml_refute_check::{Verdict, check, migrate};
 use std::alloc::{AllocError, Global};
 use std::test::Fail;
@@ -20,21 +21,58 @@ const EMPTY_NAME: &str =
 const NO_CLASH: &str =
     "mlsolver 1\nanswer unsatisfiable\nlogic mu\nsense plain\nformula (ff | p)\nnames 1\nentries 1\nentry 0\nsequent 0\nlive 1\nitem 0 - 0\nheights 0 0\nsplit 0\nclash false 2\nclash false 4\nend\n";
 
+// mu X. X, whose body leads back to itself
+const CYCLE: &str =
+    "mlsolver 2\nanswer unsatisfiable\nlogic mu\nsense plain\nformula (mu X. X)\nnames 1\nsequents 1\nsequent 0\nstacks 1\nstack 0\nentries 1\nentry 0 0\nlive 1\nitem 0 - 0\nheights 0 0\nclash cycle 0\nend\n";
+
+// the negation of p | !p
+const NEGATED: &str =
+    "mlsolver 2\nanswer unsatisfiable\nlogic mu\nsense negated\nformula (p | !p)\nnames 1\nsequents 1\nsequent 1\nstacks 1\nstack 0\nentries 1\nentry 0 0\nlive 1\nitem 1 - 0\nheights 0 0\nclash pair 6 3\nend\n";
+
 // documents with another line at a place, counted from 0, and what checking them finds: the first bad line or the first
-// line with a broken rule
-const EDITED: [(&'static str, usize, &'static str, bool, u64, u32); 18] = [
+// line with a broken rule; of the first one each line is altered
+const EDITED: [(&'static str, usize, &'static str, bool, u64, u32); 47] = [
+    (ENDLESS, 0, "mlsolver 3", false, 1, 1),
+    (ENDLESS, 1, "answer undecided", false, 2, 3),
+    (ENDLESS, 2, "logic s4", false, 3, 1),
+    (ENDLESS, 3, "sense negated", true, 9, 2),
+    (ENDLESS, 4, "formula (mu X. <>Y)", false, 5, 2),
+    (ENDLESS, 4, "formula (nu X. <>X)", true, 20, 9),
+    (ENDLESS, 5, "names 1", false, 12, 28),
+    (ENDLESS, 6, "entries 3", false, 27, 29),
+    (ENDLESS, 7, "entry 1", false, 8, 24),
     (ENDLESS, 8, "sequent 2", true, 9, 2),
+    (ENDLESS, 9, "live 2", true, 10, 3),
     (ENDLESS, 10, "item 0 3 0", true, 11, 4),
+    (ENDLESS, 11, "heights 0 0 1", true, 13, 10),
+    (ENDLESS, 12, "go 2 1 red 0", true, 13, 10),
+    (ENDLESS, 12, "go 2 1 green 0", true, 13, 9),
+    (ENDLESS, 13, "entry 2", false, 14, 24),
     (ENDLESS, 14, "sequent 400", true, 13, 8),
-    (ENDLESS, 16, "item 2 - 0", true, 13, 9),
     (ENDLESS, 15, "live 2", true, 16, 3),
     (ENDLESS, 15, "live 3", false, 16, 26),
+    (ENDLESS, 16, "item 2 - 0", true, 13, 9),
+    (ENDLESS, 17, "item 4 3 0", true, 13, 9),
+    (ENDLESS, 18, "heights 0 0 2", true, 13, 10),
     (ENDLESS, 19, "go 3 2 neutral", true, 20, 7),
     (ENDLESS, 19, "go 2 4 neutral", false, 20, 29),
+    (ENDLESS, 20, "entry x", false, 21, 22),
+    (ENDLESS, 21, "sequent 4 4", false, 22, 25),
+    (ENDLESS, 22, "live 1", false, 25, 27),
+    (ENDLESS, 23, "item 4 - 0 1", true, 20, 9),
+    (ENDLESS, 24, "item 4 1 1", true, 27, 9),
+    (ENDLESS, 25, "heights 0 0 5", true, 20, 10),
     (ENDLESS, 26, "go 2 3 green 0", true, 27, 9),
-    (ENDLESS, 11, "heights 0 0 1", true, 13, 10),
+    (ENDLESS, 27, "entry 3 0", false, 28, 21),
+    (ENDLESS, 28, "sequent", true, 27, 9),
+    (ENDLESS, 29, "live 02", false, 30, 22),
+    (ENDLESS, 30, "item 4 - 1", true, 27, 9),
+    (ENDLESS, 31, "item 4 1 0", true, 30, 3),
+    (ENDLESS, 32, "heights 0 1 0", true, 27, 10),
     (ENDLESS, 33, "clash false 4", true, 34, 6),
     (ENDLESS, 33, "clash cycle 4", true, 34, 6),
+    (ENDLESS, 33, "go 4 3 green 1", true, 34, 7),
+    (ENDLESS, 34, "end ", false, 35, 21),
     (ENDLESS_IN_TWO, 13, "entry 0 1", true, 14, 2),
     (ENDLESS_IN_TWO, 13, "entry 0 2", false, 14, 31),
     (ENDLESS_IN_TWO, 23, "go 2 2 green 1", true, 24, 9),
@@ -74,7 +112,7 @@ fn first_lines(alloc: Global, text: &str, count: usize) -> Result<String, AllocE
 
 #[test]
 fn good_documents_are_accepted(rt: HostRuntime) -> Result<(), Fail> {
-    for text in [ENDLESS, ENDLESS_IN_TWO] {
+    for text in [ENDLESS, ENDLESS_IN_TWO, CYCLE, NEGATED] {
         let found = check(rt.alloc(), text.as_bytes())?;
         assert_eq!(rt; found, Verdict::Accepted, "{text}");
     }
@@ -139,5 +177,65 @@ fn migrated_documents_are_in_version_2(rt: HostRuntime) -> Result<(), Fail> {
     let moved = migrate(rt.alloc(), EMPTY_NAME.as_bytes())?;
     let found = check(rt.alloc(), &moved)?;
     assert_eq!(rt; found, Verdict::Rejected { line: 19, rule: 3 });
+    Ok(())
+}
+
+#[test]
+fn unreadable_documents_are_not_migrated(rt: HostRuntime) -> Result<(), Fail> {
+    let cut = first_lines(rt.alloc(), EMPTY_NAME, 16)?;
+    let past_table = with_line(rt.alloc(), ENDLESS_IN_TWO, 13, "entry 0 2")?;
+    let rows = [(cut, 17, 21), (past_table, 14, 31)];
+    for (text, line, rule) in &rows {
+        let fault = DocFault {
+            line: *line,
+            rule: *rule,
+        };
+        let found = check(rt.alloc(), text.as_bytes())?;
+        assert_eq!(rt; found, Verdict::Unreadable(fault), "{text}");
+        match migrate(rt.alloc(), text.as_bytes()) {
+            Err(refusal) => assert_eq!(rt; refusal, DocRefusal::Fault(fault), "{text}"),
+            Ok(_) => assert!(rt; false, "{text}"),
+        }
+    }
+    Ok(())
+}
+
+// the status of a command on a document, with its output
+fn answer(alloc: Global, word: &str, text: &str) -> Result<(u8, Vec<u8>), Fail> {
+    let mut words = Vec::new(alloc);
+    words.push(String::from_str(alloc, word)?)?;
+    let bytes = Vec::from_slice(alloc, text.as_bytes())?;
+    let mut source = MemSource::new(bytes, 4096, Vec::new(alloc));
+    let mut sink = MemSink::new(alloc, 4096, Vec::new(alloc), 4096)?;
+    let status = run(alloc, &words, &mut source, &mut sink);
+    Ok((status.code(), Vec::from_slice(alloc, sink.taken())?))
+}
+
+#[test]
+fn commands_answer(rt: HostRuntime) -> Result<(), Fail> {
+    let cut = first_lines(rt.alloc(), EMPTY_NAME, 16)?;
+    let lower = with_line(rt.alloc(), ENDLESS, 11, "heights 0 0 1")?;
+    let past_table = with_line(rt.alloc(), ENDLESS_IN_TWO, 13, "entry 0 2")?;
+    let (_, moved) = answer(rt.alloc(), "migrate", EMPTY_NAME)?;
+    let moved = String::from_utf8(moved).unwrap_or(String::new(rt.alloc()));
+    let rows = [
+        ("check-refutation", ENDLESS, 0, "accepted\n"),
+        ("check-refutation", CYCLE, 0, "accepted\n"),
+        ("check-refutation", NEGATED, 0, "accepted\n"),
+        ("check-refutation", EMPTY_NAME, 1, "rejected line 16 rule 3\n"),
+        ("check-refutation", cut.as_str(), 4, "refused document line 17 rule 21\n"),
+        ("check-refutation", lower.as_str(), 1, "rejected line 13 rule 10\n"),
+        ("check-refutation", NO_CLASH, 1, "rejected line 15 rule 6\n"),
+        ("migrate", ENDLESS, 0, ENDLESS_IN_TWO),
+        ("check-refutation", moved.as_str(), 1, "rejected line 19 rule 3\n"),
+        ("check-refutation", past_table.as_str(), 4, "refused document line 14 rule 31\n"),
+        ("migrate", past_table.as_str(), 4, "refused document line 14 rule 31\n"),
+        ("migrate", cut.as_str(), 4, "refused document line 17 rule 21\n"),
+    ];
+    for (word, text, status, output) in rows {
+        let (code, taken) = answer(rt.alloc(), word, text)?;
+        assert_eq!(rt; code, status, "{word}: {text}");
+        assert_eq!(rt; taken.as_slice(), output.as_bytes(), "{word}: {text}");
+    }
     Ok(())
 }

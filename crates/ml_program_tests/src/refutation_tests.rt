@@ -365,3 +365,12 @@ fn broken_texts_by_tables(rt: HostRuntime) -> Result<(), Fail> {
     }
     Ok(())
 }
+
+// the body of a document that is cut behind its line 16
+#[test]
+fn a_cut_text(rt: HostRuntime) -> Result<(), Fail> {
+    let cut =
+        b"names 2\nentries 2\nentry 0\nsequent 0\nlive 1\nitem 0 - 0\nheights 0 0 1\ngo 2 1 neutral\nentry 1\nsequent 4\nlive 2\n";
+    assert!(rt; is_broken(rt.alloc(), cut, Version::One, 17, 21));
+    Ok(())
+}

@@ -30,6 +30,8 @@ pub mod OneFinding
 pub mod NamesStand
 -- where a name comes from, as it is searched for
 pub mod Sources
+-- items and local traces found by their node
+pub mod FoundByNode
 -- names that are traced back, and the condition on names
 pub mod NamesTraced
 -- what checking parts one by one finds

@@ -15,6 +15,7 @@
 #![tactic(auto)]
 
 mod branches;
+mod by_node;
 mod check_graph;
 mod checker;
 mod document;

@@ -1,7 +1,7 @@
 // The condition on names along a `go`, over the local traces of its step.
 ghost use Rattle.std.specs.Prelude.{◌≡◌, ◌↔◌, ◌⊎◌, ◌<◌, ◌≤◌, ℕ, Bool, false, true, List, length, All, IfOk, IsTrue};
 ghost use Rattle.ml_lists.specs.Ascending.{IsAscending};
-ghost use Rattle.ml_refute_check.specs.private.Sources.{IsSource, SourceAmong, HasSource, Serves, IsNameTraced, IsItemTraced, AreInUse, LeadInto, green_of, traces_of};
+ghost use Rattle.ml_refute_check.specs.private.Sources.{IsSource, SourceAmong, HasSource, Serves, IsNameTraced, IsItemTraced, AreInUse, LeadInto, RiseByNode, RiseByTarget, green_of, traces_of};
 ghost use Rattle.ml_refutation.specs.Views.{mark_of};
 ghost use Rattle.ml_graph.specs.Graph.{Graph, odd_priorities};
 ghost use Rattle.ml_lists.specs.Member.{IsMember};
@@ -12,6 +12,7 @@ ghost use Rattle.ml_trace.specs.NamesCondition.{NamesCondition, bound};
 ghost use Rattle.ml_trace.specs.Stack.{has, ends_in, IsAdvanced};
 
 use crate::branches::leads;
+use crate::by_node::{items_at, sort_by_target, traces_to};
 use crate::parts::has_number;
 use ml_base::NoMemory;
 use ml_refutation::{Entry, Item, Step};
@@ -97,11 +98,12 @@ fn has_source(
     items: &[Item],
     behind: &Item,
 ) -> bool
-    requires { IsAscending odds.now }
+    requires odds { IsAscending odds.now }
+    requires items { RiseByNode items.now }
     ensures { IsTrue result ↔ HasSource odds.now traces.now name progress items.now behind.now }
 {
     for trace in traces {
-        if comes_along(odds, trace, name, progress, items, behind) {
+        if comes_along(odds, trace, name, progress, items_at(items, trace.from), behind) {
             return true;
         }
     }
@@ -118,7 +120,8 @@ fn name_traced(
     name: u32,
     behind: &Item,
 ) -> bool
-    requires { IsAscending odds.now }
+    requires odds { IsAscending odds.now }
+    requires items { RiseByNode items.now }
     ensures { IsTrue result ↔ IsNameTraced odds.now traces.now bound green items.now name behind.now }
 {
     let is_last = ends_in(name, &behind.stack);
@@ -141,7 +144,8 @@ fn item_traced(
     items: &[Item],
     behind: &Item,
 ) -> bool
-    requires { IsAscending odds.now }
+    requires odds { IsAscending odds.now }
+    requires items { RiseByNode items.now }
     ensures { IsTrue result ↔ IsItemTraced odds.now traces.now bound green items.now behind.now }
 {
     for name in &behind.stack {
@@ -161,11 +165,14 @@ fn items_traced(
     items: &[Item],
     behind: &[Item],
 ) -> bool
-    requires { IsAscending odds.now }
+    requires odds { IsAscending odds.now }
+    requires traces { RiseByTarget traces.now }
+    requires items { RiseByNode items.now }
     ensures { IsTrue result ↔ All (IsItemTraced odds.now traces.now bound green items.now) behind.now }
 {
     for item in behind {
-        if !item_traced(odds, traces, bound, green, items, item) {
+        let arriving = traces_to(traces, item.node);
+        if !item_traced(odds, arriving, bound, green, items, item) {
             return false;
         }
     }
@@ -221,7 +228,8 @@ fn lead_into(alloc: Global, made: &[Triple], next: &[u32]) -> Result<Vec<Triple>
 
 /// Does a step meet the condition on names, along which these traces were made, into a sequent with these nodes?
 ///
-/// Cost: for each name of each item behind the step, at most the traces times the items before it.
+/// Cost: `n log n` in the traces; and for each name of each item behind the step, the traces to its node up to one from an
+/// item that serves, each with a look-up of its node among the items before the step.
 pub(crate) fn keeps_names(
     alloc: Global,
     odds: &[u32],
@@ -233,6 +241,7 @@ pub(crate) fn keeps_names(
 ) -> Result<bool, NoMemory>
     requires odds { IsAscending odds.now }
     requires next { IsAscending next.now }
+    requires items { RiseByNode before.now.items.items }
     ensures { IfOk result (λ b. (g : Graph) (step : GoStep)
         → odds.now ≡ odd_priorities g
         → next.now ≡ step.next
@@ -244,6 +253,7 @@ pub(crate) fn keeps_names(
     if !are_in_use(bound, green, before.live, behind.live) {
         return Ok(false);
     }
-    let traces = lead_into(alloc, made, next)?;
+    let mut traces = lead_into(alloc, made, next)?;
+    sort_by_target(&mut traces);
     Ok(items_traced(odds, &traces, bound, green, &before.items, &behind.items))
 }

@@ -10,7 +10,9 @@
 --   AreInUse b green live behind == bound and green name are in use before and behind the step
 --   traces_of e                 == the items and the names in use of an entry
 --   LeadInto next made ts       == ts are those of made that lead to one of the nodes next
+--   RiseByNode is, RiseByTarget ts == the nodes of the items is, the targets of the traces ts don't descend
 use Rattle.std.specs.Prelude.{ℕ, ◌≡◌, ◌⊎◌, ◌↔◌, ◌<◌, ◌≤◌, Bool, true, not, List, Option, None, Some, All, map}
+use Rattle.std.specs.List.Sorted.{IsNonDecreasingBy}
 use Rattle.ml_lists.specs.Member.{IsMember}
 use Rattle.ml_refutation.specs.declared.refutation.Entry.{Entry}
 use Rattle.ml_refutation.specs.declared.refutation.Item.{Item}
@@ -68,6 +70,12 @@ AreInUse bound green live live_behind =
 -- the traces that lead to one of these nodes
 abbrev pub LeadInto : List ℕ → List Triple → List Triple → Type 0
 LeadInto next made traces = (t : Triple) → IsMember t traces ↔ (IsMember t made × IsMember t.to next)
+
+abbrev pub RiseByNode : List Item → Type 0
+RiseByNode items = IsNonDecreasingBy (λ (a : Item). a.node) items
+
+abbrev pub RiseByTarget : List Triple → Type 0
+RiseByTarget traces = IsNonDecreasingBy (λ (t : Triple). t.to) traces
 
 -- the items and the names in use of an entry
 abbrev pub traces_of : Entry → traced.Entry AutomatonState

@@ -1,11 +1,16 @@
 use Rattle.ml_refute_check.specs.private.Sources.{IsItemTraced}
+use Rattle.ml_refute_check.proofs.FoundByNode.{traced_at}
 use Rattle.ml_refute_check.proofs.Sources.{all_more, all_found}
 use Rattle.ml_refute_check.proofs.names.items_traced.Goals as goal
 
 pub loop-item-preserved : goal.loop-item-preserved
 loop-item-preserved c =
+    let item = c.item-item.result in
+    let told =
+    traced_at c.args.odds.now c.args.traces.now c.traces_to-arriving.result.now c.args.items.now item
+    c.traces_to-arriving.ensures c.args.bound c.args.green c.item_traced.result c.item_traced.ensures in
     all_more (IsItemTraced c.args.odds.now c.args.traces.now c.args.bound c.args.green c.args.items.now) c.args.behind.now
-    c.loop-item.item-index c.item-item.result c.item_traced.result c.loop-item-test.true c.item-item.is c.item_traced.ensures
+    c.loop-item.item-index item c.item_traced.result c.loop-item-test.true c.item-item.is told
     c.if-not-item_traced.false c.loop-item.invariant
 
 pub returns : goal.returns

@@ -7,6 +7,7 @@ use Rattle.ml_refutation.specs.Views.{mark_of}
 use Rattle.ml_refute_check.specs.private.Parts.{question}
 use Rattle.ml_refute_check.proofs.BranchesFound.{test_fails, go_kept, go_refused_7, go_refused_8, go_refused_9, go_refused_10}
 use Rattle.ml_refute_check.proofs.EntryFound.{odds_ascend}
+use Rattle.ml_refute_check.proofs.FoundByNode.{rise_by_node}
 use Rattle.ml_refute_check.proofs.GoFound.{within_told, names_told, falls_told}
 use Rattle.ml_refute_check.proofs.checker.Checker.check_go.Goals as goal
 
@@ -37,6 +38,9 @@ returns-then-not-leads_within-clause-found c =
 pub keeps_names-requires-clause-odds : goal.keeps_names-requires-clause-odds
 keeps_names-requires-clause-odds c =
     odds_ascend c.args.self.now.graph.now c.deref-2.result.now (c.deref-2.ensures.value ∙ c.requires.asks.odds_are)
+
+pub keeps_names-requires-clause-items : goal.keeps_names-requires-clause-items
+keeps_names-requires-clause-items c = rise_by_node c.args.entry.now.items.items c.requires.entry.is_entry.is_traced.ascend
 
 pub returns-then-not-branch-clause-found : goal.returns-then-not-branch-clause-found
 returns-then-not-branch-clause-found c =

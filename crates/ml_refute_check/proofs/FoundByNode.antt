@@ -1,0 +1,165 @@
+-- Items and local traces that are found by their node, in lists that rise by it.
+--
+--   members_at       == behind all entries with lower keys, and before all with higher ones, stand those with the key
+--   rise_by_node     == the items of an entry rise by their nodes
+--   among_at         == an item comes along a trace from some of the items at its source exactly where from some of all
+--   traced_at        == an item is traced back along the traces to its node exactly where it is along all
+--   led_into_sorted  == traces in another order lead to the same nodes
+use Rattle.std.proofs.Common.{◌≡◌, ◌↔◌, ◌⊎◌, ℕ, zero, suc, ◌+◌, ◌<◌, ◌≤◌, Bool, true, false, ◌&&◌, ◌||◌, ◌==◌, nat_lt, ltb, leb, List, [], ◌∷◌, ◌++◌, Option, None, Some, length, get_or, take, drop, map, All, IsTrue, inl, inr, refl, sym, ap, ◌∙◌, subst, arith}
+use Rattle.std.specs.List.{AllWithin}
+use Rattle.std.specs.List.Sorted.{IsPartitionPoint}
+use Rattle.std.proofs.lemmas.Bool.{ltb-true, ltb-false, leb-true, leb-false}
+use Rattle.std.proofs.lemmas.Bool.Decides.{nat_tests}
+use Rattle.std.proofs.lemmas.List.{take-append-drop, get_or-take, get_or-drop, length-take-le, length-drop}
+use Rattle.std.proofs.lemmas.List.Sorted.{IsNonDecreasingBy-from_all_adjacent}
+use Rattle.ml_lists.specs.Member.{IsMember}
+use Rattle.ml_lists.proofs.Member.{member-place, member-append, member-append_left, member-append_right}
+use Rattle.ml_trace.specs.declared.letters.AutomatonState.{AutomatonState}
+use Rattle.ml_trace.specs.declared.letters.Triple.{Triple}
+use Rattle.ml_trace.specs.Stack as traced
+use Rattle.ml_refutation.specs.declared.refutation.Item.{Item}
+use Rattle.ml_refutation.specs.Refutation.{AreAbove, comes_before, guess_before}
+use Rattle.ml_refutation.specs.Views.{item_of}
+use Rattle.ml_refute_check.specs.private.Sources.{SourceAmong, HasSource, IsNameTraced, IsItemTraced, LeadInto, RiseByNode}
+
+-- ---- entries with one key
+
+module _ {X : Type 0} where
+  -- what holds within the front of a list holds of its members, and so for the back
+  front_all : (P : X → Type 0) (xs : List X) (i : ℕ)
+      → i ≤ length xs
+      → AllWithin P xs 0 i
+      → (x : X)
+      → IsMember x (take i xs)
+      → P x
+  front_all P xs i le all x m =
+      let p = member-place x (take i xs) m in
+      let low : p.place < i = let b = p.below in let l = length-take-le i xs le in omega arith in
+      subst P (sym (get_or-take i xs p.place x low) ∙ p.holds x) (all p.place x (omega arith) low)
+
+  back_all : (P : X → Type 0) (xs : List X) (i : ℕ)
+      → i ≤ length xs
+      → AllWithin P xs i (length xs)
+      → (x : X)
+      → IsMember x (drop i xs)
+      → P x
+  back_all P xs i le all x m =
+      let p = member-place x (drop i xs) m in
+      let low : i + p.place < length xs = let b = p.below in let l = length-drop i xs in omega arith in
+      subst P (sym (get_or-drop i xs p.place x) ∙ p.holds x) (all (i + p.place) x (omega arith) low)
+
+  front_member : (x : X) (xs : List X) (i : ℕ) → IsMember x (take i xs) → IsMember x xs
+  front_member x xs i m = subst (IsMember x) (take-append-drop i xs) (member-append_left x (take i xs) (drop i xs) m)
+
+  back_member : (x : X) (xs : List X) (i : ℕ) → IsMember x (drop i xs) → IsMember x xs
+  back_member x xs i m = subst (IsMember x) (take-append-drop i xs) (member-append_right x (take i xs) (drop i xs) m)
+
+  cut_member : (x : X) (xs : List X) (i : ℕ) → IsMember x xs → IsMember x (take i xs) ⊎ IsMember x (drop i xs)
+  cut_member x xs i m = member-append x (take i xs) (drop i xs) (subst (IsMember x) (sym (take-append-drop i xs)) m)
+
+  pub members_at : (n : X → ℕ) (xs rest : List X) (q i j : ℕ)
+      → rest ≡ drop i xs
+      → i ≤ length xs
+      → IsPartitionPoint (λ x. ltb (n x) q ≡ true) (λ x. ltb (n x) q ≡ false) xs i
+      → j ≤ length rest
+      → IsPartitionPoint (λ x. leb (n x) q ≡ true) (λ x. leb (n x) q ≡ false) rest j
+      → (x : X)
+      → IsMember x (take j rest) ↔ (IsMember x xs × (n x ≡ q))
+  members_at n xs rest q i j is le one le' two x = (
+    λ m. (back_member x xs i (subst (IsMember x) is (front_member x rest j m)), here m),
+    λ h. behind_lower h.1 (cut_member x xs i h.0),
+  )
+    where
+      here : IsMember x (take j rest) → n x ≡ q
+      here m =
+          let most = leb-true (n x) q (front_all (λ y. leb (n y) q ≡ true) rest j le' two.0 x m) in
+          let least = ltb-false (n x) q (back_all (λ y. ltb (n y) q ≡ false) xs i le one.1 x
+          (subst (IsMember x) is (front_member x rest j m))) in
+          omega arith
+
+      before_higher : n x ≡ q → IsMember x (take j rest) ⊎ IsMember x (drop j rest) → IsMember x (take j rest)
+      before_higher e (inl m) = m
+      before_higher e (inr m) =
+          let high = leb-false (n x) q (back_all (λ y. leb (n y) q ≡ false) rest j le' two.1 x m) in
+          absurd (omega arith)
+
+      behind_lower : n x ≡ q → IsMember x (take i xs) ⊎ IsMember x (drop i xs) → IsMember x (take j rest)
+      behind_lower e (inl m) =
+          let low = ltb-true (n x) q (front_all (λ y. ltb (n y) q ≡ true) xs i le one.0 x m) in
+          absurd (omega arith)
+      behind_lower e (inr m) = before_higher e (cut_member x rest j (subst (IsMember x) (sym is) m))
+
+-- ---- items by their nodes
+
+no_lower : (m n : ℕ) (guess : Bool) → (nat_lt m n || ((m == n) && guess)) ≡ true → m ≤ n
+no_lower m n guess is = grind (arith, nat_tests)
+
+rises : (before : Option AutomatonState) (items : List Item)
+    → AreAbove before (map (λ (a : traced.Item AutomatonState). a.state) (map item_of items))
+    → (k : ℕ) (d : Item)
+    → k + 1 < length items
+    → (get_or items k d).node ≤ (get_or items (k + 1) d).node
+rises before [] above k d low = absurd (omega arith)
+rises before (a ∷ []) above k d low = absurd (omega arith)
+rises before (a ∷ b ∷ others) above zero d low = no_lower a.node b.node (guess_before a.odd b.odd) above.1.0
+rises before (a ∷ b ∷ others) above (suc k) d low =
+    rises (Some (record { node = a.node; odd = a.odd })) (b ∷ others) above.1 k d (omega arith)
+
+pub rise_by_node : (items : List Item)
+    → AreAbove None (map (λ (a : traced.Item AutomatonState). a.state) (map item_of items))
+    → RiseByNode items
+rise_by_node items above = IsNonDecreasingBy-from_all_adjacent (λ (a : Item). a.node) items (rises None items above)
+
+-- ---- sources among what is found
+
+module _ (odds : List ℕ) where
+  pub among_at : (t : Triple) (y : ℕ) (progress : Bool) (items found : List Item) (behind : Item) (b : Bool)
+      → ((a : Item) → IsMember a found ↔ (IsMember a items × (a.node ≡ t.from)))
+      → (IsTrue b ↔ SourceAmong odds t y progress found behind)
+      → IsTrue b ↔ SourceAmong odds t y progress items behind
+  among_at t y progress items found behind b at told = (
+    λ h. let s = told.0 h in record { item = s.item; member = ((at s.item).0 s.member).0; is_source = s.is_source },
+    λ s. told.1 (record { item = s.item; member = (at s.item).1 (s.member, s.is_source.begins); is_source = s.is_source }),
+  )
+
+  module _ (traces found : List Triple) (items : List Item) (behind : Item)
+      (at : (t : Triple) → IsMember t found ↔ (IsMember t traces × (t.to ≡ behind.node))) where
+    of_all : (y : ℕ) (progress : Bool) → HasSource odds traces y progress items behind
+        → HasSource odds found y progress items behind
+    of_all y progress s = record {
+      trace = s.trace;
+      member = (at s.trace).1 (s.member, sym s.among.is_source.ends);
+      among = s.among;
+    }
+
+    of_found : (y : ℕ) (progress : Bool) → HasSource odds found y progress items behind
+        → HasSource odds traces y progress items behind
+    of_found y progress s = record { trace = s.trace; member = ((at s.trace).0 s.member).0; among = s.among }
+
+    module _ (bound : ℕ) (green : Option ℕ) where
+      name_of_all : (y : ℕ) → IsNameTraced odds traces bound green items y behind
+          → IsNameTraced odds found bound green items y behind
+      name_of_all y n = record {
+        below = λ low. of_all y _ (n.below low);
+        if_green = λ e. ((n.if_green e).0, of_all y true (n.if_green e).1);
+      }
+
+      name_of_found : (y : ℕ) → IsNameTraced odds found bound green items y behind
+          → IsNameTraced odds traces bound green items y behind
+      name_of_found y n = record {
+        below = λ low. of_found y _ (n.below low);
+        if_green = λ e. ((n.if_green e).0, of_found y true (n.if_green e).1);
+      }
+
+      pub traced_at : (b : Bool) → (IsTrue b ↔ IsItemTraced odds found bound green items behind)
+          → IsTrue b ↔ IsItemTraced odds traces bound green items behind
+      traced_at b told = (
+        λ h k z low. name_of_found (get_or behind.stack.items k z) (told.0 h k z low),
+        λ all. told.1 (λ k z low. name_of_all (get_or behind.stack.items k z) (all k z low)),
+      )
+
+pub led_into_sorted : (next : List ℕ) (made traces sorted : List Triple)
+    → LeadInto next made traces
+    → ((t : Triple) → IsMember t sorted ↔ IsMember t traces)
+    → LeadInto next made sorted
+led_into_sorted next made traces sorted into same t = (λ m. (into t).0 ((same t).0 m), λ h. (same t).1 ((into t).1 h))

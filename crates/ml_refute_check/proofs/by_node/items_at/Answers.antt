@@ -1,0 +1,23 @@
+use Rattle.std.proofs.Common.{rules, ◌≡◌, ◌-◌, ◌≤◌, true, false, length, take, drop, ltb, leb, arith, sym, subst}
+use Rattle.std.proofs.lemmas.List.{take_all, length-drop}
+use Rattle.std.proofs.lemmas.List.Sorted.{IsPartitionPoint-from_clause, IsPartitionedBy-ltb, IsPartitionedBy-leb, IsNonDecreasingBy-drop}
+use Rattle.ml_refutation.specs.declared.refutation.Item.{Item}
+use Rattle.ml_refute_check.specs.private.Sources.{RiseByNode}
+use Rattle.ml_refute_check.proofs.FoundByNode.{members_at}
+use Rattle.ml_refute_check.proofs.by_node.items_at.Goals as goal
+
+pub returns : goal.returns
+returns c =
+    let xs = c.args.items.now in
+    let q = c.args.node in
+    let i = c.partition_point.result in
+    let rest = take (length xs - i) (drop i xs) in
+    let is : rest ≡ drop i xs = take_all (length xs - i) (drop i xs) (omega (arith, length-drop i xs)) in
+    let rise : RiseByNode rest = subst RiseByNode (sym is) (IsNonDecreasingBy-drop (λ (x : Item). x.node) i xs c.requires) in
+    let one = IsPartitionPoint-from_clause (λ (x : Item). ltb x.node q) xs i c.partition_point.ensures.partitioned
+    (IsPartitionedBy-ltb (λ (x : Item). x.node) xs q c.requires) (λ a r f' k. search rules) in
+    let two = IsPartitionPoint-from_clause (λ (x : Item). leb x.node q) rest c.partition_point-2.result
+    c.partition_point-2.ensures.partitioned (IsPartitionedBy-leb (λ (x : Item). x.node) rest q rise)
+    (λ a r f' k. search rules) in
+    members_at (λ (x : Item). x.node) xs rest q i c.partition_point-2.result is c.partition_point.ensures.bound one
+    c.partition_point-2.ensures.bound two
