@@ -1,6 +1,7 @@
 // The measurements.
 
 use crate::counts::{highest, read_game, read_graph, read_letter, won_by_even};
+use crate::decisions::{Family, decide};
 use crate::failure::Failure;
 use crate::forms::Form;
 use ml_history::History;
@@ -41,6 +42,10 @@ pub enum Measurement {
     Row,
     /// An even cycle of such a graph.
     Cycle,
+    /// Exploring and solving the decision game of a formula of so many disjunctions, and of one whose states lead on so
+    /// often.
+    Or,
+    Step,
 }
 
 impl Measurement {
@@ -59,6 +64,8 @@ impl Measurement {
             "blocks" => Some(Measurement::Blocks),
             "row" => Some(Measurement::Row),
             "cycle" => Some(Measurement::Cycle),
+            "or" => Some(Measurement::Or),
+            "step" => Some(Measurement::Step),
             _ => None,
         }
     }
@@ -267,6 +274,8 @@ pub(crate) fn measure<R: Print + Clock + AllocGlobal>(
         Measurement::Cycle => {
             count_heights(rt, &slow_row(alloc, size as u64, 16, true)?, is_timed)
         }
+        Measurement::Or => decide(rt, Family::Or, size, is_timed),
+        Measurement::Step => decide(rt, Family::Step, size, is_timed),
     }
 }
 
@@ -285,6 +294,8 @@ pub(crate) fn measure_small<R: Print + Clock + AllocGlobal>(rt: &R) -> Result<()
         (Measurement::Blocks, 1000),
         (Measurement::Row, 100),
         (Measurement::Cycle, 100),
+        (Measurement::Or, 5),
+        (Measurement::Step, 20),
     ];
     for (measurement, size) in small {
         measure(rt, measurement, size, false)?;
