@@ -11,7 +11,7 @@ use thiserror::Error;
 /// Why a measurement ended.
 #[derive(Debug, Drop, Error)]
 pub enum Failure {
-    #[error("write small, or games, ladder, histories, deep, usual, trees, deep-trees, usual-trees, chain, blocks, row, cycle, wide-refutation or long-refutation, or made, read, written or checked with -chain, -wide or -tree, with a size")]
+    #[error("write small, or the name of a measurement and a size")]
     Words,
     #[error("out of memory")]
     NoMemory,

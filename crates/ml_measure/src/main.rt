@@ -9,6 +9,7 @@
 #![tactic(auto)]
 
 mod counts;
+mod decisions;
 mod failure;
 mod forms;
 mod measure;

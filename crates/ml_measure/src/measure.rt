@@ -1,6 +1,7 @@
 // The measurements.
 
 use crate::counts::{highest, read_game, read_graph, read_letter, won_by_even};
+use crate::decisions::{Family, decide};
 use crate::failure::Failure;
 use crate::forms::Form;
 use crate::refuting::{refute_long, refute_wide};
@@ -46,6 +47,10 @@ pub enum Measurement {
     WideRefutation,
     /// The refutation of a graph that goes round two cycles at once, of so many states and of one more.
     LongRefutation,
+    /// Exploring and solving the decision game of a formula of so many disjunctions, and of one whose states lead on so
+    /// often.
+    Or,
+    Step,
 }
 
 impl Measurement {
@@ -66,6 +71,8 @@ impl Measurement {
             "cycle" => Some(Measurement::Cycle),
             "wide-refutation" => Some(Measurement::WideRefutation),
             "long-refutation" => Some(Measurement::LongRefutation),
+            "or" => Some(Measurement::Or),
+            "step" => Some(Measurement::Step),
             _ => None,
         }
     }
@@ -276,6 +283,8 @@ pub(crate) fn measure<R: Print + Clock + AllocGlobal>(
         }
         Measurement::WideRefutation => refute_wide(rt, size, is_timed),
         Measurement::LongRefutation => refute_long(rt, size, is_timed),
+        Measurement::Or => decide(rt, Family::Or, size, is_timed),
+        Measurement::Step => decide(rt, Family::Step, size, is_timed),
     }
 }
 
@@ -296,6 +305,8 @@ pub(crate) fn measure_small<R: Print + Clock + AllocGlobal>(rt: &R) -> Result<()
         (Measurement::Cycle, 100),
         (Measurement::WideRefutation, 5),
         (Measurement::LongRefutation, 5),
+        (Measurement::Or, 5),
+        (Measurement::Step, 20),
     ];
     for (measurement, size) in small {
         measure(rt, measurement, size, false)?;
