@@ -20,3 +20,7 @@ pub mod ReadBack
 pub mod SomeDue
 -- words worked out by hand
 pub mod WorkedWords
+-- something is done at each position
+pub mod SomeTurn
+-- the decision game has an arena, or passes the limit
+pub mod SomeArena

@@ -3,11 +3,15 @@
 --   ReadsNoFormula c == c reads documents, or the words are no command
 --   SomeDue          == for such a command, or words that are none, and an input, some status is due, with some output
 --   OneDue           == one status is due at most
+--   SomeGame         == the decision game of a graph has an arena with at most so many positions, or has more
 --   IsExact q p s    == the status s says of the problem p what is true of it
 --   AnswersAreExact  == each answer to a question is exact
 --   DecidedAreChecked, RefutedAreAccepted == the documents that `decide` and `valid` write are found to be right by
 --                       `check-model` and `check-refutation`
-use Rattle.std.specs.Prelude.{ℕ, ◌≡◌, Bool, true, false, List, Option, Some}
+use Rattle.std.specs.Prelude.{ℕ, ◌≡◌, ◌≤◌, ◌⊎◌, Bool, true, false, List, length, Option, Some}
+use Rattle.ml_graph.specs.Graph.{Graph, IsGraph}
+use Rattle.ml_product.specs.Arena.{Arena, IsArenaOf}
+use Rattle.ml_product.specs.DecisionGame.{HasMoreThan}
 use Rattle.ml_driver.specs.declared.command.Command.TheVariants.{Decide, Valid}
 use Rattle.ml_driver.specs.declared.command.Command.{Command}
 use Rattle.ml_model_check.specs.Checked.{Shows}
@@ -57,3 +61,7 @@ DecidedAreChecked = (q : Question) (text out : List ℕ) → Satisfied q text ou
 
 abbrev pub RefutedAreAccepted : Type 0
 RefutedAreAccepted = (q : Question) (text out : List ℕ) → Refuted q text out → IsAcceptedDocument out
+
+abbrev pub SomeGame : Type 0
+SomeGame =
+    (g : Graph) (n : ℕ) → IsGraph g → ((a : Arena) × (IsArenaOf g a × (length a.positions ≤ n))) ⊎ HasMoreThan g n
