@@ -24,3 +24,9 @@ pub mod WorkedWords
 pub mod SomeTurn
 -- the decision game has an arena, or passes the limit
 pub mod SomeArena
+-- graphs with names and numbers that a program holds
+pub mod HeldGraphs
+-- models with such names
+pub mod NamedModels
+-- each question on each text has an answer
+pub mod SomeAnswer

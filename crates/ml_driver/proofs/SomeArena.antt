@@ -220,7 +220,7 @@ module _ (g : Graph) (ok : IsGraph g) where
 
   one_more : (others : List Position) → Listed others → (m : Missing (start_of g ∷ others))
       → Listed (m.position ∷ others)
-  one_more others l m = record { are_different = (apart, (λ i. m.is_new (inr i)), l.are_different.1); are_reached = all }
+  one_more others l m = record { are_different = (apart, ((λ i. m.is_new (inr i)), l.are_different.1)); are_reached = all }
     where
       apart : (start_of g ≡ m.position) ⊎ IsMember (start_of g) others → ⊥
       apart (inl same) = m.is_new (inl (sym same))

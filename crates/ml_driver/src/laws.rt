@@ -3,9 +3,9 @@ ghost use Rattle.std.specs.Prelude.{◌≡◌, ◌+◌, ◌^◌};
 ghost use Rattle.ml_driver.specs.declared.command.TheConstants.{LONGEST_TEXT, LONGEST_DOCUMENT};
 ghost use Rattle.ml_driver.specs.Laws.{AnswersAreExact, DecidedAreChecked, OneDue, RefutedAreAccepted, SomeDue, SomeGame};
 
-/// For a command, or words that are none, and an input, one status is due at most. So where `run` answers a status, no
-/// other one is due. For the commands that read documents, and for words that are none, some status is due as well. That
-/// one is due for `decide` and `valid` too isn't a law yet: it is known of each call that answers.
+/// For each command, for words that are none, and for each input exactly one status is due: one at most, and some with some
+/// output. So where `run` answers a status, no other one is due, and where it answers none but want of memory or a fault,
+/// one was due.
 pub fn one_due()
     ensures some { SomeDue }
     ensures one { OneDue }
