@@ -18,3 +18,13 @@ pub mod ReadBack
 pub mod SomeDue
 -- words worked out by hand
 pub mod WorkedWords
+-- something is done at each position
+pub mod SomeTurn
+-- the decision game has an arena, or passes the limit
+pub mod SomeArena
+-- graphs with names and numbers that a program holds
+pub mod HeldGraphs
+-- models with such names
+pub mod NamedModels
+-- each question on each text has an answer
+pub mod SomeAnswer

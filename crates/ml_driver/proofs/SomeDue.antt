@@ -1,4 +1,4 @@
--- Some status is due, for each command that reads documents and for words that are none, whatever the input.
+-- Some status is due, for each command and for words that are none, whatever the input.
 --
 --   on_document, on_refutation, to_migrate == by what checking or reading the document finds
 --   some_due          == some status is due, with some output
@@ -18,9 +18,10 @@ use Rattle.ml_driver.specs.declared.command.Command.TheVariants.{Decide, Valid, 
 use Rattle.ml_driver.specs.declared.status.Status.{Status}
 use Rattle.ml_driver.specs.declared.status.Status.TheVariants.{Yes, No, Words, Text}
 use Rattle.ml_driver.specs.Statuses.{longest_document, refused_words, refused_length, holds_line, fails_line, accepted_line, rejected_line, refused_document}
-use Rattle.ml_driver.specs.Run.{IsDue, document_by_length, by_line}
+use Rattle.ml_driver.specs.Run.{IsDue, document_by_length, by_line, for_negation, plainly}
 use Rattle.ml_driver.proofs.ProblemGraphs.{well_formed}
 use Rattle.ml_driver.proofs.RefutationDocuments.{ShowsRefutation, refutation_or_fault, refutation_read_back}
+use Rattle.ml_driver.proofs.SomeAnswer.{some_answer}
 use Rattle.ml_driver.specs.Laws.{SomeDue}
 
 abbrev Due : Option Command → List ℕ → Type 0
@@ -91,9 +92,9 @@ to_migrate text =
     (cases_lt longest_document (length text))
 
 pub some_due : SomeDue
-some_due None text reads = (Words, (refused_words, refl))
-some_due (Some (Decide l n)) text reads = absurd reads
-some_due (Some (Valid l n)) text reads = absurd reads
-some_due (Some CheckModel) text reads = on_document text
-some_due (Some CheckRefutation) text reads = on_refutation text
-some_due (Some Migrate) text reads = to_migrate text
+some_due None text small = (Words, (refused_words, refl))
+some_due (Some (Decide l n)) text small = some_answer (plainly l n) text small
+some_due (Some (Valid l n)) text small = some_answer (for_negation l n) text small
+some_due (Some CheckModel) text small = on_document text
+some_due (Some CheckRefutation) text small = on_refutation text
+some_due (Some Migrate) text small = to_migrate text

@@ -1,13 +1,18 @@
 -- Laws of what is due.
 --
---   ReadsNoFormula c == c reads documents, or the words are no command
---   SomeDue          == for such a command, or words that are none, and an input, some status is due, with some output
+--   HasSmallLimit c  == the limit of c, where it has one, fits 32 bits, as that of each command that a program holds
+--   SomeDue          == for each such command, for words that are none, and for each input, some status is due, with
+--                       some output
 --   OneDue           == one status is due at most
+--   SomeGame         == the decision game of a graph has an arena with at most so many positions, or has more
 --   IsExact q p s    == the status s says of the problem p what is true of it
 --   AnswersAreExact  == each answer to a question is exact
 --   DecidedAreChecked, RefutedAreAccepted == the documents that `decide` and `valid` write are found to be right by
 --                       `check-model` and `check-refutation`
-use Rattle.std.specs.Prelude.{ℕ, ◌≡◌, Bool, true, false, List, Option, Some}
+use Rattle.std.specs.Prelude.{ℕ, ◌≡◌, ◌<◌, ◌≤◌, ◌^◌, ◌⊎◌, Bool, true, false, List, length, Option, Some}
+use Rattle.ml_graph.specs.Graph.{Graph, IsGraph}
+use Rattle.ml_product.specs.Arena.{Arena, IsArenaOf}
+use Rattle.ml_product.specs.DecisionGame.{HasMoreThan}
 use Rattle.ml_driver.specs.declared.command.Command.TheVariants.{Decide, Valid}
 use Rattle.ml_driver.specs.declared.command.Command.{Command}
 use Rattle.ml_model_check.specs.Checked.{Shows}
@@ -24,14 +29,14 @@ use Rattle.ml_driver.specs.Run.{IsDue}
 abbrev pub OneDue : Type 0
 OneDue = (c : Option Command) (text : List ℕ) (s t : Status) (out more : List ℕ) → IsDue c text s out → IsDue c text t more → s ≡ t
 
--- the command reads a document, or the words are no command
-abbrev pub ReadsNoFormula : Option Command → Type 0
-ReadsNoFormula (Some (Decide l n)) = ⊥
-ReadsNoFormula (Some (Valid l n)) = ⊥
-ReadsNoFormula _ = Unit {0}
+-- the limit of the command, where it has one, is a number of 32 bits
+abbrev pub HasSmallLimit : Option Command → Type 0
+HasSmallLimit (Some (Decide l n)) = n < 2 ^ 32
+HasSmallLimit (Some (Valid l n)) = n < 2 ^ 32
+HasSmallLimit _ = Unit {0}
 
 abbrev pub SomeDue : Type 0
-SomeDue = (c : Option Command) (text : List ℕ) → ReadsNoFormula c → (s : Status) × ((out : List ℕ) × IsDue c text s out)
+SomeDue = (c : Option Command) (text : List ℕ) → HasSmallLimit c → (s : Status) × ((out : List ℕ) × IsDue c text s out)
 
 -- the status that says whether the problem is satisfiable, where the question is about the negation or isn't
 abbrev pub says : Bool → Bool → Status
@@ -57,3 +62,7 @@ DecidedAreChecked = (q : Question) (text out : List ℕ) → Satisfied q text ou
 
 abbrev pub RefutedAreAccepted : Type 0
 RefutedAreAccepted = (q : Question) (text out : List ℕ) → Refuted q text out → IsAcceptedDocument out
+
+abbrev pub SomeGame : Type 0
+SomeGame =
+    (g : Graph) (n : ℕ) → IsGraph g → ((a : Arena) × (IsArenaOf g a × (length a.positions ≤ n))) ⊎ HasMoreThan g n

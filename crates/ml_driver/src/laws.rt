@@ -1,11 +1,11 @@
 // What holds of what is due by its definition alone: the functions do nothing, their contracts are the theorems.
 ghost use Rattle.std.specs.Prelude.{◌≡◌, ◌+◌, ◌^◌};
 ghost use Rattle.ml_driver.specs.declared.command.TheConstants.{LONGEST_TEXT, LONGEST_DOCUMENT};
-ghost use Rattle.ml_driver.specs.Laws.{AnswersAreExact, DecidedAreChecked, OneDue, RefutedAreAccepted, SomeDue};
+ghost use Rattle.ml_driver.specs.Laws.{AnswersAreExact, DecidedAreChecked, OneDue, RefutedAreAccepted, SomeDue, SomeGame};
 
-/// For a command, or words that are none, and an input, one status is due at most. So where `run` answers a status, no
-/// other one is due. For the commands that read documents, and for words that are none, some status is due as well. That
-/// one is due for `decide` and `valid` too isn't a law yet: it is known of each call that answers.
+/// For each command, for words that are none, and for each input exactly one status is due: one at most, and some with some
+/// output. So where `run` answers a status, no other one is due, and where it answers none but want of memory or a fault,
+/// one was due.
 pub fn one_due()
     ensures some { SomeDue }
     ensures one { OneDue }
@@ -28,4 +28,10 @@ pub fn decided_are_checked()
 pub fn limits()
     ensures text { LONGEST_TEXT ≡ 1048576 }
     ensures document { LONGEST_DOCUMENT + 1 ≡ 2 ^ 63 }
+{}
+
+/// The decision game of a graph, of whatever size, has at most so many positions, and then there is an arena of it; or it
+/// has more.
+pub fn some_game()
+    ensures { SomeGame }
 {}

@@ -32,3 +32,7 @@ pub mod NumberedStates
 pub mod GatheredParts
 -- what is known of a numbered state
 pub mod StateParts
+-- where Even wins, there is a model
+pub mod SomeModel
+-- lists put in order
+pub mod SortedLists

@@ -10,7 +10,8 @@
 --   StatesAreMet        == where Even wins, the states of the model begin exactly at the positions that are met and at
 --                          which no side is chosen yet
 --   OneModel            == a graph, an arena and a solution have one model at most
-use Rattle.std.specs.Prelude.{ℕ, ◌≡◌, ◌<◌, ◌↔◌, [], map}
+--   SomeModel           == where Even wins, there is one, with at most as many states as the arena has positions
+use Rattle.std.specs.Prelude.{ℕ, ◌≡◌, ◌<◌, ◌≤◌, ◌↔◌, [], length, map}
 use Rattle.ml_base.specs.declared.structure.Edge.{Edge}
 use Rattle.ml_base.specs.Structure.{Structure, IsStructure}
 use Rattle.ml_lists.specs.Member.{IsMember}
@@ -75,3 +76,8 @@ abbrev pub OneModel : Type 0
 OneModel =
     (g : Graph) (a : Arena) (s : GameSolution) (m n : Structure) (i j : ℕ) → IsModelOf g a s m i → IsModelOf g a s n j
     → (m ≡ n) × (i ≡ j)
+
+abbrev pub SomeModel : Type 0
+SomeModel =
+    (g : Graph) (a : Arena) (s : GameSolution) → EvenWins g a s
+    → (m : Structure) × ((start : ℕ) × (IsModelOf g a s m start × (m.states ≤ length a.positions)))

@@ -1,6 +1,6 @@
 // Laws about the definitions alone: empty functions, each of whose contract is a theorem.
 
-ghost use Rattle.ml_extract.specs.Extraction.{ModelsHold, OneModel, StatesAreMet};
+ghost use Rattle.ml_extract.specs.Extraction.{ModelsHold, OneModel, SomeModel, StatesAreMet};
 
 /// A graph, an arena and a solution have one model at most, with one start.
 ///
@@ -24,4 +24,12 @@ pub fn states_are_met()
 /// Does nothing when called.
 pub fn models_hold()
     ensures { ModelsHold }
+{}
+
+/// Where Even wins the decision game of a graph, there is a model of Even's moves. It has at most as many states as the game
+/// has positions.
+///
+/// Does nothing when called.
+pub fn some_model()
+    ensures { SomeModel }
 {}

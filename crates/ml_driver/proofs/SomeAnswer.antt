@@ -1,0 +1,169 @@
+-- For each question and each text some answer is due.
+--
+-- The text is too long, or is refused by the parser, or stands for a formula. The closure of this is too large, or it has a
+-- graph. The game of this passes the limit, or has an arena. The arena's game has a solution, and by it Even wins the first
+-- position, and there is a model; or Odd does, and there is a refutation.
+--
+--   Answer n q text == some status is due, where n tells whether the question is about the negation
+--   of_problem      == a problem has one
+--   some_answer     == each text has one
+use Rattle.std.proofs.Common.{◌≡◌, ℕ, ◌+◌, ◌<◌, ◌≤◌, ◌^◌, ◌⊎◌, Bool, true, false, List, length, Some, All, inl, inr, ⊎_elim, refl, sym, subst, arith}
+use Rattle.std.proofs.lemmas.Bool.{cases_lt}
+use Rattle.ml_base.specs.Structure.{Structure}
+use Rattle.ml_base.specs.declared.parse_refusal.ParseRefusal.{ParseRefusal}
+use Rattle.ml_base.specs.declared.parse_refusal.ParseRefusal.TheVariants as refusal
+use Rattle.ml_lists.proofs.Decided.{Decided}
+use Rattle.ml_lists.proofs.Member.{member-All}
+use Rattle.ml_graph.specs.Graph.{Graph, IsGraph, size}
+use Rattle.ml_parity.specs.Game as games
+use Rattle.ml_parity.specs.Solution.{GameSolution, IsSolution, winner_at}
+use Rattle.ml_parity.specs.Winner.{Wins}
+use Rattle.ml_parity.specs.declared.players.Player.{Player}
+use Rattle.ml_parity.specs.declared.players.Player.TheVariants.{Even, Odd}
+use Rattle.ml_product.specs.Arena.{Arena, IsArenaOf, game_of}
+use Rattle.ml_product.specs.DecisionGame.{HasMoreThan}
+use Rattle.ml_product.proofs.ArenaGame.{is_game, size_is}
+use Rattle.ml_product.proofs.SomeSolution.{some_solution}
+use Rattle.ml_extract.specs.Extraction.{EvenWins}
+use Rattle.ml_extract.specs.Model.{IsModelOf}
+use Rattle.ml_extract.proofs.Loops.{models_hold}
+use Rattle.ml_extract.proofs.SomeModel.{some_model}
+use Rattle.ml_refutation.specs.Refutation.{Fits}
+use Rattle.ml_refute.proofs.Accepted.{extracted_accepted}
+use Rattle.ml_refute.proofs.SomeRefutation.{some_refutation}
+use Rattle.ml_refute.proofs.WellFormed.{extracted_refutation}
+use Rattle.ml_refute_check.specs.Documents.{HasLargeClosure, document_of}
+use Rattle.ml_front.proofs.Graphs.{graphs_agree}
+use Rattle.ml_front.specs.Graphs.{IsGraphOf}
+use Rattle.ml_front.specs.Logics.{IsParsedAs, IsRefusedBy, logic_of}
+use Rattle.ml_front.specs.declared.problem.AnyFormula.{AnyFormula}
+use Rattle.ml_front.specs.declared.problem.Problem.{Problem}
+use Rattle.ml_driver.specs.Decision.{IsAnsweredIn, IsClosed, IsProblem, LeftOpen, Refuted, Satisfied}
+use Rattle.ml_driver.specs.Documents.{satisfiable_document, undecided_document}
+use Rattle.ml_driver.specs.Statuses.{longest_text, refusal_line, refused_length}
+use Rattle.ml_driver.specs.declared.cause.Cause.TheVariants.{Closure, Positions}
+use Rattle.ml_driver.specs.declared.question.Question.{Question}
+use Rattle.ml_driver.specs.declared.status.Status.{Status}
+use Rattle.ml_driver.specs.declared.status.Status.TheVariants.{Yes, No, Undecided, Text}
+use Rattle.ml_driver.proofs.Answered.{closed, left_open, open_in, refused_answered, refuted, satisfied}
+use Rattle.ml_driver.proofs.HeldGraphs.{IsHeld, held_graph, large_or_not, parsed_or_refused}
+use Rattle.ml_driver.proofs.NamedModels.{has_names}
+use Rattle.ml_driver.proofs.ProblemGraphs.{few_positions, graph_is, graph_small, keeps_limit, meaningful, well_formed}
+use Rattle.ml_driver.proofs.SomeArena.{some_arena}
+
+abbrev pub Answer : Bool → Question → List ℕ → Type 0
+Answer n q text = (s : Status) × ((out : List ℕ) × IsAnsweredIn n q text s out)
+
+as_satisfied : (n : Bool) (q : Question) (text out : List ℕ) → Satisfied q text out → Answer n q text
+as_satisfied false q text out x = (Yes, (out, x))
+as_satisfied true q text out x = (No, (out, x))
+
+as_refuted : (n : Bool) (q : Question) (text out : List ℕ) → Refuted q text out → Answer n q text
+as_refuted false q text out x = (No, (out, x))
+as_refuted true q text out x = (Yes, (out, x))
+
+-- ---- problems
+
+module _ (n : Bool) (q : Question) (text : List ℕ) (p : Problem) (is_problem : IsProblem q text p)
+    (small : q.limit < 2 ^ 32) where
+  -- by the winner of the first position
+  module _ (g : Graph) (is_graph : IsGraphOf g p) (ok : IsGraph g) (held : IsHeld g) (is_closed : IsClosed q p) (a : Arena)
+      (arena : IsArenaOf g a) (few : length a.positions ≤ q.limit) (s : GameSolution)
+      (solved : IsSolution (game_of a) s) where
+    first_low : 0 < games.size (game_of a)
+    first_low = omega (arith, size_is g a arena)
+
+    by_even : winner_at s.winner 0 ≡ Even → Answer n q text
+    by_even is =
+        let even : EvenWins g a s = record {
+          is_graph = ok;
+          is_arena = arena;
+          is_solution = solved;
+          wins = subst (λ x. Wins (game_of a) x 0) is (solved.right 0 first_low);
+        } in
+        let made = some_model g a s even in
+        of_model made.0 made.1.0 made.1.1.0 made.1.1.1 even
+      where
+        of_model : (m : Structure) (start : ℕ) → IsModelOf g a s m start → m.states ≤ length a.positions
+            → EvenWins g a s
+            → Answer n q text
+        of_model m start model states even =
+            let extracted = models_hold g a s m start even model in
+            as_satisfied n q text (satisfiable_document p m start)
+            (satisfied q text p is_problem (satisfiable_document p m start) g m start
+            (graphs_agree p g (meaningful p.formula (well_formed text p.formula is_problem.is_parsed)) is_graph)
+            is_closed extracted model.nothing_twice (omega (arith, states, few, small))
+            (has_names g a s m start ok model extracted held) refl)
+
+    by_odd : winner_at s.winner 0 ≡ Odd → Answer n q text
+    by_odd is =
+        let made = some_refutation g a s ok arena solved is in
+        let well = well_formed text p.formula is_problem.is_parsed in
+        let nodes = graph_small g p.negated p.formula well is_graph in
+        let is_refutation =
+        extracted_refutation g a s made.0 ok (omega (arith, nodes)) (member-All Fits g.priorities held.priorities)
+        (omega (arith, few, small)) arena made.1 in
+        as_refuted n q text (document_of p made.0)
+        (refuted q text p is_problem (document_of p made.0) g made.0 is_graph is_closed is_refutation
+        (extracted_accepted g a s made.0 arena made.1) refl)
+
+    by_winner : (w : Player) → winner_at s.winner 0 ≡ w → Answer n q text
+    by_winner Even is = by_even is
+    by_winner Odd is = by_odd is
+
+  by_game : (g : Graph) → IsGraphOf g p → IsGraph g → IsHeld g → (HasLargeClosure p.formula → ⊥)
+      → ((a : Arena) × (IsArenaOf g a × (length a.positions ≤ q.limit))) ⊎ HasMoreThan g q.limit
+      → Answer n q text
+  by_game g is_graph ok held fits (inr more) =
+      (Undecided, (undecided_document p (Positions q.limit), open_in q text p is_problem (undecided_document p (Positions q.limit)) n
+      (left_open q text p is_problem (undecided_document p (Positions q.limit)) (Positions q.limit)
+      (refl, fits, record { graph = g; is_graph = is_graph; has_more = more }) refl)))
+  by_game g is_graph ok held fits (inl (a, rest)) =
+      let keeps = keeps_limit p g q.limit is_graph (few_positions g a q.limit rest.0 rest.1) in
+      let s = some_solution (game_of a) (is_game g a rest.0) in
+      by_winner g is_graph ok held (closed q p fits keeps) a rest.0 rest.1 s.0 s.1 (winner_at s.0.winner 0) refl
+
+  of_problem : Answer n q text
+  of_problem = by_closure (large_or_not p.formula)
+    where
+      by_closure : Decided (HasLargeClosure p.formula) → Answer n q text
+      by_closure (inl large) =
+          (Undecided, (undecided_document p Closure, open_in q text p is_problem (undecided_document p Closure) n
+          (left_open q text p is_problem (undecided_document p Closure) Closure large refl)))
+      by_closure (inr fits) =
+          let made = held_graph p.formula p.negated (well_formed text p.formula is_problem.is_parsed) in
+          let ok = graph_is made.0 p.negated p.formula made.1.0 in
+          by_game made.0 made.1.0 ok made.1.1 fits (some_arena made.0 ok q.limit)
+
+-- ---- texts
+
+-- what is refused for another reason than want of memory has a line
+told : (e : ParseRefusal) → (e ≡ refusal.NoMemory → ⊥) → (out : List ℕ) × (Some out ≡ refusal_line e)
+told (refusal.Syntax at) other = (_, refl)
+told (refusal.Unbound at) other = (_, refl)
+told (refusal.NotPositive at) other = (_, refl)
+told (refusal.TooMany at) other = (_, refl)
+told (refusal.TooNested at) other = (_, refl)
+told (refusal.NameTooLong at) other = (_, refl)
+told refusal.NoMemory other = absurd (other refl)
+
+too_long : (n : Bool) (q : Question) (text : List ℕ) → longest_text < length text → Answer n q text
+too_long false q text long = (Text, (refused_length, inl (long, refl)))
+too_long true q text long = (Text, (refused_length, inl (long, refl)))
+
+pub some_answer : (q : Question) (text : List ℕ) → q.limit < 2 ^ 32 → Answer q.negated q text
+some_answer q text small =
+    ⊎_elim (λ (long : longest_text < length text). too_long q.negated q text long)
+    (λ (short : length text ≤ longest_text). parsed short (parsed_or_refused q.logic text))
+    (cases_lt longest_text (length text))
+  where
+    parsed : length text ≤ longest_text
+        → ((f : AnyFormula) × ((logic_of f ≡ q.logic) × IsParsedAs text f))
+        ⊎ ((e : ParseRefusal) × ((e ≡ refusal.NoMemory → ⊥) × IsRefusedBy q.logic text e))
+        → Answer q.negated q text
+    parsed short (inl (f, rest)) =
+        of_problem q.negated q text (record { formula = f; negated = q.negated })
+        (record { is_short = short; of_logic = rest.0; in_sense = refl; is_parsed = rest.1 }) small
+    parsed short (inr (e, rest)) =
+        let line = told e rest.0 in
+        (Text, (line.0, refused_answered q.negated q text line.0 e short rest.1 line.1))
