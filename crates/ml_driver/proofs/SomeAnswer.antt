@@ -30,6 +30,7 @@ use Rattle.ml_extract.proofs.Loops.{models_hold}
 use Rattle.ml_extract.proofs.SomeModel.{some_model}
 use Rattle.ml_refutation.specs.Refutation.{Fits}
 use Rattle.ml_refute.proofs.Accepted.{extracted_accepted}
+use Rattle.ml_refute.proofs.Entries.{Extraction}
 use Rattle.ml_refute.proofs.SomeRefutation.{some_refutation}
 use Rattle.ml_refute.proofs.WellFormed.{extracted_refutation}
 use Rattle.ml_refute_check.specs.Documents.{HasLargeClosure, document_of}
@@ -98,14 +99,16 @@ module _ (n : Bool) (q : Question) (text : List ℕ) (p : Problem) (is_problem :
     by_odd : winner_at s.winner 0 ≡ Odd → Answer n q text
     by_odd is =
         let made = some_refutation g a s ok arena solved is in
+        let r = made.0 in
+        let x : Extraction = record { g = g; a = a; arena = arena; s = s; r = r; o = made.1.outline } in
         let well = well_formed text p.formula is_problem.is_parsed in
         let nodes = graph_small g p.negated p.formula well is_graph in
         let is_refutation =
-        extracted_refutation g a s made.0 ok (omega (arith, nodes)) (member-All Fits g.priorities held.priorities)
-        (omega (arith, few, small)) arena made.1 in
-        as_refuted n q text (document_of p made.0)
-        (refuted q text p is_problem (document_of p made.0) g made.0 is_graph is_closed is_refutation
-        (extracted_accepted g a s made.0 arena made.1) refl)
+        extracted_refutation x ok (omega (arith, nodes)) made.1.heights
+        (member-All Fits g.priorities held.priorities) (omega (arith, few, small)) in
+        as_refuted n q text (document_of p r)
+        (refuted q text p is_problem (document_of p r) g r is_graph is_closed is_refutation
+        (extracted_accepted x made.1.heights) refl)
 
     by_winner : (w : Player) → winner_at s.winner 0 ≡ w → Answer n q text
     by_winner Even is = by_even is
