@@ -12,6 +12,7 @@ mod counts;
 mod failure;
 mod forms;
 mod measure;
+mod refuting;
 
 use crate::failure::Failure;
 use crate::measure::{Measurement, measure, measure_small};

@@ -50,3 +50,15 @@ pub mod NumbersInTurn
 pub mod FoundEntries
 -- the refutation, put together of them
 pub mod PuttingTogether
+-- reachability along a decided relation is decided
+pub mod DecidedReach
+-- whether a node is on an odd cycle is decided
+pub mod DecidedCycles
+-- a spread with a cause has a first one
+pub mod SomeFirstCause
+-- longest counts exist where no cycle is even
+pub mod LongestCounts
+-- entries exist where Odd wins
+pub mod SomeEntries
+-- a refutation exists where Odd wins
+pub mod SomeRefutation

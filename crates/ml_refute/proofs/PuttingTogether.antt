@@ -4,6 +4,7 @@
 --   most_none, most_more, most_done == the greatest number of names, vertex by vertex
 --   put_none, put_more, put_next == entries as they are put, one after the other
 --   row_low      == the heights of an entry fit
+--   entries_with, put_with == entries with given heights, and that they are so put
 --   outline      == entries that were put at the vertices are an outline
 --   is_refutation == with the longest counts as heights they are the refutation
 --   one_sided_here, no_cycle_here, names_here, marks_here == what is known before there are heights
@@ -336,39 +337,49 @@ module _ (g : Graph) (a : Arena) (s : GameSolution) (odd : OddWins g a s) (vs : 
           (subst (AreLongest (go_graph_of n ds)) (heights_are (longest.shape.vertices ∙ sym put.an_entry_each)) longest);
     }
 
-  -- ---- before there are heights
+  -- ---- entries with given heights
 
-  abbrev blank : ℕ → Entry
-  blank e = record {
+  abbrev entry_with : List (List ℕ) → ℕ → Entry
+  entry_with rows e = record {
     sequent = (at (get_or vs e 0)).sequent;
     traces = traces_of g (at (get_or vs e 0)).history;
-    heights = [];
+    heights = get_or rows e [];
     decision = get_or ds e none_here;
   }
 
-  abbrev blanks : List Entry
-  blanks = map blank (range_with_len 0 (length ds))
+  abbrev pub entries_with : List (List ℕ) → List Entry
+  entries_with rows = map (entry_with rows) (range_with_len 0 (length ds))
 
-  blank_put : ArePut g a vs [] ds blanks
-  blank_put = record {
-    an_entry_each = length-map-range_with_len blank 0 (length ds);
+  pub put_with : (rows : List (List ℕ)) → ArePut g a vs rows ds (entries_with rows)
+  put_with rows = record {
+    an_entry_each = length-map-range_with_len (entry_with rows) 0 (length ds);
     are_put = λ k e stands. at_place k e stands
-        (omega (arith, slice_get_within blanks k e stands, length-map-range_with_len blank 0 (length ds)));
+        (omega (
+          arith,
+          slice_get_within (entries_with rows) k e stands,
+          length-map-range_with_len (entry_with rows) 0 (length ds),
+        ));
   }
     where
       at_place : (k : ℕ) (e : Entry)
-          → slice_get blanks k ≡ Some e
+          → slice_get (entries_with rows) k ≡ Some e
           → k < length ds
           → (d : Decision) × (slice_get ds k ≡ Some d)
-          × IsPut (odd_priorities g) (position_at g a (get_or vs k 0)) (get_or [] k []) d e
+          × IsPut (odd_priorities g) (position_at g a (get_or vs k 0)) (get_or rows k []) d e
       at_place k e stands low =
-          let is : blank k ≡ e = sym (get_or-map-range_with_len blank 0 (length ds) k k e low (omega arith))
-          ∙ get_or_from_slice_get blanks k e e stands in (
+          let is : entry_with rows k ≡ e =
+          sym (get_or-map-range_with_len (entry_with rows) 0 (length ds) k k e low (omega arith))
+          ∙ get_or_from_slice_get (entries_with rows) k e e stands in (
             get_or ds k none_here,
             slice_get-get_or ds k none_here low,
-            subst (IsPut (odd_priorities g) (position_at g a (get_or vs k 0)) [] (get_or ds k none_here)) is
+            subst (IsPut (odd_priorities g) (position_at g a (get_or vs k 0)) (get_or rows k []) (get_or ds k none_here)) is
                 (record { sequent = refl; traces = refl; heights = refl; decision = refl }),
           )
+
+  -- ---- before there are heights
+
+  abbrev blanks : List Entry
+  blanks = entries_with []
 
   abbrev blank_extraction : Extraction
   blank_extraction = record {
@@ -377,26 +388,26 @@ module _ (g : Graph) (a : Arena) (s : GameSolution) (odd : OddWins g a s) (vs : 
     arena = odd.arena;
     s = s;
     r = record { names = n; entries = blanks };
-    o = outline [] blanks blank_put;
+    o = outline [] blanks (put_with []);
   }
 
   pub one_sided_here : IsOneSided (go_graph_of n ds)
-  one_sided_here = subst IsOneSided (graph_is [] blanks blank_put) (is_one_sided blank_extraction)
+  one_sided_here = subst IsOneSided (graph_is [] blanks (put_with [])) (is_one_sided blank_extraction)
 
   pub no_cycle_here : EvenCycleIn (go_graph_of n ds) → ⊥
   no_cycle_here cycle =
       no_even_cycle blank_extraction odd.solution odd.wins
-      (subst EvenCycleIn (sym (graph_is [] blanks blank_put)) cycle)
+      (subst EvenCycleIn (sym (graph_is [] blanks (put_with []))) cycle)
 
   pub names_here : IsGraph g → size g ≤ NESTING_LIMIT → n ≤ 4096 * 4097
   names_here g_ok small = names_few blank_extraction g_ok small
 
   pub marks_here : IsGraph g → size g ≤ NESTING_LIMIT → All (HasMarksOf n) ds
   marks_here g_ok small k d low =
-      let long = length-map-range_with_len blank 0 (length ds) in
+      let long = length-map-range_with_len (entry_with []) 0 (length ds) in
       let is = decided_at blank_extraction g_ok small k (omega (arith, low, long)) in
       let same : (get_or blanks k no_entry).decision ≡ get_or ds k d =
-      ap (λ (e : Entry). e.decision) (get_or-map-range_with_len blank 0 (length ds) k k no_entry low (omega arith))
+      ap (λ (e : Entry). e.decision) (get_or-map-range_with_len (entry_with []) 0 (length ds) k k no_entry low (omega arith))
       ∙ get_or_default ds k none_here d low in
       subst (HasMarksOf n) same (marks_of_decided n (length blanks) (get_or blanks k no_entry).decision is)
 

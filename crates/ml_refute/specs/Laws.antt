@@ -9,6 +9,7 @@
 --   OneRefutation       == a solution makes one refutation at most
 --   ExtractedAccepted   == the extracted refutation breaks no rule of acceptance
 --   NoEvenCycle         == where Odd wins the start, no cycle of go's is even, so that the counts exist
+--   SomeRefutation      == where Odd wins the start, a solution makes a refutation
 --   ExtractedRefutation == it is a refutation with numbers of 32 bits and splits that aren't nested too deep, where the
 --                          graph has no more nodes than splits may be nested, and its priorities and the number of
 --                          positions fit
@@ -59,6 +60,11 @@ abbrev pub NoEvenCycle : Type 0
 NoEvenCycle =
     (g : Graph) (a : Arena) (s : GameSolution) (r : Refutation) → IsArenaOf g a → IsSolution (game_of a) s
     → winner_at s.winner 0 ≡ Odd → IsOutlineOf g a s r → IsOneSided (go_graph r) × (¬ (EvenCycleIn (go_graph r)))
+
+abbrev pub SomeRefutation : Type 0
+SomeRefutation =
+    (g : Graph) (a : Arena) (s : GameSolution) → IsGraph g → IsArenaOf g a → IsSolution (game_of a) s
+    → winner_at s.winner 0 ≡ Odd → (r : Refutation) × IsRefutationOf g a s r
 
 abbrev pub ExtractedRefutation : Type 0
 ExtractedRefutation =

@@ -1,6 +1,6 @@
 // Laws about the definitions alone: empty functions, each of whose contract is a theorem.
 
-ghost use Rattle.ml_refute.specs.Laws.{EntriesAreReached, ExtractedAccepted, ExtractedRefutation, NoEvenCycle, OneRefutation};
+ghost use Rattle.ml_refute.specs.Laws.{EntriesAreReached, ExtractedAccepted, ExtractedRefutation, NoEvenCycle, OneRefutation, SomeRefutation};
 
 /// The positions of the entries are exactly those without a choice that plays from the start meet in which Odd makes the
 /// solution's moves.
@@ -34,4 +34,12 @@ pub fn extracted_are_accepted()
 /// Does nothing when called.
 pub fn no_even_cycle()
     ensures law { NoEvenCycle }
+{}
+
+/// Where Odd wins the start of a graph's decision game, each solution of the game makes a refutation. With
+/// `one_refutation` it makes exactly one.
+///
+/// Does nothing when called.
+pub fn some_refutation()
+    ensures law { SomeRefutation }
 {}
