@@ -33,7 +33,8 @@ use Rattle.ml_driver.specs.declared.question.Question.{Question}
 use Rattle.ml_driver.specs.declared.status.Status.{Status}
 use Rattle.ml_driver.specs.declared.status.Status.TheVariants as status
 use Rattle.ml_driver.specs.private.Decisions.{IsDecisionOf, IsDocumentFor, IsFound, IsFoundOf, IsWon, status_in}
-use Rattle.ml_driver.proofs.ProblemGraphs.{admitted, keeps_limit, meaningful, well_formed}
+use Rattle.ml_front.proofs.Graphs.{meaningful}
+use Rattle.ml_driver.proofs.ProblemGraphs.{admitted, keeps_limit, well_formed}
 
 pub closed : (q : Question) (p : Problem) → (HasLargeClosure p.formula → ⊥) → (PassesLimit p q.limit → ⊥) → IsClosed q p
 closed q p fits keeps (Positions n) stays = keeps stays.2

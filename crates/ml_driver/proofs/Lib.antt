@@ -1,8 +1,6 @@
 -- how a call ends
 pub mod Endings
--- graphs that differ in the numbers of names
-pub mod AlikeGraphs
--- their decision games have the same positions
+-- the decision games of graphs that differ in the numbers of names have the same positions
 pub mod SamePositions
 -- the graphs of problems
 pub mod ProblemGraphs
@@ -24,7 +22,10 @@ pub mod WorkedWords
 pub mod SomeTurn
 -- the decision game has an arena, or passes the limit
 pub mod SomeArena
--- graphs with names and numbers that a program holds
+-- graphs with names and priorities that a program holds
+pub mod HeldNames
+pub mod MuHeld
+pub mod PdlHeld
 pub mod HeldGraphs
 -- models with such names
 pub mod NamedModels

@@ -19,7 +19,7 @@ use Rattle.ml_product.proofs.ArenaGame.{member_of_get}
 use Rattle.ml_extract.specs.Extraction.{Extracted, HasDiamond}
 use Rattle.ml_extract.specs.Model.{IsLabel, IsModelOf, State}
 use Rattle.ml_extract.proofs.Numbering.{last_spread}
-use Rattle.ml_driver.proofs.HeldGraphs.{IsHeld}
+use Rattle.ml_driver.proofs.HeldNames.{IsHeld}
 
 module _ (g : Graph) (a : Arena) (s : GameSolution) (m : Structure) (start : ℕ) (ok : IsGraph g)
     (model : IsModelOf g a s m start) (extracted : Extracted g m start) (held : IsHeld g) where

@@ -1,7 +1,6 @@
 -- The graphs of problems, and their decision games: what the program needs of them, logic by logic.
 --
---   well_formed, meaningful == of formulas that texts stand for
---   graph_is, graph_small   == the graphs of a formula are graphs, with at most 4,096 nodes where it is well-formed
+--   well_formed             == formulas that texts stand for are well formed
 --   has_room                == a trace automaton of a graph with so few nodes is small
 --   admitted                == the structure that is extracted for a graph is one of which the formula's logic speaks
 --   few_positions           == an arena with at most n positions is that of a game without more
@@ -12,38 +11,30 @@ use Rattle.std.proofs.lemmas.List.Sums.{count_by-le-length, length-filter}
 use Rattle.std.proofs.Math.Nat.{mul-le-mul}
 use Rattle.ml_base.specs.Structure.{Structure}
 use Rattle.ml_extract.specs.Extraction.{Extracted}
-use Rattle.ml_front.specs.Graphs.{IsGraphAs, IsGraphOf, IsMeaningful}
+use Rattle.ml_front.specs.Graphs.{IsGraphOf}
 use Rattle.ml_front.specs.Logics.{IsParsedAs, IsWellFormed, logic_of}
 use Rattle.ml_front.specs.Problems.{IsAdmitted}
 use Rattle.ml_front.specs.declared.problem.AnyFormula.{AnyFormula}
-use Rattle.ml_front.specs.declared.problem.AnyFormula.TheVariants.{Mu}
+use Rattle.ml_front.specs.declared.problem.AnyFormula.TheVariants.{Mu, Pdl}
 use Rattle.ml_front.specs.declared.problem.Problem.{Problem}
+use Rattle.ml_front.proofs.Graphs.{graphs_alike}
+use Rattle.ml_front.proofs.Logics.{parsed_well}
 use Rattle.ml_graph.specs.Graph.{Graph, IsGraph, odd_priorities, size}
 use Rattle.ml_lists.specs.Ascending.{ascending, insert_once}
-use Rattle.ml_mu.proofs.Parsed.{parsed_well}
 use Rattle.ml_product.specs.Arena.{Arena, IsArenaOf}
 use Rattle.ml_product.specs.DecisionGame.{HasMoreThan}
 use Rattle.ml_product.specs.Position.{automaton_states}
 use Rattle.ml_refute.proofs.Different.{different_within}
-use Rattle.ml_driver.proofs.AlikeGraphs.{graphs_alike}
 use Rattle.ml_driver.proofs.SamePositions.{more_there}
 use Rattle.ml_driver.specs.Decision.{PassesLimit}
 use Rattle.ml_driver.specs.declared.cause.TheConstants.{MOST_NODES}
 
 pub well_formed : (text : List ℕ) (f : AnyFormula) → IsParsedAs text f → IsWellFormed f
-well_formed text (Mu f) parsed = parsed_well text f parsed
-
-pub meaningful : (f : AnyFormula) → IsWellFormed f → IsMeaningful f
-meaningful (Mu f) well = (well.variables_are_bound, well.variables_are_positive)
-
-pub graph_is : (g : Graph) (negated : Bool) (f : AnyFormula) → IsGraphAs g negated f → IsGraph g
-graph_is g negated (Mu f) is = is.is_graph
-
-pub graph_small : (g : Graph) (negated : Bool) (f : AnyFormula) → IsWellFormed f → IsGraphAs g negated f → size g ≤ MOST_NODES
-graph_small g negated (Mu f) well is = omega (arith, well.is_small, is.two_for_each)
+well_formed text f parsed = parsed_well text f parsed
 
 pub admitted : (g : Graph) (f : AnyFormula) (m : Structure) (start : ℕ) → Extracted g m start → IsAdmitted (logic_of f) m
 admitted g (Mu f) m start extracted = extracted.is_structure
+admitted g (Pdl f) m start extracted = extracted.is_structure
 
 -- ---- the trace automaton
 

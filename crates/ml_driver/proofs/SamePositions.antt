@@ -1,5 +1,6 @@
 -- The decision games of graphs that differ in the numbers of names alone have the same positions.
 --
+--   same_pair      == clashing literals clash in both
 --   same_walk, same_spread, same_cause, same_verdict, same_follow, same_turn == what is said in g is said in h
 --   same_reached   == a position that is reached in g is reached in h
 --   more_there     == so as many positions are reached
@@ -8,6 +9,7 @@ use Rattle.ml_lists.specs.Member.{IsMember}
 use Rattle.ml_graph.specs.Graph.{Graph, size, node_at, priority_at, odd_priorities}
 use Rattle.ml_graph.specs.declared.node.Node.{Node}
 use Rattle.ml_graph.specs.declared.node.Node.TheVariants as node
+use Rattle.ml_graph.proofs.Places.{same_place}
 use Rattle.ml_history.specs.History.{start}
 use Rattle.ml_history.specs.HistoryStep.{step_mark}
 use Rattle.ml_trace.specs.Marks.{priority}
@@ -15,7 +17,7 @@ use Rattle.ml_product.specs.Position.{Position, Follows, automaton_states, neutr
 use Rattle.ml_product.specs.DecisionGame.{AreMoves, AreSteps, Clashing, HasMoreThan, IsReached, IsResolved, IsVerdictOf, Leading, Open, Settled, Target, To, Turn, Verdict, at_start, by_move, diamonds_of}
 use Rattle.ml_sequent.specs.Choice.{side_of}
 use Rattle.ml_sequent.specs.LocalWalk.{InSpread, LocalWalk, children, children_of, goes, stays}
-use Rattle.ml_sequent.specs.Spread.{IsCause, IsLeastOpenOr, IsOpenOr, IsSpreadOf, OnCycle, SpreadList, is_diamond}
+use Rattle.ml_sequent.specs.Spread.{IsCause, IsLeastOpenOr, IsOpenOr, IsPair, IsSpreadOf, OnCycle, SpreadList, is_diamond}
 use Rattle.ml_sequent.specs.Step.{IsStep, IsTarget, IsTrace, LeadsOut}
 use Rattle.ml_sequent.specs.declared.choice.Side.{Side}
 use Rattle.ml_sequent.specs.declared.choice.Side.TheVariants.{Left, Right}
@@ -23,7 +25,7 @@ use Rattle.ml_sequent.specs.declared.clashes.ClashCause.{ClashCause}
 use Rattle.ml_sequent.specs.declared.clashes.ClashCause.TheVariants as cause
 use Rattle.ml_trace.specs.Automaton.{IsLetterOf, number, states_per_node}
 use Rattle.ml_trace.specs.declared.letters.Triple.{Triple}
-use Rattle.ml_driver.proofs.AlikeGraphs.{AreAlike, false_shaped, flip, or_shaped, same_pair, same_priorities, same_square, diamond_there, shape}
+use Rattle.ml_front.proofs.AlikeGraphs.{AreAlike, diamond_there, false_shaped, flip, literal_there, or_shaped, same_priorities, same_square, shape}
 
 -- ---- of shapes alone
 
@@ -52,6 +54,13 @@ same_filter p q same (x ∷ xs) =
     ∙ ap (λ ys. if q x then x ∷ ys else ys) (same_filter p q same xs)
 
 module _ (g h : Graph) (x : AreAlike g h) where
+  same_pair : (p q : ℕ) → IsPair g p q → IsPair h p q
+  same_pair p q is =
+      let one = literal_there g h x p is.prop true is.positive in
+      let two = literal_there g h x q is.prop false is.negative in
+      let same = same_place h.props x.is_other.props_differ two.0 one.0 two.3 one.3 (sym two.2 ∙ one.2) in
+      record { prop = one.0; positive = one.1; negative = two.1 ∙ ap (λ k. node.Lit k false) same }
+
   same_odds : odd_priorities g ≡ odd_priorities h
   same_odds = ap (λ ps. odd_priorities (record g { priorities = ps })) (same_priorities g h x)
 
@@ -91,7 +100,7 @@ module _ (g h : Graph) (x : AreAlike g h) where
   same_cause : (sp : SpreadList) (y : ClashCause) → IsCause g sp y → IsCause h sp y
   same_cause sp (cause.False n) is =
       (is.0, false_shaped (node_at h n) (sym (ap shape is.1) ∙ (x.nodes n).shapes))
-  same_cause sp (cause.Pair p q) is = (is.0, is.1, same_pair g h x p q is.2)
+  same_cause sp (cause.Pair p q) is = (is.0, is.1, same_pair p q is.2)
   same_cause sp (cause.Cycle n) is =
       (is.0, (subst (λ d. d % 2 ≡ 1) (x.nodes n).ranks is.1.0, same_cycle sp.choice n is.1.1))
 

@@ -34,10 +34,11 @@ use Rattle.ml_refute.proofs.Entries.{Extraction}
 use Rattle.ml_refute.proofs.SomeRefutation.{some_refutation}
 use Rattle.ml_refute.proofs.WellFormed.{extracted_refutation}
 use Rattle.ml_refute_check.specs.Documents.{HasLargeClosure, document_of}
-use Rattle.ml_front.proofs.Graphs.{graphs_agree}
+use Rattle.ml_front.proofs.Graphs.{graph_is, graph_small, graphs_agree, meaningful}
+use Rattle.ml_front.proofs.Logics as texts
 use Rattle.ml_front.specs.Graphs.{IsGraphOf}
-use Rattle.ml_front.specs.Logics.{IsParsedAs, IsRefusedBy, logic_of}
-use Rattle.ml_front.specs.declared.problem.AnyFormula.{AnyFormula}
+use Rattle.ml_front.specs.HeadRules.{IsFormulaOf}
+use Rattle.ml_front.specs.Logics.{IsRefusedBy}
 use Rattle.ml_front.specs.declared.problem.Problem.{Problem}
 use Rattle.ml_driver.specs.Decision.{IsAnsweredIn, IsClosed, IsProblem, LeftOpen, Refuted, Satisfied}
 use Rattle.ml_driver.specs.Documents.{satisfiable_document, undecided_document}
@@ -47,9 +48,10 @@ use Rattle.ml_driver.specs.declared.question.Question.{Question}
 use Rattle.ml_driver.specs.declared.status.Status.{Status}
 use Rattle.ml_driver.specs.declared.status.Status.TheVariants.{Yes, No, Undecided, Text}
 use Rattle.ml_driver.proofs.Answered.{closed, left_open, open_in, refused_answered, refuted, satisfied}
-use Rattle.ml_driver.proofs.HeldGraphs.{IsHeld, held_graph, large_or_not, parsed_or_refused}
+use Rattle.ml_driver.proofs.HeldGraphs.{held_graph, large_or_not}
+use Rattle.ml_driver.proofs.HeldNames.{IsHeld}
 use Rattle.ml_driver.proofs.NamedModels.{has_names}
-use Rattle.ml_driver.proofs.ProblemGraphs.{few_positions, graph_is, graph_small, keeps_limit, meaningful, well_formed}
+use Rattle.ml_driver.proofs.ProblemGraphs.{few_positions, keeps_limit, well_formed}
 use Rattle.ml_driver.proofs.SomeArena.{some_arena}
 
 abbrev pub Answer : Bool → Question → List ℕ → Type 0
@@ -157,16 +159,15 @@ too_long true q text long = (Text, (refused_length, inl (long, refl)))
 pub some_answer : (q : Question) (text : List ℕ) → q.limit < 2 ^ 32 → Answer q.negated q text
 some_answer q text small =
     ⊎_elim (λ (long : longest_text < length text). too_long q.negated q text long)
-    (λ (short : length text ≤ longest_text). parsed short (parsed_or_refused q.logic text))
+    (λ (short : length text ≤ longest_text). parsed short (texts.some_answer q.logic text))
     (cases_lt longest_text (length text))
   where
     parsed : length text ≤ longest_text
-        → ((f : AnyFormula) × ((logic_of f ≡ q.logic) × IsParsedAs text f))
-        ⊎ ((e : ParseRefusal) × ((e ≡ refusal.NoMemory → ⊥) × IsRefusedBy q.logic text e))
+        → IsFormulaOf q.logic text ⊎ ((e : ParseRefusal) × (e ≡ refusal.NoMemory → ⊥) × IsRefusedBy q.logic text e)
         → Answer q.negated q text
-    parsed short (inl (f, rest)) =
+    parsed short (inl (f, of_logic, is_parsed)) =
         of_problem q.negated q text (record { formula = f; negated = q.negated })
-        (record { is_short = short; of_logic = rest.0; in_sense = refl; is_parsed = rest.1 }) small
-    parsed short (inr (e, rest)) =
-        let line = told e rest.0 in
-        (Text, (line.0, refused_answered q.negated q text line.0 e short rest.1 line.1))
+        (record { is_short = short; of_logic = of_logic; in_sense = refl; is_parsed = is_parsed }) small
+    parsed short (inr (e, other, is_refused)) =
+        let line = told e other in
+        (Text, (line.0, refused_answered q.negated q text line.0 e short is_refused line.1))

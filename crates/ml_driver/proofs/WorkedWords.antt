@@ -1,8 +1,8 @@
 -- Words worked out by hand: what the definitions make of them, with `clap`'s own.
 use Rattle.std.proofs.Common.{◌≡◌, List, [], ◌∷◌, Some, None, refl, codes}
 use Rattle.clap.proofs.OnLiterals.{clap_on_literals}
-use Rattle.ml_front.specs.declared.logic.Logic.TheVariants.{Mu}
-use Rattle.ml_driver.specs.declared.command.Command.TheVariants.{Decide, CheckModel}
+use Rattle.ml_front.specs.declared.logic.Logic.TheVariants.{Mu, Pdl}
+use Rattle.ml_driver.specs.declared.command.Command.TheVariants.{Decide, Valid, CheckModel}
 use Rattle.ml_driver.specs.Words.{cli, command_of, faults_of, rows_in}
 
 bare : command_of (codes "decide" ∷ codes "mu" ∷ []) ≡ Some (Decide Mu 50000)
@@ -17,6 +17,10 @@ with_limit = refl
 in_front : command_of (codes "--limit=000001" ∷ codes "decide" ∷ codes "mu" ∷ []) ≡ Some (Decide Mu 1)
 unfolding cli faults_of rows_in clap_on_literals
 in_front = refl
+
+of_pdl : command_of (codes "valid" ∷ codes "pdl" ∷ []) ≡ Some (Valid Pdl 50000)
+unfolding cli faults_of rows_in clap_on_literals
+of_pdl = refl
 
 check : command_of (codes "check-model" ∷ []) ≡ Some CheckModel
 unfolding cli faults_of rows_in clap_on_literals

@@ -8,7 +8,6 @@
 --   cli                == the command that `clap` is told
 --   faults_of words    == the faults that `clap` finds in the words
 --   rows_in words      == what it finds in words without a fault
---   logic_named w      == the logic that the word w names
 --   is_digit b         == the byte b is a decimal digit
 --   value_from v w     == the value of the digits w behind a number v that was read; none past the greatest limit, or
 --                         where a byte is no digit
@@ -23,9 +22,8 @@ use Rattle.std.specs.Prelude.{ℕ, ◌+◌, ◌-◌, ◌*◌, ◌&&◌, Bool, tr
 use Rattle.std.specs.Str.{bytes_eq}
 use Rattle.clap.specs.Words.{App, Kinds, Row, first_of, fault_of, matches_of, new_app, new_rule, with_rule}
 use Rattle.ml_lines.specs.Lines.{Word}
-use Rattle.ml_front.specs.Logics.{logic_word}
+use Rattle.ml_front.specs.Logics.{logic_named}
 use Rattle.ml_front.specs.declared.logic.Logic.{Logic}
-use Rattle.ml_front.specs.declared.logic.Logic.TheVariants.{Mu}
 use Rattle.ml_driver.specs.declared.command.Command.{Command}
 use Rattle.ml_driver.specs.declared.command.Command.TheVariants.{Decide, Valid, CheckModel, CheckRefutation, Migrate}
 use Rattle.ml_driver.specs.declared.command.TheConstants.{DEFAULT_LIMIT, GREATEST_LIMIT, LONGEST_LIMIT}
@@ -48,9 +46,6 @@ unfoldable pub rows_in : List Word → List Row
 rows_in words = matches_of cli words
 
 -- ---- the parts
-
-abbrev pub logic_named : Word → Option Logic
-logic_named w = if bytes_eq w (logic_word Mu) then Some Mu else None
 
 abbrev pub is_digit : ℕ → Bool
 is_digit b = nat_le 48 b && nat_le b 57

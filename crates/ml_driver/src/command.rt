@@ -141,7 +141,7 @@ fn row(
 {
     match (command, subject, count, limit) {
         (Some(command), Some(subject), None, limit) => {
-            let logic = logic_named(subject)?;
+            let logic = Logic::named(subject.as_bytes())?;
             let limit = limit_named(limit)?;
             decided_by(command, logic, limit)
         }
@@ -174,16 +174,6 @@ fn bare_by(command: &str) -> Option<Command>
         Some(Command::CheckRefutation)
     } else if command == "migrate" {
         Some(Command::Migrate)
-    } else {
-        None
-    }
-}
-
-fn logic_named(word: &str) -> Option<Logic>
-    ensures { result ≡ command_line.logic_named word.now }
-{
-    if word.as_bytes() == Logic::Mu.word() {
-        Some(Logic::Mu)
     } else {
         None
     }

@@ -9,7 +9,7 @@ use std::alloc::Global;
 use std::io::Write;
 use std::{fs, io};
 
-const EXAMPLES: [(&str, &str); 27] = [
+const EXAMPLES: [(&str, &str); 39] = [
     ("decide mu", "pigeons.mu"),
     ("decide mu", "fewer_pigeons.mu"),
     ("decide mu", "triangle.mu"),
@@ -34,12 +34,27 @@ const EXAMPLES: [(&str, &str); 27] = [
     ("decide mu", "turns.mu"),
     ("decide mu", "response.mu"),
     ("decide mu", "actions.mu"),
+    ("valid pdl", "invariant.pdl"),
+    ("valid pdl", "branches.pdl"),
+    ("valid pdl", "two_orders.pdl"),
+    ("decide pdl", "nested_stars.pdl"),
+    ("decide pdl", "always_goes_on.pdl"),
+    ("decide pdl", "a_then_b.pdl"),
+    ("valid pdl", "standing_still.pdl"),
+    ("valid pdl", "every_other.pdl"),
+    ("decide pdl", "retry.pdl"),
+    ("decide pdl", "repeat_alone.pdl"),
     ("check-model", "often.doc"),
     ("check-model", "once.doc"),
     ("check-model", "unordered.doc"),
+    ("check-model", "lights.doc"),
+    ("check-model", "dark.doc"),
 ];
 
 const ROOM: u64 = 1_000_000;
+
+// the lines of a head
+const HEAD_LINES: u8 = 5;
 
 // what the program answers to these words on a text: its status and its output
 fn answer(alloc: Global, command: &str, text: Vec<u8>) -> Result<(u8, Vec<u8>), NoMemory> {
@@ -69,12 +84,12 @@ fn shown(output: &[u8]) -> &[u8] {
     if checking(output) != Some("check-refutation") {
         return output;
     }
-    let mut lines = 0;
+    let mut left: u8 = HEAD_LINES;
     for (at, byte) in output.iter().enumerate() {
         if *byte == b'\n' {
-            lines += 1;
+            left = left.saturating_sub(1);
         }
-        if lines == 5 {
+        if left == 0 {
             return &output[..at + 1];
         }
     }

@@ -1,4 +1,7 @@
--- what each logic proves, said of all
+-- texts that stand in one line
+pub mod WordLines
+pub mod PdlLines
+-- what each logic proves of its texts, said of all
 pub mod Logics
 -- the lines of a head
 pub mod HeadLines
@@ -10,5 +13,11 @@ pub mod OneFault
 pub mod HeadFronts
 -- what is written is read back
 pub mod ReadBack
--- the graphs of problems
+-- graphs that differ in the numbers of their names alone
+pub mod AlikeGraphs
+pub mod MuAlike
+pub mod PdlAlike
+-- what each logic proves of its graphs, said of all
 pub mod Graphs
+-- each formula has a graph
+pub mod SomeGraph

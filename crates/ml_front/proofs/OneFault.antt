@@ -39,14 +39,18 @@ is_title line = go (decided_line line (title_line One)) (decided_line line (titl
         none (Two, is) = m is
 
 is_logic : (line : Line) → Decided ((l : Logic) × (line ≡ logic_line l))
-is_logic line = go (decided_line line (logic_line logic.Mu))
+is_logic line = go (decided_line line (logic_line logic.Mu)) (decided_line line (logic_line logic.Pdl))
   where
-    go : Decided (line ≡ logic_line logic.Mu) → Decided ((l : Logic) × (line ≡ logic_line l))
-    go (inl is) = inl (logic.Mu, is)
-    go (inr n) = inr none
+    go : Decided (line ≡ logic_line logic.Mu)
+        → Decided (line ≡ logic_line logic.Pdl)
+        → Decided ((l : Logic) × (line ≡ logic_line l))
+    go (inl is) p = inl (logic.Mu, is)
+    go (inr n) (inl is) = inl (logic.Pdl, is)
+    go (inr n) (inr m) = inr none
       where
         none : (l : Logic) × (line ≡ logic_line l) → ⊥
         none (logic.Mu, is) = n is
+        none (logic.Pdl, is) = m is
 
 is_answer : (line : Line) → Decided ((b : Answer) × (line ≡ answer_line b))
 is_answer line =

@@ -18,7 +18,7 @@ use Rattle.ml_lines.proofs.WrittenLines.{text_read}
 use Rattle.ml_lists.specs.Documents.{IsGood, IsReadable}
 use Rattle.ml_front.specs.Head.{title_line, answer_line, logic_line, sense_line, lines_about}
 use Rattle.ml_front.specs.HeadRules.{IsHead, AtTitle, AtSense, AtFormula, Behind, formula_bytes, IsFormulaLine, head}
-use Rattle.ml_front.specs.Logics.{logic_named, logic_of, logic_word, IsParsedAs}
+use Rattle.ml_front.specs.Logics.{some_logic, logic_of, logic_word, IsParsedAs}
 use Rattle.ml_front.specs.declared.answer.Answer.{Answer}
 use Rattle.ml_front.specs.declared.logic.Logic.{Logic}
 use Rattle.ml_front.specs.declared.problem.AnyFormula.{AnyFormula}
@@ -47,7 +47,7 @@ module _ (a : Answer) where
 
   behind_logic : (l : Logic) (negated : Bool) (line : Line) (more : List Line)
       → IsGood (head a) (AtFormula l) line
-      → IsReadable (head a) (AtSense (logic_named (logic_word l))) (sense_line negated ∷ line ∷ more)
+      → IsReadable (head a) (AtSense (some_logic (logic_word l))) (sense_line negated ∷ line ∷ more)
   behind_logic l negated line more good =
       subst (λ k. IsReadable (head a) (AtSense k) (sense_line negated ∷ line ∷ more)) (sym (logic_read l))
       (((negated, refl), tt), (good, behind_readable more))
@@ -89,7 +89,7 @@ module _ (a : Answer) where
       let is_answer : l2 ≡ answer_line a = answer.1.0 in
       let told : l3 ≡ logic_line logic.0.0 = logic.0.1 in
       let f = formula.1.0.0 in
-      let same : logic_of f ≡ logic.0.0 = formula.1.0.1 ∙ ap (λ l. logic_named (word l 1)) told ∙ logic_read logic.0.0 in
+      let same : logic_of f ≡ logic.0.0 = formula.1.0.1 ∙ ap (λ l. some_logic (word l 1)) told ∙ logic_read logic.0.0 in
       let is_logic : l3 ≡ logic_line (logic_of f) = told ∙ ap logic_line (sym same) in record {
         version = title.0.0;
         negated = sense.0.0;

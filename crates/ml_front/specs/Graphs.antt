@@ -1,6 +1,7 @@
 -- The graphs of problems, and that they hold where the problems do.
 --
---   IsMeaningful f  == f means something by its logic: in the mu-calculus its variables are bound and positive
+--   IsMeaningful f  == f means something by its logic: in the mu-calculus its variables are bound and positive; in PDL each
+--                      formula does
 --   IsGraphOf g p   == g is the graph of the problem p
 --   HoldsWhere g p  == on each admitted structure, of any number of states, g holds at the states at which p does
 --   GraphsAgree     == the graph of a problem whose formula means something holds where the problem does
@@ -10,18 +11,21 @@ use Rattle.ml_graph.specs.CheckingGame.{Holds}
 use Rattle.ml_graph.specs.Graph.{Graph}
 use Rattle.ml_mu.specs.Variables.{is_bound, is_positive}
 use Rattle.ml_mu_graph.specs.MuGraph as mu
+use Rattle.ml_pdl_graph.specs.PdlGraph as pdl
 use Rattle.ml_front.specs.Logics.{logic_of}
 use Rattle.ml_front.specs.Problems.{HoldsAt, IsAdmitted}
 use Rattle.ml_front.specs.declared.problem.AnyFormula.{AnyFormula}
-use Rattle.ml_front.specs.declared.problem.AnyFormula.TheVariants.{Mu}
+use Rattle.ml_front.specs.declared.problem.AnyFormula.TheVariants.{Mu, Pdl}
 use Rattle.ml_front.specs.declared.problem.Problem.{Problem}
 
 abbrev pub IsMeaningful : AnyFormula → Type 0
 IsMeaningful (Mu f) = (is_bound [] f ≡ true) × (is_positive f ≡ true)
+IsMeaningful (Pdl f) = Unit {0}
 
 -- the graph of a formula, in its sense
 abbrev pub IsGraphAs : Graph → Bool → AnyFormula → Type 0
 IsGraphAs g negated (Mu f) = mu.IsGraphOf g f negated
+IsGraphAs g negated (Pdl f) = pdl.IsGraphOf g f negated
 
 abbrev pub IsGraphOf : Graph → Problem → Type 0
 IsGraphOf g p = IsGraphAs g p.negated p.formula

@@ -25,7 +25,7 @@ use Rattle.ml_lines.specs.Lines.{Word, Line, text_of}
 use Rattle.ml_lines.specs.Reading.{is_line_end, word}
 use Rattle.ml_lists.specs.Documents.{Format, NumbersRise, Rule, rule}
 use Rattle.ml_front.specs.Head.{title_line, answer_line, logic_line, sense_line, lines_about, head_lines}
-use Rattle.ml_front.specs.Logics.{logic_of, logic_named, IsParsedAs, IsWellFormed}
+use Rattle.ml_front.specs.Logics.{logic_of, some_logic, IsParsedAs, IsWellFormed}
 use Rattle.ml_front.specs.declared.answer.Answer.{Answer}
 use Rattle.ml_front.specs.declared.head_rule.HeadRule.{HeadRule}
 use Rattle.ml_front.specs.declared.head_rule.HeadRule.TheVariants.{OfKind, Parses, Answers}
@@ -51,7 +51,7 @@ pub data HeadPlace : Type 0 where
 abbrev pub after : HeadPlace → Line → HeadPlace
 after AtTitle line = AtAnswer
 after AtAnswer line = AtLogic
-after AtLogic line = AtSense (logic_named (word line 1))
+after AtLogic line = AtSense (some_logic (word line 1))
 after (AtSense l) line = AtFormula l
 after (AtFormula l) line = Behind
 after Behind line = Behind

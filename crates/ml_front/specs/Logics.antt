@@ -4,39 +4,55 @@
 --
 --   logic_of f           == the logic of the formula f
 --   logic_word l         == its word
---   logic_named w        == the logic that the word w names; of a word that names none, where nobody asks, some logic
+--   logic_named w        == the logic that the word w names, if it names one
+--   some_logic w         == the same; of a word that names none, where nobody asks, some logic
 --   IsParsedAs text f    == the text stands for f in the logic of f, within the limits
 --   IsRefusedBy l text e == the text is refused with e, where a formula of the logic l is wanted
 --   canonical_text f     == the canonical text of f
 --   IsWellFormed f       == f is one of the formulas that the program holds
-use Rattle.std.specs.Prelude.{ℕ, List, codes}
+use Rattle.std.specs.Prelude.{ℕ, List, Option, Some, None, if◌then◌else◌, unwrap_or, codes}
+use Rattle.std.specs.Str.{bytes_eq}
 use Rattle.ml_base.specs.declared.parse_refusal.ParseRefusal.{ParseRefusal}
 use Rattle.ml_lines.specs.Lines.{Word}
 use Rattle.ml_mu.specs.Canonical as mu_canonical
 use Rattle.ml_mu.specs.Parsing as mu_parsing
 use Rattle.ml_mu.specs.WellFormed as mu_formulas
+use Rattle.ml_pdl.specs.Canonical as pdl_canonical
+use Rattle.ml_pdl.specs.Parsing as pdl_parsing
+use Rattle.ml_pdl.specs.WellFormed as pdl_formulas
 use Rattle.ml_front.specs.declared.logic.Logic.{Logic}
 use Rattle.ml_front.specs.declared.logic.Logic.TheVariants as logic
 use Rattle.ml_front.specs.declared.problem.AnyFormula.{AnyFormula}
-use Rattle.ml_front.specs.declared.problem.AnyFormula.TheVariants.{Mu}
+use Rattle.ml_front.specs.declared.problem.AnyFormula.TheVariants.{Mu, Pdl}
 
 abbrev pub logic_of : AnyFormula → Logic
 logic_of (Mu f) = logic.Mu
+logic_of (Pdl f) = logic.Pdl
 
 abbrev pub logic_word : Logic → Word
 logic_word logic.Mu = codes "mu"
+logic_word logic.Pdl = codes "pdl"
 
-abbrev pub logic_named : Word → Logic
-logic_named word = logic.Mu
+abbrev pub logic_named : Word → Option Logic
+logic_named word =
+    if bytes_eq word (logic_word logic.Mu) then Some logic.Mu
+    else (if bytes_eq word (logic_word logic.Pdl) then Some logic.Pdl else None)
+
+abbrev pub some_logic : Word → Logic
+some_logic word = unwrap_or (logic_named word) logic.Mu
 
 abbrev pub IsParsedAs : List ℕ → AnyFormula → Type 0
 IsParsedAs text (Mu f) = mu_parsing.IsParsedAs text f
+IsParsedAs text (Pdl f) = pdl_parsing.IsParsedAs text f
 
 abbrev pub IsRefusedBy : Logic → List ℕ → ParseRefusal → Type 0
 IsRefusedBy logic.Mu text e = mu_parsing.IsRefusedBy text e
+IsRefusedBy logic.Pdl text e = pdl_parsing.IsRefusedBy text e
 
 abbrev pub canonical_text : AnyFormula → List ℕ
 canonical_text (Mu f) = mu_canonical.canonical_text f
+canonical_text (Pdl f) = pdl_canonical.canonical_text f
 
 abbrev pub IsWellFormed : AnyFormula → Type 0
 IsWellFormed (Mu f) = mu_formulas.IsWellFormed f
+IsWellFormed (Pdl f) = pdl_formulas.IsWellFormed f

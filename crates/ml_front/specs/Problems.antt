@@ -3,25 +3,28 @@
 -- A problem is a formula with a sense. That it holds at a state is a proposition and no test: in some logics it speaks of
 -- infinitely many paths and can't be computed from its definition. Each logic says of which structures it speaks.
 --
---   IsAdmitted l m   == the logic l speaks of the structure m: the mu-calculus of every structure
+--   IsAdmitted l m   == the logic l speaks of the structure m: the mu-calculus and PDL of every structure
 --   HoldsAt m s p    == the problem p holds at the state s of the structure m
 --   IsSatisfiable p  == some admitted structure, of any number of states, has a state at which p holds
 use Rattle.std.specs.Prelude.{ℕ, ◌<◌, Bool}
 use Rattle.ml_base.specs.Structure.{Structure, IsStructure}
 use Rattle.ml_mu.specs.Problem as mu
+use Rattle.ml_pdl.specs.Problem as pdl
 use Rattle.ml_front.specs.Logics.{logic_of}
 use Rattle.ml_front.specs.declared.logic.Logic.{Logic}
 use Rattle.ml_front.specs.declared.logic.Logic.TheVariants as logic
 use Rattle.ml_front.specs.declared.problem.AnyFormula.{AnyFormula}
-use Rattle.ml_front.specs.declared.problem.AnyFormula.TheVariants.{Mu}
+use Rattle.ml_front.specs.declared.problem.AnyFormula.TheVariants.{Mu, Pdl}
 use Rattle.ml_front.specs.declared.problem.Problem.{Problem}
 
 abbrev pub IsAdmitted : Logic → Structure → Type 0
 IsAdmitted logic.Mu m = IsStructure m
+IsAdmitted logic.Pdl m = IsStructure m
 
 -- a formula, in its sense
 abbrev pub HoldsAs : Structure → ℕ → Bool → AnyFormula → Type 0
 HoldsAs m s negated (Mu f) = mu.HoldsAt m s (record { formula = f; negated = negated })
+HoldsAs m s negated (Pdl f) = pdl.HoldsAt m s (record { formula = f; negated = negated })
 
 abbrev pub HoldsAt : Structure → ℕ → Problem → Type 0
 HoldsAt m s p = HoldsAs m s p.negated p.formula

@@ -11,8 +11,8 @@
 // `laws` says that the graph of a problem holds where the problem does, and that each text is a head or is refused at
 // one line.
 //
-// Below stand the formulas of the logics (`ml_mu`) and their graphs (`ml_mu_graph`), `ml_graph` (graphs), `ml_lines`
-// (lines and words) and `ml_lists` (documents as places and rules); above stand the crates that decide problems, and
+// Below stand the formulas of the logics (`ml_mu`, `ml_pdl`) and their graphs (`ml_mu_graph`, `ml_pdl_graph`), `ml_graph`
+// (graphs), `ml_lines` (lines and words) and `ml_lists` (documents as places and rules); above stand the crates that decide problems, and
 // those that check and write documents.
 #![tactic(auto)]
 

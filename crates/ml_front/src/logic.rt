@@ -1,12 +1,14 @@
 // The logics.
 ghost use Rattle.std.specs.Prelude.{◌≡◌, ◌≢◌, MatchOption};
-ghost use Rattle.ml_front.specs.Logics.{logic_word};
+ghost use Rattle.ml_front.specs.Logics.{logic_named, logic_word};
 
 /// The logics whose formulas are read.
 #[derive(Clone, Copy, Debug, PartialEq, Eq)]
 pub enum Logic {
     /// The modal mu-calculus.
     Mu,
+    /// Propositional dynamic logic, with infinite repetition.
+    Pdl,
 }
 
 impl Logic {
@@ -16,17 +18,21 @@ impl Logic {
     {
         match self {
             Logic::Mu => b"mu",
+            Logic::Pdl => b"pdl",
         }
     }
-}
 
-/// The logic that a word of the line `logic` tells; `None` where it tells none.
-pub(crate) fn logic_of(word: &[u8]) -> Option<Logic>
-    ensures { MatchOption result ((l : Logic) → word.now ≢ logic_word l) (λ l. word.now ≡ logic_word l) }
-{
-    if word == Logic::Mu.word() {
-        Some(Logic::Mu)
-    } else {
-        None
+    /// The logic that a word names; `None` where it names none.
+    pub fn named(word: &[u8]) -> Option<Logic>
+        ensures table { result ≡ logic_named word.now }
+        ensures word { MatchOption result ((l : Logic) → word.now ≢ logic_word l) (λ l. word.now ≡ logic_word l) }
+    {
+        if word == Logic::Mu.word() {
+            Some(Logic::Mu)
+        } else if word == Logic::Pdl.word() {
+            Some(Logic::Pdl)
+        } else {
+            None
+        }
     }
 }

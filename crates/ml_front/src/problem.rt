@@ -6,13 +6,13 @@ ghost use Rattle.ml_front.specs.Graphs.{HoldsWhere, IsGraphOf};
 use crate::logic::Logic;
 use ml_base::{NoMemory, ParseRefusal};
 use ml_graph::{BlockRefusal, ModalGraph};
-use ml_mu_graph::graph_of;
 use std::alloc::Global;
 
 /// A formula of any logic.
 #[derive(Drop)]
 pub enum AnyFormula {
     Mu(ml_mu::Formula),
+    Pdl(ml_pdl::Formula),
 }
 
 /// A formula with its sense: a plain problem asks for a state at which the formula holds, a negated one for a state at
@@ -26,7 +26,7 @@ pub struct Problem {
 /// The plain problem of a text's formula, by the logic's parser.
 ///
 /// # Errors
-/// Those of the parser, where and as it says (`ml_mu::parse`).
+/// Those of the parser, where and as it says (`ml_mu::parse`, `ml_pdl::parse`).
 ///
 /// Cost: that of the parser.
 pub fn read(alloc: Global, logic: Logic, text: &[u8]) -> Result<Problem, ParseRefusal>
@@ -53,6 +53,10 @@ pub(crate) fn parse(alloc: Global, logic: Logic, text: &[u8]) -> Result<AnyFormu
     match logic {
         Logic::Mu => match ml_mu::parse(alloc, text) {
             Ok(formula) => Ok(AnyFormula::Mu(formula)),
+            Err(refusal) => Err(refusal),
+        },
+        Logic::Pdl => match ml_pdl::parse(alloc, text) {
+            Ok(formula) => Ok(AnyFormula::Pdl(formula)),
             Err(refusal) => Err(refusal),
         },
     }
@@ -83,6 +87,10 @@ pub fn copy(alloc: Global, problem: &Problem) -> Result<Problem, NoMemory>
             formula: AnyFormula::Mu(ml_mu::copy(alloc, formula)?),
             negated: problem.negated,
         }),
+        AnyFormula::Pdl(formula) => Ok(Problem {
+            formula: AnyFormula::Pdl(ml_pdl::copy(alloc, formula)?),
+            negated: problem.negated,
+        }),
     }
 }
 
@@ -98,23 +106,25 @@ pub fn print(alloc: Global, problem: &Problem) -> Result<Vec<u8>, NoMemory>
 {
     match &problem.formula {
         AnyFormula::Mu(formula) => ml_mu::print(alloc, formula),
+        AnyFormula::Pdl(formula) => ml_pdl::print(alloc, formula),
     }
 }
 
 /// The graph of a problem: on every admitted structure it holds exactly where the problem does.
 ///
-/// `_max` is how many nodes a closure may have; a formula of the mu-calculus has none.
+/// `_max` is how many nodes a closure may have; formulas of the mu-calculus and of PDL have none.
 ///
 /// # Errors
 /// `NoMemory` alone, so far.
 ///
-/// Cost: that of the logic's translation (`ml_mu_graph::graph_of`).
+/// Cost: that of the logic's translation (`ml_mu_graph::graph_of`, `ml_pdl_graph::graph_of`).
 pub fn graph(alloc: Global, problem: &Problem, _max: u32) -> Result<ModalGraph, BlockRefusal>
     ensures graph { IfOk result (λ g. IsGraphOf g problem.now) }
     ensures agrees { IfOk result (λ g. HoldsWhere g problem.now) }
     ensures fits { ¬ (IsErrOf result BlockRefusal.ClosureTooLarge) }
 {
     match &problem.formula {
-        AnyFormula::Mu(formula) => Ok(graph_of(alloc, formula, problem.negated)?),
+        AnyFormula::Mu(formula) => Ok(ml_mu_graph::graph_of(alloc, formula, problem.negated)?),
+        AnyFormula::Pdl(formula) => Ok(ml_pdl_graph::graph_of(alloc, formula, problem.negated)?),
     }
 }

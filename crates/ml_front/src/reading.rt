@@ -12,7 +12,7 @@ ghost use Rattle.ml_front.specs.private.HeadParts.{first_line, IsPair, Breaks, I
 
 use crate::answer::{Answer, answer_of};
 use crate::head_rule::HeadRule;
-use crate::logic::{Logic, logic_of};
+use crate::logic::Logic;
 use crate::problem::{AnyFormula, Problem, parse};
 use crate::title::version_of;
 use ml_base::{DocFault, DocRefusal, ParseRefusal, Version};
@@ -132,7 +132,7 @@ fn read_logic(text: &[u8]) -> Result<(Logic, &[u8]), HeadRule>
     ensures refused { IfErr result (λ rule. (a : Answer) → Breaks a AtLogic (first_line text.now) rule) }
 {
     match pair(text, b"logic") {
-        Some((word, rest)) => match logic_of(word) {
+        Some((word, rest)) => match Logic::named(word) {
             Some(logic) => Ok((logic, rest)),
             None => Err(HeadRule::OfKind),
         },

@@ -56,6 +56,7 @@ fn logic(formula: &AnyFormula) -> Logic
 {
     match formula {
         AnyFormula::Mu(_) => Logic::Mu,
+        AnyFormula::Pdl(_) => Logic::Pdl,
     }
 }
 
@@ -80,5 +81,6 @@ fn append_text(out: &mut Vec<u8>, formula: &AnyFormula) -> Result<(), NoMemory>
 {
     match formula {
         AnyFormula::Mu(formula) => ml_mu::append_text(out, formula),
+        AnyFormula::Pdl(formula) => ml_pdl::append_text(out, formula),
     }
 }

@@ -66,7 +66,7 @@ pub record ShowsNot (text : List ℕ) : Type 0 where
   pub is_document : IsDocument text problem structure start
   pub fails : ¬ (HoldsAt structure start problem)
 
--- formulas of the mu-calculus have a meaning on every structure, and no closure: the last two answers never come
+-- formulas of the mu-calculus and of PDL have a meaning on every structure, and no closure: the last two answers never come
 abbrev pub IsCheckedAs : List ℕ → Checked → Type 0
 IsCheckedAs text Holds = Shows text
 IsCheckedAs text Fails = ShowsNot text

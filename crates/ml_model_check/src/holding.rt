@@ -27,8 +27,8 @@ const MOST_NESTED: u32 = 2;
 /// `NoMemory` alone, so far.
 ///
 /// Cost: a formula of the mu-calculus with at most two binders one inside the other costs what `ml_mu::evaluate` does;
-/// with more, what `ml_parity::solve` does on a game with twice as many vertices as there are pairs of a state and an
-/// occurrence. No call is nested deeper than the formula, which has at most 1,000 occurrences.
+/// one with more, or of PDL, what `ml_parity::solve` does on a game with twice as many vertices as there are pairs of a
+/// state and an occurrence. No call is nested deeper than the formula, which has at most 1,000 occurrences.
 pub fn holds(
     alloc: Global,
     problem: &Problem,
@@ -51,6 +51,7 @@ pub fn holds(
                 Ok(holds)
             }
         }
+        AnyFormula::Pdl(_) => holds_by_game(alloc, problem, structure, state),
     }
 }
 

@@ -58,14 +58,14 @@ const BROKEN: [(bool, &'static str, u64, u32); 54] = [
     (false, "mlsolver 1\nanswer\n", 2, 1),
     (
         false,
-        "mlsolver 1\nanswer unsatisfiable\nlogic pdl\nsense plain\n",
+        "mlsolver 1\nanswer unsatisfiable\nlogic s4\nsense plain\n",
         2,
         3,
     ),
     (false, "mlsolver 1\nanswer undecided\n", 2, 3),
     (
         false,
-        "mlsolver 1\nanswer satisfiable\nlogic pdl\nsense plain\n",
+        "mlsolver 1\nanswer satisfiable\nlogic s4\nsense plain\n",
         3,
         1,
     ),

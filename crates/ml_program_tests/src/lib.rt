@@ -8,6 +8,8 @@
 //   line_tests      lines written and cut
 //   meaning_tests   formulas with the states at which they hold
 //   mu_tests        texts of the mu-calculus and their formulas
+//   pdl_meaning_tests  formulas of PDL with the states at which they hold, and programs with the pairs they relate
+//   pdl_program_tests  the program on formulas and documents of PDL
 //   pdl_tests       texts of PDL and their formulas
 //   program_tests   the worked rows of the program, over sources and sinks in memory
 //   refutation_tests  refutations read from their texts in both versions, and broken ones
@@ -29,6 +31,10 @@ mod line_tests;
 mod meaning_tests;
 #[cfg(test)]
 mod mu_tests;
+#[cfg(test)]
+mod pdl_meaning_tests;
+#[cfg(test)]
+mod pdl_program_tests;
 #[cfg(test)]
 mod pdl_tests;
 #[cfg(test)]

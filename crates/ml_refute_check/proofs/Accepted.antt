@@ -1,27 +1,16 @@
 -- What an accepted document tells, and documents that are written.
 --
---   meaningful_read     == a formula that was read means something by its logic
 --   accepted_is_true    == what an accepted document answers is true
 --   documents_read_back == the document that is written for a problem and a refutation shows these
-use Rattle.std.proofs.Common.{◌≡◌, ℕ, List, [], refl}
 use Rattle.ml_base.specs.declared.version.Version.TheVariants.{Two}
 use Rattle.ml_front.specs.declared.answer.Answer.TheVariants.{Unsatisfiable}
-use Rattle.ml_front.specs.declared.problem.AnyFormula.{AnyFormula}
-use Rattle.ml_front.specs.declared.problem.AnyFormula.TheVariants.{Mu}
-use Rattle.ml_front.specs.Graphs.{IsMeaningful}
-use Rattle.ml_front.specs.Logics.{IsParsedAs, IsWellFormed}
+use Rattle.ml_front.proofs.Graphs.{meaningful}
+use Rattle.ml_front.proofs.Logics.{parsed_well}
 use Rattle.ml_front.proofs.ReadBack.{heads_read_back}
-use Rattle.ml_mu.proofs.Parsed.{parsed_well}
 use Rattle.ml_refutation_text.specs.WrittenText.{written_text}
 use Rattle.ml_refutation_text.proofs.WrittenTexts.{written_is_text}
 use Rattle.ml_refute_check.specs.Laws.{AcceptedIsTrue, DocumentsReadBack}
 use Rattle.ml_refute_check.proofs.Refuted.{refuted_is_unsatisfiable}
-
-pub well_formed_read : (text : List ℕ) (f : AnyFormula) → IsParsedAs text f → IsWellFormed f
-well_formed_read text (Mu f) parsed = parsed_well text f parsed
-
-meaningful : (f : AnyFormula) → IsWellFormed f → IsMeaningful f
-meaningful (Mu f) well = (well.variables_are_bound, well.variables_are_positive)
 
 pub accepted_is_true : AcceptedIsTrue
 accepted_is_true text a =
@@ -32,7 +21,7 @@ accepted_is_true text a =
       body = a.is_document.body;
       has_head = head;
       holds_nowhere = refuted_is_unsatisfiable a.problem a.graph a.refutation
-          (meaningful a.problem.formula (well_formed_read head.formula_text a.problem.formula head.is_parsed))
+          (meaningful a.problem.formula (parsed_well head.formula_text a.problem.formula head.is_parsed))
           a.is_graph a.is_document.is_refutation a.is_accepted;
     }
 

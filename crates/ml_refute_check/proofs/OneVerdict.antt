@@ -11,7 +11,7 @@ use Rattle.ml_graph.specs.Graph.{Graph}
 use Rattle.ml_front.specs.declared.answer.Answer.TheVariants.{Unsatisfiable}
 use Rattle.ml_front.specs.declared.problem.Problem.{Problem}
 use Rattle.ml_front.specs.declared.problem.AnyFormula.{AnyFormula}
-use Rattle.ml_front.specs.declared.problem.AnyFormula.TheVariants.{Mu}
+use Rattle.ml_front.specs.declared.problem.AnyFormula.TheVariants.{Mu, Pdl}
 use Rattle.ml_front.specs.Graphs.{IsGraphOf}
 use Rattle.ml_front.proofs.HeadLines.{one_head}
 use Rattle.ml_front.proofs.OneFault as head
@@ -124,6 +124,7 @@ rejected_once text l n k m x y =
 
 never_large : (f : AnyFormula) → HasLargeClosure f → ⊥
 never_large (Mu f) large = large
+never_large (Pdl f) large = large
 
 has_graph : (text : List ℕ) → IsWithoutGraph text → ⊥
 has_graph text x = never_large x.problem.formula x.has_large_closure

@@ -1,6 +1,5 @@
 -- Checking a document finds something.
 --
---   some_graph   == each problem of a well-formed formula has a graph
 --   some_verdict == a text is accepted, rejected or unreadable
 use Rattle.std.proofs.Common.{◌≡◌, ℕ, ◌+◌, ◌*◌, ◌<◌, ◌⊎◌, Bool, true, if◌then◌else◌, List, [], Some, length, get_or, slice_get, inl, inr, refl, sym, ap, ◌∙◌, subst, arith}
 use Rattle.std.proofs.lemmas.Option.{slice_get-get_or}
@@ -9,18 +8,11 @@ use Rattle.ml_base.specs.declared.version.Version.{Version}
 use Rattle.ml_graph.specs.Graph.{Graph, IsGraph}
 use Rattle.ml_front.specs.declared.answer.Answer.TheVariants.{Unsatisfiable}
 use Rattle.ml_front.specs.declared.problem.Problem.{Problem}
-use Rattle.ml_front.specs.declared.problem.AnyFormula.{AnyFormula}
-use Rattle.ml_front.specs.declared.problem.AnyFormula.TheVariants.{Mu}
 use Rattle.ml_front.specs.Graphs.{IsGraphAs, IsGraphOf}
 use Rattle.ml_front.specs.HeadRules.{IsHead, IsHeadFault}
+use Rattle.ml_front.proofs.Graphs.{graph_is}
 use Rattle.ml_front.proofs.OneFault as head
-use Rattle.ml_mu.specs.Formula.{Formula}
-use Rattle.ml_mu_graph.specs.MuGraph as mu
-use Rattle.ml_mu_graph.specs.MuGraph.{binders}
-use Rattle.ml_mu_graph.specs.private.NodeList.{props_onto, actions_onto, nodes_of, priorities_of}
-use Rattle.ml_mu_graph.specs.private.Views.{none_around}
-use Rattle.ml_mu_graph.proofs.InRange.{lists_make_graph}
-use Rattle.ml_mu_graph.proofs.Made.{graph_made}
+use Rattle.ml_front.proofs.SomeGraph.{some_graph}
 use Rattle.ml_refutation.specs.Refutation.{Refutation, IsRefutation, Entry}
 use Rattle.ml_refutation.specs.Acceptance.{entry_at, IsAccepted, IsFirstBad}
 use Rattle.ml_refutation_text.specs.BodyRules.{IsFaultOf, IsReadableBody}
@@ -32,27 +24,8 @@ use Rattle.ml_refute_check.specs.Documents.{IsDocument, IsVerdict, line_of, firs
 use Rattle.ml_refute_check.specs.Laws.{SomeVerdict}
 use Rattle.ml_refute_check.specs.declared.verdict.Verdict.{Verdict}
 use Rattle.ml_refute_check.specs.declared.verdict.Verdict.TheVariants.{Accepted, Unreadable, Rejected}
-use Rattle.ml_refute_check.proofs.Refuted.{graph_of}
 use Rattle.ml_refute_check.proofs.Rejected.{length-parts}
 use Rattle.ml_refute_check.proofs.SomeFault.{some_fault}
-
-graph_as : Formula → Bool → Graph
-graph_as f negated = record {
-  nodes = nodes_of (props_onto f []) (actions_onto f []) none_around 0 f;
-  priorities = priorities_of (2 * binders f) 0 f;
-  root = if negated then 1 else 0;
-  props = props_onto f [];
-  actions = actions_onto f [];
-}
-
-is_graph_as : (f : Formula) (negated : Bool) → mu.IsGraphOf (graph_as f negated) f negated
-unfolding graph_as
-is_graph_as f negated =
-    graph_made (graph_as f negated) f negated (lists_make_graph (graph_as f negated) f negated refl refl refl refl refl)
-    refl refl refl refl refl
-
-some_graph : (f : AnyFormula) (negated : Bool) → (g : Graph) × IsGraphAs g negated f
-some_graph (Mu f) negated = (graph_as f negated, is_graph_as f negated)
 
 module _ (text : List ℕ) (v : Version) (p : Problem) (r : Refutation) (x : IsDocument text v p r) (g : Graph) (is_graph : IsGraphOf g p) where
   lines : List EntryLines
@@ -104,7 +77,7 @@ of_document : (text : List ℕ) (v : Version) (p : Problem) (r : Refutation) →
     → (g : Graph) × IsGraphAs g p.negated p.formula
     → (w : Verdict) × IsVerdict text w
 of_document text v p r x (g, is_graph) =
-    of_finding text v p r x g is_graph (some_fault g r (graph_of g p.negated p.formula is_graph))
+    of_finding text v p r x g is_graph (some_fault g r (graph_is g p.negated p.formula is_graph))
 
 of_body : (text : List ℕ) (v : Version) (p : Problem) (rest : List ℕ) → IsHead Unsatisfiable text v p rest
     → IsReadableBody v rest ⊎ ((fault : DocFault) × IsFaultOf v rest first_body_line fault)

@@ -10,7 +10,8 @@
 --   IsDocument text v p r == the text shows, in the version v, the refutation r for the problem p
 --   IsDocumentFault text f == f tells the first bad line of the text, and the lowest rule that it breaks
 --   IsAcceptedDocument text == the text shows a refutation that is accepted in the graph of its problem
---   HasLargeClosure f      == the closure of the formula f is too large: never in the mu-calculus, which has none
+--   HasLargeClosure f      == the closure of the formula f is too large: never in the mu-calculus and in PDL, which have
+--                             none
 --   line_of at n k         == the line of part k of an entry with n items, whose parts begin at these lines
 --   IsRejectedBy text entry part number line == the text shows a refutation whose first bad part is this one, with this
 --                             lowest rule that it breaks, and which stands at this line
@@ -28,7 +29,7 @@ use Rattle.ml_lines.specs.Lines.{text_of}
 use Rattle.ml_graph.specs.Graph.{Graph}
 use Rattle.ml_front.specs.declared.answer.Answer.TheVariants.{Unsatisfiable}
 use Rattle.ml_front.specs.declared.problem.AnyFormula.{AnyFormula}
-use Rattle.ml_front.specs.declared.problem.AnyFormula.TheVariants.{Mu}
+use Rattle.ml_front.specs.declared.problem.AnyFormula.TheVariants.{Mu, Pdl}
 use Rattle.ml_front.specs.declared.problem.Problem.{Problem}
 use Rattle.ml_front.specs.Graphs.{IsGraphOf}
 use Rattle.ml_front.specs.Head.{head_lines}
@@ -84,6 +85,7 @@ pub record IsAcceptedDocument (text : List ℕ) : Type 0 where
 
 abbrev pub HasLargeClosure : AnyFormula → Type 0
 HasLargeClosure (Mu f) = ⊥
+HasLargeClosure (Pdl f) = ⊥
 
 pub record IsWithoutGraph (text : List ℕ) : Type 0 where
   pub version : Version

@@ -44,7 +44,7 @@ struct Shown {
 /// - `Unreadable` exactly where they are none, with the first bad line, counted from 1, and the lowest rule that this line
 ///   breaks: 1 to 3 of the head, as `ml_front::read_head` says, and 21 to 31 of the body, as `ml_refutation_text::read` says.
 /// - `Rejected` exactly where they are such a document and a rule of acceptance is broken, with the first line that breaks
-///   one and the lowest that it breaks: 1 at the formula, whose closure is too large (never in the mu-calculus); 2 at a
+///   one and the lowest that it breaks: 1 at the formula, whose closure is too large (never in the mu-calculus and in PDL); 2 at a
 ///   sequent; 3 at the names in use; 4 at an item; 5 at a split; 6 at a clash; 7 to 10 at a `go`.
 ///
 /// # Errors

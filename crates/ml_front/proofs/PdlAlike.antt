@@ -1,0 +1,123 @@
+-- Two graphs of a formula of PDL in a sense are alike.
+--
+--   same_in, program_same == the nodes of a formula, or of a program, that stands at a place in both are the same
+--   alike                 == so are the graphs
+use Rattle.std.proofs.Common.{ℕ, ◌+◌, ◌*◌, Bool, true, false, not, List, refl, sym, ◌∙◌}
+use Rattle.ml_graph.specs.Graph.{Graph}
+use Rattle.ml_graph.specs.declared.node.Node.TheVariants as node
+use Rattle.ml_pdl.specs.Formula.{Formula, Const, Prop, Not, Binary, Modal, Repeat, Program, Act, Seq, Alt, Star, Test, Diamond, Square, occurrences, program_occurrences}
+use Rattle.ml_pdl_graph.specs.PdlGraph.{IsGraphOf, IsLiteral, IsNode, ProgramStandsAt, StandsAt, box, constant, diamond, negative, plain, positive}
+use Rattle.ml_text.specs.declared.token.Operator.TheVariants as operator
+use Rattle.ml_front.proofs.AlikeGraphs.{AreAlike, Range, SameNode, alike_of, one_occurrence, one_part, same_and, same_box, same_diamond, same_literal, same_or, same_plain, three_occurrences, two_parts}
+
+module _ (g h : Graph) where
+  abbrev P : ℕ → Type 0
+  P = SameNode g h
+
+  constants : (n : ℕ) (b : Bool) → IsNode g n (constant b) plain → IsNode h n (constant b) plain → P n
+  constants n true x y = same_plain g h n node.True plain refl x y
+  constants n false x y = same_plain g h n node.False plain refl x y
+
+  literals : (n : ℕ) (name : List ℕ) (s : Bool) → IsLiteral g n name s → IsLiteral h n name s → P n
+  literals n name s x y = same_literal g h n x.0 y.0 s plain name x.1 y.1 x.2 y.2
+
+  ands : (n l r p : ℕ) → IsNode g n (node.And l r) p → IsNode h n (node.And l r) p → P n
+  ands = same_and g h
+
+  ors : (n l r p : ℕ) → IsNode g n (node.Or l r) p → IsNode h n (node.Or l r) p → P n
+  ors = same_or g h
+
+  mutual
+    same_in : (i : ℕ) (f : Formula) → StandsAt g i f → StandsAt h i f → Range P i (i + occurrences f)
+    same_in i (Const b) x y =
+        one_occurrence P i (constants (positive i) b x.0 y.0) (constants (negative i) (not b) x.1 y.1)
+    same_in i (Prop p) x y =
+        one_occurrence P i (literals (positive i) p true x.0 y.0) (literals (negative i) p false x.1 y.1)
+    same_in i (Not f) x y =
+        one_part P i (occurrences f) (ands (positive i) (negative (i + 1)) (negative (i + 1)) plain x.0 y.0)
+        (ands (negative i) (positive (i + 1)) (positive (i + 1)) plain x.1 y.1) (same_in (i + 1) f x.2 y.2)
+    same_in i (Binary operator.And f e) x y =
+        let l = i + 1 in
+        let r = l + occurrences f in
+        two_parts P i 1 (occurrences f) (occurrences e)
+        (one_occurrence P i (ands (positive i) (positive l) (positive r) plain x.0 y.0)
+        (ors (negative i) (negative l) (negative r) plain x.1 y.1))
+        (same_in l f x.2 y.2) (same_in r e x.3 y.3)
+    same_in i (Binary operator.Or f e) x y =
+        let l = i + 1 in
+        let r = l + occurrences f in
+        two_parts P i 1 (occurrences f) (occurrences e)
+        (one_occurrence P i (ors (positive i) (positive l) (positive r) plain x.0 y.0)
+        (ands (negative i) (negative l) (negative r) plain x.1 y.1))
+        (same_in l f x.2 y.2) (same_in r e x.3 y.3)
+    same_in i (Binary operator.Implies f e) x y =
+        let l = i + 1 in
+        let r = l + occurrences f in
+        two_parts P i 1 (occurrences f) (occurrences e)
+        (one_occurrence P i (ors (positive i) (negative l) (positive r) plain x.0 y.0)
+        (ands (negative i) (positive l) (negative r) plain x.1 y.1))
+        (same_in l f x.2 y.2) (same_in r e x.3 y.3)
+    same_in i (Binary operator.Iff f e) x y =
+        let both = i + 1 in
+        let neither = i + 2 in
+        let l = i + 3 in
+        let r = l + occurrences f in
+        two_parts P i 3 (occurrences f) (occurrences e)
+        (three_occurrences P i (ors (positive i) (positive both) (positive neither) plain x.0 y.0)
+        (ors (negative i) (negative both) (negative neither) plain x.1 y.1)
+        (ands (positive both) (positive l) (positive r) plain x.2 y.2)
+        (ands (negative both) (positive l) (negative r) plain x.3 y.3)
+        (ands (positive neither) (negative l) (negative r) plain x.4 y.4)
+        (ands (negative neither) (negative l) (positive r) plain x.5 y.5))
+        (same_in l f x.6 y.6) (same_in r e x.7 y.7)
+    same_in i (Modal Diamond p f) x y =
+        let l = i + 1 in
+        let r = l + program_occurrences p in
+        two_parts P i 1 (program_occurrences p) (occurrences f)
+        (one_occurrence P i (ands (positive i) (diamond l) (diamond l) plain x.0 y.0)
+        (ands (negative i) (box l) (box l) plain x.1 y.1))
+        (program_same l (positive r) (negative r) p x.2 y.2) (same_in r f x.3 y.3)
+    same_in i (Modal Square p f) x y =
+        let l = i + 1 in
+        let r = l + program_occurrences p in
+        two_parts P i 1 (program_occurrences p) (occurrences f)
+        (one_occurrence P i (ands (positive i) (box l) (box l) plain x.0 y.0)
+        (ands (negative i) (diamond l) (diamond l) plain x.1 y.1))
+        (program_same l (negative r) (positive r) p x.2 y.2) (same_in r f x.3 y.3)
+    same_in i (Repeat p) x y =
+        let l = i + 1 in
+        one_part P i (program_occurrences p) (ands (positive i) (diamond l) (diamond l) 0 x.0 y.0)
+        (ands (negative i) (box l) (box l) 1 x.1 y.1) (program_same l (positive i) (negative i) p x.2 y.2)
+
+    program_same : (i d b : ℕ) (p : Program) → ProgramStandsAt g i d b p → ProgramStandsAt h i d b p
+        → Range P i (i + program_occurrences p)
+    program_same i d b (Act a) x y =
+        one_occurrence P i (same_diamond g h (diamond i) x.0 y.0 d plain a x.1 y.1 x.3 y.3)
+        (same_box g h (box i) x.0 y.0 b plain a x.2 y.2 x.3 y.3)
+    program_same i d b (Seq p q) x y =
+        let l = i + 1 in
+        let r = l + program_occurrences p in
+        two_parts P i 1 (program_occurrences p) (program_occurrences q)
+        (one_occurrence P i (ands (diamond i) (diamond l) (diamond l) plain x.0 y.0)
+        (ands (box i) (box l) (box l) plain x.1 y.1))
+        (program_same l (diamond r) (box r) p x.2 y.2) (program_same r d b q x.3 y.3)
+    program_same i d b (Alt p q) x y =
+        let l = i + 1 in
+        let r = l + program_occurrences p in
+        two_parts P i 1 (program_occurrences p) (program_occurrences q)
+        (one_occurrence P i (ors (diamond i) (diamond l) (diamond r) plain x.0 y.0)
+        (ands (box i) (box l) (box r) plain x.1 y.1))
+        (program_same l d b p x.2 y.2) (program_same r d b q x.3 y.3)
+    program_same i d b (Star p) x y =
+        let l = i + 1 in
+        one_part P i (program_occurrences p) (ors (diamond i) d (diamond l) 3 x.0 y.0)
+        (ands (box i) b (box l) 2 x.1 y.1) (program_same l (diamond i) (box i) p x.2 y.2)
+    program_same i d b (Test f) x y =
+        let l = i + 1 in
+        one_part P i (occurrences f) (ands (diamond i) (positive l) d plain x.0 y.0)
+        (ors (box i) (negative l) b plain x.1 y.1) (same_in l f x.2 y.2)
+
+  pub alike : (f : Formula) (negated : Bool) → IsGraphOf g f negated → IsGraphOf h f negated → AreAlike g h
+  alike f negated x y =
+      alike_of g h (occurrences f) x.is_graph y.is_graph x.two_for_each y.two_for_each (x.root_is ∙ sym y.root_is)
+      (same_in 0 f x.stands y.stands)

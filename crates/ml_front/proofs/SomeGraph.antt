@@ -1,0 +1,53 @@
+-- Each formula has a graph, in each sense: the one that the program makes.
+--
+--   some_graph  == by the logic of the formula
+use Rattle.std.proofs.Common.{Bool, [], ◌*◌, if◌then◌else◌, refl}
+use Rattle.ml_graph.specs.Graph.{Graph}
+use Rattle.ml_mu.specs.Formula as mu_formula
+use Rattle.ml_mu_graph.specs.MuGraph as mu
+use Rattle.ml_mu_graph.specs.private.NodeList as mu_list
+use Rattle.ml_mu_graph.specs.private.Views.{none_around}
+use Rattle.ml_mu_graph.proofs.InRange as mu_range
+use Rattle.ml_mu_graph.proofs.Made as mu_made
+use Rattle.ml_pdl.specs.Formula as pdl_formula
+use Rattle.ml_pdl_graph.specs.PdlGraph as pdl
+use Rattle.ml_pdl_graph.specs.private.NodeList as pdl_list
+use Rattle.ml_pdl_graph.proofs.InRange as pdl_range
+use Rattle.ml_pdl_graph.proofs.Made as pdl_made
+use Rattle.ml_front.specs.Graphs.{IsGraphAs}
+use Rattle.ml_front.specs.declared.problem.AnyFormula.{AnyFormula}
+use Rattle.ml_front.specs.declared.problem.AnyFormula.TheVariants.{Mu, Pdl}
+
+mu_graph : mu_formula.Formula → Bool → Graph
+mu_graph f negated = record {
+  nodes = mu_list.nodes_of (mu_list.props_onto f []) (mu_list.actions_onto f []) none_around 0 f;
+  priorities = mu_list.priorities_of (2 * mu.binders f) 0 f;
+  root = if negated then 1 else 0;
+  props = mu_list.props_onto f [];
+  actions = mu_list.actions_onto f [];
+}
+
+is_mu_graph : (f : mu_formula.Formula) (negated : Bool) → mu.IsGraphOf (mu_graph f negated) f negated
+unfolding mu_graph
+is_mu_graph f negated =
+    let g = mu_graph f negated in
+    mu_made.graph_made g f negated (mu_range.lists_make_graph g f negated refl refl refl refl refl) refl refl refl refl refl
+
+pdl_graph : pdl_formula.Formula → Bool → Graph
+pdl_graph f negated = record {
+  nodes = pdl_list.nodes_of (pdl_list.props_onto f []) (pdl_list.actions_onto f []) 0 f;
+  priorities = pdl_list.priorities_of f;
+  root = if negated then 1 else 0;
+  props = pdl_list.props_onto f [];
+  actions = pdl_list.actions_onto f [];
+}
+
+is_pdl_graph : (f : pdl_formula.Formula) (negated : Bool) → pdl.IsGraphOf (pdl_graph f negated) f negated
+unfolding pdl_graph
+is_pdl_graph f negated =
+    let g = pdl_graph f negated in
+    pdl_made.graph_made g f negated (pdl_range.lists_make_graph g f negated refl refl refl refl refl) refl refl refl refl refl
+
+pub some_graph : (f : AnyFormula) (negated : Bool) → (g : Graph) × IsGraphAs g negated f
+some_graph (Mu f) negated = (mu_graph f negated, is_mu_graph f negated)
+some_graph (Pdl f) negated = (pdl_graph f negated, is_pdl_graph f negated)

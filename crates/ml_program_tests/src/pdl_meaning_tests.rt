@@ -1,0 +1,222 @@
+// Formulas of PDL with the states at which they hold, and programs with the pairs that they relate, worked out by hand.
+use ml_base::{Action, Edge, Name, NoMemory};
+use ml_kripke::Structure;
+use ml_pdl::{Term, parse};
+use ml_pdl_meaning::{evaluate, holds, relates};
+use std::alloc::Global;
+use std::test::Fail;
+
+// Four states. By `a`: from 0 to 1, and 1 and 2 to each other. By `b`: from 2 to 3, and 3 to itself.
+// p holds at 2, q at 1 and at 3.
+fn four_states(alloc: Global) -> Result<Structure, Fail> {
+    let mut labels = Vec::new(alloc);
+    for (state, name) in [(1, b"q"), (2, b"p"), (3, b"q")] {
+        labels
+            .push((state, Name::new(alloc, name.as_slice())?))
+            .map_err(NoMemory::from)?;
+    }
+    let mut edges = Vec::new(alloc);
+    for (source, action, target) in [
+        (0, b"a", 1),
+        (1, b"a", 2),
+        (2, b"a", 1),
+        (2, b"b", 3),
+        (3, b"b", 3),
+    ] {
+        let action = Action::new(alloc, action.as_slice())?;
+        edges
+            .push(Edge {
+                source,
+                action,
+                target,
+            })
+            .map_err(NoMemory::from)?;
+    }
+    Ok(Structure::build(alloc, 4, labels, edges)?)
+}
+
+// Does the formula of this text hold at these states and at no others?
+fn means(
+    alloc: Global,
+    structure: &Structure,
+    text: &[u8],
+    states: [bool; 4],
+) -> Result<bool, Fail> {
+    let formula = parse(alloc, text)?;
+    let set = evaluate(alloc, &formula, structure)?;
+    Ok(set.as_slice() == states.as_slice())
+}
+
+// Does the program of this diamond relate these pairs and no others?
+fn relates_pairs(
+    alloc: Global,
+    structure: &Structure,
+    diamond: &[u8],
+    pairs: &[(u32, u32)],
+) -> Result<bool, Fail> {
+    let formula = parse(alloc, diamond)?;
+    let Term::Diamond(program, _) = formula.root() else {
+        return Ok(false);
+    };
+    for from in 0..structure.states() {
+        for to in 0..structure.states() {
+            if relates(alloc, program, structure, from, to)? != pairs.contains(&(from, to)) {
+                return Ok(false);
+            }
+        }
+    }
+    Ok(true)
+}
+
+#[test]
+fn modalities(rt: HostRuntime) -> Result<(), Fail> {
+    let structure = four_states(rt.alloc())?;
+    let rows: [(&[u8], [bool; 4]); 12] = [
+        (b"tt", [true, true, true, true]),
+        (b"p -> q", [true, true, false, true]),
+        (b"p <-> q", [true, false, false, false]),
+        (b"!(p | q)", [true, false, false, false]),
+        (b"<a>p", [false, true, false, false]),
+        (b"[a]p", [false, true, false, true]),
+        (b"<>tt", [false, false, false, false]),
+        (b"[]ff", [true, true, true, true]),
+        (b"<a;a>p", [true, false, true, false]),
+        (b"[a;a]p", [true, false, true, true]),
+        (b"<a+b>q", [true, false, true, true]),
+        (b"[a+b]p", [false, true, false, false]),
+    ];
+    for (text, states) in rows {
+        assert!(rt; means(rt.alloc(), &structure, text, states)?, "{text:?}");
+    }
+    Ok(())
+}
+
+#[test]
+fn stars(rt: HostRuntime) -> Result<(), Fail> {
+    let structure = four_states(rt.alloc())?;
+    let rows: [(&[u8], [bool; 4]); 9] = [
+        (b"<a*>p", [true, true, true, false]),
+        (b"[a*]q", [false, false, false, true]),
+        (b"<(a;a)*>p", [true, false, true, false]),
+        (b"<(a;a)*;a>p", [false, true, false, false]),
+        (b"<a**>p", [true, true, true, false]),
+        // no round at all, or one that ends at 3
+        (b"<(a*;b)*>p", [false, false, true, false]),
+        (b"[(a*;b)*]q", [false, true, false, true]),
+        (b"<(a*;b*)*>p", [true, true, true, false]),
+        (b"[(a + b)*](p -> <b>q)", [true, true, true, true]),
+    ];
+    for (text, states) in rows {
+        assert!(rt; means(rt.alloc(), &structure, text, states)?, "{text:?}");
+    }
+    Ok(())
+}
+
+#[test]
+fn tests_of_formulas(rt: HostRuntime) -> Result<(), Fail> {
+    let structure = four_states(rt.alloc())?;
+    let rows: [(&[u8], [bool; 4]); 11] = [
+        (b"<p?>tt", [false, false, true, false]),
+        (b"[p?]q", [true, true, false, true]),
+        (b"<ff?>tt", [false, false, false, false]),
+        (b"<p?*>q", [false, true, false, true]),
+        (b"<p?;b>q", [false, false, true, false]),
+        (b"<!p?;a>q", [true, false, false, false]),
+        // while not p, by a
+        (b"<(!p?;a)*;p?>tt", [true, true, true, false]),
+        (b"[(!p?;a)*;p?]q", [false, false, false, true]),
+        // what is tested has modalities
+        (b"<(<b>tt)?;a>q", [false, false, true, false]),
+        (b"<((<b>tt)?;a)*>q", [false, true, true, true]),
+        (b"<(!<b>tt)?;a>p", [false, true, false, false]),
+    ];
+    for (text, states) in rows {
+        assert!(rt; means(rt.alloc(), &structure, text, states)?, "{text:?}");
+    }
+    Ok(())
+}
+
+#[test]
+fn repetitions(rt: HostRuntime) -> Result<(), Fail> {
+    let structure = four_states(rt.alloc())?;
+    let rows: [(&[u8], [bool; 4]); 9] = [
+        (b"repeat(a)", [true, true, true, false]),
+        (b"repeat(b)", [false, false, true, true]),
+        (b"repeat(a;b)", [false, false, false, false]),
+        (b"repeat(a + b)", [true, true, true, true]),
+        // no round at all, for ever
+        (b"repeat(a*)", [true, true, true, true]),
+        (b"repeat(a*;b)", [true, true, true, true]),
+        (b"repeat((a;a)*;a)", [true, true, true, false]),
+        (b"repeat(q?;b)", [false, false, false, true]),
+        (b"repeat(p?;b)", [false, false, false, false]),
+    ];
+    for (text, states) in rows {
+        assert!(rt; means(rt.alloc(), &structure, text, states)?, "{text:?}");
+    }
+    Ok(())
+}
+
+#[test]
+fn repetitions_inside(rt: HostRuntime) -> Result<(), Fail> {
+    let structure = four_states(rt.alloc())?;
+    let rows: [(&[u8], [bool; 4]); 9] = [
+        (b"!repeat(a)", [false, false, false, true]),
+        (b"<a>repeat(b)", [false, true, false, false]),
+        (b"[a]repeat(b)", [false, true, false, true]),
+        (b"[a*]repeat(a)", [true, true, true, false]),
+        (b"[b*]repeat(a)", [true, true, false, false]),
+        (b"<b*>!repeat(a)", [false, false, true, true]),
+        (b"<(repeat(a))?;b>tt", [false, false, true, false]),
+        (b"<(!repeat(a))?;b>tt", [false, false, false, true]),
+        // one repetition in the test of another, plain and negated
+        (
+            b"repeat((repeat(a))?;a + (!repeat(a))?;b)",
+            [true, true, true, true],
+        ),
+    ];
+    for (text, states) in rows {
+        assert!(rt; means(rt.alloc(), &structure, text, states)?, "{text:?}");
+    }
+    Ok(())
+}
+
+#[test]
+fn sequences_and_choices(rt: HostRuntime) -> Result<(), Fail> {
+    let structure = four_states(rt.alloc())?;
+    assert!(rt; relates_pairs(rt.alloc(), &structure, b"<a;b>tt", &[(1, 3)])?);
+    assert!(rt;
+        relates_pairs(
+            rt.alloc(),
+            &structure,
+            b"<a;a + b>tt",
+            &[(0, 2), (1, 1), (2, 2), (2, 3), (3, 3)]
+        )?
+    );
+    Ok(())
+}
+
+#[test]
+fn stars_and_tests(rt: HostRuntime) -> Result<(), Fail> {
+    let structure = four_states(rt.alloc())?;
+    assert!(rt; relates_pairs(rt.alloc(), &structure, b"<q?>tt", &[(1, 1), (3, 3)])?);
+    assert!(rt;
+        relates_pairs(
+            rt.alloc(),
+            &structure,
+            b"<(q?;a)*>tt",
+            &[(0, 0), (1, 1), (1, 2), (2, 2), (3, 3)]
+        )?
+    );
+    Ok(())
+}
+
+#[test]
+fn states(rt: HostRuntime) -> Result<(), Fail> {
+    let structure = four_states(rt.alloc())?;
+    let formula = parse(rt.alloc(), b"<a*>p & !p")?;
+    assert_eq!(rt; structure.states(), 4);
+    assert!(rt; holds(rt.alloc(), &formula, &structure, 1)?);
+    assert!(rt; !holds(rt.alloc(), &formula, &structure, 2)?);
+    Ok(())
+}
