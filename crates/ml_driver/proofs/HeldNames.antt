@@ -4,7 +4,7 @@
 --   IsHeld g      == propositions are names, actions are actions, and priorities fit 32 bits
 --   with_named    == a list of names to which a name was added
 --   action_named  == an action that is spelt as one, and short, is one
-use Rattle.std.proofs.Common.{◌≡◌, ◌||◌, ◌&&◌, ℕ, ◌≤◌, ◌⊎◌, not, Bool, true, false, if◌then◌else◌, codes, bytes_eq, List, [], ◌∷◌, ◌++◌, length, inl, inr, refl, sym, subst}
+use Rattle.std.proofs.Common.{◌≡◌, ◌||◌, ◌&&◌, ℕ, ◌≤◌, ◌⊎◌, Bool, true, false, if◌then◌else◌, codes, bytes_eq, List, [], ◌∷◌, ◌++◌, length, inl, inr, refl, sym, subst}
 use Rattle.std.specs.Cmp.{first_so, second_so}
 use Rattle.std.specs.List.{list_all, list_any}
 use Rattle.std.proofs.lemmas.Slice.Eq.{bytes_eq-Decides}

@@ -121,11 +121,17 @@ is_graph f negated =
     refl refl refl refl refl
 
 pub mu_held : (f : Formula) (negated : Bool) → IsWellFormed f → (g : Graph) × (IsGraphOf g f negated × IsHeld g)
-mu_held f negated well = (graph_of f negated, (is_graph f negated, record {
-  props = props_named f well.names_are_spelled well.names_are_short [] (λ x m. absurd m);
-  actions = actions_named f well.names_are_spelled well.names_are_short [] (λ x m. absurd m);
-  priorities = fits;
-}))
+mu_held f negated well = (
+  graph_of f negated,
+  (
+    is_graph f negated,
+    record {
+      props = props_named f well.names_are_spelled well.names_are_short [] (λ x m. absurd m);
+      actions = actions_named f well.names_are_spelled well.names_are_short [] (λ x m. absurd m);
+      priorities = fits;
+    },
+  ),
+)
   where
     fits : Every Fits (priorities_of (2 * binders f) 0 f)
     fits x m =

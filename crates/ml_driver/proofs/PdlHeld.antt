@@ -12,7 +12,7 @@ use Rattle.ml_pdl.specs.Spelling.{HasShortNames, ProgramHasShortNames, is_action
 use Rattle.ml_pdl.specs.WellFormed.{IsWellFormed}
 use Rattle.ml_pdl.proofs.Names.{lower_name, upper_name}
 use Rattle.ml_pdl_graph.specs.PdlGraph.{IsGraphOf, plain}
-use Rattle.ml_pdl_graph.specs.private.NodeList.{actions_onto, nodes_of, operator_priorities, priorities_of, program_actions_onto, program_priorities, program_props_onto, props_onto, with_name}
+use Rattle.ml_pdl_graph.specs.private.NodeList.{actions_onto, nodes_of, operator_priorities, priorities_of, program_actions_onto, program_priorities, program_props_onto, props_onto}
 use Rattle.ml_pdl_graph.proofs.InRange.{lists_make_graph}
 use Rattle.ml_pdl_graph.proofs.Made.{graph_made}
 use Rattle.ml_refutation.specs.Refutation.{Fits}
@@ -144,8 +144,14 @@ is_graph f negated =
     refl refl refl refl refl
 
 pub pdl_held : (f : Formula) (negated : Bool) → IsWellFormed f → (g : Graph) × (IsGraphOf g f negated × IsHeld g)
-pdl_held f negated well = (graph_of f negated, (is_graph f negated, record {
-  props = props_named f well.names_are_spelled well.names_are_short [] (λ x m. absurd m);
-  actions = actions_named f well.names_are_spelled well.names_are_short [] (λ x m. absurd m);
-  priorities = low_priorities f;
-}))
+pdl_held f negated well = (
+  graph_of f negated,
+  (
+    is_graph f negated,
+    record {
+      props = props_named f well.names_are_spelled well.names_are_short [] (λ x m. absurd m);
+      actions = actions_named f well.names_are_spelled well.names_are_short [] (λ x m. absurd m);
+      priorities = low_priorities f;
+    },
+  ),
+)

@@ -7,14 +7,14 @@
 --   Answer n q text == some status is due, where n tells whether the question is about the negation
 --   of_problem      == a problem has one
 --   some_answer     == each text has one
-use Rattle.std.proofs.Common.{◌≡◌, ℕ, ◌+◌, ◌<◌, ◌≤◌, ◌^◌, ◌⊎◌, Bool, true, false, List, length, Some, All, inl, inr, ⊎_elim, refl, sym, subst, arith}
+use Rattle.std.proofs.Common.{◌≡◌, ℕ, ◌<◌, ◌≤◌, ◌^◌, ◌⊎◌, Bool, true, false, List, length, Some, inl, inr, ⊎_elim, refl, subst, arith}
 use Rattle.std.proofs.lemmas.Bool.{cases_lt}
 use Rattle.ml_base.specs.Structure.{Structure}
 use Rattle.ml_base.specs.declared.parse_refusal.ParseRefusal.{ParseRefusal}
 use Rattle.ml_base.specs.declared.parse_refusal.ParseRefusal.TheVariants as refusal
 use Rattle.ml_lists.proofs.Decided.{Decided}
 use Rattle.ml_lists.proofs.Member.{member-All}
-use Rattle.ml_graph.specs.Graph.{Graph, IsGraph, size}
+use Rattle.ml_graph.specs.Graph.{Graph, IsGraph}
 use Rattle.ml_parity.specs.Game as games
 use Rattle.ml_parity.specs.Solution.{GameSolution, IsSolution, winner_at}
 use Rattle.ml_parity.specs.Winner.{Wins}
@@ -40,7 +40,7 @@ use Rattle.ml_front.specs.Graphs.{IsGraphOf}
 use Rattle.ml_front.specs.HeadRules.{IsFormulaOf}
 use Rattle.ml_front.specs.Logics.{IsRefusedBy}
 use Rattle.ml_front.specs.declared.problem.Problem.{Problem}
-use Rattle.ml_driver.specs.Decision.{IsAnsweredIn, IsClosed, IsProblem, LeftOpen, Refuted, Satisfied}
+use Rattle.ml_driver.specs.Decision.{IsAnsweredIn, IsClosed, IsProblem, Refuted, Satisfied}
 use Rattle.ml_driver.specs.Documents.{satisfiable_document, undecided_document}
 use Rattle.ml_driver.specs.Statuses.{longest_text, refusal_line, refused_length}
 use Rattle.ml_driver.specs.declared.cause.Cause.TheVariants.{Closure, Positions}
@@ -119,10 +119,15 @@ module _ (n : Bool) (q : Question) (text : List ℕ) (p : Problem) (is_problem :
   by_game : (g : Graph) → IsGraphOf g p → IsGraph g → IsHeld g → (HasLargeClosure p.formula → ⊥)
       → ((a : Arena) × (IsArenaOf g a × (length a.positions ≤ q.limit))) ⊎ HasMoreThan g q.limit
       → Answer n q text
-  by_game g is_graph ok held fits (inr more) =
-      (Undecided, (undecided_document p (Positions q.limit), open_in q text p is_problem (undecided_document p (Positions q.limit)) n
-      (left_open q text p is_problem (undecided_document p (Positions q.limit)) (Positions q.limit)
-      (refl, fits, record { graph = g; is_graph = is_graph; has_more = more }) refl)))
+  by_game g is_graph ok held fits (inr more) = (
+    Undecided,
+    (
+      undecided_document p (Positions q.limit),
+      open_in q text p is_problem (undecided_document p (Positions q.limit)) n
+          (left_open q text p is_problem (undecided_document p (Positions q.limit)) (Positions q.limit)
+          (refl, fits, record { graph = g; is_graph = is_graph; has_more = more }) refl),
+    ),
+  )
   by_game g is_graph ok held fits (inl (a, rest)) =
       let keeps = keeps_limit p g q.limit is_graph (few_positions g a q.limit rest.0 rest.1) in
       let s = some_solution (game_of a) (is_game g a rest.0) in
@@ -132,9 +137,14 @@ module _ (n : Bool) (q : Question) (text : List ℕ) (p : Problem) (is_problem :
   of_problem = by_closure (large_or_not p.formula)
     where
       by_closure : Decided (HasLargeClosure p.formula) → Answer n q text
-      by_closure (inl large) =
-          (Undecided, (undecided_document p Closure, open_in q text p is_problem (undecided_document p Closure) n
-          (left_open q text p is_problem (undecided_document p Closure) Closure large refl)))
+      by_closure (inl large) = (
+        Undecided,
+        (
+          undecided_document p Closure,
+          open_in q text p is_problem (undecided_document p Closure) n
+              (left_open q text p is_problem (undecided_document p Closure) Closure large refl),
+        ),
+      )
       by_closure (inr fits) =
           let made = held_graph p.formula p.negated (well_formed text p.formula is_problem.is_parsed) in
           let ok = graph_is made.0 p.negated p.formula made.1.0 in
