@@ -4,7 +4,7 @@
 --   satisfied, refuted, left_open == a problem with what was found for it
 --   answered           == a decision with its document answers the question
 --   refused_answered   == a refusal of the parser with its line does
-use Rattle.std.proofs.Common.{◌≡◌, ◌⊎◌, ◌≤◌, ◌<◌, ◌^◌, ℕ, Bool, true, false, List, length, Some, refl, sym, ◌∙◌, ap, subst, inl, inr, arith}
+use Rattle.std.proofs.Common.{◌≡◌, ◌≤◌, ◌<◌, ◌^◌, ℕ, Bool, true, false, List, length, Some, refl, sym, subst, inl, inr}
 use Rattle.ml_base.specs.declared.parse_refusal.ParseRefusal.{ParseRefusal}
 use Rattle.ml_base.specs.Structure.{Structure}
 use Rattle.ml_extract.specs.Extraction.{Extracted}
@@ -30,7 +30,6 @@ use Rattle.ml_driver.specs.declared.cause.Cause.TheVariants.{Positions, Closure}
 use Rattle.ml_driver.specs.declared.deciding.Decision.{Decision}
 use Rattle.ml_driver.specs.declared.deciding.Decision.TheVariants as decision
 use Rattle.ml_driver.specs.declared.question.Question.{Question}
-use Rattle.ml_driver.specs.declared.status.Status.{Status}
 use Rattle.ml_driver.specs.declared.status.Status.TheVariants as status
 use Rattle.ml_driver.specs.private.Decisions.{IsDecisionOf, IsDocumentFor, IsFound, IsFoundOf, IsWon, status_in}
 use Rattle.ml_front.proofs.Graphs.{meaningful}

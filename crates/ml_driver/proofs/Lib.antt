@@ -22,7 +22,10 @@ pub mod WorkedWords
 pub mod SomeTurn
 -- the decision game has an arena, or passes the limit
 pub mod SomeArena
--- graphs with names and numbers that a program holds
+-- graphs with names and priorities that a program holds
+pub mod HeldNames
+pub mod MuHeld
+pub mod PdlHeld
 pub mod HeldGraphs
 -- models with such names
 pub mod NamedModels

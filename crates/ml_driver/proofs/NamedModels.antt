@@ -11,7 +11,7 @@ use Rattle.ml_base.specs.declared.structure.Edge.{Edge}
 use Rattle.ml_kripke.specs.Ordered.{HasNames}
 use Rattle.ml_lists.specs.Member.{IsMember}
 use Rattle.ml_lists.proofs.Member.{member-All, place-member}
-use Rattle.ml_graph.specs.Graph.{Graph, IsGraph, size, prop_at, action_at}
+use Rattle.ml_graph.specs.Graph.{Graph, IsGraph, prop_at, action_at}
 use Rattle.ml_graph.proofs.References.{prop_in_range, diamond_action}
 use Rattle.ml_parity.specs.Solution.{GameSolution}
 use Rattle.ml_product.specs.Arena.{Arena}
@@ -19,7 +19,7 @@ use Rattle.ml_product.proofs.ArenaGame.{member_of_get}
 use Rattle.ml_extract.specs.Extraction.{Extracted, HasDiamond}
 use Rattle.ml_extract.specs.Model.{IsLabel, IsModelOf, State}
 use Rattle.ml_extract.proofs.Numbering.{last_spread}
-use Rattle.ml_driver.proofs.HeldGraphs.{IsHeld}
+use Rattle.ml_driver.proofs.HeldNames.{IsHeld}
 
 module _ (g : Graph) (a : Arena) (s : GameSolution) (m : Structure) (start : ℕ) (ok : IsGraph g)
     (model : IsModelOf g a s m start) (extracted : Extracted g m start) (held : IsHeld g) where

@@ -7,14 +7,14 @@
 --   Answer n q text == some status is due, where n tells whether the question is about the negation
 --   of_problem      == a problem has one
 --   some_answer     == each text has one
-use Rattle.std.proofs.Common.{◌≡◌, ℕ, ◌+◌, ◌<◌, ◌≤◌, ◌^◌, ◌⊎◌, Bool, true, false, List, length, Some, All, inl, inr, ⊎_elim, refl, sym, subst, arith}
+use Rattle.std.proofs.Common.{◌≡◌, ℕ, ◌<◌, ◌≤◌, ◌^◌, ◌⊎◌, Bool, true, false, List, length, Some, inl, inr, ⊎_elim, refl, subst, arith}
 use Rattle.std.proofs.lemmas.Bool.{cases_lt}
 use Rattle.ml_base.specs.Structure.{Structure}
 use Rattle.ml_base.specs.declared.parse_refusal.ParseRefusal.{ParseRefusal}
 use Rattle.ml_base.specs.declared.parse_refusal.ParseRefusal.TheVariants as refusal
 use Rattle.ml_lists.proofs.Decided.{Decided}
 use Rattle.ml_lists.proofs.Member.{member-All}
-use Rattle.ml_graph.specs.Graph.{Graph, IsGraph, size}
+use Rattle.ml_graph.specs.Graph.{Graph, IsGraph}
 use Rattle.ml_parity.specs.Game as games
 use Rattle.ml_parity.specs.Solution.{GameSolution, IsSolution, winner_at}
 use Rattle.ml_parity.specs.Winner.{Wins}
@@ -30,15 +30,17 @@ use Rattle.ml_extract.proofs.Loops.{models_hold}
 use Rattle.ml_extract.proofs.SomeModel.{some_model}
 use Rattle.ml_refutation.specs.Refutation.{Fits}
 use Rattle.ml_refute.proofs.Accepted.{extracted_accepted}
+use Rattle.ml_refute.proofs.Entries.{Extraction}
 use Rattle.ml_refute.proofs.SomeRefutation.{some_refutation}
 use Rattle.ml_refute.proofs.WellFormed.{extracted_refutation}
 use Rattle.ml_refute_check.specs.Documents.{HasLargeClosure, document_of}
-use Rattle.ml_front.proofs.Graphs.{graphs_agree}
+use Rattle.ml_front.proofs.Graphs.{graph_is, graph_small, graphs_agree, meaningful}
+use Rattle.ml_front.proofs.Logics as texts
 use Rattle.ml_front.specs.Graphs.{IsGraphOf}
-use Rattle.ml_front.specs.Logics.{IsParsedAs, IsRefusedBy, logic_of}
-use Rattle.ml_front.specs.declared.problem.AnyFormula.{AnyFormula}
+use Rattle.ml_front.specs.HeadRules.{IsFormulaOf}
+use Rattle.ml_front.specs.Logics.{IsRefusedBy}
 use Rattle.ml_front.specs.declared.problem.Problem.{Problem}
-use Rattle.ml_driver.specs.Decision.{IsAnsweredIn, IsClosed, IsProblem, LeftOpen, Refuted, Satisfied}
+use Rattle.ml_driver.specs.Decision.{IsAnsweredIn, IsClosed, IsProblem, Refuted, Satisfied}
 use Rattle.ml_driver.specs.Documents.{satisfiable_document, undecided_document}
 use Rattle.ml_driver.specs.Statuses.{longest_text, refusal_line, refused_length}
 use Rattle.ml_driver.specs.declared.cause.Cause.TheVariants.{Closure, Positions}
@@ -46,9 +48,10 @@ use Rattle.ml_driver.specs.declared.question.Question.{Question}
 use Rattle.ml_driver.specs.declared.status.Status.{Status}
 use Rattle.ml_driver.specs.declared.status.Status.TheVariants.{Yes, No, Undecided, Text}
 use Rattle.ml_driver.proofs.Answered.{closed, left_open, open_in, refused_answered, refuted, satisfied}
-use Rattle.ml_driver.proofs.HeldGraphs.{IsHeld, held_graph, large_or_not, parsed_or_refused}
+use Rattle.ml_driver.proofs.HeldGraphs.{held_graph, large_or_not}
+use Rattle.ml_driver.proofs.HeldNames.{IsHeld}
 use Rattle.ml_driver.proofs.NamedModels.{has_names}
-use Rattle.ml_driver.proofs.ProblemGraphs.{few_positions, graph_is, graph_small, keeps_limit, meaningful, well_formed}
+use Rattle.ml_driver.proofs.ProblemGraphs.{few_positions, keeps_limit, well_formed}
 use Rattle.ml_driver.proofs.SomeArena.{some_arena}
 
 abbrev pub Answer : Bool → Question → List ℕ → Type 0
@@ -98,14 +101,16 @@ module _ (n : Bool) (q : Question) (text : List ℕ) (p : Problem) (is_problem :
     by_odd : winner_at s.winner 0 ≡ Odd → Answer n q text
     by_odd is =
         let made = some_refutation g a s ok arena solved is in
+        let r = made.0 in
+        let x : Extraction = record { g = g; a = a; arena = arena; s = s; r = r; o = made.1.outline } in
         let well = well_formed text p.formula is_problem.is_parsed in
         let nodes = graph_small g p.negated p.formula well is_graph in
         let is_refutation =
-        extracted_refutation g a s made.0 ok (omega (arith, nodes)) (member-All Fits g.priorities held.priorities)
-        (omega (arith, few, small)) arena made.1 in
-        as_refuted n q text (document_of p made.0)
-        (refuted q text p is_problem (document_of p made.0) g made.0 is_graph is_closed is_refutation
-        (extracted_accepted g a s made.0 arena made.1) refl)
+        extracted_refutation x ok (omega (arith, nodes)) made.1.heights
+        (member-All Fits g.priorities held.priorities) (omega (arith, few, small)) in
+        as_refuted n q text (document_of p r)
+        (refuted q text p is_problem (document_of p r) g r is_graph is_closed is_refutation
+        (extracted_accepted x made.1.heights) refl)
 
     by_winner : (w : Player) → winner_at s.winner 0 ≡ w → Answer n q text
     by_winner Even is = by_even is
@@ -114,10 +119,15 @@ module _ (n : Bool) (q : Question) (text : List ℕ) (p : Problem) (is_problem :
   by_game : (g : Graph) → IsGraphOf g p → IsGraph g → IsHeld g → (HasLargeClosure p.formula → ⊥)
       → ((a : Arena) × (IsArenaOf g a × (length a.positions ≤ q.limit))) ⊎ HasMoreThan g q.limit
       → Answer n q text
-  by_game g is_graph ok held fits (inr more) =
-      (Undecided, (undecided_document p (Positions q.limit), open_in q text p is_problem (undecided_document p (Positions q.limit)) n
-      (left_open q text p is_problem (undecided_document p (Positions q.limit)) (Positions q.limit)
-      (refl, fits, record { graph = g; is_graph = is_graph; has_more = more }) refl)))
+  by_game g is_graph ok held fits (inr more) = (
+    Undecided,
+    (
+      undecided_document p (Positions q.limit),
+      open_in q text p is_problem (undecided_document p (Positions q.limit)) n
+          (left_open q text p is_problem (undecided_document p (Positions q.limit)) (Positions q.limit)
+          (refl, fits, record { graph = g; is_graph = is_graph; has_more = more }) refl),
+    ),
+  )
   by_game g is_graph ok held fits (inl (a, rest)) =
       let keeps = keeps_limit p g q.limit is_graph (few_positions g a q.limit rest.0 rest.1) in
       let s = some_solution (game_of a) (is_game g a rest.0) in
@@ -127,9 +137,14 @@ module _ (n : Bool) (q : Question) (text : List ℕ) (p : Problem) (is_problem :
   of_problem = by_closure (large_or_not p.formula)
     where
       by_closure : Decided (HasLargeClosure p.formula) → Answer n q text
-      by_closure (inl large) =
-          (Undecided, (undecided_document p Closure, open_in q text p is_problem (undecided_document p Closure) n
-          (left_open q text p is_problem (undecided_document p Closure) Closure large refl)))
+      by_closure (inl large) = (
+        Undecided,
+        (
+          undecided_document p Closure,
+          open_in q text p is_problem (undecided_document p Closure) n
+              (left_open q text p is_problem (undecided_document p Closure) Closure large refl),
+        ),
+      )
       by_closure (inr fits) =
           let made = held_graph p.formula p.negated (well_formed text p.formula is_problem.is_parsed) in
           let ok = graph_is made.0 p.negated p.formula made.1.0 in
@@ -154,16 +169,15 @@ too_long true q text long = (Text, (refused_length, inl (long, refl)))
 pub some_answer : (q : Question) (text : List ℕ) → q.limit < 2 ^ 32 → Answer q.negated q text
 some_answer q text small =
     ⊎_elim (λ (long : longest_text < length text). too_long q.negated q text long)
-    (λ (short : length text ≤ longest_text). parsed short (parsed_or_refused q.logic text))
+    (λ (short : length text ≤ longest_text). parsed short (texts.some_answer q.logic text))
     (cases_lt longest_text (length text))
   where
     parsed : length text ≤ longest_text
-        → ((f : AnyFormula) × ((logic_of f ≡ q.logic) × IsParsedAs text f))
-        ⊎ ((e : ParseRefusal) × ((e ≡ refusal.NoMemory → ⊥) × IsRefusedBy q.logic text e))
+        → IsFormulaOf q.logic text ⊎ ((e : ParseRefusal) × (e ≡ refusal.NoMemory → ⊥) × IsRefusedBy q.logic text e)
         → Answer q.negated q text
-    parsed short (inl (f, rest)) =
+    parsed short (inl (f, of_logic, is_parsed)) =
         of_problem q.negated q text (record { formula = f; negated = q.negated })
-        (record { is_short = short; of_logic = rest.0; in_sense = refl; is_parsed = rest.1 }) small
-    parsed short (inr (e, rest)) =
-        let line = told e rest.0 in
-        (Text, (line.0, refused_answered q.negated q text line.0 e short rest.1 line.1))
+        (record { is_short = short; of_logic = of_logic; in_sense = refl; is_parsed = is_parsed }) small
+    parsed short (inr (e, other, is_refused)) =
+        let line = told e other in
+        (Text, (line.0, refused_answered q.negated q text line.0 e short is_refused line.1))

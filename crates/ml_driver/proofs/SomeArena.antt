@@ -9,7 +9,7 @@
 --   played_by      == owners and moves of positions
 --   arena_of       == the arena of a list that is closed
 --   some_arena     == the theorem
-use Rattle.std.proofs.Common.{◌≡◌, ℕ, zero, suc, ◌+◌, ◌<◌, ◌≤◌, ◌⊎◌, List, [], ◌∷◌, length, get_or, slice_get, Some, inl, inr, ⊎_elim, refl, sym, ap, ◌∙◌, subst, arith}
+use Rattle.std.proofs.Common.{◌≡◌, ℕ, zero, suc, ◌+◌, ◌<◌, ◌≤◌, ◌⊎◌, List, [], ◌∷◌, length, get_or, slice_get, Some, inl, inr, ⊎_elim, refl, sym, ap, subst, arith}
 use Rattle.std.proofs.lemmas.Bool.{cases_lt}
 use Rattle.ml_lists.specs.Member.{IsMember}
 use Rattle.ml_lists.proofs.Decided.{Decided, decided_same, decided_both, decided_list, decided_number, decided_test}
@@ -54,9 +54,13 @@ same_position p q =
     there e = λ i. record { sequent = e.0 i; history = e.1.0 i; priority = e.1.1.0 i; choice = e.1.1.1 i }
 
     back : p ≡ q → Parts p q
-    back e =
-        (ap (λ (x : Position). x.sequent) e, (ap (λ (x : Position). x.history) e,
-        (ap (λ (x : Position). x.priority) e, ap (λ (x : Position). x.choice) e)))
+    back e = (
+      ap (λ (x : Position). x.sequent) e,
+      (
+        ap (λ (x : Position). x.history) e,
+        (ap (λ (x : Position). x.priority) e, ap (λ (x : Position). x.choice) e),
+      ),
+    )
 
 module _ (g : Graph) (ok : IsGraph g) where
   turn_of : (p : Position) → IsReached g p → Turn g p

@@ -2,8 +2,8 @@
 --
 --   on_document, on_refutation, to_migrate == by what checking or reading the document finds
 --   some_due          == some status is due, with some output
-use Rattle.std.proofs.Common.{◌≡◌, ◌≢◌, ℕ, ◌<◌, ◌≤◌, ◌⊎◌, Bool, true, false, List, [], length, Option, Some, None, inl, inr, refl, sym, ◌∙◌, ap, ⊎_elim, arith}
-use Rattle.std.proofs.lemmas.Bool.{cases_lt, false≢true}
+use Rattle.std.proofs.Common.{ℕ, ◌<◌, ◌≤◌, ◌⊎◌, List, length, Option, Some, None, refl, ⊎_elim}
+use Rattle.std.proofs.lemmas.Bool.{cases_lt}
 use Rattle.ml_base.specs.declared.doc_fault.DocFault.{DocFault}
 use Rattle.ml_model_check.specs.Checked.{Shows, ShowsNot, IsDocumentFault}
 use Rattle.ml_model_check.proofs.OneCheck.{shows_or_fault}

@@ -4,7 +4,7 @@
 --   any_cause   == whether a spread clashes is decided
 --   follow      == the step along a diamond leads to some position
 --   some_turn   == a position has a turn
-use Rattle.std.proofs.Common.{◌≡◌, ℕ, ◌%◌, ◌==◌, ◌<◌, ◌⊎◌, List, [], ◌∷◌, ◌++◌, All, filter, length, map, inl, inr, refl, sym, ap, subst, arith}
+use Rattle.std.proofs.Common.{◌≡◌, ℕ, ◌%◌, ◌==◌, ◌<◌, ◌⊎◌, List, [], ◌∷◌, filter, length, map, inl, inr, refl, sym, subst, arith}
 use Rattle.std.specs.List.{flat_map}
 use Rattle.ml_lists.specs.Member.{IsMember}
 use Rattle.ml_lists.specs.Search.{First}
@@ -12,11 +12,10 @@ use Rattle.ml_lists.proofs.Ascending.{ascending-is}
 use Rattle.ml_lists.proofs.Decided.{Decided, decided_same, decided_either}
 use Rattle.ml_lists.proofs.Member.{member-All, member-map, member-flat_map, member-filter_from, place-member}
 use Rattle.ml_lists.proofs.Search.{search_first}
-use Rattle.ml_graph.specs.Graph.{Graph, IsGraph, size, node_at, odd_priorities, priority_at}
+use Rattle.ml_graph.specs.Graph.{Graph, IsGraph, size, node_at, odd_priorities}
 use Rattle.ml_graph.specs.declared.node.Node.TheVariants as node
 use Rattle.ml_graph.proofs.References.{diamond_target, square_target}
 use Rattle.ml_history.specs.HistoryStep.{stepped, step_mark}
-use Rattle.ml_trace.specs.declared.letters.Transition.{Transition}
 use Rattle.ml_trace.specs.declared.letters.Triple.{Triple}
 use Rattle.ml_trace.specs.Marks.{priority}
 use Rattle.ml_trace.specs.private.LetterMoves.{moves_of}

@@ -3,9 +3,8 @@ ghost use Rattle.std.specs.Prelude.{◌≡◌, ◌+◌, ◌^◌};
 ghost use Rattle.ml_driver.specs.declared.command.TheConstants.{LONGEST_TEXT, LONGEST_DOCUMENT};
 ghost use Rattle.ml_driver.specs.Laws.{AnswersAreExact, DecidedAreChecked, OneDue, RefutedAreAccepted, SomeDue, SomeGame};
 
-/// For each command, for words that are none, and for each input exactly one status is due: one at most, and some with some
-/// output. So where `run` answers a status, no other one is due, and where it answers none but want of memory or a fault,
-/// one was due.
+/// For each command, for words that are none, and for each input exactly one status is due: some status with some output, and
+/// no other status. Of the limit of a command only this is asked, that it fits 32 bits, as that of each `Command` does.
 pub fn one_due()
     ensures some { SomeDue }
     ensures one { OneDue }

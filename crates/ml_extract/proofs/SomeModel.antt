@@ -9,7 +9,7 @@
 --   some_parts     == their labels and edges
 --   some_structure == a structure that is built of these
 --   some_model     == the theorem
-use Rattle.std.proofs.Common.{◌≡◌, ◌↔◌, ℕ, zero, suc, ◌+◌, ◌<◌, ◌≤◌, ◌⊎◌, nat_eq, List, [], ◌∷◌, ◌++◌, length, get_or, map, slice_get, Option, Some, None, Contains, Ordering, inl, inr, ⊎_elim, refl, sym, ap, ◌∙◌, subst, arith, length-append}
+use Rattle.std.proofs.Common.{◌≡◌, ◌↔◌, ℕ, zero, suc, ◌+◌, ◌<◌, ◌≤◌, ◌⊎◌, nat_eq, List, [], ◌∷◌, ◌++◌, length, get_or, map, slice_get, Option, Some, None, Contains, Ordering, ⊎_elim, refl, sym, ap, ◌∙◌, subst, arith, length-append}
 use Rattle.std.specs.List.{range_with_len}
 use Rattle.std.specs.Ordering.{nat_cmp, ordering_then}
 use Rattle.std.specs.Cmp.{IsTotalOrder}
@@ -26,7 +26,6 @@ use Rattle.ml_kripke.specs.Ordered.{IsOrdered, IsBuiltFrom, labels_at, first_bad
 use Rattle.ml_kripke.proofs.Build as build
 use Rattle.ml_kripke.proofs.OneStructure.{edge_order}
 use Rattle.ml_kripke.proofs.RowOrder.{label_cmp}
-use Rattle.ml_lists.specs.Member.{IsMember}
 use Rattle.ml_lists.proofs.Members.{member_of_contains, contains_of_member}
 use Rattle.ml_graph.specs.Graph.{Graph, size}
 use Rattle.ml_parity.specs.declared.players.Player.{Player}
@@ -38,7 +37,7 @@ use Rattle.ml_product.specs.Position.{Position}
 use Rattle.ml_product.proofs.ArenaGame.{here}
 use Rattle.ml_product.proofs.ReachedChoices.{chosen_few}
 use Rattle.indexmap.specs.IndexSet.{insert_all}
-use Rattle.ml_extract.specs.Extraction.{EvenWins, SomeModel}
+use Rattle.ml_extract.specs.Extraction.{SomeModel}
 use Rattle.ml_extract.specs.Model.{Chooses, IsModelOf, State, nexts}
 use Rattle.ml_extract.specs.private.Gathered.{AreGathered, edge_to, labelled, names_in}
 use Rattle.ml_extract.specs.private.Numbered.{AreNumbered, IsUnderWay}
@@ -153,10 +152,10 @@ module _ (g : Graph) (a : Arena) (s : GameSolution) (fs ls : List ℕ) (n : AreN
             (
               rest.0 ++ map (edge_to g fs k) (nexts g a x),
               subst (λ i. AreGathered g a n.states i (labels ++ labelled k (names_in g x.spread))
-              (rest.0 ++ map (edge_to g fs k) (nexts g a x))) e
-              (one_more g a s fs ls n k x (slice_get-get_or n.states k nowhere (omega arith)) labels
-              (labels ++ labelled k (names_in g x.spread)) rest.0 (rest.0 ++ map (edge_to g fs k) (nexts g a x))
-              rest.1 refl refl),
+                  (rest.0 ++ map (edge_to g fs k) (nexts g a x))) e
+                  (one_more g a s fs ls n k x (slice_get-get_or n.states k nowhere (omega arith)) labels
+                  (labels ++ labelled k (names_in g x.spread)) rest.0 (rest.0 ++ map (edge_to g fs k) (nexts g a x))
+                  rest.1 refl refl),
             ),
           )
 

@@ -5,7 +5,7 @@
 --   High k n m        == a local walk leads from n to m through nodes of priority k or more
 --   decided_high      == whether one does is decided
 --   decided_odd_cycle == so is whether a node is on an odd cycle
-use Rattle.std.proofs.Common.{◌≡◌, ℕ, zero, suc, ◌<◌, ◌≤◌, ◌%◌, ◌⊎◌, min, List, inl, inr, subst, arith}
+use Rattle.std.proofs.Common.{ℕ, zero, suc, ◌<◌, ◌≤◌, ◌%◌, ◌⊎◌, min, List, inl, inr, subst, arith}
 use Rattle.std.proofs.lemmas.Bool.{cases_lt}
 use Rattle.ml_lists.specs.Member.{IsMember}
 use Rattle.ml_lists.specs.Reach.{Reaches}

@@ -5,7 +5,7 @@
 --
 --   some_column  == for one priority at which there is no loop
 --   some_longest == for all even ones
-use Rattle.std.proofs.Common.{ℕ, zero, suc, ◌≡◌, ◌+◌, ◌*◌, ◌/◌, ◌%◌, ◌<◌, ◌≤◌, ◌⊎◌, inl, inr, List, [], ◌∷◌, length, get_or, set, map, replicate, Contains, refl, sym, ap, ◌∙◌, subst, arith}
+use Rattle.std.proofs.Common.{ℕ, zero, suc, ◌≡◌, ◌+◌, ◌*◌, ◌/◌, ◌<◌, ◌≤◌, ◌⊎◌, inl, inr, List, [], ◌∷◌, length, get_or, set, map, replicate, Contains, refl, sym, ap, ◌∙◌, subst, arith}
 use Rattle.std.specs.List.{range_with_len}
 use Rattle.std.proofs.lemmas.Bool.{cases_lt}
 use Rattle.std.proofs.lemmas.List.{get_or_default, length-replicate}
@@ -14,7 +14,7 @@ use Rattle.ml_lists.specs.Search.{Found}
 use Rattle.ml_lists.proofs.Search.{search}
 use Rattle.ml_parity.specs.declared.one_sided.graph.Arc.{Arc}
 use Rattle.ml_parity.specs.Heights.{OneSidedGraph, IsOneSided, EvenCycleIn, AreLongest, IsMost, Attained, count_at}
-use Rattle.ml_parity.specs.private.HeightSteps.{SettledAlong, LoopAt, AreAttained, AreLongestBelow, IsColumn, number_at, room}
+use Rattle.ml_parity.specs.private.HeightSteps.{SettledAlong, LoopAt, AreAttained, IsColumn, number_at, room}
 use Rattle.ml_parity.proofs.HeightRaises.{arc_ends, attained_set, too_high, room_falls, column_of}
 use Rattle.ml_parity.proofs.HeightTables.{longest_done}
 use Rattle.ml_parity.proofs.HeightWalks.{attained_none, even_cycle_of}
@@ -100,7 +100,6 @@ module _ (g : OneSidedGraph) (one : IsOneSided g) where
         of_search (inr settled) =
             inr (column_of g p xs at (λ k d low.
             subst (SettledAlong p (number_at xs)) (get_or_default g.arcs k no_arc d low) (settled k low)))
-
 
     climb : (fuel : ℕ) (xs : List ℕ) → AreAttained g p xs → room g.size xs ≤ fuel → Column g p
     climb zero xs at few = of_step (raised_or_column xs at)

@@ -4,21 +4,19 @@
 --   Deciding, some_decision == there is a decision at each vertex that Odd wins
 --   Looked, some_entries  == the entries that are found from the start, each with its decision
 --   some_names            == there is a greatest number of names in use
-use Rattle.std.proofs.Common.{ℕ, zero, suc, ◌≡◌, ◌+◌, ◌-◌, ◌<◌, ◌≤◌, ◌⊎◌, inl, inr, max, Bool, true, false, List, [], ◌∷◌, ◌++◌, Some, length, get_or, slice_get, nat_eq, refl, sym, ap, ◌∙◌, subst, arith, add-one, length-append}
+use Rattle.std.proofs.Common.{ℕ, zero, suc, ◌≡◌, ◌+◌, ◌-◌, ◌<◌, ◌≤◌, ◌⊎◌, inl, inr, max, true, false, List, [], ◌∷◌, ◌++◌, Some, length, get_or, slice_get, nat_eq, refl, sym, ap, ◌∙◌, subst, arith, add-one, length-append}
 use Rattle.std.specs.List.{list_any}
 use Rattle.std.proofs.lemmas.Bool.{cases_Bool, cases_lt, cond-true, cond-false}
 use Rattle.std.proofs.lemmas.Bool.Decides.{nat_tests}
-use Rattle.std.proofs.lemmas.List.{get_or_append_left}
 use Rattle.std.proofs.lemmas.Option.{slice_get-get_or}
 use Rattle.indexmap.specs.IndexSet.{insert_key}
 use Rattle.ml_lists.specs.Member.{IsMember}
 use Rattle.ml_lists.proofs.Member.{Place, member-place, member-append_right, Passing, list_any-member}
 use Rattle.ml_graph.specs.Graph.{Graph, IsGraph}
 use Rattle.ml_history.specs.HistoryStep.{live}
-use Rattle.ml_parity.specs.declared.players.Player.TheVariants.{Even}
 use Rattle.ml_parity.specs.Solution.{GameSolution, choice_at}
-use Rattle.ml_product.specs.Arena.{Arena, IsPlayed}
-use Rattle.ml_product.specs.DecisionGame.{Verdict, Clashing, Open, Leading, Settled, Turn, IsResolved, IsVerdictOf, diamonds_of}
+use Rattle.ml_product.specs.Arena.{Arena}
+use Rattle.ml_product.specs.DecisionGame.{Verdict, Clashing, Open, Leading, Settled, Turn, IsResolved, IsVerdictOf}
 use Rattle.ml_refutation.specs.Refutation.{Decision, Split, Clash, Go}
 use Rattle.ml_refute.specs.private.Found.{OddWins, IsWon, AreNumbered, IsNumberOf, IsDecided, AreLooked, position_at}
 use Rattle.ml_refute.specs.private.PutTogether.{IsMostBelow, IsNamesOf}
@@ -209,7 +207,7 @@ module _ (g : Graph) (ok : IsGraph g) (a : Arena) (s : GameSolution) (odd : OddW
         one_more : Most k → Most (suc k)
         one_more m = record {
           number = max m.number (live_of k);
-          is = subst (λ i. IsMostBelow g a vs i (max m.number (live_of k))) (sym (add-one k))
+          is = subst (λ i. IsMostBelow g a vs i (max m.number (live_of k))) (add-one k)
               (most_more g a s vs numbered k m.number (max m.number (live_of k)) (live_of k) (omega (arith, low)) m.is
               refl refl);
         }

@@ -3,8 +3,7 @@
 --   first_pair       == a list has a first node with a partner, or none of its nodes has one
 --   first_cycle      == a spread has a first node on an odd cycle, or none
 --   SomeFirst, some_first_cause == where there is a cause, there is a first one
-use Rattle.std.proofs.Common.{◌≡◌, ℕ, ◌<◌, ◌≤◌, ◌⊎◌, true, false, List, Option, None, Some, find, is_some, inl, inr, refl, sym, ap, ◌∙◌, arith}
-use Rattle.std.proofs.lemmas.Bool.{cases_lt}
+use Rattle.std.proofs.Common.{◌≡◌, ℕ, ◌<◌, ◌⊎◌, true, false, List, Option, None, Some, find, is_some, inl, inr, refl}
 use Rattle.ml_lists.specs.Ascending.{IsAscending}
 use Rattle.ml_lists.specs.Member.{IsMember}
 use Rattle.ml_lists.specs.Search.{First}

@@ -1,7 +1,6 @@
 -- Where Odd wins, there is a refutation.
 --
 --   some_refutation == a solution of the game of a graph that Odd wins makes a refutation
-use Rattle.std.proofs.Common.{◌≡◌}
 use Rattle.ml_graph.specs.Graph.{Graph, IsGraph}
 use Rattle.ml_parity.specs.Solution.{GameSolution}
 use Rattle.ml_product.specs.Arena.{Arena}

@@ -1,0 +1,139 @@
+-- A graph of a formula of the mu-calculus with names and priorities that a program holds.
+--
+--   mu_held == a well-formed formula has such a graph in each sense
+use Rattle.std.proofs.Common.{◌≡◌, ℕ, ◌+◌, ◌*◌, ◌≤◌, not, Bool, true, if◌then◌else◌, List, [], ◌∷◌, ◌++◌, length, refl, arith}
+use Rattle.std.specs.Cmp.{first_so, second_so}
+use Rattle.ml_base.specs.Name.{IsName, IsAction}
+use Rattle.ml_graph.specs.Graph.{Graph}
+use Rattle.ml_text.specs.declared.token.Operator.{Operator}
+use Rattle.ml_text.specs.declared.token.Operator.TheVariants as operator
+use Rattle.ml_mu.specs.Formula.{Formula, Const, Prop, Var, Not, Binary, Modal, Binder, Fixpoint, Least, Greatest, occurrences}
+use Rattle.ml_mu.specs.Spelling.{HasShortNames, is_action, is_reserved, is_spelled, is_variable}
+use Rattle.ml_mu.specs.WellFormed.{IsWellFormed}
+use Rattle.ml_mu.proofs.Names.{lower_name, upper_name}
+use Rattle.ml_mu_graph.specs.MuGraph.{IsGraphOf, binder_priority, binders, opposite}
+use Rattle.ml_mu_graph.specs.private.NodeList.{actions_onto, nodes_of, operator_priorities, priorities_of, props_onto, with_name}
+use Rattle.ml_mu_graph.specs.private.Views.{none_around}
+use Rattle.ml_mu_graph.proofs.InRange.{lists_make_graph}
+use Rattle.ml_mu_graph.proofs.Made.{graph_made}
+use Rattle.ml_refutation.specs.Refutation.{Fits}
+use Rattle.ml_driver.proofs.HeldNames.{Every, IsHeld, action_named, every_append, every_cons, with_named}
+
+-- ---- names
+
+props_named : (f : Formula) → is_spelled f ≡ true → HasShortNames f → (ps : List (List ℕ)) → Every IsName ps
+    → Every IsName (props_onto f ps)
+props_named (Const b) spelled short ps all = all
+props_named (Prop p) spelled short ps all = with_named IsName ps p (lower_name p spelled short) all
+props_named (Var x) spelled short ps all = all
+props_named (Not f) spelled short ps all = props_named f spelled short ps all
+props_named (Binary op f h) spelled short ps all =
+    props_named h (second_so (is_spelled f) (is_spelled h) spelled) short.1 (props_onto f ps)
+    (props_named f (first_so (is_spelled f) (is_spelled h) spelled) short.0 ps all)
+props_named (Modal m a f) spelled short ps all =
+    props_named f (second_so (is_action a) (is_spelled f) spelled) short.1 ps all
+props_named (Binder q x f) spelled short ps all =
+    props_named f (second_so (is_variable x) (is_spelled f) spelled) short.1 ps all
+
+mu_action : (a : List ℕ) → is_action a ≡ true → length a ≤ 64 → IsAction a
+mu_action [] spelled short = absurd (cc)
+mu_action (b ∷ bs) spelled short =
+    action_named (λ w. not (is_reserved w)) (λ c cs. lower_name (c ∷ cs)) (λ c cs. upper_name (c ∷ cs)) (b ∷ bs) spelled short
+
+actions_named : (f : Formula) → is_spelled f ≡ true → HasShortNames f → (acts : List (List ℕ)) → Every IsAction acts
+    → Every IsAction (actions_onto f acts)
+actions_named (Const b) spelled short acts all = all
+actions_named (Prop p) spelled short acts all = all
+actions_named (Var x) spelled short acts all = all
+actions_named (Not f) spelled short acts all = actions_named f spelled short acts all
+actions_named (Binary op f h) spelled short acts all =
+    actions_named h (second_so (is_spelled f) (is_spelled h) spelled) short.1 (actions_onto f acts)
+    (actions_named f (first_so (is_spelled f) (is_spelled h) spelled) short.0 acts all)
+actions_named (Modal m a f) spelled short acts all =
+    actions_named f (second_so (is_action a) (is_spelled f) spelled) short.1 (with_name acts a)
+    (with_named IsAction acts a (mu_action a (first_so (is_action a) (is_spelled f) spelled) short.0) all)
+actions_named (Binder q x f) spelled short acts all =
+    actions_named f (second_so (is_variable x) (is_spelled f) spelled) short.1 acts all
+
+-- ---- priorities
+
+few_binders : (f : Formula) → binders f ≤ occurrences f
+few_binders (Const b) = omega arith
+few_binders (Prop p) = omega arith
+few_binders (Var x) = omega arith
+few_binders (Not f) = omega (arith, few_binders f)
+few_binders (Binary op f h) = omega (arith, few_binders f, few_binders h)
+few_binders (Modal m a f) = omega (arith, few_binders f)
+few_binders (Binder q x f) = omega (arith, few_binders f)
+
+module _ (k top : ℕ) (low : k ≤ top) where
+  abbrev AtMost : List ℕ → Type 0
+  AtMost xs = Every (λ n. n ≤ top) xs
+
+  none : AtMost []
+  none x m = absurd m
+
+  two : (x y : ℕ) (xs : List ℕ) → x ≤ top → y ≤ top → AtMost xs → AtMost (x ∷ y ∷ xs)
+  two x y xs p q rest = every_cons (λ n. n ≤ top) x (y ∷ xs) p (every_cons (λ n. n ≤ top) y xs q rest)
+
+  of_operator : (op : Operator) → AtMost (operator_priorities op k)
+  of_operator operator.And = two k k [] low low none
+  of_operator operator.Or = two k k [] low low none
+  of_operator operator.Implies = two k k [] low low none
+  of_operator operator.Iff =
+      two k k (k ∷ k ∷ k ∷ k ∷ []) low low (two k k (k ∷ k ∷ []) low low (two k k [] low low none))
+
+  of_binder : (q : Fixpoint) (d : ℕ) → 2 * d + 1 ≤ top → binder_priority q d ≤ top
+  of_binder Least d fits = fits
+  of_binder Greatest d fits = omega (arith, fits)
+
+  low_priorities : (f : Formula) (d : ℕ) → 2 * (d + binders f) + 1 ≤ top → AtMost (priorities_of k d f)
+  low_priorities (Const b) d fits = two k k [] low low none
+  low_priorities (Prop p) d fits = two k k [] low low none
+  low_priorities (Var x) d fits = two k k [] low low none
+  low_priorities (Not f) d fits = two k k (priorities_of k d f) low low (low_priorities f d fits)
+  low_priorities (Binary op f h) d fits =
+      every_append (λ n. n ≤ top) (operator_priorities op k) (priorities_of k d f ++ priorities_of k d h) (of_operator op)
+      (every_append (λ n. n ≤ top) (priorities_of k d f) (priorities_of k d h)
+      (low_priorities f d (omega (arith, fits)))
+      (low_priorities h d (omega (arith, fits))))
+  low_priorities (Modal m a f) d fits = two k k (priorities_of k d f) low low (low_priorities f d fits)
+  low_priorities (Binder q x f) d fits =
+      two (binder_priority q d) (binder_priority (opposite q) d) (priorities_of k (d + 1) f)
+      (of_binder q d (omega (arith, fits))) (of_binder (opposite q) d (omega (arith, fits)))
+      (low_priorities f (d + 1) (omega (arith, fits)))
+
+-- ---- the graph
+
+abbrev graph_of : Formula → Bool → Graph
+graph_of f negated = record {
+  nodes = nodes_of (props_onto f []) (actions_onto f []) none_around 0 f;
+  priorities = priorities_of (2 * binders f) 0 f;
+  root = if negated then 1 else 0;
+  props = props_onto f [];
+  actions = actions_onto f [];
+}
+
+is_graph : (f : Formula) (negated : Bool) → IsGraphOf (graph_of f negated) f negated
+is_graph f negated =
+    graph_made (graph_of f negated) f negated
+    (lists_make_graph (graph_of f negated) f negated refl refl refl refl refl)
+    refl refl refl refl refl
+
+pub mu_held : (f : Formula) (negated : Bool) → IsWellFormed f → (g : Graph) × (IsGraphOf g f negated × IsHeld g)
+mu_held f negated well = (
+  graph_of f negated,
+  (
+    is_graph f negated,
+    record {
+      props = props_named f well.names_are_spelled well.names_are_short [] (λ x m. absurd m);
+      actions = actions_named f well.names_are_spelled well.names_are_short [] (λ x m. absurd m);
+      priorities = fits;
+    },
+  ),
+)
+  where
+    fits : Every Fits (priorities_of (2 * binders f) 0 f)
+    fits x m =
+        let low = low_priorities (2 * binders f) (2 * binders f + 1) (omega arith) f 0 (omega arith) x m in
+        omega (arith, low, few_binders f, well.is_small)

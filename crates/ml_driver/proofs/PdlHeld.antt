@@ -1,0 +1,157 @@
+-- A graph of a formula of PDL with names and priorities that a program holds.
+--
+--   pdl_held == a well-formed formula has such a graph in each sense
+use Rattle.std.proofs.Common.{◌≡◌, ℕ, ◌≤◌, not, Bool, true, if◌then◌else◌, List, [], ◌∷◌, ◌++◌, length, refl, arith}
+use Rattle.std.specs.Cmp.{first_so, second_so}
+use Rattle.ml_base.specs.Name.{IsName, IsAction}
+use Rattle.ml_graph.specs.Graph.{Graph}
+use Rattle.ml_text.specs.declared.token.Operator.{Operator}
+use Rattle.ml_text.specs.declared.token.Operator.TheVariants as operator
+use Rattle.ml_pdl.specs.Formula.{Formula, Const, Prop, Not, Binary, Modal, Repeat, Program, Act, Seq, Alt, Star, Test}
+use Rattle.ml_pdl.specs.Spelling.{HasShortNames, ProgramHasShortNames, is_action, is_reserved, is_spelled, program_is_spelled}
+use Rattle.ml_pdl.specs.WellFormed.{IsWellFormed}
+use Rattle.ml_pdl.proofs.Names.{lower_name, upper_name}
+use Rattle.ml_pdl_graph.specs.PdlGraph.{IsGraphOf, plain}
+use Rattle.ml_pdl_graph.specs.private.NodeList.{actions_onto, nodes_of, operator_priorities, priorities_of, program_actions_onto, program_priorities, program_props_onto, props_onto}
+use Rattle.ml_pdl_graph.proofs.InRange.{lists_make_graph}
+use Rattle.ml_pdl_graph.proofs.Made.{graph_made}
+use Rattle.ml_refutation.specs.Refutation.{Fits}
+use Rattle.ml_driver.proofs.HeldNames.{Every, IsHeld, action_named, every_append, every_cons, with_named}
+
+-- ---- names
+
+mutual
+  props_named : (f : Formula) → is_spelled f ≡ true → HasShortNames f → (ps : List (List ℕ)) → Every IsName ps
+      → Every IsName (props_onto f ps)
+  props_named (Const b) spelled short ps all = all
+  props_named (Prop p) spelled short ps all = with_named IsName ps p (lower_name p spelled short) all
+  props_named (Not f) spelled short ps all = props_named f spelled short ps all
+  props_named (Binary op f h) spelled short ps all =
+      props_named h (second_so (is_spelled f) (is_spelled h) spelled) short.1 (props_onto f ps)
+      (props_named f (first_so (is_spelled f) (is_spelled h) spelled) short.0 ps all)
+  props_named (Modal m p f) spelled short ps all =
+      props_named f (second_so (program_is_spelled p) (is_spelled f) spelled) short.1 (program_props_onto p ps)
+      (program_props_named p (first_so (program_is_spelled p) (is_spelled f) spelled) short.0 ps all)
+  props_named (Repeat p) spelled short ps all = program_props_named p spelled short ps all
+
+  program_props_named : (p : Program) → program_is_spelled p ≡ true → ProgramHasShortNames p → (ps : List (List ℕ))
+      → Every IsName ps
+      → Every IsName (program_props_onto p ps)
+  program_props_named (Act a) spelled short ps all = all
+  program_props_named (Seq p q) spelled short ps all =
+      program_props_named q (second_so (program_is_spelled p) (program_is_spelled q) spelled) short.1
+      (program_props_onto p ps)
+      (program_props_named p (first_so (program_is_spelled p) (program_is_spelled q) spelled) short.0 ps all)
+  program_props_named (Alt p q) spelled short ps all =
+      program_props_named q (second_so (program_is_spelled p) (program_is_spelled q) spelled) short.1
+      (program_props_onto p ps)
+      (program_props_named p (first_so (program_is_spelled p) (program_is_spelled q) spelled) short.0 ps all)
+  program_props_named (Star p) spelled short ps all = program_props_named p spelled short ps all
+  program_props_named (Test f) spelled short ps all = props_named f spelled short ps all
+
+pdl_action : (a : List ℕ) → is_action a ≡ true → length a ≤ 64 → IsAction a
+pdl_action [] spelled short = absurd (cc)
+pdl_action (b ∷ bs) spelled short =
+    action_named (λ w. not (is_reserved w)) (λ c cs. lower_name (c ∷ cs)) (λ c cs. upper_name (c ∷ cs)) (b ∷ bs) spelled short
+
+mutual
+  actions_named : (f : Formula) → is_spelled f ≡ true → HasShortNames f → (acts : List (List ℕ)) → Every IsAction acts
+      → Every IsAction (actions_onto f acts)
+  actions_named (Const b) spelled short acts all = all
+  actions_named (Prop p) spelled short acts all = all
+  actions_named (Not f) spelled short acts all = actions_named f spelled short acts all
+  actions_named (Binary op f h) spelled short acts all =
+      actions_named h (second_so (is_spelled f) (is_spelled h) spelled) short.1 (actions_onto f acts)
+      (actions_named f (first_so (is_spelled f) (is_spelled h) spelled) short.0 acts all)
+  actions_named (Modal m p f) spelled short acts all =
+      actions_named f (second_so (program_is_spelled p) (is_spelled f) spelled) short.1 (program_actions_onto p acts)
+      (program_actions_named p (first_so (program_is_spelled p) (is_spelled f) spelled) short.0 acts all)
+  actions_named (Repeat p) spelled short acts all = program_actions_named p spelled short acts all
+
+  program_actions_named : (p : Program) → program_is_spelled p ≡ true → ProgramHasShortNames p → (acts : List (List ℕ))
+      → Every IsAction acts
+      → Every IsAction (program_actions_onto p acts)
+  program_actions_named (Act a) spelled short acts all = with_named IsAction acts a (pdl_action a spelled short) all
+  program_actions_named (Seq p q) spelled short acts all =
+      program_actions_named q (second_so (program_is_spelled p) (program_is_spelled q) spelled) short.1
+      (program_actions_onto p acts)
+      (program_actions_named p (first_so (program_is_spelled p) (program_is_spelled q) spelled) short.0 acts all)
+  program_actions_named (Alt p q) spelled short acts all =
+      program_actions_named q (second_so (program_is_spelled p) (program_is_spelled q) spelled) short.1
+      (program_actions_onto p acts)
+      (program_actions_named p (first_so (program_is_spelled p) (program_is_spelled q) spelled) short.0 acts all)
+  program_actions_named (Star p) spelled short acts all = program_actions_named p spelled short acts all
+  program_actions_named (Test f) spelled short acts all = actions_named f spelled short acts all
+
+-- ---- priorities
+
+none : Every Fits []
+none x m = absurd m
+
+two : (x y : ℕ) (xs : List ℕ) → x ≤ 4 → y ≤ 4 → Every Fits xs → Every Fits (x ∷ y ∷ xs)
+two x y xs p q rest =
+    every_cons Fits x (y ∷ xs) (omega (arith, p)) (every_cons Fits y xs (omega (arith, q)) rest)
+
+plain_two : (xs : List ℕ) → Every Fits xs → Every Fits (plain ∷ plain ∷ xs)
+plain_two xs rest = two plain plain xs (omega arith) (omega arith) rest
+
+of_operator : (op : Operator) → Every Fits (operator_priorities op)
+of_operator operator.And = plain_two [] none
+of_operator operator.Or = plain_two [] none
+of_operator operator.Implies = plain_two [] none
+of_operator operator.Iff =
+    plain_two (plain ∷ plain ∷ plain ∷ plain ∷ []) (plain_two (plain ∷ plain ∷ []) (plain_two [] none))
+
+mutual
+  low_priorities : (f : Formula) → Every Fits (priorities_of f)
+  low_priorities (Const b) = plain_two [] none
+  low_priorities (Prop p) = plain_two [] none
+  low_priorities (Not f) = plain_two (priorities_of f) (low_priorities f)
+  low_priorities (Binary op f h) =
+      every_append Fits (operator_priorities op) (priorities_of f ++ priorities_of h) (of_operator op)
+      (every_append Fits (priorities_of f) (priorities_of h) (low_priorities f) (low_priorities h))
+  low_priorities (Modal m p f) =
+      plain_two (program_priorities p ++ priorities_of f)
+      (every_append Fits (program_priorities p) (priorities_of f) (low_program p) (low_priorities f))
+  low_priorities (Repeat p) = two 0 1 (program_priorities p) (omega arith) (omega arith) (low_program p)
+
+  low_program : (p : Program) → Every Fits (program_priorities p)
+  low_program (Act a) = plain_two [] none
+  low_program (Seq p q) =
+      plain_two (program_priorities p ++ program_priorities q)
+      (every_append Fits (program_priorities p) (program_priorities q) (low_program p) (low_program q))
+  low_program (Alt p q) =
+      plain_two (program_priorities p ++ program_priorities q)
+      (every_append Fits (program_priorities p) (program_priorities q) (low_program p) (low_program q))
+  low_program (Star p) = two 3 2 (program_priorities p) (omega arith) (omega arith) (low_program p)
+  low_program (Test f) = plain_two (priorities_of f) (low_priorities f)
+
+-- ---- the graph
+
+abbrev graph_of : Formula → Bool → Graph
+graph_of f negated = record {
+  nodes = nodes_of (props_onto f []) (actions_onto f []) 0 f;
+  priorities = priorities_of f;
+  root = if negated then 1 else 0;
+  props = props_onto f [];
+  actions = actions_onto f [];
+}
+
+is_graph : (f : Formula) (negated : Bool) → IsGraphOf (graph_of f negated) f negated
+is_graph f negated =
+    graph_made (graph_of f negated) f negated
+    (lists_make_graph (graph_of f negated) f negated refl refl refl refl refl)
+    refl refl refl refl refl
+
+pub pdl_held : (f : Formula) (negated : Bool) → IsWellFormed f → (g : Graph) × (IsGraphOf g f negated × IsHeld g)
+pdl_held f negated well = (
+  graph_of f negated,
+  (
+    is_graph f negated,
+    record {
+      props = props_named f well.names_are_spelled well.names_are_short [] (λ x m. absurd m);
+      actions = actions_named f well.names_are_spelled well.names_are_short [] (λ x m. absurd m);
+      priorities = low_priorities f;
+    },
+  ),
+)
