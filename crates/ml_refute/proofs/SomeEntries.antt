@@ -73,6 +73,11 @@ module _ (g : Graph) (ok : IsGraph g) (a : Arena) (s : GameSolution) (odd : OddW
     pub decision : Decision
     pub is : IsDecided g a s vs grown v decision
 
+  -- where fewer sides are left to choose than at v, there is a decision
+  abbrev DecidedBelow : ℕ → Type 0
+  DecidedBelow v = (us : List ℕ) (w : ℕ) → sides_left g a s odd w < sides_left g a s odd v → AreNumbered g a s us
+      → IsWon a s w → Deciding us w
+
   left_along : (vs : List ℕ) (v : ℕ) (turn : Turn g (position_at g a v)) → AreNumbered g a s vs → IsWon a s v
       → IsResolved g turn.spread → Deciding vs v
   left_along vs v turn numbered won resolved = at_diamond (leaving_at g a s odd v won turn.spread turn.is_spread resolved)
@@ -90,9 +95,10 @@ module _ (g : Graph) (ok : IsGraph g) (a : Arena) (s : GameSolution) (odd : OddW
 
   split_into : (vs : List ℕ) (v o : ℕ) (turn : Turn g (position_at g a v)) → AreNumbered g a s vs → IsWon a s v
       → IsVerdictOf g turn.spread (Open o)
-      → ((us : List ℕ) (w : ℕ) → sides_left g a s odd w < sides_left g a s odd v → AreNumbered g a s us → IsWon a s w → Deciding us w)
+      → DecidedBelow v
       → Deciding vs v
-  split_into vs v o turn numbered won verdict decide = at_sides (both_sides g a s odd v won o turn.spread turn.is_spread verdict)
+  split_into vs v o turn numbered won verdict decide =
+      at_sides (both_sides g a s odd v won o turn.spread turn.is_spread verdict)
     where
       at_sides : BothSides g a s odd v won o → Deciding vs v
       at_sides b =
@@ -112,7 +118,7 @@ module _ (g : Graph) (ok : IsGraph g) (a : Arena) (s : GameSolution) (odd : OddW
               b.are_sides.right_won)
 
   decide_by : (vs : List ℕ) (v : ℕ) (turn : Turn g (position_at g a v)) → AreNumbered g a s vs → IsWon a s v
-      → ((us : List ℕ) (w : ℕ) → sides_left g a s odd w < sides_left g a s odd v → AreNumbered g a s us → IsWon a s w → Deciding us w)
+      → DecidedBelow v
       → (x : Verdict) → IsVerdictOf g turn.spread x → Deciding vs v
   decide_by vs v turn numbered won decide Clashing verdict =
       at_first (some_first_cause g ok (position_at g a v).sequent (position_at g a v).choice turn.spread turn.is_spread
