@@ -94,7 +94,10 @@ fn chain(alloc: Global, entries: u32, squares: u32) -> Result<String, AllocError
     let last = entries.saturating_sub(1);
     let mut text = String::new(alloc);
     push_head(&mut text, &formula)?;
-    write!(text, "names 2\nentries {entries}\nentry 0\nsequent 0\nlive 1\nitem 0 - 0\nheights 0 0 {last}\ngo {diamond} 1 neutral\n")?;
+    write!(
+        text,
+        "names 2\nentries {entries}\nentry 0\nsequent 0\nlive 1\nitem 0 - 0\nheights 0 0 {last}\ngo {diamond} 1 neutral\n"
+    )?;
     for entry in 1..entries {
         write!(text, "entry {entry}\nsequent")?;
         for node in &nodes {
@@ -122,11 +125,11 @@ fn chain(alloc: Global, entries: u32, squares: u32) -> Result<String, AllocError
 
 /// The least depth, at least one, at which a tree has so many branches, and how many it has there.
 fn depth_for(branches: u32) -> (u32, u32) {
-    let mut depth = 1;
+    let mut depth: u32 = 1;
     let mut leaves: u32 = 2;
     for _ in 0..30 {
         if leaves < branches {
-            depth += 1;
+            depth = depth.saturating_add(1);
             leaves = leaves.saturating_mul(2);
         }
     }
@@ -157,10 +160,17 @@ fn tree(alloc: Global, branches: u32) -> Result<String, AllocError> {
     let (formula, nodes) = disjunctions(alloc, depth)?;
     let mut text = String::new(alloc);
     push_head(&mut text, &formula)?;
-    write!(text, "names 1\nentries {entries}\nentry 0\nsequent 0\nlive 1\nitem 0 - 0\nheights 0 1\n")?;
+    write!(
+        text,
+        "names 1\nentries {entries}\nentry 0\nsequent 0\nlive 1\nitem 0 - 0\nheights 0 1\n"
+    )?;
     for leaf in 0..leaves {
         // the splits that begin at this branch
-        let begun = if leaf == 0 { depth } else { leaf.trailing_zeros() };
+        let begun = if leaf == 0 {
+            depth
+        } else {
+            leaf.trailing_zeros()
+        };
         let skipped = depth.saturating_sub(begun) as usize;
         for node in nodes.iter().skip(skipped) {
             write!(text, "split {node}\n")?;
@@ -169,7 +179,10 @@ fn tree(alloc: Global, branches: u32) -> Result<String, AllocError> {
         write!(text, "go 2 {entry} neutral\n")?;
     }
     for entry in 1..entries {
-        write!(text, "entry {entry}\nsequent 4\nlive 1\nitem 4 - 0\nheights 0 0\nclash false 4\n")?;
+        write!(
+            text,
+            "entry {entry}\nsequent 4\nlive 1\nitem 4 - 0\nheights 0 0\nclash false 4\n"
+        )?;
     }
     text.push_str("end\n")?;
     Ok(text)

@@ -222,15 +222,50 @@ fn commands_answer(rt: HostRuntime) -> Result<(), Fail> {
         ("check-refutation", ENDLESS, 0, "accepted\n"),
         ("check-refutation", CYCLE, 0, "accepted\n"),
         ("check-refutation", NEGATED, 0, "accepted\n"),
-        ("check-refutation", EMPTY_NAME, 1, "rejected line 16 rule 3\n"),
-        ("check-refutation", cut.as_str(), 4, "refused document line 17 rule 21\n"),
-        ("check-refutation", lower.as_str(), 1, "rejected line 13 rule 10\n"),
+        (
+            "check-refutation",
+            EMPTY_NAME,
+            1,
+            "rejected line 16 rule 3\n",
+        ),
+        (
+            "check-refutation",
+            cut.as_str(),
+            4,
+            "refused document line 17 rule 21\n",
+        ),
+        (
+            "check-refutation",
+            lower.as_str(),
+            1,
+            "rejected line 13 rule 10\n",
+        ),
         ("check-refutation", NO_CLASH, 1, "rejected line 15 rule 6\n"),
         ("migrate", ENDLESS, 0, ENDLESS_IN_TWO),
-        ("check-refutation", moved.as_str(), 1, "rejected line 19 rule 3\n"),
-        ("check-refutation", past_table.as_str(), 4, "refused document line 14 rule 31\n"),
-        ("migrate", past_table.as_str(), 4, "refused document line 14 rule 31\n"),
-        ("migrate", cut.as_str(), 4, "refused document line 17 rule 21\n"),
+        (
+            "check-refutation",
+            moved.as_str(),
+            1,
+            "rejected line 19 rule 3\n",
+        ),
+        (
+            "check-refutation",
+            past_table.as_str(),
+            4,
+            "refused document line 14 rule 31\n",
+        ),
+        (
+            "migrate",
+            past_table.as_str(),
+            4,
+            "refused document line 14 rule 31\n",
+        ),
+        (
+            "migrate",
+            cut.as_str(),
+            4,
+            "refused document line 17 rule 21\n",
+        ),
     ];
     for (word, text, status, output) in rows {
         let (code, taken) = answer(rt.alloc(), word, text)?;

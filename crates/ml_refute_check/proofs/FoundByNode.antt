@@ -103,7 +103,9 @@ rises before [] above k d low = absurd (omega arith)
 rises before (a ∷ []) above k d low = absurd (omega arith)
 rises before (a ∷ b ∷ others) above zero d low = no_lower a.node b.node (guess_before a.odd b.odd) above.1.0
 rises before (a ∷ b ∷ others) above (suc k) d low =
-    rises (Some (record { node = a.node; odd = a.odd })) (b ∷ others) above.1 k d (omega arith)
+    let next : suc (k + 1) ≡ suc k + 1 = omega arith in
+    subst (λ (j : ℕ). (get_or (b ∷ others) k d).node ≤ (get_or (a ∷ b ∷ others) j d).node) next
+    (rises (Some (record { node = a.node; odd = a.odd })) (b ∷ others) above.1 k d (omega arith))
 
 pub rise_by_node : (items : List Item)
     → AreAbove None (map (λ (a : traced.Item AutomatonState). a.state) (map item_of items))

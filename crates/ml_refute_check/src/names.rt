@@ -103,7 +103,14 @@ fn has_source(
     ensures { IsTrue result ↔ HasSource odds.now traces.now name progress items.now behind.now }
 {
     for trace in traces {
-        if comes_along(odds, trace, name, progress, items_at(items, trace.from), behind) {
+        if comes_along(
+            odds,
+            trace,
+            name,
+            progress,
+            items_at(items, trace.from),
+            behind,
+        ) {
             return true;
         }
     }

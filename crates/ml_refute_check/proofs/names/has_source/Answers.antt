@@ -17,7 +17,7 @@ returns-then-comes_along c =
         member = entry_member (λ (trace : Triple). SourceAmong c.args.odds.now trace c.args.name c.args.progress c.args.items.now c.args.behind.now)
             c.args.traces.now c.loop-trace.trace-index x c.loop-trace-test.true is;
         among = (among_at c.args.odds.now x c.args.name c.args.progress c.args.items.now c.items_at.result.now c.args.behind.now
-        c.comes_along.result c.items_at.ensures c.comes_along.ensures).0 c.if-comes_along.true;
+            c.comes_along.result c.items_at.ensures c.comes_along.ensures).0 c.if-comes_along.true;
       },
       λ h. refl,
     )
@@ -30,7 +30,7 @@ loop-trace-preserved c =
     none_more (λ (trace : Triple). SourceAmong c.args.odds.now trace c.args.name c.args.progress c.args.items.now c.args.behind.now)
     c.args.traces.now c.loop-trace.trace-index x c.comes_along.result c.loop-trace-test.true is
     (among_at c.args.odds.now x c.args.name c.args.progress c.args.items.now c.items_at.result.now c.args.behind.now
-        c.comes_along.result c.items_at.ensures c.comes_along.ensures)
+    c.comes_along.result c.items_at.ensures c.comes_along.ensures)
     c.if-comes_along.false c.loop-trace.invariant
 
 pub returns : goal.returns
