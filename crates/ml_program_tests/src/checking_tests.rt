@@ -12,12 +12,12 @@ use std::test::Fail;
 
 // numbers that look random, and are the same in each run
 #[derive(Drop)]
-struct Numbers {
-    state: u64,
+pub(crate) struct Numbers {
+    pub(crate) state: u64,
 }
 
 impl Numbers {
-    fn below(&mut self, bound: u64) -> u64
+    pub(crate) fn below(&mut self, bound: u64) -> u64
         requires { 0 < bound }
         ensures { result < bound }
     {
@@ -198,7 +198,7 @@ fn random_pdl_text(alloc: Global, numbers: &mut Numbers) -> Result<Vec<u8>, Fail
 }
 
 // a structure of up to four states with the propositions p and q and the actions `_` and a
-fn random_structure(alloc: Global, numbers: &mut Numbers) -> Result<Structure, Fail> {
+pub(crate) fn random_structure(alloc: Global, numbers: &mut Numbers) -> Result<Structure, Fail> {
     let states = numbers.below(4) as u32 + 1;
     let mut labels = Vec::new(alloc);
     let mut edges = Vec::new(alloc);
