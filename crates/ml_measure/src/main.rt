@@ -12,7 +12,6 @@ mod counts;
 mod failure;
 mod forms;
 mod measure;
-mod refuting;
 
 use crate::failure::Failure;
 use crate::measure::{Measurement, measure, measure_small};

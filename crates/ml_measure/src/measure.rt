@@ -3,7 +3,6 @@
 use crate::counts::{highest, read_game, read_graph, read_letter, won_by_even};
 use crate::failure::Failure;
 use crate::forms::Form;
-use crate::refuting::{refute_long, refute_wide};
 use ml_history::History;
 use ml_history::tree::TreeHistory;
 use ml_parity::{Game, OneSided, heights, solve};
@@ -42,10 +41,6 @@ pub enum Measurement {
     Row,
     /// An even cycle of such a graph.
     Cycle,
-    /// The refutation of a graph in which sides of so many or-nodes are chosen.
-    WideRefutation,
-    /// The refutation of a graph that goes round two cycles at once, of so many states and of one more.
-    LongRefutation,
 }
 
 impl Measurement {
@@ -64,8 +59,6 @@ impl Measurement {
             "blocks" => Some(Measurement::Blocks),
             "row" => Some(Measurement::Row),
             "cycle" => Some(Measurement::Cycle),
-            "wide-refutation" => Some(Measurement::WideRefutation),
-            "long-refutation" => Some(Measurement::LongRefutation),
             _ => None,
         }
     }
@@ -274,8 +267,6 @@ pub(crate) fn measure<R: Print + Clock + AllocGlobal>(
         Measurement::Cycle => {
             count_heights(rt, &slow_row(alloc, size as u64, 16, true)?, is_timed)
         }
-        Measurement::WideRefutation => refute_wide(rt, size, is_timed),
-        Measurement::LongRefutation => refute_long(rt, size, is_timed),
     }
 }
 
@@ -294,8 +285,6 @@ pub(crate) fn measure_small<R: Print + Clock + AllocGlobal>(rt: &R) -> Result<()
         (Measurement::Blocks, 1000),
         (Measurement::Row, 100),
         (Measurement::Cycle, 100),
-        (Measurement::WideRefutation, 5),
-        (Measurement::LongRefutation, 5),
     ];
     for (measurement, size) in small {
         measure(rt, measurement, size, false)?;
