@@ -1,10 +1,8 @@
 // Why a measurement ended.
 
-use ml_base::{DocRefusal, NameRefusal, NoMemory};
-use ml_graph::GraphRefusal;
-use ml_product::ExploreRefusal;
+use ml_base::{DocRefusal, NoMemory};
 use ml_tests::NotMade;
-use std::alloc::{AllocError, AllocFailed};
+use std::alloc::AllocError;
 use std::io;
 use thiserror::Error;
 
@@ -15,8 +13,6 @@ pub enum Failure {
     Words,
     #[error("out of memory")]
     NoMemory,
-    #[error("no game that Odd wins")]
-    NotRefuted,
     #[error("{0}")]
     NotMade(NotMade),
     #[error("{0}")]
@@ -34,33 +30,6 @@ impl From<AllocError> for Failure {
 impl From<NoMemory> for Failure {
     fn from(_: NoMemory) -> Failure {
         Failure::NoMemory
-    }
-}
-
-impl<T: Drop> From<AllocFailed<T>> for Failure {
-    fn from(_: AllocFailed<T>) -> Failure {
-        Failure::NoMemory
-    }
-}
-
-impl From<NameRefusal> for Failure {
-    fn from(_: NameRefusal) -> Failure {
-        Failure::NoMemory
-    }
-}
-
-impl From<GraphRefusal> for Failure {
-    fn from(_: GraphRefusal) -> Failure {
-        Failure::NotRefuted
-    }
-}
-
-impl From<ExploreRefusal> for Failure {
-    fn from(refusal: ExploreRefusal) -> Failure {
-        match refusal {
-            ExploreRefusal::Passed => Failure::NotRefuted,
-            ExploreRefusal::NoMemory => Failure::NoMemory,
-        }
     }
 }
 

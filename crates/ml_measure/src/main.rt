@@ -14,7 +14,6 @@ mod failure;
 mod forms;
 mod measure;
 mod refutations;
-mod refuting;
 
 use crate::failure::Failure;
 use crate::measure::{Measurement, measure, measure_small};

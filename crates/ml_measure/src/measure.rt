@@ -4,7 +4,6 @@ use crate::counts::{highest, read_game, read_graph, read_letter, won_by_even};
 use crate::decisions::{Family, decide};
 use crate::failure::Failure;
 use crate::forms::Form;
-use crate::refuting::{refute_long, refute_wide};
 use ml_history::History;
 use ml_history::tree::TreeHistory;
 use ml_parity::{Game, OneSided, heights, solve};
@@ -43,10 +42,6 @@ pub enum Measurement {
     Row,
     /// An even cycle of such a graph.
     Cycle,
-    /// The refutation of a graph in which sides of so many or-nodes are chosen.
-    WideRefutation,
-    /// The refutation of a graph that goes round two cycles at once, of so many states and of one more.
-    LongRefutation,
     /// Exploring and solving the decision game of a formula of so many disjunctions, and of one whose states lead on so
     /// often.
     Or,
@@ -69,8 +64,6 @@ impl Measurement {
             "blocks" => Some(Measurement::Blocks),
             "row" => Some(Measurement::Row),
             "cycle" => Some(Measurement::Cycle),
-            "wide-refutation" => Some(Measurement::WideRefutation),
-            "long-refutation" => Some(Measurement::LongRefutation),
             "or" => Some(Measurement::Or),
             "step" => Some(Measurement::Step),
             _ => None,
@@ -281,8 +274,6 @@ pub(crate) fn measure<R: Print + Clock + AllocGlobal>(
         Measurement::Cycle => {
             count_heights(rt, &slow_row(alloc, size as u64, 16, true)?, is_timed)
         }
-        Measurement::WideRefutation => refute_wide(rt, size, is_timed),
-        Measurement::LongRefutation => refute_long(rt, size, is_timed),
         Measurement::Or => decide(rt, Family::Or, size, is_timed),
         Measurement::Step => decide(rt, Family::Step, size, is_timed),
     }
@@ -303,8 +294,6 @@ pub(crate) fn measure_small<R: Print + Clock + AllocGlobal>(rt: &R) -> Result<()
         (Measurement::Blocks, 1000),
         (Measurement::Row, 100),
         (Measurement::Cycle, 100),
-        (Measurement::WideRefutation, 5),
-        (Measurement::LongRefutation, 5),
         (Measurement::Or, 5),
         (Measurement::Step, 20),
     ];
