@@ -8,6 +8,8 @@ pub mod NameLine
 pub mod OrderOfNames
 -- the best offers, one at a time
 pub mod BestOffers
+-- flags that are set along stacks, from their ends on
+pub mod FlagsAlongStacks
 -- the names of offered stacks, and the stacks that are cut
 pub mod CutOffers
 -- the step on flat arrays, from its parts

@@ -14,12 +14,12 @@ mod places;
 mod stacks;
 
 use crate::flat::comparing::compare;
-use crate::flat::cutting::{cut, full_names};
+use crate::flat::cutting::{cut, full_names, standing};
 use crate::flat::laying::laid;
 use crate::flat::offers::best_offers;
 use crate::flat::places::places;
 use crate::flat::stacks::Stacks;
-use crate::names::{above, flags_of, mark, numbers};
+use crate::names::{how_many, mark, numbers};
 use crate::tree::TreeHistory;
 use ml_base::NoMemory;
 use ml_trace::{Letter, Mark};
@@ -148,11 +148,11 @@ impl History {
         let best = best_offers(alloc, self, places.as_slice(), letter.transitions())?;
         let full = full_names(alloc, self, best.as_slice())?;
         let cut = cut(alloc, self, best.as_slice(), full.as_slice())?;
-        let standing = flags_of(alloc, cut.names(), 2 * self.live)?;
+        let standing = standing(alloc, &cut, 2 * self.live)?;
         let mark = mark(self.live, full.as_slice(), standing.as_slice());
         let numbers = numbers(alloc, standing.as_slice())?;
+        let live = how_many(standing.as_slice());
         let stacks = cut.renamed(numbers.as_slice());
-        let live = above(stacks.names());
         Ok((History { stacks, live }, mark))
     }
 

@@ -8,7 +8,6 @@
 --   numbered             == a list whose first names have their numbers
 --   live-names_of        == the number of names in use is one more than the greatest of all names
 use Rattle.std.proofs.Common.{ℕ, zero, suc, ◌≡◌, ◌+◌, ◌-◌, ◌<◌, ◌≤◌, arith, List, [], ◌∷◌, ◌++◌, length, get_or, take, drop, map, max, refl, sym, subst, ap, ◌∙◌, append_assoc, append-nil}
-use Rattle.std.specs.List.{flat_map}
 use Rattle.std.proofs.Math.ListN.{set}
 use Rattle.std.proofs.lemmas.List.{length-append, length-map, map-append}
 use Rattle.ml_trace.specs.Stack.{Item}

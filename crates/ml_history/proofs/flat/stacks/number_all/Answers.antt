@@ -1,4 +1,4 @@
-use Rattle.std.proofs.Common.{ℕ, ◌<◌, ◌∙◌, length, get_or, ap, sym, subst, arith}
+use Rattle.std.proofs.Common.{ℕ, ◌<◌, ◌∙◌, length, get_or, ap, sym, subst}
 use Rattle.std.proofs.Math.ListN.{set}
 use Rattle.ml_lists.proofs.Member.{place-member}
 use Rattle.ml_history.proofs.arrays.StackLayout.{numbered-none, numbered-at, numbered-next, numbered-all}

@@ -1,4 +1,4 @@
-use Rattle.std.proofs.Common.{◌≡◌, ◌<◌, ℕ, ◌∙◌, length, get_or, map, ap, subst, sym}
+use Rattle.std.proofs.Common.{◌≡◌, ℕ, ◌∙◌, get_or, map, ap, subst, sym}
 use Rattle.ml_lists.specs.Member.{IsMember}
 use Rattle.ml_history.specs.HistoryOrder.{names_of}
 use Rattle.ml_history.specs.private.Arrays.{read, AreLaidOut, renamed}
