@@ -2,6 +2,8 @@
 
 -- stacks laid out in flat arrays
 pub mod StackLayout
+-- names that get their numbers part by part
+pub mod NumberedParts
 -- the names in use in a line, worst offer first
 pub mod NameLine
 -- the line of names is the order of offers, backwards

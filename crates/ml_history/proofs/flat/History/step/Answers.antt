@@ -1,4 +1,4 @@
-use Rattle.std.proofs.Common.{rules, refl, ltb, not, ◌&&◌, ◌≡◌, ◌<◌, ◌*◌, ◌^◌, ◌∙◌, length, get_or, map, ap, subst, sym, arith}
+use Rattle.std.proofs.Common.{rules, ℕ, refl, ltb, not, ◌&&◌, ◌≡◌, ◌<◌, ◌*◌, ◌^◌, ◌∙◌, length, get_or, map, ap, subst, sym, arith}
 use Rattle.ml_lists.specs.Counting.{count}
 use Rattle.ml_lists.specs.Least.{least}
 use Rattle.ml_lists.specs.Member.{IsMember}
@@ -7,10 +7,11 @@ use Rattle.ml_history.specs.History.{IsSmallHistory}
 use Rattle.ml_history.specs.HistoryOrder.{names_of}
 use Rattle.ml_history.specs.HistoryStep.{live, taken_along, cut, is_full, mark_of, stepped}
 use Rattle.ml_history.specs.private.TreeStep.{flagged}
-use Rattle.ml_history.specs.private.Arrays.{renamed}
+use Rattle.ml_history.specs.private.Arrays.{StaysBelow, renamed}
 use Rattle.ml_history.specs.private.Keys.{offered_by}
 use Rattle.ml_history.specs.private.Ways.{AreWays}
 use Rattle.ml_history.proofs.arrays.FlagsAlongStacks.{cut_ways}
+use Rattle.ml_history.proofs.arrays.NumberedParts.{stays_counted}
 use Rattle.ml_history.proofs.arrays.FlatStep.{taken_ways, cut_low, flat_stepped, flat_live, flat_mark}
 use Rattle.ml_history.proofs.plain_step.PlainStep.{live-small, step_is_plain}
 use Rattle.ml_history.proofs.flat.History.step.Goals as goal
@@ -81,8 +82,24 @@ how_many-live-requires c = omega (
   ap length c.as_slice-8.ensures.value,
 )
 
-pub renamed-stacks-requires : goal.renamed-stacks-requires
-renamed-stacks-requires c = λ y m.
+pub renamed-stacks-requires-clause-ways : goal.renamed-stacks-requires-clause-ways
+renamed-stacks-requires-clause-ways c =
+    let h = c.args.self.now in
+    let kept : IsSmallHistory h = subst IsSmallHistory c.self.view_is c.self.invariant.kept in
+    let taken = ap (map (offered_by h)) c.as_slice-3.ensures.value ∙ c.in_ok-best.ensures.taken
+    ∙ ap (taken_along h) c.transitions.ensures.value in
+    let is : c.in_ok-cut.cut ≡ cut (taken_along h c.args.letter.now) = c.in_ok-cut.ensures ∙ ap cut taken in
+    subst AreWays (sym is) (cut_ways (taken_along h c.args.letter.now) (taken_ways h c.args.letter.now kept.history))
+
+pub renamed-stacks-requires-clause-stays : goal.renamed-stacks-requires-clause-stays
+renamed-stacks-requires-clause-stays c =
+    let numbers = c.in_ok-numbers.numbers.items in
+    subst (λ ns. StaysBelow (λ (y : ℕ). get_or ns y 0) (length ns)) (sym c.as_slice-9.ensures.value)
+    (stays_counted (flagged c.as_slice-7.result.now) (λ (y : ℕ). get_or numbers y 0) (length numbers)
+    (λ y low. c.in_ok-numbers.ensures.numbers y (omega (arith, low, c.in_ok-numbers.ensures.count))))
+
+pub renamed-stacks-requires-clause-low : goal.renamed-stacks-requires-clause-low
+renamed-stacks-requires-clause-low c = λ y m.
     let h = c.args.self.now in
     let kept : IsSmallHistory h = subst IsSmallHistory c.self.view_is c.self.invariant.kept in
     let taken = ap (map (offered_by h)) c.as_slice-3.ensures.value ∙ c.in_ok-best.ensures.taken
