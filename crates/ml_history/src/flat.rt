@@ -136,8 +136,9 @@ impl History {
     /// # Errors
     /// `NoMemory` alone.
     ///
-    /// Cost: for each transition a search for its source, logarithmic in the states; and linear in the names of the stacks
-    /// before the step, and of those that are taken.
+    /// Cost: for each transition a search for its source, logarithmic in the states; linear in the names in use; and a copy
+    /// of the stacks that are taken, of which only those are looked at name by name that may have a full one, and else the
+    /// names whose numbers change.
     /// Source: the history trees of Schewe and the ages of Piterman.
     pub fn step(&self, letter: &Letter) -> Result<(History, Mark), NoMemory>
         ensures history { IfOk result (λ r. r.0 ≡ stepped self.now letter.now) }
