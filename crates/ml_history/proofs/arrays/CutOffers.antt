@@ -11,7 +11,7 @@
 use Rattle.std.proofs.Common.{ℕ, zero, suc, ◌≡◌, ◌≢◌, ◌+◌, ◌*◌, ◌<◌, ◌≤◌, ◌⊎◌, inl, inr, arith, Bool, true, false, not, ◌&&◌, ◌||◌, eqb, List, [], ◌∷◌, ◌++◌, length, get_or, take, drop, map, refl, sym, subst, ap, ◌∙◌, append_assoc, append-nil}
 use Rattle.std.specs.List.{list_any}
 use Rattle.std.proofs.lemmas.Bool.{cases_Bool, eqb-true, or_cases, or_left, or_right}
-use Rattle.std.proofs.lemmas.List.{map-append, take_more}
+use Rattle.std.proofs.lemmas.List.{map-append, take_all, take_more}
 use Rattle.std.proofs.lemmas.List.Folds.{list_any-append}
 use Rattle.ml_lists.specs.Ascending.{IsAscending}
 use Rattle.ml_lists.specs.Member.{IsMember}
@@ -26,7 +26,7 @@ use Rattle.ml_history.specs.private.Arrays.{AreLaidOut}
 use Rattle.ml_history.specs.private.Keys.{stack_at, offered_by}
 use Rattle.ml_history.specs.private.Ways.{AreWays, PassesDown}
 use Rattle.ml_history.proofs.definition.CutStacks.{through-stops, through-goes, through-whole}
-use Rattle.ml_history.proofs.arrays.FlagsAlongStacks.{cut_by, drop_next, drop_all, member-take, passes_down-part, ways_down}
+use Rattle.ml_history.proofs.arrays.FlagsAlongStacks.{cut_by, drop_next, drop_all, member-take, or-swap, passes_down-part, ways_down}
 use Rattle.ml_history.proofs.arrays.StackLayout.{laid_none, laid_one_more}
 use Rattle.ml_history.proofs.definition.NamesInUse.{live-has}
 use Rattle.ml_history.proofs.definition.OfferedStacks.{last_name-ends, offered-accepting, offered-plain, offered-not_empty}
@@ -189,12 +189,6 @@ first_offers : (h : List (Item ℕ)) (best : List Offer) (k : ℕ) (d : Offer)
 first_offers h best k d low = ap (map (offered_by h)) (take_more best k d low)
     ∙ map-append (offered_by h) (take k best) (get_or best k d ∷ [])
 
-swap : (a b : Bool) → (a || b) ≡ (b || (a || false))
-swap true true = refl
-swap true false = refl
-swap false true = refl
-swap false false = refl
-
 -- with one offer more
 pub marked_more : (h : List (Item ℕ)) (best : List Offer) (k : ℕ) (d : Offer)
     (standing ends standing' ends' : List Bool)
@@ -209,13 +203,13 @@ marked_more h best k d standing ends standing' ends' low m count count' more mor
   ends_count = count';
   standing_are = λ y.
       more y ∙ ap (λ b. has y (offered_by h (get_or best k d)).stack || b) (m.standing_are y)
-      ∙ swap (has y (offered_by h (get_or best k d)).stack) (stands (map (offered_by h) (take k best)) y)
+      ∙ or-swap (has y (offered_by h (get_or best k d)).stack) (stands (map (offered_by h) (take k best)) y)
       ∙ sym (ap (λ ts. stands ts y) (first_offers h best k d low)
       ∙ list_any-append (λ (a : Item ℕ). has y a.stack) (map (offered_by h) (take k best))
       (offered_by h (get_or best k d) ∷ []));
   ends_are = λ y.
       more' y ∙ ap (λ b. ends_in y (offered_by h (get_or best k d)).stack || b) (m.ends_are y)
-      ∙ swap (ends_in y (offered_by h (get_or best k d)).stack) (is_last (map (offered_by h) (take k best)) y)
+      ∙ or-swap (ends_in y (offered_by h (get_or best k d)).stack) (is_last (map (offered_by h) (take k best)) y)
       ∙ sym (ap (λ ts. is_last ts y) (first_offers h best k d low)
       ∙ list_any-append (λ (a : Item ℕ). ends_in y a.stack) (map (offered_by h) (take k best))
       (offered_by h (get_or best k d) ∷ []));
@@ -253,12 +247,6 @@ source_down h best k d standing ends history sources ways low m =
     earlier b i = subst (λ (v : Item ℕ). IsMember v (map (offered_by h) best)) (sym i.holds)
         (member-map (offered_by h) i.from best (member-take k i.from best i.member))
 
-everything : (bs : List Offer) (k : ℕ) → length bs ≤ k → take k bs ≡ bs
-everything [] zero all = refl
-everything [] (suc k) all = refl
-everything (b ∷ bs) zero all = absurd (omega arith)
-everything (b ∷ bs) (suc k) all = ap (λ l. b ∷ l) (everything bs k (omega arith))
-
 -- by the flags of all offers a name is full
 pub full_told : (h : List (Item ℕ)) (best : List Offer) (k : ℕ) (standing ends full : List Bool)
     → length best ≤ k
@@ -267,7 +255,7 @@ pub full_told : (h : List (Item ℕ)) (best : List Offer) (k : ℕ) (standing en
     → (y : ℕ) → flagged full y ≡ is_full (map (offered_by h) best) y
 full_told h best k standing ends full all m is y =
     is y ∙ (λ i. m.standing_are y i && not (m.ends_are y i))
-    ∙ ap (λ bs. is_full (map (offered_by h) bs) y) (everything best k all)
+    ∙ ap (λ bs. is_full (map (offered_by h) bs) y) (take_all k best all)
 
 -- ---- cuts
 
@@ -456,5 +444,5 @@ pub cut_all : (h : List (Item ℕ)) (test : ℕ → Bool) (best : List Offer) (k
 cut_all h test best k states starts names all laid tests =
     subst (λ (t : ℕ → Bool). AreLaidOut states starts names (map (cut_by t) (map (offered_by h) best)))
     (λ i y. tests y i)
-    (subst (λ bs. AreLaidOut states starts names (map (cut_by test) (map (offered_by h) bs))) (everything best k all)
+    (subst (λ bs. AreLaidOut states starts names (map (cut_by test) (map (offered_by h) bs))) (take_all k best all)
     laid)

@@ -14,7 +14,7 @@
 use Rattle.std.proofs.Common.{ℕ, zero, suc, ◌≡◌, ◌+◌, ◌<◌, ◌≤◌, ◌⊎◌, inl, inr, arith, Bool, true, false, ◌||◌, eqb, List, [], ◌∷◌, length, get_or, take, drop, refl, sym, subst, ap, ◌∙◌}
 use Rattle.std.proofs.Math.ListN.{set}
 use Rattle.std.proofs.lemmas.Bool.{cases_Bool, cases_eq, eq-eqb, eqb-true, ne_eqb, or_left, or_right}
-use Rattle.std.proofs.lemmas.List.{take_more, get_or-set_same, get_or-set_other}
+use Rattle.std.proofs.lemmas.List.{take_all, take_more, get_or-set_same, get_or-set_other}
 use Rattle.std.proofs.lemmas.List.Folds.{list_any-append}
 use Rattle.ml_lists.specs.Ascending.{IsAscending}
 use Rattle.ml_lists.specs.Member.{IsMember}
@@ -253,7 +253,7 @@ flags-stop test s i flags a down low before t y =
 
 -- ---- the flags of some stacks
 
-or-swap : (a b : Bool) → (a || b) ≡ (b || (a || false))
+pub or-swap : (a b : Bool) → (a || b) ≡ (b || (a || false))
 or-swap true true = refl
 or-swap true false = refl
 or-swap false true = refl
@@ -273,12 +273,6 @@ stacks_flagged t k d old new low before more y =
     ∙ sym (ap (λ ts. stands ts y) (take_more t k d low)
     ∙ list_any-append (λ (a : Item ℕ). has y a.stack) (take k t) (get_or t k d ∷ []))
 
-everything : (t : List (Item ℕ)) (k : ℕ) → length t ≤ k → take k t ≡ t
-everything [] zero all = refl
-everything [] (suc k) all = refl
-everything (b ∷ bs) zero all = absurd (omega arith)
-everything (b ∷ bs) (suc k) all = ap (λ l. b ∷ l) (everything bs k (omega arith))
-
 nothing : (t : List (Item ℕ)) → take 0 t ≡ []
 nothing [] = refl
 nothing (a ∷ as') = refl
@@ -296,7 +290,7 @@ pub stacks_told : (t : List (Item ℕ)) (k : ℕ) (flags : List Bool)
     → ((y : ℕ) → flagged flags y ≡ stands (take k t) y)
     → (y : ℕ)
     → flagged flags y ≡ stands t y
-stacks_told t k flags all told y = told y ∙ ap (λ l. stands l y) (everything t k all)
+stacks_told t k flags all told y = told y ∙ ap (λ l. stands l y) (take_all k t all)
 
 -- along the next stack the flags of those before it pass down
 pub stacks_down : (t : List (Item ℕ)) (k : ℕ) (d : Item ℕ) (flags : List Bool)

@@ -157,17 +157,12 @@ returns-clause-history c =
     let used = c.self.invariant.live_is ∙ ap live c.self.view_is in
     let flags = c.in_ok-standing.ensures.flags in
     let standing = c.in_ok-standing.standing.items in
-    let next : c.renamed-stacks.result ≡ stepped h letter =
     c.renamed-stacks.ensures
     ∙ ap (λ ns. renamed (λ y. get_or ns y 0) c.in_ok-cut.cut) c.as_slice-9.ensures.value
     ∙ flat_stepped h letter c.in_ok-cut.cut standing c.in_ok-numbers.numbers.items kept.history is flags
     (omega (arith, c.in_ok-standing.ensures.count, used))
     (λ y low. c.in_ok-numbers.ensures.numbers y (omega (arith, low, ap length c.as_slice-7.ensures.value))
     ∙ ap (λ fs. count (flagged fs) y) c.as_slice-7.ensures.value)
-    in
-    let behind : IsSmallHistory (stepped h letter) =
-    step_is_plain h letter kept (subst HasSmallEnds c.transitions.ensures.value c.transitions.ensures.small) in
-    next
 
 pub returns-clause-mark : goal.returns-clause-mark
 returns-clause-mark c =
