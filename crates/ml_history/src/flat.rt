@@ -1,7 +1,7 @@
 // Histories as flat arrays.
 ghost use Rattle.std.specs.Prelude.{◌≡◌, ℕ, ◌<◌, ◌^◌, ◌↔◌, IsTrue, IfOk, Some, map, length};
 ghost use Rattle.ml_history.specs.History.{start, IsSmallHistory};
-ghost use Rattle.ml_history.specs.HistoryOrder.{history_eq, history_eq_equiv, hash_writes};
+ghost use Rattle.ml_history.specs.HistoryOrder.{history_eq, history_eq_equiv, hash_writes, names_of};
 ghost use Rattle.ml_history.specs.HistoryStep.{live, stepped, step_mark};
 ghost use Rattle.ml_history.specs.Stacks.{stacked};
 ghost use Rattle.ml_history.specs.private.Keys.{stack_at};
@@ -84,6 +84,13 @@ impl History {
         ensures { result.now ≡ map (λ a. a.state) self.now }
     {
         self.stacks.states()
+    }
+
+    // The names of all stacks, one stack behind the other.
+    pub(crate) fn names(&self) -> &[u32]
+        ensures { result.now ≡ names_of self.now }
+    {
+        self.stacks.names()
     }
 
     // The stack of the i-th state.

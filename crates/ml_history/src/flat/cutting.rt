@@ -207,7 +207,7 @@ pub(crate) fn cut(
     let first = first_full(full);
     let mut states = Vec::with_capacity(alloc, best.len())?;
     let mut starts = Vec::with_capacity(alloc, best.len())?;
-    let mut names = Vec::new(alloc);
+    let mut names = Vec::with_capacity(alloc, history.names().len() + best.len())?;
     for offer in best {
         states.push(offer.target)?;
         starts.push(names.len())?;
