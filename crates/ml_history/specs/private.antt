@@ -4,6 +4,8 @@
 pub mod Arrays
 -- the best offers, by keys in place of stacks
 pub mod Keys
+-- stacks as ways down a tree
+pub mod Ways
 -- the names in use in a line, worst offer first
 pub mod Line
 -- histories as trees, as plain data

@@ -1,7 +1,7 @@
 // Histories as flat arrays.
 ghost use Rattle.std.specs.Prelude.{◌≡◌, ℕ, ◌<◌, ◌^◌, ◌↔◌, IsTrue, IfOk, Some, map, length};
 ghost use Rattle.ml_history.specs.History.{start, IsSmallHistory};
-ghost use Rattle.ml_history.specs.HistoryOrder.{history_eq, history_eq_equiv, hash_writes};
+ghost use Rattle.ml_history.specs.HistoryOrder.{history_eq, history_eq_equiv, hash_writes, names_of};
 ghost use Rattle.ml_history.specs.HistoryStep.{live, stepped, step_mark};
 ghost use Rattle.ml_history.specs.Stacks.{stacked};
 ghost use Rattle.ml_history.specs.private.Keys.{stack_at};
@@ -14,12 +14,12 @@ mod places;
 mod stacks;
 
 use crate::flat::comparing::compare;
-use crate::flat::cutting::{cut, full_names};
+use crate::flat::cutting::{cut, full_names, standing};
 use crate::flat::laying::laid;
 use crate::flat::offers::best_offers;
 use crate::flat::places::places;
 use crate::flat::stacks::Stacks;
-use crate::names::{above, flags_of, mark, numbers};
+use crate::names::{how_many, mark, numbers};
 use crate::tree::TreeHistory;
 use ml_base::NoMemory;
 use ml_trace::{Letter, Mark};
@@ -86,6 +86,13 @@ impl History {
         self.stacks.states()
     }
 
+    // The names of all stacks, one stack behind the other.
+    pub(crate) fn names(&self) -> &[u32]
+        ensures { result.now ≡ names_of self.now }
+    {
+        self.stacks.names()
+    }
+
     // The stack of the i-th state.
     pub(crate) fn stack(&self, i: usize) -> &[u32]
         requires { i < length self.now }
@@ -136,8 +143,9 @@ impl History {
     /// # Errors
     /// `NoMemory` alone.
     ///
-    /// Cost: for each transition a search for its source, logarithmic in the states; and linear in the names of the stacks
-    /// before the step, and of those that are taken.
+    /// Cost: for each transition a search for its source, logarithmic in the states; linear in the names in use; and a copy
+    /// of the stacks that are taken, of which only those are looked at name by name that may have a full one, and else the
+    /// names whose numbers change.
     /// Source: the history trees of Schewe and the ages of Piterman.
     pub fn step(&self, letter: &Letter) -> Result<(History, Mark), NoMemory>
         ensures history { IfOk result (λ r. r.0 ≡ stepped self.now letter.now) }
@@ -148,11 +156,11 @@ impl History {
         let best = best_offers(alloc, self, places.as_slice(), letter.transitions())?;
         let full = full_names(alloc, self, best.as_slice())?;
         let cut = cut(alloc, self, best.as_slice(), full.as_slice())?;
-        let standing = flags_of(alloc, cut.names(), 2 * self.live)?;
+        let standing = standing(alloc, &cut, 2 * self.live)?;
         let mark = mark(self.live, full.as_slice(), standing.as_slice());
         let numbers = numbers(alloc, standing.as_slice())?;
+        let live = how_many(standing.as_slice());
         let stacks = cut.renamed(numbers.as_slice());
-        let live = above(stacks.names());
         Ok((History { stacks, live }, mark))
     }
 

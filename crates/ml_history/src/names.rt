@@ -52,7 +52,7 @@ pub(crate) fn numbers(alloc: Global, flags: &[bool]) -> Result<Vec<u32>, NoMemor
     ensures count { IfOk result (λ numbers. length numbers.items ≡ length flags.now) }
     ensures numbers { IfOk result (λ numbers. (y : ℕ) → y < length flags.now → slice_index_or numbers.items y 0 ≡ count (flagged flags.now) y) }
 {
-    let mut numbers = Vec::new(alloc);
+    let mut numbers = Vec::with_capacity(alloc, flags.len())?;
     let mut below = 0;
     for flag in flags {
         numbers.push(below)?;
@@ -61,6 +61,20 @@ pub(crate) fn numbers(alloc: Global, flags: &[bool]) -> Result<Vec<u32>, NoMemor
         }
     }
     Ok(numbers)
+}
+
+// How many flags are set.
+pub(crate) fn how_many(flags: &[bool]) -> u32
+    requires { length flags.now ≤ 2 ^ 31 }
+    ensures { result ≡ count (flagged flags.now) (length flags.now) }
+{
+    let mut many = 0;
+    for flag in flags {
+        if *flag {
+            many += 1;
+        }
+    }
+    many
 }
 
 // The least of the `used` names that does not stand.

@@ -7,11 +7,10 @@
 --   put_last-shape     == what becomes of the offers with one more
 --   BestSoFar, best_next, best_last == one transition more, up to the last one
 --   along_one, along_none == the offers of one transition
-use Rattle.std.proofs.Common.{ℕ, zero, suc, ◌≡◌, ◌≢◌, ◌+◌, ◌-◌, ◌<◌, ◌≤◌, ◌⊎◌, inl, inr, arith, Bool, true, false, not, ◌&&◌, ◌||◌, cond, eqb, ltb, slice_get, Option, Some, None, IfSome, IfNone, Result, Err, List, [], ◌∷◌, ◌++◌, length, get_or, take, map, refl, sym, subst, ap, ◌∙◌, append_assoc, append-nil}
-use Rattle.std.specs.List.{flat_map, filter}
+use Rattle.std.proofs.Common.{ℕ, zero, suc, ◌≡◌, ◌+◌, ◌-◌, ◌<◌, ◌≤◌, ◌⊎◌, inl, inr, arith, Bool, true, false, not, ◌&&◌, ◌||◌, cond, eqb, ltb, slice_get, Option, Some, None, IfSome, IfNone, Result, Err, List, [], ◌∷◌, ◌++◌, length, get_or, take, map, refl, sym, subst, ap, ◌∙◌, append_assoc, append-nil}
+use Rattle.std.specs.List.{filter}
 use Rattle.std.specs.Result.{MatchResult}
 use Rattle.std.proofs.Math.ListN.{set}
-use Rattle.std.specs.List.Sorted.{IsNonDecreasingBy}
 use Rattle.std.proofs.lemmas.Bool.{cases_Bool, cases_lt, cond-true, cond-false, eqb-true, eqb-false, eq-eqb, ne_eqb, lt-ltb, le-ltb}
 use Rattle.std.proofs.lemmas.List.{length-append, map-append, take_more, get_or-take, get_or_default, length-take-le, get_or-map}
 use Rattle.std.proofs.lemmas.Grind.{flat_map-append}
@@ -21,7 +20,7 @@ use Rattle.ml_lists.proofs.Ascending.{ascending-apart}
 use Rattle.ml_lists.proofs.Member.{Image, Place, member-append, member-append_left, member-append_right, member-place, place-member, member-map, member-map_from}
 use Rattle.ml_trace.specs.declared.letters.Transition.{Transition}
 use Rattle.ml_trace.specs.Automaton.{RiseByTarget}
-use Rattle.ml_trace.specs.Stack.{Item, has}
+use Rattle.ml_trace.specs.Stack.{Item}
 use Rattle.ml_trace.proofs.Stacks.{member-has}
 use Rattle.ml_history.specs.declared.flat.offers.Offer.{Offer}
 use Rattle.ml_history.specs.HistoryStep.{beats, last_name, live, offered, offers, offers_along, taken}
@@ -30,10 +29,10 @@ use Rattle.ml_history.proofs.trees.ItemsByState.{state_of, one_item, items_same}
 use Rattle.ml_history.proofs.definition.OrderOfOffers.{beats_irreflexive, beats_asymmetric, beats_not_trans}
 use Rattle.ml_history.proofs.definition.LetterSets.{beats_antisymmetric}
 use Rattle.ml_history.proofs.definition.NamesInUse.{live-has}
-use Rattle.ml_history.proofs.definition.OfferedStacks.{ascending-append, offered-accepting, offered-plain}
+use Rattle.ml_history.proofs.definition.OfferedStacks.{ascending-append}
 use Rattle.ml_history.proofs.definition.Offers.{offer_from}
 use Rattle.ml_history.proofs.arrays.OrderOfNames.{beats-extends, beats-longer, beats-younger, front-ascends}
-use Rattle.ml_history.proofs.definition.TakenOffers.{TakenBy, taken-offer, taken_by, taken-ascends}
+use Rattle.ml_history.proofs.definition.TakenOffers.{taken-offer, taken_by, taken-ascends}
 
 -- ---- the best offers
 

@@ -1,65 +1,37 @@
 -- Flags for the names of offered stacks, and the stacks that are cut by them.
 --
---   flags_more          == flags with one name more
 --   ends-is, offered-named, offered-last == the end and the names of an offered stack
 --   Marked, marked_more == the flags of the names of the first offers, and of their ends
+--   source_down         == they pass down along the stack of an offer's source
 --   full_told           == by them a name is full
 --   Through             == a stack that is cut name by name
+--   stack-whole         == a stack whose last name is below all that pass stands whole
 --   through-cut, through-whole_offer == what an offered stack is cut to
 --   CutSoFar, cut_more  == the arrays of the first offers that are cut
-use Rattle.std.proofs.Common.{ℕ, zero, suc, ◌≡◌, ◌≢◌, ◌+◌, ◌*◌, ◌^◌, ◌<◌, ◌≤◌, ◌⊎◌, inl, inr, arith, Bool, true, false, not, ◌&&◌, ◌||◌, cond, eqb, List, [], ◌∷◌, ◌++◌, length, get_or, take, drop, map, refl, sym, subst, ap, ◌∙◌, append_assoc, append-nil}
+use Rattle.std.proofs.Common.{ℕ, zero, suc, ◌≡◌, ◌≢◌, ◌+◌, ◌*◌, ◌<◌, ◌≤◌, ◌⊎◌, inl, inr, arith, Bool, true, false, not, ◌&&◌, ◌||◌, eqb, List, [], ◌∷◌, ◌++◌, length, get_or, take, drop, map, refl, sym, subst, ap, ◌∙◌, append_assoc, append-nil}
 use Rattle.std.specs.List.{list_any}
-use Rattle.std.proofs.Math.ListN.{set, length-set}
-use Rattle.std.proofs.lemmas.Bool.{cases_Bool, cases_eq, cond-true, cond-false, eq-eqb, eqb-true, ne_eqb, or_left}
-use Rattle.std.proofs.lemmas.List.{map-append, take_more, get_or-set_same, get_or-set_other}
+use Rattle.std.proofs.lemmas.Bool.{cases_Bool, eqb-true, or_cases, or_left, or_right}
+use Rattle.std.proofs.lemmas.List.{map-append, take_all, take_more}
 use Rattle.std.proofs.lemmas.List.Folds.{list_any-append}
+use Rattle.ml_lists.specs.Ascending.{IsAscending}
 use Rattle.ml_lists.specs.Member.{IsMember}
-use Rattle.ml_lists.proofs.Member.{place-member, member-append}
+use Rattle.ml_lists.proofs.Member.{Image, place-member, member-map, member-map_from}
 use Rattle.ml_trace.specs.Stack.{Item, has, ends_in}
 use Rattle.ml_trace.proofs.Stacks.{ends-has, has-member, member-has}
 use Rattle.ml_history.specs.declared.flat.offers.Offer.{Offer}
-use Rattle.ml_history.specs.History.{IsHistory, IsSmallHistory}
+use Rattle.ml_history.specs.History.{IsHistory}
 use Rattle.ml_history.specs.HistoryStep.{live, last_name, offered, stands, is_last, is_full, through, cut}
 use Rattle.ml_history.specs.private.TreeStep.{flagged}
 use Rattle.ml_history.specs.private.Arrays.{AreLaidOut}
 use Rattle.ml_history.specs.private.Keys.{stack_at, offered_by}
-use Rattle.ml_history.proofs.definition.CutStacks.{through-stops, through-goes}
+use Rattle.ml_history.specs.private.Ways.{AreWays, PassesDown}
+use Rattle.ml_history.proofs.definition.CutStacks.{through-stops, through-goes, through-whole}
+use Rattle.ml_history.proofs.arrays.FlagsAlongStacks.{cut_by, drop_next, drop_all, member-take, or-swap, passes_down-part, ways_down}
 use Rattle.ml_history.proofs.arrays.StackLayout.{laid_none, laid_one_more}
 use Rattle.ml_history.proofs.definition.NamesInUse.{live-has}
 use Rattle.ml_history.proofs.definition.OfferedStacks.{last_name-ends, offered-accepting, offered-plain, offered-not_empty}
 
 -- ---- flags
-
-flag_set : (flags : List Bool) (x y : ℕ)
-    → x < length flags
-    → flagged (set flags x true) y ≡ (eqb x y || flagged flags y)
-flag_set flags x y low = by_name (cases_eq x y)
-  where
-    by_name : (x ≡ y) ⊎ (x ≡ y → ⊥) → flagged (set flags x true) y ≡ (eqb x y || flagged flags y)
-    by_name (inl e) = ap (λ k. get_or (set flags x true) k false) (sym e) ∙ get_or-set_same flags x true false low
-        ∙ sym (ap (λ b. b || flagged flags y) (eq-eqb x y e))
-    by_name (inr ne) = get_or-set_other flags x y true false (λ e. ne (sym e))
-        ∙ sym (ap (λ b. b || flagged flags y) (ne_eqb x y ne))
-
-to_middle : (a b c : Bool) → (a || (b || c)) ≡ ((b || (a || false)) || c)
-to_middle true true c = refl
-to_middle true false c = refl
-to_middle false true c = refl
-to_middle false false c = refl
-
--- flags with one name more
-pub flags_more : (old flags : List Bool) (xs : List ℕ) (i : ℕ)
-    → i < length xs
-    → get_or xs i 0 < length flags
-    → ((y : ℕ) → flagged flags y ≡ (has y (take i xs) || flagged old y))
-    → (y : ℕ)
-    → flagged (set flags (get_or xs i 0) true) y ≡ (has y (take (i + 1) xs) || flagged old y)
-flags_more old flags xs i low within before y =
-    flag_set flags (get_or xs i 0) y within
-    ∙ ap (λ b. eqb (get_or xs i 0) y || b) (before y)
-    ∙ to_middle (eqb (get_or xs i 0) y) (has y (take i xs)) (flagged old y)
-    ∙ ap (λ b. b || flagged old y)
-    (sym (ap (has y) (take_more xs i 0 low) ∙ list_any-append (λ z. eqb z y) (take i xs) (get_or xs i 0 ∷ [])))
 
 -- flags with one behind them
 pub flag-append_old : (flags : List Bool) (b : Bool) (y : ℕ)
@@ -78,11 +50,6 @@ pub flag-beyond : (flags : List Bool) (y : ℕ) → length flags ≤ y → flagg
 flag-beyond [] y high = refl
 flag-beyond (f ∷ fs) zero high = absurd (omega arith)
 flag-beyond (f ∷ fs) (suc y) high = flag-beyond fs y (omega arith)
-
--- flags of no name more
-pub flags_none : (old : List Bool) (xs : List ℕ) → (y : ℕ) → flagged old y ≡ (has y (take 0 xs) || flagged old y)
-flags_none old [] y = refl
-flags_none old (x ∷ xs) y = refl
 
 -- ---- the end of an offered stack
 
@@ -138,6 +105,10 @@ module _ (h : List (Item ℕ)) (history : IsHistory h) where
   pub source_full : (o : Offer) → o.source < length h → stack_at h o.source ≢ []
   source_full o low = history.not_empty (get_or h o.source (record { state = 0; stack = [] })) (source_member o low)
 
+  pub source_ascends : (o : Offer) → o.source < length h → IsAscending (stack_at h o.source)
+  source_ascends o low = history.stacks_ascend (get_or h o.source (record { state = 0; stack = [] }))
+      (source_member o low)
+
   pub source_low : (o : Offer) → o.source < length h → (y : ℕ) → IsMember y (stack_at h o.source) → y < live h
   source_low o low y m = live-has h y (get_or h o.source (record { state = 0; stack = [] })) (source_member o low)
       (member-has y (stack_at h o.source) m)
@@ -157,30 +128,25 @@ module _ (h : List (Item ℕ)) (history : IsHistory h) where
       by_kind (inr f) = let e = offered-last_plain (live h) o.accepting (stack_at h o.source) f in let l =
           last_low o low in omega arith
 
-  join : (e n o : Bool) → ((e || false) || (n || o)) ≡ ((n || e) || o)
+  join : (e n o : Bool) → (e || (n || o)) ≡ ((n || e) || o)
   join true true o = refl
   join true false o = refl
   join false true o = refl
   join false false o = refl
-
-  drop_false : (e o : Bool) → ((e || false) || o) ≡ (e || o)
-  drop_false true o = refl
-  drop_false false o = refl
 
   -- the flags of names with those of an offered stack
   pub standing_marked : (o : Offer)
       → o.source < length h
       → (end : ℕ)
       → end ≡ last_name (offered_by h o).stack
-      → (old middle new : List Bool) (s e : List ℕ)
+      → (old middle new : List Bool) (s : List ℕ)
       → s ≡ stack_at h o.source
-      → e ≡ end ∷ []
       → ((y : ℕ) → flagged middle y ≡ (has y s || flagged old y))
-      → ((y : ℕ) → flagged new y ≡ (has y e || flagged middle y))
+      → ((y : ℕ) → flagged new y ≡ (eqb end y || flagged middle y))
       → (y : ℕ) → flagged new y ≡ (has y (offered_by h o).stack || flagged old y)
-  standing_marked o low end is old middle new s e s_is e_is first second y =
+  standing_marked o low end is old middle new s s_is first second y =
       second y
-      ∙ (λ i. has y (e_is i) || first y i)
+      ∙ ap (λ b. eqb end y || b) (first y)
       ∙ join (eqb end y) (has y s) (flagged old y)
       ∙ ap (λ b. b || flagged old y) ((λ i. has y (s_is i) || eqb (is i) y)
       ∙ sym (offered-named (live h) o.accepting (stack_at h o.source) y (source_full o low)))
@@ -189,17 +155,26 @@ module _ (h : List (Item ℕ)) (history : IsHistory h) where
       → o.source < length h
       → (end : ℕ)
       → end ≡ last_name (offered_by h o).stack
-      → (old new : List Bool) (e : List ℕ)
-      → e ≡ end ∷ []
-      → ((y : ℕ) → flagged new y ≡ (has y e || flagged old y))
+      → (old new : List Bool)
+      → ((y : ℕ) → flagged new y ≡ (eqb end y || flagged old y))
       → (y : ℕ) → flagged new y ≡ (ends_in y (offered_by h o).stack || flagged old y)
-  ends_marked o low end is old new e e_is one y =
+  ends_marked o low end is old new one y =
       one y
-      ∙ (λ i. has y (e_is i) || flagged old y)
-      ∙ drop_false (eqb end y) (flagged old y)
       ∙ ap (λ b. b || flagged old y)
       (ap (λ n. eqb n y) is ∙ sym (ends-is y (offered_by h o).stack
       (offered-not_empty (live h) o.accepting (stack_at h o.source) (source_full o low))))
+
+  -- the names of a source stand in the offered stack
+  pub source_part : (o : Offer)
+      → o.source < length h
+      → (y : ℕ)
+      → IsMember y (stack_at h o.source)
+      → IsMember y (offered_by h o).stack
+  source_part o low y m =
+      has-member y (offered_by h o).stack
+      (offered-named (live h) o.accepting (stack_at h o.source) y (source_full o low)
+      ∙ or_left (has y (stack_at h o.source)) (eqb (last_name (offered_by h o).stack) y)
+      (member-has y (stack_at h o.source) m))
 
 -- the flags of the names of the first k offers, and of their ends
 pub record Marked (h : List (Item ℕ)) (best : List Offer) (k : ℕ) (standing ends : List Bool) : Type 0 where
@@ -213,12 +188,6 @@ first_offers : (h : List (Item ℕ)) (best : List Offer) (k : ℕ) (d : Offer)
     → map (offered_by h) (take (k + 1) best) ≡ map (offered_by h) (take k best) ++ offered_by h (get_or best k d) ∷ []
 first_offers h best k d low = ap (map (offered_by h)) (take_more best k d low)
     ∙ map-append (offered_by h) (take k best) (get_or best k d ∷ [])
-
-swap : (a b : Bool) → (a || b) ≡ (b || (a || false))
-swap true true = refl
-swap true false = refl
-swap false true = refl
-swap false false = refl
 
 -- with one offer more
 pub marked_more : (h : List (Item ℕ)) (best : List Offer) (k : ℕ) (d : Offer)
@@ -234,13 +203,13 @@ marked_more h best k d standing ends standing' ends' low m count count' more mor
   ends_count = count';
   standing_are = λ y.
       more y ∙ ap (λ b. has y (offered_by h (get_or best k d)).stack || b) (m.standing_are y)
-      ∙ swap (has y (offered_by h (get_or best k d)).stack) (stands (map (offered_by h) (take k best)) y)
+      ∙ or-swap (has y (offered_by h (get_or best k d)).stack) (stands (map (offered_by h) (take k best)) y)
       ∙ sym (ap (λ ts. stands ts y) (first_offers h best k d low)
       ∙ list_any-append (λ (a : Item ℕ). has y a.stack) (map (offered_by h) (take k best))
       (offered_by h (get_or best k d) ∷ []));
   ends_are = λ y.
       more' y ∙ ap (λ b. ends_in y (offered_by h (get_or best k d)).stack || b) (m.ends_are y)
-      ∙ swap (ends_in y (offered_by h (get_or best k d)).stack) (is_last (map (offered_by h) (take k best)) y)
+      ∙ or-swap (ends_in y (offered_by h (get_or best k d)).stack) (is_last (map (offered_by h) (take k best)) y)
       ∙ sym (ap (λ ts. is_last ts y) (first_offers h best k d low)
       ∙ list_any-append (λ (a : Item ℕ). ends_in y a.stack) (map (offered_by h) (take k best))
       (offered_by h (get_or best k d) ∷ []));
@@ -256,11 +225,27 @@ marked_none h [] standing ends count count' none none' =
 marked_none h (b ∷ bs) standing ends count count' none none' =
     record { standing_count = count; ends_count = count'; standing_are = none; ends_are = none' }
 
-everything : (bs : List Offer) (k : ℕ) → length bs ≤ k → take k bs ≡ bs
-everything [] zero all = refl
-everything [] (suc k) all = refl
-everything (b ∷ bs) zero all = absurd (omega arith)
-everything (b ∷ bs) (suc k) all = ap (λ l. b ∷ l) (everything bs k (omega arith))
+-- along the stack of an offer's source the flags pass down
+pub source_down : (h : List (Item ℕ)) (best : List Offer) (k : ℕ) (d : Offer) (standing ends : List Bool)
+    → IsHistory h
+    → ((o : Offer) → IsMember o best → o.source < length h)
+    → AreWays (map (offered_by h) best)
+    → k < length best
+    → Marked h best k standing ends
+    → PassesDown (flagged standing) (stack_at h (get_or best k d).source)
+source_down h best k d standing ends history sources ways low m =
+    let o = get_or best k d in
+    let member = place-member best k d low in
+    let t = map (offered_by h) best in
+    let down = ways_down t (map (offered_by h) (take k best)) (offered_by h o) ways (member-map (offered_by h) o best member)
+    (λ b mb. earlier b (member-map_from (offered_by h) b (take k best) mb)) in
+    passes_down-part (flagged standing) (offered_by h o).stack (stack_at h o.source)
+    (source_part h history o (sources o member))
+    (subst (λ test. PassesDown test (offered_by h o).stack) (λ i y. sym (m.standing_are y) i) down)
+  where
+    earlier : (b : Item ℕ) → Image (offered_by h) b (take k best) → IsMember b (map (offered_by h) best)
+    earlier b i = subst (λ (v : Item ℕ). IsMember v (map (offered_by h) best)) (sym i.holds)
+        (member-map (offered_by h) i.from best (member-take k i.from best i.member))
 
 -- by the flags of all offers a name is full
 pub full_told : (h : List (Item ℕ)) (best : List Offer) (k : ℕ) (standing ends full : List Bool)
@@ -270,7 +255,7 @@ pub full_told : (h : List (Item ℕ)) (best : List Offer) (k : ℕ) (standing en
     → (y : ℕ) → flagged full y ≡ is_full (map (offered_by h) best) y
 full_told h best k standing ends full all m is y =
     is y ∙ (λ i. m.standing_are y i && not (m.ends_are y i))
-    ∙ ap (λ bs. is_full (map (offered_by h) bs) y) (everything best k all)
+    ∙ ap (λ bs. is_full (map (offered_by h) bs) y) (take_all k best all)
 
 -- ---- cuts
 
@@ -282,13 +267,6 @@ pub record Through (test : ℕ → Bool) (s : List ℕ) (i : ℕ) (old names : L
 pub through_first : (test : ℕ → Bool) (s old : List ℕ) → Through test s 0 old old
 through_first test [] old = record { rest = refl; any = refl }
 through_first test (x ∷ xs) old = record { rest = refl; any = refl }
-
-drop_next : (s : List ℕ) (i : ℕ) → i < length s → drop i s ≡ get_or s i 0 ∷ drop (i + 1) s
-drop_next [] i low = absurd (omega arith)
-drop_next (x ∷ []) zero low = refl
-drop_next (x ∷ (y ∷ ys)) zero low = refl
-drop_next (x ∷ xs) (suc i) low = let e : suc (i + 1) ≡ suc i + 1 = omega arith in drop_next xs i (omega arith)
-    ∙ ap (λ k. get_or xs i 0 ∷ drop k (x ∷ xs)) e
 
 -- a name that does not pass
 pub through_next : (test : ℕ → Bool) (s : List ℕ) (i : ℕ) (old names names' : List ℕ)
@@ -320,12 +298,6 @@ through_stop test s i old names names' low t is passes = (
       ∙ t.rest,
   sym (ap (list_any test) (drop_next s i low) ∙ ap (λ b. b || list_any test (drop (i + 1) s)) passes) ∙ t.any,
 )
-
-drop_all : (s : List ℕ) (i : ℕ) → length s ≤ i → drop i s ≡ []
-drop_all [] zero all = refl
-drop_all [] (suc i) all = refl
-drop_all (x ∷ xs) zero all = absurd (omega arith)
-drop_all (x ∷ xs) (suc i) all = drop_all xs i (omega arith)
 
 pub through_end : (test : ℕ → Bool) (s : List ℕ) (i : ℕ) (old names : List ℕ)
     → length s ≤ i
@@ -367,6 +339,42 @@ through-longer test (x ∷ xs) n f = by_test (cases_Bool (test x)) (through-long
         through-goes test x (xs ++ n ∷ []) g ∙ ap (λ l. x ∷ l) (rest (sym (ap (λ b. b || list_any test xs) g) ∙ f))
         ∙ ap (λ l. l ++ n ∷ []) (sym (through-goes test x xs g))
 
+-- a name of a stack that ascends is not above its last one
+last-greatest : (s : List ℕ) (y : ℕ) → IsAscending s → has y s ≡ true → y ≤ last_name s
+last-greatest [] y a n = absurd (cc)
+last-greatest (x ∷ []) y a n = only (or_cases (eqb x y) false n)
+  where
+    only : (eqb x y ≡ true) ⊎ (false ≡ true) → y ≤ x
+    only (inl e) = omega (arith, eqb-true x y e)
+    only (inr wrong) = absurd (cc)
+last-greatest (x ∷ (z ∷ zs)) y a n = by_part (or_cases (eqb x y) (has y (z ∷ zs)) n)
+    (λ v. last-greatest (z ∷ zs) v a.1)
+  where
+    by_part : (eqb x y ≡ true) ⊎ (has y (z ∷ zs) ≡ true)
+        → ((v : ℕ) → has v (z ∷ zs) ≡ true → v ≤ last_name (z ∷ zs))
+        → y ≤ last_name (z ∷ zs)
+    by_part (inl e) rest =
+        let first = rest z (member-has z (z ∷ zs) (inl refl)) in
+        omega (arith, eqb-true x y e, a.0 z (inl refl), first)
+    by_part (inr later) rest = rest y later
+
+none-any : (test : ℕ → Bool) (s : List ℕ) → ((y : ℕ) → has y s ≡ true → test y ≡ false) → false ≡ list_any test s
+none-any test [] fails = refl
+none-any test (x ∷ xs) fails =
+    none-any test xs (λ y n. fails y (or_right (eqb x y) (has y xs) n))
+    ∙ sym (ap (λ b. b || list_any test xs) (fails x (member-has x (x ∷ xs) (inl refl))))
+
+-- a stack whose last name is below all that pass stands whole
+pub stack-whole : (test : ℕ → Bool) (s : List ℕ) (first : ℕ)
+    → IsAscending s
+    → ((y : ℕ) → y < first → test y ≡ false)
+    → last_name s < first
+    → (through test s ≡ s) × (false ≡ list_any test s)
+stack-whole test s first a fails low = (through-whole test s none, none-any test s none)
+  where
+    none : (y : ℕ) → has y s ≡ true → test y ≡ false
+    none y n = let le = last-greatest s y a n in fails y (omega (arith, le, low))
+
 -- what an offered stack is cut to, where the stack has a full name
 pub offer-cut : (test : ℕ → Bool) (r : ℕ) (a : Bool) (s old names : List ℕ)
     → list_any test s ≡ true
@@ -397,10 +405,6 @@ offer-longer test r a s old names names' none t is is' =
     is' ∙ ap (λ l. l ++ (r + last_name s) ∷ []) is ∙ append_assoc old (through test s) ((r + last_name s) ∷ [])
     ∙ ap (λ l. old ++ l)
     (sym (ap (through test) (offered-accepting r a s t) ∙ through-longer test s (r + last_name s) none))
-
--- an item whose stack is cut by a test
-abbrev pub cut_by : (ℕ → Bool) → Item ℕ → Item ℕ
-cut_by test a = record { state = a.state; stack = through test a.stack }
 
 -- the arrays of the first k offers that are cut
 abbrev pub CutSoFar : List (Item ℕ) → (ℕ → Bool) → List Offer → ℕ → List ℕ → List ℕ → List ℕ → Type 0
@@ -440,5 +444,5 @@ pub cut_all : (h : List (Item ℕ)) (test : ℕ → Bool) (best : List Offer) (k
 cut_all h test best k states starts names all laid tests =
     subst (λ (t : ℕ → Bool). AreLaidOut states starts names (map (cut_by t) (map (offered_by h) best)))
     (λ i y. tests y i)
-    (subst (λ bs. AreLaidOut states starts names (map (cut_by test) (map (offered_by h) bs))) (everything best k all)
+    (subst (λ bs. AreLaidOut states starts names (map (cut_by test) (map (offered_by h) bs))) (take_all k best all)
     laid)

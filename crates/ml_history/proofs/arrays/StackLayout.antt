@@ -5,15 +5,10 @@
 --   StackAt, laid-stack  == the stack at a place: the names from its start up to the next one, or to the end
 --   laid_one_more        == arrays with one item more
 --   laid-renamed         == the arrays of renamed items
---   numbered             == a list whose first names have their numbers
---   live-names_of        == the number of names in use is one more than the greatest of all names
-use Rattle.std.proofs.Common.{ℕ, zero, suc, ◌≡◌, ◌+◌, ◌-◌, ◌<◌, ◌≤◌, arith, List, [], ◌∷◌, ◌++◌, length, get_or, take, drop, map, max, refl, sym, subst, ap, ◌∙◌, append_assoc, append-nil}
-use Rattle.std.specs.List.{flat_map}
-use Rattle.std.proofs.Math.ListN.{set}
+use Rattle.std.proofs.Common.{ℕ, zero, suc, ◌≡◌, ◌+◌, ◌-◌, ◌<◌, ◌≤◌, arith, List, [], ◌∷◌, ◌++◌, length, get_or, take, drop, map, refl, sym, subst, ap, ◌∙◌, append_assoc, append-nil}
 use Rattle.std.proofs.lemmas.List.{length-append, length-map, map-append}
 use Rattle.ml_trace.specs.Stack.{Item}
 use Rattle.ml_history.specs.HistoryOrder.{names_of}
-use Rattle.ml_history.specs.HistoryStep.{above, live}
 use Rattle.ml_history.specs.private.Arrays.{starts_from, part, next_start, read, AreLaidOut, renamed}
 use Rattle.ml_history.specs.private.Keys.{stack_at}
 
@@ -206,42 +201,3 @@ laid-renamed states starts names h number l = record {
   starts_are = l.starts_are ∙ sym (renamed-starts number 0 h);
   names_are = ap (map number) l.names_are ∙ sym (renamed-names number h);
 }
-
--- the names of a list up to the n-th, with their numbers, and then the rest as it is
-abbrev pub numbered : (ℕ → ℕ) → ℕ → List ℕ → List ℕ
-numbered f n [] = []
-numbered f zero (x ∷ xs) = x ∷ xs
-numbered f (suc n) (x ∷ xs) = f x ∷ numbered f n xs
-
-pub numbered-none : (f : ℕ → ℕ) (xs : List ℕ) → numbered f 0 xs ≡ xs
-numbered-none f [] = refl
-numbered-none f (x ∷ xs) = refl
-
-pub numbered-at : (f : ℕ → ℕ) (i : ℕ) (xs : List ℕ) → i < length xs → get_or (numbered f i xs) i 0 ≡ get_or xs i 0
-numbered-at f i [] low = refl
-numbered-at f zero (x ∷ xs) low = refl
-numbered-at f (suc i) (x ∷ xs) low = numbered-at f i xs (omega arith)
-
-pub numbered-next : (f : ℕ → ℕ) (i : ℕ) (xs : List ℕ)
-    → i < length xs
-    → set (numbered f i xs) i (f (get_or xs i 0)) ≡ numbered f (i + 1) xs
-numbered-next f i [] low = absurd (omega arith)
-numbered-next f zero (x ∷ xs) low = ap (λ l. f x ∷ l) (sym (numbered-none f xs))
-numbered-next f (suc i) (x ∷ xs) low =
-    let e : suc (i + 1) ≡ suc i + 1 = omega arith in
-    ap (λ l. f x ∷ l) (numbered-next f i xs (omega arith)) ∙ ap (λ n. numbered f n (x ∷ xs)) e
-
-pub numbered-all : (f : ℕ → ℕ) (i : ℕ) (xs : List ℕ) → length xs ≤ i → numbered f i xs ≡ map f xs
-numbered-all f i [] high = refl
-numbered-all f zero (x ∷ xs) high = absurd (omega arith)
-numbered-all f (suc i) (x ∷ xs) high = ap (λ l. f x ∷ l) (numbered-all f i xs (omega arith))
-
--- ---- the number of names in use
-
-above-append : (xs ys : List ℕ) → above (xs ++ ys) ≡ max (above xs) (above ys)
-above-append [] ys = omega arith
-above-append (x ∷ xs) ys = let e = above-append xs ys in omega arith
-
-pub live-names_of : (h : List (Item ℕ)) → live h ≡ above (names_of h)
-live-names_of [] = refl
-live-names_of (a ∷ as') = let e = live-names_of as' in let p = above-append a.stack (names_of as') in omega arith

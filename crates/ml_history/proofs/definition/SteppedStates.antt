@@ -2,8 +2,7 @@
 --
 --   from_taken, in_taken  == behind the step are the states that took an offer
 --   steps_follow_letters  == they are those to which a transition leads from a state that had a stack
-use Rattle.std.proofs.Common.{ℕ, ◌≡◌, List, map, refl, sym, subst, ap, ◌∙◌}
-use Rattle.ml_lists.specs.Member.{IsMember}
+use Rattle.std.proofs.Common.{ℕ, List, map, refl, sym, subst, ap, ◌∙◌}
 use Rattle.ml_lists.proofs.Member.{Image, member-map, member-map_from}
 use Rattle.ml_trace.specs.declared.letters.Transition.{Transition}
 use Rattle.ml_trace.specs.Run.{in_letter}

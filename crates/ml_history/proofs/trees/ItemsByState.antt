@@ -4,13 +4,12 @@
 --   arranged-ascends                 == their states ascend, where no state stands twice
 --   one_item                         == items whose states ascend have one item at most for a state
 --   items_same                       == two lists of items whose states ascend, with the same members, are one
-use Rattle.std.proofs.Common.{ℕ, ◌≡◌, ◌<◌, ◌⊎◌, inl, inr, arith, Bool, true, false, ltb, List, [], ◌∷◌, map, refl, sym, subst, ap, ◌∙◌}
+use Rattle.std.proofs.Common.{ℕ, ◌≡◌, ◌<◌, ◌⊎◌, inl, inr, arith, true, false, ltb, List, [], ◌∷◌, map, refl, sym, subst, ap, ◌∙◌}
 use Rattle.std.proofs.lemmas.Bool.{cases_Bool, cond-true, cond-false, ltb-true, ltb-false}
-use Rattle.std.specs.List.{list_any}
 use Rattle.ml_lists.specs.Ascending.{IsAscending}
 use Rattle.ml_lists.specs.Member.{IsMember}
 use Rattle.ml_lists.specs.Within.{Within}
-use Rattle.ml_lists.proofs.Member.{Image, member-map, member-map_from, list_any-member, member-list_any}
+use Rattle.ml_lists.proofs.Member.{Image, member-map, member-map_from}
 use Rattle.ml_trace.specs.Stack.{Item}
 use Rattle.ml_history.specs.private.Forest.{put_in, arranged}
 use Rattle.ml_lists.specs.Times.{IsApart}

@@ -4,11 +4,11 @@
 --   live-above       == the number of names in use is one more than the greatest age
 --   start_is_kept    == the tree of one state
 --   sorted_items     == the states with their stacks, sorted by states, are the items
-use Rattle.std.proofs.Common.{◌≡◌, ℕ, suc, ◌+◌, ◌<◌, ◌≤◌, ◌^◌, ◌⊎◌, ◌↔◌, inl, inr, arith, Bool, IsTrue, true, false, List, [], ◌∷◌, get_or, map, sum_by, refl, sym, subst, ap, ◌∙◌}
+use Rattle.std.proofs.Common.{◌≡◌, ℕ, suc, ◌+◌, ◌<◌, ◌≤◌, ◌^◌, ◌⊎◌, inl, inr, arith, List, [], ◌∷◌, get_or, map, sum_by, refl, sym, subst, ap, ◌∙◌}
 use Rattle.std.specs.List.Sorted.{IsPermutation, IsNonDecreasingBy}
 use Rattle.std.specs.Prelude.{Vec}
 use Rattle.std.specs.declared.alloc.Global.{Global}
-use Rattle.std.proofs.lemmas.Bool.{cases_Bool, cases_lt}
+use Rattle.std.proofs.lemmas.Bool.{cases_lt}
 use Rattle.std.proofs.lemmas.List.Sorted.{IsPermutation-map, IsPermutation-sym, sum_by-IsPermutation}
 use Rattle.std.proofs.lemmas.List.Sums.{sum_by-cons}
 use Rattle.ml_lists.specs.Ascending.{IsAscending}
@@ -22,7 +22,7 @@ use Rattle.ml_history.specs.HistoryStep.{above, live}
 use Rattle.ml_history.specs.History.{IsSmallHistory}
 use Rattle.ml_history.specs.Stacks.{stacked}
 use Rattle.ml_history.specs.private.TreeWalks.{behind}
-use Rattle.ml_history.specs.private.Vertices.{Rooted, joined, IsKept}
+use Rattle.ml_history.specs.private.Vertices.{IsKept}
 use Rattle.ml_history.proofs.trees.ItemsByState.{state_of, arranged-member, member-arranged, items_same}
 use Rattle.ml_history.proofs.trees.Forests.{places-states}
 use Rattle.ml_history.proofs.plain_step.PlainStep.{live-small}

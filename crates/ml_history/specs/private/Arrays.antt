@@ -8,7 +8,11 @@
 --   read states starts names    == the items that the arrays stand for
 --   AreLaidOut s b n h          == the arrays s, b and n are those of the items h
 --   IsHeld live h               == what the program's history keeps
-use Rattle.std.specs.Prelude.{◌≡◌, ℕ, ◌+◌, ◌-◌, List, [], ◌∷◌, length, take, drop, map}
+--   renamed number h            == the items h with the numbers of their names in place of the names
+--   AreParts starts names       == the parts that start there go over all names, and in each the names ascend
+--   StaysBelow number n         == where a name below n is its own number, so is each older one
+--   IsNumberedPart .. old new   == new is old with their numbers in place of some of the names
+use Rattle.std.specs.Prelude.{◌≡◌, ℕ, ◌+◌, ◌-◌, ◌<◌, ◌≤◌, List, [], ◌∷◌, length, slice_index_or, take, drop, map}
 use Rattle.ml_trace.specs.Stack.{Item}
 use Rattle.ml_history.specs.HistoryOrder.{names_of}
 use Rattle.ml_history.specs.HistoryStep.{live}
@@ -48,3 +52,28 @@ pub record IsHeld (used : ℕ) (h : List (Item ℕ)) : Type 0 where
 -- the items with the numbers of their names in place of the names
 abbrev pub renamed : (ℕ → ℕ) → List (Item ℕ) → List (Item ℕ)
 renamed number h = map (λ (a : Item ℕ). record { state = a.state; stack = map number a.stack }) h
+
+-- the parts that start there go over all names, one behind the other, and in each the names ascend
+pub record AreParts (starts names : List ℕ) : Type 0 where
+  pub first : slice_index_or starts 0 (length names) ≡ 0
+  pub rise : (i : ℕ)
+      → i < length starts
+      → slice_index_or starts i (length names) ≤ slice_index_or starts (i + 1) (length names)
+  pub fit : (i : ℕ) → i < length starts → slice_index_or starts (i + 1) (length names) ≤ length names
+  pub ascend : (i j k : ℕ)
+      → i < length starts
+      → slice_index_or starts i (length names) ≤ j
+      → j < k
+      → k < slice_index_or starts (i + 1) (length names)
+      → slice_index_or names j 0 < slice_index_or names k 0
+
+-- where a name below n is its own number, so is each older one
+abbrev pub StaysBelow : (ℕ → ℕ) → ℕ → Type 0
+StaysBelow number n = (y z : ℕ) → y < z → z < n → number z ≡ z → number y ≡ y
+
+-- new is old with their numbers in place of the names from the place `start` on, up to the place `end`
+pub record IsNumberedPart (number : ℕ → ℕ) (start end : ℕ) (old new : List ℕ) : Type 0 where
+  pub count : length new ≡ length old
+  pub inside : (k : ℕ) → start ≤ k → k < end → slice_index_or new k 0 ≡ number (slice_index_or old k 0)
+  pub before : (k : ℕ) → k < start → slice_index_or new k 0 ≡ slice_index_or old k 0
+  pub behind : (k : ℕ) → end ≤ k → slice_index_or new k 0 ≡ slice_index_or old k 0

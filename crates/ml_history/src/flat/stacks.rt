@@ -2,8 +2,9 @@
 ghost use Rattle.std.specs.Prelude.{◌≡◌, ℕ, ◌+◌, ◌<◌, ◌≤◌, ◌↔◌, IsTrue, IfOk, length, slice_index_or, map};
 ghost use Rattle.ml_lists.specs.Member.{IsMember};
 ghost use Rattle.ml_history.specs.HistoryOrder.{names_of};
-ghost use Rattle.ml_history.specs.private.Arrays.{part, read, AreLaidOut, renamed};
+ghost use Rattle.ml_history.specs.private.Arrays.{part, read, AreLaidOut, AreParts, IsNumberedPart, StaysBelow, renamed};
 ghost use Rattle.ml_history.specs.private.Keys.{stack_at};
+ghost use Rattle.ml_history.specs.private.Ways.{AreWays};
 
 use ml_base::NoMemory;
 use std::alloc::Global;
@@ -31,6 +32,14 @@ impl Model for Stacks {
     ghost invariant = { λ s. AreLaidOut s.states.items s.starts.items s.names.items (read s.states.items s.starts.items s.names.items) };
 }
 
+// Where the names from the i-th start on end: at the next one, or behind all `count` names.
+fn end_at(starts: &[usize], i: usize, count: usize) -> usize
+    requires { i < length starts.now }
+    ensures { result ≡ slice_index_or starts.now (i + 1) count }
+{
+    starts.get(i + 1).copied().unwrap_or(count)
+}
+
 // The names from the i-th start on, up to the next one or to the end.
 fn part_at<'a>(starts: &[usize], names: &'a [u32], i: usize) -> &'a [u32]
     requires low { i < length starts.now }
@@ -39,7 +48,7 @@ fn part_at<'a>(starts: &[usize], names: &'a [u32], i: usize) -> &'a [u32]
     ensures { result.now ≡ part names.now (slice_index_or starts.now i 0) (slice_index_or starts.now (i + 1) (length names.now)) }
 {
     let start = starts[i];
-    let end = starts.get(i + 1).copied().unwrap_or(names.len());
+    let end = end_at(starts, i, names.len());
     &names[start..end]
 }
 
@@ -111,9 +120,12 @@ impl Stacks {
             && self.names.as_slice() == other.names.as_slice()
     }
 
-    // The same states, with the numbers of their names in place of the names.
+    // The same states, with the numbers of their names in place of the names. Where a name is its own number, so are all
+    // older ones.
     pub(crate) fn renamed(self, numbers: &[u32]) -> Stacks
-        requires { (y : ℕ) → IsMember y (names_of self) → y < length numbers.now }
+        requires low { (y : ℕ) → IsMember y (names_of self) → y < length numbers.now }
+        requires ways { AreWays self }
+        requires stays { StaysBelow (λ y. slice_index_or numbers.now y 0) (length numbers.now) }
         ensures { result ≡ renamed (λ y. slice_index_or numbers.now y 0) self }
     {
         let Stacks {
@@ -121,25 +133,43 @@ impl Stacks {
             starts,
             names,
         } = self;
-        Stacks::of(states, starts, numbered(names, numbers))
+        let names = numbered(starts.as_slice(), names, numbers);
+        Stacks::of(states, starts, names)
     }
 }
 
-// Puts the number of each name in its place.
-fn number_all(names: &mut [u32], numbers: &[u32])
-    requires { (y : ℕ) → IsMember y names.old → y < length numbers.now }
-    ensures { names.new ≡ map (λ y. slice_index_or numbers.now y 0) names.old }
+// Puts the numbers of the names from `start` to `end` in their places, from the end on. These names ascend, so where one
+// is its own number all before it are.
+fn number_part(names: &mut Vec<u32>, start: usize, end: usize, numbers: &[u32])
+    requires low { (k : ℕ) → start ≤ k → k < end → slice_index_or names.old.items k 0 < length numbers.now }
+    requires fits { end ≤ length names.old.items }
+    requires rises { start ≤ end }
+    requires ascend { (j k : ℕ) → start ≤ j → j < k → k < end → slice_index_or names.old.items j 0 < slice_index_or names.old.items k 0 }
+    requires stays { StaysBelow (λ y. slice_index_or numbers.now y 0) (length numbers.now) }
+    ensures { IsNumberedPart (λ y. slice_index_or numbers.now y 0) start end names.old.items names.new.items }
 {
-    for name in names {
-        *name = numbers[*name as usize];
+    let mut rest = end;
+    while rest > start {
+        rest -= 1;
+        let name = names[rest];
+        let number = numbers[name as usize];
+        if number == name {
+            return;
+        }
+        names[rest] = number;
     }
 }
 
-// The numbers of the names.
-fn numbered(mut names: Vec<u32>, numbers: &[u32]) -> Vec<u32>
-    requires { (y : ℕ) → IsMember y names.items → y < length numbers.now }
+// The numbers of the names, part by part.
+fn numbered(starts: &[usize], mut names: Vec<u32>, numbers: &[u32]) -> Vec<u32>
+    requires low { (y : ℕ) → IsMember y names.items → y < length numbers.now }
+    requires parts { AreParts starts.now names.items }
+    requires stays { StaysBelow (λ y. slice_index_or numbers.now y 0) (length numbers.now) }
     ensures { result.items ≡ map (λ y. slice_index_or numbers.now y 0) names.items }
 {
-    number_all(names.as_mut_slice(), numbers);
+    for i in 0..starts.len() {
+        let end = end_at(starts, i, names.len());
+        number_part(&mut names, starts[i], end, numbers);
+    }
     names
 }

@@ -1,6 +1,5 @@
-use Rattle.std.proofs.Common.{◌≡◌, ◌∙◌, [], map, take, length, get_or, ap, sym, arith}
+use Rattle.std.proofs.Common.{◌∙◌, map, length, get_or, ap, arith}
 use Rattle.std.proofs.lemmas.List.{length-map}
-use Rattle.ml_trace.specs.Stack.{Item}
 use Rattle.ml_history.specs.Stacks.{stacked}
 use Rattle.ml_history.proofs.trees.ItemsByState.{state_of}
 use Rattle.ml_history.proofs.arrays.ItemByItem.{listed_next, take_whole}

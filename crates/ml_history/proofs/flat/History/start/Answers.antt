@@ -1,4 +1,4 @@
-use Rattle.std.proofs.Common.{◌∙◌, [], ◌∷◌}
+use Rattle.std.proofs.Common.{◌∙◌}
 use Rattle.ml_history.specs.private.Arrays.{read}
 use Rattle.ml_history.proofs.arrays.FlatStep.{held_start}
 use Rattle.ml_history.proofs.flat.History.start.Goals as goal

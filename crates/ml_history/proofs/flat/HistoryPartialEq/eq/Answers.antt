@@ -1,4 +1,4 @@
-use Rattle.std.proofs.Common.{ap, subst, sym, ◌∙◌, IsTrue, ◌↔◌, ◌≡◌}
+use Rattle.std.proofs.Common.{subst, IsTrue, ◌↔◌, ◌≡◌}
 use Rattle.ml_history.proofs.arrays.FlatStep.{same_value}
 use Rattle.ml_history.proofs.flat.HistoryPartialEq.eq.Goals as goal
 

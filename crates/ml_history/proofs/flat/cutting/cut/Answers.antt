@@ -11,10 +11,10 @@ use Rattle.ml_history.proofs.flat.cutting.cut.Goals as goal
 
 pub loop-offer-init : goal.loop-offer-init
 loop-offer-init c =
-    subst (λ ss. AreLaidOut ss c.in_ok-starts.starts.items c.new-names.result.items [])
+    subst (λ ss. AreLaidOut ss c.in_ok-starts.starts.items c.in_ok-names.names.items [])
     (sym c.in_ok-states.ensures.items)
-    (subst (λ bs. AreLaidOut [] bs c.new-names.result.items []) (sym c.in_ok-starts.ensures.items)
-    (subst (λ ns. AreLaidOut [] [] ns []) (sym c.new-names.ensures.items) laid_none))
+    (subst (λ bs. AreLaidOut [] bs c.in_ok-names.names.items []) (sym c.in_ok-starts.ensures.items)
+    (subst (λ ns. AreLaidOut [] [] ns []) (sym c.in_ok-names.ensures.items) laid_none))
 
 pub push_cut-requires-clause-source : goal.push_cut-requires-clause-source
 push_cut-requires-clause-source c =

@@ -4,7 +4,7 @@ use Rattle.ml_lists.proofs.Member.{place-member}
 use Rattle.ml_history.specs.private.TreeStep.{flagged}
 use Rattle.ml_history.specs.declared.flat.offers.Offer.{Offer}
 use Rattle.ml_history.proofs.plain_step.PlainStep.{live-small}
-use Rattle.ml_history.proofs.arrays.CutOffers.{marked_none, marked_more, full_told}
+use Rattle.ml_history.proofs.arrays.CutOffers.{marked_none, marked_more, source_down, full_told}
 use Rattle.ml_history.proofs.flat.cutting.full_names.Goals as goal
 
 pub overflow_mul-bound : goal.overflow_mul-bound
@@ -31,6 +31,13 @@ mark_offer-requires-clause-standing c = c.loop-offer.invariant.standing_count
 
 pub mark_offer-requires-clause-ends : goal.mark_offer-requires-clause-ends
 mark_offer-requires-clause-ends c = c.loop-offer.invariant.ends_count
+
+pub mark_offer-requires-clause-down : goal.mark_offer-requires-clause-down
+mark_offer-requires-clause-down c =
+    let d : Offer = record { target = 0; source = 0; place = 0; accepting = false } in
+    source_down c.args.history.now c.args.best.now c.loop-offer.offer-index d c.loop-offer.standing.items
+    c.loop-offer.ends.items c.requires.history.history c.requires.sources c.requires.ways c.loop-offer-test.true
+    c.loop-offer.invariant
 
 pub loop-offer-preserved : goal.loop-offer-preserved
 loop-offer-preserved c =

@@ -1,4 +1,4 @@
-use Rattle.std.proofs.Common.{ℕ, get_or, ◌∙◌, sym, arith}
+use Rattle.std.proofs.Common.{get_or, arith}
 use Rattle.ml_lists.proofs.Member.{place-member}
 use Rattle.ml_history.specs.private.TreeStep.{flagged}
 use Rattle.ml_history.proofs.arrays.CutOffers.{through_first, through_next, through_stop, through_end}

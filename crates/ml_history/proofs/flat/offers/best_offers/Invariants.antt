@@ -1,4 +1,3 @@
-use Rattle.std.proofs.Common.{ℕ}
 use Rattle.ml_history.proofs.arrays.BestOffers.{BestSoFar}
 use Rattle.ml_history.proofs.flat.offers.best_offers.Given as goal
 

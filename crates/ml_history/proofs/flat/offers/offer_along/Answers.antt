@@ -1,9 +1,8 @@
-use Rattle.std.proofs.Common.{ℕ, ◌≡◌, ◌<◌, ◌≤◌, ◌∙◌, Err, length, get_or, map, ap, subst, sym, refl, arith}
+use Rattle.std.proofs.Common.{◌<◌, ◌∙◌, length, get_or, map, ap, subst, sym, refl, arith}
 use Rattle.std.proofs.lemmas.List.{length-map}
 use Rattle.std.proofs.lemmas.List.Sorted.{searched}
 use Rattle.ml_lists.specs.Ascending.{IsAscending}
 use Rattle.ml_history.specs.HistoryStep.{last_name}
-use Rattle.ml_history.specs.private.Keys.{stack_at}
 use Rattle.ml_history.proofs.trees.ItemsByState.{state_of}
 use Rattle.ml_history.proofs.arrays.BestOffers.{Found, Rises, nowhere, along_one, along_none, states_rise}
 use Rattle.ml_history.proofs.arrays.OrderOfNames.{last-low}

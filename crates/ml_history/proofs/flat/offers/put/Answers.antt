@@ -1,4 +1,4 @@
-use Rattle.std.proofs.Common.{◌≡◌, ◌∙◌, ◌-◌, Some, true, false, length, slice_get, ap, sym, arith}
+use Rattle.std.proofs.Common.{◌≡◌, ◌∙◌, ◌-◌, Some, length, slice_get, ap, sym, arith}
 use Rattle.ml_history.proofs.arrays.BestOffers.{put_other, put_better, put_worse}
 use Rattle.ml_history.proofs.flat.offers.put.Goals as goal
 

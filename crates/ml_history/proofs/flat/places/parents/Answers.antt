@@ -1,4 +1,4 @@
-use Rattle.std.proofs.Common.{rules, ℕ, ◌≡◌, ◌<◌, ◌≤◌, ◌+◌, ◌∙◌, length, get_or, ap, subst, sym, arith}
+use Rattle.std.proofs.Common.{◌≡◌, ◌∙◌, get_or, ap, arith}
 use Rattle.std.proofs.Math.ListN.{set, length-set}
 use Rattle.ml_history.specs.HistoryStep.{last_name, live}
 use Rattle.ml_history.specs.private.Keys.{stack_at}

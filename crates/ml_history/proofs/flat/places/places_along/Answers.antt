@@ -1,4 +1,4 @@
-use Rattle.std.proofs.Common.{rules, ℕ, ◌≡◌, ◌<◌, ◌≤◌, ◌+◌, ◌-◌, ◌∙◌, ◌*◌, ◌^◌, length, get_or, ap, subst, sym, arith}
+use Rattle.std.proofs.Common.{rules, ℕ, ◌≡◌, ◌<◌, ◌+◌, ◌-◌, ◌∙◌, ◌*◌, ◌^◌, length, get_or, ap, sym, arith}
 use Rattle.std.proofs.Math.ListN.{set, length-set}
 use Rattle.ml_history.specs.private.Line.{line, parent_in}
 use Rattle.ml_history.proofs.arrays.NameLine.{links-at, line-head, names_line-length, names_line-low, names_line-within, places_next}

@@ -1,4 +1,4 @@
-use Rattle.std.proofs.Common.{◌≡◌, ◌+◌, ◌≤◌, ◌<◌, ◌∙◌, arith, length, get_or, ap, subst, sym}
+use Rattle.std.proofs.Common.{◌+◌, ◌≤◌, ◌<◌, ◌∙◌, arith, length, get_or, ap, subst, sym}
 use Rattle.ml_history.specs.private.Arrays.{part, read}
 use Rattle.ml_history.specs.private.Keys.{stack_at}
 use Rattle.ml_history.proofs.arrays.StackLayout.{laid-stack, laid-starts_length}
