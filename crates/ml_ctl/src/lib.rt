@@ -1,0 +1,17 @@
+// CTL*: its formulas, what they mean, and their texts; and the parts of LTL that are the same.
+//
+// Begin with `Formula`, a state formula, which contracts see as the plain formula of `specs/Formula.antt`. What formulas
+// mean, along paths and at states, stands in `specs/Meaning.antt`, and where a problem holds in `specs/Problem.antt`. The
+// module `laws` has what is true of meanings.
+//
+// Below stand `ml_text`, with tokens and grammars, and `ml_base`, with structures.
+#![tactic(auto)]
+
+mod copying;
+mod formula;
+pub mod laws;
+mod term;
+
+pub use copying::{copy, copy_term, count_term, occurrences};
+pub use formula::Formula;
+pub use term::Term;
