@@ -5,7 +5,7 @@
 --   reads_formula        == their signs are read as f
 --   canonical_tokens     == these are the tokens of the text alone
 --   canonical_stands     == so the text stands for f
-use Rattle.std.proofs.Common.{◌≡◌, ℕ, Bool, true, false, ◌&&◌, not, List, [], ◌∷◌, ◌++◌, map, refl, sym, ◌∙◌, ap, subst, codes, append_assoc}
+use Rattle.std.proofs.Common.{◌≡◌, ℕ, true, false, not, List, [], ◌∷◌, ◌++◌, map, refl, sym, ◌∙◌, ap, subst, codes, append_assoc}
 use Rattle.std.proofs.lemmas.Bool.{and_parts, false≢true}
 use Rattle.std.proofs.lemmas.List.{append-nil}
 use Rattle.ml_text.specs.Bytes.{is_lower}
@@ -215,7 +215,8 @@ reads_formula w s (plain.Quantified q f) is stand ss = quantified_back w s q f s
 
 -- ---- the text
 
-signs_spelt : (text : List ℕ) (ps : List Placed) → signs_of (items_from text ps) ≡ map sign_spelt (map (spelt_at text) ps)
+signs_spelt : (text : List ℕ) (ps : List Placed)
+    → signs_of (items_from text ps) ≡ map sign_spelt (map (spelt_at text) ps)
 signs_spelt text [] = refl
 signs_spelt text (p ∷ ps) = ap (λ ts. sign_at text p ∷ ts) (signs_spelt text ps)
 
@@ -228,7 +229,10 @@ canonical_tokens f is =
     subst (λ t. Scans LowerCase t (tokens_onto f [])) (append-nil text) (scans_formula f is [] [] refl ends) in
     scans_tokens LowerCase text (tokens_onto f []) scans
 
-pub canonical_stands : (w : Logic) (f : Formula) → is_spelled f ≡ true → is_of w f ≡ true → IsTextOf w (canonical_text f) f
+pub canonical_stands : (w : Logic) (f : Formula)
+    → is_spelled f ≡ true
+    → is_of w f ≡ true
+    → IsTextOf w (canonical_text f) f
 canonical_stands w f is stand =
     let text = canonical_text f in
     let signs_are : signs_of (items text) ≡ map sign_spelt (tokens_onto f []) =

@@ -2,7 +2,7 @@
 --
 --   ctl_fits      == the tables are those of the grammar, and what the machine asks for
 --   one_formula   == signs stand for one formula at most
-use Rattle.std.proofs.Common.{◌≡◌, ℕ, true, List, [], ◌∷◌, ◌++◌, Some, refl, subst, arith}
+use Rattle.std.proofs.Common.{◌≡◌, true, List, [], ◌∷◌, ◌++◌, Some, refl, subst, arith}
 use Rattle.ml_text.specs.Grammar.{More, Opens, sign, read, whole, front, IsStop, IsRegular, Ending, IsCompletable, StandsFor}
 use Rattle.ml_text.proofs.Complete.{one_tree}
 use Rattle.ml_text.proofs.Fits.{Fits}

@@ -2,7 +2,7 @@
 --
 --   tabled    == what the grammar reads, the tables read
 --   untabled  == what the tables read, the grammar reads
-use Rattle.std.proofs.Common.{◌≡◌, ℕ, ◌≤◌, false, List, [], ◌∷◌, Option, Some, None, refl, sym, ap, subst, arith}
+use Rattle.std.proofs.Common.{◌≡◌, ℕ, ◌≤◌, false, List, ◌∷◌, Option, Some, None, refl, sym, subst, arith}
 use Rattle.ml_text.specs.declared.token.Operator.{Operator}
 use Rattle.ml_text.specs.declared.token.Operator.TheVariants as operator
 use Rattle.ml_text.specs.Grammar as tables
@@ -91,7 +91,11 @@ number grammar.Pair = 4
 number grammar.Un = 5
 
 module _ {w : Logic} {s : Sort} where
-  pair_raised : (l : grammar.Level) → number l ≤ 4 → {ts rest : List Sign} {f : Formula} → Reads w s grammar.Pair ts f rest → Reads w s l ts f rest
+  pair_raised : (l : grammar.Level)
+      → number l ≤ 4
+      → {ts rest : List Sign} {f : Formula}
+      → Reads w s grammar.Pair ts f rest
+      → Reads w s l ts f rest
   pair_raised grammar.Un le r = absurd (omega arith)
   pair_raised grammar.Pair le r = r
   pair_raised grammar.And le r = and_alone r
@@ -99,7 +103,9 @@ module _ {w : Logic} {s : Sort} where
   pair_raised grammar.Imp le r = imp_alone (or_alone (and_alone r))
   pair_raised grammar.Iff le r = iff_alone (imp_alone (or_alone (and_alone r)))
 
-  pub un_raised : (l : grammar.Level) {ts rest : List Sign} {f : Formula} → Reads w s grammar.Un ts f rest → Reads w s l ts f rest
+  pub un_raised : (l : grammar.Level) {ts rest : List Sign} {f : Formula}
+      → Reads w s grammar.Un ts f rest
+      → Reads w s l ts f rest
   un_raised grammar.Un r = r
   un_raised grammar.Pair r = pair_alone r
   un_raised grammar.And r = and_alone (pair_alone r)
@@ -107,7 +113,11 @@ module _ {w : Logic} {s : Sort} where
   un_raised grammar.Imp r = imp_alone (or_alone (and_alone (pair_alone r)))
   un_raised grammar.Iff r = iff_alone (imp_alone (or_alone (and_alone (pair_alone r))))
 
-  and_raised : (l : grammar.Level) → number l ≤ 3 → {ts rest : List Sign} {f : Formula} → Reads w s grammar.And ts f rest → Reads w s l ts f rest
+  and_raised : (l : grammar.Level)
+      → number l ≤ 3
+      → {ts rest : List Sign} {f : Formula}
+      → Reads w s grammar.And ts f rest
+      → Reads w s l ts f rest
   and_raised grammar.Un le r = absurd (omega arith)
   and_raised grammar.Pair le r = absurd (omega arith)
   and_raised grammar.And le r = r
@@ -115,18 +125,30 @@ module _ {w : Logic} {s : Sort} where
   and_raised grammar.Imp le r = imp_alone (or_alone r)
   and_raised grammar.Iff le r = iff_alone (imp_alone (or_alone r))
 
-  or_raised : (l : grammar.Level) → number l ≤ 2 → {ts rest : List Sign} {f : Formula} → Reads w s grammar.Or ts f rest → Reads w s l ts f rest
+  or_raised : (l : grammar.Level)
+      → number l ≤ 2
+      → {ts rest : List Sign} {f : Formula}
+      → Reads w s grammar.Or ts f rest
+      → Reads w s l ts f rest
   or_raised grammar.Or le r = r
   or_raised grammar.Imp le r = imp_alone r
   or_raised grammar.Iff le r = iff_alone (imp_alone r)
   or_raised _ le r = absurd (omega arith)
 
-  imp_raised : (l : grammar.Level) → number l ≤ 1 → {ts rest : List Sign} {f : Formula} → Reads w s grammar.Imp ts f rest → Reads w s l ts f rest
+  imp_raised : (l : grammar.Level)
+      → number l ≤ 1
+      → {ts rest : List Sign} {f : Formula}
+      → Reads w s grammar.Imp ts f rest
+      → Reads w s l ts f rest
   imp_raised grammar.Imp le r = r
   imp_raised grammar.Iff le r = iff_alone r
   imp_raised _ le r = absurd (omega arith)
 
-  iff_raised : (l : grammar.Level) → number l ≤ 0 → {ts rest : List Sign} {f : Formula} → Reads w s grammar.Iff ts f rest → Reads w s l ts f rest
+  iff_raised : (l : grammar.Level)
+      → number l ≤ 0
+      → {ts rest : List Sign} {f : Formula}
+      → Reads w s grammar.Iff ts f rest
+      → Reads w s l ts f rest
   iff_raised grammar.Iff le r = r
   iff_raised _ le r = absurd (omega arith)
 
@@ -159,21 +181,33 @@ Untabled w (Rest m) ts f rest = OfMode w m ts f rest
 Untabled w (Behind t turn) ts f rest = OfTurn w turn ts f rest
 
 -- the formula of a form, which is equal to the one that is read
-same_tree : {w : Logic} {s : Sort} {l : grammar.Level} {ts rest : List Sign} {f g : Formula} → f ≡ g → Reads w s l ts f rest → Reads w s l ts g rest
+same_tree : {w : Logic} {s : Sort} {l : grammar.Level} {ts rest : List Sign} {f g : Formula}
+    → f ≡ g
+    → Reads w s l ts f rest
+    → Reads w s l ts g rest
 same_tree {w} {s} {l} {ts} {rest} e r = subst (λ h. Reads w s l ts h rest) e r
 
-both_same : {w : Logic} {s : Sort} {l : grammar.Level} {t : Sign} {ts rest : List Sign} {h f : Formula} → (h ≡ f) × (ts ≡ rest) → Reads w s l (t ∷ ts) h ts → Reads w s l (t ∷ ts) f rest
+both_same : {w : Logic} {s : Sort} {l : grammar.Level} {t : Sign} {ts rest : List Sign} {h f : Formula}
+    → (h ≡ f) × (ts ≡ rest)
+    → Reads w s l (t ∷ ts) h ts
+    → Reads w s l (t ∷ ts) f rest
 both_same {w} {s} {l} {t} {ts} {rest} {h} {f} e r = subst (λ x. Reads w s l (t ∷ ts) x rest) e.0 (subst (λ us. Reads w s l (t ∷ ts) h us) e.1 r)
 
-tense_completes : (w : Logic) (s : Sort) (t : Tense) (ts rest : List Sign) (f : Formula) → OfTurn w (shift w (Start s) (Tensed t)) ts f rest → Reads w s grammar.Un (Tensed t ∷ ts) f rest
+tense_completes : (w : Logic) (s : Sort) (t : Tense) (ts rest : List Sign) (f : Formula)
+    → OfTurn w (shift w (Start s) (Tensed t)) ts f rest
+    → Reads w s grammar.Un (Tensed t ∷ ts) f rest
 tense_completes w State t ts rest f r = absurd r
 tense_completes w Path t ts rest f r = same_tree r.1 (temporal t r.2)
 
-quantifier_completes : (w : Logic) (s : Sort) (q : Quantifier) (ts rest : List Sign) (f : Formula) → OfTurn w (shift w (Start s) (Quantifies q)) ts f rest → Reads w s grammar.Un (Quantifies q ∷ ts) f rest
+quantifier_completes : (w : Logic) (s : Sort) (q : Quantifier) (ts rest : List Sign) (f : Formula)
+    → OfTurn w (shift w (Start s) (Quantifies q)) ts f rest
+    → Reads w s grammar.Un (Quantifies q ∷ ts) f rest
 quantifier_completes Ctl s q ts rest f r = same_tree r.1 (quantified q refl r.2)
 quantifier_completes Ltl s q ts rest f r = absurd r
 
-sign_completes : (w : Logic) (q : Wait) (t : Sign) (ts rest : List Sign) (f : Formula) → OfTurn w (shift w q t) ts f rest → Completes w q (t ∷ ts) f rest
+sign_completes : (w : Logic) (q : Wait) (t : Sign) (ts rest : List Sign) (f : Formula)
+    → OfTurn w (shift w q t) ts f rest
+    → Completes w q (t ∷ ts) f rest
 sign_completes w (Start s) Not ts rest f r = same_tree r.1 (negation r.2)
 sign_completes w (Start s) (Const b) ts rest f r = both_same r (constant b)
 sign_completes w (Start s) (Lower p) ts rest f r = both_same r (proposition p)
@@ -184,19 +218,31 @@ sign_completes w (Start s) _ ts rest f r = absurd r
 sign_completes w (BehindInside h) Close ts rest f r = λ s us a. subst (λ x. Reads w s grammar.Un (Open ∷ us) x rest) r.0 (group (subst (λ vs. Reads w s grammar.Iff us h (Close ∷ vs)) r.1 a))
 sign_completes w (BehindInside h) _ ts rest f r = absurd r
 
-inner_enters : (w : Logic) (k : Hold) (ts us rest : List Sign) (v f : Formula) → Untabled w (Level (Rattle.ml_ctl.specs.private.Tables.sort k) (Rattle.ml_ctl.specs.private.Tables.level k)) ts v us → OfMode w (resume k v) us f rest → Enters w k ts f rest
+inner_enters : (w : Logic) (k : Hold) (ts us rest : List Sign) (v f : Formula)
+    → Untabled w (Level (Rattle.ml_ctl.specs.private.Tables.sort k) (Rattle.ml_ctl.specs.private.Tables.level k)) ts v us
+    → OfMode w (resume k v) us f rest
+    → Enters w k ts f rest
 inner_enters w (Negation s) ts us rest v f a r = (v, r.0, subst (λ vs. Reads w s grammar.Un ts v vs) r.1 (a grammar.Un (omega arith)))
 inner_enters w (Tensing t) ts us rest v f a r = (v, r.0, subst (λ vs. Reads w Path grammar.Un ts v vs) r.1 (a grammar.Un (omega arith)))
 inner_enters w (Quantifying q) ts us rest v f a r = (v, r.0, subst (λ vs. Reads w Path grammar.Un ts v vs) r.1 (a grammar.Un (omega arith)))
 inner_enters w (Group s) ts us rest v f a r = r s ts (a grammar.Iff (omega arith))
 
-joined_at : (w : Logic) (s : Sort) (o : Operator) (ts us rest : List Sign) (f h : Formula) (at : grammar.Level) → number at ≤ operator_level o → Untabled w (Level s (left_level (ctl_grammar w) s (operator_level o))) ts f (Connective o ∷ us) → Untabled w (Level s (right_level (ctl_grammar w) s (operator_level o))) us h rest → Reads w s at ts (plain.Binary o f h) rest
+joined_at : (w : Logic) (s : Sort) (o : Operator) (ts us rest : List Sign) (f h : Formula) (at : grammar.Level)
+    → number at ≤ operator_level o
+    → Untabled w (Level s (left_level (ctl_grammar w) s (operator_level o))) ts f (Connective o ∷ us)
+    → Untabled w (Level s (right_level (ctl_grammar w) s (operator_level o))) us h rest
+    → Reads w s at ts (plain.Binary o f h) rest
 joined_at w s operator.Iff ts us rest f h at le a b = iff_raised at le (iff (a grammar.Imp (omega arith)) (b grammar.Iff (omega arith)))
 joined_at w s operator.Implies ts us rest f h at le a b = imp_raised at le (imp (a grammar.Or (omega arith)) (b grammar.Imp (omega arith)))
 joined_at w s operator.Or ts us rest f h at le a b = or_raised at le (or (a grammar.Or (omega arith)) (b grammar.And (omega arith)))
 joined_at w s operator.And ts us rest f h at le a b = and_raised at le (and (a grammar.And (omega arith)) (b grammar.Pair (omega arith)))
 
-joined_back : (w : Logic) (s : Sort) (o : Sign) (m l : ℕ) (ts us rest : List Sign) (f h : Formula) → role s o ≡ Infix m → l ≤ m → Untabled w (Level s (left_level (ctl_grammar w) s m)) ts f (o ∷ us) → Untabled w (Level s (right_level (ctl_grammar w) s m)) us h rest → Untabled w (Level s l) ts (Rattle.ml_ctl.specs.private.Tables.join o f h) rest
+joined_back : (w : Logic) (s : Sort) (o : Sign) (m l : ℕ) (ts us rest : List Sign) (f h : Formula)
+    → role s o ≡ Infix m
+    → l ≤ m
+    → Untabled w (Level s (left_level (ctl_grammar w) s m)) ts f (o ∷ us)
+    → Untabled w (Level s (right_level (ctl_grammar w) s m)) us h rest
+    → Untabled w (Level s l) ts (Rattle.ml_ctl.specs.private.Tables.join o f h) rest
 joined_back w s (Connective o) m l ts us rest f h is le a b =
     let same : m ≡ operator_level o = cc in
     λ at below. joined_at w s o ts us rest f h at (omega arith)
@@ -210,7 +256,9 @@ joined_back w Path (Pairs p) m l ts us rest f h is le a b =
     λ at below. pair_raised at (omega arith) (pair p (left grammar.Un (omega arith)) (right grammar.Pair (omega arith)))
 joined_back w s _ m l ts us rest f h is le a b = absurd (cc)
 
-pub untabled : (w : Logic) {p : Part (ctl_grammar w)} {ts rest : List Sign} {f : Formula} → Tabled w p ts f rest → Untabled w p ts f rest
+pub untabled : (w : Logic) {p : Part (ctl_grammar w)} {ts rest : List Sign} {f : Formula}
+    → Tabled w p ts f rest
+    → Untabled w p ts f rest
 untabled w (alone r) = λ at le. un_raised at (untabled w r)
 untabled w (joined {s = s} {l = l} {ts = ts} {us = us} {rest = rest} {f = f} {h = h} o m is le a b) = joined_back w s o m l ts us rest f h is le (untabled w a) (untabled w b)
 untabled w (postfixed o is makes r) = absurd (cc)

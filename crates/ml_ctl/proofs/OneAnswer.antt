@@ -43,7 +43,10 @@ record Reason (w : Logic) (text : List ℕ) (e : ParseRefusal) : Type 0 where
   pub first : ComesFirst w text (cause_of e) (place_of e)
   pub back : refusal_of (cause_of e) (place_of e) ≡ e
 
-reason : (w : Logic) (text : List ℕ) (e : ParseRefusal) → (e ≡ refusal.NoMemory → ⊥) → IsRefusedBy w text e → Reason w text e
+reason : (w : Logic) (text : List ℕ) (e : ParseRefusal)
+    → (e ≡ refusal.NoMemory → ⊥)
+    → IsRefusedBy w text e
+    → Reason w text e
 reason w text (refusal.Syntax at) some is = record { first = is; back = refl }
 reason w text (refusal.TooMany at) some is = record { first = is; back = refl }
 reason w text (refusal.TooNested at) some is = record { first = is; back = refl }
@@ -60,7 +63,10 @@ refused_one_way w text e d a b p q =
     let place : place_of e ≡ place_of d = (r.first).2 ∙ ap (offset_of (items text) (length text)) same.1 ∙ sym (s.first).2 in
     sym r.back ∙ ap (λ c. refusal_of c (place_of e)) same.0 ∙ ap (refusal_of (cause_of d)) place ∙ s.back
 
-never : (w : Logic) (text : List ℕ) (f : Formula) (c : Cause) (at : ℕ) → IsParsedAs w text f → ComesFirst w text c at → ⊥
+never : (w : Logic) (text : List ℕ) (f : Formula) (c : Cause) (at : ℕ)
+    → IsParsedAs w text f
+    → ComesFirst w text c at
+    → ⊥
 never w text f c at parsed first = accepted_not_refused (IsReadAs w) (items text) f c first.0 parsed first.1
 
 pub parsed_or_refused : NeverBoth
@@ -75,7 +81,10 @@ parsed_or_refused w text f refusal.NoMemory parsed is = refl
 abbrev Answered : Logic → List ℕ → Type 0
 Answered w text = ((f : Formula) × IsParsedAs w text f) ⊎ ((e : ParseRefusal) × (e ≡ refusal.NoMemory → ⊥) × IsRefusedBy w text e)
 
-refused : (w : Logic) (text : List ℕ) (e : ParseRefusal) → (e ≡ refusal.NoMemory → ⊥) → IsRefusedBy w text e → Answered w text
+refused : (w : Logic) (text : List ℕ) (e : ParseRefusal)
+    → (e ≡ refusal.NoMemory → ⊥)
+    → IsRefusedBy w text e
+    → Answered w text
 refused w text e other is = inr (e, other, is)
 
 by_cause : (w : Logic) (text : List ℕ) (c : Cause) (at : ℕ) → ComesFirst w text c at → Answered w text

@@ -40,10 +40,14 @@ comes_of w text = exact (ctl_grammar w) (IsReadAs w) (ctl_fits w) (items text) (
 pub found_parsed : (w : Logic) (text : List ℕ) (f : Formula) → ctl_outcome w text ≡ Found f → IsParsedAs w text f
 found_parsed w text f is = subst (IsRight w text) is (comes_of w text)
 
-pub comes_first : (w : Logic) (text : List ℕ) (c : Cause) (at : ℕ) → ctl_outcome w text ≡ Refused c at → ComesFirst w text c at
+pub comes_first : (w : Logic) (text : List ℕ) (c : Cause) (at : ℕ)
+    → ctl_outcome w text ≡ Refused c at
+    → ComesFirst w text c at
 comes_first w text c at is = subst (IsRight w text) is (comes_of w text)
 
-pub refused_first : (w : Logic) (text : List ℕ) (e : ParseRefusal) → IsRefusal e (ctl_outcome w text) → IsRefusedBy w text e
+pub refused_first : (w : Logic) (text : List ℕ) (e : ParseRefusal)
+    → IsRefusal e (ctl_outcome w text)
+    → IsRefusedBy w text e
 refused_first w text (refusal.Syntax at) is = comes_first w text Syntax at is
 refused_first w text (refusal.TooMany at) is = comes_first w text TooMany at is
 refused_first w text (refusal.TooNested at) is = comes_first w text TooNested at is

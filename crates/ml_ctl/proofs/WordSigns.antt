@@ -2,8 +2,8 @@
 --
 --   name_word         == a word that is no constant is a name
 --   proposition_sign  == so is a proposition
-use Rattle.std.proofs.Common.{◌≡◌, ℕ, Bool, true, false, not, List, [], ◌∷◌, Option, Some, None, refl, sym, ◌∙◌, ap, codes, bytes_eq, cond, ◌||◌}
-use Rattle.std.specs.List.{list_all, list_any}
+use Rattle.std.proofs.Common.{◌≡◌, ℕ, Bool, true, false, not, List, [], ◌∷◌, Some, None, refl, sym, ◌∙◌, ap, codes, bytes_eq, cond, ◌||◌}
+use Rattle.std.specs.List.{list_all}
 use Rattle.std.proofs.lemmas.Bool.{and_from, and_parts, or_parts, not_from_false, cond-true}
 use Rattle.std.proofs.lemmas.List.Sums.{list_all-from_AllPass}
 use Rattle.ml_text.specs.Bytes.{is_lower, is_word_byte}

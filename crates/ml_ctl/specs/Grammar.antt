@@ -68,7 +68,9 @@ pub data Reads (w : Logic) : Sort → Level → List Sign → Formula → List S
       → Reads w Path Pair us g rest
       → Reads w Path Pair ts (plain.Paired p f g) rest
   -- NOT un
-  negation : {s : Sort} {ts rest : List Sign} {f : Formula} → Reads w s Un ts f rest → Reads w s Un (Not ∷ ts) (plain.Not f) rest
+  negation : {s : Sort} {ts rest : List Sign} {f : Formula}
+      → Reads w s Un ts f rest
+      → Reads w s Un (Not ∷ ts) (plain.Not f) rest
   -- ( "X" | "F" | "G" ) pun
   temporal : {ts rest : List Sign} {f : Formula} (t : Tense)
       → Reads w Path Un ts f rest
@@ -79,7 +81,9 @@ pub data Reads (w : Logic) : Sort → Level → List Sign → Formula → List S
       → Reads w Path Un ts f rest
       → Reads w s Un (Quantifies q ∷ ts) (plain.Quantified q f) rest
   -- "(" iff ")"
-  group : {s : Sort} {ts rest : List Sign} {f : Formula} → Reads w s Iff ts f (Close ∷ rest) → Reads w s Un (Open ∷ ts) f rest
+  group : {s : Sort} {ts rest : List Sign} {f : Formula}
+      → Reads w s Iff ts f (Close ∷ rest)
+      → Reads w s Un (Open ∷ ts) f rest
   -- TT, FF, PROP
   constant : {s : Sort} {rest : List Sign} (b : Bool) → Reads w s Un (Const b ∷ rest) (plain.Const b) rest
   proposition : {s : Sort} {rest : List Sign} (p : List ℕ) → Reads w s Un (Lower p ∷ rest) (plain.Prop p) rest

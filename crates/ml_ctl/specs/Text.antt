@@ -6,7 +6,7 @@
 --   ctl_signs          == the signs of texts; nothing is to be known of those before
 --   items text         == the items of a text
 --   IsTextOf w text f  == the text is one of f by the grammar, in the logic w
-use Rattle.std.specs.Prelude.{ℕ, Bool, false, List}
+use Rattle.std.specs.Prelude.{ℕ, false, List}
 use Rattle.ml_text.specs.declared.token.WordStart.TheVariants.{LowerCase}
 use Rattle.ml_text.specs.declared.token.Placed.{Placed}
 use Rattle.ml_text.specs.Items as text_items

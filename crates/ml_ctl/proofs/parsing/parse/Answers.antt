@@ -1,8 +1,7 @@
-use Rattle.std.proofs.Common.{rules, ◌≡◌, sym, subst}
+use Rattle.std.proofs.Common.{rules, sym, subst}
 use Rattle.ml_ctl.specs.Formula.{Ctl}
 use Rattle.ml_ctl.specs.Parsing.{IsParsedAs}
 use Rattle.ml_ctl.specs.Term.{formula_of}
-use Rattle.ml_ctl.specs.WellFormed.{IsWellFormed}
 use Rattle.ml_ctl.proofs.Parsed.{refused_first, found_parsed, found_well}
 use Rattle.ml_ctl.proofs.parsing.parse.Goals as goal
 
