@@ -38,3 +38,5 @@ pub mod CanonicalTexts
 pub mod CanonicalLimits
 -- canonical texts are parsed
 pub mod CanonicalParsed
+-- paths of total structures
+pub mod TotalPaths

@@ -1,5 +1,5 @@
 // What holds of texts by their grammar alone, and of meanings: the functions do nothing, their contracts are the theorems.
-ghost use Rattle.ml_ctl.specs.Laws.{AllAreNotSome, FollowsThePath, LooksAtTheState, NegationsOfFinally, NegationsOfGlobally, NegationsOfNext, NegationsOfRelease, NegationsOfUntil, NegationsOfWeak, ReadAhead, ReadStepByStep, SomeAreNotAll};
+ghost use Rattle.ml_ctl.specs.Laws.{AllAreNotSome, FollowsThePath, LooksAtTheState, NegationsOfFinally, NegationsOfGlobally, NegationsOfNext, NegationsOfRelease, NegationsOfUntil, NegationsOfWeak, PathsStart, ReadAhead, ReadStepByStep, SomeAreNotAll};
 ghost use Rattle.ml_ctl.specs.Parsing.{CanonicalIsParsed, CanonicalStandsForOne, NeverBoth, ParsedAreWellFormed, ParsedOnce, RefusedOnce, SomeAnswer, StandForOne};
 
 /// A text stands for one formula at most, by the grammar alone.
@@ -78,4 +78,9 @@ pub fn temporal_operators_have_duals()
 pub fn quantifiers_have_duals()
     ensures all { AllAreNotSome }
     ensures some { SomeAreNotAll }
+{}
+
+/// From each state of a structure of which CTL* and LTL speak, some path starts. So `A f` never holds for want of a path.
+pub fn paths_start()
+    ensures { PathsStart }
 {}
