@@ -27,8 +27,14 @@ fn formulas(rt: HostRuntime) -> Result<(), Fail> {
         (b"p <-> X p", b"(p <-> X p)"),
         (b"G F p & F G !p", b"(G F p & F G !p)"),
         (b"F p1 & F p2", b"(F p1 & F p2)"),
-        (b"G(req -> F ack) -> (G F req -> G F ack)", b"(G (req -> F ack) -> (G F req -> G F ack))"),
-        (b"p & X !p & G(p -> X !p) & G(!p -> X p)", b"(((p & X !p) & G (p -> X !p)) & G (!p -> X p))"),
+        (
+            b"G(req -> F ack) -> (G F req -> G F ack)",
+            b"(G (req -> F ack) -> (G F req -> G F ack))",
+        ),
+        (
+            b"p & X !p & G(p -> X !p) & G(!p -> X p)",
+            b"(((p & X !p) & G (p -> X !p)) & G (!p -> X p))",
+        ),
     ];
     for (text, want) in rows {
         assert!(rt; reads(rt.alloc(), text, want)?, "{text:?}");
