@@ -1,0 +1,28 @@
+-- formulas
+pub mod Formula
+-- paths of a structure
+pub mod Paths
+-- what formulas mean
+pub mod Meaning
+-- problems
+pub mod Problem
+-- what is true of meanings
+pub mod Laws
+-- the plain formula of a term
+pub mod Term
+-- which words are propositions
+pub mod Spelling
+-- the formulas that the program holds
+pub mod WellFormed
+-- the signs of texts
+pub mod Signs
+-- the grammar of texts
+pub mod Grammar
+-- texts as items
+pub mod Text
+-- the canonical text
+pub mod Canonical
+-- what is parsed, and what is refused
+pub mod Parsing
+-- what private contracts cite
+pub mod private
