@@ -6,7 +6,7 @@
 --   none_yet                == without edges: no state
 --   one_more, one_kept      == an edge that leads into the set, and one that doesn't
 --   all_edges               == behind all edges: runs of the action
-use Rattle.std.proofs.Common.{◌≡◌, ◌≢◌, ◌==◌, ℕ, ◌+◌, ◌<◌, ◌≤◌, Bool, true, false, ◌&&◌, ◌||◌, List, [], length, map, replicate, take, get_or, set, All, refl, sym, ap, ◌∙◌, subst, ⊎_elim, arith, eq-eqb}
+use Rattle.std.proofs.Common.{◌≡◌, ◌≢◌, ◌==◌, ℕ, ◌+◌, ◌<◌, ◌≤◌, Bool, true, false, ◌&&◌, ◌||◌, List, [], length, map, replicate, take, get_or, set, All, refl, sym, ap, ◌∙◌, subst, ⊎_elim, arith}
 use Rattle.std.specs.List.{list_any, range_with_len}
 use Rattle.std.specs.Str.{bytes_eq}
 use Rattle.std.proofs.lemmas.Bool.{and_parts, and_from, cases_lt}
@@ -52,8 +52,8 @@ edge_runs m a flags long =
         let leading = and_parts (bytes_eq some.item.action a) (is_member flags some.item.target) parts.1 in
         let low = member_low flags some.item.target leading.1 in
         of_run m (has_edge m a) (is_member flags) s some.item.target (omega (arith, low, long))
-        (member-list_any (λ e. (e.source == s) && bytes_eq e.action a && (e.target == some.item.target)) some.item m.edges
-        some.member
+        (member-list_any (λ e. (e.source == s) && bytes_eq e.action a && (e.target == some.item.target)) some.item
+        m.edges some.member
         (and_from ((some.item.source == s) && bytes_eq some.item.action a) (some.item.target == some.item.target)
         (and_from (some.item.source == s) (bytes_eq some.item.action a) parts.0 leading.0)
         (equal_number some.item.target)))
@@ -62,7 +62,9 @@ edge_runs m a flags long =
     from : (s : ℕ) → some_run m (has_edge m a) flags s ≡ true → some_of m.edges a flags s ≡ true
     from s is =
         let run = run_of m (has_edge m a) (is_member flags) s is in
-        let some = list_any-member (λ e. (e.source == s) && bytes_eq e.action a && (e.target == run.state)) m.edges run.run in
+        let some =
+        list_any-member (λ e. (e.source == s) && bytes_eq e.action a && (e.target == run.state)) m.edges run.run
+        in
         let parts =
         and_parts ((some.item.source == s) && bytes_eq some.item.action a) (some.item.target == run.state) some.passes
         in

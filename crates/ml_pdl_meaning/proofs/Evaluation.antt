@@ -8,8 +8,7 @@
 --   iterates_once_more       == the next iterate
 --   stops_early              == an iterate that is its own next one is the last one too
 --   same_flags               == two lists of flags that pass the test for equality are equal
-use Rattle.std.proofs.Common.{◌≡◌, ℕ, ◌+◌, ◌≤◌, ◌<◌, ◌==◌, ◌&&◌, Bool, true, false, not, List, length, map, replicate, refl, sym, ap, subst, ◌∙◌, arith}
-use Rattle.std.specs.List.{range_with_len}
+use Rattle.std.proofs.Common.{◌≡◌, ℕ, ◌+◌, ◌≤◌, ◌<◌, ◌==◌, ◌&&◌, Bool, true, not, length, map, replicate, refl, sym, ap, subst, ◌∙◌}
 use Rattle.std.proofs.Math.Bool.{beq}
 use Rattle.std.specs.Cmp.{booleans_Decides}
 use Rattle.std.specs.Cmp.Lexicographic.{pointwise}
@@ -19,13 +18,14 @@ use Rattle.ml_lists.proofs.Iterates.{iterate_once_more, iterate_stays}
 use Rattle.ml_lists.proofs.Tables.{table_const}
 use Rattle.ml_text.specs.declared.token.Operator.{Operator}
 use Rattle.ml_base.specs.Structure.{Structure, StateSet, is_member, states_where}
-use Rattle.ml_pdl.specs.Formula.{Formula, Const, Binary, Program, Seq, Alt, Star, Test, Diamond, Square}
+use Rattle.ml_pdl.specs.Formula.{Formula, Const, Binary, Program, Seq, Alt, Star, Test, Square}
 use Rattle.ml_pdl.specs.Meaning.{Relation, truth_of, some_run, modal, meaning, relation}
 use Rattle.ml_pdl.proofs.RunsInto.{same_number, equal_number, run_of, of_run}
 use Rattle.ml_pdl.proofs.StarRelations.{member_where}
 use Rattle.ml_pdl_meaning.proofs.RunsIntoSets.{before, union, grown, same_tests, before_either, before_followed, before_test, before_rounds, all_before}
 
-pub constant_value : (m : Structure) (b : Bool) (set : StateSet) → set ≡ replicate m.states b → set ≡ meaning m (Const b)
+pub constant_value : (m : Structure) (b : Bool) (set : StateSet) → set ≡ replicate m.states b
+    → set ≡ meaning m (Const b)
 constant_value m b set is = is ∙ table_const b 0 m.states
 
 pub binary_value : (m : Structure) (op : Operator) (f h : Formula) (left right set : StateSet)
@@ -92,7 +92,8 @@ related_value m r from to end states related from_low to_low end_is states_is is
     is ∙ ap (λ a. is_member a from) (states_is ∙ ap (before m r) end_is)
     ∙ member_where m (some_run m r there) from from_low
     ∙ same_tests (some_run m r there from) (r from to) arrives
-    (λ runs. of_run m r (is_member there) from to to_low runs (member_where m (λ s. s == to) to to_low ∙ equal_number to))
+    (λ runs. of_run m r (is_member there) from to to_low runs
+    (member_where m (λ s. s == to) to to_low ∙ equal_number to))
   where
     there : StateSet
     there = states_where m (λ s. s == to)

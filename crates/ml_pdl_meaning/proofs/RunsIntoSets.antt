@@ -14,7 +14,7 @@
 use Rattle.std.proofs.Common.{◌≡◌, ℕ, zero, suc, ◌<◌, ◌==◌, Bool, true, false, ◌&&◌, ◌||◌, not, List, [], ◌∷◌, length, map, refl, sym, ap, subst, ◌∙◌, ⊎_elim, arith}
 use Rattle.std.specs.List.{list_any, list_all, range_with_len}
 use Rattle.std.proofs.lemmas.Bool.{and_parts, and_from, or_cases, or_left, or_right}
-use Rattle.std.proofs.lemmas.List.{same_lists, get_or_default, get_or-map, length-map}
+use Rattle.std.proofs.lemmas.List.{same_lists, get_or_default, get_or-map}
 use Rattle.std.proofs.lemmas.List.FromFn.{length-map-range_with_len, get_or-map-range_with_len}
 use Rattle.std.proofs.lemmas.Simd.{map-map}
 use Rattle.ml_lists.specs.Iterate.{iterate}

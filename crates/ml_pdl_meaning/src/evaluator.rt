@@ -183,7 +183,8 @@ fn rounds_into(
 ) -> Result<Vec<bool>, NoMemory>
     requires { length set.now ≡ structure.now.states }
     ensures value { IfOk result (λ states. states.items
-        ≡ mean.modal structure.now plain.Diamond (mean.relation structure.now (plain.Star (program_of program.now))) set.now) }
+        ≡ mean.modal structure.now plain.Diamond
+        (mean.relation structure.now (plain.Star (program_of program.now))) set.now) }
     ensures flags { IfOk result (λ states. length states.items ≡ structure.now.states) }
 {
     let mut states = Vec::from_slice(alloc, set)?;

@@ -40,7 +40,8 @@ pub(crate) fn states_with(
     structure: &Structure,
     proposition: &Name,
 ) -> Result<Vec<bool>, NoMemory>
-    ensures value { IfOk result (λ set. set.items ≡ kripke.states_where structure.now (λ s. kripke.lists structure.now s proposition.now)) }
+    ensures value { IfOk result (λ set. set.items
+        ≡ kripke.states_where structure.now (λ s. kripke.lists structure.now s proposition.now)) }
     ensures flags { IfOk result (λ set. length set.items ≡ structure.now.states) }
 {
     let set = (0..structure.states())
@@ -95,7 +96,8 @@ pub(crate) fn edges_into(
     set: &[bool],
 ) -> Result<Vec<bool>, NoMemory>
     requires { length set.now ≡ structure.now.states }
-    ensures value { IfOk result (λ states. states.items ≡ mean.modal structure.now plain.Diamond (mean.has_edge structure.now action.now) set.now) }
+    ensures value { IfOk result (λ states. states.items
+        ≡ mean.modal structure.now plain.Diamond (mean.has_edge structure.now action.now) set.now) }
     ensures flags { IfOk result (λ states. length states.items ≡ structure.now.states) }
 {
     let mut states = constant(alloc, structure.states(), false)?;

@@ -8,6 +8,7 @@
 //   line_tests      lines written and cut
 //   meaning_tests   formulas with the states at which they hold
 //   mu_tests        texts of the mu-calculus and their formulas
+//   pdl_checking_tests  the meaning of PDL against the checking game, on formulas and structures that look random
 //   pdl_meaning_tests  formulas of PDL with the states at which they hold, and programs with the pairs they relate
 //   pdl_program_tests  the program on formulas and documents of PDL
 //   pdl_tests       texts of PDL and their formulas
@@ -31,6 +32,8 @@ mod line_tests;
 mod meaning_tests;
 #[cfg(test)]
 mod mu_tests;
+#[cfg(test)]
+mod pdl_checking_tests;
 #[cfg(test)]
 mod pdl_meaning_tests;
 #[cfg(test)]

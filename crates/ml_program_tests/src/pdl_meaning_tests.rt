@@ -115,13 +115,15 @@ fn stars(rt: HostRuntime) -> Result<(), Fail> {
 #[test]
 fn tests_of_formulas(rt: HostRuntime) -> Result<(), Fail> {
     let structure = four_states(rt.alloc())?;
-    let rows: [(&[u8], [bool; 4]); 11] = [
+    let rows: [(&[u8], [bool; 4]); 12] = [
         (b"<p?>tt", [false, false, true, false]),
         (b"[p?]q", [true, true, false, true]),
         (b"<ff?>tt", [false, false, false, false]),
         (b"<p?*>q", [false, true, false, true]),
         (b"<p?;b>q", [false, false, true, false]),
         (b"<!p?;a>q", [true, false, false, false]),
+        // if p then a, else b
+        (b"<p?;a + !p?;b>q", [false, false, true, true]),
         // while not p, by a
         (b"<(!p?;a)*;p?>tt", [true, true, true, false]),
         (b"[(!p?;a)*;p?]q", [false, false, false, true]),
@@ -139,13 +141,14 @@ fn tests_of_formulas(rt: HostRuntime) -> Result<(), Fail> {
 #[test]
 fn repetitions(rt: HostRuntime) -> Result<(), Fail> {
     let structure = four_states(rt.alloc())?;
-    let rows: [(&[u8], [bool; 4]); 9] = [
+    let rows: [(&[u8], [bool; 4]); 10] = [
         (b"repeat(a)", [true, true, true, false]),
         (b"repeat(b)", [false, false, true, true]),
         (b"repeat(a;b)", [false, false, false, false]),
         (b"repeat(a + b)", [true, true, true, true]),
         // no round at all, for ever
         (b"repeat(a*)", [true, true, true, true]),
+        (b"repeat(p?)", [false, false, true, false]),
         (b"repeat(a*;b)", [true, true, true, true]),
         (b"repeat((a;a)*;a)", [true, true, true, false]),
         (b"repeat(q?;b)", [false, false, false, true]),

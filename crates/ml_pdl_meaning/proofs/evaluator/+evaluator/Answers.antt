@@ -102,7 +102,9 @@ rounds_into-returns-then-eq-clause-value t c =
 pub rounds_into-returns-clause-value : goal.rounds_into-returns-clause-value
 rounds_into-returns-clause-value t c =
     let m = c.args.structure.now in
-    let all : c.loop.counter ≡ m.states = omega (arith, c.loop-test.false, c.states-end.ensures.value, c.loop.auto.counter-end) in
+    let all : c.loop.counter ≡ m.states =
+    omega (arith, c.loop-test.false, c.states-end.ensures.value, c.loop.auto.counter-end)
+    in
     star_value m (program_of c.args.program.now) c.args.set.now c.loop.states.items c.requires
     (c.loop.invariant.0
     ∙ ap (λ k. iterate k (grown m (relation m (program_of c.args.program.now)) c.args.set.now) c.args.set.now) all)

@@ -12,7 +12,10 @@ pub loop-edge-preserved : goal.loop-edge-preserved
 loop-edge-preserved c =
     let edges = c.edges-edge-items.result.now in
     let n = c.args.structure.now.states in
-    let joined = subst (All (λ d. (d.source < n) × (d.target < n))) (sym c.edges-edge-items.ensures) c.states.ensures.is_structure.joins_states in
+    let joined =
+    subst (All (λ d. (d.source < n) × (d.target < n))) (sym c.edges-edge-items.ensures)
+    c.states.ensures.is_structure.joins_states
+    in
     let ends = in_range edges n c.loop-edge.edge-index c.edge-item.result joined c.loop-edge-test.true c.edge-item.is in
     elim c.if-leads_into.branch [
       | then-leads_into w ↦
@@ -29,6 +32,6 @@ loop-edge-preserved c =
 
 pub returns-clause-value : goal.returns-clause-value
 returns-clause-value c =
-    all_edges c.args.structure.now c.edges-edge-items.result.now c.args.action.now c.args.set.now c.loop-edge.states.items
-    c.loop-edge.edge-index c.requires c.edges-edge-items.ensures (omega (arith, c.loop-edge-test.false))
+    all_edges c.args.structure.now c.edges-edge-items.result.now c.args.action.now c.args.set.now
+    c.loop-edge.states.items c.loop-edge.edge-index c.requires c.edges-edge-items.ensures (omega (arith, c.loop-edge-test.false))
     c.loop-edge.invariant
