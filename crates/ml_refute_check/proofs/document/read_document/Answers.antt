@@ -1,5 +1,5 @@
 -- A body that isn't read behind a head.
-use Rattle.std.proofs.Common.{◌≡◌, Result, Err, ap, inr}
+use Rattle.std.proofs.Common.{◌≡◌, Err, ap, inr}
 use Rattle.std.specs.Result.{IsErrOf}
 use Rattle.ml_base.specs.declared.doc_refusal.DocRefusal.{DocRefusal}
 use Rattle.ml_refute_check.proofs.document.read_document.Goals as goal
