@@ -1,7 +1,7 @@
 // Formulas and structures that look random: the meaning against the game.
 ghost use Rattle.std.specs.Prelude.{◌<◌};
 
-use ml_base::{Action, Edge, Name, ParseRefusal};
+use ml_base::{Action, Edge, Name};
 use ml_front::{AnyFormula, Logic, Problem, graph, negated, read};
 use ml_graph::checking_game;
 use ml_kripke::Structure;
@@ -79,124 +79,6 @@ fn random_text(alloc: Global, numbers: &mut Numbers) -> Result<Vec<u8>, Fail> {
     Ok(text)
 }
 
-// A part of a form of PDL.
-#[derive(Clone, Copy)]
-enum Part {
-    Sign(&'static str),
-    Formula,
-    Program,
-}
-
-const FORMULAS: [&'static [Part]; 8] = [
-    &[Part::Sign("!("), Part::Formula, Part::Sign(")")],
-    &[
-        Part::Sign("("),
-        Part::Formula,
-        Part::Sign(" & "),
-        Part::Formula,
-        Part::Sign(")"),
-    ],
-    &[
-        Part::Sign("("),
-        Part::Formula,
-        Part::Sign(" -> "),
-        Part::Formula,
-        Part::Sign(")"),
-    ],
-    &[
-        Part::Sign("("),
-        Part::Formula,
-        Part::Sign(" <-> "),
-        Part::Formula,
-        Part::Sign(")"),
-    ],
-    &[
-        Part::Sign("<"),
-        Part::Program,
-        Part::Sign(">("),
-        Part::Formula,
-        Part::Sign(")"),
-    ],
-    &[
-        Part::Sign("["),
-        Part::Program,
-        Part::Sign("]("),
-        Part::Formula,
-        Part::Sign(")"),
-    ],
-    &[Part::Sign("repeat("), Part::Program, Part::Sign(")")],
-    &[Part::Sign("!repeat("), Part::Program, Part::Sign(")")],
-];
-
-const PROGRAMS: [&'static [Part]; 5] = [
-    &[
-        Part::Sign("("),
-        Part::Program,
-        Part::Sign(";"),
-        Part::Program,
-        Part::Sign(")"),
-    ],
-    &[
-        Part::Sign("("),
-        Part::Program,
-        Part::Sign("+"),
-        Part::Program,
-        Part::Sign(")"),
-    ],
-    &[Part::Sign("("), Part::Program, Part::Sign(")*")],
-    &[Part::Sign("("), Part::Program, Part::Sign(")*")],
-    &[Part::Sign("("), Part::Formula, Part::Sign(")?")],
-];
-
-// a form with some of the first operands in it, of each kind so many
-fn written(
-    alloc: Global,
-    numbers: &mut Numbers,
-    form: &[Part],
-    many: u64,
-    formulas: &[Vec<u8>],
-    programs: &[Vec<u8>],
-) -> Result<Vec<u8>, Fail>
-    requires { 0 < many }
-{
-    let mut text = Vec::new(alloc);
-    for part in form {
-        let operand = numbers.below(many) as usize;
-        let piece = match part {
-            Part::Sign(sign) => Some(sign.as_bytes()),
-            Part::Formula => formulas.get(operand).map(|text| text.as_slice()),
-            Part::Program => programs.get(operand).map(|text| text.as_slice()),
-        };
-        if let Some(piece) = piece {
-            text.extend_from_slice(piece)?;
-        }
-    }
-    Ok(text)
-}
-
-// a text of PDL
-fn random_pdl_text(alloc: Global, numbers: &mut Numbers) -> Result<Vec<u8>, Fail> {
-    let mut formulas: Vec<Vec<u8>> = Vec::new(alloc);
-    let mut programs: Vec<Vec<u8>> = Vec::new(alloc);
-    for (proposition, action) in [("p", "a"), ("q", "_")] {
-        formulas.push(Vec::from_slice(alloc, proposition.as_bytes())?)?;
-        programs.push(Vec::from_slice(alloc, action.as_bytes())?)?;
-    }
-    for many in 2_u64..7 {
-        let form = PROGRAMS[numbers.below(5) as usize];
-        let program = written(alloc, numbers, form, many, &formulas, &programs)?;
-        let form = FORMULAS[numbers.below(8) as usize];
-        let formula = written(alloc, numbers, form, many, &formulas, &programs)?;
-        programs.push(program)?;
-        formulas.push(formula)?;
-    }
-    let mut text = Vec::new(alloc);
-    if let Some(formula) = formulas.last() {
-        text.extend_from_slice(formula)?;
-    }
-    Ok(text)
-}
-
 // a structure of up to four states with the propositions p and q and the actions `_` and a
 pub(crate) fn random_structure(alloc: Global, numbers: &mut Numbers) -> Result<Structure, Fail> {
     let states = numbers.below(4) as u32 + 1;
@@ -258,21 +140,6 @@ fn by_game(
     Ok(solution.winner.get(vertex as usize) == Some(&Player::Even))
 }
 
-// the problem of a text, in one of the two senses
-fn random_problem(
-    alloc: Global,
-    numbers: &mut Numbers,
-    logic: Logic,
-    text: &[u8],
-) -> Result<Problem, ParseRefusal> {
-    let plain = read(alloc, logic, text)?;
-    if numbers.below(2) == 0 {
-        Ok(plain)
-    } else {
-        Ok(negated(plain))
-    }
-}
-
 #[test]
 fn meaning_and_game_agree(rt: HostRuntime) -> Result<(), Fail> {
     let alloc = rt.alloc();
@@ -281,8 +148,13 @@ fn meaning_and_game_agree(rt: HostRuntime) -> Result<(), Fail> {
     for _ in 0..800 {
         let text = random_text(alloc, &mut numbers)?;
         let structure = random_structure(alloc, &mut numbers)?;
-        if let Ok(problem) = random_problem(alloc, &mut numbers, Logic::Mu, &text) {
+        if let Ok(plain) = read(alloc, Logic::Mu, &text) {
             formulas = formulas.saturating_add(1);
+            let problem = if numbers.below(2) == 0 {
+                plain
+            } else {
+                negated(plain)
+            };
             for state in 0..structure.states() {
                 let meant = by_meaning(alloc, &problem, &structure, state)?;
                 assert_eq!(rt; by_game(alloc, &problem, &structure, state)?, meant);
@@ -291,22 +163,6 @@ fn meaning_and_game_agree(rt: HostRuntime) -> Result<(), Fail> {
         }
     }
     assert!(rt; formulas > 300, "{formulas}");
-    Ok(())
-}
-
-#[test]
-fn meaning_and_game_agree_in_pdl(rt: HostRuntime) -> Result<(), Fail> {
-    let alloc = rt.alloc();
-    let mut numbers = Numbers { state: 5 };
-    for _ in 0..400 {
-        let text = random_pdl_text(alloc, &mut numbers)?;
-        let structure = random_structure(alloc, &mut numbers)?;
-        let problem = random_problem(alloc, &mut numbers, Logic::Pdl, &text)?;
-        for state in 0..structure.states() {
-            let meant = by_meaning(alloc, &problem, &structure, state)?;
-            assert_eq!(rt; holds(alloc, &problem, &structure, state)?, meant);
-        }
-    }
     Ok(())
 }
 
