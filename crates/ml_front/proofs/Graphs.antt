@@ -6,7 +6,7 @@
 --   graph_small   == that of a well-formed formula has at most 2,000 nodes
 --   graphs_alike  == two graphs of a problem differ in the numbers of their names alone
 --   is_structure  == an admitted structure is a structure
-use Rattle.std.proofs.Common.{ℕ, ◌≤◌, Bool, arith}
+use Rattle.std.proofs.Common.{◌≤◌, Bool, arith}
 use Rattle.ml_base.specs.Structure.{Structure, IsStructure}
 use Rattle.ml_graph.specs.Graph.{Graph, IsGraph, size}
 use Rattle.ml_mu_graph.proofs.Agreement as mu

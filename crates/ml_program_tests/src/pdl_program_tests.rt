@@ -19,8 +19,7 @@ const REJECTED: &str =
     "mlsolver 2\nanswer unsatisfiable\nlogic pdl\nsense plain\nformula !repeat((tt)?)\nnames 1\nsequents 1\nsequent 0\nstacks 1\nstack 0\nentries 1\nentry 0 0\nlive 1\nitem 0 - 0\nheights 0 0\nsplit 5\nclash false 6\nclash cycle 3\nend\n";
 
 // two states in turn, by a and back by b
-const IN_TURN: &str =
-    "states 2\nstart 0\nstate 0\nstate 1 p\nedge 0 a 1\nedge 1 b 0\nend\n";
+const IN_TURN: &str = "states 2\nstart 0\nstate 0\nstate 1 p\nedge 0 a 1\nedge 1 b 0\nend\n";
 
 // the status of a call, with its output
 fn answer(alloc: Global, words: &str, text: &[u8]) -> Result<(u8, Vec<u8>), Fail> {
@@ -35,7 +34,12 @@ fn answer(alloc: Global, words: &str, text: &[u8]) -> Result<(u8, Vec<u8>), Fail
 }
 
 // the document about a formula with this structure
-fn document(alloc: Global, sense: &str, formula: &str, structure: &str) -> Result<Vec<u8>, AllocError> {
+fn document(
+    alloc: Global,
+    sense: &str,
+    formula: &str,
+    structure: &str,
+) -> Result<Vec<u8>, AllocError> {
     let mut text = Vec::from_slice(alloc, b"mlsolver 2\nanswer satisfiable\nlogic pdl\nsense ")?;
     text.extend_from_slice(sense.as_bytes())?;
     text.extend_from_slice(b"\nformula ")?;
@@ -65,8 +69,18 @@ fn rows(rt: HostRuntime) -> Result<(), Fail> {
         ("check-refutation", REFUTED_IN_ONE, 0, "accepted\n"),
         ("check-refutation", REJECTED, 1, "rejected line 17 rule 6\n"),
         ("migrate", REFUTED_IN_ONE, 0, REFUTED),
-        ("check-refutation", REPEATED, 4, "refused document line 2 rule 3\n"),
-        ("check-model", REFUTED, 4, "refused document line 2 rule 3\n"),
+        (
+            "check-refutation",
+            REPEATED,
+            4,
+            "refused document line 2 rule 3\n",
+        ),
+        (
+            "check-model",
+            REFUTED,
+            4,
+            "refused document line 2 rule 3\n",
+        ),
     ];
     for (words, text, status, output) in rows {
         let (code, taken) = answer(rt.alloc(), words, text.as_bytes())?;
@@ -77,11 +91,7 @@ fn rows(rt: HostRuntime) -> Result<(), Fail> {
 }
 
 // what a decision says, with what the command that checks its document says
-fn decided(
-    alloc: Global,
-    words: &str,
-    text: &str,
-) -> Result<(u8, Vec<u8>), Fail> {
+fn decided(alloc: Global, words: &str, text: &str) -> Result<(u8, Vec<u8>), Fail> {
     let (status, document) = answer(alloc, words, text.as_bytes())?;
     let satisfiable = document.starts_with(b"mlsolver 2\nanswer satisfiable\nlogic pdl\n");
     let command = if satisfiable {
@@ -97,7 +107,12 @@ fn decided(
 #[test]
 fn decisions(rt: HostRuntime) -> Result<(), Fail> {
     let rows = [
-        ("valid pdl", "[a*](p -> [a]p) -> (p -> [a*]p)", 0, "accepted\n"),
+        (
+            "valid pdl",
+            "[a*](p -> [a]p) -> (p -> [a*]p)",
+            0,
+            "accepted\n",
+        ),
         ("decide pdl", "<(a*)*>p & [a*]!p", 1, "accepted\n"),
         ("decide pdl", "<(p?;a)*>!p & [(p?;a)*]p", 1, "accepted\n"),
         ("valid pdl", "repeat(a) -> <a>repeat(a)", 0, "accepted\n"),
@@ -145,7 +160,11 @@ fn axioms(rt: HostRuntime) -> Result<(), Fail> {
     ];
     for (text, is_valid) in rows {
         let (code, taken) = decided(rt.alloc(), "valid pdl", text)?;
-        let (status, told) = if is_valid { (0, "accepted\n") } else { (1, "holds\n") };
+        let (status, told) = if is_valid {
+            (0, "accepted\n")
+        } else {
+            (1, "holds\n")
+        };
         assert_eq!(rt; code, status, "{text}");
         assert_eq!(rt; taken.as_slice(), told.as_bytes(), "{text}");
     }
@@ -175,7 +194,11 @@ fn structures(rt: HostRuntime) -> Result<(), Fail> {
     for (sense, formula, holds) in rows {
         let text = document(rt.alloc(), sense, formula, IN_TURN)?;
         let (code, taken) = answer(rt.alloc(), "check-model", &text)?;
-        let (status, told) = if holds { (0, "holds\n") } else { (1, "fails\n") };
+        let (status, told) = if holds {
+            (0, "holds\n")
+        } else {
+            (1, "fails\n")
+        };
         assert_eq!(rt; code, status, "{sense} {formula}");
         assert_eq!(rt; taken.as_slice(), told.as_bytes(), "{sense} {formula}");
     }

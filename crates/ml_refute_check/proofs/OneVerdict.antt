@@ -122,7 +122,7 @@ rejected_once text l n k m x y =
     (subst (λ t. l ≡ line_of t (length (entry_at x.refutation x.entry).traces.items) x.part) at x.is_line))) in
     (moved ∙ sym y.is_line, same.2)
 
-never_large : (f : AnyFormula) → HasLargeClosure f → ⊥
+pub never_large : (f : AnyFormula) → HasLargeClosure f → ⊥
 never_large (Mu f) large = large
 never_large (Pdl f) large = large
 

@@ -1,11 +1,11 @@
 -- Checking a document finds something.
 --
 --   some_verdict == a text is accepted, rejected or unreadable
-use Rattle.std.proofs.Common.{◌≡◌, ℕ, ◌+◌, ◌*◌, ◌<◌, ◌⊎◌, Bool, true, if◌then◌else◌, List, [], Some, length, get_or, slice_get, inl, inr, refl, sym, ap, ◌∙◌, subst, arith}
+use Rattle.std.proofs.Common.{◌≡◌, ℕ, ◌+◌, ◌⊎◌, Bool, List, [], Some, length, get_or, slice_get, inl, inr, refl, sym, ap, ◌∙◌, subst, arith}
 use Rattle.std.proofs.lemmas.Option.{slice_get-get_or}
 use Rattle.ml_base.specs.declared.doc_fault.DocFault.{DocFault}
 use Rattle.ml_base.specs.declared.version.Version.{Version}
-use Rattle.ml_graph.specs.Graph.{Graph, IsGraph}
+use Rattle.ml_graph.specs.Graph.{Graph}
 use Rattle.ml_front.specs.declared.answer.Answer.TheVariants.{Unsatisfiable}
 use Rattle.ml_front.specs.declared.problem.Problem.{Problem}
 use Rattle.ml_front.specs.Graphs.{IsGraphAs, IsGraphOf}

@@ -1,0 +1,13 @@
+-- The graph of a well-formed problem is a graph of few nodes.
+use Rattle.std.proofs.Common.{◌≤◌, arith}
+use Rattle.ml_front.proofs.Graphs.{graph_is, graph_small}
+use Rattle.ml_driver.proofs.deciding.decision_of.Goals as goal
+
+pub graph_decision-requires-clause-is_graph : goal.graph_decision-requires-clause-is_graph
+graph_decision-requires-clause-is_graph c =
+    graph_is c.in-Ok.graph c.args.problem.now.negated c.args.problem.now.formula c.in-Ok.ensures.graph
+
+pub graph_decision-requires-clause-small : goal.graph_decision-requires-clause-small
+graph_decision-requires-clause-small c =
+    let p = c.args.problem.now in
+    omega (arith, graph_small c.in-Ok.graph p.negated p.formula c.requires.well_formed c.in-Ok.ensures.graph)
