@@ -22,7 +22,8 @@ use Rattle.ml_refutation_text.specs.declared.lines.EntryLines.{EntryLines}
 use Rattle.ml_refutation_text.specs.declared.lines.Lines.{Lines}
 use Rattle.ml_refute_check.specs.Documents.{IsDocument, IsMigrated, IsRejectedAt, IsRejectedBy, document_of, line_of}
 use Rattle.ml_refute_check.specs.private.Shown.{IsShown}
-use Rattle.ml_refute_check.proofs.Accepted.{documents_read_back, well_formed_read}
+use Rattle.ml_front.proofs.Logics.{parsed_well}
+use Rattle.ml_refute_check.proofs.Accepted.{documents_read_back}
 
 pub document_of_shown : (text : List ℕ) (p : Problem) (r : held.Refutation) (lines : Lines) (shown : IsShown text p r lines)
     → IsDocument text shown.version p (of_parts r.names r.entries)
@@ -86,5 +87,5 @@ migrated text out p r lines shown is counted = record {
   is_written = is;
   shows_the_same = subst (λ t. IsDocument t Two p (of_parts r.names r.entries)) (sym is)
       (documents_read_back p (of_parts r.names r.entries)
-      (well_formed_read shown.has_head.formula_text p.formula shown.has_head.is_parsed) r.is_refutation counted);
+      (parsed_well shown.has_head.formula_text p.formula shown.has_head.is_parsed) r.is_refutation counted);
 }
