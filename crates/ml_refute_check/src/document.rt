@@ -68,12 +68,14 @@ fn read_document(alloc: Global, bytes: &[u8]) -> Result<Shown, DocRefusal>
     ensures refused { (fault : DocFault) → IsErrOf result (DocRefusal.Fault fault) → IsDocumentFault bytes.now fault }
 {
     let head = read_head(alloc, bytes, Answer::Unsatisfiable)?;
-    let (refutation, lines) = read(alloc, head.rest, FIRST_BODY_LINE, head.version)?;
-    Ok(Shown {
-        problem: head.problem,
-        refutation,
-        lines,
-    })
+    match read(alloc, head.rest, FIRST_BODY_LINE, head.version) {
+        Ok((refutation, lines)) => Ok(Shown {
+            problem: head.problem,
+            refutation,
+            lines,
+        }),
+        Err(refusal) => Err(refusal),
+    }
 }
 
 /// Checks what a document shows.
