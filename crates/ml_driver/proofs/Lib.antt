@@ -31,3 +31,5 @@ pub mod HeldGraphs
 pub mod NamedModels
 -- each question on each text has an answer
 pub mod SomeAnswer
+-- commands that words are have small limits
+pub mod SmallLimits

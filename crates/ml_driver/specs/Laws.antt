@@ -3,6 +3,7 @@
 --   HasSmallLimit c  == the limit of c, where it has one, fits 32 bits, as that of each command that a program holds
 --   SomeDue          == for each such command, for words that are none, and for each input, some status is due, with
 --                       some output
+--   SomeDueForWords  == so it is of all lists of words
 --   OneDue           == one status is due at most
 --   SomeGame         == the decision game of a graph has an arena with at most so many positions, or has more
 --   IsExact q p s    == the status s says of the problem p what is true of it
@@ -25,6 +26,8 @@ use Rattle.ml_driver.specs.Decision.{IsAnswered, IsClosed, IsProblem, Refuted, S
 use Rattle.ml_driver.specs.declared.question.Question.{Question}
 use Rattle.ml_driver.specs.declared.status.Status.{Status}
 use Rattle.ml_driver.specs.Run.{IsDue}
+use Rattle.ml_driver.specs.Words.{command_of}
+use Rattle.ml_lines.specs.Lines.{Word}
 
 abbrev pub OneDue : Type 0
 OneDue = (c : Option Command) (text : List ℕ) (s t : Status) (out more : List ℕ) → IsDue c text s out → IsDue c text t more → s ≡ t
@@ -37,6 +40,10 @@ HasSmallLimit _ = Unit {0}
 
 abbrev pub SomeDue : Type 0
 SomeDue = (c : Option Command) (text : List ℕ) → HasSmallLimit c → (s : Status) × ((out : List ℕ) × IsDue c text s out)
+
+-- whatever the words are
+abbrev pub SomeDueForWords : Type 0
+SomeDueForWords = (words : List Word) (text : List ℕ) → (s : Status) × ((out : List ℕ) × IsDue (command_of words) text s out)
 
 -- the status that says whether the problem is satisfiable, where the question is about the negation or isn't
 abbrev pub says : Bool → Bool → Status

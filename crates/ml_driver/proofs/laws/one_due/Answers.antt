@@ -1,5 +1,7 @@
 use Rattle.ml_driver.proofs.OneDue.{one_due}
+use Rattle.ml_driver.proofs.SmallLimits.{command_small}
 use Rattle.ml_driver.proofs.SomeDue.{some_due}
+use Rattle.ml_driver.specs.Words.{command_of}
 use Rattle.ml_driver.proofs.laws.one_due.Goals as goal
 
 pub returns-clause-some : goal.returns-clause-some
@@ -7,3 +9,6 @@ returns-clause-some c = some_due
 
 pub returns-clause-one : goal.returns-clause-one
 returns-clause-one c = one_due
+
+pub returns-clause-words : goal.returns-clause-words
+returns-clause-words c = λ words text. some_due (command_of words) text (command_small words)
