@@ -1,5 +1,5 @@
 // Full names, and the stacks that are cut behind them.
-ghost use Rattle.std.specs.Prelude.{◌≡◌, ℕ, ◌*◌, ◌<◌, ◌==◌, ◌||◌, ◌&&◌, false, not, ◌++◌, length, map, IfOk, OnOk};
+ghost use Rattle.std.specs.Prelude.{◌≡◌, ℕ, ◌*◌, ◌<◌, ◌≤◌, ◌==◌, ◌||◌, ◌&&◌, true, false, not, ◌++◌, length, map, IfOk, OnOk};
 ghost use Rattle.std.specs.List.{list_any};
 ghost use Rattle.ml_lists.specs.Ascending.{IsAscending};
 ghost use Rattle.ml_lists.specs.Member.{IsMember};
@@ -135,9 +135,11 @@ fn push_through(stack: &[u32], full: &[bool], names: &mut Vec<u32>) -> Result<bo
     Ok(false)
 }
 
-// Below it no name is full: the first full name, or the number of flags.
+// The first full name, or the number of flags.
 fn first_full(full: &[bool]) -> usize
-    ensures { (y : ℕ) → y < result → flagged full.now y ≡ false }
+    ensures below { (y : ℕ) → y < result → flagged full.now y ≡ false }
+    ensures here { result < length full.now → flagged full.now result ≡ true }
+    ensures fits { result ≤ length full.now }
 {
     for (y, is_full) in full.iter().enumerate() {
         if *is_full {
