@@ -3,7 +3,8 @@
 // Words: the name of a measurement (`Measurement`) and its size, as `games 1000000`, and behind them `times` if times are
 // wanted; or `small` alone, which makes each measurement once at a small size. Without `times` only counts are printed,
 // which are the same in each run, so that a run can be measured from outside. A time is given in milliseconds, and as a
-// multiple of the time that it takes here to read the input once.
+// multiple of the time that it takes here to read the input once. Documents with refutations have words of their own
+// (`refutations`).
 //
 // Below stands `ml_tests`, whose generators it takes, and the crates that are measured; nothing stands above it.
 #![tactic(auto)]
