@@ -1,8 +1,9 @@
 -- From each state of a structure in which each state has an edge by `_`, some path starts.
 --
---   step_end     == a step ends at a state
---   paths_start  == the law: walk along one step for each state
-use Rattle.std.proofs.Common.{ℕ, ◌≡◌, ◌<◌, ◌≤◌, ◌⊎◌, ◌==◌, ◌&&◌, Bool, true, List, [], ◌∷◌, All, bytes_eq, codes, inl, inr, arith, sym, ap, subst, ⊎_elim, eqb-true, get_or, length, ◌+◌}
+--   ends_within        == a step ends at a state
+--   next, next_steps   == one step from each state
+--   paths_start        == the law: walk along one step for each state
+use Rattle.std.proofs.Common.{ℕ, ◌≡◌, ◌<◌, ◌≤◌, ◌⊎◌, ◌==◌, ◌&&◌, Bool, true, List, [], ◌∷◌, All, bytes_eq, codes, inl, inr, arith, sym, subst, ⊎_elim, eqb-true, get_or, length, ◌+◌}
 use Rattle.std.specs.List.{list_any}
 use Rattle.std.proofs.lemmas.Bool.{cases_lt, and_parts, or_cases, false≢true}
 use Rattle.std.proofs.lemmas.List.Elements.{All-head, All-tail}
