@@ -2,6 +2,7 @@
 --
 --   decided_found  == so is whether some number below a bound has a property that is decided
 --   Having, decided_having == and whether some member of a list has it
+--   decided_member == and whether a number is a member of a list
 --   Leads R v w    == a way of some number of steps leads from v to w
 --   first_step, no_step == a way of at least one step has a first one; a way of none leads from a number to itself
 --   decided_leads  == among numbers below a bound, whether one leads to another
