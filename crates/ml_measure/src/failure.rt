@@ -9,7 +9,7 @@ use thiserror::Error;
 /// Why a measurement ended.
 #[derive(Debug, Drop, Error)]
 pub enum Failure {
-    #[error("write small, or games, ladder, histories, deep, usual, trees, deep-trees, usual-trees, chain, blocks, row, cycle, or or step with a size")]
+    #[error("write small, or one of games, ladder, histories, deep, usual, trees, deep-trees, usual-trees, chain, blocks, row, cycle, or, step with a size")]
     Words,
     #[error("out of memory")]
     NoMemory,
