@@ -142,7 +142,7 @@ fn with_pair(
     ensures { IfOk result (λ longer. longer.items ≡ with_side pairs.now node side) }
 {
     let place = place_behind(pairs, node);
-    let mut longer = Vec::with_capacity(alloc, pairs.len())?;
+    let mut longer = Vec::with_capacity(alloc, pairs.len() + 1)?;
     longer.extend_from_slice(&pairs[..place])?;
     longer.push((node, side))?;
     longer.extend_from_slice(&pairs[place..])?;
