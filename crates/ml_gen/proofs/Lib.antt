@@ -1,0 +1,2 @@
+-- numbered parts, with a separator between each two
+pub mod Parts

@@ -1,0 +1,2 @@
+-- the families, their ranges and the texts of their formulas
+pub mod Families
