@@ -1,7 +1,6 @@
 -- Numbered parts, with a separator between each two.
 --
 --   flat_map_range_more == pieces for the numbers from a on, and for one number more
---   one_part            == the part for 1 alone has no separator
 --   more_parts          == the parts for 1 to i, and the part for i + 1 behind a separator
 --   one_more_part       == the same, where both are appended to what stands there already
 use Rattle.std.proofs.Common.{◌≡◌, ℕ, suc, zero, ◌+◌, ◌≤◌, List, ◌++◌, sym, ap, ◌∙◌, append_assoc, append-nil, arith}
@@ -17,9 +16,6 @@ flat_map_range_more g a (suc n) j e =
     let further : a + 1 + n ≡ j = omega arith in
     ap (λ rest. g a ++ rest) (flat_map_range_more g (a + 1) n j further)
     ∙ sym (append_assoc (g a) (flat_map g (range_with_len (a + 1) n)) (g j))
-
-pub one_part : (family : Family) (separator : List ℕ) → parts family separator 1 ≡ part family 1
-one_part family separator = append-nil (part family 1)
 
 pub more_parts : (family : Family) (separator : List ℕ) (i : ℕ) → 1 ≤ i
     → parts family separator (i + 1) ≡ parts family separator i ++ (separator ++ part family (i + 1))
