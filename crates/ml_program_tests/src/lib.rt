@@ -16,7 +16,6 @@
 //   pdl_tests       texts of PDL and their formulas
 //   program_tests   the worked rows of the program, over sources and sinks in memory
 //   refutation_tests  refutations read from their texts in both versions, and broken ones
-//   structures      structures of which tests speak
 //   text_tests      the tokens of texts
 //   words_tests     words of the command line
 #![tactic(auto)]
@@ -51,8 +50,6 @@ mod pdl_tests;
 mod program_tests;
 #[cfg(test)]
 mod refutation_tests;
-#[cfg(test)]
-mod structures;
 #[cfg(test)]
 mod text_tests;
 #[cfg(test)]
