@@ -1,0 +1,2 @@
+// The modal graphs of formulas of CTL* and LTL.
+#![tactic(auto)]
