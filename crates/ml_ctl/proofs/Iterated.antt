@@ -12,7 +12,7 @@
 --   until_exactly, release_exactly == the same at n iterates, of the whole walk
 --   until_steps, release_steps     == one iterate more is the same
 --   until_maps, release_maps       == U and R of weaker properties
-use Rattle.std.proofs.Common.{ℕ, zero, suc, ◌≡◌, ◌<◌, ◌≤◌, ◌⊎◌, ◌↔◌, inl, inr, arith, sym, subst, ⊎_elim}
+use Rattle.std.proofs.Common.{ℕ, zero, suc, ◌<◌, ◌≤◌, ◌⊎◌, ◌↔◌, inl, inr, arith, sym, subst, ⊎_elim}
 use Rattle.std.proofs.lemmas.Bool.{cases_lt}
 use Rattle.ml_lists.specs.Search.{Found}
 use Rattle.ml_lists.specs.Walk.{walk}

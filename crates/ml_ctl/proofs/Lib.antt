@@ -10,3 +10,33 @@ pub mod SamePaths
 pub mod StateFormulas
 -- negations of temporal operators and of quantifiers
 pub mod Negations
+-- the signs that words are
+pub mod WordSigns
+-- the grammar is the one of the tables
+pub mod GrammarTables
+-- the tables are regular and can be completed
+pub mod CtlGrammar
+-- names are spelled as they must be
+pub mod Spelled
+-- names in texts
+pub mod Names
+-- what a text counts is what its formula has
+pub mod Counting
+-- names in texts and formulas are short
+pub mod ShortNames
+-- texts of a logic stand for its formulas
+pub mod Sorts
+-- from what was read to what is answered
+pub mod Parsed
+-- a text has one answer
+pub mod OneAnswer
+-- the pieces of canonical texts
+pub mod CanonicalPieces
+-- canonical texts
+pub mod CanonicalTexts
+-- canonical texts pass no limit
+pub mod CanonicalLimits
+-- canonical texts are parsed
+pub mod CanonicalParsed
+-- paths of total structures
+pub mod TotalPaths

@@ -3,13 +3,11 @@
 --   not_until, until_not        == the iterates of U and those of R of the negations exclude one another, and one of both holds
 --   not_release, release_not    == the same of R
 --   negations_of_..             == the laws
-use Rattle.std.proofs.Common.{ℕ, zero, suc, ◌≡◌, ◌<◌, ◌⊎◌, ◌↔◌, inl, inr, arith, ⊎_elim}
-use Rattle.ml_lists.specs.Lasso.{Lasso, next_place}
-use Rattle.ml_base.specs.Structure.{Structure}
-use Rattle.ml_ctl.specs.Formula.{Formula}
-use Rattle.ml_ctl.specs.Laws.{IsDecided, IsDecidedAlong, NegationsOfNext, NegationsOfUntil, NegationsOfRelease, NegationsOfWeak, NegationsOfFinally, NegationsOfGlobally, AllAreNotSome, SomeAreNotAll}
+use Rattle.std.proofs.Common.{ℕ, zero, suc, ◌<◌, ◌⊎◌, inl, inr, ⊎_elim}
+use Rattle.ml_lists.specs.Lasso.{next_place}
+use Rattle.ml_ctl.specs.Laws.{IsDecided, NegationsOfNext, NegationsOfUntil, NegationsOfRelease, NegationsOfWeak, NegationsOfFinally, NegationsOfGlobally, AllAreNotSome, SomeAreNotAll}
 use Rattle.ml_ctl.specs.Meaning.{Nowhere, Everywhere, TruthAt, Satisfies, HoldsOnSome}
-use Rattle.ml_ctl.specs.Paths.{IsPlace, places}
+use Rattle.ml_ctl.specs.Paths.{places}
 use Rattle.ml_ctl.proofs.Iterated.{untils, releases, until_maps, release_maps}
 use Rattle.ml_ctl.proofs.StepByStep.{closed}
 
@@ -20,7 +18,11 @@ module _ (next : ℕ → ℕ) (n : ℕ) (closes : (y : ℕ) → y < n → next y
   abbrev NotG : ℕ → Type 0
   NotG x = G x → ⊥
 
-  pub not_until : ((x : ℕ) → x < n → IsDecided (F x)) → (k x : ℕ) → x < n → (untils next F G k x → ⊥) → releases next NotF NotG k x
+  pub not_until : ((x : ℕ) → x < n → IsDecided (F x))
+      → (k x : ℕ)
+      → x < n
+      → (untils next F G k x → ⊥)
+      → releases next NotF NotG k x
   not_until decided zero x low none = tt
   not_until decided (suc k) x low none = (
     (λ g. none (inl g)),
@@ -35,7 +37,11 @@ module _ (next : ℕ → ℕ) (n : ℕ) (closes : (y : ℕ) → y < n → next y
   until_not (suc k) x (not_g, inl not_f) (inr (f, later)) = not_f f
   until_not (suc k) x (not_g, inr never) (inr (f, later)) = until_not k (next x) never later
 
-  pub not_release : ((x : ℕ) → x < n → IsDecided (G x)) → (k x : ℕ) → x < n → (releases next F G k x → ⊥) → untils next NotF NotG k x
+  pub not_release : ((x : ℕ) → x < n → IsDecided (G x))
+      → (k x : ℕ)
+      → x < n
+      → (releases next F G k x → ⊥)
+      → untils next NotF NotG k x
   not_release decided zero x low none = none tt
   not_release decided (suc k) x low none =
       ⊎_elim
@@ -89,20 +95,25 @@ negations_of_weak m l f g decided_f decided_g i place = ((λ none. apart (not_we
     Neither : ℕ → Type 0
     Neither x = F x ⊎ G x → ⊥
 
-    not_weak : (releases (next_place l) G (λ x. F x ⊎ G x) (places l) i → ⊥) → untils (next_place l) (λ x. G x → ⊥) Neither (places l) i
+    not_weak : (releases (next_place l) G (λ x. F x ⊎ G x) (places l) i → ⊥)
+        → untils (next_place l) (λ x. G x → ⊥) Neither (places l) i
     not_weak none =
         not_release (next_place l) (places l) (closed l place.0) G (λ x. F x ⊎ G x)
         (λ x low. one_of_two (decided_f x (place.0, low)) (decided_g x (place.0, low))) (places l) i place.1 none
 
-    weak_not : untils (next_place l) (λ x. G x → ⊥) Neither (places l) i → releases (next_place l) G (λ x. F x ⊎ G x) (places l) i → ⊥
+    weak_not : untils (next_place l) (λ x. G x → ⊥) Neither (places l) i
+        → releases (next_place l) G (λ x. F x ⊎ G x) (places l) i
+        → ⊥
     weak_not = release_not (next_place l) (places l) (closed l place.0) G (λ x. F x ⊎ G x) (places l) i
 
-    apart : untils (next_place l) (λ x. G x → ⊥) Neither (places l) i → untils (next_place l) (λ x. G x → ⊥) Both (places l) i
+    apart : untils (next_place l) (λ x. G x → ⊥) Neither (places l) i
+        → untils (next_place l) (λ x. G x → ⊥) Both (places l) i
     apart =
         until_maps (next_place l) (λ x. G x → ⊥) Neither (λ x. G x → ⊥) Both (λ x t. t)
         (λ x none. ((λ a. none (inl a)), (λ b. none (inr b)))) (places l) i
 
-    together : untils (next_place l) (λ x. G x → ⊥) Both (places l) i → untils (next_place l) (λ x. G x → ⊥) Neither (places l) i
+    together : untils (next_place l) (λ x. G x → ⊥) Both (places l) i
+        → untils (next_place l) (λ x. G x → ⊥) Neither (places l) i
     together =
         until_maps (next_place l) (λ x. G x → ⊥) Both (λ x. G x → ⊥) Neither (λ x t. t)
         (λ x both. ⊎_elim both.0 both.1) (places l) i

@@ -1,11 +1,11 @@
 -- A formula is true alike at places from which the same states are passed.
 --
 --   follows_the_path  == the law
-use Rattle.std.proofs.Common.{ℕ, suc, ◌≡◌, ◌+◌, ◌<◌, ◌⊎◌, true, inl, inr, arith, refl, sym, ap, subst, ◌∙◌, ⊎_elim}
+use Rattle.std.proofs.Common.{ℕ, ◌≡◌, ◌+◌, ◌<◌, ◌⊎◌, true, inl, inr, sym, ap, subst, ◌∙◌, ⊎_elim}
 use Rattle.ml_lists.specs.Lasso.{Lasso, entry, next_place}
 use Rattle.ml_lists.proofs.Walks.{walk_keeps}
 use Rattle.ml_text.specs.declared.token.Operator.TheVariants as operator
-use Rattle.ml_base.specs.Structure.{Structure, lists}
+use Rattle.ml_base.specs.Structure.{lists}
 use Rattle.ml_ctl.specs.Formula as plain
 use Rattle.ml_ctl.specs.Formula.{Formula}
 use Rattle.ml_ctl.specs.Laws.{FollowsThePath, PassSame}

@@ -2,13 +2,11 @@
 --
 --   connected_alike     == a connective of propositions that come to the same
 --   looks_at_the_state  == the law
-use Rattle.std.proofs.Common.{ℕ, ◌≡◌, ◌⊎◌, ◌↔◌, true, inl, inr, ⊎_elim}
+use Rattle.std.proofs.Common.{◌↔◌, inl, inr, ⊎_elim}
 use Rattle.std.proofs.lemmas.Bool.{false≢true, and_parts}
-use Rattle.ml_lists.specs.Lasso.{Lasso, entry}
 use Rattle.ml_text.specs.declared.token.Operator.{Operator}
 use Rattle.ml_text.specs.declared.token.Operator.TheVariants as operator
-use Rattle.ml_base.specs.Structure.{Structure}
-use Rattle.ml_ctl.specs.Formula.{Formula, Const, Prop, Not, Binary, Temporal, Paired, Quantified, is_state}
+use Rattle.ml_ctl.specs.Formula.{Const, Prop, Not, Binary, Temporal, Paired, Quantified, is_state}
 use Rattle.ml_ctl.specs.Laws.{LooksAtTheState}
 use Rattle.ml_ctl.specs.Meaning.{truth_of}
 

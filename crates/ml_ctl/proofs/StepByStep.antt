@@ -3,15 +3,15 @@
 --   next_is_place      == the next place of a lasso is a place
 --   read_step_by_step  == the law on one step
 --   read_ahead         == the law on what is to come
-use Rattle.std.proofs.Common.{ℕ, zero, suc, ◌≡◌, ◌<◌, ◌⊎◌, ◌↔◌, inl, inr, arith, ⊎_elim}
+use Rattle.std.proofs.Common.{ℕ, ◌<◌, ◌⊎◌, ◌↔◌, inl, inr}
 use Rattle.ml_lists.specs.Lasso.{Lasso, next_place}
 use Rattle.ml_lists.proofs.Unrolling.{next_place_low}
 use Rattle.ml_base.specs.Structure.{Structure}
-use Rattle.ml_ctl.specs.Formula.{Formula, Temporal, Paired, Finally, Globally, Until, Release, Weak}
-use Rattle.ml_ctl.specs.Laws.{ReadsStepByStep, ReadStepByStep, ReadsAhead, ReadAhead, WasTrue}
+use Rattle.ml_ctl.specs.Formula.{Formula}
+use Rattle.ml_ctl.specs.Laws.{ReadsStepByStep, ReadStepByStep, ReadsAhead, ReadAhead}
 use Rattle.ml_ctl.specs.Meaning.{Nowhere, Everywhere, TruthAt}
 use Rattle.ml_ctl.specs.Paths.{IsPlace, places, after}
-use Rattle.ml_ctl.proofs.Iterated.{Meets, Met, untils, releases, until_exactly, until_steps, release_exactly, release_steps}
+use Rattle.ml_ctl.proofs.Iterated.{Meets, Met, until_exactly, until_steps, release_exactly, release_steps}
 
 pub closed : (l : Lasso) → l.start < places l → (i : ℕ) → i < places l → next_place l i < places l
 closed l starts i low = next_place_low l starts i low

@@ -15,9 +15,14 @@
 --   occurrences f  == the number of symbols of f, where iff counts as three
 --   is_state f     == is f a state formula?
 --   is_linear f    == is f without quantifiers?
+--   Logic          == CTL* or LTL
+--   is_of w f      == is f a formula of the logic w?
 use Rattle.std.specs.Prelude.{ℕ, ◌+◌, Bool, true, false, ◌&&◌, List}
 use Rattle.ml_text.specs.declared.token.Operator.{Operator}
 use Rattle.ml_text.specs.declared.token.Operator.TheVariants.{Iff, Implies, Or, And}
+
+pub data Logic : Type 0 where
+  Ctl Ltl : Logic
 
 pub data Tense : Type 0 where
   Next Finally Globally : Tense
@@ -70,3 +75,7 @@ is_linear (Binary op f g) = is_linear f && is_linear g
 is_linear (Temporal t f) = is_linear f
 is_linear (Paired p f g) = is_linear f && is_linear g
 is_linear (Quantified q f) = false
+
+abbrev pub is_of : Logic → Formula → Bool
+is_of Ctl f = is_state f
+is_of Ltl f = is_linear f

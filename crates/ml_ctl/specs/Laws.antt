@@ -11,6 +11,7 @@
 --                           == what a temporal operator fails to be, where truth is decided
 --   AllAreNotSome           == `A f` holds where `E !f` doesn't, if f is true or not along each path
 --   SomeAreNotAll           == `E f` holds where `A !f` doesn't, if it holds or not
+--   PathsStart              == from each state of an admitted structure some path starts
 use Rattle.std.specs.Prelude.{ℕ, ◌≡◌, ◌<◌, ◌⊎◌, ◌↔◌, true}
 use Rattle.ml_text.specs.declared.token.Operator.TheVariants as operator
 use Rattle.ml_lists.specs.Lasso.{Lasso, entry, next_place}
@@ -18,6 +19,7 @@ use Rattle.ml_base.specs.Structure.{Structure}
 use Rattle.ml_ctl.specs.Formula.{Formula, Not, Binary, Temporal, Paired, Quantified, Next, Finally, Globally, Until, Release, Weak, Exists, Forall, is_state}
 use Rattle.ml_ctl.specs.Meaning.{TruthAt, Satisfies, HoldsAt}
 use Rattle.ml_ctl.specs.Paths.{IsPathFrom, IsPlace, after}
+use Rattle.ml_ctl.specs.Problem.{IsAdmitted}
 
 -- ---- one step
 
@@ -113,3 +115,8 @@ abbrev pub SomeAreNotAll : Type 0
 SomeAreNotAll = (m : Structure) (f : Formula) (s : ℕ)
     → IsDecided (HoldsAt m (Quantified Exists f) s)
     → HoldsAt m (Quantified Exists f) s ↔ HoldsAt m (Not (Quantified Forall (Not f))) s
+
+-- ---- paths
+
+abbrev pub PathsStart : Type 0
+PathsStart = (m : Structure) → IsAdmitted m → (s : ℕ) → s < m.states → (l : Lasso) × IsPathFrom m s l

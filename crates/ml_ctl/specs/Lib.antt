@@ -14,5 +14,15 @@ pub mod Term
 pub mod Spelling
 -- the formulas that the program holds
 pub mod WellFormed
+-- the signs of texts
+pub mod Signs
+-- the grammar of texts
+pub mod Grammar
+-- texts as items
+pub mod Text
+-- the canonical text
+pub mod Canonical
+-- what is parsed, and what is refused
+pub mod Parsing
 -- what private contracts cite
 pub mod private

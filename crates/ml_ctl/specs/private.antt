@@ -2,3 +2,13 @@
 
 -- the code of formulas
 pub mod FormulaCode
+-- the grammar as tables
+pub mod Tables
+-- the signs that the program holds
+pub mod SignViews
+-- the forms that the program holds
+pub mod FormViews
+-- what the reader of texts asks of a logic
+pub mod Reader
+-- signs of one kind do the same
+pub mod Alike

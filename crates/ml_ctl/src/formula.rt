@@ -22,17 +22,18 @@ impl Model for Formula {
 
     ghost view = { λ f. formula_of f.root };
 
-    ghost invariant = { λ f. IsWellFormed (formula_of f.root) };
+    ghost invariant = { λ f. IsWellFormed plain.Ctl (formula_of f.root) };
 }
 
 impl Formula {
     ghost use Rattle.std.specs.Prelude.{◌≡◌};
+    ghost use Rattle.ml_ctl.specs.Formula as plain;
     ghost use Rattle.ml_ctl.specs.Term.{formula_of};
     ghost use Rattle.ml_ctl.specs.WellFormed.{IsWellFormed};
 
     /// The formula with this tree.
     pub(crate) fn new(root: Term) -> Formula
-        requires { IsWellFormed (formula_of root) }
+        requires { IsWellFormed plain.Ctl (formula_of root) }
         ensures { result ≡ formula_of root }
     {
         Formula { root }
@@ -41,7 +42,7 @@ impl Formula {
     /// The tree of the formula.
     pub fn root(&self) -> &Term
         ensures tree { formula_of result.now ≡ self.now }
-        ensures well_formed { IsWellFormed self.now }
+        ensures well_formed { IsWellFormed plain.Ctl self.now }
     {
         &self.root
     }

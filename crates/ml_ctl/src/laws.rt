@@ -1,5 +1,42 @@
-// What holds of meanings by their definition alone: the functions do nothing, their contracts are the theorems.
-ghost use Rattle.ml_ctl.specs.Laws.{AllAreNotSome, FollowsThePath, LooksAtTheState, NegationsOfFinally, NegationsOfGlobally, NegationsOfNext, NegationsOfRelease, NegationsOfUntil, NegationsOfWeak, ReadAhead, ReadStepByStep, SomeAreNotAll};
+// What holds of texts by their grammar alone, and of meanings: the functions do nothing, their contracts are the theorems.
+ghost use Rattle.ml_ctl.specs.Laws.{AllAreNotSome, FollowsThePath, LooksAtTheState, NegationsOfFinally, NegationsOfGlobally, NegationsOfNext, NegationsOfRelease, NegationsOfUntil, NegationsOfWeak, PathsStart, ReadAhead, ReadStepByStep, SomeAreNotAll};
+ghost use Rattle.ml_ctl.specs.Parsing.{CanonicalIsParsed, CanonicalStandsForOne, NeverBoth, ParsedAreWellFormed, ParsedOnce, RefusedOnce, SomeAnswer, StandForOne};
+
+/// A text stands for one formula at most, by the grammar alone.
+#[tactic(auto, using(crate::proofs::OneAnswer::one_text_formula))]
+pub fn texts_stand_for_one()
+    ensures { StandForOne }
+{}
+
+/// The canonical text of a formula of the logic whose names are spelled as they must be stands for it and for no other, by
+/// the grammar alone. So what `print` writes is a text of the formula that was printed.
+#[tactic(auto, using(crate::proofs::CanonicalParsed::canonical_one))]
+pub fn canonical_text()
+    ensures { CanonicalStandsForOne }
+{}
+
+/// The canonical text of a well-formed formula is parsed as it, within all limits. So every formula that a program holds
+/// is read back from what `print` writes.
+pub fn canonical_text_is_parsed()
+    ensures { CanonicalIsParsed }
+{}
+
+/// A text has exactly one answer but want of memory: it is parsed as one formula, or it is refused in one way.
+///
+/// `some`: one of the two comes. `parsed` and `refused`: each comes in one way at most. `exclusive`: never both come. So
+/// `parse` answers each exactly where it is said to come.
+pub fn one_answer()
+    ensures some { SomeAnswer }
+    ensures parsed { ParsedOnce }
+    ensures refused { RefusedOnce }
+    ensures exclusive { NeverBoth }
+{}
+
+/// What a text is parsed as is well formed: small, with names spelled as they must be, and a formula of the logic.
+#[tactic(auto, using(crate::proofs::Parsed::parsed_well))]
+pub fn parsed_are_well_formed()
+    ensures { ParsedAreWellFormed }
+{}
 
 /// What a temporal operator says at a place follows from what its operands say there and what it says at the next place.
 pub fn temporal_operators_step_by_step()
@@ -41,4 +78,9 @@ pub fn temporal_operators_have_duals()
 pub fn quantifiers_have_duals()
     ensures all { AllAreNotSome }
     ensures some { SomeAreNotAll }
+{}
+
+/// From each state of a structure of which CTL* and LTL speak, some path starts. So `A f` never holds for want of a path.
+pub fn paths_start()
+    ensures { PathsStart }
 {}

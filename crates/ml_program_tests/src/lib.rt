@@ -3,9 +3,11 @@
 //
 //   check_tests     documents with a refutation, accepted, rejected and unreadable
 //   checking_tests  the meaning of formulas against the checking game, on formulas and structures that look random
+//   ctl_tests       texts of CTL* and their formulas
 //   document_tests  documents with a structure, readable and broken
 //   kripke_tests    structures, and the texts of models
 //   line_tests      lines written and cut
+//   ltl_tests       texts of LTL and their formulas
 //   meaning_tests   formulas with the states at which they hold
 //   mu_tests        texts of the mu-calculus and their formulas
 //   pdl_tests       texts of PDL and their formulas
@@ -20,11 +22,15 @@ mod check_tests;
 #[cfg(test)]
 mod checking_tests;
 #[cfg(test)]
+mod ctl_tests;
+#[cfg(test)]
 mod document_tests;
 #[cfg(test)]
 mod kripke_tests;
 #[cfg(test)]
 mod line_tests;
+#[cfg(test)]
+mod ltl_tests;
 #[cfg(test)]
 mod meaning_tests;
 #[cfg(test)]

@@ -86,13 +86,20 @@ abbrev pub formula_from : List Symbol → Formula
 formula_from ss = first_formula (read_symbols ss [])
 
 -- a symbol with one operand, and one with two, behind what its operands read
-one_more : (f : Formula) (h : Formula → Formula) (s : Symbol) (ss : List Symbol) (fs : List Formula) → ((g : Formula) (gs : List Formula) → behind s (g ∷ gs) ≡ h g ∷ gs) → ((us : List Symbol) (gs : List Formula) → read_symbols (symbols_of f ++ us) gs ≡ read_symbols us (f ∷ gs)) → read_symbols ((symbols_of f ++ s ∷ []) ++ ss) fs ≡ read_symbols ss (h f ∷ fs)
+one_more : (f : Formula) (h : Formula → Formula) (s : Symbol) (ss : List Symbol) (fs : List Formula)
+    → ((g : Formula) (gs : List Formula) → behind s (g ∷ gs) ≡ h g ∷ gs)
+    → ((us : List Symbol) (gs : List Formula) → read_symbols (symbols_of f ++ us) gs ≡ read_symbols us (f ∷ gs))
+    → read_symbols ((symbols_of f ++ s ∷ []) ++ ss) fs ≡ read_symbols ss (h f ∷ fs)
 one_more f h s ss fs e reads =
     ap (λ us. read_symbols us fs) (append_assoc (symbols_of f) (s ∷ []) ss)
     ∙ reads (s ∷ ss) fs
     ∙ ap (read_symbols ss) (e f fs)
 
-two_more : (f g : Formula) (h : Formula → Formula → Formula) (s : Symbol) (ss : List Symbol) (fs : List Formula) → ((a b : Formula) (gs : List Formula) → behind s (b ∷ a ∷ gs) ≡ h a b ∷ gs) → ((us : List Symbol) (gs : List Formula) → read_symbols (symbols_of f ++ us) gs ≡ read_symbols us (f ∷ gs)) → ((us : List Symbol) (gs : List Formula) → read_symbols (symbols_of g ++ us) gs ≡ read_symbols us (g ∷ gs)) → read_symbols ((symbols_of f ++ (symbols_of g ++ s ∷ [])) ++ ss) fs ≡ read_symbols ss (h f g ∷ fs)
+two_more : (f g : Formula) (h : Formula → Formula → Formula) (s : Symbol) (ss : List Symbol) (fs : List Formula)
+    → ((a b : Formula) (gs : List Formula) → behind s (b ∷ a ∷ gs) ≡ h a b ∷ gs)
+    → ((us : List Symbol) (gs : List Formula) → read_symbols (symbols_of f ++ us) gs ≡ read_symbols us (f ∷ gs))
+    → ((us : List Symbol) (gs : List Formula) → read_symbols (symbols_of g ++ us) gs ≡ read_symbols us (g ∷ gs))
+    → read_symbols ((symbols_of f ++ (symbols_of g ++ s ∷ [])) ++ ss) fs ≡ read_symbols ss (h f g ∷ fs)
 two_more f g h s ss fs e reads_f reads_g =
     ap (λ us. read_symbols us fs) (append_assoc (symbols_of f) (symbols_of g ++ s ∷ []) ss)
     ∙ reads_f ((symbols_of g ++ s ∷ []) ++ ss) fs

@@ -1,0 +1,241 @@
+-- The canonical text of a formula stands for it.
+--
+--   tokens_onto f ss     == the tokens of the canonical text of f, in front of the tokens ss
+--   scans_formula        == these are its tokens
+--   reads_formula        == their signs are read as f
+--   canonical_tokens     == these are the tokens of the text alone
+--   canonical_stands     == so the text stands for f
+use Rattle.std.proofs.Common.{◌≡◌, ℕ, true, false, not, List, [], ◌∷◌, ◌++◌, map, refl, sym, ◌∙◌, ap, subst, codes, append_assoc}
+use Rattle.std.proofs.lemmas.Bool.{and_parts, false≢true}
+use Rattle.std.proofs.lemmas.List.{append-nil}
+use Rattle.ml_text.specs.Bytes.{is_lower}
+use Rattle.ml_text.specs.declared.token.Operator.{Operator}
+use Rattle.ml_text.specs.declared.token.Operator.TheVariants as operator
+use Rattle.ml_text.specs.declared.token.Token.TheVariants as token
+use Rattle.ml_text.specs.declared.token.WordStart.TheVariants.{LowerCase}
+use Rattle.ml_text.specs.declared.token.Placed.{Placed}
+use Rattle.ml_text.specs.Tokens.{tokens}
+use Rattle.ml_text.specs.Words.{constant_of}
+use Rattle.ml_text.specs.Refusals.{signs_of}
+use Rattle.ml_text.proofs.Scans.{Spelt, spelt_at, Scans, ends, blank, piece, scans_tokens}
+use Rattle.ml_ctl.specs.Formula as plain
+use Rattle.ml_ctl.specs.Formula.{Formula, Logic, Ctl, Ltl, Tense, Pairing, Quantifier, is_of}
+use Rattle.ml_ctl.specs.Canonical.{spelling_of, tense_letter, pairing_letter, quantifier_letter, between, canonical_text}
+use Rattle.ml_ctl.specs.Signs.{Sign, Connective, Const, Open, Close, Tensed, Pairs, Quantifies, sign_of, word_sign}
+use Rattle.ml_ctl.specs.Spelling.{is_spelled, is_word_from, is_reserved}
+use Rattle.ml_ctl.specs.Grammar as grammar
+use Rattle.ml_ctl.specs.Grammar.{Sort, State, Path, sort_of, Reads, iff_alone, iff, imp_alone, imp, or_alone, or, and_alone, and, pair_alone, pair, negation, temporal, quantified, group, constant, proposition}
+use Rattle.ml_ctl.specs.Text.{items_from, items, sign_at, IsTextOf}
+use Rattle.ml_ctl.proofs.CanonicalPieces.{lone, one_byte, open_front, close_front, not_front, and_front, or_front, imp_front, iff_front, tense_piece, pairing_piece, quantifier_piece, ends_word, word_piece}
+use Rattle.ml_ctl.proofs.GrammarTables.{un_raised}
+use Rattle.ml_ctl.proofs.Sorts.{fits, is_of_fits}
+use Rattle.ml_ctl.proofs.WordSigns.{proposition_sign}
+
+-- ---- the tokens of a canonical text
+
+abbrev pub tokens_onto : Formula → List Spelt → List Spelt
+tokens_onto (plain.Const true) ss = (token.Word, codes "tt") ∷ ss
+tokens_onto (plain.Const false) ss = (token.Word, codes "ff") ∷ ss
+tokens_onto (plain.Prop p) ss = (token.Word, p) ∷ ss
+tokens_onto (plain.Not f) ss = (token.Not, codes "!") ∷ tokens_onto f ss
+tokens_onto (plain.Binary o f g) ss =
+    lone 40 ∷ tokens_onto f ((token.Operator o, spelling_of o) ∷ tokens_onto g (lone 41 ∷ ss))
+tokens_onto (plain.Temporal t f) ss = lone (tense_letter t) ∷ tokens_onto f ss
+tokens_onto (plain.Paired p f g) ss = lone 40 ∷ tokens_onto f (lone (pairing_letter p) ∷ tokens_onto g (lone 41 ∷ ss))
+tokens_onto (plain.Quantified q f) ss = lone (quantifier_letter q) ∷ tokens_onto f ss
+
+-- a sign with its blanks in front of a text
+abbrev SignPiece : List ℕ → Spelt → Type 0
+SignPiece text s = (rest : List ℕ) (ss : List Spelt)
+    → Scans LowerCase rest ss
+    → Scans LowerCase (codes " " ++ (text ++ (codes " " ++ rest))) (s ∷ ss)
+
+operator_piece : (o : Operator) → SignPiece (spelling_of o) (token.Operator o, spelling_of o)
+operator_piece operator.And rest ss r = blank 32 refl (piece (token.Operator operator.And) 38 [] refl (and_front rest) (blank 32 refl r))
+operator_piece operator.Or rest ss r = blank 32 refl (piece (token.Operator operator.Or) 124 [] refl (or_front rest) (blank 32 refl r))
+operator_piece operator.Implies rest ss r = blank 32 refl (piece (token.Operator operator.Implies) 45 (62 ∷ []) refl (imp_front rest) (blank 32 refl r))
+operator_piece operator.Iff rest ss r = blank 32 refl (piece (token.Operator operator.Iff) 60 (45 ∷ 62 ∷ []) refl (iff_front rest) (blank 32 refl r))
+
+letter_piece : (p : Pairing) → SignPiece (pairing_letter p ∷ []) (lone (pairing_letter p))
+letter_piece p rest ss r = blank 32 refl (pairing_piece p (32 ∷ rest) ss (blank 32 refl r))
+
+between_same : (a sp b rest : List ℕ)
+    → between a sp b ++ rest ≡ 40 ∷ (a ++ (codes " " ++ (sp ++ (codes " " ++ (b ++ (41 ∷ rest))))))
+between_same a sp b rest = simp append_assoc
+
+abbrev ScansOf : Formula → Type 0
+ScansOf f = (rest : List ℕ) (ss : List Spelt)
+    → ends_word rest ≡ true
+    → Scans LowerCase rest ss
+    → Scans LowerCase (canonical_text f ++ rest) (tokens_onto f ss)
+
+two_scans : (f g : Formula) (text : List ℕ) (s : Spelt) (rest : List ℕ) (ss : List Spelt)
+    → SignPiece text s
+    → ScansOf f
+    → ScansOf g
+    → Scans LowerCase rest ss
+    → Scans LowerCase (between (canonical_text f) text (canonical_text g) ++ rest)
+    (lone 40 ∷ tokens_onto f (s ∷ tokens_onto g (lone 41 ∷ ss)))
+two_scans f g text s rest ss sign left right r =
+    let behind = right (41 ∷ rest) (lone 41 ∷ ss) refl (one_byte 41 rest ss refl (close_front rest) r) in
+    let toks = s ∷ tokens_onto g (lone 41 ∷ ss) in
+    let after = codes " " ++ (text ++ (codes " " ++ (canonical_text g ++ (41 ∷ rest)))) in
+    let inside = left after toks refl (sign (canonical_text g ++ (41 ∷ rest)) (tokens_onto g (lone 41 ∷ ss)) behind) in
+    subst (λ bytes. Scans LowerCase bytes (lone 40 ∷ tokens_onto f toks))
+    (sym (between_same (canonical_text f) text (canonical_text g) rest))
+    (one_byte 40 (canonical_text f ++ after) (tokens_onto f toks) refl (open_front (canonical_text f ++ after)) inside)
+
+pub scans_formula : (f : Formula) → is_spelled f ≡ true → ScansOf f
+scans_formula (plain.Const true) is rest ss stops r = word_piece (codes "tt") rest ss refl stops r
+scans_formula (plain.Const false) is rest ss stops r = word_piece (codes "ff") rest ss refl stops r
+scans_formula (plain.Prop p) is rest ss stops r =
+    word_piece p rest ss (and_parts (is_word_from is_lower p) (not (is_reserved p)) is).0 stops r
+scans_formula (plain.Not f) is rest ss stops r =
+    piece token.Not 33 [] refl (not_front (canonical_text f ++ rest)) (scans_formula f is rest ss stops r)
+scans_formula (plain.Binary o f g) is rest ss stops r =
+    let parts = and_parts (is_spelled f) (is_spelled g) is in
+    two_scans f g (spelling_of o) (token.Operator o, spelling_of o) rest ss (operator_piece o) (scans_formula f parts.0)
+    (scans_formula g parts.1) r
+scans_formula (plain.Temporal t f) is rest ss stops r =
+    tense_piece t (32 ∷ (canonical_text f ++ rest)) (tokens_onto f ss) (blank 32 refl (scans_formula f is rest ss stops r))
+scans_formula (plain.Paired p f g) is rest ss stops r =
+    let parts = and_parts (is_spelled f) (is_spelled g) is in
+    two_scans f g (pairing_letter p ∷ []) (lone (pairing_letter p)) rest ss (letter_piece p) (scans_formula f parts.0)
+    (scans_formula g parts.1) r
+scans_formula (plain.Quantified q f) is rest ss stops r =
+    quantifier_piece q (32 ∷ (canonical_text f ++ rest)) (tokens_onto f ss) (blank 32 refl (scans_formula f is rest ss stops r))
+
+-- ---- reading them
+
+abbrev pub sign_spelt : Spelt → Sign
+sign_spelt s = sign_of s.0 s.1
+
+true_sign : word_sign (codes "tt") ≡ Const true
+unfolding constant_of
+true_sign = refl
+
+false_sign : word_sign (codes "ff") ≡ Const false
+unfolding constant_of
+false_sign = refl
+
+pub tense_sign : (t : Tense) → sign_spelt (lone (tense_letter t)) ≡ Tensed t
+tense_sign plain.Next = refl
+tense_sign plain.Finally = refl
+tense_sign plain.Globally = refl
+
+pub pairing_sign : (p : Pairing) → sign_spelt (lone (pairing_letter p)) ≡ Pairs p
+pairing_sign plain.Until = refl
+pairing_sign plain.Release = refl
+pairing_sign plain.Weak = refl
+
+pub quantifier_sign : (q : Quantifier) → sign_spelt (lone (quantifier_letter q)) ≡ Quantifies q
+quantifier_sign plain.Exists = refl
+quantifier_sign plain.Forall = refl
+
+binary_read : {w : Logic} {s : Sort} (o : Operator) {ts us rest : List Sign} {f g : Formula}
+    → Reads w s grammar.Un ts f (Connective o ∷ us)
+    → Reads w s grammar.Un us g (Close ∷ rest)
+    → Reads w s grammar.Un (Open ∷ ts) (plain.Binary o f g) rest
+binary_read operator.Iff a b = group (iff (un_raised grammar.Imp a) (un_raised grammar.Iff b))
+binary_read operator.Implies a b = group (iff_alone (imp (un_raised grammar.Or a) (un_raised grammar.Imp b)))
+binary_read operator.Or a b = group (iff_alone (imp_alone (or (un_raised grammar.Or a) (un_raised grammar.And b))))
+binary_read operator.And a b = group (iff_alone (imp_alone (or_alone (and (un_raised grammar.And a) (un_raised grammar.Pair b)))))
+
+-- a sign that begins an operand, by what it is
+begins_with : (w : Logic) (s : Sort) (t u : Sign) (ts rest : List Sign) (f : Formula)
+    → t ≡ u
+    → Reads w s grammar.Un (u ∷ ts) f rest
+    → Reads w s grammar.Un (t ∷ ts) f rest
+begins_with w s t u ts rest f same r = subst (λ x. Reads w s grammar.Un (x ∷ ts) f rest) (sym same) r
+
+pair_read : (w : Logic) (p : Pairing) (t : Sign) (ts us rest : List Sign) (f g : Formula)
+    → t ≡ Pairs p
+    → Reads w Path grammar.Un ts f (t ∷ us)
+    → Reads w Path grammar.Un us g (Close ∷ rest)
+    → Reads w Path grammar.Un (Open ∷ ts) (plain.Paired p f g) rest
+pair_read w p t ts us rest f g same a b =
+    let left = subst (λ x. Reads w Path grammar.Un ts f (x ∷ us)) same a in
+    group (iff_alone (imp_alone (or_alone (and_alone (pair p left (pair_alone b))))))
+
+abbrev ReadsBack : Logic → Sort → Formula → Type 0
+ReadsBack w s f = (ss : List Spelt) → Reads w s grammar.Un (map sign_spelt (tokens_onto f ss)) f (map sign_spelt ss)
+
+temporal_back : (w : Logic) (s : Sort) (t : Tense) (f : Formula)
+    → fits w s (plain.Temporal t f) ≡ true
+    → (fits w Path f ≡ true → ReadsBack w Path f)
+    → ReadsBack w s (plain.Temporal t f)
+temporal_back w State t f stand back ss = absurd (false≢true stand)
+temporal_back w Path t f stand back ss =
+    begins_with w Path (sign_spelt (lone (tense_letter t))) (Tensed t) (map sign_spelt (tokens_onto f ss)) (map sign_spelt ss)
+    (plain.Temporal t f) (tense_sign t) (temporal t (back stand ss))
+
+paired_back : (w : Logic) (s : Sort) (p : Pairing) (f g : Formula)
+    → fits w s (plain.Paired p f g) ≡ true
+    → (fits w Path f ≡ true → ReadsBack w Path f)
+    → (fits w Path g ≡ true → ReadsBack w Path g)
+    → ReadsBack w s (plain.Paired p f g)
+paired_back w State p f g stand left right ss = absurd (false≢true stand)
+paired_back w Path p f g stand left right ss =
+    let parts = and_parts (fits w Path f) (fits w Path g) stand in
+    let after = lone (pairing_letter p) ∷ tokens_onto g (lone 41 ∷ ss) in
+    pair_read w p (sign_spelt (lone (pairing_letter p))) (map sign_spelt (tokens_onto f after))
+    (map sign_spelt (tokens_onto g (lone 41 ∷ ss))) (map sign_spelt ss) f g (pairing_sign p) (left parts.0 after)
+    (right parts.1 (lone 41 ∷ ss))
+
+quantified_back : (w : Logic) (s : Sort) (q : Quantifier) (f : Formula)
+    → fits w s (plain.Quantified q f) ≡ true
+    → (fits w Path f ≡ true → ReadsBack w Path f)
+    → ReadsBack w s (plain.Quantified q f)
+quantified_back Ltl s q f stand back ss = absurd (false≢true stand)
+quantified_back Ctl s q f stand back ss =
+    begins_with Ctl s (sign_spelt (lone (quantifier_letter q))) (Quantifies q) (map sign_spelt (tokens_onto f ss))
+    (map sign_spelt ss) (plain.Quantified q f) (quantifier_sign q) (quantified q refl (back stand ss))
+
+pub reads_formula : (w : Logic) (s : Sort) (f : Formula) → is_spelled f ≡ true → fits w s f ≡ true → ReadsBack w s f
+reads_formula w s (plain.Const true) is stand ss =
+    begins_with w s (word_sign (codes "tt")) (Const true) (map sign_spelt ss) (map sign_spelt ss) (plain.Const true) true_sign
+    (constant true)
+reads_formula w s (plain.Const false) is stand ss =
+    begins_with w s (word_sign (codes "ff")) (Const false) (map sign_spelt ss) (map sign_spelt ss) (plain.Const false) false_sign
+    (constant false)
+reads_formula w s (plain.Prop p) is stand ss =
+    begins_with w s (word_sign p) (Rattle.ml_ctl.specs.Signs.Lower p) (map sign_spelt ss) (map sign_spelt ss) (plain.Prop p)
+    (proposition_sign p is) (proposition p)
+reads_formula w s (plain.Not f) is stand ss = negation (reads_formula w s f is stand ss)
+reads_formula w s (plain.Binary o f g) is stand ss =
+    let parts = and_parts (is_spelled f) (is_spelled g) is in
+    let both = and_parts (fits w s f) (fits w s g) stand in
+    binary_read o (reads_formula w s f parts.0 both.0 ((token.Operator o, spelling_of o) ∷ tokens_onto g (lone 41 ∷ ss)))
+    (reads_formula w s g parts.1 both.1 (lone 41 ∷ ss))
+reads_formula w s (plain.Temporal t f) is stand ss = temporal_back w s t f stand (reads_formula w Path f is) ss
+reads_formula w s (plain.Paired p f g) is stand ss =
+    let parts = and_parts (is_spelled f) (is_spelled g) is in
+    paired_back w s p f g stand (reads_formula w Path f parts.0) (reads_formula w Path g parts.1) ss
+reads_formula w s (plain.Quantified q f) is stand ss = quantified_back w s q f stand (reads_formula w Path f is) ss
+
+-- ---- the text
+
+signs_spelt : (text : List ℕ) (ps : List Placed)
+    → signs_of (items_from text ps) ≡ map sign_spelt (map (spelt_at text) ps)
+signs_spelt text [] = refl
+signs_spelt text (p ∷ ps) = ap (λ ts. sign_at text p ∷ ts) (signs_spelt text ps)
+
+pub canonical_tokens : (f : Formula)
+    → is_spelled f ≡ true
+    → map (spelt_at (canonical_text f)) (tokens LowerCase (canonical_text f)) ≡ tokens_onto f []
+canonical_tokens f is =
+    let text = canonical_text f in
+    let scans : Scans LowerCase text (tokens_onto f []) =
+    subst (λ t. Scans LowerCase t (tokens_onto f [])) (append-nil text) (scans_formula f is [] [] refl ends) in
+    scans_tokens LowerCase text (tokens_onto f []) scans
+
+pub canonical_stands : (w : Logic) (f : Formula)
+    → is_spelled f ≡ true
+    → is_of w f ≡ true
+    → IsTextOf w (canonical_text f) f
+canonical_stands w f is stand =
+    let text = canonical_text f in
+    let signs_are : signs_of (items text) ≡ map sign_spelt (tokens_onto f []) =
+    signs_spelt text (tokens LowerCase text) ∙ ap (map sign_spelt) (canonical_tokens f is) in
+    subst (λ ts. Reads w (sort_of w) grammar.Iff ts f []) (sym signs_are)
+    (un_raised grammar.Iff (reads_formula w (sort_of w) f is (is_of_fits w f stand) []))

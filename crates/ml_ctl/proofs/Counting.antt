@@ -1,0 +1,48 @@
+-- What a text counts is what its formula has.
+--
+--   count_signs ts  == the occurrences that the signs count
+--   counted_items   == the items of a text count what its signs do
+--   counts          == what is read has as many occurrences as its signs count
+use Rattle.std.proofs.Common.{◌≡◌, ℕ, ◌+◌, List, [], ◌∷◌, refl, arith}
+use Rattle.std.proofs.lemmas.List.Sums.{sum_by-cons}
+use Rattle.ml_text.specs.declared.token.Placed.{Placed}
+use Rattle.ml_text.specs.Refusals.{Item, signs_of, counted}
+use Rattle.ml_text.specs.Items as text_items
+use Rattle.ml_ctl.specs.Formula.{Formula, Logic, occurrences}
+use Rattle.ml_ctl.specs.Signs.{Sign}
+use Rattle.ml_ctl.specs.Grammar as grammar
+use Rattle.ml_ctl.specs.Grammar.{Sort, Reads, iff_alone, iff, imp_alone, imp, or_alone, or, and_alone, and, pair_alone, pair, negation, temporal, quantified, group, constant, proposition}
+use Rattle.ml_ctl.specs.Text.{weight_of, ctl_signs, items_from}
+
+abbrev pub count_signs : List Sign → ℕ
+count_signs [] = 0
+count_signs (t ∷ ts) = weight_of t + count_signs ts
+
+pub counted_items : (text : List ℕ) (ps : List Placed)
+    → counted (items_from text ps) ≡ count_signs (signs_of (items_from text ps))
+counted_items text [] = refl
+counted_items text (p ∷ ps) =
+    let here = sum_by-cons (λ (i : Item Sign). i.weight) (text_items.item_at ctl_signs text tt p) (items_from text ps) in
+    let later = counted_items text ps in
+    omega (arith, here, later)
+
+module _ {w : Logic} where
+  pub counts : {s : Sort} {l : grammar.Level} {ts rest : List Sign} {f : Formula}
+      → Reads w s l ts f rest
+      → count_signs ts ≡ occurrences f + count_signs rest
+  counts (iff_alone r) = counts r
+  counts (iff a b) = let x = counts a in let y = counts b in omega (arith, x, y)
+  counts (imp_alone r) = counts r
+  counts (imp a b) = let x = counts a in let y = counts b in omega (arith, x, y)
+  counts (or_alone r) = counts r
+  counts (or a b) = let x = counts a in let y = counts b in omega (arith, x, y)
+  counts (and_alone r) = counts r
+  counts (and a b) = let x = counts a in let y = counts b in omega (arith, x, y)
+  counts (pair_alone r) = counts r
+  counts (pair p a b) = let x = counts a in let y = counts b in omega (arith, x, y)
+  counts (negation r) = let x = counts r in omega (arith, x)
+  counts (temporal t r) = let x = counts r in omega (arith, x)
+  counts (quantified q e r) = let x = counts r in omega (arith, x)
+  counts (group r) = let x = counts r in omega (arith, x)
+  counts (constant b) = omega arith
+  counts (proposition p) = omega arith

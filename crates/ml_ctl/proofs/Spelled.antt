@@ -1,0 +1,105 @@
+-- The names of texts are spelled as they must be, and so are those of the formulas that texts stand for.
+--
+--   AreSpelled ts   == the names among the signs are spelled as propositions
+--   items_spelled   == the signs of a text are spelled
+--   reads_spelled   == what is read from spelled signs is spelled
+use Rattle.std.proofs.Common.{◌≡◌, ℕ, Bool, true, false, ◌==◌, List, [], ◌∷◌, Option, Some, None, refl, cond}
+use Rattle.std.proofs.lemmas.Bool.{and_from}
+use Rattle.ml_text.specs.declared.token.Token.{Token}
+use Rattle.ml_text.specs.declared.token.Token.TheVariants as token
+use Rattle.ml_text.specs.declared.token.Placed.{Placed}
+use Rattle.ml_text.specs.Items.{bytes_of}
+use Rattle.ml_text.specs.Words.{constant_of}
+use Rattle.ml_text.specs.Refusals.{signs_of}
+use Rattle.ml_ctl.specs.Formula.{Formula, Logic}
+use Rattle.ml_ctl.specs.Signs.{Sign, Lower, Unknown, sign_of, byte_sign, word_sign_by}
+use Rattle.ml_ctl.specs.Grammar as grammar
+use Rattle.ml_ctl.specs.Grammar.{Sort, Reads, iff_alone, iff, imp_alone, imp, or_alone, or, and_alone, and, pair_alone, pair, negation, temporal, quantified, group, constant, proposition}
+use Rattle.ml_ctl.specs.Spelling.{is_proposition, is_spelled}
+use Rattle.ml_ctl.specs.Text.{items_from}
+
+abbrev pub IsSpelledSign : Sign → Type 0
+IsSpelledSign (Lower p) = is_proposition p ≡ true
+IsSpelledSign _ = Unit {0}
+
+abbrev pub AreSpelled : List Sign → Type 0
+AreSpelled [] = Unit {0}
+AreSpelled (t ∷ ts) = IsSpelledSign t × AreSpelled ts
+
+spelled_by : (w : List ℕ) (b : Bool) → is_proposition w ≡ b → IsSpelledSign (cond b (Lower w) Unknown)
+spelled_by w true is = is
+spelled_by w false is = tt
+
+-- what holds of both signs holds of the one that is chosen
+pub one_of : (P : Sign → Type 0) (b : Bool) (x y : Sign) → P x → P y → P (cond b x y)
+one_of P true x y p q = p
+one_of P false x y p q = q
+
+spelled_word : (w : List ℕ) (o : Option Bool) → IsSpelledSign (word_sign_by o w)
+spelled_word w (Some b) = tt
+spelled_word w None = spelled_by w (is_proposition w) refl
+
+spelled_byte : (b : ℕ) → IsSpelledSign (byte_sign b)
+spelled_byte b =
+    one_of IsSpelledSign (b == 40) _ _ tt
+    (one_of IsSpelledSign (b == 41) _ _ tt
+    (one_of IsSpelledSign (b == 88) _ _ tt
+    (one_of IsSpelledSign (b == 70) _ _ tt
+    (one_of IsSpelledSign (b == 71) _ _ tt
+    (one_of IsSpelledSign (b == 85) _ _ tt
+    (one_of IsSpelledSign (b == 82) _ _ tt
+    (one_of IsSpelledSign (b == 87) _ _ tt
+    (one_of IsSpelledSign (b == 69) _ _ tt
+    (one_of IsSpelledSign (b == 65) _ _ tt tt)))))))))
+
+pub spelled_sign : (t : Token) (bytes : List ℕ) → IsSpelledSign (sign_of t bytes)
+spelled_sign token.Not bytes = tt
+spelled_sign (token.Operator o) bytes = tt
+spelled_sign (token.Byte b) bytes = spelled_byte b
+spelled_sign token.Word bytes = spelled_word bytes (constant_of bytes)
+
+pub items_spelled : (text : List ℕ) (ps : List Placed) → AreSpelled (signs_of (items_from text ps))
+items_spelled text [] = tt
+items_spelled text (p ∷ ps) = (spelled_sign p.token (bytes_of text p), items_spelled text ps)
+
+-- ---- formulas
+
+abbrev pub Spells : Formula → List Sign → Type 0
+Spells f rest = (is_spelled f ≡ true) × AreSpelled rest
+
+module _ {w : Logic} where
+  pub reads_spelled : {s : Sort} {l : grammar.Level} {ts rest : List Sign} {f : Formula}
+      → Reads w s l ts f rest
+      → AreSpelled ts
+      → Spells f rest
+  reads_spelled (iff_alone r) is = reads_spelled r is
+  reads_spelled (iff {f = f} {g = g} a b) is =
+      let x = reads_spelled a is in
+      let y = reads_spelled b (x.1).1 in
+      (and_from (is_spelled f) (is_spelled g) x.0 y.0, y.1)
+  reads_spelled (imp_alone r) is = reads_spelled r is
+  reads_spelled (imp {f = f} {g = g} a b) is =
+      let x = reads_spelled a is in
+      let y = reads_spelled b (x.1).1 in
+      (and_from (is_spelled f) (is_spelled g) x.0 y.0, y.1)
+  reads_spelled (or_alone r) is = reads_spelled r is
+  reads_spelled (or {f = f} {g = g} a b) is =
+      let x = reads_spelled a is in
+      let y = reads_spelled b (x.1).1 in
+      (and_from (is_spelled f) (is_spelled g) x.0 y.0, y.1)
+  reads_spelled (and_alone r) is = reads_spelled r is
+  reads_spelled (and {f = f} {g = g} a b) is =
+      let x = reads_spelled a is in
+      let y = reads_spelled b (x.1).1 in
+      (and_from (is_spelled f) (is_spelled g) x.0 y.0, y.1)
+  reads_spelled (pair_alone r) is = reads_spelled r is
+  reads_spelled (pair {f = f} {g = g} p a b) is =
+      let x = reads_spelled a is in
+      let y = reads_spelled b (x.1).1 in
+      (and_from (is_spelled f) (is_spelled g) x.0 y.0, y.1)
+  reads_spelled (negation r) is = reads_spelled r is.1
+  reads_spelled (temporal t r) is = reads_spelled r is.1
+  reads_spelled (quantified q e r) is = reads_spelled r is.1
+  reads_spelled (group r) is = let x = reads_spelled r is.1 in (x.0, (x.1).1)
+  reads_spelled (constant b) is = (refl, is.1)
+  reads_spelled (proposition p) is = (is.0, is.1)

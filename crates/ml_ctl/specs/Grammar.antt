@@ -1,0 +1,96 @@
+-- The grammar of CTL* and LTL texts:
+--
+--   iff  = imp [ IFF iff ]               imp = or [ IMP imp ]
+--   or   = and { OR and }                and = un { AND un }
+--   un   = NOT un | "E" pun | "A" pun | "(" iff ")" | TT | FF | PROP
+--
+--   piff = pimp [ IFF piff ]             pimp = por [ IMP pimp ]
+--   por  = pand { OR pand }              pand = ptm { AND ptm }
+--   ptm  = pun [ ( "U" | "R" | "W" ) ptm ]
+--   pun  = NOT pun | ( "X" | "F" | "G" ) pun | ( "E" | "A" ) pun | "(" piff ")" | TT | FF | PROP
+--
+-- Brackets mean optional parts, braces repetition. IFF, IMP, U, R and W group to the right; OR and AND group to the left.
+-- The first lines are of state formulas, the others of path formulas. A text of CTL* is an iff; a text of LTL is a piff
+-- without E and A.
+--
+-- Each line of state formulas has one of path formulas that is the same, so the two are one relation, with the sort as a
+-- part; what stands in path formulas alone, and E and A, which stand in CTL* alone, are rules of their own. For state
+-- formulas the level between pand and pun is un itself.
+--
+-- The grammar is a relation with what is left over: Reads w s l ts f rest says that the signs ts begin with the formula f
+-- as the level l of the sort s, and that rest follows. So each rule reads as its line above.
+--
+--   Sort                  == state formulas or path formulas
+--   Reads w s l ts f rest == in the logic w, ts begins with f at the level l of the sort s, and rest follows it
+--   sort_of w             == the sort of the formulas that texts of the logic w stand for
+--   IsReadAs w ts f       == the signs ts, all of them, are a text of f in the logic w
+use Rattle.std.specs.Prelude.{◌≡◌, ℕ, Bool, List, [], ◌∷◌}
+use Rattle.ml_text.specs.declared.token.Operator.TheVariants as operator
+use Rattle.ml_ctl.specs.Formula as plain
+use Rattle.ml_ctl.specs.Formula.{Formula, Logic, Ctl, Ltl, Tense, Pairing, Quantifier}
+use Rattle.ml_ctl.specs.Signs.{Sign, Not, Connective, Const, Open, Close, Tensed, Pairs, Quantifies, Lower}
+
+pub data Sort : Type 0 where
+  State Path : Sort
+
+pub data Level : Type 0 where
+  Iff Imp Or And Pair Un : Level
+
+pub data Reads (w : Logic) : Sort → Level → List Sign → Formula → List Sign → Type 0 where
+  -- iff = imp [ IFF iff ]
+  iff_alone : {s : Sort} {ts rest : List Sign} {f : Formula} → Reads w s Imp ts f rest → Reads w s Iff ts f rest
+  iff : {s : Sort} {ts us rest : List Sign} {f g : Formula}
+      → Reads w s Imp ts f (Connective operator.Iff ∷ us)
+      → Reads w s Iff us g rest
+      → Reads w s Iff ts (plain.Binary operator.Iff f g) rest
+  -- imp = or [ IMP imp ]
+  imp_alone : {s : Sort} {ts rest : List Sign} {f : Formula} → Reads w s Or ts f rest → Reads w s Imp ts f rest
+  imp : {s : Sort} {ts us rest : List Sign} {f g : Formula}
+      → Reads w s Or ts f (Connective operator.Implies ∷ us)
+      → Reads w s Imp us g rest
+      → Reads w s Imp ts (plain.Binary operator.Implies f g) rest
+  -- or = and { OR and }
+  or_alone : {s : Sort} {ts rest : List Sign} {f : Formula} → Reads w s And ts f rest → Reads w s Or ts f rest
+  or : {s : Sort} {ts us rest : List Sign} {f g : Formula}
+      → Reads w s Or ts f (Connective operator.Or ∷ us)
+      → Reads w s And us g rest
+      → Reads w s Or ts (plain.Binary operator.Or f g) rest
+  -- and = un { AND un }, and pand = ptm { AND ptm }
+  and_alone : {s : Sort} {ts rest : List Sign} {f : Formula} → Reads w s Pair ts f rest → Reads w s And ts f rest
+  and : {s : Sort} {ts us rest : List Sign} {f g : Formula}
+      → Reads w s And ts f (Connective operator.And ∷ us)
+      → Reads w s Pair us g rest
+      → Reads w s And ts (plain.Binary operator.And f g) rest
+  -- ptm = pun [ ( "U" | "R" | "W" ) ptm ]
+  pair_alone : {s : Sort} {ts rest : List Sign} {f : Formula} → Reads w s Un ts f rest → Reads w s Pair ts f rest
+  pair : {ts us rest : List Sign} {f g : Formula} (p : Pairing)
+      → Reads w Path Un ts f (Pairs p ∷ us)
+      → Reads w Path Pair us g rest
+      → Reads w Path Pair ts (plain.Paired p f g) rest
+  -- NOT un
+  negation : {s : Sort} {ts rest : List Sign} {f : Formula}
+      → Reads w s Un ts f rest
+      → Reads w s Un (Not ∷ ts) (plain.Not f) rest
+  -- ( "X" | "F" | "G" ) pun
+  temporal : {ts rest : List Sign} {f : Formula} (t : Tense)
+      → Reads w Path Un ts f rest
+      → Reads w Path Un (Tensed t ∷ ts) (plain.Temporal t f) rest
+  -- ( "E" | "A" ) pun
+  quantified : {s : Sort} {ts rest : List Sign} {f : Formula} (q : Quantifier)
+      → w ≡ Ctl
+      → Reads w Path Un ts f rest
+      → Reads w s Un (Quantifies q ∷ ts) (plain.Quantified q f) rest
+  -- "(" iff ")"
+  group : {s : Sort} {ts rest : List Sign} {f : Formula}
+      → Reads w s Iff ts f (Close ∷ rest)
+      → Reads w s Un (Open ∷ ts) f rest
+  -- TT, FF, PROP
+  constant : {s : Sort} {rest : List Sign} (b : Bool) → Reads w s Un (Const b ∷ rest) (plain.Const b) rest
+  proposition : {s : Sort} {rest : List Sign} (p : List ℕ) → Reads w s Un (Lower p ∷ rest) (plain.Prop p) rest
+
+abbrev pub sort_of : Logic → Sort
+sort_of Ctl = State
+sort_of Ltl = Path
+
+abbrev pub IsReadAs : Logic → List Sign → Formula → Type 0
+IsReadAs w ts f = Reads w (sort_of w) Iff ts f []

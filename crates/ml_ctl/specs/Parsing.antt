@@ -1,0 +1,73 @@
+-- What is answered to a text: which formula of CTL* or of LTL it stands for within the limits, or where it is refused, for
+-- the first of the four causes of `Refusals.antt`. There are no variables: a text is never refused for one.
+--
+--   IsParsedAs w text f   == in the logic w, the text is one of f, and keeps the limits
+--   IsRefusedBy w text e  == in the logic w, the text is refused with this answer
+--   StandForOne, CanonicalStandsForOne, SomeAnswer, ParsedOnce, RefusedOnce, NeverBoth, ParsedAreWellFormed,
+--   CanonicalIsParsed == the laws of these notions
+use Rattle.std.specs.Prelude.{ℕ, ◌≡◌, ◌≢◌, ◌⊎◌, List, length, IsTrue}
+use Rattle.ml_base.specs.declared.parse_refusal.ParseRefusal.{ParseRefusal}
+use Rattle.ml_base.specs.declared.parse_refusal.ParseRefusal.TheVariants as refusal
+use Rattle.ml_text.specs.Refusals as cause
+use Rattle.ml_text.specs.Refusals.{Cause, IsRefused, IsAccepted, offset_of}
+use Rattle.ml_ctl.specs.Canonical.{canonical_text}
+use Rattle.ml_ctl.specs.Formula.{Formula, Logic, is_of}
+use Rattle.ml_ctl.specs.Grammar.{IsReadAs}
+use Rattle.ml_ctl.specs.Spelling.{is_spelled}
+use Rattle.ml_ctl.specs.Text.{IsTextOf, items}
+use Rattle.ml_ctl.specs.WellFormed.{IsWellFormed}
+
+abbrev pub IsParsedAs : Logic → List ℕ → Formula → Type 0
+IsParsedAs w text f = IsAccepted (IsReadAs w) (items text) f
+
+-- this cause is the first, and comes at this byte
+abbrev pub ComesFirst : Logic → List ℕ → Cause → ℕ → Type 0
+ComesFirst w text c at = (k : ℕ) × IsRefused (IsReadAs w) (items text) c k × (at ≡ offset_of (items text) (length text) k)
+
+abbrev pub IsRefusedBy : Logic → List ℕ → ParseRefusal → Type 0
+IsRefusedBy w text (refusal.Syntax at) = ComesFirst w text cause.Syntax at
+IsRefusedBy w text (refusal.Unbound at) = ⊥
+IsRefusedBy w text (refusal.NotPositive at) = ⊥
+IsRefusedBy w text (refusal.TooMany at) = ComesFirst w text cause.TooMany at
+IsRefusedBy w text (refusal.TooNested at) = ComesFirst w text cause.TooNested at
+IsRefusedBy w text (refusal.NameTooLong at) = ComesFirst w text cause.NameTooLong at
+-- want of memory is the one answer that says nothing of the text
+IsRefusedBy w text refusal.NoMemory = Unit {0}
+
+-- ---- laws
+
+-- a text stands for one formula at most
+abbrev pub StandForOne : Type 0
+StandForOne = (w : Logic) (text : List ℕ) (f g : Formula) → IsTextOf w text f → IsTextOf w text g → f ≡ g
+
+-- each text is parsed as some formula, or is refused for a reason of its own
+abbrev pub SomeAnswer : Type 0
+SomeAnswer = (w : Logic) (text : List ℕ)
+    → ((f : Formula) × IsParsedAs w text f) ⊎ ((e : ParseRefusal) × (e ≢ refusal.NoMemory) × IsRefusedBy w text e)
+
+-- a text is parsed as one formula at most
+abbrev pub ParsedOnce : Type 0
+ParsedOnce = (w : Logic) (text : List ℕ) (f g : Formula) → IsParsedAs w text f → IsParsedAs w text g → f ≡ g
+
+-- what is parsed as a formula is refused by nothing but want of memory
+abbrev pub NeverBoth : Type 0
+NeverBoth = (w : Logic) (text : List ℕ) (f : Formula) (e : ParseRefusal)
+    → IsParsedAs w text f → IsRefusedBy w text e → e ≡ refusal.NoMemory
+
+-- but for want of memory, a text is refused in one way at most
+abbrev pub RefusedOnce : Type 0
+RefusedOnce = (w : Logic) (text : List ℕ) (e d : ParseRefusal)
+    → (e ≢ refusal.NoMemory) → (d ≢ refusal.NoMemory) → IsRefusedBy w text e → IsRefusedBy w text d → e ≡ d
+
+-- the canonical text of a formula of the logic whose names are spelled as they must be stands for it, and for no other
+abbrev pub CanonicalStandsForOne : Type 0
+CanonicalStandsForOne = (w : Logic) (f g : Formula) → IsTrue (is_spelled f) → IsTrue (is_of w f)
+    → IsTextOf w (canonical_text f) f × (IsTextOf w (canonical_text f) g → g ≡ f)
+
+-- the formulas that are parsed are well formed
+abbrev pub ParsedAreWellFormed : Type 0
+ParsedAreWellFormed = (w : Logic) (text : List ℕ) (f : Formula) → IsParsedAs w text f → IsWellFormed w f
+
+-- the canonical text of a well-formed formula is parsed as it
+abbrev pub CanonicalIsParsed : Type 0
+CanonicalIsParsed = (w : Logic) (f : Formula) → IsWellFormed w f → IsParsedAs w (canonical_text f) f

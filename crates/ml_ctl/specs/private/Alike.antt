@@ -1,0 +1,36 @@
+-- What a sign does to a form doesn't depend on its name.
+--
+--   alike  == signs of one kind do the same, but for what they make
+use Rattle.std.specs.Prelude.{ℕ, List, refl}
+use Rattle.ml_text.specs.private.Tables.{IsLike}
+use Rattle.ml_ctl.specs.Formula.{Logic}
+use Rattle.ml_ctl.specs.Signs.{Sign, Lower}
+use Rattle.ml_ctl.specs.private.SignViews.{named}
+use Rattle.ml_ctl.specs.private.Tables.{Start, BehindInside, ctl_grammar}
+use Rattle.ml_ctl.specs.declared.signs.Kind.{Kind}
+use Rattle.ml_ctl.specs.declared.signs.Kind.TheVariants as kind
+
+same : (w : Logic) (t : Sign) → IsLike (ctl_grammar w) t t
+same w t = record { role = λ s. refl; shift = λ q. refl; post = λ v. refl }
+
+lower_alike : (w : Logic) (p q : List ℕ) → IsLike (ctl_grammar w) (Lower p) (Lower q)
+lower_alike w p q = record {
+  role = λ s. refl;
+  shift = elim [
+    | Start s ↦ refl
+    | BehindInside f ↦ refl
+  ];
+  post = λ v. refl;
+}
+
+pub alike : (w : Logic) (k : Kind) (word other : List ℕ) → IsLike (ctl_grammar w) (named k word) (named k other)
+alike w kind.Lower a b = lower_alike w a b
+alike w kind.Not a b = same w _
+alike w (kind.Connective c) a b = same w _
+alike w (kind.Const c) a b = same w _
+alike w kind.Open a b = same w _
+alike w kind.Close a b = same w _
+alike w (kind.Tensed t) a b = same w _
+alike w (kind.Pairs p) a b = same w _
+alike w (kind.Quantifies q) a b = same w _
+alike w kind.Unknown a b = same w _

@@ -1,0 +1,30 @@
+-- What the reader of texts asks of CTL* and LTL.
+--
+--   ctl_tables w  == the grammar and the signs of a logic, and what the values of the program stand for
+use Rattle.ml_text.specs.private.Tables.{Tables}
+use Rattle.ml_ctl.specs.Formula.{Logic}
+use Rattle.ml_ctl.specs.Signs.{HasShortName}
+use Rattle.ml_ctl.specs.Term.{formula_of}
+use Rattle.ml_ctl.specs.Text.{ctl_signs}
+use Rattle.ml_ctl.specs.private.FormViews.{sort_view, wait_view, hold_view}
+use Rattle.ml_ctl.specs.private.SignViews.{named, sign_view}
+use Rattle.ml_ctl.specs.private.Tables.{ctl_grammar}
+use Rattle.ml_ctl.specs.declared.forms.Sort.{Sort}
+use Rattle.ml_ctl.specs.declared.forms.Wait.{Wait}
+use Rattle.ml_ctl.specs.declared.forms.Hold.{Hold}
+use Rattle.ml_ctl.specs.declared.signs.Kind.{Kind}
+use Rattle.ml_ctl.specs.declared.signs.Sign.{Sign}
+use Rattle.ml_ctl.specs.declared.term.Term.{Term}
+
+abbrev pub ctl_tables : Logic → Tables Kind (Unit {0}) Sort Sign Term Wait Hold
+ctl_tables w = record {
+  grammar = ctl_grammar w;
+  signs = ctl_signs;
+  named = named;
+  CanName = λ kind word. HasShortName (named kind word);
+  sort = sort_view;
+  sign = sign_view;
+  tree = formula_of;
+  wait = wait_view;
+  hold = hold_view;
+}

@@ -1,0 +1,99 @@
+// The canonical text of a formula.
+ghost use Rattle.std.specs.Prelude.{◌≡◌, ◌++◌, IfOk, OnOk, codes};
+ghost use Rattle.ml_ctl.specs.Canonical.{canonical_text};
+ghost use Rattle.ml_ctl.specs.Formula as plain;
+ghost use Rattle.ml_ctl.specs.Parsing.{IsParsedAs};
+ghost use Rattle.ml_ctl.specs.Term.{formula_of};
+ghost use Rattle.ml_ctl.specs.WellFormed.{IsWellFormed};
+
+use crate::{Formula, Term};
+use ml_base::NoMemory;
+use std::alloc::{AllocError, Global};
+
+/// The canonical text of a formula, which is read back as the same formula.
+///
+/// # Errors
+/// `NoMemory` alone.
+///
+/// Cost: linear in the text. No call is nested deeper than twice the formula.
+pub fn print(alloc: Global, formula: &Formula) -> Result<Vec<u8>, NoMemory>
+    ensures text { IfOk result (λ text. text.items ≡ canonical_text formula.now) }
+    ensures reads_back { IfOk result (λ text. IsParsedAs plain.Ctl text.items formula.now) }
+{
+    let mut text = Vec::new(alloc);
+    append_text(&mut text, formula)?;
+    Ok(text)
+}
+
+/// Appends the canonical text of a formula, as `print` gives it. Whoever asks also learns what the type keeps.
+///
+/// # Errors
+/// `NoMemory` alone, and then a part of the text may stand in `out`.
+///
+/// Cost: linear in the text, over many calls.
+pub fn append_text(out: &mut Vec<u8>, formula: &Formula) -> Result<(), NoMemory>
+    ensures text { OnOk result (out.new.items ≡ out.old.items ++ canonical_text formula.now) }
+    ensures well_formed { IsWellFormed plain.Ctl formula.now }
+{
+    append_term(out, formula.root())?;
+    Ok(())
+}
+
+/// Appends the canonical text of a tree.
+///
+/// # Errors
+/// Want of memory alone, and then a part of the text may stand in `out`.
+///
+/// Cost: linear in the text, over many calls. No call is nested deeper than twice the tree.
+#[cycle(printer)]
+pub fn append_term(text: &mut Vec<u8>, term: &Term) -> Result<(), AllocError>
+    ensures { OnOk result (text.new.items ≡ text.old.items ++ canonical_text (formula_of term.now)) }
+{
+    match term {
+        Term::Const(true) => text.extend_from_slice(b"tt"),
+        Term::Const(false) => text.extend_from_slice(b"ff"),
+        Term::Prop(name) => text.extend_from_slice(name.bytes()),
+        Term::Not(operand) => write_prefix(text, b"!", operand),
+        Term::And(left, right) => write_binary(text, left, b" & ", right),
+        Term::Or(left, right) => write_binary(text, left, b" | ", right),
+        Term::Implies(left, right) => write_binary(text, left, b" -> ", right),
+        Term::Iff(left, right) => write_binary(text, left, b" <-> ", right),
+        Term::Next(operand) => write_prefix(text, b"X ", operand),
+        Term::Until(left, right) => write_binary(text, left, b" U ", right),
+        Term::Release(left, right) => write_binary(text, left, b" R ", right),
+        Term::Finally(operand) => write_prefix(text, b"F ", operand),
+        Term::Globally(operand) => write_prefix(text, b"G ", operand),
+        Term::Weak(left, right) => write_binary(text, left, b" W ", right),
+        Term::Exists(operand) => write_prefix(text, b"E ", operand),
+        Term::Forall(operand) => write_prefix(text, b"A ", operand),
+    }
+}
+
+// a sign and its operand; the sign has its blank
+#[cycle(printer)]
+fn write_prefix(text: &mut Vec<u8>, sign: &[u8], operand: &Term) -> Result<(), AllocError>
+    ensures { OnOk result (text.new.items ≡
+        text.old.items ++ (sign.now ++ canonical_text (formula_of operand.now))) }
+{
+    text.extend_from_slice(sign)?;
+    append_term(text, operand)
+}
+
+// `(left sign right)`; the sign has its blanks
+#[cycle(printer)]
+fn write_binary(
+    text: &mut Vec<u8>,
+    left: &Term,
+    sign: &[u8],
+    right: &Term,
+) -> Result<(), AllocError>
+    ensures { OnOk result (text.new.items ≡
+        text.old.items ++ (codes "(" ++ canonical_text (formula_of left.now) ++ sign.now
+        ++ canonical_text (formula_of right.now) ++ codes ")")) }
+{
+    text.extend_from_slice(b"(")?;
+    append_term(text, left)?;
+    text.extend_from_slice(sign)?;
+    append_term(text, right)?;
+    text.extend_from_slice(b")")
+}

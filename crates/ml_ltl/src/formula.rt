@@ -1,0 +1,49 @@
+// Formulas that keep their limits.
+use ml_ctl::Term;
+use std::marker::Model;
+
+/// A path formula without quantifiers, within the limit on its size, whose names are spelt as they must be. Contracts see
+/// it as the plain formula of `ml_ctl/specs/Formula.antt`.
+#[derive(Drop)]
+pub struct Formula {
+    root: Term,
+}
+
+impl Model for Formula {
+    ghost use Rattle.ml_ctl.specs.Formula as plain;
+    ghost use Rattle.ml_ctl.specs.private.FormulaCode.{formula_code};
+
+    ghost Value = { plain.Formula };
+
+    ghost coded = { formula_code };
+
+    ghost use Rattle.ml_ctl.specs.Term.{formula_of};
+    ghost use Rattle.ml_ctl.specs.WellFormed.{IsWellFormed};
+
+    ghost view = { λ f. formula_of f.root };
+
+    ghost invariant = { λ f. IsWellFormed plain.Ltl (formula_of f.root) };
+}
+
+impl Formula {
+    ghost use Rattle.std.specs.Prelude.{◌≡◌};
+    ghost use Rattle.ml_ctl.specs.Formula as plain;
+    ghost use Rattle.ml_ctl.specs.Term.{formula_of};
+    ghost use Rattle.ml_ctl.specs.WellFormed.{IsWellFormed};
+
+    /// The formula with this tree.
+    pub(crate) fn new(root: Term) -> Formula
+        requires { IsWellFormed plain.Ltl (formula_of root) }
+        ensures { result ≡ formula_of root }
+    {
+        Formula { root }
+    }
+
+    /// The tree of the formula.
+    pub fn root(&self) -> &Term
+        ensures tree { formula_of result.now ≡ self.now }
+        ensures well_formed { IsWellFormed plain.Ltl self.now }
+    {
+        &self.root
+    }
+}
