@@ -7,16 +7,14 @@
 -- A now-item may be decomposed into others that say the same together, of the same place or the next: in one way, or in
 -- two of which one is enough. Decomposing adds greater occurrences alone, beside the item itself put off.
 --
---   Item            == an occurrence with its formula, whether it is to be true, and whether it is put off
---   Row             == how a now-item is decomposed: it is about the state alone, one way, two ways, or it waits
---   row x           == how x is decomposed
---   is_least x      == x is an eventuality: it may not be put off for ever
---   key x           == the place of x in the order of items
---   put x xs, put_all ys xs, without x xs == the items xs with x, with all of ys, and without x
---   items_within i f b == the now-items that come of the formula f at i, by decomposing and by going to the next place
---   eventualities x == the keys of the eventualities among those that come of x, ascending
-use Rattle.std.specs.Prelude.{ℕ, ◌+◌, ◌*◌, ◌==◌, Bool, true, false, not, nat_lt, if◌then◌else◌, List, [], ◌∷◌, ◌++◌, map, filter}
-use Rattle.ml_lists.specs.Ascending.{ascending}
+--   Item         == an occurrence with its formula, whether it is to be true, and whether it is put off
+--   now i f b    == the item that f at i be true, or false
+--   put_off x    == the item x put off to the next place
+--   Row          == how a now-item is decomposed: it is about the state alone, one way, two ways, or it waits
+--   row x        == how x is decomposed
+--   behind_next x == what an item of an X asks of the next place
+--   is_least x   == x is an eventuality: it may not be put off for ever
+use Rattle.std.specs.Prelude.{ℕ, ◌+◌, Bool, true, false, not, if◌then◌else◌, List, [], ◌∷◌}
 use Rattle.ml_text.specs.declared.token.Operator.{Operator}
 use Rattle.ml_text.specs.declared.token.Operator.TheVariants as operator
 use Rattle.ml_ctl.specs.Formula.{Formula, Tense, Pairing, Const, Prop, Not, Binary, Temporal, Paired, Quantified, Next, Finally, Globally, Until, Release, Weak, occurrences}
@@ -33,10 +31,6 @@ now i f b = record { number = i; formula = f; positive = b; later = false }
 
 abbrev pub put_off : Item → Item
 put_off x = record { number = x.number; formula = x.formula; positive = x.positive; later = true }
-
--- an item that was put off, at the next place
-abbrev pub due : Item → Item
-due x = record { number = x.number; formula = x.formula; positive = x.positive; later = false }
 
 pub data Row : Type 0 where
   OfState Waits : Row
@@ -75,7 +69,7 @@ row_of_pairing Until x f g = if x.positive then unless_put_off x f g else until_
 row_of_pairing Weak x f g = if x.positive then unless_put_off x f g else until_released x f g
 row_of_pairing Release x f g = if x.positive then until_released x f g else unless_put_off x f g
 
--- the number of an operand: of the only or left one, and of the right one behind it
+-- the number of the only operand, or of the left one; the right one comes behind it
 abbrev pub left_number : ℕ → Formula → ℕ
 left_number i (Binary operator.Iff f g) = i + 3
 left_number i _ = i + 1
@@ -95,6 +89,14 @@ row_at x (Paired p f g) =
 abbrev pub row : Item → Row
 row x = row_at x x.formula
 
+-- what an item of an X asks of the next place: its operand
+abbrev pub operand_of : Item → Formula → Item
+operand_of x (Temporal Next f) = now (x.number + 1) f x.positive
+operand_of x _ = x
+
+abbrev pub behind_next : Item → Item
+behind_next x = operand_of x x.formula
+
 -- what a formula asks that is to be true, or false, is an eventuality
 abbrev pub is_eventual : Formula → Bool → Bool
 is_eventual (Paired Until f g) b = b
@@ -106,42 +108,3 @@ is_eventual f b = false
 
 abbrev pub is_least : Item → Bool
 is_least x = is_eventual x.formula x.positive
-
--- by occurrences, at one occurrence what is to be true first, now-items before what is put off
-abbrev pub key : Item → ℕ
-key x = 4 * x.number + (if x.positive then 0 else 2) + (if x.later then 1 else 0)
-
-abbrev pub put : Item → List Item → List Item
-put x [] = x ∷ []
-put x (y ∷ ys) = if nat_lt (key x) (key y) then x ∷ (y ∷ ys) else (if key x == key y then y ∷ ys else y ∷ put x ys)
-
-abbrev pub put_all : List Item → List Item → List Item
-put_all [] xs = xs
-put_all (y ∷ ys) xs = put y (put_all ys xs)
-
-abbrev pub without : Item → List Item → List Item
-without x = filter (λ y. not (key y == key x))
-
--- what comes of an operand that is asked both ways comes of it both ways
-abbrev pub items_within : ℕ → Formula → Bool → List Item
-items_within i (Const b) sign = now i (Const b) sign ∷ []
-items_within i (Prop p) sign = now i (Prop p) sign ∷ []
-items_within i (Quantified q f) sign = now i (Quantified q f) sign ∷ []
-items_within i (Not f) sign = now i (Not f) sign ∷ items_within (i + 1) f (not sign)
-items_within i (Binary operator.And f g) sign =
-    now i (Binary operator.And f g) sign ∷ (items_within (i + 1) f sign ++ items_within (i + 1 + occurrences f) g sign)
-items_within i (Binary operator.Or f g) sign =
-    now i (Binary operator.Or f g) sign ∷ (items_within (i + 1) f sign ++ items_within (i + 1 + occurrences f) g sign)
-items_within i (Binary operator.Implies f g) sign =
-    now i (Binary operator.Implies f g) sign
-    ∷ (items_within (i + 1) f (not sign) ++ items_within (i + 1 + occurrences f) g sign)
-items_within i (Binary operator.Iff f g) sign =
-    let l = i + 3 in let r = l + occurrences f in
-    now i (Binary operator.Iff f g) sign
-    ∷ (items_within l f true ++ items_within l f false ++ items_within r g true ++ items_within r g false)
-items_within i (Temporal t f) sign = now i (Temporal t f) sign ∷ items_within (i + 1) f sign
-items_within i (Paired p f g) sign =
-    now i (Paired p f g) sign ∷ (items_within (i + 1) f sign ++ items_within (i + 1 + occurrences f) g sign)
-
-abbrev pub eventualities : Item → List ℕ
-eventualities x = ascending (map key (filter is_least (items_within x.number x.formula x.positive)))
