@@ -8,3 +8,7 @@ pub mod DecidedTruth
 pub mod RowsOfItems
 -- eventualities come true
 pub mod ComingTrue
+-- members of sets of items
+pub mod ItemSetMembers
+-- items that come of a formula
+pub mod ItemsWithin

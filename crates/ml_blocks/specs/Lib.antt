@@ -2,3 +2,9 @@
 pub mod Items
 -- what items say, and that rows say the same
 pub mod Laws
+-- sets of items
+pub mod ItemSets
+-- the nodes, as values
+pub mod Places
+-- the modal graph
+pub mod BlockGraph
