@@ -12,3 +12,5 @@ pub mod ComingTrue
 pub mod ItemSetMembers
 -- items that come of a formula
 pub mod ItemsWithin
+-- what follows an item
+pub mod ItemsFollow
