@@ -14,3 +14,5 @@ pub mod ItemSetMembers
 pub mod ItemsWithin
 -- what follows an item
 pub mod ItemsFollow
+-- runs of a block at one place
+pub mod LocalRuns
