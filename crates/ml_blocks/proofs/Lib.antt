@@ -16,3 +16,5 @@ pub mod ItemsWithin
 pub mod ItemsFollow
 -- runs of a block at one place
 pub mod LocalRuns
+-- vertices of the game, by nodes as values
+pub mod PlaceVertices
