@@ -18,3 +18,7 @@ pub mod ItemsFollow
 pub mod LocalRuns
 -- vertices of the game, by nodes as values
 pub mod PlaceVertices
+-- what items become is lighter
+pub mod LighterRows
+-- steps of the game within a block
+pub mod BlockSteps

@@ -73,6 +73,10 @@ pub record Edges (B : Board) (who : Player) (s n : ℕ) (q : Place) : Type 0 whe
   pub stuck : ℕ
   pub leads : successors B.g B.m (Pair s n) ≡ pairs_or_sink to.number stuck (targets B.m s (codes "_"))
 
+abbrev pub edge_form : Bool → Place → Form
+edge_form true q = Diamond q
+edge_form false q = Square q
+
 module _ (B : Board) where
   pub number_low : {p : Place} (a : Known B p) → a.number < size B.g
   number_low {p = p} a =
@@ -153,10 +157,6 @@ module _ (B : Board) where
         stuck = 0;
         leads = ap (successors_of B.g B.m s) h.3 ∙ ap (λ name. pairs_or_sink h.1 0 (targets B.m s name)) h.4;
       }
-
-  abbrev pub edge_form : Bool → Place → Form
-  edge_form true q = Diamond q
-  edge_form false q = Square q
 
   pub edges : {p : Place} (b : Bool) (q : Place) (s : ℕ) (a : Known B p)
       → form_of p ≡ edge_form b q
