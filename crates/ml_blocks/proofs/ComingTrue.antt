@@ -3,9 +3,10 @@
 --   TwoWays m l x       == the row of x has two ways, and only in the second one x is put off
 --   two_ways            == of each eventuality
 --   eventualities_come_true == the law
-use Rattle.std.proofs.Common.{ℕ, zero, suc, ◌≡◌, ◌+◌, ◌<◌, ◌⊎◌, Bool, true, false, List, [], ◌∷◌, inl, inr, arith, refl, sym, subst, ⊎_elim}
+use Rattle.std.proofs.Common.{ℕ, zero, suc, ◌≡◌, ◌+◌, ◌<◌, ◌⊎◌, Bool, true, false, List, [], ◌∷◌, inl, inr, arith, refl, sym, ap, ◌∙◌, subst, ⊎_elim}
 use Rattle.std.proofs.lemmas.Bool.{false≢true}
 use Rattle.ml_lists.specs.Lasso.{Lasso, next_place}
+use Rattle.ml_lists.specs.Member.{IsMember}
 use Rattle.ml_lists.specs.Walk.{walk}
 use Rattle.ml_base.specs.Structure.{Structure}
 use Rattle.ml_ctl.specs.Formula as plain
@@ -22,9 +23,18 @@ pub record TwoWays (m : Structure) (l : Lasso) (x : Item) : Type 1 where
   pub first : List Item
   pub second : List Item
   pub is_row : row x ≡ Either first second
+  pub all_now : (y : Item) → IsMember y first → y.later ≡ false
   pub here_alone : (P Q : Property) (y : ℕ) → AllSay m l P first y → AllSay m l Q first y
   pub puts_off : (P : Property) (y : ℕ) → AllSay m l P second y → P (next_place l y)
   pub exchanged : (P Q : Property) (y : ℕ) → AllSay m l P second y → Q (next_place l y) → AllSay m l Q second y
+
+one_now : (x y : Item) → x.later ≡ false → IsMember y (x ∷ []) → y.later ≡ false
+one_now x y is (inl e) = ap (λ z. z.later) e ∙ is
+one_now x y is (inr none) = absurd none
+
+two_now : (x z y : Item) → x.later ≡ false → z.later ≡ false → IsMember y (x ∷ z ∷ []) → y.later ≡ false
+two_now x z y is also (inl e) = ap (λ u. u.later) e ∙ is
+two_now x z y is also (inr m) = one_now z y also m
 
 pub two_ways : (m : Structure) (l : Lasso) (i : ℕ) (f : Formula) (b t : Bool)
     → is_eventual f b ≡ true
@@ -44,6 +54,7 @@ two_ways m l i (plain.Temporal plain.Finally f) true t least = record {
   first = now (i + 1) f true ∷ [];
   second = put_off (item i (plain.Temporal plain.Finally f) true t) ∷ [];
   is_row = refl;
+  all_now = λ y m. one_now (now (i + 1) f true) y refl m;
   here_alone = λ P Q y says. says;
   puts_off = λ P y says. says.0;
   exchanged = λ P Q y says behind. (behind, tt);
@@ -52,6 +63,7 @@ two_ways m l i (plain.Temporal plain.Globally f) false t least = record {
   first = now (i + 1) f false ∷ [];
   second = put_off (item i (plain.Temporal plain.Globally f) false t) ∷ [];
   is_row = refl;
+  all_now = λ y m. one_now (now (i + 1) f false) y refl m;
   here_alone = λ P Q y says. says;
   puts_off = λ P y says. says.0;
   exchanged = λ P Q y says behind. (behind, tt);
@@ -60,6 +72,7 @@ two_ways m l i (plain.Paired plain.Until f g) true t least = record {
   first = now (i + 1 + occurrences f) g true ∷ [];
   second = now (i + 1) f true ∷ put_off (item i (plain.Paired plain.Until f g) true t) ∷ [];
   is_row = refl;
+  all_now = λ y m. one_now (now (i + 1 + occurrences f) g true) y refl m;
   here_alone = λ P Q y says. says;
   puts_off = λ P y says. (says.1).0;
   exchanged = λ P Q y says behind. (says.0, (behind, tt));
@@ -68,6 +81,7 @@ two_ways m l i (plain.Paired plain.Release f g) false t least = record {
   first = now (i + 1 + occurrences f) g false ∷ [];
   second = now (i + 1) f false ∷ put_off (item i (plain.Paired plain.Release f g) false t) ∷ [];
   is_row = refl;
+  all_now = λ y m. one_now (now (i + 1 + occurrences f) g false) y refl m;
   here_alone = λ P Q y says. says;
   puts_off = λ P y says. (says.1).0;
   exchanged = λ P Q y says behind. (says.0, (behind, tt));
@@ -76,6 +90,7 @@ two_ways m l i (plain.Paired plain.Weak f g) false t least = record {
   first = now (i + 1 + occurrences f) g false ∷ now (i + 1) f false ∷ [];
   second = now (i + 1 + occurrences f) g false ∷ put_off (item i (plain.Paired plain.Weak f g) false t) ∷ [];
   is_row = refl;
+  all_now = λ y m. two_now (now (i + 1 + occurrences f) g false) (now (i + 1) f false) y refl refl m;
   here_alone = λ P Q y says. says;
   puts_off = λ P y says. (says.1).0;
   exchanged = λ P Q y says behind. (says.0, (behind, tt));

@@ -22,3 +22,7 @@ pub mod PlaceVertices
 pub mod LighterRows
 -- steps of the game within a block
 pub mod BlockSteps
+-- what rows put off
+pub mod RowShapes
+-- walks that go on for ever
+pub mod EndlessWalks
