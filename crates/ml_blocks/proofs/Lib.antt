@@ -26,3 +26,7 @@ pub mod BlockSteps
 pub mod RowShapes
 -- walks that go on for ever
 pub mod EndlessWalks
+-- what items say, each by itself
+pub mod SaidItems
+-- a path that satisfies all items of a block
+pub mod PathsWin

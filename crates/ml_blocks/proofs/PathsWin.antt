@@ -1,0 +1,284 @@
+-- A path that satisfies all items of a block: the opponent doesn't win the block.
+--
+-- The opponent's strategy is followed against a player who goes along the path. Wherever all items of the first way of a row
+-- are asked of the place, that way is taken; else the other one. So an eventuality in focus is put off no longer than until
+-- its first way is asked: an edge comes at which the focus moves on, again and again.
+--
+--   Lost              == what the opponent would win: no state item that holds
+--   Situation         == a block at a place of the path, all of whose items are asked there
+--   never_lost        == the opponent's strategy doesn't win from a situation
+use Rattle.std.proofs.Common.{ℕ, zero, suc, ◌≡◌, ◌+◌, ◌<◌, ◌≤◌, ◌%◌, ◌&&◌, ◌==◌, ◌⊎◌, min, inl, inr, arith, true, false, Bool, cond, List, [], ◌∷◌, length, map, filter, get_or, Option, Some, None, refl, sym, ap, subst, ◌∙◌, ⊎_elim}
+use Rattle.std.specs.Bool.{beq}
+use Rattle.std.specs.List.{list_any}
+use Rattle.std.proofs.lemmas.Bool.{cases_Bool, cond-true, cond-false, false≢true, and_parts, eqb-true}
+use Rattle.ml_lists.specs.Lasso.{Lasso, entry, next_place}
+use Rattle.ml_lists.specs.Member.{IsMember}
+use Rattle.ml_lists.specs.Walk.{walk}
+use Rattle.ml_lists.proofs.Ascending.{ascending-member}
+use Rattle.ml_lists.proofs.Member.{Image, Passing, list_any-member, place-member, member-map_from, member-filter_from}
+use Rattle.ml_base.specs.Structure.{Structure}
+use Rattle.ml_parity.specs.declared.players.Player.{Player}
+use Rattle.ml_parity.specs.declared.players.Player.TheVariants.{Even, Odd}
+use Rattle.ml_parity.specs.Player.{opponent, side}
+use Rattle.ml_parity.specs.Winner.{IsStrategyOf, WinsFrom, Wins}
+use Rattle.ml_parity.proofs.FollowedWalks.{FollowedWalk, walks_joined, won_behind, won_at_end}
+use Rattle.ml_parity.proofs.Opponents.{opponent-opponent}
+use Rattle.ml_graph.specs.CheckingGame.{Pair}
+use Rattle.ml_graph.proofs.OneStep.{vertex_low}
+use Rattle.ml_ctl.specs.Laws.{IsDecided}
+use Rattle.ml_ctl.specs.Meaning.{HoldsAt}
+use Rattle.ml_ctl.specs.Paths.{IsPath, IsPlace, after}
+use Rattle.ml_ctl.proofs.PlaceWalks.{walk-shift}
+use Rattle.ml_ctl.proofs.StepByStep.{next_is_place}
+use Rattle.ml_blocks.specs.Items.{Item, Row, OfState, Waits, Becomes, Either, row, put_off, behind_next, is_least}
+use Rattle.ml_blocks.specs.ItemSets.{key, due, next_of, put_all, without, next_items, items_within, eventualities}
+use Rattle.ml_blocks.specs.Laws.{Asks, AllSay, SaysBy, by_time, signed, QuantifiersAreDecided, ComesTrue}
+use Rattle.ml_blocks.specs.Places.{Place, Holding, True, False, first_open, is_open, is_wait, is_put_off, focus_behind, edge_priority}
+use Rattle.ml_blocks.proofs.BlockSteps.{path, constant, other, off, edge_form_of, edge_priority_of, of_state, becomes, either, Stepped, Settled, Steps, settle}
+use Rattle.ml_blocks.proofs.BlockSteps as block
+use Rattle.ml_blocks.proofs.ComingTrue.{TwoWays, two_ways, eventualities_come_true}
+use Rattle.ml_blocks.proofs.EndlessWalks.{Stretch, Onward, never_for_ever}
+use Rattle.ml_blocks.proofs.ItemSetMembers.{load, next_items-member, next_items-all_of, next_items-has, put_all-member, without-member}
+use Rattle.ml_blocks.proofs.ItemsWithin.{IsOf, within_stands, same_key}
+use Rattle.ml_blocks.proofs.LocalRuns.{Takes, LocalRun, Of, left_of, left_settled, some_open, open_now, none_open, waiting, next_of_of, taken_of}
+use Rattle.ml_blocks.proofs.PlaceVertices.{Board, Known, Branches, Edges, at, game, player_of, Goes, Way, vertex_is, edges, own_branch, other_left, other_right, other_edge, priority_at_place, move_walk, way_walk}
+use Rattle.ml_blocks.proofs.RowShapes.{Part, ways_parts, next_now, next_later, next_waits}
+use Rattle.ml_blocks.proofs.RowsOfItems.{rows_say_the_same}
+use Rattle.ml_blocks.proofs.SaidItems.{Says, ways_say, decided_of, decided_say, later_origin, PutOffBy, path_step, path_states}
+
+-- nothing decides for the opponent where a state item holds
+abbrev pub NoneLost : Board → Item → Bool → Type 0
+NoneLost B first b =
+    (s : ℕ) → s < (B.m).states → (x : Item) → IsOf first x → row x ≡ OfState → signed x.positive (HoldsAt B.m x.formula s)
+    → (h : Known B (Holding x.number x.formula (beq x.positive b)))
+    → Wins (game B) (opponent (player_of b)) (at B s h.number)
+    → ⊥
+
+abbrev pub ConstantLost : Board → Bool → Type 0
+ConstantLost B b =
+    (s : ℕ) → s < (B.m).states → (h : Known B (constant b)) → Wins (game B) (opponent (player_of b)) (at B s h.number) → ⊥
+
+-- ---- the focus
+
+abbrev members : Item → List ℕ
+members first = eventualities first
+
+pub record OnFocus (ms : List ℕ) (k : ℕ) (xs : List Item) : Type 0 where
+  pub some : 0 < length ms
+  pub item : Item
+  pub member : IsMember item xs
+  pub later : item.later ≡ true
+  pub in_focus : key (due item) ≡ get_or ms k 0
+
+-- an edge is good, or the eventuality in focus is put off
+pub edge_cases : (ms : List ℕ) (k : ℕ) (xs : List Item)
+    → (edge_priority ms k xs ≡ 0) ⊎ (OnFocus ms k xs × (edge_priority ms k xs ≡ 1) × (focus_behind ms k xs ≡ k))
+edge_cases [] k xs = inl refl
+edge_cases (e ∷ es) k xs = by_test (cases_Bool (is_put_off (e ∷ es) k xs))
+  where
+    test : Item → Bool
+    test x = x.later && (key (due x) == get_or (e ∷ es) k 0)
+
+    by_test : (is_put_off (e ∷ es) k xs ≡ true) ⊎ (is_put_off (e ∷ es) k xs ≡ false)
+        → (edge_priority (e ∷ es) k xs ≡ 0)
+        ⊎ (OnFocus (e ∷ es) k xs × (edge_priority (e ∷ es) k xs ≡ 1) × (focus_behind (e ∷ es) k xs ≡ k))
+    by_test (inr f) = inl (cond-false (is_put_off (e ∷ es) k xs) 1 0 f)
+    by_test (inl t) =
+        let found = list_any-member (λ x. x.later && (key (due x) == get_or (e ∷ es) k 0)) xs t in
+        let parts = and_parts (found.item).later (key (due found.item) == get_or (e ∷ es) k 0) found.passes in
+        inr (
+          record {
+            some = omega arith;
+            item = found.item;
+            member = found.member;
+            later = parts.0;
+            in_focus = eqb-true (key (due found.item)) (get_or (e ∷ es) k 0) parts.1;
+          },
+          cond-true (is_put_off (e ∷ es) k xs) 1 0 t,
+          cond-true (is_put_off (e ∷ es) k xs) k ((k + 1) % length (e ∷ es)) t,
+        )
+
+pub edge_low : (ms : List ℕ) (k : ℕ) (xs : List Item) → edge_priority ms k xs < 2
+edge_low ms k xs =
+    ⊎_elim (λ (good : edge_priority ms k xs ≡ 0). omega (arith, good))
+    (λ (bad : OnFocus ms k xs × (edge_priority ms k xs ≡ 1) × (focus_behind ms k xs ≡ k)). let is = bad.1 in omega (arith, is))
+    (edge_cases ms k xs)
+
+-- the eventuality in focus is one
+pub focus_is_least : (first x : Item) (k : ℕ)
+    → IsOf first x
+    → k < length (eventualities first)
+    → key (due x) ≡ get_or (eventualities first) k 0
+    → is_least x ≡ true
+focus_is_least first x k of low is =
+    let all = items_within first.number first.formula first.positive in
+    let listed = place-member (eventualities first) k 0 low in
+    let there = ascending-member (get_or (eventualities first) k 0) (map key (filter is_least all)) listed in
+    let image = member-map_from key (get_or (eventualities first) k 0) (filter is_least all) there in
+    let kept = member-filter_from is_least image.from all image.member in
+    let now = (within_stands first.number first.formula first.positive image.from kept.0).is_now in
+    let due_is : due image.from ≡ image.from = block.due_now image.from now in
+    let of_y : IsOf first image.from = subst (λ z. IsMember z all) (sym due_is) kept.0 in
+    let same : due x ≡ image.from = same_key first (due x) image.from of of_y (is ∙ image.holds) in
+    subst (λ z. is_least z ≡ true) (sym same) kept.1
+
+off_best : (b : Bool) → side (off b) ≡ opponent (opponent (player_of b))
+off_best true = refl
+off_best false = refl
+
+other_off : (b : Bool) → 1 + off b ≡ other b
+other_off true = refl
+other_off false = refl
+
+module _ (B : Board) (first : Item) (b : Bool) (l : Lasso) (is_path : IsPath B.m l)
+    (given : QuantifiersAreDecided B.m l first.formula) (choice : ℕ → ℕ)
+    (is_strategy : IsStrategyOf (game B) (opponent (player_of b)) choice)
+    (none_lost : NoneLost B first b) (constant_lost : ConstantLost B b) where
+  abbrev foe : Player
+  foe = opponent (player_of b)
+
+  abbrev From : ℕ → Type 0
+  From v = WinsFrom (game B) foe choice v
+
+  abbrev Walk : ℕ → ℕ → ℕ → Type 0
+  Walk v k w = FollowedWalk (game B) foe choice v k w
+
+  wins : (v : ℕ) → From v → Wins (game B) foe v
+  wins v from = record { strategy = choice; is_strategy = is_strategy; wins = from }
+
+  state_low : (p : ℕ) → IsPlace l p → entry l p < (B.m).states
+  state_low p place = path_states B.m l B.is_structure is_path p place
+
+  -- ---- at one place
+
+  module _ (p : ℕ) (place : IsPlace l p) where
+    abbrev s : ℕ
+    s = entry l p
+
+    -- the first way is taken wherever it is asked
+    pub record Good (x : Item) (ys : List Item) : Type 0 where
+      pub say : (y : Item) → IsMember y ys → Says B.m l y p
+      pub rule : (zs ws : List Item) → row x ≡ Either zs ws → AllSay B.m l (Asks B.m l x) zs p → ys ≡ zs
+
+    pub record Inv (xs : List Item) (n : ℕ) : Type 0 where
+      pub says : (y : Item) → IsMember y xs → Says B.m l y p
+      pub from : From (at B s n)
+
+    step : Steps first b B foe choice is_strategy Good s (state_low p place) Inv
+    step xs k a of inv x is = by_row (row x) refl
+      where
+        found : IsMember x xs × (is_open x ≡ true)
+        found = some_open xs x is
+
+        is_now : x.later ≡ false
+        is_now = (open_now x found.1).0
+
+        asked : Asks B.m l x p
+        asked =
+            subst (λ t. by_time t (Asks B.m l x p) (Asks B.m l x (next_place l p))) is_now (inv.says x found.0)
+
+        said : (r : Row) → row x ≡ r → SaysBy B.m l (Asks B.m l x) x r p
+        said r e =
+            subst (λ q. SaysBy B.m l (Asks B.m l x) x q p) e
+            ((rows_say_the_same B.m l x p place (decided_of B.m l first x given (of x found.0))).0 asked)
+
+        -- what is said after the step
+        later_says : (ys : List Item)
+            → ((y : Item) → IsMember y ys → Says B.m l y p)
+            → (y : Item)
+            → IsMember y (put_all ys (without x xs))
+            → Says B.m l y p
+        later_says ys say y m =
+            ⊎_elim (λ (i : IsMember y ys). say y i)
+            (λ (i : IsMember y (without x xs)). inv.says y (without-member y x xs i))
+            (put_all-member y ys (without x xs) m)
+
+        stepped : (ys : List Item)
+            → Takes (row x) ys
+            → ((y : Item) → IsMember y ys → Says B.m l y p)
+            → ((zs ws : List Item) → row x ≡ Either zs ws → AllSay B.m l (Asks B.m l x) zs p → ys ≡ zs)
+            → (to : Known B (block.after first b xs k x ys))
+            → Goes B foe choice is_strategy (at B s a.number) (at B s to.number)
+            → Stepped first b B foe choice is_strategy Good s (state_low p place) Inv xs k x a.number
+        stepped ys takes say rule to goes = record {
+          ways = ys;
+          takes = takes;
+          good = record { say = say; rule = rule };
+          to = to;
+          goes = goes;
+          inv = record {
+            says = later_says ys say;
+            from = won_behind (game B) foe choice (at B s a.number) (at B s to.number) goes inv.from;
+          };
+        }
+
+        by_row : (r : Row)
+            → row x ≡ r
+            → Stepped first b B foe choice is_strategy Good s (state_low p place) Inv xs k x a.number
+        by_row OfState e = go (own_branch B foe choice is_strategy s a.number (vertex_is B s (state_low p place) a) _ _ c)
+          where
+            c : Branches B foe s a.number (Holding x.number x.formula (beq x.positive b)) (block.after first b xs k x [])
+            c = of_state first b B s xs k x is a e
+
+            go : Goes B foe choice is_strategy (at B s a.number) (at B s (c.left).number)
+                ⊎ Goes B foe choice is_strategy (at B s a.number) (at B s (c.right).number)
+                → Stepped first b B foe choice is_strategy Good s (state_low p place) Inv xs k x a.number
+            go (inl goes) =
+                absurd (none_lost s (state_low p place) x (of x found.0) e (said OfState e) c.left
+                (wins (at B s (c.left).number)
+                (won_behind (game B) foe choice (at B s a.number) (at B s (c.left).number) goes inv.from)))
+            go (inr goes) =
+                stepped [] (subst (λ r. Takes r []) (sym e) refl) (λ y none. absurd none)
+                (λ zs ws other. absurd (let wrong = sym e ∙ other in cc)) c.right goes
+        by_row Waits e = absurd (false≢true (sym (open_now x found.1).1 ∙ ap is_wait e))
+        by_row (Becomes ys) e = go (own_branch B foe choice is_strategy s a.number (vertex_is B s (state_low p place) a) _ _ c)
+          where
+            c : Branches B foe s a.number (block.after first b xs k x ys) (block.after first b xs k x ys)
+            c = becomes first b B s xs k x is a ys e
+
+            takes : Takes (row x) ys
+            takes = subst (λ r. Takes r ys) (sym e) refl
+
+            to : (h : Known B (block.after first b xs k x ys))
+                → Goes B foe choice is_strategy (at B s a.number) (at B s h.number)
+                → Stepped first b B foe choice is_strategy Good s (state_low p place) Inv xs k x a.number
+            to h goes =
+                stepped ys takes (ways_say B.m l x ys p takes (said (Becomes ys) e))
+                (λ zs ws other. absurd (let wrong = sym e ∙ other in cc)) h goes
+
+            go : Goes B foe choice is_strategy (at B s a.number) (at B s (c.left).number)
+                ⊎ Goes B foe choice is_strategy (at B s a.number) (at B s (c.right).number)
+                → Stepped first b B foe choice is_strategy Good s (state_low p place) Inv xs k x a.number
+            go (inl goes) = to c.left goes
+            go (inr goes) = to c.right goes
+        by_row (Either ys zs) e =
+            go (decided_say B.m l first x ys p given (of x found.0) (taken_of first x ys (of x found.0) is_now takes_first) place)
+          where
+            takes_first : Takes (row x) ys
+            takes_first = subst (λ r. Takes r ys) (sym e) (inl refl)
+
+            takes_second : Takes (row x) zs
+            takes_second = subst (λ r. Takes r zs) (sym e) (inr refl)
+
+            c : Branches B (opponent foe) s a.number (block.after first b xs k x ys) (block.after first b xs k x zs)
+            c =
+                subst
+                (λ q. Branches B q s a.number (block.after first b xs k x ys) (block.after first b xs k x zs))
+                (sym (opponent-opponent (player_of b))) (either first b B s xs k x is a ys zs e)
+
+            same_first : (us ws : List Item) → row x ≡ Either us ws → ys ≡ us
+            same_first us ws other = let both : Either ys zs ≡ Either us ws = sym e ∙ other in cc
+
+            go : IsDecided (AllSay B.m l (Asks B.m l x) ys p)
+                → Stepped first b B foe choice is_strategy Good s (state_low p place) Inv xs k x a.number
+            go (inl all) =
+                stepped ys takes_first (ways_say B.m l x ys p takes_first all) (λ us ws other said. same_first us ws other) c.left
+                (other_left B foe choice is_strategy s a.number (vertex_is B s (state_low p place) a) _ _ c)
+            go (inr none) =
+                stepped zs takes_second
+                (ways_say B.m l x zs p takes_second
+                (⊎_elim (λ (all : AllSay B.m l (Asks B.m l x) ys p). absurd (none all))
+                (λ (all : AllSay B.m l (Asks B.m l x) zs p). all) (said (Either ys zs) e)))
+                (λ us ws other said. absurd (none
+                (subst (λ vs. AllSay B.m l (Asks B.m l x) vs p) (sym (same_first us ws other)) said))) c.right
+                (other_right B foe choice is_strategy s a.number (vertex_is B s (state_low p place) a) _ _ c)
