@@ -11,6 +11,7 @@ use Rattle.std.proofs.Common.{ℕ, zero, suc, ◌≡◌, ◌+◌, ◌<◌, ◌�
 use Rattle.std.specs.Bool.{beq}
 use Rattle.std.specs.List.{list_any}
 use Rattle.std.proofs.lemmas.Bool.{cases_Bool, cond-true, cond-false, false≢true, and_parts, eqb-true}
+use Rattle.std.proofs.lemmas.Nat.{mod_below}
 use Rattle.ml_lists.specs.Lasso.{Lasso, entry, next_place}
 use Rattle.ml_lists.specs.Member.{IsMember}
 use Rattle.ml_lists.specs.Walk.{walk}
@@ -27,7 +28,7 @@ use Rattle.ml_graph.specs.CheckingGame.{Pair}
 use Rattle.ml_graph.proofs.OneStep.{vertex_low}
 use Rattle.ml_ctl.specs.Laws.{IsDecided}
 use Rattle.ml_ctl.specs.Meaning.{HoldsAt}
-use Rattle.ml_ctl.specs.Paths.{IsPath, IsPlace, after}
+use Rattle.ml_ctl.specs.Paths.{IsPath, IsPlace, has_step, after}
 use Rattle.ml_ctl.proofs.PlaceWalks.{walk-shift}
 use Rattle.ml_ctl.proofs.StepByStep.{next_is_place}
 use Rattle.ml_blocks.specs.Items.{Item, Row, OfState, Waits, Becomes, Either, row, put_off, behind_next, is_least}
@@ -282,3 +283,166 @@ module _ (B : Board) (first : Item) (b : Bool) (l : Lasso) (is_path : IsPath B.m
                 (λ us ws other said. absurd (none
                 (subst (λ vs. AllSay B.m l (Asks B.m l x) vs p) (sym (same_first us ws other)) said))) c.right
                 (other_right B foe choice is_strategy s a.number (vertex_is B s (state_low p place) a) _ _ c)
+
+  -- ---- from place to place
+
+  pub record Situation : Type 0 where
+    pub p : ℕ
+    pub place : IsPlace l p
+    pub xs : List Item
+    pub k : ℕ
+    pub a : Known B (path first b xs k)
+    pub of : Of first xs
+    pub all_now : (y : Item) → IsMember y xs → y.later ≡ false
+    pub asks : (y : Item) → IsMember y xs → Asks B.m l y p
+    pub from : From (at B (entry l p) a.number)
+    pub low : 0 < length (eventualities first) → k < length (eventualities first)
+
+  abbrev pub vertex : Situation → ℕ
+  vertex x = at B (entry l x.p) (x.a).number
+
+  abbrev priority : Situation → List Item → ℕ
+  priority x left = edge_priority (eventualities first) x.k left
+
+  pub record BigStep (x : Situation) : Type 0 where
+    pub to : Situation
+    pub left : List Item
+    pub run : LocalRun (Good x.p x.place) x.xs left
+    pub settled : first_open left ≡ None
+    pub walk : Walk (vertex x) (priority x left + off b) (vertex to)
+    pub says : (y : Item) → IsMember y left → Says B.m l y x.p
+    pub p_is : to.p ≡ next_place l x.p
+    pub xs_is : to.xs ≡ next_items left
+    pub k_is : to.k ≡ focus_behind (eventualities first) x.k left
+
+  -- what is left asks of the next place
+  asks_next : (p : ℕ) (place : IsPlace l p) (y : Item)
+      → IsOf first y
+      → is_open y ≡ false
+      → Says B.m l y p
+      → Asks B.m l (next_of y) (next_place l p)
+  asks_next p place y of shut says = by_time_of (waiting y shut)
+    where
+      by_time_of : (y.later ≡ true) ⊎ ((y.later ≡ false) × (row y ≡ Waits)) → Asks B.m l (next_of y) (next_place l p)
+      by_time_of (inl later) =
+          subst (λ z. Asks B.m l z (next_place l p)) (sym (next_later y later))
+          (subst (λ t. by_time t (Asks B.m l y p) (Asks B.m l y (next_place l p))) later says)
+      by_time_of (inr (now, waits)) =
+          let asked : Asks B.m l y p =
+          subst (λ t. by_time t (Asks B.m l y p) (Asks B.m l y (next_place l p))) now says in
+          let said = (rows_say_the_same B.m l y p place (decided_of B.m l first y given of)).0 asked in
+          subst (λ z. Asks B.m l z (next_place l p)) (sym (next_waits y now))
+          (subst (λ r. SaysBy B.m l (Asks B.m l y) y r p) waits said)
+
+  focus_low : (ms : List ℕ) (k : ℕ) (xs : List Item) → (0 < length ms → k < length ms) → 0 < length ms → focus_behind ms k xs < length ms
+  focus_low [] k xs low some = absurd (omega (arith, some))
+  focus_low (e ∷ es) k xs low some =
+      ⊎_elim
+      (λ (t : is_put_off (e ∷ es) k xs ≡ true).
+      let is = cond-true (is_put_off (e ∷ es) k xs) k ((k + 1) % length (e ∷ es)) t in
+      let under = low some in
+      omega (arith, is, under))
+      (λ (f : is_put_off (e ∷ es) k xs ≡ false).
+      let is = cond-false (is_put_off (e ∷ es) k xs) k ((k + 1) % length (e ∷ es)) f in
+      let under = mod_below (k + 1) (length (e ∷ es)) some in
+      omega (arith, is, under))
+      (cases_Bool (is_put_off (e ∷ es) k xs))
+
+  best_low : (c : Bool) (ms : List ℕ) (k : ℕ) (xs : List Item) → edge_priority ms k xs + off c < other c + 1
+  best_low c ms k xs = let low = edge_low ms k xs in let is = other_off c in omega (arith, low, is)
+
+  advance : (x : Situation) → BigStep x
+  advance x = go r.left refl
+    where
+      n : ℕ
+      n = (x.a).number
+
+      says_at : (y : Item) → IsMember y x.xs → Says B.m l y x.p
+      says_at y i =
+          subst (λ t. by_time t (Asks B.m l y x.p) (Asks B.m l y (next_place l x.p))) (sym (x.all_now y i)) (x.asks y i)
+
+      r : Settled first b B foe choice is_strategy (Good x.p x.place) (entry l x.p) (state_low x.p x.place) (Inv x.p x.place) x.xs x.k n
+      r =
+          settle first b B foe choice is_strategy (Good x.p x.place) (entry l x.p) (state_low x.p x.place) (Inv x.p x.place)
+          (step x.p x.place) (suc (load x.xs)) x.xs x.k x.a (omega arith) x.of
+          (record { says = says_at; from = x.from })
+
+      shut : first_open r.left ≡ None
+      shut = left_settled first (Good x.p x.place) x.xs r.left r.run
+
+      left_of_first : Of first r.left
+      left_of_first = left_of first (Good x.p x.place) x.xs r.left x.of r.run
+
+      closed : (y : Item) → IsMember y r.left → is_open y ≡ false
+      closed y i = none_open r.left shut y i
+
+      next_of_all : (y : Item) → IsMember y r.left → IsOf first (next_of y)
+      next_of_all y i = next_of_of first y (left_of_first y i) (closed y i)
+
+      step_on : has_step B.m (entry l x.p) (entry l (next_place l x.p)) ≡ true
+      step_on = path_step B.m l is_path x.p x.place
+
+      along : (y : Item) → IsMember y r.left → BigStep x
+      along y member = made edge_to
+        where
+          k2 : ℕ
+          k2 = focus_behind (eventualities first) x.k r.left
+
+          edge_to : Edges B (opponent foe) (entry l x.p) (r.to).number (path first b (next_items r.left) k2)
+          edge_to =
+              subst (λ q. Edges B q (entry l x.p) (r.to).number (path first b (next_items r.left) k2))
+              (sym (opponent-opponent (player_of b)))
+              (edges B b (path first b (next_items r.left) k2) (entry l x.p) r.to (edge_form_of first b r.left x.k y member shut))
+
+          next_asks : (v : Item) → IsMember v (next_items r.left) → Asks B.m l v (next_place l x.p)
+          next_asks v i =
+              let found = next_items-member v r.left i in
+              subst (λ z. Asks B.m l z (next_place l x.p)) (sym found.2)
+              (asks_next x.p x.place found.0 (left_of_first found.0 found.1) (closed found.0 found.1)
+              ((r.inv).says found.0 found.1))
+
+          next_is_now : (v : Item) → IsMember v (next_items r.left) → v.later ≡ false
+          next_is_now v i =
+              let found = next_items-member v r.left i in
+              ap (λ z. z.later) found.2 ∙ next_now found.0 (closed found.0 found.1)
+
+          made : Edges B (opponent foe) (entry l x.p) (r.to).number (path first b (next_items r.left) k2) → BigStep x
+          made c =
+              let goes =
+              other_edge B foe choice is_strategy (entry l x.p) (r.to).number
+              (vertex_is B (entry l x.p) (state_low x.p x.place) r.to) _ c (entry l (next_place l x.p)) step_on in
+              record {
+                to = record {
+                  p = next_place l x.p;
+                  place = next_is_place l x.p x.place;
+                  xs = next_items r.left;
+                  k = k2;
+                  a = c.to;
+                  of = next_items-all_of (IsOf first) (same_key first) r.left next_of_all;
+                  all_now = next_is_now;
+                  asks = next_asks;
+                  from = won_behind (game B) foe choice (at B (entry l x.p) (r.to).number) _ goes (r.inv).from;
+                  low = focus_low (eventualities first) x.k r.left x.low;
+                };
+                left = r.left;
+                run = r.run;
+                settled = shut;
+                walk =
+                    way_walk B foe choice is_strategy (other b) (priority x r.left + off b) (at B (entry l x.p) n)
+                    (at B (entry l x.p) (r.to).number) _ r.way
+                    (move_walk B foe choice is_strategy (priority x r.left + off b) (at B (entry l x.p) (r.to).number) _
+                    (priority_at_place B (entry l x.p) (state_low x.p x.place) r.to
+                    ∙ edge_priority_of first b r.left x.k y member shut) goes)
+                    (best_low b (eventualities first) x.k r.left);
+                says = (r.inv).says;
+                p_is = refl;
+                xs_is = refl;
+                k_is = refl;
+              }
+
+      go : (zs : List Item) → r.left ≡ zs → BigStep x
+      go [] e =
+          absurd (constant_lost (entry l x.p) (state_low x.p x.place)
+          (record { number = (r.to).number; is = (r.to).is ∙ ap (λ zs. Some (path first b zs x.k)) e })
+          (wins (at B (entry l x.p) (r.to).number) (r.inv).from))
+      go (y ∷ ys) e = along y (subst (IsMember y) (sym e) (inl refl))
