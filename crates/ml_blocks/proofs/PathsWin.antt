@@ -446,3 +446,150 @@ module _ (B : Board) (first : Item) (b : Bool) (l : Lasso) (is_path : IsPath B.m
           (record { number = (r.to).number; is = (r.to).is ∙ ap (λ zs. Some (path first b zs x.k)) e })
           (wins (at B (entry l x.p) (r.to).number) (r.inv).from))
       go (y ∷ ys) e = along y (subst (IsMember y) (sym e) (inl refl))
+
+  -- ---- until the focus moves on
+
+  abbrev Known_lowest : ℕ → ℕ → ℕ → Type 0
+  Known_lowest v k w = k ≡ off b
+
+  abbrev Next : Situation → Type 0
+  Next x = Onward (game B) foe choice Known_lowest Situation vertex x
+
+  abbrev Bad : (x : Situation) → List Item → Type 0
+  Bad x left =
+      OnFocus (eventualities first) x.k left × (priority x left ≡ 1) × (focus_behind (eventualities first) x.k left ≡ x.k)
+
+  good_step : (x : Situation) (t : BigStep x) → priority x t.left ≡ 0 → Next x
+  good_step x t good = record {
+    to = t.to;
+    stretch = record { lowest = priority x t.left + off b; way = t.walk; known = omega (arith, good) };
+  }
+
+  then_on : (x : Situation) (t : BigStep x) → priority x t.left ≡ 1 → Next t.to → Next x
+  then_on x t bad n =
+      let known = (n.stretch).known in
+      record {
+        to = n.to;
+        stretch = record {
+          lowest = min (priority x t.left + off b) (n.stretch).lowest;
+          way =
+              walks_joined (game B) foe choice (vertex x) (priority x t.left + off b) (vertex t.to) (n.stretch).lowest
+              (vertex n.to) t.walk (n.stretch).way;
+          known = omega (arith, bad, known);
+        };
+      }
+
+  left_is_of : (x : Situation) (t : BigStep x) → Of first t.left
+  left_is_of x t = left_of first (Good x.p x.place) x.xs t.left x.of t.run
+
+  -- the eventuality in focus stands in the next block
+  next_has : (x : Situation) (t : BigStep x) (o : OnFocus (eventualities first) x.k t.left) → IsMember (due o.item) (t.to).xs
+  next_has x t o =
+      subst (IsMember (due o.item)) (sym t.xs_is)
+      (subst (λ z. IsMember z (next_items t.left)) (next_later o.item o.later)
+      (next_items-has (IsOf first) (same_key first) t.left
+      (λ y i. next_of_of first y (left_is_of x t y i) (none_open t.left t.settled y i)) o.item o.member))
+
+  in_focus_still : (x : Situation) (t : BigStep x) (v : Item)
+      → IsMember v x.xs
+      → key v ≡ get_or (eventualities first) x.k 0
+      → (o : OnFocus (eventualities first) x.k t.left)
+      → due o.item ≡ v
+  in_focus_still x t v member in_focus o =
+      same_key first (due o.item) v (left_is_of x t o.item o.member) (x.of v member) (o.in_focus ∙ sym in_focus)
+
+  -- what took its first way isn't put off
+  not_put_off : (x : Situation) (t : BigStep x) (v : Item)
+      → IsMember v x.xs
+      → (w : TwoWays B.m l v)
+      → key v ≡ get_or (eventualities first) x.k 0
+      → AllSay B.m l (Asks B.m l v) w.first x.p
+      → OnFocus (eventualities first) x.k t.left
+      → ⊥
+  not_put_off x t v member w in_focus there o =
+      ⊎_elim (λ (i : IsMember o.item x.xs). false≢true (sym (x.all_now o.item i) ∙ o.later)) put
+      (later_origin first (Good x.p x.place) x.xs t.left x.of t.run o.item o.member)
+    where
+      put : PutOffBy first (Good x.p x.place) o.item → ⊥
+      put q = by_part (ways_parts (q.by).number (q.by).formula (q.by).positive (q.by).later q.ways q.takes o.item q.member)
+        where
+          by_part : Part (q.by).formula q.by o.item → ⊥
+          by_part (inl now) = false≢true (sym now.0 ∙ o.later)
+          by_part (inr e) =
+              let same : q.by ≡ v =
+              sym (block.due_now q.by q.is_now) ∙ sym (ap due e) ∙ in_focus_still x t v member in_focus o in
+              let first_way : q.ways ≡ w.first =
+              (q.good).rule w.first w.second (ap row same ∙ w.is_row)
+              (subst (λ z. AllSay B.m l (Asks B.m l z) w.first x.p) (sym same) there) in
+              false≢true (sym (w.all_now o.item (subst (IsMember o.item) first_way q.member)) ∙ o.later)
+
+  onward_by : (r : ℕ) (x : Situation) (v : Item)
+      → IsMember v x.xs
+      → (w : TwoWays B.m l v)
+      → key v ≡ get_or (eventualities first) x.k 0
+      → AllSay B.m l (Asks B.m l v) w.first (after l x.p r)
+      → Next x
+  onward_by zero x v member w in_focus there = by_edge (edge_cases (eventualities first) x.k t.left)
+    where
+      t : BigStep x
+      t = advance x
+
+      by_edge : (priority x t.left ≡ 0) ⊎ Bad x t.left → Next x
+      by_edge (inl good) = good_step x t good
+      by_edge (inr bad) = absurd (not_put_off x t v member w in_focus there bad.0)
+  onward_by (suc r) x v member w in_focus there =
+      by_edge (onward_by r) (edge_cases (eventualities first) x.k t.left)
+    where
+      t : BigStep x
+      t = advance x
+
+      by_edge : ((y : Situation) (u : Item)
+          → IsMember u y.xs
+          → (z : TwoWays B.m l u)
+          → key u ≡ get_or (eventualities first) y.k 0
+          → AllSay B.m l (Asks B.m l u) z.first (after l y.p r)
+          → Next y)
+          → (priority x t.left ≡ 0) ⊎ Bad x t.left
+          → Next x
+      by_edge rest (inl good) = good_step x t good
+      by_edge rest (inr bad) =
+          let same_k : (t.to).k ≡ x.k = t.k_is ∙ bad.2 in
+          then_on x t bad.1
+          (rest t.to v (subst (λ z. IsMember z (t.to).xs) (in_focus_still x t v member in_focus bad.0) (next_has x t bad.0)) w
+          (in_focus ∙ ap (λ k. get_or (eventualities first) k 0) (sym same_k))
+          (subst (AllSay B.m l (Asks B.m l v) w.first)
+          (sym (ap (λ p. after l p r) t.p_is ∙ walk-shift (next_place l) x.p r)) there))
+
+  same_first : (us vs ws zs : List Item) → Either us vs ≡ Either ws zs → us ≡ ws
+  same_first us vs ws zs e = cc
+
+  onward : (x : Situation) → Next x
+  onward x = by_edge (edge_cases (eventualities first) x.k t.left)
+    where
+      t : BigStep x
+      t = advance x
+
+      by_edge : (priority x t.left ≡ 0) ⊎ Bad x t.left → Next x
+      by_edge (inl good) = good_step x t good
+      by_edge (inr (o, bad, stays)) =
+          let v : Item = due o.item in
+          let member = next_has x t o in
+          let of = left_is_of x t o.item o.member in
+          let least = focus_is_least first o.item x.k of (x.low o.some) o.in_focus in
+          let w = two_ways B.m l v.number v.formula v.positive v.later least in
+          let c =
+          eventualities_come_true B.m l v (t.to).p (t.to).place (decided_of B.m l first v given of) least ((t.to).asks v member) in
+          let same_k : (t.to).k ≡ x.k = t.k_is ∙ stays in
+          then_on x t bad
+          (onward_by c.steps t.to v member w (o.in_focus ∙ ap (λ k. get_or (eventualities first) k 0) (sym same_k))
+          (subst (λ zs. AllSay B.m l (Asks B.m l v) zs (after l (t.to).p c.steps))
+          (same_first c.first c.second w.first w.second (sym c.is_row ∙ w.is_row)) c.there))
+
+  pub never_lost : Situation → ⊥
+  never_lost x =
+      never_for_ever (game B) foe choice Known_lowest Situation vertex
+      (λ y. vertex_low B.g B.m B.is_graph B.is_structure (Pair (entry l y.p) (y.a).number)
+          (vertex_is B (entry l y.p) (state_low y.p y.place) y.a))
+      (λ v j w k y first_known known. omega (arith, first_known, known))
+      (λ v k known. ap side known ∙ off_best b)
+      onward x x.from
