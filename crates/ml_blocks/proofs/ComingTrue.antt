@@ -23,6 +23,7 @@ pub record TwoWays (m : Structure) (l : Lasso) (x : Item) : Type 1 where
   pub first : List Item
   pub second : List Item
   pub is_row : row x ≡ Either first second
+  pub put : IsMember (put_off x) second
   pub all_now : (y : Item) → IsMember y first → y.later ≡ false
   pub here_alone : (P Q : Property) (y : ℕ) → AllSay m l P first y → AllSay m l Q first y
   pub puts_off : (P : Property) (y : ℕ) → AllSay m l P second y → P (next_place l y)
@@ -54,6 +55,7 @@ two_ways m l i (plain.Temporal plain.Finally f) true t least = record {
   first = now (i + 1) f true ∷ [];
   second = put_off (item i (plain.Temporal plain.Finally f) true t) ∷ [];
   is_row = refl;
+  put = inl refl;
   all_now = λ y m. one_now (now (i + 1) f true) y refl m;
   here_alone = λ P Q y says. says;
   puts_off = λ P y says. says.0;
@@ -63,6 +65,7 @@ two_ways m l i (plain.Temporal plain.Globally f) false t least = record {
   first = now (i + 1) f false ∷ [];
   second = put_off (item i (plain.Temporal plain.Globally f) false t) ∷ [];
   is_row = refl;
+  put = inl refl;
   all_now = λ y m. one_now (now (i + 1) f false) y refl m;
   here_alone = λ P Q y says. says;
   puts_off = λ P y says. says.0;
@@ -72,6 +75,7 @@ two_ways m l i (plain.Paired plain.Until f g) true t least = record {
   first = now (i + 1 + occurrences f) g true ∷ [];
   second = now (i + 1) f true ∷ put_off (item i (plain.Paired plain.Until f g) true t) ∷ [];
   is_row = refl;
+  put = inr (inl refl);
   all_now = λ y m. one_now (now (i + 1 + occurrences f) g true) y refl m;
   here_alone = λ P Q y says. says;
   puts_off = λ P y says. (says.1).0;
@@ -81,6 +85,7 @@ two_ways m l i (plain.Paired plain.Release f g) false t least = record {
   first = now (i + 1 + occurrences f) g false ∷ [];
   second = now (i + 1) f false ∷ put_off (item i (plain.Paired plain.Release f g) false t) ∷ [];
   is_row = refl;
+  put = inr (inl refl);
   all_now = λ y m. one_now (now (i + 1 + occurrences f) g false) y refl m;
   here_alone = λ P Q y says. says;
   puts_off = λ P y says. (says.1).0;
@@ -90,6 +95,7 @@ two_ways m l i (plain.Paired plain.Weak f g) false t least = record {
   first = now (i + 1 + occurrences f) g false ∷ now (i + 1) f false ∷ [];
   second = now (i + 1 + occurrences f) g false ∷ put_off (item i (plain.Paired plain.Weak f g) false t) ∷ [];
   is_row = refl;
+  put = inr (inl refl);
   all_now = λ y m. two_now (now (i + 1 + occurrences f) g false) (now (i + 1) f false) y refl refl m;
   here_alone = λ P Q y says. says;
   puts_off = λ P y says. (says.1).0;

@@ -30,3 +30,7 @@ pub mod EndlessWalks
 pub mod SaidItems
 -- a path that satisfies all items of a block
 pub mod PathsWin
+-- how often the focus moves on
+pub mod FocusRanks
+-- the walk along a strategy that wins a block
+pub mod BlockWalks

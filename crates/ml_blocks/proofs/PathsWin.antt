@@ -131,6 +131,23 @@ other_off : (b : Bool) → 1 + off b ≡ other b
 other_off true = refl
 other_off false = refl
 
+pub focus_low : (ms : List ℕ) (k : ℕ) (xs : List Item) → (0 < length ms → k < length ms) → 0 < length ms → focus_behind ms k xs < length ms
+focus_low [] k xs low some = absurd (omega (arith, some))
+focus_low (e ∷ es) k xs low some =
+    ⊎_elim
+    (λ (t : is_put_off (e ∷ es) k xs ≡ true).
+    let is = cond-true (is_put_off (e ∷ es) k xs) k ((k + 1) % length (e ∷ es)) t in
+    let under = low some in
+    omega (arith, is, under))
+    (λ (f : is_put_off (e ∷ es) k xs ≡ false).
+    let is = cond-false (is_put_off (e ∷ es) k xs) k ((k + 1) % length (e ∷ es)) f in
+    let under = mod_below (k + 1) (length (e ∷ es)) some in
+    omega (arith, is, under))
+    (cases_Bool (is_put_off (e ∷ es) k xs))
+
+pub best_low : (c : Bool) (ms : List ℕ) (k : ℕ) (xs : List Item) → edge_priority ms k xs + off c < other c + 1
+best_low c ms k xs = let low = edge_low ms k xs in let is = other_off c in omega (arith, low, is)
+
 module _ (B : Board) (first : Item) (b : Bool) (l : Lasso) (is_path : IsPath B.m l)
     (given : QuantifiersAreDecided B.m l first.formula) (choice : ℕ → ℕ)
     (is_strategy : IsStrategyOf (game B) (opponent (player_of b)) choice)
@@ -333,23 +350,6 @@ module _ (B : Board) (first : Item) (b : Bool) (l : Lasso) (is_path : IsPath B.m
           let said = (rows_say_the_same B.m l y p place (decided_of B.m l first y given of)).0 asked in
           subst (λ z. Asks B.m l z (next_place l p)) (sym (next_waits y now))
           (subst (λ r. SaysBy B.m l (Asks B.m l y) y r p) waits said)
-
-  focus_low : (ms : List ℕ) (k : ℕ) (xs : List Item) → (0 < length ms → k < length ms) → 0 < length ms → focus_behind ms k xs < length ms
-  focus_low [] k xs low some = absurd (omega (arith, some))
-  focus_low (e ∷ es) k xs low some =
-      ⊎_elim
-      (λ (t : is_put_off (e ∷ es) k xs ≡ true).
-      let is = cond-true (is_put_off (e ∷ es) k xs) k ((k + 1) % length (e ∷ es)) t in
-      let under = low some in
-      omega (arith, is, under))
-      (λ (f : is_put_off (e ∷ es) k xs ≡ false).
-      let is = cond-false (is_put_off (e ∷ es) k xs) k ((k + 1) % length (e ∷ es)) f in
-      let under = mod_below (k + 1) (length (e ∷ es)) some in
-      omega (arith, is, under))
-      (cases_Bool (is_put_off (e ∷ es) k xs))
-
-  best_low : (c : Bool) (ms : List ℕ) (k : ℕ) (xs : List Item) → edge_priority ms k xs + off c < other c + 1
-  best_low c ms k xs = let low = edge_low ms k xs in let is = other_off c in omega (arith, low, is)
 
   advance : (x : Situation) → BigStep x
   advance x = go r.left refl
