@@ -34,3 +34,5 @@ pub mod PathsWin
 pub mod FocusRanks
 -- the walk along a strategy that wins a block
 pub mod BlockWalks
+-- where a block is won, some path satisfies it
+pub mod WinsGivePath
