@@ -36,3 +36,5 @@ pub mod FocusRanks
 pub mod BlockWalks
 -- where a block is won, some path satisfies it
 pub mod WinsGivePath
+-- all items are reached
+pub mod ReachedItems
