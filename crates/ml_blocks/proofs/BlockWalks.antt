@@ -5,19 +5,18 @@
 --   BigStep           == from one place to the next one
 --   advance           == each entry leads on
 --   twice             == so some entry comes again
-use Rattle.std.proofs.Common.{ℕ, zero, suc, ◌≡◌, ◌+◌, ◌*◌, ◌<◌, ◌≤◌, ◌%◌, ◌⊎◌, inl, inr, arith, true, false, Bool, cond, List, [], ◌∷◌, length, get_or, Option, Some, None, refl, sym, ap, subst, ◌∙◌, ⊎_elim}
+use Rattle.std.proofs.Common.{ℕ, suc, ◌≡◌, ◌+◌, ◌<◌, ◌⊎◌, inl, inr, arith, true, false, Bool, List, [], ◌∷◌, length, Some, None, refl, sym, ap, subst, ◌∙◌}
 use Rattle.std.specs.Bool.{beq}
 use Rattle.std.specs.List.{slice_get}
-use Rattle.std.proofs.lemmas.Bool.{cases_Bool, cond-true, cond-false, false≢true}
-use Rattle.std.proofs.lemmas.Nat.{mod_below, same_from_place}
+use Rattle.std.proofs.lemmas.Bool.{false≢true}
+use Rattle.std.proofs.lemmas.Nat.{same_from_place}
 use Rattle.ml_lists.specs.Member.{IsMember}
 use Rattle.ml_lists.specs.Pigeons.{Twice}
 use Rattle.ml_lists.specs.Walk.{walk}
 use Rattle.ml_lists.proofs.Pigeons.{pigeons}
 use Rattle.ml_parity.specs.declared.players.Player.{Player}
-use Rattle.ml_parity.specs.Player.{opponent}
 use Rattle.ml_parity.specs.Winner.{IsStrategyOf, WinsFrom, Wins}
-use Rattle.ml_parity.proofs.FollowedWalks.{FollowedWalk, won_behind, won_at_end}
+use Rattle.ml_parity.proofs.FollowedWalks.{FollowedWalk, won_behind}
 use Rattle.ml_parity.specs.Game as parity
 use Rattle.ml_graph.specs.Graph.{size}
 use Rattle.ml_graph.specs.CheckingGame.{Pair}
@@ -25,15 +24,15 @@ use Rattle.ml_graph.proofs.OneStep.{vertex_low}
 use Rattle.ml_ctl.specs.Meaning.{HoldsAt}
 use Rattle.ml_ctl.specs.Paths.{has_step}
 use Rattle.ml_blocks.specs.Items.{Item, Row, OfState, Waits, Becomes, Either, row}
-use Rattle.ml_blocks.specs.ItemSets.{next_of, put_all, without, next_items, eventualities}
+use Rattle.ml_blocks.specs.ItemSets.{next_items, eventualities}
 use Rattle.ml_blocks.specs.Laws.{signed}
-use Rattle.ml_blocks.specs.Places.{Block, Place, Path, True, False, Holding, first_open, is_open, is_wait, is_put_off, focus_behind, edge_priority}
+use Rattle.ml_blocks.specs.Places.{Place, Path, Holding, first_open, is_open, is_wait, focus_behind, edge_priority}
 use Rattle.ml_blocks.proofs.BlockSteps as block
 use Rattle.ml_blocks.proofs.BlockSteps.{path, constant, other, off, edge_form_of, edge_priority_of, of_state, becomes, either, Stepped, Settled, Steps, settle}
 use Rattle.ml_blocks.proofs.ItemSetMembers.{load, next_items-member, next_items-all_of}
 use Rattle.ml_blocks.proofs.ItemsWithin.{IsOf, same_key}
 use Rattle.ml_blocks.proofs.LocalRuns.{Takes, LocalRun, Of, left_of, left_settled, some_open, open_now, none_open, next_of_of}
-use Rattle.ml_blocks.proofs.PathsWin.{edge_low, focus_low, best_low}
+use Rattle.ml_blocks.proofs.PathsWin.{focus_low, best_low}
 use Rattle.ml_blocks.proofs.PlaceVertices.{Board, Known, Branches, Edges, at, game, player_of, Goes, number_low, vertex_is, edges, own_branch, other_left, other_right, own_edge, priority_at_place, move_walk, way_walk}
 use Rattle.ml_blocks.proofs.RowShapes.{next_now}
 use Rattle.ml_blocks.proofs.SaidItems.{step_states}

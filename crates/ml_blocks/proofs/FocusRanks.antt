@@ -2,8 +2,7 @@
 --
 --   rank m e k      == how many moves the focus k is away from e, among m
 --   rank_falls      == an edge keeps the rank and is bad, or the rank falls
-use Rattle.std.proofs.Common.{ℕ, ◌≡◌, ◌+◌, ◌-◌, ◌<◌, ◌≤◌, ◌%◌, ◌&&◌, ◌==◌, ◌⊎◌, inl, inr, arith, true, false, Bool, cond, List, [], ◌∷◌, length, get_or, refl, sym, ap, subst, ◌∙◌, ⊎_elim, ltb, eq-eqb}
-use Rattle.std.specs.Bool.{beq}
+use Rattle.std.proofs.Common.{ℕ, ◌≡◌, ◌+◌, ◌-◌, ◌<◌, ◌≤◌, ◌%◌, ◌&&◌, ◌==◌, ◌⊎◌, inl, inr, arith, true, false, List, [], ◌∷◌, length, get_or, refl, sym, ap, subst, ◌∙◌, ⊎_elim, eq-eqb}
 use Rattle.std.proofs.lemmas.Bool.{cases_Bool, cases_eq, cases_lt, cond-true, cond-false, false≢true, and_from}
 use Rattle.std.proofs.Math.Nat.{mod-eq_of_lt, mod_self}
 use Rattle.ml_lists.specs.Member.{IsMember}
@@ -94,10 +93,10 @@ rank_falls (c ∷ cs) e k xs y low under member later is = by_test (cases_Bool (
         )
     by_test (inr f) =
         inr (
-          subst (λ n. rank (length (c ∷ cs)) e n < rank (length (c ∷ cs)) e k)
-          (sym (cond-false (is_put_off (c ∷ cs) k xs) k ((k + 1) % length (c ∷ cs)) f))
-          (moved (length (c ∷ cs)) e k low under
-          (λ same. false≢true (sym f
-          ∙ member-list_any (λ x. x.later && (key (due x) == get_or (c ∷ cs) k 0)) y xs member
-          (and_from y.later (key (due y) == get_or (c ∷ cs) k 0) later
-          (eq-eqb (key (due y)) (get_or (c ∷ cs) k 0) (is ∙ ap (λ n. get_or (c ∷ cs) n 0) (sym same))))))))
+        subst (λ n. rank (length (c ∷ cs)) e n < rank (length (c ∷ cs)) e k)
+        (sym (cond-false (is_put_off (c ∷ cs) k xs) k ((k + 1) % length (c ∷ cs)) f))
+        (moved (length (c ∷ cs)) e k low under
+        (λ same. false≢true (sym f
+        ∙ member-list_any (λ x. x.later && (key (due x) == get_or (c ∷ cs) k 0)) y xs member
+        (and_from y.later (key (due y) == get_or (c ∷ cs) k 0) later
+        (eq-eqb (key (due y)) (get_or (c ∷ cs) k 0) (is ∙ ap (λ n. get_or (c ∷ cs) n 0) (sym same))))))))

@@ -7,7 +7,7 @@
 --   load xs                                     == the symbols of the items that are to be decomposed
 --   put_all-load, without-load                  == how the load changes
 use Rattle.std.proofs.Common.{ℕ, ◌≡◌, ◌+◌, ◌≤◌, ◌⊎◌, inl, inr, arith, true, false, cond, Bool, not, List, [], ◌∷◌, eqb, eq-eqb, ltb, refl, sym, ap, subst, ◌∙◌, filter}
-use Rattle.std.proofs.lemmas.Bool.{cases_Bool, cond-true, cond-false, eqb-true, eqb-false}
+use Rattle.std.proofs.lemmas.Bool.{cases_Bool, cond-true, cond-false, eqb-true}
 use Rattle.ml_lists.specs.Member.{IsMember}
 use Rattle.ml_lists.proofs.Member.{member-filter, member-filter_from}
 use Rattle.ml_ctl.specs.Formula.{occurrences}

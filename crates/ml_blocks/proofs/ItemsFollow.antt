@@ -5,7 +5,7 @@
 --   follows_of        == the same of items now or put off
 --   next_of_of        == what an item asks of the next place comes of f too
 --   is_eventuality    == an eventuality that comes of f is in the list
-use Rattle.std.proofs.Common.{ℕ, ◌≡◌, ◌+◌, ◌⊎◌, inl, inr, true, false, Bool, not, cond, List, [], ◌∷◌, ◌++◌, refl, sym, ap, subst, ◌∙◌, map, filter}
+use Rattle.std.proofs.Common.{ℕ, ◌≡◌, ◌+◌, ◌⊎◌, inl, inr, true, false, Bool, not, List, ◌∷◌, ◌++◌, refl, sym, ap, subst, map, filter}
 use Rattle.ml_lists.specs.Member.{IsMember}
 use Rattle.ml_lists.proofs.Ascending.{member-ascending}
 use Rattle.ml_lists.proofs.Member.{member-append, member-append_left, member-append_right, member-map, member-filter}
@@ -13,7 +13,7 @@ use Rattle.ml_text.specs.declared.token.Operator.TheVariants as operator
 use Rattle.ml_ctl.specs.Formula as plain
 use Rattle.ml_ctl.specs.Formula.{Formula, occurrences}
 use Rattle.ml_blocks.specs.Items.{Item, Row, OfState, Waits, Becomes, Either, now, put_off, row, behind_next, is_least}
-use Rattle.ml_blocks.specs.ItemSets.{key, due, next_of, items_within, eventualities}
+use Rattle.ml_blocks.specs.ItemSets.{key, due, items_within, eventualities}
 use Rattle.ml_blocks.proofs.ItemsWithin.{IsOf}
 use Rattle.ml_blocks.proofs.RowsOfItems.{item}
 

@@ -9,15 +9,15 @@
 --   within_closed        == what follows an item that comes of f comes of f
 --   IsOf first x         == the item x, now or put off, comes of the item `first`
 --   same_key             == among these, equal keys are those of equal items
-use Rattle.std.proofs.Common.{ℕ, ◌≡◌, ◌+◌, ◌*◌, ◌<◌, ◌≤◌, ◌⊎◌, inl, inr, arith, true, false, cond, Bool, not, List, [], ◌∷◌, ◌++◌, refl, sym, ap, subst, ◌∙◌, zero, suc}
+use Rattle.std.proofs.Common.{ℕ, ◌≡◌, ◌+◌, ◌<◌, ◌≤◌, ◌⊎◌, inl, inr, arith, true, false, cond, Bool, not, List, ◌++◌, refl, sym, ap, subst, ◌∙◌}
 use Rattle.ml_lists.specs.Member.{IsMember}
-use Rattle.ml_lists.proofs.Member.{member-append, member-append_left, member-append_right}
+use Rattle.ml_lists.proofs.Member.{member-append}
 use Rattle.ml_text.specs.declared.token.Operator.{Operator}
 use Rattle.ml_text.specs.declared.token.Operator.TheVariants as operator
 use Rattle.ml_ctl.specs.Formula as plain
 use Rattle.ml_ctl.specs.Formula.{Formula, occurrences, weight}
-use Rattle.ml_blocks.specs.Items.{Item, Row, OfState, Waits, Becomes, Either, now, row, left_number, behind_next}
-use Rattle.ml_blocks.specs.ItemSets.{key, due, next_of, items_within}
+use Rattle.ml_blocks.specs.Items.{Item, now}
+use Rattle.ml_blocks.specs.ItemSets.{key, due, items_within}
 use Rattle.ml_blocks.proofs.RowsOfItems.{item}
 
 pub data StandsAt : ℕ → Formula → ℕ → Formula → Type 0 where
@@ -163,9 +163,9 @@ within_stands i (plain.Paired p f g) b x (inl e) = at_head i (plain.Paired p f g
 within_stands i (plain.Paired p f g) b x (inr m) =
     two_parts x (items_within (i + 1) f b) (items_within (i + 1 + occurrences f) g b)
     (λ a. let o = within_stands (i + 1) f b x a in
-        record { stands = before p i f g x.number x.formula o.stands; is_now = o.is_now })
+    record { stands = before p i f g x.number x.formula o.stands; is_now = o.is_now })
     (λ a. let o = within_stands (i + 1 + occurrences f) g b x a in
-        record { stands = behind p i f g x.number x.formula o.stands; is_now = o.is_now }) m
+    record { stands = behind p i f g x.number x.formula o.stands; is_now = o.is_now }) m
 within_stands i (plain.Binary operator.And f g) b x (inl e) = at_head i (plain.Binary operator.And f g) b x e
 within_stands i (plain.Binary operator.And f g) b x (inr m) =
     two_parts x (items_within (i + 1) f b) (items_within (i + 1 + occurrences f) g b)

@@ -38,3 +38,7 @@ pub mod BlockWalks
 pub mod WinsGivePath
 -- all items are reached
 pub mod ReachedItems
+-- who wins a block
+pub mod BlocksTold
+-- graphs agree with problems
+pub mod Agreement

@@ -2,7 +2,7 @@
 --
 --   takes_lighter  == of each way of the row of an item
 --   step_lighter   == so a block's load falls when an item is decomposed
-use Rattle.std.proofs.Common.{ℕ, ◌≡◌, ◌+◌, ◌<◌, ◌≤◌, ◌⊎◌, inl, inr, arith, true, false, Bool, not, List, [], ◌∷◌, refl, sym, ap, ◌∙◌, ⊎_elim, Some}
+use Rattle.std.proofs.Common.{ℕ, ◌≡◌, ◌+◌, ◌<◌, ◌≤◌, ◌⊎◌, inl, inr, arith, true, false, Bool, not, List, [], ap, ⊎_elim, Some}
 use Rattle.std.proofs.lemmas.Bool.{cases_Bool, cond-true, cond-false}
 use Rattle.ml_text.specs.declared.token.Operator.TheVariants as operator
 use Rattle.ml_ctl.specs.Formula as plain

@@ -7,18 +7,15 @@
 --   decomposed            == each that isn't an X does so
 --   Waiting               == what is left of a run: it is put off, or is an X
 --   run_of                == a run is made by choosing the ways one after the other
-use Rattle.std.proofs.Common.{ℕ, zero, suc, ◌≡◌, ◌+◌, ◌<◌, ◌≤◌, ◌⊎◌, inl, inr, arith, true, false, Bool, not, ◌&&◌, cond, List, [], ◌∷◌, find, Option, Some, None, refl, sym, ap, subst, ◌∙◌, ⊎_elim}
+use Rattle.std.proofs.Common.{◌≡◌, ◌⊎◌, inl, inr, true, false, Bool, not, ◌&&◌, List, [], ◌∷◌, Some, None, refl, sym, ap, subst, ◌∙◌, ⊎_elim}
 use Rattle.std.proofs.lemmas.Bool.{cases_Bool, cases_eq, cond-true, cond-false, and_parts, false≢true}
 use Rattle.ml_lists.specs.Member.{IsMember}
-use Rattle.ml_text.specs.declared.token.Operator.TheVariants as operator
-use Rattle.ml_ctl.specs.Formula as plain
-use Rattle.ml_ctl.specs.Formula.{Formula, occurrences}
 use Rattle.ml_blocks.specs.Items.{Item, Row, OfState, Waits, Becomes, Either, row, behind_next}
 use Rattle.ml_blocks.specs.ItemSets.{key, due, next_of, put_all, without}
 use Rattle.ml_blocks.specs.Places.{is_open, is_wait, first_open}
-use Rattle.ml_blocks.proofs.ItemSetMembers.{AllOf, put_all-all_of, put_all-has, put_all-keeps, without-member, without-keeps, load, load_of, put_all-load, without-load}
-use Rattle.ml_blocks.proofs.ItemsFollow.{Follows, FollowsBy, follows_of}
-use Rattle.ml_blocks.proofs.ItemsWithin.{IsOf, same_key, some_symbol, some_weight}
+use Rattle.ml_blocks.proofs.ItemSetMembers.{put_all-all_of, put_all-has, put_all-keeps, without-member, without-keeps}
+use Rattle.ml_blocks.proofs.ItemsFollow.{FollowsBy, follows_of}
+use Rattle.ml_blocks.proofs.ItemsWithin.{IsOf, same_key}
 
 abbrev pub Takes : Row → List Item → Type 0
 Takes OfState ys = ys ≡ []
@@ -135,7 +132,7 @@ module _ (first : Item) where
         let found = some_open xs x is in
         left_waits (put_all ys (without x xs)) zs (after_of xs x ys of is takes) r v shut
         (stays xs x ys v m (λ same. let e = same_key first v x (of v m) (of x found.0) same in
-            false≢true (sym shut ∙ ap is_open e ∙ found.1)))
+        false≢true (sym shut ∙ ap is_open e ∙ found.1)))
 
     pub seen_waits : (xs zs : List Item) → Of xs → (r : LocalRun Good xs zs) → (v : Item) → is_open v ≡ false → Seen r v
         → IsMember v zs

@@ -7,22 +7,18 @@
 --   Lost              == what the opponent would win: no state item that holds
 --   Situation         == a block at a place of the path, all of whose items are asked there
 --   never_lost        == the opponent's strategy doesn't win from a situation
-use Rattle.std.proofs.Common.{ℕ, zero, suc, ◌≡◌, ◌+◌, ◌<◌, ◌≤◌, ◌%◌, ◌&&◌, ◌==◌, ◌⊎◌, min, inl, inr, arith, true, false, Bool, cond, List, [], ◌∷◌, length, map, filter, get_or, Option, Some, None, refl, sym, ap, subst, ◌∙◌, ⊎_elim}
+use Rattle.std.proofs.Common.{ℕ, zero, suc, ◌≡◌, ◌+◌, ◌<◌, ◌%◌, ◌&&◌, ◌==◌, ◌⊎◌, min, inl, inr, arith, true, false, Bool, List, [], ◌∷◌, length, map, filter, get_or, Some, None, refl, sym, ap, subst, ◌∙◌, ⊎_elim}
 use Rattle.std.specs.Bool.{beq}
-use Rattle.std.specs.List.{list_any}
 use Rattle.std.proofs.lemmas.Bool.{cases_Bool, cond-true, cond-false, false≢true, and_parts, eqb-true}
 use Rattle.std.proofs.lemmas.Nat.{mod_below}
 use Rattle.ml_lists.specs.Lasso.{Lasso, entry, next_place}
 use Rattle.ml_lists.specs.Member.{IsMember}
-use Rattle.ml_lists.specs.Walk.{walk}
 use Rattle.ml_lists.proofs.Ascending.{ascending-member}
-use Rattle.ml_lists.proofs.Member.{Image, Passing, list_any-member, place-member, member-map_from, member-filter_from}
-use Rattle.ml_base.specs.Structure.{Structure}
+use Rattle.ml_lists.proofs.Member.{list_any-member, place-member, member-map_from, member-filter_from}
 use Rattle.ml_parity.specs.declared.players.Player.{Player}
-use Rattle.ml_parity.specs.declared.players.Player.TheVariants.{Even, Odd}
 use Rattle.ml_parity.specs.Player.{opponent, side}
 use Rattle.ml_parity.specs.Winner.{IsStrategyOf, WinsFrom, Wins}
-use Rattle.ml_parity.proofs.FollowedWalks.{FollowedWalk, walks_joined, won_behind, won_at_end}
+use Rattle.ml_parity.proofs.FollowedWalks.{FollowedWalk, walks_joined, won_behind}
 use Rattle.ml_parity.proofs.Opponents.{opponent-opponent}
 use Rattle.ml_graph.specs.CheckingGame.{Pair}
 use Rattle.ml_graph.proofs.OneStep.{vertex_low}
@@ -31,18 +27,18 @@ use Rattle.ml_ctl.specs.Meaning.{HoldsAt}
 use Rattle.ml_ctl.specs.Paths.{IsPath, IsPlace, has_step, after}
 use Rattle.ml_ctl.proofs.PlaceWalks.{walk-shift}
 use Rattle.ml_ctl.proofs.StepByStep.{next_is_place}
-use Rattle.ml_blocks.specs.Items.{Item, Row, OfState, Waits, Becomes, Either, row, put_off, behind_next, is_least}
+use Rattle.ml_blocks.specs.Items.{Item, Row, OfState, Waits, Becomes, Either, row, is_least}
 use Rattle.ml_blocks.specs.ItemSets.{key, due, next_of, put_all, without, next_items, items_within, eventualities}
-use Rattle.ml_blocks.specs.Laws.{Asks, AllSay, SaysBy, by_time, signed, QuantifiersAreDecided, ComesTrue}
-use Rattle.ml_blocks.specs.Places.{Place, Holding, True, False, first_open, is_open, is_wait, is_put_off, focus_behind, edge_priority}
+use Rattle.ml_blocks.specs.Laws.{Asks, AllSay, SaysBy, by_time, signed, QuantifiersAreDecided}
+use Rattle.ml_blocks.specs.Places.{Holding, first_open, is_open, is_wait, is_put_off, focus_behind, edge_priority}
 use Rattle.ml_blocks.proofs.BlockSteps.{path, constant, other, off, edge_form_of, edge_priority_of, of_state, becomes, either, Stepped, Settled, Steps, settle}
 use Rattle.ml_blocks.proofs.BlockSteps as block
 use Rattle.ml_blocks.proofs.ComingTrue.{TwoWays, two_ways, eventualities_come_true}
-use Rattle.ml_blocks.proofs.EndlessWalks.{Stretch, Onward, never_for_ever}
+use Rattle.ml_blocks.proofs.EndlessWalks.{Onward, never_for_ever}
 use Rattle.ml_blocks.proofs.ItemSetMembers.{load, next_items-member, next_items-all_of, next_items-has, put_all-member, without-member}
 use Rattle.ml_blocks.proofs.ItemsWithin.{IsOf, within_stands, same_key}
 use Rattle.ml_blocks.proofs.LocalRuns.{Takes, LocalRun, Of, left_of, left_settled, some_open, open_now, none_open, waiting, next_of_of, taken_of}
-use Rattle.ml_blocks.proofs.PlaceVertices.{Board, Known, Branches, Edges, at, game, player_of, Goes, Way, vertex_is, edges, own_branch, other_left, other_right, other_edge, priority_at_place, move_walk, way_walk}
+use Rattle.ml_blocks.proofs.PlaceVertices.{Board, Known, Branches, Edges, at, game, player_of, Goes, vertex_is, edges, own_branch, other_left, other_right, other_edge, priority_at_place, move_walk, way_walk}
 use Rattle.ml_blocks.proofs.RowShapes.{Part, ways_parts, next_now, next_later, next_waits}
 use Rattle.ml_blocks.proofs.RowsOfItems.{rows_say_the_same}
 use Rattle.ml_blocks.proofs.SaidItems.{Says, ways_say, decided_of, decided_say, later_origin, PutOffBy, path_step, path_states}
@@ -589,7 +585,7 @@ module _ (B : Board) (first : Item) (b : Bool) (l : Lasso) (is_path : IsPath B.m
   never_lost x =
       never_for_ever (game B) foe choice Known_lowest Situation vertex
       (λ y. vertex_low B.g B.m B.is_graph B.is_structure (Pair (entry l y.p) (y.a).number)
-          (vertex_is B (entry l y.p) (state_low y.p y.place) y.a))
+      (vertex_is B (entry l y.p) (state_low y.p y.place) y.a))
       (λ v j w k y first_known known. omega (arith, first_known, known))
       (λ v k known. ap side known ∙ off_best b)
       onward x x.from

@@ -8,10 +8,10 @@
 --   both, one, edges    == of nodes of each form
 --   own_branch, other_left, other_right, own_edge, other_edge == moves that follow a strategy
 --   Way B p t k v w     == such moves lead from v to w, or v is w already, and the lowest priority on the way is k
-use Rattle.std.proofs.Common.{ℕ, ◌≡◌, ◌<◌, ◌+◌, ◌==◌, ◌&&◌, ◌⊎◌, inl, inr, arith, min, true, false, Bool, List, [], ◌∷◌, length, map, filter, Contains, Some, codes, bytes_eq, refl, sym, ap, subst, ◌∙◌, eqb-true, eq-eqb}
+use Rattle.std.proofs.Common.{ℕ, ◌≡◌, ◌<◌, ◌+◌, ◌==◌, ◌&&◌, ◌⊎◌, inl, inr, arith, min, true, false, Bool, List, [], ◌∷◌, map, filter, Contains, Some, codes, bytes_eq, refl, sym, ap, subst, ◌∙◌, eqb-true, eq-eqb}
 use Rattle.std.specs.List.{slice_get}
 use Rattle.std.proofs.lemmas.Bool.{and_parts, and_from}
-use Rattle.std.proofs.lemmas.Option.{slice_get_within, slice_get-get_or, get_or_from_slice_get}
+use Rattle.std.proofs.lemmas.Option.{slice_get_within}
 use Rattle.ml_lists.specs.Member.{IsMember}
 use Rattle.ml_lists.proofs.Member.{Image, member-map, member-map_from, member-filter, member-filter_from, list_any-member, member-list_any}
 use Rattle.ml_lists.proofs.Members.{member_of_contains, contains_of_member}
@@ -25,11 +25,9 @@ use Rattle.ml_parity.specs.Game as parity
 use Rattle.ml_parity.specs.Winner.{IsStrategyOf}
 use Rattle.ml_parity.proofs.FollowedWalks.{FollowedMove, FollowedWalk, last, walks_joined}
 use Rattle.ml_parity.proofs.Opponents.{no_own_opponent}
-use Rattle.ml_graph.specs.declared.node.Node.{Node}
-use Rattle.ml_graph.specs.declared.node.Node.TheVariants as node
-use Rattle.ml_graph.specs.Graph.{Graph, IsGraph, size, node_at, priority_at, action_at}
+use Rattle.ml_graph.specs.Graph.{Graph, IsGraph, size, node_at}
 use Rattle.ml_graph.specs.CheckingGame.{Vertex, Pair, owner_at, mover, vertex_number, successors, successors_of, pairs_or_sink, targets, checking_game}
-use Rattle.ml_graph.proofs.CheckingGame.{IsVertex, owner_is, priority_is, moves_are, is_game}
+use Rattle.ml_graph.proofs.CheckingGame.{IsVertex, owner_is, priority_is, moves_are}
 use Rattle.ml_graph.proofs.OneStep.{vertex_low}
 use Rattle.ml_ctl.specs.Paths.{IsTotal, has_step}
 use Rattle.ml_blocks.specs.BlockGraph.{IsNumberedBy, HasForm}
@@ -210,8 +208,7 @@ module _ (B : Board) (p : Player) (choice : ℕ → ℕ) (is_strategy : IsStrate
       let image =
       member-map_from num (choice (num v)) (successors B.g B.m v)
       (member_of_contains (choice (num v)) (map num (successors B.g B.m v))
-      (subst (λ ws. Contains ws (choice (num v))) (moves_are B.g B.m v is) move)) in
-      (
+      (subst (λ ws. Contains ws (choice (num v))) (moves_are B.g B.m v is) move)) in (
         image.from,
         image.member,
         record {
@@ -265,8 +262,7 @@ module _ (B : Board) (p : Player) (choice : ℕ → ℕ) (is_strategy : IsStrate
         let mine = own_move (Pair s n) is c.owner in
         let image =
         member_pair (c.to).number c.stuck (targets B.m s (codes "_")) u mine.0 (step_target B.m s u some)
-        (subst (IsMember mine.0) c.leads mine.1) in
-        (
+        (subst (IsMember mine.0) c.leads mine.1) in (
           image.from,
           target_step B.m s image.from image.member,
           subst (λ v. Goes (at B s n) (num v)) image.holds mine.2,

@@ -4,24 +4,24 @@
 --   run_on          == some such block has x as the first open item, or no open item
 --   way_reached, next_reached, state_known == what x leads to is reached
 --   within_reached  == so is all that comes of a formula
-use Rattle.std.proofs.Common.{ℕ, zero, suc, ◌≡◌, ◌+◌, ◌<◌, ◌⊎◌, inl, inr, arith, true, false, Bool, not, List, [], ◌∷◌, ◌++◌, Option, Some, None, refl, sym, ap, subst, ◌∙◌, ⊎_elim}
+use Rattle.std.proofs.Common.{ℕ, zero, suc, ◌≡◌, ◌+◌, ◌<◌, ◌⊎◌, inl, inr, arith, true, false, Bool, not, List, [], ◌++◌, Option, Some, None, refl, sym, ap, subst, ◌∙◌, ⊎_elim}
 use Rattle.std.specs.Bool.{beq}
-use Rattle.std.proofs.lemmas.Bool.{cases_eq, cases_Bool, false≢true}
+use Rattle.std.proofs.lemmas.Bool.{cases_eq, false≢true}
 use Rattle.ml_lists.specs.Member.{IsMember}
 use Rattle.ml_lists.proofs.Member.{member-append}
 use Rattle.ml_text.specs.declared.token.Operator.TheVariants as operator
 use Rattle.ml_ctl.specs.Formula as plain
 use Rattle.ml_ctl.specs.Formula.{Formula, occurrences}
-use Rattle.ml_blocks.specs.Items.{Item, Row, OfState, Waits, Becomes, Either, row, now, put_off, behind_next}
+use Rattle.ml_blocks.specs.Items.{Item, Row, OfState, Waits, Becomes, Either, row, now, behind_next}
 use Rattle.ml_blocks.specs.ItemSets.{key, next_of, put_all, without, next_items, items_within, eventualities}
-use Rattle.ml_blocks.specs.Places.{Place, Holding, first_open, is_open, is_wait, focus_behind}
+use Rattle.ml_blocks.specs.Places.{Holding, first_open, is_open, is_wait, focus_behind}
 use Rattle.ml_blocks.proofs.BlockSteps as block
 use Rattle.ml_blocks.proofs.BlockSteps.{path, of_state, becomes, either, edge_form_of}
 use Rattle.ml_blocks.proofs.ItemSetMembers.{load, put_all-has, put_all-keeps, without-member, without-keeps, next_items-all_of, next_items-has}
 use Rattle.ml_blocks.proofs.ItemsWithin.{IsOf, same_key}
 use Rattle.ml_blocks.proofs.LighterRows.{step_lighter}
 use Rattle.ml_blocks.proofs.LocalRuns.{Takes, Of, after_of, taken_of, some_open, open_now, none_open, is_open_if, next_of_of}
-use Rattle.ml_blocks.proofs.PlaceVertices.{Board, Known, Branches, Edges, edges}
+use Rattle.ml_blocks.proofs.PlaceVertices.{Board, Known, edges}
 use Rattle.ml_blocks.proofs.RowShapes.{next_waits}
 
 module _ (B : Board) (first : Item) (b : Bool) where

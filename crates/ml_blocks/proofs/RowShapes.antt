@@ -4,15 +4,14 @@
 --   behind_now     == what a waiting item asks of the next place is a now-item
 --   next_now       == the same of all items that are left of a run
 --   ways_smaller   == a now-item of a way has a smaller formula, and so has what an X asks
-use Rattle.std.proofs.Common.{ℕ, ◌≡◌, ◌+◌, ◌<◌, ◌⊎◌, inl, inr, arith, true, false, Bool, not, List, [], ◌∷◌, refl, sym, ap, subst, ◌∙◌, ⊎_elim}
-use Rattle.std.proofs.lemmas.Bool.{cond-true, cond-false, false≢true}
+use Rattle.std.proofs.Common.{ℕ, ◌≡◌, ◌+◌, ◌<◌, ◌⊎◌, inl, inr, arith, true, false, Bool, not, List, [], ◌∷◌, refl, sym, ap, subst, ◌∙◌}
+use Rattle.std.proofs.lemmas.Bool.{cond-true, cond-false}
 use Rattle.ml_lists.specs.Member.{IsMember}
 use Rattle.ml_text.specs.declared.token.Operator.TheVariants as operator
 use Rattle.ml_ctl.specs.Formula as plain
 use Rattle.ml_ctl.specs.Formula.{Formula, occurrences}
-use Rattle.ml_blocks.specs.Items.{Item, Row, Waits, row, now, put_off, behind_next}
+use Rattle.ml_blocks.specs.Items.{Item, Waits, row, now, put_off, behind_next}
 use Rattle.ml_blocks.specs.ItemSets.{due, next_of}
-use Rattle.ml_blocks.proofs.ItemsWithin.{some_symbol}
 use Rattle.ml_blocks.proofs.LocalRuns.{Takes, waiting}
 use Rattle.ml_blocks.specs.Places.{is_open}
 use Rattle.ml_blocks.proofs.RowsOfItems.{item}
@@ -149,7 +148,6 @@ ways_parts i (plain.Binary operator.Iff f g) false t ys e =
 
 abbrev Behind : Item → Type 0
 Behind x = ((behind_next x).later ≡ false) × (occurrences (behind_next x).formula < occurrences x.formula)
-
 
 pub behind_parts : (i : ℕ) (f : Formula) (b t : Bool) → row (item i f b t) ≡ Waits → Behind (item i f b t)
 behind_parts i (plain.Temporal plain.Next f) b t e = (refl, omega arith)

@@ -8,8 +8,8 @@
 --   ways_say            == the items of a way each say what they say together
 --   later_origin        == what is put off at the end of a run was so before, or was put off by its item
 --   path_states         == the places of a path are states
-use Rattle.std.proofs.Common.{ℕ, ◌≡◌, ◌+◌, ◌<◌, ◌==◌, ◌&&◌, ◌⊎◌, inl, inr, true, false, Bool, List, [], ◌∷◌, Some, codes, bytes_eq, refl, sym, ap, subst, ◌∙◌, ⊎_elim, eqb-true}
-use Rattle.std.proofs.lemmas.Bool.{false≢true, and_parts, cases_Bool}
+use Rattle.std.proofs.Common.{ℕ, ◌≡◌, ◌+◌, ◌<◌, ◌==◌, ◌&&◌, ◌⊎◌, inl, inr, true, false, Bool, List, [], ◌∷◌, codes, bytes_eq, refl, sym, subst, ⊎_elim, eqb-true}
+use Rattle.std.proofs.lemmas.Bool.{and_parts}
 use Rattle.ml_lists.specs.Lasso.{Lasso, entry, next_place}
 use Rattle.ml_lists.specs.Member.{IsMember}
 use Rattle.ml_lists.proofs.Member.{list_any-member, All-member}
@@ -22,7 +22,7 @@ use Rattle.ml_ctl.specs.Laws.{IsDecided}
 use Rattle.ml_ctl.specs.Meaning.{Property, TruthAt}
 use Rattle.ml_ctl.specs.Paths.{IsPath, IsPlace, has_step}
 use Rattle.ml_ctl.proofs.StepByStep.{next_is_place}
-use Rattle.ml_blocks.specs.Items.{Item, Row, row, put_off}
+use Rattle.ml_blocks.specs.Items.{Item, row}
 use Rattle.ml_blocks.specs.ItemSets.{put_all, without}
 use Rattle.ml_blocks.specs.Laws.{Asks, AllSay, by_time, signed, QuantifiersAreDecided}
 use Rattle.ml_blocks.proofs.DecidedTruth.{truth_is_decided, decided_not, decided_both}
@@ -160,8 +160,7 @@ step_states m ok s t is =
     let parts = and_parts (((found.item).source == s) && bytes_eq (found.item).action (codes "_")) ((found.item).target == t) found.passes in
     let start = and_parts ((found.item).source == s) (bytes_eq (found.item).action (codes "_")) parts.0 in
     let ends =
-    All-member (λ (e : Edge). (e.source < m.states) × (e.target < m.states)) m.edges ok.joins_states found.item found.member in
-    (
+    All-member (λ (e : Edge). (e.source < m.states) × (e.target < m.states)) m.edges ok.joins_states found.item found.member in (
       subst (λ u. u < m.states) (eqb-true (found.item).source s start.0) ends.0,
       subst (λ u. u < m.states) (eqb-true (found.item).target t parts.1) ends.1,
     )

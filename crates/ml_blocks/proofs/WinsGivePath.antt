@@ -8,20 +8,18 @@
 --   loop_path       == the lasso is a path
 --   true_items      == what comes up at a place is true there
 --   path_from_win   == the law
-use Rattle.std.proofs.Common.{ℕ, zero, suc, ◌≡◌, ◌+◌, ◌-◌, ◌<◌, ◌≤◌, ◌⊎◌, min, inl, inr, arith, true, false, Bool, cond, List, [], ◌∷◌, length, get_or, ltb, refl, sym, ap, subst, ◌∙◌, ⊎_elim}
+use Rattle.std.proofs.Common.{ℕ, zero, suc, ◌≡◌, ◌+◌, ◌-◌, ◌<◌, ◌≤◌, ◌⊎◌, min, inl, inr, arith, true, false, Bool, List, length, ltb, refl, sym, ap, subst, ◌∙◌, ⊎_elim}
 use Rattle.std.proofs.lemmas.Bool.{cases_Bool, cases_lt, cond-true, cond-false, false≢true, ltb-true, ltb-false}
 use Rattle.ml_lists.specs.Lasso.{Lasso, entry, next_place}
 use Rattle.ml_lists.specs.Member.{IsMember}
 use Rattle.ml_lists.specs.Pigeons.{Twice}
-use Rattle.ml_lists.specs.Walk.{walk}
 use Rattle.ml_lists.proofs.Lasso.{lasso_of, lasso_of-length, lasso_of-entry, lasso_of_is}
 use Rattle.ml_lists.proofs.Member.{Place, member-place}
 use Rattle.ml_lists.proofs.Walks.{walk-add-one}
-use Rattle.ml_parity.specs.declared.players.Player.{Player}
 use Rattle.ml_parity.specs.Player.{opponent, side}
 use Rattle.ml_parity.specs.Game as parity
 use Rattle.ml_parity.specs.Winner.{IsStrategyOf}
-use Rattle.ml_parity.proofs.FollowedWalks.{FollowedWalk, walks_joined, closed_walk_good}
+use Rattle.ml_parity.proofs.FollowedWalks.{walks_joined, closed_walk_good}
 use Rattle.ml_parity.proofs.Opponents.{not_both}
 use Rattle.ml_ctl.specs.Formula.{occurrences}
 use Rattle.ml_ctl.specs.Meaning.{Property, Everywhere, iterate_of, HoldsAt}
@@ -30,15 +28,15 @@ use Rattle.ml_ctl.proofs.PlaceWalks.{walk-shift, walk-sum}
 use Rattle.ml_blocks.specs.Items.{Item, Row, OfState, Waits, Becomes, Either, row, put_off, behind_next, is_least}
 use Rattle.ml_blocks.specs.ItemSets.{key, due, next_of, next_items, eventualities}
 use Rattle.ml_blocks.specs.Laws.{Asks, AllSay, SaysBy, RowSays, by_time, signed, QuantifiersAreDecided}
-use Rattle.ml_blocks.specs.Places.{is_open, focus_behind, edge_priority}
-use Rattle.ml_blocks.proofs.BlockSteps.{due_now, off, other}
-use Rattle.ml_blocks.proofs.BlockWalks.{AllWon, Entry, BigStep, Good, Same, advance, entry_at, vertex, priority, same_vertex, twice, From, Walk}
+use Rattle.ml_blocks.specs.Places.{is_open, focus_behind}
+use Rattle.ml_blocks.proofs.BlockSteps.{due_now, off}
+use Rattle.ml_blocks.proofs.BlockWalks.{AllWon, Entry, BigStep, Good, Same, advance, entry_at, vertex, priority, same_vertex, twice, Walk}
 use Rattle.ml_blocks.proofs.ComingTrue.{TwoWays, two_ways}
 use Rattle.ml_blocks.proofs.FocusRanks.{rank, Fell, rank_falls}
 use Rattle.ml_blocks.proofs.ItemSetMembers.{next_items-has}
 use Rattle.ml_blocks.proofs.ItemsFollow.{is_eventuality}
 use Rattle.ml_blocks.proofs.ItemsWithin.{IsOf, same_key}
-use Rattle.ml_blocks.proofs.LocalRuns.{Takes, LocalRun, Seen, Of, left_of, none_open, next_of_of, waiting, seen_first, seen_waits, seen_of, Decomposed, decomposed}
+use Rattle.ml_blocks.proofs.LocalRuns.{Takes, Seen, Of, left_of, none_open, next_of_of, waiting, seen_first, seen_waits, seen_of, Decomposed, decomposed}
 use Rattle.ml_blocks.proofs.PlaceVertices.{Board, game, player_of}
 use Rattle.ml_blocks.proofs.RowShapes.{Part, ways_parts, behind_parts, next_waits}
 use Rattle.ml_blocks.proofs.RowsOfItems.{rows_say_the_same, others_are_greatest}
@@ -403,7 +401,7 @@ module _ (B : Board) (first : Item) (b : Bool) (choice : ℕ → ℕ)
                 some = (
                   next_of (put_off v),
                   subst (IsMember (next_of (put_off v))) (sym begins)
-                  (subst (λ n. IsMember (next_of (put_off v)) (E n).xs) whole some_next),
+                      (subst (λ n. IsMember (next_of (put_off v)) (E n).xs) whole some_next),
                 )
 
                 same_focus : (E i).k ≡ (E j).k

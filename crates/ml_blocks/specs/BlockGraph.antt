@@ -5,11 +5,12 @@
 --
 --   start_of f negated          == the node that a problem of CTL* starts with
 --   linear_start_of f negated   == that of a problem of LTL: some path satisfies f, or the negation of f
---   Has g n q                   == the node n of g has the form q, with its children's numbers by `places`
+--   HasForm g places v f        == the node v is of the form f, with its children's numbers by `places`
 --   IsGraphAt g start           == g is the graph of the closure whose root starts with this node
---   IsClosure start places      == these are the nodes that are reached, each once
---   HasMoreThan start max       == the closure has more than so many nodes
-use Rattle.std.specs.Prelude.{ℕ, ◌≡◌, ◌<◌, ◌↔◌, Bool, true, not, if◌then◌else◌, List, [], ◌∷◌, Some, length, map, slice_get, codes}
+--   IsReached root p            == the node p is reached from the root
+--   IsClosure root places       == these are the nodes that are reached, each once
+--   IsNumberedBy g root places  == the nodes of g are those of the closure, numbered by their places
+use Rattle.std.specs.Prelude.{ℕ, ◌≡◌, ◌↔◌, Bool, true, not, if◌then◌else◌, List, [], ◌∷◌, Some, length, map, slice_get, codes}
 use Rattle.std.specs.List.{range_with_len}
 use Rattle.ml_lists.specs.BreadthFirst.{IsBreadthFirst}
 use Rattle.ml_lists.specs.Member.{IsMember}
@@ -43,11 +44,6 @@ pub data IsReached (root : Place) : Place → Type 0 where
 pub record IsClosure (root : Place) (places : List Place) : Type 0 where
   pub once : (i j : ℕ) (p : Place) → slice_get places i ≡ Some p → slice_get places j ≡ Some p → i ≡ j
   pub are_reached : (p : Place) → IsMember p places ↔ IsReached root p
-
-abbrev pub HasMoreThan : Place → ℕ → Type 0
-HasMoreThan root max = (places : List Place) × (max < length places)
-    × ((i j : ℕ) (p : Place) → slice_get places i ≡ Some p → slice_get places j ≡ Some p → i ≡ j)
-    × ((p : Place) → IsMember p places → IsReached root p)
 
 -- the number c is that of the node p
 abbrev pub IsNumberOf : List Place → ℕ → Place → Type 0

@@ -8,3 +8,5 @@ pub mod ItemSets
 pub mod Places
 -- the modal graph
 pub mod BlockGraph
+-- that it agrees with the problem
+pub mod Agreement

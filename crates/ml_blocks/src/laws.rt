@@ -1,4 +1,5 @@
 // What holds of items and their rows: the functions do nothing, their contracts are the theorems.
+ghost use Rattle.ml_blocks.specs.Agreement.{GraphsAgree, LinearGraphsAgree};
 ghost use Rattle.ml_blocks.specs.Laws.{EventualitiesAreLeast, EventualitiesComeTrue, OthersAreGreatest, RowsSayTheSame, TruthIsDecided};
 
 /// Truth of a formula is decided at each place of a path along which its quantified formulas are; so that of a formula of
@@ -23,4 +24,18 @@ pub fn rows_are_sound()
 #[tactic(auto, using(crate::proofs::ComingTrue::eventualities_come_true))]
 pub fn eventualities_come_true()
     ensures { EventualitiesComeTrue }
+{}
+
+/// The checking game on the graph of a problem of CTL* or LTL agrees with the problem's meaning along lassos: on every finite
+/// structure in which each state has an edge by `_`, at every state, in the plain sense and negated. Even wins where the
+/// problem holds, and Odd where it fails.
+///
+/// `states`: state formulas, with quantifiers nested in any way. `paths`: that some path satisfies a formula, or its negation,
+/// so the problems of LTL; the formula may have quantifiers.
+///
+/// Does nothing when called. Source: Emerson and Sistla (1984), for the logic; the proof goes by strategies along lassos and by
+/// lassos along strategies (`proofs/PathsWin`, `proofs/WinsGivePath`).
+pub fn graphs_agree()
+    ensures states { GraphsAgree }
+    ensures paths { LinearGraphsAgree }
 {}
