@@ -4,18 +4,17 @@
 -- too that it is decided where a problem holds.
 --
 --   Agrees g m s P      == P holds, and Even wins the root of g at s; or P fails, and Odd wins it
---   GraphsAgree         == of each state formula, plain and negated: its graph agrees with it
---   LinearGraphsAgree   == of each formula: the graph that asks for a path which satisfies it, or its negation, agrees with
---                          whether there is one
-use Rattle.std.specs.Prelude.{ℕ, ◌≡◌, ◌<◌, ◌⊎◌, Bool, true, if◌then◌else◌}
+--   GraphsAgree         == of each problem of CTL*, plain and negated: its graph agrees with it
+--   LinearGraphsAgree   == of each problem of LTL, plain and negated; its formula may have quantifiers here
+use Rattle.std.specs.Prelude.{ℕ, ◌≡◌, ◌<◌, ◌⊎◌, Bool, true}
 use Rattle.ml_base.specs.Structure.{Structure}
 use Rattle.ml_parity.specs.declared.players.Player.TheVariants.{Odd}
 use Rattle.ml_parity.specs.Winner.{Wins}
 use Rattle.ml_graph.specs.CheckingGame.{Pair, Holds, checking_game, vertex_number}
 use Rattle.ml_graph.specs.Graph.{Graph}
-use Rattle.ml_ctl.specs.Formula.{Formula, Not, is_state}
-use Rattle.ml_ctl.specs.Meaning.{HoldsOnSome}
+use Rattle.ml_ctl.specs.Formula.{Formula, is_state}
 use Rattle.ml_ctl.specs.Problem.{HoldsAt, IsAdmitted}
+use Rattle.ml_ltl.specs.Problem as ltl
 use Rattle.ml_blocks.specs.BlockGraph.{IsGraphAt, start_of, linear_start_of}
 
 abbrev pub Agrees : Graph → Structure → ℕ → Type 0 → Type 0
@@ -40,4 +39,4 @@ LinearGraphsAgree =
     → IsAdmitted m
     → (s : ℕ)
     → s < m.states
-    → Agrees g m s (HoldsOnSome m (if negated then Not f else f) s)
+    → Agrees g m s (ltl.HoldsAt m s (record { formula = f; negated = negated }))

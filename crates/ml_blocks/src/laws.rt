@@ -30,8 +30,8 @@ pub fn eventualities_come_true()
 /// structure in which each state has an edge by `_`, at every state, in the plain sense and negated. Even wins where the
 /// problem holds, and Odd where it fails.
 ///
-/// `states`: state formulas, with quantifiers nested in any way. `paths`: that some path satisfies a formula, or its negation,
-/// so the problems of LTL; the formula may have quantifiers.
+/// `states`: problems of CTL*, with quantifiers nested in any way. `paths`: problems of LTL, of which a negated one asks for a
+/// path that satisfies the negation; this is said of formulas with quantifiers too.
 ///
 /// Does nothing when called. Source: Emerson and Sistla (1984), for the logic; the proof goes by strategies along lassos and by
 /// lassos along strategies (`proofs/PathsWin`, `proofs/WinsGivePath`).
