@@ -1,0 +1,44 @@
+-- steps on properties of places
+pub mod SteadySteps
+-- rows of plain propositions
+pub mod RowConnectives
+-- truth is decided
+pub mod DecidedTruth
+-- what rows say, item by item
+pub mod RowsOfItems
+-- eventualities come true
+pub mod ComingTrue
+-- members of sets of items
+pub mod ItemSetMembers
+-- items that come of a formula
+pub mod ItemsWithin
+-- what follows an item
+pub mod ItemsFollow
+-- runs of a block at one place
+pub mod LocalRuns
+-- vertices of the game, by nodes as values
+pub mod PlaceVertices
+-- what items become is lighter
+pub mod LighterRows
+-- steps of the game within a block
+pub mod BlockSteps
+-- what rows put off
+pub mod RowShapes
+-- walks that go on for ever
+pub mod EndlessWalks
+-- what items say, each by itself
+pub mod SaidItems
+-- a path that satisfies all items of a block
+pub mod PathsWin
+-- how often the focus moves on
+pub mod FocusRanks
+-- the walk along a strategy that wins a block
+pub mod BlockWalks
+-- where a block is won, some path satisfies it
+pub mod WinsGivePath
+-- all items are reached
+pub mod ReachedItems
+-- who wins a block
+pub mod BlocksTold
+-- graphs agree with problems
+pub mod Agreement

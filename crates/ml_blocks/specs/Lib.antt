@@ -1,0 +1,12 @@
+-- items of a path, and how they are decomposed
+pub mod Items
+-- what items say, and that rows say the same
+pub mod Laws
+-- sets of items
+pub mod ItemSets
+-- the nodes, as values
+pub mod Places
+-- the modal graph
+pub mod BlockGraph
+-- that it agrees with the problem
+pub mod Agreement

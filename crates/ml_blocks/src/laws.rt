@@ -1,0 +1,41 @@
+// What holds of items and their rows: the functions do nothing, their contracts are the theorems.
+ghost use Rattle.ml_blocks.specs.Agreement.{GraphsAgree, LinearGraphsAgree};
+ghost use Rattle.ml_blocks.specs.Laws.{EventualitiesAreLeast, EventualitiesComeTrue, OthersAreGreatest, RowsSayTheSame, TruthIsDecided};
+
+/// Truth of a formula is decided at each place of a path along which its quantified formulas are; so that of a formula of
+/// LTL always is.
+pub fn truth_is_decided()
+    ensures { TruthIsDecided }
+{}
+
+/// An item asks at a place what its row says, where an item that is put off asks the same of the next place.
+///
+/// `same`: the item is a fixed point of its row. `least`: an eventuality is what as many iterates from nowhere reach as the
+/// path has places. `greatest`: each other item is what as many iterates from everywhere reach.
+#[tactic(auto, using(crate::proofs::RowsOfItems::rows_say_the_same, crate::proofs::RowsOfItems::eventualities_are_least, crate::proofs::RowsOfItems::others_are_greatest))]
+pub fn rows_are_sound()
+    ensures same { RowsSayTheSame }
+    ensures least { EventualitiesAreLeast }
+    ensures greatest { OthersAreGreatest }
+{}
+
+/// An eventuality that is asked at a place comes true: so many steps ahead, less than the path has places, the first way of
+/// its row is what the path does, and the second way until then.
+#[tactic(auto, using(crate::proofs::ComingTrue::eventualities_come_true))]
+pub fn eventualities_come_true()
+    ensures { EventualitiesComeTrue }
+{}
+
+/// The checking game on the graph of a problem of CTL* or LTL agrees with the problem's meaning along lassos: on every finite
+/// structure in which each state has an edge by `_`, at every state, in the plain sense and negated. Even wins where the
+/// problem holds, and Odd where it fails.
+///
+/// `states`: problems of CTL*, with quantifiers nested in any way. `paths`: problems of LTL, of which a negated one asks for a
+/// path that satisfies the negation; this is said of formulas with quantifiers too.
+///
+/// Does nothing when called. Source: Emerson and Sistla (1984), for the logic; the proof goes by strategies along lassos and by
+/// lassos along strategies (`proofs/PathsWin`, `proofs/WinsGivePath`).
+pub fn graphs_agree()
+    ensures states { GraphsAgree }
+    ensures paths { LinearGraphsAgree }
+{}

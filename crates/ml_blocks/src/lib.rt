@@ -1,0 +1,8 @@
+// The modal graphs of formulas of CTL* and LTL.
+//
+// What a graph is says `specs/BlockGraph.antt`, over items of paths (`specs/Items.antt`) and nodes as values
+// (`specs/Places.antt`); `laws` has that the checking game on it agrees with the problem's meaning. It stands on `ml_ctl`, for
+// formulas and their meaning, and on `ml_graph`, for modal graphs and their game.
+#![tactic(auto)]
+/// what is proved of rows and meanings
+pub mod laws;
