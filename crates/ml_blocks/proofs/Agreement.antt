@@ -64,7 +64,11 @@ module _ (B : Board) where
     pub to : Known B q
     pub holds : Holds s n ↔ Holds s to.number
 
-  and_holds : (p l r : Place) (s : ℕ) → s < (B.m).states → (a : Known B p) → form_of p ≡ And l r → AndHolds s a.number l r
+  and_holds : (p l r : Place) (s : ℕ)
+      → s < (B.m).states
+      → (a : Known B p)
+      → form_of p ≡ And l r
+      → AndHolds s a.number l r
   and_holds p l r s low a e =
       let h = form_as B a (And l r) e in
       record {
@@ -82,7 +86,11 @@ module _ (B : Board) where
         holds = holds_as B s a.number low (number_low B a) (node.Or h.0 h.1) h.4;
       }
 
-  leads_holds : (p q : Place) (s : ℕ) → s < (B.m).states → (a : Known B p) → form_of p ≡ And q q → LeadsHolds s a.number q
+  leads_holds : (p q : Place) (s : ℕ)
+      → s < (B.m).states
+      → (a : Known B p)
+      → form_of p ≡ And q q
+      → LeadsHolds s a.number q
   leads_holds p q s low a e =
       let h = and_holds p q q s low a e in
       let one = same_number B h.left h.right in
@@ -94,7 +102,11 @@ module _ (B : Board) where
         );
       }
 
-  constant_holds : (p : Place) (c : Bool) (s : ℕ) → s < (B.m).states → (a : Known B p) → form_of p ≡ Constant c → (c ≡ true) ↔ Holds s a.number
+  constant_holds : (p : Place) (c : Bool) (s : ℕ)
+      → s < (B.m).states
+      → (a : Known B p)
+      → form_of p ≡ Constant c
+      → (c ≡ true) ↔ Holds s a.number
   constant_holds p true s low a e =
       let one = holds_as B s a.number low (number_low B a) node.True (form_as B a (Constant true) e) in
       ((λ t. one.1 tt), (λ w. refl))
@@ -140,7 +152,8 @@ not_not {P = P} d = (
 
 -- ---- blocks
 
-told_block : (B : Board) (i : ℕ) (f : Formula) (c b : Bool) (told : ItemsTold B (now i f c) b) (s : ℕ) (low : s < (B.m).states)
+told_block : (B : Board) (i : ℕ) (f : Formula) (c b : Bool) (told : ItemsTold B (now i f c) b) (s : ℕ)
+    (low : s < (B.m).states)
     → (a : Known B (block_of (now i f c) b))
     → Told B s a.number b (SomeFrom B (now i f c) s)
 told_block B i f c true told s low a = from (block_told B i f c true told s low a)
@@ -209,7 +222,11 @@ module _ (B : Board) where
       → (a : Known B (Holding i f sign))
       → Told B s a.number sign (HoldsAt B.m f s)
 
-  items_told : (n : ℕ) → StatesTold n → (i : ℕ) (f : Formula) (c b : Bool) → occurrences f < n → ItemsTold B (now i f c) b
+  items_told : (n : ℕ)
+      → StatesTold n
+      → (i : ℕ) (f : Formula) (c b : Bool)
+      → occurrences f < n
+      → ItemsTold B (now i f c) b
   items_told n told i f c b small s low x of e h =
       let stands = (within_stands i f c _ of).stands in
       let less = stands_smaller i f x.number x.formula stands in
@@ -326,7 +343,12 @@ module _ (B : Board) where
             decided = decided_both (decided_implies d.0 d.1) (decided_implies d.1 d.0);
           }
 
-  not_told : (n : ℕ) → StatesTold n → (f : Formula) → is_state f ≡ true → occurrences f < n → (i : ℕ) (sign : Bool) (s : ℕ)
+  not_told : (n : ℕ)
+      → StatesTold n
+      → (f : Formula)
+      → is_state f ≡ true
+      → occurrences f < n
+      → (i : ℕ) (sign : Bool) (s : ℕ)
       (low : s < (B.m).states)
       → (a : Known B (Holding i (plain.Not f) sign))
       → Told B s a.number sign (HoldsAt B.m f s → ⊥)
@@ -339,7 +361,11 @@ module _ (B : Board) where
       let t = told f small state (i + 1) true s low h.to in
       record { won = both_ways (not_not t.decided) (both_ways t.won (back h.holds)); decided = decided_not t.decided }
 
-  quantified_told : (n : ℕ) → StatesTold n → (q : plain.Quantifier) (f : Formula) → occurrences f < n → (i : ℕ) (sign : Bool) (s : ℕ)
+  quantified_told : (n : ℕ)
+      → StatesTold n
+      → (q : plain.Quantifier) (f : Formula)
+      → occurrences f < n
+      → (i : ℕ) (sign : Bool) (s : ℕ)
       (low : s < (B.m).states)
       → (a : Known B (Holding i (plain.Quantified q f) sign))
       → Told B s a.number sign (HoldsAt B.m (plain.Quantified q f) s)

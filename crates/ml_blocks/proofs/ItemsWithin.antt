@@ -128,7 +128,11 @@ at_head : (i : ℕ) (f : Formula) (b : Bool) (x : Item) → x ≡ now i f b → 
 at_head i f b x e = subst (IsOccurrence i f) (sym e) (record { stands = here i f i f refl refl; is_now = refl })
 
 -- in one of two lists
-two_parts : {A : Type 0} (x : Item) (xs ys : List Item) → (IsMember x xs → A) → (IsMember x ys → A) → IsMember x (xs ++ ys) → A
+two_parts : {A : Type 0} (x : Item) (xs ys : List Item)
+    → (IsMember x xs → A)
+    → (IsMember x ys → A)
+    → IsMember x (xs ++ ys)
+    → A
 two_parts {A = A} x xs ys a b m = from (member-append x xs ys m)
   where
     from : IsMember x xs ⊎ IsMember x ys → A
@@ -136,7 +140,9 @@ two_parts {A = A} x xs ys a b m = from (member-append x xs ys m)
     from (inr i) = b i
 
 module _ (x : Item) where
-  from_left : (op : Operator) (i : ℕ) (f h : Formula) → IsOccurrence (i + weight op) f x → IsOccurrence i (plain.Binary op f h) x
+  from_left : (op : Operator) (i : ℕ) (f h : Formula)
+      → IsOccurrence (i + weight op) f x
+      → IsOccurrence i (plain.Binary op f h) x
   from_left op i f h o = record { stands = at_left op i f h x.number x.formula o.stands; is_now = o.is_now }
 
   from_right : (op : Operator) (i : ℕ) (f h : Formula)

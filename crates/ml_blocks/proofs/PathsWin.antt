@@ -127,7 +127,10 @@ other_off : (b : Bool) → 1 + off b ≡ other b
 other_off true = refl
 other_off false = refl
 
-pub focus_low : (ms : List ℕ) (k : ℕ) (xs : List Item) → (0 < length ms → k < length ms) → 0 < length ms → focus_behind ms k xs < length ms
+pub focus_low : (ms : List ℕ) (k : ℕ) (xs : List Item)
+    → (0 < length ms → k < length ms)
+    → 0 < length ms
+    → focus_behind ms k xs < length ms
 focus_low [] k xs low some = absurd (omega (arith, some))
 focus_low (e ∷ es) k xs low some =
     ⊎_elim
@@ -479,7 +482,8 @@ module _ (B : Board) (first : Item) (b : Bool) (l : Lasso) (is_path : IsPath B.m
   left_is_of x t = left_of first (Good x.p x.place) x.xs t.left x.of t.run
 
   -- the eventuality in focus stands in the next block
-  next_has : (x : Situation) (t : BigStep x) (o : OnFocus (eventualities first) x.k t.left) → IsMember (due o.item) (t.to).xs
+  next_has : (x : Situation) (t : BigStep x) (o : OnFocus (eventualities first) x.k t.left)
+      → IsMember (due o.item) (t.to).xs
   next_has x t o =
       subst (IsMember (due o.item)) (sym t.xs_is)
       (subst (λ z. IsMember z (next_items t.left)) (next_later o.item o.later)

@@ -105,7 +105,10 @@ module _ (B : Board) (first : Item) (b : Bool) where
   moves (Becomes zs) ys e = refl
   moves (Either zs ws) ys e = refl
 
-  at_first : (x : Item) (t : Reached x) → is_open x ≡ true → (first_open t.xs ≡ None) ⊎ (first_open t.xs ≡ Some x) → first_open t.xs ≡ Some x
+  at_first : (x : Item) (t : Reached x)
+      → is_open x ≡ true
+      → (first_open t.xs ≡ None) ⊎ (first_open t.xs ≡ Some x)
+      → first_open t.xs ≡ Some x
   at_first x t opens (inl none) = absurd (false≢true (sym (none_open t.xs none x t.member) ∙ opens))
   at_first x t opens (inr is) = is
 
@@ -205,7 +208,11 @@ module _ (B : Board) (first : Item) (b : Bool) where
       → Reached y
   by_way i f c t ys takes y m = way_reached (now i f c) t refl ys takes y m
 
-  in_both : (x : Item) (ys zs : List Item) → (IsMember x ys → Reached x) → (IsMember x zs → Reached x) → IsMember x (ys ++ zs) → Reached x
+  in_both : (x : Item) (ys zs : List Item)
+      → (IsMember x ys → Reached x)
+      → (IsMember x zs → Reached x)
+      → IsMember x (ys ++ zs)
+      → Reached x
   in_both x ys zs left right m =
       ⊎_elim (λ (i : IsMember x ys). left i) (λ (i : IsMember x zs). right i) (member-append x ys zs m)
 
@@ -287,7 +294,11 @@ module _ (B : Board) (first : Item) (b : Bool) where
     iff_right false true r = by_way i (plain.Binary operator.Iff f g) false r _ (inr refl) (now R3 g true) (inr (inl refl))
     iff_right false false r = by_way i (plain.Binary operator.Iff f g) false r _ (inl refl) (now R3 g false) (inr (inl refl))
 
-  pub within_reached : (i : ℕ) (f : Formula) (c : Bool) → At i f c → (x : Item) → IsMember x (items_within i f c) → Reached x
+  pub within_reached : (i : ℕ) (f : Formula) (c : Bool)
+      → At i f c
+      → (x : Item)
+      → IsMember x (items_within i f c)
+      → Reached x
   within_reached i (plain.Const d) c r x (inl e) = found x _ e r
   within_reached i (plain.Const d) c r x (inr none) = absurd none
   within_reached i (plain.Prop p) c r x (inl e) = found x _ e r

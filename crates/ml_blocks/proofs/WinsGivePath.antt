@@ -95,7 +95,8 @@ module _ (B : Board) (first : Item) (b : Bool) (choice : ℕ → ℕ)
   next_in : (k : ℕ) → suc k < j → next_place l k ≡ suc k
   next_in k room = by_test (cases_Bool (ltb (suc k) (length l.entries)))
     where
-      by_test : (ltb (suc k) (length l.entries) ≡ true) ⊎ (ltb (suc k) (length l.entries) ≡ false) → next_place l k ≡ suc k
+      by_test : (ltb (suc k) (length l.entries) ≡ true) ⊎ (ltb (suc k) (length l.entries) ≡ false)
+          → next_place l k ≡ suc k
       by_test (inl t) = cond-true (ltb (suc k) (length l.entries)) (suc k) i t
       by_test (inr f) = let past = ltb-false (suc k) (length l.entries) f in let is = many in absurd (omega (arith, past, is, room))
 
@@ -148,7 +149,10 @@ module _ (B : Board) (first : Item) (b : Bool) (choice : ℕ → ℕ)
   up_again : (k : ℕ) → k < j → (v : Item) → v.later ≡ false → IsMember (put_off v) (T k).left → Up (next_place l k) v
   up_again k low v now m = subst (Up (next_place l k)) (due_now v now) (next_up k low (put_off v) m)
 
-  becomes : (k : ℕ) (v : Item) → is_open v ≡ true → (up : Up k v) → Decomposed first (GoodAt k) (E k).xs (T k).left (T k).run v
+  becomes : (k : ℕ) (v : Item)
+      → is_open v ≡ true
+      → (up : Up k v)
+      → Decomposed first (GoodAt k) (E k).xs (T k).left (T k).run v
   becomes k v opens up = decomposed first (GoodAt k) (E k).xs (T k).left (E k).of (T k).run v opens up
 
   entry_is : (k : ℕ) → k < j → entry l k ≡ (E k).s
