@@ -29,8 +29,10 @@ use Rattle.ml_ctl.specs.Meaning.{HoldsAt, TruthAt}
 use Rattle.ml_ctl.specs.Paths.{IsPathFrom}
 use Rattle.ml_ctl.specs.Problem.{IsAdmitted}
 use Rattle.ml_ctl.proofs.StepByStep.{both_ways}
-use Rattle.ml_blocks.specs.Agreement.{Agrees, GraphsAgree, LinearGraphsAgree}
-use Rattle.ml_blocks.specs.BlockGraph.{IsGraphAt}
+use Rattle.ml_ctl.specs.Problem as problem
+use Rattle.ml_ltl.specs.Problem as ltl
+use Rattle.ml_blocks.specs.Agreement.{Agrees, AgreesWith, HoldsWhere, GraphsAgree, GraphsHold, LinearGraphsAgree, LinearGraphsHold}
+use Rattle.ml_blocks.specs.BlockGraph.{IsGraphAt, start_of, linear_start_of}
 use Rattle.ml_blocks.specs.Items.{now}
 use Rattle.ml_blocks.specs.Laws.{signed}
 use Rattle.ml_blocks.specs.Places.{Place, Root, Total, HasEdge, LeadsOn, True, Holding, Both, Neither, Constant, Literal, And, Or, Diamond, form_of, block_of}
@@ -594,3 +596,29 @@ path_agrees g m f c is ok s low =
 pub linear_graphs_agree : LinearGraphsAgree
 linear_graphs_agree f true g is m ok s low = path_agrees g m f false is ok s low
 linear_graphs_agree f false g is m ok s low = path_agrees g m f true is ok s low
+
+-- ---- exactly where
+
+exactly : (g : Graph) (start : Place) (P : Structure → ℕ → Type 0)
+    → IsGraphAt g start
+    → AgreesWith g P
+    → HoldsWhere g P
+exactly g start P is agree m ok s low = from (agree m ok s low)
+  where
+    from : Agrees g m s (P m s) → game.Holds g m s ↔ P m s
+    from (inl (holds, even)) = ((λ w. holds), (λ p. even))
+    from (inr (fails, odd)) = (
+      (λ w. absurd (never_both (board g m start is ok) s g.root low
+          (number_low (board g m start is ok) (root_known g m start is ok)) w odd)),
+      (λ p. absurd (fails p)),
+    )
+
+pub graphs_hold : GraphsHold
+graphs_hold f negated g state is =
+    exactly g (start_of f negated) (λ m s. problem.HoldsAt m s (record { formula = f; negated = negated })) is
+    (graphs_agree f negated g state is)
+
+pub linear_graphs_hold : LinearGraphsHold
+linear_graphs_hold f negated g is =
+    exactly g (linear_start_of f negated) (λ m s. ltl.HoldsAt m s (record { formula = f; negated = negated })) is
+    (linear_graphs_agree f negated g is)
