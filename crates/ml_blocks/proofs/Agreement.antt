@@ -220,7 +220,8 @@ stands_smaller i _ j g (behind p _ f h _ _ s) = let r = stands_smaller (i + 1 + 
 
 module _ (B : Board) where
   abbrev StatesTold : ℕ → Type 0
-  StatesTold n = (f : Formula) → occurrences f < n → is_state f ≡ true → (i : ℕ) (sign : Bool) (s : ℕ) (low : s < (B.m).states)
+  StatesTold n =
+      (f : Formula) → occurrences f < n → is_state f ≡ true → (i : ℕ) (sign : Bool) (s : ℕ) (low : s < (B.m).states)
       → (a : Known B (Holding i f sign))
       → Told B s a.number sign (HoldsAt B.m f s)
 
@@ -405,7 +406,8 @@ module _ (B : Board) where
     decided = decided_test c;
   }
   states_told (suc n) (plain.Prop p) small state i sign s low a = record {
-    won = both_ways (signed_test (lists B.m s p) sign) (literal_holds B (Holding i (plain.Prop p) sign) p sign s low a refl);
+    won =
+        both_ways (signed_test (lists B.m s p) sign) (literal_holds B (Holding i (plain.Prop p) sign) p sign s low a refl);
     decided = decided_test (lists B.m s p);
   }
   states_told (suc n) (plain.Not f) small state i sign s low a =
@@ -475,7 +477,8 @@ module _ (B : Board) (total : Known B Total) where
                   to = record {
                     s = edge.0;
                     low = (step_states B.m B.is_structure x.s edge.0 edge.1).1;
-                    from = won_behind (vertices.game B) Odd choice (at B x.s (c.right).number) (at B edge.0 total.number) goes wins;
+                    from =
+                        won_behind (vertices.game B) Odd choice (at B x.s (c.right).number) (at B edge.0 total.number) goes wins;
                   };
                   stretch = record {
                     lowest = min 0 2;

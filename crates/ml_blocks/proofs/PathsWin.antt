@@ -248,7 +248,8 @@ module _ (B : Board) (first : Item) (b : Bool) (l : Lasso) (is_path : IsPath B.m
                 stepped [] (subst (λ r. Takes r []) (sym e) refl) (λ y none. absurd none)
                 (λ zs ws other. absurd (let wrong = sym e ∙ other in cc)) c.right goes
         by_row Waits e = absurd (false≢true (sym (open_now x found.1).1 ∙ ap is_wait e))
-        by_row (Becomes ys) e = go (own_branch B foe choice is_strategy s a.number (vertex_is B s (state_low p place) a) _ _ c)
+        by_row (Becomes ys) e =
+            go (own_branch B foe choice is_strategy s a.number (vertex_is B s (state_low p place) a) _ _ c)
           where
             c : Branches B foe s a.number (block.after first b xs k x ys) (block.after first b xs k x ys)
             c = becomes first b B s xs k x is a ys e

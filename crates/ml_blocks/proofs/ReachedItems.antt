@@ -222,18 +222,28 @@ module _ (B : Board) (first : Item) (b : Bool) where
   -- the operand of F and G, and the operands of U, R and W
   tense_operand : (t : plain.Tense) (i : ℕ) (f : Formula) (c : Bool) → At i (plain.Temporal t f) c → At (i + 1) f c
   tense_operand plain.Next i f c r = next_reached (now i (plain.Temporal plain.Next f) c) r refl refl
-  tense_operand plain.Finally i f true r = by_way i (plain.Temporal plain.Finally f) true r _ (inl refl) (now (i + 1) f true) (inl refl)
-  tense_operand plain.Finally i f false r = by_way i (plain.Temporal plain.Finally f) false r _ refl (now (i + 1) f false) (inl refl)
-  tense_operand plain.Globally i f true r = by_way i (plain.Temporal plain.Globally f) true r _ refl (now (i + 1) f true) (inl refl)
-  tense_operand plain.Globally i f false r = by_way i (plain.Temporal plain.Globally f) false r _ (inl refl) (now (i + 1) f false) (inl refl)
+  tense_operand plain.Finally i f true r =
+      by_way i (plain.Temporal plain.Finally f) true r _ (inl refl) (now (i + 1) f true) (inl refl)
+  tense_operand plain.Finally i f false r =
+      by_way i (plain.Temporal plain.Finally f) false r _ refl (now (i + 1) f false) (inl refl)
+  tense_operand plain.Globally i f true r =
+      by_way i (plain.Temporal plain.Globally f) true r _ refl (now (i + 1) f true) (inl refl)
+  tense_operand plain.Globally i f false r =
+      by_way i (plain.Temporal plain.Globally f) false r _ (inl refl) (now (i + 1) f false) (inl refl)
 
   left_operand : (p : plain.Pairing) (i : ℕ) (f g : Formula) (c : Bool) → At i (plain.Paired p f g) c → At (i + 1) f c
-  left_operand plain.Until i f g true r = by_way i (plain.Paired plain.Until f g) true r _ (inr refl) (now (i + 1) f true) (inl refl)
-  left_operand plain.Until i f g false r = by_way i (plain.Paired plain.Until f g) false r _ (inl refl) (now (i + 1) f false) (inr (inl refl))
-  left_operand plain.Weak i f g true r = by_way i (plain.Paired plain.Weak f g) true r _ (inr refl) (now (i + 1) f true) (inl refl)
-  left_operand plain.Weak i f g false r = by_way i (plain.Paired plain.Weak f g) false r _ (inl refl) (now (i + 1) f false) (inr (inl refl))
-  left_operand plain.Release i f g true r = by_way i (plain.Paired plain.Release f g) true r _ (inl refl) (now (i + 1) f true) (inr (inl refl))
-  left_operand plain.Release i f g false r = by_way i (plain.Paired plain.Release f g) false r _ (inr refl) (now (i + 1) f false) (inl refl)
+  left_operand plain.Until i f g true r =
+      by_way i (plain.Paired plain.Until f g) true r _ (inr refl) (now (i + 1) f true) (inl refl)
+  left_operand plain.Until i f g false r =
+      by_way i (plain.Paired plain.Until f g) false r _ (inl refl) (now (i + 1) f false) (inr (inl refl))
+  left_operand plain.Weak i f g true r =
+      by_way i (plain.Paired plain.Weak f g) true r _ (inr refl) (now (i + 1) f true) (inl refl)
+  left_operand plain.Weak i f g false r =
+      by_way i (plain.Paired plain.Weak f g) false r _ (inl refl) (now (i + 1) f false) (inr (inl refl))
+  left_operand plain.Release i f g true r =
+      by_way i (plain.Paired plain.Release f g) true r _ (inl refl) (now (i + 1) f true) (inr (inl refl))
+  left_operand plain.Release i f g false r =
+      by_way i (plain.Paired plain.Release f g) false r _ (inr refl) (now (i + 1) f false) (inl refl)
 
   right_operand : (p : plain.Pairing) (i : ℕ) (f g : Formula) (c : Bool)
       → At i (plain.Paired p f g) c
@@ -292,7 +302,8 @@ module _ (B : Board) (first : Item) (b : Bool) where
     iff_right true true r = by_way i (plain.Binary operator.Iff f g) true r _ (inl refl) (now R3 g true) (inr (inl refl))
     iff_right true false r = by_way i (plain.Binary operator.Iff f g) true r _ (inr refl) (now R3 g false) (inr (inl refl))
     iff_right false true r = by_way i (plain.Binary operator.Iff f g) false r _ (inr refl) (now R3 g true) (inr (inl refl))
-    iff_right false false r = by_way i (plain.Binary operator.Iff f g) false r _ (inl refl) (now R3 g false) (inr (inl refl))
+    iff_right false false r =
+        by_way i (plain.Binary operator.Iff f g) false r _ (inl refl) (now R3 g false) (inr (inl refl))
 
   pub within_reached : (i : ℕ) (f : Formula) (c : Bool)
       → At i f c

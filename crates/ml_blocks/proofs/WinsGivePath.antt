@@ -98,13 +98,17 @@ module _ (B : Board) (first : Item) (b : Bool) (choice : ℕ → ℕ)
       by_test : (ltb (suc k) (length l.entries) ≡ true) ⊎ (ltb (suc k) (length l.entries) ≡ false)
           → next_place l k ≡ suc k
       by_test (inl t) = cond-true (ltb (suc k) (length l.entries)) (suc k) i t
-      by_test (inr f) = let past = ltb-false (suc k) (length l.entries) f in let is = many in absurd (omega (arith, past, is, room))
+      by_test (inr f) =
+          let past = ltb-false (suc k) (length l.entries) f in
+          let is = many in absurd (omega (arith, past, is, room))
 
   next_round : (k : ℕ) → suc k ≡ j → next_place l k ≡ i
   next_round k full = by_test (cases_Bool (ltb (suc k) (length l.entries)))
     where
       by_test : (ltb (suc k) (length l.entries) ≡ true) ⊎ (ltb (suc k) (length l.entries) ≡ false) → next_place l k ≡ i
-      by_test (inl t) = let under = ltb-true (suc k) (length l.entries) t in let is = many in absurd (omega (arith, under, is, full))
+      by_test (inl t) =
+          let under = ltb-true (suc k) (length l.entries) t in
+          let is = many in absurd (omega (arith, under, is, full))
       by_test (inr f) = cond-false (ltb (suc k) (length l.entries)) (suc k) i f
 
   next_low : (k : ℕ) → k < j → next_place l k < j
