@@ -29,8 +29,10 @@ use Rattle.ml_ctl.specs.Meaning.{HoldsAt, TruthAt}
 use Rattle.ml_ctl.specs.Paths.{IsPathFrom}
 use Rattle.ml_ctl.specs.Problem.{IsAdmitted}
 use Rattle.ml_ctl.proofs.StepByStep.{both_ways}
-use Rattle.ml_blocks.specs.Agreement.{Agrees, GraphsAgree, LinearGraphsAgree}
-use Rattle.ml_blocks.specs.BlockGraph.{IsGraphAt}
+use Rattle.ml_ctl.specs.Problem as problem
+use Rattle.ml_ltl.specs.Problem as ltl
+use Rattle.ml_blocks.specs.Agreement.{Agrees, AgreesWith, HoldsWhere, GraphsAgree, GraphsHold, LinearGraphsAgree, LinearGraphsHold}
+use Rattle.ml_blocks.specs.BlockGraph.{IsGraphAt, start_of, linear_start_of}
 use Rattle.ml_blocks.specs.Items.{now}
 use Rattle.ml_blocks.specs.Laws.{signed}
 use Rattle.ml_blocks.specs.Places.{Place, Root, Total, HasEdge, LeadsOn, True, Holding, Both, Neither, Constant, Literal, And, Or, Diamond, form_of, block_of}
@@ -64,7 +66,11 @@ module _ (B : Board) where
     pub to : Known B q
     pub holds : Holds s n ↔ Holds s to.number
 
-  and_holds : (p l r : Place) (s : ℕ) → s < (B.m).states → (a : Known B p) → form_of p ≡ And l r → AndHolds s a.number l r
+  and_holds : (p l r : Place) (s : ℕ)
+      → s < (B.m).states
+      → (a : Known B p)
+      → form_of p ≡ And l r
+      → AndHolds s a.number l r
   and_holds p l r s low a e =
       let h = form_as B a (And l r) e in
       record {
@@ -82,7 +88,11 @@ module _ (B : Board) where
         holds = holds_as B s a.number low (number_low B a) (node.Or h.0 h.1) h.4;
       }
 
-  leads_holds : (p q : Place) (s : ℕ) → s < (B.m).states → (a : Known B p) → form_of p ≡ And q q → LeadsHolds s a.number q
+  leads_holds : (p q : Place) (s : ℕ)
+      → s < (B.m).states
+      → (a : Known B p)
+      → form_of p ≡ And q q
+      → LeadsHolds s a.number q
   leads_holds p q s low a e =
       let h = and_holds p q q s low a e in
       let one = same_number B h.left h.right in
@@ -94,7 +104,11 @@ module _ (B : Board) where
         );
       }
 
-  constant_holds : (p : Place) (c : Bool) (s : ℕ) → s < (B.m).states → (a : Known B p) → form_of p ≡ Constant c → (c ≡ true) ↔ Holds s a.number
+  constant_holds : (p : Place) (c : Bool) (s : ℕ)
+      → s < (B.m).states
+      → (a : Known B p)
+      → form_of p ≡ Constant c
+      → (c ≡ true) ↔ Holds s a.number
   constant_holds p true s low a e =
       let one = holds_as B s a.number low (number_low B a) node.True (form_as B a (Constant true) e) in
       ((λ t. one.1 tt), (λ w. refl))
@@ -140,7 +154,8 @@ not_not {P = P} d = (
 
 -- ---- blocks
 
-told_block : (B : Board) (i : ℕ) (f : Formula) (c b : Bool) (told : ItemsTold B (now i f c) b) (s : ℕ) (low : s < (B.m).states)
+told_block : (B : Board) (i : ℕ) (f : Formula) (c b : Bool) (told : ItemsTold B (now i f c) b) (s : ℕ)
+    (low : s < (B.m).states)
     → (a : Known B (block_of (now i f c) b))
     → Told B s a.number b (SomeFrom B (now i f c) s)
 told_block B i f c true told s low a = from (block_told B i f c true told s low a)
@@ -205,11 +220,16 @@ stands_smaller i _ j g (behind p _ f h _ _ s) = let r = stands_smaller (i + 1 + 
 
 module _ (B : Board) where
   abbrev StatesTold : ℕ → Type 0
-  StatesTold n = (f : Formula) → occurrences f < n → is_state f ≡ true → (i : ℕ) (sign : Bool) (s : ℕ) (low : s < (B.m).states)
+  StatesTold n =
+      (f : Formula) → occurrences f < n → is_state f ≡ true → (i : ℕ) (sign : Bool) (s : ℕ) (low : s < (B.m).states)
       → (a : Known B (Holding i f sign))
       → Told B s a.number sign (HoldsAt B.m f s)
 
-  items_told : (n : ℕ) → StatesTold n → (i : ℕ) (f : Formula) (c b : Bool) → occurrences f < n → ItemsTold B (now i f c) b
+  items_told : (n : ℕ)
+      → StatesTold n
+      → (i : ℕ) (f : Formula) (c b : Bool)
+      → occurrences f < n
+      → ItemsTold B (now i f c) b
   items_told n told i f c b small s low x of e h =
       let stands = (within_stands i f c _ of).stands in
       let less = stands_smaller i f x.number x.formula stands in
@@ -326,7 +346,12 @@ module _ (B : Board) where
             decided = decided_both (decided_implies d.0 d.1) (decided_implies d.1 d.0);
           }
 
-  not_told : (n : ℕ) → StatesTold n → (f : Formula) → is_state f ≡ true → occurrences f < n → (i : ℕ) (sign : Bool) (s : ℕ)
+  not_told : (n : ℕ)
+      → StatesTold n
+      → (f : Formula)
+      → is_state f ≡ true
+      → occurrences f < n
+      → (i : ℕ) (sign : Bool) (s : ℕ)
       (low : s < (B.m).states)
       → (a : Known B (Holding i (plain.Not f) sign))
       → Told B s a.number sign (HoldsAt B.m f s → ⊥)
@@ -339,7 +364,11 @@ module _ (B : Board) where
       let t = told f small state (i + 1) true s low h.to in
       record { won = both_ways (not_not t.decided) (both_ways t.won (back h.holds)); decided = decided_not t.decided }
 
-  quantified_told : (n : ℕ) → StatesTold n → (q : plain.Quantifier) (f : Formula) → occurrences f < n → (i : ℕ) (sign : Bool) (s : ℕ)
+  quantified_told : (n : ℕ)
+      → StatesTold n
+      → (q : plain.Quantifier) (f : Formula)
+      → occurrences f < n
+      → (i : ℕ) (sign : Bool) (s : ℕ)
       (low : s < (B.m).states)
       → (a : Known B (Holding i (plain.Quantified q f) sign))
       → Told B s a.number sign (HoldsAt B.m (plain.Quantified q f) s)
@@ -377,7 +406,8 @@ module _ (B : Board) where
     decided = decided_test c;
   }
   states_told (suc n) (plain.Prop p) small state i sign s low a = record {
-    won = both_ways (signed_test (lists B.m s p) sign) (literal_holds B (Holding i (plain.Prop p) sign) p sign s low a refl);
+    won =
+        both_ways (signed_test (lists B.m s p) sign) (literal_holds B (Holding i (plain.Prop p) sign) p sign s low a refl);
     decided = decided_test (lists B.m s p);
   }
   states_told (suc n) (plain.Not f) small state i sign s low a =
@@ -447,7 +477,8 @@ module _ (B : Board) (total : Known B Total) where
                   to = record {
                     s = edge.0;
                     low = (step_states B.m B.is_structure x.s edge.0 edge.1).1;
-                    from = won_behind (vertices.game B) Odd choice (at B x.s (c.right).number) (at B edge.0 total.number) goes wins;
+                    from =
+                        won_behind (vertices.game B) Odd choice (at B x.s (c.right).number) (at B edge.0 total.number) goes wins;
                   };
                   stretch = record {
                     lowest = min 0 2;
@@ -568,3 +599,29 @@ path_agrees g m f c is ok s low =
 pub linear_graphs_agree : LinearGraphsAgree
 linear_graphs_agree f true g is m ok s low = path_agrees g m f false is ok s low
 linear_graphs_agree f false g is m ok s low = path_agrees g m f true is ok s low
+
+-- ---- exactly where
+
+exactly : (g : Graph) (start : Place) (P : Structure → ℕ → Type 0)
+    → IsGraphAt g start
+    → AgreesWith g P
+    → HoldsWhere g P
+exactly g start P is agree m ok s low = from (agree m ok s low)
+  where
+    from : Agrees g m s (P m s) → game.Holds g m s ↔ P m s
+    from (inl (holds, even)) = ((λ w. holds), (λ p. even))
+    from (inr (fails, odd)) = (
+      (λ w. absurd (never_both (board g m start is ok) s g.root low
+          (number_low (board g m start is ok) (root_known g m start is ok)) w odd)),
+      (λ p. absurd (fails p)),
+    )
+
+pub graphs_hold : GraphsHold
+graphs_hold f negated g state is =
+    exactly g (start_of f negated) (λ m s. problem.HoldsAt m s (record { formula = f; negated = negated })) is
+    (graphs_agree f negated g state is)
+
+pub linear_graphs_hold : LinearGraphsHold
+linear_graphs_hold f negated g is =
+    exactly g (linear_start_of f negated) (λ m s. ltl.HoldsAt m s (record { formula = f; negated = negated })) is
+    (linear_graphs_agree f negated g is)

@@ -43,7 +43,8 @@ abbrev pub off : Bool → ℕ
 off b = cond b 0 1
 
 module _ (first : Item) (b : Bool) where
-  pub path_is : (ws : List Item) (j : ℕ) (xs : List Item) (k : ℕ) → path_of (block first b ws j) xs k ≡ path first b xs k
+  pub path_is : (ws : List Item) (j : ℕ) (xs : List Item) (k : ℕ)
+      → path_of (block first b ws j) xs k ≡ path first b xs k
   path_is ws j [] k = is_constant b
     where
       is_constant : (c : Bool) → cond c True False ≡ constant c

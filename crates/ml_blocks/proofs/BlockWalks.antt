@@ -61,7 +61,9 @@ items_is first true [] k = refl
 items_is first false [] k = refl
 items_is first b (x ∷ xs) k = refl
 
-focus_is : (first : Item) (b : Bool) (xs : List Item) (k : ℕ) (y : Item) → IsMember y xs → focus_of (path first b xs k) ≡ k
+focus_is : (first : Item) (b : Bool) (xs : List Item) (k : ℕ) (y : Item)
+    → IsMember y xs
+    → focus_of (path first b xs k) ≡ k
 unfolding focus_of
 focus_is first b [] k y none = absurd none
 focus_is first b (x ∷ xs) k y m = refl

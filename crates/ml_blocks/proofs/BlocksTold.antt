@@ -256,7 +256,8 @@ module _ (B : Board) (i : ℕ) (f : Formula) (c b : Bool) (told : ItemsTold B (n
               of = of_first;
               all_now = now_first;
               asks = λ y m. subst (λ z. Asks B.m l z 0) (sym (alone y m)) asks;
-              from = subst (λ t. WinsFrom (vertices.game B) (opponent (player_of b)) win.strategy (at B t a.number)) (sym is_from.starts_at) win.wins;
+              from =
+                  subst (λ t. WinsFrom (vertices.game B) (opponent (player_of b)) win.strategy (at B t a.number)) (sym is_from.starts_at) win.wins;
               low = λ more. more;
             })
 

@@ -99,12 +99,16 @@ module _ (y : Item) (i : ℕ) (f g : Formula) where
   abbrev All4 : ℕ → ℕ → List Item
   All4 l r = (items_within l f true ++ items_within l f false) ++ (items_within r g true ++ items_within r g false)
 
-  left_pair : (l r : ℕ) → IsMember (due y) (items_within l f true ++ items_within l f false) → IsMember (due y) (All4 l r)
+  left_pair : (l r : ℕ)
+      → IsMember (due y) (items_within l f true ++ items_within l f false)
+      → IsMember (due y) (All4 l r)
   left_pair l r m =
       member-append_left (due y) (items_within l f true ++ items_within l f false)
       (items_within r g true ++ items_within r g false) m
 
-  right_pair : (l r : ℕ) → IsMember (due y) (items_within r g true ++ items_within r g false) → IsMember (due y) (All4 l r)
+  right_pair : (l r : ℕ)
+      → IsMember (due y) (items_within r g true ++ items_within r g false)
+      → IsMember (due y) (All4 l r)
   right_pair l r m =
       member-append_right (due y) (items_within l f true ++ items_within l f false)
       (items_within r g true ++ items_within r g false) m

@@ -97,7 +97,8 @@ stands_alone i _ j g e (here _ _ _ _ at is) (at_left op _ f h _ _ t) =
 stands_alone i _ j g e (here _ _ _ _ at is) (at_right op _ f h _ _ t) =
     let some = some_weight op in later_only i (i + weight op + occurrences f) j h e at (omega (arith, some)) t
 stands_alone i _ j g e (here _ _ _ _ at is) (before p _ f h _ _ t) = later_only i (i + 1) j f e at (omega arith) t
-stands_alone i _ j g e (here _ _ _ _ at is) (behind p _ f h _ _ t) = later_only i (i + 1 + occurrences f) j h e at (omega arith) t
+stands_alone i _ j g e (here _ _ _ _ at is) (behind p _ f h _ _ t) =
+    later_only i (i + 1 + occurrences f) j h e at (omega arith) t
 stands_alone i _ j g e (under_not _ f _ _ s) (here _ _ _ _ at is) = later_only i (i + 1) j f g at (omega arith) s
 stands_alone i _ j g e (under_tense q _ f _ _ s) (here _ _ _ _ at is) = later_only i (i + 1) j f g at (omega arith) s
 stands_alone i _ j g e (at_left op _ f h _ _ s) (here _ _ _ _ at is) =
@@ -105,7 +106,8 @@ stands_alone i _ j g e (at_left op _ f h _ _ s) (here _ _ _ _ at is) =
 stands_alone i _ j g e (at_right op _ f h _ _ s) (here _ _ _ _ at is) =
     let some = some_weight op in later_only i (i + weight op + occurrences f) j h g at (omega (arith, some)) s
 stands_alone i _ j g e (before p _ f h _ _ s) (here _ _ _ _ at is) = later_only i (i + 1) j f g at (omega arith) s
-stands_alone i _ j g e (behind p _ f h _ _ s) (here _ _ _ _ at is) = later_only i (i + 1 + occurrences f) j h g at (omega arith) s
+stands_alone i _ j g e (behind p _ f h _ _ s) (here _ _ _ _ at is) =
+    later_only i (i + 1 + occurrences f) j h g at (omega arith) s
 stands_alone i _ j g e (under_not _ f _ _ s) (under_not _ _ _ _ t) = stands_alone (i + 1) f j g e s t
 stands_alone i _ j g e (under_tense q _ f _ _ s) (under_tense _ _ _ _ _ t) = stands_alone (i + 1) f j g e s t
 stands_alone i _ j g e (at_left op _ f h _ _ s) (at_left _ _ _ _ _ _ t) = stands_alone (i + weight op) f j g e s t
@@ -128,7 +130,11 @@ at_head : (i : ℕ) (f : Formula) (b : Bool) (x : Item) → x ≡ now i f b → 
 at_head i f b x e = subst (IsOccurrence i f) (sym e) (record { stands = here i f i f refl refl; is_now = refl })
 
 -- in one of two lists
-two_parts : {A : Type 0} (x : Item) (xs ys : List Item) → (IsMember x xs → A) → (IsMember x ys → A) → IsMember x (xs ++ ys) → A
+two_parts : {A : Type 0} (x : Item) (xs ys : List Item)
+    → (IsMember x xs → A)
+    → (IsMember x ys → A)
+    → IsMember x (xs ++ ys)
+    → A
 two_parts {A = A} x xs ys a b m = from (member-append x xs ys m)
   where
     from : IsMember x xs ⊎ IsMember x ys → A
@@ -136,7 +142,9 @@ two_parts {A = A} x xs ys a b m = from (member-append x xs ys m)
     from (inr i) = b i
 
 module _ (x : Item) where
-  from_left : (op : Operator) (i : ℕ) (f h : Formula) → IsOccurrence (i + weight op) f x → IsOccurrence i (plain.Binary op f h) x
+  from_left : (op : Operator) (i : ℕ) (f h : Formula)
+      → IsOccurrence (i + weight op) f x
+      → IsOccurrence i (plain.Binary op f h) x
   from_left op i f h o = record { stands = at_left op i f h x.number x.formula o.stands; is_now = o.is_now }
 
   from_right : (op : Operator) (i : ℕ) (f h : Formula)

@@ -42,3 +42,5 @@ pub mod ReachedItems
 pub mod BlocksTold
 -- graphs agree with problems
 pub mod Agreement
+-- a graph worked out by hand
+mod WorkedGraph

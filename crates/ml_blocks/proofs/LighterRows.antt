@@ -34,7 +34,11 @@ nothing f ys e = let is = ap load e in let some = some_symbol f in omega (arith,
 one_now : (h : Formula) (ys zs : List Item) → ys ≡ zs → load zs < occurrences h → Light h ys
 one_now h ys zs e low = let is = ap load e in omega (arith, is, low)
 
-one_of_two : (h : Formula) (ys zs ws : List Item) → (ys ≡ zs) ⊎ (ys ≡ ws) → load zs < occurrences h → load ws < occurrences h → Light h ys
+one_of_two : (h : Formula) (ys zs ws : List Item)
+    → (ys ≡ zs) ⊎ (ys ≡ ws)
+    → load zs < occurrences h
+    → load ws < occurrences h
+    → Light h ys
 one_of_two h ys zs ws (inl e) low other = one_now h ys zs e low
 one_of_two h ys zs ws (inr e) low other = one_now h ys ws e other
 

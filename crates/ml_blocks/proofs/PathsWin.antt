@@ -127,7 +127,10 @@ other_off : (b : Bool) → 1 + off b ≡ other b
 other_off true = refl
 other_off false = refl
 
-pub focus_low : (ms : List ℕ) (k : ℕ) (xs : List Item) → (0 < length ms → k < length ms) → 0 < length ms → focus_behind ms k xs < length ms
+pub focus_low : (ms : List ℕ) (k : ℕ) (xs : List Item)
+    → (0 < length ms → k < length ms)
+    → 0 < length ms
+    → focus_behind ms k xs < length ms
 focus_low [] k xs low some = absurd (omega (arith, some))
 focus_low (e ∷ es) k xs low some =
     ⊎_elim
@@ -245,7 +248,8 @@ module _ (B : Board) (first : Item) (b : Bool) (l : Lasso) (is_path : IsPath B.m
                 stepped [] (subst (λ r. Takes r []) (sym e) refl) (λ y none. absurd none)
                 (λ zs ws other. absurd (let wrong = sym e ∙ other in cc)) c.right goes
         by_row Waits e = absurd (false≢true (sym (open_now x found.1).1 ∙ ap is_wait e))
-        by_row (Becomes ys) e = go (own_branch B foe choice is_strategy s a.number (vertex_is B s (state_low p place) a) _ _ c)
+        by_row (Becomes ys) e =
+            go (own_branch B foe choice is_strategy s a.number (vertex_is B s (state_low p place) a) _ _ c)
           where
             c : Branches B foe s a.number (block.after first b xs k x ys) (block.after first b xs k x ys)
             c = becomes first b B s xs k x is a ys e
@@ -479,7 +483,8 @@ module _ (B : Board) (first : Item) (b : Bool) (l : Lasso) (is_path : IsPath B.m
   left_is_of x t = left_of first (Good x.p x.place) x.xs t.left x.of t.run
 
   -- the eventuality in focus stands in the next block
-  next_has : (x : Situation) (t : BigStep x) (o : OnFocus (eventualities first) x.k t.left) → IsMember (due o.item) (t.to).xs
+  next_has : (x : Situation) (t : BigStep x) (o : OnFocus (eventualities first) x.k t.left)
+      → IsMember (due o.item) (t.to).xs
   next_has x t o =
       subst (IsMember (due o.item)) (sym t.xs_is)
       (subst (λ z. IsMember z (next_items t.left)) (next_later o.item o.later)

@@ -234,7 +234,8 @@ module _ (B : Board) (p : Player) (choice : ℕ → ℕ) (is_strategy : IsStrate
   module _ (s n : ℕ) (is : IsVertex B.g B.m (Pair s n)) where
     pub own_branch : (l r : Place) (c : Branches B p s n l r)
         → Goes (at B s n) (at B s (c.left).number) ⊎ Goes (at B s n) (at B s (c.right).number)
-    own_branch l r c = let mine = own_move (Pair s n) is c.owner in from mine.0 mine.2 (subst (IsMember mine.0) c.leads mine.1)
+    own_branch l r c =
+        let mine = own_move (Pair s n) is c.owner in from mine.0 mine.2 (subst (IsMember mine.0) c.leads mine.1)
       where
         from : (w : Vertex)
             → Goes (at B s n) (num w)

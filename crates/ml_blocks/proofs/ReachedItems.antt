@@ -105,7 +105,10 @@ module _ (B : Board) (first : Item) (b : Bool) where
   moves (Becomes zs) ys e = refl
   moves (Either zs ws) ys e = refl
 
-  at_first : (x : Item) (t : Reached x) → is_open x ≡ true → (first_open t.xs ≡ None) ⊎ (first_open t.xs ≡ Some x) → first_open t.xs ≡ Some x
+  at_first : (x : Item) (t : Reached x)
+      → is_open x ≡ true
+      → (first_open t.xs ≡ None) ⊎ (first_open t.xs ≡ Some x)
+      → first_open t.xs ≡ Some x
   at_first x t opens (inl none) = absurd (false≢true (sym (none_open t.xs none x t.member) ∙ opens))
   at_first x t opens (inr is) = is
 
@@ -205,7 +208,11 @@ module _ (B : Board) (first : Item) (b : Bool) where
       → Reached y
   by_way i f c t ys takes y m = way_reached (now i f c) t refl ys takes y m
 
-  in_both : (x : Item) (ys zs : List Item) → (IsMember x ys → Reached x) → (IsMember x zs → Reached x) → IsMember x (ys ++ zs) → Reached x
+  in_both : (x : Item) (ys zs : List Item)
+      → (IsMember x ys → Reached x)
+      → (IsMember x zs → Reached x)
+      → IsMember x (ys ++ zs)
+      → Reached x
   in_both x ys zs left right m =
       ⊎_elim (λ (i : IsMember x ys). left i) (λ (i : IsMember x zs). right i) (member-append x ys zs m)
 
@@ -215,18 +222,28 @@ module _ (B : Board) (first : Item) (b : Bool) where
   -- the operand of F and G, and the operands of U, R and W
   tense_operand : (t : plain.Tense) (i : ℕ) (f : Formula) (c : Bool) → At i (plain.Temporal t f) c → At (i + 1) f c
   tense_operand plain.Next i f c r = next_reached (now i (plain.Temporal plain.Next f) c) r refl refl
-  tense_operand plain.Finally i f true r = by_way i (plain.Temporal plain.Finally f) true r _ (inl refl) (now (i + 1) f true) (inl refl)
-  tense_operand plain.Finally i f false r = by_way i (plain.Temporal plain.Finally f) false r _ refl (now (i + 1) f false) (inl refl)
-  tense_operand plain.Globally i f true r = by_way i (plain.Temporal plain.Globally f) true r _ refl (now (i + 1) f true) (inl refl)
-  tense_operand plain.Globally i f false r = by_way i (plain.Temporal plain.Globally f) false r _ (inl refl) (now (i + 1) f false) (inl refl)
+  tense_operand plain.Finally i f true r =
+      by_way i (plain.Temporal plain.Finally f) true r _ (inl refl) (now (i + 1) f true) (inl refl)
+  tense_operand plain.Finally i f false r =
+      by_way i (plain.Temporal plain.Finally f) false r _ refl (now (i + 1) f false) (inl refl)
+  tense_operand plain.Globally i f true r =
+      by_way i (plain.Temporal plain.Globally f) true r _ refl (now (i + 1) f true) (inl refl)
+  tense_operand plain.Globally i f false r =
+      by_way i (plain.Temporal plain.Globally f) false r _ (inl refl) (now (i + 1) f false) (inl refl)
 
   left_operand : (p : plain.Pairing) (i : ℕ) (f g : Formula) (c : Bool) → At i (plain.Paired p f g) c → At (i + 1) f c
-  left_operand plain.Until i f g true r = by_way i (plain.Paired plain.Until f g) true r _ (inr refl) (now (i + 1) f true) (inl refl)
-  left_operand plain.Until i f g false r = by_way i (plain.Paired plain.Until f g) false r _ (inl refl) (now (i + 1) f false) (inr (inl refl))
-  left_operand plain.Weak i f g true r = by_way i (plain.Paired plain.Weak f g) true r _ (inr refl) (now (i + 1) f true) (inl refl)
-  left_operand plain.Weak i f g false r = by_way i (plain.Paired plain.Weak f g) false r _ (inl refl) (now (i + 1) f false) (inr (inl refl))
-  left_operand plain.Release i f g true r = by_way i (plain.Paired plain.Release f g) true r _ (inl refl) (now (i + 1) f true) (inr (inl refl))
-  left_operand plain.Release i f g false r = by_way i (plain.Paired plain.Release f g) false r _ (inr refl) (now (i + 1) f false) (inl refl)
+  left_operand plain.Until i f g true r =
+      by_way i (plain.Paired plain.Until f g) true r _ (inr refl) (now (i + 1) f true) (inl refl)
+  left_operand plain.Until i f g false r =
+      by_way i (plain.Paired plain.Until f g) false r _ (inl refl) (now (i + 1) f false) (inr (inl refl))
+  left_operand plain.Weak i f g true r =
+      by_way i (plain.Paired plain.Weak f g) true r _ (inr refl) (now (i + 1) f true) (inl refl)
+  left_operand plain.Weak i f g false r =
+      by_way i (plain.Paired plain.Weak f g) false r _ (inl refl) (now (i + 1) f false) (inr (inl refl))
+  left_operand plain.Release i f g true r =
+      by_way i (plain.Paired plain.Release f g) true r _ (inl refl) (now (i + 1) f true) (inr (inl refl))
+  left_operand plain.Release i f g false r =
+      by_way i (plain.Paired plain.Release f g) false r _ (inr refl) (now (i + 1) f false) (inl refl)
 
   right_operand : (p : plain.Pairing) (i : ℕ) (f g : Formula) (c : Bool)
       → At i (plain.Paired p f g) c
@@ -285,9 +302,14 @@ module _ (B : Board) (first : Item) (b : Bool) where
     iff_right true true r = by_way i (plain.Binary operator.Iff f g) true r _ (inl refl) (now R3 g true) (inr (inl refl))
     iff_right true false r = by_way i (plain.Binary operator.Iff f g) true r _ (inr refl) (now R3 g false) (inr (inl refl))
     iff_right false true r = by_way i (plain.Binary operator.Iff f g) false r _ (inr refl) (now R3 g true) (inr (inl refl))
-    iff_right false false r = by_way i (plain.Binary operator.Iff f g) false r _ (inl refl) (now R3 g false) (inr (inl refl))
+    iff_right false false r =
+        by_way i (plain.Binary operator.Iff f g) false r _ (inl refl) (now R3 g false) (inr (inl refl))
 
-  pub within_reached : (i : ℕ) (f : Formula) (c : Bool) → At i f c → (x : Item) → IsMember x (items_within i f c) → Reached x
+  pub within_reached : (i : ℕ) (f : Formula) (c : Bool)
+      → At i f c
+      → (x : Item)
+      → IsMember x (items_within i f c)
+      → Reached x
   within_reached i (plain.Const d) c r x (inl e) = found x _ e r
   within_reached i (plain.Const d) c r x (inr none) = absurd none
   within_reached i (plain.Prop p) c r x (inl e) = found x _ e r

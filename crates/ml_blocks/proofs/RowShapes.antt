@@ -28,7 +28,8 @@ module _ (f : Formula) (x : Item) where
   none_at_all ys e y m = absurd (subst (IsMember y) e m)
 
   operand_alone : (i : ℕ) (g : Formula) (b : Bool) → occurrences g < occurrences f → Parts (now i g b ∷ [])
-  operand_alone i g b low y (inl e) = inl (ap (λ z. z.later) e, subst (λ z. occurrences z.formula < occurrences f) (sym e) low)
+  operand_alone i g b low y (inl e) =
+      inl (ap (λ z. z.later) e, subst (λ z. occurrences z.formula < occurrences f) (sym e) low)
   operand_alone i g b low y (inr none) = absurd none
 
   operand_and : (i : ℕ) (g : Formula) (b : Bool) (ys : List Item)

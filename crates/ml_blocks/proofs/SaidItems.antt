@@ -169,5 +169,10 @@ pub path_step : (m : Structure) (l : Lasso) → IsPath m l → (p : ℕ) → IsP
     → has_step m (entry l p) (entry l (next_place l p)) ≡ true
 path_step m l path p place = next_step (λ s t. has_step m s t ≡ true) l path p place.1
 
-pub path_states : (m : Structure) (l : Lasso) → IsStructure m → IsPath m l → (p : ℕ) → IsPlace l p → entry l p < m.states
+pub path_states : (m : Structure) (l : Lasso)
+    → IsStructure m
+    → IsPath m l
+    → (p : ℕ)
+    → IsPlace l p
+    → entry l p < m.states
 path_states m l ok path p place = (step_states m ok (entry l p) (entry l (next_place l p)) (path_step m l path p place)).0

@@ -95,15 +95,20 @@ module _ (B : Board) (first : Item) (b : Bool) (choice : ℕ → ℕ)
   next_in : (k : ℕ) → suc k < j → next_place l k ≡ suc k
   next_in k room = by_test (cases_Bool (ltb (suc k) (length l.entries)))
     where
-      by_test : (ltb (suc k) (length l.entries) ≡ true) ⊎ (ltb (suc k) (length l.entries) ≡ false) → next_place l k ≡ suc k
+      by_test : (ltb (suc k) (length l.entries) ≡ true) ⊎ (ltb (suc k) (length l.entries) ≡ false)
+          → next_place l k ≡ suc k
       by_test (inl t) = cond-true (ltb (suc k) (length l.entries)) (suc k) i t
-      by_test (inr f) = let past = ltb-false (suc k) (length l.entries) f in let is = many in absurd (omega (arith, past, is, room))
+      by_test (inr f) =
+          let past = ltb-false (suc k) (length l.entries) f in
+          let is = many in absurd (omega (arith, past, is, room))
 
   next_round : (k : ℕ) → suc k ≡ j → next_place l k ≡ i
   next_round k full = by_test (cases_Bool (ltb (suc k) (length l.entries)))
     where
       by_test : (ltb (suc k) (length l.entries) ≡ true) ⊎ (ltb (suc k) (length l.entries) ≡ false) → next_place l k ≡ i
-      by_test (inl t) = let under = ltb-true (suc k) (length l.entries) t in let is = many in absurd (omega (arith, under, is, full))
+      by_test (inl t) =
+          let under = ltb-true (suc k) (length l.entries) t in
+          let is = many in absurd (omega (arith, under, is, full))
       by_test (inr f) = cond-false (ltb (suc k) (length l.entries)) (suc k) i f
 
   next_low : (k : ℕ) → k < j → next_place l k < j
@@ -148,7 +153,10 @@ module _ (B : Board) (first : Item) (b : Bool) (choice : ℕ → ℕ)
   up_again : (k : ℕ) → k < j → (v : Item) → v.later ≡ false → IsMember (put_off v) (T k).left → Up (next_place l k) v
   up_again k low v now m = subst (Up (next_place l k)) (due_now v now) (next_up k low (put_off v) m)
 
-  becomes : (k : ℕ) (v : Item) → is_open v ≡ true → (up : Up k v) → Decomposed first (GoodAt k) (E k).xs (T k).left (T k).run v
+  becomes : (k : ℕ) (v : Item)
+      → is_open v ≡ true
+      → (up : Up k v)
+      → Decomposed first (GoodAt k) (E k).xs (T k).left (T k).run v
   becomes k v opens up = decomposed first (GoodAt k) (E k).xs (T k).left (E k).of (T k).run v opens up
 
   entry_is : (k : ℕ) → k < j → entry l k ≡ (E k).s

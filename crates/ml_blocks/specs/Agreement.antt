@@ -4,9 +4,11 @@
 -- too that it is decided where a problem holds.
 --
 --   Agrees g m s P      == P holds, and Even wins the root of g at s; or P fails, and Odd wins it
---   GraphsAgree         == of each problem of CTL*, plain and negated: its graph agrees with it
---   LinearGraphsAgree   == of each problem of LTL, plain and negated; its formula may have quantifiers here
-use Rattle.std.specs.Prelude.{ℕ, ◌≡◌, ◌<◌, ◌⊎◌, Bool, true}
+--   AgreesWith g P      == so it is at each state of each structure of which CTL* and LTL speak, of any number of states
+--   HoldsWhere g P      == there the graph holds exactly where P does
+--   GraphsAgree, GraphsHold == of each problem of CTL*, plain and negated: its graph agrees with it, and holds where it does
+--   LinearGraphsAgree, LinearGraphsHold == the same of each problem of LTL; its formula may have quantifiers here
+use Rattle.std.specs.Prelude.{ℕ, ◌≡◌, ◌<◌, ◌⊎◌, ◌↔◌, Bool, true}
 use Rattle.ml_base.specs.Structure.{Structure}
 use Rattle.ml_parity.specs.declared.players.Player.TheVariants.{Odd}
 use Rattle.ml_parity.specs.Winner.{Wins}
@@ -20,23 +22,34 @@ use Rattle.ml_blocks.specs.BlockGraph.{IsGraphAt, start_of, linear_start_of}
 abbrev pub Agrees : Graph → Structure → ℕ → Type 0 → Type 0
 Agrees g m s P = (P × Holds g m s) ⊎ ((P → ⊥) × Wins (checking_game g m) Odd (vertex_number g m (Pair s g.root)))
 
+abbrev pub AgreesWith : Graph → (Structure → ℕ → Type 0) → Type 0
+AgreesWith g P = (m : Structure) → IsAdmitted m → (s : ℕ) → s < m.states → Agrees g m s (P m s)
+
+abbrev pub HoldsWhere : Graph → (Structure → ℕ → Type 0) → Type 0
+HoldsWhere g P = (m : Structure) → IsAdmitted m → (s : ℕ) → s < m.states → Holds g m s ↔ P m s
+
 abbrev pub GraphsAgree : Type 0
 GraphsAgree =
     (f : Formula) (negated : Bool) (g : Graph)
     → is_state f ≡ true
     → IsGraphAt g (start_of f negated)
-    → (m : Structure)
-    → IsAdmitted m
-    → (s : ℕ)
-    → s < m.states
-    → Agrees g m s (HoldsAt m s (record { formula = f; negated = negated }))
+    → AgreesWith g (λ m s. HoldsAt m s (record { formula = f; negated = negated }))
+
+abbrev pub GraphsHold : Type 0
+GraphsHold =
+    (f : Formula) (negated : Bool) (g : Graph)
+    → is_state f ≡ true
+    → IsGraphAt g (start_of f negated)
+    → HoldsWhere g (λ m s. HoldsAt m s (record { formula = f; negated = negated }))
 
 abbrev pub LinearGraphsAgree : Type 0
 LinearGraphsAgree =
     (f : Formula) (negated : Bool) (g : Graph)
     → IsGraphAt g (linear_start_of f negated)
-    → (m : Structure)
-    → IsAdmitted m
-    → (s : ℕ)
-    → s < m.states
-    → Agrees g m s (ltl.HoldsAt m s (record { formula = f; negated = negated }))
+    → AgreesWith g (λ m s. ltl.HoldsAt m s (record { formula = f; negated = negated }))
+
+abbrev pub LinearGraphsHold : Type 0
+LinearGraphsHold =
+    (f : Formula) (negated : Bool) (g : Graph)
+    → IsGraphAt g (linear_start_of f negated)
+    → HoldsWhere g (λ m s. ltl.HoldsAt m s (record { formula = f; negated = negated }))

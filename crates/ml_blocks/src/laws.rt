@@ -1,5 +1,5 @@
 // What holds of items and their rows: the functions do nothing, their contracts are the theorems.
-ghost use Rattle.ml_blocks.specs.Agreement.{GraphsAgree, LinearGraphsAgree};
+ghost use Rattle.ml_blocks.specs.Agreement.{GraphsAgree, GraphsHold, LinearGraphsAgree, LinearGraphsHold};
 ghost use Rattle.ml_blocks.specs.Laws.{EventualitiesAreLeast, EventualitiesComeTrue, OthersAreGreatest, RowsSayTheSame, TruthIsDecided};
 
 /// Truth of a formula is decided at each place of a path along which its quantified formulas are; so that of a formula of
@@ -31,11 +31,14 @@ pub fn eventualities_come_true()
 /// problem holds, and Odd where it fails.
 ///
 /// `states`: problems of CTL*, with quantifiers nested in any way. `paths`: problems of LTL, of which a negated one asks for a
-/// path that satisfies the negation; this is said of formulas with quantifiers too.
+/// path that satisfies the negation; this is said of formulas with quantifiers too. `states_exactly`,
+/// `paths_exactly`: so the graph holds exactly where the problem does.
 ///
 /// Does nothing when called. Source: Emerson and Sistla (1984), for the logic; the proof goes by strategies along lassos and by
 /// lassos along strategies (`proofs/PathsWin`, `proofs/WinsGivePath`).
 pub fn graphs_agree()
     ensures states { GraphsAgree }
     ensures paths { LinearGraphsAgree }
+    ensures states_exactly { GraphsHold }
+    ensures paths_exactly { LinearGraphsHold }
 {}
