@@ -231,7 +231,8 @@ module _ (root : Place) (g h : Graph) (ps qs : List Place) (N : IsNumberedBy g r
           (0 ∷ rows_before (suc k) rows_h) (λ x none. absurd none) order_g order_h (
             at_root,
             paired_rows Same (suc k) rows_g rows_h
-                (let l = length-map g.nodes row_of in omega (arith, l, a)) (let l = length-map h.nodes row_of in omega (arith, l, b))
+                (let l = length-map g.nodes row_of in omega (arith, l, a))
+                (let l = length-map h.nodes row_of in omega (arith, l, b))
                 (row_pair (suc k) (omega (arith, a)) (omega (arith, b)) agree),
           )
           (inr (row_member (suc k) rows_g j (suc k) low (subst (λ x. IsMember x (get_or rows_g j [])) is m)))
