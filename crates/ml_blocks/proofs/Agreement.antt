@@ -180,7 +180,8 @@ told_block B i f c false told s low a = from (block_told B i f c false told s lo
     from (inr (none, win)) = record { won = ((λ n. win), (λ w. none)); decided = inr none }
 
 -- every path, where no path fails
-module _ (B : Board) (i : ℕ) (f : Formula) (b : Bool) (told : ItemsTold B (now i f false) b) (s : ℕ) (low : s < (B.m).states)
+module _ (B : Board) (i : ℕ) (f : Formula) (b : Bool) (told : ItemsTold B (now i f false) b) (s : ℕ)
+    (low : s < (B.m).states)
     (a : Known B (block_of (now i f false) b)) where
   abbrev All : Type 0
   All = (l : Lasso) → IsPathFrom B.m s l → TruthAt B.m l f 0
@@ -322,7 +323,8 @@ module _ (B : Board) where
             decided = decided_implies d.0 d.1;
           }
       connective_told operator.Iff true a =
-          let o = or_holds B (Holding i (plain.Binary operator.Iff f g) true) (Both (i + 1) f g true) (Neither (i + 2) f g true) s low a refl in
+          let o = or_holds B (Holding i (plain.Binary operator.Iff f g) true) (Both (i + 1) f g true)
+          (Neither (i + 2) f g true) s low a refl in
           let l = i + 1 + 2 in
           let k = i + 2 + 1 in
           let d = and_decided (Both (i + 1) f g true) l (l + occurrences f) true true o.left refl in
@@ -334,7 +336,8 @@ module _ (B : Board) where
             decided = decided_both (decided_implies d.0 d.1) (decided_implies d.1 d.0);
           }
       connective_told operator.Iff false a =
-          let o = or_holds B (Holding i (plain.Binary operator.Iff f g) false) (Both (i + 1) f g false) (Neither (i + 2) f g false) s low a refl in
+          let o = or_holds B (Holding i (plain.Binary operator.Iff f g) false) (Both (i + 1) f g false)
+          (Neither (i + 2) f g false) s low a refl in
           let l = i + 1 + 2 in
           let k = i + 2 + 1 in
           let d = and_decided (Both (i + 1) f g false) l (l + occurrences f) true false o.left refl in
@@ -373,11 +376,13 @@ module _ (B : Board) where
       → (a : Known B (Holding i (plain.Quantified q f) sign))
       → Told B s a.number sign (HoldsAt B.m (plain.Quantified q f) s)
   quantified_told n told plain.Exists f small i sign s low a =
-      let h = leads_holds B (Holding i (plain.Quantified plain.Exists f) sign) (block_of (now (i + 1) f true) sign) s low a refl in
+      let h = leads_holds B (Holding i (plain.Quantified plain.Exists f) sign)
+      (block_of (now (i + 1) f true) sign) s low a refl in
       let t = told_block B (i + 1) f true sign (items_told n told (i + 1) f true sign small) s low h.to in
       record { won = both_ways t.won (back h.holds); decided = t.decided }
   quantified_told n told plain.Forall f small i true s low a =
-      let h = leads_holds B (Holding i (plain.Quantified plain.Forall f) true) (block_of (now (i + 1) f false) false) s low a refl in
+      let h = leads_holds B (Holding i (plain.Quantified plain.Forall f) true)
+      (block_of (now (i + 1) f false) false) s low a refl in
       let its = items_told n told (i + 1) f false false small in
       let t = told_block B (i + 1) f false false its s low h.to in
       record {
@@ -387,7 +392,8 @@ module _ (B : Board) where
         decided = decided_every B (i + 1) f false its s low h.to t.decided;
       }
   quantified_told n told plain.Forall f small i false s low a =
-      let h = leads_holds B (Holding i (plain.Quantified plain.Forall f) false) (block_of (now (i + 1) f false) true) s low a refl in
+      let h = leads_holds B (Holding i (plain.Quantified plain.Forall f) false)
+      (block_of (now (i + 1) f false) true) s low a refl in
       let its = items_told n told (i + 1) f false true small in
       let t = told_block B (i + 1) f false true its s low h.to in
       record {
@@ -415,7 +421,8 @@ module _ (B : Board) where
   states_told (suc n) (plain.Binary op f g) small state i sign s low a =
       let parts = and_parts (is_state f) (is_state g) state in
       let some = some_weight op in
-      connective_told n (states_told n) f g parts.0 parts.1 (omega (arith, small, some)) (omega (arith, small, some)) s low i op sign a
+      connective_told n (states_told n) f g parts.0 parts.1 (omega (arith, small, some))
+      (omega (arith, small, some)) s low i op sign a
   states_told (suc n) (plain.Temporal t f) small state i sign s low a = absurd (false≢true state)
   states_told (suc n) (plain.Paired p f g) small state i sign s low a = absurd (false≢true state)
   states_told (suc n) (plain.Quantified q f) small state i sign s low a =
@@ -467,9 +474,11 @@ module _ (B : Board) (total : Known B Total) where
             on : Edges B Odd x.s (c.right).number Total → Onward (vertices.game B) Odd choice Lowest AtTotal vertex x
             on d =
                 let some = B.is_total x.s x.low in
-                let edge = own_edge B Odd choice is_strategy x.s (c.right).number (vertex_is B x.s x.low c.right) _ d some.0 some.1 in
+                let edge = own_edge B Odd choice is_strategy x.s (c.right).number
+                (vertex_is B x.s x.low c.right) _ d some.0 some.1 in
                 let there = same_number B d.to total in
-                let goes = subst (λ n. vertices.Goes B Odd choice is_strategy (at B x.s (c.right).number) (at B edge.0 n)) there edge.2 in
+                let goes = subst (λ n. vertices.Goes B Odd choice is_strategy (at B x.s (c.right).number)
+                (at B edge.0 n)) there edge.2 in
                 let second =
                 move_walk B Odd choice is_strategy 2 (at B x.s (c.right).number) (at B edge.0 total.number)
                 (priority_at_place B x.s x.low c.right) goes in
@@ -478,7 +487,8 @@ module _ (B : Board) (total : Known B Total) where
                     s = edge.0;
                     low = (step_states B.m B.is_structure x.s edge.0 edge.1).1;
                     from =
-                        won_behind (vertices.game B) Odd choice (at B x.s (c.right).number) (at B edge.0 total.number) goes wins;
+                        won_behind (vertices.game B) Odd choice (at B x.s (c.right).number)
+                        (at B edge.0 total.number) goes wins;
                   };
                   stretch = record {
                     lowest = min 0 2;

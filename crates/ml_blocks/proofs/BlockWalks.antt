@@ -142,9 +142,11 @@ module _ (B : Board) (first : Item) (b : Bool) (choice : ℕ → ℕ)
                 ⊎ Goes B mine choice is_strategy (at B s a.number) (at B s (c.right).number)
                 → Stepped first b B mine choice is_strategy Good s low Inv xs k x a.number
             go (inl goes) =
-                stepped ys (subst (λ r. Takes r ys) (sym e) (inl refl)) (λ also. absurd (let wrong = sym e ∙ also in cc)) c.left goes
+                stepped ys (subst (λ r. Takes r ys) (sym e) (inl refl))
+                (λ also. absurd (let wrong = sym e ∙ also in cc)) c.left goes
             go (inr goes) =
-                stepped zs (subst (λ r. Takes r zs) (sym e) (inr refl)) (λ also. absurd (let wrong = sym e ∙ also in cc)) c.right goes
+                stepped zs (subst (λ r. Takes r zs) (sym e) (inr refl))
+                (λ also. absurd (let wrong = sym e ∙ also in cc)) c.right goes
 
   -- ---- from place to place
 
@@ -235,7 +237,8 @@ module _ (B : Board) (first : Item) (b : Bool) (choice : ℕ → ℕ)
           made : Edges B mine x.s (r.to).number (path first b (next_items r.left) k2) → BigStep x
           made c =
               let edge =
-              own_edge B mine choice is_strategy x.s (r.to).number (vertex_is B x.s x.low r.to) _ c some_state.0 some_state.1 in
+              own_edge B mine choice is_strategy x.s (r.to).number
+              (vertex_is B x.s x.low r.to) _ c some_state.0 some_state.1 in
               let end = won_behind (game B) mine choice (at B x.s (r.to).number) _ edge.2 (r.inv y member) in
               record {
                 to = record {

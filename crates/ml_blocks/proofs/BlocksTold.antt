@@ -109,8 +109,11 @@ module _ (m : Structure) (l : Lasso) where
       (decided_all (i + 1) f c (in_left x xs ys each), decided_all (i + 1 + occurrences f) g c (in_right x xs ys each))
   decided_all i (plain.Binary operator.Implies f g) c each =
       let xs = items_within (i + 1) f (not c) in let ys = items_within (i + 1 + occurrences f) g c in
-      let x = now i (plain.Binary operator.Implies f g) c in
-      (decided_all (i + 1) f (not c) (in_left x xs ys each), decided_all (i + 1 + occurrences f) g c (in_right x xs ys each))
+      let x = now i (plain.Binary operator.Implies f g) c in (
+        decided_all (i + 1) f (not c) (in_left x xs ys each),
+        decided_all (i + 1 + occurrences f) g c
+            (in_right x xs ys each),
+      )
   decided_all i (plain.Binary operator.Iff f g) c each =
       let L = i + 3 in let R = L + occurrences f in
       let lt = items_within L f true in let lf = items_within L f false in
@@ -257,11 +260,13 @@ module _ (B : Board) (i : ℕ) (f : Formula) (c b : Bool) (told : ItemsTold B (n
               all_now = now_first;
               asks = λ y m. subst (λ z. Asks B.m l z 0) (sym (alone y m)) asks;
               from =
-                  subst (λ t. WinsFrom (vertices.game B) (opponent (player_of b)) win.strategy (at B t a.number)) (sym is_from.starts_at) win.wins;
+                  subst (λ t. WinsFrom (vertices.game B) (opponent (player_of b)) win.strategy (at B t a.number))
+                  (sym is_from.starts_at) win.wins;
               low = λ more. more;
             })
 
-        from : Wins (vertices.game B) (player_of b) (at B s a.number) ⊎ Wins (vertices.game B) (opponent (player_of b)) (at B s a.number)
+        from : Wins (vertices.game B) (player_of b) (at B s a.number) ⊎ Wins (vertices.game B)
+            (opponent (player_of b)) (at B s a.number)
             → (SomeFrom B first s × Wins (vertices.game B) (player_of b) (at B s a.number))
             ⊎ ((SomeFrom B first s → ⊥) × Wins (vertices.game B) (opponent (player_of b)) (at B s a.number))
         from (inl win) = inl (mine win, win)

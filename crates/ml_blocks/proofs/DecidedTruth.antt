@@ -104,9 +104,11 @@ truth_is_decided m l (plain.Temporal plain.Finally f) given i place =
 truth_is_decided m l (plain.Temporal plain.Globally f) given i place =
     release_decided m l Nowhere (TruthAt m l f) (λ x p. inr (λ none. none)) (truth_is_decided m l f given) i place
 truth_is_decided m l (plain.Paired plain.Until f g) given i place =
-    until_decided m l (TruthAt m l f) (TruthAt m l g) (truth_is_decided m l f given.0) (truth_is_decided m l g given.1) i place
+    until_decided m l (TruthAt m l f) (TruthAt m l g) (truth_is_decided m l f given.0)
+    (truth_is_decided m l g given.1) i place
 truth_is_decided m l (plain.Paired plain.Release f g) given i place =
-    release_decided m l (TruthAt m l f) (TruthAt m l g) (truth_is_decided m l f given.0) (truth_is_decided m l g given.1) i place
+    release_decided m l (TruthAt m l f) (TruthAt m l g) (truth_is_decided m l f given.0)
+    (truth_is_decided m l g given.1) i place
 truth_is_decided m l (plain.Paired plain.Weak f g) given i place =
     release_decided m l (TruthAt m l g) (λ x. TruthAt m l f x ⊎ TruthAt m l g x) (truth_is_decided m l g given.1)
     (λ x p. decided_either (truth_is_decided m l f given.0 x p) (truth_is_decided m l g given.1 x p)) i place

@@ -190,7 +190,8 @@ filter-load t (x ∷ xs) = by_test (cases_Bool (t x)) (filter-load t xs)
         ap load (cond-true (t x) (x ∷ filter t xs) (filter t xs) e) in
         omega (arith, is, rest)
     by_test (inr e) rest =
-        let is : load (filter t (x ∷ xs)) ≡ load (filter t xs) = ap load (cond-false (t x) (x ∷ filter t xs) (filter t xs) e) in
+        let is : load (filter t (x ∷ xs)) ≡ load (filter t xs) = ap load
+        (cond-false (t x) (x ∷ filter t xs) (filter t xs) e) in
         omega (arith, is, rest)
 
 abbrev apart_from : Item → Item → Bool

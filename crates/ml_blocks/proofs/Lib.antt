@@ -44,3 +44,7 @@ pub mod BlocksTold
 pub mod Agreement
 -- a graph worked out by hand
 mod WorkedGraph
+-- lists in which numbers come up in their order
+pub mod FirstOccurrences
+-- one numbering at most
+pub mod OneNumbering

@@ -98,7 +98,8 @@ edge_cases (e ∷ es) k xs = by_test (cases_Bool (is_put_off (e ∷ es) k xs))
 pub edge_low : (ms : List ℕ) (k : ℕ) (xs : List Item) → edge_priority ms k xs < 2
 edge_low ms k xs =
     ⊎_elim (λ (good : edge_priority ms k xs ≡ 0). omega (arith, good))
-    (λ (bad : OnFocus ms k xs × (edge_priority ms k xs ≡ 1) × (focus_behind ms k xs ≡ k)). let is = bad.1 in omega (arith, is))
+    (λ (bad : OnFocus ms k xs × (edge_priority ms k xs ≡ 1) × (focus_behind ms k xs ≡ k)). let is = bad.1 in omega
+    (arith, is))
     (edge_cases ms k xs)
 
 -- the eventuality in focus is one
@@ -270,7 +271,8 @@ module _ (B : Board) (first : Item) (b : Bool) (l : Lasso) (is_path : IsPath B.m
             go (inl goes) = to c.left goes
             go (inr goes) = to c.right goes
         by_row (Either ys zs) e =
-            go (decided_say B.m l first x ys p given (of x found.0) (taken_of first x ys (of x found.0) is_now takes_first) place)
+            go (decided_say B.m l first x ys p given (of x found.0)
+            (taken_of first x ys (of x found.0) is_now takes_first) place)
           where
             takes_first : Takes (row x) ys
             takes_first = subst (λ r. Takes r ys) (sym e) (inl refl)
@@ -290,7 +292,8 @@ module _ (B : Board) (first : Item) (b : Bool) (l : Lasso) (is_path : IsPath B.m
             go : IsDecided (AllSay B.m l (Asks B.m l x) ys p)
                 → Stepped first b B foe choice is_strategy Good s (state_low p place) Inv xs k x a.number
             go (inl all) =
-                stepped ys takes_first (ways_say B.m l x ys p takes_first all) (λ us ws other said. same_first us ws other) c.left
+                stepped ys takes_first (ways_say B.m l x ys p takes_first all)
+                (λ us ws other said. same_first us ws other) c.left
                 (other_left B foe choice is_strategy s a.number (vertex_is B s (state_low p place) a) _ _ c)
             go (inr none) =
                 stepped zs takes_second
@@ -361,7 +364,8 @@ module _ (B : Board) (first : Item) (b : Bool) (l : Lasso) (is_path : IsPath B.m
       says_at y i =
           subst (λ t. by_time t (Asks B.m l y x.p) (Asks B.m l y (next_place l x.p))) (sym (x.all_now y i)) (x.asks y i)
 
-      r : Settled first b B foe choice is_strategy (Good x.p x.place) (entry l x.p) (state_low x.p x.place) (Inv x.p x.place) x.xs x.k n
+      r : Settled first b B foe choice is_strategy (Good x.p x.place) (entry l x.p) (state_low x.p x.place)
+          (Inv x.p x.place) x.xs x.k n
       r =
           settle first b B foe choice is_strategy (Good x.p x.place) (entry l x.p) (state_low x.p x.place) (Inv x.p x.place)
           (step x.p x.place) (suc (load x.xs)) x.xs x.k x.a (omega arith) x.of
@@ -392,7 +396,8 @@ module _ (B : Board) (first : Item) (b : Bool) (l : Lasso) (is_path : IsPath B.m
           edge_to =
               subst (λ q. Edges B q (entry l x.p) (r.to).number (path first b (next_items r.left) k2))
               (sym (opponent-opponent (player_of b)))
-              (edges B b (path first b (next_items r.left) k2) (entry l x.p) r.to (edge_form_of first b r.left x.k y member shut))
+              (edges B b (path first b (next_items r.left) k2) (entry l x.p) r.to
+              (edge_form_of first b r.left x.k y member shut))
 
           next_asks : (v : Item) → IsMember v (next_items r.left) → Asks B.m l v (next_place l x.p)
           next_asks v i =
@@ -556,7 +561,8 @@ module _ (B : Board) (first : Item) (b : Bool) (l : Lasso) (is_path : IsPath B.m
       by_edge rest (inr bad) =
           let same_k : (t.to).k ≡ x.k = t.k_is ∙ bad.2 in
           then_on x t bad.1
-          (rest t.to v (subst (λ z. IsMember z (t.to).xs) (in_focus_still x t v member in_focus bad.0) (next_has x t bad.0)) w
+          (rest t.to v (subst (λ z. IsMember z (t.to).xs) (in_focus_still x t v member in_focus bad.0)
+          (next_has x t bad.0)) w
           (in_focus ∙ ap (λ k. get_or (eventualities first) k 0) (sym same_k))
           (subst (AllSay B.m l (Asks B.m l v) w.first)
           (sym (ap (λ p. after l p r) t.p_is ∙ walk-shift (next_place l) x.p r)) there))
@@ -579,7 +585,8 @@ module _ (B : Board) (first : Item) (b : Bool) (l : Lasso) (is_path : IsPath B.m
           let least = focus_is_least first o.item x.k of (x.low o.some) o.in_focus in
           let w = two_ways B.m l v.number v.formula v.positive v.later least in
           let c =
-          eventualities_come_true B.m l v (t.to).p (t.to).place (decided_of B.m l first v given of) least ((t.to).asks v member) in
+          eventualities_come_true B.m l v (t.to).p (t.to).place (decided_of B.m l first v given of) least
+          ((t.to).asks v member) in
           let same_k : (t.to).k ≡ x.k = t.k_is ∙ stays in
           then_on x t bad
           (onward_by c.steps t.to v member w (o.in_focus ∙ ap (λ k. get_or (eventualities first) k 0) (sym same_k))

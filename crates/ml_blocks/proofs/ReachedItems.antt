@@ -149,11 +149,14 @@ module _ (B : Board) (first : Item) (b : Bool) where
           by_row OfState e none = absurd (subst (IsMember y) none m)
           by_row Waits e none = absurd none
           by_row (Becomes zs) e same =
-              to (subst (λ us. Known B (block.after first b u.xs u.k x us)) (sym same) (becomes first b B 0 u.xs u.k x is u.a zs e).left)
+              to (subst (λ us. Known B (block.after first b u.xs u.k x us)) (sym same)
+              (becomes first b B 0 u.xs u.k x is u.a zs e).left)
           by_row (Either zs ws) e (inl same) =
-              to (subst (λ us. Known B (block.after first b u.xs u.k x us)) (sym same) (either first b B 0 u.xs u.k x is u.a zs ws e).left)
+              to (subst (λ us. Known B (block.after first b u.xs u.k x us)) (sym same)
+              (either first b B 0 u.xs u.k x is u.a zs ws e).left)
           by_row (Either zs ws) e (inr same) =
-              to (subst (λ us. Known B (block.after first b u.xs u.k x us)) (sym same) (either first b B 0 u.xs u.k x is u.a zs ws e).right)
+              to (subst (λ us. Known B (block.after first b u.xs u.k x us)) (sym same)
+              (either first b B 0 u.xs u.k x is u.a zs ws e).right)
 
   pub next_reached : (x : Item) → Reached x → x.later ≡ false → row x ≡ Waits → Reached (behind_next x)
   next_reached x t is_now waits = from (stopped x t)

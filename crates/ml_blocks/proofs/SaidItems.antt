@@ -157,10 +157,12 @@ pub step_states : (m : Structure) → IsStructure m → (s t : ℕ) → has_step
 step_states m ok s t is =
     let test : Edge → Bool = λ e. (e.source == s) && bytes_eq e.action (codes "_") && (e.target == t) in
     let found = list_any-member test m.edges is in
-    let parts = and_parts (((found.item).source == s) && bytes_eq (found.item).action (codes "_")) ((found.item).target == t) found.passes in
+    let parts = and_parts (((found.item).source == s) && bytes_eq (found.item).action (codes "_"))
+    ((found.item).target == t) found.passes in
     let start = and_parts ((found.item).source == s) (bytes_eq (found.item).action (codes "_")) parts.0 in
     let ends =
-    All-member (λ (e : Edge). (e.source < m.states) × (e.target < m.states)) m.edges ok.joins_states found.item found.member in (
+    All-member (λ (e : Edge). (e.source < m.states) ×
+    (e.target < m.states)) m.edges ok.joins_states found.item found.member in (
       subst (λ u. u < m.states) (eqb-true (found.item).source s start.0) ends.0,
       subst (λ u. u < m.states) (eqb-true (found.item).target t parts.1) ends.1,
     )

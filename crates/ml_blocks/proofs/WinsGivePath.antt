@@ -114,7 +114,8 @@ module _ (B : Board) (first : Item) (b : Bool) (choice : ℕ → ℕ)
   next_low : (k : ℕ) → k < j → next_place l k < j
   next_low k low =
       ⊎_elim (λ (room : suc k < j). let is = next_in k room in omega (arith, is, room))
-      (λ (full : j ≤ suc k). let is = next_round k (omega (arith, full, low)) in let less = apart in omega (arith, is, less))
+      (λ (full : j ≤ suc k). let is = next_round k (omega (arith, full, low)) in let less = apart in omega
+      (arith, is, less))
       (cases_lt (suc k) j)
 
   next_xs : (k : ℕ) → k < j → (E (next_place l k)).xs ≡ next_items (T k).left
@@ -264,7 +265,8 @@ module _ (B : Board) (first : Item) (b : Bool) (choice : ℕ → ℕ)
               ⊎_elim
               (λ (asked : Asks B.m l v (next_place l k)).
               inl (asked_by k low up
-              (inr (way_says n claim (Asks B.m l v) v k low small w.second (takes_as w.second e) (comes w.second e) (λ p. asked)))))
+              (inr (way_says n claim (Asks B.m l v) v k low small w.second (takes_as w.second e) (comes w.second e)
+              (λ p. asked)))))
               (λ (ahead : PutOffFor r (next_place l k)). inr (one_later r k (low, put) ahead))
               (rest (next_low k low) (up_again k low v now put))
 
@@ -313,7 +315,8 @@ module _ (B : Board) (first : Item) (b : Bool) (choice : ℕ → ℕ)
         one_edge : (k : ℕ) → IsMember (put_off v) (T k).left → Fell ms e (E k).k (T k).left
         one_edge k m =
             let low = e_low in
-            rank_falls ms e (E k).k (T k).left (put_off v) low ((E k).focus (omega (arith, low))) m refl (sym (seat.holds 0))
+            rank_falls ms e (E k).k (T k).left (put_off v) low ((E k).focus (omega (arith, low))) m refl
+            (sym (seat.holds 0))
 
         edge_walk : (k : ℕ) → IsMember (put_off v) (T k).left
             → Walk B first b choice is_strategy all_won (V k)
@@ -357,14 +360,17 @@ module _ (B : Board) (first : Item) (b : Bool) (choice : ℕ → ℕ)
             from (inl (bad, stays)) (inr falls) =
                 inr (subst (λ n. rank (length ms) e n < rank (length ms) e (E i).k) (sym (focus_next k m ∙ stays)) falls)
             from (inr falls) (inl (low, still)) =
-                inr (subst (λ n. rank (length ms) e n < rank (length ms) e (E i).k) (sym (focus_next k m)) (omega (arith, falls, still)))
+                inr (subst (λ n. rank (length ms) e n < rank (length ms) e (E i).k) (sym (focus_next k m))
+                (omega (arith, falls, still)))
             from (inr falls) (inr more) =
-                inr (subst (λ n. rank (length ms) e n < rank (length ms) e (E i).k) (sym (focus_next k m)) (omega (arith, falls, more)))
+                inr (subst (λ n. rank (length ms) e n < rank (length ms) e (E i).k) (sym (focus_next k m))
+                (omega (arith, falls, more)))
 
         rounds : (d : ℕ) → i + d < j → Round e (suc (i + d))
         rounds zero under =
             let at_i : i + 0 ≡ i = omega arith in
-            subst (λ n. Round e (suc n)) (sym at_i) (first_round (subst (λ n. IsMember (put_off v) (T n).left) at_i (put 0 under)))
+            subst (λ n. Round e (suc n)) (sym at_i)
+            (first_round (subst (λ n. IsMember (put_off v) (T n).left) at_i (put 0 under)))
         rounds (suc d) under =
             let one_on : i + suc d ≡ suc (i + d) = omega arith in
             next_round_of (i + suc d) (put (suc d) under)
@@ -403,7 +409,8 @@ module _ (B : Board) (first : Item) (b : Bool) (choice : ℕ → ℕ)
                 some_next =
                     subst (IsMember (next_of (put_off v))) (sym (T k).xs_is)
                     (next_items-has (IsOf first) (same_key first) (T k).left
-                    (λ z c. next_of_of first z (left_is_of k z c) (none_open (T k).left (T k).settled z c)) (put_off v) m_last)
+                    (λ z c. next_of_of first z (left_is_of k z c) (none_open (T k).left (T k).settled z c))
+                    (put_off v) m_last)
 
                 some : (y : Item) × IsMember y (E i).xs
                 some = (
@@ -420,7 +427,8 @@ module _ (B : Board) (first : Item) (b : Bool) (choice : ℕ → ℕ)
                     let is : rank (length ms) e (E i).k ≡ rank (length ms) e (E j).k = ap (rank (length ms) e) same_focus in
                     omega (arith, is, falls)
                 by_rank (inl (low, still)) =
-                    let closed = subst (λ x. Walk B first b choice is_strategy all_won (V i) c.lowest x) (sym again.same) c.way in
+                    let closed = subst (λ x. Walk B first b choice is_strategy all_won (V i) c.lowest x)
+                    (sym again.same) c.way in
                     not_both (side c.lowest) (player_of b)
                     (closed_walk_good (game B) (player_of b) choice (V i) c.lowest closed ((E i).from some.0 some.1))
                     (ap side low ∙ off_worst b)

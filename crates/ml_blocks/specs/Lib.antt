@@ -10,3 +10,5 @@ pub mod Places
 pub mod BlockGraph
 -- that it agrees with the problem
 pub mod Agreement
+-- that it is one
+pub mod OneGraph

@@ -1,5 +1,6 @@
 // What holds of items and their rows: the functions do nothing, their contracts are the theorems.
 ghost use Rattle.ml_blocks.specs.Agreement.{GraphsAgree, GraphsHold, LinearGraphsAgree, LinearGraphsHold};
+ghost use Rattle.ml_blocks.specs.OneGraph.{OneGraph};
 ghost use Rattle.ml_blocks.specs.Laws.{EventualitiesAreLeast, EventualitiesComeTrue, OthersAreGreatest, RowsSayTheSame, TruthIsDecided};
 
 /// Truth of a formula is decided at each place of a path along which its quantified formulas are; so that of a formula of
@@ -41,4 +42,10 @@ pub fn graphs_agree()
     ensures paths { LinearGraphsAgree }
     ensures states_exactly { GraphsHold }
     ensures paths_exactly { LinearGraphsHold }
+{}
+
+/// A problem has one graph at most: graphs of one closure have the same nodes with the same numbers and priorities, and differ
+/// in nothing but where they list the names of propositions and actions.
+pub fn one_graph()
+    ensures { OneGraph }
 {}
