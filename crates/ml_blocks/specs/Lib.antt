@@ -8,6 +8,8 @@ pub mod ItemSets
 pub mod Places
 -- the modal graph
 pub mod BlockGraph
+-- how large a closure is
+pub mod Closures
 -- that it agrees with the problem
 pub mod Agreement
 -- that it is one

@@ -4,5 +4,8 @@
 // (`specs/Places.antt`); `laws` has that the checking game on it agrees with the problem's meaning. It stands on `ml_ctl`, for
 // formulas and their meaning, and on `ml_graph`, for modal graphs and their game.
 #![tactic(auto)]
+mod graph;
 /// what is proved of rows and meanings
 pub mod laws;
+
+pub use graph::{graph_of, ltl_graph_of};

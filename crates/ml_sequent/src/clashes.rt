@@ -83,7 +83,7 @@ fn negatives(alloc: Global, graph: &ModalGraph, nodes: &[u32]) -> Result<Vec<Opt
     ensures { IfOk result (λ firsts. HasNegatives graph.now nodes.now firsts.items) }
 {
     let _size = graph.size();
-    let mut firsts = Vec::new(alloc);
+    let mut firsts = Vec::with_capacity(alloc, graph.props().len())?;
     for _ in graph.props() {
         firsts.push(None)?;
     }
