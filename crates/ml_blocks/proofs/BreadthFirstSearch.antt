@@ -83,11 +83,14 @@ module _ {X : Type 0} (eq : X → X → Bool) (next : X → List X) (start : X) 
       pub looked_next : (front : List X) (p : X) (back : List X)
           → Looked front (p ∷ back)
           → (more : List X) × Looked (front ++ p ∷ []) more
-      looked_next front p back l = (back ++ grown.0, record {
-        in_order = in_order;
-        from_earlier = λ k x is. by_place k x (get_one_more front p k x is);
-        reached = λ x m. by_part x (member-append x front (p ∷ []) m);
-      })
+      looked_next front p back l = (
+        back ++ grown.0,
+        record {
+          in_order = in_order;
+          from_earlier = λ k x is. by_place k x (get_one_more front p k x is);
+          reached = λ x m. by_part x (member-append x front (p ∷ []) m);
+        },
+      )
         where
           grown : (rest : List X)
               × (firsts eq ((start ∷ flat_map next front) ++ flat_map next (p ∷ [])) ≡ met front ++ rest)

@@ -19,7 +19,7 @@ some_graph start n =
     from (search place_eq leads (Root start) (IsReached (Root start)) at_root behind place_eq-tells n)
   where
     from : Ended place_eq leads (Root start) (IsReached (Root start)) n
-            ⊎ TooMany place_eq leads (Root start) (IsReached (Root start)) n
+        ⊎ TooMany place_eq leads (Root start) (IsReached (Root start)) n
         → ((g : Graph) × IsGraphAt g start × (size g ≤ n)) ⊎ HasMoreThan (Root start) n
     from (inl e) =
         let few = e.few in
