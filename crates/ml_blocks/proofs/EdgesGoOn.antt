@@ -9,7 +9,7 @@
 --   some_step          == where a diamond holds, there is a step
 --   behind_step        == where a square holds, its child holds behind each step
 --   edges_go_on        == the law
-use Rattle.std.proofs.Common.{ℕ, ◌≡◌, ◌<◌, ◌+◌, arith, Bool, true, false, List, Contains, Some, get_or, codes, bytes_eq, ◌==◌, ◌&&◌, refl, sym, ap, ◌∙◌, subst, eq-eqb}
+use Rattle.std.proofs.Common.{ℕ, ◌≡◌, ◌<◌, arith, true, false, List, Contains, Some, get_or, codes, bytes_eq, ◌==◌, ◌&&◌, refl, sym, ◌∙◌, subst, eq-eqb}
 use Rattle.std.specs.List.{slice_get}
 use Rattle.std.proofs.lemmas.Bool.{and_from}
 use Rattle.std.proofs.lemmas.Option.{slice_get_within, slice_get-get_or}
@@ -19,7 +19,7 @@ use Rattle.ml_lists.proofs.Member.{member-list_any}
 use Rattle.ml_lists.proofs.Members.{member_of_contains, contains_of_member}
 use Rattle.ml_base.specs.declared.structure.Edge.{Edge}
 use Rattle.ml_base.specs.Structure.{Structure, IsStructure}
-use Rattle.ml_graph.specs.CheckingGame.{Holds, HoldsAt, targets}
+use Rattle.ml_graph.specs.CheckingGame.{HoldsAt, targets}
 use Rattle.ml_graph.specs.Graph.{Graph, IsGraph, size, node_at, action_at}
 use Rattle.ml_graph.specs.Laws.{NodeHolds}
 use Rattle.ml_graph.specs.declared.node.Node.{Node}
