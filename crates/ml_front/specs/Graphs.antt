@@ -4,6 +4,8 @@
 --                      formula does
 --   IsGraphOf g p   == g is the graph of the problem p
 --   HoldsWhere g p  == on each admitted structure, of any number of states, g holds at the states at which p does
+--   HasLargeClosure p n == the closure of the problem p has more than n nodes: never in the mu-calculus and in PDL, whose
+--                      problems have none
 --   GraphsAgree     == the graph of a problem whose formula means something holds where the problem does
 use Rattle.std.specs.Prelude.{ℕ, ◌≡◌, ◌<◌, ◌↔◌, Bool, true, []}
 use Rattle.ml_base.specs.Structure.{Structure}
@@ -29,6 +31,14 @@ IsGraphAs g negated (Pdl f) = pdl.IsGraphOf g f negated
 
 abbrev pub IsGraphOf : Graph → Problem → Type 0
 IsGraphOf g p = IsGraphAs g p.negated p.formula
+
+-- the closure of a formula, in its sense
+abbrev pub HasLargeClosureAs : ℕ → Bool → AnyFormula → Type 0
+HasLargeClosureAs n negated (Mu f) = ⊥
+HasLargeClosureAs n negated (Pdl f) = ⊥
+
+abbrev pub HasLargeClosure : Problem → ℕ → Type 0
+HasLargeClosure p n = HasLargeClosureAs n p.negated p.formula
 
 abbrev pub HoldsWhere : Graph → Problem → Type 0
 HoldsWhere g p =

@@ -4,6 +4,8 @@
 -- infinitely many paths and can't be computed from its definition. Each logic says of which structures it speaks.
 --
 --   IsAdmitted l m   == the logic l speaks of the structure m: the mu-calculus and PDL of every structure
+--   IsFirstDeadlock l m s == the logic l wants an edge from each state of m, and s is the first without one: never in the
+--                       mu-calculus and in PDL
 --   HoldsAt m s p    == the problem p holds at the state s of the structure m
 --   IsSatisfiable p  == some admitted structure, of any number of states, has a state at which p holds
 use Rattle.std.specs.Prelude.{ℕ, ◌<◌, Bool}
@@ -20,6 +22,10 @@ use Rattle.ml_front.specs.declared.problem.Problem.{Problem}
 abbrev pub IsAdmitted : Logic → Structure → Type 0
 IsAdmitted logic.Mu m = IsStructure m
 IsAdmitted logic.Pdl m = IsStructure m
+
+abbrev pub IsFirstDeadlock : Logic → Structure → ℕ → Type 0
+IsFirstDeadlock logic.Mu m s = ⊥
+IsFirstDeadlock logic.Pdl m s = ⊥
 
 -- a formula, in its sense
 abbrev pub HoldsAs : Structure → ℕ → Bool → AnyFormula → Type 0

@@ -1,7 +1,7 @@
 // Problems of all logics.
 ghost use Rattle.std.specs.Prelude.{◌≡◌, false, not, IfOk, IfErr, IsErrOf};
 ghost use Rattle.ml_front.specs.Logics.{canonical_text, logic_of, IsParsedAs, IsRefusedBy};
-ghost use Rattle.ml_front.specs.Graphs.{HoldsWhere, IsGraphOf};
+ghost use Rattle.ml_front.specs.Graphs.{HasLargeClosure, HoldsWhere, IsGraphOf};
 
 use crate::logic::Logic;
 use ml_base::{NoMemory, ParseRefusal};
@@ -121,7 +121,8 @@ pub fn print(alloc: Global, problem: &Problem) -> Result<Vec<u8>, NoMemory>
 pub fn graph(alloc: Global, problem: &Problem, _max: u32) -> Result<ModalGraph, BlockRefusal>
     ensures graph { IfOk result (λ g. IsGraphOf g problem.now) }
     ensures agrees { IfOk result (λ g. HoldsWhere g problem.now) }
-    ensures fits { ¬ (IsErrOf result BlockRefusal.ClosureTooLarge) }
+    ensures fits { IfOk result (λ g. ¬ (HasLargeClosure problem.now _max)) }
+    ensures too_large { IsErrOf result BlockRefusal.ClosureTooLarge → HasLargeClosure problem.now _max }
 {
     match &problem.formula {
         AnyFormula::Mu(formula) => Ok(ml_mu_graph::graph_of(alloc, formula, problem.negated)?),
