@@ -1,7 +1,7 @@
 -- Each problem has a graph and no large closure, or a large closure: the graph is the one that the program makes.
 --
 --   some_graph  == by the logic of the formula, for any number of nodes that a closure may have
-use Rattle.std.proofs.Common.{ℕ, Bool, [], ◌*◌, ◌⊎◌, left, if◌then◌else◌, refl}
+use Rattle.std.proofs.Common.{ℕ, Bool, [], ◌*◌, ◌⊎◌, inl, if◌then◌else◌, refl}
 use Rattle.ml_blocks.specs.BlockGraph.{linear_start_of, start_of}
 use Rattle.ml_graph.specs.Graph.{Graph}
 use Rattle.ml_mu.specs.Formula as mu_formula
@@ -52,7 +52,7 @@ is_pdl_graph f negated =
 
 pub some_graph : (n : ℕ) (negated : Bool) (f : AnyFormula)
     → ((g : Graph) × IsGraphAs g negated f × (¬ (HasLargeClosureAs n negated f))) ⊎ HasLargeClosureAs n negated f
-some_graph n negated (Mu f) = left (mu_graph f negated, (is_mu_graph f negated, λ large. large))
-some_graph n negated (Pdl f) = left (pdl_graph f negated, (is_pdl_graph f negated, λ large. large))
+some_graph n negated (Mu f) = inl (mu_graph f negated, (is_mu_graph f negated, λ large. large))
+some_graph n negated (Pdl f) = inl (pdl_graph f negated, (is_pdl_graph f negated, λ large. large))
 some_graph n negated (Ctl f) = some_or_large (start_of f negated) n
 some_graph n negated (Ltl f) = some_or_large (linear_start_of f negated) n
