@@ -2,7 +2,7 @@
 //
 // The calls to know:
 // - `check` reads a document that answers `unsatisfiable`, and answers whether it is true by the rules of acceptance. What it
-//   accepts is true: no structure has a state at which the document's problem holds.
+//   accepts is true: no structure of which the logic speaks has a state at which the document's problem holds.
 // - `check_refutation` checks a refutation against a graph.
 // - `migrate` writes a document of either version anew, in version 2.
 //
