@@ -2,15 +2,15 @@
 --
 -- A document shows a structure for a problem where its head answers `satisfiable` about the problem, and its body is
 -- the text of a structure in order with a state to start from; the head may be in either version. Whether the problem
--- holds there is not asked of the document: that is what is checked. Where a document shows none, its first bad line tells
--- why; the lines of the body are counted on from those of the head, so from 6 on. Where it shows one, the problem's logic may
--- want an edge from each state, and then the first state without one is told; and a problem with a closure that is too
--- large isn't checked.
+-- holds there is not asked of the document: that is what is checked. Where a document shows none, its first bad line
+-- tells why; the lines of the body are counted on from those of the head, so from 6 on. Where it shows one, the
+-- problem's logic may want an edge from each state, and then the first state without one is told; and a problem with a
+-- closure that is too large isn't checked.
 --
 --   IsDocument text p m s   == the text shows the structure m with the start s for the problem p
 --   IsDocumentFault text f  == f tells the first bad line of the text, and the number of the lowest rule that it breaks
---   Shows text, ShowsNot text == the text shows an admitted structure for a problem without a large closure, which holds at
---                              the start, or doesn't
+--   Shows text, ShowsNot text == the text shows an admitted structure for a problem without a large closure, which
+--                              holds at the start, or doesn't
 --   ShowsDeadlock text s    == it shows a structure whose first deadlock for the problem's logic is s
 --   ShowsLargeClosure text  == it shows an admitted structure, and a problem with a large closure
 --   IsCheckedAs text c      == c is what checking the text finds

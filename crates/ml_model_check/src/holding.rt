@@ -16,20 +16,21 @@ use ml_mu::{Formula, Term};
 use ml_parity::{Player, solve};
 use std::alloc::Global;
 
-// Up to so many binders one inside the other the meaning of a formula is computed as it is defined; past them, where the
-// iterates of inner binders multiply with those of outer ones, the checking game is solved.
+// Up to so many binders one inside the other the meaning of a formula is computed as it is defined; past them, where
+// the iterates of inner binders multiply with those of outer ones, the checking game is solved.
 const MOST_NESTED: u32 = 2;
 
 /// Does a problem hold at this state of a structure?
 ///
 /// # Errors
-/// `NotTotal` exactly where the problem's logic wants an edge by `_` from each state and some state has none, with the least
-/// such state. `ClosureTooLarge` exactly where the logic speaks of the structure and the problem's closure has more than
-/// 4,096 nodes. So neither comes in the mu-calculus and in PDL. `NoMemory`.
+/// `NotTotal` exactly where the problem's logic wants an edge by `_` from each state and some state has none, with the
+/// least such state. `ClosureTooLarge` exactly where the logic speaks of the structure and the problem's closure has
+/// more than 4,096 nodes. So neither comes in the mu-calculus and in PDL. `NoMemory`.
 ///
 /// Cost: a formula of the mu-calculus with at most two binders one inside the other costs what `ml_mu::evaluate` does;
-/// each other problem what `ml_front::graph` does, and what `ml_parity::solve` does on a game with a vertex for each pair of
-/// a state and a node of the graph. No call is nested deeper than the formula, which has at most 1,000 occurrences.
+/// each other problem what `ml_front::graph` does, and what `ml_parity::solve` does on a game with a vertex for each
+/// pair of a state and a node of the graph. No call is nested deeper than the formula, which has at most 1,000
+/// occurrences.
 pub fn holds(
     alloc: Global,
     problem: &Problem,

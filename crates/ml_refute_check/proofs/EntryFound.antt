@@ -1,7 +1,8 @@
 -- What checking the parts of an entry before its decision finds.
 --
 --   item_told, items_more, items_first, items_all == items, one by one
---   start_told, live_told  == the tests of the sequent and of the names in use tell exactly whether their rules are kept
+--   start_told, live_told  == the tests of the sequent and of the names in use tell exactly whether their rules are
+--                             kept
 --   front_refused_2, front_refused_3, front_later, front_kept == what is found of the three together
 --   live_low        == the names of an entry's items are in use
 --   ascending_again, start_stands == the sequent of an entry as a set, and its spread

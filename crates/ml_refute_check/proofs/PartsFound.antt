@@ -1,7 +1,7 @@
 -- What checking parts one by one finds.
 --
---   found_next, found_behind, found_before, none_behind == a bad part behind one that keeps its rules, or behind several;
---                       one with more behind it; parts none of which is bad
+--   found_next, found_behind, found_before, none_behind == a bad part behind one that keeps its rules, or behind
+--                       several; one with more behind it; parts none of which is bad
 --   first_of_part    == a part that breaks a rule is the first bad one of itself alone
 --   as_accepted, as_first_bad == what is found of the parts of an entry, as acceptance says it
 use Rattle.std.proofs.Common.{◌≡◌, ◌↔◌, ℕ, zero, suc, ◌+◌, ◌<◌, ◌≤◌, ◌⊎◌, Bool, true, false, List, [], ◌∷◌, ◌++◌, Option, None, Some, length, get_or, map, IsTrue, inl, inr, refl, sym, ap, ◌∙◌, subst, arith}

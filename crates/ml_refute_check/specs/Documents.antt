@@ -1,11 +1,11 @@
 -- Documents that answer `unsatisfiable`, and what checking one finds.
 --
--- A document shows a refutation for a problem where its head answers `unsatisfiable` about the problem, and its body is a
--- text of the refutation, in the version that the head tells. Where a document shows none, its first bad line tells why;
--- the lines of the body are counted on from those of the head, so from 6 on. Where the problem's closure is too large, the
--- document is rejected at the line of the formula. Else what is shown is accepted where the refutation breaks no rule of
--- acceptance in the problem's graph, and rejected at the line of the first part that breaks one. Who wrote the document, and
--- how, is asked nowhere.
+-- A document shows a refutation for a problem where its head answers `unsatisfiable` about the problem, and its body is
+-- a text of the refutation, in the version that the head tells. Where a document shows none, its first bad line tells
+-- why; the lines of the body are counted on from those of the head, so from 6 on. Where the problem's closure is too
+-- large, the document is rejected at the line of the formula. Else what is shown is accepted where the refutation
+-- breaks no rule of acceptance in the problem's graph, and rejected at the line of the first part that breaks one. Who
+-- wrote the document, and how, is asked nowhere.
 --
 --   IsDocument text v p r == the text shows, in the version v, the refutation r for the problem p
 --   IsDocumentFault text f == f tells the first bad line of the text, and the lowest rule that it breaks
@@ -14,11 +14,12 @@
 --   line_of at n k         == the line of part k of an entry with n items, whose parts begin at these lines
 --   IsRejectedBy text entry part number line == the text shows a refutation whose first bad part is this one, with this
 --                             lowest rule that it breaks, and which stands at this line
---   IsRejectedAt text line number == the text shows a refutation, and this is its first line with a broken rule, and the
---                             lowest one
+--   IsRejectedAt text line number == the text shows a refutation, and this is its first line with a broken rule, and
+--                             the lowest one
 --   IsVerdict text v       == v is what checking the text finds
 --   HoldsNowhere text      == the text answers `unsatisfiable` about a problem, and that is true
---   IsMigrated text other  == the text shows a refutation for a problem, and the other text is what is written of the two
+--   IsMigrated text other  == the text shows a refutation for a problem, and the other text is what is written of the
+--                             two
 --   document_of p r        == the document that is written for the problem p and the refutation r
 use Rattle.std.specs.Prelude.{ℕ, ◌≡◌, ◌⊎◌, ◌+◌, ◌-◌, ◌==◌, nat_lt, List, ◌++◌, Some, length, slice_get, if◌then◌else◌}
 use Rattle.ml_base.specs.declared.doc_fault.DocFault.{DocFault}

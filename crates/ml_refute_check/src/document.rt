@@ -31,18 +31,19 @@ struct Shown {
 
 /// Is a document that answers `unsatisfiable` true, as anyone can tell from it alone?
 ///
-/// The document has the five lines of its head, and then the text of a refutation, both in either version. It may have any
-/// length, and nothing is asked of who wrote it.
+/// The document has the five lines of its head, and then the text of a refutation, both in either version. It may have
+/// any length, and nothing is asked of who wrote it.
 ///
-/// - `Accepted` exactly where the bytes are such a document, the closure of its problem has at most 4,096 nodes, and its
-///   refutation breaks no rule of acceptance in the graph of the problem. Then no structure of which the problem's logic speaks
-///   has a state at which the problem holds.
-/// - `Unreadable` exactly where they are none, with the first bad line, counted from 1, and the lowest rule that this line
-///   breaks: 1 to 3 of the head, as `ml_front::read_head` says, and 21 to 31 of the body, as `ml_refutation_text::read` says.
-/// - `Rejected` exactly where they are such a document and a rule is broken, with the first line that breaks one and the
-///   lowest that it breaks: 1 at the formula, exactly where the closure of its problem has more than 4,096 nodes (never in the
-///   mu-calculus and in PDL); 2 at a sequent; 3 at the names in use; 4 at an item; 5 at a split; 6 at a clash; 7 to 10 at a
-///   `go`.
+/// - `Accepted` exactly where the bytes are such a document, the closure of its problem has at most 4,096 nodes, and
+///   its refutation breaks no rule of acceptance in the graph of the problem. Then no structure of which the problem's
+///   logic speaks has a state at which the problem holds.
+/// - `Unreadable` exactly where they are none, with the first bad line, counted from 1, and the lowest rule that this
+///   line breaks: 1 to 3 of the head, as `ml_front::read_head` says, and 21 to 31 of the body, as
+///   `ml_refutation_text::read` says.
+/// - `Rejected` exactly where they are such a document and a rule is broken, with the first line that breaks one and
+///   the lowest that it breaks: 1 at the formula, exactly where the closure of its problem has more than 4,096 nodes
+///   (never in the mu-calculus and in PDL); 2 at a sequent; 3 at the names in use; 4 at an item; 5 at a split; 6 at a
+///   clash; 7 to 10 at a `go`.
 ///
 /// # Errors
 /// `NoMemory` alone.
@@ -143,8 +144,8 @@ fn line_behind(first: u64, lines: usize) -> Result<u64, NoMemory>
 /// The version 2 document of the problem and the refutation that a document shows.
 ///
 /// # Errors
-/// `Fault` exactly where the bytes show no refutation, with the first bad line and the lowest rule that is broken there, as
-/// `check` tells them. `NoMemory`.
+/// `Fault` exactly where the bytes show no refutation, with the first bad line and the lowest rule that is broken
+/// there, as `check` tells them. `NoMemory`.
 ///
 /// Cost: linear in the bytes and in the document that is written.
 pub fn migrate(alloc: Global, bytes: &[u8]) -> Result<Vec<u8>, DocRefusal>

@@ -1,6 +1,7 @@
 -- Which items a name can come from along a step. (Private: nobody has to believe it.)
 --
---   Serves y progress s acc     == y stands in the stack s; where progress is asked for, it isn't last there, or acc is true
+--   Serves y progress s acc     == y stands in the stack s; where progress is asked for, it isn't last there, or acc is
+--                                  true
 --   IsSource odds t y p i a     == the trace t leads from the item i to the item a, and i serves for the name y
 --   SourceAmong odds t y p is a == it leads so from some of the items is
 --   HasSource odds ts y p is a  == some of the traces ts does
