@@ -38,10 +38,14 @@ pub document_fault : (text : List ℕ) (p : Problem) (m : Structure) (s : ℕ) (
     → IsDocument text p m s
     → IsDocumentFault text fault
     → ⊥
-document_fault text p m s fault x (inl of_head) = head.head_or_fault Satisfiable text x.version p x.body fault x.has_head of_head
+document_fault text p m s fault x (inl of_head) =
+    head.head_or_fault Satisfiable text x.version p x.body fault x.has_head of_head
 document_fault text p m s fault x (inr of_body) =
-    let heads = one_head Satisfiable text x.version of_body.version p of_body.problem x.body of_body.body x.has_head of_body.has_head in
-    body.fault_or_model of_body.body first_body_line fault (m, s, x.is_written, x.is_ordered, sym heads.2 ∙ x.has_body) of_body.is_fault
+    let heads =
+    one_head Satisfiable text x.version of_body.version p of_body.problem x.body of_body.body x.has_head
+    of_body.has_head in
+    body.fault_or_model of_body.body first_body_line fault
+    (m, s, x.is_written, x.is_ordered, sym heads.2 ∙ x.has_body) of_body.is_fault
 
 pub one_fault : (text : List ℕ) (e f : DocFault) → IsDocumentFault text e → IsDocumentFault text f → e ≡ f
 one_fault text e f (inl x) (inl y) = head.one_fault Satisfiable text e f x y
@@ -68,19 +72,38 @@ one_check text c d x y = go (found_in text c x) (found_in text d y)
 
 -- ---- something is found
 
-pub document_or_fault : (text : List ℕ)
-    → ((p : Problem) × (m : Structure) × (s : ℕ) × IsDocument text p m s) ⊎ ((fault : DocFault) × IsDocumentFault text fault)
+abbrev pub SomeDocument : List ℕ → Type 0
+SomeDocument text = (p : Problem) × (m : Structure) × (s : ℕ) × IsDocument text p m s
+
+abbrev pub SomeFault : List ℕ → Type 0
+SomeFault text = (fault : DocFault) × IsDocumentFault text fault
+
+pub document_or_fault : (text : List ℕ) → SomeDocument text ⊎ SomeFault text
 document_or_fault text = by_head (head.some_head Satisfiable text)
   where
     by_body : (v : Version) (p : Problem) (rest : List ℕ) → IsHead Satisfiable text v p rest
         → IsModelText rest ⊎ ((fault : DocFault) × IsFaultOf rest first_body_line fault)
-        → ((q : Problem) × (m : Structure) × (s : ℕ) × IsDocument text q m s) ⊎ ((fault : DocFault) × IsDocumentFault text fault)
+        → SomeDocument text ⊎ SomeFault text
     by_body v p rest h (inl (m, s, written, ordered, is)) =
-        inl (p, m, s, record { version = v; body = rest; has_head = h; has_body = is; is_written = written; is_ordered = ordered })
-    by_body v p rest h (inr (fault, found)) = inr (fault, inr (record { version = v; problem = p; body = rest; has_head = h; is_fault = found }))
+        inl (
+          p,
+          m,
+          s,
+          record {
+            version = v;
+            body = rest;
+            has_head = h;
+            has_body = is;
+            is_written = written;
+            is_ordered = ordered;
+          },
+        )
+    by_body v p rest h (inr (fault, found)) =
+        inr (fault, inr (record { version = v; problem = p; body = rest; has_head = h; is_fault = found }))
 
-    by_head : ((v : Version) × (p : Problem) × (rest : List ℕ) × IsHead Satisfiable text v p rest) ⊎ ((fault : DocFault) × IsHeadFault Satisfiable text fault)
-        → ((q : Problem) × (m : Structure) × (s : ℕ) × IsDocument text q m s) ⊎ ((fault : DocFault) × IsDocumentFault text fault)
+    by_head : ((v : Version) × (p : Problem) × (rest : List ℕ) × IsHead Satisfiable text v p rest)
+        ⊎ ((fault : DocFault) × IsHeadFault Satisfiable text fault)
+        → SomeDocument text ⊎ SomeFault text
     by_head (inl (v, p, rest, h)) = by_body v p rest h (body.model_or_fault rest first_body_line)
     by_head (inr (fault, found)) = inr (fault, inl found)
 
@@ -92,8 +115,7 @@ some_check text = go (document_or_fault text)
     by_finding p m s is (c, finds) =
         (c, told text c (record { problem = p; structure = m; start = s; is_document = is; finds = finds }))
 
-    go : ((p : Problem) × (m : Structure) × (s : ℕ) × IsDocument text p m s) ⊎ ((fault : DocFault) × IsDocumentFault text fault)
-        → (c : Checked) × IsCheckedAs text c
+    go : SomeDocument text ⊎ SomeFault text → (c : Checked) × IsCheckedAs text c
     go (inl (p, m, s, is)) =
         let h = is.has_head in
         let well = parsed_well h.formula_text p.formula h.is_parsed in

@@ -41,7 +41,8 @@ pub fn holds(
     ensures holds { IfOk result (λ holds. IsTrue holds ↔ HoldsAt structure.now state problem.now) }
     ensures admitted { OnOk result (IsAdmitted (logic_of problem.now.formula) structure.now) }
     ensures closed { OnOk result (¬ (HasLargeClosure problem.now MOST_NODES)) }
-    ensures total { (s : ℕ) → IsErrOf result (CheckRefusal.NotTotal s) → IsFirstDeadlock (logic_of problem.now.formula) structure.now s }
+    ensures total { (s : ℕ) → IsErrOf result (CheckRefusal.NotTotal s)
+        → IsFirstDeadlock (logic_of problem.now.formula) structure.now s }
     ensures fits { IsErrOf result CheckRefusal.ClosureTooLarge
         → IsAdmitted (logic_of problem.now.formula) structure.now × HasLargeClosure problem.now MOST_NODES }
 {

@@ -82,9 +82,33 @@ pub record Alike (g h : Graph) : Type 0 where
 
 back : (g h : Graph) (x y : Node) → SameNode g h x y → SameNode h g y x
 back g h x y (unnamed is u) = unnamed (sym is) (subst Unnamed is u)
-back g h x y (literal s) = literal (record { prop = s.other; other = s.prop; positive = s.positive; here = s.there; there = s.here; names = sym s.names })
-back g h x y (diamond s) = diamond (record { action = s.other; other = s.action; to = s.to; here = s.there; there = s.here; names = sym s.names })
-back g h x y (square s) = square (record { action = s.other; other = s.action; to = s.to; here = s.there; there = s.here; names = sym s.names })
+back g h x y (literal s) =
+    literal (record {
+      prop = s.other;
+      other = s.prop;
+      positive = s.positive;
+      here = s.there;
+      there = s.here;
+      names = sym s.names;
+    })
+back g h x y (diamond s) =
+    diamond (record {
+      action = s.other;
+      other = s.action;
+      to = s.to;
+      here = s.there;
+      there = s.here;
+      names = sym s.names;
+    })
+back g h x y (square s) =
+    square (record {
+      action = s.other;
+      other = s.action;
+      to = s.to;
+      here = s.there;
+      there = s.here;
+      names = sym s.names;
+    })
 
 pub alike_back : (g h : Graph) → Alike g h → Alike h g
 alike_back g h a = record {

@@ -108,10 +108,17 @@ module _ (q : Question) (e : ℕ) (nodes : List ℕ) (sp : SpreadList) (ok : IsG
   )
     where
       go_step : SpreadList → GoStep
-      go_step s = record { sequent = (entry_at q.refutation e).sequent; spread = s; diamond = d; next = (entry_at q.refutation f).sequent }
+      go_step s = record {
+        sequent = (entry_at q.refutation e).sequent;
+        spread = s;
+        diamond = d;
+        next = (entry_at q.refutation f).sequent;
+      }
 
       Condition : SpreadList → Type 0
-      Condition s = NamesCondition (HasTransition q.graph) (go_step s) m (entry_at q.refutation e).traces (entry_at q.refutation f).traces
+      Condition s =
+          NamesCondition (HasTransition q.graph) (go_step s) m (entry_at q.refutation e).traces
+          (entry_at q.refutation f).traces
 
       is_trace : (t : Triple) → IsMember t triples ↔ IsTrace q.graph (entry_at q.refutation e).sequent sp d t
       is_trace t =

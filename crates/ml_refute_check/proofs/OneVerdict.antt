@@ -41,7 +41,8 @@ pub one_document : (text : List ℕ) (v w : Version) (p q : Problem) (r s : Refu
     (x : IsDocument text v p r) (y : IsDocument text w q s) → OneDocument v w p q r s x.body y.body
 one_document text v w p q r s x y =
     let heads = one_head Unsatisfiable text v w p q x.body y.body x.has_head y.has_head in
-    let other : IsTextOf v x.body s = subst (λ b. IsTextOf v b s) (sym heads.2) (subst (λ u. IsTextOf u y.body s) (sym heads.0) y.has_body) in
+    let other : IsTextOf v x.body s =
+    subst (λ b. IsTextOf v b s) (sym heads.2) (subst (λ u. IsTextOf u y.body s) (sym heads.0) y.has_body) in
     record {
       versions = heads.0;
       problems = heads.1;
@@ -80,7 +81,8 @@ document_fault text v p r fault x (inr of_body) =
     let there : IsFaultOf v x.body first_body_line fault =
     subst (λ b. IsFaultOf v b first_body_line fault) (sym heads.2)
     (subst (λ u. IsFaultOf u of_body.body first_body_line fault) (sym heads.0) of_body.is_fault) in
-    body.fault_or_readable v x.body first_body_line fault ((body.readable_is_refutation v x.body).1 (r, x.is_refutation, x.has_body)) there
+    body.fault_or_readable v x.body first_body_line fault
+    ((body.readable_is_refutation v x.body).1 (r, x.is_refutation, x.has_body)) there
 
 one_fault : (text : List ℕ) (e f : DocFault) → IsDocumentFault text e → IsDocumentFault text f → e ≡ f
 one_fault text e f (inl x) (inl y) = head.one_fault Unsatisfiable text e f x y
@@ -113,7 +115,9 @@ rejected_once text l n k m x y =
     subst (λ r. AreLinesOf y.version y.is_document.body first_body_line r x.lines) one.refutations
     (subst (λ b. AreLinesOf y.version b first_body_line x.refutation x.lines) one.bodies
     (subst (λ v. AreLinesOf v x.is_document.body first_body_line x.refutation x.lines) one.versions x.are_lines)) in
-    let lines = one_parts y.version y.is_document.body first_body_line y.refutation x.lines y.lines y.is_document.is_refutation here y.are_lines in
+    let lines =
+    one_parts y.version y.is_document.body first_body_line y.refutation x.lines y.lines y.is_document.is_refutation here
+    y.are_lines in
     let found : slice_get y.lines y.entry ≡ Some x.at =
     subst (λ e. slice_get y.lines e ≡ Some x.at) same.0 (subst (λ ls. slice_get ls x.entry ≡ Some x.at) lines x.of_entry) in
     let both : Some x.at ≡ Some y.at = sym found ∙ y.of_entry in

@@ -42,14 +42,16 @@ pub record SourceAmong (odds : List ℕ) (t : Triple) (y : ℕ) (progress : Bool
   pub member : IsMember item items
   pub is_source : IsSource odds t y progress item behind
 
-pub record HasSource (odds : List ℕ) (traces : List Triple) (y : ℕ) (progress : Bool) (items : List Item) (behind : Item) : Type 0 where
+pub record HasSource (odds : List ℕ) (traces : List Triple) (y : ℕ) (progress : Bool)
+    (items : List Item) (behind : Item) : Type 0 where
   pub trace : Triple
   pub member : IsMember trace traces
   pub among : SourceAmong odds trace y progress items behind
 
 -- below the bound a name comes from where it stands, with progress where it is advanced; a green one is the last of its
 -- stack, and comes with progress
-pub record IsNameTraced (odds : List ℕ) (traces : List Triple) (bound : ℕ) (green : Option ℕ) (items : List Item) (y : ℕ) (behind : Item) : Type 0 where
+pub record IsNameTraced (odds : List ℕ) (traces : List Triple) (bound : ℕ) (green : Option ℕ)
+    (items : List Item) (y : ℕ) (behind : Item) : Type 0 where
   pub below : y < bound → HasSource odds traces y (not (ends_in y behind.stack.items)) items behind
   pub if_green : green ≡ Some y → (ends_in y behind.stack.items ≡ true) × HasSource odds traces y true items behind
 
