@@ -414,13 +414,16 @@ module _ (r : Refutation) (e : ℕ) (g h : Graph) (a : Alike g h) where
   traces : (c : List (ℕ × Side)) (d f : ℕ) (m : Mark) → TracesNames (entry_at r e) c d (entry_at r f) m g
       → TracesNames (entry_at r e) c d (entry_at r f) m h
   traces c d f m k =
+      let step : SpreadList → GoStep = λ sp. record {
+        sequent = C;
+        spread = sp;
+        diamond = d;
+        next = (entry_at r f).sequent;
+      } in
       of_spread_same g h a C c
       (λ sp. NamesCondition (HasTransition g) (step sp) m (entry_at r e).traces (entry_at r f).traces)
       (λ sp. NamesCondition (HasTransition h) (step sp) m (entry_at r e).traces (entry_at r f).traces)
       (λ sp. names_same g h a (step sp) m (entry_at r e).traces (entry_at r f).traces) k
-    where
-      abbrev step : SpreadList → GoStep
-      step sp = record { sequent = C; spread = sp; diamond = d; next = (entry_at r f).sequent }
 
   starts : IsWellStarted r e g → IsWellStarted r e h
   starts k = record {
