@@ -117,7 +117,7 @@ module _ (q : Question) (text : List ℕ) (p : Problem) (is_problem : IsProblem 
       → Refuted q text out
   by_refutation r fits found (won, few) written =
       refuted found.graph (of_parts r.names r.entries) found.is_graph
-      (closed q p fits (keeps_limit p found.graph q.limit found.is_graph few)) r.is_refutation won written.0
+      (closed q p fits (keeps_limit p found.graph q.limit found.is_graph few)) r.is_refutation won written
 
   by_limit : (negated : Bool) (d : Decision) → (HasLargeClosure p.formula → ⊥) → (found : IsFoundOf p q.limit d) → IsFound found.graph q.limit d
       → IsDocumentFor p d out → IsAnsweredIn negated q text (status_in negated d) out

@@ -19,7 +19,7 @@ mod question;
 mod status;
 mod top;
 
-pub use cause::{Cause, MOST_NODES};
+pub use cause::Cause;
 pub use command::{Command, LONGEST_DOCUMENT, LONGEST_TEXT, command_of};
 pub use question::Question;
 pub use status::Status;
