@@ -28,6 +28,6 @@ mod writing;
 pub use answer::Answer;
 pub use head_rule::HeadRule;
 pub use logic::Logic;
-pub use problem::{AnyFormula, Problem, copy, graph, negated, print, read};
+pub use problem::{AnyFormula, MOST_NODES, Problem, copy, graph, negated, print, read};
 pub use reading::{Head, read_head};
 pub use writing::{append_head, write_head};

@@ -110,6 +110,9 @@ pub fn print(alloc: Global, problem: &Problem) -> Result<Vec<u8>, NoMemory>
     }
 }
 
+/// How many nodes the closure of a problem may have where it is decided and checked.
+pub const MOST_NODES: u32 = 4_096;
+
 /// The graph of a problem: on every admitted structure it holds exactly where the problem does.
 ///
 /// `_max` is how many nodes a closure may have; formulas of the mu-calculus and of PDL have none.
