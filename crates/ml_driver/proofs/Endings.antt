@@ -12,7 +12,7 @@ use Rattle.ml_driver.specs.declared.command.Command.TheVariants.{Decide, Valid, 
 use Rattle.ml_driver.specs.declared.status.Status.{Status}
 use Rattle.ml_driver.specs.declared.status.Status.TheVariants.{Yes, No, Undecided, Words, Text, ReadFault, WriteFault, NoMemory}
 use Rattle.ml_driver.specs.Statuses.{longest_input, refused_length}
-use Rattle.ml_driver.specs.Run.{document_by_length, IsDue, World, WasRead, IsWhole, Answered, FailedToWrite, Ended, Wrote}
+use Rattle.ml_driver.specs.Run.{as_document, document_by_length, IsDue, World, WasRead, IsWhole, Answered, FailedToWrite, Ended, Wrote}
 
 -- what is due is never a fault or want of memory
 no_fault_due : (c : Option Command) (text output : List ℕ) → IsDue c text ReadFault output → ⊥
@@ -85,6 +85,6 @@ ended_with c d w status same ended = subst (λ k. Ended k w status) (sym same) e
 pub too_long_due : (c : Command) (text : List ℕ) → longest_input c < length text → IsDue (Some c) text Text refused_length
 too_long_due (Decide l n) text long = inl (long, refl)
 too_long_due (Valid l n) text long = inl (long, refl)
-too_long_due CheckModel text long = document_by_length (long, refl)
+too_long_due CheckModel text long = as_document (document_by_length (long, refl))
 too_long_due CheckRefutation text long = document_by_length (long, refl)
 too_long_due Migrate text long = document_by_length (long, refl)

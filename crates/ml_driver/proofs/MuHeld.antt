@@ -17,7 +17,7 @@ use Rattle.ml_mu_graph.specs.private.Views.{none_around}
 use Rattle.ml_mu_graph.proofs.InRange.{lists_make_graph}
 use Rattle.ml_mu_graph.proofs.Made.{graph_made}
 use Rattle.ml_refutation.specs.Refutation.{Fits}
-use Rattle.ml_driver.proofs.HeldNames.{Every, IsHeld, action_named, every_append, every_cons, with_named}
+use Rattle.ml_driver.proofs.HeldNames.{Every, IsHeld, action_named, every_append, every_cons, held_lists, with_named}
 
 -- ---- names
 
@@ -125,11 +125,10 @@ mu_held f negated well = (
   graph_of f negated,
   (
     is_graph f negated,
-    record {
-      props = props_named f well.names_are_spelled well.names_are_short [] (λ x m. absurd m);
-      actions = actions_named f well.names_are_spelled well.names_are_short [] (λ x m. absurd m);
-      priorities = fits;
-    },
+    held_lists (graph_of f negated) (is_graph f negated).is_graph
+        (props_named f well.names_are_spelled well.names_are_short [] (λ x m. absurd m))
+        (actions_named f well.names_are_spelled well.names_are_short [] (λ x m. absurd m))
+        fits,
   ),
 )
   where

@@ -10,16 +10,18 @@ use Rattle.ml_front.specs.declared.problem.Problem.{Problem}
 use Rattle.ml_front.proofs.Logics.{formula_once, formula_or_refused}
 use Rattle.ml_driver.specs.Decision.{IsAnswered, IsAnsweredIn, IsClosed, IsProblem, LeftOpen, Refuted, RefusedText, Satisfied, StaysOpen}
 use Rattle.ml_driver.specs.declared.question.Question.{Question}
-use Rattle.ml_model_check.specs.Checked.{Shows, ShowsNot, IsDocumentFault}
+use Rattle.ml_model_check.specs.Checked.{IsCheckedAs}
+use Rattle.ml_model_check.specs.declared.checked.Checked.{Checked}
 use Rattle.ml_model_check.specs.declared.checked.Checked.TheVariants as checked
 use Rattle.ml_model_check.proofs.OneCheck.{one_check}
 use Rattle.ml_driver.specs.declared.command.Command.TheVariants.{Decide, Valid, CheckModel, CheckRefutation, Migrate}
 use Rattle.ml_driver.specs.declared.status.Status.{Status}
 use Rattle.ml_driver.specs.declared.status.Status.TheVariants.{Yes, No, Undecided, Words, Text}
 use Rattle.ml_driver.specs.Statuses.{longest_document, refusal_line}
-use Rattle.ml_driver.specs.Run.{IsDue, plainly, for_negation, IsAcceptedRefutation, IsRejectedRefutation, IsRefusedDocument, document_by_length, by_line}
+use Rattle.ml_driver.specs.Run.{IsDue, plainly, for_negation, IsRefusedDocument, IsRefusedModel, as_document, by_deadlock, document_by_length, by_line}
 use Rattle.ml_refute_check.specs.Documents as refuted
-use Rattle.ml_refute_check.specs.Documents.{IsMigrated}
+use Rattle.ml_refute_check.specs.Documents.{IsMigrated, IsVerdict}
+use Rattle.ml_refute_check.specs.declared.verdict.Verdict.{Verdict}
 use Rattle.ml_refute_check.specs.declared.verdict.Verdict.TheVariants as verdict
 use Rattle.ml_refute_check.proofs.OneVerdict.{one_verdict}
 use Rattle.ml_driver.proofs.RefutationDocuments.{no_refutation_at_fault}
@@ -148,80 +150,69 @@ one_answer q text s t out more x y =
 
 -- ---- check-model
 
-shown_refused : (text more : List ℕ) → length text ≤ longest_document → Shows text → IsRefusedDocument (IsDocumentFault text) text more → ⊥
-shown_refused text more short x (document_by_length long) = absurd (omega (arith, short, long.0))
-shown_refused text more short x (by_line fits r) =
-    let same = one_check text checked.Holds (checked.Unreadable r.fault) x r.is_fault in absurd (cc)
+says_of_check : Checked → Status
+says_of_check checked.Holds = Yes
+says_of_check checked.Fails = No
+says_of_check (checked.Unreadable fault) = Text
+says_of_check (checked.NotTotal state) = Text
+says_of_check checked.ClosureTooLarge = Undecided
 
-shown_not_refused : (text more : List ℕ) → length text ≤ longest_document → ShowsNot text → IsRefusedDocument (IsDocumentFault text) text more → ⊥
-shown_not_refused text more short x (document_by_length long) = absurd (omega (arith, short, long.0))
-shown_not_refused text more short x (by_line fits r) =
-    let same = one_check text checked.Fails (checked.Unreadable r.fault) x r.is_fault in absurd (cc)
+-- the document is too long, or checking it finds this
+data Checks (text : List ℕ) (s : Status) : Type 0 where
+  too_long : longest_document < length text → s ≡ Text → Checks text s
+  found : length text ≤ longest_document → (c : Checked) → IsCheckedAs text c → s ≡ says_of_check c → Checks text s
 
-shown_both : (text : List ℕ) → Shows text → ShowsNot text → ⊥
-shown_both text x y = let same = one_check text checked.Holds checked.Fails x y in absurd (cc)
+refused_model : (text out : List ℕ) → IsRefusedModel text out → Checks text Text
+unfolding says_of_check
+refused_model text out (as_document (document_by_length long)) = too_long long.0 refl
+refused_model text out (as_document (by_line short r)) = found short (checked.Unreadable r.fault) r.is_fault refl
+refused_model text out (by_deadlock short d) = found short (checked.NotTotal d.state) d.is_deadlock refl
 
-data Checks (text out : List ℕ) : Status → Type 0 where
-  holds : length text ≤ longest_document → Shows text → Checks text out Yes
-  fails : length text ≤ longest_document → ShowsNot text → Checks text out No
-  unreadable : IsRefusedDocument (IsDocumentFault text) text out → Checks text out Text
-
-checks : (text : List ℕ) (s : Status) (out : List ℕ) → IsDue (Some CheckModel) text s out → Checks text out s
-checks text Yes out due = holds due.0 due.1.0
-checks text No out due = fails due.0 due.1.0
-checks text Text out due = unreadable due
+checks : (text : List ℕ) (s : Status) (out : List ℕ) → IsDue (Some CheckModel) text s out → Checks text s
+unfolding says_of_check
+checks text Yes out due = found due.0 checked.Holds due.1.0 refl
+checks text No out due = found due.0 checked.Fails due.1.0 refl
+checks text Undecided out due = found due.0 checked.ClosureTooLarge due.1.0 refl
+checks text Text out due = refused_model text out due
 checks text _ out due = absurd due
 
-one_checked : (text : List ℕ) (s t : Status) (out more : List ℕ) → Checks text out s → Checks text more t → s ≡ t
-one_checked text s t out more (holds short x) (holds fits y) = refl
-one_checked text s t out more (holds short x) (fails fits y) = absurd (shown_both text x y)
-one_checked text s t out more (holds short x) (unreadable y) = absurd (shown_refused text more short x y)
-one_checked text s t out more (fails short x) (holds fits y) = absurd (shown_both text y x)
-one_checked text s t out more (fails short x) (fails fits y) = refl
-one_checked text s t out more (fails short x) (unreadable y) = absurd (shown_not_refused text more short x y)
-one_checked text s t out more (unreadable x) (holds fits y) = absurd (shown_refused text out fits y x)
-one_checked text s t out more (unreadable x) (fails fits y) = absurd (shown_not_refused text out fits y x)
-one_checked text s t out more (unreadable x) (unreadable y) = refl
+one_checked : (text : List ℕ) (s t : Status) → Checks text s → Checks text t → s ≡ t
+one_checked text s t (too_long long is) (too_long more also) = is ∙ sym also
+one_checked text s t (too_long long is) (found fits d y also) = absurd (omega (arith, long, fits))
+one_checked text s t (found short c x is) (too_long long also) = absurd (omega (arith, long, short))
+one_checked text s t (found short c x is) (found fits d y also) =
+    is ∙ ap says_of_check (one_check text c d x y) ∙ sym also
 
 -- ---- check-refutation
 
-data Verdicts (text out : List ℕ) : Status → Type 0 where
-  accepted : length text ≤ longest_document → IsAcceptedRefutation text out → Verdicts text out Yes
-  rejected : length text ≤ longest_document → IsRejectedRefutation text out → Verdicts text out No
-  no_refutation : IsRefusedDocument (refuted.IsDocumentFault text) text out → Verdicts text out Text
+says_of_verdict : Verdict → Status
+says_of_verdict verdict.Accepted = Yes
+says_of_verdict (verdict.Rejected line rule) = No
+says_of_verdict (verdict.Unreadable fault) = Text
 
-verdicts : (text : List ℕ) (s : Status) (out : List ℕ) → IsDue (Some CheckRefutation) text s out → Verdicts text out s
-verdicts text Yes out due = accepted due.0 due.1
-verdicts text No out due = rejected due.0 due.1
-verdicts text Text out due = no_refutation due
+-- the document is too long, or this is the verdict on it
+data Verdicts (text : List ℕ) (s : Status) : Type 0 where
+  past_limit : longest_document < length text → s ≡ Text → Verdicts text s
+  judged : length text ≤ longest_document → (v : Verdict) → IsVerdict text v → s ≡ says_of_verdict v → Verdicts text s
+
+no_refutation : (text out : List ℕ) → IsRefusedDocument (refuted.IsDocumentFault text) text out → Verdicts text Text
+unfolding says_of_verdict
+no_refutation text out (document_by_length long) = past_limit long.0 refl
+no_refutation text out (by_line short r) = judged short (verdict.Unreadable r.fault) r.is_fault refl
+
+verdicts : (text : List ℕ) (s : Status) (out : List ℕ) → IsDue (Some CheckRefutation) text s out → Verdicts text s
+unfolding says_of_verdict
+verdicts text Yes out due = judged due.0 verdict.Accepted due.1.is_accepted refl
+verdicts text No out due = judged due.0 (verdict.Rejected due.1.line due.1.rule) due.1.is_rejected refl
+verdicts text Text out due = no_refutation text out due
 verdicts text _ out due = absurd due
 
-accepted_rejected : (text out more : List ℕ) → IsAcceptedRefutation text out → IsRejectedRefutation text more → ⊥
-accepted_rejected text out more x y =
-    let same = one_verdict text verdict.Accepted (verdict.Rejected y.line y.rule) x.is_accepted y.is_rejected in absurd (cc)
-
-accepted_refused : (text out more : List ℕ) → length text ≤ longest_document → IsAcceptedRefutation text out
-    → IsRefusedDocument (refuted.IsDocumentFault text) text more → ⊥
-accepted_refused text out more short x (document_by_length long) = absurd (omega (arith, short, long.0))
-accepted_refused text out more short x (by_line fits r) =
-    let same = one_verdict text verdict.Accepted (verdict.Unreadable r.fault) x.is_accepted r.is_fault in absurd (cc)
-
-rejected_refused : (text out more : List ℕ) → length text ≤ longest_document → IsRejectedRefutation text out
-    → IsRefusedDocument (refuted.IsDocumentFault text) text more → ⊥
-rejected_refused text out more short x (document_by_length long) = absurd (omega (arith, short, long.0))
-rejected_refused text out more short x (by_line fits r) =
-    let same = one_verdict text (verdict.Rejected x.line x.rule) (verdict.Unreadable r.fault) x.is_rejected r.is_fault in absurd (cc)
-
-one_judged : (text : List ℕ) (s t : Status) (out more : List ℕ) → Verdicts text out s → Verdicts text more t → s ≡ t
-one_judged text s t out more (accepted short x) (accepted fits y) = refl
-one_judged text s t out more (accepted short x) (rejected fits y) = absurd (accepted_rejected text out more x y)
-one_judged text s t out more (accepted short x) (no_refutation y) = absurd (accepted_refused text out more short x y)
-one_judged text s t out more (rejected short x) (accepted fits y) = absurd (accepted_rejected text more out y x)
-one_judged text s t out more (rejected short x) (rejected fits y) = refl
-one_judged text s t out more (rejected short x) (no_refutation y) = absurd (rejected_refused text out more short x y)
-one_judged text s t out more (no_refutation x) (accepted fits y) = absurd (accepted_refused text more out fits y x)
-one_judged text s t out more (no_refutation x) (rejected fits y) = absurd (rejected_refused text more out fits y x)
-one_judged text s t out more (no_refutation x) (no_refutation y) = refl
+one_judged : (text : List ℕ) (s t : Status) → Verdicts text s → Verdicts text t → s ≡ t
+one_judged text s t (past_limit long is) (past_limit more also) = is ∙ sym also
+one_judged text s t (past_limit long is) (judged fits w y also) = absurd (omega (arith, long, fits))
+one_judged text s t (judged short v x is) (past_limit long also) = absurd (omega (arith, long, short))
+one_judged text s t (judged short v x is) (judged fits w y also) =
+    is ∙ ap says_of_verdict (one_verdict text v w x y) ∙ sym also
 
 -- ---- migrate
 
@@ -250,7 +241,7 @@ pub one_due : OneDue
 one_due None text s t out more x y = words_due text s out x ∙ sym (words_due text t more y)
 one_due (Some (Decide l n)) text s t out more x y = one_answer (plainly l n) text s t out more x y
 one_due (Some (Valid l n)) text s t out more x y = one_answer (for_negation l n) text s t out more x y
-one_due (Some CheckModel) text s t out more x y = one_checked text s t out more (checks text s out x) (checks text t more y)
+one_due (Some CheckModel) text s t out more x y = one_checked text s t (checks text s out x) (checks text t more y)
 one_due (Some CheckRefutation) text s t out more x y =
-    one_judged text s t out more (verdicts text s out x) (verdicts text t more y)
+    one_judged text s t (verdicts text s out x) (verdicts text t more y)
 one_due (Some Migrate) text s t out more x y = one_migrated text s t out more (migrates text s out x) (migrates text t more y)

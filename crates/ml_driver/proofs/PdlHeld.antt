@@ -16,7 +16,7 @@ use Rattle.ml_pdl_graph.specs.private.NodeList.{actions_onto, nodes_of, operator
 use Rattle.ml_pdl_graph.proofs.InRange.{lists_make_graph}
 use Rattle.ml_pdl_graph.proofs.Made.{graph_made}
 use Rattle.ml_refutation.specs.Refutation.{Fits}
-use Rattle.ml_driver.proofs.HeldNames.{Every, IsHeld, action_named, every_append, every_cons, with_named}
+use Rattle.ml_driver.proofs.HeldNames.{Every, IsHeld, action_named, every_append, every_cons, held_lists, with_named}
 
 -- ---- names
 
@@ -148,10 +148,9 @@ pdl_held f negated well = (
   graph_of f negated,
   (
     is_graph f negated,
-    record {
-      props = props_named f well.names_are_spelled well.names_are_short [] (λ x m. absurd m);
-      actions = actions_named f well.names_are_spelled well.names_are_short [] (λ x m. absurd m);
-      priorities = low_priorities f;
-    },
+    held_lists (graph_of f negated) (is_graph f negated).is_graph
+        (props_named f well.names_are_spelled well.names_are_short [] (λ x m. absurd m))
+        (actions_named f well.names_are_spelled well.names_are_short [] (λ x m. absurd m))
+        (low_priorities f),
   ),
 )
