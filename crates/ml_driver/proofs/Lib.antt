@@ -26,6 +26,7 @@ pub mod SomeArena
 pub mod HeldNames
 pub mod MuHeld
 pub mod PdlHeld
+pub mod BlocksHeld
 pub mod HeldGraphs
 -- models with such names
 pub mod NamedModels
