@@ -247,7 +247,7 @@ module _ (b : Block) (named : NamedItems b.items) where
 
 -- ---- formulas of states
 
-start_named : (x : Item) (positive : Bool) → NamedItem x → NamedPlace (block_of x positive)
+pub start_named : (x : Item) (positive : Bool) → NamedItem x → NamedPlace (block_of x positive)
 start_named x positive named = one x named
 
 quantifier_named : (q : plain.Quantifier) (i : ℕ) (f : Formula) (sign : Bool)

@@ -15,7 +15,7 @@ use Rattle.ml_front.specs.Graphs.{IsGraphAs, IsGraphOf}
 use Rattle.ml_front.specs.Logics.{IsParsedAs, IsWellFormed, logic_of}
 use Rattle.ml_front.specs.Problems.{IsAdmitted}
 use Rattle.ml_front.specs.declared.problem.AnyFormula.{AnyFormula}
-use Rattle.ml_front.specs.declared.problem.AnyFormula.TheVariants.{Mu, Pdl}
+use Rattle.ml_front.specs.declared.problem.AnyFormula.TheVariants.{Mu, Pdl, Ctl, Ltl}
 use Rattle.ml_front.specs.declared.problem.Problem.{Problem}
 use Rattle.ml_front.specs.declared.problem.TheConstants.{MOST_NODES}
 use Rattle.ml_front.proofs.Graphs.{graphs_alike}
@@ -26,6 +26,8 @@ use Rattle.ml_product.specs.Arena.{Arena, IsArenaOf}
 use Rattle.ml_product.specs.DecisionGame.{HasMoreThan}
 use Rattle.ml_product.specs.Position.{automaton_states}
 use Rattle.ml_refute.proofs.Different.{different_within}
+use Rattle.ml_blocks.specs.BlockGraph.{linear_start_of, start_of}
+use Rattle.ml_driver.proofs.ExtractedModels.{is_admitted}
 use Rattle.ml_driver.proofs.SamePositions.{more_there}
 use Rattle.ml_driver.specs.Decision.{PassesLimit}
 
@@ -38,6 +40,8 @@ admitted_as : (g : Graph) (negated : Bool) (f : AnyFormula) (m : Structure) (sta
     → IsAdmitted (logic_of f) m
 admitted_as g negated (Mu f) m start is extracted = extracted.is_structure
 admitted_as g negated (Pdl f) m start is extracted = extracted.is_structure
+admitted_as g negated (Ctl f) m start is extracted = is_admitted (start_of f negated) g m start is extracted
+admitted_as g negated (Ltl f) m start is extracted = is_admitted (linear_start_of f negated) g m start is extracted
 
 pub admitted : (g : Graph) (p : Problem) (m : Structure) (start : ℕ)
     → IsGraphOf g p
