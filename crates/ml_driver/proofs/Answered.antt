@@ -36,7 +36,10 @@ use Rattle.ml_driver.specs.private.Decisions.{IsDecisionOf, IsDocumentFor, IsFou
 use Rattle.ml_front.proofs.Graphs.{meaningful}
 use Rattle.ml_driver.proofs.ProblemGraphs.{admitted, keeps_limit, well_formed}
 
-pub closed : (q : Question) (p : Problem) → (HasLargeClosure p MOST_NODES → ⊥) → (PassesLimit p q.limit → ⊥) → IsClosed q p
+pub closed : (q : Question) (p : Problem)
+    → (HasLargeClosure p MOST_NODES → ⊥)
+    → (PassesLimit p q.limit → ⊥)
+    → IsClosed q p
 closed q p fits keeps (Positions n) stays = keeps stays.2
 closed q p fits keeps Closure stays = fits stays
 
@@ -145,7 +148,8 @@ module _ (q : Question) (text : List ℕ) (p : Problem) (is_problem : IsProblem 
       subst (λ e. IsAnsweredIn negated q text (status_in negated e) out) (sym is)
       (open_in negated (left_open Closure large document))
 
-pub refused_answered : (negated : Bool) (q : Question) (text out : List ℕ) (e : ParseRefusal) → length text ≤ longest_text
+pub refused_answered : (negated : Bool) (q : Question) (text out : List ℕ) (e : ParseRefusal)
+    → length text ≤ longest_text
     → IsRefusedBy q.logic text e → Some out ≡ refusal_line e → IsAnsweredIn negated q text status.Text out
 refused_answered true q text out e short refused written =
     inr (record { refusal = e; is_short = short; is_refused = refused; is_written = written })

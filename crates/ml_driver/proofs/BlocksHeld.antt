@@ -197,7 +197,9 @@ module _ (b : Block) (named : NamedItems b.items) where
   without_named : (x : Item) → NamedItems (without x b.items)
   without_named x y m = named y (without-member y x b.items m)
 
-  put_named : (x : Item) (ys : List Item) → NamedItems ys → NamedPlace (path_of b (put_all ys (without x b.items)) b.focus)
+  put_named : (x : Item) (ys : List Item)
+      → NamedItems ys
+      → NamedPlace (path_of b (put_all ys (without x b.items)) b.focus)
   put_named x ys all = path_named (put_all ys (without x b.items)) b.focus put
     where
       put : NamedItems (put_all ys (without x b.items))

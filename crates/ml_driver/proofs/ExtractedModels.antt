@@ -29,7 +29,8 @@ module _ (start : Place) (g : Graph) (m : Structure) (s : ℕ) (is : IsGraphAt g
   step_of : (e : Edge) → IsMember e m.edges → has_step m e.source e.target ≡ true
   step_of e inside =
       let named = subst (λ a. bytes_eq a (codes "_") ≡ true) (sym (blank e inside)) refl in
-      member-list_any (λ d. (d.source == e.source) && bytes_eq d.action (codes "_") && (d.target == e.target)) e m.edges inside
+      member-list_any (λ d. (d.source == e.source) && bytes_eq d.action (codes "_") && (d.target == e.target))
+      e m.edges inside
       (and_from (e.source == e.source) (bytes_eq e.action (codes "_") && (e.target == e.target))
       (eq-eqb e.source e.source refl)
       (and_from (bytes_eq e.action (codes "_")) (e.target == e.target) named (eq-eqb e.target e.target refl)))

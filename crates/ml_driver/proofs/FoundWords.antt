@@ -78,13 +78,15 @@ first_text (v ∷ vals) = refl
 
 in_entry : (found : Option Entry)
     → option_and_then (λ (r : Row). slice_get r.values 0) (option_map row_of_entry found)
-    ≡ option_and_then (λ a. option_map (λ (s : Bor Text). s.now) (slice_get a.vals.items 0)) (option_map (λ (e : Entry). e.1) found)
+    ≡ option_and_then (λ a. option_map (λ (s : Bor Text). s.now) (slice_get a.vals.items 0))
+    (option_map (λ (e : Entry). e.1) found)
 in_entry None = refl
 in_entry (Some e) = first_text e.1.vals.items
 
 pub first_read : (id : Text) (f : Found) → first_of id (rows_of f) ≡ first_value f id
 first_read id f =
-    ap (option_and_then (λ (r : Row). slice_get r.values 0)) (sym (find-map (λ (r : Row). bytes_eq r.id id) row_of_entry f.entries.items))
+    ap (option_and_then (λ (r : Row). slice_get r.values 0))
+    (sym (find-map (λ (r : Row). bytes_eq r.id id) row_of_entry f.entries.items))
     ∙ in_entry (find (λ (e : Entry). bytes_eq e.0.now id) f.entries.items)
 
 pub same_row : (result : Option Command) (a b c d e f g h : Option Word)

@@ -108,7 +108,10 @@ module _ (free : List ℕ → Bool)
           letterless no_low no_up = neither (is_lower b) (is_upper b) no_low no_up
 
   -- an action that is spelt as one, and short
-  pub action_named : (a : List ℕ) → (bytes_eq a (codes "_") || (is_word a && free a)) ≡ true → length a ≤ 64 → IsAction a
+  pub action_named : (a : List ℕ)
+      → (bytes_eq a (codes "_") || (is_word a && free a)) ≡ true
+      → length a ≤ 64
+      → IsAction a
   action_named a is short = by_test (bytes_eq a (codes "_")) refl is
     where
       by_test : (b : Bool) → bytes_eq a (codes "_") ≡ b → (b || (is_word a && free a)) ≡ true → IsAction a

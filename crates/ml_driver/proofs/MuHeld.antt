@@ -38,7 +38,8 @@ props_named (Binder q x f) spelled short ps all =
 mu_action : (a : List ℕ) → is_action a ≡ true → length a ≤ 64 → IsAction a
 mu_action [] spelled short = absurd (cc)
 mu_action (b ∷ bs) spelled short =
-    action_named (λ w. not (is_reserved w)) (λ c cs. lower_name (c ∷ cs)) (λ c cs. upper_name (c ∷ cs)) (b ∷ bs) spelled short
+    action_named (λ w. not (is_reserved w)) (λ c cs. lower_name (c ∷ cs)) (λ c cs. upper_name (c ∷ cs))
+    (b ∷ bs) spelled short
 
 actions_named : (f : Formula) → is_spelled f ≡ true → HasShortNames f → (acts : List (List ℕ)) → Every IsAction acts
     → Every IsAction (actions_onto f acts)

@@ -38,7 +38,8 @@ words_due text _ out due = absurd due
 same_problem : (q : Question) (text : List ℕ) (p r : Problem) → IsProblem q text p → IsProblem q text r → p ≡ r
 same_problem q text p r x y =
     ap₂ (λ f n. record { formula = f; negated = n })
-    (formula_once text p.formula r.formula (x.of_logic ∙ sym y.of_logic) x.is_parsed y.is_parsed) (x.in_sense ∙ sym y.in_sense)
+    (formula_once text p.formula r.formula (x.of_logic ∙ sym y.of_logic) x.is_parsed y.is_parsed)
+    (x.in_sense ∙ sym y.in_sense)
 
 problem_refused : (q : Question) (text more : List ℕ) (p : Problem) → IsProblem q text p → RefusedText q text more → ⊥
 problem_refused q text more p x (inl long) = omega (arith, x.is_short, long.0)
@@ -82,7 +83,11 @@ sat_unsat q text out more x y =
     subst (λ p. ¬ (IsSatisfiable p)) same y.is_unsatisfiable
     (x.structure, x.is_admitted, (x.start, x.can_be_written.is_state, x.holds))
 
-closed_open : (q : Question) (text more : List ℕ) (p : Problem) → IsProblem q text p → IsClosed q p → LeftOpen q text more → ⊥
+closed_open : (q : Question) (text more : List ℕ) (p : Problem)
+    → IsProblem q text p
+    → IsClosed q p
+    → LeftOpen q text more
+    → ⊥
 closed_open q text more p is closed y =
     closed y.cause
     (subst (λ r. StaysOpen q r y.cause) (same_problem q text y.problem p y.is_problem is) y.stays_open)
@@ -93,15 +98,19 @@ unfolding told_as
 one_told false q text out more (held x) (held y) = refl
 one_told true q text out more (held x) (held y) = refl
 one_told negated q text out more (held x) (excluded y) = absurd (sat_unsat q text out more x y)
-one_told negated q text out more (held x) (open_left y) = absurd (closed_open q text more x.problem x.is_problem x.is_closed y)
+one_told negated q text out more (held x) (open_left y) =
+    absurd (closed_open q text more x.problem x.is_problem x.is_closed y)
 one_told negated q text out more (held x) (refused y) = absurd (problem_refused q text more x.problem x.is_problem y)
 one_told negated q text out more (excluded x) (held y) = absurd (sat_unsat q text more out y x)
 one_told false q text out more (excluded x) (excluded y) = refl
 one_told true q text out more (excluded x) (excluded y) = refl
-one_told negated q text out more (excluded x) (open_left y) = absurd (closed_open q text more x.problem x.is_problem x.is_closed y)
+one_told negated q text out more (excluded x) (open_left y) =
+    absurd (closed_open q text more x.problem x.is_problem x.is_closed y)
 one_told negated q text out more (excluded x) (refused y) = absurd (problem_refused q text more x.problem x.is_problem y)
-one_told negated q text out more (open_left x) (held y) = absurd (closed_open q text out y.problem y.is_problem y.is_closed x)
-one_told negated q text out more (open_left x) (excluded y) = absurd (closed_open q text out y.problem y.is_problem y.is_closed x)
+one_told negated q text out more (open_left x) (held y) =
+    absurd (closed_open q text out y.problem y.is_problem y.is_closed x)
+one_told negated q text out more (open_left x) (excluded y) =
+    absurd (closed_open q text out y.problem y.is_problem y.is_closed x)
 one_told negated q text out more (open_left x) (open_left y) = refl
 one_told negated q text out more (open_left x) (refused y) = absurd (problem_refused q text more x.problem x.is_problem y)
 one_told negated q text out more (refused x) (held y) = absurd (problem_refused q text out y.problem y.is_problem x)
@@ -109,11 +118,14 @@ one_told negated q text out more (refused x) (excluded y) = absurd (problem_refu
 one_told negated q text out more (refused x) (open_left y) = absurd (problem_refused q text out y.problem y.is_problem x)
 one_told negated q text out more (refused x) (refused y) = refl
 
-exact_as : (negated : Bool) (q : Question) (text out : List ℕ) (p : Problem) (s : Status) → q.negated ≡ negated → IsProblem q text p
+exact_as : (negated : Bool) (q : Question) (text out : List ℕ) (p : Problem) (s : Status)
+    → q.negated ≡ negated
+    → IsProblem q text p
     → (k : Told q text out) → s ≡ told_as negated q text out k → IsExact q p s
 unfolding told_as
 exact_as negated q text out p s is problem (open_left y) same =
-    open_at y.cause (subst (λ r. StaysOpen q r y.cause) (same_problem q text y.problem p y.is_problem problem) y.stays_open) (of_open negated y same)
+    let one = same_problem q text y.problem p y.is_problem problem in
+    open_at y.cause (subst (λ r. StaysOpen q r y.cause) one y.stays_open) (of_open negated y same)
   where
     of_open : (negated : Bool) (y : LeftOpen q text out) → s ≡ told_as negated q text out (open_left y) → s ≡ Undecided
     of_open true y same = same
@@ -125,7 +137,9 @@ exact_as negated q text out p s is problem (held y) same =
     (subst IsSatisfiable one (y.structure, y.is_admitted, (y.start, y.can_be_written.is_state, y.holds)))
     (subst (λ b. s ≡ says b true) (sym is) (of_held negated y same))
   where
-    of_held : (negated : Bool) (y : Satisfied q text out) → s ≡ told_as negated q text out (held y) → s ≡ says negated true
+    of_held : (negated : Bool) (y : Satisfied q text out)
+        → s ≡ told_as negated q text out (held y)
+        → s ≡ says negated true
     of_held true y same = same
     of_held false y same = same
 exact_as negated q text out p s is problem (excluded y) same =
@@ -133,7 +147,9 @@ exact_as negated q text out p s is problem (excluded y) same =
     unsatisfiable_at (subst (IsClosed q) one y.is_closed) (subst (λ r. ¬ (IsSatisfiable r)) one y.is_unsatisfiable)
     (subst (λ b. s ≡ says b false) (sym is) (of_excluded negated y same))
   where
-    of_excluded : (negated : Bool) (y : Refuted q text out) → s ≡ told_as negated q text out (excluded y) → s ≡ says negated false
+    of_excluded : (negated : Bool) (y : Refuted q text out)
+        → s ≡ told_as negated q text out (excluded y)
+        → s ≡ says negated false
     of_excluded true y same = same
     of_excluded false y same = same
 
@@ -142,7 +158,10 @@ answers_are_exact q text p s out problem answered =
     let k = told q.negated q text s out answered in
     exact_as q.negated q text out p s refl problem k.0 k.1
 
-pub one_answer : (q : Question) (text : List ℕ) (s t : Status) (out more : List ℕ) → IsAnswered q text s out → IsAnswered q text t more → s ≡ t
+pub one_answer : (q : Question) (text : List ℕ) (s t : Status) (out more : List ℕ)
+    → IsAnswered q text s out
+    → IsAnswered q text t more
+    → s ≡ t
 one_answer q text s t out more x y =
     let k = told q.negated q text s out x in
     let j = told q.negated q text t more y in
@@ -244,4 +263,5 @@ one_due (Some (Valid l n)) text s t out more x y = one_answer (for_negation l n)
 one_due (Some CheckModel) text s t out more x y = one_checked text s t (checks text s out x) (checks text t more y)
 one_due (Some CheckRefutation) text s t out more x y =
     one_judged text s t (verdicts text s out x) (verdicts text t more y)
-one_due (Some Migrate) text s t out more x y = one_migrated text s t out more (migrates text s out x) (migrates text t more y)
+one_due (Some Migrate) text s t out more x y =
+    one_migrated text s t out more (migrates text s out x) (migrates text t more y)

@@ -52,7 +52,8 @@ mutual
 pdl_action : (a : List ℕ) → is_action a ≡ true → length a ≤ 64 → IsAction a
 pdl_action [] spelled short = absurd (cc)
 pdl_action (b ∷ bs) spelled short =
-    action_named (λ w. not (is_reserved w)) (λ c cs. lower_name (c ∷ cs)) (λ c cs. upper_name (c ∷ cs)) (b ∷ bs) spelled short
+    action_named (λ w. not (is_reserved w)) (λ c cs. lower_name (c ∷ cs)) (λ c cs. upper_name (c ∷ cs))
+    (b ∷ bs) spelled short
 
 mutual
   actions_named : (f : Formula) → is_spelled f ≡ true → HasShortNames f → (acts : List (List ℕ)) → Every IsAction acts

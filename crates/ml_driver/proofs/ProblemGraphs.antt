@@ -74,7 +74,8 @@ has_room g is small =
     let p : ℕ → Bool = λ d. d % 2 == 1 in
     let some = length-filter p g.priorities in
     let few = count_by-le-length p g.priorities in
-    omega (arith, bounded (size g) (length (odd_priorities g) + 1) small (omega (arith, odds, some, few, is.priorities, small)))
+    let odd = omega (arith, odds, some, few, is.priorities, small) in
+    omega (arith, bounded (size g) (length (odd_priorities g) + 1) small odd)
 
 -- ---- positions
 
@@ -88,7 +89,11 @@ few_positions g a n arena few more =
           (λ p m. (arena.are_reached p).1 (more.are_reached p m)),
     )
 
-pub same_positions : (p : Problem) (g h : Graph) (n : ℕ) → IsGraphOf g p → IsGraphOf h p → HasMoreThan g n → HasMoreThan h n
+pub same_positions : (p : Problem) (g h : Graph) (n : ℕ)
+    → IsGraphOf g p
+    → IsGraphOf h p
+    → HasMoreThan g n
+    → HasMoreThan h n
 same_positions p g h n is other more = more_there g h (graphs_alike p g h is other) n more
 
 pub keeps_limit : (p : Problem) (g : Graph) (n : ℕ) → IsGraphOf g p → (HasMoreThan g n → ⊥) → PassesLimit p n → ⊥

@@ -19,9 +19,10 @@ satisfied_read : (q : Question) (text out : List ℕ) → Satisfied q text out �
 satisfied_read q text out x =
     let p = x.problem in
     let m = x.structure in
+    let well = well_formed text p.formula x.is_problem.is_parsed in
     let shown : IsDocument out p m x.start =
     subst (λ t. IsDocument t p m x.start) (sym x.is_written)
-    (documents_read_back Two p m x.start (well_formed text p.formula x.is_problem.is_parsed) x.can_be_written x.is_ordered) in
+    (documents_read_back Two p m x.start well x.can_be_written x.is_ordered) in
     record {
       problem = p;
       structure = m;

@@ -41,7 +41,8 @@ on_document text =
     by_check Holds is short = (Yes, (holds_line, (short, (is, refl))))
     by_check Fails is short = (No, (fails_line, (short, (is, refl))))
     by_check (checked.Unreadable fault) is short =
-        (Text, (refused_document fault, as_document (by_line short (record { fault = fault; is_fault = is; is_written = refl }))))
+        let unreadable = by_line short (record { fault = fault; is_fault = is; is_written = refl }) in
+        (Text, (refused_document fault, as_document unreadable))
     by_check (NotTotal state) is short =
         (Text, (not_total_line state, by_deadlock short (record { state = state; is_deadlock = is; is_written = refl })))
     by_check ClosureTooLarge is short = (Undecided, (open_line, (short, (is, refl))))

@@ -11,7 +11,8 @@
 --   open_line        == the line for one whose problem has too large a closure to tell
 --   not_total_line s == the line for one in which the state s is the first without an edge, where its logic wants one
 --   accepted_line    == the line for a document whose refutation is accepted
---   rejected_line l k == the line for one whose refutation isn't: the first line with a broken rule, and the lowest such rule
+--   rejected_line l k == the line for one whose refutation isn't: the first line with a broken rule, and the lowest such
+--                        rule
 --   refused_document f == the line for a document that can't be read: its first bad line, and the rule that it breaks
 --   refusal_line e   == the line for a text that the parser refuses: the number of its cause, and the byte
 use Rattle.std.specs.Prelude.{ℕ, List, [], ◌∷◌, codes, Option, Some, None}
