@@ -7,31 +7,32 @@
 --   blank_diamond == the action of a diamond is `_`
 --   blocks_held   == so the graph of a closure whose first node is such has names and priorities that a program holds
 use Rattle.std.proofs.Common.{◌≡◌, ℕ, ◌+◌, ◌<◌, ◌≤◌, ◌⊎◌, inl, inr, Bool, true, false, not, if◌then◌else◌, codes, List, [], ◌∷◌, length, get_or, Option, Some, None, refl, sym, subst, ◌∙◌, arith}
+use Rattle.std.specs.Bool.{beq}
 use Rattle.std.specs.Cmp.{first_so, second_so}
 use Rattle.std.specs.List.{slice_get}
 use Rattle.std.proofs.lemmas.Option.{slice_get-get_or}
 use Rattle.ml_base.specs.Name.{IsName, IsAction}
 use Rattle.ml_lists.specs.Member.{IsMember}
 use Rattle.ml_lists.proofs.Member.{member-place, place-member}
-use Rattle.ml_graph.specs.Graph.{Graph, action_at, node_at, priority_at, prop_at, size}
+use Rattle.ml_graph.specs.Graph.{Graph, action_at, node_at, prop_at, size}
 use Rattle.ml_graph.specs.declared.node.Node.{Node}
 use Rattle.ml_graph.specs.declared.node.Node.TheVariants as node
 use Rattle.ml_text.specs.declared.token.Operator.{Operator}
 use Rattle.ml_text.specs.declared.token.Operator.TheVariants as operator
 use Rattle.ml_ctl.specs.Formula as plain
 use Rattle.ml_ctl.specs.Formula.{Formula, occurrences}
-use Rattle.ml_ctl.specs.Spelling.{HasShortNames, is_proposition, is_reserved, is_spelled, is_word_from}
+use Rattle.ml_ctl.specs.Spelling.{HasShortNames, is_reserved, is_spelled, is_word_from}
 use Rattle.ml_ctl.proofs.Names.{lower_name}
 use Rattle.ml_text.specs.Bytes.{is_lower}
 use Rattle.ml_blocks.specs.BlockGraph.{HasForm, IsGraphAt, IsNumberedBy, IsReached, at_root, behind, children}
-use Rattle.ml_blocks.specs.Items.{Item, Row, OfState, Waits, Becomes, Either, now, put_off, row, row_at, row_of_connective, row_of_pairing, row_of_tense, left_number, behind_next, operand_of}
+use Rattle.ml_blocks.specs.Items.{Item, Row, OfState, Waits, Becomes, Either, now, put_off, row, row_at, row_of_connective, row_of_pairing, row_of_tense, unless_put_off, until_released, left_number, behind_next, operand_of}
 use Rattle.ml_blocks.specs.ItemSets.{due, eventualities, next_items, next_of, put_all, without}
 use Rattle.ml_blocks.specs.Places as place
 use Rattle.ml_blocks.specs.Places.{Block, Place, Form, block_of, edge_priority, first_open, focus_behind, form_of, form_of_block, form_of_edge, form_of_formula, form_of_item, is_put_off, path_of, priority_of, priority_of_block}
 use Rattle.ml_blocks.proofs.ItemSetMembers.{next_items-member, put_all-member, without-member}
 use Rattle.ml_blocks.proofs.LocalRuns.{some_open}
 use Rattle.ml_refutation.specs.Refutation.{Fits}
-use Rattle.ml_driver.proofs.HeldNames.{Every, IsHeld}
+use Rattle.ml_driver.proofs.HeldNames.{Every, IsHeld, every_cons}
 
 -- ---- formulas
 
@@ -71,15 +72,11 @@ NamedItems xs = Every NamedItem xs
 none : NamedItems []
 none y m = absurd m
 
-more : (x : Item) (xs : List Item) → NamedItem x → NamedItems xs → NamedItems (x ∷ xs)
-more x xs named all y (inl same) = subst NamedItem (sym same) named
-more x xs named all y (inr m) = all y m
-
 one : (x : Item) → NamedItem x → NamedItems (x ∷ [])
-one x named = more x [] named none
+one x named = every_cons NamedItem x [] named none
 
 two : (x y : Item) → NamedItem x → NamedItem y → NamedItems (x ∷ y ∷ [])
-two x y named also = more x (y ∷ []) named (one y also)
+two x y named also = every_cons NamedItem x (y ∷ []) named (one y also)
 
 abbrev NamedRow : Row → Type 0
 NamedRow OfState = Unit {0}
@@ -103,32 +100,32 @@ module _ (x : Item) (named : NamedItem x) where
   connective_named operator.Iff false l r p q =
       (two (l true) (r false) (p true) (q false), two (l false) (r true) (p false) (q true))
 
-  by_sign : (b : Bool) (r s : Row) → NamedRow r → NamedRow s → NamedRow (if b then r else s)
-  by_sign true r s p q = p
-  by_sign false r s p q = q
+  either_row : (b : Bool) (r s : Row) → NamedRow r → NamedRow s → NamedRow (if b then r else s)
+  either_row true r s p q = p
+  either_row false r s p q = q
 
   tense_named : (t : plain.Tense) (g : Item) → NamedItem g → NamedRow (row_of_tense t x g)
   tense_named plain.Next g p = tt
   tense_named plain.Finally g p =
-      by_sign x.positive (Either (g ∷ []) (put_off x ∷ [])) (Becomes (g ∷ put_off x ∷ []))
+      either_row x.positive (Either (g ∷ []) (put_off x ∷ [])) (Becomes (g ∷ put_off x ∷ []))
       (one g p, one (put_off x) named) (two g (put_off x) p named)
   tense_named plain.Globally g p =
-      by_sign x.positive (Becomes (g ∷ put_off x ∷ [])) (Either (g ∷ []) (put_off x ∷ []))
+      either_row x.positive (Becomes (g ∷ put_off x ∷ [])) (Either (g ∷ []) (put_off x ∷ []))
       (two g (put_off x) p named) (one g p, one (put_off x) named)
 
   pairing_named : (u : plain.Pairing) (f g : Item) → NamedItem f → NamedItem g → NamedRow (row_of_pairing u x f g)
   pairing_named u f g p q = by_pairing u
     where
-      waits : NamedRow (Either (g ∷ []) (f ∷ put_off x ∷ []))
+      waits : NamedRow (unless_put_off x f g)
       waits = (one g q, two f (put_off x) p named)
 
-      goes_on : NamedRow (Either (g ∷ f ∷ []) (g ∷ put_off x ∷ []))
+      goes_on : NamedRow (until_released x f g)
       goes_on = (two g f q p, two g (put_off x) q named)
 
       by_pairing : (u : plain.Pairing) → NamedRow (row_of_pairing u x f g)
-      by_pairing plain.Until = by_sign x.positive _ _ waits goes_on
-      by_pairing plain.Weak = by_sign x.positive _ _ waits goes_on
-      by_pairing plain.Release = by_sign x.positive _ _ goes_on waits
+      by_pairing plain.Until = either_row x.positive (unless_put_off x f g) (until_released x f g) waits goes_on
+      by_pairing plain.Weak = either_row x.positive (unless_put_off x f g) (until_released x f g) waits goes_on
+      by_pairing plain.Release = either_row x.positive (until_released x f g) (unless_put_off x f g) goes_on waits
 
   row_named : (f : Formula) → NamesOf f → NamedRow (row_at x f)
   row_named (plain.Const b) p = tt
@@ -197,9 +194,10 @@ module _ (b : Block) (named : NamedItems b.items) where
   without_named : (x : Item) → NamedItems (without x b.items)
   without_named x y m = named y (without-member y x b.items m)
 
-  put_named : (x : Item) (ys : List Item)
-      → NamedItems ys
-      → NamedPlace (path_of b (put_all ys (without x b.items)) b.focus)
+  abbrev behind_way : Item → List Item → Place
+  behind_way x ys = path_of b (put_all ys (without x b.items)) b.focus
+
+  put_named : (x : Item) (ys : List Item) → NamedItems ys → NamedPlace (behind_way x ys)
   put_named x ys all = path_named (put_all ys (without x b.items)) b.focus put
     where
       put : NamedItems (put_all ys (without x b.items))
@@ -219,13 +217,14 @@ module _ (b : Block) (named : NamedItems b.items) where
 
   item_named : (x : Item) (r : Row) → NamedItem x → NamedRow r → NamedForm (form_of_item b x r)
   item_named x OfState this all =
-      both_named b.positive _ _ this (path_named (without x b.items) b.focus (without_named x))
+      both_named b.positive (place.Holding x.number x.formula (beq x.positive b.positive))
+      (path_of b (without x b.items) b.focus) this (path_named (without x b.items) b.focus (without_named x))
   item_named x Waits this all =
       let p = path_named b.items b.focus named in (p, p)
   item_named x (Becomes ys) this all =
-      let p = put_named x ys all in both_named b.positive _ _ p p
+      let p = put_named x ys all in both_named b.positive (behind_way x ys) (behind_way x ys) p p
   item_named x (Either ys zs) this all =
-      one_named b.positive _ _ (put_named x ys all.0) (put_named x zs all.1)
+      one_named b.positive (behind_way x ys) (behind_way x zs) (put_named x ys all.0) (put_named x zs all.1)
 
   next_items_named : NamedItems (next_items b.items)
   next_items_named y m =
@@ -319,6 +318,7 @@ module _ (g : Graph) (places : List Place) (v : Node) where
   literal_named (place.Constant true) p sign named h is = absurd (cc)
   literal_named (place.Constant false) p sign named h is = absurd (cc)
   literal_named (place.Literal name positive) p sign named h is =
+      let one = sym h.1 ∙ is in
       let same : h.0 ≡ p = cc in
       subst (λ q. IsName (prop_at g q)) same (subst IsName (sym h.2) named)
   literal_named (place.And q r) p sign named h is = let wrong = sym h.4 ∙ is in absurd (cc)
@@ -333,6 +333,7 @@ module _ (g : Graph) (places : List Place) (v : Node) where
   blank_at (place.And q r) a to h is = let wrong = sym h.4 ∙ is in absurd (cc)
   blank_at (place.Or q r) a to h is = let wrong = sym h.4 ∙ is in absurd (cc)
   blank_at (place.Diamond q) a to h is =
+      let one = sym h.3 ∙ is in
       let same : h.0 ≡ a = cc in
       subst (λ b. action_at g b ≡ codes "_") same h.4
   blank_at (place.Square q) a to h is = let wrong = sym h.3 ∙ is in absurd (cc)

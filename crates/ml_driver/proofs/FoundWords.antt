@@ -4,12 +4,12 @@
 --   first_read      == what a getter reads is the first value of its row
 --   same_row        == equal parts are the same row of the table
 --   faultless, found, faulty == what is said of a command that equals the one that is told is said of that
-use Rattle.std.proofs.Common.{◌≡◌, ◌⊎◌, ap, refl, sym, ◌∙◌, true, List, [], ◌∷◌, Option, Some, None, map, option_map, inl, inr, subst}
+use Rattle.std.proofs.Common.{◌≡◌, ap, refl, sym, ◌∙◌, true, List, [], ◌∷◌, Option, Some, None, option_map, inl, inr}
 use Rattle.std.specs.Prelude.{find, option_and_then, slice_get}
 use Rattle.std.specs.Borrow.{Bor}
 use Rattle.std.specs.Str.{bytes_eq}
 use Rattle.clap.specs.Facts.{Entry}
-use Rattle.clap.specs.Matches.{matched_of, first_value}
+use Rattle.clap.specs.Matches.{first_value}
 use Rattle.clap.specs.Walk.{row_of as row_of_entry, rows_of, texts}
 use Rattle.clap.specs.Words.{App, HasKind, IsAmong, Kinds, Row, Text, fault_of, first_of, is_simple, is_simple_and_free, kind_of, matches_of}
 use Rattle.clap.specs.declared.error.Error.{Error}
@@ -19,7 +19,7 @@ use Rattle.clap.specs.declared.parser.matches.Found.{Found}
 use Rattle.clap.proofs.OnLiterals.{clap_on_literals}
 use Rattle.clap.proofs.WalkLemmas.{find-map}
 use Rattle.ml_lines.specs.Lines.{Word}
-use Rattle.ml_driver.specs.Words.{cli, faults_of, parts_in, row, row_of, rows_in}
+use Rattle.ml_driver.specs.Words.{cli, faults_of, row_of, rows_in}
 use Rattle.ml_driver.specs.declared.command.Command.{Command}
 use Rattle.ml_driver.specs.private.Refused.{is_refusal}
 

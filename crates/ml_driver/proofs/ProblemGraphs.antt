@@ -6,7 +6,7 @@
 --   few_positions           == an arena with at most n positions is that of a game without more
 --   same_positions          == the graphs of a problem have games with the same positions
 --   keeps_limit             == so a graph whose game keeps a limit tells that of its problem
-use Rattle.std.proofs.Common.{◌≡◌, ℕ, ◌+◌, ◌*◌, ◌^◌, ◌<◌, ◌≤◌, ◌%◌, ◌==◌, nat_lt, if◌then◌else◌, Bool, true, false, List, [], ◌∷◌, length, filter, refl, sym, subst, arith}
+use Rattle.std.proofs.Common.{ℕ, ◌+◌, ◌*◌, ◌^◌, ◌≤◌, ◌%◌, ◌==◌, nat_lt, if◌then◌else◌, Bool, true, false, List, [], ◌∷◌, length, filter, arith}
 use Rattle.std.proofs.lemmas.List.Sums.{count_by-le-length, length-filter}
 use Rattle.std.proofs.Math.Nat.{mul-le-mul}
 use Rattle.ml_base.specs.Structure.{Structure}

@@ -3,11 +3,11 @@
 --   satisfied_read  == the document with a structure is one of which `check-model` answers that its problem holds
 --   decided_are_checked == the law
 --   refuted_are_accepted == the document with a refutation is one that `check-refutation` accepts
-use Rattle.std.proofs.Common.{◌≡◌, ℕ, List, refl, sym, subst}
+use Rattle.std.proofs.Common.{ℕ, List, sym, subst}
 use Rattle.ml_base.specs.declared.version.Version.TheVariants.{Two}
 use Rattle.ml_model_check.specs.Checked.{IsDocument, Shows}
 use Rattle.ml_model_check.proofs.ReadBack.{documents_read_back}
-use Rattle.ml_driver.specs.Decision.{Refuted, Satisfied}
+use Rattle.ml_driver.specs.Decision.{Satisfied}
 use Rattle.ml_driver.specs.declared.cause.Cause.TheVariants.{Closure}
 use Rattle.ml_driver.specs.declared.question.Question.{Question}
 use Rattle.ml_driver.specs.Laws.{DecidedAreChecked, RefutedAreAccepted}

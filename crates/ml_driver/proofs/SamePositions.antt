@@ -6,18 +6,17 @@
 --   more_there     == so as many positions are reached
 use Rattle.std.proofs.Common.{◌≡◌, ◌≤◌, ◌<◌, ◌⊎◌, ℕ, ◌+◌, ◌*◌, ◌%◌, Bool, true, false, None, List, [], ◌∷◌, filter, if◌then◌else◌, min, refl, sym, ◌∙◌, ap, subst, inl, inr}
 use Rattle.ml_lists.specs.Member.{IsMember}
-use Rattle.ml_graph.specs.Graph.{Graph, size, node_at, priority_at, odd_priorities}
+use Rattle.ml_graph.specs.Graph.{Graph, size, node_at, odd_priorities}
 use Rattle.ml_graph.specs.declared.node.Node.{Node}
 use Rattle.ml_graph.specs.declared.node.Node.TheVariants as node
 use Rattle.ml_graph.proofs.Places.{same_place}
 use Rattle.ml_history.specs.History.{start}
 use Rattle.ml_history.specs.HistoryStep.{step_mark}
 use Rattle.ml_trace.specs.Marks.{priority}
-use Rattle.ml_product.specs.Position.{Position, Follows, automaton_states, neutral, start_of, with_chosen}
+use Rattle.ml_product.specs.Position.{Position, Follows, neutral, start_of, with_chosen}
 use Rattle.ml_product.specs.DecisionGame.{AreMoves, AreSteps, Clashing, HasMoreThan, IsReached, IsResolved, IsVerdictOf, Leading, Open, Settled, Target, To, Turn, Verdict, at_start, by_move, diamonds_of}
-use Rattle.ml_sequent.specs.Choice.{side_of}
 use Rattle.ml_sequent.specs.LocalWalk.{InSpread, LocalWalk, children, children_of, goes, stays}
-use Rattle.ml_sequent.specs.Spread.{IsCause, IsLeastOpenOr, IsOpenOr, IsPair, IsSpreadOf, OnCycle, SpreadList, is_diamond}
+use Rattle.ml_sequent.specs.Spread.{IsCause, IsOpenOr, IsPair, IsSpreadOf, OnCycle, SpreadList, is_diamond}
 use Rattle.ml_sequent.specs.Step.{IsStep, IsTarget, IsTrace, LeadsOut}
 use Rattle.ml_sequent.specs.declared.choice.Side.{Side}
 use Rattle.ml_sequent.specs.declared.choice.Side.TheVariants.{Left, Right}

@@ -6,7 +6,7 @@
 use Rattle.std.specs.Prelude.{ℕ, List, [], ◌∷◌, ◌++◌, codes}
 use Rattle.ml_base.specs.Structure.{Structure}
 use Rattle.ml_base.specs.declared.version.Version.TheVariants.{Two}
-use Rattle.ml_lines.specs.Lines.{Line, line_text, number, text_of}
+use Rattle.ml_lines.specs.Lines.{Line, number, text_of}
 use Rattle.ml_kripke.specs.ModelText.{model_text}
 use Rattle.ml_front.specs.Head.{head_lines}
 use Rattle.ml_front.specs.declared.answer.Answer.TheVariants.{Satisfiable, Undecided}

@@ -5,6 +5,6 @@
 pub enum Cause {
     /// The decision game has more positions than this limit.
     Positions(u32),
-    /// The closure of the problem has more than `MOST_NODES` nodes.
+    /// The closure of the problem has more than `ml_front::MOST_NODES` nodes.
     Closure,
 }

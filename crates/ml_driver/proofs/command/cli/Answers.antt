@@ -1,5 +1,5 @@
 -- The command is the one that is said, argument by argument.
-use Rattle.std.proofs.Common.{rules, ap, ap₂, refl, sym, codes, true, Some, [], ◌∷◌, ◌≡◌, ◌∙◌}
+use Rattle.std.proofs.Common.{rules, ap₂, refl, codes, true, Some, ◌≡◌, ◌∙◌}
 use Rattle.std.proofs.lemmas.Result.{IfOk-weaker}
 use Rattle.clap.specs.Words.{App, Rule, app_of, new_app, new_rule, rule_of, with_rule}
 use Rattle.ml_driver.specs.Words.{cli}
