@@ -4,9 +4,8 @@
 --   names_of      == so it is where they are spelt as such, and short
 --   NamedPlace p  == so it is of each formula of which the node p says something
 --   form_named    == so it is of the nodes to which it leads, and of the proposition that it asks for itself
---   blank_diamond == the action of a diamond is `_`
 --   blocks_held   == so the graph of a closure whose first node is such has names and priorities that a program holds
-use Rattle.std.proofs.Common.{◌≡◌, ℕ, ◌+◌, ◌<◌, ◌≤◌, ◌⊎◌, inl, inr, Bool, true, false, not, if◌then◌else◌, codes, List, [], ◌∷◌, length, get_or, Option, Some, None, refl, sym, subst, ◌∙◌, arith}
+use Rattle.std.proofs.Common.{◌≡◌, ℕ, ◌+◌, ◌<◌, ◌≤◌, ◌⊎◌, inl, inr, Bool, true, false, not, if◌then◌else◌, List, [], ◌∷◌, length, get_or, Option, Some, None, refl, sym, subst, ◌∙◌, arith}
 use Rattle.std.specs.Bool.{beq}
 use Rattle.std.specs.Cmp.{first_so, second_so}
 use Rattle.std.specs.List.{slice_get}
@@ -14,7 +13,7 @@ use Rattle.std.proofs.lemmas.Option.{slice_get-get_or}
 use Rattle.ml_base.specs.Name.{IsName, IsAction}
 use Rattle.ml_lists.specs.Member.{IsMember}
 use Rattle.ml_lists.proofs.Member.{member-place, place-member}
-use Rattle.ml_graph.specs.Graph.{Graph, action_at, node_at, prop_at, size}
+use Rattle.ml_graph.specs.Graph.{Graph, node_at, prop_at, size}
 use Rattle.ml_graph.specs.declared.node.Node.{Node}
 use Rattle.ml_graph.specs.declared.node.Node.TheVariants as node
 use Rattle.ml_text.specs.declared.token.Operator.{Operator}
@@ -29,6 +28,7 @@ use Rattle.ml_blocks.specs.Items.{Item, Row, OfState, Waits, Becomes, Either, no
 use Rattle.ml_blocks.specs.ItemSets.{due, eventualities, next_items, next_of, put_all, without}
 use Rattle.ml_blocks.specs.Places as place
 use Rattle.ml_blocks.specs.Places.{Block, Place, Form, block_of, edge_priority, first_open, focus_behind, form_of, form_of_block, form_of_edge, form_of_formula, form_of_item, is_put_off, path_of, priority_of, priority_of_block}
+use Rattle.ml_blocks.proofs.EdgesGoOn.{diamond_action}
 use Rattle.ml_blocks.proofs.ItemSetMembers.{next_items-member, put_all-member, without-member}
 use Rattle.ml_blocks.proofs.LocalRuns.{some_open}
 use Rattle.ml_refutation.specs.Refutation.{Fits}
@@ -326,18 +326,6 @@ module _ (g : Graph) (places : List Place) (v : Node) where
   literal_named (place.Diamond q) p sign named h is = let wrong = sym h.3 ∙ is in absurd (cc)
   literal_named (place.Square q) p sign named h is = let wrong = sym h.3 ∙ is in absurd (cc)
 
-  blank_at : (f : Form) (a to : ℕ) → HasForm g places v f → v ≡ node.Diamond a to → action_at g a ≡ codes "_"
-  blank_at (place.Constant true) a to h is = absurd (cc)
-  blank_at (place.Constant false) a to h is = absurd (cc)
-  blank_at (place.Literal name positive) a to h is = let wrong = sym h.1 ∙ is in absurd (cc)
-  blank_at (place.And q r) a to h is = let wrong = sym h.4 ∙ is in absurd (cc)
-  blank_at (place.Or q r) a to h is = let wrong = sym h.4 ∙ is in absurd (cc)
-  blank_at (place.Diamond q) a to h is =
-      let one = sym h.3 ∙ is in
-      let same : h.0 ≡ a = cc in
-      subst (λ b. action_at g b ≡ codes "_") same h.4
-  blank_at (place.Square q) a to h is = let wrong = sym h.3 ∙ is in absurd (cc)
-
 low_edge : (es : List ℕ) (k : ℕ) (xs : List Item) → edge_priority es k xs ≤ 1
 low_edge [] k xs = omega arith
 low_edge (e ∷ es) k xs = by_test (is_put_off (e ∷ es) k xs)
@@ -385,9 +373,6 @@ module _ (start : Place) (g : Graph) (is : IsGraphAt g start) where
   form_at : (n : ℕ) → n < size g → HasForm g places (node_at g n) (form_of (at n))
   form_at n low = numbered.has_forms n (at n) (stands_at n low)
 
-  pub blank_diamond : (n a to : ℕ) → n < size g → node_at g n ≡ node.Diamond a to → action_at g a ≡ codes "_"
-  blank_diamond n a to low diamond = blank_at g places (node_at g n) (form_of (at n)) a to (form_at n low) diamond
-
   named_at : NamedPlace start → (n : ℕ) → n < size g → NamedForm (form_of (at n))
   named_at named n low =
       let inside = place-member places n place.True (within n low) in
@@ -405,6 +390,6 @@ module _ (start : Place) (g : Graph) (is : IsGraphAt g start) where
   blocks_held named = record {
     literals = λ n p positive low lit.
         literal_named g places (node_at g n) (form_of (at n)) p positive (named_at named n low) (form_at n low) lit;
-    diamonds = λ n a to low diamond. subst IsAction (sym (blank_diamond n a to low diamond)) refl;
+    diamonds = λ n a to low diamond. subst IsAction (sym (diamond_action start g is n a to low diamond)) refl;
     priorities = low_at;
   }
