@@ -30,7 +30,8 @@ use Rattle.ml_driver.specs.Words.{command_of}
 use Rattle.ml_lines.specs.Lines.{Word}
 
 abbrev pub OneDue : Type 0
-OneDue = (c : Option Command) (text : List ℕ) (s t : Status) (out more : List ℕ) → IsDue c text s out → IsDue c text t more → s ≡ t
+OneDue = (c : Option Command) (text : List ℕ) (s t : Status) (out more : List ℕ)
+    → IsDue c text s out → IsDue c text t more → s ≡ t
 
 -- the limit of the command, where it has one, is a number of 32 bits
 abbrev pub HasSmallLimit : Option Command → Type 0
@@ -43,7 +44,8 @@ SomeDue = (c : Option Command) (text : List ℕ) → HasSmallLimit c → (s : St
 
 -- whatever the words are
 abbrev pub SomeDueForWords : Type 0
-SomeDueForWords = (words : List Word) (text : List ℕ) → (s : Status) × ((out : List ℕ) × IsDue (command_of words) text s out)
+SomeDueForWords = (words : List Word) (text : List ℕ)
+    → (s : Status) × ((out : List ℕ) × IsDue (command_of words) text s out)
 
 -- the status that says whether the problem is satisfiable, where the question is about the negation or isn't
 abbrev pub says : Bool → Bool → Status
