@@ -12,7 +12,7 @@ use Rattle.ml_driver.specs.declared.command.Command.TheVariants.{Decide, Valid, 
 use Rattle.ml_driver.specs.declared.status.Status.{Status}
 use Rattle.ml_driver.specs.declared.status.Status.TheVariants.{Yes, No, Undecided, Words, Text, ReadFault, WriteFault, NoMemory}
 use Rattle.ml_driver.specs.Statuses.{longest_input, refused_length}
-use Rattle.ml_driver.specs.Run.{document_by_length, IsDue, World, WasRead, IsWhole, Answered, FailedToWrite, Ended, Wrote}
+use Rattle.ml_driver.specs.Run.{as_document, document_by_length, IsDue, World, WasRead, IsWhole, Answered, FailedToWrite, Ended, Wrote}
 
 -- what is due is never a fault or want of memory
 no_fault_due : (c : Option Command) (text output : List ℕ) → IsDue c text ReadFault output → ⊥
@@ -49,10 +49,18 @@ answered_ended c w ReadFault answered = absurd (no_fault_due c answered.text ans
 answered_ended c w WriteFault answered = absurd (no_write_fault_due c answered.text answered.output answered.is_due)
 answered_ended c w NoMemory answered = absurd (no_want_due c answered.text answered.output answered.is_due)
 
-pub ended_written : (c : Option Command) (w : World) (text : List ℕ) (due : Status) (output : List ℕ) (status : Status) → WasRead c w text → w.source_faults_after ≡ w.source_faults_before → IsDue c text due output → IsWhole output → Wrote w.taken_before w.taken_after w.sink_faults_before w.sink_faults_after due output status → Ended c w status
+pub ended_written : (c : Option Command) (w : World) (text : List ℕ) (due : Status) (output : List ℕ) (status : Status)
+    → WasRead c w text
+    → w.source_faults_after ≡ w.source_faults_before
+    → IsDue c text due output
+    → IsWhole output
+    → Wrote w.taken_before w.taken_after w.sink_faults_before w.sink_faults_after due output status
+    → Ended c w status
 ended_written c w text due output status read calm is_due whole_output wrote =
     ⊎_elim
-    (λ (whole : (status ≡ due) × (w.taken_after ≡ append_known w.taken_before output) × (w.sink_faults_after ≡ w.sink_faults_before)).
+    (λ (whole : (status ≡ due)
+    × (w.taken_after ≡ append_known w.taken_before output)
+    × (w.sink_faults_after ≡ w.sink_faults_before)).
     subst (Ended c w) (sym whole.0) (answered_ended c w due (record {
       text = text;
       output = output;
@@ -62,7 +70,9 @@ ended_written c w text due output status read calm is_due whole_output wrote =
       was_taken = whole.1;
       is_calm = record { source_is_calm = calm; sink_is_calm = whole.2 };
     })))
-    (λ (part : (status ≡ WriteFault) × AppendsPart w.taken_before w.taken_after output × Rose w.sink_faults_before w.sink_faults_after).
+    (λ (part : (status ≡ WriteFault)
+    × AppendsPart w.taken_before w.taken_after output
+    × Rose w.sink_faults_before w.sink_faults_after).
     let failed : FailedToWrite c w = record {
       text = text;
       status = due;
@@ -82,9 +92,11 @@ pub ended_with : (c d : Option Command) (w : World) (status : Status) → d ≡ 
 ended_with c d w status same ended = subst (λ k. Ended k w status) (sym same) ended
 
 -- an input past the limit of its command is refused by its length
-pub too_long_due : (c : Command) (text : List ℕ) → longest_input c < length text → IsDue (Some c) text Text refused_length
+pub too_long_due : (c : Command) (text : List ℕ)
+    → longest_input c < length text
+    → IsDue (Some c) text Text refused_length
 too_long_due (Decide l n) text long = inl (long, refl)
 too_long_due (Valid l n) text long = inl (long, refl)
-too_long_due CheckModel text long = document_by_length (long, refl)
+too_long_due CheckModel text long = as_document (document_by_length (long, refl))
 too_long_due CheckRefutation text long = document_by_length (long, refl)
 too_long_due Migrate text long = document_by_length (long, refl)

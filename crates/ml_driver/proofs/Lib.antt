@@ -2,6 +2,8 @@
 pub mod Endings
 -- the decision games of graphs that differ in the numbers of names have the same positions
 pub mod SamePositions
+-- structures that are extracted for graphs of CTL* and LTL
+pub mod ExtractedModels
 -- the graphs of problems
 pub mod ProblemGraphs
 -- a decision is what is due
@@ -26,6 +28,7 @@ pub mod SomeArena
 pub mod HeldNames
 pub mod MuHeld
 pub mod PdlHeld
+pub mod BlocksHeld
 pub mod HeldGraphs
 -- models with such names
 pub mod NamedModels

@@ -5,8 +5,11 @@
 use Rattle.std.proofs.Common.{ℕ, ◌<◌, ◌≤◌, ◌⊎◌, List, length, Option, Some, None, refl, ⊎_elim}
 use Rattle.std.proofs.lemmas.Bool.{cases_lt}
 use Rattle.ml_base.specs.declared.doc_fault.DocFault.{DocFault}
-use Rattle.ml_model_check.specs.Checked.{Shows, ShowsNot, IsDocumentFault}
-use Rattle.ml_model_check.proofs.OneCheck.{shows_or_fault}
+use Rattle.ml_model_check.specs.Checked.{IsCheckedAs}
+use Rattle.ml_model_check.specs.declared.checked.Checked.{Checked}
+use Rattle.ml_model_check.specs.declared.checked.Checked.TheVariants as checked
+use Rattle.ml_model_check.specs.declared.checked.Checked.TheVariants.{Holds, Fails, NotTotal, ClosureTooLarge}
+use Rattle.ml_model_check.proofs.OneCheck.{some_check}
 use Rattle.ml_refute_check.specs.Documents as refuted
 use Rattle.ml_refute_check.specs.Documents.{IsVerdict, document_of}
 use Rattle.ml_refute_check.specs.declared.verdict.Verdict.{Verdict}
@@ -16,9 +19,9 @@ use Rattle.ml_refute_check.proofs.SomeVerdict.{some_verdict}
 use Rattle.ml_driver.specs.declared.command.Command.{Command}
 use Rattle.ml_driver.specs.declared.command.Command.TheVariants.{Decide, Valid, CheckModel, CheckRefutation, Migrate}
 use Rattle.ml_driver.specs.declared.status.Status.{Status}
-use Rattle.ml_driver.specs.declared.status.Status.TheVariants.{Yes, No, Words, Text}
-use Rattle.ml_driver.specs.Statuses.{longest_document, refused_words, refused_length, holds_line, fails_line, accepted_line, rejected_line, refused_document}
-use Rattle.ml_driver.specs.Run.{IsDue, document_by_length, by_line, for_negation, plainly}
+use Rattle.ml_driver.specs.declared.status.Status.TheVariants.{Yes, No, Undecided, Words, Text}
+use Rattle.ml_driver.specs.Statuses.{longest_document, refused_words, refused_length, holds_line, fails_line, open_line, not_total_line, accepted_line, rejected_line, refused_document}
+use Rattle.ml_driver.specs.Run.{IsDue, as_document, by_deadlock, document_by_length, by_line, for_negation, plainly}
 use Rattle.ml_driver.proofs.ProblemGraphs.{well_formed}
 use Rattle.ml_driver.proofs.RefutationDocuments.{ShowsRefutation, refutation_or_fault, refutation_read_back}
 use Rattle.ml_driver.proofs.SomeAnswer.{some_answer}
@@ -30,18 +33,19 @@ Due c text = (s : Status) × ((out : List ℕ) × IsDue c text s out)
 on_document : (text : List ℕ) → Due (Some CheckModel) text
 on_document text =
     ⊎_elim
-    (λ (long : longest_document < length text). (Text, (refused_length, document_by_length (long, refl))))
-    (λ (short : length text ≤ longest_document).
-    ⊎_elim
-    (λ (holds : Shows text). (Yes, (holds_line, (short, (holds, refl)))))
-    (λ (other : ShowsNot text ⊎ ((fault : DocFault) × IsDocumentFault text fault)).
-    ⊎_elim
-    (λ (fails : ShowsNot text). (No, (fails_line, (short, (fails, refl)))))
-    (λ (bad : (fault : DocFault) × IsDocumentFault text fault).
-    (Text, (refused_document bad.0, by_line short (record { fault = bad.0; is_fault = bad.1; is_written = refl }))))
-    other)
-    (shows_or_fault text))
+    (λ (long : longest_document < length text). (Text, (refused_length, as_document (document_by_length (long, refl)))))
+    (λ (short : length text ≤ longest_document). by_check (some_check text).0 (some_check text).1 short)
     (cases_lt longest_document (length text))
+  where
+    by_check : (c : Checked) → IsCheckedAs text c → length text ≤ longest_document → Due (Some CheckModel) text
+    by_check Holds is short = (Yes, (holds_line, (short, (is, refl))))
+    by_check Fails is short = (No, (fails_line, (short, (is, refl))))
+    by_check (checked.Unreadable fault) is short =
+        let unreadable = by_line short (record { fault = fault; is_fault = is; is_written = refl }) in
+        (Text, (refused_document fault, as_document unreadable))
+    by_check (NotTotal state) is short =
+        (Text, (not_total_line state, by_deadlock short (record { state = state; is_deadlock = is; is_written = refl })))
+    by_check ClosureTooLarge is short = (Undecided, (open_line, (short, (is, refl))))
 
 on_refutation : (text : List ℕ) → Due (Some CheckRefutation) text
 on_refutation text =

@@ -34,7 +34,8 @@ use Rattle.ml_driver.specs.Words.{command_of}
 use Rattle.ml_lines.specs.Lines.{Word}
 
 abbrev pub OneDue : Type 0
-OneDue = (c : Option Command) (text : List ℕ) (s t : Status) (out more : List ℕ) → IsDue c text s out → IsDue c text t more → s ≡ t
+OneDue = (c : Option Command) (text : List ℕ) (s t : Status) (out more : List ℕ)
+    → IsDue c text s out → IsDue c text t more → s ≡ t
 
 -- for `gen` a number may be any: the text is told for each
 abbrev pub HasFitNumbers : Option Command → Type 0
@@ -48,7 +49,8 @@ SomeDue = (c : Option Command) (text : List ℕ) → HasFitNumbers c → (s : St
 
 -- whatever the words are
 abbrev pub SomeDueForWords : Type 0
-SomeDueForWords = (words : List Word) (text : List ℕ) → (s : Status) × ((out : List ℕ) × IsDue (command_of words) text s out)
+SomeDueForWords = (words : List Word) (text : List ℕ)
+    → (s : Status) × ((out : List ℕ) × IsDue (command_of words) text s out)
 
 abbrev pub OneMeasure : Type 0
 OneMeasure = (f : Family) (n : ℕ) (text more : List ℕ) (s t : Status) (out other : List ℕ)

@@ -9,8 +9,11 @@
 --   IsRefuted text out        == out says that it doesn't
 --   IsAcceptedRefutation text out == out says that the document's refutation is accepted, and its problem holds nowhere
 --   IsRejectedRefutation text out == out says at which line it isn't accepted, and by which rule
+--   IsLeftOpen text out       == out says that the closure of the document's problem is too large to tell
 --   IsRefusedDocument F text out == out says why the document is refused: by its length, or by its first bad line, which
 --                                F tells
+--   IsRefusedModel text out   == so it says for a document with a structure, or that its logic wants an edge from each
+--                                state, and at which state the first one is missing
 --   IsDue c text status out   == for the command c, or for words that are none, this status and this output are due
 --                                where the input is the text; where none is taken, whatever the text is
 --   World                     == what a call found and left: the bytes of the source, those of the sink, both counts of
@@ -29,7 +32,7 @@ use Rattle.ml_base.specs.Faults.{Rose}
 use Rattle.ml_base.specs.Whole.{AppendsPart, Gives}
 use Rattle.ml_base.specs.declared.doc_fault.DocFault.{DocFault}
 use Rattle.ml_model_check.specs.Checked as shown
-use Rattle.ml_model_check.specs.Checked.{Shows, ShowsNot}
+use Rattle.ml_model_check.specs.Checked.{Shows, ShowsDeadlock, ShowsLargeClosure, ShowsNot}
 use Rattle.ml_refute_check.specs.Documents as refuted
 use Rattle.ml_refute_check.specs.Documents.{IsAcceptedDocument, IsMigrated, IsRejectedAt, HoldsNowhere}
 use Rattle.ml_driver.specs.declared.command.Command.{Command}
@@ -40,7 +43,7 @@ use Rattle.ml_driver.specs.Bench.{IsBenched, gen_text}
 use Rattle.ml_driver.specs.Decision.{IsAnswered}
 use Rattle.ml_driver.specs.declared.question.Question.{Question}
 use Rattle.ml_front.specs.declared.logic.Logic.{Logic}
-use Rattle.ml_driver.specs.Statuses.{longest_document, longest_input, refused_words, refused_length, holds_line, fails_line, accepted_line, rejected_line, refused_document}
+use Rattle.ml_driver.specs.Statuses.{longest_document, longest_input, refused_words, refused_length, holds_line, fails_line, open_line, not_total_line, accepted_line, rejected_line, refused_document}
 
 -- what `decide` and `valid` ask
 abbrev pub plainly : Logic → ℕ → Question
@@ -60,6 +63,10 @@ IsChecked text out = Shows text × (out ≡ holds_line)
 -- the document shows a structure, and its problem doesn't hold at the start
 abbrev pub IsRefuted : List ℕ → List ℕ → Type 0
 IsRefuted text out = ShowsNot text × (out ≡ fails_line)
+
+-- the document shows a structure of which its logic speaks, and a problem with too large a closure
+abbrev pub IsLeftOpen : List ℕ → List ℕ → Type 0
+IsLeftOpen text out = ShowsLargeClosure text × (out ≡ open_line)
 
 -- the document shows a refutation that is accepted for its problem; so what it answers is true
 pub record IsAcceptedRefutation (text out : List ℕ) : Type 0 where
@@ -85,13 +92,25 @@ pub data IsRefusedDocument (IsFault : DocFault → Type 0) (text out : List ℕ)
   document_by_length : IsTooLong longest_document text out → IsRefusedDocument IsFault text out
   by_line : length text ≤ longest_document → IsUnreadable IsFault out → IsRefusedDocument IsFault text out
 
+-- the document shows a structure, and this is its first state without an edge, where its logic wants one
+pub record IsNotTotal (text out : List ℕ) : Type 0 where
+  pub state : ℕ
+  pub is_deadlock : ShowsDeadlock text state
+  pub is_written : out ≡ not_total_line state
+
+-- the three reasons to refuse a document with a structure
+pub data IsRefusedModel (text out : List ℕ) : Type 0 where
+  as_document : IsRefusedDocument (shown.IsDocumentFault text) text out → IsRefusedModel text out
+  by_deadlock : length text ≤ longest_document → IsNotTotal text out → IsRefusedModel text out
+
 abbrev pub IsDue : Option Command → List ℕ → Status → List ℕ → Type 0
 IsDue None text Words out = out ≡ refused_words
 IsDue (Some (Decide l n)) text status out = IsAnswered (plainly l n) text status out
 IsDue (Some (Valid l n)) text status out = IsAnswered (for_negation l n) text status out
 IsDue (Some CheckModel) text Yes out = (length text ≤ longest_document) × IsChecked text out
 IsDue (Some CheckModel) text No out = (length text ≤ longest_document) × IsRefuted text out
-IsDue (Some CheckModel) text Text out = IsRefusedDocument (shown.IsDocumentFault text) text out
+IsDue (Some CheckModel) text Undecided out = (length text ≤ longest_document) × IsLeftOpen text out
+IsDue (Some CheckModel) text Text out = IsRefusedModel text out
 IsDue (Some CheckRefutation) text Yes out = (length text ≤ longest_document) × IsAcceptedRefutation text out
 IsDue (Some CheckRefutation) text No out = (length text ≤ longest_document) × IsRejectedRefutation text out
 IsDue (Some CheckRefutation) text Text out = IsRefusedDocument (refuted.IsDocumentFault text) text out

@@ -89,7 +89,8 @@ pub fn command_of(alloc: Global, words: &[String]) -> Result<Option<Command>, No
 fn taken_apart<'a>(alloc: Global, words: &'a [String]) -> Result<Option<ArgMatches<'a>>, NoMemory>
     ensures { IfOk result (λ found. MatchOption found
         (faults_of (map string_bytes words.entry.now) ≢ [])
-        (λ m. (faults_of (map string_bytes words.entry.now) ≡ []) × (rows_of (found_of m) ≡ rows_in (map string_bytes words.entry.now)))) }
+        (λ m. (faults_of (map string_bytes words.entry.now) ≡ [])
+        × (rows_of (found_of m) ≡ rows_in (map string_bytes words.entry.now)))) }
 {
     let cli = match cli(alloc) {
         Ok(cli) => cli,

@@ -14,8 +14,8 @@ pub fn one_due()
     ensures output { OneMeasure }
 {}
 
-/// An answer to a question about a text that stands for a formula is exact: undecided only where the closure is too large
-/// or the game passes the limit, and else it tells whether the problem is satisfiable.
+/// An answer to a question about a text that stands for a formula is exact: undecided exactly where the closure is too
+/// large or the game passes the limit, and else it tells whether the problem is satisfiable.
 pub fn answers_are_exact()
     ensures { AnswersAreExact }
 {}

@@ -20,12 +20,20 @@ use std::alloc::Global;
 /// the answer, makes its whole output, and writes it. Words that are no command end the call before anything is read, and
 /// `gen` and `bench` read nothing.
 ///
-/// The contract says which status and output are due, and what each status leaves behind:
-/// - `Yes` and `No` as the command says: of `decide mu` with a structure and a state at which the formula of the text
-///   holds, and where it holds nowhere; of `check-model` where the problem of the document holds at the start of its
-///   structure, and where it doesn't;
+/// The contract says which status and output are due, and what each status leaves behind. But for faults and want of
+/// memory:
+/// - `Yes` and `No` as the command says, in each of the four logics: of `decide` with a structure and a state at which the
+///   formula of the text holds, and with a refutation that is accepted, where it holds nowhere; of `valid` where its
+///   negation holds nowhere, and where it holds at some state; of `check-model` where the problem of the document holds at
+///   the start of its structure, and where it doesn't; of `check-refutation` where the document's refutation is accepted,
+///   and where it isn't; `Yes` of `migrate` with the document that is written of the same refutation;
+/// - `Undecided` of `decide` and `valid` exactly where the closure of the problem has too many nodes, or the decision game
+///   passes the limit; of `check-model` exactly where the closure has too many nodes, on a structure of which the logic
+///   speaks;
 /// - `Words` exactly for words that are no command, `Text` exactly for input that the command refuses, both with one
-///   line that says so;
+///   line that says so.
+///
+/// And else:
 /// - `ReadFault` only where the source's count of faults rose in this call, and always where it is greater after it;
 ///   nothing is written;
 /// - `WriteFault` only where the sink's count rose, and always where it is greater; a part of what was due is written;

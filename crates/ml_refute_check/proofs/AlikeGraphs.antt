@@ -82,9 +82,33 @@ pub record Alike (g h : Graph) : Type 0 where
 
 back : (g h : Graph) (x y : Node) → SameNode g h x y → SameNode h g y x
 back g h x y (unnamed is u) = unnamed (sym is) (subst Unnamed is u)
-back g h x y (literal s) = literal (record { prop = s.other; other = s.prop; positive = s.positive; here = s.there; there = s.here; names = sym s.names })
-back g h x y (diamond s) = diamond (record { action = s.other; other = s.action; to = s.to; here = s.there; there = s.here; names = sym s.names })
-back g h x y (square s) = square (record { action = s.other; other = s.action; to = s.to; here = s.there; there = s.here; names = sym s.names })
+back g h x y (literal s) =
+    literal (record {
+      prop = s.other;
+      other = s.prop;
+      positive = s.positive;
+      here = s.there;
+      there = s.here;
+      names = sym s.names;
+    })
+back g h x y (diamond s) =
+    diamond (record {
+      action = s.other;
+      other = s.action;
+      to = s.to;
+      here = s.there;
+      there = s.here;
+      names = sym s.names;
+    })
+back g h x y (square s) =
+    square (record {
+      action = s.other;
+      other = s.action;
+      to = s.to;
+      here = s.there;
+      there = s.here;
+      names = sym s.names;
+    })
 
 pub alike_back : (g h : Graph) → Alike g h → Alike h g
 alike_back g h a = record {
@@ -304,7 +328,9 @@ module _ (g h : Graph) (a : Alike g h) where
   odds_same : odd_priorities g ≡ odd_priorities h
   odds_same = ap (λ ps. odd_priorities (record { nodes = []; priorities = ps; root = 0; props = []; actions = [] })) a.priorities
 
-  transition_same : (step : GoStep) (p q : AutomatonState) (acc : Bool) → HasTransition g step p q acc → HasTransition h step p q acc
+  transition_same : (step : GoStep) (p q : AutomatonState) (acc : Bool)
+      → HasTransition g step p q acc
+      → HasTransition h step p q acc
   transition_same step p q acc i = record {
     trace = i.trace;
     is_trace = trace_same step.sequent step.spread step.diamond i.trace i.is_trace;
@@ -315,7 +341,9 @@ module _ (g h : Graph) (a : Alike g h) where
   }
 
   module _ (step : GoStep) (m : Mark) (e f : traced.Entry AutomatonState) where
-    before_same : (y : ℕ) (x : traced.Item AutomatonState) → Predecessor (HasTransition g) step e y x → Predecessor (HasTransition h) step e y x
+    before_same : (y : ℕ) (x : traced.Item AutomatonState)
+        → Predecessor (HasTransition g) step e y x
+        → Predecessor (HasTransition h) step e y x
     before_same y x p = record {
       item = p.item;
       accepting = p.accepting;
@@ -324,7 +352,9 @@ module _ (g h : Graph) (a : Alike g h) where
       transition = transition_same step p.item.state x.state p.accepting p.transition;
     }
 
-    gains_same : (y : ℕ) (x : traced.Item AutomatonState) → Progress (HasTransition g) step e y x → Progress (HasTransition h) step e y x
+    gains_same : (y : ℕ) (x : traced.Item AutomatonState)
+        → Progress (HasTransition g) step e y x
+        → Progress (HasTransition h) step e y x
     unfolding before_same
     gains_same y x p = record { before = before_same y x p.before; progress = p.progress }
 
@@ -352,13 +382,19 @@ module _ (r : Refutation) (e : ℕ) (g h : Graph) (a : Alike g h) where
   abbrev C : List ℕ
   C = (entry_at r e).sequent
 
-  splits : (c : List (ℕ × Side)) (n : ℕ) → OfSpread g C c (λ sp. IsOpenOr g sp n) → OfSpread h C c (λ sp. IsOpenOr h sp n)
+  splits : (c : List (ℕ × Side)) (n : ℕ)
+      → OfSpread g C c (λ sp. IsOpenOr g sp n)
+      → OfSpread h C c (λ sp. IsOpenOr h sp n)
   splits c n k = of_spread_same g h a C c (λ sp. IsOpenOr g sp n) (λ sp. IsOpenOr h sp n) (λ sp. open_same g h a sp n) k
 
-  clashes : (c : List (ℕ × Side)) (x : ClashCause) → OfSpread g C c (λ sp. IsCause g sp x) → OfSpread h C c (λ sp. IsCause h sp x)
+  clashes : (c : List (ℕ × Side)) (x : ClashCause)
+      → OfSpread g C c (λ sp. IsCause g sp x)
+      → OfSpread h C c (λ sp. IsCause h sp x)
   clashes c x k = of_spread_same g h a C c (λ sp. IsCause g sp x) (λ sp. IsCause h sp x) (λ sp. cause_same g h a sp x) k
 
-  leaves : (c : List (ℕ × Side)) (d : ℕ) → OfSpread g C c (λ sp. IsDiamondOf g sp d) → OfSpread h C c (λ sp. IsDiamondOf h sp d)
+  leaves : (c : List (ℕ × Side)) (d : ℕ)
+      → OfSpread g C c (λ sp. IsDiamondOf g sp d)
+      → OfSpread h C c (λ sp. IsDiamondOf h sp d)
   leaves c d k = of_spread_same g h a C c (λ sp. IsDiamondOf g sp d) (λ sp. IsDiamondOf h sp d) (λ sp. diamond_same g h a sp d) k
 
   within : (c : List (ℕ × Side)) (d f : ℕ) → OfSpread g C c (λ sp. All (IsTarget g sp d) (entry_at r f).sequent)

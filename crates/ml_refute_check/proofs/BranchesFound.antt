@@ -50,7 +50,10 @@ pub left_less : (whole l r d : Decision) (n : ℕ) → whole ≡ Split n l r →
 left_less whole l r d n is same =
     omega (arith, ap count_branches is, ap count_branches same, one_branch r)
 
-pub right_less : (whole l r d : Decision) (n : ℕ) → whole ≡ Split n l r → d ≡ r → count_branches d < count_branches whole
+pub right_less : (whole l r d : Decision) (n : ℕ)
+    → whole ≡ Split n l r
+    → d ≡ r
+    → count_branches d < count_branches whole
 right_less whole l r d n is same =
     omega (arith, ap count_branches is, ap count_branches same, one_branch l)
 
@@ -71,7 +74,10 @@ module _ (q : Question) (e : ℕ) (nodes : List ℕ) (sp : SpreadList) (ok : IsG
   of_spread_is P o =
       subst P (one_spread q.graph ok sequent low sp.choice o.spread sp o.is_spread is_spread) o.holds
 
-  pub of_spread_fails : (P : SpreadList → Type 0) (b : Bool) → (IsTrue b ↔ P sp) → b ≡ false → ¬ (OfSpread q.graph sequent sp.choice P)
+  pub of_spread_fails : (P : SpreadList → Type 0) (b : Bool)
+      → (IsTrue b ↔ P sp)
+      → b ≡ false
+      → ¬ (OfSpread q.graph sequent sp.choice P)
   of_spread_fails P b told is = λ o. test_fails (P sp) b told is (of_spread_is P o)
 
   -- ---- splits
@@ -107,7 +113,8 @@ module _ (q : Question) (e : ℕ) (nodes : List ℕ) (sp : SpreadList) (ok : IsG
         (found_before q e (branch_parts (with_side sp.choice n Left) l) (branch_parts (with_side sp.choice n Right) r) bad
         (subst (λ c. Finds q e (branch_parts c l) (Some bad)) at found)))
 
-    pub split_right : (left right : List (ℕ × Side)) (bad mid moved : BadPart) (count : ℕ) → left ≡ with_side sp.choice n Left
+    pub split_right : (left right : List (ℕ × Side)) (bad mid moved : BadPart) (count : ℕ)
+        → left ≡ with_side sp.choice n Left
         → right ≡ with_side sp.choice n Right
         → count ≡ count_branches l
         → mid.part ≡ count + bad.part → mid.rule ≡ bad.rule
@@ -123,7 +130,9 @@ module _ (q : Question) (e : ℕ) (nodes : List ℕ) (sp : SpreadList) (ok : IsG
         (subst (λ c. Finds q e (branch_parts c l) None) at none)
         (subst (λ c. Finds q e (branch_parts c r) (Some bad)) there found)))
 
-    pub split_kept : (left right : List (ℕ × Side)) → left ≡ with_side sp.choice n Left → right ≡ with_side sp.choice n Right
+    pub split_kept : (left right : List (ℕ × Side))
+        → left ≡ with_side sp.choice n Left
+        → right ≡ with_side sp.choice n Right
         → Finds q e (branch_parts left l) None → Finds q e (branch_parts right r) None
         → Finds q e (branch_parts sp.choice (Split n l r)) None
     split_kept left right at there none others =

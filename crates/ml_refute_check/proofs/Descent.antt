@@ -4,7 +4,8 @@
 -- diamond, along which the strategy takes an edge: the sequent of the next entry is won at the target of this edge, and
 -- each transition of the step is a piece of a play that follows the strategy.
 --
---   Plays letter t u  == each transition of the step is a walk from the state t to the state u that follows the strategy
+--   Plays letter t u  == each transition of the step is a walk from the state t to the state u that follows the
+--                        strategy
 --   Leads e t         == what the entry e leads to at the state t
 --   agrees_with       == a choice with the side more that the strategy takes agrees with it
 --   leads_on          == an entry that is won at a state leads to one that is won at a state

@@ -1,7 +1,8 @@
 -- What checking the parts of an entry before its decision finds.
 --
 --   item_told, items_more, items_first, items_all == items, one by one
---   start_told, live_told  == the tests of the sequent and of the names in use tell exactly whether their rules are kept
+--   start_told, live_told  == the tests of the sequent and of the names in use tell exactly whether their rules are
+--                             kept
 --   front_refused_2, front_refused_3, front_later, front_kept == what is found of the three together
 --   live_low        == the names of an entry's items are in use
 --   ascending_again, start_stands == the sequent of an entry as a set, and its spread
@@ -85,7 +86,10 @@ module _ (q : Question) (e : ℕ) where
   unfolding Finds
   items_first xs k a low is fails keep = first_item xs k a low is fails keep
 
-  pub items_all : (xs : List Item) (k : ℕ) → length xs ≤ k → KeepEach q e (item_parts (take k xs)) → Finds q e (item_parts xs) None
+  pub items_all : (xs : List Item) (k : ℕ)
+      → length xs ≤ k
+      → KeepEach q e (item_parts (take k xs))
+      → Finds q e (item_parts xs) None
   unfolding Finds
   items_all xs k past keep = subst (λ ys. KeepEach q e (item_parts ys)) (take_all k xs past) keep
 
@@ -107,7 +111,9 @@ module _ (q : Question) (e : ℕ) where
           λ w. told.1 (subst (All (λ n. n < size q.graph)) (sym same) w.in_graph, λ first. same ∙ w.starts first),
         )
 
-    pub live_told : (b : Bool) → (IsTrue b ↔ EachNameStands entry.traces) → IsTrue b ↔ EachNameStands (entry_at q.refutation e).traces
+    pub live_told : (b : Bool)
+        → (IsTrue b ↔ EachNameStands entry.traces)
+        → IsTrue b ↔ EachNameStands (entry_at q.refutation e).traces
     live_told b told = subst (λ (x : plain.Entry). IsTrue b ↔ EachNameStands x.traces) (sym is.is) told
 
     abbrev others : List acceptance.Part
@@ -134,7 +140,10 @@ module _ (q : Question) (e : ℕ) where
         found_next q e acceptance.Sequent (acceptance.Live ∷ others) mid moved (omega (arith, part)) rule (well, tt)
         (found_next q e acceptance.Live others bad mid refl refl (stand, tt) found)
 
-    pub front_kept : WellStarted → EachNameStands (entry_at q.refutation e).traces → Finds q e others None → Finds q e (front_parts entry) None
+    pub front_kept : WellStarted
+        → EachNameStands (entry_at q.refutation e).traces
+        → Finds q e others None
+        → Finds q e (front_parts entry) None
     unfolding front_parts
     front_kept well stand none =
         none_next q e acceptance.Sequent (acceptance.Live ∷ others) (well, tt) (none_next q e acceptance.Live others (stand, tt) none)
@@ -153,7 +162,9 @@ module _ (q : Question) (e : ℕ) where
     unfolding front_parts
     front_size = omega (arith, length-map entry.traces.items acceptance.Item)
 
-    pub whole_front : (bad : BadPart) → Finds q e (front_parts entry) (Some bad) → Finds q e (parts (entry_at q.refutation e)) (Some bad)
+    pub whole_front : (bad : BadPart)
+        → Finds q e (front_parts entry) (Some bad)
+        → Finds q e (parts (entry_at q.refutation e)) (Some bad)
     whole_front bad found =
         subst (λ ps. Finds q e ps (Some bad)) whole (found_before q e (front_parts entry) (branch_parts [] entry.decision) bad found)
 
@@ -194,7 +205,8 @@ ascending_again xs made nodes made_is xs_are ascends =
     ∙ ascending_same (ascending nodes) nodes (ascending-is nodes) ascends (λ v h. ascending-member v nodes h)
     (λ v h. member-ascending v nodes h)
 
-pub start_stands : (q : Question) (e : ℕ) (entry : plain.Entry) (nodes : List ℕ) (c : List (ℕ × Side)) (sp : SpreadList) (h : Graph)
+pub start_stands : (q : Question) (e : ℕ) (entry : plain.Entry) (nodes : List ℕ) (c : List (ℕ × Side)) (sp : SpreadList)
+    (h : Graph)
     → h ≡ q.graph
     → IsEntryOf q e entry
     → nodes ≡ entry.sequent

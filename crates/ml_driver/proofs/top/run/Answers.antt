@@ -9,7 +9,8 @@ use Rattle.ml_driver.proofs.top.run.Goals as goal
 pub returns-in-Ok-None : goal.returns-in-Ok-None
 returns-in-Ok-None g c =
     ended_with None _ _ _ (sym c.in-Ok-None.ensures.command ∙ c.in-Ok-None.field-0-is)
-    (ended_written None _ [] status.Words refused_words _ (refl, refl) refl refl c.written.ensures.is_whole c.written.ensures.wrote)
+    (ended_written None _ [] status.Words refused_words _ (refl, refl) refl refl c.written.ensures.is_whole
+    c.written.ensures.wrote)
 
 pub returns-in-Err-TooLong : goal.returns-in-Err-TooLong
 returns-in-Err-TooLong g c =
@@ -18,16 +19,22 @@ returns-in-Err-TooLong g c =
     let calm = rw c.in-Err-TooLong.field-0-is at c.in-Err-TooLong.ensures.faults in
     let long : longest_input command < length gives.0 = omega (arith, gives.2, c.longest_input.ensures) in
     ended_with (Some command) _ _ _ (sym c.in-Ok-Some.ensures.command ∙ c.in-Ok-Some.field-0-is)
-    (ended_written (Some command) _ gives.0 status.Text refused_length _ (gives.1, inr long) calm (too_long_due command gives.0 long)
+    (ended_written (Some command) _ gives.0 status.Text refused_length _ (gives.1, inr long) calm
+    (too_long_due command gives.0 long)
     c.written-in-Err-TooLong.ensures.is_whole c.written-in-Err-TooLong.ensures.wrote)
 
 pub returns-in-Ok-outcome : goal.returns-in-Ok-outcome
 returns-in-Ok-outcome g c =
     let command = c.in-Ok-Some.command in
+    let due = c.in-Ok-outcome.output in
+    let old = c.args.sink.now in
+    let new = c.written-in-Ok-outcome.new.sink in
     ended_with (Some command) _ _ _ (sym c.in-Ok-Some.ensures.command ∙ c.in-Ok-Some.field-0-is)
-    (ended_written (Some command) _ c.in-Ok.text.items c.in-Ok-outcome.output.status c.in-Ok-outcome.output.bytes.items _
+    (ended_written (Some command) _ c.in-Ok.text.items due.status due.bytes.items _
     (c.in-Ok.ensures.given, inl c.in-Ok.ensures.end) c.in-Ok.ensures.calm
-    (subst (λ t. IsDue (Some command) t c.in-Ok-outcome.output.status c.in-Ok-outcome.output.bytes.items) c.deref.ensures.value c.in-Ok-outcome.ensures)
+    (subst (λ t. IsDue (Some command) t due.status due.bytes.items) c.deref.ensures.value c.in-Ok-outcome.ensures)
     (subst IsWhole c.deref-in-Ok-outcome.ensures.value c.written-in-Ok-outcome.ensures.is_whole)
-    (subst (λ o. Wrote (g.K.Sink.taken c.args.sink.now) (g.K.Sink.taken c.written-in-Ok-outcome.new.sink) (g.K.Sink.faults c.args.sink.now) (g.K.Sink.faults c.written-in-Ok-outcome.new.sink) c.in-Ok-outcome.output.status o c.written-in-Ok-outcome.result)
+    (subst
+    (λ o. Wrote (g.K.Sink.taken old) (g.K.Sink.taken new) (g.K.Sink.faults old) (g.K.Sink.faults new) due.status o
+    c.written-in-Ok-outcome.result)
     c.deref-in-Ok-outcome.ensures.value c.written-in-Ok-outcome.ensures.wrote))
