@@ -49,8 +49,10 @@ document_fault text p m s fault x (inr of_body) =
 
 pub one_fault : (text : List ℕ) (e f : DocFault) → IsDocumentFault text e → IsDocumentFault text f → e ≡ f
 one_fault text e f (inl x) (inl y) = head.one_fault Satisfiable text e f x y
-one_fault text e f (inl x) (inr y) = absurd (head.head_or_fault Satisfiable text y.version y.problem y.body e y.has_head x)
-one_fault text e f (inr x) (inl y) = absurd (head.head_or_fault Satisfiable text x.version x.problem x.body f x.has_head y)
+one_fault text e f (inl x) (inr y) =
+    absurd (head.head_or_fault Satisfiable text y.version y.problem y.body e y.has_head x)
+one_fault text e f (inr x) (inl y) =
+    absurd (head.head_or_fault Satisfiable text x.version x.problem x.body f x.has_head y)
 one_fault text e f (inr x) (inr y) =
     let heads = one_head Satisfiable text x.version y.version x.problem y.problem x.body y.body x.has_head y.has_head in
     body.one_fault y.body first_body_line e f (subst (λ b. IsFaultOf b first_body_line e) heads.2 x.is_fault) y.is_fault
@@ -60,7 +62,8 @@ one_check text c d x y = go (found_in text c x) (found_in text d y)
   where
     go : FoundIn text c ⊎ IsFault text c → FoundIn text d ⊎ IsFault text d → c ≡ d
     go (inl a) (inl b) =
-        let same = one_document text a.problem b.problem a.structure b.structure a.start b.start a.is_document b.is_document in
+        let same =
+        one_document text a.problem b.problem a.structure b.structure a.start b.start a.is_document b.is_document in
         let there : Finds c b.problem b.structure b.start =
         subst (λ s. Finds c b.problem b.structure s) same.1.1
         (subst (λ m. Finds c b.problem m a.start) same.1.0

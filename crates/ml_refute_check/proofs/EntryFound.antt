@@ -50,7 +50,10 @@ module _ (q : Question) (e : ℕ) where
       member = subst (IsMember a.node) nodes_are both.0;
       occurs = subst (λ ds. IsGuess ds a.odd) odds_are both.1;
     },
-    λ s. told.1 (subst (IsMember a.node) (sym nodes_are) s.member, subst (λ ds. IsGuess ds a.odd) (sym odds_are) s.occurs),
+    λ s. told.1 (
+      subst (IsMember a.node) (sym nodes_are) s.member,
+      subst (λ ds. IsGuess ds a.odd) (sym odds_are) s.occurs,
+    ),
   )
 
   one_item : (a : Item) → Stand a → KeepEach q e (item_parts (a ∷ []))
@@ -122,13 +125,15 @@ module _ (q : Question) (e : ℕ) where
     pub front_refused_2 : ¬ WellStarted → Finds q e (front_parts entry) (Some (record { part = 0; rule = 2 }))
     unfolding front_parts
     front_refused_2 not =
-        found_first q e acceptance.Sequent (acceptance.Live ∷ others) (record { part = 0; rule = 2 }) refl (inl (refl, not))
+        found_first q e acceptance.Sequent (acceptance.Live ∷ others) (record { part = 0; rule = 2 }) refl
+        (inl (refl, not))
 
     pub front_refused_3 : WellStarted → ¬ (EachNameStands (entry_at q.refutation e).traces)
         → Finds q e (front_parts entry) (Some (record { part = 1; rule = 3 }))
     unfolding front_parts
     front_refused_3 well not =
-        found_next q e acceptance.Sequent (acceptance.Live ∷ others) (record { part = 0; rule = 3 }) (record { part = 1; rule = 3 }) refl refl
+        found_next q e acceptance.Sequent (acceptance.Live ∷ others) (record { part = 0; rule = 3 })
+        (record { part = 1; rule = 3 }) refl refl
         (well, tt) (found_first q e acceptance.Live others (record { part = 0; rule = 3 }) refl (inl (refl, not)))
 
     pub front_later : (bad moved : BadPart) → WellStarted → EachNameStands (entry_at q.refutation e).traces
@@ -146,7 +151,8 @@ module _ (q : Question) (e : ℕ) where
         → Finds q e (front_parts entry) None
     unfolding front_parts
     front_kept well stand none =
-        none_next q e acceptance.Sequent (acceptance.Live ∷ others) (well, tt) (none_next q e acceptance.Live others (stand, tt) none)
+        none_next q e acceptance.Sequent (acceptance.Live ∷ others) (well, tt)
+        (none_next q e acceptance.Live others (stand, tt) none)
 
     pub front_starts : Finds q e (front_parts entry) None → All (λ n. n < size q.graph) entry.sequent
     unfolding front_parts Finds KeepEach
@@ -166,7 +172,8 @@ module _ (q : Question) (e : ℕ) where
         → Finds q e (front_parts entry) (Some bad)
         → Finds q e (parts (entry_at q.refutation e)) (Some bad)
     whole_front bad found =
-        subst (λ ps. Finds q e ps (Some bad)) whole (found_before q e (front_parts entry) (branch_parts [] entry.decision) bad found)
+        subst (λ ps. Finds q e ps (Some bad)) whole
+        (found_before q e (front_parts entry) (branch_parts [] entry.decision) bad found)
 
     pub whole_later : (items : ℕ) (bad mid moved : BadPart) → items ≡ length entry.traces.items
         → mid.part ≡ items + bad.part → mid.rule ≡ bad.rule → moved.part ≡ 2 + mid.part → moved.rule ≡ mid.rule
@@ -180,7 +187,8 @@ module _ (q : Question) (e : ℕ) where
     pub whole_kept : Finds q e (front_parts entry) None → Finds q e (branch_parts [] entry.decision) None
         → Finds q e (parts (entry_at q.refutation e)) None
     whole_kept none others_none =
-        subst (λ ps. Finds q e ps None) whole (none_behind q e (front_parts entry) (branch_parts [] entry.decision) none others_none)
+        subst (λ ps. Finds q e ps None) whole
+        (none_behind q e (front_parts entry) (branch_parts [] entry.decision) none others_none)
 
 pub odds_ascend : (g : Graph) (odds : List ℕ) → odds ≡ odd_priorities g → IsAscending odds
 odds_ascend g odds is =
@@ -217,7 +225,9 @@ pub start_stands : (q : Question) (e : ℕ) (entry : plain.Entry) (nodes : List 
 start_stands q e entry nodes c sp h same is nodes_are low spread own = record {
   of_entry = nodes_are ∙ sym (ap (λ (x : plain.Entry). x.sequent) is.is);
   low = subst (All (λ n. n < size q.graph)) (sym nodes_are) low;
-  is_spread = subst (λ g. IsSpreadOf g nodes sp.choice sp) same (subst (λ ch. IsSpreadOf h nodes ch sp) (sym spread.choice) spread);
+  is_spread =
+      subst (λ g. IsSpreadOf g nodes sp.choice sp) same
+      (subst (λ ch. IsSpreadOf h nodes ch sp) (sym spread.choice) spread);
   is_own = subst (λ g. IsSpread g sp) same own;
 }
 

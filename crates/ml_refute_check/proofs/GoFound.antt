@@ -84,7 +84,8 @@ module _ (q : Question) (e : ℕ) (nodes : List ℕ) (sp : SpreadList) (ok : IsG
     λ h. of_spread_has q e nodes sp ok stands (λ s. All (IsTarget q.graph s d) (entry_at q.refutation f).sequent)
         (subst (All (IsTarget q.graph sp d)) next_is
         (λ k z low. (step.targets (get_or next k z)).0 (subst (IsMember (get_or next k z)) values_are (told.0 h k z low)))),
-    λ w. told.1 (λ k z low. subst (IsMember (get_or next k z)) (sym values_are) ((step.targets (get_or next k z)).1 (target w k z low))),
+    λ w. told.1 (λ k z low. subst (IsMember (get_or next k z)) (sym values_are)
+        ((step.targets (get_or next k z)).1 (target w k z low))),
   )
     where
       target : Within → All (IsTarget q.graph sp d) next
@@ -127,6 +128,7 @@ module _ (q : Question) (e : ℕ) (nodes : List ℕ) (sp : SpreadList) (ok : IsG
 
       here : IsTrue b ↔ Condition sp
       here =
-          subst (λ x. IsTrue b ↔ NamesCondition (HasTransition q.graph) (go_step sp) m (entry_at q.refutation e).traces x) to_is
+          subst (λ x. IsTrue b ↔ NamesCondition (HasTransition q.graph) (go_step sp) m
+          (entry_at q.refutation e).traces x) to_is
           (subst (λ x. IsTrue b ↔ NamesCondition (HasTransition q.graph) (go_step sp) m x to) from_is
           (told q.graph (go_step sp) odds_are next_is is_trace))

@@ -77,7 +77,8 @@ document_fault : (text : List ℕ) (v : Version) (p : Problem) (r : Refutation) 
 document_fault text v p r fault x (inl of_head) =
     head.head_or_fault Unsatisfiable text v p x.body fault x.has_head of_head
 document_fault text v p r fault x (inr of_body) =
-    let heads = one_head Unsatisfiable text v of_body.version p of_body.problem x.body of_body.body x.has_head of_body.has_head in
+    let heads =
+    one_head Unsatisfiable text v of_body.version p of_body.problem x.body of_body.body x.has_head of_body.has_head in
     let there : IsFaultOf v x.body first_body_line fault =
     subst (λ b. IsFaultOf v b first_body_line fault) (sym heads.2)
     (subst (λ u. IsFaultOf u of_body.body first_body_line fault) (sym heads.0) of_body.is_fault) in
@@ -86,10 +87,13 @@ document_fault text v p r fault x (inr of_body) =
 
 one_fault : (text : List ℕ) (e f : DocFault) → IsDocumentFault text e → IsDocumentFault text f → e ≡ f
 one_fault text e f (inl x) (inl y) = head.one_fault Unsatisfiable text e f x y
-one_fault text e f (inl x) (inr y) = absurd (head.head_or_fault Unsatisfiable text y.version y.problem y.body e y.has_head x)
-one_fault text e f (inr x) (inl y) = absurd (head.head_or_fault Unsatisfiable text x.version x.problem x.body f x.has_head y)
+one_fault text e f (inl x) (inr y) =
+    absurd (head.head_or_fault Unsatisfiable text y.version y.problem y.body e y.has_head x)
+one_fault text e f (inr x) (inl y) =
+    absurd (head.head_or_fault Unsatisfiable text x.version x.problem x.body f x.has_head y)
 one_fault text e f (inr x) (inr y) =
-    let heads = one_head Unsatisfiable text x.version y.version x.problem y.problem x.body y.body x.has_head y.has_head in
+    let heads =
+    one_head Unsatisfiable text x.version y.version x.problem y.problem x.body y.body x.has_head y.has_head in
     let there : IsFaultOf y.version y.body first_body_line e =
     subst (λ b. IsFaultOf y.version b first_body_line e) heads.2
     (subst (λ u. IsFaultOf u x.body first_body_line e) heads.0 x.is_fault) in
@@ -99,14 +103,17 @@ one_fault text e f (inr x) (inr y) =
 
 accepted_rejected : (text : List ℕ) (line number : ℕ) → IsAcceptedDocument text → IsRejectedBy text line number → ⊥
 accepted_rejected text line number a y =
-    let one = one_document text a.version y.version a.problem y.problem a.refutation y.refutation a.is_document y.is_document in
+    let one =
+    one_document text a.version y.version a.problem y.problem a.refutation y.refutation a.is_document y.is_document in
     let alike = graphs_alike y.problem a.graph y.graph (subst (IsGraphOf a.graph) one.problems a.is_graph) y.is_graph in
-    let accepted = accepted_same a.graph y.graph alike y.refutation (subst (IsAccepted a.graph) one.refutations a.is_accepted) in
+    let accepted =
+    accepted_same a.graph y.graph alike y.refutation (subst (IsAccepted a.graph) one.refutations a.is_accepted) in
     parts.never_both y.graph y.refutation y.entry y.part number accepted y.is_first
 
 rejected_once : (text : List ℕ) (l n k m : ℕ) → IsRejectedBy text l n → IsRejectedBy text k m → (l ≡ k) × (n ≡ m)
 rejected_once text l n k m x y =
-    let one = one_document text x.version y.version x.problem y.problem x.refutation y.refutation x.is_document y.is_document in
+    let one =
+    one_document text x.version y.version x.problem y.problem x.refutation y.refutation x.is_document y.is_document in
     let alike = graphs_alike y.problem x.graph y.graph (subst (IsGraphOf x.graph) one.problems x.is_graph) y.is_graph in
     let first = first_bad_same x.graph y.graph alike y.refutation x.entry x.part n
     (subst (λ r. IsFirstBad x.graph r x.entry x.part n) one.refutations x.is_first) in
@@ -119,7 +126,8 @@ rejected_once text l n k m x y =
     one_parts y.version y.is_document.body first_body_line y.refutation x.lines y.lines y.is_document.is_refutation here
     y.are_lines in
     let found : slice_get y.lines y.entry ≡ Some x.at =
-    subst (λ e. slice_get y.lines e ≡ Some x.at) same.0 (subst (λ ls. slice_get ls x.entry ≡ Some x.at) lines x.of_entry) in
+    subst (λ e. slice_get y.lines e ≡ Some x.at) same.0
+    (subst (λ ls. slice_get ls x.entry ≡ Some x.at) lines x.of_entry) in
     let both : Some x.at ≡ Some y.at = sym found ∙ y.of_entry in
     let at : x.at ≡ y.at = cc in
     let moved : l ≡ line_of y.at (length (entry_at y.refutation y.entry).traces.items) y.part =

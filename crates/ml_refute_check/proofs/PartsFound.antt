@@ -160,7 +160,8 @@ module _ (q : Question) where
       record {
         is_entry = low;
         is_part = first.low;
-        entries_before = λ d part less member. kept_parts q d (parts (entry_at q.refutation d)) (kept d less) part member;
+        entries_before =
+            λ d part less member. kept_parts q d (parts (entry_at q.refutation d)) (kept d less) part member;
         parts_before = first.keeps;
         broken = first.broken;
       }

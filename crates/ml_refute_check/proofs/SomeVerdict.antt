@@ -28,8 +28,8 @@ use Rattle.ml_refute_check.specs.declared.verdict.Verdict.TheVariants.{Accepted,
 use Rattle.ml_refute_check.proofs.Rejected.{length-parts}
 use Rattle.ml_refute_check.proofs.SomeFault.{some_fault}
 
-module _ (text : List ℕ) (v : Version) (p : Problem) (r : Refutation) (x : IsDocument text v p r) (g : Graph) (is_graph : IsGraphOf g p)
-    (closed : ¬ (HasLargeClosure p MOST_NODES)) where
+module _ (text : List ℕ) (v : Version) (p : Problem) (r : Refutation) (x : IsDocument text v p r)
+    (g : Graph) (is_graph : IsGraphOf g p) (closed : ¬ (HasLargeClosure p MOST_NODES)) where
   lines : List EntryLines
   lines = parts_from v (first_body_line + lines_before x.has_body.form) r.entries
 
@@ -103,7 +103,8 @@ of_body text v p rest h (inr (fault, found)) =
     (Unreadable fault, inr (record { version = v; problem = p; body = rest; has_head = h; is_fault = found }))
 
 of_head : (text : List ℕ)
-    → ((v : Version) × (p : Problem) × (rest : List ℕ) × IsHead Unsatisfiable text v p rest) ⊎ ((fault : DocFault) × IsHeadFault Unsatisfiable text fault)
+    → ((v : Version) × (p : Problem) × (rest : List ℕ) × IsHead Unsatisfiable text v p rest)
+    ⊎ ((fault : DocFault) × IsHeadFault Unsatisfiable text fault)
     → (w : Verdict) × IsVerdict text w
 of_head text (inl (v, p, rest, h)) = of_body text v p rest h (body.readable_or_fault v rest first_body_line)
 of_head text (inr (fault, found)) = (Unreadable fault, inl found)

@@ -107,7 +107,7 @@ fn line_of_fault(shown: &Shown, fault: Fault) -> Result<u64, NoMemory>
     requires lines { length shown.now.lines.entries.items ≡ length shown.now.refutation.entries.items }
     ensures { IfOk result (λ line. (at : EntryLines) → slice_get shown.now.lines.entries.items fault.entry ≡ Some at
         → line ≡ line_of at (length (entry_at (of_parts shown.now.refutation.names shown.now.refutation.entries)
-            fault.entry).traces.items) fault.part) }
+        fault.entry).traces.items) fault.part) }
 {
     let at = shown.lines.entries[fault.entry];
     let items = shown.refutation.entries[fault.entry].items.as_slice();

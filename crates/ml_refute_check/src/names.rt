@@ -254,7 +254,7 @@ pub(crate) fn keeps_names(
         → next.now ≡ step.next
         → ((t : Triple) → IsMember t made.now ↔ IsTrace g step.sequent step.spread step.diamond t)
         → IsTrue b
-            ↔ NamesCondition (HasTransition g) step (mark_of mark) (traces_of before.now) (traces_of behind.now)) }
+        ↔ NamesCondition (HasTransition g) step (mark_of mark) (traces_of before.now) (traces_of behind.now)) }
 {
     let bound = bound_of(before.live, mark);
     let green = green_of(mark);

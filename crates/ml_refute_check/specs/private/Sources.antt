@@ -37,7 +37,8 @@ pub record IsSource (odds : List ℕ) (t : Triple) (y : ℕ) (progress : Bool) (
   pub leads : Leads odds t.lowest item.odd behind.odd accepting
   pub serves : Serves y progress item.stack.items accepting
 
-pub record SourceAmong (odds : List ℕ) (t : Triple) (y : ℕ) (progress : Bool) (items : List Item) (behind : Item) : Type 0 where
+pub record SourceAmong (odds : List ℕ) (t : Triple) (y : ℕ) (progress : Bool)
+    (items : List Item) (behind : Item) : Type 0 where
   pub item : Item
   pub member : IsMember item items
   pub is_source : IsSource odds t y progress item behind
