@@ -19,6 +19,7 @@
 --   bench_text f n k x   == the five lines about a formula with k occurrences of which x is found
 --   IsBenched f n s out  == this status and this output are due for `bench f n`
 use Rattle.std.specs.Prelude.{ℕ, ◌≡◌, Bool, true, false, List, [], ◌∷◌, length, codes}
+use Rattle.ml_ctl.specs.Formula as ctl
 use Rattle.ml_front.specs.Graphs.{IsGraphOf}
 use Rattle.ml_front.specs.Head.{answer_line}
 use Rattle.ml_front.specs.Logics.{logic_of, some_logic, IsParsedAs}
@@ -27,7 +28,7 @@ use Rattle.ml_front.specs.declared.answer.Answer.{Answer}
 use Rattle.ml_front.specs.declared.answer.Answer.TheVariants.{Satisfiable, Unsatisfiable, Undecided}
 use Rattle.ml_front.specs.declared.logic.Logic.{Logic}
 use Rattle.ml_front.specs.declared.problem.AnyFormula.{AnyFormula}
-use Rattle.ml_front.specs.declared.problem.AnyFormula.TheVariants.{Mu, Pdl}
+use Rattle.ml_front.specs.declared.problem.AnyFormula.TheVariants.{Mu, Pdl, Ctl, Ltl}
 use Rattle.ml_front.specs.declared.problem.Problem.{Problem}
 use Rattle.ml_gen.specs.Families.{family_word, formula_text, logic_name}
 use Rattle.ml_gen.specs.declared.family.Family.{Family}
@@ -58,6 +59,8 @@ pub record IsMeant (f : Family) (n : ℕ) (p : Problem) : Type 0 where
 abbrev pub occurrences_of : AnyFormula → ℕ
 occurrences_of (Mu f) = mu.occurrences f
 occurrences_of (Pdl f) = pdl.occurrences f
+occurrences_of (Ctl f) = ctl.occurrences f
+occurrences_of (Ltl f) = ctl.occurrences f
 
 -- ---- what is found
 

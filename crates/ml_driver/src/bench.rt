@@ -1,6 +1,7 @@
 // The formulas of families: their texts, and how large they, their graphs and their decision games are.
 ghost use Rattle.std.specs.Prelude.{◌≡◌, ◌≤◌, true, [], ◌∷◌, ◌++◌, IfOk, OnOk, Some};
 ghost use Rattle.ml_front.specs.Logics.{IsWellFormed};
+ghost use Rattle.ml_front.specs.declared.problem.TheConstants.{MOST_NODES};
 ghost use Rattle.ml_gen.specs.Families.{formula_text, is_in_range};
 ghost use Rattle.ml_graph.specs.Graph.{IsGraph, size};
 ghost use Rattle.ml_lines.specs.Lines.{line_text, number};
@@ -8,18 +9,16 @@ ghost use Rattle.ml_product.specs.Arena.{IsArenaOf};
 ghost use Rattle.ml_driver.specs.Bench as measures;
 ghost use Rattle.ml_driver.specs.Bench.{IsFinding, IsMeant, bench_text, nodes_line, occurrences_of, positions_line};
 ghost use Rattle.ml_driver.specs.Run.{IsDue};
-ghost use Rattle.ml_driver.specs.declared.cause.TheConstants.{MOST_NODES};
 ghost use Rattle.ml_driver.specs.declared.command.TheConstants.{GREATEST_LIMIT};
 ghost use Rattle.ml_driver.specs.private.Findings.{IsFoundIn, IsWonBy};
 
-use crate::cause::MOST_NODES;
 use crate::command::GREATEST_LIMIT;
 use crate::deciding::first_winner;
 use crate::finding::Finding;
 use crate::output::Output;
 use crate::{Command, Status};
 use ml_base::{NoMemory, ParseRefusal};
-use ml_front::{Answer, AnyFormula, Logic, Problem, graph, read};
+use ml_front::{Answer, AnyFormula, Logic, MOST_NODES, Problem, graph, read};
 use ml_gen::{Family, GenRefusal, formula};
 use ml_graph::{BlockRefusal, ModalGraph};
 use ml_lines::{end_line, write_next_number, write_next_word, write_word};
@@ -84,7 +83,7 @@ fn logic_for(family: Family) -> Logic
     match family {
         Family::And | Family::Or => Logic::Mu,
         Family::Step | Family::Loop => Logic::Pdl,
-        Family::Fair => Logic::Mu,
+        Family::Fair => Logic::Ltl,
     }
 }
 
@@ -94,6 +93,8 @@ fn occurrences(formula: &AnyFormula) -> u32
     match formula {
         AnyFormula::Mu(formula) => ml_mu::occurrences(formula),
         AnyFormula::Pdl(formula) => ml_pdl::occurrences(formula),
+        AnyFormula::Ctl(formula) => ml_ctl::occurrences(formula),
+        AnyFormula::Ltl(formula) => ml_ltl::occurrences(formula),
     }
 }
 

@@ -1,9 +1,9 @@
 -- The text of each family is parsed as a formula of its logic.
 --
 --   Parsed       == for each family
-use Rattle.std.proofs.Common.{◌≡◌, ℕ, zero, suc, ◌+◌, ◌*◌, ◌<◌, ◌≤◌, Bool, true, false, ◌&&◌, nat_le, List, [], ◌∷◌, ◌++◌, length, map, codes, refl, sym, ap, subst, ◌∙◌, append_assoc, arith}
+use Rattle.std.proofs.Common.{◌≡◌, ℕ, zero, suc, ◌+◌, ◌*◌, ◌<◌, ◌≤◌, true, nat_le, List, [], ◌∷◌, ◌++◌, map, codes, refl, sym, ap, subst, ◌∙◌, append_assoc, arith}
 use Rattle.std.specs.Cmp.{first_so, second_so}
-use Rattle.std.specs.List.{AllByRecursion, flat_map, list_all, range_with_len}
+use Rattle.std.specs.List.{flat_map, list_all, range_with_len}
 use Rattle.std.proofs.lemmas.Bool.{and_from, leb-true}
 use Rattle.ml_lines.specs.Lines.{number}
 use Rattle.ml_text.specs.declared.token.Operator.TheVariants as operator
@@ -12,7 +12,7 @@ use Rattle.ml_text.specs.Refusals.{most_occurrences}
 use Rattle.ml_mu.specs.Canonical.{canonical_text}
 use Rattle.ml_mu.specs.Formula as mu
 use Rattle.ml_ctl.specs.Formula as ltl
-use Rattle.ml_gen.specs.Families.{formula_text, greatest, is_in_range, part, parts}
+use Rattle.ml_gen.specs.Families.{greatest, is_in_range, part}
 use Rattle.ml_gen.specs.Parsed.{AreParsed, HasFormula}
 use Rattle.ml_gen.specs.declared.family.Family.{Family}
 use Rattle.ml_gen.specs.declared.family.Family.TheVariants.{And, Or, Step, Fair, Loop}
@@ -22,9 +22,10 @@ use Rattle.ml_gen.proofs.NumberedNames.{in_range, name_bytes, number_short}
 use Rattle.ml_gen.proofs.PdlSequences as pdl_sequences
 
 range_parts : (family : Family) (n : ℕ) → is_in_range family n ≡ true → (1 ≤ n) × (n ≤ greatest family)
-range_parts family n is =
-    (leb-true 1 n (first_so (nat_le 1 n) (nat_le n (greatest family)) is),
-    leb-true n (greatest family) (second_so (nat_le 1 n) (nat_le n (greatest family)) is))
+range_parts family n is = (
+  leb-true 1 n (first_so (nat_le 1 n) (nat_le n (greatest family)) is),
+  leb-true n (greatest family) (second_so (nat_le 1 n) (nat_le n (greatest family)) is),
+)
 
 -- ---- conjunctions of the mu-calculus
 

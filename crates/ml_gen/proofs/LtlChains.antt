@@ -20,11 +20,11 @@ use Rattle.ml_ctl.specs.Canonical.{canonical_text}
 use Rattle.ml_ctl.specs.Formula.{Formula, Ltl, Binary, occurrences}
 use Rattle.ml_ctl.specs.Grammar as grammar
 use Rattle.ml_ctl.specs.Grammar.{IsReadAs, Path, Reads, iff_alone, imp_alone, or_alone, and, pair_alone, group}
-use Rattle.ml_ctl.specs.Signs.{Sign, Open}
+use Rattle.ml_ctl.specs.Signs.{Sign}
 use Rattle.ml_ctl.specs.Spelling.{HasShortNames, is_spelled}
 use Rattle.ml_ctl.specs.Text.{items, items_from, sign_at}
 use Rattle.ml_ctl.proofs.CanonicalLimits.{few_open, no_long, open_most, opens_items, opens_spelt, tokens_short, IsShort}
-use Rattle.ml_ctl.proofs.CanonicalPieces.{and_front, close_front, ends_word, lone, one_byte, open_front}
+use Rattle.ml_ctl.proofs.CanonicalPieces.{and_front, close_front, lone, one_byte, open_front}
 use Rattle.ml_ctl.proofs.CanonicalTexts.{reads_formula, scans_formula, sign_spelt, tokens_onto}
 use Rattle.ml_ctl.proofs.Counting.{counts, counted_items}
 use Rattle.ml_ctl.proofs.GrammarTables.{un_raised}

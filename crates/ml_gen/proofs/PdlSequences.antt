@@ -25,7 +25,7 @@ use Rattle.ml_pdl.specs.Grammar as grammar
 use Rattle.ml_pdl.specs.Grammar.{IsReadAs, Reads, ReadsProgram, iff_alone, imp_alone, or_alone, and, and_alone, alt_alone, seq, seq_alone, modal, repetition}
 use Rattle.ml_pdl.specs.Marks.{asks, is_test_behind, mark_of, marked, with_mark}
 use Rattle.ml_pdl.specs.Parsing.{IsParsedAs}
-use Rattle.ml_pdl.specs.Signs.{Sign, Ends, Open, Repeats, word_sign}
+use Rattle.ml_pdl.specs.Signs.{Sign, Open, Repeats, word_sign}
 use Rattle.ml_pdl.specs.Text.{items, sign_by}
 use Rattle.ml_pdl.proofs.CanonicalLimits.{no_long, open_most, opens_items, opens_spelt, few_open, program_few, program_short, tokens_short, IsShort}
 use Rattle.ml_pdl.proofs.CanonicalPieces.{and_front, close_front, ends_word, less_front, more_front, one_byte, open_front, semicolon_front, word_piece}
