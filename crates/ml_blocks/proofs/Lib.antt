@@ -48,3 +48,19 @@ mod WorkedGraph
 pub mod FirstOccurrences
 -- one numbering at most
 pub mod OneNumbering
+-- what is kept of occurrences
+pub mod SpreadLists
+-- what is kept of a formula, and of its operands
+pub mod KeptFormulas
+-- the names of propositions
+pub mod NameLists
+-- rows by numbers
+pub mod NumberedRows
+-- lists of items by numbers
+pub mod NumberedSets
+-- eventualities that are gathered along a formula
+pub mod WantedEventualities
+-- which eventuality is the next in focus
+pub mod FocusTurns
+-- forms by numbers
+pub mod NumberedForms

@@ -14,3 +14,5 @@ pub mod Closures
 pub mod Agreement
 -- that it is one
 pub mod OneGraph
+-- what private contracts cite
+pub mod private
