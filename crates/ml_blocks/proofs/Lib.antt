@@ -64,3 +64,15 @@ pub mod WantedEventualities
 pub mod FocusTurns
 -- forms by numbers
 pub mod NumberedForms
+-- when nodes by numbers are equal
+pub mod SpotEquality
+-- lists to which something was added
+pub mod Additions
+-- numbers that come in turn
+pub mod NumbersInTurn
+-- drafts of a graph
+pub mod DraftSteps
+-- a draft of all nodes
+pub mod ClosedDrafts
+-- what is made of a formula
+pub mod GraphMade

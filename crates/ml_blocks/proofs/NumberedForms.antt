@@ -390,7 +390,7 @@ module _ (K : Kept) where
       with_fits b fits (next_all K.occurrences b.items) (focus_in ms b.focus (is_pending ms b.focus b.items))
       (next_all_kept K b.items fits.items)
 
-  begun_fits : (n : ℕ) (f : Formula) (c sign : Bool) → Stands K n f (Some c) → Fits K (block_at (now_at n c) sign)
+  pub begun_fits : (n : ℕ) (f : Formula) (c sign : Bool) → Stands K n f (Some c) → Fits K (block_at (now_at n c) sign)
   begun_fits n f c sign s = record {
     first = subst (λ g. Stands K n g (Some c)) (sym (formula_is K n f (Some c) s)) s;
     is_now = refl;

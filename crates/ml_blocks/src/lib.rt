@@ -9,6 +9,7 @@ mod items;
 /// what is proved of rows and meanings
 pub mod laws;
 mod names;
+mod numbering;
 mod rows;
 mod spots;
 mod table;

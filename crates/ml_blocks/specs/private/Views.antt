@@ -10,6 +10,7 @@
 --   Stands K i f o       == f stands at i, and what is kept says so
 --   IsKept K n           == the formula at n does
 --   Fits K s             == so do all formulas of the node s
+--   start_place first f b == the node that a problem of f starts with
 use Rattle.std.specs.Prelude.{ℕ, ◌≡◌, ◌<◌, ◌+◌, Bool, true, false, List, [], ◌∷◌, Option, None, Some, map, get_or, slice_get, length}
 use Rattle.std.specs.List.{list_any}
 use Rattle.std.specs.Str.{bytes_eq}
@@ -171,3 +172,8 @@ FormFits K (form.Literal p b) = p < length K.names
 FormFits K (form.Two b l r) = Fits K l × Fits K r
 FormFits K (form.Twice b s) = Fits K s
 FormFits K (form.Edge b s) = Fits K s
+
+-- the node that a problem starts with: a block of this sign, or else a state
+abbrev pub start_place : Option Bool → Formula → Bool → Place
+start_place None f b = node.Holding 0 f b
+start_place (Some c) f b = node.block_of (plain.now 0 f c) b
