@@ -2,7 +2,7 @@
 --
 --   next_turn == the remainder may be taken before
 --   turned    == so it is the focus behind an edge
-use Rattle.std.proofs.Common.{ℕ, ◌≡◌, ◌+◌, ◌*◌, ◌<◌, ◌/◌, ◌%◌, List, [], ◌∷◌, length, refl, sym, ap, ◌∙◌, arith, false, nat_eq}
+use Rattle.std.proofs.Common.{ℕ, ◌≡◌, ◌+◌, ◌*◌, ◌<◌, ◌/◌, ◌%◌, List, [], ◌∷◌, length, refl, sym, ap, ◌∙◌, arith, false}
 use Rattle.std.proofs.Math.Nat.{mod-add-div, add-mul-mod_self_left}
 use Rattle.ml_blocks.specs.private.Forms.{focus_in}
 
@@ -14,6 +14,6 @@ next_turn k n =
     behind : (a b : ℕ) → (a + 1) + b ≡ (a + b) + 1
     behind a b = omega arith
 
-pub turned : (ms : List ℕ) (k : ℕ) → nat_eq (length ms) 0 ≡ false → (k % length ms + 1) % length ms ≡ focus_in ms k false
-turned [] k some = absurd (cc)
+pub turned : (ms : List ℕ) (k : ℕ) → (length ms ≡ 0 → ⊥) → (k % length ms + 1) % length ms ≡ focus_in ms k false
+turned [] k some = absurd (some refl)
 turned (e ∷ es) k some = next_turn k (length (e ∷ es))
