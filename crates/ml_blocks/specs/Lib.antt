@@ -16,3 +16,5 @@ pub mod Agreement
 pub mod OneGraph
 -- that edges never end where it holds
 pub mod EdgesGoOn
+-- what private contracts cite
+pub mod private
