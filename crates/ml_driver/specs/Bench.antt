@@ -16,6 +16,7 @@
 --   answer_of x          == satisfiable, unsatisfiable or undecided
 --   status_of a          == the status that goes with this answer
 --   gen_text f n         == the family's text for n, as a line
+--   request_line, nodes_line, positions_line == the first, third and fourth line of five
 --   bench_text f n k x   == the five lines about a formula with k occurrences of which x is found
 --   IsBenched f n s out  == this status and this output are due for `bench f n`
 use Rattle.std.specs.Prelude.{ℕ, ◌≡◌, Bool, true, false, List, [], ◌∷◌, length, codes}
@@ -105,6 +106,9 @@ status_of Undecided = status.Undecided
 abbrev pub gen_text : Family → ℕ → List ℕ
 gen_text f n = line_text (formula_text f n ∷ [])
 
+abbrev pub request_line : Family → ℕ → Line
+request_line f n = codes "bench" ∷ family_word f ∷ number n ∷ []
+
 abbrev pub nodes_line : Finding → Line
 nodes_line (Decided nodes positions satisfiable) = codes "nodes" ∷ number nodes ∷ []
 nodes_line (GamePassed nodes) = codes "nodes" ∷ number nodes ∷ []
@@ -119,7 +123,7 @@ positions_line ClosurePassed = codes "closure" ∷ codes "passed" ∷ []
 abbrev pub bench_text : Family → ℕ → ℕ → Finding → List ℕ
 bench_text f n k x =
     text_of (
-      (codes "bench" ∷ family_word f ∷ number n ∷ [])
+      request_line f n
       ∷ (codes "occurrences" ∷ number k ∷ [])
       ∷ nodes_line x
       ∷ positions_line x

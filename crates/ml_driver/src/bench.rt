@@ -7,7 +7,7 @@ ghost use Rattle.ml_graph.specs.Graph.{IsGraph, size};
 ghost use Rattle.ml_lines.specs.Lines.{line_text, number};
 ghost use Rattle.ml_product.specs.Arena.{IsArenaOf};
 ghost use Rattle.ml_driver.specs.Bench as measures;
-ghost use Rattle.ml_driver.specs.Bench.{IsFinding, IsMeant, bench_text, nodes_line, occurrences_of, positions_line};
+ghost use Rattle.ml_driver.specs.Bench.{IsFinding, IsMeant, bench_text, nodes_line, occurrences_of, positions_line, request_line};
 ghost use Rattle.ml_driver.specs.Run.{IsDue};
 ghost use Rattle.ml_driver.specs.declared.command.TheConstants.{GREATEST_LIMIT};
 ghost use Rattle.ml_driver.specs.private.Findings.{IsFoundIn, IsWonBy};
@@ -163,15 +163,21 @@ fn report(
     ensures { IfOk result (λ lines. lines.items ≡ bench_text family n count finding) }
 {
     let mut lines = Vec::new(alloc);
-    write_word(&mut lines, b"bench")?;
-    write_next_word(&mut lines, family.word())?;
-    write_next_number(&mut lines, u64::from(n))?;
-    end_line(&mut lines)?;
+    append_request(&mut lines, family, n)?;
     append_number(&mut lines, b"occurrences", count)?;
     append_nodes(&mut lines, finding)?;
     append_positions(&mut lines, finding)?;
     append_word(&mut lines, b"answer", finding.answer().word())?;
     Ok(lines)
+}
+
+fn append_request(lines: &mut Vec<u8>, family: Family, n: u32) -> Result<(), NoMemory>
+    ensures { OnOk result (lines.new.items ≡ lines.old.items ++ line_text (request_line family n)) }
+{
+    write_word(lines, b"bench")?;
+    write_next_word(lines, family.word())?;
+    write_next_number(lines, u64::from(n))?;
+    end_line(lines)
 }
 
 fn append_nodes(lines: &mut Vec<u8>, finding: Finding) -> Result<(), NoMemory>
