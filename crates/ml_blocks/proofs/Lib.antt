@@ -90,3 +90,5 @@ pub mod DraftSteps
 pub mod ClosedDrafts
 -- what is made of a formula
 pub mod GraphMade
+-- what is told of results
+pub mod OkResults
