@@ -48,3 +48,17 @@ mod WorkedGraph
 pub mod FirstOccurrences
 -- one numbering at most
 pub mod OneNumbering
+-- first entries, and numbers of entries
+pub mod FirstEntries
+-- breadth-first search among values
+pub mod BreadthFirstSearch
+-- nodes are equal or not
+pub mod PlaceEquality
+-- the graph of a list of nodes
+pub mod GraphOfPlaces
+-- some graph, or more nodes
+pub mod SomeGraph
+-- how large a graph is
+pub mod OneSize
+-- edges go on where a graph holds
+pub mod EdgesGoOn

@@ -14,3 +14,5 @@ pub mod Closures
 pub mod Agreement
 -- that it is one
 pub mod OneGraph
+-- that edges never end where it holds
+pub mod EdgesGoOn

@@ -1,7 +1,7 @@
 -- Words worked out by hand: what the definitions make of them, with `clap`'s own.
-use Rattle.std.proofs.Common.{◌≡◌, List, [], ◌∷◌, Some, None, refl, codes}
+use Rattle.std.proofs.Common.{◌≡◌, [], ◌∷◌, Some, None, refl, codes}
 use Rattle.clap.proofs.OnLiterals.{clap_on_literals}
-use Rattle.ml_front.specs.declared.logic.Logic.TheVariants.{Mu, Pdl}
+use Rattle.ml_front.specs.declared.logic.Logic.TheVariants.{Mu, Pdl, Ctl, Ltl}
 use Rattle.ml_driver.specs.declared.command.Command.TheVariants.{Decide, Valid, CheckModel}
 use Rattle.ml_driver.specs.Words.{cli, command_of, faults_of, rows_in}
 
@@ -21,6 +21,14 @@ in_front = refl
 of_pdl : command_of (codes "valid" ∷ codes "pdl" ∷ []) ≡ Some (Valid Pdl 50000)
 unfolding cli faults_of rows_in clap_on_literals
 of_pdl = refl
+
+of_ctl : command_of (codes "decide" ∷ codes "ctl" ∷ []) ≡ Some (Decide Ctl 50000)
+unfolding cli faults_of rows_in clap_on_literals
+of_ctl = refl
+
+of_ltl : command_of (codes "valid" ∷ codes "ltl" ∷ codes "--limit=7" ∷ []) ≡ Some (Valid Ltl 7)
+unfolding cli faults_of rows_in clap_on_literals
+of_ltl = refl
 
 check : command_of (codes "check-model" ∷ []) ≡ Some CheckModel
 unfolding cli faults_of rows_in clap_on_literals

@@ -4,9 +4,13 @@ use crate::failure::Failure;
 use ml_history::History;
 use ml_history::tree::TreeHistory;
 use ml_trace::Letter;
+use std::alloc::Global;
 
 /// A form in which a program holds a history.
 pub(crate) trait Form: Sized {
+    /// The history of one state.
+    fn start(alloc: Global) -> Result<Self, Failure>;
+
     /// The history after the step along the letter.
     fn next(&self, letter: &Letter) -> Result<Self, Failure>;
 
@@ -18,6 +22,10 @@ pub(crate) trait Form: Sized {
 }
 
 impl Form for History {
+    fn start(alloc: Global) -> Result<History, Failure> {
+        Ok(History::start(alloc, 0)?)
+    }
+
     fn next(&self, letter: &Letter) -> Result<History, Failure> {
         let (next, _) = self.step(letter)?;
         Ok(next)
@@ -33,6 +41,10 @@ impl Form for History {
 }
 
 impl Form for TreeHistory {
+    fn start(alloc: Global) -> Result<TreeHistory, Failure> {
+        Ok(TreeHistory::start(alloc, 0)?)
+    }
+
     fn next(&self, letter: &Letter) -> Result<TreeHistory, Failure> {
         let (next, _) = self.step(letter)?;
         Ok(next)

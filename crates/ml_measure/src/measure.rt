@@ -188,7 +188,6 @@ const NO_STEPS: Steps = Steps {
 /// So many steps along random letters over so many states, with so many transitions each.
 fn step_random<R: Print + Clock + AllocGlobal, F: Form + Drop>(
     rt: &R,
-    start: F,
     count: u32,
     states: u32,
     transitions: u64,
@@ -197,7 +196,7 @@ fn step_random<R: Print + Clock + AllocGlobal, F: Form + Drop>(
     let states = states.max(1);
     let mut numbers = Numbers::new(1);
     let mut steps = NO_STEPS;
-    let mut history = start;
+    let mut history = F::start(rt.alloc())?;
     for _ in 0..count {
         let letter = random_letter(rt.alloc(), &mut numbers, states, transitions)?;
         history = step_along(rt, &history, &letter, &mut steps)?;
@@ -208,17 +207,84 @@ fn step_random<R: Print + Clock + AllocGlobal, F: Form + Drop>(
 /// So many steps along the letter that makes stacks longer.
 fn step_deeper<R: Print + Clock + AllocGlobal, F: Form + Drop>(
     rt: &R,
-    start: F,
     size: u32,
     is_timed: bool,
 ) -> Result<(), Failure> {
     let letter = deep_letter(rt.alloc(), size)?;
     let mut steps = NO_STEPS;
-    let mut history = start;
+    let mut history = F::start(rt.alloc())?;
     for _ in 0..size {
         history = step_along(rt, &history, &letter, &mut steps)?;
     }
     print_steps(rt, &history, steps, is_timed)
+}
+
+/// Steps along letters over so many states, with ten transitions a state.
+fn step_wide<R: Print + Clock + AllocGlobal, F: Form + Drop>(
+    rt: &R,
+    size: u32,
+    is_timed: bool,
+) -> Result<(), Failure> {
+    step_random::<R, F>(rt, 100, size, size as u64 * 10, is_timed)
+}
+
+/// So many steps of the usual size in a game.
+fn step_usual<R: Print + Clock + AllocGlobal, F: Form + Drop>(
+    rt: &R,
+    size: u32,
+    is_timed: bool,
+) -> Result<(), Failure> {
+    step_random::<R, F>(rt, size, 10, 30, is_timed)
+}
+
+/// Solves a random game.
+fn solve_random<R: Print + Clock + AllocGlobal>(
+    rt: &R,
+    size: u32,
+    is_timed: bool,
+) -> Result<(), Failure> {
+    let game = random_game(rt.alloc(), &mut Numbers::new(1), size as u64, 3, 8)?;
+    solve_game(rt, &game, is_timed)
+}
+
+/// Solves a game that is deep.
+fn solve_ladder<R: Print + Clock + AllocGlobal>(
+    rt: &R,
+    size: u32,
+    is_timed: bool,
+) -> Result<(), Failure> {
+    solve_game(rt, &ladder(rt.alloc(), size)?, is_timed)
+}
+
+/// Counts heights of a chain.
+fn count_chain<R: Print + Clock + AllocGlobal>(
+    rt: &R,
+    size: u32,
+    is_timed: bool,
+) -> Result<(), Failure> {
+    count_heights(rt, &chain(rt.alloc(), size as u64)?, is_timed)
+}
+
+/// Counts heights of a random graph.
+fn count_blocks<R: Print + Clock + AllocGlobal>(
+    rt: &R,
+    size: u32,
+    is_timed: bool,
+) -> Result<(), Failure> {
+    let arcs = size as u64;
+    let graph = random_blocks(rt.alloc(), &mut Numbers::new(1), arcs.max(1), arcs, 16)?;
+    count_heights(rt, &graph, is_timed)
+}
+
+/// Counts heights where numbers have a long way round, or finds an even cycle.
+fn count_row<R: Print + Clock + AllocGlobal>(
+    rt: &R,
+    size: u32,
+    is_cyclic: bool,
+    is_timed: bool,
+) -> Result<(), Failure> {
+    let graph = slow_row(rt.alloc(), size as u64, 16, is_cyclic)?;
+    count_heights(rt, &graph, is_timed)
 }
 
 /// Makes what is measured, and measures it.
@@ -228,52 +294,19 @@ pub(crate) fn measure<R: Print + Clock + AllocGlobal>(
     size: u32,
     is_timed: bool,
 ) -> Result<(), Failure> {
-    let alloc = rt.alloc();
-    let mut numbers = Numbers::new(1);
     match measurement {
-        Measurement::Games => {
-            let game = random_game(alloc, &mut numbers, size as u64, 3, 8)?;
-            solve_game(rt, &game, is_timed)
-        }
-        Measurement::Ladder => solve_game(rt, &ladder(alloc, size)?, is_timed),
-        Measurement::Histories => {
-            step_random(
-                rt,
-                History::start(alloc, 0)?,
-                100,
-                size,
-                size as u64 * 10,
-                is_timed,
-            )
-        }
-        Measurement::Trees => {
-            step_random(
-                rt,
-                TreeHistory::start(alloc, 0)?,
-                100,
-                size,
-                size as u64 * 10,
-                is_timed,
-            )
-        }
-        Measurement::Deep => step_deeper(rt, History::start(alloc, 0)?, size, is_timed),
-        Measurement::DeepTrees => step_deeper(rt, TreeHistory::start(alloc, 0)?, size, is_timed),
-        Measurement::Usual => { step_random(rt, History::start(alloc, 0)?, size, 10, 30, is_timed) }
-        Measurement::UsualTrees => {
-            step_random(rt, TreeHistory::start(alloc, 0)?, size, 10, 30, is_timed)
-        }
-        Measurement::Chain => count_heights(rt, &chain(alloc, size as u64)?, is_timed),
-        Measurement::Blocks => {
-            let arcs = size as u64;
-            let graph = random_blocks(alloc, &mut numbers, arcs.max(1), arcs, 16)?;
-            count_heights(rt, &graph, is_timed)
-        }
-        Measurement::Row => {
-            count_heights(rt, &slow_row(alloc, size as u64, 16, false)?, is_timed)
-        }
-        Measurement::Cycle => {
-            count_heights(rt, &slow_row(alloc, size as u64, 16, true)?, is_timed)
-        }
+        Measurement::Games => solve_random(rt, size, is_timed),
+        Measurement::Ladder => solve_ladder(rt, size, is_timed),
+        Measurement::Histories => step_wide::<R, History>(rt, size, is_timed),
+        Measurement::Trees => step_wide::<R, TreeHistory>(rt, size, is_timed),
+        Measurement::Deep => step_deeper::<R, History>(rt, size, is_timed),
+        Measurement::DeepTrees => step_deeper::<R, TreeHistory>(rt, size, is_timed),
+        Measurement::Usual => step_usual::<R, History>(rt, size, is_timed),
+        Measurement::UsualTrees => step_usual::<R, TreeHistory>(rt, size, is_timed),
+        Measurement::Chain => count_chain(rt, size, is_timed),
+        Measurement::Blocks => count_blocks(rt, size, is_timed),
+        Measurement::Row => count_row(rt, size, false, is_timed),
+        Measurement::Cycle => count_row(rt, size, true, is_timed),
         Measurement::Or => decide(rt, Family::Or, size, is_timed),
         Measurement::Step => decide(rt, Family::Step, size, is_timed),
     }

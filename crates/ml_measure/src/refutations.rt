@@ -86,39 +86,69 @@ fn looping(alloc: Global, squares: u32) -> Result<(String, Vec<u32>), AllocError
     Ok((formula, nodes))
 }
 
+/// The sequent of an entry: its nodes.
+fn push_sequent(text: &mut String, nodes: &[u32]) -> Result<(), AllocError> {
+    text.push_str("sequent")?;
+    for node in nodes {
+        write!(text, " {node}")?;
+    }
+    text.push('\n')
+}
+
+/// The items of an entry, two for each node, where the second one has these names.
+fn push_items(text: &mut String, nodes: &[u32], names: &str) -> Result<(), AllocError> {
+    for node in nodes {
+        write!(text, "item {node} - 0\nitem {node} 1 {names}\n")?;
+    }
+    Ok(())
+}
+
+/// The first entry of a chain, whose last one has this number.
+fn push_first(text: &mut String, diamond: u32, last: u32) -> Result<(), AllocError> {
+    text.push_str("entry 0\nsequent 0\nlive 1\nitem 0 - 0\n")?;
+    write!(text, "heights 0 0 {last}\ngo {diamond} 1 neutral\n")
+}
+
+/// An entry between the first and the last one.
+fn push_middle(
+    text: &mut String,
+    nodes: &[u32],
+    diamond: u32,
+    entry: u32,
+    height: u32,
+) -> Result<(), AllocError> {
+    write!(text, "entry {entry}\n")?;
+    push_sequent(text, nodes)?;
+    text.push_str("live 1\n")?;
+    push_items(text, nodes, "0")?;
+    let next = entry.saturating_add(1);
+    write!(text, "heights 0 0 {height}\ngo {diamond} {next} neutral\n")
+}
+
+/// The last entry, which goes to itself.
+fn push_last(text: &mut String, nodes: &[u32], diamond: u32, entry: u32) -> Result<(), AllocError> {
+    write!(text, "entry {entry}\n")?;
+    push_sequent(text, nodes)?;
+    text.push_str("live 2\n")?;
+    push_items(text, nodes, "0 1")?;
+    write!(text, "heights 0 0 0\ngo {diamond} {entry} green 1\n")
+}
+
 /// A chain of so many entries, at least three, for `mu X. <>X` with so many conjuncts `[]X`.
 fn chain(alloc: Global, entries: u32, squares: u32) -> Result<String, AllocError> {
     let entries = entries.max(3);
+    let last = entries.saturating_sub(1);
     let (formula, nodes) = looping(alloc, squares)?;
     let diamond = if squares == 0 { 2 } else { 4 };
-    let last = entries.saturating_sub(1);
     let mut text = String::new(alloc);
     push_head(&mut text, &formula)?;
-    write!(
-        text,
-        "names 2\nentries {entries}\nentry 0\nsequent 0\nlive 1\nitem 0 - 0\nheights 0 0 {last}\ngo {diamond} 1 neutral\n"
-    )?;
-    for entry in 1..entries {
-        write!(text, "entry {entry}\nsequent")?;
-        for node in &nodes {
-            write!(text, " {node}")?;
-        }
-        let is_last = entry == last;
-        let live = if is_last { 2 } else { 1 };
-        write!(text, "\nlive {live}\n")?;
-        for node in &nodes {
-            let names = if is_last { "0 1" } else { "0" };
-            write!(text, "item {node} - 0\nitem {node} 1 {names}\n")?;
-        }
+    write!(text, "names 2\nentries {entries}\n")?;
+    push_first(&mut text, diamond, last)?;
+    for entry in 1..last {
         let height = last.saturating_sub(entry);
-        write!(text, "heights 0 0 {height}\n")?;
-        if is_last {
-            write!(text, "go {diamond} {entry} green 1\n")?;
-        } else {
-            let next = entry.saturating_add(1);
-            write!(text, "go {diamond} {next} neutral\n")?;
-        }
+        push_middle(&mut text, &nodes, diamond, entry, height)?;
     }
+    push_last(&mut text, &nodes, diamond, last)?;
     text.push_str("end\n")?;
     Ok(text)
 }
@@ -153,6 +183,27 @@ fn disjunctions(alloc: Global, count: u32) -> Result<(String, Vec<u32>), AllocEr
     Ok((formula, nodes))
 }
 
+/// A branch of a tree of this depth: the splits that begin at it, and the entry to which it goes.
+fn push_branch(text: &mut String, nodes: &[u32], depth: u32, leaf: u32) -> Result<(), AllocError> {
+    let begun = if leaf == 0 {
+        depth
+    } else {
+        leaf.trailing_zeros()
+    };
+    let skipped = depth.saturating_sub(begun) as usize;
+    for node in nodes.iter().skip(skipped) {
+        write!(text, "split {node}\n")?;
+    }
+    let entry = leaf.saturating_add(1);
+    write!(text, "go 2 {entry} neutral\n")
+}
+
+/// An entry that `ff` ends.
+fn push_false(text: &mut String, entry: u32) -> Result<(), AllocError> {
+    write!(text, "entry {entry}\n")?;
+    text.push_str("sequent 4\nlive 1\nitem 4 - 0\nheights 0 0\nclash false 4\n")
+}
+
 /// A tree of splits with so many branches, made more until all are as deep.
 fn tree(alloc: Global, branches: u32) -> Result<String, AllocError> {
     let (depth, leaves) = depth_for(branches);
@@ -160,29 +211,13 @@ fn tree(alloc: Global, branches: u32) -> Result<String, AllocError> {
     let (formula, nodes) = disjunctions(alloc, depth)?;
     let mut text = String::new(alloc);
     push_head(&mut text, &formula)?;
-    write!(
-        text,
-        "names 1\nentries {entries}\nentry 0\nsequent 0\nlive 1\nitem 0 - 0\nheights 0 1\n"
-    )?;
+    write!(text, "names 1\nentries {entries}\n")?;
+    text.push_str("entry 0\nsequent 0\nlive 1\nitem 0 - 0\nheights 0 1\n")?;
     for leaf in 0..leaves {
-        // the splits that begin at this branch
-        let begun = if leaf == 0 {
-            depth
-        } else {
-            leaf.trailing_zeros()
-        };
-        let skipped = depth.saturating_sub(begun) as usize;
-        for node in nodes.iter().skip(skipped) {
-            write!(text, "split {node}\n")?;
-        }
-        let entry = leaf.saturating_add(1);
-        write!(text, "go 2 {entry} neutral\n")?;
+        push_branch(&mut text, &nodes, depth, leaf)?;
     }
     for entry in 1..entries {
-        write!(
-            text,
-            "entry {entry}\nsequent 4\nlive 1\nitem 4 - 0\nheights 0 0\nclash false 4\n"
-        )?;
+        push_false(&mut text, entry)?;
     }
     text.push_str("end\n")?;
     Ok(text)
@@ -209,6 +244,18 @@ fn body(text: &str) -> &[u8] {
     rest.as_bytes()
 }
 
+/// How many entries the refutation of a document has.
+fn entries_read(alloc: Global, text: &str) -> Result<usize, Failure> {
+    let (refutation, _) = read(alloc, body(text), 6, Version::One)?;
+    Ok(refutation.entries.len())
+}
+
+/// How many bytes its body has in version 2.
+fn bytes_written(alloc: Global, text: &str) -> Result<usize, Failure> {
+    let (refutation, _) = read(alloc, body(text), 6, Version::One)?;
+    Ok(write(alloc, &refutation, Version::Two)?.len())
+}
+
 /// Does the work on a document, and prints what comes of it.
 fn work_on<R: Print + AllocGlobal>(rt: &R, work: Work, text: &str) -> Result<(), Failure> {
     let alloc = rt.alloc();
@@ -216,13 +263,11 @@ fn work_on<R: Print + AllocGlobal>(rt: &R, work: Work, text: &str) -> Result<(),
     match work {
         Work::Make => println!(rt; "a document of {bytes} bytes")?,
         Work::Read => {
-            let (refutation, _) = read(alloc, body(text), 6, Version::One)?;
-            let entries = refutation.entries.len();
+            let entries = entries_read(alloc, text)?;
             println!(rt; "a document of {bytes} bytes: {entries} entries")?;
         }
         Work::Write => {
-            let (refutation, _) = read(alloc, body(text), 6, Version::One)?;
-            let written = write(alloc, &refutation, Version::Two)?.len();
+            let written = bytes_written(alloc, text)?;
             println!(rt; "a document of {bytes} bytes: {written} bytes of a body in version 2")?;
         }
         Work::Check => {

@@ -1,3 +1,5 @@
+-- what is found of a structure for a problem
+pub mod Findings
 -- checking a text finds exactly one thing
 pub mod OneCheck
 -- what is written is read back

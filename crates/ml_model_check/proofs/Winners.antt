@@ -2,9 +2,11 @@
 --
 --   vertex_of_game == the vertex of a state and the root is one of the game
 --   even_holds     == the graph holds at the state exactly if a solution has Even as that vertex's winner
-use Rattle.std.proofs.Common.{◌≡◌, ◌↔◌, ℕ, ◌<◌, List, length, get_or, refl, sym, ◌∙◌, ap, subst, arith}
+--   holds_or_not   == whether it holds there is decided
+use Rattle.std.proofs.Common.{◌≡◌, ◌↔◌, ℕ, ◌<◌, ◌⊎◌, List, length, get_or, inl, inr, refl, sym, ◌∙◌, ap, subst, arith}
 use Rattle.std.proofs.lemmas.List.{get_or_default, length-map}
 use Rattle.ml_base.specs.Structure.{Structure}
+use Rattle.ml_lists.proofs.Decided.{Decided}
 use Rattle.ml_graph.specs.CheckingGame.{Holds, Pair, checking_game, owner_at, vertex_number, vertices}
 use Rattle.ml_graph.specs.Graph as graph
 use Rattle.ml_graph.specs.Graph.{Graph}
@@ -34,7 +36,8 @@ module _ (g : Graph) (m : Structure) (s : ℕ) (low : s < m.states) (is_node : g
     module _ (game_ok : IsGame game) (p : Player) (told : p ≡ get_or win v p) where
       is_winner : p ≡ winner_at solution.winner vertex
       is_winner =
-          told ∙ get_or_default win v p Even vertex_of_game ∙ ap (λ w. get_or w v Even) is_win ∙ ap (λ k. get_or solution.winner k Even) at
+          told ∙ get_or_default win v p Even vertex_of_game ∙ ap (λ w. get_or w v Even) is_win
+          ∙ ap (λ k. get_or solution.winner k Even) at
 
       won : Wins (checking_game g m) p vertex
       won =
@@ -51,3 +54,10 @@ module _ (g : Graph) (m : Structure) (s : ℕ) (low : s < m.states) (is_node : g
 
       pub even_holds : (p ≡ Even) ↔ Holds g m s
       even_holds = (λ is. subst (λ q. Wins (checking_game g m) q vertex) is won, λ even. only_even p refl even)
+
+  pub holds_or_not : IsGame (checking_game g m) → Decided (Holds g m s)
+  holds_or_not game_ok = go ((law (checking_game g m) game_ok).one vertex vertex_low)
+    where
+      go : Wins (checking_game g m) Even vertex ⊎ Wins (checking_game g m) Odd vertex → Decided (Holds g m s)
+      go (inl even) = inl even
+      go (inr odd) = inr (λ even. (law (checking_game g m) game_ok).not_both vertex vertex_low even odd)

@@ -7,27 +7,9 @@ use ml_graph::checking_game;
 use ml_kripke::Structure;
 use ml_model_check::holds;
 use ml_parity::{Player, solve};
+use ml_tests::Numbers;
 use std::alloc::Global;
 use std::test::Fail;
-
-// numbers that look random, and are the same in each run
-#[derive(Drop)]
-pub(crate) struct Numbers {
-    pub(crate) state: u64,
-}
-
-impl Numbers {
-    pub(crate) fn below(&mut self, bound: u64) -> u64
-        requires { 0 < bound }
-        ensures { result < bound }
-    {
-        self.state = self
-            .state
-            .wrapping_mul(6_364_136_223_846_793_005)
-            .wrapping_add(1_442_695_040_888_963_407);
-        (self.state >> 32) % bound
-    }
-}
 
 // what stands before, between and behind one or two operands
 const SIGNS: [(&'static str, Option<&'static str>, &'static str); 13] = [
@@ -143,7 +125,7 @@ fn by_game(
 #[test]
 fn meaning_and_game_agree(rt: HostRuntime) -> Result<(), Fail> {
     let alloc = rt.alloc();
-    let mut numbers = Numbers { state: 1 };
+    let mut numbers = Numbers::new(1);
     let mut formulas = 0_u32;
     for _ in 0..800 {
         let text = random_text(alloc, &mut numbers)?;
@@ -178,7 +160,7 @@ fn worked_formulas(rt: HostRuntime) -> Result<(), Fail> {
         b"nu X. (mu X. X) | X",
         b"mu X. !(nu Y. !X & Y)",
     ];
-    let mut numbers = Numbers { state: 3 };
+    let mut numbers = Numbers::new(3);
     for text in texts {
         let problem = read(alloc, Logic::Mu, text)?;
         let structure = random_structure(alloc, &mut numbers)?;
@@ -209,7 +191,7 @@ fn nested_binders(rt: HostRuntime) -> Result<(), Fail> {
     }
     text.extend_from_slice(b"<>X")?;
     let problem = read(alloc, Logic::Mu, &text)?;
-    let mut numbers = Numbers { state: 7 };
+    let mut numbers = Numbers::new(7);
     let structure = random_structure(alloc, &mut numbers)?;
     let innermost = read(alloc, Logic::Mu, b"nu X. <>X")?;
     for state in 0..structure.states() {

@@ -1,5 +1,5 @@
 // Formulas with the states at which they hold, worked out by hand.
-use ml_base::{Action, Edge, Name, NoMemory};
+use crate::structures::four_states;
 use ml_kripke::Structure;
 use ml_mu::{evaluate, holds, parse};
 use std::alloc::Global;
@@ -7,31 +7,18 @@ use std::test::Fail;
 
 // Four states. By `_`: from 0 to 1, and 1 and 2 to each other. By `a`: from 2 to 3, and 3 to itself.
 // p holds at 2, q at 1 and at 3.
-fn four_states(alloc: Global) -> Result<Structure, Fail> {
-    let mut labels = Vec::new(alloc);
-    for (state, name) in [(1, b"q"), (2, b"p"), (3, b"q")] {
-        labels
-            .push((state, Name::new(alloc, name.as_slice())?))
-            .map_err(NoMemory::from)?;
-    }
-    let mut edges = Vec::new(alloc);
-    for (source, action, target) in [
-        (0, b"_", 1),
-        (1, b"_", 2),
-        (2, b"_", 1),
-        (2, b"a", 3),
-        (3, b"a", 3),
-    ] {
-        let action = Action::new(alloc, action.as_slice())?;
-        edges
-            .push(Edge {
-                source,
-                action,
-                target,
-            })
-            .map_err(NoMemory::from)?;
-    }
-    Ok(Structure::build(alloc, 4, labels, edges)?)
+fn structure(alloc: Global) -> Result<Structure, Fail> {
+    four_states(
+        alloc,
+        [(1, b"q"), (2, b"p"), (3, b"q")],
+        [
+            (0, b"_", 1),
+            (1, b"_", 2),
+            (2, b"_", 1),
+            (2, b"a", 3),
+            (3, b"a", 3),
+        ],
+    )
 }
 
 // Does the formula of this text hold at these states and at no others?
@@ -48,7 +35,7 @@ fn means(
 
 #[test]
 fn meanings(rt: HostRuntime) -> Result<(), Fail> {
-    let structure = four_states(rt.alloc())?;
+    let structure = structure(rt.alloc())?;
     let rows: [(&[u8], [bool; 4]); 12] = [
         (b"tt", [true, true, true, true]),
         (b"p -> q", [true, true, false, true]),
@@ -72,7 +59,7 @@ fn meanings(rt: HostRuntime) -> Result<(), Fail> {
 
 #[test]
 fn meanings_of_fixpoints(rt: HostRuntime) -> Result<(), Fail> {
-    let structure = four_states(rt.alloc())?;
+    let structure = structure(rt.alloc())?;
     let rows: [(&[u8], [bool; 4]); 9] = [
         // nested: p again and again, and q for ever from some time on
         (b"nu X. mu Y. <>((p & X) | Y)", [true, true, true, false]),
@@ -95,7 +82,7 @@ fn meanings_of_fixpoints(rt: HostRuntime) -> Result<(), Fail> {
 
 #[test]
 fn states(rt: HostRuntime) -> Result<(), Fail> {
-    let structure = four_states(rt.alloc())?;
+    let structure = structure(rt.alloc())?;
     let formula = parse(rt.alloc(), b"!p & q")?;
     assert_eq!(rt; structure.states(), 4);
     assert!(rt; holds(rt.alloc(), &formula, &structure, 1)?);

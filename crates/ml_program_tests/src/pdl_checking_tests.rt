@@ -1,10 +1,11 @@
 // Formulas of PDL and structures that look random: the meaning against the game on the graph.
-use crate::checking_tests::{Numbers, random_structure};
+use crate::checking_tests::random_structure;
 use ml_graph::checking_game;
 use ml_parity::{Player, solve};
 use ml_pdl::parse;
 use ml_pdl_graph::graph_of;
 use ml_pdl_meaning::evaluate;
+use ml_tests::Numbers;
 use std::alloc::Global;
 use std::test::Fail;
 
@@ -98,7 +99,7 @@ fn agrees(alloc: Global, numbers: &mut Numbers, text: &[u8]) -> Result<bool, Fai
 #[test]
 fn meaning_and_game_of_pdl_agree(rt: HostRuntime) -> Result<(), Fail> {
     let alloc = rt.alloc();
-    let mut numbers = Numbers { state: 1 };
+    let mut numbers = Numbers::new(1);
     for _ in 0..400 {
         let text = random_text(alloc, &mut numbers)?;
         assert!(rt; agrees(alloc, &mut numbers, &text)?, "{text:?}");

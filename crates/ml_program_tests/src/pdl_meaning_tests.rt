@@ -1,5 +1,5 @@
 // Formulas of PDL with the states at which they hold, and programs with the pairs that they relate, worked out by hand.
-use ml_base::{Action, Edge, Name, NoMemory};
+use crate::structures::four_states;
 use ml_kripke::Structure;
 use ml_pdl::{Term, parse};
 use ml_pdl_meaning::{evaluate, holds, relates};
@@ -8,31 +8,18 @@ use std::test::Fail;
 
 // Four states. By `a`: from 0 to 1, and 1 and 2 to each other. By `b`: from 2 to 3, and 3 to itself.
 // p holds at 2, q at 1 and at 3.
-fn four_states(alloc: Global) -> Result<Structure, Fail> {
-    let mut labels = Vec::new(alloc);
-    for (state, name) in [(1, b"q"), (2, b"p"), (3, b"q")] {
-        labels
-            .push((state, Name::new(alloc, name.as_slice())?))
-            .map_err(NoMemory::from)?;
-    }
-    let mut edges = Vec::new(alloc);
-    for (source, action, target) in [
-        (0, b"a", 1),
-        (1, b"a", 2),
-        (2, b"a", 1),
-        (2, b"b", 3),
-        (3, b"b", 3),
-    ] {
-        let action = Action::new(alloc, action.as_slice())?;
-        edges
-            .push(Edge {
-                source,
-                action,
-                target,
-            })
-            .map_err(NoMemory::from)?;
-    }
-    Ok(Structure::build(alloc, 4, labels, edges)?)
+fn structure(alloc: Global) -> Result<Structure, Fail> {
+    four_states(
+        alloc,
+        [(1, b"q"), (2, b"p"), (3, b"q")],
+        [
+            (0, b"a", 1),
+            (1, b"a", 2),
+            (2, b"a", 1),
+            (2, b"b", 3),
+            (3, b"b", 3),
+        ],
+    )
 }
 
 // Does the formula of this text hold at these states and at no others?
@@ -70,7 +57,7 @@ fn relates_pairs(
 
 #[test]
 fn modalities(rt: HostRuntime) -> Result<(), Fail> {
-    let structure = four_states(rt.alloc())?;
+    let structure = structure(rt.alloc())?;
     let rows: [(&[u8], [bool; 4]); 12] = [
         (b"tt", [true, true, true, true]),
         (b"p -> q", [true, true, false, true]),
@@ -93,7 +80,7 @@ fn modalities(rt: HostRuntime) -> Result<(), Fail> {
 
 #[test]
 fn stars(rt: HostRuntime) -> Result<(), Fail> {
-    let structure = four_states(rt.alloc())?;
+    let structure = structure(rt.alloc())?;
     let rows: [(&[u8], [bool; 4]); 9] = [
         (b"<a*>p", [true, true, true, false]),
         (b"[a*]q", [false, false, false, true]),
@@ -114,7 +101,7 @@ fn stars(rt: HostRuntime) -> Result<(), Fail> {
 
 #[test]
 fn tests_of_formulas(rt: HostRuntime) -> Result<(), Fail> {
-    let structure = four_states(rt.alloc())?;
+    let structure = structure(rt.alloc())?;
     let rows: [(&[u8], [bool; 4]); 12] = [
         (b"<p?>tt", [false, false, true, false]),
         (b"[p?]q", [true, true, false, true]),
@@ -140,7 +127,7 @@ fn tests_of_formulas(rt: HostRuntime) -> Result<(), Fail> {
 
 #[test]
 fn repetitions(rt: HostRuntime) -> Result<(), Fail> {
-    let structure = four_states(rt.alloc())?;
+    let structure = structure(rt.alloc())?;
     let rows: [(&[u8], [bool; 4]); 10] = [
         (b"repeat(a)", [true, true, true, false]),
         (b"repeat(b)", [false, false, true, true]),
@@ -162,7 +149,7 @@ fn repetitions(rt: HostRuntime) -> Result<(), Fail> {
 
 #[test]
 fn repetitions_inside(rt: HostRuntime) -> Result<(), Fail> {
-    let structure = four_states(rt.alloc())?;
+    let structure = structure(rt.alloc())?;
     let rows: [(&[u8], [bool; 4]); 9] = [
         (b"!repeat(a)", [false, false, false, true]),
         (b"<a>repeat(b)", [false, true, false, false]),
@@ -186,7 +173,7 @@ fn repetitions_inside(rt: HostRuntime) -> Result<(), Fail> {
 
 #[test]
 fn sequences_and_choices(rt: HostRuntime) -> Result<(), Fail> {
-    let structure = four_states(rt.alloc())?;
+    let structure = structure(rt.alloc())?;
     assert!(rt; relates_pairs(rt.alloc(), &structure, b"<a;b>tt", &[(1, 3)])?);
     assert!(rt;
         relates_pairs(
@@ -201,7 +188,7 @@ fn sequences_and_choices(rt: HostRuntime) -> Result<(), Fail> {
 
 #[test]
 fn stars_and_tests(rt: HostRuntime) -> Result<(), Fail> {
-    let structure = four_states(rt.alloc())?;
+    let structure = structure(rt.alloc())?;
     assert!(rt; relates_pairs(rt.alloc(), &structure, b"<q?>tt", &[(1, 1), (3, 3)])?);
     assert!(rt;
         relates_pairs(
@@ -216,7 +203,7 @@ fn stars_and_tests(rt: HostRuntime) -> Result<(), Fail> {
 
 #[test]
 fn states(rt: HostRuntime) -> Result<(), Fail> {
-    let structure = four_states(rt.alloc())?;
+    let structure = structure(rt.alloc())?;
     let formula = parse(rt.alloc(), b"<a*>p & !p")?;
     assert_eq!(rt; structure.states(), 4);
     assert!(rt; holds(rt.alloc(), &formula, &structure, 1)?);

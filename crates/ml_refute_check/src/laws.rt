@@ -43,15 +43,17 @@ pub fn refuted_is_unsatisfiable()
     ensures { RefutedIsUnsatisfiable }
 {}
 
-/// Where a document is accepted, what it answers is true: no structure has a state at which its problem holds. This asks
-/// nothing of who wrote the document, nor how.
+/// Where a document is accepted, what it answers is true: no structure of which the logic speaks has a state at which
+/// its problem holds. This asks nothing of who wrote the document, nor how.
 ///
 /// Does nothing when called.
 pub fn accepted_is_true()
     ensures { AcceptedIsTrue }
 {}
 
-/// The document that is written for a problem and a refutation shows these; so `migrate` loses nothing.
+/// The document that is written for a problem and a refutation shows these. Asked is that the problem's formula is
+/// well-formed (`IsWellFormed`) and that the refutation keeps what every one keeps (`IsRefutation`). What a document
+/// shows is such; so `migrate` loses nothing.
 ///
 /// Does nothing when called.
 pub fn documents_are_read_back()

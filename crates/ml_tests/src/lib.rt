@@ -1,18 +1,15 @@
-// Generators of games, graphs and letters, and the tests that cross crates.
+// Generators of games, graphs and letters, and the tests of parity games, heights, traces and histories.
 //
 // Tests and measurements take what they try from here. Begin with `Numbers`, numbers that look random and are the same
 // in each run; `random_game` and `ladder` give games, `chain`, `random_blocks` and `slow_row` one-sided graphs,
 // `random_letter` and `deep_letter` letters of the trace automaton. The tests compare fast programs with the plain ones
 // that are their reference.
 //
-// Below stand the crates whose programs are compared; above stands `ml_measure`.
+// Below stand the crates whose programs are compared; above stands `ml_measure`. Tests of graphs and decision games stand
+// in `ml_game_tests`.
 #![tactic(auto)]
 
-#[cfg(test)]
-mod extract_tests;
 pub mod games;
-#[cfg(test)]
-mod graph_tests;
 pub mod graphs;
 #[cfg(test)]
 mod heights_tests;
@@ -23,12 +20,6 @@ pub mod not_made;
 pub mod numbers;
 #[cfg(test)]
 mod parity_tests;
-#[cfg(test)]
-mod product_tests;
-#[cfg(test)]
-mod refute_tests;
-#[cfg(test)]
-mod sequent_tests;
 #[cfg(test)]
 mod tests;
 #[cfg(test)]

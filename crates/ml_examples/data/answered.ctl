@@ -1,0 +1,1 @@
+A G(req -> A F ack) & E F req -> E F ack

@@ -1,0 +1,1 @@
+A G A F p & E F E G !p

@@ -1,0 +1,1 @@
+A(!open W unlocked) <-> !E(!unlocked U (open & !unlocked))

@@ -1,0 +1,1 @@
+A G E F home & E G !home

@@ -1,0 +1,21 @@
+// Tests of graphs, of the local phase on them, and of decision games with what is made of them. They stand here, above the
+// crates that they call, so that none of those is proved a second time for its tests. Tests of parity games, traces and
+// histories stand in `ml_tests`.
+//
+//   extract_tests  structures made of games that Even wins
+//   graph_tests    graphs built and refused, and the graphs that other tests take
+//   product_tests  decision games explored
+//   refute_tests   refutations made of games that Odd wins
+//   sequent_tests  spreads, clashes, splits and steps
+#![tactic(auto)]
+
+#[cfg(test)]
+mod extract_tests;
+#[cfg(test)]
+mod graph_tests;
+#[cfg(test)]
+mod product_tests;
+#[cfg(test)]
+mod refute_tests;
+#[cfg(test)]
+mod sequent_tests;

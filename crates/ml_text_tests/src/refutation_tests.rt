@@ -1,0 +1,124 @@
+// Refutations read from their texts in both versions.
+use ml_base::{DocRefusal, Version};
+use ml_refutation_text::{EntryLines, Lines, read, write};
+use std::alloc::Global;
+use std::test::Fail;
+
+// the refutation of `mu X. <>X`, in both versions
+const ENDLESS: &'static [u8] =
+    b"names 2\nentries 4\nentry 0\nsequent 0\nlive 1\nitem 0 - 0\nheights 0 0 2\ngo 2 1 neutral\nentry 1\nsequent 4\nlive 1\nitem 4 - 0\nitem 4 1 0\nheights 0 0 1\ngo 2 2 neutral\nentry 2\nsequent 4\nlive 2\nitem 4 - 0\nitem 4 1 0 1\nheights 0 0 0\ngo 2 3 green 1\nentry 3\nsequent 4\nlive 2\nitem 4 - 0\nitem 4 1 0 1\nheights 0 0 0\ngo 2 3 green 1\nend\n";
+
+const ENDLESS_BY_TABLES: &'static [u8] =
+    b"names 2\nsequents 2\nsequent 0\nsequent 4\nstacks 2\nstack 0\nstack 0 1\nentries 4\nentry 0 0\nlive 1\nitem 0 - 0\nheights 0 0 2\ngo 2 1 neutral\nentry 1 1\nlive 1\nitem 4 - 0\nitem 4 1 0\nheights 0 0 1\ngo 2 2 neutral\nentry 2 1\nlive 2\nitem 4 - 0\nitem 4 1 1\nheights 0 0 0\ngo 2 3 green 1\nentry 3 1\nlive 2\nitem 4 - 0\nitem 4 1 1\nheights 0 0 0\ngo 2 3 green 1\nend\n";
+
+// refutations that are false, but have a text
+const EMPTY_NAME: &'static [u8] =
+    b"names 2\nentries 2\nentry 0\nsequent 0\nlive 1\nitem 0 - 0\nheights 0 0 1\ngo 2 1 neutral\nentry 1\nsequent 4\nlive 2\nitem 4 - 0\nheights 0 0 0\ngo 2 1 green 1\nend\n";
+
+const WRONG_SPLIT: &'static [u8] =
+    b"names 1\nentries 1\nentry 0\nsequent 0\nlive 1\nitem 0 - 0\nheights 0 0\nsplit 0\nclash false 2\nclash false 4\nend\n";
+
+// is the text read in this version, written again as it was, and as this one in the other version?
+fn is_in(
+    alloc: Global,
+    text: &[u8],
+    version: Version,
+    other: Version,
+    wanted: &[u8],
+) -> Result<bool, DocRefusal> {
+    let (refutation, _) = read(alloc, text, 6, version)?;
+    let again = write(alloc, &refutation, version)?;
+    let translated = write(alloc, &refutation, other)?;
+    Ok(again.as_slice() == text && translated.as_slice() == wanted)
+}
+
+#[test]
+fn the_first_version_read(rt: HostRuntime) -> Result<(), Fail> {
+    assert!(rt;
+        is_in(
+            rt.alloc(),
+            ENDLESS,
+            Version::One,
+            Version::Two,
+            ENDLESS_BY_TABLES
+        )?
+    );
+    Ok(())
+}
+
+#[test]
+fn the_second_version_read(rt: HostRuntime) -> Result<(), Fail> {
+    assert!(rt;
+        is_in(
+            rt.alloc(),
+            ENDLESS_BY_TABLES,
+            Version::Two,
+            Version::One,
+            ENDLESS
+        )?
+    );
+    Ok(())
+}
+
+#[test]
+fn false_refutations_read(rt: HostRuntime) -> Result<(), Fail> {
+    assert!(rt;
+        is_in(
+            rt.alloc(),
+            EMPTY_NAME,
+            Version::One,
+            Version::One,
+            EMPTY_NAME
+        )?
+    );
+    assert!(rt;
+        is_in(
+            rt.alloc(),
+            WRONG_SPLIT,
+            Version::One,
+            Version::One,
+            WRONG_SPLIT
+        )?
+    );
+    Ok(())
+}
+
+#[test]
+fn lines_of_parts(rt: HostRuntime) -> Result<(), Fail> {
+    let alloc = rt.alloc();
+    let (_, Lines { entries }) = read(alloc, ENDLESS, 6, Version::One)?;
+    assert_eq!(rt; entries.len(), 4);
+    let first = EntryLines {
+        sequent: 9,
+        live: 10,
+        items: 11,
+        heights: 12,
+        decision: 13,
+    };
+    let last = EntryLines {
+        sequent: 29,
+        live: 30,
+        items: 31,
+        heights: 33,
+        decision: 34,
+    };
+    assert_eq!(rt; entries[0], first);
+    assert_eq!(rt; entries[3], last);
+    Ok(())
+}
+
+#[test]
+fn lines_of_parts_by_tables(rt: HostRuntime) -> Result<(), Fail> {
+    let alloc = rt.alloc();
+    let (_, Lines { entries }) = read(alloc, ENDLESS_BY_TABLES, 6, Version::Two)?;
+    let second = EntryLines {
+        sequent: 19,
+        live: 20,
+        items: 21,
+        heights: 23,
+        decision: 24,
+    };
+    assert!(rt; entries.len() > 1);
+    assert_eq!(rt; entries[1], second);
+    Ok(())
+}
