@@ -3,18 +3,14 @@
 --   size_at_most  == the graph of a closure that has no more than n nodes has no more
 --   not_large     == the closure of a graph with at most n nodes has no more
 --   some_or_large == each closure has a graph and no more than n nodes, or it has more
-use Rattle.std.proofs.Common.{◌<◌, ◌≤◌, ◌⊎◌, ◌↔◌, ℕ, inl, inr, ⊎_elim, arith}
+use Rattle.std.proofs.Common.{◌<◌, ◌≤◌, ◌⊎◌, ℕ, inl, inr, ⊎_elim, arith}
 use Rattle.std.proofs.lemmas.Bool.{cases_lt}
 use Rattle.ml_graph.specs.Graph.{Graph, size}
 use Rattle.ml_blocks.specs.BlockGraph.{IsGraphAt}
 use Rattle.ml_blocks.specs.Closures.{HasMoreThan}
 use Rattle.ml_blocks.specs.Places.{Place, Root}
-
-one_size : (start : Place) (g : Graph) (n : ℕ) → IsGraphAt g start → HasMoreThan (Root start) n ↔ n < size g
-one_size start g n is = ?
-
-some_graph : (start : Place) (n : ℕ) → ((g : Graph) × IsGraphAt g start × (size g ≤ n)) ⊎ HasMoreThan (Root start) n
-some_graph start n = ?
+use Rattle.ml_blocks.proofs.OneSize.{one_size}
+use Rattle.ml_blocks.proofs.SomeGraph.{some_graph}
 
 pub size_at_most : (start : Place) (g : Graph) (n : ℕ) → IsGraphAt g start → ¬ (HasMoreThan (Root start) n) → size g ≤ n
 size_at_most start g n is none =
