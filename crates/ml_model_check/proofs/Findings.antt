@@ -9,21 +9,17 @@ use Rattle.std.proofs.Common.{◌≡◌, ℕ, ◌<◌, ◌⊎◌, List, inl, inr
 use Rattle.ml_base.specs.Structure.{Structure, IsStructure}
 use Rattle.ml_base.specs.declared.doc_fault.DocFault.{DocFault}
 use Rattle.ml_lists.proofs.Decided.{Decided}
-use Rattle.ml_graph.specs.CheckingGame.{Holds as GraphHolds}
 use Rattle.ml_graph.specs.Graph.{Graph}
-use Rattle.ml_graph.proofs.CheckingGame.{is_game}
-use Rattle.ml_graph.proofs.References.{root_in_range}
 use Rattle.ml_front.specs.Graphs.{HasLargeClosure, IsGraphOf, IsMeaningful}
 use Rattle.ml_front.specs.Logics.{logic_of}
 use Rattle.ml_front.specs.Problems.{HoldsAt, IsAdmitted, IsFirstDeadlock}
 use Rattle.ml_front.specs.declared.problem.Problem.{Problem}
 use Rattle.ml_front.specs.declared.problem.TheConstants.{MOST_NODES}
-use Rattle.ml_front.proofs.Graphs.{admitted_or_not, graph_is, graphs_agree, never_both, one_deadlock}
+use Rattle.ml_front.proofs.Graphs.{admitted_or_not, holds_or_fails, never_both, one_deadlock}
 use Rattle.ml_front.proofs.SomeGraph.{some_graph}
 use Rattle.ml_model_check.specs.Checked.{IsCheckedAs, IsDocument, IsDocumentFault}
 use Rattle.ml_model_check.specs.declared.checked.Checked.{Checked}
 use Rattle.ml_model_check.specs.declared.checked.Checked.TheVariants.{Holds, Fails, Unreadable, NotTotal, ClosureTooLarge}
-use Rattle.ml_model_check.proofs.Winners.{holds_or_not}
 
 abbrev IsClosed : Problem → Type 0
 IsClosed p = ¬ (HasLargeClosure p MOST_NODES)
@@ -63,25 +59,17 @@ module _ (p : Problem) (m : Structure) (s : ℕ) where
   one_finding (Unreadable fault) d x y = absurd x
   one_finding c (Unreadable fault) x y = absurd y
 
-  -- where a graph is there to be played on
-  module _ (g : Graph) (is_graph : IsGraphOf g p) (closed : IsClosed p) (meaningful : IsMeaningful p.formula)
-      (is_structure : IsStructure m) (low : s < m.states) (speaks : SpeaksOf p m) where
-    by_graph : Decided (GraphHolds g m s) → (c : Checked) × Finds c p m s
-    by_graph (inl holds) = (Holds, (speaks, closed, (graphs_agree p g meaningful is_graph m speaks s low).0 holds))
-    by_graph (inr none) =
-        (Fails, (speaks, closed, λ holds. none ((graphs_agree p g meaningful is_graph m speaks s low).1 holds)))
-
-    played : (c : Checked) × Finds c p m s
-    played =
-        let graph = graph_is g p.negated p.formula is_graph in
-        by_graph (holds_or_not g m s low (root_in_range g graph) (is_game g m graph is_structure))
+  by_holding : IsClosed p → SpeaksOf p m → Decided (HoldsAt m s p) → (c : Checked) × Finds c p m s
+  by_holding closed speaks (inl holds) = (Holds, (speaks, closed, holds))
+  by_holding closed speaks (inr none) = (Fails, (speaks, closed, none))
 
   pub some_finding : IsMeaningful p.formula → IsStructure m → s < m.states → (c : Checked) × Finds c p m s
   some_finding meaningful is_structure low = by_structure (admitted_or_not (logic_of p.formula) m is_structure)
     where
       by_closure : SpeaksOf p m → ((g : Graph) × IsGraphOf g p × IsClosed p) ⊎ HasLargeClosure p MOST_NODES
           → (c : Checked) × Finds c p m s
-      by_closure speaks (inl (g, is_graph, closed)) = played g is_graph closed meaningful is_structure low speaks
+      by_closure speaks (inl (g, is_graph, closed)) =
+          by_holding closed speaks (holds_or_fails p g m s meaningful is_graph speaks low)
       by_closure speaks (inr large) = (ClosureTooLarge, (speaks, large))
 
       by_structure : SpeaksOf p m ⊎ ((dead : ℕ) × IsFirstDeadlock (logic_of p.formula) m dead)

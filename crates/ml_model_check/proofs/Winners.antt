@@ -2,11 +2,9 @@
 --
 --   vertex_of_game == the vertex of a state and the root is one of the game
 --   even_holds     == the graph holds at the state exactly if a solution has Even as that vertex's winner
---   holds_or_not   == whether it holds there is decided
-use Rattle.std.proofs.Common.{◌≡◌, ◌↔◌, ℕ, ◌<◌, ◌⊎◌, List, length, get_or, inl, inr, refl, sym, ◌∙◌, ap, subst, arith}
+use Rattle.std.proofs.Common.{◌≡◌, ◌↔◌, ℕ, ◌<◌, List, length, get_or, refl, sym, ◌∙◌, ap, subst, arith}
 use Rattle.std.proofs.lemmas.List.{get_or_default, length-map}
 use Rattle.ml_base.specs.Structure.{Structure}
-use Rattle.ml_lists.proofs.Decided.{Decided}
 use Rattle.ml_graph.specs.CheckingGame.{Holds, Pair, checking_game, owner_at, vertex_number, vertices}
 use Rattle.ml_graph.specs.Graph as graph
 use Rattle.ml_graph.specs.Graph.{Graph}
@@ -54,10 +52,3 @@ module _ (g : Graph) (m : Structure) (s : ℕ) (low : s < m.states) (is_node : g
 
       pub even_holds : (p ≡ Even) ↔ Holds g m s
       even_holds = (λ is. subst (λ q. Wins (checking_game g m) q vertex) is won, λ even. only_even p refl even)
-
-  pub holds_or_not : IsGame (checking_game g m) → Decided (Holds g m s)
-  holds_or_not game_ok = go ((law (checking_game g m) game_ok).one vertex vertex_low)
-    where
-      go : Wins (checking_game g m) Even vertex ⊎ Wins (checking_game g m) Odd vertex → Decided (Holds g m s)
-      go (inl even) = inl even
-      go (inr odd) = inr (λ even. (law (checking_game g m) game_ok).not_both vertex vertex_low even odd)

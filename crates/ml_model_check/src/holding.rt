@@ -75,7 +75,9 @@ fn holds_where_admitted(
                 Ok(holds)
             }
         }
-        AnyFormula::Pdl(_) => holds_by_game(alloc, problem, structure, state),
+        AnyFormula::Pdl(_) | AnyFormula::Ctl(_) | AnyFormula::Ltl(_) => {
+            holds_by_game(alloc, problem, structure, state)
+        }
     }
 }
 

@@ -77,6 +77,7 @@ fn read_document(alloc: Global, bytes: &[u8]) -> Result<Shown, DocRefusal>
 }
 
 /// Checks what a document shows.
+#[tactic(auto, using(crate::proofs::Rejected::accepted_there, crate::proofs::Rejected::without_graph))]
 fn check_shown(alloc: Global, _bytes: &[u8], shown: &Shown) -> Result<Verdict, NoMemory>
     requires { IsShown _bytes.now shown.now.problem shown.now.refutation shown.now.lines }
     ensures { IfOk result (IsVerdict _bytes.now) }

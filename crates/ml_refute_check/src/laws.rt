@@ -34,9 +34,9 @@ pub fn one_finding()
     ensures law { OneFinding }
 {}
 
-/// Of a problem whose formula means something by its logic (in the mu-calculus: its variables are bound and positive):
-/// where a refutation, which keeps what every one keeps (`IsRefutation`), breaks no rule in its graph, no admitted
-/// structure, of any number of states, has a state at which the problem holds.
+/// Of a problem whose formula means something by its logic (in the mu-calculus: its variables are bound and positive; in
+/// CTL*: it is a state formula): where a refutation, which keeps what every one keeps (`IsRefutation`), breaks no rule in
+/// its graph, no admitted structure, of any number of states, has a state at which the problem holds.
 ///
 /// Does nothing when called.
 pub fn refuted_is_unsatisfiable()
