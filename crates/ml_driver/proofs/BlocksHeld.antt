@@ -32,13 +32,13 @@ use Rattle.ml_blocks.proofs.EdgesGoOn.{diamond_action}
 use Rattle.ml_blocks.proofs.ItemSetMembers.{next_items-member, put_all-member, without-member}
 use Rattle.ml_blocks.proofs.LocalRuns.{some_open}
 use Rattle.ml_refutation.specs.Refutation.{Fits}
-use Rattle.ml_driver.proofs.HeldNames.{Every, IsHeld, every_cons, word_named}
+use Rattle.ml_driver.proofs.HeldNames.{Every, IsHeld, every_cons, letter_word}
 
 -- ---- formulas
 
 lower_name : (w : List ℕ) → is_word_from is_lower w ≡ true → length w ≤ 64 → is_name w ≡ true
 lower_name [] spelled short = absurd (cc)
-lower_name (b ∷ bs) spelled short = word_named b bs (is_lower b) (or_left (is_lower b) (is_upper b)) spelled short
+lower_name (b ∷ bs) spelled short = letter_word b bs (is_lower b) (or_left (is_lower b) (is_upper b)) spelled short
 
 abbrev pub NamesOf : Formula → Type 0
 NamesOf (plain.Const b) = Unit {0}

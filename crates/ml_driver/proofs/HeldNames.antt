@@ -4,7 +4,7 @@
 --   IsHeld g      == the propositions of literals are names, the actions of diamonds are actions, and priorities fit 32 bits
 --   held_lists    == so it is where all names that the graph lists are such
 --   with_named    == a list of names to which a name was added
---   word_named    == a word that begins with a letter, and is short, is a name
+--   letter_word   == a word that begins with a letter, and is short, is a name
 --   action_named  == an action that is spelt as one, and short, is one
 use Rattle.std.proofs.Common.{◌≡◌, ◌||◌, ◌&&◌, ℕ, ◌<◌, ◌≤◌, ◌⊎◌, Bool, true, false, if◌then◌else◌, codes, bytes_eq, List, [], ◌∷◌, ◌++◌, length, inl, inr, refl, sym, subst}
 use Rattle.std.specs.Cmp.{first_so, second_so}
@@ -36,6 +36,15 @@ every_append P xs ys ps qs y m = by_part (member-append y xs ys m)
     by_part : IsMember y xs ⊎ IsMember y ys → P y
     by_part (inl here) = ps y here
     by_part (inr there) = qs y there
+
+-- `begins` is the test of the first byte
+pub letter_word : (b : ℕ) (bs : List ℕ) (begins : Bool)
+    → (begins ≡ true → is_letter b ≡ true)
+    → (begins && list_all is_word_byte bs) ≡ true
+    → length (b ∷ bs) ≤ 64
+    → is_name (b ∷ bs) ≡ true
+letter_word b bs begins letter word short =
+    let parts = and_parts begins (list_all is_word_byte bs) word in word_is_name b bs (letter parts.0) parts.1 short
 
 pub record IsHeld (g : Graph) : Type 0 where
   pub literals : (n p : ℕ) (positive : Bool) → n < size g → node_at g n ≡ node.Lit p positive → IsName (prop_at g p)
@@ -111,16 +120,7 @@ module _ (free : List ℕ → Bool)
           letterless no_low no_up = neither (is_lower b) (is_upper b) no_low no_up
 
   -- an action that is spelt as one, and short
-  -- `begins` is the test of the first byte
-pub word_named : (b : ℕ) (bs : List ℕ) (begins : Bool)
-    → (begins ≡ true → is_letter b ≡ true)
-    → (begins && list_all is_word_byte bs) ≡ true
-    → length (b ∷ bs) ≤ 64
-    → is_name (b ∷ bs) ≡ true
-word_named b bs begins letter word short =
-    let parts = and_parts begins (list_all is_word_byte bs) word in word_is_name b bs (letter parts.0) parts.1 short
-
-pub action_named : (a : List ℕ)
+  pub action_named : (a : List ℕ)
       → (bytes_eq a (codes "_") || (is_word a && free a)) ≡ true
       → length a ≤ 64
       → IsAction a

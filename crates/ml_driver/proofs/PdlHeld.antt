@@ -17,19 +17,19 @@ use Rattle.ml_pdl_graph.specs.private.NodeList.{actions_onto, nodes_of, operator
 use Rattle.ml_pdl_graph.proofs.InRange.{lists_make_graph}
 use Rattle.ml_pdl_graph.proofs.Made.{graph_made}
 use Rattle.ml_refutation.specs.Refutation.{Fits}
-use Rattle.ml_driver.proofs.HeldNames.{Every, IsHeld, action_named, every_append, every_cons, held_lists, with_named, word_named}
+use Rattle.ml_driver.proofs.HeldNames.{Every, IsHeld, action_named, every_append, every_cons, held_lists, with_named, letter_word}
 
 -- ---- names
 
 lower_name : (w : List ℕ) → is_proposition w ≡ true → length w ≤ 64 → is_name w ≡ true
 lower_name [] spelled short = absurd (cc)
 lower_name (b ∷ bs) spelled short =
-    word_named b bs (is_lower b) (or_left (is_lower b) (is_upper b))
+    letter_word b bs (is_lower b) (or_left (is_lower b) (is_upper b))
     (first_so (is_word_from is_lower (b ∷ bs)) (not (is_reserved (b ∷ bs))) spelled) short
 
 upper_name : (w : List ℕ) → is_word_from is_upper w ≡ true → length w ≤ 64 → is_name w ≡ true
 upper_name [] spelled short = absurd (cc)
-upper_name (b ∷ bs) spelled short = word_named b bs (is_upper b) (or_right (is_lower b) (is_upper b)) spelled short
+upper_name (b ∷ bs) spelled short = letter_word b bs (is_upper b) (or_right (is_lower b) (is_upper b)) spelled short
 
 mutual
   props_named : (f : Formula) → is_spelled f ≡ true → HasShortNames f → (ps : List (List ℕ)) → Every IsName ps
