@@ -55,7 +55,9 @@ fn made(
     let props = props_of(alloc, names)?;
     let actions = actions_of(alloc)?;
     let Draft {
-        nodes, priorities, ..
+        nodes,
+        priorities,
+        ..
     } = draft;
     match ModalGraph::build(nodes, priorities, 0, props, actions) {
         Ok(graph) => Ok(graph),

@@ -4,6 +4,7 @@
 // (`specs/Places.antt`); `laws` has that the checking game on it agrees with the problem's meaning. It stands on `ml_ctl`, for
 // formulas and their meaning, and on `ml_graph`, for modal graphs and their game.
 #![tactic(auto)]
+
 mod graph;
 mod items;
 /// what is proved of rows and meanings

@@ -119,14 +119,8 @@ fn whole_form(alloc: Global, table: &Table, at: u32, positive: bool) -> Result<F
         Symbol::Prop(prop) => Ok(Form::Literal(prop, positive)),
         Symbol::Not => Ok(Form::Twice(true, whole(left, !positive))),
         Symbol::Binary(operator) => Ok(connective_form(operator, positive, at, left, right)),
-        Symbol::Exists => Ok(Form::Twice(
-            true,
-            begin(alloc, Asked::now(left, true), positive)?,
-        )),
-        Symbol::Forall => Ok(Form::Twice(
-            true,
-            begin(alloc, Asked::now(left, false), !positive)?,
-        )),
+        Symbol::Exists => Ok(Form::Twice(true, begin(alloc, Asked::now(left, true), positive)?)),
+        Symbol::Forall => Ok(Form::Twice(true, begin(alloc, Asked::now(left, false), !positive)?)),
         Symbol::Temporal(_) | Symbol::Paired(_) => Ok(Form::Constant(false)),
     }
 }

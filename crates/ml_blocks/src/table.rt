@@ -151,7 +151,12 @@ fn eventualities(
 }
 
 // one occurrence more, with these eventualities
-fn put(table: &mut Table, symbol: Symbol, operands: (u32, u32), keys: Vec<u64>) -> Result<(), AllocError>
+fn put(
+    table: &mut Table,
+    symbol: Symbol,
+    operands: (u32, u32),
+    keys: Vec<u64>,
+) -> Result<(), AllocError>
     ensures occurrences { OnOk result (table.new.occurrences.items
         ≡ table.old.occurrences.items ++ listed.entry symbol operands.0 operands.1 ∷ []) }
     ensures eventualities { OnOk result (listed.lists_of table.new.eventualities.items
@@ -177,7 +182,13 @@ fn weight(operator: Operator) -> u32
 }
 
 // behind an iff two constants
-fn fill(alloc: Global, table: &mut Table, names: &Names, operator: Operator, at: u32) -> Result<(), AllocError>
+fn fill(
+    alloc: Global,
+    table: &mut Table,
+    names: &Names,
+    operator: Operator,
+    at: u32,
+) -> Result<(), AllocError>
     ensures occurrences { OnOk result (table.new.occurrences.items
         ≡ table.old.occurrences.items ++ listed.fill (listed.occurrence_here names.now.props.keys) operator at) }
     ensures eventualities { OnOk result (listed.lists_of table.new.eventualities.items
@@ -313,19 +324,55 @@ fn place(
             place_connective(alloc, table, names, at, Operator::Or, keys, left, right)
         }
         Term::Implies(left, right) => {
-            place_connective(alloc, table, names, at, Operator::Implies, keys, left, right)
+            place_connective(
+                alloc,
+                table,
+                names,
+                at,
+                Operator::Implies,
+                keys,
+                left,
+                right,
+            )
         }
         Term::Iff(left, right) => {
             place_connective(alloc, table, names, at, Operator::Iff, keys, left, right)
         }
         Term::Next(operand) => {
-            place_above(alloc, table, names, at, Symbol::Temporal(Tense::Next), keys, None, operand)
+            place_above(
+                alloc,
+                table,
+                names,
+                at,
+                Symbol::Temporal(Tense::Next),
+                keys,
+                None,
+                operand,
+            )
         }
         Term::Finally(operand) => {
-            place_above(alloc, table, names, at, Symbol::Temporal(Tense::Finally), keys, None, operand)
+            place_above(
+                alloc,
+                table,
+                names,
+                at,
+                Symbol::Temporal(Tense::Finally),
+                keys,
+                None,
+                operand,
+            )
         }
         Term::Globally(operand) => {
-            place_above(alloc, table, names, at, Symbol::Temporal(Tense::Globally), keys, None, operand)
+            place_above(
+                alloc,
+                table,
+                names,
+                at,
+                Symbol::Temporal(Tense::Globally),
+                keys,
+                None,
+                operand,
+            )
         }
         Term::Until(left, right) => {
             place_pair(alloc, table, names, at, Pairing::Until, keys, left, right)
@@ -337,10 +384,28 @@ fn place(
             place_pair(alloc, table, names, at, Pairing::Weak, keys, left, right)
         }
         Term::Exists(operand) => {
-            place_above(alloc, table, names, at, Symbol::Exists, keys, Some(true), operand)
+            place_above(
+                alloc,
+                table,
+                names,
+                at,
+                Symbol::Exists,
+                keys,
+                Some(true),
+                operand,
+            )
         }
         Term::Forall(operand) => {
-            place_above(alloc, table, names, at, Symbol::Forall, keys, Some(false), operand)
+            place_above(
+                alloc,
+                table,
+                names,
+                at,
+                Symbol::Forall,
+                keys,
+                Some(false),
+                operand,
+            )
         }
     }
 }
