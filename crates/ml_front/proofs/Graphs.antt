@@ -59,9 +59,9 @@ same_or_not false false = inl refl
 same_or_not true false = inr (λ e. cc)
 same_or_not false true = inr (λ e. cc)
 
-decided_by : {g : Graph} {m : Structure} {s : ℕ} {P : Type 0} → Agrees g m s P → Decided P
-decided_by (inl (holds, won)) = inl holds
-decided_by (inr (fails, lost)) = inr fails
+decided_by : (g : Graph) (m : Structure) (s : ℕ) (P : Type 0) → Agrees g m s P → Decided P
+decided_by g m s P (inl (holds, won)) = inl holds
+decided_by g m s P (inr (fails, lost)) = inr fails
 
 decided_as : (f : AnyFormula) (negated : Bool) (g : Graph) (m : Structure) (s : ℕ)
     → IsMeaningful f
@@ -71,8 +71,10 @@ decided_as : (f : AnyFormula) (negated : Bool) (g : Graph) (m : Structure) (s : 
     → Decided (HoldsAs m s negated f)
 decided_as (Mu f) negated g m s meaningful is admitted low = same_or_not (is_member (mu_meaning.meaning m [] f) s) (not negated)
 decided_as (Pdl f) negated g m s meaningful is admitted low = same_or_not (is_member (pdl_meaning.meaning m f) s) (not negated)
-decided_as (Ctl f) negated g m s meaningful is admitted low = decided_by (blocks.graphs_agree f negated g meaningful is m admitted s low)
-decided_as (Ltl f) negated g m s meaningful is admitted low = decided_by (blocks.linear_graphs_agree f negated g is m admitted s low)
+decided_as (Ctl f) negated g m s meaningful is admitted low =
+    decided_by g m s (HoldsAs m s negated (Ctl f)) (blocks.graphs_agree f negated g meaningful is m admitted s low)
+decided_as (Ltl f) negated g m s meaningful is admitted low =
+    decided_by g m s (HoldsAs m s negated (Ltl f)) (blocks.linear_graphs_agree f negated g is m admitted s low)
 
 pub holds_or_fails : (p : Problem) (g : Graph) (m : Structure) (s : ℕ)
     → IsMeaningful p.formula

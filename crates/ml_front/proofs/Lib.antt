@@ -19,6 +19,8 @@ pub mod AlikeGraphs
 pub mod MuAlike
 pub mod PdlAlike
 pub mod BlocksAlike
+-- graphs of problems of LTL
+pub mod LinearGraphs
 -- each state has an edge, or some is the first deadlock
 pub mod Deadlocks
 -- how many nodes the graph of a closure has

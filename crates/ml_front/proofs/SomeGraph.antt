@@ -52,7 +52,7 @@ is_pdl_graph f negated =
 
 pub some_graph : (n : ℕ) (negated : Bool) (f : AnyFormula)
     → ((g : Graph) × IsGraphAs g negated f × (¬ (HasLargeClosureAs n negated f))) ⊎ HasLargeClosureAs n negated f
-some_graph n negated (Mu f) = inl (mu_graph f negated, (is_mu_graph f negated, λ large. large))
-some_graph n negated (Pdl f) = inl (pdl_graph f negated, (is_pdl_graph f negated, λ large. large))
+some_graph n negated (Mu f) = inl (mu_graph f negated, is_mu_graph f negated, λ large. large)
+some_graph n negated (Pdl f) = inl (pdl_graph f negated, is_pdl_graph f negated, λ large. large)
 some_graph n negated (Ctl f) = some_or_large (start_of f negated) n
 some_graph n negated (Ltl f) = some_or_large (linear_start_of f negated) n
