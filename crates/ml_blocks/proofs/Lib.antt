@@ -48,3 +48,47 @@ mod WorkedGraph
 pub mod FirstOccurrences
 -- one numbering at most
 pub mod OneNumbering
+-- first entries, and numbers of entries
+pub mod FirstEntries
+-- breadth-first search among values
+pub mod BreadthFirstSearch
+-- nodes are equal or not
+pub mod PlaceEquality
+-- the graph of a list of nodes
+pub mod GraphOfPlaces
+-- some graph, or more nodes
+pub mod SomeGraph
+-- how large a graph is
+pub mod OneSize
+-- edges go on where a graph holds
+pub mod EdgesGoOn
+-- what is kept of occurrences
+pub mod SpreadLists
+-- what is kept of a formula, and of its operands
+pub mod KeptFormulas
+-- the names of propositions
+pub mod NameLists
+-- rows by numbers
+pub mod NumberedRows
+-- lists of items by numbers
+pub mod NumberedSets
+-- eventualities that are gathered along a formula
+pub mod WantedEventualities
+-- which eventuality is the next in focus
+pub mod FocusTurns
+-- forms by numbers
+pub mod NumberedForms
+-- when nodes by numbers are equal
+pub mod SpotEquality
+-- lists to which something was added
+pub mod Additions
+-- numbers that come in turn
+pub mod NumbersInTurn
+-- drafts of a graph
+pub mod DraftSteps
+-- a draft of all nodes
+pub mod ClosedDrafts
+-- what is made of a formula
+pub mod GraphMade
+-- what is told of results
+pub mod OkResults

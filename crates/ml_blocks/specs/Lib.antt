@@ -14,3 +14,7 @@ pub mod Closures
 pub mod Agreement
 -- that it is one
 pub mod OneGraph
+-- that edges never end where it holds
+pub mod EdgesGoOn
+-- what private contracts cite
+pub mod private

@@ -1,23 +1,81 @@
 // The graphs of formulas of CTL* and LTL.
-ghost use Rattle.std.specs.Prelude.{◌≤◌, IfOk, IsErrOf};
+ghost use Rattle.std.specs.Prelude.{◌≡◌, ◌≤◌, [], ◌∷◌, codes, IfOk, IsErrOf};
 ghost use Rattle.ml_graph.specs.Graph.{size};
+ghost use Rattle.ml_ctl.specs.Formula.{occurrences};
 ghost use Rattle.ml_ctl.specs.Problem.{HoldsAt};
+ghost use Rattle.ml_ctl.specs.Term.{formula_of};
 ghost use Rattle.ml_ltl.specs.Problem as ltl;
 ghost use Rattle.ml_blocks.specs.Agreement.{HoldsWhere};
 ghost use Rattle.ml_blocks.specs.BlockGraph.{IsGraphAt, linear_start_of, start_of};
 ghost use Rattle.ml_blocks.specs.Closures.{HasMoreThan};
 ghost use Rattle.ml_blocks.specs.Places.{Root};
+ghost use Rattle.ml_blocks.specs.private.Views.{start_place};
 
+use crate::names::Names;
+use crate::numbering::{Draft, numbered};
+use crate::table::Table;
+use ml_base::{Action, Name, NoMemory};
+use ml_ctl::Term;
 use ml_graph::{BlockRefusal, ModalGraph};
 use std::alloc::Global;
+
+// the propositions as a list
+fn props_of(alloc: Global, names: Names) -> Result<Vec<Name>, NoMemory>
+    ensures { IfOk result (λ props. props.items ≡ names.props.keys) }
+{
+    Ok(names.into_list(alloc)?)
+}
+
+// the only action
+fn actions_of(alloc: Global) -> Result<Vec<Action>, NoMemory>
+    ensures { IfOk result (λ actions. actions.items ≡ codes "_" ∷ []) }
+{
+    let mut actions = Vec::new(alloc);
+    actions.push(Action::blank(alloc)?)?;
+    Ok(actions)
+}
+
+// the graph of a problem that starts with a block of this sign, or else with a state
+fn made(
+    alloc: Global,
+    term: &Term,
+    first: Option<bool>,
+    positive: bool,
+    max: u32,
+) -> Result<ModalGraph, BlockRefusal>
+    requires few { occurrences (formula_of term.now) ≤ 1000 }
+    ensures graph { IfOk result (λ g. IsGraphAt g (start_place first (formula_of term.now) positive)) }
+    ensures fits { IfOk result (λ g. size g ≤ max) }
+    ensures too_large { IsErrOf result BlockRefusal.ClosureTooLarge
+        → HasMoreThan (Root (start_place first (formula_of term.now) positive)) max }
+{
+    let names = Names::of(alloc, term)?;
+    let table = Table::of(alloc, &names, first, term)?;
+    let draft = numbered(alloc, &table, first, positive, max)?;
+    let props = props_of(alloc, names)?;
+    let actions = actions_of(alloc)?;
+    let Draft {
+        nodes,
+        priorities,
+        ..
+    } = draft;
+    match ModalGraph::build(nodes, priorities, 0, props, actions) {
+        Ok(graph) => Ok(graph),
+        Err(_) => unreachable!(),
+    }
+}
 
 /// The modal graph of a formula of CTL*, or of its negation, if its closure has at most so many nodes: on every structure in
 /// which each state has an edge by `_` it holds exactly where the formula does, or doesn't.
 ///
 /// # Errors
 /// `ClosureTooLarge` exactly where the closure has more than `max` nodes. `NoMemory`.
+///
+/// Cost: each node of the closure is made once; a node of a block takes the time and the memory of its items, squared at
+/// most, and any other node constant time; nodes are found by their hashes. Calls are nested at most as deep as the formula,
+/// or as a block has items.
 pub fn graph_of(
-    _alloc: Global,
+    alloc: Global,
     formula: &ml_ctl::Formula,
     negated: bool,
     max: u32,
@@ -27,7 +85,7 @@ pub fn graph_of(
     ensures fits { IfOk result (λ g. size g ≤ max) }
     ensures too_large { IsErrOf result BlockRefusal.ClosureTooLarge → HasMoreThan (Root (start_of formula.now negated)) max }
 {
-    Err(BlockRefusal::NoMemory)
+    made(alloc, formula.root(), None, !negated, max)
 }
 
 /// The modal graph of a problem of LTL, if its closure has at most so many nodes: on every structure in which each state has
@@ -35,8 +93,12 @@ pub fn graph_of(
 ///
 /// # Errors
 /// `ClosureTooLarge` exactly where the closure has more than `max` nodes. `NoMemory`.
+///
+/// Cost: each node of the closure is made once; a node of a block takes the time and the memory of its items, squared at
+/// most, and any other node constant time; nodes are found by their hashes. Calls are nested at most as deep as the formula,
+/// or as a block has items.
 pub fn ltl_graph_of(
-    _alloc: Global,
+    alloc: Global,
     formula: &ml_ltl::Formula,
     negated: bool,
     max: u32,
@@ -46,5 +108,5 @@ pub fn ltl_graph_of(
     ensures fits { IfOk result (λ g. size g ≤ max) }
     ensures too_large { IsErrOf result BlockRefusal.ClosureTooLarge → HasMoreThan (Root (linear_start_of formula.now negated)) max }
 {
-    Err(BlockRefusal::NoMemory)
+    made(alloc, formula.root(), Some(!negated), true, max)
 }

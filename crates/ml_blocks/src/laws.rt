@@ -1,5 +1,7 @@
 // What holds of items and their rows: the functions do nothing, their contracts are the theorems.
 ghost use Rattle.ml_blocks.specs.Agreement.{GraphsAgree, GraphsHold, LinearGraphsAgree, LinearGraphsHold};
+ghost use Rattle.ml_blocks.specs.Closures.{OneSize, SomeGraph};
+ghost use Rattle.ml_blocks.specs.EdgesGoOn.{EdgesGoOn};
 ghost use Rattle.ml_blocks.specs.OneGraph.{OneGraph};
 ghost use Rattle.ml_blocks.specs.Laws.{EventualitiesAreLeast, EventualitiesComeTrue, OthersAreGreatest, RowsSayTheSame, TruthIsDecided};
 
@@ -48,4 +50,20 @@ pub fn graphs_agree()
 /// in nothing but where they list the names of propositions and actions.
 pub fn one_graph()
     ensures { OneGraph }
+{}
+
+/// A problem has a graph of at most so many nodes, or more than so many are reached from the root of its closure.
+pub fn some_graph()
+    ensures { SomeGraph }
+{}
+
+/// More than so many nodes are reached from the root of a closure exactly where the graph of the closure has more.
+pub fn one_size()
+    ensures { OneSize }
+{}
+
+/// Where the graph of a closure holds at a state of a structure, whatever structure it is, each state that is reached from there
+/// along edges by `_` has an edge by `_`.
+pub fn edges_go_on()
+    ensures { EdgesGoOn }
 {}

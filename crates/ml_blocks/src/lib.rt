@@ -4,8 +4,15 @@
 // (`specs/Places.antt`); `laws` has that the checking game on it agrees with the problem's meaning. It stands on `ml_ctl`, for
 // formulas and their meaning, and on `ml_graph`, for modal graphs and their game.
 #![tactic(auto)]
+
 mod graph;
+mod items;
 /// what is proved of rows and meanings
 pub mod laws;
+mod names;
+mod numbering;
+mod rows;
+mod spots;
+mod table;
 
 pub use graph::{graph_of, ltl_graph_of};

@@ -8,16 +8,19 @@
 use Rattle.std.proofs.Common.{◌≡◌, ℕ, true, false, not, List, [], ◌∷◌, ◌++◌, map, refl, sym, ◌∙◌, ap, subst, codes, append_assoc}
 use Rattle.std.proofs.lemmas.Bool.{and_parts, false≢true}
 use Rattle.std.proofs.lemmas.List.{append-nil}
-use Rattle.ml_text.specs.Bytes.{is_lower}
+use Rattle.std.specs.List.{list_all}
+use Rattle.ml_text.specs.Bytes.{is_lower, is_word_byte}
 use Rattle.ml_text.specs.declared.token.Operator.{Operator}
 use Rattle.ml_text.specs.declared.token.Operator.TheVariants as operator
 use Rattle.ml_text.specs.declared.token.Token.TheVariants as token
 use Rattle.ml_text.specs.declared.token.WordStart.TheVariants.{LowerCase}
-use Rattle.ml_text.specs.declared.token.Placed.{Placed}
 use Rattle.ml_text.specs.Tokens.{tokens}
 use Rattle.ml_text.specs.Words.{constant_of}
 use Rattle.ml_text.specs.Refusals.{signs_of}
-use Rattle.ml_text.proofs.Scans.{Spelt, spelt_at, Scans, ends, blank, piece, scans_tokens}
+use Rattle.ml_text.proofs.Pieces as pieces
+use Rattle.ml_text.proofs.Pieces.{lone, lone_piece, not_piece, and_piece, or_piece, implies_piece, iff_piece, ends_word}
+use Rattle.ml_text.proofs.Scans.{Spelt, spelt_at, Scans, ends, blank, scans_tokens}
+use Rattle.ml_text.proofs.TableItems.{signs_spelt}
 use Rattle.ml_ctl.specs.Formula as plain
 use Rattle.ml_ctl.specs.Formula.{Formula, Logic, Ctl, Ltl, Tense, Pairing, Quantifier, is_of}
 use Rattle.ml_ctl.specs.Canonical.{spelling_of, tense_letter, pairing_letter, quantifier_letter, between, canonical_text}
@@ -25,8 +28,7 @@ use Rattle.ml_ctl.specs.Signs.{Sign, Connective, Const, Open, Close, Tensed, Pai
 use Rattle.ml_ctl.specs.Spelling.{is_spelled, is_word_from, is_reserved}
 use Rattle.ml_ctl.specs.Grammar as grammar
 use Rattle.ml_ctl.specs.Grammar.{Sort, State, Path, sort_of, Reads, iff_alone, iff, imp_alone, imp, or_alone, or, and_alone, and, pair_alone, pair, negation, temporal, quantified, group, constant, proposition}
-use Rattle.ml_ctl.specs.Text.{items_from, items, sign_at, IsTextOf}
-use Rattle.ml_ctl.proofs.CanonicalPieces.{lone, one_byte, open_front, close_front, not_front, and_front, or_front, imp_front, iff_front, tense_piece, pairing_piece, quantifier_piece, ends_word, word_piece}
+use Rattle.ml_ctl.specs.Text.{ctl_signs, items, IsTextOf}
 use Rattle.ml_ctl.proofs.GrammarTables.{un_raised}
 use Rattle.ml_ctl.proofs.Sorts.{fits, is_of_fits}
 use Rattle.ml_ctl.proofs.WordSigns.{proposition_sign}
@@ -51,13 +53,38 @@ SignPiece text s = (rest : List ℕ) (ss : List Spelt)
     → Scans LowerCase (codes " " ++ (text ++ (codes " " ++ rest))) (s ∷ ss)
 
 operator_piece : (o : Operator) → SignPiece (spelling_of o) (token.Operator o, spelling_of o)
-operator_piece operator.And rest ss r = blank 32 refl (piece (token.Operator operator.And) 38 [] refl (and_front rest) (blank 32 refl r))
-operator_piece operator.Or rest ss r = blank 32 refl (piece (token.Operator operator.Or) 124 [] refl (or_front rest) (blank 32 refl r))
-operator_piece operator.Implies rest ss r = blank 32 refl (piece (token.Operator operator.Implies) 45 (62 ∷ []) refl (imp_front rest) (blank 32 refl r))
-operator_piece operator.Iff rest ss r = blank 32 refl (piece (token.Operator operator.Iff) 60 (45 ∷ 62 ∷ []) refl (iff_front rest) (blank 32 refl r))
+operator_piece operator.And = and_piece LowerCase
+operator_piece operator.Or = or_piece LowerCase
+operator_piece operator.Implies = implies_piece LowerCase
+operator_piece operator.Iff = iff_piece LowerCase
 
 letter_piece : (p : Pairing) → SignPiece (pairing_letter p ∷ []) (lone (pairing_letter p))
-letter_piece p rest ss r = blank 32 refl (pairing_piece p (32 ∷ rest) ss (blank 32 refl r))
+letter_piece plain.Until rest ss r = blank 32 refl (lone_piece LowerCase 85 (32 ∷ rest) ss refl (blank 32 refl r))
+letter_piece plain.Release rest ss r = blank 32 refl (lone_piece LowerCase 82 (32 ∷ rest) ss refl (blank 32 refl r))
+letter_piece plain.Weak rest ss r = blank 32 refl (lone_piece LowerCase 87 (32 ∷ rest) ss refl (blank 32 refl r))
+
+-- a letter with the blank behind it in front of a text
+abbrev LetterPiece : ℕ → Type 0
+LetterPiece b = (rest : List ℕ) (ss : List Spelt) → Scans LowerCase rest ss → Scans LowerCase (b ∷ 32 ∷ rest) (lone b ∷ ss)
+
+tense_piece : (t : Tense) → LetterPiece (tense_letter t)
+tense_piece plain.Next rest ss r = lone_piece LowerCase 88 (32 ∷ rest) ss refl (blank 32 refl r)
+tense_piece plain.Finally rest ss r = lone_piece LowerCase 70 (32 ∷ rest) ss refl (blank 32 refl r)
+tense_piece plain.Globally rest ss r = lone_piece LowerCase 71 (32 ∷ rest) ss refl (blank 32 refl r)
+
+quantifier_piece : (q : Quantifier) → LetterPiece (quantifier_letter q)
+quantifier_piece plain.Exists rest ss r = lone_piece LowerCase 69 (32 ∷ rest) ss refl (blank 32 refl r)
+quantifier_piece plain.Forall rest ss r = lone_piece LowerCase 65 (32 ∷ rest) ss refl (blank 32 refl r)
+
+word_piece : (w rest : List ℕ) (ss : List Spelt)
+    → is_word_from is_lower w ≡ true
+    → ends_word rest ≡ true
+    → Scans LowerCase rest ss
+    → Scans LowerCase (w ++ rest) ((token.Word, w) ∷ ss)
+word_piece [] rest ss word stops r = absurd (cc)
+word_piece (b ∷ bs) rest ss word stops r =
+    let parts = and_parts (is_lower b) (list_all is_word_byte bs) word in
+    pieces.word_piece LowerCase b bs rest ss parts.0 parts.1 stops r
 
 between_same : (a sp b rest : List ℕ)
     → between a sp b ++ rest ≡ 40 ∷ (a ++ (codes " " ++ (sp ++ (codes " " ++ (b ++ (41 ∷ rest))))))
@@ -77,13 +104,13 @@ two_scans : (f g : Formula) (text : List ℕ) (s : Spelt) (rest : List ℕ) (ss 
     → Scans LowerCase (between (canonical_text f) text (canonical_text g) ++ rest)
     (lone 40 ∷ tokens_onto f (s ∷ tokens_onto g (lone 41 ∷ ss)))
 two_scans f g text s rest ss sign left right r =
-    let behind = right (41 ∷ rest) (lone 41 ∷ ss) refl (one_byte 41 rest ss refl (close_front rest) r) in
+    let behind = right (41 ∷ rest) (lone 41 ∷ ss) refl (lone_piece LowerCase 41 rest ss refl r) in
     let toks = s ∷ tokens_onto g (lone 41 ∷ ss) in
     let after = codes " " ++ (text ++ (codes " " ++ (canonical_text g ++ (41 ∷ rest)))) in
     let inside = left after toks refl (sign (canonical_text g ++ (41 ∷ rest)) (tokens_onto g (lone 41 ∷ ss)) behind) in
     subst (λ bytes. Scans LowerCase bytes (lone 40 ∷ tokens_onto f toks))
     (sym (between_same (canonical_text f) text (canonical_text g) rest))
-    (one_byte 40 (canonical_text f ++ after) (tokens_onto f toks) refl (open_front (canonical_text f ++ after)) inside)
+    (lone_piece LowerCase 40 (canonical_text f ++ after) (tokens_onto f toks) refl inside)
 
 pub scans_formula : (f : Formula) → is_spelled f ≡ true → ScansOf f
 scans_formula (plain.Const true) is rest ss stops r = word_piece (codes "tt") rest ss refl stops r
@@ -91,19 +118,19 @@ scans_formula (plain.Const false) is rest ss stops r = word_piece (codes "ff") r
 scans_formula (plain.Prop p) is rest ss stops r =
     word_piece p rest ss (and_parts (is_word_from is_lower p) (not (is_reserved p)) is).0 stops r
 scans_formula (plain.Not f) is rest ss stops r =
-    piece token.Not 33 [] refl (not_front (canonical_text f ++ rest)) (scans_formula f is rest ss stops r)
+    not_piece LowerCase (canonical_text f ++ rest) (tokens_onto f ss) (scans_formula f is rest ss stops r)
 scans_formula (plain.Binary o f g) is rest ss stops r =
     let parts = and_parts (is_spelled f) (is_spelled g) is in
     two_scans f g (spelling_of o) (token.Operator o, spelling_of o) rest ss (operator_piece o) (scans_formula f parts.0)
     (scans_formula g parts.1) r
 scans_formula (plain.Temporal t f) is rest ss stops r =
-    tense_piece t (32 ∷ (canonical_text f ++ rest)) (tokens_onto f ss) (blank 32 refl (scans_formula f is rest ss stops r))
+    tense_piece t (canonical_text f ++ rest) (tokens_onto f ss) (scans_formula f is rest ss stops r)
 scans_formula (plain.Paired p f g) is rest ss stops r =
     let parts = and_parts (is_spelled f) (is_spelled g) is in
     two_scans f g (pairing_letter p ∷ []) (lone (pairing_letter p)) rest ss (letter_piece p) (scans_formula f parts.0)
     (scans_formula g parts.1) r
 scans_formula (plain.Quantified q f) is rest ss stops r =
-    quantifier_piece q (32 ∷ (canonical_text f ++ rest)) (tokens_onto f ss) (blank 32 refl (scans_formula f is rest ss stops r))
+    quantifier_piece q (canonical_text f ++ rest) (tokens_onto f ss) (scans_formula f is rest ss stops r)
 
 -- ---- reading them
 
@@ -215,11 +242,6 @@ reads_formula w s (plain.Quantified q f) is stand ss = quantified_back w s q f s
 
 -- ---- the text
 
-signs_spelt : (text : List ℕ) (ps : List Placed)
-    → signs_of (items_from text ps) ≡ map sign_spelt (map (spelt_at text) ps)
-signs_spelt text [] = refl
-signs_spelt text (p ∷ ps) = ap (λ ts. sign_at text p ∷ ts) (signs_spelt text ps)
-
 pub canonical_tokens : (f : Formula)
     → is_spelled f ≡ true
     → map (spelt_at (canonical_text f)) (tokens LowerCase (canonical_text f)) ≡ tokens_onto f []
@@ -236,6 +258,6 @@ pub canonical_stands : (w : Logic) (f : Formula)
 canonical_stands w f is stand =
     let text = canonical_text f in
     let signs_are : signs_of (items text) ≡ map sign_spelt (tokens_onto f []) =
-    signs_spelt text (tokens LowerCase text) ∙ ap (map sign_spelt) (canonical_tokens f is) in
+    signs_spelt ctl_signs sign_spelt text (λ p. refl) tt (tokens LowerCase text) ∙ ap (map sign_spelt) (canonical_tokens f is) in
     subst (λ ts. Reads w (sort_of w) grammar.Iff ts f []) (sym signs_are)
     (un_raised grammar.Iff (reads_formula w (sort_of w) f is (is_of_fits w f stand) []))

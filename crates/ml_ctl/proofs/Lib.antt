@@ -30,8 +30,6 @@ pub mod Sorts
 pub mod Parsed
 -- a text has one answer
 pub mod OneAnswer
--- the pieces of canonical texts
-pub mod CanonicalPieces
 -- canonical texts
 pub mod CanonicalTexts
 -- canonical texts pass no limit

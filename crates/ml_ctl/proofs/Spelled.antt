@@ -3,7 +3,8 @@
 --   AreSpelled ts   == the names among the signs are spelled as propositions
 --   items_spelled   == the signs of a text are spelled
 --   reads_spelled   == what is read from spelled signs is spelled
-use Rattle.std.proofs.Common.{◌≡◌, ℕ, Bool, true, false, ◌==◌, List, [], ◌∷◌, Option, Some, None, refl, cond}
+use Rattle.std.proofs.Common.{◌≡◌, ℕ, Bool, true, false, ◌==◌, List, Option, Some, None, refl, cond}
+use Rattle.std.specs.List.{AllByRecursion}
 use Rattle.std.proofs.lemmas.Bool.{and_from}
 use Rattle.ml_text.specs.declared.token.Token.{Token}
 use Rattle.ml_text.specs.declared.token.Token.TheVariants as token
@@ -11,29 +12,24 @@ use Rattle.ml_text.specs.declared.token.Placed.{Placed}
 use Rattle.ml_text.specs.Items.{bytes_of}
 use Rattle.ml_text.specs.Words.{constant_of}
 use Rattle.ml_text.specs.Refusals.{signs_of}
+use Rattle.ml_text.proofs.TableItems.{one_of, signs_all}
 use Rattle.ml_ctl.specs.Formula.{Formula, Logic}
 use Rattle.ml_ctl.specs.Signs.{Sign, Lower, Unknown, sign_of, byte_sign, word_sign_by}
 use Rattle.ml_ctl.specs.Grammar as grammar
 use Rattle.ml_ctl.specs.Grammar.{Sort, Reads, iff_alone, iff, imp_alone, imp, or_alone, or, and_alone, and, pair_alone, pair, negation, temporal, quantified, group, constant, proposition}
 use Rattle.ml_ctl.specs.Spelling.{is_proposition, is_spelled}
-use Rattle.ml_ctl.specs.Text.{items_from}
+use Rattle.ml_ctl.specs.Text.{ctl_signs, items_from}
 
 abbrev pub IsSpelledSign : Sign → Type 0
 IsSpelledSign (Lower p) = is_proposition p ≡ true
 IsSpelledSign _ = Unit {0}
 
 abbrev pub AreSpelled : List Sign → Type 0
-AreSpelled [] = Unit {0}
-AreSpelled (t ∷ ts) = IsSpelledSign t × AreSpelled ts
+AreSpelled ts = AllByRecursion IsSpelledSign ts
 
 spelled_by : (w : List ℕ) (b : Bool) → is_proposition w ≡ b → IsSpelledSign (cond b (Lower w) Unknown)
 spelled_by w true is = is
 spelled_by w false is = tt
-
--- what holds of both signs holds of the one that is chosen
-pub one_of : (P : Sign → Type 0) (b : Bool) (x y : Sign) → P x → P y → P (cond b x y)
-one_of P true x y p q = p
-one_of P false x y p q = q
 
 spelled_word : (w : List ℕ) (o : Option Bool) → IsSpelledSign (word_sign_by o w)
 spelled_word w (Some b) = tt
@@ -59,8 +55,7 @@ spelled_sign (token.Byte b) bytes = spelled_byte b
 spelled_sign token.Word bytes = spelled_word bytes (constant_of bytes)
 
 pub items_spelled : (text : List ℕ) (ps : List Placed) → AreSpelled (signs_of (items_from text ps))
-items_spelled text [] = tt
-items_spelled text (p ∷ ps) = (spelled_sign p.token (bytes_of text p), items_spelled text ps)
+items_spelled text ps = signs_all ctl_signs IsSpelledSign text (λ p. spelled_sign p.token (bytes_of text p)) tt ps
 
 -- ---- formulas
 

@@ -9,10 +9,11 @@ use Rattle.ml_base.specs.declared.parse_refusal.ParseRefusal.{ParseRefusal}
 use Rattle.ml_base.specs.Structure.{Structure}
 use Rattle.ml_extract.specs.Extraction.{Extracted}
 use Rattle.ml_graph.specs.Graph.{Graph}
-use Rattle.ml_front.specs.Graphs.{HoldsWhere, IsGraphOf}
+use Rattle.ml_front.specs.Graphs.{HasLargeClosure, HoldsWhere, IsGraphOf}
 use Rattle.ml_product.specs.DecisionGame.{HasMoreThan}
 use Rattle.ml_front.specs.Logics.{IsRefusedBy}
 use Rattle.ml_front.specs.declared.problem.Problem.{Problem}
+use Rattle.ml_front.specs.declared.problem.TheConstants.{MOST_NODES}
 use Rattle.ml_kripke.specs.Ordered.{HasNames, IsOrdered}
 use Rattle.ml_kripke.specs.declared.model.Model.{Model}
 use Rattle.ml_refutation.specs.Acceptance.{IsAccepted}
@@ -21,7 +22,7 @@ use Rattle.ml_refutation.specs.Refutation.{IsRefutation}
 use Rattle.ml_refutation.specs.Views.{of_parts}
 use Rattle.ml_refutation.specs.declared.refutation.Refutation.{Refutation}
 use Rattle.ml_refute_check.proofs.Refuted.{refuted_is_unsatisfiable}
-use Rattle.ml_refute_check.specs.Documents.{HasLargeClosure, document_of}
+use Rattle.ml_refute_check.specs.Documents.{document_of}
 use Rattle.ml_driver.specs.Decision.{IsAnsweredIn, IsProblem, IsClosed, LeftOpen, PassesLimit, Refuted, Satisfied, StaysOpen}
 use Rattle.ml_driver.specs.Documents.{satisfiable_document, undecided_document}
 use Rattle.ml_driver.specs.Statuses.{longest_text, refusal_line}
@@ -35,13 +36,17 @@ use Rattle.ml_driver.specs.private.Decisions.{IsDecisionOf, IsDocumentFor, IsFou
 use Rattle.ml_front.proofs.Graphs.{meaningful}
 use Rattle.ml_driver.proofs.ProblemGraphs.{admitted, keeps_limit, well_formed}
 
-pub closed : (q : Question) (p : Problem) → (HasLargeClosure p.formula → ⊥) → (PassesLimit p q.limit → ⊥) → IsClosed q p
+pub closed : (q : Question) (p : Problem)
+    → (HasLargeClosure p MOST_NODES → ⊥)
+    → (PassesLimit p q.limit → ⊥)
+    → IsClosed q p
 closed q p fits keeps (Positions n) stays = keeps stays.2
 closed q p fits keeps Closure stays = fits stays
 
 module _ (q : Question) (text : List ℕ) (p : Problem) (is_problem : IsProblem q text p) (out : List ℕ) where
   -- a structure that was made for a graph of the problem
   pub satisfied : (g : Graph) (m : Structure) (start : ℕ)
+      → IsGraphOf g p
       → HoldsWhere g p
       → IsClosed q p
       → Extracted g m start
@@ -50,8 +55,8 @@ module _ (q : Question) (text : List ℕ) (p : Problem) (is_problem : IsProblem 
       → HasNames m
       → out ≡ satisfiable_document p m start
       → Satisfied q text out
-  satisfied g m start agrees is_closed made is_ordered fits named written =
-      let is_admitted = admitted g p.formula m start made in
+  satisfied g m start is_graph agrees is_closed made is_ordered fits named written =
+      let is_admitted = admitted g p m start is_graph made in
       record {
         problem = p;
         structure = m;
@@ -102,25 +107,27 @@ module _ (q : Question) (text : List ℕ) (p : Problem) (is_problem : IsProblem 
   open_in true left = left
   open_in false left = left
 
-  by_model : (m : Model) → (HasLargeClosure p.formula → ⊥) → (found : IsFoundOf p q.limit (decision.Satisfiable m))
+  by_model : (m : Model) → (HasLargeClosure p MOST_NODES → ⊥) → (found : IsFoundOf p q.limit (decision.Satisfiable m))
       → IsWon found.graph (decision.Satisfiable m) × (HasMoreThan found.graph q.limit → ⊥)
       → IsDocumentFor p (decision.Satisfiable m) out
       → Satisfied q text out
   by_model m fits found (won, few) written =
-      satisfied found.graph m.structure m.start found.agrees
+      satisfied found.graph m.structure m.start found.is_graph found.agrees
       (closed q p fits (keeps_limit p found.graph q.limit found.is_graph few)) won.0 won.1 won.2 written.1 written.0
 
-  by_refutation : (r : Refutation) → (HasLargeClosure p.formula → ⊥)
+  by_refutation : (r : Refutation) → (HasLargeClosure p MOST_NODES → ⊥)
       → (found : IsFoundOf p q.limit (decision.Unsatisfiable r))
       → IsWon found.graph (decision.Unsatisfiable r) × (HasMoreThan found.graph q.limit → ⊥)
       → IsDocumentFor p (decision.Unsatisfiable r) out
       → Refuted q text out
   by_refutation r fits found (won, few) written =
       refuted found.graph (of_parts r.names r.entries) found.is_graph
-      (closed q p fits (keeps_limit p found.graph q.limit found.is_graph few)) r.is_refutation won written.0
+      (closed q p fits (keeps_limit p found.graph q.limit found.is_graph few)) r.is_refutation won written
 
-  by_limit : (negated : Bool) (d : Decision) → (HasLargeClosure p.formula → ⊥) → (found : IsFoundOf p q.limit d) → IsFound found.graph q.limit d
-      → IsDocumentFor p d out → IsAnsweredIn negated q text (status_in negated d) out
+  by_limit : (negated : Bool) (d : Decision) → (HasLargeClosure p MOST_NODES → ⊥) → (found : IsFoundOf p q.limit d)
+      → IsFound found.graph q.limit d
+      → IsDocumentFor p d out
+      → IsAnsweredIn negated q text (status_in negated d) out
   by_limit false (decision.Satisfiable m) fits found (inl won) written = by_model m fits found won written
   by_limit true (decision.Satisfiable m) fits found (inl won) written = by_model m fits found won written
   by_limit false (decision.Unsatisfiable r) fits found (inl won) written = by_refutation r fits found won written
@@ -141,7 +148,8 @@ module _ (q : Question) (text : List ℕ) (p : Problem) (is_problem : IsProblem 
       subst (λ e. IsAnsweredIn negated q text (status_in negated e) out) (sym is)
       (open_in negated (left_open Closure large document))
 
-pub refused_answered : (negated : Bool) (q : Question) (text out : List ℕ) (e : ParseRefusal) → length text ≤ longest_text
+pub refused_answered : (negated : Bool) (q : Question) (text out : List ℕ) (e : ParseRefusal)
+    → length text ≤ longest_text
     → IsRefusedBy q.logic text e → Some out ≡ refusal_line e → IsAnsweredIn negated q text status.Text out
 refused_answered true q text out e short refused written =
     inr (record { refusal = e; is_short = short; is_refused = refused; is_written = written })

@@ -4,12 +4,12 @@
 --   first_read      == what a getter reads is the first value of its row
 --   same_row        == equal parts are the same row of the table
 --   faultless, found, faulty == what is said of a command that equals the one that is told is said of that
-use Rattle.std.proofs.Common.{◌≡◌, ◌⊎◌, ap, refl, sym, ◌∙◌, true, List, [], ◌∷◌, Option, Some, None, map, option_map, inl, inr, subst}
+use Rattle.std.proofs.Common.{◌≡◌, ap, refl, sym, ◌∙◌, true, List, [], ◌∷◌, Option, Some, None, option_map, inl, inr}
 use Rattle.std.specs.Prelude.{find, option_and_then, slice_get}
 use Rattle.std.specs.Borrow.{Bor}
 use Rattle.std.specs.Str.{bytes_eq}
 use Rattle.clap.specs.Facts.{Entry}
-use Rattle.clap.specs.Matches.{matched_of, first_value}
+use Rattle.clap.specs.Matches.{first_value}
 use Rattle.clap.specs.Walk.{row_of as row_of_entry, rows_of, texts}
 use Rattle.clap.specs.Words.{App, HasKind, IsAmong, Kinds, Row, Text, fault_of, first_of, is_simple, is_simple_and_free, kind_of, matches_of}
 use Rattle.clap.specs.declared.error.Error.{Error}
@@ -19,7 +19,7 @@ use Rattle.clap.specs.declared.parser.matches.Found.{Found}
 use Rattle.clap.proofs.OnLiterals.{clap_on_literals}
 use Rattle.clap.proofs.WalkLemmas.{find-map}
 use Rattle.ml_lines.specs.Lines.{Word}
-use Rattle.ml_driver.specs.Words.{cli, faults_of, parts_in, row, row_of, rows_in}
+use Rattle.ml_driver.specs.Words.{cli, faults_of, row_of, rows_in}
 use Rattle.ml_driver.specs.declared.command.Command.{Command}
 use Rattle.ml_driver.specs.private.Refused.{is_refusal}
 
@@ -78,13 +78,15 @@ first_text (v ∷ vals) = refl
 
 in_entry : (found : Option Entry)
     → option_and_then (λ (r : Row). slice_get r.values 0) (option_map row_of_entry found)
-    ≡ option_and_then (λ a. option_map (λ (s : Bor Text). s.now) (slice_get a.vals.items 0)) (option_map (λ (e : Entry). e.1) found)
+    ≡ option_and_then (λ a. option_map (λ (s : Bor Text). s.now) (slice_get a.vals.items 0))
+    (option_map (λ (e : Entry). e.1) found)
 in_entry None = refl
 in_entry (Some e) = first_text e.1.vals.items
 
 pub first_read : (id : Text) (f : Found) → first_of id (rows_of f) ≡ first_value f id
 first_read id f =
-    ap (option_and_then (λ (r : Row). slice_get r.values 0)) (sym (find-map (λ (r : Row). bytes_eq r.id id) row_of_entry f.entries.items))
+    ap (option_and_then (λ (r : Row). slice_get r.values 0))
+    (sym (find-map (λ (r : Row). bytes_eq r.id id) row_of_entry f.entries.items))
     ∙ in_entry (find (λ (e : Entry). bytes_eq e.0.now id) f.entries.items)
 
 pub same_row : (result : Option Command) (a b c d e f g h : Option Word)

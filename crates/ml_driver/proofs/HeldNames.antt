@@ -1,17 +1,20 @@
 -- Graphs whose names and priorities are what a program holds, whatever the logic.
 --
 --   Every P xs    == the members of xs have the property P
---   IsHeld g      == propositions are names, actions are actions, and priorities fit 32 bits
+--   IsHeld g      == the propositions of literals are names, the actions of diamonds are actions, and priorities fit 32 bits
+--   held_lists    == so it is where all names that the graph lists are such
 --   with_named    == a list of names to which a name was added
 --   action_named  == an action that is spelt as one, and short, is one
-use Rattle.std.proofs.Common.{◌≡◌, ◌||◌, ◌&&◌, ℕ, ◌≤◌, ◌⊎◌, Bool, true, false, if◌then◌else◌, codes, bytes_eq, List, [], ◌∷◌, ◌++◌, length, inl, inr, refl, sym, subst}
+use Rattle.std.proofs.Common.{◌≡◌, ◌||◌, ◌&&◌, ℕ, ◌<◌, ◌≤◌, ◌⊎◌, Bool, true, false, if◌then◌else◌, codes, bytes_eq, List, [], ◌∷◌, ◌++◌, length, inl, inr, refl, sym, subst}
 use Rattle.std.specs.Cmp.{first_so, second_so}
 use Rattle.std.specs.List.{list_all, list_any}
 use Rattle.std.proofs.lemmas.Slice.Eq.{bytes_eq-Decides}
 use Rattle.ml_base.specs.Name.{IsName, IsAction, is_blank_action, is_name}
 use Rattle.ml_lists.specs.Member.{IsMember}
-use Rattle.ml_lists.proofs.Member.{member-append}
-use Rattle.ml_graph.specs.Graph.{Graph}
+use Rattle.ml_lists.proofs.Member.{member-append, place-member}
+use Rattle.ml_graph.specs.Graph.{Graph, IsGraph, action_at, node_at, prop_at, size}
+use Rattle.ml_graph.specs.declared.node.Node.TheVariants as node
+use Rattle.ml_graph.proofs.References.{diamond_action, prop_in_range}
 use Rattle.ml_text.specs.Bytes.{is_letter, is_lower, is_upper, is_word_byte}
 use Rattle.ml_refutation.specs.Refutation.{Fits}
 
@@ -32,9 +35,23 @@ every_append P xs ys ps qs y m = by_part (member-append y xs ys m)
     by_part (inr there) = qs y there
 
 pub record IsHeld (g : Graph) : Type 0 where
-  pub props : Every IsName g.props
-  pub actions : Every IsAction g.actions
+  pub literals : (n p : ℕ) (positive : Bool) → n < size g → node_at g n ≡ node.Lit p positive → IsName (prop_at g p)
+  pub diamonds : (n a to : ℕ) → n < size g → node_at g n ≡ node.Diamond a to → IsAction (action_at g a)
   pub priorities : Every Fits g.priorities
+
+pub held_lists : (g : Graph)
+    → IsGraph g
+    → Every IsName g.props
+    → Every IsAction g.actions
+    → Every Fits g.priorities
+    → IsHeld g
+held_lists g ok props actions priorities = record {
+  literals = λ n p positive low is.
+      props (prop_at g p) (place-member g.props p [] (prop_in_range g ok n low p positive is));
+  diamonds = λ n a to low is.
+      actions (action_at g a) (place-member g.actions a [] (diamond_action g ok n low a to is));
+  priorities = priorities;
+}
 
 -- ---- names
 
@@ -91,7 +108,10 @@ module _ (free : List ℕ → Bool)
           letterless no_low no_up = neither (is_lower b) (is_upper b) no_low no_up
 
   -- an action that is spelt as one, and short
-  pub action_named : (a : List ℕ) → (bytes_eq a (codes "_") || (is_word a && free a)) ≡ true → length a ≤ 64 → IsAction a
+  pub action_named : (a : List ℕ)
+      → (bytes_eq a (codes "_") || (is_word a && free a)) ≡ true
+      → length a ≤ 64
+      → IsAction a
   action_named a is short = by_test (bytes_eq a (codes "_")) refl is
     where
       by_test : (b : Bool) → bytes_eq a (codes "_") ≡ b → (b || (is_word a && free a)) ≡ true → IsAction a

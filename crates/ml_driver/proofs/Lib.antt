@@ -2,6 +2,8 @@
 pub mod Endings
 -- the decision games of graphs that differ in the numbers of names have the same positions
 pub mod SamePositions
+-- structures that are extracted for graphs of CTL* and LTL
+pub mod ExtractedModels
 -- the graphs of problems
 pub mod ProblemGraphs
 -- a decision is what is due
@@ -26,10 +28,17 @@ pub mod SomeArena
 pub mod HeldNames
 pub mod MuHeld
 pub mod PdlHeld
+pub mod BlocksHeld
 pub mod HeldGraphs
 -- models with such names
 pub mod NamedModels
 -- each question on each text has an answer
 pub mod SomeAnswer
--- commands that words are have small limits
-pub mod SmallLimits
+-- the numbers of commands that words are fit
+pub mod FitNumbers
+-- the problems of families
+pub mod FamilyProblems
+-- what the winner of the first position tells
+pub mod Winners
+-- what is found of a problem
+pub mod Measures

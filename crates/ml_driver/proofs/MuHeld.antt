@@ -17,7 +17,7 @@ use Rattle.ml_mu_graph.specs.private.Views.{none_around}
 use Rattle.ml_mu_graph.proofs.InRange.{lists_make_graph}
 use Rattle.ml_mu_graph.proofs.Made.{graph_made}
 use Rattle.ml_refutation.specs.Refutation.{Fits}
-use Rattle.ml_driver.proofs.HeldNames.{Every, IsHeld, action_named, every_append, every_cons, with_named}
+use Rattle.ml_driver.proofs.HeldNames.{Every, IsHeld, action_named, every_append, every_cons, held_lists, with_named}
 
 -- ---- names
 
@@ -38,7 +38,8 @@ props_named (Binder q x f) spelled short ps all =
 mu_action : (a : List ℕ) → is_action a ≡ true → length a ≤ 64 → IsAction a
 mu_action [] spelled short = absurd (cc)
 mu_action (b ∷ bs) spelled short =
-    action_named (λ w. not (is_reserved w)) (λ c cs. lower_name (c ∷ cs)) (λ c cs. upper_name (c ∷ cs)) (b ∷ bs) spelled short
+    action_named (λ w. not (is_reserved w)) (λ c cs. lower_name (c ∷ cs)) (λ c cs. upper_name (c ∷ cs))
+    (b ∷ bs) spelled short
 
 actions_named : (f : Formula) → is_spelled f ≡ true → HasShortNames f → (acts : List (List ℕ)) → Every IsAction acts
     → Every IsAction (actions_onto f acts)
@@ -125,11 +126,10 @@ mu_held f negated well = (
   graph_of f negated,
   (
     is_graph f negated,
-    record {
-      props = props_named f well.names_are_spelled well.names_are_short [] (λ x m. absurd m);
-      actions = actions_named f well.names_are_spelled well.names_are_short [] (λ x m. absurd m);
-      priorities = fits;
-    },
+    held_lists (graph_of f negated) (is_graph f negated).is_graph
+        (props_named f well.names_are_spelled well.names_are_short [] (λ x m. absurd m))
+        (actions_named f well.names_are_spelled well.names_are_short [] (λ x m. absurd m))
+        fits,
   ),
 )
   where

@@ -10,9 +10,8 @@ use Rattle.ml_base.specs.Structure.{Structure}
 use Rattle.ml_base.specs.declared.structure.Edge.{Edge}
 use Rattle.ml_kripke.specs.Ordered.{HasNames}
 use Rattle.ml_lists.specs.Member.{IsMember}
-use Rattle.ml_lists.proofs.Member.{member-All, place-member}
-use Rattle.ml_graph.specs.Graph.{Graph, IsGraph, prop_at, action_at}
-use Rattle.ml_graph.proofs.References.{prop_in_range, diamond_action}
+use Rattle.ml_lists.proofs.Member.{member-All}
+use Rattle.ml_graph.specs.Graph.{Graph}
 use Rattle.ml_parity.specs.Solution.{GameSolution}
 use Rattle.ml_product.specs.Arena.{Arena}
 use Rattle.ml_product.proofs.ArenaGame.{member_of_get}
@@ -21,14 +20,13 @@ use Rattle.ml_extract.specs.Model.{IsLabel, IsModelOf, State}
 use Rattle.ml_extract.proofs.Numbering.{last_spread}
 use Rattle.ml_driver.proofs.HeldNames.{IsHeld}
 
-module _ (g : Graph) (a : Arena) (s : GameSolution) (m : Structure) (start : ℕ) (ok : IsGraph g)
+module _ (g : Graph) (a : Arena) (s : GameSolution) (m : Structure) (start : ℕ)
     (model : IsModelOf g a s m start) (extracted : Extracted g m start) (held : IsHeld g) where
   label_named : (x : State) → IsMember x model.states → (name : List ℕ) → IsLabel g x name → IsName name
   label_named x inside name l =
       let at = last_spread g a s x.first x.last x.spread (model.are_states.chosen x inside) in
-      let low : l.prop < length g.props =
-      prop_in_range g ok l.literal (at.is_spread.low l.literal l.member) l.prop true l.is_positive in
-      subst IsName (sym l.named) (held.props (prop_at g l.prop) (place-member g.props l.prop [] low))
+      let low = at.is_spread.low l.literal l.member in
+      subst IsName (sym l.named) (held.literals l.literal l.prop true low l.is_positive)
 
   row_named : (i : ℕ) → i < length m.labels → All IsName (slice_index_or m.labels i [])
   row_named i low =
@@ -43,8 +41,7 @@ module _ (g : Graph) (a : Arena) (s : GameSolution) (m : Structure) (start : ℕ
   edge_named : (e : Edge) → IsMember e m.edges → IsAction e.action
   edge_named e inside =
       let d : HasDiamond g e = extracted.along_diamonds e inside in
-      let low : d.action < length g.actions = diamond_action g ok d.diamond d.is_node d.action d.child d.is_diamond in
-      subst IsAction (sym d.action_is) (held.actions (action_at g d.action) (place-member g.actions d.action [] low))
+      subst IsAction (sym d.action_is) (held.diamonds d.diamond d.action d.child d.is_node d.is_diamond)
 
   pub has_names : HasNames m
   has_names = record {

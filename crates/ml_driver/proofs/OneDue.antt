@@ -3,27 +3,35 @@
 --   Told, Checks, Verdicts, Migrates == what is due for the commands, with the reason of each
 --   one_answer            == one status answers a question
 --   answers_are_exact     == and says what is true
+--   one_benched           == one thing is found of the formula of a family
 --   one_due               == one status is due at most
-use Rattle.std.proofs.Common.{◌≡◌, ◌⊎◌, ℕ, ◌≤◌, Bool, true, false, List, length, Some, None, refl, sym, ap, ap₂, subst, ◌∙◌, inl, inr, arith}
+use Rattle.std.proofs.Common.{◌≡◌, ℕ, ◌≤◌, Bool, true, false, List, length, Some, None, refl, sym, ap, ap₂, subst, ◌∙◌, inl, inr, arith}
 use Rattle.ml_front.specs.Problems.{IsSatisfiable}
 use Rattle.ml_front.specs.declared.problem.Problem.{Problem}
 use Rattle.ml_front.proofs.Logics.{formula_once, formula_or_refused}
 use Rattle.ml_driver.specs.Decision.{IsAnswered, IsAnsweredIn, IsClosed, IsProblem, LeftOpen, Refuted, RefusedText, Satisfied, StaysOpen}
 use Rattle.ml_driver.specs.declared.question.Question.{Question}
-use Rattle.ml_model_check.specs.Checked.{Shows, ShowsNot, IsDocumentFault}
+use Rattle.ml_model_check.specs.Checked.{IsCheckedAs}
+use Rattle.ml_model_check.specs.declared.checked.Checked.{Checked}
 use Rattle.ml_model_check.specs.declared.checked.Checked.TheVariants as checked
 use Rattle.ml_model_check.proofs.OneCheck.{one_check}
-use Rattle.ml_driver.specs.declared.command.Command.TheVariants.{Decide, Valid, CheckModel, CheckRefutation, Migrate}
+use Rattle.ml_driver.specs.declared.command.Command.TheVariants.{Decide, Valid, CheckModel, CheckRefutation, Migrate, Gen, Bench}
 use Rattle.ml_driver.specs.declared.status.Status.{Status}
 use Rattle.ml_driver.specs.declared.status.Status.TheVariants.{Yes, No, Undecided, Words, Text}
 use Rattle.ml_driver.specs.Statuses.{longest_document, refusal_line}
-use Rattle.ml_driver.specs.Run.{IsDue, plainly, for_negation, IsAcceptedRefutation, IsRejectedRefutation, IsRefusedDocument, document_by_length, by_line}
+use Rattle.ml_driver.specs.Run.{IsDue, plainly, for_negation, IsRefusedDocument, IsRefusedModel, as_document, by_deadlock, document_by_length, by_line}
 use Rattle.ml_refute_check.specs.Documents as refuted
-use Rattle.ml_refute_check.specs.Documents.{IsMigrated}
+use Rattle.ml_refute_check.specs.Documents.{IsMigrated, IsVerdict}
+use Rattle.ml_refute_check.specs.declared.verdict.Verdict.{Verdict}
 use Rattle.ml_refute_check.specs.declared.verdict.Verdict.TheVariants as verdict
 use Rattle.ml_refute_check.proofs.OneVerdict.{one_verdict}
 use Rattle.ml_driver.proofs.RefutationDocuments.{no_refutation_at_fault}
-use Rattle.ml_driver.specs.Laws.{AnswersAreExact, IsExact, OneDue, says, open_at, satisfiable_at, unsatisfiable_at}
+use Rattle.ml_gen.specs.declared.family.Family.{Family}
+use Rattle.ml_driver.specs.Bench.{IsBenched, IsFinding, answer_of, bench_text, gen_text, occurrences_of, status_of}
+use Rattle.ml_driver.specs.declared.command.TheConstants.{GREATEST_LIMIT}
+use Rattle.ml_driver.proofs.FamilyProblems.{one_family_problem}
+use Rattle.ml_driver.proofs.Measures.{one_finding}
+use Rattle.ml_driver.specs.Laws.{AnswersAreExact, IsExact, OneDue, OneMeasure, says, open_at, satisfiable_at, unsatisfiable_at}
 
 -- ---- words that are no command
 
@@ -36,7 +44,8 @@ words_due text _ out due = absurd due
 same_problem : (q : Question) (text : List ℕ) (p r : Problem) → IsProblem q text p → IsProblem q text r → p ≡ r
 same_problem q text p r x y =
     ap₂ (λ f n. record { formula = f; negated = n })
-    (formula_once text p.formula r.formula (x.of_logic ∙ sym y.of_logic) x.is_parsed y.is_parsed) (x.in_sense ∙ sym y.in_sense)
+    (formula_once text p.formula r.formula (x.of_logic ∙ sym y.of_logic) x.is_parsed y.is_parsed)
+    (x.in_sense ∙ sym y.in_sense)
 
 problem_refused : (q : Question) (text more : List ℕ) (p : Problem) → IsProblem q text p → RefusedText q text more → ⊥
 problem_refused q text more p x (inl long) = omega (arith, x.is_short, long.0)
@@ -80,7 +89,11 @@ sat_unsat q text out more x y =
     subst (λ p. ¬ (IsSatisfiable p)) same y.is_unsatisfiable
     (x.structure, x.is_admitted, (x.start, x.can_be_written.is_state, x.holds))
 
-closed_open : (q : Question) (text more : List ℕ) (p : Problem) → IsProblem q text p → IsClosed q p → LeftOpen q text more → ⊥
+closed_open : (q : Question) (text more : List ℕ) (p : Problem)
+    → IsProblem q text p
+    → IsClosed q p
+    → LeftOpen q text more
+    → ⊥
 closed_open q text more p is closed y =
     closed y.cause
     (subst (λ r. StaysOpen q r y.cause) (same_problem q text y.problem p y.is_problem is) y.stays_open)
@@ -91,15 +104,19 @@ unfolding told_as
 one_told false q text out more (held x) (held y) = refl
 one_told true q text out more (held x) (held y) = refl
 one_told negated q text out more (held x) (excluded y) = absurd (sat_unsat q text out more x y)
-one_told negated q text out more (held x) (open_left y) = absurd (closed_open q text more x.problem x.is_problem x.is_closed y)
+one_told negated q text out more (held x) (open_left y) =
+    absurd (closed_open q text more x.problem x.is_problem x.is_closed y)
 one_told negated q text out more (held x) (refused y) = absurd (problem_refused q text more x.problem x.is_problem y)
 one_told negated q text out more (excluded x) (held y) = absurd (sat_unsat q text more out y x)
 one_told false q text out more (excluded x) (excluded y) = refl
 one_told true q text out more (excluded x) (excluded y) = refl
-one_told negated q text out more (excluded x) (open_left y) = absurd (closed_open q text more x.problem x.is_problem x.is_closed y)
+one_told negated q text out more (excluded x) (open_left y) =
+    absurd (closed_open q text more x.problem x.is_problem x.is_closed y)
 one_told negated q text out more (excluded x) (refused y) = absurd (problem_refused q text more x.problem x.is_problem y)
-one_told negated q text out more (open_left x) (held y) = absurd (closed_open q text out y.problem y.is_problem y.is_closed x)
-one_told negated q text out more (open_left x) (excluded y) = absurd (closed_open q text out y.problem y.is_problem y.is_closed x)
+one_told negated q text out more (open_left x) (held y) =
+    absurd (closed_open q text out y.problem y.is_problem y.is_closed x)
+one_told negated q text out more (open_left x) (excluded y) =
+    absurd (closed_open q text out y.problem y.is_problem y.is_closed x)
 one_told negated q text out more (open_left x) (open_left y) = refl
 one_told negated q text out more (open_left x) (refused y) = absurd (problem_refused q text more x.problem x.is_problem y)
 one_told negated q text out more (refused x) (held y) = absurd (problem_refused q text out y.problem y.is_problem x)
@@ -107,11 +124,14 @@ one_told negated q text out more (refused x) (excluded y) = absurd (problem_refu
 one_told negated q text out more (refused x) (open_left y) = absurd (problem_refused q text out y.problem y.is_problem x)
 one_told negated q text out more (refused x) (refused y) = refl
 
-exact_as : (negated : Bool) (q : Question) (text out : List ℕ) (p : Problem) (s : Status) → q.negated ≡ negated → IsProblem q text p
+exact_as : (negated : Bool) (q : Question) (text out : List ℕ) (p : Problem) (s : Status)
+    → q.negated ≡ negated
+    → IsProblem q text p
     → (k : Told q text out) → s ≡ told_as negated q text out k → IsExact q p s
 unfolding told_as
 exact_as negated q text out p s is problem (open_left y) same =
-    open_at y.cause (subst (λ r. StaysOpen q r y.cause) (same_problem q text y.problem p y.is_problem problem) y.stays_open) (of_open negated y same)
+    let one = same_problem q text y.problem p y.is_problem problem in
+    open_at y.cause (subst (λ r. StaysOpen q r y.cause) one y.stays_open) (of_open negated y same)
   where
     of_open : (negated : Bool) (y : LeftOpen q text out) → s ≡ told_as negated q text out (open_left y) → s ≡ Undecided
     of_open true y same = same
@@ -123,7 +143,9 @@ exact_as negated q text out p s is problem (held y) same =
     (subst IsSatisfiable one (y.structure, y.is_admitted, (y.start, y.can_be_written.is_state, y.holds)))
     (subst (λ b. s ≡ says b true) (sym is) (of_held negated y same))
   where
-    of_held : (negated : Bool) (y : Satisfied q text out) → s ≡ told_as negated q text out (held y) → s ≡ says negated true
+    of_held : (negated : Bool) (y : Satisfied q text out)
+        → s ≡ told_as negated q text out (held y)
+        → s ≡ says negated true
     of_held true y same = same
     of_held false y same = same
 exact_as negated q text out p s is problem (excluded y) same =
@@ -131,7 +153,9 @@ exact_as negated q text out p s is problem (excluded y) same =
     unsatisfiable_at (subst (IsClosed q) one y.is_closed) (subst (λ r. ¬ (IsSatisfiable r)) one y.is_unsatisfiable)
     (subst (λ b. s ≡ says b false) (sym is) (of_excluded negated y same))
   where
-    of_excluded : (negated : Bool) (y : Refuted q text out) → s ≡ told_as negated q text out (excluded y) → s ≡ says negated false
+    of_excluded : (negated : Bool) (y : Refuted q text out)
+        → s ≡ told_as negated q text out (excluded y)
+        → s ≡ says negated false
     of_excluded true y same = same
     of_excluded false y same = same
 
@@ -140,7 +164,10 @@ answers_are_exact q text p s out problem answered =
     let k = told q.negated q text s out answered in
     exact_as q.negated q text out p s refl problem k.0 k.1
 
-pub one_answer : (q : Question) (text : List ℕ) (s t : Status) (out more : List ℕ) → IsAnswered q text s out → IsAnswered q text t more → s ≡ t
+pub one_answer : (q : Question) (text : List ℕ) (s t : Status) (out more : List ℕ)
+    → IsAnswered q text s out
+    → IsAnswered q text t more
+    → s ≡ t
 one_answer q text s t out more x y =
     let k = told q.negated q text s out x in
     let j = told q.negated q text t more y in
@@ -148,80 +175,69 @@ one_answer q text s t out more x y =
 
 -- ---- check-model
 
-shown_refused : (text more : List ℕ) → length text ≤ longest_document → Shows text → IsRefusedDocument (IsDocumentFault text) text more → ⊥
-shown_refused text more short x (document_by_length long) = absurd (omega (arith, short, long.0))
-shown_refused text more short x (by_line fits r) =
-    let same = one_check text checked.Holds (checked.Unreadable r.fault) x r.is_fault in absurd (cc)
+says_of_check : Checked → Status
+says_of_check checked.Holds = Yes
+says_of_check checked.Fails = No
+says_of_check (checked.Unreadable fault) = Text
+says_of_check (checked.NotTotal state) = Text
+says_of_check checked.ClosureTooLarge = Undecided
 
-shown_not_refused : (text more : List ℕ) → length text ≤ longest_document → ShowsNot text → IsRefusedDocument (IsDocumentFault text) text more → ⊥
-shown_not_refused text more short x (document_by_length long) = absurd (omega (arith, short, long.0))
-shown_not_refused text more short x (by_line fits r) =
-    let same = one_check text checked.Fails (checked.Unreadable r.fault) x r.is_fault in absurd (cc)
+-- the document is too long, or checking it finds this
+data Checks (text : List ℕ) (s : Status) : Type 0 where
+  too_long : longest_document < length text → s ≡ Text → Checks text s
+  found : length text ≤ longest_document → (c : Checked) → IsCheckedAs text c → s ≡ says_of_check c → Checks text s
 
-shown_both : (text : List ℕ) → Shows text → ShowsNot text → ⊥
-shown_both text x y = let same = one_check text checked.Holds checked.Fails x y in absurd (cc)
+refused_model : (text out : List ℕ) → IsRefusedModel text out → Checks text Text
+unfolding says_of_check
+refused_model text out (as_document (document_by_length long)) = too_long long.0 refl
+refused_model text out (as_document (by_line short r)) = found short (checked.Unreadable r.fault) r.is_fault refl
+refused_model text out (by_deadlock short d) = found short (checked.NotTotal d.state) d.is_deadlock refl
 
-data Checks (text out : List ℕ) : Status → Type 0 where
-  holds : length text ≤ longest_document → Shows text → Checks text out Yes
-  fails : length text ≤ longest_document → ShowsNot text → Checks text out No
-  unreadable : IsRefusedDocument (IsDocumentFault text) text out → Checks text out Text
-
-checks : (text : List ℕ) (s : Status) (out : List ℕ) → IsDue (Some CheckModel) text s out → Checks text out s
-checks text Yes out due = holds due.0 due.1.0
-checks text No out due = fails due.0 due.1.0
-checks text Text out due = unreadable due
+checks : (text : List ℕ) (s : Status) (out : List ℕ) → IsDue (Some CheckModel) text s out → Checks text s
+unfolding says_of_check
+checks text Yes out due = found due.0 checked.Holds due.1.0 refl
+checks text No out due = found due.0 checked.Fails due.1.0 refl
+checks text Undecided out due = found due.0 checked.ClosureTooLarge due.1.0 refl
+checks text Text out due = refused_model text out due
 checks text _ out due = absurd due
 
-one_checked : (text : List ℕ) (s t : Status) (out more : List ℕ) → Checks text out s → Checks text more t → s ≡ t
-one_checked text s t out more (holds short x) (holds fits y) = refl
-one_checked text s t out more (holds short x) (fails fits y) = absurd (shown_both text x y)
-one_checked text s t out more (holds short x) (unreadable y) = absurd (shown_refused text more short x y)
-one_checked text s t out more (fails short x) (holds fits y) = absurd (shown_both text y x)
-one_checked text s t out more (fails short x) (fails fits y) = refl
-one_checked text s t out more (fails short x) (unreadable y) = absurd (shown_not_refused text more short x y)
-one_checked text s t out more (unreadable x) (holds fits y) = absurd (shown_refused text out fits y x)
-one_checked text s t out more (unreadable x) (fails fits y) = absurd (shown_not_refused text out fits y x)
-one_checked text s t out more (unreadable x) (unreadable y) = refl
+one_checked : (text : List ℕ) (s t : Status) → Checks text s → Checks text t → s ≡ t
+one_checked text s t (too_long long is) (too_long more also) = is ∙ sym also
+one_checked text s t (too_long long is) (found fits d y also) = absurd (omega (arith, long, fits))
+one_checked text s t (found short c x is) (too_long long also) = absurd (omega (arith, long, short))
+one_checked text s t (found short c x is) (found fits d y also) =
+    is ∙ ap says_of_check (one_check text c d x y) ∙ sym also
 
 -- ---- check-refutation
 
-data Verdicts (text out : List ℕ) : Status → Type 0 where
-  accepted : length text ≤ longest_document → IsAcceptedRefutation text out → Verdicts text out Yes
-  rejected : length text ≤ longest_document → IsRejectedRefutation text out → Verdicts text out No
-  no_refutation : IsRefusedDocument (refuted.IsDocumentFault text) text out → Verdicts text out Text
+says_of_verdict : Verdict → Status
+says_of_verdict verdict.Accepted = Yes
+says_of_verdict (verdict.Rejected line rule) = No
+says_of_verdict (verdict.Unreadable fault) = Text
 
-verdicts : (text : List ℕ) (s : Status) (out : List ℕ) → IsDue (Some CheckRefutation) text s out → Verdicts text out s
-verdicts text Yes out due = accepted due.0 due.1
-verdicts text No out due = rejected due.0 due.1
-verdicts text Text out due = no_refutation due
+-- the document is too long, or this is the verdict on it
+data Verdicts (text : List ℕ) (s : Status) : Type 0 where
+  past_limit : longest_document < length text → s ≡ Text → Verdicts text s
+  judged : length text ≤ longest_document → (v : Verdict) → IsVerdict text v → s ≡ says_of_verdict v → Verdicts text s
+
+no_refutation : (text out : List ℕ) → IsRefusedDocument (refuted.IsDocumentFault text) text out → Verdicts text Text
+unfolding says_of_verdict
+no_refutation text out (document_by_length long) = past_limit long.0 refl
+no_refutation text out (by_line short r) = judged short (verdict.Unreadable r.fault) r.is_fault refl
+
+verdicts : (text : List ℕ) (s : Status) (out : List ℕ) → IsDue (Some CheckRefutation) text s out → Verdicts text s
+unfolding says_of_verdict
+verdicts text Yes out due = judged due.0 verdict.Accepted due.1.is_accepted refl
+verdicts text No out due = judged due.0 (verdict.Rejected due.1.line due.1.rule) due.1.is_rejected refl
+verdicts text Text out due = no_refutation text out due
 verdicts text _ out due = absurd due
 
-accepted_rejected : (text out more : List ℕ) → IsAcceptedRefutation text out → IsRejectedRefutation text more → ⊥
-accepted_rejected text out more x y =
-    let same = one_verdict text verdict.Accepted (verdict.Rejected y.line y.rule) x.is_accepted y.is_rejected in absurd (cc)
-
-accepted_refused : (text out more : List ℕ) → length text ≤ longest_document → IsAcceptedRefutation text out
-    → IsRefusedDocument (refuted.IsDocumentFault text) text more → ⊥
-accepted_refused text out more short x (document_by_length long) = absurd (omega (arith, short, long.0))
-accepted_refused text out more short x (by_line fits r) =
-    let same = one_verdict text verdict.Accepted (verdict.Unreadable r.fault) x.is_accepted r.is_fault in absurd (cc)
-
-rejected_refused : (text out more : List ℕ) → length text ≤ longest_document → IsRejectedRefutation text out
-    → IsRefusedDocument (refuted.IsDocumentFault text) text more → ⊥
-rejected_refused text out more short x (document_by_length long) = absurd (omega (arith, short, long.0))
-rejected_refused text out more short x (by_line fits r) =
-    let same = one_verdict text (verdict.Rejected x.line x.rule) (verdict.Unreadable r.fault) x.is_rejected r.is_fault in absurd (cc)
-
-one_judged : (text : List ℕ) (s t : Status) (out more : List ℕ) → Verdicts text out s → Verdicts text more t → s ≡ t
-one_judged text s t out more (accepted short x) (accepted fits y) = refl
-one_judged text s t out more (accepted short x) (rejected fits y) = absurd (accepted_rejected text out more x y)
-one_judged text s t out more (accepted short x) (no_refutation y) = absurd (accepted_refused text out more short x y)
-one_judged text s t out more (rejected short x) (accepted fits y) = absurd (accepted_rejected text more out y x)
-one_judged text s t out more (rejected short x) (rejected fits y) = refl
-one_judged text s t out more (rejected short x) (no_refutation y) = absurd (rejected_refused text out more short x y)
-one_judged text s t out more (no_refutation x) (accepted fits y) = absurd (accepted_refused text more out fits y x)
-one_judged text s t out more (no_refutation x) (rejected fits y) = absurd (rejected_refused text more out fits y x)
-one_judged text s t out more (no_refutation x) (no_refutation y) = refl
+one_judged : (text : List ℕ) (s t : Status) → Verdicts text s → Verdicts text t → s ≡ t
+one_judged text s t (past_limit long is) (past_limit more also) = is ∙ sym also
+one_judged text s t (past_limit long is) (judged fits w y also) = absurd (omega (arith, long, fits))
+one_judged text s t (judged short v x is) (past_limit long also) = absurd (omega (arith, long, short))
+one_judged text s t (judged short v x is) (judged fits w y also) =
+    is ∙ ap says_of_verdict (one_verdict text v w x y) ∙ sym also
 
 -- ---- migrate
 
@@ -246,11 +262,40 @@ one_migrated text s t out more (migrated short x) (no_document y) = absurd (migr
 one_migrated text s t out more (no_document x) (migrated fits y) = absurd (migrated_refused text more out fits y x)
 one_migrated text s t out more (no_document x) (no_document y) = refl
 
+-- ---- gen and bench
+
+generated : (f : Family) (n : ℕ) (text : List ℕ) (s : Status) (out : List ℕ) → IsDue (Some (Gen f n)) text s out
+    → (s ≡ Yes) × (out ≡ gen_text f n)
+generated f n text Yes out due = (refl, due)
+generated f n text _ out due = absurd due
+
+one_benched : (f : Family) (n : ℕ) (s t : Status) (out more : List ℕ) → IsBenched f n s out → IsBenched f n t more
+    → (s ≡ t) × (out ≡ more)
+one_benched f n s t out more x y =
+    let p = one_family_problem f n x.problem y.problem x.is_meant y.is_meant in
+    let other = subst (λ r. IsFinding GREATEST_LIMIT r y.finding) (sym p) y.is_finding in
+    let same = one_finding x.problem GREATEST_LIMIT x.finding y.finding x.is_finding other in (
+      x.status_is ∙ ap (λ u. status_of (answer_of u)) same ∙ sym y.status_is,
+      x.is_written ∙ ap₂ (λ r u. bench_text f n (occurrences_of r.formula) u) p same ∙ sym y.is_written,
+    )
+
 pub one_due : OneDue
 one_due None text s t out more x y = words_due text s out x ∙ sym (words_due text t more y)
 one_due (Some (Decide l n)) text s t out more x y = one_answer (plainly l n) text s t out more x y
 one_due (Some (Valid l n)) text s t out more x y = one_answer (for_negation l n) text s t out more x y
-one_due (Some CheckModel) text s t out more x y = one_checked text s t out more (checks text s out x) (checks text t more y)
+one_due (Some CheckModel) text s t out more x y = one_checked text s t (checks text s out x) (checks text t more y)
 one_due (Some CheckRefutation) text s t out more x y =
-    one_judged text s t out more (verdicts text s out x) (verdicts text t more y)
-one_due (Some Migrate) text s t out more x y = one_migrated text s t out more (migrates text s out x) (migrates text t more y)
+    one_judged text s t (verdicts text s out x) (verdicts text t more y)
+one_due (Some Migrate) text s t out more x y =
+    one_migrated text s t out more (migrates text s out x) (migrates text t more y)
+one_due (Some (Gen f n)) text s t out more x y =
+    let a = generated f n text s out x in
+    let b = generated f n text t more y in
+    a.0 ∙ sym b.0
+one_due (Some (Bench f n)) text s t out more x y = (one_benched f n s t out more x y).0
+
+pub one_measure : OneMeasure
+one_measure f n text more s t out other = (
+  λ x y. (generated f n text s out x).1 ∙ sym (generated f n more t other y).1,
+  λ x y. (one_benched f n s t out other x y).1,
+)

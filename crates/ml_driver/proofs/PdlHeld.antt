@@ -16,7 +16,7 @@ use Rattle.ml_pdl_graph.specs.private.NodeList.{actions_onto, nodes_of, operator
 use Rattle.ml_pdl_graph.proofs.InRange.{lists_make_graph}
 use Rattle.ml_pdl_graph.proofs.Made.{graph_made}
 use Rattle.ml_refutation.specs.Refutation.{Fits}
-use Rattle.ml_driver.proofs.HeldNames.{Every, IsHeld, action_named, every_append, every_cons, with_named}
+use Rattle.ml_driver.proofs.HeldNames.{Every, IsHeld, action_named, every_append, every_cons, held_lists, with_named}
 
 -- ---- names
 
@@ -52,7 +52,8 @@ mutual
 pdl_action : (a : List ℕ) → is_action a ≡ true → length a ≤ 64 → IsAction a
 pdl_action [] spelled short = absurd (cc)
 pdl_action (b ∷ bs) spelled short =
-    action_named (λ w. not (is_reserved w)) (λ c cs. lower_name (c ∷ cs)) (λ c cs. upper_name (c ∷ cs)) (b ∷ bs) spelled short
+    action_named (λ w. not (is_reserved w)) (λ c cs. lower_name (c ∷ cs)) (λ c cs. upper_name (c ∷ cs))
+    (b ∷ bs) spelled short
 
 mutual
   actions_named : (f : Formula) → is_spelled f ≡ true → HasShortNames f → (acts : List (List ℕ)) → Every IsAction acts
@@ -148,10 +149,9 @@ pdl_held f negated well = (
   graph_of f negated,
   (
     is_graph f negated,
-    record {
-      props = props_named f well.names_are_spelled well.names_are_short [] (λ x m. absurd m);
-      actions = actions_named f well.names_are_spelled well.names_are_short [] (λ x m. absurd m);
-      priorities = low_priorities f;
-    },
+    held_lists (graph_of f negated) (is_graph f negated).is_graph
+        (props_named f well.names_are_spelled well.names_are_short [] (λ x m. absurd m))
+        (actions_named f well.names_are_spelled well.names_are_short [] (λ x m. absurd m))
+        (low_priorities f),
   ),
 )

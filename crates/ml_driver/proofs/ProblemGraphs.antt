@@ -2,21 +2,22 @@
 --
 --   well_formed             == formulas that texts stand for are well formed
 --   has_room                == a trace automaton of a graph with so few nodes is small
---   admitted                == the structure that is extracted for a graph is one of which the formula's logic speaks
+--   admitted                == the structure that is extracted for a graph of a problem is one of which its logic speaks
 --   few_positions           == an arena with at most n positions is that of a game without more
 --   same_positions          == the graphs of a problem have games with the same positions
 --   keeps_limit             == so a graph whose game keeps a limit tells that of its problem
-use Rattle.std.proofs.Common.{◌≡◌, ℕ, ◌+◌, ◌*◌, ◌^◌, ◌<◌, ◌≤◌, ◌%◌, ◌==◌, nat_lt, if◌then◌else◌, Bool, true, false, List, [], ◌∷◌, length, filter, refl, sym, subst, arith}
+use Rattle.std.proofs.Common.{ℕ, ◌+◌, ◌*◌, ◌^◌, ◌≤◌, ◌%◌, ◌==◌, nat_lt, if◌then◌else◌, Bool, true, false, List, [], ◌∷◌, length, filter, arith}
 use Rattle.std.proofs.lemmas.List.Sums.{count_by-le-length, length-filter}
 use Rattle.std.proofs.Math.Nat.{mul-le-mul}
 use Rattle.ml_base.specs.Structure.{Structure}
 use Rattle.ml_extract.specs.Extraction.{Extracted}
-use Rattle.ml_front.specs.Graphs.{IsGraphOf}
+use Rattle.ml_front.specs.Graphs.{IsGraphAs, IsGraphOf}
 use Rattle.ml_front.specs.Logics.{IsParsedAs, IsWellFormed, logic_of}
 use Rattle.ml_front.specs.Problems.{IsAdmitted}
 use Rattle.ml_front.specs.declared.problem.AnyFormula.{AnyFormula}
-use Rattle.ml_front.specs.declared.problem.AnyFormula.TheVariants.{Mu, Pdl}
+use Rattle.ml_front.specs.declared.problem.AnyFormula.TheVariants.{Mu, Pdl, Ctl, Ltl}
 use Rattle.ml_front.specs.declared.problem.Problem.{Problem}
+use Rattle.ml_front.specs.declared.problem.TheConstants.{MOST_NODES}
 use Rattle.ml_front.proofs.Graphs.{graphs_alike}
 use Rattle.ml_front.proofs.Logics.{parsed_well}
 use Rattle.ml_graph.specs.Graph.{Graph, IsGraph, odd_priorities, size}
@@ -25,16 +26,28 @@ use Rattle.ml_product.specs.Arena.{Arena, IsArenaOf}
 use Rattle.ml_product.specs.DecisionGame.{HasMoreThan}
 use Rattle.ml_product.specs.Position.{automaton_states}
 use Rattle.ml_refute.proofs.Different.{different_within}
+use Rattle.ml_blocks.specs.BlockGraph.{linear_start_of, start_of}
+use Rattle.ml_driver.proofs.ExtractedModels.{is_admitted}
 use Rattle.ml_driver.proofs.SamePositions.{more_there}
 use Rattle.ml_driver.specs.Decision.{PassesLimit}
-use Rattle.ml_driver.specs.declared.cause.TheConstants.{MOST_NODES}
 
 pub well_formed : (text : List ℕ) (f : AnyFormula) → IsParsedAs text f → IsWellFormed f
 well_formed text f parsed = parsed_well text f parsed
 
-pub admitted : (g : Graph) (f : AnyFormula) (m : Structure) (start : ℕ) → Extracted g m start → IsAdmitted (logic_of f) m
-admitted g (Mu f) m start extracted = extracted.is_structure
-admitted g (Pdl f) m start extracted = extracted.is_structure
+admitted_as : (g : Graph) (negated : Bool) (f : AnyFormula) (m : Structure) (start : ℕ)
+    → IsGraphAs g negated f
+    → Extracted g m start
+    → IsAdmitted (logic_of f) m
+admitted_as g negated (Mu f) m start is extracted = extracted.is_structure
+admitted_as g negated (Pdl f) m start is extracted = extracted.is_structure
+admitted_as g negated (Ctl f) m start is extracted = is_admitted (start_of f negated) g m start is extracted
+admitted_as g negated (Ltl f) m start is extracted = is_admitted (linear_start_of f negated) g m start is extracted
+
+pub admitted : (g : Graph) (p : Problem) (m : Structure) (start : ℕ)
+    → IsGraphOf g p
+    → Extracted g m start
+    → IsAdmitted (logic_of p.formula) m
+admitted g p m start is extracted = admitted_as g p.negated p.formula m start is extracted
 
 -- ---- the trace automaton
 
@@ -61,7 +74,8 @@ has_room g is small =
     let p : ℕ → Bool = λ d. d % 2 == 1 in
     let some = length-filter p g.priorities in
     let few = count_by-le-length p g.priorities in
-    omega (arith, bounded (size g) (length (odd_priorities g) + 1) small (omega (arith, odds, some, few, is.priorities, small)))
+    let odd = omega (arith, odds, some, few, is.priorities, small) in
+    omega (arith, bounded (size g) (length (odd_priorities g) + 1) small odd)
 
 -- ---- positions
 
@@ -75,7 +89,11 @@ few_positions g a n arena few more =
           (λ p m. (arena.are_reached p).1 (more.are_reached p m)),
     )
 
-pub same_positions : (p : Problem) (g h : Graph) (n : ℕ) → IsGraphOf g p → IsGraphOf h p → HasMoreThan g n → HasMoreThan h n
+pub same_positions : (p : Problem) (g h : Graph) (n : ℕ)
+    → IsGraphOf g p
+    → IsGraphOf h p
+    → HasMoreThan g n
+    → HasMoreThan h n
 same_positions p g h n is other more = more_there g h (graphs_alike p g h is other) n more
 
 pub keeps_limit : (p : Problem) (g : Graph) (n : ℕ) → IsGraphOf g p → (HasMoreThan g n → ⊥) → PassesLimit p n → ⊥

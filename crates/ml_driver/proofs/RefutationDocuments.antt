@@ -45,7 +45,9 @@ pub no_refutation_at_fault : (text : List ℕ) (v : Version) (p : Problem) (r : 
 no_refutation_at_fault text v p r fault shows (inl of_head) =
     head_or_fault Unsatisfiable text v p shows.body fault shows.has_head of_head
 no_refutation_at_fault text v p r fault shows (inr of_body) =
-    let heads = one_head Unsatisfiable text v of_body.version p of_body.problem shows.body of_body.body shows.has_head of_body.has_head in
+    let heads =
+    one_head Unsatisfiable text v of_body.version p of_body.problem shows.body of_body.body shows.has_head
+    of_body.has_head in
     let written = subst (λ w. IsTextOf w of_body.body r) heads.0 (subst (λ b. IsTextOf v b r) heads.2 shows.has_body) in
     fault_or_readable of_body.version of_body.body first_body_line fault
     ((readable_is_refutation of_body.version of_body.body).1 (r, shows.is_refutation, written)) of_body.is_fault

@@ -6,18 +6,17 @@
 --   more_there     == so as many positions are reached
 use Rattle.std.proofs.Common.{◌≡◌, ◌≤◌, ◌<◌, ◌⊎◌, ℕ, ◌+◌, ◌*◌, ◌%◌, Bool, true, false, None, List, [], ◌∷◌, filter, if◌then◌else◌, min, refl, sym, ◌∙◌, ap, subst, inl, inr}
 use Rattle.ml_lists.specs.Member.{IsMember}
-use Rattle.ml_graph.specs.Graph.{Graph, size, node_at, priority_at, odd_priorities}
+use Rattle.ml_graph.specs.Graph.{Graph, size, node_at, odd_priorities}
 use Rattle.ml_graph.specs.declared.node.Node.{Node}
 use Rattle.ml_graph.specs.declared.node.Node.TheVariants as node
 use Rattle.ml_graph.proofs.Places.{same_place}
 use Rattle.ml_history.specs.History.{start}
 use Rattle.ml_history.specs.HistoryStep.{step_mark}
 use Rattle.ml_trace.specs.Marks.{priority}
-use Rattle.ml_product.specs.Position.{Position, Follows, automaton_states, neutral, start_of, with_chosen}
+use Rattle.ml_product.specs.Position.{Position, Follows, neutral, start_of, with_chosen}
 use Rattle.ml_product.specs.DecisionGame.{AreMoves, AreSteps, Clashing, HasMoreThan, IsReached, IsResolved, IsVerdictOf, Leading, Open, Settled, Target, To, Turn, Verdict, at_start, by_move, diamonds_of}
-use Rattle.ml_sequent.specs.Choice.{side_of}
 use Rattle.ml_sequent.specs.LocalWalk.{InSpread, LocalWalk, children, children_of, goes, stays}
-use Rattle.ml_sequent.specs.Spread.{IsCause, IsLeastOpenOr, IsOpenOr, IsPair, IsSpreadOf, OnCycle, SpreadList, is_diamond}
+use Rattle.ml_sequent.specs.Spread.{IsCause, IsOpenOr, IsPair, IsSpreadOf, OnCycle, SpreadList, is_diamond}
 use Rattle.ml_sequent.specs.Step.{IsStep, IsTarget, IsTrace, LeadsOut}
 use Rattle.ml_sequent.specs.declared.choice.Side.{Side}
 use Rattle.ml_sequent.specs.declared.choice.Side.TheVariants.{Left, Right}
@@ -119,7 +118,8 @@ module _ (g h : Graph) (x : AreAlike g h) where
   same_leaving : (sp : SpreadList) (d e m : ℕ) → LeadsOut g sp d e m → LeadsOut h sp d e m
   same_leaving sp d e m l = by_leaving l.leaves
     where
-      by_leaving : ((e ≡ d) × (m ≡ l.child)) ⊎ (IsMember e sp.nodes × (node_at g e ≡ node.Square l.action m)) → LeadsOut h sp d e m
+      by_leaving : ((e ≡ d) × (m ≡ l.child)) ⊎ (IsMember e sp.nodes × (node_at g e ≡ node.Square l.action m))
+          → LeadsOut h sp d e m
       by_leaving (inl itself) =
           let there = diamond_there g h x d l.action l.child l.is_diamond in
           record { action = there.0; child = l.child; is_diamond = there.1; leaves = inl itself }
@@ -143,8 +143,9 @@ module _ (g h : Graph) (x : AreAlike g h) where
 
   same_start : start_of g ≡ start_of h
   same_start =
-      ap (λ r. record (start_of g) { sequent = r ∷ []; history = start (number (odd_priorities g) (record { node = r; odd = None })) }) x.roots
-      ∙ ap (λ ds. record (start_of h) { history = start (number ds (record { node = h.root; odd = None })); priority = neutral g }) same_odds
+      let first : List ℕ → ℕ → ℕ = λ ds r. number ds (record { node = r; odd = None }) in
+      ap (λ r. record (start_of g) { sequent = r ∷ []; history = start (first (odd_priorities g) r) }) x.roots
+      ∙ ap (λ ds. record (start_of h) { history = start (first ds h.root); priority = neutral g }) same_odds
       ∙ ap (λ k. record (start_of h) { priority = k }) same_neutral
 
 module _ (g h : Graph) (x : AreAlike g h) where
@@ -205,12 +206,16 @@ module _ (g h : Graph) (x : AreAlike g h) where
     unchosen = f.unchosen;
   }
 
-  same_steps : (p : Position) (sp : SpreadList) (ds : List ℕ) (ts : List Target) → AreSteps g p sp ds ts → AreSteps h p sp ds ts
+  same_steps : (p : Position) (sp : SpreadList) (ds : List ℕ) (ts : List Target)
+      → AreSteps g p sp ds ts
+      → AreSteps h p sp ds ts
   same_steps p sp [] ts are = are
   same_steps p sp (d ∷ ds) ts are =
       (are.0, are.1, same_follow p sp d are.0 are.2, same_steps p sp ds are.1 are.3, are.4)
 
-  same_moves : (p : Position) (sp : SpreadList) (v : Verdict) (ts : List Target) → AreMoves g p sp v ts → AreMoves h p sp v ts
+  same_moves : (p : Position) (sp : SpreadList) (v : Verdict) (ts : List Target)
+      → AreMoves g p sp v ts
+      → AreMoves h p sp v ts
   same_moves p sp Clashing ts are = are
   same_moves p sp (Open o) ts are =
       are ∙ ap (λ q. To q ∷ To (with_chosen g p o Right) ∷ []) (same_chosen g h x p o Left)

@@ -12,7 +12,6 @@ use Rattle.std.proofs.lemmas.Bool.{cases_lt}
 use Rattle.ml_base.specs.Structure.{Structure}
 use Rattle.ml_base.specs.declared.parse_refusal.ParseRefusal.{ParseRefusal}
 use Rattle.ml_base.specs.declared.parse_refusal.ParseRefusal.TheVariants as refusal
-use Rattle.ml_lists.proofs.Decided.{Decided}
 use Rattle.ml_lists.proofs.Member.{member-All}
 use Rattle.ml_graph.specs.Graph.{Graph, IsGraph}
 use Rattle.ml_parity.specs.Game as games
@@ -33,13 +32,14 @@ use Rattle.ml_refute.proofs.Accepted.{extracted_accepted}
 use Rattle.ml_refute.proofs.Entries.{Extraction}
 use Rattle.ml_refute.proofs.SomeRefutation.{some_refutation}
 use Rattle.ml_refute.proofs.WellFormed.{extracted_refutation}
-use Rattle.ml_refute_check.specs.Documents.{HasLargeClosure, document_of}
+use Rattle.ml_refute_check.specs.Documents.{document_of}
 use Rattle.ml_front.proofs.Graphs.{graph_is, graph_small, graphs_agree, meaningful}
 use Rattle.ml_front.proofs.Logics as texts
-use Rattle.ml_front.specs.Graphs.{IsGraphOf}
+use Rattle.ml_front.specs.Graphs.{HasLargeClosure, IsGraphOf}
 use Rattle.ml_front.specs.HeadRules.{IsFormulaOf}
 use Rattle.ml_front.specs.Logics.{IsRefusedBy}
 use Rattle.ml_front.specs.declared.problem.Problem.{Problem}
+use Rattle.ml_front.specs.declared.problem.TheConstants.{MOST_NODES}
 use Rattle.ml_driver.specs.Decision.{IsAnsweredIn, IsClosed, IsProblem, Refuted, Satisfied}
 use Rattle.ml_driver.specs.Documents.{satisfiable_document, undecided_document}
 use Rattle.ml_driver.specs.Statuses.{longest_text, refusal_line, refused_length}
@@ -48,7 +48,7 @@ use Rattle.ml_driver.specs.declared.question.Question.{Question}
 use Rattle.ml_driver.specs.declared.status.Status.{Status}
 use Rattle.ml_driver.specs.declared.status.Status.TheVariants.{Yes, No, Undecided, Text}
 use Rattle.ml_driver.proofs.Answered.{closed, left_open, open_in, refused_answered, refuted, satisfied}
-use Rattle.ml_driver.proofs.HeldGraphs.{held_graph, large_or_not}
+use Rattle.ml_driver.proofs.HeldGraphs.{HeldGraph, held_graph}
 use Rattle.ml_driver.proofs.HeldNames.{IsHeld}
 use Rattle.ml_driver.proofs.NamedModels.{has_names}
 use Rattle.ml_driver.proofs.ProblemGraphs.{few_positions, keeps_limit, well_formed}
@@ -93,10 +93,10 @@ module _ (n : Bool) (q : Question) (text : List ℕ) (p : Problem) (is_problem :
         of_model m start model states even =
             let extracted = models_hold g a s m start even model in
             as_satisfied n q text (satisfiable_document p m start)
-            (satisfied q text p is_problem (satisfiable_document p m start) g m start
+            (satisfied q text p is_problem (satisfiable_document p m start) g m start is_graph
             (graphs_agree p g (meaningful p.formula (well_formed text p.formula is_problem.is_parsed)) is_graph)
             is_closed extracted model.nothing_twice (omega (arith, states, few, small))
-            (has_names g a s m start ok model extracted held) refl)
+            (has_names g a s m start model extracted held) refl)
 
     by_odd : winner_at s.winner 0 ≡ Odd → Answer n q text
     by_odd is =
@@ -104,7 +104,7 @@ module _ (n : Bool) (q : Question) (text : List ℕ) (p : Problem) (is_problem :
         let r = made.0 in
         let x : Extraction = record { g = g; a = a; arena = arena; s = s; r = r; o = made.1.outline } in
         let well = well_formed text p.formula is_problem.is_parsed in
-        let nodes = graph_small g p.negated p.formula well is_graph in
+        let nodes = graph_small MOST_NODES g p.negated p.formula (omega arith) well is_graph (is_closed Closure) in
         let is_refutation =
         extracted_refutation x ok (omega (arith, nodes)) made.1.heights
         (member-All Fits g.priorities held.priorities) (omega (arith, few, small)) in
@@ -116,7 +116,7 @@ module _ (n : Bool) (q : Question) (text : List ℕ) (p : Problem) (is_problem :
     by_winner Even is = by_even is
     by_winner Odd is = by_odd is
 
-  by_game : (g : Graph) → IsGraphOf g p → IsGraph g → IsHeld g → (HasLargeClosure p.formula → ⊥)
+  by_game : (g : Graph) → IsGraphOf g p → IsGraph g → IsHeld g → (HasLargeClosure p MOST_NODES → ⊥)
       → ((a : Arena) × (IsArenaOf g a × (length a.positions ≤ q.limit))) ⊎ HasMoreThan g q.limit
       → Answer n q text
   by_game g is_graph ok held fits (inr more) = (
@@ -134,10 +134,10 @@ module _ (n : Bool) (q : Question) (text : List ℕ) (p : Problem) (is_problem :
       by_winner g is_graph ok held (closed q p fits keeps) a rest.0 rest.1 s.0 s.1 (winner_at s.0.winner 0) refl
 
   of_problem : Answer n q text
-  of_problem = by_closure (large_or_not p.formula)
+  of_problem = by_closure (held_graph p.formula p.negated (well_formed text p.formula is_problem.is_parsed))
     where
-      by_closure : Decided (HasLargeClosure p.formula) → Answer n q text
-      by_closure (inl large) = (
+      by_closure : HeldGraph p.formula p.negated ⊎ HasLargeClosure p MOST_NODES → Answer n q text
+      by_closure (inr large) = (
         Undecided,
         (
           undecided_document p Closure,
@@ -145,10 +145,9 @@ module _ (n : Bool) (q : Question) (text : List ℕ) (p : Problem) (is_problem :
               (left_open q text p is_problem (undecided_document p Closure) Closure large refl),
         ),
       )
-      by_closure (inr fits) =
-          let made = held_graph p.formula p.negated (well_formed text p.formula is_problem.is_parsed) in
-          let ok = graph_is made.0 p.negated p.formula made.1.0 in
-          by_game made.0 made.1.0 ok made.1.1 fits (some_arena made.0 ok q.limit)
+      by_closure (inl h) =
+          let ok = graph_is h.graph p.negated p.formula h.is_graph in
+          by_game h.graph h.is_graph ok h.is_held h.fits (some_arena h.graph ok q.limit)
 
 -- ---- texts
 

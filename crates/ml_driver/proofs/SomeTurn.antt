@@ -106,7 +106,8 @@ module _ (g : Graph) (ok : IsGraph g) (p : Position) (low : (n : ℕ) → IsMemb
     leads_low : (d e m : ℕ) → IsMember d sp.nodes → LeadsOut g sp d e m → m < size g
     leads_low d e m inside l = by_kind l.leaves
       where
-        by_kind : ((e ≡ d) × (m ≡ l.child)) ⊎ (IsMember e sp.nodes × (node_at g e ≡ node.Square l.action m)) → m < size g
+        by_kind : ((e ≡ d) × (m ≡ l.child)) ⊎ (IsMember e sp.nodes × (node_at g e ≡ node.Square l.action m))
+            → m < size g
         by_kind (inl same) =
             subst (λ k. k < size g) (sym same.1)
             (diamond_target g ok d (is.low d inside) l.action l.child l.is_diamond)

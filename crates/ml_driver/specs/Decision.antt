@@ -7,7 +7,8 @@
 --
 --   IsProblem q text p    == p is the problem of the text
 --   PassesLimit p n       == the decision game of a graph of p has more than n positions
---   StaysOpen q p c       == p stays undecided for the cause c: a large closure, or else a game past the limit
+--   StaysOpen q p c       == p stays undecided for the cause c: a closure with more nodes than are decided, or else a game
+--                            past the limit
 --   IsClosed q p          == for no cause
 --   Satisfied q text out  == out is a document about the problem of the text, with a structure and a state at which it
 --                            holds
@@ -21,15 +22,16 @@ use Rattle.ml_base.specs.Structure.{Structure}
 use Rattle.ml_base.specs.declared.parse_refusal.ParseRefusal.{ParseRefusal}
 use Rattle.ml_kripke.specs.Laws.{IsWritten}
 use Rattle.ml_kripke.specs.Ordered.{IsOrdered}
-use Rattle.ml_front.specs.Graphs.{IsGraphOf}
+use Rattle.ml_front.specs.Graphs.{HasLargeClosure, IsGraphOf}
 use Rattle.ml_front.specs.Logics.{logic_of, IsParsedAs, IsRefusedBy}
 use Rattle.ml_front.specs.Problems.{HoldsAt, IsAdmitted, IsSatisfiable}
 use Rattle.ml_front.specs.declared.problem.Problem.{Problem}
+use Rattle.ml_front.specs.declared.problem.TheConstants.{MOST_NODES}
 use Rattle.ml_graph.specs.Graph.{Graph}
 use Rattle.ml_product.specs.DecisionGame.{HasMoreThan}
 use Rattle.ml_refutation.specs.Acceptance.{IsAccepted}
 use Rattle.ml_refutation.specs.Refutation.{Refutation, IsRefutation}
-use Rattle.ml_refute_check.specs.Documents.{HasLargeClosure, document_of}
+use Rattle.ml_refute_check.specs.Documents.{document_of}
 use Rattle.ml_driver.specs.declared.cause.Cause.{Cause}
 use Rattle.ml_driver.specs.declared.cause.Cause.TheVariants.{Positions, Closure}
 use Rattle.ml_driver.specs.declared.question.Question.{Question}
@@ -52,8 +54,8 @@ pub record PassesLimit (p : Problem) (n : ℕ) : Type 0 where
   pub has_more : HasMoreThan graph n
 
 abbrev pub StaysOpen : Question → Problem → Cause → Type 0
-StaysOpen q p (Positions n) = (n ≡ q.limit) × (¬ (HasLargeClosure p.formula)) × PassesLimit p q.limit
-StaysOpen q p Closure = HasLargeClosure p.formula
+StaysOpen q p (Positions n) = (n ≡ q.limit) × (¬ (HasLargeClosure p MOST_NODES)) × PassesLimit p q.limit
+StaysOpen q p Closure = HasLargeClosure p MOST_NODES
 
 abbrev pub IsClosed : Question → Problem → Type 0
 IsClosed q p = (c : Cause) → ¬ (StaysOpen q p c)

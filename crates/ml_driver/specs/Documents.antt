@@ -6,14 +6,14 @@
 use Rattle.std.specs.Prelude.{ℕ, List, [], ◌∷◌, ◌++◌, codes}
 use Rattle.ml_base.specs.Structure.{Structure}
 use Rattle.ml_base.specs.declared.version.Version.TheVariants.{Two}
-use Rattle.ml_lines.specs.Lines.{Line, line_text, number, text_of}
+use Rattle.ml_lines.specs.Lines.{Line, number, text_of}
 use Rattle.ml_kripke.specs.ModelText.{model_text}
 use Rattle.ml_front.specs.Head.{head_lines}
 use Rattle.ml_front.specs.declared.answer.Answer.TheVariants.{Satisfiable, Undecided}
 use Rattle.ml_front.specs.declared.problem.Problem.{Problem}
+use Rattle.ml_front.specs.declared.problem.TheConstants.{MOST_NODES}
 use Rattle.ml_driver.specs.declared.cause.Cause.{Cause}
 use Rattle.ml_driver.specs.declared.cause.Cause.TheVariants.{Positions, Closure}
-use Rattle.ml_driver.specs.declared.cause.TheConstants.{MOST_NODES}
 
 abbrev pub satisfiable_document : Problem → Structure → ℕ → List ℕ
 satisfiable_document p m s = text_of (head_lines Two Satisfiable p) ++ model_text m s

@@ -4,12 +4,15 @@
 --   refused_words    == the line for words that are no command
 --   longest_text     == the limit on the length of a formula's text
 --   longest_document == the limit on the length of a document
---   longest_input c  == the limit on the length of the input of a command
+--   longest_input c  == the limit on the length of the input of a command, if it takes one
 --   refused_length   == the line for a longer input
 --   holds_line       == the line for a document whose problem holds where the document says so
 --   fails_line       == the line for one whose problem doesn't
+--   open_line        == the line for one whose problem has too large a closure to tell
+--   not_total_line s == the line for one in which the state s is the first without an edge, where its logic wants one
 --   accepted_line    == the line for a document whose refutation is accepted
---   rejected_line l k == the line for one whose refutation isn't: the first line with a broken rule, and the lowest such rule
+--   rejected_line l k == the line for one whose refutation isn't: the first line with a broken rule, and the lowest such
+--                        rule
 --   refused_document f == the line for a document that can't be read: its first bad line, and the rule that it breaks
 --   refusal_line e   == the line for a text that the parser refuses: the number of its cause, and the byte
 use Rattle.std.specs.Prelude.{ℕ, List, [], ◌∷◌, codes, Option, Some, None}
@@ -17,8 +20,9 @@ use Rattle.ml_base.specs.declared.doc_fault.DocFault.{DocFault}
 use Rattle.ml_base.specs.declared.parse_refusal.ParseRefusal.{ParseRefusal}
 use Rattle.ml_base.specs.declared.parse_refusal.ParseRefusal.TheVariants as refusal
 use Rattle.ml_lines.specs.Lines.{number, line_text}
+use Rattle.ml_front.specs.declared.problem.TheConstants.{MOST_NODES}
 use Rattle.ml_driver.specs.declared.command.Command.{Command}
-use Rattle.ml_driver.specs.declared.command.Command.TheVariants.{Decide, Valid, CheckModel, CheckRefutation, Migrate}
+use Rattle.ml_driver.specs.declared.command.Command.TheVariants.{Decide, Valid, CheckModel, CheckRefutation, Migrate, Gen, Bench}
 use Rattle.ml_driver.specs.declared.command.TheConstants.{LONGEST_TEXT, LONGEST_DOCUMENT}
 use Rattle.ml_driver.specs.declared.status.Status.{Status}
 use Rattle.ml_driver.specs.declared.status.Status.TheVariants.{Yes, No, Undecided, Words, Text, ReadFault, WriteFault, NoMemory}
@@ -42,12 +46,14 @@ longest_text = LONGEST_TEXT
 abbrev pub longest_document : ℕ
 longest_document = LONGEST_DOCUMENT
 
-abbrev pub longest_input : Command → ℕ
-longest_input (Decide l n) = longest_text
-longest_input (Valid l n) = longest_text
-longest_input CheckModel = longest_document
-longest_input CheckRefutation = longest_document
-longest_input Migrate = longest_document
+abbrev pub longest_input : Command → Option ℕ
+longest_input (Decide l n) = Some longest_text
+longest_input (Valid l n) = Some longest_text
+longest_input CheckModel = Some longest_document
+longest_input CheckRefutation = Some longest_document
+longest_input Migrate = Some longest_document
+longest_input (Gen f n) = None
+longest_input (Bench f n) = None
 
 abbrev pub refused_length : List ℕ
 refused_length = line_text (codes "refused" ∷ codes "length" ∷ [])
@@ -57,6 +63,13 @@ holds_line = line_text (codes "holds" ∷ [])
 
 abbrev pub fails_line : List ℕ
 fails_line = line_text (codes "fails" ∷ [])
+
+abbrev pub open_line : List ℕ
+open_line = line_text (codes "undecided" ∷ codes "closure" ∷ number MOST_NODES ∷ [])
+
+abbrev pub not_total_line : ℕ → List ℕ
+not_total_line state =
+    line_text (codes "not" ∷ codes "total" ∷ codes "at" ∷ codes "state" ∷ number state ∷ [])
 
 abbrev pub accepted_line : List ℕ
 accepted_line = line_text (codes "accepted" ∷ [])

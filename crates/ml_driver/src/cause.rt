@@ -5,9 +5,6 @@
 pub enum Cause {
     /// The decision game has more positions than this limit.
     Positions(u32),
-    /// The closure of the formula has more nodes than are decided.
+    /// The closure of the problem has more than `ml_front::MOST_NODES` nodes.
     Closure,
 }
-
-/// How many nodes a closure has at most, where it is decided.
-pub const MOST_NODES: u32 = 4_096;

@@ -7,6 +7,7 @@ ghost use Rattle.ml_driver.specs.Statuses.{longest_document};
 use crate::output::Output;
 use crate::{Command, Status};
 use ml_base::{DocFault, DocRefusal, NoMemory};
+use ml_front::MOST_NODES;
 use ml_lines::{end_line, write_next_number, write_next_word, write_word};
 use ml_model_check::{Checked, check_document};
 use ml_refute_check::{Verdict, check};
@@ -30,7 +31,14 @@ pub(crate) fn check_model(alloc: Global, text: &[u8]) -> Result<Output, NoMemory
             status: Status::Text,
             bytes: refused_document(alloc, fault)?,
         },
-        Checked::NotTotal(_) | Checked::ClosureTooLarge => unreachable!(),
+        Checked::NotTotal(state) => Output {
+            status: Status::Text,
+            bytes: not_total(alloc, state)?,
+        },
+        Checked::ClosureTooLarge => Output {
+            status: Status::Undecided,
+            bytes: left_open(alloc)?,
+        },
     })
 }
 
@@ -71,6 +79,30 @@ pub(crate) fn migrate(alloc: Global, text: &[u8]) -> Result<Output, NoMemory>
         },
         Err(DocRefusal::NoMemory) => return Err(NoMemory),
     })
+}
+
+fn not_total(alloc: Global, state: u32) -> Result<Vec<u8>, NoMemory>
+    ensures { IfOk result (λ line. line.items ≡ statuses.not_total_line state) }
+{
+    let mut line = Vec::new(alloc);
+    write_word(&mut line, b"not")?;
+    write_next_word(&mut line, b"total")?;
+    write_next_word(&mut line, b"at")?;
+    write_next_word(&mut line, b"state")?;
+    write_next_number(&mut line, u64::from(state))?;
+    end_line(&mut line)?;
+    Ok(line)
+}
+
+fn left_open(alloc: Global) -> Result<Vec<u8>, NoMemory>
+    ensures { IfOk result (λ line. line.items ≡ statuses.open_line) }
+{
+    let mut line = Vec::new(alloc);
+    write_word(&mut line, b"undecided")?;
+    write_next_word(&mut line, b"closure")?;
+    write_next_number(&mut line, u64::from(MOST_NODES))?;
+    end_line(&mut line)?;
+    Ok(line)
 }
 
 fn rejected(alloc: Global, number: u64, rule: u32) -> Result<Vec<u8>, NoMemory>

@@ -1,16 +1,16 @@
 // Deciding a problem by the decision game of its graph.
 ghost use Rattle.std.specs.Prelude.{◌≡◌, ◌<◌, ◌≤◌, length, IfOk};
 ghost use Rattle.ml_front.specs.Logics.{IsWellFormed};
+ghost use Rattle.ml_front.specs.declared.problem.TheConstants.{MOST_NODES};
 ghost use Rattle.ml_graph.specs.Graph.{IsGraph, size};
 ghost use Rattle.ml_parity.specs.Solution.{winner_at};
 ghost use Rattle.ml_product.specs.Arena.{IsArenaOf};
-ghost use Rattle.ml_driver.specs.declared.cause.TheConstants.{MOST_NODES};
 ghost use Rattle.ml_driver.specs.private.Decisions.{IsDecisionOf, IsFound, IsWon};
 
-use crate::cause::{Cause, MOST_NODES};
+use crate::cause::Cause;
 use ml_base::NoMemory;
 use ml_extract::model_of;
-use ml_front::{Problem, graph};
+use ml_front::{MOST_NODES, Problem, graph};
 use ml_graph::{BlockRefusal, ModalGraph};
 use ml_kripke::Model;
 use ml_parity::{Player, Solution, solve};
@@ -85,7 +85,7 @@ fn arena_decision(alloc: Global, graph: &ModalGraph, arena: &Arena) -> Result<De
     }
 }
 
-fn first_winner(solution: &Solution) -> Player
+pub(crate) fn first_winner(solution: &Solution) -> Player
     requires { 0 < length solution.now.winner }
     ensures { result ≡ winner_at solution.now.winner 0 }
 {

@@ -1,18 +1,16 @@
 // The documents that are written.
 ghost use Rattle.std.specs.Prelude.{◌≡◌, ◌++◌, IfOk, OnOk};
-ghost use Rattle.ml_base.specs.declared.version.Version.TheVariants.{Two};
 ghost use Rattle.ml_kripke.specs.Ordered.{HasNames};
 ghost use Rattle.ml_lines.specs.Lines.{line_text};
 ghost use Rattle.ml_refutation.specs.Views.{of_parts};
-ghost use Rattle.ml_refutation_text.specs.WrittenText.{IsCounted};
 ghost use Rattle.ml_refute_check.specs.Documents.{document_of};
 ghost use Rattle.ml_driver.specs.Documents as documents;
 ghost use Rattle.ml_driver.specs.private.Decisions.{IsDocumentFor};
 
-use crate::cause::{Cause, MOST_NODES};
+use crate::cause::Cause;
 use crate::deciding::Decision;
 use ml_base::{NoMemory, Version};
-use ml_front::{Answer, Problem, append_head};
+use ml_front::{Answer, MOST_NODES, Problem, append_head};
 use ml_kripke::{Model, append_model};
 use ml_lines::{end_line, write_next_number, write_next_word, write_word};
 use ml_refutation::Refutation;
@@ -50,9 +48,8 @@ fn unsatisfiable(
     problem: &Problem,
     refutation: &Refutation,
 ) -> Result<Vec<u8>, NoMemory>
-    ensures text { IfOk result (λ output.
+    ensures { IfOk result (λ output.
         output.items ≡ document_of problem.now (of_parts refutation.now.names refutation.now.entries)) }
-    ensures counted { OnOk result (IsCounted Two (of_parts refutation.now.names refutation.now.entries)) }
 {
     let mut output = Vec::new(alloc);
     append_head(&mut output, problem, Answer::Unsatisfiable)?;

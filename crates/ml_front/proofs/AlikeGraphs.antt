@@ -1,7 +1,7 @@
 -- Graphs that differ in the numbers of their names alone: two graphs of one formula are such.
 --
--- A node's shape is the node with the numbers of its proposition and action taken away. The occurrence i of a formula has
--- the nodes 2i and 2i + 1.
+-- A node's shape is the node with the numbers of its proposition and action taken away. The occurrence i of a formula of
+-- the mu-calculus or of PDL has the nodes 2i and 2i + 1.
 --
 --   shape v, name_in g v == the shape of the node v, and the name to which it refers
 --   SameNode g h n       == node n has the same shape, name and priority in both
@@ -14,7 +14,8 @@
 --   Range P i j          == P holds of all nodes of the occurrences from i to before j
 --   one_occurrence, three_occurrences, one_part, two_parts == ranges put together
 --   same_and, ..         == nodes that are told alike in both are the same
---   alike_of             == graphs whose occurrences all have the same nodes are alike
+--   alike_below          == graphs of one size whose nodes are all the same are alike
+--   alike_of             == so are those whose occurrences all have the same nodes
 use Rattle.std.proofs.Common.{◌≡◌, ℕ, ◌+◌, ◌*◌, ◌<◌, ◌≤◌, ◌⊎◌, Bool, List, [], length, refl, sym, ◌∙◌, ap, subst, ⊎_elim, arith}
 use Rattle.std.proofs.lemmas.Bool.{cases_eq, cases_lt}
 use Rattle.std.proofs.lemmas.List.{get_or_past, get_or_default, same_lists}
@@ -295,6 +296,17 @@ module _ (g h : Graph) where
             ∙ sym (get_or_past h.priorities n 0 (omega (arith, other.priorities, same, high)));
       }
 
+  pub alike_below : IsGraph g → IsGraph h → size g ≡ size h → g.root ≡ h.root → ((n : ℕ) → n < size g → SameNode g h n)
+      → AreAlike g h
+  alike_below is other sizes roots all = record {
+    is_graph = is;
+    is_other = other;
+    sizes = sizes;
+    roots = roots;
+    nodes = λ n.
+        ⊎_elim (λ (low : n < size g). all n low) (λ (high : size g ≤ n). past n is other sizes high) (cases_lt n (size g));
+  }
+
   pub alike_of : (k : ℕ)
       → IsGraph g
       → IsGraph h
@@ -303,12 +315,5 @@ module _ (g h : Graph) where
       → g.root ≡ h.root
       → Range (SameNode g h) 0 (0 + k)
       → AreAlike g h
-  alike_of k is other here there roots all = record {
-    is_graph = is;
-    is_other = other;
-    sizes = here ∙ sym there;
-    roots = roots;
-    nodes = λ n.
-        ⊎_elim (λ (low : n < size g). all n (omega arith) (omega (arith, low, here)))
-        (λ (high : size g ≤ n). past n is other (here ∙ sym there) high) (cases_lt n (size g));
-  }
+  alike_of k is other here there roots all =
+      alike_below is other (here ∙ sym there) roots (λ n low. all n (omega arith) (omega (arith, low, here)))

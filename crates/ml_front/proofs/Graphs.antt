@@ -1,6 +1,7 @@
 -- What each logic proves of the graphs of its formulas, said of all: a further logic adds its line to each of these.
 --
 --   graphs_agree  == the graph of a problem holds where the problem does
+--   holds_or_fails == so a problem with a graph holds at a state, or it doesn't
 --   meaningful    == a well-formed formula means something
 --   graph_is      == the graph of a formula is a graph
 --   graph_small   == that of a well-formed problem without a large closure has no more nodes than a closure may have, where
@@ -10,20 +11,33 @@
 --   admitted_or_not == a structure is admitted, or has a first deadlock
 --   never_both    == and never both
 --   one_deadlock  == and one first deadlock at most
-use Rattle.std.proofs.Common.{ℕ, ◌≡◌, ◌≤◌, ◌⊎◌, left, Bool, arith}
-use Rattle.ml_base.specs.Structure.{Structure, IsStructure}
+use Rattle.std.proofs.Common.{ℕ, ◌≡◌, ◌<◌, ◌≤◌, ◌⊎◌, inl, inr, Bool, true, false, not, [], refl, arith}
+use Rattle.ml_base.specs.Structure.{Structure, IsStructure, is_member}
+use Rattle.ml_blocks.specs.Agreement.{Agrees}
+use Rattle.ml_blocks.specs.BlockGraph.{linear_start_of, start_of}
+use Rattle.ml_blocks.proofs.Agreement as blocks
+use Rattle.ml_ctl.specs.Paths.{IsTotal}
+use Rattle.ml_ctl.specs.Problem as ctl
 use Rattle.ml_graph.specs.Graph.{Graph, IsGraph, size}
+use Rattle.ml_lists.specs.Search.{IsFirst}
+use Rattle.ml_lists.proofs.Decided.{Decided}
+use Rattle.ml_lists.proofs.Search.{first_unique}
+use Rattle.ml_mu.specs.Meaning as mu_meaning
 use Rattle.ml_mu_graph.proofs.Agreement as mu
+use Rattle.ml_pdl.specs.Meaning as pdl_meaning
 use Rattle.ml_pdl_graph.proofs.Agreement as pdl
 use Rattle.ml_front.specs.Graphs.{GraphsAgree, HasLargeClosureAs, HoldsWhere, IsGraphAs, IsGraphOf, IsMeaningful}
-use Rattle.ml_front.specs.Logics.{IsWellFormed}
-use Rattle.ml_front.specs.Problems.{IsAdmitted, IsFirstDeadlock}
+use Rattle.ml_front.specs.Logics.{IsWellFormed, logic_of}
+use Rattle.ml_front.specs.Problems.{HoldsAs, HoldsAt, IsAdmitted, IsDeadlock, IsFirstDeadlock}
 use Rattle.ml_front.specs.declared.logic.Logic.{Logic}
 use Rattle.ml_front.specs.declared.logic.Logic.TheVariants as logic
 use Rattle.ml_front.specs.declared.problem.AnyFormula.{AnyFormula}
-use Rattle.ml_front.specs.declared.problem.AnyFormula.TheVariants.{Mu, Pdl}
+use Rattle.ml_front.specs.declared.problem.AnyFormula.TheVariants.{Mu, Pdl, Ctl, Ltl}
 use Rattle.ml_front.specs.declared.problem.Problem.{Problem}
 use Rattle.ml_front.proofs.AlikeGraphs.{AreAlike}
+use Rattle.ml_front.proofs.BlocksAlike as blocks_alike
+use Rattle.ml_front.proofs.Closures as closure
+use Rattle.ml_front.proofs.Deadlocks.{no_deadlock, total_or_deadlock}
 use Rattle.ml_front.proofs.MuAlike as mu_alike
 use Rattle.ml_front.proofs.PdlAlike as pdl_alike
 
@@ -33,17 +47,52 @@ agree_as : (f : AnyFormula) (negated : Bool) (g : Graph)
     → HoldsWhere g (record { formula = f; negated = negated })
 agree_as (Mu f) negated g meaningful is = mu.graphs_agree f negated g meaningful.0 meaningful.1 is
 agree_as (Pdl f) negated g meaningful is = pdl.graphs_agree f negated g is
+agree_as (Ctl f) negated g meaningful is = blocks.graphs_hold f negated g meaningful is
+agree_as (Ltl f) negated g meaningful is = blocks.linear_graphs_hold f negated g is
 
 pub graphs_agree : GraphsAgree
 graphs_agree p g meaningful is = agree_as p.formula p.negated g meaningful is
 
+same_or_not : (a b : Bool) → Decided (a ≡ b)
+same_or_not true true = inl refl
+same_or_not false false = inl refl
+same_or_not true false = inr (λ e. cc)
+same_or_not false true = inr (λ e. cc)
+
+decided_by : {g : Graph} {m : Structure} {s : ℕ} {P : Type 0} → Agrees g m s P → Decided P
+decided_by (inl (holds, won)) = inl holds
+decided_by (inr (fails, lost)) = inr fails
+
+decided_as : (f : AnyFormula) (negated : Bool) (g : Graph) (m : Structure) (s : ℕ)
+    → IsMeaningful f
+    → IsGraphAs g negated f
+    → IsAdmitted (logic_of f) m
+    → s < m.states
+    → Decided (HoldsAs m s negated f)
+decided_as (Mu f) negated g m s meaningful is admitted low = same_or_not (is_member (mu_meaning.meaning m [] f) s) (not negated)
+decided_as (Pdl f) negated g m s meaningful is admitted low = same_or_not (is_member (pdl_meaning.meaning m f) s) (not negated)
+decided_as (Ctl f) negated g m s meaningful is admitted low = decided_by (blocks.graphs_agree f negated g meaningful is m admitted s low)
+decided_as (Ltl f) negated g m s meaningful is admitted low = decided_by (blocks.linear_graphs_agree f negated g is m admitted s low)
+
+pub holds_or_fails : (p : Problem) (g : Graph) (m : Structure) (s : ℕ)
+    → IsMeaningful p.formula
+    → IsGraphOf g p
+    → IsAdmitted (logic_of p.formula) m
+    → s < m.states
+    → Decided (HoldsAt m s p)
+holds_or_fails p g m s meaningful is admitted low = decided_as p.formula p.negated g m s meaningful is admitted low
+
 pub meaningful : (f : AnyFormula) → IsWellFormed f → IsMeaningful f
 meaningful (Mu f) well = (well.variables_are_bound, well.variables_are_positive)
 meaningful (Pdl f) well = tt
+meaningful (Ctl f) well = well.is_of_logic
+meaningful (Ltl f) well = tt
 
 pub graph_is : (g : Graph) (negated : Bool) (f : AnyFormula) → IsGraphAs g negated f → IsGraph g
 graph_is g negated (Mu f) is = is.is_graph
 graph_is g negated (Pdl f) is = is.is_graph
+graph_is g negated (Ctl f) is = is.is_graph
+graph_is g negated (Ltl f) is = is.is_graph
 
 pub graph_small : (n : ℕ) (g : Graph) (negated : Bool) (f : AnyFormula)
     → 2000 ≤ n
@@ -53,10 +102,14 @@ pub graph_small : (n : ℕ) (g : Graph) (negated : Bool) (f : AnyFormula)
     → size g ≤ n
 graph_small n g negated (Mu f) room well is closed = omega (arith, room, well.is_small, is.two_for_each)
 graph_small n g negated (Pdl f) room well is closed = omega (arith, room, well.is_small, is.two_for_each)
+graph_small n g negated (Ctl f) room well is closed = closure.size_at_most (start_of f negated) g n is closed
+graph_small n g negated (Ltl f) room well is closed = closure.size_at_most (linear_start_of f negated) g n is closed
 
 alike_as : (g h : Graph) (negated : Bool) (f : AnyFormula) → IsGraphAs g negated f → IsGraphAs h negated f → AreAlike g h
 alike_as g h negated (Mu f) x y = mu_alike.alike g h f negated x y
 alike_as g h negated (Pdl f) x y = pdl_alike.alike g h f negated x y
+alike_as g h negated (Ctl f) x y = blocks_alike.alike g h (start_of f negated) x y
+alike_as g h negated (Ltl f) x y = blocks_alike.alike g h (linear_start_of f negated) x y
 
 pub graphs_alike : (p : Problem) (g h : Graph) → IsGraphOf g p → IsGraphOf h p → AreAlike g h
 graphs_alike p g h x y = alike_as g h p.negated p.formula x y
@@ -64,15 +117,34 @@ graphs_alike p g h x y = alike_as g h p.negated p.formula x y
 pub is_structure : (l : Logic) (m : Structure) → IsAdmitted l m → IsStructure m
 is_structure logic.Mu m is = is
 is_structure logic.Pdl m is = is
+is_structure logic.Ctl m is = is.is_structure
+is_structure logic.Ltl m is = is.is_structure
+
+total_or_not : (m : Structure) → IsStructure m → ctl.IsAdmitted m ⊎ ((s : ℕ) × IsFirst (IsDeadlock m) m.states s)
+total_or_not m is = by_states (total_or_deadlock m)
+  where
+    by_states : IsTotal m ⊎ ((s : ℕ) × IsFirst (IsDeadlock m) m.states s)
+        → ctl.IsAdmitted m ⊎ ((s : ℕ) × IsFirst (IsDeadlock m) m.states s)
+    by_states (inl total) = inl (record { is_structure = is; is_total = total })
+    by_states (inr dead) = inr dead
 
 pub admitted_or_not : (l : Logic) (m : Structure) → IsStructure m → IsAdmitted l m ⊎ ((s : ℕ) × IsFirstDeadlock l m s)
-admitted_or_not logic.Mu m is = left is
-admitted_or_not logic.Pdl m is = left is
+admitted_or_not logic.Mu m is = inl is
+admitted_or_not logic.Pdl m is = inl is
+admitted_or_not logic.Ctl m is = total_or_not m is
+admitted_or_not logic.Ltl m is = total_or_not m is
+
+total_no_deadlock : (m : Structure) (s : ℕ) → ctl.IsAdmitted m → IsFirst (IsDeadlock m) m.states s → ⊥
+total_no_deadlock m s admitted first = no_deadlock m s (admitted.is_total s first.below) first.holds
 
 pub never_both : (l : Logic) (m : Structure) (s : ℕ) → IsAdmitted l m → ¬ (IsFirstDeadlock l m s)
 never_both logic.Mu m s is = λ dead. dead
 never_both logic.Pdl m s is = λ dead. dead
+never_both logic.Ctl m s is = total_no_deadlock m s is
+never_both logic.Ltl m s is = total_no_deadlock m s is
 
 pub one_deadlock : (l : Logic) (m : Structure) (s t : ℕ) → IsFirstDeadlock l m s → IsFirstDeadlock l m t → s ≡ t
-one_deadlock logic.Mu m s t dead = absurd dead
-one_deadlock logic.Pdl m s t dead = absurd dead
+one_deadlock logic.Mu m s t dead other = absurd dead
+one_deadlock logic.Pdl m s t dead other = absurd dead
+one_deadlock logic.Ctl m s t dead other = first_unique (IsDeadlock m) m.states s t dead other
+one_deadlock logic.Ltl m s t dead other = first_unique (IsDeadlock m) m.states s t dead other

@@ -1,6 +1,7 @@
 -- texts that stand in one line
 pub mod WordLines
 pub mod PdlLines
+pub mod CtlLines
 -- what each logic proves of its texts, said of all
 pub mod Logics
 -- the lines of a head
@@ -17,6 +18,11 @@ pub mod ReadBack
 pub mod AlikeGraphs
 pub mod MuAlike
 pub mod PdlAlike
+pub mod BlocksAlike
+-- each state has an edge, or some is the first deadlock
+pub mod Deadlocks
+-- how many nodes the graph of a closure has
+pub mod Closures
 -- what each logic proves of its graphs, said of all
 pub mod Graphs
 -- each formula has a graph

@@ -5,12 +5,12 @@
 --   head_or_fault   == never both
 --   one_fault       == a text has one first bad line at most
 --   head_rules_rise == the numbers of the rules of a line rise
-use Rattle.std.proofs.Common.{◌≡◌, ◌⊎◌, Bool, true, false, [], ◌∷◌, codes, inl, inr, ap, ⊎_elim, get_or, arith}
+use Rattle.std.proofs.Common.{◌≡◌, ◌⊎◌, Bool, true, false, [], ◌∷◌, codes, inl, inr, sym, ap, ◌∙◌, ⊎_elim, get_or, arith}
 use Rattle.ml_base.specs.declared.doc_fault.DocFault.{DocFault}
 use Rattle.ml_base.specs.declared.version.Version.{Version}
 use Rattle.ml_base.specs.declared.version.Version.TheVariants.{One, Two}
 use Rattle.ml_lines.specs.Lines.{Line}
-use Rattle.ml_lines.specs.Reading.{lines_of}
+use Rattle.ml_lines.specs.Reading.{lines_of, word}
 use Rattle.ml_lines.proofs.DecidedWords.{decided_line}
 use Rattle.ml_lines.proofs.Faults as text
 use Rattle.ml_lists.proofs.Ascending.{ascending-one, ascending-cons}
@@ -19,11 +19,11 @@ use Rattle.ml_lists.proofs.Decided.{Decided, decided_bytes, decided_same}
 use Rattle.ml_lists.proofs.Documents.{judged}
 use Rattle.ml_front.specs.Head.{title_line, answer_line, logic_line, sense_line}
 use Rattle.ml_front.specs.HeadRules.{AtTitle, AtAnswer, AtLogic, AtSense, AtFormula, Behind, IsFormulaLine, formula_bytes, rules, head, IsHeadFault, SomeHead, HeadOrFault, OneHeadFault, HeadRulesRise}
+use Rattle.ml_front.specs.Logics.{some_logic}
 use Rattle.ml_front.specs.declared.answer.Answer.{Answer}
 use Rattle.ml_front.specs.declared.answer.Answer.TheVariants.{Satisfiable, Unsatisfiable, Undecided}
 use Rattle.ml_front.specs.declared.logic.Logic.{Logic}
-use Rattle.ml_front.specs.declared.logic.Logic.TheVariants as logic
-use Rattle.ml_front.proofs.Logics.{has_formula}
+use Rattle.ml_front.proofs.Logics.{has_formula, logic_read}
 use Rattle.ml_front.proofs.ReadableHeads.{head_readable, readable_head}
 
 is_title : (line : Line) → Decided ((v : Version) × (line ≡ title_line v))
@@ -38,19 +38,14 @@ is_title line = go (decided_line line (title_line One)) (decided_line line (titl
         none (One, is) = n is
         none (Two, is) = m is
 
+-- the only logic whose line it can be
+abbrev named : Line → Logic
+named line = some_logic (word line 1)
+
 is_logic : (line : Line) → Decided ((l : Logic) × (line ≡ logic_line l))
-is_logic line = go (decided_line line (logic_line logic.Mu)) (decided_line line (logic_line logic.Pdl))
-  where
-    go : Decided (line ≡ logic_line logic.Mu)
-        → Decided (line ≡ logic_line logic.Pdl)
-        → Decided ((l : Logic) × (line ≡ logic_line l))
-    go (inl is) p = inl (logic.Mu, is)
-    go (inr n) (inl is) = inl (logic.Pdl, is)
-    go (inr n) (inr m) = inr none
-      where
-        none : (l : Logic) × (line ≡ logic_line l) → ⊥
-        none (logic.Mu, is) = n is
-        none (logic.Pdl, is) = m is
+is_logic line =
+    decided_same (λ (is : line ≡ logic_line (named line)). (named line, is))
+    (λ (l, is). is ∙ ap logic_line (sym (ap named is ∙ logic_read l))) (decided_line line (logic_line (named line)))
 
 is_answer : (line : Line) → Decided ((b : Answer) × (line ≡ answer_line b))
 is_answer line =

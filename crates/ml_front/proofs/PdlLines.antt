@@ -1,12 +1,12 @@
 -- The canonical text of a formula of PDL has no line end in it.
 --
 --   canonical_in_line  == where its names are spelled as they must be, it stands in one line
-use Rattle.std.proofs.Common.{◌≡◌, ℕ, Bool, true, false, ◌||◌, ◌==◌, not, List, [], ◌∷◌, cond, codes, bytes_eq, refl, sym, subst}
+use Rattle.std.proofs.Common.{◌≡◌, ℕ, Bool, true, false, ◌||◌, not, List, [], ◌∷◌, cond, codes, bytes_eq, refl, sym, subst}
 use Rattle.std.specs.List.{list_all}
-use Rattle.std.proofs.lemmas.Bool.{and_from, and_parts, or_left}
+use Rattle.std.proofs.lemmas.Bool.{and_parts}
 use Rattle.std.proofs.lemmas.Slice.Eq.{bytes_eq-Decides}
 use Rattle.ml_lines.proofs.LineFronts.{IsInLine}
-use Rattle.ml_text.specs.Bytes.{is_lower, is_letter, is_digit, is_word_byte}
+use Rattle.ml_text.specs.Bytes.{is_lower, is_letter, is_word_byte}
 use Rattle.ml_text.specs.declared.token.Operator.{Operator}
 use Rattle.ml_text.specs.declared.token.Operator.TheVariants as operator
 use Rattle.ml_pdl.specs.Canonical.{canonical_text, modality_text, program_text, spelling_of, whole_program}
@@ -14,15 +14,13 @@ use Rattle.ml_pdl.specs.Formula as plain
 use Rattle.ml_pdl.specs.Formula.{Formula, Program, Modality, Act, Seq, Alt, Star, Test, Diamond, Square}
 use Rattle.ml_pdl.specs.Spelling.{is_action, is_reserved, is_spelled, is_word_from, program_is_spelled}
 use Rattle.ml_pdl.proofs.Spelled.{letters}
-use Rattle.ml_front.proofs.WordLines.{both_in_line, three_in_line, five_in_line, seven_in_line, word_in_line}
+use Rattle.ml_front.proofs.WordLines as words
+use Rattle.ml_front.proofs.WordLines.{both_in_line, three_in_line, five_in_line, seven_in_line}
 
 letters_in_line : (w : List ℕ) → is_word_from is_letter w ≡ true → IsInLine w
 letters_in_line [] is = refl
 letters_in_line (b ∷ bs) is =
-    let parts = and_parts (is_letter b) (list_all is_word_byte bs) is in
-    word_in_line (b ∷ bs)
-    (and_from (is_word_byte b) (list_all is_word_byte bs)
-    (or_left (is_letter b || is_digit b) (b == 95) (or_left (is_letter b) (is_digit b) parts.0)) parts.1)
+    let parts = and_parts (is_letter b) (list_all is_word_byte bs) is in words.letters_in_line b bs parts.0 parts.1
 
 -- an action that isn't `_` is a word
 other_in_line : (a : List ℕ) → bytes_eq a (codes "_") ≡ false → is_action a ≡ true → IsInLine a

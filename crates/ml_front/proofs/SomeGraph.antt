@@ -1,7 +1,8 @@
 -- Each problem has a graph and no large closure, or a large closure: the graph is the one that the program makes.
 --
 --   some_graph  == by the logic of the formula, for any number of nodes that a closure may have
-use Rattle.std.proofs.Common.{ℕ, Bool, [], ◌*◌, ◌⊎◌, left, if◌then◌else◌, refl}
+use Rattle.std.proofs.Common.{ℕ, Bool, [], ◌*◌, ◌⊎◌, inl, if◌then◌else◌, refl}
+use Rattle.ml_blocks.specs.BlockGraph.{linear_start_of, start_of}
 use Rattle.ml_graph.specs.Graph.{Graph}
 use Rattle.ml_mu.specs.Formula as mu_formula
 use Rattle.ml_mu_graph.specs.MuGraph as mu
@@ -15,8 +16,9 @@ use Rattle.ml_pdl_graph.specs.private.NodeList as pdl_list
 use Rattle.ml_pdl_graph.proofs.InRange as pdl_range
 use Rattle.ml_pdl_graph.proofs.Made as pdl_made
 use Rattle.ml_front.specs.Graphs.{HasLargeClosureAs, IsGraphAs}
+use Rattle.ml_front.proofs.Closures.{some_or_large}
 use Rattle.ml_front.specs.declared.problem.AnyFormula.{AnyFormula}
-use Rattle.ml_front.specs.declared.problem.AnyFormula.TheVariants.{Mu, Pdl}
+use Rattle.ml_front.specs.declared.problem.AnyFormula.TheVariants.{Mu, Pdl, Ctl, Ltl}
 
 mu_graph : mu_formula.Formula → Bool → Graph
 mu_graph f negated = record {
@@ -50,5 +52,7 @@ is_pdl_graph f negated =
 
 pub some_graph : (n : ℕ) (negated : Bool) (f : AnyFormula)
     → ((g : Graph) × IsGraphAs g negated f × (¬ (HasLargeClosureAs n negated f))) ⊎ HasLargeClosureAs n negated f
-some_graph n negated (Mu f) = left (mu_graph f negated, (is_mu_graph f negated, λ large. large))
-some_graph n negated (Pdl f) = left (pdl_graph f negated, (is_pdl_graph f negated, λ large. large))
+some_graph n negated (Mu f) = inl (mu_graph f negated, (is_mu_graph f negated, λ large. large))
+some_graph n negated (Pdl f) = inl (pdl_graph f negated, (is_pdl_graph f negated, λ large. large))
+some_graph n negated (Ctl f) = some_or_large (start_of f negated) n
+some_graph n negated (Ltl f) = some_or_large (linear_start_of f negated) n

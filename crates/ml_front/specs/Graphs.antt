@@ -1,7 +1,7 @@
 -- The graphs of problems, and that they hold where the problems do.
 --
 --   IsMeaningful f  == f means something by its logic: in the mu-calculus its variables are bound and positive; in PDL each
---                      formula does
+--                      formula does; in CTL* it is a state formula; in LTL each formula does
 --   IsGraphOf g p   == g is the graph of the problem p
 --   HoldsWhere g p  == on each admitted structure, of any number of states, g holds at the states at which p does
 --   HasLargeClosure p n == the closure of the problem p has more than n nodes: never in the mu-calculus and in PDL, whose
@@ -9,6 +9,10 @@
 --   GraphsAgree     == the graph of a problem whose formula means something holds where the problem does
 use Rattle.std.specs.Prelude.{ℕ, ◌≡◌, ◌<◌, ◌↔◌, Bool, true, []}
 use Rattle.ml_base.specs.Structure.{Structure}
+use Rattle.ml_blocks.specs.BlockGraph.{IsGraphAt, linear_start_of, start_of}
+use Rattle.ml_blocks.specs.Closures.{HasMoreThan}
+use Rattle.ml_blocks.specs.Places.{Root}
+use Rattle.ml_ctl.specs.Formula.{is_state}
 use Rattle.ml_graph.specs.CheckingGame.{Holds}
 use Rattle.ml_graph.specs.Graph.{Graph}
 use Rattle.ml_mu.specs.Variables.{is_bound, is_positive}
@@ -17,17 +21,21 @@ use Rattle.ml_pdl_graph.specs.PdlGraph as pdl
 use Rattle.ml_front.specs.Logics.{logic_of}
 use Rattle.ml_front.specs.Problems.{HoldsAt, IsAdmitted}
 use Rattle.ml_front.specs.declared.problem.AnyFormula.{AnyFormula}
-use Rattle.ml_front.specs.declared.problem.AnyFormula.TheVariants.{Mu, Pdl}
+use Rattle.ml_front.specs.declared.problem.AnyFormula.TheVariants.{Mu, Pdl, Ctl, Ltl}
 use Rattle.ml_front.specs.declared.problem.Problem.{Problem}
 
 abbrev pub IsMeaningful : AnyFormula → Type 0
 IsMeaningful (Mu f) = (is_bound [] f ≡ true) × (is_positive f ≡ true)
 IsMeaningful (Pdl f) = Unit {0}
+IsMeaningful (Ctl f) = is_state f ≡ true
+IsMeaningful (Ltl f) = Unit {0}
 
 -- the graph of a formula, in its sense
 abbrev pub IsGraphAs : Graph → Bool → AnyFormula → Type 0
 IsGraphAs g negated (Mu f) = mu.IsGraphOf g f negated
 IsGraphAs g negated (Pdl f) = pdl.IsGraphOf g f negated
+IsGraphAs g negated (Ctl f) = IsGraphAt g (start_of f negated)
+IsGraphAs g negated (Ltl f) = IsGraphAt g (linear_start_of f negated)
 
 abbrev pub IsGraphOf : Graph → Problem → Type 0
 IsGraphOf g p = IsGraphAs g p.negated p.formula
@@ -36,6 +44,8 @@ IsGraphOf g p = IsGraphAs g p.negated p.formula
 abbrev pub HasLargeClosureAs : ℕ → Bool → AnyFormula → Type 0
 HasLargeClosureAs n negated (Mu f) = ⊥
 HasLargeClosureAs n negated (Pdl f) = ⊥
+HasLargeClosureAs n negated (Ctl f) = HasMoreThan (Root (start_of f negated)) n
+HasLargeClosureAs n negated (Ltl f) = HasMoreThan (Root (linear_start_of f negated)) n
 
 abbrev pub HasLargeClosure : Problem → ℕ → Type 0
 HasLargeClosure p n = HasLargeClosureAs n p.negated p.formula

@@ -14,6 +14,11 @@ use Rattle.std.specs.Prelude.{ℕ, List, Option, Some, None, if◌then◌else◌
 use Rattle.std.specs.Str.{bytes_eq}
 use Rattle.ml_base.specs.declared.parse_refusal.ParseRefusal.{ParseRefusal}
 use Rattle.ml_lines.specs.Lines.{Word}
+use Rattle.ml_ctl.specs.Canonical as ctl_canonical
+use Rattle.ml_ctl.specs.Formula as ctl_formula
+use Rattle.ml_ctl.specs.Parsing as ctl_parsing
+use Rattle.ml_ctl.specs.WellFormed as ctl_formulas
+use Rattle.ml_ltl.specs.Parsing as ltl_parsing
 use Rattle.ml_mu.specs.Canonical as mu_canonical
 use Rattle.ml_mu.specs.Parsing as mu_parsing
 use Rattle.ml_mu.specs.WellFormed as mu_formulas
@@ -23,20 +28,26 @@ use Rattle.ml_pdl.specs.WellFormed as pdl_formulas
 use Rattle.ml_front.specs.declared.logic.Logic.{Logic}
 use Rattle.ml_front.specs.declared.logic.Logic.TheVariants as logic
 use Rattle.ml_front.specs.declared.problem.AnyFormula.{AnyFormula}
-use Rattle.ml_front.specs.declared.problem.AnyFormula.TheVariants.{Mu, Pdl}
+use Rattle.ml_front.specs.declared.problem.AnyFormula.TheVariants.{Mu, Pdl, Ctl, Ltl}
 
 abbrev pub logic_of : AnyFormula → Logic
 logic_of (Mu f) = logic.Mu
 logic_of (Pdl f) = logic.Pdl
+logic_of (Ctl f) = logic.Ctl
+logic_of (Ltl f) = logic.Ltl
 
 abbrev pub logic_word : Logic → Word
 logic_word logic.Mu = codes "mu"
 logic_word logic.Pdl = codes "pdl"
+logic_word logic.Ctl = codes "ctl"
+logic_word logic.Ltl = codes "ltl"
 
 abbrev pub logic_named : Word → Option Logic
 logic_named word =
     if bytes_eq word (logic_word logic.Mu) then Some logic.Mu
-    else (if bytes_eq word (logic_word logic.Pdl) then Some logic.Pdl else None)
+    else (if bytes_eq word (logic_word logic.Pdl) then Some logic.Pdl
+    else (if bytes_eq word (logic_word logic.Ctl) then Some logic.Ctl
+    else (if bytes_eq word (logic_word logic.Ltl) then Some logic.Ltl else None)))
 
 abbrev pub some_logic : Word → Logic
 some_logic word = unwrap_or (logic_named word) logic.Mu
@@ -44,15 +55,23 @@ some_logic word = unwrap_or (logic_named word) logic.Mu
 abbrev pub IsParsedAs : List ℕ → AnyFormula → Type 0
 IsParsedAs text (Mu f) = mu_parsing.IsParsedAs text f
 IsParsedAs text (Pdl f) = pdl_parsing.IsParsedAs text f
+IsParsedAs text (Ctl f) = ctl_parsing.IsParsedAs ctl_formula.Ctl text f
+IsParsedAs text (Ltl f) = ltl_parsing.IsParsedAs text f
 
 abbrev pub IsRefusedBy : Logic → List ℕ → ParseRefusal → Type 0
 IsRefusedBy logic.Mu text e = mu_parsing.IsRefusedBy text e
 IsRefusedBy logic.Pdl text e = pdl_parsing.IsRefusedBy text e
+IsRefusedBy logic.Ctl text e = ctl_parsing.IsRefusedBy ctl_formula.Ctl text e
+IsRefusedBy logic.Ltl text e = ltl_parsing.IsRefusedBy text e
 
 abbrev pub canonical_text : AnyFormula → List ℕ
 canonical_text (Mu f) = mu_canonical.canonical_text f
 canonical_text (Pdl f) = pdl_canonical.canonical_text f
+canonical_text (Ctl f) = ctl_canonical.canonical_text f
+canonical_text (Ltl f) = ctl_canonical.canonical_text f
 
 abbrev pub IsWellFormed : AnyFormula → Type 0
 IsWellFormed (Mu f) = mu_formulas.IsWellFormed f
 IsWellFormed (Pdl f) = pdl_formulas.IsWellFormed f
+IsWellFormed (Ctl f) = ctl_formulas.IsWellFormed ctl_formula.Ctl f
+IsWellFormed (Ltl f) = ctl_formulas.IsWellFormed ctl_formula.Ltl f

@@ -4,8 +4,8 @@ ghost use Rattle.ml_front.specs.Graphs.{GraphsAgree};
 ghost use Rattle.ml_front.specs.HeadRules.{HeadOrFault, HeadRulesRise, HeadsReadBack, OneHead, OneHeadFault, SomeHead};
 
 /// The graph of a problem holds where the problem does: on every structure of which the formula's logic speaks, of any
-/// number of states, at every state. The formula has to mean something by its logic; in the mu-calculus that is that its
-/// variables are bound and positive.
+/// number of states, at every state. The formula has to mean something by its logic: in the mu-calculus its variables have to
+/// be bound and positive, and a formula of CTL* has to be a state formula.
 pub fn agrees()
     ensures { GraphsAgree }
 {}

@@ -9,6 +9,10 @@ pub enum Logic {
     Mu,
     /// Propositional dynamic logic, with infinite repetition.
     Pdl,
+    /// CTL*.
+    Ctl,
+    /// LTL.
+    Ltl,
 }
 
 impl Logic {
@@ -19,6 +23,8 @@ impl Logic {
         match self {
             Logic::Mu => b"mu",
             Logic::Pdl => b"pdl",
+            Logic::Ctl => b"ctl",
+            Logic::Ltl => b"ltl",
         }
     }
 
@@ -31,6 +37,10 @@ impl Logic {
             Some(Logic::Mu)
         } else if word == Logic::Pdl.word() {
             Some(Logic::Pdl)
+        } else if word == Logic::Ctl.word() {
+            Some(Logic::Ctl)
+        } else if word == Logic::Ltl.word() {
+            Some(Logic::Ltl)
         } else {
             None
         }

@@ -13,10 +13,12 @@ use std::alloc::Global;
 pub enum AnyFormula {
     Mu(ml_mu::Formula),
     Pdl(ml_pdl::Formula),
+    Ctl(ml_ctl::Formula),
+    Ltl(ml_ltl::Formula),
 }
 
 /// A formula with its sense: a plain problem asks for a state at which the formula holds, a negated one for a state at
-/// which it doesn't.
+/// which its negation does. A formula of LTL holds where some path satisfies it.
 #[derive(Drop)]
 pub struct Problem {
     pub formula: AnyFormula,
@@ -26,7 +28,7 @@ pub struct Problem {
 /// The plain problem of a text's formula, by the logic's parser.
 ///
 /// # Errors
-/// Those of the parser, where and as it says (`ml_mu::parse`, `ml_pdl::parse`).
+/// Those of the parser, where and as it says (`ml_mu::parse`, `ml_pdl::parse`, `ml_ctl::parse`, `ml_ltl::parse`).
 ///
 /// Cost: that of the parser.
 pub fn read(alloc: Global, logic: Logic, text: &[u8]) -> Result<Problem, ParseRefusal>
@@ -51,14 +53,10 @@ pub(crate) fn parse(alloc: Global, logic: Logic, text: &[u8]) -> Result<AnyFormu
     ensures refused { IfErr result (IsRefusedBy logic text.now) }
 {
     match logic {
-        Logic::Mu => match ml_mu::parse(alloc, text) {
-            Ok(formula) => Ok(AnyFormula::Mu(formula)),
-            Err(refusal) => Err(refusal),
-        },
-        Logic::Pdl => match ml_pdl::parse(alloc, text) {
-            Ok(formula) => Ok(AnyFormula::Pdl(formula)),
-            Err(refusal) => Err(refusal),
-        },
+        Logic::Mu => Ok(AnyFormula::Mu(ml_mu::parse(alloc, text)?)),
+        Logic::Pdl => Ok(AnyFormula::Pdl(ml_pdl::parse(alloc, text)?)),
+        Logic::Ctl => Ok(AnyFormula::Ctl(ml_ctl::parse(alloc, text)?)),
+        Logic::Ltl => Ok(AnyFormula::Ltl(ml_ltl::parse(alloc, text)?)),
     }
 }
 
@@ -82,15 +80,21 @@ pub fn negated(problem: Problem) -> Problem
 pub fn copy(alloc: Global, problem: &Problem) -> Result<Problem, NoMemory>
     ensures { IfOk result (λ copied. copied ≡ problem.now) }
 {
-    match &problem.formula {
-        AnyFormula::Mu(formula) => Ok(Problem {
-            formula: AnyFormula::Mu(ml_mu::copy(alloc, formula)?),
-            negated: problem.negated,
-        }),
-        AnyFormula::Pdl(formula) => Ok(Problem {
-            formula: AnyFormula::Pdl(ml_pdl::copy(alloc, formula)?),
-            negated: problem.negated,
-        }),
+    let formula = copy_formula(alloc, &problem.formula)?;
+    Ok(Problem {
+        formula,
+        negated: problem.negated,
+    })
+}
+
+fn copy_formula(alloc: Global, formula: &AnyFormula) -> Result<AnyFormula, NoMemory>
+    ensures { IfOk result (λ copied. copied ≡ formula.now) }
+{
+    match formula {
+        AnyFormula::Mu(formula) => Ok(AnyFormula::Mu(ml_mu::copy(alloc, formula)?)),
+        AnyFormula::Pdl(formula) => Ok(AnyFormula::Pdl(ml_pdl::copy(alloc, formula)?)),
+        AnyFormula::Ctl(formula) => Ok(AnyFormula::Ctl(ml_ctl::copy(alloc, formula)?)),
+        AnyFormula::Ltl(formula) => Ok(AnyFormula::Ltl(ml_ltl::copy(alloc, formula)?)),
     }
 }
 
@@ -107,25 +111,34 @@ pub fn print(alloc: Global, problem: &Problem) -> Result<Vec<u8>, NoMemory>
     match &problem.formula {
         AnyFormula::Mu(formula) => ml_mu::print(alloc, formula),
         AnyFormula::Pdl(formula) => ml_pdl::print(alloc, formula),
+        AnyFormula::Ctl(formula) => ml_ctl::print(alloc, formula),
+        AnyFormula::Ltl(formula) => ml_ltl::print(alloc, formula),
     }
 }
 
+/// How many nodes the closure of a problem may have where it is decided and checked.
+pub const MOST_NODES: u32 = 4_096;
+
 /// The graph of a problem: on every admitted structure it holds exactly where the problem does.
 ///
-/// `_max` is how many nodes a closure may have; formulas of the mu-calculus and of PDL have none.
+/// `max` is how many nodes the closure of a problem of CTL* or LTL may have; problems of the mu-calculus and of PDL have
+/// none.
 ///
 /// # Errors
-/// `NoMemory` alone, so far.
+/// `ClosureTooLarge` exactly where the problem's closure has more than `max` nodes. `NoMemory`.
 ///
-/// Cost: that of the logic's translation (`ml_mu_graph::graph_of`, `ml_pdl_graph::graph_of`).
-pub fn graph(alloc: Global, problem: &Problem, _max: u32) -> Result<ModalGraph, BlockRefusal>
+/// Cost: that of the logic's translation (`ml_mu_graph::graph_of`, `ml_pdl_graph::graph_of`, `ml_blocks::graph_of`,
+/// `ml_blocks::ltl_graph_of`).
+pub fn graph(alloc: Global, problem: &Problem, max: u32) -> Result<ModalGraph, BlockRefusal>
     ensures graph { IfOk result (λ g. IsGraphOf g problem.now) }
     ensures agrees { IfOk result (λ g. HoldsWhere g problem.now) }
-    ensures fits { IfOk result (λ g. ¬ (HasLargeClosure problem.now _max)) }
-    ensures too_large { IsErrOf result BlockRefusal.ClosureTooLarge → HasLargeClosure problem.now _max }
+    ensures fits { IfOk result (λ g. ¬ (HasLargeClosure problem.now max)) }
+    ensures too_large { IsErrOf result BlockRefusal.ClosureTooLarge → HasLargeClosure problem.now max }
 {
     match &problem.formula {
         AnyFormula::Mu(formula) => Ok(ml_mu_graph::graph_of(alloc, formula, problem.negated)?),
         AnyFormula::Pdl(formula) => Ok(ml_pdl_graph::graph_of(alloc, formula, problem.negated)?),
+        AnyFormula::Ctl(formula) => ml_blocks::graph_of(alloc, formula, problem.negated, max),
+        AnyFormula::Ltl(formula) => ml_blocks::ltl_graph_of(alloc, formula, problem.negated, max),
     }
 }

@@ -57,6 +57,8 @@ fn logic(formula: &AnyFormula) -> Logic
     match formula {
         AnyFormula::Mu(_) => Logic::Mu,
         AnyFormula::Pdl(_) => Logic::Pdl,
+        AnyFormula::Ctl(_) => Logic::Ctl,
+        AnyFormula::Ltl(_) => Logic::Ltl,
     }
 }
 
@@ -82,5 +84,7 @@ fn append_text(out: &mut Vec<u8>, formula: &AnyFormula) -> Result<(), NoMemory>
     match formula {
         AnyFormula::Mu(formula) => ml_mu::append_text(out, formula),
         AnyFormula::Pdl(formula) => ml_pdl::append_text(out, formula),
+        AnyFormula::Ctl(formula) => ml_ctl::append_text(out, formula),
+        AnyFormula::Ltl(formula) => ml_ltl::append_text(out, formula),
     }
 }

@@ -1,2 +1,10 @@
 -- numbered parts, with a separator between each two
 pub mod Parts
+-- names with a number
+pub mod NumberedNames
+-- texts of each logic, of any length
+pub mod MuChains
+pub mod LtlChains
+pub mod PdlSequences
+-- the texts of the families are parsed
+pub mod FamilyTexts

@@ -1,13 +1,15 @@
 // Families of formulas: a formula for each number of a range, as measurements and tests want it.
 //
 // `formula` gives the text of a family's formula for a number, and `logic_name` the logic that it is of; a family is
-// named by a word (`Family::word`, `Family::named`). What the texts are stands in `specs/Families.antt`.
+// named by a word (`Family::word`, `Family::named`). What the texts are stands in `specs/Families.antt`, and `laws` says
+// that each is parsed in its logic.
 //
-// Below stand `ml_base` and `ml_lines`, which appends numbers; of the logics nothing is known here, and nothing stands
-// above yet.
+// Below stand `ml_base`, `ml_lines`, which appends numbers, and the formulas of the logics (`ml_mu`, `ml_pdl`, `ml_ctl`,
+// `ml_ltl`), which the law alone speaks of; above stands `ml_driver`.
 #![tactic(auto)]
 
 mod family;
+pub mod laws;
 #[cfg(test)]
 mod tests;
 mod texts;

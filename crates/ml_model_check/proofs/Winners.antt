@@ -34,7 +34,8 @@ module _ (g : Graph) (m : Structure) (s : ℕ) (low : s < m.states) (is_node : g
     module _ (game_ok : IsGame game) (p : Player) (told : p ≡ get_or win v p) where
       is_winner : p ≡ winner_at solution.winner vertex
       is_winner =
-          told ∙ get_or_default win v p Even vertex_of_game ∙ ap (λ w. get_or w v Even) is_win ∙ ap (λ k. get_or solution.winner k Even) at
+          told ∙ get_or_default win v p Even vertex_of_game ∙ ap (λ w. get_or w v Even) is_win
+          ∙ ap (λ k. get_or solution.winner k Even) at
 
       won : Wins (checking_game g m) p vertex
       won =

@@ -1,12 +1,18 @@
 -- Documents that show a structure, and what checking one finds.
 --
 -- A document shows a structure for a problem where its head answers `satisfiable` about the problem, and its body is
--- the text of a structure in order with a state to start from; the head may be in either version. Whether the problem holds there is not asked of the
--- document: that is what is checked. Where a document shows none, its first bad line tells why. The lines of the body
--- are counted on from those of the head, so from 6 on.
+-- the text of a structure in order with a state to start from; the head may be in either version. Whether the problem
+-- holds there is not asked of the document: that is what is checked. Where a document shows none, its first bad line
+-- tells why; the lines of the body are counted on from those of the head, so from 6 on. Where it shows one, the
+-- problem's logic may want an edge from each state, and then the first state without one is told; and a problem with a
+-- closure that is too large isn't checked.
 --
 --   IsDocument text p m s   == the text shows the structure m with the start s for the problem p
 --   IsDocumentFault text f  == f tells the first bad line of the text, and the number of the lowest rule that it breaks
+--   Shows text, ShowsNot text == the text shows an admitted structure for a problem without a large closure, which
+--                              holds at the start, or doesn't
+--   ShowsDeadlock text s    == it shows a structure whose first deadlock for the problem's logic is s
+--   ShowsLargeClosure text  == it shows an admitted structure, and a problem with a large closure
 --   IsCheckedAs text c      == c is what checking the text finds
 --   SomeCheck, OneCheck, DocumentsReadBack == laws of these notions
 use Rattle.std.specs.Prelude.{ℕ, ◌≡◌, ◌⊎◌, List, ◌++◌}
@@ -18,12 +24,14 @@ use Rattle.ml_kripke.specs.BodyRules.{IsFaultOf}
 use Rattle.ml_kripke.specs.Laws.{IsWritten}
 use Rattle.ml_kripke.specs.ModelText.{model_text}
 use Rattle.ml_kripke.specs.Ordered.{IsOrdered}
+use Rattle.ml_front.specs.Graphs.{HasLargeClosure}
 use Rattle.ml_front.specs.Head.{head_lines}
 use Rattle.ml_front.specs.declared.answer.Answer.TheVariants.{Satisfiable}
 use Rattle.ml_front.specs.HeadRules.{IsHead, IsHeadFault}
-use Rattle.ml_front.specs.Logics.{IsWellFormed}
-use Rattle.ml_front.specs.Problems.{HoldsAt}
+use Rattle.ml_front.specs.Logics.{IsWellFormed, logic_of}
+use Rattle.ml_front.specs.Problems.{HoldsAt, IsAdmitted, IsFirstDeadlock}
 use Rattle.ml_front.specs.declared.problem.Problem.{Problem}
+use Rattle.ml_front.specs.declared.problem.TheConstants.{MOST_NODES}
 use Rattle.ml_model_check.specs.declared.checked.Checked.{Checked}
 use Rattle.ml_model_check.specs.declared.checked.Checked.TheVariants.{Holds, Fails, Unreadable, NotTotal, ClosureTooLarge}
 
@@ -50,12 +58,16 @@ pub record IsFaultOfBody (text : List ℕ) (fault : DocFault) : Type 0 where
 abbrev pub IsDocumentFault : List ℕ → DocFault → Type 0
 IsDocumentFault text fault = IsHeadFault Satisfiable text fault ⊎ IsFaultOfBody text fault
 
+-- ---- what checking finds
+
 -- the text shows a structure and a start, at which its problem holds
 pub record Shows (text : List ℕ) : Type 0 where
   pub problem : Problem
   pub structure : Structure
   pub start : ℕ
   pub is_document : IsDocument text problem structure start
+  pub admitted : IsAdmitted (logic_of problem.formula) structure
+  pub closed : ¬ (HasLargeClosure problem MOST_NODES)
   pub holds : HoldsAt structure start problem
 
 -- the text shows a structure and a start, at which its problem doesn't hold
@@ -64,24 +76,41 @@ pub record ShowsNot (text : List ℕ) : Type 0 where
   pub structure : Structure
   pub start : ℕ
   pub is_document : IsDocument text problem structure start
+  pub admitted : IsAdmitted (logic_of problem.formula) structure
+  pub closed : ¬ (HasLargeClosure problem MOST_NODES)
   pub fails : ¬ (HoldsAt structure start problem)
 
--- formulas of the mu-calculus and of PDL have a meaning on every structure, and no closure: the last two answers never come
+-- the text shows a structure with a deadlock, of which its problem's logic doesn't speak; this is the first one
+pub record ShowsDeadlock (text : List ℕ) (state : ℕ) : Type 0 where
+  pub problem : Problem
+  pub structure : Structure
+  pub start : ℕ
+  pub is_document : IsDocument text problem structure start
+  pub is_first : IsFirstDeadlock (logic_of problem.formula) structure state
+
+-- the text shows a structure of which its problem's logic speaks, and the problem's closure is too large
+pub record ShowsLargeClosure (text : List ℕ) : Type 0 where
+  pub problem : Problem
+  pub structure : Structure
+  pub start : ℕ
+  pub is_document : IsDocument text problem structure start
+  pub admitted : IsAdmitted (logic_of problem.formula) structure
+  pub is_large : HasLargeClosure problem MOST_NODES
+
 abbrev pub IsCheckedAs : List ℕ → Checked → Type 0
 IsCheckedAs text Holds = Shows text
 IsCheckedAs text Fails = ShowsNot text
 IsCheckedAs text (Unreadable fault) = IsDocumentFault text fault
-IsCheckedAs text (NotTotal state) = ⊥
-IsCheckedAs text ClosureTooLarge = ⊥
+IsCheckedAs text (NotTotal state) = ShowsDeadlock text state
+IsCheckedAs text ClosureTooLarge = ShowsLargeClosure text
 
 -- ---- laws
 
--- checking a text finds something: it shows a structure at whose start the problem holds, or doesn't, or it has a first
--- bad line
+-- checking a text finds something
 abbrev pub SomeCheck : Type 0
 SomeCheck = (text : List ℕ) → (c : Checked) × IsCheckedAs text c
 
--- checking a text finds one thing at most
+-- and one thing at most
 abbrev pub OneCheck : Type 0
 OneCheck = (text : List ℕ) (c d : Checked) → IsCheckedAs text c → IsCheckedAs text d → c ≡ d
 

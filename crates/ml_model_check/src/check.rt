@@ -14,15 +14,19 @@ const FIRST_BODY_LINE: u64 = 6;
 
 /// Does the problem of a document hold at the start of the document's structure?
 ///
-/// The document answers `satisfiable`: the five lines of its head, in either version, and then the text of a model. It may
-/// have any length.
+/// The document answers `satisfiable`: the five lines of its head, in either version, and then the text of a model. It
+/// may have any length.
 ///
-/// - `Holds` exactly where the bytes are such a document, and its formula, in its sense, holds at the start;
-/// - `Fails` exactly where they are, and it doesn't;
+/// - `Holds` exactly where the bytes are such a document, and neither of the last two answers comes, and its formula,
+///   in its sense, holds at the start;
+/// - `Fails` exactly where they are, neither comes, and it doesn't;
 /// - `Unreadable` exactly where they are none, with the first bad line, counted from 1, and the lowest rule that this
 ///   line breaks: of the head 1 where a line is missing or not of the kind that stands there, 2 where the formula is
 ///   refused by its parser, 3 where the answer is another one; of the body 11 to 17, as `read_model` says;
-/// - `NotTotal` and `ClosureTooLarge` never.
+/// - `NotTotal` exactly where they are, the formula's logic wants an edge by `_` from each state, and the structure has
+///   a state without one, with the least such state;
+/// - `ClosureTooLarge` exactly where they are, the logic speaks of the structure, and the formula, in its sense, has a
+///   closure of more than 4,096 nodes.
 ///
 /// # Errors
 /// `NoMemory` alone.

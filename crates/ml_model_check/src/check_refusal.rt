@@ -7,7 +7,7 @@ use thiserror::Error;
 /// Why a problem isn't checked on a structure.
 #[derive(Clone, Copy, Debug, PartialEq, Eq, Error)]
 pub enum CheckRefusal {
-    /// This state, the least such one, has no edge, where the logic wants each state to have one.
+    /// This state, the least such one, has no edge by `_`, where the logic wants each state to have one.
     #[error("state {0} has no edge")]
     NotTotal(u32),
     /// The formula's closure is too large to be checked.

@@ -10,7 +10,7 @@ pub enum Checked {
     Fails,
     /// The document shows no structure: its first bad line, and the lowest rule that this line breaks.
     Unreadable(DocFault),
-    /// This state, the least such one, has no edge, where the logic wants each state to have one.
+    /// This state, the least such one, has no edge by `_`, where the logic wants each state to have one.
     NotTotal(u32),
     /// The formula's closure is too large to be checked.
     ClosureTooLarge,

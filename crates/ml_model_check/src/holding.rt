@@ -1,34 +1,36 @@
 // Whether a problem holds at a state of a structure.
-ghost use Rattle.std.specs.Prelude.{◌↔◌, ◌<◌, ℕ, IfOk, IsErrOf, IsTrue};
+ghost use Rattle.std.specs.Prelude.{◌↔◌, ◌<◌, ℕ, IfOk, OnOk, IsErrOf, IsTrue};
 ghost use Rattle.ml_graph.specs.CheckingGame.{Holds};
+ghost use Rattle.ml_front.specs.Graphs.{HasLargeClosure};
 ghost use Rattle.ml_front.specs.Logics.{logic_of};
-ghost use Rattle.ml_front.specs.Problems.{HoldsAs, HoldsAt, IsAdmitted};
+ghost use Rattle.ml_front.specs.Problems.{HoldsAs, HoldsAt, IsAdmitted, IsFirstDeadlock};
 ghost use Rattle.ml_front.specs.declared.problem.AnyFormula.TheVariants.{Mu};
 
 use crate::check_refusal::CheckRefusal;
+use crate::deadlock::first_deadlock;
 use ml_base::NoMemory;
-use ml_front::{AnyFormula, Problem, graph};
+use ml_front::{AnyFormula, MOST_NODES, Problem, graph};
 use ml_graph::{BlockRefusal, ModalGraph, checking_game};
 use ml_kripke::Structure;
 use ml_mu::{Formula, Term};
 use ml_parity::{Player, solve};
 use std::alloc::Global;
 
-// How many nodes a closure has at most.
-const MOST_NODES: u32 = 4_096;
-
-// Up to so many binders one inside the other the meaning of a formula is computed as it is defined; past them, where the
-// iterates of inner binders multiply with those of outer ones, the checking game is solved.
+// Up to so many binders one inside the other the meaning of a formula is computed as it is defined; past them, where
+// the iterates of inner binders multiply with those of outer ones, the checking game is solved.
 const MOST_NESTED: u32 = 2;
 
 /// Does a problem hold at this state of a structure?
 ///
 /// # Errors
-/// `NoMemory` alone, so far.
+/// `NotTotal` exactly where the problem's logic wants an edge by `_` from each state and some state has none, with the
+/// least such state. `ClosureTooLarge` exactly where the logic speaks of the structure and the problem's closure has
+/// more than 4,096 nodes. So neither comes in the mu-calculus and in PDL. `NoMemory`.
 ///
 /// Cost: a formula of the mu-calculus with at most two binders one inside the other costs what `ml_mu::evaluate` does;
-/// one with more, or of PDL, what `ml_parity::solve` does on a game with twice as many vertices as there are pairs of a
-/// state and an occurrence. No call is nested deeper than the formula, which has at most 1,000 occurrences.
+/// each other problem what `ml_front::graph` does, and what `ml_parity::solve` does on a game with a vertex for each
+/// pair of a state and a node of the graph. No call is nested deeper than the formula, which has at most 1,000
+/// occurrences.
 pub fn holds(
     alloc: Global,
     problem: &Problem,
@@ -37,11 +39,33 @@ pub fn holds(
 ) -> Result<bool, CheckRefusal>
     requires { state < structure.now.states }
     ensures holds { IfOk result (λ holds. IsTrue holds ↔ HoldsAt structure.now state problem.now) }
-    ensures total { (s : ℕ) → ¬ (IsErrOf result (CheckRefusal.NotTotal s)) }
-    ensures fits { ¬ (IsErrOf result CheckRefusal.ClosureTooLarge) }
+    ensures admitted { OnOk result (IsAdmitted (logic_of problem.now.formula) structure.now) }
+    ensures closed { OnOk result (¬ (HasLargeClosure problem.now MOST_NODES)) }
+    ensures total { (s : ℕ) → IsErrOf result (CheckRefusal.NotTotal s)
+        → IsFirstDeadlock (logic_of problem.now.formula) structure.now s }
+    ensures fits { IsErrOf result CheckRefusal.ClosureTooLarge
+        → IsAdmitted (logic_of problem.now.formula) structure.now × HasLargeClosure problem.now MOST_NODES }
 {
-    // whoever asks a structure for its states learns what its type keeps
-    let _states = structure.states();
+    match first_deadlock(alloc, &problem.formula, structure)? {
+        Some(dead) => Err(CheckRefusal::NotTotal(dead)),
+        None => holds_where_admitted(alloc, problem, structure, state),
+    }
+}
+
+// on a structure of which the problem's logic speaks
+fn holds_where_admitted(
+    alloc: Global,
+    problem: &Problem,
+    structure: &Structure,
+    state: u32,
+) -> Result<bool, CheckRefusal>
+    requires state { state < structure.now.states }
+    requires admitted { IsAdmitted (logic_of problem.now.formula) structure.now }
+    ensures holds { IfOk result (λ holds. IsTrue holds ↔ HoldsAt structure.now state problem.now) }
+    ensures closed { OnOk result (¬ (HasLargeClosure problem.now MOST_NODES)) }
+    ensures total { (s : ℕ) → ¬ (IsErrOf result (CheckRefusal.NotTotal s)) }
+    ensures fits { IsErrOf result CheckRefusal.ClosureTooLarge → HasLargeClosure problem.now MOST_NODES }
+{
     match &problem.formula {
         AnyFormula::Mu(formula) => {
             if nests_deeper(formula.root(), MOST_NESTED) {
@@ -51,7 +75,9 @@ pub fn holds(
                 Ok(holds)
             }
         }
-        AnyFormula::Pdl(_) => holds_by_game(alloc, problem, structure, state),
+        AnyFormula::Pdl(_) | AnyFormula::Ctl(_) | AnyFormula::Ltl(_) => {
+            holds_by_game(alloc, problem, structure, state)
+        }
     }
 }
 
@@ -80,8 +106,9 @@ fn holds_by_game(
     requires state { state < structure.now.states }
     requires admitted { IsAdmitted (logic_of problem.now.formula) structure.now }
     ensures holds { IfOk result (λ holds. IsTrue holds ↔ HoldsAt structure.now state problem.now) }
+    ensures closed { OnOk result (¬ (HasLargeClosure problem.now MOST_NODES)) }
     ensures total { (s : ℕ) → ¬ (IsErrOf result (CheckRefusal.NotTotal s)) }
-    ensures fits { ¬ (IsErrOf result CheckRefusal.ClosureTooLarge) }
+    ensures fits { IsErrOf result CheckRefusal.ClosureTooLarge → HasLargeClosure problem.now MOST_NODES }
 {
     let graph = match graph(alloc, problem, MOST_NODES) {
         Ok(graph) => graph,

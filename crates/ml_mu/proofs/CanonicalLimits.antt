@@ -1,7 +1,6 @@
 -- The canonical text of a formula passes no limit that the formula doesn't pass.
 --
 --   tokens_short  == the tokens of the canonical text of a formula with short names are short
---   no_long       == so none of its items is a name that is too long
 --   few_open      == it opens at most as many parentheses as its formula has occurrences
 use Rattle.std.proofs.Common.{◌≡◌, ℕ, zero, suc, ◌+◌, ◌≤◌, Bool, true, false, ◌&&◌, nat_lt, List, [], ◌∷◌, length, map, take, Option, Some, None, cond, codes, bytes_eq, refl, sym, ap, ◌∙◌, arith, ltb-true}
 use Rattle.std.specs.List.{AllByRecursion}
@@ -17,6 +16,8 @@ use Rattle.ml_text.specs.declared.limits.Bracket.{Bracket}
 use Rattle.ml_text.specs.declared.limits.Bracket.TheVariants.{Opening, Closing, Neither}
 use Rattle.ml_base.specs.Name.{longest_name}
 use Rattle.ml_text.specs.Items.{is_word}
+use Rattle.ml_text.proofs.Pieces.{lone}
+use Rattle.ml_text.proofs.TableItems.{IsShort, short_word, opening, opens_spelt, one_of}
 use Rattle.ml_text.proofs.Scans.{Spelt, spelt_at}
 use Rattle.ml_mu.specs.Formula as plain
 use Rattle.ml_mu.specs.Formula.{Formula, Modality, Diamond, Square, Fixpoint, Least, Greatest, occurrences, weight}
@@ -24,21 +25,10 @@ use Rattle.ml_mu.specs.Canonical.{spelling_of, fixpoint_word}
 use Rattle.ml_mu.specs.Spelling.{is_proposition, is_variable}
 use Rattle.ml_mu.specs.Signs.{Sign, Lower, Upper, Unknown, word_sign, word_sign_by}
 use Rattle.ml_mu.specs.Text.{bracket_of, items_from, sign_at, silences}
-use Rattle.ml_mu.proofs.CanonicalTexts.{action_tokens, begin_byte, end_byte, lone, tokens_onto, sign_spelt}
-use Rattle.ml_mu.proofs.Names.{token_length}
+use Rattle.ml_mu.proofs.CanonicalTexts.{action_tokens, begin_byte, end_byte, tokens_onto, sign_spelt}
 use Rattle.ml_mu.specs.Spelling.{HasShortNames}
 
 -- ---- the tokens of a canonical text are short
-
-abbrev pub IsShort : Spelt → Type 0
-IsShort s = (is_word s.0 && nat_lt longest_name (length s.1)) ≡ false
-
-short_word : (w : List ℕ) → length w ≤ 64 → IsShort (token.Word, w)
-short_word w short = go (nat_lt 64 (length w)) refl
-  where
-    go : (b : Bool) → nat_lt 64 (length w) ≡ b → nat_lt 64 (length w) ≡ false
-    go false is = is
-    go true is = absurd (omega (arith, ltb-true 64 (length w) is, short))
 
 fixpoint_short : (q : Fixpoint) → IsShort (token.Word, fixpoint_word q)
 fixpoint_short Least = refl
@@ -64,53 +54,20 @@ tokens_short (plain.Modal m a f) short ss all =
 tokens_short (plain.Binder q x f) short ss all =
     (refl, (fixpoint_short q, (short_word x short.0, (refl, tokens_short f short.1 (lone 41 ∷ ss) (refl, all)))))
 
-pub no_long : (text : List ℕ) (i : ℕ) (silent : Bool) (ps : List Placed) → AreTokens AnyLetter text i ps → AllByRecursion IsShort (map (spelt_at text) ps)
-    → (k : ℕ) → is_long_at (items_from text silent ps) k ≡ true → ⊥
-no_long text i silent [] are all k long = absurd (cc)
-no_long text i silent (p ∷ ps) are all zero long =
-    let size = token_length text p.start p.end (omega (arith, are.0.some)) are.0.fits in
-    let short = ap (λ n. is_word p.token && nat_lt longest_name n) (sym size) ∙ all.0 in absurd (cc)
-no_long text i silent (p ∷ ps) are all (suc k) long = no_long text p.end (silences (sign_at text p)) ps are.1 all.1 k long
-
 -- ---- parentheses
 
-abbrev pub opening : Bracket → ℕ
-opening Opening = 1
-opening _ = 0
+abbrev pub opens_of : List Spelt → ℕ
+opens_of ss = opens_spelt (λ s. bracket_of (sign_spelt s)) ss
 
-abbrev pub opens : List (Item Sign) → ℕ
-opens [] = 0
-opens (i ∷ is) = opening i.bracket + opens is
-
-abbrev pub opens_spelt : List Spelt → ℕ
-opens_spelt [] = 0
-opens_spelt (s ∷ ss) = opening (bracket_of (sign_spelt s)) + opens_spelt ss
-
-one_open : (b : Bracket) (n : ℕ) → open_behind_one b n ≤ n + opening b
-one_open Opening n = omega arith
-one_open Closing n = omega arith
-one_open Neither n = omega arith
-
-pub open_most : (is : List (Item Sign)) (n k : ℕ) → open_from n (take k is) ≤ n + opens is
-open_most [] n zero = omega arith
-open_most [] n (suc k) = omega arith
-open_most (i ∷ is) n zero = omega arith
-open_most (i ∷ is) n (suc k) = omega (arith, open_most is (open_behind_one i.bracket n) k, one_open i.bracket n)
-
-pub opens_items : (text : List ℕ) (silent : Bool) (ps : List Placed) → opens (items_from text silent ps) ≡ opens_spelt (map (spelt_at text) ps)
-opens_items text silent [] = refl
-opens_items text silent (p ∷ ps) = ap (λ n. opening (bracket_of (sign_at text p)) + n) (opens_items text (silences (sign_at text p)) ps)
-
-closed_by : (b : Bool) (s t : Sign) → opening (bracket_of s) ≡ 0 → opening (bracket_of t) ≡ 0 → opening (bracket_of (cond b s t)) ≡ 0
-closed_by true s t x y = x
-closed_by false s t x y = y
+abbrev IsClosed : Sign → Type 0
+IsClosed s = opening (bracket_of s) ≡ 0
 
 closed_word_by : (o : Option Bool) (w : List ℕ) → opening (bracket_of (word_sign_by o w)) ≡ 0
 closed_word_by (Some b) w = refl
 closed_word_by None w =
-    closed_by (bytes_eq w (codes "mu")) _ _ refl
-    (closed_by (bytes_eq w (codes "nu")) _ _ refl
-    (closed_by (is_proposition w) (Lower w) (cond (is_variable w) (Upper w) Unknown) refl (closed_by (is_variable w) (Upper w) Unknown refl refl)))
+    one_of IsClosed (bytes_eq w (codes "mu")) _ _ refl
+    (one_of IsClosed (bytes_eq w (codes "nu")) _ _ refl
+    (one_of IsClosed (is_proposition w) (Lower w) (cond (is_variable w) (Upper w) Unknown) refl (one_of IsClosed (is_variable w) (Upper w) Unknown refl refl)))
 
 closed_word : (w : List ℕ) → opening (bracket_of (word_sign w)) ≡ 0
 closed_word w = closed_word_by (constant_of w) w
@@ -123,10 +80,10 @@ closed_end : (m : Modality) → opening (bracket_of (sign_spelt (lone (end_byte 
 closed_end Diamond = refl
 closed_end Square = refl
 
-closed_action : (a : List ℕ) (ss : List Spelt) → opens_spelt (action_tokens a ss) ≡ opens_spelt ss
+closed_action : (a : List ℕ) (ss : List Spelt) → opens_of (action_tokens a ss) ≡ opens_of ss
 closed_action a ss = go (bytes_eq a (codes "_"))
   where
-    go : (b : Bool) → opens_spelt (cond b ss ((token.Word, a) ∷ ss)) ≡ opens_spelt ss
+    go : (b : Bool) → opens_of (cond b ss ((token.Word, a) ∷ ss)) ≡ opens_of ss
     go true = refl
     go false = omega (arith, closed_word a)
 
@@ -136,7 +93,7 @@ weight_some operator.Implies = omega arith
 weight_some operator.Or = omega arith
 weight_some operator.And = omega arith
 
-pub few_open : (f : Formula) (ss : List Spelt) → opens_spelt (tokens_onto f ss) ≤ occurrences f + opens_spelt ss
+pub few_open : (f : Formula) (ss : List Spelt) → opens_of (tokens_onto f ss) ≤ occurrences f + opens_of ss
 few_open (plain.Const true) ss = omega (arith, closed_word (codes "tt"))
 few_open (plain.Const false) ss = omega (arith, closed_word (codes "ff"))
 few_open (plain.Prop p) ss = omega (arith, closed_word p)

@@ -1,62 +1,38 @@
 -- The canonical text of a well-formed formula is parsed as it.
 --
---   no_syntax         == what stands for a formula is no fault of the grammar
---   canonical_keeps   == the canonical text of a small formula with short names keeps all limits
+--   canonical_accepted == the text keeps all limits
 --   canonical_parsed  == that of a well-formed formula is parsed as it
-use Rattle.std.proofs.Common.{◌≡◌, ℕ, ◌+◌, ◌≤◌, Bool, true, false, nat_lt, List, [], ◌++◌, length, take, drop, refl, sym, ap, subst, ◌∙◌, arith, ltb-false, ltb-true}
-use Rattle.std.specs.List.{AllByRecursion}
-use Rattle.std.proofs.lemmas.List.{map-append, take-append-drop}
-use Rattle.std.proofs.lemmas.List.Sums.{sum_by-take-le}
+use Rattle.std.proofs.Common.{◌≡◌, false, [], refl, arith}
 use Rattle.ml_text.specs.declared.token.WordStart.TheVariants.{AnyLetter}
 use Rattle.ml_text.specs.Tokens.{tokens}
-use Rattle.ml_text.specs.Refusals.{Item, Cause, Syntax, TooMany, TooNested, NameTooLong, signs_of, IsFault, most_occurrences}
-use Rattle.ml_text.proofs.Cover.{are_tokens}
-use Rattle.ml_mu.specs.Formula.{Formula, occurrences}
+use Rattle.ml_text.specs.Refusals.{signs_of, IsAccepted}
+use Rattle.ml_text.proofs.AcceptedTexts.{accepted}
+use Rattle.ml_mu.specs.Formula.{Formula}
 use Rattle.ml_mu.specs.Canonical.{canonical_text}
 use Rattle.ml_mu.specs.Grammar.{IsReadAs}
 use Rattle.ml_mu.specs.Parsing.{CanonicalIsParsed}
-use Rattle.ml_mu.specs.Spelling.{is_spelled}
-use Rattle.ml_mu.specs.Signs.{Sign}
-use Rattle.ml_mu.specs.Text.{items}
-use Rattle.ml_mu.proofs.CanonicalTexts.{canonical_tokens, canonical_stands}
+use Rattle.ml_mu.specs.Text.{bracket_of, mu_signs, items}
+use Rattle.ml_mu.proofs.CanonicalTexts.{canonical_tokens, canonical_stands, sign_spelt, tokens_onto}
 use Rattle.ml_mu.proofs.Counting.{counts, counted_items}
-use Rattle.ml_mu.specs.Spelling.{HasShortNames}
-use Rattle.ml_mu.proofs.CanonicalLimits.{few_open, no_long, open_most, opens_items, opens_spelt, tokens_short, IsShort}
+use Rattle.ml_mu.specs.WellFormed.{IsWellFormed}
+use Rattle.ml_mu.proofs.CanonicalLimits.{few_open, tokens_short}
 use Rattle.ml_mu.proofs.FaultFree.{well_fine}
 
--- what stands for a formula is no fault of the grammar
-no_syntax : (is : List (Item Sign)) (f : Formula) → IsReadAs (signs_of is) f → (k : ℕ) → IsFault IsReadAs Syntax is k → ⊥
-no_syntax is f stands k fault = go (nat_lt k (length is)) refl
-  where
-    go : (b : Bool) → nat_lt k (length is) ≡ b → ⊥
-    go true below =
-        let split : signs_of (take (k + 1) is) ++ signs_of (drop (k + 1) is) ≡ signs_of is =
-        sym (map-append (λ i. i.sign) (take (k + 1) is) (drop (k + 1) is)) ∙ ap signs_of (take-append-drop (k + 1) is) in
-        fault.ends (ltb-true k (length is) below) (signs_of (drop (k + 1) is), f, subst (λ ts. IsReadAs ts f) (sym split) stands)
-    go false past = fault.is_none (omega (arith, fault.within, ltb-false k (length is) past)) f stands
-
-canonical_keeps : (f : Formula) → is_spelled f ≡ true → HasShortNames f → occurrences f ≤ most_occurrences → (c : Cause) (k : ℕ) → IsFault IsReadAs c (items (canonical_text f)) k → ⊥
-unfolding tokens
-canonical_keeps f spelled short small Syntax k fault = no_syntax (items (canonical_text f)) f (canonical_stands f spelled) k fault
-canonical_keeps f spelled short small TooMany k fault =
+canonical_accepted : (f : Formula) → IsWellFormed f → IsAccepted IsReadAs (items (canonical_text f)) f
+canonical_accepted f well =
     let text = canonical_text f in
-    let of_signs = counted_items text false (tokens AnyLetter text) in
-    let of_formula = counts (canonical_stands f spelled) in
-    omega (arith, sum_by-take-le (λ (i : Item Sign). i.weight) (items text) (k + 1), of_signs, of_formula, small, fault.passes)
-canonical_keeps f spelled short small TooNested k fault =
-    let text = canonical_text f in
-    let of_tokens = opens_items text false (tokens AnyLetter text) ∙ ap opens_spelt (canonical_tokens f spelled) in
-    omega (arith, open_most (items text) 0 (k + 1), of_tokens, few_open f [], small, fault.passes)
-canonical_keeps f spelled short small NameTooLong k long =
-    let text = canonical_text f in
-    no_long text 0 false (tokens AnyLetter text) (are_tokens AnyLetter text 0)
-    (subst (AllByRecursion IsShort) (sym (canonical_tokens f spelled)) (tokens_short f short [] tt)) k long
+    let read = canonical_stands f well.names_are_spelled in
+    accepted mu_signs IsReadAs text f (λ s. bracket_of (sign_spelt s)) (tokens_onto f []) (record {
+      tokens_are = canonical_tokens f well.names_are_spelled;
+      brackets = λ p. refl;
+      stands = read;
+      few = omega (arith, counted_items text false (tokens AnyLetter text), counts read, well.is_small);
+      flat = omega (arith, few_open f [], well.is_small);
+      short = tokens_short f well.names_are_short [] tt;
+    })
 
 pub canonical_parsed : CanonicalIsParsed
 canonical_parsed f well = record {
-  accepted = record {
-    stands = canonical_stands f well.names_are_spelled;
-    keeps = canonical_keeps f well.names_are_spelled well.names_are_short well.is_small;
-  };
+  accepted = canonical_accepted f well;
   fine = well_fine f well.variables_are_bound well.variables_are_positive;
 }

@@ -18,7 +18,11 @@ use Rattle.ml_text.specs.declared.token.Placed.{Placed}
 use Rattle.ml_text.specs.Tokens.{tokens}
 use Rattle.ml_text.specs.Words.{constant_of}
 use Rattle.ml_text.specs.Refusals.{signs_of}
-use Rattle.ml_text.proofs.Scans.{Spelt, spelt_at, Scans, ends, blank, piece, scans_tokens}
+use Rattle.ml_text.proofs.ByteKinds.{differs_by}
+use Rattle.ml_text.proofs.Pieces as pieces
+use Rattle.ml_text.proofs.Pieces.{lone, lone_piece, less_piece, not_piece, and_piece, or_piece, implies_piece, iff_piece, ends_word}
+use Rattle.ml_text.proofs.Scans.{Spelt, spelt_at, Scans, ends, blank, scans_tokens}
+use Rattle.ml_text.proofs.TableItems.{signs_spelt}
 use Rattle.ml_mu.specs.Formula as plain
 use Rattle.ml_mu.specs.Formula.{Formula, Modality, Diamond, Square, Fixpoint, Least, Greatest}
 use Rattle.ml_mu.specs.Canonical.{spelling_of, action_text, modality_text, fixpoint_word, canonical_text}
@@ -28,8 +32,7 @@ use Rattle.ml_mu.specs.Grammar as grammar
 use Rattle.ml_mu.specs.Grammar.{Reads, iff_alone, iff, imp_alone, imp, or_alone, or, and_alone, and, negation, modal, modal_blank, binder, group, constant, proposition, variable}
 use Rattle.ml_mu.proofs.GrammarTables.{un_raised}
 use Rattle.ml_mu.proofs.Spelled.{letters, upper_letters}
-use Rattle.ml_mu.specs.Text.{items_from, items, silences, sign_at, IsTextOf}
-use Rattle.ml_mu.proofs.CanonicalPieces.{byte_front, close_front, not_front, dot_front, more_front, square_front, square_end, less_more, and_front, or_front, imp_front, iff_front, less_letter, ends_word, word_piece, one_byte}
+use Rattle.ml_mu.specs.Text.{mu_signs, items, IsTextOf}
 use Rattle.ml_mu.proofs.WordSigns.{proposition_sign, variable_sign, action_sign, ActionSign}
 
 -- ---- the tokens of a canonical text
@@ -45,9 +48,6 @@ abbrev pub end_byte : Modality → ℕ
 end_byte Diamond = 62
 end_byte Square = 93
 
-abbrev pub lone : ℕ → Spelt
-lone b = (token.Byte b, b ∷ [])
-
 abbrev pub tokens_onto : Formula → List Spelt → List Spelt
 tokens_onto (plain.Const true) ss = (token.Word, codes "tt") ∷ ss
 tokens_onto (plain.Const false) ss = (token.Word, codes "ff") ∷ ss
@@ -60,23 +60,42 @@ tokens_onto (plain.Binder q x f) ss = lone 40 ∷ (token.Word, fixpoint_word q) 
 
 -- ` op ` in front of a text
 operator_piece : (o : Operator) (rest : List ℕ) (ss : List Spelt) → Scans AnyLetter rest ss → Scans AnyLetter (codes " " ++ (spelling_of o ++ (codes " " ++ rest))) ((token.Operator o, spelling_of o) ∷ ss)
-operator_piece operator.And rest ss r = blank 32 refl (piece (token.Operator operator.And) 38 [] refl (and_front rest) (blank 32 refl r))
-operator_piece operator.Or rest ss r = blank 32 refl (piece (token.Operator operator.Or) 124 [] refl (or_front rest) (blank 32 refl r))
-operator_piece operator.Implies rest ss r = blank 32 refl (piece (token.Operator operator.Implies) 45 (62 ∷ []) refl (imp_front rest) (blank 32 refl r))
-operator_piece operator.Iff rest ss r = blank 32 refl (piece (token.Operator operator.Iff) 60 (45 ∷ 62 ∷ []) refl (iff_front rest) (blank 32 refl r))
+operator_piece operator.And = and_piece AnyLetter
+operator_piece operator.Or = or_piece AnyLetter
+operator_piece operator.Implies = implies_piece AnyLetter
+operator_piece operator.Iff = iff_piece AnyLetter
 
-end_piece : (m : Modality) (rest : List ℕ) (ss : List Spelt) → Scans AnyLetter rest ss → Scans AnyLetter (end_byte m ∷ rest) (lone (end_byte m) ∷ ss)
-end_piece Diamond rest ss r = one_byte 62 rest ss refl (more_front rest) r
-end_piece Square rest ss r = one_byte 93 rest ss refl (square_end rest) r
+word_piece : (w rest : List ℕ) (ss : List Spelt)
+    → is_word_from is_letter w ≡ true
+    → ends_word rest ≡ true
+    → Scans AnyLetter rest ss
+    → Scans AnyLetter (w ++ rest) ((token.Word, w) ∷ ss)
+word_piece [] rest ss word stops r = absurd (cc)
+word_piece (b ∷ bs) rest ss word stops r =
+    let parts = and_parts (is_letter b) (list_all is_word_byte bs) word in
+    pieces.word_piece AnyLetter b bs rest ss parts.0 parts.1 stops r
 
-begin_blank : (m : Modality) (rest : List ℕ) (ss : List Spelt) → Scans AnyLetter (end_byte m ∷ rest) ss → Scans AnyLetter (begin_byte m ∷ end_byte m ∷ rest) (lone (begin_byte m) ∷ ss)
-begin_blank Diamond rest ss r = one_byte 60 (62 ∷ rest) ss refl (less_more rest) r
-begin_blank Square rest ss r = one_byte 91 (93 ∷ rest) ss refl (square_front (93 ∷ rest)) r
+end_piece : (m : Modality) (rest : List ℕ) (ss : List Spelt)
+    → Scans AnyLetter rest ss
+    → Scans AnyLetter (end_byte m ∷ rest) (lone (end_byte m) ∷ ss)
+end_piece Diamond rest ss r = lone_piece AnyLetter 62 rest ss refl r
+end_piece Square rest ss r = lone_piece AnyLetter 93 rest ss refl r
 
-begin_word : (m : Modality) (a rest : List ℕ) (ss : List Spelt) → is_word_from is_letter a ≡ true → Scans AnyLetter (a ++ rest) ss → Scans AnyLetter (begin_byte m ∷ (a ++ rest)) (lone (begin_byte m) ∷ ss)
+begin_blank : (m : Modality) (rest : List ℕ) (ss : List Spelt)
+    → Scans AnyLetter (end_byte m ∷ rest) ss
+    → Scans AnyLetter (begin_byte m ∷ end_byte m ∷ rest) (lone (begin_byte m) ∷ ss)
+begin_blank Diamond rest ss r = less_piece AnyLetter 62 rest ss refl refl r
+begin_blank Square rest ss r = lone_piece AnyLetter 91 (93 ∷ rest) ss refl r
+
+begin_word : (m : Modality) (a rest : List ℕ) (ss : List Spelt)
+    → is_word_from is_letter a ≡ true
+    → Scans AnyLetter (a ++ rest) ss
+    → Scans AnyLetter (begin_byte m ∷ (a ++ rest)) (lone (begin_byte m) ∷ ss)
 begin_word m [] rest ss word r = absurd (cc)
-begin_word Diamond (b ∷ bs) rest ss word r = one_byte 60 (b ∷ (bs ++ rest)) ss refl (less_letter b (bs ++ rest) (and_parts (is_letter b) (list_all is_word_byte bs) word).0) r
-begin_word Square (b ∷ bs) rest ss word r = one_byte 91 (b ∷ (bs ++ rest)) ss refl (square_front (b ∷ (bs ++ rest))) r
+begin_word Diamond (b ∷ bs) rest ss word r =
+    let letter = (and_parts (is_letter b) (list_all is_word_byte bs) word).0 in
+    less_piece AnyLetter b (bs ++ rest) ss (differs_by is_letter 45 b refl letter) (differs_by is_letter 61 b refl letter) r
+begin_word Square (b ∷ bs) rest ss word r = lone_piece AnyLetter 91 (b ∷ (bs ++ rest)) ss refl r
 
 end_stops : (m : Modality) (rest : List ℕ) → ends_word (end_byte m ∷ rest) ≡ true
 end_stops Diamond rest = refl
@@ -113,15 +132,17 @@ scans_formula (plain.Const true) is rest ss stops r = word_piece (codes "tt") re
 scans_formula (plain.Const false) is rest ss stops r = word_piece (codes "ff") rest ss refl stops r
 scans_formula (plain.Prop p) is rest ss stops r = word_piece p rest ss (letters p (and_parts (is_word_from is_lower p) (not (is_reserved p)) is).0) stops r
 scans_formula (plain.Var x) is rest ss stops r = word_piece x rest ss (upper_letters x is) stops r
-scans_formula (plain.Not f) is rest ss stops r = piece token.Not 33 [] refl (not_front (canonical_text f ++ rest)) (scans_formula f is rest ss stops r)
+scans_formula (plain.Not f) is rest ss stops r =
+    not_piece AnyLetter (canonical_text f ++ rest) (tokens_onto f ss) (scans_formula f is rest ss stops r)
 scans_formula (plain.Binary o f g) is rest ss stops r =
     let parts = and_parts (is_spelled f) (is_spelled g) is in
-    let right = scans_formula g parts.1 (41 ∷ rest) (lone 41 ∷ ss) refl (one_byte 41 rest ss refl (close_front rest) r) in
+    let right = scans_formula g parts.1 (41 ∷ rest) (lone 41 ∷ ss) refl (lone_piece AnyLetter 41 rest ss refl r) in
     let sign = operator_piece o (canonical_text g ++ (41 ∷ rest)) (tokens_onto g (lone 41 ∷ ss)) right in
     let after = codes " " ++ (spelling_of o ++ (codes " " ++ (canonical_text g ++ (41 ∷ rest)))) in
     let left = scans_formula f parts.0 after ((token.Operator o, spelling_of o) ∷ tokens_onto g (lone 41 ∷ ss)) refl sign in
     subst (λ text. Scans AnyLetter text (tokens_onto (plain.Binary o f g) ss)) (sym (binary_same (canonical_text f) (spelling_of o) (canonical_text g) rest))
-    (one_byte 40 (canonical_text f ++ after) (tokens_onto f ((token.Operator o, spelling_of o) ∷ tokens_onto g (lone 41 ∷ ss))) refl (byte_front (canonical_text f ++ after)) left)
+    (lone_piece AnyLetter 40 (canonical_text f ++ after)
+    (tokens_onto f ((token.Operator o, spelling_of o) ∷ tokens_onto g (lone 41 ∷ ss))) refl left)
 scans_formula (plain.Modal m a f) is rest ss stops r =
     let parts = and_parts (is_action a) (is_spelled f) is in
     subst (λ text. Scans AnyLetter text (tokens_onto (plain.Modal m a f) ss))
@@ -129,14 +150,15 @@ scans_formula (plain.Modal m a f) is rest ss stops r =
     (modal_piece m a (canonical_text f ++ rest) (tokens_onto f ss) parts.0 (scans_formula f parts.1 rest ss stops r))
 scans_formula (plain.Binder q x f) is rest ss stops r =
     let parts = and_parts (is_variable x) (is_spelled f) is in
-    let body = scans_formula f parts.1 (41 ∷ rest) (lone 41 ∷ ss) refl (one_byte 41 rest ss refl (close_front rest) r) in
+    let body = scans_formula f parts.1 (41 ∷ rest) (lone 41 ∷ ss) refl (lone_piece AnyLetter 41 rest ss refl r) in
     let text = canonical_text f ++ (41 ∷ rest) in
     let toks = tokens_onto f (lone 41 ∷ ss) in
-    let dot = one_byte 46 (32 ∷ text) toks refl (dot_front (32 ∷ text)) (blank 32 refl body) in
+    let dot = lone_piece AnyLetter 46 (32 ∷ text) toks refl (blank 32 refl body) in
     let name = word_piece x (46 ∷ 32 ∷ text) (lone 46 ∷ toks) (upper_letters x parts.0) refl dot in
     let word = word_piece (fixpoint_word q) (32 ∷ (x ++ (46 ∷ 32 ∷ text))) ((token.Word, x) ∷ lone 46 ∷ toks) (fixpoint_letters q) refl (blank 32 refl name) in
     subst (λ text. Scans AnyLetter text (tokens_onto (plain.Binder q x f) ss)) (sym (binder_same (fixpoint_word q) x (canonical_text f) rest))
-    (one_byte 40 (fixpoint_word q ++ (32 ∷ (x ++ (46 ∷ 32 ∷ text)))) ((token.Word, fixpoint_word q) ∷ (token.Word, x) ∷ lone 46 ∷ toks) refl (byte_front (fixpoint_word q ++ (32 ∷ (x ++ (46 ∷ 32 ∷ text))))) word)
+    (lone_piece AnyLetter 40 (fixpoint_word q ++ (32 ∷ (x ++ (46 ∷ 32 ∷ text))))
+    ((token.Word, fixpoint_word q) ∷ (token.Word, x) ∷ lone 46 ∷ toks) refl word)
 
 -- ---- reading them
 
@@ -211,10 +233,6 @@ reads_formula (plain.Binder q x f) is ss =
 
 -- ---- the text
 
-signs_spelt : (text : List ℕ) (silent : Bool) (ps : List Placed) → signs_of (items_from text silent ps) ≡ map sign_spelt (map (spelt_at text) ps)
-signs_spelt text silent [] = refl
-signs_spelt text silent (p ∷ ps) = ap (λ ts. sign_at text p ∷ ts) (signs_spelt text (silences (sign_at text p)) ps)
-
 pub canonical_tokens : (f : Formula) → is_spelled f ≡ true → map (spelt_at (canonical_text f)) (tokens AnyLetter (canonical_text f)) ≡ tokens_onto f []
 canonical_tokens f is =
     let text = canonical_text f in
@@ -224,5 +242,6 @@ canonical_tokens f is =
 pub canonical_stands : (f : Formula) → is_spelled f ≡ true → IsTextOf (canonical_text f) f
 canonical_stands f is =
     let text = canonical_text f in
-    let signs_are : signs_of (items text) ≡ map sign_spelt (tokens_onto f []) = signs_spelt text false (tokens AnyLetter text) ∙ ap (map sign_spelt) (canonical_tokens f is) in
+    let signs_are : signs_of (items text) ≡ map sign_spelt (tokens_onto f []) =
+    signs_spelt mu_signs sign_spelt text (λ p. refl) false (tokens AnyLetter text) ∙ ap (map sign_spelt) (canonical_tokens f is) in
     subst (λ ts. Reads grammar.Iff ts f []) (sym signs_are) (un_raised grammar.Iff (reads_formula f is []))

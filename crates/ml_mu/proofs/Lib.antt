@@ -26,8 +26,6 @@ pub mod Evaluation
 pub mod Inclusion
 -- a meaning has one flag for each state
 pub mod MeaningFlags
--- the pieces of canonical texts
-pub mod CanonicalPieces
 -- the signs that words are
 pub mod WordSigns
 -- canonical texts

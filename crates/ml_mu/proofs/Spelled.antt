@@ -4,7 +4,7 @@
 --   items_spelled   == the signs of a text are spelled
 --   reads_spelled   == a formula that is read from spelled signs is spelled
 use Rattle.std.proofs.Common.{◌≡◌, ℕ, Bool, true, false, ◌&&◌, List, [], ◌∷◌, Option, Some, None, refl, ap, subst, cond, codes}
-use Rattle.std.specs.List.{list_all}
+use Rattle.std.specs.List.{AllByRecursion, list_all}
 use Rattle.std.specs.Prelude.{◌||◌, not, bytes_eq, ◌⊎◌}
 use Rattle.std.proofs.Common.{⊎_elim}
 use Rattle.std.proofs.lemmas.Bool.{and_from, and_parts, or_left, or_right, not_from_false, cases_Bool}
@@ -17,6 +17,7 @@ use Rattle.ml_text.specs.declared.token.Token.TheVariants as token
 use Rattle.ml_text.specs.declared.token.Placed.{Placed}
 use Rattle.ml_text.specs.Words.{constant_of}
 use Rattle.ml_text.specs.Refusals.{signs_of}
+use Rattle.ml_text.proofs.TableItems.{one_of, signs_all}
 use Rattle.ml_mu.specs.Formula as plain
 use Rattle.ml_mu.specs.Formula.{Formula, occurrences, weight}
 use Rattle.ml_mu.specs.Signs.{Sign, Connective, Blank, Lower, Upper, Unknown, action_of, sign_of, byte_sign, word_sign_by}
@@ -24,7 +25,7 @@ use Rattle.ml_mu.specs.Grammar as grammar
 use Rattle.ml_mu.specs.Grammar.{Reads, iff_alone, iff, imp_alone, imp, or_alone, or, and_alone, and, negation, modal, modal_blank, binder, group, constant, proposition, variable}
 use Rattle.ml_mu.specs.Spelling.{is_proposition, is_variable, is_action, is_spelled, is_word_from, is_reserved}
 use Rattle.ml_text.specs.Items.{bytes_of}
-use Rattle.ml_mu.specs.Text.{silences, sign_at, items_from}
+use Rattle.ml_mu.specs.Text.{mu_signs, items_from}
 
 -- ---- spelled names
 
@@ -34,17 +35,12 @@ IsSpelledSign (Upper x) = is_variable x ≡ true
 IsSpelledSign _ = Unit {0}
 
 abbrev pub AreSpelled : List Sign → Type 0
-AreSpelled [] = Unit {0}
-AreSpelled (t ∷ ts) = IsSpelledSign t × AreSpelled ts
+AreSpelled ts = AllByRecursion IsSpelledSign ts
 
 spelled_by : (w : List ℕ) (a b : Bool) → is_proposition w ≡ a → is_variable w ≡ b → IsSpelledSign (cond a (Lower w) (cond b (Upper w) Unknown))
 spelled_by w true b x y = x
 spelled_by w false true x y = y
 spelled_by w false false x y = tt
-
-one_of : (P : Sign → Type 0) (b : Bool) (x y : Sign) → P x → P y → P (cond b x y)
-one_of P true x y p q = p
-one_of P false x y p q = q
 
 spelled_word : (w : List ℕ) (o : Option Bool) → IsSpelledSign (word_sign_by o w)
 spelled_word w (Some b) = tt
@@ -70,8 +66,8 @@ spelled_sign (token.Byte b) bytes = spelled_byte b
 spelled_sign token.Word bytes = spelled_word bytes (constant_of bytes)
 
 pub items_spelled : (text : List ℕ) (silent : Bool) (ps : List Placed) → AreSpelled (signs_of (items_from text silent ps))
-items_spelled text silent [] = tt
-items_spelled text silent (p ∷ ps) = (spelled_sign p.token (bytes_of text p), items_spelled text (silences (sign_at text p)) ps)
+items_spelled text silent ps =
+    signs_all mu_signs IsSpelledSign text (λ p. spelled_sign p.token (bytes_of text p)) silent ps
 
 -- ---- formulas
 

@@ -6,27 +6,23 @@
 --   action_sign       == the sign of an action other than `_`
 use Rattle.std.proofs.Common.{◌≡◌, ℕ, suc, ◌+◌, ◌≤◌, ◌⊎◌, Bool, true, false, ◌&&◌, ◌||◌, ◌==◌, not, List, [], ◌∷◌, ◌++◌, length, map, take, drop, take_while, Option, Some, None, refl, sym, ◌∙◌, ap, subst, arith, if◌then◌else◌, cond, codes, append_assoc, bytes_eq, ⊎_elim, inl, inr, unwrap_or}
 use Rattle.std.specs.List.{list_all, list_any, prefix_len}
-use Rattle.std.proofs.lemmas.Bool.{and_from, and_parts, or_parts, or_from, or_cases, or_left, or_right, not_from_false, cases_Bool, cond-true, cond-false}
+use Rattle.std.proofs.lemmas.Bool.{and_from, and_parts, or_parts, or_from, or_cases, or_left, or_right, not_from_false, not-true, cases_Bool, cond-true, cond-false}
 use Rattle.ml_text.specs.Bytes.{is_lower, is_upper, is_letter, is_word_byte}
 use Rattle.ml_text.specs.Words.{constant_of}
+use Rattle.ml_text.proofs.ByteKinds.{upper-no_lower}
+use Rattle.ml_text.proofs.ReservedWords.{free_parts}
 use Rattle.ml_mu.specs.Signs.{Lower, Upper, Unknown, action_of, word_sign, word_sign_by, name_sign}
 use Rattle.ml_mu.specs.Spelling.{is_proposition, is_variable, is_action, is_word_from, is_reserved}
 use Rattle.ml_mu.proofs.Spelled.{unreserved}
 
-pub from_not : (b : Bool) → not b ≡ true → b ≡ false
-from_not true is = absurd (cc)
-from_not false is = refl
-
-pub unreserved_parts : (w : List ℕ) → is_reserved w ≡ false → (constant_of w ≡ None) × ((bytes_eq w (codes "mu") ≡ false) × (bytes_eq w (codes "nu") ≡ false))
-unfolding constant_of
+pub unreserved_parts : (w : List ℕ)
+    → is_reserved w ≡ false
+    → (constant_of w ≡ None) × ((bytes_eq w (codes "mu") ≡ false) × (bytes_eq w (codes "nu") ≡ false))
 unreserved_parts w is =
-    let a = or_parts (bytes_eq w (codes "tt")) _ is in
-    let b = or_parts (bytes_eq w (codes "true")) _ a.1 in
-    let c = or_parts (bytes_eq w (codes "ff")) _ b.1 in
-    let d = or_parts (bytes_eq w (codes "false")) _ c.1 in
-    let e = or_parts (bytes_eq w (codes "mu")) _ d.1 in
-    let f = or_parts (bytes_eq w (codes "nu")) _ e.1 in
-    (simp (a.0, b.0, c.0, d.0), (e.0, f.0))
+    let parts = free_parts w (codes "mu" ∷ codes "nu" ∷ []) is in
+    let a = or_parts (bytes_eq w (codes "mu")) _ parts.1 in
+    let b = or_parts (bytes_eq w (codes "nu")) _ a.1 in
+    (parts.0, (a.0, b.0))
 
 pub name_word : (w : List ℕ) → is_reserved w ≡ false → word_sign w ≡ name_sign w
 name_word w is =
@@ -38,20 +34,13 @@ name_word w is =
 pub proposition_sign : (p : List ℕ) → is_proposition p ≡ true → word_sign p ≡ Lower p
 proposition_sign p is =
     let parts = and_parts (is_word_from is_lower p) (not (is_reserved p)) is in
-    name_word p (from_not (is_reserved p) parts.1) ∙ cond-true (is_proposition p) (Lower p) _ is
-
--- an upper-case letter is no lower-case one
-pub no_lower : (b : ℕ) → is_upper b ≡ true → is_lower b ≡ false
-no_lower b upper =
-    let parts = and_parts (Rattle.std.specs.Prelude.nat_le 65 b) (Rattle.std.specs.Prelude.nat_le b 90) upper in
-    let below = Rattle.std.proofs.Common.leb-true b 90 parts.1 in
-    Rattle.std.proofs.lemmas.Bool.and_left (Rattle.std.specs.Prelude.nat_le 97 b) (Rattle.std.specs.Prelude.nat_le b 122) (Rattle.std.proofs.lemmas.Bool.lt-leb 97 b (omega arith))
+    name_word p (not-true (is_reserved p) parts.1) ∙ cond-true (is_proposition p) (Lower p) _ is
 
 pub no_proposition : (x : List ℕ) → is_variable x ≡ true → is_proposition x ≡ false
 no_proposition [] is = absurd (cc)
 no_proposition (b ∷ bs) is =
     let parts = and_parts (is_upper b) (list_all is_word_byte bs) is in
-    let first = Rattle.std.proofs.lemmas.Bool.and_left (is_lower b) (list_all is_word_byte bs) (no_lower b parts.0) in
+    let first = Rattle.std.proofs.lemmas.Bool.and_left (is_lower b) (list_all is_word_byte bs) (upper-no_lower b parts.0) in
     Rattle.std.proofs.lemmas.Bool.and_left (is_lower b && list_all is_word_byte bs) (not (is_reserved (b ∷ bs))) first
 
 pub variable_sign : (x : List ℕ) → is_variable x ≡ true → word_sign x ≡ Upper x
@@ -77,7 +66,7 @@ action_cases (b ∷ bs) word free =
 pub action_sign : (a : List ℕ) → is_action a ≡ true → bytes_eq a (codes "_") ≡ false → ActionSign a
 action_sign a is other =
     let word_parts = and_parts (is_word_from is_letter a) (not (is_reserved a)) (or_other (bytes_eq a (codes "_")) (is_word_from is_letter a && not (is_reserved a)) is other) in
-    record { word = word_parts.0; action = action_cases a word_parts.0 (from_not (is_reserved a) word_parts.1) }
+    record { word = word_parts.0; action = action_cases a word_parts.0 (not-true (is_reserved a) word_parts.1) }
   where
     or_other : (x y : Bool) → (x || y) ≡ true → x ≡ false → y ≡ true
     or_other true y is no_x = absurd (cc)

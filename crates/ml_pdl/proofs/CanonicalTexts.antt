@@ -20,7 +20,10 @@ use Rattle.ml_text.specs.declared.token.Placed.{Placed}
 use Rattle.ml_text.specs.Tokens.{tokens}
 use Rattle.ml_text.specs.Words.{constant_of}
 use Rattle.ml_text.specs.Refusals.{signs_of}
-use Rattle.ml_text.proofs.Scans.{Spelt, spelt_at, Scans, ends, blank, piece, scans_tokens}
+use Rattle.ml_text.proofs.ByteKinds.{differs_by}
+use Rattle.ml_text.proofs.Pieces as pieces
+use Rattle.ml_text.proofs.Pieces.{lone, lone_piece, less_piece, not_piece, and_piece, or_piece, implies_piece, iff_piece, ends_word}
+use Rattle.ml_text.proofs.Scans.{Spelt, spelt_at, Scans, ends, blank, scans_tokens}
 use Rattle.ml_pdl.specs.Formula as plain
 use Rattle.ml_pdl.specs.Formula.{Formula, Program, Modality, Diamond, Square}
 use Rattle.ml_pdl.specs.Canonical.{spelling_of, whole_program, modality_text, canonical_text, program_text}
@@ -35,13 +38,9 @@ use Rattle.ml_pdl.proofs.FromTables.{un_raised}
 use Rattle.ml_pdl.proofs.MarkBytes.{neutral_test, neutral_word, weaker}
 use Rattle.ml_pdl.proofs.MarkedTexts.{marks_are_of_texts}
 use Rattle.ml_pdl.proofs.Spelled.{letters}
-use Rattle.ml_pdl.proofs.CanonicalPieces.{open_front, close_front, star_front, plus_front, semicolon_front, more_front, question_front, square_front, square_end, blank_front, not_front, and_front, or_front, imp_front, iff_front, less_front, no_letter, ends_word, word_piece, one_byte}
 use Rattle.ml_pdl.proofs.WordSigns.{proposition_sign, action_sign, ActionSign}
 
 -- ---- the tokens of a canonical text
-
-abbrev pub lone : ℕ → Spelt
-lone b = (token.Byte b, b ∷ [])
 
 abbrev pub begin_byte : Modality → ℕ
 begin_byte Diamond = 60
@@ -101,18 +100,26 @@ whole_cases (plain.Test f) = inr (record { text = λ t. refl; toks = λ own afte
 -- ` op ` in front of a text
 operator_piece : (o : Operator) (rest : List ℕ) (ss : List Spelt) → Scans AnyLetter rest ss
     → Scans AnyLetter (codes " " ++ (spelling_of o ++ (codes " " ++ rest))) ((token.Operator o, spelling_of o) ∷ ss)
-operator_piece operator.And rest ss r =
-    blank 32 refl (piece (token.Operator operator.And) 38 [] refl (and_front rest) (blank 32 refl r))
-operator_piece operator.Or rest ss r =
-    blank 32 refl (piece (token.Operator operator.Or) 124 [] refl (or_front rest) (blank 32 refl r))
-operator_piece operator.Implies rest ss r =
-    blank 32 refl (piece (token.Operator operator.Implies) 45 (62 ∷ []) refl (imp_front rest) (blank 32 refl r))
-operator_piece operator.Iff rest ss r =
-    blank 32 refl (piece (token.Operator operator.Iff) 60 (45 ∷ 62 ∷ []) refl (iff_front rest) (blank 32 refl r))
+operator_piece operator.And = and_piece AnyLetter
+operator_piece operator.Or = or_piece AnyLetter
+operator_piece operator.Implies = implies_piece AnyLetter
+operator_piece operator.Iff = iff_piece AnyLetter
 
-end_piece : (m : Modality) (rest : List ℕ) (ss : List Spelt) → Scans AnyLetter rest ss → Scans AnyLetter (end_byte m ∷ rest) (lone (end_byte m) ∷ ss)
-end_piece Diamond rest ss r = one_byte 62 rest ss refl (more_front rest) r
-end_piece Square rest ss r = one_byte 93 rest ss refl (square_end rest) r
+word_piece : (w rest : List ℕ) (ss : List Spelt)
+    → is_word_from is_letter w ≡ true
+    → ends_word rest ≡ true
+    → Scans AnyLetter rest ss
+    → Scans AnyLetter (w ++ rest) ((token.Word, w) ∷ ss)
+word_piece [] rest ss word stops r = absurd (cc)
+word_piece (b ∷ bs) rest ss word stops r =
+    let parts = and_parts (is_letter b) (list_all is_word_byte bs) word in
+    pieces.word_piece AnyLetter b bs rest ss parts.0 parts.1 stops r
+
+end_piece : (m : Modality) (rest : List ℕ) (ss : List Spelt)
+    → Scans AnyLetter rest ss
+    → Scans AnyLetter (end_byte m ∷ rest) (lone (end_byte m) ∷ ss)
+end_piece Diamond rest ss r = lone_piece AnyLetter 62 rest ss refl r
+end_piece Square rest ss r = lone_piece AnyLetter 93 rest ss refl r
 
 end_stops : (m : Modality) (rest : List ℕ) → ends_word (end_byte m ∷ rest) ≡ true
 end_stops Diamond rest = refl
@@ -127,17 +134,22 @@ record Starts (text : List ℕ) : Type 0 where
   no_equals : (61 == first) ≡ false
 
 begin_piece : (m : Modality) (text : List ℕ) (ss : List Spelt) → Starts text → Scans AnyLetter text ss → Scans AnyLetter (begin_byte m ∷ text) (lone (begin_byte m) ∷ ss)
-begin_piece Square text ss s r = one_byte 91 text ss refl (square_front text) r
+begin_piece Square text ss s r = lone_piece AnyLetter 91 text ss refl r
 begin_piece Diamond text ss s r =
     subst (λ t. Scans AnyLetter (60 ∷ t) (lone 60 ∷ ss)) (sym s.is)
-    (one_byte 60 (s.first ∷ s.more) ss refl (less_front s.first s.more s.no_dash s.no_equals)
-    (subst (λ t. Scans AnyLetter t ss) s.is r))
+    (less_piece AnyLetter s.first s.more ss s.no_dash s.no_equals (subst (λ t. Scans AnyLetter t ss) s.is r))
 
 word_starts : (a rest : List ℕ) → is_word_from is_letter a ≡ true → Starts (a ++ rest)
 word_starts [] rest word = absurd (cc)
 word_starts (b ∷ bs) rest word =
     let letter = (and_parts (is_letter b) (list_all is_word_byte bs) word).0 in
-    record { first = b; more = bs ++ rest; is = refl; no_dash = no_letter 45 b letter refl; no_equals = no_letter 61 b letter refl }
+    record {
+      first = b;
+      more = bs ++ rest;
+      is = refl;
+      no_dash = differs_by is_letter 45 b refl letter;
+      no_equals = differs_by is_letter 61 b refl letter;
+    }
 
 open_starts : (text : List ℕ) → Starts (40 ∷ text)
 open_starts text = record { first = 40; more = text; is = refl; no_dash = refl; no_equals = refl }
@@ -166,7 +178,7 @@ action_piece a rest ss is stops r =
     ⊎_elim
     (λ (any : bytes_eq a (codes "_") ≡ true).
     subst (λ b. Scans AnyLetter (b ++ rest) (action_token b ∷ ss)) (sym ((bytes_eq-Decides a (codes "_")).0 any))
-    (one_byte 95 rest ss refl (blank_front rest) r))
+    (lone_piece AnyLetter 95 rest ss refl r))
     (λ (other : bytes_eq a (codes "_") ≡ false).
     let s : ActionSign a = action_sign a is other in
     subst (λ t. Scans AnyLetter (a ++ rest) (t ∷ ss)) (sym (cond-false (bytes_eq a (codes "_")) (lone 95) (token.Word, a) other))
@@ -200,17 +212,18 @@ blank_scans Square f rest ss r =
     (record { first = 93; more = f ++ rest; is = refl; no_dash = refl; no_equals = refl }) (end_piece Square (f ++ rest) ss r)
 
 close_piece : (rest : List ℕ) (ss : List Spelt) → Scans AnyLetter rest ss → Scans AnyLetter (41 ∷ rest) (lone 41 ∷ ss)
-close_piece rest ss r = one_byte 41 rest ss refl (close_front rest) r
+close_piece rest ss r = lone_piece AnyLetter 41 rest ss refl r
 
 open_piece : (rest : List ℕ) (ss : List Spelt) → Scans AnyLetter rest ss → Scans AnyLetter (40 ∷ rest) (lone 40 ∷ ss)
-open_piece rest ss r = one_byte 40 rest ss refl (open_front rest) r
+open_piece rest ss r = lone_piece AnyLetter 40 rest ss refl r
 
 mutual
   pub scans_formula : (f : Formula) → is_spelled f ≡ true → (rest : List ℕ) (ss : List Spelt) → ends_word rest ≡ true → Scans AnyLetter rest ss → Scans AnyLetter (canonical_text f ++ rest) (tokens_onto f ss)
   scans_formula (plain.Const true) is rest ss stops r = word_piece (codes "tt") rest ss refl stops r
   scans_formula (plain.Const false) is rest ss stops r = word_piece (codes "ff") rest ss refl stops r
   scans_formula (plain.Prop p) is rest ss stops r = word_piece p rest ss (letters p (and_parts (is_word_from is_lower p) (not (is_reserved p)) is).0) stops r
-  scans_formula (plain.Not f) is rest ss stops r = piece token.Not 33 [] refl (not_front (canonical_text f ++ rest)) (scans_formula f is rest ss stops r)
+  scans_formula (plain.Not f) is rest ss stops r =
+      not_piece AnyLetter (canonical_text f ++ rest) (tokens_onto f ss) (scans_formula f is rest ss stops r)
   scans_formula (plain.Binary o f g) is rest ss stops r =
       let parts = and_parts (is_spelled f) (is_spelled g) is in
       let right = scans_formula g parts.1 (41 ∷ rest) (lone 41 ∷ ss) refl (close_piece rest ss r) in
@@ -248,7 +261,7 @@ mutual
       let right = scans_program q parts.1 (41 ∷ rest) (lone 41 ∷ ss) refl (close_piece rest ss r) in
       let after = program_text q ++ (41 ∷ rest) in
       let toks = program_onto q (lone 41 ∷ ss) in
-      let sign = one_byte 59 after toks refl (semicolon_front after) right in
+      let sign = lone_piece AnyLetter 59 after toks refl right in
       subst (λ text. Scans AnyLetter text (program_onto (plain.Seq p q) ss)) (sym (joined_same (program_text p) (codes ";") (program_text q) rest))
       (open_piece (program_text p ++ (59 ∷ after)) (program_onto p (lone 59 ∷ toks)) (scans_program p parts.0 (59 ∷ after) (lone 59 ∷ toks) refl sign))
   scans_program (plain.Alt p q) is rest ss stops r =
@@ -256,14 +269,14 @@ mutual
       let right = scans_program q parts.1 (41 ∷ rest) (lone 41 ∷ ss) refl (close_piece rest ss r) in
       let after = program_text q ++ (41 ∷ rest) in
       let toks = program_onto q (lone 41 ∷ ss) in
-      let sign = one_byte 43 after toks refl (plus_front after) right in
+      let sign = lone_piece AnyLetter 43 after toks refl right in
       subst (λ text. Scans AnyLetter text (program_onto (plain.Alt p q) ss)) (sym (joined_same (program_text p) (codes "+") (program_text q) rest))
       (open_piece (program_text p ++ (43 ∷ after)) (program_onto p (lone 43 ∷ toks)) (scans_program p parts.0 (43 ∷ after) (lone 43 ∷ toks) refl sign))
   scans_program (plain.Star p) is rest ss stops r =
       subst (λ text. Scans AnyLetter text (program_onto p (lone 42 ∷ ss))) (sym (append_assoc (program_text p) (codes "*") rest))
-      (scans_program p is (42 ∷ rest) (lone 42 ∷ ss) refl (one_byte 42 rest ss refl (star_front rest) r))
+      (scans_program p is (42 ∷ rest) (lone 42 ∷ ss) refl (lone_piece AnyLetter 42 rest ss refl r))
   scans_program (plain.Test f) is rest ss stops r =
-      let sign = one_byte 63 rest ss refl (question_front rest) r in
+      let sign = lone_piece AnyLetter 63 rest ss refl r in
       let close = close_piece (63 ∷ rest) (lone 63 ∷ ss) sign in
       subst (λ text. Scans AnyLetter text (program_onto (plain.Test f) ss)) (sym (test_same (canonical_text f) rest))
       (open_piece (canonical_text f ++ (41 ∷ 63 ∷ rest)) (tokens_onto f (lone 41 ∷ lone 63 ∷ ss)) (scans_formula f is (41 ∷ 63 ∷ rest) (lone 41 ∷ lone 63 ∷ ss) refl close))

@@ -36,8 +36,6 @@ pub mod Parsed
 pub mod OneAnswer
 -- the signs of a text are marked
 pub mod MarkedTexts
--- the pieces of canonical texts
-pub mod CanonicalPieces
 -- the signs that words are
 pub mod WordSigns
 -- canonical texts

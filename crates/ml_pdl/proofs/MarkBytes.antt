@@ -21,6 +21,7 @@ use Rattle.ml_text.specs.declared.token.Token.TheVariants as token
 use Rattle.ml_text.specs.declared.token.WordStart.TheVariants.{AnyLetter}
 use Rattle.ml_text.specs.declared.token.Placed.{Placed}
 use Rattle.ml_text.proofs.ByteKinds.{begins_word-letter, letter-word_byte}
+use Rattle.ml_text.proofs.TableItems.{one_of}
 use Rattle.ml_text.proofs.Spelling.{IsByte, spells_by, signs_all}
 use Rattle.ml_text.proofs.Longest.{front_token-longest}
 use Rattle.ml_text.proofs.Scan.{tokens_at-blank, tokens_at-token, tokens_at-end}
@@ -61,10 +62,6 @@ neutral_asks (Open k) ts is = absurd is
 neutral_asks Close ts is = absurd is
 neutral_asks Question ts is = absurd is
 neutral_asks _ ts is = refl
-
-one_of : (P : Sign → Type 0) (b : Bool) (x y : Sign) → P x → P y → P (cond b x y)
-one_of P true x y p q = p
-one_of P false x y p q = q
 
 neutral_name : (w : List ℕ) → IsNeutral (name_sign w)
 neutral_name w = one_of IsNeutral (is_proposition w) _ _ tt (one_of IsNeutral (is_word_from Rattle.ml_text.specs.Bytes.is_upper w) _ _ tt tt)

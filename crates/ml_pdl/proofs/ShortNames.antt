@@ -3,7 +3,7 @@
 --   AreShort ts  == no name among the signs is longer than the limit
 --   text_short   == the formulas of texts without long names have none
 use Rattle.std.proofs.Common.{◌≡◌, ℕ, suc, ◌-◌, ◌≤◌, Bool, true, false, ◌&&◌, nat_lt, nat_le, List, [], ◌∷◌, length, Some, codes, refl, ap, arith, leb-true}
-use Rattle.std.specs.List.{list_all}
+use Rattle.std.specs.List.{AllByRecursion}
 use Rattle.std.specs.Char.{is_ascii_alphabetic}
 use Rattle.std.proofs.lemmas.Bool.{and_parts}
 use Rattle.ml_base.specs.Name.{is_name, is_name_byte}
@@ -17,14 +17,16 @@ use Rattle.ml_text.specs.Refusals.{NameTooLong, signs_of, is_long_at, IsAccepted
 use Rattle.ml_base.specs.Name.{longest_name}
 use Rattle.ml_text.specs.Items.{is_word, bytes_of}
 use Rattle.ml_text.proofs.Cover.{are_tokens}
+use Rattle.ml_text.proofs.TableItems.{signs_short}
+use Rattle.ml_text.proofs.WordNames.{name_length}
 use Rattle.ml_pdl.specs.Formula as plain
 use Rattle.ml_pdl.specs.Formula.{Formula, Program}
 use Rattle.ml_pdl.specs.Grammar as grammar
 use Rattle.ml_pdl.specs.Grammar.{IsReadAs, Reads, iff_alone, iff, imp_alone, imp, or_alone, or, and_alone, and, negation, modal, modal_blank, repetition, group, constant, proposition, ReadsProgram, alt_alone, alt, seq_alone, seq, star_alone, star, action, test, program_group, ReadsTested, tested_negation, tested_constant, tested_proposition, tested_group}
 use Rattle.ml_pdl.specs.Signs.{Sign, Lower, Upper, Blank, HasShortName, action_of}
 use Rattle.ml_pdl.specs.Marks.{is_test_behind}
-use Rattle.ml_pdl.specs.Text.{items, items_from, sign_at, sign_by, signs_behind, begins_modality}
-use Rattle.ml_pdl.proofs.Names.{short_mark, short_name, token_length}
+use Rattle.ml_pdl.specs.Text.{pdl_signs, items, sign_at, sign_by, signs_behind}
+use Rattle.ml_pdl.proofs.Names.{short_mark, short_name}
 use Rattle.ml_pdl.specs.Spelling.{HasShortNames, ProgramHasShortNames}
 
 abbrev ShortSign : Sign → Type 0
@@ -33,18 +35,11 @@ ShortSign (Upper x) = length x ≤ 64
 ShortSign _ = Unit {0}
 
 abbrev AreShort : List Sign → Type 0
-AreShort [] = Unit {0}
-AreShort (t ∷ ts) = ShortSign t × AreShort ts
-
-is_short : (w : List ℕ) → is_name w ≡ true → length w ≤ 64
-is_short [] is = absurd (cc)
-is_short (b ∷ bs) is =
-    leb-true (length (b ∷ bs)) 64
-    (and_parts (is_ascii_alphabetic b && list_all is_name_byte bs) (nat_le (length (b ∷ bs)) 64) is).1
+AreShort ts = AllByRecursion ShortSign ts
 
 short_sign : (s : Sign) → HasShortName s → ShortSign s
-short_sign (Lower p) short = is_short p short
-short_sign (Upper x) short = is_short x short
+short_sign (Lower p) short = name_length p short
+short_sign (Upper x) short = name_length x short
 short_sign _ short = tt
 
 short_action : (s : Sign) (a : List ℕ) → action_of s ≡ Some a → ShortSign s → length a ≤ 64
@@ -95,20 +90,16 @@ mutual
   tested_short (tested_group k r) is = let x = reads_short r is.1 in (x.0, (x.1).1)
 
 -- the signs of a text without long names
-signs_short : (text : List ℕ) (i : ℕ) (silent : Bool) (ps : List Placed) → AreTokens AnyLetter text i ps
-    → ((k : ℕ) → is_long_at (items_from text silent ps) k ≡ true → ⊥) → AreShort (signs_of (items_from text silent ps))
-signs_short text i silent [] are none = tt
-signs_short text i silent (p ∷ ps) are none =
-    let size = token_length text p.start p.end (omega (arith, are.0.some)) are.0.fits in (
-      short_sign (sign_at text p) (short_mark (is_test_behind 0 (signs_behind text p.end)) (sign_by text p) (short_name p.token (bytes_of text p) (p.end - p.start) (not_long (is_word p.token && nat_lt longest_name (p.end - p.start)) (none 0)) size)),
-      signs_short text p.end (begins_modality (sign_at text p)) ps are.1 (λ k long. none (suc k) long),
-    )
-  where
-    not_long : (b : Bool) → (b ≡ true → ⊥) → b ≡ false
-    not_long true never = absurd (never refl)
-    not_long false never = refl
+text_signs : (text : List ℕ)
+    → ((k : ℕ) → is_long_at (items text) k ≡ true → ⊥)
+    → AreShort (signs_of (items text))
+unfolding tokens
+text_signs text none =
+    signs_short pdl_signs ShortSign AnyLetter text
+    (λ p short size. short_sign (sign_at text p)
+    (short_mark (is_test_behind 0 (signs_behind text p.end)) (sign_by text p)
+    (short_name p.token (bytes_of text p) (p.end - p.start) short size)))
+    0 false (tokens AnyLetter text) (are_tokens AnyLetter text 0) none
 
 pub text_short : (text : List ℕ) (f : Formula) → IsAccepted IsReadAs (items text) f → HasShortNames f
-unfolding tokens
-text_short text f accepted =
-    (reads_short accepted.stands (signs_short text 0 false (tokens AnyLetter text) (are_tokens AnyLetter text 0) (accepted.keeps NameTooLong))).0
+text_short text f accepted = (reads_short accepted.stands (text_signs text (accepted.keeps NameTooLong))).0

@@ -4,7 +4,7 @@
 --   items_spelled   == the signs of a text are spelled
 --   reads_spelled, program_spelled, tested_spelled == what is read from spelled signs is spelled
 use Rattle.std.proofs.Common.{◌≡◌, ℕ, Bool, true, false, ◌&&◌, List, [], ◌∷◌, Option, Some, None, refl, ap, subst, cond, codes}
-use Rattle.std.specs.List.{list_all}
+use Rattle.std.specs.List.{AllByRecursion, list_all}
 use Rattle.std.specs.Prelude.{◌||◌, not, bytes_eq, ◌⊎◌}
 use Rattle.std.proofs.Common.{⊎_elim}
 use Rattle.std.proofs.lemmas.Bool.{and_from, and_parts, or_left, or_right, not_from_false, cases_Bool}
@@ -17,6 +17,7 @@ use Rattle.ml_text.specs.declared.token.Token.TheVariants as token
 use Rattle.ml_text.specs.declared.token.Placed.{Placed}
 use Rattle.ml_text.specs.Words.{constant_of}
 use Rattle.ml_text.specs.Refusals.{signs_of}
+use Rattle.ml_text.proofs.TableItems.{one_of, signs_all}
 use Rattle.ml_pdl.specs.Formula as plain
 use Rattle.ml_pdl.specs.Formula.{Formula, Program}
 use Rattle.ml_pdl.specs.Signs.{Sign, Close, Blank, Lower, Upper, Unknown, Open, Mark, action_of, sign_of, byte_sign, word_sign_by}
@@ -25,7 +26,7 @@ use Rattle.ml_pdl.specs.Grammar.{Reads, iff_alone, iff, imp_alone, imp, or_alone
 use Rattle.ml_pdl.specs.Spelling.{is_proposition, is_action, is_spelled, program_is_spelled, is_word_from, is_reserved}
 use Rattle.ml_pdl.specs.Marks.{with_mark, is_test_behind}
 use Rattle.ml_text.specs.Items.{bytes_of}
-use Rattle.ml_pdl.specs.Text.{begins_modality, sign_at, sign_by, signs_behind, items_from}
+use Rattle.ml_pdl.specs.Text.{pdl_signs, sign_by, signs_behind, items_from}
 
 -- ---- spelled names
 
@@ -39,17 +40,12 @@ IsSpelledSign (Upper x) = is_variable x ≡ true
 IsSpelledSign _ = Unit {0}
 
 abbrev pub AreSpelled : List Sign → Type 0
-AreSpelled [] = Unit {0}
-AreSpelled (t ∷ ts) = IsSpelledSign t × AreSpelled ts
+AreSpelled ts = AllByRecursion IsSpelledSign ts
 
 spelled_by : (w : List ℕ) (a b : Bool) → is_proposition w ≡ a → is_variable w ≡ b → IsSpelledSign (cond a (Lower w) (cond b (Upper w) Unknown))
 spelled_by w true b x y = x
 spelled_by w false true x y = y
 spelled_by w false false x y = tt
-
-one_of : (P : Sign → Type 0) (b : Bool) (x y : Sign) → P x → P y → P (cond b x y)
-one_of P true x y p q = p
-one_of P false x y p q = q
 
 spelled_word : (w : List ℕ) (o : Option Bool) → IsSpelledSign (word_sign_by o w)
 spelled_word w (Some b) = tt
@@ -85,11 +81,9 @@ spelled_mark b (Upper p) is = is
 spelled_mark b _ is = tt
 
 pub items_spelled : (text : List ℕ) (b : Bool) (ps : List Placed) → AreSpelled (signs_of (items_from text b ps))
-items_spelled text b [] = tt
-items_spelled text b (p ∷ ps) = (
-  spelled_mark (is_test_behind 0 (signs_behind text p.end)) (sign_by text p) (spelled_sign p.token (bytes_of text p)),
-  items_spelled text (begins_modality (sign_at text p)) ps,
-)
+items_spelled text b ps =
+    signs_all pdl_signs IsSpelledSign text
+    (λ p. spelled_mark (is_test_behind 0 (signs_behind text p.end)) (sign_by text p) (spelled_sign p.token (bytes_of text p))) b ps
 
 -- ---- formulas
 

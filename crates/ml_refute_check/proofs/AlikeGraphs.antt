@@ -82,9 +82,33 @@ pub record Alike (g h : Graph) : Type 0 where
 
 back : (g h : Graph) (x y : Node) → SameNode g h x y → SameNode h g y x
 back g h x y (unnamed is u) = unnamed (sym is) (subst Unnamed is u)
-back g h x y (literal s) = literal (record { prop = s.other; other = s.prop; positive = s.positive; here = s.there; there = s.here; names = sym s.names })
-back g h x y (diamond s) = diamond (record { action = s.other; other = s.action; to = s.to; here = s.there; there = s.here; names = sym s.names })
-back g h x y (square s) = square (record { action = s.other; other = s.action; to = s.to; here = s.there; there = s.here; names = sym s.names })
+back g h x y (literal s) =
+    literal (record {
+      prop = s.other;
+      other = s.prop;
+      positive = s.positive;
+      here = s.there;
+      there = s.here;
+      names = sym s.names;
+    })
+back g h x y (diamond s) =
+    diamond (record {
+      action = s.other;
+      other = s.action;
+      to = s.to;
+      here = s.there;
+      there = s.here;
+      names = sym s.names;
+    })
+back g h x y (square s) =
+    square (record {
+      action = s.other;
+      other = s.action;
+      to = s.to;
+      here = s.there;
+      there = s.here;
+      names = sym s.names;
+    })
 
 pub alike_back : (g h : Graph) → Alike g h → Alike h g
 alike_back g h a = record {
@@ -127,7 +151,8 @@ module _ (g h : Graph) where
         there = s.there ∙ ap (node.Lit s.other) signs;
         same = ap (prop_at g) (sym props) ∙ s.names;
       }
-  literal_by x y p b (diamond s) e = let same : node.Diamond s.action s.to ≡ node.Lit p b = sym s.here ∙ e in absurd (cc)
+  literal_by x y p b (diamond s) e =
+      let same : node.Diamond s.action s.to ≡ node.Lit p b = sym s.here ∙ e in absurd (cc)
   literal_by x y p b (square s) e = let same : node.Square s.action s.to ≡ node.Lit p b = sym s.here ∙ e in absurd (cc)
 
   diamond_by : (x y : Node) (a t : ℕ) → SameNode g h x y → x ≡ node.Diamond a t
@@ -142,8 +167,10 @@ module _ (g h : Graph) where
         there = s.there ∙ ap (node.Diamond s.other) targets;
         same = ap (action_at g) (sym actions) ∙ s.names;
       }
-  diamond_by x y a t (literal s) e = let same : node.Lit s.prop s.positive ≡ node.Diamond a t = sym s.here ∙ e in absurd (cc)
-  diamond_by x y a t (square s) e = let same : node.Square s.action s.to ≡ node.Diamond a t = sym s.here ∙ e in absurd (cc)
+  diamond_by x y a t (literal s) e =
+      let same : node.Lit s.prop s.positive ≡ node.Diamond a t = sym s.here ∙ e in absurd (cc)
+  diamond_by x y a t (square s) e =
+      let same : node.Square s.action s.to ≡ node.Diamond a t = sym s.here ∙ e in absurd (cc)
 
   square_by : (x y : Node) (a t : ℕ) → SameNode g h x y → x ≡ node.Square a t
       → Named (λ q. node.Square q t) (action_at h) (action_at g a) y
@@ -157,8 +184,10 @@ module _ (g h : Graph) where
         there = s.there ∙ ap (node.Square s.other) targets;
         same = ap (action_at g) (sym actions) ∙ s.names;
       }
-  square_by x y a t (literal s) e = let same : node.Lit s.prop s.positive ≡ node.Square a t = sym s.here ∙ e in absurd (cc)
-  square_by x y a t (diamond s) e = let same : node.Diamond s.action s.to ≡ node.Square a t = sym s.here ∙ e in absurd (cc)
+  square_by x y a t (literal s) e =
+      let same : node.Lit s.prop s.positive ≡ node.Square a t = sym s.here ∙ e in absurd (cc)
+  square_by x y a t (diamond s) e =
+      let same : node.Diamond s.action s.to ≡ node.Square a t = sym s.here ∙ e in absurd (cc)
 
 module _ (g h : Graph) (a : Alike g h) where
   priority_same : (n : ℕ) → priority_at g n ≡ priority_at h n
@@ -302,9 +331,12 @@ module _ (g h : Graph) (a : Alike g h) where
   }
 
   odds_same : odd_priorities g ≡ odd_priorities h
-  odds_same = ap (λ ps. odd_priorities (record { nodes = []; priorities = ps; root = 0; props = []; actions = [] })) a.priorities
+  odds_same =
+      ap (λ ps. odd_priorities (record { nodes = []; priorities = ps; root = 0; props = []; actions = [] })) a.priorities
 
-  transition_same : (step : GoStep) (p q : AutomatonState) (acc : Bool) → HasTransition g step p q acc → HasTransition h step p q acc
+  transition_same : (step : GoStep) (p q : AutomatonState) (acc : Bool)
+      → HasTransition g step p q acc
+      → HasTransition h step p q acc
   transition_same step p q acc i = record {
     trace = i.trace;
     is_trace = trace_same step.sequent step.spread step.diamond i.trace i.is_trace;
@@ -315,7 +347,9 @@ module _ (g h : Graph) (a : Alike g h) where
   }
 
   module _ (step : GoStep) (m : Mark) (e f : traced.Entry AutomatonState) where
-    before_same : (y : ℕ) (x : traced.Item AutomatonState) → Predecessor (HasTransition g) step e y x → Predecessor (HasTransition h) step e y x
+    before_same : (y : ℕ) (x : traced.Item AutomatonState)
+        → Predecessor (HasTransition g) step e y x
+        → Predecessor (HasTransition h) step e y x
     before_same y x p = record {
       item = p.item;
       accepting = p.accepting;
@@ -324,7 +358,9 @@ module _ (g h : Graph) (a : Alike g h) where
       transition = transition_same step p.item.state x.state p.accepting p.transition;
     }
 
-    gains_same : (y : ℕ) (x : traced.Item AutomatonState) → Progress (HasTransition g) step e y x → Progress (HasTransition h) step e y x
+    gains_same : (y : ℕ) (x : traced.Item AutomatonState)
+        → Progress (HasTransition g) step e y x
+        → Progress (HasTransition h) step e y x
     unfolding before_same
     gains_same y x p = record { before = before_same y x p.before; progress = p.progress }
 
@@ -352,14 +388,21 @@ module _ (r : Refutation) (e : ℕ) (g h : Graph) (a : Alike g h) where
   abbrev C : List ℕ
   C = (entry_at r e).sequent
 
-  splits : (c : List (ℕ × Side)) (n : ℕ) → OfSpread g C c (λ sp. IsOpenOr g sp n) → OfSpread h C c (λ sp. IsOpenOr h sp n)
+  splits : (c : List (ℕ × Side)) (n : ℕ)
+      → OfSpread g C c (λ sp. IsOpenOr g sp n)
+      → OfSpread h C c (λ sp. IsOpenOr h sp n)
   splits c n k = of_spread_same g h a C c (λ sp. IsOpenOr g sp n) (λ sp. IsOpenOr h sp n) (λ sp. open_same g h a sp n) k
 
-  clashes : (c : List (ℕ × Side)) (x : ClashCause) → OfSpread g C c (λ sp. IsCause g sp x) → OfSpread h C c (λ sp. IsCause h sp x)
+  clashes : (c : List (ℕ × Side)) (x : ClashCause)
+      → OfSpread g C c (λ sp. IsCause g sp x)
+      → OfSpread h C c (λ sp. IsCause h sp x)
   clashes c x k = of_spread_same g h a C c (λ sp. IsCause g sp x) (λ sp. IsCause h sp x) (λ sp. cause_same g h a sp x) k
 
-  leaves : (c : List (ℕ × Side)) (d : ℕ) → OfSpread g C c (λ sp. IsDiamondOf g sp d) → OfSpread h C c (λ sp. IsDiamondOf h sp d)
-  leaves c d k = of_spread_same g h a C c (λ sp. IsDiamondOf g sp d) (λ sp. IsDiamondOf h sp d) (λ sp. diamond_same g h a sp d) k
+  leaves : (c : List (ℕ × Side)) (d : ℕ)
+      → OfSpread g C c (λ sp. IsDiamondOf g sp d)
+      → OfSpread h C c (λ sp. IsDiamondOf h sp d)
+  leaves c d k =
+      of_spread_same g h a C c (λ sp. IsDiamondOf g sp d) (λ sp. IsDiamondOf h sp d) (λ sp. diamond_same g h a sp d) k
 
   within : (c : List (ℕ × Side)) (d f : ℕ) → OfSpread g C c (λ sp. All (IsTarget g sp d) (entry_at r f).sequent)
       → OfSpread h C c (λ sp. All (IsTarget h sp d) (entry_at r f).sequent)
@@ -371,10 +414,16 @@ module _ (r : Refutation) (e : ℕ) (g h : Graph) (a : Alike g h) where
   traces : (c : List (ℕ × Side)) (d f : ℕ) (m : Mark) → TracesNames (entry_at r e) c d (entry_at r f) m g
       → TracesNames (entry_at r e) c d (entry_at r f) m h
   traces c d f m k =
+      let step : SpreadList → GoStep = λ sp. record {
+        sequent = C;
+        spread = sp;
+        diamond = d;
+        next = (entry_at r f).sequent;
+      } in
       of_spread_same g h a C c
-      (λ sp. NamesCondition (HasTransition g) (record { sequent = C; spread = sp; diamond = d; next = (entry_at r f).sequent }) m (entry_at r e).traces (entry_at r f).traces)
-      (λ sp. NamesCondition (HasTransition h) (record { sequent = C; spread = sp; diamond = d; next = (entry_at r f).sequent }) m (entry_at r e).traces (entry_at r f).traces)
-      (λ sp. names_same g h a (record { sequent = C; spread = sp; diamond = d; next = (entry_at r f).sequent }) m (entry_at r e).traces (entry_at r f).traces) k
+      (λ sp. NamesCondition (HasTransition g) (step sp) m (entry_at r e).traces (entry_at r f).traces)
+      (λ sp. NamesCondition (HasTransition h) (step sp) m (entry_at r e).traces (entry_at r f).traces)
+      (λ sp. names_same g h a (step sp) m (entry_at r e).traces (entry_at r f).traces) k
 
   starts : IsWellStarted r e g → IsWellStarted r e h
   starts k = record {
@@ -385,7 +434,8 @@ module _ (r : Refutation) (e : ℕ) (g h : Graph) (a : Alike g h) where
   stands : (x : traced.Item AutomatonState) → StandsIn C x g → StandsIn C x h
   stands x k = record { member = k.member; occurs = subst (λ ds. IsState ds x.state) (odds_same g h a) k.occurs }
 
-  branch_keeps : (c : List (ℕ × Side)) (d : Decision) → KeepsAll (rules r e (Decided (record { choice = c; decision = d }))) g
+  branch_keeps : (c : List (ℕ × Side)) (d : Decision)
+      → KeepsAll (rules r e (Decided (record { choice = c; decision = d }))) g
       → KeepsAll (rules r e (Decided (record { choice = c; decision = d }))) h
   branch_keeps c (Split n left right) (k, u) = (splits c n k, u)
   branch_keeps c (Clash x) (k, u) = (clashes c x k, u)
@@ -402,14 +452,16 @@ module _ (r : Refutation) (e : ℕ) (g h : Graph) (a : Alike g h) where
   abbrev b' : Alike h g
   b' = alike_back g h a
 
-  branch_broken : (c : List (ℕ × Side)) (d : Decision) (n : ℕ) → IsFirstBroken (rules r e (Decided (record { choice = c; decision = d }))) g n
+  branch_broken : (c : List (ℕ × Side)) (d : Decision) (n : ℕ)
+      → IsFirstBroken (rules r e (Decided (record { choice = c; decision = d }))) g n
       → IsFirstBroken (rules r e (Decided (record { choice = c; decision = d }))) h n
   branch_broken c (Split o left right) n (inl (is, fails)) = inl (is, λ k. fails (splits r e h g b' c o k))
   branch_broken c (Split o left right) n (inr (k, none)) = absurd none
   branch_broken c (Clash x) n (inl (is, fails)) = inl (is, λ k. fails (clashes r e h g b' c x k))
   branch_broken c (Clash x) n (inr (k, none)) = absurd none
   branch_broken c (Go d f m) n (inl (is, fails)) = inl (is, λ k. fails (leaves r e h g b' c d k))
-  branch_broken c (Go d f m) n (inr (k, inl (is, fails))) = inr (leaves r e g h a c d k, inl (is, λ w. fails (within r e h g b' c d f w)))
+  branch_broken c (Go d f m) n (inr (k, inl (is, fails))) =
+      inr (leaves r e g h a c d k, inl (is, λ w. fails (within r e h g b' c d f w)))
   branch_broken c (Go d f m) n (inr (k, inr (w, inl (is, fails)))) =
       inr (leaves r e g h a c d k, inr (within r e g h a c d f w, inl (is, λ t. fails (traces r e h g b' c d f m t))))
   branch_broken c (Go d f m) n (inr (k, inr (w, inr (t, inl (is, fails))))) =

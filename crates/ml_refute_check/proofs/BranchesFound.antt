@@ -35,7 +35,8 @@ counted_parts c (Split n l r) =
     let left = counted_parts (with_side c n Left) l in
     let right = counted_parts (with_side c n Right) r in
     let whole = ap length (map-append Decided (branches (with_side c n Left) l) (branches (with_side c n Right) r)) in
-    let sum = length-append (map Decided (branches (with_side c n Left) l)) (map Decided (branches (with_side c n Right) r)) in
+    let sum =
+    length-append (map Decided (branches (with_side c n Left) l)) (map Decided (branches (with_side c n Right) r)) in
     omega (arith, left, right, whole, sum)
 counted_parts c (Clash x) = refl
 counted_parts c (Go d f m) = refl
@@ -50,11 +51,15 @@ pub left_less : (whole l r d : Decision) (n : ℕ) → whole ≡ Split n l r →
 left_less whole l r d n is same =
     omega (arith, ap count_branches is, ap count_branches same, one_branch r)
 
-pub right_less : (whole l r d : Decision) (n : ℕ) → whole ≡ Split n l r → d ≡ r → count_branches d < count_branches whole
+pub right_less : (whole l r d : Decision) (n : ℕ)
+    → whole ≡ Split n l r
+    → d ≡ r
+    → count_branches d < count_branches whole
 right_less whole l r d n is same =
     omega (arith, ap count_branches is, ap count_branches same, one_branch l)
 
-module _ (q : Question) (e : ℕ) (nodes : List ℕ) (sp : SpreadList) (ok : IsGraph q.graph) (stands : Stands q e nodes sp) where
+module _ (q : Question) (e : ℕ) (nodes : List ℕ) (sp : SpreadList) (ok : IsGraph q.graph)
+    (stands : Stands q e nodes sp) where
   abbrev sequent : List ℕ
   sequent = (entry_at q.refutation e).sequent
 
@@ -71,13 +76,17 @@ module _ (q : Question) (e : ℕ) (nodes : List ℕ) (sp : SpreadList) (ok : IsG
   of_spread_is P o =
       subst P (one_spread q.graph ok sequent low sp.choice o.spread sp o.is_spread is_spread) o.holds
 
-  pub of_spread_fails : (P : SpreadList → Type 0) (b : Bool) → (IsTrue b ↔ P sp) → b ≡ false → ¬ (OfSpread q.graph sequent sp.choice P)
+  pub of_spread_fails : (P : SpreadList → Type 0) (b : Bool)
+      → (IsTrue b ↔ P sp)
+      → b ≡ false
+      → ¬ (OfSpread q.graph sequent sp.choice P)
   of_spread_fails P b told is = λ o. test_fails (P sp) b told is (of_spread_is P o)
 
   -- ---- splits
 
   split_parts : (n : ℕ) (l r : Decision)
-      → Decided (record { choice = sp.choice; decision = Split n l r }) ∷ (branch_parts (with_side sp.choice n Left) l ++ branch_parts (with_side sp.choice n Right) r)
+      → Decided (record { choice = sp.choice; decision = Split n l r })
+      ∷ (branch_parts (with_side sp.choice n Left) l ++ branch_parts (with_side sp.choice n Right) r)
       ≡ branch_parts sp.choice (Split n l r)
   unfolding branch_parts
   split_parts n l r =
@@ -103,11 +112,14 @@ module _ (q : Question) (e : ℕ) (nodes : List ℕ) (sp : SpreadList) (ok : IsG
     split_left left bad moved at part rule found =
         subst (λ ps. Finds q e ps (Some moved)) (split_parts n l r)
         (found_next q e (Decided (record { choice = sp.choice; decision = Split n l r }))
-        (branch_parts (with_side sp.choice n Left) l ++ branch_parts (with_side sp.choice n Right) r) bad moved part rule keeps
-        (found_before q e (branch_parts (with_side sp.choice n Left) l) (branch_parts (with_side sp.choice n Right) r) bad
+        (branch_parts (with_side sp.choice n Left) l ++ branch_parts (with_side sp.choice n Right) r) bad
+        moved part rule keeps
+        (found_before q e (branch_parts (with_side sp.choice n Left) l)
+        (branch_parts (with_side sp.choice n Right) r) bad
         (subst (λ c. Finds q e (branch_parts c l) (Some bad)) at found)))
 
-    pub split_right : (left right : List (ℕ × Side)) (bad mid moved : BadPart) (count : ℕ) → left ≡ with_side sp.choice n Left
+    pub split_right : (left right : List (ℕ × Side)) (bad mid moved : BadPart) (count : ℕ)
+        → left ≡ with_side sp.choice n Left
         → right ≡ with_side sp.choice n Right
         → count ≡ count_branches l
         → mid.part ≡ count + bad.part → mid.rule ≡ bad.rule
@@ -117,13 +129,17 @@ module _ (q : Question) (e : ℕ) (nodes : List ℕ) (sp : SpreadList) (ok : IsG
     split_right left right bad mid moved count at there counted mid_part mid_rule part rule none found =
         subst (λ ps. Finds q e ps (Some moved)) (split_parts n l r)
         (found_next q e (Decided (record { choice = sp.choice; decision = Split n l r }))
-        (branch_parts (with_side sp.choice n Left) l ++ branch_parts (with_side sp.choice n Right) r) mid moved part rule keeps
-        (found_behind q e (branch_parts (with_side sp.choice n Left) l) (branch_parts (with_side sp.choice n Right) r) bad mid
+        (branch_parts (with_side sp.choice n Left) l ++ branch_parts (with_side sp.choice n Right) r) mid
+        moved part rule keeps
+        (found_behind q e (branch_parts (with_side sp.choice n Left) l)
+        (branch_parts (with_side sp.choice n Right) r) bad mid
         (mid_part ∙ ap (λ k. k + bad.part) (counted ∙ sym (counted_parts (with_side sp.choice n Left) l))) mid_rule
         (subst (λ c. Finds q e (branch_parts c l) None) at none)
         (subst (λ c. Finds q e (branch_parts c r) (Some bad)) there found)))
 
-    pub split_kept : (left right : List (ℕ × Side)) → left ≡ with_side sp.choice n Left → right ≡ with_side sp.choice n Right
+    pub split_kept : (left right : List (ℕ × Side))
+        → left ≡ with_side sp.choice n Left
+        → right ≡ with_side sp.choice n Right
         → Finds q e (branch_parts left l) None → Finds q e (branch_parts right r) None
         → Finds q e (branch_parts sp.choice (Split n l r)) None
     split_kept left right at there none others =
@@ -152,7 +168,8 @@ module _ (q : Question) (e : ℕ) (nodes : List ℕ) (sp : SpreadList) (ok : IsG
       → Finds q e (branch_parts sp.choice (Clash x)) (Some (record { part = 0; rule = 6 }))
   clash_refused x y b named told is =
       subst (λ ps. Finds q e ps (Some (record { part = 0; rule = 6 }))) (alone (Clash x) (λ c. refl))
-      (found_first q e (Decided (record { choice = sp.choice; decision = Clash x })) [] (record { part = 0; rule = 6 }) refl
+      (found_first q e (Decided (record { choice = sp.choice; decision = Clash x })) []
+      (record { part = 0; rule = 6 }) refl
       (inl (
         refl,
         λ o. test_fails (IsCause q.graph sp y) b told is
@@ -189,20 +206,24 @@ module _ (q : Question) (e : ℕ) (nodes : List ℕ) (sp : SpreadList) (ok : IsG
         (found_first q e part [] (record { part = 0; rule = 7 }) refl
         (inl (refl, λ o. not (of_spread_is (λ s. IsDiamondOf q.graph s d) o))))
 
-    pub go_refused_8 : Leaves → ¬ Within → Finds q e (branch_parts sp.choice (Go d f m)) (Some (record { part = 0; rule = 8 }))
+    pub go_refused_8 : Leaves → ¬ Within
+        → Finds q e (branch_parts sp.choice (Go d f m)) (Some (record { part = 0; rule = 8 }))
     go_refused_8 h not =
         subst (λ ps. Finds q e ps (Some (record { part = 0; rule = 8 }))) (alone (Go d f m) (λ c. refl))
         (found_first q e part [] (record { part = 0; rule = 8 }) refl (inr (leaves h, inl (refl, not))))
 
-    pub go_refused_9 : Leaves → Within → ¬ Names → Finds q e (branch_parts sp.choice (Go d f m)) (Some (record { part = 0; rule = 9 }))
+    pub go_refused_9 : Leaves → Within → ¬ Names
+        → Finds q e (branch_parts sp.choice (Go d f m)) (Some (record { part = 0; rule = 9 }))
     go_refused_9 h w not =
         subst (λ ps. Finds q e ps (Some (record { part = 0; rule = 9 }))) (alone (Go d f m) (λ c. refl))
         (found_first q e part [] (record { part = 0; rule = 9 }) refl (inr (leaves h, inr (w, inl (refl, not)))))
 
-    pub go_refused_10 : Leaves → Within → Names → ¬ Falls → Finds q e (branch_parts sp.choice (Go d f m)) (Some (record { part = 0; rule = 10 }))
+    pub go_refused_10 : Leaves → Within → Names → ¬ Falls
+        → Finds q e (branch_parts sp.choice (Go d f m)) (Some (record { part = 0; rule = 10 }))
     go_refused_10 h w n not =
         subst (λ ps. Finds q e ps (Some (record { part = 0; rule = 10 }))) (alone (Go d f m) (λ c. refl))
-        (found_first q e part [] (record { part = 0; rule = 10 }) refl (inr (leaves h, inr (w, inr (n, inl (refl, not))))))
+        (found_first q e part [] (record { part = 0; rule = 10 }) refl
+        (inr (leaves h, inr (w, inr (n, inl (refl, not))))))
 
   -- ---- one side more
 

@@ -230,7 +230,8 @@ module _ (g : Graph) (sp : SpreadList) where
         (λ h.
         let is_node = All-member (λ n. n < size g) C low t.from h in
         some_member Leaves (d ∷ sp.nodes)
-        (λ e inside. decided_both (decided_walk g sp.choice ok t.from t.lowest e is_node) (decided_leads_out d e t.to))))
+        (λ e inside. decided_both (decided_walk g sp.choice ok t.from t.lowest e is_node)
+        (decided_leads_out d e t.to))))
       where
         Leaves : ℕ → Type 0
         Leaves e = LocalWalk g sp.choice t.from t.lowest e × LeadsOut g sp d e t.to

@@ -4,7 +4,8 @@
 -- diamond, along which the strategy takes an edge: the sequent of the next entry is won at the target of this edge, and
 -- each transition of the step is a piece of a play that follows the strategy.
 --
---   Plays letter t u  == each transition of the step is a walk from the state t to the state u that follows the strategy
+--   Plays letter t u  == each transition of the step is a walk from the state t to the state u that follows the
+--                        strategy
 --   Leads e t         == what the entry e leads to at the state t
 --   agrees_with       == a choice with the side more that the strategy takes agrees with it
 --   leads_on          == an entry that is won at a state leads to one that is won at a state
@@ -281,7 +282,8 @@ module _ (board : Board) where
               won_target n target =
                   let here = won_leaving keeps.1.0.spread keeps.1.0.is_spread target.leaving n target.leads in
                   let sp = keeps.1.0.spread in
-                  let next = leaves_to t d is.0 is.1.0 t_low won_d is.1.1 edge sp target.leaving n here.is_node target.leads in
+                  let next =
+                  leaves_to t d is.0 is.1.0 t_low won_d is.1.1 edge sp target.leaving n here.is_node target.leads in
                   record {
                     is_node = next.is_node;
                     wins = won_behind (checking_game g m) Even board.strategy (at t target.leaving)
@@ -301,10 +303,12 @@ module _ (board : Board) where
               play p q accepting a =
                   let sp = keeps.1.1.0.spread in
                   let here = won_leaving sp keeps.1.1.0.is_spread a.is_trace.leaving a.trace.to a.is_trace.leads in
-                  let next = leaves_to t d is.0 is.1.0 t_low won_d is.1.1 edge sp a.is_trace.leaving a.trace.to here.is_node
+                  let next =
+                  leaves_to t d is.0 is.1.0 t_low won_d is.1.1 edge sp a.is_trace.leaving a.trace.to here.is_node
                   a.is_trace.leads in
                   let local = subst
-                  (λ x. LocalWalk g x a.trace.from a.trace.lowest a.is_trace.leaving) keeps.1.1.0.is_spread.choice a.is_trace.walk in
+                  (λ x. LocalWalk g x a.trace.from a.trace.lowest a.is_trace.leaving) keeps.1.1.0.is_spread.choice
+                  a.is_trace.walk in
                   let walk = walk_to board c t t_low agrees a.trace.from a.trace.lowest a.is_trace.leaving
                   (won a.trace.from a.is_trace.from).is_node local (at edge.state a.trace.to) next.move in
                   subst (λ x. Walk board (at t x) a.trace.lowest (at edge.state q.node)) (sym a.begins)
@@ -332,9 +336,11 @@ module _ (board : Board) where
                   (at t at_or.holds.is_open.right ≡ board.strategy (at t n))
                   → Leads e t
               of_taken (inl taken) = on_left
-                  (agrees_with c t n at_or.holds.is_open.left at_or.holds.is_open.right Left agrees at_or.holds.is_open.is_or taken)
+                  (agrees_with c t n at_or.holds.is_open.left at_or.holds.is_open.right Left agrees
+                  at_or.holds.is_open.is_or taken)
               of_taken (inr taken) = on_right
-                  (agrees_with c t n at_or.holds.is_open.left at_or.holds.is_open.right Right agrees at_or.holds.is_open.is_or taken)
+                  (agrees_with c t n at_or.holds.is_open.left at_or.holds.is_open.right Right agrees
+                  at_or.holds.is_open.is_or taken)
       descend (Clash x) c agrees decided keeps =
           let clash = (keeps (record { choice = c; decision = Clash x }) (inl refl)).0 in
           absurd (no_clash board c t t_low agrees clash.spread clash.is_spread.choice

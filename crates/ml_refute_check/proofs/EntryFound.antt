@@ -1,7 +1,8 @@
 -- What checking the parts of an entry before its decision finds.
 --
 --   item_told, items_more, items_first, items_all == items, one by one
---   start_told, live_told  == the tests of the sequent and of the names in use tell exactly whether their rules are kept
+--   start_told, live_told  == the tests of the sequent and of the names in use tell exactly whether their rules are
+--                             kept
 --   front_refused_2, front_refused_3, front_later, front_kept == what is found of the three together
 --   live_low        == the names of an entry's items are in use
 --   ascending_again, start_stands == the sequent of an entry as a set, and its spread
@@ -49,7 +50,10 @@ module _ (q : Question) (e : ℕ) where
       member = subst (IsMember a.node) nodes_are both.0;
       occurs = subst (λ ds. IsGuess ds a.odd) odds_are both.1;
     },
-    λ s. told.1 (subst (IsMember a.node) (sym nodes_are) s.member, subst (λ ds. IsGuess ds a.odd) (sym odds_are) s.occurs),
+    λ s. told.1 (
+      subst (IsMember a.node) (sym nodes_are) s.member,
+      subst (λ ds. IsGuess ds a.odd) (sym odds_are) s.occurs,
+    ),
   )
 
   one_item : (a : Item) → Stand a → KeepEach q e (item_parts (a ∷ []))
@@ -85,7 +89,10 @@ module _ (q : Question) (e : ℕ) where
   unfolding Finds
   items_first xs k a low is fails keep = first_item xs k a low is fails keep
 
-  pub items_all : (xs : List Item) (k : ℕ) → length xs ≤ k → KeepEach q e (item_parts (take k xs)) → Finds q e (item_parts xs) None
+  pub items_all : (xs : List Item) (k : ℕ)
+      → length xs ≤ k
+      → KeepEach q e (item_parts (take k xs))
+      → Finds q e (item_parts xs) None
   unfolding Finds
   items_all xs k past keep = subst (λ ys. KeepEach q e (item_parts ys)) (take_all k xs past) keep
 
@@ -107,7 +114,9 @@ module _ (q : Question) (e : ℕ) where
           λ w. told.1 (subst (All (λ n. n < size q.graph)) (sym same) w.in_graph, λ first. same ∙ w.starts first),
         )
 
-    pub live_told : (b : Bool) → (IsTrue b ↔ EachNameStands entry.traces) → IsTrue b ↔ EachNameStands (entry_at q.refutation e).traces
+    pub live_told : (b : Bool)
+        → (IsTrue b ↔ EachNameStands entry.traces)
+        → IsTrue b ↔ EachNameStands (entry_at q.refutation e).traces
     live_told b told = subst (λ (x : plain.Entry). IsTrue b ↔ EachNameStands x.traces) (sym is.is) told
 
     abbrev others : List acceptance.Part
@@ -116,13 +125,15 @@ module _ (q : Question) (e : ℕ) where
     pub front_refused_2 : ¬ WellStarted → Finds q e (front_parts entry) (Some (record { part = 0; rule = 2 }))
     unfolding front_parts
     front_refused_2 not =
-        found_first q e acceptance.Sequent (acceptance.Live ∷ others) (record { part = 0; rule = 2 }) refl (inl (refl, not))
+        found_first q e acceptance.Sequent (acceptance.Live ∷ others) (record { part = 0; rule = 2 }) refl
+        (inl (refl, not))
 
     pub front_refused_3 : WellStarted → ¬ (EachNameStands (entry_at q.refutation e).traces)
         → Finds q e (front_parts entry) (Some (record { part = 1; rule = 3 }))
     unfolding front_parts
     front_refused_3 well not =
-        found_next q e acceptance.Sequent (acceptance.Live ∷ others) (record { part = 0; rule = 3 }) (record { part = 1; rule = 3 }) refl refl
+        found_next q e acceptance.Sequent (acceptance.Live ∷ others) (record { part = 0; rule = 3 })
+        (record { part = 1; rule = 3 }) refl refl
         (well, tt) (found_first q e acceptance.Live others (record { part = 0; rule = 3 }) refl (inl (refl, not)))
 
     pub front_later : (bad moved : BadPart) → WellStarted → EachNameStands (entry_at q.refutation e).traces
@@ -134,10 +145,14 @@ module _ (q : Question) (e : ℕ) where
         found_next q e acceptance.Sequent (acceptance.Live ∷ others) mid moved (omega (arith, part)) rule (well, tt)
         (found_next q e acceptance.Live others bad mid refl refl (stand, tt) found)
 
-    pub front_kept : WellStarted → EachNameStands (entry_at q.refutation e).traces → Finds q e others None → Finds q e (front_parts entry) None
+    pub front_kept : WellStarted
+        → EachNameStands (entry_at q.refutation e).traces
+        → Finds q e others None
+        → Finds q e (front_parts entry) None
     unfolding front_parts
     front_kept well stand none =
-        none_next q e acceptance.Sequent (acceptance.Live ∷ others) (well, tt) (none_next q e acceptance.Live others (stand, tt) none)
+        none_next q e acceptance.Sequent (acceptance.Live ∷ others) (well, tt)
+        (none_next q e acceptance.Live others (stand, tt) none)
 
     pub front_starts : Finds q e (front_parts entry) None → All (λ n. n < size q.graph) entry.sequent
     unfolding front_parts Finds KeepEach
@@ -153,9 +168,12 @@ module _ (q : Question) (e : ℕ) where
     unfolding front_parts
     front_size = omega (arith, length-map entry.traces.items acceptance.Item)
 
-    pub whole_front : (bad : BadPart) → Finds q e (front_parts entry) (Some bad) → Finds q e (parts (entry_at q.refutation e)) (Some bad)
+    pub whole_front : (bad : BadPart)
+        → Finds q e (front_parts entry) (Some bad)
+        → Finds q e (parts (entry_at q.refutation e)) (Some bad)
     whole_front bad found =
-        subst (λ ps. Finds q e ps (Some bad)) whole (found_before q e (front_parts entry) (branch_parts [] entry.decision) bad found)
+        subst (λ ps. Finds q e ps (Some bad)) whole
+        (found_before q e (front_parts entry) (branch_parts [] entry.decision) bad found)
 
     pub whole_later : (items : ℕ) (bad mid moved : BadPart) → items ≡ length entry.traces.items
         → mid.part ≡ items + bad.part → mid.rule ≡ bad.rule → moved.part ≡ 2 + mid.part → moved.rule ≡ mid.rule
@@ -169,7 +187,8 @@ module _ (q : Question) (e : ℕ) where
     pub whole_kept : Finds q e (front_parts entry) None → Finds q e (branch_parts [] entry.decision) None
         → Finds q e (parts (entry_at q.refutation e)) None
     whole_kept none others_none =
-        subst (λ ps. Finds q e ps None) whole (none_behind q e (front_parts entry) (branch_parts [] entry.decision) none others_none)
+        subst (λ ps. Finds q e ps None) whole
+        (none_behind q e (front_parts entry) (branch_parts [] entry.decision) none others_none)
 
 pub odds_ascend : (g : Graph) (odds : List ℕ) → odds ≡ odd_priorities g → IsAscending odds
 odds_ascend g odds is =
@@ -194,7 +213,8 @@ ascending_again xs made nodes made_is xs_are ascends =
     ∙ ascending_same (ascending nodes) nodes (ascending-is nodes) ascends (λ v h. ascending-member v nodes h)
     (λ v h. member-ascending v nodes h)
 
-pub start_stands : (q : Question) (e : ℕ) (entry : plain.Entry) (nodes : List ℕ) (c : List (ℕ × Side)) (sp : SpreadList) (h : Graph)
+pub start_stands : (q : Question) (e : ℕ) (entry : plain.Entry) (nodes : List ℕ) (c : List (ℕ × Side)) (sp : SpreadList)
+    (h : Graph)
     → h ≡ q.graph
     → IsEntryOf q e entry
     → nodes ≡ entry.sequent
@@ -205,7 +225,9 @@ pub start_stands : (q : Question) (e : ℕ) (entry : plain.Entry) (nodes : List 
 start_stands q e entry nodes c sp h same is nodes_are low spread own = record {
   of_entry = nodes_are ∙ sym (ap (λ (x : plain.Entry). x.sequent) is.is);
   low = subst (All (λ n. n < size q.graph)) (sym nodes_are) low;
-  is_spread = subst (λ g. IsSpreadOf g nodes sp.choice sp) same (subst (λ ch. IsSpreadOf h nodes ch sp) (sym spread.choice) spread);
+  is_spread =
+      subst (λ g. IsSpreadOf g nodes sp.choice sp) same
+      (subst (λ ch. IsSpreadOf h nodes ch sp) (sym spread.choice) spread);
   is_own = subst (λ g. IsSpread g sp) same own;
 }
 

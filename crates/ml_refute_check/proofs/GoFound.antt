@@ -23,10 +23,14 @@ use Rattle.ml_refutation.specs.Acceptance.{entry_at, no_entry, heights_of, Leads
 use Rattle.ml_refute_check.specs.private.Parts.{Question, Stands, IsEntryOf}
 use Rattle.ml_refute_check.proofs.BranchesFound.{of_spread_has, of_spread_is}
 
-rows_there : (rows : List (List ℕ)) (a : Arc) → RowsFall a.priority (get_or rows a.from []) (get_or rows a.to []) → FallsAlong rows a
+rows_there : (rows : List (List ℕ)) (a : Arc)
+    → RowsFall a.priority (get_or rows a.from []) (get_or rows a.to [])
+    → FallsAlong rows a
 rows_there rows a f = record { stays = λ p even low. f.stays (p / 2) (omega arith); falls = f.falls }
 
-rows_back : (rows : List (List ℕ)) (a : Arc) → FallsAlong rows a → RowsFall a.priority (get_or rows a.from []) (get_or rows a.to [])
+rows_back : (rows : List (List ℕ)) (a : Arc)
+    → FallsAlong rows a
+    → RowsFall a.priority (get_or rows a.from []) (get_or rows a.to [])
 rows_back rows a f = record { stays = stays; falls = f.falls }
   where
     stays : (k : ℕ) → k ≤ a.priority / 2 → get_or (get_or rows a.to []) k 0 ≤ get_or (get_or rows a.from []) k 0
@@ -49,13 +53,15 @@ falls_told r e f m p from to b p_is from_is to_is told = (
   λ h. told.1 (back (rows_back (heights_of r) (record { from = e; priority = priority (2 * r.names) m; to = f }) h)),
 )
   where
-    there : RowsFall p from to → RowsFall (priority (2 * r.names) m) (get_or (heights_of r) e []) (get_or (heights_of r) f [])
+    there : RowsFall p from to
+        → RowsFall (priority (2 * r.names) m) (get_or (heights_of r) e []) (get_or (heights_of r) f [])
     there h =
         subst (λ k. RowsFall k (get_or (heights_of r) e []) (get_or (heights_of r) f [])) p_is
         (subst (λ xs. RowsFall p xs (get_or (heights_of r) f [])) (from_is ∙ sym (heights_at r e))
         (subst (λ ys. RowsFall p from ys) (to_is ∙ sym (heights_at r f)) h))
 
-    back : RowsFall (priority (2 * r.names) m) (get_or (heights_of r) e []) (get_or (heights_of r) f []) → RowsFall p from to
+    back : RowsFall (priority (2 * r.names) m) (get_or (heights_of r) e []) (get_or (heights_of r) f [])
+        → RowsFall p from to
     back h =
         subst (λ ys. RowsFall p from ys) (sym (to_is ∙ sym (heights_at r f)))
         (subst (λ xs. RowsFall p xs (get_or (heights_of r) f [])) (sym (from_is ∙ sym (heights_at r e)))
@@ -78,7 +84,8 @@ module _ (q : Question) (e : ℕ) (nodes : List ℕ) (sp : SpreadList) (ok : IsG
     λ h. of_spread_has q e nodes sp ok stands (λ s. All (IsTarget q.graph s d) (entry_at q.refutation f).sequent)
         (subst (All (IsTarget q.graph sp d)) next_is
         (λ k z low. (step.targets (get_or next k z)).0 (subst (IsMember (get_or next k z)) values_are (told.0 h k z low)))),
-    λ w. told.1 (λ k z low. subst (IsMember (get_or next k z)) (sym values_are) ((step.targets (get_or next k z)).1 (target w k z low))),
+    λ w. told.1 (λ k z low. subst (IsMember (get_or next k z)) (sym values_are)
+        ((step.targets (get_or next k z)).1 (target w k z low))),
   )
     where
       target : Within → All (IsTarget q.graph sp d) next
@@ -102,10 +109,17 @@ module _ (q : Question) (e : ℕ) (nodes : List ℕ) (sp : SpreadList) (ok : IsG
   )
     where
       go_step : SpreadList → GoStep
-      go_step s = record { sequent = (entry_at q.refutation e).sequent; spread = s; diamond = d; next = (entry_at q.refutation f).sequent }
+      go_step s = record {
+        sequent = (entry_at q.refutation e).sequent;
+        spread = s;
+        diamond = d;
+        next = (entry_at q.refutation f).sequent;
+      }
 
       Condition : SpreadList → Type 0
-      Condition s = NamesCondition (HasTransition q.graph) (go_step s) m (entry_at q.refutation e).traces (entry_at q.refutation f).traces
+      Condition s =
+          NamesCondition (HasTransition q.graph) (go_step s) m (entry_at q.refutation e).traces
+          (entry_at q.refutation f).traces
 
       is_trace : (t : Triple) → IsMember t triples ↔ IsTrace q.graph (entry_at q.refutation e).sequent sp d t
       is_trace t =
@@ -114,6 +128,7 @@ module _ (q : Question) (e : ℕ) (nodes : List ℕ) (sp : SpreadList) (ok : IsG
 
       here : IsTrue b ↔ Condition sp
       here =
-          subst (λ x. IsTrue b ↔ NamesCondition (HasTransition q.graph) (go_step sp) m (entry_at q.refutation e).traces x) to_is
+          subst (λ x. IsTrue b ↔ NamesCondition (HasTransition q.graph) (go_step sp) m
+          (entry_at q.refutation e).traces x) to_is
           (subst (λ x. IsTrue b ↔ NamesCondition (HasTransition q.graph) (go_step sp) m x to) from_is
           (told q.graph (go_step sp) odds_are next_is is_trace))

@@ -18,15 +18,36 @@ module _ (g h : Graph) where
   by_shape node.False y same names = unnamed (sym (false_shaped y same)) tt
   by_shape (node.Lit p positive) y same names =
       let there = lit_shaped positive y same in
-      literal (record { prop = p; other = there.0; positive = positive; here = refl; there = there.1; names = names ∙ ap (name_in h) there.1 })
+      literal (record {
+        prop = p;
+        other = there.0;
+        positive = positive;
+        here = refl;
+        there = there.1;
+        names = names ∙ ap (name_in h) there.1;
+      })
   by_shape (node.And l r) y same names = unnamed (sym (and_shaped l r y same)) tt
   by_shape (node.Or l r) y same names = unnamed (sym (or_shaped l r y same)) tt
   by_shape (node.Diamond a to) y same names =
       let there = diamond_shaped to y same in
-      diamond (record { action = a; other = there.0; to = to; here = refl; there = there.1; names = names ∙ ap (name_in h) there.1 })
+      diamond (record {
+        action = a;
+        other = there.0;
+        to = to;
+        here = refl;
+        there = there.1;
+        names = names ∙ ap (name_in h) there.1;
+      })
   by_shape (node.Square a to) y same names =
       let there = square_shaped to y same in
-      square (record { action = a; other = there.0; to = to; here = refl; there = there.1; names = names ∙ ap (name_in h) there.1 })
+      square (record {
+        action = a;
+        other = there.0;
+        to = to;
+        here = refl;
+        there = there.1;
+        names = names ∙ ap (name_in h) there.1;
+      })
 
 pub graphs_alike : (p : Problem) (g h : Graph) → IsGraphOf g p → IsGraphOf h p → Alike g h
 graphs_alike p g h x y =

@@ -1,8 +1,8 @@
 -- Accepting runs as closed walks of the checking game.
 --
--- A run that has guessed an odd priority d keeps it: each triple that it uses has a lowest priority of at least d, and an
--- accepting transition one of exactly d. An accepting transition is among states with a guess. So an accepting run from
--- a state of the automaton to itself has one guess d throughout, and where each step is a walk that follows Even's
+-- A run that has guessed an odd priority d keeps it: each triple that it uses has a lowest priority of at least d, and
+-- an accepting transition one of exactly d. An accepting transition is among states with a guess. So an accepting run
+-- from a state of the automaton to itself has one guess d throughout, and where each step is a walk that follows Even's
 -- strategy, it is a closed walk with the lowest priority d: it loses.
 --
 --   Guessed, stays_guessed == from a state with a guess a transition leads to one with the same guess

@@ -1,6 +1,7 @@
 -- Flags of the names that stand in items.
 --
---   names_stand == where exactly the names that stand are flagged, all flags are set exactly where each name in use stands
+--   names_stand == where exactly the names that stand are flagged, all flags are set exactly where each name in use
+--                  stands
 use Rattle.std.proofs.Common.{◌≡◌, ◌↔◌, ℕ, ◌≤◌, Bool, true, false, List, length, get_or, map, take, All, IsTrue, sym, ap, ◌∙◌, subst, arith}
 use Rattle.std.proofs.lemmas.List.{take_all, get_or_default}
 use Rattle.std.specs.List.{list_any}

@@ -38,7 +38,8 @@ green_is (Green y) x e = ap Green (let names : y ≡ x = cc in names)
 green_is Neutral x e = absurd (cc)
 
 module _ (g : Graph) (step : GoStep) (traces : List Triple)
-    (given : (t : Triple) → IsMember t traces ↔ (IsTrace g step.sequent step.spread step.diamond t × IsMember t.to step.next))
+    (given : (t : Triple)
+    → IsMember t traces ↔ (IsTrace g step.sequent step.spread step.diamond t × IsMember t.to step.next))
     (live : ℕ) (items : List Item) where
   abbrev before : traced.Entry AutomatonState
   before = record { live = live; items = map item_of items }
@@ -88,11 +89,14 @@ module _ (g : Graph) (step : GoStep) (traces : List Triple)
             begins = sym (ap (λ (z : traced.Item AutomatonState). z.state.node) i.holds) ∙ h.transition.begins;
             ends = h.transition.ends;
             accepting = h.accepting;
-            leads = subst (λ (z : traced.Item AutomatonState). Leads odds h.transition.trace.lowest z.state.odd a.odd h.accepting) i.holds
+            leads =
+                subst (λ (z : traced.Item AutomatonState). Leads odds h.transition.trace.lowest z.state.odd a.odd
+                h.accepting) i.holds
                 h.transition.leads;
             serves = (
               subst (λ (z : traced.Item AutomatonState). has y z.stack ≡ true) i.holds h.named,
-              λ asked. subst (λ (z : traced.Item AutomatonState). IsAdvanced y z.stack ⊎ (h.accepting ≡ true)) i.holds (progress asked),
+              λ asked. subst (λ (z : traced.Item AutomatonState). IsAdvanced y z.stack ⊎ (h.accepting ≡ true)) i.holds
+                  (progress asked),
             );
           };
         };
@@ -109,7 +113,9 @@ module _ (g : Graph) (step : GoStep) (traces : List Triple)
     AllTraced = All (λ (a : Item). All (Traced a) a.stack.items) items_behind
 
     abbrev pub InUse : Type 0
-    InUse = ((bound live m ≤ live) × (bound live m ≤ live_behind)) × ((x : ℕ) → m ≡ Green x → (x < live) × (x < live_behind))
+    InUse =
+        ((bound live m ≤ live) × (bound live m ≤ live_behind)) × ((x : ℕ) → m ≡ Green
+        x → (x < live) × (x < live_behind))
 
     abbrev pub Condition : Type 0
     Condition = NamesCondition (HasTransition g) step m before behind
@@ -140,7 +146,8 @@ module _ (g : Graph) (step : GoStep) (traces : List Triple)
         name : (i : Item) → IsMember i items_behind → (y : ℕ) → has y i.stack.items ≡ true → Traced i y
         name i member y h =
             All-member (Traced i) i.stack.items
-            (All-member (λ (a : Item). All (Traced a) a.stack.items) items_behind all i member) y (has_member y i.stack.items h)
+            (All-member (λ (a : Item). All (Traced a) a.stack.items) items_behind all i member) y
+            (has_member y i.stack.items h)
 
     pub condition_tells : Condition → InUse × AllTraced
     condition_tells n = (
@@ -221,8 +228,11 @@ pub kept_names : (g : Graph) (step : GoStep) (m : Mark) (odds next : List ℕ) (
     → (IsTrue used ↔ AreInUse low green live live_behind)
     → used ≡ true
     → (IsTrue b ↔ All (IsItemTraced odds ts low green ins) bs)
-    → IsTrue b ↔ NamesCondition (HasTransition g) step m (record { live = live; items = map item_of items }) (record { live = live_behind; items = map item_of items_behind })
-kept_names g step m odds next made traces ts live live_behind low green items ins items_behind bs used b odds_are next_is told into ts_are ins_are bs_are low_is green_is used_told is traced_told =
+    → IsTrue b
+    ↔ NamesCondition (HasTransition g) step m (record { live = live; items = map item_of items })
+    (record { live = live_behind; items = map item_of items_behind })
+kept_names g step m odds next made traces ts live live_behind low green items ins items_behind bs used b odds_are
+    next_is told into ts_are ins_are bs_are low_is green_is used_told is traced_told =
     step_kept g step traces given live items m live_behind items_behind used b u2 is t6
   where
     given : (t : Triple)

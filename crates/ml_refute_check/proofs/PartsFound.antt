@@ -1,7 +1,7 @@
 -- What checking parts one by one finds.
 --
---   found_next, found_behind, found_before, none_behind == a bad part behind one that keeps its rules, or behind several;
---                       one with more behind it; parts none of which is bad
+--   found_next, found_behind, found_before, none_behind == a bad part behind one that keeps its rules, or behind
+--                       several; one with more behind it; parts none of which is bad
 --   first_of_part    == a part that breaks a rule is the first bad one of itself alone
 --   as_accepted, as_first_bad == what is found of the parts of an entry, as acceptance says it
 use Rattle.std.proofs.Common.{◌≡◌, ◌↔◌, ℕ, zero, suc, ◌+◌, ◌<◌, ◌≤◌, ◌⊎◌, Bool, true, false, List, [], ◌∷◌, ◌++◌, Option, None, Some, length, get_or, map, IsTrue, inl, inr, refl, sym, ap, ◌∙◌, subst, arith}
@@ -15,7 +15,10 @@ use Rattle.ml_refute_check.specs.declared.finding.BadPart.{BadPart}
 use Rattle.ml_refute_check.specs.private.Parts.{Question, Keeps, KeepEach, FirstBadIn, Finds, front_parts, branch_parts}
 
 module _ (q : Question) (e : ℕ) where
-  first_behind : (front parts : List Part) (k n j : ℕ) → j ≡ length front + k → KeepEach q e front → FirstBadIn q e parts k n
+  first_behind : (front parts : List Part) (k n j : ℕ)
+      → j ≡ length front + k
+      → KeepEach q e front
+      → FirstBadIn q e parts k n
       → FirstBadIn q e (front ++ parts) j n
   unfolding FirstBadIn KeepEach
   first_behind [] parts k n j is keep first =
@@ -36,18 +39,25 @@ module _ (q : Question) (e : ℕ) where
   keep_both [] parts keep others = others
   keep_both (p ∷ front) parts keep others = (keep.0, keep_both front parts keep.1 others)
 
-  pub found_behind : (front parts : List Part) (bad moved : BadPart) → moved.part ≡ length front + bad.part → moved.rule ≡ bad.rule
+  pub found_behind : (front parts : List Part) (bad moved : BadPart)
+      → moved.part ≡ length front + bad.part
+      → moved.rule ≡ bad.rule
       → Finds q e front None → Finds q e parts (Some bad) → Finds q e (front ++ parts) (Some moved)
   unfolding Finds
   found_behind front parts bad moved part rule none found =
       first_behind front parts bad.part moved.rule moved.part part none
       (subst (λ n. FirstBadIn q e parts bad.part n) (sym rule) found)
 
-  pub found_before : (front parts : List Part) (bad : BadPart) → Finds q e front (Some bad) → Finds q e (front ++ parts) (Some bad)
+  pub found_before : (front parts : List Part) (bad : BadPart)
+      → Finds q e front (Some bad)
+      → Finds q e (front ++ parts) (Some bad)
   unfolding Finds
   found_before front parts bad found = first_before front parts bad.part bad.rule found
 
-  pub none_behind : (front parts : List Part) → Finds q e front None → Finds q e parts None → Finds q e (front ++ parts) None
+  pub none_behind : (front parts : List Part)
+      → Finds q e front None
+      → Finds q e parts None
+      → Finds q e (front ++ parts) None
   unfolding Finds
   none_behind front parts none others = keep_both front parts none others
 
@@ -55,11 +65,16 @@ module _ (q : Question) (e : ℕ) where
   unfolding Finds KeepEach
   none_at_all = tt
 
-  pub none_next : (part : Part) (others : List Part) → Keeps q e part → Finds q e others None → Finds q e (part ∷ others) None
+  pub none_next : (part : Part) (others : List Part)
+      → Keeps q e part
+      → Finds q e others None
+      → Finds q e (part ∷ others) None
   unfolding Finds KeepEach
   none_next part others keeps none = (keeps, none)
 
-  pub found_next : (part : Part) (others : List Part) (bad moved : BadPart) → moved.part ≡ 1 + bad.part → moved.rule ≡ bad.rule
+  pub found_next : (part : Part) (others : List Part) (bad moved : BadPart)
+      → moved.part ≡ 1 + bad.part
+      → moved.rule ≡ bad.rule
       → Keeps q e part → Finds q e others (Some bad) → Finds q e (part ∷ others) (Some moved)
   unfolding Finds FirstBadIn
   found_next part others bad moved at rule keeps found =
@@ -102,7 +117,11 @@ module _ (q : Question) (e : ℕ) where
   first_broken (p ∷ ps) zero n first = first
   first_broken (p ∷ ps) (suc k) n first = first_broken ps k n first.1
 
-  pub kept_parts : (ps : List Part) → Finds q e ps None → (part : Part) → IsMember part ps → KeepsAll (rules q.refutation e part) q.graph
+  pub kept_parts : (ps : List Part)
+      → Finds q e ps None
+      → (part : Part)
+      → IsMember part ps
+      → KeepsAll (rules q.refutation e part) q.graph
   unfolding Finds
   kept_parts ps found = keep_member ps found
 
@@ -141,7 +160,8 @@ module _ (q : Question) where
       record {
         is_entry = low;
         is_part = first.low;
-        entries_before = λ d part less member. kept_parts q d (parts (entry_at q.refutation d)) (kept d less) part member;
+        entries_before =
+            λ d part less member. kept_parts q d (parts (entry_at q.refutation d)) (kept d less) part member;
         parts_before = first.keeps;
         broken = first.broken;
       }

@@ -2,7 +2,9 @@
 --
 --   document_of_shown == what was read of a text, it shows
 --   as_many_lines     == as many entries begin at lines as there are
+--   accepted_there    == a text whose refutation is accepted
 --   rejected_there    == a text is rejected at the line of the first bad part
+--   without_graph     == or at the line of the formula
 --   migrated          == what is written of what was read
 use Rattle.std.proofs.Common.{◌≡◌, ℕ, ◌+◌, ◌<◌, ◌⊎◌, List, [], ◌∷◌, Some, length, get_or, map, slice_get, inl, inr, refl, sym, ap, ◌∙◌, subst, arith}
 use Rattle.std.proofs.lemmas.List.{length-map}
@@ -10,22 +12,23 @@ use Rattle.std.proofs.lemmas.Option.{slice_get-get_or}
 use Rattle.ml_base.specs.declared.version.Version.{Version}
 use Rattle.ml_base.specs.declared.version.Version.TheVariants.{Two}
 use Rattle.ml_graph.specs.Graph.{Graph}
-use Rattle.ml_front.specs.Graphs.{IsGraphOf}
+use Rattle.ml_front.specs.Graphs.{HasLargeClosure, IsGraphOf}
 use Rattle.ml_front.specs.declared.problem.Problem.{Problem}
+use Rattle.ml_front.specs.declared.problem.TheConstants.{MOST_NODES}
 use Rattle.ml_refutation.specs.Refutation.{Entry}
 use Rattle.ml_refutation.specs.Acceptance.{entry_at, IsAccepted, IsFirstBad}
 use Rattle.ml_refutation.specs.Views.{of_parts, entry_of}
 use Rattle.ml_refutation.specs.declared.refutation.Refutation as held
 use Rattle.ml_refutation_text.specs.PartLines.{parts_from, parts_of, entry_size}
-use Rattle.ml_refutation_text.specs.WrittenText.{IsCounted}
 use Rattle.ml_refutation_text.specs.declared.lines.EntryLines.{EntryLines}
 use Rattle.ml_refutation_text.specs.declared.lines.Lines.{Lines}
-use Rattle.ml_refute_check.specs.Documents.{IsDocument, IsMigrated, IsRejectedAt, IsRejectedBy, document_of, line_of}
+use Rattle.ml_refute_check.specs.Documents.{IsAcceptedDocument, IsDocument, IsMigrated, IsRejectedAt, IsRejectedBy, document_of, formula_line, line_of}
 use Rattle.ml_refute_check.specs.private.Shown.{IsShown}
 use Rattle.ml_front.proofs.Logics.{parsed_well}
 use Rattle.ml_refute_check.proofs.Accepted.{documents_read_back}
 
-pub document_of_shown : (text : List ℕ) (p : Problem) (r : held.Refutation) (lines : Lines) (shown : IsShown text p r lines)
+pub document_of_shown : (text : List ℕ) (p : Problem) (r : held.Refutation) (lines : Lines)
+    (shown : IsShown text p r lines)
     → IsDocument text shown.version p (of_parts r.names r.entries)
 document_of_shown text p r lines shown = record {
   body = shown.body;
@@ -33,6 +36,9 @@ document_of_shown text p r lines shown = record {
   is_refutation = r.is_refutation;
   has_body = shown.has_body;
 }
+
+abbrev pub IsClosed : Problem → Type 0
+IsClosed p = ¬ (HasLargeClosure p MOST_NODES)
 
 pub length-parts : (v : Version) (n : ℕ) (es : List Entry) → length (parts_from v n es) ≡ length es
 length-parts v n [] = refl
@@ -44,15 +50,52 @@ as_many_lines text p r lines shown =
     ap length shown.are_lines.are_parts ∙ length-parts shown.version _ (map entry_of r.entries.items)
     ∙ length-map r.entries.items entry_of
 
-pub rejected_there : (text : List ℕ) (p : Problem) (r : held.Refutation) (lines : Lines) (shown : IsShown text p r lines)
+pub accepted_there : (text : List ℕ) (p : Problem) (r : held.Refutation) (lines : Lines)
+    → IsShown text p r lines
+    → (g : Graph)
+    → IsGraphOf g p
+    → IsClosed p
+    → IsAccepted g (of_parts r.names r.entries)
+    → IsAcceptedDocument text
+accepted_there text p r lines shown g is_graph closed accepted = record {
+  version = shown.version;
+  problem = p;
+  refutation = of_parts r.names r.entries;
+  is_document = document_of_shown text p r lines shown;
+  closed = closed;
+  graph = g;
+  is_graph = is_graph;
+  is_accepted = accepted;
+}
+
+pub without_graph : (text : List ℕ) (p : Problem) (r : held.Refutation) (lines : Lines)
+    → IsShown text p r lines
+    → HasLargeClosure p MOST_NODES
+    → IsRejectedAt text formula_line 1
+without_graph text p r lines shown large =
+    inl (
+      record {
+        version = shown.version;
+        problem = p;
+        refutation = of_parts r.names r.entries;
+        is_document = document_of_shown text p r lines shown;
+        has_large_closure = large;
+      },
+      refl,
+      refl,
+    )
+
+pub rejected_there : (text : List ℕ) (p : Problem) (r : held.Refutation) (lines : Lines)
+    (shown : IsShown text p r lines)
     (g : Graph) (entry part number line : ℕ)
     → IsGraphOf g p
+    → IsClosed p
     → IsFirstBad g (of_parts r.names r.entries) entry part number
     → ((at : EntryLines) → slice_get lines.entries.items entry ≡ Some at
     → line ≡ line_of at (length (entry_at (of_parts r.names r.entries) entry).traces.items) part)
     → IsRejectedAt text line number
 unfolding document_of_shown
-rejected_there text p r lines shown g entry part number line is_graph first told =
+rejected_there text p r lines shown g entry part number line is_graph closed first told =
     let none : EntryLines = record { sequent = 0; live = 0; items = 0; heights = 0; decision = 0 } in
     let there =
     slice_get-get_or lines.entries.items entry none
@@ -62,6 +105,7 @@ rejected_there text p r lines shown g entry part number line is_graph first told
       problem = p;
       refutation = of_parts r.names r.entries;
       is_document = document_of_shown text p r lines shown;
+      closed = closed;
       graph = g;
       is_graph = is_graph;
       entry = entry;
@@ -77,9 +121,8 @@ rejected_there text p r lines shown g entry part number line is_graph first told
 pub migrated : (text out : List ℕ) (p : Problem) (r : held.Refutation) (lines : Lines)
     → IsShown text p r lines
     → out ≡ document_of p (of_parts r.names r.entries)
-    → IsCounted Two (of_parts r.names r.entries)
     → IsMigrated text out
-migrated text out p r lines shown is counted = record {
+migrated text out p r lines shown is = record {
   version = shown.version;
   problem = p;
   refutation = of_parts r.names r.entries;
@@ -87,5 +130,5 @@ migrated text out p r lines shown is counted = record {
   is_written = is;
   shows_the_same = subst (λ t. IsDocument t Two p (of_parts r.names r.entries)) (sym is)
       (documents_read_back p (of_parts r.names r.entries)
-      (parsed_well shown.has_head.formula_text p.formula shown.has_head.is_parsed) r.is_refutation counted);
+      (parsed_well shown.has_head.formula_text p.formula shown.has_head.is_parsed) r.is_refutation);
 }

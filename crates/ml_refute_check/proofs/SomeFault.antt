@@ -1,9 +1,10 @@
 -- A refutation is accepted, or has a first bad part.
 --
--- Where the nodes of an entry are nodes of the graph, each of its rules is decided; where they aren't, that is the first
--- rule of the entry that is broken. So parts are judged one by one, up to the first bad one.
+-- Where the nodes of an entry are nodes of the graph, each of its rules is decided; where they aren't, that is the
+-- first rule of the entry that is broken. So parts are judged one by one, up to the first bad one.
 --
---   judged_start, judged_part == the sequent of an entry is judged, and so is each part where the nodes are in the graph
+--   judged_start, judged_part == the sequent of an entry is judged, and so is each part where the nodes are in the
+--                                graph
 --   Keeps, Breaks, AllKept, BadPart == part k keeps its rules or breaks one; all do, or there is a first bad one
 --   judged_entry == of each entry, one of the two
 --   some_fault   == the refutation is accepted, or has a first bad part

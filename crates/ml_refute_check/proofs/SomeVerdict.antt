@@ -8,7 +8,8 @@ use Rattle.ml_base.specs.declared.version.Version.{Version}
 use Rattle.ml_graph.specs.Graph.{Graph}
 use Rattle.ml_front.specs.declared.answer.Answer.TheVariants.{Unsatisfiable}
 use Rattle.ml_front.specs.declared.problem.Problem.{Problem}
-use Rattle.ml_front.specs.Graphs.{IsGraphAs, IsGraphOf}
+use Rattle.ml_front.specs.declared.problem.TheConstants.{MOST_NODES}
+use Rattle.ml_front.specs.Graphs.{HasLargeClosure, IsGraphOf}
 use Rattle.ml_front.specs.HeadRules.{IsHead, IsHeadFault}
 use Rattle.ml_front.proofs.Graphs.{graph_is}
 use Rattle.ml_front.proofs.OneFault as head
@@ -20,14 +21,15 @@ use Rattle.ml_refutation_text.specs.PartLines.{parts_from, lines_before, entry_s
 use Rattle.ml_refutation_text.specs.RefutationText.{IsTextOf}
 use Rattle.ml_refutation_text.specs.declared.lines.EntryLines.{EntryLines}
 use Rattle.ml_refutation_text.proofs.RefutationTexts as body
-use Rattle.ml_refute_check.specs.Documents.{IsDocument, IsVerdict, line_of, first_body_line}
+use Rattle.ml_refute_check.specs.Documents.{IsDocument, IsVerdict, line_of, first_body_line, formula_line}
 use Rattle.ml_refute_check.specs.Laws.{SomeVerdict}
 use Rattle.ml_refute_check.specs.declared.verdict.Verdict.{Verdict}
 use Rattle.ml_refute_check.specs.declared.verdict.Verdict.TheVariants.{Accepted, Unreadable, Rejected}
 use Rattle.ml_refute_check.proofs.Rejected.{length-parts}
 use Rattle.ml_refute_check.proofs.SomeFault.{some_fault}
 
-module _ (text : List ℕ) (v : Version) (p : Problem) (r : Refutation) (x : IsDocument text v p r) (g : Graph) (is_graph : IsGraphOf g p) where
+module _ (text : List ℕ) (v : Version) (p : Problem) (r : Refutation) (x : IsDocument text v p r)
+    (g : Graph) (is_graph : IsGraphOf g p) (closed : ¬ (HasLargeClosure p MOST_NODES)) where
   lines : List EntryLines
   lines = parts_from v (first_body_line + lines_before x.has_body.form) r.entries
 
@@ -38,7 +40,8 @@ module _ (text : List ℕ) (v : Version) (p : Problem) (r : Refutation) (x : IsD
   unfolding lines
   many = length-parts v (first_body_line + lines_before x.has_body.form) r.entries
 
-  of_finding : IsAccepted g r ⊎ ((e : ℕ) × (k : ℕ) × (number : ℕ) × IsFirstBad g r e k number) → (w : Verdict) × IsVerdict text w
+  of_finding : IsAccepted g r ⊎ ((e : ℕ) × (k : ℕ) × (number : ℕ) × IsFirstBad g r e k number)
+      → (w : Verdict) × IsVerdict text w
   unfolding lines
   of_finding (inl accepted) = (
     Accepted,
@@ -47,6 +50,7 @@ module _ (text : List ℕ) (v : Version) (p : Problem) (r : Refutation) (x : IsD
       problem = p;
       refutation = r;
       is_document = x;
+      closed = closed;
       graph = g;
       is_graph = is_graph;
       is_accepted = accepted;
@@ -60,6 +64,7 @@ module _ (text : List ℕ) (v : Version) (p : Problem) (r : Refutation) (x : IsD
           problem = p;
           refutation = r;
           is_document = x;
+          closed = closed;
           graph = g;
           is_graph = is_graph;
           entry = e;
@@ -74,22 +79,32 @@ module _ (text : List ℕ) (v : Version) (p : Problem) (r : Refutation) (x : IsD
       )
 
 of_document : (text : List ℕ) (v : Version) (p : Problem) (r : Refutation) → IsDocument text v p r
-    → (g : Graph) × IsGraphAs g p.negated p.formula
+    → ((g : Graph) × IsGraphOf g p × (¬ (HasLargeClosure p MOST_NODES))) ⊎ HasLargeClosure p MOST_NODES
     → (w : Verdict) × IsVerdict text w
-of_document text v p r x (g, is_graph) =
-    of_finding text v p r x g is_graph (some_fault g r (graph_is g p.negated p.formula is_graph))
+of_document text v p r x (inl (g, is_graph, closed)) =
+    of_finding text v p r x g is_graph closed (some_fault g r (graph_is g p.negated p.formula is_graph))
+of_document text v p r x (inr large) = (
+  Rejected formula_line 1,
+  inl (
+    record { version = v; problem = p; refutation = r; is_document = x; has_large_closure = large },
+    refl,
+    refl,
+  ),
+)
 
 of_body : (text : List ℕ) (v : Version) (p : Problem) (rest : List ℕ) → IsHead Unsatisfiable text v p rest
     → IsReadableBody v rest ⊎ ((fault : DocFault) × IsFaultOf v rest first_body_line fault)
     → (w : Verdict) × IsVerdict text w
 of_body text v p rest h (inl readable) =
     let read = (body.readable_is_refutation v rest).0 readable in
-    of_document text v p read.0 (record { body = rest; has_head = h; is_refutation = read.1; has_body = read.2 }) (some_graph p.formula p.negated)
+    of_document text v p read.0 (record { body = rest; has_head = h; is_refutation = read.1; has_body = read.2 })
+    (some_graph MOST_NODES p.negated p.formula)
 of_body text v p rest h (inr (fault, found)) =
     (Unreadable fault, inr (record { version = v; problem = p; body = rest; has_head = h; is_fault = found }))
 
 of_head : (text : List ℕ)
-    → ((v : Version) × (p : Problem) × (rest : List ℕ) × IsHead Unsatisfiable text v p rest) ⊎ ((fault : DocFault) × IsHeadFault Unsatisfiable text fault)
+    → ((v : Version) × (p : Problem) × (rest : List ℕ) × IsHead Unsatisfiable text v p rest)
+    ⊎ ((fault : DocFault) × IsHeadFault Unsatisfiable text fault)
     → (w : Verdict) × IsVerdict text w
 of_head text (inl (v, p, rest, h)) = of_body text v p rest h (body.readable_or_fault v rest first_body_line)
 of_head text (inr (fault, found)) = (Unreadable fault, inl found)

@@ -31,7 +31,8 @@ module _ {X : Type 0} (P : X → Type 0) (xs : List X) where
       All-more_read (λ x. ¬ (P x)) xs i x low is (λ p. true≢false (sym (told.1 p) ∙ not)) before
 
   pub none_at_all : (i : ℕ) → length xs ≤ i → NoneBefore i → (x : X) → IsMember x xs → P x → ⊥
-  none_at_all i past before x member p = All-member (λ x. ¬ (P x)) xs (All-read (λ x. ¬ (P x)) xs i past before) x member p
+  none_at_all i past before x member p =
+      All-member (λ x. ¬ (P x)) xs (All-read (λ x. ¬ (P x)) xs i past before) x member p
 
   pub entry_member : (i : ℕ) (x : X) → i < length xs → x ≡ get_or xs i x → IsMember x xs
   entry_member i x low is = subst (λ y. IsMember y xs) (sym is) (place-member xs i x low)
@@ -78,7 +79,8 @@ module _ {X : Type 0} (Q : X → Type 0) (xs : List X) where
       → more ≡ kept ++ x ∷ [] → KeptBefore i kept → KeptBefore (i + 1) more
   kept_more i x kept more low is holds pushed before y = (
     λ h. there (member-append y kept (x ∷ []) (subst (IsMember y) pushed h)),
-    λ h. subst (IsMember y) (sym pushed) (back (member-append y (take i xs) (get_or xs i x ∷ []) (subst (IsMember y) (take_more xs i x low) h.0)) h.1),
+    λ h. subst (IsMember y) (sym pushed)
+        (back (member-append y (take i xs) (get_or xs i x ∷ []) (subst (IsMember y) (take_more xs i x low) h.0)) h.1),
   )
     where
       there : IsMember y kept ⊎ IsMember y (x ∷ []) → IsMember y (take (i + 1) xs) × Q y
@@ -86,7 +88,8 @@ module _ {X : Type 0} (Q : X → Type 0) (xs : List X) where
           let b = (before y).0 old in
           (subst (IsMember y) (sym (take_more xs i x low)) (member-append_left y (take i xs) (get_or xs i x ∷ []) b.0), b.1)
       there (inr (inl e)) = (
-        subst (IsMember y) (sym (take_more xs i x low)) (member-append_right y (take i xs) (get_or xs i x ∷ []) (inl (e ∙ is))),
+        subst (IsMember y) (sym (take_more xs i x low))
+            (member-append_right y (take i xs) (get_or xs i x ∷ []) (inl (e ∙ is))),
         subst Q (sym e) holds,
       )
       there (inr (inr none)) = absurd none
@@ -98,7 +101,8 @@ module _ {X : Type 0} (Q : X → Type 0) (xs : List X) where
 
   pub kept_same : (i : ℕ) (x : X) (kept : List X) → i < length xs → x ≡ get_or xs i x → (Q x → ⊥)
       → KeptBefore i kept → KeptBefore (i + 1) kept
-  kept_same i x kept low is fails before y = (there, λ h. back h.1 (member-append y (take i xs) (get_or xs i x ∷ []) (subst (IsMember y) (take_more xs i x low) h.0)))
+  kept_same i x kept low is fails before y =
+      (there, λ h. back h.1 (member-append y (take i xs) (get_or xs i x ∷ []) (subst (IsMember y) (take_more xs i x low) h.0)))
     where
       there : IsMember y kept → IsMember y (take (i + 1) xs) × Q y
       there old =

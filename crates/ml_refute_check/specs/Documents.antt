@@ -1,25 +1,25 @@
 -- Documents that answer `unsatisfiable`, and what checking one finds.
 --
--- A document shows a refutation for a problem where its head answers `unsatisfiable` about the problem, and its body is a
--- text of the refutation, in the version that the head tells. Where a document shows none, its first bad line tells why;
--- the lines of the body are counted on from those of the head, so from 6 on. What is shown is accepted where the
--- refutation breaks no rule of acceptance in the problem's graph. Else the document is rejected at the line of the first
--- part that breaks one; or at the line of the formula, whose closure is too large to have a graph. Who wrote the document,
--- and how, is asked nowhere.
+-- A document shows a refutation for a problem where its head answers `unsatisfiable` about the problem, and its body is
+-- a text of the refutation, in the version that the head tells. Where a document shows none, its first bad line tells
+-- why; the lines of the body are counted on from those of the head, so from 6 on. Where the problem's closure is too
+-- large, the document is rejected at the line of the formula. Else what is shown is accepted where the refutation
+-- breaks no rule of acceptance in the problem's graph, and rejected at the line of the first part that breaks one. Who
+-- wrote the document, and how, is asked nowhere.
 --
 --   IsDocument text v p r == the text shows, in the version v, the refutation r for the problem p
 --   IsDocumentFault text f == f tells the first bad line of the text, and the lowest rule that it breaks
 --   IsAcceptedDocument text == the text shows a refutation that is accepted in the graph of its problem
---   HasLargeClosure f      == the closure of the formula f is too large: never in the mu-calculus and in PDL, which have
---                             none
+--   IsWithoutGraph text    == the text shows a refutation for a problem whose closure is too large
 --   line_of at n k         == the line of part k of an entry with n items, whose parts begin at these lines
 --   IsRejectedBy text entry part number line == the text shows a refutation whose first bad part is this one, with this
 --                             lowest rule that it breaks, and which stands at this line
---   IsRejectedAt text line number == the text shows a refutation, and this is its first line with a broken rule, and the
---                             lowest one
+--   IsRejectedAt text line number == the text shows a refutation, and this is its first line with a broken rule, and
+--                             the lowest one
 --   IsVerdict text v       == v is what checking the text finds
 --   HoldsNowhere text      == the text answers `unsatisfiable` about a problem, and that is true
---   IsMigrated text other  == the text shows a refutation for a problem, and the other text is what is written of the two
+--   IsMigrated text other  == the text shows a refutation for a problem, and the other text is what is written of the
+--                             two
 --   document_of p r        == the document that is written for the problem p and the refutation r
 use Rattle.std.specs.Prelude.{ℕ, ◌≡◌, ◌⊎◌, ◌+◌, ◌-◌, ◌==◌, nat_lt, List, ◌++◌, Some, length, slice_get, if◌then◌else◌}
 use Rattle.ml_base.specs.declared.doc_fault.DocFault.{DocFault}
@@ -28,10 +28,9 @@ use Rattle.ml_base.specs.declared.version.Version.TheVariants.{Two}
 use Rattle.ml_lines.specs.Lines.{text_of}
 use Rattle.ml_graph.specs.Graph.{Graph}
 use Rattle.ml_front.specs.declared.answer.Answer.TheVariants.{Unsatisfiable}
-use Rattle.ml_front.specs.declared.problem.AnyFormula.{AnyFormula}
-use Rattle.ml_front.specs.declared.problem.AnyFormula.TheVariants.{Mu, Pdl}
 use Rattle.ml_front.specs.declared.problem.Problem.{Problem}
-use Rattle.ml_front.specs.Graphs.{IsGraphOf}
+use Rattle.ml_front.specs.declared.problem.TheConstants.{MOST_NODES}
+use Rattle.ml_front.specs.Graphs.{HasLargeClosure, IsGraphOf}
 use Rattle.ml_front.specs.Head.{head_lines}
 use Rattle.ml_front.specs.HeadRules.{IsHead, IsHeadFault}
 use Rattle.ml_front.specs.Problems.{IsSatisfiable}
@@ -79,20 +78,18 @@ pub record IsAcceptedDocument (text : List ℕ) : Type 0 where
   pub problem : Problem
   pub refutation : Refutation
   pub is_document : IsDocument text version problem refutation
+  pub closed : ¬ (HasLargeClosure problem MOST_NODES)
   pub graph : Graph
   pub is_graph : IsGraphOf graph problem
   pub is_accepted : IsAccepted graph refutation
 
-abbrev pub HasLargeClosure : AnyFormula → Type 0
-HasLargeClosure (Mu f) = ⊥
-HasLargeClosure (Pdl f) = ⊥
-
+-- the text shows a refutation for a problem whose closure is too large
 pub record IsWithoutGraph (text : List ℕ) : Type 0 where
   pub version : Version
   pub problem : Problem
   pub refutation : Refutation
   pub is_document : IsDocument text version problem refutation
-  pub has_large_closure : HasLargeClosure problem.formula
+  pub has_large_closure : HasLargeClosure problem MOST_NODES
 
 -- first the sequent and the names in use, then the items, and last the branches of the decision
 abbrev pub line_of : EntryLines → ℕ → ℕ → ℕ
@@ -108,6 +105,7 @@ pub record IsRejectedBy (text : List ℕ) (line number : ℕ) : Type 0 where
   pub problem : Problem
   pub refutation : Refutation
   pub is_document : IsDocument text version problem refutation
+  pub closed : ¬ (HasLargeClosure problem MOST_NODES)
   pub graph : Graph
   pub is_graph : IsGraphOf graph problem
   pub entry : ℕ

@@ -10,7 +10,6 @@ use Rattle.ml_base.specs.declared.version.Version.TheVariants.{Two}
 use Rattle.ml_front.specs.Logics.{IsWellFormed}
 use Rattle.ml_front.specs.declared.problem.Problem.{Problem}
 use Rattle.ml_refutation.specs.Refutation.{Refutation, IsRefutation}
-use Rattle.ml_refutation_text.specs.WrittenText.{IsCounted}
 use Rattle.ml_refute_check.specs.Documents.{IsDocument, IsAcceptedDocument, IsVerdict, HoldsNowhere, document_of}
 use Rattle.ml_refute_check.specs.declared.verdict.Verdict.{Verdict}
 
@@ -34,4 +33,4 @@ AcceptedIsTrue = (text : List ℕ) → IsAcceptedDocument text → HoldsNowhere 
 -- what is written for a problem of a well-formed formula, and a refutation, is read back
 abbrev pub DocumentsReadBack : Type 0
 DocumentsReadBack = (p : Problem) (r : Refutation)
-    → IsWellFormed p.formula → IsRefutation r → IsCounted Two r → IsDocument (document_of p r) Two p r
+    → IsWellFormed p.formula → IsRefutation r → IsDocument (document_of p r) Two p r

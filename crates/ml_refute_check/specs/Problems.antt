@@ -1,7 +1,7 @@
 -- What an accepted refutation tells of a problem.
 --
---   RefutedIsUnsatisfiable == of each problem whose formula means something: where a refutation is accepted for its graph,
---                             no admitted structure has a state at which the problem holds
+--   RefutedIsUnsatisfiable == of each problem whose formula means something: where a refutation is accepted for its
+--                             graph, no admitted structure has a state at which the problem holds
 use Rattle.ml_graph.specs.Graph.{Graph}
 use Rattle.ml_front.specs.declared.problem.Problem.{Problem}
 use Rattle.ml_front.specs.Graphs.{IsMeaningful, IsGraphOf}

@@ -11,15 +11,15 @@ use ml_refutation::Refutation;
 use ml_sequent::LocalPhase;
 use std::alloc::Global;
 
-/// Does a refutation break no rule of acceptance in a graph? If it does, its first part that breaks one, with the lowest
-/// rule that this part breaks.
+/// Does a refutation break no rule of acceptance in a graph? If it does, its first part that breaks one, with the
+/// lowest rule that this part breaks.
 ///
 /// # Errors
 /// `NoMemory` alone.
 ///
 /// Cost: one walk over each decision. At a split its side's nodes are added to the spread; a clash costs what its check
-/// costs (`LocalPhase::is_cause`), and a `go` its step (`LocalPhase::step`) with what its names cost (`keeps_names`). Calls
-/// are nested as deep as splits are.
+/// costs (`LocalPhase::is_cause`), and a `go` its step (`LocalPhase::step`) with what its names cost (`keeps_names`).
+/// Calls are nested as deep as splits are.
 pub fn check_refutation(
     alloc: Global,
     graph: &ModalGraph,

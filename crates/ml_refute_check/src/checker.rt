@@ -68,7 +68,8 @@ impl<'a> Checker<'a> {
         requires phase { phase.old ≡ self.now.graph.now }
         requires place { place < length self.now.refutation.now.entries.items }
         ensures phase { phase.new ≡ phase.old }
-        ensures found { IfOk result (Finds (question self.now.graph.now self.now.refutation.now) place (parts (entry_at (question self.now.graph.now self.now.refutation.now).refutation place))) }
+        ensures found { IfOk result (Finds (question self.now.graph.now self.now.refutation.now) place
+            (parts (entry_at (question self.now.graph.now self.now.refutation.now).refutation place))) }
     {
         let entry = self.entry(place);
         match self.check_front(place, entry)? {
@@ -84,7 +85,8 @@ impl<'a> Checker<'a> {
     fn check_front(&self, place: usize, entry: &Entry) -> Result<Option<BadPart>, NoMemory>
         requires asks { Asks self.now.graph.now self.now.odds.items }
         requires entry { IsEntryOf (question self.now.graph.now self.now.refutation.now) place (entry_of entry.now) }
-        ensures { IfOk result (Finds (question self.now.graph.now self.now.refutation.now) place (front_parts (entry_of entry.now))) }
+        ensures { IfOk result (Finds (question self.now.graph.now self.now.refutation.now) place
+            (front_parts (entry_of entry.now))) }
     {
         if !starts_well(self.graph, &entry.sequent, place) {
             return Ok(Some(BadPart { part: 0, rule: 2 }));
@@ -102,7 +104,8 @@ impl<'a> Checker<'a> {
     fn check_items(&self, place: usize, entry: &Entry) -> Option<BadPart>
         requires asks { Asks self.now.graph.now self.now.odds.items }
         requires entry { IsEntryOf (question self.now.graph.now self.now.refutation.now) place (entry_of entry.now) }
-        ensures { Finds (question self.now.graph.now self.now.refutation.now) place (map acceptance.Item (map item_of entry.now.items.items)) result }
+        ensures { Finds (question self.now.graph.now self.now.refutation.now) place
+            (map acceptance.Item (map item_of entry.now.items.items)) result }
     {
         for (k, item) in entry.items.iter().enumerate() {
             if !item_stands(&entry.sequent, &self.odds, item) {
@@ -124,7 +127,8 @@ impl<'a> Checker<'a> {
         requires entry { IsEntryOf (question self.now.graph.now self.now.refutation.now) place (entry_of entry.now) }
         requires low { All (λ n. n < size self.now.graph.now) entry.now.sequent.items }
         ensures phase { phase.new ≡ phase.old }
-        ensures found { IfOk result (Finds (question self.now.graph.now self.now.refutation.now) place (branch_parts [] (decision_of entry.now.decision))) }
+        ensures found { IfOk result (Finds (question self.now.graph.now self.now.refutation.now) place
+            (branch_parts [] (decision_of entry.now.decision))) }
     {
         let sequent = Sequent::of(self.alloc, &entry.sequent)?;
         let spread = phase.spread(&sequent, &Choice::empty(self.alloc))?;
@@ -145,9 +149,11 @@ impl<'a> Checker<'a> {
         requires phase { phase.old ≡ self.now.graph.now }
         requires entry { IsEntryOf (question self.now.graph.now self.now.refutation.now) place (entry_of entry.now) }
         requires stands { Stands (question self.now.graph.now self.now.refutation.now) place sequent.now spread.now }
-        requires decided { IsDecided self.now.refutation.now.names (length self.now.refutation.now.entries.items) (decision_of decision.now) }
+        requires decided { IsDecided self.now.refutation.now.names
+            (length self.now.refutation.now.entries.items) (decision_of decision.now) }
         ensures phase { phase.new ≡ phase.old }
-        ensures found { IfOk result (Finds (question self.now.graph.now self.now.refutation.now) place (branch_parts spread.now.choice (decision_of decision.now))) }
+        ensures found { IfOk result (Finds (question self.now.graph.now self.now.refutation.now) place
+            (branch_parts spread.now.choice (decision_of decision.now))) }
     {
         match decision {
             Decision::Split { node, left, right } => {
@@ -197,7 +203,8 @@ impl<'a> Checker<'a> {
         requires phase { phase.old ≡ self.now.graph.now }
         requires stands { Stands (question self.now.graph.now self.now.refutation.now) place sequent.now spread.now }
         ensures phase { phase.new ≡ phase.old }
-        ensures found { IfOk result (Finds (question self.now.graph.now self.now.refutation.now) place (branch_parts spread.now.choice (plain.Clash (cause_of cause)))) }
+        ensures found { IfOk result (Finds (question self.now.graph.now self.now.refutation.now) place
+            (branch_parts spread.now.choice (plain.Clash (cause_of cause)))) }
     {
         if phase.is_cause(spread, clash_cause(cause))? {
             Ok(None)

@@ -1,10 +1,8 @@
 // Documents that show a refutation: read, checked, and written anew.
 ghost use Rattle.std.specs.Prelude.{◌≡◌, ◌+◌, ◌<◌, ℕ, Ok, Some, IfOk, IsErrOf, length, slice_get};
 ghost use Rattle.ml_base.specs.declared.doc_fault.DocFault.{DocFault};
-ghost use Rattle.ml_base.specs.declared.version.Version.TheVariants as version;
 ghost use Rattle.ml_refutation.specs.Acceptance.{entry_at};
 ghost use Rattle.ml_refutation.specs.Views.{of_parts};
-ghost use Rattle.ml_refutation_text.specs.WrittenText.{IsCounted};
 ghost use Rattle.ml_refutation_text.specs.declared.lines.EntryLines.{EntryLines};
 ghost use Rattle.ml_refute_check.specs.Documents.{IsDocumentFault, IsMigrated, IsVerdict, HoldsNowhere, document_of, line_of};
 ghost use Rattle.ml_refute_check.specs.private.Shown.{IsShown};
@@ -13,14 +11,11 @@ use crate::check_graph::check_refutation;
 use crate::finding::{Fault, Finding};
 use crate::verdict::Verdict;
 use ml_base::{DocRefusal, NoMemory, Version};
-use ml_front::{Answer, Problem, graph, read_head, write_head};
+use ml_front::{Answer, MOST_NODES, Problem, graph, read_head, write_head};
 use ml_graph::BlockRefusal;
 use ml_refutation::Refutation;
 use ml_refutation_text::{EntryLines, Lines, append_refutation, read};
 use std::alloc::Global;
-
-// How many nodes a closure has at most.
-const MOST_NODES: u32 = 4_096;
 
 const FORMULA_LINE: u64 = 5;
 
@@ -36,16 +31,19 @@ struct Shown {
 
 /// Is a document that answers `unsatisfiable` true, as anyone can tell from it alone?
 ///
-/// The document has the five lines of its head, and then the text of a refutation, both in either version. It may have any
-/// length, and nothing is asked of who wrote it.
+/// The document has the five lines of its head, and then the text of a refutation, both in either version. It may have
+/// any length, and nothing is asked of who wrote it.
 ///
-/// - `Accepted` exactly where the bytes are such a document, and its refutation breaks no rule of acceptance in the graph of
-///   its problem. Then no structure has a state at which the problem holds.
-/// - `Unreadable` exactly where they are none, with the first bad line, counted from 1, and the lowest rule that this line
-///   breaks: 1 to 3 of the head, as `ml_front::read_head` says, and 21 to 31 of the body, as `ml_refutation_text::read` says.
-/// - `Rejected` exactly where they are such a document and a rule of acceptance is broken, with the first line that breaks
-///   one and the lowest that it breaks: 1 at the formula, whose closure is too large (never in the mu-calculus and in PDL); 2 at a
-///   sequent; 3 at the names in use; 4 at an item; 5 at a split; 6 at a clash; 7 to 10 at a `go`.
+/// - `Accepted` exactly where the bytes are such a document, the closure of its problem has at most 4,096 nodes, and
+///   its refutation breaks no rule of acceptance in the graph of the problem. Then no structure of which the problem's
+///   logic speaks has a state at which the problem holds.
+/// - `Unreadable` exactly where they are none, with the first bad line, counted from 1, and the lowest rule that this
+///   line breaks: 1 to 3 of the head, as `ml_front::read_head` says, and 21 to 31 of the body, as
+///   `ml_refutation_text::read` says.
+/// - `Rejected` exactly where they are such a document and a rule is broken, with the first line that breaks one and
+///   the lowest that it breaks: 1 at the formula, exactly where the closure of its problem has more than 4,096 nodes
+///   (never in the mu-calculus and in PDL); 2 at a sequent; 3 at the names in use; 4 at an item; 5 at a split; 6 at a
+///   clash; 7 to 10 at a `go`.
 ///
 /// # Errors
 /// `NoMemory` alone.
@@ -79,6 +77,7 @@ fn read_document(alloc: Global, bytes: &[u8]) -> Result<Shown, DocRefusal>
 }
 
 /// Checks what a document shows.
+#[tactic(auto, using(crate::proofs::Rejected::accepted_there, crate::proofs::Rejected::without_graph))]
 fn check_shown(alloc: Global, _bytes: &[u8], shown: &Shown) -> Result<Verdict, NoMemory>
     requires { IsShown _bytes.now shown.now.problem shown.now.refutation shown.now.lines }
     ensures { IfOk result (IsVerdict _bytes.now) }
@@ -108,7 +107,8 @@ fn line_of_fault(shown: &Shown, fault: Fault) -> Result<u64, NoMemory>
     requires entry { fault.entry < length shown.now.refutation.entries.items }
     requires lines { length shown.now.lines.entries.items ≡ length shown.now.refutation.entries.items }
     ensures { IfOk result (λ line. (at : EntryLines) → slice_get shown.now.lines.entries.items fault.entry ≡ Some at
-        → line ≡ line_of at (length (entry_at (of_parts shown.now.refutation.names shown.now.refutation.entries) fault.entry).traces.items) fault.part) }
+        → line ≡ line_of at (length (entry_at (of_parts shown.now.refutation.names shown.now.refutation.entries)
+        fault.entry).traces.items) fault.part) }
 {
     let at = shown.lines.entries[fault.entry];
     let items = shown.refutation.entries[fault.entry].items.as_slice();
@@ -146,8 +146,8 @@ fn line_behind(first: u64, lines: usize) -> Result<u64, NoMemory>
 /// The version 2 document of the problem and the refutation that a document shows.
 ///
 /// # Errors
-/// `Fault` exactly where the bytes show no refutation, with the first bad line and the lowest rule that is broken there, as
-/// `check` tells them. `NoMemory`.
+/// `Fault` exactly where the bytes show no refutation, with the first bad line and the lowest rule that is broken
+/// there, as `check` tells them. `NoMemory`.
 ///
 /// Cost: linear in the bytes and in the document that is written.
 pub fn migrate(alloc: Global, bytes: &[u8]) -> Result<Vec<u8>, DocRefusal>
@@ -161,8 +161,8 @@ pub fn migrate(alloc: Global, bytes: &[u8]) -> Result<Vec<u8>, DocRefusal>
 
 /// The version 2 document of what was read.
 fn write_document(alloc: Global, shown: &Shown) -> Result<Vec<u8>, NoMemory>
-    ensures text { IfOk result (λ text. text.items ≡ document_of shown.now.problem (of_parts shown.now.refutation.names shown.now.refutation.entries)) }
-    ensures counted { IfOk result (λ text. IsCounted version.Two (of_parts shown.now.refutation.names shown.now.refutation.entries)) }
+    ensures { IfOk result (λ text. text.items
+        ≡ document_of shown.now.problem (of_parts shown.now.refutation.names shown.now.refutation.entries)) }
 {
     let mut text = write_head(alloc, &shown.problem, Answer::Unsatisfiable)?;
     append_refutation(alloc, &mut text, &shown.refutation, Version::Two)?;

@@ -1,7 +1,7 @@
 // What checking a refutation against a graph finds.
 
-/// Where a refutation is refused: the first part that breaks a rule of acceptance, by the place of its entry and its own
-/// place among the parts of this entry, both counted from 0, and the lowest rule that it breaks.
+/// Where a refutation is refused: the first part that breaks a rule of acceptance, by the place of its entry and its
+/// own place among the parts of this entry, both counted from 0, and the lowest rule that it breaks.
 ///
 /// The parts of an entry are its sequent, its names in use, each of its items, and each branch of its decision in
 /// preorder.

@@ -34,24 +34,26 @@ pub fn one_finding()
     ensures law { OneFinding }
 {}
 
-/// Of a problem whose formula means something by its logic (in the mu-calculus: its variables are bound and positive):
-/// where a refutation, which keeps what every one keeps (`IsRefutation`), breaks no rule in its graph, no admitted
-/// structure, of any number of states, has a state at which the problem holds.
+/// Of a problem whose formula means something by its logic (in the mu-calculus: its variables are bound and positive; in
+/// CTL*: it is a state formula): where a refutation, which keeps what every one keeps (`IsRefutation`), breaks no rule in
+/// its graph, no admitted structure, of any number of states, has a state at which the problem holds.
 ///
 /// Does nothing when called.
 pub fn refuted_is_unsatisfiable()
     ensures { RefutedIsUnsatisfiable }
 {}
 
-/// Where a document is accepted, what it answers is true: no structure has a state at which its problem holds. This asks
-/// nothing of who wrote the document, nor how.
+/// Where a document is accepted, what it answers is true: no structure of which the logic speaks has a state at which
+/// its problem holds. This asks nothing of who wrote the document, nor how.
 ///
 /// Does nothing when called.
 pub fn accepted_is_true()
     ensures { AcceptedIsTrue }
 {}
 
-/// The document that is written for a problem and a refutation shows these; so `migrate` loses nothing.
+/// The document that is written for a problem and a refutation shows these. Asked is that the problem's formula is
+/// well-formed (`IsWellFormed`) and that the refutation keeps what every one keeps (`IsRefutation`). What a document
+/// shows is such; so `migrate` loses nothing.
 ///
 /// Does nothing when called.
 pub fn documents_are_read_back()

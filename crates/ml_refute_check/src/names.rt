@@ -235,8 +235,8 @@ fn lead_into(alloc: Global, made: &[Triple], next: &[u32]) -> Result<Vec<Triple>
 
 /// Does a step meet the condition on names, along which these traces were made, into a sequent with these nodes?
 ///
-/// Cost: `n log n` in the traces; and for each name of each item behind the step, the traces to its node up to one from an
-/// item that serves, each with a look-up of its node among the items before the step.
+/// Cost: `n log n` in the traces; and for each name of each item behind the step, the traces to its node up to one from
+/// an item that serves, each with a look-up of its node among the items before the step.
 pub(crate) fn keeps_names(
     alloc: Global,
     odds: &[u32],
@@ -253,7 +253,8 @@ pub(crate) fn keeps_names(
         → odds.now ≡ odd_priorities g
         → next.now ≡ step.next
         → ((t : Triple) → IsMember t made.now ↔ IsTrace g step.sequent step.spread step.diamond t)
-        → IsTrue b ↔ NamesCondition (HasTransition g) step (mark_of mark) (traces_of before.now) (traces_of behind.now)) }
+        → IsTrue b
+        ↔ NamesCondition (HasTransition g) step (mark_of mark) (traces_of before.now) (traces_of behind.now)) }
 {
     let bound = bound_of(before.live, mark);
     let green = green_of(mark);

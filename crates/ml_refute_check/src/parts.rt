@@ -15,7 +15,8 @@ use std::alloc::Global;
 
 /// Are these nodes of the graph, and those of the first entry the root alone?
 pub(crate) fn starts_well(graph: &ModalGraph, sequent: &[u32], entry: usize) -> bool
-    ensures { IsTrue result ↔ (All (λ n. n < size graph.now) sequent.now × (entry ≡ 0 → sequent.now ≡ graph.now.root ∷ [])) }
+    ensures { IsTrue result
+        ↔ (All (λ n. n < size graph.now) sequent.now × (entry ≡ 0 → sequent.now ≡ graph.now.root ∷ [])) }
 {
     let size = graph.size();
     sequent.iter().all(|node| *node < size) && (entry != 0 || is_one(sequent, graph.root()))

@@ -8,7 +8,7 @@ pub enum Verdict {
     Accepted,
     /// The document shows no refutation: its first bad line, and the lowest rule that this line breaks.
     Unreadable(DocFault),
-    /// The document shows a refutation, and this line, counted from 1, is the first with a broken rule of acceptance, of
-    /// which this is the lowest.
+    /// The document shows a refutation, and this line, counted from 1, is the first with a broken rule of acceptance,
+    /// of which this is the lowest.
     Rejected { line: u64, rule: u32 },
 }

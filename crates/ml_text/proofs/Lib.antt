@@ -12,8 +12,6 @@ pub mod Longest
 pub mod Cover
 -- for callers: what one answer of the scanner says of the bytes of the text
 pub mod NextToken
--- the tokens of a text that is put together from pieces
-pub mod Pieces
 -- levels of operators
 pub mod Levels
 -- the machine finds what a text stands for
@@ -36,6 +34,8 @@ pub mod Reduce
 pub mod OneAnswer
 -- the tokens of a text that is put together
 pub mod Scans
+-- the pieces of printed texts
+pub mod Pieces
 -- the sign with which an operand begins
 pub mod Fronts
 -- relations by which the same signs stand for something
@@ -46,3 +46,11 @@ pub mod Stacks
 pub mod Alike
 -- what comes of an item
 pub mod ItemSteps
+-- words as names
+pub mod WordNames
+-- the items of a text by a table of signs
+pub mod TableItems
+-- texts that keep the limits
+pub mod AcceptedTexts
+-- reserved words
+pub mod ReservedWords

@@ -5,8 +5,8 @@
 --   Asks g odds          == g is a graph, and odds are the odd priorities that occur there
 --   Keeps q e part       == the part of entry e keeps its rules
 --   KeepEach q e ps      == so does each of the parts ps
---   FirstBadIn q e ps k n == of the parts ps of entry e the one at place k is the first that breaks a rule, and n is the
---                           lowest rule that it breaks
+--   FirstBadIn q e ps k n == of the parts ps of entry e the one at place k is the first that breaks a rule, and n is
+--                           the lowest rule that it breaks
 --   Finds q e ps found == found is the first bad one of the parts ps; or none of them breaks a rule
 --   Stands q e nodes sp == sp is a spread of the sequent of entry e, which has these nodes, all of the graph
 --   IsEntryOf q e entry  == the entry is the one at the place e, and has what every entry of a refutation has

@@ -1,7 +1,7 @@
 -- What was read of a document, as the program holds it. (Private: nobody has to believe it.)
 --
---   IsShown text p r lines == the text shows the refutation r for the problem p, and the parts of its entries begin at these
---                             lines
+--   IsShown text p r lines == the text shows the refutation r for the problem p, and the parts of its entries begin at
+--                             these lines
 use Rattle.std.specs.Prelude.{ℕ, List}
 use Rattle.ml_base.specs.declared.version.Version.{Version}
 use Rattle.ml_front.specs.declared.answer.Answer.TheVariants.{Unsatisfiable}

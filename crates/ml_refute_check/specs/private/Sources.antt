@@ -1,6 +1,7 @@
 -- Which items a name can come from along a step. (Private: nobody has to believe it.)
 --
---   Serves y progress s acc     == y stands in the stack s; where progress is asked for, it isn't last there, or acc is true
+--   Serves y progress s acc     == y stands in the stack s; where progress is asked for, it isn't last there, or acc is
+--                                  true
 --   IsSource odds t y p i a     == the trace t leads from the item i to the item a, and i serves for the name y
 --   SourceAmong odds t y p is a == it leads so from some of the items is
 --   HasSource odds ts y p is a  == some of the traces ts does
@@ -36,19 +37,22 @@ pub record IsSource (odds : List ℕ) (t : Triple) (y : ℕ) (progress : Bool) (
   pub leads : Leads odds t.lowest item.odd behind.odd accepting
   pub serves : Serves y progress item.stack.items accepting
 
-pub record SourceAmong (odds : List ℕ) (t : Triple) (y : ℕ) (progress : Bool) (items : List Item) (behind : Item) : Type 0 where
+pub record SourceAmong (odds : List ℕ) (t : Triple) (y : ℕ) (progress : Bool)
+    (items : List Item) (behind : Item) : Type 0 where
   pub item : Item
   pub member : IsMember item items
   pub is_source : IsSource odds t y progress item behind
 
-pub record HasSource (odds : List ℕ) (traces : List Triple) (y : ℕ) (progress : Bool) (items : List Item) (behind : Item) : Type 0 where
+pub record HasSource (odds : List ℕ) (traces : List Triple) (y : ℕ) (progress : Bool)
+    (items : List Item) (behind : Item) : Type 0 where
   pub trace : Triple
   pub member : IsMember trace traces
   pub among : SourceAmong odds trace y progress items behind
 
 -- below the bound a name comes from where it stands, with progress where it is advanced; a green one is the last of its
 -- stack, and comes with progress
-pub record IsNameTraced (odds : List ℕ) (traces : List Triple) (bound : ℕ) (green : Option ℕ) (items : List Item) (y : ℕ) (behind : Item) : Type 0 where
+pub record IsNameTraced (odds : List ℕ) (traces : List Triple) (bound : ℕ) (green : Option ℕ)
+    (items : List Item) (y : ℕ) (behind : Item) : Type 0 where
   pub below : y < bound → HasSource odds traces y (not (ends_in y behind.stack.items)) items behind
   pub if_green : green ≡ Some y → (ends_in y behind.stack.items ≡ true) × HasSource odds traces y true items behind
 

@@ -1,6 +1,6 @@
 -- What the getters read are the parts of the words.
 use Rattle.std.proofs.Common.{codes, sym, ◌∙◌}
-use Rattle.clap.specs.Words.{found_of, rows_of}
+use Rattle.clap.specs.Words.{found_of}
 use Rattle.ml_driver.proofs.FoundWords.{first_read, same_row}
 use Rattle.ml_driver.proofs.command.command_in.Goals as goal
 

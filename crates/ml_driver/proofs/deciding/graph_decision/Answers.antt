@@ -10,5 +10,6 @@ explore-requires-clause-few_states c = has_room c.args.graph.now c.requires.is_g
 pub returns-in-Ok : goal.returns-in-Ok
 returns-in-Ok c =
     IfOk-weaker c.arena_decision.result _ _
-    (λ d won. inl (won, few_positions c.args.graph.now c.in-Ok.arena c.args.limit c.in-Ok.ensures.arena c.in-Ok.ensures.within))
+    (λ d won.
+    inl (won, few_positions c.args.graph.now c.in-Ok.arena c.args.limit c.in-Ok.ensures.arena c.in-Ok.ensures.within))
     c.arena_decision.ensures

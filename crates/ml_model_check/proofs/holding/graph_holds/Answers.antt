@@ -8,7 +8,8 @@ use Rattle.ml_model_check.proofs.holding.graph_holds.Goals as goal
 pub index-requires : goal.index-requires
 index-requires c =
     let low =
-    vertex_of_game c.args.graph.now c.args.structure.now c.args.state c.requires (subst (λ r. r < size c.args.graph.now) c.root-root.ensures.value c.root-root.ensures.is_node) c.in_ok-game.game
+    vertex_of_game c.args.graph.now c.args.structure.now c.args.state c.requires
+    (subst (λ r. r < size c.args.graph.now) c.root-root.ensures.value c.root-root.ensures.is_node) c.in_ok-game.game
     c.in_ok-game.ensures.game c.in_ok-solution.solution c.in_ok-solution.ensures.ok c.solution.inside.winner.items
     (ap (λ s. s.winner) c.solution.view_is) c.in_ok-game.vertex c.in_ok-game.ensures.vertex in
     omega (arith, low, c.solution.inside.winner.ok.0)
@@ -16,7 +17,8 @@ index-requires c =
 pub returns-in-Even : goal.returns-in-Even
 returns-in-Even c =
     let told =
-    even_holds c.args.graph.now c.args.structure.now c.args.state c.requires (subst (λ r. r < size c.args.graph.now) c.root-root.ensures.value c.root-root.ensures.is_node) c.in_ok-game.game
+    even_holds c.args.graph.now c.args.structure.now c.args.state c.requires
+    (subst (λ r. r < size c.args.graph.now) c.root-root.ensures.value c.root-root.ensures.is_node) c.in_ok-game.game
     c.in_ok-game.ensures.game c.in_ok-solution.solution c.in_ok-solution.ensures.ok c.solution.inside.winner.items
     (ap (λ s. s.winner) c.solution.view_is) c.in_ok-game.vertex c.in_ok-game.ensures.vertex
     (subst IsGame c.game.view_is c.game.invariant) c.index.result.now c.index.ensures in
@@ -25,7 +27,8 @@ returns-in-Even c =
 pub returns : goal.returns
 returns c =
     let told =
-    even_holds c.args.graph.now c.args.structure.now c.args.state c.requires (subst (λ r. r < size c.args.graph.now) c.root-root.ensures.value c.root-root.ensures.is_node) c.in_ok-game.game
+    even_holds c.args.graph.now c.args.structure.now c.args.state c.requires
+    (subst (λ r. r < size c.args.graph.now) c.root-root.ensures.value c.root-root.ensures.is_node) c.in_ok-game.game
     c.in_ok-game.ensures.game c.in_ok-solution.solution c.in_ok-solution.ensures.ok c.solution.inside.winner.items
     (ap (λ s. s.winner) c.solution.view_is) c.in_ok-game.vertex c.in_ok-game.ensures.vertex
     (subst IsGame c.game.view_is c.game.invariant) c.index.result.now c.index.ensures in

@@ -13,7 +13,8 @@ returns c =
     let i = c.partition_point.result in
     let rest = take (length xs - i) (drop i xs) in
     let is : rest ≡ drop i xs = take_all (length xs - i) (drop i xs) (omega (arith, length-drop i xs)) in
-    let rise : RiseByNode rest = subst RiseByNode (sym is) (IsNonDecreasingBy-drop (λ (x : Item). x.node) i xs c.requires) in
+    let rise : RiseByNode rest =
+    subst RiseByNode (sym is) (IsNonDecreasingBy-drop (λ (x : Item). x.node) i xs c.requires) in
     let one = IsPartitionPoint-from_clause (λ (x : Item). ltb x.node q) xs i c.partition_point.ensures.partitioned
     (IsPartitionedBy-ltb (λ (x : Item). x.node) xs q c.requires) (λ a r f' k. search rules) in
     let two = IsPartitionPoint-from_clause (λ (x : Item). leb x.node q) rest c.partition_point-2.result

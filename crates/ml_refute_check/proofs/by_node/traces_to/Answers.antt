@@ -13,7 +13,8 @@ returns c =
     let i = c.partition_point.result in
     let rest = take (length xs - i) (drop i xs) in
     let is : rest ≡ drop i xs = take_all (length xs - i) (drop i xs) (omega (arith, length-drop i xs)) in
-    let rise : RiseByTarget rest = subst RiseByTarget (sym is) (IsNonDecreasingBy-drop (λ (x : Triple). x.to) i xs c.requires) in
+    let rise : RiseByTarget rest =
+    subst RiseByTarget (sym is) (IsNonDecreasingBy-drop (λ (x : Triple). x.to) i xs c.requires) in
     let one = IsPartitionPoint-from_clause (λ (x : Triple). ltb x.to q) xs i c.partition_point.ensures.partitioned
     (IsPartitionedBy-ltb (λ (x : Triple). x.to) xs q c.requires) (λ a r f' k. search rules) in
     let two = IsPartitionPoint-from_clause (λ (x : Triple). leb x.to q) rest c.partition_point-2.result

@@ -11,7 +11,8 @@ loop-place-preserved c =
     let q = question c.args.graph.now c.args.refutation.now in
     let place = c.loop-place.place in
     let there =
-    subst (λ g. Finds (question g c.in_ok-checker.checker.refutation.now) place (parts (entry_at (question g c.in_ok-checker.checker.refutation.now).refutation place)) c.in_ok-bad.field-0)
+    subst (λ g. Finds (question g c.in_ok-checker.checker.refutation.now) place
+    (parts (entry_at (question g c.in_ok-checker.checker.refutation.now).refutation place)) c.in_ok-bad.field-0)
     c.in_ok-checker.ensures.graph c.in_ok-bad.ensures.found in
     let here =
     subst (λ r. Finds (question c.args.graph.now r) place (parts (entry_at (question c.args.graph.now r).refutation place)) c.in_ok-bad.field-0)
@@ -34,7 +35,8 @@ returns-in-Some c =
     let q = question c.args.graph.now c.args.refutation.now in
     let place = c.loop-place.place in
     let there =
-    subst (λ g. Finds (question g c.in_ok-checker.checker.refutation.now) place (parts (entry_at (question g c.in_ok-checker.checker.refutation.now).refutation place)) c.in_ok-bad.field-0)
+    subst (λ g. Finds (question g c.in_ok-checker.checker.refutation.now) place
+    (parts (entry_at (question g c.in_ok-checker.checker.refutation.now).refutation place)) c.in_ok-bad.field-0)
     c.in_ok-checker.ensures.graph c.in_ok-bad.ensures.found in
     let here =
     subst (λ r. Finds (question c.args.graph.now r) place (parts (entry_at (question c.args.graph.now r).refutation place)) c.in_ok-bad.field-0)

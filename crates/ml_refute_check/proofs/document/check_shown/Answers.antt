@@ -14,7 +14,7 @@ returns c =
     let shown = c.args.shown.now in
     let fault = c.in-Rejected.fault in
     rejected_there c.args._bytes.now shown.problem shown.refutation shown.lines c.requires c.in-Ok.graph fault.entry
-    fault.part fault.rule c.in_ok-line-in-Rejected.line c.in-Ok.ensures.graph
+    fault.part fault.rule c.in_ok-line-in-Rejected.line c.in-Ok.ensures.graph c.in-Ok.ensures.fits
     (subst (IsFinding c.in-Ok.graph (of_parts shown.refutation.names shown.refutation.entries)) c.in-Rejected.is
     c.in_ok-check_refutation.ensures)
     c.in_ok-line-in-Rejected.ensures

@@ -5,4 +5,4 @@ pub returns-clause-written : goal.returns-clause-written
 returns-clause-written c =
     let shown = c.in_ok-shown.shown in
     migrated c.args.bytes.now c.in_ok-text.text.items shown.problem shown.refutation shown.lines
-    c.in_ok-shown.ensures.shown c.in_ok-text.ensures.text c.in_ok-text.ensures.counted
+    c.in_ok-shown.ensures.shown c.in_ok-text.ensures

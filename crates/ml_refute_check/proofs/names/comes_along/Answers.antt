@@ -9,7 +9,9 @@ pub returns-then-is_source : goal.returns-then-is_source
 returns-then-is_source c = (
   λ t. record {
     item = c.item-item.result;
-    member = entry_member (λ (item : Item). IsSource c.args.odds.now c.args.trace.now c.args.name c.args.progress item c.args.behind.now)
+    member =
+        entry_member (λ (item : Item). IsSource c.args.odds.now c.args.trace.now c.args.name c.args.progress item
+        c.args.behind.now)
         c.args.items.now c.loop-item.item-index c.item-item.result c.loop-item-test.true c.item-item.is;
     is_source = c.is_source.ensures.0 c.if-is_source.true;
   },

@@ -14,9 +14,13 @@ returns-then-comes_along c =
     let is = get_or_default c.args.traces.now c.loop-trace.trace-index zero x c.loop-trace-test.true in (
       λ t. record {
         trace = x;
-        member = entry_member (λ (trace : Triple). SourceAmong c.args.odds.now trace c.args.name c.args.progress c.args.items.now c.args.behind.now)
+        member =
+            entry_member (λ (trace : Triple). SourceAmong c.args.odds.now trace c.args.name c.args.progress
+            c.args.items.now c.args.behind.now)
             c.args.traces.now c.loop-trace.trace-index x c.loop-trace-test.true is;
-        among = (among_at c.args.odds.now x c.args.name c.args.progress c.args.items.now c.items_at.result.now c.args.behind.now
+        among =
+            (among_at c.args.odds.now x c.args.name c.args.progress c.args.items.now c.items_at.result.now
+            c.args.behind.now
             c.comes_along.result c.items_at.ensures c.comes_along.ensures).0 c.if-comes_along.true;
       },
       λ h. refl,
@@ -27,7 +31,8 @@ loop-trace-preserved c =
     let zero : Triple = record { from = 0; lowest = 0; to = 0 } in
     let x : Triple = get_or c.args.traces.now c.loop-trace.trace-index zero in
     let is = get_or_default c.args.traces.now c.loop-trace.trace-index zero x c.loop-trace-test.true in
-    none_more (λ (trace : Triple). SourceAmong c.args.odds.now trace c.args.name c.args.progress c.args.items.now c.args.behind.now)
+    none_more (λ (trace : Triple). SourceAmong c.args.odds.now trace c.args.name c.args.progress c.args.items.now
+    c.args.behind.now)
     c.args.traces.now c.loop-trace.trace-index x c.comes_along.result c.loop-trace-test.true is
     (among_at c.args.odds.now x c.args.name c.args.progress c.args.items.now c.items_at.result.now c.args.behind.now
     c.comes_along.result c.items_at.ensures c.comes_along.ensures)
@@ -37,5 +42,6 @@ pub returns : goal.returns
 returns c = (
   λ f. absurd (true≢false (sym f)),
   λ s. absurd (none_at_all (λ (trace : Triple). SourceAmong c.args.odds.now trace c.args.name c.args.progress c.args.items.now c.args.behind.now)
-      c.args.traces.now c.loop-trace.trace-index c.loop-trace-test.false c.loop-trace.invariant s.trace s.member s.among),
+      c.args.traces.now c.loop-trace.trace-index c.loop-trace-test.false c.loop-trace.invariant s.trace
+      s.member s.among),
 )

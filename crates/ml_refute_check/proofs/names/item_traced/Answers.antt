@@ -11,12 +11,16 @@ loop-name-preserved c =
     let x = get_or c.deref-name-items.result.now i 0 in
     let low = subst (λ (xs : List ℕ). i < length xs) c.deref-name-items.ensures.value c.loop-name-test.true in
     let is = ap (λ (xs : List ℕ). get_or xs i 0) c.deref-name-items.ensures.value ∙ get_or_default names i 0 x low in
-    all_more (λ y. IsNameTraced c.args.odds.now c.args.traces.now c.args.bound c.args.green c.args.items.now y c.args.behind.now)
+    all_more (λ y. IsNameTraced c.args.odds.now c.args.traces.now c.args.bound c.args.green c.args.items.now y
+    c.args.behind.now)
     names i x c.name_traced.result low is c.name_traced.ensures c.if-not-name_traced.false c.loop-name.invariant
 
 pub returns : goal.returns
 returns c =
     let names = c.args.behind.now.stack.items in
-    let past = subst (λ (xs : List ℕ). length xs ≤ c.loop-name.name-index) c.deref-name-items.ensures.value c.loop-name-test.false in
-    all_found (λ y. IsNameTraced c.args.odds.now c.args.traces.now c.args.bound c.args.green c.args.items.now y c.args.behind.now)
+    let past =
+    subst (λ (xs : List ℕ). length xs ≤ c.loop-name.name-index) c.deref-name-items.ensures.value
+    c.loop-name-test.false in
+    all_found (λ y. IsNameTraced c.args.odds.now c.args.traces.now c.args.bound c.args.green c.args.items.now y
+    c.args.behind.now)
     names c.loop-name.name-index past c.loop-name.invariant

@@ -9,7 +9,8 @@ returns-then-not-item_traced c =
     let told =
     traced_at c.args.odds.now c.args.traces.now c.traces_to-arriving.result.now c.args.items.now item
     c.traces_to-arriving.ensures c.args.bound c.args.green c.item_traced.result c.item_traced.ensures in
-    one_fails (IsItemTraced c.args.odds.now c.args.traces.now c.args.bound c.args.green c.args.items.now) c.args.behind.now
+    one_fails (IsItemTraced c.args.odds.now c.args.traces.now c.args.bound c.args.green c.args.items.now)
+    c.args.behind.now
     c.loop-item.item-index item c.item_traced.result c.loop-item-test.true c.item-item.is told c.if-not-item_traced.true
 
 pub loop-item-preserved : goal.loop-item-preserved
@@ -18,11 +19,13 @@ loop-item-preserved c =
     let told =
     traced_at c.args.odds.now c.args.traces.now c.traces_to-arriving.result.now c.args.items.now item
     c.traces_to-arriving.ensures c.args.bound c.args.green c.item_traced.result c.item_traced.ensures in
-    all_more (IsItemTraced c.args.odds.now c.args.traces.now c.args.bound c.args.green c.args.items.now) c.args.behind.now
+    all_more (IsItemTraced c.args.odds.now c.args.traces.now c.args.bound c.args.green c.args.items.now)
+    c.args.behind.now
     c.loop-item.item-index item c.item_traced.result c.loop-item-test.true c.item-item.is told
     c.if-not-item_traced.false c.loop-item.invariant
 
 pub returns : goal.returns
 returns c =
-    all_found (IsItemTraced c.args.odds.now c.args.traces.now c.args.bound c.args.green c.args.items.now) c.args.behind.now
+    all_found (IsItemTraced c.args.odds.now c.args.traces.now c.args.bound c.args.green c.args.items.now)
+    c.args.behind.now
     c.loop-item.item-index c.loop-item-test.false c.loop-item.invariant

@@ -20,13 +20,16 @@ loop-trace-preserved c =
           c.if-has_number.traces.items c.loop-trace-test.true is (c.has_number.ensures.0 w.if-has_number.true)
           (ap (λ (v : Vec Triple). v.items) w.traces-is ∙ w.in_ok-push.ensures.items) c.loop-trace.invariant
       | else-has_number w ↦
-          subst (λ (v : Vec Triple). KeptBefore (λ (t : Triple). IsMember t.to c.args.next.now) c.args.made.now (i + 1) v.items)
+          subst (λ (v : Vec Triple). KeptBefore (λ (t : Triple). IsMember t.to c.args.next.now) c.args.made.now
+          (i + 1) v.items)
           (sym w.traces-is)
           (kept_same (λ (t : Triple). IsMember t.to c.args.next.now) c.args.made.now i x c.loop-trace.traces.items
-          c.loop-trace-test.true is (λ q. true≢false (sym (c.has_number.ensures.1 q) ∙ w.if-has_number.false)) c.loop-trace.invariant)
+          c.loop-trace-test.true is (λ q. true≢false (sym (c.has_number.ensures.1 q) ∙ w.if-has_number.false))
+          c.loop-trace.invariant)
     ]
 
 pub returns : goal.returns
 returns c =
-    kept_all (λ (t : Triple). IsMember t.to c.args.next.now) c.args.made.now c.loop-trace.trace-index c.loop-trace.traces.items
+    kept_all (λ (t : Triple). IsMember t.to c.args.next.now) c.args.made.now c.loop-trace.trace-index
+    c.loop-trace.traces.items
     c.loop-trace-test.false c.loop-trace.invariant

@@ -5,5 +5,6 @@ use Rattle.ml_refute_check.proofs.parts.has_number.Goals as goal
 
 pub returns : goal.returns
 returns c =
-    let found = search_member c.args.numbers.now c.args.number c.binary_search.result c.requires c.binary_search.ensures.position in
+    let found =
+    search_member c.args.numbers.now c.args.number c.binary_search.result c.requires c.binary_search.ensures.position in
     subst (λ b. IsTrue b ↔ IsMember c.args.number c.args.numbers.now) (sym c.is_ok.ensures.value) found

@@ -30,7 +30,8 @@ check_decision-requires t c =
     subst (λ d. IsDecided c.args.self.now.refutation.now.names count (decision_of d)) (sym c.deref.ensures) whole.1 in
     let less =
     left_less (decision_of c.args.decision.now) (decision_of c.in-Split.left.value) (decision_of c.in-Split.right.value)
-    (decision_of c.deref.result.now) c.in-Split.node (ap decision_of c.in-Split.is) (ap decision_of c.deref.ensures) in (
+    (decision_of c.deref.result.now) c.in-Split.node (ap decision_of c.in-Split.is)
+    (ap decision_of c.deref.ensures) in (
       search (rules, less, c.decreases),
       (
         c.requires.asks,
@@ -59,7 +60,8 @@ returns-in-Some-clause-found t c =
     (sym (ap decision_of c.in-Split.is))
     (split_left q e c.args.sequent.now c.args.spread.now c.requires.asks.is_graph stands c.in-Split.node l r
     c.splits_open_or.result c.splits_open_or.ensures c.if-not-splits_open_or.false at_left.choice c.in-Some.bad
-    c.in_ok-later-in-Some.field-0 longer.choice c.in_ok-later-in-Some.ensures.part c.in_ok-later-in-Some.ensures.rule found)
+    c.in_ok-later-in-Some.field-0 longer.choice c.in_ok-later-in-Some.ensures.part
+    c.in_ok-later-in-Some.ensures.rule found)
 
 pub check_decision-requires-in-None : goal.check_decision-requires-in-None
 check_decision-requires-in-None t c =
@@ -77,7 +79,8 @@ check_decision-requires-in-None t c =
     subst (λ d. IsDecided c.args.self.now.refutation.now.names count (decision_of d)) (sym c.deref-in-None.ensures)
     whole.2 in
     let less =
-    right_less (decision_of c.args.decision.now) (decision_of c.in-Split.left.value) (decision_of c.in-Split.right.value)
+    right_less (decision_of c.args.decision.now) (decision_of c.in-Split.left.value)
+    (decision_of c.in-Split.right.value)
     (decision_of c.deref-in-None.result.now) c.in-Split.node (ap decision_of c.in-Split.is)
     (ap decision_of c.deref-in-None.ensures) in (
       search (rules, less, c.decreases),
@@ -100,7 +103,8 @@ returns-in-Some-2-clause-found t c =
     longer_stands q e c.args.sequent.now c.args.spread.now c.requires.asks.is_graph stands c.in-Split.node Left at_left
     c.args.phase.now c.requires.phase c.in_ok-at_left-in-Split.ensures.of c.in_ok-at_left-in-Split.ensures.is_spread in
     let right =
-    longer_stands q e c.args.sequent.now c.args.spread.now c.requires.asks.is_graph stands c.in-Split.node Right at_right
+    longer_stands q e c.args.sequent.now c.args.spread.now c.requires.asks.is_graph stands
+    c.in-Split.node Right at_right
     c.check_decision.new.phase same c.in_ok-at_right-in-None.ensures.of c.in_ok-at_right-in-None.ensures.is_spread in
     let none =
     subst (λ o. Finds q e (branch_parts at_left.choice l) o) c.in-None.is
@@ -133,7 +137,8 @@ returns-in-Split-clause-found t c =
     longer_stands q e c.args.sequent.now c.args.spread.now c.requires.asks.is_graph stands c.in-Split.node Left at_left
     c.args.phase.now c.requires.phase c.in_ok-at_left-in-Split.ensures.of c.in_ok-at_left-in-Split.ensures.is_spread in
     let right =
-    longer_stands q e c.args.sequent.now c.args.spread.now c.requires.asks.is_graph stands c.in-Split.node Right at_right
+    longer_stands q e c.args.sequent.now c.args.spread.now c.requires.asks.is_graph stands
+    c.in-Split.node Right at_right
     c.check_decision.new.phase same c.in_ok-at_right-in-None.ensures.of c.in_ok-at_right-in-None.ensures.is_spread in
     let none =
     subst (λ o. Finds q e (branch_parts at_left.choice l) o) c.in-None.is
@@ -145,5 +150,6 @@ returns-in-Split-clause-found t c =
     c.deref-in-None.ensures c.in_ok-bad-in-None.ensures.found) in
     subst (λ d. Finds q e (branch_parts c.args.spread.now.choice d) None) (sym (ap decision_of c.in-Split.is))
     (split_kept q e c.args.sequent.now c.args.spread.now c.requires.asks.is_graph stands c.in-Split.node l r
-    c.splits_open_or.result c.splits_open_or.ensures c.if-not-splits_open_or.false at_left.choice at_right.choice left.choice
+    c.splits_open_or.result c.splits_open_or.ensures c.if-not-splits_open_or.false at_left.choice
+    at_right.choice left.choice
     right.choice none others)

@@ -20,7 +20,8 @@ returns-then-not-starts_well c =
 
 pub names_stand-requires : goal.names_stand-requires
 names_stand-requires c =
-    live_low c.args.self.now.refutation.now.names c.args.entry.now.live c.args.entry.now.items.items c.deref-2.result.now
+    live_low c.args.self.now.refutation.now.names c.args.entry.now.live c.args.entry.now.items.items
+    c.deref-2.result.now
     c.deref-2.ensures.value c.requires.entry.is_entry.is_traced
 
 pub returns-then-not-branch : goal.returns-then-not-branch
@@ -35,7 +36,8 @@ returns-then-not-branch c =
     (subst (λ (xs : List Item). IsTrue c.in_ok-names_stand.field-0 ↔ EachNameStands (record { live = c.args.entry.now.live; items = map item_of xs }))
     c.deref-2.ensures.value c.in_ok-names_stand.ensures) in
     front_refused_3 q c.args.place entry c.requires.entry (start.0 c.if-not-starts_well.false)
-    (test_fails (EachNameStands (entry_at q.refutation c.args.place).traces) c.in_ok-names_stand.field-0 live c.if-not-branch.true)
+    (test_fails (EachNameStands (entry_at q.refutation c.args.place).traces) c.in_ok-names_stand.field-0 live
+    c.if-not-branch.true)
 
 pub returns-in_ok-later-in-Some : goal.returns-in_ok-later-in-Some
 returns-in_ok-later-in-Some c =

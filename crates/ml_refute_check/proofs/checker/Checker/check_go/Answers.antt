@@ -16,7 +16,8 @@ returns-then-not-leaves_by_diamond-clause-found c =
     let q = question c.args.self.now.graph.now c.args.self.now.refutation.now in
     go_refused_7 q c.args.place c.args.sequent.now c.args.spread.now c.requires.asks.is_graph c.requires.stands
     c.args.diamond c.args.target (mark_of c.args.mark)
-    (test_fails (IsDiamondOf q.graph c.args.spread.now c.args.diamond) c.leaves_by_diamond.result c.leaves_by_diamond.ensures
+    (test_fails (IsDiamondOf q.graph c.args.spread.now c.args.diamond) c.leaves_by_diamond.result
+    c.leaves_by_diamond.ensures
     c.if-not-leaves_by_diamond.true)
 
 pub returns-then-not-leads_within-clause-found : goal.returns-then-not-leads_within-clause-found
@@ -31,7 +32,8 @@ returns-then-not-leads_within-clause-found c =
     within_told q e nodes sp ok c.requires.stands d f m targets made step c.values.result.now c.deref.result.now
     c.leads_within.result c.values.ensures.value
     (c.deref.ensures.value ∙ sym (ap (λ (x : Entry). x.sequent) c.entry-behind.ensures.is)) c.leads_within.ensures in
-    go_refused_8 q e nodes sp ok c.requires.stands d f m (c.leaves_by_diamond.ensures.0 c.if-not-leaves_by_diamond.false)
+    go_refused_8 q e nodes sp ok c.requires.stands d f m
+    (c.leaves_by_diamond.ensures.0 c.if-not-leaves_by_diamond.false)
     (test_fails (LeadsWithinTargets (entry_at q.refutation e).sequent sp.choice d (entry_at q.refutation f).sequent q.graph)
     c.leads_within.result within c.if-not-leads_within.true)
 
@@ -40,7 +42,8 @@ keeps_names-requires-clause-odds c =
     odds_ascend c.args.self.now.graph.now c.deref-2.result.now (c.deref-2.ensures.value ∙ c.requires.asks.odds_are)
 
 pub keeps_names-requires-clause-items : goal.keeps_names-requires-clause-items
-keeps_names-requires-clause-items c = rise_by_node c.args.entry.now.items.items c.requires.entry.is_entry.is_traced.ascend
+keeps_names-requires-clause-items c =
+    rise_by_node c.args.entry.now.items.items c.requires.entry.is_entry.is_traced.ascend
 
 pub returns-then-not-branch-clause-found : goal.returns-then-not-branch-clause-found
 returns-then-not-branch-clause-found c =
@@ -60,7 +63,8 @@ returns-then-not-branch-clause-found c =
     (c.deref-3.ensures.value ∙ sym (ap (λ (x : Entry). x.sequent) c.entry-behind.ensures.is)) c.triples.ensures
     (sym (ap (λ (x : Entry). x.traces) c.requires.entry.is))
     (sym (ap (λ (x : Entry). x.traces) c.entry-behind.ensures.is)) c.in_ok-keeps_names.ensures in
-    go_refused_9 q e nodes sp ok c.requires.stands d f m (c.leaves_by_diamond.ensures.0 c.if-not-leaves_by_diamond.false)
+    go_refused_9 q e nodes sp ok c.requires.stands d f m
+    (c.leaves_by_diamond.ensures.0 c.if-not-leaves_by_diamond.false)
     (within.0 c.if-not-leads_within.false)
     (test_fails (TracesNames (entry_at q.refutation e) sp.choice d (entry_at q.refutation f) m q.graph)
     c.in_ok-keeps_names.field-0 names c.if-not-branch.true)
@@ -88,7 +92,8 @@ returns-then-not-heights_fall-clause-found c =
     c.mark_priority.ensures
     (c.deref-4.ensures.value ∙ sym (ap (λ (x : Entry). x.heights) c.requires.entry.is))
     (c.deref-5.ensures.value ∙ sym (ap (λ (x : Entry). x.heights) c.entry-behind.ensures.is)) c.heights_fall.ensures in
-    go_refused_10 q e nodes sp ok c.requires.stands d f m (c.leaves_by_diamond.ensures.0 c.if-not-leaves_by_diamond.false)
+    go_refused_10 q e nodes sp ok c.requires.stands d f m
+    (c.leaves_by_diamond.ensures.0 c.if-not-leaves_by_diamond.false)
     (within.0 c.if-not-leads_within.false) (names.0 c.if-not-branch.false)
     (test_fails (HeightsFall q.refutation e f m) c.heights_fall.result falls c.if-not-heights_fall.true)
 

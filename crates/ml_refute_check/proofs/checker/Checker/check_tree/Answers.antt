@@ -9,7 +9,8 @@ pub spread-requires : goal.spread-requires
 spread-requires c =
     let nodes = c.in_ok-sequent.sequent in
     let same =
-    ascending_again c.deref.result.now nodes c.args.entry.now.sequent.items c.in_ok-sequent.ensures c.deref.ensures.value
+    ascending_again c.deref.result.now nodes c.args.entry.now.sequent.items c.in_ok-sequent.ensures
+    c.deref.ensures.value
     c.requires.entry.is_entry.ascends in
     subst (λ g. All (λ n. n < size g) nodes) (sym c.requires.phase)
     (subst (All (λ n. n < size c.args.self.now.graph.now)) (sym same) c.requires.low)
@@ -18,7 +19,8 @@ pub check_decision-requires-clause-stands : goal.check_decision-requires-clause-
 check_decision-requires-clause-stands c =
     let nodes = c.in_ok-sequent.sequent in
     let same =
-    ascending_again c.deref.result.now nodes c.args.entry.now.sequent.items c.in_ok-sequent.ensures c.deref.ensures.value
+    ascending_again c.deref.result.now nodes c.args.entry.now.sequent.items c.in_ok-sequent.ensures
+    c.deref.ensures.value
     c.requires.entry.is_entry.ascends in
     start_stands (question c.args.self.now.graph.now c.args.self.now.refutation.now) c.args.place
     (entry_of c.args.entry.now) nodes c.empty.result c.in_ok-spread.spread c.args.phase.now c.requires.phase

@@ -1,0 +1,114 @@
+-- What is made of a formula is the graph of its problem.
+--
+--   kept_whole    == all that is kept of a formula stands
+--   starts        == the problem starts with the node that is meant
+--   graph_made    == a draft of all nodes is the graph
+--   closure_large == a draft that overflows tells of a large closure
+use Rattle.std.proofs.Common.{ℕ, ◌≡◌, ◌+◌, Bool, true, List, [], ◌∷◌, ◌++◌, length, Option, None, Some, codes, bytes_eq, refl, sym, ap, ◌∙◌, subst, append-nil}
+use Rattle.std.specs.List.{IsDistinct}
+use Rattle.std.proofs.lemmas.Map.Keys.{IsDistinct-tail}
+use Rattle.ml_ctl.specs.Formula.{Formula, occurrences}
+use Rattle.ml_graph.proofs.Places.{one_name}
+use Rattle.ml_graph.specs.Graph.{Graph, IsGraph}
+use Rattle.ml_graph.specs.declared.node.Node.{Node}
+use Rattle.ml_blocks.specs.BlockGraph.{IsGraphAt}
+use Rattle.ml_blocks.specs.Closures.{HasMoreThan}
+use Rattle.ml_blocks.specs.Items.{now}
+use Rattle.ml_blocks.specs.Places as places
+use Rattle.ml_blocks.specs.Places.{Place}
+use Rattle.ml_blocks.specs.private.Forms.{start_in}
+use Rattle.ml_blocks.specs.private.Names.{props_onto}
+use Rattle.ml_blocks.specs.private.Numbering.{IsDraft, IsTooLarge}
+use Rattle.ml_blocks.specs.private.Occurrences.{spread, formula_here, occurrence_here, eventualities_here}
+use Rattle.ml_blocks.specs.private.Views.{Kept, Stands, Fits, place_of, start_place}
+use Rattle.ml_blocks.specs.declared.table.Occurrence.{Occurrence}
+use Rattle.ml_blocks.specs.declared.spots.Spot.{Spot}
+use Rattle.ml_blocks.proofs.ClosedDrafts.{numbered, made_graph, too_large}
+use Rattle.ml_blocks.proofs.KeptFormulas.{formula_is, kept_at}
+use Rattle.ml_blocks.proofs.NameLists.{all_among, distinct_props, is_among}
+use Rattle.ml_blocks.proofs.NumberedForms.{begun_fits}
+use Rattle.ml_blocks.proofs.SpreadLists.{stands_in}
+
+-- no name stands twice among none
+pub none_twice : IsDistinct bytes_eq []
+none_twice = IsDistinct-tail bytes_eq [] [] (one_name [])
+
+pub names_differ : (names : List (List ℕ)) (f : Formula) → names ≡ props_onto f [] → IsDistinct bytes_eq names
+names_differ names f is = subst (IsDistinct bytes_eq) (sym is) (distinct_props f [] none_twice)
+
+whole_list : {X : Type 0} (here : ℕ → Formula → Option Bool → X) (f : Formula) (o : Option Bool)
+    → spread here 0 f o ≡ [] ++ (spread here 0 f o ++ [])
+whole_list here f o = sym (append-nil (spread here 0 f o))
+
+module _ (f : Formula) (first : Option Bool) (sign : Bool) (max : ℕ) (names : List (List ℕ))
+    (os : List Occurrence) (lists : List (List ℕ))
+    (names_are : names ≡ props_onto f [])
+    (os_are : os ≡ spread (occurrence_here names) 0 f first)
+    (lists_are : lists ≡ spread eventualities_here 0 f first) where
+  abbrev K : Kept
+  K = record {
+    names = names;
+    formulas = spread formula_here 0 f first;
+    occurrences = os;
+    eventualities = lists;
+  }
+
+  kept_whole : Stands K 0 f first
+  kept_whole = record {
+    formulas =
+        stands_in formula_here (spread formula_here 0 f first) 0 f first [] [] (whole_list formula_here f first) refl;
+    occurrences =
+        stands_in (occurrence_here names) os 0 f first [] [] (os_are ∙ whole_list (occurrence_here names) f first) refl;
+    eventualities =
+        stands_in eventualities_here lists 0 f first [] [] (lists_are ∙ whole_list eventualities_here f first) refl;
+    among = all_among f [] names (λ p is. subst (λ ns. is_among ns p ≡ true) (sym names_are) is);
+  }
+
+  abbrev start : Place
+  start = start_place first f sign
+
+  abbrev begin : Spot
+  begin = start_in first sign
+
+  starts_by : (o : Option Bool) → Stands K 0 f o → (p : Place) → place_of K.formulas p (start_in o sign) ≡ start_place o f sign
+  starts_by None s p = ap (λ h. places.Holding 0 h sign) (formula_is K 0 f None s)
+  starts_by (Some c) s p = ap (λ h. places.block_of (now 0 h c) sign) (formula_is K 0 f (Some c) s)
+
+  starts : place_of K.formulas start begin ≡ start
+  starts = starts_by first kept_whole start
+
+  fits_by : (o : Option Bool) → Stands K 0 f o → Fits K (start_in o sign)
+  fits_by None s = kept_at K 0 f None s
+  fits_by (Some c) s = begun_fits K 0 f c sign s
+
+  begin_fits : Fits K begin
+  begin_fits = fits_by first kept_whole
+
+  pub closure_large : IsTooLarge os lists begin max → HasMoreThan (places.Root start) max
+  closure_large large = too_large K start begin starts begin_fits max large
+
+  module _ (xs : List Spot) (vs : List Node) (ps : List ℕ)
+      (D : IsDraft os lists begin max xs vs ps)
+      (all : length vs ≡ length xs) where
+    abbrev graph : Graph
+    graph = record { nodes = vs; priorities = ps; root = 0; props = names; actions = codes "_" ∷ [] }
+
+    pub is_made : IsGraph graph
+    is_made = made_graph K start begin starts begin_fits max xs vs ps D all (names_differ names f names_are)
+
+    pub graph_made : IsGraphAt graph start
+    graph_made = record {
+      is_graph = is_made;
+      is_numbered = (_, numbered K start begin starts begin_fits max xs vs ps D all);
+    }
+
+    -- the same of the lists that a program holds
+    pub made_of : (g : Graph)
+        → g.nodes ≡ vs
+        → g.priorities ≡ ps
+        → g.root ≡ 0
+        → g.props ≡ names
+        → g.actions ≡ codes "_" ∷ []
+        → g ≡ graph
+    made_of g nodes priorities root props actions =
+        λ i. record { nodes = nodes i; priorities = priorities i; root = root i; props = props i; actions = actions i }

@@ -1,0 +1,6 @@
+-- proofs/laws/some_graph
+use Rattle.ml_blocks.proofs.SomeGraph as lemma
+use Rattle.ml_blocks.proofs.laws.some_graph.Goals as goal
+
+pub returns : goal.returns
+returns c = lemma.some_graph

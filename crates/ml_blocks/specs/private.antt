@@ -1,0 +1,16 @@
+-- What private contracts cite.
+
+-- items by the numbers of their occurrences
+pub mod Asked
+-- when lists of them are equal
+pub mod ItemEquality
+-- the names of propositions
+pub mod Names
+-- what is kept of each occurrence
+pub mod Occurrences
+-- what nodes are, by numbers
+pub mod Forms
+-- which nodes they stand for
+pub mod Views
+-- how nodes get their numbers
+pub mod Numbering

@@ -1,0 +1,82 @@
+// The propositions of a formula, each once, in the order of the text.
+ghost use Rattle.std.specs.Prelude.{◌≡◌, ◌<◌, ◌^◌, [], length, OnOk, IfOk};
+ghost use Rattle.ml_ctl.specs.Term.{formula_of};
+ghost use Rattle.ml_blocks.specs.private.Names as listed;
+
+use indexmap::IndexSet;
+use ml_base::{Name, NoMemory};
+use ml_ctl::Term;
+use std::alloc::{AllocError, Global};
+
+// the propositions of a graph
+#[derive(Drop)]
+pub(crate) struct Names {
+    pub props: IndexSet<Name>,
+}
+
+// a proposition is added, unless it is there
+fn add_proposition(props: &mut IndexSet<Name>, name: &Name) -> Result<(), NoMemory>
+    ensures { OnOk result (props.new.keys ≡ listed.with_name props.old.keys name.now) }
+{
+    if props.contains(name) {
+        return Ok(());
+    }
+    props.insert(name.copy()?)?;
+    Ok(())
+}
+
+// the propositions of a term, in the order of the text
+fn collect(term: &Term, props: &mut IndexSet<Name>) -> Result<(), NoMemory>
+    ensures { OnOk result (props.new.keys ≡ listed.props_onto (formula_of term.now) props.old.keys) }
+{
+    match term {
+        Term::Const(_) => Ok(()),
+        Term::Prop(name) => add_proposition(props, name),
+        Term::Not(operand)
+        | Term::Next(operand)
+        | Term::Finally(operand)
+        | Term::Globally(operand)
+        | Term::Exists(operand)
+        | Term::Forall(operand) => collect(operand, props),
+        Term::And(left, right)
+        | Term::Or(left, right)
+        | Term::Implies(left, right)
+        | Term::Iff(left, right)
+        | Term::Until(left, right)
+        | Term::Release(left, right)
+        | Term::Weak(left, right) => {
+            collect(left, props)?;
+            collect(right, props)
+        }
+    }
+}
+
+impl Names {
+    // the propositions of a term
+    pub(crate) fn of(alloc: Global, term: &Term) -> Result<Names, NoMemory>
+        ensures { IfOk result (λ names. names.props.keys ≡ listed.props_onto (formula_of term.now) []) }
+    {
+        let mut props = IndexSet::new(alloc);
+        collect(term, &mut props)?;
+        Ok(Names { props })
+    }
+
+    // the place of a proposition
+    pub(crate) fn proposition(&self, name: &Name) -> u32
+        requires { length self.now.props.keys < 2 ^ 32 }
+        ensures { result ≡ listed.place_of self.now.props.keys name.now }
+    {
+        match self.props.get_index_of(name) {
+            Some(place) => place as u32,
+            None => 0,
+        }
+    }
+
+    // the propositions as a list
+    pub(crate) fn into_list(self, alloc: Global) -> Result<Vec<Name>, AllocError>
+        ensures { IfOk result (λ list. list.items ≡ self.props.keys) }
+    {
+        let Names { props } = self;
+        props.into_iter().collect(alloc)
+    }
+}

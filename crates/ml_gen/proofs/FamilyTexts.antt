@@ -1,0 +1,172 @@
+-- The text of each family is parsed as a formula of its logic.
+--
+--   Parsed       == for each family
+use Rattle.std.proofs.Common.{◌≡◌, ℕ, zero, suc, ◌+◌, ◌*◌, ◌<◌, ◌≤◌, true, nat_le, List, [], ◌∷◌, ◌++◌, map, codes, refl, sym, ap, subst, ◌∙◌, append_assoc, arith}
+use Rattle.std.specs.Cmp.{first_so, second_so}
+use Rattle.std.specs.List.{flat_map, list_all, range_with_len}
+use Rattle.std.proofs.lemmas.Bool.{and_from, leb-true}
+use Rattle.ml_lines.specs.Lines.{number}
+use Rattle.ml_text.specs.declared.token.Operator.TheVariants as operator
+use Rattle.ml_text.specs.Bytes.{is_word_byte}
+use Rattle.ml_text.specs.Refusals.{most_occurrences}
+use Rattle.ml_mu.specs.Canonical.{canonical_text}
+use Rattle.ml_mu.specs.Formula as mu
+use Rattle.ml_ctl.specs.Formula as ltl
+use Rattle.ml_gen.specs.Families.{greatest, is_in_range, part}
+use Rattle.ml_gen.specs.Parsed.{AreParsed, HasFormula}
+use Rattle.ml_gen.specs.declared.family.Family.{Family}
+use Rattle.ml_gen.specs.declared.family.Family.TheVariants.{And, Or, Step, Fair, Loop}
+use Rattle.ml_gen.proofs.LtlChains as ltl_chains
+use Rattle.ml_gen.proofs.MuChains as mu_chains
+use Rattle.ml_gen.proofs.NumberedNames.{in_range, name_bytes, number_short}
+use Rattle.ml_gen.proofs.PdlSequences as pdl_sequences
+
+range_parts : (family : Family) (n : ℕ) → is_in_range family n ≡ true → (1 ≤ n) × (n ≤ greatest family)
+range_parts family n is = (
+  leb-true 1 n (first_so (nat_le 1 n) (nat_le n (greatest family)) is),
+  leb-true n (greatest family) (second_so (nat_le 1 n) (nat_le n (greatest family)) is),
+)
+
+-- ---- conjunctions of the mu-calculus
+
+abbrev and_part : ℕ → mu.Formula
+and_part i = mu.Prop (codes "p" ++ number i)
+
+abbrev or_part : ℕ → mu.Formula
+or_part i = mu.Binary operator.Or (mu.Prop (codes "p" ++ number i)) (mu.Prop (codes "q" ++ number i))
+
+and_is_part : (i : ℕ) → i ≤ 500 → mu_chains.IsPart (and_part i)
+and_is_part i low = record {
+  spelled = and_from (list_all is_word_byte (number i)) true (name_bytes i (omega arith)) refl;
+  short = omega (arith, number_short i low);
+  bound = refl;
+  positive = refl;
+}
+
+or_is_part : (i : ℕ) → i ≤ 500 → mu_chains.IsPart (or_part i)
+or_is_part i low =
+    let named = and_from (list_all is_word_byte (number i)) true (name_bytes i (omega arith)) refl in
+    record {
+      spelled = and_from _ _ named named;
+      short = (omega (arith, number_short i low), omega (arith, number_short i low));
+      bound = refl;
+      positive = refl;
+    }
+
+and_count : (k a : ℕ) (f : mu.Formula)
+    → mu.occurrences (mu_chains.chain f (map and_part (range_with_len a k))) ≡ mu.occurrences f + 2 * k
+and_count zero a f = omega arith
+and_count (suc k) a f = omega (arith, and_count k (a + 1) (mu.Binary operator.And f (and_part a)))
+
+or_count : (k a : ℕ) (f : mu.Formula)
+    → mu.occurrences (mu_chains.chain f (map or_part (range_with_len a k))) ≡ mu.occurrences f + 4 * k
+or_count zero a f = omega arith
+or_count (suc k) a f = omega (arith, or_count k (a + 1) (mu.Binary operator.And f (or_part a)))
+
+and_text : (k a : ℕ)
+    → mu_chains.more_text (map and_part (range_with_len a k)) ≡ flat_map (λ i. codes " & " ++ part And i) (range_with_len a k)
+and_text zero a = refl
+and_text (suc k) a = ap (λ rest. codes " & p" ++ (number a ++ rest)) (and_text k (a + 1))
+
+-- the part for a number that is written so
+abbrev or_bytes : List ℕ → List ℕ
+or_bytes w = 40 ∷ 112 ∷ (w ++ (32 ∷ 124 ∷ 32 ∷ 113 ∷ (w ++ (41 ∷ []))))
+
+between : (a sp b : List ℕ)
+    → codes "(" ++ a ++ codes " " ++ sp ++ codes " " ++ b ++ codes ")"
+    ≡ 40 ∷ (a ++ (codes " " ++ (sp ++ (codes " " ++ (b ++ codes ")")))))
+between a sp b = simp append_assoc
+
+or_canonical : (i : ℕ) → canonical_text (or_part i) ≡ or_bytes (number i)
+or_canonical i = between (codes "p" ++ number i) (codes "|") (codes "q" ++ number i)
+
+or_written : (i : ℕ) → part Or i ≡ or_bytes (number i)
+or_written i = or_same (number i)
+  where
+    or_same : (w : List ℕ) → codes "(p" ++ w ++ codes " | q" ++ w ++ codes ")" ≡ or_bytes w
+    or_same w = simp append_assoc
+
+or_text : (k a : ℕ)
+    → mu_chains.more_text (map or_part (range_with_len a k)) ≡ flat_map (λ i. codes " & " ++ part Or i) (range_with_len a k)
+or_text zero a = refl
+or_text (suc k) a =
+    ap (λ bytes. codes " & " ++ (bytes ++ mu_chains.more_text (map or_part (range_with_len (a + 1) k))))
+    (or_canonical a ∙ sym (or_written a))
+    ∙ ap (λ rest. codes " & " ++ (part Or a ++ rest)) (or_text k (a + 1))
+
+-- ---- actions
+
+acts_text : (k a : ℕ) (after : List ℕ)
+    → flat_map (λ i. codes ";" ++ codes "a") (range_with_len a k) ++ after ≡ pdl_sequences.more_text k after
+acts_text zero a after = refl
+acts_text (suc k) a after = ap (λ rest. codes ";a" ++ rest) (acts_text k (a + 1) after)
+
+-- ---- conjunctions of LTL
+
+abbrev fair_part : ℕ → ltl.Formula
+fair_part i = ltl.Temporal ltl.Globally (ltl.Temporal ltl.Finally (ltl.Prop (codes "p" ++ number i)))
+
+fair_is_part : (i : ℕ) → i ≤ 500 → ltl_chains.IsPart (fair_part i)
+fair_is_part i low = record {
+  spelled = and_from (list_all is_word_byte (number i)) true (name_bytes i (omega arith)) refl;
+  short = omega (arith, number_short i low);
+  stands = refl;
+}
+
+fair_count : (k a : ℕ) (f : ltl.Formula)
+    → ltl.occurrences (ltl_chains.chain f (map fair_part (range_with_len a k))) ≡ ltl.occurrences f + 4 * k
+fair_count zero a f = omega arith
+fair_count (suc k) a f = omega (arith, fair_count k (a + 1) (ltl.Binary operator.And f (fair_part a)))
+
+fair_text : (k a : ℕ)
+    → ltl_chains.more_text (map fair_part (range_with_len a k)) ≡ flat_map (λ i. codes " & " ++ part Fair i) (range_with_len a k)
+fair_text zero a = refl
+fair_text (suc k) a =
+    ap (λ rest. codes " & (G F p" ++ (number a ++ (codes ")" ++ rest))) (fair_text k (a + 1))
+    ∙ ap (λ bytes. codes " & (G F p" ++ bytes)
+    (sym (append_assoc (number a) (codes ")") (flat_map (λ i. codes " & " ++ part Fair i) (range_with_len (a + 1) k))))
+
+fair_first : (w rest : List ℕ) → (codes "(G F p" ++ w ++ codes ")") ++ rest ≡ codes "(G F p" ++ (w ++ (codes ")" ++ rest))
+fair_first w rest = simp append_assoc
+
+-- ---- all families
+
+pub are_parsed : AreParsed
+are_parsed And zero is = absurd (omega (arith, (range_parts And zero is).0))
+are_parsed And (suc k) is =
+    let low = (range_parts And (suc k) is).1 in
+    let gs = map and_part (range_with_len 2 k) in
+    let all = in_range mu_chains.IsPart and_part and_is_part k 2 (omega (arith, low)) in
+    let small : mu.occurrences (mu_chains.chain (and_part 1) gs) ≤ most_occurrences = omega (arith, and_count k 2 (and_part 1), low) in
+    subst (λ more. HasFormula And (part And 1 ++ more)) (and_text k 2)
+    (mu_chains.chain (and_part 1) gs, mu_chains.chain_parsed (and_part 1) gs (and_is_part 1 (omega arith)) all small)
+are_parsed Or zero is = absurd (omega (arith, (range_parts Or zero is).0))
+are_parsed Or (suc k) is =
+    let low = (range_parts Or (suc k) is).1 in
+    let gs = map or_part (range_with_len 2 k) in
+    let all = in_range mu_chains.IsPart or_part or_is_part k 2 (omega (arith, low)) in
+    let small : mu.occurrences (mu_chains.chain (or_part 1) gs) ≤ most_occurrences = omega (arith, or_count k 2 (or_part 1), low) in
+    subst (λ first. HasFormula Or (first ++ flat_map (λ i. codes " & " ++ part Or i) (range_with_len 2 k)))
+    (or_canonical 1 ∙ sym (or_written 1))
+    (subst (λ more. HasFormula Or (canonical_text (or_part 1) ++ more)) (or_text k 2)
+    (mu_chains.chain (or_part 1) gs, mu_chains.chain_parsed (or_part 1) gs (or_is_part 1 (omega arith)) all small))
+are_parsed Step zero is = absurd (omega (arith, (range_parts Step zero is).0))
+are_parsed Step (suc k) is =
+    let low = (range_parts Step (suc k) is).1 in
+    subst (λ more. HasFormula Step (codes "<a" ++ more)) (sym (acts_text k 2 (codes ">p & [a*]!p")))
+    (pdl_sequences.step_formula k, pdl_sequences.step_parsed k (omega (arith, low)))
+are_parsed Fair zero is = absurd (omega (arith, (range_parts Fair zero is).0))
+are_parsed Fair (suc k) is =
+    let low = (range_parts Fair (suc k) is).1 in
+    let gs = map fair_part (range_with_len 2 k) in
+    let all = in_range ltl_chains.IsPart fair_part fair_is_part k 2 (omega (arith, low)) in
+    let small : ltl.occurrences (ltl_chains.chain (fair_part 1) gs) < most_occurrences = omega (arith, fair_count k 2 (fair_part 1), low) in
+    let rest = flat_map (λ i. codes " & " ++ part Fair i) (range_with_len 2 k) in
+    subst (HasFormula Fair)
+    (ap (λ more. codes "(G F p" ++ (number 1 ++ (codes ")" ++ more))) (fair_text k 2) ∙ sym (fair_first (number 1) rest))
+    (ltl_chains.chain (fair_part 1) gs, ltl_chains.chain_parsed (fair_part 1) gs (fair_is_part 1 (omega arith)) all small)
+are_parsed Loop zero is = absurd (omega (arith, (range_parts Loop zero is).0))
+are_parsed Loop (suc k) is =
+    let low = (range_parts Loop (suc k) is).1 in
+    subst (λ more. HasFormula Loop (codes "repeat(a" ++ more)) (sym (acts_text k 2 (codes ")")))
+    (pdl_sequences.loop_formula k, pdl_sequences.loop_parsed k (omega (arith, low)))

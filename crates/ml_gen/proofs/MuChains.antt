@@ -1,0 +1,161 @@
+-- Conjunctions of the mu-calculus whose parts are written in canonical form, without parentheses round the whole.
+--
+--   chain f gs      == f & g & .. of the formulas gs, grouped to the left
+--   chain_text f gs == its text
+--   IsPart g        == g is spelled, its names are short, and it has no variable that is at fault
+--   chain_parsed    == where all are parts and the whole has few occurrences, the text is parsed as the chain
+use Rattle.std.proofs.Common.{◌≡◌, ℕ, ◌+◌, ◌≤◌, Bool, true, false, nat_lt, List, [], ◌∷◌, ◌++◌, length, map, take, drop, codes, refl, sym, ap, subst, ◌∙◌, arith, ltb-false, ltb-true}
+use Rattle.std.specs.List.{AllByRecursion}
+use Rattle.std.proofs.lemmas.Bool.{and_from}
+use Rattle.std.proofs.lemmas.List.{map-append, take-append-drop}
+use Rattle.std.proofs.lemmas.List.Sums.{sum_by-take-le}
+use Rattle.ml_text.specs.declared.token.Operator.TheVariants as operator
+use Rattle.ml_text.specs.declared.token.Token.TheVariants as token
+use Rattle.ml_text.specs.declared.token.WordStart.TheVariants.{AnyLetter}
+use Rattle.ml_text.specs.declared.token.Placed.{Placed}
+use Rattle.ml_text.specs.Tokens.{tokens}
+use Rattle.ml_text.specs.Refusals.{Item, Cause, Syntax, TooMany, TooNested, NameTooLong, signs_of, IsFault, most_occurrences}
+use Rattle.ml_text.proofs.Cover.{are_tokens}
+use Rattle.ml_text.proofs.Scans.{Spelt, spelt_at, Scans, ends, blank, piece, scans_tokens}
+use Rattle.ml_mu.specs.Canonical.{canonical_text}
+use Rattle.ml_mu.specs.Formula.{Formula, Binary, occurrences}
+use Rattle.ml_mu.specs.Grammar as grammar
+use Rattle.ml_mu.specs.Grammar.{IsReadAs, Reads, iff_alone, imp_alone, or_alone, and}
+use Rattle.ml_mu.specs.Parsing.{IsParsedAs}
+use Rattle.ml_mu.specs.Signs.{Sign}
+use Rattle.ml_mu.specs.Spelling.{HasShortNames, is_spelled}
+use Rattle.ml_mu.specs.Text.{items, items_from, sign_at, silences}
+use Rattle.ml_mu.specs.Variables.{is_bound, is_positive}
+use Rattle.ml_mu.proofs.CanonicalLimits.{few_open, no_long, open_most, opens_items, opens_spelt, tokens_short, IsShort}
+use Rattle.ml_mu.proofs.CanonicalPieces.{and_front, ends_word}
+use Rattle.ml_mu.proofs.CanonicalTexts.{reads_formula, scans_formula, sign_spelt, tokens_onto}
+use Rattle.ml_mu.proofs.Counting.{counts, counted_items}
+use Rattle.ml_mu.proofs.FaultFree.{well_fine}
+use Rattle.ml_mu.proofs.GrammarTables.{un_raised}
+
+abbrev pub chain : Formula → List Formula → Formula
+chain f [] = f
+chain f (g ∷ gs) = chain (Binary operator.And f g) gs
+
+abbrev pub more_text : List Formula → List ℕ
+more_text [] = []
+more_text (g ∷ gs) = codes " & " ++ (canonical_text g ++ more_text gs)
+
+abbrev pub chain_text : Formula → List Formula → List ℕ
+chain_text f gs = canonical_text f ++ more_text gs
+
+pub record IsPart (f : Formula) : Type 0 where
+  pub spelled : is_spelled f ≡ true
+  pub short : HasShortNames f
+  pub bound : is_bound [] f ≡ true
+  pub positive : is_positive f ≡ true
+
+both : (f g : Formula) → IsPart f → IsPart g → IsPart (Binary operator.And f g)
+both f g p q = record {
+  spelled = and_from _ _ p.spelled q.spelled;
+  short = (p.short, q.short);
+  bound = and_from _ _ p.bound q.bound;
+  positive = and_from _ _ p.positive q.positive;
+}
+
+chain_part : (gs : List Formula) (f : Formula) → IsPart f → AllByRecursion IsPart gs → IsPart (chain f gs)
+chain_part [] f p all = p
+chain_part (g ∷ gs) f p all = chain_part gs (Binary operator.And f g) (both f g p all.0) all.1
+
+-- ---- the tokens
+
+abbrev more_tokens : List Formula → List Spelt
+more_tokens [] = []
+more_tokens (g ∷ gs) = (token.Operator operator.And, codes "&") ∷ tokens_onto g (more_tokens gs)
+
+stops : (gs : List Formula) → ends_word (more_text gs) ≡ true
+stops [] = refl
+stops (g ∷ gs) = refl
+
+scans_more : (gs : List Formula) → AllByRecursion IsPart gs → Scans AnyLetter (more_text gs) (more_tokens gs)
+scans_more [] all = ends
+scans_more (g ∷ gs) all =
+    let rest = scans_formula g all.0.spelled (more_text gs) (more_tokens gs) (stops gs) (scans_more gs all.1) in
+    blank 32 refl
+    (piece (token.Operator operator.And) 38 [] refl (and_front (canonical_text g ++ more_text gs)) (blank 32 refl rest))
+
+reads_more : (gs : List Formula)
+    → AllByRecursion IsPart gs
+    → (f : Formula) (ts : List Sign)
+    → Reads grammar.And ts f (map sign_spelt (more_tokens gs))
+    → Reads grammar.And ts (chain f gs) []
+reads_more [] all f ts r = r
+reads_more (g ∷ gs) all f ts r =
+    reads_more gs all.1 (Binary operator.And f g) ts (and r (reads_formula g all.0.spelled (more_tokens gs)))
+
+short_more : (gs : List Formula) → AllByRecursion IsPart gs → AllByRecursion IsShort (more_tokens gs)
+short_more [] all = tt
+short_more (g ∷ gs) all = (refl, tokens_short g all.0.short (more_tokens gs) (short_more gs all.1))
+
+few_more : (gs : List Formula) (f : Formula) → occurrences f + opens_spelt (more_tokens gs) ≤ occurrences (chain f gs)
+few_more [] f = omega arith
+few_more (g ∷ gs) f = omega (arith, few_open g (more_tokens gs), few_more gs (Binary operator.And f g))
+
+signs_spelt : (text : List ℕ) (silent : Bool) (ps : List Placed)
+    → signs_of (items_from text silent ps) ≡ map sign_spelt (map (spelt_at text) ps)
+signs_spelt text silent [] = refl
+signs_spelt text silent (p ∷ ps) = ap (λ ts. sign_at text p ∷ ts) (signs_spelt text (silences (sign_at text p)) ps)
+
+-- ---- the text
+
+-- what stands for a formula is no fault of the grammar
+no_syntax : (is : List (Item Sign)) (f : Formula)
+    → IsReadAs (signs_of is) f
+    → (k : ℕ)
+    → IsFault IsReadAs Syntax is k
+    → ⊥
+no_syntax is f stands k fault = go (nat_lt k (length is)) refl
+  where
+    go : (b : Bool) → nat_lt k (length is) ≡ b → ⊥
+    go true below =
+        let split : signs_of (take (k + 1) is) ++ signs_of (drop (k + 1) is) ≡ signs_of is =
+        sym (map-append (λ i. i.sign) (take (k + 1) is) (drop (k + 1) is)) ∙ ap signs_of (take-append-drop (k + 1) is) in
+        fault.ends (ltb-true k (length is) below) (signs_of (drop (k + 1) is), f, subst (λ ts. IsReadAs ts f) (sym split) stands)
+    go false past = fault.is_none (omega (arith, fault.within, ltb-false k (length is) past)) f stands
+
+module _ (f : Formula) (gs : List Formula) (part : IsPart f) (parts : AllByRecursion IsPart gs)
+    (small : occurrences (chain f gs) ≤ most_occurrences) where
+  abbrev text : List ℕ
+  text = chain_text f gs
+
+  abbrev spelt : List Spelt
+  spelt = tokens_onto f (more_tokens gs)
+
+  tokens_are : map (spelt_at text) (tokens AnyLetter text) ≡ spelt
+  tokens_are =
+      scans_tokens AnyLetter text spelt
+      (scans_formula f part.spelled (more_text gs) (more_tokens gs) (stops gs) (scans_more gs parts))
+
+  stands : IsReadAs (signs_of (items text)) (chain f gs)
+  stands =
+      let first = un_raised grammar.And (reads_formula f part.spelled (more_tokens gs)) in
+      subst (λ ts. IsReadAs ts (chain f gs)) (sym (signs_spelt text false (tokens AnyLetter text) ∙ ap (map sign_spelt) tokens_are))
+      (iff_alone (imp_alone (or_alone (reads_more gs parts f (map sign_spelt spelt) first))))
+
+  keeps : (c : Cause) (k : ℕ) → IsFault IsReadAs c (items text) k → ⊥
+  unfolding tokens
+  keeps Syntax k fault = no_syntax (items text) (chain f gs) stands k fault
+  keeps TooMany k fault =
+      let of_signs = counted_items text false (tokens AnyLetter text) in
+      omega (arith, sum_by-take-le (λ (i : Item Sign). i.weight) (items text) (k + 1), of_signs, counts stands, small, fault.passes)
+  keeps TooNested k fault =
+      let of_tokens = opens_items text false (tokens AnyLetter text) ∙ ap opens_spelt tokens_are in
+      let few = few_open f (more_tokens gs) in
+      omega (arith, open_most (items text) 0 (k + 1), of_tokens, few, few_more gs f, small, fault.passes)
+  keeps NameTooLong k long =
+      no_long text 0 false (tokens AnyLetter text) (are_tokens AnyLetter text 0)
+      (subst (AllByRecursion IsShort) (sym tokens_are) (tokens_short f part.short (more_tokens gs) (short_more gs parts)))
+      k long
+
+  pub chain_parsed : IsParsedAs (chain_text f gs) (chain f gs)
+  chain_parsed =
+      let whole = chain_part gs f part parts in
+      record {
+        accepted = record { stands = stands; keeps = keeps };
+        fine = well_fine (chain f gs) whole.bound whole.positive;
+      }

@@ -1,0 +1,162 @@
+-- What checking finds of a structure and a start for a problem.
+--
+--   Finds c p m s    == c is found of the state s of the structure m for the problem p
+--   one_finding      == of them one thing is found at most
+--   some_finding     == and something, where s is a state and the formula means something
+--   FoundIn text c   == the text shows a structure and a start for a problem, of which c is found
+--   found_in, told   == what checking a text finds is that, or its first bad line
+use Rattle.std.proofs.Common.{◌≡◌, ℕ, ◌<◌, ◌⊎◌, List, inl, inr, refl, ap}
+use Rattle.ml_base.specs.Structure.{Structure, IsStructure}
+use Rattle.ml_base.specs.declared.doc_fault.DocFault.{DocFault}
+use Rattle.ml_lists.proofs.Decided.{Decided}
+use Rattle.ml_graph.specs.Graph.{Graph}
+use Rattle.ml_front.specs.Graphs.{HasLargeClosure, IsGraphOf, IsMeaningful}
+use Rattle.ml_front.specs.Logics.{logic_of}
+use Rattle.ml_front.specs.Problems.{HoldsAt, IsAdmitted, IsFirstDeadlock}
+use Rattle.ml_front.specs.declared.problem.Problem.{Problem}
+use Rattle.ml_front.specs.declared.problem.TheConstants.{MOST_NODES}
+use Rattle.ml_front.proofs.Graphs.{admitted_or_not, holds_or_fails, never_both, one_deadlock}
+use Rattle.ml_front.proofs.SomeGraph.{some_graph}
+use Rattle.ml_model_check.specs.Checked.{IsCheckedAs, IsDocument, IsDocumentFault}
+use Rattle.ml_model_check.specs.declared.checked.Checked.{Checked}
+use Rattle.ml_model_check.specs.declared.checked.Checked.TheVariants.{Holds, Fails, Unreadable, NotTotal, ClosureTooLarge}
+
+abbrev IsClosed : Problem → Type 0
+IsClosed p = ¬ (HasLargeClosure p MOST_NODES)
+
+-- the logic of the problem speaks of the structure
+abbrev SpeaksOf : Problem → Structure → Type 0
+SpeaksOf p m = IsAdmitted (logic_of p.formula) m
+
+abbrev pub Finds : Checked → Problem → Structure → ℕ → Type 0
+Finds Holds p m s = SpeaksOf p m × IsClosed p × HoldsAt m s p
+Finds Fails p m s = SpeaksOf p m × IsClosed p × (¬ (HoldsAt m s p))
+Finds (Unreadable fault) p m s = ⊥
+Finds (NotTotal dead) p m s = IsFirstDeadlock (logic_of p.formula) m dead
+Finds ClosureTooLarge p m s = SpeaksOf p m × HasLargeClosure p MOST_NODES
+
+module _ (p : Problem) (m : Structure) (s : ℕ) where
+  never : (dead : ℕ) → SpeaksOf p m → ¬ (IsFirstDeadlock (logic_of p.formula) m dead)
+  never dead = never_both (logic_of p.formula) m dead
+
+  pub one_finding : (c d : Checked) → Finds c p m s → Finds d p m s → c ≡ d
+  one_finding Holds Holds x y = refl
+  one_finding Holds Fails x y = absurd (y.2 x.2)
+  one_finding Holds (NotTotal dead) x y = absurd (never dead x.0 y)
+  one_finding Holds ClosureTooLarge x y = absurd (x.1 y.1)
+  one_finding Fails Holds x y = absurd (x.2 y.2)
+  one_finding Fails Fails x y = refl
+  one_finding Fails (NotTotal dead) x y = absurd (never dead x.0 y)
+  one_finding Fails ClosureTooLarge x y = absurd (x.1 y.1)
+  one_finding (NotTotal dead) Holds x y = absurd (never dead y.0 x)
+  one_finding (NotTotal dead) Fails x y = absurd (never dead y.0 x)
+  one_finding (NotTotal dead) (NotTotal other) x y = ap NotTotal (one_deadlock (logic_of p.formula) m dead other x y)
+  one_finding (NotTotal dead) ClosureTooLarge x y = absurd (never dead y.0 x)
+  one_finding ClosureTooLarge Holds x y = absurd (y.1 x.1)
+  one_finding ClosureTooLarge Fails x y = absurd (y.1 x.1)
+  one_finding ClosureTooLarge (NotTotal dead) x y = absurd (never dead x.0 y)
+  one_finding ClosureTooLarge ClosureTooLarge x y = refl
+  one_finding (Unreadable fault) d x y = absurd x
+  one_finding c (Unreadable fault) x y = absurd y
+
+  by_holding : IsClosed p → SpeaksOf p m → Decided (HoldsAt m s p) → (c : Checked) × Finds c p m s
+  by_holding closed speaks (inl holds) = (Holds, (speaks, closed, holds))
+  by_holding closed speaks (inr none) = (Fails, (speaks, closed, none))
+
+  pub some_finding : IsMeaningful p.formula → IsStructure m → s < m.states → (c : Checked) × Finds c p m s
+  some_finding meaningful is_structure low = by_structure (admitted_or_not (logic_of p.formula) m is_structure)
+    where
+      by_closure : SpeaksOf p m → ((g : Graph) × IsGraphOf g p × IsClosed p) ⊎ HasLargeClosure p MOST_NODES
+          → (c : Checked) × Finds c p m s
+      by_closure speaks (inl (g, is_graph, closed)) =
+          by_holding closed speaks (holds_or_fails p g m s meaningful is_graph speaks low)
+      by_closure speaks (inr large) = (ClosureTooLarge, (speaks, large))
+
+      by_structure : SpeaksOf p m ⊎ ((dead : ℕ) × IsFirstDeadlock (logic_of p.formula) m dead)
+          → (c : Checked) × Finds c p m s
+      by_structure (inl speaks) = by_closure speaks (some_graph MOST_NODES p.negated p.formula)
+      by_structure (inr (dead, first)) = (NotTotal dead, first)
+
+-- ---- in a text
+
+pub record FoundIn (text : List ℕ) (c : Checked) : Type 0 where
+  pub problem : Problem
+  pub structure : Structure
+  pub start : ℕ
+  pub is_document : IsDocument text problem structure start
+  pub finds : Finds c problem structure start
+
+-- c is the first bad line of the text
+abbrev pub IsFault : List ℕ → Checked → Type 0
+IsFault text c = (fault : DocFault) × (c ≡ Unreadable fault) × IsDocumentFault text fault
+
+pub found_in : (text : List ℕ) (c : Checked) → IsCheckedAs text c → FoundIn text c ⊎ IsFault text c
+found_in text Holds x =
+    inl (record {
+      problem = x.problem;
+      structure = x.structure;
+      start = x.start;
+      is_document = x.is_document;
+      finds = (x.admitted, x.closed, x.holds);
+    })
+found_in text Fails x =
+    inl (record {
+      problem = x.problem;
+      structure = x.structure;
+      start = x.start;
+      is_document = x.is_document;
+      finds = (x.admitted, x.closed, x.fails);
+    })
+found_in text (Unreadable fault) x = inr (fault, refl, x)
+found_in text (NotTotal dead) x =
+    inl (record {
+      problem = x.problem;
+      structure = x.structure;
+      start = x.start;
+      is_document = x.is_document;
+      finds = x.is_first;
+    })
+found_in text ClosureTooLarge x =
+    inl (record {
+      problem = x.problem;
+      structure = x.structure;
+      start = x.start;
+      is_document = x.is_document;
+      finds = (x.admitted, x.is_large);
+    })
+
+pub told : (text : List ℕ) (c : Checked) → FoundIn text c → IsCheckedAs text c
+told text Holds x = record {
+  problem = x.problem;
+  structure = x.structure;
+  start = x.start;
+  is_document = x.is_document;
+  admitted = x.finds.0;
+  closed = x.finds.1;
+  holds = x.finds.2;
+}
+told text Fails x = record {
+  problem = x.problem;
+  structure = x.structure;
+  start = x.start;
+  is_document = x.is_document;
+  admitted = x.finds.0;
+  closed = x.finds.1;
+  fails = x.finds.2;
+}
+told text (Unreadable fault) x = absurd x.finds
+told text (NotTotal dead) x = record {
+  problem = x.problem;
+  structure = x.structure;
+  start = x.start;
+  is_document = x.is_document;
+  is_first = x.finds;
+}
+told text ClosureTooLarge x = record {
+  problem = x.problem;
+  structure = x.structure;
+  start = x.start;
+  is_document = x.is_document;
+  admitted = x.finds.0;
+  is_large = x.finds.1;
+}
