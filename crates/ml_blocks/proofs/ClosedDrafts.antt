@@ -6,19 +6,19 @@
 --   numbered         == the lists of the draft are numbered by the places of the closure
 --   made_graph       == they make a graph
 --   too_large        == a draft that overflows tells of a large closure
-use Rattle.std.proofs.Common.{ℕ, zero, suc, ◌≡◌, ◌+◌, ◌-◌, ◌<◌, ◌≤◌, ◌⊎◌, inl, inr, arith, Bool, true, false, List, [], ◌∷◌, ◌++◌, length, map, get_or, Option, None, Some, codes, bytes_eq, All, refl, sym, ap, ◌∙◌, subst, if◌then◌else◌}
+use Rattle.std.proofs.Common.{ℕ, suc, ◌≡◌, ◌+◌, ◌-◌, ◌<◌, inl, inr, arith, true, false, List, [], ◌∷◌, length, map, get_or, Option, None, Some, codes, bytes_eq, All, refl, sym, ap, ◌∙◌, subst}
 use Rattle.std.specs.List.{flat_map, range_with_len, slice_get, IsDistinct}
 use Rattle.std.specs.Option.{option_map}
 use Rattle.std.proofs.lemmas.List.{length-map}
 use Rattle.std.proofs.lemmas.List.Concat.{flat_map-cons}
 use Rattle.std.proofs.lemmas.List.Elements.{All-append, All-cons, All-nil}
 use Rattle.std.proofs.lemmas.List.FromFn.{get_or-range_with_len, length-range_with_len}
-use Rattle.std.proofs.lemmas.Option.{slice_get-map, slice_get_within, slice_get-get_or, get_or_from_slice_get}
+use Rattle.std.proofs.lemmas.Option.{slice_get-map, slice_get_within, slice_get-get_or}
 use Rattle.ml_lists.specs.BreadthFirst.{IsBreadthFirst}
 use Rattle.ml_lists.specs.Member.{IsMember}
 use Rattle.ml_lists.proofs.Member.{Image, member-map, member-map_from, member-place}
 use Rattle.ml_graph.proofs.Places.{one_name}
-use Rattle.ml_graph.specs.Graph.{Graph, IsGraph, Reference, references_of, size}
+use Rattle.ml_graph.specs.Graph.{Graph, IsGraph, Reference, references_of}
 use Rattle.ml_graph.specs.declared.node.Node.{Node}
 use Rattle.ml_graph.specs.declared.node.Node.TheVariants as node
 use Rattle.ml_blocks.specs.BlockGraph as closure
@@ -27,9 +27,9 @@ use Rattle.ml_blocks.specs.Closures.{HasMoreThan}
 use Rattle.ml_blocks.specs.Places as places
 use Rattle.ml_blocks.specs.Places.{Place, form_of, priority_of}
 use Rattle.ml_blocks.specs.Items.{Item}
-use Rattle.ml_blocks.specs.private.Forms.{form_in, priority_in}
-use Rattle.ml_blocks.specs.private.Numbering.{HasOnePlace, constant_of, HasFormIn, children_in, ReachedIn, at_root, behind, IsMade, IsDraft, IsTooLarge}
-use Rattle.ml_blocks.specs.private.Views.{Kept, Fits, FormFits, item_of, items_of, place_of, form_view}
+use Rattle.ml_blocks.specs.private.Forms.{form_in}
+use Rattle.ml_blocks.specs.private.Numbering.{HasOnePlace, HasFormIn, children_in, ReachedIn, at_root, behind, IsDraft, IsTooLarge}
+use Rattle.ml_blocks.specs.private.Views.{Kept, Fits, FormFits, items_of, place_of, form_view}
 use Rattle.ml_blocks.specs.declared.items.Asked.{Asked}
 use Rattle.ml_blocks.specs.declared.spots.Fixed.TheVariants as fixed
 use Rattle.ml_blocks.specs.declared.spots.Form.{Form}

@@ -3,18 +3,18 @@
 --   one_spot      == the root alone is a draft
 --   stepped       == one node more
 --   no_room       == where the next node leads to one too many, more nodes are reached
-use Rattle.std.proofs.Common.{ℕ, zero, suc, ◌≡◌, ◌+◌, ◌<◌, ◌≤◌, ◌⊎◌, inl, inr, arith, Bool, true, false, List, [], ◌∷◌, ◌++◌, length, map, get_or, Some, refl, sym, ap, ◌∙◌, subst, ⊎_elim, append-nil, length-append, append_assoc, if◌then◌else◌}
+use Rattle.std.proofs.Common.{ℕ, zero, suc, ◌≡◌, ◌+◌, ◌<◌, ◌≤◌, ◌⊎◌, inl, inr, arith, Bool, true, false, List, [], ◌∷◌, ◌++◌, length, map, get_or, Some, refl, sym, ap, ◌∙◌, subst, ⊎_elim, append-nil, length-append}
 use Rattle.std.specs.List.{flat_map, slice_get}
-use Rattle.std.proofs.lemmas.Bool.{cases_eq, cases_lt}
+use Rattle.std.proofs.lemmas.Bool.{cases_lt}
 use Rattle.std.proofs.lemmas.Grind.{flat_map-append}
-use Rattle.std.proofs.lemmas.List.{get_or_append_left, get_or-append-add, length-map, map-append}
-use Rattle.std.proofs.lemmas.Option.{get_or_from_slice_get, slice_get_within}
+use Rattle.std.proofs.lemmas.List.{get_or_append_left, length-map, map-append}
+use Rattle.std.proofs.lemmas.Option.{slice_get_within}
 use Rattle.ml_lists.specs.Member.{IsMember}
 use Rattle.ml_graph.specs.declared.node.Node.{Node}
 use Rattle.ml_graph.specs.declared.node.Node.TheVariants as node
 use Rattle.ml_blocks.specs.BlockGraph.{row_of}
 use Rattle.ml_blocks.specs.private.Forms.{form_in, priority_in}
-use Rattle.ml_blocks.specs.private.Numbering.{IsAdded, HasOnePlace, IsFull, FillsFirst, Overflows, Numbers, NumbersTwo, NumbersOne, constant_of, pair_of, edge_of, HasFormIn, children_in, ReachedIn, at_root, behind, RunsOn, IsMade, IsDraft, IsStep, HasNoRoom, IsTooLarge}
+use Rattle.ml_blocks.specs.private.Numbering.{IsAdded, HasOnePlace, IsFull, Overflows, Numbers, constant_of, pair_of, edge_of, HasFormIn, children_in, ReachedIn, at_root, behind, RunsOn, IsMade, IsDraft, IsStep, HasNoRoom, IsTooLarge}
 use Rattle.ml_blocks.specs.declared.table.Occurrence.{Occurrence}
 use Rattle.ml_blocks.specs.declared.spots.Fixed.TheVariants as fixed
 use Rattle.ml_blocks.specs.declared.spots.Form.{Form}

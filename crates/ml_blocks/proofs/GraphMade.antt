@@ -4,10 +4,10 @@
 --   starts        == the problem starts with the node that is meant
 --   graph_made    == a draft of all nodes is the graph
 --   closure_large == a draft that overflows tells of a large closure
-use Rattle.std.proofs.Common.{ℕ, ◌≡◌, ◌+◌, Bool, true, List, [], ◌∷◌, ◌++◌, length, Option, None, Some, codes, bytes_eq, refl, sym, ap, ◌∙◌, subst, append-nil}
+use Rattle.std.proofs.Common.{ℕ, ◌≡◌, Bool, true, List, [], ◌∷◌, ◌++◌, length, Option, None, Some, codes, bytes_eq, refl, sym, ap, ◌∙◌, subst, append-nil}
 use Rattle.std.specs.List.{IsDistinct}
 use Rattle.std.proofs.lemmas.Map.Keys.{IsDistinct-tail}
-use Rattle.ml_ctl.specs.Formula.{Formula, occurrences}
+use Rattle.ml_ctl.specs.Formula.{Formula}
 use Rattle.ml_graph.proofs.Places.{one_name}
 use Rattle.ml_graph.specs.Graph.{Graph, IsGraph}
 use Rattle.ml_graph.specs.declared.node.Node.{Node}

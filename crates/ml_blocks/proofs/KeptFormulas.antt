@@ -3,12 +3,10 @@
 --   formula_is, occurrence_is, eventualities_are == what is read at its number
 --   of_not, of_left, of_right, of_tense, before, behind, of_quantifier == an operand is kept too, where it stands
 --   kept_at          == what stands somewhere is kept there
-use Rattle.std.proofs.Common.{ℕ, ◌≡◌, ◌+◌, Bool, true, List, [], Option, None, Some, get_or, sym, ap, ◌∙◌, subst}
-use Rattle.std.specs.List.{slice_get}
+use Rattle.std.proofs.Common.{ℕ, ◌≡◌, ◌+◌, Bool, true, [], Option, None, Some, sym, subst}
 use Rattle.std.proofs.lemmas.Option.{get_or_from_slice_get}
 use Rattle.ml_text.specs.declared.token.Operator.{Operator}
 use Rattle.ml_ctl.specs.Formula.{Formula, Const, Not, Binary, Temporal, Paired, Quantified, Tense, Pairing, Quantifier, occurrences, weight}
-use Rattle.ml_text.specs.declared.token.Operator.TheVariants as operator
 use Rattle.ml_blocks.specs.private.Occurrences.{formula_here, occurrence_here, eventualities_here, entry_at, eventualities_at, entry, sign_of}
 use Rattle.ml_blocks.specs.private.Views.{Kept, Stands, IsKept, formula_at}
 use Rattle.ml_blocks.specs.declared.table.Symbol.TheVariants as symbol

@@ -4,7 +4,7 @@
 --   form_is        == what a node is
 --   priority_is    == its priority
 --   form_fits      == all that stands in its form is kept
-use Rattle.std.proofs.Common.{ℕ, ◌≡◌, ◌+◌, ◌<◌, ◌==◌, ◌%◌, arith, Bool, true, false, not, if◌then◌else◌, List, [], ◌∷◌, length, Option, None, Some, find, cond, get_or, refl, sym, ap, ◌∙◌, subst}
+use Rattle.std.proofs.Common.{ℕ, ◌≡◌, ◌+◌, ◌%◌, arith, Bool, true, false, not, if◌then◌else◌, List, [], ◌∷◌, length, Option, None, Some, find, refl, sym, ap, ◌∙◌, subst}
 use Rattle.std.specs.Bool.{beq}
 use Rattle.std.specs.Option.{option_map}
 use Rattle.ml_text.specs.declared.token.Operator.{Operator}
@@ -16,9 +16,8 @@ use Rattle.ml_blocks.specs.ItemSets.{next_items, eventualities, put_all, without
 use Rattle.ml_blocks.specs.Places as node
 use Rattle.ml_blocks.specs.Places.{Place, is_open, path_of, both_ways, one_way, focus_behind, edge_priority, form_of, priority_of, form_of_item, form_of_edge, form_of_block, priority_of_block, form_of_formula, form_of_connective, is_put_off}
 use Rattle.ml_blocks.specs.private.Asked.{now_at, put_few, others}
-use Rattle.ml_blocks.specs.private.Forms.{row_in, is_open_in, next_all, is_pending, focus_in, edge_priority_in, path_at, with_items, item_form, edge_form, block_form, block_priority, whole, block_at, connective_form, symbol_form, state_form, fixed_form, form_in, priority_in}
-use Rattle.ml_blocks.specs.private.Names.{place_of as place_of_name}
-use Rattle.ml_blocks.specs.private.Occurrences.{occurrence_here, entry_at, eventualities_at, eventualities_here}
+use Rattle.ml_blocks.specs.private.Forms.{row_in, is_open_in, next_all, is_pending, focus_in, edge_priority_in, path_at, with_items, item_form, edge_form, block_form, block_priority, whole, block_at, connective_form, symbol_form, state_form, form_in, priority_in}
+use Rattle.ml_blocks.specs.private.Occurrences.{occurrence_here, entry_at, eventualities_at}
 use Rattle.ml_blocks.specs.private.Views.{Kept, Stands, IsKept, AreKept, IsIff, BlockFits, Fits, FormFits, formula_at, item_of, items_of, few_of, row_of, left_part, right_part, block_view, place_of, form_view}
 use Rattle.ml_blocks.specs.declared.items.Asked.{Asked}
 use Rattle.ml_blocks.specs.declared.rows.Row.{Row}
@@ -27,7 +26,6 @@ use Rattle.ml_blocks.specs.declared.spots.Block.{Block}
 use Rattle.ml_blocks.specs.declared.spots.Fixed.TheVariants as fixed
 use Rattle.ml_blocks.specs.declared.spots.Form.{Form}
 use Rattle.ml_blocks.specs.declared.spots.Form.TheVariants as form
-use Rattle.ml_blocks.specs.declared.spots.Part.{Part}
 use Rattle.ml_blocks.specs.declared.spots.Part.TheVariants as part
 use Rattle.ml_blocks.specs.declared.spots.Spot.{Spot}
 use Rattle.ml_blocks.specs.declared.spots.Spot.TheVariants as spot

@@ -13,9 +13,9 @@ use Rattle.ml_blocks.specs.Items as plain
 use Rattle.ml_blocks.specs.Items.{Item, now}
 use Rattle.ml_blocks.specs.ItemSets.{next_of}
 use Rattle.ml_blocks.specs.Places.{is_open, is_wait}
-use Rattle.ml_blocks.specs.private.Asked.{now_at, put_off_of}
+use Rattle.ml_blocks.specs.private.Asked.{now_at}
 use Rattle.ml_blocks.specs.private.Forms.{row_in, symbol_row, connective_row, tense_row, pairing_row, is_next, is_open_in, next_in}
-use Rattle.ml_blocks.specs.private.Occurrences.{occurrence_here, entry_at, tense_in, pairing_in, quantifier_in}
+use Rattle.ml_blocks.specs.private.Occurrences.{occurrence_here, entry_at, tense_in, pairing_in}
 use Rattle.ml_blocks.specs.private.Views.{Kept, Stands, IsKept, formula_at, item_of, row_of}
 use Rattle.ml_blocks.specs.declared.items.Asked.{Asked}
 use Rattle.ml_blocks.specs.declared.items.Few.{Few}

@@ -4,12 +4,11 @@
 --   put_few_kept, others_kept, next_all_kept == their formulas stay kept
 --   found_is, found_kept  == the first item that is to be decomposed
 --   pending_is            == whether the eventuality in focus is put off
-use Rattle.std.proofs.Common.{ℕ, ◌≡◌, ◌⊎◌, inl, inr, Bool, true, false, not, ◌&&◌, ◌||◌, ◌==◌, List, [], ◌∷◌, Option, None, Some, get_or, nat_lt, filter, cond, find, refl, sym, ap, ◌∙◌, subst}
-use Rattle.std.specs.List.{list_any}
+use Rattle.std.proofs.Common.{ℕ, ◌≡◌, Bool, true, false, not, ◌&&◌, ◌||◌, ◌==◌, List, [], ◌∷◌, Option, None, Some, get_or, nat_lt, cond, find, refl, ap, ◌∙◌}
 use Rattle.std.specs.Option.{option_map}
 use Rattle.ml_ctl.specs.Formula.{Formula}
 use Rattle.ml_blocks.specs.Items.{Item}
-use Rattle.ml_blocks.specs.ItemSets.{key, due, put, put_all, without, next_of, next_items}
+use Rattle.ml_blocks.specs.ItemSets.{put, put_all, without, next_of, next_items}
 use Rattle.ml_blocks.specs.Places.{is_open, is_put_off}
 use Rattle.ml_blocks.specs.private.Asked.{key_of, due_of, put_in, put_few, others}
 use Rattle.ml_blocks.specs.private.Forms.{is_open_in, next_in, next_all, is_pending}

@@ -4,17 +4,14 @@
 --   spot_eq-same   == it holds of no two
 --   spot_eq-refl   == and of each with itself
 use denote.Enum.Bare.{same_true}
-use Rattle.std.proofs.Common.{rules, ◌≡◌, ◌&&◌, Bool, true, false, nat_eq, refl, sym, ap, ◌∙◌}
+use Rattle.std.proofs.Common.{rules, ◌≡◌, ◌&&◌, Bool, true, nat_eq, refl, ap}
 use Rattle.std.specs.Bool.{beq}
 use Rattle.std.specs.Cmp.{bool_eq_equiv}
 use Rattle.std.proofs.lemmas.Bool.{and_parts, and_from, eqb-true}
 use Rattle.std.proofs.lemmas.Cmp.{nat_eq_equiv}
 use Rattle.ml_blocks.specs.contracts.spots.SpotPartialEq.TheImpl as test
 use Rattle.ml_blocks.specs.contracts.spots.Fixed as fixed_contract
-use Rattle.ml_blocks.specs.contracts.spots.Part as part_contract
-use Rattle.ml_blocks.specs.declared.items.Asked.{Asked}
 use Rattle.ml_blocks.specs.declared.spots.Block.{Block}
-use Rattle.ml_blocks.specs.declared.spots.Fixed.{Fixed}
 use Rattle.ml_blocks.specs.declared.spots.Fixed.TheVariants as fixed
 use Rattle.ml_blocks.specs.declared.spots.Part.{Part}
 use Rattle.ml_blocks.specs.declared.spots.Part.TheVariants as part

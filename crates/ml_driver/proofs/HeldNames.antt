@@ -4,10 +4,12 @@
 --   IsHeld g      == the propositions of literals are names, the actions of diamonds are actions, and priorities fit 32 bits
 --   held_lists    == so it is where all names that the graph lists are such
 --   with_named    == a list of names to which a name was added
+--   letter_word   == a word that begins with a letter, and is short, is a name
 --   action_named  == an action that is spelt as one, and short, is one
 use Rattle.std.proofs.Common.{◌≡◌, ◌||◌, ◌&&◌, ℕ, ◌<◌, ◌≤◌, ◌⊎◌, Bool, true, false, if◌then◌else◌, codes, bytes_eq, List, [], ◌∷◌, ◌++◌, length, inl, inr, refl, sym, subst}
 use Rattle.std.specs.Cmp.{first_so, second_so}
 use Rattle.std.specs.List.{list_all, list_any}
+use Rattle.std.proofs.lemmas.Bool.{and_parts}
 use Rattle.std.proofs.lemmas.Slice.Eq.{bytes_eq-Decides}
 use Rattle.ml_base.specs.Name.{IsName, IsAction, is_blank_action, is_name}
 use Rattle.ml_lists.specs.Member.{IsMember}
@@ -16,6 +18,7 @@ use Rattle.ml_graph.specs.Graph.{Graph, IsGraph, action_at, node_at, prop_at, si
 use Rattle.ml_graph.specs.declared.node.Node.TheVariants as node
 use Rattle.ml_graph.proofs.References.{diamond_action, prop_in_range}
 use Rattle.ml_text.specs.Bytes.{is_letter, is_lower, is_upper, is_word_byte}
+use Rattle.ml_text.proofs.WordNames.{word_is_name}
 use Rattle.ml_refutation.specs.Refutation.{Fits}
 
 -- ---- members
@@ -33,6 +36,15 @@ every_append P xs ys ps qs y m = by_part (member-append y xs ys m)
     by_part : IsMember y xs ⊎ IsMember y ys → P y
     by_part (inl here) = ps y here
     by_part (inr there) = qs y there
+
+-- `begins` is the test of the first byte
+pub letter_word : (b : ℕ) (bs : List ℕ) (begins : Bool)
+    → (begins ≡ true → is_letter b ≡ true)
+    → (begins && list_all is_word_byte bs) ≡ true
+    → length (b ∷ bs) ≤ 64
+    → is_name (b ∷ bs) ≡ true
+letter_word b bs begins letter word short =
+    let parts = and_parts begins (list_all is_word_byte bs) word in word_is_name b bs (letter parts.0) parts.1 short
 
 pub record IsHeld (g : Graph) : Type 0 where
   pub literals : (n p : ℕ) (positive : Bool) → n < size g → node_at g n ≡ node.Lit p positive → IsName (prop_at g p)

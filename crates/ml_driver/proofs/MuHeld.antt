@@ -3,23 +3,34 @@
 --   mu_held == a well-formed formula has such a graph in each sense
 use Rattle.std.proofs.Common.{◌≡◌, ℕ, ◌+◌, ◌*◌, ◌≤◌, not, Bool, true, if◌then◌else◌, List, [], ◌∷◌, ◌++◌, length, refl, arith}
 use Rattle.std.specs.Cmp.{first_so, second_so}
-use Rattle.ml_base.specs.Name.{IsName, IsAction}
+use Rattle.std.proofs.lemmas.Bool.{or_left, or_right}
+use Rattle.ml_base.specs.Name.{IsName, IsAction, is_name}
 use Rattle.ml_graph.specs.Graph.{Graph}
+use Rattle.ml_text.specs.Bytes.{is_lower, is_upper}
 use Rattle.ml_text.specs.declared.token.Operator.{Operator}
 use Rattle.ml_text.specs.declared.token.Operator.TheVariants as operator
 use Rattle.ml_mu.specs.Formula.{Formula, Const, Prop, Var, Not, Binary, Modal, Binder, Fixpoint, Least, Greatest, occurrences}
-use Rattle.ml_mu.specs.Spelling.{HasShortNames, is_action, is_reserved, is_spelled, is_variable}
+use Rattle.ml_mu.specs.Spelling.{HasShortNames, is_action, is_proposition, is_reserved, is_spelled, is_variable, is_word_from}
 use Rattle.ml_mu.specs.WellFormed.{IsWellFormed}
-use Rattle.ml_mu.proofs.Names.{lower_name, upper_name}
 use Rattle.ml_mu_graph.specs.MuGraph.{IsGraphOf, binder_priority, binders, opposite}
 use Rattle.ml_mu_graph.specs.private.NodeList.{actions_onto, nodes_of, operator_priorities, priorities_of, props_onto, with_name}
 use Rattle.ml_mu_graph.specs.private.Views.{none_around}
 use Rattle.ml_mu_graph.proofs.InRange.{lists_make_graph}
 use Rattle.ml_mu_graph.proofs.Made.{graph_made}
 use Rattle.ml_refutation.specs.Refutation.{Fits}
-use Rattle.ml_driver.proofs.HeldNames.{Every, IsHeld, action_named, every_append, every_cons, held_lists, with_named}
+use Rattle.ml_driver.proofs.HeldNames.{Every, IsHeld, action_named, every_append, every_cons, held_lists, with_named, letter_word}
 
 -- ---- names
+
+lower_name : (w : List ℕ) → is_proposition w ≡ true → length w ≤ 64 → is_name w ≡ true
+lower_name [] spelled short = absurd (cc)
+lower_name (b ∷ bs) spelled short =
+    letter_word b bs (is_lower b) (or_left (is_lower b) (is_upper b))
+    (first_so (is_word_from is_lower (b ∷ bs)) (not (is_reserved (b ∷ bs))) spelled) short
+
+upper_name : (w : List ℕ) → is_variable w ≡ true → length w ≤ 64 → is_name w ≡ true
+upper_name [] spelled short = absurd (cc)
+upper_name (b ∷ bs) spelled short = letter_word b bs (is_upper b) (or_right (is_lower b) (is_upper b)) spelled short
 
 props_named : (f : Formula) → is_spelled f ≡ true → HasShortNames f → (ps : List (List ℕ)) → Every IsName ps
     → Every IsName (props_onto f ps)

@@ -3,22 +3,33 @@
 --   pdl_held == a well-formed formula has such a graph in each sense
 use Rattle.std.proofs.Common.{◌≡◌, ℕ, ◌≤◌, not, Bool, true, if◌then◌else◌, List, [], ◌∷◌, ◌++◌, length, refl, arith}
 use Rattle.std.specs.Cmp.{first_so, second_so}
-use Rattle.ml_base.specs.Name.{IsName, IsAction}
+use Rattle.std.proofs.lemmas.Bool.{or_left, or_right}
+use Rattle.ml_base.specs.Name.{IsName, IsAction, is_name}
 use Rattle.ml_graph.specs.Graph.{Graph}
+use Rattle.ml_text.specs.Bytes.{is_lower, is_upper}
 use Rattle.ml_text.specs.declared.token.Operator.{Operator}
 use Rattle.ml_text.specs.declared.token.Operator.TheVariants as operator
 use Rattle.ml_pdl.specs.Formula.{Formula, Const, Prop, Not, Binary, Modal, Repeat, Program, Act, Seq, Alt, Star, Test}
-use Rattle.ml_pdl.specs.Spelling.{HasShortNames, ProgramHasShortNames, is_action, is_reserved, is_spelled, program_is_spelled}
+use Rattle.ml_pdl.specs.Spelling.{HasShortNames, ProgramHasShortNames, is_action, is_proposition, is_reserved, is_spelled, is_word_from, program_is_spelled}
 use Rattle.ml_pdl.specs.WellFormed.{IsWellFormed}
-use Rattle.ml_pdl.proofs.Names.{lower_name, upper_name}
 use Rattle.ml_pdl_graph.specs.PdlGraph.{IsGraphOf, plain}
 use Rattle.ml_pdl_graph.specs.private.NodeList.{actions_onto, nodes_of, operator_priorities, priorities_of, program_actions_onto, program_priorities, program_props_onto, props_onto}
 use Rattle.ml_pdl_graph.proofs.InRange.{lists_make_graph}
 use Rattle.ml_pdl_graph.proofs.Made.{graph_made}
 use Rattle.ml_refutation.specs.Refutation.{Fits}
-use Rattle.ml_driver.proofs.HeldNames.{Every, IsHeld, action_named, every_append, every_cons, held_lists, with_named}
+use Rattle.ml_driver.proofs.HeldNames.{Every, IsHeld, action_named, every_append, every_cons, held_lists, with_named, letter_word}
 
 -- ---- names
+
+lower_name : (w : List ℕ) → is_proposition w ≡ true → length w ≤ 64 → is_name w ≡ true
+lower_name [] spelled short = absurd (cc)
+lower_name (b ∷ bs) spelled short =
+    letter_word b bs (is_lower b) (or_left (is_lower b) (is_upper b))
+    (first_so (is_word_from is_lower (b ∷ bs)) (not (is_reserved (b ∷ bs))) spelled) short
+
+upper_name : (w : List ℕ) → is_word_from is_upper w ≡ true → length w ≤ 64 → is_name w ≡ true
+upper_name [] spelled short = absurd (cc)
+upper_name (b ∷ bs) spelled short = letter_word b bs (is_upper b) (or_right (is_lower b) (is_upper b)) spelled short
 
 mutual
   props_named : (f : Formula) → is_spelled f ≡ true → HasShortNames f → (ps : List (List ℕ)) → Every IsName ps

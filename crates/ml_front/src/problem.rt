@@ -129,6 +129,7 @@ pub const MOST_NODES: u32 = 4_096;
 ///
 /// Cost: that of the logic's translation (`ml_mu_graph::graph_of`, `ml_pdl_graph::graph_of`, `ml_blocks::graph_of`,
 /// `ml_blocks::ltl_graph_of`).
+#[tactic(auto, using(crate::proofs::Closures::fits))]
 pub fn graph(alloc: Global, problem: &Problem, max: u32) -> Result<ModalGraph, BlockRefusal>
     ensures graph { IfOk result (λ g. IsGraphOf g problem.now) }
     ensures agrees { IfOk result (λ g. HoldsWhere g problem.now) }

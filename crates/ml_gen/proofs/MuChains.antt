@@ -4,19 +4,18 @@
 --   chain_text f gs == its text
 --   IsPart g        == g is spelled, its names are short, and it has no variable that is at fault
 --   chain_parsed    == where all are parts and the whole has few occurrences, the text is parsed as the chain
-use Rattle.std.proofs.Common.{◌≡◌, ℕ, ◌+◌, ◌≤◌, Bool, true, false, nat_lt, List, [], ◌∷◌, ◌++◌, length, map, take, drop, codes, refl, sym, ap, subst, ◌∙◌, arith, ltb-false, ltb-true}
+use Rattle.std.proofs.Common.{◌≡◌, ℕ, ◌+◌, ◌≤◌, true, false, List, [], ◌∷◌, ◌++◌, map, codes, refl, sym, ap, subst, ◌∙◌, arith}
 use Rattle.std.specs.List.{AllByRecursion}
 use Rattle.std.proofs.lemmas.Bool.{and_from}
-use Rattle.std.proofs.lemmas.List.{map-append, take-append-drop}
-use Rattle.std.proofs.lemmas.List.Sums.{sum_by-take-le}
 use Rattle.ml_text.specs.declared.token.Operator.TheVariants as operator
 use Rattle.ml_text.specs.declared.token.Token.TheVariants as token
 use Rattle.ml_text.specs.declared.token.WordStart.TheVariants.{AnyLetter}
-use Rattle.ml_text.specs.declared.token.Placed.{Placed}
 use Rattle.ml_text.specs.Tokens.{tokens}
-use Rattle.ml_text.specs.Refusals.{Item, Cause, Syntax, TooMany, TooNested, NameTooLong, signs_of, IsFault, most_occurrences}
-use Rattle.ml_text.proofs.Cover.{are_tokens}
-use Rattle.ml_text.proofs.Scans.{Spelt, spelt_at, Scans, ends, blank, piece, scans_tokens}
+use Rattle.ml_text.specs.Refusals.{signs_of, most_occurrences}
+use Rattle.ml_text.proofs.AcceptedTexts.{accepted}
+use Rattle.ml_text.proofs.Pieces.{and_piece, ends_word}
+use Rattle.ml_text.proofs.Scans.{Spelt, spelt_at, Scans, ends, scans_tokens}
+use Rattle.ml_text.proofs.TableItems.{IsShort, signs_spelt}
 use Rattle.ml_mu.specs.Canonical.{canonical_text}
 use Rattle.ml_mu.specs.Formula.{Formula, Binary, occurrences}
 use Rattle.ml_mu.specs.Grammar as grammar
@@ -24,10 +23,9 @@ use Rattle.ml_mu.specs.Grammar.{IsReadAs, Reads, iff_alone, imp_alone, or_alone,
 use Rattle.ml_mu.specs.Parsing.{IsParsedAs}
 use Rattle.ml_mu.specs.Signs.{Sign}
 use Rattle.ml_mu.specs.Spelling.{HasShortNames, is_spelled}
-use Rattle.ml_mu.specs.Text.{items, items_from, sign_at, silences}
+use Rattle.ml_mu.specs.Text.{bracket_of, mu_signs, items}
 use Rattle.ml_mu.specs.Variables.{is_bound, is_positive}
-use Rattle.ml_mu.proofs.CanonicalLimits.{few_open, no_long, open_most, opens_items, opens_spelt, tokens_short, IsShort}
-use Rattle.ml_mu.proofs.CanonicalPieces.{and_front, ends_word}
+use Rattle.ml_mu.proofs.CanonicalLimits.{few_open, opens_of, tokens_short}
 use Rattle.ml_mu.proofs.CanonicalTexts.{reads_formula, scans_formula, sign_spelt, tokens_onto}
 use Rattle.ml_mu.proofs.Counting.{counts, counted_items}
 use Rattle.ml_mu.proofs.FaultFree.{well_fine}
@@ -76,8 +74,7 @@ scans_more : (gs : List Formula) → AllByRecursion IsPart gs → Scans AnyLette
 scans_more [] all = ends
 scans_more (g ∷ gs) all =
     let rest = scans_formula g all.0.spelled (more_text gs) (more_tokens gs) (stops gs) (scans_more gs all.1) in
-    blank 32 refl
-    (piece (token.Operator operator.And) 38 [] refl (and_front (canonical_text g ++ more_text gs)) (blank 32 refl rest))
+    and_piece AnyLetter (canonical_text g ++ more_text gs) (tokens_onto g (more_tokens gs)) rest
 
 reads_more : (gs : List Formula)
     → AllByRecursion IsPart gs
@@ -92,31 +89,11 @@ short_more : (gs : List Formula) → AllByRecursion IsPart gs → AllByRecursion
 short_more [] all = tt
 short_more (g ∷ gs) all = (refl, tokens_short g all.0.short (more_tokens gs) (short_more gs all.1))
 
-few_more : (gs : List Formula) (f : Formula) → occurrences f + opens_spelt (more_tokens gs) ≤ occurrences (chain f gs)
+few_more : (gs : List Formula) (f : Formula) → occurrences f + opens_of (more_tokens gs) ≤ occurrences (chain f gs)
 few_more [] f = omega arith
 few_more (g ∷ gs) f = omega (arith, few_open g (more_tokens gs), few_more gs (Binary operator.And f g))
 
-signs_spelt : (text : List ℕ) (silent : Bool) (ps : List Placed)
-    → signs_of (items_from text silent ps) ≡ map sign_spelt (map (spelt_at text) ps)
-signs_spelt text silent [] = refl
-signs_spelt text silent (p ∷ ps) = ap (λ ts. sign_at text p ∷ ts) (signs_spelt text (silences (sign_at text p)) ps)
-
 -- ---- the text
-
--- what stands for a formula is no fault of the grammar
-no_syntax : (is : List (Item Sign)) (f : Formula)
-    → IsReadAs (signs_of is) f
-    → (k : ℕ)
-    → IsFault IsReadAs Syntax is k
-    → ⊥
-no_syntax is f stands k fault = go (nat_lt k (length is)) refl
-  where
-    go : (b : Bool) → nat_lt k (length is) ≡ b → ⊥
-    go true below =
-        let split : signs_of (take (k + 1) is) ++ signs_of (drop (k + 1) is) ≡ signs_of is =
-        sym (map-append (λ i. i.sign) (take (k + 1) is) (drop (k + 1) is)) ∙ ap signs_of (take-append-drop (k + 1) is) in
-        fault.ends (ltb-true k (length is) below) (signs_of (drop (k + 1) is), f, subst (λ ts. IsReadAs ts f) (sym split) stands)
-    go false past = fault.is_none (omega (arith, fault.within, ltb-false k (length is) past)) f stands
 
 module _ (f : Formula) (gs : List Formula) (part : IsPart f) (parts : AllByRecursion IsPart gs)
     (small : occurrences (chain f gs) ≤ most_occurrences) where
@@ -134,28 +111,21 @@ module _ (f : Formula) (gs : List Formula) (part : IsPart f) (parts : AllByRecur
   stands : IsReadAs (signs_of (items text)) (chain f gs)
   stands =
       let first = un_raised grammar.And (reads_formula f part.spelled (more_tokens gs)) in
-      subst (λ ts. IsReadAs ts (chain f gs)) (sym (signs_spelt text false (tokens AnyLetter text) ∙ ap (map sign_spelt) tokens_are))
+      subst (λ ts. IsReadAs ts (chain f gs)) (sym (signs_spelt mu_signs sign_spelt text (λ p. refl) false (tokens AnyLetter text)
+      ∙ ap (map sign_spelt) tokens_are))
       (iff_alone (imp_alone (or_alone (reads_more gs parts f (map sign_spelt spelt) first))))
-
-  keeps : (c : Cause) (k : ℕ) → IsFault IsReadAs c (items text) k → ⊥
-  unfolding tokens
-  keeps Syntax k fault = no_syntax (items text) (chain f gs) stands k fault
-  keeps TooMany k fault =
-      let of_signs = counted_items text false (tokens AnyLetter text) in
-      omega (arith, sum_by-take-le (λ (i : Item Sign). i.weight) (items text) (k + 1), of_signs, counts stands, small, fault.passes)
-  keeps TooNested k fault =
-      let of_tokens = opens_items text false (tokens AnyLetter text) ∙ ap opens_spelt tokens_are in
-      let few = few_open f (more_tokens gs) in
-      omega (arith, open_most (items text) 0 (k + 1), of_tokens, few, few_more gs f, small, fault.passes)
-  keeps NameTooLong k long =
-      no_long text 0 false (tokens AnyLetter text) (are_tokens AnyLetter text 0)
-      (subst (AllByRecursion IsShort) (sym tokens_are) (tokens_short f part.short (more_tokens gs) (short_more gs parts)))
-      k long
 
   pub chain_parsed : IsParsedAs (chain_text f gs) (chain f gs)
   chain_parsed =
       let whole = chain_part gs f part parts in
       record {
-        accepted = record { stands = stands; keeps = keeps };
+        accepted = accepted mu_signs IsReadAs text (chain f gs) (λ s. bracket_of (sign_spelt s)) spelt (record {
+          tokens_are = tokens_are;
+          brackets = λ p. refl;
+          stands = stands;
+          few = omega (arith, counted_items text false (tokens AnyLetter text), counts stands, small);
+          flat = omega (arith, few_open f (more_tokens gs), few_more gs f, small);
+          short = tokens_short f part.short (more_tokens gs) (short_more gs parts);
+        });
         fine = well_fine (chain f gs) whole.bound whole.positive;
       }

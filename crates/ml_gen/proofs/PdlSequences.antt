@@ -5,19 +5,19 @@
 --   step_formula k, step_text k == `<a;a;..>p & [a*]!p`, with k times more
 --   loop_formula k, loop_text k == `repeat(a;a;..)`, with k times more
 --   step_parsed, loop_parsed    == where k is at most 400, the text is parsed as the formula
-use Rattle.std.proofs.Common.{◌≡◌, ℕ, zero, suc, ◌+◌, ◌*◌, ◌≤◌, Bool, true, false, nat_lt, List, [], ◌∷◌, ◌++◌, length, map, take, drop, codes, refl, sym, ap, subst, ◌∙◌, arith, ltb-false, ltb-true}
+use Rattle.std.proofs.Common.{◌≡◌, ℕ, zero, suc, ◌+◌, ◌*◌, ◌≤◌, true, false, List, [], ◌∷◌, ◌++◌, map, codes, refl, sym, ap, subst, ◌∙◌, arith}
 use Rattle.std.specs.List.{AllByRecursion}
-use Rattle.std.proofs.lemmas.List.{map-append, take-append-drop}
-use Rattle.std.proofs.lemmas.List.Sums.{sum_by-take-le}
 use Rattle.ml_text.specs.declared.token.Operator.TheVariants as operator
 use Rattle.ml_text.specs.declared.token.Token.TheVariants as token
 use Rattle.ml_text.specs.declared.token.WordStart.TheVariants.{AnyLetter}
 use Rattle.ml_text.specs.declared.token.Placed.{Placed}
 use Rattle.ml_text.specs.Tokens.{tokens}
 use Rattle.ml_text.specs.Words.{constant_of}
-use Rattle.ml_text.specs.Refusals.{Item, Cause, Syntax, TooMany, TooNested, NameTooLong, signs_of, IsFault, most_occurrences}
-use Rattle.ml_text.proofs.Cover.{are_tokens}
-use Rattle.ml_text.proofs.Scans.{Spelt, spelt_at, Scans, ends, blank, piece, scans_tokens}
+use Rattle.ml_text.specs.Refusals.{signs_of, most_occurrences}
+use Rattle.ml_text.proofs.AcceptedTexts.{accepted}
+use Rattle.ml_text.proofs.Pieces.{lone, lone_piece, less_piece, and_piece, ends_word, word_piece}
+use Rattle.ml_text.proofs.Scans.{Spelt, spelt_at, Scans, ends, scans_tokens}
+use Rattle.ml_text.proofs.TableItems.{IsShort}
 use Rattle.ml_pdl.specs.Canonical.{canonical_text}
 use Rattle.ml_pdl.specs.Formula as plain
 use Rattle.ml_pdl.specs.Formula.{Formula, Program, Act, Seq, Star, Diamond, Square, occurrences, program_occurrences}
@@ -26,10 +26,9 @@ use Rattle.ml_pdl.specs.Grammar.{IsReadAs, Reads, ReadsProgram, iff_alone, imp_a
 use Rattle.ml_pdl.specs.Marks.{asks, is_test_behind, mark_of, marked, with_mark}
 use Rattle.ml_pdl.specs.Parsing.{IsParsedAs}
 use Rattle.ml_pdl.specs.Signs.{Sign, Open, Repeats, word_sign}
-use Rattle.ml_pdl.specs.Text.{items, sign_by}
-use Rattle.ml_pdl.proofs.CanonicalLimits.{no_long, open_most, opens_items, opens_spelt, few_open, program_few, program_short, tokens_short, IsShort}
-use Rattle.ml_pdl.proofs.CanonicalPieces.{and_front, close_front, ends_word, less_front, more_front, one_byte, open_front, semicolon_front, word_piece}
-use Rattle.ml_pdl.proofs.CanonicalTexts.{lone, plain_signs, program_onto, reads_formula, reads_program, scans_formula, scans_program, signs_with_marks, tokens_onto}
+use Rattle.ml_pdl.specs.Text.{bracket_of, pdl_signs, items, sign_by}
+use Rattle.ml_pdl.proofs.CanonicalLimits.{opens_of, token_bracket, few_open, program_few, program_short, tokens_short}
+use Rattle.ml_pdl.proofs.CanonicalTexts.{plain_signs, program_onto, reads_formula, reads_program, scans_formula, scans_program, sign_spelt, signs_with_marks, tokens_onto}
 use Rattle.ml_pdl.proofs.Counting.{counts, counted_items}
 use Rattle.ml_pdl.proofs.FromTables.{un_raised}
 use Rattle.ml_pdl.proofs.MarkedTexts.{marks_are_of_texts}
@@ -67,7 +66,7 @@ scans_acts zero after ss end r = scans_program act refl after ss end r
 scans_acts (suc k) after ss end r =
     let rest = codes "a" ++ more_text k after in
     let toks = program_onto act (more_tokens k ss) in
-    let sign = one_byte 59 rest toks refl (semicolon_front rest) (scans_acts k after ss end r) in
+    let sign = lone_piece AnyLetter 59 rest toks refl (scans_acts k after ss end r) in
     scans_program act refl (59 ∷ rest) (lone 59 ∷ toks) refl sign
 
 -- no `?` stands behind the action
@@ -95,7 +94,7 @@ short_acts zero ss all = program_short act (omega arith) ss all
 short_acts (suc k) ss all =
     program_short act (omega arith) (more_tokens (suc k) ss) (refl, short_acts k ss all)
 
-few_acts : (k : ℕ) (ss : List Spelt) → opens_spelt (program_onto act (more_tokens k ss)) ≤ k + 1 + opens_spelt ss
+few_acts : (k : ℕ) (ss : List Spelt) → opens_of (program_onto act (more_tokens k ss)) ≤ k + 1 + opens_of ss
 few_acts zero ss = omega (arith, program_few act ss)
 few_acts (suc k) ss = omega (arith, program_few act (more_tokens (suc k) ss), few_acts k ss)
 
@@ -105,28 +104,13 @@ more_count (suc k) p = omega (arith, more_count k (Seq p act))
 
 -- ---- texts, by their tokens
 
--- what stands for a formula is no fault of the grammar
-no_syntax : (is : List (Item Sign)) (f : Formula)
-    → IsReadAs (signs_of is) f
-    → (k : ℕ)
-    → IsFault IsReadAs Syntax is k
-    → ⊥
-no_syntax is f stands k fault = go (nat_lt k (length is)) refl
-  where
-    go : (b : Bool) → nat_lt k (length is) ≡ b → ⊥
-    go true below =
-        let split : signs_of (take (k + 1) is) ++ signs_of (drop (k + 1) is) ≡ signs_of is =
-        sym (map-append (λ i. i.sign) (take (k + 1) is) (drop (k + 1) is)) ∙ ap signs_of (take-append-drop (k + 1) is) in
-        fault.ends (ltb-true k (length is) below) (signs_of (drop (k + 1) is), f, subst (λ ts. IsReadAs ts f) (sym split) stands)
-    go false past = fault.is_none (omega (arith, fault.within, ltb-false k (length is) past)) f stands
-
 plain_spelt : (text : List ℕ) (ps : List Placed) → map (sign_by text) ps ≡ plain_signs (map (spelt_at text) ps)
 plain_spelt text [] = refl
 plain_spelt text (p ∷ ps) = ap (λ ts. sign_by text p ∷ ts) (plain_spelt text ps)
 
 module _ (text : List ℕ) (spelt : List Spelt) (f : Formula) (scans : Scans AnyLetter text spelt)
     (reads : IsReadAs (signs_with_marks spelt) f) (small : occurrences f ≤ most_occurrences)
-    (short : AllByRecursion IsShort spelt) (flat : opens_spelt spelt ≤ most_occurrences) where
+    (short : AllByRecursion IsShort spelt) (flat : opens_of spelt ≤ most_occurrences) where
   tokens_are : map (spelt_at text) (tokens AnyLetter text) ≡ spelt
   tokens_are = scans_tokens AnyLetter text spelt scans
 
@@ -136,21 +120,16 @@ module _ (text : List ℕ) (spelt : List Spelt) (f : Formula) (scans : Scans Any
       marks_are_of_texts text ∙ ap marked (plain_spelt text (tokens AnyLetter text) ∙ ap plain_signs tokens_are) in
       subst (λ ts. IsReadAs ts f) (sym signs_are) reads
 
-  keeps : (c : Cause) (k : ℕ) → IsFault IsReadAs c (items text) k → ⊥
-  unfolding tokens
-  keeps Syntax k fault = no_syntax (items text) f stands k fault
-  keeps TooMany k fault =
-      let of_signs = counted_items text false (tokens AnyLetter text) in
-      omega (arith, sum_by-take-le (λ (i : Item Sign). i.weight) (items text) (k + 1), of_signs, counts stands, small, fault.passes)
-  keeps TooNested k fault =
-      let of_tokens = opens_items text false (tokens AnyLetter text) ∙ ap opens_spelt tokens_are in
-      omega (arith, open_most (items text) 0 (k + 1), of_tokens, flat, fault.passes)
-  keeps NameTooLong k long =
-      no_long text 0 false (tokens AnyLetter text) (are_tokens AnyLetter text 0)
-      (subst (AllByRecursion IsShort) (sym tokens_are) short) k long
-
   spelt_parsed : IsParsedAs text f
-  spelt_parsed = record { stands = stands; keeps = keeps }
+  spelt_parsed =
+      accepted pdl_signs IsReadAs text f (λ s. bracket_of (sign_spelt s)) spelt (record {
+        tokens_are = tokens_are;
+        brackets = token_bracket text;
+        stands = stands;
+        few = omega (arith, counted_items text false (tokens AnyLetter text), counts stands, small);
+        flat = omega (arith, flat);
+        short = short;
+      })
 
 -- ---- `<a;a;..>p & [a*]!p`
 
@@ -175,17 +154,15 @@ step_spelt k = lone 60 ∷ program_onto act (more_tokens k step_end)
 scans_end : Scans AnyLetter (codes ">p & [a*]!p") step_end
 scans_end =
     let last = scans_formula box refl [] [] refl ends in
-    let and_last = blank 32 refl
-    (piece (token.Operator operator.And) 38 [] refl (and_front (canonical_text box)) (blank 32 refl last)) in
+    let and_last = and_piece AnyLetter (canonical_text box) (tokens_onto box []) last in
     let first = scans_formula prop refl (codes " & [a*]!p") ((token.Operator operator.And, codes "&") ∷ tokens_onto box []) refl and_last in
-    one_byte 62 (codes "p & [a*]!p") (tokens_onto prop ((token.Operator operator.And, codes "&") ∷ tokens_onto box [])) refl
-    (more_front (codes "p & [a*]!p")) first
+    lone_piece AnyLetter 62 (codes "p & [a*]!p") (tokens_onto prop ((token.Operator operator.And, codes "&") ∷ tokens_onto box [])) refl
+    first
 
 scans_step : (k : ℕ) → Scans AnyLetter (step_text k) (step_spelt k)
 scans_step k =
     let inside = scans_acts k (codes ">p & [a*]!p") step_end refl scans_end in
-    one_byte 60 (codes "a" ++ more_text k (codes ">p & [a*]!p")) (program_onto act (more_tokens k step_end)) refl
-    (less_front 97 (more_text k (codes ">p & [a*]!p")) refl refl) inside
+    less_piece AnyLetter 97 (more_text k (codes ">p & [a*]!p")) (program_onto act (more_tokens k step_end)) refl refl inside
 
 reads_step : (k : ℕ) → IsReadAs (signs_with_marks (step_spelt k)) (step_formula k)
 reads_step k =
@@ -215,11 +192,12 @@ loop_spelt k = (token.Word, codes "repeat") ∷ lone 40 ∷ program_onto act (mo
 
 scans_loop : (k : ℕ) → Scans AnyLetter (loop_text k) (loop_spelt k)
 scans_loop k =
-    let close = one_byte 41 [] [] refl (close_front []) ends in
+    let close = lone_piece AnyLetter 41 [] [] refl ends in
     let inside = scans_acts k (codes ")") (lone 41 ∷ []) refl close in
     let rest = codes "a" ++ more_text k (codes ")") in
     let toks = program_onto act (more_tokens k (lone 41 ∷ [])) in
-    word_piece (codes "repeat") (40 ∷ rest) (lone 40 ∷ toks) refl refl (one_byte 40 rest toks refl (open_front rest) inside)
+    word_piece AnyLetter 114 (codes "epeat") (40 ∷ rest) (lone 40 ∷ toks) refl refl refl
+    (lone_piece AnyLetter 40 rest toks refl inside)
 
 repeat_sign : word_sign (codes "repeat") ≡ Repeats
 unfolding constant_of
@@ -233,7 +211,7 @@ reads_loop k =
     (subst (λ t. Reads grammar.Un (with_mark (is_test_behind 0 (plain_signs (lone 40 ∷ toks))) t ∷ Open (mark_of b) ∷ signs_with_marks toks) (loop_formula k) [])
     (sym repeat_sign) (repetition (mark_of b) (reads_acts k (lone 41 ∷ []) refl)))
 
-closed_repeat : opens_spelt ((token.Word, codes "repeat") ∷ []) ≡ 0
+closed_repeat : opens_of ((token.Word, codes "repeat") ∷ []) ≡ 0
 unfolding constant_of
 closed_repeat = refl
 

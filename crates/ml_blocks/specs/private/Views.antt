@@ -28,7 +28,6 @@ use Rattle.ml_blocks.specs.declared.rows.Row.{Row}
 use Rattle.ml_blocks.specs.declared.rows.Row.TheVariants as row
 use Rattle.ml_blocks.specs.declared.table.Occurrence.{Occurrence}
 use Rattle.ml_blocks.specs.declared.spots.Block.{Block}
-use Rattle.ml_blocks.specs.declared.spots.Fixed.{Fixed}
 use Rattle.ml_blocks.specs.declared.spots.Fixed.TheVariants as fixed
 use Rattle.ml_blocks.specs.declared.spots.Form.{Form}
 use Rattle.ml_blocks.specs.declared.spots.Form.TheVariants as form

@@ -1,4 +1,4 @@
-use Rattle.std.proofs.Common.{◌≡◌, not, None, sym, ap, subst}
+use Rattle.std.proofs.Common.{not, None, subst}
 use Rattle.ml_ctl.specs.Problem.{HoldsAt}
 use Rattle.ml_ctl.specs.Term.{formula_of}
 use Rattle.ml_blocks.specs.Agreement.{HoldsWhere}

@@ -1,4 +1,4 @@
-use Rattle.std.proofs.Common.{◌≡◌, not, true, Some, sym, ap, subst}
+use Rattle.std.proofs.Common.{not, true, Some, subst}
 use Rattle.ml_ltl.specs.Problem as ltl
 use Rattle.ml_ctl.specs.Term.{formula_of}
 use Rattle.ml_blocks.specs.Agreement.{HoldsWhere}

@@ -1,4 +1,4 @@
-use Rattle.std.proofs.Common.{rules, ◌≡◌, ◌<◌, [], length, codes, bytes_eq, refl, ap, sym, ◌∙◌, subst, true, false, arith}
+use Rattle.std.proofs.Common.{rules, ◌≡◌, [], length, codes, bytes_eq, refl, ap, sym, ◌∙◌, subst, true, false, arith}
 use Rattle.std.specs.List.{IsDistinct}
 use Rattle.ml_graph.proofs.Places.{one_name}
 use Rattle.ml_graph.specs.Graph.{IsGraph, graph_of}

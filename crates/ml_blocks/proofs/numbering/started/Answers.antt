@@ -1,7 +1,5 @@
-use Rattle.std.proofs.Common.{rules, ◌≡◌, List, [], subst, sym}
-use Rattle.ml_graph.specs.declared.node.Node.{Node}
+use Rattle.std.proofs.Common.{rules, ◌≡◌, [], subst, sym}
 use Rattle.ml_blocks.specs.declared.spots.Fixed.TheVariants as fixed
-use Rattle.ml_blocks.specs.declared.spots.Spot.{Spot}
 use Rattle.ml_blocks.specs.declared.spots.Spot.TheVariants as spot
 use Rattle.ml_blocks.specs.private.Numbering.{IsAdded, IsDraft, IsFull}
 use Rattle.ml_blocks.proofs.DraftSteps.{one_spot, root_too_many}
