@@ -22,13 +22,19 @@ use std::fs;
 use std::io::Print;
 use std::rt::Files;
 
-const FILES: [&str; 8] = [
+const FILES: [&str; 14] = [
     "examples",
+    "patterns",
     "words",
     "mu_texts",
     "pdl_texts",
+    "ctl_texts",
+    "ltl_texts",
     "mu",
     "pdl",
+    "ctl",
+    "ltl",
+    "families",
     "models",
     "refutations",
 ];

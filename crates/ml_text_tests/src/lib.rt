@@ -2,25 +2,19 @@
 // that they call, so that none of those is proved a second time for its tests. Texts with what they stand for, or with
 // their refusals, are rows of `ml_examples`.
 //
-//   ctl_tests       texts of CTL* and their formulas
 //   formula_tests   formulas copied, and their occurrences counted
 //   kripke_tests    structures, and the texts of models
 //   line_tests      lines written and cut
-//   ltl_tests       texts of LTL and their formulas
 //   refutation_tests  refutations read from their texts in both versions
 //   text_tests      the tokens of texts
 #![tactic(auto)]
 
-#[cfg(test)]
-mod ctl_tests;
 #[cfg(test)]
 mod formula_tests;
 #[cfg(test)]
 mod kripke_tests;
 #[cfg(test)]
 mod line_tests;
-#[cfg(test)]
-mod ltl_tests;
 #[cfg(test)]
 mod refutation_tests;
 #[cfg(test)]
