@@ -22,7 +22,7 @@ use std::fs;
 use std::io::Print;
 use std::rt::Files;
 
-const FILES: [&str; 14] = [
+const FILES: [&str; 13] = [
     "examples",
     "patterns",
     "words",
@@ -34,7 +34,6 @@ const FILES: [&str; 14] = [
     "pdl",
     "ctl",
     "ltl",
-    "families",
     "models",
     "refutations",
 ];
