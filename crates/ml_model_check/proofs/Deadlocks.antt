@@ -5,9 +5,10 @@
 --   total_steps     == where each state goes on, each has a step
 --   first_deadlock  == the least state that doesn't go on is the first deadlock
 --   deadlock_found  == so the one or the other is found
-use Rattle.std.proofs.Common.{◌≡◌, ◌==◌, ◌&&◌, ◌<◌, ℕ, Bool, true, false, List, [], ◌∷◌, Option, Some, None, IsTrue, MatchOption, bytes_eq, codes, refl, sym, subst, ◌∙◌, ⊎_elim, eqb-refl}
+use Rattle.std.proofs.Common.{◌≡◌, ◌==◌, ◌&&◌, ◌<◌, ℕ, Bool, true, false, List, [], ◌∷◌, Option, Some, None, IsTrue, MatchOption, bytes_eq, codes, refl, sym, subst, ◌∙◌, ⊎_elim}
 use Rattle.std.specs.List.{list_any}
 use Rattle.std.proofs.lemmas.Bool.{and_from, and_parts, or_cases, or_left, or_right, false≢true, true≢false}
+use Rattle.std.proofs.lemmas.Bool.Decides.{Decides-eqb}
 use Rattle.ml_base.specs.Structure.{Structure, IsStructure}
 use Rattle.ml_base.specs.declared.structure.Edge.{Edge}
 use Rattle.ml_ctl.specs.Paths as paths
@@ -28,7 +29,7 @@ a_step s [] is = absurd (false≢true is)
 a_step s (e ∷ es) is =
     ⊎_elim
     (λ (here : leaves s e ≡ true).
-    let there = and_from (leaves s e) (e.target == e.target) here (eqb-refl e.target) in
+    let there = and_from (leaves s e) (e.target == e.target) here ((Decides-eqb e.target e.target).1 refl) in
     (e.target, or_left (goes s e.target e) (list_any (goes s e.target) es) there))
     (λ (later : list_any (leaves s) es ≡ true).
     let step = a_step s es later in (step.0, or_right (goes s step.0 e) (list_any (goes s step.0) es) step.1))

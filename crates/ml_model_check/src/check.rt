@@ -1,12 +1,14 @@
 // Checking a document.
 ghost use Rattle.std.specs.Prelude.{IfOk};
+ghost use Rattle.ml_front.specs.HeadRules.{IsHead};
+ghost use Rattle.ml_front.specs.declared.answer.Answer.TheVariants.{Satisfiable};
 ghost use Rattle.ml_model_check.specs.Checked.{IsCheckedAs};
 
 use crate::check_refusal::CheckRefusal;
 use crate::checked::Checked;
 use crate::holding::holds;
 use ml_base::{DocRefusal, NoMemory};
-use ml_front::{Answer, read_head};
+use ml_front::{Answer, Head, read_head};
 use ml_kripke::read_model;
 use std::alloc::Global;
 
@@ -35,11 +37,18 @@ const FIRST_BODY_LINE: u64 = 6;
 pub fn check_document(alloc: Global, bytes: &[u8]) -> Result<Checked, NoMemory>
     ensures { IfOk result (IsCheckedAs bytes.now) }
 {
-    let head = match read_head(alloc, bytes, Answer::Satisfiable) {
-        Ok(head) => head,
-        Err(DocRefusal::Fault(fault)) => return Ok(Checked::Unreadable(fault)),
-        Err(DocRefusal::NoMemory) => return Err(NoMemory),
-    };
+    match read_head(alloc, bytes, Answer::Satisfiable) {
+        Ok(head) => check_body(alloc, bytes, &head),
+        Err(DocRefusal::Fault(fault)) => Ok(Checked::Unreadable(fault)),
+        Err(DocRefusal::NoMemory) => Err(NoMemory),
+    }
+}
+
+// what is found behind the head
+fn check_body(alloc: Global, _bytes: &[u8], head: &Head<'_>) -> Result<Checked, NoMemory>
+    requires { IsHead Satisfiable _bytes.now head.now.version head.now.problem head.now.rest.now }
+    ensures { IfOk result (IsCheckedAs _bytes.now) }
+{
     let model = match read_model(alloc, head.rest, FIRST_BODY_LINE) {
         Ok(model) => model,
         Err(DocRefusal::Fault(fault)) => return Ok(Checked::Unreadable(fault)),
