@@ -2,9 +2,10 @@
 --
 --   ended_written  == a status that is due, with its output written or partly written, ends the call as it should
 --   ended_with     == the same, where the words are a command
+--   lacked_memory  == where memory is wanting before anything is read
 --   too_long_due   == an input past the limit of its command is refused by its length
-use Rattle.std.proofs.Common.{◌≡◌, ℕ, ◌<◌, length, List, Option, Some, None, refl, sym, subst, inl, ⊎_elim}
-use Rattle.std.specs.Io.KnownBytes.{append_known}
+use Rattle.std.proofs.Common.{◌≡◌, ℕ, ◌<◌, ◌≤◌, length, List, [], Option, Some, None, refl, sym, ◌∙◌, subst, inl, ⊎_elim, arith}
+use Rattle.std.specs.Io.KnownBytes.{append_known, prepend_known}
 use Rattle.ml_base.specs.Faults.{Rose}
 use Rattle.ml_base.specs.Whole.{AppendsPart}
 use Rattle.ml_driver.specs.declared.command.Command.{Command}
@@ -12,7 +13,7 @@ use Rattle.ml_driver.specs.declared.command.Command.TheVariants.{Decide, Valid, 
 use Rattle.ml_driver.specs.declared.status.Status.{Status}
 use Rattle.ml_driver.specs.declared.status.Status.TheVariants.{Yes, No, Undecided, Words, Text, ReadFault, WriteFault, NoMemory}
 use Rattle.ml_driver.specs.Statuses.{longest_input, refused_length}
-use Rattle.ml_driver.specs.Run.{as_document, document_by_length, IsDue, World, WasRead, IsWhole, Answered, FailedToWrite, Ended, Wrote}
+use Rattle.ml_driver.specs.Run.{as_document, document_by_length, IsCalm, IsDue, GaveAtMost, LackedMemory, World, WasRead, IsWhole, Answered, FailedToWrite, Ended, Wrote}
 
 -- what is due is never a fault or want of memory
 no_fault_due : (c : Option Command) (text output : List ℕ) → IsDue c text ReadFault output → ⊥
@@ -100,3 +101,25 @@ too_long_due (Valid l n) text long = inl (long, refl)
 too_long_due CheckModel text long = as_document (document_by_length (long, refl))
 too_long_due CheckRefutation text long = document_by_length (long, refl)
 too_long_due Migrate text long = document_by_length (long, refl)
+
+-- ---- where nothing is read
+
+nothing_given : (left : Option (List ℕ)) → left ≡ prepend_known [] left
+nothing_given None = refl
+nothing_given (Some bytes) = refl
+
+gave_nothing : (c : Option Command) (w : World) → w.left_after ≡ w.left_before → GaveAtMost c w
+gave_nothing None w same = same
+gave_nothing (Some c) w same =
+    let few : length [] ≤ longest_input c = omega arith in ([], sym same ∙ nothing_given w.left_after, few)
+
+pub lacked_memory : (c : Option Command) (w : World)
+    → w.left_after ≡ w.left_before
+    → w.taken_after ≡ w.taken_before
+    → IsCalm w
+    → LackedMemory c w
+lacked_memory c w same nothing calm = record {
+  gave_at_most = gave_nothing c w same;
+  nothing_taken = nothing;
+  is_calm = calm;
+}
