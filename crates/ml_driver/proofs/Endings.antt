@@ -111,7 +111,7 @@ nothing_given (Some bytes) = refl
 gave_nothing : (c : Option Command) (w : World) → w.left_after ≡ w.left_before → GaveAtMost c w
 gave_nothing None w same = same
 gave_nothing (Some c) w same =
-    let few : length [] ≤ longest_input c = omega arith in ([], sym same ∙ nothing_given w.left_after, few)
+    let few : length {A = ℕ} [] ≤ longest_input c = omega arith in ([], sym same ∙ nothing_given w.left_after, few)
 
 pub lacked_memory : (c : Option Command) (w : World)
     → w.left_after ≡ w.left_before
