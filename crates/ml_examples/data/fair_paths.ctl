@@ -1,1 +1,1 @@
-A(G F run -> G F done) & E G F run -> E G F done
+A G(run -> A F done) & E G F run -> E G F done

@@ -104,6 +104,8 @@ fn by_meaning(
         AnyFormula::Pdl(formula) => {
             Ok(ml_pdl_meaning::holds(alloc, formula, structure, state)? != problem.negated)
         }
+        // no set is computed of these
+        AnyFormula::Ctl(_) | AnyFormula::Ltl(_) => by_game(alloc, problem, structure, state),
     }
 }
 
