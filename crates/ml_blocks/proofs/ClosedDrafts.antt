@@ -28,7 +28,8 @@ use Rattle.ml_blocks.specs.Places as places
 use Rattle.ml_blocks.specs.Places.{Place, form_of, priority_of}
 use Rattle.ml_blocks.specs.Items.{Item}
 use Rattle.ml_blocks.specs.private.Forms.{form_in}
-use Rattle.ml_blocks.specs.private.Numbering.{HasOnePlace, HasFormIn, children_in, ReachedIn, at_root, behind, IsDraft, IsTooLarge}
+use Rattle.ml_blocks.specs.private.Numbering.{HasFormIn, children_in, ReachedIn, at_root, behind, IsDraft, IsTooLarge}
+use Rattle.ml_lists.specs.Added.{HasOnePlace}
 use Rattle.ml_blocks.specs.private.Views.{Kept, Fits, FormFits, items_of, place_of, form_view}
 use Rattle.ml_blocks.specs.declared.items.Asked.{Asked}
 use Rattle.ml_blocks.specs.declared.spots.Fixed.TheVariants as fixed
@@ -37,9 +38,9 @@ use Rattle.ml_blocks.specs.declared.spots.Form.TheVariants as form
 use Rattle.ml_blocks.specs.declared.spots.Part.TheVariants as part
 use Rattle.ml_blocks.specs.declared.spots.Spot.{Spot}
 use Rattle.ml_blocks.specs.declared.spots.Spot.TheVariants as spot
-use Rattle.ml_blocks.proofs.Additions.{member_of_get}
+use Rattle.ml_lists.proofs.Member.{member_of_get}
 use Rattle.ml_blocks.proofs.NumberedForms.{form_is, form_fits, priority_is}
-use Rattle.ml_blocks.proofs.NumbersInTurn.{in_turn}
+use Rattle.ml_lists.proofs.InTurn.{in_turn}
 
 -- ---- a node has one form by numbers
 

@@ -14,15 +14,18 @@ use Rattle.ml_graph.specs.declared.node.Node.{Node}
 use Rattle.ml_graph.specs.declared.node.Node.TheVariants as node
 use Rattle.ml_blocks.specs.BlockGraph.{row_of}
 use Rattle.ml_blocks.specs.private.Forms.{form_in, priority_in}
-use Rattle.ml_blocks.specs.private.Numbering.{IsAdded, HasOnePlace, IsFull, Overflows, Numbers, constant_of, pair_of, edge_of, HasFormIn, children_in, ReachedIn, at_root, behind, RunsOn, IsMade, IsDraft, IsStep, HasNoRoom, IsTooLarge}
+use Rattle.ml_blocks.specs.private.Numbering.{IsFull, Overflows, Numbers, constant_of, pair_of, edge_of, HasFormIn, children_in, ReachedIn, at_root, behind, IsMade, IsDraft, IsStep, HasNoRoom, IsTooLarge}
+use Rattle.ml_lists.specs.InTurn.{RunsOn}
+use Rattle.ml_lists.specs.Added.{IsAdded, HasOnePlace}
 use Rattle.ml_blocks.specs.declared.table.Occurrence.{Occurrence}
 use Rattle.ml_blocks.specs.declared.spots.Fixed.TheVariants as fixed
 use Rattle.ml_blocks.specs.declared.spots.Form.{Form}
 use Rattle.ml_blocks.specs.declared.spots.Form.TheVariants as form
 use Rattle.ml_blocks.specs.declared.spots.Spot.{Spot}
 use Rattle.ml_blocks.specs.declared.spots.Spot.TheVariants as spot
-use Rattle.ml_blocks.proofs.Additions.{added_all, added_once, added_keeps, added_runs, last_or, member_of_get}
-use Rattle.ml_blocks.proofs.NumbersInTurn.{runs_append, runs_has, runs_up}
+use Rattle.ml_lists.proofs.Added.{added_all, added_once, added_keeps, added_runs, last_or}
+use Rattle.ml_lists.proofs.Member.{member_of_get}
+use Rattle.ml_lists.proofs.InTurn.{runs_append, runs_has, runs_up}
 
 pair_row : (b : Bool) (i j : ℕ) → row_of (pair_of b i j) ≡ i ∷ j ∷ []
 pair_row true i j = refl

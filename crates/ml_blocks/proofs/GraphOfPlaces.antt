@@ -25,8 +25,9 @@ use Rattle.ml_graph.specs.declared.node.Node.{Node}
 use Rattle.ml_graph.specs.declared.node.Node.TheVariants as node
 use Rattle.ml_blocks.specs.BlockGraph.{IsReached, at_root, behind, IsClosure, IsNumberedBy, HasForm, children, row_of}
 use Rattle.ml_blocks.specs.Places.{Place, Form, Constant, Literal, And, Or, Diamond, Square, form_of, priority_of}
-use Rattle.ml_blocks.proofs.BreadthFirstSearch.{FromEarlier, Looked, met}
-use Rattle.ml_blocks.proofs.FirstEntries.{AreApart, apart_places, firsts, firsts-apart, firsts-map, member-firsts, member_of_get, number, number_at, number_is, number_low, numbers_in_turn, one_number}
+use Rattle.ml_lists.proofs.BreadthFirstSearch.{FromEarlier, Looked, met}
+use Rattle.ml_lists.proofs.FirstEntries.{AreApart, apart_places, firsts, firsts-apart, firsts-map, member-firsts, number, number_at, number_is, number_low, numbers_in_turn, one_number}
+use Rattle.ml_lists.proofs.Member.{member_of_get}
 use Rattle.ml_blocks.proofs.PlaceEquality.{place_eq, place_eq-tells}
 
 abbrev pub leads : Place → List Place

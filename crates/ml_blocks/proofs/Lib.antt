@@ -48,10 +48,6 @@ mod WorkedGraph
 pub mod FirstOccurrences
 -- one numbering at most
 pub mod OneNumbering
--- first entries, and numbers of entries
-pub mod FirstEntries
--- breadth-first search among values
-pub mod BreadthFirstSearch
 -- nodes are equal or not
 pub mod PlaceEquality
 -- the graph of a list of nodes
@@ -80,10 +76,6 @@ pub mod FocusTurns
 pub mod NumberedForms
 -- when nodes by numbers are equal
 pub mod SpotEquality
--- lists to which something was added
-pub mod Additions
--- numbers that come in turn
-pub mod NumbersInTurn
 -- drafts of a graph
 pub mod DraftSteps
 -- a draft of all nodes

@@ -6,7 +6,7 @@ use Rattle.ml_graph.specs.Graph.{size}
 use Rattle.ml_blocks.specs.BlockGraph.{IsNumberedBy}
 use Rattle.ml_blocks.specs.Closures.{HasMoreThan, OneSize}
 use Rattle.ml_blocks.specs.Places.{Place, Root}
-use Rattle.ml_blocks.proofs.FirstEntries.{none_more}
+use Rattle.ml_lists.proofs.FirstEntries.{none_more}
 use Rattle.ml_blocks.proofs.PlaceEquality.{place_eq, place_eq-tells}
 
 pub one_size : OneSize

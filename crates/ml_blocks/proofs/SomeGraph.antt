@@ -9,8 +9,8 @@ use Rattle.ml_graph.specs.Graph.{Graph, size}
 use Rattle.ml_blocks.specs.BlockGraph.{IsGraphAt, IsReached, at_root, behind}
 use Rattle.ml_blocks.specs.Closures.{HasMoreThan, SomeGraph}
 use Rattle.ml_blocks.specs.Places.{Root}
-use Rattle.ml_blocks.proofs.BreadthFirstSearch.{Ended, TooMany, search}
-use Rattle.ml_blocks.proofs.FirstEntries.{apart_places}
+use Rattle.ml_lists.proofs.BreadthFirstSearch.{Ended, TooMany, search}
+use Rattle.ml_lists.proofs.FirstEntries.{apart_places}
 use Rattle.ml_blocks.proofs.GraphOfPlaces.{leads, made_of, is_graph, is_numbered, size_is}
 use Rattle.ml_blocks.proofs.PlaceEquality.{place_eq, place_eq-tells}
 

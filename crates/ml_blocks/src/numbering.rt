@@ -5,7 +5,8 @@ ghost use Rattle.ml_blocks.specs.declared.spots.Spot.{Spot};
 ghost use Rattle.ml_blocks.specs.private.Forms as forms;
 ghost use Rattle.ml_blocks.specs.private.Occurrences as listed;
 ghost use Rattle.ml_blocks.specs.private.Numbering as numbering;
-ghost use Rattle.ml_blocks.specs.private.Numbering.{HasNoRoom, IsAdded, IsDraft, IsFull, IsStep, IsTooLarge, Numbers, Overflows};
+ghost use Rattle.ml_blocks.specs.private.Numbering.{HasNoRoom, IsDraft, IsFull, IsStep, IsTooLarge, Numbers, Overflows};
+ghost use Rattle.ml_lists.specs.Added.{IsAdded};
 
 use crate::spots::{Fixed, Form, Spot, form_of};
 use crate::table::Table;

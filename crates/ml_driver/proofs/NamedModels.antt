@@ -14,7 +14,7 @@ use Rattle.ml_lists.proofs.Member.{member-All}
 use Rattle.ml_graph.specs.Graph.{Graph}
 use Rattle.ml_parity.specs.Solution.{GameSolution}
 use Rattle.ml_product.specs.Arena.{Arena}
-use Rattle.ml_product.proofs.ArenaGame.{member_of_get}
+use Rattle.ml_lists.proofs.Member.{member_of_get}
 use Rattle.ml_extract.specs.Extraction.{Extracted, HasDiamond}
 use Rattle.ml_extract.specs.Model.{IsLabel, IsModelOf, State}
 use Rattle.ml_extract.proofs.Numbering.{last_spread}

@@ -25,7 +25,7 @@ use Rattle.ml_product.specs.Arena.{Arena, AreVertices, IsVertexOf, IsPlayed, IsA
 use Rattle.ml_product.proofs.OnePlace.{place_of}
 use Rattle.ml_product.proofs.OneTurn.{same_targets}
 use Rattle.ml_product.proofs.ReachedSequents.{reached_low}
-use Rattle.ml_refute_check.proofs.Deciding.{decided_member}
+use Rattle.ml_lists.proofs.Deciding.{decided_member}
 use Rattle.ml_driver.proofs.SomeTurn.{some_turn}
 
 -- ---- equality of positions

@@ -26,7 +26,7 @@ use Rattle.ml_sequent.specs.Spread.{SpreadList, IsSpreadOf, IsCause, IsOpenOr, i
 use Rattle.ml_sequent.specs.Step.{LeadsOut, IsTarget, IsTrace}
 use Rattle.ml_product.specs.Position.{Position, Follows, neutral}
 use Rattle.ml_product.specs.DecisionGame.{Clashing, Open, Leading, Settled, Target, To, Lost, Won, Turn, AreSteps, IsResolved, diamonds_of}
-use Rattle.ml_refute_check.proofs.Deciding.{Having, some_member, sieve}
+use Rattle.ml_lists.proofs.Deciding.{Having, some_member, sieve}
 use Rattle.ml_refute_check.proofs.DecidedSpreads.{Within, SomeSpread, some_spread, decided_cause, decided_open_or, decided_target, decided_trace}
 use Rattle.ml_refute_check.proofs.DecidedWalks.{lowest_occurs}
 

@@ -41,7 +41,8 @@ use Rattle.ml_sequent.specs.Step.{LeadsOut}
 use Rattle.ml_product.specs.Position.{Position, Follows}
 use Rattle.ml_product.specs.DecisionGame.{diamonds_of}
 use Rattle.ml_product.specs.Arena.{game_of}
-use Rattle.ml_product.proofs.ArenaGame.{member_of_get, same_entry}
+use Rattle.ml_product.proofs.ArenaGame.{same_entry}
+use Rattle.ml_lists.proofs.Member.{member_of_get}
 use Rattle.ml_extract.specs.Model.{PositionAt, State, nexts, IsLabel, IsModelEdge}
 use Rattle.ml_extract.proofs.Setting.{Setting, board, even_moves, WonByMoves, EvenMove}
 use Rattle.ml_sequent.proofs.LocalLoops.{spread_along}

@@ -29,7 +29,8 @@ use Rattle.ml_graph.specs.declared.node.Node.TheVariants as node
 use Rattle.ml_graph.specs.Graph.{Graph, node_at, prop_at}
 use Rattle.ml_parity.specs.Solution.{GameSolution}
 use Rattle.ml_product.specs.Arena.{Arena}
-use Rattle.ml_product.proofs.ArenaGame.{member_of_get, same_entry}
+use Rattle.ml_product.proofs.ArenaGame.{same_entry}
+use Rattle.ml_lists.proofs.Member.{member_of_get}
 use Rattle.ml_extract.specs.Model.{State, IsLabel, IsModelEdge, IsModelOf, nexts, next_positions}
 use Rattle.ml_extract.specs.private.Gathered.{names_of, names_in, labelled, action_of, place_of, edge_to, HasLabel, AreGathered}
 use Rattle.ml_extract.specs.private.Numbered.{AreNumbered}

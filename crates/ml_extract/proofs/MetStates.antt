@@ -22,7 +22,8 @@ use Rattle.ml_sequent.specs.Spread.{SpreadList, IsOpenOr}
 use Rattle.ml_product.specs.Position.{Position, start_of, with_chosen}
 use Rattle.ml_product.specs.DecisionGame.{diamonds_of, Won}
 use Rattle.ml_product.specs.Arena.{AreVertices, game_of}
-use Rattle.ml_product.proofs.ArenaGame.{member_of_get, same_entry, moves_at, lost_moves, won_moves, is_game}
+use Rattle.ml_product.proofs.ArenaGame.{same_entry, moves_at, lost_moves, won_moves, is_game}
+use Rattle.ml_lists.proofs.Member.{member_of_get}
 use Rattle.ml_extract.specs.Model.{PositionAt, SpreadAt, Chooses, ends, moves, State, nexts}
 use Rattle.ml_extract.specs.Extraction.{IsMet, at_first, by_move, StatesAreMet}
 use Rattle.ml_extract.proofs.Setting.{Setting, board, even_moves, WonByMoves, EvenMove, EvenWalk}

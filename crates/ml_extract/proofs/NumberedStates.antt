@@ -13,7 +13,7 @@ use Rattle.std.proofs.lemmas.Option.{slice_get_within, slice_get-get_or, get_or_
 use Rattle.ml_lists.specs.BreadthFirst.{IsBreadthFirst}
 use Rattle.ml_lists.specs.Member.{IsMember}
 use Rattle.ml_lists.proofs.Member.{member-append}
-use Rattle.ml_product.proofs.ArenaGame.{member_of_get}
+use Rattle.ml_lists.proofs.Member.{member_of_get}
 use Rattle.indexmap.specs.IndexSet.{insert_all}
 use Rattle.ml_extract.specs.Model.{State, Chooses, next_positions}
 use Rattle.ml_extract.specs.private.Begun.{IsBegun}

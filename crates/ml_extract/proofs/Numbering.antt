@@ -28,7 +28,7 @@ use Rattle.ml_parity.specs.Solution.{GameSolution}
 use Rattle.ml_sequent.specs.Spread.{SpreadList, is_diamond}
 use Rattle.ml_product.specs.DecisionGame.{diamonds_of}
 use Rattle.ml_product.specs.Arena.{Arena}
-use Rattle.ml_product.proofs.ArenaGame.{member_of_get}
+use Rattle.ml_lists.proofs.Member.{member_of_get}
 use Rattle.ml_extract.specs.Model.{SpreadAt, Chooses, ends, moves, State, nexts, next_positions, IsModelOf}
 use Rattle.ml_extract.specs.Extraction.{IsReachedFrom, itself, along, HasDiamond}
 use Rattle.ml_lists.proofs.BreadthFirst.{row_inside}

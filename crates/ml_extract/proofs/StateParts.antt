@@ -23,7 +23,8 @@ use Rattle.ml_sequent.specs.Spread.{SpreadList, IsSpreadOf, is_diamond}
 use Rattle.ml_product.specs.Position.{Position}
 use Rattle.ml_product.specs.DecisionGame.{diamonds_of}
 use Rattle.ml_product.specs.Arena.{Arena}
-use Rattle.ml_product.proofs.ArenaGame.{member_of_get, same_entry}
+use Rattle.ml_product.proofs.ArenaGame.{same_entry}
+use Rattle.ml_lists.proofs.Member.{member_of_get}
 use Rattle.ml_product.proofs.NeutralPriority.{sequent_low}
 use Rattle.ml_extract.specs.Model.{State, SpreadAt, Chooses, ends as choice_ends, moves, nexts}
 use Rattle.ml_extract.specs.private.Gathered.{names_in, labelled, edge_to, AreGathered}

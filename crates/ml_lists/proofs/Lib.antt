@@ -62,3 +62,17 @@ pub mod Within
 pub mod InOrder
 -- breadth-first lists
 pub mod BreadthFirst
+-- lists to which something was added
+pub mod Added
+-- numbers that come in turn
+pub mod InTurn
+-- numbers that stand in their order when they come first
+pub mod ComesFirst
+-- first entries, and numbers of entries
+pub mod FirstEntries
+-- breadth-first search among values
+pub mod BreadthFirstSearch
+-- propositions that are decided: one under another, and all or some of finitely many
+pub mod Deciding
+-- whether one number leads to another along a decided relation
+pub mod DecidedReach

@@ -11,9 +11,11 @@
 --   list_any-member, member-list_any        == some entry passes the test where a member does
 --   Place x xs                              == x is the entry of xs at some place
 --   member-place, place-member              == a member is the entry at some place, and the other way round
+--   member_of_get                           == so is what is read at a place
 --   All-member, member-All                  == what holds of each entry holds of each member, and the other way round
-use Rattle.std.proofs.Common.{◌≡◌, ◌⊎◌, inl, inr, List, [], ◌∷◌, ◌++◌, map, ap, refl, sym, subst, Bool, true, false, ℕ, zero, suc, ◌<◌, length, get_or, arith}
+use Rattle.std.proofs.Common.{◌≡◌, ◌⊎◌, inl, inr, List, [], ◌∷◌, ◌++◌, map, ap, refl, sym, subst, Bool, true, false, ℕ, zero, suc, ◌<◌, length, get_or, slice_get, Some, arith}
 use Rattle.std.proofs.lemmas.Bool.{cases_Bool, cond-true, cond-false, or_cases, or_left, or_right}
+use Rattle.std.proofs.lemmas.Option.{get_or_from_slice_get, slice_get_within}
 use Rattle.std.specs.List.{flat_map, filter, list_any, All}
 use Rattle.ml_lists.specs.Member.{IsMember}
 
@@ -153,3 +155,8 @@ All-member P xs all x m = let p = member-place x xs m in subst P (p.holds x) (al
 -- what holds of each member holds of each entry
 pub member-All : {X : Type 0} → (P : X → Type 0) (xs : List X) → ((x : X) → IsMember x xs → P x) → All P xs
 member-All P xs each k d low = each (get_or xs k d) (place-member xs k d low)
+
+-- what is read at a place is a member
+pub member_of_get : {X : Type 0} (xs : List X) (k : ℕ) (x : X) → slice_get xs k ≡ Some x → IsMember x xs
+member_of_get xs k x is =
+    subst (λ y. IsMember y xs) (get_or_from_slice_get xs k x x is) (place-member xs k x (slice_get_within xs k x is))

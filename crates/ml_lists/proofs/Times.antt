@@ -6,7 +6,7 @@
 --   times-member, member-times == a number stands in a list where it is a member
 --   times-apart, apart-times   == a list has no repeats where each number stands in it once at most
 --   times-map                  == images that are apart
-use Rattle.std.proofs.Common.{ℕ, ◌≡◌, ◌+◌, ◌≤◌, ◌⊎◌, inl, inr, arith, cond, eqb, List, [], ◌∷◌, ◌++◌, map, refl, sym, subst}
+use Rattle.std.proofs.Common.{ℕ, ◌≡◌, ◌+◌, ◌≤◌, ◌⊎◌, inl, inr, arith, eqb, List, [], ◌∷◌, ◌++◌, map, refl, sym, subst}
 use Rattle.std.proofs.lemmas.Bool.{cases_eq, cond-true, cond-false, eq-eqb, ne_eqb}
 use Rattle.ml_lists.specs.Member.{IsMember}
 use Rattle.ml_lists.specs.Times.{once_for, times, IsApart}

@@ -4,7 +4,6 @@
 use Rattle.std.proofs.Common.{◌≡◌, ◌⊎◌, inl, inr, Bool, true, false, List, sym, ◌∙◌}
 use Rattle.std.specs.List.{list_any}
 use Rattle.std.proofs.lemmas.Bool.{cases_Bool}
-use Rattle.ml_lists.specs.Member.{IsMember}
 use Rattle.ml_lists.specs.Within.{Within}
 use Rattle.ml_lists.proofs.Member.{list_any-member, member-list_any}
 

@@ -36,3 +36,7 @@ pub mod Times
 pub mod Within
 -- lists in breadth-first order
 pub mod BreadthFirst
+-- lists to which something is added
+pub mod Added
+-- numbers that come in turn
+pub mod InTurn

@@ -21,11 +21,6 @@ use Rattle.ml_product.specs.DecisionGame.{Verdict, Clashing, Open, Leading, Sett
 use Rattle.ml_sequent.specs.Spread.{SpreadList}
 use Rattle.ml_product.specs.Arena.{Arena, IsVertexOf, AreVertices, IsPlayed, IsArenaOf, game_of}
 
--- an element that is read is a member
-pub member_of_get : {X : Type 0} (xs : List X) (k : ℕ) (x : X) → slice_get xs k ≡ Some x → IsMember x xs
-member_of_get xs k x is =
-    subst (λ y. IsMember y xs) (get_or_from_slice_get xs k x x is) (place-member xs k x (slice_get_within xs k x is))
-
 -- a place has one element
 pub same_entry : {X : Type 0} (xs : List X) (k : ℕ) (x y : X) → slice_get xs k ≡ Some x → slice_get xs k ≡ Some y → x
     ≡ y

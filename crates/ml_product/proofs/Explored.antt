@@ -20,7 +20,7 @@ use Rattle.ml_product.specs.declared.recorded.Recorded.TheVariants as recorded
 use Rattle.ml_product.specs.private.Pools.{positions_of}
 use Rattle.ml_product.specs.private.Recorded.{owner_of, moves_of, IsRecorded}
 use Rattle.ml_product.specs.private.Exploring.{Explores, IsNumbered, HasNoRoom, IsLonger, AreTurned, Becomes}
-use Rattle.ml_product.proofs.ArenaGame.{member_of_get}
+use Rattle.ml_lists.proofs.Member.{member_of_get}
 use Rattle.ml_product.proofs.OnePlace.{PlaceOf, place_of}
 use Rattle.ml_product.proofs.OneTurn.{same_targets}
 use Rattle.ml_product.proofs.Vertices.{target_stands, at_the_end, longer_self}

@@ -16,9 +16,10 @@ use Rattle.ml_product.specs.Position.{Position}
 use Rattle.ml_product.specs.DecisionGame.{AreDifferent}
 use Rattle.ml_product.specs.declared.stored.Stored.{Stored}
 use Rattle.ml_product.specs.private.Shared.{seen, shown, IsWithin, AreWithin}
-use Rattle.ml_product.specs.private.Pools.{IsAdded, IsPool, beside}
+use Rattle.ml_product.specs.private.Pools.{IsPool, beside}
+use Rattle.ml_lists.specs.Added.{IsAdded}
 use Rattle.ml_product.proofs.OnePlace.{PlaceOf, place_of}
-use Rattle.ml_product.proofs.Added.{added_all, added_once, added_long, added_early, added_get}
+use Rattle.ml_lists.proofs.Added.{added_all, added_once, added_long, added_early, added_get}
 
 -- different positions, and one that isn't among them
 pub different_more : (ps : List Position) (p : Position) → AreDifferent ps → ¬ (IsMember p ps) → AreDifferent (ps ++ p ∷ [])

@@ -14,8 +14,6 @@ pub mod HeldGames
 pub mod bound
 -- each parity game has a solution
 pub mod SomeSolution
--- lists to which something was added
-pub mod Added
 -- a position gets a number
 pub mod Interning
 -- stored positions are equal if they are one

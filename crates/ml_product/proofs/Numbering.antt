@@ -14,8 +14,8 @@ use Rattle.ml_product.specs.declared.refusals.ExploreRefusal.{ExploreRefusal}
 use Rattle.ml_product.specs.declared.refusals.ExploreRefusal.TheVariants as refusal
 use Rattle.ml_product.specs.private.Pools.{positions_of, IsInterned, beside}
 use Rattle.ml_product.specs.private.Exploring.{IsNumbered, HasNoRoom}
-use Rattle.ml_product.proofs.ArenaGame.{member_of_get}
-use Rattle.ml_product.proofs.Added.{last_or}
+use Rattle.ml_lists.proofs.Member.{member_of_get}
+use Rattle.ml_lists.proofs.Added.{last_or}
 
 module _ (limit : ℕ) (ps : List Position) (p : Position) (b : Pool) (n : ℕ) (few : length ps ≤ limit) (is : IsInterned ps p b n) where
   -- a position with a number that is allowed

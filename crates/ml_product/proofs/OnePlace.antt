@@ -13,7 +13,7 @@ use Rattle.ml_sequent.specs.declared.choice.Side.{Side}
 use Rattle.ml_sequent.specs.Spread.{SpreadList, IsSpreadOf}
 use Rattle.ml_product.specs.Position.{Position}
 use Rattle.ml_product.specs.DecisionGame.{AreDifferent}
-use Rattle.ml_product.proofs.ArenaGame.{member_of_get}
+use Rattle.ml_lists.proofs.Member.{member_of_get}
 
 -- a set of nodes has one spread under a choice
 pub same_spread : (g : Graph) (c : List ℕ) (h : List (ℕ × Side)) (x y : SpreadList)

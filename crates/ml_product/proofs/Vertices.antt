@@ -21,7 +21,7 @@ use Rattle.ml_product.specs.declared.pool.Fresh.{Fresh}
 use Rattle.ml_product.specs.private.Pools.{position_of}
 use Rattle.ml_product.specs.private.Recorded.{moves_of, IsVertexAt, AreVerticesAt, IsRecorded}
 use Rattle.ml_product.specs.private.Exploring.{IsLonger, at_place, target_of}
-use Rattle.ml_product.proofs.ArenaGame.{member_of_get}
+use Rattle.ml_lists.proofs.Member.{member_of_get}
 
 -- what stands in a list stands there in a longer one
 pub longer_get : (ps qs : List Position) → IsLonger ps qs → (v : ℕ) (p : Position) → slice_get ps v ≡ Some p

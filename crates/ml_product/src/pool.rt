@@ -3,7 +3,8 @@ ghost use Rattle.std.specs.Prelude.{◌≡◌, ◌<◌, ◌^◌, length, slice_g
 ghost use Rattle.ml_product.specs.Position.{Position};
 ghost use Rattle.ml_product.specs.View.{viewed};
 ghost use Rattle.ml_product.specs.private.Shared.{AreWithin};
-ghost use Rattle.ml_product.specs.private.Pools.{positions_of, position_of, beside, KeepsPool, IsAdded, IsInterned, IsEmptyPool};
+ghost use Rattle.ml_product.specs.private.Pools.{positions_of, position_of, beside, KeepsPool, IsInterned, IsEmptyPool};
+ghost use Rattle.ml_lists.specs.Added.{IsAdded};
 
 use crate::stored::Stored;
 use crate::view::View;

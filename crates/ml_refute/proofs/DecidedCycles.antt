@@ -17,7 +17,8 @@ use Rattle.ml_sequent.specs.LocalWalk.{LocalWalk, stays, goes, children}
 use Rattle.ml_sequent.specs.Spread.{OnCycle, IsOddCycle}
 use Rattle.ml_sequent.proofs.LocalWalks.{walk_low}
 use Rattle.ml_sequent.proofs.RankedWalks.{children_low}
-use Rattle.ml_refute.proofs.DecidedReach.{first_step, no_step, Leads, decided_leads, Having, decided_having, decided_member}
+use Rattle.ml_lists.proofs.DecidedReach.{first_step, no_step, Leads, decided_leads}
+use Rattle.ml_lists.proofs.Deciding.{Having, some_member, decided_member}
 
 at_most : (m n : ℕ) → Decided (m ≤ n)
 at_most m n = by_order (cases_lt n m)
@@ -63,7 +64,7 @@ module _ (g : Graph) (ok : IsGraph g) (c : List (ℕ × Side)) where
   decided_move : (k n m : ℕ) → Decided (Move k n m)
   decided_move k n m =
       decided_both (decided_less n (size g))
-      (decided_both (decided_member m (children g c n)) (at_most k (priority_at g m)))
+      (decided_both (decided_member decided_number m (children g c n)) (at_most k (priority_at g m)))
 
   pub decided_high : (k n m : ℕ) → n < size g → Decided (High k n m)
   decided_high k n m low =
@@ -83,7 +84,7 @@ module _ (g : Graph) (ok : IsGraph g) (c : List (ℕ × Side)) where
       (λ o.
       let high : High (priority_at g n) o.next n = record { lowest = o.lowest; walk = o.walk; high = o.high } in
       record { item = o.next; member = o.child; holds = high })
-      (decided_having (λ next. High (priority_at g n) next n) (children g c n)
+      (some_member (λ next. High (priority_at g n) next n) (children g c n)
       (λ next h. decided_high (priority_at g n) next n (children_low g c ok n next low h)))
 
   pub decided_odd_cycle : (n : ℕ) → n < size g → Decided (IsOddCycle g c n)

@@ -21,7 +21,7 @@ use Rattle.ml_refutation.specs.Refutation.{Refutation, Entry}
 use Rattle.ml_refute.specs.Extracted.{leads_to, IsOutlineOf, IsEntryAt}
 use Rattle.ml_refute.proofs.Decisions.{LedTo, go_to, nodes_low}
 use Rattle.std.proofs.lemmas.Option.{slice_get_within, slice_get-get_or}
-use Rattle.ml_product.proofs.ArenaGame.{member_of_get}
+use Rattle.ml_lists.proofs.Member.{member_of_get}
 
 -- a graph, its arena, a solution, and a refutation that is the solution's as far as its heights
 pub record Extraction : Type 0 where

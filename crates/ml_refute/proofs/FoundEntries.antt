@@ -23,7 +23,8 @@ use Rattle.ml_parity.specs.Winner.{WinsFrom}
 use Rattle.ml_product.specs.Arena.{Arena, game_of}
 use Rattle.ml_product.specs.DecisionGame.{Open, IsVerdictOf, IsResolved, AreDifferent}
 use Rattle.ml_product.specs.Position.{Position, start_of, with_chosen, neutral}
-use Rattle.ml_product.proofs.ArenaGame.{member_of_get, size_is}
+use Rattle.ml_product.proofs.ArenaGame.{size_is}
+use Rattle.ml_lists.proofs.Member.{member_of_get}
 use Rattle.ml_product.proofs.OnePlace.{same_place}
 use Rattle.ml_product.proofs.ReachedChoices.{with_side_length, chosen_few}
 use Rattle.ml_refutation.specs.Acceptance.{OfSpread}
@@ -35,10 +36,11 @@ use Rattle.ml_sequent.specs.Spread.{IsFirstCause}
 use Rattle.ml_trace.specs.declared.marks.Mark.{Mark}
 use Rattle.ml_trace.specs.Marks.{priority, FitsBelow}
 use Rattle.ml_refute.specs.Extracted.{IsDecisionAt, IsGo, leads_to}
-use Rattle.ml_refute.specs.private.Found.{OddWins, IsWon, LeavesTo, AreSides, AreNumbered, RunsOn, IsNumberOf, IsDecided, AreLooked, position_at}
+use Rattle.ml_refute.specs.private.Found.{OddWins, IsWon, LeavesTo, AreSides, AreNumbered, IsNumberOf, IsDecided, AreLooked, position_at}
+use Rattle.ml_lists.specs.InTurn.{RunsOn}
 use Rattle.ml_refute.proofs.Different.{different_within}
 use Rattle.ml_refute.proofs.Leaving.{placed, reached_here}
-use Rattle.ml_refute.proofs.NumbersInTurn.{runs_append, runs_up, runs_has}
+use Rattle.ml_lists.proofs.InTurn.{runs_append, runs_up, runs_has}
 
 -- ---- lists
 

@@ -22,7 +22,7 @@ use Rattle.ml_parity.proofs.FollowedWalks.{won_behind}
 use Rattle.ml_product.specs.Arena.{Arena, game_of}
 use Rattle.ml_product.specs.DecisionGame.{Open, IsResolved, IsVerdictOf, IsReached, diamonds_of}
 use Rattle.ml_product.specs.Position.{Position, start_of, with_chosen}
-use Rattle.ml_product.proofs.ArenaGame.{member_of_get}
+use Rattle.ml_lists.proofs.Member.{member_of_get}
 use Rattle.ml_product.proofs.NeutralPriority.{sequent_low}
 use Rattle.ml_product.proofs.Reached.{Facts, reached_facts}
 use Rattle.ml_refutation.specs.Acceptance.{OfSpread}

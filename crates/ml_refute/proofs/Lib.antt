@@ -28,8 +28,6 @@ pub mod Sizes
 pub mod WellFormed
 -- a spread has one first cause
 pub mod FirstCauses
--- numbers that stand in their order when they come first
-pub mod InOrder
 -- decisions from one position, with the entries numbered in two ways
 pub mod Alike
 -- the entries are numbered in one way
@@ -44,14 +42,10 @@ pub mod Progress
 pub mod ReachedByOdd
 -- what is done at a vertex that Odd wins
 pub mod Leaving
--- numbers that come in turn
-pub mod NumbersInTurn
 -- entries as they are found
 pub mod FoundEntries
 -- the refutation, put together of them
 pub mod PuttingTogether
--- reachability along a decided relation is decided
-pub mod DecidedReach
 -- whether a node is on an odd cycle is decided
 pub mod DecidedCycles
 -- a spread with a cause has a first one

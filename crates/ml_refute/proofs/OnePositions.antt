@@ -30,7 +30,7 @@ use Rattle.ml_refutation.specs.Refutation.{Refutation, Entry}
 use Rattle.ml_refute.specs.Extracted.{leads_to, IsOutlineOf}
 use Rattle.ml_refute.proofs.Alike.{IsPaired, AreAlike, decisions_alike, ArePaired, paired_append, leads_paired, PairedAt, paired_at}
 use Rattle.ml_refute.proofs.Entries.{Extraction, position_at, led_from}
-use Rattle.ml_refute.proofs.InOrder.{Earlier, comes_first}
+use Rattle.ml_lists.proofs.ComesFirst.{Earlier, comes_first}
 
 -- ---- to what the first entries lead
 

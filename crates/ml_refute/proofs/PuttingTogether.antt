@@ -25,7 +25,7 @@ use Rattle.ml_parity.specs.Heights.{AtMost, AreLongest, IsOneSided, EvenCycleIn}
 use Rattle.ml_parity.specs.Solution.{GameSolution}
 use Rattle.ml_product.specs.Arena.{Arena}
 use Rattle.ml_product.specs.Position.{Position, start_of}
-use Rattle.ml_product.proofs.ArenaGame.{member_of_get}
+use Rattle.ml_lists.proofs.Member.{member_of_get}
 use Rattle.ml_refutation.specs.declared.refutation.TheConstants.{NESTING_LIMIT}
 use Rattle.ml_refutation.specs.Acceptance.{entry_at, no_entry, heights_of, IsAccepted}
 use Rattle.ml_refutation.specs.Refutation.{Refutation, Entry, Decision, Split, Clash, Go, IsDecided, IsRefutation, Fits}
@@ -38,7 +38,7 @@ use Rattle.ml_refute.proofs.Entries.{Extraction}
 use Rattle.ml_refute.proofs.FoundEntries.{get_grown, get_last}
 use Rattle.ml_refute.proofs.GoCycles.{no_even_cycle}
 use Rattle.ml_refute.proofs.GoGraph.{is_one_sided}
-use Rattle.ml_refute.proofs.NumbersInTurn.{in_turn}
+use Rattle.ml_lists.proofs.InTurn.{in_turn}
 use Rattle.ml_refute.proofs.WellFormed.{names_few, decided_at, extracted_refutation}
 
 -- the arcs of entries are those of their decisions

@@ -19,7 +19,8 @@ use Rattle.ml_parity.specs.Game.{HasMove, owner_of, moves_of}
 use Rattle.ml_parity.specs.Solution.{IsSolution, choice_at}
 use Rattle.ml_product.specs.Arena.{game_of}
 use Rattle.ml_product.specs.Position.{Position, with_chosen}
-use Rattle.ml_product.proofs.ArenaGame.{member_of_get, lost_moves, won_moves}
+use Rattle.ml_product.proofs.ArenaGame.{lost_moves, won_moves}
+use Rattle.ml_lists.proofs.Member.{member_of_get}
 use Rattle.ml_product.proofs.OnePlace.{PlaceOf, place_of, same_place}
 use Rattle.ml_refutation.specs.Acceptance.{entry_at}
 use Rattle.ml_refutation.specs.Refutation.{Decision, Split, Clash, Go}

@@ -7,7 +7,7 @@ use Rattle.std.proofs.Common.{◌≡◌, ℕ, ◌<◌, ◌⊎◌, true, false, L
 use Rattle.ml_lists.specs.Ascending.{IsAscending}
 use Rattle.ml_lists.specs.Member.{IsMember}
 use Rattle.ml_lists.specs.Search.{First}
-use Rattle.ml_lists.proofs.Decided.{Decided, decided_same}
+use Rattle.ml_lists.proofs.Decided.{Decided, decided_same, decided_number}
 use Rattle.ml_lists.proofs.Search.{search_first}
 use Rattle.ml_graph.specs.Graph.{Graph, IsGraph, size, node_at}
 use Rattle.ml_sequent.specs.declared.choice.Side.{Side}
@@ -18,7 +18,7 @@ use Rattle.ml_sequent.specs.private.Tests.{is_false, partner, IsFirstPair, IsFir
 use Rattle.ml_sequent.proofs.Causes.{false_cause, pair_cause, cycle_cause, no_cause}
 use Rattle.ml_sequent.proofs.Firsts.{FoundFirst, found_first, found_none}
 use Rattle.ml_refute.proofs.DecidedCycles.{decided_odd_cycle}
-use Rattle.ml_refute.proofs.DecidedReach.{decided_member}
+use Rattle.ml_lists.proofs.Deciding.{decided_member}
 
 -- what an option holds, if it holds something
 record Held (o : Option ℕ) : Type 0 where
@@ -76,7 +76,7 @@ module _ (g : Graph) (ok : IsGraph g) (C : List ℕ) (c : List (ℕ × Side)) (s
   OddHere n = IsMember n sp.nodes × IsOddCycle g sp.choice n
 
   decided_here : (n : ℕ) → Decided (OddHere n)
-  decided_here n = by_member (decided_member n sp.nodes)
+  decided_here n = by_member (decided_member decided_number n sp.nodes)
     where
       by_member : Decided (IsMember n sp.nodes) → Decided (OddHere n)
       by_member (inl inside) =

@@ -23,7 +23,7 @@ use Rattle.ml_trace.specs.Stack.{Item, Entry, has, ends_in, IsAdvanced}
 use Rattle.ml_graph.specs.Graph.{Graph, IsGraph, size, priority_at, odd_priorities}
 use Rattle.ml_sequent.specs.Step.{IsTrace}
 use Rattle.ml_refutation.specs.GoStep.{GoStep, HasTransition}
-use Rattle.ml_refute_check.proofs.Deciding.{decided_at_most, decided_below, decided_if, decided_member, decided_members, decided_not, decided_truth, some_below, some_member, some_truth, Having}
+use Rattle.ml_lists.proofs.Deciding.{decided_at_most, decided_below, decided_if, decided_member, decided_members, decided_not, decided_truth, some_below, some_member, some_truth, Having}
 use Rattle.ml_refute_check.proofs.DecidedSpreads.{Within, decided_trace}
 use Rattle.ml_refute_check.proofs.DecidedWalks.{lowest_occurs}
 

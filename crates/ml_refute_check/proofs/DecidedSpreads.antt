@@ -24,7 +24,7 @@ use Rattle.ml_sequent.specs.Spread.{SpreadList, IsSpreadOf, IsOpenNode, IsOpenOr
 use Rattle.ml_sequent.specs.Step.{IsDiamondOf, LeadsOut, IsTarget, IsTrace}
 use Rattle.ml_sequent.proofs.RankedWalks.{walk_below}
 use Rattle.ml_refutation.specs.Acceptance.{OfSpread}
-use Rattle.ml_refute_check.proofs.Deciding.{decided_and, decided_truth, decided_member, some_member, Having, sieve}
+use Rattle.ml_lists.proofs.Deciding.{decided_and, decided_truth, decided_member, some_member, Having, sieve}
 use Rattle.ml_refute_check.proofs.DecidedWalks.{decided_walk, decided_spread, decided_cycle}
 
 abbrev pub Within : Graph → List ℕ → Type 0

@@ -24,8 +24,8 @@ use Rattle.ml_sequent.specs.LocalWalk.{LocalWalk, stays, goes, InSpread, childre
 use Rattle.ml_sequent.specs.Spread.{OnCycle}
 use Rattle.ml_sequent.proofs.LocalWalks.{walk_low, end_low, walk_joined}
 use Rattle.ml_sequent.proofs.RankedWalks.{children_low}
-use Rattle.ml_refute_check.proofs.Deciding.{decided_at_most, decided_member, some_below, some_member, Having}
-use Rattle.ml_refute_check.proofs.DecidedReach.{first_step, no_step, Leads, decided_leads}
+use Rattle.ml_lists.proofs.Deciding.{decided_at_most, decided_member, some_below, some_member, Having}
+use Rattle.ml_lists.proofs.DecidedReach.{first_step, no_step, Leads, decided_leads}
 
 module _ (g : Graph) (c : List (ℕ × Side)) where
   -- a walk through nodes of priority k or more

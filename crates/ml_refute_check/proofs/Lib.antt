@@ -12,10 +12,6 @@ pub mod WorkedRefutations
 pub mod OneFault
 -- problems whose graph a refutation is accepted for
 pub mod Refuted
--- propositions that are decided: all and some of finitely many
-pub mod Deciding
--- whether one number leads to another along a relation is decided
-pub mod DecidedReach
 -- local walks are decided
 pub mod DecidedWalks
 -- what is asked of a spread is decided

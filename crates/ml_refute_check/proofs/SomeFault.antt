@@ -25,7 +25,7 @@ use Rattle.ml_refutation.specs.Refutation.{Refutation, Decision, Split, Clash, G
 use Rattle.ml_refutation.specs.GoStep.{GoStep, HasTransition}
 use Rattle.ml_refutation.specs.Acceptance.{entry_at, Part, Sequent, Live, Item, Decided, parts, rules, heights_of, IsAccepted, IsFirstBad}
 use Rattle.ml_refute_check.specs.Soundness.{AcceptedOrFault}
-use Rattle.ml_refute_check.proofs.Deciding.{decided_if, decided_member, FirstWith, first_bad}
+use Rattle.ml_lists.proofs.Deciding.{decided_if, decided_member, FirstWith, first_bad}
 use Rattle.ml_refute_check.proofs.DecidedNames.{decided_names, decided_transition, decided_stands, decided_falls}
 use Rattle.ml_refute_check.proofs.DecidedSpreads.{Within, decided_of_spread, decided_open_or, decided_cause, decided_diamond, decided_target}
 

@@ -1,7 +1,5 @@
 -- How nodes get their numbers.
 --
---   IsAdded xs x ys i     == x stands at the place i of ys, which is xs, or xs with x behind it if x isn't in xs
---   HasOnePlace xs        == nothing stands at two places of xs
 --   pair_of b i j, edge_of b i == the node of an and, or else an or; of a diamond, or else a square
 --   Numbers f xs ys v     == the nodes to which f leads got numbers, so that xs became ys, and v is the node of f
 --   IsFull max xs x       == x would be one node too many
@@ -12,6 +10,8 @@
 --   IsStep                == one node more was made
 use Rattle.std.specs.Prelude.{ℕ, ◌≡◌, ◌≤◌, ◌<◌, ◌+◌, ◌⊎◌, Bool, if◌then◌else◌, List, [], ◌∷◌, ◌++◌, Some, length, map, get_or, slice_get}
 use Rattle.std.specs.List.{flat_map}
+use Rattle.ml_lists.specs.Added.{IsAdded, HasOnePlace}
+use Rattle.ml_lists.specs.InTurn.{RunsOn}
 use Rattle.ml_lists.specs.Member.{IsMember}
 use Rattle.ml_graph.specs.declared.node.Node.{Node}
 use Rattle.ml_graph.specs.declared.node.Node.TheVariants as node
@@ -23,13 +23,6 @@ use Rattle.ml_blocks.specs.declared.spots.Form.{Form}
 use Rattle.ml_blocks.specs.declared.spots.Form.TheVariants as form
 use Rattle.ml_blocks.specs.declared.spots.Spot.{Spot}
 use Rattle.ml_blocks.specs.declared.spots.Spot.TheVariants as spot
-
-pub record IsAdded {X : Type 0} (xs : List X) (x : X) (ys : List X) (i : ℕ) : Type 0 where
-  pub stands : slice_get ys i ≡ Some x
-  pub grown : (ys ≡ xs) ⊎ ((ys ≡ xs ++ x ∷ []) × ¬ (IsMember x xs))
-
-abbrev pub HasOnePlace : {X : Type 0} → List X → Type 0
-HasOnePlace {X} xs = (i j : ℕ) (x : X) → slice_get xs i ≡ Some x → slice_get xs j ≡ Some x → i ≡ j
 
 abbrev pub constant_of : Bool → Node
 constant_of b = if b then node.True else node.False
@@ -98,11 +91,6 @@ pub data ReachedIn (os : List Occurrence) (lists : List (List ℕ)) (first : Spo
       → ReachedIn os lists first s
       → IsMember t (children_in (form_in os lists first s))
       → ReachedIn os lists first t
-
--- where the numbers below n were met, those of xs that are new come as n, n + 1 and so on, up to m
-abbrev pub RunsOn : ℕ → List ℕ → ℕ → Type 0
-RunsOn n [] m = n ≡ m
-RunsOn n (x ∷ xs) m = ((x < n) × RunsOn n xs m) ⊎ ((x ≡ n) × RunsOn (n + 1) xs m)
 
 pub record IsMade (os : List Occurrence) (lists : List (List ℕ)) (first : Spot)
     (xs : List Spot) (vs : List Node) (ps : List ℕ) (n : ℕ) : Type 0 where

@@ -27,7 +27,8 @@ use Rattle.ml_product.specs.declared.pool.Fresh.{Fresh}
 use Rattle.ml_product.specs.declared.pool.Pool.{Pool}
 use Rattle.ml_product.specs.declared.recorded.Recorded.{Recorded}
 use Rattle.ml_product.specs.declared.recorded.Recorded.TheVariants as recorded
-use Rattle.ml_product.specs.private.Pools.{positions_of, position_of, KeepsPool, IsAdded}
+use Rattle.ml_product.specs.private.Pools.{positions_of, position_of, KeepsPool}
+use Rattle.ml_lists.specs.Added.{IsAdded}
 use Rattle.ml_product.specs.private.Recorded.{owner_of, moves_of, IsRecorded}
 
 -- the odd priorities of the graph, and its neutral priority

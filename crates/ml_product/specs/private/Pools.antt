@@ -3,15 +3,13 @@
 --   positions_of a        == the positions of the pool a
 --   position_of x         == the position that was made as x
 --   beside p k c          == the position p with another priority and another choice
---   IsAdded xs x ys i     == x stands at place i of ys, which is xs, or xs with x behind it if x isn't in xs
---   HasOnePlace xs        == nothing stands at two places of xs
 --   IsPool ss hs xs       == what a pool keeps: its tables have nothing twice, places are places of the tables, which have
 --                            no more entries than there are positions, and the positions are different
 --   KeepsPool a           == so does the pool a
 --   IsInterned ps p b v   == the pool b has the positions ps, and p, at the place v
 --   IsEmptyPool a         == the pool a has no positions
 use Rattle.std.specs.Prelude.{ℕ, ◌≡◌, ◌≤◌, ◌⊎◌, List, [], ◌∷◌, ◌++◌, length, slice_get, Some}
-use Rattle.ml_lists.specs.Member.{IsMember}
+use Rattle.ml_lists.specs.Added.{IsAdded, HasOnePlace}
 use Rattle.ml_sequent.specs.declared.choice.Side.{Side}
 use Rattle.ml_trace.specs.Stack.{Item}
 use Rattle.ml_product.specs.Position.{Position}
@@ -32,15 +30,6 @@ position_of x = record { sequent = x.sequent; history = x.history; priority = x.
 -- the position with another priority and another choice
 abbrev pub beside : Position → ℕ → List (ℕ × Side) → Position
 beside p k c = record { sequent = p.sequent; history = p.history; priority = k; choice = c }
-
--- x stands at place i of ys, which is xs, or xs with x behind it
-pub record IsAdded {X : Type 0} (xs : List X) (x : X) (ys : List X) (i : ℕ) : Type 0 where
-  pub stands : slice_get ys i ≡ Some x
-  pub grown : (ys ≡ xs) ⊎ ((ys ≡ xs ++ x ∷ []) × ¬ (IsMember x xs))
-
--- nothing stands at two places
-abbrev pub HasOnePlace : {X : Type 0} → List X → Type 0
-HasOnePlace {X} xs = (i j : ℕ) (x : X) → slice_get xs i ≡ Some x → slice_get xs j ≡ Some x → i ≡ j
 
 -- what a pool keeps, of its sequents, its histories and its positions
 pub record IsPool (ss : List (List ℕ)) (hs : List (List (Item ℕ))) (xs : List Stored) : Type 0 where

@@ -11,11 +11,11 @@
 --   AreSides g a s v o l r == l and r are the vertices to which the sides of the or-node o lead from v
 --   IsNumberOf g a s vs ws v n == n is the number of the vertex v, where vs were numbered before, and ws then
 --   AreNumbered g a s vs  == the vertices vs, of which 0 is the first, are different positions without a choice, won by Odd
---   RunsOn n xs m         == where the numbers below n were met, those of xs that are new come as n, n + 1 and so on, up to m
 --   IsDecided g a s vs ws v d == d is the decision from the vertex v on, where vs were numbered before, and ws then
 --   AreLooked g a s vs ds == ds are the decisions at the first vertices of vs, and lead to the others
 use Rattle.std.specs.Prelude.{ℕ, ◌≡◌, ◌+◌, ◌<◌, ◌≤◌, ◌⊎◌, List, [], ◌∷◌, ◌++◌, length, map, get_or, slice_get, Some}
 use Rattle.std.specs.List.{flat_map}
+use Rattle.ml_lists.specs.InTurn.{RunsOn}
 use Rattle.ml_lists.specs.Member.{IsMember}
 use Rattle.ml_graph.specs.Graph.{Graph}
 use Rattle.ml_parity.specs.declared.players.Player.TheVariants.{Odd}
@@ -83,10 +83,6 @@ pub record AreNumbered (g : Graph) (a : Arena) (s : GameSolution) (vs : List ℕ
   pub are_different : AreDifferent (map (position_at g a) vs)
   pub won : (v : ℕ) → IsMember v vs → IsWon a s v
   pub unchosen : (v : ℕ) → IsMember v vs → (position_at g a v).choice ≡ []
-
-abbrev pub RunsOn : ℕ → List ℕ → ℕ → Type 0
-RunsOn n [] m = n ≡ m
-RunsOn n (x ∷ xs) m = ((x < n) × RunsOn n xs m) ⊎ ((x ≡ n) × RunsOn (n + 1) xs m)
 
 pub record IsNumberOf (g : Graph) (a : Arena) (s : GameSolution) (vs ws : List ℕ) (v n : ℕ) : Type 0 where
   pub more : List ℕ

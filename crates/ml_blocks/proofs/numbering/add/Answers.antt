@@ -1,4 +1,4 @@
-use Rattle.ml_blocks.proofs.Additions.{added}
+use Rattle.ml_lists.proofs.Added.{added}
 use Rattle.ml_blocks.proofs.SpotEquality.{spot_eq, spot_eq-same, spot_eq-refl}
 use Rattle.ml_blocks.proofs.numbering.add.Goals as goal
 

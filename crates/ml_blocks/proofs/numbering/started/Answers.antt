@@ -1,7 +1,8 @@
 use Rattle.std.proofs.Common.{rules, ◌≡◌, [], subst, sym}
 use Rattle.ml_blocks.specs.declared.spots.Fixed.TheVariants as fixed
 use Rattle.ml_blocks.specs.declared.spots.Spot.TheVariants as spot
-use Rattle.ml_blocks.specs.private.Numbering.{IsAdded, IsDraft, IsFull}
+use Rattle.ml_blocks.specs.private.Numbering.{IsDraft, IsFull}
+use Rattle.ml_lists.specs.Added.{IsAdded}
 use Rattle.ml_blocks.proofs.DraftSteps.{one_spot, root_too_many}
 use Rattle.ml_blocks.proofs.numbering.started.Goals as goal
 

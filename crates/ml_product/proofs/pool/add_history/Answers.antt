@@ -1,5 +1,5 @@
 use Rattle.ml_history.specs.HistoryOrder.{history_eq, history_eq_equiv, history_eq-same}
-use Rattle.ml_product.proofs.Added.{added}
+use Rattle.ml_lists.proofs.Added.{added}
 use Rattle.ml_product.proofs.pool.add_history.Goals as goal
 
 pub returns : goal.returns

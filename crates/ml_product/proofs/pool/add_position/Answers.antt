@@ -1,4 +1,4 @@
-use Rattle.ml_product.proofs.Added.{added}
+use Rattle.ml_lists.proofs.Added.{added}
 use Rattle.ml_product.proofs.StoredEquality.{stored_eq, stored_eq_equiv, stored_eq-same}
 use Rattle.ml_product.proofs.pool.add_position.Goals as goal
 

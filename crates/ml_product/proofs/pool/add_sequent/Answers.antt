@@ -1,6 +1,6 @@
 use Rattle.std.proofs.Common.{nat_eq}
 use Rattle.std.specs.Cmp.Lexicographic.{pointwise, nat_list_eq_equiv, bytes_decides}
-use Rattle.ml_product.proofs.Added.{added}
+use Rattle.ml_lists.proofs.Added.{added}
 use Rattle.ml_product.proofs.pool.add_sequent.Goals as goal
 
 pub returns : goal.returns

@@ -6,27 +6,22 @@
 --   added_once  == a list without repeats has none behind it
 --   added_long  == it has one thing more at most
 --   added_early == a thing with a place in the list was there
---   added_get   == what stands in the list stays where it is
-use Rattle.std.proofs.Common.{ℕ, zero, suc, ◌≡◌, ◌+◌, ◌<◌, ◌≤◌, ◌⊎◌, inl, inr, Bool, true, false, List, [], ◌∷◌, ◌++◌, length, length-append, slice_get, get_or, Some, refl, sym, ap, ◌∙◌, subst, arith, true≢false}
+--   added_keeps, added_get == what stands in the list stays where it is
+--   added_runs  == the thing has the number of an earlier one, or the next number
+use Rattle.std.proofs.Common.{ℕ, zero, suc, ◌≡◌, ◌+◌, ◌<◌, ◌≤◌, ◌⊎◌, inl, inr, Bool, true, false, if◌then◌else◌, List, [], ◌∷◌, ◌++◌, length, length-append, slice_get, get_or, Some, refl, sym, ap, ◌∙◌, subst, arith, true≢false}
 use Rattle.std.proofs.lemmas.Bool.{cases_Bool, cond-true, cond-false}
 use Rattle.std.proofs.lemmas.List.{get_or_append_left}
+use Rattle.std.proofs.lemmas.Option.{slice_get_within}
 use Rattle.std.specs.List.{list_any}
-use Rattle.indexmap.specs.IndexSet.{insert_key}
+use Rattle.ml_lists.specs.Added.{IsAdded, HasOnePlace}
+use Rattle.ml_lists.specs.InTurn.{RunsOn}
 use Rattle.ml_lists.specs.Member.{IsMember}
-use Rattle.ml_lists.proofs.Member.{member-list_any}
-use Rattle.ml_product.specs.private.Pools.{IsAdded, HasOnePlace}
-use Rattle.ml_product.proofs.ArenaGame.{member_of_get}
-
--- what an equal key stands for
-pub record StandsEqual {X : Type 0} (eq : X → X → Bool) (x : X) (ys : List X) (i : ℕ) : Type 0 where
-  pub key : X
-  pub stands : slice_get ys i ≡ Some key
-  pub equal : eq x key ≡ true
+use Rattle.ml_lists.proofs.Member.{member-list_any, member_of_get}
 
 module _ {X : Type 0} (eq : X → X → Bool) (same : (x y : X) → eq x y ≡ true → x ≡ y) (own : (x : X) → eq x x ≡ true) where
   -- what a table has behind an insertion
   pub added : (xs ys : List X) (x : X) (i : ℕ)
-      → ys ≡ insert_key eq xs x
+      → ys ≡ (if list_any (eq x) xs then xs else xs ++ x ∷ [])
       → ((k : X) × (slice_get ys i ≡ Some k) × (eq x k ≡ true))
       → IsAdded xs x ys i
   added xs ys x i keys (k, stands, equal) = record {
@@ -115,9 +110,40 @@ module _ {X : Type 0} where
         by_kind (inr new) = by_place new.1 (last_or xs x x i (subst (λ zs. slice_get zs i ≡ Some x) new.0 a.stands))
 
     -- what stands in the list stays where it is
+    pub added_keeps : (k : ℕ) (y : X) → slice_get xs k ≡ Some y → slice_get ys k ≡ Some y
+    added_keeps k y at = by_kind a.grown
+      where
+        earlier : (us : List X) (n : ℕ) → slice_get us n ≡ Some y → slice_get (us ++ x ∷ []) n ≡ Some y
+        earlier [] n e = absurd (cc)
+        earlier (u ∷ us) zero e = e
+        earlier (u ∷ us) (suc n) e = earlier us n e
+
+        by_kind : (ys ≡ xs) ⊎ ((ys ≡ xs ++ x ∷ []) × ¬ (IsMember x xs)) → slice_get ys k ≡ Some y
+        by_kind (inl old) = ap (λ zs. slice_get zs k) old ∙ at
+        by_kind (inr new) = ap (λ zs. slice_get zs k) new.0 ∙ earlier xs k at
+
+    -- what is read within the list is read behind it
     pub added_get : (k : ℕ) (d : X) → k < length xs → get_or ys k d ≡ get_or xs k d
     added_get k d low = by_kind a.grown
       where
         by_kind : (ys ≡ xs) ⊎ ((ys ≡ xs ++ x ∷ []) × ¬ (IsMember x xs)) → get_or ys k d ≡ get_or xs k d
         by_kind (inl old) = ap (λ zs. get_or zs k d) old
         by_kind (inr new) = ap (λ zs. get_or zs k d) new.0 ∙ get_or_append_left xs (x ∷ []) d k low
+
+    -- the thing has the number of an earlier one, or the next number
+    pub added_runs : RunsOn (length xs) (i ∷ []) (length ys)
+    added_runs = by_kind a.grown
+      where
+        by_place : ¬ (IsMember x xs)
+            → (slice_get xs i ≡ Some x) ⊎ ((i ≡ length xs) × (x ≡ x))
+            → length ys ≡ length xs + 1
+            → RunsOn (length xs) (i ∷ []) (length ys)
+        by_place new (inl there) long = absurd (new (member_of_get xs i x there))
+        by_place new (inr end) long = inr (end.0, sym long)
+
+        by_kind : (ys ≡ xs) ⊎ ((ys ≡ xs ++ x ∷ []) × ¬ (IsMember x xs)) → RunsOn (length xs) (i ∷ []) (length ys)
+        by_kind (inl old) =
+            inl (slice_get_within xs i x (subst (λ zs. slice_get zs i ≡ Some x) old a.stands), sym (ap length old))
+        by_kind (inr new) =
+            by_place new.1 (last_or xs x x i (subst (λ zs. slice_get zs i ≡ Some x) new.0 a.stands))
+            (ap length new.0 ∙ length-append xs (x ∷ []))

@@ -10,7 +10,7 @@ use Rattle.ml_lists.specs.Reach.{Reaches}
 use Rattle.ml_lists.specs.Search.{Found}
 use Rattle.ml_lists.proofs.Decided.{Decided, decided_same, decided_number}
 use Rattle.ml_lists.proofs.Reach.{reaches_self, reaches_step, reaches_short}
-use Rattle.ml_refute_check.proofs.Deciding.{decided_and, some_below}
+use Rattle.ml_lists.proofs.Deciding.{decided_and, some_below}
 
 -- the first step of a way, and the rest
 pub record FirstStep (R : ℕ → ℕ → Type 0) (v w m : ℕ) : Type 0 where

@@ -1,6 +1,5 @@
 -- Numbers that stand in their order when they come first.
 --
---   filter_both      == one test after the other
 --   Earlier          == a place before another one at which a number stands
 --   comes_first      == where a list without its repeats ascends, a lower number stands before each higher one
 use Rattle.std.proofs.Common.{ℕ, zero, suc, length, get_or, ◌≡◌, ◌<◌, ◌==◌, ◌&&◌, ◌⊎◌, inl, inr, Bool, true, false, not, List, [], ◌∷◌, filter, refl, sym, ap, ◌∙◌, subst, arith}
@@ -10,33 +9,8 @@ use Rattle.ml_lists.specs.Ascending.{IsAscending}
 use Rattle.ml_lists.specs.BreadthFirst.{each_once}
 use Rattle.ml_lists.specs.Member.{IsMember}
 use Rattle.ml_lists.proofs.BreadthFirst.{member-each_once}
+use Rattle.ml_lists.proofs.InTurn.{filter_both}
 use Rattle.ml_lists.proofs.Member.{member-filter}
-
--- one test after the other
-pub filter_both : (t u : ℕ → Bool) (xs : List ℕ) → filter t (filter u xs) ≡ filter (λ y. u y && t y) xs
-filter_both t u [] = refl
-filter_both t u (x ∷ xs) = by_test (cases_Bool (u x)) (filter_both t u xs)
-  where
-    by_test : (u x ≡ true) ⊎ (u x ≡ false) → filter t (filter u xs) ≡ filter (λ y. u y && t y) xs
-        → filter t (filter u (x ∷ xs)) ≡ filter (λ y. u y && t y) (x ∷ xs)
-    by_test (inl yes_u) rest = ap (filter t) (cond-true (u x) (x ∷ filter u xs) (filter u xs) yes_u) ∙ by_second
-        (cases_Bool (t x))
-      where
-        both : (t x ≡ true) → (u x && t x) ≡ true
-        both yes_t = ap (λ b. b && t x) yes_u ∙ yes_t
-
-        by_second : (t x ≡ true) ⊎ (t x ≡ false) → filter t (x ∷ filter u xs) ≡ filter (λ y. u y && t y) (x ∷ xs)
-        by_second (inl yes_t) =
-            cond-true (t x) (x ∷ filter t (filter u xs)) (filter t (filter u xs)) yes_t ∙ ap (λ zs. x ∷ zs) rest
-            ∙ sym (cond-true (u x && t x) (x ∷ filter (λ y. u y && t y) xs) (filter (λ y. u y && t y) xs) (both yes_t))
-        by_second (inr no_t) =
-            cond-false (t x) (x ∷ filter t (filter u xs)) (filter t (filter u xs)) no_t ∙ rest
-            ∙ sym (cond-false (u x && t x) (x ∷ filter (λ y. u y && t y) xs) (filter (λ y. u y && t y) xs)
-            (ap (λ b. b && t x) yes_u ∙ no_t))
-    by_test (inr no_u) rest =
-        ap (filter t) (cond-false (u x) (x ∷ filter u xs) (filter u xs) no_u) ∙ rest
-        ∙ sym (cond-false (u x && t x) (x ∷ filter (λ y. u y && t y) xs) (filter (λ y. u y && t y) xs)
-        (ap (λ b. b && t x) no_u))
 
 -- a place before place k at which x stands
 pub record Earlier (xs : List ℕ) (k x : ℕ) : Type 0 where

@@ -1,4 +1,4 @@
--- Breadth-first search among values, given up when more than so many are found. It would belong to `ml_lists`.
+-- Breadth-first search among values, given up when more than so many are found.
 --
 -- Values are met in rows: the start, and then those to which each value leads that was looked at. Those that were looked
 -- at are a front of the list of values that were met, and the search ends where they are all.
@@ -17,7 +17,7 @@ use Rattle.std.proofs.lemmas.Grind.{flat_map-append}
 use Rattle.std.proofs.lemmas.Option.{slice_get-get_or}
 use Rattle.ml_lists.specs.Member.{IsMember}
 use Rattle.ml_lists.proofs.Member.{InList, Place, member-append, member-append_right, member-flat_map_from, member-place}
-use Rattle.ml_blocks.proofs.FirstEntries.{AreApart, firsts, firsts-apart, firsts-front, firsts-member}
+use Rattle.ml_lists.proofs.FirstEntries.{AreApart, firsts, firsts-apart, firsts-front, firsts-member}
 
 pub record FromEarlier {X : Type 0} (next : X → List X) (xs : List X) (k : ℕ) (x : X) : Type 0 where
   pub place : ℕ

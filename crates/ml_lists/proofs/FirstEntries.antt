@@ -1,9 +1,7 @@
--- Lists of values whose equality a test tells: their first entries, and the numbers of their entries. It would belong to
--- `ml_lists`.
+-- Lists of values whose equality a test tells: their first entries, and the numbers of their entries.
 --
 --   AreApart xs          == nothing stands in xs twice
 --   apart_places         == so each value stands at one place
---   member_of_get        == what stands at a place is a member
 --   firsts eq xs         == the values of xs, each where it stands first
 --   firsts-apart         == nothing stands there twice
 --   member-firsts, firsts-member == it has the same members
@@ -23,20 +21,16 @@ use Rattle.std.proofs.lemmas.Bool.Decides.{nat_tests}
 use Rattle.std.proofs.lemmas.List.{ext_get_or, get_or-map, length-map}
 use Rattle.std.proofs.lemmas.List.Elements.{filter-append}
 use Rattle.std.proofs.lemmas.List.FromFn.{get_or-range_with_len, length-range_with_len}
-use Rattle.std.proofs.lemmas.Option.{slice_get_within, slice_get-get_or, get_or_from_slice_get}
+use Rattle.std.proofs.lemmas.Option.{slice_get_within, slice_get-get_or}
 use Rattle.ml_lists.specs.BreadthFirst.{each_once}
 use Rattle.ml_lists.specs.Member.{IsMember}
 use Rattle.ml_lists.specs.Pigeons.{Twice}
-use Rattle.ml_lists.proofs.Member.{member-filter, member-filter_from, place-member}
+use Rattle.ml_lists.proofs.Member.{member-filter, member-filter_from, member_of_get, place-member}
 use Rattle.ml_lists.proofs.Pigeons.{pigeons}
 
 abbrev pub AreApart : {X : Type 0} → List X → Type 0
 AreApart [] = Unit {0}
 AreApart (x ∷ xs) = (IsMember x xs → ⊥) × AreApart xs
-
-pub member_of_get : {X : Type 0} (xs : List X) (k : ℕ) (x : X) → slice_get xs k ≡ Some x → IsMember x xs
-member_of_get xs k x is =
-    subst (λ y. IsMember y xs) (get_or_from_slice_get xs k x x is) (place-member xs k x (slice_get_within xs k x is))
 
 some_same : {X : Type 0} {x y : X} → Some x ≡ Some y → x ≡ y
 some_same e = cc

@@ -12,7 +12,7 @@ use Rattle.std.proofs.lemmas.Bool.Decides.{nat_tests}
 use Rattle.std.proofs.lemmas.List.Elements.{filter_agree}
 use Rattle.ml_lists.specs.BreadthFirst.{each_once}
 use Rattle.ml_lists.specs.Member.{IsMember}
-use Rattle.ml_blocks.specs.private.Numbering.{RunsOn}
+use Rattle.ml_lists.specs.InTurn.{RunsOn}
 
 -- one test after the other
 pub filter_both : (t u : ℕ → Bool) (xs : List ℕ) → filter t (filter u xs) ≡ filter (λ y. u y && t y) xs
