@@ -66,3 +66,31 @@ fn faults(rt: HostRuntime) -> Result<(), Fail> {
     assert_eq!(rt; Status::NoMemory.code(), 7);
     Ok(())
 }
+
+// the six bytes of the text come one by one, and the seventh call gives the end
+#[test]
+fn each_read_fails(rt: HostRuntime) -> Result<(), Fail> {
+    for k in 1..9_u64 {
+        let (code, taken) = answer(rt.alloc(), "decide mu", b"p & !q", 1, &[k], &[])?;
+        if k <= 7 {
+            assert_eq!(rt; code, 5);
+            assert_eq!(rt; taken.len(), 0);
+        } else {
+            assert_eq!(rt; code, 0);
+            assert_eq!(rt; taken.as_slice(), LITERALS.as_bytes());
+        }
+    }
+    Ok(())
+}
+
+// the document's 99 bytes are taken one by one
+#[test]
+fn each_write_fails(rt: HostRuntime) -> Result<(), Fail> {
+    for k in 1..101_u64 {
+        let (code, taken) = answer(rt.alloc(), "decide mu", b"p & !q", 1, &[], &[k])?;
+        assert_eq!(rt; code, if k <= 99 { 6 } else { 0 });
+        assert_eq!(rt; taken.len() as u64, k - 1);
+        assert!(rt; LITERALS.as_bytes().starts_with(&taken));
+    }
+    Ok(())
+}
