@@ -1,6 +1,6 @@
 -- The parity game of an arena, vertex by vertex.
 --
---   member_of_get, same_entry == an element that is read is a member; a place has one
+--   same_entry          == a place has one element
 --   here                == a position with a number is one that is reached
 --   owner_at, moves_at, priority_at == of a position's vertex: those of the position
 --   lost_moves, lost_priority       == the vertex behind the positions leads to itself, with the priority 1
@@ -11,7 +11,7 @@ use Rattle.std.proofs.lemmas.Bool.{cases_lt, cases_eq}
 use Rattle.std.proofs.lemmas.List.{get_or_append_left, get_or-append-add, get_or-map, get_or_past, length-map}
 use Rattle.std.proofs.lemmas.Option.{slice_get_within, get_or_from_slice_get, slice_get-get_or}
 use Rattle.ml_lists.specs.Member.{IsMember}
-use Rattle.ml_lists.proofs.Member.{place-member}
+use Rattle.ml_lists.proofs.Member.{member_of_get}
 use Rattle.ml_lists.proofs.Members.{member_of_contains, contains_none}
 use Rattle.ml_graph.specs.Graph.{Graph}
 use Rattle.ml_parity.specs.declared.players.Player.TheVariants.{Even}
