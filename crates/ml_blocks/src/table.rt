@@ -1,5 +1,6 @@
 // The occurrences of a formula, by their numbers.
 ghost use Rattle.std.specs.Prelude.{◌≡◌, ◌+◌, ◌*◌, ◌<◌, ◌≤◌, ◌^◌, ◌++◌, [], ◌∷◌, None, Some, length, get_or, IfOk, OnOk};
+ghost use Rattle.ml_text.specs.Operators.{weight};
 ghost use Rattle.ml_ctl.specs.Formula as plain;
 ghost use Rattle.ml_ctl.specs.Formula.{occurrences};
 ghost use Rattle.ml_ctl.specs.Term.{formula_of};

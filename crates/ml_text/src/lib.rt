@@ -8,8 +8,8 @@
 // Begin with `Logic`, what a logic tells the reader: its signs, the forms of its operands, its operators, and how a tree
 // is made. `read` then reads a text of it, in one pass, within the limits; which of `Refusals` a text meets is proved
 // once, in `proofs/Exact`. `next_token` is the first token at or behind an offset; `constant_of` knows the words that all
-// logics reserve. The module `laws` has the theorems on tokens: the longest one is taken, and the tokens of a text cover
-// it.
+// logics reserve, and `operator_level` how tight their connectives bind. The module `laws` has the theorems on tokens:
+// the longest one is taken, and the tokens of a text cover it.
 //
 // Below stands `ml_base` (names, refusals); above stand the parsers of the logics.
 #![tactic(auto)]
