@@ -5,7 +5,7 @@
 --   upper_sign        == the name that begins in upper case
 --   variable_sign     == a variable is one that begins in upper case
 --   action_sign       == the sign of an action other than `_`
-use Rattle.std.proofs.Common.{◌≡◌, ℕ, ◌⊎◌, Bool, true, false, ◌&&◌, ◌||◌, not, List, [], ◌∷◌, Some, None, ◌∙◌, ap, codes, bytes_eq, ⊎_elim}
+use Rattle.std.proofs.Common.{◌≡◌, ℕ, Bool, true, false, ◌&&◌, ◌||◌, not, List, [], ◌∷◌, Some, None, ◌∙◌, ap, codes, bytes_eq, ⊎_elim}
 use Rattle.std.proofs.lemmas.Bool.{and_from, and_left, and_parts, or_parts, not_from_false, not-true, cond-true, cond-false}
 use Rattle.ml_text.specs.Bytes.{is_lower, is_upper, is_letter}
 use Rattle.ml_text.specs.Words.{constant_of, is_word_from}
