@@ -6,7 +6,8 @@
 --   given_past     == and was read, as far as it was given
 --   gave_all       == an input within the limit is no more than the limit
 --   failed_to_read, lacked_memory == how a call ends whose input is refused for another reason
-use Rattle.std.proofs.Common.{◌≡◌, ℕ, ◌<◌, ◌≤◌, length, List, Option, Some, None, refl, sym, ap, subst, inl, inr, ⊎_elim, arith}
+--   unread         == how one ends that lacks memory before anything is read
+use Rattle.std.proofs.Common.{◌≡◌, ℕ, ◌<◌, ◌≤◌, length, List, [], Option, Some, None, refl, sym, ap, subst, inl, inr, ⊎_elim, arith}
 use Rattle.std.specs.Prelude.{IfSome, IsSome}
 use Rattle.std.specs.Io.KnownBytes.{append_known, prepend_known}
 use Rattle.ml_base.specs.Faults.{Rose}
@@ -20,7 +21,7 @@ use Rattle.ml_driver.specs.declared.status.Status.{Status}
 use Rattle.ml_driver.specs.declared.status.Status.TheVariants.{Yes, No, Undecided, Words, Text, ReadFault, WriteFault, NoMemory}
 use Rattle.ml_driver.specs.Bench.{answer_of, status_of}
 use Rattle.ml_driver.specs.Statuses.{code_of, longest_document, longest_input, longest_text, refused_length}
-use Rattle.ml_driver.specs.Run.{as_document, document_by_length, GaveUpTo, IsCalm, IsDue, IsTooLong, World, WasGiven, WasRead, IsWhole, Answered, FailedToWrite, Ended, Wrote}
+use Rattle.ml_driver.specs.Run.{as_document, document_by_length, input_limit, GaveUpTo, IsCalm, IsDue, IsTooLong, LackedMemory, World, WasGiven, WasRead, IsWhole, Answered, FailedToWrite, Ended, Wrote}
 use Rattle.ml_driver.specs.private.Inputs.{IsRefusedInput}
 
 -- the status of an answer is none of the later ones
@@ -165,7 +166,7 @@ pub failed_to_read : (c : Command) (w : World)
     → w.taken_after ≡ w.taken_before
     → Ended (Some c) w ReadFault
 failed_to_read c w refused rose calm nothing = record {
-  takes_input = subst IsSome (sym refused.takes) tt;
+  takes_input = subst IsSome (sym refused.takes) refl;
   gave_at_most = gave_part c refused.limit w.left_before w.left_after refused.takes refused.gives;
   source_rose = rose;
   sink_is_calm = calm;
@@ -179,6 +180,25 @@ pub lacked_memory : (c : Command) (w : World)
     → Ended (Some c) w NoMemory
 lacked_memory c w refused calm nothing = record {
   gave_at_most = gave_part c refused.limit w.left_before w.left_after refused.takes refused.gives;
+  nothing_taken = nothing;
+  is_calm = calm;
+}
+
+nothing_given : (left : Option (List ℕ)) → left ≡ prepend_known [] left
+nothing_given None = refl
+nothing_given (Some bytes) = refl
+
+gave_nothing : (o : Option ℕ) (left : Option (List ℕ)) → GaveUpTo o left left
+gave_nothing None left = refl
+gave_nothing (Some n) left = let few : length {A = ℕ} [] ≤ n = omega arith in ([], nothing_given left, few)
+
+pub unread : (c : Option Command) (w : World)
+    → w.left_before ≡ w.left_after
+    → w.taken_after ≡ w.taken_before
+    → IsCalm w
+    → LackedMemory c w
+unread c w same nothing calm = record {
+  gave_at_most = subst (GaveUpTo (input_limit c) w.left_before) same (gave_nothing (input_limit c) w.left_before);
   nothing_taken = nothing;
   is_calm = calm;
 }

@@ -3,10 +3,11 @@
 --   family_problem    == the text of a family for a number of its range stands for a problem
 --   one_family_problem == and for one at most
 --   family_not_refused == so it is refused for want of memory alone
-use Rattle.std.proofs.Common.{◌≡◌, ℕ, true, false, ap₂, refl, sym, ◌∙◌}
+use Rattle.std.proofs.Common.{◌≡◌, ℕ, true, false, List, ap₂, refl, sym, subst, ◌∙◌}
 use Rattle.ml_base.specs.declared.parse_refusal.ParseRefusal.{ParseRefusal}
 use Rattle.ml_base.specs.declared.parse_refusal.ParseRefusal.TheVariants as refusal
-use Rattle.ml_front.specs.Logics.{IsRefusedBy}
+use Rattle.ml_front.specs.Logics.{IsParsedAs, IsRefusedBy}
+use Rattle.ml_front.specs.declared.logic.Logic.{Logic}
 use Rattle.ml_front.specs.declared.problem.AnyFormula.TheVariants.{Mu, Pdl, Ltl}
 use Rattle.ml_front.specs.declared.problem.Problem.{Problem}
 use Rattle.ml_front.proofs.Logics.{formula_once, formula_or_refused}
@@ -38,10 +39,13 @@ one_family_problem f n p r x y =
     let same = formula_once (formula_text f n) p.formula r.formula (x.of_logic ∙ sym y.of_logic) x.is_parsed y.is_parsed in
     ap₂ (λ g b. record { formula = g; negated = b }) same (x.is_plain ∙ sym y.is_plain)
 
-pub family_not_refused : (f : Family) (n : ℕ) (e : ParseRefusal)
+pub family_not_refused : (f : Family) (n : ℕ) (l : Logic) (text : List ℕ) (e : ParseRefusal)
     → is_in_range f n ≡ true
-    → IsRefusedBy (logic_for f) (formula_text f n) e
+    → l ≡ logic_for f
+    → text ≡ formula_text f n
+    → IsRefusedBy l text e
     → e ≡ refusal.NoMemory
-family_not_refused f n e is refused =
+family_not_refused f n l text e is of_logic written refused =
     let made = family_problem f n is in
-    formula_or_refused (logic_for f) (formula_text f n) made.0.formula e made.1.of_logic made.1.is_parsed refused
+    let parsed = subst (λ t. IsParsedAs t made.0.formula) (sym written) made.1.is_parsed in
+    formula_or_refused l text made.0.formula e (made.1.of_logic ∙ sym of_logic) parsed refused

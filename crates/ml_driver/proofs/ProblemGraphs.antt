@@ -74,7 +74,7 @@ has_room g is small =
     let p : ℕ → Bool = λ d. d % 2 == 1 in
     let some = length-filter p g.priorities in
     let few = count_by-le-length p g.priorities in
-    let odd = omega (arith, odds, some, few, is.priorities, small) in
+    let odd : length (odd_priorities g) + 1 ≤ 4097 = omega (arith, odds, some, few, is.priorities, small) in
     omega (arith, bounded (size g) (length (odd_priorities g) + 1) small odd)
 
 -- ---- positions

@@ -72,8 +72,22 @@ fn problem_for(alloc: Global, family: Family, n: u32) -> Result<Problem, NoMemor
     let text = text_for(alloc, family, n)?;
     match read(alloc, logic_for(family), &text) {
         Ok(problem) => Ok(problem),
-        Err(ParseRefusal::NoMemory) => Err(NoMemory),
-        Err(_) => unreachable!(),
+        Err(refusal) => Err(want_of(refusal)),
+    }
+}
+
+// the one refusal of a family's text
+fn want_of(refusal: ParseRefusal) -> NoMemory
+    requires { refusal ≡ ParseRefusal.NoMemory }
+{
+    match refusal {
+        ParseRefusal::NoMemory => NoMemory,
+        ParseRefusal::Syntax { .. }
+        | ParseRefusal::Unbound { .. }
+        | ParseRefusal::NotPositive { .. }
+        | ParseRefusal::TooMany { .. }
+        | ParseRefusal::TooNested { .. }
+        | ParseRefusal::NameTooLong { .. } => unreachable!(),
     }
 }
 

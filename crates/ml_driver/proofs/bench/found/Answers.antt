@@ -17,8 +17,8 @@ found_in-requires-clause-small c =
     graph_small MOST_NODES c.in-Ok.graph p.negated p.formula (omega arith) c.requires c.in-Ok.ensures.graph
     c.in-Ok.ensures.fits
 
-pub returns-in-Ok : goal.returns-in-Ok
-returns-in-Ok c =
+pub returns : goal.returns
+returns c =
     let p = c.args.problem.now in
     IfOk-weaker c.found_in.result _ _
     (λ x found. found_of p GREATEST_LIMIT (omega arith) c.requires c.in-Ok.ensures.fits c.in-Ok.graph c.in-Ok.ensures.graph x found)

@@ -3,7 +3,7 @@ use Rattle.std.proofs.Common.{◌<◌, [], None, Some, refl, sym, ◌∙◌, sub
 use Rattle.ml_driver.specs.declared.status.Status.TheVariants as status
 use Rattle.ml_driver.specs.Statuses.{longest_input, refused_words, refused_length}
 use Rattle.ml_driver.specs.Run.{IsDue, IsWhole, Wrote}
-use Rattle.ml_driver.proofs.Endings.{ended_written, ended_with, failed_to_read, gave_all, given_past, lacked_memory, too_long_due}
+use Rattle.ml_driver.proofs.Endings.{ended_written, ended_with, failed_to_read, gave_all, given_past, lacked_memory, too_long_due, unread}
 use Rattle.ml_driver.proofs.top.run.Goals as goal
 
 pub returns-in-Ok-None : goal.returns-in-Ok-None
@@ -40,3 +40,6 @@ returns-in-Ok-outcome g c =
     (λ o. Wrote (g.K.Sink.taken old) (g.K.Sink.taken new) (g.K.Sink.faults old) (g.K.Sink.faults new) due.status o
     c.written-in-Ok-outcome.result)
     c.deref-in-Ok-outcome.ensures.value c.written-in-Ok-outcome.ensures.wrote))
+
+pub returns-in-Err : goal.returns-in-Err
+returns-in-Err g c = unread _ _ refl refl (record { source_is_calm = refl; sink_is_calm = refl })
