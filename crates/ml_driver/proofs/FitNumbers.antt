@@ -16,7 +16,7 @@ use Rattle.ml_driver.specs.declared.command.Command.{Command}
 use Rattle.ml_driver.specs.declared.command.Command.TheVariants.{Decide, Valid, CheckModel, CheckRefutation, Migrate, Gen, Bench}
 use Rattle.ml_driver.specs.declared.command.TheConstants.{GREATEST_LIMIT, LONGEST_NUMBER}
 use Rattle.ml_driver.specs.Laws.{HasFitNumbers}
-use Rattle.ml_driver.specs.Words.{at_least_one, bare_by, command_of, decided_by, digit_on, faults_of, if_faultless, if_in_range, is_digit, limit_named, number_named, parts_in, row, row_of, rows_in, value_from}
+use Rattle.ml_driver.specs.Words.{at_least_one, bare_by, command_of, count_named, counted_by, decided_by, digit_on, faults_of, if_faultless, if_in_range, is_digit, limit_named, number_named, parts_in, row, row_of, rows_in, value_from}
 
 -- what a test lets through
 passed : (t : Bool) (x n : ℕ) → (if t then Some x else None) ≡ Some n → (t ≡ true) × (x ≡ n)

@@ -5,7 +5,7 @@
 --   answers_are_exact     == and says what is true
 --   one_benched           == one thing is found of the formula of a family
 --   one_due               == one status is due at most
-use Rattle.std.proofs.Common.{◌≡◌, ℕ, ◌≤◌, Bool, true, false, List, length, Some, None, refl, sym, ap, ap₂, subst, ◌∙◌, inl, inr, arith}
+use Rattle.std.proofs.Common.{◌≡◌, ℕ, ◌<◌, ◌≤◌, Bool, true, false, List, length, Some, None, refl, sym, ap, ap₂, subst, ◌∙◌, inl, inr, arith}
 use Rattle.ml_front.specs.Problems.{IsSatisfiable}
 use Rattle.ml_front.specs.declared.problem.Problem.{Problem}
 use Rattle.ml_front.proofs.Logics.{formula_once, formula_or_refused}

@@ -26,10 +26,12 @@ use std::alloc::Global;
 ///   formula of the text holds, and with a refutation that is accepted, where it holds nowhere; of `valid` where its
 ///   negation holds nowhere, and where it holds at some state; of `check-model` where the problem of the document holds at
 ///   the start of its structure, and where it doesn't; of `check-refutation` where the document's refutation is accepted,
-///   and where it isn't; `Yes` of `migrate` with the document that is written of the same refutation;
-/// - `Undecided` of `decide` and `valid` exactly where the closure of the problem has too many nodes, or the decision game
-///   passes the limit; of `check-model` exactly where the closure has too many nodes, on a structure of which the logic
-///   speaks;
+///   and where it isn't; of `bench` where the family's formula is satisfiable, and where it isn't, with its occurrences,
+///   the nodes of its graph and the positions of its game counted; `Yes` of `migrate` with the document that is written
+///   of the same refutation, and of `gen` with the text of the family's formula;
+/// - `Undecided` of `decide`, `valid` and `bench` exactly where the closure of the problem has too many nodes, or the
+///   decision game passes the limit; of `check-model` exactly where the closure has too many nodes, on a structure of which
+///   the logic speaks;
 /// - `Words` exactly for words that are no command, `Text` exactly for input that the command refuses, both with one
 ///   line that says so.
 ///
