@@ -2,18 +2,33 @@
 --
 --   ended_written  == a status that is due, with its output written or partly written, ends the call as it should
 --   ended_with     == the same, where the words are a command
---   lacked_memory  == where memory is wanting before anything is read
 --   too_long_due   == an input past the limit of its command is refused by its length
-use Rattle.std.proofs.Common.{◌≡◌, ℕ, ◌<◌, ◌≤◌, length, List, [], Option, Some, None, refl, sym, ◌∙◌, subst, inl, ⊎_elim, arith}
+--   given_past     == and was read, as far as it was given
+--   gave_all       == an input within the limit is no more than the limit
+--   failed_to_read, lacked_memory == how a call ends whose input is refused for another reason
+--   unread         == how one ends that lacks memory before anything is read
+use Rattle.std.proofs.Common.{◌≡◌, ℕ, ◌<◌, ◌≤◌, length, List, [], Option, Some, None, refl, sym, ap, subst, inl, inr, ⊎_elim, arith}
+use Rattle.std.specs.Prelude.{IfSome, IsSome}
 use Rattle.std.specs.Io.KnownBytes.{append_known, prepend_known}
 use Rattle.ml_base.specs.Faults.{Rose}
-use Rattle.ml_base.specs.Whole.{AppendsPart}
+use Rattle.ml_base.specs.Whole.{AppendsPart, Gives}
+use Rattle.ml_base.specs.declared.whole.ReadRefusal.TheVariants as reading
+use Rattle.ml_front.specs.declared.answer.Answer.{Answer}
+use Rattle.ml_front.specs.declared.answer.Answer.TheVariants as answer
 use Rattle.ml_driver.specs.declared.command.Command.{Command}
-use Rattle.ml_driver.specs.declared.command.Command.TheVariants.{Decide, Valid, CheckModel, CheckRefutation, Migrate}
+use Rattle.ml_driver.specs.declared.command.Command.TheVariants.{Decide, Valid, CheckModel, CheckRefutation, Migrate, Gen, Bench}
 use Rattle.ml_driver.specs.declared.status.Status.{Status}
 use Rattle.ml_driver.specs.declared.status.Status.TheVariants.{Yes, No, Undecided, Words, Text, ReadFault, WriteFault, NoMemory}
-use Rattle.ml_driver.specs.Statuses.{longest_input, refused_length}
-use Rattle.ml_driver.specs.Run.{as_document, document_by_length, IsCalm, IsDue, GaveAtMost, LackedMemory, World, WasRead, IsWhole, Answered, FailedToWrite, Ended, Wrote}
+use Rattle.ml_driver.specs.Bench.{answer_of, status_of}
+use Rattle.ml_driver.specs.Statuses.{code_of, longest_document, longest_input, longest_text, refused_length}
+use Rattle.ml_driver.specs.Run.{as_document, document_by_length, input_limit, GaveUpTo, IsCalm, IsDue, IsTooLong, LackedMemory, World, WasGiven, WasRead, IsWhole, Answered, FailedToWrite, Ended, Wrote}
+use Rattle.ml_driver.specs.private.Inputs.{IsRefusedInput}
+
+-- the status of an answer is none of the later ones
+calm_status : (a : Answer) (s : Status) → s ≡ status_of a → code_of s ≤ 2
+calm_status answer.Satisfiable s is = omega (arith, ap code_of is)
+calm_status answer.Unsatisfiable s is = omega (arith, ap code_of is)
+calm_status answer.Undecided s is = omega (arith, ap code_of is)
 
 -- what is due is never a fault or want of memory
 no_fault_due : (c : Option Command) (text output : List ℕ) → IsDue c text ReadFault output → ⊥
@@ -23,6 +38,9 @@ no_fault_due (Some (Valid l n)) text output due = due
 no_fault_due (Some CheckModel) text output due = due
 no_fault_due (Some CheckRefutation) text output due = due
 no_fault_due (Some Migrate) text output due = due
+no_fault_due (Some (Gen f n)) text output due = due
+no_fault_due (Some (Bench f n)) text output due =
+    absurd (omega (arith, calm_status (answer_of due.finding) ReadFault due.status_is))
 
 no_write_fault_due : (c : Option Command) (text output : List ℕ) → IsDue c text WriteFault output → ⊥
 no_write_fault_due None text output due = due
@@ -31,6 +49,9 @@ no_write_fault_due (Some (Valid l n)) text output due = due
 no_write_fault_due (Some CheckModel) text output due = due
 no_write_fault_due (Some CheckRefutation) text output due = due
 no_write_fault_due (Some Migrate) text output due = due
+no_write_fault_due (Some (Gen f n)) text output due = due
+no_write_fault_due (Some (Bench f n)) text output due =
+    absurd (omega (arith, calm_status (answer_of due.finding) WriteFault due.status_is))
 
 no_want_due : (c : Option Command) (text output : List ℕ) → IsDue c text NoMemory output → ⊥
 no_want_due None text output due = due
@@ -39,6 +60,9 @@ no_want_due (Some (Valid l n)) text output due = due
 no_want_due (Some CheckModel) text output due = due
 no_want_due (Some CheckRefutation) text output due = due
 no_want_due (Some Migrate) text output due = due
+no_want_due (Some (Gen f n)) text output due = due
+no_want_due (Some (Bench f n)) text output due =
+    absurd (omega (arith, calm_status (answer_of due.finding) NoMemory due.status_is))
 
 answered_ended : (c : Option Command) (w : World) (status : Status) → Answered c w status → Ended c w status
 answered_ended c w Yes answered = answered
@@ -92,34 +116,89 @@ ended_written c w text due output status read calm is_due whole_output wrote =
 pub ended_with : (c d : Option Command) (w : World) (status : Status) → d ≡ c → Ended c w status → Ended d w status
 ended_with c d w status same ended = subst (λ k. Ended k w status) (sym same) ended
 
--- an input past the limit of its command is refused by its length
-pub too_long_due : (c : Command) (text : List ℕ)
-    → longest_input c < length text
-    → IsDue (Some c) text Text refused_length
-too_long_due (Decide l n) text long = inl (long, refl)
-too_long_due (Valid l n) text long = inl (long, refl)
-too_long_due CheckModel text long = as_document (document_by_length (long, refl))
-too_long_due CheckRefutation text long = document_by_length (long, refl)
-too_long_due Migrate text long = document_by_length (long, refl)
+past_limit : (longest k : ℕ) (text : List ℕ) → Some longest ≡ Some k → k < length text → IsTooLong longest text refused_length
+past_limit longest k text is long = let same : longest ≡ k = cc in (omega (arith, same, long), refl)
 
--- ---- where nothing is read
+-- an input past the limit of its command is refused by its length
+pub too_long_due : (c : Command) (k : ℕ) (text : List ℕ)
+    → longest_input c ≡ Some k
+    → k < length text
+    → IsDue (Some c) text Text refused_length
+too_long_due (Decide l n) k text is long = inl (past_limit longest_text k text is long)
+too_long_due (Valid l n) k text is long = inl (past_limit longest_text k text is long)
+too_long_due CheckModel k text is long =
+    as_document (document_by_length (past_limit longest_document k text is long))
+too_long_due CheckRefutation k text is long = document_by_length (past_limit longest_document k text is long)
+too_long_due Migrate k text is long = document_by_length (past_limit longest_document k text is long)
+too_long_due (Gen f n) k text is long = absurd (cc)
+too_long_due (Bench f n) k text is long = absurd (cc)
+
+-- ---- what was given
+
+-- what was given of an input past its limit was read
+pub given_past : (c : Command) (k : ℕ) (before after : Option (List ℕ)) (text : List ℕ)
+    → longest_input c ≡ Some k
+    → before ≡ prepend_known text after
+    → k < length text
+    → WasGiven (longest_input c) before after text
+given_past c k before after text is gave long =
+    subst (λ o. WasGiven o before after text) (sym is) (gave, inr long)
+
+-- no more was given than the limit, where the whole input isn't longer
+pub gave_all : (o : Option ℕ) (before after : Option (List ℕ)) (text : List ℕ)
+    → WasGiven o before after text
+    → IfSome o (λ n. length text ≤ n)
+    → GaveUpTo o before after
+gave_all None before after text given fits = given.0
+gave_all (Some n) before after text given fits = (text, given.0, fits)
+
+-- and where the input was refused for another reason
+gave_part : (c : Command) (k : ℕ) (before after : Option (List ℕ))
+    → longest_input c ≡ Some k
+    → Gives before after (λ given. length given ≤ k)
+    → GaveUpTo (longest_input c) before after
+gave_part c k before after is gives = subst (λ o. GaveUpTo o before after) (sym is) gives
+
+pub failed_to_read : (c : Command) (w : World)
+    → IsRefusedInput c reading.ReadFault w.left_before w.left_after
+    → Rose w.source_faults_before w.source_faults_after
+    → w.sink_faults_after ≡ w.sink_faults_before
+    → w.taken_after ≡ w.taken_before
+    → Ended (Some c) w ReadFault
+failed_to_read c w refused rose calm nothing = record {
+  takes_input = subst IsSome (sym refused.takes) refl;
+  gave_at_most = gave_part c refused.limit w.left_before w.left_after refused.takes refused.gives;
+  source_rose = rose;
+  sink_is_calm = calm;
+  nothing_taken = nothing;
+}
+
+pub lacked_memory : (c : Command) (w : World)
+    → IsRefusedInput c reading.NoMemory w.left_before w.left_after
+    → IsCalm w
+    → w.taken_after ≡ w.taken_before
+    → Ended (Some c) w NoMemory
+lacked_memory c w refused calm nothing = record {
+  gave_at_most = gave_part c refused.limit w.left_before w.left_after refused.takes refused.gives;
+  nothing_taken = nothing;
+  is_calm = calm;
+}
 
 nothing_given : (left : Option (List ℕ)) → left ≡ prepend_known [] left
 nothing_given None = refl
 nothing_given (Some bytes) = refl
 
-gave_nothing : (c : Option Command) (w : World) → w.left_after ≡ w.left_before → GaveAtMost c w
-gave_nothing None w same = same
-gave_nothing (Some c) w same =
-    let few : length {A = ℕ} [] ≤ longest_input c = omega arith in ([], sym same ∙ nothing_given w.left_after, few)
+gave_nothing : (o : Option ℕ) (left : Option (List ℕ)) → GaveUpTo o left left
+gave_nothing None left = refl
+gave_nothing (Some n) left = let few : length {A = ℕ} [] ≤ n = omega arith in ([], nothing_given left, few)
 
-pub lacked_memory : (c : Option Command) (w : World)
-    → w.left_after ≡ w.left_before
+pub unread : (c : Option Command) (w : World)
+    → w.left_before ≡ w.left_after
     → w.taken_after ≡ w.taken_before
     → IsCalm w
     → LackedMemory c w
-lacked_memory c w same nothing calm = record {
-  gave_at_most = gave_nothing c w same;
+unread c w same nothing calm = record {
+  gave_at_most = subst (GaveUpTo (input_limit c) w.left_before) same (gave_nothing (input_limit c) w.left_before);
   nothing_taken = nothing;
   is_calm = calm;
 }

@@ -34,5 +34,11 @@ pub mod HeldGraphs
 pub mod NamedModels
 -- each question on each text has an answer
 pub mod SomeAnswer
--- commands that words are have small limits
-pub mod SmallLimits
+-- the numbers of commands that words are fit
+pub mod FitNumbers
+-- the problems of families
+pub mod FamilyProblems
+-- what the winner of the first position tells
+pub mod Winners
+-- what is found of a problem
+pub mod Measures

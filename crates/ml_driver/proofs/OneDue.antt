@@ -3,6 +3,7 @@
 --   Told, Checks, Verdicts, Migrates == what is due for the commands, with the reason of each
 --   one_answer            == one status answers a question
 --   answers_are_exact     == and says what is true
+--   one_benched           == one thing is found of the formula of a family
 --   one_due               == one status is due at most
 use Rattle.std.proofs.Common.{◌≡◌, ℕ, ◌<◌, ◌≤◌, Bool, true, false, List, length, Some, None, refl, sym, ap, ap₂, subst, ◌∙◌, inl, inr, arith}
 use Rattle.ml_front.specs.Problems.{IsSatisfiable}
@@ -14,7 +15,7 @@ use Rattle.ml_model_check.specs.Checked.{IsCheckedAs}
 use Rattle.ml_model_check.specs.declared.checked.Checked.{Checked}
 use Rattle.ml_model_check.specs.declared.checked.Checked.TheVariants as checked
 use Rattle.ml_model_check.proofs.OneCheck.{one_check}
-use Rattle.ml_driver.specs.declared.command.Command.TheVariants.{Decide, Valid, CheckModel, CheckRefutation, Migrate}
+use Rattle.ml_driver.specs.declared.command.Command.TheVariants.{Decide, Valid, CheckModel, CheckRefutation, Migrate, Gen, Bench}
 use Rattle.ml_driver.specs.declared.status.Status.{Status}
 use Rattle.ml_driver.specs.declared.status.Status.TheVariants.{Yes, No, Undecided, Words, Text}
 use Rattle.ml_driver.specs.Statuses.{longest_document, refusal_line}
@@ -25,7 +26,12 @@ use Rattle.ml_refute_check.specs.declared.verdict.Verdict.{Verdict}
 use Rattle.ml_refute_check.specs.declared.verdict.Verdict.TheVariants as verdict
 use Rattle.ml_refute_check.proofs.OneVerdict.{one_verdict}
 use Rattle.ml_driver.proofs.RefutationDocuments.{no_refutation_at_fault}
-use Rattle.ml_driver.specs.Laws.{AnswersAreExact, IsExact, OneDue, says, open_at, satisfiable_at, unsatisfiable_at}
+use Rattle.ml_gen.specs.declared.family.Family.{Family}
+use Rattle.ml_driver.specs.Bench.{IsBenched, IsFinding, answer_of, bench_text, gen_text, occurrences_of, status_of}
+use Rattle.ml_driver.specs.declared.command.TheConstants.{GREATEST_LIMIT}
+use Rattle.ml_driver.proofs.FamilyProblems.{one_family_problem}
+use Rattle.ml_driver.proofs.Measures.{one_finding}
+use Rattle.ml_driver.specs.Laws.{AnswersAreExact, IsExact, OneDue, OneMeasure, says, open_at, satisfiable_at, unsatisfiable_at}
 
 -- ---- words that are no command
 
@@ -256,6 +262,23 @@ one_migrated text s t out more (migrated short x) (no_document y) = absurd (migr
 one_migrated text s t out more (no_document x) (migrated fits y) = absurd (migrated_refused text more out fits y x)
 one_migrated text s t out more (no_document x) (no_document y) = refl
 
+-- ---- gen and bench
+
+generated : (f : Family) (n : ℕ) (text : List ℕ) (s : Status) (out : List ℕ) → IsDue (Some (Gen f n)) text s out
+    → (s ≡ Yes) × (out ≡ gen_text f n)
+generated f n text Yes out due = (refl, due)
+generated f n text _ out due = absurd due
+
+one_benched : (f : Family) (n : ℕ) (s t : Status) (out more : List ℕ) → IsBenched f n s out → IsBenched f n t more
+    → (s ≡ t) × (out ≡ more)
+one_benched f n s t out more x y =
+    let p = one_family_problem f n x.problem y.problem x.is_meant y.is_meant in
+    let other = subst (λ r. IsFinding GREATEST_LIMIT r y.finding) (sym p) y.is_finding in
+    let same = one_finding x.problem GREATEST_LIMIT x.finding y.finding x.is_finding other in (
+      x.status_is ∙ ap (λ u. status_of (answer_of u)) same ∙ sym y.status_is,
+      x.is_written ∙ ap₂ (λ r u. bench_text f n (occurrences_of r.formula) u) p same ∙ sym y.is_written,
+    )
+
 pub one_due : OneDue
 one_due None text s t out more x y = words_due text s out x ∙ sym (words_due text t more y)
 one_due (Some (Decide l n)) text s t out more x y = one_answer (plainly l n) text s t out more x y
@@ -265,3 +288,14 @@ one_due (Some CheckRefutation) text s t out more x y =
     one_judged text s t (verdicts text s out x) (verdicts text t more y)
 one_due (Some Migrate) text s t out more x y =
     one_migrated text s t out more (migrates text s out x) (migrates text t more y)
+one_due (Some (Gen f n)) text s t out more x y =
+    let a = generated f n text s out x in
+    let b = generated f n text t more y in
+    a.0 ∙ sym b.0
+one_due (Some (Bench f n)) text s t out more x y = (one_benched f n s t out more x y).0
+
+pub one_measure : OneMeasure
+one_measure f n text more s t out other = (
+  λ x y. (generated f n text s out x).1 ∙ sym (generated f n more t other y).1,
+  λ x y. (one_benched f n s t out other x y).1,
+)

@@ -1,8 +1,9 @@
 -- Some status is due, for each command and for words that are none, whatever the input.
 --
 --   on_document, on_refutation, to_migrate == by what checking or reading the document finds
+--   of_family         == by what is found of the problem of a family
 --   some_due          == some status is due, with some output
-use Rattle.std.proofs.Common.{ℕ, ◌<◌, ◌≤◌, ◌⊎◌, List, length, Option, Some, None, refl, ⊎_elim}
+use Rattle.std.proofs.Common.{◌≡◌, ℕ, ◌<◌, ◌≤◌, ◌⊎◌, true, List, length, Option, Some, None, refl, ⊎_elim, arith}
 use Rattle.std.proofs.lemmas.Bool.{cases_lt}
 use Rattle.ml_base.specs.declared.doc_fault.DocFault.{DocFault}
 use Rattle.ml_model_check.specs.Checked.{IsCheckedAs}
@@ -16,8 +17,14 @@ use Rattle.ml_refute_check.specs.declared.verdict.Verdict.{Verdict}
 use Rattle.ml_refute_check.specs.declared.verdict.Verdict.TheVariants.{Accepted, Rejected, Unreadable}
 use Rattle.ml_refute_check.proofs.Accepted.{accepted_is_true}
 use Rattle.ml_refute_check.proofs.SomeVerdict.{some_verdict}
+use Rattle.ml_gen.specs.Families.{formula_text, is_in_range}
+use Rattle.ml_gen.specs.declared.family.Family.{Family}
 use Rattle.ml_driver.specs.declared.command.Command.{Command}
-use Rattle.ml_driver.specs.declared.command.Command.TheVariants.{Decide, Valid, CheckModel, CheckRefutation, Migrate}
+use Rattle.ml_driver.specs.declared.command.TheConstants.{GREATEST_LIMIT}
+use Rattle.ml_driver.specs.Bench.{answer_of, bench_text, gen_text, occurrences_of, status_of}
+use Rattle.ml_driver.proofs.FamilyProblems.{family_problem}
+use Rattle.ml_driver.proofs.Measures.{some_finding}
+use Rattle.ml_driver.specs.declared.command.Command.TheVariants.{Decide, Valid, CheckModel, CheckRefutation, Migrate, Gen, Bench}
 use Rattle.ml_driver.specs.declared.status.Status.{Status}
 use Rattle.ml_driver.specs.declared.status.Status.TheVariants.{Yes, No, Undecided, Words, Text}
 use Rattle.ml_driver.specs.Statuses.{longest_document, refused_words, refused_length, holds_line, fails_line, open_line, not_total_line, accepted_line, rejected_line, refused_document}
@@ -95,6 +102,25 @@ to_migrate text =
     (refutation_or_fault text))
     (cases_lt longest_document (length text))
 
+of_family : (f : Family) (n : ℕ) (text : List ℕ) → is_in_range f n ≡ true → Due (Some (Bench f n)) text
+of_family f n text inside =
+    let p = family_problem f n inside in
+    let well = well_formed (formula_text f n) p.0.formula p.1.is_parsed in
+    let x = some_finding p.0 GREATEST_LIMIT (omega arith) well in (
+      status_of (answer_of x.0),
+      (
+        bench_text f n (occurrences_of p.0.formula) x.0,
+        record {
+          problem = p.0;
+          finding = x.0;
+          is_meant = p.1;
+          is_finding = x.1;
+          status_is = refl;
+          is_written = refl;
+        },
+      ),
+    )
+
 pub some_due : SomeDue
 some_due None text small = (Words, (refused_words, refl))
 some_due (Some (Decide l n)) text small = some_answer (plainly l n) text small
@@ -102,3 +128,5 @@ some_due (Some (Valid l n)) text small = some_answer (for_negation l n) text sma
 some_due (Some CheckModel) text small = on_document text
 some_due (Some CheckRefutation) text small = on_refutation text
 some_due (Some Migrate) text small = to_migrate text
+some_due (Some (Gen f n)) text small = (Yes, (gen_text f n, refl))
+some_due (Some (Bench f n)) text small = of_family f n text small

@@ -2,7 +2,8 @@
 use Rattle.std.proofs.Common.{◌≡◌, [], ◌∷◌, Some, None, refl, codes}
 use Rattle.clap.proofs.OnLiterals.{clap_on_literals}
 use Rattle.ml_front.specs.declared.logic.Logic.TheVariants.{Mu, Pdl, Ctl, Ltl}
-use Rattle.ml_driver.specs.declared.command.Command.TheVariants.{Decide, Valid, CheckModel}
+use Rattle.ml_gen.specs.declared.family.Family.TheVariants.{Or, Loop}
+use Rattle.ml_driver.specs.declared.command.Command.TheVariants.{Decide, Valid, CheckModel, Gen, Bench}
 use Rattle.ml_driver.specs.Words.{cli, command_of, faults_of, rows_in}
 
 bare : command_of (codes "decide" ∷ codes "mu" ∷ []) ≡ Some (Decide Mu 50000)
@@ -66,3 +67,23 @@ help = refl
 twice : command_of (codes "decide" ∷ codes "mu" ∷ codes "--limit=5" ∷ codes "--limit=5" ∷ []) ≡ None
 unfolding cli faults_of rows_in clap_on_literals
 twice = refl
+
+of_family : command_of (codes "bench" ∷ codes "or" ∷ codes "16" ∷ []) ≡ Some (Bench Or 16)
+unfolding cli faults_of rows_in clap_on_literals
+of_family = refl
+
+with_zeros : command_of (codes "gen" ∷ codes "loop" ∷ codes "000005" ∷ []) ≡ Some (Gen Loop 5)
+unfolding cli faults_of rows_in clap_on_literals
+with_zeros = refl
+
+past_range : command_of (codes "gen" ∷ codes "fair" ∷ codes "4" ∷ []) ≡ None
+unfolding cli faults_of rows_in clap_on_literals
+past_range = refl
+
+no_number : command_of (codes "bench" ∷ codes "fair" ∷ []) ≡ None
+unfolding cli faults_of rows_in clap_on_literals
+no_number = refl
+
+limited_family : command_of (codes "gen" ∷ codes "loop" ∷ codes "5" ∷ codes "--limit=5" ∷ []) ≡ None
+unfolding cli faults_of rows_in clap_on_literals
+limited_family = refl

@@ -1,20 +1,24 @@
 -- Laws of what is due.
 --
---   HasSmallLimit c  == the limit of c, where it has one, fits 32 bits, as that of each command that a program holds
+--   HasFitNumbers c  == the limit of c, where it has one, fits 32 bits, and the number for which c measures a formula is one
+--                       of its family's range, as with each command that words are
 --   SomeDue          == for each such command, for words that are none, and for each input, some status is due, with
 --                       some output
 --   SomeDueForWords  == so it is of all lists of words
 --   OneDue           == one status is due at most
+--   OneMeasure       == one output is due at most for `gen` and `bench`
 --   SomeGame         == the decision game of a graph has an arena with at most so many positions, or has more
 --   IsExact q p s    == the status s says of the problem p what is true of it
 --   AnswersAreExact  == each answer to a question is exact
 --   DecidedAreChecked, RefutedAreAccepted == the documents that `decide` and `valid` write are found to be right by
 --                       `check-model` and `check-refutation`
 use Rattle.std.specs.Prelude.{ℕ, ◌≡◌, ◌<◌, ◌≤◌, ◌^◌, ◌⊎◌, Bool, true, false, List, length, Option, Some}
+use Rattle.ml_gen.specs.Families.{is_in_range}
+use Rattle.ml_gen.specs.declared.family.Family.{Family}
 use Rattle.ml_graph.specs.Graph.{Graph, IsGraph}
 use Rattle.ml_product.specs.Arena.{Arena, IsArenaOf}
 use Rattle.ml_product.specs.DecisionGame.{HasMoreThan}
-use Rattle.ml_driver.specs.declared.command.Command.TheVariants.{Decide, Valid}
+use Rattle.ml_driver.specs.declared.command.Command.TheVariants.{Decide, Valid, Gen, Bench}
 use Rattle.ml_driver.specs.declared.command.Command.{Command}
 use Rattle.ml_model_check.specs.Checked.{Shows}
 use Rattle.ml_front.specs.Problems.{IsSatisfiable}
@@ -33,19 +37,25 @@ abbrev pub OneDue : Type 0
 OneDue = (c : Option Command) (text : List ℕ) (s t : Status) (out more : List ℕ)
     → IsDue c text s out → IsDue c text t more → s ≡ t
 
--- the limit of the command, where it has one, is a number of 32 bits
-abbrev pub HasSmallLimit : Option Command → Type 0
-HasSmallLimit (Some (Decide l n)) = n < 2 ^ 32
-HasSmallLimit (Some (Valid l n)) = n < 2 ^ 32
-HasSmallLimit _ = Unit {0}
+-- for `gen` a number may be any: the text is told for each
+abbrev pub HasFitNumbers : Option Command → Type 0
+HasFitNumbers (Some (Decide l n)) = n < 2 ^ 32
+HasFitNumbers (Some (Valid l n)) = n < 2 ^ 32
+HasFitNumbers (Some (Bench f n)) = is_in_range f n ≡ true
+HasFitNumbers _ = Unit {0}
 
 abbrev pub SomeDue : Type 0
-SomeDue = (c : Option Command) (text : List ℕ) → HasSmallLimit c → (s : Status) × ((out : List ℕ) × IsDue c text s out)
+SomeDue = (c : Option Command) (text : List ℕ) → HasFitNumbers c → (s : Status) × ((out : List ℕ) × IsDue c text s out)
 
 -- whatever the words are
 abbrev pub SomeDueForWords : Type 0
 SomeDueForWords = (words : List Word) (text : List ℕ)
     → (s : Status) × ((out : List ℕ) × IsDue (command_of words) text s out)
+
+abbrev pub OneMeasure : Type 0
+OneMeasure = (f : Family) (n : ℕ) (text more : List ℕ) (s t : Status) (out other : List ℕ)
+    → (IsDue (Some (Gen f n)) text s out → IsDue (Some (Gen f n)) more t other → out ≡ other)
+    × (IsDue (Some (Bench f n)) text s out → IsDue (Some (Bench f n)) more t other → out ≡ other)
 
 -- the status that says whether the problem is satisfiable, where the question is about the negation or isn't
 abbrev pub says : Bool → Bool → Status

@@ -6,6 +6,8 @@ pub mod Documents
 pub mod Statuses
 -- what a problem is decided to be
 pub mod Decision
+-- what is written of the formulas of families
+pub mod Bench
 -- what a call of `run` answers and leaves behind
 pub mod Run
 -- what private contracts cite

@@ -15,17 +15,18 @@
 --   IsRefusedModel text out   == so it says for a document with a structure, or that its logic wants an edge from each
 --                                state, and at which state the first one is missing
 --   IsDue c text status out   == for the command c, or for words that are none, this status and this output are due
---                                where the input is the text
+--                                where the input is the text; where none is taken, whatever the text is
 --   World                     == what a call found and left: the bytes of the source, those of the sink, both counts of
 --                                faults
 --   IsCalm w                  == neither count of faults changed
+--   input_limit c             == the limit on the length of the input, where one is taken; words that are no command take
+--                                none
 --   WasRead c w text          == the text was given for the command c: to its end, or past the limit on its length;
---                                nothing was, where the words are no command
---   GaveAtMost c w            == no more than the limit of the command c was given; nothing was, where the words are no
---                                command
+--                                nothing was, where no input is taken
+--   GaveAtMost c w            == no more than the limit of the command c was given; nothing was, where no input is taken
 --   IsWhole out               == out isn't longer than the documents that are read
 --   Ended c w status          == what is true when the call has answered this status
-use Rattle.std.specs.Prelude.{ℕ, ◌≡◌, ◌<◌, ◌≤◌, ◌⊎◌, true, false, List, [], length, Option, Some, None, IsSome}
+use Rattle.std.specs.Prelude.{ℕ, ◌≡◌, ◌<◌, ◌≤◌, ◌⊎◌, true, false, List, [], length, Option, Some, None, IsSome, option_and_then}
 use Rattle.std.specs.Io.KnownBytes.{IsAtEnd, append_known, prepend_known}
 use Rattle.ml_base.specs.Faults.{Rose}
 use Rattle.ml_base.specs.Whole.{AppendsPart, Gives}
@@ -35,9 +36,10 @@ use Rattle.ml_model_check.specs.Checked.{Shows, ShowsDeadlock, ShowsLargeClosure
 use Rattle.ml_refute_check.specs.Documents as refuted
 use Rattle.ml_refute_check.specs.Documents.{IsAcceptedDocument, IsMigrated, IsRejectedAt, HoldsNowhere}
 use Rattle.ml_driver.specs.declared.command.Command.{Command}
-use Rattle.ml_driver.specs.declared.command.Command.TheVariants.{Decide, Valid, CheckModel, CheckRefutation, Migrate}
+use Rattle.ml_driver.specs.declared.command.Command.TheVariants.{Decide, Valid, CheckModel, CheckRefutation, Migrate, Gen, Bench}
 use Rattle.ml_driver.specs.declared.status.Status.{Status}
 use Rattle.ml_driver.specs.declared.status.Status.TheVariants.{Yes, No, Undecided, Words, Text, ReadFault, WriteFault, NoMemory}
+use Rattle.ml_driver.specs.Bench.{IsBenched, gen_text}
 use Rattle.ml_driver.specs.Decision.{IsAnswered}
 use Rattle.ml_driver.specs.declared.question.Question.{Question}
 use Rattle.ml_front.specs.declared.logic.Logic.{Logic}
@@ -114,6 +116,8 @@ IsDue (Some CheckRefutation) text No out = (length text ≤ longest_document) ×
 IsDue (Some CheckRefutation) text Text out = IsRefusedDocument (refuted.IsDocumentFault text) text out
 IsDue (Some Migrate) text Yes out = (length text ≤ longest_document) × IsMigrated text out
 IsDue (Some Migrate) text Text out = IsRefusedDocument (refuted.IsDocumentFault text) text out
+IsDue (Some (Gen f n)) text Yes out = out ≡ gen_text f n
+IsDue (Some (Bench f n)) text status out = IsBenched f n status out
 IsDue _ _ _ _ = ⊥
 
 pub record World : Type 0 where
@@ -130,14 +134,23 @@ pub record IsCalm (w : World) : Type 0 where
   pub source_is_calm : w.source_faults_after ≡ w.source_faults_before
   pub sink_is_calm : w.sink_faults_after ≡ w.sink_faults_before
 
+abbrev pub input_limit : Option Command → Option ℕ
+input_limit c = option_and_then longest_input c
+
+-- by the limit, and by what was left of the source before and after
+abbrev pub WasGiven : Option ℕ → Option (List ℕ) → Option (List ℕ) → List ℕ → Type 0
+WasGiven None before after text = (after ≡ before) × (text ≡ [])
+WasGiven (Some n) before after text = (before ≡ prepend_known text after) × (IsAtEnd after ⊎ (n < length text))
+
+abbrev pub GaveUpTo : Option ℕ → Option (List ℕ) → Option (List ℕ) → Type 0
+GaveUpTo None before after = after ≡ before
+GaveUpTo (Some n) before after = Gives before after (λ given. length given ≤ n)
+
 abbrev pub WasRead : Option Command → World → List ℕ → Type 0
-WasRead None w text = (w.left_after ≡ w.left_before) × (text ≡ [])
-WasRead (Some c) w text =
-    (w.left_before ≡ prepend_known text w.left_after) × (IsAtEnd w.left_after ⊎ (longest_input c < length text))
+WasRead c w text = WasGiven (input_limit c) w.left_before w.left_after text
 
 abbrev pub GaveAtMost : Option Command → World → Type 0
-GaveAtMost None w = w.left_after ≡ w.left_before
-GaveAtMost (Some c) w = Gives w.left_before w.left_after (λ given. length given ≤ longest_input c)
+GaveAtMost c w = GaveUpTo (input_limit c) w.left_before w.left_after
 
 -- no output is longer than the documents that are read
 abbrev pub IsWhole : List ℕ → Type 0
@@ -155,7 +168,7 @@ pub record Answered (c : Option Command) (w : World) (status : Status) : Type 0 
 
 -- the source failed: what it had given is gone, and nothing was written
 pub record FailedToRead (c : Option Command) (w : World) : Type 0 where
-  pub is_command : IsSome c
+  pub takes_input : IsSome (input_limit c)
   pub gave_at_most : GaveAtMost c w
   pub source_rose : Rose w.source_faults_before w.source_faults_after
   pub sink_is_calm : w.sink_faults_after ≡ w.sink_faults_before

@@ -11,9 +11,11 @@
 --   is_digit b         == the byte b is a decimal digit
 --   value_from v w     == the value of the digits w behind a number v that was read; none past the greatest limit, or
 --                         where a byte is no digit
---   limit_named w      == the limit that the word w tells: one to six digits, from 1 to 200,000; without a word 50,000
+--   number_named w     == the number from 0 to 200,000 that the word w is, in one to six digits
+--   limit_named w      == the limit that the word w tells: such a number from 1 on; without a word 50,000
+--   count_named f w    == the number of the range of the family f that the word w is
 --   Parts              == the words as they are taken apart: three positionals and the option's value
---   decided_by, bare_by == the rows of the table with and without a logic
+--   decided_by, counted_by, bare_by == the rows of the table with a logic, with a family and a number, and with neither
 --   row p              == the command whose row the parts p are
 --   if_faultless ks c  == c, where there is no fault
 --   parts_in rows      == the parts that `clap` found
@@ -24,9 +26,11 @@ use Rattle.clap.specs.Words.{App, Kinds, Row, first_of, fault_of, matches_of, ne
 use Rattle.ml_lines.specs.Lines.{Word}
 use Rattle.ml_front.specs.Logics.{logic_named}
 use Rattle.ml_front.specs.declared.logic.Logic.{Logic}
+use Rattle.ml_gen.specs.Families.{family_named, is_in_range}
+use Rattle.ml_gen.specs.declared.family.Family.{Family}
 use Rattle.ml_driver.specs.declared.command.Command.{Command}
-use Rattle.ml_driver.specs.declared.command.Command.TheVariants.{Decide, Valid, CheckModel, CheckRefutation, Migrate}
-use Rattle.ml_driver.specs.declared.command.TheConstants.{DEFAULT_LIMIT, GREATEST_LIMIT, LONGEST_LIMIT}
+use Rattle.ml_driver.specs.declared.command.Command.TheVariants.{Decide, Valid, CheckModel, CheckRefutation, Migrate, Gen, Bench}
+use Rattle.ml_driver.specs.declared.command.TheConstants.{DEFAULT_LIMIT, GREATEST_LIMIT, LONGEST_NUMBER}
 
 -- ---- what `clap` is told
 
@@ -60,10 +64,18 @@ value_from v (b ∷ w) = option_and_then (λ (u : ℕ). value_from u w) (digit_o
 abbrev pub at_least_one : ℕ → Option ℕ
 at_least_one v = if nat_le 1 v then Some v else None
 
+abbrev pub number_named : Word → Option ℕ
+number_named w = if nat_le 1 (length w) && nat_le (length w) LONGEST_NUMBER then value_from 0 w else None
+
 abbrev pub limit_named : Option Word → Option ℕ
 limit_named None = Some DEFAULT_LIMIT
-limit_named (Some w) =
-    if nat_le 1 (length w) && nat_le (length w) LONGEST_LIMIT then option_and_then at_least_one (value_from 0 w) else None
+limit_named (Some w) = option_and_then at_least_one (number_named w)
+
+abbrev pub if_in_range : Family → ℕ → Option ℕ
+if_in_range f n = if is_in_range f n then Some n else None
+
+abbrev pub count_named : Family → Word → Option ℕ
+count_named f w = option_and_then (if_in_range f) (number_named w)
 
 pub record Parts : Type 0 where
   pub command : Option Word
@@ -79,6 +91,12 @@ decided_by w l n =
     if bytes_eq w (codes "decide") then Some (Decide l n)
     else (if bytes_eq w (codes "valid") then Some (Valid l n) else None)
 
+-- a command with a family and a number of its range
+abbrev pub counted_by : Word → Family → ℕ → Option Command
+counted_by w f n =
+    if bytes_eq w (codes "gen") then Some (Gen f n)
+    else (if bytes_eq w (codes "bench") then Some (Bench f n) else None)
+
 -- a command that stands alone
 abbrev pub bare_by : Word → Option Command
 bare_by w =
@@ -89,6 +107,8 @@ bare_by w =
 abbrev pub row_of : Option Word → Option Word → Option Word → Option Word → Option Command
 row_of (Some w) (Some subject) None limit =
     option_and_then (λ (l : Logic). option_and_then (decided_by w l) (limit_named limit)) (logic_named subject)
+row_of (Some w) (Some subject) (Some count) None =
+    option_and_then (λ (f : Family). option_and_then (counted_by w f) (count_named f count)) (family_named subject)
 row_of (Some w) None None None = bare_by w
 row_of _ _ _ _ = None
 

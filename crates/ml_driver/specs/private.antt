@@ -2,5 +2,9 @@
 pub mod Refused
 -- decisions before they are written
 pub mod Decisions
--- commands that allow some positions
-pub mod SomeLimit
+-- numbers of commands that words ask for
+pub mod UsualNumbers
+-- what is found in a decision game
+pub mod Findings
+-- inputs of commands
+pub mod Inputs

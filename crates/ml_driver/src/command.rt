@@ -1,17 +1,19 @@
 // The commands, and the words that ask for them.
-ghost use Rattle.std.specs.Prelude.{◌≡◌, ◌≢◌, ◌≤◌, [], map, option_map, IfOk, IfSome, MatchOption};
+ghost use Rattle.std.specs.Prelude.{◌≡◌, ◌≢◌, ◌≤◌, true, [], map, option_map, IfOk, IfSome, MatchOption};
 ghost use Rattle.std.specs.String.{string_bytes};
 ghost use Rattle.clap.specs.Words.{app_of, found_of, kind_of, rows_of};
+ghost use Rattle.ml_gen.specs.Families.{is_in_range};
 ghost use Rattle.ml_driver.specs.declared.command.TheConstants.{GREATEST_LIMIT};
 ghost use Rattle.ml_driver.specs.Words as command_line;
 ghost use Rattle.ml_driver.specs.Words.{cli, faults_of, parts_in, row_of, rows_in};
 ghost use Rattle.ml_driver.specs.private.Refused.{is_refusal};
-ghost use Rattle.ml_driver.specs.private.SomeLimit.{HasSomeLimit};
+ghost use Rattle.ml_driver.specs.private.UsualNumbers.{HasUsualNumbers};
 
 use clap::error::ErrorKind;
 use clap::{Arg, ArgMatches, Error};
 use ml_base::NoMemory;
 use ml_front::Logic;
+use ml_gen::Family;
 use std::alloc::{AllocError, Global};
 
 /// What the words ask for.
@@ -27,6 +29,11 @@ pub enum Command {
     CheckRefutation,
     /// `migrate`: the document with a refutation on the input, in version 2.
     Migrate,
+    /// `gen FAMILY N`: the text of the family's formula for the number. Nothing is read.
+    Gen { family: Family, n: u32 },
+    /// `bench FAMILY N`: the size of this formula, of its graph and of its decision game, and is it satisfiable? Nothing is
+    /// read.
+    Bench { family: Family, n: u32 },
 }
 
 /// How many bytes a formula's text has at most.
@@ -41,19 +48,22 @@ pub const DEFAULT_LIMIT: u32 = 50_000;
 /// How many positions a decision game may have at most.
 pub const GREATEST_LIMIT: u32 = 200_000;
 
-/// How many digits a limit has at most.
-pub const LONGEST_LIMIT: usize = 6;
+/// How many digits a number has at most.
+pub const LONGEST_NUMBER: usize = 6;
 
 impl Command {
     ghost use Rattle.ml_driver.specs.Statuses.{longest_input};
 
-    /// How many bytes the command takes as its input at most.
-    pub fn longest_input(self) -> u64
+    /// How many bytes the command takes as its input at most; `None` where it takes no input.
+    pub fn longest_input(self) -> Option<u64>
         ensures { result ≡ longest_input self }
     {
         match self {
-            Command::Decide { .. } | Command::Valid { .. } => LONGEST_TEXT,
-            Command::CheckModel | Command::CheckRefutation | Command::Migrate => LONGEST_DOCUMENT,
+            Command::Decide { .. } | Command::Valid { .. } => Some(LONGEST_TEXT),
+            Command::CheckModel | Command::CheckRefutation | Command::Migrate => {
+                Some(LONGEST_DOCUMENT)
+            }
+            Command::Gen { .. } | Command::Bench { .. } => None,
         }
     }
 }
@@ -67,7 +77,7 @@ impl Command {
 /// Cost: linear in the words.
 pub fn command_of(alloc: Global, words: &[String]) -> Result<Option<Command>, NoMemory>
     ensures command { IfOk result (λ c. c ≡ command_line.command_of (map string_bytes words.now)) }
-    ensures some { IfOk result (λ c. IfSome c HasSomeLimit) }
+    ensures usual { IfOk result (λ c. IfSome c HasUsualNumbers) }
 {
     match taken_apart(alloc, words)? {
         Some(matches) => Ok(command_in(&matches)),
@@ -120,7 +130,7 @@ fn refused(error: &Error) -> bool
 
 fn command_in(matches: &ArgMatches<'_>) -> Option<Command>
     ensures command { result ≡ command_line.row (parts_in (rows_of (found_of matches.now))) }
-    ensures some { IfSome result HasSomeLimit }
+    ensures usual { IfSome result HasUsualNumbers }
 {
     row(
         matches.get_str("command"),
@@ -138,13 +148,18 @@ fn row(
 ) -> Option<Command>
     ensures command { result ≡ row_of (option_map (λ s. s.now) command.entry) (option_map (λ s. s.now) subject.entry)
         (option_map (λ s. s.now) count.entry) (option_map (λ s. s.now) limit.entry) }
-    ensures some { IfSome result HasSomeLimit }
+    ensures usual { IfSome result HasUsualNumbers }
 {
     match (command, subject, count, limit) {
         (Some(command), Some(subject), None, limit) => {
             let logic = Logic::named(subject.as_bytes())?;
             let limit = limit_named(limit)?;
             decided_by(command, logic, limit)
+        }
+        (Some(command), Some(subject), Some(count), None) => {
+            let family = Family::named(subject.as_bytes())?;
+            let n = count_named(family, count)?;
+            counted_by(command, family, n)
         }
         (Some(command), None, None, None) => bare_by(command),
         _ => None,
@@ -154,7 +169,7 @@ fn row(
 fn decided_by(command: &str, logic: Logic, limit: u32) -> Option<Command>
     requires { 1 ≤ limit }
     ensures command { result ≡ command_line.decided_by command.now logic limit }
-    ensures some { IfSome result HasSomeLimit }
+    ensures usual { IfSome result HasUsualNumbers }
 {
     if command == "decide" {
         Some(Command::Decide { logic, limit })
@@ -165,9 +180,23 @@ fn decided_by(command: &str, logic: Logic, limit: u32) -> Option<Command>
     }
 }
 
+fn counted_by(command: &str, family: Family, n: u32) -> Option<Command>
+    requires { is_in_range family n ≡ true }
+    ensures command { result ≡ command_line.counted_by command.now family n }
+    ensures usual { IfSome result HasUsualNumbers }
+{
+    if command == "gen" {
+        Some(Command::Gen { family, n })
+    } else if command == "bench" {
+        Some(Command::Bench { family, n })
+    } else {
+        None
+    }
+}
+
 fn bare_by(command: &str) -> Option<Command>
     ensures command { result ≡ command_line.bare_by command.now }
-    ensures some { IfSome result HasSomeLimit }
+    ensures usual { IfSome result HasUsualNumbers }
 {
     if command == "check-model" {
         Some(Command::CheckModel)
@@ -180,7 +209,7 @@ fn bare_by(command: &str) -> Option<Command>
     }
 }
 
-// ---- limits
+// ---- numbers
 
 fn limit_named(word: Option<&str>) -> Option<u32>
     ensures limit { result ≡ command_line.limit_named (option_map (λ s. s.now) word.entry) }
@@ -189,13 +218,28 @@ fn limit_named(word: Option<&str>) -> Option<u32>
     let Some(word) = word else {
         return Some(DEFAULT_LIMIT);
     };
-    if word.is_empty() || word.len() > LONGEST_LIMIT {
-        return None;
-    }
-    match value_from(0, word.as_bytes()) {
+    match number_named(word) {
         Some(0) | None => None,
         Some(limit) => Some(limit),
     }
+}
+
+// a number of the family's range
+fn count_named(family: Family, word: &str) -> Option<u32>
+    ensures count { result ≡ command_line.count_named family word.now }
+    ensures range { IfSome result (λ n. is_in_range family n ≡ true) }
+{
+    let n = number_named(word)?;
+    if family.has(n) { Some(n) } else { None }
+}
+
+fn number_named(word: &str) -> Option<u32>
+    ensures { result ≡ command_line.number_named word.now }
+{
+    if word.is_empty() || word.len() > LONGEST_NUMBER {
+        return None;
+    }
+    value_from(0, word.as_bytes())
 }
 
 // the value of digits behind a number that was read

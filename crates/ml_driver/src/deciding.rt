@@ -85,7 +85,7 @@ fn arena_decision(alloc: Global, graph: &ModalGraph, arena: &Arena) -> Result<De
     }
 }
 
-fn first_winner(solution: &Solution) -> Player
+pub(crate) fn first_winner(solution: &Solution) -> Player
     requires { 0 < length solution.now.winner }
     ensures { result ≡ winner_at solution.now.winner 0 }
 {

@@ -1,15 +1,17 @@
 // What holds of what is due by its definition alone: the functions do nothing, their contracts are the theorems.
 ghost use Rattle.std.specs.Prelude.{◌≡◌, ◌+◌, ◌^◌};
 ghost use Rattle.ml_driver.specs.declared.command.TheConstants.{LONGEST_TEXT, LONGEST_DOCUMENT};
-ghost use Rattle.ml_driver.specs.Laws.{AnswersAreExact, DecidedAreChecked, OneDue, RefutedAreAccepted, SomeDue, SomeDueForWords, SomeGame};
+ghost use Rattle.ml_driver.specs.Laws.{AnswersAreExact, DecidedAreChecked, OneDue, OneMeasure, RefutedAreAccepted, SomeDue, SomeDueForWords, SomeGame};
 
 /// For each command, for words that are none, and for each input exactly one status is due: some status with some output, and
-/// no other status. Of the limit of a command only this is asked, that it fits 32 bits, as that of each `Command` does. So
-/// some status is due for each list of words and each input.
+/// no other status. Of the limit of a command only this is asked, that it fits 32 bits, as that of each `Command` does; and
+/// of the number for which a formula is measured, that it is of its family's range. So some status is due for each list of
+/// words and each input. For `gen` and `bench` one output is due.
 pub fn one_due()
     ensures some { SomeDue }
     ensures words { SomeDueForWords }
     ensures one { OneDue }
+    ensures output { OneMeasure }
 {}
 
 /// An answer to a question about a text that stands for a formula is exact: undecided exactly where the closure is too

@@ -9,12 +9,15 @@
 // Below stand all crates that it calls; above stands only the program `mlsolver`.
 #![tactic(auto)]
 
+mod bench;
 mod cause;
 mod check;
 mod command;
 mod decide;
 mod deciding;
 mod documents;
+mod finding;
+mod input;
 pub mod laws;
 mod output;
 mod question;
@@ -23,6 +26,7 @@ mod top;
 
 pub use cause::Cause;
 pub use command::{Command, LONGEST_DOCUMENT, LONGEST_TEXT, command_of};
+pub use finding::Finding;
 pub use question::Question;
 pub use status::Status;
 pub use top::run;

@@ -1,21 +1,24 @@
 // The top call.
-ghost use Rattle.std.specs.Prelude.{◌≤◌, length, map, IfOk, Some};
+ghost use Rattle.std.specs.Prelude.{map, IfOk, Some};
 ghost use Rattle.std.specs.String.{string_bytes};
 ghost use Rattle.ml_driver.specs.Words as command_line;
-ghost use Rattle.ml_driver.specs.Statuses.{longest_input};
 ghost use Rattle.ml_driver.specs.Run.{Ended, IsDue, IsWhole, Wrote};
-ghost use Rattle.ml_driver.specs.private.SomeLimit.{HasSomeLimit};
+ghost use Rattle.ml_driver.specs.private.Inputs.{IsWithin};
+ghost use Rattle.ml_driver.specs.private.UsualNumbers.{HasUsualNumbers};
 
+use crate::bench::{generate, measure};
 use crate::check::{check_model, check_refutation, migrate};
 use crate::decide::decide;
+use crate::input::input_of;
 use crate::output::Output;
 use crate::question::Question;
 use crate::{Command, Status, command_of};
-use ml_base::{NoMemory, ReadRefusal, Sink, Source, read_all, write_all};
+use ml_base::{NoMemory, ReadRefusal, Sink, Source, write_all};
 use std::alloc::Global;
 
 /// Answers a command: reads the words, which come without the program's name, then the source to its end, computes
-/// the answer, makes its whole output, and writes it. Words that are no command end the call before anything is read.
+/// the answer, makes its whole output, and writes it. Words that are no command end the call before anything is read, and
+/// `gen` and `bench` read nothing.
 ///
 /// The contract says which status and output are due, and what each status leaves behind. But for faults and want of
 /// memory:
@@ -23,10 +26,12 @@ use std::alloc::Global;
 ///   formula of the text holds, and with a refutation that is accepted, where it holds nowhere; of `valid` where its
 ///   negation holds nowhere, and where it holds at some state; of `check-model` where the problem of the document holds at
 ///   the start of its structure, and where it doesn't; of `check-refutation` where the document's refutation is accepted,
-///   and where it isn't; `Yes` of `migrate` with the document that is written of the same refutation;
-/// - `Undecided` of `decide` and `valid` exactly where the closure of the problem has too many nodes, or the decision game
-///   passes the limit; of `check-model` exactly where the closure has too many nodes, on a structure of which the logic
-///   speaks;
+///   and where it isn't; of `bench` where the family's formula is satisfiable, and where it isn't, with its occurrences,
+///   the nodes of its graph and the positions of its game counted; `Yes` of `migrate` with the document that is written
+///   of the same refutation, and of `gen` with the text of the family's formula;
+/// - `Undecided` of `decide`, `valid` and `bench` exactly where the closure of the problem has too many nodes, or the
+///   decision game passes the limit; of `check-model` exactly where the closure has too many nodes, on a structure of which
+///   the logic speaks;
 /// - `Words` exactly for words that are no command, `Text` exactly for input that the command refuses, both with one
 ///   line that says so.
 ///
@@ -59,7 +64,7 @@ pub fn run<S: Source, K: Sink>(
         Ok(None) => return written(sink, Status::Words, b"refused words\n"),
         Err(NoMemory) => return Status::NoMemory,
     };
-    let text = match read_all(alloc, source, command.longest_input()) {
+    let text = match input_of(alloc, command, source) {
         Ok(text) => text,
         Err(ReadRefusal::ReadFault) => return Status::ReadFault,
         Err(ReadRefusal::TooLong) => return written(sink, Status::Text, b"refused length\n"),
@@ -73,8 +78,8 @@ pub fn run<S: Source, K: Sink>(
 
 // what is due for a command on a text
 fn outcome(alloc: Global, command: Command, text: &[u8]) -> Result<Output, NoMemory>
-    requires short { length text.now ≤ longest_input command }
-    requires some { HasSomeLimit command }
+    requires short { IsWithin command text.now }
+    requires usual { HasUsualNumbers command }
     ensures { IfOk result (λ output. IsDue (Some command) text.now output.status output.bytes.items) }
 {
     match command {
@@ -97,6 +102,8 @@ fn outcome(alloc: Global, command: Command, text: &[u8]) -> Result<Output, NoMem
         Command::CheckModel => check_model(alloc, text),
         Command::CheckRefutation => check_refutation(alloc, text),
         Command::Migrate => migrate(alloc, text),
+        Command::Gen { family, n } => generate(alloc, family, n),
+        Command::Bench { family, n } => measure(alloc, family, n),
     }
 }
 

@@ -22,7 +22,7 @@ use std::fs;
 use std::io::Print;
 use std::rt::Files;
 
-const FILES: [&str; 13] = [
+const FILES: [&str; 14] = [
     "examples",
     "patterns",
     "words",
@@ -34,6 +34,7 @@ const FILES: [&str; 13] = [
     "pdl",
     "ctl",
     "ltl",
+    "families",
     "models",
     "refutations",
 ];

@@ -63,6 +63,9 @@ fn faults(rt: HostRuntime) -> Result<(), Fail> {
     let (code, taken) = answer(rt.alloc(), "decide", text, 10, &[1], &[1])?;
     assert_eq!(rt; code, 6);
     assert_eq!(rt; taken.len(), 0);
+    let (code, taken) = answer(rt.alloc(), "gen and 1", text, 10, &[1], &[])?;
+    assert_eq!(rt; code, 0);
+    assert_eq!(rt; taken.as_slice(), b"p1\n".as_slice());
     assert_eq!(rt; Status::NoMemory.code(), 7);
     Ok(())
 }

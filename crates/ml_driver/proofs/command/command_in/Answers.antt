@@ -12,4 +12,4 @@ returns c =
     (c.get_str-2.ensures ∙ sym (first_read (codes "subject") f))
     (c.get_str-3.ensures ∙ sym (first_read (codes "count") f))
     (c.get_str-4.ensures ∙ sym (first_read (codes "limit") f)) in
-    record { command = command; some = c.row.ensures.some }
+    record { command = command; usual = c.row.ensures.usual }

@@ -1,9 +1,9 @@
 -- How each way through the call ends it.
-use Rattle.std.proofs.Common.{◌<◌, [], None, Some, refl, sym, ◌∙◌, subst, inl, inr, arith, length}
+use Rattle.std.proofs.Common.{◌<◌, [], None, Some, refl, sym, ◌∙◌, subst, arith, length}
 use Rattle.ml_driver.specs.declared.status.Status.TheVariants as status
 use Rattle.ml_driver.specs.Statuses.{longest_input, refused_words, refused_length}
 use Rattle.ml_driver.specs.Run.{IsDue, IsWhole, Wrote}
-use Rattle.ml_driver.proofs.Endings.{ended_written, ended_with, lacked_memory, too_long_due}
+use Rattle.ml_driver.proofs.Endings.{ended_written, ended_with, failed_to_read, gave_all, given_past, lacked_memory, too_long_due, unread}
 use Rattle.ml_driver.proofs.top.run.Goals as goal
 
 pub returns-in-Ok-None : goal.returns-in-Ok-None
@@ -15,12 +15,14 @@ returns-in-Ok-None g c =
 pub returns-in-Err-TooLong : goal.returns-in-Err-TooLong
 returns-in-Err-TooLong g c =
     let command = c.in-Ok-Some.command in
-    let gives = rw c.in-Err-TooLong.field-0-is at c.in-Err-TooLong.ensures.refused in
+    let refused = rw c.in-Err-TooLong.field-0-is at c.in-Err-TooLong.ensures.refused in
     let calm = rw c.in-Err-TooLong.field-0-is at c.in-Err-TooLong.ensures.faults in
-    let long : longest_input command < length gives.0 = omega (arith, gives.2, c.longest_input.ensures) in
+    let gives = refused.gives in
+    let long : refused.limit < length gives.0 = omega (arith, gives.2) in
     ended_with (Some command) _ _ _ (sym c.in-Ok-Some.ensures.command ∙ c.in-Ok-Some.field-0-is)
-    (ended_written (Some command) _ gives.0 status.Text refused_length _ (gives.1, inr long) calm
-    (too_long_due command gives.0 long)
+    (ended_written (Some command) _ gives.0 status.Text refused_length _
+    (given_past command refused.limit _ _ gives.0 refused.takes gives.1 long) calm
+    (too_long_due command refused.limit gives.0 refused.takes long)
     c.written-in-Err-TooLong.ensures.is_whole c.written-in-Err-TooLong.ensures.wrote)
 
 pub returns-in-Ok-outcome : goal.returns-in-Ok-outcome
@@ -31,7 +33,7 @@ returns-in-Ok-outcome g c =
     let new = c.written-in-Ok-outcome.new.sink in
     ended_with (Some command) _ _ _ (sym c.in-Ok-Some.ensures.command ∙ c.in-Ok-Some.field-0-is)
     (ended_written (Some command) _ c.in-Ok.text.items due.status due.bytes.items _
-    (c.in-Ok.ensures.given, inl c.in-Ok.ensures.end) c.in-Ok.ensures.calm
+    c.in-Ok.ensures.given c.in-Ok.ensures.calm
     (subst (λ t. IsDue (Some command) t due.status due.bytes.items) c.deref.ensures.value c.in-Ok-outcome.ensures)
     (subst IsWhole c.deref-in-Ok-outcome.ensures.value c.written-in-Ok-outcome.ensures.is_whole)
     (subst
@@ -40,4 +42,4 @@ returns-in-Ok-outcome g c =
     c.deref-in-Ok-outcome.ensures.value c.written-in-Ok-outcome.ensures.wrote))
 
 pub returns-in-Err : goal.returns-in-Err
-returns-in-Err g c = lacked_memory _ _ refl refl (record { source_is_calm = refl; sink_is_calm = refl })
+returns-in-Err g c = unread _ _ refl refl (record { source_is_calm = refl; sink_is_calm = refl })

@@ -1,0 +1,51 @@
+-- The problems of families.
+--
+--   family_problem    == the text of a family for a number of its range stands for a problem
+--   one_family_problem == and for one at most
+--   family_not_refused == so it is refused for want of memory alone
+use Rattle.std.proofs.Common.{◌≡◌, ℕ, true, false, List, ap₂, refl, sym, subst, ◌∙◌}
+use Rattle.ml_base.specs.declared.parse_refusal.ParseRefusal.{ParseRefusal}
+use Rattle.ml_base.specs.declared.parse_refusal.ParseRefusal.TheVariants as refusal
+use Rattle.ml_front.specs.Logics.{IsParsedAs, IsRefusedBy}
+use Rattle.ml_front.specs.declared.logic.Logic.{Logic}
+use Rattle.ml_front.specs.declared.problem.AnyFormula.TheVariants.{Mu, Pdl, Ltl}
+use Rattle.ml_front.specs.declared.problem.Problem.{Problem}
+use Rattle.ml_front.proofs.Logics.{formula_once, formula_or_refused}
+use Rattle.ml_gen.specs.Families.{formula_text, is_in_range}
+use Rattle.ml_gen.specs.declared.family.Family.{Family}
+use Rattle.ml_gen.specs.declared.family.Family.TheVariants.{And, Or, Step, Fair, Loop}
+use Rattle.ml_gen.proofs.FamilyTexts.{are_parsed}
+use Rattle.ml_driver.specs.Bench.{IsMeant, logic_for}
+
+pub family_problem : (f : Family) (n : ℕ) → is_in_range f n ≡ true → (p : Problem) × IsMeant f n p
+family_problem And n is =
+    let made = are_parsed And n is in
+    (record { formula = Mu made.0; negated = false }, record { of_logic = refl; is_plain = refl; is_parsed = made.1 })
+family_problem Or n is =
+    let made = are_parsed Or n is in
+    (record { formula = Mu made.0; negated = false }, record { of_logic = refl; is_plain = refl; is_parsed = made.1 })
+family_problem Step n is =
+    let made = are_parsed Step n is in
+    (record { formula = Pdl made.0; negated = false }, record { of_logic = refl; is_plain = refl; is_parsed = made.1 })
+family_problem Fair n is =
+    let made = are_parsed Fair n is in
+    (record { formula = Ltl made.0; negated = false }, record { of_logic = refl; is_plain = refl; is_parsed = made.1 })
+family_problem Loop n is =
+    let made = are_parsed Loop n is in
+    (record { formula = Pdl made.0; negated = false }, record { of_logic = refl; is_plain = refl; is_parsed = made.1 })
+
+pub one_family_problem : (f : Family) (n : ℕ) (p r : Problem) → IsMeant f n p → IsMeant f n r → p ≡ r
+one_family_problem f n p r x y =
+    let same = formula_once (formula_text f n) p.formula r.formula (x.of_logic ∙ sym y.of_logic) x.is_parsed y.is_parsed in
+    ap₂ (λ g b. record { formula = g; negated = b }) same (x.is_plain ∙ sym y.is_plain)
+
+pub family_not_refused : (f : Family) (n : ℕ) (l : Logic) (text : List ℕ) (e : ParseRefusal)
+    → is_in_range f n ≡ true
+    → l ≡ logic_for f
+    → text ≡ formula_text f n
+    → IsRefusedBy l text e
+    → e ≡ refusal.NoMemory
+family_not_refused f n l text e is of_logic written refused =
+    let made = family_problem f n is in
+    let parsed = subst (λ t. IsParsedAs t made.0.formula) (sym written) made.1.is_parsed in
+    formula_or_refused l text made.0.formula e (made.1.of_logic ∙ sym of_logic) parsed refused

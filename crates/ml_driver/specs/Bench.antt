@@ -1,0 +1,140 @@
+-- What `gen` and `bench` write, both about the formula of a family for a number, and neither about an input.
+--
+-- `bench` tells how large this formula is, how large its graph and its decision game are, and whether it is satisfiable.
+-- Each number is told by definitions alone: the problem is the one that the family's text stands for; its graphs all have
+-- as many nodes, and their games as many positions. Nothing is told of what comes behind a limit that is passed.
+--
+--   logic_for f          == the logic of the formulas of the family f
+--   IsMeant f n p        == p is the problem of the text of the family f for n
+--   occurrences_of f     == how many occurrences the formula f has, by its logic
+--   Finding              == what was found of a problem: all, or what came before the limit that was passed
+--   HasNodes p k         == a graph of the problem p has k nodes
+--   HasPositions p k     == the decision game of a graph of p has k positions
+--   IsSatisfiableOrNot b p == b tells whether p is satisfiable
+--   asked n p            == the question whose problem is p, where the game may have n positions
+--   IsFinding n p x      == x is what is found of p, where the game may have n positions
+--   answer_of x          == satisfiable, unsatisfiable or undecided
+--   status_of a          == the status that goes with this answer
+--   gen_text f n         == the family's text for n, as a line
+--   request_line, nodes_line, positions_line == the first, third and fourth line of five
+--   bench_text f n k x   == the five lines about a formula with k occurrences of which x is found
+--   IsBenched f n s out  == this status and this output are due for `bench f n`
+use Rattle.std.specs.Prelude.{ℕ, ◌≡◌, Bool, true, false, List, [], ◌∷◌, length, codes}
+use Rattle.ml_ctl.specs.Formula as ctl
+use Rattle.ml_front.specs.Graphs.{IsGraphOf}
+use Rattle.ml_front.specs.Head.{answer_line}
+use Rattle.ml_front.specs.Logics.{logic_of, some_logic, IsParsedAs}
+use Rattle.ml_front.specs.Problems.{IsSatisfiable}
+use Rattle.ml_front.specs.declared.answer.Answer.{Answer}
+use Rattle.ml_front.specs.declared.answer.Answer.TheVariants.{Satisfiable, Unsatisfiable, Undecided}
+use Rattle.ml_front.specs.declared.logic.Logic.{Logic}
+use Rattle.ml_front.specs.declared.problem.AnyFormula.{AnyFormula}
+use Rattle.ml_front.specs.declared.problem.AnyFormula.TheVariants.{Mu, Pdl, Ctl, Ltl}
+use Rattle.ml_front.specs.declared.problem.Problem.{Problem}
+use Rattle.ml_gen.specs.Families.{family_word, formula_text, logic_name}
+use Rattle.ml_gen.specs.declared.family.Family.{Family}
+use Rattle.ml_graph.specs.Graph.{Graph, size}
+use Rattle.ml_lines.specs.Lines.{Line, line_text, number, text_of}
+use Rattle.ml_mu.specs.Formula as mu
+use Rattle.ml_pdl.specs.Formula as pdl
+use Rattle.ml_product.specs.Arena.{Arena, IsArenaOf}
+use Rattle.ml_driver.specs.Decision.{IsClosed, StaysOpen}
+use Rattle.ml_driver.specs.declared.cause.Cause.TheVariants.{Positions, Closure}
+use Rattle.ml_driver.specs.declared.command.TheConstants.{GREATEST_LIMIT}
+use Rattle.ml_driver.specs.declared.finding.Finding.{Finding}
+use Rattle.ml_driver.specs.declared.finding.Finding.TheVariants.{Decided, GamePassed, ClosurePassed}
+use Rattle.ml_driver.specs.declared.question.Question.{Question}
+use Rattle.ml_driver.specs.declared.status.Status.{Status}
+use Rattle.ml_driver.specs.declared.status.Status.TheVariants as status
+
+-- ---- the problem
+
+abbrev pub logic_for : Family → Logic
+logic_for f = some_logic (logic_name f)
+
+pub record IsMeant (f : Family) (n : ℕ) (p : Problem) : Type 0 where
+  pub of_logic : logic_of p.formula ≡ logic_for f
+  pub is_plain : p.negated ≡ false
+  pub is_parsed : IsParsedAs (formula_text f n) p.formula
+
+abbrev pub occurrences_of : AnyFormula → ℕ
+occurrences_of (Mu f) = mu.occurrences f
+occurrences_of (Pdl f) = pdl.occurrences f
+occurrences_of (Ctl f) = ctl.occurrences f
+occurrences_of (Ltl f) = ctl.occurrences f
+
+-- ---- what is found
+
+pub record HasNodes (p : Problem) (k : ℕ) : Type 0 where
+  pub graph : Graph
+  pub is_graph : IsGraphOf graph p
+  pub are_so_many : size graph ≡ k
+
+pub record HasPositions (p : Problem) (k : ℕ) : Type 0 where
+  pub graph : Graph
+  pub arena : Arena
+  pub is_graph : IsGraphOf graph p
+  pub is_arena : IsArenaOf graph arena
+  pub are_so_many : length arena.positions ≡ k
+
+abbrev pub IsSatisfiableOrNot : Bool → Problem → Type 0
+IsSatisfiableOrNot true p = IsSatisfiable p
+IsSatisfiableOrNot false p = ¬ (IsSatisfiable p)
+
+abbrev pub asked : ℕ → Problem → Question
+asked n p = record { logic = logic_of p.formula; negated = p.negated; limit = n }
+
+abbrev pub IsFinding : ℕ → Problem → Finding → Type 0
+IsFinding n p (Decided nodes positions satisfiable) =
+    IsClosed (asked n p) p × HasNodes p nodes × HasPositions p positions × IsSatisfiableOrNot satisfiable p
+IsFinding n p (GamePassed nodes) = StaysOpen (asked n p) p (Positions n) × HasNodes p nodes
+IsFinding n p ClosurePassed = StaysOpen (asked n p) p Closure
+
+abbrev pub answer_of : Finding → Answer
+answer_of (Decided nodes positions true) = Satisfiable
+answer_of (Decided nodes positions false) = Unsatisfiable
+answer_of (GamePassed nodes) = Undecided
+answer_of ClosurePassed = Undecided
+
+abbrev pub status_of : Answer → Status
+status_of Satisfiable = status.Yes
+status_of Unsatisfiable = status.No
+status_of Undecided = status.Undecided
+
+-- ---- what is written
+
+abbrev pub gen_text : Family → ℕ → List ℕ
+gen_text f n = line_text (formula_text f n ∷ [])
+
+abbrev pub request_line : Family → ℕ → Line
+request_line f n = codes "bench" ∷ family_word f ∷ number n ∷ []
+
+abbrev pub nodes_line : Finding → Line
+nodes_line (Decided nodes positions satisfiable) = codes "nodes" ∷ number nodes ∷ []
+nodes_line (GamePassed nodes) = codes "nodes" ∷ number nodes ∷ []
+nodes_line ClosurePassed = codes "nodes" ∷ codes "passed" ∷ []
+
+-- where there is no graph there is no game
+abbrev pub positions_line : Finding → Line
+positions_line (Decided nodes positions satisfiable) = codes "positions" ∷ number positions ∷ []
+positions_line (GamePassed nodes) = codes "positions" ∷ codes "passed" ∷ []
+positions_line ClosurePassed = codes "closure" ∷ codes "passed" ∷ []
+
+abbrev pub bench_text : Family → ℕ → ℕ → Finding → List ℕ
+bench_text f n k x =
+    text_of (
+    request_line f n
+    ∷ (codes "occurrences" ∷ number k ∷ [])
+    ∷ nodes_line x
+    ∷ positions_line x
+    ∷ answer_line (answer_of x)
+    ∷ []
+    )
+
+pub record IsBenched (f : Family) (n : ℕ) (s : Status) (out : List ℕ) : Type 0 where
+  pub problem : Problem
+  pub finding : Finding
+  pub is_meant : IsMeant f n problem
+  pub is_finding : IsFinding GREATEST_LIMIT problem finding
+  pub status_is : s ≡ status_of (answer_of finding)
+  pub is_written : out ≡ bench_text f n (occurrences_of problem.formula) finding

@@ -1,0 +1,234 @@
+// The formulas of families: their texts, and how large they, their graphs and their decision games are.
+ghost use Rattle.std.specs.Prelude.{◌≡◌, ◌≤◌, true, [], ◌∷◌, ◌++◌, IfOk, OnOk, Some};
+ghost use Rattle.ml_front.specs.Logics.{IsWellFormed};
+ghost use Rattle.ml_front.specs.declared.problem.TheConstants.{MOST_NODES};
+ghost use Rattle.ml_gen.specs.Families.{formula_text, is_in_range};
+ghost use Rattle.ml_graph.specs.Graph.{IsGraph, size};
+ghost use Rattle.ml_lines.specs.Lines.{line_text, number};
+ghost use Rattle.ml_product.specs.Arena.{IsArenaOf};
+ghost use Rattle.ml_driver.specs.Bench as measures;
+ghost use Rattle.ml_driver.specs.Bench.{IsFinding, IsMeant, bench_text, nodes_line, occurrences_of, positions_line, request_line};
+ghost use Rattle.ml_driver.specs.Run.{IsDue};
+ghost use Rattle.ml_driver.specs.declared.command.TheConstants.{GREATEST_LIMIT};
+ghost use Rattle.ml_driver.specs.private.Findings.{IsFoundIn, IsWonBy};
+
+use crate::command::GREATEST_LIMIT;
+use crate::deciding::first_winner;
+use crate::finding::Finding;
+use crate::output::Output;
+use crate::{Command, Status};
+use ml_base::{NoMemory, ParseRefusal};
+use ml_front::{Answer, AnyFormula, Logic, MOST_NODES, Problem, graph, read};
+use ml_gen::{Family, GenRefusal, formula};
+use ml_graph::{BlockRefusal, ModalGraph};
+use ml_lines::{end_line, write_next_number, write_next_word, write_word};
+use ml_parity::{Player, solve};
+use ml_product::{Arena, ExploreRefusal, explore};
+use std::alloc::Global;
+
+// what is due for `gen`
+pub(crate) fn generate(alloc: Global, family: Family, n: u32) -> Result<Output, NoMemory>
+    requires { is_in_range family n ≡ true }
+    ensures { IfOk result (λ output. IsDue (Some (Command.Gen family n)) [] output.status output.bytes.items) }
+{
+    let mut bytes = text_for(alloc, family, n)?;
+    end_line(&mut bytes)?;
+    Ok(Output {
+        status: Status::Yes,
+        bytes,
+    })
+}
+
+// what is due for `bench`
+pub(crate) fn measure(alloc: Global, family: Family, n: u32) -> Result<Output, NoMemory>
+    requires { is_in_range family n ≡ true }
+    ensures { IfOk result (λ output. IsDue (Some (Command.Bench family n)) [] output.status output.bytes.items) }
+{
+    let problem = problem_for(alloc, family, n)?;
+    let finding = found(alloc, &problem)?;
+    let status = status_of(finding.answer());
+    let count = occurrences(&problem.formula);
+    Ok(Output {
+        status,
+        bytes: report(alloc, family, n, count, finding)?,
+    })
+}
+
+fn text_for(alloc: Global, family: Family, n: u32) -> Result<Vec<u8>, NoMemory>
+    requires { is_in_range family n ≡ true }
+    ensures { IfOk result (λ text. text.items ≡ formula_text family n) }
+{
+    match formula(alloc, family, n) {
+        Ok(text) => Ok(text),
+        Err(GenRefusal::NoMemory) => Err(NoMemory),
+        Err(GenRefusal::OutOfFamily) => unreachable!(),
+    }
+}
+
+fn problem_for(alloc: Global, family: Family, n: u32) -> Result<Problem, NoMemory>
+    requires { is_in_range family n ≡ true }
+    ensures { IfOk result (IsMeant family n) }
+{
+    let text = text_for(alloc, family, n)?;
+    match read(alloc, logic_for(family), &text) {
+        Ok(problem) => Ok(problem),
+        Err(refusal) => Err(want_of(refusal)),
+    }
+}
+
+// the one refusal of a family's text
+fn want_of(refusal: ParseRefusal) -> NoMemory
+    requires { refusal ≡ ParseRefusal.NoMemory }
+{
+    match refusal {
+        ParseRefusal::NoMemory => NoMemory,
+        ParseRefusal::Syntax { .. }
+        | ParseRefusal::Unbound { .. }
+        | ParseRefusal::NotPositive { .. }
+        | ParseRefusal::TooMany { .. }
+        | ParseRefusal::TooNested { .. }
+        | ParseRefusal::NameTooLong { .. } => unreachable!(),
+    }
+}
+
+fn logic_for(family: Family) -> Logic
+    ensures { result ≡ measures.logic_for family }
+{
+    match family {
+        Family::And | Family::Or => Logic::Mu,
+        Family::Step | Family::Loop => Logic::Pdl,
+        Family::Fair => Logic::Ltl,
+    }
+}
+
+fn occurrences(formula: &AnyFormula) -> u32
+    ensures { result ≡ occurrences_of formula.now }
+{
+    match formula {
+        AnyFormula::Mu(formula) => ml_mu::occurrences(formula),
+        AnyFormula::Pdl(formula) => ml_pdl::occurrences(formula),
+        AnyFormula::Ctl(formula) => ml_ctl::occurrences(formula),
+        AnyFormula::Ltl(formula) => ml_ltl::occurrences(formula),
+    }
+}
+
+// ---- what is found
+
+// by the graph of the problem
+fn found(alloc: Global, problem: &Problem) -> Result<Finding, NoMemory>
+    requires { IsWellFormed problem.now.formula }
+    ensures { IfOk result (IsFinding GREATEST_LIMIT problem.now) }
+{
+    let graph = match graph(alloc, problem, MOST_NODES) {
+        Ok(graph) => graph,
+        Err(BlockRefusal::ClosureTooLarge) => return Ok(Finding::ClosurePassed),
+        Err(BlockRefusal::NoMemory) => return Err(NoMemory),
+    };
+    found_in(alloc, &graph)
+}
+
+// by the graph's decision game
+fn found_in(alloc: Global, graph: &ModalGraph) -> Result<Finding, NoMemory>
+    requires is_graph { IsGraph graph.now }
+    requires small { size graph.now ≤ MOST_NODES }
+    ensures { IfOk result (IsFoundIn graph.now GREATEST_LIMIT) }
+{
+    let nodes = graph.size();
+    match explore(alloc, graph, GREATEST_LIMIT) {
+        Ok(arena) => Ok(Finding::Decided {
+            nodes,
+            positions: arena.size(),
+            satisfiable: is_won(alloc, graph, &arena)?,
+        }),
+        Err(ExploreRefusal::Passed) => Ok(Finding::GamePassed { nodes }),
+        Err(ExploreRefusal::NoMemory) => Err(NoMemory),
+    }
+}
+
+// whether Even wins the first position
+fn is_won(alloc: Global, _graph: &ModalGraph, arena: &Arena) -> Result<bool, NoMemory>
+    requires { IsArenaOf _graph.now arena.now }
+    ensures { IfOk result (IsWonBy arena.now) }
+{
+    let game = arena.game()?;
+    let solution = solve(alloc, &game)?;
+    Ok(matches!(first_winner(&solution), Player::Even))
+}
+
+fn status_of(answer: Answer) -> Status
+    ensures { result ≡ measures.status_of answer }
+{
+    match answer {
+        Answer::Satisfiable => Status::Yes,
+        Answer::Unsatisfiable => Status::No,
+        Answer::Undecided => Status::Undecided,
+    }
+}
+
+// ---- what is written
+
+fn report(
+    alloc: Global,
+    family: Family,
+    n: u32,
+    count: u32,
+    finding: Finding,
+) -> Result<Vec<u8>, NoMemory>
+    ensures { IfOk result (λ lines. lines.items ≡ bench_text family n count finding) }
+{
+    let mut lines = Vec::new(alloc);
+    append_request(&mut lines, family, n)?;
+    append_number(&mut lines, b"occurrences", count)?;
+    append_nodes(&mut lines, finding)?;
+    append_positions(&mut lines, finding)?;
+    append_word(&mut lines, b"answer", finding.answer().word())?;
+    Ok(lines)
+}
+
+fn append_request(lines: &mut Vec<u8>, family: Family, n: u32) -> Result<(), NoMemory>
+    ensures { OnOk result (lines.new.items ≡ lines.old.items ++ line_text (request_line family n)) }
+{
+    write_word(lines, b"bench")?;
+    write_next_word(lines, family.word())?;
+    write_next_number(lines, u64::from(n))?;
+    end_line(lines)
+}
+
+fn append_nodes(lines: &mut Vec<u8>, finding: Finding) -> Result<(), NoMemory>
+    ensures { OnOk result (lines.new.items ≡ lines.old.items ++ line_text (nodes_line finding)) }
+{
+    match finding {
+        Finding::Decided { nodes, .. } | Finding::GamePassed { nodes } => {
+            append_number(lines, b"nodes", nodes)
+        }
+        Finding::ClosurePassed => append_word(lines, b"nodes", b"passed"),
+    }
+}
+
+fn append_positions(lines: &mut Vec<u8>, finding: Finding) -> Result<(), NoMemory>
+    ensures { OnOk result (lines.new.items ≡ lines.old.items ++ line_text (positions_line finding)) }
+{
+    match finding {
+        Finding::Decided { positions, .. } => append_number(lines, b"positions", positions),
+        Finding::GamePassed { .. } => append_word(lines, b"positions", b"passed"),
+        Finding::ClosurePassed => append_word(lines, b"closure", b"passed"),
+    }
+}
+
+// a line of two words, of which the second is a number
+fn append_number(lines: &mut Vec<u8>, word: &[u8], value: u32) -> Result<(), NoMemory>
+    ensures { OnOk result (lines.new.items ≡ lines.old.items ++ line_text (word.now ∷ number value ∷ [])) }
+{
+    write_word(lines, word)?;
+    write_next_number(lines, u64::from(value))?;
+    end_line(lines)
+}
+
+// a line of two words
+fn append_word(lines: &mut Vec<u8>, word: &[u8], next: &[u8]) -> Result<(), NoMemory>
+    ensures { OnOk result (lines.new.items ≡ lines.old.items ++ line_text (word.now ∷ next.now ∷ [])) }
+{
+    write_word(lines, word)?;
+    write_next_word(lines, next)?;
+    end_line(lines)
+}
