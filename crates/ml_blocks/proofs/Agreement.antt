@@ -22,6 +22,7 @@ use Rattle.ml_graph.specs.CheckingGame as game
 use Rattle.ml_graph.proofs.OneStep.{vertex_low}
 use Rattle.ml_text.specs.declared.token.Operator.{Operator}
 use Rattle.ml_text.specs.declared.token.Operator.TheVariants as operator
+use Rattle.ml_text.specs.Operators.{weight}
 use Rattle.ml_ctl.specs.Formula as plain
 use Rattle.ml_ctl.specs.Formula.{Formula, occurrences, is_state}
 use Rattle.ml_ctl.specs.Laws.{IsDecided}
@@ -213,9 +214,9 @@ stands_smaller i f j g (here _ _ _ _ at is) = let same = ap occurrences is in om
 stands_smaller i _ j g (under_not _ f _ _ s) = let r = stands_smaller (i + 1) f j g s in omega (arith, r)
 stands_smaller i _ j g (under_tense t _ f _ _ s) = let r = stands_smaller (i + 1) f j g s in omega (arith, r)
 stands_smaller i _ j g (at_left op _ f h _ _ s) =
-    let r = stands_smaller (i + plain.weight op) f j g s in omega (arith, r)
+    let r = stands_smaller (i + weight op) f j g s in omega (arith, r)
 stands_smaller i _ j g (at_right op _ f h _ _ s) =
-    let r = stands_smaller (i + plain.weight op + occurrences f) h j g s in omega (arith, r)
+    let r = stands_smaller (i + weight op + occurrences f) h j g s in omega (arith, r)
 stands_smaller i _ j g (before p _ f h _ _ s) = let r = stands_smaller (i + 1) f j g s in omega (arith, r)
 stands_smaller i _ j g (behind p _ f h _ _ s) = let r = stands_smaller (i + 1 + occurrences f) h j g s in omega (arith, r)
 

@@ -7,6 +7,7 @@
 use Rattle.std.proofs.Common.{ℕ, ◌≡◌, Bool, true, List, [], ◌∷◌, ◌++◌, length, Option, None, Some, codes, bytes_eq, refl, sym, ap, ◌∙◌, subst, append-nil}
 use Rattle.std.specs.List.{IsDistinct}
 use Rattle.std.proofs.lemmas.Map.Keys.{IsDistinct-tail}
+use Rattle.ml_text.proofs.NameLists.{is_among}
 use Rattle.ml_ctl.specs.Formula.{Formula}
 use Rattle.ml_graph.proofs.Places.{one_name}
 use Rattle.ml_graph.specs.Graph.{Graph, IsGraph}
@@ -25,7 +26,7 @@ use Rattle.ml_blocks.specs.declared.table.Occurrence.{Occurrence}
 use Rattle.ml_blocks.specs.declared.spots.Spot.{Spot}
 use Rattle.ml_blocks.proofs.ClosedDrafts.{numbered, made_graph, too_large}
 use Rattle.ml_blocks.proofs.KeptFormulas.{formula_is, kept_at}
-use Rattle.ml_blocks.proofs.NameLists.{all_among, distinct_props, is_among}
+use Rattle.ml_blocks.proofs.NameLists.{all_among, distinct_props}
 use Rattle.ml_blocks.proofs.NumberedForms.{begun_fits}
 use Rattle.ml_blocks.proofs.SpreadLists.{stands_in}
 

@@ -6,7 +6,8 @@
 use Rattle.std.proofs.Common.{ℕ, ◌≡◌, ◌+◌, Bool, true, [], Option, None, Some, sym, subst}
 use Rattle.std.proofs.lemmas.Option.{get_or_from_slice_get}
 use Rattle.ml_text.specs.declared.token.Operator.{Operator}
-use Rattle.ml_ctl.specs.Formula.{Formula, Const, Not, Binary, Temporal, Paired, Quantified, Tense, Pairing, Quantifier, occurrences, weight}
+use Rattle.ml_text.specs.Operators.{weight}
+use Rattle.ml_ctl.specs.Formula.{Formula, Const, Not, Binary, Temporal, Paired, Quantified, Tense, Pairing, Quantifier, occurrences}
 use Rattle.ml_blocks.specs.private.Occurrences.{formula_here, occurrence_here, eventualities_here, entry_at, eventualities_at, entry, sign_of}
 use Rattle.ml_blocks.specs.private.Views.{Kept, Stands, IsKept, formula_at}
 use Rattle.ml_blocks.specs.declared.table.Symbol.TheVariants as symbol

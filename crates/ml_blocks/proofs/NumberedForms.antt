@@ -9,8 +9,10 @@ use Rattle.std.specs.Bool.{beq}
 use Rattle.std.specs.Option.{option_map}
 use Rattle.ml_text.specs.declared.token.Operator.{Operator}
 use Rattle.ml_text.specs.declared.token.Operator.TheVariants as operator
+use Rattle.ml_text.specs.Operators.{weight}
+use Rattle.ml_text.proofs.NameLists.{place_found}
 use Rattle.ml_ctl.specs.Formula as formula
-use Rattle.ml_ctl.specs.Formula.{Formula, Const, Prop, Not, Binary, Temporal, Paired, Quantified, occurrences, weight}
+use Rattle.ml_ctl.specs.Formula.{Formula, Const, Prop, Not, Binary, Temporal, Paired, Quantified, occurrences}
 use Rattle.ml_blocks.specs.Items.{Item, now}
 use Rattle.ml_blocks.specs.ItemSets.{next_items, eventualities, put_all, without}
 use Rattle.ml_blocks.specs.Places as node
@@ -30,7 +32,6 @@ use Rattle.ml_blocks.specs.declared.spots.Part.TheVariants as part
 use Rattle.ml_blocks.specs.declared.spots.Spot.{Spot}
 use Rattle.ml_blocks.specs.declared.spots.Spot.TheVariants as spot
 use Rattle.ml_blocks.proofs.KeptFormulas.{formula_is, occurrence_is, eventualities_are, kept_at, of_not, of_left, of_right, of_quantifier}
-use Rattle.ml_blocks.proofs.NameLists.{place_found}
 use Rattle.ml_blocks.proofs.NumberedRows.{RowKept, row_is, row_kept}
 use Rattle.ml_blocks.proofs.NumberedSets.{put_few_is, others_is, next_all_is, put_few_kept, others_kept, next_all_kept, OneKept, found_is, found_kept, pending_is}
 use Rattle.ml_blocks.proofs.WantedEventualities.{eventualities_same}

@@ -7,8 +7,9 @@
 use Rattle.std.proofs.Common.{ℕ, ◌≡◌, ◌+◌, Bool, true, false, not, ◌&&◌, List, [], ◌∷◌, Option, None, refl, sym, ap, ◌∙◌, subst, cond}
 use Rattle.ml_text.specs.declared.token.Operator.{Operator}
 use Rattle.ml_text.specs.declared.token.Operator.TheVariants as operator
+use Rattle.ml_text.specs.Operators.{weight}
 use Rattle.ml_ctl.specs.Formula as formula
-use Rattle.ml_ctl.specs.Formula.{Formula, Const, Prop, Not, Binary, Temporal, Paired, Quantified, occurrences, weight}
+use Rattle.ml_ctl.specs.Formula.{Formula, Const, Prop, Not, Binary, Temporal, Paired, Quantified, occurrences}
 use Rattle.ml_blocks.specs.Items as plain
 use Rattle.ml_blocks.specs.Items.{Item, now}
 use Rattle.ml_blocks.specs.ItemSets.{next_of}

@@ -16,6 +16,7 @@ use Rattle.ml_lists.proofs.Member.{list_any-member, All-member}
 use Rattle.ml_lists.proofs.Unrolling.{next_step}
 use Rattle.ml_base.specs.Structure.{Structure, IsStructure}
 use Rattle.ml_base.specs.declared.structure.Edge.{Edge}
+use Rattle.ml_text.specs.Operators.{weight}
 use Rattle.ml_ctl.specs.Formula as plain
 use Rattle.ml_ctl.specs.Formula.{Formula}
 use Rattle.ml_ctl.specs.Laws.{IsDecided}
@@ -57,9 +58,9 @@ module _ (m : Structure) (l : Lasso) where
   decided_within i f j g (here _ _ _ _ at is) given = subst (QuantifiersAreDecided m l) (sym is) given
   decided_within i _ j g (under_not _ f _ _ s) given = decided_within (i + 1) f j g s given
   decided_within i _ j g (under_tense t _ f _ _ s) given = decided_within (i + 1) f j g s given
-  decided_within i _ j g (at_left op _ f h _ _ s) given = decided_within (i + plain.weight op) f j g s given.0
+  decided_within i _ j g (at_left op _ f h _ _ s) given = decided_within (i + weight op) f j g s given.0
   decided_within i _ j g (at_right op _ f h _ _ s) given =
-      decided_within (i + plain.weight op + plain.occurrences f) h j g s given.1
+      decided_within (i + weight op + plain.occurrences f) h j g s given.1
   decided_within i _ j g (before p _ f h _ _ s) given = decided_within (i + 1) f j g s given.0
   decided_within i _ j g (behind p _ f h _ _ s) given = decided_within (i + 1 + plain.occurrences f) h j g s given.1
 

@@ -7,7 +7,8 @@ use Rattle.std.proofs.Common.{ℕ, ◌≡◌, ◌+◌, Bool, List, [], ◌∷◌
 use Rattle.std.specs.List.{slice_get}
 use Rattle.ml_text.specs.declared.token.Operator.{Operator}
 use Rattle.ml_text.specs.declared.token.Operator.TheVariants as operator
-use Rattle.ml_ctl.specs.Formula.{Formula, Const, Prop, Not, Binary, Temporal, Paired, Quantified, occurrences, weight}
+use Rattle.ml_text.specs.Operators.{weight}
+use Rattle.ml_ctl.specs.Formula.{Formula, Const, Prop, Not, Binary, Temporal, Paired, Quantified, occurrences}
 use Rattle.ml_blocks.specs.private.Occurrences.{spread, fill, sign_of}
 use Rattle.ml_blocks.specs.private.Views.{StandsIn}
 

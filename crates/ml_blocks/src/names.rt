@@ -1,6 +1,7 @@
 // The propositions of a formula, each once, in the order of the text.
 ghost use Rattle.std.specs.Prelude.{◌≡◌, ◌<◌, ◌^◌, [], length, OnOk, IfOk};
 ghost use Rattle.ml_ctl.specs.Term.{formula_of};
+ghost use Rattle.ml_text.specs.private.NameLists.{with_name, place_of};
 ghost use Rattle.ml_blocks.specs.private.Names as listed;
 
 use indexmap::IndexSet;
@@ -16,7 +17,7 @@ pub(crate) struct Names {
 
 // a proposition is added, unless it is there
 fn add_proposition(props: &mut IndexSet<Name>, name: &Name) -> Result<(), NoMemory>
-    ensures { OnOk result (props.new.keys ≡ listed.with_name props.old.keys name.now) }
+    ensures { OnOk result (props.new.keys ≡ with_name props.old.keys name.now) }
 {
     if props.contains(name) {
         return Ok(());
@@ -64,7 +65,7 @@ impl Names {
     // the place of a proposition
     pub(crate) fn proposition(&self, name: &Name) -> u32
         requires { length self.now.props.keys < 2 ^ 32 }
-        ensures { result ≡ listed.place_of self.now.props.keys name.now }
+        ensures { result ≡ place_of self.now.props.keys name.now }
     {
         match self.props.get_index_of(name) {
             Some(place) => place as u32,

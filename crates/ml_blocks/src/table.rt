@@ -1,5 +1,6 @@
 // The occurrences of a formula, by their numbers.
 ghost use Rattle.std.specs.Prelude.{◌≡◌, ◌+◌, ◌*◌, ◌<◌, ◌≤◌, ◌^◌, ◌++◌, [], ◌∷◌, None, Some, length, get_or, IfOk, OnOk};
+ghost use Rattle.ml_text.specs.Operators.{weight};
 ghost use Rattle.ml_ctl.specs.Formula as plain;
 ghost use Rattle.ml_ctl.specs.Formula.{occurrences};
 ghost use Rattle.ml_ctl.specs.Term.{formula_of};
@@ -173,7 +174,7 @@ fn put(
 }
 
 fn weight(operator: Operator) -> u32
-    ensures { result ≡ plain.weight operator }
+    ensures { result ≡ weight operator }
 {
     match operator {
         Operator::Iff => 3,
@@ -217,14 +218,14 @@ fn place_connective(
     right: &Term,
 ) -> Result<(), AllocError>
     requires names { length names.now.props.keys < 2 ^ 32 }
-    requires few { at + plain.weight operator + occurrences (formula_of left.now) + occurrences (formula_of right.now) ≤ 1000 }
+    requires few { at + weight operator + occurrences (formula_of left.now) + occurrences (formula_of right.now) ≤ 1000 }
     ensures occurrences { OnOk result (table.new.occurrences.items ≡ table.old.occurrences.items
         ++ listed.spread (listed.occurrence_here names.now.props.keys) at
         (plain.Binary operator (formula_of left.now) (formula_of right.now)) None) }
     ensures eventualities { OnOk result (listed.lists_of table.new.eventualities.items
         ≡ listed.lists_of table.old.eventualities.items ++ (keys.items ∷ (listed.fill listed.eventualities_here operator at
-        ++ (listed.spread listed.eventualities_here (at + plain.weight operator) (formula_of left.now) None
-        ++ listed.spread listed.eventualities_here (at + plain.weight operator + occurrences (formula_of left.now))
+        ++ (listed.spread listed.eventualities_here (at + weight operator) (formula_of left.now) None
+        ++ listed.spread listed.eventualities_here (at + weight operator + occurrences (formula_of left.now))
         (formula_of right.now) None)))) }
 {
     let l = at + weight(operator);

@@ -4,16 +4,16 @@
 --   few_open      == it opens at most as many parentheses as its formula has occurrences
 use Rattle.std.proofs.Common.{◌≡◌, ℕ, ◌+◌, ◌≤◌, Bool, true, false, List, ◌∷◌, Option, Some, None, codes, refl, arith}
 use Rattle.std.specs.List.{AllByRecursion}
-use Rattle.ml_text.specs.declared.token.Operator.{Operator}
-use Rattle.ml_text.specs.declared.token.Operator.TheVariants as operator
 use Rattle.ml_text.specs.declared.token.Token.TheVariants as token
 use Rattle.ml_text.specs.Words.{constant_of}
+use Rattle.ml_text.specs.Operators.{spelling_of}
 use Rattle.ml_text.proofs.Pieces.{lone}
 use Rattle.ml_text.proofs.TableItems.{IsShort, short_word, opening, opens_spelt, one_of}
 use Rattle.ml_text.proofs.Scans.{Spelt}
-use Rattle.ml_ctl.specs.Canonical.{spelling_of, tense_letter, pairing_letter, quantifier_letter}
+use Rattle.ml_text.proofs.AcceptedTexts.{weight_some}
+use Rattle.ml_ctl.specs.Canonical.{tense_letter, pairing_letter, quantifier_letter}
 use Rattle.ml_ctl.specs.Formula as plain
-use Rattle.ml_ctl.specs.Formula.{Formula, Tense, Pairing, Quantifier, occurrences, weight}
+use Rattle.ml_ctl.specs.Formula.{Formula, Tense, Pairing, Quantifier, occurrences}
 use Rattle.ml_ctl.specs.Signs.{Sign, Lower, Unknown, word_sign, word_sign_by}
 use Rattle.ml_ctl.specs.Spelling.{HasShortNames, is_proposition}
 use Rattle.ml_ctl.specs.Text.{bracket_of}
@@ -71,12 +71,6 @@ closed_pairing plain.Weak = refl
 closed_quantifier : (q : Quantifier) → opening (bracket_of (sign_spelt (lone (quantifier_letter q)))) ≡ 0
 closed_quantifier plain.Exists = refl
 closed_quantifier plain.Forall = refl
-
-weight_some : (o : Operator) → 1 ≤ weight o
-weight_some operator.Iff = omega arith
-weight_some operator.Implies = omega arith
-weight_some operator.Or = omega arith
-weight_some operator.And = omega arith
 
 pub few_open : (f : Formula) (ss : List Spelt) → opens_of (tokens_onto f ss) ≤ occurrences f + opens_of ss
 few_open (plain.Const true) ss = omega (arith, closed_word (codes "tt"))

@@ -5,27 +5,26 @@
 --   reads_formula        == their signs are read as f
 --   canonical_tokens     == these are the tokens of the text alone
 --   canonical_stands     == so the text stands for f
-use Rattle.std.proofs.Common.{◌≡◌, ℕ, true, false, not, List, [], ◌∷◌, ◌++◌, map, refl, sym, ◌∙◌, ap, subst, codes, append_assoc}
+use Rattle.std.proofs.Common.{◌≡◌, ℕ, true, false, not, List, [], ◌∷◌, ◌++◌, map, refl, sym, ◌∙◌, ap, subst, codes}
 use Rattle.std.proofs.lemmas.Bool.{and_parts, false≢true}
 use Rattle.std.proofs.lemmas.List.{append-nil}
-use Rattle.std.specs.List.{list_all}
-use Rattle.ml_text.specs.Bytes.{is_lower, is_word_byte}
+use Rattle.ml_text.specs.Bytes.{is_lower}
 use Rattle.ml_text.specs.declared.token.Operator.{Operator}
 use Rattle.ml_text.specs.declared.token.Operator.TheVariants as operator
 use Rattle.ml_text.specs.declared.token.Token.TheVariants as token
 use Rattle.ml_text.specs.declared.token.WordStart.TheVariants.{LowerCase}
 use Rattle.ml_text.specs.Tokens.{tokens}
-use Rattle.ml_text.specs.Words.{constant_of}
+use Rattle.ml_text.specs.Words.{constant_of, is_word_from}
 use Rattle.ml_text.specs.Refusals.{signs_of}
-use Rattle.ml_text.proofs.Pieces as pieces
-use Rattle.ml_text.proofs.Pieces.{lone, lone_piece, not_piece, and_piece, or_piece, implies_piece, iff_piece, ends_word}
+use Rattle.ml_text.specs.Operators.{spelling_of}
+use Rattle.ml_text.proofs.Pieces.{lone, lone_piece, not_piece, operator_piece, between_same, ends_word, word_piece}
 use Rattle.ml_text.proofs.Scans.{Spelt, spelt_at, Scans, ends, blank, scans_tokens}
 use Rattle.ml_text.proofs.TableItems.{signs_spelt}
 use Rattle.ml_ctl.specs.Formula as plain
 use Rattle.ml_ctl.specs.Formula.{Formula, Logic, Ctl, Ltl, Tense, Pairing, Quantifier, is_of}
-use Rattle.ml_ctl.specs.Canonical.{spelling_of, tense_letter, pairing_letter, quantifier_letter, between, canonical_text}
+use Rattle.ml_ctl.specs.Canonical.{tense_letter, pairing_letter, quantifier_letter, between, canonical_text}
 use Rattle.ml_ctl.specs.Signs.{Sign, Connective, Const, Open, Close, Tensed, Pairs, Quantifies, sign_of, word_sign}
-use Rattle.ml_ctl.specs.Spelling.{is_spelled, is_word_from, is_reserved}
+use Rattle.ml_ctl.specs.Spelling.{is_spelled, is_reserved}
 use Rattle.ml_ctl.specs.Grammar as grammar
 use Rattle.ml_ctl.specs.Grammar.{Sort, State, Path, sort_of, Reads, iff_alone, iff, imp_alone, imp, or_alone, or, and_alone, and, pair_alone, pair, negation, temporal, quantified, group, constant, proposition}
 use Rattle.ml_ctl.specs.Text.{ctl_signs, items, IsTextOf}
@@ -52,12 +51,6 @@ SignPiece text s = (rest : List ℕ) (ss : List Spelt)
     → Scans LowerCase rest ss
     → Scans LowerCase (codes " " ++ (text ++ (codes " " ++ rest))) (s ∷ ss)
 
-operator_piece : (o : Operator) → SignPiece (spelling_of o) (token.Operator o, spelling_of o)
-operator_piece operator.And = and_piece LowerCase
-operator_piece operator.Or = or_piece LowerCase
-operator_piece operator.Implies = implies_piece LowerCase
-operator_piece operator.Iff = iff_piece LowerCase
-
 letter_piece : (p : Pairing) → SignPiece (pairing_letter p ∷ []) (lone (pairing_letter p))
 letter_piece plain.Until rest ss r = blank 32 refl (lone_piece LowerCase 85 (32 ∷ rest) ss refl (blank 32 refl r))
 letter_piece plain.Release rest ss r = blank 32 refl (lone_piece LowerCase 82 (32 ∷ rest) ss refl (blank 32 refl r))
@@ -75,20 +68,6 @@ tense_piece plain.Globally rest ss r = lone_piece LowerCase 71 (32 ∷ rest) ss 
 quantifier_piece : (q : Quantifier) → LetterPiece (quantifier_letter q)
 quantifier_piece plain.Exists rest ss r = lone_piece LowerCase 69 (32 ∷ rest) ss refl (blank 32 refl r)
 quantifier_piece plain.Forall rest ss r = lone_piece LowerCase 65 (32 ∷ rest) ss refl (blank 32 refl r)
-
-word_piece : (w rest : List ℕ) (ss : List Spelt)
-    → is_word_from is_lower w ≡ true
-    → ends_word rest ≡ true
-    → Scans LowerCase rest ss
-    → Scans LowerCase (w ++ rest) ((token.Word, w) ∷ ss)
-word_piece [] rest ss word stops r = absurd (cc)
-word_piece (b ∷ bs) rest ss word stops r =
-    let parts = and_parts (is_lower b) (list_all is_word_byte bs) word in
-    pieces.word_piece LowerCase b bs rest ss parts.0 parts.1 stops r
-
-between_same : (a sp b rest : List ℕ)
-    → between a sp b ++ rest ≡ 40 ∷ (a ++ (codes " " ++ (sp ++ (codes " " ++ (b ++ (41 ∷ rest))))))
-between_same a sp b rest = simp append_assoc
 
 abbrev ScansOf : Formula → Type 0
 ScansOf f = (rest : List ℕ) (ss : List Spelt)
@@ -113,15 +92,15 @@ two_scans f g text s rest ss sign left right r =
     (lone_piece LowerCase 40 (canonical_text f ++ after) (tokens_onto f toks) refl inside)
 
 pub scans_formula : (f : Formula) → is_spelled f ≡ true → ScansOf f
-scans_formula (plain.Const true) is rest ss stops r = word_piece (codes "tt") rest ss refl stops r
-scans_formula (plain.Const false) is rest ss stops r = word_piece (codes "ff") rest ss refl stops r
+scans_formula (plain.Const true) is rest ss stops r = word_piece LowerCase (codes "tt") rest ss refl stops r
+scans_formula (plain.Const false) is rest ss stops r = word_piece LowerCase (codes "ff") rest ss refl stops r
 scans_formula (plain.Prop p) is rest ss stops r =
-    word_piece p rest ss (and_parts (is_word_from is_lower p) (not (is_reserved p)) is).0 stops r
+    word_piece LowerCase p rest ss (and_parts (is_word_from is_lower p) (not (is_reserved p)) is).0 stops r
 scans_formula (plain.Not f) is rest ss stops r =
     not_piece LowerCase (canonical_text f ++ rest) (tokens_onto f ss) (scans_formula f is rest ss stops r)
 scans_formula (plain.Binary o f g) is rest ss stops r =
     let parts = and_parts (is_spelled f) (is_spelled g) is in
-    two_scans f g (spelling_of o) (token.Operator o, spelling_of o) rest ss (operator_piece o) (scans_formula f parts.0)
+    two_scans f g (spelling_of o) (token.Operator o, spelling_of o) rest ss (operator_piece LowerCase o) (scans_formula f parts.0)
     (scans_formula g parts.1) r
 scans_formula (plain.Temporal t f) is rest ss stops r =
     tense_piece t (canonical_text f ++ rest) (tokens_onto f ss) (scans_formula f is rest ss stops r)

@@ -8,13 +8,14 @@ use Rattle.ml_text.specs.declared.token.Operator.TheVariants as operator
 use Rattle.ml_text.specs.Grammar as tables
 use Rattle.ml_text.specs.Grammar.{Whole, More, Read, Inner, Opens, Part, Level, Operand, Rest, Behind, alone, joined, postfixed, form, whole, sign, read, inner, opens, left_level, right_level, takes, front}
 use Rattle.ml_text.specs.declared.forms.Role.TheVariants.{Infix}
+use Rattle.ml_text.specs.Operators.{operator_level}
 use Rattle.ml_text.proofs.Levels.{loosen}
 use Rattle.ml_ctl.specs.Formula as plain
-use Rattle.ml_ctl.specs.Formula.{Formula, Logic, Ctl, Ltl, Tense, Pairing, Quantifier}
+use Rattle.ml_ctl.specs.Formula.{Formula, Logic, Ctl, Ltl, Tense, Quantifier}
 use Rattle.ml_ctl.specs.Signs.{Sign, Not, Connective, Const, Open, Close, Tensed, Pairs, Quantifies, Lower}
 use Rattle.ml_ctl.specs.Grammar as grammar
 use Rattle.ml_ctl.specs.Grammar.{Sort, State, Path, Reads, iff_alone, iff, imp_alone, imp, or_alone, or, and_alone, and, pair_alone, pair, negation, temporal, quantified, group, constant, proposition}
-use Rattle.ml_ctl.specs.private.Tables.{Wait, Start, BehindInside, Hold, Negation, Tensing, Quantifying, Group, CtlTurn, shift, resume, role, operator_level, ctl_grammar}
+use Rattle.ml_ctl.specs.private.Tables.{Wait, Start, BehindInside, Hold, Negation, Tensing, Quantifying, Group, CtlTurn, shift, resume, role, ctl_grammar}
 
 -- what the tables read
 abbrev pub Tabled : (w : Logic) → Part (ctl_grammar w) → List Sign → Formula → List Sign → Type 0

@@ -2,21 +2,21 @@
 --
 --   short_name      == a token that is no longer than a name has a short name, if it has one
 --   can_name        == a sign can be made of each token
-use Rattle.std.proofs.Common.{◌≡◌, ℕ, ◌≤◌, Bool, true, false, List, [], ◌∷◌, length, Option, Some, None, refl, sym, subst, arith, ◌&&◌, ◌==◌, nat_lt, not, cond, ltb-false, ◌-◌, take}
-use Rattle.std.specs.List.{list_all}
-use Rattle.std.proofs.lemmas.Bool.{and_parts, or_left}
-use Rattle.ml_base.specs.Name.{is_name, longest_name}
-use Rattle.ml_text.specs.Bytes.{is_lower, is_upper, is_word_byte}
+use Rattle.std.proofs.Common.{◌≡◌, ℕ, ◌≤◌, Bool, true, false, List, length, Option, Some, None, refl, sym, subst, arith, ◌&&◌, ◌==◌, nat_lt, not, cond, ltb-false, ◌-◌, take}
+use Rattle.std.proofs.lemmas.Bool.{and_parts}
+use Rattle.ml_base.specs.Name.{longest_name}
+use Rattle.ml_text.specs.Bytes.{is_letter, is_lower}
 use Rattle.ml_text.specs.declared.token.Token.{Token}
 use Rattle.ml_text.specs.declared.token.Token.TheVariants as token
 use Rattle.ml_text.specs.declared.token.Placed.{Placed}
 use Rattle.ml_text.specs.Items.{is_word, bytes_of, name_bytes}
-use Rattle.ml_text.specs.Words.{constant_of}
+use Rattle.ml_text.specs.Words.{constant_of, is_word_from}
 use Rattle.ml_text.proofs.TableItems.{one_of}
-use Rattle.ml_text.proofs.WordNames.{word_is_name, cut_is_name, token_size, name_bytes_by}
+use Rattle.ml_text.proofs.WordNames.{token_size, name_bytes_by, word_name, cut_word}
+use Rattle.ml_text.proofs.FirstLetters.{lower_letters}
 use Rattle.ml_ctl.specs.Signs.{Sign, Lower, Unknown, HasShortName, sign_of, byte_sign, word_sign_by}
 use Rattle.ml_ctl.specs.Text.{sign_at}
-use Rattle.ml_ctl.specs.Spelling.{is_proposition, is_word_from, is_reserved}
+use Rattle.ml_ctl.specs.Spelling.{is_proposition, is_reserved}
 use Rattle.ml_ctl.specs.private.SignViews.{named}
 use Rattle.ml_ctl.specs.declared.signs.Kind.{Kind}
 use Rattle.ml_ctl.specs.declared.signs.Kind.TheVariants as kind
@@ -24,23 +24,11 @@ use Rattle.ml_ctl.proofs.Spelled.{IsSpelledSign, spelled_sign}
 
 -- ---- names that are short enough
 
-word_name : (w : List ℕ) → is_word_from is_lower w ≡ true → length w ≤ 64 → is_name w ≡ true
-word_name [] word short = absurd (cc)
-word_name (b ∷ bs) word short =
-    let parts = and_parts (is_lower b) (list_all is_word_byte bs) word in
-    word_is_name b bs (or_left (is_lower b) (is_upper b) parts.0) parts.1 short
-
-cut_word : (w : List ℕ) → is_word_from is_lower w ≡ true → is_name (take 64 w) ≡ true
-cut_word [] word = absurd (cc)
-cut_word (b ∷ bs) word =
-    let parts = and_parts (is_lower b) (list_all is_word_byte bs) word in
-    cut_is_name b bs (or_left (is_lower b) (is_upper b) parts.0) parts.1
-
-lower_word : (w : List ℕ) → is_proposition w ≡ true → is_word_from is_lower w ≡ true
-lower_word w is = (and_parts (is_word_from is_lower w) (not (is_reserved w)) is).0
+proposition_letters : (w : List ℕ) → is_proposition w ≡ true → is_word_from is_letter w ≡ true
+proposition_letters w is = lower_letters w (and_parts (is_word_from is_lower w) (not (is_reserved w)) is).0
 
 short_name_by : (w : List ℕ) (a : Bool) → is_proposition w ≡ a → length w ≤ 64 → HasShortName (cond a (Lower w) Unknown)
-short_name_by w true is short = word_name w (lower_word w is) short
+short_name_by w true is short = word_name w (proposition_letters w is) short
 short_name_by w false is short = tt
 
 short_word : (w : List ℕ) (o : Option Bool) → length w ≤ 64 → HasShortName (word_sign_by o w)
@@ -76,7 +64,7 @@ short_name token.Word bytes n short size =
 -- the first bytes of a name are one
 cut_name : (k : Kind) (w : List ℕ) (s : Sign) → named k w ≡ s → IsSpelledSign s → HasShortName (named k (take 64 w))
 cut_name kind.Lower w s is spelled =
-    cut_word w (lower_word w (subst IsSpelledSign (sym is) spelled))
+    cut_word w (proposition_letters w (subst IsSpelledSign (sym is) spelled))
 cut_name kind.Not w s is spelled = tt
 cut_name (kind.Connective c) w s is spelled = tt
 cut_name (kind.Const b) w s is spelled = tt

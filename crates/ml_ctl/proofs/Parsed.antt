@@ -8,16 +8,16 @@
 --   found_well       == so is what was found
 use Rattle.std.proofs.Common.{◌≡◌, ℕ, List, length, subst, arith}
 use Rattle.ml_base.specs.declared.parse_refusal.ParseRefusal.{ParseRefusal}
-use Rattle.ml_base.specs.declared.parse_refusal.ParseRefusal.TheVariants as refusal
 use Rattle.ml_text.specs.declared.token.WordStart.TheVariants.{LowerCase}
 use Rattle.ml_text.specs.Tokens.{tokens}
-use Rattle.ml_text.specs.Refusals.{Cause, Syntax, TooMany, TooNested, NameTooLong}
+use Rattle.ml_text.specs.Refusals.{Cause, TooMany, ComesFirst}
 use Rattle.ml_text.specs.private.Reading.{Outcome, Found, Refused, text_outcome}
 use Rattle.ml_text.specs.private.Progress.{IsRefusal}
 use Rattle.ml_text.proofs.Exact.{IsOutcome, exact, few_items}
+use Rattle.ml_text.proofs.OneAnswer as answer
 use Rattle.ml_ctl.specs.Formula.{Formula, Logic}
 use Rattle.ml_ctl.specs.Grammar.{IsReadAs}
-use Rattle.ml_ctl.specs.Parsing.{IsParsedAs, IsRefusedBy, ComesFirst, ParsedAreWellFormed}
+use Rattle.ml_ctl.specs.Parsing.{IsParsedAs, IsRefusedBy, ParsedAreWellFormed}
 use Rattle.ml_ctl.specs.Text.{items}
 use Rattle.ml_ctl.specs.WellFormed.{IsWellFormed}
 use Rattle.ml_ctl.specs.private.Tables.{ctl_grammar}
@@ -42,19 +42,13 @@ found_parsed w text f is = subst (IsRight w text) is (comes_of w text)
 
 pub comes_first : (w : Logic) (text : List ℕ) (c : Cause) (at : ℕ)
     → ctl_outcome w text ≡ Refused c at
-    → ComesFirst w text c at
+    → ComesFirst (IsReadAs w) (items text) (length text) c at
 comes_first w text c at is = subst (IsRight w text) is (comes_of w text)
 
 pub refused_first : (w : Logic) (text : List ℕ) (e : ParseRefusal)
     → IsRefusal e (ctl_outcome w text)
     → IsRefusedBy w text e
-refused_first w text (refusal.Syntax at) is = comes_first w text Syntax at is
-refused_first w text (refusal.TooMany at) is = comes_first w text TooMany at is
-refused_first w text (refusal.TooNested at) is = comes_first w text TooNested at is
-refused_first w text (refusal.NameTooLong at) is = comes_first w text NameTooLong at is
-refused_first w text (refusal.Unbound at) is = absurd is
-refused_first w text (refusal.NotPositive at) is = absurd is
-refused_first w text refusal.NoMemory is = tt
+refused_first w text e = answer.refused_first (IsReadAs w) (items text) (length text) (ctl_outcome w text) (comes_first w text) e
 
 pub parsed_well : ParsedAreWellFormed
 parsed_well w text f parsed =

@@ -2,26 +2,22 @@
 --
 --   name_word         == a word that is no constant is a name
 --   proposition_sign  == so is a proposition
-use Rattle.std.proofs.Common.{◌≡◌, ℕ, true, false, not, List, [], ◌∷◌, None, refl, sym, ◌∙◌, ap}
-use Rattle.std.specs.List.{list_all}
+use Rattle.std.proofs.Common.{◌≡◌, ℕ, true, false, not, List, [], None, refl, sym, ◌∙◌, ap}
 use Rattle.std.proofs.lemmas.Bool.{and_from, and_parts, not_from_false, not-true, cond-true}
-use Rattle.std.proofs.lemmas.List.Sums.{list_all-from_AllPass}
-use Rattle.ml_text.specs.Bytes.{is_lower, is_word_byte}
+use Rattle.ml_text.specs.Bytes.{is_lower}
 use Rattle.ml_text.specs.declared.token.WordStart.TheVariants.{LowerCase}
-use Rattle.ml_text.specs.Words.{IsWordOf, constant_of}
+use Rattle.ml_text.specs.Words.{IsWordOf, constant_of, is_word_from}
+use Rattle.ml_text.proofs.FirstLetters.{begins_so}
 use Rattle.ml_text.proofs.ReservedWords as reserved
 use Rattle.ml_ctl.specs.Signs.{Lower, Unknown, word_sign, word_sign_by}
-use Rattle.ml_ctl.specs.Spelling.{is_proposition, is_word_from, is_reserved}
+use Rattle.ml_ctl.specs.Spelling.{is_proposition, is_reserved}
 
 pub free_word : (w : List ℕ) → constant_of w ≡ None → is_reserved w ≡ false
 free_word w is = reserved.free_word w [] is refl
 
 word_proposition : (w : List ℕ) → IsWordOf LowerCase w → is_reserved w ≡ false → is_proposition w ≡ true
-word_proposition [] word free = absurd word
-word_proposition (b ∷ bs) word free =
-    let bytes = list_all-from_AllPass is_word_byte bs word.1 in
-    and_from (is_word_from is_lower (b ∷ bs)) (not (is_reserved (b ∷ bs)))
-    (and_from (is_lower b) (list_all is_word_byte bs) word.0 bytes) (not_from_false (is_reserved (b ∷ bs)) free)
+word_proposition w word free =
+    and_from (is_word_from is_lower w) (not (is_reserved w)) (begins_so LowerCase w word) (not_from_false (is_reserved w) free)
 
 pub proposition_sign : (p : List ℕ) → is_proposition p ≡ true → word_sign p ≡ Lower p
 proposition_sign p is =

@@ -1,21 +1,13 @@
 -- The canonical text of a formula: every binary operator in parentheses, single blanks round it, and one blank behind X, F,
 -- G, E and A.
 --
---   spelling_of op     == `&`, `|`, `->` or `<->`
 --   tense_letter t     == `X`, `F` or `G`, as a byte
 --   pairing_letter p   == `U`, `R` or `W`
 --   quantifier_letter q == `E` or `A`
 --   canonical_text f   == the canonical text of f
 use Rattle.std.specs.Prelude.{ℕ, true, false, List, [], ◌∷◌, ◌++◌, codes}
-use Rattle.ml_text.specs.declared.token.Operator.{Operator}
-use Rattle.ml_text.specs.declared.token.Operator.TheVariants.{Iff, Implies, Or, And}
+use Rattle.ml_text.specs.Operators.{spelling_of}
 use Rattle.ml_ctl.specs.Formula.{Formula, Const, Prop, Not, Binary, Temporal, Paired, Quantified, Tense, Next, Finally, Globally, Pairing, Until, Release, Weak, Quantifier, Exists, Forall}
-
-abbrev pub spelling_of : Operator → List ℕ
-spelling_of And = codes "&"
-spelling_of Or = codes "|"
-spelling_of Implies = codes "->"
-spelling_of Iff = codes "<->"
 
 abbrev pub tense_letter : Tense → ℕ
 tense_letter Next = 88

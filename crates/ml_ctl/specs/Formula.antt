@@ -19,7 +19,7 @@
 --   is_of w f      == is f a formula of the logic w?
 use Rattle.std.specs.Prelude.{ℕ, ◌+◌, Bool, true, false, ◌&&◌, List}
 use Rattle.ml_text.specs.declared.token.Operator.{Operator}
-use Rattle.ml_text.specs.declared.token.Operator.TheVariants.{Iff, Implies, Or, And}
+use Rattle.ml_text.specs.Operators.{weight}
 
 pub data Logic : Type 0 where
   Ctl Ltl : Logic
@@ -41,13 +41,6 @@ pub data Formula : Type 0 where
   Temporal : Tense → Formula → Formula
   Paired : Pairing → Formula → Formula → Formula
   Quantified : Quantifier → Formula → Formula
-
--- as how many symbols a connective counts
-abbrev pub weight : Operator → ℕ
-weight Iff = 3
-weight Implies = 1
-weight Or = 1
-weight And = 1
 
 abbrev pub occurrences : Formula → ℕ
 occurrences (Const b) = 1

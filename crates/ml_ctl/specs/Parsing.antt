@@ -8,8 +8,8 @@
 use Rattle.std.specs.Prelude.{ℕ, ◌≡◌, ◌≢◌, ◌⊎◌, List, length, IsTrue}
 use Rattle.ml_base.specs.declared.parse_refusal.ParseRefusal.{ParseRefusal}
 use Rattle.ml_base.specs.declared.parse_refusal.ParseRefusal.TheVariants as refusal
-use Rattle.ml_text.specs.Refusals as cause
-use Rattle.ml_text.specs.Refusals.{Cause, IsRefused, IsAccepted, offset_of}
+use Rattle.ml_text.specs.Refusals as refused
+use Rattle.ml_text.specs.Refusals.{IsAccepted}
 use Rattle.ml_ctl.specs.Canonical.{canonical_text}
 use Rattle.ml_ctl.specs.Formula.{Formula, Logic, is_of}
 use Rattle.ml_ctl.specs.Grammar.{IsReadAs}
@@ -20,19 +20,8 @@ use Rattle.ml_ctl.specs.WellFormed.{IsWellFormed}
 abbrev pub IsParsedAs : Logic → List ℕ → Formula → Type 0
 IsParsedAs w text f = IsAccepted (IsReadAs w) (items text) f
 
--- this cause is the first, and comes at this byte
-abbrev pub ComesFirst : Logic → List ℕ → Cause → ℕ → Type 0
-ComesFirst w text c at = (k : ℕ) × IsRefused (IsReadAs w) (items text) c k × (at ≡ offset_of (items text) (length text) k)
-
 abbrev pub IsRefusedBy : Logic → List ℕ → ParseRefusal → Type 0
-IsRefusedBy w text (refusal.Syntax at) = ComesFirst w text cause.Syntax at
-IsRefusedBy w text (refusal.Unbound at) = ⊥
-IsRefusedBy w text (refusal.NotPositive at) = ⊥
-IsRefusedBy w text (refusal.TooMany at) = ComesFirst w text cause.TooMany at
-IsRefusedBy w text (refusal.TooNested at) = ComesFirst w text cause.TooNested at
-IsRefusedBy w text (refusal.NameTooLong at) = ComesFirst w text cause.NameTooLong at
--- want of memory is the one answer that says nothing of the text
-IsRefusedBy w text refusal.NoMemory = Unit {0}
+IsRefusedBy w text e = refused.IsRefusedBy (IsReadAs w) (items text) (length text) e
 
 -- ---- laws
 

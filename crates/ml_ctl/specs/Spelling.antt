@@ -7,10 +7,11 @@
 --   is_proposition name  == a word that isn't reserved
 --   is_spelled f         == are all names in f propositions?
 --   HasShortNames f      == no name in f has more bytes than a name may have
-use Rattle.std.specs.Prelude.{ℕ, ◌≤◌, Bool, true, false, ◌&&◌, not, List, [], ◌∷◌, length, codes, bytes_eq}
-use Rattle.std.specs.List.{list_any, list_all}
+use Rattle.std.specs.Prelude.{ℕ, ◌≤◌, Bool, true, ◌&&◌, not, List, [], ◌∷◌, length, codes, bytes_eq}
+use Rattle.std.specs.List.{list_any}
 use Rattle.ml_base.specs.Name.{longest_name}
-use Rattle.ml_text.specs.Bytes.{is_lower, is_word_byte}
+use Rattle.ml_text.specs.Bytes.{is_lower}
+use Rattle.ml_text.specs.Words.{is_word_from}
 use Rattle.ml_ctl.specs.Formula.{Formula, Const, Prop, Not, Binary, Temporal, Paired, Quantified}
 
 abbrev pub reserved : List (List ℕ)
@@ -18,10 +19,6 @@ reserved = codes "tt" ∷ codes "true" ∷ codes "ff" ∷ codes "false" ∷ []
 
 abbrev pub is_reserved : List ℕ → Bool
 is_reserved name = list_any (bytes_eq name) reserved
-
-abbrev pub is_word_from : (ℕ → Bool) → List ℕ → Bool
-is_word_from begins [] = false
-is_word_from begins (b ∷ rest) = begins b && list_all is_word_byte rest
 
 abbrev pub is_proposition : List ℕ → Bool
 is_proposition name = is_word_from is_lower name && not (is_reserved name)

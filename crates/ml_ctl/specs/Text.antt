@@ -14,7 +14,8 @@ use Rattle.ml_text.specs.Items.{SignTable, bytes_of}
 use Rattle.ml_text.specs.Refusals.{Item, signs_of}
 use Rattle.ml_text.specs.declared.limits.Bracket.{Bracket}
 use Rattle.ml_text.specs.declared.limits.Bracket.TheVariants.{Opening, Closing, Neither}
-use Rattle.ml_ctl.specs.Formula.{Formula, Logic, weight}
+use Rattle.ml_text.specs.Operators.{weight}
+use Rattle.ml_ctl.specs.Formula.{Formula, Logic}
 use Rattle.ml_ctl.specs.Signs.{Sign, Connective, Open, Close, Unknown, sign_of}
 use Rattle.ml_ctl.specs.Grammar.{IsReadAs}
 

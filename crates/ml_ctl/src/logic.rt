@@ -11,7 +11,7 @@ use crate::Term;
 use crate::forms::{Hold, Language, Sort, Wait, join, resume, shift};
 use crate::signs::{Kind, Sign, bracket, kind_of, sign_of, weight};
 use ml_base::NoMemory;
-use ml_text::{Bracket, Logic, Mode, Operator, Placed, Role, Turn, WordStart};
+use ml_text::{Bracket, Logic, Mode, Placed, Role, Turn, WordStart, operator_level};
 use std::alloc::Global;
 
 /// One of the two logics.
@@ -56,17 +56,6 @@ fn whole_sort(language: Language) -> Sort
     match language {
         Language::Ctl => Sort::State,
         Language::Ltl => Sort::Path,
-    }
-}
-
-fn operator_level(operator: Operator) -> u8
-    ensures { result ≡ tables.operator_level operator }
-{
-    match operator {
-        Operator::Iff => 0,
-        Operator::Implies => 1,
-        Operator::Or => 2,
-        Operator::And => 3,
     }
 }
 

@@ -21,8 +21,9 @@ use Rattle.ml_text.specs.declared.token.Operator.{Operator}
 use Rattle.ml_text.specs.declared.token.Operator.TheVariants as operator
 use Rattle.ml_ctl.specs.Formula as plain
 use Rattle.ml_ctl.specs.Formula.{Formula, occurrences}
-use Rattle.ml_ctl.specs.Spelling.{HasShortNames, is_reserved, is_spelled, is_word_from}
+use Rattle.ml_ctl.specs.Spelling.{HasShortNames, is_reserved, is_spelled}
 use Rattle.ml_text.specs.Bytes.{is_lower, is_upper}
+use Rattle.ml_text.specs.Words.{is_word_from}
 use Rattle.ml_blocks.specs.BlockGraph.{HasForm, IsGraphAt, IsNumberedBy, IsReached, at_root, behind, children}
 use Rattle.ml_blocks.specs.Items.{Item, Row, OfState, Waits, Becomes, Either, now, put_off, row, row_at, row_of_connective, row_of_pairing, row_of_tense, unless_put_off, until_released, left_number, behind_next, operand_of}
 use Rattle.ml_blocks.specs.ItemSets.{due, eventualities, next_items, next_of, put_all, without}

@@ -9,11 +9,13 @@ use Rattle.ml_graph.specs.Graph.{Graph}
 use Rattle.ml_text.specs.Bytes.{is_lower, is_upper}
 use Rattle.ml_text.specs.declared.token.Operator.{Operator}
 use Rattle.ml_text.specs.declared.token.Operator.TheVariants as operator
+use Rattle.ml_text.specs.Words.{is_word_from}
+use Rattle.ml_text.specs.private.NameLists.{with_name}
 use Rattle.ml_mu.specs.Formula.{Formula, Const, Prop, Var, Not, Binary, Modal, Binder, Fixpoint, Least, Greatest, occurrences}
-use Rattle.ml_mu.specs.Spelling.{HasShortNames, is_action, is_proposition, is_reserved, is_spelled, is_variable, is_word_from}
+use Rattle.ml_mu.specs.Spelling.{HasShortNames, is_action, is_proposition, is_reserved, is_spelled, is_variable}
 use Rattle.ml_mu.specs.WellFormed.{IsWellFormed}
 use Rattle.ml_mu_graph.specs.MuGraph.{IsGraphOf, binder_priority, binders, opposite}
-use Rattle.ml_mu_graph.specs.private.NodeList.{actions_onto, nodes_of, operator_priorities, priorities_of, props_onto, with_name}
+use Rattle.ml_mu_graph.specs.private.NodeList.{actions_onto, nodes_of, operator_priorities, priorities_of, props_onto}
 use Rattle.ml_mu_graph.specs.private.Views.{none_around}
 use Rattle.ml_mu_graph.proofs.InRange.{lists_make_graph}
 use Rattle.ml_mu_graph.proofs.Made.{graph_made}

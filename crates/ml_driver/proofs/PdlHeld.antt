@@ -9,8 +9,9 @@ use Rattle.ml_graph.specs.Graph.{Graph}
 use Rattle.ml_text.specs.Bytes.{is_lower, is_upper}
 use Rattle.ml_text.specs.declared.token.Operator.{Operator}
 use Rattle.ml_text.specs.declared.token.Operator.TheVariants as operator
+use Rattle.ml_text.specs.Words.{is_word_from}
 use Rattle.ml_pdl.specs.Formula.{Formula, Const, Prop, Not, Binary, Modal, Repeat, Program, Act, Seq, Alt, Star, Test}
-use Rattle.ml_pdl.specs.Spelling.{HasShortNames, ProgramHasShortNames, is_action, is_proposition, is_reserved, is_spelled, is_word_from, program_is_spelled}
+use Rattle.ml_pdl.specs.Spelling.{HasShortNames, ProgramHasShortNames, is_action, is_proposition, is_reserved, is_spelled, program_is_spelled}
 use Rattle.ml_pdl.specs.WellFormed.{IsWellFormed}
 use Rattle.ml_pdl_graph.specs.PdlGraph.{IsGraphOf, plain}
 use Rattle.ml_pdl_graph.specs.private.NodeList.{actions_onto, nodes_of, operator_priorities, priorities_of, program_actions_onto, program_priorities, program_props_onto, props_onto}

@@ -4,14 +4,16 @@
 use Rattle.std.proofs.Common.{◌≡◌, ℕ, true, false, not, List, [], ◌∷◌, codes, refl}
 use Rattle.std.specs.List.{list_all}
 use Rattle.std.proofs.lemmas.Bool.{and_parts, or_left}
-use Rattle.ml_ctl.specs.Canonical.{between, canonical_text, pairing_letter, quantifier_letter, spelling_of, tense_letter}
+use Rattle.ml_ctl.specs.Canonical.{between, canonical_text, pairing_letter, quantifier_letter, tense_letter}
 use Rattle.ml_ctl.specs.Formula as plain
 use Rattle.ml_ctl.specs.Formula.{Formula, Pairing, Quantifier, Tense, Until, Release, Weak, Exists, Forall, Next, Finally, Globally}
-use Rattle.ml_ctl.specs.Spelling.{is_reserved, is_spelled, is_word_from}
+use Rattle.ml_ctl.specs.Spelling.{is_reserved, is_spelled}
 use Rattle.ml_lines.proofs.LineFronts.{IsInLine}
 use Rattle.ml_text.specs.Bytes.{is_lower, is_upper, is_word_byte}
 use Rattle.ml_text.specs.declared.token.Operator.{Operator}
 use Rattle.ml_text.specs.declared.token.Operator.TheVariants as operator
+use Rattle.ml_text.specs.Operators.{spelling_of}
+use Rattle.ml_text.specs.Words.{is_word_from}
 use Rattle.ml_front.proofs.WordLines.{both_in_line, letters_in_line, seven_in_line}
 
 name_in_line : (p : List ℕ) → is_word_from is_lower p ≡ true → IsInLine p

@@ -9,11 +9,13 @@ use Rattle.ml_lines.proofs.LineFronts.{IsInLine}
 use Rattle.ml_text.specs.Bytes.{is_lower, is_letter, is_word_byte}
 use Rattle.ml_text.specs.declared.token.Operator.{Operator}
 use Rattle.ml_text.specs.declared.token.Operator.TheVariants as operator
-use Rattle.ml_pdl.specs.Canonical.{canonical_text, modality_text, program_text, spelling_of, whole_program}
+use Rattle.ml_text.specs.Operators.{spelling_of}
+use Rattle.ml_text.specs.Words.{is_word_from}
+use Rattle.ml_text.proofs.FirstLetters.{lower_letters}
+use Rattle.ml_pdl.specs.Canonical.{canonical_text, modality_text, program_text, whole_program}
 use Rattle.ml_pdl.specs.Formula as plain
 use Rattle.ml_pdl.specs.Formula.{Formula, Program, Modality, Act, Seq, Alt, Star, Test, Diamond, Square}
-use Rattle.ml_pdl.specs.Spelling.{is_action, is_reserved, is_spelled, is_word_from, program_is_spelled}
-use Rattle.ml_pdl.proofs.Spelled.{letters}
+use Rattle.ml_pdl.specs.Spelling.{is_action, is_reserved, is_spelled, program_is_spelled}
 use Rattle.ml_front.proofs.WordLines as words
 use Rattle.ml_front.proofs.WordLines.{both_in_line, three_in_line, five_in_line, seven_in_line}
 
@@ -65,7 +67,7 @@ mutual
   canonical_in_line (plain.Const true) is = refl
   canonical_in_line (plain.Const false) is = refl
   canonical_in_line (plain.Prop p) is =
-      letters_in_line p (letters p (and_parts (is_word_from is_lower p) (not (is_reserved p)) is).0)
+      letters_in_line p (lower_letters p (and_parts (is_word_from is_lower p) (not (is_reserved p)) is).0)
   canonical_in_line (plain.Not f) is = canonical_in_line f is
   canonical_in_line (plain.Binary o f g) is =
       let parts = and_parts (is_spelled f) (is_spelled g) is in

@@ -196,7 +196,7 @@ scans_loop k =
     let inside = scans_acts k (codes ")") (lone 41 ∷ []) refl close in
     let rest = codes "a" ++ more_text k (codes ")") in
     let toks = program_onto act (more_tokens k (lone 41 ∷ [])) in
-    word_piece AnyLetter 114 (codes "epeat") (40 ∷ rest) (lone 40 ∷ toks) refl refl refl
+    word_piece AnyLetter (codes "repeat") (40 ∷ rest) (lone 40 ∷ toks) refl refl
     (lone_piece AnyLetter 40 rest toks refl inside)
 
 repeat_sign : word_sign (codes "repeat") ≡ Repeats

@@ -2,29 +2,21 @@
 --
 --   tokens_short  == the tokens of the canonical text of a formula with short names are short
 --   few_open      == it opens at most as many parentheses as its formula has occurrences
-use Rattle.std.proofs.Common.{◌≡◌, ℕ, zero, suc, ◌+◌, ◌≤◌, Bool, true, false, ◌&&◌, nat_lt, List, [], ◌∷◌, length, map, take, Option, Some, None, cond, codes, bytes_eq, refl, sym, ap, ◌∙◌, arith, ltb-true}
+use Rattle.std.proofs.Common.{◌≡◌, ℕ, ◌+◌, ◌≤◌, Bool, true, false, List, ◌∷◌, length, Option, Some, None, cond, codes, bytes_eq, refl, arith}
 use Rattle.std.specs.List.{AllByRecursion}
-use Rattle.ml_text.specs.declared.token.Operator.{Operator}
-use Rattle.ml_text.specs.declared.token.Operator.TheVariants as operator
 use Rattle.ml_text.specs.declared.token.Token.TheVariants as token
-use Rattle.ml_text.specs.declared.token.WordStart.TheVariants.{AnyLetter}
-use Rattle.ml_text.specs.declared.token.Placed.{Placed}
 use Rattle.ml_text.specs.Words.{constant_of}
-use Rattle.ml_text.specs.Spelling.{AreTokens}
-use Rattle.ml_text.specs.Refusals.{Item, open_from, open_behind_one, is_long_at}
-use Rattle.ml_text.specs.declared.limits.Bracket.{Bracket}
-use Rattle.ml_text.specs.declared.limits.Bracket.TheVariants.{Opening, Closing, Neither}
-use Rattle.ml_base.specs.Name.{longest_name}
-use Rattle.ml_text.specs.Items.{is_word}
+use Rattle.ml_text.specs.Operators.{spelling_of}
 use Rattle.ml_text.proofs.Pieces.{lone}
 use Rattle.ml_text.proofs.TableItems.{IsShort, short_word, opening, opens_spelt, one_of}
-use Rattle.ml_text.proofs.Scans.{Spelt, spelt_at}
+use Rattle.ml_text.proofs.Scans.{Spelt}
+use Rattle.ml_text.proofs.AcceptedTexts.{weight_some}
 use Rattle.ml_mu.specs.Formula as plain
-use Rattle.ml_mu.specs.Formula.{Formula, Modality, Diamond, Square, Fixpoint, Least, Greatest, occurrences, weight}
-use Rattle.ml_mu.specs.Canonical.{spelling_of, fixpoint_word}
+use Rattle.ml_mu.specs.Formula.{Formula, Modality, Diamond, Square, Fixpoint, Least, Greatest, occurrences}
+use Rattle.ml_mu.specs.Canonical.{fixpoint_word}
 use Rattle.ml_mu.specs.Spelling.{is_proposition, is_variable}
 use Rattle.ml_mu.specs.Signs.{Sign, Lower, Upper, Unknown, word_sign, word_sign_by}
-use Rattle.ml_mu.specs.Text.{bracket_of, items_from, sign_at, silences}
+use Rattle.ml_mu.specs.Text.{bracket_of}
 use Rattle.ml_mu.proofs.CanonicalTexts.{action_tokens, begin_byte, end_byte, tokens_onto, sign_spelt}
 use Rattle.ml_mu.specs.Spelling.{HasShortNames}
 
@@ -86,12 +78,6 @@ closed_action a ss = go (bytes_eq a (codes "_"))
     go : (b : Bool) → opens_of (cond b ss ((token.Word, a) ∷ ss)) ≡ opens_of ss
     go true = refl
     go false = omega (arith, closed_word a)
-
-weight_some : (o : Operator) → 1 ≤ weight o
-weight_some operator.Iff = omega arith
-weight_some operator.Implies = omega arith
-weight_some operator.Or = omega arith
-weight_some operator.And = omega arith
 
 pub few_open : (f : Formula) (ss : List Spelt) → opens_of (tokens_onto f ss) ≤ occurrences f + opens_of ss
 few_open (plain.Const true) ss = omega (arith, closed_word (codes "tt"))

@@ -9,11 +9,13 @@ use Rattle.ml_lines.specs.Reading.{is_line_end}
 use Rattle.ml_text.specs.Bytes.{is_lower, is_letter, is_digit, is_word_byte}
 use Rattle.ml_text.specs.declared.token.Operator.{Operator}
 use Rattle.ml_text.specs.declared.token.Operator.TheVariants as operator
+use Rattle.ml_text.specs.Operators.{spelling_of}
+use Rattle.ml_text.specs.Words.{is_word_from}
+use Rattle.ml_text.proofs.FirstLetters.{lower_letters, upper_letters}
 use Rattle.ml_mu.specs.Formula as plain
-use Rattle.ml_mu.specs.Formula.{Formula, Modality, Diamond, Square, Fixpoint, Least, Greatest, occurrences, weight}
-use Rattle.ml_mu.specs.Canonical.{canonical_text, spelling_of, action_text, modality_text, fixpoint_word}
-use Rattle.ml_mu.specs.Spelling.{is_variable, is_action, is_spelled, is_word_from, is_reserved}
-use Rattle.ml_mu.proofs.Spelled.{letters, upper_letters}
+use Rattle.ml_mu.specs.Formula.{Formula, Modality, Diamond, Square, Fixpoint, Least, Greatest}
+use Rattle.ml_mu.specs.Canonical.{canonical_text, action_text, modality_text, fixpoint_word}
+use Rattle.ml_mu.specs.Spelling.{is_variable, is_action, is_spelled, is_reserved}
 
 abbrev IsInLine : List ℕ → Type 0
 IsInLine bytes = list_any is_line_end bytes ≡ false
@@ -80,7 +82,7 @@ fixpoint_in_line Greatest = refl
 pub canonical_in_line : (f : Formula) → is_spelled f ≡ true → IsInLine (canonical_text f)
 canonical_in_line (plain.Const true) is = refl
 canonical_in_line (plain.Const false) is = refl
-canonical_in_line (plain.Prop p) is = word_in_line p (letters p (and_parts (is_word_from is_lower p) (not (is_reserved p)) is).0)
+canonical_in_line (plain.Prop p) is = word_in_line p (lower_letters p (and_parts (is_word_from is_lower p) (not (is_reserved p)) is).0)
 canonical_in_line (plain.Var x) is = word_in_line x (upper_letters x is)
 canonical_in_line (plain.Not f) is = canonical_in_line f is
 canonical_in_line (plain.Binary o f g) is =

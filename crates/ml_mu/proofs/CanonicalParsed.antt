@@ -2,10 +2,10 @@
 --
 --   canonical_accepted == the text keeps all limits
 --   canonical_parsed  == that of a well-formed formula is parsed as it
-use Rattle.std.proofs.Common.{◌≡◌, false, [], refl, arith}
+use Rattle.std.proofs.Common.{false, [], refl, arith}
 use Rattle.ml_text.specs.declared.token.WordStart.TheVariants.{AnyLetter}
 use Rattle.ml_text.specs.Tokens.{tokens}
-use Rattle.ml_text.specs.Refusals.{signs_of, IsAccepted}
+use Rattle.ml_text.specs.Refusals.{IsAccepted}
 use Rattle.ml_text.proofs.AcceptedTexts.{accepted}
 use Rattle.ml_mu.specs.Formula.{Formula}
 use Rattle.ml_mu.specs.Canonical.{canonical_text}

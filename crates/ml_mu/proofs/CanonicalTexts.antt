@@ -5,7 +5,7 @@
 --   reads_formula        == their signs are read as f
 --   canonical_tokens     == these are the tokens of the text alone
 --   canonical_stands     == so the text stands for f
-use Rattle.std.proofs.Common.{◌≡◌, ℕ, Bool, true, false, not, List, [], ◌∷◌, ◌++◌, map, refl, sym, ◌∙◌, ap, subst, if◌then◌else◌, cond, codes, append_assoc, bytes_eq, ⊎_elim}
+use Rattle.std.proofs.Common.{◌≡◌, ℕ, true, false, not, List, [], ◌∷◌, ◌++◌, map, refl, sym, ◌∙◌, ap, subst, if◌then◌else◌, cond, codes, append_assoc, bytes_eq, ⊎_elim}
 use Rattle.std.specs.List.{list_all}
 use Rattle.std.proofs.lemmas.Bool.{and_parts, cases_Bool}
 use Rattle.std.proofs.lemmas.List.{append-nil}
@@ -14,24 +14,23 @@ use Rattle.ml_text.specs.declared.token.Operator.{Operator}
 use Rattle.ml_text.specs.declared.token.Operator.TheVariants as operator
 use Rattle.ml_text.specs.declared.token.Token.TheVariants as token
 use Rattle.ml_text.specs.declared.token.WordStart.TheVariants.{AnyLetter}
-use Rattle.ml_text.specs.declared.token.Placed.{Placed}
 use Rattle.ml_text.specs.Tokens.{tokens}
-use Rattle.ml_text.specs.Words.{constant_of}
+use Rattle.ml_text.specs.Words.{constant_of, is_word_from}
 use Rattle.ml_text.specs.Refusals.{signs_of}
+use Rattle.ml_text.specs.Operators.{spelling_of}
 use Rattle.ml_text.proofs.ByteKinds.{differs_by}
-use Rattle.ml_text.proofs.Pieces as pieces
-use Rattle.ml_text.proofs.Pieces.{lone, lone_piece, less_piece, not_piece, and_piece, or_piece, implies_piece, iff_piece, ends_word}
+use Rattle.ml_text.proofs.Pieces.{lone, lone_piece, less_piece, not_piece, operator_piece, between_same, ends_word, word_piece}
 use Rattle.ml_text.proofs.Scans.{Spelt, spelt_at, Scans, ends, blank, scans_tokens}
 use Rattle.ml_text.proofs.TableItems.{signs_spelt}
+use Rattle.ml_text.proofs.FirstLetters.{lower_letters, upper_letters}
 use Rattle.ml_mu.specs.Formula as plain
 use Rattle.ml_mu.specs.Formula.{Formula, Modality, Diamond, Square, Fixpoint, Least, Greatest}
-use Rattle.ml_mu.specs.Canonical.{spelling_of, action_text, modality_text, fixpoint_word, canonical_text}
+use Rattle.ml_mu.specs.Canonical.{action_text, modality_text, fixpoint_word, canonical_text}
 use Rattle.ml_mu.specs.Signs.{Sign, Connective, Const, Open, Close, Begins, Ends, Binds, Dot, sign_of, word_sign}
-use Rattle.ml_mu.specs.Spelling.{is_variable, is_action, is_spelled, is_word_from, is_reserved}
+use Rattle.ml_mu.specs.Spelling.{is_variable, is_action, is_spelled, is_reserved}
 use Rattle.ml_mu.specs.Grammar as grammar
-use Rattle.ml_mu.specs.Grammar.{Reads, iff_alone, iff, imp_alone, imp, or_alone, or, and_alone, and, negation, modal, modal_blank, binder, group, constant, proposition, variable}
+use Rattle.ml_mu.specs.Grammar.{Reads, iff_alone, iff, imp_alone, imp, or_alone, or, and, negation, modal, modal_blank, binder, group, constant, proposition, variable}
 use Rattle.ml_mu.proofs.GrammarTables.{un_raised}
-use Rattle.ml_mu.proofs.Spelled.{letters, upper_letters}
 use Rattle.ml_mu.specs.Text.{mu_signs, items, IsTextOf}
 use Rattle.ml_mu.proofs.WordSigns.{proposition_sign, variable_sign, action_sign, ActionSign}
 
@@ -57,23 +56,6 @@ tokens_onto (plain.Not f) ss = (token.Not, codes "!") ∷ tokens_onto f ss
 tokens_onto (plain.Binary o f g) ss = lone 40 ∷ tokens_onto f ((token.Operator o, spelling_of o) ∷ tokens_onto g (lone 41 ∷ ss))
 tokens_onto (plain.Modal m a f) ss = lone (begin_byte m) ∷ action_tokens a (lone (end_byte m) ∷ tokens_onto f ss)
 tokens_onto (plain.Binder q x f) ss = lone 40 ∷ (token.Word, fixpoint_word q) ∷ (token.Word, x) ∷ lone 46 ∷ tokens_onto f (lone 41 ∷ ss)
-
--- ` op ` in front of a text
-operator_piece : (o : Operator) (rest : List ℕ) (ss : List Spelt) → Scans AnyLetter rest ss → Scans AnyLetter (codes " " ++ (spelling_of o ++ (codes " " ++ rest))) ((token.Operator o, spelling_of o) ∷ ss)
-operator_piece operator.And = and_piece AnyLetter
-operator_piece operator.Or = or_piece AnyLetter
-operator_piece operator.Implies = implies_piece AnyLetter
-operator_piece operator.Iff = iff_piece AnyLetter
-
-word_piece : (w rest : List ℕ) (ss : List Spelt)
-    → is_word_from is_letter w ≡ true
-    → ends_word rest ≡ true
-    → Scans AnyLetter rest ss
-    → Scans AnyLetter (w ++ rest) ((token.Word, w) ∷ ss)
-word_piece [] rest ss word stops r = absurd (cc)
-word_piece (b ∷ bs) rest ss word stops r =
-    let parts = and_parts (is_letter b) (list_all is_word_byte bs) word in
-    pieces.word_piece AnyLetter b bs rest ss parts.0 parts.1 stops r
 
 end_piece : (m : Modality) (rest : List ℕ) (ss : List Spelt)
     → Scans AnyLetter rest ss
@@ -114,33 +96,30 @@ modal_piece m a rest ss is r =
     (λ (other : bytes_eq a (codes "_") ≡ false).
     let s : ActionSign a = action_sign a is other in
     subst (λ c. Scans AnyLetter (begin_byte m ∷ (cond c [] a ++ (end_byte m ∷ rest))) (lone (begin_byte m) ∷ cond c (lone (end_byte m) ∷ ss) ((token.Word, a) ∷ lone (end_byte m) ∷ ss))) (sym other)
-    (begin_word m a (end_byte m ∷ rest) ((token.Word, a) ∷ lone (end_byte m) ∷ ss) s.word (word_piece a (end_byte m ∷ rest) (lone (end_byte m) ∷ ss) s.word (end_stops m rest) (end_piece m rest ss r))))
+    (begin_word m a (end_byte m ∷ rest) ((token.Word, a) ∷ lone (end_byte m) ∷ ss) s.word (word_piece AnyLetter a (end_byte m ∷ rest) (lone (end_byte m) ∷ ss) s.word (end_stops m rest) (end_piece m rest ss r))))
     (cases_Bool (bytes_eq a (codes "_")))
 
 fixpoint_letters : (q : Fixpoint) → is_word_from is_letter (fixpoint_word q) ≡ true
 fixpoint_letters Least = refl
 fixpoint_letters Greatest = refl
 
-binary_same : (a sp b rest : List ℕ) → (codes "(" ++ a ++ codes " " ++ sp ++ codes " " ++ b ++ codes ")") ++ rest ≡ 40 ∷ (a ++ (codes " " ++ (sp ++ (codes " " ++ (b ++ (41 ∷ rest))))))
-binary_same a sp b rest = simp append_assoc
-
 binder_same : (w x b rest : List ℕ) → (codes "(" ++ w ++ codes " " ++ x ++ codes ". " ++ b ++ codes ")") ++ rest ≡ 40 ∷ (w ++ (32 ∷ (x ++ (46 ∷ 32 ∷ (b ++ (41 ∷ rest))))))
 binder_same w x b rest = simp append_assoc
 
 pub scans_formula : (f : Formula) → is_spelled f ≡ true → (rest : List ℕ) (ss : List Spelt) → ends_word rest ≡ true → Scans AnyLetter rest ss → Scans AnyLetter (canonical_text f ++ rest) (tokens_onto f ss)
-scans_formula (plain.Const true) is rest ss stops r = word_piece (codes "tt") rest ss refl stops r
-scans_formula (plain.Const false) is rest ss stops r = word_piece (codes "ff") rest ss refl stops r
-scans_formula (plain.Prop p) is rest ss stops r = word_piece p rest ss (letters p (and_parts (is_word_from is_lower p) (not (is_reserved p)) is).0) stops r
-scans_formula (plain.Var x) is rest ss stops r = word_piece x rest ss (upper_letters x is) stops r
+scans_formula (plain.Const true) is rest ss stops r = word_piece AnyLetter (codes "tt") rest ss refl stops r
+scans_formula (plain.Const false) is rest ss stops r = word_piece AnyLetter (codes "ff") rest ss refl stops r
+scans_formula (plain.Prop p) is rest ss stops r = word_piece AnyLetter p rest ss (lower_letters p (and_parts (is_word_from is_lower p) (not (is_reserved p)) is).0) stops r
+scans_formula (plain.Var x) is rest ss stops r = word_piece AnyLetter x rest ss (upper_letters x is) stops r
 scans_formula (plain.Not f) is rest ss stops r =
     not_piece AnyLetter (canonical_text f ++ rest) (tokens_onto f ss) (scans_formula f is rest ss stops r)
 scans_formula (plain.Binary o f g) is rest ss stops r =
     let parts = and_parts (is_spelled f) (is_spelled g) is in
     let right = scans_formula g parts.1 (41 ∷ rest) (lone 41 ∷ ss) refl (lone_piece AnyLetter 41 rest ss refl r) in
-    let sign = operator_piece o (canonical_text g ++ (41 ∷ rest)) (tokens_onto g (lone 41 ∷ ss)) right in
+    let sign = operator_piece AnyLetter o (canonical_text g ++ (41 ∷ rest)) (tokens_onto g (lone 41 ∷ ss)) right in
     let after = codes " " ++ (spelling_of o ++ (codes " " ++ (canonical_text g ++ (41 ∷ rest)))) in
     let left = scans_formula f parts.0 after ((token.Operator o, spelling_of o) ∷ tokens_onto g (lone 41 ∷ ss)) refl sign in
-    subst (λ text. Scans AnyLetter text (tokens_onto (plain.Binary o f g) ss)) (sym (binary_same (canonical_text f) (spelling_of o) (canonical_text g) rest))
+    subst (λ text. Scans AnyLetter text (tokens_onto (plain.Binary o f g) ss)) (sym (between_same (canonical_text f) (spelling_of o) (canonical_text g) rest))
     (lone_piece AnyLetter 40 (canonical_text f ++ after)
     (tokens_onto f ((token.Operator o, spelling_of o) ∷ tokens_onto g (lone 41 ∷ ss))) refl left)
 scans_formula (plain.Modal m a f) is rest ss stops r =
@@ -154,8 +133,8 @@ scans_formula (plain.Binder q x f) is rest ss stops r =
     let text = canonical_text f ++ (41 ∷ rest) in
     let toks = tokens_onto f (lone 41 ∷ ss) in
     let dot = lone_piece AnyLetter 46 (32 ∷ text) toks refl (blank 32 refl body) in
-    let name = word_piece x (46 ∷ 32 ∷ text) (lone 46 ∷ toks) (upper_letters x parts.0) refl dot in
-    let word = word_piece (fixpoint_word q) (32 ∷ (x ++ (46 ∷ 32 ∷ text))) ((token.Word, x) ∷ lone 46 ∷ toks) (fixpoint_letters q) refl (blank 32 refl name) in
+    let name = word_piece AnyLetter x (46 ∷ 32 ∷ text) (lone 46 ∷ toks) (upper_letters x parts.0) refl dot in
+    let word = word_piece AnyLetter (fixpoint_word q) (32 ∷ (x ++ (46 ∷ 32 ∷ text))) ((token.Word, x) ∷ lone 46 ∷ toks) (fixpoint_letters q) refl (blank 32 refl name) in
     subst (λ text. Scans AnyLetter text (tokens_onto (plain.Binder q x f) ss)) (sym (binder_same (fixpoint_word q) x (canonical_text f) rest))
     (lone_piece AnyLetter 40 (fixpoint_word q ++ (32 ∷ (x ++ (46 ∷ 32 ∷ text))))
     ((token.Word, fixpoint_word q) ∷ (token.Word, x) ∷ lone 46 ∷ toks) refl word)

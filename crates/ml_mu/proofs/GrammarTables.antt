@@ -8,13 +8,14 @@ use Rattle.ml_text.specs.declared.token.Operator.TheVariants as operator
 use Rattle.ml_text.specs.Grammar as tables
 use Rattle.ml_text.specs.Grammar.{Whole, More, Read, Inner, Opens, Part, Level, Operand, Rest, Behind, alone, joined, postfixed, form, whole, sign, read, inner, opens, left_level, right_level, takes, front}
 use Rattle.ml_text.specs.declared.forms.Role.TheVariants.{Infix}
+use Rattle.ml_text.specs.Operators.{operator_level}
 use Rattle.ml_text.proofs.Levels.{loosen}
 use Rattle.ml_mu.specs.Formula as plain
-use Rattle.ml_mu.specs.Formula.{Formula, Modality, Diamond, Square, Fixpoint}
+use Rattle.ml_mu.specs.Formula.{Formula, Modality, Diamond, Square}
 use Rattle.ml_mu.specs.Signs.{Sign, Not, Connective, Const, Open, Close, Begins, Ends, Binds, Dot, Blank, Lower, Upper, action_of}
 use Rattle.ml_mu.specs.Grammar as grammar
 use Rattle.ml_mu.specs.Grammar.{Reads, iff_alone, iff, imp_alone, imp, or_alone, or, and_alone, and, negation, modal, modal_blank, binder, group, constant, proposition, variable, begins_operator}
-use Rattle.ml_mu.specs.private.Tables.{Wait, BehindBegin, BehindAction, BehindFixpoint, BehindVariable, BehindInside, Hold, Negation, Modal, Binder, Group, MuTurn, shift, resume, role, operator_level, mu_grammar}
+use Rattle.ml_mu.specs.private.Tables.{Wait, BehindBegin, BehindAction, BehindFixpoint, BehindVariable, BehindInside, Hold, Negation, Modal, Binder, Group, MuTurn, shift, resume, role, mu_grammar}
 
 -- what the tables read
 abbrev pub Tabled : Part mu_grammar → List Sign → Formula → List Sign → Type 0

@@ -6,50 +6,42 @@
 --   short_name      == a token that is no longer than a name has a short name, if it has one
 --   cut_name        == so has a longer one, where its name is cut
 --   can_name        == so a sign can be made of each token
-use Rattle.std.proofs.Common.{◌≡◌, ℕ, zero, suc, ◌≤◌, Bool, true, false, List, [], ◌∷◌, length, Option, Some, None, refl, sym, ◌∙◌, ap, subst, ⊎_elim, arith, codes, bytes_eq, ◌&&◌, ◌||◌, ◌==◌, le-leb, nat_le, nat_lt, not, cond, ltb-true, ltb-false, ◌-◌, take, drop, slice_index, length-take, length-drop}
-use Rattle.std.specs.List.{list_all}
-use Rattle.std.specs.Char.{is_ascii_alphabetic}
-use Rattle.std.proofs.Math.Path.{fun_ext}
-use Rattle.std.proofs.lemmas.Bool.{cases_Bool, and_parts, and_from, or_from, not_from_false, cond-true, cond-false}
-use Rattle.std.proofs.lemmas.List.{take-take}
-use Rattle.std.proofs.lemmas.List.Sums.{list_all-from_AllPass}
-use Rattle.ml_base.specs.Name.{is_name, is_name_byte, longest_name}
-use Rattle.ml_text.specs.Bytes.{is_lower, is_upper, is_letter, is_word_byte}
+use Rattle.std.proofs.Common.{◌≡◌, ℕ, ◌≤◌, Bool, true, false, List, [], ◌∷◌, length, Option, Some, None, refl, sym, ap, subst, arith, codes, bytes_eq, ◌&&◌, ◌==◌, nat_lt, not, cond, ltb-false, ◌-◌, take, slice_index}
+use Rattle.std.proofs.lemmas.Bool.{and_parts, and_from, or_from, not_from_false, cond-true}
+use Rattle.ml_base.specs.Name.{longest_name}
+use Rattle.ml_text.specs.Bytes.{is_lower, is_letter}
 use Rattle.ml_text.specs.declared.token.Token.{Token}
 use Rattle.ml_text.specs.declared.token.Token.TheVariants as token
 use Rattle.ml_text.specs.declared.token.Placed.{Placed}
-use Rattle.ml_text.specs.Items.{is_word, is_long_word, bytes_of, name_bytes}
-use Rattle.ml_text.specs.Words.{constant_of, IsWord}
-use Rattle.ml_text.proofs.ByteKinds.{other-upper}
+use Rattle.ml_text.specs.Items.{is_word, bytes_of, name_bytes}
+use Rattle.ml_text.specs.Words.{constant_of, IsWord, is_word_from}
 use Rattle.ml_text.proofs.ReservedWords as reserved
 use Rattle.ml_text.proofs.TableItems.{one_of}
-use Rattle.ml_text.proofs.WordNames.{word_is_name, cut_is_name, token_size, name_bytes_by}
+use Rattle.ml_text.proofs.WordNames.{token_size, name_bytes_by, word_name, cut_word}
+use Rattle.ml_text.proofs.FirstLetters.{lower_letters, upper_letters, lower_word, upper_word}
 use Rattle.ml_mu.specs.Formula.{Fixpoint, Least, Greatest}
 use Rattle.ml_mu.specs.Signs.{Sign, Binds, Lower, Upper, Unknown, HasShortName, sign_of, byte_sign, word_sign_by, name_sign}
 use Rattle.ml_mu.specs.Text.{sign_at}
-use Rattle.ml_mu.specs.Spelling.{is_proposition, is_variable, is_word_from, is_reserved}
+use Rattle.ml_mu.specs.Spelling.{is_proposition, is_variable, is_reserved}
 use Rattle.ml_mu.specs.private.SignViews.{named}
 use Rattle.ml_mu.specs.declared.signs.Kind.{Kind}
 use Rattle.ml_mu.specs.declared.signs.Kind.TheVariants as kind
-use Rattle.ml_mu.proofs.Spelled.{IsSpelledSign, letters, upper_letters, spelled_sign}
+use Rattle.ml_mu.proofs.Spelled.{IsSpelledSign, spelled_sign}
+use Rattle.ml_mu.proofs.WordSigns.{upper_sign}
 
 -- ---- which words are names
 
-pub name_of_lower : (w : List ℕ) → IsWord w → is_reserved w ≡ false → is_lower (slice_index w 0) ≡ true → Lower w ≡ name_sign w
-name_of_lower [] word free lower = absurd word
-name_of_lower (b ∷ bs) word free lower =
-    let bytes = list_all-from_AllPass is_word_byte bs word.1 in
-    let is : is_proposition (b ∷ bs) ≡ true = and_from (is_word_from is_lower (b ∷ bs)) (not (is_reserved (b ∷ bs))) (and_from (is_lower b) (list_all is_word_byte bs) lower bytes) (not_from_false (is_reserved (b ∷ bs)) free) in
-    sym (cond-true (is_proposition (b ∷ bs)) (Lower (b ∷ bs)) (cond (is_variable (b ∷ bs)) (Upper (b ∷ bs)) Unknown) is)
+pub name_of_lower : (w : List ℕ)
+    → IsWord w
+    → is_reserved w ≡ false
+    → is_lower (slice_index w 0) ≡ true
+    → Lower w ≡ name_sign w
+name_of_lower w word free lower =
+    let is = and_from (is_word_from is_lower w) (not (is_reserved w)) (lower_word w word lower) (not_from_false (is_reserved w) free) in
+    sym (cond-true (is_proposition w) (Lower w) (cond (is_variable w) (Upper w) Unknown) is)
 
 pub name_of_upper : (w : List ℕ) → IsWord w → is_lower (slice_index w 0) ≡ false → Upper w ≡ name_sign w
-name_of_upper [] word other = absurd word
-name_of_upper (b ∷ bs) word other =
-    let bytes = list_all-from_AllPass is_word_byte bs word.1 in
-    let no : is_proposition (b ∷ bs) ≡ false = ap (λ l. (l && list_all is_word_byte bs) && not (is_reserved (b ∷ bs))) other in
-    let is : is_variable (b ∷ bs) ≡ true = and_from (is_upper b) (list_all is_word_byte bs) (other-upper b word.0 other) bytes in
-    sym (cond-false (is_proposition (b ∷ bs)) (Lower (b ∷ bs)) (cond (is_variable (b ∷ bs)) (Upper (b ∷ bs)) Unknown) no
-    ∙ cond-true (is_variable (b ∷ bs)) (Upper (b ∷ bs)) Unknown is)
+name_of_upper w word other = sym (upper_sign w (upper_word w word other))
 
 pub free_word : (w : List ℕ) → constant_of w ≡ None → bytes_eq w (codes "mu") ≡ false → bytes_eq w (codes "nu") ≡ false → is_reserved w ≡ false
 free_word w is x y =
@@ -77,23 +69,11 @@ other_word false false other x y = refl
 
 -- ---- names that are short enough
 
-word_name : (w : List ℕ) → is_word_from is_letter w ≡ true → length w ≤ 64 → is_name w ≡ true
-word_name [] word short = absurd (cc)
-word_name (b ∷ bs) word short =
-    let parts = and_parts (is_letter b) (list_all is_word_byte bs) word in
-    word_is_name b bs parts.0 parts.1 short
-
-cut_word : (w : List ℕ) → is_word_from is_letter w ≡ true → is_name (take 64 w) ≡ true
-cut_word [] word = absurd (cc)
-cut_word (b ∷ bs) word =
-    let parts = and_parts (is_letter b) (list_all is_word_byte bs) word in
-    cut_is_name b bs parts.0 parts.1
-
-lower_word : (w : List ℕ) → is_proposition w ≡ true → is_word_from is_letter w ≡ true
-lower_word w is = letters w (and_parts (is_word_from is_lower w) (not (is_reserved w)) is).0
+proposition_letters : (w : List ℕ) → is_proposition w ≡ true → is_word_from is_letter w ≡ true
+proposition_letters w is = lower_letters w (and_parts (is_word_from is_lower w) (not (is_reserved w)) is).0
 
 short_name_by : (w : List ℕ) (a b : Bool) → is_proposition w ≡ a → is_variable w ≡ b → length w ≤ 64 → HasShortName (cond a (Lower w) (cond b (Upper w) Unknown))
-short_name_by w true b x y short = word_name w (lower_word w x) short
+short_name_by w true b x y short = word_name w (proposition_letters w x) short
 short_name_by w false true x y short = word_name w (upper_letters w y) short
 short_name_by w false false x y short = tt
 
@@ -125,7 +105,7 @@ short_name token.Word bytes n short size = short_word bytes (constant_of bytes) 
 
 -- the first bytes of a name are one
 pub cut_name : (k : Kind) (w : List ℕ) (s : Sign) → named k w ≡ s → IsSpelledSign s → HasShortName (named k (take 64 w))
-cut_name kind.Lower w s is spelled = cut_word w (lower_word w (subst IsSpelledSign (sym is) spelled))
+cut_name kind.Lower w s is spelled = cut_word w (proposition_letters w (subst IsSpelledSign (sym is) spelled))
 cut_name kind.Upper w s is spelled = cut_word w (upper_letters w (subst IsSpelledSign (sym is) spelled))
 cut_name kind.Not w s is spelled = tt
 cut_name (kind.Connective c) w s is spelled = tt

@@ -1,20 +1,12 @@
 -- The canonical text of a formula: every connective and binder in parentheses, single blanks round the connectives,
 -- one spelling for each sign, and the action `_` left out of its modality.
 --
---   spelling_of op    == `&`, `|`, `->` or `<->`
 --   action_text a     == what stands between the signs of a modality by the action a
 --   canonical_text f  == the canonical text of f
 use Rattle.std.specs.Prelude.{ℕ, true, false, List, [], ◌++◌, if◌then◌else◌, codes}
 use Rattle.std.specs.Str.{bytes_eq}
-use Rattle.ml_text.specs.declared.token.Operator.{Operator}
-use Rattle.ml_text.specs.declared.token.Operator.TheVariants.{Iff, Implies, Or, And}
+use Rattle.ml_text.specs.Operators.{spelling_of}
 use Rattle.ml_mu.specs.Formula.{Formula, Const, Prop, Var, Not, Binary, Modal, Binder, Modality, Diamond, Square, Fixpoint, Least, Greatest}
-
-abbrev pub spelling_of : Operator → List ℕ
-spelling_of And = codes "&"
-spelling_of Or = codes "|"
-spelling_of Implies = codes "->"
-spelling_of Iff = codes "<->"
 
 abbrev pub action_text : List ℕ → List ℕ
 action_text a = if bytes_eq a (codes "_") then [] else a

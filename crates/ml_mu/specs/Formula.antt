@@ -11,7 +11,7 @@
 --   occurrences f  == the number of symbols of f, where iff counts as three and the action of a modality as none
 use Rattle.std.specs.Prelude.{ℕ, ◌+◌, Bool, List}
 use Rattle.ml_text.specs.declared.token.Operator.{Operator}
-use Rattle.ml_text.specs.declared.token.Operator.TheVariants.{Iff, Implies, Or, And}
+use Rattle.ml_text.specs.Operators.{weight}
 
 pub data Modality : Type 0 where
   Diamond Square : Modality
@@ -27,13 +27,6 @@ pub data Formula : Type 0 where
   Binary : Operator → Formula → Formula → Formula
   Modal : Modality → List ℕ → Formula → Formula
   Binder : Fixpoint → List ℕ → Formula → Formula
-
--- as how many symbols a connective counts
-abbrev pub weight : Operator → ℕ
-weight Iff = 3
-weight Implies = 1
-weight Or = 1
-weight And = 1
 
 abbrev pub occurrences : Formula → ℕ
 occurrences (Const b) = 1

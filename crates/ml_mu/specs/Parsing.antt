@@ -11,7 +11,7 @@ use Rattle.std.specs.Prelude.{ℕ, ◌≡◌, ◌≢◌, ◌⊎◌, List, length
 use Rattle.ml_base.specs.declared.parse_refusal.ParseRefusal.{ParseRefusal}
 use Rattle.ml_base.specs.declared.parse_refusal.ParseRefusal.TheVariants as refusal
 use Rattle.ml_text.specs.Refusals as cause
-use Rattle.ml_text.specs.Refusals.{Cause, IsRefused, IsAccepted, offset_of}
+use Rattle.ml_text.specs.Refusals.{Cause, IsAccepted}
 use Rattle.ml_mu.specs.Canonical.{canonical_text}
 use Rattle.ml_mu.specs.Formula.{Formula}
 use Rattle.ml_mu.specs.Grammar.{IsReadAs}
@@ -26,7 +26,7 @@ pub record IsParsedAs (text : List ℕ) (f : Formula) : Type 0 where
 
 -- this cause is the first, and comes at this byte
 abbrev pub ComesFirst : List ℕ → Cause → ℕ → Type 0
-ComesFirst text c at = (k : ℕ) × IsRefused IsReadAs (items text) c k × (at ≡ offset_of (items text) (length text) k)
+ComesFirst text c at = cause.ComesFirst IsReadAs (items text) (length text) c at
 
 -- the text is one of a formula within the limits, whose first variable at fault stands so, at this byte
 abbrev pub HasFault : List ℕ → Standing → ℕ → Type 0

@@ -4,17 +4,17 @@
 -- reserved: they are no names.
 --
 --   is_reserved name     == is it tt, true, ff, false, mu or nu?
---   is_word_from t name  == is it a word whose first letter passes the test t?
 --   is_proposition name  == a word that begins with a lower-case letter and isn't reserved
 --   is_variable name     == a word that begins with an upper-case letter
 --   is_action name       == a word that isn't reserved, or `_`
 --   is_spelled f         == are all names in f propositions, variables and actions where they stand as such?
 --   HasShortNames f      == no name in f has more bytes than a name may have
-use Rattle.std.specs.Prelude.{ℕ, ◌≤◌, Bool, true, false, ◌&&◌, ◌||◌, not, List, [], ◌∷◌, length, codes}
-use Rattle.std.specs.List.{list_any, list_all}
+use Rattle.std.specs.Prelude.{ℕ, ◌≤◌, Bool, true, ◌&&◌, ◌||◌, not, List, [], ◌∷◌, length, codes}
+use Rattle.std.specs.List.{list_any}
 use Rattle.std.specs.Str.{bytes_eq}
 use Rattle.ml_base.specs.Name.{longest_name}
-use Rattle.ml_text.specs.Bytes.{is_lower, is_upper, is_letter, is_word_byte}
+use Rattle.ml_text.specs.Bytes.{is_lower, is_upper, is_letter}
+use Rattle.ml_text.specs.Words.{is_word_from}
 use Rattle.ml_mu.specs.Formula.{Formula, Const, Prop, Var, Not, Binary, Modal, Binder}
 
 abbrev pub reserved : List (List ℕ)
@@ -22,10 +22,6 @@ reserved = codes "tt" ∷ codes "true" ∷ codes "ff" ∷ codes "false" ∷ code
 
 abbrev pub is_reserved : List ℕ → Bool
 is_reserved name = list_any (bytes_eq name) reserved
-
-abbrev pub is_word_from : (ℕ → Bool) → List ℕ → Bool
-is_word_from begins [] = false
-is_word_from begins (b ∷ rest) = begins b && list_all is_word_byte rest
 
 abbrev pub is_proposition : List ℕ → Bool
 is_proposition name = is_word_from is_lower name && not (is_reserved name)

@@ -18,7 +18,8 @@ use Rattle.ml_text.specs.Items.{SignTable, bytes_of}
 use Rattle.ml_text.specs.Refusals.{Item, signs_of}
 use Rattle.ml_text.specs.declared.limits.Bracket.{Bracket}
 use Rattle.ml_text.specs.declared.limits.Bracket.TheVariants.{Opening, Closing, Neither}
-use Rattle.ml_mu.specs.Formula.{Formula, weight}
+use Rattle.ml_text.specs.Operators.{weight}
+use Rattle.ml_mu.specs.Formula.{Formula}
 use Rattle.ml_mu.specs.Signs.{Sign, Not, Connective, Const, Open, Close, Begins, Binds, Lower, Upper, sign_of}
 use Rattle.ml_mu.specs.Grammar.{IsReadAs}
 

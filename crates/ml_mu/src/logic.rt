@@ -1,28 +1,15 @@
 // The mu-calculus, as the reader of texts asks for it.
-ghost use Rattle.std.specs.Prelude.{◌≡◌};
 ghost use Rattle.ml_mu.specs.Term.{formula_of};
-ghost use Rattle.ml_mu.specs.private.Tables as tables;
 
 use crate::Term;
 use crate::forms::{Hold, Wait, join, resume, shift};
 use crate::signs::{Kind, Sign, bracket, counted, is_variable, kind_of, sign_of, silences};
 use ml_base::NoMemory;
-use ml_text::{Bracket, Logic, Mode, Operator, Placed, Role, Turn, WordStart};
+use ml_text::{Bracket, Logic, Mode, Placed, Role, Turn, WordStart, operator_level};
 use std::alloc::Global;
 
 /// The mu-calculus. Nothing is to be known of a text before it is read.
 pub(crate) struct Mu;
-
-fn operator_level(operator: Operator) -> u8
-    ensures { result ≡ tables.operator_level operator }
-{
-    match operator {
-        Operator::Iff => 0,
-        Operator::Implies => 1,
-        Operator::Or => 2,
-        Operator::And => 3,
-    }
-}
 
 impl Logic for Mu {
     type Kind = Kind;

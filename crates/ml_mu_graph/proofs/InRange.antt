@@ -14,12 +14,15 @@ use Rattle.ml_graph.specs.Graph.{Graph, IsGraph, Reference, references_of, size}
 use Rattle.ml_graph.specs.declared.node.Node.{Node}
 use Rattle.ml_text.specs.declared.token.Operator.{Operator}
 use Rattle.ml_text.specs.declared.token.Operator.TheVariants as operator
-use Rattle.ml_mu.specs.Formula.{Formula, Const, Prop, Var, Not, Binary, Modal, Binder, Modality, Diamond, Square, occurrences, weight}
+use Rattle.ml_text.specs.Operators.{weight}
+use Rattle.ml_text.specs.private.NameLists.{place_of}
+use Rattle.ml_text.proofs.NameLists.{place_found}
+use Rattle.ml_mu.specs.Formula.{Formula, Const, Prop, Var, Not, Binary, Modal, Binder, Modality, Diamond, Square, occurrences}
 use Rattle.ml_mu_graph.specs.MuGraph.{binders, constant, dual, modality, negative, positive}
-use Rattle.ml_mu_graph.specs.private.NodeList.{bound, nodes_of, operator_nodes, priorities_of, props_onto, actions_onto, place_of}
+use Rattle.ml_mu_graph.specs.private.NodeList.{bound, nodes_of, operator_nodes, priorities_of, props_onto, actions_onto}
 use Rattle.ml_mu_graph.specs.private.Views.{none_around}
 use Rattle.ml_mu_graph.proofs.Made.{names_among}
-use Rattle.ml_mu_graph.proofs.NameLists.{AreAmong, place_found, distinct_actions, distinct_props}
+use Rattle.ml_mu_graph.proofs.NameLists.{AreAmong, distinct_actions, distinct_props}
 use Rattle.ml_mu_graph.proofs.NodeLists.{length-nodes, length-priorities, one_symbol}
 
 abbrev IsInRange : Reference → Type 0

@@ -10,9 +10,11 @@ use Rattle.ml_graph.specs.declared.node.Node.{Node}
 use Rattle.ml_graph.specs.declared.node.Node.TheVariants as node
 use Rattle.ml_text.specs.declared.token.Operator.{Operator}
 use Rattle.ml_text.specs.declared.token.Operator.TheVariants as operator
-use Rattle.ml_mu.specs.Formula.{Formula, Const, Prop, Var, Not, Binary, Modal, Binder, occurrences, weight}
+use Rattle.ml_text.specs.Operators.{weight}
+use Rattle.ml_text.specs.private.NameLists.{place_of}
+use Rattle.ml_mu.specs.Formula.{Formula, Const, Prop, Var, Not, Binary, Modal, Binder, occurrences}
 use Rattle.ml_mu_graph.specs.MuGraph.{positive, negative, Around, binder_of, binder_priority, opposite, IsNode, StandsAt}
-use Rattle.ml_mu_graph.specs.private.NodeList.{place_of, operator_nodes, operator_holes, operator_priorities, bound, nodes_of, priorities_of}
+use Rattle.ml_mu_graph.specs.private.NodeList.{operator_nodes, operator_holes, operator_priorities, bound, nodes_of, priorities_of}
 use Rattle.ml_mu_graph.proofs.Holding.{Holds, held_first, held_later, held_left, held_right, held_at}
 
 length-operator : (op : Operator) (i l r : ℕ) → length (operator_nodes op i l r) ≡ 2 * weight op

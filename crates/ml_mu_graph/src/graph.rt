@@ -1,6 +1,7 @@
 // The graph of a formula.
 ghost use Rattle.std.specs.Prelude.{◌≡◌, ℕ, ◌+◌, ◌*◌, ◌/◌, ◌^◌, ◌≤◌, ◌<◌, ◌++◌, if◌then◌else◌, [], ◌∷◌, length, take, drop, IfOk, OnOk};
 ghost use Rattle.ml_graph.specs.declared.node.Node.TheVariants as graph_node;
+ghost use Rattle.ml_text.specs.Operators.{weight};
 ghost use Rattle.ml_mu.specs.Formula as mu;
 ghost use Rattle.ml_mu.specs.Formula.{occurrences};
 ghost use Rattle.ml_mu.specs.Term.{formula_of};
@@ -108,7 +109,7 @@ fn open(draft: &mut Draft, operator: Operator, plain: u32) -> Result<(), AllocEr
 }
 
 fn weight(operator: Operator) -> u32
-    ensures { result ≡ mu.weight operator }
+    ensures { result ≡ weight operator }
 {
     match operator {
         Operator::Iff => 3,

@@ -2,30 +2,22 @@
 --
 --   tokens_short  == the tokens of the canonical text of a formula with short names are short
 --   few_open      == it opens at most as many parentheses as its formula has occurrences
-use Rattle.std.proofs.Common.{◌≡◌, ℕ, zero, suc, ◌+◌, ◌≤◌, Bool, true, false, ◌&&◌, nat_lt, List, [], ◌∷◌, length, map, take, Option, Some, None, cond, codes, bytes_eq, refl, sym, ap, subst, ⊎_elim, ◌∙◌, arith, ltb-true}
+use Rattle.std.proofs.Common.{◌≡◌, ℕ, ◌+◌, ◌≤◌, Bool, true, false, List, ◌∷◌, length, Option, Some, None, cond, codes, bytes_eq, refl, sym, subst, ⊎_elim, arith}
 use Rattle.std.specs.List.{AllByRecursion}
-use Rattle.ml_text.specs.declared.token.Operator.{Operator}
-use Rattle.ml_text.specs.declared.token.Operator.TheVariants as operator
 use Rattle.ml_text.specs.declared.token.Token.TheVariants as token
-use Rattle.ml_text.specs.declared.token.WordStart.TheVariants.{AnyLetter}
 use Rattle.ml_text.specs.declared.token.Placed.{Placed}
 use Rattle.ml_text.specs.Words.{constant_of}
-use Rattle.ml_text.specs.Spelling.{AreTokens}
-use Rattle.ml_text.specs.Refusals.{Item, open_from, open_behind_one, is_long_at}
-use Rattle.ml_text.specs.declared.limits.Bracket.{Bracket}
-use Rattle.ml_text.specs.declared.limits.Bracket.TheVariants.{Opening, Closing, Neither}
-use Rattle.ml_base.specs.Name.{longest_name}
-use Rattle.ml_text.specs.Items.{is_word}
+use Rattle.ml_text.specs.Operators.{spelling_of}
 use Rattle.ml_text.proofs.Pieces.{lone}
 use Rattle.ml_text.proofs.TableItems.{IsShort, short_word, opening, opens_spelt, one_of}
 use Rattle.ml_text.proofs.Scans.{Spelt, spelt_at}
+use Rattle.ml_text.proofs.AcceptedTexts.{weight_some}
 use Rattle.ml_pdl.specs.Formula as plain
-use Rattle.ml_pdl.specs.Formula.{Formula, Program, Modality, Diamond, Square, occurrences, program_occurrences, weight}
-use Rattle.ml_pdl.specs.Canonical.{spelling_of}
+use Rattle.ml_pdl.specs.Formula.{Formula, Program, Modality, Diamond, Square, occurrences, program_occurrences}
 use Rattle.ml_pdl.specs.Marks.{is_test_behind, with_mark}
 use Rattle.ml_pdl.specs.Spelling.{is_proposition}
-use Rattle.ml_pdl.specs.Signs.{Sign, Open, Close, Lower, Upper, Unknown, word_sign, word_sign_by}
-use Rattle.ml_pdl.specs.Text.{bracket_of, items_from, sign_at, sign_by, signs_behind, begins_modality}
+use Rattle.ml_pdl.specs.Signs.{Sign, Open, Lower, Upper, Unknown, word_sign, word_sign_by}
+use Rattle.ml_pdl.specs.Text.{bracket_of, sign_at, sign_by, signs_behind}
 use Rattle.ml_pdl.proofs.CanonicalTexts.{action_token, whole_tokens, whole_cases, IsWhole, begin_byte, end_byte, tokens_onto, program_onto, sign_spelt}
 use Rattle.ml_pdl.proofs.Spelled.{is_variable}
 use Rattle.ml_pdl.specs.Spelling.{HasShortNames, ProgramHasShortNames}
@@ -117,12 +109,6 @@ whole_open p own after n le =
     (λ (is_blank : p ≡ plain.Act (codes "_")). subst (λ q. opens_of (whole_tokens q own after) ≤ n + opens_of after) (sym is_blank) (omega arith))
     (λ (w : IsWhole p). subst (λ l. opens_of l ≤ n + opens_of after) (sym (w.toks own after)) le)
     (whole_cases p)
-
-weight_some : (o : Operator) → 1 ≤ weight o
-weight_some operator.Iff = omega arith
-weight_some operator.Implies = omega arith
-weight_some operator.Or = omega arith
-weight_some operator.And = omega arith
 
 mutual
   pub few_open : (f : Formula) (ss : List Spelt) → opens_of (tokens_onto f ss) ≤ occurrences f + opens_of ss

@@ -3,7 +3,7 @@
 --   canonical_accepted == the text keeps all limits
 --   canonical_parsed  == that of a well-formed formula is parsed as it
 --   canonical_one     == that of a formula with spelled names stands for it and for no other
-use Rattle.std.proofs.Common.{◌≡◌, false, [], arith}
+use Rattle.std.proofs.Common.{false, [], arith}
 use Rattle.ml_text.specs.declared.token.WordStart.TheVariants.{AnyLetter}
 use Rattle.ml_text.specs.Tokens.{tokens}
 use Rattle.ml_text.specs.Refusals.{signs_of, IsAccepted}

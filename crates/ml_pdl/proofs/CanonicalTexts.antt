@@ -6,9 +6,9 @@
 --   reads_formula, reads_program        == their signs, with the marks that they have, are read as f, or as p
 --   canonical_tokens                    == these are the tokens of the text alone
 --   canonical_stands                    == so the text stands for f
-use Rattle.std.proofs.Common.{◌≡◌, ℕ, suc, ◌⊎◌, Bool, true, false, ◌==◌, not, List, [], ◌∷◌, ◌++◌, map, Option, Some, refl, sym, ◌∙◌, ap, subst, if◌then◌else◌, cond, codes, append_assoc, bytes_eq, ⊎_elim, inl, inr}
+use Rattle.std.proofs.Common.{◌≡◌, ℕ, suc, ◌⊎◌, Bool, true, false, ◌==◌, not, List, [], ◌∷◌, ◌++◌, map, Some, refl, sym, ◌∙◌, ap, subst, if◌then◌else◌, cond, codes, append_assoc, bytes_eq, ⊎_elim, inl, inr}
 use Rattle.std.specs.List.{list_all}
-use Rattle.std.proofs.lemmas.Bool.{and_parts, cases_Bool, cond-true, cond-false}
+use Rattle.std.proofs.lemmas.Bool.{and_parts, cases_Bool, cond-false}
 use Rattle.std.proofs.lemmas.List.{append-nil}
 use Rattle.std.proofs.lemmas.Slice.Eq.{bytes_eq-Decides}
 use Rattle.ml_text.specs.Bytes.{is_lower, is_letter, is_word_byte}
@@ -18,26 +18,25 @@ use Rattle.ml_text.specs.declared.token.Token.TheVariants as token
 use Rattle.ml_text.specs.declared.token.WordStart.TheVariants.{AnyLetter}
 use Rattle.ml_text.specs.declared.token.Placed.{Placed}
 use Rattle.ml_text.specs.Tokens.{tokens}
-use Rattle.ml_text.specs.Words.{constant_of}
+use Rattle.ml_text.specs.Words.{constant_of, is_word_from}
 use Rattle.ml_text.specs.Refusals.{signs_of}
+use Rattle.ml_text.specs.Operators.{spelling_of}
 use Rattle.ml_text.proofs.ByteKinds.{differs_by}
-use Rattle.ml_text.proofs.Pieces as pieces
-use Rattle.ml_text.proofs.Pieces.{lone, lone_piece, less_piece, not_piece, and_piece, or_piece, implies_piece, iff_piece, ends_word}
-use Rattle.ml_text.proofs.Scans.{Spelt, spelt_at, Scans, ends, blank, scans_tokens}
+use Rattle.ml_text.proofs.Pieces.{lone, lone_piece, less_piece, not_piece, operator_piece, between_same, ends_word, word_piece}
+use Rattle.ml_text.proofs.Scans.{Spelt, spelt_at, Scans, ends, scans_tokens}
+use Rattle.ml_text.proofs.FirstLetters.{lower_letters}
 use Rattle.ml_pdl.specs.Formula as plain
 use Rattle.ml_pdl.specs.Formula.{Formula, Program, Modality, Diamond, Square}
-use Rattle.ml_pdl.specs.Canonical.{spelling_of, whole_program, modality_text, canonical_text, program_text}
-use Rattle.ml_pdl.specs.Signs as signs
-use Rattle.ml_pdl.specs.Signs.{Sign, Mark, Marked, Unmarked, Connective, Const, Open, Close, Begins, Ends, Repeats, Semicolon, Plus, Question, Blank, sign_of, word_sign, action_of}
+use Rattle.ml_pdl.specs.Canonical.{whole_program, modality_text, canonical_text, program_text}
+use Rattle.ml_pdl.specs.Signs.{Sign, Mark, Marked, Connective, Const, Open, Close, Begins, Ends, Repeats, Question, sign_of, word_sign, action_of}
 use Rattle.ml_pdl.specs.Marks.{asks, is_test_behind, mark_of, with_mark, marked}
-use Rattle.ml_pdl.specs.Spelling.{is_action, is_spelled, program_is_spelled, is_word_from, is_reserved}
+use Rattle.ml_pdl.specs.Spelling.{is_action, is_spelled, program_is_spelled, is_reserved}
 use Rattle.ml_pdl.specs.Grammar as grammar
-use Rattle.ml_pdl.specs.Grammar.{Reads, iff_alone, iff, imp_alone, imp, or_alone, or, and_alone, and, negation, modal, modal_blank, repetition, group, constant, proposition, ReadsProgram, alt_alone, alt, seq_alone, seq, star_alone, star, action, test, program_group, tested_group}
+use Rattle.ml_pdl.specs.Grammar.{Reads, iff_alone, iff, imp_alone, imp, or_alone, or, and, negation, modal, modal_blank, repetition, group, constant, proposition, ReadsProgram, alt_alone, alt, seq_alone, seq, star_alone, star, action, test, program_group, tested_group}
 use Rattle.ml_pdl.specs.Text.{items, sign_by, IsTextOf}
 use Rattle.ml_pdl.proofs.FromTables.{un_raised}
 use Rattle.ml_pdl.proofs.MarkBytes.{neutral_test, neutral_word, weaker}
 use Rattle.ml_pdl.proofs.MarkedTexts.{marks_are_of_texts}
-use Rattle.ml_pdl.proofs.Spelled.{letters}
 use Rattle.ml_pdl.proofs.WordSigns.{proposition_sign, action_sign, ActionSign}
 
 -- ---- the tokens of a canonical text
@@ -96,24 +95,6 @@ whole_cases (plain.Star p) = inr (record { text = λ t. refl; toks = λ own afte
 whole_cases (plain.Test f) = inr (record { text = λ t. refl; toks = λ own after. refl })
 
 -- ---- they are its tokens
-
--- ` op ` in front of a text
-operator_piece : (o : Operator) (rest : List ℕ) (ss : List Spelt) → Scans AnyLetter rest ss
-    → Scans AnyLetter (codes " " ++ (spelling_of o ++ (codes " " ++ rest))) ((token.Operator o, spelling_of o) ∷ ss)
-operator_piece operator.And = and_piece AnyLetter
-operator_piece operator.Or = or_piece AnyLetter
-operator_piece operator.Implies = implies_piece AnyLetter
-operator_piece operator.Iff = iff_piece AnyLetter
-
-word_piece : (w rest : List ℕ) (ss : List Spelt)
-    → is_word_from is_letter w ≡ true
-    → ends_word rest ≡ true
-    → Scans AnyLetter rest ss
-    → Scans AnyLetter (w ++ rest) ((token.Word, w) ∷ ss)
-word_piece [] rest ss word stops r = absurd (cc)
-word_piece (b ∷ bs) rest ss word stops r =
-    let parts = and_parts (is_letter b) (list_all is_word_byte bs) word in
-    pieces.word_piece AnyLetter b bs rest ss parts.0 parts.1 stops r
 
 end_piece : (m : Modality) (rest : List ℕ) (ss : List Spelt)
     → Scans AnyLetter rest ss
@@ -182,11 +163,8 @@ action_piece a rest ss is stops r =
     (λ (other : bytes_eq a (codes "_") ≡ false).
     let s : ActionSign a = action_sign a is other in
     subst (λ t. Scans AnyLetter (a ++ rest) (t ∷ ss)) (sym (cond-false (bytes_eq a (codes "_")) (lone 95) (token.Word, a) other))
-    (word_piece a rest ss s.word stops r))
+    (word_piece AnyLetter a rest ss s.word stops r))
     (cases_Bool (bytes_eq a (codes "_")))
-
-binary_same : (a sp b rest : List ℕ) → (codes "(" ++ a ++ codes " " ++ sp ++ codes " " ++ b ++ codes ")") ++ rest ≡ 40 ∷ (a ++ (codes " " ++ (sp ++ (codes " " ++ (b ++ (41 ∷ rest))))))
-binary_same a sp b rest = simp append_assoc
 
 joined_same : (a sp b rest : List ℕ) → (codes "(" ++ a ++ sp ++ b ++ codes ")") ++ rest ≡ 40 ∷ (a ++ (sp ++ (b ++ (41 ∷ rest))))
 joined_same a sp b rest = simp append_assoc
@@ -219,18 +197,18 @@ open_piece rest ss r = lone_piece AnyLetter 40 rest ss refl r
 
 mutual
   pub scans_formula : (f : Formula) → is_spelled f ≡ true → (rest : List ℕ) (ss : List Spelt) → ends_word rest ≡ true → Scans AnyLetter rest ss → Scans AnyLetter (canonical_text f ++ rest) (tokens_onto f ss)
-  scans_formula (plain.Const true) is rest ss stops r = word_piece (codes "tt") rest ss refl stops r
-  scans_formula (plain.Const false) is rest ss stops r = word_piece (codes "ff") rest ss refl stops r
-  scans_formula (plain.Prop p) is rest ss stops r = word_piece p rest ss (letters p (and_parts (is_word_from is_lower p) (not (is_reserved p)) is).0) stops r
+  scans_formula (plain.Const true) is rest ss stops r = word_piece AnyLetter (codes "tt") rest ss refl stops r
+  scans_formula (plain.Const false) is rest ss stops r = word_piece AnyLetter (codes "ff") rest ss refl stops r
+  scans_formula (plain.Prop p) is rest ss stops r = word_piece AnyLetter p rest ss (lower_letters p (and_parts (is_word_from is_lower p) (not (is_reserved p)) is).0) stops r
   scans_formula (plain.Not f) is rest ss stops r =
       not_piece AnyLetter (canonical_text f ++ rest) (tokens_onto f ss) (scans_formula f is rest ss stops r)
   scans_formula (plain.Binary o f g) is rest ss stops r =
       let parts = and_parts (is_spelled f) (is_spelled g) is in
       let right = scans_formula g parts.1 (41 ∷ rest) (lone 41 ∷ ss) refl (close_piece rest ss r) in
-      let sign = operator_piece o (canonical_text g ++ (41 ∷ rest)) (tokens_onto g (lone 41 ∷ ss)) right in
+      let sign = operator_piece AnyLetter o (canonical_text g ++ (41 ∷ rest)) (tokens_onto g (lone 41 ∷ ss)) right in
       let after = codes " " ++ (spelling_of o ++ (codes " " ++ (canonical_text g ++ (41 ∷ rest)))) in
       let left = scans_formula f parts.0 after ((token.Operator o, spelling_of o) ∷ tokens_onto g (lone 41 ∷ ss)) refl sign in
-      subst (λ text. Scans AnyLetter text (tokens_onto (plain.Binary o f g) ss)) (sym (binary_same (canonical_text f) (spelling_of o) (canonical_text g) rest))
+      subst (λ text. Scans AnyLetter text (tokens_onto (plain.Binary o f g) ss)) (sym (between_same (canonical_text f) (spelling_of o) (canonical_text g) rest))
       (open_piece (canonical_text f ++ after) (tokens_onto f ((token.Operator o, spelling_of o) ∷ tokens_onto g (lone 41 ∷ ss))) left)
   scans_formula (plain.Modal m p f) is rest ss stops r =
       let parts = and_parts (program_is_spelled p) (is_spelled f) is in
@@ -252,7 +230,7 @@ mutual
       let own = scans_program p is (41 ∷ rest) (lone 41 ∷ ss) refl (close_piece rest ss r) in
       let inside = open_piece (program_text p ++ (41 ∷ rest)) (program_onto p (lone 41 ∷ ss)) own in
       subst (λ text. Scans AnyLetter text (tokens_onto (plain.Repeat p) ss)) (sym (repeat_same (program_text p) rest))
-      (word_piece (codes "repeat") (40 ∷ (program_text p ++ (41 ∷ rest))) (lone 40 ∷ program_onto p (lone 41 ∷ ss)) refl refl inside)
+      (word_piece AnyLetter (codes "repeat") (40 ∷ (program_text p ++ (41 ∷ rest))) (lone 40 ∷ program_onto p (lone 41 ∷ ss)) refl refl inside)
 
   pub scans_program : (p : Program) → program_is_spelled p ≡ true → (rest : List ℕ) (ss : List Spelt) → ends_word rest ≡ true → Scans AnyLetter rest ss → Scans AnyLetter (program_text p ++ rest) (program_onto p ss)
   scans_program (plain.Act a) is rest ss stops r = action_piece a rest ss is stops r

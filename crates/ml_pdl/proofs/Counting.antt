@@ -3,13 +3,12 @@
 --   count_signs b ts   == the occurrences that the signs count, where b says whether they stand directly behind `<` or `[`
 --   counted_items      == the items of a text count what its signs do
 --   counts, program_counts, tested_counts == what is read has as many occurrences as its signs count
-use Rattle.std.proofs.Common.{◌≡◌, ℕ, ◌+◌, Bool, true, false, List, [], ◌∷◌, Some, refl, ap, arith}
+use Rattle.std.proofs.Common.{◌≡◌, ℕ, ◌+◌, Bool, true, false, List, [], ◌∷◌, Some, refl, arith}
 use Rattle.ml_text.specs.declared.token.Placed.{Placed}
 use Rattle.ml_text.specs.Refusals.{Item, signs_of, counted}
 use Rattle.ml_text.specs.Items as text_items
-use Rattle.ml_pdl.specs.Formula as plain
 use Rattle.ml_pdl.specs.Formula.{Formula, Program, occurrences, program_occurrences}
-use Rattle.ml_pdl.specs.Signs.{Sign, Begins, Ends, Blank, Lower, Upper, action_of}
+use Rattle.ml_pdl.specs.Signs.{Sign, Blank, Lower, Upper, action_of}
 use Rattle.ml_pdl.specs.Grammar as grammar
 use Rattle.ml_pdl.specs.Grammar.{Reads, iff_alone, iff, imp_alone, imp, or_alone, or, and_alone, and, negation, modal, modal_blank, repetition, group, constant, proposition, ReadsProgram, alt_alone, alt, seq_alone, seq, star_alone, star, action, test, program_group, ReadsTested, tested_negation, tested_constant, tested_proposition, tested_group}
 use Rattle.ml_pdl.specs.Text.{weight_of, begins_modality, pdl_signs, sign_at, items_from}

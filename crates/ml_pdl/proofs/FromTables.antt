@@ -10,13 +10,14 @@ use Rattle.ml_text.specs.declared.token.Operator.TheVariants as operator
 use Rattle.ml_text.specs.Grammar as tables
 use Rattle.ml_text.specs.Grammar.{Whole, More, Read, Inner, Opens, Part, Level, Operand, Rest, Behind, alone, joined, postfixed, form, whole, sign, read, inner, opens, left_level, right_level}
 use Rattle.ml_text.specs.declared.forms.Role.TheVariants.{Infix, Postfix}
+use Rattle.ml_text.specs.Operators.{operator_level}
 use Rattle.ml_pdl.specs.Formula as plain
 use Rattle.ml_pdl.specs.Formula.{Formula, Program, Modality, Diamond, Square}
 use Rattle.ml_pdl.specs.Signs as signs
-use Rattle.ml_pdl.specs.Signs.{Sign, Mark, Marked, Unmarked, Not, Connective, Const, Open, Close, Begins, Ends, Repeats, Plus, Semicolon, Question, Blank, Lower, Upper, action_of}
+use Rattle.ml_pdl.specs.Signs.{Sign, Mark, Marked, Unmarked, Not, Connective, Const, Open, Close, Begins, Ends, Repeats, Plus, Semicolon, Question, Blank, Lower, Upper}
 use Rattle.ml_pdl.specs.Grammar as grammar
 use Rattle.ml_pdl.specs.Grammar.{Reads, iff_alone, iff, imp_alone, imp, or_alone, or, and_alone, and, negation, modal, modal_blank, repetition, group, constant, proposition, ReadsProgram, alt_alone, alt, seq_alone, seq, star_alone, star, action, test, program_group, ReadsTested, tested_negation, tested_constant, tested_proposition, tested_group}
-use Rattle.ml_pdl.specs.Tables.{Phrase, OfFormula, OfProgram, Name, formula_of, program_of, negated, Sort, Formulas, Programs, Wait, FormulaStart, ProgramStart, BehindBegin, BehindProgram, BehindRepeat, BehindRepeatInside, BehindFormulaInside, BehindProgramInside, BehindTestInside, BehindNegations, BehindTested, Hold, Negation, ModalProgram, Modal, FormulaGroup, ProgramGroup, RepeatGroup, TestGroup, PdlTurn, shift, resume, role, operator_level, join, post, pdl_grammar}
+use Rattle.ml_pdl.specs.Tables.{Phrase, OfFormula, OfProgram, Name, formula_of, program_of, negated, Sort, Formulas, Programs, Wait, FormulaStart, ProgramStart, BehindBegin, BehindProgram, BehindRepeat, BehindRepeatInside, BehindFormulaInside, BehindProgramInside, BehindTestInside, BehindNegations, BehindTested, Hold, Negation, ModalProgram, Modal, FormulaGroup, ProgramGroup, RepeatGroup, TestGroup, PdlTurn, shift, resume, role, join, post, pdl_grammar}
 use Rattle.ml_pdl.proofs.ToTables.{Tabled}
 
 -- ---- levels

@@ -6,29 +6,29 @@
 --                       next sign, and whether tests stand in the parentheses that are open
 --   mark_right       == the flag at a token's place is right, where it is asked
 --   known_start, known_before, known_all == it is so behind the text; one byte before; and so the parentheses are marked
-use Rattle.std.proofs.Common.{◌≡◌, ℕ, zero, suc, ◌+◌, ◌-◌, ◌<◌, ◌≤◌, Bool, true, false, cond, List, [], ◌∷◌, ◌++◌, length, map, take, drop, get_or, reverse, replicate, Option, Some, None, unwrap_or, refl, sym, ◌∙◌, ap, subst, ⊎_elim, arith, eqb-true, ◌==◌, length-take-le, set}
-use Rattle.std.specs.Prelude.{◌||◌, not, ◌&&◌}
-use Rattle.std.specs.List.{list_all, AllPass}
-use Rattle.std.proofs.lemmas.Bool.{cases_Bool, cond-true, cond-false, and_parts, and_from, not-true, not_from_false, false≢true, both_ways}
+use Rattle.std.proofs.Common.{◌≡◌, ℕ, zero, suc, ◌+◌, ◌-◌, ◌<◌, ◌≤◌, Bool, true, false, cond, List, [], ◌∷◌, ◌++◌, length, map, take, drop, get_or, reverse, Option, Some, None, refl, sym, ◌∙◌, ap, subst, ⊎_elim, arith, eqb-true, ◌==◌, length-take-le, set}
+use Rattle.std.specs.Prelude.{not, ◌&&◌}
+use Rattle.std.specs.List.{list_all}
+use Rattle.std.proofs.lemmas.Bool.{cases_Bool, cond-true, cond-false, and_parts, and_from, not-true, not_from_false, false≢true}
 use Rattle.std.proofs.lemmas.List.{drop_all, drop_more, get_or-set_same, get_or-set_other, length-set, reverse-append}
 use Rattle.std.proofs.lemmas.List.Sums.{list_all-from_AllPass}
-use Rattle.ml_text.specs.Bytes.{is_blank, is_letter, is_word_byte}
-use Rattle.ml_text.specs.Words.{IsWordOf, constant_of}
-use Rattle.ml_text.specs.Tokens.{begins_word, signs, front_token, tokens_at, tokens_from}
-use Rattle.ml_text.specs.Spelling.{IsSign, Spells, IsLongestToken}
+use Rattle.ml_text.specs.Bytes.{is_blank, is_word_byte}
+use Rattle.ml_text.specs.Words.{IsWordOf, constant_of, is_word_from}
+use Rattle.ml_text.specs.Tokens.{signs, front_token, tokens_at, tokens_from}
+use Rattle.ml_text.specs.Spelling.{IsSign, Spells}
 use Rattle.ml_text.specs.declared.token.Token.{Token}
 use Rattle.ml_text.specs.declared.token.Token.TheVariants as token
 use Rattle.ml_text.specs.declared.token.WordStart.TheVariants.{AnyLetter}
 use Rattle.ml_text.specs.declared.token.Placed.{Placed}
-use Rattle.ml_text.proofs.ByteKinds.{begins_word-letter, letter-word_byte}
+use Rattle.ml_text.proofs.ByteKinds.{letter-word_byte}
 use Rattle.ml_text.proofs.TableItems.{one_of}
-use Rattle.ml_text.proofs.Spelling.{IsByte, spells_by, signs_all}
+use Rattle.ml_text.proofs.Spelling.{spells_by, signs_all}
 use Rattle.ml_text.proofs.Longest.{front_token-longest}
 use Rattle.ml_text.proofs.Scan.{tokens_at-blank, tokens_at-token, tokens_at-end}
 use Rattle.ml_pdl.specs.Signs.{Sign, Unmarked, Open, Close, Question, sign_of, word_sign_by, name_sign, byte_sign}
 use Rattle.ml_text.specs.Items.{bytes_of}
 use Rattle.ml_pdl.specs.Marks.{asks, is_test_behind, with_mark}
-use Rattle.ml_pdl.specs.Spelling.{is_proposition, is_word_from}
+use Rattle.ml_pdl.specs.Spelling.{is_proposition}
 use Rattle.ml_pdl.specs.Text.{sign_by, signs_behind}
 use Rattle.ml_pdl.specs.private.MarkTests.{asks_at, closes, test_at, told, Tells, AreMarks}
 

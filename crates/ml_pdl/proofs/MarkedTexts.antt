@@ -7,9 +7,9 @@ use Rattle.ml_text.specs.Bytes.{is_blank}
 use Rattle.ml_text.specs.declared.token.WordStart.TheVariants.{AnyLetter}
 use Rattle.ml_text.specs.declared.token.Placed.{Placed}
 use Rattle.ml_text.specs.Refusals.{signs_of}
-use Rattle.ml_text.specs.Tokens.{tokens, tokens_from, front_token}
+use Rattle.ml_text.specs.Tokens.{tokens, tokens_from}
 use Rattle.ml_text.proofs.Scan.{tokens_from-end, tokens_from-blank, tokens_from-token, front_token-within, front_at, placed}
-use Rattle.ml_pdl.specs.Marks.{marked, is_test_behind, with_mark}
+use Rattle.ml_pdl.specs.Marks.{marked}
 use Rattle.ml_pdl.specs.Text.{items_from, sign_by, sign_at, begins_modality, MarksAreOfTexts}
 
 abbrev AreMarked : List ℕ → Bool → List Placed → Type 0

@@ -5,16 +5,15 @@
 --   parsed_or_refused == what is parsed is refused by nothing but want of memory
 --   refused_one_way   == a text is refused in one way at most
 --   some_answer       == a text is parsed as some formula, or is refused for a reason of its own
-use Rattle.std.proofs.Common.{◌≡◌, ℕ, ◌⊎◌, List, length, refl, sym, ◌∙◌, ap, inl, inr}
+use Rattle.std.proofs.Common.{◌≡◌, ℕ, ◌⊎◌, List, length, refl, inl, inr}
 use Rattle.ml_base.specs.declared.parse_refusal.ParseRefusal.{ParseRefusal}
 use Rattle.ml_base.specs.declared.parse_refusal.ParseRefusal.TheVariants as refusal
-use Rattle.ml_text.specs.Refusals.{Cause, Syntax, TooMany, TooNested, NameTooLong, offset_of, signs_of}
-use Rattle.ml_text.specs.private.Progress.{refusal_of}
+use Rattle.ml_text.specs.Refusals.{signs_of}
 use Rattle.ml_text.specs.private.Reading.{Outcome, Found, Refused}
-use Rattle.ml_text.proofs.OneAnswer.{refused_once, accepted_not_refused}
+use Rattle.ml_text.proofs.OneAnswer as answer
 use Rattle.ml_pdl.specs.Formula.{Formula}
 use Rattle.ml_pdl.specs.Grammar.{IsReadAs}
-use Rattle.ml_pdl.specs.Parsing.{IsParsedAs, IsRefusedBy, ComesFirst, StandForOne, NeverBoth, ParsedOnce, RefusedOnce, SomeAnswer}
+use Rattle.ml_pdl.specs.Parsing.{IsParsedAs, IsRefusedBy, StandForOne, NeverBoth, ParsedOnce, RefusedOnce, SomeAnswer}
 use Rattle.ml_pdl.specs.Tables.{Phrase, formula_of}
 use Rattle.ml_pdl.specs.Text.{items}
 use Rattle.ml_pdl.proofs.Parsed.{pdl_outcome, found_parsed, comes_first}
@@ -26,68 +25,18 @@ one_text_formula text f g a b = one_formula (signs_of (items text)) f g a b
 pub parsed_once : ParsedOnce
 parsed_once text f g a b = one_formula (signs_of (items text)) f g a.stands b.stands
 
--- the cause of a refusal, and its place
-abbrev cause_of : ParseRefusal → Cause
-cause_of (refusal.TooMany at) = TooMany
-cause_of (refusal.TooNested at) = TooNested
-cause_of (refusal.NameTooLong at) = NameTooLong
-cause_of _ = Syntax
-
-abbrev place_of : ParseRefusal → ℕ
-place_of (refusal.Syntax at) = at
-place_of (refusal.TooMany at) = at
-place_of (refusal.TooNested at) = at
-place_of (refusal.NameTooLong at) = at
-place_of _ = 0
-
-record Reason (text : List ℕ) (e : ParseRefusal) : Type 0 where
-  pub first : ComesFirst text (cause_of e) (place_of e)
-  pub back : refusal_of (cause_of e) (place_of e) ≡ e
-
-reason : (text : List ℕ) (e : ParseRefusal) → (e ≡ refusal.NoMemory → ⊥) → IsRefusedBy text e → Reason text e
-reason text (refusal.Syntax at) some is = record { first = is; back = refl }
-reason text (refusal.TooMany at) some is = record { first = is; back = refl }
-reason text (refusal.TooNested at) some is = record { first = is; back = refl }
-reason text (refusal.NameTooLong at) some is = record { first = is; back = refl }
-reason text (refusal.Unbound at) some is = absurd is
-reason text (refusal.NotPositive at) some is = absurd is
-reason text refusal.NoMemory some is = absurd (some refl)
-
 pub refused_one_way : RefusedOnce
-refused_one_way text e d a b p q =
-    let r = reason text e a p in
-    let s = reason text d b q in
-    let same = refused_once IsReadAs (items text) (cause_of e) (cause_of d) (r.first).0 (s.first).0 (r.first).1 (s.first).1 in
-    let place : place_of e ≡ place_of d = (r.first).2 ∙ ap (offset_of (items text) (length text)) same.1 ∙ sym (s.first).2 in
-    sym r.back ∙ ap (λ c. refusal_of c (place_of e)) same.0 ∙ ap (refusal_of (cause_of d)) place ∙ s.back
-
-never : (text : List ℕ) (f : Formula) (c : Cause) (at : ℕ) → IsParsedAs text f → ComesFirst text c at → ⊥
-never text f c at parsed first = accepted_not_refused IsReadAs (items text) f c first.0 parsed first.1
+refused_one_way text e d = answer.refused_one_way IsReadAs (items text) (length text) e d
 
 pub parsed_or_refused : NeverBoth
-parsed_or_refused text f (refusal.Syntax at) parsed is = absurd (never text f Syntax at parsed is)
-parsed_or_refused text f (refusal.TooMany at) parsed is = absurd (never text f TooMany at parsed is)
-parsed_or_refused text f (refusal.TooNested at) parsed is = absurd (never text f TooNested at parsed is)
-parsed_or_refused text f (refusal.NameTooLong at) parsed is = absurd (never text f NameTooLong at parsed is)
-parsed_or_refused text f (refusal.Unbound at) parsed is = absurd is
-parsed_or_refused text f (refusal.NotPositive at) parsed is = absurd is
-parsed_or_refused text f refusal.NoMemory parsed is = refl
+parsed_or_refused text f e = answer.accepted_no_refusal IsReadAs (items text) (length text) f e
 
 abbrev Answered : List ℕ → Type 0
 Answered text = ((f : Formula) × IsParsedAs text f) ⊎ ((e : ParseRefusal) × (e ≡ refusal.NoMemory → ⊥) × IsRefusedBy text e)
 
-refused : (text : List ℕ) (e : ParseRefusal) → (e ≡ refusal.NoMemory → ⊥) → IsRefusedBy text e → Answered text
-refused text e other is = inr (e, other, is)
-
-by_cause : (text : List ℕ) (c : Cause) (at : ℕ) → ComesFirst text c at → Answered text
-by_cause text Syntax at first = refused text (refusal.Syntax at) (λ same. cc) first
-by_cause text TooMany at first = refused text (refusal.TooMany at) (λ same. cc) first
-by_cause text TooNested at first = refused text (refusal.TooNested at) (λ same. cc) first
-by_cause text NameTooLong at first = refused text (refusal.NameTooLong at) (λ same. cc) first
-
 by_outcome : (text : List ℕ) (o : Outcome Phrase) → pdl_outcome text ≡ o → Answered text
 by_outcome text (Found v) is = inl (formula_of v, found_parsed text v is)
-by_outcome text (Refused c at) is = by_cause text c at (comes_first text c at is)
+by_outcome text (Refused c at) is = inr (answer.refused_for IsReadAs (items text) (length text) c at (comes_first text c at is))
 
 pub some_answer : SomeAnswer
 some_answer text = by_outcome text (pdl_outcome text) refl

@@ -8,18 +8,18 @@
 --   found_well       == so is what was found
 use Rattle.std.proofs.Common.{◌≡◌, ℕ, false, List, length, subst, arith}
 use Rattle.ml_base.specs.declared.parse_refusal.ParseRefusal.{ParseRefusal}
-use Rattle.ml_base.specs.declared.parse_refusal.ParseRefusal.TheVariants as refusal
 use Rattle.ml_text.specs.declared.token.WordStart.TheVariants.{AnyLetter}
 use Rattle.ml_text.specs.Grammar.{StandsFor}
 use Rattle.ml_text.specs.Tokens.{tokens}
-use Rattle.ml_text.specs.Refusals.{Cause, Syntax, TooMany, TooNested, NameTooLong}
+use Rattle.ml_text.specs.Refusals.{Cause, TooMany, ComesFirst}
 use Rattle.ml_text.specs.private.Reading.{Outcome, Found, Refused, text_outcome}
 use Rattle.ml_text.specs.private.Progress.{IsRefusal}
 use Rattle.ml_text.proofs.Exact.{IsOutcome, exact, few_items}
 use Rattle.ml_text.proofs.SameTexts.{refused_same}
+use Rattle.ml_text.proofs.OneAnswer as answer
 use Rattle.ml_pdl.specs.Formula.{Formula}
 use Rattle.ml_pdl.specs.Grammar.{IsReadAs}
-use Rattle.ml_pdl.specs.Parsing.{IsParsedAs, IsRefusedBy, ComesFirst}
+use Rattle.ml_pdl.specs.Parsing.{IsParsedAs, IsRefusedBy}
 use Rattle.ml_pdl.specs.Tables.{Phrase, formula_of, pdl_grammar}
 use Rattle.ml_pdl.specs.Text.{items}
 use Rattle.ml_pdl.specs.WellFormed.{IsWellFormed}
@@ -40,19 +40,13 @@ comes_of text = exact pdl_grammar (StandsFor pdl_grammar) pdl_fits (items text) 
 pub found_parsed : (text : List ℕ) (v : Phrase) → pdl_outcome text ≡ Found v → IsParsedAs text (formula_of v)
 found_parsed text v is = accepted (items text) v (subst (IsRight text) is (comes_of text))
 
-pub comes_first : (text : List ℕ) (c : Cause) (at : ℕ) → pdl_outcome text ≡ Refused c at → ComesFirst text c at
+pub comes_first : (text : List ℕ) (c : Cause) (at : ℕ) → pdl_outcome text ≡ Refused c at → ComesFirst IsReadAs (items text) (length text) c at
 comes_first text c at is =
     let first : IsRight text (Refused c at) = subst (IsRight text) is (comes_of text) in
     (first.0, refused_same (StandsFor pdl_grammar) IsReadAs pdl_same (items text) c first.0 first.1, first.2)
 
 pub refused_first : (text : List ℕ) (e : ParseRefusal) → IsRefusal e (pdl_outcome text) → IsRefusedBy text e
-refused_first text (refusal.Syntax at) is = comes_first text Syntax at is
-refused_first text (refusal.TooMany at) is = comes_first text TooMany at is
-refused_first text (refusal.TooNested at) is = comes_first text TooNested at is
-refused_first text (refusal.NameTooLong at) is = comes_first text NameTooLong at is
-refused_first text (refusal.Unbound at) is = absurd is
-refused_first text (refusal.NotPositive at) is = absurd is
-refused_first text refusal.NoMemory is = tt
+refused_first text e = answer.refused_first IsReadAs (items text) (length text) (pdl_outcome text) (comes_first text) e
 
 pub parsed_well : (text : List ℕ) (f : Formula) → IsParsedAs text f → IsWellFormed f
 parsed_well text f parsed =

@@ -2,24 +2,15 @@
 --
 --   AreShort ts  == no name among the signs is longer than the limit
 --   text_short   == the formulas of texts without long names have none
-use Rattle.std.proofs.Common.{◌≡◌, ℕ, suc, ◌-◌, ◌≤◌, Bool, true, false, ◌&&◌, nat_lt, nat_le, List, [], ◌∷◌, length, Some, codes, refl, ap, arith, leb-true}
+use Rattle.std.proofs.Common.{◌≡◌, ℕ, ◌-◌, ◌≤◌, true, false, List, length, Some, codes, ap, arith}
 use Rattle.std.specs.List.{AllByRecursion}
-use Rattle.std.specs.Char.{is_ascii_alphabetic}
-use Rattle.std.proofs.lemmas.Bool.{and_parts}
-use Rattle.ml_base.specs.Name.{is_name, is_name_byte}
-use Rattle.ml_text.specs.declared.token.Operator.{Operator}
-use Rattle.ml_text.specs.declared.token.Operator.TheVariants as operator
 use Rattle.ml_text.specs.declared.token.WordStart.TheVariants.{AnyLetter}
-use Rattle.ml_text.specs.declared.token.Placed.{Placed}
-use Rattle.ml_text.specs.Spelling.{AreTokens}
 use Rattle.ml_text.specs.Tokens.{tokens}
 use Rattle.ml_text.specs.Refusals.{NameTooLong, signs_of, is_long_at, IsAccepted}
-use Rattle.ml_base.specs.Name.{longest_name}
-use Rattle.ml_text.specs.Items.{is_word, bytes_of}
+use Rattle.ml_text.specs.Items.{bytes_of}
 use Rattle.ml_text.proofs.Cover.{are_tokens}
 use Rattle.ml_text.proofs.TableItems.{signs_short}
 use Rattle.ml_text.proofs.WordNames.{name_length}
-use Rattle.ml_pdl.specs.Formula as plain
 use Rattle.ml_pdl.specs.Formula.{Formula, Program}
 use Rattle.ml_pdl.specs.Grammar as grammar
 use Rattle.ml_pdl.specs.Grammar.{IsReadAs, Reads, iff_alone, iff, imp_alone, imp, or_alone, or, and_alone, and, negation, modal, modal_blank, repetition, group, constant, proposition, ReadsProgram, alt_alone, alt, seq_alone, seq, star_alone, star, action, test, program_group, ReadsTested, tested_negation, tested_constant, tested_proposition, tested_group}

@@ -3,29 +3,28 @@
 --   AreSpelled ts   == the names among the signs are spelled as propositions, or as words that begin with an upper-case letter
 --   items_spelled   == the signs of a text are spelled
 --   reads_spelled, program_spelled, tested_spelled == what is read from spelled signs is spelled
-use Rattle.std.proofs.Common.{◌≡◌, ℕ, Bool, true, false, ◌&&◌, List, [], ◌∷◌, Option, Some, None, refl, ap, subst, cond, codes}
-use Rattle.std.specs.List.{AllByRecursion, list_all}
-use Rattle.std.specs.Prelude.{◌||◌, not, bytes_eq, ◌⊎◌}
-use Rattle.std.proofs.Common.{⊎_elim}
-use Rattle.std.proofs.lemmas.Bool.{and_from, and_parts, or_left, or_right, not_from_false, cases_Bool}
-use Rattle.std.proofs.lemmas.Slice.Eq.{bytes_eq-Decides}
-use Rattle.ml_text.specs.Bytes.{is_lower, is_upper, is_letter, is_word_byte}
+use Rattle.std.proofs.Common.{◌≡◌, ℕ, Bool, true, false, ◌&&◌, List, Option, Some, None, refl, subst, cond, codes}
+use Rattle.std.specs.List.{AllByRecursion}
+use Rattle.std.specs.Prelude.{not, bytes_eq}
+use Rattle.std.proofs.lemmas.Bool.{and_from, and_parts, or_right, not_from_false}
+use Rattle.ml_text.specs.Bytes.{is_lower, is_upper, is_letter}
 use Rattle.ml_text.specs.declared.token.Operator.{Operator}
 use Rattle.ml_text.specs.declared.token.Operator.TheVariants as operator
 use Rattle.ml_text.specs.declared.token.Token.{Token}
 use Rattle.ml_text.specs.declared.token.Token.TheVariants as token
 use Rattle.ml_text.specs.declared.token.Placed.{Placed}
-use Rattle.ml_text.specs.Words.{constant_of}
+use Rattle.ml_text.specs.Words.{constant_of, is_word_from}
 use Rattle.ml_text.specs.Refusals.{signs_of}
 use Rattle.ml_text.proofs.TableItems.{one_of, signs_all}
 use Rattle.ml_pdl.specs.Formula as plain
 use Rattle.ml_pdl.specs.Formula.{Formula, Program}
-use Rattle.ml_pdl.specs.Signs.{Sign, Close, Blank, Lower, Upper, Unknown, Open, Mark, action_of, sign_of, byte_sign, word_sign_by}
+use Rattle.ml_pdl.specs.Signs.{Sign, Blank, Lower, Upper, Unknown, Open, action_of, sign_of, byte_sign, word_sign_by}
 use Rattle.ml_pdl.specs.Grammar as grammar
 use Rattle.ml_pdl.specs.Grammar.{Reads, iff_alone, iff, imp_alone, imp, or_alone, or, and_alone, and, negation, modal, modal_blank, repetition, group, constant, proposition, ReadsProgram, alt_alone, alt, seq_alone, seq, star_alone, star, action, test, program_group, ReadsTested, tested_negation, tested_constant, tested_proposition, tested_group}
-use Rattle.ml_pdl.specs.Spelling.{is_proposition, is_action, is_spelled, program_is_spelled, is_word_from, is_reserved}
+use Rattle.ml_pdl.specs.Spelling.{is_proposition, is_action, is_spelled, program_is_spelled, is_reserved, reserved}
 use Rattle.ml_pdl.specs.Marks.{with_mark, is_test_behind}
 use Rattle.ml_text.specs.Items.{bytes_of}
+use Rattle.ml_text.proofs.FirstLetters.{lower_letters, upper_letters, none_of}
 use Rattle.ml_pdl.specs.Text.{pdl_signs, sign_by, signs_behind, items_from}
 
 -- ---- spelled names
@@ -87,34 +86,14 @@ items_spelled text b ps =
 
 -- ---- formulas
 
-pub letters : (p : List ℕ) → is_word_from is_lower p ≡ true → is_word_from is_letter p ≡ true
-letters [] is = absurd (cc)
-letters (b ∷ bs) is =
-    let parts = and_parts (is_lower b) (list_all is_word_byte bs) is in
-    and_from (is_letter b) (list_all is_word_byte bs) (or_left (is_lower b) (is_upper b) parts.0) parts.1
-
-pub upper_letters : (p : List ℕ) → is_word_from is_upper p ≡ true → is_word_from is_letter p ≡ true
-upper_letters [] is = absurd (cc)
-upper_letters (b ∷ bs) is =
-    let parts = and_parts (is_upper b) (list_all is_word_byte bs) is in
-    and_from (is_letter b) (list_all is_word_byte bs) (or_right (is_lower b) (is_upper b) parts.0) parts.1
-
-other_word : (x w : List ℕ) → is_variable x ≡ true → is_variable w ≡ false → bytes_eq x w ≡ false
-other_word x w is other =
-    ⊎_elim
-    (λ (same : bytes_eq x w ≡ true). let e = (bytes_eq-Decides x w).0 same in let there = ap is_variable e in absurd (cc))
-    (λ (differs : bytes_eq x w ≡ false). differs)
-    (cases_Bool (bytes_eq x w))
-
 pub unreserved : (x : List ℕ) → is_variable x ≡ true → is_reserved x ≡ false
-unreserved x is =
-    simp (other_word x (codes "tt") is refl, other_word x (codes "true") is refl, other_word x (codes "ff") is refl, other_word x (codes "false") is refl, other_word x (codes "repeat") is refl)
+unreserved x is = none_of is_upper x reserved is refl
 
 lower_action : (p : List ℕ) → is_proposition p ≡ true → is_action p ≡ true
 lower_action p is =
     let parts = and_parts (is_word_from is_lower p) (not (is_reserved p)) is in
     or_right (bytes_eq p (codes "_")) (is_word_from is_letter p && not (is_reserved p))
-    (and_from (is_word_from is_letter p) (not (is_reserved p)) (letters p parts.0) parts.1)
+    (and_from (is_word_from is_letter p) (not (is_reserved p)) (lower_letters p parts.0) parts.1)
 
 upper_action : (x : List ℕ) → is_variable x ≡ true → is_action x ≡ true
 upper_action x is =

@@ -2,17 +2,17 @@
 --
 --   name_word         == a word that isn't reserved is a name
 --   proposition_sign  == a proposition is one that begins in lower case
+--   upper_sign        == the name that begins in upper case
 --   variable_sign     == a word that begins with an upper-case letter is one that begins in upper case
 --   action_sign       == the sign of an action other than `_`
-use Rattle.std.proofs.Common.{◌≡◌, ℕ, suc, ◌+◌, ◌≤◌, ◌⊎◌, Bool, true, false, ◌&&◌, ◌||◌, ◌==◌, not, List, [], ◌∷◌, ◌++◌, length, map, take, drop, take_while, Option, Some, None, refl, sym, ◌∙◌, ap, subst, arith, if◌then◌else◌, cond, codes, append_assoc, bytes_eq, ⊎_elim, inl, inr, unwrap_or}
-use Rattle.std.specs.List.{list_all, list_any, prefix_len}
-use Rattle.std.proofs.lemmas.Bool.{and_from, and_parts, or_parts, or_from, or_cases, or_left, or_right, not_from_false, not-true, cases_Bool, cond-true, cond-false}
-use Rattle.ml_text.specs.Bytes.{is_lower, is_upper, is_letter, is_word_byte}
-use Rattle.ml_text.specs.Words.{constant_of}
-use Rattle.ml_text.proofs.ByteKinds.{upper-no_lower}
+use Rattle.std.proofs.Common.{◌≡◌, ℕ, Bool, true, false, ◌&&◌, ◌||◌, not, List, [], ◌∷◌, Some, None, ◌∙◌, ap, codes, bytes_eq, ⊎_elim}
+use Rattle.std.proofs.lemmas.Bool.{and_from, and_left, and_parts, or_parts, not_from_false, not-true, cond-true, cond-false}
+use Rattle.ml_text.specs.Bytes.{is_lower, is_upper, is_letter}
+use Rattle.ml_text.specs.Words.{constant_of, is_word_from}
 use Rattle.ml_text.proofs.ReservedWords.{free_parts}
-use Rattle.ml_pdl.specs.Signs.{Repeats, Lower, Upper, Unknown, action_of, word_sign, word_sign_by, name_sign}
-use Rattle.ml_pdl.specs.Spelling.{is_proposition, is_action, is_word_from, is_reserved}
+use Rattle.ml_text.proofs.FirstLetters.{lower_or_upper, upper_no_lower}
+use Rattle.ml_pdl.specs.Signs.{Lower, Upper, Unknown, action_of, word_sign, word_sign_by, name_sign}
+use Rattle.ml_pdl.specs.Spelling.{is_proposition, is_action, is_reserved}
 use Rattle.ml_pdl.proofs.Spelled.{is_variable, unreserved}
 
 pub unreserved_parts : (w : List ℕ)
@@ -33,18 +33,13 @@ proposition_sign p is =
     let parts = and_parts (is_word_from is_lower p) (not (is_reserved p)) is in
     name_word p (not-true (is_reserved p) parts.1) ∙ cond-true (is_proposition p) (Lower p) _ is
 
-pub no_proposition : (x : List ℕ) → is_variable x ≡ true → is_proposition x ≡ false
-no_proposition [] is = absurd (cc)
-no_proposition (b ∷ bs) is =
-    let parts = and_parts (is_upper b) (list_all is_word_byte bs) is in
-    let first = Rattle.std.proofs.lemmas.Bool.and_left (is_lower b) (list_all is_word_byte bs) (upper-no_lower b parts.0) in
-    Rattle.std.proofs.lemmas.Bool.and_left (is_lower b && list_all is_word_byte bs) (not (is_reserved (b ∷ bs))) first
+pub upper_sign : (x : List ℕ) → is_variable x ≡ true → name_sign x ≡ Upper x
+upper_sign x is =
+    let no = and_left (is_word_from is_lower x) (not (is_reserved x)) (upper_no_lower x is) in
+    cond-false (is_proposition x) _ _ no ∙ cond-true (is_variable x) (Upper x) Unknown is
 
 pub variable_sign : (x : List ℕ) → is_variable x ≡ true → word_sign x ≡ Upper x
-variable_sign x is =
-    name_word x (unreserved x is)
-    ∙ cond-false (is_proposition x) _ _ (no_proposition x is)
-    ∙ cond-true (is_variable x) (Upper x) Unknown is
+variable_sign x is = name_word x (unreserved x is) ∙ upper_sign x is
 
 -- the sign of an action that is a word
 pub record ActionSign (a : List ℕ) : Type 0 where
@@ -52,13 +47,13 @@ pub record ActionSign (a : List ℕ) : Type 0 where
   pub action : action_of (word_sign a) ≡ Some a
 
 pub action_cases : (a : List ℕ) → is_word_from is_letter a ≡ true → is_reserved a ≡ false → action_of (word_sign a) ≡ Some a
-action_cases [] word free = absurd (cc)
-action_cases (b ∷ bs) word free =
-    let parts = and_parts (is_letter b) (list_all is_word_byte bs) word in
+action_cases a word free =
     ⊎_elim
-    (λ (lower : is_lower b ≡ true). ap action_of (proposition_sign (b ∷ bs) (and_from (is_lower b && list_all is_word_byte bs) (not (is_reserved (b ∷ bs))) (and_from (is_lower b) (list_all is_word_byte bs) lower parts.1) (not_from_false (is_reserved (b ∷ bs)) free))))
-    (λ (upper : is_upper b ≡ true). ap action_of (variable_sign (b ∷ bs) (and_from (is_upper b) (list_all is_word_byte bs) upper parts.1)))
-    (or_cases (is_lower b) (is_upper b) parts.0)
+    (λ (lower : is_word_from is_lower a ≡ true).
+    ap action_of
+    (proposition_sign a (and_from (is_word_from is_lower a) (not (is_reserved a)) lower (not_from_false (is_reserved a) free))))
+    (λ (upper : is_word_from is_upper a ≡ true). ap action_of (variable_sign a upper))
+    (lower_or_upper a word)
 
 pub action_sign : (a : List ℕ) → is_action a ≡ true → bytes_eq a (codes "_") ≡ false → ActionSign a
 action_sign a is other =

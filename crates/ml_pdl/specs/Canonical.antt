@@ -2,21 +2,13 @@
 -- connectives and none in programs, one spelling for each sign, and the program `_` left out where it is a modality's
 -- whole program.
 --
---   spelling_of op     == `&`, `|`, `->` or `<->`
 --   whole_program p    == what stands between the signs of a modality with the program p
 --   canonical_text f   == the canonical text of the formula f
 --   program_text p     == the canonical text of the program p
 use Rattle.std.specs.Prelude.{ℕ, true, false, List, [], ◌++◌, if◌then◌else◌, codes}
 use Rattle.std.specs.Str.{bytes_eq}
-use Rattle.ml_text.specs.declared.token.Operator.{Operator}
-use Rattle.ml_text.specs.declared.token.Operator.TheVariants.{Iff, Implies, Or, And}
+use Rattle.ml_text.specs.Operators.{spelling_of}
 use Rattle.ml_pdl.specs.Formula.{Formula, Const, Prop, Not, Binary, Modal, Repeat, Program, Act, Seq, Alt, Star, Test, Modality, Diamond, Square}
-
-abbrev pub spelling_of : Operator → List ℕ
-spelling_of And = codes "&"
-spelling_of Or = codes "|"
-spelling_of Implies = codes "->"
-spelling_of Iff = codes "<->"
 
 -- the text of a program, where it is a modality's whole program
 abbrev pub whole_program : Program → List ℕ → List ℕ

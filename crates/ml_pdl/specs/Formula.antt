@@ -11,7 +11,7 @@
 --   occurrences f, program_occurrences p == the number of symbols, where iff counts as three and each action as one
 use Rattle.std.specs.Prelude.{ℕ, ◌+◌, Bool, List}
 use Rattle.ml_text.specs.declared.token.Operator.{Operator}
-use Rattle.ml_text.specs.declared.token.Operator.TheVariants.{Iff, Implies, Or, And}
+use Rattle.ml_text.specs.Operators.{weight}
 
 pub data Modality : Type 0 where
   Diamond Square : Modality
@@ -32,13 +32,6 @@ mutual
     Alt : Program → Program → Program
     Star : Program → Program
     Test : Formula → Program
-
--- as how many symbols a connective counts
-abbrev pub weight : Operator → ℕ
-weight Iff = 3
-weight Implies = 1
-weight Or = 1
-weight And = 1
 
 abbrev mutual
   pub occurrences : Formula → ℕ

@@ -8,8 +8,8 @@
 use Rattle.std.specs.Prelude.{ℕ, ◌≡◌, ◌≢◌, ◌⊎◌, List, length, IsTrue}
 use Rattle.ml_base.specs.declared.parse_refusal.ParseRefusal.{ParseRefusal}
 use Rattle.ml_base.specs.declared.parse_refusal.ParseRefusal.TheVariants as refusal
-use Rattle.ml_text.specs.Refusals as cause
-use Rattle.ml_text.specs.Refusals.{Cause, IsRefused, IsAccepted, offset_of}
+use Rattle.ml_text.specs.Refusals as refused
+use Rattle.ml_text.specs.Refusals.{IsAccepted}
 use Rattle.ml_pdl.specs.Canonical.{canonical_text}
 use Rattle.ml_pdl.specs.Formula.{Formula}
 use Rattle.ml_pdl.specs.Grammar.{IsReadAs}
@@ -20,19 +20,8 @@ use Rattle.ml_pdl.specs.WellFormed.{IsWellFormed}
 abbrev pub IsParsedAs : List ℕ → Formula → Type 0
 IsParsedAs text f = IsAccepted IsReadAs (items text) f
 
--- this cause is the first, and comes at this byte
-abbrev pub ComesFirst : List ℕ → Cause → ℕ → Type 0
-ComesFirst text c at = (k : ℕ) × IsRefused IsReadAs (items text) c k × (at ≡ offset_of (items text) (length text) k)
-
 abbrev pub IsRefusedBy : List ℕ → ParseRefusal → Type 0
-IsRefusedBy text (refusal.Syntax at) = ComesFirst text cause.Syntax at
-IsRefusedBy text (refusal.Unbound at) = ⊥
-IsRefusedBy text (refusal.NotPositive at) = ⊥
-IsRefusedBy text (refusal.TooMany at) = ComesFirst text cause.TooMany at
-IsRefusedBy text (refusal.TooNested at) = ComesFirst text cause.TooNested at
-IsRefusedBy text (refusal.NameTooLong at) = ComesFirst text cause.NameTooLong at
--- want of memory is the one answer that says nothing of the text
-IsRefusedBy text refusal.NoMemory = Unit {0}
+IsRefusedBy text e = refused.IsRefusedBy IsReadAs (items text) (length text) e
 
 -- ---- laws
 

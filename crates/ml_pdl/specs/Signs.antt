@@ -17,9 +17,9 @@ use Rattle.ml_text.specs.declared.token.Operator.{Operator}
 use Rattle.ml_text.specs.declared.token.Token.{Token}
 use Rattle.ml_text.specs.declared.token.Token.TheVariants as token
 use Rattle.ml_text.specs.Bytes.{is_upper}
-use Rattle.ml_text.specs.Words.{constant_of}
+use Rattle.ml_text.specs.Words.{constant_of, is_word_from}
 use Rattle.ml_pdl.specs.Formula.{Modality, Diamond, Square}
-use Rattle.ml_pdl.specs.Spelling.{is_proposition, is_word_from}
+use Rattle.ml_pdl.specs.Spelling.{is_proposition}
 
 pub data Mark : Type 0 where
   Marked Unmarked : Mark

@@ -4,15 +4,15 @@
 -- they are no names.
 --
 --   is_reserved name     == is it tt, true, ff, false or repeat?
---   is_word_from t name  == is it a word whose first letter passes the test t?
 --   is_proposition name  == a word that begins with a lower-case letter and isn't reserved
 --   is_action name       == a word that isn't reserved, or `_`
 --   is_spelled f, program_is_spelled p       == are all names there propositions and actions where they stand as such?
 --   HasShortNames f, ProgramHasShortNames p  == no name there has more bytes than a name may have
-use Rattle.std.specs.Prelude.{ℕ, ◌≤◌, Bool, true, false, ◌&&◌, ◌||◌, not, List, [], ◌∷◌, length, codes, bytes_eq}
-use Rattle.std.specs.List.{list_any, list_all}
+use Rattle.std.specs.Prelude.{ℕ, ◌≤◌, Bool, true, ◌&&◌, ◌||◌, not, List, [], ◌∷◌, length, codes, bytes_eq}
+use Rattle.std.specs.List.{list_any}
 use Rattle.ml_base.specs.Name.{longest_name}
-use Rattle.ml_text.specs.Bytes.{is_lower, is_letter, is_word_byte}
+use Rattle.ml_text.specs.Bytes.{is_lower, is_letter}
+use Rattle.ml_text.specs.Words.{is_word_from}
 use Rattle.ml_pdl.specs.Formula.{Formula, Const, Prop, Not, Binary, Modal, Repeat, Program, Act, Seq, Alt, Star, Test}
 
 abbrev pub reserved : List (List ℕ)
@@ -20,10 +20,6 @@ reserved = codes "tt" ∷ codes "true" ∷ codes "ff" ∷ codes "false" ∷ code
 
 abbrev pub is_reserved : List ℕ → Bool
 is_reserved name = list_any (bytes_eq name) reserved
-
-abbrev pub is_word_from : (ℕ → Bool) → List ℕ → Bool
-is_word_from begins [] = false
-is_word_from begins (b ∷ rest) = begins b && list_all is_word_byte rest
 
 abbrev pub is_proposition : List ℕ → Bool
 is_proposition name = is_word_from is_lower name && not (is_reserved name)

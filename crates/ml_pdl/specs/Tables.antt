@@ -16,8 +16,7 @@
 --   resume k v    == a form behind its operand v
 --   pdl_grammar   == the tables
 use Rattle.std.specs.Prelude.{ℕ, zero, suc, Bool, true, nat_le, List, Option, Some, None, codes}
-use Rattle.ml_text.specs.declared.token.Operator.{Operator}
-use Rattle.ml_text.specs.declared.token.Operator.TheVariants as operator
+use Rattle.ml_text.specs.Operators.{operator_level}
 use Rattle.ml_text.specs.Grammar.{Grammar, Mode, Whole, More, Turn, Read, Inner, Opens}
 use Rattle.ml_text.specs.declared.forms.Role.{Role}
 use Rattle.ml_text.specs.declared.forms.Role.TheVariants.{Infix, Postfix, Outside}
@@ -170,13 +169,6 @@ resume RepeatGroup v = More (BehindRepeatInside (program_of v))
 resume ProgramGroup v = More (BehindProgramInside (program_of v))
 resume (TestGroup n) v = More (BehindTestInside (negated n (formula_of v)))
 
--- the levels of the operators: of formulas those of the levels 2 and 3 group to the left, of programs all
-abbrev pub operator_level : Operator → ℕ
-operator_level operator.Iff = 0
-operator_level operator.Implies = 1
-operator_level operator.Or = 2
-operator_level operator.And = 3
-
 abbrev pub role : Sort → Sign → Role
 role Formulas (Connective o) = Infix (operator_level o)
 role Programs Plus = Infix 0
@@ -185,6 +177,7 @@ role Programs Star = Postfix
 role Programs Question = Postfix
 role _ _ = Outside
 
+-- of formulas the connectives of the levels 2 and 3 group to the left, of programs all operators
 abbrev pub groups_left : Sort → ℕ → Bool
 groups_left Formulas l = nat_le 2 l
 groups_left Programs l = true

@@ -22,8 +22,9 @@ use Rattle.ml_text.specs.Items.{SignTable, bytes_of}
 use Rattle.ml_text.specs.Refusals.{Item, signs_of}
 use Rattle.ml_text.specs.declared.limits.Bracket.{Bracket}
 use Rattle.ml_text.specs.declared.limits.Bracket.TheVariants.{Opening, Closing, Neither}
-use Rattle.ml_pdl.specs.Formula.{Formula, weight}
-use Rattle.ml_pdl.specs.Signs.{Sign, Not, Connective, Const, Open, Close, Begins, Ends, Repeats, Plus, Semicolon, Star, Question, Blank, Lower, Upper, Unknown, sign_of}
+use Rattle.ml_text.specs.Operators.{weight}
+use Rattle.ml_pdl.specs.Formula.{Formula}
+use Rattle.ml_pdl.specs.Signs.{Sign, Connective, Open, Close, Begins, Ends, Unknown, sign_of}
 use Rattle.ml_pdl.specs.Marks.{is_test_behind, marked, with_mark}
 use Rattle.ml_pdl.specs.Grammar.{IsReadAs}
 

@@ -8,19 +8,8 @@ use crate::forms::{Hold, Phrase, Sort, Wait, join, post, resume, shift};
 use crate::marking::Marks;
 use crate::signs::{Kind, Sign, begins_modality, bracket, kind_of, marked, sign_of, weight};
 use ml_base::NoMemory;
-use ml_text::{Bracket, Logic, Mode, Operator, Placed, Role, Turn, WordStart};
+use ml_text::{Bracket, Logic, Mode, Placed, Role, Turn, WordStart, operator_level};
 use std::alloc::Global;
-
-fn operator_level(operator: Operator) -> u8
-    ensures { result ≡ tables.operator_level operator }
-{
-    match operator {
-        Operator::Iff => 0,
-        Operator::Implies => 1,
-        Operator::Or => 2,
-        Operator::And => 3,
-    }
-}
 
 fn role(sort: Sort, sign: &Sign) -> Role
     ensures { result ≡ tables.role (sort_view sort) (sign_view sign.now) }

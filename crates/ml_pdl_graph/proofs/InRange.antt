@@ -14,11 +14,14 @@ use Rattle.ml_graph.specs.Graph.{Graph, IsGraph, Reference, references_of, size}
 use Rattle.ml_graph.specs.declared.node.Node.{Node}
 use Rattle.ml_text.specs.declared.token.Operator.{Operator}
 use Rattle.ml_text.specs.declared.token.Operator.TheVariants as operator
-use Rattle.ml_pdl.specs.Formula.{Formula, Const, Prop, Not, Binary, Modal, Repeat, Program, Act, Seq, Alt, Star, Test, Diamond, Square, occurrences, program_occurrences, weight}
+use Rattle.ml_text.specs.Operators.{weight}
+use Rattle.ml_text.specs.private.NameLists.{place_of}
+use Rattle.ml_text.proofs.NameLists.{place_found}
+use Rattle.ml_pdl.specs.Formula.{Formula, Const, Prop, Not, Binary, Modal, Repeat, Program, Act, Seq, Alt, Star, Test, Diamond, Square, occurrences, program_occurrences}
 use Rattle.ml_pdl_graph.specs.PdlGraph.{constant, negative, positive, diamond, box}
-use Rattle.ml_pdl_graph.specs.private.NodeList.{nodes_of, program_nodes, operator_nodes, priorities_of, props_onto, actions_onto, place_of}
+use Rattle.ml_pdl_graph.specs.private.NodeList.{nodes_of, program_nodes, operator_nodes, priorities_of, props_onto, actions_onto}
 use Rattle.ml_pdl_graph.proofs.Made.{names_among}
-use Rattle.ml_pdl_graph.proofs.NameLists.{AreAmong, ProgramAreAmong, place_found, distinct_actions, distinct_props}
+use Rattle.ml_pdl_graph.proofs.NameLists.{AreAmong, ProgramAreAmong, distinct_actions, distinct_props}
 use Rattle.ml_pdl_graph.proofs.NodeLists.{length-nodes, length-priorities, one_symbol, program_symbol}
 
 abbrev IsInRange : Reference → Type 0

@@ -3,12 +3,13 @@
 --   graph_made  == lists that are those of a formula make its graph
 use Rattle.std.proofs.Common.{◌≡◌, ℕ, ◌*◌, Bool, true, List, [], length, refl, sym, ◌∙◌, ap, subst, if◌then◌else◌}
 use Rattle.std.proofs.lemmas.List.{append-nil}
+use Rattle.ml_text.proofs.NameLists.{is_among}
 use Rattle.ml_graph.specs.Graph.{Graph, IsGraph}
 use Rattle.ml_pdl.specs.Formula.{Formula}
 use Rattle.ml_pdl_graph.specs.PdlGraph.{IsGraphOf}
 use Rattle.ml_pdl_graph.specs.private.NodeList.{props_onto, actions_onto, nodes_of, priorities_of}
 use Rattle.ml_pdl_graph.proofs.Holding.{Holds}
-use Rattle.ml_pdl_graph.proofs.NameLists.{AreAmong, all_among, is_among, names_in}
+use Rattle.ml_pdl_graph.proofs.NameLists.{AreAmong, all_among, names_in}
 use Rattle.ml_pdl_graph.proofs.NodeLists.{length-nodes, stands}
 
 whole : {A : Type 0} (xs ys : List A) → xs ≡ ys → Holds xs 0 ys

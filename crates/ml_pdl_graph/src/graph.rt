@@ -1,6 +1,7 @@
 // The graph of a formula.
 ghost use Rattle.std.specs.Prelude.{◌≡◌, ◌+◌, ◌*◌, ◌^◌, ◌≤◌, ◌<◌, ◌++◌, if◌then◌else◌, [], ◌∷◌, length, IfOk, OnOk};
 ghost use Rattle.ml_graph.specs.declared.node.Node.TheVariants as graph_node;
+ghost use Rattle.ml_text.specs.Operators.{weight};
 ghost use Rattle.ml_pdl.specs.Formula as pdl;
 ghost use Rattle.ml_pdl.specs.Formula.{occurrences, program_occurrences};
 ghost use Rattle.ml_pdl.specs.Term.{formula_of, program_of};
@@ -122,7 +123,7 @@ fn put_plain(draft: &mut Draft, nodes: (Node, Node)) -> Result<(), AllocError>
 }
 
 fn weight(operator: Operator) -> u32
-    ensures { result ≡ pdl.weight operator }
+    ensures { result ≡ weight operator }
 {
     match operator {
         Operator::Iff => 3,

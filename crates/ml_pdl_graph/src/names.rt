@@ -1,6 +1,7 @@
 // The names of a formula's graph: its propositions and its actions, each once, in the order of the text.
 ghost use Rattle.std.specs.Prelude.{◌≡◌, ◌<◌, ◌^◌, [], length, OnOk, IfOk};
 ghost use Rattle.ml_pdl.specs.Term.{formula_of, program_of};
+ghost use Rattle.ml_text.specs.private.NameLists.{with_name, place_of};
 ghost use Rattle.ml_pdl_graph.specs.private.NodeList as listed;
 
 use indexmap::IndexSet;
@@ -17,7 +18,7 @@ pub(crate) struct Names {
 
 // a proposition is added, unless it is there
 fn add_proposition(props: &mut IndexSet<Name>, name: &Name) -> Result<(), NoMemory>
-    ensures { OnOk result (props.new.keys ≡ listed.with_name props.old.keys name.now) }
+    ensures { OnOk result (props.new.keys ≡ with_name props.old.keys name.now) }
 {
     if props.contains(name) {
         return Ok(());
@@ -28,7 +29,7 @@ fn add_proposition(props: &mut IndexSet<Name>, name: &Name) -> Result<(), NoMemo
 
 // an action is added, unless it is there
 fn add_action(actions: &mut IndexSet<Action>, name: &Action) -> Result<(), NoMemory>
-    ensures { OnOk result (actions.new.keys ≡ listed.with_name actions.old.keys name.now) }
+    ensures { OnOk result (actions.new.keys ≡ with_name actions.old.keys name.now) }
 {
     if actions.contains(name) {
         return Ok(());
@@ -102,7 +103,7 @@ impl Names {
     // the place of a proposition
     pub(crate) fn proposition(&self, name: &Name) -> u32
         requires { length self.now.props.keys < 2 ^ 32 }
-        ensures { result ≡ listed.place_of self.now.props.keys name.now }
+        ensures { result ≡ place_of self.now.props.keys name.now }
     {
         match self.props.get_index_of(name) {
             Some(place) => place as u32,
@@ -113,7 +114,7 @@ impl Names {
     // the place of an action
     pub(crate) fn action(&self, name: &Action) -> u32
         requires { length self.now.actions.keys < 2 ^ 32 }
-        ensures { result ≡ listed.place_of self.now.actions.keys name.now }
+        ensures { result ≡ place_of self.now.actions.keys name.now }
     {
         match self.actions.get_index_of(name) {
             Some(place) => place as u32,

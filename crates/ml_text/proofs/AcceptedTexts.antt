@@ -3,13 +3,17 @@
 --   no_syntax   == what stands for a tree has no fault of the grammar
 --   Keeps t R text f bracket ss == what is known of a text with the tokens ss: that it stands for f, and keeps the limits
 --   accepted    == such a text is accepted
+--   weight_some == each connective counts
 use Rattle.std.proofs.Common.{◌≡◌, ℕ, ◌+◌, ◌≤◌, Bool, true, false, nat_lt, List, ◌++◌, length, map, take, drop, refl, sym, ap, subst, ◌∙◌, arith, ltb-false, ltb-true}
 use Rattle.std.specs.List.{AllByRecursion}
 use Rattle.std.proofs.lemmas.List.{map-append, take-append-drop}
 use Rattle.std.proofs.lemmas.List.Sums.{sum_by-take-le}
 use Rattle.ml_text.specs.declared.limits.Bracket.{Bracket}
 use Rattle.ml_text.specs.declared.token.Placed.{Placed}
+use Rattle.ml_text.specs.declared.token.Operator.{Operator}
+use Rattle.ml_text.specs.declared.token.Operator.TheVariants as operator
 use Rattle.ml_text.specs.Items.{SignTable, items}
+use Rattle.ml_text.specs.Operators.{weight}
 use Rattle.ml_text.specs.Refusals.{Item, Cause, Syntax, TooMany, TooNested, NameTooLong, signs_of, counted, most_occurrences, most_open, IsFault, IsAccepted}
 use Rattle.ml_text.specs.Tokens.{tokens}
 use Rattle.ml_text.proofs.Cover.{are_tokens}
@@ -62,3 +66,9 @@ pub accepted : {Sign Context Tree : Type 0} (t : SignTable Sign Context) (R : Li
     → Keeps t R text f bracket ss
     → IsAccepted R (items t text) f
 accepted t R text f bracket ss known = record { stands = known.stands; keeps = keeps t R text f bracket ss known }
+
+pub weight_some : (o : Operator) → 1 ≤ weight o
+weight_some operator.Iff = omega arith
+weight_some operator.Implies = omega arith
+weight_some operator.Or = omega arith
+weight_some operator.And = omega arith

@@ -46,8 +46,12 @@ pub mod Stacks
 pub mod Alike
 -- what comes of an item
 pub mod ItemSteps
+-- words by their first letter
+pub mod FirstLetters
 -- words as names
 pub mod WordNames
+-- names among others, each once
+pub mod NameLists
 -- the items of a text by a table of signs
 pub mod TableItems
 -- texts that keep the limits

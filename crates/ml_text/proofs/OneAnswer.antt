@@ -2,8 +2,16 @@
 --
 --   refused_once         == the first cause and its place are unique
 --   accepted_not_refused == an accepted text is refused for no cause
-use Rattle.std.proofs.Common.{◌≡◌, ℕ, ◌<◌, ◌≤◌, ◌⊎◌, List, refl, inl, inr, arith}
-use Rattle.ml_text.specs.Refusals.{Item, Cause, Syntax, TooMany, TooNested, NameTooLong, rank, IsRefused, IsAccepted}
+--   refused_one_way      == but for want of memory, a text has one refusal at most
+--   accepted_no_refusal  == an accepted text has no other
+--   refused_for          == a cause that comes first has a refusal
+--   refused_first        == what comes of a text, where it is a refusal, is one by that cause
+use Rattle.std.proofs.Common.{◌≡◌, ℕ, ◌<◌, ◌≤◌, ◌⊎◌, List, refl, sym, ◌∙◌, ap, inl, inr, arith}
+use Rattle.ml_base.specs.declared.parse_refusal.ParseRefusal.{ParseRefusal}
+use Rattle.ml_base.specs.declared.parse_refusal.ParseRefusal.TheVariants as refusal
+use Rattle.ml_text.specs.Refusals.{Item, Cause, Syntax, TooMany, TooNested, NameTooLong, rank, IsRefused, IsAccepted, ComesFirst, IsRefusedBy, offset_of}
+use Rattle.ml_text.specs.private.Progress.{IsRefusal, refusal_of}
+use Rattle.ml_text.specs.private.Reading.{Outcome, Refused}
 
 one_rank : (c d : Cause) → rank c ≤ rank d → rank d ≤ rank c → c ≡ d
 one_rank Syntax Syntax a b = refl
@@ -46,3 +54,93 @@ pub accepted_not_refused : {Sign Tree : Type 0} (R : List Sign → Tree → Type
     → IsRefused R items c k
     → ⊥
 accepted_not_refused R items f c k a b = a.keeps c k b.comes
+
+-- ---- refusals
+
+-- the cause of a refusal, and its place
+abbrev cause_of : ParseRefusal → Cause
+cause_of (refusal.TooMany at) = TooMany
+cause_of (refusal.TooNested at) = TooNested
+cause_of (refusal.NameTooLong at) = NameTooLong
+cause_of _ = Syntax
+
+abbrev place_of : ParseRefusal → ℕ
+place_of (refusal.Syntax at) = at
+place_of (refusal.TooMany at) = at
+place_of (refusal.TooNested at) = at
+place_of (refusal.NameTooLong at) = at
+place_of _ = 0
+
+record Reason {Sign Tree : Type 0} (R : List Sign → Tree → Type 0) (items : List (Item Sign)) (end : ℕ)
+    (e : ParseRefusal) : Type 0 where
+  pub first : ComesFirst R items end (cause_of e) (place_of e)
+  pub back : refusal_of (cause_of e) (place_of e) ≡ e
+
+reason : {Sign Tree : Type 0} (R : List Sign → Tree → Type 0) (items : List (Item Sign)) (end : ℕ) (e : ParseRefusal)
+    → (e ≡ refusal.NoMemory → ⊥)
+    → IsRefusedBy R items end e
+    → Reason R items end e
+reason R items end (refusal.Syntax at) some is = record { first = is; back = refl }
+reason R items end (refusal.TooMany at) some is = record { first = is; back = refl }
+reason R items end (refusal.TooNested at) some is = record { first = is; back = refl }
+reason R items end (refusal.NameTooLong at) some is = record { first = is; back = refl }
+reason R items end (refusal.Unbound at) some is = absurd is
+reason R items end (refusal.NotPositive at) some is = absurd is
+reason R items end refusal.NoMemory some is = absurd (some refl)
+
+pub refused_one_way : {Sign Tree : Type 0} (R : List Sign → Tree → Type 0) (items : List (Item Sign)) (end : ℕ)
+    (e d : ParseRefusal)
+    → (e ≡ refusal.NoMemory → ⊥)
+    → (d ≡ refusal.NoMemory → ⊥)
+    → IsRefusedBy R items end e
+    → IsRefusedBy R items end d
+    → e ≡ d
+refused_one_way R items end e d a b p q =
+    let r = reason R items end e a p in
+    let s = reason R items end d b q in
+    let same = refused_once R items (cause_of e) (cause_of d) (r.first).0 (s.first).0 (r.first).1 (s.first).1 in
+    let place : place_of e ≡ place_of d = (r.first).2 ∙ ap (offset_of items end) same.1 ∙ sym (s.first).2 in
+    sym r.back ∙ ap (λ c. refusal_of c (place_of e)) same.0 ∙ ap (refusal_of (cause_of d)) place ∙ s.back
+
+never : {Sign Tree : Type 0} (R : List Sign → Tree → Type 0) (items : List (Item Sign)) (end : ℕ) (f : Tree)
+    (c : Cause) (at : ℕ)
+    → IsAccepted R items f
+    → ComesFirst R items end c at
+    → ⊥
+never R items end f c at accepted first = accepted_not_refused R items f c first.0 accepted first.1
+
+pub accepted_no_refusal : {Sign Tree : Type 0} (R : List Sign → Tree → Type 0) (items : List (Item Sign)) (end : ℕ)
+    (f : Tree) (e : ParseRefusal)
+    → IsAccepted R items f
+    → IsRefusedBy R items end e
+    → e ≡ refusal.NoMemory
+accepted_no_refusal R items end f (refusal.Syntax at) a is = absurd (never R items end f Syntax at a is)
+accepted_no_refusal R items end f (refusal.TooMany at) a is = absurd (never R items end f TooMany at a is)
+accepted_no_refusal R items end f (refusal.TooNested at) a is = absurd (never R items end f TooNested at a is)
+accepted_no_refusal R items end f (refusal.NameTooLong at) a is = absurd (never R items end f NameTooLong at a is)
+accepted_no_refusal R items end f (refusal.Unbound at) a is = absurd is
+accepted_no_refusal R items end f (refusal.NotPositive at) a is = absurd is
+accepted_no_refusal R items end f refusal.NoMemory a is = refl
+
+pub refused_for : {Sign Tree : Type 0} (R : List Sign → Tree → Type 0) (items : List (Item Sign)) (end : ℕ)
+    (c : Cause) (at : ℕ)
+    → ComesFirst R items end c at
+    → (e : ParseRefusal) × (e ≡ refusal.NoMemory → ⊥) × IsRefusedBy R items end e
+refused_for R items end Syntax at first = (refusal.Syntax at, (λ same. cc), first)
+refused_for R items end TooMany at first = (refusal.TooMany at, (λ same. cc), first)
+refused_for R items end TooNested at first = (refusal.TooNested at, (λ same. cc), first)
+refused_for R items end NameTooLong at first = (refusal.NameTooLong at, (λ same. cc), first)
+
+pub refused_first : {Sign Tree Found : Type 0} (R : List Sign → Tree → Type 0) (items : List (Item Sign)) (end : ℕ)
+    (out : Outcome Found)
+    → ((c : Cause) (at : ℕ) → out ≡ Refused c at → ComesFirst R items end c at)
+    → (e : ParseRefusal)
+    → IsRefusal e out
+    → IsRefusedBy R items end e
+refused_first R items end out first (refusal.Syntax at) is = first Syntax at is
+refused_first R items end out first (refusal.TooMany at) is = first TooMany at is
+refused_first R items end out first (refusal.TooNested at) is = first TooNested at is
+refused_first R items end out first (refusal.NameTooLong at) is = first NameTooLong at is
+refused_first R items end out first (refusal.Unbound at) is = absurd is
+refused_first R items end out first (refusal.NotPositive at) is = absurd is
+refused_first R items end out first refusal.NoMemory is = tt

@@ -6,14 +6,18 @@
 --   lone_piece       == such a byte is one
 --   less_piece       == so is `<`, where neither `-` nor `=` follows
 --   not_piece        == `!` is a negation
---   and_piece, or_piece, implies_piece, iff_piece == the signs of the connectives, between blanks, are these
+--   operator_piece   == the sign of a connective, between blanks, is this connective
 --   ends_word text   == no byte of words stands at the front
 --   word_piece       == a word that no byte of words follows is one
-use Rattle.std.proofs.Common.{◌≡◌, ℕ, suc, ◌+◌, Bool, true, false, not, ◌||◌, ◌==◌, List, [], ◌∷◌, ◌++◌, length, take_while, None, codes, refl, ◌∙◌, ap, arith}
+--   between_same     == a text of two with a sign between them, in front of another
+use Rattle.std.proofs.Common.{◌≡◌, ℕ, suc, ◌+◌, Bool, true, false, not, ◌||◌, ◌==◌, List, [], ◌∷◌, ◌++◌, length, take_while, None, append_assoc, codes, refl, ◌∙◌, ap, arith}
 use Rattle.std.specs.List.{list_all, list_any, prefix_len}
 use Rattle.std.proofs.lemmas.Bool.{and_parts, or_parts, not-true, cond-true, cond-false}
 use Rattle.std.proofs.lemmas.List.Folds.{length-prefix_len}
 use Rattle.ml_text.specs.Bytes.{is_blank, is_word_byte}
+use Rattle.ml_text.specs.Operators.{spelling_of}
+use Rattle.ml_text.specs.Words.{is_word_from}
+use Rattle.ml_text.specs.declared.token.Operator.{Operator}
 use Rattle.ml_text.specs.declared.token.Operator.TheVariants as operator
 use Rattle.ml_text.specs.declared.token.Token.TheVariants as token
 use Rattle.ml_text.specs.declared.token.WordStart.{WordStart}
@@ -87,14 +91,14 @@ unfolding front_token longest_sign signs
 and_piece AnyLetter rest ss r = blank 32 refl (piece (token.Operator operator.And) 38 [] refl refl (blank 32 refl r))
 and_piece LowerCase rest ss r = blank 32 refl (piece (token.Operator operator.And) 38 [] refl refl (blank 32 refl r))
 
-pub or_piece : (w : WordStart) (rest : List ℕ) (ss : List Spelt)
+or_piece : (w : WordStart) (rest : List ℕ) (ss : List Spelt)
     → Scans w rest ss
     → Scans w (codes " | " ++ rest) ((token.Operator operator.Or, codes "|") ∷ ss)
 unfolding front_token longest_sign signs
 or_piece AnyLetter rest ss r = blank 32 refl (piece (token.Operator operator.Or) 124 [] refl refl (blank 32 refl r))
 or_piece LowerCase rest ss r = blank 32 refl (piece (token.Operator operator.Or) 124 [] refl refl (blank 32 refl r))
 
-pub implies_piece : (w : WordStart) (rest : List ℕ) (ss : List Spelt)
+implies_piece : (w : WordStart) (rest : List ℕ) (ss : List Spelt)
     → Scans w rest ss
     → Scans w (codes " -> " ++ rest) ((token.Operator operator.Implies, codes "->") ∷ ss)
 unfolding front_token longest_sign signs
@@ -103,7 +107,7 @@ implies_piece AnyLetter rest ss r =
 implies_piece LowerCase rest ss r =
     blank 32 refl (piece (token.Operator operator.Implies) 45 (codes ">") refl refl (blank 32 refl r))
 
-pub iff_piece : (w : WordStart) (rest : List ℕ) (ss : List Spelt)
+iff_piece : (w : WordStart) (rest : List ℕ) (ss : List Spelt)
     → Scans w rest ss
     → Scans w (codes " <-> " ++ rest) ((token.Operator operator.Iff, codes "<->") ∷ ss)
 unfolding front_token longest_sign signs
@@ -111,6 +115,14 @@ iff_piece AnyLetter rest ss r =
     blank 32 refl (piece (token.Operator operator.Iff) 60 (codes "->") refl refl (blank 32 refl r))
 iff_piece LowerCase rest ss r =
     blank 32 refl (piece (token.Operator operator.Iff) 60 (codes "->") refl refl (blank 32 refl r))
+
+pub operator_piece : (w : WordStart) (o : Operator) (rest : List ℕ) (ss : List Spelt)
+    → Scans w rest ss
+    → Scans w (codes " " ++ (spelling_of o ++ (codes " " ++ rest))) ((token.Operator o, spelling_of o) ∷ ss)
+operator_piece w operator.And = and_piece w
+operator_piece w operator.Or = or_piece w
+operator_piece w operator.Implies = implies_piece w
+operator_piece w operator.Iff = iff_piece w
 
 -- ---- words
 
@@ -131,14 +143,22 @@ word_size (b ∷ bs) rest all stops =
     let here = cond-true (is_word_byte b) (1 + prefix_len is_word_byte (bs ++ rest)) 0 parts.0 in
     omega (arith, here, later)
 
-pub word_piece : (w : WordStart) (b : ℕ) (bs rest : List ℕ) (ss : List Spelt)
-    → begins_word w b ≡ true
-    → list_all is_word_byte bs ≡ true
+pub word_piece : (w : WordStart) (word rest : List ℕ) (ss : List Spelt)
+    → is_word_from (begins_word w) word ≡ true
     → ends_word rest ≡ true
     → Scans w rest ss
-    → Scans w (b ∷ (bs ++ rest)) ((token.Word, b ∷ bs) ∷ ss)
-word_piece w b bs rest ss begins all stops r =
-    let size = length-prefix_len is_word_byte (bs ++ rest) ∙ word_size bs rest all stops in
+    → Scans w (word ++ rest) ((token.Word, word) ∷ ss)
+word_piece w [] rest ss word stops r = absurd (cc)
+word_piece w (b ∷ bs) rest ss word stops r =
+    let parts = and_parts (begins_word w b) (list_all is_word_byte bs) word in
+    let size = length-prefix_len is_word_byte (bs ++ rest) ∙ word_size bs rest parts.1 stops in
     let one_more : 1 + length (take_while is_word_byte (bs ++ rest)) ≡ suc (length bs) = omega (arith, size) in
-    let front = front_token-word w b (bs ++ rest) begins ∙ ap (λ n. (token.Word, n)) one_more in
-    piece token.Word b bs (begins_word-no_blank w b begins) front r
+    let front = front_token-word w b (bs ++ rest) parts.0 ∙ ap (λ n. (token.Word, n)) one_more in
+    piece token.Word b bs (begins_word-no_blank w b parts.0) front r
+
+-- ---- connectives
+
+pub between_same : (left sign right rest : List ℕ)
+    → (codes "(" ++ left ++ codes " " ++ sign ++ codes " " ++ right ++ codes ")") ++ rest
+    ≡ 40 ∷ (left ++ (codes " " ++ (sign ++ (codes " " ++ (right ++ (41 ∷ rest))))))
+between_same left sign right rest = simp append_assoc

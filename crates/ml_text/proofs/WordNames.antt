@@ -1,7 +1,7 @@
 -- Words as names: which words are names, and of which bytes of a token a name is made.
 --
---   word_is_name    == a word that is no longer than a name may be is one
---   cut_is_name     == so are the first bytes of a longer word
+--   word_is_name, word_name == a word that is no longer than a name may be is one
+--   cut_is_name, cut_word   == so are the first bytes of a longer word
 --   name_length     == a name is no longer than a name may be
 --   token_size      == how many bytes a token within the text has
 --   name_bytes_by   == what holds of the first bytes of each token, and of all bytes of one that is not too long, holds of
@@ -14,6 +14,7 @@ use Rattle.std.proofs.lemmas.Bool.{cases_Bool, and_parts, and_from, or_cases, or
 use Rattle.std.proofs.lemmas.List.{take-take}
 use Rattle.ml_base.specs.Name.{is_name, is_name_byte, longest_name}
 use Rattle.ml_text.specs.Bytes.{is_lower, is_upper, is_letter, is_digit, is_word_byte}
+use Rattle.ml_text.specs.Words.{is_word_from}
 use Rattle.ml_text.specs.Items.{is_word, is_long_word, bytes_of, name_bytes}
 use Rattle.ml_text.specs.declared.token.Placed.{Placed}
 use Rattle.ml_text.proofs.ItemSteps.{short_bytes}
@@ -70,6 +71,18 @@ pub cut_is_name : (b : ℕ) (bs : List ℕ)
     → list_all is_word_byte bs ≡ true
     → is_name (take longest_name (b ∷ bs)) ≡ true
 cut_is_name b bs letter all = cut_by longest_name b bs (omega arith) (omega arith) letter all
+
+pub word_name : (w : List ℕ) → is_word_from is_letter w ≡ true → length w ≤ longest_name → is_name w ≡ true
+word_name [] word short = absurd (cc)
+word_name (b ∷ bs) word short =
+    let parts = and_parts (is_letter b) (list_all is_word_byte bs) word in
+    word_is_name b bs parts.0 parts.1 short
+
+pub cut_word : (w : List ℕ) → is_word_from is_letter w ≡ true → is_name (take longest_name w) ≡ true
+cut_word [] word = absurd (cc)
+cut_word (b ∷ bs) word =
+    let parts = and_parts (is_letter b) (list_all is_word_byte bs) word in
+    cut_is_name b bs parts.0 parts.1
 
 pub name_length : (name : List ℕ) → is_name name ≡ true → length name ≤ longest_name
 name_length [] is = absurd (cc)

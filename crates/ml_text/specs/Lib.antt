@@ -4,6 +4,8 @@ pub mod Bytes
 pub mod Tokens
 -- words, and the words for the constants
 pub mod Words
+-- the connectives
+pub mod Operators
 -- what the tokens of a text are: the longest ones, and nothing but blanks between them
 pub mod Spelling
 -- grammars with operators of levels, over any signs

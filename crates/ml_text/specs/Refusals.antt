@@ -20,7 +20,11 @@
 --   IsRefused R items c k   == c at k is the first of all
 --   IsAccepted R items f    == the signs stand for f, and no cause comes at all
 --   offset_of items end k   == where the place k is in the text, whose end is given
+--   ComesFirst R items end c at  == c is the first of all, and comes at this byte
+--   IsRefusedBy R items end e    == the text is refused with this answer, in a logic whose variables are never at fault
 use Rattle.std.specs.Prelude.{ℕ, zero, suc, ◌+◌, ◌-◌, ◌<◌, ◌≤◌, ◌≡◌, ◌⊎◌, Bool, true, false, List, [], ◌∷◌, ◌++◌, length, map, take, sum_by}
+use Rattle.ml_base.specs.declared.parse_refusal.ParseRefusal.{ParseRefusal}
+use Rattle.ml_base.specs.declared.parse_refusal.ParseRefusal.TheVariants as refusal
 use Rattle.ml_text.specs.declared.limits.TheConstants.{MOST_OCCURRENCES, MOST_OPEN}
 use Rattle.ml_text.specs.declared.limits.Bracket.{Bracket}
 use Rattle.ml_text.specs.declared.limits.Bracket.TheVariants.{Opening, Closing, Neither}
@@ -113,3 +117,27 @@ abbrev pub offset_of : {Sign : Type 0} → List (Item Sign) → ℕ → ℕ → 
 offset_of [] end k = end
 offset_of (i ∷ items) end zero = i.at
 offset_of (i ∷ items) end (suc k) = offset_of items end k
+
+abbrev pub ComesFirst : {Sign Tree : Type 0}
+    → (List Sign → Tree → Type 0)
+    → List (Item Sign)
+    → ℕ
+    → Cause
+    → ℕ
+    → Type 0
+ComesFirst R items end c at = (k : ℕ) × IsRefused R items c k × (at ≡ offset_of items end k)
+
+abbrev pub IsRefusedBy : {Sign Tree : Type 0}
+    → (List Sign → Tree → Type 0)
+    → List (Item Sign)
+    → ℕ
+    → ParseRefusal
+    → Type 0
+IsRefusedBy R items end (refusal.Syntax at) = ComesFirst R items end Syntax at
+IsRefusedBy R items end (refusal.Unbound at) = ⊥
+IsRefusedBy R items end (refusal.NotPositive at) = ⊥
+IsRefusedBy R items end (refusal.TooMany at) = ComesFirst R items end TooMany at
+IsRefusedBy R items end (refusal.TooNested at) = ComesFirst R items end TooNested at
+IsRefusedBy R items end (refusal.NameTooLong at) = ComesFirst R items end NameTooLong at
+-- want of memory is the one answer that says nothing of the text
+IsRefusedBy R items end refusal.NoMemory = Unit {0}

@@ -8,8 +8,7 @@
 --   resume k f     == a form behind its operand f
 --   ctl_grammar w  == the tables of a logic
 use Rattle.std.specs.Prelude.{ℕ, ◌&&◌, Bool, nat_le, Option, Some, None}
-use Rattle.ml_text.specs.declared.token.Operator.{Operator}
-use Rattle.ml_text.specs.declared.token.Operator.TheVariants as operator
+use Rattle.ml_text.specs.Operators.{operator_level}
 use Rattle.ml_text.specs.Grammar.{Grammar, Mode, Whole, More, Turn, Read, Inner}
 use Rattle.ml_text.specs.declared.forms.Role.{Role}
 use Rattle.ml_text.specs.declared.forms.Role.TheVariants.{Infix, Outside}
@@ -76,13 +75,7 @@ resume (Tensing t) f = Whole (plain.Temporal t f)
 resume (Quantifying q) f = Whole (plain.Quantified q f)
 resume (Group s) f = More (BehindInside f)
 
--- the levels of the connectives; those of the levels 2 and 3 group to the left. U, R and W have the level 4
-abbrev pub operator_level : Operator → ℕ
-operator_level operator.Iff = 0
-operator_level operator.Implies = 1
-operator_level operator.Or = 2
-operator_level operator.And = 3
-
+-- U, R and W bind tighter than the connectives
 abbrev pub pairing_role : Sort → Role
 pairing_role State = Outside
 pairing_role Path = Infix 4
@@ -92,6 +85,7 @@ role s (Connective o) = Infix (operator_level o)
 role s (Pairs p) = pairing_role s
 role s _ = Outside
 
+-- the connectives of the levels 2 and 3 group to the left, all other operators to the right
 abbrev pub groups_left : ℕ → Bool
 groups_left l = nat_le 2 l && nat_le l 3
 

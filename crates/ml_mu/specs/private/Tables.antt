@@ -8,8 +8,7 @@
 --   resume k f    == a form behind its operand f
 --   mu_grammar    == the tables
 use Rattle.std.specs.Prelude.{ℕ, nat_le, List, Option, Some, None, codes}
-use Rattle.ml_text.specs.declared.token.Operator.{Operator}
-use Rattle.ml_text.specs.declared.token.Operator.TheVariants as operator
+use Rattle.ml_text.specs.Operators.{operator_level}
 use Rattle.ml_text.specs.Grammar.{Grammar, Mode, Whole, More, Turn, Read, Inner}
 use Rattle.ml_text.specs.declared.forms.Role.{Role}
 use Rattle.ml_text.specs.declared.forms.Role.TheVariants.{Infix, Outside}
@@ -93,13 +92,6 @@ resume (Modal m a) f = Whole (plain.Modal m a f)
 resume (Binder q x) f = Whole (plain.Binder q x f)
 resume Group f = More (BehindInside f)
 
--- the levels of the operators; those of the levels 2 and 3 group to the left
-abbrev pub operator_level : Operator → ℕ
-operator_level operator.Iff = 0
-operator_level operator.Implies = 1
-operator_level operator.Or = 2
-operator_level operator.And = 3
-
 abbrev pub role : Sign → Role
 role (Connective o) = Infix (operator_level o)
 role _ = Outside
@@ -108,6 +100,7 @@ abbrev pub join : Sign → Formula → Formula → Formula
 join (Connective o) f g = plain.Binary o f g
 join _ f g = f
 
+-- the connectives of the levels 2 and 3 group to the left
 abbrev pub mu_grammar : Grammar
 mu_grammar = record {
   Sign = Sign;

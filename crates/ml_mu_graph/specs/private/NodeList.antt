@@ -1,26 +1,22 @@
 -- The lists of a formula's graph: names, nodes and priorities, in the order in which a program makes them.
 --
---   with_name ps p              == the names ps, and behind them p if it isn't among them
---   props_onto f ps             == these, and behind them the propositions of f
+--   props_onto f ps             == the names ps, and behind them the propositions of f
 --   actions_onto f as           == these, and behind them the actions of f
---   place_of ps p               == the place of the name p
 --   bound x i b                 == the binders b, and inside them one of x as the occurrence i
 --   nodes_of ps acts b i f      == the nodes of f as the occurrence i, with these names and the binders b around
 --   priorities_of k d f         == their priorities, with d binders around
 --
 -- Binders around are a function here, from a variable to the occurrence of its innermost one.
-use Rattle.std.specs.Prelude.{ℕ, ◌+◌, true, false, not, if◌then◌else◌, List, [], ◌∷◌, ◌++◌, unwrap_or, position}
-use Rattle.std.specs.List.{list_any}
+use Rattle.std.specs.Prelude.{ℕ, ◌+◌, true, false, not, if◌then◌else◌, List, [], ◌∷◌, ◌++◌}
 use Rattle.std.specs.Str.{bytes_eq}
 use Rattle.ml_graph.specs.declared.node.Node.{Node}
 use Rattle.ml_graph.specs.declared.node.Node.TheVariants as node
+use Rattle.ml_text.specs.private.NameLists.{with_name, place_of}
 use Rattle.ml_text.specs.declared.token.Operator.{Operator}
 use Rattle.ml_text.specs.declared.token.Operator.TheVariants as operator
-use Rattle.ml_mu.specs.Formula.{Formula, Const, Prop, Var, Not, Binary, Modal, Binder, occurrences, weight}
+use Rattle.ml_text.specs.Operators.{weight}
+use Rattle.ml_mu.specs.Formula.{Formula, Const, Prop, Var, Not, Binary, Modal, Binder, occurrences}
 use Rattle.ml_mu_graph.specs.MuGraph.{positive, negative, constant, modality, dual, binder_priority, opposite}
-
-abbrev pub with_name : List (List ℕ) → List ℕ → List (List ℕ)
-with_name ps p = if list_any (bytes_eq p) ps then ps else ps ++ p ∷ []
 
 abbrev pub props_onto : Formula → List (List ℕ) → List (List ℕ)
 props_onto (Const b) ps = ps
@@ -39,9 +35,6 @@ actions_onto (Not f) acts = actions_onto f acts
 actions_onto (Binary op f h) acts = actions_onto h (actions_onto f acts)
 actions_onto (Modal m a f) acts = actions_onto f (with_name acts a)
 actions_onto (Binder q x f) acts = actions_onto f acts
-
-abbrev pub place_of : List (List ℕ) → List ℕ → ℕ
-place_of ps p = unwrap_or (position (bytes_eq p) ps) 0
 
 abbrev pub lead_to : ℕ → Node
 lead_to n = node.And n n

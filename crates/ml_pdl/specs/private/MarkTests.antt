@@ -6,7 +6,7 @@
 --   told tests n      == what a list of such answers says of n, which is no where it ends
 --   Tells tests bytes == the list, read from its end, says of each n what the bytes do
 --   AreMarks marks text == of each `(` of the text the flag at its place says whether it is marked
-use Rattle.std.specs.Prelude.{ℕ, zero, suc, ◌==◌, ◌+◌, ◌<◌, ◌≡◌, Bool, false, if◌then◌else◌, List, [], ◌∷◌, length, drop, get_or, reverse}
+use Rattle.std.specs.Prelude.{ℕ, zero, suc, ◌==◌, ◌+◌, ◌<◌, ◌≡◌, Bool, false, if◌then◌else◌, List, [], ◌∷◌, length, get_or, reverse}
 use Rattle.ml_text.specs.Bytes.{is_blank}
 use Rattle.ml_pdl.specs.Marks.{is_test_behind}
 use Rattle.ml_pdl.specs.Text.{signs_behind}

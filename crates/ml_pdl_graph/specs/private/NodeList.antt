@@ -1,24 +1,19 @@
 -- The lists of a formula's graph: names, nodes and priorities, in the order in which a program makes them.
 --
---   with_name ps p                == the names ps, and behind them p if it isn't among them
---   props_onto f ps, program_props_onto p ps         == these, and behind them the propositions of f, or of p
+--   props_onto f ps, program_props_onto p ps         == the names ps, and behind them the propositions of f, or of p
 --   actions_onto f acts, program_actions_onto p acts == these, and behind them the actions
---   place_of ps p                 == the place of the name p
 --   nodes_of ps acts i f          == the nodes of f as the occurrence i, with these names
 --   program_nodes ps acts i d b p == those of the program p, whose diamond goes on at the node d and whose box at b
 --   priorities_of f, program_priorities p == their priorities
-use Rattle.std.specs.Prelude.{ℕ, ◌+◌, true, false, not, if◌then◌else◌, List, [], ◌∷◌, ◌++◌, unwrap_or, position}
-use Rattle.std.specs.List.{list_any}
-use Rattle.std.specs.Str.{bytes_eq}
+use Rattle.std.specs.Prelude.{ℕ, ◌+◌, true, false, not, List, [], ◌∷◌, ◌++◌}
 use Rattle.ml_graph.specs.declared.node.Node.{Node}
 use Rattle.ml_graph.specs.declared.node.Node.TheVariants as node
+use Rattle.ml_text.specs.private.NameLists.{with_name, place_of}
 use Rattle.ml_text.specs.declared.token.Operator.{Operator}
 use Rattle.ml_text.specs.declared.token.Operator.TheVariants as operator
-use Rattle.ml_pdl.specs.Formula.{Formula, Const, Prop, Not, Binary, Modal, Repeat, Program, Act, Seq, Alt, Star, Test, Diamond, Square, occurrences, program_occurrences, weight}
+use Rattle.ml_text.specs.Operators.{weight}
+use Rattle.ml_pdl.specs.Formula.{Formula, Const, Prop, Not, Binary, Modal, Repeat, Program, Act, Seq, Alt, Star, Test, Diamond, Square, occurrences, program_occurrences}
 use Rattle.ml_pdl_graph.specs.PdlGraph.{positive, negative, diamond, box, constant, plain}
-
-abbrev pub with_name : List (List ℕ) → List ℕ → List (List ℕ)
-with_name ps p = if list_any (bytes_eq p) ps then ps else ps ++ p ∷ []
 
 abbrev mutual
   pub props_onto : Formula → List (List ℕ) → List (List ℕ)
@@ -51,9 +46,6 @@ abbrev mutual
   program_actions_onto (Alt p q) acts = program_actions_onto q (program_actions_onto p acts)
   program_actions_onto (Star p) acts = program_actions_onto p acts
   program_actions_onto (Test f) acts = actions_onto f acts
-
-abbrev pub place_of : List (List ℕ) → List ℕ → ℕ
-place_of ps p = unwrap_or (position (bytes_eq p) ps) 0
 
 abbrev pub lead_to : ℕ → Node
 lead_to n = node.And n n

@@ -1,6 +1,7 @@
 use Rattle.std.proofs.Common.{rules, ◌≡◌, ◌+◌, ◌*◌, ◌<◌, ◌≤◌, unwrap_or, length, ap, sym, ◌∙◌, arith}
 use Rattle.std.proofs.lemmas.Result.{on_ok_weaker}
-use Rattle.ml_mu.specs.Formula.{occurrences, weight}
+use Rattle.ml_text.specs.Operators.{weight}
+use Rattle.ml_mu.specs.Formula.{occurrences}
 use Rattle.ml_mu.specs.Term.{formula_of}
 use Rattle.ml_mu_graph.specs.private.Views.{around}
 use Rattle.ml_mu_graph.proofs.Bindings.{low_inside, low_same, left_again}

@@ -1,4 +1,4 @@
-use Rattle.std.proofs.Common.{rules, sym, ◌∙◌}
+use Rattle.std.proofs.Common.{sym, ◌∙◌}
 use Rattle.ml_pdl.proofs.Names.{free_word}
 use Rattle.ml_pdl.proofs.signs.word_kind.Goals as goal
 

@@ -1,4 +1,4 @@
-use Rattle.std.proofs.Common.{◌≡◌, ◌∙◌, ap, arith}
+use Rattle.std.proofs.Common.{◌∙◌, ap, arith}
 use Rattle.ml_text.specs.Items.{bytes_of}
 use Rattle.ml_pdl.specs.Marks.{with_mark}
 use Rattle.ml_pdl.specs.Text.{sign_by}

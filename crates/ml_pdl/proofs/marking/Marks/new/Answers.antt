@@ -1,4 +1,4 @@
-use Rattle.std.proofs.Common.{rules, ◌≡◌, ◌-◌, ◌+◌, refl, arith, drop, slice_set}
+use Rattle.std.proofs.Common.{◌≡◌, ◌-◌, ◌+◌, refl, arith, drop, slice_set}
 use Rattle.ml_pdl.proofs.MarkBytes.{known_before, known_all}
 use Rattle.ml_pdl.proofs.marking.Marks.new.Goals as goal
 

@@ -1,0 +1,27 @@
+-- The connectives of formulas, which all logics share: how tight they bind, how they are spelled, what they count.
+--
+--   operator_level o == the level of a connective; a greater level binds tighter
+--   spelling_of o    == `&`, `|`, `->` or `<->`
+--   weight o         == as how many symbols a connective counts
+use Rattle.std.specs.Prelude.{ℕ, List, codes}
+use Rattle.ml_text.specs.declared.token.Operator.{Operator}
+use Rattle.ml_text.specs.declared.token.Operator.TheVariants.{Iff, Implies, Or, And}
+
+abbrev pub operator_level : Operator → ℕ
+operator_level Iff = 0
+operator_level Implies = 1
+operator_level Or = 2
+operator_level And = 3
+
+abbrev pub spelling_of : Operator → List ℕ
+spelling_of And = codes "&"
+spelling_of Or = codes "|"
+spelling_of Implies = codes "->"
+spelling_of Iff = codes "<->"
+
+-- iff counts as three
+abbrev pub weight : Operator → ℕ
+weight Iff = 3
+weight Implies = 1
+weight Or = 1
+weight And = 1

@@ -1,0 +1,13 @@
+-- Lists of names, each once, in the order in which they come.
+--
+--   with_name ps p == the names ps, and behind them p if it isn't among them
+--   place_of ps p  == the place of the name p
+use Rattle.std.specs.Prelude.{ℕ, if◌then◌else◌, List, [], ◌∷◌, ◌++◌, unwrap_or, position}
+use Rattle.std.specs.List.{list_any}
+use Rattle.std.specs.Str.{bytes_eq}
+
+abbrev pub with_name : List (List ℕ) → List ℕ → List (List ℕ)
+with_name ps p = if list_any (bytes_eq p) ps then ps else ps ++ p ∷ []
+
+abbrev pub place_of : List (List ℕ) → List ℕ → ℕ
+place_of ps p = unwrap_or (position (bytes_eq p) ps) 0
