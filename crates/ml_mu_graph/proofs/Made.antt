@@ -9,7 +9,7 @@ use Rattle.ml_mu.specs.Formula.{Formula}
 use Rattle.ml_mu_graph.specs.MuGraph.{binders, IsGraphOf}
 use Rattle.ml_mu_graph.specs.private.NodeList.{props_onto, actions_onto, nodes_of, priorities_of}
 use Rattle.ml_mu_graph.specs.private.Views.{none_around}
-use Rattle.ml_mu_graph.proofs.Holding.{Holds}
+use Rattle.ml_nodes.proofs.Holding.{Holds}
 use Rattle.ml_mu_graph.proofs.NameLists.{AreAmong, all_among, names_in}
 use Rattle.ml_mu_graph.proofs.NodeLists.{length-nodes, stands}
 

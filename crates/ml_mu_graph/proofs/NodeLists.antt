@@ -15,7 +15,7 @@ use Rattle.ml_text.specs.private.NameLists.{place_of}
 use Rattle.ml_mu.specs.Formula.{Formula, Const, Prop, Var, Not, Binary, Modal, Binder, occurrences}
 use Rattle.ml_mu_graph.specs.MuGraph.{positive, negative, Around, binder_of, binder_priority, opposite, IsNode, StandsAt}
 use Rattle.ml_mu_graph.specs.private.NodeList.{operator_nodes, operator_holes, operator_priorities, bound, nodes_of, priorities_of}
-use Rattle.ml_mu_graph.proofs.Holding.{Holds, held_first, held_later, held_left, held_right, held_at}
+use Rattle.ml_nodes.proofs.Holding.{Holds, held_first, held_later, held_left, held_right, held_at}
 
 length-operator : (op : Operator) (i l r : ℕ) → length (operator_nodes op i l r) ≡ 2 * weight op
 length-operator operator.And i l r = refl

@@ -8,7 +8,7 @@ use Rattle.ml_graph.specs.Graph.{Graph, IsGraph}
 use Rattle.ml_pdl.specs.Formula.{Formula}
 use Rattle.ml_pdl_graph.specs.PdlGraph.{IsGraphOf}
 use Rattle.ml_pdl_graph.specs.private.NodeList.{props_onto, actions_onto, nodes_of, priorities_of}
-use Rattle.ml_pdl_graph.proofs.Holding.{Holds}
+use Rattle.ml_nodes.proofs.Holding.{Holds}
 use Rattle.ml_pdl_graph.proofs.NameLists.{AreAmong, all_among, names_in}
 use Rattle.ml_pdl_graph.proofs.NodeLists.{length-nodes, stands}
 

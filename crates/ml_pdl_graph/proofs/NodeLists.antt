@@ -15,7 +15,7 @@ use Rattle.ml_text.specs.private.NameLists.{place_of}
 use Rattle.ml_pdl.specs.Formula.{Formula, Const, Prop, Not, Binary, Modal, Repeat, Program, Act, Seq, Alt, Star, Test, Diamond, Square, occurrences, program_occurrences}
 use Rattle.ml_pdl_graph.specs.PdlGraph.{positive, negative, diamond, box, plain, IsNode, StandsAt, ProgramStandsAt}
 use Rattle.ml_pdl_graph.specs.private.NodeList.{operator_nodes, operator_priorities, nodes_of, program_nodes, priorities_of, program_priorities}
-use Rattle.ml_pdl_graph.proofs.Holding.{Holds, held_first, held_later, held_left, held_right, held_at}
+use Rattle.ml_nodes.proofs.Holding.{Holds, held_first, held_later, held_left, held_right, held_at}
 
 length-operator : (op : Operator) (i l r : ℕ) → length (operator_nodes op i l r) ≡ 2 * weight op
 length-operator operator.And i l r = refl
