@@ -139,7 +139,8 @@ lists_make_graph g f negated props actions nodes priorities root =
     let among = names_among f g.props g.actions props actions in
     let fit =
     nodes_fit n g.props g.actions 0 f among (omega (arith, long)) in
-    fitting_graph g negated (omega (arith, long, some)) (ap length priorities ∙ length-priorities f ∙ sym long)
+    fitting_graph g negated (omega (arith, long, some))
+    (ap length priorities ∙ length-priorities f ∙ sym long)
     (subst (AllFit n g.props g.actions) (sym nodes) fit) root
     (subst (IsDistinct bytes_eq) (sym props) (distinct_props f [] none_twice))
     (subst (IsDistinct bytes_eq) (sym actions) (distinct_actions f [] none_twice))
