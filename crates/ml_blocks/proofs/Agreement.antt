@@ -39,7 +39,7 @@ use Rattle.ml_blocks.specs.Laws.{signed}
 use Rattle.ml_blocks.specs.Places.{Place, Root, Total, HasEdge, LeadsOn, True, Holding, Both, Neither, Constant, Literal, And, Or, Diamond, form_of, block_of}
 use Rattle.ml_blocks.proofs.BlocksTold.{Told, ItemsTold, SomeFrom, block_told, given, never_both, one_of_both, holds_as, is_state_item}
 use Rattle.ml_blocks.proofs.DecidedTruth.{truth_is_decided, decided_test, decided_not, decided_both, decided_either, decided_implies}
-use Rattle.ml_blocks.proofs.EndlessWalks.{Onward, never_for_ever}
+use Rattle.ml_nodes.proofs.EndlessWalks.{Onward, never_for_ever}
 use Rattle.ml_blocks.proofs.ItemsWithin.{StandsAt, here, under_not, under_tense, at_left, at_right, before, behind, within_stands, some_weight}
 use Rattle.ml_blocks.proofs.PlaceVertices as vertices
 use Rattle.ml_blocks.proofs.PlaceVertices.{Board, Known, Branches, Edges, at, number_low, same_number, vertex_is, form_as, both, edges, own_branch, own_edge, move_walk, priority_at_place, step_target}

@@ -6,12 +6,11 @@
 --   closure_large == a draft that overflows tells of a large closure
 use Rattle.std.proofs.Common.{ℕ, ◌≡◌, Bool, true, List, [], ◌∷◌, ◌++◌, length, Option, None, Some, codes, bytes_eq, refl, sym, ap, ◌∙◌, subst, append-nil}
 use Rattle.std.specs.List.{IsDistinct}
-use Rattle.std.proofs.lemmas.Map.Keys.{IsDistinct-tail}
 use Rattle.ml_text.proofs.NameLists.{is_among}
 use Rattle.ml_ctl.specs.Formula.{Formula}
-use Rattle.ml_graph.proofs.Places.{one_name}
 use Rattle.ml_graph.specs.Graph.{Graph, IsGraph}
 use Rattle.ml_graph.specs.declared.node.Node.{Node}
+use Rattle.ml_nodes.proofs.InRange.{none_twice}
 use Rattle.ml_blocks.specs.BlockGraph.{IsGraphAt}
 use Rattle.ml_blocks.specs.Closures.{HasMoreThan}
 use Rattle.ml_blocks.specs.Items.{now}
@@ -29,10 +28,6 @@ use Rattle.ml_blocks.proofs.KeptFormulas.{formula_is, kept_at}
 use Rattle.ml_blocks.proofs.NameLists.{all_among, distinct_props}
 use Rattle.ml_blocks.proofs.NumberedForms.{begun_fits}
 use Rattle.ml_blocks.proofs.SpreadLists.{stands_in}
-
--- no name stands twice among none
-pub none_twice : IsDistinct bytes_eq []
-none_twice = IsDistinct-tail bytes_eq [] [] (one_name [])
 
 pub names_differ : (names : List (List ℕ)) (f : Formula) → names ≡ props_onto f [] → IsDistinct bytes_eq names
 names_differ names f is = subst (IsDistinct bytes_eq) (sym is) (distinct_props f [] none_twice)

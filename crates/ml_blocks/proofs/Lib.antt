@@ -24,8 +24,6 @@ pub mod LighterRows
 pub mod BlockSteps
 -- what rows put off
 pub mod RowShapes
--- walks that go on for ever
-pub mod EndlessWalks
 -- what items say, each by itself
 pub mod SaidItems
 -- a path that satisfies all items of a block

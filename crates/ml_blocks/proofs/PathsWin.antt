@@ -34,7 +34,7 @@ use Rattle.ml_blocks.specs.Places.{Holding, first_open, is_open, is_wait, is_put
 use Rattle.ml_blocks.proofs.BlockSteps.{path, constant, other, off, edge_form_of, edge_priority_of, of_state, becomes, either, Stepped, Settled, Steps, settle}
 use Rattle.ml_blocks.proofs.BlockSteps as block
 use Rattle.ml_blocks.proofs.ComingTrue.{TwoWays, two_ways, eventualities_come_true}
-use Rattle.ml_blocks.proofs.EndlessWalks.{Onward, never_for_ever}
+use Rattle.ml_nodes.proofs.EndlessWalks.{Onward, never_for_ever}
 use Rattle.ml_blocks.proofs.ItemSetMembers.{load, next_items-member, next_items-all_of, next_items-has, put_all-member, without-member}
 use Rattle.ml_blocks.proofs.ItemsWithin.{IsOf, within_stands, same_key}
 use Rattle.ml_blocks.proofs.LocalRuns.{Takes, LocalRun, Of, left_of, left_settled, some_open, open_now, none_open, waiting, next_of_of, taken_of}

@@ -1,29 +1,19 @@
 // The propositions of a formula, each once, in the order of the text.
 ghost use Rattle.std.specs.Prelude.{◌≡◌, ◌<◌, ◌^◌, [], length, OnOk, IfOk};
 ghost use Rattle.ml_ctl.specs.Term.{formula_of};
-ghost use Rattle.ml_text.specs.private.NameLists.{with_name, place_of};
+ghost use Rattle.ml_text.specs.private.NameLists.{place_of};
 ghost use Rattle.ml_blocks.specs.private.Names as listed;
 
 use indexmap::IndexSet;
 use ml_base::{Name, NoMemory};
 use ml_ctl::Term;
+use ml_nodes::add_proposition;
 use std::alloc::{AllocError, Global};
 
 // the propositions of a graph
 #[derive(Drop)]
 pub(crate) struct Names {
     pub props: IndexSet<Name>,
-}
-
-// a proposition is added, unless it is there
-fn add_proposition(props: &mut IndexSet<Name>, name: &Name) -> Result<(), NoMemory>
-    ensures { OnOk result (props.new.keys ≡ with_name props.old.keys name.now) }
-{
-    if props.contains(name) {
-        return Ok(());
-    }
-    props.insert(name.copy()?)?;
-    Ok(())
 }
 
 // the propositions of a term, in the order of the text

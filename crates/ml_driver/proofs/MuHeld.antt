@@ -15,7 +15,8 @@ use Rattle.ml_mu.specs.Formula.{Formula, Const, Prop, Var, Not, Binary, Modal, B
 use Rattle.ml_mu.specs.Spelling.{HasShortNames, is_action, is_proposition, is_reserved, is_spelled, is_variable}
 use Rattle.ml_mu.specs.WellFormed.{IsWellFormed}
 use Rattle.ml_mu_graph.specs.MuGraph.{IsGraphOf, binder_priority, binders, opposite}
-use Rattle.ml_mu_graph.specs.private.NodeList.{actions_onto, nodes_of, operator_priorities, priorities_of, props_onto}
+use Rattle.ml_nodes.specs.private.Connectives.{operator_priorities}
+use Rattle.ml_mu_graph.specs.private.NodeList.{actions_onto, nodes_of, priorities_of, props_onto}
 use Rattle.ml_mu_graph.specs.private.Views.{none_around}
 use Rattle.ml_mu_graph.proofs.InRange.{lists_make_graph}
 use Rattle.ml_mu_graph.proofs.Made.{graph_made}

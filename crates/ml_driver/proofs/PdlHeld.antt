@@ -14,7 +14,8 @@ use Rattle.ml_pdl.specs.Formula.{Formula, Const, Prop, Not, Binary, Modal, Repea
 use Rattle.ml_pdl.specs.Spelling.{HasShortNames, ProgramHasShortNames, is_action, is_proposition, is_reserved, is_spelled, program_is_spelled}
 use Rattle.ml_pdl.specs.WellFormed.{IsWellFormed}
 use Rattle.ml_pdl_graph.specs.PdlGraph.{IsGraphOf, plain}
-use Rattle.ml_pdl_graph.specs.private.NodeList.{actions_onto, nodes_of, operator_priorities, priorities_of, program_actions_onto, program_priorities, program_props_onto, props_onto}
+use Rattle.ml_nodes.specs.private.Connectives.{operator_priorities}
+use Rattle.ml_pdl_graph.specs.private.NodeList.{actions_onto, nodes_of, priorities_of, program_actions_onto, program_priorities, program_props_onto, props_onto}
 use Rattle.ml_pdl_graph.proofs.InRange.{lists_make_graph}
 use Rattle.ml_pdl_graph.proofs.Made.{graph_made}
 use Rattle.ml_refutation.specs.Refutation.{Fits}
@@ -108,7 +109,7 @@ two x y xs p q rest =
 plain_two : (xs : List ℕ) → Every Fits xs → Every Fits (plain ∷ plain ∷ xs)
 plain_two xs rest = two plain plain xs (omega arith) (omega arith) rest
 
-of_operator : (op : Operator) → Every Fits (operator_priorities op)
+of_operator : (op : Operator) → Every Fits (operator_priorities op plain)
 of_operator operator.And = plain_two [] none
 of_operator operator.Or = plain_two [] none
 of_operator operator.Implies = plain_two [] none
@@ -121,7 +122,7 @@ mutual
   low_priorities (Prop p) = plain_two [] none
   low_priorities (Not f) = plain_two (priorities_of f) (low_priorities f)
   low_priorities (Binary op f h) =
-      every_append Fits (operator_priorities op) (priorities_of f ++ priorities_of h) (of_operator op)
+      every_append Fits (operator_priorities op plain) (priorities_of f ++ priorities_of h) (of_operator op)
       (every_append Fits (priorities_of f) (priorities_of h) (low_priorities f) (low_priorities h))
   low_priorities (Modal m p f) =
       plain_two (program_priorities p ++ priorities_of f)

@@ -6,7 +6,8 @@ use Rattle.std.proofs.Common.{ℕ, ◌+◌, ◌*◌, Bool, true, false, not, Lis
 use Rattle.ml_graph.specs.Graph.{Graph}
 use Rattle.ml_graph.specs.declared.node.Node.TheVariants as node
 use Rattle.ml_mu.specs.Formula.{Formula, Const, Prop, Var, Not, Binary, Modal, Binder, Modality, Diamond, Square, occurrences}
-use Rattle.ml_mu_graph.specs.MuGraph.{Around, IsGraphOf, IsLiteral, IsModality, IsNode, StandsAt, binder_of, binder_priority, binders, constant, dual, negative, opposite, positive}
+use Rattle.ml_nodes.specs.Nodes.{IsNode, constant, negative, positive}
+use Rattle.ml_mu_graph.specs.MuGraph.{Around, IsGraphOf, IsLiteral, IsModality, StandsAt, binder_of, binder_priority, binders, dual, opposite}
 use Rattle.ml_text.specs.declared.token.Operator.TheVariants as operator
 use Rattle.ml_front.proofs.AlikeGraphs.{AreAlike, Range, SameNode, alike_of, one_occurrence, one_part, same_and, same_box, same_diamond, same_literal, same_or, same_plain, three_occurrences, two_parts}
 

@@ -6,7 +6,8 @@ use Rattle.std.proofs.Common.{ℕ, ◌+◌, Bool, true, false, not, List, refl, 
 use Rattle.ml_graph.specs.Graph.{Graph}
 use Rattle.ml_graph.specs.declared.node.Node.TheVariants as node
 use Rattle.ml_pdl.specs.Formula.{Formula, Const, Prop, Not, Binary, Modal, Repeat, Program, Act, Seq, Alt, Star, Test, Diamond, Square, occurrences, program_occurrences}
-use Rattle.ml_pdl_graph.specs.PdlGraph.{IsGraphOf, IsLiteral, IsNode, ProgramStandsAt, StandsAt, box, constant, diamond, negative, plain, positive}
+use Rattle.ml_nodes.specs.Nodes.{IsNode, constant, negative, positive}
+use Rattle.ml_pdl_graph.specs.PdlGraph.{IsGraphOf, IsLiteral, ProgramStandsAt, StandsAt, box, diamond, plain}
 use Rattle.ml_text.specs.declared.token.Operator.TheVariants as operator
 use Rattle.ml_front.proofs.AlikeGraphs.{AreAlike, Range, SameNode, alike_of, one_occurrence, one_part, same_and, same_box, same_diamond, same_literal, same_or, same_plain, three_occurrences, two_parts}
 

@@ -32,11 +32,12 @@ use Rattle.ml_graph.proofs.CheckingGame.{IsVertex, vertices-length, owner_is, pr
 use Rattle.ml_graph.proofs.OneStep.{vertex_low}
 use Rattle.ml_fixpoints.specs.Binders.{IsSinkOf, Binder, HasVerdicts, IsLeast}
 use Rattle.ml_mu.specs.Formula as formula
-use Rattle.ml_mu.specs.Formula.{Formula, Fixpoint, Least, Greatest, occurrences}
+use Rattle.ml_mu.specs.Formula.{Formula, Fixpoint, Least, Greatest}
 use Rattle.ml_mu.specs.Meaning.{Given, HaveFlags, meaning}
 use Rattle.ml_mu.specs.Variables.{is_positive}
 use Rattle.ml_mu.proofs.MeaningFlags.{meaning_flags}
-use Rattle.ml_mu_graph.specs.MuGraph.{positive, negative, Around, binder_priority, opposite}
+use Rattle.ml_nodes.specs.Nodes.{positive, negative}
+use Rattle.ml_mu_graph.specs.MuGraph.{Around, binder_priority, opposite}
 use Rattle.ml_mu_graph.proofs.Told.{node_of}
 use Rattle.ml_mu_graph.proofs.Values.{Says}
 use Rattle.ml_mu_graph.proofs.Situations.{Situation, Agree, member_where}

@@ -15,7 +15,8 @@ use Rattle.ml_mu.specs.Formula.{Formula, Const, Prop, Var, Not, Binary, Modal, M
 use Rattle.ml_mu.specs.Meaning.{Given, given_set, meaning, some_edge, every_edge}
 use Rattle.ml_mu.specs.Variables.{is_bound, is_positive}
 use Rattle.ml_mu.proofs.MeaningFlags.{meaning_flags}
-use Rattle.ml_mu_graph.specs.MuGraph.{positive, negative, Around, binder_of, StandsAt}
+use Rattle.ml_nodes.specs.Nodes.{positive, negative}
+use Rattle.ml_mu_graph.specs.MuGraph.{Around, binder_of, StandsAt}
 use Rattle.ml_mu_graph.proofs.Told.{names}
 use Rattle.ml_mu_graph.proofs.Values.{says_same, says_constant, says_literal, says_negative, says_leads, says_and, says_or, says_diamond, says_square}
 use Rattle.ml_mu_graph.proofs.Situations.{Situation, Agree, member_where, member_not, told_of, part}

@@ -30,7 +30,7 @@ use Rattle.ml_graph.specs.declared.node.Node.TheVariants as node
 use Rattle.std.specs.Cmp.Lexicographic.{nat_list_eq_equiv}
 use Rattle.std.proofs.Common.{length-append}
 use Rattle.ml_graph.proofs.References.{field_in_range, root_in_range}
-use Rattle.ml_mu_graph.specs.MuGraph.{positive, negative}
+use Rattle.ml_nodes.specs.Nodes.{positive, negative}
 
 abbrev pub cut : Graph → ℕ → List ℕ → Graph
 cut g b name = record {

@@ -16,7 +16,8 @@ use Rattle.ml_text.specs.declared.token.Operator.TheVariants as operator
 use Rattle.ml_mu.specs.Formula.{Formula, Const, Prop, Var, Not, Binary, Modal, Binder, Fixpoint, occurrences}
 use Rattle.ml_mu.specs.Meaning.{Given}
 use Rattle.ml_mu.specs.Variables.{is_positive, occurs_only}
-use Rattle.ml_mu_graph.specs.MuGraph.{positive, negative, Around, StandsAt, IsLiteral, IsNode}
+use Rattle.ml_nodes.specs.Nodes.{positive, negative, IsNode}
+use Rattle.ml_mu_graph.specs.MuGraph.{Around, StandsAt, IsLiteral}
 use Rattle.ml_mu_graph.proofs.Told.{IsTold, AreTold, AreOutside}
 use Rattle.ml_mu_graph.proofs.CutOpen.{cut, marked, IsLonger, longer_differs, cut_size, cut_positive, cut_negative, cut_others, cut_prop, cut_name, cut_graph, marked_structure, marked_others, marked_name}
 use Rattle.ml_mu_graph.proofs.Situations.{PropsAgree, Situation, outside_more}

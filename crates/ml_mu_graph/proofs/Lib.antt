@@ -13,8 +13,6 @@ pub mod Values
 pub mod CutOpen
 -- binders cut open, and what lies below an occurrence
 pub mod Told
--- lists that stand in a list
-pub mod Holding
 -- the lists of a formula's graph
 pub mod NodeLists
 -- the names of a formula

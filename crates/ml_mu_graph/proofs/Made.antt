@@ -1,20 +1,16 @@
 -- The graph that was made of a formula is its graph.
 --
 --   graph_made  == lists that are those of a formula make its graph
-use Rattle.std.proofs.Common.{◌≡◌, ℕ, ◌*◌, Bool, true, List, [], length, refl, sym, ◌∙◌, ap, subst, if◌then◌else◌}
-use Rattle.std.proofs.lemmas.List.{append-nil}
+use Rattle.std.proofs.Common.{◌≡◌, ℕ, ◌*◌, Bool, true, List, [], length, sym, ◌∙◌, ap, subst, if◌then◌else◌}
 use Rattle.ml_text.proofs.NameLists.{is_among}
 use Rattle.ml_graph.specs.Graph.{Graph, IsGraph}
 use Rattle.ml_mu.specs.Formula.{Formula}
 use Rattle.ml_mu_graph.specs.MuGraph.{binders, IsGraphOf}
 use Rattle.ml_mu_graph.specs.private.NodeList.{props_onto, actions_onto, nodes_of, priorities_of}
 use Rattle.ml_mu_graph.specs.private.Views.{none_around}
-use Rattle.ml_mu_graph.proofs.Holding.{Holds}
+use Rattle.ml_nodes.proofs.StandingLists.{all_stand}
 use Rattle.ml_mu_graph.proofs.NameLists.{AreAmong, all_among, names_in}
 use Rattle.ml_mu_graph.proofs.NodeLists.{length-nodes, stands}
-
-whole : {A : Type 0} (xs ys : List A) → xs ≡ ys → Holds xs 0 ys
-whole xs ys is = record { before = []; behind = []; split = is ∙ sym (append-nil ys); starts = refl }
 
 pub names_among : (f : Formula) (ps acts : List (List ℕ))
     → ps ≡ props_onto f []
@@ -35,7 +31,6 @@ graph_made g f negated is_graph props actions nodes priorities root = record {
   two_for_each = ap length nodes ∙ length-nodes g.props g.actions none_around 0 f;
   stands =
       stands g (2 * binders f) [] 0 f (names_in f g.props g.actions (names_among f g.props g.actions props actions))
-      (whole g.nodes (nodes_of g.props g.actions none_around 0 f) nodes)
-      (whole g.priorities (priorities_of (2 * binders f) 0 f) priorities);
+      (all_stand g (nodes_of g.props g.actions none_around 0 f) (priorities_of (2 * binders f) 0 f) nodes priorities);
   root_is = root;
 }

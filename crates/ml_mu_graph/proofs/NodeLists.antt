@@ -13,21 +13,12 @@ use Rattle.ml_text.specs.declared.token.Operator.TheVariants as operator
 use Rattle.ml_text.specs.Operators.{weight}
 use Rattle.ml_text.specs.private.NameLists.{place_of}
 use Rattle.ml_mu.specs.Formula.{Formula, Const, Prop, Var, Not, Binary, Modal, Binder, occurrences}
-use Rattle.ml_mu_graph.specs.MuGraph.{positive, negative, Around, binder_of, binder_priority, opposite, IsNode, StandsAt}
-use Rattle.ml_mu_graph.specs.private.NodeList.{operator_nodes, operator_holes, operator_priorities, bound, nodes_of, priorities_of}
-use Rattle.ml_mu_graph.proofs.Holding.{Holds, held_first, held_later, held_left, held_right, held_at}
-
-length-operator : (op : Operator) (i l r : ℕ) → length (operator_nodes op i l r) ≡ 2 * weight op
-length-operator operator.And i l r = refl
-length-operator operator.Or i l r = refl
-length-operator operator.Implies i l r = refl
-length-operator operator.Iff i l r = refl
-
-length-operator_priorities : (op : Operator) (k : ℕ) → length (operator_priorities op k) ≡ 2 * weight op
-length-operator_priorities operator.And k = refl
-length-operator_priorities operator.Or k = refl
-length-operator_priorities operator.Implies k = refl
-length-operator_priorities operator.Iff k = refl
+use Rattle.ml_nodes.specs.Nodes.{positive, negative, IsNode}
+use Rattle.ml_mu_graph.specs.MuGraph.{Around, binder_of, binder_priority, opposite, StandsAt}
+use Rattle.ml_nodes.specs.private.Connectives.{operator_nodes, operator_priorities}
+use Rattle.ml_mu_graph.specs.private.NodeList.{operator_holes, bound, nodes_of, priorities_of}
+use Rattle.ml_nodes.proofs.Connectives.{length-operator, length-operator_priorities}
+use Rattle.ml_nodes.proofs.StandingLists.{Stand, Parts, pair, parts}
 
 pub length-nodes : (ps acts : List (List ℕ)) (b : List ℕ → ℕ) (i : ℕ) (f : Formula)
     → length (nodes_of ps acts b i f) ≡ 2 * occurrences f
@@ -75,112 +66,77 @@ NamesIn ps acts (Binary op f h) = NamesIn ps acts f × NamesIn ps acts h
 NamesIn ps acts (Modal m a f) = (get_or acts (place_of acts a) [] ≡ a) × NamesIn ps acts f
 NamesIn ps acts (Binder q x f) = NamesIn ps acts f
 
--- two nodes at an occurrence, and what stands behind them
-pub record Pair (g : Graph) (n : ℕ) (a b : Node) (p q : ℕ) (nodes : List Node) (priorities : List ℕ) : Type 0 where
-  pub first : IsNode g n a p
-  pub second : IsNode g (n + 1) b q
-  pub nodes_behind : Holds g.nodes (n + 2) nodes
-  pub priorities_behind : Holds g.priorities (n + 2) priorities
-
-pair : (g : Graph) (n : ℕ) (a b : Node) (p q : ℕ) (nodes : List Node) (priorities : List ℕ)
-    → Holds g.nodes n (a ∷ b ∷ nodes)
-    → Holds g.priorities n (p ∷ q ∷ priorities)
-    → Pair g n a b p q nodes priorities
-pair g n a b p q nodes priorities h k =
-    let h1 = held_later g.nodes n a (b ∷ nodes) h in
-    let k1 = held_later g.priorities n p (q ∷ priorities) k in
-    record {
-      first = (held_first g.nodes n a (b ∷ nodes) node.True h, held_first g.priorities n p (q ∷ priorities) 0 k);
-      second = (held_first g.nodes (n + 1) b nodes node.True h1, held_first g.priorities (n + 1) q priorities 0 k1);
-      nodes_behind = held_at g.nodes (n + 1 + 1) (n + 2) nodes (omega arith) (held_later g.nodes (n + 1) b nodes h1);
-      priorities_behind =
-          held_at g.priorities (n + 1 + 1) (n + 2) priorities (omega arith) (held_later g.priorities (n + 1) q priorities k1);
-    }
-
 -- the operands of a connective
-record Operands (g : Graph) (k d : ℕ) (bs : Around) (l r : ℕ) (f h : Formula) : Type 0 where
-  pub left_nodes : Holds g.nodes (2 * l) (nodes_of g.props g.actions (binder_of bs) l f)
-  pub left_priorities : Holds g.priorities (2 * l) (priorities_of k d f)
-  pub right_nodes : Holds g.nodes (2 * r) (nodes_of g.props g.actions (binder_of bs) r h)
-  pub right_priorities : Holds g.priorities (2 * r) (priorities_of k d h)
-
-operands : (g : Graph) (k d n : ℕ) (bs : Around) (l r : ℕ) (f h : Formula) → n ≡ 2 * l → r ≡ l + occurrences f
-    → Holds g.nodes n (nodes_of g.props g.actions (binder_of bs) l f ++ nodes_of g.props g.actions (binder_of bs) r h)
-    → Holds g.priorities n (priorities_of k d f ++ priorities_of k d h) → Operands g k d bs l r f h
-operands g k d n bs l r f h left right nodes priorities =
-    let fs = nodes_of g.props g.actions (binder_of bs) l f in
-    let hs = nodes_of g.props g.actions (binder_of bs) r h in
-    let ns : n + length fs ≡ 2 * r = omega (arith, length-nodes g.props g.actions (binder_of bs) l f, left, right) in
-    let ps : n + length (priorities_of k d f) ≡ 2 * r = omega (arith, length-priorities k d f, left, right) in
-    record {
-      left_nodes = held_at g.nodes n (2 * l) fs left (held_left g.nodes n fs hs nodes);
-      left_priorities =
-          held_at g.priorities n (2 * l) (priorities_of k d f) left (held_left g.priorities n (priorities_of k d f) (priorities_of k d h) priorities);
-      right_nodes = held_at g.nodes (n + length fs) (2 * r) hs ns (held_right g.nodes n fs hs nodes);
-      right_priorities =
-          held_at g.priorities (n + length (priorities_of k d f)) (2 * r) (priorities_of k d h) ps (held_right g.priorities n (priorities_of k d f) (priorities_of k d h) priorities);
-    }
+operands : (g : Graph) (k d : ℕ) (bs : Around) (l r : ℕ) (f h : Formula)
+    → Stand g l (nodes_of g.props g.actions (binder_of bs) l f ++ nodes_of g.props g.actions (binder_of bs) r h)
+    (priorities_of k d f ++ priorities_of k d h)
+    → r ≡ l + occurrences f
+    → Parts g l r (nodes_of g.props g.actions (binder_of bs) l f) (nodes_of g.props g.actions (binder_of bs) r h)
+    (priorities_of k d f) (priorities_of k d h)
+operands g k d bs l r f h s is =
+    parts g l r (occurrences f) (nodes_of g.props g.actions (binder_of bs) l f)
+    (nodes_of g.props g.actions (binder_of bs) r h) (priorities_of k d f) (priorities_of k d h) s
+    (length-nodes g.props g.actions (binder_of bs) l f) (length-priorities k d f) is
 
 pub stands : (g : Graph) (k : ℕ) (bs : Around) (i : ℕ) (f : Formula)
     → NamesIn g.props g.actions f
-    → Holds g.nodes (2 * i) (nodes_of g.props g.actions (binder_of bs) i f)
-    → Holds g.priorities (2 * i) (priorities_of k (length bs) f) → StandsAt g k bs i f
-stands g k bs i (Const b) names nodes priorities =
-    let p = pair g (2 * i) _ _ k k [] [] nodes priorities in (p.first, p.second)
-stands g k bs i (Prop p) names nodes priorities =
-    let q = pair g (2 * i) _ _ k k [] [] nodes priorities in
+    → Stand g i (nodes_of g.props g.actions (binder_of bs) i f) (priorities_of k (length bs) f)
+    → StandsAt g k bs i f
+stands g k bs i (Const b) names s = let p = pair g i _ _ k k [] [] s in (p.first, p.second)
+stands g k bs i (Prop p) names s =
+    let q = pair g i _ _ k k [] [] s in
     ((place_of g.props p, q.first, names), (place_of g.props p, q.second, names))
-stands g k bs i (Var x) names nodes priorities =
-    let p = pair g (2 * i) _ _ k k [] [] nodes priorities in (p.first, p.second)
-stands g k bs i (Not f) names nodes priorities =
-    let p = pair g (2 * i) _ _ k k (nodes_of g.props g.actions (binder_of bs) (i + 1) f) (priorities_of k (length bs) f) nodes priorities in (
+stands g k bs i (Var x) names s = let p = pair g i _ _ k k [] [] s in (p.first, p.second)
+stands g k bs i (Not f) names s =
+    let p = pair g i _ _ k k _ _ s in (p.first, p.second, stands g k bs (i + 1) f names p.behind)
+stands g k bs i (Binary operator.And f h) names s =
+    let p = pair g i _ _ k k _ _ s in
+    let o = operands g k (length bs) bs (i + 1) (i + 1 + occurrences f) f h p.behind refl in
+    (p.first, p.second, stands g k bs (i + 1) f names.0 o.left, stands g k bs (i + 1 + occurrences f) h names.1 o.right)
+stands g k bs i (Binary operator.Or f h) names s =
+    let p = pair g i _ _ k k _ _ s in
+    let o = operands g k (length bs) bs (i + 1) (i + 1 + occurrences f) f h p.behind refl in
+    (p.first, p.second, stands g k bs (i + 1) f names.0 o.left, stands g k bs (i + 1 + occurrences f) h names.1 o.right)
+stands g k bs i (Binary operator.Implies f h) names s =
+    let p = pair g i _ _ k k _ _ s in
+    let o = operands g k (length bs) bs (i + 1) (i + 1 + occurrences f) f h p.behind refl in
+    (p.first, p.second, stands g k bs (i + 1) f names.0 o.left, stands g k bs (i + 1 + occurrences f) h names.1 o.right)
+stands g k bs i (Binary operator.Iff f h) names s =
+    let p = pair g i _ _ k k _ _ s in
+    let q = pair g (i + 1) _ _ k k _ _ p.behind in
+    let r = pair g (i + 1 + 1) _ _ k k _ _ q.behind in
+    let l = i + 3 in
+    let two : i + 1 + 1 ≡ i + 2 = omega arith in
+    let three : i + 1 + 1 + 1 ≡ i + 3 = omega arith in
+    let around = binder_of bs in
+    let behind =
+    subst (λ n. Stand g n (nodes_of g.props g.actions around l f ++ nodes_of g.props g.actions around (l + occurrences f) h)
+    (priorities_of k (length bs) f ++ priorities_of k (length bs) h)) three r.behind in
+    let o = operands g k (length bs) bs l (l + occurrences f) f h behind refl in (
       p.first,
       p.second,
-      stands g k bs (i + 1) f names (held_at g.nodes (2 * i + 2) (2 * (i + 1)) _ (omega arith) p.nodes_behind)
-          (held_at g.priorities (2 * i + 2) (2 * (i + 1)) _ (omega arith) p.priorities_behind),
+      q.first,
+      q.second,
+      subst (λ n. IsNode g (positive n) (node.And (negative l) (negative (l + occurrences f))) k) two r.first,
+      subst (λ n. IsNode g (negative n) (node.And (negative l) (positive (l + occurrences f))) k) two r.second,
+      stands g k bs l f names.0 o.left,
+      stands g k bs (l + occurrences f) h names.1 o.right,
     )
-stands g k bs i (Binary operator.And f h) names nodes priorities =
-    let p = pair g (2 * i) _ _ k k _ _ nodes priorities in
-    let o = operands g k (length bs) (2 * i + 2) bs (i + 1) (i + 1 + occurrences f) f h (omega arith) refl p.nodes_behind p.priorities_behind in
-    (p.first, p.second, stands g k bs (i + 1) f names.0 o.left_nodes o.left_priorities, stands g k bs (i + 1 + occurrences f) h names.1 o.right_nodes o.right_priorities)
-stands g k bs i (Binary operator.Or f h) names nodes priorities =
-    let p = pair g (2 * i) _ _ k k _ _ nodes priorities in
-    let o = operands g k (length bs) (2 * i + 2) bs (i + 1) (i + 1 + occurrences f) f h (omega arith) refl p.nodes_behind p.priorities_behind in
-    (p.first, p.second, stands g k bs (i + 1) f names.0 o.left_nodes o.left_priorities, stands g k bs (i + 1 + occurrences f) h names.1 o.right_nodes o.right_priorities)
-stands g k bs i (Binary operator.Implies f h) names nodes priorities =
-    let p = pair g (2 * i) _ _ k k _ _ nodes priorities in
-    let o = operands g k (length bs) (2 * i + 2) bs (i + 1) (i + 1 + occurrences f) f h (omega arith) refl p.nodes_behind p.priorities_behind in
-    (p.first, p.second, stands g k bs (i + 1) f names.0 o.left_nodes o.left_priorities, stands g k bs (i + 1 + occurrences f) h names.1 o.right_nodes o.right_priorities)
-stands g k bs i (Binary operator.Iff f h) names nodes priorities =
-    let p = pair g (2 * i) _ _ k k _ _ nodes priorities in
-    let q = pair g (2 * i + 2) _ _ k k _ _ p.nodes_behind p.priorities_behind in
-    let r = pair g (2 * i + 2 + 2) _ _ k k _ _ q.nodes_behind q.priorities_behind in
-    let o = operands g k (length bs) (2 * i + 2 + 2 + 2) bs (i + 3) (i + 3 + occurrences f) f h (omega arith) refl r.nodes_behind r.priorities_behind in
-    let both : 2 * i + 2 ≡ 2 * (i + 1) = omega arith in
-    let neither : 2 * i + 2 + 2 ≡ 2 * (i + 2) = omega arith in (
-      p.first,
-      p.second,
-      subst (λ n. IsNode g n (node.And (positive (i + 3)) (positive (i + 3 + occurrences f))) k) both q.first,
-      subst (λ n. IsNode g (n + 1) (node.And (positive (i + 3)) (negative (i + 3 + occurrences f))) k) both q.second,
-      subst (λ n. IsNode g n (node.And (negative (i + 3)) (negative (i + 3 + occurrences f))) k) neither r.first,
-      subst (λ n. IsNode g (n + 1) (node.And (negative (i + 3)) (positive (i + 3 + occurrences f))) k) neither r.second,
-      stands g k bs (i + 3) f names.0 o.left_nodes o.left_priorities,
-      stands g k bs (i + 3 + occurrences f) h names.1 o.right_nodes o.right_priorities,
-    )
-stands g k bs i (Modal m a f) names nodes priorities =
-    let p = pair g (2 * i) _ _ k k (nodes_of g.props g.actions (binder_of bs) (i + 1) f) (priorities_of k (length bs) f) nodes priorities in (
+stands g k bs i (Modal m a f) names s =
+    let p = pair g i _ _ k k _ _ s in (
       (place_of g.actions a, p.first, names.0),
       (place_of g.actions a, p.second, names.0),
-      stands g k bs (i + 1) f names.1 (held_at g.nodes (2 * i + 2) (2 * (i + 1)) _ (omega arith) p.nodes_behind)
-          (held_at g.priorities (2 * i + 2) (2 * (i + 1)) _ (omega arith) p.priorities_behind),
+      stands g k bs (i + 1) f names.1 p.behind,
     )
-stands g k bs i (Binder q x f) names nodes priorities =
-    let p = pair g (2 * i) _ _ (binder_priority q (length bs)) (binder_priority (opposite q) (length bs)) (nodes_of g.props g.actions (binder_of ((x, i) ∷ bs)) (i + 1) f) (priorities_of k (length bs + 1) f) nodes priorities in
+stands g k bs i (Binder q x f) names s =
+    let inside = nodes_of g.props g.actions (binder_of ((x, i) ∷ bs)) (i + 1) f in
+    let d = length bs in
+    let p = pair g i _ _ (binder_priority q d) (binder_priority (opposite q) d) inside (priorities_of k (d + 1) f) s in
     let deeper : length bs + 1 ≡ length ((x, i) ∷ bs) = omega arith in (
       p.first,
       p.second,
-      stands g k ((x, i) ∷ bs) (i + 1) f names (held_at g.nodes (2 * i + 2) (2 * (i + 1)) _ (omega arith) p.nodes_behind)
-          (subst (λ d. Holds g.priorities (2 * (i + 1)) (priorities_of k d f)) deeper (held_at g.priorities (2 * i + 2) (2 * (i + 1)) _ (omega arith) p.priorities_behind)),
+      stands g k ((x, i) ∷ bs) (i + 1) f names
+          (subst (λ d. Stand g (i + 1) inside (priorities_of k d f)) deeper p.behind),
     )
 
 -- ---- the nodes of a connective, written over the places that were kept for them
@@ -273,9 +229,3 @@ one_symbol (Not f) = omega arith
 one_symbol (Binary op f h) = omega (arith, one_symbol f)
 one_symbol (Modal m a f) = omega arith
 one_symbol (Binder q x f) = omega arith
-
-pub one_weight : (op : Operator) → 1 ≤ weight op
-one_weight operator.And = omega arith
-one_weight operator.Or = omega arith
-one_weight operator.Implies = omega arith
-one_weight operator.Iff = omega arith

@@ -29,7 +29,8 @@ use Rattle.ml_graph.specs.declared.node.Node.TheVariants as node
 use Rattle.ml_graph.proofs.CheckingGame.{IsVertex, vertex_at, priority_is, moves_are}
 use Rattle.ml_mu.specs.Formula.{Formula, Binder, Fixpoint, Least, Greatest}
 use Rattle.ml_mu.specs.Meaning.{Given}
-use Rattle.ml_mu_graph.specs.MuGraph.{positive, negative, Around, binder_of, binder_priority, opposite}
+use Rattle.ml_nodes.specs.Nodes.{positive, negative}
+use Rattle.ml_mu_graph.specs.MuGraph.{Around, binder_of, binder_priority, opposite}
 use Rattle.ml_mu_graph.proofs.Told.{node_of, names, AreTold, AreOutside, Below, FreeAt}
 use Rattle.ml_mu_graph.proofs.Regions.{IsChild, below_range, below_priority, below_moves}
 use Rattle.ml_mu_graph.proofs.FreeVariables.{free_bound}

@@ -18,7 +18,8 @@ use Rattle.ml_graph.specs.declared.node.Node.TheVariants as node
 use Rattle.ml_text.specs.declared.token.Operator.TheVariants as operator
 use Rattle.ml_mu.specs.Formula.{Formula, Const, Prop, Var, Not, Binary, Modal, Binder, Modality, Diamond, Square, Fixpoint, Least, Greatest, occurrences}
 use Rattle.ml_mu.specs.Variables.{is_positive, occurs_only}
-use Rattle.ml_mu_graph.specs.MuGraph.{positive, negative, binders, Around, binder_of, StandsAt, constant, modality, dual, binder_priority, opposite}
+use Rattle.ml_nodes.specs.Nodes.{positive, negative, constant}
+use Rattle.ml_mu_graph.specs.MuGraph.{binders, Around, binder_of, StandsAt, modality, dual, binder_priority, opposite}
 use Rattle.ml_mu_graph.proofs.Told.{node_of, Below, FreeAt}
 
 abbrev pub IsChild : Node → ℕ → Type 0

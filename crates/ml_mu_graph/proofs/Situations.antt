@@ -18,7 +18,8 @@ use Rattle.ml_graph.specs.CheckingGame.{HoldsAt}
 use Rattle.ml_mu.specs.Formula.{Formula, Const, Prop, Var, Not, Binary, Modal, Binder, occurrences}
 use Rattle.ml_mu.specs.Meaning.{Given, HaveFlags, given_set, meaning}
 use Rattle.ml_mu.specs.Variables.{is_bound, is_positive}
-use Rattle.ml_mu_graph.specs.MuGraph.{positive, negative, binders, Around, binder_of, StandsAt}
+use Rattle.ml_nodes.specs.Nodes.{positive, negative}
+use Rattle.ml_mu_graph.specs.MuGraph.{binders, Around, binder_of, StandsAt}
 use Rattle.ml_mu_graph.proofs.Told.{names, IsTold, AreTold, AreOutside}
 use Rattle.ml_mu_graph.proofs.Values.{Says}
 

@@ -19,7 +19,8 @@ use Rattle.ml_graph.specs.declared.node.Node.TheVariants as node
 use Rattle.ml_text.specs.declared.token.Operator.TheVariants as operator
 use Rattle.ml_mu.specs.Formula.{Formula, Const, Prop, Var, Not, Binary, Modal, Binder, occurrences}
 use Rattle.ml_mu.specs.Meaning.{Given}
-use Rattle.ml_mu_graph.specs.MuGraph.{positive, negative, Around}
+use Rattle.ml_nodes.specs.Nodes.{positive, negative}
+use Rattle.ml_mu_graph.specs.MuGraph.{Around}
 
 abbrev pub node_of : Bool → ℕ → ℕ
 node_of true i = positive i

@@ -19,7 +19,7 @@ use Rattle.ml_graph.specs.Laws.{NodeHolds}
 use Rattle.ml_graph.specs.declared.node.Node.{Node}
 use Rattle.ml_graph.specs.declared.node.Node.TheVariants as node
 use Rattle.ml_graph.proofs.OneStep.{one_step}
-use Rattle.ml_mu_graph.specs.MuGraph.{constant}
+use Rattle.ml_nodes.specs.Nodes.{constant}
 
 abbrev pub Says : Type 0 → Bool → Type 0
 Says P b = P ↔ (b ≡ true)

@@ -8,31 +8,23 @@
 -- stand around it. The negation of a least fixpoint is a greatest one. Every other node has a priority above all binders'.
 --
 -- A node that only leads on is an And with the same child twice. Propositions and actions are named in the graph's lists
--- in any order.
+-- in any order. `ml_nodes/specs/Nodes` has the two nodes of an occurrence, and what it means that a node of a graph is one.
 --
---   positive i, negative i == the two nodes of occurrence i
 --   binders f              == how many binders f has
 --   Around                 == the binders around an occurrence, innermost first, each as its variable and its occurrence
 --   binder_of bs x         == the occurrence of the innermost binder of x
---   IsNode g n v p         == the node n of g is v, with the priority p
---   LeadsTo g n t p        == the node n only leads on, to t
 --   IsLiteral, IsModality  == the node n is a literal of a named proposition; a modality by a named action
 --   StandsAt g k bs i f    == at the occurrence i of g, with the binders bs around it, stands f; k is the priority of
 --                             nodes that are no binder's
 --   IsGraphOf g f negated  == g is the graph of f, or of its negation
 use Rattle.std.specs.Prelude.{ℕ, ◌≡◌, ◌+◌, ◌*◌, Bool, true, false, not, if◌then◌else◌, List, [], ◌∷◌, length}
 use Rattle.std.specs.Str.{bytes_eq}
-use Rattle.ml_graph.specs.Graph.{Graph, IsGraph, size, node_at, priority_at, prop_at, action_at}
+use Rattle.ml_graph.specs.Graph.{Graph, IsGraph, size, prop_at, action_at}
 use Rattle.ml_graph.specs.declared.node.Node.{Node}
 use Rattle.ml_graph.specs.declared.node.Node.TheVariants as node
 use Rattle.ml_text.specs.declared.token.Operator.TheVariants as operator
+use Rattle.ml_nodes.specs.Nodes.{positive, negative, constant, IsNode, LeadsTo}
 use Rattle.ml_mu.specs.Formula.{Formula, Const, Prop, Var, Not, Binary, Modal, Binder, Modality, Diamond, Square, Fixpoint, Least, Greatest, occurrences}
-
-abbrev pub positive : ℕ → ℕ
-positive i = 2 * i
-
-abbrev pub negative : ℕ → ℕ
-negative i = 2 * i + 1
 
 abbrev pub binders : Formula → ℕ
 binders (Const b) = 0
@@ -50,16 +42,6 @@ Around = List (List ℕ × ℕ)
 abbrev pub binder_of : Around → List ℕ → ℕ
 binder_of [] x = 0
 binder_of (b ∷ bs) x = if bytes_eq b.0 x then b.1 else binder_of bs x
-
-abbrev pub IsNode : Graph → ℕ → Node → ℕ → Type 0
-IsNode g n value priority = (node_at g n ≡ value) × (priority_at g n ≡ priority)
-
-abbrev pub LeadsTo : Graph → ℕ → ℕ → ℕ → Type 0
-LeadsTo g n target priority = IsNode g n (node.And target target) priority
-
-abbrev pub constant : Bool → Node
-constant true = node.True
-constant false = node.False
 
 abbrev pub IsLiteral : Graph → ℕ → List ℕ → Bool → ℕ → Type 0
 IsLiteral g n name is_positive priority =

@@ -1,53 +1,25 @@
 // The graph of a formula.
-ghost use Rattle.std.specs.Prelude.{◌≡◌, ℕ, ◌+◌, ◌*◌, ◌/◌, ◌^◌, ◌≤◌, ◌<◌, ◌++◌, if◌then◌else◌, [], ◌∷◌, length, take, drop, IfOk, OnOk};
-ghost use Rattle.ml_graph.specs.declared.node.Node.TheVariants as graph_node;
-ghost use Rattle.ml_text.specs.Operators.{weight};
+ghost use Rattle.std.specs.Prelude.{◌≡◌, ◌+◌, ◌*◌, ◌/◌, ◌^◌, ◌≤◌, ◌<◌, ◌++◌, [], length, take, drop, IfOk, OnOk};
 ghost use Rattle.ml_mu.specs.Formula as mu;
 ghost use Rattle.ml_mu.specs.Formula.{occurrences};
 ghost use Rattle.ml_mu.specs.Term.{formula_of};
 ghost use Rattle.ml_mu_graph.specs.MuGraph as graph;
 ghost use Rattle.ml_mu_graph.specs.Laws.{HoldsWhere};
 ghost use Rattle.ml_mu_graph.specs.MuGraph.{IsGraphOf};
+ghost use Rattle.ml_nodes.specs.private.Connectives.{operator_nodes, operator_priorities};
 ghost use Rattle.ml_mu_graph.specs.private.NodeList as listed;
 ghost use Rattle.ml_mu_graph.specs.private.Views.{none_around, around};
 
 use crate::binders::Binders;
-use crate::names::Names;
-use ml_base::{Action, Name, NoMemory};
+use crate::names::names_of;
+use ml_base::{Name, NoMemory};
 use ml_graph::{ModalGraph, Node};
 use ml_mu::{Formula, Term};
+use ml_nodes::{
+    Draft, Lists, Names, and, constant, lead_to, negative, or, positive, root_of, weight,
+};
 use ml_text::{MOST_OCCURRENCES, Operator};
 use std::alloc::{AllocError, Global};
-
-// the two nodes of an occurrence
-fn positive(at: u32) -> u32
-    requires { at < 1000 + 1000 }
-    ensures { result ≡ graph.positive at }
-{
-    2 * at
-}
-
-fn negative(at: u32) -> u32
-    requires { at < 1000 + 1000 }
-    ensures { result ≡ graph.negative at }
-{
-    2 * at + 1
-}
-
-fn lead_to(to: u32) -> Node
-    ensures { result ≡ listed.lead_to to }
-{
-    Node::And {
-        left: to,
-        right: to,
-    }
-}
-
-fn constant(value: bool) -> Node
-    ensures { result ≡ graph.constant value }
-{
-    if value { Node::True } else { Node::False }
-}
 
 // how many binders a term has
 fn count_binders(term: &Term) -> u32
@@ -76,64 +48,24 @@ fn fill(nodes: &mut Vec<Node>, from: usize, block: &[Node])
     nodes[from..from + block.len()].copy_from_slice(block);
 }
 
-// the nodes and priorities so far
-#[derive(Drop)]
-struct Draft {
-    nodes: Vec<Node>,
-    priorities: Vec<u32>,
-}
-
-// two nodes, for an occurrence and its negation, with their priorities
-fn put(draft: &mut Draft, nodes: (Node, Node), priorities: (u32, u32)) -> Result<(), AllocError>
-    ensures nodes { OnOk result (draft.new.nodes.items ≡ draft.old.nodes.items ++ nodes.0 ∷ nodes.1 ∷ []) }
-    ensures priorities { OnOk result (draft.new.priorities.items ≡ draft.old.priorities.items ++ priorities.0 ∷ priorities.1 ∷ []) }
-{
-    draft.nodes.push(nodes.0)?;
-    draft.nodes.push(nodes.1)?;
-    draft.priorities.push(priorities.0)?;
-    draft.priorities.push(priorities.1)?;
-    Ok(())
-}
-
 // a block of placeholders for a connective, with their priorities
 fn open(draft: &mut Draft, operator: Operator, plain: u32) -> Result<(), AllocError>
     ensures nodes { OnOk result (draft.new.nodes.items ≡ draft.old.nodes.items ++ listed.operator_holes operator) }
-    ensures priorities { OnOk result (draft.new.priorities.items ≡ draft.old.priorities.items ++ listed.operator_priorities operator plain) }
+    ensures priorities { OnOk result (draft.new.priorities.items ≡ draft.old.priorities.items ++ operator_priorities operator plain) }
 {
-    put(draft, (Node::True, Node::True), (plain, plain))?;
+    draft.put((Node::True, Node::True), (plain, plain))?;
     if operator == Operator::Iff {
-        put(draft, (Node::True, Node::True), (plain, plain))?;
-        put(draft, (Node::True, Node::True), (plain, plain))?;
+        draft.put((Node::True, Node::True), (plain, plain))?;
+        draft.put((Node::True, Node::True), (plain, plain))?;
     }
     Ok(())
-}
-
-fn weight(operator: Operator) -> u32
-    ensures { result ≡ weight operator }
-{
-    match operator {
-        Operator::Iff => 3,
-        Operator::Implies | Operator::Or | Operator::And => 1,
-    }
-}
-
-fn and(left: u32, right: u32) -> Node
-    ensures { result ≡ graph_node.And left right }
-{
-    Node::And { left, right }
-}
-
-fn or(left: u32, right: u32) -> Node
-    ensures { result ≡ graph_node.Or left right }
-{
-    Node::Or { left, right }
 }
 
 // the nodes of a connective as the occurrence `at`, over its placeholders
 fn close(nodes: &mut Vec<Node>, operator: Operator, at: u32, l: u32, r: u32)
     requires small { (at + 2 ≤ 1000) × (l ≤ 1000) × (r ≤ 1000) }
-    requires fits { 2 * at + length (listed.operator_nodes operator at l r) ≤ length nodes.old.items }
-    ensures { let block = listed.operator_nodes operator at l r in
+    requires fits { 2 * at + length (operator_nodes operator at l r) ≤ length nodes.old.items }
+    ensures { let block = operator_nodes operator at l r in
         nodes.new.items ≡ take (2 * at) nodes.old.items ++ (block ++ drop (2 * at + length block) nodes.old.items) }
 {
     let from = 2 * at as usize;
@@ -200,7 +132,7 @@ fn place<'a>(
 {
     let usual = (plain, plain);
     match term {
-        Term::Const(value) => put(draft, (constant(*value), constant(!*value)), usual),
+        Term::Const(value) => draft.put((constant(*value), constant(!*value)), usual),
         Term::Prop(name) => {
             let prop = names.proposition(name);
             let yes = Node::Lit {
@@ -211,19 +143,17 @@ fn place<'a>(
                 prop,
                 positive: false,
             };
-            put(draft, (yes, no), usual)
+            draft.put((yes, no), usual)
         }
         Term::Var(name) => {
             let binder = binders.of(name);
-            put(
-                draft,
+            draft.put(
                 (lead_to(positive(binder)), lead_to(negative(binder))),
                 usual,
             )
         }
         Term::Not(operand) => {
-            put(
-                draft,
+            draft.put(
                 (lead_to(negative(at + 1)), lead_to(positive(at + 1))),
                 usual,
             )?;
@@ -291,7 +221,7 @@ fn place<'a>(
                 action,
                 to: negative(at + 1),
             };
-            put(draft, (some, every), usual)?;
+            draft.put((some, every), usual)?;
             place(draft, names, plain, binders, depth, at + 1, operand)
         }
         Term::Square(name, operand) => {
@@ -304,20 +234,18 @@ fn place<'a>(
                 action,
                 to: negative(at + 1),
             };
-            put(draft, (every, some), usual)?;
+            draft.put((every, some), usual)?;
             place(draft, names, plain, binders, depth, at + 1, operand)
         }
         Term::Mu(name, body) => {
-            put(
-                draft,
+            draft.put(
                 (lead_to(positive(at + 1)), lead_to(negative(at + 1))),
                 (2 * depth + 1, 2 * depth),
             )?;
             place_body(draft, names, plain, binders, depth, at, name, body)
         }
         Term::Nu(name, body) => {
-            put(
-                draft,
+            draft.put(
                 (lead_to(positive(at + 1)), lead_to(negative(at + 1))),
                 (2 * depth, 2 * depth + 1),
             )?;
@@ -389,22 +317,6 @@ fn place_body<'a>(
     binders.leave(variable, outer)
 }
 
-// the root is the first occurrence, or its negation
-fn root_of(negated: bool) -> u32
-    ensures { result ≡ (if negated then 1 else 0) }
-{
-    if negated { 1 } else { 0 }
-}
-
-// the lists of a graph
-#[derive(Drop)]
-struct Lists {
-    nodes: Vec<Node>,
-    priorities: Vec<u32>,
-    props: Vec<Name>,
-    actions: Vec<Action>,
-}
-
 // the lists of a term's graph
 fn lists_of(alloc: Global, term: &Term) -> Result<Lists, NoMemory>
     requires { occurrences (formula_of term.now) ≤ MOST_OCCURRENCES }
@@ -413,12 +325,9 @@ fn lists_of(alloc: Global, term: &Term) -> Result<Lists, NoMemory>
     ensures nodes { IfOk result (λ l. l.nodes.items ≡ listed.nodes_of l.props.items l.actions.items none_around 0 (formula_of term.now)) }
     ensures priorities { IfOk result (λ l. l.priorities.items ≡ listed.priorities_of (2 * graph.binders (formula_of term.now)) 0 (formula_of term.now)) }
 {
-    let names = Names::of(alloc, term)?;
+    let names = names_of(alloc, term)?;
     let mut binders = Binders::new(alloc);
-    let mut draft = Draft {
-        nodes: Vec::new(alloc),
-        priorities: Vec::new(alloc),
-    };
+    let mut draft = Draft::new(alloc);
     place(
         &mut draft,
         &names,
@@ -449,14 +358,5 @@ pub fn graph_of(alloc: Global, formula: &Formula, negated: bool) -> Result<Modal
     ensures agrees { IfOk result (λ g. HoldsWhere g (record { formula = formula.now; negated = negated })) }
 {
     let lists = lists_of(alloc, formula.root())?;
-    match ModalGraph::build(
-        lists.nodes,
-        lists.priorities,
-        root_of(negated),
-        lists.props,
-        lists.actions,
-    ) {
-        Ok(graph) => Ok(graph),
-        Err(_) => unreachable!(),
-    }
+    Ok(lists.into_graph(root_of(negated)))
 }

@@ -12,7 +12,8 @@ use Rattle.ml_pdl.specs.Formula.{Formula, Const, Prop, Not, Binary, Modal, Repea
 use Rattle.ml_pdl.specs.Meaning.{meaning}
 use Rattle.ml_pdl.specs.Problem as problem
 use Rattle.ml_pdl_graph.specs.Laws.{GraphsAgree}
-use Rattle.ml_pdl_graph.specs.PdlGraph.{positive, negative, diamond, box, StandsAt, ProgramStandsAt, IsGraphOf}
+use Rattle.ml_nodes.specs.Nodes.{positive, negative}
+use Rattle.ml_pdl_graph.specs.PdlGraph.{diamond, box, StandsAt, ProgramStandsAt, IsGraphOf}
 use Rattle.ml_pdl_graph.proofs.Players.{tells_turned}
 use Rattle.ml_pdl_graph.proofs.ProgramNodes.{Tests, some_occurrence}
 use Rattle.ml_pdl_graph.proofs.Connectives.{Both, both_const, both_prop, both_not, both_and, both_or, both_implies, both_iff, both_diamond, both_square, both_repeat}

@@ -1,5 +1,3 @@
--- walks for ever
-pub mod EndlessWalks
 -- who wins the nodes of a graph
 pub mod Players
 -- programs in a graph
@@ -18,8 +16,6 @@ pub mod Connectives
 pub mod Agreement
 -- a graph worked out by hand
 mod WorkedGraph
--- lists that stand in a list
-pub mod Holding
 -- the lists of a graph, as what stands there
 pub mod NodeLists
 -- the names of a formula

@@ -25,7 +25,7 @@ use Rattle.ml_graph.proofs.OneStep.{vertex_low}
 use Rattle.ml_pdl.specs.Formula.{Formula, Program, Act, Seq, Alt, Star, Test, occurrences, program_occurrences}
 use Rattle.ml_pdl.specs.Meaning.{meaning, relation}
 use Rattle.ml_pdl.proofs.RunsInto.{into, no_run}
-use Rattle.ml_pdl_graph.proofs.EndlessWalks.{Onward, never_for_ever}
+use Rattle.ml_nodes.proofs.EndlessWalks.{Onward, never_for_ever}
 use Rattle.ml_pdl_graph.proofs.Players.{player_of, node_of, node_range, at, WinsAt, Tells, move_to, move_from, never_both, tells_other}
 use Rattle.ml_pdl_graph.proofs.ProgramNodes.{star_priority, NodesAt, Tests, some_occurrence}
 use Rattle.ml_pdl_graph.proofs.Unmet.{Unmet, start_unmet, seq_unmet, left_unmet, right_unmet, here_unmet, round_unmet, test_unmet, target_edge}

@@ -3,31 +3,20 @@
 --   length-nodes, length-program_nodes, .. == two for each occurrence
 --   NamesIn ps acts f, ProgramNamesIn ps acts p == each name of f, or of p, is at its place
 --   stands, program_stands                 == the nodes and priorities of a formula, or of a program, say what stands there
---   one_symbol, program_symbol, one_weight == each formula, program and connective has an occurrence
-use Rattle.std.proofs.Common.{◌≡◌, ℕ, ◌+◌, ◌*◌, ◌≤◌, List, [], ◌∷◌, ◌++◌, length, get_or, refl, ap, subst, arith, length-append}
+--   one_symbol, program_symbol             == each formula and program has an occurrence
+use Rattle.std.proofs.Common.{◌≡◌, ℕ, ◌+◌, ◌*◌, ◌≤◌, List, [], ◌++◌, length, get_or, refl, subst, arith, length-append}
 use Rattle.ml_graph.specs.Graph.{Graph}
-use Rattle.ml_graph.specs.declared.node.Node.{Node}
 use Rattle.ml_graph.specs.declared.node.Node.TheVariants as node
-use Rattle.ml_text.specs.declared.token.Operator.{Operator}
 use Rattle.ml_text.specs.declared.token.Operator.TheVariants as operator
 use Rattle.ml_text.specs.Operators.{weight}
 use Rattle.ml_text.specs.private.NameLists.{place_of}
 use Rattle.ml_pdl.specs.Formula.{Formula, Const, Prop, Not, Binary, Modal, Repeat, Program, Act, Seq, Alt, Star, Test, Diamond, Square, occurrences, program_occurrences}
-use Rattle.ml_pdl_graph.specs.PdlGraph.{positive, negative, diamond, box, plain, IsNode, StandsAt, ProgramStandsAt}
-use Rattle.ml_pdl_graph.specs.private.NodeList.{operator_nodes, operator_priorities, nodes_of, program_nodes, priorities_of, program_priorities}
-use Rattle.ml_pdl_graph.proofs.Holding.{Holds, held_first, held_later, held_left, held_right, held_at}
-
-length-operator : (op : Operator) (i l r : ℕ) → length (operator_nodes op i l r) ≡ 2 * weight op
-length-operator operator.And i l r = refl
-length-operator operator.Or i l r = refl
-length-operator operator.Implies i l r = refl
-length-operator operator.Iff i l r = refl
-
-length-operator_priorities : (op : Operator) → length (operator_priorities op) ≡ 2 * weight op
-length-operator_priorities operator.And = refl
-length-operator_priorities operator.Or = refl
-length-operator_priorities operator.Implies = refl
-length-operator_priorities operator.Iff = refl
+use Rattle.ml_nodes.specs.Nodes.{positive, negative, IsNode}
+use Rattle.ml_pdl_graph.specs.PdlGraph.{diamond, box, plain, StandsAt, ProgramStandsAt}
+use Rattle.ml_nodes.specs.private.Connectives.{operator_nodes, operator_priorities}
+use Rattle.ml_pdl_graph.specs.private.NodeList.{nodes_of, program_nodes, priorities_of, program_priorities}
+use Rattle.ml_nodes.proofs.Connectives.{length-operator, length-operator_priorities, one_weight}
+use Rattle.ml_nodes.proofs.StandingLists.{Stand, Parts, pair, parts}
 
 mutual
   pub length-nodes : (ps acts : List (List ℕ)) (i : ℕ) (f : Formula) → length (nodes_of ps acts i f) ≡ 2 * occurrences f
@@ -97,9 +86,9 @@ mutual
   length-priorities (Binary op f h) =
       omega (
         arith,
-        length-append (operator_priorities op) (priorities_of f ++ priorities_of h),
+        length-append (operator_priorities op plain) (priorities_of f ++ priorities_of h),
         length-append (priorities_of f) (priorities_of h),
-        length-operator_priorities op,
+        length-operator_priorities op plain,
         length-priorities f,
         length-priorities h,
       )
@@ -131,63 +120,6 @@ abbrev mutual
   ProgramNamesIn ps acts (Alt p q) = ProgramNamesIn ps acts p × ProgramNamesIn ps acts q
   ProgramNamesIn ps acts (Star p) = ProgramNamesIn ps acts p
   ProgramNamesIn ps acts (Test f) = NamesIn ps acts f
-
--- lists of a part stand in those of a graph, as the occurrence i
-pub record Stand (g : Graph) (i : ℕ) (nodes : List Node) (priorities : List ℕ) : Type 0 where
-  pub nodes_held : Holds g.nodes (2 * i) nodes
-  pub priorities_held : Holds g.priorities (2 * i) priorities
-
--- two nodes at an occurrence, and what stands behind them
-pub record Pair (g : Graph) (i : ℕ) (a b : Node) (p q : ℕ) (nodes : List Node) (priorities : List ℕ) : Type 0 where
-  pub first : IsNode g (2 * i) a p
-  pub second : IsNode g (2 * i + 1) b q
-  pub behind : Stand g (i + 1) nodes priorities
-
-pair : (g : Graph) (i : ℕ) (a b : Node) (p q : ℕ) (nodes : List Node) (priorities : List ℕ)
-    → Stand g i (a ∷ b ∷ nodes) (p ∷ q ∷ priorities)
-    → Pair g i a b p q nodes priorities
-pair g i a b p q nodes priorities s =
-    let n = 2 * i in
-    let h = s.nodes_held in
-    let k = s.priorities_held in
-    let h1 = held_later g.nodes n a (b ∷ nodes) h in
-    let k1 = held_later g.priorities n p (q ∷ priorities) k in
-    record {
-      first = (held_first g.nodes n a (b ∷ nodes) node.True h, held_first g.priorities n p (q ∷ priorities) 0 k);
-      second = (held_first g.nodes (n + 1) b nodes node.True h1, held_first g.priorities (n + 1) q priorities 0 k1);
-      behind = record {
-        nodes_held = held_at g.nodes (n + 1 + 1) (2 * (i + 1)) nodes (omega arith) (held_later g.nodes (n + 1) b nodes h1);
-        priorities_held =
-            held_at g.priorities (n + 1 + 1) (2 * (i + 1)) priorities (omega arith)
-            (held_later g.priorities (n + 1) q priorities k1);
-      };
-    }
-
--- two parts behind one another, of which the first has so many occurrences
-pub record Parts (g : Graph) (l r : ℕ) (xs ys : List Node) (ps qs : List ℕ) : Type 0 where
-  pub left : Stand g l xs ps
-  pub right : Stand g r ys qs
-
-parts : (g : Graph) (l r size : ℕ) (xs ys : List Node) (ps qs : List ℕ)
-    → Stand g l (xs ++ ys) (ps ++ qs)
-    → length xs ≡ 2 * size
-    → length ps ≡ 2 * size
-    → r ≡ l + size
-    → Parts g l r xs ys ps qs
-parts g l r size xs ys ps qs s long wide is = record {
-  left = record {
-    nodes_held = held_left g.nodes (2 * l) xs ys s.nodes_held;
-    priorities_held = held_left g.priorities (2 * l) ps qs s.priorities_held;
-  };
-  right = record {
-    nodes_held =
-        held_at g.nodes (2 * l + length xs) (2 * r) ys (omega (arith, long, is))
-        (held_right g.nodes (2 * l) xs ys s.nodes_held);
-    priorities_held =
-        held_at g.priorities (2 * l + length ps) (2 * r) qs (omega (arith, wide, is))
-        (held_right g.priorities (2 * l) ps qs s.priorities_held);
-  };
-}
 
 -- the two operands of a connective
 operands : (g : Graph) (l r : ℕ) (f h : Formula)
@@ -302,12 +234,6 @@ mutual
       (here.first, here.second, stands g (i + 1) f names here.behind)
 
 -- ---- each has an occurrence
-
-pub one_weight : (op : Operator) → 1 ≤ weight op
-one_weight operator.And = omega arith
-one_weight operator.Or = omega arith
-one_weight operator.Implies = omega arith
-one_weight operator.Iff = omega arith
 
 pub one_symbol : (f : Formula) → 1 ≤ occurrences f
 one_symbol (Const b) = omega arith

@@ -30,7 +30,7 @@ use Rattle.ml_graph.specs.CheckingGame.{Vertex, Pair, mover, vertex_number, succ
 use Rattle.ml_graph.proofs.CheckingGame.{IsVertex, owner_is, moves_are, is_game}
 use Rattle.ml_graph.proofs.OneStep.{vertex_low, one_step}
 use Rattle.ml_graph.specs.Laws.{NodeHolds}
-use Rattle.ml_pdl_graph.specs.PdlGraph.{positive, negative, constant}
+use Rattle.ml_nodes.specs.Nodes.{positive, negative, constant}
 
 abbrev pub player_of : Bool → Player
 player_of true = Even

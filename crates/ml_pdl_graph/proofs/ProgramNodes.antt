@@ -12,7 +12,8 @@ use Rattle.ml_graph.specs.declared.node.Node.TheVariants as node
 use Rattle.ml_graph.specs.Graph.{Graph, IsGraph, node_at, priority_at, action_at}
 use Rattle.ml_pdl.specs.Formula.{Formula, Const, Prop, Not, Binary, Modal, Repeat, Program, Act, Seq, Alt, Star, Test, occurrences, program_occurrences}
 use Rattle.ml_pdl.specs.Meaning.{meaning}
-use Rattle.ml_pdl_graph.specs.PdlGraph.{positive, negative, plain, ProgramStandsAt}
+use Rattle.ml_nodes.specs.Nodes.{positive, negative}
+use Rattle.ml_pdl_graph.specs.PdlGraph.{plain, ProgramStandsAt}
 use Rattle.ml_pdl_graph.proofs.Players.{player_of, node_of, own_by, other_by, go_by, Tells}
 
 abbrev pub star_priority : Bool → ℕ

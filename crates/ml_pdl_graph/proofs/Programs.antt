@@ -21,7 +21,7 @@ use Rattle.ml_pdl.specs.Formula.{Program, Repeat, program_occurrences}
 use Rattle.ml_pdl.specs.Meaning.{meaning, relation}
 use Rattle.ml_pdl.proofs.RunsInto.{into, run_of}
 use Rattle.ml_pdl.proofs.StarRelations.{repeat_goes_on, repeat_has}
-use Rattle.ml_pdl_graph.proofs.EndlessWalks.{Onward, never_for_ever}
+use Rattle.ml_nodes.proofs.EndlessWalks.{Onward, never_for_ever}
 use Rattle.ml_pdl_graph.proofs.NoRuns.{unmet_lost}
 use Rattle.ml_pdl_graph.proofs.Players.{player_of, node_of, node_range, at, WinsAt, Tells, never_both, one_of_both, tells_leads}
 use Rattle.ml_pdl_graph.proofs.ProgramNodes.{NodesAt, Tests, some_program_occurrence}

@@ -12,26 +12,20 @@
 -- diamond has an odd priority, its box an even one. That of an infinite repetition is to be gone round for ever, so the
 -- other way round, and below the stars'. Every other node has a priority above these.
 --
---   positive i, negative i == the two nodes of occurrence i; diamond i, box i == the same of a program
---   IsNode g n v p         == the node n of g is v, with the priority p
---   LeadsTo g n t p        == the node n only leads on, to t
+-- `ml_nodes/specs/Nodes` has the two nodes of an occurrence, and what it means that a node of a graph is one.
+--
+--   diamond i, box i       == the two nodes of occurrence i where a program stands
 --   IsLiteral g n name b   == the node n is the literal of the proposition with this name, positive where b is true
 --   StandsAt g i f         == at the occurrence i of g stands the formula f
 --   ProgramStandsAt g i d b p == at the occurrence i of g stands the program p, whose diamond goes on at the node d and
 --                             whose box at the node b
 --   IsGraphOf g f negated  == g is the graph of f, or of its negation
 use Rattle.std.specs.Prelude.{ℕ, ◌≡◌, ◌+◌, ◌*◌, Bool, true, false, not, if◌then◌else◌, List}
-use Rattle.ml_graph.specs.Graph.{Graph, IsGraph, size, node_at, priority_at, prop_at, action_at}
-use Rattle.ml_graph.specs.declared.node.Node.{Node}
+use Rattle.ml_graph.specs.Graph.{Graph, IsGraph, size, prop_at, action_at}
 use Rattle.ml_graph.specs.declared.node.Node.TheVariants as node
 use Rattle.ml_text.specs.declared.token.Operator.TheVariants as operator
+use Rattle.ml_nodes.specs.Nodes.{positive, negative, constant, IsNode, LeadsTo}
 use Rattle.ml_pdl.specs.Formula.{Formula, Const, Prop, Not, Binary, Modal, Repeat, Program, Act, Seq, Alt, Star, Test, Diamond, Square, occurrences, program_occurrences}
-
-abbrev pub positive : ℕ → ℕ
-positive i = 2 * i
-
-abbrev pub negative : ℕ → ℕ
-negative i = 2 * i + 1
 
 abbrev pub diamond : ℕ → ℕ
 diamond i = 2 * i
@@ -42,16 +36,6 @@ box i = 2 * i + 1
 -- the priority of nodes that are of no star and of no infinite repetition
 abbrev pub plain : ℕ
 plain = 4
-
-abbrev pub IsNode : Graph → ℕ → Node → ℕ → Type 0
-IsNode g n value priority = (node_at g n ≡ value) × (priority_at g n ≡ priority)
-
-abbrev pub LeadsTo : Graph → ℕ → ℕ → ℕ → Type 0
-LeadsTo g n target priority = IsNode g n (node.And target target) priority
-
-abbrev pub constant : Bool → Node
-constant true = node.True
-constant false = node.False
 
 abbrev pub IsLiteral : Graph → ℕ → List ℕ → Bool → Type 0
 IsLiteral g n name is_positive = (p : ℕ) × IsNode g n (node.Lit p is_positive) plain × (prop_at g p ≡ name)

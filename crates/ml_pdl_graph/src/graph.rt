@@ -1,63 +1,23 @@
 // The graph of a formula.
-ghost use Rattle.std.specs.Prelude.{◌≡◌, ◌+◌, ◌*◌, ◌^◌, ◌≤◌, ◌<◌, ◌++◌, if◌then◌else◌, [], ◌∷◌, length, IfOk, OnOk};
-ghost use Rattle.ml_graph.specs.declared.node.Node.TheVariants as graph_node;
-ghost use Rattle.ml_text.specs.Operators.{weight};
+ghost use Rattle.std.specs.Prelude.{◌≡◌, ◌+◌, ◌*◌, ◌^◌, ◌≤◌, ◌<◌, ◌++◌, [], ◌∷◌, length, IfOk, OnOk};
 ghost use Rattle.ml_pdl.specs.Formula as pdl;
 ghost use Rattle.ml_pdl.specs.Formula.{occurrences, program_occurrences};
 ghost use Rattle.ml_pdl.specs.Term.{formula_of, program_of};
 ghost use Rattle.ml_pdl_graph.specs.PdlGraph as graph;
 ghost use Rattle.ml_pdl_graph.specs.Laws.{HoldsWhere};
 ghost use Rattle.ml_pdl_graph.specs.PdlGraph.{IsGraphOf};
+ghost use Rattle.ml_nodes.specs.private.Connectives.{operator_nodes, operator_priorities};
 ghost use Rattle.ml_pdl_graph.specs.private.NodeList as listed;
 
-use crate::names::Names;
-use ml_base::{Action, Name, NoMemory};
+use crate::names::names_of;
+use ml_base::NoMemory;
 use ml_graph::{ModalGraph, Node};
+use ml_nodes::{
+    Draft, Lists, Names, and, constant, lead_to, negative, or, positive, root_of, weight,
+};
 use ml_pdl::{Formula, Program, Term};
 use ml_text::{MOST_OCCURRENCES, Operator};
 use std::alloc::{AllocError, Global};
-
-// the two nodes of an occurrence, of a program those of its diamond and of its box
-fn positive(at: u32) -> u32
-    requires { at < 1000 + 1000 }
-    ensures { result ≡ graph.positive at }
-{
-    2 * at
-}
-
-fn negative(at: u32) -> u32
-    requires { at < 1000 + 1000 }
-    ensures { result ≡ graph.negative at }
-{
-    2 * at + 1
-}
-
-fn lead_to(to: u32) -> Node
-    ensures { result ≡ listed.lead_to to }
-{
-    Node::And {
-        left: to,
-        right: to,
-    }
-}
-
-fn constant(value: bool) -> Node
-    ensures { result ≡ graph.constant value }
-{
-    if value { Node::True } else { Node::False }
-}
-
-fn and(left: u32, right: u32) -> Node
-    ensures { result ≡ graph_node.And left right }
-{
-    Node::And { left, right }
-}
-
-fn or(left: u32, right: u32) -> Node
-    ensures { result ≡ graph_node.Or left right }
-{
-    Node::Or { left, right }
-}
 
 // how many occurrences a term has
 #[cycle(counting)]
@@ -94,41 +54,13 @@ fn count_program(program: &Program) -> u32
     }
 }
 
-// the nodes and priorities so far
-#[derive(Drop)]
-struct Draft {
-    nodes: Vec<Node>,
-    priorities: Vec<u32>,
-}
-
-// two nodes of an occurrence, with their priorities
-fn put(draft: &mut Draft, nodes: (Node, Node), priorities: (u32, u32)) -> Result<(), AllocError>
-    ensures nodes { OnOk result (draft.new.nodes.items ≡ draft.old.nodes.items ++ nodes.0 ∷ nodes.1 ∷ []) }
-    ensures priorities { OnOk result (draft.new.priorities.items ≡ draft.old.priorities.items ++ priorities.0 ∷ priorities.1 ∷ []) }
-{
-    draft.nodes.push(nodes.0)?;
-    draft.nodes.push(nodes.1)?;
-    draft.priorities.push(priorities.0)?;
-    draft.priorities.push(priorities.1)?;
-    Ok(())
-}
-
-// the same of nodes that are of no star and of no infinite repetition
+// puts the two nodes of an occurrence that is of no star and of no infinite repetition
 fn put_plain(draft: &mut Draft, nodes: (Node, Node)) -> Result<(), AllocError>
     ensures nodes { OnOk result (draft.new.nodes.items ≡ draft.old.nodes.items ++ nodes.0 ∷ nodes.1 ∷ []) }
     ensures priorities { OnOk result (draft.new.priorities.items
         ≡ draft.old.priorities.items ++ graph.plain ∷ graph.plain ∷ []) }
 {
-    put(draft, nodes, (4, 4))
-}
-
-fn weight(operator: Operator) -> u32
-    ensures { result ≡ weight operator }
-{
-    match operator {
-        Operator::Iff => 3,
-        Operator::Implies | Operator::Or | Operator::And => 1,
-    }
+    draft.put(nodes, (4, 4))
 }
 
 // the nodes of a connective as the occurrence `at`, with its operands as l and r
@@ -140,9 +72,9 @@ fn put_connective(
     r: u32,
 ) -> Result<(), AllocError>
     requires { (at ≤ 1000) × (l ≤ 1000) × (r ≤ 1000) }
-    ensures nodes { OnOk result (draft.new.nodes.items ≡ draft.old.nodes.items ++ listed.operator_nodes operator at l r) }
+    ensures nodes { OnOk result (draft.new.nodes.items ≡ draft.old.nodes.items ++ operator_nodes operator at l r) }
     ensures priorities { OnOk result (draft.new.priorities.items
-        ≡ draft.old.priorities.items ++ listed.operator_priorities operator) }
+        ≡ draft.old.priorities.items ++ operator_priorities operator graph.plain) }
 {
     match operator {
         Operator::And => put_plain(
@@ -217,8 +149,7 @@ fn place(draft: &mut Draft, names: &Names, at: u32, term: &Term) -> Result<(), A
         Term::Diamond(program, operand) => place_diamond(draft, names, at, program, operand),
         Term::Square(program, operand) => place_square(draft, names, at, program, operand),
         Term::Repeat(program) => {
-            put(
-                draft,
+            draft.put(
                 (lead_to(positive(at + 1)), lead_to(negative(at + 1))),
                 (0, 1),
             )?;
@@ -328,11 +259,7 @@ fn place_program(
         Program::Seq(left, right) => place_sequence(draft, names, at, next, left, right),
         Program::Alt(left, right) => place_choice(draft, names, at, next, left, right),
         Program::Star(operand) => {
-            put(
-                draft,
-                (or(next.0, positive(l)), and(next.1, negative(l))),
-                (3, 2),
-            )?;
+            draft.put((or(next.0, positive(l)), and(next.1, negative(l))), (3, 2))?;
             let again = (positive(at), negative(at));
             place_program(draft, names, l, again, operand)
         }
@@ -396,22 +323,6 @@ fn place_choice(
     place_program(draft, names, r, next, right)
 }
 
-// the root is the first occurrence, or its negation
-fn root_of(negated: bool) -> u32
-    ensures { result ≡ (if negated then 1 else 0) }
-{
-    if negated { 1 } else { 0 }
-}
-
-// the lists of a graph
-#[derive(Drop)]
-struct Lists {
-    nodes: Vec<Node>,
-    priorities: Vec<u32>,
-    props: Vec<Name>,
-    actions: Vec<Action>,
-}
-
 // the lists of a term's graph
 fn lists_of(alloc: Global, term: &Term) -> Result<Lists, NoMemory>
     requires { occurrences (formula_of term.now) ≤ MOST_OCCURRENCES }
@@ -420,11 +331,8 @@ fn lists_of(alloc: Global, term: &Term) -> Result<Lists, NoMemory>
     ensures nodes { IfOk result (λ l. l.nodes.items ≡ listed.nodes_of l.props.items l.actions.items 0 (formula_of term.now)) }
     ensures priorities { IfOk result (λ l. l.priorities.items ≡ listed.priorities_of (formula_of term.now)) }
 {
-    let names = Names::of(alloc, term)?;
-    let mut draft = Draft {
-        nodes: Vec::new(alloc),
-        priorities: Vec::new(alloc),
-    };
+    let names = names_of(alloc, term)?;
+    let mut draft = Draft::new(alloc);
     place(&mut draft, &names, 0, term)?;
     let (props, actions) = names.into_lists(alloc)?;
     Ok(Lists {
@@ -448,14 +356,5 @@ pub fn graph_of(alloc: Global, formula: &Formula, negated: bool) -> Result<Modal
     ensures agrees { IfOk result (λ g. HoldsWhere g (record { formula = formula.now; negated = negated })) }
 {
     let lists = lists_of(alloc, formula.root())?;
-    match ModalGraph::build(
-        lists.nodes,
-        lists.priorities,
-        root_of(negated),
-        lists.props,
-        lists.actions,
-    ) {
-        Ok(graph) => Ok(graph),
-        Err(_) => unreachable!(),
-    }
+    Ok(lists.into_graph(root_of(negated)))
 }

@@ -5,7 +5,7 @@ ghost use Rattle.ml_pdl_graph.specs.Laws.{GraphsAgree};
 /// structure, at every state, in the plain sense and negated. Stars may be nested, and tests may hold any formulas.
 ///
 /// Does nothing when called. Source: Fischer and Ladner (1979), for the logic, and Streett (1982), for infinite repetition;
-/// the proof goes by walks that follow a strategy (`proofs/EndlessWalks`).
+/// the proof goes by walks that follow a strategy (`ml_nodes`, `proofs/EndlessWalks`).
 pub fn agrees()
     ensures { GraphsAgree }
 {}

@@ -16,7 +16,9 @@ use Rattle.ml_text.specs.declared.token.Operator.{Operator}
 use Rattle.ml_text.specs.declared.token.Operator.TheVariants as operator
 use Rattle.ml_text.specs.Operators.{weight}
 use Rattle.ml_mu.specs.Formula.{Formula, Const, Prop, Var, Not, Binary, Modal, Binder, occurrences}
-use Rattle.ml_mu_graph.specs.MuGraph.{positive, negative, constant, modality, dual, binder_priority, opposite}
+use Rattle.ml_nodes.specs.Nodes.{positive, negative, lead_to, constant}
+use Rattle.ml_nodes.specs.private.Connectives.{operator_nodes, operator_priorities}
+use Rattle.ml_mu_graph.specs.MuGraph.{modality, dual, binder_priority, opposite}
 
 abbrev pub props_onto : Formula → List (List ℕ) → List (List ℕ)
 props_onto (Const b) ps = ps
@@ -36,38 +38,12 @@ actions_onto (Binary op f h) acts = actions_onto h (actions_onto f acts)
 actions_onto (Modal m a f) acts = actions_onto f (with_name acts a)
 actions_onto (Binder q x f) acts = actions_onto f acts
 
-abbrev pub lead_to : ℕ → Node
-lead_to n = node.And n n
-
--- the nodes of a connective as the occurrence i, with its operands as l and r
-abbrev pub operator_nodes : Operator → ℕ → ℕ → ℕ → List Node
-operator_nodes operator.And i l r =
-    node.And (positive l) (positive r) ∷ node.Or (negative l) (negative r) ∷ []
-operator_nodes operator.Or i l r =
-    node.Or (positive l) (positive r) ∷ node.And (negative l) (negative r) ∷ []
-operator_nodes operator.Implies i l r =
-    node.Or (negative l) (positive r) ∷ node.And (positive l) (negative r) ∷ []
-operator_nodes operator.Iff i l r =
-    node.Or (positive (i + 1)) (positive (i + 2))
-    ∷ node.Or (negative (i + 1)) (negative (i + 2))
-    ∷ node.And (positive l) (positive r)
-    ∷ node.And (positive l) (negative r)
-    ∷ node.And (negative l) (negative r)
-    ∷ node.And (negative l) (positive r)
-    ∷ []
-
--- as many nodes that say nothing yet
+-- as many nodes that say nothing yet as a connective has
 abbrev pub operator_holes : Operator → List Node
 operator_holes operator.And = node.True ∷ node.True ∷ []
 operator_holes operator.Or = node.True ∷ node.True ∷ []
 operator_holes operator.Implies = node.True ∷ node.True ∷ []
 operator_holes operator.Iff = node.True ∷ node.True ∷ node.True ∷ node.True ∷ node.True ∷ node.True ∷ []
-
-abbrev pub operator_priorities : Operator → ℕ → List ℕ
-operator_priorities operator.And k = k ∷ k ∷ []
-operator_priorities operator.Or k = k ∷ k ∷ []
-operator_priorities operator.Implies k = k ∷ k ∷ []
-operator_priorities operator.Iff k = k ∷ k ∷ k ∷ k ∷ k ∷ k ∷ []
 
 abbrev pub bound : List ℕ → ℕ → (List ℕ → ℕ) → List ℕ → ℕ
 bound x i b y = if bytes_eq x y then i else b y

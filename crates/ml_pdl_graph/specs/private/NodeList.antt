@@ -9,11 +9,11 @@ use Rattle.std.specs.Prelude.{ℕ, ◌+◌, true, false, not, List, [], ◌∷�
 use Rattle.ml_graph.specs.declared.node.Node.{Node}
 use Rattle.ml_graph.specs.declared.node.Node.TheVariants as node
 use Rattle.ml_text.specs.private.NameLists.{with_name, place_of}
-use Rattle.ml_text.specs.declared.token.Operator.{Operator}
-use Rattle.ml_text.specs.declared.token.Operator.TheVariants as operator
 use Rattle.ml_text.specs.Operators.{weight}
 use Rattle.ml_pdl.specs.Formula.{Formula, Const, Prop, Not, Binary, Modal, Repeat, Program, Act, Seq, Alt, Star, Test, Diamond, Square, occurrences, program_occurrences}
-use Rattle.ml_pdl_graph.specs.PdlGraph.{positive, negative, diamond, box, constant, plain}
+use Rattle.ml_nodes.specs.Nodes.{positive, negative, lead_to, constant}
+use Rattle.ml_nodes.specs.private.Connectives.{operator_nodes, operator_priorities}
+use Rattle.ml_pdl_graph.specs.PdlGraph.{diamond, box, plain}
 
 abbrev mutual
   pub props_onto : Formula → List (List ℕ) → List (List ℕ)
@@ -46,32 +46,6 @@ abbrev mutual
   program_actions_onto (Alt p q) acts = program_actions_onto q (program_actions_onto p acts)
   program_actions_onto (Star p) acts = program_actions_onto p acts
   program_actions_onto (Test f) acts = actions_onto f acts
-
-abbrev pub lead_to : ℕ → Node
-lead_to n = node.And n n
-
--- the nodes of a connective as the occurrence i, with its operands as l and r
-abbrev pub operator_nodes : Operator → ℕ → ℕ → ℕ → List Node
-operator_nodes operator.And i l r =
-    node.And (positive l) (positive r) ∷ node.Or (negative l) (negative r) ∷ []
-operator_nodes operator.Or i l r =
-    node.Or (positive l) (positive r) ∷ node.And (negative l) (negative r) ∷ []
-operator_nodes operator.Implies i l r =
-    node.Or (negative l) (positive r) ∷ node.And (positive l) (negative r) ∷ []
-operator_nodes operator.Iff i l r =
-    node.Or (positive (i + 1)) (positive (i + 2))
-    ∷ node.Or (negative (i + 1)) (negative (i + 2))
-    ∷ node.And (positive l) (positive r)
-    ∷ node.And (positive l) (negative r)
-    ∷ node.And (negative l) (negative r)
-    ∷ node.And (negative l) (positive r)
-    ∷ []
-
-abbrev pub operator_priorities : Operator → List ℕ
-operator_priorities operator.And = plain ∷ plain ∷ []
-operator_priorities operator.Or = plain ∷ plain ∷ []
-operator_priorities operator.Implies = plain ∷ plain ∷ []
-operator_priorities operator.Iff = plain ∷ plain ∷ plain ∷ plain ∷ plain ∷ plain ∷ []
 
 abbrev mutual
   pub nodes_of : List (List ℕ) → List (List ℕ) → ℕ → Formula → List Node
@@ -114,7 +88,7 @@ abbrev mutual
   priorities_of (Const b) = plain ∷ plain ∷ []
   priorities_of (Prop p) = plain ∷ plain ∷ []
   priorities_of (Not f) = plain ∷ plain ∷ priorities_of f
-  priorities_of (Binary op f h) = operator_priorities op ++ (priorities_of f ++ priorities_of h)
+  priorities_of (Binary op f h) = operator_priorities op plain ++ (priorities_of f ++ priorities_of h)
   priorities_of (Modal m p f) = plain ∷ plain ∷ (program_priorities p ++ priorities_of f)
   priorities_of (Repeat p) = 0 ∷ 1 ∷ program_priorities p
 

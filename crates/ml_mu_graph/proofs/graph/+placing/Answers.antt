@@ -5,7 +5,8 @@ use Rattle.ml_mu.specs.Formula.{occurrences}
 use Rattle.ml_mu.specs.Term.{formula_of}
 use Rattle.ml_mu_graph.specs.private.Views.{around}
 use Rattle.ml_mu_graph.proofs.Bindings.{low_inside, low_same, left_again}
-use Rattle.ml_mu_graph.proofs.NodeLists.{left_placed, closed, second_number, one_symbol, one_weight}
+use Rattle.ml_nodes.proofs.Connectives.{one_weight}
+use Rattle.ml_mu_graph.proofs.NodeLists.{left_placed, closed, second_number, one_symbol}
 use Rattle.ml_mu_graph.proofs.graph.+placing.Goals as goal
 
 pub place_both-placed-second-requires : goal.place_both-placed-second-requires

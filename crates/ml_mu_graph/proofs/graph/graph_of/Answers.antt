@@ -1,55 +1,30 @@
-use Rattle.std.proofs.Common.{◌≡◌, ◌*◌, [], length, ap, sym, ◌∙◌, subst, ◌≤◌, true, false, arith}
-use Rattle.std.specs.List.{IsDistinct}
-use Rattle.std.specs.Str.{bytes_eq}
+use Rattle.std.proofs.Common.{length, ap, sym, subst, ◌≤◌, arith}
 use Rattle.ml_graph.specs.Graph.{graph_of}
 use Rattle.ml_mu.specs.Formula.{occurrences}
 use Rattle.ml_mu.specs.Term.{formula_of}
-use Rattle.ml_mu_graph.specs.MuGraph.{binders, IsGraphOf}
+use Rattle.ml_mu_graph.specs.MuGraph.{IsGraphOf}
 use Rattle.ml_mu_graph.specs.private.Views.{none_around}
 use Rattle.ml_mu_graph.proofs.Agreement.{graphs_agree}
-use Rattle.ml_mu_graph.proofs.InRange.{lists_make_graph, none_twice}
+use Rattle.ml_mu_graph.proofs.InRange.{lists_make_graph}
 use Rattle.ml_mu_graph.proofs.Made.{graph_made}
-use Rattle.ml_mu_graph.proofs.NameLists.{distinct_actions, distinct_props}
-use Rattle.ml_mu_graph.proofs.NodeLists.{length-nodes, length-priorities}
+use Rattle.ml_mu_graph.proofs.NodeLists.{length-nodes}
 use Rattle.ml_mu_graph.proofs.graph.graph_of.Goals as goal
 
-pub build-requires-clause-few : goal.build-requires-clause-few
-build-requires-clause-few c =
+pub into_graph-requires-clause-few : goal.into_graph-requires-clause-few
+into_graph-requires-clause-few c =
     let lists = c.in_ok-lists.lists in
-    let made = c.in_ok-lists.ensures in
     let f = formula_of c.root.result.now in
     let small = subst (λ f. occurrences f ≤ 1000) (sym c.root.ensures.tree) c.root.ensures.well_formed.is_small in
     let size = length-nodes lists.props.items lists.actions.items none_around 0 f in
-    omega (arith, lists.nodes.ok.0, ap length made.nodes, size, small)
+    omega (arith, ap length c.in_ok-lists.ensures.nodes, size, small)
 
-pub build-requires-clause-priorities : goal.build-requires-clause-priorities
-build-requires-clause-priorities c =
+pub into_graph-requires-clause-is_graph : goal.into_graph-requires-clause-is_graph
+into_graph-requires-clause-is_graph c =
     let lists = c.in_ok-lists.lists in
     let made = c.in_ok-lists.ensures in
-    let f = formula_of c.root.result.now in
-    lists.priorities.ok.0 ∙ ap length made.priorities ∙ length-priorities (2 * binders f) 0 f
-    ∙ sym (lists.nodes.ok.0 ∙ ap length made.nodes ∙ length-nodes lists.props.items lists.actions.items none_around 0 f)
-
-pub build-requires-clause-props : goal.build-requires-clause-props
-build-requires-clause-props c =
-    subst (IsDistinct bytes_eq) (sym c.in_ok-lists.ensures.props)
-    (distinct_props (formula_of c.root.result.now) [] none_twice)
-
-pub build-requires-clause-actions : goal.build-requires-clause-actions
-build-requires-clause-actions c =
-    subst (IsDistinct bytes_eq) (sym c.in_ok-lists.ensures.actions)
-    (distinct_actions (formula_of c.root.result.now) [] none_twice)
-
-pub unreachable-requires : goal.unreachable-requires
-unreachable-requires c =
-    let lists = c.in_ok-lists.lists in
-    let made = c.in_ok-lists.ensures in
-    let f = formula_of c.root.result.now in
     let g = graph_of lists.nodes lists.priorities c.root_of.result lists.props lists.actions in
-    let is_graph =
-    lists_make_graph g f c.args.negated made.props made.actions made.nodes made.priorities c.root_of.ensures in
-    let wrong : false ≡ true = c.in-Err.ensures.accepted.1 is_graph in
-    cc
+    lists_make_graph g (formula_of c.root.result.now) c.args.negated made.props made.actions made.nodes made.priorities
+    c.root_of.ensures
 
 pub returns-clause-graph : goal.returns-clause-graph
 returns-clause-graph c =
@@ -61,7 +36,7 @@ returns-clause-graph c =
     lists_make_graph g f c.args.negated made.props made.actions made.nodes made.priorities c.root_of.ensures in
     let is =
     graph_made g f c.args.negated is_graph made.props made.actions made.nodes made.priorities c.root_of.ensures in
-    subst (λ h. IsGraphOf h c.args.formula.now c.args.negated) (sym c.in-Ok.ensures.ok)
+    subst (λ h. IsGraphOf h c.args.formula.now c.args.negated) (sym c.into_graph.ensures)
     (subst (λ h. IsGraphOf g h c.args.negated) c.root.ensures.tree is)
 
 pub returns-clause-agrees : goal.returns-clause-agrees
@@ -75,6 +50,6 @@ returns-clause-agrees c =
     let is =
     graph_made g f c.args.negated is_graph made.props made.actions made.nodes made.priorities c.root_of.ensures in
     let whole = c.root.ensures.well_formed in
-    graphs_agree c.args.formula.now c.args.negated c.in-Ok.graph whole.variables_are_bound whole.variables_are_positive
-    (subst (λ h. IsGraphOf h c.args.formula.now c.args.negated) (sym c.in-Ok.ensures.ok)
+    graphs_agree c.args.formula.now c.args.negated c.into_graph.result whole.variables_are_bound whole.variables_are_positive
+    (subst (λ h. IsGraphOf h c.args.formula.now c.args.negated) (sym c.into_graph.ensures)
     (subst (λ h. IsGraphOf g h c.args.negated) c.root.ensures.tree is))

@@ -1,0 +1,27 @@
+-- How long the lists of a connective are.
+--
+--   length-operator, length-operator_priorities == two for each occurrence
+--   one_weight == a connective has an occurrence
+use Rattle.std.proofs.Common.{◌≡◌, ℕ, ◌*◌, ◌≤◌, length, refl, arith}
+use Rattle.ml_text.specs.Operators.{weight}
+use Rattle.ml_text.specs.declared.token.Operator.{Operator}
+use Rattle.ml_text.specs.declared.token.Operator.TheVariants as operator
+use Rattle.ml_nodes.specs.private.Connectives.{operator_nodes, operator_priorities}
+
+pub length-operator : (op : Operator) (i l r : ℕ) → length (operator_nodes op i l r) ≡ 2 * weight op
+length-operator operator.And i l r = refl
+length-operator operator.Or i l r = refl
+length-operator operator.Implies i l r = refl
+length-operator operator.Iff i l r = refl
+
+pub length-operator_priorities : (op : Operator) (k : ℕ) → length (operator_priorities op k) ≡ 2 * weight op
+length-operator_priorities operator.And k = refl
+length-operator_priorities operator.Or k = refl
+length-operator_priorities operator.Implies k = refl
+length-operator_priorities operator.Iff k = refl
+
+pub one_weight : (op : Operator) → 1 ≤ weight op
+one_weight operator.And = omega arith
+one_weight operator.Or = omega arith
+one_weight operator.Implies = omega arith
+one_weight operator.Iff = omega arith

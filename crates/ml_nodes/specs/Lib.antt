@@ -1,0 +1,4 @@
+-- the nodes of an occurrence
+pub mod Nodes
+-- what private contracts cite
+pub mod private

@@ -1,0 +1,18 @@
+// How the modal graph of a formula is put together: what the graphs of the mu-calculus, of PDL and of CTL* have alike.
+//
+// Begin with `Names`, the names of a graph with their places, with `Draft`, the nodes and priorities that are made one
+// occurrence after the other, and with `Lists`, of which a graph is made. `specs/Nodes.antt` says which two nodes an
+// occurrence has.
+//
+// Below stands `ml_graph`, for graphs. Above stand `ml_mu_graph`, `ml_pdl_graph` and `ml_blocks`.
+#![tactic(auto)]
+
+mod draft;
+mod lists;
+mod names;
+mod nodes;
+
+pub use draft::Draft;
+pub use lists::{Lists, root_of};
+pub use names::{Names, add_action, add_proposition};
+pub use nodes::{and, constant, lead_to, negative, or, positive, weight};
