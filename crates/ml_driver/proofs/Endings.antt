@@ -4,15 +4,11 @@
 --   ended_with     == the same, where the words are a command
 --   too_long_due   == an input past the limit of its command is refused by its length
 --   given_past     == and was read, as far as it was given
---   gave_all       == an input within the limit is no more than the limit
---   failed_to_read, lacked_memory == how a call ends whose input is refused for another reason
---   unread         == how one ends that lacks memory before anything is read
+--   unread         == how a call ends that lacks memory before anything is read
 use Rattle.std.proofs.Common.{◌≡◌, ℕ, ◌<◌, ◌≤◌, length, List, [], Option, Some, None, refl, sym, ap, subst, inl, inr, ⊎_elim, arith}
-use Rattle.std.specs.Prelude.{IfSome, IsSome}
 use Rattle.std.specs.Io.KnownBytes.{append_known, prepend_known}
 use Rattle.ml_base.specs.Faults.{Rose}
-use Rattle.ml_base.specs.Whole.{AppendsPart, Gives}
-use Rattle.ml_base.specs.declared.whole.ReadRefusal.TheVariants as reading
+use Rattle.ml_base.specs.Whole.{AppendsPart}
 use Rattle.ml_front.specs.declared.answer.Answer.{Answer}
 use Rattle.ml_front.specs.declared.answer.Answer.TheVariants as answer
 use Rattle.ml_driver.specs.declared.command.Command.{Command}
@@ -22,7 +18,6 @@ use Rattle.ml_driver.specs.declared.status.Status.TheVariants.{Yes, No, Undecide
 use Rattle.ml_driver.specs.Bench.{answer_of, status_of}
 use Rattle.ml_driver.specs.Statuses.{code_of, longest_document, longest_input, longest_text, refused_length}
 use Rattle.ml_driver.specs.Run.{as_document, document_by_length, input_limit, GaveUpTo, IsCalm, IsDue, IsTooLong, LackedMemory, World, WasGiven, WasRead, IsWhole, Answered, FailedToWrite, Ended, Wrote}
-use Rattle.ml_driver.specs.private.Inputs.{IsRefusedInput}
 
 -- the status of an answer is none of the later ones
 calm_status : (a : Answer) (s : Status) → s ≡ status_of a → code_of s ≤ 2
@@ -144,45 +139,7 @@ pub given_past : (c : Command) (k : ℕ) (before after : Option (List ℕ)) (tex
 given_past c k before after text is gave long =
     subst (λ o. WasGiven o before after text) (sym is) (gave, inr long)
 
--- no more was given than the limit, where the whole input isn't longer
-pub gave_all : (o : Option ℕ) (before after : Option (List ℕ)) (text : List ℕ)
-    → WasGiven o before after text
-    → IfSome o (λ n. length text ≤ n)
-    → GaveUpTo o before after
-gave_all None before after text given fits = given.0
-gave_all (Some n) before after text given fits = (text, given.0, fits)
-
--- and where the input was refused for another reason
-gave_part : (c : Command) (k : ℕ) (before after : Option (List ℕ))
-    → longest_input c ≡ Some k
-    → Gives before after (λ given. length given ≤ k)
-    → GaveUpTo (longest_input c) before after
-gave_part c k before after is gives = subst (λ o. GaveUpTo o before after) (sym is) gives
-
-pub failed_to_read : (c : Command) (w : World)
-    → IsRefusedInput c reading.ReadFault w.left_before w.left_after
-    → Rose w.source_faults_before w.source_faults_after
-    → w.sink_faults_after ≡ w.sink_faults_before
-    → w.taken_after ≡ w.taken_before
-    → Ended (Some c) w ReadFault
-failed_to_read c w refused rose calm nothing = record {
-  takes_input = subst IsSome (sym refused.takes) refl;
-  gave_at_most = gave_part c refused.limit w.left_before w.left_after refused.takes refused.gives;
-  source_rose = rose;
-  sink_is_calm = calm;
-  nothing_taken = nothing;
-}
-
-pub lacked_memory : (c : Command) (w : World)
-    → IsRefusedInput c reading.NoMemory w.left_before w.left_after
-    → IsCalm w
-    → w.taken_after ≡ w.taken_before
-    → Ended (Some c) w NoMemory
-lacked_memory c w refused calm nothing = record {
-  gave_at_most = gave_part c refused.limit w.left_before w.left_after refused.takes refused.gives;
-  nothing_taken = nothing;
-  is_calm = calm;
-}
+-- ---- where nothing is read
 
 nothing_given : (left : Option (List ℕ)) → left ≡ prepend_known [] left
 nothing_given None = refl

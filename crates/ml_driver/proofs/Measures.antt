@@ -6,11 +6,10 @@
 --   one_size, one_count == the graphs of a problem have as many nodes, and their games as many positions
 --   one_finding      == so one thing is found of it at most
 --   some_finding     == and something is
-use Rattle.std.proofs.Common.{◌≡◌, ℕ, ◌<◌, ◌≤◌, ◌^◌, ◌⊎◌, Bool, true, false, length, refl, sym, ap, ap₂, subst, ◌∙◌, inl, inr, ⊎_elim, arith}
+use Rattle.std.proofs.Common.{◌≡◌, ℕ, ◌<◌, ◌≤◌, ◌^◌, ◌⊎◌, Bool, true, false, length, refl, sym, ap, ap₂, ◌∙◌, inl, inr, ⊎_elim, arith}
 use Rattle.std.proofs.lemmas.Bool.{cases_lt}
 use Rattle.ml_front.specs.Graphs.{HasLargeClosure, IsGraphOf}
 use Rattle.ml_front.specs.Logics.{IsWellFormed}
-use Rattle.ml_front.specs.Problems.{IsSatisfiable}
 use Rattle.ml_front.specs.declared.problem.Problem.{Problem}
 use Rattle.ml_front.specs.declared.problem.TheConstants.{MOST_NODES}
 use Rattle.ml_front.proofs.Graphs.{graph_is, graphs_alike}
@@ -23,11 +22,10 @@ use Rattle.ml_product.specs.DecisionGame.{HasMoreThan}
 use Rattle.ml_product.proofs.ArenaGame.{is_game}
 use Rattle.ml_product.proofs.SomeSolution.{some_solution}
 use Rattle.ml_driver.specs.Bench.{HasNodes, HasPositions, IsFinding, IsSatisfiableOrNot, asked}
-use Rattle.ml_driver.specs.Decision.{IsClosed, PassesLimit, StaysOpen}
 use Rattle.ml_driver.specs.declared.cause.Cause.TheVariants.{Positions, Closure}
 use Rattle.ml_driver.specs.declared.finding.Finding.{Finding}
 use Rattle.ml_driver.specs.declared.finding.Finding.TheVariants.{Decided, GamePassed, ClosurePassed}
-use Rattle.ml_driver.specs.private.Findings.{IsFoundIn, IsPlayedOut, IsWonBy, winner_of}
+use Rattle.ml_driver.specs.private.Findings.{IsFoundIn, IsWonBy, winner_of}
 use Rattle.ml_driver.proofs.Answered.{closed}
 use Rattle.ml_driver.proofs.HeldGraphs.{HeldGraph, held_graph}
 use Rattle.ml_driver.proofs.ProblemGraphs.{few_positions, keeps_limit, same_positions}

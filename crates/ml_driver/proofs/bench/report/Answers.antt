@@ -1,5 +1,5 @@
 -- The lines one behind the other are the text.
-use Rattle.std.proofs.Common.{◌≡◌, ◌++◌, [], ◌∷◌, codes, ap, ◌∙◌}
+use Rattle.std.proofs.Common.{◌++◌, [], ◌∷◌, codes, ap, ◌∙◌}
 use Rattle.ml_front.specs.Head.{answer_line, answer_word}
 use Rattle.ml_lines.specs.Lines.{Line, line_text, number}
 use Rattle.ml_lines.proofs.Lines.{text_of-last, text_of-more}

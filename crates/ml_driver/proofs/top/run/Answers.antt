@@ -1,9 +1,9 @@
 -- How each way through the call ends it.
 use Rattle.std.proofs.Common.{◌<◌, [], None, Some, refl, sym, ◌∙◌, subst, arith, length}
 use Rattle.ml_driver.specs.declared.status.Status.TheVariants as status
-use Rattle.ml_driver.specs.Statuses.{longest_input, refused_words, refused_length}
+use Rattle.ml_driver.specs.Statuses.{refused_words, refused_length}
 use Rattle.ml_driver.specs.Run.{IsDue, IsWhole, Wrote}
-use Rattle.ml_driver.proofs.Endings.{ended_written, ended_with, failed_to_read, gave_all, given_past, lacked_memory, too_long_due, unread}
+use Rattle.ml_driver.proofs.Endings.{ended_written, ended_with, given_past, too_long_due, unread}
 use Rattle.ml_driver.proofs.top.run.Goals as goal
 
 pub returns-in-Ok-None : goal.returns-in-Ok-None
