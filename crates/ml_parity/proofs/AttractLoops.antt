@@ -162,8 +162,8 @@ one_up g old left preds k x long low vertex is so v inside = by_case (cases_eq v
 
 -- the vertex at a place, and its predecessors
 module _ (g : ParityGame) (order place : List ℕ) (row : IsRow order place) (long : length place ≡ size g)
-    (rows : List (Vec ℕ)) (are : ArePredecessors g (lists_of rows)) (at w : ℕ) (m : Vec ℕ) (preds left : List ℕ)
-    (low : at < size g) (is : w ≡ get_or order at w) (read : m ≡ get_or rows w m) (same : preds ≡ m.items) where
+    (rows : List (List ℕ)) (are : ArePredecessors g rows) (at w : ℕ) (preds left : List ℕ) (low : at < size g)
+    (is : w ≡ get_or order at w) (same : preds ≡ get_or rows w []) where
   is_there : w ≡ get_or order at 0
   is_there = is ∙ get_or_default order at w 0 (omega (arith, row.size))
 
@@ -179,10 +179,7 @@ module _ (g : ParityGame) (order place : List ℕ) (row : IsRow order place) (lo
 
   -- its predecessors are those of the game
   pub preds_at : (u : ℕ) → times u preds ≡ times w (moves_of g u)
-  preds_at u =
-      let long_rows = length-map rows (λ (x : Vec ℕ). x.items) in
-      let inside : w < length rows = omega (arith, are.lists, vertex_at) in
-      ap (times u) (same ∙ sym (lists_of-at rows w m inside read)) ∙ are.each w u vertex_at
+  preds_at u = ap (times u) same ∙ are.each w u vertex_at
 
   pub preds_low : length g.successors ≡ size g → (k : ℕ) → k < length preds → get_or preds k 0 < size g
   preds_low successors k inside = move_low g successors (get_or preds k 0) w (preds_move g w preds preds_at k inside)
