@@ -11,21 +11,18 @@
 --   all_room, all_up == the same for all predecessors of the vertex at a place
 use Rattle.std.proofs.Common.{ℕ, ◌≡◌, ◌+◌, ◌-◌, ◌<◌, ◌≤◌, ◌⊎◌, inl, inr, ⊎_elim, Bool, arith, List, [], ◌∷◌, length, get_or, set, take, drop, cond, nat_eq, subst, sym, ap, ◌∙◌, refl, eq-eqb, ne_eqb, add-one, get_or-set_same, get_or-set_other}
 use Rattle.std.proofs.Math.Seq.{drop-cons}
-use Rattle.std.specs.Global.{Vec}
 use Rattle.std.specs.List.{count_by}
 use Rattle.std.proofs.lemmas.Bool.{cases_eq, cases_lt}
-use Rattle.std.proofs.lemmas.List.{get_or_default, get_or_past, length-map}
+use Rattle.std.proofs.lemmas.List.{get_or_default, get_or_past}
 use Rattle.std.proofs.lemmas.List.Sums.{count_by-le-length, sum_by-take-le, count_by_more_yes, count_by_more_no}
 use borrow.Author.Tests.{eqb-true}
 use Rattle.ml_parity.specs.Game.{ParityGame, HasMove, size, moves_of}
-use Rattle.ml_parity.specs.Refusal.{lists_of}
 use Rattle.ml_parity.specs.declared.players.Player.{Player}
 use Rattle.ml_parity.specs.private.Parts.{part, KeepsBehind}
 use Rattle.ml_parity.specs.private.SolverSteps.{place_of, number_at, times, moves_before, ArePredecessors, IsAttracting, IsLeft, IsRow}
 use Rattle.ml_parity.proofs.Boards.{move_to}
 use Rattle.ml_parity.proofs.Attracting.{followed}
 use Rattle.ml_parity.proofs.WaitingFrames.{in_to, keeps_more, keeps_on}
-use Rattle.ml_parity.proofs.Refusals.{lists_of-at}
 use Rattle.ml_parity.proofs.VertexOrder.{at_place}
 use Rattle.ml_parity.proofs.Occurrences.{times_here, times_other, entry_counts, counts_entry, before_next, same_part}
 

@@ -129,11 +129,12 @@ pub adds_more : (last0 last : List ℕ) (arrows0 arrows arrows2 : List Arrow) (u
     → AddsTo last0 arrows0 (set last w n) arrows2 u (take (i + 1) moves)
 adds_more last0 last arrows0 arrows arrows2 u i w b n moves inside is low before grown count so = λ rows chains.
     let now = so rows chains in
-    let x : Arrow = record { source = u; before = b } in
-    (set now.0 w (u ∷ get_or now.0 w []),
-    subst (λ (bs : List Arrow). AreChains (set last w n) bs (set now.0 w (u ∷ get_or now.0 w []))) (sym grown)
-    (chains_more last arrows now.0 x w n low before (count ∙ ap length grown) now.1),
-    added_more rows now.0 u i w moves inside is (omega (arith, now.1.lists)) now.2)
+    let x : Arrow = record { source = u; before = b } in (
+      set now.0 w (u ∷ get_or now.0 w []),
+      subst (λ (bs : List Arrow). AreChains (set last w n) bs (set now.0 w (u ∷ get_or now.0 w []))) (sym grown)
+          (chains_more last arrows now.0 x w n low before (count ∙ ap length grown) now.1),
+      added_more rows now.0 u i w moves inside is (omega (arith, now.1.lists)) now.2,
+    )
 
 -- one vertex more in the chains, as the program adds it
 pub below_turn : (g : ParityGame) (k u : ℕ) (last slice new ys : List ℕ) (arrows arrows2 : List Arrow) (moves : List ℕ)
@@ -146,9 +147,11 @@ pub below_turn : (g : ParityGame) (k u : ℕ) (last slice new ys : List ℕ) (ar
 below_turn g k u last slice new ys arrows arrows2 moves count same is (rows, chains, below) adds =
     let now = adds rows (subst (λ xs. AreChains xs arrows rows) (sym same) chains) in
     let long : k ≡ length new = omega (arith, count, chains.lists, now.2.lists, now.1.lists) in
-    let from : IsAdded rows now.0 u (moves_of g u) = subst (λ ms. IsAdded rows now.0 u ms) is now.2 in
-    (now.0, subst (λ xs. AreChains xs arrows2 now.0) (sym (written k new ys long)) now.1,
-    below_more g rows now.0 u below from)
+    let from : IsAdded rows now.0 u (moves_of g u) = subst (λ ms. IsAdded rows now.0 u ms) is now.2 in (
+      now.0,
+      subst (λ xs. AreChains xs arrows2 now.0) (sym (written k new ys long)) now.1,
+      below_more g rows now.0 u below from,
+    )
 
 -- no vertex so far
 pub chains_begin : (g : ParityGame) (n : ℕ) (last : List ℕ) (arrows : List Arrow)

@@ -7,7 +7,7 @@
 --   Follows         == what the program wrote of a chain, with what is left of it, is the whole
 --   followed_more, followed_all == it follows the chain to its end
 --   laid_next, rows_next == the sources of one chain more are laid out
-use Rattle.std.proofs.Common.{ℕ, zero, suc, ◌≡◌, ◌+◌, ◌-◌, ◌<◌, ◌≤◌, ◌⊎◌, inl, inr, arith, List, [], ◌∷◌, ◌++◌, length, get_or, set, replicate, subst, subst₂, sym, ap, ap₂, ◌∙◌, refl, take, get_or-set_same, get_or-set_other, length-set}
+use Rattle.std.proofs.Common.{ℕ, suc, ◌≡◌, ◌+◌, ◌-◌, ◌<◌, ◌≤◌, ◌⊎◌, inl, inr, arith, List, [], ◌∷◌, ◌++◌, length, get_or, set, replicate, subst, subst₂, sym, ap, ap₂, ◌∙◌, refl, take, get_or-set_same, get_or-set_other, length-set}
 use Rattle.std.proofs.lemmas.Bool.{cases_eq}
 use Rattle.std.proofs.lemmas.List.{append-nil, append_assoc, get_or_default, get_or_append_left, length-append, take_more, get_or-replicate, length-replicate}
 use Rattle.std.proofs.Math.Seq.{get_or-append_seam}
@@ -108,10 +108,13 @@ pub followed_more : (arrows : List Arrow) (at : ℕ) (written written2 whole : L
     → written2 ≡ written ++ (get_or arrows (at - 1) d).source ∷ []
     → Follows arrows at written whole → Follows arrows (get_or arrows (at - 1) d).before written2 whole
 followed_more arrows at written written2 whole d some wrote (us, chain, so) =
-    let on = chain_step arrows at us d chain some in
-    (on.rest, on.chain, ap (λ (xs : List ℕ). xs ++ on.rest) wrote
-    ∙ append_assoc written ((get_or arrows (at - 1) d).source ∷ []) on.rest
-    ∙ ap (λ (xs : List ℕ). written ++ xs) (sym on.is) ∙ so)
+    let on = chain_step arrows at us d chain some in (
+      on.rest,
+      on.chain,
+      ap (λ (xs : List ℕ). xs ++ on.rest) wrote
+          ∙ append_assoc written ((get_or arrows (at - 1) d).source ∷ []) on.rest
+          ∙ ap (λ (xs : List ℕ). written ++ xs) (sym on.is) ∙ so,
+    )
 
 -- to its end
 pub followed_all : (arrows : List Arrow) (at : ℕ) (written whole : List ℕ) → at ≤ 0

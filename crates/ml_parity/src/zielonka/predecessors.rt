@@ -132,8 +132,9 @@ pub(crate) fn move_counts(alloc: Global, game: &Game) -> Result<Vec<usize>, NoMe
     ensures size { IfOk result (λ counts. length counts.items ≡ size game.now) }
     ensures each { IfOk result (λ counts. (v : ℕ) → v < size game.now → get_or counts.items v 0 ≡ length (moves_of game.now v)) }
 {
-    let mut counts = Vec::new(alloc);
-    for vertex in 0..game.size() {
+    let size = game.size();
+    let mut counts = Vec::with_capacity(alloc, size)?;
+    for vertex in 0..size {
         counts.push(game.moves_at(vertex).len())?;
     }
     Ok(counts)

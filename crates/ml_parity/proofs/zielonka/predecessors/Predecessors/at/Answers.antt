@@ -1,6 +1,6 @@
 -- The row of a vertex lies between two starts.
 use Rattle.std.proofs.Common.{arith, ◌∙◌, length, take, drop, ◌-◌, sym, ap}
-use Rattle.ml_parity.proofs.LaidRows.{rows_count, lies_between, LiesAt}
+use Rattle.ml_parity.proofs.LaidRows.{rows_count, lies_between}
 use Rattle.ml_parity.proofs.zielonka.predecessors.Predecessors.at.Goals as goal
 
 pub index-start-requires : goal.index-start-requires
