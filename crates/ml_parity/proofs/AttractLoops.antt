@@ -11,21 +11,18 @@
 --   all_room, all_up == the same for all predecessors of the vertex at a place
 use Rattle.std.proofs.Common.{ℕ, ◌≡◌, ◌+◌, ◌-◌, ◌<◌, ◌≤◌, ◌⊎◌, inl, inr, ⊎_elim, Bool, arith, List, [], ◌∷◌, length, get_or, set, take, drop, cond, nat_eq, subst, sym, ap, ◌∙◌, refl, eq-eqb, ne_eqb, add-one, get_or-set_same, get_or-set_other}
 use Rattle.std.proofs.Math.Seq.{drop-cons}
-use Rattle.std.specs.Global.{Vec}
 use Rattle.std.specs.List.{count_by}
 use Rattle.std.proofs.lemmas.Bool.{cases_eq, cases_lt}
-use Rattle.std.proofs.lemmas.List.{get_or_default, get_or_past, length-map}
+use Rattle.std.proofs.lemmas.List.{get_or_default, get_or_past}
 use Rattle.std.proofs.lemmas.List.Sums.{count_by-le-length, sum_by-take-le, count_by_more_yes, count_by_more_no}
 use borrow.Author.Tests.{eqb-true}
 use Rattle.ml_parity.specs.Game.{ParityGame, HasMove, size, moves_of}
-use Rattle.ml_parity.specs.Refusal.{lists_of}
 use Rattle.ml_parity.specs.declared.players.Player.{Player}
 use Rattle.ml_parity.specs.private.Parts.{part, KeepsBehind}
 use Rattle.ml_parity.specs.private.SolverSteps.{place_of, number_at, times, moves_before, ArePredecessors, IsAttracting, IsLeft, IsRow}
 use Rattle.ml_parity.proofs.Boards.{move_to}
 use Rattle.ml_parity.proofs.Attracting.{followed}
 use Rattle.ml_parity.proofs.WaitingFrames.{in_to, keeps_more, keeps_on}
-use Rattle.ml_parity.proofs.Refusals.{lists_of-at}
 use Rattle.ml_parity.proofs.VertexOrder.{at_place}
 use Rattle.ml_parity.proofs.Occurrences.{times_here, times_other, entry_counts, counts_entry, before_next, same_part}
 
@@ -162,8 +159,8 @@ one_up g old left preds k x long low vertex is so v inside = by_case (cases_eq v
 
 -- the vertex at a place, and its predecessors
 module _ (g : ParityGame) (order place : List ℕ) (row : IsRow order place) (long : length place ≡ size g)
-    (rows : List (Vec ℕ)) (are : ArePredecessors g (lists_of rows)) (at w : ℕ) (m : Vec ℕ) (preds left : List ℕ)
-    (low : at < size g) (is : w ≡ get_or order at w) (read : m ≡ get_or rows w m) (same : preds ≡ m.items) where
+    (rows : List (List ℕ)) (are : ArePredecessors g rows) (at w : ℕ) (preds left : List ℕ) (low : at < size g)
+    (is : w ≡ get_or order at w) (same : preds ≡ get_or rows w []) where
   is_there : w ≡ get_or order at 0
   is_there = is ∙ get_or_default order at w 0 (omega (arith, row.size))
 
@@ -179,10 +176,7 @@ module _ (g : ParityGame) (order place : List ℕ) (row : IsRow order place) (lo
 
   -- its predecessors are those of the game
   pub preds_at : (u : ℕ) → times u preds ≡ times w (moves_of g u)
-  preds_at u =
-      let long_rows = length-map rows (λ (x : Vec ℕ). x.items) in
-      let inside : w < length rows = omega (arith, are.lists, vertex_at) in
-      ap (times u) (same ∙ sym (lists_of-at rows w m inside read)) ∙ are.each w u vertex_at
+  preds_at u = ap (times u) same ∙ are.each w u vertex_at
 
   pub preds_low : length g.successors ≡ size g → (k : ℕ) → k < length preds → get_or preds k 0 < size g
   preds_low successors k inside = move_low g successors (get_or preds k 0) w (preds_move g w preds preds_at k inside)

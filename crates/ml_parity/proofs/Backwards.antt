@@ -3,17 +3,19 @@
 --   PredecessorsBelow == the lists of predecessors, as far as the moves of the vertices below n make them
 --   added_more      == one move more
 --   below_none, below_more, below_all == one vertex more
-use Rattle.std.proofs.Common.{ℕ, ◌≡◌, ◌+◌, ◌<◌, ◌≤◌, ◌⊎◌, inl, inr, arith, List, [], ◌∷◌, ◌++◌, length, get_or, set, take, All, cond, nat_eq, eq-eqb, ne_eqb, subst, subst₂, sym, ap, ◌∙◌, refl, get_or-set_same, get_or-set_other, length-set}
-use Rattle.std.specs.Global.{Vec}
+--   ChainsBelow     == the same of chains
+--   adds_more, chains_begin, below_turn, chains_end == the same steps, in chains
+use Rattle.std.proofs.Common.{ℕ, ◌≡◌, ◌+◌, ◌<◌, ◌≤◌, ◌⊎◌, inl, inr, arith, List, [], ◌∷◌, ◌++◌, length, get_or, set, take, nat_eq, eq-eqb, ne_eqb, replicate, subst, subst₂, sym, ap, ◌∙◌, refl, get_or-set_same, get_or-set_other, length-set}
 use Rattle.std.proofs.lemmas.Bool.{cases_eq, cases_lt}
-use Rattle.std.proofs.lemmas.List.{get_or_past, get_or-map, length-map, map-set}
-use Rattle.std.proofs.lemmas.List.Sums.{sum_by-append, count_by_more_yes, count_by_more_no}
+use Rattle.std.proofs.lemmas.List.{get_or_past, get_or-replicate, length-replicate}
+use Rattle.std.proofs.lemmas.List.Sums.{count_by_more_yes, count_by_more_no}
 use Rattle.ml_parity.specs.Game.{ParityGame, size, moves_of}
-use Rattle.ml_parity.specs.Refusal.{lists_of}
+use Rattle.ml_parity.specs.declared.zielonka.predecessors.Arrow.{Arrow}
+use Rattle.ml_parity.specs.private.Chains.{AddsTo, AreChains}
 use Rattle.ml_parity.specs.private.SolverSteps.{times, ArePredecessors, IsAdded}
-use Rattle.ml_parity.proofs.Occurrences.{times_here, times_other}
+use Rattle.ml_parity.proofs.ChainsOfMoves.{chains_none, chains_more}
 use Rattle.ml_parity.proofs.HeightRaises.{written}
-use Rattle.ml_parity.proofs.HeightTables.{all_empty}
+use Rattle.ml_parity.proofs.Occurrences.{times_here, times_other}
 
 -- the lists of predecessors, as far as the moves of the vertices below n make them
 pub record PredecessorsBelow (g : ParityGame) (preds : List (List ℕ)) (n : ℕ) : Type 0 where
@@ -56,54 +58,37 @@ below_more g preds preds2 u b a = record {
         subst (λ y. times y (get_or preds2 v []) ≡ times v (moves_of g y)) (sym same) here
     each v x low early (inr other) = a.elsewhere v x (omega (arith, b.lists)) other ∙ b.each v x low (omega arith)
 
--- one entry more at the end of a list
-times_last : (v u : ℕ) (xs : List ℕ) → times v (xs ++ u ∷ []) ≡ times v xs + times v (u ∷ [])
-times_last v u xs = sum_by-append (λ x. cond (nat_eq x v) 1 0) xs (u ∷ [])
-
 -- one move more
-pub added_more : (old : List (List ℕ)) (rows : List (Vec ℕ)) (u i w : ℕ) (moves : List ℕ) (m n : Vec ℕ)
+pub added_more : (old rows : List (List ℕ)) (u i w : ℕ) (moves : List ℕ)
     → i < length moves
-    → w ≡ get_or moves i 0 → w < length rows → n.items ≡ (get_or rows w m).items ++ u ∷ []
-    → IsAdded old (lists_of rows) u (take i moves) → IsAdded old (lists_of (set rows w n)) u (take (i + 1) moves)
-added_more old rows u i w moves m n inside is low grown so = record {
-  lists = ap length written ∙ length-set (lists_of rows) w n.items ∙ so.lists;
+    → w ≡ get_or moves i 0
+    → w < length rows
+    → IsAdded old rows u (take i moves)
+    → IsAdded old (set rows w (u ∷ get_or rows w [])) u (take (i + 1) moves)
+added_more old rows u i w moves inside is low so = record {
+  lists = length-set rows w (u ∷ get_or rows w []) ∙ so.lists;
   here = λ v below. here v below (cases_eq w v);
   elsewhere = λ v x below other. elsewhere v x below other (cases_eq v w);
 }
   where
-    written : lists_of (set rows w n) ≡ set (lists_of rows) w n.items
-    written = map-set (λ (r : Vec ℕ). r.items) rows w n
+    rows2 : List (List ℕ)
+    rows2 = set rows w (u ∷ get_or rows w [])
 
-    kept : (v : ℕ) → (v ≡ w → ⊥) → get_or (lists_of (set rows w n)) v [] ≡ get_or (lists_of rows) v []
-    kept v other = ap (λ (xs : List (List ℕ)). get_or xs v []) written
-        ∙ get_or-set_other (lists_of rows) w v n.items [] other
+    kept : (v : ℕ) → (v ≡ w → ⊥) → get_or rows2 v [] ≡ get_or rows v []
+    kept v other = get_or-set_other rows w v (u ∷ get_or rows w []) [] other
 
-    long : length (lists_of rows) ≡ length rows
-    long = length-map rows (λ (r : Vec ℕ). r.items)
-
-    at : get_or (lists_of (set rows w n)) w [] ≡ get_or (lists_of rows) w [] ++ u ∷ []
-    at =
-        ap (λ (xs : List (List ℕ)). get_or xs w []) written
-        ∙ get_or-set_same (lists_of rows) w n.items [] (omega (arith, long))
-        ∙ grown
-        ∙ ap (λ (xs : List ℕ). xs ++ u ∷ []) (sym (get_or-map (λ (r : Vec ℕ). r.items) rows w m [] low))
-
-    -- at w, one more
-    more : (x : ℕ)
-        → times x (get_or (lists_of (set rows w n)) w []) ≡ times x (get_or (lists_of rows) w []) + times x (u ∷ [])
-    more x = ap (times x) at ∙ times_last x u (get_or (lists_of rows) w [])
+    at : get_or rows2 w [] ≡ u ∷ get_or rows w []
+    at = get_or-set_same rows w (u ∷ get_or rows w []) [] low
 
     here : (v : ℕ) → v < length old → (w ≡ v) ⊎ (w ≡ v → ⊥)
-        → times u (get_or (lists_of (set rows w n)) v []) ≡ times u (get_or old v []) + times v (take (i + 1) moves)
+        → times u (get_or rows2 v []) ≡ times u (get_or old v []) + times v (take (i + 1) moves)
     here v below (inl same) =
         let count = count_by_more_yes (λ y. nat_eq y v) moves i 0 inside
         (eq-eqb (get_or moves i 0) v (sym is ∙ same)) in
-        let one : times u (get_or (lists_of (set rows w n)) v [])
-        ≡ times u (get_or (lists_of rows) v []) + times u (u ∷ []) =
-        subst (λ j. times u (get_or (lists_of (set rows w n)) j [])
-        ≡ times u (get_or (lists_of rows) j []) + times u (u ∷ [])) same (more u) in
+        let one : times u (get_or rows2 v []) ≡ 1 + times u (get_or rows v []) =
+        subst (λ j. times u (get_or rows2 j []) ≡ 1 + times u (get_or rows j [])) same
+        (ap (times u) at ∙ times_here u u (get_or rows w []) refl) in
         let before = so.here v below in
-        let unit = times_here u u [] refl in
         omega arith
     here v below (inr other) =
         let count = count_by_more_no (λ y. nat_eq y v) moves i 0 inside
@@ -113,39 +98,77 @@ added_more old rows u i w moves m n inside is low grown so = record {
         omega arith
 
     elsewhere : (v x : ℕ) → v < length old → (x ≡ u → ⊥) → (v ≡ w) ⊎ (v ≡ w → ⊥)
-        → times x (get_or (lists_of (set rows w n)) v []) ≡ times x (get_or old v [])
+        → times x (get_or rows2 v []) ≡ times x (get_or old v [])
     elsewhere v x below other (inl same) =
-        let one : times x (get_or (lists_of (set rows w n)) v [])
-        ≡ times x (get_or (lists_of rows) v []) + times x (u ∷ []) =
-        subst (λ j. times x (get_or (lists_of (set rows w n)) j [])
-        ≡ times x (get_or (lists_of rows) j []) + times x (u ∷ [])) (sym same) (more x) in
-        let before = so.elsewhere v x below other in
-        let none = times_other x u [] (λ e. other (sym e)) in
-        omega arith
+        subst (λ j. times x (get_or rows2 j []) ≡ times x (get_or rows j [])) (sym same)
+        (ap (times x) at ∙ times_other x u (get_or rows w []) (λ e. other (sym e)))
+        ∙ so.elsewhere v x below other
     elsewhere v x below other (inr differs) = ap (times x) (kept v differs) ∙ so.elsewhere v x below other
 
 -- no vertex so far
-pub below_none : (g : ParityGame) (rows : List (Vec ℕ)) (n : ℕ)
-    → n ≡ size g
-    → length rows ≡ n
-    → All (λ (r : Vec ℕ). r.items ≡ []) rows
-    → PredecessorsBelow g (lists_of rows) 0
-below_none g rows n is long empty = record {
-  lists = length-map rows (λ (r : Vec ℕ). r.items) ∙ long ∙ is;
+pub below_none : (g : ParityGame) (n : ℕ) → n ≡ size g → PredecessorsBelow g (replicate n []) 0
+below_none g n is = record {
+  lists = length-replicate n [] ∙ is;
   each = λ v u low early. absurd (omega arith);
-  none = λ v u low late. ap (times u) (all_empty rows empty v);
+  none = λ v u low late. ap (times u) (get_or-replicate n v [] [] (omega (arith, is)));
 }
 
--- one vertex more, as the program adds it
-pub below_turn : (g : ParityGame) (k u : ℕ) (rows slice new ys : List (Vec ℕ)) (moves : List ℕ)
-    → k ≡ length rows
-    → slice ≡ rows
-    → moves ≡ moves_of g u → PredecessorsBelow g (lists_of rows) u → IsAdded (lists_of slice) (lists_of new) u moves
-    → PredecessorsBelow g (lists_of (take k (new ++ ys))) (u + 1)
-below_turn g k u rows slice new ys moves count same is b a =
-    let long : k ≡ length new = count ∙ sym (ap length same) ∙ sym (length-map slice (λ (r : Vec ℕ). r.items))
-    ∙ sym a.lists ∙ length-map new (λ (r : Vec ℕ). r.items) in
-    let from : IsAdded (lists_of rows) (lists_of new) u (moves_of g u) =
-    subst₂ (λ (xs : List (Vec ℕ)) (ms : List ℕ). IsAdded (lists_of xs) (lists_of new) u ms) same is a in
-    subst (λ (xs : List (Vec ℕ)). PredecessorsBelow g (lists_of xs) (u + 1)) (sym (written k new ys long))
-    (below_more g (lists_of rows) (lists_of new) u b from)
+-- the chains, as far as the moves of the vertices below n make them
+abbrev pub ChainsBelow : ParityGame → List ℕ → List Arrow → ℕ → Type 0
+ChainsBelow g last arrows n = (rows : List (List ℕ)) × AreChains last arrows rows × PredecessorsBelow g rows n
+
+-- one move more in the chains
+pub adds_more : (last0 last : List ℕ) (arrows0 arrows arrows2 : List Arrow) (u i w b n : ℕ) (moves : List ℕ)
+    → i < length moves
+    → w ≡ get_or moves i 0
+    → w < length last
+    → b ≡ get_or last w 0
+    → arrows2 ≡ arrows ++ (record { source = u; before = b }) ∷ []
+    → n ≡ length arrows2
+    → AddsTo last0 arrows0 last arrows u (take i moves)
+    → AddsTo last0 arrows0 (set last w n) arrows2 u (take (i + 1) moves)
+adds_more last0 last arrows0 arrows arrows2 u i w b n moves inside is low before grown count so = λ rows chains.
+    let now = so rows chains in
+    let x : Arrow = record { source = u; before = b } in (
+      set now.0 w (u ∷ get_or now.0 w []),
+      subst (λ (bs : List Arrow). AreChains (set last w n) bs (set now.0 w (u ∷ get_or now.0 w []))) (sym grown)
+          (chains_more last arrows now.0 x w n low before (count ∙ ap length grown) now.1),
+      added_more rows now.0 u i w moves inside is (omega (arith, now.1.lists)) now.2,
+    )
+
+-- one vertex more in the chains, as the program adds it
+pub below_turn : (g : ParityGame) (k u : ℕ) (last slice new ys : List ℕ) (arrows arrows2 : List Arrow) (moves : List ℕ)
+    → k ≡ length last
+    → slice ≡ last
+    → moves ≡ moves_of g u
+    → ChainsBelow g last arrows u
+    → AddsTo slice arrows new arrows2 u moves
+    → ChainsBelow g (take k (new ++ ys)) arrows2 (u + 1)
+below_turn g k u last slice new ys arrows arrows2 moves count same is (rows, chains, below) adds =
+    let now = adds rows (subst (λ xs. AreChains xs arrows rows) (sym same) chains) in
+    let long : k ≡ length new = omega (arith, count, chains.lists, now.2.lists, now.1.lists) in
+    let from : IsAdded rows now.0 u (moves_of g u) = subst (λ ms. IsAdded rows now.0 u ms) is now.2 in (
+      now.0,
+      subst (λ xs. AreChains xs arrows2 now.0) (sym (written k new ys long)) now.1,
+      below_more g rows now.0 u below from,
+    )
+
+-- no vertex so far
+pub chains_begin : (g : ParityGame) (n : ℕ) (last : List ℕ) (arrows : List Arrow)
+    → n ≡ size g
+    → last ≡ replicate n 0
+    → ChainsBelow g last arrows 0
+chains_begin g n last arrows is none = (replicate n [], chains_none n last arrows none, below_none g n is)
+
+-- all vertices are done
+pub chains_end : (g : ParityGame) (n : ℕ) (last slice : List ℕ) (arrows seen : List Arrow) (made : List (List ℕ))
+    → length g.successors ≡ size g
+    → n ≡ size g
+    → slice ≡ last
+    → seen ≡ arrows
+    → ChainsBelow g last arrows n
+    → ((rows : List (List ℕ)) → AreChains slice seen rows → made ≡ rows)
+    → ArePredecessors g made
+chains_end g n last slice arrows seen made long is same alike (rows, chains, below) so =
+    let all = so rows (subst₂ (λ xs ys. AreChains xs ys rows) (sym same) (sym alike) chains) in
+    subst (ArePredecessors g) (sym all) (below_all g rows long (subst (PredecessorsBelow g rows) is below))

@@ -10,7 +10,7 @@
 --   SameVertices g h R  == the vertices of R have the same owners and priorities in g and h
 --   StaysNoWorse        == a vertex of R is no worse, and its moves stay in R
 --   compared            == so p wins in h whatever p wins in g
-use Rattle.std.proofs.Common.{ℕ, ◌≡◌, ◌+◌, ◌<◌, ◌⊎◌, inl, inr, ⊎_elim, arith, subst, sym, ◌∙◌, List, Contains, refl}
+use Rattle.std.proofs.Common.{ℕ, ◌≡◌, ◌<◌, ◌⊎◌, inl, inr, ⊎_elim, arith, subst, sym, List, Contains, refl}
 use Rattle.ml_parity.specs.declared.players.Player.{Player}
 use Rattle.ml_parity.specs.Player.{opponent}
 use Rattle.ml_parity.specs.Game.{ParityGame, IsGame, HasMove, owner_of, priority_of, moves_of, size}

@@ -10,10 +10,14 @@ pub mod Backwards
 pub mod Boards
 -- winners are carried from one game to another
 pub mod Carried
+-- the moves of a game in chains, one for each vertex to which they lead
+pub mod ChainsOfMoves
 -- the comparison of two games that differ at some vertices
 pub mod Comparison
 -- from an answer on the board of a game to a solution
 pub mod Filled
+-- rows that stand behind each other in one list
+pub mod LaidRows
 -- the frames of the fast solver
 pub mod Frames
 -- what the program reads in the fields of a game

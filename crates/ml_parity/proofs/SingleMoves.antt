@@ -21,10 +21,10 @@ use Rattle.ml_lists.proofs.Members.{member_of_contains, contains_head, contains_
 use Rattle.ml_parity.specs.declared.players.Player.{Player}
 use Rattle.ml_parity.specs.Player.{opponent, side}
 use Rattle.ml_parity.specs.Game.{ParityGame, IsGame, HasMove, owner_of, priority_of, moves_of, size}
-use Rattle.ml_parity.specs.Winner.{IsPlay, Follows, winner, Wins}
+use Rattle.ml_parity.specs.Winner.{IsPlay, winner, Wins}
 use Rattle.ml_parity.proofs.Boards.{first_move}
 use Rattle.ml_parity.proofs.Opponents.{cases_player}
-use Rattle.ml_parity.proofs.OneStep.{WinningMove, own_vertex_won, other_vertex_won}
+use Rattle.ml_parity.proofs.OneStep.{own_vertex_won, other_vertex_won}
 use Rattle.ml_parity.proofs.Winners.{clash}
 
 -- where a vertex has one move, each move is that

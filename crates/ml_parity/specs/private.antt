@@ -1,3 +1,7 @@
+-- the moves of a game in chains, one for each vertex to which they lead
+pub mod Chains
+-- rows that stand behind each other in one list
+pub mod FlatRows
 -- the steps of the search for heights
 pub mod HeightSteps
 -- parts of a board, attractors, and the halves of a turn of the solver

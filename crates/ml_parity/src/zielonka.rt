@@ -20,7 +20,7 @@ use crate::players::Player;
 use crate::solutions::Solution;
 use attractor::Work;
 use ml_base::NoMemory;
-use predecessors::{move_counts, predecessors};
+use predecessors::{move_counts, predecessors_of};
 use recursion::run;
 use std::alloc::Global;
 use vertex_order::row_of;
@@ -33,7 +33,7 @@ fn winners_and_choices(alloc: Global, game: &Game) -> Result<(Vec<Player>, Vec<u
     ensures solves { IfOk result (λ r. SolvesWhole game.now r.0.items r.1.items) }
 {
     let size = game.size();
-    let predecessors = predecessors(alloc, game)?;
+    let predecessors = predecessors_of(alloc, game)?;
     let mut winner = vec![in alloc; Player::Even; size]?;
     let mut work = Work {
         row: row_of(alloc, size)?,

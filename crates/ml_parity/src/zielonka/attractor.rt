@@ -9,11 +9,11 @@ ghost use Rattle.ml_parity.specs.declared.players.Player.{Player};
 ghost use Rattle.ml_parity.specs.Game.{HasMove, IsGame, moves_of, size};
 ghost use Rattle.ml_parity.specs.private.Parts.{IsAttracted, IsPart};
 ghost use Rattle.ml_parity.specs.private.SinkGame.{board_of};
-ghost use Rattle.ml_parity.specs.Refusal.{lists_of};
 ghost use Rattle.ml_parity.specs.private.SolverSteps.{place_of, number_at, places, choices, lefts, times, moves_before, ArePredecessors, Attracts, IsLeft, IsRow, IsWork, Keeps};
 
 use crate::games::Game;
 use crate::players::Player;
+use crate::zielonka::predecessors::Predecessors;
 use crate::zielonka::vertex_order::{Row, remove};
 
 /// What the solver works on, beside the winners.
@@ -99,14 +99,14 @@ fn attract_to(
 /// attracted. Costs a step for each move to a vertex that is attracted.
 pub(crate) fn attract(
     game: &Game,
-    predecessors: &[Vec<usize>],
+    predecessors: &Predecessors,
     player: Player,
     whole: usize,
     seeded: usize,
     work: &mut Work,
 ) -> usize
     requires game { IsGame game.now }
-    requires predecessors { ArePredecessors game.now (lists_of predecessors.now) }
+    requires predecessors { ArePredecessors game.now predecessors.now }
     requires work { IsWork game.now work.old }
     requires fits { whole ≤ size game.now }
     requires low { seeded ≤ whole }
@@ -123,7 +123,7 @@ pub(crate) fn attract(
     while reached > rest {
         reached -= 1;
         let to = work.row.order[reached];
-        rest = attract_to(game, player, to, &predecessors[to], rest, work);
+        rest = attract_to(game, player, to, predecessors.at(to), rest, work);
     }
     rest
 }
@@ -146,7 +146,7 @@ fn count_up(game: &Game, predecessors: &[usize], left: &mut [usize])
 /// Costs a step for each move to one of them.
 pub(crate) fn restore(
     game: &Game,
-    predecessors: &[Vec<usize>],
+    predecessors: &Predecessors,
     row: &Row,
     left: &mut [usize],
     rest: usize,
@@ -158,11 +158,11 @@ pub(crate) fn restore(
     requires counts { length left.old ≡ size game.now }
     requires fits { whole ≤ size game.now }
     requires low { rest ≤ whole }
-    requires predecessors { ArePredecessors game.now (lists_of predecessors.now) }
+    requires predecessors { ArePredecessors game.now predecessors.now }
     requires lefts { IsLeft game.now (place_of row.now.place.items) rest (number_at left.old) }
     ensures { IsLeft game.now (place_of row.now.place.items) whole (number_at left.new) }
 {
     for at in rest..whole {
-        count_up(game, &predecessors[row.order[at]], left);
+        count_up(game, predecessors.at(row.order[at]), left);
     }
 }

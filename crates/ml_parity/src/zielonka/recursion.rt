@@ -7,13 +7,13 @@ ghost use Rattle.ml_parity.specs.private.Parts.{IsPart, KeepsBehind};
 ghost use Rattle.ml_parity.specs.Player.{opponent};
 ghost use Rattle.ml_parity.specs.Solution.{winner_at};
 ghost use Rattle.ml_parity.specs.private.SinkGame.{board_of};
-ghost use Rattle.ml_parity.specs.Refusal.{lists_of};
 ghost use Rattle.ml_parity.specs.private.SolverSteps.{places, choices, lefts, ArePredecessors, IsWork};
 ghost use Rattle.ml_parity.specs.private.SolverFrames.{BeginsFirstHalf, BeginsSecondHalf, EndsFirstHalf, EndsSecondHalf, HoldsAt, IsAtPart, IsOpen, IsSolved, SolvesWhole, work_left};
 
 use crate::games::Game;
 use crate::players::Player;
 use crate::zielonka::attractor::{Work, attract, restore};
+use crate::zielonka::predecessors::Predecessors;
 use crate::zielonka::vertex_order::{
     choose_inside, gather_priority, gather_won, give, lowest_priority,
 };
@@ -53,13 +53,13 @@ pub(crate) enum At {
 /// player, and how many vertices are left.
 fn first_half(
     game: &Game,
-    predecessors: &[Vec<usize>],
+    predecessors: &Predecessors,
     count: usize,
     work: &mut Work,
     winner: &mut [Player],
 ) -> (Player, usize)
     requires game { IsGame game.now }
-    requires predecessors { ArePredecessors game.now (lists_of predecessors.now) }
+    requires predecessors { ArePredecessors game.now predecessors.now }
     requires at_part { IsAtPart game.now work.old count }
     requires winners { length winner.old ≡ size game.now }
     requires fits { count ≤ size game.now }
@@ -97,14 +97,14 @@ fn first_half(
 /// opponent, and tells how many vertices are left. Where the opponent won nothing, the part is solved.
 fn second_half(
     game: &Game,
-    predecessors: &[Vec<usize>],
+    predecessors: &Predecessors,
     player: Player,
     count: usize,
     work: &mut Work,
     winner: &mut [Player],
 ) -> Option<usize>
     requires game { IsGame game.now }
-    requires predecessors { ArePredecessors game.now (lists_of predecessors.now) }
+    requires predecessors { ArePredecessors game.now predecessors.now }
     requires at_part { IsAtPart game.now work.old count }
     requires winners { length winner.old ≡ size game.now }
     requires fits { count ≤ size game.now }
@@ -150,14 +150,14 @@ fn second_half(
 /// Removes an attractor from a part that is to be solved, and goes on with what is left.
 fn open_part(
     game: &Game,
-    predecessors: &[Vec<usize>],
+    predecessors: &Predecessors,
     count: usize,
     work: &mut Work,
     winner: &mut [Player],
     frames: &mut Vec<Frame>,
 ) -> Result<At, NoMemory>
     requires game { IsGame game.now }
-    requires predecessors { ArePredecessors game.now (lists_of predecessors.now) }
+    requires predecessors { ArePredecessors game.now predecessors.now }
     requires winners { length winner.old ≡ size game.now }
     requires some { 0 < count }
     requires opened { IsOpen game.now frames.old.items work.old winner.old count }
@@ -176,14 +176,14 @@ fn open_part(
 /// Goes on with the part that waits for one that is solved, if a part waits.
 fn close_part(
     game: &Game,
-    predecessors: &[Vec<usize>],
+    predecessors: &Predecessors,
     rest: usize,
     work: &mut Work,
     winner: &mut [Player],
     frames: &mut Vec<Frame>,
 ) -> Result<Option<At>, NoMemory>
     requires game { IsGame game.now }
-    requires predecessors { ArePredecessors game.now (lists_of predecessors.now) }
+    requires predecessors { ArePredecessors game.now predecessors.now }
     requires winners { length winner.old ≡ size game.now }
     requires solved { IsSolved game.now frames.old.items work.old winner.old rest }
     ensures work { IfOk result (λ _. IsWork game.now work.new) }
@@ -225,14 +225,14 @@ fn close_part(
 /// One turn: opens a part that is to be solved, or goes on where one is solved. `None` says that the whole game is.
 fn turn(
     game: &Game,
-    predecessors: &[Vec<usize>],
+    predecessors: &Predecessors,
     at: At,
     work: &mut Work,
     winner: &mut [Player],
     frames: &mut Vec<Frame>,
 ) -> Result<Option<At>, NoMemory>
     requires game { IsGame game.now }
-    requires predecessors { ArePredecessors game.now (lists_of predecessors.now) }
+    requires predecessors { ArePredecessors game.now predecessors.now }
     requires winners { length winner.old ≡ size game.now }
     requires holds { HoldsAt at game.now frames.old.items work.old winner.old }
     ensures work { IfOk result (λ _. IsWork game.now work.new) }
@@ -258,12 +258,12 @@ fn turn(
 pub(crate) fn run(
     alloc: Global,
     game: &Game,
-    predecessors: &[Vec<usize>],
+    predecessors: &Predecessors,
     work: &mut Work,
     winner: &mut [Player],
 ) -> Result<(), NoMemory>
     requires game { IsGame game.now }
-    requires predecessors { ArePredecessors game.now (lists_of predecessors.now) }
+    requires predecessors { ArePredecessors game.now predecessors.now }
     requires winners { length winner.old ≡ size game.now }
     requires begins { IsAtPart game.now work.old (size game.now) }
     ensures work { OnOk result (IsWork game.now work.new) }

@@ -26,7 +26,7 @@ pub(crate) fn row_of(alloc: Global, size: usize) -> Result<Row, NoMemory>
     ensures row { IfOk result (λ row. IsRow row.order.items row.place.items) }
     ensures size { IfOk result (λ row. length row.place.items ≡ size) }
 {
-    let mut order = Vec::new(alloc);
+    let mut order = Vec::with_capacity(alloc, size)?;
     for vertex in 0..size {
         order.push(vertex)?;
     }

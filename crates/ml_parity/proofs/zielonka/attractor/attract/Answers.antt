@@ -28,36 +28,31 @@ pub attract_to-rest-requires-clause-predecessors : goal.attract_to-rest-requires
 attract_to-rest-requires-clause-predecessors c =
     preds_at c.args.game.now c.loop-rest.work.row.order.items c.loop-rest.work.row.place.items
     c.loop-rest.invariant.work.row c.loop-rest.invariant.work.vertices c.args.predecessors.now
-    c.requires.predecessors (c.loop-rest.reached - 1) c.index-to.result.now c.index-predecessors-to.result
-    c.deref.result.now c.loop-rest.work.left.items
+    c.requires.predecessors (c.loop-rest.reached - 1) c.index-to.result.now c.at.result.now c.loop-rest.work.left.items
     (omega (arith, c.loop-rest-test.true, c.loop-rest.invariant.within, c.requires.fits)) c.index-to.ensures
-    c.index-predecessors-to.is c.deref.ensures.value
+    c.at.ensures
 
 pub attract_to-rest-requires-clause-counts : goal.attract_to-rest-requires-clause-counts
 attract_to-rest-requires-clause-counts c =
     taken_left c.args.game.now c.loop-rest.work.row.order.items c.loop-rest.work.row.place.items
     c.loop-rest.invariant.work.row c.loop-rest.invariant.work.vertices c.args.predecessors.now
-    c.requires.predecessors (c.loop-rest.reached - 1) c.index-to.result.now c.index-predecessors-to.result
-    c.deref.result.now c.loop-rest.work.left.items
+    c.requires.predecessors (c.loop-rest.reached - 1) c.index-to.result.now c.at.result.now c.loop-rest.work.left.items
     (omega (arith, c.loop-rest-test.true, c.loop-rest.invariant.within, c.requires.fits)) c.index-to.ensures
-    c.index-predecessors-to.is c.deref.ensures.value c.loop-rest.reached (omega (arith, c.loop-rest-test.true))
-    c.loop-rest.invariant.counts
+    c.at.ensures c.loop-rest.reached (omega (arith, c.loop-rest-test.true)) c.loop-rest.invariant.counts
 
 pub loop-rest-preserved : goal.loop-rest-preserved
 loop-rest-preserved c =
     let here : place_of c.loop-rest.work.row.place.items c.index-to.result.now ≡ c.loop-rest.reached - 1 =
     stands_at c.args.game.now c.loop-rest.work.row.order.items c.loop-rest.work.row.place.items
     c.loop-rest.invariant.work.row c.loop-rest.invariant.work.vertices c.args.predecessors.now
-    c.requires.predecessors (c.loop-rest.reached - 1) c.index-to.result.now c.index-predecessors-to.result
-    c.deref.result.now c.loop-rest.work.left.items
+    c.requires.predecessors (c.loop-rest.reached - 1) c.index-to.result.now c.at.result.now c.loop-rest.work.left.items
     (omega (arith, c.loop-rest-test.true, c.loop-rest.invariant.within, c.requires.fits)) c.index-to.ensures
-    c.index-predecessors-to.is c.deref.ensures.value in
+    c.at.ensures in
     let taken = taken_attracting c.args.game.now c.loop-rest.work.row.order.items c.loop-rest.work.row.place.items
     c.loop-rest.invariant.work.row c.loop-rest.invariant.work.vertices c.args.predecessors.now
-    c.requires.predecessors (c.loop-rest.reached - 1) c.index-to.result.now c.index-predecessors-to.result
-    c.deref.result.now c.loop-rest.work.left.items
+    c.requires.predecessors (c.loop-rest.reached - 1) c.index-to.result.now c.at.result.now c.loop-rest.work.left.items
     (omega (arith, c.loop-rest-test.true, c.loop-rest.invariant.within, c.requires.fits)) c.index-to.ensures
-    c.index-predecessors-to.is c.deref.ensures.value c.loop-rest.reached (omega (arith, c.loop-rest-test.true))
+    c.at.ensures c.loop-rest.reached (omega (arith, c.loop-rest-test.true))
     c.args.whole c.args.seeded c.loop-rest.rest c.args.player (choice_at c.loop-rest.work.choice.items)
     (omega (arith, c.loop-rest-test.true)) in
     record {

@@ -1,9 +1,8 @@
 -- The vertex is added for the moves so far.
 use Rattle.std.proofs.Common.{take}
-use Rattle.ml_parity.specs.Refusal.{lists_of}
-use Rattle.ml_parity.specs.private.SolverSteps.{IsAdded}
+use Rattle.ml_parity.specs.private.Chains.{AddsTo}
 use Rattle.ml_parity.proofs.zielonka.predecessors.add_moves.Given as goal
 
 abbrev pub invariant-loop-to : goal.invariant-loop-to
-invariant-loop-to l = IsAdded (lists_of l.initial.predecessors) (lists_of l.predecessors) l.vertex
-    (take l.to-index l.moves)
+invariant-loop-to l =
+    AddsTo l.initial.last l.initial.arrows.items l.last l.arrows.items l.vertex (take l.to-index l.moves)
