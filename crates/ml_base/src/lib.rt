@@ -11,6 +11,7 @@
 // Below stands `ml_lists`, general mathematics. Whatever speaks of names, or reads and writes, stands above.
 #![tactic(auto)]
 
+mod bytes;
 mod doc_fault;
 mod doc_refusal;
 mod id_set;
@@ -24,8 +25,6 @@ mod sink;
 mod source;
 pub mod streams;
 mod structure;
-#[cfg(test)]
-mod tests;
 mod version;
 pub mod whole;
 

@@ -3,6 +3,7 @@ ghost use Rattle.std.specs.Prelude.{◌≡◌, IfOk, OnOk, IsErrOf, codes};
 ghost use Rattle.std.specs.List.{list_all};
 ghost use Rattle.ml_base.specs.Name as name;
 
+use crate::bytes::Bytes;
 use crate::no_memory::NoMemory;
 use std::alloc::{AllocError, Global};
 use std::marker::Model;
@@ -44,7 +45,7 @@ pub const LONGEST_NAME: usize = 64;
 /// A name: an ASCII letter and then letters, digits and `_`, 1 to 64 bytes in all. Contracts see the bytes.
 #[derive(Debug, Drop)]
 pub struct Name {
-    bytes: Vec<u8>,
+    bytes: Bytes,
 }
 
 impl Model for Name {
@@ -53,9 +54,9 @@ impl Model for Name {
 
     ghost Value = { List ℕ };
 
-    ghost view = { λ n. n.bytes.items };
+    ghost view = { λ n. n.bytes };
 
-    ghost invariant = { λ n. IsName n.bytes.items };
+    ghost invariant = { λ n. IsName n.bytes };
 }
 
 impl Name {
@@ -74,7 +75,7 @@ impl Name {
             return Err(NameRefusal::NotAName);
         }
         Ok(Name {
-            bytes: Vec::from_slice(alloc, text)?,
+            bytes: Bytes::from_slice(alloc, text)?,
         })
     }
 
@@ -89,7 +90,7 @@ impl Name {
         ensures { IfOk result (λ n. n ≡ bytes.now) }
     {
         Ok(Name {
-            bytes: Vec::from_slice(alloc, bytes)?,
+            bytes: Bytes::from_slice(alloc, bytes)?,
         })
     }
 
@@ -117,7 +118,7 @@ impl Clone for Name {
 
     fn clone(&self) -> Result<Name, AllocError> {
         Ok(Name {
-            bytes: Vec::from_slice(*self.bytes.allocator(), self.bytes())?,
+            bytes: self.bytes.clone()?,
         })
     }
 }
@@ -125,7 +126,7 @@ impl Clone for Name {
 /// An action: a name, or the one byte `_`. Contracts see the bytes.
 #[derive(Debug, Drop)]
 pub struct Action {
-    bytes: Vec<u8>,
+    bytes: Bytes,
 }
 
 impl Model for Action {
@@ -134,9 +135,9 @@ impl Model for Action {
 
     ghost Value = { List ℕ };
 
-    ghost view = { λ a. a.bytes.items };
+    ghost view = { λ a. a.bytes };
 
-    ghost invariant = { λ a. IsAction a.bytes.items };
+    ghost invariant = { λ a. IsAction a.bytes };
 }
 
 impl Action {
@@ -155,7 +156,7 @@ impl Action {
             return Err(NameRefusal::NotAName);
         }
         Ok(Action {
-            bytes: Vec::from_slice(alloc, text)?,
+            bytes: Bytes::from_slice(alloc, text)?,
         })
     }
 
@@ -175,7 +176,7 @@ impl Action {
         ensures { IfOk result (λ a. a ≡ codes "_") }
     {
         Ok(Action {
-            bytes: Vec::from_slice(alloc, b"_")?,
+            bytes: Bytes::from_slice(alloc, b"_")?,
         })
     }
 
@@ -203,7 +204,7 @@ impl Clone for Action {
 
     fn clone(&self) -> Result<Action, AllocError> {
         Ok(Action {
-            bytes: Vec::from_slice(*self.bytes.allocator(), self.bytes())?,
+            bytes: self.bytes.clone()?,
         })
     }
 }

@@ -1,4 +1,4 @@
-use Rattle.std.proofs.Common.{◌≡◌, ◌↔◌, IsTrue, sym, subst, ◌∙◌}
+use Rattle.std.proofs.Common.{◌↔◌, IsTrue, sym, subst, ◌∙◌}
 use Rattle.std.specs.Result.{is_ok}
 use Rattle.ml_lists.specs.Ascending.{IsAscending}
 use Rattle.ml_lists.specs.Member.{IsMember}

@@ -1,5 +1,8 @@
-// Worked rows, and each call once on its happy path.
-use super::*;
+// Names, streams and sets: worked rows, and each call once on its happy path.
+use ml_base::{
+    Action, Failed, IdSet, MemSink, MemSource, Name, NameRefusal, NoMemory, ReadRefusal, Sink,
+    Source, StdSink, StdSource, read_all, write_all,
+};
 use std::cmp::Ordering;
 use std::hash::{DefaultHasher, Hash, Hasher};
 use std::io;

@@ -1,0 +1,4 @@
+-- What only private contracts cite.
+
+-- where a name keeps its bytes
+pub mod Held
