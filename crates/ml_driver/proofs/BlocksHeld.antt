@@ -9,9 +9,8 @@ use Rattle.std.proofs.Common.{◌≡◌, ℕ, ◌+◌, ◌<◌, ◌≤◌, ◌�
 use Rattle.std.specs.Bool.{beq}
 use Rattle.std.specs.Cmp.{first_so, second_so}
 use Rattle.std.specs.List.{slice_get}
-use Rattle.std.proofs.lemmas.Bool.{or_left}
 use Rattle.std.proofs.lemmas.Option.{slice_get-get_or}
-use Rattle.ml_base.specs.Name.{IsName, IsAction, is_name}
+use Rattle.ml_base.specs.Name.{IsName, IsAction}
 use Rattle.ml_lists.specs.Member.{IsMember}
 use Rattle.ml_lists.proofs.Member.{member-place, place-member}
 use Rattle.ml_graph.specs.Graph.{Graph, node_at, prop_at, size}
@@ -22,7 +21,7 @@ use Rattle.ml_text.specs.declared.token.Operator.TheVariants as operator
 use Rattle.ml_ctl.specs.Formula as plain
 use Rattle.ml_ctl.specs.Formula.{Formula, occurrences}
 use Rattle.ml_ctl.specs.Spelling.{HasShortNames, is_reserved, is_spelled}
-use Rattle.ml_text.specs.Bytes.{is_lower, is_upper}
+use Rattle.ml_text.specs.Bytes.{is_lower}
 use Rattle.ml_text.specs.Words.{is_word_from}
 use Rattle.ml_blocks.specs.BlockGraph.{HasForm, IsGraphAt, IsNumberedBy, IsReached, at_root, behind, children}
 use Rattle.ml_blocks.specs.Items.{Item, Row, OfState, Waits, Becomes, Either, now, put_off, row, row_at, row_of_connective, row_of_pairing, row_of_tense, unless_put_off, until_released, left_number, behind_next, operand_of}
@@ -33,13 +32,9 @@ use Rattle.ml_blocks.proofs.EdgesGoOn.{diamond_action}
 use Rattle.ml_blocks.proofs.ItemSetMembers.{next_items-member, put_all-member, without-member}
 use Rattle.ml_blocks.proofs.LocalRuns.{some_open}
 use Rattle.ml_refutation.specs.Refutation.{Fits}
-use Rattle.ml_driver.proofs.HeldNames.{Every, IsHeld, every_cons, letter_word}
+use Rattle.ml_driver.proofs.HeldNames.{Every, IsHeld, every_cons, lower_name}
 
 -- ---- formulas
-
-lower_name : (w : List ℕ) → is_word_from is_lower w ≡ true → length w ≤ 64 → is_name w ≡ true
-lower_name [] spelled short = absurd (cc)
-lower_name (b ∷ bs) spelled short = letter_word b bs (is_lower b) (or_left (is_lower b) (is_upper b)) spelled short
 
 abbrev pub NamesOf : Formula → Type 0
 NamesOf (plain.Const b) = Unit {0}

@@ -4,21 +4,23 @@
 --   IsHeld g      == the propositions of literals are names, the actions of diamonds are actions, and priorities fit 32 bits
 --   held_lists    == so it is where all names that the graph lists are such
 --   with_named    == a list of names to which a name was added
---   letter_word   == a word that begins with a letter, and is short, is a name
+--   lower_name    == a word that begins with a small letter, and is short, is a name
 --   action_named  == an action that is spelt as one, and short, is one
 use Rattle.std.proofs.Common.{◌≡◌, ◌||◌, ◌&&◌, ℕ, ◌<◌, ◌≤◌, ◌⊎◌, Bool, true, false, if◌then◌else◌, codes, bytes_eq, List, [], ◌∷◌, ◌++◌, length, inl, inr, refl, sym, subst}
-use Rattle.std.specs.Cmp.{first_so, second_so}
-use Rattle.std.specs.List.{list_all, list_any}
-use Rattle.std.proofs.lemmas.Bool.{and_parts}
+use Rattle.std.specs.Cmp.{first_so}
+use Rattle.std.specs.List.{list_any}
+use Rattle.std.proofs.lemmas.Bool.{or_left}
 use Rattle.std.proofs.lemmas.Slice.Eq.{bytes_eq-Decides}
-use Rattle.ml_base.specs.Name.{IsName, IsAction, is_blank_action, is_name}
+use Rattle.ml_base.specs.Name.{IsName, IsAction, is_blank_action, is_name, longest_name}
 use Rattle.ml_lists.specs.Member.{IsMember}
 use Rattle.ml_lists.proofs.Member.{member-append, place-member}
 use Rattle.ml_graph.specs.Graph.{Graph, IsGraph, action_at, node_at, prop_at, size}
 use Rattle.ml_graph.specs.declared.node.Node.TheVariants as node
 use Rattle.ml_graph.proofs.References.{diamond_action, prop_in_range}
-use Rattle.ml_text.specs.Bytes.{is_letter, is_lower, is_upper, is_word_byte}
-use Rattle.ml_text.proofs.WordNames.{word_is_name}
+use Rattle.ml_text.specs.Bytes.{is_letter, is_lower}
+use Rattle.ml_text.specs.Words.{is_word_from}
+use Rattle.ml_text.proofs.FirstLetters.{lower_letters}
+use Rattle.ml_text.proofs.WordNames.{word_name}
 use Rattle.ml_refutation.specs.Refutation.{Fits}
 
 -- ---- members
@@ -36,15 +38,6 @@ every_append P xs ys ps qs y m = by_part (member-append y xs ys m)
     by_part : IsMember y xs ⊎ IsMember y ys → P y
     by_part (inl here) = ps y here
     by_part (inr there) = qs y there
-
--- `begins` is the test of the first byte
-pub letter_word : (b : ℕ) (bs : List ℕ) (begins : Bool)
-    → (begins ≡ true → is_letter b ≡ true)
-    → (begins && list_all is_word_byte bs) ≡ true
-    → length (b ∷ bs) ≤ 64
-    → is_name (b ∷ bs) ≡ true
-letter_word b bs begins letter word short =
-    let parts = and_parts begins (list_all is_word_byte bs) word in word_is_name b bs (letter parts.0) parts.1 short
 
 pub record IsHeld (g : Graph) : Type 0 where
   pub literals : (n p : ℕ) (positive : Bool) → n < size g → node_at g n ≡ node.Lit p positive → IsName (prop_at g p)
@@ -75,59 +68,18 @@ with_named P ps p named all = by_test (list_any (bytes_eq p) ps)
     by_test true = all
     by_test false = every_append P ps (p ∷ []) all (every_cons P p [] named (λ y m. absurd m))
 
-both : (x y : Bool) → x ≡ true → y ≡ true → (x && y) ≡ true
-both true true e f = refl
-both true false e f = f
-both false y e f = e
+-- a proposition that is spelt as one, and short
+pub lower_name : (w : List ℕ) → is_word_from is_lower w ≡ true → length w ≤ longest_name → IsName w
+lower_name w word short = word_name w (lower_letters w word) short
 
-neither : (x y : Bool) → x ≡ false → y ≡ false → (x || y) ≡ true → ⊥
-neither true y e f h = cc
-neither false true e f h = cc
-neither false false e f h = cc
-
-or_first : (x y : Bool) → x ≡ true → (x || y) ≡ true
-or_first true y e = refl
-or_first false y e = cc
-
--- words that are free, which are names where they begin with a small letter or with a capital one
-module _ (free : List ℕ → Bool)
-    (lower : (b : ℕ) (bs : List ℕ) → ((is_lower b && list_all is_word_byte bs) && free (b ∷ bs)) ≡ true
-    → length (b ∷ bs) ≤ 64 → is_name (b ∷ bs) ≡ true)
-    (upper : (b : ℕ) (bs : List ℕ) → (is_upper b && list_all is_word_byte bs) ≡ true
-    → length (b ∷ bs) ≤ 64 → is_name (b ∷ bs) ≡ true) where
-  abbrev is_word : List ℕ → Bool
-  is_word [] = false
-  is_word (b ∷ bs) = is_letter b && list_all is_word_byte bs
-
-  word_named : (a : List ℕ) → is_word a ≡ true → free a ≡ true → length a ≤ 64 → is_name a ≡ true
-  word_named [] word is_free short = absurd (cc)
-  word_named (b ∷ bs) word is_free short =
-      by_case (is_lower b) refl (is_upper b) refl (first_so (is_letter b) (list_all is_word_byte bs) word)
-    where
-      rest : list_all is_word_byte bs ≡ true
-      rest = second_so (is_letter b) (list_all is_word_byte bs) word
-
-      by_case : (l : Bool) → is_lower b ≡ l → (u : Bool) → is_upper b ≡ u → is_letter b ≡ true → is_name (b ∷ bs) ≡ true
-      by_case true low u up letter =
-          lower b bs
-          (both (is_lower b && list_all is_word_byte bs) (free (b ∷ bs))
-          (both (is_lower b) (list_all is_word_byte bs) low rest) is_free) short
-      by_case false low true up letter =
-          upper b bs (both (is_upper b) (list_all is_word_byte bs) up rest) short
-      by_case false low false up letter = absurd (letterless low up letter)
-        where
-          letterless : is_lower b ≡ false → is_upper b ≡ false → is_letter b ≡ true → ⊥
-          letterless no_low no_up = neither (is_lower b) (is_upper b) no_low no_up
-
-  -- an action that is spelt as one, and short
-  pub action_named : (a : List ℕ)
-      → (bytes_eq a (codes "_") || (is_word a && free a)) ≡ true
-      → length a ≤ 64
-      → IsAction a
-  action_named a is short = by_test (bytes_eq a (codes "_")) refl is
-    where
-      by_test : (b : Bool) → bytes_eq a (codes "_") ≡ b → (b || (is_word a && free a)) ≡ true → IsAction a
-      by_test true same h = subst IsAction (sym ((bytes_eq-Decides a (codes "_")).0 same)) refl
-      by_test false other h =
-          or_first (is_name a) (is_blank_action a)
-          (word_named a (first_so (is_word a) (free a) h) (second_so (is_word a) (free a) h) short)
+-- an action that is spelt as one, and short
+pub action_named : (a : List ℕ) (free : Bool)
+    → (bytes_eq a (codes "_") || (is_word_from is_letter a && free)) ≡ true
+    → length a ≤ longest_name
+    → IsAction a
+action_named a free is short = by_test (bytes_eq a (codes "_")) refl is
+  where
+    by_test : (b : Bool) → bytes_eq a (codes "_") ≡ b → (b || (is_word_from is_letter a && free)) ≡ true → IsAction a
+    by_test true same h = subst IsAction (sym ((bytes_eq-Decides a (codes "_")).0 same)) refl
+    by_test false other h =
+        or_left (is_name a) (is_blank_action a) (word_name a (first_so (is_word_from is_letter a) free h) short)

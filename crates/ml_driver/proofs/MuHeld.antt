@@ -1,18 +1,17 @@
 -- A graph of a formula of the mu-calculus with names and priorities that a program holds.
 --
 --   mu_held == a well-formed formula has such a graph in each sense
-use Rattle.std.proofs.Common.{◌≡◌, ℕ, ◌+◌, ◌*◌, ◌≤◌, not, Bool, true, if◌then◌else◌, List, [], ◌∷◌, ◌++◌, length, refl, arith}
+use Rattle.std.proofs.Common.{◌≡◌, ℕ, ◌+◌, ◌*◌, ◌≤◌, not, Bool, true, if◌then◌else◌, List, [], ◌∷◌, ◌++◌, refl, arith}
 use Rattle.std.specs.Cmp.{first_so, second_so}
-use Rattle.std.proofs.lemmas.Bool.{or_left, or_right}
-use Rattle.ml_base.specs.Name.{IsName, IsAction, is_name}
+use Rattle.ml_base.specs.Name.{IsName, IsAction}
 use Rattle.ml_graph.specs.Graph.{Graph}
-use Rattle.ml_text.specs.Bytes.{is_lower, is_upper}
+use Rattle.ml_text.specs.Bytes.{is_lower}
 use Rattle.ml_text.specs.declared.token.Operator.{Operator}
 use Rattle.ml_text.specs.declared.token.Operator.TheVariants as operator
 use Rattle.ml_text.specs.Words.{is_word_from}
 use Rattle.ml_text.specs.private.NameLists.{with_name}
 use Rattle.ml_mu.specs.Formula.{Formula, Const, Prop, Var, Not, Binary, Modal, Binder, Fixpoint, Least, Greatest, occurrences}
-use Rattle.ml_mu.specs.Spelling.{HasShortNames, is_action, is_proposition, is_reserved, is_spelled, is_variable}
+use Rattle.ml_mu.specs.Spelling.{HasShortNames, is_action, is_reserved, is_spelled, is_variable}
 use Rattle.ml_mu.specs.WellFormed.{IsWellFormed}
 use Rattle.ml_mu_graph.specs.MuGraph.{IsGraphOf, binder_priority, binders, opposite}
 use Rattle.ml_nodes.specs.private.Connectives.{operator_priorities}
@@ -21,24 +20,16 @@ use Rattle.ml_mu_graph.specs.private.Views.{none_around}
 use Rattle.ml_mu_graph.proofs.InRange.{lists_make_graph}
 use Rattle.ml_mu_graph.proofs.Made.{graph_made}
 use Rattle.ml_refutation.specs.Refutation.{Fits}
-use Rattle.ml_driver.proofs.HeldNames.{Every, IsHeld, action_named, every_append, every_cons, held_lists, with_named, letter_word}
+use Rattle.ml_driver.proofs.HeldNames.{Every, IsHeld, action_named, every_append, every_cons, held_lists, lower_name, with_named}
 
 -- ---- names
-
-lower_name : (w : List ℕ) → is_proposition w ≡ true → length w ≤ 64 → is_name w ≡ true
-lower_name [] spelled short = absurd (cc)
-lower_name (b ∷ bs) spelled short =
-    letter_word b bs (is_lower b) (or_left (is_lower b) (is_upper b))
-    (first_so (is_word_from is_lower (b ∷ bs)) (not (is_reserved (b ∷ bs))) spelled) short
-
-upper_name : (w : List ℕ) → is_variable w ≡ true → length w ≤ 64 → is_name w ≡ true
-upper_name [] spelled short = absurd (cc)
-upper_name (b ∷ bs) spelled short = letter_word b bs (is_upper b) (or_right (is_lower b) (is_upper b)) spelled short
 
 props_named : (f : Formula) → is_spelled f ≡ true → HasShortNames f → (ps : List (List ℕ)) → Every IsName ps
     → Every IsName (props_onto f ps)
 props_named (Const b) spelled short ps all = all
-props_named (Prop p) spelled short ps all = with_named IsName ps p (lower_name p spelled short) all
+props_named (Prop p) spelled short ps all =
+    with_named IsName ps p
+    (lower_name p (first_so (is_word_from is_lower p) (not (is_reserved p)) spelled) short) all
 props_named (Var x) spelled short ps all = all
 props_named (Not f) spelled short ps all = props_named f spelled short ps all
 props_named (Binary op f h) spelled short ps all =
@@ -48,12 +39,6 @@ props_named (Modal m a f) spelled short ps all =
     props_named f (second_so (is_action a) (is_spelled f) spelled) short.1 ps all
 props_named (Binder q x f) spelled short ps all =
     props_named f (second_so (is_variable x) (is_spelled f) spelled) short.1 ps all
-
-mu_action : (a : List ℕ) → is_action a ≡ true → length a ≤ 64 → IsAction a
-mu_action [] spelled short = absurd (cc)
-mu_action (b ∷ bs) spelled short =
-    action_named (λ w. not (is_reserved w)) (λ c cs. lower_name (c ∷ cs)) (λ c cs. upper_name (c ∷ cs))
-    (b ∷ bs) spelled short
 
 actions_named : (f : Formula) → is_spelled f ≡ true → HasShortNames f → (acts : List (List ℕ)) → Every IsAction acts
     → Every IsAction (actions_onto f acts)
@@ -66,7 +51,8 @@ actions_named (Binary op f h) spelled short acts all =
     (actions_named f (first_so (is_spelled f) (is_spelled h) spelled) short.0 acts all)
 actions_named (Modal m a f) spelled short acts all =
     actions_named f (second_so (is_action a) (is_spelled f) spelled) short.1 (with_name acts a)
-    (with_named IsAction acts a (mu_action a (first_so (is_action a) (is_spelled f) spelled) short.0) all)
+    (with_named IsAction acts a
+    (action_named a (not (is_reserved a)) (first_so (is_action a) (is_spelled f) spelled) short.0) all)
 actions_named (Binder q x f) spelled short acts all =
     actions_named f (second_so (is_variable x) (is_spelled f) spelled) short.1 acts all
 

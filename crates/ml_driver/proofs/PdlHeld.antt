@@ -1,17 +1,16 @@
 -- A graph of a formula of PDL with names and priorities that a program holds.
 --
 --   pdl_held == a well-formed formula has such a graph in each sense
-use Rattle.std.proofs.Common.{◌≡◌, ℕ, ◌≤◌, not, Bool, true, if◌then◌else◌, List, [], ◌∷◌, ◌++◌, length, refl, arith}
+use Rattle.std.proofs.Common.{◌≡◌, ℕ, ◌≤◌, not, Bool, true, if◌then◌else◌, List, [], ◌∷◌, ◌++◌, refl, arith}
 use Rattle.std.specs.Cmp.{first_so, second_so}
-use Rattle.std.proofs.lemmas.Bool.{or_left, or_right}
-use Rattle.ml_base.specs.Name.{IsName, IsAction, is_name}
+use Rattle.ml_base.specs.Name.{IsName, IsAction}
 use Rattle.ml_graph.specs.Graph.{Graph}
-use Rattle.ml_text.specs.Bytes.{is_lower, is_upper}
+use Rattle.ml_text.specs.Bytes.{is_lower}
 use Rattle.ml_text.specs.declared.token.Operator.{Operator}
 use Rattle.ml_text.specs.declared.token.Operator.TheVariants as operator
 use Rattle.ml_text.specs.Words.{is_word_from}
 use Rattle.ml_pdl.specs.Formula.{Formula, Const, Prop, Not, Binary, Modal, Repeat, Program, Act, Seq, Alt, Star, Test}
-use Rattle.ml_pdl.specs.Spelling.{HasShortNames, ProgramHasShortNames, is_action, is_proposition, is_reserved, is_spelled, program_is_spelled}
+use Rattle.ml_pdl.specs.Spelling.{HasShortNames, ProgramHasShortNames, is_reserved, is_spelled, program_is_spelled}
 use Rattle.ml_pdl.specs.WellFormed.{IsWellFormed}
 use Rattle.ml_pdl_graph.specs.PdlGraph.{IsGraphOf, plain}
 use Rattle.ml_nodes.specs.private.Connectives.{operator_priorities}
@@ -19,25 +18,17 @@ use Rattle.ml_pdl_graph.specs.private.NodeList.{actions_onto, nodes_of, prioriti
 use Rattle.ml_pdl_graph.proofs.InRange.{lists_make_graph}
 use Rattle.ml_pdl_graph.proofs.Made.{graph_made}
 use Rattle.ml_refutation.specs.Refutation.{Fits}
-use Rattle.ml_driver.proofs.HeldNames.{Every, IsHeld, action_named, every_append, every_cons, held_lists, with_named, letter_word}
+use Rattle.ml_driver.proofs.HeldNames.{Every, IsHeld, action_named, every_append, every_cons, held_lists, lower_name, with_named}
 
 -- ---- names
-
-lower_name : (w : List ℕ) → is_proposition w ≡ true → length w ≤ 64 → is_name w ≡ true
-lower_name [] spelled short = absurd (cc)
-lower_name (b ∷ bs) spelled short =
-    letter_word b bs (is_lower b) (or_left (is_lower b) (is_upper b))
-    (first_so (is_word_from is_lower (b ∷ bs)) (not (is_reserved (b ∷ bs))) spelled) short
-
-upper_name : (w : List ℕ) → is_word_from is_upper w ≡ true → length w ≤ 64 → is_name w ≡ true
-upper_name [] spelled short = absurd (cc)
-upper_name (b ∷ bs) spelled short = letter_word b bs (is_upper b) (or_right (is_lower b) (is_upper b)) spelled short
 
 mutual
   props_named : (f : Formula) → is_spelled f ≡ true → HasShortNames f → (ps : List (List ℕ)) → Every IsName ps
       → Every IsName (props_onto f ps)
   props_named (Const b) spelled short ps all = all
-  props_named (Prop p) spelled short ps all = with_named IsName ps p (lower_name p spelled short) all
+  props_named (Prop p) spelled short ps all =
+      with_named IsName ps p
+      (lower_name p (first_so (is_word_from is_lower p) (not (is_reserved p)) spelled) short) all
   props_named (Not f) spelled short ps all = props_named f spelled short ps all
   props_named (Binary op f h) spelled short ps all =
       props_named h (second_so (is_spelled f) (is_spelled h) spelled) short.1 (props_onto f ps)
@@ -62,12 +53,6 @@ mutual
   program_props_named (Star p) spelled short ps all = program_props_named p spelled short ps all
   program_props_named (Test f) spelled short ps all = props_named f spelled short ps all
 
-pdl_action : (a : List ℕ) → is_action a ≡ true → length a ≤ 64 → IsAction a
-pdl_action [] spelled short = absurd (cc)
-pdl_action (b ∷ bs) spelled short =
-    action_named (λ w. not (is_reserved w)) (λ c cs. lower_name (c ∷ cs)) (λ c cs. upper_name (c ∷ cs))
-    (b ∷ bs) spelled short
-
 mutual
   actions_named : (f : Formula) → is_spelled f ≡ true → HasShortNames f → (acts : List (List ℕ)) → Every IsAction acts
       → Every IsAction (actions_onto f acts)
@@ -85,7 +70,8 @@ mutual
   program_actions_named : (p : Program) → program_is_spelled p ≡ true → ProgramHasShortNames p → (acts : List (List ℕ))
       → Every IsAction acts
       → Every IsAction (program_actions_onto p acts)
-  program_actions_named (Act a) spelled short acts all = with_named IsAction acts a (pdl_action a spelled short) all
+  program_actions_named (Act a) spelled short acts all =
+      with_named IsAction acts a (action_named a (not (is_reserved a)) spelled short) all
   program_actions_named (Seq p q) spelled short acts all =
       program_actions_named q (second_so (program_is_spelled p) (program_is_spelled q) spelled) short.1
       (program_actions_onto p acts)
