@@ -1,6 +1,6 @@
 // Why a measurement ended.
 
-use ml_base::{DocRefusal, NoMemory};
+use ml_base::NoMemory;
 use ml_tests::NotMade;
 use std::alloc::AllocError;
 use std::io;
@@ -15,8 +15,6 @@ pub enum Failure {
     NoMemory,
     #[error("{0}")]
     NotMade(NotMade),
-    #[error("{0}")]
-    Document(DocRefusal),
     #[error("{0}")]
     Io(io::Error),
 }
@@ -36,12 +34,6 @@ impl From<NoMemory> for Failure {
 impl From<NotMade> for Failure {
     fn from(reason: NotMade) -> Failure {
         Failure::NotMade(reason)
-    }
-}
-
-impl From<DocRefusal> for Failure {
-    fn from(refusal: DocRefusal) -> Failure {
-        Failure::Document(refusal)
     }
 }
 

@@ -1,20 +1,18 @@
-// Measurements of the programs whose time matters, on games, graphs and histories that are made up.
+// Measurements of the calls whose time matters, on games, graphs and histories that are made up. Whole decisions are
+// measured by the program itself: `mlsolver bench`.
 //
 // Words: the name of a measurement (`Measurement`) and its size, as `games 1000000`, and behind them `times` if times are
 // wanted; or `small` alone, which makes each measurement once at a small size. Without `times` only counts are printed,
 // which are the same in each run, so that a run can be measured from outside. A time is given in milliseconds, and as a
-// multiple of the time that it takes here to read the input once. Documents with refutations have words of their own
-// (`refutations`).
+// multiple of the time that it takes here to read the input once.
 //
 // Below stands `ml_tests`, whose generators it takes, and the crates that are measured; nothing stands above it.
 #![tactic(auto)]
 
 mod counts;
-mod decisions;
 mod failure;
 mod forms;
 mod measure;
-mod refutations;
 
 use crate::failure::Failure;
 use crate::measure::{Measurement, measure, measure_small};
@@ -48,14 +46,8 @@ fn wished(rt: &(impl Env + AllocGlobal)) -> Result<Option<Wish>, Failure> {
 }
 
 fn main(rt: HostRuntime) -> Result<(), Failure> {
-    if refutations::is_answered(&rt)? {
-        return Ok(());
-    }
     match wished(&rt)? {
-        None => {
-            measure_small(&rt)?;
-            refutations::work_small(&rt)
-        }
+        None => measure_small(&rt),
         Some(wish) => measure(&rt, wish.measurement, wish.size, wish.is_timed),
     }
 }

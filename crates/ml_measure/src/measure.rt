@@ -1,7 +1,6 @@
 // The measurements.
 
 use crate::counts::{highest, read_game, read_graph, read_letter, won_by_even};
-use crate::decisions::{Family, decide};
 use crate::failure::Failure;
 use crate::forms::Form;
 use ml_history::History;
@@ -42,10 +41,6 @@ pub enum Measurement {
     Row,
     /// An even cycle of such a graph.
     Cycle,
-    /// Exploring and solving the decision game of a formula of so many disjunctions, and of one whose states lead on so
-    /// often.
-    Or,
-    Step,
 }
 
 impl Measurement {
@@ -64,8 +59,6 @@ impl Measurement {
             "blocks" => Some(Measurement::Blocks),
             "row" => Some(Measurement::Row),
             "cycle" => Some(Measurement::Cycle),
-            "or" => Some(Measurement::Or),
-            "step" => Some(Measurement::Step),
             _ => None,
         }
     }
@@ -307,8 +300,6 @@ pub(crate) fn measure<R: Print + Clock + AllocGlobal>(
         Measurement::Blocks => count_blocks(rt, size, is_timed),
         Measurement::Row => count_row(rt, size, false, is_timed),
         Measurement::Cycle => count_row(rt, size, true, is_timed),
-        Measurement::Or => decide(rt, Family::Or, size, is_timed),
-        Measurement::Step => decide(rt, Family::Step, size, is_timed),
     }
 }
 
@@ -327,8 +318,6 @@ pub(crate) fn measure_small<R: Print + Clock + AllocGlobal>(rt: &R) -> Result<()
         (Measurement::Blocks, 1000),
         (Measurement::Row, 100),
         (Measurement::Cycle, 100),
-        (Measurement::Or, 5),
-        (Measurement::Step, 20),
     ];
     for (measurement, size) in small {
         measure(rt, measurement, size, false)?;
