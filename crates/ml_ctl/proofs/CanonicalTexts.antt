@@ -26,7 +26,8 @@ use Rattle.ml_ctl.specs.Canonical.{tense_letter, pairing_letter, quantifier_lett
 use Rattle.ml_ctl.specs.Signs.{Sign, Connective, Const, Open, Close, Tensed, Pairs, Quantifies, sign_of, word_sign}
 use Rattle.ml_ctl.specs.Spelling.{is_spelled, is_reserved}
 use Rattle.ml_ctl.specs.Grammar as grammar
-use Rattle.ml_ctl.specs.Grammar.{Sort, State, Path, sort_of, Reads, iff_alone, iff, imp_alone, imp, or_alone, or, and_alone, and, pair_alone, pair, negation, temporal, quantified, group, constant, proposition}
+use Rattle.ml_ctl.specs.Grammar.{Sort, State, Path, sort_of, Reads, iff_alone, iff, imp_alone, imp, or_alone, or, and_alone, and}
+use Rattle.ml_ctl.specs.Grammar.{pair_alone, pair, negation, temporal, quantified, group, constant, proposition}
 use Rattle.ml_ctl.specs.Text.{ctl_signs, items, IsTextOf}
 use Rattle.ml_ctl.proofs.GrammarTables.{un_raised}
 use Rattle.ml_ctl.proofs.Sorts.{fits, is_of_fits}

@@ -6,7 +6,8 @@ use Rattle.std.proofs.Common.{◌≡◌, ℕ, ◌≤◌, false, List, ◌∷◌,
 use Rattle.ml_text.specs.declared.token.Operator.{Operator}
 use Rattle.ml_text.specs.declared.token.Operator.TheVariants as operator
 use Rattle.ml_text.specs.Grammar as tables
-use Rattle.ml_text.specs.Grammar.{Whole, More, Read, Inner, Opens, Part, Level, Operand, Rest, Behind, alone, joined, postfixed, form, whole, sign, read, inner, opens, left_level, right_level, takes, front}
+use Rattle.ml_text.specs.Grammar.{Whole, More, Read, Inner, Opens, Part, Level, Operand, Rest, Behind, alone, joined, postfixed}
+use Rattle.ml_text.specs.Grammar.{form, whole, sign, read, inner, opens, left_level, right_level, takes, front}
 use Rattle.ml_text.specs.declared.forms.Role.TheVariants.{Infix}
 use Rattle.ml_text.specs.Operators.{operator_level}
 use Rattle.ml_text.proofs.Levels.{loosen}
@@ -216,7 +217,9 @@ sign_completes w (Start s) Open ts rest f r = r
 sign_completes w (Start s) (Tensed t) ts rest f r = tense_completes w s t ts rest f r
 sign_completes w (Start s) (Quantifies q) ts rest f r = quantifier_completes w s q ts rest f r
 sign_completes w (Start s) _ ts rest f r = absurd r
-sign_completes w (BehindInside h) Close ts rest f r = λ s us a. subst (λ x. Reads w s grammar.Un (Open ∷ us) x rest) r.0 (group (subst (λ vs. Reads w s grammar.Iff us h (Close ∷ vs)) r.1 a))
+sign_completes w (BehindInside h) Close ts rest f r =
+    λ s us a. subst (λ x. Reads w s grammar.Un (Open ∷ us) x rest) r.0
+    (group (subst (λ vs. Reads w s grammar.Iff us h (Close ∷ vs)) r.1 a))
 sign_completes w (BehindInside h) _ ts rest f r = absurd r
 
 inner_enters : (w : Logic) (k : Hold) (ts us rest : List Sign) (v f : Formula)
@@ -261,7 +264,8 @@ pub untabled : (w : Logic) {p : Part (ctl_grammar w)} {ts rest : List Sign} {f :
     → Tabled w p ts f rest
     → Untabled w p ts f rest
 untabled w (alone r) = λ at le. un_raised at (untabled w r)
-untabled w (joined {s = s} {l = l} {ts = ts} {us = us} {rest = rest} {f = f} {h = h} o m is le a b) = joined_back w s o m l ts us rest f h is le (untabled w a) (untabled w b)
+untabled w (joined {s = s} {l = l} {ts = ts} {us = us} {rest = rest} {f = f} {h = h} o m is le a b) =
+    joined_back w s o m l ts us rest f h is le (untabled w a) (untabled w b)
 untabled w (postfixed o is makes r) = absurd (cc)
 untabled w (form r) = untabled w r
 untabled w whole = (refl, refl)

@@ -8,7 +8,8 @@ use Rattle.std.proofs.lemmas.Bool.{and_from, and_parts, false≢true}
 use Rattle.ml_ctl.specs.Formula as plain
 use Rattle.ml_ctl.specs.Formula.{Formula, Logic, Ctl, Ltl, is_state, is_linear, is_of}
 use Rattle.ml_ctl.specs.Grammar as grammar
-use Rattle.ml_ctl.specs.Grammar.{Sort, State, Path, sort_of, Reads, iff_alone, iff, imp_alone, imp, or_alone, or, and_alone, and, pair_alone, pair, negation, temporal, quantified, group, constant, proposition}
+use Rattle.ml_ctl.specs.Grammar.{Sort, State, Path, sort_of, Reads, iff_alone, iff, imp_alone, imp, or_alone, or, and_alone, and}
+use Rattle.ml_ctl.specs.Grammar.{pair_alone, pair, negation, temporal, quantified, group, constant, proposition}
 use Rattle.ml_ctl.specs.Signs.{Sign}
 
 abbrev pub is_path : Sort → Bool

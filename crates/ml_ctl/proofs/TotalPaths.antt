@@ -60,7 +60,9 @@ paths_start m admitted s low =
     from : WalkLasso (next m admitted.is_total) (λ t. t < m.states) s → (l : Lasso) × IsPathFrom m s l
     from w = (w.lasso, record { is_path = record { starts = w.starts; joined = joined }; starts_at = w.begins })
       where
-        joined : (k : ℕ) → k < length w.lasso.entries → has_step m (get_or (round w.lasso) k 0) (get_or (round w.lasso) (k + 1) 0) ≡ true
+        joined : (k : ℕ)
+            → k < length w.lasso.entries
+            → has_step m (get_or (round w.lasso) k 0) (get_or (round w.lasso) (k + 1) 0) ≡ true
         joined k under =
             subst (λ t. has_step m (get_or (round w.lasso) k 0) t ≡ true) (sym (w.steps k under))
             (next_steps m admitted.is_total (get_or (round w.lasso) k 0) (w.inside k (omega arith)))

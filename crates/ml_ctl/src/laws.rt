@@ -1,5 +1,6 @@
 // What holds of texts by their grammar alone, and of meanings: the functions do nothing, their contracts are the theorems.
-ghost use Rattle.ml_ctl.specs.Laws.{AllAreNotSome, FollowsThePath, LooksAtTheState, NegationsOfFinally, NegationsOfGlobally, NegationsOfNext, NegationsOfRelease, NegationsOfUntil, NegationsOfWeak, PathsStart, ReadAhead, ReadStepByStep, SomeAreNotAll};
+ghost use Rattle.ml_ctl.specs.Laws.{AllAreNotSome, FollowsThePath, LooksAtTheState, PathsStart, ReadAhead, ReadStepByStep, SomeAreNotAll};
+ghost use Rattle.ml_ctl.specs.Laws.{NegationsOfFinally, NegationsOfGlobally, NegationsOfNext, NegationsOfRelease, NegationsOfUntil, NegationsOfWeak};
 ghost use Rattle.ml_ctl.specs.Parsing.{CanonicalIsParsed, CanonicalStandsForOne, NeverBoth, ParsedAreWellFormed, ParsedOnce, RefusedOnce, SomeAnswer, StandForOne};
 
 /// A text stands for one formula at most, by the grammar alone.

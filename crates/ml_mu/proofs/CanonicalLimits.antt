@@ -26,21 +26,31 @@ fixpoint_short : (q : Fixpoint) → IsShort (token.Word, fixpoint_word q)
 fixpoint_short Least = refl
 fixpoint_short Greatest = refl
 
-action_short : (a : List ℕ) (ss : List Spelt) → length a ≤ 64 → AllByRecursion IsShort ss → AllByRecursion IsShort (action_tokens a ss)
+action_short : (a : List ℕ) (ss : List Spelt)
+    → length a ≤ 64
+    → AllByRecursion IsShort ss
+    → AllByRecursion IsShort (action_tokens a ss)
 action_short a ss short all = go (bytes_eq a (codes "_"))
   where
     go : (b : Bool) → AllByRecursion IsShort (cond b ss ((token.Word, a) ∷ ss))
     go true = all
     go false = (short_word a short, all)
 
-pub tokens_short : (f : Formula) → HasShortNames f → (ss : List Spelt) → AllByRecursion IsShort ss → AllByRecursion IsShort (tokens_onto f ss)
+pub tokens_short : (f : Formula)
+    → HasShortNames f
+    → (ss : List Spelt)
+    → AllByRecursion IsShort ss
+    → AllByRecursion IsShort (tokens_onto f ss)
 tokens_short (plain.Const true) short ss all = (refl, all)
 tokens_short (plain.Const false) short ss all = (refl, all)
 tokens_short (plain.Prop p) short ss all = (short_word p short, all)
 tokens_short (plain.Var x) short ss all = (short_word x short, all)
 tokens_short (plain.Not f) short ss all = (refl, tokens_short f short ss all)
-tokens_short (plain.Binary o f g) short ss all =
-    (refl, tokens_short f short.0 ((token.Operator o, spelling_of o) ∷ tokens_onto g (lone 41 ∷ ss)) (refl, tokens_short g short.1 (lone 41 ∷ ss) (refl, all)))
+tokens_short (plain.Binary o f g) short ss all = (
+  refl,
+  tokens_short f short.0 ((token.Operator o, spelling_of o) ∷ tokens_onto g (lone 41 ∷ ss))
+      (refl, tokens_short g short.1 (lone 41 ∷ ss) (refl, all)),
+)
 tokens_short (plain.Modal m a f) short ss all =
     (refl, action_short a (lone (end_byte m) ∷ tokens_onto f ss) short.0 (refl, tokens_short f short.1 ss all))
 tokens_short (plain.Binder q x f) short ss all =
@@ -59,7 +69,8 @@ closed_word_by (Some b) w = refl
 closed_word_by None w =
     one_of IsClosed (bytes_eq w (codes "mu")) _ _ refl
     (one_of IsClosed (bytes_eq w (codes "nu")) _ _ refl
-    (one_of IsClosed (is_proposition w) (Lower w) (cond (is_variable w) (Upper w) Unknown) refl (one_of IsClosed (is_variable w) (Upper w) Unknown refl refl)))
+    (one_of IsClosed (is_proposition w) (Lower w) (cond (is_variable w) (Upper w) Unknown) refl
+    (one_of IsClosed (is_variable w) (Upper w) Unknown refl refl)))
 
 closed_word : (w : List ℕ) → opening (bracket_of (word_sign w)) ≡ 0
 closed_word w = closed_word_by (constant_of w) w

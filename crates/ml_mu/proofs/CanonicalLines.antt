@@ -23,7 +23,14 @@ IsInLine bytes = list_any is_line_end bytes ≡ false
 both_in_line : (xs ys : List ℕ) → IsInLine xs → IsInLine ys → IsInLine (xs ++ ys)
 both_in_line xs ys a b = list_any-append is_line_end xs ys ∙ or_from (list_any is_line_end xs) (list_any is_line_end ys) a b
 
-seven_in_line : (a b c d e f g : List ℕ) → IsInLine a → IsInLine b → IsInLine c → IsInLine d → IsInLine e → IsInLine f → IsInLine g
+seven_in_line : (a b c d e f g : List ℕ)
+    → IsInLine a
+    → IsInLine b
+    → IsInLine c
+    → IsInLine d
+    → IsInLine e
+    → IsInLine f
+    → IsInLine g
     → IsInLine (a ++ b ++ c ++ d ++ e ++ f ++ g)
 seven_in_line a b c d e f g ia ib ic id ie in_f ig =
     both_in_line (a ++ b ++ c ++ d ++ e ++ f) g
@@ -52,7 +59,8 @@ word_in_line [] is = refl
 word_in_line (b ∷ bs) is =
     let parts = and_parts (is_letter b) (list_all is_word_byte bs) is in
     rest_in_line (b ∷ bs)
-    (and_from (is_word_byte b) (list_all is_word_byte bs) (or_left (is_letter b || is_digit b) (b == 95) (or_left (is_letter b) (is_digit b) parts.0)) parts.1)
+    (and_from (is_word_byte b) (list_all is_word_byte bs)
+    (or_left (is_letter b || is_digit b) (b == 95) (or_left (is_letter b) (is_digit b) parts.0)) parts.1)
 
 action_in_line : (a : List ℕ) → is_action a ≡ true → IsInLine (action_text a)
 action_in_line a is = go (bytes_eq a (codes "_")) refl

@@ -83,33 +83,53 @@ end_stops : (m : Modality) (rest : List ℕ) → ends_word (end_byte m ∷ rest)
 end_stops Diamond rest = refl
 end_stops Square rest = refl
 
-modality_same : (m : Modality) (a rest : List ℕ) → modality_text m a ++ rest ≡ begin_byte m ∷ (action_text a ++ (end_byte m ∷ rest))
+modality_same : (m : Modality) (a rest : List ℕ)
+    → modality_text m a ++ rest ≡ begin_byte m ∷ (action_text a ++ (end_byte m ∷ rest))
 modality_same Diamond a rest = ap (λ xs. 60 ∷ xs) (append_assoc (action_text a) (codes ">") rest)
 modality_same Square a rest = ap (λ xs. 91 ∷ xs) (append_assoc (action_text a) (codes "]") rest)
 
-modal_piece : (m : Modality) (a rest : List ℕ) (ss : List Spelt) → is_action a ≡ true → Scans AnyLetter rest ss → Scans AnyLetter (begin_byte m ∷ (action_text a ++ (end_byte m ∷ rest))) (lone (begin_byte m) ∷ action_tokens a (lone (end_byte m) ∷ ss))
+modal_piece : (m : Modality) (a rest : List ℕ) (ss : List Spelt)
+    → is_action a ≡ true
+    → Scans AnyLetter rest ss
+    → Scans AnyLetter (begin_byte m ∷ (action_text a ++ (end_byte m ∷ rest))) (lone (begin_byte m) ∷ action_tokens a (lone (end_byte m) ∷ ss))
 modal_piece m a rest ss is r =
     ⊎_elim
     (λ (any : bytes_eq a (codes "_") ≡ true).
-    subst (λ c. Scans AnyLetter (begin_byte m ∷ (cond c [] a ++ (end_byte m ∷ rest))) (lone (begin_byte m) ∷ cond c (lone (end_byte m) ∷ ss) ((token.Word, a) ∷ lone (end_byte m) ∷ ss))) (sym any)
+    subst
+    (λ c. Scans AnyLetter (begin_byte m ∷ (cond c [] a ++ (end_byte m ∷ rest)))
+    (lone (begin_byte m) ∷ cond c (lone (end_byte m) ∷ ss) ((token.Word, a) ∷ lone (end_byte m) ∷ ss)))
+    (sym any)
     (begin_blank m rest (lone (end_byte m) ∷ ss) (end_piece m rest ss r)))
     (λ (other : bytes_eq a (codes "_") ≡ false).
     let s : ActionSign a = action_sign a is other in
-    subst (λ c. Scans AnyLetter (begin_byte m ∷ (cond c [] a ++ (end_byte m ∷ rest))) (lone (begin_byte m) ∷ cond c (lone (end_byte m) ∷ ss) ((token.Word, a) ∷ lone (end_byte m) ∷ ss))) (sym other)
-    (begin_word m a (end_byte m ∷ rest) ((token.Word, a) ∷ lone (end_byte m) ∷ ss) s.word (word_piece AnyLetter a (end_byte m ∷ rest) (lone (end_byte m) ∷ ss) s.word (end_stops m rest) (end_piece m rest ss r))))
+    subst
+    (λ c. Scans AnyLetter (begin_byte m ∷ (cond c [] a ++ (end_byte m ∷ rest)))
+    (lone (begin_byte m) ∷ cond c (lone (end_byte m) ∷ ss) ((token.Word, a) ∷ lone (end_byte m) ∷ ss)))
+    (sym other)
+    (begin_word m a (end_byte m ∷ rest) ((token.Word, a) ∷ lone (end_byte m) ∷ ss) s.word
+    (word_piece AnyLetter a (end_byte m ∷ rest) (lone (end_byte m) ∷ ss) s.word (end_stops m rest)
+    (end_piece m rest ss r))))
     (cases_Bool (bytes_eq a (codes "_")))
 
 fixpoint_letters : (q : Fixpoint) → is_word_from is_letter (fixpoint_word q) ≡ true
 fixpoint_letters Least = refl
 fixpoint_letters Greatest = refl
 
-binder_same : (w x b rest : List ℕ) → (codes "(" ++ w ++ codes " " ++ x ++ codes ". " ++ b ++ codes ")") ++ rest ≡ 40 ∷ (w ++ (32 ∷ (x ++ (46 ∷ 32 ∷ (b ++ (41 ∷ rest))))))
+binder_same : (w x b rest : List ℕ)
+    → (codes "(" ++ w ++ codes " " ++ x ++ codes ". " ++ b ++ codes ")") ++ rest ≡ 40 ∷ (w ++ (32 ∷ (x ++ (46 ∷ 32 ∷ (b ++ (41 ∷ rest))))))
 binder_same w x b rest = simp append_assoc
 
-pub scans_formula : (f : Formula) → is_spelled f ≡ true → (rest : List ℕ) (ss : List Spelt) → ends_word rest ≡ true → Scans AnyLetter rest ss → Scans AnyLetter (canonical_text f ++ rest) (tokens_onto f ss)
+pub scans_formula : (f : Formula)
+    → is_spelled f ≡ true
+    → (rest : List ℕ) (ss : List Spelt)
+    → ends_word rest ≡ true
+    → Scans AnyLetter rest ss
+    → Scans AnyLetter (canonical_text f ++ rest) (tokens_onto f ss)
 scans_formula (plain.Const true) is rest ss stops r = word_piece AnyLetter (codes "tt") rest ss refl stops r
 scans_formula (plain.Const false) is rest ss stops r = word_piece AnyLetter (codes "ff") rest ss refl stops r
-scans_formula (plain.Prop p) is rest ss stops r = word_piece AnyLetter p rest ss (lower_letters p (and_parts (is_word_from is_lower p) (not (is_reserved p)) is).0) stops r
+scans_formula (plain.Prop p) is rest ss stops r =
+    word_piece AnyLetter p rest ss (lower_letters p (and_parts (is_word_from is_lower p) (not (is_reserved p)) is).0)
+    stops r
 scans_formula (plain.Var x) is rest ss stops r = word_piece AnyLetter x rest ss (upper_letters x is) stops r
 scans_formula (plain.Not f) is rest ss stops r =
     not_piece AnyLetter (canonical_text f ++ rest) (tokens_onto f ss) (scans_formula f is rest ss stops r)
@@ -119,7 +139,8 @@ scans_formula (plain.Binary o f g) is rest ss stops r =
     let sign = operator_piece AnyLetter o (canonical_text g ++ (41 ∷ rest)) (tokens_onto g (lone 41 ∷ ss)) right in
     let after = codes " " ++ (spelling_of o ++ (codes " " ++ (canonical_text g ++ (41 ∷ rest)))) in
     let left = scans_formula f parts.0 after ((token.Operator o, spelling_of o) ∷ tokens_onto g (lone 41 ∷ ss)) refl sign in
-    subst (λ text. Scans AnyLetter text (tokens_onto (plain.Binary o f g) ss)) (sym (between_same (canonical_text f) (spelling_of o) (canonical_text g) rest))
+    subst (λ text. Scans AnyLetter text (tokens_onto (plain.Binary o f g) ss))
+    (sym (between_same (canonical_text f) (spelling_of o) (canonical_text g) rest))
     (lone_piece AnyLetter 40 (canonical_text f ++ after)
     (tokens_onto f ((token.Operator o, spelling_of o) ∷ tokens_onto g (lone 41 ∷ ss))) refl left)
 scans_formula (plain.Modal m a f) is rest ss stops r =
@@ -134,7 +155,10 @@ scans_formula (plain.Binder q x f) is rest ss stops r =
     let toks = tokens_onto f (lone 41 ∷ ss) in
     let dot = lone_piece AnyLetter 46 (32 ∷ text) toks refl (blank 32 refl body) in
     let name = word_piece AnyLetter x (46 ∷ 32 ∷ text) (lone 46 ∷ toks) (upper_letters x parts.0) refl dot in
-    let word = word_piece AnyLetter (fixpoint_word q) (32 ∷ (x ++ (46 ∷ 32 ∷ text))) ((token.Word, x) ∷ lone 46 ∷ toks) (fixpoint_letters q) refl (blank 32 refl name) in
+    let word =
+    word_piece AnyLetter (fixpoint_word q) (32 ∷ (x ++ (46 ∷ 32 ∷ text))) ((token.Word, x) ∷ lone 46 ∷ toks)
+    (fixpoint_letters q) refl (blank 32 refl name)
+    in
     subst (λ text. Scans AnyLetter text (tokens_onto (plain.Binder q x f) ss)) (sym (binder_same (fixpoint_word q) x (canonical_text f) rest))
     (lone_piece AnyLetter 40 (fixpoint_word q ++ (32 ∷ (x ++ (46 ∷ 32 ∷ text))))
     ((token.Word, fixpoint_word q) ∷ (token.Word, x) ∷ lone 46 ∷ toks) refl word)
@@ -165,44 +189,90 @@ end_sign : (m : Modality) → sign_spelt (lone (end_byte m)) ≡ Ends m
 end_sign Diamond = refl
 end_sign Square = refl
 
-binary_read : (o : Operator) (ts us rest : List Sign) (f g : Formula) → Reads grammar.Un ts f (Connective o ∷ us) → Reads grammar.Un us g (Close ∷ rest) → Reads grammar.Un (Open ∷ ts) (plain.Binary o f g) rest
+binary_read : (o : Operator) (ts us rest : List Sign) (f g : Formula)
+    → Reads grammar.Un ts f (Connective o ∷ us)
+    → Reads grammar.Un us g (Close ∷ rest)
+    → Reads grammar.Un (Open ∷ ts) (plain.Binary o f g) rest
 binary_read operator.Iff ts us rest f g a b = group (iff (un_raised grammar.Imp a) (un_raised grammar.Iff b))
 binary_read operator.Implies ts us rest f g a b = group (iff_alone (imp (un_raised grammar.Or a) (un_raised grammar.Imp b)))
 binary_read operator.Or ts us rest f g a b = group (iff_alone (imp_alone (or (un_raised grammar.Or a) (un_raised grammar.And b))))
 binary_read operator.And ts us rest f g a b = group (iff_alone (imp_alone (or_alone (and (un_raised grammar.And a) b))))
 
-modal_read : (m : Modality) (a : List ℕ) (f : Formula) (after : List Spelt) (rest : List Sign) → is_action a ≡ true → Reads grammar.Un (map sign_spelt after) f rest → Reads grammar.Un (sign_spelt (lone (begin_byte m)) ∷ map sign_spelt (action_tokens a (lone (end_byte m) ∷ after))) (plain.Modal m a f) rest
+modal_read : (m : Modality) (a : List ℕ) (f : Formula) (after : List Spelt) (rest : List Sign)
+    → is_action a ≡ true
+    → Reads grammar.Un (map sign_spelt after) f rest
+    → Reads grammar.Un (sign_spelt (lone (begin_byte m)) ∷ map sign_spelt (action_tokens a (lone (end_byte m) ∷ after))) (plain.Modal m a f) rest
 modal_read m a f after rest is r =
     let open_is = begin_sign m in
     let close_is = end_sign m in
     ⊎_elim
     (λ (any : bytes_eq a (codes "_") ≡ true).
     let same = (Rattle.std.proofs.lemmas.Slice.Eq.bytes_eq-Decides a (codes "_")).0 any in
-    let read : Reads grammar.Un (sign_spelt (lone (begin_byte m)) ∷ sign_spelt (lone (end_byte m)) ∷ map sign_spelt after) (plain.Modal m (codes "_") f) rest = subst (λ t. Reads grammar.Un (t ∷ sign_spelt (lone (end_byte m)) ∷ map sign_spelt after) (plain.Modal m (codes "_") f) rest) (sym open_is) (subst (λ t. Reads grammar.Un (Begins m ∷ t ∷ map sign_spelt after) (plain.Modal m (codes "_") f) rest) (sym close_is) (modal_blank m r)) in
-    subst (λ c. Reads grammar.Un (sign_spelt (lone (begin_byte m)) ∷ map sign_spelt (cond c (lone (end_byte m) ∷ after) ((token.Word, a) ∷ lone (end_byte m) ∷ after))) (plain.Modal m a f) rest) (sym any)
-    (subst (λ b. Reads grammar.Un (sign_spelt (lone (begin_byte m)) ∷ sign_spelt (lone (end_byte m)) ∷ map sign_spelt after) (plain.Modal m b f) rest) (sym same) read))
+    let read :
+    Reads grammar.Un (sign_spelt (lone (begin_byte m)) ∷ sign_spelt (lone (end_byte m)) ∷ map sign_spelt after)
+    (plain.Modal m (codes "_") f) rest =
+    subst
+    (λ t.
+    Reads grammar.Un (t ∷ sign_spelt (lone (end_byte m)) ∷ map sign_spelt after) (plain.Modal m (codes "_") f) rest)
+    (sym open_is)
+    (subst (λ t. Reads grammar.Un (Begins m ∷ t ∷ map sign_spelt after) (plain.Modal m (codes "_") f) rest)
+    (sym close_is) (modal_blank m r))
+    in
+    subst
+    (λ c. Reads grammar.Un
+    (sign_spelt (lone (begin_byte m))
+    ∷ map sign_spelt (cond c (lone (end_byte m) ∷ after) ((token.Word, a) ∷ lone (end_byte m) ∷ after)))
+    (plain.Modal m a f) rest)
+    (sym any)
+    (subst
+    (λ b. Reads grammar.Un (sign_spelt (lone (begin_byte m)) ∷ sign_spelt (lone (end_byte m)) ∷ map sign_spelt after)
+    (plain.Modal m b f) rest)
+    (sym same) read))
     (λ (other : bytes_eq a (codes "_") ≡ false).
     let s : ActionSign a = action_sign a is other in
-    subst (λ c. Reads grammar.Un (sign_spelt (lone (begin_byte m)) ∷ map sign_spelt (cond c (lone (end_byte m) ∷ after) ((token.Word, a) ∷ lone (end_byte m) ∷ after))) (plain.Modal m a f) rest) (sym other)
+    subst
+    (λ c. Reads grammar.Un
+    (sign_spelt (lone (begin_byte m))
+    ∷ map sign_spelt (cond c (lone (end_byte m) ∷ after) ((token.Word, a) ∷ lone (end_byte m) ∷ after)))
+    (plain.Modal m a f) rest)
+    (sym other)
     (subst (λ t. Reads grammar.Un (t ∷ word_sign a ∷ sign_spelt (lone (end_byte m)) ∷ map sign_spelt after) (plain.Modal m a f) rest) (sym open_is)
-    (subst (λ t. Reads grammar.Un (Begins m ∷ word_sign a ∷ t ∷ map sign_spelt after) (plain.Modal m a f) rest) (sym close_is) (modal m a (word_sign a) s.action r))))
+    (subst (λ t. Reads grammar.Un (Begins m ∷ word_sign a ∷ t ∷ map sign_spelt after) (plain.Modal m a f) rest)
+    (sym close_is) (modal m a (word_sign a) s.action r))))
     (cases_Bool (bytes_eq a (codes "_")))
 
-binder_read : (q : Fixpoint) (x : List ℕ) (f : Formula) (after : List Spelt) (rest : List Sign) → is_variable x ≡ true → Reads grammar.Un (map sign_spelt after) f (Close ∷ rest) → Reads grammar.Un (Open ∷ word_sign (fixpoint_word q) ∷ word_sign x ∷ Dot ∷ map sign_spelt after) (plain.Binder q x f) rest
+binder_read : (q : Fixpoint) (x : List ℕ) (f : Formula) (after : List Spelt) (rest : List Sign)
+    → is_variable x ≡ true
+    → Reads grammar.Un (map sign_spelt after) f (Close ∷ rest)
+    → Reads grammar.Un (Open ∷ word_sign (fixpoint_word q) ∷ word_sign x ∷ Dot ∷ map sign_spelt after) (plain.Binder q x f) rest
 binder_read q x f after rest is r =
     let bound = un_raised grammar.Iff (binder q x (un_raised grammar.Iff r) refl) in
     subst (λ t. Reads grammar.Un (Open ∷ t ∷ word_sign x ∷ Dot ∷ map sign_spelt after) (plain.Binder q x f) rest) (sym (fixpoint_sign q))
-    (subst (λ t. Reads grammar.Un (Open ∷ Binds q ∷ t ∷ Dot ∷ map sign_spelt after) (plain.Binder q x f) rest) (sym (variable_sign x is)) (group bound))
+    (subst (λ t. Reads grammar.Un (Open ∷ Binds q ∷ t ∷ Dot ∷ map sign_spelt after) (plain.Binder q x f) rest)
+    (sym (variable_sign x is)) (group bound))
 
-pub reads_formula : (f : Formula) → is_spelled f ≡ true → (ss : List Spelt) → Reads grammar.Un (map sign_spelt (tokens_onto f ss)) f (map sign_spelt ss)
-reads_formula (plain.Const true) is ss = subst (λ t. Reads grammar.Un (t ∷ map sign_spelt ss) (plain.Const true) (map sign_spelt ss)) (sym true_sign) (constant true)
-reads_formula (plain.Const false) is ss = subst (λ t. Reads grammar.Un (t ∷ map sign_spelt ss) (plain.Const false) (map sign_spelt ss)) (sym false_sign) (constant false)
-reads_formula (plain.Prop p) is ss = subst (λ t. Reads grammar.Un (t ∷ map sign_spelt ss) (plain.Prop p) (map sign_spelt ss)) (sym (proposition_sign p is)) (proposition p)
-reads_formula (plain.Var x) is ss = subst (λ t. Reads grammar.Un (t ∷ map sign_spelt ss) (plain.Var x) (map sign_spelt ss)) (sym (variable_sign x is)) (variable x)
+pub reads_formula : (f : Formula)
+    → is_spelled f ≡ true
+    → (ss : List Spelt)
+    → Reads grammar.Un (map sign_spelt (tokens_onto f ss)) f (map sign_spelt ss)
+reads_formula (plain.Const true) is ss =
+    subst (λ t. Reads grammar.Un (t ∷ map sign_spelt ss) (plain.Const true) (map sign_spelt ss)) (sym true_sign)
+    (constant true)
+reads_formula (plain.Const false) is ss =
+    subst (λ t. Reads grammar.Un (t ∷ map sign_spelt ss) (plain.Const false) (map sign_spelt ss)) (sym false_sign)
+    (constant false)
+reads_formula (plain.Prop p) is ss =
+    subst (λ t. Reads grammar.Un (t ∷ map sign_spelt ss) (plain.Prop p) (map sign_spelt ss))
+    (sym (proposition_sign p is)) (proposition p)
+reads_formula (plain.Var x) is ss =
+    subst (λ t. Reads grammar.Un (t ∷ map sign_spelt ss) (plain.Var x) (map sign_spelt ss)) (sym (variable_sign x is))
+    (variable x)
 reads_formula (plain.Not f) is ss = negation (reads_formula f is ss)
 reads_formula (plain.Binary o f g) is ss =
     let parts = and_parts (is_spelled f) (is_spelled g) is in
-    binary_read o _ _ (map sign_spelt ss) f g (reads_formula f parts.0 ((token.Operator o, spelling_of o) ∷ tokens_onto g (lone 41 ∷ ss))) (reads_formula g parts.1 (lone 41 ∷ ss))
+    binary_read o _ _ (map sign_spelt ss) f g
+    (reads_formula f parts.0 ((token.Operator o, spelling_of o) ∷ tokens_onto g (lone 41 ∷ ss)))
+    (reads_formula g parts.1 (lone 41 ∷ ss))
 reads_formula (plain.Modal m a f) is ss =
     let parts = and_parts (is_action a) (is_spelled f) is in
     modal_read m a f (tokens_onto f ss) (map sign_spelt ss) parts.0 (reads_formula f parts.1 ss)
@@ -212,10 +282,14 @@ reads_formula (plain.Binder q x f) is ss =
 
 -- ---- the text
 
-pub canonical_tokens : (f : Formula) → is_spelled f ≡ true → map (spelt_at (canonical_text f)) (tokens AnyLetter (canonical_text f)) ≡ tokens_onto f []
+pub canonical_tokens : (f : Formula)
+    → is_spelled f ≡ true
+    → map (spelt_at (canonical_text f)) (tokens AnyLetter (canonical_text f)) ≡ tokens_onto f []
 canonical_tokens f is =
     let text = canonical_text f in
-    let scans : Scans AnyLetter text (tokens_onto f []) = subst (λ t. Scans AnyLetter t (tokens_onto f [])) (append-nil text) (scans_formula f is [] [] refl ends) in
+    let scans : Scans AnyLetter text (tokens_onto f []) =
+    subst (λ t. Scans AnyLetter t (tokens_onto f [])) (append-nil text) (scans_formula f is [] [] refl ends)
+    in
     scans_tokens AnyLetter text (tokens_onto f []) scans
 
 pub canonical_stands : (f : Formula) → is_spelled f ≡ true → IsTextOf (canonical_text f) f

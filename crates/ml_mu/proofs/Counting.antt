@@ -24,10 +24,14 @@ abbrev pub count_signs : Bool → List Sign → ℕ
 count_signs silent [] = 0
 count_signs silent (t ∷ ts) = (if silent then 0 else weight_of t) + count_signs (silences t) ts
 
-pub counted_items : (text : List ℕ) (silent : Bool) (ps : List Placed) → counted (items_from text silent ps) ≡ count_signs silent (signs_of (items_from text silent ps))
+pub counted_items : (text : List ℕ) (silent : Bool) (ps : List Placed)
+    → counted (items_from text silent ps) ≡ count_signs silent (signs_of (items_from text silent ps))
 counted_items text silent [] = refl
 counted_items text silent (p ∷ ps) =
-    let here = Rattle.std.proofs.lemmas.List.Sums.sum_by-cons (λ (i : Item Sign). i.weight) (item_by text silent p) (items_from text (silences (sign_at text p)) ps) in
+    let here =
+    Rattle.std.proofs.lemmas.List.Sums.sum_by-cons (λ (i : Item Sign). i.weight) (item_by text silent p)
+    (items_from text (silences (sign_at text p)) ps)
+    in
     let later = counted_items text (silences (sign_at text p)) ps in
     omega (arith, here, later)
 
@@ -38,12 +42,16 @@ action_silences (Lower b) a is = refl
 action_silences (Upper b) a is = refl
 action_silences _ a is = absurd (cc)
 
-count_modal : (m : plain.Modality) (s : Sign) (a : List ℕ) (ts : List Sign) → action_of s ≡ Some a → count_signs false (Begins m ∷ s ∷ Ends m ∷ ts) ≡ 1 + count_signs false ts
+count_modal : (m : plain.Modality) (s : Sign) (a : List ℕ) (ts : List Sign)
+    → action_of s ≡ Some a
+    → count_signs false (Begins m ∷ s ∷ Ends m ∷ ts) ≡ 1 + count_signs false ts
 count_modal m s a ts is =
     let next = ap (λ b. count_signs b (Ends m ∷ ts)) (action_silences s a is) in
     omega (arith, next)
 
-pub counts : {l : grammar.Level} {ts rest : List Sign} {f : Formula} → Reads l ts f rest → count_signs false ts ≡ occurrences f + count_signs false rest
+pub counts : {l : grammar.Level} {ts rest : List Sign} {f : Formula}
+    → Reads l ts f rest
+    → count_signs false ts ≡ occurrences f + count_signs false rest
 counts (iff_alone r) = counts r
 counts (iff a b) = let x = counts a in let y = counts b in omega (arith, x, y)
 counts (imp_alone r) = counts r
@@ -80,7 +88,9 @@ variables (plain.Binary o f g) = variables f ++ variables g
 variables (plain.Modal m a f) = variables f
 variables (plain.Binder q x f) = variables f
 
-words_modal : (m : plain.Modality) (s : Sign) (a : List ℕ) (ts : List Sign) → action_of s ≡ Some a → variable_words false (Begins m ∷ s ∷ Ends m ∷ ts) ≡ variable_words false ts
+words_modal : (m : plain.Modality) (s : Sign) (a : List ℕ) (ts : List Sign)
+    → action_of s ≡ Some a
+    → variable_words false (Begins m ∷ s ∷ Ends m ∷ ts) ≡ variable_words false ts
 words_modal m Blank a ts is = refl
 words_modal m (Lower b) a ts is = refl
 words_modal m (Upper b) a ts is = refl
@@ -89,7 +99,9 @@ words_modal m _ a ts is = absurd (cc)
 words_both : (f g words later rest : List (List ℕ)) → words ≡ f ++ later → later ≡ g ++ rest → words ≡ (f ++ g) ++ rest
 words_both f g words later rest a b = a ∙ ap (λ w. f ++ w) b ∙ sym (append_assoc f g rest)
 
-pub words_are_variables : {l : grammar.Level} {ts rest : List Sign} {f : Formula} → Reads l ts f rest → variable_words false ts ≡ variables f ++ variable_words false rest
+pub words_are_variables : {l : grammar.Level} {ts rest : List Sign} {f : Formula}
+    → Reads l ts f rest
+    → variable_words false ts ≡ variables f ++ variable_words false rest
 words_are_variables (iff_alone r) = words_are_variables r
 words_are_variables (iff a b) = words_both _ _ _ _ _ (words_are_variables a) (words_are_variables b)
 words_are_variables (imp_alone r) = words_are_variables r
@@ -108,20 +120,29 @@ words_are_variables (proposition p) = refl
 words_are_variables (variable x) = refl
 
 -- as many places as words, and as many standings as variables
-place_one : (silent : Bool) (s : Sign) (at : ℕ) (places : List ℕ) (words : List (List ℕ)) → length places ≡ length words → length (if is_variable_at silent s then at ∷ places else places) ≡ length (with_word silent s words)
+place_one : (silent : Bool) (s : Sign) (at : ℕ) (places : List ℕ) (words : List (List ℕ))
+    → length places ≡ length words
+    → length (if is_variable_at silent s then at ∷ places else places) ≡ length (with_word silent s words)
 place_one false (Upper x) at places words same = ap suc same
 place_one true (Upper x) at places words same = same
 place_one false _ at places words same = same
 place_one true _ at places words same = same
 
-pub length-places : (silent : Bool) (is : List (Item Sign)) → length (places_from silent is) ≡ length (variable_words silent (signs_of is))
+pub length-places : (silent : Bool) (is : List (Item Sign))
+    → length (places_from silent is) ≡ length (variable_words silent (signs_of is))
 length-places silent [] = refl
-length-places silent (i ∷ is) = place_one silent i.sign i.at (places_from (silences i.sign) is) (variable_words (silences i.sign) (signs_of is)) (length-places (silences i.sign) is)
+length-places silent (i ∷ is) =
+    place_one silent i.sign i.at (places_from (silences i.sign) is) (variable_words (silences i.sign) (signs_of is))
+    (length-places (silences i.sign) is)
 
-standings_both : {A B : Type 0} (a b : List A) (x y : List B) → length a ≡ length x → length b ≡ length y → length (a ++ b) ≡ length (x ++ y)
+standings_both : {A B : Type 0} (a b : List A) (x y : List B)
+    → length a ≡ length x
+    → length b ≡ length y
+    → length (a ++ b) ≡ length (x ++ y)
 standings_both a b x y p q = omega (arith, length-append a b, length-append x y, p, q)
 
-pub length-standings : (bs : List Around) (n i : ℕ) (f : Formula) → length (standings_in bs n i f) ≡ length (variables f)
+pub length-standings : (bs : List Around) (n i : ℕ) (f : Formula)
+    → length (standings_in bs n i f) ≡ length (variables f)
 length-standings bs n i (plain.Const b) = refl
 length-standings bs n i (plain.Prop p) = refl
 length-standings bs n i (plain.Var x) = refl

@@ -77,14 +77,19 @@ every_undecided true true true false is = cc
 elsewhere : (s k : ℕ) → s ≢ k → (k == s) ≡ false
 elsewhere s k ne = grind (arith, nat_tests)
 
-some_behind : (es : List Edge) (a : List ℕ) (flags : StateSet) (i : ℕ) (e : Edge) (s : ℕ) → i < length es → e ≡ get_or es i e
+some_behind : (es : List Edge) (a : List ℕ) (flags : StateSet) (i : ℕ) (e : Edge) (s : ℕ)
+    → i < length es
+    → e ≡ get_or es i e
     → some_of (take (i + 1) es) a flags s ≡ (some_of (take i es) a flags s || ((e.source == s) && bytes_eq e.action a && is_member flags e.target))
 some_behind es a flags i e s below is =
     let test : Edge → Bool = λ d. (d.source == s) && bytes_eq d.action a && is_member flags d.target in
     list_any_more test es i e below ∙ ap (λ d. list_any test (take i es) || test d) (sym is)
 
-every_behind : (es : List Edge) (a : List ℕ) (flags : StateSet) (i : ℕ) (e : Edge) (s : ℕ) → i < length es → e ≡ get_or es i e
-    → every_of (take (i + 1) es) a flags s ≡ (every_of (take i es) a flags s && (not ((e.source == s) && bytes_eq e.action a) || is_member flags e.target))
+every_behind : (es : List Edge) (a : List ℕ) (flags : StateSet) (i : ℕ) (e : Edge) (s : ℕ)
+    → i < length es
+    → e ≡ get_or es i e
+    → every_of (take (i + 1) es) a flags s
+    ≡ (every_of (take i es) a flags s && (not ((e.source == s) && bytes_eq e.action a) || is_member flags e.target))
 every_behind es a flags i e s below is =
     let test : Edge → Bool = λ d. not ((d.source == s) && bytes_eq d.action a) || is_member flags d.target in
     list_all_more test es i e below ∙ ap (λ d. list_all test (take i es) && test d) (sym is)
@@ -95,18 +100,23 @@ some_start a flags n = table_const false 0 n
 pub every_start : (a : List ℕ) (flags : StateSet) (n : ℕ) → replicate n true ≡ every_states [] a flags n
 every_start a flags n = table_const true 0 n
 
-pub some_more : (es : List Edge) (a : List ℕ) (flags : StateSet) (n i : ℕ) (e : Edge) (before : StateSet) → i < length es → e ≡ get_or es i e
+pub some_more : (es : List Edge) (a : List ℕ) (flags : StateSet) (n i : ℕ) (e : Edge) (before : StateSet)
+    → i < length es
+    → e ≡ get_or es i e
     → e.source < n → leads a flags e ≡ true → before ≡ some_states (take i es) a flags n
     → set before e.source true ≡ some_states (take (i + 1) es) a flags n
 some_more es a flags n i e before below is within decides so_far =
     ap (λ states. set states e.source true) so_far
     ∙ table_set (some_of (take i es) a flags) (some_of (take (i + 1) es) a flags) n e.source true within
     (some_behind es a flags i e e.source below is
-    ∙ some_decided (some_of (take i es) a flags e.source) (e.source == e.source) (bytes_eq e.action a) (is_member flags e.target) decides (eq-eqb e.source e.source refl))
+    ∙ some_decided (some_of (take i es) a flags e.source) (e.source == e.source) (bytes_eq e.action a)
+    (is_member flags e.target) decides (eq-eqb e.source e.source refl))
     (λ s ne. some_behind es a flags i e s below is
     ∙ some_elsewhere (some_of (take i es) a flags s) (e.source == s) (bytes_eq e.action a) (is_member flags e.target) (elsewhere s e.source ne))
 
-pub some_kept : (es : List Edge) (a : List ℕ) (flags : StateSet) (n i : ℕ) (e : Edge) (before : StateSet) → i < length es → e ≡ get_or es i e
+pub some_kept : (es : List Edge) (a : List ℕ) (flags : StateSet) (n i : ℕ) (e : Edge) (before : StateSet)
+    → i < length es
+    → e ≡ get_or es i e
     → leads a flags e ≡ false → before ≡ some_states (take i es) a flags n → before ≡ some_states (take (i + 1) es) a flags n
 some_kept es a flags n i e before below is undecided so_far =
     so_far
@@ -114,18 +124,23 @@ some_kept es a flags n i e before below is undecided so_far =
     (λ s. sym (some_behind es a flags i e s below is
     ∙ some_undecided (some_of (take i es) a flags s) (e.source == s) (bytes_eq e.action a) (is_member flags e.target) undecided))
 
-pub every_more : (es : List Edge) (a : List ℕ) (flags : StateSet) (n i : ℕ) (e : Edge) (before : StateSet) → i < length es → e ≡ get_or es i e
+pub every_more : (es : List Edge) (a : List ℕ) (flags : StateSet) (n i : ℕ) (e : Edge) (before : StateSet)
+    → i < length es
+    → e ≡ get_or es i e
     → e.source < n → leaves a flags e ≡ true → before ≡ every_states (take i es) a flags n
     → set before e.source false ≡ every_states (take (i + 1) es) a flags n
 every_more es a flags n i e before below is within decides so_far =
     ap (λ states. set states e.source false) so_far
     ∙ table_set (every_of (take i es) a flags) (every_of (take (i + 1) es) a flags) n e.source false within
     (every_behind es a flags i e e.source below is
-    ∙ every_decided (every_of (take i es) a flags e.source) (e.source == e.source) (bytes_eq e.action a) (is_member flags e.target) decides (eq-eqb e.source e.source refl))
+    ∙ every_decided (every_of (take i es) a flags e.source) (e.source == e.source) (bytes_eq e.action a)
+    (is_member flags e.target) decides (eq-eqb e.source e.source refl))
     (λ s ne. every_behind es a flags i e s below is
     ∙ every_elsewhere (every_of (take i es) a flags s) (e.source == s) (bytes_eq e.action a) (is_member flags e.target) (elsewhere s e.source ne))
 
-pub every_kept : (es : List Edge) (a : List ℕ) (flags : StateSet) (n i : ℕ) (e : Edge) (before : StateSet) → i < length es → e ≡ get_or es i e
+pub every_kept : (es : List Edge) (a : List ℕ) (flags : StateSet) (n i : ℕ) (e : Edge) (before : StateSet)
+    → i < length es
+    → e ≡ get_or es i e
     → leaves a flags e ≡ false → before ≡ every_states (take i es) a flags n → before ≡ every_states (take (i + 1) es) a flags n
 every_kept es a flags n i e before below is undecided so_far =
     so_far
@@ -133,6 +148,9 @@ every_kept es a flags n i e before below is undecided so_far =
     (λ s. sym (every_behind es a flags i e s below is
     ∙ every_undecided (every_of (take i es) a flags s) (e.source == s) (bytes_eq e.action a) (is_member flags e.target) undecided))
 
-pub in_range : (es : List Edge) (n i : ℕ) (e : Edge) → All (λ d. (d.source < n) × (d.target < n)) es → i < length es → e ≡ get_or es i e
+pub in_range : (es : List Edge) (n i : ℕ) (e : Edge)
+    → All (λ d. (d.source < n) × (d.target < n)) es
+    → i < length es
+    → e ≡ get_or es i e
     → (e.source < n) × (e.target < n)
 in_range es n i e all below is = subst (λ (d : Edge). (d.source < n) × (d.target < n)) (sym is) (all i e below)

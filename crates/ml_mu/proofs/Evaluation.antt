@@ -26,7 +26,9 @@ use Rattle.ml_mu.specs.Meaning.{Given, truth_of, meaning}
 abbrev pub body_step : Structure → Given → List ℕ → Formula → StateSet → StateSet
 body_step m g x f set = meaning m ((x, set) ∷ g) f
 
-pub constant_value : (m : Structure) (g : Given) (b : Bool) (set : StateSet) → set ≡ replicate m.states b → set ≡ meaning m g (Const b)
+pub constant_value : (m : Structure) (g : Given) (b : Bool) (set : StateSet)
+    → set ≡ replicate m.states b
+    → set ≡ meaning m g (Const b)
 constant_value m g b set is = is ∙ table_const b 0 m.states
 
 pub binary_value : (m : Structure) (g : Given) (op : Operator) (f h : Formula) (left right set : StateSet)
@@ -37,11 +39,17 @@ binary_value m g op f h left right set left_is right_is left_long right_long is 
     ∙ ap (λ a. map (λ s. truth_of op (is_member a s) (is_member right s)) (range_with_len 0 m.states)) left_is
     ∙ ap (λ b. map (λ s. truth_of op (is_member (meaning m g f) s) (is_member b s)) (range_with_len 0 m.states)) right_is
 
-pub iterates_once_more : (step : StateSet → StateSet) (first set next : StateSet) (k : ℕ) → set ≡ iterate k step first → next ≡ step set
+pub iterates_once_more : (step : StateSet → StateSet) (first set next : StateSet) (k : ℕ)
+    → set ≡ iterate k step first
+    → next ≡ step set
     → next ≡ iterate (k + 1) step first
 iterates_once_more step first set next k so_far is = is ∙ ap step so_far ∙ sym (iterate_once_more step first k)
 
-pub stops_early : (step : StateSet → StateSet) (first set next : StateSet) (k n : ℕ) → set ≡ iterate k step first → next ≡ step set → next ≡ set → k ≤ n
+pub stops_early : (step : StateSet → StateSet) (first set next : StateSet) (k n : ℕ)
+    → set ≡ iterate k step first
+    → next ≡ step set
+    → next ≡ set
+    → k ≤ n
     → set ≡ iterate n step first
 stops_early step first set next k n so_far is same within =
     so_far ∙ sym (iterate_stays step first k n (ap step (sym so_far) ∙ sym is ∙ same ∙ so_far) within)

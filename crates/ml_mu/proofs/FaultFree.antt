@@ -46,7 +46,10 @@ found_innermost (a ∷ bs) x is =
 same_name : (x : List ℕ) → bytes_eq x x ≡ true
 same_name x = (bytes_eq-Decides x x).1 refl
 
-variable_fine : (bs : List Around) (n i : ℕ) (x : List ℕ) → AreAround bs n i → IsWell bs n i (Var x) → standing_of bs n i x ≡ Fine
+variable_fine : (bs : List Around) (n i : ℕ) (x : List ℕ)
+    → AreAround bs n i
+    → IsWell bs n i (Var x)
+    → standing_of bs n i x ≡ Fine
 variable_fine bs n i x around w =
     let found = found_innermost bs x w.bound in
     let inside = around x found.0 found.1 in
@@ -64,13 +67,19 @@ variable_fine bs n i x around w =
 
 -- ---- the parts of a formula
 
-only_inside : (b : Around) (n i : ℕ) (x : List ℕ) (f : Formula) → b.negations ≤ n → IsOnly b n i x (Not f) → IsOnly b (n + 1) i x f
+only_inside : (b : Around) (n i : ℕ) (x : List ℕ) (f : Formula)
+    → b.negations ≤ n
+    → IsOnly b n i x (Not f)
+    → IsOnly b (n + 1) i x f
 only_inside b n i x f le only = record {
   here = λ same. ap (λ s. occurs_only s x f) (even_more n b.negations le) ∙ only.here same;
   under = λ less. ((only.under less).1, (only.under less).0);
 }
 
-pub not_well : (bs : List Around) (n i : ℕ) (f : Formula) → AreAround bs n i → IsWell bs n i (Not f) → IsWell bs (n + 1) i f
+pub not_well : (bs : List Around) (n i : ℕ) (f : Formula)
+    → AreAround bs n i
+    → IsWell bs n i (Not f)
+    → IsWell bs (n + 1) i f
 not_well bs n i f around w = record {
   bound = w.bound;
   positive = w.positive;
@@ -95,7 +104,9 @@ only_right b n i x f g only = record {
   );
 }
 
-pub and_well : (bs : List Around) (n i : ℕ) (f g : Formula) → IsWell bs n i (Binary And f g) → IsWell bs n i f × IsWell bs n i g
+pub and_well : (bs : List Around) (n i : ℕ) (f g : Formula)
+    → IsWell bs n i (Binary And f g)
+    → IsWell bs n i f × IsWell bs n i g
 and_well bs n i f g w =
     let bound = and_parts (is_bound (names bs) f) (is_bound (names bs) g) w.bound in
     let positive = and_parts (is_positive f) (is_positive g) w.positive in (
@@ -104,14 +115,18 @@ and_well bs n i f g w =
     )
 
 -- an or stands as an and does, and an implication as the and with its left operand negated
-or_as_and : (bs : List Around) (n i : ℕ) (f g : Formula) → IsWell bs n i (Binary Or f g) → IsWell bs n i (Binary And f g)
+or_as_and : (bs : List Around) (n i : ℕ) (f g : Formula)
+    → IsWell bs n i (Binary Or f g)
+    → IsWell bs n i (Binary And f g)
 or_as_and bs n i f g w = record {
   bound = w.bound;
   positive = w.positive;
   only = λ x b is. let o : IsOnly b n i x (Binary Or f g) = w.only x b is in record { here = o.here; under = o.under };
 }
 
-implies_as_and : (bs : List Around) (n i : ℕ) (f g : Formula) → IsWell bs n i (Binary Implies f g) → IsWell bs n i (Binary And (Not f) g)
+implies_as_and : (bs : List Around) (n i : ℕ) (f g : Formula)
+    → IsWell bs n i (Binary Implies f g)
+    → IsWell bs n i (Binary And (Not f) g)
 implies_as_and bs n i f g w = record {
   bound = w.bound;
   positive = w.positive;
@@ -155,7 +170,10 @@ other_name y x other =
     (λ (is : bytes_eq x y ≡ false). is)
     (cases_Bool (bytes_eq x y))
 
-only_outer : (q : Fixpoint) (b : Around) (n i : ℕ) (x y : List ℕ) (f : Formula) → bytes_eq x y ≡ false → IsOnly b n i x (Binder q y f) → IsOnly b n i x f
+only_outer : (q : Fixpoint) (b : Around) (n i : ℕ) (x y : List ℕ) (f : Formula)
+    → bytes_eq x y ≡ false
+    → IsOnly b n i x (Binder q y f)
+    → IsOnly b n i x f
 only_outer q b n i x y f other only = record {
   here = λ same. sym (cond-false (bytes_eq x y) true (occurs_only (even_from n b.negations) x f) other) ∙ only.here same;
   under = λ less. (
@@ -199,7 +217,10 @@ both_fine (Fine ∷ a) b x y = both_fine a b x y
 both_fine (Unbound ∷ a) b x y = absurd (cc)
 both_fine (NotPositive ∷ a) b x y = absurd (cc)
 
-pub fine : (f : Formula) (bs : List Around) (n i : ℕ) → AreAround bs n i → IsWell bs n i f → are_fine (standings_in bs n i f) ≡ true
+pub fine : (f : Formula) (bs : List Around) (n i : ℕ)
+    → AreAround bs n i
+    → IsWell bs n i f
+    → are_fine (standings_in bs n i f) ≡ true
 fine (Const c) bs n i around w = refl
 fine (Prop p) bs n i around w = refl
 fine (Var x) bs n i around w = ap (λ s. are_fine (s ∷ [])) (variable_fine bs n i x around w)

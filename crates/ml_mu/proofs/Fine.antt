@@ -4,7 +4,8 @@
 --   even_from n k      == an even number of negations stands between the k-th and the n-th
 --   IsOnly b n i x f   == x occurs in f only as the binder b allows it there, under n negations and i iffs
 --   fine_well          == a formula without faults has its variables bound and positive
-use Rattle.std.proofs.Common.{◌≡◌, ℕ, ◌+◌, ◌-◌, ◌%◌, ◌<◌, ◌≤◌, Bool, true, false, ◌&&◌, not, ◌==◌, List, [], ◌∷◌, ◌++◌, map, Option, Some, None, refl, sym, ◌∙◌, ap, subst, ⊎_elim, arith, if◌then◌else◌, cond, bytes_eq, eqb-true}
+use Rattle.std.proofs.Common.{◌≡◌, ℕ, ◌+◌, ◌-◌, ◌%◌, ◌<◌, ◌≤◌, Bool, true, false, ◌&&◌, not, ◌==◌, List, [], ◌∷◌, ◌++◌, map, Option, Some}
+use Rattle.std.proofs.Common.{None, refl, sym, ◌∙◌, ap, subst, ⊎_elim, arith, if◌then◌else◌, cond, bytes_eq, eqb-true}
 use Rattle.std.proofs.lemmas.Bool.{eqb-false}
 use Rattle.std.specs.List.{list_any}
 use Rattle.std.proofs.lemmas.Bool.{and_from, or_left, or_right, cases_Bool, cond-true, cond-false}
@@ -50,29 +51,59 @@ pub record FineAt (bs : List Around) (n i : ℕ) (x : List ℕ) : Type 0 where
   pub same : i ≡ binder.iffs
   pub even : even_from n binder.negations ≡ true
 
-fine_here : (b : Around) (bs : List Around) (n i : ℕ) (x : List ℕ) (at even : Bool) → (i == b.iffs) ≡ at → even_from n b.negations ≡ even → bytes_eq b.name x ≡ true → cond (at && even) Fine NotPositive ≡ Fine → FineAt (b ∷ bs) n i x
-fine_here b bs n i x true true p q is fine = record { binder = b; found = cond-true (bytes_eq b.name x) (Some b) (innermost bs x) is; same = eqb-true i b.iffs p; even = q }
+fine_here : (b : Around) (bs : List Around) (n i : ℕ) (x : List ℕ) (at even : Bool)
+    → (i == b.iffs) ≡ at
+    → even_from n b.negations ≡ even
+    → bytes_eq b.name x ≡ true
+    → cond (at && even) Fine NotPositive ≡ Fine
+    → FineAt (b ∷ bs) n i x
+fine_here b bs n i x true true p q is fine =
+    record {
+      binder = b;
+      found = cond-true (bytes_eq b.name x) (Some b) (innermost bs x) is;
+      same = eqb-true i b.iffs p;
+      even = q;
+    }
 fine_here b bs n i x true false p q is fine = absurd (cc)
 fine_here b bs n i x false even p q is fine = absurd (cc)
 
-fine_later : (b : Around) (bs : List Around) (n i : ℕ) (x : List ℕ) → bytes_eq b.name x ≡ false → FineAt bs n i x → FineAt (b ∷ bs) n i x
-fine_later b bs n i x is f = record { binder = f.binder; found = cond-false (bytes_eq b.name x) (Some b) (innermost bs x) is ∙ f.found; same = f.same; even = f.even }
+fine_later : (b : Around) (bs : List Around) (n i : ℕ) (x : List ℕ)
+    → bytes_eq b.name x ≡ false
+    → FineAt bs n i x
+    → FineAt (b ∷ bs) n i x
+fine_later b bs n i x is f =
+    record {
+      binder = f.binder;
+      found = cond-false (bytes_eq b.name x) (Some b) (innermost bs x) is ∙ f.found;
+      same = f.same;
+      even = f.even;
+    }
 
 fine_at : (bs : List Around) (n i : ℕ) (x : List ℕ) → standing_of bs n i x ≡ Fine → FineAt bs n i x
 fine_at [] n i x fine = absurd (cc)
 fine_at (b ∷ bs) n i x fine =
     ⊎_elim
-    (λ (is : bytes_eq b.name x ≡ true). fine_here b bs n i x (i == b.iffs) (even_from n b.negations) refl refl is (sym (cond-true (bytes_eq b.name x) (cond ((i == b.iffs) && even_from n b.negations) Fine NotPositive) (standing_of bs n i x) is) ∙ fine))
-    (λ (is : bytes_eq b.name x ≡ false). fine_later b bs n i x is (fine_at bs n i x (sym (cond-false (bytes_eq b.name x) (cond ((i == b.iffs) && even_from n b.negations) Fine NotPositive) (standing_of bs n i x) is) ∙ fine)))
+    (λ (is : bytes_eq b.name x ≡ true). fine_here b bs n i x (i == b.iffs) (even_from n b.negations) refl refl is
+    (sym (cond-true (bytes_eq b.name x) (cond ((i == b.iffs) && even_from n b.negations) Fine NotPositive)
+    (standing_of bs n i x) is)
+    ∙ fine))
+    (λ (is : bytes_eq b.name x ≡ false). fine_later b bs n i x is
+    (fine_at bs n i x
+    (sym (cond-false (bytes_eq b.name x) (cond ((i == b.iffs) && even_from n b.negations) Fine NotPositive)
+    (standing_of bs n i x) is)
+    ∙ fine)))
     (cases_Bool (bytes_eq b.name x))
 
 -- a name with a binder is among the names
-found_bound : (bs : List Around) (x : List ℕ) (b : Around) → innermost bs x ≡ Some b → list_any (λ y. bytes_eq y x) (names bs) ≡ true
+found_bound : (bs : List Around) (x : List ℕ) (b : Around)
+    → innermost bs x ≡ Some b
+    → list_any (λ y. bytes_eq y x) (names bs) ≡ true
 found_bound [] x b is = absurd (cc)
 found_bound (a ∷ bs) x b is =
     ⊎_elim
     (λ (here : bytes_eq a.name x ≡ true). or_left (bytes_eq a.name x) (list_any (λ y. bytes_eq y x) (names bs)) here)
-    (λ (other : bytes_eq a.name x ≡ false). or_right (bytes_eq a.name x) (list_any (λ y. bytes_eq y x) (names bs)) (found_bound bs x b (sym (cond-false (bytes_eq a.name x) (Some a) (innermost bs x) other) ∙ is)))
+    (λ (other : bytes_eq a.name x ≡ false). or_right (bytes_eq a.name x) (list_any (λ y. bytes_eq y x) (names bs))
+    (found_bound bs x b (sym (cond-false (bytes_eq a.name x) (Some a) (innermost bs x) other) ∙ is)))
     (cases_Bool (bytes_eq a.name x))
 
 -- x occurs in f only as its binder b allows, where n negations and i iffs stand around f
@@ -91,27 +122,51 @@ pub record IsWell (bs : List Around) (n i : ℕ) (f : Formula) : Type 0 where
 
 -- ---- one line for each kind of formula
 
-only_both : (b : Around) (n i : ℕ) (x : List ℕ) (f g : Formula) → IsOnly b n i x f → IsOnly b n i x g → IsOnly b n i x (Binary And f g)
+only_both : (b : Around) (n i : ℕ) (x : List ℕ) (f g : Formula)
+    → IsOnly b n i x f
+    → IsOnly b n i x g
+    → IsOnly b n i x (Binary And f g)
 only_both b n i x f g p q = record {
   here = λ same. and_from (occurs_only (even_from n b.negations) x f) (occurs_only (even_from n b.negations) x g) (p.here same) (q.here same);
-  under = λ less. (and_from (occurs_only true x f) (occurs_only true x g) (p.under less).0 (q.under less).0, and_from (occurs_only false x f) (occurs_only false x g) (p.under less).1 (q.under less).1);
+  under =
+      λ less. (
+        and_from (occurs_only true x f) (occurs_only true x g) (p.under less).0 (q.under less).0,
+        and_from (occurs_only false x f) (occurs_only false x g) (p.under less).1 (q.under less).1,
+      );
 }
 
-only_not : (b : Around) (n i : ℕ) (x : List ℕ) (f : Formula) → b.negations ≤ n → IsOnly b (n + 1) i x f → IsOnly b n i x (Not f)
+only_not : (b : Around) (n i : ℕ) (x : List ℕ) (f : Formula)
+    → b.negations ≤ n
+    → IsOnly b (n + 1) i x f
+    → IsOnly b n i x (Not f)
 only_not b n i x f le p = record {
   here = λ same. ap (λ s. occurs_only s x f) (sym (even_more n b.negations le)) ∙ p.here same;
   under = λ less. ((p.under less).1, (p.under less).0);
 }
 
-only_implies : (b : Around) (n i : ℕ) (x : List ℕ) (f g : Formula) → b.negations ≤ n → IsOnly b (n + 1) i x f → IsOnly b n i x g → IsOnly b n i x (Binary Implies f g)
+only_implies : (b : Around) (n i : ℕ) (x : List ℕ) (f g : Formula)
+    → b.negations ≤ n
+    → IsOnly b (n + 1) i x f
+    → IsOnly b n i x g
+    → IsOnly b n i x (Binary Implies f g)
 only_implies b n i x f g le p q =
     let left : IsOnly b n i x (Not f) = only_not b n i x f le p in
     record {
-      here = λ same. and_from (occurs_only (not (even_from n b.negations)) x f) (occurs_only (even_from n b.negations) x g) (left.here same) (q.here same);
-      under = λ less. (and_from (occurs_only false x f) (occurs_only true x g) (left.under less).0 (q.under less).0, and_from (occurs_only true x f) (occurs_only false x g) (left.under less).1 (q.under less).1);
+      here =
+          λ same. and_from (occurs_only (not (even_from n b.negations)) x f) (occurs_only (even_from n b.negations) x g)
+          (left.here same) (q.here same);
+      under =
+          λ less. (
+            and_from (occurs_only false x f) (occurs_only true x g) (left.under less).0 (q.under less).0,
+            and_from (occurs_only true x f) (occurs_only false x g) (left.under less).1 (q.under less).1,
+          );
     }
 
-only_iff : (b : Around) (n i : ℕ) (x : List ℕ) (f g : Formula) → b.iffs ≤ i → IsOnly b n (i + 1) x f → IsOnly b n (i + 1) x g → IsOnly b n i x (Binary Iff f g)
+only_iff : (b : Around) (n i : ℕ) (x : List ℕ) (f g : Formula)
+    → b.iffs ≤ i
+    → IsOnly b n (i + 1) x f
+    → IsOnly b n (i + 1) x g
+    → IsOnly b n i x (Binary Iff f g)
 only_iff b n i x f g le p q =
     let less : b.iffs < i + 1 = omega arith in
     let l = p.under less in
@@ -121,15 +176,24 @@ only_iff b n i x f g le p q =
     in
     record { here = λ same. all; under = λ less. (all, all) }
 
-only_binder : (q : Rattle.ml_mu.specs.Formula.Fixpoint) (b : Around) (n i : ℕ) (x y : List ℕ) (f : Formula) → (bytes_eq y x ≡ false → IsOnly b n i x f) → IsOnly b n i x (Binder q y f)
+only_binder : (q : Rattle.ml_mu.specs.Formula.Fixpoint) (b : Around) (n i : ℕ) (x y : List ℕ) (f : Formula)
+    → (bytes_eq y x ≡ false → IsOnly b n i x f)
+    → IsOnly b n i x (Binder q y f)
 only_binder q b n i x y f later =
     ⊎_elim
-    (λ (same : bytes_eq x y ≡ true). let all : (s : Bool) → cond (bytes_eq x y) true (occurs_only s x f) ≡ true = λ s. cond-true (bytes_eq x y) true (occurs_only s x f) same in record { here = λ e. all (even_from n b.negations); under = λ l. (all true, all false) })
+    (λ (same : bytes_eq x y ≡ true). let all : (s : Bool) → cond (bytes_eq x y) true (occurs_only s x f) ≡ true =
+    λ s. cond-true (bytes_eq x y) true (occurs_only s x f) same
+    in
+    record { here = λ e. all (even_from n b.negations); under = λ l. (all true, all false) })
     (λ (other : bytes_eq x y ≡ false).
     let o : IsOnly b n i x f = later (not_same y x other) in
     record {
       here = λ e. cond-false (bytes_eq x y) true (occurs_only (even_from n b.negations) x f) other ∙ o.here e;
-      under = λ l. (cond-false (bytes_eq x y) true (occurs_only true x f) other ∙ (o.under l).0, cond-false (bytes_eq x y) true (occurs_only false x f) other ∙ (o.under l).1);
+      under =
+          λ l. (
+            cond-false (bytes_eq x y) true (occurs_only true x f) other ∙ (o.under l).0,
+            cond-false (bytes_eq x y) true (occurs_only false x f) other ∙ (o.under l).1,
+          );
     })
     (cases_Bool (bytes_eq x y))
   where
@@ -176,13 +240,22 @@ around_iff bs n i around = λ x b is. let a = around x b is in (a.0, omega arith
 pub around_binder : (bs : List Around) (n i : ℕ) (x : List ℕ) → AreAround bs n i → AreAround (record { name = x; negations = n; iffs = i } ∷ bs) n i
 around_binder bs n i x around = λ y b is.
     ⊎_elim
-    (λ (here : bytes_eq x y ≡ true). let e : (record { name = x; negations = n; iffs = i }) ≡ b = cc (sym (cond-true (bytes_eq x y) (Some (record { name = x; negations = n; iffs = i })) (innermost bs y) here) ∙ is) in subst (λ c. (c.negations ≤ n) × (c.iffs ≤ i)) e (omega arith, omega arith))
-    (λ (other : bytes_eq x y ≡ false). around y b (sym (cond-false (bytes_eq x y) (Some (record { name = x; negations = n; iffs = i })) (innermost bs y) other) ∙ is))
+    (λ (here : bytes_eq x y ≡ true). let e : (record { name = x; negations = n; iffs = i }) ≡ b =
+    cc
+    (sym (cond-true (bytes_eq x y) (Some (record { name = x; negations = n; iffs = i })) (innermost bs y) here) ∙ is)
+    in
+    subst (λ c. (c.negations ≤ n) × (c.iffs ≤ i)) e (omega arith, omega arith))
+    (λ (other : bytes_eq x y ≡ false). around y b
+    (sym (cond-false (bytes_eq x y) (Some (record { name = x; negations = n; iffs = i })) (innermost bs y) other)
+    ∙ is))
     (cases_Bool (bytes_eq x y))
 
 -- ---- all formulas
 
-pub well : (f : Formula) (bs : List Around) (n i : ℕ) → AreAround bs n i → are_fine (standings_in bs n i f) ≡ true → IsWell bs n i f
+pub well : (f : Formula) (bs : List Around) (n i : ℕ)
+    → AreAround bs n i
+    → are_fine (standings_in bs n i f) ≡ true
+    → IsWell bs n i f
 well (Const c) bs n i around fine = record { bound = refl; positive = refl; only = λ x b is. record { here = λ e. refl; under = λ l. (refl, refl) } }
 well (Prop p) bs n i around fine = record { bound = refl; positive = refl; only = λ x b is. record { here = λ e. refl; under = λ l. (refl, refl) } }
 well (Var x) bs n i around fine = well_var bs n i x (fine_one (standing_of bs n i x) fine)
@@ -193,22 +266,41 @@ well (Binary And f g) bs n i around fine =
     let parts = fine_parts (standings_in bs n i f) (standings_in bs n i g) fine in
     let l : IsWell bs n i f = well f bs n i around parts.0 in
     let r : IsWell bs n i g = well g bs n i around parts.1 in
-    record { bound = and_from (is_bound (names bs) f) (is_bound (names bs) g) l.bound r.bound; positive = and_from (is_positive f) (is_positive g) l.positive r.positive; only = λ x b is. only_both b n i x f g (l.only x b is) (r.only x b is) }
+    record {
+      bound = and_from (is_bound (names bs) f) (is_bound (names bs) g) l.bound r.bound;
+      positive = and_from (is_positive f) (is_positive g) l.positive r.positive;
+      only = λ x b is. only_both b n i x f g (l.only x b is) (r.only x b is);
+    }
 well (Binary Or f g) bs n i around fine =
     let parts = fine_parts (standings_in bs n i f) (standings_in bs n i g) fine in
     let l : IsWell bs n i f = well f bs n i around parts.0 in
     let r : IsWell bs n i g = well g bs n i around parts.1 in
-    record { bound = and_from (is_bound (names bs) f) (is_bound (names bs) g) l.bound r.bound; positive = and_from (is_positive f) (is_positive g) l.positive r.positive; only = λ x b is. let o : IsOnly b n i x (Binary And f g) = only_both b n i x f g (l.only x b is) (r.only x b is) in record { here = o.here; under = o.under } }
+    record {
+      bound = and_from (is_bound (names bs) f) (is_bound (names bs) g) l.bound r.bound;
+      positive = and_from (is_positive f) (is_positive g) l.positive r.positive;
+      only =
+          λ x b is.
+          let o : IsOnly b n i x (Binary And f g) = only_both b n i x f g (l.only x b is) (r.only x b is) in
+          record { here = o.here; under = o.under };
+    }
 well (Binary Implies f g) bs n i around fine =
     let parts = fine_parts (standings_in bs (n + 1) i f) (standings_in bs n i g) fine in
     let l : IsWell bs (n + 1) i f = well f bs (n + 1) i (around_more bs n i around) parts.0 in
     let r : IsWell bs n i g = well g bs n i around parts.1 in
-    record { bound = and_from (is_bound (names bs) f) (is_bound (names bs) g) l.bound r.bound; positive = and_from (is_positive f) (is_positive g) l.positive r.positive; only = λ x b is. only_implies b n i x f g (around x b is).0 (l.only x b is) (r.only x b is) }
+    record {
+      bound = and_from (is_bound (names bs) f) (is_bound (names bs) g) l.bound r.bound;
+      positive = and_from (is_positive f) (is_positive g) l.positive r.positive;
+      only = λ x b is. only_implies b n i x f g (around x b is).0 (l.only x b is) (r.only x b is);
+    }
 well (Binary Iff f g) bs n i around fine =
     let parts = fine_parts (standings_in bs n (i + 1) f) (standings_in bs n (i + 1) g) fine in
     let l : IsWell bs n (i + 1) f = well f bs n (i + 1) (around_iff bs n i around) parts.0 in
     let r : IsWell bs n (i + 1) g = well g bs n (i + 1) (around_iff bs n i around) parts.1 in
-    record { bound = and_from (is_bound (names bs) f) (is_bound (names bs) g) l.bound r.bound; positive = and_from (is_positive f) (is_positive g) l.positive r.positive; only = λ x b is. only_iff b n i x f g (around x b is).1 (l.only x b is) (r.only x b is) }
+    record {
+      bound = and_from (is_bound (names bs) f) (is_bound (names bs) g) l.bound r.bound;
+      positive = and_from (is_positive f) (is_positive g) l.positive r.positive;
+      only = λ x b is. only_iff b n i x f g (around x b is).1 (l.only x b is) (r.only x b is);
+    }
 well (Modal m a f) bs n i around fine =
     let w : IsWell bs n i f = well f bs n i around fine in
     record { bound = w.bound; positive = w.positive; only = λ x b is. let o : IsOnly b n i x f = w.only x b is in record { here = o.here; under = o.under } }

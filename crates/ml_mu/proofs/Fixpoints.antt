@@ -42,7 +42,8 @@ same_by_members : (s t : StateSet) → length s ≡ length t → Within s t → 
 same_by_members [] [] long within few = refl
 same_by_members [] (b ∷ t) long within few = absurd (omega arith)
 same_by_members (a ∷ s) [] long within few = absurd (omega arith)
-same_by_members (true ∷ s) (true ∷ t) long within few = ap (λ rest. true ∷ rest) (same_by_members s t (omega arith) (λ k. within (suc k)) (omega arith))
+same_by_members (true ∷ s) (true ∷ t) long within few =
+    ap (λ rest. true ∷ rest) (same_by_members s t (omega arith) (λ k. within (suc k)) (omega arith))
 same_by_members (true ∷ s) (false ∷ t) long within few = absurd (true≢false (sym (within 0 refl)))
 same_by_members (false ∷ s) (true ∷ t) long within few =
     let grown = members_grow s t (omega arith) (λ k. within (suc k)) in absurd (omega arith)
@@ -59,11 +60,14 @@ same_or_more n s t below =
 abbrev Stays : (StateSet → StateSet) → StateSet → ℕ → Type 0
 Stays step first k = (j : ℕ) × (j ≤ k) × (step (iterate j step first) ≡ iterate j step first)
 
-stays_on : (step : StateSet → StateSet) (first : StateSet) (n : ℕ) → Stays step first n → step (iterate n step first) ≡ iterate n step first
+stays_on : (step : StateSet → StateSet) (first : StateSet) (n : ℕ)
+    → Stays step first n
+    → step (iterate n step first) ≡ iterate n step first
 stays_on step first n (j, within, same) =
     let whole = iterate_stays step first j n same within in ap step whole ∙ same ∙ sym whole
 
-rises : (step : StateSet → StateSet) (first : StateSet) (n : ℕ) → ((k : ℕ) → Ordered n (iterate k step first) (iterate (suc k) step first))
+rises : (step : StateSet → StateSet) (first : StateSet) (n : ℕ)
+    → ((k : ℕ) → Ordered n (iterate k step first) (iterate (suc k) step first))
     → (k : ℕ) → Stays step first k ⊎ (k ≤ members (iterate k step first))
 rises step first n ordered zero = inr (omega arith)
 rises step first n ordered (suc k) =
@@ -79,7 +83,8 @@ rises step first n ordered (suc k) =
     later : (j : ℕ) → j ≤ k → j ≤ suc k
     later j h = omega arith
 
-pub ascends_to_fixpoint : (step : StateSet → StateSet) (first : StateSet) (n : ℕ) → ((k : ℕ) → Ordered n (iterate k step first) (iterate (suc k) step first))
+pub ascends_to_fixpoint : (step : StateSet → StateSet) (first : StateSet) (n : ℕ)
+    → ((k : ℕ) → Ordered n (iterate k step first) (iterate (suc k) step first))
     → step (iterate n step first) ≡ iterate n step first
 ascends_to_fixpoint step first n ordered =
     ⊎_elim
@@ -94,7 +99,8 @@ ascends_to_fixpoint step first n ordered =
     (same_or_more n (iterate n step first) (iterate (suc n) step first) (ordered n)))
     (rises step first n ordered n)
 
-falls : (step : StateSet → StateSet) (first : StateSet) (n : ℕ) → ((k : ℕ) → Ordered n (iterate (suc k) step first) (iterate k step first))
+falls : (step : StateSet → StateSet) (first : StateSet) (n : ℕ)
+    → ((k : ℕ) → Ordered n (iterate (suc k) step first) (iterate k step first))
     → (k : ℕ) → Stays step first k ⊎ (members (iterate k step first) + k ≤ n)
 falls step first n ordered zero =
     let most = members_most first in let long = (ordered 0).2 in inr (omega (arith, most, long))
@@ -111,7 +117,8 @@ falls step first n ordered (suc k) =
     later : (j : ℕ) → j ≤ k → j ≤ suc k
     later j h = omega arith
 
-pub descends_to_fixpoint : (step : StateSet → StateSet) (first : StateSet) (n : ℕ) → ((k : ℕ) → Ordered n (iterate (suc k) step first) (iterate k step first))
+pub descends_to_fixpoint : (step : StateSet → StateSet) (first : StateSet) (n : ℕ)
+    → ((k : ℕ) → Ordered n (iterate (suc k) step first) (iterate k step first))
     → step (iterate n step first) ≡ iterate n step first
 descends_to_fixpoint step first n ordered =
     ⊎_elim
@@ -123,33 +130,49 @@ descends_to_fixpoint step first n ordered =
     (same_or_more n (iterate (suc n) step first) (iterate n step first) (ordered n)))
     (falls step first n ordered n)
 
-pub meaning_fixpoint : (m : Structure) (q : Fixpoint) (x : List ℕ) (f : Formula) (g : Given) → is_positive (Binder q x f) ≡ true → HaveFlags m.states g
+pub meaning_fixpoint : (m : Structure) (q : Fixpoint) (x : List ℕ) (f : Formula) (g : Given)
+    → is_positive (Binder q x f) ≡ true
+    → HaveFlags m.states g
     → meaning m ((x, meaning m g (Binder q x f)) ∷ g) f ≡ meaning m g (Binder q x f)
 meaning_fixpoint m Least x f g positive flags =
     ascends_to_fixpoint (λ set. meaning m ((x, set) ∷ g) f) (first_iterate m Least) m.states (λ k. least_ascends m x f g k positive flags)
 meaning_fixpoint m Greatest x f g positive flags =
     descends_to_fixpoint (λ set. meaning m ((x, set) ∷ g) f) (first_iterate m Greatest) m.states (λ k. greatest_descends m x f g k positive flags)
 
-least_below : (m : Structure) (x : List ℕ) (f : Formula) (g : Given) (s : StateSet) (k : ℕ) → is_positive (Binder Least x f) ≡ true → HaveFlags m.states g
+least_below : (m : Structure) (x : List ℕ) (f : Formula) (g : Given) (s : StateSet) (k : ℕ)
+    → is_positive (Binder Least x f) ≡ true
+    → HaveFlags m.states g
     → length s ≡ m.states → Within (meaning m ((x, s) ∷ g) f) s → Within (iterate k (λ set. meaning m ((x, set) ∷ g) f) (first_iterate m Least)) s
 least_below m x f g s zero positive flags long keeps = nowhere_within m.states s
 least_below m x f g s (suc k) positive flags long keeps =
     let before = iterate k (λ set. meaning m ((x, set) ∷ g) f) (first_iterate m Least) in
-    let grown = body_grows m Least x f g before s positive flags ((least_ascends m x f g k positive flags).1) long (least_below m x f g s k positive flags long keeps) in
+    let grown =
+    body_grows m Least x f g before s positive flags ((least_ascends m x f g k positive flags).1) long
+    (least_below m x f g s k positive flags long keeps)
+    in
     λ i inside. keeps i (grown i inside)
 
-pub least_within : (m : Structure) (x : List ℕ) (f : Formula) (g : Given) (s : StateSet) → is_positive (Binder Least x f) ≡ true → HaveFlags m.states g
+pub least_within : (m : Structure) (x : List ℕ) (f : Formula) (g : Given) (s : StateSet)
+    → is_positive (Binder Least x f) ≡ true
+    → HaveFlags m.states g
     → length s ≡ m.states → Within (meaning m ((x, s) ∷ g) f) s → Within (meaning m g (Binder Least x f)) s
 least_within m x f g s positive flags long keeps = least_below m x f g s m.states positive flags long keeps
 
-greatest_above : (m : Structure) (x : List ℕ) (f : Formula) (g : Given) (s : StateSet) (k : ℕ) → is_positive (Binder Greatest x f) ≡ true → HaveFlags m.states g
+greatest_above : (m : Structure) (x : List ℕ) (f : Formula) (g : Given) (s : StateSet) (k : ℕ)
+    → is_positive (Binder Greatest x f) ≡ true
+    → HaveFlags m.states g
     → length s ≡ m.states → Within s (meaning m ((x, s) ∷ g) f) → Within s (iterate k (λ set. meaning m ((x, set) ∷ g) f) (first_iterate m Greatest))
 greatest_above m x f g s zero positive flags long keeps = within_everywhere m.states s long
 greatest_above m x f g s (suc k) positive flags long keeps =
     let before = iterate k (λ set. meaning m ((x, set) ∷ g) f) (first_iterate m Greatest) in
-    let grown = body_grows m Greatest x f g s before positive flags long ((greatest_descends m x f g k positive flags).2) (greatest_above m x f g s k positive flags long keeps) in
+    let grown =
+    body_grows m Greatest x f g s before positive flags long ((greatest_descends m x f g k positive flags).2)
+    (greatest_above m x f g s k positive flags long keeps)
+    in
     λ i inside. grown i (keeps i inside)
 
-pub greatest_around : (m : Structure) (x : List ℕ) (f : Formula) (g : Given) (s : StateSet) → is_positive (Binder Greatest x f) ≡ true → HaveFlags m.states g
+pub greatest_around : (m : Structure) (x : List ℕ) (f : Formula) (g : Given) (s : StateSet)
+    → is_positive (Binder Greatest x f) ≡ true
+    → HaveFlags m.states g
     → length s ≡ m.states → Within s (meaning m ((x, s) ∷ g) f) → Within s (meaning m g (Binder Greatest x f))
 greatest_around m x f g s positive flags long keeps = greatest_above m x f g s m.states positive flags long keeps

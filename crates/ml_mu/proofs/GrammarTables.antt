@@ -6,7 +6,8 @@ use Rattle.std.proofs.Common.{◌≡◌, ℕ, ◌≤◌, false, List, [], ◌∷
 use Rattle.ml_text.specs.declared.token.Operator.{Operator}
 use Rattle.ml_text.specs.declared.token.Operator.TheVariants as operator
 use Rattle.ml_text.specs.Grammar as tables
-use Rattle.ml_text.specs.Grammar.{Whole, More, Read, Inner, Opens, Part, Level, Operand, Rest, Behind, alone, joined, postfixed, form, whole, sign, read, inner, opens, left_level, right_level, takes, front}
+use Rattle.ml_text.specs.Grammar.{Whole, More, Read, Inner, Opens, Part, Level, Operand, Rest, Behind, alone, joined, postfixed}
+use Rattle.ml_text.specs.Grammar.{form, whole, sign, read, inner, opens, left_level, right_level, takes, front}
 use Rattle.ml_text.specs.declared.forms.Role.TheVariants.{Infix}
 use Rattle.ml_text.specs.Operators.{operator_level}
 use Rattle.ml_text.proofs.Levels.{loosen}
@@ -53,7 +54,9 @@ part grammar.Or = Level tt 2
 part grammar.And = Level tt 3
 part grammar.Un = Operand tt
 
-shift_begin_action : (m : Modality) (s : Sign) (a : List ℕ) → action_of s ≡ Some a → shift (BehindBegin m) s ≡ Some (Read (More (BehindAction m a)))
+shift_begin_action : (m : Modality) (s : Sign) (a : List ℕ)
+    → action_of s ≡ Some a
+    → shift (BehindBegin m) s ≡ Some (Read (More (BehindAction m a)))
 shift_begin_action Diamond Blank a e = let same : codes "_" ≡ a = cc in ap (λ b. Some (Read (More (BehindAction Diamond b)))) same
 shift_begin_action Square Blank a e = let same : codes "_" ≡ a = cc in ap (λ b. Some (Read (More (BehindAction Square b)))) same
 shift_begin_action Diamond (Lower b) a e = let same : b ≡ a = cc in ap (λ b. Some (Read (More (BehindAction Diamond b)))) same
@@ -71,10 +74,15 @@ shift_action_end Diamond a = refl
 shift_action_end Square a = refl
 
 -- a sign of a form, by what it does
-sign_by : {q : Wait} {t : Sign} {ts rest : List Sign} {f : Formula} (turn : Option MuTurn) → shift q t ≡ turn → Tabled (Behind t turn) ts f rest → Tabled (Rest (More q)) (t ∷ ts) f rest
+sign_by : {q : Wait} {t : Sign} {ts rest : List Sign} {f : Formula} (turn : Option MuTurn)
+    → shift q t ≡ turn
+    → Tabled (Behind t turn) ts f rest
+    → Tabled (Rest (More q)) (t ∷ ts) f rest
 sign_by {q} {t} {ts} {rest} {f} turn is r = sign (subst (λ x. Tabled (Behind t x) ts f rest) (sym is) r)
 
-modal_read : {t : Sign} {ts rest : List Sign} {f : Formula} (m : Modality) (a : List ℕ) → Tabled (Operand tt) ts f rest → Tabled (Behind t (Some (Inner (Modal m a)))) ts (plain.Modal m a f) rest
+modal_read : {t : Sign} {ts rest : List Sign} {f : Formula} (m : Modality) (a : List ℕ)
+    → Tabled (Operand tt) ts f rest
+    → Tabled (Behind t (Some (Inner (Modal m a)))) ts (plain.Modal m a f) rest
 modal_read {rest = rest} m a r = inner (alone r) (tight (front rest)) whole
 
 pub tabled : {l : grammar.Level} {ts rest : List Sign} {f : Formula} → Reads l ts f rest → Tabled (part l) ts f rest
@@ -87,8 +95,16 @@ tabled (or a b) = joined (Connective operator.Or) 2 refl (omega arith) (tabled a
 tabled (and_alone r) = alone (tabled r)
 tabled (and a b) = joined (Connective operator.And) 3 refl (omega arith) (tabled a) (alone (tabled b))
 tabled (negation {rest = rest} r) = form (sign (inner (alone (tabled r)) (tight (front rest)) whole))
-tabled (modal {rest = rest} m a s is r) = form (sign (read (sign_by (Some (Read (More (BehindAction m a)))) (shift_begin_action m s a is) (read (sign_by (Some (Inner (Modal m a))) (shift_action_end m a) (modal_read m a (tabled r)))))))
-tabled (modal_blank {rest = rest} m r) = form (sign (read (sign_by (Some (Inner (Modal m (codes "_")))) (shift_begin_end m) (modal_read m (codes "_") (tabled r)))))
+tabled (modal {rest = rest} m a s is r) =
+    form
+    (sign
+    (read
+    (sign_by (Some (Read (More (BehindAction m a)))) (shift_begin_action m s a is)
+    (read (sign_by (Some (Inner (Modal m a))) (shift_action_end m a) (modal_read m a (tabled r)))))))
+tabled (modal_blank {rest = rest} m r) =
+    form
+    (sign
+    (read (sign_by (Some (Inner (Modal m (codes "_")))) (shift_begin_end m) (modal_read m (codes "_") (tabled r)))))
 tabled (binder {rest = rest} q x r e) = form (sign (read (sign (read (sign (inner (tabled r) (untaken rest e) whole))))))
 tabled (group r) = form (sign (inner (tabled r) refl (sign (read whole))))
 tabled (constant b) = form (sign (read whole))
@@ -111,28 +127,44 @@ un_raised grammar.Or r = or_alone (and_alone r)
 un_raised grammar.Imp r = imp_alone (or_alone (and_alone r))
 un_raised grammar.Iff r = iff_alone (imp_alone (or_alone (and_alone r)))
 
-and_raised : (l : grammar.Level) → number l ≤ 3 → {ts rest : List Sign} {f : Formula} → Reads grammar.And ts f rest → Reads l ts f rest
+and_raised : (l : grammar.Level)
+    → number l ≤ 3
+    → {ts rest : List Sign} {f : Formula}
+    → Reads grammar.And ts f rest
+    → Reads l ts f rest
 and_raised grammar.Un le r = absurd (omega arith)
 and_raised grammar.And le r = r
 and_raised grammar.Or le r = or_alone r
 and_raised grammar.Imp le r = imp_alone (or_alone r)
 and_raised grammar.Iff le r = iff_alone (imp_alone (or_alone r))
 
-or_raised : (l : grammar.Level) → number l ≤ 2 → {ts rest : List Sign} {f : Formula} → Reads grammar.Or ts f rest → Reads l ts f rest
+or_raised : (l : grammar.Level)
+    → number l ≤ 2
+    → {ts rest : List Sign} {f : Formula}
+    → Reads grammar.Or ts f rest
+    → Reads l ts f rest
 or_raised grammar.Un le r = absurd (omega arith)
 or_raised grammar.And le r = absurd (omega arith)
 or_raised grammar.Or le r = r
 or_raised grammar.Imp le r = imp_alone r
 or_raised grammar.Iff le r = iff_alone (imp_alone r)
 
-imp_raised : (l : grammar.Level) → number l ≤ 1 → {ts rest : List Sign} {f : Formula} → Reads grammar.Imp ts f rest → Reads l ts f rest
+imp_raised : (l : grammar.Level)
+    → number l ≤ 1
+    → {ts rest : List Sign} {f : Formula}
+    → Reads grammar.Imp ts f rest
+    → Reads l ts f rest
 imp_raised grammar.Un le r = absurd (omega arith)
 imp_raised grammar.And le r = absurd (omega arith)
 imp_raised grammar.Or le r = absurd (omega arith)
 imp_raised grammar.Imp le r = r
 imp_raised grammar.Iff le r = iff_alone r
 
-iff_raised : (l : grammar.Level) → number l ≤ 0 → {ts rest : List Sign} {f : Formula} → Reads grammar.Iff ts f rest → Reads l ts f rest
+iff_raised : (l : grammar.Level)
+    → number l ≤ 0
+    → {ts rest : List Sign} {f : Formula}
+    → Reads grammar.Iff ts f rest
+    → Reads l ts f rest
 iff_raised grammar.Un le r = absurd (omega arith)
 iff_raised grammar.And le r = absurd (omega arith)
 iff_raised grammar.Or le r = absurd (omega arith)
@@ -175,10 +207,15 @@ Untabled (Behind t turn) ts f rest = OfTurn turn ts f rest
 same_tree : {l : grammar.Level} {ts rest : List Sign} {f g : Formula} → f ≡ g → Reads l ts f rest → Reads l ts g rest
 same_tree {l} {ts} {rest} e r = subst (λ h. Reads l ts h rest) e r
 
-both_same : {l : grammar.Level} {t : Sign} {ts rest : List Sign} {h f : Formula} → (h ≡ f) × (ts ≡ rest) → Reads l (t ∷ ts) h ts → Reads l (t ∷ ts) f rest
+both_same : {l : grammar.Level} {t : Sign} {ts rest : List Sign} {h f : Formula}
+    → (h ≡ f) × (ts ≡ rest)
+    → Reads l (t ∷ ts) h ts
+    → Reads l (t ∷ ts) f rest
 both_same {l} {t} {ts} {rest} {h} {f} e r = subst (λ x. Reads l (t ∷ ts) x rest) e.0 (subst (λ us. Reads l (t ∷ ts) h us) e.1 r)
 
-begin_completes : (m : Modality) (t : Sign) (ts rest : List Sign) (f : Formula) → OfTurn (shift (BehindBegin m) t) ts f rest → Reads grammar.Un (Begins m ∷ t ∷ ts) f rest
+begin_completes : (m : Modality) (t : Sign) (ts rest : List Sign) (f : Formula)
+    → OfTurn (shift (BehindBegin m) t) ts f rest
+    → Reads grammar.Un (Begins m ∷ t ∷ ts) f rest
 begin_completes Diamond (Ends Diamond) ts rest f r = same_tree r.1 (modal_blank Diamond r.2)
 begin_completes Square (Ends Square) ts rest f r = same_tree r.1 (modal_blank Square r.2)
 begin_completes Diamond Blank ts rest f r = r Blank refl
@@ -192,7 +229,11 @@ begin_completes Square (Ends Diamond) ts rest f r = absurd r
 begin_completes Diamond _ ts rest f r = absurd r
 begin_completes Square _ ts rest f r = absurd r
 
-action_completes : (m : Modality) (a : List ℕ) (t : Sign) (ts rest : List Sign) (f : Formula) → OfTurn (shift (BehindAction m a) t) ts f rest → (s : Sign) → action_of s ≡ Some a → Reads grammar.Un (Begins m ∷ s ∷ t ∷ ts) f rest
+action_completes : (m : Modality) (a : List ℕ) (t : Sign) (ts rest : List Sign) (f : Formula)
+    → OfTurn (shift (BehindAction m a) t) ts f rest
+    → (s : Sign)
+    → action_of s ≡ Some a
+    → Reads grammar.Un (Begins m ∷ s ∷ t ∷ ts) f rest
 action_completes Diamond a (Ends Diamond) ts rest f r s is = same_tree r.1 (modal Diamond a s is r.2)
 action_completes Square a (Ends Square) ts rest f r s is = same_tree r.1 (modal Square a s is r.2)
 action_completes Diamond a (Ends Square) ts rest f r s is = absurd r
@@ -200,7 +241,9 @@ action_completes Square a (Ends Diamond) ts rest f r s is = absurd r
 action_completes Diamond a _ ts rest f r s is = absurd r
 action_completes Square a _ ts rest f r s is = absurd r
 
-sign_completes : (q : Wait) (t : Sign) (ts rest : List Sign) (f : Formula) → OfTurn (shift q t) ts f rest → Completes q (t ∷ ts) f rest
+sign_completes : (q : Wait) (t : Sign) (ts rest : List Sign) (f : Formula)
+    → OfTurn (shift q t) ts f rest
+    → Completes q (t ∷ ts) f rest
 sign_completes Wait.Operand Not ts rest f r = same_tree r.1 (negation r.2)
 sign_completes Wait.Operand (Const b) ts rest f r = both_same r (constant b)
 sign_completes Wait.Operand (Lower p) ts rest f r = both_same r (proposition p)
@@ -215,22 +258,42 @@ sign_completes (BehindFixpoint q) (Upper x) ts rest f r = r
 sign_completes (BehindFixpoint q) _ ts rest f r = absurd r
 sign_completes (BehindVariable q x) Dot ts rest f r = same_tree r.1 (binder q x r.2 r.3)
 sign_completes (BehindVariable q x) _ ts rest f r = absurd r
-sign_completes (BehindInside h) Close ts rest f r = λ us a. subst (λ x. Reads grammar.Un (Open ∷ us) x rest) r.0 (group (subst (λ vs. Reads grammar.Iff us h (Close ∷ vs)) r.1 a))
+sign_completes (BehindInside h) Close ts rest f r =
+    λ us a. subst (λ x. Reads grammar.Un (Open ∷ us) x rest) r.0
+    (group (subst (λ vs. Reads grammar.Iff us h (Close ∷ vs)) r.1 a))
 sign_completes (BehindInside h) _ ts rest f r = absurd r
 
-inner_enters : (k : Hold) (ts us rest : List Sign) (v f : Formula) → Untabled (Level tt (Rattle.ml_mu.specs.private.Tables.level k)) ts v us → takes mu_grammar tt (Rattle.ml_mu.specs.private.Tables.level k) (front us) ≡ false → OfMode (resume k v) us f rest → Enters k ts f rest
+inner_enters : (k : Hold) (ts us rest : List Sign) (v f : Formula)
+    → Untabled (Level tt (Rattle.ml_mu.specs.private.Tables.level k)) ts v us
+    → takes mu_grammar tt (Rattle.ml_mu.specs.private.Tables.level k) (front us) ≡ false
+    → OfMode (resume k v) us f rest
+    → Enters k ts f rest
 inner_enters Negation ts us rest v f a un r = (v, r.0, subst (λ vs. Reads grammar.Un ts v vs) r.1 (a grammar.Un (omega arith)))
 inner_enters (Modal m b) ts us rest v f a un r = (v, r.0, subst (λ vs. Reads grammar.Un ts v vs) r.1 (a grammar.Un (omega arith)))
-inner_enters (Binder q x) ts us rest v f a un r = (v, r.0, subst (λ vs. Reads grammar.Iff ts v vs) r.1 (a grammar.Iff (omega arith)), ap begins_operator (sym r.1) ∙ no_operator us un)
+inner_enters (Binder q x) ts us rest v f a un r = (
+  v,
+  r.0,
+  subst (λ vs. Reads grammar.Iff ts v vs) r.1 (a grammar.Iff (omega arith)),
+  ap begins_operator (sym r.1) ∙ no_operator us un,
+)
 inner_enters Group ts us rest v f a un r = r ts (a grammar.Iff (omega arith))
 
-joined_at : (o : Operator) (ts us rest : List Sign) (f h : Formula) (at : grammar.Level) → number at ≤ operator_level o → Untabled (Level tt (left_level mu_grammar tt (operator_level o))) ts f (Connective o ∷ us) → Untabled (Level tt (right_level mu_grammar tt (operator_level o))) us h rest → Reads at ts (plain.Binary o f h) rest
+joined_at : (o : Operator) (ts us rest : List Sign) (f h : Formula) (at : grammar.Level)
+    → number at ≤ operator_level o
+    → Untabled (Level tt (left_level mu_grammar tt (operator_level o))) ts f (Connective o ∷ us)
+    → Untabled (Level tt (right_level mu_grammar tt (operator_level o))) us h rest
+    → Reads at ts (plain.Binary o f h) rest
 joined_at operator.Iff ts us rest f h at le a b = iff_raised at le (iff (a grammar.Imp (omega arith)) (b grammar.Iff (omega arith)))
 joined_at operator.Implies ts us rest f h at le a b = imp_raised at le (imp (a grammar.Or (omega arith)) (b grammar.Imp (omega arith)))
 joined_at operator.Or ts us rest f h at le a b = or_raised at le (or (a grammar.Or (omega arith)) (b grammar.And (omega arith)))
 joined_at operator.And ts us rest f h at le a b = and_raised at le (and (a grammar.And (omega arith)) (b grammar.Un (omega arith)))
 
-joined_back : (o : Sign) (m l : ℕ) (ts us rest : List Sign) (f h : Formula) → role o ≡ Infix m → l ≤ m → Untabled (Level tt (left_level mu_grammar tt m)) ts f (o ∷ us) → Untabled (Level tt (right_level mu_grammar tt m)) us h rest → Untabled (Level tt l) ts (Rattle.ml_mu.specs.private.Tables.join o f h) rest
+joined_back : (o : Sign) (m l : ℕ) (ts us rest : List Sign) (f h : Formula)
+    → role o ≡ Infix m
+    → l ≤ m
+    → Untabled (Level tt (left_level mu_grammar tt m)) ts f (o ∷ us)
+    → Untabled (Level tt (right_level mu_grammar tt m)) us h rest
+    → Untabled (Level tt l) ts (Rattle.ml_mu.specs.private.Tables.join o f h) rest
 joined_back (Connective o) m l ts us rest f h is le a b =
     let same : m ≡ operator_level o = cc in
     λ at below. joined_at o ts us rest f h at (omega arith)
@@ -240,7 +303,8 @@ joined_back _ m l ts us rest f h is le a b = absurd (cc)
 
 pub untabled : {p : Part mu_grammar} {ts rest : List Sign} {f : Formula} → Tabled p ts f rest → Untabled p ts f rest
 untabled (alone r) = λ at le. un_raised at (untabled r)
-untabled (joined {l = l} {ts = ts} {us = us} {rest = rest} {f = f} {h = h} o m is le a b) = joined_back o m l ts us rest f h is le (untabled a) (untabled b)
+untabled (joined {l = l} {ts = ts} {us = us} {rest = rest} {f = f} {h = h} o m is le a b) =
+    joined_back o m l ts us rest f h is le (untabled a) (untabled b)
 untabled (postfixed o is makes r) = absurd (cc)
 untabled (form r) = untabled r
 untabled whole = (refl, refl)

@@ -61,7 +61,9 @@ within_not n s t s_long t_long there k inside =
     let there' : is_member (map not s) k ≡ not (is_member s k) = get_or-map not s k false false (omega (arith, s_long)) in
     there' ∙ implies_not (is_member s k) (is_member t k) (there k) (sym here ∙ inside)
 
-pub within_where : (n : ℕ) (f g : ℕ → Bool) → ((k : ℕ) → Implies (f k) (g k)) → Within (map f (range_with_len 0 n)) (map g (range_with_len 0 n))
+pub within_where : (n : ℕ) (f g : ℕ → Bool)
+    → ((k : ℕ) → Implies (f k) (g k))
+    → Within (map f (range_with_len 0 n)) (map g (range_with_len 0 n))
 within_where n f g there k inside =
     let below : k < n = omega (arith, member_below (map f (range_with_len 0 n)) k inside, length-map-range_with_len f 0 n) in
     get_or-map-range_with_len g 0 n k k false below (omega arith)

@@ -65,19 +65,27 @@ implies_grows true b true d first second h = second h
 implies_grows false b true d first second h = absurd (true≢false (sym (first refl)))
 
 -- under an iff the variable doesn't occur
-either : (y : List ℕ) (f : Formula) (sign : Bool) → (occurs_only true y f && occurs_only false y f) ≡ true → occurs_only sign y f ≡ true
+either : (y : List ℕ) (f : Formula) (sign : Bool)
+    → (occurs_only true y f && occurs_only false y f) ≡ true
+    → occurs_only sign y f ≡ true
 either y f true o = left_of (occurs_only true y f) (occurs_only false y f) o
 either y f false o = right_of (occurs_only true y f) (occurs_only false y f) o
 
-any_grows : {X : Type 0} (p q : X → Bool) (xs : List X) → ((x : X) → Implies (p x) (q x)) → Implies (list_any p xs) (list_any q xs)
+any_grows : {X : Type 0} (p q : X → Bool) (xs : List X)
+    → ((x : X) → Implies (p x) (q x))
+    → Implies (list_any p xs) (list_any q xs)
 any_grows p q [] each h = h
 any_grows p q (x ∷ xs) each h = or_grows (p x) (list_any p xs) (q x) (list_any q xs) (each x) (any_grows p q xs each) h
 
-all_grows : {X : Type 0} (p q : X → Bool) (xs : List X) → ((x : X) → Implies (p x) (q x)) → Implies (list_all p xs) (list_all q xs)
+all_grows : {X : Type 0} (p q : X → Bool) (xs : List X)
+    → ((x : X) → Implies (p x) (q x))
+    → Implies (list_all p xs) (list_all q xs)
 all_grows p q [] each h = h
 all_grows p q (x ∷ xs) each h = and_grows (p x) (list_all p xs) (q x) (list_all q xs) (each x) (all_grows p q xs each) h
 
-var_grows : (m : Structure) (g h : Given) (x : List ℕ) → Varies m g h (Var x) x → Within (given_set m g x) (given_set m h x)
+var_grows : (m : Structure) (g h : Given) (x : List ℕ)
+    → Varies m g h (Var x) x
+    → Within (given_set m g x) (given_set m h x)
 var_grows m g h x (same e) = subst (λ s. Within (given_set m g x) s) e (λ k inside. inside)
 var_grows m g h x (grows o w) = w
 var_grows m g h x (shrinks o w) =
@@ -85,7 +93,9 @@ var_grows m g h x (shrinks o w) =
     absurd (true≢false (sym o ∙ ap (λ b. cond b false true) here))
 
 -- under a binder its own variable grows, and each other one varies as before
-bound_varies : (m : Structure) (g h : Given) (q : Fixpoint) (x : List ℕ) (f : Formula) (s t : StateSet) → occurs_only true x f ≡ true → Within s t
+bound_varies : (m : Structure) (g h : Given) (q : Fixpoint) (x : List ℕ) (f : Formula) (s t : StateSet)
+    → occurs_only true x f ≡ true
+    → Within s t
     → (y : List ℕ) → Varies m g h (Binder q x f) y → Varies m ((x, s) ∷ g) ((x, t) ∷ h) f y
 bound_varies m g h q x f s t positive within y outer = by_name (bytes_eq x y) refl outer
   where
@@ -113,8 +123,14 @@ bound_varies m g h q x f s t positive within y outer = by_name (bytes_eq x y) re
 
         other : Varies m g h (Binder q x f) y → Varies m ((x, s) ∷ g) ((x, t) ∷ h) f y
         other (same e) = same (here ∙ e ∙ sym there)
-        other (grows o w) = grows (inside true o) (subst (λ a. Within a (cond (bytes_eq x y) t (given_set m h y))) (sym here) (subst (λ b. Within (given_set m g y) b) (sym there) w))
-        other (shrinks o w) = shrinks (inside false o) (subst (λ a. Within a (cond (bytes_eq x y) s (given_set m g y))) (sym there) (subst (λ b. Within (given_set m h y) b) (sym here) w))
+        other (grows o w) =
+            grows (inside true o)
+            (subst (λ a. Within a (cond (bytes_eq x y) t (given_set m h y))) (sym here)
+            (subst (λ b. Within (given_set m g y) b) (sym there) w))
+        other (shrinks o w) =
+            shrinks (inside false o)
+            (subst (λ a. Within a (cond (bytes_eq x y) s (given_set m g y))) (sym there)
+            (subst (λ b. Within (given_set m h y) b) (sym here) w))
 
 -- two sets of flags, the first within the second
 abbrev pub Ordered : ℕ → StateSet → StateSet → Type 0
@@ -124,7 +140,10 @@ first_flags : (m : Structure) (q : Fixpoint) → length (first_iterate m q) ≡ 
 first_flags m Least = length-replicate m.states false
 first_flags m Greatest = length-replicate m.states true
 
-pub meaning_grows : (m : Structure) (f : Formula) (g h : Given) → HaveFlags m.states g → HaveFlags m.states h → is_positive f ≡ true
+pub meaning_grows : (m : Structure) (f : Formula) (g h : Given)
+    → HaveFlags m.states g
+    → HaveFlags m.states h
+    → is_positive f ≡ true
     → ((y : List ℕ) → Varies m g h f y) → Within (meaning m g f) (meaning m h f)
 meaning_grows m (Const b) g h g_flags h_flags positive varies = λ k inside. inside
 meaning_grows m (Prop p) g h g_flags h_flags positive varies = λ k inside. inside
@@ -139,7 +158,8 @@ meaning_grows m (Binary operator.And f e) g h g_flags h_flags positive varies =
     (λ y. straight m g h (Binary operator.And f e) e y (λ sign o. right_of (occurs_only sign y f) (occurs_only sign y e) o) (varies y)) in
     within_where m.states
     (λ s. is_member (meaning m g f) s && is_member (meaning m g e) s) (λ s. is_member (meaning m h f) s && is_member (meaning m h e) s)
-    (λ k. and_grows (is_member (meaning m g f) k) (is_member (meaning m g e) k) (is_member (meaning m h f) k) (is_member (meaning m h e) k) (left k) (right k))
+    (λ k. and_grows (is_member (meaning m g f) k) (is_member (meaning m g e) k) (is_member (meaning m h f) k)
+    (is_member (meaning m h e) k) (left k) (right k))
 meaning_grows m (Binary operator.Or f e) g h g_flags h_flags positive varies =
     let left = meaning_grows m f g h g_flags h_flags (left_of (is_positive f) (is_positive e) positive)
     (λ y. straight m g h (Binary operator.Or f e) f y (λ sign o. left_of (occurs_only sign y f) (occurs_only sign y e) o) (varies y)) in
@@ -147,7 +167,8 @@ meaning_grows m (Binary operator.Or f e) g h g_flags h_flags positive varies =
     (λ y. straight m g h (Binary operator.Or f e) e y (λ sign o. right_of (occurs_only sign y f) (occurs_only sign y e) o) (varies y)) in
     within_where m.states
     (λ s. is_member (meaning m g f) s || is_member (meaning m g e) s) (λ s. is_member (meaning m h f) s || is_member (meaning m h e) s)
-    (λ k. or_grows (is_member (meaning m g f) k) (is_member (meaning m g e) k) (is_member (meaning m h f) k) (is_member (meaning m h e) k) (left k) (right k))
+    (λ k. or_grows (is_member (meaning m g f) k) (is_member (meaning m g e) k) (is_member (meaning m h f) k)
+    (is_member (meaning m h e) k) (left k) (right k))
 meaning_grows m (Binary operator.Implies f e) g h g_flags h_flags positive varies =
     let left = meaning_grows m f h g h_flags g_flags (left_of (is_positive f) (is_positive e) positive)
     (λ y. turned m g h (Binary operator.Implies f e) f y (λ sign o. left_of (occurs_only (not sign) y f) (occurs_only sign y e) o) (varies y)) in
@@ -155,22 +176,47 @@ meaning_grows m (Binary operator.Implies f e) g h g_flags h_flags positive varie
     (λ y. straight m g h (Binary operator.Implies f e) e y (λ sign o. right_of (occurs_only (not sign) y f) (occurs_only sign y e) o) (varies y)) in
     within_where m.states
     (λ s. not (is_member (meaning m g f) s) || is_member (meaning m g e) s) (λ s. not (is_member (meaning m h f) s) || is_member (meaning m h e) s)
-    (λ k. implies_grows (is_member (meaning m g f) k) (is_member (meaning m g e) k) (is_member (meaning m h f) k) (is_member (meaning m h e) k) (left k) (right k))
+    (λ k. implies_grows (is_member (meaning m g f) k) (is_member (meaning m g e) k) (is_member (meaning m h f) k)
+    (is_member (meaning m h e) k) (left k) (right k))
 meaning_grows m (Binary operator.Iff f e) g h g_flags h_flags positive varies =
     let f_positive = left_of (is_positive f) (is_positive e) positive in
     let e_positive = right_of (is_positive f) (is_positive e) positive in
     let whole = Binary operator.Iff f e in
     let f_same = within_both (meaning m g f) (meaning m h f) (meaning_flags m g f g_flags ∙ sym (meaning_flags m h f h_flags))
-    (meaning_grows m f g h g_flags h_flags f_positive (λ y. straight m g h whole f y (λ sign o. either y f sign (left_of (occurs_only true y f && occurs_only false y f) (occurs_only true y e && occurs_only false y e) o)) (varies y)))
-    (meaning_grows m f h g h_flags g_flags f_positive (λ y. turned m g h whole f y (λ sign o. either y f (not sign) (left_of (occurs_only true y f && occurs_only false y f) (occurs_only true y e && occurs_only false y e) o)) (varies y))) in
+    (meaning_grows m f g h g_flags h_flags f_positive
+    (λ y. straight m g h whole f y
+    (λ sign o. either y f sign
+    (left_of (occurs_only true y f && occurs_only false y f) (occurs_only true y e && occurs_only false y e) o))
+    (varies y)))
+    (meaning_grows m f h g h_flags g_flags f_positive
+    (λ y. turned m g h whole f y
+    (λ sign o. either y f (not sign)
+    (left_of (occurs_only true y f && occurs_only false y f) (occurs_only true y e && occurs_only false y e) o))
+    (varies y)))
+    in
     let e_same = within_both (meaning m g e) (meaning m h e) (meaning_flags m g e g_flags ∙ sym (meaning_flags m h e h_flags))
-    (meaning_grows m e g h g_flags h_flags e_positive (λ y. straight m g h whole e y (λ sign o. either y e sign (right_of (occurs_only true y f && occurs_only false y f) (occurs_only true y e && occurs_only false y e) o)) (varies y)))
-    (meaning_grows m e h g h_flags g_flags e_positive (λ y. turned m g h whole e y (λ sign o. either y e (not sign) (right_of (occurs_only true y f && occurs_only false y f) (occurs_only true y e && occurs_only false y e) o)) (varies y))) in
+    (meaning_grows m e g h g_flags h_flags e_positive
+    (λ y. straight m g h whole e y
+    (λ sign o. either y e sign
+    (right_of (occurs_only true y f && occurs_only false y f) (occurs_only true y e && occurs_only false y e) o))
+    (varies y)))
+    (meaning_grows m e h g h_flags g_flags e_positive
+    (λ y. turned m g h whole e y
+    (λ sign o. either y e (not sign)
+    (right_of (occurs_only true y f && occurs_only false y f) (occurs_only true y e && occurs_only false y e) o))
+    (varies y)))
+    in
     within_where m.states
     (λ s. truth_of operator.Iff (is_member (meaning m g f) s) (is_member (meaning m g e) s))
     (λ s. truth_of operator.Iff (is_member (meaning m h f) s) (is_member (meaning m h e) s))
-    (λ k. subst (λ a. Implies (truth_of operator.Iff (is_member (meaning m g f) k) (is_member (meaning m g e) k)) (truth_of operator.Iff (is_member a k) (is_member (meaning m h e) k))) f_same
-    (subst (λ b. Implies (truth_of operator.Iff (is_member (meaning m g f) k) (is_member (meaning m g e) k)) (truth_of operator.Iff (is_member (meaning m g f) k) (is_member b k))) e_same (λ inside. inside)))
+    (λ k. subst
+    (λ a. Implies (truth_of operator.Iff (is_member (meaning m g f) k) (is_member (meaning m g e) k))
+    (truth_of operator.Iff (is_member a k) (is_member (meaning m h e) k)))
+    f_same
+    (subst
+    (λ b. Implies (truth_of operator.Iff (is_member (meaning m g f) k) (is_member (meaning m g e) k))
+    (truth_of operator.Iff (is_member (meaning m g f) k) (is_member b k)))
+    e_same (λ inside. inside)))
 meaning_grows m (Modal Diamond a f) g h g_flags h_flags positive varies =
     let inner = meaning_grows m f g h g_flags h_flags positive (λ y. straight m g h (Modal Diamond a f) f y (λ sign o. o) (varies y)) in
     within_where m.states (some_edge m a (meaning m g f)) (some_edge m a (meaning m h f))
@@ -178,7 +224,8 @@ meaning_grows m (Modal Diamond a f) g h g_flags h_flags positive varies =
     (λ e. (e.source == k) && bytes_eq e.action a && is_member (meaning m g f) e.target)
     (λ e. (e.source == k) && bytes_eq e.action a && is_member (meaning m h f) e.target)
     m.edges
-    (λ e. and_grows ((e.source == k) && bytes_eq e.action a) (is_member (meaning m g f) e.target) ((e.source == k) && bytes_eq e.action a) (is_member (meaning m h f) e.target)
+    (λ e. and_grows ((e.source == k) && bytes_eq e.action a) (is_member (meaning m g f) e.target)
+    ((e.source == k) && bytes_eq e.action a) (is_member (meaning m h f) e.target)
     (λ is. is) (inner e.target)))
 meaning_grows m (Modal Square a f) g h g_flags h_flags positive varies =
     let inner = meaning_grows m f g h g_flags h_flags positive (λ y. straight m g h (Modal Square a f) f y (λ sign o. o) (varies y)) in
@@ -187,10 +234,12 @@ meaning_grows m (Modal Square a f) g h g_flags h_flags positive varies =
     (λ e. not ((e.source == k) && bytes_eq e.action a) || is_member (meaning m g f) e.target)
     (λ e. not ((e.source == k) && bytes_eq e.action a) || is_member (meaning m h f) e.target)
     m.edges
-    (λ e. or_grows (not ((e.source == k) && bytes_eq e.action a)) (is_member (meaning m g f) e.target) (not ((e.source == k) && bytes_eq e.action a)) (is_member (meaning m h f) e.target)
+    (λ e. or_grows (not ((e.source == k) && bytes_eq e.action a)) (is_member (meaning m g f) e.target)
+    (not ((e.source == k) && bytes_eq e.action a)) (is_member (meaning m h f) e.target)
     (λ is. is) (inner e.target)))
 meaning_grows m (Binder q x f) g h g_flags h_flags positive varies =
-    (iterates_related (Ordered m.states) (λ set. meaning m ((x, set) ∷ g) f) (λ set. meaning m ((x, set) ∷ h) f) (first_iterate m q) (first_iterate m q) m.states
+    (iterates_related (Ordered m.states) (λ set. meaning m ((x, set) ∷ g) f) (λ set. meaning m ((x, set) ∷ h) f)
+    (first_iterate m q) (first_iterate m q) m.states
     ((λ k inside. inside), first_flags m q, first_flags m q)
     (λ s t below. (
       meaning_grows m f ((x, s) ∷ g) ((x, t) ∷ h) (below.1, g_flags) (below.2, h_flags) (right_of (occurs_only true x f) (is_positive f) positive)
@@ -199,33 +248,45 @@ meaning_grows m (Binder q x f) g h g_flags h_flags positive varies =
       meaning_flags m ((x, t) ∷ h) f (below.2, h_flags),
     ))).0
 
-pub body_grows : (m : Structure) (q : Fixpoint) (x : List ℕ) (f : Formula) (g : Given) (s t : StateSet) → is_positive (Binder q x f) ≡ true
+pub body_grows : (m : Structure) (q : Fixpoint) (x : List ℕ) (f : Formula) (g : Given) (s t : StateSet)
+    → is_positive (Binder q x f) ≡ true
     → HaveFlags m.states g → length s ≡ m.states → length t ≡ m.states → Within s t → Within (meaning m ((x, s) ∷ g) f) (meaning m ((x, t) ∷ g) f)
 body_grows m q x f g s t positive flags s_flags t_flags within =
     meaning_grows m f ((x, s) ∷ g) ((x, t) ∷ g) (s_flags, flags) (t_flags, flags) (right_of (occurs_only true x f) (is_positive f) positive)
     (λ y. bound_varies m g g q x f s t (left_of (occurs_only true x f) (is_positive f) positive) within y (same refl))
 
-pub least_ascends : (m : Structure) (x : List ℕ) (f : Formula) (g : Given) (k : ℕ) → is_positive (Binder Least x f) ≡ true → HaveFlags m.states g
-    → Ordered m.states (iterate k (λ set. meaning m ((x, set) ∷ g) f) (first_iterate m Least)) (iterate (suc k) (λ set. meaning m ((x, set) ∷ g) f) (first_iterate m Least))
-least_ascends m x f g zero positive flags =
-    (nowhere_within m.states (meaning m ((x, first_iterate m Least) ∷ g) f), first_flags m Least, meaning_flags m ((x, first_iterate m Least) ∷ g) f (first_flags m Least, flags))
+pub least_ascends : (m : Structure) (x : List ℕ) (f : Formula) (g : Given) (k : ℕ)
+    → is_positive (Binder Least x f) ≡ true
+    → HaveFlags m.states g
+    → Ordered m.states (iterate k (λ set. meaning m ((x, set) ∷ g) f) (first_iterate m Least))
+    (iterate (suc k) (λ set. meaning m ((x, set) ∷ g) f) (first_iterate m Least))
+least_ascends m x f g zero positive flags = (
+  nowhere_within m.states (meaning m ((x, first_iterate m Least) ∷ g) f),
+  first_flags m Least,
+  meaning_flags m ((x, first_iterate m Least) ∷ g) f (first_flags m Least, flags),
+)
 least_ascends m x f g (suc k) positive flags =
     let step : StateSet → StateSet = λ set. meaning m ((x, set) ∷ g) f in
     let before = least_ascends m x f g k positive flags in (
-      body_grows m Least x f g (iterate k step (first_iterate m Least)) (step (iterate k step (first_iterate m Least))) positive flags before.1 before.2 before.0,
+      body_grows m Least x f g (iterate k step (first_iterate m Least)) (step (iterate k step (first_iterate m Least)))
+          positive flags before.1 before.2 before.0,
       before.2,
       meaning_flags m ((x, step (iterate k step (first_iterate m Least))) ∷ g) f (before.2, flags),
     )
 
-pub greatest_descends : (m : Structure) (x : List ℕ) (f : Formula) (g : Given) (k : ℕ) → is_positive (Binder Greatest x f) ≡ true → HaveFlags m.states g
-    → Ordered m.states (iterate (suc k) (λ set. meaning m ((x, set) ∷ g) f) (first_iterate m Greatest)) (iterate k (λ set. meaning m ((x, set) ∷ g) f) (first_iterate m Greatest))
+pub greatest_descends : (m : Structure) (x : List ℕ) (f : Formula) (g : Given) (k : ℕ)
+    → is_positive (Binder Greatest x f) ≡ true
+    → HaveFlags m.states g
+    → Ordered m.states (iterate (suc k) (λ set. meaning m ((x, set) ∷ g) f) (first_iterate m Greatest))
+    (iterate k (λ set. meaning m ((x, set) ∷ g) f) (first_iterate m Greatest))
 greatest_descends m x f g zero positive flags =
     let next = meaning_flags m ((x, first_iterate m Greatest) ∷ g) f (first_flags m Greatest, flags) in
     (within_everywhere m.states (meaning m ((x, first_iterate m Greatest) ∷ g) f) next, next, first_flags m Greatest)
 greatest_descends m x f g (suc k) positive flags =
     let step : StateSet → StateSet = λ set. meaning m ((x, set) ∷ g) f in
     let before = greatest_descends m x f g k positive flags in (
-      body_grows m Greatest x f g (step (iterate k step (first_iterate m Greatest))) (iterate k step (first_iterate m Greatest)) positive flags before.1 before.2 before.0,
+      body_grows m Greatest x f g (step (iterate k step (first_iterate m Greatest)))
+          (iterate k step (first_iterate m Greatest)) positive flags before.1 before.2 before.0,
       meaning_flags m ((x, step (iterate k step (first_iterate m Greatest))) ∷ g) f (before.1, flags),
       before.1,
     )

@@ -24,10 +24,13 @@ mu_regular s t k is = never_opens t k is
 read_true : (rest : List Sign) → Tabled (Operand tt) (Const true ∷ rest) (plain.Const true) rest
 read_true rest = form (sign (read whole))
 
-modal_true : (t : Sign) (m : Modality) (a : List ℕ) (rest : List Sign) → Tabled (Behind t (Some (Inner (Modal m a)))) (Const true ∷ rest) (plain.Modal m a (plain.Const true)) rest
+modal_true : (t : Sign) (m : Modality) (a : List ℕ) (rest : List Sign)
+    → Tabled (Behind t (Some (Inner (Modal m a)))) (Const true ∷ rest) (plain.Modal m a (plain.Const true)) rest
 modal_true t m a rest = inner (alone (read_true rest)) (tight (front rest)) whole
 
-binder_true : (t : Sign) (q : Fixpoint) (x : List ℕ) (rest : List Sign) → IsStop mu_grammar (front rest) → Tabled (Behind t (Some (Inner (Binder q x)))) (Const true ∷ rest) (plain.Binder q x (plain.Const true)) rest
+binder_true : (t : Sign) (q : Fixpoint) (x : List ℕ) (rest : List Sign)
+    → IsStop mu_grammar (front rest)
+    → Tabled (Behind t (Some (Inner (Binder q x)))) (Const true ∷ rest) (plain.Binder q x (plain.Const true)) rest
 binder_true t q x rest stop = inner (alone (read_true rest)) (stop tt 0) whole
 
 some_variable : List ℕ
@@ -35,15 +38,48 @@ some_variable = codes "X"
 
 ending : (q : Wait) → Ending mu_grammar q
 ending Wait.Operand = record { signs = Const true ∷ []; tree = plain.Const true; reads = λ rest stop. sign (read whole) }
-ending (BehindBegin Diamond) = record { signs = Ends Diamond ∷ Const true ∷ []; tree = plain.Modal Diamond (codes "_") (plain.Const true); reads = λ rest stop. sign (modal_true (Ends Diamond) Diamond (codes "_") rest) }
-ending (BehindBegin Square) = record { signs = Ends Square ∷ Const true ∷ []; tree = plain.Modal Square (codes "_") (plain.Const true); reads = λ rest stop. sign (modal_true (Ends Square) Square (codes "_") rest) }
-ending (BehindAction Diamond a) = record { signs = Ends Diamond ∷ Const true ∷ []; tree = plain.Modal Diamond a (plain.Const true); reads = λ rest stop. sign (modal_true (Ends Diamond) Diamond a rest) }
-ending (BehindAction Square a) = record { signs = Ends Square ∷ Const true ∷ []; tree = plain.Modal Square a (plain.Const true); reads = λ rest stop. sign (modal_true (Ends Square) Square a rest) }
-ending (BehindFixpoint q) = record { signs = Upper some_variable ∷ Dot ∷ Const true ∷ []; tree = plain.Binder q some_variable (plain.Const true); reads = λ rest stop. sign (read (sign (binder_true Dot q some_variable rest stop))) }
-ending (BehindVariable q x) = record { signs = Dot ∷ Const true ∷ []; tree = plain.Binder q x (plain.Const true); reads = λ rest stop. sign (binder_true Dot q x rest stop) }
+ending (BehindBegin Diamond) =
+    record {
+      signs = Ends Diamond ∷ Const true ∷ [];
+      tree = plain.Modal Diamond (codes "_") (plain.Const true);
+      reads = λ rest stop. sign (modal_true (Ends Diamond) Diamond (codes "_") rest);
+    }
+ending (BehindBegin Square) =
+    record {
+      signs = Ends Square ∷ Const true ∷ [];
+      tree = plain.Modal Square (codes "_") (plain.Const true);
+      reads = λ rest stop. sign (modal_true (Ends Square) Square (codes "_") rest);
+    }
+ending (BehindAction Diamond a) =
+    record {
+      signs = Ends Diamond ∷ Const true ∷ [];
+      tree = plain.Modal Diamond a (plain.Const true);
+      reads = λ rest stop. sign (modal_true (Ends Diamond) Diamond a rest);
+    }
+ending (BehindAction Square a) =
+    record {
+      signs = Ends Square ∷ Const true ∷ [];
+      tree = plain.Modal Square a (plain.Const true);
+      reads = λ rest stop. sign (modal_true (Ends Square) Square a rest);
+    }
+ending (BehindFixpoint q) =
+    record {
+      signs = Upper some_variable ∷ Dot ∷ Const true ∷ [];
+      tree = plain.Binder q some_variable (plain.Const true);
+      reads = λ rest stop. sign (read (sign (binder_true Dot q some_variable rest stop)));
+    }
+ending (BehindVariable q x) =
+    record {
+      signs = Dot ∷ Const true ∷ [];
+      tree = plain.Binder q x (plain.Const true);
+      reads = λ rest stop. sign (binder_true Dot q x rest stop);
+    }
 ending (BehindInside f) = record { signs = Close ∷ []; tree = f; reads = λ rest stop. sign (read whole) }
 
-closes : (k : Hold) (v : Formula) (q : Wait) → resume k v ≡ More q → (rest : List Sign) → IsStop mu_grammar (front ((ending q).signs ++ rest))
+closes : (k : Hold) (v : Formula) (q : Wait)
+    → resume k v ≡ More q
+    → (rest : List Sign)
+    → IsStop mu_grammar (front ((ending q).signs ++ rest))
 unfolding ending
 closes Negation v q is rest = absurd (cc)
 closes (Modal m a) v q is rest = absurd (cc)

@@ -6,7 +6,8 @@
 --   short_name      == a token that is no longer than a name has a short name, if it has one
 --   cut_name        == so has a longer one, where its name is cut
 --   can_name        == so a sign can be made of each token
-use Rattle.std.proofs.Common.{◌≡◌, ℕ, ◌≤◌, Bool, true, false, List, [], ◌∷◌, length, Option, Some, None, refl, sym, ap, subst, arith, codes, bytes_eq, ◌&&◌, ◌==◌, nat_lt, not, cond, ltb-false, ◌-◌, take, slice_index}
+use Rattle.std.proofs.Common.{◌≡◌, ℕ, ◌≤◌, Bool, true, false, List, [], ◌∷◌, length, Option, Some, None, refl, sym, ap, subst, arith}
+use Rattle.std.proofs.Common.{codes, bytes_eq, ◌&&◌, ◌==◌, nat_lt, not, cond, ltb-false, ◌-◌, take, slice_index}
 use Rattle.std.proofs.lemmas.Bool.{and_parts, and_from, or_from, not_from_false, cond-true}
 use Rattle.ml_base.specs.Name.{longest_name}
 use Rattle.ml_text.specs.Bytes.{is_lower, is_letter}
@@ -43,7 +44,11 @@ name_of_lower w word free lower =
 pub name_of_upper : (w : List ℕ) → IsWord w → is_lower (slice_index w 0) ≡ false → Upper w ≡ name_sign w
 name_of_upper w word other = sym (upper_sign w (upper_word w word other))
 
-pub free_word : (w : List ℕ) → constant_of w ≡ None → bytes_eq w (codes "mu") ≡ false → bytes_eq w (codes "nu") ≡ false → is_reserved w ≡ false
+pub free_word : (w : List ℕ)
+    → constant_of w ≡ None
+    → bytes_eq w (codes "mu") ≡ false
+    → bytes_eq w (codes "nu") ≡ false
+    → is_reserved w ≡ false
 free_word w is x y =
     reserved.free_word w (codes "mu" ∷ codes "nu" ∷ []) is
     (or_from (bytes_eq w (codes "mu")) _ x (or_from (bytes_eq w (codes "nu")) false y refl))
@@ -57,12 +62,17 @@ no_binder true n is = absurd (cc)
 no_binder false true is = absurd (cc)
 no_binder false false is = (refl, refl)
 
-pub some_binder : (m n : Bool) (q : Fixpoint) (other : Sign) → Some q ≡ binder_by m n → Binds q ≡ cond m (Binds Least) (cond n (Binds Greatest) other)
+pub some_binder : (m n : Bool) (q : Fixpoint) (other : Sign)
+    → Some q ≡ binder_by m n
+    → Binds q ≡ cond m (Binds Least) (cond n (Binds Greatest) other)
 some_binder true n q other is = let same : q ≡ Least = cc in ap Binds same
 some_binder false true q other is = let same : q ≡ Greatest = cc in ap Binds same
 some_binder false false q other is = absurd (cc)
 
-pub other_word : (m n : Bool) (other : Sign) → m ≡ false → n ≡ false → cond m (Binds Least) (cond n (Binds Greatest) other) ≡ other
+pub other_word : (m n : Bool) (other : Sign)
+    → m ≡ false
+    → n ≡ false
+    → cond m (Binds Least) (cond n (Binds Greatest) other) ≡ other
 other_word true n other x y = absurd (cc)
 other_word false true other x y = absurd (cc)
 other_word false false other x y = refl
@@ -72,7 +82,11 @@ other_word false false other x y = refl
 proposition_letters : (w : List ℕ) → is_proposition w ≡ true → is_word_from is_letter w ≡ true
 proposition_letters w is = lower_letters w (and_parts (is_word_from is_lower w) (not (is_reserved w)) is).0
 
-short_name_by : (w : List ℕ) (a b : Bool) → is_proposition w ≡ a → is_variable w ≡ b → length w ≤ 64 → HasShortName (cond a (Lower w) (cond b (Upper w) Unknown))
+short_name_by : (w : List ℕ) (a b : Bool)
+    → is_proposition w ≡ a
+    → is_variable w ≡ b
+    → length w ≤ 64
+    → HasShortName (cond a (Lower w) (cond b (Upper w) Unknown))
 short_name_by w true b x y short = word_name w (proposition_letters w x) short
 short_name_by w false true x y short = word_name w (upper_letters w y) short
 short_name_by w false false x y short = tt
@@ -95,7 +109,10 @@ byte_name b =
     (one_of HasShortName (b == 95) _ _ tt tt)))))))
 
 -- a token that is no word longer than a name
-pub short_name : (t : Token) (bytes : List ℕ) (n : ℕ) → (is_word t && nat_lt longest_name n) ≡ false → length bytes ≡ n → HasShortName (sign_of t bytes)
+pub short_name : (t : Token) (bytes : List ℕ) (n : ℕ)
+    → (is_word t && nat_lt longest_name n) ≡ false
+    → length bytes ≡ n
+    → HasShortName (sign_of t bytes)
 short_name token.Not bytes n short size = tt
 short_name (token.Operator o) bytes n short size = tt
 short_name (token.Byte b) bytes n short size = byte_name b
@@ -120,7 +137,11 @@ cut_name kind.Blank w s is spelled = tt
 cut_name kind.Unknown w s is spelled = tt
 
 -- a sign can be made of each token
-pub can_name : (k : Kind) (text : List ℕ) (p : Placed) → p.start ≤ p.end → p.end ≤ length text → named k (bytes_of text p) ≡ sign_at text p → HasShortName (named k (name_bytes text p))
+pub can_name : (k : Kind) (text : List ℕ) (p : Placed)
+    → p.start ≤ p.end
+    → p.end ≤ length text
+    → named k (bytes_of text p) ≡ sign_at text p
+    → HasShortName (named k (name_bytes text p))
 can_name k text p before within is =
     name_bytes_by (λ w. HasShortName (named k w)) text p
     (cut_name k (bytes_of text p) (sign_at text p) is (spelled_sign p.token (bytes_of text p)))

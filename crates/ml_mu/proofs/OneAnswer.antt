@@ -21,8 +21,13 @@ use Rattle.ml_mu.specs.VariableFaults.{Standing, Fine, Unbound, NotPositive, sta
 use Rattle.ml_mu.proofs.CanonicalTexts.{canonical_stands}
 use Rattle.ml_mu.proofs.MuGrammar.{mu_regular, read_stands}
 
-read_once : (text : List ℕ) (f g : Formula) → IsReadAs (signs_of (items text)) f → IsReadAs (signs_of (items text)) g → f ≡ g
-read_once text f g a b = one_tree mu_grammar mu_regular (signs_of (items text)) f g (read_stands (signs_of (items text)) f a) (read_stands (signs_of (items text)) g b)
+read_once : (text : List ℕ) (f g : Formula)
+    → IsReadAs (signs_of (items text)) f
+    → IsReadAs (signs_of (items text)) g
+    → f ≡ g
+read_once text f g a b =
+    one_tree mu_grammar mu_regular (signs_of (items text)) f g (read_stands (signs_of (items text)) f a)
+    (read_stands (signs_of (items text)) g b)
 
 pub one_formula : StandForOne
 one_formula text f g a b = read_once text f g a b
@@ -101,7 +106,10 @@ back (refusal.Unbound at) = refl
 back (refusal.NotPositive at) = refl
 back refusal.NoMemory = refl
 
-holds : (text : List ℕ) (e : ParseRefusal) → (e ≡ refusal.NoMemory → ⊥) → IsRefusedBy text e → Holds text (reason_of e).0 (reason_of e).1
+holds : (text : List ℕ) (e : ParseRefusal)
+    → (e ≡ refusal.NoMemory → ⊥)
+    → IsRefusedBy text e
+    → Holds text (reason_of e).0 (reason_of e).1
 holds text (refusal.Syntax at) some is = is
 holds text (refusal.TooMany at) some is = is
 holds text (refusal.TooNested at) some is = is

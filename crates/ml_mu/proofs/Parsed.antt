@@ -58,14 +58,19 @@ refused_first text (refusal.Unbound at) is = absurd is
 refused_first text (refusal.NotPositive at) is = absurd is
 refused_first text refusal.NoMemory is = tt
 
-pub accepted_small : (text : List ℕ) (f : Formula) → IsAccepted IsReadAs (items text) f → occurrences f ≤ most_occurrences
+pub accepted_small : (text : List ℕ) (f : Formula)
+    → IsAccepted IsReadAs (items text) f
+    → occurrences f ≤ most_occurrences
 accepted_small text f accepted =
     let few = few_items (items text) (λ k fault. accepted.keeps TooMany k fault) in
     let same = counted_items text false (tokens AnyLetter text) in
     let has = counts accepted.stands in
     omega (arith, few, same, has)
 
-pub accepted_fine : (text : List ℕ) (f : Formula) → IsAccepted IsReadAs (items text) f → are_fine (standings f) ≡ true → IsWellFormed f
+pub accepted_fine : (text : List ℕ) (f : Formula)
+    → IsAccepted IsReadAs (items text) f
+    → are_fine (standings f) ≡ true
+    → IsWellFormed f
 accepted_fine text f accepted fine =
     let w : IsWellBound f = fine_well f fine in
     record {
@@ -77,34 +82,60 @@ accepted_fine text f accepted fine =
     }
 
 -- as many places as variables
-pub length-faults : (text : List ℕ) (f : Formula) → IsAccepted IsReadAs (items text) f → length (standings f) ≡ length (variable_places (items text))
+pub length-faults : (text : List ℕ) (f : Formula)
+    → IsAccepted IsReadAs (items text) f
+    → length (standings f) ≡ length (variable_places (items text))
 length-faults text f accepted =
     length-standings [] 0 0 f
     ∙ sym (ap length (words_are_variables accepted.stands ∙ append-nil (variables f)))
     ∙ sym (length-places false (items text))
 
-no_fault_fine : (ss : List Standing) (places : List ℕ) → length ss ≡ length places → fault_at ss places ≡ None → are_fine ss ≡ true
+no_fault_fine : (ss : List Standing) (places : List ℕ)
+    → length ss ≡ length places
+    → fault_at ss places ≡ None
+    → are_fine ss ≡ true
 no_fault_fine [] places same is = refl
 no_fault_fine (s ∷ ss) [] same is = absurd (omega arith)
 no_fault_fine (Fine ∷ ss) (at ∷ places) same is = no_fault_fine ss places (omega arith) is
 no_fault_fine (Unbound ∷ ss) (at ∷ places) same is = absurd (cc)
 no_fault_fine (NotPositive ∷ ss) (at ∷ places) same is = absurd (cc)
 
-pub faultless_fine : (text : List ℕ) (f : Formula) → IsAccepted IsReadAs (items text) f → fault_at (standings f) (variable_places (items text)) ≡ None → are_fine (standings f) ≡ true
+pub faultless_fine : (text : List ℕ) (f : Formula)
+    → IsAccepted IsReadAs (items text) f
+    → fault_at (standings f) (variable_places (items text)) ≡ None
+    → are_fine (standings f) ≡ true
 faultless_fine text f accepted is = no_fault_fine (standings f) (variable_places (items text)) (length-faults text f accepted) is
 
 -- ---- the same, as the program has it: the standings of the variables, and their places
 
-pub fault_refused : (text : List ℕ) (f : Formula) (ss : List Standing) (places : List ℕ) (e : ParseRefusal) → mu_outcome text ≡ Found f → ss ≡ standings f → places ≡ variable_places (items text) → IsFaultOf e (fault_at ss places) → IsRefusedBy text e
-fault_refused text f ss places (refusal.Unbound at) found same there is = (f, found_accepted text f found, sym (ap (λ ps. fault_at (standings f) ps) there) ∙ ap (λ s. fault_at s places) (sym same) ∙ is)
-fault_refused text f ss places (refusal.NotPositive at) found same there is = (f, found_accepted text f found, sym (ap (λ ps. fault_at (standings f) ps) there) ∙ ap (λ s. fault_at s places) (sym same) ∙ is)
+pub fault_refused : (text : List ℕ) (f : Formula) (ss : List Standing) (places : List ℕ) (e : ParseRefusal)
+    → mu_outcome text ≡ Found f
+    → ss ≡ standings f
+    → places ≡ variable_places (items text)
+    → IsFaultOf e (fault_at ss places)
+    → IsRefusedBy text e
+fault_refused text f ss places (refusal.Unbound at) found same there is = (
+  f,
+  found_accepted text f found,
+  sym (ap (λ ps. fault_at (standings f) ps) there) ∙ ap (λ s. fault_at s places) (sym same) ∙ is,
+)
+fault_refused text f ss places (refusal.NotPositive at) found same there is = (
+  f,
+  found_accepted text f found,
+  sym (ap (λ ps. fault_at (standings f) ps) there) ∙ ap (λ s. fault_at s places) (sym same) ∙ is,
+)
 fault_refused text f ss places (refusal.Syntax at) found same there is = absurd is
 fault_refused text f ss places (refusal.TooMany at) found same there is = absurd is
 fault_refused text f ss places (refusal.TooNested at) found same there is = absurd is
 fault_refused text f ss places (refusal.NameTooLong at) found same there is = absurd is
 fault_refused text f ss places refusal.NoMemory found same there is = absurd is
 
-pub found_parsed : (text : List ℕ) (f : Formula) (ss : List Standing) (places : List ℕ) → mu_outcome text ≡ Found f → ss ≡ standings f → places ≡ variable_places (items text) → fault_at ss places ≡ None → IsParsedAs text f
+pub found_parsed : (text : List ℕ) (f : Formula) (ss : List Standing) (places : List ℕ)
+    → mu_outcome text ≡ Found f
+    → ss ≡ standings f
+    → places ≡ variable_places (items text)
+    → fault_at ss places ≡ None
+    → IsParsedAs text f
 found_parsed text f ss places found same there none =
     let accepted = found_accepted text f found in
     record { accepted = accepted; fine = faultless_fine text f accepted (sym (ap (λ ps. fault_at (standings f) ps) there) ∙ ap (λ s. fault_at s places) (sym same) ∙ none) }

@@ -44,18 +44,25 @@ short_action _ a is short = absurd (cc)
 abbrev Keeps : Formula → List Sign → Type 0
 Keeps f rest = HasShortNames f × AreShort rest
 
-both_short : (o : Operator) (f g : Formula) (t : Sign) (us rest : List Sign) → Keeps f (t ∷ us) → (AreShort us → Keeps g rest) → Keeps (plain.Binary o f g) rest
+both_short : (o : Operator) (f g : Formula) (t : Sign) (us rest : List Sign)
+    → Keeps f (t ∷ us)
+    → (AreShort us → Keeps g rest)
+    → Keeps (plain.Binary o f g) rest
 both_short o f g t us rest a b = let c : Keeps g rest = b (a.1).1 in ((a.0, c.0), c.1)
 
 reads_short : {l : grammar.Level} {ts rest : List Sign} {f : Formula} → Reads l ts f rest → AreShort ts → Keeps f rest
 reads_short (iff_alone r) is = reads_short r is
-reads_short (iff {us = us} {rest = rest} {f = f} {g = g} a b) is = both_short operator.Iff f g (Connective operator.Iff) us rest (reads_short a is) (λ x. reads_short b x)
+reads_short (iff {us = us} {rest = rest} {f = f} {g = g} a b) is =
+    both_short operator.Iff f g (Connective operator.Iff) us rest (reads_short a is) (λ x. reads_short b x)
 reads_short (imp_alone r) is = reads_short r is
-reads_short (imp {us = us} {rest = rest} {f = f} {g = g} a b) is = both_short operator.Implies f g (Connective operator.Implies) us rest (reads_short a is) (λ x. reads_short b x)
+reads_short (imp {us = us} {rest = rest} {f = f} {g = g} a b) is =
+    both_short operator.Implies f g (Connective operator.Implies) us rest (reads_short a is) (λ x. reads_short b x)
 reads_short (or_alone r) is = reads_short r is
-reads_short (or {us = us} {rest = rest} {f = f} {g = g} a b) is = both_short operator.Or f g (Connective operator.Or) us rest (reads_short a is) (λ x. reads_short b x)
+reads_short (or {us = us} {rest = rest} {f = f} {g = g} a b) is =
+    both_short operator.Or f g (Connective operator.Or) us rest (reads_short a is) (λ x. reads_short b x)
 reads_short (and_alone r) is = reads_short r is
-reads_short (and {us = us} {rest = rest} {f = f} {g = g} a b) is = both_short operator.And f g (Connective operator.And) us rest (reads_short a is) (λ x. reads_short b x)
+reads_short (and {us = us} {rest = rest} {f = f} {g = g} a b) is =
+    both_short operator.And f g (Connective operator.And) us rest (reads_short a is) (λ x. reads_short b x)
 reads_short (negation r) is = reads_short r is.1
 reads_short (modal m a s e r) is = let later = reads_short r ((is.1).1).1 in ((short_action s a e (is.1).0, later.0), later.1)
 reads_short (modal_blank m r) is = let later = reads_short r (is.1).1 in ((omega arith, later.0), later.1)

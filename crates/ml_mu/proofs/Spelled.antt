@@ -36,7 +36,10 @@ IsSpelledSign _ = Unit {0}
 abbrev pub AreSpelled : List Sign → Type 0
 AreSpelled ts = AllByRecursion IsSpelledSign ts
 
-spelled_by : (w : List ℕ) (a b : Bool) → is_proposition w ≡ a → is_variable w ≡ b → IsSpelledSign (cond a (Lower w) (cond b (Upper w) Unknown))
+spelled_by : (w : List ℕ) (a b : Bool)
+    → is_proposition w ≡ a
+    → is_variable w ≡ b
+    → IsSpelledSign (cond a (Lower w) (cond b (Upper w) Unknown))
 spelled_by w true b x y = x
 spelled_by w false true x y = y
 spelled_by w false false x y = tt
@@ -64,7 +67,8 @@ spelled_sign (token.Operator o) bytes = tt
 spelled_sign (token.Byte b) bytes = spelled_byte b
 spelled_sign token.Word bytes = spelled_word bytes (constant_of bytes)
 
-pub items_spelled : (text : List ℕ) (silent : Bool) (ps : List Placed) → AreSpelled (signs_of (items_from text silent ps))
+pub items_spelled : (text : List ℕ) (silent : Bool) (ps : List Placed)
+    → AreSpelled (signs_of (items_from text silent ps))
 items_spelled text silent ps =
     signs_all mu_signs IsSpelledSign text (λ p. spelled_sign p.token (bytes_of text p)) silent ps
 
@@ -93,20 +97,31 @@ spelled_action _ a is spelled = absurd (cc)
 abbrev pub Spells : Formula → List Sign → Type 0
 Spells f rest = (is_spelled f ≡ true) × AreSpelled rest
 
-both_spelled : (o : Operator) (f g : Formula) (t : Sign) (us rest : List Sign) → Spells f (t ∷ us) → (AreSpelled us → Spells g rest) → Spells (plain.Binary o f g) rest
+both_spelled : (o : Operator) (f g : Formula) (t : Sign) (us rest : List Sign)
+    → Spells f (t ∷ us)
+    → (AreSpelled us → Spells g rest)
+    → Spells (plain.Binary o f g) rest
 both_spelled o f g t us rest a b =
     let c : Spells g rest = b (a.1).1 in
     (and_from (is_spelled f) (is_spelled g) a.0 c.0, c.1)
 
-pub reads_spelled : {l : grammar.Level} {ts rest : List Sign} {f : Formula} → Reads l ts f rest → AreSpelled ts → Spells f rest
+pub reads_spelled : {l : grammar.Level} {ts rest : List Sign} {f : Formula}
+    → Reads l ts f rest
+    → AreSpelled ts
+    → Spells f rest
 reads_spelled (iff_alone r) is = reads_spelled r is
-reads_spelled (iff {us = us} {rest = rest} {f = f} {g = g} a b) is = both_spelled operator.Iff f g (Connective operator.Iff) us rest (reads_spelled a is) (λ x. reads_spelled b x)
+reads_spelled (iff {us = us} {rest = rest} {f = f} {g = g} a b) is =
+    both_spelled operator.Iff f g (Connective operator.Iff) us rest (reads_spelled a is) (λ x. reads_spelled b x)
 reads_spelled (imp_alone r) is = reads_spelled r is
-reads_spelled (imp {us = us} {rest = rest} {f = f} {g = g} a b) is = both_spelled operator.Implies f g (Connective operator.Implies) us rest (reads_spelled a is) (λ x. reads_spelled b x)
+reads_spelled (imp {us = us} {rest = rest} {f = f} {g = g} a b) is =
+    both_spelled operator.Implies f g (Connective operator.Implies) us rest (reads_spelled a is)
+    (λ x. reads_spelled b x)
 reads_spelled (or_alone r) is = reads_spelled r is
-reads_spelled (or {us = us} {rest = rest} {f = f} {g = g} a b) is = both_spelled operator.Or f g (Connective operator.Or) us rest (reads_spelled a is) (λ x. reads_spelled b x)
+reads_spelled (or {us = us} {rest = rest} {f = f} {g = g} a b) is =
+    both_spelled operator.Or f g (Connective operator.Or) us rest (reads_spelled a is) (λ x. reads_spelled b x)
 reads_spelled (and_alone r) is = reads_spelled r is
-reads_spelled (and {us = us} {rest = rest} {f = f} {g = g} a b) is = both_spelled operator.And f g (Connective operator.And) us rest (reads_spelled a is) (λ x. reads_spelled b x)
+reads_spelled (and {us = us} {rest = rest} {f = f} {g = g} a b) is =
+    both_spelled operator.And f g (Connective operator.And) us rest (reads_spelled a is) (λ x. reads_spelled b x)
 reads_spelled (negation r) is = reads_spelled r is.1
 reads_spelled (modal {f = f} m a s e r) is =
     let later : Spells f _ = reads_spelled r ((is.1).1).1 in

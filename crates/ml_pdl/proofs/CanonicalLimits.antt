@@ -31,7 +31,10 @@ action_short a short = go (bytes_eq a (codes "_"))
     go true = refl
     go false = short_word a short
 
-whole_short : (p : Program) (own after : List Spelt) → AllByRecursion IsShort own → AllByRecursion IsShort after → AllByRecursion IsShort (whole_tokens p own after)
+whole_short : (p : Program) (own after : List Spelt)
+    → AllByRecursion IsShort own
+    → AllByRecursion IsShort after
+    → AllByRecursion IsShort (whole_tokens p own after)
 whole_short p own after a b =
     ⊎_elim
     (λ (is_blank : p ≡ plain.Act (codes "_")). subst (λ q. AllByRecursion IsShort (whole_tokens q own after)) (sym is_blank) b)
@@ -39,20 +42,31 @@ whole_short p own after a b =
     (whole_cases p)
 
 mutual
-  pub tokens_short : (f : Formula) → HasShortNames f → (ss : List Spelt) → AllByRecursion IsShort ss → AllByRecursion IsShort (tokens_onto f ss)
+  pub tokens_short : (f : Formula)
+      → HasShortNames f
+      → (ss : List Spelt)
+      → AllByRecursion IsShort ss
+      → AllByRecursion IsShort (tokens_onto f ss)
   tokens_short (plain.Const true) short ss all = (refl, all)
   tokens_short (plain.Const false) short ss all = (refl, all)
   tokens_short (plain.Prop p) short ss all = (short_word p short, all)
   tokens_short (plain.Not f) short ss all = (refl, tokens_short f short ss all)
-  tokens_short (plain.Binary o f g) short ss all =
-      (refl, tokens_short f short.0 ((token.Operator o, spelling_of o) ∷ tokens_onto g (lone 41 ∷ ss)) (refl, tokens_short g short.1 (lone 41 ∷ ss) (refl, all)))
+  tokens_short (plain.Binary o f g) short ss all = (
+    refl,
+    tokens_short f short.0 ((token.Operator o, spelling_of o) ∷ tokens_onto g (lone 41 ∷ ss))
+        (refl, tokens_short g short.1 (lone 41 ∷ ss) (refl, all)),
+  )
   tokens_short (plain.Modal m p f) short ss all =
       let after = lone (end_byte m) ∷ tokens_onto f ss in
       let rest : AllByRecursion IsShort after = (refl, tokens_short f short.1 ss all) in
       (refl, whole_short p (program_onto p after) after (program_short p short.0 after rest) rest)
   tokens_short (plain.Repeat p) short ss all = (refl, (refl, program_short p short (lone 41 ∷ ss) (refl, all)))
 
-  pub program_short : (p : Program) → ProgramHasShortNames p → (ss : List Spelt) → AllByRecursion IsShort ss → AllByRecursion IsShort (program_onto p ss)
+  pub program_short : (p : Program)
+      → ProgramHasShortNames p
+      → (ss : List Spelt)
+      → AllByRecursion IsShort ss
+      → AllByRecursion IsShort (program_onto p ss)
   program_short (plain.Act a) short ss all = (action_short a short, all)
   program_short (plain.Seq p q) short ss all =
       (refl, program_short p short.0 (lone 59 ∷ program_onto q (lone 41 ∷ ss)) (refl, program_short q short.1 (lone 41 ∷ ss) (refl, all)))
@@ -72,7 +86,8 @@ marked_bracket : (b : Bool) (s : Sign) → bracket_of (with_mark b s) ≡ bracke
 marked_bracket b (Open k) = refl
 marked_bracket b _ = refl
 
-pub token_bracket : (text : List ℕ) (p : Placed) → bracket_of (sign_at text p) ≡ bracket_of (sign_spelt (spelt_at text p))
+pub token_bracket : (text : List ℕ) (p : Placed)
+    → bracket_of (sign_at text p) ≡ bracket_of (sign_spelt (spelt_at text p))
 token_bracket text p = marked_bracket (is_test_behind 0 (signs_behind text p.end)) (sign_by text p)
 
 abbrev IsClosed : Sign → Type 0
@@ -82,7 +97,8 @@ closed_word_by : (o : Option Bool) (w : List ℕ) → opening (bracket_of (word_
 closed_word_by (Some b) w = refl
 closed_word_by None w =
     one_of IsClosed (bytes_eq w (codes "repeat")) _ _ refl
-    (one_of IsClosed (is_proposition w) (Lower w) (cond (is_variable w) (Upper w) Unknown) refl (one_of IsClosed (is_variable w) (Upper w) Unknown refl refl))
+    (one_of IsClosed (is_proposition w) (Lower w) (cond (is_variable w) (Upper w) Unknown) refl
+    (one_of IsClosed (is_variable w) (Upper w) Unknown refl refl))
 
 closed_word : (w : List ℕ) → opening (bracket_of (word_sign w)) ≡ 0
 closed_word w = closed_word_by (constant_of w) w
@@ -103,7 +119,9 @@ closed_action a = go (bytes_eq a (codes "_"))
     go false = closed_word a
 
 -- a whole program has as many as it has, or none
-whole_open : (p : Program) (own after : List Spelt) (n : ℕ) → opens_of own ≤ n + opens_of after → opens_of (whole_tokens p own after) ≤ n + opens_of after
+whole_open : (p : Program) (own after : List Spelt) (n : ℕ)
+    → opens_of own ≤ n + opens_of after
+    → opens_of (whole_tokens p own after) ≤ n + opens_of after
 whole_open p own after n le =
     ⊎_elim
     (λ (is_blank : p ≡ plain.Act (codes "_")). subst (λ q. opens_of (whole_tokens q own after) ≤ n + opens_of after) (sym is_blank) (omega arith))

@@ -6,7 +6,8 @@
 --   reads_formula, reads_program        == their signs, with the marks that they have, are read as f, or as p
 --   canonical_tokens                    == these are the tokens of the text alone
 --   canonical_stands                    == so the text stands for f
-use Rattle.std.proofs.Common.{◌≡◌, ℕ, suc, ◌⊎◌, Bool, true, false, ◌==◌, not, List, [], ◌∷◌, ◌++◌, map, Some, refl, sym, ◌∙◌, ap, subst, if◌then◌else◌, cond, codes, append_assoc, bytes_eq, ⊎_elim, inl, inr}
+use Rattle.std.proofs.Common.{◌≡◌, ℕ, suc, ◌⊎◌, Bool, true, false, ◌==◌, not, List, [], ◌∷◌, ◌++◌, map, Some, refl, sym, ◌∙◌}
+use Rattle.std.proofs.Common.{ap, subst, if◌then◌else◌, cond, codes, append_assoc, bytes_eq, ⊎_elim, inl, inr}
 use Rattle.std.specs.List.{list_all}
 use Rattle.std.proofs.lemmas.Bool.{and_parts, cases_Bool, cond-false}
 use Rattle.std.proofs.lemmas.List.{append-nil}
@@ -32,7 +33,8 @@ use Rattle.ml_pdl.specs.Signs.{Sign, Mark, Marked, Connective, Const, Open, Clos
 use Rattle.ml_pdl.specs.Marks.{asks, is_test_behind, mark_of, with_mark, marked}
 use Rattle.ml_pdl.specs.Spelling.{is_action, is_spelled, program_is_spelled, is_reserved}
 use Rattle.ml_pdl.specs.Grammar as grammar
-use Rattle.ml_pdl.specs.Grammar.{Reads, iff_alone, iff, imp_alone, imp, or_alone, or, and, negation, modal, modal_blank, repetition, group, constant, proposition, ReadsProgram, alt_alone, alt, seq_alone, seq, star_alone, star, action, test, program_group, tested_group}
+use Rattle.ml_pdl.specs.Grammar.{Reads, iff_alone, iff, imp_alone, imp, or_alone, or, and, negation, modal, modal_blank, repetition, group, constant}
+use Rattle.ml_pdl.specs.Grammar.{proposition, ReadsProgram, alt_alone, alt, seq_alone, seq, star_alone, star, action, test, program_group, tested_group}
 use Rattle.ml_pdl.specs.Text.{items, sign_by, IsTextOf}
 use Rattle.ml_pdl.proofs.FromTables.{un_raised}
 use Rattle.ml_pdl.proofs.MarkBytes.{neutral_test, neutral_word, weaker}
@@ -114,7 +116,10 @@ record Starts (text : List ℕ) : Type 0 where
   no_dash : (45 == first) ≡ false
   no_equals : (61 == first) ≡ false
 
-begin_piece : (m : Modality) (text : List ℕ) (ss : List Spelt) → Starts text → Scans AnyLetter text ss → Scans AnyLetter (begin_byte m ∷ text) (lone (begin_byte m) ∷ ss)
+begin_piece : (m : Modality) (text : List ℕ) (ss : List Spelt)
+    → Starts text
+    → Scans AnyLetter text ss
+    → Scans AnyLetter (begin_byte m ∷ text) (lone (begin_byte m) ∷ ss)
 begin_piece Square text ss s r = lone_piece AnyLetter 91 text ss refl r
 begin_piece Diamond text ss s r =
     subst (λ t. Scans AnyLetter (60 ∷ t) (lone 60 ∷ ss)) (sym s.is)
@@ -154,7 +159,11 @@ program_starts (plain.Star p) rest is =
     subst Starts (sym (append_assoc (program_text p) (codes "*") rest)) (program_starts p (codes "*" ++ rest) is)
 program_starts (plain.Test f) rest is = open_starts _
 
-action_piece : (a rest : List ℕ) (ss : List Spelt) → is_action a ≡ true → ends_word rest ≡ true → Scans AnyLetter rest ss → Scans AnyLetter (a ++ rest) (action_token a ∷ ss)
+action_piece : (a rest : List ℕ) (ss : List Spelt)
+    → is_action a ≡ true
+    → ends_word rest ≡ true
+    → Scans AnyLetter rest ss
+    → Scans AnyLetter (a ++ rest) (action_token a ∷ ss)
 action_piece a rest ss is stops r =
     ⊎_elim
     (λ (any : bytes_eq a (codes "_") ≡ true).
@@ -166,14 +175,17 @@ action_piece a rest ss is stops r =
     (word_piece AnyLetter a rest ss s.word stops r))
     (cases_Bool (bytes_eq a (codes "_")))
 
-joined_same : (a sp b rest : List ℕ) → (codes "(" ++ a ++ sp ++ b ++ codes ")") ++ rest ≡ 40 ∷ (a ++ (sp ++ (b ++ (41 ∷ rest))))
+joined_same : (a sp b rest : List ℕ)
+    → (codes "(" ++ a ++ sp ++ b ++ codes ")") ++ rest ≡ 40 ∷ (a ++ (sp ++ (b ++ (41 ∷ rest))))
 joined_same a sp b rest = simp append_assoc
 
-modality_same : (m : Modality) (t f rest : List ℕ) → (modality_text m t ++ f) ++ rest ≡ begin_byte m ∷ (t ++ (end_byte m ∷ (f ++ rest)))
+modality_same : (m : Modality) (t f rest : List ℕ)
+    → (modality_text m t ++ f) ++ rest ≡ begin_byte m ∷ (t ++ (end_byte m ∷ (f ++ rest)))
 modality_same Diamond t f rest = simp append_assoc
 modality_same Square t f rest = simp append_assoc
 
-repeat_same : (t rest : List ℕ) → (codes "repeat(" ++ t ++ codes ")") ++ rest ≡ codes "repeat" ++ (40 ∷ (t ++ (41 ∷ rest)))
+repeat_same : (t rest : List ℕ)
+    → (codes "repeat(" ++ t ++ codes ")") ++ rest ≡ codes "repeat" ++ (40 ∷ (t ++ (41 ∷ rest)))
 repeat_same t rest = simp append_assoc
 
 test_same : (t rest : List ℕ) → (codes "(" ++ t ++ codes ")?") ++ rest ≡ 40 ∷ (t ++ (41 ∷ 63 ∷ rest))
@@ -196,10 +208,17 @@ open_piece : (rest : List ℕ) (ss : List Spelt) → Scans AnyLetter rest ss →
 open_piece rest ss r = lone_piece AnyLetter 40 rest ss refl r
 
 mutual
-  pub scans_formula : (f : Formula) → is_spelled f ≡ true → (rest : List ℕ) (ss : List Spelt) → ends_word rest ≡ true → Scans AnyLetter rest ss → Scans AnyLetter (canonical_text f ++ rest) (tokens_onto f ss)
+  pub scans_formula : (f : Formula)
+      → is_spelled f ≡ true
+      → (rest : List ℕ) (ss : List Spelt)
+      → ends_word rest ≡ true
+      → Scans AnyLetter rest ss
+      → Scans AnyLetter (canonical_text f ++ rest) (tokens_onto f ss)
   scans_formula (plain.Const true) is rest ss stops r = word_piece AnyLetter (codes "tt") rest ss refl stops r
   scans_formula (plain.Const false) is rest ss stops r = word_piece AnyLetter (codes "ff") rest ss refl stops r
-  scans_formula (plain.Prop p) is rest ss stops r = word_piece AnyLetter p rest ss (lower_letters p (and_parts (is_word_from is_lower p) (not (is_reserved p)) is).0) stops r
+  scans_formula (plain.Prop p) is rest ss stops r =
+      word_piece AnyLetter p rest ss (lower_letters p (and_parts (is_word_from is_lower p) (not (is_reserved p)) is).0)
+      stops r
   scans_formula (plain.Not f) is rest ss stops r =
       not_piece AnyLetter (canonical_text f ++ rest) (tokens_onto f ss) (scans_formula f is rest ss stops r)
   scans_formula (plain.Binary o f g) is rest ss stops r =
@@ -208,7 +227,8 @@ mutual
       let sign = operator_piece AnyLetter o (canonical_text g ++ (41 ∷ rest)) (tokens_onto g (lone 41 ∷ ss)) right in
       let after = codes " " ++ (spelling_of o ++ (codes " " ++ (canonical_text g ++ (41 ∷ rest)))) in
       let left = scans_formula f parts.0 after ((token.Operator o, spelling_of o) ∷ tokens_onto g (lone 41 ∷ ss)) refl sign in
-      subst (λ text. Scans AnyLetter text (tokens_onto (plain.Binary o f g) ss)) (sym (between_same (canonical_text f) (spelling_of o) (canonical_text g) rest))
+      subst (λ text. Scans AnyLetter text (tokens_onto (plain.Binary o f g) ss))
+      (sym (between_same (canonical_text f) (spelling_of o) (canonical_text g) rest))
       (open_piece (canonical_text f ++ after) (tokens_onto f ((token.Operator o, spelling_of o) ∷ tokens_onto g (lone 41 ∷ ss))) left)
   scans_formula (plain.Modal m p f) is rest ss stops r =
       let parts = and_parts (program_is_spelled p) (is_spelled f) is in
@@ -221,10 +241,16 @@ mutual
       subst (λ q. Scans AnyLetter (canonical_text (plain.Modal m q f) ++ rest) (tokens_onto (plain.Modal m q f) ss)) (sym is_blank)
       (blank_scans m (canonical_text f) rest (tokens_onto f ss) behind))
       (λ (w : IsWhole p).
-      subst (λ t. Scans AnyLetter ((modality_text m t ++ canonical_text f) ++ rest) (tokens_onto (plain.Modal m p f) ss)) (sym (w.text (program_text p)))
+      subst
+      (λ t. Scans AnyLetter ((modality_text m t ++ canonical_text f) ++ rest) (tokens_onto (plain.Modal m p f) ss))
+      (sym (w.text (program_text p)))
       (subst (λ text. Scans AnyLetter text (tokens_onto (plain.Modal m p f) ss)) (sym (modality_same m (program_text p) (canonical_text f) rest))
-      (subst (λ l. Scans AnyLetter (begin_byte m ∷ (program_text p ++ (end_byte m ∷ (canonical_text f ++ rest)))) (lone (begin_byte m) ∷ l)) (sym (w.toks (program_onto p after) after))
-      (begin_piece m (program_text p ++ (end_byte m ∷ (canonical_text f ++ rest))) (program_onto p after) (program_starts p (end_byte m ∷ (canonical_text f ++ rest)) parts.0) own))))
+      (subst
+      (λ l. Scans AnyLetter (begin_byte m ∷ (program_text p ++ (end_byte m ∷ (canonical_text f ++ rest))))
+      (lone (begin_byte m) ∷ l))
+      (sym (w.toks (program_onto p after) after))
+      (begin_piece m (program_text p ++ (end_byte m ∷ (canonical_text f ++ rest))) (program_onto p after)
+      (program_starts p (end_byte m ∷ (canonical_text f ++ rest)) parts.0) own))))
       (whole_cases p)
   scans_formula (plain.Repeat p) is rest ss stops r =
       let own = scans_program p is (41 ∷ rest) (lone 41 ∷ ss) refl (close_piece rest ss r) in
@@ -232,7 +258,12 @@ mutual
       subst (λ text. Scans AnyLetter text (tokens_onto (plain.Repeat p) ss)) (sym (repeat_same (program_text p) rest))
       (word_piece AnyLetter (codes "repeat") (40 ∷ (program_text p ++ (41 ∷ rest))) (lone 40 ∷ program_onto p (lone 41 ∷ ss)) refl refl inside)
 
-  pub scans_program : (p : Program) → program_is_spelled p ≡ true → (rest : List ℕ) (ss : List Spelt) → ends_word rest ≡ true → Scans AnyLetter rest ss → Scans AnyLetter (program_text p ++ rest) (program_onto p ss)
+  pub scans_program : (p : Program)
+      → program_is_spelled p ≡ true
+      → (rest : List ℕ) (ss : List Spelt)
+      → ends_word rest ≡ true
+      → Scans AnyLetter rest ss
+      → Scans AnyLetter (program_text p ++ rest) (program_onto p ss)
   scans_program (plain.Act a) is rest ss stops r = action_piece a rest ss is stops r
   scans_program (plain.Seq p q) is rest ss stops r =
       let parts = and_parts (program_is_spelled p) (program_is_spelled q) is in
@@ -241,7 +272,8 @@ mutual
       let toks = program_onto q (lone 41 ∷ ss) in
       let sign = lone_piece AnyLetter 59 after toks refl right in
       subst (λ text. Scans AnyLetter text (program_onto (plain.Seq p q) ss)) (sym (joined_same (program_text p) (codes ";") (program_text q) rest))
-      (open_piece (program_text p ++ (59 ∷ after)) (program_onto p (lone 59 ∷ toks)) (scans_program p parts.0 (59 ∷ after) (lone 59 ∷ toks) refl sign))
+      (open_piece (program_text p ++ (59 ∷ after)) (program_onto p (lone 59 ∷ toks))
+      (scans_program p parts.0 (59 ∷ after) (lone 59 ∷ toks) refl sign))
   scans_program (plain.Alt p q) is rest ss stops r =
       let parts = and_parts (program_is_spelled p) (program_is_spelled q) is in
       let right = scans_program q parts.1 (41 ∷ rest) (lone 41 ∷ ss) refl (close_piece rest ss r) in
@@ -249,7 +281,8 @@ mutual
       let toks = program_onto q (lone 41 ∷ ss) in
       let sign = lone_piece AnyLetter 43 after toks refl right in
       subst (λ text. Scans AnyLetter text (program_onto (plain.Alt p q) ss)) (sym (joined_same (program_text p) (codes "+") (program_text q) rest))
-      (open_piece (program_text p ++ (43 ∷ after)) (program_onto p (lone 43 ∷ toks)) (scans_program p parts.0 (43 ∷ after) (lone 43 ∷ toks) refl sign))
+      (open_piece (program_text p ++ (43 ∷ after)) (program_onto p (lone 43 ∷ toks))
+      (scans_program p parts.0 (43 ∷ after) (lone 43 ∷ toks) refl sign))
   scans_program (plain.Star p) is rest ss stops r =
       subst (λ text. Scans AnyLetter text (program_onto p (lone 42 ∷ ss))) (sym (append_assoc (program_text p) (codes "*") rest))
       (scans_program p is (42 ∷ rest) (lone 42 ∷ ss) refl (lone_piece AnyLetter 42 rest ss refl r))
@@ -257,7 +290,8 @@ mutual
       let sign = lone_piece AnyLetter 63 rest ss refl r in
       let close = close_piece (63 ∷ rest) (lone 63 ∷ ss) sign in
       subst (λ text. Scans AnyLetter text (program_onto (plain.Test f) ss)) (sym (test_same (canonical_text f) rest))
-      (open_piece (canonical_text f ++ (41 ∷ 63 ∷ rest)) (tokens_onto f (lone 41 ∷ lone 63 ∷ ss)) (scans_formula f is (41 ∷ 63 ∷ rest) (lone 41 ∷ lone 63 ∷ ss) refl close))
+      (open_piece (canonical_text f ++ (41 ∷ 63 ∷ rest)) (tokens_onto f (lone 41 ∷ lone 63 ∷ ss))
+      (scans_formula f is (41 ∷ 63 ∷ rest) (lone 41 ∷ lone 63 ∷ ss) refl close))
 
 -- ---- their parentheses are partners of one another
 
@@ -267,34 +301,43 @@ sign_spelt s = sign_of s.0 s.1
 abbrev pub plain_signs : List Spelt → List Sign
 plain_signs ss = map sign_spelt ss
 
-even_word : (w : List ℕ) (ss : List Spelt) (n : ℕ) → is_test_behind n (plain_signs ((token.Word, w) ∷ ss)) ≡ is_test_behind n (plain_signs ss)
+even_word : (w : List ℕ) (ss : List Spelt) (n : ℕ)
+    → is_test_behind n (plain_signs ((token.Word, w) ∷ ss)) ≡ is_test_behind n (plain_signs ss)
 even_word w ss n = neutral_test (word_sign w) n (plain_signs ss) (weaker (word_sign w) (neutral_word w (constant_of w)))
 
-even_action : (a : List ℕ) (ss : List Spelt) (n : ℕ) → is_test_behind n (plain_signs (action_token a ∷ ss)) ≡ is_test_behind n (plain_signs ss)
+even_action : (a : List ℕ) (ss : List Spelt) (n : ℕ)
+    → is_test_behind n (plain_signs (action_token a ∷ ss)) ≡ is_test_behind n (plain_signs ss)
 even_action a ss n = go (bytes_eq a (codes "_"))
   where
-    go : (b : Bool) → is_test_behind n (sign_spelt (cond b (lone 95) (token.Word, a)) ∷ plain_signs ss) ≡ is_test_behind n (plain_signs ss)
+    go : (b : Bool)
+        → is_test_behind n (sign_spelt (cond b (lone 95) (token.Word, a)) ∷ plain_signs ss) ≡ is_test_behind n (plain_signs ss)
     go true = refl
     go false = even_word a ss n
 
-even_begin : (m : Modality) (ss : List Spelt) (n : ℕ) → is_test_behind n (plain_signs (lone (begin_byte m) ∷ ss)) ≡ is_test_behind n (plain_signs ss)
+even_begin : (m : Modality) (ss : List Spelt) (n : ℕ)
+    → is_test_behind n (plain_signs (lone (begin_byte m) ∷ ss)) ≡ is_test_behind n (plain_signs ss)
 even_begin Diamond ss n = refl
 even_begin Square ss n = refl
 
-even_end : (m : Modality) (ss : List Spelt) (n : ℕ) → is_test_behind n (plain_signs (lone (end_byte m) ∷ ss)) ≡ is_test_behind n (plain_signs ss)
+even_end : (m : Modality) (ss : List Spelt) (n : ℕ)
+    → is_test_behind n (plain_signs (lone (end_byte m) ∷ ss)) ≡ is_test_behind n (plain_signs ss)
 even_end Diamond ss n = refl
 even_end Square ss n = refl
 
-even_whole : (p : Program) (own after : List Spelt) (n : ℕ) → is_test_behind n (plain_signs own) ≡ is_test_behind n (plain_signs after)
+even_whole : (p : Program) (own after : List Spelt) (n : ℕ)
+    → is_test_behind n (plain_signs own) ≡ is_test_behind n (plain_signs after)
     → is_test_behind n (plain_signs (whole_tokens p own after)) ≡ is_test_behind n (plain_signs after)
 even_whole p own after n same =
     ⊎_elim
-    (λ (is_blank : p ≡ plain.Act (codes "_")). subst (λ q. is_test_behind n (plain_signs (whole_tokens q own after)) ≡ is_test_behind n (plain_signs after)) (sym is_blank) refl)
+    (λ (is_blank : p ≡ plain.Act (codes "_")).
+    subst (λ q. is_test_behind n (plain_signs (whole_tokens q own after)) ≡ is_test_behind n (plain_signs after))
+    (sym is_blank) refl)
     (λ (w : IsWhole p). ap (λ l. is_test_behind n (plain_signs l)) (w.toks own after) ∙ same)
     (whole_cases p)
 
 mutual
-  pub formula_even : (f : Formula) (ss : List Spelt) (n : ℕ) → is_test_behind n (plain_signs (tokens_onto f ss)) ≡ is_test_behind n (plain_signs ss)
+  pub formula_even : (f : Formula) (ss : List Spelt) (n : ℕ)
+      → is_test_behind n (plain_signs (tokens_onto f ss)) ≡ is_test_behind n (plain_signs ss)
   formula_even (plain.Const true) ss n = even_word (codes "tt") ss n
   formula_even (plain.Const false) ss n = even_word (codes "ff") ss n
   formula_even (plain.Prop p) ss n = even_word p ss n
@@ -311,7 +354,8 @@ mutual
   formula_even (plain.Repeat p) ss n =
       even_word (codes "repeat") (lone 40 ∷ program_onto p (lone 41 ∷ ss)) n ∙ program_even p (lone 41 ∷ ss) (suc n)
 
-  pub program_even : (p : Program) (ss : List Spelt) (n : ℕ) → is_test_behind n (plain_signs (program_onto p ss)) ≡ is_test_behind n (plain_signs ss)
+  pub program_even : (p : Program) (ss : List Spelt) (n : ℕ)
+      → is_test_behind n (plain_signs (program_onto p ss)) ≡ is_test_behind n (plain_signs ss)
   program_even (plain.Act a) ss n = even_action a ss n
   program_even (plain.Seq p q) ss n =
       program_even p (lone 59 ∷ program_onto q (lone 41 ∷ ss)) (suc n) ∙ program_even q (lone 41 ∷ ss) (suc n)
@@ -352,21 +396,32 @@ marked_action : (b : Bool) (s : Sign) → action_of (with_mark b s) ≡ action_o
 marked_action b (Open k) = refl
 marked_action b _ = refl
 
-binary_read : (o : Operator) (k : Mark) (ts us rest : List Sign) (f g : Formula) → Reads grammar.Un ts f (Connective o ∷ us) → Reads grammar.Un us g (Close ∷ rest) → Reads grammar.Un (Open k ∷ ts) (plain.Binary o f g) rest
+binary_read : (o : Operator) (k : Mark) (ts us rest : List Sign) (f g : Formula)
+    → Reads grammar.Un ts f (Connective o ∷ us)
+    → Reads grammar.Un us g (Close ∷ rest)
+    → Reads grammar.Un (Open k ∷ ts) (plain.Binary o f g) rest
 binary_read operator.Iff k ts us rest f g a b = group k (iff (un_raised grammar.Imp a) (un_raised grammar.Iff b))
 binary_read operator.Implies k ts us rest f g a b = group k (iff_alone (imp (un_raised grammar.Or a) (un_raised grammar.Imp b)))
 binary_read operator.Or k ts us rest f g a b = group k (iff_alone (imp_alone (or (un_raised grammar.Or a) (un_raised grammar.And b))))
 binary_read operator.And k ts us rest f g a b = group k (iff_alone (imp_alone (or_alone (and (un_raised grammar.And a) b))))
 
-star_raised : {ts rest : List Sign} {p : Program} → ReadsProgram grammar.Star ts p rest → ReadsProgram grammar.Prog ts p rest
+star_raised : {ts rest : List Sign} {p : Program}
+    → ReadsProgram grammar.Star ts p rest
+    → ReadsProgram grammar.Prog ts p rest
 star_raised r = alt_alone (seq_alone r)
 
 -- a program between parentheses, which are no test's
-group_read : (b : Bool) (ts rest : List Sign) (p : Program) → b ≡ false → ReadsProgram grammar.Prog ts p (Close ∷ rest) → ReadsProgram grammar.Star (Open (mark_of b) ∷ ts) p rest
+group_read : (b : Bool) (ts rest : List Sign) (p : Program)
+    → b ≡ false
+    → ReadsProgram grammar.Prog ts p (Close ∷ rest)
+    → ReadsProgram grammar.Star (Open (mark_of b) ∷ ts) p rest
 group_read b ts rest p is r = subst (λ k. ReadsProgram grammar.Star (Open (mark_of k) ∷ ts) p rest) (sym is) (star_alone (program_group r))
 
 -- and a test
-test_read : (b : Bool) (ts rest : List Sign) (f : Formula) → b ≡ true → Reads grammar.Un ts f (Close ∷ Question ∷ rest) → ReadsProgram grammar.Star (Open (mark_of b) ∷ ts) (plain.Test f) rest
+test_read : (b : Bool) (ts rest : List Sign) (f : Formula)
+    → b ≡ true
+    → Reads grammar.Un ts f (Close ∷ Question ∷ rest)
+    → ReadsProgram grammar.Star (Open (mark_of b) ∷ ts) (plain.Test f) rest
 test_read b ts rest f is r =
     subst (λ k. ReadsProgram grammar.Star (Open (mark_of k) ∷ ts) (plain.Test f) rest) (sym is)
     (star_alone (test refl (tested_group Marked (un_raised grammar.Iff r))))
@@ -382,7 +437,10 @@ modal_read m p f own after rest a b l last is =
     subst (λ x. Reads grammar.Un (Begins m ∷ signs_with_marks x) (plain.Modal m p f) rest) (sym is)
     (⊎_elim
     (λ (is_blank : p ≡ plain.Act (codes "_")).
-    subst (λ q. Reads grammar.Un (Begins m ∷ signs_with_marks (whole_tokens q own (lone (end_byte m) ∷ after))) (plain.Modal m q f) rest) (sym is_blank)
+    subst
+    (λ q. Reads grammar.Un (Begins m ∷ signs_with_marks (whole_tokens q own (lone (end_byte m) ∷ after)))
+    (plain.Modal m q f) rest)
+    (sym is_blank)
     (subst (λ ts. Reads grammar.Un (Begins m ∷ ts) (plain.Modal m (plain.Act (codes "_")) f) rest) (sym last) (modal_blank m b)))
     (λ (w : IsWhole p).
     subst (λ x. Reads grammar.Un (Begins m ∷ signs_with_marks x) (plain.Modal m p f) rest) (sym (w.toks own (lone (end_byte m) ∷ after)))
@@ -390,41 +448,78 @@ modal_read m p f own after rest a b l last is =
     (whole_cases p))
 
 mutual
-  pub reads_formula : (f : Formula) → is_spelled f ≡ true → (ss : List Spelt) → Reads grammar.Un (signs_with_marks (tokens_onto f ss)) f (signs_with_marks ss)
-  reads_formula (plain.Const true) is ss = subst (λ t. Reads grammar.Un (with_mark (is_test_behind 0 (plain_signs ss)) t ∷ signs_with_marks ss) (plain.Const true) (signs_with_marks ss)) (sym true_sign) (constant true)
-  reads_formula (plain.Const false) is ss = subst (λ t. Reads grammar.Un (with_mark (is_test_behind 0 (plain_signs ss)) t ∷ signs_with_marks ss) (plain.Const false) (signs_with_marks ss)) (sym false_sign) (constant false)
-  reads_formula (plain.Prop p) is ss = subst (λ t. Reads grammar.Un (with_mark (is_test_behind 0 (plain_signs ss)) t ∷ signs_with_marks ss) (plain.Prop p) (signs_with_marks ss)) (sym (proposition_sign p is)) (proposition p)
+  pub reads_formula : (f : Formula)
+      → is_spelled f ≡ true
+      → (ss : List Spelt)
+      → Reads grammar.Un (signs_with_marks (tokens_onto f ss)) f (signs_with_marks ss)
+  reads_formula (plain.Const true) is ss =
+      subst
+      (λ t. Reads grammar.Un (with_mark (is_test_behind 0 (plain_signs ss)) t ∷ signs_with_marks ss) (plain.Const true)
+      (signs_with_marks ss))
+      (sym true_sign) (constant true)
+  reads_formula (plain.Const false) is ss =
+      subst
+      (λ t.
+      Reads grammar.Un (with_mark (is_test_behind 0 (plain_signs ss)) t ∷ signs_with_marks ss) (plain.Const false)
+      (signs_with_marks ss))
+      (sym false_sign) (constant false)
+  reads_formula (plain.Prop p) is ss =
+      subst
+      (λ t. Reads grammar.Un (with_mark (is_test_behind 0 (plain_signs ss)) t ∷ signs_with_marks ss) (plain.Prop p)
+      (signs_with_marks ss))
+      (sym (proposition_sign p is)) (proposition p)
   reads_formula (plain.Not f) is ss = negation (reads_formula f is ss)
   reads_formula (plain.Binary o f g) is ss =
       let parts = and_parts (is_spelled f) (is_spelled g) is in
-      binary_read o _ _ _ (signs_with_marks ss) f g (reads_formula f parts.0 ((token.Operator o, spelling_of o) ∷ tokens_onto g (lone 41 ∷ ss))) (reads_formula g parts.1 (lone 41 ∷ ss))
+      binary_read o _ _ _ (signs_with_marks ss) f g
+      (reads_formula f parts.0 ((token.Operator o, spelling_of o) ∷ tokens_onto g (lone 41 ∷ ss)))
+      (reads_formula g parts.1 (lone 41 ∷ ss))
   reads_formula (plain.Modal Diamond p f) is ss =
       let parts = and_parts (program_is_spelled p) (is_spelled f) is in
       let after = tokens_onto f ss in
-      modal_read Diamond p f (program_onto p (lone 62 ∷ after)) after (signs_with_marks ss) (reads_program p parts.0 (lone 62 ∷ after) refl) (reads_formula f parts.1 ss) (whole_tokens p (program_onto p (lone 62 ∷ after)) (lone 62 ∷ after)) refl refl
+      modal_read Diamond p f (program_onto p (lone 62 ∷ after)) after (signs_with_marks ss)
+      (reads_program p parts.0 (lone 62 ∷ after) refl) (reads_formula f parts.1 ss)
+      (whole_tokens p (program_onto p (lone 62 ∷ after)) (lone 62 ∷ after)) refl refl
   reads_formula (plain.Modal Square p f) is ss =
       let parts = and_parts (program_is_spelled p) (is_spelled f) is in
       let after = tokens_onto f ss in
-      modal_read Square p f (program_onto p (lone 93 ∷ after)) after (signs_with_marks ss) (reads_program p parts.0 (lone 93 ∷ after) refl) (reads_formula f parts.1 ss) (whole_tokens p (program_onto p (lone 93 ∷ after)) (lone 93 ∷ after)) refl refl
+      modal_read Square p f (program_onto p (lone 93 ∷ after)) after (signs_with_marks ss)
+      (reads_program p parts.0 (lone 93 ∷ after) refl) (reads_formula f parts.1 ss)
+      (whole_tokens p (program_onto p (lone 93 ∷ after)) (lone 93 ∷ after)) refl refl
   reads_formula (plain.Repeat p) is ss =
       let own = program_onto p (lone 41 ∷ ss) in
       let inside = plain_signs own in
-      subst (λ t. Reads grammar.Un (with_mark (is_test_behind 0 (plain_signs (lone 40 ∷ own))) t ∷ Open (mark_of (is_test_behind 0 inside)) ∷ signs_with_marks own) (plain.Repeat p) (signs_with_marks ss)) (sym repeat_sign)
+      subst
+      (λ t. Reads grammar.Un
+      (with_mark (is_test_behind 0 (plain_signs (lone 40 ∷ own))) t ∷ Open (mark_of (is_test_behind 0 inside))
+      ∷ signs_with_marks own)
+      (plain.Repeat p) (signs_with_marks ss))
+      (sym repeat_sign)
       (repetition (mark_of (is_test_behind 0 inside)) (star_raised (reads_program p is (lone 41 ∷ ss) refl)))
 
-  pub reads_program : (p : Program) → program_is_spelled p ≡ true → (ss : List Spelt) → asks (plain_signs ss) ≡ false → ReadsProgram grammar.Star (signs_with_marks (program_onto p ss)) p (signs_with_marks ss)
+  pub reads_program : (p : Program)
+      → program_is_spelled p ≡ true
+      → (ss : List Spelt)
+      → asks (plain_signs ss) ≡ false
+      → ReadsProgram grammar.Star (signs_with_marks (program_onto p ss)) p (signs_with_marks ss)
   reads_program (plain.Act a) is ss no_test =
-      star_alone (action a (with_mark (is_test_behind 0 (plain_signs ss)) (sign_spelt (action_token a))) (marked_action (is_test_behind 0 (plain_signs ss)) (sign_spelt (action_token a)) ∙ action_read a is))
+      star_alone
+      (action a (with_mark (is_test_behind 0 (plain_signs ss)) (sign_spelt (action_token a)))
+      (marked_action (is_test_behind 0 (plain_signs ss)) (sign_spelt (action_token a)) ∙ action_read a is))
   reads_program (plain.Seq p q) is ss no_test =
       let parts = and_parts (program_is_spelled p) (program_is_spelled q) is in
       let right = reads_program q parts.1 (lone 41 ∷ ss) refl in
       let left = reads_program p parts.0 (lone 59 ∷ program_onto q (lone 41 ∷ ss)) refl in
-      group_read _ _ _ (plain.Seq p q) (program_even p (lone 59 ∷ program_onto q (lone 41 ∷ ss)) 0 ∙ program_even q (lone 41 ∷ ss) 0 ∙ no_test) (alt_alone (seq (seq_alone left) right))
+      group_read _ _ _ (plain.Seq p q)
+      (program_even p (lone 59 ∷ program_onto q (lone 41 ∷ ss)) 0 ∙ program_even q (lone 41 ∷ ss) 0 ∙ no_test)
+      (alt_alone (seq (seq_alone left) right))
   reads_program (plain.Alt p q) is ss no_test =
       let parts = and_parts (program_is_spelled p) (program_is_spelled q) is in
       let right = reads_program q parts.1 (lone 41 ∷ ss) refl in
       let left = reads_program p parts.0 (lone 43 ∷ program_onto q (lone 41 ∷ ss)) refl in
-      group_read _ _ _ (plain.Alt p q) (program_even p (lone 43 ∷ program_onto q (lone 41 ∷ ss)) 0 ∙ program_even q (lone 41 ∷ ss) 0 ∙ no_test) (alt (star_raised left) (seq_alone right))
+      group_read _ _ _ (plain.Alt p q)
+      (program_even p (lone 43 ∷ program_onto q (lone 41 ∷ ss)) 0 ∙ program_even q (lone 41 ∷ ss) 0 ∙ no_test)
+      (alt (star_raised left) (seq_alone right))
   reads_program (plain.Star p) is ss no_test = star (reads_program p is (lone 42 ∷ ss) refl)
   reads_program (plain.Test f) is ss no_test =
       test_read _ _ _ f (formula_even f (lone 41 ∷ lone 63 ∷ ss) 0) (reads_formula f is (lone 41 ∷ lone 63 ∷ ss))
@@ -435,10 +530,14 @@ plain_spelt : (text : List ℕ) (ps : List Placed) → map (sign_by text) ps ≡
 plain_spelt text [] = refl
 plain_spelt text (p ∷ ps) = ap (λ ts. sign_by text p ∷ ts) (plain_spelt text ps)
 
-pub canonical_tokens : (f : Formula) → is_spelled f ≡ true → map (spelt_at (canonical_text f)) (tokens AnyLetter (canonical_text f)) ≡ tokens_onto f []
+pub canonical_tokens : (f : Formula)
+    → is_spelled f ≡ true
+    → map (spelt_at (canonical_text f)) (tokens AnyLetter (canonical_text f)) ≡ tokens_onto f []
 canonical_tokens f is =
     let text = canonical_text f in
-    let scans : Scans AnyLetter text (tokens_onto f []) = subst (λ t. Scans AnyLetter t (tokens_onto f [])) (append-nil text) (scans_formula f is [] [] refl ends) in
+    let scans : Scans AnyLetter text (tokens_onto f []) =
+    subst (λ t. Scans AnyLetter t (tokens_onto f [])) (append-nil text) (scans_formula f is [] [] refl ends)
+    in
     scans_tokens AnyLetter text (tokens_onto f []) scans
 
 pub canonical_stands : (f : Formula) → is_spelled f ≡ true → IsTextOf (canonical_text f) f

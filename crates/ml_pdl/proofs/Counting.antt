@@ -10,29 +10,39 @@ use Rattle.ml_text.specs.Items as text_items
 use Rattle.ml_pdl.specs.Formula.{Formula, Program, occurrences, program_occurrences}
 use Rattle.ml_pdl.specs.Signs.{Sign, Blank, Lower, Upper, action_of}
 use Rattle.ml_pdl.specs.Grammar as grammar
-use Rattle.ml_pdl.specs.Grammar.{Reads, iff_alone, iff, imp_alone, imp, or_alone, or, and_alone, and, negation, modal, modal_blank, repetition, group, constant, proposition, ReadsProgram, alt_alone, alt, seq_alone, seq, star_alone, star, action, test, program_group, ReadsTested, tested_negation, tested_constant, tested_proposition, tested_group}
+use Rattle.ml_pdl.specs.Grammar.{Reads, iff_alone, iff, imp_alone, imp, or_alone, or, and_alone, and, negation, modal, modal_blank, repetition}
+use Rattle.ml_pdl.specs.Grammar.{group, constant, proposition, ReadsProgram, alt_alone, alt, seq_alone, seq, star_alone, star, action, test}
+use Rattle.ml_pdl.specs.Grammar.{program_group, ReadsTested, tested_negation, tested_constant, tested_proposition, tested_group}
 use Rattle.ml_pdl.specs.Text.{weight_of, begins_modality, pdl_signs, sign_at, items_from}
 
 abbrev pub count_signs : Bool → List Sign → ℕ
 count_signs b [] = 0
 count_signs b (t ∷ ts) = weight_of b t + count_signs (begins_modality t) ts
 
-pub counted_items : (text : List ℕ) (b : Bool) (ps : List Placed) → counted (items_from text b ps) ≡ count_signs b (signs_of (items_from text b ps))
+pub counted_items : (text : List ℕ) (b : Bool) (ps : List Placed)
+    → counted (items_from text b ps) ≡ count_signs b (signs_of (items_from text b ps))
 counted_items text b [] = refl
 counted_items text b (p ∷ ps) =
-    let here = Rattle.std.proofs.lemmas.List.Sums.sum_by-cons (λ (i : Item Sign). i.weight) (text_items.item_at pdl_signs text b p) (items_from text (begins_modality (sign_at text p)) ps) in
+    let here =
+    Rattle.std.proofs.lemmas.List.Sums.sum_by-cons (λ (i : Item Sign). i.weight) (text_items.item_at pdl_signs text b p)
+    (items_from text (begins_modality (sign_at text p)) ps)
+    in
     let later = counted_items text (begins_modality (sign_at text p)) ps in
     omega (arith, here, later)
 
 -- the first sign of a program counts the same, wherever it stands
-action_first : (a : List ℕ) (s : Sign) (ts : List Sign) → action_of s ≡ Some a → count_signs true (s ∷ ts) ≡ count_signs false (s ∷ ts)
+action_first : (a : List ℕ) (s : Sign) (ts : List Sign)
+    → action_of s ≡ Some a
+    → count_signs true (s ∷ ts) ≡ count_signs false (s ∷ ts)
 action_first a Blank ts is = refl
 action_first a (Lower b) ts is = refl
 action_first a (Upper b) ts is = refl
 action_first a _ ts is = absurd (cc)
 
 mutual
-  program_first : {l : grammar.ProgramLevel} {ts rest : List Sign} {p : Program} → ReadsProgram l ts p rest → count_signs true ts ≡ count_signs false ts
+  program_first : {l : grammar.ProgramLevel} {ts rest : List Sign} {p : Program}
+      → ReadsProgram l ts p rest
+      → count_signs true ts ≡ count_signs false ts
   program_first (alt_alone r) = program_first r
   program_first (alt a b) = program_first a
   program_first (seq_alone r) = program_first r
@@ -43,21 +53,27 @@ mutual
   program_first (test e r) = tested_first r
   program_first (program_group r) = refl
 
-  tested_first : {ts rest : List Sign} {f : Formula} → ReadsTested ts f rest → count_signs true ts ≡ count_signs false ts
+  tested_first : {ts rest : List Sign} {f : Formula}
+      → ReadsTested ts f rest
+      → count_signs true ts ≡ count_signs false ts
   tested_first (tested_negation r) = refl
   tested_first (tested_constant b) = refl
   tested_first (tested_proposition p) = refl
   tested_first (tested_group k r) = refl
 
 -- an action counts one
-action_counts : (a : List ℕ) (s : Sign) (ts : List Sign) → action_of s ≡ Some a → count_signs false (s ∷ ts) ≡ 1 + count_signs false ts
+action_counts : (a : List ℕ) (s : Sign) (ts : List Sign)
+    → action_of s ≡ Some a
+    → count_signs false (s ∷ ts) ≡ 1 + count_signs false ts
 action_counts a Blank ts is = refl
 action_counts a (Lower b) ts is = refl
 action_counts a (Upper b) ts is = refl
 action_counts a _ ts is = absurd (cc)
 
 mutual
-  pub counts : {l : grammar.Level} {ts rest : List Sign} {f : Formula} → Reads l ts f rest → count_signs false ts ≡ occurrences f + count_signs false rest
+  pub counts : {l : grammar.Level} {ts rest : List Sign} {f : Formula}
+      → Reads l ts f rest
+      → count_signs false ts ≡ occurrences f + count_signs false rest
   counts (iff_alone r) = counts r
   counts (iff a b) = let x = counts a in let y = counts b in omega (arith, x, y)
   counts (imp_alone r) = counts r
@@ -74,7 +90,9 @@ mutual
   counts (constant b) = omega arith
   counts (proposition p) = omega arith
 
-  pub program_counts : {l : grammar.ProgramLevel} {ts rest : List Sign} {p : Program} → ReadsProgram l ts p rest → count_signs false ts ≡ program_occurrences p + count_signs false rest
+  pub program_counts : {l : grammar.ProgramLevel} {ts rest : List Sign} {p : Program}
+      → ReadsProgram l ts p rest
+      → count_signs false ts ≡ program_occurrences p + count_signs false rest
   program_counts (alt_alone r) = program_counts r
   program_counts (alt a b) = let x = program_counts a in let y = program_counts b in omega (arith, x, y)
   program_counts (seq_alone r) = program_counts r
@@ -85,7 +103,9 @@ mutual
   program_counts (test e r) = let x = tested_counts r in omega (arith, x)
   program_counts (program_group r) = let x = program_counts r in omega (arith, x)
 
-  pub tested_counts : {ts rest : List Sign} {f : Formula} → ReadsTested ts f rest → count_signs false ts ≡ occurrences f + count_signs false rest
+  pub tested_counts : {ts rest : List Sign} {f : Formula}
+      → ReadsTested ts f rest
+      → count_signs false ts ≡ occurrences f + count_signs false rest
   tested_counts (tested_negation r) = let x = tested_counts r in omega (arith, x)
   tested_counts (tested_constant b) = omega arith
   tested_counts (tested_proposition p) = omega arith

@@ -16,8 +16,13 @@ use Rattle.ml_pdl.specs.Formula.{Formula, Program, Modality, Diamond, Square}
 use Rattle.ml_pdl.specs.Signs as signs
 use Rattle.ml_pdl.specs.Signs.{Sign, Mark, Marked, Unmarked, Not, Connective, Const, Open, Close, Begins, Ends, Repeats, Plus, Semicolon, Question, Blank, Lower, Upper}
 use Rattle.ml_pdl.specs.Grammar as grammar
-use Rattle.ml_pdl.specs.Grammar.{Reads, iff_alone, iff, imp_alone, imp, or_alone, or, and_alone, and, negation, modal, modal_blank, repetition, group, constant, proposition, ReadsProgram, alt_alone, alt, seq_alone, seq, star_alone, star, action, test, program_group, ReadsTested, tested_negation, tested_constant, tested_proposition, tested_group}
-use Rattle.ml_pdl.specs.Tables.{Phrase, OfFormula, OfProgram, Name, formula_of, program_of, negated, Sort, Formulas, Programs, Wait, FormulaStart, ProgramStart, BehindBegin, BehindProgram, BehindRepeat, BehindRepeatInside, BehindFormulaInside, BehindProgramInside, BehindTestInside, BehindNegations, BehindTested, Hold, Negation, ModalProgram, Modal, FormulaGroup, ProgramGroup, RepeatGroup, TestGroup, PdlTurn, shift, resume, role, join, post, pdl_grammar}
+use Rattle.ml_pdl.specs.Grammar.{Reads, iff_alone, iff, imp_alone, imp, or_alone, or, and_alone, and, negation, modal, modal_blank, repetition}
+use Rattle.ml_pdl.specs.Grammar.{group, constant, proposition, ReadsProgram, alt_alone, alt, seq_alone, seq, star_alone, star, action, test}
+use Rattle.ml_pdl.specs.Grammar.{program_group, ReadsTested, tested_negation, tested_constant, tested_proposition, tested_group}
+use Rattle.ml_pdl.specs.Tables.{Phrase, OfFormula, OfProgram, Name, formula_of, program_of, negated, Sort, Formulas, Programs, Wait, FormulaStart}
+use Rattle.ml_pdl.specs.Tables.{ProgramStart, BehindBegin, BehindProgram, BehindRepeat, BehindRepeatInside, BehindFormulaInside, BehindProgramInside}
+use Rattle.ml_pdl.specs.Tables.{BehindTestInside, BehindNegations, BehindTested, Hold, Negation, ModalProgram, Modal, FormulaGroup, ProgramGroup}
+use Rattle.ml_pdl.specs.Tables.{RepeatGroup, TestGroup, PdlTurn, shift, resume, role, join, post, pdl_grammar}
 use Rattle.ml_pdl.proofs.ToTables.{Tabled}
 
 -- ---- levels
@@ -36,26 +41,42 @@ un_raised grammar.Or r = or_alone (and_alone r)
 un_raised grammar.Imp r = imp_alone (or_alone (and_alone r))
 un_raised grammar.Iff r = iff_alone (imp_alone (or_alone (and_alone r)))
 
-and_raised : (l : grammar.Level) → number l ≤ 3 → {ts rest : List Sign} {f : Formula} → Reads grammar.And ts f rest → Reads l ts f rest
+and_raised : (l : grammar.Level)
+    → number l ≤ 3
+    → {ts rest : List Sign} {f : Formula}
+    → Reads grammar.And ts f rest
+    → Reads l ts f rest
 and_raised grammar.Un le r = absurd (omega arith)
 and_raised grammar.And le r = r
 and_raised grammar.Or le r = or_alone r
 and_raised grammar.Imp le r = imp_alone (or_alone r)
 and_raised grammar.Iff le r = iff_alone (imp_alone (or_alone r))
 
-or_raised : (l : grammar.Level) → number l ≤ 2 → {ts rest : List Sign} {f : Formula} → Reads grammar.Or ts f rest → Reads l ts f rest
+or_raised : (l : grammar.Level)
+    → number l ≤ 2
+    → {ts rest : List Sign} {f : Formula}
+    → Reads grammar.Or ts f rest
+    → Reads l ts f rest
 or_raised grammar.Un le r = absurd (omega arith)
 or_raised grammar.And le r = absurd (omega arith)
 or_raised grammar.Or le r = r
 or_raised grammar.Imp le r = imp_alone r
 or_raised grammar.Iff le r = iff_alone (imp_alone r)
 
-imp_raised : (l : grammar.Level) → number l ≤ 1 → {ts rest : List Sign} {f : Formula} → Reads grammar.Imp ts f rest → Reads l ts f rest
+imp_raised : (l : grammar.Level)
+    → number l ≤ 1
+    → {ts rest : List Sign} {f : Formula}
+    → Reads grammar.Imp ts f rest
+    → Reads l ts f rest
 imp_raised grammar.Imp le r = r
 imp_raised grammar.Iff le r = iff_alone r
 imp_raised _ le r = absurd (omega arith)
 
-iff_raised : (l : grammar.Level) → number l ≤ 0 → {ts rest : List Sign} {f : Formula} → Reads grammar.Iff ts f rest → Reads l ts f rest
+iff_raised : (l : grammar.Level)
+    → number l ≤ 0
+    → {ts rest : List Sign} {f : Formula}
+    → Reads grammar.Iff ts f rest
+    → Reads l ts f rest
 iff_raised grammar.Iff le r = r
 iff_raised _ le r = absurd (omega arith)
 
@@ -66,24 +87,38 @@ program_number grammar.Seq = 1
 program_number grammar.Star = 2
 program_number grammar.Base = 3
 
-base_raised : (l : grammar.ProgramLevel) {ts rest : List Sign} {p : Program} → ReadsProgram grammar.Base ts p rest → ReadsProgram l ts p rest
+base_raised : (l : grammar.ProgramLevel) {ts rest : List Sign} {p : Program}
+    → ReadsProgram grammar.Base ts p rest
+    → ReadsProgram l ts p rest
 base_raised grammar.Base r = r
 base_raised grammar.Star r = star_alone r
 base_raised grammar.Seq r = seq_alone (star_alone r)
 base_raised grammar.Prog r = alt_alone (seq_alone (star_alone r))
 
-star_raised : (l : grammar.ProgramLevel) → program_number l ≤ 2 → {ts rest : List Sign} {p : Program} → ReadsProgram grammar.Star ts p rest → ReadsProgram l ts p rest
+star_raised : (l : grammar.ProgramLevel)
+    → program_number l ≤ 2
+    → {ts rest : List Sign} {p : Program}
+    → ReadsProgram grammar.Star ts p rest
+    → ReadsProgram l ts p rest
 star_raised grammar.Base le r = absurd (omega arith)
 star_raised grammar.Star le r = r
 star_raised grammar.Seq le r = seq_alone r
 star_raised grammar.Prog le r = alt_alone (seq_alone r)
 
-seq_raised : (l : grammar.ProgramLevel) → program_number l ≤ 1 → {ts rest : List Sign} {p : Program} → ReadsProgram grammar.Seq ts p rest → ReadsProgram l ts p rest
+seq_raised : (l : grammar.ProgramLevel)
+    → program_number l ≤ 1
+    → {ts rest : List Sign} {p : Program}
+    → ReadsProgram grammar.Seq ts p rest
+    → ReadsProgram l ts p rest
 seq_raised grammar.Seq le r = r
 seq_raised grammar.Prog le r = alt_alone r
 seq_raised _ le r = absurd (omega arith)
 
-alt_raised : (l : grammar.ProgramLevel) → program_number l ≤ 0 → {ts rest : List Sign} {p : Program} → ReadsProgram grammar.Prog ts p rest → ReadsProgram l ts p rest
+alt_raised : (l : grammar.ProgramLevel)
+    → program_number l ≤ 0
+    → {ts rest : List Sign} {p : Program}
+    → ReadsProgram grammar.Prog ts p rest
+    → ReadsProgram l ts p rest
 alt_raised grammar.Prog le r = r
 alt_raised _ le r = absurd (omega arith)
 
@@ -99,22 +134,32 @@ AsProgram l ts (OfProgram p) rest = ReadsProgram l ts p rest
 AsProgram l ts (Name a) rest = ts ≡ Lower a ∷ rest
 AsProgram l ts (OfFormula f) rest = ⊥
 
-formula_read : (l : grammar.Level) (ts rest : List Sign) (v : Phrase) → AsFormula l ts v rest → Reads l ts (formula_of v) rest
+formula_read : (l : grammar.Level) (ts rest : List Sign) (v : Phrase)
+    → AsFormula l ts v rest
+    → Reads l ts (formula_of v) rest
 formula_read l ts rest (OfFormula f) r = r
 formula_read l ts rest (OfProgram p) r = absurd r
 formula_read l ts rest (Name a) r = absurd r
 
-program_read : (l : grammar.ProgramLevel) (ts rest : List Sign) (v : Phrase) → AsProgram l ts v rest → ReadsProgram l ts (program_of v) rest
+program_read : (l : grammar.ProgramLevel) (ts rest : List Sign) (v : Phrase)
+    → AsProgram l ts v rest
+    → ReadsProgram l ts (program_of v) rest
 program_read l ts rest (OfFormula f) r = absurd r
 program_read l ts rest (OfProgram p) r = r
 program_read l ts rest (Name a) r = subst (λ us. ReadsProgram l us (plain.Act a) rest) (sym r) (base_raised l (action a (Lower a) refl))
 
-formula_raised : (l m : grammar.Level) (ts rest : List Sign) (v : Phrase) → ((f : Formula) → Reads l ts f rest → Reads m ts f rest) → AsFormula l ts v rest → AsFormula m ts v rest
+formula_raised : (l m : grammar.Level) (ts rest : List Sign) (v : Phrase)
+    → ((f : Formula) → Reads l ts f rest → Reads m ts f rest)
+    → AsFormula l ts v rest
+    → AsFormula m ts v rest
 formula_raised l m ts rest (OfFormula f) go r = go f r
 formula_raised l m ts rest (OfProgram p) go r = absurd r
 formula_raised l m ts rest (Name a) go r = absurd r
 
-program_raised : (l m : grammar.ProgramLevel) (ts rest : List Sign) (v : Phrase) → ((p : Program) → ReadsProgram l ts p rest → ReadsProgram m ts p rest) → AsProgram l ts v rest → AsProgram m ts v rest
+program_raised : (l m : grammar.ProgramLevel) (ts rest : List Sign) (v : Phrase)
+    → ((p : Program) → ReadsProgram l ts p rest → ReadsProgram m ts p rest)
+    → AsProgram l ts v rest
+    → AsProgram m ts v rest
 program_raised l m ts rest (OfFormula f) go r = absurd r
 program_raised l m ts rest (OfProgram p) go r = go p r
 program_raised l m ts rest (Name a) go r = r
@@ -128,9 +173,13 @@ Completes ProgramStart ts v rest = AsProgram grammar.Base ts v rest
 Completes (BehindBegin m) ts v rest = AsFormula grammar.Un (Begins m ∷ ts) v rest
 Completes (BehindProgram m p) ts v rest = (us : List Sign) → ReadsProgram grammar.Prog us p ts → AsFormula grammar.Un (Begins m ∷ us) v rest
 Completes BehindRepeat ts v rest = AsFormula grammar.Un (Repeats ∷ ts) v rest
-Completes (BehindRepeatInside p) ts v rest = (us : List Sign) (k : Mark) → ReadsProgram grammar.Prog us p ts → AsFormula grammar.Un (Repeats ∷ Open k ∷ us) v rest
+Completes (BehindRepeatInside p) ts v rest =
+    (us : List Sign) (k : Mark)
+    → ReadsProgram grammar.Prog us p ts
+    → AsFormula grammar.Un (Repeats ∷ Open k ∷ us) v rest
 Completes (BehindFormulaInside h) ts v rest = (us : List Sign) (k : Mark) → Reads grammar.Iff us h ts → AsFormula grammar.Un (Open k ∷ us) v rest
-Completes (BehindProgramInside p) ts v rest = (us : List Sign) → ReadsProgram grammar.Prog us p ts → AsProgram grammar.Base (Open Unmarked ∷ us) v rest
+Completes (BehindProgramInside p) ts v rest =
+    (us : List Sign) → ReadsProgram grammar.Prog us p ts → AsProgram grammar.Base (Open Unmarked ∷ us) v rest
 Completes (BehindTestInside h) ts v rest = (ts ≡ Close ∷ Question ∷ rest) × (OfProgram (plain.Test h) ≡ v)
 Completes (BehindNegations n) ts v rest = (h : Formula) × ReadsTested ts h (Question ∷ rest) × (OfProgram (plain.Test (negated n h)) ≡ v)
 Completes (BehindTested h) ts v rest = (ts ≡ Question ∷ rest) × (OfProgram (plain.Test h) ≡ v)
@@ -180,34 +229,51 @@ alone_back : (s : Sort) (l : ℕ) (ts rest : List Sign) (v : Phrase) → AsOpera
 alone_back Formulas l ts rest v r = λ at le. formula_raised grammar.Un at ts rest v (λ f a. un_raised at a) r
 alone_back Programs l ts rest v r = λ at le low. program_raised grammar.Star at ts rest v (λ p a. star_raised at low a) r
 
-form_back : (s : Sort) (ts rest : List Sign) (v : Phrase) → Completes (Rattle.ml_pdl.specs.Tables.start s) ts v rest → AsOperand s ts v rest
+form_back : (s : Sort) (ts rest : List Sign) (v : Phrase)
+    → Completes (Rattle.ml_pdl.specs.Tables.start s) ts v rest
+    → AsOperand s ts v rest
 form_back Formulas ts rest v r = r
 form_back Programs ts rest v r = program_raised grammar.Base grammar.Star ts rest v (λ p a. star_alone a) r
 
 -- ---- signs of forms
 
 -- a formula, or a program, that is equal to the one that is read, with an equal rest
-whole_formula : (ts us rest : List Sign) (f : Formula) (v : Phrase) → (OfFormula f ≡ v) × (us ≡ rest) → Reads grammar.Un ts f us → AsFormula grammar.Un ts v rest
+whole_formula : (ts us rest : List Sign) (f : Formula) (v : Phrase)
+    → (OfFormula f ≡ v) × (us ≡ rest)
+    → Reads grammar.Un ts f us
+    → AsFormula grammar.Un ts v rest
 whole_formula ts us rest f v e r = subst (λ x. AsFormula grammar.Un ts x rest) e.0 (subst (λ x. Reads grammar.Un ts f x) e.1 r)
 
-whole_program : (ts us rest : List Sign) (p : Program) (v : Phrase) → (OfProgram p ≡ v) × (us ≡ rest) → ReadsProgram grammar.Base ts p us → AsProgram grammar.Base ts v rest
+whole_program : (ts us rest : List Sign) (p : Program) (v : Phrase)
+    → (OfProgram p ≡ v) × (us ≡ rest)
+    → ReadsProgram grammar.Base ts p us
+    → AsProgram grammar.Base ts v rest
 whole_program ts us rest p v e r = subst (λ x. AsProgram grammar.Base ts x rest) e.0 (subst (λ x. ReadsProgram grammar.Base ts p x) e.1 r)
 
-whole_name : (ts rest : List Sign) (a : List ℕ) (v : Phrase) → (Name a ≡ v) × (ts ≡ rest) → AsProgram grammar.Base (Lower a ∷ ts) v rest
+whole_name : (ts rest : List Sign) (a : List ℕ) (v : Phrase)
+    → (Name a ≡ v) × (ts ≡ rest)
+    → AsProgram grammar.Base (Lower a ∷ ts) v rest
 whole_name ts rest a v e = subst (λ x. AsProgram grammar.Base (Lower a ∷ ts) x rest) e.0 (ap (λ us. Lower a ∷ us) e.1)
 
 -- the test of what was read behind no negation
-tested_program : (ts rest : List Sign) (v : Phrase) → Rattle.ml_pdl.specs.Grammar.opens_program ts ≡ false → Completes (BehindNegations 0) ts v rest → AsProgram grammar.Base ts v rest
+tested_program : (ts rest : List Sign) (v : Phrase)
+    → Rattle.ml_pdl.specs.Grammar.opens_program ts ≡ false
+    → Completes (BehindNegations 0) ts v rest
+    → AsProgram grammar.Base ts v rest
 tested_program ts rest v e c = subst (λ x. AsProgram grammar.Base ts x rest) c.2 (test e c.1)
 
-test_completes : (n : ℕ) (t : Sign) (ts rest : List Sign) (v : Phrase) → OfTurn t (shift (BehindNegations n) t) ts v rest → Completes (BehindNegations n) (t ∷ ts) v rest
+test_completes : (n : ℕ) (t : Sign) (ts rest : List Sign) (v : Phrase)
+    → OfTurn t (shift (BehindNegations n) t) ts v rest
+    → Completes (BehindNegations n) (t ∷ ts) v rest
 test_completes n Not ts rest v r = (plain.Not r.0, tested_negation r.1, r.2)
 test_completes n (Const b) ts rest v r = (plain.Const b, subst (λ us. ReadsTested (Const b ∷ ts) (plain.Const b) us) r.0 (tested_constant b), r.1)
 test_completes n (Lower p) ts rest v r = (plain.Prop p, subst (λ us. ReadsTested (Lower p ∷ ts) (plain.Prop p) us) r.0 (tested_proposition p), r.1)
 test_completes n (Open k) ts rest v r = (r.0, tested_group k r.1, r.2)
 test_completes n _ ts rest v r = absurd r
 
-program_completes : (t : Sign) (ts rest : List Sign) (v : Phrase) → OfTurn t (shift ProgramStart t) ts v rest → AsProgram grammar.Base (t ∷ ts) v rest
+program_completes : (t : Sign) (ts rest : List Sign) (v : Phrase)
+    → OfTurn t (shift ProgramStart t) ts v rest
+    → AsProgram grammar.Base (t ∷ ts) v rest
 program_completes Blank ts rest v r = whole_program (Blank ∷ ts) ts rest (plain.Act (codes "_")) v r (action (codes "_") Blank refl)
 program_completes (Lower a) ts rest v r = whole_name ts rest a v r
 program_completes (Upper a) ts rest v r = whole_program (Upper a ∷ ts) ts rest (plain.Act a) v r (action a (Upper a) refl)
@@ -218,10 +284,15 @@ program_completes (Const b) ts rest v r = tested_program (Const b ∷ ts) rest v
 program_completes _ ts rest v r = absurd r
 
 -- a formula that a form made of the one that it held
-made_formula : (ts rest : List Sign) (f : Formula) (v : Phrase) → OfFormula f ≡ v → Reads grammar.Un ts f rest → AsFormula grammar.Un ts v rest
+made_formula : (ts rest : List Sign) (f : Formula) (v : Phrase)
+    → OfFormula f ≡ v
+    → Reads grammar.Un ts f rest
+    → AsFormula grammar.Un ts v rest
 made_formula ts rest f v e r = subst (λ x. AsFormula grammar.Un ts x rest) e r
 
-formula_completes : (t : Sign) (ts rest : List Sign) (v : Phrase) → OfTurn t (shift FormulaStart t) ts v rest → AsFormula grammar.Un (t ∷ ts) v rest
+formula_completes : (t : Sign) (ts rest : List Sign) (v : Phrase)
+    → OfTurn t (shift FormulaStart t) ts v rest
+    → AsFormula grammar.Un (t ∷ ts) v rest
 formula_completes Not ts rest v r = made_formula (Not ∷ ts) rest (plain.Not r.0) v r.2 (negation r.1)
 formula_completes (Const b) ts rest v r = whole_formula (Const b ∷ ts) ts rest (plain.Const b) v r (constant b)
 formula_completes (Lower p) ts rest v r = whole_formula (Lower p ∷ ts) ts rest (plain.Prop p) v r (proposition p)
@@ -230,30 +301,44 @@ formula_completes (Begins m) ts rest v r = r
 formula_completes Repeats ts rest v r = r
 formula_completes _ ts rest v r = absurd r
 
-begin_completes : (m : Modality) (t : Sign) (ts rest : List Sign) (v : Phrase) → OfTurn t (shift (BehindBegin m) t) ts v rest → AsFormula grammar.Un (Begins m ∷ t ∷ ts) v rest
-begin_completes Diamond (Ends Diamond) ts rest v r = made_formula (Begins Diamond ∷ Ends Diamond ∷ ts) rest (plain.Modal Diamond (plain.Act (codes "_")) r.0) v r.2 (modal_blank Diamond r.1)
-begin_completes Square (Ends Square) ts rest v r = made_formula (Begins Square ∷ Ends Square ∷ ts) rest (plain.Modal Square (plain.Act (codes "_")) r.0) v r.2 (modal_blank Square r.1)
+begin_completes : (m : Modality) (t : Sign) (ts rest : List Sign) (v : Phrase)
+    → OfTurn t (shift (BehindBegin m) t) ts v rest
+    → AsFormula grammar.Un (Begins m ∷ t ∷ ts) v rest
+begin_completes Diamond (Ends Diamond) ts rest v r =
+    made_formula (Begins Diamond ∷ Ends Diamond ∷ ts) rest (plain.Modal Diamond (plain.Act (codes "_")) r.0) v r.2
+    (modal_blank Diamond r.1)
+begin_completes Square (Ends Square) ts rest v r =
+    made_formula (Begins Square ∷ Ends Square ∷ ts) rest (plain.Modal Square (plain.Act (codes "_")) r.0) v r.2
+    (modal_blank Square r.1)
 begin_completes Diamond (Ends Square) ts rest v r = r
 begin_completes Square (Ends Diamond) ts rest v r = r
 begin_completes Diamond _ ts rest v r = r
 begin_completes Square _ ts rest v r = r
 
-end_completes : (m : Modality) (p : Program) (t : Sign) (ts rest : List Sign) (v : Phrase) → OfTurn t (shift (BehindProgram m p) t) ts v rest → (us : List Sign) → ReadsProgram grammar.Prog us p (t ∷ ts) → AsFormula grammar.Un (Begins m ∷ us) v rest
-end_completes Diamond p (Ends Diamond) ts rest v r us a = made_formula (Begins Diamond ∷ us) rest (plain.Modal Diamond p r.0) v r.2 (modal Diamond a r.1)
+end_completes : (m : Modality) (p : Program) (t : Sign) (ts rest : List Sign) (v : Phrase)
+    → OfTurn t (shift (BehindProgram m p) t) ts v rest
+    → (us : List Sign)
+    → ReadsProgram grammar.Prog us p (t ∷ ts)
+    → AsFormula grammar.Un (Begins m ∷ us) v rest
+end_completes Diamond p (Ends Diamond) ts rest v r us a =
+    made_formula (Begins Diamond ∷ us) rest (plain.Modal Diamond p r.0) v r.2 (modal Diamond a r.1)
 end_completes Square p (Ends Square) ts rest v r us a = made_formula (Begins Square ∷ us) rest (plain.Modal Square p r.0) v r.2 (modal Square a r.1)
 end_completes Diamond p (Ends Square) ts rest v r us a = absurd r
 end_completes Square p (Ends Diamond) ts rest v r us a = absurd r
 end_completes Diamond p _ ts rest v r us a = absurd r
 end_completes Square p _ ts rest v r us a = absurd r
 
-sign_completes : (q : Wait) (t : Sign) (ts rest : List Sign) (v : Phrase) → OfTurn t (shift q t) ts v rest → Completes q (t ∷ ts) v rest
+sign_completes : (q : Wait) (t : Sign) (ts rest : List Sign) (v : Phrase)
+    → OfTurn t (shift q t) ts v rest
+    → Completes q (t ∷ ts) v rest
 sign_completes FormulaStart t ts rest v r = formula_completes t ts rest v r
 sign_completes ProgramStart t ts rest v r = program_completes t ts rest v r
 sign_completes (BehindBegin m) t ts rest v r = begin_completes m t ts rest v r
 sign_completes (BehindProgram m p) t ts rest v r = end_completes m p t ts rest v r
 sign_completes BehindRepeat (Open k) ts rest v r = r k
 sign_completes BehindRepeat _ ts rest v r = absurd r
-sign_completes (BehindRepeatInside p) Close ts rest v r = λ us k a. whole_formula (Repeats ∷ Open k ∷ us) ts rest (plain.Repeat p) v r (repetition k a)
+sign_completes (BehindRepeatInside p) Close ts rest v r =
+    λ us k a. whole_formula (Repeats ∷ Open k ∷ us) ts rest (plain.Repeat p) v r (repetition k a)
 sign_completes (BehindRepeatInside p) _ ts rest v r = absurd r
 sign_completes (BehindFormulaInside h) Close ts rest v r = λ us k a. whole_formula (Open k ∷ us) ts rest h v r (group k a)
 sign_completes (BehindFormulaInside h) _ ts rest v r = absurd r
@@ -274,10 +359,15 @@ held_formula ts us w a = formula_read grammar.Un ts us w (a grammar.Un (omega ar
 held_group : (ts us : List Sign) (w : Phrase) → AtLevel Formulas 0 ts w us → Reads grammar.Iff ts (formula_of w) us
 held_group ts us w a = formula_read grammar.Iff ts us w (a grammar.Iff (omega arith))
 
-held_program : (ts us : List Sign) (w : Phrase) → AtLevel Programs 0 ts w us → ReadsProgram grammar.Prog ts (program_of w) us
+held_program : (ts us : List Sign) (w : Phrase)
+    → AtLevel Programs 0 ts w us
+    → ReadsProgram grammar.Prog ts (program_of w) us
 held_program ts us w a = program_read grammar.Prog ts us w (a grammar.Prog (omega arith) (omega arith))
 
-inner_enters : (k : Hold) (ts us rest : List Sign) (w v : Phrase) → AtLevel (Rattle.ml_pdl.specs.Tables.sort k) (Rattle.ml_pdl.specs.Tables.level k) ts w us → OfMode (resume k w) us v rest → Enters k ts v rest
+inner_enters : (k : Hold) (ts us rest : List Sign) (w v : Phrase)
+    → AtLevel (Rattle.ml_pdl.specs.Tables.sort k) (Rattle.ml_pdl.specs.Tables.level k) ts w us
+    → OfMode (resume k w) us v rest
+    → Enters k ts v rest
 inner_enters Negation ts us rest w v a r = (formula_of w, subst (λ x. Reads grammar.Un ts (formula_of w) x) r.1 (held_formula ts us w a), r.0)
 inner_enters (ModalProgram m) ts us rest w v a r = tt
 inner_enters (Modal m p) ts us rest w v a r = (formula_of w, subst (λ x. Reads grammar.Un ts (formula_of w) x) r.1 (held_formula ts us w a), r.0)
@@ -286,23 +376,50 @@ inner_enters RepeatGroup ts us rest w v a r = λ k. r ts k (held_program ts us w
 inner_enters ProgramGroup ts us rest w v a r = r ts (held_program ts us w a)
 inner_enters (TestGroup n) ts us rest w v a r = (formula_of w, subst (λ x. Reads grammar.Iff ts (formula_of w) x) r.0 (held_group ts us w a), r.1)
 
-opens_enters : (k : Hold) (ts us rest : List Sign) (w v : Phrase) → AtLevel (Rattle.ml_pdl.specs.Tables.sort k) (Rattle.ml_pdl.specs.Tables.level k) ts w us → OfMode (resume k w) us v rest → Opened k ts v rest
+opens_enters : (k : Hold) (ts us rest : List Sign) (w v : Phrase)
+    → AtLevel (Rattle.ml_pdl.specs.Tables.sort k) (Rattle.ml_pdl.specs.Tables.level k) ts w us
+    → OfMode (resume k w) us v rest
+    → Opened k ts v rest
 opens_enters (ModalProgram m) ts us rest w v a r = r ts (held_program ts us w a)
 opens_enters _ ts us rest w v a r = tt
 
 -- ---- operators
 
-joined_formula : (o : Operator) (ts us rest : List Sign) (v w : Phrase) (at : grammar.Level) → number at ≤ operator_level o → AtLevel Formulas (left_level pdl_grammar Formulas (operator_level o)) ts v (Connective o ∷ us) → AtLevel Formulas (right_level pdl_grammar Formulas (operator_level o)) us w rest → Reads at ts (plain.Binary o (formula_of v) (formula_of w)) rest
-joined_formula operator.Iff ts us rest v w at le a b = iff_raised at le (iff (formula_read grammar.Imp ts (Connective operator.Iff ∷ us) v (a grammar.Imp (omega arith))) (formula_read grammar.Iff us rest w (b grammar.Iff (omega arith))))
-joined_formula operator.Implies ts us rest v w at le a b = imp_raised at le (imp (formula_read grammar.Or ts (Connective operator.Implies ∷ us) v (a grammar.Or (omega arith))) (formula_read grammar.Imp us rest w (b grammar.Imp (omega arith))))
-joined_formula operator.Or ts us rest v w at le a b = or_raised at le (or (formula_read grammar.Or ts (Connective operator.Or ∷ us) v (a grammar.Or (omega arith))) (formula_read grammar.And us rest w (b grammar.And (omega arith))))
-joined_formula operator.And ts us rest v w at le a b = and_raised at le (and (formula_read grammar.And ts (Connective operator.And ∷ us) v (a grammar.And (omega arith))) (formula_read grammar.Un us rest w (b grammar.Un (omega arith))))
+joined_formula : (o : Operator) (ts us rest : List Sign) (v w : Phrase) (at : grammar.Level)
+    → number at ≤ operator_level o
+    → AtLevel Formulas (left_level pdl_grammar Formulas (operator_level o)) ts v (Connective o ∷ us)
+    → AtLevel Formulas (right_level pdl_grammar Formulas (operator_level o)) us w rest
+    → Reads at ts (plain.Binary o (formula_of v) (formula_of w)) rest
+joined_formula operator.Iff ts us rest v w at le a b =
+    iff_raised at le
+    (iff (formula_read grammar.Imp ts (Connective operator.Iff ∷ us) v (a grammar.Imp (omega arith)))
+    (formula_read grammar.Iff us rest w (b grammar.Iff (omega arith))))
+joined_formula operator.Implies ts us rest v w at le a b =
+    imp_raised at le
+    (imp (formula_read grammar.Or ts (Connective operator.Implies ∷ us) v (a grammar.Or (omega arith)))
+    (formula_read grammar.Imp us rest w (b grammar.Imp (omega arith))))
+joined_formula operator.Or ts us rest v w at le a b =
+    or_raised at le
+    (or (formula_read grammar.Or ts (Connective operator.Or ∷ us) v (a grammar.Or (omega arith)))
+    (formula_read grammar.And us rest w (b grammar.And (omega arith))))
+joined_formula operator.And ts us rest v w at le a b =
+    and_raised at le
+    (and (formula_read grammar.And ts (Connective operator.And ∷ us) v (a grammar.And (omega arith)))
+    (formula_read grammar.Un us rest w (b grammar.Un (omega arith))))
 
 -- what is read at the level that an operator has
 abbrev pub Joined : Sort → ℕ → Sign → List Sign → Phrase → Phrase → List Sign → Type 0
-Joined s m o ts v w rest = (us : List Sign) → AtLevel s (left_level pdl_grammar s m) ts v (o ∷ us) → AtLevel s (right_level pdl_grammar s m) us w rest → (l : ℕ) → l ≤ m → AtLevel s l ts (join o v w) rest
+Joined s m o ts v w rest =
+    (us : List Sign)
+    → AtLevel s (left_level pdl_grammar s m) ts v (o ∷ us)
+    → AtLevel s (right_level pdl_grammar s m) us w rest
+    → (l : ℕ)
+    → l ≤ m
+    → AtLevel s l ts (join o v w) rest
 
-joined_back : (s : Sort) (o : Sign) (m : ℕ) (ts rest : List Sign) (v w : Phrase) → role s o ≡ Infix m → Joined s m o ts v w rest
+joined_back : (s : Sort) (o : Sign) (m : ℕ) (ts rest : List Sign) (v w : Phrase)
+    → role s o ≡ Infix m
+    → Joined s m o ts v w rest
 joined_back Formulas (Connective o) m ts rest v w is =
     let same : operator_level o ≡ m = cc in
     subst (λ n. Joined Formulas n (Connective o) ts v w rest) same (λ us a b l le at below. joined_formula o ts us rest v w at (omega arith) a b)
@@ -310,27 +427,43 @@ joined_back Formulas _ m ts rest v w is = absurd (cc)
 joined_back Programs Plus m ts rest v w is =
     let same : 0 ≡ m = cc in
     subst (λ n. Joined Programs n Plus ts v w rest) same
-    (λ us a b l le at below low. alt_raised at (omega arith) (alt (program_read grammar.Prog ts (Plus ∷ us) v (a grammar.Prog (omega arith) (omega arith))) (program_read grammar.Seq us rest w (b grammar.Seq (omega arith) (omega arith)))))
+    (λ us a b l le at below low. alt_raised at (omega arith)
+    (alt (program_read grammar.Prog ts (Plus ∷ us) v (a grammar.Prog (omega arith) (omega arith)))
+    (program_read grammar.Seq us rest w (b grammar.Seq (omega arith) (omega arith)))))
 joined_back Programs Semicolon m ts rest v w is =
     let same : 1 ≡ m = cc in
     subst (λ n. Joined Programs n Semicolon ts v w rest) same
-    (λ us a b l le at below low. seq_raised at (omega arith) (seq (program_read grammar.Seq ts (Semicolon ∷ us) v (a grammar.Seq (omega arith) (omega arith))) (program_read grammar.Star us rest w (b grammar.Star (omega arith) (omega arith)))))
+    (λ us a b l le at below low. seq_raised at (omega arith)
+    (seq (program_read grammar.Seq ts (Semicolon ∷ us) v (a grammar.Seq (omega arith) (omega arith)))
+    (program_read grammar.Star us rest w (b grammar.Star (omega arith) (omega arith)))))
 joined_back Programs _ m ts rest v w is = absurd (cc)
 
-star_back : (ts rest : List Sign) (v h : Phrase) → post signs.Star v ≡ Some h → AsProgram grammar.Star ts v (signs.Star ∷ rest) → AsProgram grammar.Star ts h rest
+star_back : (ts rest : List Sign) (v h : Phrase)
+    → post signs.Star v ≡ Some h
+    → AsProgram grammar.Star ts v (signs.Star ∷ rest)
+    → AsProgram grammar.Star ts h rest
 star_back ts rest v h makes r =
     let same : OfProgram (plain.Star (program_of v)) ≡ h = cc in
     subst (λ x. AsProgram grammar.Star ts x rest) same (star (program_read grammar.Star ts (signs.Star ∷ rest) v r))
 
-question_back : (ts rest : List Sign) (v h : Phrase) → post Question v ≡ Some h → AsProgram grammar.Star ts v (Question ∷ rest) → AsProgram grammar.Star ts h rest
+question_back : (ts rest : List Sign) (v h : Phrase)
+    → post Question v ≡ Some h
+    → AsProgram grammar.Star ts v (Question ∷ rest)
+    → AsProgram grammar.Star ts h rest
 question_back ts rest (Name a) h makes r =
     let same : OfProgram (plain.Test (plain.Prop a)) ≡ h = cc in
-    let read_test : ReadsProgram grammar.Star (Lower a ∷ Question ∷ rest) (plain.Test (plain.Prop a)) rest = star_alone (test refl (tested_proposition a)) in
+    let read_test : ReadsProgram grammar.Star (Lower a ∷ Question ∷ rest) (plain.Test (plain.Prop a)) rest =
+    star_alone (test refl (tested_proposition a))
+    in
     subst (λ x. AsProgram grammar.Star ts x rest) same (subst (λ us. ReadsProgram grammar.Star us (plain.Test (plain.Prop a)) rest) (sym r) read_test)
 question_back ts rest (OfFormula f) h makes r = absurd r
 question_back ts rest (OfProgram p) h makes r = absurd (cc)
 
-post_back : (s : Sort) (o : Sign) (ts rest : List Sign) (v h : Phrase) → role s o ≡ Postfix → post o v ≡ Some h → AsOperand s ts v (o ∷ rest) → AsOperand s ts h rest
+post_back : (s : Sort) (o : Sign) (ts rest : List Sign) (v h : Phrase)
+    → role s o ≡ Postfix
+    → post o v ≡ Some h
+    → AsOperand s ts v (o ∷ rest)
+    → AsOperand s ts h rest
 post_back Formulas (Connective o) ts rest v h is makes r = absurd (cc)
 post_back Formulas _ ts rest v h is makes r = absurd (cc)
 post_back Programs signs.Star ts rest v h is makes r = star_back ts rest v h makes r
@@ -341,11 +474,13 @@ post_back Programs _ ts rest v h is makes r = absurd (cc)
 
 pub untabled : {p : Part pdl_grammar} {ts rest : List Sign} {v : Phrase} → Tabled p ts v rest → Untabled p ts v rest
 untabled (alone {s = s} {l = l} {ts = ts} {rest = rest} {f = v} r) = alone_back s l ts rest v (untabled r)
-untabled (joined {s = s} {l = l} {ts = ts} {us = us} {rest = rest} {f = v} {h = w} o m is le a b) = joined_back s o m ts rest v w is us (untabled a) (untabled b) l le
+untabled (joined {s = s} {l = l} {ts = ts} {us = us} {rest = rest} {f = v} {h = w} o m is le a b) =
+    joined_back s o m ts rest v w is us (untabled a) (untabled b) l le
 untabled (postfixed {s = s} {ts = ts} {rest = rest} {f = v} {h = h} o is makes r) = post_back s o ts rest v h is makes (untabled r)
 untabled (form {s = s} {ts = ts} {rest = rest} {f = v} r) = form_back s ts rest v (untabled r)
 untabled whole = (refl, refl)
 untabled (sign {q = q} {t = t} {ts = ts} {rest = rest} {f = v} r) = sign_completes q t ts rest v (untabled r)
 untabled (read r) = untabled r
 untabled (inner {k = k} {ts = ts} {us = us} {rest = rest} {v = w} {f = v} a un b) = inner_enters k ts us rest w v (untabled a) (untabled b)
-untabled (opens {t = t} {k = k} {ts = ts} {us = us} {rest = rest} {v = w} {f = v} a un b) = opens_enters k (t ∷ ts) us rest w v (untabled a) (untabled b)
+untabled (opens {t = t} {k = k} {ts = ts} {us = us} {rest = rest} {v = w} {f = v} a un b) =
+    opens_enters k (t ∷ ts) us rest w v (untabled a) (untabled b)

@@ -6,7 +6,8 @@
 --                       next sign, and whether tests stand in the parentheses that are open
 --   mark_right       == the flag at a token's place is right, where it is asked
 --   known_start, known_before, known_all == it is so behind the text; one byte before; and so the parentheses are marked
-use Rattle.std.proofs.Common.{◌≡◌, ℕ, zero, suc, ◌+◌, ◌-◌, ◌<◌, ◌≤◌, Bool, true, false, cond, List, [], ◌∷◌, ◌++◌, length, map, take, drop, get_or, reverse, Option, Some, None, refl, sym, ◌∙◌, ap, subst, ⊎_elim, arith, eqb-true, ◌==◌, length-take-le, set}
+use Rattle.std.proofs.Common.{◌≡◌, ℕ, zero, suc, ◌+◌, ◌-◌, ◌<◌, ◌≤◌, Bool, true, false, cond, List, [], ◌∷◌, ◌++◌, length, map, take, drop, get_or}
+use Rattle.std.proofs.Common.{reverse, Option, Some, None, refl, sym, ◌∙◌, ap, subst, ⊎_elim, arith, eqb-true, ◌==◌, length-take-le, set}
 use Rattle.std.specs.Prelude.{not, ◌&&◌}
 use Rattle.std.specs.List.{list_all}
 use Rattle.std.proofs.lemmas.Bool.{cases_Bool, cond-true, cond-false, and_parts, and_from, not-true, not_from_false, false≢true}
@@ -127,7 +128,11 @@ skip (suc m) n (b ∷ bytes) is =
     let parts = and_parts (is_quiet b) (are_quiet (take m bytes)) is in
     quiet_test b n bytes parts.0 ∙ skip m n bytes parts.1
 
-quiet_asks : (m b : ℕ) (rest : List ℕ) → 0 < m → is_blank b ≡ false → are_quiet (take m (b ∷ rest)) ≡ true → asks_at (b ∷ rest) ≡ false
+quiet_asks : (m b : ℕ) (rest : List ℕ)
+    → 0 < m
+    → is_blank b ≡ false
+    → are_quiet (take m (b ∷ rest)) ≡ true
+    → asks_at (b ∷ rest) ≡ false
 quiet_asks zero b rest some no_blank is = absurd (omega arith)
 quiet_asks (suc m) b rest some no_blank is =
     let parts = and_parts (is_quiet b) (are_quiet (take m rest)) is in
@@ -179,7 +184,10 @@ byte_asks b ts =
     No : Sign → Type 0
     No s = asks (s ∷ ts) ≡ false
 
-byte_agrees : (b : ℕ) (ts : List Sign) (rest : List ℕ) → is_blank b ≡ false → Says ts rest → Says (byte_sign b ∷ ts) (b ∷ rest)
+byte_agrees : (b : ℕ) (ts : List Sign) (rest : List ℕ)
+    → is_blank b ≡ false
+    → Says ts rest
+    → Says (byte_sign b ∷ ts) (b ∷ rest)
 byte_agrees b ts rest no_blank says = record {
   tests = λ n.
       byte_tests (b == 40) (b == 41) _ n ts rest
@@ -219,17 +227,26 @@ unfolding signs
 signs_quiet = signs_all (λ e. are_quiet e.0) refl
 
 -- the bytes of a token that is one byte
-one_byte : (m b c : ℕ) (rest : List ℕ) → m ≤ length (b ∷ rest) → take m (b ∷ rest) ≡ c ∷ [] → (b ≡ c) × (drop m (b ∷ rest) ≡ rest)
+one_byte : (m b c : ℕ) (rest : List ℕ)
+    → m ≤ length (b ∷ rest)
+    → take m (b ∷ rest) ≡ c ∷ []
+    → (b ≡ c) × (drop m (b ∷ rest) ≡ rest)
 one_byte zero b c rest fits is = absurd (omega (arith, ap length is))
 one_byte (suc zero) b c rest fits is = (ap (λ l. get_or l 0 0) is, refl)
 one_byte (suc (suc m)) b c rest fits is = absurd (omega (arith, length-take-le (suc (suc m)) (b ∷ rest) fits, ap length is))
 
-token_agrees : (t : Token) (bytes : List ℕ) (ts : List Sign) (m b : ℕ) (rest : List ℕ) → is_blank b ≡ false → 0 < m → m ≤ length (b ∷ rest)
+token_agrees : (t : Token) (bytes : List ℕ) (ts : List Sign) (m b : ℕ) (rest : List ℕ)
+    → is_blank b ≡ false
+    → 0 < m
+    → m ≤ length (b ∷ rest)
     → Spells AnyLetter (take m (b ∷ rest)) t → Says ts (drop m (b ∷ rest)) → Says (sign_of t bytes ∷ ts) (b ∷ rest)
 token_agrees t bytes ts m b rest no_blank some fits spells says =
     spells_by AnyLetter (take m (b ∷ rest)) (λ u. Says (sign_of u bytes ∷ ts) (b ∷ rest))
-    (λ word. quiet_agrees (sign_of token.Word bytes) ts m b rest (neutral_word bytes (constant_of bytes)) some no_blank (word_of_quiet (take m (b ∷ rest)) word) says)
-    (λ u sign. quiet_agrees (sign_of u bytes) ts m b rest (common_neutral u bytes (signs_common (take m (b ∷ rest)) u sign)) some no_blank (signs_quiet (take m (b ∷ rest)) u sign) says)
+    (λ word. quiet_agrees (sign_of token.Word bytes) ts m b rest (neutral_word bytes (constant_of bytes)) some no_blank
+    (word_of_quiet (take m (b ∷ rest)) word) says)
+    (λ u sign.
+    quiet_agrees (sign_of u bytes) ts m b rest (common_neutral u bytes (signs_common (take m (b ∷ rest)) u sign)) some
+    no_blank (signs_quiet (take m (b ∷ rest)) u sign) says)
     (λ c byte.
     let one = one_byte m b c rest fits byte.alone in
     subst (λ d. Says (byte_sign d ∷ ts) (b ∷ rest)) one.0 (byte_agrees b ts rest no_blank (subst (λ r. Says ts r) one.1 says)))
@@ -247,7 +264,9 @@ blank_tests b n rest blank = cond-false (b == 40) _ _ (no_paren 40 refl) ∙ con
         (λ (no_same : b == c ≡ false). no_same)
         (cases_Bool (b == c))
 
-says_tokens : (whole : List ℕ) (m i : ℕ) (bytes : List ℕ) → length bytes ≤ m → Says (map (sign_by whole) (tokens_at m AnyLetter i bytes)) bytes
+says_tokens : (whole : List ℕ) (m i : ℕ) (bytes : List ℕ)
+    → length bytes ≤ m
+    → Says (map (sign_by whole) (tokens_at m AnyLetter i bytes)) bytes
 says_tokens whole m i [] small =
     subst (λ ps. Says (map (sign_by whole) ps) []) (sym (tokens_at-end m AnyLetter i)) (record { tests = λ n. refl; asked = refl })
 says_tokens whole zero i (b ∷ rest) small = absurd (omega arith)
@@ -284,9 +303,17 @@ pub record Known (at : ℕ) (flags tests : List Bool) (next : Bool) (text : List
   pub size : length flags ≡ length text
   pub asked : next ≡ asks_at (drop at text)
   pub tells : Tells tests (drop at text)
-  pub marks : (i : ℕ) → at ≤ i → i < length text → get_or text i 0 ≡ 40 → get_or flags i false ≡ test_at 0 (drop (i + 1) text)
+  pub marks : (i : ℕ)
+      → at ≤ i
+      → i < length text
+      → get_or text i 0 ≡ 40
+      → get_or flags i false ≡ test_at 0 (drop (i + 1) text)
 
-pub known_start : (at : ℕ) (flags tests : List Bool) (next : Bool) (text : List ℕ) → at ≡ length text → length flags ≡ length text → tests ≡ [] → next ≡ false
+pub known_start : (at : ℕ) (flags tests : List Bool) (next : Bool) (text : List ℕ)
+    → at ≡ length text
+    → length flags ≡ length text
+    → tests ≡ []
+    → next ≡ false
     → Known at flags tests next text
 known_start at flags tests next text is size none unasked =
     let over = drop_all at text (omega (arith, is)) in
@@ -298,14 +325,18 @@ known_start at flags tests next text is size none unasked =
       marks = λ i from below paren. absurd (omega (arith, is));
     }
 
-pub known_before : (at before : ℕ) (flags after : List Bool) (tests fewer : List Bool) (next asked mark : Bool) (text : List ℕ) → Known at flags tests next text
+pub known_before : (at before : ℕ) (flags after : List Bool) (tests fewer : List Bool) (next asked mark : Bool)
+    (text : List ℕ)
+    → Known at flags tests next text
     → at ≡ before + 1 → after ≡ set flags before mark
     → Tells fewer (get_or text before 0 ∷ drop at text) × (get_or text before 0 ≡ 40 → mark ≡ test_at 0 (drop at text))
     → asked ≡ asks_at (get_or text before 0 ∷ drop at text)
     → Known before after fewer asked text
 known_before at before flags after tests fewer next asked mark text k is set_is tells asks_is =
     let within = k.within in
-    let same : drop before text ≡ get_or text before 0 ∷ drop at text = drop_more text before 0 (omega (arith, is)) ∙ ap (λ j. get_or text before 0 ∷ drop j text) (sym is) in
+    let same : drop before text ≡ get_or text before 0 ∷ drop at text =
+    drop_more text before 0 (omega (arith, is)) ∙ ap (λ j. get_or text before 0 ∷ drop j text) (sym is)
+    in
     record {
       within = omega (arith, is);
       size = ap length set_is ∙ length-set flags before mark ∙ k.size;
@@ -326,7 +357,10 @@ known_before at before flags after tests fewer next asked mark text k is set_is 
           (Rattle.std.proofs.lemmas.Bool.cases_eq i before);
     }
 
-pub known_all : (at : ℕ) (flags tests : List Bool) (next : Bool) (text : List ℕ) → Known at flags tests next text → at ≡ 0 → AreMarks flags text
+pub known_all : (at : ℕ) (flags tests : List Bool) (next : Bool) (text : List ℕ)
+    → Known at flags tests next text
+    → at ≡ 0
+    → AreMarks flags text
 known_all at flags tests next text k is =
     (k.size, λ i below paren. k.marks i (omega (arith, is)) below paren ∙ sym (bytes_tell text 0 (i + 1)))
 
@@ -336,20 +370,43 @@ abbrev Before : ℕ → List Bool → List ℕ → Bool → Type 0
 Before byte tests bytes mark = Tells tests (byte ∷ bytes) × (byte ≡ 40 → mark ≡ test_at 0 bytes)
 
 -- a `(`
-pub popped_some : (byte : ℕ) (old new : List Bool) (mark : Bool) → byte ≡ 40 → old ≡ new ++ mark ∷ [] → (bytes : List ℕ) → Tells old bytes → Before byte new bytes mark
+pub popped_some : (byte : ℕ) (old new : List Bool) (mark : Bool)
+    → byte ≡ 40
+    → old ≡ new ++ mark ∷ []
+    → (bytes : List ℕ)
+    → Tells old bytes
+    → Before byte new bytes mark
 popped_some byte old new mark is split bytes tells =
-    let at : (n : ℕ) → told (mark ∷ reverse new) n ≡ test_at n bytes = λ n. sym (ap (λ l. told l n) (ap reverse split ∙ reverse-append new (mark ∷ []))) ∙ tells n in
+    let at : (n : ℕ) → told (mark ∷ reverse new) n ≡ test_at n bytes =
+    λ n. sym (ap (λ l. told l n) (ap reverse split ∙ reverse-append new (mark ∷ []))) ∙ tells n
+    in
     (λ n. at (suc n) ∙ sym (cond-true (byte == 40) _ _ (ap (λ b. b == 40) is)), λ paren. at 0)
 
-pub popped_none : (byte : ℕ) (old new : List Bool) (mark : Bool) → byte ≡ 40 → old ≡ [] → new ≡ [] → mark ≡ false → (bytes : List ℕ) → Tells old bytes → Before byte new bytes mark
+pub popped_none : (byte : ℕ) (old new : List Bool) (mark : Bool)
+    → byte ≡ 40
+    → old ≡ []
+    → new ≡ []
+    → mark ≡ false
+    → (bytes : List ℕ)
+    → Tells old bytes
+    → Before byte new bytes mark
 popped_none byte old new mark is none left unmarked bytes tells =
     let at : (n : ℕ) → false ≡ test_at n bytes = λ n. sym (ap (λ l. told (reverse l) n) none) ∙ tells n in
     (λ n. ap (λ l. told (reverse l) n) left ∙ at (suc n) ∙ sym (cond-true (byte == 40) _ _ (ap (λ b. b == 40) is)), λ paren. unmarked ∙ at 0)
 
 -- a `)`
-pub pushed : (byte : ℕ) (old new : List Bool) (next mark : Bool) → byte ≡ 41 → new ≡ old ++ next ∷ [] → (bytes : List ℕ) → next ≡ asks_at bytes → Tells old bytes → Before byte new bytes mark
+pub pushed : (byte : ℕ) (old new : List Bool) (next mark : Bool)
+    → byte ≡ 41
+    → new ≡ old ++ next ∷ []
+    → (bytes : List ℕ)
+    → next ≡ asks_at bytes
+    → Tells old bytes
+    → Before byte new bytes mark
 pushed byte old new next mark is joined bytes asked tells = (
-  λ n. ap (λ l. told l n) (ap reverse joined ∙ reverse-append old (next ∷ [])) ∙ by n ∙ sym (cond-true (byte == 41) _ _ (ap (λ b. b == 41) is)) ∙ sym (cond-false (byte == 40) _ _ (ap (λ b. b == 40) is)),
+  λ n. ap (λ l. told l n) (ap reverse joined ∙ reverse-append old (next ∷ []))
+      ∙ by n
+      ∙ sym (cond-true (byte == 41) _ _ (ap (λ b. b == 41) is))
+      ∙ sym (cond-false (byte == 40) _ _ (ap (λ b. b == 40) is)),
   λ paren. absurd (omega (arith, paren, is)),
 )
   where
@@ -358,7 +415,12 @@ pushed byte old new next mark is joined bytes asked tells = (
     by (suc n) = tells n
 
 -- another byte
-pub passed : (byte : ℕ) (tests : List Bool) (mark : Bool) → byte == 40 ≡ false → byte == 41 ≡ false → (bytes : List ℕ) → Tells tests bytes → Before byte tests bytes mark
+pub passed : (byte : ℕ) (tests : List Bool) (mark : Bool)
+    → byte == 40 ≡ false
+    → byte == 41 ≡ false
+    → (bytes : List ℕ)
+    → Tells tests bytes
+    → Before byte tests bytes mark
 passed byte tests mark no_open no_close bytes tells = (
   λ n. tells n ∙ sym (cond-false (byte == 41) _ _ no_close) ∙ sym (cond-false (byte == 40) _ _ no_open),
   λ paren. absurd (false≢true (sym no_open ∙ ap (λ b. b == 40) paren)),
@@ -400,7 +462,11 @@ byte_mark a b c same =
     (cases_Bool (c == 40))
 
 -- a token has a byte
-pub token_within : (text : List ℕ) (p : Placed) → p.start ≤ p.end → p.end ≤ length text → Spells AnyLetter (bytes_of text p) p.token → p.start < length text
+pub token_within : (text : List ℕ) (p : Placed)
+    → p.start ≤ p.end
+    → p.end ≤ length text
+    → Spells AnyLetter (bytes_of text p) p.token
+    → p.start < length text
 token_within text p before within spells =
     let some = Rattle.ml_text.proofs.Spelling.spells-some AnyLetter (bytes_of text p) p.token spells in
     let size = Rattle.std.proofs.Common.length-take (p.end - p.start) (drop p.start text) in
@@ -408,7 +474,11 @@ token_within text p before within spells =
     omega (arith, some, size, left)
 
 -- the bytes of a token that is one byte
-at_one : (text : List ℕ) (p : Placed) (c : ℕ) → p.start ≤ p.end → p.end ≤ length text → bytes_of text p ≡ c ∷ [] → (get_or text p.start 0 ≡ c) × (p.start + 1 ≡ p.end)
+at_one : (text : List ℕ) (p : Placed) (c : ℕ)
+    → p.start ≤ p.end
+    → p.end ≤ length text
+    → bytes_of text p ≡ c ∷ []
+    → (get_or text p.start 0 ≡ c) × (p.start + 1 ≡ p.end)
 at_one text p c before within is =
     let size = Rattle.std.proofs.Common.length-take (p.end - p.start) (drop p.start text) in
     let left = Rattle.std.proofs.Common.length-drop p.start text in
@@ -419,7 +489,11 @@ at_one text p c before within is =
     (ap (λ l. get_or l 0 0) (sym (ap (take 1) more) ∙ ap (λ k. take k (drop p.start text)) (sym short) ∙ is), next)
 
 -- the flag at a token's place is right, where it is asked
-pub mark_right : (flags : List Bool) (text : List ℕ) (p : Placed) → AreMarks flags text → p.start ≤ p.end → p.end ≤ length text → Spells AnyLetter (bytes_of text p) p.token
+pub mark_right : (flags : List Bool) (text : List ℕ) (p : Placed)
+    → AreMarks flags text
+    → p.start ≤ p.end
+    → p.end ≤ length text
+    → Spells AnyLetter (bytes_of text p) p.token
     → with_mark (get_or flags p.start false) (sign_by text p) ≡ with_mark (is_test_behind 0 (signs_behind text p.end)) (sign_by text p)
 mark_right flags text p marks before within spells =
     let a = get_or flags p.start false in

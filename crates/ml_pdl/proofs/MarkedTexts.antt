@@ -15,7 +15,9 @@ use Rattle.ml_pdl.specs.Text.{items_from, sign_by, sign_at, begins_modality, Mar
 abbrev AreMarked : List ℕ → Bool → List Placed → Type 0
 AreMarked text b ps = signs_of (items_from text b ps) ≡ marked (map (sign_by text) ps)
 
-are_marked : (size : ℕ) (text : List ℕ) (i : ℕ) (b : Bool) → length text ≤ i + size → AreMarked text b (tokens_from AnyLetter text i)
+are_marked : (size : ℕ) (text : List ℕ) (i : ℕ) (b : Bool)
+    → length text ≤ i + size
+    → AreMarked text b (tokens_from AnyLetter text i)
 unfolding front_at
 are_marked zero text i b fits = subst (AreMarked text b) (sym (tokens_from-end AnyLetter text i (omega arith))) refl
 are_marked (suc size) text i b fits =

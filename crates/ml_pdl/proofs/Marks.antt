@@ -10,7 +10,10 @@ abbrev pub TestBehind : ℕ → List Sign → Type 0
 TestBehind n ts = (inside : List Sign) × (after : List Sign) × (ts ≡ inside ++ Close ∷ Question ∷ after) × (open_behind n inside ≡ Some 0)
 
 -- one sign more stands inside
-inside_one : (t : Sign) (n m : ℕ) (ts : List Sign) → ((us : List Sign) → open_behind n (t ∷ us) ≡ open_behind m us) → TestBehind m ts → TestBehind n (t ∷ ts)
+inside_one : (t : Sign) (n m : ℕ) (ts : List Sign)
+    → ((us : List Sign) → open_behind n (t ∷ us) ≡ open_behind m us)
+    → TestBehind m ts
+    → TestBehind n (t ∷ ts)
 inside_one t n m ts is b = (t ∷ b.0, b.1, ap (λ us. t ∷ us) b.2, is b.0 ∙ b.3)
 
 asked : (ts : List Sign) → asks ts ≡ true → (after : List Sign) × (ts ≡ Question ∷ after)
@@ -33,7 +36,9 @@ none_open : (n : ℕ) (after : List Sign) → open_behind n [] ≡ Some 0 → is
 none_open zero after is = refl
 none_open (suc n) after is = absurd (cc)
 
-found : (n : ℕ) (inside after : List Sign) → open_behind n inside ≡ Some 0 → is_test_behind n (inside ++ Close ∷ Question ∷ after) ≡ true
+found : (n : ℕ) (inside after : List Sign)
+    → open_behind n inside ≡ Some 0
+    → is_test_behind n (inside ++ Close ∷ Question ∷ after) ≡ true
 found n [] after is = none_open n after is
 found n (Open k ∷ ts) after is = found (suc n) ts after is
 found zero (Close ∷ ts) after is = absurd (cc)

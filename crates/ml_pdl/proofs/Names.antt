@@ -5,7 +5,8 @@
 --   short_name      == a token that is no longer than a name has a short name, if it has one
 --   cut_name        == so has a longer one, where its name is cut
 --   can_name        == so a sign can be made of each token
-use Rattle.std.proofs.Common.{◌≡◌, ℕ, ◌≤◌, Bool, true, false, List, [], ◌∷◌, length, Option, Some, None, refl, sym, subst, arith, codes, bytes_eq, ◌&&◌, ◌==◌, nat_lt, not, cond, ltb-false, ◌-◌, take, slice_index}
+use Rattle.std.proofs.Common.{◌≡◌, ℕ, ◌≤◌, Bool, true, false, List, [], ◌∷◌, length, Option, Some, None, refl, sym, subst, arith}
+use Rattle.std.proofs.Common.{codes, bytes_eq, ◌&&◌, ◌==◌, nat_lt, not, cond, ltb-false, ◌-◌, take, slice_index}
 use Rattle.std.proofs.lemmas.Bool.{and_parts, and_from, or_from, not_from_false, cond-true, cond-false}
 use Rattle.ml_base.specs.Name.{longest_name}
 use Rattle.ml_text.specs.Bytes.{is_lower, is_letter}
@@ -47,11 +48,17 @@ free_word w is x =
     reserved.free_word w (codes "repeat" ∷ []) is (or_from (bytes_eq w (codes "repeat")) false x refl)
 
 -- the word `repeat`, as the program finds it
-pub repeat_word : (w : List ℕ) (o : Option Bool) → o ≡ None → bytes_eq w (codes "repeat") ≡ true → Repeats ≡ word_sign_by o w
+pub repeat_word : (w : List ℕ) (o : Option Bool)
+    → o ≡ None
+    → bytes_eq w (codes "repeat") ≡ true
+    → Repeats ≡ word_sign_by o w
 repeat_word w (Some b) is x = absurd (cc)
 repeat_word w None is x = sym (cond-true (bytes_eq w (codes "repeat")) Repeats (name_sign w) x)
 
-pub other_word : (w : List ℕ) (o : Option Bool) → o ≡ None → bytes_eq w (codes "repeat") ≡ false → name_sign w ≡ word_sign_by o w
+pub other_word : (w : List ℕ) (o : Option Bool)
+    → o ≡ None
+    → bytes_eq w (codes "repeat") ≡ false
+    → name_sign w ≡ word_sign_by o w
 other_word w (Some b) is x = absurd (cc)
 other_word w None is x = sym (cond-false (bytes_eq w (codes "repeat")) Repeats (name_sign w) x)
 
@@ -60,7 +67,11 @@ other_word w None is x = sym (cond-false (bytes_eq w (codes "repeat")) Repeats (
 proposition_letters : (w : List ℕ) → is_proposition w ≡ true → is_word_from is_letter w ≡ true
 proposition_letters w is = lower_letters w (and_parts (is_word_from is_lower w) (not (is_reserved w)) is).0
 
-short_name_by : (w : List ℕ) (a b : Bool) → is_proposition w ≡ a → is_variable w ≡ b → length w ≤ 64 → HasShortName (cond a (Lower w) (cond b (Upper w) Unknown))
+short_name_by : (w : List ℕ) (a b : Bool)
+    → is_proposition w ≡ a
+    → is_variable w ≡ b
+    → length w ≤ 64
+    → HasShortName (cond a (Lower w) (cond b (Upper w) Unknown))
 short_name_by w true b x y short = word_name w (proposition_letters w x) short
 short_name_by w false true x y short = word_name w (upper_letters w y) short
 short_name_by w false false x y short = tt
@@ -86,7 +97,10 @@ byte_name b =
     (one_of HasShortName (b == 95) _ _ tt tt))))))))))
 
 -- a token that is no word longer than a name
-pub short_name : (t : Token) (bytes : List ℕ) (n : ℕ) → (is_word t && nat_lt longest_name n) ≡ false → length bytes ≡ n → HasShortName (sign_of t bytes)
+pub short_name : (t : Token) (bytes : List ℕ) (n : ℕ)
+    → (is_word t && nat_lt longest_name n) ≡ false
+    → length bytes ≡ n
+    → HasShortName (sign_of t bytes)
 short_name token.Not bytes n short size = tt
 short_name (token.Operator o) bytes n short size = tt
 short_name (token.Byte b) bytes n short size = byte_name b
@@ -121,7 +135,11 @@ short_mark b (Upper p) is = is
 short_mark b _ is = tt
 
 -- a sign can be made of each token
-pub can_name : (k : Kind) (text : List ℕ) (p : Placed) → p.start ≤ p.end → p.end ≤ length text → named k (bytes_of text p) ≡ sign_at text p → HasShortName (named k (name_bytes text p))
+pub can_name : (k : Kind) (text : List ℕ) (p : Placed)
+    → p.start ≤ p.end
+    → p.end ≤ length text
+    → named k (bytes_of text p) ≡ sign_at text p
+    → HasShortName (named k (name_bytes text p))
 can_name k text p before within is =
     let mark = is_test_behind 0 (signs_behind text p.end) in
     name_bytes_by (λ w. HasShortName (named k w)) text p

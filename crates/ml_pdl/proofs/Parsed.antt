@@ -34,13 +34,16 @@ pdl_outcome text = text_outcome pdl_grammar (length text) (items text)
 abbrev IsRight : List ℕ → Outcome Phrase → Type 0
 IsRight text out = IsOutcome pdl_grammar (StandsFor pdl_grammar) (items text) (length text) out
 
-pub comes_of : (text : List ℕ) → IsOutcome pdl_grammar (StandsFor pdl_grammar) (items text) (length text) (pdl_outcome text)
+pub comes_of : (text : List ℕ)
+    → IsOutcome pdl_grammar (StandsFor pdl_grammar) (items text) (length text) (pdl_outcome text)
 comes_of text = exact pdl_grammar (StandsFor pdl_grammar) pdl_fits (items text) (length text)
 
 pub found_parsed : (text : List ℕ) (v : Phrase) → pdl_outcome text ≡ Found v → IsParsedAs text (formula_of v)
 found_parsed text v is = accepted (items text) v (subst (IsRight text) is (comes_of text))
 
-pub comes_first : (text : List ℕ) (c : Cause) (at : ℕ) → pdl_outcome text ≡ Refused c at → ComesFirst IsReadAs (items text) (length text) c at
+pub comes_first : (text : List ℕ) (c : Cause) (at : ℕ)
+    → pdl_outcome text ≡ Refused c at
+    → ComesFirst IsReadAs (items text) (length text) c at
 comes_first text c at is =
     let first : IsRight text (Refused c at) = subst (IsRight text) is (comes_of text) in
     (first.0, refused_same (StandsFor pdl_grammar) IsReadAs pdl_same (items text) c first.0 first.1, first.2)

@@ -13,7 +13,10 @@ use Rattle.ml_pdl.specs.Formula.{Formula, Program, Modality, Diamond, Square}
 use Rattle.ml_pdl.specs.Signs.{Sign, Marked, Unmarked, Const, Open, Close, Ends, Question, Blank}
 use Rattle.ml_pdl.specs.Grammar as grammar
 use Rattle.ml_pdl.specs.Grammar.{IsReadAs}
-use Rattle.ml_pdl.specs.Tables.{Phrase, OfFormula, OfProgram, Name, formula_of, program_of, negated, Sort, Formulas, Programs, Wait, FormulaStart, ProgramStart, BehindBegin, BehindProgram, BehindRepeat, BehindRepeatInside, BehindFormulaInside, BehindProgramInside, BehindTestInside, BehindNegations, BehindTested, Hold, Negation, ModalProgram, Modal, FormulaGroup, ProgramGroup, RepeatGroup, TestGroup, blank, shift, start, resume, pdl_grammar}
+use Rattle.ml_pdl.specs.Tables.{Phrase, OfFormula, OfProgram, Name, formula_of, program_of, negated, Sort, Formulas, Programs, Wait}
+use Rattle.ml_pdl.specs.Tables.{FormulaStart, ProgramStart, BehindBegin, BehindProgram, BehindRepeat, BehindRepeatInside, BehindFormulaInside}
+use Rattle.ml_pdl.specs.Tables.{BehindProgramInside, BehindTestInside, BehindNegations, BehindTested, Hold, Negation, ModalProgram, Modal}
+use Rattle.ml_pdl.specs.Tables.{FormulaGroup, ProgramGroup, RepeatGroup, TestGroup, blank, shift, start, resume, pdl_grammar}
 use Rattle.ml_pdl.proofs.ToTables.{Tabled, modal_read, tabled}
 use Rattle.ml_pdl.proofs.FromTables.{AsFormula, untabled}
 
@@ -31,10 +34,12 @@ pdl_regular s t k is = never_opens s t k is
 read_true : (rest : List Sign) → Tabled (Operand Formulas) (Const true ∷ rest) (OfFormula (plain.Const true)) rest
 read_true rest = form (sign (read whole))
 
-modal_true : (t : Sign) (m : Modality) (p : Program) (rest : List Sign) → Tabled (Behind t (Some (Inner (Modal m p)))) (Const true ∷ rest) (OfFormula (plain.Modal m p (plain.Const true))) rest
+modal_true : (t : Sign) (m : Modality) (p : Program) (rest : List Sign)
+    → Tabled (Behind t (Some (Inner (Modal m p)))) (Const true ∷ rest) (OfFormula (plain.Modal m p (plain.Const true))) rest
 modal_true t m p rest = modal_read m p (read_true rest)
 
-test_end : (f : Formula) (rest : List Sign) → Tabled (Rest (More (BehindTested f))) (Question ∷ rest) (OfProgram (plain.Test f)) rest
+test_end : (f : Formula) (rest : List Sign)
+    → Tabled (Rest (More (BehindTested f))) (Question ∷ rest) (OfProgram (plain.Test f)) rest
 test_end f rest = sign (read whole)
 
 -- `_)` ends a repetition
@@ -44,10 +49,30 @@ read_blank rest = form (sign (read whole))
 ending : (q : Wait) → Ending pdl_grammar q
 ending FormulaStart = record { signs = Const true ∷ []; tree = OfFormula (plain.Const true); reads = λ rest stop. sign (read whole) }
 ending ProgramStart = record { signs = Blank ∷ []; tree = OfProgram blank; reads = λ rest stop. sign (read whole) }
-ending (BehindBegin Diamond) = record { signs = Ends Diamond ∷ Const true ∷ []; tree = OfFormula (plain.Modal Diamond blank (plain.Const true)); reads = λ rest stop. sign (modal_true (Ends Diamond) Diamond blank rest) }
-ending (BehindBegin Square) = record { signs = Ends Square ∷ Const true ∷ []; tree = OfFormula (plain.Modal Square blank (plain.Const true)); reads = λ rest stop. sign (modal_true (Ends Square) Square blank rest) }
-ending (BehindProgram Diamond p) = record { signs = Ends Diamond ∷ Const true ∷ []; tree = OfFormula (plain.Modal Diamond p (plain.Const true)); reads = λ rest stop. sign (modal_true (Ends Diamond) Diamond p rest) }
-ending (BehindProgram Square p) = record { signs = Ends Square ∷ Const true ∷ []; tree = OfFormula (plain.Modal Square p (plain.Const true)); reads = λ rest stop. sign (modal_true (Ends Square) Square p rest) }
+ending (BehindBegin Diamond) =
+    record {
+      signs = Ends Diamond ∷ Const true ∷ [];
+      tree = OfFormula (plain.Modal Diamond blank (plain.Const true));
+      reads = λ rest stop. sign (modal_true (Ends Diamond) Diamond blank rest);
+    }
+ending (BehindBegin Square) =
+    record {
+      signs = Ends Square ∷ Const true ∷ [];
+      tree = OfFormula (plain.Modal Square blank (plain.Const true));
+      reads = λ rest stop. sign (modal_true (Ends Square) Square blank rest);
+    }
+ending (BehindProgram Diamond p) =
+    record {
+      signs = Ends Diamond ∷ Const true ∷ [];
+      tree = OfFormula (plain.Modal Diamond p (plain.Const true));
+      reads = λ rest stop. sign (modal_true (Ends Diamond) Diamond p rest);
+    }
+ending (BehindProgram Square p) =
+    record {
+      signs = Ends Square ∷ Const true ∷ [];
+      tree = OfFormula (plain.Modal Square p (plain.Const true));
+      reads = λ rest stop. sign (modal_true (Ends Square) Square p rest);
+    }
 ending BehindRepeat = record {
   signs = Open Unmarked ∷ Blank ∷ Close ∷ [];
   tree = OfFormula (plain.Repeat blank);
@@ -56,8 +81,18 @@ ending BehindRepeat = record {
 ending (BehindRepeatInside p) = record { signs = Close ∷ []; tree = OfFormula (plain.Repeat p); reads = λ rest stop. sign (read whole) }
 ending (BehindFormulaInside f) = record { signs = Close ∷ []; tree = OfFormula f; reads = λ rest stop. sign (read whole) }
 ending (BehindProgramInside p) = record { signs = Close ∷ []; tree = OfProgram p; reads = λ rest stop. sign (read whole) }
-ending (BehindTestInside f) = record { signs = Close ∷ Question ∷ []; tree = OfProgram (plain.Test f); reads = λ rest stop. sign (read (test_end f rest)) }
-ending (BehindNegations n) = record { signs = Const true ∷ Question ∷ []; tree = OfProgram (plain.Test (negated n (plain.Const true))); reads = λ rest stop. sign (read (test_end (negated n (plain.Const true)) rest)) }
+ending (BehindTestInside f) =
+    record {
+      signs = Close ∷ Question ∷ [];
+      tree = OfProgram (plain.Test f);
+      reads = λ rest stop. sign (read (test_end f rest));
+    }
+ending (BehindNegations n) =
+    record {
+      signs = Const true ∷ Question ∷ [];
+      tree = OfProgram (plain.Test (negated n (plain.Const true)));
+      reads = λ rest stop. sign (read (test_end (negated n (plain.Const true)) rest));
+    }
 ending (BehindTested f) = record { signs = Question ∷ []; tree = OfProgram (plain.Test f); reads = λ rest stop. test_end f rest }
 
 stop_close : (rest : List Sign) → IsStop pdl_grammar (Some Close)
@@ -69,12 +104,16 @@ stop_end m Formulas l = refl
 stop_end m Programs l = refl
 
 -- the first sign of what ends a form behind the operand that it held
-stop_program : (m : Modality) (p : Program) (rest : List Sign) → IsStop pdl_grammar (front ((ending (BehindProgram m p)).signs ++ rest))
+stop_program : (m : Modality) (p : Program) (rest : List Sign)
+    → IsStop pdl_grammar (front ((ending (BehindProgram m p)).signs ++ rest))
 unfolding ending
 stop_program Diamond p rest = stop_end Diamond
 stop_program Square p rest = stop_end Square
 
-closes : (k : Hold) (v : Phrase) (q : Wait) → resume k v ≡ More q → (rest : List Sign) → IsStop pdl_grammar (front ((ending q).signs ++ rest))
+closes : (k : Hold) (v : Phrase) (q : Wait)
+    → resume k v ≡ More q
+    → (rest : List Sign)
+    → IsStop pdl_grammar (front ((ending q).signs ++ rest))
 unfolding ending
 closes Negation v q is rest = absurd (cc)
 closes (Modal m p) v q is rest = absurd (cc)
@@ -99,12 +138,16 @@ unfolding ending closes
 pdl_completable = record { ending = ending; closes = closes }
 
 -- the tree of a whole text is a formula
-formula_stands : (ts : List Sign) (v : Phrase) → AsFormula grammar.Iff ts v [] → (f : Formula) × (OfFormula f ≡ v) × IsReadAs ts f
+formula_stands : (ts : List Sign) (v : Phrase)
+    → AsFormula grammar.Iff ts v []
+    → (f : Formula) × (OfFormula f ≡ v) × IsReadAs ts f
 formula_stands ts (OfFormula f) r = (f, refl, r)
 formula_stands ts (OfProgram p) r = absurd r
 formula_stands ts (Name a) r = absurd r
 
-pub stands_read : (ts : List Sign) (v : Phrase) → StandsFor pdl_grammar ts v → (f : Formula) × (OfFormula f ≡ v) × IsReadAs ts f
+pub stands_read : (ts : List Sign) (v : Phrase)
+    → StandsFor pdl_grammar ts v
+    → (f : Formula) × (OfFormula f ≡ v) × IsReadAs ts f
 stands_read ts v is = formula_stands ts v (untabled is grammar.Iff (omega arith))
 
 pub read_stands : (ts : List Sign) (f : Formula) → IsReadAs ts f → StandsFor pdl_grammar ts (OfFormula f)

@@ -22,10 +22,15 @@ pdl_same = record {
   from = λ ts f is. (OfFormula f, read_stands ts f is);
 }
 
-pub accepted : (items : List (Item Sign)) (v : Phrase) → IsAccepted (StandsFor pdl_grammar) items v → IsAccepted IsReadAs items (formula_of v)
+pub accepted : (items : List (Item Sign)) (v : Phrase)
+    → IsAccepted (StandsFor pdl_grammar) items v
+    → IsAccepted IsReadAs items (formula_of v)
 accepted items v is =
     let read = stands_read (signs_of items) v is.stands in
     record {
       stands = subst (λ f. IsReadAs (signs_of items) f) (ap formula_of read.1) read.2;
-      keeps = λ c k fault. is.keeps c k (fault_same IsReadAs (StandsFor pdl_grammar) (other_way (StandsFor pdl_grammar) IsReadAs pdl_same) items c k fault);
+      keeps =
+          λ c k fault. is.keeps c k
+          (fault_same IsReadAs (StandsFor pdl_grammar) (other_way (StandsFor pdl_grammar) IsReadAs pdl_same) items c k
+          fault);
     }

@@ -13,7 +13,9 @@ use Rattle.ml_text.proofs.TableItems.{signs_short}
 use Rattle.ml_text.proofs.WordNames.{name_length}
 use Rattle.ml_pdl.specs.Formula.{Formula, Program}
 use Rattle.ml_pdl.specs.Grammar as grammar
-use Rattle.ml_pdl.specs.Grammar.{IsReadAs, Reads, iff_alone, iff, imp_alone, imp, or_alone, or, and_alone, and, negation, modal, modal_blank, repetition, group, constant, proposition, ReadsProgram, alt_alone, alt, seq_alone, seq, star_alone, star, action, test, program_group, ReadsTested, tested_negation, tested_constant, tested_proposition, tested_group}
+use Rattle.ml_pdl.specs.Grammar.{IsReadAs, Reads, iff_alone, iff, imp_alone, imp, or_alone, or, and_alone, and, negation, modal, modal_blank}
+use Rattle.ml_pdl.specs.Grammar.{repetition, group, constant, proposition, ReadsProgram, alt_alone, alt, seq_alone, seq, star_alone, star, action}
+use Rattle.ml_pdl.specs.Grammar.{test, program_group, ReadsTested, tested_negation, tested_constant, tested_proposition, tested_group}
 use Rattle.ml_pdl.specs.Signs.{Sign, Lower, Upper, Blank, HasShortName, action_of}
 use Rattle.ml_pdl.specs.Marks.{is_test_behind}
 use Rattle.ml_pdl.specs.Text.{pdl_signs, items, sign_at, sign_by, signs_behind}
@@ -63,7 +65,10 @@ mutual
   reads_short (constant b) is = (tt, is.1)
   reads_short (proposition p) is = (is.0, is.1)
 
-  program_short : {l : grammar.ProgramLevel} {ts rest : List Sign} {p : Program} → ReadsProgram l ts p rest → AreShort ts → ProgramKeeps p rest
+  program_short : {l : grammar.ProgramLevel} {ts rest : List Sign} {p : Program}
+      → ReadsProgram l ts p rest
+      → AreShort ts
+      → ProgramKeeps p rest
   program_short (alt_alone r) is = program_short r is
   program_short (alt a b) is = let x = program_short a is in let y = program_short b (x.1).1 in ((x.0, y.0), y.1)
   program_short (seq_alone r) is = program_short r is

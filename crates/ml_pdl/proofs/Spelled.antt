@@ -20,7 +20,9 @@ use Rattle.ml_pdl.specs.Formula as plain
 use Rattle.ml_pdl.specs.Formula.{Formula, Program}
 use Rattle.ml_pdl.specs.Signs.{Sign, Blank, Lower, Upper, Unknown, Open, action_of, sign_of, byte_sign, word_sign_by}
 use Rattle.ml_pdl.specs.Grammar as grammar
-use Rattle.ml_pdl.specs.Grammar.{Reads, iff_alone, iff, imp_alone, imp, or_alone, or, and_alone, and, negation, modal, modal_blank, repetition, group, constant, proposition, ReadsProgram, alt_alone, alt, seq_alone, seq, star_alone, star, action, test, program_group, ReadsTested, tested_negation, tested_constant, tested_proposition, tested_group}
+use Rattle.ml_pdl.specs.Grammar.{Reads, iff_alone, iff, imp_alone, imp, or_alone, or, and_alone, and, negation, modal, modal_blank, repetition}
+use Rattle.ml_pdl.specs.Grammar.{group, constant, proposition, ReadsProgram, alt_alone, alt, seq_alone, seq, star_alone, star, action, test}
+use Rattle.ml_pdl.specs.Grammar.{program_group, ReadsTested, tested_negation, tested_constant, tested_proposition, tested_group}
 use Rattle.ml_pdl.specs.Spelling.{is_proposition, is_action, is_spelled, program_is_spelled, is_reserved, reserved}
 use Rattle.ml_pdl.specs.Marks.{with_mark, is_test_behind}
 use Rattle.ml_text.specs.Items.{bytes_of}
@@ -41,7 +43,10 @@ IsSpelledSign _ = Unit {0}
 abbrev pub AreSpelled : List Sign → Type 0
 AreSpelled ts = AllByRecursion IsSpelledSign ts
 
-spelled_by : (w : List ℕ) (a b : Bool) → is_proposition w ≡ a → is_variable w ≡ b → IsSpelledSign (cond a (Lower w) (cond b (Upper w) Unknown))
+spelled_by : (w : List ℕ) (a b : Bool)
+    → is_proposition w ≡ a
+    → is_variable w ≡ b
+    → IsSpelledSign (cond a (Lower w) (cond b (Upper w) Unknown))
 spelled_by w true b x y = x
 spelled_by w false true x y = y
 spelled_by w false false x y = tt
@@ -112,19 +117,29 @@ Spells f rest = (is_spelled f ≡ true) × AreSpelled rest
 abbrev pub ProgramSpells : Program → List Sign → Type 0
 ProgramSpells p rest = (program_is_spelled p ≡ true) × AreSpelled rest
 
-both_spelled : (o : Operator) (f g : Formula) (rest : List Sign) → is_spelled f ≡ true → Spells g rest → Spells (plain.Binary o f g) rest
+both_spelled : (o : Operator) (f g : Formula) (rest : List Sign)
+    → is_spelled f ≡ true
+    → Spells g rest
+    → Spells (plain.Binary o f g) rest
 both_spelled o f g rest a b = (and_from (is_spelled f) (is_spelled g) a b.0, b.1)
 
 mutual
-  pub reads_spelled : {l : grammar.Level} {ts rest : List Sign} {f : Formula} → Reads l ts f rest → AreSpelled ts → Spells f rest
+  pub reads_spelled : {l : grammar.Level} {ts rest : List Sign} {f : Formula}
+      → Reads l ts f rest
+      → AreSpelled ts
+      → Spells f rest
   reads_spelled (iff_alone r) is = reads_spelled r is
-  reads_spelled (iff {rest = rest} {f = f} {g = g} a b) is = let x = reads_spelled a is in both_spelled operator.Iff f g rest x.0 (reads_spelled b (x.1).1)
+  reads_spelled (iff {rest = rest} {f = f} {g = g} a b) is =
+      let x = reads_spelled a is in both_spelled operator.Iff f g rest x.0 (reads_spelled b (x.1).1)
   reads_spelled (imp_alone r) is = reads_spelled r is
-  reads_spelled (imp {rest = rest} {f = f} {g = g} a b) is = let x = reads_spelled a is in both_spelled operator.Implies f g rest x.0 (reads_spelled b (x.1).1)
+  reads_spelled (imp {rest = rest} {f = f} {g = g} a b) is =
+      let x = reads_spelled a is in both_spelled operator.Implies f g rest x.0 (reads_spelled b (x.1).1)
   reads_spelled (or_alone r) is = reads_spelled r is
-  reads_spelled (or {rest = rest} {f = f} {g = g} a b) is = let x = reads_spelled a is in both_spelled operator.Or f g rest x.0 (reads_spelled b (x.1).1)
+  reads_spelled (or {rest = rest} {f = f} {g = g} a b) is =
+      let x = reads_spelled a is in both_spelled operator.Or f g rest x.0 (reads_spelled b (x.1).1)
   reads_spelled (and_alone r) is = reads_spelled r is
-  reads_spelled (and {rest = rest} {f = f} {g = g} a b) is = let x = reads_spelled a is in both_spelled operator.And f g rest x.0 (reads_spelled b (x.1).1)
+  reads_spelled (and {rest = rest} {f = f} {g = g} a b) is =
+      let x = reads_spelled a is in both_spelled operator.And f g rest x.0 (reads_spelled b (x.1).1)
   reads_spelled (negation r) is = reads_spelled r is.1
   reads_spelled (modal {p = p} {f = f} m a b) is =
       let x = program_spelled a is.1 in
@@ -138,7 +153,10 @@ mutual
   reads_spelled (constant b) is = (refl, is.1)
   reads_spelled (proposition p) is = (is.0, is.1)
 
-  pub program_spelled : {l : grammar.ProgramLevel} {ts rest : List Sign} {p : Program} → ReadsProgram l ts p rest → AreSpelled ts → ProgramSpells p rest
+  pub program_spelled : {l : grammar.ProgramLevel} {ts rest : List Sign} {p : Program}
+      → ReadsProgram l ts p rest
+      → AreSpelled ts
+      → ProgramSpells p rest
   program_spelled (alt_alone r) is = program_spelled r is
   program_spelled (alt {p = p} {q = q} a b) is =
       let x = program_spelled a is in

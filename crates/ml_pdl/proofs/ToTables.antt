@@ -17,8 +17,11 @@ use Rattle.ml_pdl.specs.Formula.{Formula, Program, Modality, Diamond, Square}
 use Rattle.ml_pdl.specs.Signs as signs
 use Rattle.ml_pdl.specs.Signs.{Sign, Mark, Marked, Unmarked, Not, Connective, Const, Open, Close, Begins, Ends, Repeats, Plus, Semicolon, Question, Blank, Lower, Upper, action_of}
 use Rattle.ml_pdl.specs.Grammar as grammar
-use Rattle.ml_pdl.specs.Grammar.{Reads, iff_alone, iff, imp_alone, imp, or_alone, or, and_alone, and, negation, modal, modal_blank, repetition, group, constant, proposition, ReadsProgram, alt_alone, alt, seq_alone, seq, star_alone, star, action, test, program_group, ReadsTested, tested_negation, tested_constant, tested_proposition, tested_group, opens_program}
-use Rattle.ml_pdl.specs.Tables.{Phrase, OfFormula, OfProgram, Name, program_of, negated, Formulas, Programs, BehindBegin, BehindProgram, BehindNegations, BehindTested, ModalProgram, Modal, PdlTurn, Wait, blank, shift, shift_program, pdl_grammar}
+use Rattle.ml_pdl.specs.Grammar.{Reads, iff_alone, iff, imp_alone, imp, or_alone, or, and_alone, and, negation, modal, modal_blank, repetition, group}
+use Rattle.ml_pdl.specs.Grammar.{constant, proposition, ReadsProgram, alt_alone, alt, seq_alone, seq, star_alone, star, action, test, program_group}
+use Rattle.ml_pdl.specs.Grammar.{ReadsTested, tested_negation, tested_constant, tested_proposition, tested_group, opens_program}
+use Rattle.ml_pdl.specs.Tables.{Phrase, OfFormula, OfProgram, Name, program_of, negated, Formulas, Programs, BehindBegin, BehindProgram}
+use Rattle.ml_pdl.specs.Tables.{BehindNegations, BehindTested, ModalProgram, Modal, PdlTurn, Wait, blank, shift, shift_program, pdl_grammar}
 
 abbrev pub Tabled : Part pdl_grammar → List Sign → Phrase → List Sign → Type 0
 Tabled p ts v rest = tables.Reads pdl_grammar p ts v rest
@@ -27,7 +30,10 @@ abbrev pub TabledProgram : Part pdl_grammar → List Sign → Program → List S
 TabledProgram p ts q rest = (v : Phrase) × Tabled p ts v rest × (program_of v ≡ q)
 
 abbrev pub TabledTested : List Sign → Formula → List Sign → Type 0
-TabledTested ts f rest = (n : ℕ) (v : Phrase) (out : List Sign) → Tabled (Rest (More (BehindTested (negated n f)))) rest v out → Tabled (Rest (More (BehindNegations n))) ts v out
+TabledTested ts f rest =
+    (n : ℕ) (v : Phrase) (out : List Sign)
+    → Tabled (Rest (More (BehindTested (negated n f)))) rest v out
+    → Tabled (Rest (More (BehindNegations n))) ts v out
 
 abbrev pub part : grammar.Level → Part pdl_grammar
 part grammar.Iff = Level Formulas 0
@@ -55,7 +61,10 @@ tight (Some _) = refl
 -- ---- modalities
 
 -- a sign of a form, by what it does
-sign_by : {q : Wait} {t : Sign} {ts rest : List Sign} {v : Phrase} (turn : Option PdlTurn) → shift q t ≡ turn → Tabled (Behind t turn) ts v rest → Tabled (Rest (More q)) (t ∷ ts) v rest
+sign_by : {q : Wait} {t : Sign} {ts rest : List Sign} {v : Phrase} (turn : Option PdlTurn)
+    → shift q t ≡ turn
+    → Tabled (Behind t turn) ts v rest
+    → Tabled (Rest (More q)) (t ∷ ts) v rest
 sign_by {q} {t} {ts} {rest} {v} turn is r = sign (subst (λ x. Tabled (Behind t x) ts v rest) (sym is) r)
 
 begin_end : (m : Modality) → shift (BehindBegin m) (Ends m) ≡ Some (Inner (Modal m blank))
@@ -67,17 +76,24 @@ program_end Diamond p = refl
 program_end Square p = refl
 
 -- a sign with which a program begins
-begin_program : (m : Modality) (t : Sign) → (shift_program t ≡ None → ⊥) → shift (BehindBegin m) t ≡ Some (Opens (ModalProgram m))
+begin_program : (m : Modality) (t : Sign)
+    → (shift_program t ≡ None → ⊥)
+    → shift (BehindBegin m) t ≡ Some (Opens (ModalProgram m))
 begin_program Diamond (Ends n) goes = absurd (goes refl)
 begin_program Square (Ends n) goes = absurd (goes refl)
 begin_program Diamond _ goes = refl
 begin_program Square _ goes = refl
 
-pub modal_read : {t : Sign} {ts rest : List Sign} {f : Formula} (m : Modality) (p : Program) → Tabled (Operand Formulas) ts (OfFormula f) rest → Tabled (Behind t (Some (Inner (Modal m p)))) ts (OfFormula (plain.Modal m p f)) rest
+pub modal_read : {t : Sign} {ts rest : List Sign} {f : Formula} (m : Modality) (p : Program)
+    → Tabled (Operand Formulas) ts (OfFormula f) rest
+    → Tabled (Behind t (Some (Inner (Modal m p)))) ts (OfFormula (plain.Modal m p f)) rest
 modal_read {rest = rest} m p r = inner (alone r) (tight (front rest)) whole
 
 -- behind the program of a modality
-program_read : {ts rest : List Sign} {f : Formula} (m : Modality) (p q : Program) → p ≡ q → Tabled (Operand Formulas) ts (OfFormula f) rest → Tabled (Rest (More (BehindProgram m p))) (Ends m ∷ ts) (OfFormula (plain.Modal m q f)) rest
+program_read : {ts rest : List Sign} {f : Formula} (m : Modality) (p q : Program)
+    → p ≡ q
+    → Tabled (Operand Formulas) ts (OfFormula f) rest
+    → Tabled (Rest (More (BehindProgram m p))) (Ends m ∷ ts) (OfFormula (plain.Modal m q f)) rest
 program_read {ts} {rest} {f} m p q same r =
     subst (λ x. Tabled (Rest (More (BehindProgram m p))) (Ends m ∷ ts) (OfFormula (plain.Modal m x f)) rest) same
     (sign_by (Some (Inner (Modal m p))) (program_end m p) (modal_read m p r))
@@ -85,45 +101,85 @@ program_read {ts} {rest} {f} m p q same r =
 stop_end : (m : Modality) → takes pdl_grammar Programs 0 (Some (Ends m)) ≡ false
 stop_end m = refl
 
-opened : (m : Modality) (ts us rest : List Sign) (v w : Phrase) → Tabled (Level Programs 0) ts v (Ends m ∷ us) → BeginsWith pdl_grammar Wait.ProgramStart ts → Tabled (Rest (More (BehindProgram m (program_of v)))) (Ends m ∷ us) w rest → Tabled (Rest (More (BehindBegin m))) ts w rest
+opened : (m : Modality) (ts us rest : List Sign) (v w : Phrase)
+    → Tabled (Level Programs 0) ts v (Ends m ∷ us)
+    → BeginsWith pdl_grammar Wait.ProgramStart ts
+    → Tabled (Rest (More (BehindProgram m (program_of v)))) (Ends m ∷ us) w rest
+    → Tabled (Rest (More (BehindBegin m))) ts w rest
 opened m [] us rest v w r begins later = absurd begins
 opened m (t ∷ ts) us rest v w r begins later = sign_by (Some (Opens (ModalProgram m))) (begin_program m t begins) (opens r (stop_end m) later)
 
-modal_tabled : {ts us rest : List Sign} {p : Program} {f : Formula} (m : Modality) → TabledProgram (Level Programs 0) ts p (Ends m ∷ us) → Tabled (Operand Formulas) us (OfFormula f) rest → Tabled (Operand Formulas) (Begins m ∷ ts) (OfFormula (plain.Modal m p f)) rest
+modal_tabled : {ts us rest : List Sign} {p : Program} {f : Formula} (m : Modality)
+    → TabledProgram (Level Programs 0) ts p (Ends m ∷ us)
+    → Tabled (Operand Formulas) us (OfFormula f) rest
+    → Tabled (Operand Formulas) (Begins m ∷ ts) (OfFormula (plain.Modal m p f)) rest
 modal_tabled {ts} {us} {rest} {p} {f} m a b =
-    form (sign (read (opened m ts us rest a.0 (OfFormula (plain.Modal m p f)) a.1 (begins_with pdl_grammar a.1) (program_read m (program_of a.0) p a.2 b))))
+    form
+    (sign
+    (read
+    (opened m ts us rest a.0 (OfFormula (plain.Modal m p f)) a.1 (begins_with pdl_grammar a.1)
+    (program_read m (program_of a.0) p a.2 b))))
 
 -- ---- programs
 
-program_loosened : {l : ℕ} {ts rest : List Sign} {p : Program} (k : ℕ) → k ≤ l → TabledProgram (Level Programs l) ts p rest → TabledProgram (Level Programs k) ts p rest
+program_loosened : {l : ℕ} {ts rest : List Sign} {p : Program} (k : ℕ)
+    → k ≤ l
+    → TabledProgram (Level Programs l) ts p rest
+    → TabledProgram (Level Programs k) ts p rest
 program_loosened k le a = (a.0, loosen pdl_grammar k le a.1, a.2)
 
-alt_tabled : {ts us rest : List Sign} {p q : Program} → TabledProgram (Level Programs 0) ts p (Plus ∷ us) → TabledProgram (Level Programs 1) us q rest → TabledProgram (Level Programs 0) ts (plain.Alt p q) rest
-alt_tabled {p = p} a b = (OfProgram (plain.Alt (program_of a.0) (program_of b.0)), joined Plus 0 refl (omega arith) a.1 b.1, ap (λ x. plain.Alt x (program_of b.0)) a.2 ∙ ap (plain.Alt p) b.2)
+alt_tabled : {ts us rest : List Sign} {p q : Program}
+    → TabledProgram (Level Programs 0) ts p (Plus ∷ us)
+    → TabledProgram (Level Programs 1) us q rest
+    → TabledProgram (Level Programs 0) ts (plain.Alt p q) rest
+alt_tabled {p = p} a b = (
+  OfProgram (plain.Alt (program_of a.0) (program_of b.0)),
+  joined Plus 0 refl (omega arith) a.1 b.1,
+  ap (λ x. plain.Alt x (program_of b.0)) a.2 ∙ ap (plain.Alt p) b.2,
+)
 
-seq_tabled : {ts us rest : List Sign} {p q : Program} → TabledProgram (Level Programs 1) ts p (Semicolon ∷ us) → TabledProgram (Operand Programs) us q rest → TabledProgram (Level Programs 1) ts (plain.Seq p q) rest
-seq_tabled {p = p} a b = (OfProgram (plain.Seq (program_of a.0) (program_of b.0)), joined Semicolon 1 refl (omega arith) a.1 (alone b.1), ap (λ x. plain.Seq x (program_of b.0)) a.2 ∙ ap (plain.Seq p) b.2)
+seq_tabled : {ts us rest : List Sign} {p q : Program}
+    → TabledProgram (Level Programs 1) ts p (Semicolon ∷ us)
+    → TabledProgram (Operand Programs) us q rest
+    → TabledProgram (Level Programs 1) ts (plain.Seq p q) rest
+seq_tabled {p = p} a b = (
+  OfProgram (plain.Seq (program_of a.0) (program_of b.0)),
+  joined Semicolon 1 refl (omega arith) a.1 (alone b.1),
+  ap (λ x. plain.Seq x (program_of b.0)) a.2 ∙ ap (plain.Seq p) b.2,
+)
 
-star_tabled : {ts rest : List Sign} {p : Program} → TabledProgram (Operand Programs) ts p (signs.Star ∷ rest) → TabledProgram (Operand Programs) ts (plain.Star p) rest
+star_tabled : {ts rest : List Sign} {p : Program}
+    → TabledProgram (Operand Programs) ts p (signs.Star ∷ rest)
+    → TabledProgram (Operand Programs) ts (plain.Star p) rest
 star_tabled a = (OfProgram (plain.Star (program_of a.0)), postfixed signs.Star refl refl a.1, ap plain.Star a.2)
 
-action_tabled : {rest : List Sign} (a : List ℕ) (s : Sign) → action_of s ≡ Some a → TabledProgram (Operand Programs) (s ∷ rest) (plain.Act a) rest
+action_tabled : {rest : List Sign} (a : List ℕ) (s : Sign)
+    → action_of s ≡ Some a
+    → TabledProgram (Operand Programs) (s ∷ rest) (plain.Act a) rest
 action_tabled a Blank is = let same : codes "_" ≡ a = cc in (OfProgram blank, form (sign (read whole)), ap plain.Act same)
 action_tabled a (Lower b) is = let same : b ≡ a = cc in (Name b, form (sign (read whole)), ap plain.Act same)
 action_tabled a (Upper b) is = let same : b ≡ a = cc in (OfProgram (plain.Act b), form (sign (read whole)), ap plain.Act same)
 action_tabled a _ is = absurd (cc)
 
-program_group_tabled : {ts rest : List Sign} {p : Program} → TabledProgram (Level Programs 0) ts p (Close ∷ rest) → TabledProgram (Operand Programs) (Open Unmarked ∷ ts) p rest
+program_group_tabled : {ts rest : List Sign} {p : Program}
+    → TabledProgram (Level Programs 0) ts p (Close ∷ rest)
+    → TabledProgram (Operand Programs) (Open Unmarked ∷ ts) p rest
 program_group_tabled a = (OfProgram (program_of a.0), form (sign (inner a.1 refl (sign (read whole)))), a.2)
 
 -- the test of f, read by the form of tests
-test_tabled : {ts rest : List Sign} {f : Formula} → Tabled (Operand Programs) ts (OfProgram (plain.Test f)) rest → TabledProgram (Operand Programs) ts (plain.Test f) rest
+test_tabled : {ts rest : List Sign} {f : Formula}
+    → Tabled (Operand Programs) ts (OfProgram (plain.Test f)) rest
+    → TabledProgram (Operand Programs) ts (plain.Test f) rest
 test_tabled {f = f} r = (OfProgram (plain.Test f), r, refl)
 
-question_read : {rest : List Sign} (f : Formula) → Tabled (Rest (More (BehindTested f))) (Question ∷ rest) (OfProgram (plain.Test f)) rest
+question_read : {rest : List Sign} (f : Formula)
+    → Tabled (Rest (More (BehindTested f))) (Question ∷ rest) (OfProgram (plain.Test f)) rest
 question_read f = sign (read whole)
 
-group_test : {ts rest : List Sign} {f : Formula} (k : Mark) → opens_program (Open k ∷ ts) ≡ false → Tabled (Level Formulas 0) ts (OfFormula f) (Close ∷ Question ∷ rest) → TabledProgram (Operand Programs) (Open k ∷ ts) (plain.Test f) rest
+group_test : {ts rest : List Sign} {f : Formula} (k : Mark)
+    → opens_program (Open k ∷ ts) ≡ false
+    → Tabled (Level Formulas 0) ts (OfFormula f) (Close ∷ Question ∷ rest)
+    → TabledProgram (Operand Programs) (Open k ∷ ts) (plain.Test f) rest
 group_test {f = f} Marked e r = test_tabled (form (sign (inner r refl (sign (read (question_read f))))))
 group_test Unmarked e r = absurd (cc)
 
@@ -137,7 +193,9 @@ repeat_tabled {ts} {rest} {p} k a =
 -- ---- all of it
 
 mutual
-  pub tabled : {l : grammar.Level} {ts rest : List Sign} {f : Formula} → Reads l ts f rest → Tabled (part l) ts (OfFormula f) rest
+  pub tabled : {l : grammar.Level} {ts rest : List Sign} {f : Formula}
+      → Reads l ts f rest
+      → Tabled (part l) ts (OfFormula f) rest
   tabled (iff_alone r) = loosen pdl_grammar 0 (omega arith) (tabled r)
   tabled (iff a b) = joined (Connective operator.Iff) 0 refl (omega arith) (tabled a) (tabled b)
   tabled (imp_alone r) = loosen pdl_grammar 1 (omega arith) (tabled r)
@@ -154,7 +212,9 @@ mutual
   tabled (constant b) = form (sign (read whole))
   tabled (proposition p) = form (sign (read whole))
 
-  pub tabled_program : {l : grammar.ProgramLevel} {ts rest : List Sign} {p : Program} → ReadsProgram l ts p rest → TabledProgram (program_part l) ts p rest
+  pub tabled_program : {l : grammar.ProgramLevel} {ts rest : List Sign} {p : Program}
+      → ReadsProgram l ts p rest
+      → TabledProgram (program_part l) ts p rest
   tabled_program (alt_alone r) = program_loosened 0 (omega arith) (tabled_program r)
   tabled_program (alt a b) = alt_tabled (tabled_program a) (tabled_program b)
   tabled_program (seq_alone r) = let a = tabled_program r in (a.0, alone a.1, a.2)
@@ -162,7 +222,9 @@ mutual
   tabled_program (star_alone r) = tabled_program r
   tabled_program (star r) = star_tabled (tabled_program r)
   tabled_program (action a s is) = action_tabled a s is
-  tabled_program (test {rest = rest} e (tested_negation {f = f} r)) = test_tabled (form (sign (read (tabled_tested r 1 (OfProgram (plain.Test (plain.Not f))) rest (question_read (plain.Not f))))))
+  tabled_program (test {rest = rest} e (tested_negation {f = f} r)) =
+      test_tabled
+      (form (sign (read (tabled_tested r 1 (OfProgram (plain.Test (plain.Not f))) rest (question_read (plain.Not f))))))
   tabled_program (test e (tested_constant b)) = test_tabled (form (sign (read (question_read (plain.Const b)))))
   tabled_program (test e (tested_proposition p)) = test_tabled (postfixed Question refl refl (form (sign (read whole))))
   tabled_program (test e (tested_group k r)) = group_test k e (tabled r)

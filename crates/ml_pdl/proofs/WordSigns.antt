@@ -46,7 +46,10 @@ pub record ActionSign (a : List ℕ) : Type 0 where
   pub word : is_word_from is_letter a ≡ true
   pub action : action_of (word_sign a) ≡ Some a
 
-pub action_cases : (a : List ℕ) → is_word_from is_letter a ≡ true → is_reserved a ≡ false → action_of (word_sign a) ≡ Some a
+pub action_cases : (a : List ℕ)
+    → is_word_from is_letter a ≡ true
+    → is_reserved a ≡ false
+    → action_of (word_sign a) ≡ Some a
 action_cases a word free =
     ⊎_elim
     (λ (lower : is_word_from is_lower a ≡ true).
@@ -57,7 +60,10 @@ action_cases a word free =
 
 pub action_sign : (a : List ℕ) → is_action a ≡ true → bytes_eq a (codes "_") ≡ false → ActionSign a
 action_sign a is other =
-    let word_parts = and_parts (is_word_from is_letter a) (not (is_reserved a)) (or_other (bytes_eq a (codes "_")) (is_word_from is_letter a && not (is_reserved a)) is other) in
+    let word_parts =
+    and_parts (is_word_from is_letter a) (not (is_reserved a))
+    (or_other (bytes_eq a (codes "_")) (is_word_from is_letter a && not (is_reserved a)) is other)
+    in
     record { word = word_parts.0; action = action_cases a word_parts.0 (not-true (is_reserved a) word_parts.1) }
   where
     or_other : (x y : Bool) → (x || y) ≡ true → x ≡ false → y ≡ true

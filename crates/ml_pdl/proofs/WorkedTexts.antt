@@ -53,21 +53,46 @@ abbrev gt : Sign
 gt = Ends Diamond
 
 -- refused at these signs: <(tt)>p at 3,  <(!p)>p at 4,  <(p;p)?>p at 3,  <(p&p)>p at 3,  <!(p)>p at 5
-groups_in_programs : (is_refused (lt ∷ open_ ∷ Const true ∷ Close ∷ gt ∷ name ∷ []) 3) × (is_refused (lt ∷ open_ ∷ Not ∷ name ∷ Close ∷ gt ∷ name ∷ []) 4) × (is_refused (lt ∷ open_ ∷ name ∷ Semicolon ∷ name ∷ Close ∷ Question ∷ gt ∷ name ∷ []) 3) × (is_refused (lt ∷ open_ ∷ name ∷ Connective And ∷ name ∷ Close ∷ gt ∷ name ∷ []) 3) × (is_refused (lt ∷ Not ∷ open_ ∷ name ∷ Close ∷ gt ∷ name ∷ []) 5)
+groups_in_programs : (is_refused (lt ∷ open_ ∷ Const true ∷ Close ∷ gt ∷ name ∷ []) 3)
+    × (is_refused (lt ∷ open_ ∷ Not ∷ name ∷ Close ∷ gt ∷ name ∷ []) 4)
+    × (is_refused (lt ∷ open_ ∷ name ∷ Semicolon ∷ name ∷ Close ∷ Question ∷ gt ∷ name ∷ []) 3)
+    × (is_refused (lt ∷ open_ ∷ name ∷ Connective And ∷ name ∷ Close ∷ gt ∷ name ∷ []) 3)
+    × (is_refused (lt ∷ Not ∷ open_ ∷ name ∷ Close ∷ gt ∷ name ∷ []) 5)
 groups_in_programs = (refl, refl, refl, refl, refl)
 
 -- refused: <p?p>p at 3,  <A?>p at 2,  <tt>p at 2,  <!p;p>p at 3,  <!_?>p at 2,  p? at 1,  <p*?>p at 3
-tests_without_groups : (is_refused (lt ∷ name ∷ Question ∷ name ∷ gt ∷ name ∷ []) 3) × (is_refused (lt ∷ Upper (codes "A") ∷ Question ∷ gt ∷ name ∷ []) 2) × (is_refused (lt ∷ Const true ∷ gt ∷ name ∷ []) 2) × (is_refused (lt ∷ Not ∷ name ∷ Semicolon ∷ name ∷ gt ∷ name ∷ []) 3) × (is_refused (lt ∷ Not ∷ Blank ∷ Question ∷ gt ∷ name ∷ []) 2) × (is_refused (name ∷ Question ∷ []) 1) × (is_refused (lt ∷ name ∷ Star ∷ Question ∷ gt ∷ name ∷ []) 3)
+tests_without_groups : (is_refused (lt ∷ name ∷ Question ∷ name ∷ gt ∷ name ∷ []) 3)
+    × (is_refused (lt ∷ Upper (codes "A") ∷ Question ∷ gt ∷ name ∷ []) 2)
+    × (is_refused (lt ∷ Const true ∷ gt ∷ name ∷ []) 2)
+    × (is_refused (lt ∷ Not ∷ name ∷ Semicolon ∷ name ∷ gt ∷ name ∷ []) 3)
+    × (is_refused (lt ∷ Not ∷ Blank ∷ Question ∷ gt ∷ name ∷ []) 2)
+    × (is_refused (name ∷ Question ∷ []) 1)
+    × (is_refused (lt ∷ name ∷ Star ∷ Question ∷ gt ∷ name ∷ []) 3)
 tests_without_groups = (refl, refl, refl, refl, refl, refl, refl)
 
 -- refused: (p)? at 3,  <((p)?)?>p at 5
-groups_elsewhere : (is_refused (open_ ∷ name ∷ Close ∷ Question ∷ []) 3) × (is_refused (lt ∷ open_ ∷ open_ ∷ name ∷ Close ∷ Question ∷ Close ∷ Question ∷ gt ∷ name ∷ []) 5)
+groups_elsewhere : (is_refused (open_ ∷ name ∷ Close ∷ Question ∷ []) 3)
+    × (is_refused (lt ∷ open_ ∷ open_ ∷ name ∷ Close ∷ Question ∷ Close ∷ Question ∷ gt ∷ name ∷ []) 5)
 groups_elsewhere = (refl, refl)
 
 -- refused: <(p at 3,  <(p)? at 5,  <> at 2,  [ at 1,  the empty text at 0,  <p]p at 2
-ends : (is_refused (lt ∷ open_ ∷ name ∷ []) 3) × (is_refused (lt ∷ open_ ∷ name ∷ Close ∷ Question ∷ []) 5) × (is_refused (lt ∷ gt ∷ []) 2) × (is_refused (Begins Square ∷ []) 1) × (is_refused [] 0) × (is_refused (lt ∷ name ∷ Ends Square ∷ name ∷ []) 2)
+ends : (is_refused (lt ∷ open_ ∷ name ∷ []) 3)
+    × (is_refused (lt ∷ open_ ∷ name ∷ Close ∷ Question ∷ []) 5)
+    × (is_refused (lt ∷ gt ∷ []) 2)
+    × (is_refused (Begins Square ∷ []) 1)
+    × (is_refused [] 0)
+    × (is_refused (lt ∷ name ∷ Ends Square ∷ name ∷ []) 2)
 ends = (refl, refl, refl, refl, refl, refl)
 
 -- <(p&p)?>p,  <((p)?)*>p,  <(p)>p,  []p,  <p?*;p+_>p,  <!!tt?>p
-accepted : (stands_for (lt ∷ open_ ∷ name ∷ Connective And ∷ name ∷ Close ∷ Question ∷ gt ∷ name ∷ []) (plain.Modal Diamond (plain.Test (plain.Binary And prop prop)) prop)) × (stands_for (lt ∷ open_ ∷ open_ ∷ name ∷ Close ∷ Question ∷ Close ∷ Star ∷ gt ∷ name ∷ []) (plain.Modal Diamond (plain.Star (plain.Test prop)) prop)) × (stands_for (lt ∷ open_ ∷ name ∷ Close ∷ gt ∷ name ∷ []) (plain.Modal Diamond act prop)) × (stands_for (Begins Square ∷ Ends Square ∷ name ∷ []) (plain.Modal Square (plain.Act (codes "_")) prop)) × (stands_for (lt ∷ name ∷ Question ∷ Star ∷ Semicolon ∷ name ∷ Plus ∷ Blank ∷ gt ∷ name ∷ []) (plain.Modal Diamond (plain.Alt (plain.Seq (plain.Star (plain.Test prop)) act) (plain.Act (codes "_"))) prop)) × (stands_for (lt ∷ Not ∷ Not ∷ Const true ∷ Question ∷ gt ∷ name ∷ []) (plain.Modal Diamond (plain.Test (plain.Not (plain.Not (plain.Const true)))) prop))
+accepted : (stands_for (lt ∷ open_ ∷ name ∷ Connective And ∷ name ∷ Close ∷ Question ∷ gt ∷ name ∷ [])
+    (plain.Modal Diamond (plain.Test (plain.Binary And prop prop)) prop))
+    × (stands_for (lt ∷ open_ ∷ open_ ∷ name ∷ Close ∷ Question ∷ Close ∷ Star ∷ gt ∷ name ∷ [])
+    (plain.Modal Diamond (plain.Star (plain.Test prop)) prop))
+    × (stands_for (lt ∷ open_ ∷ name ∷ Close ∷ gt ∷ name ∷ []) (plain.Modal Diamond act prop))
+    × (stands_for (Begins Square ∷ Ends Square ∷ name ∷ []) (plain.Modal Square (plain.Act (codes "_")) prop))
+    × (stands_for (lt ∷ name ∷ Question ∷ Star ∷ Semicolon ∷ name ∷ Plus ∷ Blank ∷ gt ∷ name ∷ [])
+    (plain.Modal Diamond (plain.Alt (plain.Seq (plain.Star (plain.Test prop)) act) (plain.Act (codes "_"))) prop))
+    × (stands_for (lt ∷ Not ∷ Not ∷ Const true ∷ Question ∷ gt ∷ name ∷ [])
+    (plain.Modal Diamond (plain.Test (plain.Not (plain.Not (plain.Const true)))) prop))
 accepted = (refl, refl, refl, refl, refl, refl)

@@ -58,18 +58,31 @@ pub lowest_mark_le : (m : Mark) (ms : List Mark) → IsMember m ms → mark_le (
 lowest_mark_le m [] i = absurd i
 lowest_mark_le m (n ∷ ns) i = by_test i (lowest_mark_le m ns) (cases_Bool (mark_le n (lowest_mark ns)))
   where
-    by_test : (m ≡ n) ⊎ IsMember m ns → (IsMember m ns → mark_le (lowest_mark ns) m ≡ true) → (mark_le n (lowest_mark ns) ≡ true) ⊎ (mark_le n (lowest_mark ns) ≡ false) → mark_le (lower_mark n (lowest_mark ns)) m ≡ true
-    by_test (inl same) rest (inl t) = subst (λ l. mark_le l m ≡ true) (sym (cond-true (mark_le n (lowest_mark ns)) n (lowest_mark ns) t)) (subst (λ l. mark_le l m ≡ true) same (mark_le_refl m))
-    by_test (inr later) rest (inl t) = subst (λ l. mark_le l m ≡ true) (sym (cond-true (mark_le n (lowest_mark ns)) n (lowest_mark ns) t)) (mark_le_trans n (lowest_mark ns) m t (rest later))
-    by_test (inl same) rest (inr f) = subst (λ l. mark_le l m ≡ true) (sym (cond-false (mark_le n (lowest_mark ns)) n (lowest_mark ns) f)) (subst (λ l. mark_le (lowest_mark ns) l ≡ true) (sym same) (mark_le_total n (lowest_mark ns) f))
-    by_test (inr later) rest (inr f) = subst (λ l. mark_le l m ≡ true) (sym (cond-false (mark_le n (lowest_mark ns)) n (lowest_mark ns) f)) (rest later)
+    by_test : (m ≡ n) ⊎ IsMember m ns
+        → (IsMember m ns → mark_le (lowest_mark ns) m ≡ true)
+        → (mark_le n (lowest_mark ns) ≡ true) ⊎ (mark_le n (lowest_mark ns) ≡ false)
+        → mark_le (lower_mark n (lowest_mark ns)) m ≡ true
+    by_test (inl same) rest (inl t) =
+        subst (λ l. mark_le l m ≡ true) (sym (cond-true (mark_le n (lowest_mark ns)) n (lowest_mark ns) t))
+        (subst (λ l. mark_le l m ≡ true) same (mark_le_refl m))
+    by_test (inr later) rest (inl t) =
+        subst (λ l. mark_le l m ≡ true) (sym (cond-true (mark_le n (lowest_mark ns)) n (lowest_mark ns) t))
+        (mark_le_trans n (lowest_mark ns) m t (rest later))
+    by_test (inl same) rest (inr f) =
+        subst (λ l. mark_le l m ≡ true) (sym (cond-false (mark_le n (lowest_mark ns)) n (lowest_mark ns) f))
+        (subst (λ l. mark_le (lowest_mark ns) l ≡ true) (sym same) (mark_le_total n (lowest_mark ns) f))
+    by_test (inr later) rest (inr f) =
+        subst (λ l. mark_le l m ≡ true) (sym (cond-false (mark_le n (lowest_mark ns)) n (lowest_mark ns) f))
+        (rest later)
 
 -- the lowest mark is Neutral, or one of the list
 pub lowest_mark_is : (ms : List Mark) → (lowest_mark ms ≡ Neutral) ⊎ IsMember (lowest_mark ms) ms
 lowest_mark_is [] = inl refl
 lowest_mark_is (n ∷ ns) = by_test (lowest_mark_is ns) (cases_Bool (mark_le n (lowest_mark ns)))
   where
-    by_test : (lowest_mark ns ≡ Neutral) ⊎ IsMember (lowest_mark ns) ns → (mark_le n (lowest_mark ns) ≡ true) ⊎ (mark_le n (lowest_mark ns) ≡ false) → (lowest_mark (n ∷ ns) ≡ Neutral) ⊎ IsMember (lowest_mark (n ∷ ns)) (n ∷ ns)
+    by_test : (lowest_mark ns ≡ Neutral) ⊎ IsMember (lowest_mark ns) ns
+        → (mark_le n (lowest_mark ns) ≡ true) ⊎ (mark_le n (lowest_mark ns) ≡ false)
+        → (lowest_mark (n ∷ ns) ≡ Neutral) ⊎ IsMember (lowest_mark (n ∷ ns)) (n ∷ ns)
     by_test old (inl t) = inr (inl (cond-true (mark_le n (lowest_mark ns)) n (lowest_mark ns) t))
     by_test (inl none) (inr f) = inl (cond-false (mark_le n (lowest_mark ns)) n (lowest_mark ns) f ∙ none)
     by_test (inr i) (inr f) = inr (inr (subst (λ l. IsMember l ns) (sym (cond-false (mark_le n (lowest_mark ns)) n (lowest_mark ns) f)) i))

@@ -17,24 +17,37 @@ use Rattle.ml_trace.specs.Automaton.{states_per_node, guess_place, guess_at, num
 use Rattle.ml_trace.proofs.LetterLemmas.{odd_place}
 
 -- the place of a guess is among those of a node
-pub guess_place-le : (odds : List ℕ) (g : Option ℕ) → IsAscending odds → IsGuess odds g → guess_place odds g < states_per_node odds
+pub guess_place-le : (odds : List ℕ) (g : Option ℕ)
+    → IsAscending odds
+    → IsGuess odds g
+    → guess_place odds g < states_per_node odds
 guess_place-le odds None a is = omega arith
 guess_place-le odds (Some d) a is =
     let p = member-place d odds is in
-    let at : position_or_len (λ e. eqb e d) odds ≡ p.place = ap (λ v. position_or_len (λ e. eqb e v) odds) (sym (p.holds 0)) ∙ odd_place odds p.place a p.below in
+    let at : position_or_len (λ e. eqb e d) odds ≡ p.place =
+    ap (λ v. position_or_len (λ e. eqb e v) odds) (sym (p.holds 0)) ∙ odd_place odds p.place a p.below
+    in
     omega (arith, at, p.below)
 
 -- the guess at the place of a guess is this guess
-pub guess_at-place : (odds : List ℕ) (g : Option ℕ) → IsAscending odds → IsGuess odds g → guess_at odds (guess_place odds g) ≡ g
+pub guess_at-place : (odds : List ℕ) (g : Option ℕ)
+    → IsAscending odds
+    → IsGuess odds g
+    → guess_at odds (guess_place odds g) ≡ g
 guess_at-place odds None a is = refl
 guess_at-place odds (Some d) a is =
     let p = member-place d odds is in
-    let at : position_or_len (λ e. eqb e d) odds ≡ p.place = ap (λ v. position_or_len (λ e. eqb e v) odds) (sym (p.holds 0)) ∙ odd_place odds p.place a p.below in
+    let at : position_or_len (λ e. eqb e d) odds ≡ p.place =
+    ap (λ v. position_or_len (λ e. eqb e v) odds) (sym (p.holds 0)) ∙ odd_place odds p.place a p.below
+    in
     let e : position_or_len (λ e. eqb e d) odds + 1 ≡ suc p.place = omega (arith, at) in
     ap (guess_at odds) e ∙ slice_get-get_or odds p.place 0 p.below ∙ ap Some (p.holds 0)
 
 -- the place of the guess at a place is this place
-pub guess_place-at : (odds : List ℕ) (j : ℕ) → IsAscending odds → j < states_per_node odds → guess_place odds (guess_at odds j) ≡ j
+pub guess_place-at : (odds : List ℕ) (j : ℕ)
+    → IsAscending odds
+    → j < states_per_node odds
+    → guess_place odds (guess_at odds j) ≡ j
 guess_place-at odds zero a low = refl
 guess_place-at odds (suc j) a low =
     let is : slice_get odds j ≡ Some (get_or odds j 0) = slice_get-get_or odds j 0 (omega arith) in
@@ -47,7 +60,10 @@ same_state : (s : AutomatonState) (n : ℕ) (g : Option ℕ) → n ≡ s.node �
 same_state s n g e f = λ i. record { node = e i; odd = f i }
 
 -- the state with the number of a state is this state
-pub state_of-number : (odds : List ℕ) (s : AutomatonState) → IsAscending odds → IsState odds s → state_of odds (number odds s) ≡ s
+pub state_of-number : (odds : List ℕ) (s : AutomatonState)
+    → IsAscending odds
+    → IsState odds s
+    → state_of odds (number odds s) ≡ s
 state_of-number odds s a is =
     let low = guess_place-le odds s.odd a is in
     same_state s (number odds s / states_per_node odds) (guess_at odds (number odds s % states_per_node odds))

@@ -33,7 +33,9 @@ pub greens-append : {L : Type 0} → (x : ℕ) (u v : List (MarkedStep L)) → g
 greens-append x [] v = omega arith
 greens-append x (s ∷ u) v = by_test (greens-append x u v) (cases_Bool (is_green x s.mark))
   where
-    by_test : greens x (u ++ v) ≡ greens x u + greens x v → (is_green x s.mark ≡ true) ⊎ (is_green x s.mark ≡ false) → greens x ((s ∷ u) ++ v) ≡ greens x (s ∷ u) + greens x v
+    by_test : greens x (u ++ v) ≡ greens x u + greens x v
+        → (is_green x s.mark ≡ true) ⊎ (is_green x s.mark ≡ false)
+        → greens x ((s ∷ u) ++ v) ≡ greens x (s ∷ u) + greens x v
     by_test old (inl t) =
         let here = cond-true (is_green x s.mark) (suc (greens x u)) (greens x u) t in
         let all = cond-true (is_green x s.mark) (suc (greens x (u ++ v))) (greens x (u ++ v)) t in
@@ -44,7 +46,11 @@ greens-append x (s ∷ u) v = by_test (greens-append x u v) (cases_Bool (is_gree
         omega (arith, old, here, all)
 
 -- a list of steps of which one is Green x has a green step at least
-pub green_counts : {L : Type 0} → (x : ℕ) (s : MarkedStep L) (steps : List (MarkedStep L)) → IsMember s steps → is_green x s.mark ≡ true → 1 ≤ greens x steps
+pub green_counts : {L : Type 0}
+    → (x : ℕ) (s : MarkedStep L) (steps : List (MarkedStep L))
+    → IsMember s steps
+    → is_green x s.mark ≡ true
+    → 1 ≤ greens x steps
 green_counts x s [] i g = absurd i
 green_counts {L} x s (r ∷ rs) (inl same) g =
     let here = cond-true (is_green x r.mark) (suc (greens x rs)) (greens x rs) (subst (λ (v : MarkedStep L). is_green x v.mark ≡ true) same g) in
@@ -57,18 +63,30 @@ green_counts x s (r ∷ rs) (inr later) g = by_test (green_counts x s rs later g
 
 module _ {S L : Type 0} (leads : L → S → S → Bool → Type 0) where
   -- a path and a further one
-  pub path-append : (u v : List (MarkedStep L)) (e f g : Entry S) → IsPath leads u e f → IsPath leads v f g → IsPath leads (u ++ v) e g
+  pub path-append : (u v : List (MarkedStep L)) (e f g : Entry S)
+      → IsPath leads u e f
+      → IsPath leads v f g
+      → IsPath leads (u ++ v) e g
   path-append [] v e f g same path = subst (λ d. IsPath leads v d g) (sym same) path
   path-append (s ∷ u) v e f g first path = (first.0, first.1, path-append u v first.0 f g first.2 path)
 
   -- along marks at or above Green x, x stays in use
-  pub keeps_use : (x : ℕ) (steps : List (MarkedStep L)) (e f : Entry S) → IsPath leads steps e f → ((s : MarkedStep L) → IsMember s steps → mark_le (Green x) s.mark ≡ true) → x < e.live → x < f.live
+  pub keeps_use : (x : ℕ) (steps : List (MarkedStep L)) (e f : Entry S)
+      → IsPath leads steps e f
+      → ((s : MarkedStep L) → IsMember s steps → mark_le (Green x) s.mark ≡ true)
+      → x < e.live
+      → x < f.live
   keeps_use x [] e f same above used = subst (λ (d : Entry S). x < d.live) same used
   keeps_use x (s ∷ steps) e f path above used =
       keeps_use x steps path.0 f path.2 (λ r i. above r (inr i)) (step_keeps_use leads x s.letter s.mark e path.0 path.1 (above s (inl refl)) used)
 
   -- behind a step that is Green x, x is in use, if no mark stands below Green x
-  pub in_use_after : (x : ℕ) (s : MarkedStep L) (steps : List (MarkedStep L)) (e f : Entry S) → IsPath leads steps e f → ((r : MarkedStep L) → IsMember r steps → mark_le (Green x) r.mark ≡ true) → IsMember s steps → s.mark ≡ Green x → x < f.live
+  pub in_use_after : (x : ℕ) (s : MarkedStep L) (steps : List (MarkedStep L)) (e f : Entry S)
+      → IsPath leads steps e f
+      → ((r : MarkedStep L) → IsMember r steps → mark_le (Green x) r.mark ≡ true)
+      → IsMember s steps
+      → s.mark ≡ Green x
+      → x < f.live
   in_use_after x s [] e f path above i green = absurd i
   in_use_after x s (r ∷ rs) e f path above (inl same) green =
       let here : r.mark ≡ Green x = subst (λ (v : MarkedStep L). v.mark ≡ Green x) same green in
@@ -87,10 +105,13 @@ module _ {S L : Type 0} (leads : L → S → S → Bool → Type 0) where
     times = first.times + second.times;
     once = omega (arith, first.once);
     run = subst (λ v. AcceptingRun leads v a.state c.state) (repeated-add first.times second.times w)
-        (accepting-append leads (repeated first.times w) (repeated second.times w) a.state b.state c.state first.run (accepting-is_run leads (repeated second.times w) b.state c.state second.run));
+        (accepting-append leads (repeated first.times w) (repeated second.times w) a.state b.state c.state first.run
+        (accepting-is_run leads (repeated second.times w) b.state c.state second.run));
   }
 
-  module _ (steps : List (MarkedStep L)) (e : Entry S) (loop : IsPath leads steps e e) (stands : EachNameStands e) (x : ℕ) (s : MarkedStep L) (member : IsMember s steps) (green : s.mark ≡ Green x) (above : (r : MarkedStep L) → IsMember r steps → mark_le (Green x) r.mark ≡ true) where
+  module _ (steps : List (MarkedStep L)) (e : Entry S) (loop : IsPath leads steps e e) (stands : EachNameStands e)
+      (x : ℕ) (s : MarkedStep L) (member : IsMember s steps) (green : s.mark ≡ Green x)
+      (above : (r : MarkedStep L) → IsMember r steps → mark_le (Green x) r.mark ≡ true) where
     -- x is in use
     used : x < e.live
     used = in_use_after x s steps e e loop above member green
@@ -154,16 +175,23 @@ module _ {S L : Type 0} (leads : L → S → S → Bool → Type 0) where
 
   -- On a loop of steps that satisfy the condition on names, whose lowest mark is odd, some item has an accepting run
   -- to its own state.
-  pub odd_loop : (steps : List (MarkedStep L)) (e : Entry S) → IsPath leads steps e e → EachNameStands e → is_odd (lowest_mark (marks steps)) ≡ true → CyclicRun leads e (letters steps)
+  pub odd_loop : (steps : List (MarkedStep L)) (e : Entry S)
+      → IsPath leads steps e e
+      → EachNameStands e
+      → is_odd (lowest_mark (marks steps)) ≡ true
+      → CyclicRun leads e (letters steps)
   odd_loop steps e loop stands odd = by_lowest (lowest_mark_is (marks steps))
     where
       green : (x : ℕ) × (lowest_mark (marks steps) ≡ Green x)
       green = odd-is_green (lowest_mark (marks steps)) odd
 
       above : (r : MarkedStep L) → IsMember r steps → mark_le (Green green.0) r.mark ≡ true
-      above r i = subst (λ m. mark_le m r.mark ≡ true) green.1 (lowest_mark_le r.mark (marks steps) (member-map (λ (v : MarkedStep L). v.mark) r steps i))
+      above r i =
+          subst (λ m. mark_le m r.mark ≡ true) green.1
+          (lowest_mark_le r.mark (marks steps) (member-map (λ (v : MarkedStep L). v.mark) r steps i))
 
-      by_lowest : (lowest_mark (marks steps) ≡ Neutral) ⊎ IsMember (lowest_mark (marks steps)) (marks steps) → CyclicRun leads e (letters steps)
+      by_lowest : (lowest_mark (marks steps) ≡ Neutral) ⊎ IsMember (lowest_mark (marks steps)) (marks steps)
+          → CyclicRun leads e (letters steps)
       by_lowest (inl none) = let wrong = subst (λ m. is_odd m ≡ true) none odd in absurd (cc)
       by_lowest (inr i) =
           let s = member-map_from (λ (v : MarkedStep L). v.mark) (lowest_mark (marks steps)) steps i in

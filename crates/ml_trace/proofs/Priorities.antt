@@ -41,10 +41,14 @@ priority_ge top Neutral (Green y) f e = omega arith
 priority_ge top Neutral Neutral f e = absurd (cc)
 
 -- the number of the lower of two marks is the lower number
-pub priority-lower : (top : ℕ) (m n : Mark) → FitsBelow top m → FitsBelow top n → priority top (lower_mark m n) ≡ min (priority top m) (priority top n)
+pub priority-lower : (top : ℕ) (m n : Mark)
+    → FitsBelow top m
+    → FitsBelow top n
+    → priority top (lower_mark m n) ≡ min (priority top m) (priority top n)
 priority-lower top m n f g = by_test (cases_Bool (mark_le m n))
   where
-    by_test : (mark_le m n ≡ true) ⊎ (mark_le m n ≡ false) → priority top (lower_mark m n) ≡ min (priority top m) (priority top n)
+    by_test : (mark_le m n ≡ true) ⊎ (mark_le m n ≡ false)
+        → priority top (lower_mark m n) ≡ min (priority top m) (priority top n)
     by_test (inl t) =
         let le = priority_le top m n f t in
         let e : priority top m ≡ min (priority top m) (priority top n) = omega arith in
@@ -55,7 +59,9 @@ priority-lower top m n f g = by_test (cases_Bool (mark_le m n))
         ap (priority top) (cond-false (mark_le m n) m n u) ∙ e
 
 -- the lowest mark fits if all do
-lowest_fits : (top : ℕ) (ms : List Mark) → ((n : Mark) → IsMember n ms → FitsBelow top n) → FitsBelow top (lowest_mark ms)
+lowest_fits : (top : ℕ) (ms : List Mark)
+    → ((n : Mark) → IsMember n ms → FitsBelow top n)
+    → FitsBelow top (lowest_mark ms)
 lowest_fits top ms fits = by_place (lowest_mark_is ms)
   where
     by_place : (lowest_mark ms ≡ Neutral) ⊎ IsMember (lowest_mark ms) ms → FitsBelow top (lowest_mark ms)
@@ -69,7 +75,9 @@ below_neutral (Green x) = refl
 below_neutral Neutral = refl
 
 -- the lowest number is that of the lowest mark
-pub lowest_priority : (top : ℕ) (m : Mark) (ms : List Mark) → ((n : Mark) → IsMember n (m ∷ ms) → FitsBelow top n) → lowest (priority top m) (map (priority top) ms) ≡ priority top (lowest_mark (m ∷ ms))
+pub lowest_priority : (top : ℕ) (m : Mark) (ms : List Mark)
+    → ((n : Mark) → IsMember n (m ∷ ms) → FitsBelow top n)
+    → lowest (priority top m) (map (priority top) ms) ≡ priority top (lowest_mark (m ∷ ms))
 lowest_priority top m [] fits = ap (priority top) (sym (cond-true (mark_le m Neutral) m Neutral (below_neutral m)))
 lowest_priority top m (n ∷ ns) fits =
     ap (λ v. min (priority top m) v) (lowest_priority top n ns (λ l i. fits l (inr i)))

@@ -19,7 +19,10 @@ module _ {S L : Type 0} (leads : L → S → S → Bool → Type 0) where
   accepting-is_run (l ∷ u) p q (inr later) = (later.0, later.1, later.2, accepting-is_run u later.0 q later.3)
 
   -- an accepting run and a further run make an accepting run
-  pub accepting-append : (u v : List L) (p q r : S) → AcceptingRun leads u p q → Run leads v q r → AcceptingRun leads (u ++ v) p r
+  pub accepting-append : (u v : List L) (p q r : S)
+      → AcceptingRun leads u p q
+      → Run leads v q r
+      → AcceptingRun leads (u ++ v) p r
   accepting-append [] v p q r run more = absurd run
   accepting-append (l ∷ u) v p q r (inl here) more = inl (here.0, here.1, run-append u v here.0 q r here.2 more)
   accepting-append (l ∷ u) v p q r (inr later) more = inr (later.0, later.1, later.2, accepting-append u v later.0 q r later.3 more)

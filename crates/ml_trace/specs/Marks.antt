@@ -65,4 +65,7 @@ FitsBelow top Neutral = Unit {0}
 -- below an even top, the lowest of the numbers is odd exactly if the lowest mark is
 abbrev pub PrioritiesAgree : Type 0
 PrioritiesAgree =
-    (top : ℕ) (m : Mark) (ms : List Mark) → top % 2 ≡ 0 → ((n : Mark) → IsMember n (m ∷ ms) → FitsBelow top n) → (lowest (priority top m) (map (priority top) ms) % 2 ≡ 1) ↔ (is_odd (lowest_mark (m ∷ ms)) ≡ true)
+    (top : ℕ) (m : Mark) (ms : List Mark)
+    → top % 2 ≡ 0
+    → ((n : Mark) → IsMember n (m ∷ ms) → FitsBelow top n)
+    → (lowest (priority top m) (map (priority top) ms) % 2 ≡ 1) ↔ (is_odd (lowest_mark (m ∷ ms)) ≡ true)

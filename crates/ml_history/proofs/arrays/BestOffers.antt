@@ -7,7 +7,9 @@
 --   put_last-shape     == what becomes of the offers with one more
 --   BestSoFar, best_next, best_last == one transition more, up to the last one
 --   along_one, along_none == the offers of one transition
-use Rattle.std.proofs.Common.{ℕ, zero, suc, ◌≡◌, ◌+◌, ◌-◌, ◌<◌, ◌≤◌, ◌⊎◌, inl, inr, arith, Bool, true, false, not, ◌&&◌, ◌||◌, cond, eqb, ltb, slice_get, Option, Some, None, IfSome, IfNone, Result, Err, List, [], ◌∷◌, ◌++◌, length, get_or, take, map, refl, sym, subst, ap, ◌∙◌, append_assoc, append-nil}
+use Rattle.std.proofs.Common.{ℕ, zero, suc, ◌≡◌, ◌+◌, ◌-◌, ◌<◌, ◌≤◌, ◌⊎◌, inl, inr, arith, Bool, true, false, not, ◌&&◌, ◌||◌}
+use Rattle.std.proofs.Common.{cond, eqb, ltb, slice_get, Option, Some, None, IfSome, IfNone, Result, Err, List, [], ◌∷◌, ◌++◌}
+use Rattle.std.proofs.Common.{length, get_or, take, map, refl, sym, subst, ap, ◌∙◌, append_assoc, append-nil}
 use Rattle.std.specs.List.{filter}
 use Rattle.std.specs.Result.{MatchResult}
 use Rattle.std.proofs.Math.ListN.{set}

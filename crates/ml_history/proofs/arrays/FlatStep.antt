@@ -11,7 +11,8 @@
 --   laid_all       == arrays of a list of states with stacks
 --   same_value     == whether two histories are one
 --   cmp_next, cmp_left, cmp_last == how two histories compare, item by item
-use Rattle.std.proofs.Common.{ℕ, ◌≡◌, ◌+◌, ◌*◌, ◌^◌, ◌<◌, ◌≤◌, ◌⊎◌, ◌↔◌, inl, inr, arith, Bool, IsTrue, true, false, not, ◌&&◌, ◌||◌, ltb, eqb, List, [], ◌∷◌, length, get_or, map, refl, sym, subst, ap, ◌∙◌}
+use Rattle.std.proofs.Common.{ℕ, ◌≡◌, ◌+◌, ◌*◌, ◌^◌, ◌<◌, ◌≤◌, ◌⊎◌, ◌↔◌, inl, inr, arith, Bool, IsTrue, true, false, not, ◌&&◌}
+use Rattle.std.proofs.Common.{◌||◌, ltb, eqb, List, [], ◌∷◌, length, get_or, map, refl, sym, subst, ap, ◌∙◌}
 use Rattle.std.proofs.lemmas.Bool.{cases_Bool, cases_lt}
 use Rattle.std.proofs.lemmas.List.Folds.{list_any-append}
 use Rattle.ml_lists.specs.Counting.{count}

@@ -8,7 +8,8 @@
 --   puts_over, puts_nothing, puts_before == the same, with each value that the program reads
 --   put_all-append       == the last offer is put first
 --   put_all-taken        == all offers, put one at a time, are what the targets take
-use Rattle.std.proofs.Common.{ℕ, zero, suc, ◌≡◌, ◌+◌, ◌<◌, ◌≤◌, ◌⊎◌, inl, inr, arith, Bool, true, false, cond, eqb, ltb, List, [], ◌∷◌, ◌++◌, length, get_or, set, take, drop, map, refl, sym, ap, ◌∙◌, subst}
+use Rattle.std.proofs.Common.{ℕ, zero, suc, ◌≡◌, ◌+◌, ◌<◌, ◌≤◌, ◌⊎◌, inl, inr, arith, Bool, true, false, cond, eqb, ltb, List}
+use Rattle.std.proofs.Common.{[], ◌∷◌, ◌++◌, length, get_or, set, take, drop, map, refl, sym, ap, ◌∙◌, subst}
 use Rattle.std.proofs.lemmas.Bool.{cases_Bool, cases_lt, cases_eq, cond-true, cond-false, eqb-true, lt-ltb, le-ltb, eq-eqb, ne_eqb}
 use Rattle.std.specs.List.{filter}
 use Rattle.ml_lists.specs.Ascending.{IsAscending, insert_once, ascending}

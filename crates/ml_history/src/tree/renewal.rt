@@ -82,7 +82,8 @@ pub(crate) fn renew(
     requires names { (y : ℕ) → IsMember y (names (joined drafts.now)) → y < 2 * used }
     requires full { (y : ℕ) → IsMember y full.now → y < 2 * used }
     ensures row { IfOk result (λ r. joined r.0.items ≡ renewed (λ y. count (λ z. has z (names (joined drafts.now))) y) (joined drafts.now)) }
-    ensures mark { IfOk result (λ r. r.1 ≡ mark_of (least (λ y. nat_lt y used && not (has y (names (joined drafts.now)))) (2 * used)) (least (λ y. has y full.now && has y (names (joined drafts.now))) (2 * used))) }
+    ensures mark { IfOk result (λ r. r.1 ≡ mark_of (least (λ y. nat_lt y used && not (has y (names (joined drafts.now)))) (2 * used))
+        (least (λ y. has y full.now && has y (names (joined drafts.now))) (2 * used))) }
 {
     let names = names_of(alloc, drafts)?;
     let standing = flags_of(alloc, names.as_slice(), 2 * used)?;

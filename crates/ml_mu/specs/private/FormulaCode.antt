@@ -77,13 +77,20 @@ abbrev pub formula_from : List Symbol → Formula
 formula_from ss = first_formula (read_symbols ss [])
 
 -- a symbol with one operand, and one with two, behind what its operands read
-one_more : (f : Formula) (h : Formula → Formula) (s : Symbol) (ss : List Symbol) (fs : List Formula) → ((g : Formula) (gs : List Formula) → behind s (g ∷ gs) ≡ h g ∷ gs) → ((us : List Symbol) (gs : List Formula) → read_symbols (symbols_of f ++ us) gs ≡ read_symbols us (f ∷ gs)) → read_symbols ((symbols_of f ++ s ∷ []) ++ ss) fs ≡ read_symbols ss (h f ∷ fs)
+one_more : (f : Formula) (h : Formula → Formula) (s : Symbol) (ss : List Symbol) (fs : List Formula)
+    → ((g : Formula) (gs : List Formula) → behind s (g ∷ gs) ≡ h g ∷ gs)
+    → ((us : List Symbol) (gs : List Formula) → read_symbols (symbols_of f ++ us) gs ≡ read_symbols us (f ∷ gs))
+    → read_symbols ((symbols_of f ++ s ∷ []) ++ ss) fs ≡ read_symbols ss (h f ∷ fs)
 one_more f h s ss fs e reads =
     ap (λ us. read_symbols us fs) (append_assoc (symbols_of f) (s ∷ []) ss)
     ∙ reads (s ∷ ss) fs
     ∙ ap (read_symbols ss) (e f fs)
 
-two_more : (f g : Formula) (h : Formula → Formula → Formula) (s : Symbol) (ss : List Symbol) (fs : List Formula) → ((a b : Formula) (gs : List Formula) → behind s (b ∷ a ∷ gs) ≡ h a b ∷ gs) → ((us : List Symbol) (gs : List Formula) → read_symbols (symbols_of f ++ us) gs ≡ read_symbols us (f ∷ gs)) → ((us : List Symbol) (gs : List Formula) → read_symbols (symbols_of g ++ us) gs ≡ read_symbols us (g ∷ gs)) → read_symbols ((symbols_of f ++ (symbols_of g ++ s ∷ [])) ++ ss) fs ≡ read_symbols ss (h f g ∷ fs)
+two_more : (f g : Formula) (h : Formula → Formula → Formula) (s : Symbol) (ss : List Symbol) (fs : List Formula)
+    → ((a b : Formula) (gs : List Formula) → behind s (b ∷ a ∷ gs) ≡ h a b ∷ gs)
+    → ((us : List Symbol) (gs : List Formula) → read_symbols (symbols_of f ++ us) gs ≡ read_symbols us (f ∷ gs))
+    → ((us : List Symbol) (gs : List Formula) → read_symbols (symbols_of g ++ us) gs ≡ read_symbols us (g ∷ gs))
+    → read_symbols ((symbols_of f ++ (symbols_of g ++ s ∷ [])) ++ ss) fs ≡ read_symbols ss (h f g ∷ fs)
 two_more f g h s ss fs e reads_f reads_g =
     ap (λ us. read_symbols us fs) (append_assoc (symbols_of f) (symbols_of g ++ s ∷ []) ss)
     ∙ reads_f ((symbols_of g ++ s ∷ []) ++ ss) fs
@@ -92,16 +99,21 @@ two_more f g h s ss fs e reads_f reads_g =
     ∙ ap (read_symbols ss) (e f g fs)
 
 -- reading a formula's symbols puts the formula on top of those read before
-pub read_symbols-symbols_of : (f : Formula) (ss : List Symbol) (fs : List Formula) → read_symbols (symbols_of f ++ ss) fs ≡ read_symbols ss (f ∷ fs)
+pub read_symbols-symbols_of : (f : Formula) (ss : List Symbol) (fs : List Formula)
+    → read_symbols (symbols_of f ++ ss) fs ≡ read_symbols ss (f ∷ fs)
 read_symbols-symbols_of (Const true) ss fs = refl
 read_symbols-symbols_of (Const false) ss fs = refl
 read_symbols-symbols_of (Prop p) ss fs = refl
 read_symbols-symbols_of (Var x) ss fs = refl
 read_symbols-symbols_of (Not f) ss fs = one_more f Not (4, []) ss fs (λ g gs. refl) (read_symbols-symbols_of f)
-read_symbols-symbols_of (Binary And f g) ss fs = two_more f g (Binary And) (5, []) ss fs (λ a b gs. refl) (read_symbols-symbols_of f) (read_symbols-symbols_of g)
-read_symbols-symbols_of (Binary Or f g) ss fs = two_more f g (Binary Or) (6, []) ss fs (λ a b gs. refl) (read_symbols-symbols_of f) (read_symbols-symbols_of g)
-read_symbols-symbols_of (Binary Implies f g) ss fs = two_more f g (Binary Implies) (7, []) ss fs (λ a b gs. refl) (read_symbols-symbols_of f) (read_symbols-symbols_of g)
-read_symbols-symbols_of (Binary Iff f g) ss fs = two_more f g (Binary Iff) (8, []) ss fs (λ a b gs. refl) (read_symbols-symbols_of f) (read_symbols-symbols_of g)
+read_symbols-symbols_of (Binary And f g) ss fs =
+    two_more f g (Binary And) (5, []) ss fs (λ a b gs. refl) (read_symbols-symbols_of f) (read_symbols-symbols_of g)
+read_symbols-symbols_of (Binary Or f g) ss fs =
+    two_more f g (Binary Or) (6, []) ss fs (λ a b gs. refl) (read_symbols-symbols_of f) (read_symbols-symbols_of g)
+read_symbols-symbols_of (Binary Implies f g) ss fs =
+    two_more f g (Binary Implies) (7, []) ss fs (λ a b gs. refl) (read_symbols-symbols_of f) (read_symbols-symbols_of g)
+read_symbols-symbols_of (Binary Iff f g) ss fs =
+    two_more f g (Binary Iff) (8, []) ss fs (λ a b gs. refl) (read_symbols-symbols_of f) (read_symbols-symbols_of g)
 read_symbols-symbols_of (Modal Diamond a f) ss fs = one_more f (Modal Diamond a) (9, a) ss fs (λ g gs. refl) (read_symbols-symbols_of f)
 read_symbols-symbols_of (Modal Square a f) ss fs = one_more f (Modal Square a) (10, a) ss fs (λ g gs. refl) (read_symbols-symbols_of f)
 read_symbols-symbols_of (Binder Least x f) ss fs = one_more f (Binder Least x) (11, x) ss fs (λ g gs. refl) (read_symbols-symbols_of f)

@@ -6,7 +6,8 @@ use Rattle.ml_text.specs.private.Tables.{IsLike}
 use Rattle.ml_pdl.specs.Formula.{Diamond, Square}
 use Rattle.ml_pdl.specs.Signs.{Sign, Lower, Upper}
 use Rattle.ml_pdl.specs.private.SignViews.{named}
-use Rattle.ml_pdl.specs.Tables.{FormulaStart, ProgramStart, BehindBegin, BehindProgram, BehindRepeat, BehindRepeatInside, BehindFormulaInside, BehindProgramInside, BehindTestInside, BehindNegations, BehindTested, pdl_grammar}
+use Rattle.ml_pdl.specs.Tables.{FormulaStart, ProgramStart, BehindBegin, BehindProgram, BehindRepeat, BehindRepeatInside}
+use Rattle.ml_pdl.specs.Tables.{BehindFormulaInside, BehindProgramInside, BehindTestInside, BehindNegations, BehindTested, pdl_grammar}
 use Rattle.ml_pdl.specs.declared.signs.Kind.{Kind}
 use Rattle.ml_pdl.specs.declared.signs.Kind.TheVariants as kind
 use Rattle.ml_pdl.specs.Tables.{Formulas, Programs}

@@ -17,7 +17,10 @@ plain odds n = n * states_per_node odds
 abbrev pub move_at : List ℕ → Triple → ℕ → List Transition
 move_at odds t j =
     record { from = plain odds t.from; to = plain odds t.to + (j + 1); accepting = false }
-    ∷ (if nat_le (slice_index odds j) t.lowest then record { from = plain odds t.from + (j + 1); to = plain odds t.to + (j + 1); accepting = slice_index odds j == t.lowest } ∷ [] else [])
+    ∷
+    (if nat_le (slice_index odds j) t.lowest then record
+    { from = plain odds t.from + (j + 1); to = plain odds t.to + (j + 1); accepting = slice_index odds j == t.lowest }
+    ∷ [] else [])
 
 -- those without a guess, and those for the indices below n
 abbrev pub moves_below : List ℕ → Triple → ℕ → List Transition

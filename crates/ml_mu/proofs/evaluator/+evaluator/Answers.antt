@@ -9,7 +9,9 @@ use Rattle.ml_mu.proofs.evaluator.+evaluator.Goals as goal
 pub evaluate_binary-returns-clause-value : goal.evaluate_binary-returns-clause-value
 evaluate_binary-returns-clause-value t c =
     IfOk-weaker c.combine.result _ _
-    (λ set is. binary_value c.args.structure.now (given_of c.args.given.now) c.args.operator (formula_of c.args.left.now) (formula_of c.args.right.now)
+    (λ set is.
+    binary_value c.args.structure.now (given_of c.args.given.now) c.args.operator (formula_of c.args.left.now)
+    (formula_of c.args.right.now)
     c.deref.result.now c.deref-2.result.now set.items
     (c.deref.ensures.value ∙ c.in_ok-left.ensures.value) (c.deref-2.ensures.value ∙ c.in_ok-right.ensures.value)
     (ap length c.deref.ensures.value ∙ c.in_ok-left.ensures.flags) (ap length c.deref-2.ensures.value ∙ c.in_ok-right.ensures.flags) is)
@@ -25,7 +27,8 @@ evaluate_binary-returns-clause-flags t c =
 pub evaluate_term-returns-in-Const-clause-value : goal.evaluate_term-returns-in-Const-clause-value
 evaluate_term-returns-in-Const-clause-value t c =
     IfOk-weaker c.constant.result _ _
-    (λ set is. constant_value c.args.structure.now (given_of c.args.given.now) c.in-Const.truth set.items (is ∙ ap (λ n. replicate n c.in-Const.truth) c.states.ensures.value)
+    (λ set is. constant_value c.args.structure.now (given_of c.args.given.now) c.in-Const.truth set.items
+    (is ∙ ap (λ n. replicate n c.in-Const.truth) c.states.ensures.value)
     ∙ ap (λ term. meaning c.args.structure.now (given_of c.args.given.now) (formula_of term)) (sym c.in-Const.is))
     c.constant.ensures.value
 

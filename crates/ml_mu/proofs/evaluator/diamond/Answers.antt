@@ -17,10 +17,12 @@ loop-edge-preserved c =
     elim c.if-leads_into.branch [
       | then-leads_into w ↦
           ap (λ states. states.items) w.states-is
-          ∙ some_more edges c.args.action.now c.args.set.now n c.loop-edge.edge-index c.edge-item.result c.loop-edge.states.items c.loop-edge-test.true
+          ∙ some_more edges c.args.action.now c.args.set.now n c.loop-edge.edge-index c.edge-item.result
+          c.loop-edge.states.items c.loop-edge-test.true
           c.edge-item.is ends.0 (sym c.leads_into.ensures ∙ w.if-leads_into.true) c.loop-edge.invariant
       | else-leads_into w ↦
           ap (λ states. states.items) w.states-is
-          ∙ some_kept edges c.args.action.now c.args.set.now n c.loop-edge.edge-index c.edge-item.result c.loop-edge.states.items c.loop-edge-test.true
+          ∙ some_kept edges c.args.action.now c.args.set.now n c.loop-edge.edge-index c.edge-item.result
+          c.loop-edge.states.items c.loop-edge-test.true
           c.edge-item.is (sym c.leads_into.ensures ∙ w.if-leads_into.false) c.loop-edge.invariant
     ]

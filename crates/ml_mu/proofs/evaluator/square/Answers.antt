@@ -17,10 +17,12 @@ loop-edge-preserved c =
     elim c.if-leads_out_of.branch [
       | then-leads_out_of w ↦
           ap (λ states. states.items) w.states-is
-          ∙ every_more edges c.args.action.now c.args.set.now n c.loop-edge.edge-index c.edge-item.result c.loop-edge.states.items c.loop-edge-test.true
+          ∙ every_more edges c.args.action.now c.args.set.now n c.loop-edge.edge-index c.edge-item.result
+          c.loop-edge.states.items c.loop-edge-test.true
           c.edge-item.is ends.0 (sym c.leads_out_of.ensures ∙ w.if-leads_out_of.true) c.loop-edge.invariant
       | else-leads_out_of w ↦
           ap (λ states. states.items) w.states-is
-          ∙ every_kept edges c.args.action.now c.args.set.now n c.loop-edge.edge-index c.edge-item.result c.loop-edge.states.items c.loop-edge-test.true
+          ∙ every_kept edges c.args.action.now c.args.set.now n c.loop-edge.edge-index c.edge-item.result
+          c.loop-edge.states.items c.loop-edge-test.true
           c.edge-item.is (sym c.leads_out_of.ensures ∙ w.if-leads_out_of.false) c.loop-edge.invariant
     ]

@@ -17,17 +17,23 @@ new-requires c =
     let f = formula_of c.in_ok-tree.field-0.tree in
     let read = c.in_ok-tree.ensures {u = tt} in
     let same = ap (map standing_view) c.as_slice.ensures.value ∙ c.in_ok-standings.ensures in
-    parsed_well c.args.text.now f (found_parsed c.args.text.now f (map standing_view c.as_slice.result.now) c.as_slice-2.result.now read.0 same (c.as_slice-2.ensures.value ∙ read.1) (c.in-None.ensures {u = tt}))
+    parsed_well c.args.text.now f
+    (found_parsed c.args.text.now f (map standing_view c.as_slice.result.now) c.as_slice-2.result.now read.0 same
+    (c.as_slice-2.ensures.value ∙ read.1) (c.in-None.ensures {u = tt}))
 
 pub returns-in-Some : goal.returns-in-Some
 returns-in-Some c =
     let read = c.in_ok-tree.ensures {u = tt} in
     let same = ap (map standing_view) c.as_slice.ensures.value ∙ c.in_ok-standings.ensures in
-    fault_refused c.args.text.now (formula_of c.in_ok-tree.field-0.tree) (map standing_view c.as_slice.result.now) c.as_slice-2.result.now c.in-Some.refusal read.0 same (c.as_slice-2.ensures.value ∙ read.1) (c.in-Some.ensures {u = tt})
+    fault_refused c.args.text.now (formula_of c.in_ok-tree.field-0.tree) (map standing_view c.as_slice.result.now)
+    c.as_slice-2.result.now c.in-Some.refusal read.0 same (c.as_slice-2.ensures.value ∙ read.1)
+    (c.in-Some.ensures {u = tt})
 
 pub returns-in-None : goal.returns-in-None
 returns-in-None c =
     let f = formula_of c.in_ok-tree.field-0.tree in
     let read = c.in_ok-tree.ensures {u = tt} in
     let same = ap (map standing_view) c.as_slice.ensures.value ∙ c.in_ok-standings.ensures in
-    subst (IsParsedAs c.args.text.now) (sym c.new.ensures) (found_parsed c.args.text.now f (map standing_view c.as_slice.result.now) c.as_slice-2.result.now read.0 same (c.as_slice-2.ensures.value ∙ read.1) (c.in-None.ensures {u = tt}))
+    subst (IsParsedAs c.args.text.now) (sym c.new.ensures)
+    (found_parsed c.args.text.now f (map standing_view c.as_slice.result.now) c.as_slice-2.result.now read.0 same
+    (c.as_slice-2.ensures.value ∙ read.1) (c.in-None.ensures {u = tt}))

@@ -21,5 +21,6 @@ returns-in-None c =
 pub returns-in-Some-binder_of : goal.returns-in-Some-binder_of
 returns-in-Some-binder_of c =
     let word = c.args.word.now in
-    some_binder (bytes_eq word (codes "mu")) (bytes_eq word (codes "nu")) (fixpoint_of c.in-Some-binder_of.fixpoint) (name_sign word) c.in-Some-binder_of.ensures
+    some_binder (bytes_eq word (codes "mu")) (bytes_eq word (codes "nu")) (fixpoint_of c.in-Some-binder_of.fixpoint)
+    (name_sign word) c.in-Some-binder_of.ensures
     ∙ ap (λ o. word_sign_by o word) (c.in_default.ensures {u = tt})

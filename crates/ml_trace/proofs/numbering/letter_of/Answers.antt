@@ -10,8 +10,15 @@ pub loop-triple-preserved : goal.loop-triple-preserved
 loop-triple-preserved c =
     let low : c.loop-triple.triple-index < length c.args.traces.now = omega (arith, ap length c.triples-triple-items.ensures) in
     c.in_ok-push_moves.ensures
-    ∙ ap (λ ts. c.loop-triple.transitions.items ++ moves c.args.odds.now (get_or ts c.loop-triple.triple-index (record { from = 0; lowest = 0; to = 0 }))) c.triples-triple-items.ensures
-    ∙ ap (λ v. v ++ moves c.args.odds.now (get_or c.args.traces.now c.loop-triple.triple-index (record { from = 0; lowest = 0; to = 0 }))) c.loop-triple.invariant
+    ∙ ap
+    (λ ts. c.loop-triple.transitions.items
+    ++ moves c.args.odds.now (get_or ts c.loop-triple.triple-index (record { from = 0; lowest = 0; to = 0 })))
+    c.triples-triple-items.ensures
+    ∙ ap
+    (λ v. v
+    ++ moves c.args.odds.now
+    (get_or c.args.traces.now c.loop-triple.triple-index (record { from = 0; lowest = 0; to = 0 })))
+    c.loop-triple.invariant
     ∙ sym (moves_of-more c.args.odds.now c.args.traces.now c.loop-triple.triple-index (record { from = 0; lowest = 0; to = 0 }) low)
 
 pub of-requires : goal.of-requires
