@@ -9,7 +9,8 @@ use Rattle.std.proofs.Common.{ℕ, zero, suc, ◌≡◌, ◌==◌, inl, inr, Boo
 use Rattle.std.specs.Bool.{Decides}
 use Rattle.ml_lists.proofs.Decided.{Decided, decided_same, decided_both, decided_number, decided_bytes, decided_list}
 use Rattle.ml_ctl.specs.Formula.{Formula, Const}
-use Rattle.ml_ctl.specs.private.FormulaCode.{Symbol, symbols_of, formula_from, formula_from-symbols_of}
+use Rattle.ml_text.specs.private.Codes.{Symbol}
+use Rattle.ml_ctl.specs.private.FormulaCode.{symbols_of, formula_from, formula_from-symbols_of}
 use Rattle.ml_blocks.specs.Items.{Item}
 use Rattle.ml_blocks.specs.Places.{Place, Root, Total, HasEdge, LeadsOn, True, False, Holding, Both, Neither, Path}
 

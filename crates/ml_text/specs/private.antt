@@ -12,3 +12,5 @@ pub mod Views
 pub mod Progress
 -- lists of names
 pub mod NameLists
+-- codes of trees
+pub mod Codes
