@@ -1,12 +1,12 @@
 -- The moves of a game from behind.
 --
---   PredecessorsBelow == the lists of predecessors, as far as the moves of the vertices below n make them
---   added_more      == one move more
---   below_none, below_more, below_all == one vertex more
---   ChainsBelow     == the same of chains
---   adds_more, chains_begin, below_turn, chains_end == the same steps, in chains
-use Rattle.std.proofs.Common.{ℕ, ◌≡◌, ◌+◌, ◌<◌, ◌≤◌, ◌⊎◌, inl, inr, arith, List, [], ◌∷◌, ◌++◌, length, get_or, set, take, nat_eq, eq-eqb, ne_eqb, replicate, subst, subst₂, sym, ap, ◌∙◌, refl, get_or-set_same, get_or-set_other, length-set}
-use Rattle.std.proofs.lemmas.Bool.{cases_eq, cases_lt}
+--   PredecessorsFrom == the lists of predecessors, as far as the moves of the vertices from n on make them
+--   added_more       == one move more
+--   from_none, from_more, from_all == one vertex more
+--   ChainsFrom       == the same of chains
+--   adds_more, chains_begin, from_turn, chains_end == the same steps, in chains
+use Rattle.std.proofs.Common.{ℕ, ◌≡◌, ◌+◌, ◌-◌, ◌<◌, ◌≤◌, ◌⊎◌, inl, inr, arith, List, [], ◌∷◌, ◌++◌, length, get_or, set, take, nat_eq, eq-eqb, ne_eqb, replicate, subst, subst₂, sym, ap, ◌∙◌, refl, get_or-set_same, get_or-set_other, length-set}
+use Rattle.std.proofs.lemmas.Bool.{cases_eq}
 use Rattle.std.proofs.lemmas.List.{get_or_past, get_or-replicate, length-replicate}
 use Rattle.std.proofs.lemmas.List.Sums.{count_by_more_yes, count_by_more_no}
 use Rattle.ml_parity.specs.Game.{ParityGame, size, moves_of}
@@ -17,46 +17,36 @@ use Rattle.ml_parity.proofs.ChainsOfMoves.{chains_none, chains_more}
 use Rattle.ml_parity.proofs.HeightRaises.{written}
 use Rattle.ml_parity.proofs.Occurrences.{times_here, times_other}
 
--- the lists of predecessors, as far as the moves of the vertices below n make them
-pub record PredecessorsBelow (g : ParityGame) (preds : List (List ℕ)) (n : ℕ) : Type 0 where
+-- the lists of predecessors, as far as the moves of the vertices from n on make them
+pub record PredecessorsFrom (g : ParityGame) (preds : List (List ℕ)) (n : ℕ) : Type 0 where
   pub lists : length preds ≡ size g
-  pub each : (v u : ℕ) → v < size g → u < n → times u (get_or preds v []) ≡ times v (moves_of g u)
-  pub none : (v u : ℕ) → v < size g → n ≤ u → times u (get_or preds v []) ≡ 0
+  pub each : (v u : ℕ) → v < size g → n ≤ u → times u (get_or preds v []) ≡ times v (moves_of g u)
+  pub none : (v u : ℕ) → v < size g → u < n → times u (get_or preds v []) ≡ 0
 
 -- all vertices are done
-pub below_all : (g : ParityGame) (preds : List (List ℕ))
-    → length g.successors ≡ size g
-    → PredecessorsBelow g preds (size g)
-    → ArePredecessors g preds
-below_all g preds long b = record { lists = b.lists; each = λ v u low. by_place v u low (cases_lt u (size g)) }
-  where
-    by_place : (v u : ℕ)
-        → v < size g
-        → (u < size g) ⊎ (size g ≤ u)
-        → times u (get_or preds v []) ≡ times v (moves_of g u)
-    by_place v u low (inl inside) = b.each v u low inside
-    by_place v u low (inr past) = b.none v u low past ∙ ap (times v) (sym (get_or_past g.successors u [] (omega arith)))
+pub from_all : (g : ParityGame) (preds : List (List ℕ)) → PredecessorsFrom g preds 0 → ArePredecessors g preds
+from_all g preds b = record { lists = b.lists; each = λ v u low. b.each v u low (omega arith) }
 
 -- one vertex more
-pub below_more : (g : ParityGame) (preds preds2 : List (List ℕ)) (u : ℕ) → PredecessorsBelow g preds u
-    → IsAdded preds preds2 u (moves_of g u) → PredecessorsBelow g preds2 (u + 1)
-below_more g preds preds2 u b a = record {
+pub from_more : (g : ParityGame) (preds preds2 : List (List ℕ)) (u : ℕ) → PredecessorsFrom g preds (u + 1)
+    → IsAdded preds preds2 u (moves_of g u) → PredecessorsFrom g preds2 u
+from_more g preds preds2 u b a = record {
   lists = a.lists ∙ b.lists;
-  each = λ v x low early. each v x low early (cases_eq x u);
-  none = λ v x low late. a.elsewhere v x (omega (arith, b.lists)) (λ same. omega arith) ∙ b.none v x low (omega arith);
+  each = λ v x low late. each v x low late (cases_eq x u);
+  none = λ v x low early. a.elsewhere v x (omega (arith, b.lists)) (λ same. omega arith) ∙ b.none v x low (omega arith);
 }
   where
     each : (v x : ℕ)
         → v < size g
-        → x < u + 1
+        → u ≤ x
         → (x ≡ u) ⊎ (x ≡ u → ⊥)
         → times x (get_or preds2 v []) ≡ times v (moves_of g x)
-    each v x low early (inl same) =
+    each v x low late (inl same) =
         let now = a.here v (omega (arith, b.lists)) in
         let before = b.none v u low (omega arith) in
         let here : times u (get_or preds2 v []) ≡ times v (moves_of g u) = omega arith in
         subst (λ y. times y (get_or preds2 v []) ≡ times v (moves_of g y)) (sym same) here
-    each v x low early (inr other) = a.elsewhere v x (omega (arith, b.lists)) other ∙ b.each v x low (omega arith)
+    each v x low late (inr other) = a.elsewhere v x (omega (arith, b.lists)) other ∙ b.each v x low (omega arith)
 
 -- one move more
 pub added_more : (old rows : List (List ℕ)) (u i w : ℕ) (moves : List ℕ)
@@ -106,16 +96,20 @@ added_more old rows u i w moves inside is low so = record {
     elsewhere v x below other (inr differs) = ap (times x) (kept v differs) ∙ so.elsewhere v x below other
 
 -- no vertex so far
-pub below_none : (g : ParityGame) (n : ℕ) → n ≡ size g → PredecessorsBelow g (replicate n []) 0
-below_none g n is = record {
+pub from_none : (g : ParityGame) (n : ℕ) → length g.successors ≡ size g → n ≡ size g
+    → PredecessorsFrom g (replicate n []) n
+from_none g n long is = record {
   lists = length-replicate n [] ∙ is;
-  each = λ v u low early. absurd (omega arith);
-  none = λ v u low late. ap (times u) (get_or-replicate n v [] [] (omega (arith, is)));
+  each = λ v u low late. nowhere v u low ∙ ap (times v) (sym (get_or_past g.successors u [] (omega arith)));
+  none = λ v u low early. nowhere v u low;
 }
+  where
+    nowhere : (v u : ℕ) → v < size g → times u (get_or (replicate n []) v []) ≡ 0
+    nowhere v u low = ap (times u) (get_or-replicate n v [] [] (omega (arith, is)))
 
--- the chains, as far as the moves of the vertices below n make them
-abbrev pub ChainsBelow : ParityGame → List ℕ → List Arrow → ℕ → Type 0
-ChainsBelow g last arrows n = (rows : List (List ℕ)) × AreChains last arrows rows × PredecessorsBelow g rows n
+-- the chains, as far as the moves of the vertices from n on make them
+abbrev pub ChainsFrom : ParityGame → List ℕ → List Arrow → ℕ → Type 0
+ChainsFrom g last arrows n = (rows : List (List ℕ)) × AreChains last arrows rows × PredecessorsFrom g rows n
 
 -- one move more in the chains
 pub adds_more : (last0 last : List ℕ) (arrows0 arrows arrows2 : List Arrow) (u i w b n : ℕ) (moves : List ℕ)
@@ -137,38 +131,40 @@ adds_more last0 last arrows0 arrows arrows2 u i w b n moves inside is low before
     )
 
 -- one vertex more in the chains, as the program adds it
-pub below_turn : (g : ParityGame) (k u : ℕ) (last slice new ys : List ℕ) (arrows arrows2 : List Arrow) (moves : List ℕ)
+pub from_turn : (g : ParityGame) (k n : ℕ) (last slice new ys : List ℕ) (arrows arrows2 : List Arrow) (moves : List ℕ)
+    → 0 < n
     → k ≡ length last
     → slice ≡ last
-    → moves ≡ moves_of g u
-    → ChainsBelow g last arrows u
-    → AddsTo slice arrows new arrows2 u moves
-    → ChainsBelow g (take k (new ++ ys)) arrows2 (u + 1)
-below_turn g k u last slice new ys arrows arrows2 moves count same is (rows, chains, below) adds =
+    → moves ≡ moves_of g (n - 1)
+    → ChainsFrom g last arrows n
+    → AddsTo slice arrows new arrows2 (n - 1) moves
+    → ChainsFrom g (take k (new ++ ys)) arrows2 (n - 1)
+from_turn g k n last slice new ys arrows arrows2 moves some count same is (rows, chains, so_far) adds =
     let now = adds rows (subst (λ xs. AreChains xs arrows rows) (sym same) chains) in
     let long : k ≡ length new = omega (arith, count, chains.lists, now.2.lists, now.1.lists) in
-    let from : IsAdded rows now.0 u (moves_of g u) = subst (λ ms. IsAdded rows now.0 u ms) is now.2 in (
+    let next : n ≡ n - 1 + 1 = omega (arith, some) in
+    let one_more : IsAdded rows now.0 (n - 1) (moves_of g (n - 1)) = subst (λ ms. IsAdded rows now.0 (n - 1) ms) is now.2 in (
       now.0,
       subst (λ xs. AreChains xs arrows2 now.0) (sym (written k new ys long)) now.1,
-      below_more g rows now.0 u below from,
+      from_more g rows now.0 (n - 1) (subst (PredecessorsFrom g rows) next so_far) one_more,
     )
 
 -- no vertex so far
 pub chains_begin : (g : ParityGame) (n : ℕ) (last : List ℕ) (arrows : List Arrow)
+    → length g.successors ≡ size g
     → n ≡ size g
     → last ≡ replicate n 0
-    → ChainsBelow g last arrows 0
-chains_begin g n last arrows is none = (replicate n [], chains_none n last arrows none, below_none g n is)
+    → ChainsFrom g last arrows n
+chains_begin g n last arrows long is none = (replicate n [], chains_none n last arrows none, from_none g n long is)
 
 -- all vertices are done
 pub chains_end : (g : ParityGame) (n : ℕ) (last slice : List ℕ) (arrows seen : List Arrow) (made : List (List ℕ))
-    → length g.successors ≡ size g
-    → n ≡ size g
+    → n ≡ 0
     → slice ≡ last
     → seen ≡ arrows
-    → ChainsBelow g last arrows n
+    → ChainsFrom g last arrows n
     → ((rows : List (List ℕ)) → AreChains slice seen rows → made ≡ rows)
     → ArePredecessors g made
-chains_end g n last slice arrows seen made long is same alike (rows, chains, below) so =
+chains_end g n last slice arrows seen made done same alike (rows, chains, so_far) so =
     let all = so rows (subst₂ (λ xs ys. AreChains xs ys rows) (sym same) (sym alike) chains) in
-    subst (ArePredecessors g) (sym all) (below_all g rows long (subst (PredecessorsBelow g rows) is below))
+    subst (ArePredecessors g) (sym all) (from_all g rows (subst (PredecessorsFrom g rows) done so_far))

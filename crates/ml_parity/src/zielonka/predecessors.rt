@@ -121,7 +121,8 @@ pub(crate) fn predecessors_of(alloc: Global, game: &Game) -> Result<Predecessors
     let size = game.size();
     let mut last = vec![in alloc; 0; size]?;
     let mut arrows = Vec::new(alloc);
-    for vertex in 0..size {
+    // A chain is read from its last move on: so the sources ascend.
+    for vertex in (0..size).rev() {
         add_moves(&mut last, &mut arrows, vertex, game.moves_at(vertex))?;
     }
     laid_out(alloc, &last, &arrows)
