@@ -2,21 +2,25 @@
 --
 --   no_number, no_states, bad_start     == the lines `states n` and `start s`
 --   missing_numbered, missing_state, missing_edge  == lines that are missing
---   other_word, other_number, other_labels  == the line of a state
---   other_kind, no_source, no_target, other_edge   == the line of an edge
+--   other_number, other_labels          == the line of a state
+--   other_kind, no_numbers, other_edge  == the line of an edge
 --   no_end, end_is                      == bytes that aren't `end` are no line `end`, and `end` is one
+--   lowest_state, lowest_edge           == the lowest rule, where a line may not be of its kind
+--   stated_is                           == a line of `state` and further words is one of its kind but for empty words
 --   edge_line_is                        == the line of an edge, from its words
-use Rattle.std.proofs.Common.{◌≡◌, ◌≢◌, ℕ, ◌^◌, ◌<◌, ◌≤◌, List, [], ◌∷◌, Option, All, codes, refl, inl, inr, sym, ap, subst, ◌∙◌, ⊎_elim, arith}
+use Rattle.std.proofs.Common.{◌≡◌, ◌≢◌, ℕ, ◌^◌, ◌<◌, ◌≤◌, List, [], ◌∷◌, Option, length, drop, All, codes, refl, inl, inr, sym, ap, subst, ◌∙◌, ⊎_elim, arith}
 use Rattle.std.specs.List.{join_with_byte}
 use Rattle.std.proofs.lemmas.List.Splits.{join_with_byte-slice_split}
 use Rattle.ml_base.specs.declared.structure.Edge.{Edge}
 use Rattle.ml_base.specs.Name.{IsName}
 use Rattle.ml_lines.specs.Lines.{Word, Line, number}
-use Rattle.ml_lines.specs.Reading.{AreWords, IsNumber, words_of, value, word}
+use Rattle.ml_lines.specs.Reading.{AreWords, IsNumber, is_blank, words_of, value, word}
+use Rattle.ml_lines.proofs.Cuts.{some_part}
 use Rattle.ml_lines.proofs.Numbers.{value-number}
 use Rattle.ml_lists.specs.Documents.{IsFirstBroken}
-use Rattle.ml_kripke.specs.BodyRules.{Place, AtStates, AtStart, AtState, AtEdge, rules, rule_number, IsNumbered, IsStated, IsEdged, IsEdgeBehind}
+use Rattle.ml_kripke.specs.BodyRules.{Place, AtStates, AtStart, AtState, AtEdge, rules, rule_number, IsNumbered, IsStated, IsEdged, HasNumbers, IsEdgeBehind}
 use Rattle.ml_kripke.specs.private.BodyParts.{IsEdgeLine, Ascend}
+use Rattle.ml_kripke.specs.private.Refusals.{IsLowest}
 use Rattle.ml_kripke.specs.ModelText.{end_line, edge_line}
 use Rattle.ml_kripke.specs.declared.body_rule.BodyRule.{BodyRule}
 use Rattle.ml_kripke.specs.declared.body_rule.BodyRule.TheVariants.{OfKind, Numbers, HasStates, StartInRange, NextState, Labels, Edges}
@@ -76,9 +80,6 @@ module _ (left : List ℕ) where
     kind : IsStated (codes "state" ∷ w ∷ labels)
     kind = (subst AreWords is words, refl)
 
-    pub other_word : ¬ (IsNumber w) → Breaks (AtState n i) Numbers line
-    other_word none = subst (Breaks (AtState n i) Numbers) (sym is) (inr (kind, inl (refl, none)))
-
     module _ (k : ℕ) (is_k : w ≡ number k) (fits : k < 2 ^ 32) where
       value_is : value w ≡ k
       value_is = ap value is_k ∙ value-number k (omega arith)
@@ -93,11 +94,40 @@ module _ (left : List ℕ) where
           subst (Breaks (AtState n i) Labels) (sym is)
           (inr (kind, inr ((k, fits, is_k), inr (value_is ∙ same, inl (refl, none)))))
 
+  pub lowest_state : (n i : ℕ) (line : Line) (rule r : BodyRule)
+      → IsLowest (IsStated line) rule r
+      → (IsStated line → Breaks (AtState n i) rule line)
+      → Breaks (AtState n i) r line
+  lowest_state n i line rule r (inl (is, stated)) broken = subst (λ q. Breaks (AtState n i) q line) (sym is) (broken stated)
+  lowest_state n i line rule r (inr (is, other)) broken = subst (λ q. Breaks (AtState n i) q line) (sym is) (inl (refl, other))
+
   -- ---- the line of an edge
 
   module _ (n : ℕ) (before : Option Edge) (line : Line) where
     pub other_kind : line ≢ end_line → ¬ (IsEdged line) → Breaks (AtEdge n before) OfKind line
     other_kind apart none = inl (refl, ⊎_elim apart none)
+
+    pub lowest_edge : (rule r : BodyRule)
+        → line ≢ end_line
+        → IsLowest (IsEdged line) rule r
+        → (IsEdged line → Breaks (AtEdge n before) rule line)
+        → Breaks (AtEdge n before) r line
+    lowest_edge rule r apart (inl (is, edged)) broken = subst (λ q. Breaks (AtEdge n before) q line) (sym is) (broken edged)
+    lowest_edge rule r apart (inr (is, other)) broken =
+        subst (λ q. Breaks (AtEdge n before) q line) (sym is) (other_kind apart other)
+
+    -- the line is that of no edge whose numbers fit
+    pub no_numbers : ((e : Edge) → e.source < 2 ^ 32 → e.target < 2 ^ 32 → line ≢ edge_line e)
+        → line ≢ end_line
+        → IsEdged line
+        → Breaks (AtEdge n before) Numbers line
+    no_numbers none apart edged = inr (inr edged, inl (refl, ⊎_elim apart unspelt))
+      where
+        unspelt : HasNumbers line → ⊥
+        unspelt ((x, fits_x, is_x), (y, fits_y, is_y)) =
+            none (record { source = x; action = word line 2; target = y }) fits_x fits_y
+            (edged.1 ∙ ap (λ v. codes "edge" ∷ v ∷ word line 2 ∷ word line 3 ∷ []) is_x
+            ∙ ap (λ v. codes "edge" ∷ number x ∷ word line 2 ∷ v ∷ []) is_y)
 
     module _ (s a t : Word) (words : AreWords line) (is : line ≡ codes "edge" ∷ s ∷ a ∷ t ∷ []) where
       abbrev spelt : Line
@@ -108,16 +138,6 @@ module _ (left : List ℕ) where
 
       edged : IsEdged spelt
       edged = (subst AreWords is words, refl)
-
-      pub no_source : ¬ (IsNumber s) → Breaks (AtEdge n before) Numbers line
-      no_source none =
-          subst (Breaks (AtEdge n before) Numbers) (sym is)
-          (inr (inr edged, inl (refl, ⊎_elim not_end (λ (both : IsNumber s × IsNumber t). none both.0))))
-
-      pub no_target : ¬ (IsNumber t) → Breaks (AtEdge n before) Numbers line
-      no_target none =
-          subst (Breaks (AtEdge n before) Numbers) (sym is)
-          (inr (inr edged, inl (refl, ⊎_elim not_end (λ (both : IsNumber s × IsNumber t). none both.1))))
 
       module _ (x y : ℕ) (is_x : s ≡ number x) (is_y : t ≡ number y) (fits_x : x < 2 ^ 32) (fits_y : y < 2 ^ 32) where
         abbrev edge : Edge
@@ -146,6 +166,15 @@ module _ (left : List ℕ) where
               ∙ ap edge_line (sym same);
           is_behind = behind;
         }
+
+-- ---- `state`
+
+pub stated_is : (line : Line) (bytes : List ℕ) → line ≡ codes "state" ∷ words_of bytes → line ≡ codes "state" ∷ word line 1 ∷ drop 2 line
+stated_is line bytes is = go (words_of bytes) (some_part is_blank bytes) is
+  where
+    go : (rest : Line) → 0 < length rest → line ≡ codes "state" ∷ rest → line ≡ codes "state" ∷ word line 1 ∷ drop 2 line
+    go [] some begins = absurd (omega arith)
+    go (w ∷ rest) some begins = begins ∙ ap (λ l. codes "state" ∷ word l 1 ∷ drop 2 l) (sym begins)
 
 -- ---- `end`
 

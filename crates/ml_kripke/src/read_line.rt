@@ -1,20 +1,25 @@
 // Reading one line of the body of a satisfiable document.
-ghost use Rattle.std.specs.Prelude.{◌≡◌, ◌<◌, ◌^◌, [], ◌∷◌, ℕ, None, IfOk, IfErr, IsErrOf, IsTrue, MatchOption, All, codes, false};
+ghost use Rattle.std.specs.Prelude.{◌≡◌, ◌≢◌, ◌↔◌, ◌<◌, ◌^◌, [], ◌∷◌, ℕ, None, IfOk, IfErr, IsErrOf, IsTrue, MatchOption, All, codes, false};
 ghost use Rattle.std.specs.Ordering.{nat_cmp};
 ghost use Rattle.std.specs.Cmp.Lexicographic.{slice_cmp};
 ghost use Rattle.std.specs.Option.{option_copied};
 ghost use Rattle.ml_base.specs.Name.{IsName, IsAction};
+ghost use Rattle.ml_base.specs.declared.structure.Edge.{Edge};
+ghost use Rattle.ml_lines.specs.Lines.{Line};
 ghost use Rattle.ml_lines.specs.Reading.{words_of, words_behind, AreWords};
+ghost use Rattle.ml_kripke.specs.ModelText.{state_line, edge_line};
 ghost use Rattle.ml_kripke.specs.BodyRules.{IsNumbered, IsStated, IsEdged, IsEdgeBehind, AtStates, AtStart, AtState, AtEdge};
 ghost use Rattle.ml_lists.specs.Chains.{Above, last_of};
 ghost use Rattle.ml_kripke.specs.private.BodyParts.{IsStatesLine, IsStartLine, IsStateLine, EdgeOrEnd, Ascend};
 ghost use Rattle.ml_base.specs.EdgeOrder.{edge_cmp};
 ghost use Rattle.std.specs.declared.cmp.Ordering.TheVariants.{Less};
-ghost use Rattle.ml_kripke.specs.private.Refusals.{Breaks, TellsRule};
+ghost use Rattle.ml_kripke.specs.private.Refusals.{Breaks, TellsRule, IsLowest};
 
 use crate::body_rule::BodyRule;
 use ml_base::{Action, Edge, Name, NameRefusal};
-use ml_lines::{are_words, four_words, more_words, read_number, split_word, two_words};
+use ml_lines::{
+    are_words, four_words, more_number, more_words, one_number, read_number, split_word, two_words,
+};
 use std::alloc::Global;
 use std::cmp::Ordering;
 
@@ -88,40 +93,50 @@ pub(crate) fn labels_of(alloc: Global, line: &[u8], state: u32) -> Result<Vec<Na
     ensures read { IfOk result (λ labels. IsStateLine (words_of line.now) state labels.items) }
     ensures refused { IfErr result (λ e. (states : ℕ) → TellsRule (AtState states state) (words_of line.now) e) }
 {
-    match state_words(line) {
-        Some((word, behind)) => match read_number(word) {
-            Some(number) => {
-                if number == state {
-                    match read_labels(alloc, behind) {
-                        Ok(labels) => Ok(labels),
-                        Err(NameRefusal::NotAName) => Err(LineRefusal::Breaks(BodyRule::Labels)),
-                        Err(NameRefusal::NoMemory) => Err(LineRefusal::NoMemory),
-                    }
-                } else {
-                    Err(LineRefusal::Breaks(BodyRule::NextState))
-                }
+    match state_parts(line) {
+        Some((number, behind)) => {
+            if number != state {
+                return Err(LineRefusal::Breaks(state_rule(line, BodyRule::NextState)));
             }
-            None => Err(LineRefusal::Breaks(BodyRule::Numbers)),
-        },
-        None => Err(LineRefusal::Breaks(BodyRule::OfKind)),
+            match read_labels(alloc, behind) {
+                Ok(labels) => Ok(labels),
+                Err(NameRefusal::NotAName) => {
+                    Err(LineRefusal::Breaks(state_rule(line, BodyRule::Labels)))
+                }
+                Err(NameRefusal::NoMemory) => Err(LineRefusal::NoMemory),
+            }
+        }
+        None => Err(LineRefusal::Breaks(state_rule(line, BodyRule::Numbers))),
     }
 }
 
-// the word behind `state`, and what stands behind it
-fn state_words(line: &[u8]) -> Option<(&[u8], Option<&[u8]>)>
-    ensures { MatchOption result (¬ (IsStated (words_of line.now)))
-        (λ p. AreWords (words_of line.now)
-        × (words_of line.now ≡ codes "state" ∷ p.0.now ∷ words_behind (option_copied p.1))) }
+// the number behind `state`, and what stands behind it
+fn state_parts(line: &[u8]) -> Option<(u32, Option<&[u8]>)>
+    ensures { MatchOption result ((n : ℕ) (labels : Line) → n < 2 ^ 32 → words_of line.now ≢ state_line n labels)
+        (λ p. (words_of line.now ≡ state_line p.0 (words_behind (option_copied p.1))) × (p.0 < 2 ^ 32)) }
+{
+    let (word, behind) = split_word(line.strip_prefix(b"state ".as_slice())?);
+    Some((read_number(word)?, behind))
+}
+
+// the lowest rule that a line breaks which breaks this one: it may not be the line of a state at all
+fn state_rule(line: &[u8], rule: BodyRule) -> BodyRule
+    ensures { IsLowest (IsStated (words_of line.now)) rule result }
+{
+    if is_stated(line) {
+        rule
+    } else {
+        BodyRule::OfKind
+    }
+}
+
+// is the line `state`, one word, and any number of further ones?
+fn is_stated(line: &[u8]) -> bool
+    ensures { IsTrue result ↔ IsStated (words_of line.now) }
 {
     match more_words(line) {
-        Some((first, rest)) => {
-            if first == b"state".as_slice() && are_words(line) {
-                Some(split_word(rest))
-            } else {
-                None
-            }
-        }
-        None => None,
+        Some((first, _)) => first == b"state".as_slice() && are_words(line),
+        None => false,
     }
 }
 
@@ -170,36 +185,49 @@ pub(crate) fn edge_of(
     if line == b"end".as_slice() {
         return Ok(None);
     }
-    match edge_words(line) {
-        Some((source, action, target)) => match read_number(source) {
-            Some(source) => match read_number(target) {
-                Some(target) => match edge_behind(alloc, states, before, source, action, target) {
-                    Ok(edge) => Ok(Some(edge)),
-                    Err(NameRefusal::NotAName) => Err(LineRefusal::Breaks(BodyRule::Edges)),
-                    Err(NameRefusal::NoMemory) => Err(LineRefusal::NoMemory),
-                },
-                None => Err(LineRefusal::Breaks(BodyRule::Numbers)),
-            },
-            None => Err(LineRefusal::Breaks(BodyRule::Numbers)),
-        },
-        None => Err(LineRefusal::Breaks(BodyRule::OfKind)),
+    match edge_parts(line) {
+        Some((source, action, target)) => {
+            match edge_behind(alloc, states, before, source, action, target) {
+                Ok(edge) => Ok(Some(edge)),
+                Err(NameRefusal::NotAName) => {
+                    Err(LineRefusal::Breaks(edge_rule(line, BodyRule::Edges)))
+                }
+                Err(NameRefusal::NoMemory) => Err(LineRefusal::NoMemory),
+            }
+        }
+        None => Err(LineRefusal::Breaks(edge_rule(line, BodyRule::Numbers))),
     }
 }
 
-// the words behind `edge`
-fn edge_words(line: &[u8]) -> Option<(&[u8], &[u8], &[u8])>
-    ensures { MatchOption result (¬ (IsEdged (words_of line.now)))
-        (λ p. AreWords (words_of line.now) × (words_of line.now ≡ codes "edge" ∷ p.0.now ∷ p.1.now ∷ p.2.now ∷ [])) }
+// the numbers and the action behind `edge`
+fn edge_parts(line: &[u8]) -> Option<(u32, &[u8], u32)>
+    ensures { MatchOption result ((e : Edge) → e.source < 2 ^ 32 → e.target < 2 ^ 32 → words_of line.now ≢ edge_line e)
+        (λ p. (words_of line.now ≡ edge_line (record { source = p.0; action = p.1.now; target = p.2 }))
+        × (p.0 < 2 ^ 32) × (p.2 < 2 ^ 32)) }
+{
+    let (source, behind) = more_number(line.strip_prefix(b"edge ".as_slice())?)?;
+    let (action, last) = more_words(behind)?;
+    Some((source, action, one_number(last)?))
+}
+
+// the lowest rule that a line breaks which breaks this one: it may not be the line of an edge at all
+fn edge_rule(line: &[u8], rule: BodyRule) -> BodyRule
+    ensures { IsLowest (IsEdged (words_of line.now)) rule result }
+{
+    if is_edged(line) {
+        rule
+    } else {
+        BodyRule::OfKind
+    }
+}
+
+// is the line `edge` and three words?
+fn is_edged(line: &[u8]) -> bool
+    ensures { IsTrue result ↔ IsEdged (words_of line.now) }
 {
     match four_words(line) {
-        Some((first, source, action, target)) => {
-            if first == b"edge".as_slice() && are_words(line) {
-                Some((source, action, target))
-            } else {
-                None
-            }
-        }
-        None => None,
+        Some((first, ..)) => first == b"edge".as_slice() && are_words(line),
+        None => false,
     }
 }
 

@@ -2,16 +2,20 @@
 --
 --   cut_none   == where no place passes the test, the list is the one part
 --   cut_at     == the first part ends at the first place that does
+--   byte_place == a search for a byte gives its first place
 --   slice_end  == a list from a place on, up to the list's end
 --   words_none, words_at == a line without a blank is one word; up to its first blank it is its first word
 --   line_none  == a text without an LF has no line
 --   line_at    == a text up to its first LF is its first line
-use Rattle.std.proofs.Common.{◌≡◌, ℕ, ◌+◌, ◌-◌, ◌<◌, ◌≤◌, Bool, true, false, cond, not, nat_lt, List, [], ◌∷◌, None, Some, length, map, take, drop, position, refl, sym, ap, subst, ◌∙◌, arith}
+use Rattle.std.proofs.Common.{◌≡◌, ℕ, ◌+◌, ◌-◌, ◌<◌, ◌≤◌, Bool, true, false, cond, not, nat_lt, List, [], ◌∷◌, Option, None, Some, length, map, get_or, take, drop, position, refl, sym, ap, subst, ◌∙◌, arith}
 use Rattle.std.specs.List.{slice_split, position_or_len, onto_first}
 use Rattle.std.proofs.lemmas.List.Splits.{slice_split_first, length-slice_split}
+use Rattle.std.proofs.lemmas.Bool.{false_from_ne_true}
 use Rattle.std.proofs.lemmas.Bool.Decides.{nat_tests}
 use Rattle.std.proofs.lemmas.List.{length-drop}
+use Rattle.std.proofs.lemmas.List.Sums.{position_or_len_is}
 use Rattle.std.proofs.Math.Seq.{take-length}
+use Rattle.memchr.specs.Find.{IsFirstByte, is_byte}
 use Rattle.ml_lines.specs.Reading.{words_of, lines_of, left_of, fronts, last_part, is_blank, is_line_end}
 
 module _ (p : ℕ → Bool) where
@@ -46,6 +50,23 @@ module _ (p : ℕ → Bool) where
         omega (arith, parts.1),
         subst (λ k. slice_split p xs ≡ take k xs ∷ slice_split p (drop (k + 1) xs)) parts.1 (slice_split_first p xs 0 below),
       )
+
+-- the first place of a list, and none
+placed : (n i : ℕ) → i < n → Some i ≡ cond (nat_lt i n) (Some i) None
+placed n i below = let yes : nat_lt i n ≡ true = grind (arith, nat_tests) in sym (ap (λ b. cond b (Some i) None) yes)
+
+unplaced : (n : ℕ) → None ≡ cond (nat_lt n n) (Some n) None
+unplaced n = let no : nat_lt n n ≡ false = grind (arith, nat_tests) in sym (ap (λ b. cond b (Some n) None) no)
+
+pub byte_place : (b : ℕ) (xs : List ℕ) (r : Option ℕ) → IsFirstByte (is_byte b) xs r → r ≡ position (is_byte b) xs
+byte_place b xs None none =
+    let at = position_or_len_is (is_byte b) xs (length xs) 0 (omega arith)
+    (λ k below. false_from_ne_true (is_byte b (get_or xs k 0)) (none k (omega arith) below)) (λ below. absurd (omega arith)) in
+    unplaced (length xs) ∙ ap (λ n. cond (nat_lt n (length xs)) (Some n) None) (sym at)
+byte_place b xs (Some i) (first, is) =
+    let at = position_or_len_is (is_byte b) xs i 0 (omega (arith, first.high))
+    (λ k below. false_from_ne_true (is_byte b (get_or xs k 0)) (first.before k (omega arith) below)) (λ below. is) in
+    placed (length xs) i first.high ∙ ap (λ n. cond (nat_lt n (length xs)) (Some n) None) (sym at)
 
 pub fronts_more : (part : List ℕ) (parts : List (List ℕ)) → 0 < length parts → fronts (part ∷ parts) ≡ part ∷ fronts parts
 fronts_more part [] some = absurd (omega arith)

@@ -13,6 +13,7 @@ mod read;
 mod write;
 
 pub use read::{
-    are_words, four_words, more_words, one_word, read_number, split_line, split_word, two_words,
+    are_words, four_words, more_number, more_words, one_number, one_word, read_number, split_line,
+    split_word, two_words,
 };
 pub use write::{end_line, write_next_number, write_next_word, write_number, write_word};

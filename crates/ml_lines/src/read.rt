@@ -1,11 +1,13 @@
 // Reading a text line by line, a line word by word, and a number.
-ghost use Rattle.std.specs.Prelude.{◌≡◌, ◌≢◌, ◌==◌, ◌∷◌, ◌+◌, ◌*◌, ◌<◌, ◌≤◌, ◌^◌, ◌-◌, [], MatchOption, IsTrue, length, position};
+ghost use Rattle.std.specs.Prelude.{ℕ, ◌≡◌, ◌≢◌, ◌==◌, ◌∷◌, ◌+◌, ◌*◌, ◌<◌, ◌≤◌, ◌^◌, ◌-◌, [], MatchOption, IsTrue, length, position};
 ghost use Rattle.std.specs.List.{list_all};
 ghost use Rattle.std.specs.Char.{is_ascii_digit};
 ghost use Rattle.std.specs.Option.{option_copied};
-ghost use Rattle.ml_lines.specs.Lines.{number};
+ghost use Rattle.ml_lines.specs.Lines.{Word, Line, number};
 ghost use Rattle.ml_lines.specs.Reading as reading;
 ghost use Rattle.ml_lines.specs.Reading.{words_of, words_behind, lines_of, left_of, IsNumber};
+
+use memchr::memchr;
 
 /// The first line of a text, without its LF, and what stands behind it; `None` where the text has no whole line.
 ///
@@ -15,7 +17,7 @@ pub fn split_line(text: &[u8]) -> Option<(&[u8], &[u8])>
     ensures left { MatchOption result (left_of text.now ≡ text.now) (λ p. left_of text.now ≡ left_of p.1.now) }
     ensures shorter { MatchOption result (Unit {0}) (λ p. length p.1.now + 1 ≤ length text.now) }
 {
-    match position_of(text, b'\n') {
+    match line_end(text) {
         Some(end) => Some((&text[..end], &text[end + 1..])),
         None => None,
     }
@@ -28,7 +30,7 @@ pub fn split_word(line: &[u8]) -> (&[u8], Option<&[u8]>)
     ensures words { words_of line.now ≡ result.0.now ∷ words_behind (option_copied result.1) }
     ensures shorter { MatchOption result.1 (Unit {0}) (λ rest. length rest.now + 1 ≤ length line.now) }
 {
-    match position_of(line, b' ') {
+    match word_end(line) {
         Some(end) => (&line[..end], Some(&line[end + 1..])),
         None => (line, None),
     }
@@ -74,10 +76,18 @@ pub fn four_words(line: &[u8]) -> Option<(&[u8], &[u8], &[u8], &[u8])>
     Some((first, second, third, fourth))
 }
 
-fn position_of(bytes: &[u8], byte: u8) -> Option<usize>
-    ensures { result ≡ position (λ b. b == byte) bytes.now }
+// A text is long: the LF is sought many bytes at once.
+fn line_end(text: &[u8]) -> Option<usize>
+    ensures { result ≡ position reading.is_line_end text.now }
 {
-    bytes.iter().position(|b| *b == byte)
+    memchr(b'\n', text)
+}
+
+// A word is short: the blank is sought byte by byte.
+fn word_end(line: &[u8]) -> Option<usize>
+    ensures { result ≡ position reading.is_blank line.now }
+{
+    line.iter().position(|byte| *byte == b' ')
 }
 
 /// Has each word of the line at least one byte? So no two blanks stand side by side, and none at an end.
@@ -118,6 +128,30 @@ pub fn read_number(word: &[u8]) -> Option<u32>
     Some(n)
 }
 
+/// The number that the first word of a line spells, and what stands behind its blank; `None` where the line is one word,
+/// or the word spells none that fits 32 bits.
+///
+/// Cost: linear in the word.
+pub fn more_number(line: &[u8]) -> Option<(u32, &[u8])>
+    ensures { MatchOption result
+        ((n : ℕ) (word : Word) (words : Line) → n < 2 ^ 32 → words_of line.now ≢ number n ∷ word ∷ words)
+        (λ p. (words_of line.now ≡ number p.0 ∷ words_of p.1.now) × (p.0 < 2 ^ 32)) }
+{
+    let (word, rest) = more_words(line)?;
+    Some((read_number(word)?, rest))
+}
+
+/// The number that the one word of a line spells; `None` where it has more words, or spells none that fits 32 bits.
+///
+/// Cost: linear in the line.
+#[tactic(auto, using(crate::proofs::WordBytes::one_number_is))]
+pub fn one_number(line: &[u8]) -> Option<u32>
+    ensures { MatchOption result ((n : ℕ) → n < 2 ^ 32 → words_of line.now ≢ number n ∷ [])
+        (λ n. (words_of line.now ≡ number n ∷ []) × (n < 2 ^ 32)) }
+{
+    read_number(line)
+}
+
 // the number with one more digit
 fn with_digit(n: u32, byte: u8) -> Option<u32>
     ensures { MatchOption result (IsTrue (is_ascii_digit byte) → 2 ^ 32 ≤ 10 * n + (byte - 48)) (λ m. IsTrue (is_ascii_digit byte) × (m ≡ 10 * n + (byte - 48)) × (m < 2 ^ 32)) }
@@ -125,8 +159,5 @@ fn with_digit(n: u32, byte: u8) -> Option<u32>
     if !byte.is_ascii_digit() {
         return None;
     }
-    match n.checked_mul(10) {
-        Some(tens) => tens.checked_add(u32::from(byte - b'0')),
-        None => None,
-    }
+    u32::try_from(10 * u64::from(n) + u64::from(byte - b'0')).ok()
 }

@@ -1,19 +1,25 @@
-use Rattle.std.proofs.Common.{ap, Err}
+use Rattle.std.proofs.Common.{ap, refl, Err}
 use Rattle.std.specs.Option.{option_copied}
+use Rattle.ml_lines.specs.Lines.{number}
 use Rattle.ml_lines.specs.Reading.{words_of, words_behind}
-use Rattle.ml_kripke.proofs.BrokenRules.{other_number, other_labels}
+use Rattle.ml_kripke.specs.declared.body_rule.BodyRule.TheVariants.{NextState, Labels}
+use Rattle.ml_kripke.proofs.BrokenRules.{lowest_state, other_number, other_labels}
 use Rattle.ml_kripke.proofs.read_line.labels_of.Goals as goal
+
+pub returns-then-number-state-clause-refused : goal.returns-then-number-state-clause-refused
+returns-then-number-state-clause-refused c =
+    let line = words_of c.args.line.now in
+    let k = c.in-Some.number in
+    λ states left.
+    lowest_state left states c.args.state line NextState c.state_rule.result c.state_rule.ensures (λ stated.
+    other_number left states c.args.state line (number k) (words_behind (option_copied c.in-Some.behind)) stated.0 c.in-Some.ensures.0
+    k refl c.in-Some.ensures.1 c.if-number-state.true)
 
 pub returns-in-Err-NotAName-clause-refused : goal.returns-in-Err-NotAName-clause-refused
 returns-in-Err-NotAName-clause-refused c =
+    let line = words_of c.args.line.now in
+    let k = c.in-Some.number in
     λ states left.
-    other_labels left states c.args.state (words_of c.args.line.now) c.in-Some.word.now (words_behind (option_copied c.in-Some.behind))
-    c.in-Some.ensures.0 c.in-Some.ensures.1 c.in-Some-read_number.number c.in-Some-read_number.ensures.0
-    c.in-Some-read_number.ensures.1 c.if-number-state.true (c.in-Err-NotAName.ensures.refused (ap Err c.in-Err-NotAName.field-0-is))
-
-pub returns-else-number-state-clause-refused : goal.returns-else-number-state-clause-refused
-returns-else-number-state-clause-refused c =
-    λ states left.
-    other_number left states c.args.state (words_of c.args.line.now) c.in-Some.word.now (words_behind (option_copied c.in-Some.behind))
-    c.in-Some.ensures.0 c.in-Some.ensures.1 c.in-Some-read_number.number c.in-Some-read_number.ensures.0
-    c.in-Some-read_number.ensures.1 c.if-number-state.false
+    lowest_state left states c.args.state line Labels c.state_rule-in-Err-NotAName.result c.state_rule-in-Err-NotAName.ensures (λ stated.
+    other_labels left states c.args.state line (number k) (words_behind (option_copied c.in-Some.behind)) stated.0 c.in-Some.ensures.0
+    k refl c.in-Some.ensures.1 c.if-number-state.false (c.in-Err-NotAName.ensures.refused (ap Err c.in-Err-NotAName.field-0-is)))
