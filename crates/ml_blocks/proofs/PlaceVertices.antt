@@ -8,7 +8,8 @@
 --   both, one, edges    == of nodes of each form
 --   own_branch, other_left, other_right, own_edge, other_edge == moves that follow a strategy
 --   Way B p t k v w     == such moves lead from v to w, or v is w already, and the lowest priority on the way is k
-use Rattle.std.proofs.Common.{ℕ, ◌≡◌, ◌<◌, ◌+◌, ◌==◌, ◌&&◌, ◌⊎◌, inl, inr, arith, min, true, false, Bool, List, [], ◌∷◌, map, filter, Contains, Some, codes, bytes_eq, refl, sym, ap, subst, ◌∙◌, eqb-true, eq-eqb}
+use Rattle.std.proofs.Common.{ℕ, ◌≡◌, ◌<◌, ◌+◌, ◌==◌, ◌&&◌, ◌⊎◌, inl, inr, arith, min, true, false, Bool, List, [], ◌∷◌, map}
+use Rattle.std.proofs.Common.{filter, Contains, Some, codes, bytes_eq, refl, sym, ap, subst, ◌∙◌, eqb-true, eq-eqb}
 use Rattle.std.specs.List.{slice_get}
 use Rattle.std.proofs.lemmas.Bool.{and_parts, and_from}
 use Rattle.std.proofs.lemmas.Option.{slice_get_within}

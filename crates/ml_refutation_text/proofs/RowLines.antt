@@ -31,7 +31,11 @@ sequent_no_numbers line words is are bad =
     let kind : IsOfKind sequent_kind (codes "sequent" ∷ words) = (subst AreWords is are, (refl, tt)) in
     subst (λ l. SequentBroken l 22) (sym is) (inr (inl kind, inl (refl, λ have. bad (have.0 kind).1)))
 
-pub sequent_no_ascends : (line : Line) (q : List ℕ) → line ≡ sequent_line q → All Fits q → ¬ (IsAscending q) → SequentBroken line 25
+pub sequent_no_ascends : (line : Line) (q : List ℕ)
+    → line ≡ sequent_line q
+    → All Fits q
+    → ¬ (IsAscending q)
+    → SequentBroken line 25
 sequent_no_ascends line q is fit bad =
     subst (λ l. SequentBroken l 25) (sym is)
     (inr (
@@ -53,7 +57,11 @@ module _ (names : ℕ) (qs : List (List ℕ)) (size : ℕ) (rows : List (List �
       subst (λ l. StackBroken l 22) (sym is)
       (inr (inl kind, inl (refl, λ have. let fits = (have.0 kind).1 in bad (All-cons IsNumber w words fits.0 fits.1))))
 
-  pub stack_no_names : (line : Line) (ns : List ℕ) → line ≡ stack_line ns → 0 < length ns → All Fits ns → ¬ (AreNames names ns)
+  pub stack_no_names : (line : Line) (ns : List ℕ)
+      → line ≡ stack_line ns
+      → 0 < length ns
+      → All Fits ns
+      → ¬ (AreNames names ns)
       → StackBroken line 27
   stack_no_names line ns is some fit bad =
       subst (λ l. StackBroken l 27) (sym is)
@@ -68,7 +76,9 @@ module _ (v : Version) (left : List ℕ) (n : ℕ) where
   abbrev Run : Place → List Line → Place → Type 0
   Run = Runs (body v left)
 
-  pub sequents_first : (size : ℕ) → Fits size → Run (AtSequents n) (sequents_line size ∷ []) (at_sequent_table n size [])
+  pub sequents_first : (size : ℕ)
+      → Fits size
+      → Run (AtSequents n) (sequents_line size ∷ []) (at_sequent_table n size [])
   sequents_first size fits = (
     (inl (numbered_of v left (codes "sequents") size refl fits), (numbered_fits v left (codes "sequents") size fits, tt)),
     ap (λ s. at_sequent_table n s []) (value_back size fits),

@@ -151,7 +151,14 @@ has_text Two r is =
         are_entries =
             entries_written (by_tables qs ks) (ByTables qs ks) (Has qs) (Has ks)
             (λ i q has. (place_in qs q, has_place qs q has, refl))
-            (λ ns has. (place_in ks ns, number (place_in ks ns), spells_wide (place_in ks ns) (omega (arith, has_inside ks ns has, few)), has_place ks ns has, refl)) 0 r.entries
+            (λ ns has. (
+              place_in ks ns,
+              number (place_in ks ns),
+              spells_wide (place_in ks ns) (omega (arith, has_inside ks ns has, few)),
+              has_place ks ns has,
+              refl,
+            ))
+            0 r.entries
             (made_has (map (λ e. e.sequent) r.entries)) (made_has (flat_map used_stacks r.entries));
         are_lines = refl;
       };

@@ -9,7 +9,8 @@
 --   odds_ascend     == the odd priorities of a graph ascend
 --   entry_of_index  == an entry that a program reads by its place
 --   whole_front, whole_later, whole_kept == what is found of an entry
-use Rattle.std.proofs.Common.{◌≡◌, ◌↔◌, ℕ, zero, suc, ◌+◌, ◌<◌, ◌≤◌, ◌%◌, ◌==◌, filter, Bool, true, false, List, [], ◌∷◌, ◌++◌, Option, None, Some, All, length, get_or, take, map, IsTrue, inl, inr, refl, sym, ap, ◌∙◌, subst, arith}
+use Rattle.std.proofs.Common.{◌≡◌, ◌↔◌, ℕ, zero, suc, ◌+◌, ◌<◌, ◌≤◌, ◌%◌, ◌==◌, filter, Bool, true, false, List, [], ◌∷◌, ◌++◌, Option, None}
+use Rattle.std.proofs.Common.{Some, All, length, get_or, take, map, IsTrue, inl, inr, refl, sym, ap, ◌∙◌, subst, arith}
 use Rattle.std.proofs.lemmas.Bool.{true≢false}
 use Rattle.std.proofs.lemmas.List.{map-append, take_more, take_all, get_or-map, length-map}
 use Rattle.std.specs.Global.{Vec}
