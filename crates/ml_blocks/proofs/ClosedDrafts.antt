@@ -22,7 +22,7 @@ use Rattle.ml_graph.specs.Graph.{Graph, IsGraph, Reference, references_of}
 use Rattle.ml_graph.specs.declared.node.Node.{Node}
 use Rattle.ml_graph.specs.declared.node.Node.TheVariants as node
 use Rattle.ml_blocks.specs.BlockGraph as closure
-use Rattle.ml_blocks.specs.BlockGraph.{IsReached, IsNumberedBy, IsClosure, HasForm, children, row_of}
+use Rattle.ml_blocks.specs.BlockGraph.{IsReached, IsNumberedBy, HasForm, children, row_of}
 use Rattle.ml_blocks.specs.Closures.{HasMoreThan}
 use Rattle.ml_blocks.specs.Places as places
 use Rattle.ml_blocks.specs.Places.{Place, form_of, priority_of}

@@ -21,7 +21,7 @@ use Rattle.ml_base.specs.declared.structure.Edge.{Edge}
 use Rattle.ml_parity.specs.declared.players.Player.{Player}
 use Rattle.ml_parity.specs.declared.players.Player.TheVariants.{Even, Odd}
 use Rattle.ml_parity.specs.Player.{opponent}
-use Rattle.ml_parity.specs.Game.{ParityGame, HasMove, owner_of}
+use Rattle.ml_parity.specs.Game.{ParityGame, HasMove}
 use Rattle.ml_parity.specs.Game as parity
 use Rattle.ml_parity.specs.Winner.{IsStrategyOf}
 use Rattle.ml_parity.proofs.FollowedWalks.{FollowedMove, FollowedWalk, last, walks_joined}

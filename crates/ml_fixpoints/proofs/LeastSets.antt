@@ -12,25 +12,24 @@
 --   standing           == each vertex is one or the other
 --   contains_made, within_closed  == the two halves
 --   binder_is_least    == both
-use Rattle.std.proofs.Common.{ℕ, ◌≡◌, ◌≢◌, ◌+◌, ◌-◌, ◌<◌, ◌≤◌, ◌↔◌, ◌⊎◌, Bool, true, false, inl, inr, ⊎_elim, if◌then◌else◌}
-use Rattle.std.proofs.Common.{List, [], ◌∷◌, length, get_or, Contains, arith, subst, subst₂, sym, ap, ◌∙◌, refl}
+use Rattle.std.proofs.Common.{ℕ, ◌≡◌, ◌≢◌, ◌+◌, ◌<◌, ◌↔◌, ◌⊎◌, Bool, true, false, inl, inr, ⊎_elim, if◌then◌else◌, List, [], ◌∷◌, length, get_or, Contains, arith, subst, sym, ap, ◌∙◌, refl}
 use Rattle.std.proofs.lemmas.Bool.{cases_eq, cases_Bool, false≢true}
-use Rattle.ml_lists.specs.Lasso.{Lasso, IsLassoOf, entry, round, lowest_on_loop}
+use Rattle.ml_lists.specs.Lasso.{Lasso, entry, round}
 use Rattle.ml_lists.specs.Search.{Found}
 use Rattle.ml_lists.proofs.Search.{search}
 use Rattle.ml_lists.proofs.Lasso.{round-entry, on_loop, loop_length, loop_closed, lasso_of, lasso_of-length, lasso_of-entry, lasso_of-round, lasso_of_is, lowest_on_loop_place, lowest_on_loop_le}
 use Rattle.ml_lists.proofs.Walks.{WalkLasso, walk_lasso}
 use Rattle.ml_parity.specs.declared.players.Player.{Player}
 use Rattle.ml_parity.specs.Player.{opponent, side}
-use Rattle.ml_parity.specs.Game.{ParityGame, IsGame, HasMove, owner_of, priority_of, moves_of, size}
+use Rattle.ml_parity.specs.Game.{ParityGame, HasMove, owner_of, priority_of, size}
 use Rattle.ml_parity.specs.Winner.{IsPlay, Follows, winner, Wins}
 use Rattle.ml_parity.proofs.Boards.{first_move, winner_is}
 use Rattle.ml_parity.proofs.Carried.{IsCarried, IsRegion, straight, carried}
-use Rattle.ml_parity.proofs.OneStep.{WinningMove, own_vertex_won, other_vertex_won}
+use Rattle.ml_parity.proofs.OneStep.{own_vertex_won, other_vertex_won}
 use Rattle.ml_parity.proofs.Opponents.{cases_player, opponent-opponent, no_own_opponent}
 use Rattle.ml_parity.proofs.SingleMoves.{single_move, sink_won}
-use Rattle.ml_parity.proofs.Winners.{Winners, winners, won, won_by_either, clash, together, together-own, together-other}
-use Rattle.ml_fixpoints.specs.Binders.{IsSinkOf, Binder, verdict, HasVerdicts, MakesWithin, IsLeast, BinderIsLeast}
+use Rattle.ml_parity.proofs.Winners.{Winners, winners, won, together, together-own, together-other}
+use Rattle.ml_fixpoints.specs.Binders.{IsSinkOf, Binder, HasVerdicts, MakesWithin, IsLeast, BinderIsLeast}
 
 abbrev AtNone : (ℕ → ℕ) → ℕ → ℕ → Type 0
 AtNone at n v = (s : ℕ) → s < n → at s ≢ v

@@ -16,11 +16,11 @@ use Rattle.ml_base.specs.declared.version.Version.{Version}
 use Rattle.ml_base.specs.declared.version.Version.TheVariants.{One, Two}
 use Rattle.ml_base.specs.declared.doc_refusal.DocRefusal.{DocRefusal}
 use Rattle.ml_base.specs.declared.doc_refusal.DocRefusal.TheVariants as refused
-use Rattle.ml_lines.specs.Lines.{Line, text_of, number}
+use Rattle.ml_lines.specs.Lines.{Line, text_of}
 use Rattle.ml_lines.specs.Reading.{lines_of, left_of, words_of, fronts, is_line_end, is_blank}
 use Rattle.ml_lines.proofs.Cuts.{some_part}
 use Rattle.ml_lines.proofs.WrittenLines.{lines_read, text_read}
-use Rattle.ml_lists.specs.Documents.{Format, IsReadTo, nothing_read, line_read, IsFirstBroken}
+use Rattle.ml_lists.specs.Documents.{IsReadTo, nothing_read, line_read}
 use Rattle.ml_trace.specs.Stack as traced
 use Rattle.ml_trace.specs.declared.letters.AutomatonState.{AutomatonState}
 use Rattle.ml_refutation.specs.Refutation.{Refutation, Entry, Fits, IsRefutation}
@@ -29,13 +29,12 @@ use Rattle.ml_refutation_text.specs.RefutationText.{end_line, decision_lines, He
 use Rattle.ml_refutation_text.specs.BodyRules.{Place, AtNames, AtEntries, AtEntry, AtEnd, AtNothing, after_names, after, at_entry, rule_number, body}
 use Rattle.ml_refutation_text.specs.LineKinds.{kind, Fixed, IsOfKinds}
 use Rattle.ml_lines.proofs.Faults.{fault_here, fault_missing}
-use Rattle.ml_refutation_text.specs.PartLines.{head_size, entry_size, entries_size, parts_from, lines_before, AreLinesOf}
-use Rattle.ml_refutation_text.specs.private.Reads.{IsNext, Goes, Breaks, TellsFault, version_of}
+use Rattle.ml_refutation_text.specs.PartLines.{head_size, entries_size, parts_from, lines_before, AreLinesOf}
+use Rattle.ml_refutation_text.specs.private.Reads.{IsNext, Goes, Breaks, TellsFault}
 use Rattle.ml_refutation_text.specs.private.ItemReads.{knows}
 use Rattle.ml_refutation_text.specs.private.BodyReads.{IsBodyRead}
 use Rattle.ml_refutation_text.specs.declared.lines.EntryLines.{EntryLines}
 use Rattle.ml_refutation_text.specs.declared.rest.Rest.{Rest}
-use Rattle.ml_refutation_text.specs.declared.body_rule.BodyRule.{BodyRule}
 use Rattle.ml_refutation_text.specs.declared.body_rule.BodyRule.TheVariants.{OfKind, HasEntries}
 use Rattle.ml_refutation_text.proofs.ReadWords.{value_back}
 use Rattle.ml_refutation_text.proofs.Runs.{Runs, run_on, run_readable, one_end}

@@ -6,22 +6,20 @@
 --   lacks_go_words, lacks_mark, lacks_diamond, lacks_entry == the same of what stands behind `go`
 --   clash_broken, go_broken, split_broken, other_broken    == the rule that a line breaks whose words are so
 --   out_of_range, too_deep               == a go that leads nowhere, and a split inside too many
-use Rattle.std.proofs.Common.{◌≡◌, ℕ, ◌+◌, ◌<◌, ◌≤◌, ◌⊎◌, false, List, [], ◌∷◌, ◌++◌, length, drop, All, codes, inl, inr, refl, sym, ap, subst, ◌∙◌, arith}
+use Rattle.std.proofs.Common.{◌≡◌, ℕ, ◌+◌, ◌<◌, ◌≤◌, false, List, [], ◌∷◌, ◌++◌, length, drop, All, codes, inl, inr, refl, sym, ap, subst, ◌∙◌, arith}
 use Rattle.std.specs.Str.{bytes_eq}
 use Rattle.std.proofs.lemmas.List.Elements.{All-nil, All-cons, All-head, All-tail}
 use Rattle.ml_lines.specs.Lines.{Word, Line, number}
 use Rattle.ml_lines.specs.Reading.{AreWords, IsNumber, value, word}
-use Rattle.ml_refutation.specs.Refutation.{Entry, Fits, FitsCause, IsMarkOf}
-use Rattle.ml_refutation.specs.declared.refutation.TheConstants.{NESTING_LIMIT}
+use Rattle.ml_refutation.specs.Refutation.{Fits, IsMarkOf}
 use Rattle.ml_trace.specs.declared.marks.Mark.{Mark}
-use Rattle.ml_refutation_text.specs.RefutationText.{Form, InFull, mark_words, go_line}
+use Rattle.ml_refutation_text.specs.RefutationText.{InFull, mark_words, go_line}
 use Rattle.ml_refutation_text.specs.LineKinds.{Kind, Slot, Fixed, ANumber, AGuess, AnySize, InSlots, FitSlots, IsOfKinds, HaveNumbers}
-use Rattle.ml_refutation_text.specs.BodyRules.{Around, Begun, AtDecision, numbered, clash_kinds, go_kinds, rules, rule_number, mark_of}
-use Rattle.ml_refutation_text.specs.private.Reads.{Breaks}
+use Rattle.ml_refutation_text.specs.BodyRules.{Begun, AtDecision, numbered, clash_kinds, go_kinds, rules, rule_number, mark_of}
 use Rattle.ml_refutation_text.specs.private.ItemReads.{knows}
 use Rattle.ml_refutation_text.specs.private.BranchReads.{BreaksBranch, FitsMark, Shape, LacksNumbers, IsMarked, LacksMark, IsCaused, LacksCause, IsGo, LacksGo}
 use Rattle.ml_refutation_text.specs.declared.body_rule.BodyRule.{BodyRule}
-use Rattle.ml_refutation_text.specs.declared.body_rule.BodyRule.TheVariants.{OfKind, Numbers, GoInRange, Nesting}
+use Rattle.ml_refutation_text.specs.declared.body_rule.BodyRule.TheVariants.{OfKind, Numbers, GoInRange}
 use Rattle.ml_lists.specs.Documents.{IsFirstBroken}
 use Rattle.ml_base.specs.declared.version.Version.TheVariants.{Two}
 use Rattle.ml_refutation_text.proofs.GoodLines.{go_usual, mark_back}

@@ -4,13 +4,12 @@
 --   decides_begin, decides_room == before any line; there is room for further ones
 --   decides_split, decides_leaf, decides_whole == a split; a clash or a go that completes no decision, and one that does
 --   decides_missing, decides_broken == no line is left, or one that breaks a rule
-use Rattle.std.proofs.Common.{◌≡◌, ℕ, ◌+◌, ◌<◌, ◌≤◌, ◌^◌, List, [], ◌∷◌, ◌++◌, length, None, Some, refl, sym, ap, subst, ◌∙◌, arith}
+use Rattle.std.proofs.Common.{◌≡◌, ℕ, ◌+◌, ◌<◌, ◌≤◌, List, [], ◌∷◌, ◌++◌, length, None, Some, refl, sym, ap, subst, ◌∙◌, arith}
 use Rattle.ml_base.specs.declared.version.Version.{Version}
 use Rattle.ml_base.specs.declared.version.Version.TheVariants.{One}
 use Rattle.ml_base.specs.declared.doc_refusal.DocRefusal.{DocRefusal}
 use Rattle.ml_base.specs.declared.doc_refusal.DocRefusal.TheVariants as refused
 use Rattle.ml_lines.specs.Lines.{Line}
-use Rattle.ml_lines.specs.Reading.{left_of}
 use Rattle.ml_refutation.specs.Refutation.{Entry, Decision, Fits, nesting}
 use Rattle.ml_refutation.specs.Views.{decision_of}
 use Rattle.ml_refutation.specs.declared.refutation.Decision as program
@@ -19,7 +18,7 @@ use Rattle.ml_refutation_text.specs.RefutationText.{Form, InFull, decision_lines
 use Rattle.ml_refutation_text.specs.BodyRules.{Around, InLeft, Begun, Place, AtDecision, at_entry, closed, whole, body, rule_number}
 use Rattle.ml_refutation_text.specs.private.Reads.{around_of, arounds_in, arounds_of, HasRoom, IsNext, Goes, IsUsual, TellsFault}
 use Rattle.ml_refutation_text.specs.private.ItemReads.{knows}
-use Rattle.ml_refutation_text.specs.private.BranchReads.{around_size, closed_to, IsClosed, IsLeaf, BreaksBranch}
+use Rattle.ml_refutation_text.specs.private.BranchReads.{around_size, IsClosed, IsLeaf, BreaksBranch}
 use Rattle.ml_refutation_text.specs.declared.body_rule.BodyRule.{BodyRule}
 use Rattle.ml_refutation_text.specs.declared.rest.Rest.{Rest}
 use Rattle.ml_refutation_text.specs.declared.branches.Around as split

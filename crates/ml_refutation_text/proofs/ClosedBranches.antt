@@ -8,10 +8,10 @@ use Rattle.std.proofs.Common.{◌≡◌, ℕ, ◌+◌, ◌≤◌, List, [], ◌�
 use Rattle.ml_refutation.specs.Refutation.{Entry, Decision, Split}
 use Rattle.ml_refutation.specs.Views.{decision_of}
 use Rattle.ml_refutation.specs.declared.refutation.Decision as program
-use Rattle.ml_refutation_text.specs.RefutationText.{decision_lines, split_line}
+use Rattle.ml_refutation_text.specs.RefutationText.{decision_lines}
 use Rattle.ml_refutation_text.specs.BodyRules.{Known, Around, InLeft, InRight, Begun, closed}
 use Rattle.ml_refutation_text.specs.private.Reads.{around_of, arounds_in, arounds_of}
-use Rattle.ml_refutation_text.specs.private.BranchReads.{around_size, closed_to, closed_size, IsClosed}
+use Rattle.ml_refutation_text.specs.private.BranchReads.{around_size, closed_to, IsClosed}
 use Rattle.ml_refutation_text.specs.declared.branches.Around as split
 use Rattle.ml_refutation_text.specs.declared.branches.Around.TheVariants as around
 

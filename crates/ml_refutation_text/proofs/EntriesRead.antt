@@ -7,14 +7,13 @@
 --   some_entries                 == so many entries
 --   EntriesTo k v at es ps i rest == from `at` up to `rest` the i entries es were read, whose parts begin at the lines ps
 --   entries_begin, entries_room, entries_refused, entries_more == before any, room for more, a bad line, one more entry
-use Rattle.std.proofs.Common.{◌≡◌, ℕ, zero, suc, ◌+◌, ◌<◌, ◌≤◌, ◌^◌, true, cond, nat_lt, List, [], ◌∷◌, ◌++◌, Some, length, map, All}
-use Rattle.std.proofs.Common.{codes, slice_get, slice_index_or, inl, inr, refl, sym, ap, subst, ◌∙◌, length-append, arith}
+use Rattle.std.proofs.Common.{◌≡◌, ℕ, zero, suc, ◌+◌, ◌<◌, ◌≤◌, true, cond, nat_lt, List, [], ◌∷◌, ◌++◌, length, map, codes, slice_index_or, inl, inr, refl, sym, ap, subst, ◌∙◌, length-append, arith}
 use Rattle.std.proofs.lemmas.Bool.Decides.{nat_tests}
 use Rattle.std.proofs.lemmas.List.{map-append, length-map}
 use Rattle.std.proofs.lemmas.List.Elements.{All-nil}
 use Rattle.std.proofs.lemmas.Option.{slice_get_within, get_or_from_slice_get}
 use Rattle.ml_base.specs.declared.version.Version.{Version}
-use Rattle.ml_base.specs.declared.version.Version.TheVariants.{One, Two}
+use Rattle.ml_base.specs.declared.version.Version.TheVariants.{One}
 use Rattle.ml_base.specs.declared.doc_refusal.DocRefusal.{DocRefusal}
 use Rattle.ml_lines.specs.Lines.{Line, number}
 use Rattle.ml_lines.specs.Reading.{IsNumber}
@@ -25,7 +24,7 @@ use Rattle.ml_refutation.specs.declared.refutation.Entry as program
 use Rattle.ml_sequent.specs.declared.clashes.ClashCause.TheVariants.{False}
 use Rattle.ml_refutation_text.specs.RefutationText.{Form, InFull, ByTables, numbered_line, entry_line, sequent_line, live_line}
 use Rattle.ml_refutation_text.specs.LineKinds.{IsOfKinds, HaveNumbers}
-use Rattle.ml_refutation_text.specs.BodyRules.{Known, Place, AtEntry, AtSequent, AtLive, AtItem, AtEnd, at_entry, entry_kind, body}
+use Rattle.ml_refutation_text.specs.BodyRules.{Known, AtEntry, AtSequent, AtLive, AtItem, AtEnd, at_entry, entry_kind}
 use Rattle.ml_refutation_text.specs.PartLines.{entry_size, entries_size, parts_of, parts_from}
 use Rattle.ml_refutation_text.specs.private.Reads.{HasRoom, IsNext, Goes, Breaks, TellsFault}
 use Rattle.ml_refutation_text.specs.private.ItemReads.{knows}

@@ -5,7 +5,7 @@
 --   fault_on              == the first bad line behind good ones is the first bad one
 --   fault_line, refused_line == the next line is the first bad one, where it breaks a rule
 --   room_on, room_behind  == there is room for the numbers of the lines that are left
-use Rattle.std.proofs.Common.{◌≡◌, ℕ, ◌+◌, ◌<◌, ◌≤◌, ◌^◌, List, [], ◌∷◌, ◌++◌, length, refl, inl, sym, ap, subst, ◌∙◌, arith}
+use Rattle.std.proofs.Common.{◌≡◌, ℕ, ◌+◌, List, [], ◌∷◌, refl, sym, subst, ◌∙◌, arith}
 use Rattle.ml_base.specs.declared.version.Version.{Version}
 use Rattle.ml_base.specs.declared.doc_refusal.DocRefusal.{DocRefusal}
 use Rattle.ml_base.specs.declared.doc_refusal.DocRefusal.TheVariants as refused

@@ -4,28 +4,26 @@
 --   no_full_kind, full_no_numbers, full_no_names == the line of an item in full
 --   no_table_kind, table_no_count, table_no_numbers, table_no_names, table_outside == that of one whose stack is in a table
 --   full_is, table_is        == the line of the item that was read
-use Rattle.std.proofs.Common.{◌≡◌, ℕ, ◌+◌, ◌-◌, ◌^◌, ◌<◌, ◌≤◌, ◌⊎◌, true, false, min, List, [], ◌∷◌, Option, None, Some, length, drop}
+use Rattle.std.proofs.Common.{◌≡◌, ℕ, ◌+◌, ◌-◌, ◌^◌, ◌<◌, ◌≤◌, ◌⊎◌, min, List, [], ◌∷◌, Option, None, Some, length}
 use Rattle.std.proofs.Common.{map, All, codes, slice_get, slice_index_or, inl, inr, refl, sym, ap, subst, ◌∙◌, arith}
 use Rattle.std.proofs.lemmas.List.{length-map, get_or_past}
-use Rattle.std.proofs.lemmas.List.Elements.{All-nil, All-cons, All-head, All-tail}
-use Rattle.std.proofs.lemmas.Option.{slice_get_within, get_or_from_slice_get}
+use Rattle.std.proofs.lemmas.List.Elements.{All-nil, All-cons}
 use Rattle.ml_lines.specs.Lines.{Word, Line, number}
-use Rattle.ml_lines.specs.Reading.{AreWords, IsNumber, value, word, words_of}
+use Rattle.ml_lines.specs.Reading.{AreWords, IsNumber, value, words_of}
 use Rattle.ml_lists.specs.Ascending.{IsAscending}
 use Rattle.ml_lists.specs.Chains.{last_of}
 use Rattle.ml_lists.specs.Documents.{IsFirstBroken}
 use Rattle.ml_trace.specs.declared.letters.AutomatonState.{AutomatonState}
 use Rattle.ml_trace.specs.Stack as traced
 use Rattle.ml_refutation.specs.Refutation.{Entry, Fits, FitsGuess, IsAbove}
-use Rattle.ml_refutation_text.specs.RefutationText.{Spells, Form, InFull, ByTables, numbers, guess_word, item_line, heights_line, ItemLine}
-use Rattle.ml_refutation_text.specs.LineKinds.{IsSpelt, IsOfKind, FitsSlot, AGuess}
-use Rattle.ml_refutation_text.specs.BodyRules.{Place, AtItem, item_kind, heights_kind, state_of, stack_of, rules}
+use Rattle.ml_refutation_text.specs.RefutationText.{Spells, Form, InFull, ByTables, numbers, guess_word, item_line, heights_line}
+use Rattle.ml_refutation_text.specs.LineKinds.{IsSpelt, IsOfKind}
+use Rattle.ml_refutation_text.specs.BodyRules.{Place, AtItem, item_kind, heights_kind, rules}
 use Rattle.ml_refutation_text.specs.private.Reads.{Breaks, TellsRule}
 use Rattle.ml_refutation_text.specs.declared.rest.LineRefusal.{LineRefusal}
 use Rattle.ml_refutation_text.specs.declared.rest.LineRefusal.TheVariants as refusal
 use Rattle.ml_refutation_text.specs.private.WordReads.{FitsAGuess}
-use Rattle.ml_refutation_text.specs.private.ItemReads.{knows, AreNames, IsItemed, AtItems, MayStand, IsItemOf, LacksStack}
-use Rattle.ml_refutation_text.specs.declared.body_rule.BodyRule.{BodyRule}
+use Rattle.ml_refutation_text.specs.private.ItemReads.{knows, AreNames, IsItemed, AtItems, IsItemOf, LacksStack}
 use Rattle.ml_refutation_text.specs.declared.body_rule.BodyRule.TheVariants.{OfKind, Numbers, ItemsAscend, HeightForEach, InTables}
 use Rattle.ml_refutation_text.proofs.ReadWords.{some_word, differ, are_numbers, words_numbers, values_back, words_first}
 use Rattle.ml_refutation_text.proofs.GoodEntries.{full_item, table_item, state_back}

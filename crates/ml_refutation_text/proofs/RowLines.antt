@@ -3,7 +3,7 @@
 --   sequent_no_numbers, sequent_no_ascends == the line of a sequent, in its table or in an entry
 --   stack_no_numbers, stack_no_names       == the line of a stack
 --   sequents_first, sequent_row, stacks_first, stack_row == they are good, and lead to the next line
-use Rattle.std.proofs.Common.{◌≡◌, ℕ, ◌+◌, ◌<◌, List, [], ◌∷◌, ◌++◌, length, map, All, codes, inl, inr, refl, sym, ap, subst, ◌∙◌, arith}
+use Rattle.std.proofs.Common.{◌≡◌, ℕ, ◌<◌, List, [], ◌∷◌, ◌++◌, length, All, codes, inl, inr, refl, sym, ap, subst, arith}
 use Rattle.std.proofs.lemmas.List.Elements.{All-nil, All-cons}
 use Rattle.ml_base.specs.declared.version.Version.{Version}
 use Rattle.ml_base.specs.declared.version.Version.TheVariants.{One}
@@ -11,12 +11,12 @@ use Rattle.ml_lines.specs.Lines.{Word, Line}
 use Rattle.ml_lines.specs.Reading.{AreWords, IsNumber, value}
 use Rattle.ml_lists.specs.Ascending.{IsAscending}
 use Rattle.ml_lists.specs.Documents.{IsFirstBroken}
-use Rattle.ml_refutation.specs.Refutation.{Entry, Fits, IsStack}
-use Rattle.ml_refutation_text.specs.RefutationText.{Spells, sequents_line, sequent_line, stacks_line, stack_line, numbers}
+use Rattle.ml_refutation.specs.Refutation.{Fits, IsStack}
+use Rattle.ml_refutation_text.specs.RefutationText.{Spells, sequents_line, sequent_line, stacks_line, stack_line}
 use Rattle.ml_refutation_text.specs.LineKinds.{IsOfKind}
 use Rattle.ml_refutation_text.specs.BodyRules.{Place, AtSequents, AtTableSequent, AtStacks, AtTableStack, at_sequent_table, at_stack_table, sequent_kind, stack_kind, rules, body}
 use Rattle.ml_refutation_text.specs.private.ItemReads.{AreNames}
-use Rattle.ml_refutation_text.proofs.ReadWords.{some_word, values_back, value_back, words_first, spelt_is_word}
+use Rattle.ml_refutation_text.proofs.ReadWords.{values_back, value_back, words_first, spelt_is_word}
 use Rattle.ml_refutation_text.proofs.Runs.{Runs}
 use Rattle.ml_refutation_text.proofs.GoodLines.{numbered_of, numbered_fits, sequent_good, sequent_fits, stack_good, stack_fits, names_fit}
 

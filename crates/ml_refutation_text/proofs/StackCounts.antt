@@ -5,7 +5,7 @@
 --   items_few       == an entry has no more items than there are states
 --   few_stacks      == so a refutation has fewer stacks than 10 ^ 64
 use Rattle.std.proofs.Common.{◌≡◌, ℕ, zero, suc, ◌+◌, ◌-◌, ◌*◌, ◌/◌, ◌%◌, ◌^◌, ◌<◌, ◌≤◌, Bool, true, false, ◌&&◌, ◌||◌, ◌==◌, nat_lt, List, [], ◌∷◌, ◌++◌}
-use Rattle.std.proofs.Common.{Option, None, Some, length, map, get_or, All, inl, inr, ◌⊎◌, refl, sym, ap, ◌∙◌, length-append, arith}
+use Rattle.std.proofs.Common.{Option, None, Some, length, map, get_or, All, inl, inr, ◌⊎◌, refl, ap, ◌∙◌, length-append, arith}
 use Rattle.std.specs.List.{flat_map}
 use Rattle.std.specs.Str.{all_ascii_digits}
 use Rattle.std.specs.Char.{is_ascii_digit}
@@ -17,7 +17,7 @@ use Rattle.ml_lines.specs.Lines.{Word, number}
 use Rattle.ml_lines.specs.Reading.{value, value_on}
 use Rattle.ml_trace.specs.declared.letters.AutomatonState.{AutomatonState}
 use Rattle.ml_trace.specs.Stack as traced
-use Rattle.ml_refutation.specs.Refutation.{Refutation, Entry, Fits, FitsGuess, IsAbove, AreAbove, IsItem, IsEntry, IsRefutation, comes_before, guess_before}
+use Rattle.ml_refutation.specs.Refutation.{Refutation, Entry, Fits, FitsGuess, AreAbove, IsItem, IsEntry, IsRefutation, comes_before, guess_before}
 use Rattle.ml_refutation_text.specs.RefutationText.{Spells}
 use Rattle.ml_refutation_text.specs.WrittenText.{used_stacks, stacks_of}
 use Rattle.ml_refutation_text.proofs.TableEntries.{made_length}

@@ -4,8 +4,7 @@
 --   StacksTo m n at rows rest    == so of a table of n stacks, with m names
 --   row_there                    == the row at a place
 --   rows_begin, row_more, rows_done, and so on == before any line, one more, and behind the last one
-use Rattle.std.proofs.Common.{◌≡◌, ℕ, ◌+◌, ◌-◌, ◌<◌, ◌≤◌, ◌^◌, true, false, cond, min, nat_lt, List, [], ◌∷◌, ◌++◌, Some, get_or}
-use Rattle.std.proofs.Common.{slice_get, length, map, All, refl, sym, ap, subst, ◌∙◌, length-append, arith}
+use Rattle.std.proofs.Common.{◌≡◌, ℕ, ◌+◌, ◌-◌, ◌<◌, ◌≤◌, ◌^◌, true, false, cond, min, nat_lt, List, [], ◌∷◌, ◌++◌, Some, get_or, slice_get, length, refl, sym, ap, subst, ◌∙◌, length-append, arith}
 use Rattle.std.specs.Global.{Vec}
 use Rattle.std.proofs.lemmas.Bool.Decides.{nat_tests}
 use Rattle.std.proofs.lemmas.List.{map-append, length-map, get_or-map}

@@ -4,7 +4,7 @@
 --   last_state                == the state of the last item that was read
 --   items_begin, items_room, items_missing, items_broken, items_more, items_heights == before any line; there is room for
 --                                further ones; no line is left; one breaks a rule; one more item; the line of the heights
-use Rattle.std.proofs.Common.{◌≡◌, ℕ, ◌+◌, ◌<◌, ◌≤◌, ◌^◌, List, [], ◌∷◌, ◌++◌, Option, None, Some, length, map, All, refl, sym, ap, subst, ◌∙◌, length-append, arith}
+use Rattle.std.proofs.Common.{◌≡◌, ℕ, ◌+◌, ◌≤◌, List, [], ◌∷◌, ◌++◌, Option, None, Some, length, map, refl, sym, ap, subst, ◌∙◌, length-append, arith}
 use Rattle.std.proofs.lemmas.List.{map-append}
 use Rattle.ml_base.specs.declared.version.Version.{Version}
 use Rattle.ml_base.specs.declared.version.Version.TheVariants.{One}

@@ -1,4 +1,4 @@
-use Rattle.std.proofs.Common.{◌≡◌, ◌+◌, ◌<◌, ◌≤◌, [], ◌∷◌, length, length-append, subst, sym, ap, arith}
+use Rattle.std.proofs.Common.{◌≡◌, ◌<◌, [], ◌∷◌, length, length-append, subst, sym, ap, arith}
 use Rattle.ml_lines.specs.Reading.{words_of}
 use Rattle.ml_refutation.specs.Views.{decision_of}
 use Rattle.ml_refutation_text.specs.private.BranchReads.{IsBranch, BreaksBranch, IsClosed}

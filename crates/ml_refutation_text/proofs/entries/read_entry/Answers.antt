@@ -2,10 +2,7 @@ use Rattle.std.proofs.Common.{◌++◌, ◌∷◌, [], map, arith}
 use Rattle.ml_base.specs.declared.version.Version.TheVariants.{One}
 use Rattle.ml_refutation.specs.Views.{item_of, decision_of}
 use Rattle.ml_refutation_text.specs.BodyRules.{Begun, AtEntry, AtLive, AtItem, AtDecision, at_entry, whole}
-use Rattle.ml_refutation_text.specs.private.Reads.{form_of, known_of}
-use Rattle.ml_refutation.specs.Refutation.{Entry}
-use Rattle.ml_refutation_text.specs.private.Reads.{Goes}
-use Rattle.ml_base.specs.declared.version.Version.{Version}
+use Rattle.ml_refutation_text.specs.private.Reads.{known_of}
 use Rattle.ml_refutation_text.proofs.Going.{goes_on, fault_on, room_on}
 use Rattle.ml_refutation_text.proofs.EntriesRead.{some_entries, length-some_entries}
 use Rattle.ml_refutation_text.proofs.entries.read_entry.Goals as goal
