@@ -28,12 +28,13 @@ use Rattle.ml_blocks.specs.ItemSets.{next_items, eventualities}
 use Rattle.ml_blocks.specs.Laws.{signed}
 use Rattle.ml_blocks.specs.Places.{Place, Path, Holding, first_open, is_open, is_wait, focus_behind, edge_priority}
 use Rattle.ml_blocks.proofs.BlockSteps as block
-use Rattle.ml_blocks.proofs.BlockSteps.{path, constant, other, off, edge_form_of, edge_priority_of, of_state, becomes, either, Stepped, Settled, Steps, settle}
+use Rattle.ml_blocks.proofs.BlockSteps.{path, other, off, edge_form_of, edge_priority_of, of_state, becomes, either, Stepped, Settled, Steps, settle}
 use Rattle.ml_blocks.proofs.ItemSetMembers.{load, next_items-member, next_items-all_of}
 use Rattle.ml_blocks.proofs.ItemsWithin.{IsOf, same_key}
 use Rattle.ml_blocks.proofs.LocalRuns.{Takes, LocalRun, Of, left_of, left_settled, some_open, open_now, none_open, next_of_of}
 use Rattle.ml_blocks.proofs.PathsWin.{focus_low, best_low}
-use Rattle.ml_blocks.proofs.PlaceVertices.{Board, Known, Branches, Edges, at, game, player_of, Goes, number_low, vertex_is, edges, own_branch, other_left, other_right, own_edge, priority_at_place, move_walk, way_walk}
+use Rattle.ml_blocks.proofs.PlaceVertices.{Board, Known, Branches, Edges, at, game, player_of, Goes, number_low, vertex_is, edges}
+use Rattle.ml_blocks.proofs.PlaceVertices.{own_branch, other_left, other_right, own_edge, priority_at_place, move_walk, way_walk}
 use Rattle.ml_blocks.proofs.RowShapes.{next_now}
 use Rattle.ml_blocks.proofs.SaidItems.{step_states}
 

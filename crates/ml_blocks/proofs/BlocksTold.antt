@@ -39,7 +39,7 @@ use Rattle.ml_blocks.proofs.ItemsFollow.{itself_within}
 use Rattle.ml_blocks.proofs.ItemsWithin.{IsOf, within_stands}
 use Rattle.ml_blocks.proofs.PathsWin.{NoneLost, ConstantLost, never_lost}
 use Rattle.ml_blocks.proofs.PlaceVertices as vertices
-use Rattle.ml_blocks.proofs.PlaceVertices.{Board, Known, at, player_of, number_low, vertex_is, form_as}
+use Rattle.ml_blocks.proofs.PlaceVertices.{Board, Known, at, player_of, number_low, form_as}
 use Rattle.ml_blocks.proofs.ReachedItems.{Reached, within_reached, state_known}
 use Rattle.ml_blocks.proofs.RowsOfItems.{item}
 use Rattle.ml_blocks.proofs.SaidItems.{path_states}

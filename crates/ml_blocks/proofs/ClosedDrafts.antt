@@ -22,7 +22,7 @@ use Rattle.ml_graph.specs.Graph.{Graph, IsGraph, Reference, references_of}
 use Rattle.ml_graph.specs.declared.node.Node.{Node}
 use Rattle.ml_graph.specs.declared.node.Node.TheVariants as node
 use Rattle.ml_blocks.specs.BlockGraph as closure
-use Rattle.ml_blocks.specs.BlockGraph.{IsReached, IsNumberedBy, IsClosure, HasForm, children, row_of}
+use Rattle.ml_blocks.specs.BlockGraph.{IsReached, IsNumberedBy, HasForm, children, row_of}
 use Rattle.ml_blocks.specs.Closures.{HasMoreThan}
 use Rattle.ml_blocks.specs.Places as places
 use Rattle.ml_blocks.specs.Places.{Place, form_of, priority_of}
@@ -212,7 +212,9 @@ module _ (K : Kept) (start : Place) where
       abbrev numbers : List Place
       numbers = map place xs
 
-      has_view : (v : Node) (f : Form) → HasFormIn xs v f → HasForm graph numbers v (form_view K.names K.formulas start f)
+      has_view : (v : Node) (f : Form)
+          → HasFormIn xs v f
+          → HasForm graph numbers v (form_view K.names K.formulas start f)
       has_view v (form.Constant b) has = has
       has_view v (form.Literal p b) has = (p, has, refl)
       has_view v (form.Two true l r) has = (has.0, has.1, place_at xs has.0 l has.2, place_at xs has.1 r has.3, has.4)

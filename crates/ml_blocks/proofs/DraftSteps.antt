@@ -3,7 +3,8 @@
 --   one_spot      == the root alone is a draft
 --   stepped       == one node more
 --   no_room       == where the next node leads to one too many, more nodes are reached
-use Rattle.std.proofs.Common.{ℕ, zero, suc, ◌≡◌, ◌+◌, ◌<◌, ◌≤◌, ◌⊎◌, inl, inr, arith, Bool, true, false, List, [], ◌∷◌, ◌++◌, length, map, get_or, Some, refl, sym, ap, ◌∙◌, subst, ⊎_elim, append-nil, length-append}
+use Rattle.std.proofs.Common.{ℕ, zero, suc, ◌≡◌, ◌+◌, ◌<◌, ◌≤◌, ◌⊎◌, inl, inr, arith, Bool, true, false, List, [], ◌∷◌, ◌++◌}
+use Rattle.std.proofs.Common.{length, map, get_or, Some, refl, sym, ap, ◌∙◌, subst, ⊎_elim, append-nil, length-append}
 use Rattle.std.specs.List.{flat_map, slice_get}
 use Rattle.std.proofs.lemmas.Bool.{cases_lt}
 use Rattle.std.proofs.lemmas.Grind.{flat_map-append}
@@ -14,7 +15,8 @@ use Rattle.ml_graph.specs.declared.node.Node.{Node}
 use Rattle.ml_graph.specs.declared.node.Node.TheVariants as node
 use Rattle.ml_blocks.specs.BlockGraph.{row_of}
 use Rattle.ml_blocks.specs.private.Forms.{form_in, priority_in}
-use Rattle.ml_blocks.specs.private.Numbering.{IsFull, Overflows, Numbers, constant_of, pair_of, edge_of, HasFormIn, children_in, ReachedIn, at_root, behind, IsMade, IsDraft, IsStep, HasNoRoom, IsTooLarge}
+use Rattle.ml_blocks.specs.private.Numbering.{IsFull, Overflows, Numbers, constant_of, pair_of, edge_of, HasFormIn, children_in}
+use Rattle.ml_blocks.specs.private.Numbering.{ReachedIn, at_root, behind, IsMade, IsDraft, IsStep, HasNoRoom, IsTooLarge}
 use Rattle.ml_lists.specs.InTurn.{RunsOn}
 use Rattle.ml_lists.specs.Added.{IsAdded, HasOnePlace}
 use Rattle.ml_blocks.specs.declared.table.Occurrence.{Occurrence}

@@ -66,7 +66,10 @@ module _ (f : Formula) (first : Option Bool) (sign : Bool) (max : ℕ) (names : 
   abbrev begin : Spot
   begin = start_in first sign
 
-  starts_by : (o : Option Bool) → Stands K 0 f o → (p : Place) → place_of K.formulas p (start_in o sign) ≡ start_place o f sign
+  starts_by : (o : Option Bool)
+      → Stands K 0 f o
+      → (p : Place)
+      → place_of K.formulas p (start_in o sign) ≡ start_place o f sign
   starts_by None s p = ap (λ h. places.Holding 0 h sign) (formula_is K 0 f None s)
   starts_by (Some c) s p = ap (λ h. places.block_of (now 0 h c) sign) (formula_is K 0 f (Some c) s)
 

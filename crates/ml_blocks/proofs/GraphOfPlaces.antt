@@ -9,7 +9,8 @@
 --   made_of ps       == the graph of these nodes
 --   is_numbered      == the nodes that a search met are numbered by it
 --   is_graph         == and it is a graph
-use Rattle.std.proofs.Common.{ℕ, ◌≡◌, ◌<◌, ◌⊎◌, inl, inr, arith, true, false, if◌then◌else◌, All, List, [], ◌∷◌, ◌++◌, length, map, get_or, Some, codes, bytes_eq, refl, sym, ap, ◌∙◌, subst, append-nil}
+use Rattle.std.proofs.Common.{ℕ, ◌≡◌, ◌<◌, ◌⊎◌, inl, inr, arith, true, false, if◌then◌else◌, All, List, [], ◌∷◌, ◌++◌, length}
+use Rattle.std.proofs.Common.{map, get_or, Some, codes, bytes_eq, refl, sym, ap, ◌∙◌, subst, append-nil}
 use Rattle.std.specs.List.{IsDistinct, AllByRecursion, flat_map, range_with_len, slice_get}
 use Rattle.std.specs.Option.{option_map}
 use Rattle.std.proofs.lemmas.Bool.{cases_Bool}

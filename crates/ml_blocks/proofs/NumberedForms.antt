@@ -16,11 +16,14 @@ use Rattle.ml_ctl.specs.Formula.{Formula, Const, Prop, Not, Binary, Temporal, Pa
 use Rattle.ml_blocks.specs.Items.{Item, now}
 use Rattle.ml_blocks.specs.ItemSets.{next_items, eventualities, put_all, without}
 use Rattle.ml_blocks.specs.Places as node
-use Rattle.ml_blocks.specs.Places.{Place, is_open, path_of, both_ways, one_way, focus_behind, edge_priority, form_of, priority_of, form_of_item, form_of_edge, form_of_block, priority_of_block, form_of_formula, form_of_connective, is_put_off}
+use Rattle.ml_blocks.specs.Places.{Place, path_of, both_ways, one_way, focus_behind, edge_priority, form_of, priority_of, form_of_item}
+use Rattle.ml_blocks.specs.Places.{form_of_edge, form_of_block, priority_of_block, form_of_formula, form_of_connective}
 use Rattle.ml_blocks.specs.private.Asked.{now_at, put_few, others}
-use Rattle.ml_blocks.specs.private.Forms.{row_in, is_open_in, next_all, is_pending, focus_in, edge_priority_in, path_at, with_items, item_form, edge_form, block_form, block_priority, whole, block_at, connective_form, symbol_form, state_form, form_in, priority_in}
+use Rattle.ml_blocks.specs.private.Forms.{row_in, is_open_in, next_all, is_pending, focus_in, edge_priority_in, path_at, with_items, item_form, edge_form}
+use Rattle.ml_blocks.specs.private.Forms.{block_form, block_priority, whole, block_at, connective_form, symbol_form, state_form, form_in, priority_in}
 use Rattle.ml_blocks.specs.private.Occurrences.{occurrence_here, entry_at, eventualities_at}
-use Rattle.ml_blocks.specs.private.Views.{Kept, Stands, IsKept, AreKept, IsIff, BlockFits, Fits, FormFits, formula_at, item_of, items_of, few_of, row_of, left_part, right_part, block_view, place_of, form_view}
+use Rattle.ml_blocks.specs.private.Views.{Kept, Stands, IsKept, AreKept, IsIff, BlockFits, Fits, FormFits, formula_at, item_of}
+use Rattle.ml_blocks.specs.private.Views.{items_of, few_of, row_of, left_part, right_part, block_view, place_of, form_view}
 use Rattle.ml_blocks.specs.declared.items.Asked.{Asked}
 use Rattle.ml_blocks.specs.declared.rows.Row.{Row}
 use Rattle.ml_blocks.specs.declared.rows.Row.TheVariants as row
@@ -67,7 +70,8 @@ module _ (names : List (List ℕ)) (fs : List Formula) (start : Place) where
   twice_is true s = refl
   twice_is false s = refl
 
-  edge_is : (sign : Bool) (s : Spot) → seen (form.Edge sign s) ≡ (if sign then node.Diamond (here s) else node.Square (here s))
+  edge_is : (sign : Bool) (s : Spot)
+      → seen (form.Edge sign s) ≡ (if sign then node.Diamond (here s) else node.Square (here s))
   edge_is true s = refl
   edge_is false s = refl
 

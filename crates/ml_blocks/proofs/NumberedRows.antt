@@ -11,7 +11,7 @@ use Rattle.ml_text.specs.Operators.{weight}
 use Rattle.ml_ctl.specs.Formula as formula
 use Rattle.ml_ctl.specs.Formula.{Formula, Const, Prop, Not, Binary, Temporal, Paired, Quantified, occurrences}
 use Rattle.ml_blocks.specs.Items as plain
-use Rattle.ml_blocks.specs.Items.{Item, now}
+use Rattle.ml_blocks.specs.Items.{now}
 use Rattle.ml_blocks.specs.ItemSets.{next_of}
 use Rattle.ml_blocks.specs.Places.{is_open, is_wait}
 use Rattle.ml_blocks.specs.private.Asked.{now_at}

@@ -7,7 +7,8 @@
 --   Lost              == what the opponent would win: no state item that holds
 --   Situation         == a block at a place of the path, all of whose items are asked there
 --   never_lost        == the opponent's strategy doesn't win from a situation
-use Rattle.std.proofs.Common.{ℕ, zero, suc, ◌≡◌, ◌+◌, ◌<◌, ◌%◌, ◌&&◌, ◌==◌, ◌⊎◌, min, inl, inr, arith, true, false, Bool, List, [], ◌∷◌, length, map, filter, get_or, Some, None, refl, sym, ap, subst, ◌∙◌, ⊎_elim}
+use Rattle.std.proofs.Common.{ℕ, zero, suc, ◌≡◌, ◌+◌, ◌<◌, ◌%◌, ◌&&◌, ◌==◌, ◌⊎◌, min, inl, inr, arith, true, false, Bool, List, []}
+use Rattle.std.proofs.Common.{◌∷◌, length, map, filter, get_or, Some, None, refl, sym, ap, subst, ◌∙◌, ⊎_elim}
 use Rattle.std.specs.Bool.{beq}
 use Rattle.std.proofs.lemmas.Bool.{cases_Bool, cond-true, cond-false, false≢true, and_parts, eqb-true}
 use Rattle.std.proofs.lemmas.Nat.{mod_below}
@@ -38,7 +39,8 @@ use Rattle.ml_nodes.proofs.EndlessWalks.{Onward, never_for_ever}
 use Rattle.ml_blocks.proofs.ItemSetMembers.{load, next_items-member, next_items-all_of, next_items-has, put_all-member, without-member}
 use Rattle.ml_blocks.proofs.ItemsWithin.{IsOf, within_stands, same_key}
 use Rattle.ml_blocks.proofs.LocalRuns.{Takes, LocalRun, Of, left_of, left_settled, some_open, open_now, none_open, waiting, next_of_of, taken_of}
-use Rattle.ml_blocks.proofs.PlaceVertices.{Board, Known, Branches, Edges, at, game, player_of, Goes, vertex_is, edges, own_branch, other_left, other_right, other_edge, priority_at_place, move_walk, way_walk}
+use Rattle.ml_blocks.proofs.PlaceVertices.{Board, Known, Branches, Edges, at, game, player_of, Goes, vertex_is, edges, own_branch}
+use Rattle.ml_blocks.proofs.PlaceVertices.{other_left, other_right, other_edge, priority_at_place, move_walk, way_walk}
 use Rattle.ml_blocks.proofs.RowShapes.{Part, ways_parts, next_now, next_later, next_waits}
 use Rattle.ml_blocks.proofs.RowsOfItems.{rows_say_the_same}
 use Rattle.ml_blocks.proofs.SaidItems.{Says, ways_say, decided_of, decided_say, later_origin, PutOffBy, path_step, path_states}

@@ -8,7 +8,8 @@
 --   both, one, edges    == of nodes of each form
 --   own_branch, other_left, other_right, own_edge, other_edge == moves that follow a strategy
 --   Way B p t k v w     == such moves lead from v to w, or v is w already, and the lowest priority on the way is k
-use Rattle.std.proofs.Common.{ℕ, ◌≡◌, ◌<◌, ◌+◌, ◌==◌, ◌&&◌, ◌⊎◌, inl, inr, arith, min, true, false, Bool, List, [], ◌∷◌, map, filter, Contains, Some, codes, bytes_eq, refl, sym, ap, subst, ◌∙◌, eqb-true, eq-eqb}
+use Rattle.std.proofs.Common.{ℕ, ◌≡◌, ◌<◌, ◌+◌, ◌==◌, ◌&&◌, ◌⊎◌, inl, inr, arith, min, true, false, Bool, List, [], ◌∷◌, map}
+use Rattle.std.proofs.Common.{filter, Contains, Some, codes, bytes_eq, refl, sym, ap, subst, ◌∙◌, eqb-true, eq-eqb}
 use Rattle.std.specs.List.{slice_get}
 use Rattle.std.proofs.lemmas.Bool.{and_parts, and_from}
 use Rattle.std.proofs.lemmas.Option.{slice_get_within}
@@ -20,7 +21,7 @@ use Rattle.ml_base.specs.declared.structure.Edge.{Edge}
 use Rattle.ml_parity.specs.declared.players.Player.{Player}
 use Rattle.ml_parity.specs.declared.players.Player.TheVariants.{Even, Odd}
 use Rattle.ml_parity.specs.Player.{opponent}
-use Rattle.ml_parity.specs.Game.{ParityGame, HasMove, owner_of}
+use Rattle.ml_parity.specs.Game.{ParityGame, HasMove}
 use Rattle.ml_parity.specs.Game as parity
 use Rattle.ml_parity.specs.Winner.{IsStrategyOf}
 use Rattle.ml_parity.proofs.FollowedWalks.{FollowedMove, FollowedWalk, last, walks_joined}

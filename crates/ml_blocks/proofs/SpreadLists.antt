@@ -133,7 +133,9 @@ module _ {X : Type 0} (here : ℕ → Formula → Option Bool → X) where
           stands_in (i + 1) f (Some (sign_of q)) (pre ++ h ∷ []) suf (behind h pre rest suf is) (one_longer pre h i long),
         )
 
-    pub head_stands : (i : ℕ) (f : Formula) (o : Option Bool) → StandsIn here xs i f o → slice_get xs i ≡ Some (here i f o)
+    pub head_stands : (i : ℕ) (f : Formula) (o : Option Bool)
+        → StandsIn here xs i f o
+        → slice_get xs i ≡ Some (here i f o)
     head_stands i (Const b) o s = s
     head_stands i (Prop p) o s = s
     head_stands i (Not f) o s = s.0

@@ -194,7 +194,11 @@ parts {A = A} k xs ys a b m = from (member-append k xs ys m)
     from (inr i) = b i
 
 -- into one of two lists
-whole : {A B : Type 0} (k : ℕ) (xs ys : List ℕ) → (A → IsMember k xs) → (B → IsMember k ys) → A ⊎ B → IsMember k (xs ++ ys)
+whole : {A B : Type 0} (k : ℕ) (xs ys : List ℕ)
+    → (A → IsMember k xs)
+    → (B → IsMember k ys)
+    → A ⊎ B
+    → IsMember k (xs ++ ys)
 whole k xs ys a b (inl i) = member-append_left k xs ys (a i)
 whole k xs ys a b (inr i) = member-append_right k xs ys (b i)
 

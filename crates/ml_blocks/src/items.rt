@@ -1,5 +1,5 @@
 // Items of a path by the numbers of their occurrences, and lists of them in the order of items.
-ghost use Rattle.std.specs.Prelude.{◌≡◌, ◌++◌, IfOk, OnOk, [], ◌∷◌};
+ghost use Rattle.std.specs.Prelude.{◌≡◌, ◌++◌, IfOk, OnOk};
 ghost use Rattle.ml_blocks.specs.private.Asked as numbered;
 ghost use Rattle.ml_blocks.specs.private.ItemEquality.{items_eq, items_eq_equiv, items_writes};
 

@@ -7,7 +7,7 @@ use Rattle.ml_text.specs.Grammar.{More, Opens, sign, read, whole, front, IsStop,
 use Rattle.ml_text.proofs.Complete.{one_tree}
 use Rattle.ml_text.proofs.Fits.{Fits}
 use Rattle.ml_ctl.specs.Formula as plain
-use Rattle.ml_ctl.specs.Formula.{Formula, Logic, Ctl, Ltl, Tense, Quantifier}
+use Rattle.ml_ctl.specs.Formula.{Formula, Logic, Ctl, Ltl}
 use Rattle.ml_ctl.specs.Signs.{Sign, Const, Close, Tensed, Quantifies}
 use Rattle.ml_ctl.specs.Grammar as grammar
 use Rattle.ml_ctl.specs.Grammar.{IsReadAs, Sort, State, Path}

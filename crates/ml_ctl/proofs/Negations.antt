@@ -157,3 +157,6 @@ some_are_not_all m f s decided = (
       ⊎_elim (λ (t : HoldsOnSome m f s). t)
       (λ (none : HoldsOnSome m f s → ⊥). absurd (not_all (λ path from t. none (path, from, t)))) decided),
 )
+
+-- the laws of the temporal operators, for the function that states them
+pub ruleset negations = (negations_of_next, negations_of_until, negations_of_release, negations_of_weak, negations_of_finally, negations_of_globally)

@@ -7,10 +7,9 @@ use Rattle.ml_lists.proofs.Walks.{walk_keeps}
 use Rattle.ml_text.specs.declared.token.Operator.TheVariants as operator
 use Rattle.ml_base.specs.Structure.{lists}
 use Rattle.ml_ctl.specs.Formula as plain
-use Rattle.ml_ctl.specs.Formula.{Formula}
 use Rattle.ml_ctl.specs.Laws.{FollowsThePath, PassSame}
 use Rattle.ml_ctl.specs.Meaning as meaning
-use Rattle.ml_ctl.specs.Meaning.{Nowhere, Everywhere, TruthAt, quantified, truth_of}
+use Rattle.ml_ctl.specs.Meaning.{Nowhere, Everywhere, TruthAt, quantified}
 use Rattle.ml_ctl.specs.Paths.{IsPlace, places, after}
 use Rattle.ml_ctl.proofs.Iterated.{Meets, Met, until_exactly, release_exactly}
 use Rattle.ml_ctl.proofs.PlaceWalks.{walk-sum}

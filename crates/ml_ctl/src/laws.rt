@@ -65,7 +65,7 @@ pub fn state_formulas_look_at_the_state()
 {}
 
 /// Each temporal operator has a dual, where truth is decided.
-#[tactic(auto, using(crate::proofs::Negations::negations_of_next, crate::proofs::Negations::negations_of_until, crate::proofs::Negations::negations_of_release, crate::proofs::Negations::negations_of_weak, crate::proofs::Negations::negations_of_finally, crate::proofs::Negations::negations_of_globally))]
+#[tactic(auto, using(crate::proofs::Negations::negations))]
 pub fn temporal_operators_have_duals()
     ensures next { NegationsOfNext }
     ensures until { NegationsOfUntil }

@@ -24,10 +24,12 @@ use Rattle.ml_ctl.specs.Spelling.{HasShortNames, is_reserved, is_spelled}
 use Rattle.ml_text.specs.Bytes.{is_lower}
 use Rattle.ml_text.specs.Words.{is_word_from}
 use Rattle.ml_blocks.specs.BlockGraph.{HasForm, IsGraphAt, IsNumberedBy, IsReached, at_root, behind, children}
-use Rattle.ml_blocks.specs.Items.{Item, Row, OfState, Waits, Becomes, Either, now, put_off, row, row_at, row_of_connective, row_of_pairing, row_of_tense, unless_put_off, until_released, left_number, behind_next, operand_of}
+use Rattle.ml_blocks.specs.Items.{Item, Row, OfState, Waits, Becomes, Either, now, put_off, row, row_at, row_of_connective, row_of_pairing}
+use Rattle.ml_blocks.specs.Items.{row_of_tense, unless_put_off, until_released, left_number, behind_next, operand_of}
 use Rattle.ml_blocks.specs.ItemSets.{due, eventualities, next_items, next_of, put_all, without}
 use Rattle.ml_blocks.specs.Places as place
-use Rattle.ml_blocks.specs.Places.{Block, Place, Form, block_of, edge_priority, first_open, focus_behind, form_of, form_of_block, form_of_edge, form_of_formula, form_of_item, is_put_off, path_of, priority_of, priority_of_block}
+use Rattle.ml_blocks.specs.Places.{Block, Place, Form, block_of, edge_priority, first_open, focus_behind, form_of, form_of_block}
+use Rattle.ml_blocks.specs.Places.{form_of_edge, form_of_formula, form_of_item, is_put_off, path_of, priority_of, priority_of_block}
 use Rattle.ml_blocks.proofs.EdgesGoOn.{diamond_action}
 use Rattle.ml_blocks.proofs.ItemSetMembers.{next_items-member, put_all-member, without-member}
 use Rattle.ml_blocks.proofs.LocalRuns.{some_open}

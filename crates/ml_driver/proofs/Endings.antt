@@ -17,7 +17,8 @@ use Rattle.ml_driver.specs.declared.status.Status.{Status}
 use Rattle.ml_driver.specs.declared.status.Status.TheVariants.{Yes, No, Undecided, Words, Text, ReadFault, WriteFault, NoMemory}
 use Rattle.ml_driver.specs.Bench.{answer_of, status_of}
 use Rattle.ml_driver.specs.Statuses.{code_of, longest_document, longest_input, longest_text, refused_length}
-use Rattle.ml_driver.specs.Run.{as_document, document_by_length, input_limit, GaveUpTo, IsCalm, IsDue, IsTooLong, LackedMemory, World, WasGiven, WasRead, IsWhole, Answered, FailedToWrite, Ended, Wrote}
+use Rattle.ml_driver.specs.Run.{as_document, document_by_length, input_limit, GaveUpTo, IsCalm, IsDue, IsTooLong, LackedMemory}
+use Rattle.ml_driver.specs.Run.{World, WasGiven, WasRead, IsWhole, Answered, FailedToWrite, Ended, Wrote}
 
 -- the status of an answer is none of the later ones
 calm_status : (a : Answer) (s : Status) → s ≡ status_of a → code_of s ≤ 2
@@ -111,7 +112,10 @@ ended_written c w text due output status read calm is_due whole_output wrote =
 pub ended_with : (c d : Option Command) (w : World) (status : Status) → d ≡ c → Ended c w status → Ended d w status
 ended_with c d w status same ended = subst (λ k. Ended k w status) (sym same) ended
 
-past_limit : (longest k : ℕ) (text : List ℕ) → Some longest ≡ Some k → k < length text → IsTooLong longest text refused_length
+past_limit : (longest k : ℕ) (text : List ℕ)
+    → Some longest ≡ Some k
+    → k < length text
+    → IsTooLong longest text refused_length
 past_limit longest k text is long = let same : longest ≡ k = cc in (omega (arith, same, long), refl)
 
 -- an input past the limit of its command is refused by its length

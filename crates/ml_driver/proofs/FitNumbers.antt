@@ -3,7 +3,8 @@
 --   value_small   == no value that is read passes the greatest limit
 --   limit_small   == so no limit does
 --   command_fits  == so the limit of a command that words are fits 32 bits, and its number is of its family's range
-use Rattle.std.proofs.Common.{◌≡◌, ◌&&◌, ℕ, ◌+◌, ◌-◌, ◌*◌, ◌<◌, ◌≤◌, ◌^◌, Bool, true, false, if◌then◌else◌, nat_le, bytes_eq, codes, List, [], ◌∷◌, length, Option, Some, None, option_and_then, refl, arith}
+use Rattle.std.proofs.Common.{◌≡◌, ◌&&◌, ℕ, ◌+◌, ◌-◌, ◌*◌, ◌<◌, ◌≤◌, ◌^◌, Bool, true, false, if◌then◌else◌, nat_le, bytes_eq}
+use Rattle.std.proofs.Common.{codes, List, [], ◌∷◌, length, Option, Some, None, option_and_then, refl, arith}
 use Rattle.std.specs.Cmp.{second_so}
 use Rattle.std.proofs.lemmas.Bool.{leb-true}
 use Rattle.clap.specs.Words.{Kinds}
@@ -16,7 +17,8 @@ use Rattle.ml_driver.specs.declared.command.Command.{Command}
 use Rattle.ml_driver.specs.declared.command.Command.TheVariants.{Decide, Valid, CheckModel, CheckRefutation, Migrate, Gen, Bench}
 use Rattle.ml_driver.specs.declared.command.TheConstants.{GREATEST_LIMIT, LONGEST_NUMBER}
 use Rattle.ml_driver.specs.Laws.{HasFitNumbers}
-use Rattle.ml_driver.specs.Words.{at_least_one, bare_by, command_of, count_named, counted_by, decided_by, digit_on, faults_of, if_faultless, if_in_range, is_digit, limit_named, number_named, parts_in, row, row_of, rows_in, value_from}
+use Rattle.ml_driver.specs.Words.{at_least_one, bare_by, command_of, count_named, counted_by, decided_by, digit_on, faults_of, if_faultless}
+use Rattle.ml_driver.specs.Words.{if_in_range, is_digit, limit_named, number_named, parts_in, row, row_of, rows_in, value_from}
 
 -- what a test lets through
 passed : (t : Bool) (x n : ℕ) → (if t then Some x else None) ≡ Some n → (t ≡ true) × (x ≡ n)

@@ -14,7 +14,8 @@ use Rattle.ml_history.specs.History.{start}
 use Rattle.ml_history.specs.HistoryStep.{step_mark}
 use Rattle.ml_trace.specs.Marks.{priority}
 use Rattle.ml_product.specs.Position.{Position, Follows, neutral, start_of, with_chosen}
-use Rattle.ml_product.specs.DecisionGame.{AreMoves, AreSteps, Clashing, HasMoreThan, IsReached, IsResolved, IsVerdictOf, Leading, Open, Settled, Target, To, Turn, Verdict, at_start, by_move, diamonds_of}
+use Rattle.ml_product.specs.DecisionGame.{AreMoves, AreSteps, Clashing, HasMoreThan, IsReached, IsResolved, IsVerdictOf, Leading}
+use Rattle.ml_product.specs.DecisionGame.{Open, Settled, Target, To, Turn, Verdict, at_start, by_move, diamonds_of}
 use Rattle.ml_sequent.specs.LocalWalk.{InSpread, LocalWalk, children, children_of, goes, stays}
 use Rattle.ml_sequent.specs.Spread.{IsCause, IsOpenOr, IsPair, IsSpreadOf, OnCycle, SpreadList, is_diamond}
 use Rattle.ml_sequent.specs.Step.{IsStep, IsTarget, IsTrace, LeadsOut}

@@ -42,7 +42,10 @@ module _ (p : Problem) (well : IsWellFormed p.formula) (fits : ¬ (HasLargeClosu
   few_priorities : (k : ℕ) → IsMember k g.priorities → Fits k
   few_priorities = by_held (held_graph p.formula p.negated well)
     where
-      by_held : HeldGraph p.formula p.negated ⊎ HasLargeClosure p MOST_NODES → (k : ℕ) → IsMember k g.priorities → Fits k
+      by_held : HeldGraph p.formula p.negated ⊎ HasLargeClosure p MOST_NODES
+          → (k : ℕ)
+          → IsMember k g.priorities
+          → Fits k
       by_held (inl h) =
           let alike = graphs_alike p h.graph g h.is_graph is_graph in
           subst (λ ks. (k : ℕ) → IsMember k ks → Fits k) (same_priorities h.graph g alike) h.is_held.priorities

@@ -1,6 +1,5 @@
 // Deciding the formula of a text, or its negation.
 ghost use Rattle.std.specs.Prelude.{◌≡◌, ◌≤◌, length, IfOk};
-ghost use Rattle.ml_front.specs.Logics.{IsParsedAs};
 ghost use Rattle.ml_driver.specs.Decision.{IsAnswered, IsProblem};
 ghost use Rattle.ml_driver.specs.Statuses.{longest_text};
 ghost use Rattle.ml_driver.specs.private.Decisions.{status_in};

@@ -9,7 +9,8 @@
 --   some_parts     == their labels and edges
 --   some_structure == a structure that is built of these
 --   some_model     == the theorem
-use Rattle.std.proofs.Common.{◌≡◌, ◌↔◌, ℕ, zero, suc, ◌+◌, ◌<◌, ◌≤◌, nat_eq, List, [], ◌∷◌, ◌++◌, length, get_or, map, slice_get, Option, Some, None, Contains, Ordering, ⊎_elim, refl, sym, ap, ◌∙◌, subst, arith, length-append}
+use Rattle.std.proofs.Common.{◌≡◌, ◌↔◌, ℕ, zero, suc, ◌+◌, ◌<◌, ◌≤◌, nat_eq, List, [], ◌∷◌, ◌++◌, length, get_or, map, slice_get, Option}
+use Rattle.std.proofs.Common.{Some, None, Contains, Ordering, ⊎_elim, refl, sym, ap, ◌∙◌, subst, arith, length-append}
 use Rattle.std.specs.List.{range_with_len}
 use Rattle.std.specs.Ordering.{nat_cmp, ordering_then}
 use Rattle.std.specs.Cmp.{IsTotalOrder}
@@ -197,7 +198,8 @@ some_structure : (n : ℕ) (labels : List (ℕ × List ℕ)) (edges : List Edge)
 some_structure n labels edges some none =
     of_sorted (sorted label_cmp label_order labels_exact labels) (sorted edge_cmp edge_order edges_exact edges)
   where
-    same : {K : Type 0} (R : K → K → Ordering) (xs : List K) (s : Sorted R xs) (x : K) → Contains s.list x ↔ Contains xs x
+    same : {K : Type 0} (R : K → K → Ordering) (xs : List K) (s : Sorted R xs) (x : K)
+        → Contains s.list x ↔ Contains xs x
     same R xs s x = (
       (λ h. contains_of_member x xs (s.inside x (member_of_contains x s.list h))),
       (λ h. contains_of_member x s.list (s.all x (member_of_contains x xs h))),

@@ -22,7 +22,7 @@ use Rattle.ml_sequent.specs.LocalWalk.{LocalWalk, stays, goes, InSpread, childre
 use Rattle.ml_sequent.specs.Spread.{SpreadList, IsSpreadOf, IsOpenOr}
 use Rattle.ml_product.specs.Position.{start_of}
 use Rattle.ml_product.specs.Arena.{Arena}
-use Rattle.ml_extract.specs.Model.{SpreadAt, Chooses, ends, State, AreStates, IsLabel, IsModelEdge, IsModelOf}
+use Rattle.ml_extract.specs.Model.{Chooses, ends, State, AreStates, IsLabel, IsModelEdge, IsModelOf}
 
 abbrev graph : Graph
 graph = record { nodes = node.Diamond 0 0 ∷ []; priorities = 0 ∷ []; root = 0; props = []; actions = (95 ∷ []) ∷ [] }

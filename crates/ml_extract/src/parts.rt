@@ -1,10 +1,9 @@
 // The labels and the edges of the states.
-ghost use Rattle.std.specs.Prelude.{◌≡◌, ◌<◌, ◌≤◌, ◌^◌, ◌+◌, ◌++◌, true, [], length, map, get_or, All, IfOk, OnOk};
+ghost use Rattle.std.specs.Prelude.{◌≡◌, ◌<◌, ◌^◌, ◌+◌, ◌++◌, true, length, map, get_or, All, IfOk, OnOk};
 ghost use Rattle.std.specs.List.{zip};
 ghost use Rattle.ml_lists.specs.Member.{IsMember};
 ghost use Rattle.ml_graph.specs.Graph.{size, node_at};
 ghost use Rattle.ml_sequent.specs.Spread.{IsSpread, is_diamond};
-ghost use Rattle.ml_extract.specs.Extraction.{EvenWins};
 ghost use Rattle.ml_extract.specs.private.Gathered as gathered;
 ghost use Rattle.ml_extract.specs.private.Numbered.{AreNumbered};
 

@@ -1,9 +1,7 @@
 // The states of the model, numbered breadth first.
-ghost use Rattle.std.specs.Prelude.{◌≡◌, ◌<◌, ◌≤◌, ◌+◌, ℕ, length, map, slice_get, nat_eq, IfOk, OnOk};
+ghost use Rattle.std.specs.Prelude.{◌≡◌, ◌<◌, ◌+◌, length, slice_get, nat_eq, IfOk, OnOk};
 ghost use Rattle.indexmap.specs.IndexSet.{insert_all};
-ghost use Rattle.ml_lists.specs.Member.{IsMember};
 ghost use Rattle.ml_extract.specs.Extraction.{EvenWins};
-ghost use Rattle.ml_extract.specs.private.WonPositions.{IsWon, AreBehind};
 ghost use Rattle.ml_extract.specs.private.Numbered.{IsUnderWay, AreNumbered};
 
 use crate::won_game::WonGame;

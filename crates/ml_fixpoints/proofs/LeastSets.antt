@@ -12,24 +12,24 @@
 --   standing           == each vertex is one or the other
 --   contains_made, within_closed  == the two halves
 --   binder_is_least    == both
-use Rattle.std.proofs.Common.{ℕ, ◌≡◌, ◌≢◌, ◌+◌, ◌-◌, ◌<◌, ◌≤◌, ◌↔◌, ◌⊎◌, Bool, true, false, inl, inr, ⊎_elim, if◌then◌else◌, List, [], ◌∷◌, length, get_or, Contains, arith, subst, subst₂, sym, ap, ◌∙◌, refl}
+use Rattle.std.proofs.Common.{ℕ, ◌≡◌, ◌≢◌, ◌+◌, ◌<◌, ◌↔◌, ◌⊎◌, Bool, true, false, inl, inr, ⊎_elim, if◌then◌else◌, List, [], ◌∷◌, length, get_or, Contains, arith, subst, sym, ap, ◌∙◌, refl}
 use Rattle.std.proofs.lemmas.Bool.{cases_eq, cases_Bool, false≢true}
-use Rattle.ml_lists.specs.Lasso.{Lasso, IsLassoOf, entry, round, lowest_on_loop}
+use Rattle.ml_lists.specs.Lasso.{Lasso, entry, round}
 use Rattle.ml_lists.specs.Search.{Found}
 use Rattle.ml_lists.proofs.Search.{search}
 use Rattle.ml_lists.proofs.Lasso.{round-entry, on_loop, loop_length, loop_closed, lasso_of, lasso_of-length, lasso_of-entry, lasso_of-round, lasso_of_is, lowest_on_loop_place, lowest_on_loop_le}
 use Rattle.ml_lists.proofs.Walks.{WalkLasso, walk_lasso}
 use Rattle.ml_parity.specs.declared.players.Player.{Player}
 use Rattle.ml_parity.specs.Player.{opponent, side}
-use Rattle.ml_parity.specs.Game.{ParityGame, IsGame, HasMove, owner_of, priority_of, moves_of, size}
+use Rattle.ml_parity.specs.Game.{ParityGame, HasMove, owner_of, priority_of, size}
 use Rattle.ml_parity.specs.Winner.{IsPlay, Follows, winner, Wins}
 use Rattle.ml_parity.proofs.Boards.{first_move, winner_is}
 use Rattle.ml_parity.proofs.Carried.{IsCarried, IsRegion, straight, carried}
-use Rattle.ml_parity.proofs.OneStep.{WinningMove, own_vertex_won, other_vertex_won}
+use Rattle.ml_parity.proofs.OneStep.{own_vertex_won, other_vertex_won}
 use Rattle.ml_parity.proofs.Opponents.{cases_player, opponent-opponent, no_own_opponent}
 use Rattle.ml_parity.proofs.SingleMoves.{single_move, sink_won}
-use Rattle.ml_parity.proofs.Winners.{Winners, winners, won, won_by_either, clash, together, together-own, together-other}
-use Rattle.ml_fixpoints.specs.Binders.{IsSinkOf, Binder, verdict, HasVerdicts, MakesWithin, IsLeast, BinderIsLeast}
+use Rattle.ml_parity.proofs.Winners.{Winners, winners, won, together, together-own, together-other}
+use Rattle.ml_fixpoints.specs.Binders.{IsSinkOf, Binder, HasVerdicts, MakesWithin, IsLeast, BinderIsLeast}
 
 abbrev AtNone : (ℕ → ℕ) → ℕ → ℕ → Type 0
 AtNone at n v = (s : ℕ) → s < n → at s ≢ v
@@ -63,8 +63,10 @@ module _ (g : ParityGame) (p : Player) (R : ℕ → Type 0) (n : ℕ) (at body :
   from_body : (s : ℕ) → s < n → Wins g p (body s) → Wins g p (at s)
   from_body s small wins =
       ⊎_elim
-      (λ (own : owner_of g (at s) ≡ p). (own_vertex_won g b.is_game p (at s) (low s small) own).1 (record { to = body s; move = to_body s small; wins = wins }))
-      (λ (own : owner_of g (at s) ≡ opponent p). (other_vertex_won g b.is_game p (at s) (low s small) own).1 (λ w move. subst (Wins g p) (sym (b.leads s small w move)) wins))
+      (λ (own : owner_of g (at s) ≡ p). (own_vertex_won g b.is_game p (at s) (low s small) own).1
+      (record { to = body s; move = to_body s small; wins = wins }))
+      (λ (own : owner_of g (at s) ≡ opponent p). (other_vertex_won g b.is_game p (at s) (low s small) own).1
+      (λ w move. subst (Wins g p) (sym (b.leads s small w move)) wins))
       (cases_player (owner_of g (at s)) p)
 
   module _ (h : ParityGame) (U : ℕ → Bool) (v : HasVerdicts g h R n at ours theirs U) where
@@ -87,13 +89,18 @@ module _ (g : ParityGame) (p : Player) (R : ℕ → Type 0) (n : ℕ) (at body :
     told_lost : (s : ℕ) → s < n → U s ≡ false → Wins h p (at s) → ⊥
     told_lost s small is wins =
         let one = v.told s small ∙ ap (λ w. w ∷ []) (told_no (U s) ours theirs is) in
-        no_own_opponent p ((sink_is (opponent p) theirs b.theirs_is p).0 ((single_move h v.is_game p (at s) theirs (low_h (at s) (b.inside s small)) one).0 wins))
+        no_own_opponent p
+        ((sink_is (opponent p) theirs b.theirs_is p).0
+        ((single_move h v.is_game p (at s) theirs (low_h (at s) (b.inside s small)) one).0 wins))
 
     -- ---- it contains what it makes
 
     pub contains_made : ((s : ℕ) → s < n → (U s ≡ true) ↔ Wins g p (at s)) → MakesWithin h p n body U
     contains_made is s small wins =
-        (is s small).1 (from_body s small (carried h g v.is_game b.is_game (λ x. x) (λ q. q) 0 straight R region p better (body s) (body_inside s small) wins))
+        (is s small).1
+        (from_body s small
+        (carried h g v.is_game b.is_game (λ x. x) (λ q. q) 0 straight R region p better (body s)
+        (body_inside s small) wins))
       where
         region : IsRegion h g (λ x. x) R
         region = record { low = low_h; image_low = b.below }
@@ -142,7 +149,8 @@ module _ (g : ParityGame) (p : Player) (R : ℕ → Type 0) (n : ℕ) (at body :
         (λ (e : w.win (body s) ≡ opponent p). e)
         (cases_player (w.win (body s)) p)
 
-    module _ (closed : MakesWithin h p n body U) (w : Winners h) (sigma : ℕ → ℕ) (moves : (x : ℕ) → R x → owner_of g x ≡ p → HasMove g x (sigma x)) where
+    module _ (closed : MakesWithin h p n body U) (w : Winners h) (sigma : ℕ → ℕ)
+        (moves : (x : ℕ) → R x → owner_of g x ≡ p → HasMove g x (sigma x)) where
       -- both together, and from a binder's vertex to the body
       abbrev next_by : (x : ℕ) → Standing at n x → ℕ
       next_by x (inl f) = body f.place
@@ -187,7 +195,8 @@ module _ (g : ParityGame) (p : Player) (R : ℕ → Type 0) (n : ℕ) (at body :
       keeps : (x : ℕ) → Theirs w x → Theirs w (next x)
       keeps x mine = (b.closed x _ mine.0 (move_by x (standing at n x) mine.0), win_by x (standing at n x) mine.0 mine.1)
 
-      module _ (first : ℕ) (starts : Theirs w first) (wins : (l : Lasso) → IsPlay g l → entry l 0 ≡ first → Follows g p sigma l → winner g l ≡ p) where
+      module _ (first : ℕ) (starts : Theirs w first)
+          (wins : (l : Lasso) → IsPlay g l → entry l 0 ≡ first → Follows g p sigma l → winner g l ≡ p) where
         made : WalkLasso next (Theirs w) first
         made = walk_lasso next (Theirs w) (size g) (λ x mine. b.below x mine.0) keeps first starts
 
@@ -209,18 +218,25 @@ module _ (g : ParityGame) (p : Player) (R : ℕ → Type 0) (n : ℕ) (at body :
         here : (m : WalkLasso next (Theirs w) first) (k : ℕ) → k < loop_length m.lasso → Theirs w (on_loop m.lasso k)
         here m k small = m.inside (m.lasso.start + k) (omega arith)
 
-        step : (m : WalkLasso next (Theirs w) first) (k : ℕ) → k < loop_length m.lasso → on_loop m.lasso (k + 1) ≡ next (on_loop m.lasso k)
+        step : (m : WalkLasso next (Theirs w) first) (k : ℕ)
+            → k < loop_length m.lasso
+            → on_loop m.lasso (k + 1) ≡ next (on_loop m.lasso k)
         step m k small =
             let e : m.lasso.start + (k + 1) ≡ (m.lasso.start + k) + 1 = omega arith in
             ap (λ j. get_or (round m.lasso) j 0) e ∙ m.steps (m.lasso.start + k) (omega arith)
 
         -- a loop that meets a binder's vertex is lost by the player
-        meets : (m : WalkLasso next (Theirs w) first) → Found (λ k. Found (λ s. at s ≡ on_loop m.lasso k) n) (loop_length m.lasso) → ⊥
+        meets : (m : WalkLasso next (Theirs w) first)
+            → Found (λ k. Found (λ s. at s ≡ on_loop m.lasso k) n) (loop_length m.lasso)
+            → ⊥
         meets m f =
             let k : ℕ = m.lasso.start + f.place in
             let within : k < length m.lasso.entries = omega (arith, f.below) in
             let found = f.holds in
-            no_own_opponent p (sym (won_by_p m) ∙ b.recurs m.lasso (both_play m) k (omega arith) within found.place found.below (sym (round-entry m.lasso k within) ∙ sym found.holds))
+            no_own_opponent p
+            (sym (won_by_p m)
+            ∙ b.recurs m.lasso (both_play m) k (omega arith) within found.place found.below
+            (sym (round-entry m.lasso k within) ∙ sym found.holds))
 
         -- and one that meets none is a play of the game with verdicts, which the opponent wins
         module _ (m : WalkLasso next (Theirs w) first) (none : (k : ℕ) → k < loop_length m.lasso → AtNone at n (on_loop m.lasso k)) where
@@ -239,7 +255,9 @@ module _ (g : ParityGame) (p : Player) (R : ℕ → Type 0) (n : ℕ) (at body :
           closes : c 0 ≡ c long
           closes = sym (loop_closed m.lasso m.starts)
 
-          free : (k : ℕ) → k < long → HasMove h (c k) (c (k + 1)) × (owner_of h (c k) ≡ opponent p → c (k + 1) ≡ w.choice (c k))
+          free : (k : ℕ)
+              → k < long
+              → HasMove h (c k) (c (k + 1)) × (owner_of h (c k) ≡ opponent p → c (k + 1) ≡ w.choice (c k))
           free k small =
               let d = free_by (c k) (standing at n (c k)) (here m k small).0 (none k small) in
               (subst (HasMove h (c k)) (sym (step m k small)) d.0, λ own. step m k small ∙ d.1 own)
@@ -257,7 +275,8 @@ module _ (g : ParityGame) (p : Player) (R : ℕ → Type 0) (n : ℕ) (at body :
           loop_lost : winner h loop ≡ opponent p
           loop_lost =
               let zeroth = here m 0 some in
-              (subst (λ q. (l : Lasso) → IsPlay h l → entry l 0 ≡ c 0 → Follows h q w.choice l → winner h l ≡ q) zeroth.1 (w.wins (c 0) (low_h (c 0) zeroth.0)))
+              (subst (λ q. (l : Lasso) → IsPlay h l → entry l 0 ≡ c 0 → Follows h q w.choice l → winner h l ≡ q)
+              zeroth.1 (w.wins (c 0) (low_h (c 0) zeroth.0)))
               loop loop_play (lasso_of-entry c 0 long 0 some) loop_follows
 
           same_at : (k : ℕ) → k < long → priority_of h (entry loop k) ≡ priority_of g (c k)
@@ -270,7 +289,11 @@ module _ (g : ParityGame) (p : Player) (R : ℕ → Type 0) (n : ℕ) (at body :
               winner_is g m.lasso (opponent p) m.starts (record {
                 place = lowest.place;
                 below = small;
-                least = λ j below. let other = lowest_on_loop_le (priority_of h) loop j (omega arith) (omega (arith, below, lasso_of-length c 0 long)) in
+                least =
+                    λ j below. let other =
+                    lowest_on_loop_le (priority_of h) loop j (omega arith)
+                    (omega (arith, below, lasso_of-length c 0 long))
+                    in
                     omega (arith, other, lowest.holds, same_at lowest.place small, same_at j below);
                 right = ap side (sym (same_at lowest.place small) ∙ lowest.holds) ∙ loop_lost;
               })
@@ -279,8 +302,10 @@ module _ (g : ParityGame) (p : Player) (R : ℕ → Type 0) (n : ℕ) (at body :
         never =
             ⊎_elim
             (λ (f : Found (λ k. Found (λ s. at s ≡ on_loop made.lasso k) n) (loop_length made.lasso)). meets made f)
-            (λ (none : (k : ℕ) → k < loop_length made.lasso → AtNone at n (on_loop made.lasso k)). no_own_opponent p (sym (won_by_p made) ∙ lost made none))
-            (search (λ k. Found (λ s. at s ≡ on_loop made.lasso k) n) (λ k. AtNone at n (on_loop made.lasso k)) (λ k. standing at n (on_loop made.lasso k)) (loop_length made.lasso))
+            (λ (none : (k : ℕ) → k < loop_length made.lasso → AtNone at n (on_loop made.lasso k)).
+            no_own_opponent p (sym (won_by_p made) ∙ lost made none))
+            (search (λ k. Found (λ s. at s ≡ on_loop made.lasso k) n) (λ k. AtNone at n (on_loop made.lasso k))
+            (λ k. standing at n (on_loop made.lasso k)) (loop_length made.lasso))
 
     pub within_closed : MakesWithin h p n body U → (s : ℕ) → s < n → Wins g p (at s) → U s ≡ true
     within_closed closed s small a =

@@ -17,7 +17,7 @@
 --   MakesWithin h p n body U == the set that U makes, by the game h with its verdicts, lies within U
 --   BinderIsLeast       == the set of the states at which p wins contains what it makes, and each set does that contains
 --                          what it makes contains it
-use Rattle.std.specs.Prelude.{ℕ, ◌≡◌, ◌≢◌, ◌<◌, ◌≤◌, ◌↔◌, Bool, true, if◌then◌else◌, List, [], ◌∷◌, length}
+use Rattle.std.specs.Prelude.{ℕ, ◌≡◌, ◌≢◌, ◌<◌, ◌≤◌, ◌↔◌, Bool, true, if◌then◌else◌, [], ◌∷◌, length}
 use Rattle.ml_lists.specs.Lasso.{Lasso, entry}
 use Rattle.ml_parity.specs.declared.players.Player.{Player}
 use Rattle.ml_parity.specs.Player.{opponent, side}

@@ -220,7 +220,11 @@ three_occurrences P i a b c d e f =
     (ended P (i + 2) (i + 2 + 1) (i + 3) (omega arith) (one_occurrence P (i + 2) e f)))
 
 -- the two nodes of an occurrence, and those of what stands behind it
-pub one_part : (P : ℕ → Type 0) (i a : ℕ) → P (2 * i) → P (2 * i + 1) → Range P (i + 1) (i + 1 + a) → Range P i (i + (1 + a))
+pub one_part : (P : ℕ → Type 0) (i a : ℕ)
+    → P (2 * i)
+    → P (2 * i + 1)
+    → Range P (i + 1) (i + 1 + a)
+    → Range P i (i + (1 + a))
 one_part P i a plus minus part =
     ended P i (i + 1 + a) (i + (1 + a)) (omega arith) (joined P i (i + 1) (i + 1 + a) (one_occurrence P i plus minus) part)
 
@@ -248,7 +252,11 @@ module _ (g h : Graph) where
   }
 
   -- a node without a name
-  pub same_plain : (n : ℕ) (v : Node) (p : ℕ) → name_in g v ≡ name_in h v → Stands g n v p → Stands h n v p → SameNode g h n
+  pub same_plain : (n : ℕ) (v : Node) (p : ℕ)
+      → name_in g v ≡ name_in h v
+      → Stands g n v p
+      → Stands h n v p
+      → SameNode g h n
   same_plain n v p names here there = same_two n v v p here there refl names
 
   pub same_and : (n l r p : ℕ) → Stands g n (node.And l r) p → Stands h n (node.And l r) p → SameNode g h n

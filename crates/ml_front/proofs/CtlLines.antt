@@ -42,7 +42,11 @@ quantifier_in_line : (q : Quantifier) → IsInLine (quantifier_letter q ∷ code
 quantifier_in_line Exists = refl
 quantifier_in_line Forall = refl
 
-between_in_line : (left sign right : List ℕ) → IsInLine left → IsInLine sign → IsInLine right → IsInLine (between left sign right)
+between_in_line : (left sign right : List ℕ)
+    → IsInLine left
+    → IsInLine sign
+    → IsInLine right
+    → IsInLine (between left sign right)
 between_in_line left sign right l s r =
     seven_in_line (codes "(") left (codes " ") sign (codes " ") right (codes ")") refl l refl s refl r refl
 

@@ -107,7 +107,10 @@ graph_small n g negated (Pdl f) room well is closed = omega (arith, room, well.i
 graph_small n g negated (Ctl f) room well is closed = closure.size_at_most (start_of f negated) g n is closed
 graph_small n g negated (Ltl f) room well is closed = closure.size_at_most (linear_start_of f negated) g n is closed
 
-alike_as : (g h : Graph) (negated : Bool) (f : AnyFormula) → IsGraphAs g negated f → IsGraphAs h negated f → AreAlike g h
+alike_as : (g h : Graph) (negated : Bool) (f : AnyFormula)
+    → IsGraphAs g negated f
+    → IsGraphAs h negated f
+    → AreAlike g h
 alike_as g h negated (Mu f) x y = mu_alike.alike g h f negated x y
 alike_as g h negated (Pdl f) x y = pdl_alike.alike g h f negated x y
 alike_as g h negated (Ctl f) x y = blocks_alike.alike g h (start_of f negated) x y

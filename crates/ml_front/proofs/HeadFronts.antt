@@ -128,7 +128,8 @@ module _ (a : Answer) (text : List ℕ) where
           whole_head f rest last = go (words_of last.given) refl
             where
               lines : lines_of text
-                  ≡ title_line v ∷ answer_line a ∷ logic_line (logic_of f) ∷ sense_line negated ∷ (codes "formula" ∷ words_of last.given) ∷ lines_of rest
+                  ≡ title_line v ∷ answer_line a ∷ logic_line (logic_of f) ∷ sense_line negated
+                  ∷ (codes "formula" ∷ words_of last.given) ∷ lines_of rest
               lines =
                   first.lines_are ∙ ap (λ ls. title_line v ∷ ls) (second.lines_are ∙ ap (λ ls. answer_line a ∷ ls)
                   (third.lines_are ∙ ap (λ k. logic_line k ∷ lines_of r3) (sym last.of_logic)
@@ -148,7 +149,11 @@ module _ (a : Answer) (text : List ℕ) where
                     f = f;
                     more = lines_of rest;
                     lines_are =
-                        lines ∙ ap (λ vs. title_line v ∷ answer_line a ∷ logic_line (logic_of f) ∷ sense_line negated ∷ (codes "formula" ∷ vs) ∷ lines_of rest) is;
+                        lines
+                        ∙ ap
+                        (λ vs. title_line v ∷ answer_line a ∷ logic_line (logic_of f) ∷ sense_line negated
+                        ∷ (codes "formula" ∷ vs) ∷ lines_of rest)
+                        is;
                     is_parsed =
                         subst (λ t. IsParsedAs t f) (sym (join_with_byte-slice_split 32 last.given) ∙ ap (join_with_byte 32) is) last.is_parsed;
                   } in

@@ -9,7 +9,8 @@ use Rattle.ml_mu.specs.Formula.{Formula, Const, Prop, Var, Not, Binary, Modal, B
 use Rattle.ml_nodes.specs.Nodes.{IsNode, constant, negative, positive}
 use Rattle.ml_mu_graph.specs.MuGraph.{Around, IsGraphOf, IsLiteral, IsModality, StandsAt, binder_of, binder_priority, binders, dual, opposite}
 use Rattle.ml_text.specs.declared.token.Operator.TheVariants as operator
-use Rattle.ml_front.proofs.AlikeGraphs.{AreAlike, Range, SameNode, alike_of, one_occurrence, one_part, same_and, same_box, same_diamond, same_literal, same_or, same_plain, three_occurrences, two_parts}
+use Rattle.ml_front.proofs.AlikeGraphs.{AreAlike, Range, SameNode, alike_of, one_occurrence, one_part, same_and, same_box}
+use Rattle.ml_front.proofs.AlikeGraphs.{same_diamond, same_literal, same_or, same_plain, three_occurrences, two_parts}
 
 module _ (g h : Graph) where
   abbrev P : ℕ → Type 0
@@ -22,7 +23,10 @@ module _ (g h : Graph) where
   literals : (n : ℕ) (name : List ℕ) (s : Bool) (p : ℕ) → IsLiteral g n name s p → IsLiteral h n name s p → P n
   literals n name s p x y = same_literal g h n x.0 y.0 s p name x.1 y.1 x.2 y.2
 
-  modalities : (n : ℕ) (m : Modality) (name : List ℕ) (t p : ℕ) → IsModality g n m name t p → IsModality h n m name t p → P n
+  modalities : (n : ℕ) (m : Modality) (name : List ℕ) (t p : ℕ)
+      → IsModality g n m name t p
+      → IsModality h n m name t p
+      → P n
   modalities n Diamond name t p x y = same_diamond g h n x.0 y.0 t p name x.1 y.1 x.2 y.2
   modalities n Square name t p x y = same_box g h n x.0 y.0 t p name x.1 y.1 x.2 y.2
 

@@ -29,7 +29,9 @@ use Rattle.ml_front.proofs.ReadableHeads.{head_readable, readable_head}
 is_title : (line : Line) → Decided ((v : Version) × (line ≡ title_line v))
 is_title line = go (decided_line line (title_line One)) (decided_line line (title_line Two))
   where
-    go : Decided (line ≡ title_line One) → Decided (line ≡ title_line Two) → Decided ((v : Version) × (line ≡ title_line v))
+    go : Decided (line ≡ title_line One)
+        → Decided (line ≡ title_line Two)
+        → Decided ((v : Version) × (line ≡ title_line v))
     go (inl is) t = inl (One, is)
     go (inr n) (inl is) = inl (Two, is)
     go (inr n) (inr m) = inr none

@@ -9,7 +9,8 @@ use Rattle.ml_pdl.specs.Formula.{Formula, Const, Prop, Not, Binary, Modal, Repea
 use Rattle.ml_nodes.specs.Nodes.{IsNode, constant, negative, positive}
 use Rattle.ml_pdl_graph.specs.PdlGraph.{IsGraphOf, IsLiteral, ProgramStandsAt, StandsAt, box, diamond, plain}
 use Rattle.ml_text.specs.declared.token.Operator.TheVariants as operator
-use Rattle.ml_front.proofs.AlikeGraphs.{AreAlike, Range, SameNode, alike_of, one_occurrence, one_part, same_and, same_box, same_diamond, same_literal, same_or, same_plain, three_occurrences, two_parts}
+use Rattle.ml_front.proofs.AlikeGraphs.{AreAlike, Range, SameNode, alike_of, one_occurrence, one_part, same_and, same_box}
+use Rattle.ml_front.proofs.AlikeGraphs.{same_diamond, same_literal, same_or, same_plain, three_occurrences, two_parts}
 
 module _ (g h : Graph) where
   abbrev P : ℕ → Type 0

@@ -58,8 +58,16 @@ module _ (a : Answer) where
   head_readable text v p rest h =
       let formula = good_formula h.formula_text p.formula h.is_parsed in
       let l = logic_of p.formula in
-      subst (IsReadable (head a) AtTitle) (sym (head_read a text v p rest h))
-      (((v, refl), tt), (((a, refl), (refl, tt)), (((l, refl), tt), behind_logic l p.negated (codes "formula" ∷ words_of h.formula_text) (lines_of rest) formula)))
+      subst (IsReadable (head a) AtTitle) (sym (head_read a text v p rest h)) (
+        ((v, refl), tt),
+        (
+          ((a, refl), (refl, tt)),
+          (
+            ((l, refl), tt),
+            behind_logic l p.negated (codes "formula" ∷ words_of h.formula_text) (lines_of rest) formula,
+          ),
+        ),
+      )
 
   -- ---- what is readable is a head
 

@@ -22,7 +22,14 @@ pub five_in_line : (a b c d e : List ℕ) → IsInLine a → IsInLine b → IsIn
 five_in_line a b c d e ia ib ic id ie =
     three_in_line (a ++ b ++ c) d e (three_in_line a b c ia ib ic) id ie
 
-pub seven_in_line : (a b c d e f g : List ℕ) → IsInLine a → IsInLine b → IsInLine c → IsInLine d → IsInLine e → IsInLine f → IsInLine g
+pub seven_in_line : (a b c d e f g : List ℕ)
+    → IsInLine a
+    → IsInLine b
+    → IsInLine c
+    → IsInLine d
+    → IsInLine e
+    → IsInLine f
+    → IsInLine g
     → IsInLine (a ++ b ++ c ++ d ++ e ++ f ++ g)
 seven_in_line a b c d e f g ia ib ic id ie in_f ig =
     three_in_line (a ++ b ++ c ++ d ++ e) f g (five_in_line a b c d e ia ib ic id ie) in_f ig

@@ -126,7 +126,8 @@ fair_text (suc k) a =
     ∙ ap (λ bytes. codes " & (G F p" ++ bytes)
     (sym (append_assoc (number a) (codes ")") (flat_map (λ i. codes " & " ++ part Fair i) (range_with_len (a + 1) k))))
 
-fair_first : (w rest : List ℕ) → (codes "(G F p" ++ w ++ codes ")") ++ rest ≡ codes "(G F p" ++ (w ++ (codes ")" ++ rest))
+fair_first : (w rest : List ℕ)
+    → (codes "(G F p" ++ w ++ codes ")") ++ rest ≡ codes "(G F p" ++ (w ++ (codes ")" ++ rest))
 fair_first w rest = simp append_assoc
 
 -- ---- all families

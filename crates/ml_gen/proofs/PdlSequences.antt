@@ -89,7 +89,9 @@ reads_acts k ss none =
     let first = seq_alone (reads_program act refl (more_tokens k ss) (no_test k ss none)) in
     alt_alone (reads_more k act (signs_with_marks (program_onto act (more_tokens k ss))) ss none first)
 
-short_acts : (k : ℕ) (ss : List Spelt) → AllByRecursion IsShort ss → AllByRecursion IsShort (program_onto act (more_tokens k ss))
+short_acts : (k : ℕ) (ss : List Spelt)
+    → AllByRecursion IsShort ss
+    → AllByRecursion IsShort (program_onto act (more_tokens k ss))
 short_acts zero ss all = program_short act (omega arith) ss all
 short_acts (suc k) ss all =
     program_short act (omega arith) (more_tokens (suc k) ss) (refl, short_acts k ss all)
@@ -208,7 +210,10 @@ reads_loop k =
     let toks = program_onto act (more_tokens k (lone 41 ∷ [])) in
     let b = is_test_behind 0 (plain_signs toks) in
     un_raised grammar.Iff
-    (subst (λ t. Reads grammar.Un (with_mark (is_test_behind 0 (plain_signs (lone 40 ∷ toks))) t ∷ Open (mark_of b) ∷ signs_with_marks toks) (loop_formula k) [])
+    (subst
+    (λ t. Reads grammar.Un
+    (with_mark (is_test_behind 0 (plain_signs (lone 40 ∷ toks))) t ∷ Open (mark_of b) ∷ signs_with_marks toks)
+    (loop_formula k) [])
     (sym repeat_sign) (repetition (mark_of b) (reads_acts k (lone 41 ∷ []) refl)))
 
 closed_repeat : opens_of ((token.Word, codes "repeat") ∷ []) ≡ 0

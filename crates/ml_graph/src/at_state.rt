@@ -1,5 +1,5 @@
 // What the checking game asks of a structure at one state, made in one pass over the state's labels and edges.
-ghost use Rattle.std.specs.Prelude.{◌≡◌, ◌<◌, ◌==◌, [], IfOk, OnOk, length, not};
+ghost use Rattle.std.specs.Prelude.{◌≡◌, ◌<◌, ◌==◌, IfOk, OnOk, length, not};
 ghost use Rattle.std.specs.List.{IsDistinct, position, position_or_len};
 ghost use Rattle.std.specs.Str.{bytes_eq};
 ghost use Rattle.ml_base.specs.Structure.{lists};

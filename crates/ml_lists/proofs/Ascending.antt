@@ -18,10 +18,14 @@ module _ (x y : ℕ) (ys : List ℕ) where
   below t = cond-true (ltb x y) (x ∷ (y ∷ ys)) (cond (eqb x y) (y ∷ ys) (y ∷ insert_once x ys)) t
 
   same : ltb x y ≡ false → eqb x y ≡ true → insert_once x (y ∷ ys) ≡ y ∷ ys
-  same f t = cond-false (ltb x y) (x ∷ (y ∷ ys)) (cond (eqb x y) (y ∷ ys) (y ∷ insert_once x ys)) f ∙ cond-true (eqb x y) (y ∷ ys) (y ∷ insert_once x ys) t
+  same f t =
+      cond-false (ltb x y) (x ∷ (y ∷ ys)) (cond (eqb x y) (y ∷ ys) (y ∷ insert_once x ys)) f
+      ∙ cond-true (eqb x y) (y ∷ ys) (y ∷ insert_once x ys) t
 
   beyond : ltb x y ≡ false → eqb x y ≡ false → insert_once x (y ∷ ys) ≡ y ∷ insert_once x ys
-  beyond f g = cond-false (ltb x y) (x ∷ (y ∷ ys)) (cond (eqb x y) (y ∷ ys) (y ∷ insert_once x ys)) f ∙ cond-false (eqb x y) (y ∷ ys) (y ∷ insert_once x ys) g
+  beyond f g =
+      cond-false (ltb x y) (x ∷ (y ∷ ys)) (cond (eqb x y) (y ∷ ys) (y ∷ insert_once x ys)) f
+      ∙ cond-false (eqb x y) (y ∷ ys) (y ∷ insert_once x ys) g
 
 -- what the set with x has is x, or was in the set
 pub insert_once-member : (v x : ℕ) (ys : List ℕ) → IsMember v (insert_once x ys) → (v ≡ x) ⊎ IsMember v ys
@@ -33,7 +37,9 @@ insert_once-member v x (y ∷ ys) m = by_test (insert_once-member v x ys) (cases
     at_end (inl e) = inl e
     at_end (inr i) = inr (inr i)
 
-    behind : (IsMember v (insert_once x ys) → (v ≡ x) ⊎ IsMember v ys) → IsMember v (y ∷ insert_once x ys) → (v ≡ x) ⊎ IsMember v (y ∷ ys)
+    behind : (IsMember v (insert_once x ys) → (v ≡ x) ⊎ IsMember v ys)
+        → IsMember v (y ∷ insert_once x ys)
+        → (v ≡ x) ⊎ IsMember v (y ∷ ys)
     behind rest (inl e) = inr (inl e)
     behind rest (inr i) = at_end (rest i)
 
@@ -41,7 +47,10 @@ insert_once-member v x (y ∷ ys) m = by_test (insert_once-member v x ys) (cases
     front (inl e) = inl e
     front (inr i) = inr i
 
-    by_test : (IsMember v (insert_once x ys) → (v ≡ x) ⊎ IsMember v ys) → (ltb x y ≡ true) ⊎ (ltb x y ≡ false) → (eqb x y ≡ true) ⊎ (eqb x y ≡ false) → (v ≡ x) ⊎ IsMember v (y ∷ ys)
+    by_test : (IsMember v (insert_once x ys) → (v ≡ x) ⊎ IsMember v ys)
+        → (ltb x y ≡ true) ⊎ (ltb x y ≡ false)
+        → (eqb x y ≡ true) ⊎ (eqb x y ≡ false)
+        → (v ≡ x) ⊎ IsMember v (y ∷ ys)
     by_test rest (inl t) e = front (subst (IsMember v) (below x y ys t) m)
     by_test rest (inr f) (inl t) = inr (subst (IsMember v) (same x y ys f t) m)
     by_test rest (inr f) (inr g) = behind rest (subst (IsMember v) (beyond x y ys f g) m)
@@ -51,7 +60,10 @@ pub member-insert_once : (x : ℕ) (ys : List ℕ) → IsMember x (insert_once x
 member-insert_once x [] = inl refl
 member-insert_once x (y ∷ ys) = by_test (member-insert_once x ys) (cases_Bool (ltb x y)) (cases_Bool (eqb x y))
   where
-    by_test : IsMember x (insert_once x ys) → (ltb x y ≡ true) ⊎ (ltb x y ≡ false) → (eqb x y ≡ true) ⊎ (eqb x y ≡ false) → IsMember x (insert_once x (y ∷ ys))
+    by_test : IsMember x (insert_once x ys)
+        → (ltb x y ≡ true) ⊎ (ltb x y ≡ false)
+        → (eqb x y ≡ true) ⊎ (eqb x y ≡ false)
+        → IsMember x (insert_once x (y ∷ ys))
     by_test rest (inl t) e = subst (IsMember x) (sym (below x y ys t)) (inl refl)
     by_test rest (inr f) (inl t) = subst (IsMember x) (sym (same x y ys f t)) (inl (eqb-true x y t))
     by_test rest (inr f) (inr g) = subst (IsMember x) (sym (beyond x y ys f g)) (inr rest)
@@ -61,7 +73,11 @@ pub insert_once-keeps : (v x : ℕ) (ys : List ℕ) → IsMember v ys → IsMemb
 insert_once-keeps v x [] m = absurd m
 insert_once-keeps v x (y ∷ ys) m = by_test (insert_once-keeps v x ys) m (cases_Bool (ltb x y)) (cases_Bool (eqb x y))
   where
-    by_test : (IsMember v ys → IsMember v (insert_once x ys)) → IsMember v (y ∷ ys) → (ltb x y ≡ true) ⊎ (ltb x y ≡ false) → (eqb x y ≡ true) ⊎ (eqb x y ≡ false) → IsMember v (insert_once x (y ∷ ys))
+    by_test : (IsMember v ys → IsMember v (insert_once x ys))
+        → IsMember v (y ∷ ys)
+        → (ltb x y ≡ true) ⊎ (ltb x y ≡ false)
+        → (eqb x y ≡ true) ⊎ (eqb x y ≡ false)
+        → IsMember v (insert_once x (y ∷ ys))
     by_test rest i (inl t) e = subst (IsMember v) (sym (below x y ys t)) (inr i)
     by_test rest i (inr f) (inl t) = subst (IsMember v) (sym (same x y ys f t)) i
     by_test rest (inl e) (inr f) (inr g) = subst (IsMember v) (sym (beyond x y ys f g)) (inl e)
@@ -80,7 +96,10 @@ insert_once-is x (y ∷ ys) a = by_test (insert_once-is x ys a.1) (cases_Bool (l
     above_y low v (inl e) = omega arith
     above_y low v (inr i) = a.0 v i
 
-    by_test : IsAscending (insert_once x ys) → (ltb x y ≡ true) ⊎ (ltb x y ≡ false) → (eqb x y ≡ true) ⊎ (eqb x y ≡ false) → IsAscending (insert_once x (y ∷ ys))
+    by_test : IsAscending (insert_once x ys)
+        → (ltb x y ≡ true) ⊎ (ltb x y ≡ false)
+        → (eqb x y ≡ true) ⊎ (eqb x y ≡ false)
+        → IsAscending (insert_once x (y ∷ ys))
     by_test rest (inl t) e = subst IsAscending (sym (below x y ys t)) (above_x (ltb-true x y t), a)
     by_test rest (inr f) (inl t) = subst IsAscending (sym (same x y ys f t)) a
     by_test rest (inr f) (inr g) =
@@ -117,11 +136,20 @@ ascending-apart (x ∷ xs) zero (suc k) d a low fits = a.0 (get_or xs k d) (plac
 ascending-apart (x ∷ xs) (suc j) (suc k) d a low fits = ascending-apart xs j k d a.1 (omega arith) (omega arith)
 
 -- two ascending lists with the same members are one
-pub ascending_same : (xs ys : List ℕ) → IsAscending xs → IsAscending ys → ((v : ℕ) → IsMember v xs → IsMember v ys) → ((v : ℕ) → IsMember v ys → IsMember v xs) → xs ≡ ys
+pub ascending_same : (xs ys : List ℕ)
+    → IsAscending xs
+    → IsAscending ys
+    → ((v : ℕ) → IsMember v xs → IsMember v ys)
+    → ((v : ℕ) → IsMember v ys → IsMember v xs)
+    → xs ≡ ys
 ascending_same [] [] a b to from = refl
 ascending_same [] (y ∷ ys) a b to from = absurd (from y (inl refl))
 ascending_same (x ∷ xs) [] a b to from = absurd (to x (inl refl))
-ascending_same (x ∷ xs) (y ∷ ys) a b to from = λ i. heads i ∷ ascending_same xs ys a.1 b.1 (λ v m. later v (a.0 v m) (to v (inr m))) (λ v m. sooner v (b.0 v m) (from v (inr m))) i
+ascending_same (x ∷ xs) (y ∷ ys) a b to from =
+    λ i. heads i
+    ∷ ascending_same xs ys a.1 b.1 (λ v m. later v (a.0 v m) (to v (inr m)))
+    (λ v m. sooner v (b.0 v m) (from v (inr m)))
+    i
   where
     heads : x ≡ y
     heads = by_place (to x (inl refl)) (from y (inl refl))

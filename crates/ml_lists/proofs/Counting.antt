@@ -31,7 +31,8 @@ count_le test (suc n) = more (count_le test n) (cases_Bool (test n))
 pub count_mono : (strong weak : ℕ → Bool) (n : ℕ) → ((k : ℕ) → k < n → strong k ≡ true → weak k ≡ true)
     → count strong n ≤ count weak n
 count_mono strong weak zero implies = omega arith
-count_mono strong weak (suc n) implies = more (count_mono strong weak n (λ k low. implies k (omega arith))) (cases_Bool (strong n)) (cases_Bool (weak n))
+count_mono strong weak (suc n) implies =
+    more (count_mono strong weak n (λ k low. implies k (omega arith))) (cases_Bool (strong n)) (cases_Bool (weak n))
   where
     more : count strong n ≤ count weak n → (strong n ≡ true) ⊎ (strong n ≡ false) → (weak n ≡ true) ⊎ (weak n ≡ false)
         → count strong (suc n) ≤ count weak (suc n)
@@ -44,7 +45,8 @@ count_mono strong weak (suc n) implies = more (count_mono strong weak n (λ k lo
 pub count_strict : (strong weak : ℕ → Bool) (n : ℕ) → ((k : ℕ) → k < n → strong k ≡ true → weak k ≡ true) → (t : ℕ)
     → t < n → strong t ≡ false → weak t ≡ true → count strong n < count weak n
 count_strict strong weak zero implies t low fails passes = absurd (omega arith)
-count_strict strong weak (suc n) implies t low fails passes = by_case (cases_eq t n) (count_strict strong weak n (λ k below. implies k (omega arith)) t)
+count_strict strong weak (suc n) implies t low fails passes =
+    by_case (cases_eq t n) (count_strict strong weak n (λ k below. implies k (omega arith)) t)
   where
     earlier : count strong n < count weak n → (strong n ≡ true) ⊎ (strong n ≡ false)
         → (weak n ≡ true) ⊎ (weak n ≡ false) → count strong (suc n) < count weak (suc n)

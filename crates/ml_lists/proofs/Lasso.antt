@@ -41,7 +41,10 @@ loop_length l = length l.entries - l.start
 -- the loop comes back to where it began
 pub loop_closed : (l : Lasso) → l.start < length l.entries → on_loop l (loop_length l) ≡ on_loop l 0
 loop_closed l starts =
-    let first : on_loop l 0 ≡ entry l l.start = subst (λ k. get_or (round l) k 0 ≡ entry l l.start) {x = l.start} {y = l.start + 0} (omega arith) (round-entry l l.start starts) in
+    let first : on_loop l 0 ≡ entry l l.start =
+    subst (λ k. get_or (round l) k 0 ≡ entry l l.start) {x = l.start} {y = l.start + 0} (omega arith)
+    (round-entry l l.start starts)
+    in
     round-end l (l.start + loop_length l) (omega arith) ∙ sym first
 
 -- what each step of the round keeps, and holds at its first entry, holds at each entry of the round
@@ -144,7 +147,9 @@ lasso_of_is R c i j apart same steps = record {
 }
   where
     step : (k : ℕ) → k < j → R (get_or (round (lasso_of c i j)) k 0) (get_or (round (lasso_of c i j)) (k + 1) 0)
-    step k low = subst₂ R (sym (lasso_of-round c i j k apart same (omega arith))) (sym (lasso_of-round c i j (k + 1) apart same (omega arith))) (steps k low)
+    step k low =
+        subst₂ R (sym (lasso_of-round c i j k apart same (omega arith)))
+        (sym (lasso_of-round c i j (k + 1) apart same (omega arith))) (steps k low)
 
 -- ---- two functions, and one entry more
 
@@ -155,7 +160,8 @@ lowest_on_loop-same f g l starts same = from (lowest_on_loop_place g l starts)
   where
     from : LowestOnLoop g l → lowest_on_loop f l ≡ lowest_on_loop g l
     from p =
-        lowest_on_loop_is f l p.place p.later p.below (λ j later low. omega (arith, same p.place p.below, same j low, p.holds, lowest_on_loop_le g l j later low))
+        lowest_on_loop_is f l p.place p.later p.below
+        (λ j later low. omega (arith, same p.place p.below, same j low, p.holds, lowest_on_loop_le g l j later low))
         ∙ same p.place p.below
         ∙ p.holds
 

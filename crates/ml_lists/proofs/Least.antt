@@ -27,9 +27,14 @@ pub least-says : (test : ℕ → Bool) (n : ℕ) → Says test n (least test n)
 least-says test zero = λ k low. absurd (omega arith)
 least-says test (suc n) = by_answer (least test n) (least-says test n) (cases_Bool (test n))
   where
-    by_answer : (o : Option ℕ) → Says test n o → (test n ≡ true) ⊎ (test n ≡ false) → Says test (suc n) (first_answer o (cond (test n) (Some n) None))
+    by_answer : (o : Option ℕ)
+        → Says test n o
+        → (test n ≡ true) ⊎ (test n ≡ false)
+        → Says test (suc n) (first_answer o (cond (test n) (Some n) None))
     by_answer (Some x) s t = record { below = omega (arith, s.below); passes = s.passes; first = s.first }
-    by_answer None s (inl t) = subst (Says test (suc n)) (sym (cond-true (test n) (Some n) None t)) (record { below = omega arith; passes = t; first = s })
+    by_answer None s (inl t) =
+        subst (Says test (suc n)) (sym (cond-true (test n) (Some n) None t))
+        (record { below = omega arith; passes = t; first = s })
     by_answer None s (inr f) = subst (Says test (suc n)) (sym (cond-false (test n) (Some n) None f)) (all_below_suc (λ k. test k ≡ false) n s f)
 
 -- an answer is the least number that passes
@@ -59,7 +64,11 @@ least-found test n k low passes = by_answer (least test n) refl
     by_answer (Some x) e = record { answer = x; is = e; at_most = at_most x (least-some test n x e) (cases_lt k x) }
 
 -- a number below n that passes, where no lower one does, is the answer
-pub least-is : (test : ℕ → Bool) (n x : ℕ) → x < n → test x ≡ true → ((k : ℕ) → k < x → test k ≡ false) → least test n ≡ Some x
+pub least-is : (test : ℕ → Bool) (n x : ℕ)
+    → x < n
+    → test x ≡ true
+    → ((k : ℕ) → k < x → test k ≡ false)
+    → least test n ≡ Some x
 least-is test n x low passes none = by_answer (least-found test n x low passes)
   where
     not_before : (y : ℕ) → IsLeast test n y → (y < x) ⊎ (x ≤ y) → x ≤ y

@@ -23,7 +23,8 @@ module _ (f : ℕ → ℕ) (l : Lasso) (starts : l.start < length l.entries) whe
   pub mapped-round : (k : ℕ) → k ≤ length l.entries → get_or (round (mapped f l)) k 0 ≡ f (get_or (round l) k 0)
   mapped-round k low = by_case (cases_eq k (length l.entries))
     where
-      by_case : (k ≡ length l.entries) ⊎ (k ≡ length l.entries → ⊥) → get_or (round (mapped f l)) k 0 ≡ f (get_or (round l) k 0)
+      by_case : (k ≡ length l.entries) ⊎ (k ≡ length l.entries → ⊥)
+          → get_or (round (mapped f l)) k 0 ≡ f (get_or (round l) k 0)
       by_case (inl last) =
           round-end (mapped f l) k (last ∙ sym (length-map l.entries f)) ∙ mapped-entry l.start starts ∙ ap f (sym (round-end l k last))
       by_case (inr other) =
@@ -52,6 +53,7 @@ module _ (f : ℕ → ℕ) (l : Lasso) (starts : l.start < length l.entries) whe
       from : LowestOnLoop d l → lowest_on_loop e (mapped f l) ≡ lowest_on_loop d l + k
       from p =
           lowest_on_loop_is e (mapped f l) p.place p.later (omega (arith, length-map l.entries f, p.below))
-          (λ j later low. let below : j < length l.entries = omega (arith, length-map l.entries f) in omega (arith, value p.place p.below, value j below, p.holds, lowest_on_loop_le d l j later below))
+          (λ j later low. let below : j < length l.entries = omega (arith, length-map l.entries f) in
+          omega (arith, value p.place p.below, value j below, p.holds, lowest_on_loop_le d l j later below))
           ∙ value p.place p.below
           ∙ ap (λ n. n + k) p.holds

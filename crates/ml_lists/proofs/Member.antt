@@ -62,7 +62,11 @@ member-map_from f y (z ∷ zs) (inr m) = later (member-map_from f y zs m)
     later i = record { from = i.from; member = inr i.member; holds = i.holds }
 
 -- a member of the list of a member is one of all the lists together
-pub member-flat_map : {X Y : Type 0} → (f : X → List Y) (x : X) (y : Y) (xs : List X) → IsMember x xs → IsMember y (f x) → IsMember y (flat_map f xs)
+pub member-flat_map : {X Y : Type 0}
+    → (f : X → List Y) (x : X) (y : Y) (xs : List X)
+    → IsMember x xs
+    → IsMember y (f x)
+    → IsMember y (flat_map f xs)
 member-flat_map f x y [] m here = absurd m
 member-flat_map f x y (z ∷ zs) (inl same) here = member-append_left y (f z) (flat_map f zs) (subst (λ v. IsMember y (f v)) same here)
 member-flat_map f x y (z ∷ zs) (inr m) here = member-append_right y (f z) (flat_map f zs) (member-flat_map f x y zs m here)
@@ -74,35 +78,55 @@ pub record InList {X Y : Type 0} (f : X → List Y) (y : Y) (xs : List X) : Type
   pub inside : IsMember y (f from)
 
 -- a member of all the lists together is one of the list of a member
-pub member-flat_map_from : {X Y : Type 0} → (f : X → List Y) (y : Y) (xs : List X) → IsMember y (flat_map f xs) → InList f y xs
+pub member-flat_map_from : {X Y : Type 0}
+    → (f : X → List Y) (y : Y) (xs : List X)
+    → IsMember y (flat_map f xs)
+    → InList f y xs
 member-flat_map_from f y [] m = absurd m
 member-flat_map_from f y (z ∷ zs) m = by_part (member-append y (f z) (flat_map f zs) m) (member-flat_map_from f y zs)
   where
-    by_part : IsMember y (f z) ⊎ IsMember y (flat_map f zs) → (IsMember y (flat_map f zs) → InList f y zs) → InList f y (z ∷ zs)
+    by_part : IsMember y (f z) ⊎ IsMember y (flat_map f zs)
+        → (IsMember y (flat_map f zs) → InList f y zs)
+        → InList f y (z ∷ zs)
     by_part (inl here) rest = record { from = z; member = inl refl; inside = here }
     by_part (inr later) rest = let i = rest later in record { from = i.from; member = inr i.member; inside = i.inside }
 
 -- a member that passes the test is a member of the filtered list
-pub member-filter : {X : Type 0} → (test : X → Bool) (x : X) (xs : List X) → IsMember x xs → test x ≡ true → IsMember x (filter test xs)
+pub member-filter : {X : Type 0}
+    → (test : X → Bool) (x : X) (xs : List X)
+    → IsMember x xs
+    → test x ≡ true
+    → IsMember x (filter test xs)
 member-filter test x [] m passes = absurd m
 member-filter test x (z ∷ zs) m passes = by_test m (λ l. member-filter test x zs l passes) (cases_Bool (test z))
   where
-    by_test : (x ≡ z) ⊎ IsMember x zs → (IsMember x zs → IsMember x (filter test zs)) → (test z ≡ true) ⊎ (test z ≡ false) → IsMember x (filter test (z ∷ zs))
+    by_test : (x ≡ z) ⊎ IsMember x zs
+        → (IsMember x zs → IsMember x (filter test zs))
+        → (test z ≡ true) ⊎ (test z ≡ false)
+        → IsMember x (filter test (z ∷ zs))
     by_test (inl same) rest (inl t) = subst (IsMember x) (sym (cond-true (test z) (z ∷ filter test zs) (filter test zs) t)) (inl same)
     by_test (inr l) rest (inl t) = subst (IsMember x) (sym (cond-true (test z) (z ∷ filter test zs) (filter test zs) t)) (inr (rest l))
     by_test (inl same) rest (inr f) = let wrong : test z ≡ true = subst (λ v. test v ≡ true) same passes in absurd (cc)
     by_test (inr l) rest (inr f) = subst (IsMember x) (sym (cond-false (test z) (z ∷ filter test zs) (filter test zs) f)) (rest l)
 
 -- a member of the filtered list is a member that passes the test
-pub member-filter_from : {X : Type 0} → (test : X → Bool) (x : X) (xs : List X) → IsMember x (filter test xs) → IsMember x xs × (test x ≡ true)
+pub member-filter_from : {X : Type 0}
+    → (test : X → Bool) (x : X) (xs : List X)
+    → IsMember x (filter test xs)
+    → IsMember x xs × (test x ≡ true)
 member-filter_from test x [] m = absurd m
 member-filter_from test x (z ∷ zs) m = by_test (λ l. member-filter_from test x zs l) (cases_Bool (test z))
   where
-    here : (IsMember x (filter test zs) → IsMember x zs × (test x ≡ true)) → test z ≡ true → (x ≡ z) ⊎ IsMember x (filter test zs) → IsMember x (z ∷ zs) × (test x ≡ true)
+    here : (IsMember x (filter test zs) → IsMember x zs × (test x ≡ true))
+        → test z ≡ true
+        → (x ≡ z) ⊎ IsMember x (filter test zs)
+        → IsMember x (z ∷ zs) × (test x ≡ true)
     here rest t (inl same) = (inl same, subst (λ v. test v ≡ true) (sym same) t)
     here rest t (inr l) = let r = rest l in (inr r.0, r.1)
 
-    by_test : (IsMember x (filter test zs) → IsMember x zs × (test x ≡ true)) → (test z ≡ true) ⊎ (test z ≡ false) → IsMember x (z ∷ zs) × (test x ≡ true)
+    by_test : (IsMember x (filter test zs) → IsMember x zs × (test x ≡ true))
+        → (test z ≡ true) ⊎ (test z ≡ false)
+        → IsMember x (z ∷ zs) × (test x ≡ true)
     by_test rest (inl t) = here rest t (subst (IsMember x) (cond-true (test z) (z ∷ filter test zs) (filter test zs) t) m)
     by_test rest (inr f) = let r = rest (subst (IsMember x) (cond-false (test z) (z ∷ filter test zs) (filter test zs) f) m) in (inr r.0, r.1)
 
@@ -117,12 +141,18 @@ pub list_any-member : {X : Type 0} → (test : X → Bool) (xs : List X) → lis
 list_any-member test [] e = absurd (cc)
 list_any-member test (z ∷ zs) e = by_part (or_cases (test z) (list_any test zs) e) (list_any-member test zs)
   where
-    by_part : (test z ≡ true) ⊎ (list_any test zs ≡ true) → (list_any test zs ≡ true → Passing test zs) → Passing test (z ∷ zs)
+    by_part : (test z ≡ true) ⊎ (list_any test zs ≡ true)
+        → (list_any test zs ≡ true → Passing test zs)
+        → Passing test (z ∷ zs)
     by_part (inl here) rest = record { item = z; member = inl refl; passes = here }
     by_part (inr later) rest = let p = rest later in record { item = p.item; member = inr p.member; passes = p.passes }
 
 -- where a member passes the test, some entry does
-pub member-list_any : {X : Type 0} → (test : X → Bool) (x : X) (xs : List X) → IsMember x xs → test x ≡ true → list_any test xs ≡ true
+pub member-list_any : {X : Type 0}
+    → (test : X → Bool) (x : X) (xs : List X)
+    → IsMember x xs
+    → test x ≡ true
+    → list_any test xs ≡ true
 member-list_any test x [] m e = absurd m
 member-list_any test x (z ∷ zs) (inl same) e = or_left (test z) (list_any test zs) (subst (λ v. test v ≡ true) same e)
 member-list_any test x (z ∷ zs) (inr m) e = or_right (test z) (list_any test zs) (member-list_any test x zs m e)

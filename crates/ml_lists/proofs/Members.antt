@@ -55,7 +55,9 @@ contains_with front x back q inside =
 
 pub member_of_contains : {X : Type 0} (x : X) (xs : List X) → Contains xs x → IsMember x xs
 member_of_contains x [] inside = absurd (contains_none x inside)
-member_of_contains x (y ∷ ys) inside = ⊎_elim (λ (is : y ≡ x). inl (sym is)) (λ (later : Contains ys x). inr (member_of_contains x ys later)) (contains_cases y ys x inside)
+member_of_contains x (y ∷ ys) inside =
+    ⊎_elim (λ (is : y ≡ x). inl (sym is)) (λ (later : Contains ys x). inr (member_of_contains x ys later))
+    (contains_cases y ys x inside)
 
 pub contains_of_member : {X : Type 0} (x : X) (xs : List X) → IsMember x xs → Contains xs x
 contains_of_member x [] inside = absurd inside

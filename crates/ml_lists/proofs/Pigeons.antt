@@ -57,13 +57,19 @@ pigeons (suc m) f fits = by_case (search (λ k. f k ≡ f (suc m)) (λ k. f k �
       second = t.second;
       apart = t.apart;
       within = omega (arith, t.within);
-      same = moved_same f m (f (suc m)) t.first t.second (none t.first (omega (arith, t.apart, t.within))) (none t.second (omega (arith, t.within))) t.same;
+      same =
+          moved_same f m (f (suc m)) t.first t.second (none t.first (omega (arith, t.apart, t.within)))
+          (none t.second (omega (arith, t.within))) t.same;
     }
 
     by_case : Found (λ k. f k ≡ f (suc m)) (suc m) ⊎ ((k : ℕ) → k < suc m → f k ≡ f (suc m) → ⊥)
         → ((g : ℕ → ℕ) → ((k : ℕ) → k ≤ m → g k < m) → Twice g m) → Twice f (suc m)
     by_case (inl s) smaller = found s
-    by_case (inr none) smaller = widen none (smaller (moved f m (f (suc m))) (λ k low. moved_below f m (f (suc m)) k (fits k (omega arith)) (fits (suc m) (omega arith)) (none k (omega arith))))
+    by_case (inr none) smaller =
+        widen none
+        (smaller (moved f m (f (suc m)))
+        (λ k low.
+        moved_below f m (f (suc m)) k (fits k (omega arith)) (fits (suc m) (omega arith)) (none k (omega arith))))
 
 -- a list of more than n numbers below n has one number at two places
 pub record TwiceInList (xs : List ℕ) : Type 0 where
@@ -83,5 +89,8 @@ pigeons_list n xs long fits = from (pigeons n (λ k. get_or xs k 0) (λ k low. f
       second = t.second;
       apart = t.apart;
       within = omega (arith, t.within);
-      same = λ d. get_or_default xs t.first d 0 (omega (arith, t.apart, t.within)) ∙ t.same ∙ get_or_default xs t.second 0 d (omega (arith, t.within));
+      same =
+          λ d. get_or_default xs t.first d 0 (omega (arith, t.apart, t.within))
+          ∙ t.same
+          ∙ get_or_default xs t.second 0 d (omega (arith, t.within));
     }

@@ -33,13 +33,19 @@ module _ {X : Type 0} (R : X → X → Type 0) (transitive : (x y z : X) → R x
 
   -- a predecessor z is replaced by a predecessor of z
   past_first : (z : X) (zs : List X) (y : X) → Before R zs z → R z y ⊎ Before R zs y → Before R zs y
-  past_first z zs y earlier (inl step) = record { from = earlier.from; member = earlier.member; holds = transitive earlier.from z y earlier.holds step }
+  past_first z zs y earlier (inl step) =
+      record { from = earlier.from; member = earlier.member; holds = transitive earlier.from z y earlier.holds step }
   past_first z zs y earlier (inr b) = b
 
   longer : (z : X) (zs : List X) → Loop R zs → Loop R (z ∷ zs)
   longer z zs l = record { at = l.at; member = inr l.member; holds = l.holds }
 
-  smaller : (z : X) (zs : List X) → Before R zs z → ((y : X) → IsMember y (z ∷ zs) → Before R (z ∷ zs) y) → (y : X) → IsMember y zs → Before R zs y
+  smaller : (z : X) (zs : List X)
+      → Before R zs z
+      → ((y : X) → IsMember y (z ∷ zs) → Before R (z ∷ zs) y)
+      → (y : X)
+      → IsMember y zs
+      → Before R zs y
   smaller z zs earlier closed y m = past_first z zs y earlier (first_or_later z zs y (closed y (inr m)))
 
   -- if each member of xs has a predecessor in xs, and there is a member, then xs has a loop
@@ -47,6 +53,8 @@ module _ {X : Type 0} (R : X → X → Type 0) (transitive : (x y z : X) → R x
   has_loop [] x m closed = absurd m
   has_loop (z ∷ zs) x m closed = by_case (first_or_later z zs z (closed z (inl refl))) (has_loop zs)
     where
-      by_case : R z z ⊎ Before R zs z → ((y : X) → IsMember y zs → ((v : X) → IsMember v zs → Before R zs v) → Loop R zs) → Loop R (z ∷ zs)
+      by_case : R z z ⊎ Before R zs z
+          → ((y : X) → IsMember y zs → ((v : X) → IsMember v zs → Before R zs v) → Loop R zs)
+          → Loop R (z ∷ zs)
       by_case (inl loop) rest = record { at = z; member = inl refl; holds = loop }
       by_case (inr earlier) rest = longer z zs (rest earlier.from earlier.member (smaller z zs earlier closed))

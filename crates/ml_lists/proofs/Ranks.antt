@@ -16,7 +16,10 @@ pub count_upto : (test : ℕ → Bool) (m n : ℕ) → m ≤ n → count test m 
 count_upto test m zero le = let e : m ≡ 0 = omega arith in subst (λ v. count test v ≤ 0) (sym e) (omega arith)
 count_upto test m (suc n) le = by_case (cases_lt m (suc n)) (cases_Bool (test n)) (count_upto test m n)
   where
-    by_case : (m < suc n) ⊎ (suc n ≤ m) → (test n ≡ true) ⊎ (test n ≡ false) → (m ≤ n → count test m ≤ count test n) → count test m ≤ count test (suc n)
+    by_case : (m < suc n) ⊎ (suc n ≤ m)
+        → (test n ≡ true) ⊎ (test n ≡ false)
+        → (m ≤ n → count test m ≤ count test n)
+        → count test m ≤ count test (suc n)
     by_case (inl low) (inl t) old = omega (arith, old (omega arith), count-true test n t)
     by_case (inl low) (inr f) old = omega (arith, old (omega arith), count-false test n f)
     by_case (inr high) t old = let e : suc n ≡ m = omega arith in subst (λ v. count test m ≤ count test v) (sym e) (omega arith)
@@ -46,7 +49,10 @@ pub count_lost : (test : ℕ → Bool) (m n : ℕ) → m < n → test m ≡ fals
 count_lost test m zero low f = absurd (omega arith)
 count_lost test m (suc n) low f = by_case (cases_eq m n) (cases_Bool (test n)) (λ l. count_lost test m n l f)
   where
-    by_case : (m ≡ n) ⊎ (m ≡ n → ⊥) → (test n ≡ true) ⊎ (test n ≡ false) → (m < n → count test n < n) → count test (suc n) < suc n
+    by_case : (m ≡ n) ⊎ (m ≡ n → ⊥)
+        → (test n ≡ true) ⊎ (test n ≡ false)
+        → (m < n → count test n < n)
+        → count test (suc n) < suc n
     by_case (inl same) t old = omega (arith, count_le test n, count-false test n (subst (λ v. test v ≡ false) same f))
     by_case (inr other) (inl t) old = omega (arith, old (omega arith), count-true test n t)
     by_case (inr other) (inr g) old = omega (arith, count_le test n, count-false test n g)
@@ -66,7 +72,10 @@ count_hit test (suc n) y low = by_case (cases_Bool (test n)) (cases_lt y (count 
     later : Ranked test n y → Ranked test (suc n) y
     later r = record { number = r.number; below = omega (arith, r.below); passes = r.passes; rank = r.rank }
 
-    by_case : (test n ≡ true) ⊎ (test n ≡ false) → (y < count test n) ⊎ (count test n ≤ y) → (y < count test n → Ranked test n y) → Ranked test (suc n) y
+    by_case : (test n ≡ true) ⊎ (test n ≡ false)
+        → (y < count test n) ⊎ (count test n ≤ y)
+        → (y < count test n → Ranked test n y)
+        → Ranked test (suc n) y
     by_case t (inl early) old = later (old early)
     by_case (inl t) (inr late) old = record { number = n; below = omega arith; passes = t; rank = omega (arith, count-true test n t) }
     by_case (inr f) (inr late) old = absurd (omega (arith, count-false test n f))

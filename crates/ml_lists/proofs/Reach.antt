@@ -62,7 +62,11 @@ reaches_through R v x w m n a b = record {
     step k low (inl here) (inl next) = subst₂ R (sym (before k here)) (sym (before (k + 1) next)) (a.steps k here)
     step k low (inl here) (inr next) =
         let last : a.way (k + 1) ≡ joined (k + 1) =
-        ap a.way (let e : k + 1 ≡ m = omega arith in e) ∙ a.ends ∙ sym b.begins ∙ ap b.way (let e : 0 ≡ k + 1 - m = omega arith in e) ∙ sym (after (k + 1) next) in
+        ap a.way (let e : k + 1 ≡ m = omega arith in e)
+        ∙ a.ends
+        ∙ sym b.begins
+        ∙ ap b.way (let e : 0 ≡ k + 1 - m = omega arith in e)
+        ∙ sym (after (k + 1) next) in
         subst₂ R (sym (before k here)) last (a.steps k here)
     step k low (inr here) next =
         let e : k - m + 1 ≡ k + 1 - m = omega arith in
@@ -76,7 +80,9 @@ reaches_last R v x w m r last = subst (Reaches R v w) (add-one m) (reaches_throu
 pub reaches_keeps : (R : ℕ → ℕ → Type 0) (P : ℕ → Type 0) → ((x y : ℕ) → R x y → P x → P y) → (v w m : ℕ)
     → Reaches R v w m → P v → P w
 reaches_keeps R P keeps v w m r first =
-    subst P r.ends (onward_to r.way P m (λ k low here. keeps (r.way k) (r.way (k + 1)) (r.steps k low) here) 0 m (omega arith) (omega arith) (subst P (sym r.begins) first))
+    subst P r.ends
+    (onward_to r.way P m (λ k low here. keeps (r.way k) (r.way (k + 1)) (r.steps k low) here) 0 m (omega arith)
+    (omega arith) (subst P (sym r.begins) first))
 
 -- a way of fewer than n steps
 pub record ShortWay (R : ℕ → ℕ → Type 0) (v w n : ℕ) : Type 0 where
@@ -87,7 +93,9 @@ pub record ShortWay (R : ℕ → ℕ → Type 0) (v w n : ℕ) : Type 0 where
 -- a way that meets a number twice can leave out what lies between
 cut : (R : ℕ → ℕ → Type 0) (v w m : ℕ) (r : Reaches R v w m) (i j : ℕ) → i < j → j ≤ m → r.way i ≡ r.way j
     → Reaches R v w (m - (j - i))
-cut R v w m r i j apart within same = subst (Reaches R v w) (let e : i + (m - j) ≡ m - (j - i) = omega arith in e) (reaches_through R v (r.way i) w i (m - j) start rest)
+cut R v w m r i j apart within same =
+    subst (Reaches R v w) (let e : i + (m - j) ≡ m - (j - i) = omega arith in e)
+    (reaches_through R v (r.way i) w i (m - j) start rest)
   where
     start : Reaches R v (r.way i) i
     start = record { way = r.way; begins = r.begins; ends = refl; steps = λ k low. r.steps k (omega arith) }
@@ -107,11 +115,15 @@ reaches_short R n bounded zero v w m small low r = record { steps = m; few = ome
 reaches_short R n bounded (suc fuel) v w m small low r = by_length (reaches_short R n bounded fuel v w) (cases_lt m n)
   where
     below : (k : ℕ) → k ≤ m → r.way k < n
-    below k fits = onward_to r.way (λ x. x < n) m (λ i here inside. bounded (r.way i) (r.way (i + 1)) (r.steps i here)) 0 k (omega arith) fits (subst (λ x. x < n) (sym r.begins) low)
+    below k fits =
+        onward_to r.way (λ x. x < n) m (λ i here inside. bounded (r.way i) (r.way (i + 1)) (r.steps i here)) 0 k
+        (omega arith) fits (subst (λ x. x < n) (sym r.begins) low)
 
     shorter : ((l : ℕ) → l ≤ fuel → v < n → Reaches R v w l → ShortWay R v w n) → n ≤ m → Twice r.way n
         → ShortWay R v w n
-    shorter again long t = again (m - (t.second - t.first)) (omega (arith, t.apart, t.within)) low (cut R v w m r t.first t.second t.apart (omega (arith, t.within)) t.same)
+    shorter again long t =
+        again (m - (t.second - t.first)) (omega (arith, t.apart, t.within)) low
+        (cut R v w m r t.first t.second t.apart (omega (arith, t.within)) t.same)
 
     by_length : ((l : ℕ) → l ≤ fuel → v < n → Reaches R v w l → ShortWay R v w n) → (m < n) ⊎ (n ≤ m)
         → ShortWay R v w n

@@ -37,7 +37,13 @@ search_first P decide (suc n) = more (search_first P decide n) (decide n)
   where
     more : First P n ⊎ ((k : ℕ) → k < n → P k → ⊥) → P n ⊎ (P n → ⊥)
         → First P (suc n) ⊎ ((k : ℕ) → k < suc n → P k → ⊥)
-    more (inl f) d = inl (record { place = f.place; is_first = record { below = omega (arith, f.is_first.below); holds = f.is_first.holds; before = f.is_first.before } })
+    more (inl f) d =
+        inl
+        (record {
+          place = f.place;
+          is_first = record
+              { below = omega (arith, f.is_first.below); holds = f.is_first.holds; before = f.is_first.before };
+        })
     more (inr none) (inl p) = inl (record { place = n; is_first = record { below = omega arith; holds = p; before = none } })
     more (inr none) (inr q) = inr (all_below_suc (λ k. P k → ⊥) n none q)
 
@@ -73,11 +79,20 @@ search_least P f decide (suc n) = more (search_least P f decide n) (decide n)
     }
 
     compare : Least P f n → P n → Least P f (suc n)
-    compare m p = ⊎_elim (λ (smaller : f n < f m.place). replace m p smaller) (λ (larger : f m.place ≤ f n). keep m (λ q. larger)) (cases_lt (f n) (f m.place))
+    compare m p =
+        ⊎_elim (λ (smaller : f n < f m.place). replace m p smaller) (λ (larger : f m.place ≤ f n). keep m (λ q. larger))
+        (cases_lt (f n) (f m.place))
 
     more : Least P f n ⊎ ((k : ℕ) → k < n → P k → ⊥) → P n ⊎ (P n → ⊥)
         → Least P f (suc n) ⊎ ((k : ℕ) → k < suc n → P k → ⊥)
     more (inl m) (inl p) = inl (compare m p)
     more (inl m) (inr q) = inl (keep m (λ p. absurd (q p)))
-    more (inr none) (inl p) = inl (record { place = n; below = omega arith; holds = p; least = all_below_suc (λ j. P j → f n ≤ f j) n (λ j low q. absurd (none j low q)) (λ q. omega arith) })
+    more (inr none) (inl p) =
+        inl
+        (record {
+          place = n;
+          below = omega arith;
+          holds = p;
+          least = all_below_suc (λ j. P j → f n ≤ f j) n (λ j low q. absurd (none j low q)) (λ q. omega arith);
+        })
     more (inr none) (inr q) = inr (all_below_suc (λ k. P k → ⊥) n none q)

@@ -41,7 +41,9 @@ table_set f g n k v below here elsewhere = same_lists _ _ lengths places
         ∙ sym (elsewhere s ne) ∙ sym after)
         (cases_eq s k)
 
-pub table_same : {X : Type 0} (f g : ℕ → X) (a n : ℕ) → ((s : ℕ) → f s ≡ g s) → map f (range_with_len a n) ≡ map g (range_with_len a n)
+pub table_same : {X : Type 0} (f g : ℕ → X) (a n : ℕ)
+    → ((s : ℕ) → f s ≡ g s)
+    → map f (range_with_len a n) ≡ map g (range_with_len a n)
 table_same f g a n same = ap (λ h. map h (range_with_len a n)) (λ i s. same s i)
 
 pub table_zip : {X Y : Type 0} (h : X → X → Y) (xs ys : List X) (d : X) (n : ℕ) → length xs ≡ n → length ys ≡ n
@@ -60,7 +62,9 @@ table_zip {X} {Y} h xs ys d n xs_long ys_long = same_lists _ _ lengths places
     lengths : length (map joined (zip xs ys)) ≡ length (map entry (range_with_len 0 n))
     lengths = length-map (zip xs ys) joined ∙ long ∙ sym (length-map-range_with_len entry 0 n)
 
-    places : (s : ℕ) (e : Y) → s < length (map joined (zip xs ys)) → get_or (map joined (zip xs ys)) s e ≡ get_or (map entry (range_with_len 0 n)) s e
+    places : (s : ℕ) (e : Y)
+        → s < length (map joined (zip xs ys))
+        → get_or (map joined (zip xs ys)) s e ≡ get_or (map entry (range_with_len 0 n)) s e
     places s e h' =
         let within : s < n = omega (arith, length-map (zip xs ys) joined, long) in
         get_or-map joined (zip xs ys) s (d, d) e (omega (arith, long))

@@ -51,4 +51,5 @@ unrolled_low l starts k = walk_keeps (next_place l) (λ p. p < length l.entries)
 -- the endless sequence of a lasso of R has steps of R alone
 pub unrolled_step : (R : ℕ → ℕ → Type 0) (l : Lasso) → IsLassoOf R l → (k : ℕ) → R (unrolled l k) (unrolled l (k + 1))
 unrolled_step R l lasso k =
-    subst (λ p. R (unrolled l k) (entry l p)) (sym (walk-add-one (next_place l) 0 k)) (next_step R l lasso (walk (next_place l) 0 k) (unrolled_low l lasso.starts k))
+    subst (λ p. R (unrolled l k) (entry l p)) (sym (walk-add-one (next_place l) 0 k))
+    (next_step R l lasso (walk (next_place l) 0 k) (unrolled_low l lasso.starts k))

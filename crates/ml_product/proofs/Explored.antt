@@ -58,7 +58,10 @@ without p (x ∷ ps) (inr m) = from (without p ps m)
         by_place q other (inr later) = inr (w.kept q later other)
 
 -- different positions that all stand in a list are no more than its entries
-pub few_reached : (qs ps : List Position) → AreDifferent qs → ((q : Position) → IsMember q qs → IsMember q ps) → length qs ≤ length ps
+pub few_reached : (qs ps : List Position)
+    → AreDifferent qs
+    → ((q : Position) → IsMember q qs → IsMember q ps)
+    → length qs ≤ length ps
 few_reached [] ps apart inside = omega arith
 few_reached (q ∷ qs) ps apart inside =
     let w = without q ps (inside q (inl refl)) in
@@ -70,13 +73,19 @@ few_reached (q ∷ qs) ps apart inside =
 
 module _ (g : Graph) (limit : ℕ) (b : Pool) (rs : List Recorded) (t : AreTurned g limit b rs)
     (whole : length rs ≡ length (positions_of b)) where
-  found : (v : ℕ) (p : Position) → slice_get (positions_of b) v ≡ Some p → IsRecorded g (positions_of b) p (get_or rs v recorded.Lost)
+  found : (v : ℕ) (p : Position)
+      → slice_get (positions_of b) v ≡ Some p
+      → IsRecorded g (positions_of b) p (get_or rs v recorded.Lost)
   found v p at =
       let low = slice_get_within (positions_of b) v p at in
       subst (λ q. IsRecorded g (positions_of b) q (get_or rs v recorded.Lost))
       (get_or_from_slice_get (positions_of b) v p (start_of g) at) (t.recorded v (omega arith))
 
-  onward : (p q : Position) → IsMember p (positions_of b) → (u : Turn g p) → IsMember (To q) u.targets → IsMember q (positions_of b)
+  onward : (p q : Position)
+      → IsMember p (positions_of b)
+      → (u : Turn g p)
+      → IsMember (To q) u.targets
+      → IsMember q (positions_of b)
   onward p q m u leads = from (place_of p (positions_of b) m)
     where
       from : PlaceOf p (positions_of b) → IsMember q (positions_of b)
@@ -156,7 +165,10 @@ module _ (g : Graph) (limit : ℕ) (b : Pool) (e : Explores g limit b) (p : Posi
       more : (positions_of d ≡ positions_of b ++ p ∷ []) → (q : Position) → IsMember q (positions_of d) → IsReached g q
       more e2 q m = among (positions_of b) (λ r i. e.are_reached r i) (subst (IsMember q) e2 m)
         where
-          among : (ps : List Position) → ((r : Position) → IsMember r ps → IsReached g r) → IsMember q (ps ++ p ∷ []) → IsReached g q
+          among : (ps : List Position)
+              → ((r : Position) → IsMember r ps → IsReached g r)
+              → IsMember q (ps ++ p ∷ [])
+              → IsReached g q
           among [] all (inl same) = subst (IsReached g) (sym same) reached
           among [] all (inr none) = absurd none
           among (x ∷ ps) all (inl same) = all q (inl same)

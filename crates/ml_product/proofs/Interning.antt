@@ -22,7 +22,10 @@ use Rattle.ml_product.proofs.OnePlace.{PlaceOf, place_of}
 use Rattle.ml_lists.proofs.Added.{added_all, added_once, added_long, added_early, added_get}
 
 -- different positions, and one that isn't among them
-pub different_more : (ps : List Position) (p : Position) → AreDifferent ps → ¬ (IsMember p ps) → AreDifferent (ps ++ p ∷ [])
+pub different_more : (ps : List Position) (p : Position)
+    → AreDifferent ps
+    → ¬ (IsMember p ps)
+    → AreDifferent (ps ++ p ∷ [])
 different_more [] p apart new = (λ m. m, tt)
 different_more (q ∷ ps) p apart new = (
   λ m. by_part (member-append q ps (p ∷ []) m),

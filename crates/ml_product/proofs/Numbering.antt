@@ -22,12 +22,15 @@ module _ (limit : ℕ) (ps : List Position) (p : Position) (b : Pool) (n : ℕ) 
   pub numbered : n < limit → IsNumbered limit ps p b n
   numbered low = record { is_pool = is.is_pool; added = is.added; few = by_kind is.added.grown }
     where
-      by_place : (positions_of b ≡ ps ++ p ∷ []) → ¬ (IsMember p ps) → (slice_get ps n ≡ Some p) ⊎ ((n ≡ length ps) × (p ≡ p))
+      by_place : (positions_of b ≡ ps ++ p ∷ [])
+          → ¬ (IsMember p ps)
+          → (slice_get ps n ≡ Some p) ⊎ ((n ≡ length ps) × (p ≡ p))
           → length (positions_of b) ≤ limit
       by_place whole new (inl there) = absurd (new (member_of_get ps n p there))
       by_place whole new (inr end) = let e = ap length whole ∙ length-append ps (p ∷ []) in omega (arith, end.0)
 
-      by_kind : (positions_of b ≡ ps) ⊎ ((positions_of b ≡ ps ++ p ∷ []) × ¬ (IsMember p ps)) → length (positions_of b) ≤ limit
+      by_kind : (positions_of b ≡ ps) ⊎ ((positions_of b ≡ ps ++ p ∷ []) × ¬ (IsMember p ps))
+          → length (positions_of b) ≤ limit
       by_kind (inl old) = let e = ap length old in omega arith
       by_kind (inr new) =
           by_place new.0 new.1 (last_or ps p p n (subst (λ xs. slice_get xs n ≡ Some p) new.0 is.added.stands))

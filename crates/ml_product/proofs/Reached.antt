@@ -49,7 +49,10 @@ pub record Facts (g : Graph) (p : Position) : Type 0 where
   pub is_history : IsHistory p.history
 
 pub record Guessed (g : Graph) (p : Position) : Type 0 where
-  pub guessed : (n d : ℕ) → IsMember n p.sequent → IsMember d (odd_priorities g) → HasState p.history (numbered g n (Some d))
+  pub guessed : (n d : ℕ)
+      → IsMember n p.sequent
+      → IsMember d (odd_priorities g)
+      → HasState p.history (numbered g n (Some d))
 
 -- ---- the start
 
@@ -81,7 +84,8 @@ module _ (g : Graph) where
 
 -- ---- a step
 
-module _ (g : Graph) (p q : Position) (sp : SpreadList) (d : ℕ) (is_spread : IsSpreadOf g p.sequent p.choice sp) (in_spread : IsMember d sp.nodes) (f : Follows g p sp d q) where
+module _ (g : Graph) (p q : Position) (sp : SpreadList) (d : ℕ) (is_spread : IsSpreadOf g p.sequent p.choice sp)
+    (in_spread : IsMember d sp.nodes) (f : Follows g p sp d q) where
   -- a target is reached by a trace from a node of the sequent
   pub record TracedTo (m : ℕ) : Type 0 where
     pub triple : Triple
@@ -92,7 +96,8 @@ module _ (g : Graph) (p q : Position) (sp : SpreadList) (d : ℕ) (is_spread : I
   leaving_inside : (e m : ℕ) → LeadsOut g sp d e m → IsMember e sp.nodes
   leaving_inside e m l = by_kind l.leaves
     where
-      by_kind : ((e ≡ d) × (m ≡ l.child)) ⊎ (IsMember e sp.nodes × (node_at g e ≡ node.Square l.action m)) → IsMember e sp.nodes
+      by_kind : ((e ≡ d) × (m ≡ l.child)) ⊎ (IsMember e sp.nodes × (node_at g e ≡ node.Square l.action m))
+          → IsMember e sp.nodes
       by_kind (inl is) = subst (λ v. IsMember v sp.nodes) (sym is.0) in_spread
       by_kind (inr is) = is.0
 
@@ -110,7 +115,11 @@ module _ (g : Graph) (p q : Position) (sp : SpreadList) (d : ℕ) (is_spread : I
       record { triple = triple; member = (f.is_step.traces triple).1 trace; from = s.member; to_is = refl }
 
   -- a guess to which the plain state leads along each trace has a stack behind the step
-  led_to : Facts g p → (m : ℕ) → IsMember m q.sequent → (guess : Option ℕ) → ((k : ℕ) → Leads (odd_priorities g) k None guess false)
+  led_to : Facts g p
+      → (m : ℕ)
+      → IsMember m q.sequent
+      → (guess : Option ℕ)
+      → ((k : ℕ) → Leads (odd_priorities g) k None guess false)
       → HasState q.history (numbered g m guess)
   led_to facts m inside guess leads =
       let t = traced_to m inside in
@@ -131,7 +140,9 @@ module _ (g : Graph) (p q : Position) (sp : SpreadList) (d : ℕ) (is_spread : I
       subst (λ h. HasState h (numbered g m guess)) (sym f.history) ((steps_follow_letters p.history f.letter (numbered g m guess)).1 led)
 
   -- the guess behind a transition is one of the graph's odd priorities
-  guess_behind : (k : ℕ) (before behind : Option ℕ) (accepting : Bool) → Leads (odd_priorities g) k before behind accepting → IsGuess (odd_priorities g) behind
+  guess_behind : (k : ℕ) (before behind : Option ℕ) (accepting : Bool)
+      → Leads (odd_priorities g) k before behind accepting
+      → IsGuess (odd_priorities g) behind
   guess_behind k before None accepting leads = tt
   guess_behind k None (Some e) accepting leads = leads.0
   guess_behind k (Some c) (Some e) accepting leads = subst (λ v. IsMember v (odd_priorities g)) (sym leads.0) leads.1
@@ -143,7 +154,12 @@ module _ (g : Graph) (p q : Position) (sp : SpreadList) (d : ℕ) (is_spread : I
       let led : IsLedTo p.history f.letter a.state = (steps_follow_letters p.history f.letter a.state).0 behind in
       from_triple ((f.is_letter (record { from = led.from; to = a.state; accepting = led.accepting })).0 led.transition)
     where
-      from_triple : {from : ℕ} {accepting : Bool} → ((t : Triple) × IsMember t f.traces × Gives (odd_priorities g) t (record { from = from; to = a.state; accepting = accepting })) → IsTraced g q.sequent a
+      from_triple : {from : ℕ} {accepting : Bool}
+          →
+          ((t : Triple)
+          × IsMember t f.traces
+          × Gives (odd_priorities g) t (record { from = from; to = a.state; accepting = accepting }))
+          → IsTraced g q.sequent a
       from_triple (t, member, gives) =
           let trace : IsTrace g p.sequent sp d t = (f.is_step.traces t).0 member in
           record {
@@ -169,7 +185,9 @@ module _ (g : Graph) (p q : Position) (sp : SpreadList) (d : ℕ) (is_spread : I
 -- ---- all positions
 
 module _ (g : Graph) where
-  along_steps : (p q : Position) (sp : SpreadList) → IsSpreadOf g p.sequent p.choice sp → (ds : List ℕ) (ts : List Target)
+  along_steps : (p q : Position) (sp : SpreadList)
+      → IsSpreadOf g p.sequent p.choice sp
+      → (ds : List ℕ) (ts : List Target)
       → ((d : ℕ) → IsMember d ds → IsMember d sp.nodes)
       → AreSteps g p sp ds ts
       → IsMember (To q) ts

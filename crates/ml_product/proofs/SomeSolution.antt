@@ -3,7 +3,7 @@
 -- The map of winners of the determinacy law, with its one choice for both players, written out as two lists.
 --
 --   some_solution == a game has a solution
-use Rattle.std.proofs.Common.{ℕ, ◌≡◌, ◌+◌, ◌<◌, ◌≤◌, ◌⊎◌, inl, inr, arith, List, [], map, length, get_or, subst, sym, ap, ◌∙◌}
+use Rattle.std.proofs.Common.{ℕ, ◌≡◌, ◌+◌, ◌<◌, ◌≤◌, ◌⊎◌, inl, inr, arith, List, [], map, get_or, subst, sym, ◌∙◌}
 use Rattle.std.specs.List.{range_with_len, Contains}
 use Rattle.std.proofs.lemmas.Bool.{cases_lt}
 use Rattle.std.proofs.lemmas.List.{get_or_past}
@@ -12,7 +12,7 @@ use Rattle.ml_lists.proofs.Members.{contains_none}
 use Rattle.ml_lists.specs.Lasso.{round}
 use Rattle.ml_parity.specs.declared.players.Player.{Player}
 use Rattle.ml_parity.specs.declared.players.Player.TheVariants.{Even}
-use Rattle.ml_parity.specs.Game.{ParityGame, IsGame, HasMove, moves_of, size}
+use Rattle.ml_parity.specs.Game.{ParityGame, IsGame, HasMove, size}
 use Rattle.ml_parity.specs.Solution.{GameSolution, IsSolution, winner_at, choice_at}
 use Rattle.ml_parity.specs.Winner.{WinsFrom}
 use Rattle.ml_parity.proofs.Winners.{Winners, winners}

@@ -24,7 +24,8 @@ use Rattle.ml_sequent.specs.Choice.{side_of, with_side}
 use Rattle.ml_sequent.specs.Spread.{SpreadList, IsSpreadOf, IsSpread, IsCause, IsFirstCause, IsLeastOpenOr}
 use Rattle.ml_sequent.proofs.OwnSpreads.{own_spread}
 use Rattle.ml_product.specs.Position.{Position, start_of, with_chosen, neutral}
-use Rattle.ml_product.specs.DecisionGame.{Verdict, Clashing, Open, Leading, Settled, Target, To, Lost, Won, AreSteps, AreMoves, IsVerdictOf, IsResolved, diamonds_of, Turn, HasMoreThan, IsReached, by_move}
+use Rattle.ml_product.specs.DecisionGame.{Verdict, Clashing, Open, Leading, Settled, Target, To, Lost, Won, AreSteps, AreMoves}
+use Rattle.ml_product.specs.DecisionGame.{IsVerdictOf, IsResolved, diamonds_of, Turn, HasMoreThan, IsReached, by_move}
 use Rattle.ml_product.specs.declared.pool.Fresh.{Fresh}
 use Rattle.ml_product.specs.declared.pool.Pool.{Pool}
 use Rattle.ml_product.specs.declared.recorded.Recorded.TheVariants as recorded

@@ -52,7 +52,11 @@ longer_both ps qs rs a b =
     record { more = a.more ++ b.more; is = b.is ∙ ap (λ xs. xs ++ b.more) a.is ∙ append_assoc ps a.more b.more }
 
 -- the vertices of targets stay so
-vertex_later : (n : ℕ) (ps qs : List Position) → IsLonger ps qs → (t : Target) (v : ℕ) → IsVertexAt n ps t v → IsVertexAt n qs t v
+vertex_later : (n : ℕ) (ps qs : List Position)
+    → IsLonger ps qs
+    → (t : Target) (v : ℕ)
+    → IsVertexAt n ps t v
+    → IsVertexAt n qs t v
 vertex_later n ps qs l (To p) v is = longer_get ps qs l v p is
 vertex_later n ps qs l Lost v is = is
 vertex_later n ps qs l Won v is = is
@@ -116,7 +120,9 @@ target_stands n ps (t ∷ ts) vs q (v, others, here, rest, is) (inl same) =
 target_stands n ps (t ∷ ts) vs q (v, others, here, rest, is) (inr m) = target_stands n ps ts others q rest m
 
 -- where there are no new positions, these are the vertices of the game
-pub at_the_end : (ps : List Position) (ts : List Target) (vs : List ℕ) → AreVerticesAt (length ps) ps ts vs → AreVertices ps ts vs
+pub at_the_end : (ps : List Position) (ts : List Target) (vs : List ℕ)
+    → AreVerticesAt (length ps) ps ts vs
+    → AreVertices ps ts vs
 at_the_end ps [] vs are = are
 at_the_end ps (t ∷ ts) vs (v, others, here, rest, is) = (v, others, of_kind t here, at_the_end ps ts others rest, is)
   where

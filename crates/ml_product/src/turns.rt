@@ -9,7 +9,7 @@ ghost use Rattle.ml_product.specs.Position.{Position, automaton_states};
 ghost use Rattle.ml_product.specs.DecisionGame.{IsReached, HasMoreThan, IsResolved, AreSteps, diamonds_of};
 ghost use Rattle.ml_product.specs.View.{viewed};
 ghost use Rattle.ml_product.specs.private.Pools.{positions_of, position_of, KeepsPool, beside};
-ghost use Rattle.ml_product.specs.private.Exploring.{AreTerms, Explores, IsNumbered, HasNoRoom, at_place, target_of, Becomes, IsAt, IsLed, IsTurned};
+ghost use Rattle.ml_product.specs.private.Exploring.{AreTerms, Explores, IsNumbered, HasNoRoom, at_place, target_of, IsAt, IsLed, IsTurned};
 
 use crate::following::{Terms, follow};
 use crate::pool::{Fresh, Pool};

@@ -3,7 +3,7 @@
 --   behind_more, behind_less, behind_done == the next number is above the one before it, isn't, or there is none
 --   ascends_is, ascends_not    == what the test says of the list
 --   below_is, below_not        == what the test says whether numbers are below a bound
-use Rattle.std.proofs.Common.{◌≡◌, ℕ, ◌+◌, ◌<◌, ◌≤◌, Bool, true, false, ◌&&◌, nat_lt, List, [], ◌∷◌, length, get_or, drop, All, inl, refl, sym, ap, ◌∙◌, arith}
+use Rattle.std.proofs.Common.{◌≡◌, ℕ, ◌+◌, ◌<◌, ◌≤◌, Bool, true, false, ◌&&◌, nat_lt, List, [], ◌∷◌, length, get_or, drop, All, inl, refl, ap, ◌∙◌, arith}
 use Rattle.std.specs.List.{list_all}
 use Rattle.std.proofs.lemmas.Bool.{true≢false}
 use Rattle.std.proofs.lemmas.Bool.Decides.{nat_tests}
@@ -26,7 +26,9 @@ test_no_less : (x y : ℕ) → nat_lt x y ≡ false → y ≤ x
 test_no_less x y is = grind (arith, nat_tests)
 
 module _ (first last i : ℕ) (xs : List ℕ) (so_far : ascends_behind first xs ≡ ascends_behind last (drop i xs)) where
-  pub behind_more : i < length xs → last < get_or xs i 0 → ascends_behind first xs ≡ ascends_behind (get_or xs i 0) (drop (i + 1) xs)
+  pub behind_more : i < length xs
+      → last < get_or xs i 0
+      → ascends_behind first xs ≡ ascends_behind (get_or xs i 0) (drop (i + 1) xs)
   behind_more here less =
       so_far ∙ ap (ascends_behind last) (drop_more xs i 0 here)
       ∙ ap (λ b. b && ascends_behind (get_or xs i 0) (drop (i + 1) xs)) (less_test last (get_or xs i 0) less)
@@ -53,7 +55,11 @@ pub ascends_not : (x : ℕ) (xs : List ℕ) → ascends_behind x xs ≡ false �
 ascends_not x [] is ascends = true≢false is
 ascends_not x (y ∷ ys) is ascends = go (nat_lt x y) refl is (ascends_not y ys)
   where
-    go : (b : Bool) → nat_lt x y ≡ b → (b && ascends_behind y ys) ≡ false → (ascends_behind y ys ≡ false → ¬ (IsAscending (y ∷ ys))) → ⊥
+    go : (b : Bool)
+        → nat_lt x y ≡ b
+        → (b && ascends_behind y ys) ≡ false
+        → (ascends_behind y ys ≡ false → ¬ (IsAscending (y ∷ ys)))
+        → ⊥
     go true less rest others = others rest ascends.1
     go false past rest others =
         let under = test_no_less x y past in let above = ascends.0 y (inl refl) in absurd (omega (arith, under, above))

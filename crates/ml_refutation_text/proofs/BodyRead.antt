@@ -16,25 +16,25 @@ use Rattle.ml_base.specs.declared.version.Version.{Version}
 use Rattle.ml_base.specs.declared.version.Version.TheVariants.{One, Two}
 use Rattle.ml_base.specs.declared.doc_refusal.DocRefusal.{DocRefusal}
 use Rattle.ml_base.specs.declared.doc_refusal.DocRefusal.TheVariants as refused
-use Rattle.ml_lines.specs.Lines.{Line, text_of, number}
+use Rattle.ml_lines.specs.Lines.{Line, text_of}
 use Rattle.ml_lines.specs.Reading.{lines_of, left_of, words_of, fronts, is_line_end, is_blank}
 use Rattle.ml_lines.proofs.Cuts.{some_part}
 use Rattle.ml_lines.proofs.WrittenLines.{lines_read, text_read}
-use Rattle.ml_lists.specs.Documents.{Format, IsReadTo, nothing_read, line_read, IsFirstBroken}
+use Rattle.ml_lists.specs.Documents.{IsReadTo, nothing_read, line_read}
 use Rattle.ml_trace.specs.Stack as traced
 use Rattle.ml_trace.specs.declared.letters.AutomatonState.{AutomatonState}
 use Rattle.ml_refutation.specs.Refutation.{Refutation, Entry, Fits, IsRefutation}
-use Rattle.ml_refutation_text.specs.RefutationText.{Form, InFull, ByTables, names_line, entries_line, sequent_line, stack_line, stacks_line, live_line, heights_line, end_line, decision_lines, HeadLines, ItemLines, EntriesLines, FirstLines, BodyLines, IsForm, IsTextOf}
+use Rattle.ml_refutation_text.specs.RefutationText.{Form, InFull, ByTables, names_line, entries_line, sequent_line, stack_line, stacks_line, live_line, heights_line}
+use Rattle.ml_refutation_text.specs.RefutationText.{end_line, decision_lines, HeadLines, ItemLines, EntriesLines, FirstLines, BodyLines, IsForm, IsTextOf}
 use Rattle.ml_refutation_text.specs.BodyRules.{Place, AtNames, AtEntries, AtEntry, AtEnd, AtNothing, after_names, after, at_entry, rule_number, body}
 use Rattle.ml_refutation_text.specs.LineKinds.{kind, Fixed, IsOfKinds}
 use Rattle.ml_lines.proofs.Faults.{fault_here, fault_missing}
-use Rattle.ml_refutation_text.specs.PartLines.{head_size, entry_size, entries_size, parts_from, lines_before, AreLinesOf}
-use Rattle.ml_refutation_text.specs.private.Reads.{IsNext, Goes, Breaks, TellsFault, version_of}
+use Rattle.ml_refutation_text.specs.PartLines.{head_size, entries_size, parts_from, lines_before, AreLinesOf}
+use Rattle.ml_refutation_text.specs.private.Reads.{IsNext, Goes, Breaks, TellsFault}
 use Rattle.ml_refutation_text.specs.private.ItemReads.{knows}
 use Rattle.ml_refutation_text.specs.private.BodyReads.{IsBodyRead}
 use Rattle.ml_refutation_text.specs.declared.lines.EntryLines.{EntryLines}
 use Rattle.ml_refutation_text.specs.declared.rest.Rest.{Rest}
-use Rattle.ml_refutation_text.specs.declared.body_rule.BodyRule.{BodyRule}
 use Rattle.ml_refutation_text.specs.declared.body_rule.BodyRule.TheVariants.{OfKind, HasEntries}
 use Rattle.ml_refutation_text.proofs.ReadWords.{value_back}
 use Rattle.ml_refutation_text.proofs.Runs.{Runs, run_on, run_readable, one_end}
@@ -58,10 +58,16 @@ module _ (v : Version) (at rest : Rest) where
       goes_run v (AtEntries names F) (at_entry (knows names F count) []) at rest (entries_line count) (entries_line count) next refl
       (λ left. entries_run v left names F count fits some)
 
-  pub end_goes : (r : Refutation) (line : Line) → IsNext at line rest → line ≡ end_line → Goes v (AtEnd r) at (AtNothing r) rest
+  pub end_goes : (r : Refutation) (line : Line)
+      → IsNext at line rest
+      → line ≡ end_line
+      → Goes v (AtEnd r) at (AtNothing r) rest
   end_goes r line next is = goes_run v (AtEnd r) (AtNothing r) at rest line end_line next is (λ left. end_run v left r)
 
-pub no_entries : (names : ℕ) (F : Form) (count : ℕ) → Fits count → count ≤ 0 → Breaks (AtEntries names F) (entries_line count) HasEntries
+pub no_entries : (names : ℕ) (F : Form) (count : ℕ)
+    → Fits count
+    → count ≤ 0
+    → Breaks (AtEntries names F) (entries_line count) HasEntries
 no_entries names F count fits none left =
     inr (
       inl (numbered_of One left (codes "entries") count refl fits),
@@ -93,10 +99,14 @@ pub behind_end : (v : Version) (r : Refutation) (at : Rest) (told : DocRefusal) 
     → told ≡ refused.Fault (record { line = at.line; rule = rule_number OfKind }) → TellsFault v (AtNothing r) at told
 behind_end v r at told some is = go (fronts (slice_split is_line_end at.text.now)) refl
   where
-    go : (parts : List (List ℕ)) → fronts (slice_split is_line_end at.text.now) ≡ parts → TellsFault v (AtNothing r) at told
+    go : (parts : List (List ℕ))
+        → fronts (slice_split is_line_end at.text.now) ≡ parts
+        → TellsFault v (AtNothing r) at told
     go [] none =
         let no_lines : lines_of at.text.now ≡ [] = ap (map words_of) none in
-        let all_left : left_of at.text.now ≡ at.text.now = sym (ap (λ lines. text_of lines ++ left_of at.text.now) no_lines) ∙ text_read at.text.now in
+        let all_left : left_of at.text.now ≡ at.text.now =
+        sym (ap (λ lines. text_of lines ++ left_of at.text.now) no_lines) ∙ text_read at.text.now
+        in
         subst (TellsFault v (AtNothing r) at) (sym is)
         (fault_missing (body v) at.line (AtNothing r) at.text.now 21 no_lines (inl (refl, λ kind. some (sym all_left ∙ kind.1))))
     go (part ∷ parts) first =
@@ -107,11 +117,15 @@ behind_end v r at told some is = go (fronts (slice_split is_line_end at.text.now
 
 -- ---- how many lines
 
-item_count : (F : Form) (items : List (traced.Item AutomatonState)) (lines : List Line) → ItemLines F items lines → length lines ≡ length items
+item_count : (F : Form) (items : List (traced.Item AutomatonState)) (lines : List Line)
+    → ItemLines F items lines
+    → length lines ≡ length items
 item_count F [] lines is = ap length is
 item_count F (a ∷ items) lines (line, others, first, rest, is) = omega (arith, ap length is, item_count F items others rest)
 
-head_count : (v : Version) (names : ℕ) (F : Form) (i : ℕ) (q : List ℕ) (lines : List Line) → IsForm v names F → HeadLines F i q lines
+head_count : (v : Version) (names : ℕ) (F : Form) (i : ℕ) (q : List ℕ) (lines : List Line)
+    → IsForm v names F
+    → HeadLines F i q lines
     → length lines ≡ head_size v
 head_count One names InFull i q lines form is = ap length is
 head_count One names (ByTables qs ks) i q lines form is = absurd form
@@ -134,7 +148,9 @@ entries_count v names F i (e ∷ es) lines form (first, others, one, rest, is) =
       entries_count v names F (i + 1) es others form rest,
     )
 
-first_count : (v : Version) (F : Form) (names : ℕ) (lines : List Line) → FirstLines F names lines → length lines + 1 ≡ lines_before F
+first_count : (v : Version) (F : Form) (names : ℕ) (lines : List Line)
+    → FirstLines F names lines
+    → length lines + 1 ≡ lines_before F
 first_count v InFull names lines is = omega (arith, ap length is)
 first_count v (ByTables qs ks) names lines (w, spells, is) =
     omega (
@@ -165,7 +181,8 @@ pub record RunsOf (v : Version) (left : List ℕ) (k : ℕ) (p : Place) (lines :
   pub run : Runs (body v left) p front q
   pub counted : j ≡ k + length front
 
-pub runs_of : (v : Version) (left : List ℕ) (k : ℕ) (p : Place) (lines : List Line) (j : ℕ) (q : Place) (rest : List Line)
+pub runs_of : (v : Version) (left : List ℕ) (k : ℕ) (p : Place) (lines : List Line) (j : ℕ) (q : Place)
+    (rest : List Line)
     → IsReadTo (body v left) k p lines j q rest → RunsOf v left k p lines j q rest
 runs_of v left k p lines j q rest nothing_read = record { front = []; is_front = refl; run = refl; counted = omega arith }
 runs_of v left k p lines j q rest (line_read i at line more before good) =
@@ -179,7 +196,8 @@ runs_of v left k p lines j q rest (line_read i at line more before good) =
 -- ---- the parts of a body
 
 -- behind the last entry
-pub at_end : (v : Version) (names wanted : ℕ) (F : Form) (es : List Entry) (p : Place) (at rest : Rest) → length es ≡ wanted
+pub at_end : (v : Version) (names wanted : ℕ) (F : Form) (es : List Entry) (p : Place) (at rest : Rest)
+    → length es ≡ wanted
     → Goes v p at (at_entry (knows names F wanted) es) rest → Goes v p at (AtEnd (record { names = names; entries = es })) rest
 at_end v names wanted F es p at rest full goes =
     let test : nat_lt (length es) wanted ≡ false = grind (arith, nat_tests, full) in
@@ -197,7 +215,10 @@ module _ (v : Version) (names wanted : ℕ) (F : Form) (at a b c : Rest) where
 pub text_size : (v : Version) (t : List ℕ) (r : Refutation) → IsRefutation r → (written : IsTextOf v t r)
     → length (lines_of t) ≡ lines_before written.form + entries_size v r.entries + 1
 text_size v t r is written =
-    let plain = run_plain v 0 [] AtNames (AtNothing r) written.lines (body_run v (0 ∷ []) written.form r written.lines is written.is_form written.are_lines) in
+    let plain =
+    run_plain v 0 [] AtNames (AtNothing r) written.lines
+    (body_run v (0 ∷ []) written.form r written.lines is written.is_form written.are_lines)
+    in
     let read = lines_read written.lines plain in
     ap length (ap lines_of written.is_text ∙ read.0) ∙ body_size v written.form r written.lines written.is_form written.are_lines
 
@@ -224,7 +245,9 @@ module _ (v : Version) (at rest : Rest) (r : Refutation) (goes : Goes v AtNames 
         counted = omega (arith, read.counted, ap length full);
       }
 
-  pub body_read : (start before : ℕ) (parts : List EntryLines) → start ≡ at.line + before → parts ≡ parts_from v start r.entries
+  pub body_read : (start before : ℕ) (parts : List EntryLines)
+      → start ≡ at.line + before
+      → parts ≡ parts_from v start r.entries
       → rest.line ≡ start + entries_size v r.entries + 1 → IsBodyRead v at.text.now at.line r parts
   body_read start before parts begins are counted =
       let whole = whole_read in

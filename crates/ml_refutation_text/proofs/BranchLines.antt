@@ -6,22 +6,20 @@
 --   lacks_go_words, lacks_mark, lacks_diamond, lacks_entry == the same of what stands behind `go`
 --   clash_broken, go_broken, split_broken, other_broken    == the rule that a line breaks whose words are so
 --   out_of_range, too_deep               == a go that leads nowhere, and a split inside too many
-use Rattle.std.proofs.Common.{◌≡◌, ℕ, ◌+◌, ◌<◌, ◌≤◌, ◌⊎◌, false, List, [], ◌∷◌, ◌++◌, length, drop, All, codes, inl, inr, refl, sym, ap, subst, ◌∙◌, arith}
+use Rattle.std.proofs.Common.{◌≡◌, ℕ, ◌+◌, ◌<◌, ◌≤◌, false, List, [], ◌∷◌, ◌++◌, length, drop, All, codes, inl, inr, refl, sym, ap, subst, ◌∙◌, arith}
 use Rattle.std.specs.Str.{bytes_eq}
 use Rattle.std.proofs.lemmas.List.Elements.{All-nil, All-cons, All-head, All-tail}
 use Rattle.ml_lines.specs.Lines.{Word, Line, number}
 use Rattle.ml_lines.specs.Reading.{AreWords, IsNumber, value, word}
-use Rattle.ml_refutation.specs.Refutation.{Entry, Fits, FitsCause, IsMarkOf}
-use Rattle.ml_refutation.specs.declared.refutation.TheConstants.{NESTING_LIMIT}
+use Rattle.ml_refutation.specs.Refutation.{Fits, IsMarkOf}
 use Rattle.ml_trace.specs.declared.marks.Mark.{Mark}
-use Rattle.ml_refutation_text.specs.RefutationText.{Form, InFull, mark_words, go_line}
+use Rattle.ml_refutation_text.specs.RefutationText.{InFull, mark_words, go_line}
 use Rattle.ml_refutation_text.specs.LineKinds.{Kind, Slot, Fixed, ANumber, AGuess, AnySize, InSlots, FitSlots, IsOfKinds, HaveNumbers}
-use Rattle.ml_refutation_text.specs.BodyRules.{Around, Begun, AtDecision, numbered, clash_kinds, go_kinds, rules, rule_number, mark_of}
-use Rattle.ml_refutation_text.specs.private.Reads.{Breaks}
+use Rattle.ml_refutation_text.specs.BodyRules.{Begun, AtDecision, numbered, clash_kinds, go_kinds, rules, rule_number, mark_of}
 use Rattle.ml_refutation_text.specs.private.ItemReads.{knows}
 use Rattle.ml_refutation_text.specs.private.BranchReads.{BreaksBranch, FitsMark, Shape, LacksNumbers, IsMarked, LacksMark, IsCaused, LacksCause, IsGo, LacksGo}
 use Rattle.ml_refutation_text.specs.declared.body_rule.BodyRule.{BodyRule}
-use Rattle.ml_refutation_text.specs.declared.body_rule.BodyRule.TheVariants.{OfKind, Numbers, GoInRange, Nesting}
+use Rattle.ml_refutation_text.specs.declared.body_rule.BodyRule.TheVariants.{OfKind, Numbers, GoInRange}
 use Rattle.ml_lists.specs.Documents.{IsFirstBroken}
 use Rattle.ml_base.specs.declared.version.Version.TheVariants.{Two}
 use Rattle.ml_refutation_text.proofs.GoodLines.{go_usual, mark_back}
@@ -41,7 +39,10 @@ OnlyNumbers (Fixed w ∷ slots) = ⊥
 OnlyNumbers (AGuess ∷ slots) = ⊥
 OnlyNumbers (AnySize ∷ slots) = ⊥
 
-pub free_slots : (slots : List Slot) (words : Line) → OnlyNumbers slots → length words ≡ length slots → InSlots false slots words
+pub free_slots : (slots : List Slot) (words : Line)
+    → OnlyNumbers slots
+    → length words ≡ length slots
+    → InSlots false slots words
 free_slots [] [] free count = refl
 free_slots [] (w ∷ words) free count = absurd (omega (arith, count))
 free_slots (ANumber ∷ slots) [] free count = absurd (omega (arith, count))
@@ -69,7 +70,10 @@ numbers_fit (AnySize ∷ slots) words free are = absurd free
 
 -- ---- marks
 
-pub lacks_red : (words rest : Line) (rule : BodyRule) → words ≡ codes "red" ∷ rest → LacksNumbers 1 rest rule → LacksMark words rule
+pub lacks_red : (words rest : Line) (rule : BodyRule)
+    → words ≡ codes "red" ∷ rest
+    → LacksNumbers 1 rest rule
+    → LacksMark words rule
 lacks_red words rest rule is lacks = subst (λ ws. LacksMark ws rule) (sym is) (go lacks)
   where
     go : LacksNumbers 1 rest rule → LacksMark (codes "red" ∷ rest) rule
@@ -81,7 +85,10 @@ lacks_red words rest rule is lacks = subst (λ ws. LacksMark ws rule) (sym is) (
         none (inr (inr neutral)) = differ (codes "red") (codes "neutral") refl neutral.0
     go (inr (kind, count, bad)) = inr (kind, inl (refl, omega (arith, count)), bad)
 
-pub lacks_green : (words rest : Line) (rule : BodyRule) → words ≡ codes "green" ∷ rest → LacksNumbers 1 rest rule → LacksMark words rule
+pub lacks_green : (words rest : Line) (rule : BodyRule)
+    → words ≡ codes "green" ∷ rest
+    → LacksNumbers 1 rest rule
+    → LacksMark words rule
 lacks_green words rest rule is lacks = subst (λ ws. LacksMark ws rule) (sym is) (go lacks)
   where
     go : LacksNumbers 1 rest rule → LacksMark (codes "green" ∷ rest) rule
@@ -94,7 +101,10 @@ lacks_green words rest rule is lacks = subst (λ ws. LacksMark ws rule) (sym is)
     go (inr (kind, count, bad)) = inr (kind, inr (inl (refl, omega (arith, count))), bad)
 
 -- another word with something behind it
-pub no_mark : (words rest : Line) (color : Word) → words ≡ color ∷ rest → 0 < length rest → bytes_eq color (codes "red") ≡ false
+pub no_mark : (words rest : Line) (color : Word)
+    → words ≡ color ∷ rest
+    → 0 < length rest
+    → bytes_eq color (codes "red") ≡ false
     → bytes_eq color (codes "green") ≡ false → LacksMark words OfKind
 no_mark words rest color is some no_red no_green = subst (λ ws. LacksMark ws OfKind) (sym is) (inl (refl, none))
   where
@@ -105,7 +115,10 @@ no_mark words rest color is some no_red no_green = subst (λ ws. LacksMark ws Of
 
 -- ---- causes
 
-pub lacks_false : (words rest : Line) (rule : BodyRule) → words ≡ codes "false" ∷ rest → LacksNumbers 1 rest rule → LacksCause words rule
+pub lacks_false : (words rest : Line) (rule : BodyRule)
+    → words ≡ codes "false" ∷ rest
+    → LacksNumbers 1 rest rule
+    → LacksCause words rule
 lacks_false words rest rule is lacks = subst (λ ws. LacksCause ws rule) (sym is) (go lacks)
   where
     go : LacksNumbers 1 rest rule → LacksCause (codes "false" ∷ rest) rule
@@ -117,7 +130,10 @@ lacks_false words rest rule is lacks = subst (λ ws. LacksCause ws rule) (sym is
         none (inr (inr cycle)) = differ (codes "false") (codes "cycle") refl cycle.0
     go (inr (kind, count, bad)) = inr (kind, inl (refl, omega (arith, count)), bad)
 
-pub lacks_pair : (words rest : Line) (rule : BodyRule) → words ≡ codes "pair" ∷ rest → LacksNumbers 2 rest rule → LacksCause words rule
+pub lacks_pair : (words rest : Line) (rule : BodyRule)
+    → words ≡ codes "pair" ∷ rest
+    → LacksNumbers 2 rest rule
+    → LacksCause words rule
 lacks_pair words rest rule is lacks = subst (λ ws. LacksCause ws rule) (sym is) (go lacks)
   where
     go : LacksNumbers 2 rest rule → LacksCause (codes "pair" ∷ rest) rule
@@ -129,7 +145,10 @@ lacks_pair words rest rule is lacks = subst (λ ws. LacksCause ws rule) (sym is)
         none (inr (inr cycle)) = differ (codes "pair") (codes "cycle") refl cycle.0
     go (inr (kind, count, bad)) = inr (kind, inr (inl (refl, omega (arith, count))), bad)
 
-pub lacks_cycle : (words rest : Line) (rule : BodyRule) → words ≡ codes "cycle" ∷ rest → LacksNumbers 1 rest rule → LacksCause words rule
+pub lacks_cycle : (words rest : Line) (rule : BodyRule)
+    → words ≡ codes "cycle" ∷ rest
+    → LacksNumbers 1 rest rule
+    → LacksCause words rule
 lacks_cycle words rest rule is lacks = subst (λ ws. LacksCause ws rule) (sym is) (go lacks)
   where
     go : LacksNumbers 1 rest rule → LacksCause (codes "cycle" ∷ rest) rule
@@ -174,16 +193,24 @@ module _ (words others : Line) (diamond entry : Word) (is : words ≡ diamond �
 abbrev pub branch_kinds : List Kind
 branch_kinds = numbered (codes "split") ∷ (clash_kinds ++ go_kinds)
 
-slots_shape : (f : Word) (slots : List Slot) (words : Line) → InSlots false (Fixed f ∷ slots) words → (word words 0 ≡ f) × (length words ≡ length slots + 1)
+slots_shape : (f : Word) (slots : List Slot) (words : Line)
+    → InSlots false (Fixed f ∷ slots) words
+    → (word words 0 ≡ f) × (length words ≡ length slots + 1)
 slots_shape f slots [] is = absurd is
 slots_shape f slots (w ∷ words) is = (is.0, omega (arith, count_slots slots words is.1))
 
-shape_slots : (f : Word) (slots : List Slot) (words : Line) → OnlyNumbers slots → word words 0 ≡ f → length words ≡ length slots + 1
+shape_slots : (f : Word) (slots : List Slot) (words : Line)
+    → OnlyNumbers slots
+    → word words 0 ≡ f
+    → length words ≡ length slots + 1
     → InSlots false (Fixed f ∷ slots) words
 shape_slots f slots [] free is count = absurd (omega (arith, count))
 shape_slots f slots (w ∷ words) free is count = (is, free_slots slots words free (omega (arith, count)))
 
-fits_behind : (f : Word) (slots : List Slot) (words : Line) → OnlyNumbers slots → FitSlots (Fixed f ∷ slots) words → All IsNumber (drop 1 words)
+fits_behind : (f : Word) (slots : List Slot) (words : Line)
+    → OnlyNumbers slots
+    → FitSlots (Fixed f ∷ slots) words
+    → All IsNumber (drop 1 words)
 fits_behind f slots [] free fits = All-nil IsNumber
 fits_behind f slots (w ∷ words) free fits = fit_numbers slots words free fits.1
 
@@ -237,26 +264,38 @@ module _ (names wanted depth : ℕ) where
         let slots = shape_slots (codes "cycle") (ANumber ∷ []) words tt cycle.0 (omega (arith, cycle.1)) in
         fits_behind (codes "cycle") (ANumber ∷ []) words tt (have.1.1.1.0 (are, (refl, slots))).1
 
-    clash_first : (rule : BodyRule) → LacksCause words rule → BreaksBranch names wanted depth (codes "clash" ∷ words) rule
+    clash_first : (rule : BodyRule)
+        → LacksCause words rule
+        → BreaksBranch names wanted depth (codes "clash" ∷ words) rule
     clash_first rule (inl (kind, none)) F es b around deep left = inl (ap rule_number kind, λ of. none (clash_caused of))
     clash_first rule (inr (kind, caused, bad)) F es b around deep left =
         inr (clash_kind caused, inl (ap rule_number kind, λ have. bad (clash_numbers caused have)))
 
-  pub clash_broken : (line words : Line) (rule : BodyRule) → line ≡ codes "clash" ∷ words → AreWords line → LacksCause words rule
+  pub clash_broken : (line words : Line) (rule : BodyRule)
+      → line ≡ codes "clash" ∷ words
+      → AreWords line
+      → LacksCause words rule
       → BreaksBranch names wanted depth line rule
   clash_broken line words rule is are lacks =
       subst (λ l. BreaksBranch names wanted depth l rule) (sym is) (clash_first words (subst AreWords is are) rule lacks)
 
   module _ (words : Line) (are : AreWords (codes "go" ∷ words)) where
-    red_slots : (2 ≤ length words) → Shape (codes "red") 2 (drop 2 words) → InSlots false (ANumber ∷ ANumber ∷ Fixed (codes "red") ∷ ANumber ∷ []) words
+    red_slots : (2 ≤ length words)
+        → Shape (codes "red") 2 (drop 2 words)
+        → InSlots false (ANumber ∷ ANumber ∷ Fixed (codes "red") ∷ ANumber ∷ []) words
     red_slots some s =
         go_slots (Fixed (codes "red") ∷ ANumber ∷ []) words some (shape_slots (codes "red") (ANumber ∷ []) (drop 2 words) tt s.0 (omega (arith, s.1)))
 
-    green_slots : (2 ≤ length words) → Shape (codes "green") 2 (drop 2 words) → InSlots false (ANumber ∷ ANumber ∷ Fixed (codes "green") ∷ ANumber ∷ []) words
+    green_slots : (2 ≤ length words)
+        → Shape (codes "green") 2 (drop 2 words)
+        → InSlots false (ANumber ∷ ANumber ∷ Fixed (codes "green") ∷ ANumber ∷ []) words
     green_slots some s =
-        go_slots (Fixed (codes "green") ∷ ANumber ∷ []) words some (shape_slots (codes "green") (ANumber ∷ []) (drop 2 words) tt s.0 (omega (arith, s.1)))
+        go_slots (Fixed (codes "green") ∷ ANumber ∷ []) words some
+        (shape_slots (codes "green") (ANumber ∷ []) (drop 2 words) tt s.0 (omega (arith, s.1)))
 
-    neutral_slots : (2 ≤ length words) → Shape (codes "neutral") 1 (drop 2 words) → InSlots false (ANumber ∷ ANumber ∷ Fixed (codes "neutral") ∷ []) words
+    neutral_slots : (2 ≤ length words)
+        → Shape (codes "neutral") 1 (drop 2 words)
+        → InSlots false (ANumber ∷ ANumber ∷ Fixed (codes "neutral") ∷ []) words
     neutral_slots some s =
         go_slots (Fixed (codes "neutral") ∷ []) words some (shape_slots (codes "neutral") [] (drop 2 words) tt s.0 (omega (arith, s.1)))
 
@@ -304,7 +343,9 @@ module _ (names wanted depth : ℕ) where
   other_broken line none F es b around deep left = inl (refl, none)
 
   -- a line that begins with no word of a branch
-  pub no_branch : (line : Line) → bytes_eq (word line 0) (codes "split") ≡ false → bytes_eq (word line 0) (codes "clash") ≡ false
+  pub no_branch : (line : Line)
+      → bytes_eq (word line 0) (codes "split") ≡ false
+      → bytes_eq (word line 0) (codes "clash") ≡ false
       → bytes_eq (word line 0) (codes "go") ≡ false → BreaksBranch names wanted depth line OfKind
   no_branch line no_split no_clash no_go = other_broken line (none line no_split no_clash no_go)
     where
@@ -341,4 +382,8 @@ module _ (names wanted depth : ℕ) where
       (inr (usual.0, inr (usual.1, inl (refl, λ keeps. bad (keeps refl)))))
     where
       bad : (value (word (go_line d e m) 2) < wanted) × IsMarkOf names (mark_of (go_line d e m)) → ⊥
-      bad keeps = none (omega (arith, keeps.0, value_back e fits'), subst (IsMarkOf names) (mark_back Two [] (knows names InFull wanted) [] no_entry d e m fit) keeps.1)
+      bad keeps =
+          none (
+            omega (arith, keeps.0, value_back e fits'),
+            subst (IsMarkOf names) (mark_back Two [] (knows names InFull wanted) [] no_entry d e m fit) keeps.1,
+          )

@@ -4,13 +4,12 @@
 --   decides_begin, decides_room == before any line; there is room for further ones
 --   decides_split, decides_leaf, decides_whole == a split; a clash or a go that completes no decision, and one that does
 --   decides_missing, decides_broken == no line is left, or one that breaks a rule
-use Rattle.std.proofs.Common.{◌≡◌, ℕ, ◌+◌, ◌<◌, ◌≤◌, ◌^◌, List, [], ◌∷◌, ◌++◌, length, None, Some, refl, sym, ap, subst, ◌∙◌, arith}
+use Rattle.std.proofs.Common.{◌≡◌, ℕ, ◌+◌, ◌<◌, ◌≤◌, List, [], ◌∷◌, ◌++◌, length, None, Some, refl, sym, ap, subst, ◌∙◌, arith}
 use Rattle.ml_base.specs.declared.version.Version.{Version}
 use Rattle.ml_base.specs.declared.version.Version.TheVariants.{One}
 use Rattle.ml_base.specs.declared.doc_refusal.DocRefusal.{DocRefusal}
 use Rattle.ml_base.specs.declared.doc_refusal.DocRefusal.TheVariants as refused
 use Rattle.ml_lines.specs.Lines.{Line}
-use Rattle.ml_lines.specs.Reading.{left_of}
 use Rattle.ml_refutation.specs.Refutation.{Entry, Decision, Fits, nesting}
 use Rattle.ml_refutation.specs.Views.{decision_of}
 use Rattle.ml_refutation.specs.declared.refutation.Decision as program
@@ -19,7 +18,7 @@ use Rattle.ml_refutation_text.specs.RefutationText.{Form, InFull, decision_lines
 use Rattle.ml_refutation_text.specs.BodyRules.{Around, InLeft, Begun, Place, AtDecision, at_entry, closed, whole, body, rule_number}
 use Rattle.ml_refutation_text.specs.private.Reads.{around_of, arounds_in, arounds_of, HasRoom, IsNext, Goes, IsUsual, TellsFault}
 use Rattle.ml_refutation_text.specs.private.ItemReads.{knows}
-use Rattle.ml_refutation_text.specs.private.BranchReads.{around_size, closed_to, IsClosed, IsLeaf, BreaksBranch}
+use Rattle.ml_refutation_text.specs.private.BranchReads.{around_size, IsClosed, IsLeaf, BreaksBranch}
 use Rattle.ml_refutation_text.specs.declared.body_rule.BodyRule.{BodyRule}
 use Rattle.ml_refutation_text.specs.declared.rest.Rest.{Rest}
 use Rattle.ml_refutation_text.specs.declared.branches.Around as split
@@ -29,7 +28,8 @@ use Rattle.ml_refutation_text.proofs.GoodLines.{split_run, decision_run}
 use Rattle.ml_refutation_text.proofs.Going.{goes_begin, goes_on, goes_run, fault_on, fault_line, room_on}
 use Rattle.ml_refutation_text.proofs.ClosedBranches.{arounds_push}
 
-pub length-arounds : (outer : List Around) (splits : List split.Around) → length (arounds_in outer splits) ≡ length outer + length splits
+pub length-arounds : (outer : List Around) (splits : List split.Around)
+    → length (arounds_in outer splits) ≡ length outer + length splits
 length-arounds outer [] = omega arith
 length-arounds outer (a ∷ splits) = omega (arith, length-arounds (around_of a ∷ outer) splits)
 
@@ -71,7 +71,10 @@ module _ (names wanted : ℕ) (at : Rest) where
           fault_on v (place F es b []) p at rest e (so_far.goes v F es b)
           (subst (TellsFault v p rest) (sym is) (fault_line v p rest behind line rule next (breaks F es b (arounds_of splits) deep)))
 
-      pub decides_split : (n : ℕ) (inner : List split.Around) → line ≡ split_line n → Fits n → length splits < NESTING_LIMIT
+      pub decides_split : (n : ℕ) (inner : List split.Around)
+          → line ≡ split_line n
+          → Fits n
+          → length splits < NESTING_LIMIT
           → inner ≡ splits ++ around.InLeft n ∷ [] → DecidesTo names wanted at inner behind
       decides_split n inner is fits deep is_inner =
           let now : arounds_of inner ≡ InLeft n ∷ arounds_of splits = ap arounds_of is_inner ∙ arounds_push [] splits (around.InLeft n) in
@@ -87,7 +90,8 @@ module _ (names wanted : ℕ) (at : Rest) where
           }
 
       -- a clash or a go, and the place behind it
-      module _ (d : Decision) (leaf : IsLeaf names wanted line d) (small : Fits names) (few : Fits wanted) (inside : length splits ≤ NESTING_LIMIT) where
+      module _ (d : Decision) (leaf : IsLeaf names wanted line d) (small : Fits names) (few : Fits wanted)
+          (inside : length splits ≤ NESTING_LIMIT) where
         leads_on : (v : Version) (F : Form) (es : List Entry) (b : Begun)
             → Goes v (place F es b []) at (closed (knows names F wanted) es b (arounds_of splits) d) behind
         leads_on v F es b =
@@ -101,7 +105,9 @@ module _ (names wanted : ℕ) (at : Rest) where
             subst (λ ls. Runs (body v left) (place F es b splits) ls q) leaf.is_line
             (decision_run v left k es b d (arounds_of splits) small few leaf.is_decided deep)))
 
-        pub decides_leaf : (inner : List split.Around) → IsClosed splits d inner None → DecidesTo names wanted at inner behind
+        pub decides_leaf : (inner : List split.Around)
+            → IsClosed splits d inner None
+            → DecidesTo names wanted at inner behind
         decides_leaf inner is = record {
           goes = λ v F es b.
               subst (λ q. Goes v (place F es b []) at q behind) (is.leads (knows names F wanted) es b) (leads_on v F es b);

@@ -8,10 +8,10 @@ use Rattle.std.proofs.Common.{◌≡◌, ℕ, ◌+◌, ◌≤◌, List, [], ◌�
 use Rattle.ml_refutation.specs.Refutation.{Entry, Decision, Split}
 use Rattle.ml_refutation.specs.Views.{decision_of}
 use Rattle.ml_refutation.specs.declared.refutation.Decision as program
-use Rattle.ml_refutation_text.specs.RefutationText.{decision_lines, split_line}
+use Rattle.ml_refutation_text.specs.RefutationText.{decision_lines}
 use Rattle.ml_refutation_text.specs.BodyRules.{Known, Around, InLeft, InRight, Begun, closed}
 use Rattle.ml_refutation_text.specs.private.Reads.{around_of, arounds_in, arounds_of}
-use Rattle.ml_refutation_text.specs.private.BranchReads.{around_size, closed_to, closed_size, IsClosed}
+use Rattle.ml_refutation_text.specs.private.BranchReads.{around_size, closed_to, IsClosed}
 use Rattle.ml_refutation_text.specs.declared.branches.Around as split
 use Rattle.ml_refutation_text.specs.declared.branches.Around.TheVariants as around
 
@@ -25,7 +25,8 @@ none_left [] empty = refl
 none_left (a ∷ splits) empty = absurd (omega (arith, empty))
 
 pub record ClosesTo (splits : List split.Around) (d : Decision) (first : List split.Around) (leaf : Decision) : Type 0 where
-  pub leads : (k : Known) (entries : List Entry) (b : Begun) → closed k entries b (arounds_of first) leaf ≡ closed k entries b (arounds_of splits) d
+  pub leads : (k : Known) (entries : List Entry) (b : Begun)
+      → closed k entries b (arounds_of first) leaf ≡ closed k entries b (arounds_of splits) d
   pub counted : around_size (arounds_of first) + length (decision_lines leaf) ≡ around_size (arounds_of splits) + length (decision_lines d)
   pub inside : length splits ≤ length first
 
@@ -51,7 +52,8 @@ module _ (splits first : List split.Around) (d leaf : Decision) (so_far : Closes
       })
 
   -- what was read is the left part of the innermost one
-  pub closes_left : (rest behind : List split.Around) (n : ℕ) (left : program.Decision) → splits ≡ rest ++ around.InLeft n ∷ []
+  pub closes_left : (rest behind : List split.Around) (n : ℕ) (left : program.Decision)
+      → splits ≡ rest ++ around.InLeft n ∷ []
       → behind ≡ rest ++ around.InRight n left ∷ [] → decision_of left ≡ d → IsClosed first leaf behind None
   closes_left rest behind n left is is_behind same =
       let inner : arounds_of splits ≡ InLeft n ∷ arounds_of rest = ap arounds_of is ∙ arounds_push [] rest (around.InLeft n) in

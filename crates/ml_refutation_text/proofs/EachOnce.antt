@@ -5,7 +5,8 @@
 --   place_shown      == the place of a list in a table is that in what it shows
 --   table_more, stacks_more == one more of some lists is put into a table, and the stacks of one more entry
 --   place_found, place_missing == it is what a look-up gives, and otherwise the table's length
-use Rattle.std.proofs.Common.{◌≡◌, ℕ, ◌+◌, ◌<◌, ◌≤◌, Bool, true, false, cond, not, List, [], ◌∷◌, ◌++◌, None, Some, Bor, length, map, fold, take, get_or, refl, sym, ap, ◌∙◌, inl, inr, ◌⊎◌, arith, nat_lt}
+use Rattle.std.proofs.Common.{◌≡◌, ℕ, ◌+◌, ◌<◌, ◌≤◌, Bool, true, false, cond, not, List, [], ◌∷◌, ◌++◌, None, Some, Bor}
+use Rattle.std.proofs.Common.{length, map, fold, take, get_or, refl, sym, ap, ◌∙◌, inl, inr, ◌⊎◌, arith, nat_lt}
 use Rattle.std.proofs.lemmas.Bool.{cases_lt}
 use Rattle.std.proofs.lemmas.Bool.Decides.{nat_tests}
 use Rattle.std.proofs.lemmas.List.{map-append, take_more, append-nil}

@@ -7,13 +7,13 @@
 --   some_entries                 == so many entries
 --   EntriesTo k v at es ps i rest == from `at` up to `rest` the i entries es were read, whose parts begin at the lines ps
 --   entries_begin, entries_room, entries_refused, entries_more == before any, room for more, a bad line, one more entry
-use Rattle.std.proofs.Common.{◌≡◌, ℕ, zero, suc, ◌+◌, ◌<◌, ◌≤◌, ◌^◌, true, cond, nat_lt, List, [], ◌∷◌, ◌++◌, Some, length, map, All, codes, slice_get, slice_index_or, inl, inr, refl, sym, ap, subst, ◌∙◌, length-append, arith}
+use Rattle.std.proofs.Common.{◌≡◌, ℕ, zero, suc, ◌+◌, ◌<◌, ◌≤◌, true, cond, nat_lt, List, [], ◌∷◌, ◌++◌, length, map, codes, slice_index_or, inl, inr, refl, sym, ap, subst, ◌∙◌, length-append, arith}
 use Rattle.std.proofs.lemmas.Bool.Decides.{nat_tests}
 use Rattle.std.proofs.lemmas.List.{map-append, length-map}
 use Rattle.std.proofs.lemmas.List.Elements.{All-nil}
 use Rattle.std.proofs.lemmas.Option.{slice_get_within, get_or_from_slice_get}
 use Rattle.ml_base.specs.declared.version.Version.{Version}
-use Rattle.ml_base.specs.declared.version.Version.TheVariants.{One, Two}
+use Rattle.ml_base.specs.declared.version.Version.TheVariants.{One}
 use Rattle.ml_base.specs.declared.doc_refusal.DocRefusal.{DocRefusal}
 use Rattle.ml_lines.specs.Lines.{Line, number}
 use Rattle.ml_lines.specs.Reading.{IsNumber}
@@ -24,7 +24,7 @@ use Rattle.ml_refutation.specs.declared.refutation.Entry as program
 use Rattle.ml_sequent.specs.declared.clashes.ClashCause.TheVariants.{False}
 use Rattle.ml_refutation_text.specs.RefutationText.{Form, InFull, ByTables, numbered_line, entry_line, sequent_line, live_line}
 use Rattle.ml_refutation_text.specs.LineKinds.{IsOfKinds, HaveNumbers}
-use Rattle.ml_refutation_text.specs.BodyRules.{Known, Place, AtEntry, AtSequent, AtLive, AtItem, AtEnd, at_entry, entry_kind, body}
+use Rattle.ml_refutation_text.specs.BodyRules.{Known, AtEntry, AtSequent, AtLive, AtItem, AtEnd, at_entry, entry_kind}
 use Rattle.ml_refutation_text.specs.PartLines.{entry_size, entries_size, parts_of, parts_from}
 use Rattle.ml_refutation_text.specs.private.Reads.{HasRoom, IsNext, Goes, Breaks, TellsFault}
 use Rattle.ml_refutation_text.specs.private.ItemReads.{knows}
@@ -39,7 +39,10 @@ use Rattle.ml_refutation_text.proofs.Going.{goes_begin, goes_on, goes_run, fault
 module _ (names wanted : ℕ) (es : List Entry) where
   -- ---- lines that break a rule
 
-  pub entry_wrong : (n : ℕ) → Fits n → ¬ (n ≡ length es) → Breaks (AtEntry (knows names InFull wanted) es) (numbered_line n) NextEntry
+  pub entry_wrong : (n : ℕ)
+      → Fits n
+      → ¬ (n ≡ length es)
+      → Breaks (AtEntry (knows names InFull wanted) es) (numbered_line n) NextEntry
   entry_wrong n fits other left =
       inr (
         inl (numbered_of One left (codes "entry") n refl fits),
@@ -52,7 +55,11 @@ module _ (names wanted : ℕ) (es : List Entry) where
 
     placed_kind : (i s : ℕ) → Fits i → Fits s → IsOfKinds (entry_kind (ByTables qs ks) ∷ []) (entry_line i s)
     placed_kind i s fits small =
-        inl (words_first (codes "entry") (number i ∷ number s ∷ []) refl (words_number i (number s ∷ []) fits (words_number s [] small refl)), (refl, (tt, (tt, refl))))
+        inl (
+          words_first (codes "entry") (number i ∷ number s ∷ []) refl
+              (words_number i (number s ∷ []) fits (words_number s [] small refl)),
+          (refl, (tt, (tt, refl))),
+        )
 
     placed_numbers : (i s : ℕ) → Fits i → Fits s → HaveNumbers (entry_kind (ByTables qs ks) ∷ []) (entry_line i s)
     placed_numbers i s fits small = ((λ _. (tt, (is_number i fits, (is_number s small, All-nil IsNumber)))), tt)
@@ -67,7 +74,12 @@ module _ (names wanted : ℕ) (es : List Entry) where
           inr (placed_numbers n s fits small, inl (refl, λ same. other (sym (value_back n fits) ∙ same))),
         ))
 
-    pub placed_outside : (line : Line) (n s : ℕ) → line ≡ entry_line n s → Fits n → Fits s → n ≡ length es → length qs ≤ s
+    pub placed_outside : (line : Line) (n s : ℕ)
+        → line ≡ entry_line n s
+        → Fits n
+        → Fits s
+        → n ≡ length es
+        → length qs ≤ s
         → Breaks (AtEntry placed_known es) line InTables
     placed_outside line n s is fits small here outside =
         subst (λ l. Breaks (AtEntry placed_known es) l InTables) (sym is)
@@ -107,7 +119,9 @@ module _ (names wanted : ℕ) (es : List Entry) where
           refl,
         ))
 
-    pub sequent_goes : (k : Known) (q : List ℕ) → IsSequentRead at q rest → Goes v (AtSequent k es) at (AtLive k es q) rest
+    pub sequent_goes : (k : Known) (q : List ℕ)
+        → IsSequentRead at q rest
+        → Goes v (AtSequent k es) at (AtLive k es q) rest
     sequent_goes k q read =
         let back = values_back q read.fit in
         goes_run v (AtSequent k es) (AtLive k es q) at rest (sequent_line q) (sequent_line q) read.next refl
@@ -116,7 +130,10 @@ module _ (names wanted : ℕ) (es : List Entry) where
           ap (AtLive k es) back,
         ))
 
-    pub placed_goes : (qs ks : List (List ℕ)) (line : Line) (i : ℕ) (q : List ℕ) → IsNext at line rest → Fits i → length es ≡ i
+    pub placed_goes : (qs ks : List (List ℕ)) (line : Line) (i : ℕ) (q : List ℕ)
+        → IsNext at line rest
+        → Fits i
+        → length es ≡ i
         → IsPlacedAt qs i line q
         → Goes v (AtEntry (knows names (ByTables qs ks) wanted) es) at (AtLive (knows names (ByTables qs ks) wanted) es q) rest
     placed_goes qs ks line i q next fits here read =
@@ -162,7 +179,8 @@ parts_push v n (x ∷ es) e =
     ap (λ ps. parts_of v n x ∷ ps)
     (parts_push v (n + entry_size v x) es e ∙ ap (λ m. parts_from v (n + entry_size v x) es ++ parts_of v m e ∷ []) same)
 
-size_push : (v : Version) (es : List Entry) (e : Entry) → entries_size v (es ++ e ∷ []) ≡ entries_size v es + entry_size v e
+size_push : (v : Version) (es : List Entry) (e : Entry)
+    → entries_size v (es ++ e ∷ []) ≡ entries_size v es + entry_size v e
 size_push v [] e = omega arith
 size_push v (x ∷ es) e = omega (arith, size_push v es e)
 
@@ -190,12 +208,14 @@ module _ (k : Known) (V : Version) (at : Rest) where
           let test : nat_lt (length es) k.wanted ≡ true = grind (arith, nat_tests, many_plain, below) in
           subst (λ b. Goes v (at_entry k []) at (cond b (AtEntry k es) (AtEnd (record { names = k.names; entries = es }))) rest) test (so_far.goes v)
 
-      pub entries_refused : (e : DocRefusal) → ((v : Version) (es : List Entry) → length es ≡ i → TellsFault v (AtEntry k es) rest e)
+      pub entries_refused : (e : DocRefusal)
+          → ((v : Version) (es : List Entry) → length es ≡ i → TellsFault v (AtEntry k es) rest e)
           → (v : Version) → TellsFault v (at_entry k []) at e
       entries_refused e tells v =
           fault_on v (at_entry k []) (AtEntry k (map entry_of entries)) at rest e (here v) (tells v (map entry_of entries) many_plain)
 
-      pub entries_more : (e : program.Entry) (lines : EntryLines) (behind : Rest) (more : List program.Entry) (others : List EntryLines)
+      pub entries_more : (e : program.Entry) (lines : EntryLines) (behind : Rest) (more : List program.Entry)
+          (others : List EntryLines)
           → ((v : Version) (es : List Entry) → length es ≡ i → Goes v (AtEntry k es) rest (at_entry k (es ++ entry_of e ∷ [])) behind)
           → lines ≡ parts_of V rest.line (entry_of e) → behind.line ≡ rest.line + entry_size V (entry_of e)
           → more ≡ entries ++ e ∷ [] → others ≡ parts ++ lines ∷ [] → EntriesTo more others (i + 1) behind

@@ -5,7 +5,7 @@
 --   fault_on              == the first bad line behind good ones is the first bad one
 --   fault_line, refused_line == the next line is the first bad one, where it breaks a rule
 --   room_on, room_behind  == there is room for the numbers of the lines that are left
-use Rattle.std.proofs.Common.{◌≡◌, ℕ, ◌+◌, ◌<◌, ◌≤◌, ◌^◌, List, [], ◌∷◌, ◌++◌, length, refl, inl, sym, ap, subst, ◌∙◌, arith}
+use Rattle.std.proofs.Common.{◌≡◌, ℕ, ◌+◌, List, [], ◌∷◌, refl, sym, subst, ◌∙◌, arith}
 use Rattle.ml_base.specs.declared.version.Version.{Version}
 use Rattle.ml_base.specs.declared.doc_refusal.DocRefusal.{DocRefusal}
 use Rattle.ml_base.specs.declared.doc_refusal.DocRefusal.TheVariants as refused
@@ -38,7 +38,9 @@ module _ (v : Version) where
   }
 
   -- one line
-  pub goes_line : (p q : Place) (at rest : Rest) (line : Line) → IsNext at line rest → IsGood (body v (left_of at.text.now)) p line
+  pub goes_line : (p q : Place) (at rest : Rest) (line : Line)
+      → IsNext at line rest
+      → IsGood (body v (left_of at.text.now)) p line
       → after v p line ≡ q → Goes v p at q rest
   goes_line p q at rest line next good leads = record {
     read =
@@ -58,14 +60,19 @@ module _ (v : Version) where
       let run = runs (left_of at.text.now) in
       goes_line p q at rest words (subst (λ l. IsNext at l rest) is next) run.0 run.1
 
-  pub fault_on : (p q : Place) (at rest : Rest) (e : DocRefusal) → Goes v p at q rest → TellsFault v q rest e → TellsFault v p at e
+  pub fault_on : (p q : Place) (at rest : Rest) (e : DocRefusal)
+      → Goes v p at q rest
+      → TellsFault v q rest e
+      → TellsFault v p at e
   fault_on p q at rest refused.NoMemory goes tells = tt
   fault_on p q at rest (refused.Fault fault) goes tells =
       bad_behind (body v (left_of at.text.now)) at.line p (lines_of at.text.now) rest.line q (lines_of rest.text.now) fault.line fault.rule
       goes.read
       (subst (λ left. IsFirstBad (body v left) rest.line q (lines_of rest.text.now) fault.line fault.rule) (sym goes.left_is) tells)
 
-  pub fault_line : (p : Place) (at rest : Rest) (line : Line) (rule : BodyRule) → IsNext at line rest → Breaks p line rule
+  pub fault_line : (p : Place) (at rest : Rest) (line : Line) (rule : BodyRule)
+      → IsNext at line rest
+      → Breaks p line rule
       → TellsFault v p at (refused.Fault (record { line = at.line; rule = rule_number rule }))
   fault_line p at rest line rule next breaks =
       fault_here (body v) at.line p at.text.now (rule_number rule) line (lines_of rest.text.now) next.begins (breaks (left_of at.text.now))

@@ -3,7 +3,8 @@
 --   head_run, items_run, heights_run  == the lines of an entry before its decision
 --   entry_run, entries_run            == those of an entry, and of the entries
 --   body_run                          == those of a body
-use Rattle.std.proofs.Common.{◌≡◌, ℕ, ◌+◌, ◌<◌, ◌≤◌, true, false, cond, nat_lt, List, [], ◌∷◌, ◌++◌, Option, None, Some, length, map, All, codes, refl, sym, ap, subst, ◌∙◌, inl, inr, length-append, append_assoc, arith}
+use Rattle.std.proofs.Common.{◌≡◌, ℕ, ◌+◌, ◌<◌, ◌≤◌, true, false, cond, nat_lt, List, [], ◌∷◌, ◌++◌, Option, None, Some, length, map}
+use Rattle.std.proofs.Common.{All, codes, refl, sym, ap, subst, ◌∙◌, inl, inr, length-append, append_assoc, arith}
 use Rattle.std.specs.Prelude.{slice_index_or}
 use Rattle.std.proofs.lemmas.Bool.Decides.{nat_tests}
 use Rattle.std.proofs.lemmas.List.{append-nil, length-map, map-append}
@@ -18,13 +19,18 @@ use Rattle.ml_lists.specs.Chains.{last_of}
 use Rattle.ml_trace.specs.declared.letters.AutomatonState.{AutomatonState}
 use Rattle.ml_trace.specs.Stack as traced
 use Rattle.ml_refutation.specs.Refutation.{Refutation, Entry, Fits, FitsGuess, IsAbove, AreAbove, IsItem, IsEntry, IsRefutation}
-use Rattle.ml_refutation_text.specs.RefutationText.{Spells, Form, InFull, ByTables, numbers, names_line, entries_line, sequents_line, stacks_line, stack_line, sequent_line, live_line, guess_word, item_line, heights_line, decision_lines, end_line, HeadLines, StackWords, ItemLines, EntryLines, EntriesLines, FirstLines, BodyLines, IsForm}
+use Rattle.ml_refutation_text.specs.RefutationText.{Spells, Form, InFull, ByTables, numbers, names_line, entries_line, sequents_line, stacks_line}
+use Rattle.ml_refutation_text.specs.RefutationText.{stack_line, sequent_line, live_line, guess_word, item_line, heights_line, decision_lines, end_line}
+use Rattle.ml_refutation_text.specs.RefutationText.{HeadLines, StackWords, ItemLines, EntryLines, EntriesLines, FirstLines, BodyLines, IsForm}
 use Rattle.ml_refutation_text.specs.LineKinds.{IsOfKind, HaveNumbers}
-use Rattle.ml_refutation_text.specs.BodyRules.{Known, Begun, Place, AtNames, AtSequents, AtStacks, AtEntries, AtEntry, AtLive, AtItem, AtDecision, AtEnd, AtNothing, IsNextItem, item_kind, heights_kind, state_of, stack_of, at_entry, body}
+use Rattle.ml_refutation_text.specs.BodyRules.{Known, Begun, Place, AtNames, AtSequents, AtStacks, AtEntries, AtEntry, AtLive, AtItem, AtDecision}
+use Rattle.ml_refutation_text.specs.BodyRules.{AtEnd, AtNothing, IsNextItem, item_kind, heights_kind, state_of, stack_of, at_entry, body}
 use Rattle.ml_refutation_text.specs.private.ItemReads.{MayStand, SomeIn}
 use Rattle.ml_refutation_text.proofs.Runs.{run_on}
-use Rattle.ml_refutation_text.proofs.ReadWords.{is_number, are_numbers, words_first, words_number, words_numbers, value_back, values_back, guess_back, guess_word_fits, guess_is_word, differ, spelt_is_word}
-use Rattle.ml_refutation_text.proofs.GoodLines.{Run, numbered_of, numbered_fits, names_fit, sequent_good, sequent_fits, names_run, entries_run, end_run, sequents_run, stacks_run, live_run, decision_run}
+use Rattle.ml_refutation_text.proofs.ReadWords.{is_number, are_numbers, words_first, words_number, words_numbers, value_back}
+use Rattle.ml_refutation_text.proofs.ReadWords.{values_back, guess_back, guess_word_fits, guess_is_word, differ, spelt_is_word}
+use Rattle.ml_refutation_text.proofs.GoodLines.{Run, numbered_of, numbered_fits, names_fit, sequent_good, sequent_fits, names_run}
+use Rattle.ml_refutation_text.proofs.GoodLines.{entries_run, end_run, sequents_run, stacks_run, live_run, decision_run}
 
 -- what a program knows behind the number of entries
 abbrev pub known : ℕ → Form → ℕ → Known
@@ -34,7 +40,10 @@ abbrev pub SequentsFit : Form → Type 0
 SequentsFit InFull = Unit {0}
 SequentsFit (ByTables sequents stacks) = Fits (length sequents)
 
-pub state_back : (s : AutomatonState) (words : List Word) → Fits s.node → FitsGuess s.odd → state_of (item_line s words) ≡ s
+pub state_back : (s : AutomatonState) (words : List Word)
+    → Fits s.node
+    → FitsGuess s.odd
+    → state_of (item_line s words) ≡ s
 state_back s words fits guess =
     let node = value_back s.node fits in let odd = guess_back s.odd guess in λ i. record { node = node i; odd = odd i }
 
@@ -69,7 +78,13 @@ full_item s [] some fit node guess = absurd (omega (arith, some))
 full_item s (x ∷ xs) some fit node guess = record {
   of_kind = (item_words s (numbers (x ∷ xs)) node guess (words_numbers (x ∷ xs) fit), (refl, (tt, (tt, (tt, tt)))));
   numbers_are = (
-    (λ _. (tt, (is_number s.node node, (guess_word_fits s.odd guess, (is_number x (All-head Fits x xs fit), are_numbers xs (All-tail Fits x xs fit)))))),
+    (λ _. (
+      tt,
+      (
+        is_number s.node node,
+        (guess_word_fits s.odd guess, (is_number x (All-head Fits x xs fit), are_numbers xs (All-tail Fits x xs fit))),
+      ),
+    )),
     ((λ kind. absurd (no_heights (number s.node ∷ guess_word s.odd ∷ numbers (x ∷ xs)) kind)), tt),
   );
 }
@@ -123,7 +138,11 @@ module _ (v : Version) (left : List ℕ) (names wanted : ℕ) (small : Fits name
       let back = value_back s small in
       subst (λ ls. Run v left (AtEntry k es) ls (AtLive k es q)) (sym is) (
         (
-          inl (words_first (codes "entry") (number i ∷ number s ∷ []) refl (words_number i (number s ∷ []) fits (words_number s [] small refl)), (refl, (tt, (tt, refl)))),
+          inl (
+            words_first (codes "entry") (number i ∷ number s ∷ []) refl
+                (words_number i (number s ∷ []) fits (words_number s [] small refl)),
+            (refl, (tt, (tt, refl))),
+          ),
           (
             ((λ _. (tt, (is_number i fits, (is_number s small, All-nil IsNumber)))), tt),
             (value_back i fits, (omega (arith, back, below), tt)),
@@ -229,7 +248,10 @@ module _ (v : Version) (left : List ℕ) (names wanted : ℕ) (small : Fits name
           ),
         ),
       ),
-      ap (λ ns. AtDecision (known names form wanted) es (record { sequent = q; traces = record { live = live; items = items }; heights = ns }) []) (values_back hs fit),
+      ap
+          (λ ns. AtDecision (known names form wanted) es
+          (record { sequent = q; traces = record { live = live; items = items }; heights = ns }) [])
+          (values_back hs fit),
     )
 
   -- ---- entries
@@ -251,7 +273,10 @@ module _ (v : Version) (left : List ℕ) (names wanted : ℕ) (small : Fits name
       let decided : Run v left (AtDecision k es b []) last behind =
       decision_run v left k es b e.decision [] small few is.is_decided (omega (arith, is.nested)) in
       let heights = heights_run es e.sequent live within form e.traces.items e.heights is.heights_fit is.a_height_each in
-      let items = items_run es e.sequent live within form [] e.traces.items written.items is.is_traced.are_items is.is_traced.ascend written.are_items in
+      let items =
+      items_run es e.sequent live within form [] e.traces.items written.items is.is_traced.are_items is.is_traced.ascend
+      written.are_items
+      in
       let lives = live_run v left k es e.sequent live (omega (arith, within, small)) within in
       let head = head_run form es e.sequent written.head (omega (arith, here, few)) tables is.nodes_fit is.ascends written.is_head in
       subst (λ ls. Run v left (AtEntry k es) ls behind) (sym written.are_lines)
@@ -284,7 +309,8 @@ module _ (v : Version) (left : List ℕ) (names wanted : ℕ) (small : Fits name
       subst (λ p. Run v left p lines end) (sym (ap (λ b. cond b (AtEntry k es) (AtEnd (record { names = names; entries = es }))) below))
       (subst (λ ls. Run v left (AtEntry k es) ls end) (sym is)
       (run_on (body v left) (AtEntry k es) (at_entry k (es ++ e ∷ [])) end first others run
-      (subst (λ l. Run v left (at_entry k (es ++ e ∷ [])) others (AtEnd (record { names = names; entries = l }))) (append_assoc es (e ∷ []) more) runs)))
+      (subst (λ l. Run v left (at_entry k (es ++ e ∷ [])) others (AtEnd (record { names = names; entries = l })))
+      (append_assoc es (e ∷ []) more) runs)))
 
 -- ---- a body
 
@@ -318,7 +344,10 @@ body_run v left form r lines is is_form written =
     let k = known r.names form count in
     let first = first_run v left form r.names written.first is.names_fit is_form written.are_first in
     let counts = entries_run v left r.names form count is.entries_fit is.has_start in
-    let entries = entries_from v left r.names count is.names_fit form [] r.entries written.entries is.entries_fit (omega arith) first.1 is.are_entries written.are_entries in
+    let entries =
+    entries_from v left r.names count is.names_fit form [] r.entries written.entries is.entries_fit (omega arith)
+    first.1 is.are_entries written.are_entries
+    in
     subst (λ ls. Run v left AtNames ls (AtNothing r)) (sym written.are_lines)
     (run_on F AtNames (AtEntries r.names form) (AtNothing r) written.first (entries_line count ∷ (written.entries ++ end_line ∷ [])) first.0
     (run_on F (AtEntries r.names form) (at_entry k []) (AtNothing r) (entries_line count ∷ []) (written.entries ++ end_line ∷ []) counts

@@ -5,7 +5,8 @@
 --   head_run, live_run, items_run, heights_run == the lines of an entry before its decision
 --   go_usual, mark_back              == a go is of its kind, and tells its mark
 --   leaf_run, decision_run           == a clash or a go, and a whole decision
-use Rattle.std.proofs.Common.{◌≡◌, ℕ, ◌+◌, ◌<◌, ◌≤◌, true, false, cond, nat_lt, max, List, [], ◌∷◌, ◌++◌, length, map, All, codes, refl, sym, ap, subst, ◌∙◌, inl, inr, length-append, append_assoc, arith}
+use Rattle.std.proofs.Common.{◌≡◌, ℕ, ◌+◌, ◌<◌, ◌≤◌, true, false, cond, nat_lt, max, List, [], ◌∷◌, ◌++◌, length, map, All}
+use Rattle.std.proofs.Common.{codes, refl, sym, ap, subst, ◌∙◌, inl, inr, length-append, append_assoc, arith}
 use Rattle.std.proofs.lemmas.Bool.Decides.{nat_tests}
 use Rattle.std.proofs.Math.Nat.{le-max_left, le-max_right}
 use Rattle.std.proofs.lemmas.List.{append-nil}
@@ -22,9 +23,12 @@ use Rattle.ml_sequent.specs.declared.clashes.ClashCause.{ClashCause}
 use Rattle.ml_sequent.specs.declared.clashes.ClashCause.TheVariants.{False, Pair, Cycle}
 use Rattle.ml_refutation.specs.Refutation.{Refutation, Entry, Decision, Split, Clash, Go, Fits, FitsCause, IsMarkOf, IsStack, IsDecided, nesting}
 use Rattle.ml_refutation.specs.declared.refutation.TheConstants.{NESTING_LIMIT}
-use Rattle.ml_refutation_text.specs.RefutationText.{Spells, Form, ByTables, numbers, names_line, entries_line, sequents_line, stacks_line, sequent_line, stack_line, live_line, split_line, clash_line, go_line, mark_words, decision_lines, end_line}
+use Rattle.ml_refutation_text.specs.RefutationText.{Spells, Form, ByTables, numbers, names_line, entries_line, sequents_line, stacks_line, sequent_line}
+use Rattle.ml_refutation_text.specs.RefutationText.{stack_line, live_line, split_line, clash_line, go_line, mark_words, decision_lines, end_line}
 use Rattle.ml_refutation_text.specs.LineKinds.{Kind, IsOfKind, IsOfKinds, HaveNumbers}
-use Rattle.ml_refutation_text.specs.BodyRules.{numbered, sequent_kind, stack_kind, clash_kinds, go_kinds, further_rules, mark_of, Known, Around, InLeft, InRight, Begun, Place, AtNames, AtSequents, AtTableSequent, AtStacks, AtTableStack, AtEntries, AtLive, AtItem, AtDecision, AtEnd, AtNothing, at_sequent_table, at_stack_table, at_entry, closed, after_names, body}
+use Rattle.ml_refutation_text.specs.BodyRules.{numbered, sequent_kind, stack_kind, clash_kinds, go_kinds, further_rules, mark_of, Known, Around, InLeft, InRight}
+use Rattle.ml_refutation_text.specs.BodyRules.{Begun, Place, AtNames, AtSequents, AtTableSequent, AtStacks, AtTableStack, AtEntries, AtLive, AtItem, AtDecision}
+use Rattle.ml_refutation_text.specs.BodyRules.{AtEnd, AtNothing, at_sequent_table, at_stack_table, at_entry, closed, after_names, body}
 use Rattle.ml_refutation_text.specs.private.BranchReads.{FitsMark}
 use Rattle.ml_refutation_text.proofs.Runs.{Runs, run_on}
 use Rattle.ml_refutation_text.proofs.ReadWords.{is_number, are_numbers, words_first, words_number, words_numbers, value_back, values_back, differ, spelt_is_word}
@@ -222,7 +226,12 @@ module _ (v : Version) (left : List ℕ) where
         → Run (AtDecision k es b around) (clash_line x ∷ []) (closed k es b around (Clash x))
     clash_run around (False n) fits = (
       (
-        inr (inl (words_first (codes "clash") (codes "false" ∷ number n ∷ []) refl (words_first (codes "false") (number n ∷ []) refl (words_number n [] fits refl)), (refl, (refl, (tt, refl))))),
+        inr
+            (inl (
+              words_first (codes "clash") (codes "false" ∷ number n ∷ []) refl
+                  (words_first (codes "false") (number n ∷ []) refl (words_number n [] fits refl)),
+              (refl, (refl, (tt, refl))),
+            )),
         (
           no_split (codes "clash") (codes "false" ∷ number n ∷ []) (clash_kinds ++ go_kinds) refl (
             (λ _. (tt, (tt, (is_number n fits, All-nil IsNumber)))),
@@ -238,13 +247,23 @@ module _ (v : Version) (left : List ℕ) where
     )
     clash_run around (Pair p q) fits = (
       (
-        inr (inr (inl (words_first (codes "clash") (codes "pair" ∷ number p ∷ number q ∷ []) refl (words_first (codes "pair") (number p ∷ number q ∷ []) refl (words_number p (number q ∷ []) fits.0 (words_number q [] fits.1 refl))), (refl, (refl, (tt, (tt, refl))))))),
+        inr
+            (inr
+            (inl (
+              words_first (codes "clash") (codes "pair" ∷ number p ∷ number q ∷ []) refl
+                  (words_first (codes "pair") (number p ∷ number q ∷ []) refl
+                  (words_number p (number q ∷ []) fits.0 (words_number q [] fits.1 refl))),
+              (refl, (refl, (tt, (tt, refl)))),
+            ))),
         (
           no_split (codes "clash") (codes "pair" ∷ number p ∷ number q ∷ []) (clash_kinds ++ go_kinds) refl (
             (λ no. absurd (differ (codes "pair") (codes "false") refl no.1.1.0)),
             (
               (λ _. (tt, (tt, (is_number p fits.0, (is_number q fits.1, All-nil IsNumber))))),
-              ((λ no. absurd (differ (codes "pair") (codes "cycle") refl no.1.1.0)), no_go (codes "clash") (codes "pair" ∷ number p ∷ number q ∷ []) refl),
+              (
+                (λ no. absurd (differ (codes "pair") (codes "cycle") refl no.1.1.0)),
+                no_go (codes "clash") (codes "pair" ∷ number p ∷ number q ∷ []) refl,
+              ),
             ),
           ),
           clash_ranges (Pair p q) around,
@@ -254,7 +273,14 @@ module _ (v : Version) (left : List ℕ) where
     )
     clash_run around (Cycle n) fits = (
       (
-        inr (inr (inr (inl (words_first (codes "clash") (codes "cycle" ∷ number n ∷ []) refl (words_first (codes "cycle") (number n ∷ []) refl (words_number n [] fits refl)), (refl, (refl, (tt, refl))))))),
+        inr
+            (inr
+            (inr
+            (inl (
+              words_first (codes "clash") (codes "cycle" ∷ number n ∷ []) refl
+                  (words_first (codes "cycle") (number n ∷ []) refl (words_number n [] fits refl)),
+              (refl, (refl, (tt, refl))),
+            )))),
         (
           no_split (codes "clash") (codes "cycle" ∷ number n ∷ []) (clash_kinds ++ go_kinds) refl (
             (λ no. absurd (differ (codes "cycle") (codes "false") refl no.1.1.0)),

@@ -4,27 +4,26 @@
 --   no_full_kind, full_no_numbers, full_no_names == the line of an item in full
 --   no_table_kind, table_no_count, table_no_numbers, table_no_names, table_outside == that of one whose stack is in a table
 --   full_is, table_is        == the line of the item that was read
-use Rattle.std.proofs.Common.{◌≡◌, ℕ, ◌+◌, ◌-◌, ◌^◌, ◌<◌, ◌≤◌, ◌⊎◌, true, false, min, List, [], ◌∷◌, Option, None, Some, length, drop, map, All, codes, slice_get, slice_index_or, inl, inr, refl, sym, ap, subst, ◌∙◌, arith}
+use Rattle.std.proofs.Common.{◌≡◌, ℕ, ◌+◌, ◌-◌, ◌^◌, ◌<◌, ◌≤◌, ◌⊎◌, min, List, [], ◌∷◌, Option, None, Some, length}
+use Rattle.std.proofs.Common.{map, All, codes, slice_get, slice_index_or, inl, inr, refl, sym, ap, subst, ◌∙◌, arith}
 use Rattle.std.proofs.lemmas.List.{length-map, get_or_past}
-use Rattle.std.proofs.lemmas.List.Elements.{All-nil, All-cons, All-head, All-tail}
-use Rattle.std.proofs.lemmas.Option.{slice_get_within, get_or_from_slice_get}
+use Rattle.std.proofs.lemmas.List.Elements.{All-nil, All-cons}
 use Rattle.ml_lines.specs.Lines.{Word, Line, number}
-use Rattle.ml_lines.specs.Reading.{AreWords, IsNumber, value, word, words_of}
+use Rattle.ml_lines.specs.Reading.{AreWords, IsNumber, value, words_of}
 use Rattle.ml_lists.specs.Ascending.{IsAscending}
 use Rattle.ml_lists.specs.Chains.{last_of}
 use Rattle.ml_lists.specs.Documents.{IsFirstBroken}
 use Rattle.ml_trace.specs.declared.letters.AutomatonState.{AutomatonState}
 use Rattle.ml_trace.specs.Stack as traced
 use Rattle.ml_refutation.specs.Refutation.{Entry, Fits, FitsGuess, IsAbove}
-use Rattle.ml_refutation_text.specs.RefutationText.{Spells, Form, InFull, ByTables, numbers, guess_word, item_line, heights_line, ItemLine}
-use Rattle.ml_refutation_text.specs.LineKinds.{IsSpelt, IsOfKind, FitsSlot, AGuess}
-use Rattle.ml_refutation_text.specs.BodyRules.{Place, AtItem, item_kind, heights_kind, state_of, stack_of, rules}
+use Rattle.ml_refutation_text.specs.RefutationText.{Spells, Form, InFull, ByTables, numbers, guess_word, item_line, heights_line}
+use Rattle.ml_refutation_text.specs.LineKinds.{IsSpelt, IsOfKind}
+use Rattle.ml_refutation_text.specs.BodyRules.{Place, AtItem, item_kind, heights_kind, rules}
 use Rattle.ml_refutation_text.specs.private.Reads.{Breaks, TellsRule}
 use Rattle.ml_refutation_text.specs.declared.rest.LineRefusal.{LineRefusal}
 use Rattle.ml_refutation_text.specs.declared.rest.LineRefusal.TheVariants as refusal
 use Rattle.ml_refutation_text.specs.private.WordReads.{FitsAGuess}
-use Rattle.ml_refutation_text.specs.private.ItemReads.{knows, AreNames, IsItemed, AtItems, MayStand, IsItemOf, LacksStack}
-use Rattle.ml_refutation_text.specs.declared.body_rule.BodyRule.{BodyRule}
+use Rattle.ml_refutation_text.specs.private.ItemReads.{knows, AreNames, IsItemed, AtItems, IsItemOf, LacksStack}
 use Rattle.ml_refutation_text.specs.declared.body_rule.BodyRule.TheVariants.{OfKind, Numbers, ItemsAscend, HeightForEach, InTables}
 use Rattle.ml_refutation_text.proofs.ReadWords.{some_word, differ, are_numbers, words_numbers, values_back, words_first}
 use Rattle.ml_refutation_text.proofs.GoodEntries.{full_item, table_item, state_back}
@@ -34,7 +33,10 @@ module _ (names wanted : ℕ) (es : List Entry) (q : List ℕ) (traces : traced.
   at F = AtItem (knows names F wanted) es q traces
 
   module _ (F : Form) where
-    pub heights_no_numbers : (line words : Line) → line ≡ codes "heights" ∷ words → AreWords line → ¬ (All IsNumber words)
+    pub heights_no_numbers : (line words : Line)
+        → line ≡ codes "heights" ∷ words
+        → AreWords line
+        → ¬ (All IsNumber words)
         → Breaks (at F) line Numbers
     heights_no_numbers line words is are bad left =
         let kind : IsOfKind heights_kind (codes "heights" ∷ words) = (subst AreWords is are, (refl, tt)) in
@@ -61,7 +63,10 @@ module _ (names wanted : ℕ) (es : List Entry) (q : List ℕ) (traces : traced.
         no_item InFull others kind = differ (codes "heights") (codes "item") refl kind.1.0
         no_item (ByTables qs ks) others kind = differ (codes "heights") (codes "item") refl kind.1.0
 
-  no_kind : (F : Form) (line : Line) → ¬ (IsOfKind (item_kind F) line) → ¬ (IsOfKind heights_kind line) → Breaks (at F) line OfKind
+  no_kind : (F : Form) (line : Line)
+      → ¬ (IsOfKind (item_kind F) line)
+      → ¬ (IsOfKind heights_kind line)
+      → Breaks (at F) line OfKind
   no_kind F line no_item no_heights left = inl (refl, none)
     where
       none : IsOfKind (item_kind F) line ⊎ (IsOfKind heights_kind line ⊎ ⊥) → ⊥
@@ -81,7 +86,10 @@ module _ (names wanted : ℕ) (es : List Entry) (q : List ℕ) (traces : traced.
   pub no_full_kind : (line : Line) → ¬ (IsItemed line) → ¬ (IsOfKind heights_kind line) → Breaks (at InFull) line OfKind
   no_full_kind line none no_heights = no_kind InFull line (λ kind. none (full_itemed line kind)) no_heights
 
-  pub full_no_numbers : (line words : Line) (n g : Word) → line ≡ codes "item" ∷ n ∷ g ∷ words → 0 < length words → AreWords line
+  pub full_no_numbers : (line words : Line) (n g : Word)
+      → line ≡ codes "item" ∷ n ∷ g ∷ words
+      → 0 < length words
+      → AreWords line
       → ¬ ((IsNumber n × FitsAGuess g) × All IsNumber words) → Breaks (at InFull) line Numbers
   full_no_numbers line [] n g is some are bad left = absurd (omega (arith, some))
   full_no_numbers line (w ∷ words) n g is some are bad left =
@@ -128,7 +136,9 @@ module _ (names wanted : ℕ) (es : List Entry) (q : List ℕ) (traces : traced.
 
   -- ---- by its table
 
-  table_itemed : (qs ks : List (List ℕ)) (line : Line) → IsOfKind (item_kind (ByTables qs ks)) line → IsItemed line × (length line ≡ 4)
+  table_itemed : (qs ks : List (List ℕ)) (line : Line)
+      → IsOfKind (item_kind (ByTables qs ks)) line
+      → IsItemed line × (length line ≡ 4)
   table_itemed qs ks [] kind = absurd kind.1
   table_itemed qs ks (a ∷ []) kind = absurd kind.1.1
   table_itemed qs ks (a ∷ b ∷ []) kind = absurd kind.1.1.1
@@ -183,11 +193,16 @@ module _ (names wanted : ℕ) (es : List Entry) (q : List ℕ) (traces : traced.
               ),
             )
 
-        pub table_no_names : ¬ (IsAbove before s × AreNames live (slice_index_or ks (value p) [])) → Breaks (at F) line ItemsAscend
+        pub table_no_names : ¬ (IsAbove before s × AreNames live (slice_index_or ks (value p) []))
+            → Breaks (at F) line ItemsAscend
         table_no_names bad left =
             subst (λ l. IsFirstBroken (rules left (at F)) l 27) (sym spelt)
             (table_bad
-            (λ both. bad (subst (λ b. IsAbove b s) stand.behind both.0, subst (λ m. AreNames m (slice_index_or ks (value p) [])) stand.with_live both.1)) left)
+            (λ both. bad (
+              subst (λ b. IsAbove b s) stand.behind both.0,
+              subst (λ m. AreNames m (slice_index_or ks (value p) [])) stand.with_live both.1,
+            ))
+            left)
 
         pub table_outside : IsAbove before s → length ks ≤ value p → Breaks (at F) line InTables
         table_outside above outside left =
@@ -218,7 +233,10 @@ module _ (names wanted : ℕ) (es : List Entry) (q : List ℕ) (traces : traced.
             outside_none rows i out = get_or_past rows i [] out
 
         -- the stack of this number isn't there, or may not be the item's
-        pub table_lacks : (place : ℕ) (e : LineRefusal) → place ≡ min (value p) (2 ^ 64 - 1) → IsAbove before s → LacksStack ks place live e
+        pub table_lacks : (place : ℕ) (e : LineRefusal)
+            → place ≡ min (value p) (2 ^ 64 - 1)
+            → IsAbove before s
+            → LacksStack ks place live e
             → TellsRule (at F) line e
         table_lacks place (refusal.Breaks rule) capped above (inl (kind, outside)) =
             subst (Breaks (at F) line) (sym kind) (table_outside above (omega (arith, capped, outside)))
@@ -248,7 +266,8 @@ full_is line live before s ns is some node guess above names = record {
   is_above = above;
 }
 
-pub table_is : (qs ks : List (List ℕ)) (line : Line) (live : ℕ) (before : Option AutomatonState) (s : AutomatonState) (ns : List ℕ) (p : Word)
+pub table_is : (qs ks : List (List ℕ)) (line : Line) (live : ℕ) (before : Option AutomatonState) (s : AutomatonState)
+    (ns : List ℕ) (p : Word)
     → line ≡ item_line s (p ∷ []) → Spells p (value p) → slice_get ks (value p) ≡ Some ns → Fits s.node → FitsGuess s.odd
     → IsAbove before s → AreNames live ns
     → IsItemOf (ByTables qs ks) live before line (record { state = s; stack = ns })

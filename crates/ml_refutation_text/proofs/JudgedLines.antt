@@ -24,7 +24,9 @@ use Rattle.ml_refutation.specs.Refutation.{IsAbove, IsMarkOf, comes_before}
 use Rattle.ml_refutation.specs.declared.refutation.TheConstants.{NESTING_LIMIT}
 use Rattle.ml_refutation_text.specs.RefutationText.{Form, InFull, ByTables}
 use Rattle.ml_refutation_text.specs.LineKinds.{Slot, Fixed, ANumber, AGuess, AnySize, Kind, IsSpelt, MayFollow, InSlot, FitsSlot, InSlots, FitSlots, IsOfKind, IsOfKinds, HaveNumbers}
-use Rattle.ml_refutation_text.specs.BodyRules.{Place, AtNames, AtSequents, AtTableSequent, AtStacks, AtTableStack, AtEntries, AtEntry, AtSequent, AtLive, AtItem, AtDecision, AtEnd, AtNothing, IsNextItem, SequentInTable, StackInTable, values, state_of, stack_of, mark_of, kinds, further_rules, rules, body}
+use Rattle.ml_refutation_text.specs.BodyRules.{Place, AtNames, AtSequents, AtTableSequent, AtStacks, AtTableStack, AtEntries, AtEntry}
+use Rattle.ml_refutation_text.specs.BodyRules.{AtSequent, AtLive, AtItem, AtDecision, AtEnd, AtNothing, IsNextItem, SequentInTable}
+use Rattle.ml_refutation_text.specs.BodyRules.{StackInTable, values, state_of, stack_of, mark_of, kinds, further_rules, rules, body}
 
 decided_implies : {P Q : Type 0} → Decided P → Decided Q → Decided (P → Q)
 decided_implies p (inl q) = inl (λ any. q)

@@ -6,7 +6,8 @@
 --   not_number                == a word that is none
 --   IsAnyTo word i n          == of the word, i digits were read, whose value, but no more than 64 bits, is n
 --   any_begin, any_read, any_done, any_refused, any_empty, any_zero == the same of a number of any size
-use Rattle.std.proofs.Common.{◌≡◌, ℕ, ◌+◌, ◌-◌, ◌*◌, ◌^◌, ◌<◌, ◌≤◌, min, Bool, true, false, ◌&&◌, List, [], ◌∷◌, ◌++◌, length, get_or, drop, map, Option, None, Some, All, refl, sym, ap, subst, ◌∙◌, append_assoc, arith}
+use Rattle.std.proofs.Common.{◌≡◌, ℕ, ◌+◌, ◌-◌, ◌*◌, ◌^◌, ◌<◌, ◌≤◌, min, true, false, ◌&&◌, List, [], ◌∷◌, ◌++◌, length, get_or}
+use Rattle.std.proofs.Common.{drop, Option, None, Some, All, refl, sym, ap, subst, ◌∙◌, append_assoc, arith}
 use Rattle.std.specs.Str.{all_ascii_digits}
 use Rattle.std.specs.Char.{is_ascii_digit}
 use Rattle.std.proofs.lemmas.Bool.{true≢false}
@@ -76,7 +77,10 @@ any_read word i n k here digit so_far is = record {
       ∙ ap (λ first. first && all_ascii_digits (drop (i + 1) word)) digit;
 }
 
-pub any_refused : (word : Word) (i n : ℕ) → i < length word → IsAnyTo word i n → is_ascii_digit (get_or word i 0) ≡ false
+pub any_refused : (word : Word) (i n : ℕ)
+    → i < length word
+    → IsAnyTo word i n
+    → is_ascii_digit (get_or word i 0) ≡ false
     → ¬ (IsSpelt word)
 any_refused word i n here so_far other (k, spells) =
     true≢false

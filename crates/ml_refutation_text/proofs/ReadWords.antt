@@ -99,7 +99,8 @@ pub words_are : (words : Line) (w : Word) (behind : Option (List ℕ)) (rest : L
     → behind ≡ Some rest → words ≡ w ∷ words_of rest
 words_are words w behind rest is behind_is = is ∙ ap (λ b. w ∷ words_behind b) behind_is
 
-pub first_word : (words : Line) (w k : Word) (behind : Option (List ℕ)) (rest : List ℕ) → words ≡ w ∷ words_behind behind
+pub first_word : (words : Line) (w k : Word) (behind : Option (List ℕ)) (rest : List ℕ)
+    → words ≡ w ∷ words_behind behind
     → behind ≡ Some rest → w ≡ k → words ≡ k ∷ words_of rest
 first_word words w k behind rest is behind_is same =
     words_are words w behind rest is behind_is ∙ ap (λ v. v ∷ words_of rest) same

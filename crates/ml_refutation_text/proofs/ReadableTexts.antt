@@ -22,9 +22,13 @@ use Rattle.ml_trace.specs.declared.letters.AutomatonState.{AutomatonState}
 use Rattle.ml_refutation.specs.Refutation.{Refutation, Entry, Fits, AreAbove, IsStack, IsItem, IsEntry}
 use Rattle.ml_refutation_text.specs.RefutationText.{Form, InFull, ByTables, names_line, entries_line, numbered_line, entry_line, live_line, split_line, decision_lines, end_line, HeadLines, IsForm}
 use Rattle.ml_refutation_text.specs.LineKinds.{kind, IsOfKind, HasNumbers, Fixed, ANumber, AGuess, AnySize, IsOfKinds, HaveNumbers}
-use Rattle.ml_refutation_text.specs.BodyRules.{kinds, clash_kinds, go_kinds, item_kind, heights_kind, IsNextItem, StackInTable, Known, Around, InLeft, Begun, Place, AtNames, AtSequents, AtTableSequent, AtStacks, AtTableStack, AtEntries, AtEntry, AtSequent, AtLive, AtItem, AtDecision, AtEnd, AtNothing, numbered, values, state_of, leaf_of, at_stack_table, closed, with_item, after_names, after, body, IsReadableBody}
-use Rattle.ml_refutation_text.proofs.ReadLines.{numbered_line_of, entry_line_of, IsListedLine, listed_line_of, stack_line_of, leaf_line, item_of, IsItemLine, full_line, table_line, tables_of, begins_with}
-use Rattle.ml_refutation_text.proofs.Standing.{around_lines, SoFar, Itemed, Undecided, Ended, Whole, Stands, sequents_place, stacks_place, entries_place, sequents_push, stacks_push, item_lines_push, above_push, close, around_nested}
+use Rattle.ml_refutation_text.specs.BodyRules.{kinds, clash_kinds, go_kinds, item_kind, heights_kind, IsNextItem, StackInTable, Known, Around, InLeft, Begun, Place, AtNames}
+use Rattle.ml_refutation_text.specs.BodyRules.{AtSequents, AtTableSequent, AtStacks, AtTableStack, AtEntries, AtEntry, AtSequent, AtLive, AtItem, AtDecision, AtEnd, AtNothing}
+use Rattle.ml_refutation_text.specs.BodyRules.{numbered, values, state_of, leaf_of, at_stack_table, closed, with_item, after_names, after, body, IsReadableBody}
+use Rattle.ml_refutation_text.proofs.ReadLines.{numbered_line_of, entry_line_of, IsListedLine, listed_line_of, stack_line_of, leaf_line}
+use Rattle.ml_refutation_text.proofs.ReadLines.{item_of, IsItemLine, full_line, table_line, tables_of, begins_with}
+use Rattle.ml_refutation_text.proofs.Standing.{around_lines, SoFar, Itemed, Undecided, Ended, Whole, Stands, sequents_place, stacks_place}
+use Rattle.ml_refutation_text.proofs.Standing.{entries_place, sequents_push, stacks_push, item_lines_push, above_push, close, around_nested}
 
 -- ---- one more line, at each place
 
@@ -144,7 +148,10 @@ module _ (v : Version) (left : List ℕ) where
       go (inr others) has =
           let leaf = leaf_line k.names k.wanted line others has.1 in
           let d = leaf.d in
-          subst (λ t. Stands v (cond t (AtDecision k es b (InLeft (value (word line 1)) ∷ around)) (closed k es b around (leaf_of line))) (lines ++ line ∷ []))
+          subst
+          (λ t. Stands v
+          (cond t (AtDecision k es b (InLeft (value (word line 1)) ∷ around)) (closed k es b around (leaf_of line)))
+          (lines ++ line ∷ []))
           (sym leaf.no_split)
           (subst (λ x. Stands v (closed k es b around x) (lines ++ line ∷ [])) (sym leaf.tells)
           (close v k es b around d is.before (lines ++ line ∷ []) is.deciding is.keeps (leaf.keeps good.1.1.0)

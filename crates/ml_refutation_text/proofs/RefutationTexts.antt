@@ -11,7 +11,8 @@ use Rattle.ml_lines.proofs.WrittenLines.{lines_read}
 use Rattle.ml_refutation.specs.Refutation.{Refutation, IsRefutation}
 use Rattle.ml_refutation_text.specs.RefutationText.{IsTextOf}
 use Rattle.ml_refutation_text.specs.Laws.{OneRefutation, ReadableOrFault, FaultOrReadable, ReadableIsRefutation, IsRefutationText, OneFault}
-use Rattle.ml_refutation_text.specs.BodyRules.{Place, AtNames, AtSequents, AtTableSequent, AtStacks, AtTableStack, AtEntries, AtEntry, AtSequent, AtLive, AtItem, AtDecision, AtEnd, AtNothing, body, IsReadableBody}
+use Rattle.ml_refutation_text.specs.BodyRules.{Place, AtNames, AtSequents, AtTableSequent, AtStacks, AtTableStack, AtEntries, AtEntry}
+use Rattle.ml_refutation_text.specs.BodyRules.{AtSequent, AtLive, AtItem, AtDecision, AtEnd, AtNothing, body, IsReadableBody}
 use Rattle.ml_refutation_text.proofs.ReadableTexts.{readable_is_text}
 use Rattle.ml_refutation_text.proofs.Runs.{Runs, one_end, run_readable}
 use Rattle.ml_refutation_text.proofs.GoodEntries.{body_run}
@@ -25,7 +26,10 @@ pub record RunsTo (v : Version) (t : List ℕ) (r : Refutation) : Type 0 where
 
 pub text_lines : (v : Version) (t : List ℕ) (r : Refutation) → IsRefutation r → IsTextOf v t r → RunsTo v t r
 text_lines v t r is written =
-    let plain = run_plain v 0 [] AtNames (AtNothing r) written.lines (body_run v (0 ∷ []) written.form r written.lines is written.is_form written.are_lines) in
+    let plain =
+    run_plain v 0 [] AtNames (AtNothing r) written.lines
+    (body_run v (0 ∷ []) written.form r written.lines is written.is_form written.are_lines)
+    in
     let read = lines_read written.lines plain in record {
       run =
           subst (λ ls. Runs (body v []) AtNames ls (AtNothing r)) (sym (ap lines_of written.is_text ∙ read.0))

@@ -3,7 +3,7 @@
 --   sequent_no_numbers, sequent_no_ascends == the line of a sequent, in its table or in an entry
 --   stack_no_numbers, stack_no_names       == the line of a stack
 --   sequents_first, sequent_row, stacks_first, stack_row == they are good, and lead to the next line
-use Rattle.std.proofs.Common.{◌≡◌, ℕ, ◌+◌, ◌<◌, List, [], ◌∷◌, ◌++◌, length, map, All, codes, inl, inr, refl, sym, ap, subst, ◌∙◌, arith}
+use Rattle.std.proofs.Common.{◌≡◌, ℕ, ◌<◌, List, [], ◌∷◌, ◌++◌, length, All, codes, inl, inr, refl, sym, ap, subst, arith}
 use Rattle.std.proofs.lemmas.List.Elements.{All-nil, All-cons}
 use Rattle.ml_base.specs.declared.version.Version.{Version}
 use Rattle.ml_base.specs.declared.version.Version.TheVariants.{One}
@@ -11,12 +11,12 @@ use Rattle.ml_lines.specs.Lines.{Word, Line}
 use Rattle.ml_lines.specs.Reading.{AreWords, IsNumber, value}
 use Rattle.ml_lists.specs.Ascending.{IsAscending}
 use Rattle.ml_lists.specs.Documents.{IsFirstBroken}
-use Rattle.ml_refutation.specs.Refutation.{Entry, Fits, IsStack}
-use Rattle.ml_refutation_text.specs.RefutationText.{Spells, sequents_line, sequent_line, stacks_line, stack_line, numbers}
+use Rattle.ml_refutation.specs.Refutation.{Fits, IsStack}
+use Rattle.ml_refutation_text.specs.RefutationText.{Spells, sequents_line, sequent_line, stacks_line, stack_line}
 use Rattle.ml_refutation_text.specs.LineKinds.{IsOfKind}
 use Rattle.ml_refutation_text.specs.BodyRules.{Place, AtSequents, AtTableSequent, AtStacks, AtTableStack, at_sequent_table, at_stack_table, sequent_kind, stack_kind, rules, body}
 use Rattle.ml_refutation_text.specs.private.ItemReads.{AreNames}
-use Rattle.ml_refutation_text.proofs.ReadWords.{some_word, values_back, value_back, words_first, spelt_is_word}
+use Rattle.ml_refutation_text.proofs.ReadWords.{values_back, value_back, words_first, spelt_is_word}
 use Rattle.ml_refutation_text.proofs.Runs.{Runs}
 use Rattle.ml_refutation_text.proofs.GoodLines.{numbered_of, numbered_fits, sequent_good, sequent_fits, stack_good, stack_fits, names_fit}
 
@@ -31,7 +31,11 @@ sequent_no_numbers line words is are bad =
     let kind : IsOfKind sequent_kind (codes "sequent" ∷ words) = (subst AreWords is are, (refl, tt)) in
     subst (λ l. SequentBroken l 22) (sym is) (inr (inl kind, inl (refl, λ have. bad (have.0 kind).1)))
 
-pub sequent_no_ascends : (line : Line) (q : List ℕ) → line ≡ sequent_line q → All Fits q → ¬ (IsAscending q) → SequentBroken line 25
+pub sequent_no_ascends : (line : Line) (q : List ℕ)
+    → line ≡ sequent_line q
+    → All Fits q
+    → ¬ (IsAscending q)
+    → SequentBroken line 25
 sequent_no_ascends line q is fit bad =
     subst (λ l. SequentBroken l 25) (sym is)
     (inr (
@@ -53,7 +57,11 @@ module _ (names : ℕ) (qs : List (List ℕ)) (size : ℕ) (rows : List (List �
       subst (λ l. StackBroken l 22) (sym is)
       (inr (inl kind, inl (refl, λ have. let fits = (have.0 kind).1 in bad (All-cons IsNumber w words fits.0 fits.1))))
 
-  pub stack_no_names : (line : Line) (ns : List ℕ) → line ≡ stack_line ns → 0 < length ns → All Fits ns → ¬ (AreNames names ns)
+  pub stack_no_names : (line : Line) (ns : List ℕ)
+      → line ≡ stack_line ns
+      → 0 < length ns
+      → All Fits ns
+      → ¬ (AreNames names ns)
       → StackBroken line 27
   stack_no_names line ns is some fit bad =
       subst (λ l. StackBroken l 27) (sym is)
@@ -68,7 +76,9 @@ module _ (v : Version) (left : List ℕ) (n : ℕ) where
   abbrev Run : Place → List Line → Place → Type 0
   Run = Runs (body v left)
 
-  pub sequents_first : (size : ℕ) → Fits size → Run (AtSequents n) (sequents_line size ∷ []) (at_sequent_table n size [])
+  pub sequents_first : (size : ℕ)
+      → Fits size
+      → Run (AtSequents n) (sequents_line size ∷ []) (at_sequent_table n size [])
   sequents_first size fits = (
     (inl (numbered_of v left (codes "sequents") size refl fits), (numbered_fits v left (codes "sequents") size fits, tt)),
     ap (λ s. at_sequent_table n s []) (value_back size fits),

@@ -4,7 +4,8 @@
 --   code            == a state as a number: states ascend as their codes do
 --   items_few       == an entry has no more items than there are states
 --   few_stacks      == so a refutation has fewer stacks than 10 ^ 64
-use Rattle.std.proofs.Common.{◌≡◌, ℕ, zero, suc, ◌+◌, ◌-◌, ◌*◌, ◌/◌, ◌%◌, ◌^◌, ◌<◌, ◌≤◌, Bool, true, false, ◌&&◌, ◌||◌, ◌==◌, nat_lt, List, [], ◌∷◌, ◌++◌, Option, None, Some, length, map, get_or, All, inl, inr, ◌⊎◌, refl, sym, ap, ◌∙◌, length-append, arith}
+use Rattle.std.proofs.Common.{◌≡◌, ℕ, zero, suc, ◌+◌, ◌-◌, ◌*◌, ◌/◌, ◌%◌, ◌^◌, ◌<◌, ◌≤◌, Bool, true, false, ◌&&◌, ◌||◌, ◌==◌, nat_lt, List, [], ◌∷◌, ◌++◌}
+use Rattle.std.proofs.Common.{Option, None, Some, length, map, get_or, All, inl, inr, ◌⊎◌, refl, ap, ◌∙◌, length-append, arith}
 use Rattle.std.specs.List.{flat_map}
 use Rattle.std.specs.Str.{all_ascii_digits}
 use Rattle.std.specs.Char.{is_ascii_digit}
@@ -16,7 +17,7 @@ use Rattle.ml_lines.specs.Lines.{Word, number}
 use Rattle.ml_lines.specs.Reading.{value, value_on}
 use Rattle.ml_trace.specs.declared.letters.AutomatonState.{AutomatonState}
 use Rattle.ml_trace.specs.Stack as traced
-use Rattle.ml_refutation.specs.Refutation.{Refutation, Entry, Fits, FitsGuess, IsAbove, AreAbove, IsItem, IsEntry, IsRefutation, comes_before, guess_before}
+use Rattle.ml_refutation.specs.Refutation.{Refutation, Entry, Fits, FitsGuess, AreAbove, IsItem, IsEntry, IsRefutation, comes_before, guess_before}
 use Rattle.ml_refutation_text.specs.RefutationText.{Spells}
 use Rattle.ml_refutation_text.specs.WrittenText.{used_stacks, stacks_of}
 use Rattle.ml_refutation_text.proofs.TableEntries.{made_length}
@@ -42,7 +43,10 @@ one_digit n small = record {
   is_value = omega arith;
 }
 
-digits_push : (w : Word) (c : ℕ) → all_ascii_digits w ≡ true → is_ascii_digit c ≡ true → all_ascii_digits (w ++ c ∷ []) ≡ true
+digits_push : (w : Word) (c : ℕ)
+    → all_ascii_digits w ≡ true
+    → is_ascii_digit c ≡ true
+    → all_ascii_digits (w ++ c ∷ []) ≡ true
 digits_push [] c all digit = ap (λ b. b && true) digit
 digits_push (b ∷ w) c all digit = go (is_ascii_digit b) refl all (λ rest. digits_push w c rest digit)
   where
@@ -144,7 +148,9 @@ states_few : (ss : List AutomatonState) → AreInRange ss → AreAbove None ss �
 states_few [] all above = omega arith
 states_few (s ∷ ss) all above = omega (arith, above_few s ss all.0 all.1 above.1)
 
-items_in_range : (live : ℕ) (items : List (traced.Item AutomatonState)) → All (IsItem live) items → AreInRange (map (λ a. a.state) items)
+items_in_range : (live : ℕ) (items : List (traced.Item AutomatonState))
+    → All (IsItem live) items
+    → AreInRange (map (λ a. a.state) items)
 items_in_range live [] all = tt
 items_in_range live (a ∷ items) all =
     let first = All-head (IsItem live) a items all in

@@ -5,7 +5,8 @@
 --   sequents_place, stacks_place, entries_place == what stands behind a table and behind the entries
 --   sequents_push, stacks_push, item_lines_push, entries_push == one more line of a table, item, entry
 --   whole_entry, close         == an entry is whole, and a decision with the splits that it completes
-use Rattle.std.proofs.Common.{◌≡◌, ℕ, ◌+◌, ◌-◌, ◌<◌, ◌≤◌, ◌⊎◌, true, false, cond, nat_lt, max, List, [], ◌∷◌, ◌++◌, Option, None, Some, length, drop, map, All, codes, refl, sym, ap, subst, ◌∙◌, inl, inr, length-append, append_assoc, arith}
+use Rattle.std.proofs.Common.{◌≡◌, ℕ, ◌+◌, ◌-◌, ◌<◌, ◌≤◌, ◌⊎◌, true, false, cond, nat_lt, max, List, [], ◌∷◌, ◌++◌, Option, None, Some, length}
+use Rattle.std.proofs.Common.{drop, map, All, codes, refl, sym, ap, subst, ◌∙◌, inl, inr, length-append, append_assoc, arith}
 use Rattle.std.proofs.Math.Nat.{max-le}
 use Rattle.std.proofs.lemmas.Bool.{cases_lt}
 use Rattle.std.proofs.lemmas.Bool.Decides.{nat_tests}
@@ -20,8 +21,12 @@ use Rattle.ml_trace.specs.Stack as traced
 use Rattle.ml_trace.specs.declared.letters.AutomatonState.{AutomatonState}
 use Rattle.ml_refutation.specs.Refutation.{Refutation, Entry, Decision, Split, Fits, IsAbove, AreAbove, IsStack, IsItem, IsDecided, IsEntry, IsRefutation, nesting}
 use Rattle.ml_refutation.specs.declared.refutation.TheConstants.{NESTING_LIMIT}
-use Rattle.ml_refutation_text.specs.RefutationText.{Spells, Form, InFull, ByTables, names_line, entries_line, sequents_line, stacks_line, sequent_line, stack_line, numbered_line, live_line, heights_line, split_line, decision_lines, HeadLines, ItemLine, ItemLines, EntryLines, EntriesLines, FirstLines, BodyLines, IsForm}
-use Rattle.ml_refutation_text.specs.BodyRules.{Known, Around, InLeft, InRight, Begun, Place, AtNames, AtSequents, AtTableSequent, AtStacks, AtTableStack, AtEntries, AtEntry, AtSequent, AtLive, AtItem, AtDecision, AtEnd, AtNothing, values, at_sequent_table, at_stack_table, at_entry, whole, closed}
+use Rattle.ml_refutation_text.specs.RefutationText.{Spells, Form, InFull, ByTables, names_line, entries_line, sequents_line, stacks_line, sequent_line}
+use Rattle.ml_refutation_text.specs.RefutationText.{stack_line, numbered_line, live_line, heights_line, split_line, decision_lines, HeadLines, ItemLine}
+use Rattle.ml_refutation_text.specs.RefutationText.{ItemLines, EntryLines, EntriesLines, FirstLines, BodyLines, IsForm}
+use Rattle.ml_refutation_text.specs.BodyRules.{Known, Around, InLeft, InRight, Begun, Place, AtNames, AtSequents, AtTableSequent, AtStacks}
+use Rattle.ml_refutation_text.specs.BodyRules.{AtTableStack, AtEntries, AtEntry, AtSequent, AtLive, AtItem, AtDecision, AtEnd, AtNothing}
+use Rattle.ml_refutation_text.specs.BodyRules.{values, at_sequent_table, at_stack_table, at_entry, whole, closed}
 use Rattle.ml_refutation_text.proofs.ReadLines.{IsListedLine, IsStackLine}
 
 pub both_nested : (a b c limit : ℕ) → a + c ≤ limit → b + c ≤ limit → max a b + c ≤ limit

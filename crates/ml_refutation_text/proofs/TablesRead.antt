@@ -4,7 +4,7 @@
 --   StacksTo m n at rows rest    == so of a table of n stacks, with m names
 --   row_there                    == the row at a place
 --   rows_begin, row_more, rows_done, and so on == before any line, one more, and behind the last one
-use Rattle.std.proofs.Common.{◌≡◌, ℕ, ◌+◌, ◌-◌, ◌<◌, ◌≤◌, ◌^◌, true, false, cond, min, nat_lt, List, [], ◌∷◌, ◌++◌, Some, get_or, slice_get, length, map, All, refl, sym, ap, subst, ◌∙◌, length-append, arith}
+use Rattle.std.proofs.Common.{◌≡◌, ℕ, ◌+◌, ◌-◌, ◌<◌, ◌≤◌, ◌^◌, true, false, cond, min, nat_lt, List, [], ◌∷◌, ◌++◌, Some, get_or, slice_get, length, refl, sym, ap, subst, ◌∙◌, length-append, arith}
 use Rattle.std.specs.Global.{Vec}
 use Rattle.std.proofs.lemmas.Bool.Decides.{nat_tests}
 use Rattle.std.proofs.lemmas.List.{map-append, length-map, get_or-map}
@@ -25,14 +25,19 @@ use Rattle.ml_refutation_text.proofs.Runs.{Runs}
 use Rattle.ml_refutation_text.proofs.RowLines.{sequents_first, sequent_row, stacks_first, stack_row}
 use Rattle.ml_refutation_text.proofs.Going.{goes_begin, goes_on, goes_run, fault_on, refused_line, room_on}
 
-rows_push : (rows more : List (Vec ℕ)) (row : Vec ℕ) → more ≡ rows ++ row ∷ [] → rows_in more ≡ rows_in rows ++ row.items ∷ []
+rows_push : (rows more : List (Vec ℕ)) (row : Vec ℕ)
+    → more ≡ rows ++ row ∷ []
+    → rows_in more ≡ rows_in rows ++ row.items ∷ []
 rows_push rows more row is = ap rows_in is ∙ map-append (λ r. r.items) rows (row ∷ [])
 
 pub length-rows : (rows : List (Vec ℕ)) → length (rows_in rows) ≡ length rows
 length-rows rows = length-map rows (λ r. r.items)
 
 -- the row at a place
-pub row_there : (rows : List (Vec ℕ)) (i : ℕ) (row : Vec ℕ) (ns : List ℕ) → i < length rows → row ≡ get_or rows i row → ns ≡ row.items
+pub row_there : (rows : List (Vec ℕ)) (i : ℕ) (row : Vec ℕ) (ns : List ℕ)
+    → i < length rows
+    → row ≡ get_or rows i row
+    → ns ≡ row.items
     → slice_get (rows_in rows) i ≡ Some ns
 row_there rows i row ns inside is same =
     let within : i < length (rows_in rows) = omega (arith, inside, length-rows rows) in
@@ -41,7 +46,8 @@ row_there rows i row ns inside is same =
 
 module _ (size : ℕ) (at : Rest) where
   pub record SequentsTo (rows : List (Vec ℕ)) (rest : Rest) : Type 0 where
-    pub goes : (v : Version) (names : ℕ) → Goes v (at_sequent_table names size []) at (at_sequent_table names size (rows_in rows)) rest
+    pub goes : (v : Version) (names : ℕ)
+        → Goes v (at_sequent_table names size []) at (at_sequent_table names size (rows_in rows)) rest
     pub counted : rest.line ≡ at.line + length rows
 
   pub rows_begin : SequentsTo [] at
@@ -53,18 +59,26 @@ module _ (size : ℕ) (at : Rest) where
 
     module _ (below : length rows < size) where
       -- the next line is one of the table
-      at_row : (v : Version) (names : ℕ) → Goes v (at_sequent_table names size []) at (AtTableSequent names size (rows_in rows)) rest
+      at_row : (v : Version) (names : ℕ)
+          → Goes v (at_sequent_table names size []) at (AtTableSequent names size (rows_in rows)) rest
       at_row v names =
           let test : nat_lt (length (rows_in rows)) size ≡ true = grind (arith, nat_tests, length-rows rows, below) in
-          subst (λ b. Goes v (at_sequent_table names size []) at (cond b (AtTableSequent names size (rows_in rows)) (AtStacks names (rows_in rows))) rest)
+          subst
+          (λ b. Goes v (at_sequent_table names size []) at
+          (cond b (AtTableSequent names size (rows_in rows)) (AtStacks names (rows_in rows))) rest)
           test (so_far.goes v names)
 
-      pub row_refused : (e : DocRefusal) → TellsSequent rest e → (v : Version) (names : ℕ) → TellsFault v (at_sequent_table names size []) at e
+      pub row_refused : (e : DocRefusal)
+          → TellsSequent rest e
+          → (v : Version) (names : ℕ)
+          → TellsFault v (at_sequent_table names size []) at e
       row_refused e tells v names =
           fault_on v (at_sequent_table names size []) (AtTableSequent names size (rows_in rows)) at rest e (at_row v names)
           (tells.in_table v names size (rows_in rows))
 
-      pub row_more : (row : Vec ℕ) (more : List (Vec ℕ)) (behind : Rest) → IsSequentRead rest row.items behind → more ≡ rows ++ row ∷ []
+      pub row_more : (row : Vec ℕ) (more : List (Vec ℕ)) (behind : Rest)
+          → IsSequentRead rest row.items behind
+          → more ≡ rows ++ row ∷ []
           → SequentsTo more behind
       row_more row more behind read pushed = record {
         goes = λ v names.
@@ -78,14 +92,20 @@ module _ (size : ℕ) (at : Rest) where
       }
 
     -- behind the last line
-    pub rows_done : size ≤ length rows → (v : Version) (names : ℕ) → Goes v (at_sequent_table names size []) at (AtStacks names (rows_in rows)) rest
+    pub rows_done : size ≤ length rows
+        → (v : Version) (names : ℕ)
+        → Goes v (at_sequent_table names size []) at (AtStacks names (rows_in rows)) rest
     rows_done full v names =
         let test : nat_lt (length (rows_in rows)) size ≡ false = grind (arith, nat_tests, length-rows rows, full) in
-        subst (λ b. Goes v (at_sequent_table names size []) at (cond b (AtTableSequent names size (rows_in rows)) (AtStacks names (rows_in rows))) rest)
+        subst
+        (λ b. Goes v (at_sequent_table names size []) at
+        (cond b (AtTableSequent names size (rows_in rows)) (AtStacks names (rows_in rows))) rest)
         test (so_far.goes v names)
 
 -- behind the number of sequents
-pub sequents_begin : (v : Version) (names size : ℕ) (at behind : Rest) → Fits size → IsNext at (sequents_line size) behind
+pub sequents_begin : (v : Version) (names size : ℕ) (at behind : Rest)
+    → Fits size
+    → IsNext at (sequents_line size) behind
     → Goes v (AtSequents names) at (at_sequent_table names size []) behind
 sequents_begin v names size at behind fits next =
     goes_run v (AtSequents names) (at_sequent_table names size []) at behind (sequents_line size) (sequents_line size) next refl
@@ -95,7 +115,8 @@ sequents_begin v names size at behind fits next =
 
 module _ (names size : ℕ) (at : Rest) where
   pub record StacksTo (rows : List (Vec ℕ)) (rest : Rest) : Type 0 where
-    pub goes : (v : Version) (qs : List (List ℕ)) → Goes v (at_stack_table names qs size []) at (at_stack_table names qs size (rows_in rows)) rest
+    pub goes : (v : Version) (qs : List (List ℕ))
+        → Goes v (at_stack_table names qs size []) at (at_stack_table names qs size (rows_in rows)) rest
     pub counted : rest.line ≡ at.line + length rows
 
   pub stack_rows_begin : StacksTo [] at
@@ -103,13 +124,18 @@ module _ (names size : ℕ) (at : Rest) where
 
   module _ (rows : List (Vec ℕ)) (rest : Rest) (so_far : StacksTo rows rest) where
     pub stack_rows_room : HasRoom at → HasRoom rest
-    stack_rows_room room = room_on One (at_stack_table names [] size []) (at_stack_table names [] size (rows_in rows)) at rest (so_far.goes One []) room
+    stack_rows_room room =
+        room_on One (at_stack_table names [] size []) (at_stack_table names [] size (rows_in rows)) at rest
+        (so_far.goes One []) room
 
     module _ (below : length rows < size) where
-      at_stack : (v : Version) (qs : List (List ℕ)) → Goes v (at_stack_table names qs size []) at (AtTableStack names qs size (rows_in rows)) rest
+      at_stack : (v : Version) (qs : List (List ℕ))
+          → Goes v (at_stack_table names qs size []) at (AtTableStack names qs size (rows_in rows)) rest
       at_stack v qs =
           let test : nat_lt (length (rows_in rows)) size ≡ true = grind (arith, nat_tests, length-rows rows, below) in
-          subst (λ b. Goes v (at_stack_table names qs size []) at (cond b (AtTableStack names qs size (rows_in rows)) (AtEntries names (ByTables qs (rows_in rows)))) rest)
+          subst
+          (λ b. Goes v (at_stack_table names qs size []) at
+          (cond b (AtTableStack names qs size (rows_in rows)) (AtEntries names (ByTables qs (rows_in rows)))) rest)
           test (so_far.goes v qs)
 
       pub stack_missing : (e : DocRefusal) → ((v : Version) (p : Place) → IsUsual p → TellsFault v p rest e)
@@ -127,7 +153,10 @@ module _ (names size : ℕ) (at : Rest) where
             fault_on v (at_stack_table names qs size []) p at rest told (at_stack v qs)
             (subst (TellsFault v p rest) (sym is) (refused_line v p rest behind line e next (tells qs (rows_in rows) size)))
 
-        pub stack_more : (row : Vec ℕ) (more : List (Vec ℕ)) → Fits names → line ≡ stack_line row.items → IsStack names row.items
+        pub stack_more : (row : Vec ℕ) (more : List (Vec ℕ))
+            → Fits names
+            → line ≡ stack_line row.items
+            → IsStack names row.items
             → more ≡ rows ++ row ∷ [] → StacksTo more behind
         stack_more row more small is stack pushed = record {
           goes = λ v qs.
@@ -146,11 +175,15 @@ module _ (names size : ℕ) (at : Rest) where
     stacks_done capped is full some room v qs =
         let all : size ≤ length rows = omega (arith, is, full, some, room, so_far.counted) in
         let test : nat_lt (length (rows_in rows)) size ≡ false = grind (arith, nat_tests, length-rows rows, all) in
-        subst (λ b. Goes v (at_stack_table names qs size []) at (cond b (AtTableStack names qs size (rows_in rows)) (AtEntries names (ByTables qs (rows_in rows)))) rest)
+        subst
+        (λ b. Goes v (at_stack_table names qs size []) at
+        (cond b (AtTableStack names qs size (rows_in rows)) (AtEntries names (ByTables qs (rows_in rows)))) rest)
         test (so_far.goes v qs)
 
 -- behind the number of stacks
-pub stacks_begin : (v : Version) (names : ℕ) (qs : List (List ℕ)) (w : Word) (at behind : Rest) (line : Line) → Spells w (value w) → IsNext at line behind
+pub stacks_begin : (v : Version) (names : ℕ) (qs : List (List ℕ)) (w : Word) (at behind : Rest) (line : Line)
+    → Spells w (value w)
+    → IsNext at line behind
     → line ≡ stacks_line w → Goes v (AtStacks names qs) at (at_stack_table names qs (value w) []) behind
 stacks_begin v names qs w at behind line spells next is =
     goes_run v (AtStacks names qs) (at_stack_table names qs (value w) []) at behind line (stacks_line w) next is

@@ -4,7 +4,7 @@
 --   last_state                == the state of the last item that was read
 --   items_begin, items_room, items_missing, items_broken, items_more, items_heights == before any line; there is room for
 --                                further ones; no line is left; one breaks a rule; one more item; the line of the heights
-use Rattle.std.proofs.Common.{◌≡◌, ℕ, ◌+◌, ◌<◌, ◌≤◌, ◌^◌, List, [], ◌∷◌, ◌++◌, Option, None, Some, length, map, All, refl, sym, ap, subst, ◌∙◌, length-append, arith}
+use Rattle.std.proofs.Common.{◌≡◌, ℕ, ◌+◌, ◌≤◌, List, [], ◌∷◌, ◌++◌, Option, None, Some, length, map, refl, sym, ap, subst, ◌∙◌, length-append, arith}
 use Rattle.std.proofs.lemmas.List.{map-append}
 use Rattle.ml_base.specs.declared.version.Version.{Version}
 use Rattle.ml_base.specs.declared.version.Version.TheVariants.{One}
@@ -36,7 +36,8 @@ module _ (F : Form) (names live : ℕ) (at : Rest) where
   place wanted es q items = AtItem (knows names F wanted) es q (record { live = live; items = map item_of items })
 
   pub record ItemsTo (items : List Item) (rest : Rest) : Type 0 where
-    pub goes : (v : Version) (wanted : ℕ) (es : List Entry) (q : List ℕ) → Goes v (place wanted es q []) at (place wanted es q items) rest
+    pub goes : (v : Version) (wanted : ℕ) (es : List Entry) (q : List ℕ)
+        → Goes v (place wanted es q []) at (place wanted es q items) rest
     pub counted : rest.line ≡ at.line + length items
 
   pub items_begin : ItemsTo [] at
@@ -56,7 +57,9 @@ module _ (F : Form) (names live : ℕ) (at : Rest) where
       stands : AtItems live before (record { live = live; items = map item_of items })
       stands = record { with_live = refl; behind = last_state None items ∙ sym last }
 
-      pub items_broken : (e : LineRefusal) (told : DocRefusal) → told ≡ at_line rest.line e → TellsTrace F names live before line e
+      pub items_broken : (e : LineRefusal) (told : DocRefusal)
+          → told ≡ at_line rest.line e
+          → TellsTrace F names live before line e
           → (v : Version) (wanted : ℕ) (es : List Entry) (q : List ℕ) → TellsFault v (place wanted es q []) at told
       items_broken e told is tells v wanted es q =
           let p = place wanted es q items in
@@ -65,7 +68,9 @@ module _ (F : Form) (names live : ℕ) (at : Rest) where
           (refused_line v p rest behind line e next (tells wanted es q (record { live = live; items = map item_of items }) stands)))
 
       module _ (small : Fits names) (within : live ≤ names) where
-        pub items_more : (a : Item) (more : List Item) → IsItemOf F live before line (item_of a) → more ≡ items ++ a ∷ []
+        pub items_more : (a : Item) (more : List Item)
+            → IsItemOf F live before line (item_of a)
+            → more ≡ items ++ a ∷ []
             → ItemsTo more behind
         items_more a more is pushed =
             let all : map item_of more ≡ map item_of items ++ item_of a ∷ [] = ap (map item_of) pushed ∙ map-append item_of items (a ∷ []) in
@@ -76,20 +81,29 @@ module _ (F : Form) (names live : ℕ) (at : Rest) where
                   (goes_run v (place wanted es q items) (place wanted es q more) rest behind line (item_line (item_of a).state is.is_line.words) next
                   is.is_line.is_line
                   (λ left.
-                  subst (λ as'. Runs (body v left) (place wanted es q items) (item_line (item_of a).state is.is_line.words ∷ []) (AtItem k es q (record { live = live; items = as' })))
+                  subst
+                  (λ as'.
+                  Runs (body v left) (place wanted es q items) (item_line (item_of a).state is.is_line.words ∷ [])
+                  (AtItem k es q (record { live = live; items = as' })))
                   (sym all)
-                  (item_run v left names wanted small es q live within F (map item_of items) (item_of a) is.is_line.words is.may_stand is.some above is.is_line.for_stack)));
+                  (item_run v left names wanted small es q live within F (map item_of items) (item_of a)
+                  is.is_line.words is.may_stand is.some above is.is_line.for_stack)));
               counted = omega (arith, so_far.counted, next.counted, ap length pushed, length-append items (a ∷ []));
             }
 
         pub items_heights : (hs : List ℕ) → IsHeights names line hs
             → ((v : Version) (wanted : ℕ) (es : List Entry) (q : List ℕ)
             → Goes v (place wanted es q []) at
-            (AtDecision (knows names F wanted) es (record { sequent = q; traces = record { live = live; items = map item_of items }; heights = hs }) []) behind)
+            (AtDecision (knows names F wanted) es
+            (record { sequent = q; traces = record { live = live; items = map item_of items }; heights = hs }) [])
+            behind)
             × (behind.line ≡ at.line + length items + 1)
         items_heights hs is = (
           (λ v wanted es q.
-              let end = AtDecision (knows names F wanted) es (record { sequent = q; traces = record { live = live; items = map item_of items }; heights = hs }) [] in
+              let end =
+              AtDecision (knows names F wanted) es
+              (record { sequent = q; traces = record { live = live; items = map item_of items }; heights = hs }) []
+              in
               goes_on v (place wanted es q []) (place wanted es q items) end at rest behind (so_far.goes v wanted es q)
               (goes_run v (place wanted es q items) end rest behind line (heights_line hs) next is.is_line
               (λ left. heights_run v left names wanted small es q live within F (map item_of items) hs is.fit is.one_each))),

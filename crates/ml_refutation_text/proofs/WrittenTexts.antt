@@ -4,7 +4,7 @@
 --   tables_are           == the tables of a refutation are as what they stand for
 --   has_text             == the written text is one of the refutation
 --   written_is_text      == so it is of one whose stacks were counted
-use Rattle.std.proofs.Common.{◌≡◌, ℕ, zero, suc, get_or, ◌+◌, ◌^◌, ◌<◌, ◌≤◌, List, [], ◌∷◌, ◌++◌, length, map, All, refl, ap, arith}
+use Rattle.std.proofs.Common.{ℕ, ◌+◌, ◌<◌, ◌≤◌, List, [], ◌∷◌, ◌++◌, length, map, All, refl, arith}
 use Rattle.std.specs.List.{flat_map, AllByRecursion}
 use Rattle.std.proofs.lemmas.List.{length-map}
 use Rattle.std.proofs.lemmas.List.Elements.{All-nil, All-head, All-tail, All-append, All-map, All-weaker}
@@ -15,7 +15,7 @@ use Rattle.ml_lists.specs.Ascending.{IsAscending}
 use Rattle.ml_trace.specs.declared.letters.AutomatonState.{AutomatonState}
 use Rattle.ml_trace.specs.Stack as traced
 use Rattle.ml_refutation.specs.Refutation.{Refutation, Entry, Fits, IsStack, IsItem, IsEntry, IsRefutation}
-use Rattle.ml_refutation_text.specs.RefutationText.{Spells, Form, InFull, ByTables, HeadLines, StackWords, ItemLines, EntryLines, EntriesLines, AreTables, IsTextOf, item_line}
+use Rattle.ml_refutation_text.specs.RefutationText.{Form, InFull, ByTables, HeadLines, StackWords, ItemLines, EntryLines, EntriesLines, AreTables, IsTextOf, item_line}
 use Rattle.ml_refutation_text.specs.WrittenText.{IsCounted, Writing, in_full, by_tables, used_stacks, sequents_of, stacks_of, place_in, entry_lines, entries_lines, written_lines, written_text}
 use Rattle.ml_refutation_text.proofs.StackCounts.{spells_wide, few_stacks}
 use Rattle.ml_refutation_text.proofs.TableEntries.{Has, made_has, made_all, made_length, has_inside, has_place}
@@ -151,7 +151,14 @@ has_text Two r is =
         are_entries =
             entries_written (by_tables qs ks) (ByTables qs ks) (Has qs) (Has ks)
             (λ i q has. (place_in qs q, has_place qs q has, refl))
-            (λ ns has. (place_in ks ns, number (place_in ks ns), spells_wide (place_in ks ns) (omega (arith, has_inside ks ns has, few)), has_place ks ns has, refl)) 0 r.entries
+            (λ ns has. (
+              place_in ks ns,
+              number (place_in ks ns),
+              spells_wide (place_in ks ns) (omega (arith, has_inside ks ns has, few)),
+              has_place ks ns has,
+              refl,
+            ))
+            0 r.entries
             (made_has (map (λ e. e.sequent) r.entries)) (made_has (flat_map used_stacks r.entries));
         are_lines = refl;
       };

@@ -41,7 +41,8 @@ use Rattle.ml_refutation.specs.declared.refutation.TheConstants.{NESTING_LIMIT}
 use Rattle.ml_refutation_text.specs.RefutationText.{Form, InFull, ByTables}
 use Rattle.ml_refutation_text.specs.LineKinds.{Kind, Fixed, ANumber, AGuess, AnySize, kind, open_kind, IsOfKinds, HaveNumbers}
 use Rattle.ml_refutation_text.specs.declared.body_rule.BodyRule.{BodyRule}
-use Rattle.ml_refutation_text.specs.declared.body_rule.BodyRule.TheVariants.{OfKind, Numbers, HasEntries, NextEntry, SequentAscends, LiveWithin, ItemsAscend, HeightForEach, GoInRange, Nesting, InTables}
+use Rattle.ml_refutation_text.specs.declared.body_rule.BodyRule.TheVariants.{OfKind, Numbers, HasEntries, NextEntry, SequentAscends, LiveWithin, ItemsAscend}
+use Rattle.ml_refutation_text.specs.declared.body_rule.BodyRule.TheVariants.{HeightForEach, GoInRange, Nesting, InTables}
 
 -- ---- places
 

@@ -23,7 +23,8 @@ use Rattle.ml_base.specs.declared.version.Version.{Version}
 use Rattle.ml_base.specs.declared.version.Version.TheVariants.{One, Two}
 use Rattle.ml_lines.specs.Lines.{Word, Line, number, text_of}
 use Rattle.ml_refutation.specs.Refutation.{Refutation, Entry}
-use Rattle.ml_refutation_text.specs.RefutationText.{numbers, names_line, entries_line, sequents_line, stacks_line, sequent_line, stack_line, numbered_line, entry_line, live_line, item_line, heights_line, decision_lines, end_line}
+use Rattle.ml_refutation_text.specs.RefutationText.{numbers, names_line, entries_line, sequents_line, stacks_line, sequent_line, stack_line}
+use Rattle.ml_refutation_text.specs.RefutationText.{numbered_line, entry_line, live_line, item_line, heights_line, decision_lines, end_line}
 
 -- ---- tables
 

@@ -2,7 +2,7 @@
 ghost use Rattle.std.specs.Prelude.{◌≡◌, ◌<◌, ◌+◌, ◌++◌, ◌^◌, ℕ, List, [], ◌∷◌, false, IfOk, IfErr, IsTrue, MatchOption, codes, length};
 ghost use Rattle.ml_lines.specs.Lines.{number};
 ghost use Rattle.ml_base.specs.declared.version.Version.{Version};
-ghost use Rattle.ml_lines.specs.Reading.{words_of, words_behind, AreWords};
+ghost use Rattle.ml_lines.specs.Reading.{words_of, AreWords};
 ghost use Rattle.ml_refutation.specs.Refutation.{Entry, FitsCause, IsMarkOf};
 ghost use Rattle.ml_refutation.specs.Refutation as plain;
 ghost use Rattle.ml_refutation.specs.Views as views;

@@ -1,5 +1,5 @@
 // Reading the entries.
-ghost use Rattle.std.specs.Prelude.{◌≡◌, ◌<◌, ◌≤◌, ◌+◌, ◌++◌, ◌^◌, ℕ, List, [], ◌∷◌, IfOk, IfErr, map, length};
+ghost use Rattle.std.specs.Prelude.{◌≡◌, ◌<◌, ◌≤◌, ◌+◌, ◌++◌, ℕ, List, [], ◌∷◌, IfOk, IfErr, map, length};
 ghost use Rattle.ml_base.specs.declared.version.Version.{Version};
 ghost use Rattle.ml_refutation.specs.Refutation as plain;
 ghost use Rattle.ml_lines.specs.Reading.{words_of};

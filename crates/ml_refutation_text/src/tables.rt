@@ -1,5 +1,5 @@
 // The tables of version 2: each sequent and each stack of a refutation once, in the order of first use.
-ghost use Rattle.std.specs.Prelude.{◌≡◌, [], map, fold, IfOk, OnOk};
+ghost use Rattle.std.specs.Prelude.{◌≡◌, map, fold, IfOk, OnOk};
 ghost use Rattle.std.specs.List.{flat_map};
 ghost use Rattle.ml_refutation.specs.Views.{item_of, entry_of};
 ghost use Rattle.ml_refutation_text.specs.WrittenText.{each_once, with_new, place_in, used_stacks};

@@ -1,5 +1,5 @@
 // Reading the lines of an entry that tell its traces and its heights.
-ghost use Rattle.std.specs.Prelude.{◌≡◌, ◌<◌, ◌≤◌, ◌+◌, ◌-◌, ◌^◌, ℕ, List, [], ◌∷◌, None, Some, Option, slice_get, false, IfOk, IfErr, IsTrue, MatchOption, All, codes, map, length};
+ghost use Rattle.std.specs.Prelude.{◌≡◌, ◌<◌, ◌≤◌, ◌+◌, ◌-◌, ◌^◌, ℕ, List, [], ◌∷◌, None, Some, Option, slice_get, false, IfOk, IfErr, IsTrue, MatchOption, codes, map, length};
 ghost use Rattle.std.specs.Option.{option_copied};
 ghost use Rattle.ml_lines.specs.Lines.{number};
 ghost use Rattle.ml_lines.specs.Reading.{words_of, words_behind, AreWords, IsNumber};
@@ -170,7 +170,8 @@ fn item_by_table(
     before: Option<&Item>,
 ) -> Result<Item, LineRefusal>
     ensures read { IfOk result (λ a. (qs : List (List ℕ)) → IsItemOf (text.ByTables qs (rows_in stacks.now)) live (before_of (option_copied before.entry)) (words_of line.now) (item_of a)) }
-    ensures refused { IfErr result (λ e. (names : ℕ) (qs : List (List ℕ)) → TellsItem (text.ByTables qs (rows_in stacks.now)) names live (before_of (option_copied before.entry)) (words_of line.now) e) }
+    ensures refused { IfErr result (λ e. (names : ℕ) (qs : List (List ℕ))
+        → TellsItem (text.ByTables qs (rows_in stacks.now)) names live (before_of (option_copied before.entry)) (words_of line.now) e) }
 {
     match item_words(line) {
         Some((node, guess, rest)) => match one_word(rest) {

@@ -7,7 +7,8 @@
 --   sides_left, fewer_left, fewer_right == how many sides are left to choose; at both sides of an or-node fewer
 --   look_start, look_more == what was looked at, at first and with one entry more
 --   next_won, looked_few == what is known of it
-use Rattle.std.proofs.Common.{ℕ, ◌≡◌, ◌+◌, ◌-◌, ◌<◌, ◌≤◌, ◌⊎◌, inl, inr, true, false, List, [], ◌∷◌, ◌++◌, Some, length, map, get_or, slice_get, nat_eq, refl, sym, ap, ◌∙◌, subst, arith, append_assoc, append-nil, length-append}
+use Rattle.std.proofs.Common.{ℕ, ◌≡◌, ◌+◌, ◌-◌, ◌<◌, ◌≤◌, ◌⊎◌, inl, inr, true, false, List, [], ◌∷◌, ◌++◌, Some, length, map, get_or}
+use Rattle.std.proofs.Common.{slice_get, nat_eq, refl, sym, ap, ◌∙◌, subst, arith, append_assoc, append-nil, length-append}
 use Rattle.std.specs.List.{flat_map, list_any}
 use Rattle.std.proofs.lemmas.Bool.{cases_Bool, cases_lt, cond-true, cond-false}
 use Rattle.std.proofs.lemmas.Bool.Decides.{nat_tests}
@@ -45,7 +46,9 @@ use Rattle.ml_lists.proofs.InTurn.{runs_append, runs_up, runs_has}
 -- ---- lists
 
 -- what stands in a list stands in a longer one
-pub get_grown : {X : Type 0} (xs ys : List X) (k : ℕ) (x : X) → slice_get xs k ≡ Some x → slice_get (xs ++ ys) k ≡ Some x
+pub get_grown : {X : Type 0} (xs ys : List X) (k : ℕ) (x : X)
+    → slice_get xs k ≡ Some x
+    → slice_get (xs ++ ys) k ≡ Some x
 get_grown xs ys k x is =
     let low = slice_get_within xs k x is in
     slice_get-get_or (xs ++ ys) k x (omega (arith, low, length-append xs ys))
@@ -59,7 +62,10 @@ get_last xs x =
     ∙ ap Some (ap (λ k. get_or (xs ++ x ∷ []) k x) (sym same) ∙ get_or-append-add xs (x ∷ []) 0 x)
 
 -- a new one stands behind
-different_more : (ps : List Position) (p : Position) → AreDifferent ps → (IsMember p ps → ⊥) → AreDifferent (ps ++ p ∷ [])
+different_more : (ps : List Position) (p : Position)
+    → AreDifferent ps
+    → (IsMember p ps → ⊥)
+    → AreDifferent (ps ++ p ∷ [])
 different_more [] p apart new = ((λ m. m), tt)
 different_more (q ∷ ps) p apart new = (
   λ m. by_part (member-append q ps (p ∷ []) m),
@@ -249,7 +255,9 @@ module _ (g : Graph) (a : Arena) (s : GameSolution) where
       runs_on = number.runs_on;
     }
       where
-        go : (l : LeavesTo g a s v t.spread d) → m ≡ l.mark → IsGo g a s (map (position_at g a) ws) (at v) t.spread d n m
+        go : (l : LeavesTo g a s v t.spread d)
+            → m ≡ l.mark
+            → IsGo g a s (map (position_at g a) ws) (at v) t.spread d n m
         go l same = record {
           next = at (choice_at s.choice v);
           is_choice = record {

@@ -8,7 +8,8 @@
 --   StepAt, step_at == the moves of a position, one for each diamond
 --   won_not_odd     == Odd doesn't win Won
 --   GoesOn, goes_on == what Odd's choice leads to
-use Rattle.std.proofs.Common.{Bool, true, false, filter, ℕ, zero, suc, ◌≡◌, ◌+◌, ◌<◌, ◌≤◌, ◌⊎◌, inl, inr, List, [], ◌∷◌, Some, length, get_or, map, slice_get, Contains, refl, sym, ap, ◌∙◌, subst, arith}
+use Rattle.std.proofs.Common.{Bool, true, false, filter, ℕ, zero, suc, ◌≡◌, ◌+◌, ◌<◌, ◌≤◌, ◌⊎◌, inl, inr, List, [], ◌∷◌, Some}
+use Rattle.std.proofs.Common.{length, get_or, map, slice_get, Contains, refl, sym, ap, ◌∙◌, subst, arith}
 use Rattle.std.proofs.lemmas.Bool.{cases_Bool, cases_lt, cases_eq, cond-true, cond-false}
 use Rattle.std.proofs.lemmas.List.{get_or-append-add, length-map}
 use Rattle.std.proofs.lemmas.Option.{slice_get_within}

@@ -42,7 +42,8 @@ use Rattle.ml_lists.proofs.InTurn.{in_turn}
 use Rattle.ml_refute.proofs.WellFormed.{names_few, decided_at, extracted_refutation}
 
 -- the arcs of entries are those of their decisions
-pub arcs_from_decisions : (top e : ℕ) (es : List Entry) → arcs_from top e es ≡ arcs_at top e (map (λ (x : Entry). x.decision) es)
+pub arcs_from_decisions : (top e : ℕ) (es : List Entry)
+    → arcs_from top e es ≡ arcs_at top e (map (λ (x : Entry). x.decision) es)
 arcs_from_decisions top e [] = refl
 arcs_from_decisions top e (x ∷ es) = ap (λ (ys : List Arc). arcs_of top e x.decision ++ ys) (arcs_from_decisions top (e + 1) es)
 
@@ -73,7 +74,10 @@ module _ (g : Graph) (a : Arena) (s : GameSolution) (vs : List ℕ) (numbered : 
     (0, some_numbered, ap live_of (get_or_from_slice_get vs 0 v 0 first) ∙ sym is),
   )
 
-  pub most_more : (k n m x : ℕ) → k < length vs → IsMostBelow g a vs k n → x ≡ live (position_at g a (get_or vs k 0)).history
+  pub most_more : (k n m x : ℕ)
+      → k < length vs
+      → IsMostBelow g a vs k n
+      → x ≡ live (position_at g a (get_or vs k 0)).history
       → m ≡ max n x → IsMostBelow g a vs (k + 1) m
   most_more k n m x low most x_is m_is = (below, one most.1 (cases_lt n x))
     where
@@ -217,7 +221,8 @@ module _ (g : Graph) (a : Arena) (s : GameSolution) (odd : OddWins g a s) (vs : 
             get_or-map (λ (e : Entry). e.decision) es k no_entry none_here low ∙ p.is_put.decision
             ∙ sym (get_or_from_slice_get ds k p.decision none_here p.stands)
 
-    leads_are : (xs : List Entry) → map (λ (e : Entry). leads_to e.decision) xs ≡ map leads_to (map (λ (e : Entry). e.decision) xs)
+    leads_are : (xs : List Entry)
+        → map (λ (e : Entry). leads_to e.decision) xs ≡ map leads_to (map (λ (e : Entry). e.decision) xs)
     leads_are [] = refl
     leads_are (x ∷ xs) = ap (λ ys. leads_to x.decision ∷ ys) (leads_are xs)
 
@@ -271,7 +276,9 @@ module _ (g : Graph) (a : Arena) (s : GameSolution) (odd : OddWins g a s) (vs : 
             number_is : get_or (range_with_len 0 (length es)) k 0 ≡ k
             number_is = let place = get_or-range_with_len 0 (length es) k 0 low in omega (arith, place)
 
-    live_is : (e : ℕ) → e < length es → (get_or es e no_entry).traces.live ≡ live (position_at g a (get_or vs e 0)).history
+    live_is : (e : ℕ)
+        → e < length es
+        → (get_or es e no_entry).traces.live ≡ live (position_at g a (get_or vs e 0)).history
     live_is e low = ap (λ t. t.live) (put_at e low).is_put.traces
 
     greatest : IsGreatestLive n es

@@ -1,5 +1,5 @@
 // What is done at a position of a decision game that Odd wins.
-ghost use Rattle.std.specs.Prelude.{◌≡◌, ◌<◌, ◌==◌, ℕ, [], length, get_or, IfOk};
+ghost use Rattle.std.specs.Prelude.{◌≡◌, ◌<◌, ◌==◌, [], length, get_or, IfOk};
 ghost use Rattle.std.specs.List.{position_or_len};
 ghost use Rattle.ml_parity.specs.Solution.{choice_at};
 ghost use Rattle.ml_product.specs.DecisionGame.{IsResolved};

@@ -7,7 +7,7 @@
 --   open_same, cause_same, diamond_same, target_same, trace_same, names_same == and what is asked of them
 --   keeps_same        == a part that keeps its rules in one keeps them in the other
 --   accepted_same, first_bad_same == so a refutation is accepted in both or in none, and has the same first bad part
-use Rattle.std.proofs.Common.{◌≡◌, ◌↔◌, ℕ, ◌<◌, ◌≤◌, ◌%◌, min, ◌⊎◌, Bool, true, false, List, [], ◌∷◌, All, length, get_or, inl, inr, refl, sym, ap, ◌∙◌, subst, arith}
+use Rattle.std.proofs.Common.{◌≡◌, ℕ, ◌<◌, ◌≤◌, ◌%◌, min, ◌⊎◌, Bool, true, false, List, [], ◌∷◌, All, get_or, inl, inr, refl, sym, ap, ◌∙◌, subst, arith}
 use Rattle.std.proofs.lemmas.List.{get_or_past}
 use Rattle.std.proofs.lemmas.Bool.{cases_lt}
 use Rattle.ml_lists.specs.Documents.{KeepsAll, IsFirstBroken}
@@ -27,7 +27,7 @@ use Rattle.ml_sequent.specs.declared.choice.Side.{Side}
 use Rattle.ml_sequent.specs.declared.clashes.ClashCause.{ClashCause}
 use Rattle.ml_sequent.specs.declared.clashes.ClashCause.TheVariants as cause
 use Rattle.ml_sequent.specs.LocalWalk.{LocalWalk, stays, goes, InSpread, children, children_of}
-use Rattle.ml_sequent.specs.Spread.{SpreadList, IsSpreadOf, IsOpenOr, IsCause, IsPair, IsOddCycle, OnCycle, is_diamond}
+use Rattle.ml_sequent.specs.Spread.{SpreadList, IsSpreadOf, IsOpenOr, IsCause, IsPair, is_diamond}
 use Rattle.ml_sequent.specs.Step.{IsDiamondOf, LeadsOut, IsTarget, IsTrace}
 use Rattle.ml_refutation.specs.Refutation.{Refutation, Decision, Split, Clash, Go}
 use Rattle.ml_refutation.specs.GoStep.{GoStep, HasTransition}

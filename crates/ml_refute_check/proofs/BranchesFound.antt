@@ -6,7 +6,7 @@
 --   go_kept, go_refused  == a `go`, by its rules
 --   counted_parts, left_less, right_less == as many branches as are counted, and fewer on each side of a split
 --   longer_stands        == a spread with one side more stands for the same sequent
-use Rattle.std.proofs.Common.{◌≡◌, ◌↔◌, ℕ, ◌+◌, ◌*◌, ◌<◌, Bool, true, false, List, [], ◌∷◌, ◌++◌, Option, None, Some, All, length, map, IsTrue, inl, inr, refl, sym, ap, ◌∙◌, subst, arith}
+use Rattle.std.proofs.Common.{◌≡◌, ◌↔◌, ℕ, ◌+◌, ◌<◌, Bool, true, false, List, [], ◌∷◌, ◌++◌, None, Some, All, length, map, IsTrue, inl, inr, refl, sym, ap, ◌∙◌, subst, arith}
 use Rattle.std.proofs.lemmas.Bool.{true≢false}
 use Rattle.std.proofs.lemmas.List.{map-append, length-append}
 use Rattle.ml_graph.specs.Graph.{Graph, IsGraph, size}
@@ -16,7 +16,7 @@ use Rattle.ml_sequent.specs.declared.choice.Side.TheVariants.{Left, Right}
 use Rattle.ml_sequent.specs.declared.clashes.ClashCause.{ClashCause}
 use Rattle.ml_sequent.specs.Choice.{with_side}
 use Rattle.ml_sequent.specs.Spread.{SpreadList, IsSpreadOf, IsSpread, IsOpenOr, IsCause}
-use Rattle.ml_sequent.specs.Step.{IsDiamondOf, IsTarget}
+use Rattle.ml_sequent.specs.Step.{IsDiamondOf}
 use Rattle.ml_refutation.specs.Refutation.{Decision, Split, Clash, Go}
 use Rattle.ml_refutation.specs.Acceptance.{entry_at, OfSpread, Part, Decided, branches, LeadsWithinTargets, TracesNames, HeightsFall}
 use Rattle.ml_refute_check.specs.declared.finding.BadPart.{BadPart}

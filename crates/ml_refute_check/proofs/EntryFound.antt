@@ -9,8 +9,8 @@
 --   odds_ascend     == the odd priorities of a graph ascend
 --   entry_of_index  == an entry that a program reads by its place
 --   whole_front, whole_later, whole_kept == what is found of an entry
-use Rattle.std.proofs.Common.{◌≡◌, ◌↔◌, ℕ, zero, suc, ◌+◌, ◌<◌, ◌≤◌, ◌%◌, ◌==◌, filter, Bool, true, false, List, [], ◌∷◌, ◌++◌, Option, None, Some, All, length, get_or, take, map, IsTrue, inl, inr, refl, sym, ap, ◌∙◌, subst, arith}
-use Rattle.std.proofs.lemmas.Bool.{true≢false}
+use Rattle.std.proofs.Common.{◌≡◌, ◌↔◌, ℕ, zero, suc, ◌+◌, ◌<◌, ◌≤◌, ◌%◌, ◌==◌, filter, Bool, List, [], ◌∷◌, ◌++◌, None}
+use Rattle.std.proofs.Common.{Some, All, length, get_or, take, map, IsTrue, inl, refl, sym, ap, ◌∙◌, subst, arith}
 use Rattle.std.proofs.lemmas.List.{map-append, take_more, take_all, get_or-map, length-map}
 use Rattle.std.specs.Global.{Vec}
 use Rattle.ml_lists.specs.Ascending.{IsAscending, ascending}
@@ -29,7 +29,7 @@ use Rattle.ml_refutation.specs.declared.refutation.Item.{Item}
 use Rattle.ml_refute_check.specs.declared.finding.BadPart.{BadPart}
 use Rattle.ml_sequent.specs.declared.choice.Side.{Side}
 use Rattle.ml_sequent.specs.Spread.{SpreadList, IsSpreadOf, IsSpread}
-use Rattle.ml_refute_check.specs.private.Parts.{Question, Stands, Keeps, KeepEach, FirstBadIn, Finds, IsEntryOf, front_parts, branch_parts}
+use Rattle.ml_refute_check.specs.private.Parts.{Question, Stands, KeepEach, FirstBadIn, Finds, IsEntryOf, front_parts, branch_parts}
 use Rattle.ml_refute_check.proofs.PartsFound.{keep_both, found_first, found_next, found_behind, found_before, none_next, none_behind, parts_are}
 
 module _ (q : Question) (e : ℕ) where

@@ -5,7 +5,8 @@
 --   among_at         == an item comes along a trace from some of the items at its source exactly where from some of all
 --   traced_at        == an item is traced back along the traces to its node exactly where it is along all
 --   led_into_sorted  == traces in another order lead to the same nodes
-use Rattle.std.proofs.Common.{◌≡◌, ◌↔◌, ◌⊎◌, ℕ, zero, suc, ◌+◌, ◌<◌, ◌≤◌, Bool, true, false, ◌&&◌, ◌||◌, ◌==◌, nat_lt, ltb, leb, List, [], ◌∷◌, ◌++◌, Option, None, Some, length, get_or, take, drop, map, All, IsTrue, inl, inr, refl, sym, ap, ◌∙◌, subst, arith}
+use Rattle.std.proofs.Common.{◌≡◌, ◌↔◌, ◌⊎◌, ℕ, zero, suc, ◌+◌, ◌<◌, ◌≤◌, Bool, true, false, ◌&&◌, ◌||◌, ◌==◌, nat_lt, ltb, leb, List, [], ◌∷◌}
+use Rattle.std.proofs.Common.{Option, None, Some, length, get_or, take, drop, map, IsTrue, inl, inr, refl, sym, ◌∙◌, subst, arith}
 use Rattle.std.specs.List.{AllWithin}
 use Rattle.std.specs.List.Sorted.{IsPartitionPoint}
 use Rattle.std.proofs.lemmas.Bool.{ltb-true, ltb-false, leb-true, leb-false}
@@ -18,7 +19,7 @@ use Rattle.ml_trace.specs.declared.letters.AutomatonState.{AutomatonState}
 use Rattle.ml_trace.specs.declared.letters.Triple.{Triple}
 use Rattle.ml_trace.specs.Stack as traced
 use Rattle.ml_refutation.specs.declared.refutation.Item.{Item}
-use Rattle.ml_refutation.specs.Refutation.{AreAbove, comes_before, guess_before}
+use Rattle.ml_refutation.specs.Refutation.{AreAbove, guess_before}
 use Rattle.ml_refutation.specs.Views.{item_of}
 use Rattle.ml_refute_check.specs.private.Sources.{SourceAmong, HasSource, IsNameTraced, IsItemTraced, LeadInto, RiseByNode}
 

@@ -2,12 +2,12 @@
 --
 --   rows_told   == rows of heights fall exactly where the heights fall along the arc
 --   within_told, names_told, falls_told == the tests tell exactly whether the rules are kept
-use Rattle.std.proofs.Common.{◌≡◌, ◌↔◌, ℕ, ◌+◌, ◌*◌, ◌/◌, ◌%◌, ◌<◌, ◌≤◌, Bool, true, false, List, [], ◌∷◌, All, get_or, map, IsTrue, inl, inr, refl, sym, ap, ◌∙◌, subst, arith}
+use Rattle.std.proofs.Common.{◌≡◌, ◌↔◌, ℕ, ◌*◌, ◌/◌, ◌≤◌, Bool, List, [], All, get_or, IsTrue, refl, sym, ◌∙◌, subst, arith}
 use Rattle.std.proofs.Math.ListN.{get_or-map}
 use Rattle.ml_lists.specs.Member.{IsMember}
-use Rattle.ml_graph.specs.Graph.{Graph, IsGraph, size, odd_priorities}
+use Rattle.ml_graph.specs.Graph.{Graph, IsGraph, odd_priorities}
 use Rattle.ml_parity.specs.declared.one_sided.graph.Arc.{Arc}
-use Rattle.ml_parity.specs.Heights.{FallsAlong, height_of}
+use Rattle.ml_parity.specs.Heights.{FallsAlong}
 use Rattle.ml_parity.specs.HeightLists.{RowsFall}
 use Rattle.ml_trace.specs.declared.letters.AutomatonState.{AutomatonState}
 use Rattle.ml_trace.specs.declared.letters.Triple.{Triple}
@@ -20,7 +20,7 @@ use Rattle.ml_sequent.specs.Step.{IsTarget, IsTrace, IsStep}
 use Rattle.ml_refutation.specs.Refutation.{Entry, Refutation}
 use Rattle.ml_refutation.specs.GoStep.{GoStep, HasTransition}
 use Rattle.ml_refutation.specs.Acceptance.{entry_at, no_entry, heights_of, LeadsWithinTargets, TracesNames, HeightsFall}
-use Rattle.ml_refute_check.specs.private.Parts.{Question, Stands, IsEntryOf}
+use Rattle.ml_refute_check.specs.private.Parts.{Question, Stands}
 use Rattle.ml_refute_check.proofs.BranchesFound.{of_spread_has, of_spread_is}
 
 rows_there : (rows : List (List ℕ)) (a : Arc)

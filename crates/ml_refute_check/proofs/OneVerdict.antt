@@ -4,10 +4,9 @@
 --   document_fault, one_fault == it has no bad line then, and else one first bad line
 --   alike_checked  == documents that show one refutation for one problem are both accepted, or neither is
 --   one_verdict    == so checking finds one thing at most
-use Rattle.std.proofs.Common.{◌≡◌, ◌↔◌, ℕ, ◌⊎◌, List, Some, length, slice_get, inl, inr, refl, sym, ap, ◌∙◌, subst}
+use Rattle.std.proofs.Common.{◌≡◌, ℕ, List, Some, length, slice_get, inl, inr, refl, sym, ap, ◌∙◌, subst}
 use Rattle.ml_base.specs.declared.doc_fault.DocFault.{DocFault}
 use Rattle.ml_base.specs.declared.version.Version.{Version}
-use Rattle.ml_graph.specs.Graph.{Graph}
 use Rattle.ml_front.specs.declared.answer.Answer.TheVariants.{Unsatisfiable}
 use Rattle.ml_front.specs.declared.problem.Problem.{Problem}
 use Rattle.ml_front.specs.declared.problem.TheConstants.{MOST_NODES}
@@ -21,13 +20,11 @@ use Rattle.ml_refutation_text.specs.RefutationText.{IsTextOf}
 use Rattle.ml_refutation_text.proofs.RefutationTexts as body
 use Rattle.ml_refutation.specs.Acceptance.{entry_at, IsFirstBad}
 use Rattle.ml_refutation_text.specs.PartLines.{AreLinesOf}
-use Rattle.ml_refutation_text.specs.declared.lines.EntryLines.{EntryLines}
 use Rattle.ml_refutation_text.proofs.BodyRead.{one_parts}
 use Rattle.ml_refute_check.specs.Documents.{IsDocument, IsDocumentFault, IsAcceptedDocument, IsWithoutGraph, IsRejectedBy, IsRejectedAt, line_of, first_body_line}
 use Rattle.ml_refute_check.specs.Laws.{AlikeChecked, OneVerdict}
-use Rattle.ml_refute_check.specs.declared.verdict.Verdict.{Verdict}
 use Rattle.ml_refute_check.specs.declared.verdict.Verdict.TheVariants.{Accepted, Unreadable, Rejected}
-use Rattle.ml_refute_check.proofs.AlikeGraphs.{Alike, accepted_same, first_bad_same}
+use Rattle.ml_refute_check.proofs.AlikeGraphs.{accepted_same, first_bad_same}
 use Rattle.ml_refute_check.proofs.GraphsOfProblems.{graphs_alike}
 use Rattle.ml_refute_check.proofs.OneFault as parts
 

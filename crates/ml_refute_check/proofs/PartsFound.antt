@@ -4,13 +4,11 @@
 --                       several; one with more behind it; parts none of which is bad
 --   first_of_part    == a part that breaks a rule is the first bad one of itself alone
 --   as_accepted, as_first_bad == what is found of the parts of an entry, as acceptance says it
-use Rattle.std.proofs.Common.{◌≡◌, ◌↔◌, ℕ, zero, suc, ◌+◌, ◌<◌, ◌≤◌, ◌⊎◌, Bool, true, false, List, [], ◌∷◌, ◌++◌, Option, None, Some, length, get_or, map, IsTrue, inl, inr, refl, sym, ap, ◌∙◌, subst, arith}
-use Rattle.std.proofs.lemmas.Bool.{true≢false}
-use Rattle.std.proofs.lemmas.List.{map-append}
+use Rattle.std.proofs.Common.{◌≡◌, ℕ, zero, suc, ◌+◌, ◌<◌, List, [], ◌∷◌, ◌++◌, None, Some, length, get_or, inl, inr, refl, sym, subst, arith}
 use Rattle.ml_lists.specs.Member.{IsMember}
 use Rattle.ml_lists.specs.Documents.{KeepsAll, IsFirstBroken}
 use Rattle.ml_refutation.specs.Refutation.{Entry}
-use Rattle.ml_refutation.specs.Acceptance.{entry_at, Part, Sequent, Live, Item, Decided, parts, branches, rules, IsAccepted, IsFirstBad}
+use Rattle.ml_refutation.specs.Acceptance.{entry_at, Part, Sequent, parts, rules, IsAccepted, IsFirstBad}
 use Rattle.ml_refute_check.specs.declared.finding.BadPart.{BadPart}
 use Rattle.ml_refute_check.specs.private.Parts.{Question, Keeps, KeepEach, FirstBadIn, Finds, front_parts, branch_parts}
 

@@ -6,7 +6,7 @@
 --   rejected_there    == a text is rejected at the line of the first bad part
 --   without_graph     == or at the line of the formula
 --   migrated          == what is written of what was read
-use Rattle.std.proofs.Common.{◌≡◌, ℕ, ◌+◌, ◌<◌, ◌⊎◌, List, [], ◌∷◌, Some, length, get_or, map, slice_get, inl, inr, refl, sym, ap, ◌∙◌, subst, arith}
+use Rattle.std.proofs.Common.{◌≡◌, ℕ, ◌+◌, List, [], ◌∷◌, Some, length, get_or, map, slice_get, inl, inr, refl, sym, ap, ◌∙◌, subst, arith}
 use Rattle.std.proofs.lemmas.List.{length-map}
 use Rattle.std.proofs.lemmas.Option.{slice_get-get_or}
 use Rattle.ml_base.specs.declared.version.Version.{Version}
@@ -19,10 +19,10 @@ use Rattle.ml_refutation.specs.Refutation.{Entry}
 use Rattle.ml_refutation.specs.Acceptance.{entry_at, IsAccepted, IsFirstBad}
 use Rattle.ml_refutation.specs.Views.{of_parts, entry_of}
 use Rattle.ml_refutation.specs.declared.refutation.Refutation as held
-use Rattle.ml_refutation_text.specs.PartLines.{parts_from, parts_of, entry_size}
+use Rattle.ml_refutation_text.specs.PartLines.{parts_from, entry_size}
 use Rattle.ml_refutation_text.specs.declared.lines.EntryLines.{EntryLines}
 use Rattle.ml_refutation_text.specs.declared.lines.Lines.{Lines}
-use Rattle.ml_refute_check.specs.Documents.{IsAcceptedDocument, IsDocument, IsMigrated, IsRejectedAt, IsRejectedBy, document_of, formula_line, line_of}
+use Rattle.ml_refute_check.specs.Documents.{IsAcceptedDocument, IsDocument, IsMigrated, IsRejectedAt, document_of, formula_line, line_of}
 use Rattle.ml_refute_check.specs.private.Shown.{IsShown}
 use Rattle.ml_front.proofs.Logics.{parsed_well}
 use Rattle.ml_refute_check.proofs.Accepted.{documents_read_back}

@@ -1,7 +1,7 @@
 -- Checking a document finds something.
 --
 --   some_verdict == a text is accepted, rejected or unreadable
-use Rattle.std.proofs.Common.{◌≡◌, ℕ, ◌+◌, ◌⊎◌, Bool, List, [], Some, length, get_or, slice_get, inl, inr, refl, sym, ap, ◌∙◌, subst, arith}
+use Rattle.std.proofs.Common.{◌≡◌, ℕ, ◌+◌, ◌⊎◌, List, length, get_or, inl, inr, refl, arith}
 use Rattle.std.proofs.lemmas.Option.{slice_get-get_or}
 use Rattle.ml_base.specs.declared.doc_fault.DocFault.{DocFault}
 use Rattle.ml_base.specs.declared.version.Version.{Version}
@@ -14,11 +14,10 @@ use Rattle.ml_front.specs.HeadRules.{IsHead, IsHeadFault}
 use Rattle.ml_front.proofs.Graphs.{graph_is}
 use Rattle.ml_front.proofs.OneFault as head
 use Rattle.ml_front.proofs.SomeGraph.{some_graph}
-use Rattle.ml_refutation.specs.Refutation.{Refutation, IsRefutation, Entry}
+use Rattle.ml_refutation.specs.Refutation.{Refutation}
 use Rattle.ml_refutation.specs.Acceptance.{entry_at, IsAccepted, IsFirstBad}
 use Rattle.ml_refutation_text.specs.BodyRules.{IsFaultOf, IsReadableBody}
-use Rattle.ml_refutation_text.specs.PartLines.{parts_from, lines_before, entry_size}
-use Rattle.ml_refutation_text.specs.RefutationText.{IsTextOf}
+use Rattle.ml_refutation_text.specs.PartLines.{parts_from, lines_before}
 use Rattle.ml_refutation_text.specs.declared.lines.EntryLines.{EntryLines}
 use Rattle.ml_refutation_text.proofs.RefutationTexts as body
 use Rattle.ml_refute_check.specs.Documents.{IsDocument, IsVerdict, line_of, first_body_line, formula_line}

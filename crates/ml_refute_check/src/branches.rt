@@ -1,5 +1,5 @@
 // What the branches of a decision are asked: of their spreads, of the step along a diamond, and of heights.
-ghost use Rattle.std.specs.Prelude.{◌≡◌, ◌↔◌, ◌<◌, ◌/◌, ◌*◌, ℕ, Bool, Some, length, All, IsTrue};
+ghost use Rattle.std.specs.Prelude.{◌≡◌, ◌↔◌, ◌<◌, ◌/◌, ◌*◌, Bool, Some, length, All, IsTrue};
 ghost use Rattle.ml_graph.specs.Graph.{size};
 ghost use Rattle.ml_lists.specs.Ascending.{IsAscending};
 ghost use Rattle.ml_lists.specs.Member.{IsMember};

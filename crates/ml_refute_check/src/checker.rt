@@ -1,5 +1,5 @@
 // A refutation that is checked in a graph, entry by entry.
-ghost use Rattle.std.specs.Prelude.{◌≡◌, ◌<◌, ◌+◌, ◌++◌, [], ◌∷◌, length, map, All, IfOk};
+ghost use Rattle.std.specs.Prelude.{◌≡◌, ◌<◌, ◌+◌, [], length, map, All, IfOk};
 ghost use Rattle.ml_graph.specs.Graph.{size};
 ghost use Rattle.ml_refutation.specs.Acceptance as acceptance;
 ghost use Rattle.ml_refutation.specs.Acceptance.{entry_at, parts};

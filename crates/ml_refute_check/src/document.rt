@@ -1,5 +1,5 @@
 // Documents that show a refutation: read, checked, and written anew.
-ghost use Rattle.std.specs.Prelude.{◌≡◌, ◌+◌, ◌<◌, ℕ, Ok, Some, IfOk, IsErrOf, length, slice_get};
+ghost use Rattle.std.specs.Prelude.{◌≡◌, ◌+◌, ◌<◌, Ok, Some, IfOk, IsErrOf, length, slice_get};
 ghost use Rattle.ml_base.specs.declared.doc_fault.DocFault.{DocFault};
 ghost use Rattle.ml_refutation.specs.Acceptance.{entry_at};
 ghost use Rattle.ml_refutation.specs.Views.{of_parts};

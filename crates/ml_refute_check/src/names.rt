@@ -1,5 +1,5 @@
 // The condition on names along a `go`, over the local traces of its step.
-ghost use Rattle.std.specs.Prelude.{◌≡◌, ◌↔◌, ◌⊎◌, ◌<◌, ◌≤◌, ℕ, Bool, false, true, List, length, All, IfOk, IsTrue};
+ghost use Rattle.std.specs.Prelude.{◌≡◌, ◌↔◌, ◌<◌, false, true, All, IfOk, IsTrue};
 ghost use Rattle.ml_lists.specs.Ascending.{IsAscending};
 ghost use Rattle.ml_refute_check.specs.private.Sources.{IsSource, SourceAmong, HasSource, Serves, IsNameTraced, IsItemTraced, AreInUse, LeadInto, RiseByNode, RiseByTarget, green_of, traces_of};
 ghost use Rattle.ml_refutation.specs.Views.{mark_of};
@@ -9,7 +9,7 @@ ghost use Rattle.ml_refutation.specs.GoStep.{GoStep, HasTransition};
 ghost use Rattle.ml_sequent.specs.Step.{IsTrace};
 ghost use Rattle.ml_trace.specs.declared.letters.Triple.{Triple};
 ghost use Rattle.ml_trace.specs.NamesCondition.{NamesCondition, bound};
-ghost use Rattle.ml_trace.specs.Stack.{has, ends_in, IsAdvanced};
+ghost use Rattle.ml_trace.specs.Stack.{has, ends_in};
 
 use crate::branches::leads;
 use crate::by_node::{items_at, sort_by_target, traces_to};

@@ -6,10 +6,17 @@ use std::test::Fail;
 
 // the refutation of `mu X. <>X`, in both versions
 const ENDLESS: &'static [u8] =
-    b"names 2\nentries 4\nentry 0\nsequent 0\nlive 1\nitem 0 - 0\nheights 0 0 2\ngo 2 1 neutral\nentry 1\nsequent 4\nlive 1\nitem 4 - 0\nitem 4 1 0\nheights 0 0 1\ngo 2 2 neutral\nentry 2\nsequent 4\nlive 2\nitem 4 - 0\nitem 4 1 0 1\nheights 0 0 0\ngo 2 3 green 1\nentry 3\nsequent 4\nlive 2\nitem 4 - 0\nitem 4 1 0 1\nheights 0 0 0\ngo 2 3 green 1\nend\n";
+    b"names 2\nentries 4\nentry 0\nsequent 0\nlive 1\nitem 0 - 0\nheights 0 0 2\ngo 2 1 neutral\n\
+      entry 1\nsequent 4\nlive 1\nitem 4 - 0\nitem 4 1 0\nheights 0 0 1\ngo 2 2 neutral\n\
+      entry 2\nsequent 4\nlive 2\nitem 4 - 0\nitem 4 1 0 1\nheights 0 0 0\ngo 2 3 green 1\n\
+      entry 3\nsequent 4\nlive 2\nitem 4 - 0\nitem 4 1 0 1\nheights 0 0 0\ngo 2 3 green 1\nend\n";
 
 const ENDLESS_BY_TABLES: &'static [u8] =
-    b"names 2\nsequents 2\nsequent 0\nsequent 4\nstacks 2\nstack 0\nstack 0 1\nentries 4\nentry 0 0\nlive 1\nitem 0 - 0\nheights 0 0 2\ngo 2 1 neutral\nentry 1 1\nlive 1\nitem 4 - 0\nitem 4 1 0\nheights 0 0 1\ngo 2 2 neutral\nentry 2 1\nlive 2\nitem 4 - 0\nitem 4 1 1\nheights 0 0 0\ngo 2 3 green 1\nentry 3 1\nlive 2\nitem 4 - 0\nitem 4 1 1\nheights 0 0 0\ngo 2 3 green 1\nend\n";
+    b"names 2\nsequents 2\nsequent 0\nsequent 4\nstacks 2\nstack 0\nstack 0 1\nentries 4\n\
+      entry 0 0\nlive 1\nitem 0 - 0\nheights 0 0 2\ngo 2 1 neutral\n\
+      entry 1 1\nlive 1\nitem 4 - 0\nitem 4 1 0\nheights 0 0 1\ngo 2 2 neutral\n\
+      entry 2 1\nlive 2\nitem 4 - 0\nitem 4 1 1\nheights 0 0 0\ngo 2 3 green 1\n\
+      entry 3 1\nlive 2\nitem 4 - 0\nitem 4 1 1\nheights 0 0 0\ngo 2 3 green 1\nend\n";
 
 // refutations that are false, but have a text
 const EMPTY_NAME: &'static [u8] =

@@ -8,7 +8,7 @@
 --   ReachedIn os lists first s == the node s is reached from the root, where the problem starts with `first`
 --   IsDraft os lists first max xs vs ps == xs are nodes by their numbers, and vs and ps the first nodes and priorities, so far
 --   IsStep                == one node more was made
-use Rattle.std.specs.Prelude.{ℕ, ◌≡◌, ◌≤◌, ◌<◌, ◌+◌, ◌⊎◌, Bool, if◌then◌else◌, List, [], ◌∷◌, ◌++◌, Some, length, map, get_or, slice_get}
+use Rattle.std.specs.Prelude.{ℕ, ◌≡◌, ◌≤◌, ◌<◌, ◌⊎◌, Bool, if◌then◌else◌, List, [], ◌∷◌, ◌++◌, Some, length, map, get_or, slice_get}
 use Rattle.std.specs.List.{flat_map}
 use Rattle.ml_lists.specs.Added.{IsAdded, HasOnePlace}
 use Rattle.ml_lists.specs.InTurn.{RunsOn}

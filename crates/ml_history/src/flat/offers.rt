@@ -1,5 +1,5 @@
 // The best offers of a letter, by keys.
-ghost use Rattle.std.specs.Prelude.{◌≡◌, ℕ, ◌<◌, [], ◌∷◌, length, map, IfOk, IfSome, IfNone, OnOk};
+ghost use Rattle.std.specs.Prelude.{◌≡◌, ◌<◌, [], ◌∷◌, length, map, IfOk, IfSome, IfNone, OnOk};
 ghost use Rattle.ml_lists.specs.Member.{IsMember};
 ghost use Rattle.ml_trace.specs.Automaton.{RiseByTarget};
 ghost use Rattle.ml_history.specs.History.{IsSmallHistory};

@@ -1,8 +1,7 @@
 // States with stacks, and the parts of the step on single stacks.
-ghost use Rattle.std.specs.Prelude.{◌≡◌, ◌+◌, ◌^◌, ◌<◌, ℕ, IfOk, map};
-ghost use Rattle.std.specs.List.{list_any};
+ghost use Rattle.std.specs.Prelude.{◌≡◌, ◌<◌, ℕ, IfOk};
 ghost use Rattle.ml_trace.specs.Stack.{has, ends_in};
-ghost use Rattle.ml_history.specs.HistoryStep.{above, live, last_name, offered, beats, stands, is_last};
+ghost use Rattle.ml_history.specs.HistoryStep.{beats, stands, is_last};
 
 use ml_base::NoMemory;
 use std::alloc::Global;

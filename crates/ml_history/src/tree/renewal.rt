@@ -7,7 +7,7 @@ ghost use Rattle.ml_lists.specs.Member.{IsMember};
 ghost use Rattle.ml_trace.specs.Stack.{has};
 ghost use Rattle.ml_history.specs.private.Forest.{names};
 ghost use Rattle.ml_history.specs.HistoryStep.{mark_of};
-ghost use Rattle.ml_history.specs.private.TreeStep.{renewed, flagged};
+ghost use Rattle.ml_history.specs.private.TreeStep.{renewed};
 ghost use Rattle.ml_history.specs.private.Vertices.{joined};
 
 use crate::names::{flags_of, mark, numbers};

@@ -234,7 +234,10 @@ tip_of_low n (a ∷ h) q some low =
         subst (λ k. k < n + 1) (sym (cond-false (a.state == q) (suc (tip a.stack)) (tip_of h q) other)) rest
 
 -- the last name of an item's state is that of its stack
-tip_is : (h : List (Item ℕ)) (a : Item ℕ) → IsAscending (map (λ (b : Item ℕ). b.state) h) → IsMember a h → tip_of h a.state ≡ suc (tip a.stack)
+tip_is : (h : List (Item ℕ)) (a : Item ℕ)
+    → IsAscending (map (λ (b : Item ℕ). b.state) h)
+    → IsMember a h
+    → tip_of h a.state ≡ suc (tip a.stack)
 tip_is [] a up m = absurd m
 tip_is (b ∷ h) a up (inl here) =
     let states : b.state ≡ a.state = ap (λ (x : Item ℕ). x.state) (sym here) in
@@ -260,7 +263,9 @@ tip_from (a ∷ h) q k e = by_test (cases_Bool (a.state == q)) (tip_from h q k)
     longer : Tipped h q k → Tipped (a ∷ h) q k
     longer t = record { item = t.item; member = inr t.member; state_is = t.state_is; tip_is_so = t.tip_is_so }
 
-    by_test : ((a.state == q) ≡ true) ⊎ ((a.state == q) ≡ false) → (tip_of h q ≡ suc k → Tipped h q k) → Tipped (a ∷ h) q k
+    by_test : ((a.state == q) ≡ true) ⊎ ((a.state == q) ≡ false)
+        → (tip_of h q ≡ suc k → Tipped h q k)
+        → Tipped (a ∷ h) q k
     by_test (inl here) rest =
         let same : suc (tip a.stack) ≡ suc k = sym (cond-true (a.state == q) (suc (tip a.stack)) (tip_of h q) here) ∙ e in
         record { item = a; member = inl refl; state_is = eqb-true a.state q here; tip_is_so = omega arith }
@@ -269,7 +274,11 @@ tip_from (a ∷ h) q k e = by_test (cases_Bool (a.state == q)) (tip_from h q k)
 -- ---- histories
 
 -- in a history the stacks backwards are chains
-history_chain : (h : List (Item ℕ)) → IsHistory h → (a : Item ℕ) → IsMember a h → IsChain (parent_of h) (turned [] a.stack)
+history_chain : (h : List (Item ℕ))
+    → IsHistory h
+    → (a : Item ℕ)
+    → IsMember a h
+    → IsChain (parent_of h) (turned [] a.stack)
 history_chain h is a m =
     stack_chain (parent_of h) a.stack (is.stacks_ascend a m)
     (λ z i. parent_is h a z (λ b b_in named. is.agree b a z b_in m named (member-has z a.stack i)) m (member-has z a.stack i))

@@ -51,7 +51,8 @@ module _ (g : Graph) (ok : IsGraph g) where
       → m < size g
   child_low sp d e m d_low low out = by_kind out.leaves
     where
-      by_kind : ((e ≡ d) × (m ≡ out.child)) ⊎ (IsMember e sp.nodes × (node_at g e ≡ node.Square out.action m)) → m < size g
+      by_kind : ((e ≡ d) × (m ≡ out.child)) ⊎ (IsMember e sp.nodes × (node_at g e ≡ node.Square out.action m))
+          → m < size g
       by_kind (inl is) =
           subst (λ k. k < size g) (sym is.1) (diamond_target g ok d d_low out.action out.child out.is_diamond)
       by_kind (inr is) = square_target g ok e (low e is.0) out.action m is.1

@@ -94,7 +94,9 @@ side_from : (c : List (ℕ × Side)) (n : ℕ) (s : Side) → side_of c n ≡ So
 side_from [] n s e = cc
 side_from (q ∷ c) n s e = by_test (cases_Bool (q.0 == n)) (side_from c n s)
   where
-    by_test : ((q.0 == n) ≡ true) ⊎ ((q.0 == n) ≡ false) → (side_of c n ≡ Some s → IsMember (n, s) c) → IsMember (n, s) (q ∷ c)
+    by_test : ((q.0 == n) ≡ true) ⊎ ((q.0 == n) ≡ false)
+        → (side_of c n ≡ Some s → IsMember (n, s) c)
+        → IsMember (n, s) (q ∷ c)
     by_test (inl same) rest =
         let nodes : q.0 ≡ n = eqb-true q.0 n same in
         let some : Some q.1 ≡ Some s = sym (cond-true (q.0 == n) (Some q.1) (side_of c n) same) ∙ e in

@@ -8,7 +8,7 @@
 --   KeepsPool a           == so does the pool a
 --   IsInterned ps p b v   == the pool b has the positions ps, and p, at the place v
 --   IsEmptyPool a         == the pool a has no positions
-use Rattle.std.specs.Prelude.{ℕ, ◌≡◌, ◌≤◌, ◌⊎◌, List, [], ◌∷◌, ◌++◌, length, slice_get, Some}
+use Rattle.std.specs.Prelude.{ℕ, ◌≡◌, ◌≤◌, List, [], length}
 use Rattle.ml_lists.specs.Added.{IsAdded, HasOnePlace}
 use Rattle.ml_sequent.specs.declared.choice.Side.{Side}
 use Rattle.ml_trace.specs.Stack.{Item}

@@ -22,7 +22,8 @@ pub record IsSequentRead (at : Rest) (q : List ℕ) (rest : Rest) : Type 0 where
   pub ascends : IsAscending q
 
 pub record TellsSequent (at : Rest) (e : DocRefusal) : Type 0 where
-  pub in_table : (v : Version) (names size : ℕ) (rows : List (List ℕ)) → TellsFault v (AtTableSequent names size rows) at e
+  pub in_table : (v : Version) (names size : ℕ) (rows : List (List ℕ))
+      → TellsFault v (AtTableSequent names size rows) at e
   pub in_entry : (v : Version) (k : Known) (es : List Entry) → TellsFault v (AtSequent k es) at e
 
 pub record IsPlacedAt (sequents : List (List ℕ)) (i : ℕ) (line : Line) (q : List ℕ) : Type 0 where

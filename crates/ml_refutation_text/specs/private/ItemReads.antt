@@ -81,7 +81,8 @@ TellsItem F names live before line e =
 -- no stack of this number, or one whose names aren't as they must be
 abbrev pub LacksStack : List (List ℕ) → ℕ → ℕ → LineRefusal → Type 0
 LacksStack stacks place live (refusal.Breaks rule) =
-    ((rule ≡ InTables) × (length stacks ≤ place)) ⊎ ((rule ≡ ItemsAscend) × (place < 2 ^ 64 - 1) × (¬ (AreNames live (slice_index_or stacks place []))))
+    ((rule ≡ InTables) × (length stacks ≤ place))
+    ⊎ ((rule ≡ ItemsAscend) × (place < 2 ^ 64 - 1) × (¬ (AreNames live (slice_index_or stacks place []))))
 LacksStack stacks place live refusal.NoMemory = ⊤
 
 pub record IsHeights (names : ℕ) (line : Line) (heights : List ℕ) : Type 0 where

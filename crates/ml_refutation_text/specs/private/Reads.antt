@@ -15,7 +15,7 @@
 --   TellsFault v p at e    == the refusal e tells the first bad line of what is left, which stands at p, if it isn't
 --   at_line k e            == the refusal e of a line, with the line's number k
 --   IsNumbered, IsPlaced   == the line is a fixed word with one word behind it, with two
-use Rattle.std.specs.Prelude.{ℕ, ◌+◌, ◌≤◌, ◌<◌, ◌≡◌, ◌^◌, ⊤, List, [], ◌∷◌, Option, None, Some, length, map, codes}
+use Rattle.std.specs.Prelude.{ℕ, ◌+◌, ◌≤◌, ◌<◌, ◌≡◌, ◌^◌, ⊤, List, [], ◌∷◌, length, map}
 use Rattle.std.specs.Global.{Vec}
 use Rattle.ml_base.specs.declared.doc_refusal.DocRefusal.{DocRefusal}
 use Rattle.ml_base.specs.declared.doc_refusal.DocRefusal.TheVariants as refused

@@ -13,7 +13,7 @@
 --   AreNumbered g a s vs  == the vertices vs, of which 0 is the first, are different positions without a choice, won by Odd
 --   IsDecided g a s vs ws v d == d is the decision from the vertex v on, where vs were numbered before, and ws then
 --   AreLooked g a s vs ds == ds are the decisions at the first vertices of vs, and lead to the others
-use Rattle.std.specs.Prelude.{ℕ, ◌≡◌, ◌+◌, ◌<◌, ◌≤◌, ◌⊎◌, List, [], ◌∷◌, ◌++◌, length, map, get_or, slice_get, Some}
+use Rattle.std.specs.Prelude.{ℕ, ◌≡◌, ◌<◌, ◌≤◌, List, [], ◌∷◌, ◌++◌, length, map, get_or, slice_get, Some}
 use Rattle.std.specs.List.{flat_map}
 use Rattle.ml_lists.specs.InTurn.{RunsOn}
 use Rattle.ml_lists.specs.Member.{IsMember}

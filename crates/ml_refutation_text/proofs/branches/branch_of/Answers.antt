@@ -2,7 +2,6 @@ use Rattle.std.proofs.Common.{ℕ}
 use Rattle.std.proofs.lemmas.Result.{IfErr-weaker}
 use Rattle.ml_lines.specs.Reading.{words_of}
 use Rattle.ml_refutation_text.specs.private.BranchReads.{BreaksBranch}
-use Rattle.ml_refutation_text.specs.declared.body_rule.BodyRule.{BodyRule}
 use Rattle.ml_refutation_text.proofs.branches.branch_of.Goals as goal
 
 pub returns-then-eq-clause-refused : goal.returns-then-eq-clause-refused

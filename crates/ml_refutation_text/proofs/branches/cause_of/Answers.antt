@@ -1,8 +1,8 @@
-use Rattle.std.proofs.Common.{codes, ap, sym}
+use Rattle.std.proofs.Common.{codes, ap}
 use Rattle.std.specs.Option.{option_copied}
 use Rattle.ml_lines.specs.Reading.{words_of}
-use Rattle.ml_refutation_text.proofs.ReadWords.{same_word, other_word, words_are, first_word, some_word}
-use Rattle.ml_refutation_text.proofs.BranchLines.{lacks_false, lacks_pair, lacks_cycle, no_cause}
+use Rattle.ml_refutation_text.proofs.ReadWords.{same_word, first_word}
+use Rattle.ml_refutation_text.proofs.BranchLines.{lacks_false, lacks_pair, lacks_cycle}
 use Rattle.ml_refutation_text.proofs.branches.cause_of.Goals as goal
 
 pub returns-in-Err-clause-refused : goal.returns-in-Err-clause-refused

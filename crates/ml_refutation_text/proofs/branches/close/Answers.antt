@@ -23,4 +23,5 @@ returns-in-InLeft c =
 pub returns : goal.returns
 returns c =
     closes_whole c.loop-split.around.items c.args.around.now.items (decision_of c.loop-split.decision) (decision_of c.args.leaf)
-    c.loop-split.invariant c.pop.new.self.items c.loop-split.decision (omega (arith, c.in_default.ensures.cases.0)) (omega (arith, c.in_default.ensures.cases.1)) refl
+    c.loop-split.invariant c.pop.new.self.items c.loop-split.decision (omega (arith, c.in_default.ensures.cases.0))
+    (omega (arith, c.in_default.ensures.cases.1)) refl

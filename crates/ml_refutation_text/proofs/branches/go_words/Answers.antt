@@ -1,4 +1,4 @@
-use Rattle.std.proofs.Common.{◌≡◌, ◌∷◌, ◌∙◌, ap}
+use Rattle.std.proofs.Common.{◌∷◌, ◌∙◌, ap}
 use Rattle.ml_lines.specs.Reading.{words_of}
 use Rattle.ml_refutation_text.proofs.BranchLines.{lacks_mark}
 use Rattle.ml_refutation_text.proofs.branches.go_words.Goals as goal

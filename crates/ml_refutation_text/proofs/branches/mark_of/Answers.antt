@@ -1,4 +1,4 @@
-use Rattle.std.proofs.Common.{codes, ap, sym}
+use Rattle.std.proofs.Common.{codes, ap}
 use Rattle.std.specs.Option.{option_copied}
 use Rattle.ml_lines.specs.Reading.{words_of}
 use Rattle.ml_refutation_text.proofs.ReadWords.{same_word, other_word, words_are, first_word, some_word}

@@ -1,4 +1,4 @@
-use Rattle.std.proofs.Common.{◌≡◌, ◌+◌, ◌<◌, ◌≤◌, [], ◌∷◌, length, length-append, subst, sym, ap, arith}
+use Rattle.std.proofs.Common.{◌≡◌, ◌<◌, [], ◌∷◌, length, length-append, subst, sym, ap, arith}
 use Rattle.ml_lines.specs.Reading.{words_of}
 use Rattle.ml_refutation.specs.Views.{decision_of}
 use Rattle.ml_refutation_text.specs.private.BranchReads.{IsBranch, BreaksBranch, IsClosed}
@@ -67,7 +67,11 @@ pub loop-next-preserved : goal.loop-next-preserved
 loop-next-preserved c =
     let splits = c.loop-next.around.items in
     let leaf = subst (IsBranch c.args.names c.args.wanted c.len.result (words_of c.in-Ok.next.0.now)) c.in-Leaf.is c.in-Ok-branch_of.ensures.read in
-    let closed = subst (IsClosed splits (decision_of c.in-Leaf.leaf) c.close.new.around.items) c.in_default.is c.in_ok-decision-in-Leaf.ensures in record {
+    let closed =
+    subst (IsClosed splits (decision_of c.in-Leaf.leaf) c.close.new.around.items) c.in_default.is
+    c.in_ok-decision-in-Leaf.ensures
+    in
+    record {
       decides =
           decides_leaf c.args.names c.args.wanted c.args.at splits c.loop-next.rest c.loop-next.invariant.decides
           (words_of c.in-Ok.next.0.now) c.in-Ok.next.1 c.in-Ok.ensures.read (decision_of c.in-Leaf.leaf) leaf c.ranges.names.fits

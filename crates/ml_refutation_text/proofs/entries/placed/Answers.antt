@@ -1,4 +1,4 @@
-use Rattle.std.proofs.Common.{◌≡◌, ◌≤◌, ◌∷◌, [], codes, length, ap, sym, ◌∙◌, arith}
+use Rattle.std.proofs.Common.{◌≤◌, ◌∷◌, [], codes, length, ap, sym, ◌∙◌, arith}
 use Rattle.ml_lines.specs.Reading.{words_of}
 use Rattle.ml_refutation_text.specs.private.Reads.{rows_in}
 use Rattle.ml_refutation_text.proofs.EntriesRead.{placed_wrong, placed_outside}

@@ -2,10 +2,7 @@ use Rattle.std.proofs.Common.{◌++◌, ◌∷◌, [], map, arith}
 use Rattle.ml_base.specs.declared.version.Version.TheVariants.{One}
 use Rattle.ml_refutation.specs.Views.{item_of, decision_of}
 use Rattle.ml_refutation_text.specs.BodyRules.{Begun, AtEntry, AtLive, AtItem, AtDecision, at_entry, whole}
-use Rattle.ml_refutation_text.specs.private.Reads.{form_of, known_of}
-use Rattle.ml_refutation.specs.Refutation.{Entry}
-use Rattle.ml_refutation_text.specs.private.Reads.{Goes}
-use Rattle.ml_base.specs.declared.version.Version.{Version}
+use Rattle.ml_refutation_text.specs.private.Reads.{known_of}
 use Rattle.ml_refutation_text.proofs.Going.{goes_on, fault_on, room_on}
 use Rattle.ml_refutation_text.proofs.EntriesRead.{some_entries, length-some_entries}
 use Rattle.ml_refutation_text.proofs.entries.read_entry.Goals as goal
@@ -34,7 +31,8 @@ read_traces-requires-clause-room c =
     let P1 = AtLive k es q in
     let P2 = AtItem k es q (record { live = live; items = [] }) in
     room_on One P1 P2 c.in-Ok.read.2 c.in-Ok-read_live.read.1 (c.in-Ok-read_live.ensures.read One k.form k.wanted es q)
-    (room_on One (AtEntry k es) P1 c.args.at c.in-Ok.read.2 (c.in-Ok.ensures.read One k.names k.wanted es (length-some_entries c.args.number)) c.requires)
+    (room_on One (AtEntry k es) P1 c.args.at c.in-Ok.read.2
+    (c.in-Ok.ensures.read One k.names k.wanted es (length-some_entries c.args.number)) c.requires)
 
 pub returns-in-Err-read_traces-clause-refused : goal.returns-in-Err-read_traces-clause-refused
 returns-in-Err-read_traces-clause-refused c = λ v es here.
@@ -64,7 +62,8 @@ read_decision-requires c =
     room_on One P2 (AtDecision k es b []) c.in-Ok-read_live.read.1 c.in-Ok-read_traces.read.2
     (c.in-Ok-read_traces.ensures.read One k.wanted es q)
     (room_on One P1 P2 c.in-Ok.read.2 c.in-Ok-read_live.read.1 (c.in-Ok-read_live.ensures.read One k.form k.wanted es q)
-    (room_on One (AtEntry k es) P1 c.args.at c.in-Ok.read.2 (c.in-Ok.ensures.read One k.names k.wanted es (length-some_entries c.args.number)) c.requires))
+    (room_on One (AtEntry k es) P1 c.args.at c.in-Ok.read.2
+    (c.in-Ok.ensures.read One k.names k.wanted es (length-some_entries c.args.number)) c.requires))
 
 pub returns-in-Err-read_decision-clause-refused : goal.returns-in-Err-read_decision-clause-refused
 returns-in-Err-read_decision-clause-refused c = λ v es here.

@@ -1,4 +1,4 @@
-use Rattle.std.proofs.Common.{refl, sym, subst, ◌∙◌, codes}
+use Rattle.std.proofs.Common.{refl, sym, subst, ◌∙◌}
 use Rattle.ml_refutation_text.specs.RefutationText.{InFull, numbered_line}
 use Rattle.ml_refutation_text.specs.BodyRules.{AtEntry}
 use Rattle.ml_refutation_text.specs.private.Reads.{TellsFault}

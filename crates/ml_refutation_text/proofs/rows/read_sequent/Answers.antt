@@ -18,7 +18,8 @@ returns-in-Err-sequent_of-clause-refused c =
       in_table = λ v names size rows.
           let p = AtTableSequent names size rows in
           subst (TellsFault v p c.args.at) (sym c.at_line.ensures)
-          (refused_line v p c.args.at rest words c.in-Err-sequent_of.refusal c.in-Ok.ensures.read (c.in-Err-sequent_of.ensures.table names size rows));
+          (refused_line v p c.args.at rest words c.in-Err-sequent_of.refusal c.in-Ok.ensures.read
+          (c.in-Err-sequent_of.ensures.table names size rows));
       in_entry = λ v k es.
           let p = AtSequent k es in
           subst (TellsFault v p c.args.at) (sym c.at_line.ensures)

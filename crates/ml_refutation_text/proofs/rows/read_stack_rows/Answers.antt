@@ -1,4 +1,4 @@
-use Rattle.std.proofs.Common.{ℕ, ◌≡◌, ◌-◌, ◌^◌, ◌<◌, ◌≤◌, min, length, sym, subst, arith}
+use Rattle.std.proofs.Common.{◌≡◌, ◌-◌, ◌^◌, ◌<◌, ◌≤◌, min, length, sym, subst, arith}
 use Rattle.ml_lines.specs.Reading.{words_of}
 use Rattle.ml_refutation_text.proofs.TablesRead.{StacksTo, stack_rows_begin, stack_rows_room, stack_missing, stack_refused, stack_more, stacks_done}
 use Rattle.ml_refutation_text.proofs.rows.read_stack_rows.Goals as goal

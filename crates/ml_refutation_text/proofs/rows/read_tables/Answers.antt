@@ -1,4 +1,4 @@
-use Rattle.std.proofs.Common.{List, ℕ, arith}
+use Rattle.std.proofs.Common.{arith}
 use Rattle.ml_base.specs.declared.version.Version.TheVariants.{One}
 use Rattle.ml_refutation_text.specs.RefutationText.{ByTables}
 use Rattle.ml_refutation_text.specs.BodyRules.{AtSequents, AtStacks, AtEntries}

@@ -1,4 +1,4 @@
-use Rattle.std.proofs.Common.{◌∷◌, codes, ap, subst, ◌∙◌, sym}
+use Rattle.std.proofs.Common.{◌∷◌, codes, ap, subst, ◌∙◌}
 use Rattle.std.specs.Option.{option_copied}
 use Rattle.ml_lines.specs.Reading.{words_of, words_behind}
 use Rattle.ml_lists.specs.Ascending.{IsAscending}

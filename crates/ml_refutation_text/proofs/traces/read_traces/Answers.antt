@@ -1,6 +1,5 @@
-use Rattle.std.proofs.Common.{◌≡◌, ◌∙◌, None, length, ap, sym, subst, slice_get, arith, ◌-◌}
+use Rattle.std.proofs.Common.{◌∙◌, length, ap, sym, subst, slice_get, arith, ◌-◌}
 use Rattle.std.specs.Option.{option_copied}
-use Rattle.ml_lists.specs.Chains.{last_of}
 use Rattle.ml_lists.proofs.Chains.{last_is}
 use Rattle.ml_lines.specs.Reading.{words_of}
 use Rattle.ml_refutation_text.specs.private.Reads.{form_of}

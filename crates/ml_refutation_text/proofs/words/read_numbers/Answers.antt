@@ -1,4 +1,4 @@
-use Rattle.std.proofs.Common.{None, ap, sym, subst}
+use Rattle.std.proofs.Common.{ap, sym, subst}
 use Rattle.std.specs.Option.{option_copied}
 use Rattle.ml_lines.specs.Reading.{words_behind}
 use Rattle.ml_refutation_text.proofs.NumberWords.{AreNumbersTo, number_read, not_number, numbers_done}

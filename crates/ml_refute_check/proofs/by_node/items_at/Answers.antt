@@ -1,4 +1,4 @@
-use Rattle.std.proofs.Common.{rules, ◌≡◌, ◌-◌, ◌≤◌, true, false, length, take, drop, ltb, leb, arith, sym, subst}
+use Rattle.std.proofs.Common.{rules, ◌≡◌, ◌-◌, length, take, drop, ltb, leb, arith, sym, subst}
 use Rattle.std.proofs.lemmas.List.{take_all, length-drop}
 use Rattle.std.proofs.lemmas.List.Sorted.{IsPartitionPoint-from_clause, IsPartitionedBy-ltb, IsPartitionedBy-leb, IsNonDecreasingBy-drop}
 use Rattle.ml_refutation.specs.declared.refutation.Item.{Item}

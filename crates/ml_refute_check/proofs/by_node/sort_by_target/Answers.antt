@@ -1,5 +1,5 @@
 use Rattle.std.proofs.Common.{rules}
-use Rattle.std.proofs.lemmas.List.Sorted.{IsNonDecreasingBy-from_sort_by_key, IsPermutation-sym}
+use Rattle.std.proofs.lemmas.List.Sorted.{IsNonDecreasingBy-from_sort_by_key}
 use Rattle.ml_lists.proofs.Permuted.{same_members}
 use Rattle.ml_trace.specs.declared.letters.Triple.{Triple}
 use Rattle.ml_refute_check.proofs.by_node.sort_by_target.Goals as goal

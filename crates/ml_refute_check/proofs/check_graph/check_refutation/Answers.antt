@@ -1,4 +1,4 @@
-use Rattle.std.proofs.Common.{◌≡◌, ◌∙◌, ℕ, ◌+◌, ◌<◌, ◌≤◌, Some, None, Option, IfOk, length, map, ap, subst, sym, arith, below_more}
+use Rattle.std.proofs.Common.{◌∙◌, subst, arith, below_more}
 use Rattle.std.proofs.lemmas.List.{length-map}
 use Rattle.ml_refutation.specs.Acceptance.{entry_at, parts}
 use Rattle.ml_refutation.specs.Views.{entry_of}

@@ -1,4 +1,4 @@
-use Rattle.std.proofs.Common.{◌≡◌, IfOk, subst}
+use Rattle.std.proofs.Common.{IfOk, subst}
 use Rattle.ml_refute_check.specs.Documents.{IsVerdict}
 use Rattle.ml_refute_check.proofs.Accepted.{accepted_is_true}
 use Rattle.ml_refute_check.proofs.document.check.Goals as goal

@@ -1,4 +1,4 @@
-use Rattle.std.proofs.Common.{◌≡◌, subst}
+use Rattle.std.proofs.Common.{subst}
 use Rattle.ml_refutation.specs.Views.{of_parts}
 use Rattle.ml_refute_check.specs.Findings.{IsFinding}
 use Rattle.ml_refute_check.proofs.Rejected.{as_many_lines, rejected_there}

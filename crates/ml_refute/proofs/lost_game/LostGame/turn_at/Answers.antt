@@ -18,6 +18,9 @@ turn_in-requires c =
       won = c.requires.won;
       graph = told.graph ∙ c.requires.graph;
       spread = spread_shown _ _ _ c.requires.odd c.args.v c.requires.won _ _ c.position-position.ensures
-          (subst (λ (g : Graph). IsSpreadOf g c.position-position.result.sequent.now c.position-position.result.choice.now c.in_ok-spread.spread) graph_is told.of)
+          (subst
+          (λ (g : Graph). IsSpreadOf g c.position-position.result.sequent.now c.position-position.result.choice.now
+          c.in_ok-spread.spread)
+          graph_is told.of)
           (subst (λ (g : Graph). IsSpread g c.in_ok-spread.spread) graph_is told.is_spread);
     }

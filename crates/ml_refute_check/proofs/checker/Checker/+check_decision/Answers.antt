@@ -1,4 +1,4 @@
-use Rattle.std.proofs.Common.{rules, ◌≡◌, ◌∙◌, List, length, Some, None, ap, subst, sym}
+use Rattle.std.proofs.Common.{rules, ◌∙◌, length, Some, None, ap, subst, sym}
 use Rattle.ml_sequent.specs.declared.choice.Side.TheVariants.{Left, Right}
 use Rattle.ml_refutation.specs.Refutation.{IsDecided}
 use Rattle.ml_refutation.specs.Views.{decision_of}

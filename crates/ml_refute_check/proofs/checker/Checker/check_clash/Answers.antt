@@ -1,4 +1,4 @@
-use Rattle.std.proofs.Common.{◌≡◌, ◌↔◌, IsTrue, subst}
+use Rattle.std.proofs.Common.{◌↔◌, IsTrue, subst}
 use Rattle.ml_refutation.specs.Views.{cause_of}
 use Rattle.ml_sequent.specs.Spread.{IsCause}
 use Rattle.ml_refute_check.specs.private.Parts.{question}

@@ -1,4 +1,4 @@
-use Rattle.std.proofs.Common.{◌≡◌, ◌∙◌, [], Some, None, ap, subst, sym, arith}
+use Rattle.std.proofs.Common.{[], subst, arith}
 use Rattle.std.proofs.lemmas.List.{length-map}
 use Rattle.ml_refutation.specs.Views.{decision_of, entry_of, item_of}
 use Rattle.ml_refute_check.specs.private.Parts.{question, Finds, front_parts, branch_parts}

@@ -1,4 +1,4 @@
-use Rattle.std.proofs.Common.{◌≡◌, ◌↔◌, ◌∙◌, List, IsTrue, map, ap, subst, sym}
+use Rattle.std.proofs.Common.{◌↔◌, List, IsTrue, map, subst}
 use Rattle.ml_trace.specs.LabelledLoop.{EachNameStands}
 use Rattle.ml_refutation.specs.Acceptance.{entry_at, IsWellStarted}
 use Rattle.ml_refutation.specs.Views.{entry_of, item_of}

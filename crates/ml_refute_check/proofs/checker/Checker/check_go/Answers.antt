@@ -1,5 +1,4 @@
-use Rattle.std.proofs.Common.{◌≡◌, ◌↔◌, ◌∙◌, List, IsTrue, ap, subst, sym}
-use Rattle.ml_trace.specs.declared.letters.Triple.{Triple}
+use Rattle.std.proofs.Common.{◌∙◌, ap, subst, sym}
 use Rattle.ml_sequent.specs.Step.{IsStep, IsDiamondOf}
 use Rattle.ml_refutation.specs.Acceptance.{LeadsWithinTargets, TracesNames, HeightsFall, entry_at}
 use Rattle.ml_refutation.specs.Refutation.{Entry}

@@ -1,6 +1,5 @@
 use Rattle.std.proofs.Common.{◌≡◌, ◌<◌, ◌≤◌, ◌∙◌, List, length, get_or, ap, subst, sym}
 use Rattle.ml_lists.specs.Ascending.{IsAscending}
-use Rattle.ml_lists.proofs.Ascending.{ascending-is}
 use Rattle.ml_refutation.specs.Refutation.{Entry}
 use Rattle.ml_refutation.specs.declared.refutation.Item.{Item}
 use Rattle.ml_refutation.specs.Views.{item_of}

@@ -1,4 +1,4 @@
-use Rattle.std.proofs.Common.{◌≡◌, ◌<◌, ◌∙◌, List, [], All, IfOk, ap, subst, sym}
+use Rattle.std.proofs.Common.{◌<◌, ◌∙◌, All, IfOk, subst, sym}
 use Rattle.ml_graph.specs.Graph.{size}
 use Rattle.ml_refutation.specs.Views.{decision_of, entry_of}
 use Rattle.ml_refute_check.specs.private.Parts.{question, Finds, branch_parts}
