@@ -1,6 +1,6 @@
 // The names of a graph: its propositions and its actions, each once, in the order in which they come.
 ghost use Rattle.std.specs.Prelude.{◌≡◌, ◌<◌, ◌^◌, length, OnOk, IfOk};
-ghost use Rattle.ml_text.specs.private.NameLists.{with_name, place_of};
+ghost use Rattle.ml_text.specs.NameLists.{with_name, place_of};
 
 use indexmap::IndexSet;
 use ml_base::{Action, Name, NoMemory};

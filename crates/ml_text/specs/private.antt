@@ -10,5 +10,3 @@ pub mod Tables
 pub mod Views
 -- what a program has read of a text
 pub mod Progress
--- lists of names
-pub mod NameLists
