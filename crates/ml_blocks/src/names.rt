@@ -1,7 +1,7 @@
 // The propositions of a formula, each once, in the order of the text.
 ghost use Rattle.std.specs.Prelude.{◌≡◌, ◌<◌, ◌^◌, [], length, OnOk, IfOk};
 ghost use Rattle.ml_ctl.specs.Term.{formula_of};
-ghost use Rattle.ml_text.specs.private.NameLists.{place_of};
+ghost use Rattle.ml_text.specs.NameLists.{place_of};
 ghost use Rattle.ml_blocks.specs.private.Names as listed;
 
 use indexmap::IndexSet;

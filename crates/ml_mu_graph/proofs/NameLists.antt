@@ -4,7 +4,7 @@
 --   names_in               == each name of a formula is at its place
 use Rattle.std.proofs.Common.{◌≡◌, ℕ, ◌+◌, ◌≤◌, true, List, length, arith, bytes_eq}
 use Rattle.std.specs.List.{IsDistinct}
-use Rattle.ml_text.specs.private.NameLists.{with_name}
+use Rattle.ml_text.specs.NameLists.{with_name}
 use Rattle.ml_text.proofs.NameLists.{is_among, kept_among, added_among, Covers, distinct_with, place_found, with_length}
 use Rattle.ml_mu.specs.Formula.{Formula, Const, Prop, Var, Not, Binary, Modal, Binder, occurrences}
 use Rattle.ml_mu_graph.specs.private.NodeList.{props_onto, actions_onto}

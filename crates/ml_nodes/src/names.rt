@@ -1,16 +1,42 @@
 // The names of a graph: its propositions and its actions, each once, in the order in which they come.
-ghost use Rattle.std.specs.Prelude.{◌≡◌, ◌<◌, ◌^◌, length, OnOk, IfOk};
-ghost use Rattle.ml_text.specs.private.NameLists.{with_name, place_of};
+ghost use Rattle.std.specs.Prelude.{◌≡◌, ◌<◌, ◌^◌, ◌++◌, ◌∷◌, [], if◌then◌else◌, length, position, unwrap_or, OnOk, IfOk};
+ghost use Rattle.std.specs.List.{list_any};
+ghost use Rattle.ml_text.specs.NameLists.{with_name, place_of};
 
 use indexmap::IndexSet;
 use ml_base::{Action, Name, NoMemory};
 use std::alloc::{AllocError, Global};
+use std::hash::Hash;
 
 /// The names of a graph.
 #[derive(Drop)]
 pub struct Names {
     pub props: IndexSet<Name>,
     pub actions: IndexSet<Action>,
+}
+
+// adds a key, unless it is there
+fn add<T: Clone + Eq + Hash + Drop>(keys: &mut IndexSet<T>, key: &T) -> Result<(), NoMemory>
+    requires { (a b : T) → T.is_clone a b → b ≡ a }
+    ensures { OnOk result (keys.new.keys
+        ≡ (if list_any (T.eq key.now) keys.old.keys then keys.old.keys else keys.old.keys ++ key.now ∷ [])) }
+{
+    if keys.contains(key) {
+        return Ok(());
+    }
+    keys.insert(key.clone()?)?;
+    Ok(())
+}
+
+// the place of a key
+fn place<T: Eq + Hash>(keys: &IndexSet<T>, key: &T) -> u32
+    requires { length keys.now.keys < 2 ^ 32 }
+    ensures { result ≡ unwrap_or (position (T.eq key.now) keys.now.keys) 0 }
+{
+    match keys.get_index_of(key) {
+        Some(place) => place as u32,
+        None => 0,
+    }
 }
 
 /// Adds a proposition, unless it is there.
@@ -22,11 +48,7 @@ pub struct Names {
 pub fn add_proposition(props: &mut IndexSet<Name>, name: &Name) -> Result<(), NoMemory>
     ensures { OnOk result (props.new.keys ≡ with_name props.old.keys name.now) }
 {
-    if props.contains(name) {
-        return Ok(());
-    }
-    props.insert(name.copy()?)?;
-    Ok(())
+    add(props, name)
 }
 
 /// Adds an action, unless it is there.
@@ -38,11 +60,7 @@ pub fn add_proposition(props: &mut IndexSet<Name>, name: &Name) -> Result<(), No
 pub fn add_action(actions: &mut IndexSet<Action>, name: &Action) -> Result<(), NoMemory>
     ensures { OnOk result (actions.new.keys ≡ with_name actions.old.keys name.now) }
 {
-    if actions.contains(name) {
-        return Ok(());
-    }
-    actions.insert(name.copy()?)?;
-    Ok(())
+    add(actions, name)
 }
 
 impl Names {
@@ -53,10 +71,7 @@ impl Names {
         requires { length self.now.props.keys < 2 ^ 32 }
         ensures { result ≡ place_of self.now.props.keys name.now }
     {
-        match self.props.get_index_of(name) {
-            Some(place) => place as u32,
-            None => 0,
-        }
+        place(&self.props, name)
     }
 
     /// The place of an action.
@@ -66,10 +81,7 @@ impl Names {
         requires { length self.now.actions.keys < 2 ^ 32 }
         ensures { result ≡ place_of self.now.actions.keys name.now }
     {
-        match self.actions.get_index_of(name) {
-            Some(place) => place as u32,
-            None => 0,
-        }
+        place(&self.actions, name)
     }
 
     /// The propositions and the actions as lists.

@@ -6,7 +6,7 @@ use Rattle.std.proofs.Common.{◌≡◌, ℕ, ◌+◌, ◌*◌, ◌<◌, ◌≤�
 use Rattle.std.specs.List.{IsDistinct}
 use Rattle.ml_graph.specs.Graph.{Graph, IsGraph, size}
 use Rattle.ml_text.specs.Operators.{weight}
-use Rattle.ml_text.specs.private.NameLists.{place_of}
+use Rattle.ml_text.specs.NameLists.{place_of}
 use Rattle.ml_text.proofs.NameLists.{place_found}
 use Rattle.ml_pdl.specs.Formula.{Formula, Const, Prop, Not, Binary, Modal, Repeat, Program, Act, Seq, Alt, Star, Test, Diamond, Square, occurrences, program_occurrences}
 use Rattle.ml_nodes.specs.Nodes.{negative, positive}

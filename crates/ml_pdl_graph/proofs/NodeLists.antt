@@ -9,7 +9,7 @@ use Rattle.ml_graph.specs.Graph.{Graph}
 use Rattle.ml_graph.specs.declared.node.Node.TheVariants as node
 use Rattle.ml_text.specs.declared.token.Operator.TheVariants as operator
 use Rattle.ml_text.specs.Operators.{weight}
-use Rattle.ml_text.specs.private.NameLists.{place_of}
+use Rattle.ml_text.specs.NameLists.{place_of}
 use Rattle.ml_pdl.specs.Formula.{Formula, Const, Prop, Not, Binary, Modal, Repeat, Program, Act, Seq, Alt, Star, Test, Diamond, Square, occurrences, program_occurrences}
 use Rattle.ml_nodes.specs.Nodes.{positive, negative, IsNode}
 use Rattle.ml_pdl_graph.specs.PdlGraph.{diamond, box, plain, StandsAt, ProgramStandsAt}

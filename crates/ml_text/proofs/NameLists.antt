@@ -14,7 +14,7 @@ use Rattle.std.proofs.lemmas.List.Folds.{list_any-append}
 use Rattle.std.proofs.lemmas.List.Quantifiers.{position-Some}
 use Rattle.std.proofs.lemmas.Map.Keys.{IsDistinct-cons, IsDistinct-head, IsDistinct-tail}
 use Rattle.std.proofs.lemmas.Slice.Eq.{bytes_eq-Decides}
-use Rattle.ml_text.specs.private.NameLists.{with_name, place_of}
+use Rattle.ml_text.specs.NameLists.{with_name, place_of}
 
 abbrev pub is_among : List (List ℕ) → List ℕ → Bool
 is_among ps p = list_any (bytes_eq p) ps

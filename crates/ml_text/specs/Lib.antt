@@ -6,6 +6,8 @@ pub mod Tokens
 pub mod Words
 -- the connectives
 pub mod Operators
+-- lists of names, and places in them
+pub mod NameLists
 -- what the tokens of a text are: the longest ones, and nothing but blanks between them
 pub mod Spelling
 -- grammars with operators of levels, over any signs

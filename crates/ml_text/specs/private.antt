@@ -10,7 +10,5 @@ pub mod Tables
 pub mod Views
 -- what a program has read of a text
 pub mod Progress
--- lists of names
-pub mod NameLists
 -- codes of trees
 pub mod Codes

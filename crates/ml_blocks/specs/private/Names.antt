@@ -2,7 +2,7 @@
 --
 --   props_onto f ps   == the names ps, and behind them the propositions of f
 use Rattle.std.specs.Prelude.{ℕ, List}
-use Rattle.ml_text.specs.private.NameLists.{with_name}
+use Rattle.ml_text.specs.NameLists.{with_name}
 use Rattle.ml_ctl.specs.Formula.{Formula, Const, Prop, Not, Binary, Temporal, Paired, Quantified}
 
 abbrev pub props_onto : Formula → List (List ℕ) → List (List ℕ)

@@ -13,7 +13,7 @@ use Rattle.std.specs.Global.{Vec}
 use Rattle.ml_text.specs.declared.token.Operator.{Operator}
 use Rattle.ml_text.specs.declared.token.Operator.TheVariants as operator
 use Rattle.ml_text.specs.Operators.{weight}
-use Rattle.ml_text.specs.private.NameLists.{place_of}
+use Rattle.ml_text.specs.NameLists.{place_of}
 use Rattle.ml_ctl.specs.Formula as plain
 use Rattle.ml_ctl.specs.Formula.{Formula, Const, Prop, Not, Binary, Temporal, Paired, Quantified, occurrences}
 use Rattle.ml_blocks.specs.declared.table.Occurrence.{Occurrence}

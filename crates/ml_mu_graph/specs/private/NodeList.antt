@@ -11,7 +11,7 @@ use Rattle.std.specs.Prelude.{ℕ, ◌+◌, true, false, not, if◌then◌else�
 use Rattle.std.specs.Str.{bytes_eq}
 use Rattle.ml_graph.specs.declared.node.Node.{Node}
 use Rattle.ml_graph.specs.declared.node.Node.TheVariants as node
-use Rattle.ml_text.specs.private.NameLists.{with_name, place_of}
+use Rattle.ml_text.specs.NameLists.{with_name, place_of}
 use Rattle.ml_text.specs.declared.token.Operator.{Operator}
 use Rattle.ml_text.specs.declared.token.Operator.TheVariants as operator
 use Rattle.ml_text.specs.Operators.{weight}

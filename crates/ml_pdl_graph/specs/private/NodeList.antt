@@ -8,7 +8,7 @@
 use Rattle.std.specs.Prelude.{ℕ, ◌+◌, true, false, not, List, [], ◌∷◌, ◌++◌}
 use Rattle.ml_graph.specs.declared.node.Node.{Node}
 use Rattle.ml_graph.specs.declared.node.Node.TheVariants as node
-use Rattle.ml_text.specs.private.NameLists.{with_name, place_of}
+use Rattle.ml_text.specs.NameLists.{with_name, place_of}
 use Rattle.ml_text.specs.Operators.{weight}
 use Rattle.ml_pdl.specs.Formula.{Formula, Const, Prop, Not, Binary, Modal, Repeat, Program, Act, Seq, Alt, Star, Test, Diamond, Square, occurrences, program_occurrences}
 use Rattle.ml_nodes.specs.Nodes.{positive, negative, lead_to, constant}

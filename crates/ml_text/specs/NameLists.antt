@@ -1,7 +1,8 @@
--- Lists of names, each once, in the order in which they come.
+-- Lists of names, each once, in the order in which they come, and the places of names in them. Names are lists of bytes,
+-- and places are counted from 0.
 --
 --   with_name ps p == the names ps, and behind them p if it isn't among them
---   place_of ps p  == the place of the name p
+--   place_of ps p  == the first place of the name p, or 0 if it isn't among them
 use Rattle.std.specs.Prelude.{ℕ, if◌then◌else◌, List, [], ◌∷◌, ◌++◌, unwrap_or, position}
 use Rattle.std.specs.List.{list_any}
 use Rattle.std.specs.Str.{bytes_eq}
