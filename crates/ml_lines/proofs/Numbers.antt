@@ -7,13 +7,17 @@
 --   number-value     == digits without a leading zero are the word of their value
 --   no_number_empty, no_number_zero, no_number_byte, no_number_large  == no number is spelt by the empty word, by a
 --                       longer word with a leading zero, by a word with a byte that is no digit, by too great a value
---   value_on-ge      == digits behind a number make it no smaller
-use Rattle.std.proofs.Common.{◌≡◌, ℕ, zero, suc, ◌+◌, ◌-◌, ◌*◌, ◌^◌, ◌<◌, ◌≤◌, Bool, true, false, ◌&&◌, [], ◌∷◌, length, get_or, drop, refl, sym, ap, subst, ◌∙◌, arith, rules}
+--   no_number_long   == nor by a word of more than ten bytes
+--   IsReadTo, has_room, digit_read, other_byte, all_read  == a word that is read digit by digit
+--   spelt            == digits are the word of their value, where it fits
+use Rattle.std.proofs.Common.{◌≡◌, ℕ, zero, suc, ◌+◌, ◌-◌, ◌*◌, ◌^◌, ◌<◌, ◌≤◌, true, false, ◌&&◌, length, get_or, drop, Option, None, Some, MatchOption, add-one, sym, ap, subst, ◌∙◌, arith, rules}
 use Rattle.std.specs.Str.{all_ascii_digits}
 use Rattle.std.specs.Char.{is_ascii_digit}
+use Rattle.std.proofs.Math.Nat.{pow-le-pow_right, pow-succ'}
 use Rattle.std.proofs.lemmas.Bool.{true≢false}
+use Rattle.std.proofs.lemmas.Bool.Decides.{nat_tests}
 use Rattle.std.proofs.lemmas.List.{drop_more, drop_all}
-use Rattle.std.proofs.lemmas.Fmt.{decimal_digit, decimal_nonempty, first_decimal, digits_decimal, digits_value-decimal, decimal-digits_value}
+use Rattle.std.proofs.lemmas.Fmt.{decimal_digit, decimal_nonempty, first_decimal, length-decimal-le, digits_decimal, digits_value-decimal, decimal-digits_value}
 use Rattle.std.proofs.lemmas.Str.Parse.{IsNumeralModel, numerals_by_fold}
 use Rattle.ml_lines.specs.Lines.{Word, number}
 use Rattle.ml_lines.specs.Reading.{IsNumber, value, value_on}
@@ -55,48 +59,48 @@ no_number_byte word other (n, small, is) =
 pub no_number_large : (word : Word) → 2 ^ 32 ≤ value word → ¬ (IsNumber word)
 no_number_large word large (n, small, is) = absurd (omega (arith, value-number n (omega arith), ap value is))
 
-pub value_on-ge : (n : ℕ) (word : Word) → n ≤ value_on n word
-value_on-ge n [] = omega arith
-value_on-ge n (c ∷ cs) = omega (arith, value_on-ge (10 * n + (c - 48)) cs)
+pub no_number_long : (word : Word) → 10 < length word → ¬ (IsNumber word)
+no_number_long word long (n, small, is) =
+    absurd (omega (arith, length-decimal-le 10 n (omega arith) (omega arith) (omega arith), ap length is))
 
 -- what is known of a word when its first digits were read
 pub record IsReadTo (word : Word) (i n : ℕ) : Type 0 where
   pub value_left : value word ≡ value_on n (drop i word)
-  pub small : n < 2 ^ 32
+  pub small : n < 10 ^ i
   pub digits_left : all_ascii_digits word ≡ all_ascii_digits (drop i word)
 
-pub digit_read : (word : Word) (i n m : ℕ) → i < length word → is_ascii_digit (get_or word i 0) ≡ true
-    → m ≡ 10 * n + (get_or word i 0 - 48) → m < 2 ^ 32 → IsReadTo word i n → IsReadTo word (i + 1) m
-digit_read word i n m here digit more small so_far = record {
-  small = small;
-  value_left =
-      so_far.value_left ∙ ap (value_on n) (drop_more word i 0 here) ∙ ap (λ k. value_on k (drop (i + 1) word)) (sym more);
+-- the number so far has room for one more digit
+pub has_room : (word : Word) (i n : ℕ) → i < 10 → IsReadTo word i n → n < 10 ^ 9
+has_room word i n short so_far = omega (arith, so_far.small, pow-le-pow_right {n = 10} (omega arith) {i = i} {j = 9} (omega arith))
+
+pub digit_read : (word : Word) (i n : ℕ) → i < length word → is_ascii_digit (get_or word i 0) ≡ true
+    → IsReadTo word i n → IsReadTo word (i + 1) (10 * n + (get_or word i 0 - 48))
+digit_read word i n here digit so_far = record {
+  small =
+      let least : get_or word i 0 ≤ 57 = grind (arith, nat_tests) in
+      let tenfold : 10 ^ (i + 1) ≡ 10 * 10 ^ i = rw add-one (pow-succ' 10 i) in
+      omega (arith, so_far.small);
+  value_left = so_far.value_left ∙ ap (value_on n) (drop_more word i 0 here);
   digits_left =
       so_far.digits_left ∙ ap all_ascii_digits (drop_more word i 0 here)
       ∙ ap (λ first. first && all_ascii_digits (drop (i + 1) word)) digit;
 }
 
-pub digit_refused : (word : Word) (i n : ℕ) → i < length word → IsReadTo word i n
-    → (is_ascii_digit (get_or word i 0) ≡ true → 2 ^ 32 ≤ 10 * n + (get_or word i 0 - 48)) → ¬ (IsNumber word)
-digit_refused word i n here so_far why = go (is_ascii_digit (get_or word i 0)) refl
-  where
-    go : (digit : Bool) → is_ascii_digit (get_or word i 0) ≡ digit → ¬ (IsNumber word)
-    go true is =
-        no_number_large word
-        (omega (
-          arith,
-          why is,
-          so_far.value_left ∙ ap (value_on n) (drop_more word i 0 here),
-          value_on-ge (10 * n + (get_or word i 0 - 48)) (drop (i + 1) word),
-        ))
-    go false is =
-        no_number_byte word
-        (so_far.digits_left ∙ ap all_ascii_digits (drop_more word i 0 here)
-        ∙ ap (λ first. first && all_ascii_digits (drop (i + 1) word)) is)
+pub other_byte : (word : Word) (i n : ℕ) → i < length word → is_ascii_digit (get_or word i 0) ≡ false
+    → IsReadTo word i n → all_ascii_digits word ≡ false
+other_byte word i n here other so_far =
+    so_far.digits_left ∙ ap all_ascii_digits (drop_more word i 0 here)
+    ∙ ap (λ first. first && all_ascii_digits (drop (i + 1) word)) other
 
-pub all_read : (word : Word) (i n : ℕ) → length word ≤ i → 0 < length word → (get_or word 0 0 ≡ 48 → length word ≡ 1)
-    → IsReadTo word i n → (word ≡ number n) × (n < 2 ^ 32)
-all_read word i n past some no_zero so_far =
+pub all_read : (word : Word) (i n : ℕ) → length word ≤ i → IsReadTo word i n → (all_ascii_digits word ≡ true) × (n ≡ value word)
+all_read word i n past so_far =
     let none = drop_all i word past in
-    let is : value word ≡ n = so_far.value_left ∙ ap (value_on n) none in
-    (number-value word (so_far.digits_left ∙ ap all_ascii_digits none) some no_zero (omega (arith, is, so_far.small)) ∙ ap number is, so_far.small)
+    (so_far.digits_left ∙ ap all_ascii_digits none, sym (so_far.value_left ∙ ap (value_on n) none))
+
+-- digits are the word of their value, where it fits
+pub spelt : (word : Word) (n : ℕ) (r : Option ℕ) → 0 < length word → (get_or word 0 0 ≡ 48 → length word ≡ 1)
+    → (all_ascii_digits word ≡ true) × (n ≡ value word) → MatchOption r (2 ^ 32 ≤ n) (λ m. (m ≡ n) × (n < 2 ^ 32))
+    → MatchOption r (¬ (IsNumber word)) (λ m. (word ≡ number m) × (m < 2 ^ 32))
+spelt word n None some no_zero (digits, is) large = no_number_large word (omega (arith, is))
+spelt word n (Some m) some no_zero (digits, is) (same, fits) =
+    (number-value word digits some no_zero (omega (arith, is)) ∙ ap number (sym is ∙ sym same), omega (arith, same))

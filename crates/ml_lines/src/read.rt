@@ -1,11 +1,11 @@
 // Reading a text line by line, a line word by word, and a number.
-ghost use Rattle.std.specs.Prelude.{ℕ, ◌≡◌, ◌≢◌, ◌==◌, ◌∷◌, ◌+◌, ◌*◌, ◌<◌, ◌≤◌, ◌^◌, ◌-◌, [], MatchOption, IsTrue, length, position};
+ghost use Rattle.std.specs.Prelude.{ℕ, ◌≡◌, ◌≢◌, ◌==◌, ◌∷◌, ◌+◌, ◌*◌, ◌<◌, ◌≤◌, ◌^◌, ◌-◌, [], MatchOption, true, false, length, position};
 ghost use Rattle.std.specs.List.{list_all};
-ghost use Rattle.std.specs.Char.{is_ascii_digit};
+ghost use Rattle.std.specs.Str.{all_ascii_digits};
 ghost use Rattle.std.specs.Option.{option_copied};
 ghost use Rattle.ml_lines.specs.Lines.{Word, Line, number};
 ghost use Rattle.ml_lines.specs.Reading as reading;
-ghost use Rattle.ml_lines.specs.Reading.{words_of, words_behind, lines_of, left_of, IsNumber};
+ghost use Rattle.ml_lines.specs.Reading.{words_of, words_behind, lines_of, left_of, IsNumber, value};
 
 use memchr::memchr;
 
@@ -118,12 +118,36 @@ pub fn read_number(word: &[u8]) -> Option<u32>
     if word.len() > 1 && word[0] == b'0' {
         return None;
     }
+    if word.len() > MOST_DIGITS {
+        return None;
+    }
+    match digits_value(word) {
+        Some(n) => fitting(n),
+        None => None,
+    }
+}
+
+// how many digits a number of 32 bits has at most
+const MOST_DIGITS: usize = 10;
+
+fn fitting(n: u64) -> Option<u32>
+    ensures { MatchOption result (2 ^ 32 ≤ n) (λ m. (m ≡ n) × (n < 2 ^ 32)) }
+{
+    u32::try_from(n).ok()
+}
+
+// the number whose digits a word is; none where it has other bytes
+fn digits_value(word: &[u8]) -> Option<u64>
+    requires { length word.now ≤ 10 }
+    ensures { MatchOption result (all_ascii_digits word.now ≡ false)
+        (λ n. (all_ascii_digits word.now ≡ true) × (n ≡ value word.now)) }
+{
     let mut n = 0;
     for byte in word {
-        match with_digit(n, *byte) {
-            Some(more) => n = more,
-            None => return None,
+        if !byte.is_ascii_digit() {
+            return None;
         }
+        n = 10 * n + u64::from(byte - b'0');
     }
     Some(n)
 }
@@ -150,14 +174,4 @@ pub fn one_number(line: &[u8]) -> Option<u32>
         (λ n. (words_of line.now ≡ number n ∷ []) × (n < 2 ^ 32)) }
 {
     read_number(line)
-}
-
-// the number with one more digit
-fn with_digit(n: u32, byte: u8) -> Option<u32>
-    ensures { MatchOption result (IsTrue (is_ascii_digit byte) → 2 ^ 32 ≤ 10 * n + (byte - 48)) (λ m. IsTrue (is_ascii_digit byte) × (m ≡ 10 * n + (byte - 48)) × (m < 2 ^ 32)) }
-{
-    if !byte.is_ascii_digit() {
-        return None;
-    }
-    u32::try_from(10 * u64::from(n) + u64::from(byte - b'0')).ok()
 }

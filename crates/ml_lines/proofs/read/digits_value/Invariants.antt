@@ -1,5 +1,5 @@
 use Rattle.ml_lines.proofs.Numbers.{IsReadTo}
-use Rattle.ml_lines.proofs.read.read_number.Given as goal
+use Rattle.ml_lines.proofs.read.digits_value.Given as goal
 
 abbrev pub invariant-loop-byte : goal.invariant-loop-byte
 invariant-loop-byte l = IsReadTo l.word l.byte-index l.n
