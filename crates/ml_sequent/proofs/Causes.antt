@@ -2,8 +2,9 @@
 --
 --   false_cause, pair_cause, cycle_cause == the first of each kind is the first cause, where none of an earlier kind is
 --   negatives_same, negatives_noted == the first negative literals of one node more
+--   no_partner      == where there is no negative literal, no node has a partner
 --   no_cause        == where there is none of any kind, there is no cause
-use Rattle.std.proofs.Common.{ℕ, ◌≡◌, ◌<◌, ◌==◌, ◌⊎◌, inl, inr, Bool, true, false, ◌+◌, List, [], ◌∷◌, length, get_or, take, find, Option, Some, None, refl, sym, ap, ◌∙◌, arith}
+use Rattle.std.proofs.Common.{ℕ, ◌≡◌, ◌<◌, ◌==◌, ◌⊎◌, inl, inr, Bool, true, false, ◌+◌, List, [], ◌∷◌, length, get_or, take, find, Option, Some, None, is_some, refl, sym, ap, ◌∙◌, arith}
 use Rattle.std.proofs.lemmas.Bool.{cases_eq, eqb-true, cond-true, cond-false}
 use Rattle.std.proofs.lemmas.List.{take_more}
 use Rattle.std.proofs.lemmas.List.Folds.{find-append}
@@ -19,7 +20,7 @@ use Rattle.ml_sequent.specs.declared.clashes.ClashCause.{ClashCause}
 use Rattle.ml_sequent.specs.declared.clashes.ClashCause.TheVariants as cause
 use Rattle.ml_sequent.specs.Spread.{SpreadList, IsCause, IsFirstCause, IsPair, IsOddCycle, comes_before}
 use Rattle.ml_sequent.specs.private.Tests.{is_false, is_negative, negative_sign, negative_of, partner, partner_of, positive_prop, negative_prop, if_positive, if_negative, HasNegatives, IsFirstPair, IsFirstOddCycle}
-use Rattle.ml_sequent.proofs.Firsts.{FoundFirst, found_first, found_none}
+use Rattle.ml_sequent.proofs.Firsts.{FoundFirst, found_first, found_none, all_fail}
 
 -- ---- nodes by tests
 
@@ -282,3 +283,23 @@ module _ (g : Graph) (nodes : List ℕ) (i : ℕ) (low : i < length nodes) where
           ∙ sym (adds_one q here)
           ∙ ap (negative_of g (take (i + 1) nodes)) (sym e)
       at p p_low (inr other) = others p other ∙ has.firsts_are p p_low ∙ sym (adds_none p (fails p (is_negative p (node_at g (get_or nodes i 0))) other refl))
+
+-- where there is no negative literal, no node has a partner
+pub no_partner : (g : Graph) (nodes : List ℕ)
+    → find (λ n. is_some (negative_prop (node_at g n))) nodes ≡ None
+    → (x : Node)
+    → partner g nodes x ≡ None
+no_partner g nodes none x = of_prop (positive_prop x)
+  where
+    fails : (p n : ℕ) (b : Bool) → IsMember n nodes → is_negative p (node_at g n) ≡ b
+        → is_negative p (node_at g n) ≡ false
+    fails p n true h e =
+        let fewer = found_none (λ k. is_some (negative_prop (node_at g k))) nodes none n h in
+        let some = ap is_some (negative_only (node_at g n) p e) in
+        cc
+    fails p n false h e = e
+
+    of_prop : (o : Option ℕ) → partner_of g nodes o ≡ None
+    of_prop None = refl
+    of_prop (Some p) =
+        all_fail (λ n. is_negative p (node_at g n)) nodes (λ n h. fails p n (is_negative p (node_at g n)) h refl)

@@ -3,8 +3,9 @@
 --   none_of    == where no place has it, no member has it
 --   first_of   == where no earlier place has it, no lesser member has it
 --   found_none, found_first == the same of a test that `find` made
+--   all_fail   == where no member passes, `find` finds none
 --   least_open, none_open == the same of open or-nodes
-use Rattle.std.proofs.Common.{ℕ, ◌≡◌, ◌<◌, ◌≤◌, ◌⊎◌, inl, inr, ⊎_elim, Bool, true, false, List, [], ◌∷◌, length, get_or, find, Some, None, sym, ap, ◌∙◌, subst, arith}
+use Rattle.std.proofs.Common.{ℕ, ◌≡◌, ◌<◌, ◌≤◌, ◌⊎◌, inl, inr, ⊎_elim, Bool, true, false, List, [], ◌∷◌, length, get_or, find, Some, None, refl, sym, ap, ◌∙◌, subst, arith}
 use Rattle.std.proofs.lemmas.Bool.{cases_Bool, cases_eq, cases_lt, cond-true, cond-false}
 use Rattle.ml_lists.specs.Ascending.{IsAscending}
 use Rattle.ml_lists.specs.Member.{IsMember}
@@ -52,6 +53,12 @@ found_none test (x ∷ xs) e m h = by_test (cases_Bool (test x)) (found_none tes
     by_test (inl passes) rest h2 = let here = cond-true (test x) (Some x) (find test xs) passes in cc
     by_test (inr fails) rest (inl same) = ap test same ∙ fails
     by_test (inr fails) rest (inr later) = rest (sym (cond-false (test x) (Some x) (find test xs) fails) ∙ e) m later
+
+-- where no member passes, it finds none
+pub all_fail : (test : ℕ → Bool) (xs : List ℕ) → ((m : ℕ) → IsMember m xs → test m ≡ false) → find test xs ≡ None
+all_fail test [] fails = refl
+all_fail test (x ∷ xs) fails =
+    cond-false (test x) (Some x) (find test xs) (fails x (inl refl)) ∙ all_fail test xs (λ m h. fails m (inr h))
 
 -- what a test finds
 pub record FoundFirst (test : ℕ → Bool) (xs : List ℕ) (n : ℕ) : Type 0 where

@@ -14,6 +14,8 @@ pub mod ChoicesWith
 pub mod LongerSpreads
 -- the search along local walks
 pub mod Reaching
+-- the nodes that a search marked
+pub mod MarkedNodes
 -- searches that go on from one child
 pub mod LongerSearches
 -- ways of the search, and local walks

@@ -1,5 +1,5 @@
 // Clashes: why the nodes of a spread can't hold together.
-ghost use Rattle.std.specs.Prelude.{◌≡◌, ◌<◌, ◌↔◌, ℕ, None, Some, IfOk, IsTrue, MatchOption, length, get_or, find, All};
+ghost use Rattle.std.specs.Prelude.{◌≡◌, ◌<◌, ◌↔◌, ℕ, None, Some, IfOk, IsTrue, MatchOption, length, get_or, find, is_some, All};
 ghost use Rattle.std.specs.Option.{option_or};
 ghost use Rattle.ml_lists.specs.Ascending.{IsAscending};
 ghost use Rattle.ml_lists.specs.Member.{IsMember};
@@ -63,6 +63,19 @@ pub(crate) fn negative_prop(node: Node) -> Option<u32>
         } => Some(prop),
         _ => None,
     }
+}
+
+/// The first negative literal among these nodes.
+fn first_negative(graph: &ModalGraph, nodes: &[u32]) -> Option<u32>
+    requires { All (λ n. n < size graph.now) nodes.now }
+    ensures { result ≡ find (λ n. is_some (negative_prop (node_at graph.now n))) nodes.now }
+{
+    for node in nodes {
+        if negative_prop(*graph.node(*node)).is_some() {
+            return Some(*node);
+        }
+    }
+    None
 }
 
 /// Notes a node as the first negative literal of a proposition, if none was noted before.
@@ -134,6 +147,9 @@ fn first_pair(
         ((n : ℕ) → IsMember n nodes.now → partner graph.now nodes.now (node_at graph.now n) ≡ None)
         (IsFirstPair graph.now nodes.now)) }
 {
+    if first_negative(graph, nodes).is_none() {
+        return Ok(None);
+    }
     let firsts = negatives(alloc, graph, nodes)?;
     for node in nodes {
         if let Some(other) = partner(graph, nodes, &firsts, *node) {

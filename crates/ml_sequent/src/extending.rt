@@ -9,7 +9,6 @@ ghost use Rattle.ml_sequent.specs.private.Reach.{IsRanked, HasRoom};
 use crate::choice::Side;
 use crate::levels::Levels;
 use crate::reach::{Reach, reach_more};
-use crate::sets::ascending;
 use crate::spreads::Spread;
 use ml_base::NoMemory;
 use ml_graph::{ModalGraph, Node};
@@ -47,7 +46,7 @@ pub(crate) fn extend_by(
     ensures of { IfOk result (λ longer. (C : List ℕ) → IsSpreadOf graph.now C spread.now.choice spread.now
         → IsSpreadOf graph.now C (with_side spread.now.choice node side) longer) }
 {
-    let _size = graph.size();
+    let size = graph.size();
     let choice = spread.choice().with(node, side)?;
     reach_more(
         graph,
@@ -57,6 +56,6 @@ pub(crate) fn extend_by(
         child_at(graph, node, side),
         reach,
     )?;
-    let nodes = reach.found().iter().map(|v| v.node).collect(alloc)?;
-    Ok(Spread::of(ascending(nodes), choice))
+    let nodes = reach.nodes(alloc, size)?;
+    Ok(Spread::of(nodes, choice))
 }

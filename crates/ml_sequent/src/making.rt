@@ -10,7 +10,6 @@ use crate::levels::Levels;
 use crate::phase::LocalPhase;
 use crate::reach::{Reach, reach_all};
 use crate::sequent::Sequent;
-use crate::sets::ascending;
 use crate::spreads::Spread;
 use ml_base::NoMemory;
 use ml_graph::ModalGraph;
@@ -73,8 +72,8 @@ pub(crate) fn spread_by(
     ensures room { HasRoom graph.now levels.now reach.new }
     ensures of { IfOk result (IsSpreadOf graph.now sequent.now choice.now) }
 {
-    let _size = graph.size();
+    let size = graph.size();
     reach_all(graph, choice, levels, sequent.values(), reach)?;
-    let nodes = reach.found().iter().map(|v| v.node).collect(alloc)?;
-    Ok(Spread::of(ascending(nodes), choice.copy()?))
+    let nodes = reach.nodes(alloc, size)?;
+    Ok(Spread::of(nodes, choice.copy()?))
 }

@@ -1,14 +1,16 @@
 // The search along local walks: it visits each place once, and its memory serves many searches.
 ghost use Rattle.std.specs.Prelude.{◌≡◌, ◌+◌, ◌*◌, ◌<◌, ◌≤◌, ℕ, true, List, [], ◌∷◌, IfOk, OnOk, IsTrue, ◌↔◌, length, get_or, map, All};
+ghost use Rattle.ml_lists.specs.Ascending.{ascending};
 ghost use Rattle.ml_lists.specs.Member.{IsMember};
 ghost use Rattle.ml_graph.specs.Graph.{size};
 ghost use Rattle.ml_sequent.specs.LocalWalk.{children};
 ghost use Rattle.ml_sequent.specs.declared.reach.Visit.{Visit};
-ghost use Rattle.ml_sequent.specs.private.Reach.{mark, code, onto, onward, above, behind, unranked, ranked, IsVisited, IsSearch, HasReached, IsRanked, HasRoom};
+ghost use Rattle.ml_sequent.specs.private.Reach.{mark, code, onto, onward, above, behind, unranked, ranked, IsVisited, IsSearch, HasReached, IsRanked, HasRoom, marked_nodes};
 
 use crate::children::{LocalChildren, children};
 use crate::choice::Choice;
 use crate::levels::Levels;
+use crate::sets::ascending;
 use ml_base::NoMemory;
 use ml_graph::ModalGraph;
 use std::alloc::Global;
@@ -56,7 +58,7 @@ impl Reach {
 
     /// Forgets what was found.
     ///
-    /// Cost: linear in what was found.
+    /// Cost: linear in what was found, where that is no more than an eighth of the marks; otherwise all marks are taken away.
     pub fn clear(&mut self)
         ensures { self.new ≡ record { width = self.old.width; room = self.old.room; found = [] } }
     {
@@ -97,15 +99,55 @@ impl Reach {
     {
         &self.found
     }
+
+    /// The nodes of the places that were found, ascending, where these have rank 0 in a graph of so many nodes.
+    ///
+    /// Cost: linear in the nodes of the graph where more than an eighth of them was found, and otherwise `n log n` in what
+    /// was found.
+    pub fn nodes(&self, alloc: Global, size: u32) -> Result<Vec<u32>, NoMemory>
+        requires room { self.now.room ≡ self.now.width * size }
+        requires ranks { All (λ v. v.rank ≡ 0) self.now.found }
+        ensures { IfOk result (λ nodes. nodes.items ≡ ascending (map (λ v. v.node) self.now.found)) }
+    {
+        if self.found.len() > size as usize / 8 {
+            return marked_nodes(alloc, self.width, &self.marks, size, self.found.len());
+        }
+        let nodes = self.found.iter().map(|v| v.node).collect(alloc)?;
+        Ok(ascending(nodes))
+    }
 }
 
-/// Takes away the marks of these places.
+/// The nodes below `size` that are marked with rank 0, ascending. There is room at once for so many as `expected`.
+fn marked_nodes(
+    alloc: Global,
+    width: usize,
+    marks: &[bool],
+    size: u32,
+    expected: usize,
+) -> Result<Vec<u32>, NoMemory>
+    requires { (n : ℕ) → n < size → width * n < length marks.now }
+    ensures { IfOk result (λ nodes. nodes.items ≡ marked_nodes width marks.now size) }
+{
+    let mut nodes = Vec::with_capacity(alloc, expected)?;
+    for node in 0..size {
+        if marks[width * node as usize] {
+            nodes.push(node)?;
+        }
+    }
+    Ok(nodes)
+}
+
+/// Takes away the marks of these places, or all of them if these are a good part.
 fn unmark(width: usize, found: &[Visit], marks: &mut Vec<bool>)
     requires { All (λ v. code width v < length marks.old.items) found.now }
     ensures size { length marks.new.items ≡ length marks.old.items }
     ensures unmarked { (m : ℕ) → mark marks.new.items m ≡ true
         → (mark marks.old.items m ≡ true) × ((v : Visit) → IsMember v found.now → m ≡ code width v → ⊥) }
 {
+    if found.len() > marks.len() / 8 {
+        marks.fill(false);
+        return;
+    }
     for visit in found {
         marks[width * visit.node as usize + visit.rank as usize] = false;
     }

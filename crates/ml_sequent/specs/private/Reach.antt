@@ -14,12 +14,13 @@
 --   code width v          == the number of the mark of place v
 --   HasCode width found m == m is the number of a place that was found
 --   IsMarked width marks found == what was found is marked, and nothing else
+--   marked_nodes width marks n == the nodes below n that are marked with rank 0, ascending
 --   IsVisited ks found found2 == found2 is found with what of ks is new
 --   IsSearch next C i found == the search from C is under way: the first i places that were found went on
 --   HasReached next C found == found has exactly what is reached from C
 --   IsRanked g levels     == levels has the priorities of g, ascending, and the rank of each node
 --   HasRoom g levels r    == a search has room for all places of g
-use Rattle.std.specs.Prelude.{ℕ, ◌≡◌, ◌+◌, ◌*◌, ◌<◌, ◌≤◌, ◌↔◌, min, Bool, true, false, not, List, ◌++◌, map, filter, length, get_or, nat_le}
+use Rattle.std.specs.Prelude.{ℕ, zero, suc, ◌≡◌, ◌+◌, ◌*◌, ◌<◌, ◌≤◌, ◌↔◌, min, Bool, true, false, not, cond, List, [], ◌∷◌, ◌++◌, map, filter, length, get_or, nat_le}
 use Rattle.ml_lists.specs.Ascending.{IsAscending}
 use Rattle.ml_lists.specs.Counting.{count}
 use Rattle.ml_lists.specs.Member.{IsMember}
@@ -93,6 +94,11 @@ pub record IsMarked (width : ℕ) (marks : List Bool) (found : List Visit) : Typ
   pub only : (m : ℕ) → mark marks m ≡ true → HasCode width found m
   pub low : (v : Visit) → IsMember v found → (v.rank < width) × (code width v < length marks)
   pub counted : length found + unmarked (length marks) marks ≤ length marks
+
+-- the nodes below n that are marked with rank 0, ascending
+abbrev pub marked_nodes : ℕ → List Bool → ℕ → List ℕ
+marked_nodes width marks zero = []
+marked_nodes width marks (suc n) = marked_nodes width marks n ++ cond (mark marks (width * n)) (n ∷ []) []
 
 -- the search as contracts see it
 pub record ReachList : Type 0 where
