@@ -44,7 +44,6 @@ pub mod Accepted
 pub mod Rejected
 -- two graphs of one problem, and what a refutation asks of them
 pub mod AlikeGraphs
-pub mod GraphsOfProblems
 -- checking a document finds one thing at most
 pub mod OneVerdict
 -- checking a document finds something

@@ -25,7 +25,7 @@ use Rattle.ml_refute_check.specs.Documents.{IsDocument, IsDocumentFault, IsAccep
 use Rattle.ml_refute_check.specs.Laws.{AlikeChecked, OneVerdict}
 use Rattle.ml_refute_check.specs.declared.verdict.Verdict.TheVariants.{Accepted, Unreadable, Rejected}
 use Rattle.ml_refute_check.proofs.AlikeGraphs.{accepted_same, first_bad_same}
-use Rattle.ml_refute_check.proofs.GraphsOfProblems.{graphs_alike}
+use Rattle.ml_front.proofs.Graphs.{graphs_alike}
 use Rattle.ml_refute_check.proofs.OneFault as parts
 
 pub record OneDocument (v w : Version) (p q : Problem) (r s : Refutation) (one other : List ℕ) : Type 0 where
