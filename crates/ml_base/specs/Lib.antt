@@ -10,5 +10,3 @@ pub mod Faults
 pub mod Memory
 -- what a whole read and a whole write leave behind
 pub mod Whole
--- what only private contracts cite
-pub mod private

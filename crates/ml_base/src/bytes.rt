@@ -6,28 +6,28 @@ use std::alloc::{AllocError, Global};
 use std::fmt::{self, Write};
 use std::marker::Model;
 
-// How many bytes stand in the value: with their number and the variant they fill two words of the machine.
-const MOST_INLINE: usize = 14;
-
-#[derive(Drop)]
-enum Held {
-    Inline([u8; MOST_INLINE], u8),
-    Allocated(Box<Vec<u8>>),
-}
+// How many bytes stand in the value: with their number they fill one word of the machine.
+const MOST_INLINE: usize = 7;
 
 /// A list of bytes that doesn't change. Contracts see the bytes.
+//
+// An enum would say it as well, but whoever drops one has to look at its variants.
 #[derive(Drop)]
-pub(crate) struct Bytes(Held);
+pub(crate) struct Bytes {
+    inline: [u8; MOST_INLINE],
+    len: u8,
+    allocated: Vec<u8>,
+}
 
 impl Model for Bytes {
-    ghost use Rattle.std.specs.Prelude.{List, ℕ};
-    ghost use Rattle.ml_base.specs.private.Held.{held_bytes, IsHeld};
+    ghost use Rattle.std.specs.Prelude.{List, ℕ, [], ◌≡◌, ◌≤◌, ◌⊎◌, ◌++◌, take};
+    ghost use Rattle.ml_base.specs.declared.bytes.TheConstants.{MOST_INLINE};
 
     ghost Value = { List ℕ };
 
-    ghost view = { λ b. held_bytes b.0 };
+    ghost view = { λ b. take b.len b.inline ++ b.allocated.items };
 
-    ghost invariant = { λ b. IsHeld b.0 };
+    ghost invariant = { λ b. (b.len ≤ MOST_INLINE) × ((b.len ≡ 0) ⊎ (b.allocated.items ≡ [])) };
 }
 
 impl Bytes {
@@ -35,13 +35,20 @@ impl Bytes {
     pub fn from_slice(alloc: Global, slice: &[u8]) -> Result<Bytes, AllocError>
         ensures { IfOk result (λ b. b ≡ slice.now) }
     {
+        let mut inline = [0; MOST_INLINE];
         if slice.len() > MOST_INLINE {
-            let allocated = Vec::from_slice(alloc, slice)?;
-            return Ok(Bytes(Held::Allocated(Box::new(alloc, allocated)?)));
+            return Ok(Bytes {
+                inline,
+                len: 0,
+                allocated: Vec::from_slice(alloc, slice)?,
+            });
         }
-        let mut bytes = [0; MOST_INLINE];
-        bytes[..slice.len()].copy_from_slice(slice);
-        Ok(Bytes(Held::Inline(bytes, slice.len() as u8)))
+        inline[..slice.len()].copy_from_slice(slice);
+        Ok(Bytes {
+            inline,
+            len: slice.len() as u8,
+            allocated: Vec::new(alloc),
+        })
     }
 
     /// The bytes.
@@ -49,9 +56,10 @@ impl Bytes {
     pub fn as_slice(&self) -> &[u8]
         ensures { result.now ≡ self.now }
     {
-        match &self.0 {
-            Held::Inline(bytes, len) => &bytes[..usize::from(*len)],
-            Held::Allocated(bytes) => bytes.as_slice(),
+        if self.allocated.is_empty() {
+            &self.inline[..usize::from(self.len)]
+        } else {
+            self.allocated.as_slice()
         }
     }
 }
@@ -60,10 +68,7 @@ impl Clone for Bytes {
     ghost is_clone = { λ a b. b ≡ a };
 
     fn clone(&self) -> Result<Bytes, AllocError> {
-        Ok(Bytes(match &self.0 {
-            Held::Inline(bytes, len) => Held::Inline(*bytes, *len),
-            Held::Allocated(bytes) => Held::Allocated(bytes.clone()?),
-        }))
+        Bytes::from_slice(*self.allocated.allocator(), self.as_slice())
     }
 }
 

@@ -54,7 +54,7 @@ const FIRST_ROOM: usize = 8 * 1024;
 /// - `TooLong` exactly where more than `max` bytes were given.
 /// - `NoMemory`.
 ///
-/// Cost: linear in the bytes that are given, each read into its place.
+/// Cost: linear in the bytes that are given, each read into its place; room that is left over is given back.
 pub fn read_all<S: Source>(alloc: Global, source: &mut S, max: u64) -> Result<Vec<u8>, ReadRefusal>
     requires { max < 2 ^ 63 }
 
@@ -86,6 +86,7 @@ pub fn read_all<S: Source>(alloc: Global, source: &mut S, max: u64) -> Result<Ve
         match read_behind(source, &mut bytes, filled) {
             Ok(0) => {
                 bytes.truncate(filled);
+                bytes.shrink_to_fit();
                 return Ok(bytes);
             }
             Ok(count) => filled += count,

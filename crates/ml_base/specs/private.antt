@@ -1,4 +1,0 @@
--- What only private contracts cite.
-
--- where a name keeps its bytes
-pub mod Held
