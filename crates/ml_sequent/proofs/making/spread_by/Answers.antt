@@ -1,4 +1,4 @@
-use Rattle.std.proofs.Common.{ℕ, ◌∙◌, List, map, sym, ap, subst}
+use Rattle.std.proofs.Common.{ℕ, ◌∙◌, List, map, sym, subst}
 use Rattle.ml_lists.specs.Ascending.{IsAscending}
 use Rattle.ml_lists.proofs.Ascending.{ascending-is}
 use Rattle.ml_sequent.specs.declared.reach.Visit.{Visit}
