@@ -24,3 +24,5 @@ pub mod NameLists
 pub mod Made
 -- numbers in range
 pub mod InRange
+-- the sizes of a formula's parts
+pub mod PartSizes

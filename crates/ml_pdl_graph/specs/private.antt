@@ -2,3 +2,5 @@
 
 -- the lists of a graph
 pub mod NodeList
+-- how many occurrences the parts of a formula have
+pub mod Sizes

@@ -8,8 +8,10 @@ ghost use Rattle.ml_pdl_graph.specs.Laws.{HoldsWhere};
 ghost use Rattle.ml_pdl_graph.specs.PdlGraph.{IsGraphOf};
 ghost use Rattle.ml_nodes.specs.private.Connectives.{operator_nodes, operator_priorities};
 ghost use Rattle.ml_pdl_graph.specs.private.NodeList as listed;
+ghost use Rattle.ml_pdl_graph.specs.private.Sizes as measured;
 
 use crate::names::names_of;
+use crate::sizes::sizes_of;
 use ml_base::NoMemory;
 use ml_graph::{ModalGraph, Node};
 use ml_nodes::{
@@ -18,41 +20,6 @@ use ml_nodes::{
 use ml_pdl::{Formula, Program, Term};
 use ml_text::{MOST_OCCURRENCES, Operator};
 use std::alloc::{AllocError, Global};
-
-// how many occurrences a term has
-#[cycle(counting)]
-fn count(term: &Term) -> u32
-    requires { occurrences (formula_of term.now) ≤ MOST_OCCURRENCES }
-    ensures { result ≡ occurrences (formula_of term.now) }
-{
-    match term {
-        Term::Const(_) | Term::Prop(_) => 1,
-        Term::Not(operand) => 1 + count(operand),
-        Term::And(left, right) | Term::Or(left, right) | Term::Implies(left, right) => {
-            1 + count(left) + count(right)
-        }
-        Term::Iff(left, right) => 3 + count(left) + count(right),
-        Term::Diamond(program, operand) | Term::Square(program, operand) => {
-            1 + count_program(program) + count(operand)
-        }
-        Term::Repeat(program) => 1 + count_program(program),
-    }
-}
-
-#[cycle(counting)]
-fn count_program(program: &Program) -> u32
-    requires { program_occurrences (program_of program.now) ≤ MOST_OCCURRENCES }
-    ensures { result ≡ program_occurrences (program_of program.now) }
-{
-    match program {
-        Program::Act(_) => 1,
-        Program::Seq(left, right) | Program::Alt(left, right) => {
-            1 + count_program(left) + count_program(right)
-        }
-        Program::Star(operand) => 1 + count_program(operand),
-        Program::Test(formula) => 1 + count(formula),
-    }
-}
 
 // puts the two nodes of an occurrence that is of no star and of no infinite repetition
 fn put_plain(draft: &mut Draft, nodes: (Node, Node)) -> Result<(), AllocError>
@@ -113,9 +80,16 @@ fn put_connective(
 
 // the nodes and priorities of a term as the occurrence `at`
 #[cycle(placing)]
-fn place(draft: &mut Draft, names: &Names, at: u32, term: &Term) -> Result<(), AllocError>
+fn place(
+    draft: &mut Draft,
+    names: &Names,
+    at: u32,
+    sizes: &[u32],
+    term: &Term,
+) -> Result<(), AllocError>
     requires names { (length names.now.props.keys < 2 ^ 32) × (length names.now.actions.keys < 2 ^ 32) }
     requires few { at + occurrences (formula_of term.now) ≤ 1000 }
+    requires sizes { measured.Measures sizes.now at (formula_of term.now) }
     ensures nodes { OnOk result (draft.new.nodes.items ≡ draft.old.nodes.items
         ++ listed.nodes_of names.now.props.keys names.now.actions.keys at (formula_of term.now)) }
     ensures priorities { OnOk result (draft.new.priorities.items ≡ draft.old.priorities.items
@@ -140,21 +114,29 @@ fn place(draft: &mut Draft, names: &Names, at: u32, term: &Term) -> Result<(), A
                 draft,
                 (lead_to(negative(at + 1)), lead_to(positive(at + 1))),
             )?;
-            place(draft, names, at + 1, operand)
+            place(draft, names, at + 1, sizes, operand)
         }
-        Term::And(left, right) => place_both(draft, names, at, Operator::And, left, right),
-        Term::Or(left, right) => place_both(draft, names, at, Operator::Or, left, right),
-        Term::Implies(left, right) => place_both(draft, names, at, Operator::Implies, left, right),
-        Term::Iff(left, right) => place_both(draft, names, at, Operator::Iff, left, right),
-        Term::Diamond(program, operand) => place_diamond(draft, names, at, program, operand),
-        Term::Square(program, operand) => place_square(draft, names, at, program, operand),
+        Term::And(left, right) => place_both(draft, names, at, sizes, Operator::And, left, right),
+        Term::Or(left, right) => place_both(draft, names, at, sizes, Operator::Or, left, right),
+        Term::Implies(left, right) => place_both(
+            draft,
+            names,
+            at,
+            sizes,
+            Operator::Implies,
+            left,
+            right,
+        ),
+        Term::Iff(left, right) => place_both(draft, names, at, sizes, Operator::Iff, left, right),
+        Term::Diamond(program, operand) => place_diamond(draft, names, at, sizes, program, operand),
+        Term::Square(program, operand) => place_square(draft, names, at, sizes, program, operand),
         Term::Repeat(program) => {
             draft.put(
                 (lead_to(positive(at + 1)), lead_to(negative(at + 1))),
                 (0, 1),
             )?;
             let again = (positive(at), negative(at));
-            place_program(draft, names, at + 1, again, program)
+            place_program(draft, names, at + 1, again, sizes, program)
         }
     }
 }
@@ -165,12 +147,14 @@ fn place_both(
     draft: &mut Draft,
     names: &Names,
     at: u32,
+    sizes: &[u32],
     operator: Operator,
     left: &Term,
     right: &Term,
 ) -> Result<(), AllocError>
     requires names { (length names.now.props.keys < 2 ^ 32) × (length names.now.actions.keys < 2 ^ 32) }
     requires few { at + occurrences (pdl.Binary operator (formula_of left.now) (formula_of right.now)) ≤ 1000 }
+    requires sizes { measured.Measures sizes.now at (pdl.Binary operator (formula_of left.now) (formula_of right.now)) }
     ensures nodes { OnOk result (draft.new.nodes.items ≡ draft.old.nodes.items
         ++ listed.nodes_of names.now.props.keys names.now.actions.keys at
         (pdl.Binary operator (formula_of left.now) (formula_of right.now))) }
@@ -178,10 +162,10 @@ fn place_both(
         ++ listed.priorities_of (pdl.Binary operator (formula_of left.now) (formula_of right.now))) }
 {
     let l = at + weight(operator);
-    let r = l + count(left);
+    let r = l + sizes[l as usize];
     put_connective(draft, operator, at, l, r)?;
-    place(draft, names, l, left)?;
-    place(draft, names, r, right)
+    place(draft, names, l, sizes, left)?;
+    place(draft, names, r, sizes, right)
 }
 
 // the same of `<p>f`
@@ -190,11 +174,13 @@ fn place_diamond(
     draft: &mut Draft,
     names: &Names,
     at: u32,
+    sizes: &[u32],
     program: &Program,
     operand: &Term,
 ) -> Result<(), AllocError>
     requires names { (length names.now.props.keys < 2 ^ 32) × (length names.now.actions.keys < 2 ^ 32) }
     requires few { at + occurrences (pdl.Modal pdl.Diamond (program_of program.now) (formula_of operand.now)) ≤ 1000 }
+    requires sizes { measured.Measures sizes.now at (pdl.Modal pdl.Diamond (program_of program.now) (formula_of operand.now)) }
     ensures nodes { OnOk result (draft.new.nodes.items ≡ draft.old.nodes.items
         ++ listed.nodes_of names.now.props.keys names.now.actions.keys at
         (pdl.Modal pdl.Diamond (program_of program.now) (formula_of operand.now))) }
@@ -202,10 +188,11 @@ fn place_diamond(
         ++ listed.priorities_of (pdl.Modal pdl.Diamond (program_of program.now) (formula_of operand.now))) }
 {
     let l = at + 1;
-    let r = l + count_program(program);
+    let r = l + sizes[l as usize];
     put_plain(draft, (lead_to(positive(l)), lead_to(negative(l))))?;
-    place_program(draft, names, l, (positive(r), negative(r)), program)?;
-    place(draft, names, r, operand)
+    let next = (positive(r), negative(r));
+    place_program(draft, names, l, next, sizes, program)?;
+    place(draft, names, r, sizes, operand)
 }
 
 // the same of `[p]f`
@@ -214,11 +201,13 @@ fn place_square(
     draft: &mut Draft,
     names: &Names,
     at: u32,
+    sizes: &[u32],
     program: &Program,
     operand: &Term,
 ) -> Result<(), AllocError>
     requires names { (length names.now.props.keys < 2 ^ 32) × (length names.now.actions.keys < 2 ^ 32) }
     requires few { at + occurrences (pdl.Modal pdl.Square (program_of program.now) (formula_of operand.now)) ≤ 1000 }
+    requires sizes { measured.Measures sizes.now at (pdl.Modal pdl.Square (program_of program.now) (formula_of operand.now)) }
     ensures nodes { OnOk result (draft.new.nodes.items ≡ draft.old.nodes.items
         ++ listed.nodes_of names.now.props.keys names.now.actions.keys at
         (pdl.Modal pdl.Square (program_of program.now) (formula_of operand.now))) }
@@ -226,10 +215,11 @@ fn place_square(
         ++ listed.priorities_of (pdl.Modal pdl.Square (program_of program.now) (formula_of operand.now))) }
 {
     let l = at + 1;
-    let r = l + count_program(program);
+    let r = l + sizes[l as usize];
     put_plain(draft, (lead_to(negative(l)), lead_to(positive(l))))?;
-    place_program(draft, names, l, (negative(r), positive(r)), program)?;
-    place(draft, names, r, operand)
+    let next = (negative(r), positive(r));
+    place_program(draft, names, l, next, sizes, program)?;
+    place(draft, names, r, sizes, operand)
 }
 
 // the nodes and priorities of a program as the occurrence `at`, whose diamond and box go on at these nodes
@@ -239,10 +229,12 @@ fn place_program(
     names: &Names,
     at: u32,
     next: (u32, u32),
+    sizes: &[u32],
     program: &Program,
 ) -> Result<(), AllocError>
     requires names { (length names.now.props.keys < 2 ^ 32) × (length names.now.actions.keys < 2 ^ 32) }
     requires few { at + program_occurrences (program_of program.now) ≤ 1000 }
+    requires sizes { measured.ProgramMeasures sizes.now at (program_of program.now) }
     ensures nodes { OnOk result (draft.new.nodes.items ≡ draft.old.nodes.items
         ++ listed.program_nodes names.now.props.keys names.now.actions.keys at next.0 next.1 (program_of program.now)) }
     ensures priorities { OnOk result (draft.new.priorities.items ≡ draft.old.priorities.items
@@ -256,16 +248,16 @@ fn place_program(
             let every = Node::Square { action, to: next.1 };
             put_plain(draft, (some, every))
         }
-        Program::Seq(left, right) => place_sequence(draft, names, at, next, left, right),
-        Program::Alt(left, right) => place_choice(draft, names, at, next, left, right),
+        Program::Seq(left, right) => place_sequence(draft, names, at, next, sizes, left, right),
+        Program::Alt(left, right) => place_choice(draft, names, at, next, sizes, left, right),
         Program::Star(operand) => {
             draft.put((or(next.0, positive(l)), and(next.1, negative(l))), (3, 2))?;
             let again = (positive(at), negative(at));
-            place_program(draft, names, l, again, operand)
+            place_program(draft, names, l, again, sizes, operand)
         }
         Program::Test(formula) => {
             put_plain(draft, (and(positive(l), next.0), or(negative(l), next.1)))?;
-            place(draft, names, l, formula)
+            place(draft, names, l, sizes, formula)
         }
     }
 }
@@ -277,11 +269,13 @@ fn place_sequence(
     names: &Names,
     at: u32,
     next: (u32, u32),
+    sizes: &[u32],
     left: &Program,
     right: &Program,
 ) -> Result<(), AllocError>
     requires names { (length names.now.props.keys < 2 ^ 32) × (length names.now.actions.keys < 2 ^ 32) }
     requires few { at + program_occurrences (pdl.Seq (program_of left.now) (program_of right.now)) ≤ 1000 }
+    requires sizes { measured.ProgramMeasures sizes.now at (pdl.Seq (program_of left.now) (program_of right.now)) }
     ensures nodes { OnOk result (draft.new.nodes.items ≡ draft.old.nodes.items
         ++ listed.program_nodes names.now.props.keys names.now.actions.keys at next.0 next.1
         (pdl.Seq (program_of left.now) (program_of right.now))) }
@@ -289,10 +283,10 @@ fn place_sequence(
         ++ listed.program_priorities (pdl.Seq (program_of left.now) (program_of right.now))) }
 {
     let l = at + 1;
-    let r = l + count_program(left);
+    let r = l + sizes[l as usize];
     put_plain(draft, (lead_to(positive(l)), lead_to(negative(l))))?;
-    place_program(draft, names, l, (positive(r), negative(r)), left)?;
-    place_program(draft, names, r, next, right)
+    place_program(draft, names, l, (positive(r), negative(r)), sizes, left)?;
+    place_program(draft, names, r, next, sizes, right)
 }
 
 // the same of `p+q`
@@ -302,11 +296,13 @@ fn place_choice(
     names: &Names,
     at: u32,
     next: (u32, u32),
+    sizes: &[u32],
     left: &Program,
     right: &Program,
 ) -> Result<(), AllocError>
     requires names { (length names.now.props.keys < 2 ^ 32) × (length names.now.actions.keys < 2 ^ 32) }
     requires few { at + program_occurrences (pdl.Alt (program_of left.now) (program_of right.now)) ≤ 1000 }
+    requires sizes { measured.ProgramMeasures sizes.now at (pdl.Alt (program_of left.now) (program_of right.now)) }
     ensures nodes { OnOk result (draft.new.nodes.items ≡ draft.old.nodes.items
         ++ listed.program_nodes names.now.props.keys names.now.actions.keys at next.0 next.1
         (pdl.Alt (program_of left.now) (program_of right.now))) }
@@ -314,13 +310,13 @@ fn place_choice(
         ++ listed.program_priorities (pdl.Alt (program_of left.now) (program_of right.now))) }
 {
     let l = at + 1;
-    let r = l + count_program(left);
+    let r = l + sizes[l as usize];
     put_plain(
         draft,
         (or(positive(l), positive(r)), and(negative(l), negative(r))),
     )?;
-    place_program(draft, names, l, next, left)?;
-    place_program(draft, names, r, next, right)
+    place_program(draft, names, l, next, sizes, left)?;
+    place_program(draft, names, r, next, sizes, right)
 }
 
 // the lists of a term's graph
@@ -332,8 +328,9 @@ fn lists_of(alloc: Global, term: &Term) -> Result<Lists, NoMemory>
     ensures priorities { IfOk result (λ l. l.priorities.items ≡ listed.priorities_of (formula_of term.now)) }
 {
     let names = names_of(alloc, term)?;
+    let sizes = sizes_of(alloc, term)?;
     let mut draft = Draft::new(alloc);
-    place(&mut draft, &names, 0, term)?;
+    place(&mut draft, &names, 0, &sizes, term)?;
     let (props, actions) = names.into_lists(alloc)?;
     Ok(Lists {
         nodes: draft.nodes,
@@ -348,9 +345,8 @@ fn lists_of(alloc: Global, term: &Term) -> Result<Lists, NoMemory>
 /// # Errors
 /// `NoMemory` alone.
 ///
-/// Cost: names are looked up by their hashes, on average in the time that a name takes. Where an operand stands behind
-/// another one, the occurrences of the first are counted again, so the time is at most quadratic in the occurrences, of
-/// which there are 1,000 at most. Calls are nested at most twice as deep as the formula.
+/// Cost: linear in the formula on average, since names are looked up by their hashes. Calls are nested at most twice as
+/// deep as the formula, which has at most 1,000 occurrences.
 pub fn graph_of(alloc: Global, formula: &Formula, negated: bool) -> Result<ModalGraph, NoMemory>
     ensures graph { IfOk result (λ g. IsGraphOf g formula.now negated) }
     ensures agrees { IfOk result (λ g. HoldsWhere g (record { formula = formula.now; negated = negated })) }

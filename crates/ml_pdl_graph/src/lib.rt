@@ -8,5 +8,6 @@
 mod graph;
 pub mod laws;
 mod names;
+mod sizes;
 
 pub use graph::graph_of;
