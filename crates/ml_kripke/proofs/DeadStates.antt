@@ -6,7 +6,8 @@
 --   walk_stops, walk_ends     == it ends at an edge of a later state, and behind the last edge
 --   least_dead, all_go_on     == so it ends at the least such state of a structure, or behind all states
 --   total_or_dead             == the one or the other
-use Rattle.std.proofs.Common.{◌≡◌, ℕ, ◌+◌, ◌<◌, ◌≤◌, ◌==◌, Bool, true, false, cond, ◌&&◌, ◌||◌, nat_lt, List, [], ◌∷◌, length, drop, get_or, IsTrue, Option, Some, None, MatchOption, ◌↔◌, refl, sym, ap, ◌∙◌, subst, arith}
+use Rattle.std.proofs.Common.{◌≡◌, ℕ, ◌+◌, ◌<◌, ◌≤◌, ◌==◌, Bool, true, false, cond, ◌&&◌, ◌||◌, nat_lt, List, [], ◌∷◌, length, drop}
+use Rattle.std.proofs.Common.{get_or, IsTrue, Option, Some, None, MatchOption, ◌↔◌, refl, sym, ap, ◌∙◌, subst, arith}
 use Rattle.std.specs.List.{list_any, AllByRecursion}
 use Rattle.std.specs.List.Sorted.{IsStrictlySortedBy}
 use Rattle.std.specs.Option.{is_none}
@@ -62,7 +63,11 @@ by_source : (e f : Edge) → edge_cmp e f ≡ Less → e.source ≤ f.source
 by_source e f less = go (nat_lt e.source f.source) refl (e.source == f.source) refl less
   where
     go : (b : Bool) → nat_lt e.source f.source ≡ b → (c : Bool) → (e.source == f.source) ≡ c
-        → ordering_then (cond b Less (cond c Equal Greater)) (ordering_then (slice_cmp nat_cmp e.action f.action) (nat_cmp e.target f.target)) ≡ Less → e.source ≤ f.source
+        → ordering_then (cond b Less (cond c Equal Greater))
+        (ordering_then (slice_cmp nat_cmp e.action f.action) (nat_cmp e.target f.target))
+        ≡
+        Less
+        → e.source ≤ f.source
     go true is c at below = grind (arith, nat_tests)
     go false is true at below = grind (arith, nat_tests)
     go false is false at below = absurd (cc)

@@ -6,7 +6,8 @@
 --   length_rows     == there are as many rows as states
 --   row_pushed      == the same, of rows that are read as their items
 --   label_in_range  == a label's state is in range where all are
-use Rattle.std.proofs.Common.{◌≡◌, ◌==◌, ◌≢◌, ℕ, zero, suc, ◌+◌, ◌<◌, false, cond, List, [], ◌∷◌, ◌++◌, length, All, map, filter, replicate, get_or, set, refl, sym, ap, subst, ◌∙◌, ⊎_elim, arith, eq-eqb}
+use Rattle.std.proofs.Common.{◌≡◌, ◌==◌, ◌≢◌, ℕ, zero, suc, ◌+◌, ◌<◌, false, cond, List, [], ◌∷◌, ◌++◌, length, All, map}
+use Rattle.std.proofs.Common.{filter, replicate, get_or, set, refl, sym, ap, subst, ◌∙◌, ⊎_elim, arith, eq-eqb}
 use Rattle.std.specs.List.{range_with_len}
 use Rattle.std.proofs.lemmas.Bool.{cases_eq}
 use Rattle.std.proofs.lemmas.List.{append-nil, map-append, map-set, length-map, length-set, get_or-set_same, get_or-set_other, get_or-map, same_lists}

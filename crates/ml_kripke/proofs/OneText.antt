@@ -7,7 +7,8 @@
 --   model_plain                             == the lines of a model are plain
 --   lines_unique                            == the lines of two models are equal only where the models are
 --   one_text                                == so are the texts
-use Rattle.std.proofs.Common.{◌≡◌, ◌==◌, ℕ, ◌+◌, ◌%◌, ◌^◌, ◌<◌, Bool, true, false, ◌||◌, ◌&&◌, nat_le, List, [], ◌∷◌, ◌++◌, length, map, get_or, take, drop, All, codes, refl, sym, ap, subst, ◌∙◌, arith}
+use Rattle.std.proofs.Common.{◌≡◌, ◌==◌, ℕ, ◌+◌, ◌%◌, ◌^◌, ◌<◌, Bool, true, false, ◌||◌, ◌&&◌, nat_le, List, [], ◌∷◌, ◌++◌}
+use Rattle.std.proofs.Common.{length, map, get_or, take, drop, All, codes, refl, sym, ap, subst, ◌∙◌, arith}
 use Rattle.std.specs.Char.{is_ascii_alphabetic, is_ascii_alphanumeric}
 use Rattle.std.specs.Int.{is_in_range}
 use Rattle.std.specs.List.{list_all, enumerate_from}
@@ -61,7 +62,11 @@ both : (a b : Bool) → (a && b) ≡ true → (a ≡ true) × (b ≡ true)
 both true b e = (refl, e)
 both false b e = cc
 
-name_bytes_without : (c : ℕ) → is_name_byte c ≡ false → (bs : List ℕ) → list_all is_name_byte bs ≡ true → has c bs ≡ false
+name_bytes_without : (c : ℕ)
+    → is_name_byte c ≡ false
+    → (bs : List ℕ)
+    → list_all is_name_byte bs ≡ true
+    → has c bs ≡ false
 name_bytes_without c none [] all = refl
 name_bytes_without c none (b ∷ bs) all =
     let parts = both (is_name_byte b) (list_all is_name_byte bs) all in
@@ -129,7 +134,10 @@ plain-append (l ∷ ls) ks ok_ls ok_ks = (ok_ls.0, plain-append ls ks ok_ls.1 ok
 abbrev state_lines : ℕ → List (List (List ℕ)) → List Line
 state_lines s rows = map (λ labelled. state_line labelled.0 labelled.1) (enumerate_from s rows)
 
-states_plain : (s : ℕ) (rows : List (List (List ℕ))) → s + length rows < 2 ^ 64 → All (All IsName) rows → ArePlain (state_lines s rows)
+states_plain : (s : ℕ) (rows : List (List (List ℕ)))
+    → s + length rows < 2 ^ 64
+    → All (All IsName) rows
+    → ArePlain (state_lines s rows)
 states_plain s [] fits named = tt
 states_plain s (row ∷ rows) fits named = (
   state_plain s row (omega arith) (All-head (All IsName) row rows named),
@@ -142,7 +150,12 @@ EndsBelow n e = (e.source < n) × (e.target < n)
 abbrev HasAction : Edge → Type 0
 HasAction e = IsAction e.action
 
-edges_plain : (n : ℕ) → n < 2 ^ 64 → (edges : List Edge) → All (EndsBelow n) edges → All HasAction edges → ArePlain (map edge_line edges)
+edges_plain : (n : ℕ)
+    → n < 2 ^ 64
+    → (edges : List Edge)
+    → All (EndsBelow n) edges
+    → All HasAction edges
+    → ArePlain (map edge_line edges)
 edges_plain n fits [] below named = tt
 edges_plain n fits (e ∷ es) below named =
     let ends = All-head (EndsBelow n) e es below in (
@@ -181,9 +194,15 @@ state_lines_unique s (l ∷ ls) (k ∷ ks) e =
 
 edge_unique : (n : ℕ) → n < 2 ^ 64 → (e f : Edge) → EndsBelow n e → EndsBelow n f → edge_line e ≡ edge_line f → e ≡ f
 edge_unique n fits e f below_e below_f same =
-    let source = numbers_unique e.source f.source (omega (arith, below_e.0)) (omega (arith, below_f.0)) (ap (λ (line : Line). get_or line 1 []) same) in
+    let source =
+    numbers_unique e.source f.source (omega (arith, below_e.0)) (omega (arith, below_f.0))
+    (ap (λ (line : Line). get_or line 1 []) same)
+    in
     let action : e.action ≡ f.action = ap (λ (line : Line). get_or line 2 []) same in
-    let target = numbers_unique e.target f.target (omega (arith, below_e.1)) (omega (arith, below_f.1)) (ap (λ (line : Line). get_or line 3 []) same) in
+    let target =
+    numbers_unique e.target f.target (omega (arith, below_e.1)) (omega (arith, below_f.1))
+    (ap (λ (line : Line). get_or line 3 []) same)
+    in
     λ i. record { source = source i; action = action i; target = target i }
 
 edge_lines_unique : (n : ℕ) → n < 2 ^ 64 → (es fs : List Edge) → All (EndsBelow n) es → All (EndsBelow n) fs
@@ -200,7 +219,11 @@ edge_lines_unique n fits (x ∷ es) (f ∷ fs) below_es below_fs e =
 pub length-state_lines : (s : ℕ) (rows : List (List (List ℕ))) → length (state_lines s rows) ≡ length rows
 length-state_lines s rows = length-map (enumerate_from s rows) (λ labelled. state_line labelled.0 labelled.1) ∙ length-enumerate_from s rows
 
-lines_unique : (m n : Structure) (s t : ℕ) → IsWritten m s → IsWritten n t → model_lines m s ≡ model_lines n t → (m ≡ n) × (s ≡ t)
+lines_unique : (m n : Structure) (s t : ℕ)
+    → IsWritten m s
+    → IsWritten n t
+    → model_lines m s ≡ model_lines n t
+    → (m ≡ n) × (s ≡ t)
 lines_unique m n s t ok_m ok_n e = (λ i. record { states = states i; labels = labels i; edges = edges i }, start)
   where
     fits_m : m.states < 2 ^ 64

@@ -7,7 +7,8 @@
 --   words_none, words_at == a line without a blank is one word; up to its first blank it is its first word
 --   line_none  == a text without an LF has no line
 --   line_at    == a text up to its first LF is its first line
-use Rattle.std.proofs.Common.{◌≡◌, ℕ, ◌+◌, ◌-◌, ◌<◌, ◌≤◌, Bool, true, false, cond, not, nat_lt, List, [], ◌∷◌, Option, None, Some, length, map, get_or, take, drop, position, refl, sym, ap, subst, ◌∙◌, arith}
+use Rattle.std.proofs.Common.{◌≡◌, ℕ, ◌+◌, ◌-◌, ◌<◌, ◌≤◌, Bool, true, false, cond, not, nat_lt, List, [], ◌∷◌, Option, None}
+use Rattle.std.proofs.Common.{Some, length, map, get_or, take, drop, position, refl, sym, ap, subst, ◌∙◌, arith}
 use Rattle.std.specs.List.{slice_split, position_or_len, onto_first}
 use Rattle.std.proofs.lemmas.List.Splits.{slice_split_first, length-slice_split}
 use Rattle.std.proofs.lemmas.Bool.{false_from_ne_true}
@@ -43,7 +44,9 @@ module _ (p : ℕ → Bool) where
       shift_none (nat_lt (position_or_len p xs) (length xs)) (position_or_len p xs) none in
       cut_past xs (grind (arith, nat_tests))
 
-  pub cut_at : (xs : List ℕ) (i : ℕ) → position p xs ≡ Some i → (i < length xs) × (slice_split p xs ≡ take i xs ∷ slice_split p (drop (i + 1) xs))
+  pub cut_at : (xs : List ℕ) (i : ℕ)
+      → position p xs ≡ Some i
+      → (i < length xs) × (slice_split p xs ≡ take i xs ∷ slice_split p (drop (i + 1) xs))
   cut_at xs i some =
       let parts = shift_some (nat_lt (position_or_len p xs) (length xs)) (position_or_len p xs) i some in
       let below : position_or_len p xs < length xs = grind (arith, nat_tests) in (
@@ -68,7 +71,9 @@ byte_place b xs (Some i) (first, is) =
     (λ k below. false_from_ne_true (is_byte b (get_or xs k 0)) (first.before k (omega arith) below)) (λ below. is) in
     placed (length xs) i first.high ∙ ap (λ n. cond (nat_lt n (length xs)) (Some n) None) (sym at)
 
-pub fronts_more : (part : List ℕ) (parts : List (List ℕ)) → 0 < length parts → fronts (part ∷ parts) ≡ part ∷ fronts parts
+pub fronts_more : (part : List ℕ) (parts : List (List ℕ))
+    → 0 < length parts
+    → fronts (part ∷ parts) ≡ part ∷ fronts parts
 fronts_more part [] some = absurd (omega arith)
 fronts_more part (second ∷ parts) some = refl
 
@@ -79,7 +84,9 @@ last_more part (second ∷ parts) some = refl
 pub some_part : (p : ℕ → Bool) (xs : List ℕ) → 0 < length (slice_split p xs)
 some_part p xs = omega (arith, length-slice_split p xs)
 
-pub words_at : (line : List ℕ) (i : ℕ) → position is_blank line ≡ Some i → words_of line ≡ take i line ∷ words_of (drop (i + 1) line)
+pub words_at : (line : List ℕ) (i : ℕ)
+    → position is_blank line ≡ Some i
+    → words_of line ≡ take i line ∷ words_of (drop (i + 1) line)
 words_at line i some = (cut_at is_blank line i some).1
 
 pub words_none : (line : List ℕ) → position is_blank line ≡ None → words_of line ≡ line ∷ []

@@ -9,7 +9,8 @@
 --   some_left       == a vertex whose predecessor is still to be seen has a move left
 --   counted_turn, kept_turn == one turn of the loop over the predecessors
 --   all_room, all_up == the same for all predecessors of the vertex at a place
-use Rattle.std.proofs.Common.{ℕ, ◌≡◌, ◌+◌, ◌-◌, ◌<◌, ◌≤◌, ◌⊎◌, inl, inr, ⊎_elim, Bool, arith, List, [], ◌∷◌, length, get_or, set, take, drop, cond, nat_eq, subst, sym, ap, ◌∙◌, refl, eq-eqb, ne_eqb, add-one, get_or-set_same, get_or-set_other}
+use Rattle.std.proofs.Common.{ℕ, ◌≡◌, ◌+◌, ◌-◌, ◌<◌, ◌≤◌, ◌⊎◌, inl, inr, ⊎_elim, Bool, arith, List, [], ◌∷◌, length, get_or, set, take, drop}
+use Rattle.std.proofs.Common.{cond, nat_eq, subst, sym, ap, ◌∙◌, refl, eq-eqb, ne_eqb, add-one, get_or-set_same, get_or-set_other}
 use Rattle.std.proofs.Math.Seq.{drop-cons}
 use Rattle.std.specs.List.{count_by}
 use Rattle.std.proofs.lemmas.Bool.{cases_eq, cases_lt}

@@ -5,7 +5,8 @@
 --   from_none, from_more, from_all == one vertex more
 --   ChainsFrom       == the same of chains
 --   adds_more, chains_begin, from_turn, chains_end == the same steps, in chains
-use Rattle.std.proofs.Common.{ℕ, ◌≡◌, ◌+◌, ◌-◌, ◌<◌, ◌≤◌, ◌⊎◌, inl, inr, arith, List, [], ◌∷◌, ◌++◌, length, get_or, set, take, nat_eq, eq-eqb, ne_eqb, replicate, subst, subst₂, sym, ap, ◌∙◌, refl, get_or-set_same, get_or-set_other, length-set}
+use Rattle.std.proofs.Common.{ℕ, ◌≡◌, ◌+◌, ◌-◌, ◌<◌, ◌≤◌, ◌⊎◌, inl, inr, arith, List, [], ◌∷◌, ◌++◌, length, get_or, set, take, nat_eq, eq-eqb}
+use Rattle.std.proofs.Common.{ne_eqb, replicate, subst, subst₂, sym, ap, ◌∙◌, refl, get_or-set_same, get_or-set_other, length-set}
 use Rattle.std.proofs.lemmas.Bool.{cases_eq}
 use Rattle.std.proofs.lemmas.List.{get_or_past, get_or-replicate, length-replicate}
 use Rattle.std.proofs.lemmas.List.Sums.{count_by_more_yes, count_by_more_no}

@@ -7,7 +7,8 @@
 --   pass_first, pass_stays, pass_raised == a pass over arcs, step by step
 --   written           == what a vector holds after its items were written through a slice
 --   column_of         == attained numbers that no arc raises are the largest
-use Rattle.std.proofs.Common.{ℕ, ◌≡◌, ◌+◌, ◌-◌, ◌<◌, ◌≤◌, ◌⊎◌, inl, inr, arith, List, [], ◌∷◌, length, get_or, set, subst, sym, ap, ◌∙◌, Contains, length-set, get_or-set_same, get_or-set_other, true, false, Bool, cond, take, ◌++◌}
+use Rattle.std.proofs.Common.{ℕ, ◌≡◌, ◌+◌, ◌-◌, ◌<◌, ◌≤◌, ◌⊎◌, inl, inr, arith, List, [], ◌∷◌, length, get_or, set, subst, sym, ap, ◌∙◌}
+use Rattle.std.proofs.Common.{Contains, length-set, get_or-set_same, get_or-set_other, true, false, Bool, cond, take, ◌++◌}
 use Rattle.std.proofs.lemmas.Bool.{cases_eq}
 use Rattle.std.proofs.Math.Seq.{take-append_seam}
 use Rattle.std.proofs.lemmas.List.Elements.{All-contains}

@@ -10,7 +10,8 @@
 --   none_by_search == and a vertex that is not found has none
 --   cycle_push    == a walk from the end of an arc to its beginning, and the arc, are an even cycle
 --   no_back_more  == one arc more that has no walk back
-use Rattle.std.proofs.Common.{ℕ, zero, suc, ◌≡◌, ◌+◌, ◌%◌, ◌<◌, ◌≤◌, ◌⊎◌, inl, inr, arith, List, [], ◌∷◌, ◌++◌, length, get_or, set, subst, subst₂, sym, ap, ◌∙◌, refl, All, Contains, Bool, true, false, replicate, length-set, get_or-set_same, get_or-set_other}
+use Rattle.std.proofs.Common.{ℕ, zero, suc, ◌≡◌, ◌+◌, ◌%◌, ◌<◌, ◌≤◌, ◌⊎◌, inl, inr, arith, List, [], ◌∷◌, ◌++◌, length, get_or, set, subst, subst₂, sym}
+use Rattle.std.proofs.Common.{ap, ◌∙◌, refl, All, Contains, Bool, true, false, replicate, length-set, get_or-set_same, get_or-set_other}
 use Rattle.std.proofs.lemmas.Bool.{cases_eq, cases_lt, false≢true}
 use Rattle.std.proofs.lemmas.List.{get_or_append_left, get_or_push, length-append, length-replicate}
 use Rattle.std.proofs.lemmas.List.Elements.{All-contains, All-push, All-nil}

@@ -8,7 +8,8 @@
 --   longest_heights == the largest counts are heights
 --   heights_refuse  == where there are heights there is no even cycle
 --   longest_low     == the largest counts are at most the number of vertices
-use Rattle.std.proofs.Common.{ℕ, ◌≡◌, ◌+◌, ◌*◌, ◌/◌, ◌%◌, ◌<◌, ◌≤◌, ◌⊎◌, inl, inr, arith, List, [], ◌∷◌, ◌++◌, length, get_or, set, subst, subst₂, sym, ap, ◌∙◌, refl, All, Contains, length-set, get_or-set_same, get_or-set_other, take}
+use Rattle.std.proofs.Common.{ℕ, ◌≡◌, ◌+◌, ◌*◌, ◌/◌, ◌%◌, ◌<◌, ◌≤◌, ◌⊎◌, inl, inr, arith, List, [], ◌∷◌, ◌++◌, length, get_or, set, subst}
+use Rattle.std.proofs.Common.{subst₂, sym, ap, ◌∙◌, refl, All, Contains, length-set, get_or-set_same, get_or-set_other, take}
 use Rattle.std.proofs.lemmas.Bool.{cases_eq, cases_lt}
 use Rattle.std.proofs.lemmas.List.{get_or_default, get_or_past, get_or-map, length-map, length-append, get_or_append_left, get_or_push, map-set}
 use Rattle.std.specs.Global.{Vec}

@@ -4,7 +4,8 @@
 --   entry_counts, counts_entry == some entry passes a test exactly if the count is positive
 --   before_next            == in front of the next place lead those in front of this one, and those that lead to it
 --   before_same            == two rows with one part
-use Rattle.std.proofs.Common.{ℕ, zero, suc, ◌≡◌, ◌+◌, ◌<◌, ◌≤◌, ◌⊎◌, inl, inr, ⊎_elim, Bool, true, false, cond, arith, List, [], ◌∷◌, length, get_or, nat_eq, refl, ap, sym, ◌∙◌, zero-add, eq-eqb, ne_eqb, lt-ltb, le-ltb}
+use Rattle.std.proofs.Common.{ℕ, zero, suc, ◌≡◌, ◌+◌, ◌<◌, ◌≤◌, ◌⊎◌, inl, inr, ⊎_elim, Bool, true, false, cond, arith, List, [], ◌∷◌}
+use Rattle.std.proofs.Common.{length, get_or, nat_eq, refl, ap, sym, ◌∙◌, zero-add, eq-eqb, ne_eqb, lt-ltb, le-ltb}
 use Rattle.std.proofs.lemmas.Bool.{cases_eq, cases_lt, cases_Bool, cond-true, cond-false}
 use Rattle.std.proofs.lemmas.List.{get_or_default}
 use Rattle.std.proofs.lemmas.List.Sums.{sum_by-cons}

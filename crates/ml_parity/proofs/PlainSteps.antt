@@ -6,7 +6,8 @@
 --   least_lost_lists == where the opponent holds a move from the least vertex, both answers together serve
 --   fewer_live, no_more_live, first_falls, second_falls == the two games have fewer live vertices
 --   first_game, second_game  == what the program passed and got, said of the two games
-use Rattle.std.proofs.Common.{ℕ, ◌≡◌, ◌<◌, ◌≤◌, ◌⊎◌, inl, inr, ⊎_elim, arith, Bool, true, false, cond, List, length, get_or, set, subst, subst₂, sym, ap, ◌∙◌, get_or-set_same, get_or-set_other, length-set}
+use Rattle.std.proofs.Common.{ℕ, ◌≡◌, ◌<◌, ◌≤◌, ◌⊎◌, inl, inr, ⊎_elim, arith, Bool, true, false, cond, List, length, get_or}
+use Rattle.std.proofs.Common.{set, subst, subst₂, sym, ap, ◌∙◌, get_or-set_same, get_or-set_other, length-set}
 use Rattle.std.proofs.lemmas.Bool.{cases_eq, cases_lt, cond-true, cond-false, cond_both, false≢true}
 use Rattle.std.proofs.lemmas.List.{get_or_past}
 use Rattle.std.proofs.Math.Path.{fun_ext}

@@ -19,7 +19,8 @@ use Rattle.ml_graph.proofs.References.{prop_in_range}
 use Rattle.ml_sequent.specs.declared.clashes.ClashCause.{ClashCause}
 use Rattle.ml_sequent.specs.declared.clashes.ClashCause.TheVariants as cause
 use Rattle.ml_sequent.specs.Spread.{SpreadList, IsCause, IsFirstCause, IsPair, IsOddCycle, comes_before}
-use Rattle.ml_sequent.specs.private.Tests.{is_false, is_negative, negative_sign, negative_of, partner, partner_of, positive_prop, negative_prop, if_positive, if_negative, HasNegatives, IsFirstPair, IsFirstOddCycle}
+use Rattle.ml_sequent.specs.private.Tests.{is_false, is_negative, negative_sign, negative_of, partner, partner_of, positive_prop}
+use Rattle.ml_sequent.specs.private.Tests.{negative_prop, if_positive, if_negative, HasNegatives, IsFirstPair, IsFirstOddCycle}
 use Rattle.ml_sequent.proofs.Firsts.{FoundFirst, found_first, found_none, all_fail}
 
 -- ---- nodes by tests
@@ -126,7 +127,12 @@ module _ (g : Graph) (sp : SpreadList) (up : IsAscending sp.nodes) where
           with_negative : FoundFirst (λ k. is_negative p.prop (node_at g k)) sp.nodes q.1
               → IsFirstCause g sp (cause.Pair q.0 q.1)
           with_negative r = record {
-            is_cause = (f.member, r.member, record { prop = p.prop; positive = p.positive; negative = is_negative-is p.prop (node_at g q.1) r.passes });
+            is_cause = (
+              f.member,
+              r.member,
+              record
+                  { prop = p.prop; positive = p.positive; negative = is_negative-is p.prop (node_at g q.1) r.passes },
+            );
             first = first;
           }
             where
@@ -211,16 +217,19 @@ negative_only x p e = ap negative_prop (is_negative-is p x e)
 -- a test that fails adds nothing, one that passes adds the node
 module _ (g : Graph) (nodes : List ℕ) (i : ℕ) (low : i < length nodes) where
   of_more : (p : ℕ)
-      → negative_of g (take (i + 1) nodes) p ≡ option_or (negative_of g (take i nodes) p) (find (λ n. is_negative p (node_at g n)) (get_or nodes i 0 ∷ []))
+      → negative_of g (take (i + 1) nodes) p
+      ≡ option_or (negative_of g (take i nodes) p) (find (λ n. is_negative p (node_at g n)) (get_or nodes i 0 ∷ []))
   of_more p =
-      ap (find (λ n. is_negative p (node_at g n))) (take_more nodes i 0 low) ∙ find-append (λ n. is_negative p (node_at g n)) (take i nodes) (get_or nodes i 0 ∷ [])
+      ap (find (λ n. is_negative p (node_at g n))) (take_more nodes i 0 low)
+      ∙ find-append (λ n. is_negative p (node_at g n)) (take i nodes) (get_or nodes i 0 ∷ [])
 
   adds_none : (p : ℕ)
       → is_negative p (node_at g (get_or nodes i 0)) ≡ false
       → negative_of g (take (i + 1) nodes) p ≡ negative_of g (take i nodes) p
   adds_none p fails =
       of_more p
-      ∙ ap (option_or (negative_of g (take i nodes) p)) (cond-false (is_negative p (node_at g (get_or nodes i 0))) (Some (get_or nodes i 0)) None fails)
+      ∙ ap (option_or (negative_of g (take i nodes) p))
+      (cond-false (is_negative p (node_at g (get_or nodes i 0))) (Some (get_or nodes i 0)) None fails)
       ∙ or_none (negative_of g (take i nodes) p)
     where
       or_none : (o : Option ℕ) → option_or o None ≡ o
@@ -231,7 +240,8 @@ module _ (g : Graph) (nodes : List ℕ) (i : ℕ) (low : i < length nodes) where
       → negative_of g (take (i + 1) nodes) p ≡ option_or (negative_of g (take i nodes) p) (Some (get_or nodes i 0))
   adds_one p passes =
       of_more p
-      ∙ ap (option_or (negative_of g (take i nodes) p)) (cond-true (is_negative p (node_at g (get_or nodes i 0))) (Some (get_or nodes i 0)) None passes)
+      ∙ ap (option_or (negative_of g (take i nodes) p))
+      (cond-true (is_negative p (node_at g (get_or nodes i 0))) (Some (get_or nodes i 0)) None passes)
 
   -- a node that is no negative literal changes nothing
   pub negatives_same : (firsts : List (Option ℕ))
@@ -279,10 +289,14 @@ module _ (g : Graph) (nodes : List ℕ) (i : ℕ) (low : i < length nodes) where
       at p p_low (inl e) =
           ap (λ k. get_or firsts2 k None) e
           ∙ noted
-          ∙ ap (λ o. option_or o (Some (get_or nodes i 0))) (ap (λ k. get_or firsts k None) (sym e) ∙ has.firsts_are p p_low ∙ ap (negative_of g (take i nodes)) e)
+          ∙ ap (λ o. option_or o (Some (get_or nodes i 0)))
+          (ap (λ k. get_or firsts k None) (sym e) ∙ has.firsts_are p p_low ∙ ap (negative_of g (take i nodes)) e)
           ∙ sym (adds_one q here)
           ∙ ap (negative_of g (take (i + 1) nodes)) (sym e)
-      at p p_low (inr other) = others p other ∙ has.firsts_are p p_low ∙ sym (adds_none p (fails p (is_negative p (node_at g (get_or nodes i 0))) other refl))
+      at p p_low (inr other) =
+          others p other
+          ∙ has.firsts_are p p_low
+          ∙ sym (adds_none p (fails p (is_negative p (node_at g (get_or nodes i 0))) other refl))
 
 -- where there is no negative literal, no node has a partner
 pub no_partner : (g : Graph) (nodes : List ℕ)

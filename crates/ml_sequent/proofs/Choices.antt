@@ -5,7 +5,8 @@
 --   nodes_apart     == the nodes of a choice ascend, place by place
 --   side_found, side_missing == what a binary search for a node finds
 --   with_is_choice  == a choice with a side more is a choice
-use Rattle.std.proofs.Common.{ℕ, zero, suc, ◌≡◌, ◌<◌, ◌≤◌, ◌==◌, Bool, true, false, cond, nat_lt, List, [], ◌∷◌, ◌++◌, length, get_or, map, take, drop, Option, Some, None, refl, sym, ap, ◌∙◌, subst, arith, ◌⊎◌, inl, inr, ⊎_elim, Ok, Err}
+use Rattle.std.proofs.Common.{ℕ, zero, suc, ◌≡◌, ◌<◌, ◌≤◌, ◌==◌, Bool, true, false, cond, nat_lt, List, [], ◌∷◌, ◌++◌, length, get_or, map}
+use Rattle.std.proofs.Common.{take, drop, Option, Some, None, refl, sym, ap, ◌∙◌, subst, arith, ◌⊎◌, inl, inr, ⊎_elim, Ok, Err}
 use Rattle.std.proofs.lemmas.Bool.{cases_Bool, cases_lt, cond-true, cond-false}
 use Rattle.std.proofs.lemmas.Bool.Decides.{nat_tests}
 use Rattle.std.specs.List.Sorted.{IsBinarySearchResult, IsNonDecreasingBy}
@@ -54,13 +55,19 @@ nodes_with (p ∷ c) n s none = by_test (cases_Bool (nat_lt n p.0)) (λ (later :
         → map (λ q. q.0) (with_side (p ∷ c) n s) ≡ insert_once n (map (λ q. q.0) (p ∷ c))
     by_test (inl less) rest =
         ap (map (λ (q : ℕ × Side). q.0)) (cond-true (nat_lt n p.0) ((n, s) ∷ p ∷ c) (p ∷ with_side c n s) less)
-        ∙ sym (cond-true (nat_lt n p.0) (n ∷ (p.0 ∷ map (λ (q : ℕ × Side). q.0) c)) (cond (n == p.0) (p.0 ∷ map (λ (q : ℕ × Side). q.0) c) (p.0 ∷ insert_once n (map (λ (q : ℕ × Side). q.0) c))) less)
+        ∙ sym
+        (cond-true (nat_lt n p.0) (n ∷ (p.0 ∷ map (λ (q : ℕ × Side). q.0) c))
+        (cond (n == p.0) (p.0 ∷ map (λ (q : ℕ × Side). q.0) c) (p.0 ∷ insert_once n (map (λ (q : ℕ × Side). q.0) c)))
+        less)
     by_test (inr more) rest =
         let unequal = here.0 in
         let other : (n == p.0) ≡ false = grind (arith, nat_tests) in
         ap (map (λ (q : ℕ × Side). q.0)) (cond-false (nat_lt n p.0) ((n, s) ∷ p ∷ c) (p ∷ with_side c n s) more)
         ∙ ap (λ xs. p.0 ∷ xs) (rest here.1)
-        ∙ sym (cond-false (nat_lt n p.0) (n ∷ (p.0 ∷ map (λ (q : ℕ × Side). q.0) c)) (cond (n == p.0) (p.0 ∷ map (λ (q : ℕ × Side). q.0) c) (p.0 ∷ insert_once n (map (λ (q : ℕ × Side). q.0) c))) more
+        ∙ sym
+        (cond-false (nat_lt n p.0) (n ∷ (p.0 ∷ map (λ (q : ℕ × Side). q.0) c))
+        (cond (n == p.0) (p.0 ∷ map (λ (q : ℕ × Side). q.0) c) (p.0 ∷ insert_once n (map (λ (q : ℕ × Side). q.0) c)))
+        more
         ∙ cond-false (n == p.0) (p.0 ∷ map (λ (q : ℕ × Side). q.0) c) (p.0 ∷ insert_once n (map (λ (q : ℕ × Side). q.0) c)) other)
 
 -- a choice with a side more is a choice
@@ -140,6 +147,8 @@ module _ (c : List (ℕ × Side)) (is : IsChoice c) (n : ℕ) where
 
   pub side_missing : (i : ℕ) → IsBinarySearchResult (λ p. nat_cmp p.0 n) c (Err i) → None ≡ side_of c n
   side_missing i parted = side_none c n (0, Left) (λ k low e. ⊎_elim
-      (λ (less : k < i). let lower = ranked (get_or c k (0, Left)).0 n _ (sym ((parted rises).0 k (0, Left) (omega arith) less)) in absurd (omega arith))
+      (λ (less : k < i).
+      let lower = ranked (get_or c k (0, Left)).0 n _ (sym ((parted rises).0 k (0, Left) (omega arith) less)) in
+      absurd (omega arith))
       (λ (more : i ≤ k). let higher = ranked (get_or c k (0, Left)).0 n _ (sym ((parted rises).1 k (0, Left) more low)) in absurd (omega arith))
       (cases_lt k i))

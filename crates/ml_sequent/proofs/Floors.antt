@@ -44,7 +44,9 @@ above_two floor v w = filter-append (λ (u : Visit). nat_le floor u.rank) (v ∷
 
 none_left_out : (vs : List Visit) → above 0 vs ≡ vs
 none_left_out [] = refl
-none_left_out (v ∷ vs) = cond-true (nat_le 0 v.rank) (v ∷ above 0 vs) (above 0 vs) (le_test 0 v.rank (omega arith)) ∙ ap (λ xs. v ∷ xs) (none_left_out vs)
+none_left_out (v ∷ vs) =
+    cond-true (nat_le 0 v.rank) (v ∷ above 0 vs) (above 0 vs) (le_test 0 v.rank (omega arith))
+    ∙ ap (λ xs. v ∷ xs) (none_left_out vs)
 
 -- a search with the floor 0 goes on everywhere
 pub all_above : (g : Graph) (c : List (ℕ × Side)) (ranks : List ℕ) → behind g c ranks 0 ≡ onward g c ranks
@@ -70,7 +72,9 @@ module _ (g : Graph) (c : List (ℕ × Side)) (ranks : List ℕ) (floor : ℕ) w
   way_above v w high (ends _) = ends v
   way_above v w high (moves _ u h way) =
       let below = way_falls u w way in
-      moves v u (member-filter (λ (x : Visit). nat_le floor x.rank) u (onward g c ranks v) h (le_test floor u.rank (omega arith))) (way_above u w high way)
+      moves v u
+      (member-filter (λ (x : Visit). nat_le floor x.rank) u (onward g c ranks v) h (le_test floor u.rank (omega arith)))
+      (way_above u w high way)
 
 -- a search behind a node that comes back to it shows that it is on a cycle, and the other way round
 pub on_cycle : (g : Graph) (c : List (ℕ × Side)) (levels : LevelList)
@@ -82,11 +86,13 @@ pub on_cycle : (g : Graph) (c : List (ℕ × Side)) (levels : LevelList)
     → IsMember (ranked levels.ranks n) found ↔ OnCycle g c n
 on_cycle g c levels ok is n found low has = (
   (λ h. of_reached ((has (ranked levels.ranks n)).0 h)),
-  (λ o. (has (ranked levels.ranks n)).1 (of_cycle o (walks.ranked g c levels ok is o.next o.lowest n (children_low g c ok n o.next low o.child) o.walk))),
+  (λ o. (has (ranked levels.ranks n)).1
+      (of_cycle o (walks.ranked g c levels ok is o.next o.lowest n (children_low g c ok n o.next low o.child) o.walk))),
 )
   where
     of_child :
-        (r : IsReached (behind g c levels.ranks (get_or levels.ranks n 0)) (behind g c levels.ranks (get_or levels.ranks n 0) (ranked levels.ranks n)) (ranked levels.ranks n))
+        (r : IsReached (behind g c levels.ranks (get_or levels.ranks n 0))
+        (behind g c levels.ranks (get_or levels.ranks n 0) (ranked levels.ranks n)) (ranked levels.ranks n))
         → get_or levels.ranks n 0 ≤ r.from.rank
         → Image (onto levels.ranks (get_or levels.ranks n 0)) r.from (children g c n)
         → OnCycle g c n
@@ -95,7 +101,10 @@ on_cycle g c levels ok is n found low has = (
         let rank_is : r.from.rank ≡ min (get_or levels.ranks n 0) (get_or levels.ranks i.from 0) = ap (λ (x : Visit). x.rank) i.holds in
         let child : IsMember r.from.node (children g c n) = subst (λ k. IsMember k (children g c n)) (sym node_is) i.member in
         let ranks_are : get_or levels.ranks r.from.node 0 ≡ get_or levels.ranks i.from 0 = ap (λ k. get_or levels.ranks k 0) node_is in
-        let t = walks.traced g c levels ok is r.from (ranked levels.ranks n) (children_low g c ok n r.from.node low child) (omega arith) (way_onward g c levels.ranks (get_or levels.ranks n 0) r.from (ranked levels.ranks n) r.way) in
+        let t =
+        walks.traced g c levels ok is r.from (ranked levels.ranks n) (children_low g c ok n r.from.node low child)
+        (omega arith) (way_onward g c levels.ranks (get_or levels.ranks n 0) r.from (ranked levels.ranks n) r.way)
+        in
         let order = no_later levels.priorities (get_or levels.ranks n 0) t.rank is.ascends (omega (arith, t.holds)) t.low in
         record {
           next = r.from.node;
@@ -105,26 +114,40 @@ on_cycle g c levels ok is n found low has = (
           high = omega (arith, is.right n low);
         }
 
-    of_reached : IsReached (behind g c levels.ranks (get_or levels.ranks n 0)) (behind g c levels.ranks (get_or levels.ranks n 0) (ranked levels.ranks n)) (ranked levels.ranks n)
+    of_reached : IsReached (behind g c levels.ranks (get_or levels.ranks n 0))
+        (behind g c levels.ranks (get_or levels.ranks n 0) (ranked levels.ranks n)) (ranked levels.ranks n)
         → OnCycle g c n
     of_reached r =
-        let kept = member-filter_from (λ (x : Visit). nat_le (get_or levels.ranks n 0) x.rank) r.from (onward g c levels.ranks (ranked levels.ranks n)) r.member in
+        let kept =
+        member-filter_from (λ (x : Visit). nat_le (get_or levels.ranks n 0) x.rank) r.from
+        (onward g c levels.ranks (ranked levels.ranks n)) r.member
+        in
         of_child r (le_tested (get_or levels.ranks n 0) r.from.rank kept.1)
         (member-map_from (onto levels.ranks (get_or levels.ranks n 0)) r.from (children g c n) kept.0)
 
     of_cycle : (o : OnCycle g c n) → walks.Ranked g c levels ok is o.next o.lowest n
-        → IsReached (behind g c levels.ranks (get_or levels.ranks n 0)) (behind g c levels.ranks (get_or levels.ranks n 0) (ranked levels.ranks n)) (ranked levels.ranks n)
+        → IsReached (behind g c levels.ranks (get_or levels.ranks n 0))
+        (behind g c levels.ranks (get_or levels.ranks n 0) (ranked levels.ranks n)) (ranked levels.ranks n)
     of_cycle o r =
         let floor = get_or levels.ranks n 0 in
         let next_low = children_low g c ok n o.next low o.child in
         let below = walk_low g c o.next o.lowest n o.walk in
-        let up = level_order levels.priorities floor (get_or levels.ranks o.next 0) is.ascends (is.low n low) (is.low o.next next_low) (omega (arith, is.right n low, is.right o.next next_low, o.high)) in
+        let up =
+        level_order levels.priorities floor (get_or levels.ranks o.next 0) is.ascends (is.low n low)
+        (is.low o.next next_low) (omega (arith, is.right n low, is.right o.next next_low, o.high))
+        in
         let high = level_order levels.priorities floor r.rank is.ascends (is.low n low) r.low (omega (arith, is.right n low, r.holds, o.high)) in
         let start : Visit = onto levels.ranks floor o.next in
         let same : min (min floor (get_or levels.ranks o.next 0)) r.rank ≡ floor = omega arith in
-        let way = subst (λ q. Leads (onward g c levels.ranks) start (record { node = n; rank = q })) same (r.way (min floor (get_or levels.ranks o.next 0)) (omega arith)) in
+        let way =
+        subst (λ q. Leads (onward g c levels.ranks) start (record { node = n; rank = q })) same
+        (r.way (min floor (get_or levels.ranks o.next 0)) (omega arith))
+        in
         record {
           from = start;
-          member = member-filter (λ (x : Visit). nat_le floor x.rank) start (onward g c levels.ranks (ranked levels.ranks n)) (member-map (onto levels.ranks floor) o.next (children g c n) o.child) (le_test floor start.rank (omega arith));
+          member =
+              member-filter (λ (x : Visit). nat_le floor x.rank) start (onward g c levels.ranks (ranked levels.ranks n))
+              (member-map (onto levels.ranks floor) o.next (children g c n) o.child)
+              (le_test floor start.rank (omega arith));
           way = way_above g c levels.ranks floor start (ranked levels.ranks n) (omega arith) way;
         }

@@ -2,7 +2,8 @@
 --
 --   ranks_found    == what such a search found has rank 0
 --   marked_found, nodes_found == the marked nodes are the nodes of what was found, ascending
-use Rattle.std.proofs.Common.{ℕ, zero, suc, ◌≡◌, ◌*◌, ◌<◌, ◌≤◌, ◌⊎◌, inl, inr, ⊎_elim, min, Bool, true, false, cond, List, [], ◌∷◌, ◌++◌, length, get_or, map, All, refl, sym, ap, ◌∙◌, subst, arith, append-nil, mul-le-mul_left}
+use Rattle.std.proofs.Common.{ℕ, zero, suc, ◌≡◌, ◌*◌, ◌<◌, ◌≤◌, ◌⊎◌, inl, inr, ⊎_elim, min, Bool, true, false, cond, List, [], ◌∷◌, ◌++◌}
+use Rattle.std.proofs.Common.{length, get_or, map, All, refl, sym, ap, ◌∙◌, subst, arith, append-nil, mul-le-mul_left}
 use Rattle.std.proofs.lemmas.Bool.{cases_eq, cases_lt}
 use Rattle.ml_lists.specs.Ascending.{IsAscending, ascending}
 use Rattle.ml_lists.specs.Member.{IsMember}

@@ -19,7 +19,8 @@ use Rattle.ml_sequent.specs.declared.parts.Stage.{Stage}
 use Rattle.ml_sequent.specs.declared.parts.Stage.TheVariants.{New, On, Done}
 use Rattle.ml_sequent.specs.LocalWalk.{LocalWalk, stays, goes, children}
 use Rattle.ml_sequent.specs.Spread.{OnCycle}
-use Rattle.ml_sequent.specs.private.ConnectedParts.{IsChild, Reaches, WalkList, stage_of, IsFramed, AreTogether, Led, is_done, is_on, waits, looked_at, Owner, IsUnder, shut, IsLeast, IsLoop, IsDoneLoop, IsCyclic, IsClosedIn, offered}
+use Rattle.ml_sequent.specs.private.ConnectedParts.{IsChild, Reaches, WalkList, stage_of, IsFramed, AreTogether, Led, is_done, is_on, waits, looked_at}
+use Rattle.ml_sequent.specs.private.ConnectedParts.{Owner, IsUnder, shut, IsLeast, IsLoop, IsDoneLoop, IsCyclic, IsClosedIn, offered}
 use Rattle.ml_sequent.proofs.FrameLists.{all_done_here, all_done_other, all_done_length}
 use Rattle.ml_sequent.proofs.LeastLoops.{same_least, offered_least}
 use Rattle.ml_sequent.proofs.LocalWalks.{walk_low, walk_joined}
@@ -130,10 +131,16 @@ module _ (g : Graph) (c : List (ℕ × Side)) (d : ℕ) (N : List ℕ) (set_is :
       from (looked_at none) = absurd none
 
   close_inside : (p : ℕ) → p < f.first
-      → IsMember (get_or (take f.first x.path) p 0) N × (d ≤ priority_at g (get_or (take f.first x.path) p 0)) × (stage_of (shut f rest x) (get_or (take f.first x.path) p 0) ≡ On p)
+      → IsMember (get_or (take f.first x.path) p 0) N
+      × (d ≤ priority_at g (get_or (take f.first x.path) p 0))
+      × (stage_of (shut f rest x) (get_or (take f.first x.path) p 0) ≡ On p)
   close_inside p low =
       let old = is.inside p (omega (arith, begins)) in
-      let stage = kept (get_or x.path p 0) (not_dropped (get_or x.path p 0) (On p) old.2 (λ q same behind. let at = same_place p q same in omega arith)) ∙ old.2 in
+      let stage =
+      kept (get_or x.path p 0)
+      (not_dropped (get_or x.path p 0) (On p) old.2 (λ q same behind. let at = same_place p q same in omega arith))
+      ∙ old.2
+      in
       subst (λ n. IsMember n N × (d ≤ priority_at g n) × (stage_of (shut f rest x) n ≡ On p)) (sym (earlier p low)) (old.0, old.1, stage)
 
   close_placed : (n p : ℕ) → IsMember n N → stage_of (shut f rest x) n ≡ On p
@@ -188,7 +195,11 @@ module _ (g : Graph) (c : List (ℕ × Side)) (d : ℕ) (N : List ℕ) (set_is :
       from (inl same) = let first : h.first ≡ f.first = ap (λ (e : Frame). e.first) same in inr (omega arith)
       from (inr later) = together h later
 
-  close_closed : (n m : ℕ) → IsMember n N → stage_of (shut f rest x) n ≡ Done → IsChild g c d n m → stage_of (shut f rest x) m ≡ Done
+  close_closed : (n m : ℕ)
+      → IsMember n N
+      → stage_of (shut f rest x) n ≡ Done
+      → IsChild g c d n m
+      → stage_of (shut f rest x) m ≡ Done
   close_closed n m n_in ended child = from (dropped_or n n_in)
     where
       from : Dropped n ⊎ (Dropped n → ⊥) → stage_of (shut f rest x) m ≡ Done
@@ -248,14 +259,19 @@ module _ (g : Graph) (c : List (ℕ × Side)) (d : ℕ) (N : List ℕ) (set_is :
 
       from : Led x [] f loop.1.next → ⊥
       from (is_done e) =
-          let ended = stays_done loop.1.next loop.1.lowest n loop.1.walk (omega (arith, loop.0, loop.1.high)) (set_is.closed n loop.1.next n_in loop.1.child) e in
+          let ended =
+          stays_done loop.1.next loop.1.lowest n loop.1.walk (omega (arith, loop.0, loop.1.high))
+          (set_is.closed n loop.1.next n_in loop.1.child) e
+          in
           let both = sym ended ∙ dropped_on n at in
           absurd (cc)
       from (is_on q e behind) =
           let place = is.placed loop.1.next q (set_is.closed n loop.1.next n_in loop.1.child) e in
           let same : q ≡ f.first = omega (arith, place.0) in
           let next_is : loop.1.next ≡ get_or x.path f.first 0 = sym place.1 ∙ ap (λ k. get_or x.path k 0) same in
-          none (subst (λ k. IsMember k (children g c (get_or x.path f.first 0))) next_is (subst (λ k. IsMember loop.1.next (children g c k)) here loop.1.child))
+          none
+          (subst (λ k. IsMember k (children g c (get_or x.path f.first 0))) next_is
+          (subst (λ k. IsMember loop.1.next (children g c k)) here loop.1.child))
       from (waits k after k_low e) = absurd (omega arith)
       from (looked_at none_here) = absurd none_here
 
@@ -331,15 +347,20 @@ module _ (g : Graph) (c : List (ℕ × Side)) (d : ℕ) (N : List ℕ) (set_is :
       (IsDoneLoop g c d N (shut f rest x)) (offered g d (drop f.first x.path) best) to from
       (offered_least g d (drop f.first x.path) (IsDoneLoop g c d N x) best is_least)
     where
-      to : (n : ℕ) → IsDoneLoop g c d N x n ⊎ (IsMember n (drop f.first x.path) × (priority_at g n ≡ d)) → IsDoneLoop g c d N (shut f rest x) n
+      to : (n : ℕ)
+          → IsDoneLoop g c d N x n ⊎ (IsMember n (drop f.first x.path) × (priority_at g n ≡ d))
+          → IsDoneLoop g c d N (shut f rest x) n
       to n (inl old) = (old.0, done_kept n old.1, old.2)
       to n (inr new) =
           let at = from_drop n new.0 in (dropped_member n at, dropped_done n at, (new.1, all_on_cycle cyclic n at new.1))
 
-      from : (n : ℕ) → IsDoneLoop g c d N (shut f rest x) n → IsDoneLoop g c d N x n ⊎ (IsMember n (drop f.first x.path) × (priority_at g n ≡ d))
+      from : (n : ℕ)
+          → IsDoneLoop g c d N (shut f rest x) n
+          → IsDoneLoop g c d N x n ⊎ (IsMember n (drop f.first x.path) × (priority_at g n ≡ d))
       from n loop = by_drop (dropped_or n loop.0)
         where
-          by_drop : Dropped n ⊎ (Dropped n → ⊥) → IsDoneLoop g c d N x n ⊎ (IsMember n (drop f.first x.path) × (priority_at g n ≡ d))
+          by_drop : Dropped n ⊎ (Dropped n → ⊥)
+              → IsDoneLoop g c d N x n ⊎ (IsMember n (drop f.first x.path) × (priority_at g n ≡ d))
           by_drop (inl at) = inr (in_drop n at, loop.2.0)
           by_drop (inr other) = inl (loop.0, sym (kept n other) ∙ loop.1, loop.2)
 
@@ -360,7 +381,9 @@ module _ (g : Graph) (c : List (ℕ × Side)) (d : ℕ) (N : List ℕ) (set_is :
       no_child : IsMember (get_or x.path f.first 0) (children g c (get_or x.path f.first 0)) → ⊥
       no_child m =
           let end : f.first ≡ f.first + 0 = omega arith in
-          let here : get_or x.path f.first 0 ≡ get_or (drop f.first x.path) 0 0 = ap (λ k. get_or x.path k 0) end ∙ sym (get_or-drop f.first x.path 0 0) in
+          let here : get_or x.path f.first 0 ≡ get_or (drop f.first x.path) 0 0 =
+          ap (λ k. get_or x.path k 0) end ∙ sym (get_or-drop f.first x.path 0 0)
+          in
           plain (inr (subst (λ k. IsMember k (children g c k)) here m))
 
       from : (n : ℕ) → IsDoneLoop g c d N (shut f rest x) n → IsDoneLoop g c d N x n

@@ -9,7 +9,8 @@
 --   all_met, least_of_all == where nothing is left on the path, what was met is done, and the least loop is known
 --   fit_of           == a walk that is under way is fit for a step
 --   on_ok            == what a call that went well says, and what follows from it
-use Rattle.std.proofs.Common.{ℕ, ◌≡◌, ◌+◌, ◌<◌, ◌≤◌, ◌⊎◌, inl, inr, Bool, true, false, nat_lt, nat_le, List, [], ◌∷◌, ◌++◌, length, filter, get_or, set, drop, Option, Some, None, refl, sym, ap, ◌∙◌, subst, arith, length-append, Result, Ok, Err, OnOk}
+use Rattle.std.proofs.Common.{ℕ, ◌≡◌, ◌+◌, ◌<◌, ◌≤◌, ◌⊎◌, inl, inr, Bool, true, false, nat_lt, nat_le, List, [], ◌∷◌, ◌++◌, length, filter, get_or}
+use Rattle.std.proofs.Common.{set, drop, Option, Some, None, refl, sym, ap, ◌∙◌, subst, arith, length-append, Result, Ok, Err, OnOk}
 use Rattle.std.proofs.lemmas.Bool.{cases_Bool, cases_eq, cond-true, cond-false}
 use Rattle.std.proofs.lemmas.List.{get_or-set_same, get_or-set_other, get_or-drop, length-drop, length-set}
 use Rattle.ml_lists.specs.Member.{IsMember}
@@ -24,7 +25,8 @@ use Rattle.ml_sequent.specs.declared.parts.Stage.{Stage}
 use Rattle.ml_sequent.specs.declared.parts.Stage.TheVariants.{New, On, Done}
 use Rattle.ml_sequent.specs.Choice.{side_of}
 use Rattle.ml_sequent.specs.LocalWalk.{children, children_of, chosen_child}
-use Rattle.ml_sequent.specs.private.ConnectedParts.{WalkList, stage_of, IsUnder, high_children, entered, folded, gone, gone_by, all_done, shut, is_new, left_new, IsFramed, IsLeast, IsLoop, IsDoneLoop, IsClosedIn, IsCyclic, IsFit, IsPart, WentOn, Began, offered}
+use Rattle.ml_sequent.specs.private.ConnectedParts.{WalkList, stage_of, IsUnder, high_children, entered, folded, gone, gone_by, all_done, shut, is_new, left_new}
+use Rattle.ml_sequent.specs.private.ConnectedParts.{IsFramed, IsLeast, IsLoop, IsDoneLoop, IsClosedIn, IsCyclic, IsFit, IsPart, WentOn, Began, offered}
 use Rattle.ml_sequent.proofs.FrameLists.{all_done_length}
 use Rattle.ml_sequent.proofs.LeastLoops.{same_least}
 use Rattle.ml_sequent.proofs.PathCloses.{close_keeps, close_fresh, close_cyclic, close_plain}
@@ -50,7 +52,9 @@ few_pass : (test : ℕ → Bool) (xs : List ℕ) → length (filter test xs) ≤
 few_pass test [] = omega arith
 few_pass test (x ∷ xs) = by_test (cases_Bool (test x)) (few_pass test xs)
   where
-    by_test : (test x ≡ true) ⊎ (test x ≡ false) → length (filter test xs) ≤ length xs → length (filter test (x ∷ xs)) ≤ length (x ∷ xs)
+    by_test : (test x ≡ true) ⊎ (test x ≡ false)
+        → length (filter test xs) ≤ length xs
+        → length (filter test (x ∷ xs)) ≤ length (x ∷ xs)
     by_test (inl passes) rest = let e = ap length (cond-true (test x) (x ∷ filter test xs) (filter test xs) passes) in omega arith
     by_test (inr fails) rest = let e = ap length (cond-false (test x) (x ∷ filter test xs) (filter test xs) fails) in omega arith
 
@@ -64,7 +68,9 @@ pub folded_length : (w : ℕ) (frames : List Frame) → length (folded w frames)
 folded_length w [] = omega arith
 folded_length w (f ∷ fs) = by_test (cases_Bool (nat_lt w f.first)) (folded_length w fs)
   where
-    by_test : (nat_lt w f.first ≡ true) ⊎ (nat_lt w f.first ≡ false) → length (folded w fs) ≤ length fs → length (folded w (f ∷ fs)) ≤ length (f ∷ fs)
+    by_test : (nat_lt w f.first ≡ true) ⊎ (nat_lt w f.first ≡ false)
+        → length (folded w fs) ≤ length fs
+        → length (folded w (f ∷ fs)) ≤ length (f ∷ fs)
     by_test (inl behind) rest = let e = ap length (cond-true (nat_lt w f.first) (folded w fs) (f ∷ fs) behind) in omega arith
     by_test (inr before) rest = let e = ap length (cond-false (nat_lt w f.first) (folded w fs) (f ∷ fs) before) in omega arith
 
@@ -106,7 +112,10 @@ left_falls stages n p low new =
     on_old : On p ≡ New → ⊥
     on_old e = cc
 
-    stronger : (k : ℕ) → k < length stages → is_new (get_or (set stages n (On p)) k New) ≡ true → is_new (get_or stages k New) ≡ true
+    stronger : (k : ℕ)
+        → k < length stages
+        → is_new (get_or (set stages n (On p)) k New) ≡ true
+        → is_new (get_or stages k New) ≡ true
     stronger k k_low h = ap is_new (set_fresh stages n k (On p) on_old low (new_is (get_or (set stages n (On p)) k New) h)).1
 
 -- no more are new where some are done
@@ -118,7 +127,10 @@ left_kept ns stages low =
     let same = ap (λ k. left_new k (all_done ns stages)) (all_done_length ns stages) in
     omega arith
   where
-    stronger : (k : ℕ) → k < length stages → is_new (get_or (all_done ns stages) k New) ≡ true → is_new (get_or stages k New) ≡ true
+    stronger : (k : ℕ)
+        → k < length stages
+        → is_new (get_or (all_done ns stages) k New) ≡ true
+        → is_new (get_or stages k New) ≡ true
     stronger k k_low h = ap is_new (all_done_fresh ns stages k low (new_is (get_or (all_done ns stages) k New) h))
 
 module _ (g : Graph) (c : List (ℕ × Side)) (d : ℕ) (N : List ℕ) (set_is : IsClosedIn g c N) where
@@ -171,7 +183,9 @@ module _ (g : Graph) (c : List (ℕ × Side)) (d : ℕ) (N : List ℕ) (set_is :
       t : Taken g c d N w x m
       t = taken g c d N w x m part.under e last
 
-      from_node : IsMember (get_or x.path t.coming.place 0) N × (d ≤ priority_at g (get_or x.path t.coming.place 0)) × (stage_of x (get_or x.path t.coming.place 0) ≡ On t.coming.place)
+      from_node : IsMember (get_or x.path t.coming.place 0) N
+          × (d ≤ priority_at g (get_or x.path t.coming.place 0))
+          × (stage_of x (get_or x.path t.coming.place 0) ≡ On t.coming.place)
       from_node = part.under.inside t.coming.place t.coming.low
 
       m_in : IsMember m N
@@ -182,38 +196,53 @@ module _ (g : Graph) (c : List (ℕ × Side)) (d : ℕ) (N : List ℕ) (set_is :
 
       by_stage : (s : Stage) → stage_of x m ≡ s
           → WentOn g c d N x (gone_by (stage_of x m) g c d m (record { path = x.path; waiting = w; frames = x.frames; stages = x.stages })) best
-      by_stage New new = subst (λ s. WentOn g c d N x (gone_by s g c d m (record { path = x.path; waiting = w; frames = x.frames; stages = x.stages })) best) (sym new) (record {
-        part = record {
-          under = enter_keeps g c d N (record { path = x.path; waiting = w; frames = x.frames; stages = x.stages }) m m_in t.coming.child.1 (set_is.low m m_in) t.under new
-              (coming_reach g c d N (m ∷ []) (record { path = x.path; waiting = w; frames = x.frames; stages = x.stages }) m t.under t.coming);
-          least = enter_least (record { path = x.path; waiting = w; frames = x.frames; stages = x.stages }) m best m_low new part.least;
-        };
-        falls = omega (arith, long, left_falls x.stages m (length x.path) m_low new, few_children g c d m, length-append w (high_children g c d m));
-        fresh = λ n n_in still. (enter_fresh (record { path = x.path; waiting = w; frames = x.frames; stages = x.stages }) m n m_low still).1;
-      })
-      by_stage (On p) on = subst (λ s. WentOn g c d N x (gone_by s g c d m (record { path = x.path; waiting = w; frames = x.frames; stages = x.stages })) best) (sym on) (record {
-        part = record {
-          under = fold_keeps g c d N (record { path = x.path; waiting = w; frames = x.frames; stages = x.stages }) m p m_in t.under t.coming on;
-          least = part.least;
-        };
-        falls = omega (arith, long, folded_length p x.frames);
-        fresh = λ n n_in still. still;
-      })
-      by_stage Done ended = subst (λ s. WentOn g c d N x (gone_by s g c d m (record { path = x.path; waiting = w; frames = x.frames; stages = x.stages })) best) (sym ended) (record {
-        part = record {
-          under = skipped g c d N (record { path = x.path; waiting = w; frames = x.frames; stages = x.stages }) m t.under ended;
-          least = part.least;
-        };
-        falls = omega (arith, long);
-        fresh = λ n n_in still. still;
-      })
+      by_stage New new =
+          subst
+          (λ s. WentOn g c d N x
+          (gone_by s g c d m (record { path = x.path; waiting = w; frames = x.frames; stages = x.stages })) best)
+          (sym new) (record {
+            part = record {
+              under =
+                  enter_keeps g c d N (record { path = x.path; waiting = w; frames = x.frames; stages = x.stages }) m m_in
+                  t.coming.child.1 (set_is.low m m_in) t.under new
+                  (coming_reach g c d N (m ∷ []) (record { path = x.path; waiting = w; frames = x.frames; stages = x.stages }) m t.under t.coming);
+              least = enter_least (record { path = x.path; waiting = w; frames = x.frames; stages = x.stages }) m best m_low new part.least;
+            };
+            falls = omega (arith, long, left_falls x.stages m (length x.path) m_low new, few_children g c d m, length-append w (high_children g c d m));
+            fresh = λ n n_in still. (enter_fresh (record { path = x.path; waiting = w; frames = x.frames; stages = x.stages }) m n m_low still).1;
+          })
+      by_stage (On p) on =
+          subst
+          (λ s. WentOn g c d N x
+          (gone_by s g c d m (record { path = x.path; waiting = w; frames = x.frames; stages = x.stages })) best)
+          (sym on) (record {
+            part = record {
+              under = fold_keeps g c d N (record { path = x.path; waiting = w; frames = x.frames; stages = x.stages }) m p m_in t.under t.coming on;
+              least = part.least;
+            };
+            falls = omega (arith, long, folded_length p x.frames);
+            fresh = λ n n_in still. still;
+          })
+      by_stage Done ended =
+          subst
+          (λ s. WentOn g c d N x
+          (gone_by s g c d m (record { path = x.path; waiting = w; frames = x.frames; stages = x.stages })) best)
+          (sym ended) (record {
+            part = record {
+              under = skipped g c d N (record { path = x.path; waiting = w; frames = x.frames; stages = x.stages }) m t.under ended;
+              least = part.least;
+            };
+            falls = omega (arith, long);
+            fresh = λ n n_in still. still;
+          })
 
   -- the last frame ends
   pub went_shut : (x : WalkList) (f : Frame) (rest : List Frame) (best best2 : Option ℕ)
       → IsPart g c d N x best
       → x.frames ≡ f ∷ rest
       → length x.waiting ≤ f.waits
-      → (IsCyclic g c (drop f.first x.path) × (best2 ≡ offered g d (drop f.first x.path) best)) ⊎ ((IsCyclic g c (drop f.first x.path) → ⊥) × (best2 ≡ best))
+      → (IsCyclic g c (drop f.first x.path) × (best2 ≡ offered g d (drop f.first x.path) best))
+      ⊎ ((IsCyclic g c (drop f.first x.path) → ⊥) × (best2 ≡ best))
       → WentOn g c d N x (shut f rest x) best2
   went_shut x f rest best best2 part e none_waits either = record {
     part = record { under = close_keeps g c d N set_is x part.under f rest e none_waits; least = least either };
@@ -230,7 +259,8 @@ module _ (g : Graph) (c : List (ℕ × Side)) (d : ℕ) (N : List ℕ) (set_is :
               let here : get_or x.path (f.first + p.place) 0 ≡ n = sym (get_or-drop f.first x.path p.place 0) ∙ p.holds 0 in
               subst (λ k. k < length x.stages) here (omega (arith, set_is.low (get_or x.path (f.first + p.place) 0) at.0, part.under.sized))
 
-      least : (IsCyclic g c (drop f.first x.path) × (best2 ≡ offered g d (drop f.first x.path) best)) ⊎ ((IsCyclic g c (drop f.first x.path) → ⊥) × (best2 ≡ best))
+      least : (IsCyclic g c (drop f.first x.path) × (best2 ≡ offered g d (drop f.first x.path) best))
+          ⊎ ((IsCyclic g c (drop f.first x.path) → ⊥) × (best2 ≡ best))
           → IsLeast (IsDoneLoop g c d N (shut f rest x)) best2
       least (inl cyclic) =
           subst (IsLeast (IsDoneLoop g c d N (shut f rest x))) (sym cyclic.1)
@@ -256,7 +286,9 @@ module _ (g : Graph) (c : List (ℕ × Side)) (d : ℕ) (N : List ℕ) (set_is :
           from p =
               let o = is.owned p.place p.below in
               let parent = is.inside o.place o.low in
-              set_is.low n (subst (λ k. IsMember k N) (p.holds 0) (set_is.closed (get_or x.path o.place 0) (get_or x.waiting p.place 0) parent.0 o.child.0))
+              set_is.low n
+              (subst (λ k. IsMember k N) (p.holds 0)
+              (set_is.closed (get_or x.path o.place 0) (get_or x.waiting p.place 0) parent.0 o.child.0))
 
   -- a walk begins at a new node, where nothing is on the path
   pub root_begins : (x : WalkList) (m : ℕ) (best : Option ℕ)

@@ -18,7 +18,8 @@ use Rattle.ml_sequent.specs.declared.parts.Frame.{Frame}
 use Rattle.ml_sequent.specs.declared.parts.Stage.{Stage}
 use Rattle.ml_sequent.specs.declared.parts.Stage.TheVariants.{New, On, Done}
 use Rattle.ml_sequent.specs.LocalWalk.{children}
-use Rattle.ml_sequent.specs.private.ConnectedParts.{IsChild, Reaches, WalkList, stage_of, IsFramed, AreTogether, Led, is_done, is_on, waits, looked_at, Owner, IsUnder, Coming, high_children, entered, folded, folded_to}
+use Rattle.ml_sequent.specs.private.ConnectedParts.{IsChild, Reaches, WalkList, stage_of, IsFramed, AreTogether, Led, is_done, is_on, waits}
+use Rattle.ml_sequent.specs.private.ConnectedParts.{looked_at, Owner, IsUnder, Coming, high_children, entered, folded, folded_to}
 use Rattle.ml_sequent.proofs.PathWalks.{at_end, framed_below, reaches_self, reaches_joined, same_reaches, coming_reach}
 
 -- ---- frames that are left
@@ -35,7 +36,9 @@ folded_member w (e ∷ fs) f m = by_test (cases_Bool (nat_lt w e.first)) (folded
     by_test (inr before) rest = subst (IsMember f) (cond-false (nat_lt w e.first) (folded w fs) (e ∷ fs) before) m
 
 -- one that isn't left begins behind the place
-pub left_or_behind : (w : ℕ) (frames : List Frame) (f : Frame) → IsMember f frames → IsMember f (folded w frames) ⊎ (w < f.first)
+pub left_or_behind : (w : ℕ) (frames : List Frame) (f : Frame)
+    → IsMember f frames
+    → IsMember f (folded w frames) ⊎ (w < f.first)
 left_or_behind w [] f m = absurd m
 left_or_behind w (e ∷ fs) f m = by_test (cases_Bool (nat_lt w e.first)) m (left_or_behind w fs f)
   where
@@ -55,7 +58,11 @@ left_or_behind w (e ∷ fs) f m = by_test (cases_Bool (nat_lt w e.first)) m (lef
         inl (subst (IsMember f) (sym (cond-false (nat_lt w e.first) (folded w fs) (e ∷ fs) before)) at)
 
 -- frames that are left begin at the place or before it
-pub folded_low : (w n k : ℕ) (frames : List Frame) → IsFramed n k frames → (f : Frame) → IsMember f (folded w frames) → f.first ≤ w
+pub folded_low : (w n k : ℕ) (frames : List Frame)
+    → IsFramed n k frames
+    → (f : Frame)
+    → IsMember f (folded w frames)
+    → f.first ≤ w
 folded_low w n k [] is f m = absurd m
 folded_low w n k (e ∷ fs) is f m = by_test (cases_Bool (nat_lt w e.first)) (folded_low w e.first e.waits fs is.2 f)
   where
@@ -123,7 +130,12 @@ module _ (g : Graph) (c : List (ℕ × Side)) (d : ℕ) (N : List ℕ) where
       low_first : (f : Frame) → IsMember f (folded w x.frames) → f.first ≤ w
       low_first f f_in = folded_low w (length x.path) (length x.waiting) x.frames is.framed f f_in
 
-      still : (f : Frame) → IsMember f x.frames → f.first ≤ w → (k : ℕ) → Led x (m ∷ []) f k → Led (folded_to w x) [] f k
+      still : (f : Frame)
+          → IsMember f x.frames
+          → f.first ≤ w
+          → (k : ℕ)
+          → Led x (m ∷ []) f k
+          → Led (folded_to w x) [] f k
       still f f_in first k (is_done e) = is_done e
       still f f_in first k (is_on q e at) = is_on q e at
       still f f_in first k (waits j from low e) = waits j from low e
@@ -166,7 +178,11 @@ module _ (g : Graph) (c : List (ℕ × Side)) (d : ℕ) (N : List ℕ) where
           (λ (before : q ≤ w). is.back p q order low (together_before p q before together))
           (cases_lt w q)
         where
-          first_before : (f : Frame) → IsMember f (folded w x.frames) → w < q → (f.first ≤ p) ⊎ (q < f.first) → f.first ≤ p
+          first_before : (f : Frame)
+              → IsMember f (folded w x.frames)
+              → w < q
+              → (f.first ≤ p) ⊎ (q < f.first)
+              → f.first ≤ p
           first_before f f_in behind (inl is_before) = is_before
           first_before f f_in behind (inr after) = absurd (omega (arith, low_first f f_in))
 
@@ -206,14 +222,19 @@ module _ (g : Graph) (c : List (ℕ × Side)) (d : ℕ) (N : List ℕ) where
     same_place p q e = cc
 
     enter_inside : (p : ℕ) → p < length x.path + 1
-        → IsMember (get_or (x.path ++ m ∷ []) p 0) N × (d ≤ priority_at g (get_or (x.path ++ m ∷ []) p 0)) × (stage_of (entered g c d m x) (get_or (x.path ++ m ∷ []) p 0) ≡ On p)
+        → IsMember (get_or (x.path ++ m ∷ []) p 0) N
+        × (d ≤ priority_at g (get_or (x.path ++ m ∷ []) p 0))
+        × (stage_of (entered g c d m x) (get_or (x.path ++ m ∷ []) p 0) ≡ On p)
     enter_inside p low = from (at_end x.path m p low)
       where
         Fits : ℕ → Type 0
         Fits n = IsMember n N × (d ≤ priority_at g n) × (stage_of (entered g c d m x) n ≡ On p)
 
-        from : ((p < length x.path) × (get_or (x.path ++ m ∷ []) p 0 ≡ get_or x.path p 0)) ⊎ ((p ≡ length x.path) × (get_or (x.path ++ m ∷ []) p 0 ≡ m))
-            → IsMember (get_or (x.path ++ m ∷ []) p 0) N × (d ≤ priority_at g (get_or (x.path ++ m ∷ []) p 0)) × (stage_of (entered g c d m x) (get_or (x.path ++ m ∷ []) p 0) ≡ On p)
+        from : ((p < length x.path) × (get_or (x.path ++ m ∷ []) p 0 ≡ get_or x.path p 0))
+            ⊎ ((p ≡ length x.path) × (get_or (x.path ++ m ∷ []) p 0 ≡ m))
+            → IsMember (get_or (x.path ++ m ∷ []) p 0) N
+            × (d ≤ priority_at g (get_or (x.path ++ m ∷ []) p 0))
+            × (stage_of (entered g c d m x) (get_or (x.path ++ m ∷ []) p 0) ≡ On p)
         from (inl before) =
             let old = is.inside p before.0 in
             subst (λ n. IsMember n N × (d ≤ priority_at g n) × (stage_of (entered g c d m x) n ≡ On p)) (sym before.1)
@@ -239,8 +260,10 @@ module _ (g : Graph) (c : List (ℕ × Side)) (d : ℕ) (N : List ℕ) where
         → Reaches g c d (get_or (x.path ++ m ∷ []) p 0) (get_or (x.path ++ m ∷ []) q 0)
     enter_forth p q order low = from (at_end x.path m p (omega arith)) (at_end x.path m q low)
       where
-        from : ((p < length x.path) × (get_or (x.path ++ m ∷ []) p 0 ≡ get_or x.path p 0)) ⊎ ((p ≡ length x.path) × (get_or (x.path ++ m ∷ []) p 0 ≡ m))
-            → ((q < length x.path) × (get_or (x.path ++ m ∷ []) q 0 ≡ get_or x.path q 0)) ⊎ ((q ≡ length x.path) × (get_or (x.path ++ m ∷ []) q 0 ≡ m))
+        from : ((p < length x.path) × (get_or (x.path ++ m ∷ []) p 0 ≡ get_or x.path p 0))
+            ⊎ ((p ≡ length x.path) × (get_or (x.path ++ m ∷ []) p 0 ≡ m))
+            → ((q < length x.path) × (get_or (x.path ++ m ∷ []) q 0 ≡ get_or x.path q 0))
+            ⊎ ((q ≡ length x.path) × (get_or (x.path ++ m ∷ []) q 0 ≡ m))
             → Reaches g c d (get_or (x.path ++ m ∷ []) p 0) (get_or (x.path ++ m ∷ []) q 0)
         from (inl a) (inl b) = same_reaches g c d _ _ (get_or x.path p 0) (get_or x.path q 0) a.1 b.1 (is.forth p q order b.0)
         from (inl a) (inr b) = same_reaches g c d _ _ (get_or x.path p 0) m a.1 b.1 (reach p a.0)
@@ -253,19 +276,29 @@ module _ (g : Graph) (c : List (ℕ × Side)) (d : ℕ) (N : List ℕ) where
     enter_back : (p q : ℕ) → p ≤ q → q < length x.path + 1
         → AreTogether (record { first = length x.path; waits = length x.waiting } ∷ x.frames) p q
         → Reaches g c d (get_or (x.path ++ m ∷ []) q 0) (get_or (x.path ++ m ∷ []) p 0)
-    enter_back p q order low together = from (at_end x.path m p (omega arith)) (at_end x.path m q low) (together (record { first = length x.path; waits = length x.waiting }) (inl refl))
+    enter_back p q order low together =
+        from (at_end x.path m p (omega arith)) (at_end x.path m q low)
+        (together (record { first = length x.path; waits = length x.waiting }) (inl refl))
       where
-        from : ((p < length x.path) × (get_or (x.path ++ m ∷ []) p 0 ≡ get_or x.path p 0)) ⊎ ((p ≡ length x.path) × (get_or (x.path ++ m ∷ []) p 0 ≡ m))
-            → ((q < length x.path) × (get_or (x.path ++ m ∷ []) q 0 ≡ get_or x.path q 0)) ⊎ ((q ≡ length x.path) × (get_or (x.path ++ m ∷ []) q 0 ≡ m))
+        from : ((p < length x.path) × (get_or (x.path ++ m ∷ []) p 0 ≡ get_or x.path p 0))
+            ⊎ ((p ≡ length x.path) × (get_or (x.path ++ m ∷ []) p 0 ≡ m))
+            → ((q < length x.path) × (get_or (x.path ++ m ∷ []) q 0 ≡ get_or x.path q 0))
+            ⊎ ((q ≡ length x.path) × (get_or (x.path ++ m ∷ []) q 0 ≡ m))
             → (length x.path ≤ p) ⊎ (q < length x.path)
             → Reaches g c d (get_or (x.path ++ m ∷ []) q 0) (get_or (x.path ++ m ∷ []) p 0)
-        from (inl a) (inl b) at = same_reaches g c d _ _ (get_or x.path q 0) (get_or x.path p 0) b.1 a.1 (is.back p q order b.0 (λ f f_in. together f (inr f_in)))
+        from (inl a) (inl b) at =
+            same_reaches g c d _ _ (get_or x.path q 0) (get_or x.path p 0) b.1 a.1
+            (is.back p q order b.0 (λ f f_in. together f (inr f_in)))
         from (inl a) (inr b) (inl behind) = absurd (omega (arith, a.0))
         from (inl a) (inr b) (inr before) = absurd (omega (arith, b.0))
         from (inr a) (inl b) at = absurd (omega (arith, a.0, b.0))
         from (inr a) (inr b) at = same_reaches g c d _ _ m m b.1 a.1 (reaches_self g c d m high)
 
-    enter_closed : (n k : ℕ) → IsMember n N → stage_of (entered g c d m x) n ≡ Done → IsChild g c d n k → stage_of (entered g c d m x) k ≡ Done
+    enter_closed : (n k : ℕ)
+        → IsMember n N
+        → stage_of (entered g c d m x) n ≡ Done
+        → IsChild g c d n k
+        → stage_of (entered g c d m x) k ≡ Done
     enter_closed n k n_in ended child = from (cases_eq n m)
       where
         from : (n ≡ m) ⊎ (n ≡ m → ⊥) → stage_of (entered g c d m x) k ≡ Done
@@ -274,7 +307,11 @@ module _ (g : Graph) (c : List (ℕ × Side)) (d : ℕ) (N : List ℕ) where
 
     -- the children of the node wait
     child_waits : (f : Frame) (k : ℕ) → f.waits ≤ length x.waiting → IsChild g c d m k → Led (entered g c d m x) [] f k
-    child_waits f k below child = from (member-place k (high_children g c d m) (member-filter (λ j. nat_le d (priority_at g j)) k (children g c m) child.0 (let test : nat_le d (priority_at g k) ≡ true = grind (arith, nat_tests, child.1) in test)))
+    child_waits f k below child =
+        from
+        (member-place k (high_children g c d m)
+        (member-filter (λ j. nat_le d (priority_at g j)) k (children g c m) child.0
+        (let test : nat_le d (priority_at g k) ≡ true = grind (arith, nat_tests, child.1) in test)))
       where
         from : Place k (high_children g c d m) → Led (entered g c d m x) [] f k
         from at = waits (length x.waiting + at.place) (omega arith)
@@ -300,7 +337,8 @@ module _ (g : Graph) (c : List (ℕ × Side)) (d : ℕ) (N : List ℕ) where
     enter_leads f f_in p k at low child = from f_in (at_end x.path m p low)
       where
         from : (f ≡ record { first = length x.path; waits = length x.waiting }) ⊎ IsMember f x.frames
-            → ((p < length x.path) × (get_or (x.path ++ m ∷ []) p 0 ≡ get_or x.path p 0)) ⊎ ((p ≡ length x.path) × (get_or (x.path ++ m ∷ []) p 0 ≡ m))
+            → ((p < length x.path) × (get_or (x.path ++ m ∷ []) p 0 ≡ get_or x.path p 0))
+            ⊎ ((p ≡ length x.path) × (get_or (x.path ++ m ∷ []) p 0 ≡ m))
             → Led (entered g c d m x) [] f k
         from (inl same) (inl before) =
             let first : f.first ≡ length x.path = ap (λ (h : Frame). h.first) same in absurd (omega (arith, before.0))
@@ -330,7 +368,8 @@ module _ (g : Graph) (c : List (ℕ × Side)) (d : ℕ) (N : List ℕ) where
           where
             child : IsChild g c d (get_or (x.path ++ m ∷ []) o.place 0) (get_or (x.waiting ++ high_children g c d m) k 0)
             child =
-                subst (λ j. IsChild g c d (get_or (x.path ++ m ∷ []) o.place 0) j) (sym (get_or_append_left x.waiting (high_children g c d m) 0 k less))
+                subst (λ j. IsChild g c d (get_or (x.path ++ m ∷ []) o.place 0) j)
+                (sym (get_or_append_left x.waiting (high_children g c d m) 0 k less))
                 (subst (λ n. IsChild g c d n (get_or x.waiting k 0)) (sym (get_or_append_left x.path (m ∷ []) 0 o.place o.low)) o.child)
 
             framed : (f : Frame) → IsMember f (record { first = length x.path; waits = length x.waiting } ∷ x.frames)
@@ -363,7 +402,10 @@ module _ (g : Graph) (c : List (ℕ × Side)) (d : ℕ) (N : List ℕ) where
                 let end : length x.path ≡ length x.path + 0 = omega arith in
                 let node = ap (λ i. get_or (x.path ++ m ∷ []) i 0) end ∙ get_or-append-add x.path (m ∷ []) 0 0 in
                 let few : k - length x.waiting < length (high_children g c d m) = omega (arith, length-append x.waiting (high_children g c d m)) in
-                let kid = member-filter_from (λ i. nat_le d (priority_at g i)) (get_or (high_children g c d m) (k - length x.waiting) 0) (children g c m)
+                let kid =
+                member-filter_from (λ i. nat_le d (priority_at g i))
+                (get_or (high_children g c d m) (k - length x.waiting) 0)
+                in
                 (place-member (high_children g c d m) (k - length x.waiting) 0 few) in
                 let at_least : d ≤ priority_at g (get_or (high_children g c d m) (k - length x.waiting) 0) = grind (arith, nat_tests, kid.1) in
                 subst (λ n. IsChild g c d n (get_or (x.waiting ++ high_children g c d m) k 0)) (sym node)

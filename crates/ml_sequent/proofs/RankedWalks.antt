@@ -9,7 +9,8 @@
 --   few_different    == a list of numbers has no more different ones
 --   Traced, traced   == a way of the search is a local walk, of which it keeps the rank of the lowest priority
 --   Ranked, ranked   == a local walk is a way of the search
-use Rattle.std.proofs.Common.{ℕ, ◌≡◌, ◌+◌, ◌<◌, ◌≤◌, inl, inr, ⊎_elim, min, List, [], ◌∷◌, length, get_or, Option, Some, None, refl, sym, ap, ◌∙◌, subst, arith, All, Ok, Err, Bool, true, false, cond, nat_lt, ◌==◌}
+use Rattle.std.proofs.Common.{ℕ, ◌≡◌, ◌+◌, ◌<◌, ◌≤◌, inl, inr, ⊎_elim, min, List, [], ◌∷◌, length, get_or, Option, Some, None, refl}
+use Rattle.std.proofs.Common.{sym, ap, ◌∙◌, subst, arith, All, Ok, Err, Bool, true, false, cond, nat_lt, ◌==◌}
 use Rattle.std.proofs.lemmas.Bool.{cases_eq, cases_lt}
 use Rattle.std.proofs.lemmas.List.Elements.{All-nil, All-cons}
 use Rattle.std.specs.List.Sorted.{IsBinarySearchResult}
@@ -159,7 +160,9 @@ module _ (g : Graph) (c : List (ℕ × Side)) (levels : LevelList) (ok : IsGraph
     walk = subst (λ k. LocalWalk g c v.node k v.node) (sym (is.right v.node low)) (stays v.node);
     holds = omega arith;
   }
-  traced v w low fits (moves _ u h way) = from (member-map_from (onto levels.ranks v.rank) u (children g c v.node) h) (λ u_low u_fits. traced u w u_low u_fits way)
+  traced v w low fits (moves _ u h way) =
+      from (member-map_from (onto levels.ranks v.rank) u (children g c v.node) h)
+      (λ u_low u_fits. traced u w u_low u_fits way)
     where
       from : Image (onto levels.ranks v.rank) u (children g c v.node)
           → (u.node < size g → u.rank ≤ get_or levels.ranks u.node 0 → Traced u w)
@@ -177,9 +180,16 @@ module _ (g : Graph) (c : List (ℕ × Side)) (levels : LevelList) (ok : IsGraph
               → Traced v w
           step t child u_low rank_is =
               let below = walk_low g c u.node (get_or levels.priorities t.rank 0) w.node t.walk in
-              let order = level_order levels.priorities t.rank (get_or levels.ranks u.node 0) is.ascends t.low (is.low u.node u_low) (omega (arith, is.right u.node u_low)) in
+              let order =
+              level_order levels.priorities t.rank (get_or levels.ranks u.node 0) is.ascends t.low (is.low u.node u_low)
+              (omega (arith, is.right u.node u_low))
+              in
               let lower = level_min levels.priorities (get_or levels.ranks v.node 0) t.rank is.ascends (is.low v.node low) t.low in
-              let lowest : min (priority_at g v.node) (get_or levels.priorities t.rank 0) ≡ get_or levels.priorities (min (get_or levels.ranks v.node 0) t.rank) 0 = ap (λ k. min k (get_or levels.priorities t.rank 0)) (sym (is.right v.node low)) ∙ lower in
+              let lowest :
+              min (priority_at g v.node) (get_or levels.priorities t.rank 0)
+              ≡ get_or levels.priorities (min (get_or levels.ranks v.node 0) t.rank) 0 =
+              ap (λ k. min k (get_or levels.priorities t.rank 0)) (sym (is.right v.node low)) ∙ lower
+              in
               record {
                 rank = min (get_or levels.ranks v.node 0) t.rank;
                 low = omega (arith, t.low);
@@ -202,7 +212,8 @@ module _ (g : Graph) (c : List (ℕ × Side)) (levels : LevelList) (ok : IsGraph
     holds = is.right n low;
     way = λ r fits.
         let same : r ≡ min r (get_or levels.ranks n 0) = omega arith in
-        subst (λ q. Leads (onward g c levels.ranks) (record { node = n; rank = r }) (record { node = n; rank = q })) same (ends (record { node = n; rank = r }));
+        subst (λ q. Leads (onward g c levels.ranks) (record { node = n; rank = r }) (record { node = n; rank = q }))
+        same (ends (record { node = n; rank = r }));
   }
   ranked n k m low (goes {k = j} _ next child w) = step (ranked next j m (children_low g c ok n next low child) w)
     where
@@ -210,7 +221,10 @@ module _ (g : Graph) (c : List (ℕ × Side)) (levels : LevelList) (ok : IsGraph
       step t =
           let next_low = children_low g c ok n next low child in
           let below = walk_low g c next j m w in
-          let order = level_order levels.priorities t.rank (get_or levels.ranks next 0) is.ascends t.low (is.low next next_low) (omega (arith, is.right next next_low, t.holds)) in
+          let order =
+          level_order levels.priorities t.rank (get_or levels.ranks next 0) is.ascends t.low (is.low next next_low)
+          (omega (arith, is.right next next_low, t.holds))
+          in
           let lower = level_min levels.priorities (get_or levels.ranks n 0) t.rank is.ascends (is.low n low) t.low in
           record {
             rank = min (get_or levels.ranks n 0) t.rank;
@@ -220,6 +234,10 @@ module _ (g : Graph) (c : List (ℕ × Side)) (levels : LevelList) (ok : IsGraph
                 let same : min (min r (get_or levels.ranks next 0)) t.rank ≡ min r (min (get_or levels.ranks n 0) t.rank) = omega arith in
                 moves (record { node = n; rank = r }) (record { node = next; rank = min r (get_or levels.ranks next 0) })
                 (member-map (onto levels.ranks r) next (children g c n) child)
-                (subst (λ q. Leads (onward g c levels.ranks) (record { node = next; rank = min r (get_or levels.ranks next 0) }) (record { node = m; rank = q })) same
+                (subst
+                (λ q.
+                Leads (onward g c levels.ranks) (record { node = next; rank = min r (get_or levels.ranks next 0) })
+                (record { node = m; rank = q }))
+                same
                 (t.way (min r (get_or levels.ranks next 0)) (omega arith)));
           }

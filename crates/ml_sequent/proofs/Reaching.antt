@@ -16,7 +16,9 @@
 --   search_continues == the same, where the first ones of them lead to no others than these
 --   search_goes_on   == when the places behind one more are visited
 --   search_ends      == when all that was found went on
-use Rattle.std.proofs.Common.{ℕ, ◌≡◌, ◌+◌, ◌*◌, ◌<◌, ◌≤◌, ◌⊎◌, inl, inr, ⊎_elim, Bool, true, false, not, List, [], ◌∷◌, ◌++◌, length, get_or, set, map, take, replicate, refl, sym, ap, ◌∙◌, subst, arith, length-append, append_assoc, append-nil, mul-le-mul_left, Result, Ok, Err, OnOk, All}
+use Rattle.std.proofs.Common.{ℕ, ◌≡◌, ◌+◌, ◌*◌, ◌<◌, ◌≤◌, ◌⊎◌, inl, inr, ⊎_elim, Bool, true, false, not, List, [], ◌∷◌, ◌++◌}
+use Rattle.std.proofs.Common.{length, get_or, set, map, take, replicate, refl, sym, ap, ◌∙◌, subst, arith, length-append}
+use Rattle.std.proofs.Common.{append_assoc, append-nil, mul-le-mul_left, Result, Ok, Err, OnOk, All}
 use Rattle.std.proofs.lemmas.Bool.{cases_eq, cases_lt}
 use Rattle.std.proofs.lemmas.List.{take_more, map-append, get_or-set_same, get_or-set_other, get_or_past, get_or-replicate, length-set, length-replicate, get_or_default, get_or_append_left}
 use Rattle.ml_lists.specs.Member.{IsMember}
@@ -32,9 +34,11 @@ use Rattle.ml_sequent.specs.private.Reach.{Leads, ends, moves, IsReached, code, 
 pub one_code : (width : ℕ) (v w : Visit) → v.rank < width → w.rank < width → code width v ≡ code width w → v ≡ w
 one_code width v w v_low w_low e =
     ⊎_elim
-    (λ (less : v.node < w.node). let next : v.node + 1 ≤ w.node = omega arith in let step : width * (v.node + 1) ≤ width * w.node = mul-le-mul_left width next in absurd (omega arith))
+    (λ (less : v.node < w.node). let next : v.node + 1 ≤ w.node = omega arith in
+    let step : width * (v.node + 1) ≤ width * w.node = mul-le-mul_left width next in absurd (omega arith))
     (λ (rest : w.node ≤ v.node). ⊎_elim
-    (λ (more : w.node < v.node). let next : w.node + 1 ≤ v.node = omega arith in let step : width * (w.node + 1) ≤ width * v.node = mul-le-mul_left width next in absurd (omega arith))
+    (λ (more : w.node < v.node). let next : w.node + 1 ≤ v.node = omega arith in
+    let step : width * (w.node + 1) ≤ width * v.node = mul-le-mul_left width next in absurd (omega arith))
     (λ (back : v.node ≤ w.node).
     let nodes : v.node ≡ w.node = omega arith in
     let products : width * v.node ≡ width * w.node = ap (λ n. width * n) nodes in
@@ -107,7 +111,9 @@ newly_marked width marks found v is rank room fresh = record {
     low : (w : Visit) → IsMember w found ⊎ IsMember w (v ∷ [])
         → (w.rank < width) × (code width w < length (set marks (code width v) true))
     low w (inl old) = let l = is.low w old in (l.0, omega (arith, l.1, length-set marks (code width v) true))
-    low w (inr (inl e)) = subst (λ x. (x.rank < width) × (code width x < length (set marks (code width v) true))) (sym e) (rank, omega (arith, length-set marks (code width v) true))
+    low w (inr (inl e)) =
+        subst (λ x. (x.rank < width) × (code width x < length (set marks (code width v) true))) (sym e)
+        (rank, omega (arith, length-set marks (code width v) true))
     low w (inr (inr none)) = absurd none
 
     stronger : (k : ℕ)
@@ -122,7 +128,10 @@ newly_marked width marks found v is rank room fresh = record {
 
     fewer : unmarked (length (set marks (code width v) true)) (set marks (code width v) true) + 1 ≤ unmarked (length marks) marks
     fewer =
-        let strict = count_strict (λ m. not (mark (set marks (code width v) true) m)) (λ m. not (mark marks m)) (length marks) stronger (code width v) room (ap not here) (ap not fresh) in
+        let strict =
+        count_strict (λ m. not (mark (set marks (code width v) true) m)) (λ m. not (mark marks m)) (length marks)
+        stronger (code width v) room (ap not here) (ap not fresh)
+        in
         let same = ap (λ n. unmarked n (set marks (code width v) true)) (length-set marks (code width v) true) in
         omega arith
 
@@ -165,7 +174,9 @@ unmarked_more width marks marks2 found i d low room before m h = at (cases_eq m 
           old.0,
           λ v v_in e. ⊎_elim
               (λ (earlier : IsMember v (take i found)). old.1 v earlier e)
-              (λ (here : IsMember v (get_or found i d ∷ [])). ⊎_elim (λ (same : v ≡ get_or found i d). other (e ∙ ap (code width) same)) (λ (none : IsMember v []). none) here)
+              (λ (here : IsMember v (get_or found i d ∷ [])).
+              ⊎_elim (λ (same : v ≡ get_or found i d). other (e ∙ ap (code width) same))
+              (λ (none : IsMember v []). none) here)
               (member-append v (take i found) (get_or found i d ∷ []) (subst (IsMember v) (take_more found i d low) v_in)),
         )
 
@@ -182,7 +193,10 @@ visited_join ks js found found2 found3 one two = record {
   new = one.new ++ two.new;
   grown = two.grown ∙ ap (λ xs. xs ++ two.new) one.grown ∙ append_assoc found one.new two.new;
   all = λ k h. ⊎_elim (λ (left : IsMember k ks). kept k (one.all k left)) (λ (right : IsMember k js). two.all k right) (member-append k ks js h);
-  only = λ k h. ⊎_elim (λ (left : IsMember k one.new). member-append_left k ks js (one.only k left)) (λ (right : IsMember k two.new). member-append_right k ks js (two.only k right)) (member-append k one.new two.new h);
+  only =
+      λ k h. ⊎_elim (λ (left : IsMember k one.new). member-append_left k ks js (one.only k left))
+      (λ (right : IsMember k two.new). member-append_right k ks js (two.only k right))
+      (member-append k one.new two.new h);
 }
   where
     kept : (k : Visit) → IsMember k found2 → IsMember k found3

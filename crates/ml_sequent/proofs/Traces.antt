@@ -6,7 +6,8 @@
 --   exit_leads, leads_exit == to lead out along a diamond, as the program tells it and as the step says it
 --   sequent_low     == the nodes of a sequent that has a spread are nodes
 --   step_is         == such triples and their targets are a step
-use Rattle.std.proofs.Common.{ℕ, ◌≡◌, ◌+◌, ◌<◌, ◌⊎◌, inl, inr, ⊎_elim, ◌↔◌, ◌==◌, min, Bool, true, false, List, [], ◌∷◌, ◌++◌, map, length, get_or, take, Option, Some, None, cond, refl, sym, ap, ◌∙◌, subst, arith, append_assoc, append-nil}
+use Rattle.std.proofs.Common.{ℕ, ◌≡◌, ◌+◌, ◌<◌, ◌⊎◌, inl, inr, ⊎_elim, ◌↔◌, ◌==◌, min, Bool, true, false, List, [], ◌∷◌, ◌++◌, map, length}
+use Rattle.std.proofs.Common.{get_or, take, Option, Some, None, cond, refl, sym, ap, ◌∙◌, subst, arith, append_assoc, append-nil}
 use Rattle.std.specs.List.{flat_map}
 use Rattle.std.proofs.lemmas.Bool.{eqb-true, cond-true}
 use Rattle.std.proofs.lemmas.Bool.Decides.{nat_tests}
@@ -80,13 +81,18 @@ module _ (g : Graph) (c : List (ℕ × Side)) (levels : LevelList) (ok : IsGraph
           → (t.from ≡ n) × IsTraceFrom g c a d t
       of_way v w r =
           let below = walk_low g c n (get_or levels.priorities r.rank 0) v.node r.walk in
-          let order = level_order levels.priorities r.rank (get_or levels.ranks n 0) is.ascends r.low (is.low n low) (omega (arith, is.right n low)) in
+          let order =
+          level_order levels.priorities r.rank (get_or levels.ranks n 0) is.ascends r.low (is.low n low)
+          (omega (arith, is.right n low))
+          in
           let rank_is : r.rank ≡ v.rank = omega (arith, r.holds) in
           let lowest_is : get_or levels.priorities r.rank 0 ≡ t.lowest = ap (λ k. get_or levels.priorities k 0) rank_is ∙ sym w.lowest_is in (
             w.from_is,
             record {
               leaving = v.node;
-              walk = subst (λ k. LocalWalk g c t.from k v.node) lowest_is (subst (λ k. LocalWalk g c k (get_or levels.priorities r.rank 0) v.node) (sym w.from_is) r.walk);
+              walk =
+                  subst (λ k. LocalWalk g c t.from k v.node) lowest_is
+                  (subst (λ k. LocalWalk g c k (get_or levels.priorities r.rank 0) v.node) (sym w.from_is) r.walk);
               leads = w.leads;
             },
           )
@@ -96,26 +102,37 @@ module _ (g : Graph) (c : List (ℕ × Side)) (levels : LevelList) (ok : IsGraph
           → (t.from ≡ n) × IsTraceFrom g c a d t
       of_reached v w r = ⊎_elim
           (λ (e : r.from ≡ ranked levels.ranks n).
-          of_way v w (walks.traced g c levels ok is (ranked levels.ranks n) v low (omega arith) (subst (λ u. Leads (onward g c levels.ranks) u v) e r.way)))
+          of_way v w
+          (walks.traced g c levels ok is (ranked levels.ranks n) v low (omega arith)
+          (subst (λ u. Leads (onward g c levels.ranks) u v) e r.way)))
           (λ (none : IsMember r.from []). absurd none)
           r.member
 
       of_place : InList (exits g levels.priorities a d n) t found → (t.from ≡ n) × IsTraceFrom g c a d t
       of_place p =
-          of_reached p.from (given n (get_or levels.priorities p.from.rank 0) (exit_of a d p.from.node (node_at g p.from.node)) t p.inside) ((has p.from).0 p.member)
+          of_reached p.from
+          (given n (get_or levels.priorities p.from.rank 0) (exit_of a d p.from.node (node_at g p.from.node)) t
+          p.inside)
+          ((has p.from).0 p.member)
 
       of_ranked : t.from ≡ n → (w : IsTraceFrom g c a d t) → walks.Ranked g c levels ok is n t.lowest w.leaving
           → LocalWalk g c n t.lowest w.leaving
           → IsMember t (flat_map (exits g levels.priorities a d n) found)
       of_ranked from w r walk =
           let below = walk_low g c n t.lowest w.leaving walk in
-          let order = level_order levels.priorities r.rank (get_or levels.ranks n 0) is.ascends r.low (is.low n low) (omega (arith, is.right n low, r.holds)) in
+          let order =
+          level_order levels.priorities r.rank (get_or levels.ranks n 0) is.ascends r.low (is.low n low)
+          (omega (arith, is.right n low, r.holds))
+          in
           let v : Visit = record { node = w.leaving; rank = min (get_or levels.ranks n 0) r.rank } in
           let rank_is : r.rank ≡ min (get_or levels.ranks n 0) r.rank = omega arith in
-          let lowest_is : t.lowest ≡ get_or levels.priorities (min (get_or levels.ranks n 0) r.rank) 0 = sym r.holds ∙ ap (λ k. get_or levels.priorities k 0) rank_is in
+          let lowest_is : t.lowest ≡ get_or levels.priorities (min (get_or levels.ranks n 0) r.rank) 0 =
+          sym r.holds ∙ ap (λ k. get_or levels.priorities k 0) rank_is
+          in
           let member = (has v).1 (record { from = ranked levels.ranks n; member = inl refl; way = r.way (get_or levels.ranks n 0) (omega arith) }) in
           member-flat_map (exits g levels.priorities a d n) v t found member
-          (gives n (get_or levels.priorities v.rank 0) (exit_of a d v.node (node_at g v.node)) t (record { from_is = from; lowest_is = lowest_is; leads = w.leads }))
+          (gives n (get_or levels.priorities v.rank 0) (exit_of a d v.node (node_at g v.node)) t
+          (record { from_is = from; lowest_is = lowest_is; leads = w.leads }))
 
       of_trace : t.from ≡ n → IsTraceFrom g c a d t → IsMember t (flat_map (exits g levels.priorities a d n) found)
       of_trace from w =
@@ -131,7 +148,10 @@ module _ (g : Graph) (c : List (ℕ × Side)) (levels : LevelList) (ok : IsGraph
       → (t : Triple) → IsMember t traces2 ↔ (IsMember t.from (take (i + 1) nodes) × IsTraceFrom g c a d t)
   traces_more nodes i found traces traces2 low node_low has more before t = (
     (λ h. of_member (member-append t traces (flat_map (exits g levels.priorities a d (get_or nodes i 0)) found) (subst (IsMember t) more h))),
-    (λ h. subst (IsMember t) (sym more) (of_trace h.1 (member-append t.from (take i nodes) (get_or nodes i 0 ∷ []) (subst (IsMember t.from) (take_more nodes i 0 low) h.0)))),
+    (λ h. subst (IsMember t) (sym more)
+        (of_trace h.1
+        (member-append t.from (take i nodes) (get_or nodes i 0 ∷ [])
+        (subst (IsMember t.from) (take_more nodes i 0 low) h.0)))),
   )
     where
       here : IsMember t (flat_map (exits g levels.priorities a d (get_or nodes i 0)) found) ↔ ((t.from ≡ get_or nodes i 0) × IsTraceFrom g c a d t)
@@ -147,7 +167,9 @@ module _ (g : Graph) (c : List (ℕ × Side)) (levels : LevelList) (ok : IsGraph
 
       of_trace : IsTraceFrom g c a d t → IsMember t.from (take i nodes) ⊎ IsMember t.from (get_or nodes i 0 ∷ [])
           → IsMember t (traces ++ flat_map (exits g levels.priorities a d (get_or nodes i 0)) found)
-      of_trace w (inl earlier) = member-append_left t traces (flat_map (exits g levels.priorities a d (get_or nodes i 0)) found) ((before t).1 (earlier, w))
+      of_trace w (inl earlier) =
+          member-append_left t traces (flat_map (exits g levels.priorities a d (get_or nodes i 0)) found)
+          ((before t).1 (earlier, w))
       of_trace w (inr (inl e)) = member-append_right t traces (flat_map (exits g levels.priorities a d (get_or nodes i 0)) found) (here.1 (e, w))
       of_trace w (inr (inr none)) = absurd none
 
@@ -199,7 +221,9 @@ module _ (g : Graph) (sp : SpreadList) (a d child : ℕ) (is : node_at g d ≡ n
       let children_are : child ≡ l.child = cc in
       ⊎_elim
       (λ (own : (e ≡ d) × (m ≡ l.child)).
-      ap (exit_of a d e) (ap (node_at g) own.0 ∙ is) ∙ cond-true (e == d) (Some child) None (subst (λ k. (e == k) ≡ true) own.0 (same_test e)) ∙ ap (λ (k : ℕ). Some k) (children_are ∙ sym own.1))
+      ap (exit_of a d e) (ap (node_at g) own.0 ∙ is)
+      ∙ cond-true (e == d) (Some child) None (subst (λ k. (e == k) ≡ true) own.0 (same_test e))
+      ∙ ap (λ (k : ℕ). Some k) (children_are ∙ sym own.1))
       (λ (square : IsMember e sp.nodes × (node_at g e ≡ node.Square l.action m)).
       ap (exit_of a d e) square.1 ∙ cond-true (l.action == a) (Some m) None (subst (λ k. (l.action == k) ≡ true) (sym actions) (same_test l.action)))
       l.leaves
@@ -231,10 +255,23 @@ step_is g C sp d next made of diamond next_is traces_are = by_child (diamond_is 
     by_child x = record {
       ascends = subst IsAscending (sym next_is) (ascending-is (map (λ (t : Triple). t.to) made));
       targets = λ m. (
-        (λ h. of_image m (member-map_from (λ (t : Triple). t.to) m made (ascending-member m (map (λ (t : Triple). t.to) made) (subst (IsMember m) next_is h)))),
+        (λ h. of_image m
+            (member-map_from (λ (t : Triple). t.to) m made
+            (ascending-member m (map (λ (t : Triple). t.to) made) (subst (IsMember m) next_is h)))),
         (λ h. of_target m h.leaving h.leads (in_spread h.leaving m h.leads)),
       );
-      traces = λ t. ((λ h. trace_of t ((traces_are t).0 h)), (λ w. (traces_are t).1 (w.from, record { leaving = w.leaving; walk = w.walk; leads = leads_exit g sp (action_of (node_at g d)) d x.child x.holds w.leaving t.to w.leads })));
+      traces =
+          λ t. (
+            (λ h. trace_of t ((traces_are t).0 h)),
+            (λ w. (traces_are t).1 (
+              w.from,
+              record {
+                leaving = w.leaving;
+                walk = w.walk;
+                leads = leads_exit g sp (action_of (node_at g d)) d x.child x.holds w.leaving t.to w.leads;
+              },
+            )),
+          );
     }
       where
         reached : (n k m : ℕ) → IsMember n C → LocalWalk g sp.choice n k m → IsMember m sp.nodes
@@ -247,7 +284,9 @@ step_is g C sp d next made of diamond next_is traces_are = by_child (diamond_is 
           from = h.0;
           leaving = h.1.leaving;
           walk = h.1.walk;
-          leads = exit_leads g sp (action_of (node_at g d)) d x.child x.holds h.1.leaving t.to (reached t.from t.lowest h.1.leaving h.0 h.1.walk) h.1.leads;
+          leads =
+              exit_leads g sp (action_of (node_at g d)) d x.child x.holds h.1.leaving t.to
+              (reached t.from t.lowest h.1.leaving h.0 h.1.walk) h.1.leads;
         }
 
         of_image : (m : ℕ) → Image (λ (t : Triple). t.to) m made → IsTarget g sp d m
@@ -264,7 +303,13 @@ step_is g C sp d next made of diamond next_is traces_are = by_child (diamond_is 
         of_target : (m e : ℕ) → LeadsOut g sp d e m → InSpread g sp.choice C e → IsMember m next
         of_target m e l s =
             let t : Triple = record { from = s.from; lowest = s.lowest; to = m } in
-            let member = (traces_are t).1 (s.member, record { leaving = e; walk = s.walk; leads = leads_exit g sp (action_of (node_at g d)) d x.child x.holds e m l }) in
+            let member =
+            (traces_are t).1 (
+              s.member,
+              record
+                  { leaving = e; walk = s.walk; leads = leads_exit g sp (action_of (node_at g d)) d x.child x.holds e m l },
+            )
+            in
             subst (IsMember m) (sym next_is) (member-ascending m (map (λ (u : Triple). u.to) made) (member-map (λ (u : Triple). u.to) t made member))
 
 -- the nodes of a sequent that has a spread are nodes

@@ -8,7 +8,8 @@
 use Rattle.std.proofs.Common.{◌≡◌, ℕ, ◌≤◌, true, false, List, [], ◌∷◌, Option, Some, None, refl, ◌∙◌, ap, arith, le-leb}
 use Rattle.std.specs.Prelude.{option_and_then}
 use Rattle.std.proofs.lemmas.Bool.{cond-true, cond-false}
-use Rattle.ml_text.specs.Grammar.{Grammar, Mode, Whole, More, Turn, Read, Inner, Opens, Part, Level, Operand, Rest, Behind, Reads, alone, joined, postfixed, form, whole, sign, read, inner, opens, left_level, right_level, role_takes, takes, front, StandsFor, IsRegular}
+use Rattle.ml_text.specs.Grammar.{Grammar, Mode, Whole, More, Turn, Read, Inner, Opens, Part, Level, Operand, Rest, Behind, Reads, alone, joined, postfixed}
+use Rattle.ml_text.specs.Grammar.{form, whole, sign, read, inner, opens, left_level, right_level, role_takes, takes, front, StandsFor, IsRegular}
 use Rattle.ml_text.specs.declared.forms.Role.TheVariants.{Infix, Postfix}
 use Rattle.ml_text.specs.private.Machine.{Frame, Held, Left, Stack, State, frame_sort, frame_level, sort_of, level_of, start_state, begin, enter, take_sign, go_on, behind, step, parse, popped}
 use Rattle.ml_text.proofs.Levels.{Follows, untaken_follows, left_level-above, left_follows, right_follows, right_untaken}

@@ -2,20 +2,24 @@
 --
 --   IsOutcome g R items end out == the outcome is the right one
 --   exact                       == what comes of a text is right
-use Rattle.std.proofs.Common.{◌≡◌, ℕ, ◌+◌, ◌<◌, ◌≤◌, Bool, true, false, nat_lt, List, [], ◌∷◌, ◌++◌, length, take, Option, Some, None, refl, sym, ◌∙◌, ap, subst, ⊎_elim, arith, ltb-true, ltb-false, length-append, append_assoc}
+use Rattle.std.proofs.Common.{◌≡◌, ℕ, ◌+◌, ◌<◌, ◌≤◌, Bool, true, false, nat_lt, List, [], ◌∷◌, ◌++◌, length, take, Option, Some, None}
+use Rattle.std.proofs.Common.{refl, sym, ◌∙◌, ap, subst, ⊎_elim, arith, ltb-true, ltb-false, length-append, append_assoc}
 use Rattle.std.specs.Prelude.{option_and_then, sum_by}
 use Rattle.std.proofs.lemmas.Bool.{cases_lt}
 use Rattle.std.proofs.lemmas.List.{append-nil}
 use Rattle.ml_text.specs.Grammar.{Grammar}
 use Rattle.ml_text.specs.private.Machine.{State, start_state, step, finish, parse}
-use Rattle.ml_text.specs.Refusals.{Item, Cause, Syntax, TooMany, TooNested, NameTooLong, signs_of, counted, open_behind, open_behind_one, most_occurrences, most_open, IsSyntaxFault, IsCountFault, IsFault, IsRefused, IsAccepted, offset_of}
+use Rattle.ml_text.specs.Refusals.{Item, Cause, Syntax, TooMany, TooNested, NameTooLong, signs_of, counted, open_behind, open_behind_one}
+use Rattle.ml_text.specs.Refusals.{most_occurrences, most_open, IsSyntaxFault, IsCountFault, IsFault, IsRefused, IsAccepted, offset_of}
 use Rattle.ml_text.specs.private.Reading.{Outcome, Found, Refused, cause_at, next_outcome, end_outcome, outcome, text_outcome}
 use Rattle.ml_text.proofs.Complete.{found}
 use Rattle.ml_text.proofs.Sound.{stands}
 use Rattle.ml_text.proofs.Viable.{run-parse}
 use Rattle.ml_text.proofs.FirstItems.{take_all, take_one, counted-last, open_from-last, offset-end, long_within}
 use Rattle.ml_text.proofs.Fits.{Fits, first_run}
-use Rattle.ml_text.proofs.ItemFaults.{Progress, first_of_all, refused_item, within_here, begins_here, one_more, syntax_here, no_syntax_here, count_here, no_count_here, nesting_here, no_nesting_here, name_here, no_name_here, least_syntax, least_count, least_nesting, least_name, no_fault}
+use Rattle.ml_text.proofs.ItemFaults.{Progress, first_of_all, refused_item, within_here, begins_here, one_more, syntax_here}
+use Rattle.ml_text.proofs.ItemFaults.{no_syntax_here, count_here, no_count_here, nesting_here, no_nesting_here, name_here}
+use Rattle.ml_text.proofs.ItemFaults.{no_name_here, least_syntax, least_count, least_nesting, least_name, no_fault}
 
 abbrev pub IsOutcome : (g : Grammar) (R : List g.Sign → g.Tree → Type 0)
     → List (Item g.Sign)

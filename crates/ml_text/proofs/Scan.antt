@@ -3,7 +3,8 @@
 --
 --   front_at w text i  == the token that begins at the byte i of the text, and its length
 --   placed w text i    == the same token with its place
-use Rattle.std.proofs.Common.{◌≡◌, ℕ, zero, suc, ◌+◌, ◌-◌, ◌<◌, ◌≤◌, Bool, true, false, List, [], ◌∷◌, length, drop, get_or, Option, Some, None, unwrap_or, nat_lt, Contains, sym, refl, ap, ◌∙◌, subst, ⊎_elim, arith, ltb-true, length-drop, drop-drop, get_or-drop, add-zero}
+use Rattle.std.proofs.Common.{◌≡◌, ℕ, zero, suc, ◌+◌, ◌-◌, ◌<◌, ◌≤◌, Bool, true, false, List, [], ◌∷◌, length, drop, get_or, Option, Some, None, unwrap_or}
+use Rattle.std.proofs.Common.{nat_lt, Contains, sym, refl, ap, ◌∙◌, subst, ⊎_elim, arith, ltb-true, length-drop, drop-drop, get_or-drop, add-zero}
 use Rattle.std.specs.List.{take_while, prefix_len}
 use Rattle.std.proofs.lemmas.Bool.{cases_Bool, cond-true, cond-false}
 use Rattle.std.proofs.lemmas.List.{drop_more, drop_all}

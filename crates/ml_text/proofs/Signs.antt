@@ -1,7 +1,8 @@
 -- The longest spelling of a table with which a text begins, for any table.
 --
 --   Found es text best == best is the token and the length of a spelling of the table with which the text begins
-use Rattle.std.proofs.Common.{◌≡◌, ℕ, zero, suc, ◌<◌, ◌≤◌, true, false, ◌&&◌, ◌⊎◌, List, [], ◌∷◌, length, take, get_or, Option, Some, None, nat_eq, Contains, sym, refl, ap, ◌∙◌, subst, inl, inr, ⊎_elim, arith, ltb-true, ltb-false, length-take}
+use Rattle.std.proofs.Common.{◌≡◌, ℕ, zero, suc, ◌<◌, ◌≤◌, true, false, ◌&&◌, ◌⊎◌, List, [], ◌∷◌, length, take, get_or, Option, Some, None, nat_eq}
+use Rattle.std.proofs.Common.{Contains, sym, refl, ap, ◌∙◌, subst, inl, inr, ⊎_elim, arith, ltb-true, ltb-false, length-take}
 use Rattle.std.specs.List.{starts_with}
 use Rattle.std.proofs.lemmas.Bool.{cases_Bool, and_from, and_left, and_right, cond-true, cond-false}
 use Rattle.std.proofs.lemmas.List.Elements.{Contains-append_right}

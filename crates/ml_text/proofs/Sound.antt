@@ -9,10 +9,12 @@ use Rattle.std.proofs.Common.{◌≡◌, ℕ, ◌+◌, ◌<◌, ◌≤◌, ◌�
 use Rattle.std.specs.Prelude.{option_and_then}
 use Rattle.std.specs.Option.{option_map}
 use Rattle.std.proofs.lemmas.Bool.{cases_Bool}
-use Rattle.ml_text.specs.Grammar.{Grammar, Mode, Whole, More, Turn, Read, Inner, Opens, Level, Operand, Rest, Behind, Reads, alone, joined, postfixed, form, whole, sign, read, inner, opens, left_level, right_level, role_takes, takes, front, StandsFor}
+use Rattle.ml_text.specs.Grammar.{Grammar, Mode, Whole, More, Turn, Read, Inner, Opens, Level, Operand, Rest, Behind, Reads, alone, joined, postfixed}
+use Rattle.ml_text.specs.Grammar.{form, whole, sign, read, inner, opens, left_level, right_level, role_takes, takes, front, StandsFor}
 use Rattle.ml_text.specs.declared.forms.Role.{Role}
 use Rattle.ml_text.specs.declared.forms.Role.TheVariants.{Infix, Postfix, Outside}
-use Rattle.ml_text.specs.private.Machine.{Frame, Held, Left, Stack, State, frame_sort, frame_level, sort_of, level_of, start_state, begin, enter, take_sign, behind, step, whole_of, close, parse, popped}
+use Rattle.ml_text.specs.private.Machine.{Frame, Held, Left, Stack, State, frame_sort, frame_level, sort_of, level_of, start_state}
+use Rattle.ml_text.specs.private.Machine.{begin, enter, take_sign, behind, step, whole_of, close, parse, popped}
 use Rattle.ml_text.proofs.Levels.{left_level-right_level}
 use Rattle.ml_text.proofs.Complete.{behind-popped, behind-taken}
 

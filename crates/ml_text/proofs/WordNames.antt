@@ -6,7 +6,8 @@
 --   token_size      == how many bytes a token within the text has
 --   name_bytes_by   == what holds of the first bytes of each token, and of all bytes of one that is not too long, holds of
 --                      the bytes of which its name is made
-use Rattle.std.proofs.Common.{◌≡◌, ℕ, zero, suc, ◌-◌, ◌≤◌, Bool, true, false, ◌&&◌, ◌||◌, ◌==◌, nat_le, nat_lt, List, [], ◌∷◌, length, take, drop, cond, refl, sym, ◌∙◌, ap, subst, ⊎_elim, arith, le-leb, leb-true, ltb-true, length-take, length-drop}
+use Rattle.std.proofs.Common.{◌≡◌, ℕ, zero, suc, ◌-◌, ◌≤◌, Bool, true, false, ◌&&◌, ◌||◌, ◌==◌, nat_le, nat_lt, List, [], ◌∷◌, length, take, drop}
+use Rattle.std.proofs.Common.{cond, refl, sym, ◌∙◌, ap, subst, ⊎_elim, arith, le-leb, leb-true, ltb-true, length-take, length-drop}
 use Rattle.std.specs.List.{list_all}
 use Rattle.std.specs.Char.{is_ascii_alphabetic}
 use Rattle.std.proofs.Math.Path.{fun_ext}
@@ -99,7 +100,9 @@ pub token_size : (text : List ℕ) (p : Placed)
 token_size text p before within =
     omega (arith, length-take (p.end - p.start) (drop p.start text), length-drop p.start text)
 
-long_bytes : (text : List ℕ) (p : Placed) → is_long_word p ≡ true → name_bytes text p ≡ take longest_name (bytes_of text p)
+long_bytes : (text : List ℕ) (p : Placed)
+    → is_long_word p ≡ true
+    → name_bytes text p ≡ take longest_name (bytes_of text p)
 long_bytes text p long =
     let parts = and_parts (is_word p.token) (nat_lt longest_name (p.end - p.start)) long in
     let more = ltb-true longest_name (p.end - p.start) parts.1 in

@@ -86,19 +86,44 @@ pub data Part (g : Grammar) : Type 0 where
 
 pub data Reads (g : Grammar) : Part g → List g.Sign → g.Tree → List g.Sign → Type 0 where
   -- an operand is of every level
-  alone : {s : g.Sort} {l : ℕ} {ts rest : List g.Sign} {f : g.Tree} → Reads g (Operand s) ts f rest → Reads g (Level s l) ts f rest
+  alone : {s : g.Sort} {l : ℕ} {ts rest : List g.Sign} {f : g.Tree}
+      → Reads g (Operand s) ts f rest
+      → Reads g (Level s l) ts f rest
   -- two operands with an operator between them
-  joined : {s : g.Sort} {l : ℕ} {ts us rest : List g.Sign} {f h : g.Tree} (o : g.Sign) (m : ℕ) → g.role s o ≡ Infix m → l ≤ m → Reads g (Level s (left_level g s m)) ts f (o ∷ us) → Reads g (Level s (right_level g s m)) us h rest → Reads g (Level s l) ts (g.join o f h) rest
+  joined : {s : g.Sort} {l : ℕ} {ts us rest : List g.Sign} {f h : g.Tree} (o : g.Sign) (m : ℕ)
+      → g.role s o ≡ Infix m
+      → l ≤ m
+      → Reads g (Level s (left_level g s m)) ts f (o ∷ us)
+      → Reads g (Level s (right_level g s m)) us h rest
+      → Reads g (Level s l) ts (g.join o f h) rest
   -- an operand with a sign behind it
-  postfixed : {s : g.Sort} {ts rest : List g.Sign} {f h : g.Tree} (o : g.Sign) → g.role s o ≡ Postfix → g.post o f ≡ Some h → Reads g (Operand s) ts f (o ∷ rest) → Reads g (Operand s) ts h rest
+  postfixed : {s : g.Sort} {ts rest : List g.Sign} {f h : g.Tree} (o : g.Sign)
+      → g.role s o ≡ Postfix
+      → g.post o f ≡ Some h
+      → Reads g (Operand s) ts f (o ∷ rest)
+      → Reads g (Operand s) ts h rest
   -- an operand in one of the forms of its sort
-  form : {s : g.Sort} {ts rest : List g.Sign} {f : g.Tree} → Reads g (Rest (More (g.start s))) ts f rest → Reads g (Operand s) ts f rest
+  form : {s : g.Sort} {ts rest : List g.Sign} {f : g.Tree}
+      → Reads g (Rest (More (g.start s))) ts f rest
+      → Reads g (Operand s) ts f rest
   whole : {f : g.Tree} {ts : List g.Sign} → Reads g (Rest (Whole f)) ts f ts
-  sign : {q : g.Wait} {t : g.Sign} {ts rest : List g.Sign} {f : g.Tree} → Reads g (Behind t (g.shift q t)) ts f rest → Reads g (Rest (More q)) (t ∷ ts) f rest
-  read : {t : g.Sign} {m : Mode g.Tree g.Wait} {ts rest : List g.Sign} {f : g.Tree} → Reads g (Rest m) ts f rest → Reads g (Behind t (Some (Read m))) ts f rest
+  sign : {q : g.Wait} {t : g.Sign} {ts rest : List g.Sign} {f : g.Tree}
+      → Reads g (Behind t (g.shift q t)) ts f rest
+      → Reads g (Rest (More q)) (t ∷ ts) f rest
+  read : {t : g.Sign} {m : Mode g.Tree g.Wait} {ts rest : List g.Sign} {f : g.Tree}
+      → Reads g (Rest m) ts f rest
+      → Reads g (Behind t (Some (Read m))) ts f rest
   -- an operand that the form holds, behind the sign or beginning with it
-  inner : {t : g.Sign} {k : g.Hold} {ts us rest : List g.Sign} {v f : g.Tree} → Reads g (Level (g.sort k) (g.level k)) ts v us → takes g (g.sort k) (g.level k) (front us) ≡ false → Reads g (Rest (g.resume k v)) us f rest → Reads g (Behind t (Some (Inner k))) ts f rest
-  opens : {t : g.Sign} {k : g.Hold} {ts us rest : List g.Sign} {v f : g.Tree} → Reads g (Level (g.sort k) (g.level k)) (t ∷ ts) v us → takes g (g.sort k) (g.level k) (front us) ≡ false → Reads g (Rest (g.resume k v)) us f rest → Reads g (Behind t (Some (Opens k))) ts f rest
+  inner : {t : g.Sign} {k : g.Hold} {ts us rest : List g.Sign} {v f : g.Tree}
+      → Reads g (Level (g.sort k) (g.level k)) ts v us
+      → takes g (g.sort k) (g.level k) (front us) ≡ false
+      → Reads g (Rest (g.resume k v)) us f rest
+      → Reads g (Behind t (Some (Inner k))) ts f rest
+  opens : {t : g.Sign} {k : g.Hold} {ts us rest : List g.Sign} {v f : g.Tree}
+      → Reads g (Level (g.sort k) (g.level k)) (t ∷ ts) v us
+      → takes g (g.sort k) (g.level k) (front us) ≡ false
+      → Reads g (Rest (g.resume k v)) us f rest
+      → Reads g (Behind t (Some (Opens k))) ts f rest
 
 abbrev pub StandsFor : (g : Grammar) → List g.Sign → g.Tree → Type 0
 StandsFor g ts f = Reads g (Level g.whole 0) ts f []
@@ -119,4 +144,7 @@ pub record Ending (g : Grammar) (q : g.Wait) : Type 0 where
 pub record IsCompletable (g : Grammar) : Type 0 where
   pub ending : (q : g.Wait) → Ending g q
   -- what ends a held operand can be taken by none
-  pub closes : (k : g.Hold) (v : g.Tree) (q : g.Wait) → g.resume k v ≡ More q → (rest : List g.Sign) → IsStop g (front ((ending q).signs ++ rest))
+  pub closes : (k : g.Hold) (v : g.Tree) (q : g.Wait)
+      → g.resume k v ≡ More q
+      → (rest : List g.Sign)
+      → IsStop g (front ((ending q).signs ++ rest))

@@ -11,14 +11,22 @@ loop-state-init c =
 
 pub index_mut-requires : goal.index_mut-requires
 index_mut-requires c =
-    let turn = YieldsList-turn (YieldsList-from_vec c.args.labels.items (cc) (cc)) c.loop-state.yielded c.loop-state.state-iterator c.loop-state.yielded_by c.next.result c.next.new.self (c.in-Some.state, c.in-Some.label) c.in-Some.is c.next.ensures.steps in
+    let turn =
+    YieldsList-turn (YieldsList-from_vec c.args.labels.items (cc) (cc)) c.loop-state.yielded c.loop-state.state-iterator
+    c.loop-state.yielded_by c.next.result c.next.new.self (c.in-Some.state, c.in-Some.label) c.in-Some.is
+    c.next.ensures.steps
+    in
     let below = label_in_range c.args.labels.items c.args.states _ (c.in-Some.state, c.in-Some.label) c.requires turn.0 turn.1 in
     let long = length_rows (λ row. row.items) c.loop-state.rows.items c.loop-state.yielded c.args.states c.loop-state.invariant.2 in
     omega arith
 
 pub loop-state-preserved : goal.loop-state-preserved
 loop-state-preserved c =
-    let turn = YieldsList-turn (YieldsList-from_vec c.args.labels.items (cc) (cc)) c.loop-state.yielded c.loop-state.state-iterator c.loop-state.yielded_by c.next.result c.next.new.self (c.in-Some.state, c.in-Some.label) c.in-Some.is c.next.ensures.steps in
+    let turn =
+    YieldsList-turn (YieldsList-from_vec c.args.labels.items (cc) (cc)) c.loop-state.yielded c.loop-state.state-iterator
+    c.loop-state.yielded_by c.next.result c.next.new.self (c.in-Some.state, c.in-Some.label) c.in-Some.is
+    c.next.ensures.steps
+    in
     let below = label_in_range c.args.labels.items c.args.states _ (c.in-Some.state, c.in-Some.label) c.requires turn.0 turn.1 in (
       tt,
       tt,

@@ -15,9 +15,13 @@ pub returns-in-Some : goal.returns-in-Some
 returns-in-Some c = record {
   member = place-member c.args.nodes.now c.loop-node.node-index 0 c.loop-node-test.true;
   has = sym c.in-Some.ensures;
-  first = first_of c.args.nodes.now c.requires.ascends (λ n. partner c.args.graph.now c.args.nodes.now (node_at c.args.graph.now n) ≡ None) c.loop-node.node-index c.loop-node-test.true c.loop-node.invariant;
+  first =
+      first_of c.args.nodes.now c.requires.ascends
+      (λ n. partner c.args.graph.now c.args.nodes.now (node_at c.args.graph.now n) ≡ None) c.loop-node.node-index
+      c.loop-node-test.true c.loop-node.invariant;
 }
 
 pub returns : goal.returns
 returns c =
-    none_of c.args.nodes.now (λ n. partner c.args.graph.now c.args.nodes.now (node_at c.args.graph.now n) ≡ None) c.loop-node.node-index (omega arith) c.loop-node.invariant
+    none_of c.args.nodes.now (λ n. partner c.args.graph.now c.args.nodes.now (node_at c.args.graph.now n) ≡ None)
+    c.loop-node.node-index (omega arith) c.loop-node.invariant

@@ -49,7 +49,8 @@ best_of-found-requires-clause-low c =
     let x = c.args.parts.now in
     let s = some_frame x.frames c.requires.some in
     let same = same_walk x c.take.new.self c.take.ensures.others c.in-None.ensures.taken.0 in
-    part_low c.args.graph.now x c.last.result.now s.first.first (last_part x c.take.new.self c.last.result.now s same c.last.ensures) c.requires.fit.path_low
+    part_low c.args.graph.now x c.last.result.now s.first.first
+    (last_part x c.take.new.self c.last.result.now s same c.last.ensures) c.requires.fit.path_low
 
 pub best_of-found-requires-clause-some : goal.best_of-found-requires-clause-some
 best_of-found-requires-clause-some c =
@@ -75,7 +76,8 @@ returns-in_ok-go_to-in-Some-clause-went_on c = λ nodes closed part.
     let w = c.take.new.self.waiting in
     let taken = c.in-Some.ensures.taken in
     let went = went_on g ch d nodes closed x w m c.args.best part taken.0 (λ f fs is. taken.1 f (ap first_frame is)) in
-    subst (λ (y : WalkList). WentOn g ch d nodes x y c.args.best) (sym (c.in_ok-go_to-in-Some.ensures.gone ∙ ap (gone g ch d m) c.take.ensures.others)) went
+    subst (λ (y : WalkList). WentOn g ch d nodes x y c.args.best)
+    (sym (c.in_ok-go_to-in-Some.ensures.gone ∙ ap (gone g ch d m) c.take.ensures.others)) went
 
 pub returns-in-None-clause-went_on : goal.returns-in-None-clause-went_on
 returns-in-None-clause-went_on c = λ nodes closed part.
@@ -87,8 +89,14 @@ returns-in-None-clause-went_on c = λ nodes closed part.
     let s = some_frame x.frames c.requires.some in
     let same = same_walk x y c.take.ensures.others c.in-None.ensures.taken.0 in
     let nodes_are = last_part x y c.last.result.now s same c.last.ensures in
-    let best = subst (λ (p : List ℕ). (IsCyclic g ch p × (c.best_of-found.result ≡ offered g d p c.args.best)) ⊎ ((IsCyclic g ch p → ⊥) × (c.best_of-found.result ≡ c.args.best))) nodes_are c.best_of-found.ensures in
+    let best =
+    subst
+    (λ (p : List ℕ). (IsCyclic g ch p × (c.best_of-found.result ≡ offered g d p c.args.best))
+    ⊎ ((IsCyclic g ch p → ⊥) × (c.best_of-found.result ≡ c.args.best)))
+    nodes_are c.best_of-found.ensures
+    in
     let frames = ap (λ (z : WalkList). z.frames) same ∙ s.is in
     let none_waits = c.in-None.ensures.taken.1 s.first (ap first_frame s.is) in
     let went = went_shut g ch d nodes closed x s.first s.rest c.args.best c.best_of-found.result part s.is none_waits best in
-    subst (λ (z : WalkList). WentOn g ch d nodes x z c.best_of-found.result) (sym (c.close.ensures.shut s.first s.rest frames ∙ ap (shut s.first s.rest) same)) went
+    subst (λ (z : WalkList). WentOn g ch d nodes x z c.best_of-found.result)
+    (sym (c.close.ensures.shut s.first s.rest frames ∙ ap (shut s.first s.rest) same)) went

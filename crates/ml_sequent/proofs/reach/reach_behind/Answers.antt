@@ -9,8 +9,15 @@ returns-clause-reached c =
     let floor = c.rank-floor.result in
     let next = behind c.args.graph.now c.args.choice.now c.args.levels.now.ranks floor in
     let first = next (record { node = c.args.node; rank = floor }) in
-    let visited = subst (λ (found : List Visit). IsVisited first found c.go_on.new.reach.found) (ap (λ r. r.found) c.clear.ensures) c.in_ok-go_on.ensures.visited in
-    subst (λ f. OnOk c.finish.result (HasReached (behind c.args.graph.now c.args.choice.now c.args.levels.now.ranks f) (behind c.args.graph.now c.args.choice.now c.args.levels.now.ranks f (record { node = c.args.node; rank = f })) c.finish.new.reach.found))
+    let visited =
+    subst (λ (found : List Visit). IsVisited first found c.go_on.new.reach.found) (ap (λ r. r.found) c.clear.ensures)
+    c.in_ok-go_on.ensures.visited
+    in
+    subst
+    (λ f. OnOk c.finish.result
+    (HasReached (behind c.args.graph.now c.args.choice.now c.args.levels.now.ranks f)
+    (behind c.args.graph.now c.args.choice.now c.args.levels.now.ranks f (record { node = c.args.node; rank = f }))
+    c.finish.new.reach.found))
     c.rank-floor.ensures
     (finished next first 0 c.go_on.new.reach.found c.finish.new.reach.found c.finish.result c.finish.ensures.reached
     (search_begins next first c.go_on.new.reach.found visited))

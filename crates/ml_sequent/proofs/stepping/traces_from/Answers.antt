@@ -23,12 +23,18 @@ loop-node-preserved c =
     let more = c.in_ok-push_exits.ensures ∙ ap (λ (found : List Visit). c.loop-node.traces.items ++ flat_map f found) c.found.ensures.value in
     record {
       room = c.in_ok-reach_from.ensures.room;
-      traces = traces_more c.args.graph.now c.args.choice.now c.args.levels.now c.size-size.ensures.is_graph c.requires.ranked c.args.action c.args.diamond nodes i c.reach_from.new.reach.found c.loop-node.traces.items c.push_exits.new.traces.items c.loop-node-test.true low
+      traces =
+          traces_more c.args.graph.now c.args.choice.now c.args.levels.now c.size-size.ensures.is_graph
+          c.requires.ranked c.args.action c.args.diamond nodes i c.reach_from.new.reach.found c.loop-node.traces.items
+          c.push_exits.new.traces.items c.loop-node-test.true low
           c.in_ok-reach_from.ensures.reached more c.loop-node.invariant.traces;
     }
 
 pub returns-clause-traces : goal.returns-clause-traces
 returns-clause-traces c =
     let all = take_all c.loop-node.node-index c.args.nodes.now (omega arith) in
-    subst (λ (nodes : List ℕ). (t : Triple) → IsMember t c.loop-node.traces.items ↔ (IsMember t.from nodes × IsTraceFrom c.args.graph.now c.args.choice.now c.args.action c.args.diamond t))
+    subst
+    (λ (nodes : List ℕ). (t : Triple)
+    → IsMember t c.loop-node.traces.items ↔
+    (IsMember t.from nodes × IsTraceFrom c.args.graph.now c.args.choice.now c.args.action c.args.diamond t))
     all c.loop-node.invariant.traces

@@ -18,7 +18,9 @@ invariant_of-self-then-not-index c =
 pub returns-in_ok-push-clause-visited : goal.returns-in_ok-push-clause-visited
 returns-in_ok-push-clause-visited c =
     subst (λ (found : List Visit). IsVisited (c.args.visit ∷ []) c.args.self.now.found found) (sym c.in_ok-push.ensures.items)
-    (subst (λ (found : List Visit). IsVisited (c.args.visit ∷ []) found (c.self.inside.found.items ++ c.args.visit ∷ [])) (ap (λ r. r.found) c.self.view_is) (visited_new c.self.inside.found.items c.args.visit))
+    (subst
+    (λ (found : List Visit). IsVisited (c.args.visit ∷ []) found (c.self.inside.found.items ++ c.args.visit ∷ []))
+    (ap (λ r. r.found) c.self.view_is) (visited_new c.self.inside.found.items c.args.visit))
 
 pub returns-else-not-index-clause-visited : goal.returns-else-not-index-clause-visited
 returns-else-not-index-clause-visited c =
@@ -28,4 +30,5 @@ returns-else-not-index-clause-visited c =
     let marked = read ∙ c.if-not-index.false in
     let rank : c.args.visit.rank < width = search (rules, c.requires.rank, c.self.view_is) in
     subst (λ (r : ReachList). IsVisited (c.args.visit ∷ []) r.found r.found) c.self.view_is
-    (visited_old c.self.inside.found.items c.args.visit (found_before width c.self.inside.marks.items c.self.inside.found.items c.args.visit c.self.invariant rank marked))
+    (visited_old c.self.inside.found.items c.args.visit
+    (found_before width c.self.inside.marks.items c.self.inside.found.items c.args.visit c.self.invariant rank marked))
