@@ -14,6 +14,7 @@
 --   Range P i j          == P holds of all nodes of the occurrences from i to before j
 --   one_occurrence, three_occurrences, one_part, two_parts == ranges put together
 --   same_and, ..         == nodes that are told alike in both are the same
+--   same_joined          == and so are those of a connective
 --   alike_below          == graphs of one size whose nodes are all the same are alike
 --   alike_of             == so are those whose occurrences all have the same nodes
 use Rattle.std.proofs.Common.{◌≡◌, ℕ, ◌+◌, ◌*◌, ◌<◌, ◌≤◌, ◌⊎◌, Bool, List, [], length, refl, sym, ◌∙◌, ap, subst, ⊎_elim, arith}
@@ -22,6 +23,10 @@ use Rattle.std.proofs.lemmas.List.{get_or_past, get_or_default, same_lists}
 use Rattle.ml_graph.specs.Graph.{Graph, IsGraph, size, node_at, priority_at, prop_at, action_at}
 use Rattle.ml_graph.specs.declared.node.Node.{Node}
 use Rattle.ml_graph.specs.declared.node.Node.TheVariants as node
+use Rattle.ml_text.specs.declared.token.Operator.{Operator}
+use Rattle.ml_text.specs.declared.token.Operator.TheVariants as operator
+use Rattle.ml_text.specs.Operators.{weight}
+use Rattle.ml_nodes.specs.Nodes.{Joins, negative, positive}
 use Rattle.ml_graph.proofs.Places.{same_place}
 use Rattle.ml_graph.proofs.References.{prop_in_range, diamond_action, square_action}
 
@@ -206,7 +211,7 @@ ended : (P : ℕ → Type 0) (i j k : ℕ) → j ≡ k → Range P i j → Range
 ended P i j k same all = subst (Range P i) same all
 
 -- three occurrences in a row
-pub three_occurrences : (P : ℕ → Type 0) (i : ℕ)
+three_occurrences : (P : ℕ → Type 0) (i : ℕ)
     → P (2 * i)
     → P (2 * i + 1)
     → P (2 * (i + 1))
@@ -264,6 +269,28 @@ module _ (g h : Graph) where
 
   pub same_or : (n l r p : ℕ) → Stands g n (node.Or l r) p → Stands h n (node.Or l r) p → SameNode g h n
   same_or n l r p here there = same_plain n (node.Or l r) p refl here there
+
+  -- the nodes of a connective
+  pub same_joined : (p : ℕ) (op : Operator) (i l r : ℕ) → Joins g p op i l r → Joins h p op i l r
+      → Range (SameNode g h) i (i + weight op)
+  same_joined p operator.And i l r x y =
+      one_occurrence (SameNode g h) i (same_and (positive i) (positive l) (positive r) p x.0 y.0)
+      (same_or (negative i) (negative l) (negative r) p x.1 y.1)
+  same_joined p operator.Or i l r x y =
+      one_occurrence (SameNode g h) i (same_or (positive i) (positive l) (positive r) p x.0 y.0)
+      (same_and (negative i) (negative l) (negative r) p x.1 y.1)
+  same_joined p operator.Implies i l r x y =
+      one_occurrence (SameNode g h) i (same_or (positive i) (negative l) (positive r) p x.0 y.0)
+      (same_and (negative i) (positive l) (negative r) p x.1 y.1)
+  same_joined p operator.Iff i l r x y =
+      let both = i + 1 in
+      let neither = i + 2 in
+      three_occurrences (SameNode g h) i (same_or (positive i) (positive both) (positive neither) p x.0 y.0)
+      (same_or (negative i) (negative both) (negative neither) p x.1 y.1)
+      (same_and (positive both) (positive l) (positive r) p x.2 y.2)
+      (same_and (negative both) (positive l) (negative r) p x.3 y.3)
+      (same_and (positive neither) (negative l) (negative r) p x.4 y.4)
+      (same_and (negative neither) (negative l) (positive r) p x.5 y.5)
 
   pub same_literal : (n q r : ℕ) (s : Bool) (p : ℕ) (name : List ℕ)
       → Stands g n (node.Lit q s) p

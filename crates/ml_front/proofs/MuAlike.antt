@@ -8,9 +8,9 @@ use Rattle.ml_graph.specs.declared.node.Node.TheVariants as node
 use Rattle.ml_mu.specs.Formula.{Formula, Const, Prop, Var, Not, Binary, Modal, Binder, Modality, Diamond, Square, occurrences}
 use Rattle.ml_nodes.specs.Nodes.{IsNode, constant, negative, positive}
 use Rattle.ml_mu_graph.specs.MuGraph.{Around, IsGraphOf, IsLiteral, IsModality, StandsAt, binder_of, binder_priority, binders, dual, opposite}
-use Rattle.ml_text.specs.declared.token.Operator.TheVariants as operator
+use Rattle.ml_text.specs.Operators.{weight}
 use Rattle.ml_front.proofs.AlikeGraphs.{AreAlike, Range, SameNode, alike_of, one_occurrence, one_part, same_and, same_box}
-use Rattle.ml_front.proofs.AlikeGraphs.{same_diamond, same_literal, same_or, same_plain, three_occurrences, two_parts}
+use Rattle.ml_front.proofs.AlikeGraphs.{same_diamond, same_joined, same_literal, same_plain, two_parts}
 
 module _ (g h : Graph) where
   abbrev P : ℕ → Type 0
@@ -33,9 +33,6 @@ module _ (g h : Graph) where
   ands : (n l r p : ℕ) → IsNode g n (node.And l r) p → IsNode h n (node.And l r) p → P n
   ands = same_and g h
 
-  ors : (n l r p : ℕ) → IsNode g n (node.Or l r) p → IsNode h n (node.Or l r) p → P n
-  ors = same_or g h
-
   same_in : (k : ℕ) (bs : Around) (i : ℕ) (f : Formula) → StandsAt g k bs i f → StandsAt h k bs i f
       → Range P i (i + occurrences f)
   same_in k bs i (Const b) x y =
@@ -49,40 +46,10 @@ module _ (g h : Graph) where
   same_in k bs i (Not f) x y =
       one_part P i (occurrences f) (ands (positive i) (negative (i + 1)) (negative (i + 1)) k x.0 y.0)
       (ands (negative i) (positive (i + 1)) (positive (i + 1)) k x.1 y.1) (same_in k bs (i + 1) f x.2 y.2)
-  same_in k bs i (Binary operator.And f e) x y =
-      let l = i + 1 in
-      let r = l + occurrences f in
-      two_parts P i 1 (occurrences f) (occurrences e)
-      (one_occurrence P i (ands (positive i) (positive l) (positive r) k x.0 y.0)
-      (ors (negative i) (negative l) (negative r) k x.1 y.1))
-      (same_in k bs l f x.2 y.2) (same_in k bs r e x.3 y.3)
-  same_in k bs i (Binary operator.Or f e) x y =
-      let l = i + 1 in
-      let r = l + occurrences f in
-      two_parts P i 1 (occurrences f) (occurrences e)
-      (one_occurrence P i (ors (positive i) (positive l) (positive r) k x.0 y.0)
-      (ands (negative i) (negative l) (negative r) k x.1 y.1))
-      (same_in k bs l f x.2 y.2) (same_in k bs r e x.3 y.3)
-  same_in k bs i (Binary operator.Implies f e) x y =
-      let l = i + 1 in
-      let r = l + occurrences f in
-      two_parts P i 1 (occurrences f) (occurrences e)
-      (one_occurrence P i (ors (positive i) (negative l) (positive r) k x.0 y.0)
-      (ands (negative i) (positive l) (negative r) k x.1 y.1))
-      (same_in k bs l f x.2 y.2) (same_in k bs r e x.3 y.3)
-  same_in k bs i (Binary operator.Iff f e) x y =
-      let both = i + 1 in
-      let neither = i + 2 in
-      let l = i + 3 in
-      let r = l + occurrences f in
-      two_parts P i 3 (occurrences f) (occurrences e)
-      (three_occurrences P i (ors (positive i) (positive both) (positive neither) k x.0 y.0)
-      (ors (negative i) (negative both) (negative neither) k x.1 y.1)
-      (ands (positive both) (positive l) (positive r) k x.2 y.2)
-      (ands (negative both) (positive l) (negative r) k x.3 y.3)
-      (ands (positive neither) (negative l) (negative r) k x.4 y.4)
-      (ands (negative neither) (negative l) (positive r) k x.5 y.5))
-      (same_in k bs l f x.6 y.6) (same_in k bs r e x.7 y.7)
+  same_in k bs i (Binary op f e) x y =
+      let l = i + weight op in
+      two_parts P i (weight op) (occurrences f) (occurrences e) (same_joined g h k op i l (l + occurrences f) x.0 y.0)
+      (same_in k bs l f x.1 y.1) (same_in k bs (l + occurrences f) e x.2 y.2)
   same_in k bs i (Modal m a f) x y =
       one_part P i (occurrences f) (modalities (positive i) m a (positive (i + 1)) k x.0 y.0)
       (modalities (negative i) (dual m) a (negative (i + 1)) k x.1 y.1) (same_in k bs (i + 1) f x.2 y.2)

@@ -8,9 +8,9 @@ use Rattle.ml_graph.specs.declared.node.Node.TheVariants as node
 use Rattle.ml_pdl.specs.Formula.{Formula, Const, Prop, Not, Binary, Modal, Repeat, Program, Act, Seq, Alt, Star, Test, Diamond, Square, occurrences, program_occurrences}
 use Rattle.ml_nodes.specs.Nodes.{IsNode, constant, negative, positive}
 use Rattle.ml_pdl_graph.specs.PdlGraph.{IsGraphOf, IsLiteral, ProgramStandsAt, StandsAt, box, diamond, plain}
-use Rattle.ml_text.specs.declared.token.Operator.TheVariants as operator
+use Rattle.ml_text.specs.Operators.{weight}
 use Rattle.ml_front.proofs.AlikeGraphs.{AreAlike, Range, SameNode, alike_of, one_occurrence, one_part, same_and, same_box}
-use Rattle.ml_front.proofs.AlikeGraphs.{same_diamond, same_literal, same_or, same_plain, three_occurrences, two_parts}
+use Rattle.ml_front.proofs.AlikeGraphs.{same_diamond, same_joined, same_literal, same_or, same_plain, two_parts}
 
 module _ (g h : Graph) where
   abbrev P : ℕ → Type 0
@@ -38,40 +38,10 @@ module _ (g h : Graph) where
     same_in i (Not f) x y =
         one_part P i (occurrences f) (ands (positive i) (negative (i + 1)) (negative (i + 1)) plain x.0 y.0)
         (ands (negative i) (positive (i + 1)) (positive (i + 1)) plain x.1 y.1) (same_in (i + 1) f x.2 y.2)
-    same_in i (Binary operator.And f e) x y =
-        let l = i + 1 in
-        let r = l + occurrences f in
-        two_parts P i 1 (occurrences f) (occurrences e)
-        (one_occurrence P i (ands (positive i) (positive l) (positive r) plain x.0 y.0)
-        (ors (negative i) (negative l) (negative r) plain x.1 y.1))
-        (same_in l f x.2 y.2) (same_in r e x.3 y.3)
-    same_in i (Binary operator.Or f e) x y =
-        let l = i + 1 in
-        let r = l + occurrences f in
-        two_parts P i 1 (occurrences f) (occurrences e)
-        (one_occurrence P i (ors (positive i) (positive l) (positive r) plain x.0 y.0)
-        (ands (negative i) (negative l) (negative r) plain x.1 y.1))
-        (same_in l f x.2 y.2) (same_in r e x.3 y.3)
-    same_in i (Binary operator.Implies f e) x y =
-        let l = i + 1 in
-        let r = l + occurrences f in
-        two_parts P i 1 (occurrences f) (occurrences e)
-        (one_occurrence P i (ors (positive i) (negative l) (positive r) plain x.0 y.0)
-        (ands (negative i) (positive l) (negative r) plain x.1 y.1))
-        (same_in l f x.2 y.2) (same_in r e x.3 y.3)
-    same_in i (Binary operator.Iff f e) x y =
-        let both = i + 1 in
-        let neither = i + 2 in
-        let l = i + 3 in
-        let r = l + occurrences f in
-        two_parts P i 3 (occurrences f) (occurrences e)
-        (three_occurrences P i (ors (positive i) (positive both) (positive neither) plain x.0 y.0)
-        (ors (negative i) (negative both) (negative neither) plain x.1 y.1)
-        (ands (positive both) (positive l) (positive r) plain x.2 y.2)
-        (ands (negative both) (positive l) (negative r) plain x.3 y.3)
-        (ands (positive neither) (negative l) (negative r) plain x.4 y.4)
-        (ands (negative neither) (negative l) (positive r) plain x.5 y.5))
-        (same_in l f x.6 y.6) (same_in r e x.7 y.7)
+    same_in i (Binary op f e) x y =
+        let l = i + weight op in
+        two_parts P i (weight op) (occurrences f) (occurrences e) (same_joined g h plain op i l (l + occurrences f) x.0 y.0)
+        (same_in l f x.1 y.1) (same_in (l + occurrences f) e x.2 y.2)
     same_in i (Modal Diamond p f) x y =
         let l = i + 1 in
         let r = l + program_occurrences p in

@@ -7,7 +7,7 @@ use Rattle.std.proofs.Common.{◌≡◌, ◌↔◌, ℕ, ◌+◌, ◌*◌, ◌<�
 use Rattle.ml_base.specs.Structure.{Structure, IsStructure, is_member}
 use Rattle.ml_graph.specs.Graph.{Graph}
 use Rattle.ml_graph.specs.CheckingGame.{HoldsAt, Holds}
-use Rattle.ml_text.specs.declared.token.Operator.TheVariants as operator
+use Rattle.ml_text.specs.Operators.{weight}
 use Rattle.ml_mu.specs.Formula.{Formula, Const, Prop, Var, Not, Binary, Modal, Binder, occurrences}
 use Rattle.ml_mu.specs.Meaning.{Given, meaning}
 use Rattle.ml_mu.specs.Problem as problem
@@ -17,7 +17,7 @@ use Rattle.ml_mu_graph.specs.MuGraph.{binders, Around, IsGraphOf}
 use Rattle.ml_mu_graph.proofs.CutOpen.{cut, marked}
 use Rattle.ml_mu_graph.proofs.CutSituations.{fresh, inner}
 use Rattle.ml_mu_graph.proofs.Situations.{Situation, Agree, PropsAgree}
-use Rattle.ml_mu_graph.proofs.Connectives.{agree_const, agree_prop, agree_var, not_inner, agree_not, and_left_part, and_right_part, or_left_part, or_right_part, implies_left_part, implies_right_part, iff_left_part, iff_right_part, agree_and, agree_or, agree_implies, agree_iff, modal_inner, agree_modal}
+use Rattle.ml_mu_graph.proofs.Connectives.{agree_const, agree_prop, agree_var, not_inner, agree_not, left_part, right_part, agree_binary, modal_inner, agree_modal}
 use Rattle.ml_mu_graph.proofs.Binding.{signed_says}
 
 pub agree : (f : Formula) (m0 : Structure) (gs : Given) (g : Graph) (m : Structure) (k : ℕ) (bs : Around) (i : ℕ)
@@ -27,18 +27,9 @@ agree (Prop p) m0 gs g m k bs i w = agree_prop m0 gs g m k bs i p w
 agree (Var x) m0 gs g m k bs i w = agree_var m0 gs g m k bs i x w
 agree (Not f) m0 gs g m k bs i w =
     agree_not m0 gs g m k bs i f w (agree f m0 gs g m k bs (i + 1) (not_inner m0 gs g m k bs i f w))
-agree (Binary operator.And f h) m0 gs g m k bs i w =
-    agree_and m0 gs g m k bs i f h w (agree f m0 gs g m k bs (i + 1) (and_left_part m0 gs g m k bs i f h w))
-    (agree h m0 gs g m k bs (i + 1 + occurrences f) (and_right_part m0 gs g m k bs i f h w))
-agree (Binary operator.Or f h) m0 gs g m k bs i w =
-    agree_or m0 gs g m k bs i f h w (agree f m0 gs g m k bs (i + 1) (or_left_part m0 gs g m k bs i f h w))
-    (agree h m0 gs g m k bs (i + 1 + occurrences f) (or_right_part m0 gs g m k bs i f h w))
-agree (Binary operator.Implies f h) m0 gs g m k bs i w =
-    agree_implies m0 gs g m k bs i f h w (agree f m0 gs g m k bs (i + 1) (implies_left_part m0 gs g m k bs i f h w))
-    (agree h m0 gs g m k bs (i + 1 + occurrences f) (implies_right_part m0 gs g m k bs i f h w))
-agree (Binary operator.Iff f h) m0 gs g m k bs i w =
-    agree_iff m0 gs g m k bs i f h w (agree f m0 gs g m k bs (i + 3) (iff_left_part m0 gs g m k bs i f h w))
-    (agree h m0 gs g m k bs (i + 3 + occurrences f) (iff_right_part m0 gs g m k bs i f h w))
+agree (Binary op f h) m0 gs g m k bs i w =
+    agree_binary m0 gs g m k bs i op f h w (agree f m0 gs g m k bs (i + weight op) (left_part m0 gs g m k bs i op f h w))
+    (agree h m0 gs g m k bs (i + weight op + occurrences f) (right_part m0 gs g m k bs i op f h w))
 agree (Modal d a f) m0 gs g m k bs i w =
     agree_modal m0 gs g m k bs i d a f w (agree f m0 gs g m k bs (i + 1) (modal_inner m0 gs g m k bs i d a f w))
 agree (Binder q x f) m0 gs g m k bs b w = record {

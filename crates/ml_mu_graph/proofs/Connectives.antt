@@ -1,7 +1,7 @@
 -- The induction on formulas, at everything but binders.
 --
---   agree_const, agree_prop, agree_var, agree_not, agree_and, agree_or, agree_implies, agree_iff, agree_modal == each case
-use Rattle.std.proofs.Common.{◌≡◌, ℕ, ◌+◌, ◌<◌, ◌≤◌, ◌==◌, Bool, true, false, ◌&&◌, ◌||◌, not, List, [], ◌∷◌, refl, sym, ap, ◌∙◌, arith}
+--   agree_const, agree_prop, agree_var, agree_not, agree_binary, agree_modal == each case
+use Rattle.std.proofs.Common.{◌≡◌, ℕ, ◌+◌, ◌<◌, ◌==◌, Bool, true, false, ◌&&◌, ◌||◌, not, List, [], ◌∷◌, refl, sym, ap, ◌∙◌, arith}
 use Rattle.std.specs.List.{list_any, list_all}
 use Rattle.std.specs.Str.{bytes_eq}
 use Rattle.std.proofs.lemmas.Bool.{and_parts}
@@ -11,12 +11,13 @@ use Rattle.ml_graph.specs.Graph.{Graph}
 use Rattle.ml_graph.specs.CheckingGame.{HoldsAt}
 use Rattle.ml_text.specs.declared.token.Operator.{Operator}
 use Rattle.ml_text.specs.declared.token.Operator.TheVariants as operator
+use Rattle.ml_text.specs.Operators.{weight}
 use Rattle.ml_mu.specs.Formula.{Formula, Const, Prop, Var, Not, Binary, Modal, Modality, Diamond, Square, occurrences}
 use Rattle.ml_mu.specs.Meaning.{Given, given_set, meaning, some_edge, every_edge}
 use Rattle.ml_mu.specs.Variables.{is_bound, is_positive}
 use Rattle.ml_mu.proofs.MeaningFlags.{meaning_flags}
 use Rattle.ml_nodes.specs.Nodes.{positive, negative}
-use Rattle.ml_mu_graph.specs.MuGraph.{Around, binder_of, StandsAt}
+use Rattle.ml_mu_graph.specs.MuGraph.{Around, binder_of}
 use Rattle.ml_mu_graph.proofs.Told.{names}
 use Rattle.ml_mu_graph.proofs.Values.{says_same, says_constant, says_literal, says_negative, says_leads, says_and, says_or, says_diamond, says_square}
 use Rattle.ml_mu_graph.proofs.Situations.{Situation, Agree, member_where, member_not, told_of, part}
@@ -117,97 +118,61 @@ module _ (m0 : Structure) (gs : Given) (g : Graph) (m : Structure) (k : ℕ) (bs
   right_bound : (op : Operator) (f h : Formula) → is_bound (names bs) (Binary op f h) ≡ true → is_bound (names bs) h ≡ true
   right_bound op f h both = (and_parts (is_bound (names bs) f) (is_bound (names bs) h) both).1
 
-  left_part : (op : Operator) (f h : Formula) (j : ℕ) → Situation m0 gs (Binary op f h) g m k bs i → i ≤ j
-      → j + occurrences f + occurrences h ≤ i + occurrences (Binary op f h) → StandsAt g k bs j f → Situation m0 gs f g m k bs j
-  left_part op f h j w later fits stands =
-      part m0 gs (Binary op f h) g m k bs i w f j w.props.0 stands (left_bound op f h w.bound) (and_parts (is_positive f) (is_positive h) w.positives).0 (omega (arith, w.room, fits)) (omega arith) later
+  pub left_part : (op : Operator) (f h : Formula) → Situation m0 gs (Binary op f h) g m k bs i → Situation m0 gs f g m k bs (i + weight op)
+  left_part op f h w =
+      part m0 gs (Binary op f h) g m k bs i w f (i + weight op) w.props.0 w.stands.1 (left_bound op f h w.bound) (and_parts (is_positive f) (is_positive h) w.positives).0 (omega (arith, w.room)) (omega arith) (omega arith)
 
-  right_part : (op : Operator) (f h : Formula) (j : ℕ) → Situation m0 gs (Binary op f h) g m k bs i → i ≤ j
-      → j + occurrences f + occurrences h ≤ i + occurrences (Binary op f h) → StandsAt g k bs (j + occurrences f) h
-      → Situation m0 gs h g m k bs (j + occurrences f)
-  right_part op f h j w later fits stands =
-      part m0 gs (Binary op f h) g m k bs i w h (j + occurrences f) w.props.1 stands (right_bound op f h w.bound) (and_parts (is_positive f) (is_positive h) w.positives).1 (omega (arith, w.room, fits)) (omega arith) (omega (arith, later))
+  pub right_part : (op : Operator) (f h : Formula) → Situation m0 gs (Binary op f h) g m k bs i → Situation m0 gs h g m k bs (i + weight op + occurrences f)
+  right_part op f h w =
+      part m0 gs (Binary op f h) g m k bs i w h (i + weight op + occurrences f) w.props.1 w.stands.2 (right_bound op f h w.bound) (and_parts (is_positive f) (is_positive h) w.positives).1 (omega (arith, w.room)) (omega arith) (omega arith)
 
-  pub and_left_part : (f h : Formula) → Situation m0 gs (Binary operator.And f h) g m k bs i → Situation m0 gs f g m k bs (i + 1)
-  and_left_part f h w = left_part operator.And f h (i + 1) w (omega arith) (omega arith) w.stands.2
-
-  pub and_right_part : (f h : Formula) → Situation m0 gs (Binary operator.And f h) g m k bs i → Situation m0 gs h g m k bs (i + 1 + occurrences f)
-  and_right_part f h w = right_part operator.And f h (i + 1) w (omega arith) (omega arith) w.stands.3
-
-  pub or_left_part : (f h : Formula) → Situation m0 gs (Binary operator.Or f h) g m k bs i → Situation m0 gs f g m k bs (i + 1)
-  or_left_part f h w = left_part operator.Or f h (i + 1) w (omega arith) (omega arith) w.stands.2
-
-  pub or_right_part : (f h : Formula) → Situation m0 gs (Binary operator.Or f h) g m k bs i → Situation m0 gs h g m k bs (i + 1 + occurrences f)
-  or_right_part f h w = right_part operator.Or f h (i + 1) w (omega arith) (omega arith) w.stands.3
-
-  pub implies_left_part : (f h : Formula) → Situation m0 gs (Binary operator.Implies f h) g m k bs i → Situation m0 gs f g m k bs (i + 1)
-  implies_left_part f h w = left_part operator.Implies f h (i + 1) w (omega arith) (omega arith) w.stands.2
-
-  pub implies_right_part : (f h : Formula) → Situation m0 gs (Binary operator.Implies f h) g m k bs i → Situation m0 gs h g m k bs (i + 1 + occurrences f)
-  implies_right_part f h w = right_part operator.Implies f h (i + 1) w (omega arith) (omega arith) w.stands.3
-
-  pub iff_left_part : (f h : Formula) → Situation m0 gs (Binary operator.Iff f h) g m k bs i → Situation m0 gs f g m k bs (i + 3)
-  iff_left_part f h w = left_part operator.Iff f h (i + 3) w (omega arith) (omega arith) w.stands.6
-
-  pub iff_right_part : (f h : Formula) → Situation m0 gs (Binary operator.Iff f h) g m k bs i → Situation m0 gs h g m k bs (i + 3 + occurrences f)
-  iff_right_part f h w = right_part operator.Iff f h (i + 3) w (omega arith) (omega arith) w.stands.7
-
-  pub agree_and : (f h : Formula) → Situation m0 gs (Binary operator.And f h) g m k bs i → Agree m0 gs f g m (i + 1) → Agree m0 gs h g m (i + 1 + occurrences f)
-      → Agree m0 gs (Binary operator.And f h) g m i
-  agree_and f h w x y = record {
+  pub agree_binary : (op : Operator) (f h : Formula) → Situation m0 gs (Binary op f h) g m k bs i → Agree m0 gs f g m (i + weight op)
+      → Agree m0 gs h g m (i + weight op + occurrences f) → Agree m0 gs (Binary op f h) g m i
+  agree_binary operator.And f h w x y = record {
     holds = λ s low.
         let a : Bool = is_member (meaning m0 gs f) s in let b : Bool = is_member (meaning m0 gs h) s in
         says_same (HoldsAt g m s (positive i)) (a && b) _ (sym (member_where m0 _ s low))
-        (says_and g m w.is_graph w.is_structure s (positive i) (omega (arith, w.same_states)) (omega (arith, w.room)) _ _ a b w.stands.0.0 (x.holds s low) (y.holds s low));
+        (says_and g m w.is_graph w.is_structure s (positive i) (omega (arith, w.same_states)) (omega (arith, w.room)) _ _ a b w.stands.0.0.0 (x.holds s low) (y.holds s low));
     fails = λ s low.
         let a : Bool = is_member (meaning m0 gs f) s in let b : Bool = is_member (meaning m0 gs h) s in
         says_same (HoldsAt g m s (negative i)) (not a || not b) _ (not_and a b ∙ sym (ap not (member_where m0 _ s low)))
-        (says_or g m w.is_graph w.is_structure s (negative i) (omega (arith, w.same_states)) (omega (arith, w.room)) _ _ (not a) (not b) w.stands.1.0 (x.fails s low) (y.fails s low));
+        (says_or g m w.is_graph w.is_structure s (negative i) (omega (arith, w.same_states)) (omega (arith, w.room)) _ _ (not a) (not b) w.stands.0.1.0 (x.fails s low) (y.fails s low));
   }
-
-  pub agree_or : (f h : Formula) → Situation m0 gs (Binary operator.Or f h) g m k bs i → Agree m0 gs f g m (i + 1) → Agree m0 gs h g m (i + 1 + occurrences f)
-      → Agree m0 gs (Binary operator.Or f h) g m i
-  agree_or f h w x y = record {
+  agree_binary operator.Or f h w x y = record {
     holds = λ s low.
         let a : Bool = is_member (meaning m0 gs f) s in let b : Bool = is_member (meaning m0 gs h) s in
         says_same (HoldsAt g m s (positive i)) (a || b) _ (sym (member_where m0 _ s low))
-        (says_or g m w.is_graph w.is_structure s (positive i) (omega (arith, w.same_states)) (omega (arith, w.room)) _ _ a b w.stands.0.0 (x.holds s low) (y.holds s low));
+        (says_or g m w.is_graph w.is_structure s (positive i) (omega (arith, w.same_states)) (omega (arith, w.room)) _ _ a b w.stands.0.0.0 (x.holds s low) (y.holds s low));
     fails = λ s low.
         let a : Bool = is_member (meaning m0 gs f) s in let b : Bool = is_member (meaning m0 gs h) s in
         says_same (HoldsAt g m s (negative i)) (not a && not b) _ (not_or a b ∙ sym (ap not (member_where m0 _ s low)))
-        (says_and g m w.is_graph w.is_structure s (negative i) (omega (arith, w.same_states)) (omega (arith, w.room)) _ _ (not a) (not b) w.stands.1.0 (x.fails s low) (y.fails s low));
+        (says_and g m w.is_graph w.is_structure s (negative i) (omega (arith, w.same_states)) (omega (arith, w.room)) _ _ (not a) (not b) w.stands.0.1.0 (x.fails s low) (y.fails s low));
   }
-
-  pub agree_implies : (f h : Formula) → Situation m0 gs (Binary operator.Implies f h) g m k bs i → Agree m0 gs f g m (i + 1) → Agree m0 gs h g m (i + 1 + occurrences f)
-      → Agree m0 gs (Binary operator.Implies f h) g m i
-  agree_implies f h w x y = record {
+  agree_binary operator.Implies f h w x y = record {
     holds = λ s low.
         let a : Bool = is_member (meaning m0 gs f) s in let b : Bool = is_member (meaning m0 gs h) s in
         says_same (HoldsAt g m s (positive i)) (not a || b) _ (sym (member_where m0 _ s low))
-        (says_or g m w.is_graph w.is_structure s (positive i) (omega (arith, w.same_states)) (omega (arith, w.room)) _ _ (not a) b w.stands.0.0 (x.fails s low) (y.holds s low));
+        (says_or g m w.is_graph w.is_structure s (positive i) (omega (arith, w.same_states)) (omega (arith, w.room)) _ _ (not a) b w.stands.0.0.0 (x.fails s low) (y.holds s low));
     fails = λ s low.
         let a : Bool = is_member (meaning m0 gs f) s in let b : Bool = is_member (meaning m0 gs h) s in
         says_same (HoldsAt g m s (negative i)) (a && not b) _ (not_implies a b ∙ sym (ap not (member_where m0 _ s low)))
-        (says_and g m w.is_graph w.is_structure s (negative i) (omega (arith, w.same_states)) (omega (arith, w.room)) _ _ a (not b) w.stands.1.0 (x.holds s low) (y.fails s low));
+        (says_and g m w.is_graph w.is_structure s (negative i) (omega (arith, w.same_states)) (omega (arith, w.room)) _ _ a (not b) w.stands.0.1.0 (x.holds s low) (y.fails s low));
   }
-
-  pub agree_iff : (f h : Formula) → Situation m0 gs (Binary operator.Iff f h) g m k bs i → Agree m0 gs f g m (i + 3) → Agree m0 gs h g m (i + 3 + occurrences f)
-      → Agree m0 gs (Binary operator.Iff f h) g m i
-  agree_iff f h w x y = record {
+  agree_binary operator.Iff f h w x y = record {
     holds = λ s low.
         let a : Bool = is_member (meaning m0 gs f) s in let b : Bool = is_member (meaning m0 gs h) s in
         let here : s < m.states = omega (arith, w.same_states) in
         says_same (HoldsAt g m s (positive i)) ((a && b) || (not a && not b)) _ (iff_is a b ∙ sym (member_where m0 _ s low))
-        (says_or g m w.is_graph w.is_structure s (positive i) here (omega (arith, w.room)) _ _ (a && b) (not a && not b) w.stands.0.0
-        (says_and g m w.is_graph w.is_structure s (positive (i + 1)) here (omega (arith, w.room)) _ _ a b w.stands.2.0 (x.holds s low) (y.holds s low))
-        (says_and g m w.is_graph w.is_structure s (positive (i + 2)) here (omega (arith, w.room)) _ _ (not a) (not b) w.stands.4.0 (x.fails s low) (y.fails s low)));
+        (says_or g m w.is_graph w.is_structure s (positive i) here (omega (arith, w.room)) _ _ (a && b) (not a && not b) w.stands.0.0.0
+        (says_and g m w.is_graph w.is_structure s (positive (i + 1)) here (omega (arith, w.room)) _ _ a b w.stands.0.2.0 (x.holds s low) (y.holds s low))
+        (says_and g m w.is_graph w.is_structure s (positive (i + 2)) here (omega (arith, w.room)) _ _ (not a) (not b) w.stands.0.4.0 (x.fails s low) (y.fails s low)));
     fails = λ s low.
         let a : Bool = is_member (meaning m0 gs f) s in let b : Bool = is_member (meaning m0 gs h) s in
         let here : s < m.states = omega (arith, w.same_states) in
         says_same (HoldsAt g m s (negative i)) ((a && not b) || (not a && b)) _ (not_iff a b ∙ sym (ap not (member_where m0 _ s low)))
-        (says_or g m w.is_graph w.is_structure s (negative i) here (omega (arith, w.room)) _ _ (a && not b) (not a && b) w.stands.1.0
-        (says_and g m w.is_graph w.is_structure s (negative (i + 1)) here (omega (arith, w.room)) _ _ a (not b) w.stands.3.0 (x.holds s low) (y.fails s low))
-        (says_and g m w.is_graph w.is_structure s (negative (i + 2)) here (omega (arith, w.room)) _ _ (not a) b w.stands.5.0 (x.fails s low) (y.holds s low)));
+        (says_or g m w.is_graph w.is_structure s (negative i) here (omega (arith, w.room)) _ _ (a && not b) (not a && b) w.stands.0.1.0
+        (says_and g m w.is_graph w.is_structure s (negative (i + 1)) here (omega (arith, w.room)) _ _ a (not b) w.stands.0.3.0 (x.holds s low) (y.fails s low))
+        (says_and g m w.is_graph w.is_structure s (negative (i + 2)) here (omega (arith, w.room)) _ _ (not a) b w.stands.0.5.0 (x.fails s low) (y.holds s low)));
   }
 
   -- ---- modalities

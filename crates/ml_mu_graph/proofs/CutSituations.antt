@@ -12,11 +12,13 @@ use Rattle.ml_base.specs.Structure.{Structure, IsStructure, StateSet, lists, is_
 use Rattle.ml_graph.specs.Graph.{Graph, IsGraph, size, node_at, priority_at, prop_at, action_at}
 use Rattle.ml_graph.proofs.References.{prop_in_range}
 use Rattle.ml_lists.proofs.Member.{place-member}
+use Rattle.ml_text.specs.declared.token.Operator.{Operator}
 use Rattle.ml_text.specs.declared.token.Operator.TheVariants as operator
+use Rattle.ml_text.specs.Operators.{weight}
 use Rattle.ml_mu.specs.Formula.{Formula, Const, Prop, Var, Not, Binary, Modal, Binder, Fixpoint, occurrences}
 use Rattle.ml_mu.specs.Meaning.{Given}
 use Rattle.ml_mu.specs.Variables.{is_positive, occurs_only}
-use Rattle.ml_nodes.specs.Nodes.{positive, negative, IsNode}
+use Rattle.ml_nodes.specs.Nodes.{positive, negative, IsNode, Joins}
 use Rattle.ml_mu_graph.specs.MuGraph.{Around, StandsAt, IsLiteral}
 use Rattle.ml_mu_graph.proofs.Told.{IsTold, AreTold, AreOutside}
 use Rattle.ml_mu_graph.proofs.CutOpen.{cut, marked, IsLonger, longer_differs, cut_size, cut_positive, cut_negative, cut_others, cut_prop, cut_name, cut_graph, marked_structure, marked_others, marked_name}
@@ -40,6 +42,22 @@ module _ (g h : Graph) (ok : IsGraph g) where
   literal_kept n j k le low name sign p is =
       (is.0, node_kept n j k le _ p is.1, k.props is.0 (prop_in_range g ok j low is.0 sign is.1.0) ∙ is.2)
 
+  joins_kept : (op : Operator) (p i l r : ℕ) → Keeps g h (positive i) → Joins g p op i l r → Joins h p op i l r
+  joins_kept operator.And p i l r k s =
+      (node_kept (positive i) (positive i) k (omega arith) _ _ s.0, node_kept (positive i) (negative i) k (omega arith) _ _ s.1)
+  joins_kept operator.Or p i l r k s =
+      (node_kept (positive i) (positive i) k (omega arith) _ _ s.0, node_kept (positive i) (negative i) k (omega arith) _ _ s.1)
+  joins_kept operator.Implies p i l r k s =
+      (node_kept (positive i) (positive i) k (omega arith) _ _ s.0, node_kept (positive i) (negative i) k (omega arith) _ _ s.1)
+  joins_kept operator.Iff p i l r k s = (
+    node_kept (positive i) (positive i) k (omega arith) _ _ s.0,
+    node_kept (positive i) (negative i) k (omega arith) _ _ s.1,
+    node_kept (positive i) (positive (i + 1)) k (omega arith) _ _ s.2,
+    node_kept (positive i) (negative (i + 1)) k (omega arith) _ _ s.3,
+    node_kept (positive i) (positive (i + 2)) k (omega arith) _ _ s.4,
+    node_kept (positive i) (negative (i + 2)) k (omega arith) _ _ s.5,
+  )
+
   pub stands_kept : (f : Formula) (p : ℕ) (bs : Around) (i : ℕ) → Keeps g h (positive i) → 2 * (i + occurrences f) ≤ size g
       → StandsAt g p bs i f → StandsAt h p bs i f
   stands_kept (Const b) p bs i k room s =
@@ -53,34 +71,13 @@ module _ (g h : Graph) (ok : IsGraph g) where
     node_kept (positive i) (negative i) k (omega arith) _ _ s.1,
     stands_kept f p bs (i + 1) (later g h (positive i) (positive (i + 1)) (omega arith) k) (omega (arith, room)) s.2,
   )
-  stands_kept (Binary operator.And f e) p bs i k room s = (
-    node_kept (positive i) (positive i) k (omega arith) _ _ s.0,
-    node_kept (positive i) (negative i) k (omega arith) _ _ s.1,
-    stands_kept f p bs (i + 1) (later g h (positive i) (positive (i + 1)) (omega arith) k) (omega (arith, room)) s.2,
-    stands_kept e p bs (i + 1 + occurrences f) (later g h (positive i) (positive (i + 1 + occurrences f)) (omega arith) k) (omega (arith, room)) s.3,
-  )
-  stands_kept (Binary operator.Or f e) p bs i k room s = (
-    node_kept (positive i) (positive i) k (omega arith) _ _ s.0,
-    node_kept (positive i) (negative i) k (omega arith) _ _ s.1,
-    stands_kept f p bs (i + 1) (later g h (positive i) (positive (i + 1)) (omega arith) k) (omega (arith, room)) s.2,
-    stands_kept e p bs (i + 1 + occurrences f) (later g h (positive i) (positive (i + 1 + occurrences f)) (omega arith) k) (omega (arith, room)) s.3,
-  )
-  stands_kept (Binary operator.Implies f e) p bs i k room s = (
-    node_kept (positive i) (positive i) k (omega arith) _ _ s.0,
-    node_kept (positive i) (negative i) k (omega arith) _ _ s.1,
-    stands_kept f p bs (i + 1) (later g h (positive i) (positive (i + 1)) (omega arith) k) (omega (arith, room)) s.2,
-    stands_kept e p bs (i + 1 + occurrences f) (later g h (positive i) (positive (i + 1 + occurrences f)) (omega arith) k) (omega (arith, room)) s.3,
-  )
-  stands_kept (Binary operator.Iff f e) p bs i k room s = (
-    node_kept (positive i) (positive i) k (omega arith) _ _ s.0,
-    node_kept (positive i) (negative i) k (omega arith) _ _ s.1,
-    node_kept (positive i) (positive (i + 1)) k (omega arith) _ _ s.2,
-    node_kept (positive i) (negative (i + 1)) k (omega arith) _ _ s.3,
-    node_kept (positive i) (positive (i + 2)) k (omega arith) _ _ s.4,
-    node_kept (positive i) (negative (i + 2)) k (omega arith) _ _ s.5,
-    stands_kept f p bs (i + 3) (later g h (positive i) (positive (i + 3)) (omega arith) k) (omega (arith, room)) s.6,
-    stands_kept e p bs (i + 3 + occurrences f) (later g h (positive i) (positive (i + 3 + occurrences f)) (omega arith) k) (omega (arith, room)) s.7,
-  )
+  stands_kept (Binary op f e) p bs i k room s =
+      let l = i + weight op in
+      let r = l + occurrences f in (
+        joins_kept op p i l r k s.0,
+        stands_kept f p bs l (later g h (positive i) (positive l) (omega arith) k) (omega (arith, room)) s.1,
+        stands_kept e p bs r (later g h (positive i) (positive r) (omega arith) k) (omega (arith, room)) s.2,
+      )
   stands_kept (Modal d a f) p bs i k room s = (
     (s.0.0, node_kept (positive i) (positive i) k (omega arith) _ _ s.0.1, k.actions s.0.0 ∙ s.0.2),
     (s.1.0, node_kept (positive i) (negative i) k (omega arith) _ _ s.1.1, k.actions s.1.0 ∙ s.1.2),

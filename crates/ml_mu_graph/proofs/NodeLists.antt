@@ -7,18 +7,16 @@ use Rattle.std.proofs.Common.{◌≡◌, ℕ, ◌+◌, ◌*◌, ◌/◌, ◌≤�
 use Rattle.std.proofs.Math.Seq.{take-append_seam, drop-append_seam}
 use Rattle.ml_graph.specs.Graph.{Graph}
 use Rattle.ml_graph.specs.declared.node.Node.{Node}
-use Rattle.ml_graph.specs.declared.node.Node.TheVariants as node
 use Rattle.ml_text.specs.declared.token.Operator.{Operator}
 use Rattle.ml_text.specs.declared.token.Operator.TheVariants as operator
 use Rattle.ml_text.specs.Operators.{weight}
 use Rattle.ml_text.specs.NameLists.{place_of}
 use Rattle.ml_mu.specs.Formula.{Formula, Const, Prop, Var, Not, Binary, Modal, Binder, occurrences}
-use Rattle.ml_nodes.specs.Nodes.{positive, negative, IsNode}
 use Rattle.ml_mu_graph.specs.MuGraph.{Around, binder_of, binder_priority, opposite, StandsAt}
 use Rattle.ml_nodes.specs.private.Connectives.{operator_nodes, operator_priorities}
 use Rattle.ml_mu_graph.specs.private.NodeList.{operator_holes, bound, nodes_of, priorities_of}
 use Rattle.ml_nodes.proofs.Connectives.{length-operator, length-operator_priorities}
-use Rattle.ml_nodes.proofs.StandingLists.{Stand, Parts, pair, parts}
+use Rattle.ml_nodes.proofs.StandingLists.{Stand, Parts, joined, pair, parts}
 
 pub length-nodes : (ps acts : List (List ℕ)) (b : List ℕ → ℕ) (i : ℕ) (f : Formula)
     → length (nodes_of ps acts b i f) ≡ 2 * occurrences f
@@ -89,39 +87,12 @@ stands g k bs i (Prop p) names s =
 stands g k bs i (Var x) names s = let p = pair g i _ _ k k [] [] s in (p.first, p.second)
 stands g k bs i (Not f) names s =
     let p = pair g i _ _ k k _ _ s in (p.first, p.second, stands g k bs (i + 1) f names p.behind)
-stands g k bs i (Binary operator.And f h) names s =
-    let p = pair g i _ _ k k _ _ s in
-    let o = operands g k (length bs) bs (i + 1) (i + 1 + occurrences f) f h p.behind refl in
-    (p.first, p.second, stands g k bs (i + 1) f names.0 o.left, stands g k bs (i + 1 + occurrences f) h names.1 o.right)
-stands g k bs i (Binary operator.Or f h) names s =
-    let p = pair g i _ _ k k _ _ s in
-    let o = operands g k (length bs) bs (i + 1) (i + 1 + occurrences f) f h p.behind refl in
-    (p.first, p.second, stands g k bs (i + 1) f names.0 o.left, stands g k bs (i + 1 + occurrences f) h names.1 o.right)
-stands g k bs i (Binary operator.Implies f h) names s =
-    let p = pair g i _ _ k k _ _ s in
-    let o = operands g k (length bs) bs (i + 1) (i + 1 + occurrences f) f h p.behind refl in
-    (p.first, p.second, stands g k bs (i + 1) f names.0 o.left, stands g k bs (i + 1 + occurrences f) h names.1 o.right)
-stands g k bs i (Binary operator.Iff f h) names s =
-    let p = pair g i _ _ k k _ _ s in
-    let q = pair g (i + 1) _ _ k k _ _ p.behind in
-    let r = pair g (i + 1 + 1) _ _ k k _ _ q.behind in
-    let l = i + 3 in
-    let two : i + 1 + 1 ≡ i + 2 = omega arith in
-    let three : i + 1 + 1 + 1 ≡ i + 3 = omega arith in
-    let around = binder_of bs in
-    let behind =
-    subst (λ n. Stand g n (nodes_of g.props g.actions around l f ++ nodes_of g.props g.actions around (l + occurrences f) h)
-    (priorities_of k (length bs) f ++ priorities_of k (length bs) h)) three r.behind in
-    let o = operands g k (length bs) bs l (l + occurrences f) f h behind refl in (
-      p.first,
-      p.second,
-      q.first,
-      q.second,
-      subst (λ n. IsNode g (positive n) (node.And (negative l) (negative (l + occurrences f))) k) two r.first,
-      subst (λ n. IsNode g (negative n) (node.And (negative l) (positive (l + occurrences f))) k) two r.second,
-      stands g k bs l f names.0 o.left,
-      stands g k bs (l + occurrences f) h names.1 o.right,
-    )
+stands g k bs i (Binary op f h) names s =
+    let l = i + weight op in
+    let r = l + occurrences f in
+    let here = joined g k op i l r _ _ s in
+    let o = operands g k (length bs) bs l r f h here.behind refl in
+    (here.joins, stands g k bs l f names.0 o.left, stands g k bs r h names.1 o.right)
 stands g k bs i (Modal m a f) names s =
     let p = pair g i _ _ k k _ _ s in (
       (place_of g.actions a, p.first, names.0),

@@ -164,22 +164,22 @@ below_priority g k bs i (Prop p) e n s high h = own_priority g (2 * length bs) e
 below_priority g k bs i (Var x) e n s high h = own_priority g (2 * length bs) e i n k k s.0.1 s.1.1 (omega (arith, high)) (omega (arith, high)) h
 below_priority g k bs i (Not f) e n s high (inl h) = own_priority g (2 * length bs) e i n k k s.0.1 s.1.1 (omega (arith, high)) (omega (arith, high)) h
 below_priority g k bs i (Not f) e n s high (inr h) = below_priority g k bs (i + 1) f (not e) n s.2 high h
-below_priority g k bs i (Binary operator.And f c) e n s high (inl h) = own_priority g (2 * length bs) e i n k k s.0.1 s.1.1 (omega (arith, high)) (omega (arith, high)) h
-below_priority g k bs i (Binary operator.And f c) e n s high (inr (inl h)) = below_priority g k bs (i + 1) f e n s.2 (omega (arith, high)) h
-below_priority g k bs i (Binary operator.And f c) e n s high (inr (inr h)) = below_priority g k bs (i + 1 + occurrences f) c e n s.3 (omega (arith, high)) h
-below_priority g k bs i (Binary operator.Or f c) e n s high (inl h) = own_priority g (2 * length bs) e i n k k s.0.1 s.1.1 (omega (arith, high)) (omega (arith, high)) h
-below_priority g k bs i (Binary operator.Or f c) e n s high (inr (inl h)) = below_priority g k bs (i + 1) f e n s.2 (omega (arith, high)) h
-below_priority g k bs i (Binary operator.Or f c) e n s high (inr (inr h)) = below_priority g k bs (i + 1 + occurrences f) c e n s.3 (omega (arith, high)) h
-below_priority g k bs i (Binary operator.Implies f c) e n s high (inl h) = own_priority g (2 * length bs) e i n k k s.0.1 s.1.1 (omega (arith, high)) (omega (arith, high)) h
-below_priority g k bs i (Binary operator.Implies f c) e n s high (inr (inl h)) = below_priority g k bs (i + 1) f (not e) n s.2 (omega (arith, high)) h
-below_priority g k bs i (Binary operator.Implies f c) e n s high (inr (inr h)) = below_priority g k bs (i + 1 + occurrences f) c e n s.3 (omega (arith, high)) h
-below_priority g k bs i (Binary operator.Iff f c) e n s high (inl h) = own_priority g (2 * length bs) e i n k k s.0.1 s.1.1 (omega (arith, high)) (omega (arith, high)) h
-below_priority g k bs i (Binary operator.Iff f c) e n s high (inr (inl h)) = own_priority g (2 * length bs) e (i + 1) n k k s.2.1 s.3.1 (omega (arith, high)) (omega (arith, high)) h
-below_priority g k bs i (Binary operator.Iff f c) e n s high (inr (inr (inl h))) = own_priority g (2 * length bs) e (i + 2) n k k s.4.1 s.5.1 (omega (arith, high)) (omega (arith, high)) h
-below_priority g k bs i (Binary operator.Iff f c) e n s high (inr (inr (inr (inl (inl h))))) = below_priority g k bs (i + 3) f true n s.6 (omega (arith, high)) h
-below_priority g k bs i (Binary operator.Iff f c) e n s high (inr (inr (inr (inl (inr h))))) = below_priority g k bs (i + 3) f false n s.6 (omega (arith, high)) h
-below_priority g k bs i (Binary operator.Iff f c) e n s high (inr (inr (inr (inr (inl h))))) = below_priority g k bs (i + 3 + occurrences f) c true n s.7 (omega (arith, high)) h
-below_priority g k bs i (Binary operator.Iff f c) e n s high (inr (inr (inr (inr (inr h))))) = below_priority g k bs (i + 3 + occurrences f) c false n s.7 (omega (arith, high)) h
+below_priority g k bs i (Binary operator.And f c) e n s high (inl h) = own_priority g (2 * length bs) e i n k k s.0.0.1 s.0.1.1 (omega (arith, high)) (omega (arith, high)) h
+below_priority g k bs i (Binary operator.And f c) e n s high (inr (inl h)) = below_priority g k bs (i + 1) f e n s.1 (omega (arith, high)) h
+below_priority g k bs i (Binary operator.And f c) e n s high (inr (inr h)) = below_priority g k bs (i + 1 + occurrences f) c e n s.2 (omega (arith, high)) h
+below_priority g k bs i (Binary operator.Or f c) e n s high (inl h) = own_priority g (2 * length bs) e i n k k s.0.0.1 s.0.1.1 (omega (arith, high)) (omega (arith, high)) h
+below_priority g k bs i (Binary operator.Or f c) e n s high (inr (inl h)) = below_priority g k bs (i + 1) f e n s.1 (omega (arith, high)) h
+below_priority g k bs i (Binary operator.Or f c) e n s high (inr (inr h)) = below_priority g k bs (i + 1 + occurrences f) c e n s.2 (omega (arith, high)) h
+below_priority g k bs i (Binary operator.Implies f c) e n s high (inl h) = own_priority g (2 * length bs) e i n k k s.0.0.1 s.0.1.1 (omega (arith, high)) (omega (arith, high)) h
+below_priority g k bs i (Binary operator.Implies f c) e n s high (inr (inl h)) = below_priority g k bs (i + 1) f (not e) n s.1 (omega (arith, high)) h
+below_priority g k bs i (Binary operator.Implies f c) e n s high (inr (inr h)) = below_priority g k bs (i + 1 + occurrences f) c e n s.2 (omega (arith, high)) h
+below_priority g k bs i (Binary operator.Iff f c) e n s high (inl h) = own_priority g (2 * length bs) e i n k k s.0.0.1 s.0.1.1 (omega (arith, high)) (omega (arith, high)) h
+below_priority g k bs i (Binary operator.Iff f c) e n s high (inr (inl h)) = own_priority g (2 * length bs) e (i + 1) n k k s.0.2.1 s.0.3.1 (omega (arith, high)) (omega (arith, high)) h
+below_priority g k bs i (Binary operator.Iff f c) e n s high (inr (inr (inl h))) = own_priority g (2 * length bs) e (i + 2) n k k s.0.4.1 s.0.5.1 (omega (arith, high)) (omega (arith, high)) h
+below_priority g k bs i (Binary operator.Iff f c) e n s high (inr (inr (inr (inl (inl h))))) = below_priority g k bs (i + 3) f true n s.1 (omega (arith, high)) h
+below_priority g k bs i (Binary operator.Iff f c) e n s high (inr (inr (inr (inl (inr h))))) = below_priority g k bs (i + 3) f false n s.1 (omega (arith, high)) h
+below_priority g k bs i (Binary operator.Iff f c) e n s high (inr (inr (inr (inr (inl h))))) = below_priority g k bs (i + 3 + occurrences f) c true n s.2 (omega (arith, high)) h
+below_priority g k bs i (Binary operator.Iff f c) e n s high (inr (inr (inr (inr (inr h))))) = below_priority g k bs (i + 3 + occurrences f) c false n s.2 (omega (arith, high)) h
 below_priority g k bs i (Modal m a f) e n s high (inl h) = own_priority g (2 * length bs) e i n k k s.0.1.1 s.1.1.1 (omega (arith, high)) (omega (arith, high)) h
 below_priority g k bs i (Modal m a f) e n s high (inr h) = below_priority g k bs (i + 1) f e n s.2 high h
 below_priority g k bs i (Binder q x f) e n s high (inl h) =
@@ -246,59 +246,59 @@ below_moves g k bs (Not f) i e n t s pos (inl h) child =
 below_moves g k bs (Not f) i e n t s pos (inr h) child =
     from_operand (Not f) f bs i (i + 1) e (not e) t (λ b. inr b) (λ x c free. free) (below_moves g k bs f (i + 1) (not e) n t s.2 pos h child)
 below_moves g k bs (Binary operator.And f c) i e n t s pos (inl h) child =
-    own_child g e i n t (Goes (Binary operator.And f c) bs i e) h _ _ s.0.0 s.1.0
+    own_child g e i n t (Goes (Binary operator.And f c) bs i e) h _ _ s.0.0.0 s.0.1.0
     (λ same d. inl (either_child t _ _ _ (λ z. inr (inl (below_at f (i + 1) e true t z (sym same)))) (λ z. inr (inr (below_at c (i + 1 + occurrences f) e true t z (sym same)))) d))
     (λ same d. inl (either_child t _ _ _ (λ z. inr (inl (below_at f (i + 1) e false t z (sym same)))) (λ z. inr (inr (below_at c (i + 1 + occurrences f) e false t z (sym same)))) d)) child
 below_moves g k bs (Binary operator.And f c) i e n t s pos (inr (inl h)) child =
     from_operand (Binary operator.And f c) f bs i (i + 1) e e t (λ b. inr (inl b)) (λ x d free. inl free)
-    (below_moves g k bs f (i + 1) e n t s.2 (and_parts (is_positive f) (is_positive c) pos).0 h child)
+    (below_moves g k bs f (i + 1) e n t s.1 (and_parts (is_positive f) (is_positive c) pos).0 h child)
 below_moves g k bs (Binary operator.And f c) i e n t s pos (inr (inr h)) child =
     from_operand (Binary operator.And f c) c bs i (i + 1 + occurrences f) e e t (λ b. inr (inr b)) (λ x d free. inr free)
-    (below_moves g k bs c (i + 1 + occurrences f) e n t s.3 (and_parts (is_positive f) (is_positive c) pos).1 h child)
+    (below_moves g k bs c (i + 1 + occurrences f) e n t s.2 (and_parts (is_positive f) (is_positive c) pos).1 h child)
 below_moves g k bs (Binary operator.Or f c) i e n t s pos (inl h) child =
-    own_child g e i n t (Goes (Binary operator.Or f c) bs i e) h _ _ s.0.0 s.1.0
+    own_child g e i n t (Goes (Binary operator.Or f c) bs i e) h _ _ s.0.0.0 s.0.1.0
     (λ same d. inl (either_child t _ _ _ (λ z. inr (inl (below_at f (i + 1) e true t z (sym same)))) (λ z. inr (inr (below_at c (i + 1 + occurrences f) e true t z (sym same)))) d))
     (λ same d. inl (either_child t _ _ _ (λ z. inr (inl (below_at f (i + 1) e false t z (sym same)))) (λ z. inr (inr (below_at c (i + 1 + occurrences f) e false t z (sym same)))) d)) child
 below_moves g k bs (Binary operator.Or f c) i e n t s pos (inr (inl h)) child =
     from_operand (Binary operator.Or f c) f bs i (i + 1) e e t (λ b. inr (inl b)) (λ x d free. inl free)
-    (below_moves g k bs f (i + 1) e n t s.2 (and_parts (is_positive f) (is_positive c) pos).0 h child)
+    (below_moves g k bs f (i + 1) e n t s.1 (and_parts (is_positive f) (is_positive c) pos).0 h child)
 below_moves g k bs (Binary operator.Or f c) i e n t s pos (inr (inr h)) child =
     from_operand (Binary operator.Or f c) c bs i (i + 1 + occurrences f) e e t (λ b. inr (inr b)) (λ x d free. inr free)
-    (below_moves g k bs c (i + 1 + occurrences f) e n t s.3 (and_parts (is_positive f) (is_positive c) pos).1 h child)
+    (below_moves g k bs c (i + 1 + occurrences f) e n t s.2 (and_parts (is_positive f) (is_positive c) pos).1 h child)
 below_moves g k bs (Binary operator.Implies f c) i e n t s pos (inl h) child =
-    own_child g e i n t (Goes (Binary operator.Implies f c) bs i e) h _ _ s.0.0 s.1.0
+    own_child g e i n t (Goes (Binary operator.Implies f c) bs i e) h _ _ s.0.0.0 s.0.1.0
     (λ same d. inl (either_child t _ _ _ (λ z. inr (inl (below_at f (i + 1) (not e) false t z (flip e true same)))) (λ z. inr (inr (below_at c (i + 1 + occurrences f) e true t z (sym same)))) d))
     (λ same d. inl (either_child t _ _ _ (λ z. inr (inl (below_at f (i + 1) (not e) true t z (flip e false same)))) (λ z. inr (inr (below_at c (i + 1 + occurrences f) e false t z (sym same)))) d)) child
 below_moves g k bs (Binary operator.Implies f c) i e n t s pos (inr (inl h)) child =
     from_operand (Binary operator.Implies f c) f bs i (i + 1) e (not e) t (λ b. inr (inl b)) (λ x d free. inl free)
-    (below_moves g k bs f (i + 1) (not e) n t s.2 (and_parts (is_positive f) (is_positive c) pos).0 h child)
+    (below_moves g k bs f (i + 1) (not e) n t s.1 (and_parts (is_positive f) (is_positive c) pos).0 h child)
 below_moves g k bs (Binary operator.Implies f c) i e n t s pos (inr (inr h)) child =
     from_operand (Binary operator.Implies f c) c bs i (i + 1 + occurrences f) e e t (λ b. inr (inr b)) (λ x d free. inr free)
-    (below_moves g k bs c (i + 1 + occurrences f) e n t s.3 (and_parts (is_positive f) (is_positive c) pos).1 h child)
+    (below_moves g k bs c (i + 1 + occurrences f) e n t s.2 (and_parts (is_positive f) (is_positive c) pos).1 h child)
 below_moves g k bs (Binary operator.Iff f c) i e n t s pos (inl h) child =
-    own_child g e i n t (Goes (Binary operator.Iff f c) bs i e) h _ _ s.0.0 s.1.0
+    own_child g e i n t (Goes (Binary operator.Iff f c) bs i e) h _ _ s.0.0.0 s.0.1.0
     (λ same d. inl (either_child t _ _ _ (λ z. inr (inl (z ∙ ap (λ b. node_of b (i + 1)) (sym same)))) (λ z. inr (inr (inl (z ∙ ap (λ b. node_of b (i + 2)) (sym same))))) d))
     (λ same d. inl (either_child t _ _ _ (λ z. inr (inl (z ∙ ap (λ b. node_of b (i + 1)) (sym same)))) (λ z. inr (inr (inl (z ∙ ap (λ b. node_of b (i + 2)) (sym same))))) d)) child
 below_moves g k bs (Binary operator.Iff f c) i e n t s pos (inr (inl h)) child =
-    own_child g e (i + 1) n t (Goes (Binary operator.Iff f c) bs i e) h _ _ s.2.0 s.3.0
+    own_child g e (i + 1) n t (Goes (Binary operator.Iff f c) bs i e) h _ _ s.0.2.0 s.0.3.0
     (λ same d. inl (either_child t _ _ _ (λ z. inr (inr (inr (inl (inl (below_at f (i + 3) true true t z refl)))))) (λ z. inr (inr (inr (inr (inl (below_at c (i + 3 + occurrences f) true true t z refl)))))) d))
     (λ same d. inl (either_child t _ _ _ (λ z. inr (inr (inr (inl (inl (below_at f (i + 3) true true t z refl)))))) (λ z. inr (inr (inr (inr (inr (below_at c (i + 3 + occurrences f) false false t z refl)))))) d)) child
 below_moves g k bs (Binary operator.Iff f c) i e n t s pos (inr (inr (inl h))) child =
-    own_child g e (i + 2) n t (Goes (Binary operator.Iff f c) bs i e) h _ _ s.4.0 s.5.0
+    own_child g e (i + 2) n t (Goes (Binary operator.Iff f c) bs i e) h _ _ s.0.4.0 s.0.5.0
     (λ same d. inl (either_child t _ _ _ (λ z. inr (inr (inr (inl (inr (below_at f (i + 3) false false t z refl)))))) (λ z. inr (inr (inr (inr (inr (below_at c (i + 3 + occurrences f) false false t z refl)))))) d))
     (λ same d. inl (either_child t _ _ _ (λ z. inr (inr (inr (inl (inr (below_at f (i + 3) false false t z refl)))))) (λ z. inr (inr (inr (inr (inl (below_at c (i + 3 + occurrences f) true true t z refl)))))) d)) child
 below_moves g k bs (Binary operator.Iff f c) i e n t s pos (inr (inr (inr (inl (inl h))))) child =
     from_operand (Binary operator.Iff f c) f bs i (i + 3) e true t (λ b. inr (inr (inr (inl (inl b))))) (λ x d free. inl (inl free))
-    (below_moves g k bs f (i + 3) true n t s.6 (and_parts (is_positive f) (is_positive c) pos).0 h child)
+    (below_moves g k bs f (i + 3) true n t s.1 (and_parts (is_positive f) (is_positive c) pos).0 h child)
 below_moves g k bs (Binary operator.Iff f c) i e n t s pos (inr (inr (inr (inl (inr h))))) child =
     from_operand (Binary operator.Iff f c) f bs i (i + 3) e false t (λ b. inr (inr (inr (inl (inr b))))) (λ x d free. inl (inr free))
-    (below_moves g k bs f (i + 3) false n t s.6 (and_parts (is_positive f) (is_positive c) pos).0 h child)
+    (below_moves g k bs f (i + 3) false n t s.1 (and_parts (is_positive f) (is_positive c) pos).0 h child)
 below_moves g k bs (Binary operator.Iff f c) i e n t s pos (inr (inr (inr (inr (inl h))))) child =
     from_operand (Binary operator.Iff f c) c bs i (i + 3 + occurrences f) e true t (λ b. inr (inr (inr (inr (inl b))))) (λ x d free. inr (inl free))
-    (below_moves g k bs c (i + 3 + occurrences f) true n t s.7 (and_parts (is_positive f) (is_positive c) pos).1 h child)
+    (below_moves g k bs c (i + 3 + occurrences f) true n t s.2 (and_parts (is_positive f) (is_positive c) pos).1 h child)
 below_moves g k bs (Binary operator.Iff f c) i e n t s pos (inr (inr (inr (inr (inr h))))) child =
     from_operand (Binary operator.Iff f c) c bs i (i + 3 + occurrences f) e false t (λ b. inr (inr (inr (inr (inr b))))) (λ x d free. inr (inr free))
-    (below_moves g k bs c (i + 3 + occurrences f) false n t s.7 (and_parts (is_positive f) (is_positive c) pos).1 h child)
+    (below_moves g k bs c (i + 3 + occurrences f) false n t s.2 (and_parts (is_positive f) (is_positive c) pos).1 h child)
 below_moves g k bs (Modal m a f) i e n t s pos (inl h) child =
     own_child g e i n t (Goes (Modal m a f) bs i e) h (modality m s.0.0 (positive (i + 1))) (modality (dual m) s.1.0 (negative (i + 1))) s.0.1.0 s.1.1.0
     (λ same c. inl (inr (below_at f (i + 1) e true t (modal_child m s.0.0 (positive (i + 1)) t c) (sym same))))

@@ -22,8 +22,8 @@ use Rattle.std.specs.Str.{bytes_eq}
 use Rattle.ml_graph.specs.Graph.{Graph, IsGraph, size, prop_at, action_at}
 use Rattle.ml_graph.specs.declared.node.Node.{Node}
 use Rattle.ml_graph.specs.declared.node.Node.TheVariants as node
-use Rattle.ml_text.specs.declared.token.Operator.TheVariants as operator
-use Rattle.ml_nodes.specs.Nodes.{positive, negative, constant, IsNode, LeadsTo}
+use Rattle.ml_text.specs.Operators.{weight}
+use Rattle.ml_nodes.specs.Nodes.{positive, negative, constant, IsNode, LeadsTo, Joins}
 use Rattle.ml_mu.specs.Formula.{Formula, Const, Prop, Var, Not, Binary, Modal, Binder, Modality, Diamond, Square, Fixpoint, Least, Greatest, occurrences}
 
 abbrev pub binders : Formula → ℕ
@@ -78,31 +78,9 @@ StandsAt g k bs i (Var x) =
 StandsAt g k bs i (Not f) =
     LeadsTo g (positive i) (negative (i + 1)) k × LeadsTo g (negative i) (positive (i + 1)) k
     × StandsAt g k bs (i + 1) f
-StandsAt g k bs i (Binary operator.And f h) =
-    let l = i + 1 in let r = l + occurrences f in
-    IsNode g (positive i) (node.And (positive l) (positive r)) k
-    × IsNode g (negative i) (node.Or (negative l) (negative r)) k
-    × StandsAt g k bs l f × StandsAt g k bs r h
-StandsAt g k bs i (Binary operator.Or f h) =
-    let l = i + 1 in let r = l + occurrences f in
-    IsNode g (positive i) (node.Or (positive l) (positive r)) k
-    × IsNode g (negative i) (node.And (negative l) (negative r)) k
-    × StandsAt g k bs l f × StandsAt g k bs r h
-StandsAt g k bs i (Binary operator.Implies f h) =
-    let l = i + 1 in let r = l + occurrences f in
-    IsNode g (positive i) (node.Or (negative l) (positive r)) k
-    × IsNode g (negative i) (node.And (positive l) (negative r)) k
-    × StandsAt g k bs l f × StandsAt g k bs r h
--- both or neither; one and not the other
-StandsAt g k bs i (Binary operator.Iff f h) =
-    let both = i + 1 in let neither = i + 2 in let l = i + 3 in let r = l + occurrences f in
-    IsNode g (positive i) (node.Or (positive both) (positive neither)) k
-    × IsNode g (negative i) (node.Or (negative both) (negative neither)) k
-    × IsNode g (positive both) (node.And (positive l) (positive r)) k
-    × IsNode g (negative both) (node.And (positive l) (negative r)) k
-    × IsNode g (positive neither) (node.And (negative l) (negative r)) k
-    × IsNode g (negative neither) (node.And (negative l) (positive r)) k
-    × StandsAt g k bs l f × StandsAt g k bs r h
+StandsAt g k bs i (Binary op f h) =
+    let l = i + weight op in let r = l + occurrences f in
+    Joins g k op i l r × StandsAt g k bs l f × StandsAt g k bs r h
 StandsAt g k bs i (Modal m a f) =
     IsModality g (positive i) m a (positive (i + 1)) k × IsModality g (negative i) (dual m) a (negative (i + 1)) k
     × StandsAt g k bs (i + 1) f

@@ -2,13 +2,18 @@
 --
 --   Stand g i nodes priorities == these lists stand in g as the occurrence i, and behind it
 --   pair                       == the two nodes of the first occurrence, and what stands behind them
+--   joined                     == the nodes of a connective, and what stands behind them
 --   parts                      == two parts behind one another, of which the first has so many occurrences
 --   all_stand                  == the lists of a graph stand in it
-use Rattle.std.proofs.Common.{◌≡◌, ℕ, ◌+◌, ◌*◌, List, [], ◌∷◌, ◌++◌, length, append-nil, refl, sym, ◌∙◌, arith}
+use Rattle.std.proofs.Common.{◌≡◌, ℕ, ◌+◌, ◌*◌, List, [], ◌∷◌, ◌++◌, length, append-nil, refl, sym, subst, ◌∙◌, arith}
 use Rattle.ml_graph.specs.Graph.{Graph}
 use Rattle.ml_graph.specs.declared.node.Node.{Node}
 use Rattle.ml_graph.specs.declared.node.Node.TheVariants as node
-use Rattle.ml_nodes.specs.Nodes.{IsNode, negative, positive}
+use Rattle.ml_text.specs.declared.token.Operator.{Operator}
+use Rattle.ml_text.specs.declared.token.Operator.TheVariants as operator
+use Rattle.ml_text.specs.Operators.{weight}
+use Rattle.ml_nodes.specs.Nodes.{IsNode, Joins, negative, positive}
+use Rattle.ml_nodes.specs.private.Connectives.{operator_nodes, operator_priorities}
 use Rattle.ml_nodes.proofs.Holding.{Holds, held_first, held_later, held_left, held_right, held_at}
 
 pub record Stand (g : Graph) (i : ℕ) (nodes : List Node) (priorities : List ℕ) : Type 0 where
@@ -39,6 +44,37 @@ pair g i a b p q nodes priorities s =
             held_at g.priorities (n + 1 + 1) (2 * (i + 1)) priorities (omega arith)
             (held_later g.priorities (n + 1) q priorities k1);
       };
+    }
+
+pub record Joined (g : Graph) (k : ℕ) (op : Operator) (i l r : ℕ) (nodes : List Node) (priorities : List ℕ) : Type 0 where
+  pub joins : Joins g k op i l r
+  pub behind : Stand g (i + weight op) nodes priorities
+
+pub joined : (g : Graph) (k : ℕ) (op : Operator) (i l r : ℕ) (nodes : List Node) (priorities : List ℕ)
+    → Stand g i (operator_nodes op i l r ++ nodes) (operator_priorities op k ++ priorities)
+    → Joined g k op i l r nodes priorities
+joined g k operator.And i l r nodes priorities s =
+    let p = pair g i _ _ k k nodes priorities s in record { joins = (p.first, p.second); behind = p.behind }
+joined g k operator.Or i l r nodes priorities s =
+    let p = pair g i _ _ k k nodes priorities s in record { joins = (p.first, p.second); behind = p.behind }
+joined g k operator.Implies i l r nodes priorities s =
+    let p = pair g i _ _ k k nodes priorities s in record { joins = (p.first, p.second); behind = p.behind }
+joined g k operator.Iff i l r nodes priorities s =
+    let p = pair g i _ _ k k _ _ s in
+    let q = pair g (i + 1) _ _ k k _ _ p.behind in
+    let t = pair g (i + 1 + 1) _ _ k k nodes priorities q.behind in
+    let two : i + 1 + 1 ≡ i + 2 = omega arith in
+    let three : i + 1 + 1 + 1 ≡ i + 3 = omega arith in
+    record {
+      joins = (
+        p.first,
+        p.second,
+        q.first,
+        q.second,
+        subst (λ n. IsNode g (positive n) (node.And (negative l) (negative r)) k) two t.first,
+        subst (λ n. IsNode g (negative n) (node.And (negative l) (positive r)) k) two t.second,
+      );
+      behind = subst (λ n. Stand g n nodes priorities) three t.behind;
     }
 
 pub record Parts (g : Graph) (l r : ℕ) (xs ys : List Node) (ps qs : List ℕ) : Type 0 where

@@ -8,10 +8,13 @@
 --   constant b             == the node of a constant
 --   IsNode g n v p         == the node n of g is v, with the priority p
 --   LeadsTo g n t p        == the node n only leads on, to t
+--   Joins g p o i l r      == at the occurrence i the connective o joins the operands at l and r, by nodes with the priority p
 use Rattle.std.specs.Prelude.{ℕ, ◌≡◌, ◌+◌, ◌*◌, Bool, true, false}
 use Rattle.ml_graph.specs.Graph.{Graph, node_at, priority_at}
 use Rattle.ml_graph.specs.declared.node.Node.{Node}
 use Rattle.ml_graph.specs.declared.node.Node.TheVariants as node
+use Rattle.ml_text.specs.declared.token.Operator.{Operator}
+use Rattle.ml_text.specs.declared.token.Operator.TheVariants as operator
 
 abbrev pub positive : ℕ → ℕ
 positive i = 2 * i
@@ -31,3 +34,23 @@ IsNode g n value priority = (node_at g n ≡ value) × (priority_at g n ≡ prio
 
 abbrev pub LeadsTo : Graph → ℕ → ℕ → ℕ → Type 0
 LeadsTo g n target priority = IsNode g n (lead_to target) priority
+
+abbrev pub Joins : Graph → ℕ → Operator → ℕ → ℕ → ℕ → Type 0
+Joins g p operator.And i l r =
+    IsNode g (positive i) (node.And (positive l) (positive r)) p
+    × IsNode g (negative i) (node.Or (negative l) (negative r)) p
+Joins g p operator.Or i l r =
+    IsNode g (positive i) (node.Or (positive l) (positive r)) p
+    × IsNode g (negative i) (node.And (negative l) (negative r)) p
+Joins g p operator.Implies i l r =
+    IsNode g (positive i) (node.Or (negative l) (positive r)) p
+    × IsNode g (negative i) (node.And (positive l) (negative r)) p
+-- both or neither; one and not the other
+Joins g p operator.Iff i l r =
+    let both = i + 1 in let neither = i + 2 in
+    IsNode g (positive i) (node.Or (positive both) (positive neither)) p
+    × IsNode g (negative i) (node.Or (negative both) (negative neither)) p
+    × IsNode g (positive both) (node.And (positive l) (positive r)) p
+    × IsNode g (negative both) (node.And (positive l) (negative r)) p
+    × IsNode g (positive neither) (node.And (negative l) (negative r)) p
+    × IsNode g (negative neither) (node.And (negative l) (positive r)) p

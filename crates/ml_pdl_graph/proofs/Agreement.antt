@@ -7,7 +7,7 @@ use Rattle.std.proofs.Common.{◌≡◌, ◌↔◌, ℕ, ◌+◌, ◌*◌, ◌<�
 use Rattle.ml_base.specs.Structure.{Structure, IsStructure, is_member}
 use Rattle.ml_graph.specs.Graph.{Graph, IsGraph, size}
 use Rattle.ml_graph.specs.CheckingGame.{HoldsAt, Holds}
-use Rattle.ml_text.specs.declared.token.Operator.TheVariants as operator
+use Rattle.ml_text.specs.Operators.{weight}
 use Rattle.ml_pdl.specs.Formula.{Formula, Const, Prop, Not, Binary, Modal, Repeat, Diamond, Square, Program, Act, Seq, Alt, Star, Test, occurrences, program_occurrences}
 use Rattle.ml_pdl.specs.Meaning.{meaning}
 use Rattle.ml_pdl.specs.Problem as problem
@@ -16,7 +16,7 @@ use Rattle.ml_nodes.specs.Nodes.{positive, negative}
 use Rattle.ml_pdl_graph.specs.PdlGraph.{diamond, box, StandsAt, ProgramStandsAt, IsGraphOf}
 use Rattle.ml_pdl_graph.proofs.Players.{tells_turned}
 use Rattle.ml_pdl_graph.proofs.ProgramNodes.{Tests, some_occurrence}
-use Rattle.ml_pdl_graph.proofs.Connectives.{Both, both_const, both_prop, both_not, both_and, both_or, both_implies, both_iff, both_diamond, both_square, both_repeat}
+use Rattle.ml_pdl_graph.proofs.Connectives.{Both, both_const, both_prop, both_not, both_binary, both_diamond, both_square, both_repeat}
 
 module _ (g : Graph) (m : Structure) (g_ok : IsGraph g) (m_ok : IsStructure m) where
   mutual
@@ -24,18 +24,9 @@ module _ (g : Graph) (m : Structure) (g_ok : IsGraph g) (m_ok : IsStructure m) w
     shown (Const b) i w room = both_const g m g_ok m_ok b i w room
     shown (Prop p) i w room = both_prop g m g_ok m_ok p i w room
     shown (Not f) i w room = both_not g m g_ok m_ok f i w room (shown f (i + 1) w.2 (omega (arith, room)))
-    shown (Binary operator.And f h) i w room =
-        both_and g m g_ok m_ok f h i w room (shown f (i + 1) w.2 (omega (arith, room)))
-        (shown h (i + 1 + occurrences f) w.3 (omega (arith, room)))
-    shown (Binary operator.Or f h) i w room =
-        both_or g m g_ok m_ok f h i w room (shown f (i + 1) w.2 (omega (arith, room)))
-        (shown h (i + 1 + occurrences f) w.3 (omega (arith, room)))
-    shown (Binary operator.Implies f h) i w room =
-        both_implies g m g_ok m_ok f h i w room (shown f (i + 1) w.2 (omega (arith, room)))
-        (shown h (i + 1 + occurrences f) w.3 (omega (arith, room)))
-    shown (Binary operator.Iff f h) i w room =
-        both_iff g m g_ok m_ok f h i w room (shown f (i + 3) w.6 (omega (arith, room)))
-        (shown h (i + 3 + occurrences f) w.7 (omega (arith, room)))
+    shown (Binary op f h) i w room =
+        both_binary g m g_ok m_ok op f h i w room (shown f (i + weight op) w.1 (omega (arith, room)))
+        (shown h (i + weight op + occurrences f) w.2 (omega (arith, room)))
     shown (Modal Diamond p f) i w room =
         both_diamond g m g_ok m_ok p f i w room
         (tests_shown p (i + 1) (positive (i + 1 + program_occurrences p)) (negative (i + 1 + program_occurrences p)) w.2

@@ -1,15 +1,16 @@
 -- The nodes of formulas, by their operands.
 --
 --   Both            == a formula is shown at its node of either sign
---   both_const, both_prop, both_not, both_and, both_or, both_implies, both_iff, both_diamond,
---   both_square, both_repeat == each case
+--   both_const, both_prop, both_not, both_binary, both_diamond, both_square, both_repeat == each case
 use Rattle.std.proofs.Common.{◌≡◌, ℕ, ◌+◌, ◌*◌, ◌<◌, ◌≤◌, Bool, true, false, ◌&&◌, ◌||◌, not, List, [], ◌∷◌, refl, sym, ap, subst, ◌∙◌, arith}
 use Rattle.std.specs.List.{list_any, list_all, range_with_len}
 use Rattle.std.proofs.lemmas.List.{get_or-map}
 use Rattle.ml_base.specs.Structure.{Structure, IsStructure, lists, is_member}
 use Rattle.ml_graph.specs.Graph.{Graph, IsGraph, size, node_at, prop_at}
 use Rattle.ml_graph.specs.declared.node.Node.TheVariants as node
+use Rattle.ml_text.specs.declared.token.Operator.{Operator}
 use Rattle.ml_text.specs.declared.token.Operator.TheVariants as operator
+use Rattle.ml_text.specs.Operators.{weight}
 use Rattle.ml_pdl.specs.Formula.{Formula, Const, Prop, Not, Binary, Modal, Repeat, Program, Diamond, Square, occurrences, program_occurrences}
 use Rattle.ml_pdl.specs.Meaning.{some_run, every_run, meaning, relation}
 use Rattle.ml_nodes.specs.Nodes.{positive, negative}
@@ -137,11 +138,11 @@ module _ (g : Graph) (m : Structure) (g_ok : IsGraph g) (m_ok : IsStructure m) w
       by_sign true = w.0.0
       by_sign false = w.1.0
 
-  pub both_and : (f h : Formula) (i : ℕ)
-      → StandsAt g i (Binary operator.And f h)
-      → 2 * (i + occurrences (Binary operator.And f h)) ≤ size g
-      → Both (i + 1) f → Both (i + 1 + occurrences f) h → Both i (Binary operator.And f h)
-  both_and f h i w room x y e s s_low =
+  pub both_binary : (op : Operator) (f h : Formula) (i : ℕ)
+      → StandsAt g i (Binary op f h)
+      → 2 * (i + occurrences (Binary op f h)) ≤ size g
+      → Both (i + weight op) f → Both (i + weight op + occurrences f) h → Both i (Binary op f h)
+  both_binary operator.And f h i w room x y e s s_low =
       same e s (node_of e i) _ (is_member (meaning m (Binary operator.And f h)) s) (sym (member_where m _ s s_low))
       (other e i (1 + occurrences f + occurrences h) s s_low room (omega arith) (node_of e (i + 1))
       (node_of e (i + 1 + occurrences f)) (is_member (meaning m f) s) (is_member (meaning m h) s) (by_sign e)
@@ -149,28 +150,18 @@ module _ (g : Graph) (m : Structure) (g_ok : IsGraph g) (m_ok : IsStructure m) w
     where
       by_sign : (d : Bool)
           → node_at g (node_of d i) ≡ other_by d (node_of d (i + 1)) (node_of d (i + 1 + occurrences f))
-      by_sign true = w.0.0
-      by_sign false = w.1.0
-
-  pub both_or : (f h : Formula) (i : ℕ)
-      → StandsAt g i (Binary operator.Or f h)
-      → 2 * (i + occurrences (Binary operator.Or f h)) ≤ size g
-      → Both (i + 1) f → Both (i + 1 + occurrences f) h → Both i (Binary operator.Or f h)
-  both_or f h i w room x y e s s_low =
+      by_sign true = w.0.0.0
+      by_sign false = w.0.1.0
+  both_binary operator.Or f h i w room x y e s s_low =
       same e s (node_of e i) _ (is_member (meaning m (Binary operator.Or f h)) s) (sym (member_where m _ s s_low))
       (own e i (1 + occurrences f + occurrences h) s s_low room (omega arith) (node_of e (i + 1))
       (node_of e (i + 1 + occurrences f)) (is_member (meaning m f) s) (is_member (meaning m h) s) (by_sign e)
       (x e s s_low) (y e s s_low))
     where
       by_sign : (d : Bool) → node_at g (node_of d i) ≡ own_by d (node_of d (i + 1)) (node_of d (i + 1 + occurrences f))
-      by_sign true = w.0.0
-      by_sign false = w.1.0
-
-  pub both_implies : (f h : Formula) (i : ℕ)
-      → StandsAt g i (Binary operator.Implies f h)
-      → 2 * (i + occurrences (Binary operator.Implies f h)) ≤ size g
-      → Both (i + 1) f → Both (i + 1 + occurrences f) h → Both i (Binary operator.Implies f h)
-  both_implies f h i w room x y e s s_low =
+      by_sign true = w.0.0.0
+      by_sign false = w.0.1.0
+  both_binary operator.Implies f h i w room x y e s s_low =
       same e s (node_of e i) _ (is_member (meaning m (Binary operator.Implies f h)) s) (sym (member_where m _ s s_low))
       (own e i (1 + occurrences f + occurrences h) s s_low room (omega arith) (node_of (not e) (i + 1))
       (node_of e (i + 1 + occurrences f)) (not (is_member (meaning m f) s)) (is_member (meaning m h) s) (by_sign e)
@@ -178,38 +169,33 @@ module _ (g : Graph) (m : Structure) (g_ok : IsGraph g) (m_ok : IsStructure m) w
     where
       by_sign : (d : Bool)
           → node_at g (node_of d i) ≡ own_by d (node_of (not d) (i + 1)) (node_of d (i + 1 + occurrences f))
-      by_sign true = w.0.0
-      by_sign false = w.1.0
-
-  pub both_iff : (f h : Formula) (i : ℕ)
-      → StandsAt g i (Binary operator.Iff f h)
-      → 2 * (i + occurrences (Binary operator.Iff f h)) ≤ size g
-      → Both (i + 3) f → Both (i + 3 + occurrences f) h → Both i (Binary operator.Iff f h)
-  both_iff f h i w room x y true s s_low =
+      by_sign true = w.0.0.0
+      by_sign false = w.0.1.0
+  both_binary operator.Iff f h i w room x y true s s_low =
       let a : Bool = is_member (meaning m f) s in let b : Bool = is_member (meaning m h) s in
       let n : ℕ = occurrences f + occurrences h in
       same true s (positive i) ((a && b) || (not a && not b)) (is_member (meaning m (Binary operator.Iff f h)) s)
       (iff_is a b ∙ sym (member_where m _ s s_low))
       (own true i (3 + n) s s_low (omega (arith, room)) (omega arith) (positive (i + 1)) (positive (i + 2)) (a && b)
-      (not a && not b) w.0.0
+      (not a && not b) w.0.0.0
       (other true (i + 1) (2 + n) s s_low (omega (arith, room)) (omega arith) (positive (i + 3))
-      (positive (i + 3 + occurrences f)) a b w.2.0 (x true s s_low) (y true s s_low))
+      (positive (i + 3 + occurrences f)) a b w.0.2.0 (x true s s_low) (y true s s_low))
       (other true (i + 2) (1 + n) s s_low (omega (arith, room)) (omega arith) (negative (i + 3))
-      (negative (i + 3 + occurrences f)) (not a) (not b) w.4.0
+      (negative (i + 3 + occurrences f)) (not a) (not b) w.0.4.0
       (denied f (i + 3) (omega (arith, room)) x true s s_low)
       (denied h (i + 3 + occurrences f) (omega (arith, room)) y true s s_low)))
-  both_iff f h i w room x y false s s_low =
+  both_binary operator.Iff f h i w room x y false s s_low =
       let a : Bool = is_member (meaning m f) s in let b : Bool = is_member (meaning m h) s in
       let n : ℕ = occurrences f + occurrences h in
       same false s (negative i) ((not a || b) && (a || not b)) (is_member (meaning m (Binary operator.Iff f h)) s)
       (not_iff_is a b ∙ sym (member_where m _ s s_low))
       (other false i (3 + n) s s_low (omega (arith, room)) (omega arith) (negative (i + 1)) (negative (i + 2))
-      (not a || b) (a || not b) w.1.0
+      (not a || b) (a || not b) w.0.1.0
       (own false (i + 1) (2 + n) s s_low (omega (arith, room)) (omega arith) (positive (i + 3))
-      (negative (i + 3 + occurrences f)) (not a) b w.3.0
+      (negative (i + 3 + occurrences f)) (not a) b w.0.3.0
       (denied f (i + 3) (omega (arith, room)) x false s s_low) (y false s s_low))
       (own false (i + 2) (1 + n) s s_low (omega (arith, room)) (omega arith) (negative (i + 3))
-      (positive (i + 3 + occurrences f)) a (not b) w.5.0
+      (positive (i + 3 + occurrences f)) a (not b) w.0.5.0
       (x false s s_low) (denied h (i + 3 + occurrences f) (omega (arith, room)) y false s s_low)))
 
   continues : (e : Bool) (r : ℕ) → turn e (positive r) (negative r) ≡ node_of e r

@@ -4,19 +4,17 @@
 --   NamesIn ps acts f, ProgramNamesIn ps acts p == each name of f, or of p, is at its place
 --   stands, program_stands                 == the nodes and priorities of a formula, or of a program, say what stands there
 --   one_symbol, program_symbol             == each formula and program has an occurrence
-use Rattle.std.proofs.Common.{◌≡◌, ℕ, ◌+◌, ◌*◌, ◌≤◌, List, [], ◌++◌, length, get_or, refl, subst, arith, length-append}
+use Rattle.std.proofs.Common.{◌≡◌, ℕ, ◌+◌, ◌*◌, ◌≤◌, List, [], ◌++◌, length, get_or, refl, arith, length-append}
 use Rattle.ml_graph.specs.Graph.{Graph}
-use Rattle.ml_graph.specs.declared.node.Node.TheVariants as node
-use Rattle.ml_text.specs.declared.token.Operator.TheVariants as operator
 use Rattle.ml_text.specs.Operators.{weight}
 use Rattle.ml_text.specs.NameLists.{place_of}
 use Rattle.ml_pdl.specs.Formula.{Formula, Const, Prop, Not, Binary, Modal, Repeat, Program, Act, Seq, Alt, Star, Test, Diamond, Square, occurrences, program_occurrences}
-use Rattle.ml_nodes.specs.Nodes.{positive, negative, IsNode}
+use Rattle.ml_nodes.specs.Nodes.{positive, negative}
 use Rattle.ml_pdl_graph.specs.PdlGraph.{diamond, box, plain, StandsAt, ProgramStandsAt}
 use Rattle.ml_nodes.specs.private.Connectives.{operator_nodes, operator_priorities}
 use Rattle.ml_pdl_graph.specs.private.NodeList.{nodes_of, program_nodes, priorities_of, program_priorities}
 use Rattle.ml_nodes.proofs.Connectives.{length-operator, length-operator_priorities, one_weight}
-use Rattle.ml_nodes.proofs.StandingLists.{Stand, Parts, pair, parts}
+use Rattle.ml_nodes.proofs.StandingLists.{Stand, Parts, joined, pair, parts}
 
 mutual
   pub length-nodes : (ps acts : List (List ℕ)) (i : ℕ) (f : Formula) → length (nodes_of ps acts i f) ≡ 2 * occurrences f
@@ -162,36 +160,12 @@ mutual
       ((place_of g.props p, q.first, names), (place_of g.props p, q.second, names))
   stands g i (Not f) names s =
       let p = pair g i _ _ plain plain _ _ s in (p.first, p.second, stands g (i + 1) f names p.behind)
-  stands g i (Binary operator.And f h) names s =
-      let p = pair g i _ _ plain plain _ _ s in
-      let o = operands g (i + 1) (i + 1 + occurrences f) f h p.behind refl in
-      (p.first, p.second, stands g (i + 1) f names.0 o.left, stands g (i + 1 + occurrences f) h names.1 o.right)
-  stands g i (Binary operator.Or f h) names s =
-      let p = pair g i _ _ plain plain _ _ s in
-      let o = operands g (i + 1) (i + 1 + occurrences f) f h p.behind refl in
-      (p.first, p.second, stands g (i + 1) f names.0 o.left, stands g (i + 1 + occurrences f) h names.1 o.right)
-  stands g i (Binary operator.Implies f h) names s =
-      let p = pair g i _ _ plain plain _ _ s in
-      let o = operands g (i + 1) (i + 1 + occurrences f) f h p.behind refl in
-      (p.first, p.second, stands g (i + 1) f names.0 o.left, stands g (i + 1 + occurrences f) h names.1 o.right)
-  stands g i (Binary operator.Iff f h) names s =
-      let p = pair g i _ _ plain plain _ _ s in
-      let q = pair g (i + 1) _ _ plain plain _ _ p.behind in
-      let r = pair g (i + 1 + 1) _ _ plain plain _ _ q.behind in
-      let l = i + 3 in
-      let two : i + 1 + 1 ≡ i + 2 = omega arith in
-      let three : i + 1 + 1 + 1 ≡ i + 3 = omega arith in
-      let behind = subst (λ k. Stand g k (nodes_of g.props g.actions l f ++ nodes_of g.props g.actions (l + occurrences f) h) (priorities_of f ++ priorities_of h)) three r.behind in
-      let o = operands g l (l + occurrences f) f h behind refl in (
-        p.first,
-        p.second,
-        q.first,
-        q.second,
-        subst (λ k. IsNode g (positive k) (node.And (negative l) (negative (l + occurrences f))) plain) two r.first,
-        subst (λ k. IsNode g (negative k) (node.And (negative l) (positive (l + occurrences f))) plain) two r.second,
-        stands g l f names.0 o.left,
-        stands g (l + occurrences f) h names.1 o.right,
-      )
+  stands g i (Binary op f h) names s =
+      let l = i + weight op in
+      let r = l + occurrences f in
+      let here = joined g plain op i l r _ _ s in
+      let o = operands g l r f h here.behind refl in
+      (here.joins, stands g l f names.0 o.left, stands g r h names.1 o.right)
   stands g i (Modal Diamond p f) names s =
       let l = i + 1 in
       let r = l + program_occurrences p in

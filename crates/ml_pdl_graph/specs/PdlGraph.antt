@@ -23,8 +23,8 @@
 use Rattle.std.specs.Prelude.{ℕ, ◌≡◌, ◌+◌, ◌*◌, Bool, true, false, not, if◌then◌else◌, List}
 use Rattle.ml_graph.specs.Graph.{Graph, IsGraph, size, prop_at, action_at}
 use Rattle.ml_graph.specs.declared.node.Node.TheVariants as node
-use Rattle.ml_text.specs.declared.token.Operator.TheVariants as operator
-use Rattle.ml_nodes.specs.Nodes.{positive, negative, constant, IsNode, LeadsTo}
+use Rattle.ml_text.specs.Operators.{weight}
+use Rattle.ml_nodes.specs.Nodes.{positive, negative, constant, IsNode, LeadsTo, Joins}
 use Rattle.ml_pdl.specs.Formula.{Formula, Const, Prop, Not, Binary, Modal, Repeat, Program, Act, Seq, Alt, Star, Test, Diamond, Square, occurrences, program_occurrences}
 
 abbrev pub diamond : ℕ → ℕ
@@ -48,31 +48,9 @@ abbrev mutual
   StandsAt g i (Not f) =
       LeadsTo g (positive i) (negative (i + 1)) plain × LeadsTo g (negative i) (positive (i + 1)) plain
       × StandsAt g (i + 1) f
-  StandsAt g i (Binary operator.And f h) =
-      let l = i + 1 in let r = l + occurrences f in
-      IsNode g (positive i) (node.And (positive l) (positive r)) plain
-      × IsNode g (negative i) (node.Or (negative l) (negative r)) plain
-      × StandsAt g l f × StandsAt g r h
-  StandsAt g i (Binary operator.Or f h) =
-      let l = i + 1 in let r = l + occurrences f in
-      IsNode g (positive i) (node.Or (positive l) (positive r)) plain
-      × IsNode g (negative i) (node.And (negative l) (negative r)) plain
-      × StandsAt g l f × StandsAt g r h
-  StandsAt g i (Binary operator.Implies f h) =
-      let l = i + 1 in let r = l + occurrences f in
-      IsNode g (positive i) (node.Or (negative l) (positive r)) plain
-      × IsNode g (negative i) (node.And (positive l) (negative r)) plain
-      × StandsAt g l f × StandsAt g r h
-  -- both or neither; one and not the other
-  StandsAt g i (Binary operator.Iff f h) =
-      let both = i + 1 in let neither = i + 2 in let l = i + 3 in let r = l + occurrences f in
-      IsNode g (positive i) (node.Or (positive both) (positive neither)) plain
-      × IsNode g (negative i) (node.Or (negative both) (negative neither)) plain
-      × IsNode g (positive both) (node.And (positive l) (positive r)) plain
-      × IsNode g (negative both) (node.And (positive l) (negative r)) plain
-      × IsNode g (positive neither) (node.And (negative l) (negative r)) plain
-      × IsNode g (negative neither) (node.And (negative l) (positive r)) plain
-      × StandsAt g l f × StandsAt g r h
+  StandsAt g i (Binary op f h) =
+      let l = i + weight op in let r = l + occurrences f in
+      Joins g plain op i l r × StandsAt g l f × StandsAt g r h
   StandsAt g i (Modal Diamond p f) =
       let l = i + 1 in let r = l + program_occurrences p in
       LeadsTo g (positive i) (diamond l) plain × LeadsTo g (negative i) (box l) plain
