@@ -34,9 +34,11 @@ agree (Modal d a f) m0 gs g m k bs i w =
     agree_modal m0 gs g m k bs i d a f w (agree f m0 gs g m k bs (i + 1) (modal_inner m0 gs g m k bs i d a f w))
 agree (Binder q x f) m0 gs g m k bs b w = record {
   holds = signed_says m0 gs q x f g m k bs b w true
-      (λ V long. agree f m0 ((x, V) ∷ gs) (cut g b (fresh g m f)) (marked m (fresh g m f) V) k ((x, b) ∷ bs) (b + 1) (inner m0 gs q x f g m k bs b w V long));
+      (λ V long. agree f m0 ((x, V) ∷ gs) (cut g b (fresh g m f)) (marked m (fresh g m f) V) k ((x, b) ∷ bs) (b + 1)
+      (inner m0 gs q x f g m k bs b w V long));
   fails = signed_says m0 gs q x f g m k bs b w false
-      (λ V long. agree f m0 ((x, V) ∷ gs) (cut g b (fresh g m f)) (marked m (fresh g m f) V) k ((x, b) ∷ bs) (b + 1) (inner m0 gs q x f g m k bs b w V long));
+      (λ V long. agree f m0 ((x, V) ∷ gs) (cut g b (fresh g m f)) (marked m (fresh g m f) V) k ((x, b) ∷ bs) (b + 1)
+      (inner m0 gs q x f g m k bs b w V long));
 }
 
 props_same : (m : Structure) (f : Formula) → PropsAgree m m f

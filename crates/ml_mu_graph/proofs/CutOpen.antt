@@ -53,7 +53,10 @@ abbrev pub IsLonger : List ℕ → List (List ℕ) → Type 0
 IsLonger name [] = Unit {0}
 IsLonger name (p ∷ ps) = (length p < length name) × IsLonger name ps
 
-pub longer_differs : (name : List ℕ) (ps : List (List ℕ)) (p : List ℕ) → IsLonger name ps → IsMember p ps → length p < length name
+pub longer_differs : (name : List ℕ) (ps : List (List ℕ)) (p : List ℕ)
+    → IsLonger name ps
+    → IsMember p ps
+    → length p < length name
 longer_differs name (q ∷ ps) p longer (inl e) = omega (arith, ap length e, longer.0)
 longer_differs name (q ∷ ps) p longer (inr later) = longer_differs name ps p longer.1 later
 longer_differs name [] p longer h = absurd h
@@ -77,7 +80,8 @@ module _ (g : Graph) (b : ℕ) (name : List ℕ) (inside : negative b < size g) 
 
   pub cut_positive : node_at (cut g b name) (positive b) ≡ node.Lit (length g.props) true
   cut_positive =
-      get_or-set_other (set g.nodes (positive b) (node.Lit (length g.props) true)) (negative b) (positive b) (node.Lit (length g.props) false) node.True (λ e. omega (arith, e))
+      get_or-set_other (set g.nodes (positive b) (node.Lit (length g.props) true)) (negative b) (positive b)
+      (node.Lit (length g.props) false) node.True (λ e. omega (arith, e))
       ∙ get_or-set_same g.nodes (positive b) (node.Lit (length g.props) true) node.True (omega (arith, inside))
 
   pub cut_negative : node_at (cut g b name) (negative b) ≡ node.Lit (length g.props) false
@@ -113,7 +117,9 @@ module _ (g : Graph) (b : ℕ) (name : List ℕ) (inside : negative b < size g) 
   grown (node.Diamond c to) n p q a more old r h = old r h
   grown (node.Square c to) n p q a more old r h = old r h
 
-  new_literal : (sign : Bool) (r : Reference) → IsMember r (references_of (size g) (length (cut g b name).props) (length g.actions) (node.Lit (length g.props) sign)) → r.number < r.bound
+  new_literal : (sign : Bool) (r : Reference)
+      → IsMember r (references_of (size g) (length (cut g b name).props) (length g.actions) (node.Lit (length g.props) sign))
+      → r.number < r.bound
   new_literal sign r (inl e) = omega (arith, more_props, ap (λ x. x.number) e, ap (λ x. x.bound) e)
   new_literal sign r (inr none) = absurd none
 
@@ -125,18 +131,31 @@ module _ (g : Graph) (b : ℕ) (name : List ℕ) (inside : negative b < size g) 
     actions_differ = ok.actions_differ;
   }
     where
-      old_node : (n : ℕ) → n < size g → (r : Reference) → IsMember r (references_of (size g) (length g.props) (length g.actions) (node_at g n)) → r.number < r.bound
+      old_node : (n : ℕ)
+          → n < size g
+          → (r : Reference)
+          → IsMember r (references_of (size g) (length g.props) (length g.actions) (node_at g n))
+          → r.number < r.bound
       old_node n low r h = field_in_range g ok n low r h
 
-      at_node : (n : ℕ) → n < size g → (r : Reference) → IsMember r (references_of (size g) (length (cut g b name).props) (length g.actions) (node_at (cut g b name) n)) → r.number < r.bound
+      at_node : (n : ℕ)
+          → n < size g
+          → (r : Reference)
+          → IsMember r (references_of (size g) (length (cut g b name).props) (length g.actions) (node_at (cut g b name) n))
+          → r.number < r.bound
       at_node n low r h =
           ⊎_elim
-          (λ (e : n ≡ positive b). new_literal true r (subst (λ x. IsMember r (references_of (size g) (length (cut g b name).props) (length g.actions) x)) (ap (node_at (cut g b name)) e ∙ cut_positive) h))
+          (λ (e : n ≡ positive b). new_literal true r
+          (subst (λ x. IsMember r (references_of (size g) (length (cut g b name).props) (length g.actions) x))
+          (ap (node_at (cut g b name)) e ∙ cut_positive) h))
           (λ (not_p : n ≢ positive b).
           ⊎_elim
-          (λ (e : n ≡ negative b). new_literal false r (subst (λ x. IsMember r (references_of (size g) (length (cut g b name).props) (length g.actions) x)) (ap (node_at (cut g b name)) e ∙ cut_negative) h))
+          (λ (e : n ≡ negative b). new_literal false r
+          (subst (λ x. IsMember r (references_of (size g) (length (cut g b name).props) (length g.actions) x))
+          (ap (node_at (cut g b name)) e ∙ cut_negative) h))
           (λ (not_n : n ≢ negative b).
-          grown (node_at g n) (size g) (length g.props) (length (cut g b name).props) (length g.actions) (omega (arith, more_props)) (old_node n low) r
+          grown (node_at g n) (size g) (length g.props) (length (cut g b name).props) (length g.actions)
+          (omega (arith, more_props)) (old_node n low) r
           (subst (λ x. IsMember r (references_of (size g) (length (cut g b name).props) (length g.actions) x)) (cut_others n not_p not_n) h))
           (cases_eq n (negative b)))
           (cases_eq n (positive b))
@@ -145,13 +164,21 @@ module _ (g : Graph) (b : ℕ) (name : List ℕ) (inside : negative b < size g) 
       each r h =
           ⊎_elim
           (λ (of_nodes : IsMember r (flat_map (references_of (size (cut g b name)) (length (cut g b name).props) (length g.actions)) (cut g b name).nodes)).
-          let list = member-flat_map_from (references_of (size (cut g b name)) (length (cut g b name).props) (length g.actions)) r (cut g b name).nodes of_nodes in
+          let list =
+          member-flat_map_from (references_of (size (cut g b name)) (length (cut g b name).props) (length g.actions)) r
+          (cut g b name).nodes of_nodes
+          in
           let place = member-place list.from (cut g b name).nodes list.member in
           at_node place.place (omega (arith, place.below, cut_size)) r
           (subst (λ k. IsMember r (references_of k (length (cut g b name).props) (length g.actions) (node_at (cut g b name) place.place))) cut_size
-          (subst (λ x. IsMember r (references_of (size (cut g b name)) (length (cut g b name).props) (length g.actions) x)) (sym (place.holds node.True)) list.inside)))
+          (subst
+          (λ x. IsMember r (references_of (size (cut g b name)) (length (cut g b name).props) (length g.actions) x))
+          (sym (place.holds node.True)) list.inside)))
           (λ (of_root : IsMember r (record { number = g.root; bound = size (cut g b name) } ∷ [])). root_one of_root)
-          (member-append r (flat_map (references_of (size (cut g b name)) (length (cut g b name).props) (length g.actions)) (cut g b name).nodes) (record { number = g.root; bound = size (cut g b name) } ∷ []) h)
+          (member-append r
+          (flat_map (references_of (size (cut g b name)) (length (cut g b name).props) (length g.actions))
+          (cut g b name).nodes)
+          (record { number = g.root; bound = size (cut g b name) } ∷ []) h)
         where
           root_one : IsMember r (record { number = g.root; bound = size (cut g b name) } ∷ []) → r.number < r.bound
           root_one (inl e) = omega (arith, root_in_range g ok, cut_size, ap (λ x. x.number) e, ap (λ x. x.bound) e)
@@ -167,8 +194,12 @@ module _ (m : Structure) (name : List ℕ) (U : StateSet) where
     joins_states = ok.joins_states;
   }
 
-  row : (s : ℕ) → s < m.states → slice_index_or (marked m name U).labels s [] ≡ (if is_member U s then name ∷ [] else []) ++ slice_index_or m.labels s []
-  row s low = get_or-map-range_with_len (λ t. (if is_member U t then name ∷ [] else []) ++ slice_index_or m.labels t []) 0 m.states s s [] low (omega arith)
+  row : (s : ℕ)
+      → s < m.states
+      → slice_index_or (marked m name U).labels s [] ≡ (if is_member U s then name ∷ [] else []) ++ slice_index_or m.labels s []
+  row s low =
+      get_or-map-range_with_len (λ t. (if is_member U t then name ∷ [] else []) ++ slice_index_or m.labels t []) 0
+      m.states s s [] low (omega arith)
 
   with_row : (s : ℕ) (p : List ℕ) → s < m.states
       → lists (marked m name U) s p ≡ (list_any (λ q. bytes_eq q p) (if is_member U s then name ∷ [] else []) || lists m s p)
@@ -177,7 +208,10 @@ module _ (m : Structure) (name : List ℕ) (U : StateSet) where
       ∙ list_any-append (λ q. bytes_eq q p) (if is_member U s then name ∷ [] else []) (slice_index_or m.labels s [])
 
   -- the other propositions are true where they were
-  pub marked_others : (s : ℕ) (p : List ℕ) → s < m.states → length p < length name → lists (marked m name U) s p ≡ lists m s p
+  pub marked_others : (s : ℕ) (p : List ℕ)
+      → s < m.states
+      → length p < length name
+      → lists (marked m name U) s p ≡ lists m s p
   marked_others s p low short = with_row s p low ∙ ap (λ b. b || lists m s p) (by_flag (is_member U s))
     where
       by_flag : (b : Bool) → list_any (λ q. bytes_eq q p) (if b then name ∷ [] else []) ≡ false
@@ -186,12 +220,20 @@ module _ (m : Structure) (name : List ℕ) (U : StateSet) where
 
   none_there : (ps : List (List ℕ)) → IsLonger name ps → list_any (λ q. bytes_eq q name) ps ≡ false
   none_there [] longer = refl
-  none_there (p ∷ ps) longer = ap (λ b. b || list_any (λ q. bytes_eq q name) ps) (nat_list_eq_equiv.symm p name ∙ shorter_differs name p longer.0) ∙ none_there ps longer.1
+  none_there (p ∷ ps) longer =
+      ap (λ b. b || list_any (λ q. bytes_eq q name) ps)
+      (nat_list_eq_equiv.symm p name ∙ shorter_differs name p longer.0)
+      ∙ none_there ps longer.1
 
   -- and the new one at the states of the set
-  pub marked_name : (s : ℕ) → s < m.states → IsLonger name (slice_index_or m.labels s []) → lists (marked m name U) s name ≡ is_member U s
+  pub marked_name : (s : ℕ)
+      → s < m.states
+      → IsLonger name (slice_index_or m.labels s [])
+      → lists (marked m name U) s name ≡ is_member U s
   marked_name s low longer =
-      with_row s name low ∙ ap (λ b. list_any (λ q. bytes_eq q name) (if is_member U s then name ∷ [] else []) || b) (none_there (slice_index_or m.labels s []) longer)
+      with_row s name low
+      ∙ ap (λ b. list_any (λ q. bytes_eq q name) (if is_member U s then name ∷ [] else []) || b)
+      (none_there (slice_index_or m.labels s []) longer)
       ∙ by_flag (is_member U s)
     where
       by_flag : (b : Bool) → (list_any (λ q. bytes_eq q name) (if b then name ∷ [] else []) || false) ≡ b

@@ -21,7 +21,8 @@ use Rattle.ml_mu.specs.Variables.{is_positive, occurs_only}
 use Rattle.ml_nodes.specs.Nodes.{positive, negative, IsNode, Joins}
 use Rattle.ml_mu_graph.specs.MuGraph.{Around, StandsAt, IsLiteral}
 use Rattle.ml_mu_graph.proofs.Told.{IsTold, AreTold, AreOutside}
-use Rattle.ml_mu_graph.proofs.CutOpen.{cut, marked, IsLonger, longer_differs, cut_size, cut_positive, cut_negative, cut_others, cut_prop, cut_name, cut_graph, marked_structure, marked_others, marked_name}
+use Rattle.ml_mu_graph.proofs.CutOpen.{cut, marked, IsLonger, longer_differs, cut_size, cut_positive, cut_negative, cut_others}
+use Rattle.ml_mu_graph.proofs.CutOpen.{cut_prop, cut_name, cut_graph, marked_structure, marked_others, marked_name}
 use Rattle.ml_mu_graph.proofs.Situations.{PropsAgree, Situation, outside_more}
 
 -- the graph h has the nodes of g from n on, and names propositions and actions as g does
@@ -38,7 +39,13 @@ module _ (g h : Graph) (ok : IsGraph g) where
   node_kept : (n j : ℕ) → Keeps g h n → n ≤ j → (v : _) (p : ℕ) → IsNode g j v p → IsNode h j v p
   node_kept n j k le v p is = (k.nodes j le ∙ is.0, k.priorities j ∙ is.1)
 
-  literal_kept : (n j : ℕ) → Keeps g h n → n ≤ j → j < size g → (name : List ℕ) (sign : Bool) (p : ℕ) → IsLiteral g j name sign p → IsLiteral h j name sign p
+  literal_kept : (n j : ℕ)
+      → Keeps g h n
+      → n ≤ j
+      → j < size g
+      → (name : List ℕ) (sign : Bool) (p : ℕ)
+      → IsLiteral g j name sign p
+      → IsLiteral h j name sign p
   literal_kept n j k le low name sign p is =
       (is.0, node_kept n j k le _ p is.1, k.props is.0 (prop_in_range g ok j low is.0 sign is.1.0) ∙ is.2)
 
@@ -58,12 +65,16 @@ module _ (g h : Graph) (ok : IsGraph g) where
     node_kept (positive i) (negative (i + 2)) k (omega arith) _ _ s.5,
   )
 
-  pub stands_kept : (f : Formula) (p : ℕ) (bs : Around) (i : ℕ) → Keeps g h (positive i) → 2 * (i + occurrences f) ≤ size g
+  pub stands_kept : (f : Formula) (p : ℕ) (bs : Around) (i : ℕ)
+      → Keeps g h (positive i)
+      → 2 * (i + occurrences f) ≤ size g
       → StandsAt g p bs i f → StandsAt h p bs i f
   stands_kept (Const b) p bs i k room s =
       (node_kept (positive i) (positive i) k (omega arith) _ _ s.0, node_kept (positive i) (negative i) k (omega arith) _ _ s.1)
-  stands_kept (Prop q) p bs i k room s =
-      (literal_kept (positive i) (positive i) k (omega arith) (omega (arith, room)) q true p s.0, literal_kept (positive i) (negative i) k (omega arith) (omega (arith, room)) q false p s.1)
+  stands_kept (Prop q) p bs i k room s = (
+    literal_kept (positive i) (positive i) k (omega arith) (omega (arith, room)) q true p s.0,
+    literal_kept (positive i) (negative i) k (omega arith) (omega (arith, room)) q false p s.1,
+  )
   stands_kept (Var x) p bs i k room s =
       (node_kept (positive i) (positive i) k (omega arith) _ _ s.0, node_kept (positive i) (negative i) k (omega arith) _ _ s.1)
   stands_kept (Not f) p bs i k room s = (
@@ -117,7 +128,9 @@ row_within [] s = omega arith
 row_within (r ∷ rs) zero = omega arith
 row_within (r ∷ rs) (suc s) = let more = row_within rs s in omega (arith, more)
 
-props_kept : (m0 m : Structure) (name : List ℕ) (U : StateSet) (f : Formula) → m.states ≡ m0.states → longest_prop f < length name
+props_kept : (m0 m : Structure) (name : List ℕ) (U : StateSet) (f : Formula)
+    → m.states ≡ m0.states
+    → longest_prop f < length name
     → PropsAgree m0 m f → PropsAgree m0 (marked m name U) f
 props_kept m0 m name U (Const b) same long agree = tt
 props_kept m0 m name U (Prop p) same long agree = λ s low. marked_others m name U s p (omega (arith, same, low)) long ∙ agree s low
@@ -203,9 +216,18 @@ module _ (m0 : Structure) (gs : Given) (q : Fixpoint) (x : List ℕ) (f : Formul
         record {
           prop = t.prop;
           inside = omega (arith, t.inside, cut_size g b name node_inside);
-          positive_is = cut_others g b name node_inside (positive c.1) (λ e. omega (arith, e, outside.0)) (λ e. omega (arith, e, outside.0)) ∙ t.positive_is;
-          negative_is = cut_others g b name node_inside (negative c.1) (λ e. omega (arith, e, outside.0)) (λ e. omega (arith, e, outside.0)) ∙ t.negative_is;
-          told = λ n n_low. ap (lists telling n) (cut_prop g b name node_inside t.prop low) ∙ marked_others m name U n (prop_at g t.prop) n_low (prop_short g m f t.prop low) ∙ t.told n n_low;
+          positive_is =
+              cut_others g b name node_inside (positive c.1) (λ e. omega (arith, e, outside.0))
+              (λ e. omega (arith, e, outside.0))
+              ∙ t.positive_is;
+          negative_is =
+              cut_others g b name node_inside (negative c.1) (λ e. omega (arith, e, outside.0))
+              (λ e. omega (arith, e, outside.0))
+              ∙ t.negative_is;
+          told =
+              λ n n_low. ap (lists telling n) (cut_prop g b name node_inside t.prop low)
+              ∙ marked_others m name U n (prop_at g t.prop) n_low (prop_short g m f t.prop low)
+              ∙ t.told n n_low;
         },
         told_kept cs ss outside.1 told.2,
       )

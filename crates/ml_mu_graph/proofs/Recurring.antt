@@ -7,7 +7,8 @@
 --   Inside v, Ended v      == the vertex v is a state with a node below; it is a literal of an outer binder, or a sink
 --   stays, ends_stay       == moves from inside lead inside or to an end, and from ends to ends
 --   recurs                 == the lowest priority on a loop through the binder's node is its own
-use Rattle.std.proofs.Common.{◌≡◌, ℕ, ◌+◌, ◌-◌, ◌*◌, ◌<◌, ◌≤◌, ◌⊎◌, Bool, true, false, ◌||◌, List, [], ◌∷◌, length, get_or, map, Contains, if◌then◌else◌, inl, inr, refl, sym, ap, subst, ◌∙◌, ⊎_elim, arith}
+use Rattle.std.proofs.Common.{◌≡◌, ℕ, ◌+◌, ◌-◌, ◌*◌, ◌<◌, ◌≤◌, ◌⊎◌, Bool, true, false, ◌||◌, List, [], ◌∷◌, length, get_or, map}
+use Rattle.std.proofs.Common.{Contains, if◌then◌else◌, inl, inr, refl, sym, ap, subst, ◌∙◌, ⊎_elim, arith}
 use Rattle.std.specs.List.{list_any}
 use Rattle.std.specs.Str.{bytes_eq}
 use Rattle.std.specs.Bool.{beq}
@@ -41,7 +42,9 @@ abbrev pub IsOuter : Around → ℕ → Type 0
 IsOuter [] n = ⊥
 IsOuter (b ∷ bs) n = ((n ≡ positive b.1) ⊎ (n ≡ negative b.1)) ⊎ IsOuter bs n
 
-outer_of : (bs : Around) (x : List ℕ) (c : Bool) → list_any (λ y. bytes_eq y x) (names bs) ≡ true → IsOuter bs (node_of c (binder_of bs x))
+outer_of : (bs : Around) (x : List ℕ) (c : Bool)
+    → list_any (λ y. bytes_eq y x) (names bs) ≡ true
+    → IsOuter bs (node_of c (binder_of bs x))
 outer_of [] x c here = absurd (false≢true here)
 outer_of (b ∷ bs) x c here = by_name (bytes_eq b.0 x) refl (λ h. outer_of bs x c h)
   where
@@ -49,7 +52,9 @@ outer_of (b ∷ bs) x c here = by_name (bytes_eq b.0 x) refl (λ h. outer_of bs 
     sign true = inl refl
     sign false = inr refl
 
-    by_name : (d : Bool) → bytes_eq b.0 x ≡ d → (list_any (λ y. bytes_eq y x) (names bs) ≡ true → IsOuter bs (node_of c (binder_of bs x)))
+    by_name : (d : Bool)
+        → bytes_eq b.0 x ≡ d
+        → (list_any (λ y. bytes_eq y x) (names bs) ≡ true → IsOuter bs (node_of c (binder_of bs x)))
         → IsOuter (b ∷ bs) (node_of c (if bytes_eq b.0 x then b.1 else binder_of bs x))
     by_name true e inner = subst (λ d. IsOuter (b ∷ bs) (node_of c (if d then b.1 else binder_of bs x))) (sym e) (inl (sign c))
     by_name false e inner =
@@ -107,7 +112,10 @@ target_low m ok s a t h =
     let low = (All-member (λ d. (d.source < m.states) × (d.target < m.states)) m.edges ok.joins_states image.from kept.0).1 in
     subst (λ n. n < m.states) (sym image.holds) low
 
-of_pairs : (m : Structure) (x : Node) (to p : ℕ) (ts : List ℕ) → IsChild x to → p < 2 → ((t : ℕ) → IsMember t ts → t < m.states)
+of_pairs : (m : Structure) (x : Node) (to p : ℕ) (ts : List ℕ)
+    → IsChild x to
+    → p < 2
+    → ((t : ℕ) → IsMember t ts → t < m.states)
     → (u : Vertex) → IsMember u (pairs_or_sink to p ts) → ToChild m x u ⊎ ToSink u
 of_pairs m x to p [] child p_low low u h = inr (one_sink p p_low u h)
 of_pairs m x to p (s ∷ ss) child p_low low u h =
@@ -158,15 +166,24 @@ module _ (m0 : Structure) (gs : Given) (q : Fixpoint) (x : List ℕ) (f : Formul
   ended_vertex u (is_outer s n low h) = (low, omega (arith, outer_low b bs n w.outside h, w.room))
   ended_vertex u (is_sink p low) = low
 
-  pub game_moves : (u : Vertex) → IsVertex g m u → (v : ℕ) → HasMove (checking_game g m) (number u) v → Image number v (successors g m u)
+  pub game_moves : (u : Vertex)
+      → IsVertex g m u
+      → (v : ℕ)
+      → HasMove (checking_game g m) (number u) v
+      → Image number v (successors g m u)
   game_moves u is v move =
-      member-map_from number v (successors g m u) (member_of_contains v (map number (successors g m u)) (subst (λ (xs : List ℕ). Contains xs v) (moves_are g m u is) move))
+      member-map_from number v (successors g m u)
+      (member_of_contains v (map number (successors g m u))
+      (subst (λ (xs : List ℕ). Contains xs v) (moves_are g m u is) move))
 
   ended_at : (v : ℕ) (u : Vertex) → v ≡ number u → ToSink u → Ended v
   ended_at v u is sink = (u, (is, subst IsEnded (sym sink.is) (is_sink sink.priority sink.low)))
 
   -- a child of a node below is below, or one of a binder around
-  child_below : (n t : ℕ) → Below (Binder q x f) b e n → IsChild (node_at g n) t → Below (Binder q x f) b e t ⊎ IsOuter bs t
+  child_below : (n t : ℕ)
+      → Below (Binder q x f) b e n
+      → IsChild (node_at g n) t
+      → Below (Binder q x f) b e t ⊎ IsOuter bs t
   child_below n t h child =
       ⊎_elim
       (λ (inside : Below (Binder q x f) b e t). inl inside)
@@ -182,7 +199,8 @@ module _ (m0 : Structure) (gs : Given) (q : Fixpoint) (x : List ℕ) (f : Formul
       ⊎_elim
       (λ (to : ToChild m (node_at g n) image.from).
       ⊎_elim
-      (λ (inside : Below (Binder q x f) b e to.child). inl (image.from, (image.holds, subst IsInside (sym to.is) (is_inside to.state to.child to.low inside))))
+      (λ (inside : Below (Binder q x f) b e to.child).
+      inl (image.from, (image.holds, subst IsInside (sym to.is) (is_inside to.state to.child to.low inside))))
       (λ (outer : IsOuter bs to.child). inr (image.from, (image.holds, subst IsEnded (sym to.is) (is_outer to.state to.child to.low outer))))
       (child_below n to.child h to.is_child))
       (λ (to : ToSink image.from). inr (ended_at v image.from image.holds to))
@@ -195,7 +213,8 @@ module _ (m0 : Structure) (gs : Given) (q : Fixpoint) (x : List ℕ) (f : Formul
       ⊎_elim
       (λ (to : ToChild m (node.Lit literal.0 literal.1.0) image.from). absurd to.is_child)
       (λ (to : ToSink image.from). ended_at v image.from image.holds to)
-      (leads_to g m w.is_structure s low (node.Lit literal.0 literal.1.0) image.from (subst (λ y. IsMember image.from (successors_of g m s y)) literal.1.1 image.member))
+      (leads_to g m w.is_structure s low (node.Lit literal.0 literal.1.0) image.from
+      (subst (λ y. IsMember image.from (successors_of g m s y)) literal.1.1 image.member))
   from_ended u (is_sink p low) v move =
       let image = game_moves (Sink p) low v move in
       ended_at v image.from image.holds (one_sink p low image.from image.member)
@@ -246,7 +265,10 @@ module _ (m0 : Structure) (gs : Given) (q : Fixpoint) (x : List ℕ) (f : Formul
     where
       from : (u : Vertex) → at s ≡ number u → IsEnded u → ⊥
       from u same (is_outer t n t_low h) =
-          let one = same_vertex (Pair s own) (Pair t n) (inside_vertex (Pair s own) (at_inside s low)) (ended_vertex (Pair t n) (is_outer t n t_low h)) same in
+          let one =
+          same_vertex (Pair s own) (Pair t n) (inside_vertex (Pair s own) (at_inside s low))
+          (ended_vertex (Pair t n) (is_outer t n t_low h)) same
+          in
           let nodes = ap node_of_vertex one in
           omega (arith, nodes, own_high, outer_low b bs n w.outside h)
       from u same (is_sink p p_low) =
@@ -280,7 +302,13 @@ module _ (m0 : Structure) (gs : Given) (q : Fixpoint) (x : List ℕ) (f : Formul
           omega (arith, high, own_priority)
 
   -- the lowest priority on a loop through the binder's node is its own
-  pub recurs : (l : Lasso) → IsPlay (checking_game g m) l → (j : ℕ) → l.start ≤ j → j < length l.entries → (s : ℕ) → s < m.states
+  pub recurs : (l : Lasso)
+      → IsPlay (checking_game g m) l
+      → (j : ℕ)
+      → l.start ≤ j
+      → j < length l.entries
+      → (s : ℕ)
+      → s < m.states
       → entry l j ≡ at s → winner (checking_game g m) l ≡ side (priority_at g own)
   recurs l play j late low s s_low here =
       ap side (lowest_on_loop_is (priority_of (checking_game g m)) l j late low least ∙ at_priority)
@@ -300,13 +328,17 @@ module _ (m0 : Structure) (gs : Given) (q : Fixpoint) (x : List ℕ) (f : Formul
       there i i_late i_low = let same : l.start + (i - l.start) ≡ i = omega arith in ap (λ n. get_or (round l) n 0) same ∙ round-entry l i i_low
 
       everywhere : (i : ℕ) → i ≤ loop_length l → Region (on_loop l i)
-      everywhere = around (on_loop l) Region (loop_length l) (loop_closed l play.starts) (λ i i_low r. region_stays (on_loop l i) (on_loop l (i + 1)) r (joined i i_low))
+      everywhere =
+          around (on_loop l) Region (loop_length l) (loop_closed l play.starts)
+          (λ i i_low r. region_stays (on_loop l i) (on_loop l (i + 1)) r (joined i i_low))
           (j - l.start) (omega (arith, late, low)) (subst Region (sym (there j late low ∙ here)) (inl (Pair s own, (refl, at_inside s s_low))))
 
       never_ended : (i : ℕ) → i ≤ loop_length l → Ended (on_loop l i) → ⊥
       never_ended i i_low ended =
           not_ended s s_low (subst Ended (there j late low ∙ here)
-          (around (on_loop l) Ended (loop_length l) (loop_closed l play.starts) (λ n n_low r. ends_stay (on_loop l n) (on_loop l (n + 1)) r (joined n n_low)) i i_low ended (j - l.start) (omega (arith, late, low))))
+          (around (on_loop l) Ended (loop_length l) (loop_closed l play.starts)
+          (λ n n_low r. ends_stay (on_loop l n) (on_loop l (n + 1)) r (joined n n_low)) i i_low ended (j - l.start)
+          (omega (arith, late, low))))
 
       at_priority : priority_of (checking_game g m) (entry l j) ≡ priority_at g own
       at_priority = ap (priority_of (checking_game g m)) here ∙ priority_is g m (Pair s own) (inside_vertex (Pair s own) (at_inside s s_low))
@@ -315,7 +347,10 @@ module _ (m0 : Structure) (gs : Given) (q : Fixpoint) (x : List ℕ) (f : Formul
       high_at v (inl i) never = let high = inside_priority i.0 i.1.1 in omega (arith, high, ap (priority_of (checking_game g m)) i.1.0)
       high_at v (inr i) never = absurd (never i)
 
-      least : (i : ℕ) → l.start ≤ i → i < length l.entries → priority_of (checking_game g m) (entry l j) ≤ priority_of (checking_game g m) (entry l i)
+      least : (i : ℕ)
+          → l.start ≤ i
+          → i < length l.entries
+          → priority_of (checking_game g m) (entry l j) ≤ priority_of (checking_game g m) (entry l i)
       least i i_late i_low =
           let within : i - l.start ≤ loop_length l = omega (arith, i_late, i_low) in
           let high = high_at (on_loop l (i - l.start)) (everywhere (i - l.start) within) (never_ended (i - l.start) within) in

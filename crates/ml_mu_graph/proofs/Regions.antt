@@ -63,13 +63,16 @@ free_sign (Const b) sign e x c only h = absurd h
 free_sign (Prop p) sign e x c only h = absurd h
 free_sign (Var y) sign e x c only h = var_sign sign e x y c only h.0 h.1
 free_sign (Not f) sign e x c only h = free_sign f (not sign) (not e) x c only h ∙ turned_twice sign e
-free_sign (Binary operator.And f g) sign e x c only (inl h) = free_sign f sign e x c (and_parts (occurs_only sign x f) (occurs_only sign x g) only).0 h
-free_sign (Binary operator.And f g) sign e x c only (inr h) = free_sign g sign e x c (and_parts (occurs_only sign x f) (occurs_only sign x g) only).1 h
+free_sign (Binary operator.And f g) sign e x c only (inl h) =
+    free_sign f sign e x c (and_parts (occurs_only sign x f) (occurs_only sign x g) only).0 h
+free_sign (Binary operator.And f g) sign e x c only (inr h) =
+    free_sign g sign e x c (and_parts (occurs_only sign x f) (occurs_only sign x g) only).1 h
 free_sign (Binary operator.Or f g) sign e x c only (inl h) = free_sign f sign e x c (and_parts (occurs_only sign x f) (occurs_only sign x g) only).0 h
 free_sign (Binary operator.Or f g) sign e x c only (inr h) = free_sign g sign e x c (and_parts (occurs_only sign x f) (occurs_only sign x g) only).1 h
 free_sign (Binary operator.Implies f g) sign e x c only (inl h) =
     free_sign f (not sign) (not e) x c (and_parts (occurs_only (not sign) x f) (occurs_only sign x g) only).0 h ∙ turned_twice sign e
-free_sign (Binary operator.Implies f g) sign e x c only (inr h) = free_sign g sign e x c (and_parts (occurs_only (not sign) x f) (occurs_only sign x g) only).1 h
+free_sign (Binary operator.Implies f g) sign e x c only (inr h) =
+    free_sign g sign e x c (and_parts (occurs_only (not sign) x f) (occurs_only sign x g) only).1 h
 free_sign (Binary operator.Iff f g) sign e x c only (inl (inl h)) = absurd (iff_left f true x c (free_sign f) (and_parts _ _ only).0 h)
 free_sign (Binary operator.Iff f g) sign e x c only (inl (inr h)) = absurd (iff_left f false x c (free_sign f) (and_parts _ _ only).0 h)
 free_sign (Binary operator.Iff f g) sign e x c only (inr (inl h)) = absurd (iff_left g true x c (free_sign g) (and_parts _ _ only).1 h)
@@ -105,27 +108,36 @@ at_node e i j n some is = let range = node_range e i in (omega (arith, range.0, 
 wider : (i j a b n : ℕ) → a ≤ i → j ≤ b → InRange i j n → InRange a b n
 wider i j a b n left right range = (omega (arith, range.0, left), omega (arith, range.1, right))
 
-pub below_range : (f : Formula) (i : ℕ) (e : Bool) (n : ℕ) → Below f i e n → (positive i ≤ n) × (n < 2 * (i + occurrences f))
+pub below_range : (f : Formula) (i : ℕ) (e : Bool) (n : ℕ)
+    → Below f i e n
+    → (positive i ≤ n) × (n < 2 * (i + occurrences f))
 below_range (Const b) i e n h = at_node e i (i + 1) n (omega arith) h
 below_range (Prop p) i e n h = at_node e i (i + 1) n (omega arith) h
 below_range (Var x) i e n h = at_node e i (i + 1) n (omega arith) h
 below_range (Not f) i e n (inl h) = at_node e i (i + occurrences (Not f)) n (omega arith) h
-below_range (Not f) i e n (inr h) = wider (i + 1) (i + 1 + occurrences f) i (i + occurrences (Not f)) n (omega arith) (omega arith) (below_range f (i + 1) (not e) n h)
+below_range (Not f) i e n (inr h) =
+    wider (i + 1) (i + 1 + occurrences f) i (i + occurrences (Not f)) n (omega arith) (omega arith)
+    (below_range f (i + 1) (not e) n h)
 below_range (Binary operator.And f g) i e n (inl h) = at_node e i (i + occurrences (Binary operator.And f g)) n (omega arith) h
 below_range (Binary operator.And f g) i e n (inr (inl h)) =
     wider (i + 1) (i + 1 + occurrences f) i (i + occurrences (Binary operator.And f g)) n (omega arith) (omega arith) (below_range f (i + 1) e n h)
 below_range (Binary operator.And f g) i e n (inr (inr h)) =
-    wider (i + 1 + occurrences f) (i + 1 + occurrences f + occurrences g) i (i + occurrences (Binary operator.And f g)) n (omega arith) (omega arith) (below_range g (i + 1 + occurrences f) e n h)
+    wider (i + 1 + occurrences f) (i + 1 + occurrences f + occurrences g) i (i + occurrences (Binary operator.And f g))
+    n (omega arith) (omega arith) (below_range g (i + 1 + occurrences f) e n h)
 below_range (Binary operator.Or f g) i e n (inl h) = at_node e i (i + occurrences (Binary operator.Or f g)) n (omega arith) h
 below_range (Binary operator.Or f g) i e n (inr (inl h)) =
     wider (i + 1) (i + 1 + occurrences f) i (i + occurrences (Binary operator.Or f g)) n (omega arith) (omega arith) (below_range f (i + 1) e n h)
 below_range (Binary operator.Or f g) i e n (inr (inr h)) =
-    wider (i + 1 + occurrences f) (i + 1 + occurrences f + occurrences g) i (i + occurrences (Binary operator.Or f g)) n (omega arith) (omega arith) (below_range g (i + 1 + occurrences f) e n h)
+    wider (i + 1 + occurrences f) (i + 1 + occurrences f + occurrences g) i (i + occurrences (Binary operator.Or f g)) n
+    (omega arith) (omega arith) (below_range g (i + 1 + occurrences f) e n h)
 below_range (Binary operator.Implies f g) i e n (inl h) = at_node e i (i + occurrences (Binary operator.Implies f g)) n (omega arith) h
 below_range (Binary operator.Implies f g) i e n (inr (inl h)) =
-    wider (i + 1) (i + 1 + occurrences f) i (i + occurrences (Binary operator.Implies f g)) n (omega arith) (omega arith) (below_range f (i + 1) (not e) n h)
+    wider (i + 1) (i + 1 + occurrences f) i (i + occurrences (Binary operator.Implies f g)) n (omega arith)
+    (omega arith) (below_range f (i + 1) (not e) n h)
 below_range (Binary operator.Implies f g) i e n (inr (inr h)) =
-    wider (i + 1 + occurrences f) (i + 1 + occurrences f + occurrences g) i (i + occurrences (Binary operator.Implies f g)) n (omega arith) (omega arith) (below_range g (i + 1 + occurrences f) e n h)
+    wider (i + 1 + occurrences f) (i + 1 + occurrences f + occurrences g) i
+    (i + occurrences (Binary operator.Implies f g)) n (omega arith) (omega arith)
+    (below_range g (i + 1 + occurrences f) e n h)
 below_range (Binary operator.Iff f g) i e n (inl h) = at_node e i (i + occurrences (Binary operator.Iff f g)) n (omega arith) h
 below_range (Binary operator.Iff f g) i e n (inr (inl h)) =
     wider (i + 1) (i + 2) i (i + occurrences (Binary operator.Iff f g)) n (omega arith) (omega arith) (at_node e (i + 1) (i + 2) n (omega arith) h)
@@ -134,11 +146,14 @@ below_range (Binary operator.Iff f g) i e n (inr (inr (inl h))) =
 below_range (Binary operator.Iff f g) i e n (inr (inr (inr (inl (inl h))))) =
     wider (i + 3) (i + 3 + occurrences f) i (i + occurrences (Binary operator.Iff f g)) n (omega arith) (omega arith) (below_range f (i + 3) true n h)
 below_range (Binary operator.Iff f g) i e n (inr (inr (inr (inl (inr h))))) =
-    wider (i + 3) (i + 3 + occurrences f) i (i + occurrences (Binary operator.Iff f g)) n (omega arith) (omega arith) (below_range f (i + 3) false n h)
+    wider (i + 3) (i + 3 + occurrences f) i (i + occurrences (Binary operator.Iff f g)) n (omega arith) (omega arith)
+    (below_range f (i + 3) false n h)
 below_range (Binary operator.Iff f g) i e n (inr (inr (inr (inr (inl h))))) =
-    wider (i + 3 + occurrences f) (i + 3 + occurrences f + occurrences g) i (i + occurrences (Binary operator.Iff f g)) n (omega arith) (omega arith) (below_range g (i + 3 + occurrences f) true n h)
+    wider (i + 3 + occurrences f) (i + 3 + occurrences f + occurrences g) i (i + occurrences (Binary operator.Iff f g))
+    n (omega arith) (omega arith) (below_range g (i + 3 + occurrences f) true n h)
 below_range (Binary operator.Iff f g) i e n (inr (inr (inr (inr (inr h))))) =
-    wider (i + 3 + occurrences f) (i + 3 + occurrences f + occurrences g) i (i + occurrences (Binary operator.Iff f g)) n (omega arith) (omega arith) (below_range g (i + 3 + occurrences f) false n h)
+    wider (i + 3 + occurrences f) (i + 3 + occurrences f + occurrences g) i (i + occurrences (Binary operator.Iff f g))
+    n (omega arith) (omega arith) (below_range g (i + 3 + occurrences f) false n h)
 below_range (Modal m a f) i e n (inl h) = at_node e i (i + occurrences (Modal m a f)) n (omega arith) h
 below_range (Modal m a f) i e n (inr h) =
     wider (i + 1) (i + 1 + occurrences f) i (i + occurrences (Modal m a f)) n (omega arith) (omega arith) (below_range f (i + 1) e n h)
@@ -148,7 +163,9 @@ below_range (Binder q x f) i e n (inr h) =
 
 -- ---- priorities
 
-own_priority : (g : Graph) (low : ℕ) (e : Bool) (i n p q : ℕ) → priority_at g (positive i) ≡ p → priority_at g (negative i) ≡ q
+own_priority : (g : Graph) (low : ℕ) (e : Bool) (i n p q : ℕ)
+    → priority_at g (positive i) ≡ p
+    → priority_at g (negative i) ≡ q
     → low ≤ p → low ≤ q → n ≡ node_of e i → low ≤ priority_at g n
 own_priority g low true i n p q is_p is_q p_high q_high here = omega (arith, ap (priority_at g) here, is_p, p_high)
 own_priority g low false i n p q is_p is_q p_high q_high here = omega (arith, ap (priority_at g) here, is_q, q_high)
@@ -162,25 +179,40 @@ pub below_priority : (g : Graph) (k : ℕ) (bs : Around) (i : ℕ) (f : Formula)
 below_priority g k bs i (Const b) e n s high h = own_priority g (2 * length bs) e i n k k s.0.1 s.1.1 (omega (arith, high)) (omega (arith, high)) h
 below_priority g k bs i (Prop p) e n s high h = own_priority g (2 * length bs) e i n k k s.0.1.1 s.1.1.1 (omega (arith, high)) (omega (arith, high)) h
 below_priority g k bs i (Var x) e n s high h = own_priority g (2 * length bs) e i n k k s.0.1 s.1.1 (omega (arith, high)) (omega (arith, high)) h
-below_priority g k bs i (Not f) e n s high (inl h) = own_priority g (2 * length bs) e i n k k s.0.1 s.1.1 (omega (arith, high)) (omega (arith, high)) h
+below_priority g k bs i (Not f) e n s high (inl h) =
+    own_priority g (2 * length bs) e i n k k s.0.1 s.1.1 (omega (arith, high)) (omega (arith, high)) h
 below_priority g k bs i (Not f) e n s high (inr h) = below_priority g k bs (i + 1) f (not e) n s.2 high h
-below_priority g k bs i (Binary operator.And f c) e n s high (inl h) = own_priority g (2 * length bs) e i n k k s.0.0.1 s.0.1.1 (omega (arith, high)) (omega (arith, high)) h
+below_priority g k bs i (Binary operator.And f c) e n s high (inl h) =
+    own_priority g (2 * length bs) e i n k k s.0.0.1 s.0.1.1 (omega (arith, high)) (omega (arith, high)) h
 below_priority g k bs i (Binary operator.And f c) e n s high (inr (inl h)) = below_priority g k bs (i + 1) f e n s.1 (omega (arith, high)) h
-below_priority g k bs i (Binary operator.And f c) e n s high (inr (inr h)) = below_priority g k bs (i + 1 + occurrences f) c e n s.2 (omega (arith, high)) h
-below_priority g k bs i (Binary operator.Or f c) e n s high (inl h) = own_priority g (2 * length bs) e i n k k s.0.0.1 s.0.1.1 (omega (arith, high)) (omega (arith, high)) h
+below_priority g k bs i (Binary operator.And f c) e n s high (inr (inr h)) =
+    below_priority g k bs (i + 1 + occurrences f) c e n s.2 (omega (arith, high)) h
+below_priority g k bs i (Binary operator.Or f c) e n s high (inl h) =
+    own_priority g (2 * length bs) e i n k k s.0.0.1 s.0.1.1 (omega (arith, high)) (omega (arith, high)) h
 below_priority g k bs i (Binary operator.Or f c) e n s high (inr (inl h)) = below_priority g k bs (i + 1) f e n s.1 (omega (arith, high)) h
-below_priority g k bs i (Binary operator.Or f c) e n s high (inr (inr h)) = below_priority g k bs (i + 1 + occurrences f) c e n s.2 (omega (arith, high)) h
-below_priority g k bs i (Binary operator.Implies f c) e n s high (inl h) = own_priority g (2 * length bs) e i n k k s.0.0.1 s.0.1.1 (omega (arith, high)) (omega (arith, high)) h
+below_priority g k bs i (Binary operator.Or f c) e n s high (inr (inr h)) =
+    below_priority g k bs (i + 1 + occurrences f) c e n s.2 (omega (arith, high)) h
+below_priority g k bs i (Binary operator.Implies f c) e n s high (inl h) =
+    own_priority g (2 * length bs) e i n k k s.0.0.1 s.0.1.1 (omega (arith, high)) (omega (arith, high)) h
 below_priority g k bs i (Binary operator.Implies f c) e n s high (inr (inl h)) = below_priority g k bs (i + 1) f (not e) n s.1 (omega (arith, high)) h
-below_priority g k bs i (Binary operator.Implies f c) e n s high (inr (inr h)) = below_priority g k bs (i + 1 + occurrences f) c e n s.2 (omega (arith, high)) h
-below_priority g k bs i (Binary operator.Iff f c) e n s high (inl h) = own_priority g (2 * length bs) e i n k k s.0.0.1 s.0.1.1 (omega (arith, high)) (omega (arith, high)) h
-below_priority g k bs i (Binary operator.Iff f c) e n s high (inr (inl h)) = own_priority g (2 * length bs) e (i + 1) n k k s.0.2.1 s.0.3.1 (omega (arith, high)) (omega (arith, high)) h
-below_priority g k bs i (Binary operator.Iff f c) e n s high (inr (inr (inl h))) = own_priority g (2 * length bs) e (i + 2) n k k s.0.4.1 s.0.5.1 (omega (arith, high)) (omega (arith, high)) h
-below_priority g k bs i (Binary operator.Iff f c) e n s high (inr (inr (inr (inl (inl h))))) = below_priority g k bs (i + 3) f true n s.1 (omega (arith, high)) h
-below_priority g k bs i (Binary operator.Iff f c) e n s high (inr (inr (inr (inl (inr h))))) = below_priority g k bs (i + 3) f false n s.1 (omega (arith, high)) h
-below_priority g k bs i (Binary operator.Iff f c) e n s high (inr (inr (inr (inr (inl h))))) = below_priority g k bs (i + 3 + occurrences f) c true n s.2 (omega (arith, high)) h
-below_priority g k bs i (Binary operator.Iff f c) e n s high (inr (inr (inr (inr (inr h))))) = below_priority g k bs (i + 3 + occurrences f) c false n s.2 (omega (arith, high)) h
-below_priority g k bs i (Modal m a f) e n s high (inl h) = own_priority g (2 * length bs) e i n k k s.0.1.1 s.1.1.1 (omega (arith, high)) (omega (arith, high)) h
+below_priority g k bs i (Binary operator.Implies f c) e n s high (inr (inr h)) =
+    below_priority g k bs (i + 1 + occurrences f) c e n s.2 (omega (arith, high)) h
+below_priority g k bs i (Binary operator.Iff f c) e n s high (inl h) =
+    own_priority g (2 * length bs) e i n k k s.0.0.1 s.0.1.1 (omega (arith, high)) (omega (arith, high)) h
+below_priority g k bs i (Binary operator.Iff f c) e n s high (inr (inl h)) =
+    own_priority g (2 * length bs) e (i + 1) n k k s.0.2.1 s.0.3.1 (omega (arith, high)) (omega (arith, high)) h
+below_priority g k bs i (Binary operator.Iff f c) e n s high (inr (inr (inl h))) =
+    own_priority g (2 * length bs) e (i + 2) n k k s.0.4.1 s.0.5.1 (omega (arith, high)) (omega (arith, high)) h
+below_priority g k bs i (Binary operator.Iff f c) e n s high (inr (inr (inr (inl (inl h))))) =
+    below_priority g k bs (i + 3) f true n s.1 (omega (arith, high)) h
+below_priority g k bs i (Binary operator.Iff f c) e n s high (inr (inr (inr (inl (inr h))))) =
+    below_priority g k bs (i + 3) f false n s.1 (omega (arith, high)) h
+below_priority g k bs i (Binary operator.Iff f c) e n s high (inr (inr (inr (inr (inl h))))) =
+    below_priority g k bs (i + 3 + occurrences f) c true n s.2 (omega (arith, high)) h
+below_priority g k bs i (Binary operator.Iff f c) e n s high (inr (inr (inr (inr (inr h))))) =
+    below_priority g k bs (i + 3 + occurrences f) c false n s.2 (omega (arith, high)) h
+below_priority g k bs i (Modal m a f) e n s high (inl h) =
+    own_priority g (2 * length bs) e i n k k s.0.1.1 s.1.1.1 (omega (arith, high)) (omega (arith, high)) h
 below_priority g k bs i (Modal m a f) e n s high (inr h) = below_priority g k bs (i + 1) f e n s.2 high h
 below_priority g k bs i (Binder q x f) e n s high (inl h) =
     own_priority g (2 * length bs) e i n (binder_priority q (length bs)) (binder_priority (opposite q) (length bs)) s.0.1 s.1.1
@@ -234,21 +266,29 @@ below_moves g k bs (Const b) i e n t s pos h child =
     own_child g e i n t (Goes (Const b) bs i e) h (constant b) (constant (not b)) s.0.0 s.1.0
     (λ same c. absurd (no_child b t c)) (λ same c. absurd (no_child (not b) t c)) child
 below_moves g k bs (Prop p) i e n t s pos h child =
-    own_child g e i n t (Goes (Prop p) bs i e) h (node.Lit s.0.0 true) (node.Lit s.1.0 false) s.0.1.0 s.1.1.0 (λ same c. absurd c) (λ same c. absurd c) child
+    own_child g e i n t (Goes (Prop p) bs i e) h (node.Lit s.0.0 true) (node.Lit s.1.0 false) s.0.1.0 s.1.1.0
+    (λ same c. absurd c) (λ same c. absurd c) child
 below_moves g k bs (Var x) i e n t s pos h child =
-    own_child g e i n t (Goes (Var x) bs i e) h (node.And (positive (binder_of bs x)) (positive (binder_of bs x))) (node.And (negative (binder_of bs x)) (negative (binder_of bs x))) s.0.0 s.1.0
+    own_child g e i n t (Goes (Var x) bs i e) h (node.And (positive (binder_of bs x)) (positive (binder_of bs x)))
+    (node.And (negative (binder_of bs x)) (negative (binder_of bs x))) s.0.0 s.1.0
     (λ same c. inr (x, (true, ((refl, sym same), either_child t _ _ _ (λ z. z) (λ z. z) c))))
     (λ same c. inr (x, (false, ((refl, sym same), either_child t _ _ _ (λ z. z) (λ z. z) c)))) child
 below_moves g k bs (Not f) i e n t s pos (inl h) child =
-    own_child g e i n t (Goes (Not f) bs i e) h (node.And (negative (i + 1)) (negative (i + 1))) (node.And (positive (i + 1)) (positive (i + 1))) s.0.0 s.1.0
+    own_child g e i n t (Goes (Not f) bs i e) h (node.And (negative (i + 1)) (negative (i + 1)))
+    (node.And (positive (i + 1)) (positive (i + 1))) s.0.0 s.1.0
     (λ same c. inl (inr (below_at f (i + 1) (not e) false t (either_child t _ _ _ (λ z. z) (λ z. z) c) (flip e true same))))
     (λ same c. inl (inr (below_at f (i + 1) (not e) true t (either_child t _ _ _ (λ z. z) (λ z. z) c) (flip e false same)))) child
 below_moves g k bs (Not f) i e n t s pos (inr h) child =
     from_operand (Not f) f bs i (i + 1) e (not e) t (λ b. inr b) (λ x c free. free) (below_moves g k bs f (i + 1) (not e) n t s.2 pos h child)
 below_moves g k bs (Binary operator.And f c) i e n t s pos (inl h) child =
     own_child g e i n t (Goes (Binary operator.And f c) bs i e) h _ _ s.0.0.0 s.0.1.0
-    (λ same d. inl (either_child t _ _ _ (λ z. inr (inl (below_at f (i + 1) e true t z (sym same)))) (λ z. inr (inr (below_at c (i + 1 + occurrences f) e true t z (sym same)))) d))
-    (λ same d. inl (either_child t _ _ _ (λ z. inr (inl (below_at f (i + 1) e false t z (sym same)))) (λ z. inr (inr (below_at c (i + 1 + occurrences f) e false t z (sym same)))) d)) child
+    (λ same d. inl
+    (either_child t _ _ _ (λ z. inr (inl (below_at f (i + 1) e true t z (sym same))))
+    (λ z. inr (inr (below_at c (i + 1 + occurrences f) e true t z (sym same)))) d))
+    (λ same d. inl
+    (either_child t _ _ _ (λ z. inr (inl (below_at f (i + 1) e false t z (sym same))))
+    (λ z. inr (inr (below_at c (i + 1 + occurrences f) e false t z (sym same)))) d))
+    child
 below_moves g k bs (Binary operator.And f c) i e n t s pos (inr (inl h)) child =
     from_operand (Binary operator.And f c) f bs i (i + 1) e e t (λ b. inr (inl b)) (λ x d free. inl free)
     (below_moves g k bs f (i + 1) e n t s.1 (and_parts (is_positive f) (is_positive c) pos).0 h child)
@@ -257,8 +297,13 @@ below_moves g k bs (Binary operator.And f c) i e n t s pos (inr (inr h)) child =
     (below_moves g k bs c (i + 1 + occurrences f) e n t s.2 (and_parts (is_positive f) (is_positive c) pos).1 h child)
 below_moves g k bs (Binary operator.Or f c) i e n t s pos (inl h) child =
     own_child g e i n t (Goes (Binary operator.Or f c) bs i e) h _ _ s.0.0.0 s.0.1.0
-    (λ same d. inl (either_child t _ _ _ (λ z. inr (inl (below_at f (i + 1) e true t z (sym same)))) (λ z. inr (inr (below_at c (i + 1 + occurrences f) e true t z (sym same)))) d))
-    (λ same d. inl (either_child t _ _ _ (λ z. inr (inl (below_at f (i + 1) e false t z (sym same)))) (λ z. inr (inr (below_at c (i + 1 + occurrences f) e false t z (sym same)))) d)) child
+    (λ same d. inl
+    (either_child t _ _ _ (λ z. inr (inl (below_at f (i + 1) e true t z (sym same))))
+    (λ z. inr (inr (below_at c (i + 1 + occurrences f) e true t z (sym same)))) d))
+    (λ same d. inl
+    (either_child t _ _ _ (λ z. inr (inl (below_at f (i + 1) e false t z (sym same))))
+    (λ z. inr (inr (below_at c (i + 1 + occurrences f) e false t z (sym same)))) d))
+    child
 below_moves g k bs (Binary operator.Or f c) i e n t s pos (inr (inl h)) child =
     from_operand (Binary operator.Or f c) f bs i (i + 1) e e t (λ b. inr (inl b)) (λ x d free. inl free)
     (below_moves g k bs f (i + 1) e n t s.1 (and_parts (is_positive f) (is_positive c) pos).0 h child)
@@ -267,8 +312,13 @@ below_moves g k bs (Binary operator.Or f c) i e n t s pos (inr (inr h)) child =
     (below_moves g k bs c (i + 1 + occurrences f) e n t s.2 (and_parts (is_positive f) (is_positive c) pos).1 h child)
 below_moves g k bs (Binary operator.Implies f c) i e n t s pos (inl h) child =
     own_child g e i n t (Goes (Binary operator.Implies f c) bs i e) h _ _ s.0.0.0 s.0.1.0
-    (λ same d. inl (either_child t _ _ _ (λ z. inr (inl (below_at f (i + 1) (not e) false t z (flip e true same)))) (λ z. inr (inr (below_at c (i + 1 + occurrences f) e true t z (sym same)))) d))
-    (λ same d. inl (either_child t _ _ _ (λ z. inr (inl (below_at f (i + 1) (not e) true t z (flip e false same)))) (λ z. inr (inr (below_at c (i + 1 + occurrences f) e false t z (sym same)))) d)) child
+    (λ same d. inl
+    (either_child t _ _ _ (λ z. inr (inl (below_at f (i + 1) (not e) false t z (flip e true same))))
+    (λ z. inr (inr (below_at c (i + 1 + occurrences f) e true t z (sym same)))) d))
+    (λ same d. inl
+    (either_child t _ _ _ (λ z. inr (inl (below_at f (i + 1) (not e) true t z (flip e false same))))
+    (λ z. inr (inr (below_at c (i + 1 + occurrences f) e false t z (sym same)))) d))
+    child
 below_moves g k bs (Binary operator.Implies f c) i e n t s pos (inr (inl h)) child =
     from_operand (Binary operator.Implies f c) f bs i (i + 1) e (not e) t (λ b. inr (inl b)) (λ x d free. inl free)
     (below_moves g k bs f (i + 1) (not e) n t s.1 (and_parts (is_positive f) (is_positive c) pos).0 h child)
@@ -277,16 +327,31 @@ below_moves g k bs (Binary operator.Implies f c) i e n t s pos (inr (inr h)) chi
     (below_moves g k bs c (i + 1 + occurrences f) e n t s.2 (and_parts (is_positive f) (is_positive c) pos).1 h child)
 below_moves g k bs (Binary operator.Iff f c) i e n t s pos (inl h) child =
     own_child g e i n t (Goes (Binary operator.Iff f c) bs i e) h _ _ s.0.0.0 s.0.1.0
-    (λ same d. inl (either_child t _ _ _ (λ z. inr (inl (z ∙ ap (λ b. node_of b (i + 1)) (sym same)))) (λ z. inr (inr (inl (z ∙ ap (λ b. node_of b (i + 2)) (sym same))))) d))
-    (λ same d. inl (either_child t _ _ _ (λ z. inr (inl (z ∙ ap (λ b. node_of b (i + 1)) (sym same)))) (λ z. inr (inr (inl (z ∙ ap (λ b. node_of b (i + 2)) (sym same))))) d)) child
+    (λ same d. inl
+    (either_child t _ _ _ (λ z. inr (inl (z ∙ ap (λ b. node_of b (i + 1)) (sym same))))
+    (λ z. inr (inr (inl (z ∙ ap (λ b. node_of b (i + 2)) (sym same))))) d))
+    (λ same d. inl
+    (either_child t _ _ _ (λ z. inr (inl (z ∙ ap (λ b. node_of b (i + 1)) (sym same))))
+    (λ z. inr (inr (inl (z ∙ ap (λ b. node_of b (i + 2)) (sym same))))) d))
+    child
 below_moves g k bs (Binary operator.Iff f c) i e n t s pos (inr (inl h)) child =
     own_child g e (i + 1) n t (Goes (Binary operator.Iff f c) bs i e) h _ _ s.0.2.0 s.0.3.0
-    (λ same d. inl (either_child t _ _ _ (λ z. inr (inr (inr (inl (inl (below_at f (i + 3) true true t z refl)))))) (λ z. inr (inr (inr (inr (inl (below_at c (i + 3 + occurrences f) true true t z refl)))))) d))
-    (λ same d. inl (either_child t _ _ _ (λ z. inr (inr (inr (inl (inl (below_at f (i + 3) true true t z refl)))))) (λ z. inr (inr (inr (inr (inr (below_at c (i + 3 + occurrences f) false false t z refl)))))) d)) child
+    (λ same d. inl
+    (either_child t _ _ _ (λ z. inr (inr (inr (inl (inl (below_at f (i + 3) true true t z refl))))))
+    (λ z. inr (inr (inr (inr (inl (below_at c (i + 3 + occurrences f) true true t z refl)))))) d))
+    (λ same d. inl
+    (either_child t _ _ _ (λ z. inr (inr (inr (inl (inl (below_at f (i + 3) true true t z refl))))))
+    (λ z. inr (inr (inr (inr (inr (below_at c (i + 3 + occurrences f) false false t z refl)))))) d))
+    child
 below_moves g k bs (Binary operator.Iff f c) i e n t s pos (inr (inr (inl h))) child =
     own_child g e (i + 2) n t (Goes (Binary operator.Iff f c) bs i e) h _ _ s.0.4.0 s.0.5.0
-    (λ same d. inl (either_child t _ _ _ (λ z. inr (inr (inr (inl (inr (below_at f (i + 3) false false t z refl)))))) (λ z. inr (inr (inr (inr (inr (below_at c (i + 3 + occurrences f) false false t z refl)))))) d))
-    (λ same d. inl (either_child t _ _ _ (λ z. inr (inr (inr (inl (inr (below_at f (i + 3) false false t z refl)))))) (λ z. inr (inr (inr (inr (inl (below_at c (i + 3 + occurrences f) true true t z refl)))))) d)) child
+    (λ same d. inl
+    (either_child t _ _ _ (λ z. inr (inr (inr (inl (inr (below_at f (i + 3) false false t z refl))))))
+    (λ z. inr (inr (inr (inr (inr (below_at c (i + 3 + occurrences f) false false t z refl)))))) d))
+    (λ same d. inl
+    (either_child t _ _ _ (λ z. inr (inr (inr (inl (inr (below_at f (i + 3) false false t z refl))))))
+    (λ z. inr (inr (inr (inr (inl (below_at c (i + 3 + occurrences f) true true t z refl)))))) d))
+    child
 below_moves g k bs (Binary operator.Iff f c) i e n t s pos (inr (inr (inr (inl (inl h))))) child =
     from_operand (Binary operator.Iff f c) f bs i (i + 3) e true t (λ b. inr (inr (inr (inl (inl b))))) (λ x d free. inl (inl free))
     (below_moves g k bs f (i + 3) true n t s.1 (and_parts (is_positive f) (is_positive c) pos).0 h child)
@@ -300,7 +365,8 @@ below_moves g k bs (Binary operator.Iff f c) i e n t s pos (inr (inr (inr (inr (
     from_operand (Binary operator.Iff f c) c bs i (i + 3 + occurrences f) e false t (λ b. inr (inr (inr (inr (inr b))))) (λ x d free. inr (inr free))
     (below_moves g k bs c (i + 3 + occurrences f) false n t s.2 (and_parts (is_positive f) (is_positive c) pos).1 h child)
 below_moves g k bs (Modal m a f) i e n t s pos (inl h) child =
-    own_child g e i n t (Goes (Modal m a f) bs i e) h (modality m s.0.0 (positive (i + 1))) (modality (dual m) s.1.0 (negative (i + 1))) s.0.1.0 s.1.1.0
+    own_child g e i n t (Goes (Modal m a f) bs i e) h (modality m s.0.0 (positive (i + 1)))
+    (modality (dual m) s.1.0 (negative (i + 1))) s.0.1.0 s.1.1.0
     (λ same c. inl (inr (below_at f (i + 1) e true t (modal_child m s.0.0 (positive (i + 1)) t c) (sym same))))
     (λ same c. inl (inr (below_at f (i + 1) e false t (modal_child (dual m) s.1.0 (negative (i + 1)) t c) (sym same)))) child
 below_moves g k bs (Modal m a f) i e n t s pos (inr h) child =
@@ -312,11 +378,18 @@ below_moves g k bs (Binder q x f) i e n t s pos (inl h) child =
 below_moves g k bs (Binder q x f) i e n t s pos (inr h) child =
     leave (below_moves g k ((x, i) ∷ bs) f (i + 1) e n t s.2 (and_parts (occurs_only true x f) (is_positive f) pos).1 h child)
   where
-    by_name : (y : List ℕ) (c : Bool) → FreeAt f e y c → t ≡ node_of c (if bytes_eq x y then i else binder_of bs y) → (b : Bool) → bytes_eq x y ≡ b
+    by_name : (y : List ℕ) (c : Bool)
+        → FreeAt f e y c
+        → t ≡ node_of c (if bytes_eq x y then i else binder_of bs y)
+        → (b : Bool)
+        → bytes_eq x y ≡ b
         → Goes (Binder q x f) bs i e t
     by_name y c free is true same =
         let names = (bytes_eq-Decides x y).0 same in
-        let sign : c ≡ e = free_sign f true e x c (and_parts (occurs_only true x f) (is_positive f) pos).0 (subst (λ z. FreeAt f e z c) (sym names) free) in
+        let sign : c ≡ e =
+        free_sign f true e x c (and_parts (occurs_only true x f) (is_positive f) pos).0
+        (subst (λ z. FreeAt f e z c) (sym names) free)
+        in
         inl (inl (is ∙ ap (λ b. node_of c (if b then i else binder_of bs y)) same ∙ ap (λ d. node_of d i) sign))
     by_name y c free is false same = inr (y, (c, ((same, free), is ∙ ap (λ b. node_of c (if b then i else binder_of bs y)) same)))
 

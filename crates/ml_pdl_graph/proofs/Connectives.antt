@@ -15,7 +15,8 @@ use Rattle.ml_pdl.specs.Formula.{Formula, Const, Prop, Not, Binary, Modal, Repea
 use Rattle.ml_pdl.specs.Meaning.{some_run, every_run, meaning, relation}
 use Rattle.ml_nodes.specs.Nodes.{positive, negative}
 use Rattle.ml_pdl_graph.specs.PdlGraph.{StandsAt}
-use Rattle.ml_pdl_graph.proofs.Players.{player_of, node_of, own_by, other_by, node_range, Tells, tells_turned, tells_own, tells_other_by, tells_leads, tells_constant, tells_negated_constant, tells_literal, tells_negated_literal}
+use Rattle.ml_pdl_graph.proofs.Players.{player_of, node_of, own_by, other_by, node_range, Tells, tells_turned, tells_own, tells_other_by}
+use Rattle.ml_pdl_graph.proofs.Players.{tells_leads, tells_constant, tells_negated_constant, tells_literal, tells_negated_literal}
 use Rattle.ml_pdl_graph.proofs.ProgramNodes.{NodesAt, Shown, Tests, nodes_of, turn, some_occurrence}
 use Rattle.ml_pdl_graph.proofs.Programs.{program_told, repeat_told}
 use Rattle.ml_pdl.proofs.MeaningFlags.{meaning_flags}

@@ -25,7 +25,8 @@ use Rattle.ml_graph.proofs.OneStep.{vertex_low}
 use Rattle.ml_pdl.specs.Formula.{Formula, Program, Act, Seq, Alt, Star, Test, occurrences, program_occurrences}
 use Rattle.ml_pdl.specs.Meaning.{Relation, identity, either, followed_by, has_edge, meaning, relation}
 use Rattle.ml_pdl.proofs.RunsInto.{same_number, run_of}
-use Rattle.ml_pdl_graph.proofs.Players.{player_of, node_of, own_by, other_by, go_by, own_mover, other_mover, go_mover, own_children, other_children, node_range, at, WinsAt, move_to, move_from, never_both}
+use Rattle.ml_pdl_graph.proofs.Players.{player_of, node_of, own_by, other_by, go_by, own_mover, other_mover, go_mover, own_children}
+use Rattle.ml_pdl_graph.proofs.Players.{other_children, node_range, at, WinsAt, move_to, move_from, never_both}
 use Rattle.ml_pdl_graph.proofs.ProgramNodes.{star_priority, NodesAt, Tests, some_occurrence}
 
 -- to all targets of an edge
