@@ -34,6 +34,17 @@ fn means(
     Ok(set.as_slice() == states.as_slice())
 }
 
+// The place of the first text that doesn't hold at its states and at no others.
+fn first_wrong(alloc: Global, rows: &[(&'static [u8], [bool; 4])]) -> Result<Option<usize>, Fail> {
+    let structure = structure(alloc)?;
+    for (place, (text, states)) in rows.iter().enumerate() {
+        if !means(alloc, &structure, text, *states)? {
+            return Ok(Some(place));
+        }
+    }
+    Ok(None)
+}
+
 // Does the program of this diamond relate these pairs and no others?
 fn relates_pairs(
     alloc: Global,
@@ -55,119 +66,109 @@ fn relates_pairs(
     Ok(true)
 }
 
+const MODALITIES: [(&'static [u8], [bool; 4]); 12] = [
+    (b"tt", [true, true, true, true]),
+    (b"p -> q", [true, true, false, true]),
+    (b"p <-> q", [true, false, false, false]),
+    (b"!(p | q)", [true, false, false, false]),
+    (b"<a>p", [false, true, false, false]),
+    (b"[a]p", [false, true, false, true]),
+    (b"<>tt", [false, false, false, false]),
+    (b"[]ff", [true, true, true, true]),
+    (b"<a;a>p", [true, false, true, false]),
+    (b"[a;a]p", [true, false, true, true]),
+    (b"<a+b>q", [true, false, true, true]),
+    (b"[a+b]p", [false, true, false, false]),
+];
+
 #[test]
 fn modalities(rt: HostRuntime) -> Result<(), Fail> {
-    let structure = structure(rt.alloc())?;
-    let rows: [(&[u8], [bool; 4]); 12] = [
-        (b"tt", [true, true, true, true]),
-        (b"p -> q", [true, true, false, true]),
-        (b"p <-> q", [true, false, false, false]),
-        (b"!(p | q)", [true, false, false, false]),
-        (b"<a>p", [false, true, false, false]),
-        (b"[a]p", [false, true, false, true]),
-        (b"<>tt", [false, false, false, false]),
-        (b"[]ff", [true, true, true, true]),
-        (b"<a;a>p", [true, false, true, false]),
-        (b"[a;a]p", [true, false, true, true]),
-        (b"<a+b>q", [true, false, true, true]),
-        (b"[a+b]p", [false, true, false, false]),
-    ];
-    for (text, states) in rows {
-        assert!(rt; means(rt.alloc(), &structure, text, states)?, "{text:?}");
-    }
+    assert_eq!(rt; first_wrong(rt.alloc(), &MODALITIES)?, None);
     Ok(())
 }
+
+const STARS: [(&'static [u8], [bool; 4]); 9] = [
+    (b"<a*>p", [true, true, true, false]),
+    (b"[a*]q", [false, false, false, true]),
+    (b"<(a;a)*>p", [true, false, true, false]),
+    (b"<(a;a)*;a>p", [false, true, false, false]),
+    (b"<a**>p", [true, true, true, false]),
+    // no round at all, or one that ends at 3
+    (b"<(a*;b)*>p", [false, false, true, false]),
+    (b"[(a*;b)*]q", [false, true, false, true]),
+    (b"<(a*;b*)*>p", [true, true, true, false]),
+    (b"[(a + b)*](p -> <b>q)", [true, true, true, true]),
+];
 
 #[test]
 fn stars(rt: HostRuntime) -> Result<(), Fail> {
-    let structure = structure(rt.alloc())?;
-    let rows: [(&[u8], [bool; 4]); 9] = [
-        (b"<a*>p", [true, true, true, false]),
-        (b"[a*]q", [false, false, false, true]),
-        (b"<(a;a)*>p", [true, false, true, false]),
-        (b"<(a;a)*;a>p", [false, true, false, false]),
-        (b"<a**>p", [true, true, true, false]),
-        // no round at all, or one that ends at 3
-        (b"<(a*;b)*>p", [false, false, true, false]),
-        (b"[(a*;b)*]q", [false, true, false, true]),
-        (b"<(a*;b*)*>p", [true, true, true, false]),
-        (b"[(a + b)*](p -> <b>q)", [true, true, true, true]),
-    ];
-    for (text, states) in rows {
-        assert!(rt; means(rt.alloc(), &structure, text, states)?, "{text:?}");
-    }
+    assert_eq!(rt; first_wrong(rt.alloc(), &STARS)?, None);
     Ok(())
 }
+
+const TESTS: [(&'static [u8], [bool; 4]); 12] = [
+    (b"<p?>tt", [false, false, true, false]),
+    (b"[p?]q", [true, true, false, true]),
+    (b"<ff?>tt", [false, false, false, false]),
+    (b"<p?*>q", [false, true, false, true]),
+    (b"<p?;b>q", [false, false, true, false]),
+    (b"<!p?;a>q", [true, false, false, false]),
+    // if p then a, else b
+    (b"<p?;a + !p?;b>q", [false, false, true, true]),
+    // while not p, by a
+    (b"<(!p?;a)*;p?>tt", [true, true, true, false]),
+    (b"[(!p?;a)*;p?]q", [false, false, false, true]),
+    // what is tested has modalities
+    (b"<(<b>tt)?;a>q", [false, false, true, false]),
+    (b"<((<b>tt)?;a)*>q", [false, true, true, true]),
+    (b"<(!<b>tt)?;a>p", [false, true, false, false]),
+];
 
 #[test]
 fn tests_of_formulas(rt: HostRuntime) -> Result<(), Fail> {
-    let structure = structure(rt.alloc())?;
-    let rows: [(&[u8], [bool; 4]); 12] = [
-        (b"<p?>tt", [false, false, true, false]),
-        (b"[p?]q", [true, true, false, true]),
-        (b"<ff?>tt", [false, false, false, false]),
-        (b"<p?*>q", [false, true, false, true]),
-        (b"<p?;b>q", [false, false, true, false]),
-        (b"<!p?;a>q", [true, false, false, false]),
-        // if p then a, else b
-        (b"<p?;a + !p?;b>q", [false, false, true, true]),
-        // while not p, by a
-        (b"<(!p?;a)*;p?>tt", [true, true, true, false]),
-        (b"[(!p?;a)*;p?]q", [false, false, false, true]),
-        // what is tested has modalities
-        (b"<(<b>tt)?;a>q", [false, false, true, false]),
-        (b"<((<b>tt)?;a)*>q", [false, true, true, true]),
-        (b"<(!<b>tt)?;a>p", [false, true, false, false]),
-    ];
-    for (text, states) in rows {
-        assert!(rt; means(rt.alloc(), &structure, text, states)?, "{text:?}");
-    }
+    assert_eq!(rt; first_wrong(rt.alloc(), &TESTS)?, None);
     Ok(())
 }
+
+const REPETITIONS: [(&'static [u8], [bool; 4]); 10] = [
+    (b"repeat(a)", [true, true, true, false]),
+    (b"repeat(b)", [false, false, true, true]),
+    (b"repeat(a;b)", [false, false, false, false]),
+    (b"repeat(a + b)", [true, true, true, true]),
+    // no round at all, for ever
+    (b"repeat(a*)", [true, true, true, true]),
+    (b"repeat(p?)", [false, false, true, false]),
+    (b"repeat(a*;b)", [true, true, true, true]),
+    (b"repeat((a;a)*;a)", [true, true, true, false]),
+    (b"repeat(q?;b)", [false, false, false, true]),
+    (b"repeat(p?;b)", [false, false, false, false]),
+];
 
 #[test]
 fn repetitions(rt: HostRuntime) -> Result<(), Fail> {
-    let structure = structure(rt.alloc())?;
-    let rows: [(&[u8], [bool; 4]); 10] = [
-        (b"repeat(a)", [true, true, true, false]),
-        (b"repeat(b)", [false, false, true, true]),
-        (b"repeat(a;b)", [false, false, false, false]),
-        (b"repeat(a + b)", [true, true, true, true]),
-        // no round at all, for ever
-        (b"repeat(a*)", [true, true, true, true]),
-        (b"repeat(p?)", [false, false, true, false]),
-        (b"repeat(a*;b)", [true, true, true, true]),
-        (b"repeat((a;a)*;a)", [true, true, true, false]),
-        (b"repeat(q?;b)", [false, false, false, true]),
-        (b"repeat(p?;b)", [false, false, false, false]),
-    ];
-    for (text, states) in rows {
-        assert!(rt; means(rt.alloc(), &structure, text, states)?, "{text:?}");
-    }
+    assert_eq!(rt; first_wrong(rt.alloc(), &REPETITIONS)?, None);
     Ok(())
 }
 
+const REPETITIONS_INSIDE: [(&'static [u8], [bool; 4]); 9] = [
+    (b"!repeat(a)", [false, false, false, true]),
+    (b"<a>repeat(b)", [false, true, false, false]),
+    (b"[a]repeat(b)", [false, true, false, true]),
+    (b"[a*]repeat(a)", [true, true, true, false]),
+    (b"[b*]repeat(a)", [true, true, false, false]),
+    (b"<b*>!repeat(a)", [false, false, true, true]),
+    (b"<(repeat(a))?;b>tt", [false, false, true, false]),
+    (b"<(!repeat(a))?;b>tt", [false, false, false, true]),
+    // one repetition in the test of another, plain and negated
+    (
+        b"repeat((repeat(a))?;a + (!repeat(a))?;b)",
+        [true, true, true, true],
+    ),
+];
+
 #[test]
 fn repetitions_inside(rt: HostRuntime) -> Result<(), Fail> {
-    let structure = structure(rt.alloc())?;
-    let rows: [(&[u8], [bool; 4]); 9] = [
-        (b"!repeat(a)", [false, false, false, true]),
-        (b"<a>repeat(b)", [false, true, false, false]),
-        (b"[a]repeat(b)", [false, true, false, true]),
-        (b"[a*]repeat(a)", [true, true, true, false]),
-        (b"[b*]repeat(a)", [true, true, false, false]),
-        (b"<b*>!repeat(a)", [false, false, true, true]),
-        (b"<(repeat(a))?;b>tt", [false, false, true, false]),
-        (b"<(!repeat(a))?;b>tt", [false, false, false, true]),
-        // one repetition in the test of another, plain and negated
-        (
-            b"repeat((repeat(a))?;a + (!repeat(a))?;b)",
-            [true, true, true, true],
-        ),
-    ];
-    for (text, states) in rows {
-        assert!(rt; means(rt.alloc(), &structure, text, states)?, "{text:?}");
-    }
+    assert_eq!(rt; first_wrong(rt.alloc(), &REPETITIONS_INSIDE)?, None);
     Ok(())
 }
 

@@ -404,9 +404,9 @@ module _ (g : Graph) (c : List (ℕ × Side)) (d : ℕ) (N : List ℕ) where
                 let few : k - length x.waiting < length (high_children g c d m) = omega (arith, length-append x.waiting (high_children g c d m)) in
                 let kid =
                 member-filter_from (λ i. nat_le d (priority_at g i))
-                (get_or (high_children g c d m) (k - length x.waiting) 0)
+                (get_or (high_children g c d m) (k - length x.waiting) 0) (children g c m)
+                (place-member (high_children g c d m) (k - length x.waiting) 0 few)
                 in
-                (place-member (high_children g c d m) (k - length x.waiting) 0 few) in
                 let at_least : d ≤ priority_at g (get_or (high_children g c d m) (k - length x.waiting) 0) = grind (arith, nat_tests, kid.1) in
                 subst (λ n. IsChild g c d n (get_or (x.waiting ++ high_children g c d m) k 0)) (sym node)
                 (subst (λ i. IsChild g c d m i) (sym at) (kid.0, at_least))
