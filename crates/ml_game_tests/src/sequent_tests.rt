@@ -22,19 +22,6 @@ const NOT_P: Node = Node::Lit {
     positive: false,
 };
 
-// A graph of eight nodes, a sequent of one node, and what is asked of its spread: the clash, the open or-node, and how
-// many diamonds there are.
-#[derive(Clone, Copy, Debug)]
-struct Row {
-    nodes: [Node; 8],
-    priorities: [u32; 8],
-    from: u32,
-    chosen: Option<(u32, Side)>,
-    clash: Option<ClashCause>,
-    open: Option<u32>,
-    diamonds: usize,
-}
-
 // A node that is another one.
 fn to(node: u32) -> Node {
     Node::And {
@@ -43,21 +30,25 @@ fn to(node: u32) -> Node {
     }
 }
 
-// What is answered of the row's spread; `None` if the row is no graph or the node none of it.
+// What is answered of the spread of a node, where this side is chosen: the clash, the open or-node, and how many diamonds
+// there are; `None` if that is no graph, or the node none of it.
 fn answers(
     alloc: Global,
-    row: &Row,
+    nodes: &[Node; 8],
+    priorities: &[u32; 8],
+    from: u32,
+    chosen: Option<(u32, Side)>,
 ) -> Result<Option<(Option<ClashCause>, Option<u32>, usize)>, Fail> {
-    let Ok(graph) = graph_of(alloc, &row.nodes, &row.priorities, 0)? else {
+    let Ok(graph) = graph_of(alloc, nodes, priorities, 0)? else {
         return Ok(None);
     };
-    let sequent = Sequent::of(alloc, &[row.from])?;
+    let sequent = Sequent::of(alloc, &[from])?;
     let size = graph.size();
     if !sequent.values().iter().all(|n| *n < size) {
         return Ok(None);
     }
     let mut choice = Choice::empty(alloc);
-    if let Some((node, side)) = row.chosen {
+    if let Some((node, side)) = chosen {
         choice = choice.with(node, side)?;
     }
     let spread = spread(alloc, &graph, &sequent, &choice)?;
@@ -66,84 +57,76 @@ fn answers(
     Ok(Some((cause, open_or(&graph, &spread), diamonds.len())))
 }
 
+// p | !p, with one bar: both signs of each occurrence
+const EXCLUDED: [Node; 8] = [
+    Node::Or { left: 2, right: 4 },
+    Node::And { left: 3, right: 5 },
+    P,
+    NOT_P,
+    Node::And { left: 7, right: 7 },
+    Node::And { left: 6, right: 6 },
+    P,
+    NOT_P,
+];
+
+// A fixpoint at 0 and its dual at 1, and a node with a diamond and False.
+const FIXPOINTS: [Node; 8] = [
+    Node::And { left: 2, right: 2 },
+    Node::And { left: 3, right: 3 },
+    Node::And { left: 0, right: 0 },
+    Node::And { left: 1, right: 1 },
+    Node::And { left: 5, right: 6 },
+    Node::Diamond { action: 0, to: 0 },
+    Node::Or { left: 7, right: 5 },
+    Node::False,
+];
+
+const EVEN: [u32; 8] = [2; 8];
+
+const BINDERS: [u32; 8] = [1, 0, 2, 2, 2, 2, 2, 2];
+
+// Is this answered of the spread of a node, where this side is chosen: the clash, the open or-node, and how many diamonds
+// there are?
+fn is_answered(
+    alloc: Global,
+    nodes: &[Node; 8],
+    priorities: &[u32; 8],
+    from: u32,
+    chosen: Option<(u32, Side)>,
+    wanted: (Option<ClashCause>, Option<u32>, usize),
+) -> Result<bool, Fail> {
+    Ok(answers(alloc, nodes, priorities, from, chosen)? == Some(wanted))
+}
+
 #[test]
-fn spreads_by_hand(rt: HostRuntime) -> Result<(), Fail> {
-    // p | !p, with one bar: both signs of each occurrence
-    let excluded = [
-        Node::Or { left: 2, right: 4 },
-        Node::And { left: 3, right: 5 },
-        P,
-        NOT_P,
-        to(7),
-        to(6),
-        P,
-        NOT_P,
-    ];
-    // a fixpoint at 0 and its dual at 1, and a node with a diamond and False
-    let fixpoints = [
-        to(2),
-        to(3),
-        to(0),
-        to(1),
-        Node::And { left: 5, right: 6 },
-        Node::Diamond { action: 0, to: 0 },
-        Node::Or { left: 7, right: 5 },
-        Node::False,
-    ];
-    let even = [2; 8];
-    let binders = [1, 0, 2, 2, 2, 2, 2, 2];
-    let row = |nodes: [Node; 8], priorities: [u32; 8], from: u32, chosen: Option<
-        (u32, Side),
-    >, clash: Option<ClashCause>, open: Option<u32>, diamonds: usize| Row {
-        nodes,
-        priorities,
-        from,
-        chosen,
-        clash,
-        open,
-        diamonds,
-    };
-    let rows = [
-        row(
-            excluded,
-            even,
-            1,
-            None,
-            Some(ClashCause::Pair(6, 3)),
-            None,
-            0,
-        ),
-        row(excluded, even, 0, None, None, Some(0), 0),
-        row(excluded, even, 0, Some((0, Side::Left)), None, None, 0),
-        row(
-            fixpoints,
-            binders,
-            0,
-            None,
-            Some(ClashCause::Cycle(0)),
-            None,
-            0,
-        ),
-        row(fixpoints, binders, 1, None, None, None, 0),
-        row(fixpoints, binders, 4, None, None, Some(6), 1),
-        row(
-            fixpoints,
-            binders,
-            4,
-            Some((6, Side::Left)),
-            Some(ClashCause::False(7)),
-            None,
-            1,
-        ),
-        row(fixpoints, binders, 4, Some((6, Side::Right)), None, None, 1),
-    ];
-    for row in rows {
-        assert_eq!(rt;
-            answers(rt.alloc(), &row)?,
-            Some((row.clash, row.open, row.diamonds)),
-            "{row:?}"
-        );
-    }
+fn spreads_of_an_excluded_middle(rt: HostRuntime) -> Result<(), Fail> {
+    let alloc = rt.alloc();
+    let pair = Some(ClashCause::Pair(6, 3));
+    let left = Some((0, Side::Left));
+    assert!(rt; is_answered(alloc, &EXCLUDED, &EVEN, 1, None, (pair, None, 0))?);
+    assert!(rt; is_answered(alloc, &EXCLUDED, &EVEN, 0, None, (None, Some(0), 0))?);
+    assert!(rt; is_answered(alloc, &EXCLUDED, &EVEN, 0, left, (None, None, 0))?);
+    Ok(())
+}
+
+#[test]
+fn spreads_of_fixpoints(rt: HostRuntime) -> Result<(), Fail> {
+    let alloc = rt.alloc();
+    let cycle = Some(ClashCause::Cycle(0));
+    assert!(rt; is_answered(alloc, &FIXPOINTS, &BINDERS, 0, None, (cycle, None, 0))?);
+    assert!(rt; is_answered(alloc, &FIXPOINTS, &BINDERS, 1, None, (None, None, 0))?);
+    Ok(())
+}
+
+#[test]
+fn spreads_with_a_diamond(rt: HostRuntime) -> Result<(), Fail> {
+    let alloc = rt.alloc();
+    let falsity = Some(ClashCause::False(7));
+    let left = Some((6, Side::Left));
+    let right = Some((6, Side::Right));
+    assert!(rt; is_answered(alloc, &FIXPOINTS, &BINDERS, 4, None, (None, Some(6), 1))?);
+    assert!(rt; is_answered(alloc, &FIXPOINTS, &BINDERS, 4, left, (falsity, None, 1))?);
+    assert!(rt; is_answered(alloc, &FIXPOINTS, &BINDERS, 4, right, (None, None, 1))?);
     Ok(())
 }
 
@@ -314,24 +297,39 @@ fn is_cause_at(alloc: Global, from: u32, cause: ClashCause) -> Result<Option<boo
 }
 
 #[test]
-fn causes_by_hand(rt: HostRuntime) -> Result<(), Fail> {
-    let rows = [
-        (6, ClashCause::False(6), true),
-        (2, ClashCause::False(6), false),
-        (2, ClashCause::Pair(3, 4), true),
-        (2, ClashCause::Pair(4, 3), false),
-        (3, ClashCause::Pair(3, 4), false),
-        (0, ClashCause::Cycle(0), true),
-        (0, ClashCause::Cycle(1), false),
-        (0, ClashCause::Cycle(99), false),
-    ];
-    for (from, cause, wanted) in rows {
-        assert_eq!(rt;
-            is_cause_at(rt.alloc(), from, cause)?,
-            Some(wanted),
-            "{cause:?} from {from}"
-        );
-    }
+fn false_as_a_cause(rt: HostRuntime) -> Result<(), Fail> {
+    let falsity = ClashCause::False(6);
+    assert_eq!(rt; is_cause_at(rt.alloc(), 6, falsity)?, Some(true));
+    assert_eq!(rt; is_cause_at(rt.alloc(), 2, falsity)?, Some(false));
+    Ok(())
+}
+
+#[test]
+fn pairs_as_causes(rt: HostRuntime) -> Result<(), Fail> {
+    let pair = ClashCause::Pair(3, 4);
+    assert_eq!(rt; is_cause_at(rt.alloc(), 2, pair)?, Some(true));
+    assert_eq!(rt;
+        is_cause_at(rt.alloc(), 2, ClashCause::Pair(4, 3))?,
+        Some(false)
+    );
+    assert_eq!(rt; is_cause_at(rt.alloc(), 3, pair)?, Some(false));
+    Ok(())
+}
+
+#[test]
+fn cycles_as_causes(rt: HostRuntime) -> Result<(), Fail> {
+    assert_eq!(rt;
+        is_cause_at(rt.alloc(), 0, ClashCause::Cycle(0))?,
+        Some(true)
+    );
+    assert_eq!(rt;
+        is_cause_at(rt.alloc(), 0, ClashCause::Cycle(1))?,
+        Some(false)
+    );
+    assert_eq!(rt;
+        is_cause_at(rt.alloc(), 0, ClashCause::Cycle(99))?,
+        Some(false)
+    );
     Ok(())
 }
 

@@ -3,6 +3,7 @@ use ml_base::{
     Action, Failed, IdSet, MemSink, MemSource, Name, NameRefusal, NoMemory, ReadRefusal, Sink,
     Source, StdSink, StdSource, read_all, write_all,
 };
+use std::alloc::Global;
 use std::cmp::Ordering;
 use std::hash::{DefaultHasher, Hash, Hasher};
 use std::io;
@@ -14,29 +15,51 @@ const LONG: &[u8] = b"aaaaaaaaaaaaaaaaaaaaaaaaaaaaaaaaaaaaaaaaaaaaaaaaaaaaaaaaaa
 
 const TOO_LONG: &[u8] = b"aaaaaaaaaaaaaaaaaaaaaaaaaaaaaaaaaaaaaaaaaaaaaaaaaaaaaaaaaaaaaaaaa";
 
-#[test]
-fn names(rt: HostRuntime) -> Result<(), Fail> {
-    let rows: [(&[u8], bool, bool); 9] = [
-        (b"p_1", true, true),
-        (b"_p", false, false),
-        (b"_", false, true),
-        (b"__", false, false),
-        (b"", false, false),
-        (b"1p", false, false),
-        (b"p-1", false, false),
-        (LONG, true, true),
-        (TOO_LONG, false, false),
-    ];
-    for (text, is_name, is_action) in rows {
-        match Name::new(rt.alloc(), text) {
-            Ok(name) => assert!(rt; is_name && name.copy()?.bytes() == text, "{text:?}"),
-            Err(refusal) => assert!(rt; !is_name && refusal == NameRefusal::NotAName, "{text:?}"),
-        }
-        match Action::new(rt.alloc(), text) {
-            Ok(action) => assert!(rt; is_action && action.copy()?.bytes() == text, "{text:?}"),
-            Err(refusal) => assert!(rt; !is_action && refusal == NameRefusal::NotAName, "{text:?}"),
+// Bytes; are they a name, and are they an action?
+const NAMES: [(&'static [u8], bool, bool); 9] = [
+    (b"p_1", true, true),
+    (b"_p", false, false),
+    (b"_", false, true),
+    (b"__", false, false),
+    (b"", false, false),
+    (b"1p", false, false),
+    (b"p-1", false, false),
+    (LONG, true, true),
+    (TOO_LONG, false, false),
+];
+
+// Is a name made of these bytes, with these bytes, or refused as it should be?
+fn is_made_name(alloc: Global, text: &[u8], is_name: bool) -> Result<bool, Fail> {
+    match Name::new(alloc, text) {
+        Ok(name) => Ok(is_name && name.copy()?.bytes() == text),
+        Err(refusal) => Ok(!is_name && refusal == NameRefusal::NotAName),
+    }
+}
+
+// The same of an action.
+fn is_made_action(alloc: Global, text: &[u8], is_action: bool) -> Result<bool, Fail> {
+    match Action::new(alloc, text) {
+        Ok(action) => Ok(is_action && action.copy()?.bytes() == text),
+        Err(refusal) => Ok(!is_action && refusal == NameRefusal::NotAName),
+    }
+}
+
+// The place of the first row that is answered otherwise.
+fn first_wrong_name(
+    alloc: Global,
+    rows: &[(&'static [u8], bool, bool)],
+) -> Result<Option<usize>, Fail> {
+    for (place, (text, is_name, is_action)) in rows.iter().enumerate() {
+        if !is_made_name(alloc, text, *is_name)? || !is_made_action(alloc, text, *is_action)? {
+            return Ok(Some(place));
         }
     }
+    Ok(None)
+}
+
+#[test]
+fn names(rt: HostRuntime) -> Result<(), Fail> {
+    assert_eq!(rt; first_wrong_name(rt.alloc(), &NAMES)?, None);
     Ok(())
 }
 
