@@ -413,21 +413,38 @@ impl Terms {
     }
 }
 
+// is the last term true on some path, by each state
+fn plain_answers(alloc: Global, world: &World, made: &Terms) -> Result<Vec<bool>, Fail> {
+    let tables = tables(alloc, world, &made.terms)?;
+    let mut found = Vec::new(alloc);
+    for state in 0..world.states {
+        found.push(is_on_some_path(alloc, world, state, &made.terms, &tables, true)?)?;
+    }
+    Ok(found)
+}
+
+// does the formula of a text hold, by each state
+fn answers(
+    alloc: Global,
+    logic: Logic,
+    text: &[u8],
+    structure: &Structure,
+) -> Result<Vec<bool>, Fail> {
+    let problem = read(alloc, logic, text)?;
+    let mut found = Vec::new(alloc);
+    for state in 0..structure.states() {
+        found.push(holds(alloc, &problem, structure, state)?)?;
+    }
+    Ok(found)
+}
+
 // do the two programs agree at each state? The last term is a formula of the logic
 fn agree(alloc: Global, logic: Logic, world: &World, made: &Terms) -> Result<bool, Fail> {
     let text = made.text(made.texts.len().saturating_sub(1));
-    let problem = read(alloc, logic, text)?;
+    let plain = plain_answers(alloc, world, made)?;
     let structure = world.structure(alloc)?;
-    let tables = tables(alloc, world, &made.terms)?;
-    for state in 0..world.states {
-        let plain = is_on_some_path(alloc, world, state, &made.terms, &tables, true)?;
-        if state < structure.states() {
-            if holds(alloc, &problem, &structure, state)? != plain {
-                return Ok(false);
-            }
-        }
-    }
-    Ok(true)
+    let found = answers(alloc, logic, text, &structure)?;
+    Ok(found.as_slice() == plain.as_slice())
 }
 
 #[test]
