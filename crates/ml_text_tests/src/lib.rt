@@ -1,8 +1,7 @@
-// Tests of texts and of what stands below them: names, streams, tokens, lines, structures, refutations and formulas, read
-// and written. They stand here, above the crates that they call, so that none of those is proved a second time for its
-// tests. Texts with what they stand for, or with their refusals, are rows of `ml_examples`.
+// Tests of texts: tokens, lines, structures, refutations and formulas, read and written. They stand here, above the crates
+// that they call, so that none of those is proved a second time for its tests. Texts with what they stand for, or with
+// their refusals, are rows of `ml_examples`.
 //
-//   base_tests      names, streams and sets of numbers
 //   formula_tests   formulas copied, and their occurrences counted
 //   kripke_tests    structures, and the texts of models
 //   line_tests      lines written and cut
@@ -10,8 +9,6 @@
 //   text_tests      the tokens of texts
 #![tactic(auto)]
 
-#[cfg(test)]
-mod base_tests;
 #[cfg(test)]
 mod formula_tests;
 #[cfg(test)]
