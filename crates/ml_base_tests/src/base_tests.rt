@@ -1,4 +1,6 @@
 // Names, streams and sets: worked rows, and each call once on its happy path.
+ghost use Rattle.std.specs.Prelude.{◌≤◌};
+
 use ml_base::{
     Action, Failed, IdSet, MemSink, MemSource, Name, NameRefusal, NoMemory, ReadRefusal, Sink,
     Source, StdSink, StdSource, read_all, write_all,
@@ -72,44 +74,81 @@ fn hash_of<T: Hash>(value: &T) -> u64 {
 #[test]
 fn names_compare_by_bytes(rt: HostRuntime) -> Result<(), Fail> {
     let (p, q) = (Name::new(rt.alloc(), b"p")?, Name::new(rt.alloc(), b"p_1")?);
-    assert!(rt; p == p.copy()? && p != q && p < q);
-    assert!(rt; hash_of(&p) == hash_of(&p.copy()?) && hash_of(&p) != hash_of(&q));
-    assert_eq!(rt; q.cmp(&p), Ordering::Greater);
-    let (any, a) = (
-        Action::new(rt.alloc(), b"_")?,
-        Action::new(rt.alloc(), b"a")?,
-    );
-    assert!(rt; any == any.copy()? && any != a && any < a);
-    assert_eq!(rt; hash_of(&any), hash_of(&any.copy()?));
+    assert!(rt; p != q && p < q && q.cmp(&p) == Ordering::Greater);
     Ok(())
 }
 
 #[test]
-fn whole_reads(rt: HostRuntime) -> Result<(), Fail> {
-    use ReadRefusal::{ReadFault, TooLong};
-    let rows: [(u32, &[u64], u64, Result<(), ReadRefusal>); 9] = [
-        (1, &[], 100, Ok(())),
-        (3, &[], 100, Ok(())),
-        (100, &[], 100, Ok(())),
-        (1, &[], 5, Ok(())),
-        (1, &[], 4, Err(TooLong)),
-        (100, &[], 0, Err(TooLong)),
-        (1, &[3], 100, Err(ReadFault)),
-        (100, &[2], 100, Err(ReadFault)),
-        (100, &[4], 100, Ok(())),
-    ];
-    for (piece, fails, max, want) in rows {
-        let fails = Vec::from_slice(rt.alloc(), fails)?;
-        let mut source = MemSource::new(Vec::from_slice(rt.alloc(), b"hello")?, piece, fails);
-        match (read_all(rt.alloc(), &mut source, max), want) {
-            (Ok(bytes), Ok(())) => assert!(rt;
-                bytes.as_slice() == b"hello".as_slice(),
-                "{piece} {max}"
-            ),
-            (Err(refusal), Err(wanted)) => assert_eq!(rt; refusal, wanted, "{piece} {max}"),
-            _ => panic!(rt; "another answer at {piece} {max}"),
+fn names_are_hashed_by_bytes(rt: HostRuntime) -> Result<(), Fail> {
+    let (p, q) = (Name::new(rt.alloc(), b"p")?, Name::new(rt.alloc(), b"p_1")?);
+    let copy = p.copy()?;
+    assert!(rt; p == copy && hash_of(&p) == hash_of(&copy) && hash_of(&p) != hash_of(&q));
+    Ok(())
+}
+
+#[test]
+fn actions_compare_by_bytes(rt: HostRuntime) -> Result<(), Fail> {
+    let (any, a) = (
+        Action::new(rt.alloc(), b"_")?,
+        Action::new(rt.alloc(), b"a")?,
+    );
+    let copy = any.copy()?;
+    assert!(rt; any == copy && hash_of(&any) == hash_of(&copy) && any != a && any < a);
+    Ok(())
+}
+
+// Pieces, calls that fail, the limit, and why a whole read of `hello` is refused.
+const READS: [(u32, &'static [u64], u32, Option<ReadRefusal>); 9] = [
+    (1, &[], 100, None),
+    (3, &[], 100, None),
+    (100, &[], 100, None),
+    (1, &[], 5, None),
+    (1, &[], 4, Some(ReadRefusal::TooLong)),
+    (100, &[], 0, Some(ReadRefusal::TooLong)),
+    (1, &[3], 100, Some(ReadRefusal::ReadFault)),
+    (100, &[2], 100, Some(ReadRefusal::ReadFault)),
+    (100, &[4], 100, None),
+];
+
+// Why a whole read of `hello` is refused.
+fn refusal_of_read(
+    alloc: Global,
+    piece: u32,
+    fails: &[u64],
+    max: u32,
+) -> Result<Option<ReadRefusal>, Fail>
+    requires { 1 ≤ piece }
+{
+    let fails = Vec::from_slice(alloc, fails)?;
+    let mut source = MemSource::new(Vec::from_slice(alloc, b"hello")?, piece, fails);
+    match read_all(alloc, &mut source, u64::from(max)) {
+        Ok(bytes) => {
+            if bytes.as_slice() == b"hello".as_slice() {
+                Ok(None)
+            } else {
+                Err(Fail::new("other bytes"))
+            }
+        }
+        Err(refusal) => Ok(Some(refusal)),
+    }
+}
+
+// The place of the first row that is answered otherwise.
+fn first_wrong_read(
+    alloc: Global,
+    rows: &[(u32, &'static [u64], u32, Option<ReadRefusal>)],
+) -> Result<Option<usize>, Fail> {
+    for (place, (piece, fails, max, wanted)) in rows.iter().enumerate() {
+        if refusal_of_read(alloc, (*piece).max(1), fails, *max)? != *wanted {
+            return Ok(Some(place));
         }
     }
+    Ok(None)
+}
+
+#[test]
+fn whole_reads(rt: HostRuntime) -> Result<(), Fail> {
+    assert_eq!(rt; first_wrong_read(rt.alloc(), &READS)?, None);
     Ok(())
 }
 
@@ -129,24 +168,50 @@ fn pieces_given(rt: HostRuntime) -> Result<(), Fail> {
     Ok(())
 }
 
+// Pieces, calls that fail, the room, whether a whole write of `mlsolver` succeeds, and what is taken.
+const WRITES: [(u32, &'static [u64], u64, bool, &'static [u8]); 7] = [
+    (1, &[], 100, true, b"mlsolver"),
+    (3, &[], 100, true, b"mlsolver"),
+    (100, &[], 8, true, b"mlsolver"),
+    (3, &[2], 100, false, b"mls"),
+    (100, &[1], 100, false, b""),
+    (100, &[], 7, false, b"mlsolve"),
+    (100, &[2], 100, true, b"mlsolver"),
+];
+
+// Is this taken of a whole write of `mlsolver`, which succeeds or not?
+fn is_taken(
+    alloc: Global,
+    piece: u32,
+    fails: &[u64],
+    room: u64,
+    succeeds: bool,
+    wanted: &[u8],
+) -> Result<bool, Fail>
+    requires { 1 ≤ piece }
+{
+    let fails = Vec::from_slice(alloc, fails)?;
+    let mut sink = MemSink::new(alloc, piece, fails, room)?;
+    let outcome = write_all(&mut sink, b"mlsolver");
+    Ok(outcome.is_ok() == succeeds && sink.taken() == wanted)
+}
+
+// The place of the first row that is answered otherwise.
+fn first_wrong_write(
+    alloc: Global,
+    rows: &[(u32, &'static [u64], u64, bool, &'static [u8])],
+) -> Result<Option<usize>, Fail> {
+    for (place, (piece, fails, room, succeeds, wanted)) in rows.iter().enumerate() {
+        if !is_taken(alloc, (*piece).max(1), fails, *room, *succeeds, wanted)? {
+            return Ok(Some(place));
+        }
+    }
+    Ok(None)
+}
+
 #[test]
 fn whole_writes(rt: HostRuntime) -> Result<(), Fail> {
-    let rows: [(u32, &[u64], u64, bool, &[u8]); 7] = [
-        (1, &[], 100, true, b"mlsolver"),
-        (3, &[], 100, true, b"mlsolver"),
-        (100, &[], 8, true, b"mlsolver"),
-        (3, &[2], 100, false, b"mls"),
-        (100, &[1], 100, false, b""),
-        (100, &[], 7, false, b"mlsolve"),
-        (100, &[2], 100, true, b"mlsolver"),
-    ];
-    for (piece, fails, room, is_written, want) in rows {
-        let fails = Vec::from_slice(rt.alloc(), fails)?;
-        let mut sink = MemSink::new(rt.alloc(), piece, fails, room)?;
-        let outcome = write_all(&mut sink, b"mlsolver");
-        assert_eq!(rt; outcome.is_ok(), is_written, "{piece} {room}");
-        assert!(rt; sink.taken() == want, "{piece} {room}");
-    }
+    assert_eq!(rt; first_wrong_write(rt.alloc(), &WRITES)?, None);
     Ok(())
 }
 

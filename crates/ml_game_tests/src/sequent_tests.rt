@@ -1,5 +1,5 @@
 // The local phase on graphs of small formulas, worked out by hand.
-ghost use Rattle.std.specs.Prelude.{◌<◌, All};
+ghost use Rattle.std.specs.Prelude.{◌<◌, All, IfOk, IfSome};
 ghost use Rattle.ml_graph.specs.Graph.{size};
 
 use crate::graph_tests::graph_of;
@@ -30,31 +30,59 @@ fn to(node: u32) -> Node {
     }
 }
 
-// What is answered of the spread of a node, where this side is chosen: the clash, the open or-node, and how many diamonds
-// there are; `None` if that is no graph, or the node none of it.
+// The sequent of these nodes, if they are nodes of the graph.
+fn sequent_of(alloc: Global, graph: &ModalGraph, nodes: &[u32]) -> Result<Option<Sequent>, Fail>
+    ensures { IfOk result (λ found. IfSome found (λ sequent. All (λ n. n < size graph.now) sequent)) }
+{
+    let sequent = Sequent::of(alloc, nodes)?;
+    let size = graph.size();
+    if sequent.values().iter().all(|n| *n < size) {
+        Ok(Some(sequent))
+    } else {
+        Ok(None)
+    }
+}
+
+// The choice of this side, or of none.
+fn choice_of(alloc: Global, chosen: Option<(u32, Side)>) -> Result<Choice, Fail> {
+    let choice = Choice::empty(alloc);
+    match chosen {
+        Some((node, side)) => Ok(choice.with(node, side)?),
+        None => Ok(choice),
+    }
+}
+
+// What is asked of a spread: the clash, the open or-node, and how many diamonds there are.
+type Answers = (Option<ClashCause>, Option<u32>, usize);
+
+// What is answered of the spread of a sequent.
+fn answers_in(
+    alloc: Global,
+    graph: &ModalGraph,
+    sequent: &Sequent,
+    choice: &Choice,
+) -> Result<Answers, Fail>
+    requires { All (λ n. n < size graph.now) sequent.now }
+{
+    let spread = spread(alloc, graph, sequent, choice)?;
+    let cause = clash(alloc, graph, &spread)?;
+    let diamonds = diamonds(alloc, graph, &spread)?;
+    Ok((cause, open_or(graph, &spread), diamonds.len()))
+}
+
+// What is answered of the spread of a node, where this side is chosen.
 fn answers(
     alloc: Global,
     nodes: &[Node; 8],
     priorities: &[u32; 8],
     from: u32,
     chosen: Option<(u32, Side)>,
-) -> Result<Option<(Option<ClashCause>, Option<u32>, usize)>, Fail> {
-    let Ok(graph) = graph_of(alloc, nodes, priorities, 0)? else {
-        return Ok(None);
-    };
-    let sequent = Sequent::of(alloc, &[from])?;
-    let size = graph.size();
-    if !sequent.values().iter().all(|n| *n < size) {
-        return Ok(None);
+) -> Result<Answers, Fail> {
+    let graph = graph_of(alloc, nodes, priorities, 0)??;
+    match sequent_of(alloc, &graph, &[from])? {
+        Some(sequent) => answers_in(alloc, &graph, &sequent, &choice_of(alloc, chosen)?),
+        None => Err(Fail::new("no such node")),
     }
-    let mut choice = Choice::empty(alloc);
-    if let Some((node, side)) = chosen {
-        choice = choice.with(node, side)?;
-    }
-    let spread = spread(alloc, &graph, &sequent, &choice)?;
-    let cause = clash(alloc, &graph, &spread)?;
-    let diamonds = diamonds(alloc, &graph, &spread)?;
-    Ok(Some((cause, open_or(&graph, &spread), diamonds.len())))
 }
 
 // p | !p, with one bar: both signs of each occurrence
@@ -93,9 +121,9 @@ fn is_answered(
     priorities: &[u32; 8],
     from: u32,
     chosen: Option<(u32, Side)>,
-    wanted: (Option<ClashCause>, Option<u32>, usize),
+    wanted: Answers,
 ) -> Result<bool, Fail> {
-    Ok(answers(alloc, nodes, priorities, from, chosen)? == Some(wanted))
+    Ok(answers(alloc, nodes, priorities, from, chosen)? == wanted)
 }
 
 #[test]
@@ -147,20 +175,20 @@ fn sequents_and_choices_are_lists(rt: HostRuntime) -> Result<(), Fail> {
     Ok(())
 }
 
-// The step along the first diamond of a sequent's spread, with no side chosen; `None` if it has no diamond.
+// The step along the first diamond of a sequent's spread, with no side chosen.
 fn first_step(
     alloc: Global,
     graph: &ModalGraph,
     sequent: &Sequent,
-) -> Result<Option<(Sequent, LocalTraces)>, Fail>
+) -> Result<(Sequent, LocalTraces), Fail>
     requires { All (λ n. n < size graph.now) sequent.now }
 {
     let spread = spread(alloc, graph, sequent, &Choice::empty(alloc))?;
     let diamonds = diamonds(alloc, graph, &spread)?;
     if diamonds.is_empty() {
-        return Ok(None);
+        return Err(Fail::new("no diamond"));
     }
-    Ok(Some(step(alloc, graph, sequent, &spread, diamonds[0])?))
+    Ok(step(alloc, graph, sequent, &spread, diamonds[0])?)
 }
 
 // The step of a graph of eight nodes from a sequent of these.
@@ -169,21 +197,23 @@ fn step_of(
     nodes: &[Node; 8],
     priorities: &[u32; 8],
     from: &[u32],
-) -> Result<Option<(Sequent, LocalTraces)>, Fail> {
-    let Ok(graph) = graph_of(alloc, nodes, priorities, 0)? else {
-        return Ok(None);
-    };
-    let sequent = Sequent::of(alloc, from)?;
-    let size = graph.size();
-    if !sequent.values().iter().all(|n| *n < size) {
-        return Ok(None);
+) -> Result<(Sequent, LocalTraces), Fail> {
+    let graph = graph_of(alloc, nodes, priorities, 0)??;
+    match sequent_of(alloc, &graph, from)? {
+        Some(sequent) => first_step(alloc, &graph, &sequent),
+        None => Err(Fail::new("no such node")),
     }
-    first_step(alloc, &graph, &sequent)
 }
 
 // A triple.
 fn triple(from: u32, lowest: u32, to: u32) -> Triple {
     Triple { from, lowest, to }
+}
+
+// Are these the local traces, in any order?
+fn are_these(traces: &LocalTraces, wanted: &[Triple]) -> bool {
+    let triples = traces.triples();
+    triples.len() == wanted.len() && wanted.iter().all(|triple| triples.contains(triple))
 }
 
 #[test]
@@ -199,9 +229,7 @@ fn step_of_a_least_fixpoint(rt: HostRuntime) -> Result<(), Fail> {
         P,
         NOT_P,
     ];
-    let Some((next, traces)) = step_of(rt.alloc(), &nodes, &[1, 0, 2, 2, 2, 2, 2, 2], &[0])? else {
-        return Ok(());
-    };
+    let (next, traces) = step_of(rt.alloc(), &nodes, &[1, 0, 2, 2, 2, 2, 2, 2], &[0])?;
     assert_eq!(rt; next.nodes(rt.alloc())?.as_slice(), [4].as_slice());
     assert_eq!(rt; next.copy()?.values(), [4].as_slice());
     assert_eq!(rt; traces.triples(), [triple(0, 1, 4)].as_slice());
@@ -220,14 +248,10 @@ fn step_with_several_lowest_priorities(rt: HostRuntime) -> Result<(), Fail> {
         Node::True,
         Node::True,
     ];
-    let Some((next, traces)) = step_of(rt.alloc(), &nodes, &[4, 1, 3, 5, 5, 5, 2, 2], &[0])? else {
-        return Ok(());
-    };
+    let (next, traces) = step_of(rt.alloc(), &nodes, &[4, 1, 3, 5, 5, 5, 2, 2], &[0])?;
     assert_eq!(rt; next.values(), [6, 7].as_slice());
-    for wanted in [triple(0, 1, 6), triple(0, 3, 6), triple(0, 1, 7)] {
-        assert!(rt; traces.triples().contains(&wanted), "{wanted:?}");
-    }
-    assert_eq!(rt; traces.triples().len(), 3);
+    let wanted = [triple(0, 1, 6), triple(0, 3, 6), triple(0, 1, 7)];
+    assert!(rt; are_these(&traces, &wanted));
     Ok(())
 }
 
@@ -255,15 +279,9 @@ fn walks_by_hand(rt: HostRuntime) -> Result<(), Fail> {
         triple(2, 2, 7),
         triple(3, 5, 6),
     ];
-    let made = step_of(rt.alloc(), &nodes, &priorities, &[0, 1, 2, 3, 5])?;
-    let Some((next, traces)) = made else {
-        return Err(Fail::new("no step"));
-    };
+    let (next, traces) = step_of(rt.alloc(), &nodes, &priorities, &[0, 1, 2, 3, 5])?;
     assert_eq!(rt; next.values(), [6, 7].as_slice());
-    for wanted in walks {
-        assert!(rt; traces.triples().contains(&wanted), "{wanted:?}");
-    }
-    assert_eq!(rt; traces.triples().len(), walks.len());
+    assert!(rt; are_these(&traces, &walks));
     Ok(())
 }
 
@@ -281,75 +299,81 @@ const CAUSES: [Node; 8] = [
 
 const CAUSE_PRIORITIES: [u32; 8] = [1, 2, 2, 2, 2, 2, 2, 2];
 
-// Is this a cause in the spread of a node, with no side chosen? `None` if there is no such node.
-fn is_cause_at(alloc: Global, from: u32, cause: ClashCause) -> Result<Option<bool>, Fail> {
-    let Ok(graph) = graph_of(alloc, &CAUSES, &CAUSE_PRIORITIES, 0)? else {
-        return Ok(None);
-    };
-    let sequent = Sequent::of(alloc, &[from])?;
-    let size = graph.size();
-    if !sequent.values().iter().all(|n| *n < size) {
-        return Ok(None);
+// Is this a cause in the spread of a sequent, with no side chosen?
+fn is_cause_in(
+    alloc: Global,
+    graph: &ModalGraph,
+    sequent: &Sequent,
+    cause: ClashCause,
+) -> Result<bool, Fail>
+    requires { All (λ n. n < size graph.now) sequent.now }
+{
+    let mut phase = LocalPhase::new(alloc, graph)?;
+    let spread = phase.spread(sequent, &Choice::empty(alloc))?;
+    Ok(phase.is_cause(&spread, cause)?)
+}
+
+// The same of a node.
+fn is_cause_at(alloc: Global, from: u32, cause: ClashCause) -> Result<bool, Fail> {
+    let graph = graph_of(alloc, &CAUSES, &CAUSE_PRIORITIES, 0)??;
+    match sequent_of(alloc, &graph, &[from])? {
+        Some(sequent) => is_cause_in(alloc, &graph, &sequent, cause),
+        None => Err(Fail::new("no such node")),
     }
-    let mut phase = LocalPhase::new(alloc, &graph)?;
-    let spread = phase.spread(&sequent, &Choice::empty(alloc))?;
-    Ok(Some(phase.is_cause(&spread, cause)?))
 }
 
 #[test]
 fn false_as_a_cause(rt: HostRuntime) -> Result<(), Fail> {
     let falsity = ClashCause::False(6);
-    assert_eq!(rt; is_cause_at(rt.alloc(), 6, falsity)?, Some(true));
-    assert_eq!(rt; is_cause_at(rt.alloc(), 2, falsity)?, Some(false));
+    assert!(rt; is_cause_at(rt.alloc(), 6, falsity)?);
+    assert!(rt; !is_cause_at(rt.alloc(), 2, falsity)?);
     Ok(())
 }
 
 #[test]
 fn pairs_as_causes(rt: HostRuntime) -> Result<(), Fail> {
     let pair = ClashCause::Pair(3, 4);
-    assert_eq!(rt; is_cause_at(rt.alloc(), 2, pair)?, Some(true));
-    assert_eq!(rt;
-        is_cause_at(rt.alloc(), 2, ClashCause::Pair(4, 3))?,
-        Some(false)
-    );
-    assert_eq!(rt; is_cause_at(rt.alloc(), 3, pair)?, Some(false));
+    assert!(rt; is_cause_at(rt.alloc(), 2, pair)?);
+    assert!(rt; !is_cause_at(rt.alloc(), 2, ClashCause::Pair(4, 3))?);
+    assert!(rt; !is_cause_at(rt.alloc(), 3, pair)?);
     Ok(())
 }
 
 #[test]
 fn cycles_as_causes(rt: HostRuntime) -> Result<(), Fail> {
-    assert_eq!(rt;
-        is_cause_at(rt.alloc(), 0, ClashCause::Cycle(0))?,
-        Some(true)
-    );
-    assert_eq!(rt;
-        is_cause_at(rt.alloc(), 0, ClashCause::Cycle(1))?,
-        Some(false)
-    );
-    assert_eq!(rt;
-        is_cause_at(rt.alloc(), 0, ClashCause::Cycle(99))?,
-        Some(false)
-    );
+    assert!(rt; is_cause_at(rt.alloc(), 0, ClashCause::Cycle(0))?);
+    assert!(rt; !is_cause_at(rt.alloc(), 0, ClashCause::Cycle(1))?);
+    assert!(rt; !is_cause_at(rt.alloc(), 0, ClashCause::Cycle(99))?);
     Ok(())
 }
 
-// The nodes of the spread of a node with a side chosen at its open or-node; `None` if it has none.
-fn extended_at(alloc: Global, from: u32, side: Side) -> Result<Option<Vec<u32>>, Fail> {
-    let Ok(graph) = graph_of(alloc, &CAUSES, &CAUSE_PRIORITIES, 0)? else {
-        return Ok(None);
-    };
-    let sequent = Sequent::of(alloc, &[from])?;
-    let size = graph.size();
-    if !sequent.values().iter().all(|n| *n < size) {
-        return Ok(None);
+// The nodes of the spread of a sequent with a side chosen at its open or-node; `None` if it has none.
+fn extended_in(
+    alloc: Global,
+    graph: &ModalGraph,
+    sequent: &Sequent,
+    side: Side,
+) -> Result<Option<Vec<u32>>, Fail>
+    requires { All (λ n. n < size graph.now) sequent.now }
+{
+    let mut phase = LocalPhase::new(alloc, graph)?;
+    let spread = phase.spread(sequent, &Choice::empty(alloc))?;
+    match phase.open_or(&spread) {
+        Some(node) => {
+            let longer = phase.extended(&spread, node, side)?;
+            Ok(Some(Vec::from_slice(alloc, longer.nodes())?))
+        }
+        None => Ok(None),
     }
-    let mut phase = LocalPhase::new(alloc, &graph)?;
-    let spread = phase.spread(&sequent, &Choice::empty(alloc))?;
-    let Some(node) = phase.open_or(&spread) else {
-        return Ok(None);
-    };
-    let longer = phase.extended(&spread, node, side)?;
-    Ok(Some(Vec::from_slice(alloc, longer.nodes())?))
+}
+
+// The same of a node.
+fn extended_at(alloc: Global, from: u32, side: Side) -> Result<Option<Vec<u32>>, Fail> {
+    let graph = graph_of(alloc, &CAUSES, &CAUSE_PRIORITIES, 0)??;
+    match sequent_of(alloc, &graph, &[from])? {
+        Some(sequent) => extended_in(alloc, &graph, &sequent, side),
+        None => Err(Fail::new("no such node")),
+    }
 }
 
 #[test]
