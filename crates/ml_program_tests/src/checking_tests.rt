@@ -124,6 +124,40 @@ fn by_game(
     Ok(solution.winner.get(vertex as usize) == Some(&Player::Even))
 }
 
+// do the meaning, the game and the checker agree at each state?
+fn agree(alloc: Global, problem: &Problem, structure: &Structure) -> Result<bool, Fail> {
+    for state in 0..structure.states() {
+        let meant = by_meaning(alloc, problem, structure, state)?;
+        if by_game(alloc, problem, structure, state)? != meant {
+            return Ok(false);
+        }
+        if holds(alloc, problem, structure, state)? != meant {
+            return Ok(false);
+        }
+    }
+    Ok(true)
+}
+
+// do they on the formula of a text, or on its negation? `None` where the text is one of no formula
+fn agree_on(
+    alloc: Global,
+    numbers: &mut Numbers,
+    text: &[u8],
+    structure: &Structure,
+) -> Result<Option<bool>, Fail> {
+    match read(alloc, Logic::Mu, text) {
+        Ok(plain) => {
+            let problem = if numbers.below(2) == 0 {
+                plain
+            } else {
+                negated(plain)
+            };
+            Ok(Some(agree(alloc, &problem, structure)?))
+        }
+        Err(_) => Ok(None),
+    }
+}
+
 #[test]
 fn meaning_and_game_agree(rt: HostRuntime) -> Result<(), Fail> {
     let alloc = rt.alloc();
@@ -132,18 +166,9 @@ fn meaning_and_game_agree(rt: HostRuntime) -> Result<(), Fail> {
     for _ in 0..800 {
         let text = random_text(alloc, &mut numbers)?;
         let structure = random_structure(alloc, &mut numbers)?;
-        if let Ok(plain) = read(alloc, Logic::Mu, &text) {
+        if let Some(agree) = agree_on(alloc, &mut numbers, &text, &structure)? {
+            assert!(rt; agree, "{text:?}");
             formulas = formulas.saturating_add(1);
-            let problem = if numbers.below(2) == 0 {
-                plain
-            } else {
-                negated(plain)
-            };
-            for state in 0..structure.states() {
-                let meant = by_meaning(alloc, &problem, &structure, state)?;
-                assert_eq!(rt; by_game(alloc, &problem, &structure, state)?, meant);
-                assert_eq!(rt; holds(alloc, &problem, &structure, state)?, meant);
-            }
         }
     }
     assert!(rt; formulas > 300, "{formulas}");
@@ -151,54 +176,79 @@ fn meaning_and_game_agree(rt: HostRuntime) -> Result<(), Fail> {
 }
 
 // unguarded formulas, nested binders, a name that is bound twice, and a binder below a negation
-#[test]
-fn worked_formulas(rt: HostRuntime) -> Result<(), Fail> {
-    let alloc = rt.alloc();
-    let texts: [&[u8]; 6] = [
-        b"mu X. X",
-        b"nu X. X",
-        b"mu X. (p | <>X)",
-        b"nu X. mu Y. <>((p & X) | Y)",
-        b"nu X. (mu X. X) | X",
-        b"mu X. !(nu Y. !X & Y)",
-    ];
+const WORKED: [&'static [u8]; 6] = [
+    b"mu X. X",
+    b"nu X. X",
+    b"mu X. (p | <>X)",
+    b"nu X. mu Y. <>((p & X) | Y)",
+    b"nu X. (mu X. X) | X",
+    b"mu X. !(nu Y. !X & Y)",
+];
+
+// the place of the first text on whose formula they don't agree
+fn first_apart(alloc: Global, texts: &[&'static [u8]]) -> Result<Option<usize>, Fail> {
     let mut numbers = Numbers::new(3);
-    for text in texts {
-        let problem = read(alloc, Logic::Mu, text)?;
+    for (place, text) in texts.iter().enumerate() {
         let structure = random_structure(alloc, &mut numbers)?;
-        for state in 0..structure.states() {
-            let meant = by_meaning(alloc, &problem, &structure, state)?;
-            assert_eq!(rt; by_game(alloc, &problem, &structure, state)?, meant);
+        if agree_on(alloc, &mut numbers, text, &structure)? != Some(true) {
+            return Ok(Some(place));
         }
     }
+    Ok(None)
+}
+
+#[test]
+fn worked_formulas(rt: HostRuntime) -> Result<(), Fail> {
+    assert_eq!(rt; first_apart(rt.alloc(), &WORKED)?, None);
     Ok(())
+}
+
+// the odd priorities of a problem's graph
+fn odd_priorities_of(alloc: Global, problem: &Problem) -> Result<Vec<u32>, Fail> {
+    let graph = graph(alloc, problem, 4096)?;
+    Ok(graph.odd_priorities()?)
 }
 
 // the odd priorities of the graph of a least fixpoint
 #[test]
 fn odd_priorities(rt: HostRuntime) -> Result<(), Fail> {
     let problem = read(rt.alloc(), Logic::Mu, b"mu X. <>X")?;
-    let graph = graph(rt.alloc(), &problem, 4096)?;
-    assert_eq!(rt; graph.odd_priorities()?.as_slice(), [1].as_slice());
+    let odds = odd_priorities_of(rt.alloc(), &problem)?;
+    assert!(rt; odds.as_slice() == [1].as_slice());
     Ok(())
 }
 
+// what the checker answers of a problem, by each state
+fn answers_of(alloc: Global, problem: &Problem, structure: &Structure) -> Result<Vec<bool>, Fail> {
+    let mut found = Vec::new(alloc);
+    for state in 0..structure.states() {
+        found.push(holds(alloc, problem, structure, state)?)?;
+    }
+    Ok(found)
+}
+
+// the same of a text
+fn answers(alloc: Global, text: &[u8], structure: &Structure) -> Result<Vec<bool>, Fail> {
+    let problem = read(alloc, Logic::Mu, text)?;
+    answers_of(alloc, &problem, structure)
+}
+
 // as many binders one inside the other as a formula may have
-#[test]
-fn nested_binders(rt: HostRuntime) -> Result<(), Fail> {
-    let alloc = rt.alloc();
+fn nested(alloc: Global) -> Result<Vec<u8>, Fail> {
     let mut text = Vec::new(alloc);
     for _ in 0..499 {
         text.extend_from_slice(b"mu X. nu X. ")?;
     }
     text.extend_from_slice(b"<>X")?;
-    let problem = read(alloc, Logic::Mu, &text)?;
-    let mut numbers = Numbers::new(7);
-    let structure = random_structure(alloc, &mut numbers)?;
-    let innermost = read(alloc, Logic::Mu, b"nu X. <>X")?;
-    for state in 0..structure.states() {
-        let expected = by_meaning(alloc, &innermost, &structure, state)?;
-        assert_eq!(rt; holds(alloc, &problem, &structure, state)?, expected);
-    }
+    Ok(text)
+}
+
+#[test]
+fn nested_binders(rt: HostRuntime) -> Result<(), Fail> {
+    let alloc = rt.alloc();
+    let structure = random_structure(alloc, &mut Numbers::new(7))?;
+    let found = answers(alloc, &nested(alloc)?, &structure)?;
+    let expected = answers(alloc, b"nu X. <>X", &structure)?;
+    assert!(rt; found.as_slice() == expected.as_slice());
     Ok(())
 }

@@ -1,8 +1,9 @@
 // Formulas of PDL and structures that look random: the meaning against the game on the graph.
 use crate::checking_tests::random_structure;
-use ml_graph::checking_game;
+use ml_graph::{ModalGraph, checking_game};
+use ml_kripke::Structure;
 use ml_parity::{Player, solve};
-use ml_pdl::parse;
+use ml_pdl::{Formula, parse};
 use ml_pdl_graph::graph_of;
 use ml_pdl_meaning::evaluate;
 use ml_tests::Numbers;
@@ -78,22 +79,39 @@ fn random_text(alloc: Global, numbers: &mut Numbers) -> Result<Vec<u8>, Fail> {
     random_formula(alloc, numbers, &formulas, &programs)
 }
 
-// does the graph of the formula, or of its negation, hold exactly where it is meant to?
-fn agrees(alloc: Global, numbers: &mut Numbers, text: &[u8]) -> Result<bool, Fail> {
-    let formula = parse(alloc, text)?;
-    let negated = numbers.below(2) == 0;
-    let graph = graph_of(alloc, &formula, negated)?;
-    let structure = random_structure(alloc, numbers)?;
-    let set = evaluate(alloc, &formula, &structure)?;
+// does the graph hold exactly at these states, or, of a negation, at the others?
+fn holds_exactly(
+    alloc: Global,
+    graph: &ModalGraph,
+    structure: &Structure,
+    set: &[bool],
+    negated: bool,
+) -> Result<bool, Fail> {
     for state in 0..structure.states() {
-        let (game, vertex) = checking_game(alloc, &graph, &structure, state)?;
+        let (game, vertex) = checking_game(alloc, graph, structure, state)?;
         let solution = solve(alloc, &game)?;
         let holds = solution.winner.get(vertex as usize) == Some(&Player::Even);
-        if holds != (set[state as usize] != negated) {
+        let meant = set.get(state as usize) == Some(&true);
+        if holds != (meant != negated) {
             return Ok(false);
         }
     }
     Ok(true)
+}
+
+// does the graph of the formula, or of its negation, hold exactly where it is meant to?
+fn agrees_on(alloc: Global, numbers: &mut Numbers, formula: &Formula) -> Result<bool, Fail> {
+    let negated = numbers.below(2) == 0;
+    let graph = graph_of(alloc, formula, negated)?;
+    let structure = random_structure(alloc, numbers)?;
+    let set = evaluate(alloc, formula, &structure)?;
+    holds_exactly(alloc, &graph, &structure, set.as_slice(), negated)
+}
+
+// the same of a text
+fn agrees(alloc: Global, numbers: &mut Numbers, text: &[u8]) -> Result<bool, Fail> {
+    let formula = parse(alloc, text)?;
+    agrees_on(alloc, numbers, &formula)
 }
 
 #[test]

@@ -1,7 +1,9 @@
 // Formulas of PDL with the states at which they hold, and programs with the pairs that they relate, worked out by hand.
+ghost use Rattle.std.specs.Prelude.{◌<◌};
+
 use crate::structures::four_states;
 use ml_kripke::Structure;
-use ml_pdl::{Term, parse};
+use ml_pdl::{Program, Term, parse};
 use ml_pdl_meaning::{evaluate, holds, relates};
 use std::alloc::Global;
 use std::test::Fail;
@@ -45,17 +47,13 @@ fn first_wrong(alloc: Global, rows: &[(&'static [u8], [bool; 4])]) -> Result<Opt
     Ok(None)
 }
 
-// Does the program of this diamond relate these pairs and no others?
-fn relates_pairs(
+// Does the program relate these pairs and no others?
+fn relates_exactly(
     alloc: Global,
+    program: &Program,
     structure: &Structure,
-    diamond: &[u8],
     pairs: &[(u32, u32)],
 ) -> Result<bool, Fail> {
-    let formula = parse(alloc, diamond)?;
-    let Term::Diamond(program, _) = formula.root() else {
-        return Ok(false);
-    };
     for from in 0..structure.states() {
         for to in 0..structure.states() {
             if relates(alloc, program, structure, from, to)? != pairs.contains(&(from, to)) {
@@ -64,6 +62,20 @@ fn relates_pairs(
         }
     }
     Ok(true)
+}
+
+// Does the program of this diamond?
+fn relates_pairs(
+    alloc: Global,
+    structure: &Structure,
+    diamond: &[u8],
+    pairs: &[(u32, u32)],
+) -> Result<bool, Fail> {
+    let formula = parse(alloc, diamond)?;
+    match formula.root() {
+        Term::Diamond(program, _) => relates_exactly(alloc, program, structure, pairs),
+        _ => Ok(false),
+    }
 }
 
 const MODALITIES: [(&'static [u8], [bool; 4]); 12] = [
@@ -202,12 +214,21 @@ fn stars_and_tests(rt: HostRuntime) -> Result<(), Fail> {
     Ok(())
 }
 
+// Does the formula of this text hold at the state?
+fn holds_at(alloc: Global, structure: &Structure, text: &[u8], state: u32) -> Result<bool, Fail>
+    requires { state < structure.now.states }
+{
+    let formula = parse(alloc, text)?;
+    Ok(holds(alloc, &formula, structure, state)?)
+}
+
 #[test]
 fn states(rt: HostRuntime) -> Result<(), Fail> {
     let structure = structure(rt.alloc())?;
-    let formula = parse(rt.alloc(), b"<a*>p & !p")?;
-    assert_eq!(rt; structure.states(), 4);
-    assert!(rt; holds(rt.alloc(), &formula, &structure, 1)?);
-    assert!(rt; !holds(rt.alloc(), &formula, &structure, 2)?);
+    if structure.states() != 4 {
+        return Err(Fail::new("other states"));
+    }
+    assert!(rt; holds_at(rt.alloc(), &structure, b"<a*>p & !p", 1)?);
+    assert!(rt; !holds_at(rt.alloc(), &structure, b"<a*>p & !p", 2)?);
     Ok(())
 }
