@@ -38,31 +38,43 @@ fn refusals(rt: HostRuntime) -> Result<(), Fail> {
     Ok(())
 }
 
+// Two states, with labels and edges in any order, some of them twice.
+fn two_states(alloc: Global) -> Result<Structure, Fail> {
+    let mut labels = Vec::new(alloc);
+    for (state, name) in [(1, b"q"), (0, b"p"), (1, b"p"), (1, b"p")] {
+        labels.push((state, Name::new(alloc, name.as_slice())?))?;
+    }
+    let mut edges = Vec::new(alloc);
+    for (source, action, target) in [(1, b"b", 0), (0, b"_", 1), (1, b"a", 1), (1, b"b", 0)] {
+        edges.push(edge(alloc, source, action.as_slice(), target)?)?;
+    }
+    Ok(Structure::build(alloc, 2, labels, edges)?)
+}
+
 #[test]
-fn a_structure_in_any_order_and_its_text(rt: HostRuntime) -> Result<(), Fail> {
-    let alloc = rt.alloc();
-    let p = Name::new(alloc, b"p")?;
-    let labels = vec![in alloc;
-        (1, Name::new(alloc, b"q")?),
-        (0, p.copy()?),
-        (1, p.copy()?),
-        (1, p.copy()?),
-    ]?;
-    let edges = vec![in alloc;
-        edge(alloc, 1, b"b", 0)?,
-        edge(alloc, 0, b"_", 1)?,
-        edge(alloc, 1, b"a", 1)?,
-        edge(alloc, 1, b"b", 0)?,
-    ]?;
-    let structure = Structure::build(alloc, 2, labels, edges)?;
-    assert_eq!(rt; structure.states(), 2);
-    assert_eq!(rt; structure.edge_count(), 3);
-    assert_eq!(rt; structure.edge_at(0).target, 1);
-    assert!(rt; structure.has_label(1, &p));
-    let blank = Action::new(alloc, b"_")?;
-    assert_eq!(rt; structure.dead_state(&blank), Some(1));
-    assert!(rt; !structure.is_total(&blank));
-    let text = write_model(alloc, &Model::new(structure, 1))?;
+fn a_structure_in_any_order(rt: HostRuntime) -> Result<(), Fail> {
+    let structure = two_states(rt.alloc())?;
+    let p = Name::new(rt.alloc(), b"p")?;
+    assert!(rt; structure.states() == 2 && structure.has_label(1, &p));
+    assert!(rt; structure.edge_count() == 3 && structure.edge_at(0).target == 1);
+    Ok(())
+}
+
+#[test]
+fn a_dead_state(rt: HostRuntime) -> Result<(), Fail> {
+    let structure = two_states(rt.alloc())?;
+    let blank = Action::new(rt.alloc(), b"_")?;
+    assert!(rt; structure.dead_state(&blank) == Some(1) && !structure.is_total(&blank));
+    Ok(())
+}
+
+#[test]
+fn the_text_of_a_structure(rt: HostRuntime) -> Result<(), Fail> {
+    let structure = two_states(rt.alloc())?;
+    if structure.states() < 2 {
+        return Err(Fail::new("too few states"));
+    }
+    let text = write_model(rt.alloc(), &Model::new(structure, 1))?;
     assert_eq!(rt;
         text.as_slice(),
         b"states 2\nstart 1\nstate 0 p\nstate 1 p q\nedge 0 _ 1\nedge 1 a 1\nedge 1 b 0\nend\n".as_slice()

@@ -30,72 +30,88 @@ fn shown(alloc: Global, text: &[u8], words: WordStart) -> Result<String, AllocEr
     Ok(out)
 }
 
+// The place of the first text that has other tokens.
+fn first_wrong(
+    alloc: Global,
+    rows: &[(&'static [u8], &'static str)],
+    words: WordStart,
+) -> Result<Option<usize>, Fail> {
+    for (place, (text, tokens)) in rows.iter().enumerate() {
+        if shown(alloc, text, words)?.as_str() != *tokens {
+            return Ok(Some(place));
+        }
+    }
+    Ok(None)
+}
+
+const TOKENS: [(&'static [u8], &'static str); 36] = [
+    (b"", ""),
+    (b" \t\r\n", ""),
+    (b"!", "not 0-1; "),
+    (b"~", "not 0-1; "),
+    (b"!~!", "not 0-1; not 1-2; not 2-3; "),
+    (b"&", "and 0-1; "),
+    (b"&&", "and 0-2; "),
+    (b"/\\", "and 0-2; "),
+    (b"|", "or 0-1; "),
+    (b"||", "or 0-2; "),
+    (b"\\/", "or 0-2; "),
+    (b"->", "implies 0-2; "),
+    (b"=>", "implies 0-2; "),
+    (b"==>", "implies 0-3; "),
+    (b"<->", "iff 0-3; "),
+    (b"<=>", "iff 0-3; "),
+    (b"<==>", "iff 0-4; "),
+    (b"===>", "byte 0-1; implies 1-4; "),
+    (b"<===>", "byte 0-1; byte 1-2; implies 2-5; "),
+    (b"&&&", "and 0-2; and 2-3; "),
+    (b"& &", "and 0-1; and 2-3; "),
+    (b"|||", "or 0-2; or 2-3; "),
+    (b"\\/\\", "or 0-2; byte 2-3; "),
+    (b"/\\/", "and 0-2; byte 2-3; "),
+    (b"< - >", "byte 0-1; byte 2-3; byte 4-5; "),
+    (b"<-", "byte 0-1; byte 1-2; "),
+    (b"<a>p", "byte 0-1; word 1-2; byte 2-3; word 3-4; "),
+    (b"[]_", "byte 0-1; byte 1-2; byte 2-3; "),
+    (b"_p", "byte 0-1; word 1-2; "),
+    (b"7p", "byte 0-1; word 1-2; "),
+    (b"p_7Q", "word 0-4; "),
+    (b"GFp", "word 0-3; "),
+    (b"pUq", "word 0-3; "),
+    (
+        b"mu X.(p|X)",
+        "word 0-2; word 3-4; byte 4-5; byte 5-6; word 6-7; or 7-8; word 8-9; byte 9-10; ",
+    ),
+    (b"\tp\r\n<->  q ", "word 1-2; iff 4-7; word 9-10; "),
+    (b"p\xc3\xa9\x00", "word 0-1; byte 1-2; byte 2-3; byte 3-4; "),
+];
+
 #[test]
 fn texts_have_their_tokens(rt: HostRuntime) -> Result<(), Fail> {
-    let rows: [(&[u8], &str); 36] = [
-        (b"", ""),
-        (b" \t\r\n", ""),
-        (b"!", "not 0-1; "),
-        (b"~", "not 0-1; "),
-        (b"!~!", "not 0-1; not 1-2; not 2-3; "),
-        (b"&", "and 0-1; "),
-        (b"&&", "and 0-2; "),
-        (b"/\\", "and 0-2; "),
-        (b"|", "or 0-1; "),
-        (b"||", "or 0-2; "),
-        (b"\\/", "or 0-2; "),
-        (b"->", "implies 0-2; "),
-        (b"=>", "implies 0-2; "),
-        (b"==>", "implies 0-3; "),
-        (b"<->", "iff 0-3; "),
-        (b"<=>", "iff 0-3; "),
-        (b"<==>", "iff 0-4; "),
-        (b"===>", "byte 0-1; implies 1-4; "),
-        (b"<===>", "byte 0-1; byte 1-2; implies 2-5; "),
-        (b"&&&", "and 0-2; and 2-3; "),
-        (b"& &", "and 0-1; and 2-3; "),
-        (b"|||", "or 0-2; or 2-3; "),
-        (b"\\/\\", "or 0-2; byte 2-3; "),
-        (b"/\\/", "and 0-2; byte 2-3; "),
-        (b"< - >", "byte 0-1; byte 2-3; byte 4-5; "),
-        (b"<-", "byte 0-1; byte 1-2; "),
-        (b"<a>p", "byte 0-1; word 1-2; byte 2-3; word 3-4; "),
-        (b"[]_", "byte 0-1; byte 1-2; byte 2-3; "),
-        (b"_p", "byte 0-1; word 1-2; "),
-        (b"7p", "byte 0-1; word 1-2; "),
-        (b"p_7Q", "word 0-4; "),
-        (b"GFp", "word 0-3; "),
-        (b"pUq", "word 0-3; "),
-        (
-            b"mu X.(p|X)",
-            "word 0-2; word 3-4; byte 4-5; byte 5-6; word 6-7; or 7-8; word 8-9; byte 9-10; ",
-        ),
-        (b"\tp\r\n<->  q ", "word 1-2; iff 4-7; word 9-10; "),
-        (b"p\xc3\xa9\x00", "word 0-1; byte 1-2; byte 2-3; byte 3-4; "),
-    ];
-    for (text, tokens) in rows {
-        let found = shown(rt.alloc(), text, WordStart::AnyLetter)?;
-        assert_eq!(rt; found.as_str(), tokens);
-    }
+    assert_eq!(rt;
+        first_wrong(rt.alloc(), &TOKENS, WordStart::AnyLetter)?,
+        None
+    );
     Ok(())
 }
 
+const LOWER_TOKENS: [(&'static [u8], &'static str); 5] = [
+    (b"GFp", "byte 0-1; byte 1-2; word 2-3; "),
+    (b"pUq", "word 0-3; "),
+    (b"p U q", "word 0-1; byte 2-3; word 4-5; "),
+    (b"X_p", "byte 0-1; byte 1-2; word 2-3; "),
+    (
+        b"~(aB1 R q)",
+        "not 0-1; byte 1-2; word 2-5; byte 6-7; word 8-9; byte 9-10; ",
+    ),
+];
+
 #[test]
 fn words_begin_with_lower_case_letters(rt: HostRuntime) -> Result<(), Fail> {
-    let rows: [(&[u8], &str); 5] = [
-        (b"GFp", "byte 0-1; byte 1-2; word 2-3; "),
-        (b"pUq", "word 0-3; "),
-        (b"p U q", "word 0-1; byte 2-3; word 4-5; "),
-        (b"X_p", "byte 0-1; byte 1-2; word 2-3; "),
-        (
-            b"~(aB1 R q)",
-            "not 0-1; byte 1-2; word 2-5; byte 6-7; word 8-9; byte 9-10; ",
-        ),
-    ];
-    for (text, tokens) in rows {
-        let found = shown(rt.alloc(), text, WordStart::LowerCase)?;
-        assert_eq!(rt; found.as_str(), tokens);
-    }
+    assert_eq!(rt;
+        first_wrong(rt.alloc(), &LOWER_TOKENS, WordStart::LowerCase)?,
+        None
+    );
     Ok(())
 }
 
