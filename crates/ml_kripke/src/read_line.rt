@@ -158,6 +158,7 @@ fn read_labels(alloc: Global, behind: Option<&[u8]>) -> Result<Vec<Name>, NameRe
             Err(_) => return Err(NameRefusal::NoMemory),
         }
     }
+    labels.shrink_to_fit();
     Ok(labels)
 }
 

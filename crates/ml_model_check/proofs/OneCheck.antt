@@ -6,7 +6,7 @@
 --   one_check        == so checking finds one thing at most
 --   document_or_fault == a text shows a structure and a start for a problem, or has a first bad line
 --   some_check       == so checking finds something
-use Rattle.std.proofs.Common.{◌≡◌, ℕ, ◌⊎◌, List, refl, sym, ap, subst, ◌∙◌, inl, inr}
+use Rattle.std.proofs.Common.{◌≡◌, ℕ, ◌⊎◌, List, sym, ap, subst, ◌∙◌, inl, inr}
 use Rattle.ml_base.specs.Structure.{Structure}
 use Rattle.ml_base.specs.declared.doc_fault.DocFault.{DocFault}
 use Rattle.ml_base.specs.declared.version.Version.{Version}

@@ -9,7 +9,7 @@
 use Rattle.std.proofs.Common.{◌≡◌, ℕ, ◌≤◌, suc, false, List, [], ◌∷◌, Option, Some, None, refl, sym, ◌∙◌, ap, subst, arith, codes}
 use Rattle.ml_text.specs.declared.token.Operator.TheVariants as operator
 use Rattle.ml_text.specs.Grammar as tables
-use Rattle.ml_text.specs.Grammar.{Whole, More, Read, Inner, Opens, Part, Level, Operand, Rest, Behind, alone, joined, postfixed, form, whole, sign, read, inner, opens, takes, front}
+use Rattle.ml_text.specs.Grammar.{More, Inner, Opens, Part, Level, Operand, Rest, Behind, alone, joined, postfixed, form, whole, sign, read, inner, opens, takes, front}
 use Rattle.ml_text.proofs.Fronts.{BeginsWith, begins_with}
 use Rattle.ml_text.proofs.Levels.{loosen}
 use Rattle.ml_pdl.specs.Formula as plain

@@ -6,7 +6,7 @@
 --   traced_at        == an item is traced back along the traces to its node exactly where it is along all
 --   led_into_sorted  == traces in another order lead to the same nodes
 use Rattle.std.proofs.Common.{◌≡◌, ◌↔◌, ◌⊎◌, ℕ, zero, suc, ◌+◌, ◌<◌, ◌≤◌, Bool, true, false, ◌&&◌, ◌||◌, ◌==◌, nat_lt, ltb, leb, List, [], ◌∷◌}
-use Rattle.std.proofs.Common.{Option, None, Some, length, get_or, take, drop, map, IsTrue, inl, inr, refl, sym, ◌∙◌, subst, arith}
+use Rattle.std.proofs.Common.{Option, None, Some, length, get_or, take, drop, map, IsTrue, inl, inr, sym, ◌∙◌, subst, arith}
 use Rattle.std.specs.List.{AllWithin}
 use Rattle.std.specs.List.Sorted.{IsPartitionPoint}
 use Rattle.std.proofs.lemmas.Bool.{ltb-true, ltb-false, leb-true, leb-false}

@@ -2,7 +2,7 @@
 --
 --   rows_told   == rows of heights fall exactly where the heights fall along the arc
 --   within_told, names_told, falls_told == the tests tell exactly whether the rules are kept
-use Rattle.std.proofs.Common.{◌≡◌, ◌↔◌, ℕ, ◌*◌, ◌/◌, ◌≤◌, Bool, List, [], All, get_or, IsTrue, refl, sym, ◌∙◌, subst, arith}
+use Rattle.std.proofs.Common.{◌≡◌, ◌↔◌, ℕ, ◌*◌, ◌/◌, ◌≤◌, Bool, List, [], All, get_or, IsTrue, sym, ◌∙◌, subst, arith}
 use Rattle.std.proofs.Math.ListN.{get_or-map}
 use Rattle.ml_lists.specs.Member.{IsMember}
 use Rattle.ml_graph.specs.Graph.{Graph, IsGraph, odd_priorities}

@@ -4,7 +4,7 @@
 --   exact                       == what comes of a text is right
 use Rattle.std.proofs.Common.{◌≡◌, ℕ, ◌+◌, ◌<◌, ◌≤◌, Bool, true, false, nat_lt, List, [], ◌∷◌, ◌++◌, length, take, Option, Some, None}
 use Rattle.std.proofs.Common.{refl, sym, ◌∙◌, ap, subst, ⊎_elim, arith, ltb-true, ltb-false, length-append, append_assoc}
-use Rattle.std.specs.Prelude.{option_and_then, sum_by}
+use Rattle.std.specs.Prelude.{option_and_then}
 use Rattle.std.proofs.lemmas.Bool.{cases_lt}
 use Rattle.std.proofs.lemmas.List.{append-nil}
 use Rattle.ml_text.specs.Grammar.{Grammar}
