@@ -1,5 +1,5 @@
 // The evaluator: the meaning of a formula on a structure, computed as it is defined.
-ghost use Rattle.std.specs.Prelude.{◌≡◌, ◌<◌, ◌&&◌, not, map, zip, replicate, length, [], ◌∷◌, IfOk};
+ghost use Rattle.std.specs.Prelude.{◌≡◌, ◌<◌, ◌&&◌, not, map, zip, replicate, length, [], ◌∷◌, All, IfOk, OnOk};
 ghost use Rattle.std.specs.Str.{bytes_eq};
 ghost use Rattle.ml_lists.specs.Iterate.{iterate};
 ghost use Rattle.ml_base.specs.Structure as kripke;
@@ -270,7 +270,7 @@ fn truth_of(operator: Operator, left: bool, right: bool) -> bool
     }
 }
 
-// the states with an edge by the action into the set
+// the states with an edge by the action into the set; whoever asks also learns what the type of structures keeps
 fn diamond(
     alloc: Global,
     structure: &Structure,
@@ -280,6 +280,7 @@ fn diamond(
     requires { length set.now ≡ structure.now.states }
     ensures value { IfOk result (λ states. states.items ≡ mean.modal structure.now plain.Diamond action.now set.now) }
     ensures flags { IfOk result (λ states. length states.items ≡ structure.now.states) }
+    ensures ends { OnOk result (All (λ edge. edge.target < structure.now.states) structure.now.edges) }
 {
     let mut states = constant(alloc, structure.states(), false)?;
     for edge in structure.edges() {
@@ -301,13 +302,9 @@ fn square(
     ensures value { IfOk result (λ states. states.items ≡ mean.modal structure.now plain.Square action.now set.now) }
     ensures flags { IfOk result (λ states. length states.items ≡ structure.now.states) }
 {
-    let mut states = constant(alloc, structure.states(), true)?;
-    for edge in structure.edges() {
-        if leads_out_of(edge, action, set) {
-            states[edge.source as usize] = false;
-        }
-    }
-    Ok(states)
+    let outside = complement(alloc, set)?;
+    let leaving = diamond(alloc, structure, action, &outside)?;
+    complement(alloc, &leaving)
 }
 
 fn leads_into(edge: &Edge, action: &Action, set: &[bool]) -> bool
@@ -315,11 +312,4 @@ fn leads_into(edge: &Edge, action: &Action, set: &[bool]) -> bool
     ensures { result ≡ (bytes_eq edge.now.action action.now && kripke.is_member set.now edge.now.target) }
 {
     edge.action.bytes() == action.bytes() && set[edge.target as usize]
-}
-
-fn leads_out_of(edge: &Edge, action: &Action, set: &[bool]) -> bool
-    requires { edge.now.target < length set.now }
-    ensures { result ≡ (bytes_eq edge.now.action action.now && not (kripke.is_member set.now edge.now.target)) }
-{
-    edge.action.bytes() == action.bytes() && !set[edge.target as usize]
 }

@@ -26,3 +26,6 @@ loop-edge-preserved c =
           c.loop-edge.states.items c.loop-edge-test.true
           c.edge-item.is (sym c.leads_into.ensures ∙ w.if-leads_into.false) c.loop-edge.invariant
     ]
+
+pub returns-clause-ends : goal.returns-clause-ends
+returns-clause-ends c = λ k d low. (c.states.ensures.is_structure.joins_states k d low).1
