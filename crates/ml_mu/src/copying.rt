@@ -21,6 +21,7 @@ pub fn copy(alloc: Global, formula: &Formula) -> Result<Formula, NoMemory>
     Ok(Formula::new(root))
 }
 
+#[cycle(copier)]
 fn copy_term(alloc: Global, term: &Term) -> Result<Term, NoMemory>
     ensures { IfOk result (λ copied. formula_of copied ≡ formula_of term.now) }
 {
@@ -28,40 +29,62 @@ fn copy_term(alloc: Global, term: &Term) -> Result<Term, NoMemory>
         Term::Const(value) => Ok(Term::Const(*value)),
         Term::Prop(name) => Ok(Term::Prop(name.copy()?)),
         Term::Var(name) => Ok(Term::Var(name.copy()?)),
-        Term::Not(operand) => Ok(Term::Not(Box::new(alloc, copy_term(alloc, operand)?)?)),
-        Term::And(left, right) => Ok(Term::And(
-            Box::new(alloc, copy_term(alloc, left)?)?,
-            Box::new(alloc, copy_term(alloc, right)?)?,
-        )),
-        Term::Or(left, right) => Ok(Term::Or(
-            Box::new(alloc, copy_term(alloc, left)?)?,
-            Box::new(alloc, copy_term(alloc, right)?)?,
-        )),
-        Term::Implies(left, right) => Ok(Term::Implies(
-            Box::new(alloc, copy_term(alloc, left)?)?,
-            Box::new(alloc, copy_term(alloc, right)?)?,
-        )),
-        Term::Iff(left, right) => Ok(Term::Iff(
-            Box::new(alloc, copy_term(alloc, left)?)?,
-            Box::new(alloc, copy_term(alloc, right)?)?,
-        )),
-        Term::Diamond(action, operand) => Ok(Term::Diamond(
-            action.copy()?,
-            Box::new(alloc, copy_term(alloc, operand)?)?,
-        )),
-        Term::Square(action, operand) => Ok(Term::Square(
-            action.copy()?,
-            Box::new(alloc, copy_term(alloc, operand)?)?,
-        )),
-        Term::Mu(name, body) => Ok(Term::Mu(
-            name.copy()?,
-            Box::new(alloc, copy_term(alloc, body)?)?,
-        )),
-        Term::Nu(name, body) => Ok(Term::Nu(
-            name.copy()?,
-            Box::new(alloc, copy_term(alloc, body)?)?,
-        )),
+        Term::Not(operand) => Ok(Term::Not(copy_operand(alloc, operand)?)),
+        Term::And(left, right) => {
+            let (left, right) = copy_operands(alloc, left, right)?;
+            Ok(Term::And(left, right))
+        }
+        Term::Or(left, right) => {
+            let (left, right) = copy_operands(alloc, left, right)?;
+            Ok(Term::Or(left, right))
+        }
+        Term::Implies(left, right) => {
+            let (left, right) = copy_operands(alloc, left, right)?;
+            Ok(Term::Implies(left, right))
+        }
+        Term::Iff(left, right) => {
+            let (left, right) = copy_operands(alloc, left, right)?;
+            Ok(Term::Iff(left, right))
+        }
+        Term::Diamond(action, operand) => {
+            let operand = copy_operand(alloc, operand)?;
+            Ok(Term::Diamond(action.copy()?, operand))
+        }
+        Term::Square(action, operand) => {
+            let operand = copy_operand(alloc, operand)?;
+            Ok(Term::Square(action.copy()?, operand))
+        }
+        Term::Mu(name, body) => {
+            let body = copy_operand(alloc, body)?;
+            Ok(Term::Mu(name.copy()?, body))
+        }
+        Term::Nu(name, body) => {
+            let body = copy_operand(alloc, body)?;
+            Ok(Term::Nu(name.copy()?, body))
+        }
     }
+}
+
+#[cycle(copier)]
+fn copy_operand(alloc: Global, operand: &Term) -> Result<Box<Term>, NoMemory>
+    ensures { IfOk result (λ copied. formula_of copied.value ≡ formula_of operand.now) }
+{
+    let copied = copy_term(alloc, operand)?;
+    Ok(Box::new(alloc, copied)?)
+}
+
+#[cycle(copier)]
+fn copy_operands(
+    alloc: Global,
+    left: &Term,
+    right: &Term,
+) -> Result<(Box<Term>, Box<Term>), NoMemory>
+    ensures left { IfOk result (λ copied. formula_of copied.0.value ≡ formula_of left.now) }
+    ensures right { IfOk result (λ copied. formula_of copied.1.value ≡ formula_of right.now) }
+{
+    let left = copy_operand(alloc, left)?;
+    let right = copy_operand(alloc, right)?;
+    Ok((left, right))
 }
 
 /// How many occurrences a formula has, from 1 to 1,000: constants, propositions, variables, operators, modalities and
