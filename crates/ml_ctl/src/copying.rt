@@ -27,47 +27,70 @@ pub fn copy(alloc: Global, formula: &Formula) -> Result<Formula, NoMemory>
 /// `NoMemory` alone.
 ///
 /// Cost: linear in the occurrences and the lengths of the names. No call is nested deeper than the tree.
+#[cycle(copier)]
 pub fn copy_term(alloc: Global, term: &Term) -> Result<Term, NoMemory>
     ensures { IfOk result (λ copied. formula_of copied ≡ formula_of term.now) }
 {
     match term {
         Term::Const(value) => Ok(Term::Const(*value)),
         Term::Prop(name) => Ok(Term::Prop(name.copy()?)),
-        Term::Not(operand) => Ok(Term::Not(Box::new(alloc, copy_term(alloc, operand)?)?)),
-        Term::And(left, right) => Ok(Term::And(
-            Box::new(alloc, copy_term(alloc, left)?)?,
-            Box::new(alloc, copy_term(alloc, right)?)?,
-        )),
-        Term::Or(left, right) => Ok(Term::Or(
-            Box::new(alloc, copy_term(alloc, left)?)?,
-            Box::new(alloc, copy_term(alloc, right)?)?,
-        )),
-        Term::Implies(left, right) => Ok(Term::Implies(
-            Box::new(alloc, copy_term(alloc, left)?)?,
-            Box::new(alloc, copy_term(alloc, right)?)?,
-        )),
-        Term::Iff(left, right) => Ok(Term::Iff(
-            Box::new(alloc, copy_term(alloc, left)?)?,
-            Box::new(alloc, copy_term(alloc, right)?)?,
-        )),
-        Term::Next(operand) => Ok(Term::Next(Box::new(alloc, copy_term(alloc, operand)?)?)),
-        Term::Until(left, right) => Ok(Term::Until(
-            Box::new(alloc, copy_term(alloc, left)?)?,
-            Box::new(alloc, copy_term(alloc, right)?)?,
-        )),
-        Term::Release(left, right) => Ok(Term::Release(
-            Box::new(alloc, copy_term(alloc, left)?)?,
-            Box::new(alloc, copy_term(alloc, right)?)?,
-        )),
-        Term::Finally(operand) => Ok(Term::Finally(Box::new(alloc, copy_term(alloc, operand)?)?)),
-        Term::Globally(operand) => Ok(Term::Globally(Box::new(alloc, copy_term(alloc, operand)?)?)),
-        Term::Weak(left, right) => Ok(Term::Weak(
-            Box::new(alloc, copy_term(alloc, left)?)?,
-            Box::new(alloc, copy_term(alloc, right)?)?,
-        )),
-        Term::Exists(operand) => Ok(Term::Exists(Box::new(alloc, copy_term(alloc, operand)?)?)),
-        Term::Forall(operand) => Ok(Term::Forall(Box::new(alloc, copy_term(alloc, operand)?)?)),
+        Term::Not(operand) => Ok(Term::Not(copy_operand(alloc, operand)?)),
+        Term::And(left, right) => {
+            let (left, right) = copy_operands(alloc, left, right)?;
+            Ok(Term::And(left, right))
+        }
+        Term::Or(left, right) => {
+            let (left, right) = copy_operands(alloc, left, right)?;
+            Ok(Term::Or(left, right))
+        }
+        Term::Implies(left, right) => {
+            let (left, right) = copy_operands(alloc, left, right)?;
+            Ok(Term::Implies(left, right))
+        }
+        Term::Iff(left, right) => {
+            let (left, right) = copy_operands(alloc, left, right)?;
+            Ok(Term::Iff(left, right))
+        }
+        Term::Next(operand) => Ok(Term::Next(copy_operand(alloc, operand)?)),
+        Term::Until(left, right) => {
+            let (left, right) = copy_operands(alloc, left, right)?;
+            Ok(Term::Until(left, right))
+        }
+        Term::Release(left, right) => {
+            let (left, right) = copy_operands(alloc, left, right)?;
+            Ok(Term::Release(left, right))
+        }
+        Term::Finally(operand) => Ok(Term::Finally(copy_operand(alloc, operand)?)),
+        Term::Globally(operand) => Ok(Term::Globally(copy_operand(alloc, operand)?)),
+        Term::Weak(left, right) => {
+            let (left, right) = copy_operands(alloc, left, right)?;
+            Ok(Term::Weak(left, right))
+        }
+        Term::Exists(operand) => Ok(Term::Exists(copy_operand(alloc, operand)?)),
+        Term::Forall(operand) => Ok(Term::Forall(copy_operand(alloc, operand)?)),
     }
+}
+
+#[cycle(copier)]
+fn copy_operand(alloc: Global, operand: &Term) -> Result<Box<Term>, NoMemory>
+    ensures { IfOk result (λ copied. formula_of copied.value ≡ formula_of operand.now) }
+{
+    let copied = copy_term(alloc, operand)?;
+    Ok(Box::new(alloc, copied)?)
+}
+
+#[cycle(copier)]
+fn copy_operands(
+    alloc: Global,
+    left: &Term,
+    right: &Term,
+) -> Result<(Box<Term>, Box<Term>), NoMemory>
+    ensures left { IfOk result (λ copied. formula_of copied.0.value ≡ formula_of left.now) }
+    ensures right { IfOk result (λ copied. formula_of copied.1.value ≡ formula_of right.now) }
+{
+    let left = copy_operand(alloc, left)?;
+    let right = copy_operand(alloc, right)?;
+    Ok((left, right))
 }
 
 /// How many occurrences a formula has, from 1 to 1,000: constants, propositions, operators and quantifiers, where an iff

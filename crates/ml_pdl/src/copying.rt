@@ -28,33 +28,55 @@ fn copy_term(alloc: Global, term: &Term) -> Result<Term, NoMemory>
     match term {
         Term::Const(value) => Ok(Term::Const(*value)),
         Term::Prop(name) => Ok(Term::Prop(name.copy()?)),
-        Term::Not(operand) => Ok(Term::Not(Box::new(alloc, copy_term(alloc, operand)?)?)),
-        Term::And(left, right) => Ok(Term::And(
-            Box::new(alloc, copy_term(alloc, left)?)?,
-            Box::new(alloc, copy_term(alloc, right)?)?,
-        )),
-        Term::Or(left, right) => Ok(Term::Or(
-            Box::new(alloc, copy_term(alloc, left)?)?,
-            Box::new(alloc, copy_term(alloc, right)?)?,
-        )),
-        Term::Implies(left, right) => Ok(Term::Implies(
-            Box::new(alloc, copy_term(alloc, left)?)?,
-            Box::new(alloc, copy_term(alloc, right)?)?,
-        )),
-        Term::Iff(left, right) => Ok(Term::Iff(
-            Box::new(alloc, copy_term(alloc, left)?)?,
-            Box::new(alloc, copy_term(alloc, right)?)?,
-        )),
-        Term::Diamond(program, operand) => Ok(Term::Diamond(
-            Box::new(alloc, copy_program(alloc, program)?)?,
-            Box::new(alloc, copy_term(alloc, operand)?)?,
-        )),
-        Term::Square(program, operand) => Ok(Term::Square(
-            Box::new(alloc, copy_program(alloc, program)?)?,
-            Box::new(alloc, copy_term(alloc, operand)?)?,
-        )),
-        Term::Repeat(program) => Ok(Term::Repeat(Box::new(alloc, copy_program(alloc, program)?)?)),
+        Term::Not(operand) => Ok(Term::Not(copy_operand(alloc, operand)?)),
+        Term::And(left, right) => {
+            let (left, right) = copy_operands(alloc, left, right)?;
+            Ok(Term::And(left, right))
+        }
+        Term::Or(left, right) => {
+            let (left, right) = copy_operands(alloc, left, right)?;
+            Ok(Term::Or(left, right))
+        }
+        Term::Implies(left, right) => {
+            let (left, right) = copy_operands(alloc, left, right)?;
+            Ok(Term::Implies(left, right))
+        }
+        Term::Iff(left, right) => {
+            let (left, right) = copy_operands(alloc, left, right)?;
+            Ok(Term::Iff(left, right))
+        }
+        Term::Diamond(program, operand) => {
+            let program = copy_part(alloc, program)?;
+            Ok(Term::Diamond(program, copy_operand(alloc, operand)?))
+        }
+        Term::Square(program, operand) => {
+            let program = copy_part(alloc, program)?;
+            Ok(Term::Square(program, copy_operand(alloc, operand)?))
+        }
+        Term::Repeat(program) => Ok(Term::Repeat(copy_part(alloc, program)?)),
     }
+}
+
+#[cycle(copier)]
+fn copy_operand(alloc: Global, operand: &Term) -> Result<Box<Term>, NoMemory>
+    ensures { IfOk result (λ copied. formula_of copied.value ≡ formula_of operand.now) }
+{
+    let copied = copy_term(alloc, operand)?;
+    Ok(Box::new(alloc, copied)?)
+}
+
+#[cycle(copier)]
+fn copy_operands(
+    alloc: Global,
+    left: &Term,
+    right: &Term,
+) -> Result<(Box<Term>, Box<Term>), NoMemory>
+    ensures left { IfOk result (λ copied. formula_of copied.0.value ≡ formula_of left.now) }
+    ensures right { IfOk result (λ copied. formula_of copied.1.value ≡ formula_of right.now) }
+{
+    let left = copy_operand(alloc, left)?;
+    let right = copy_operand(alloc, right)?;
+    Ok((left, right))
 }
 
 #[cycle(copier)]
@@ -63,20 +85,39 @@ fn copy_program(alloc: Global, program: &Program) -> Result<Program, NoMemory>
 {
     match program {
         Program::Act(action) => Ok(Program::Act(action.copy()?)),
-        Program::Seq(left, right) => Ok(Program::Seq(
-            Box::new(alloc, copy_program(alloc, left)?)?,
-            Box::new(alloc, copy_program(alloc, right)?)?,
-        )),
-        Program::Alt(left, right) => Ok(Program::Alt(
-            Box::new(alloc, copy_program(alloc, left)?)?,
-            Box::new(alloc, copy_program(alloc, right)?)?,
-        )),
-        Program::Star(operand) => Ok(Program::Star(Box::new(
-            alloc,
-            copy_program(alloc, operand)?,
-        )?)),
-        Program::Test(formula) => Ok(Program::Test(Box::new(alloc, copy_term(alloc, formula)?)?)),
+        Program::Seq(left, right) => {
+            let (left, right) = copy_parts(alloc, left, right)?;
+            Ok(Program::Seq(left, right))
+        }
+        Program::Alt(left, right) => {
+            let (left, right) = copy_parts(alloc, left, right)?;
+            Ok(Program::Alt(left, right))
+        }
+        Program::Star(operand) => Ok(Program::Star(copy_part(alloc, operand)?)),
+        Program::Test(formula) => Ok(Program::Test(copy_operand(alloc, formula)?)),
     }
+}
+
+#[cycle(copier)]
+fn copy_part(alloc: Global, part: &Program) -> Result<Box<Program>, NoMemory>
+    ensures { IfOk result (λ copied. program_of copied.value ≡ program_of part.now) }
+{
+    let copied = copy_program(alloc, part)?;
+    Ok(Box::new(alloc, copied)?)
+}
+
+#[cycle(copier)]
+fn copy_parts(
+    alloc: Global,
+    left: &Program,
+    right: &Program,
+) -> Result<(Box<Program>, Box<Program>), NoMemory>
+    ensures left { IfOk result (λ copied. program_of copied.0.value ≡ program_of left.now) }
+    ensures right { IfOk result (λ copied. program_of copied.1.value ≡ program_of right.now) }
+{
+    let left = copy_part(alloc, left)?;
+    let right = copy_part(alloc, right)?;
+    Ok((left, right))
 }
 
 /// How many occurrences a formula has, from 1 to 1,000: constants, propositions, operators, modalities, repetitions, and
