@@ -8,7 +8,7 @@ use Rattle.std.proofs.Common.{ℕ, ◌≡◌, Bool, true, List, [], ◌∷◌, �
 use Rattle.std.specs.List.{IsDistinct}
 use Rattle.ml_text.proofs.NameLists.{is_among}
 use Rattle.ml_ctl.specs.Formula.{Formula}
-use Rattle.ml_graph.specs.Graph.{Graph, IsGraph}
+use Rattle.ml_graph.specs.Graph.{Graph}
 use Rattle.ml_graph.specs.declared.node.Node.{Node}
 use Rattle.ml_nodes.proofs.InRange.{none_twice}
 use Rattle.ml_blocks.specs.BlockGraph.{IsGraphAt}
@@ -92,22 +92,21 @@ module _ (f : Formula) (first : Option Bool) (sign : Bool) (max : ℕ) (names : 
     abbrev graph : Graph
     graph = record { nodes = vs; priorities = ps; root = 0; props = names; actions = codes "_" ∷ [] }
 
-    pub is_made : IsGraph graph
-    is_made = made_graph K start begin starts begin_fits max xs vs ps D all (names_differ names f names_are)
-
-    pub graph_made : IsGraphAt graph start
-    graph_made = record {
-      is_graph = is_made;
+    is_made : IsGraphAt graph start
+    is_made = record {
+      is_graph = made_graph K start begin starts begin_fits max xs vs ps D all (names_differ names f names_are);
       is_numbered = (_, numbered K start begin starts begin_fits max xs vs ps D all);
     }
 
     -- the same of the lists that a program holds
-    pub made_of : (g : Graph)
+    pub graph_made : (g : Graph)
         → g.nodes ≡ vs
         → g.priorities ≡ ps
         → g.root ≡ 0
         → g.props ≡ names
         → g.actions ≡ codes "_" ∷ []
-        → g ≡ graph
-    made_of g nodes priorities root props actions =
-        λ i. record { nodes = nodes i; priorities = priorities i; root = root i; props = props i; actions = actions i }
+        → IsGraphAt g start
+    graph_made g nodes priorities root props actions =
+        let same : graph ≡ g =
+        sym (λ i. record { nodes = nodes i; priorities = priorities i; root = root i; props = props i; actions = actions i }) in
+        subst (λ h. IsGraphAt h start) same is_made

@@ -169,32 +169,23 @@ module _ (K : Kept) (start : Place) where
   state_same n (Not f) o sign s =
       ap (λ h. node.And (node.Holding (n + 1) h (not sign)) (node.Holding (n + 1) h (not sign)))
       (formula_is K (n + 1) f None (of_not K n f o s))
-  state_same n (Binary op f g) o sign s = by_operator op s
+  state_same n (Binary op f g) o sign s =
+      by_operator op
+      (connective_is K.names K.formulas start op sign n (n + weight op) (n + weight op + occurrences f) f g
+      (formula_is K (n + weight op) f None (of_left K op n f g o s))
+      (formula_is K (n + weight op + occurrences f) g None (of_right K op n f g o s))
+      (formula_is K n (Binary op f g) o s))
     where
       by_operator : (op : Operator)
-          → Stands K n (Binary op f g) o
+          → view (connective_form op sign n (n + weight op) (n + weight op + occurrences f))
+          ≡ form_of_connective op sign (node.Holding (n + weight op) f) (node.Holding (n + weight op + occurrences f) g)
+          (node.Both (n + 1) f g) (node.Neither (n + 2) f g)
           → view (connective_form op sign n (n + weight op) (n + weight op + occurrences f))
           ≡ form_of_formula n (Binary op f g) sign
-      by_operator operator.And s =
-          connective_is K.names K.formulas start operator.And sign n (n + 1) (n + 1 + occurrences f) f g
-          (formula_is K (n + 1) f None (of_left K operator.And n f g o s))
-          (formula_is K (n + 1 + occurrences f) g None (of_right K operator.And n f g o s))
-          (formula_is K n (Binary operator.And f g) o s)
-      by_operator operator.Or s =
-          connective_is K.names K.formulas start operator.Or sign n (n + 1) (n + 1 + occurrences f) f g
-          (formula_is K (n + 1) f None (of_left K operator.Or n f g o s))
-          (formula_is K (n + 1 + occurrences f) g None (of_right K operator.Or n f g o s))
-          (formula_is K n (Binary operator.Or f g) o s)
-      by_operator operator.Implies s =
-          connective_is K.names K.formulas start operator.Implies sign n (n + 1) (n + 1 + occurrences f) f g
-          (formula_is K (n + 1) f None (of_left K operator.Implies n f g o s))
-          (formula_is K (n + 1 + occurrences f) g None (of_right K operator.Implies n f g o s))
-          (formula_is K n (Binary operator.Implies f g) o s)
-      by_operator operator.Iff s =
-          connective_is K.names K.formulas start operator.Iff sign n (n + 3) (n + 3 + occurrences f) f g
-          (formula_is K (n + 3) f None (of_left K operator.Iff n f g o s))
-          (formula_is K (n + 3 + occurrences f) g None (of_right K operator.Iff n f g o s))
-          (formula_is K n (Binary operator.Iff f g) o s)
+      by_operator operator.And is = is
+      by_operator operator.Or is = is
+      by_operator operator.Implies is = is
+      by_operator operator.Iff is = is
   state_same n (Quantified formula.Exists f) o sign s =
       ap (λ h. let p = node.block_of (now (n + 1) h true) sign in node.And p p)
       (formula_is K (n + 1) f (Some true) (of_quantifier K formula.Exists n f o s))

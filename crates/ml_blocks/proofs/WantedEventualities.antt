@@ -19,6 +19,9 @@ use Rattle.ml_blocks.specs.Items.{Item, now, is_least}
 use Rattle.ml_blocks.specs.ItemSets.{key, items_within, eventualities}
 use Rattle.ml_blocks.specs.private.Occurrences.{wanted, own_tense, own_pairing, eventualities_here}
 
+false_true : false ≡ true → ⊥
+false_true e = cc
+
 -- the keys of eventualities among items
 abbrev keys_of : List Item → List ℕ
 keys_of xs = map key (filter is_least xs)
@@ -128,17 +131,11 @@ module _ (k i : ℕ) (f g : Formula) where
   tense_from plain.Finally true minus (inl (e, inl is)) = inl (omega (arith, is))
   tense_from plain.Finally true minus (inl (e, inr none)) = absurd none
   tense_from plain.Finally false minus (inl m) = absurd (false_true m.0)
-    where
-      false_true : false ≡ true → ⊥
-      false_true e = cc
   tense_from plain.Finally true minus (inr m) = absurd m.1
   tense_from plain.Finally false minus (inr m) = m.1
   tense_from plain.Globally plus true (inr (e, inl is)) = inl (omega (arith, is))
   tense_from plain.Globally plus true (inr (e, inr none)) = absurd none
   tense_from plain.Globally plus false (inr m) = absurd (false_true m.0)
-    where
-      false_true : false ≡ true → ⊥
-      false_true e = cc
   tense_from plain.Globally plus true (inl m) = absurd m.1
   tense_from plain.Globally plus false (inl m) = m.1
 
@@ -162,25 +159,16 @@ module _ (k i : ℕ) (f g : Formula) where
   pairing_from plain.Until true minus (inl (e, inr none)) = absurd none
   pairing_from plain.Until true minus (inr m) = absurd m.1
   pairing_from plain.Until false minus (inl m) = absurd (false_true m.0)
-    where
-      false_true : false ≡ true → ⊥
-      false_true e = cc
   pairing_from plain.Until false minus (inr m) = m.1
   pairing_from plain.Release plus true (inr (e, inl is)) = inl (omega (arith, is))
   pairing_from plain.Release plus true (inr (e, inr none)) = absurd none
   pairing_from plain.Release plus true (inl m) = absurd m.1
   pairing_from plain.Release plus false (inr m) = absurd (false_true m.0)
-    where
-      false_true : false ≡ true → ⊥
-      false_true e = cc
   pairing_from plain.Release plus false (inl m) = m.1
   pairing_from plain.Weak plus true (inr (e, inl is)) = inl (omega (arith, is))
   pairing_from plain.Weak plus true (inr (e, inr none)) = absurd none
   pairing_from plain.Weak plus true (inl m) = absurd m.1
   pairing_from plain.Weak plus false (inr m) = absurd (false_true m.0)
-    where
-      false_true : false ≡ true → ⊥
-      false_true e = cc
   pairing_from plain.Weak plus false (inl m) = m.1
 
 -- ---- all that is gathered

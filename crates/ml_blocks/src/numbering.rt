@@ -122,23 +122,6 @@ fn started(alloc: Global, max: u32) -> Result<Draft, BlockRefusal>
     })
 }
 
-// what a node is, and its priority
-fn look(
-    alloc: Global,
-    table: &Table,
-    first: Option<bool>,
-    positive: bool,
-    spot: &Spot,
-) -> Result<(Form, u32), NoMemory>
-    ensures form { IfOk result (λ r. r.0 ≡ forms.form_in table.now.occurrences.items
-        (listed.lists_of table.now.eventualities.items) (forms.start_in first positive) spot.now) }
-    ensures priority { IfOk result (λ r. r.1 ≡ forms.priority_in table.now.occurrences.items
-        (listed.lists_of table.now.eventualities.items) spot.now) }
-{
-    let (form, priority) = form_of(alloc, table, first, positive, spot)?;
-    Ok((form, priority))
-}
-
 // a node behind the others, with its priority
 fn keep(
     nodes: &mut Vec<Node>,
@@ -173,7 +156,7 @@ fn step(
         (length draft.old.nodes.items) }
 {
     let spot = &draft.spots.as_slice()[draft.nodes.len()];
-    let (form, priority) = look(alloc, table, first, positive, spot)?;
+    let (form, priority) = form_of(alloc, table, first, positive, spot)?;
     let node = node_of(&mut draft.spots, form, max)?;
     keep(&mut draft.nodes, &mut draft.priorities, node, priority)?;
     Ok(())

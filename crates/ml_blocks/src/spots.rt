@@ -7,6 +7,7 @@ ghost use Rattle.ml_blocks.specs.declared.spots.Spot.TheVariants as spot;
 use crate::items::{Asked, Items, others, put, put_few};
 use crate::rows::{Row, is_next, row_of};
 use crate::table::{Symbol, Table};
+use ml_base::NoMemory;
 use ml_text::Operator;
 use std::alloc::{AllocError, Global};
 
@@ -346,7 +347,7 @@ pub(crate) fn form_of(
     first: Option<bool>,
     positive: bool,
     spot: &Spot,
-) -> Result<(Form, u32), AllocError>
+) -> Result<(Form, u32), NoMemory>
     ensures form { IfOk result (λ r. r.0 ≡ forms.form_in table.now.occurrences.items
         (listed.lists_of table.now.eventualities.items) (forms.start_in first positive) spot.now) }
     ensures priority { IfOk result (λ r. r.1 ≡ forms.priority_in table.now.occurrences.items
@@ -358,6 +359,6 @@ pub(crate) fn form_of(
             fixed_priority(*fixed),
         )),
         Spot::State(part, at, sign) => Ok((state_form(alloc, table, *part, *at, *sign)?, 2)),
-        Spot::Path(block) => block_form(alloc, table, block),
+        Spot::Path(block) => Ok(block_form(alloc, table, block)?),
     }
 }

@@ -13,11 +13,10 @@ use Rattle.ml_mu.specs.Formula.{Formula, Const, Prop, Var, Not, Binary, Modal, B
 use Rattle.ml_nodes.specs.Nodes.{negative, positive}
 use Rattle.ml_mu_graph.specs.MuGraph.{binders, dual, modality}
 use Rattle.ml_nodes.specs.private.Connectives.{operator_nodes}
-use Rattle.ml_nodes.proofs.InRange.{AllFit, both_fit, constant_fits, Fits, fitting_graph, none_twice, one, operator_fits, two}
+use Rattle.ml_nodes.proofs.InRange.{AllFit, both_fit, constant_fits, Fits, fitting_graph, led_fit, none_twice, one, operator_fits, two}
 use Rattle.ml_mu_graph.specs.private.NodeList.{bound, nodes_of, priorities_of, props_onto, actions_onto}
 use Rattle.ml_mu_graph.specs.private.Views.{none_around}
-use Rattle.ml_mu_graph.proofs.Made.{names_among}
-use Rattle.ml_mu_graph.proofs.NameLists.{AreAmong, distinct_actions, distinct_props}
+use Rattle.ml_mu_graph.proofs.NameLists.{AreAmong, distinct_actions, distinct_props, names_among}
 use Rattle.ml_mu_graph.proofs.NodeLists.{length-nodes, length-priorities, one_symbol}
 
 module _ (n : ℕ) (ps acts : List (List ℕ)) where
@@ -47,18 +46,13 @@ module _ (n : ℕ) (ps acts : List (List ℕ)) where
       let found = place_found ps p among in
       (one (place_of ps p) (length ps) found.below, (one (place_of ps p) (length ps) found.below, tt))
   nodes_fit b i (Var x) among room around =
-      let low = around x in (
-        two (positive (b x)) n (positive (b x)) n (omega (arith, low)) (omega (arith, low)),
-        (two (negative (b x)) n (negative (b x)) n (omega (arith, low)) (omega (arith, low)), tt),
-      )
+      let low = around x in
+      led_fit n ps acts (positive (b x)) (negative (b x)) [] (omega (arith, low)) (omega (arith, low)) tt
   nodes_fit b i (Not f) among room around =
-      let some = one_symbol f in (
-        two (negative (i + 1)) n (negative (i + 1)) n (omega (arith, room, some)) (omega (arith, room, some)),
-        (
-          two (positive (i + 1)) n (positive (i + 1)) n (omega (arith, room, some)) (omega (arith, room, some)),
-          nodes_fit b (i + 1) f among (omega (arith, room)) around,
-        ),
-      )
+      let some = one_symbol f in
+      led_fit n ps acts (negative (i + 1)) (positive (i + 1)) (nodes_of ps acts b (i + 1) f)
+      (omega (arith, room, some)) (omega (arith, room, some))
+      (nodes_fit b (i + 1) f among (omega (arith, room)) around)
   nodes_fit b i (Binary op f h) among room around =
       let l = i + weight op in
       let r = l + occurrences f in
@@ -78,14 +72,11 @@ module _ (n : ℕ) (ps acts : List (List ℕ)) where
         ),
       )
   nodes_fit b i (Binder q x f) among room around =
-      let some = one_symbol f in (
-        two (positive (i + 1)) n (positive (i + 1)) n (omega (arith, room, some)) (omega (arith, room, some)),
-        (
-          two (negative (i + 1)) n (negative (i + 1)) n (omega (arith, room, some)) (omega (arith, room, some)),
-          nodes_fit (bound x i b) (i + 1) f among (omega (arith, room))
-              (one_more x i b (omega (arith, room, some)) around),
-        ),
-      )
+      let some = one_symbol f in
+      led_fit n ps acts (positive (i + 1)) (negative (i + 1)) (nodes_of ps acts (bound x i b) (i + 1) f)
+      (omega (arith, room, some)) (omega (arith, room, some))
+      (nodes_fit (bound x i b) (i + 1) f among (omega (arith, room))
+      (one_more x i b (omega (arith, room, some)) around))
 
 pub lists_make_graph : (g : Graph) (f : Formula) (negated : Bool)
     → g.props ≡ props_onto f []

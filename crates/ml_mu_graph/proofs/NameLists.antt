@@ -1,8 +1,9 @@
 -- The names of a formula, each once.
 --
 --   props_among, actions_among == the names that were there stay
+--   names_among            == the names of a formula are among those that are collected of it
 --   names_in               == each name of a formula is at its place
-use Rattle.std.proofs.Common.{◌≡◌, ℕ, ◌+◌, ◌≤◌, true, List, length, arith, bytes_eq}
+use Rattle.std.proofs.Common.{◌≡◌, ℕ, ◌+◌, ◌≤◌, true, List, [], length, sym, subst, arith, bytes_eq}
 use Rattle.std.specs.List.{IsDistinct}
 use Rattle.ml_text.specs.NameLists.{with_name}
 use Rattle.ml_text.proofs.NameLists.{is_among, kept_among, added_among, Covers, distinct_with, place_found, with_length}
@@ -93,6 +94,14 @@ names_in (Not f) ps acts is = names_in f ps acts is
 names_in (Binary op f h) ps acts is = (names_in f ps acts is.0, names_in h ps acts is.1)
 names_in (Modal m a f) ps acts is = ((place_found acts a is.0).named, names_in f ps acts is.1)
 names_in (Binder q x f) ps acts is = names_in f ps acts is
+
+pub names_among : (f : Formula) (ps acts : List (List ℕ))
+    → ps ≡ props_onto f []
+    → acts ≡ actions_onto f []
+    → AreAmong ps acts f
+names_among f ps acts there here =
+    all_among f [] [] ps acts
+    (λ p is. subst (λ qs. is_among qs p ≡ true) (sym there) is) (λ p is. subst (λ qs. is_among qs p ≡ true) (sym here) is)
 
 -- no more names than symbols
 pub few_props : (f : Formula) (ps : List (List ℕ)) → length (props_onto f ps) ≤ length ps + occurrences f

@@ -13,9 +13,9 @@ use Rattle.ml_text.specs.Operators.{weight}
 use Rattle.ml_text.specs.NameLists.{place_of}
 use Rattle.ml_mu.specs.Formula.{Formula, Const, Prop, Var, Not, Binary, Modal, Binder, occurrences}
 use Rattle.ml_mu_graph.specs.MuGraph.{Around, binder_of, binder_priority, opposite, StandsAt}
-use Rattle.ml_nodes.specs.private.Connectives.{operator_nodes, operator_priorities}
+use Rattle.ml_nodes.specs.private.Connectives.{operator_nodes}
 use Rattle.ml_mu_graph.specs.private.NodeList.{operator_holes, bound, nodes_of, priorities_of}
-use Rattle.ml_nodes.proofs.Connectives.{length-operator, length-operator_priorities}
+use Rattle.ml_nodes.proofs.Connectives.{length-operator, length-operator_priorities, length-parts}
 use Rattle.ml_nodes.proofs.StandingLists.{Stand, Parts, joined, pair, parts}
 
 pub length-nodes : (ps acts : List (List ℕ)) (b : List ℕ → ℕ) (i : ℕ) (f : Formula)
@@ -27,14 +27,8 @@ length-nodes ps acts b i (Not f) = omega (arith, length-nodes ps acts b (i + 1) 
 length-nodes ps acts b i (Binary op f h) =
     let l = i + weight op in
     let r = l + occurrences f in
-    omega (
-      arith,
-      length-append (operator_nodes op i l r) (nodes_of ps acts b l f ++ nodes_of ps acts b r h),
-      length-append (nodes_of ps acts b l f) (nodes_of ps acts b r h),
-      length-operator op i l r,
-      length-nodes ps acts b l f,
-      length-nodes ps acts b r h,
-    )
+    let operands = length-parts _ _ _ _ (length-nodes ps acts b l f) (length-nodes ps acts b r h) in
+    omega (arith, length-parts _ _ _ _ (length-operator op i l r) operands)
 length-nodes ps acts b i (Modal m a f) = omega (arith, length-nodes ps acts b (i + 1) f)
 length-nodes ps acts b i (Binder q x f) = omega (arith, length-nodes ps acts (bound x i b) (i + 1) f)
 
@@ -44,14 +38,8 @@ length-priorities k d (Prop p) = refl
 length-priorities k d (Var x) = refl
 length-priorities k d (Not f) = omega (arith, length-priorities k d f)
 length-priorities k d (Binary op f h) =
-    omega (
-      arith,
-      length-append (operator_priorities op k) (priorities_of k d f ++ priorities_of k d h),
-      length-append (priorities_of k d f) (priorities_of k d h),
-      length-operator_priorities op k,
-      length-priorities k d f,
-      length-priorities k d h,
-    )
+    let operands = length-parts _ _ _ _ (length-priorities k d f) (length-priorities k d h) in
+    omega (arith, length-parts _ _ _ _ (length-operator_priorities op k) operands)
 length-priorities k d (Modal m a f) = omega (arith, length-priorities k d f)
 length-priorities k d (Binder q x f) = omega (arith, length-priorities k (d + 1) f)
 
@@ -139,15 +127,8 @@ left_placed old opened after op at w ps acts b f start holes is_weight is =
     record {
       nodes = nodes;
       size =
-          omega (
-            arith,
-            ap length nodes,
-            length-append (old ++ operator_holes op) left,
-            length-append old (operator_holes op),
-            length-holes op,
-            length-nodes ps acts b (at + weight op) f,
-            start,
-          );
+          ap length nodes
+          ∙ length-parts _ _ _ _ (length-parts _ _ _ _ start (length-holes op)) (length-nodes ps acts b (at + weight op) f);
     }
 
 -- the connective's own nodes are written over its holes, once the right operand h is placed too

@@ -337,13 +337,7 @@ fn lists_of(alloc: Global, term: &Term) -> Result<Lists, NoMemory>
         0,
         term,
     )?;
-    let (props, actions) = names.into_lists(alloc)?;
-    Ok(Lists {
-        nodes: draft.nodes,
-        priorities: draft.priorities,
-        props,
-        actions,
-    })
+    Ok(Lists::of(alloc, draft, names)?)
 }
 
 /// The modal graph of a formula, or of its negation: it holds exactly where the formula does, or doesn't.

@@ -1,8 +1,9 @@
 -- How long the lists of a connective are.
 --
 --   length-operator, length-operator_priorities == two for each occurrence
+--   length-parts == of two parts behind one another, where each part has two for each of its occurrences
 --   one_weight == a connective has an occurrence
-use Rattle.std.proofs.Common.{◌≡◌, ℕ, ◌*◌, ◌≤◌, length, refl, arith}
+use Rattle.std.proofs.Common.{◌≡◌, ℕ, ◌+◌, ◌*◌, ◌≤◌, List, ◌++◌, length, length-append, refl, arith}
 use Rattle.ml_text.specs.Operators.{weight}
 use Rattle.ml_text.specs.declared.token.Operator.{Operator}
 use Rattle.ml_text.specs.declared.token.Operator.TheVariants as operator
@@ -19,6 +20,12 @@ length-operator_priorities operator.And k = refl
 length-operator_priorities operator.Or k = refl
 length-operator_priorities operator.Implies k = refl
 length-operator_priorities operator.Iff k = refl
+
+pub length-parts : {A : Type 0} (xs ys : List A) (m n : ℕ)
+    → length xs ≡ 2 * m
+    → length ys ≡ 2 * n
+    → length (xs ++ ys) ≡ 2 * (m + n)
+length-parts xs ys m n left right = omega (arith, length-append xs ys, left, right)
 
 pub one_weight : (op : Operator) → 1 ≤ weight op
 one_weight operator.And = omega arith

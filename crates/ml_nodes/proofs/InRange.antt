@@ -4,6 +4,7 @@
 --   Fits n ps acts x == the numbers of the node x are in range, among n nodes and these names
 --   AllFit n ps acts xs == so are those of each of these nodes
 --   one, two         == one number that is in range, and two
+--   led_fit          == two nodes that only lead on fit, and others behind them, where they lead to nodes
 --   operator_fits    == the nodes of a connective fit, where those of its operands are nodes
 --   none_twice       == no name stands twice among none
 --   fitting_graph    == where all nodes fit, the lists make a graph
@@ -18,7 +19,7 @@ use Rattle.ml_graph.specs.declared.node.Node.{Node}
 use Rattle.ml_text.specs.Operators.{weight}
 use Rattle.ml_text.specs.declared.token.Operator.{Operator}
 use Rattle.ml_text.specs.declared.token.Operator.TheVariants as operator
-use Rattle.ml_nodes.specs.Nodes.{constant, negative, positive}
+use Rattle.ml_nodes.specs.Nodes.{constant, lead_to, negative, positive}
 use Rattle.ml_nodes.specs.private.Connectives.{operator_nodes}
 
 abbrev pub IsInRange : Reference → Type 0
@@ -55,6 +56,9 @@ module _ (n : ℕ) (ps acts : List (List ℕ)) where
   pub both_fit : (xs ys : List Node) → AllFit xs → AllFit ys → AllFit (xs ++ ys)
   both_fit [] ys left right = right
   both_fit (x ∷ xs) ys left right = (left.0, both_fit xs ys left.1 right)
+
+  pub led_fit : (j k : ℕ) (xs : List Node) → j < n → k < n → AllFit xs → AllFit (lead_to j ∷ lead_to k ∷ xs)
+  led_fit j k xs low under fit = (two j n j n low low, (two k n k n under under, fit))
 
   pub constant_fits : (b : Bool) → Fits (constant b)
   constant_fits true = All-nil IsInRange

@@ -1,9 +1,12 @@
 // The lists of which a graph is made.
-ghost use Rattle.std.specs.Prelude.{◌≡◌, ◌<◌, ◌^◌, if◌then◌else◌, length};
+ghost use Rattle.std.specs.Prelude.{◌≡◌, ◌<◌, ◌^◌, if◌then◌else◌, length, IfOk};
 ghost use Rattle.ml_graph.specs.Graph.{IsGraph, graph_of};
 
+use crate::draft::Draft;
+use crate::names::Names;
 use ml_base::{Action, Name};
 use ml_graph::{ModalGraph, Node};
+use std::alloc::{AllocError, Global};
 
 /// The lists of a graph: nodes, a priority for each, and the names of propositions and actions.
 #[derive(Drop)]
@@ -15,6 +18,27 @@ pub struct Lists {
 }
 
 impl Lists {
+    /// The lists of a draft and of its names.
+    ///
+    /// # Errors
+    /// `AllocError` alone.
+    ///
+    /// Cost: linear in the number of names.
+    pub fn of(alloc: Global, draft: Draft, names: Names) -> Result<Lists, AllocError>
+        ensures nodes { IfOk result (λ lists. lists.nodes.items ≡ draft.nodes.items) }
+        ensures priorities { IfOk result (λ lists. lists.priorities.items ≡ draft.priorities.items) }
+        ensures props { IfOk result (λ lists. lists.props.items ≡ names.props.keys) }
+        ensures actions { IfOk result (λ lists. lists.actions.items ≡ names.actions.keys) }
+    {
+        let (props, actions) = names.into_lists(alloc)?;
+        Ok(Lists {
+            nodes: draft.nodes,
+            priorities: draft.priorities,
+            props,
+            actions,
+        })
+    }
+
     /// The graph of these lists, which they have to make.
     ///
     /// Cost: linear in the nodes.

@@ -2,23 +2,32 @@
 --
 --   nodes_fit, program_fits == the numbers of a formula's nodes are in range, and of a program's
 --   lists_make_graph == so the lists of a formula make a graph
-use Rattle.std.proofs.Common.{◌≡◌, ℕ, ◌+◌, ◌*◌, ◌<◌, ◌≤◌, Bool, not, if◌then◌else◌, List, [], ◌++◌, length, bytes_eq, sym, ◌∙◌, ap, subst, arith}
+use Rattle.std.proofs.Common.{◌≡◌, ℕ, ◌+◌, ◌*◌, ◌<◌, ◌≤◌, Bool, not, if◌then◌else◌, List, [], ◌∷◌, ◌++◌, length, bytes_eq, sym, ◌∙◌, ap, subst, arith}
 use Rattle.std.specs.List.{IsDistinct}
 use Rattle.ml_graph.specs.Graph.{Graph, IsGraph, size}
+use Rattle.ml_graph.specs.declared.node.Node.{Node}
 use Rattle.ml_text.specs.Operators.{weight}
 use Rattle.ml_text.specs.NameLists.{place_of}
 use Rattle.ml_text.proofs.NameLists.{place_found}
 use Rattle.ml_pdl.specs.Formula.{Formula, Const, Prop, Not, Binary, Modal, Repeat, Program, Act, Seq, Alt, Star, Test, Diamond, Square, occurrences, program_occurrences}
-use Rattle.ml_nodes.specs.Nodes.{negative, positive}
+use Rattle.ml_nodes.specs.Nodes.{lead_to, negative, positive}
 use Rattle.ml_pdl_graph.specs.PdlGraph.{diamond, box}
 use Rattle.ml_nodes.specs.private.Connectives.{operator_nodes}
-use Rattle.ml_nodes.proofs.InRange.{AllFit, both_fit, constant_fits, fitting_graph, none_twice, one, operator_fits, two}
+use Rattle.ml_nodes.proofs.InRange.{AllFit, both_fit, constant_fits, fitting_graph, led_fit, none_twice, one, operator_fits, two}
 use Rattle.ml_pdl_graph.specs.private.NodeList.{nodes_of, program_nodes, priorities_of, props_onto, actions_onto}
-use Rattle.ml_pdl_graph.proofs.Made.{names_among}
-use Rattle.ml_pdl_graph.proofs.NameLists.{AreAmong, ProgramAreAmong, distinct_actions, distinct_props}
+use Rattle.ml_pdl_graph.proofs.NameLists.{AreAmong, ProgramAreAmong, distinct_actions, distinct_props, names_among}
 use Rattle.ml_pdl_graph.proofs.NodeLists.{length-nodes, length-priorities, one_symbol, program_symbol}
 
 module _ (n : ℕ) (ps acts : List (List ℕ)) where
+  led_both : (j k : ℕ) (xs ys : List Node)
+      → j < n
+      → k < n
+      → AllFit n ps acts xs
+      → AllFit n ps acts ys
+      → AllFit n ps acts (lead_to j ∷ lead_to k ∷ (xs ++ ys))
+  led_both j k xs ys low under left right =
+      led_fit n ps acts j k (xs ++ ys) low under (both_fit n ps acts xs ys left right)
+
   mutual
     pub nodes_fit : (i : ℕ) (f : Formula) → AreAmong ps acts f → 2 * (i + occurrences f) ≤ n → AllFit n ps acts (nodes_of ps acts i f)
     nodes_fit i (Const v) among room = (constant_fits n ps acts v, (constant_fits n ps acts (not v), tt))
@@ -26,13 +35,9 @@ module _ (n : ℕ) (ps acts : List (List ℕ)) where
         let found = place_found ps p among in
         (one (place_of ps p) (length ps) found.below, (one (place_of ps p) (length ps) found.below, tt))
     nodes_fit i (Not f) among room =
-        let some = one_symbol f in (
-          two (negative (i + 1)) n (negative (i + 1)) n (omega (arith, room, some)) (omega (arith, room, some)),
-          (
-            two (positive (i + 1)) n (positive (i + 1)) n (omega (arith, room, some)) (omega (arith, room, some)),
-            nodes_fit (i + 1) f among (omega (arith, room)),
-          ),
-        )
+        let some = one_symbol f in
+        led_fit n ps acts (negative (i + 1)) (positive (i + 1)) (nodes_of ps acts (i + 1) f)
+        (omega (arith, room, some)) (omega (arith, room, some)) (nodes_fit (i + 1) f among (omega (arith, room)))
     nodes_fit i (Binary op f h) among room =
         let l = i + weight op in
         let r = l + occurrences f in
@@ -46,37 +51,30 @@ module _ (n : ℕ) (ps acts : List (List ℕ)) where
         let l = i + 1 in
         let r = l + program_occurrences p in
         let left = program_symbol p in
-        let right = one_symbol f in (
-          two (diamond l) n (diamond l) n (omega (arith, room, left)) (omega (arith, room, left)),
-          (
-            two (box l) n (box l) n (omega (arith, room, left)) (omega (arith, room, left)),
-            both_fit n ps acts (program_nodes ps acts l (positive r) (negative r) p) (nodes_of ps acts r f)
-                (program_fits l (positive r) (negative r) p among.0 (omega (arith, room)) (omega (arith, room, right)) (omega (arith, room, right)))
-                (nodes_fit r f among.1 (omega (arith, room))),
-          ),
-        )
+        let right = one_symbol f in
+        let on : positive r < n = omega (arith, room, right) in
+        let off : negative r < n = omega (arith, room, right) in
+        led_both (diamond l) (box l) (program_nodes ps acts l (positive r) (negative r) p) (nodes_of ps acts r f)
+        (omega (arith, room, left)) (omega (arith, room, left))
+        (program_fits l (positive r) (negative r) p among.0 (omega (arith, room)) on off)
+        (nodes_fit r f among.1 (omega (arith, room)))
     nodes_fit i (Modal Square p f) among room =
         let l = i + 1 in
         let r = l + program_occurrences p in
         let left = program_symbol p in
-        let right = one_symbol f in (
-          two (box l) n (box l) n (omega (arith, room, left)) (omega (arith, room, left)),
-          (
-            two (diamond l) n (diamond l) n (omega (arith, room, left)) (omega (arith, room, left)),
-            both_fit n ps acts (program_nodes ps acts l (negative r) (positive r) p) (nodes_of ps acts r f)
-                (program_fits l (negative r) (positive r) p among.0 (omega (arith, room)) (omega (arith, room, right)) (omega (arith, room, right)))
-                (nodes_fit r f among.1 (omega (arith, room))),
-          ),
-        )
+        let right = one_symbol f in
+        let on : positive r < n = omega (arith, room, right) in
+        let off : negative r < n = omega (arith, room, right) in
+        led_both (box l) (diamond l) (program_nodes ps acts l (negative r) (positive r) p) (nodes_of ps acts r f)
+        (omega (arith, room, left)) (omega (arith, room, left))
+        (program_fits l (negative r) (positive r) p among.0 (omega (arith, room)) off on)
+        (nodes_fit r f among.1 (omega (arith, room)))
     nodes_fit i (Repeat p) among room =
         let l = i + 1 in
-        let some = program_symbol p in (
-          two (diamond l) n (diamond l) n (omega (arith, room, some)) (omega (arith, room, some)),
-          (
-            two (box l) n (box l) n (omega (arith, room, some)) (omega (arith, room, some)),
-            program_fits l (positive i) (negative i) p among (omega (arith, room)) (omega (arith, room)) (omega (arith, room)),
-          ),
-        )
+        let some = program_symbol p in
+        led_fit n ps acts (diamond l) (box l) (program_nodes ps acts l (positive i) (negative i) p)
+        (omega (arith, room, some)) (omega (arith, room, some))
+        (program_fits l (positive i) (negative i) p among (omega (arith, room)) (omega (arith, room)) (omega (arith, room)))
 
     pub program_fits : (i d b : ℕ) (p : Program) → ProgramAreAmong ps acts p → 2 * (i + program_occurrences p) ≤ n → d < n → b < n
         → AllFit n ps acts (program_nodes ps acts i d b p)
@@ -87,15 +85,11 @@ module _ (n : ℕ) (ps acts : List (List ℕ)) where
         let l = i + 1 in
         let r = l + program_occurrences p in
         let left = program_symbol p in
-        let right = program_symbol q in (
-          two (diamond l) n (diamond l) n (omega (arith, room, left)) (omega (arith, room, left)),
-          (
-            two (box l) n (box l) n (omega (arith, room, left)) (omega (arith, room, left)),
-            both_fit n ps acts (program_nodes ps acts l (diamond r) (box r) p) (program_nodes ps acts r d b q)
-                (program_fits l (diamond r) (box r) p among.0 (omega (arith, room)) (omega (arith, room, right)) (omega (arith, room, right)))
-                (program_fits r d b q among.1 (omega (arith, room)) on off),
-          ),
-        )
+        let right = program_symbol q in
+        led_both (diamond l) (box l) (program_nodes ps acts l (diamond r) (box r) p) (program_nodes ps acts r d b q)
+        (omega (arith, room, left)) (omega (arith, room, left))
+        (program_fits l (diamond r) (box r) p among.0 (omega (arith, room)) (omega (arith, room, right)) (omega (arith, room, right)))
+        (program_fits r d b q among.1 (omega (arith, room)) on off)
     program_fits i d b (Alt p q) among room on off =
         let l = i + 1 in
         let r = l + program_occurrences p in

@@ -1,8 +1,9 @@
 -- The names of a formula, each once.
 --
 --   props_among, actions_among == the names that were there stay
+--   names_among            == the names of a formula are among those that are collected of it
 --   names_in               == each name of a formula is at its place
-use Rattle.std.proofs.Common.{◌≡◌, ℕ, ◌+◌, ◌≤◌, true, List, length, arith, bytes_eq}
+use Rattle.std.proofs.Common.{◌≡◌, ℕ, ◌+◌, ◌≤◌, true, List, [], length, sym, subst, arith, bytes_eq}
 use Rattle.std.specs.List.{IsDistinct}
 use Rattle.ml_text.proofs.NameLists.{is_among, kept_among, added_among, Covers, distinct_with, place_found, with_length}
 use Rattle.ml_pdl.specs.Formula.{Formula, Const, Prop, Not, Binary, Modal, Repeat, Program, Act, Seq, Alt, Star, Test, occurrences, program_occurrences}
@@ -170,6 +171,14 @@ mutual
   program_names_in (Alt p q) ps acts is = (program_names_in p ps acts is.0, program_names_in q ps acts is.1)
   program_names_in (Star p) ps acts is = program_names_in p ps acts is
   program_names_in (Test f) ps acts is = names_in f ps acts is
+
+pub names_among : (f : Formula) (ps acts : List (List ℕ))
+    → ps ≡ props_onto f []
+    → acts ≡ actions_onto f []
+    → AreAmong ps acts f
+names_among f ps acts there here =
+    all_among f [] [] ps acts
+    (λ p is. subst (λ qs. is_among qs p ≡ true) (sym there) is) (λ p is. subst (λ qs. is_among qs p ≡ true) (sym here) is)
 
 -- no more names than symbols
 mutual

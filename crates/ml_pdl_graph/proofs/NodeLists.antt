@@ -4,16 +4,15 @@
 --   NamesIn ps acts f, ProgramNamesIn ps acts p == each name of f, or of p, is at its place
 --   stands, program_stands                 == the nodes and priorities of a formula, or of a program, say what stands there
 --   one_symbol, program_symbol             == each formula and program has an occurrence
-use Rattle.std.proofs.Common.{◌≡◌, ℕ, ◌+◌, ◌*◌, ◌≤◌, List, [], ◌++◌, length, get_or, refl, arith, length-append}
+use Rattle.std.proofs.Common.{◌≡◌, ℕ, ◌+◌, ◌*◌, ◌≤◌, List, [], ◌++◌, length, get_or, refl, arith}
 use Rattle.ml_graph.specs.Graph.{Graph}
 use Rattle.ml_text.specs.Operators.{weight}
 use Rattle.ml_text.specs.NameLists.{place_of}
 use Rattle.ml_pdl.specs.Formula.{Formula, Const, Prop, Not, Binary, Modal, Repeat, Program, Act, Seq, Alt, Star, Test, Diamond, Square, occurrences, program_occurrences}
 use Rattle.ml_nodes.specs.Nodes.{positive, negative}
 use Rattle.ml_pdl_graph.specs.PdlGraph.{diamond, box, plain, StandsAt, ProgramStandsAt}
-use Rattle.ml_nodes.specs.private.Connectives.{operator_nodes, operator_priorities}
 use Rattle.ml_pdl_graph.specs.private.NodeList.{nodes_of, program_nodes, priorities_of, program_priorities}
-use Rattle.ml_nodes.proofs.Connectives.{length-operator, length-operator_priorities, one_weight}
+use Rattle.ml_nodes.proofs.Connectives.{length-operator, length-operator_priorities, length-parts, one_weight}
 use Rattle.ml_nodes.proofs.StandingLists.{Stand, Parts, joined, pair, parts}
 
 mutual
@@ -24,32 +23,18 @@ mutual
   length-nodes ps acts i (Binary op f h) =
       let l = i + weight op in
       let r = l + occurrences f in
-      omega (
-        arith,
-        length-append (operator_nodes op i l r) (nodes_of ps acts l f ++ nodes_of ps acts r h),
-        length-append (nodes_of ps acts l f) (nodes_of ps acts r h),
-        length-operator op i l r,
-        length-nodes ps acts l f,
-        length-nodes ps acts r h,
-      )
+      let operands = length-parts _ _ _ _ (length-nodes ps acts l f) (length-nodes ps acts r h) in
+      omega (arith, length-parts _ _ _ _ (length-operator op i l r) operands)
   length-nodes ps acts i (Modal Diamond p f) =
       let l = i + 1 in
       let r = l + program_occurrences p in
-      omega (
-        arith,
-        length-append (program_nodes ps acts l (positive r) (negative r) p) (nodes_of ps acts r f),
-        length-program_nodes ps acts l (positive r) (negative r) p,
-        length-nodes ps acts r f,
-      )
+      let program = length-program_nodes ps acts l (positive r) (negative r) p in
+      omega (arith, length-parts _ _ _ _ program (length-nodes ps acts r f))
   length-nodes ps acts i (Modal Square p f) =
       let l = i + 1 in
       let r = l + program_occurrences p in
-      omega (
-        arith,
-        length-append (program_nodes ps acts l (negative r) (positive r) p) (nodes_of ps acts r f),
-        length-program_nodes ps acts l (negative r) (positive r) p,
-        length-nodes ps acts r f,
-      )
+      let program = length-program_nodes ps acts l (negative r) (positive r) p in
+      omega (arith, length-parts _ _ _ _ program (length-nodes ps acts r f))
   length-nodes ps acts i (Repeat p) = omega (arith, length-program_nodes ps acts (i + 1) (positive i) (negative i) p)
 
   pub length-program_nodes : (ps acts : List (List ℕ)) (i d b : ℕ) (p : Program)
@@ -58,21 +43,13 @@ mutual
   length-program_nodes ps acts i d b (Seq p q) =
       let l = i + 1 in
       let r = l + program_occurrences p in
-      omega (
-        arith,
-        length-append (program_nodes ps acts l (diamond r) (box r) p) (program_nodes ps acts r d b q),
-        length-program_nodes ps acts l (diamond r) (box r) p,
-        length-program_nodes ps acts r d b q,
-      )
+      let first = length-program_nodes ps acts l (diamond r) (box r) p in
+      omega (arith, length-parts _ _ _ _ first (length-program_nodes ps acts r d b q))
   length-program_nodes ps acts i d b (Alt p q) =
       let l = i + 1 in
       let r = l + program_occurrences p in
-      omega (
-        arith,
-        length-append (program_nodes ps acts l d b p) (program_nodes ps acts r d b q),
-        length-program_nodes ps acts l d b p,
-        length-program_nodes ps acts r d b q,
-      )
+      let first = length-program_nodes ps acts l d b p in
+      omega (arith, length-parts _ _ _ _ first (length-program_nodes ps acts r d b q))
   length-program_nodes ps acts i d b (Star p) = omega (arith, length-program_nodes ps acts (i + 1) (diamond i) (box i) p)
   length-program_nodes ps acts i d b (Test f) = omega (arith, length-nodes ps acts (i + 1) f)
 
@@ -82,24 +59,18 @@ mutual
   length-priorities (Prop p) = refl
   length-priorities (Not f) = omega (arith, length-priorities f)
   length-priorities (Binary op f h) =
-      omega (
-        arith,
-        length-append (operator_priorities op plain) (priorities_of f ++ priorities_of h),
-        length-append (priorities_of f) (priorities_of h),
-        length-operator_priorities op plain,
-        length-priorities f,
-        length-priorities h,
-      )
+      let operands = length-parts _ _ _ _ (length-priorities f) (length-priorities h) in
+      omega (arith, length-parts _ _ _ _ (length-operator_priorities op plain) operands)
   length-priorities (Modal m p f) =
-      omega (arith, length-append (program_priorities p) (priorities_of f), length-program_priorities p, length-priorities f)
+      omega (arith, length-parts _ _ _ _ (length-program_priorities p) (length-priorities f))
   length-priorities (Repeat p) = omega (arith, length-program_priorities p)
 
   pub length-program_priorities : (p : Program) → length (program_priorities p) ≡ 2 * program_occurrences p
   length-program_priorities (Act a) = refl
   length-program_priorities (Seq p q) =
-      omega (arith, length-append (program_priorities p) (program_priorities q), length-program_priorities p, length-program_priorities q)
+      omega (arith, length-parts _ _ _ _ (length-program_priorities p) (length-program_priorities q))
   length-program_priorities (Alt p q) =
-      omega (arith, length-append (program_priorities p) (program_priorities q), length-program_priorities p, length-program_priorities q)
+      omega (arith, length-parts _ _ _ _ (length-program_priorities p) (length-program_priorities q))
   length-program_priorities (Star p) = omega (arith, length-program_priorities p)
   length-program_priorities (Test f) = omega (arith, length-priorities f)
 

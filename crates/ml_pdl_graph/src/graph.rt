@@ -95,6 +95,7 @@ fn place(
     ensures priorities { OnOk result (draft.new.priorities.items ≡ draft.old.priorities.items
         ++ listed.priorities_of (formula_of term.now)) }
 {
+    let l = at + 1;
     match term {
         Term::Const(value) => put_plain(draft, (constant(*value), constant(!*value))),
         Term::Prop(name) => {
@@ -110,11 +111,8 @@ fn place(
             put_plain(draft, (yes, no))
         }
         Term::Not(operand) => {
-            put_plain(
-                draft,
-                (lead_to(negative(at + 1)), lead_to(positive(at + 1))),
-            )?;
-            place(draft, names, at + 1, sizes, operand)
+            put_plain(draft, (lead_to(negative(l)), lead_to(positive(l))))?;
+            place(draft, names, l, sizes, operand)
         }
         Term::And(left, right) => place_both(draft, names, at, sizes, Operator::And, left, right),
         Term::Or(left, right) => place_both(draft, names, at, sizes, Operator::Or, left, right),
@@ -128,15 +126,24 @@ fn place(
             right,
         ),
         Term::Iff(left, right) => place_both(draft, names, at, sizes, Operator::Iff, left, right),
-        Term::Diamond(program, operand) => place_diamond(draft, names, at, sizes, program, operand),
-        Term::Square(program, operand) => place_square(draft, names, at, sizes, program, operand),
+        Term::Diamond(program, operand) => {
+            let r = l + sizes[l as usize];
+            put_plain(draft, (lead_to(positive(l)), lead_to(negative(l))))?;
+            let next = (positive(r), negative(r));
+            place_program(draft, names, l, next, sizes, program)?;
+            place(draft, names, r, sizes, operand)
+        }
+        Term::Square(program, operand) => {
+            let r = l + sizes[l as usize];
+            put_plain(draft, (lead_to(negative(l)), lead_to(positive(l))))?;
+            let next = (negative(r), positive(r));
+            place_program(draft, names, l, next, sizes, program)?;
+            place(draft, names, r, sizes, operand)
+        }
         Term::Repeat(program) => {
-            draft.put(
-                (lead_to(positive(at + 1)), lead_to(negative(at + 1))),
-                (0, 1),
-            )?;
+            draft.put((lead_to(positive(l)), lead_to(negative(l))), (0, 1))?;
             let again = (positive(at), negative(at));
-            place_program(draft, names, at + 1, again, sizes, program)
+            place_program(draft, names, l, again, sizes, program)
         }
     }
 }
@@ -168,60 +175,6 @@ fn place_both(
     place(draft, names, r, sizes, right)
 }
 
-// the same of `<p>f`
-#[cycle(placing)]
-fn place_diamond(
-    draft: &mut Draft,
-    names: &Names,
-    at: u32,
-    sizes: &[u32],
-    program: &Program,
-    operand: &Term,
-) -> Result<(), AllocError>
-    requires names { (length names.now.props.keys < 2 ^ 32) × (length names.now.actions.keys < 2 ^ 32) }
-    requires few { at + occurrences (pdl.Modal pdl.Diamond (program_of program.now) (formula_of operand.now)) ≤ 1000 }
-    requires sizes { measured.Measures sizes.now at (pdl.Modal pdl.Diamond (program_of program.now) (formula_of operand.now)) }
-    ensures nodes { OnOk result (draft.new.nodes.items ≡ draft.old.nodes.items
-        ++ listed.nodes_of names.now.props.keys names.now.actions.keys at
-        (pdl.Modal pdl.Diamond (program_of program.now) (formula_of operand.now))) }
-    ensures priorities { OnOk result (draft.new.priorities.items ≡ draft.old.priorities.items
-        ++ listed.priorities_of (pdl.Modal pdl.Diamond (program_of program.now) (formula_of operand.now))) }
-{
-    let l = at + 1;
-    let r = l + sizes[l as usize];
-    put_plain(draft, (lead_to(positive(l)), lead_to(negative(l))))?;
-    let next = (positive(r), negative(r));
-    place_program(draft, names, l, next, sizes, program)?;
-    place(draft, names, r, sizes, operand)
-}
-
-// the same of `[p]f`
-#[cycle(placing)]
-fn place_square(
-    draft: &mut Draft,
-    names: &Names,
-    at: u32,
-    sizes: &[u32],
-    program: &Program,
-    operand: &Term,
-) -> Result<(), AllocError>
-    requires names { (length names.now.props.keys < 2 ^ 32) × (length names.now.actions.keys < 2 ^ 32) }
-    requires few { at + occurrences (pdl.Modal pdl.Square (program_of program.now) (formula_of operand.now)) ≤ 1000 }
-    requires sizes { measured.Measures sizes.now at (pdl.Modal pdl.Square (program_of program.now) (formula_of operand.now)) }
-    ensures nodes { OnOk result (draft.new.nodes.items ≡ draft.old.nodes.items
-        ++ listed.nodes_of names.now.props.keys names.now.actions.keys at
-        (pdl.Modal pdl.Square (program_of program.now) (formula_of operand.now))) }
-    ensures priorities { OnOk result (draft.new.priorities.items ≡ draft.old.priorities.items
-        ++ listed.priorities_of (pdl.Modal pdl.Square (program_of program.now) (formula_of operand.now))) }
-{
-    let l = at + 1;
-    let r = l + sizes[l as usize];
-    put_plain(draft, (lead_to(negative(l)), lead_to(positive(l))))?;
-    let next = (negative(r), positive(r));
-    place_program(draft, names, l, next, sizes, program)?;
-    place(draft, names, r, sizes, operand)
-}
-
 // the nodes and priorities of a program as the occurrence `at`, whose diamond and box go on at these nodes
 #[cycle(placing)]
 fn place_program(
@@ -248,8 +201,21 @@ fn place_program(
             let every = Node::Square { action, to: next.1 };
             put_plain(draft, (some, every))
         }
-        Program::Seq(left, right) => place_sequence(draft, names, at, next, sizes, left, right),
-        Program::Alt(left, right) => place_choice(draft, names, at, next, sizes, left, right),
+        Program::Seq(left, right) => {
+            let r = l + sizes[l as usize];
+            put_plain(draft, (lead_to(positive(l)), lead_to(negative(l))))?;
+            place_program(draft, names, l, (positive(r), negative(r)), sizes, left)?;
+            place_program(draft, names, r, next, sizes, right)
+        }
+        Program::Alt(left, right) => {
+            let r = l + sizes[l as usize];
+            put_plain(
+                draft,
+                (or(positive(l), positive(r)), and(negative(l), negative(r))),
+            )?;
+            place_program(draft, names, l, next, sizes, left)?;
+            place_program(draft, names, r, next, sizes, right)
+        }
         Program::Star(operand) => {
             draft.put((or(next.0, positive(l)), and(next.1, negative(l))), (3, 2))?;
             let again = (positive(at), negative(at));
@@ -260,63 +226,6 @@ fn place_program(
             place(draft, names, l, sizes, formula)
         }
     }
-}
-
-// the same of `p;q`
-#[cycle(placing)]
-fn place_sequence(
-    draft: &mut Draft,
-    names: &Names,
-    at: u32,
-    next: (u32, u32),
-    sizes: &[u32],
-    left: &Program,
-    right: &Program,
-) -> Result<(), AllocError>
-    requires names { (length names.now.props.keys < 2 ^ 32) × (length names.now.actions.keys < 2 ^ 32) }
-    requires few { at + program_occurrences (pdl.Seq (program_of left.now) (program_of right.now)) ≤ 1000 }
-    requires sizes { measured.ProgramMeasures sizes.now at (pdl.Seq (program_of left.now) (program_of right.now)) }
-    ensures nodes { OnOk result (draft.new.nodes.items ≡ draft.old.nodes.items
-        ++ listed.program_nodes names.now.props.keys names.now.actions.keys at next.0 next.1
-        (pdl.Seq (program_of left.now) (program_of right.now))) }
-    ensures priorities { OnOk result (draft.new.priorities.items ≡ draft.old.priorities.items
-        ++ listed.program_priorities (pdl.Seq (program_of left.now) (program_of right.now))) }
-{
-    let l = at + 1;
-    let r = l + sizes[l as usize];
-    put_plain(draft, (lead_to(positive(l)), lead_to(negative(l))))?;
-    place_program(draft, names, l, (positive(r), negative(r)), sizes, left)?;
-    place_program(draft, names, r, next, sizes, right)
-}
-
-// the same of `p+q`
-#[cycle(placing)]
-fn place_choice(
-    draft: &mut Draft,
-    names: &Names,
-    at: u32,
-    next: (u32, u32),
-    sizes: &[u32],
-    left: &Program,
-    right: &Program,
-) -> Result<(), AllocError>
-    requires names { (length names.now.props.keys < 2 ^ 32) × (length names.now.actions.keys < 2 ^ 32) }
-    requires few { at + program_occurrences (pdl.Alt (program_of left.now) (program_of right.now)) ≤ 1000 }
-    requires sizes { measured.ProgramMeasures sizes.now at (pdl.Alt (program_of left.now) (program_of right.now)) }
-    ensures nodes { OnOk result (draft.new.nodes.items ≡ draft.old.nodes.items
-        ++ listed.program_nodes names.now.props.keys names.now.actions.keys at next.0 next.1
-        (pdl.Alt (program_of left.now) (program_of right.now))) }
-    ensures priorities { OnOk result (draft.new.priorities.items ≡ draft.old.priorities.items
-        ++ listed.program_priorities (pdl.Alt (program_of left.now) (program_of right.now))) }
-{
-    let l = at + 1;
-    let r = l + sizes[l as usize];
-    put_plain(
-        draft,
-        (or(positive(l), positive(r)), and(negative(l), negative(r))),
-    )?;
-    place_program(draft, names, l, next, sizes, left)?;
-    place_program(draft, names, r, next, sizes, right)
 }
 
 // the lists of a term's graph
@@ -331,13 +240,7 @@ fn lists_of(alloc: Global, term: &Term) -> Result<Lists, NoMemory>
     let sizes = sizes_of(alloc, term)?;
     let mut draft = Draft::new(alloc);
     place(&mut draft, &names, 0, &sizes, term)?;
-    let (props, actions) = names.into_lists(alloc)?;
-    Ok(Lists {
-        nodes: draft.nodes,
-        priorities: draft.priorities,
-        props,
-        actions,
-    })
+    Ok(Lists::of(alloc, draft, names)?)
 }
 
 /// The modal graph of a formula, or of its negation: it holds exactly where the formula does, or doesn't.

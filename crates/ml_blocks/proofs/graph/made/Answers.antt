@@ -1,12 +1,12 @@
-use Rattle.std.proofs.Common.{rules, ◌≡◌, [], length, codes, bytes_eq, refl, ap, sym, ◌∙◌, subst, true, false, arith}
+use Rattle.std.proofs.Common.{rules, ◌≡◌, [], length, codes, bytes_eq, refl, ap, sym, subst, true, false, arith}
 use Rattle.std.specs.List.{IsDistinct}
 use Rattle.ml_graph.proofs.Places.{one_name}
-use Rattle.ml_graph.specs.Graph.{IsGraph, graph_of}
+use Rattle.ml_graph.specs.Graph.{graph_of}
 use Rattle.ml_ctl.specs.Term.{formula_of}
 use Rattle.ml_blocks.specs.BlockGraph.{IsGraphAt}
 use Rattle.ml_blocks.specs.private.Occurrences.{lists_of}
 use Rattle.ml_blocks.specs.private.Views.{start_place}
-use Rattle.ml_blocks.proofs.GraphMade.{closure_large, graph_made, is_made, made_of}
+use Rattle.ml_blocks.proofs.GraphMade.{closure_large, graph_made}
 use Rattle.ml_blocks.proofs.NameLists.{few_props}
 use Rattle.ml_blocks.proofs.graph.made.Goals as goal
 
@@ -26,41 +26,28 @@ build-requires-clause-actions c = subst (IsDistinct bytes_eq) (sym c.in_ok-actio
 
 pub unreachable-requires : goal.unreachable-requires
 unreachable-requires c =
-    let f = formula_of c.args.term.now in
-    let names = c.in_ok-names.names.props.keys in
     let table = c.in_ok-table.table in
     let draft = c.in_ok-draft.draft in
-    let os = table.occurrences.items in
-    let lists = lists_of table.eventualities.items in
     let g = graph_of draft.nodes draft.priorities 0 c.in_ok-props.props c.in_ok-actions.actions in
-    let same =
-    made_of f c.args.first c.args.positive c.args.max names os lists c.in_ok-names.ensures
-    c.in_ok-table.ensures.occurrences c.in_ok-table.ensures.eventualities draft.spots.keys draft.nodes.items
-    draft.priorities.items c.in_ok-draft.ensures.draft c.in_ok-draft.ensures.whole g refl
-    refl refl c.in_ok-props.ensures c.in_ok-actions.ensures in
     let is =
-    is_made f c.args.first c.args.positive c.args.max names os lists c.in_ok-names.ensures
-    c.in_ok-table.ensures.occurrences c.in_ok-table.ensures.eventualities draft.spots.keys draft.nodes.items
-    draft.priorities.items c.in_ok-draft.ensures.draft c.in_ok-draft.ensures.whole in
-    let wrong : false ≡ true = c.in-Err.ensures.accepted.1 (subst IsGraph (sym same) is) in
+    graph_made (formula_of c.args.term.now) c.args.first c.args.positive c.args.max c.in_ok-names.names.props.keys
+    table.occurrences.items (lists_of table.eventualities.items) c.in_ok-names.ensures c.in_ok-table.ensures.occurrences
+    c.in_ok-table.ensures.eventualities draft.spots.keys draft.nodes.items draft.priorities.items
+    c.in_ok-draft.ensures.draft c.in_ok-draft.ensures.whole g refl refl refl c.in_ok-props.ensures
+    c.in_ok-actions.ensures in
+    let wrong : false ≡ true = c.in-Err.ensures.accepted.1 is.is_graph in
     cc
 
 pub returns-clause-graph : goal.returns-clause-graph
 returns-clause-graph c =
     let f = formula_of c.args.term.now in
-    let names = c.in_ok-names.names.props.keys in
     let table = c.in_ok-table.table in
     let draft = c.in_ok-draft.draft in
-    let os = table.occurrences.items in
-    let lists = lists_of table.eventualities.items in
     let g = graph_of draft.nodes draft.priorities 0 c.in_ok-props.props c.in_ok-actions.actions in
-    let same =
-    made_of f c.args.first c.args.positive c.args.max names os lists c.in_ok-names.ensures
-    c.in_ok-table.ensures.occurrences c.in_ok-table.ensures.eventualities draft.spots.keys draft.nodes.items
-    draft.priorities.items c.in_ok-draft.ensures.draft c.in_ok-draft.ensures.whole g refl
-    refl refl c.in_ok-props.ensures c.in_ok-actions.ensures in
     let is =
-    graph_made f c.args.first c.args.positive c.args.max names os lists c.in_ok-names.ensures
-    c.in_ok-table.ensures.occurrences c.in_ok-table.ensures.eventualities draft.spots.keys draft.nodes.items
-    draft.priorities.items c.in_ok-draft.ensures.draft c.in_ok-draft.ensures.whole in
-    subst (λ h. IsGraphAt h (start_place c.args.first f c.args.positive)) (sym (c.in-Ok.ensures.ok ∙ same)) is
+    graph_made f c.args.first c.args.positive c.args.max c.in_ok-names.names.props.keys table.occurrences.items
+    (lists_of table.eventualities.items) c.in_ok-names.ensures c.in_ok-table.ensures.occurrences
+    c.in_ok-table.ensures.eventualities draft.spots.keys draft.nodes.items draft.priorities.items
+    c.in_ok-draft.ensures.draft c.in_ok-draft.ensures.whole g refl refl refl c.in_ok-props.ensures
+    c.in_ok-actions.ensures in
+    subst (λ h. IsGraphAt h (start_place c.args.first f c.args.positive)) (sym c.in-Ok.ensures.ok) is

@@ -12,11 +12,8 @@ use Rattle.ml_mu_graph.proofs.graph.+placing.Goals as goal
 pub place_both-placed-second-requires : goal.place_both-placed-second-requires
 place_both-placed-second-requires t c =
     let left = formula_of c.args.left.now in
-    let names = c.args.names.now in
     let placed =
-    left_placed c.args.draft.now.nodes.items c.open.new.draft.nodes.items c.place.new.draft.nodes.items c.args.operator
-    c.args.at c.weight.result names.props.keys names.actions.keys (around c.args.binders.now) left c.requires.start
-    c.in_ok-open.ensures.nodes c.weight.ensures c.in_ok-place.ensures.nodes in
+    left_placed _ _ _ c.args.operator _ _ _ _ _ _ c.requires.start c.in_ok-open.ensures.nodes c.weight.ensures c.in_ok-place.ensures.nodes in
     let right = formula_of c.args.right.now in
     let few : c.args.at + (weight c.args.operator + occurrences left + occurrences right) ≤ 1000 = c.requires.few in
     omega (arith, ap length c.as_slice.ensures.value, placed.size, few)
@@ -24,16 +21,11 @@ place_both-placed-second-requires t c =
 pub place_both-place-requires-2 : goal.place_both-place-requires-2
 place_both-place-requires-2 t c =
     let left = formula_of c.args.left.now in
-    let names = c.args.names.now in
     let placed =
-    left_placed c.args.draft.now.nodes.items c.open.new.draft.nodes.items c.place.new.draft.nodes.items c.args.operator
-    c.args.at c.weight.result names.props.keys names.actions.keys (around c.args.binders.now) left c.requires.start
-    c.in_ok-open.ensures.nodes c.weight.ensures c.in_ok-place.ensures.nodes in
+    left_placed _ _ _ c.args.operator _ _ _ _ _ _ c.requires.start c.in_ok-open.ensures.nodes c.weight.ensures c.in_ok-place.ensures.nodes in
     let right = formula_of c.args.right.now in
     let few : c.args.at + (weight c.args.operator + occurrences left + occurrences right) ≤ 1000 = c.requires.few in
-    let number =
-    second_number c.args.operator c.args.at left c.place.new.draft.nodes.items c.as_slice.result.now
-    c.placed-second.result placed.size c.as_slice.ensures.value c.placed-second.ensures in
+    let number = second_number c.args.operator _ _ _ _ _ placed.size c.as_slice.ensures.value c.placed-second.ensures in
     let start : length c.place.new.draft.nodes.items ≡ 2 * (c.placed-second.result) =
     placed.size ∙ ap (λ n. 2 * n) (sym number) in
     let room : c.placed-second.result + occurrences right ≤ 1000 = omega (arith, number, few) in
@@ -46,16 +38,11 @@ place_both-place-requires-2 t c =
 pub place_both-close-requires-clause-small : goal.place_both-close-requires-clause-small
 place_both-close-requires-clause-small t c =
     let left = formula_of c.args.left.now in
-    let names = c.args.names.now in
     let placed =
-    left_placed c.args.draft.now.nodes.items c.open.new.draft.nodes.items c.place.new.draft.nodes.items c.args.operator
-    c.args.at c.weight.result names.props.keys names.actions.keys (around c.args.binders.now) left c.requires.start
-    c.in_ok-open.ensures.nodes c.weight.ensures c.in_ok-place.ensures.nodes in
+    left_placed _ _ _ c.args.operator _ _ _ _ _ _ c.requires.start c.in_ok-open.ensures.nodes c.weight.ensures c.in_ok-place.ensures.nodes in
     let right = formula_of c.args.right.now in
     let few : c.args.at + (weight c.args.operator + occurrences left + occurrences right) ≤ 1000 = c.requires.few in
-    let number =
-    second_number c.args.operator c.args.at left c.place.new.draft.nodes.items c.as_slice.result.now
-    c.placed-second.result placed.size c.as_slice.ensures.value c.placed-second.ensures in
+    let number = second_number c.args.operator _ _ _ _ _ placed.size c.as_slice.ensures.value c.placed-second.ensures in
     let some = one_symbol left in (
       omega (arith, few, some, one_symbol right, one_weight c.args.operator),
       omega (arith, few, c.weight.ensures),
@@ -64,20 +51,11 @@ place_both-close-requires-clause-small t c =
 
 pub place_both-returns-clause-nodes : goal.place_both-returns-clause-nodes
 place_both-returns-clause-nodes t c =
-    let left = formula_of c.args.left.now in
-    let names = c.args.names.now in
     let placed =
-    left_placed c.args.draft.now.nodes.items c.open.new.draft.nodes.items c.place.new.draft.nodes.items c.args.operator
-    c.args.at c.weight.result names.props.keys names.actions.keys (around c.args.binders.now) left c.requires.start
-    c.in_ok-open.ensures.nodes c.weight.ensures c.in_ok-place.ensures.nodes in
-    let right = formula_of c.args.right.now in
-    let number =
-    second_number c.args.operator c.args.at left c.place.new.draft.nodes.items c.as_slice.result.now
-    c.placed-second.result placed.size c.as_slice.ensures.value c.placed-second.ensures in
-    closed c.args.draft.now.nodes.items c.place.new.draft.nodes.items c.place-2.new.draft.nodes.items
-    c.close.new.nodes.items c.args.operator c.args.at c.weight.result c.placed-second.result names.props.keys
-    names.actions.keys (around c.args.binders.now) (around c.place.new.binders) left right c.requires.start placed
-    number c.in_ok-place.ensures.around c.in_ok-place-2.ensures.nodes c.weight.ensures c.close.ensures
+    left_placed _ _ _ c.args.operator _ _ _ _ _ _ c.requires.start c.in_ok-open.ensures.nodes c.weight.ensures c.in_ok-place.ensures.nodes in
+    let number = second_number c.args.operator _ _ _ _ _ placed.size c.as_slice.ensures.value c.placed-second.ensures in
+    closed _ _ _ _ c.args.operator _ _ _ _ _ _ _ _ _ c.requires.start placed number c.in_ok-place.ensures.around c.in_ok-place-2.ensures.nodes c.weight.ensures
+    c.close.ensures
 
 pub place_body-place-requires : goal.place_body-place-requires
 place_body-place-requires t c =
