@@ -25,12 +25,4 @@ lower_alike w p q = record {
 
 pub alike : (w : Logic) (k : Kind) (word other : List ℕ) → IsLike (ctl_grammar w) (named k word) (named k other)
 alike w kind.Lower a b = lower_alike w a b
-alike w kind.Not a b = same w _
-alike w (kind.Connective c) a b = same w _
-alike w (kind.Const c) a b = same w _
-alike w kind.Open a b = same w _
-alike w kind.Close a b = same w _
-alike w (kind.Tensed t) a b = same w _
-alike w (kind.Pairs p) a b = same w _
-alike w (kind.Quantifies q) a b = same w _
-alike w kind.Unknown a b = same w _
+alike w _ a b = same w _
