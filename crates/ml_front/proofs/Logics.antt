@@ -86,7 +86,7 @@ one_logic l k same = sym (logic_read l) ∙ ap some_logic same ∙ logic_read k
 
 once : (l : Logic) (text : List ℕ) (e d : PlainOf l) → IsParsedAs text (any l e) → IsParsedAs text (any l d) → e ≡ d
 once logic.Mu text e d parsed again = mu_once.parsed_once text e d parsed again
-once logic.Pdl text e d parsed again = pdl_answer.parsed_once text e d parsed again
+once logic.Pdl text e d parsed again = (pdl_answer.one_answer).parsed text e d parsed again
 once logic.Ctl text e d parsed again = (ctl_answer.one_answer ctl_formula.Ctl).parsed text e d parsed again
 once logic.Ltl text e d parsed again = (ctl_answer.one_answer ctl_formula.Ltl).parsed text e d parsed again
 
@@ -108,7 +108,7 @@ refused_for_memory : (l : Logic) (text : List ℕ) (e : PlainOf l) (r : ParseRef
     → IsRefusedBy l text r
     → r ≡ refusal.NoMemory
 refused_for_memory logic.Mu text e r parsed refused = mu_once.parsed_or_refused text e r parsed refused
-refused_for_memory logic.Pdl text e r parsed refused = pdl_answer.parsed_or_refused text e r parsed refused
+refused_for_memory logic.Pdl text e r parsed refused = (pdl_answer.one_answer).exclusive text e r parsed refused
 refused_for_memory logic.Ctl text e r parsed refused = (ctl_answer.one_answer ctl_formula.Ctl).exclusive text e r parsed refused
 refused_for_memory logic.Ltl text e r parsed refused = (ctl_answer.one_answer ctl_formula.Ltl).exclusive text e r parsed refused
 
@@ -133,7 +133,7 @@ in_logic l text (inr refused) = inr refused
 
 pub some_answer : (l : Logic) (text : List ℕ) → IsFormulaOf l text ⊎ IsRefused l text
 some_answer logic.Mu text = in_logic logic.Mu text (mu_answer.some_answer text)
-some_answer logic.Pdl text = in_logic logic.Pdl text (pdl_answer.some_answer text)
+some_answer logic.Pdl text = in_logic logic.Pdl text ((pdl_answer.one_answer).some text)
 some_answer logic.Ctl text = in_logic logic.Ctl text ((ctl_answer.one_answer ctl_formula.Ctl).some text)
 some_answer logic.Ltl text = in_logic logic.Ltl text ((ctl_answer.one_answer ctl_formula.Ltl).some text)
 
