@@ -7,8 +7,8 @@ use Rattle.ml_pdl.specs.Formula.{Diamond}
 use Rattle.ml_pdl.specs.Signs.{Sign, Lower, Upper}
 use Rattle.ml_pdl.specs.private.SignViews.{named}
 use Rattle.ml_pdl.specs.Tables.{BehindBegin, BehindProgram, Formulas, Programs, pdl_grammar}
-use Rattle.ml_pdl.specs.declared.signs.Kind.{Kind}
-use Rattle.ml_pdl.specs.declared.signs.Kind.TheVariants as kind
+use Rattle.ml_pdl.specs.declared.signs.SignOver.{SignOver}
+use Rattle.ml_pdl.specs.declared.signs.SignOver.TheVariants as kind
 
 same : (t : Sign) → IsLike pdl_grammar t t
 same t = record { role = λ s. refl; shift = λ q. refl; post = λ v. refl }
@@ -41,7 +41,7 @@ upper_alike p q = record {
   post = λ v. refl;
 }
 
-pub alike : (k : Kind) (word other : List ℕ) → IsLike pdl_grammar (named k word) (named k other)
-alike kind.Lower w o = lower_alike w o
-alike kind.Upper w o = upper_alike w o
+pub alike : (k : SignOver (Unit {0})) (word other : List ℕ) → IsLike pdl_grammar (named k word) (named k other)
+alike (kind.Lower u) w o = lower_alike w o
+alike (kind.Upper u) w o = upper_alike w o
 alike _ w o = same _
