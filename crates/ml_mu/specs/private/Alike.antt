@@ -7,8 +7,8 @@ use Rattle.ml_mu.specs.Formula.{Diamond}
 use Rattle.ml_mu.specs.Signs.{Sign, Lower, Upper}
 use Rattle.ml_mu.specs.private.SignViews.{named}
 use Rattle.ml_mu.specs.private.Tables.{BehindBegin, BehindAction, mu_grammar}
-use Rattle.ml_mu.specs.declared.signs.Kind.{Kind}
-use Rattle.ml_mu.specs.declared.signs.Kind.TheVariants as kind
+use Rattle.ml_mu.specs.declared.signs.SignOver.{SignOver}
+use Rattle.ml_mu.specs.declared.signs.SignOver.TheVariants as kind
 
 same : (t : Sign) → IsLike mu_grammar t t
 same t = record { role = λ s. refl; shift = λ q. refl; post = λ v. refl }
@@ -35,7 +35,7 @@ upper_alike p q = record {
   post = λ v. refl;
 }
 
-pub alike : (k : Kind) (word other : List ℕ) → IsLike mu_grammar (named k word) (named k other)
-alike kind.Lower w o = lower_alike w o
-alike kind.Upper w o = upper_alike w o
+pub alike : (k : SignOver (Unit {0})) (word other : List ℕ) → IsLike mu_grammar (named k word) (named k other)
+alike (kind.Lower u) w o = lower_alike w o
+alike (kind.Upper u) w o = upper_alike w o
 alike _ w o = same _
