@@ -18,8 +18,8 @@ use Rattle.ml_ctl.specs.Signs.{Sign, Lower, Unknown, HasShortName, sign_of, byte
 use Rattle.ml_ctl.specs.Text.{sign_at}
 use Rattle.ml_ctl.specs.Spelling.{is_proposition, is_reserved}
 use Rattle.ml_ctl.specs.private.SignViews.{named}
-use Rattle.ml_ctl.specs.declared.signs.Kind.{Kind}
-use Rattle.ml_ctl.specs.declared.signs.Kind.TheVariants as kind
+use Rattle.ml_ctl.specs.declared.signs.SignOver.{SignOver}
+use Rattle.ml_ctl.specs.declared.signs.SignOver.TheVariants as kind
 use Rattle.ml_ctl.proofs.Spelled.{IsSpelledSign, spelled_sign}
 
 -- ---- names that are short enough
@@ -62,21 +62,13 @@ short_name token.Word bytes n short size =
 -- ---- names that are cut
 
 -- the first bytes of a name are one
-cut_name : (k : Kind) (w : List ℕ) (s : Sign) → named k w ≡ s → IsSpelledSign s → HasShortName (named k (take 64 w))
-cut_name kind.Lower w s is spelled =
+cut_name : (k : SignOver (Unit {0})) (w : List ℕ) (s : Sign) → named k w ≡ s → IsSpelledSign s → HasShortName (named k (take 64 w))
+cut_name (kind.Lower u) w s is spelled =
     cut_word w (proposition_letters w (subst IsSpelledSign (sym is) spelled))
-cut_name kind.Not w s is spelled = tt
-cut_name (kind.Connective c) w s is spelled = tt
-cut_name (kind.Const b) w s is spelled = tt
-cut_name kind.Open w s is spelled = tt
-cut_name kind.Close w s is spelled = tt
-cut_name (kind.Tensed t) w s is spelled = tt
-cut_name (kind.Pairs p) w s is spelled = tt
-cut_name (kind.Quantifies q) w s is spelled = tt
-cut_name kind.Unknown w s is spelled = tt
+cut_name _ w s is spelled = tt
 
 -- a sign can be made of each token
-pub can_name : (k : Kind) (text : List ℕ) (p : Placed)
+pub can_name : (k : SignOver (Unit {0})) (text : List ℕ) (p : Placed)
     → p.start ≤ p.end
     → p.end ≤ length text
     → named k (bytes_of text p) ≡ sign_at text p

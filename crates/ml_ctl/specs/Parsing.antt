@@ -3,11 +3,10 @@
 --
 --   IsParsedAs w text f   == in the logic w, the text is one of f, and keeps the limits
 --   IsRefusedBy w text e  == in the logic w, the text is refused with this answer
---   StandForOne, CanonicalStandsForOne, SomeAnswer, ParsedOnce, RefusedOnce, NeverBoth, ParsedAreWellFormed,
---   CanonicalIsParsed == the laws of these notions
-use Rattle.std.specs.Prelude.{ℕ, ◌≡◌, ◌≢◌, ◌⊎◌, List, length, IsTrue}
+--   CanonicalStandsForOne, ParsedAreWellFormed, CanonicalIsParsed == the laws of these notions, beside those of
+--   `ml_text/specs/Answers`
+use Rattle.std.specs.Prelude.{ℕ, ◌≡◌, List, length, IsTrue}
 use Rattle.ml_base.specs.declared.parse_refusal.ParseRefusal.{ParseRefusal}
-use Rattle.ml_base.specs.declared.parse_refusal.ParseRefusal.TheVariants as refusal
 use Rattle.ml_text.specs.Refusals as refused
 use Rattle.ml_text.specs.Refusals.{IsAccepted}
 use Rattle.ml_ctl.specs.Canonical.{canonical_text}
@@ -24,29 +23,6 @@ abbrev pub IsRefusedBy : Logic → List ℕ → ParseRefusal → Type 0
 IsRefusedBy w text e = refused.IsRefusedBy (IsReadAs w) (items text) (length text) e
 
 -- ---- laws
-
--- a text stands for one formula at most
-abbrev pub StandForOne : Type 0
-StandForOne = (w : Logic) (text : List ℕ) (f g : Formula) → IsTextOf w text f → IsTextOf w text g → f ≡ g
-
--- each text is parsed as some formula, or is refused for a reason of its own
-abbrev pub SomeAnswer : Type 0
-SomeAnswer = (w : Logic) (text : List ℕ)
-    → ((f : Formula) × IsParsedAs w text f) ⊎ ((e : ParseRefusal) × (e ≢ refusal.NoMemory) × IsRefusedBy w text e)
-
--- a text is parsed as one formula at most
-abbrev pub ParsedOnce : Type 0
-ParsedOnce = (w : Logic) (text : List ℕ) (f g : Formula) → IsParsedAs w text f → IsParsedAs w text g → f ≡ g
-
--- what is parsed as a formula is refused by nothing but want of memory
-abbrev pub NeverBoth : Type 0
-NeverBoth = (w : Logic) (text : List ℕ) (f : Formula) (e : ParseRefusal)
-    → IsParsedAs w text f → IsRefusedBy w text e → e ≡ refusal.NoMemory
-
--- but for want of memory, a text is refused in one way at most
-abbrev pub RefusedOnce : Type 0
-RefusedOnce = (w : Logic) (text : List ℕ) (e d : ParseRefusal)
-    → (e ≢ refusal.NoMemory) → (d ≢ refusal.NoMemory) → IsRefusedBy w text e → IsRefusedBy w text d → e ≡ d
 
 -- the canonical text of a formula of the logic whose names are spelled as they must be stands for it, and for no other
 abbrev pub CanonicalStandsForOne : Type 0

@@ -30,9 +30,9 @@ pub(crate) enum Quantifier {
     Forall,
 }
 
-// what a token is, without its name
-#[derive(Clone, Copy)]
-pub(crate) enum Kind {
+// a token, where N is what is held of a name
+#[derive(Clone, Copy, Drop)]
+pub(crate) enum SignOver<N> {
     Not,
     Connective(Operator),
     Const(bool),
@@ -45,25 +45,16 @@ pub(crate) enum Kind {
     // `E` or `A`
     Quantifies(Quantifier),
     // a name
-    Lower,
+    Lower(N),
     // in no text of the grammar
     Unknown,
 }
 
+// what a token is, without its name
+pub(crate) type Kind = SignOver<()>;
+
 // a token with its name
-#[derive(Drop)]
-pub(crate) enum Sign {
-    Not,
-    Connective(Operator),
-    Const(bool),
-    Open,
-    Close,
-    Tensed(Tense),
-    Pairs(Pairing),
-    Quantifies(Quantifier),
-    Lower(Name),
-    Unknown,
-}
+pub(crate) type Sign = SignOver<Name>;
 
 #[tactic(auto, using(crate::proofs::WordSigns::name_word))]
 fn word_kind(word: &[u8]) -> Kind
@@ -72,7 +63,7 @@ fn word_kind(word: &[u8]) -> Kind
 {
     match constant_of(word) {
         Some(value) => Kind::Const(value),
-        None => Kind::Lower,
+        None => Kind::Lower(()),
     }
 }
 
@@ -121,7 +112,7 @@ pub(crate) fn sign_of(alloc: Global, kind: Kind, bytes: &[u8]) -> Result<Sign, N
         Kind::Tensed(tense) => Sign::Tensed(tense),
         Kind::Pairs(pairing) => Sign::Pairs(pairing),
         Kind::Quantifies(quantifier) => Sign::Quantifies(quantifier),
-        Kind::Lower => Sign::Lower(Name::from_bytes(alloc, bytes)?),
+        Kind::Lower(()) => Sign::Lower(Name::from_bytes(alloc, bytes)?),
         Kind::Unknown => Sign::Unknown,
     })
 }

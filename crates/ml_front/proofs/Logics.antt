@@ -16,6 +16,7 @@ use Rattle.ml_base.specs.declared.parse_refusal.ParseRefusal.{ParseRefusal}
 use Rattle.ml_base.specs.declared.parse_refusal.ParseRefusal.TheVariants as refusal
 use Rattle.ml_lines.proofs.LineFronts.{IsInLine}
 use Rattle.ml_lists.proofs.Decided.{Decided}
+use Rattle.ml_text.specs.Answers.{HaveOneAnswer}
 use Rattle.ml_ctl.specs.Formula as ctl_formula
 use Rattle.ml_ctl.proofs.CanonicalParsed as ctl_canonical
 use Rattle.ml_ctl.proofs.OneAnswer as ctl_answer
@@ -23,9 +24,8 @@ use Rattle.ml_ctl.proofs.Parsed as ctl_parsed
 use Rattle.ml_mu.specs.Formula as mu_formula
 use Rattle.ml_mu.proofs.CanonicalLines as mu_lines
 use Rattle.ml_mu.proofs.CanonicalParsed as mu_canonical
-use Rattle.ml_mu.proofs.OneAnswer as mu_once
+use Rattle.ml_mu.proofs.OneAnswer as mu_answer
 use Rattle.ml_mu.proofs.Parsed as mu_parsed
-use Rattle.ml_mu.proofs.SomeAnswer as mu_answer
 use Rattle.ml_pdl.specs.Formula as pdl_formula
 use Rattle.ml_pdl.proofs.CanonicalParsed as pdl_canonical
 use Rattle.ml_pdl.proofs.OneAnswer as pdl_answer
@@ -84,11 +84,11 @@ one_logic l k same = sym (logic_read l) ∙ ap some_logic same ∙ logic_read k
 
 -- ---- texts
 
-once : (l : Logic) (text : List ℕ) (e d : PlainOf l) → IsParsedAs text (any l e) → IsParsedAs text (any l d) → e ≡ d
-once logic.Mu text e d parsed again = mu_once.parsed_once text e d parsed again
-once logic.Pdl text e d parsed again = pdl_answer.parsed_once text e d parsed again
-once logic.Ctl text e d parsed again = ctl_answer.parsed_once ctl_formula.Ctl text e d parsed again
-once logic.Ltl text e d parsed again = ctl_answer.parsed_once ctl_formula.Ltl text e d parsed again
+answers : (l : Logic) → HaveOneAnswer (λ text (e : PlainOf l). IsParsedAs text (any l e)) (IsRefusedBy l)
+answers logic.Mu = mu_answer.one_answer
+answers logic.Pdl = pdl_answer.one_answer
+answers logic.Ctl = ctl_answer.one_answer ctl_formula.Ctl
+answers logic.Ltl = ctl_answer.one_answer ctl_formula.Ltl
 
 pub formula_once : (text : List ℕ) (f g : AnyFormula)
     → logic_of f ≡ logic_of g
@@ -100,17 +100,8 @@ formula_once text f g same parsed again =
     let here = of_logic l f same in
     let there = is_any g in
     here.1
-    ∙ ap (any l) (once l text here.0 there.0 (subst (IsParsedAs text) here.1 parsed) (subst (IsParsedAs text) there.1 again))
+    ∙ ap (any l) ((answers l).parsed text here.0 there.0 (subst (IsParsedAs text) here.1 parsed) (subst (IsParsedAs text) there.1 again))
     ∙ sym there.1
-
-refused_for_memory : (l : Logic) (text : List ℕ) (e : PlainOf l) (r : ParseRefusal)
-    → IsParsedAs text (any l e)
-    → IsRefusedBy l text r
-    → r ≡ refusal.NoMemory
-refused_for_memory logic.Mu text e r parsed refused = mu_once.parsed_or_refused text e r parsed refused
-refused_for_memory logic.Pdl text e r parsed refused = pdl_answer.parsed_or_refused text e r parsed refused
-refused_for_memory logic.Ctl text e r parsed refused = ctl_answer.parsed_or_refused ctl_formula.Ctl text e r parsed refused
-refused_for_memory logic.Ltl text e r parsed refused = ctl_answer.parsed_or_refused ctl_formula.Ltl text e r parsed refused
 
 pub formula_or_refused : (l : Logic) (text : List ℕ) (f : AnyFormula) (e : ParseRefusal)
     → logic_of f ≡ l
@@ -119,7 +110,7 @@ pub formula_or_refused : (l : Logic) (text : List ℕ) (f : AnyFormula) (e : Par
     → e ≡ refusal.NoMemory
 formula_or_refused l text f e same parsed refused =
     let here = of_logic l f same in
-    refused_for_memory l text here.0 e (subst (IsParsedAs text) here.1 parsed) refused
+    (answers l).exclusive text here.0 e (subst (IsParsedAs text) here.1 parsed) refused
 
 -- a text that is refused for a reason of its own
 abbrev IsRefused : Logic → List ℕ → Type 0
@@ -132,10 +123,7 @@ in_logic l text (inl (e, parsed)) = inl (any l e, logic_of_any l e, parsed)
 in_logic l text (inr refused) = inr refused
 
 pub some_answer : (l : Logic) (text : List ℕ) → IsFormulaOf l text ⊎ IsRefused l text
-some_answer logic.Mu text = in_logic logic.Mu text (mu_answer.some_answer text)
-some_answer logic.Pdl text = in_logic logic.Pdl text (pdl_answer.some_answer text)
-some_answer logic.Ctl text = in_logic logic.Ctl text (ctl_answer.some_answer ctl_formula.Ctl text)
-some_answer logic.Ltl text = in_logic logic.Ltl text (ctl_answer.some_answer ctl_formula.Ltl text)
+some_answer l text = in_logic l text ((answers l).some text)
 
 pub has_formula : (l : Logic) (text : List ℕ) → Decided (IsFormulaOf l text)
 has_formula l text = go (some_answer l text)

@@ -1,38 +1,20 @@
 -- What is true of texts and of problems.
 --
 --   CanonicalIsParsed   == the canonical text of a well-formed formula is parsed as it
---   OneAnswer           == each text is parsed as some formula, or is refused for a reason of its own, and never both
---   ParsedOnce          == a text is parsed as one formula at most
 --   ParsedAreWellFormed == the formulas that are parsed are well formed
 --   PlainAsCtl          == a plain problem holds where `E f` does
 --   NegatedAsCtl        == a negated problem holds where `E !f` does
-use Rattle.std.specs.Prelude.{ℕ, ◌≡◌, ◌≢◌, ◌⊎◌, ◌↔◌, true, false, List}
+use Rattle.std.specs.Prelude.{ℕ, ◌↔◌, true, false, List}
 use Rattle.ml_base.specs.Structure.{Structure}
-use Rattle.ml_base.specs.declared.parse_refusal.ParseRefusal.{ParseRefusal}
-use Rattle.ml_base.specs.declared.parse_refusal.ParseRefusal.TheVariants as refusal
 use Rattle.ml_ctl.specs.Canonical.{canonical_text}
 use Rattle.ml_ctl.specs.Formula.{Formula, Not, Quantified, Exists, Ltl}
 use Rattle.ml_ctl.specs.Problem as ctl
 use Rattle.ml_ctl.specs.WellFormed.{IsWellFormed}
-use Rattle.ml_ltl.specs.Parsing.{IsParsedAs, IsRefusedBy}
+use Rattle.ml_ltl.specs.Parsing.{IsParsedAs}
 use Rattle.ml_ltl.specs.Problem.{HoldsAt}
 
 abbrev pub CanonicalIsParsed : Type 0
 CanonicalIsParsed = (f : Formula) → IsWellFormed Ltl f → IsParsedAs (canonical_text f) f
-
--- a text is refused for a reason of its own
-abbrev pub IsRefused : List ℕ → Type 0
-IsRefused text = (e : ParseRefusal) × (e ≢ refusal.NoMemory) × IsRefusedBy text e
-
-pub record HasOneAnswer (text : List ℕ) : Type 0 where
-  pub some : ((f : Formula) × IsParsedAs text f) ⊎ IsRefused text
-  pub exclusive : (f : Formula) → IsParsedAs text f → IsRefused text → ⊥
-
-abbrev pub OneAnswer : Type 0
-OneAnswer = (text : List ℕ) → HasOneAnswer text
-
-abbrev pub ParsedOnce : Type 0
-ParsedOnce = (text : List ℕ) (f g : Formula) → IsParsedAs text f → IsParsedAs text g → f ≡ g
 
 abbrev pub ParsedAreWellFormed : Type 0
 ParsedAreWellFormed = (text : List ℕ) (f : Formula) → IsParsedAs text f → IsWellFormed Ltl f

@@ -1,6 +1,8 @@
 // What holds of texts and of problems by their definitions alone: the functions do nothing, their contracts are the
 // theorems. Those on texts are `ml_ctl`'s, which speak of both logics.
-ghost use Rattle.ml_ltl.specs.Laws.{CanonicalIsParsed, NegatedAsCtl, OneAnswer, ParsedAreWellFormed, ParsedOnce, PlainAsCtl};
+ghost use Rattle.ml_text.specs.Answers.{HaveOneAnswer};
+ghost use Rattle.ml_ltl.specs.Laws.{CanonicalIsParsed, NegatedAsCtl, ParsedAreWellFormed, PlainAsCtl};
+ghost use Rattle.ml_ltl.specs.Parsing.{IsParsedAs, IsRefusedBy};
 
 /// The canonical text of a well-formed formula is parsed as it, within all limits. So every formula that a program holds
 /// is read back from what `print` writes.
@@ -8,13 +10,12 @@ pub fn canonical_text_is_parsed()
     ensures { CanonicalIsParsed }
 {}
 
-/// A text has exactly one answer but want of memory.
+/// A text has exactly one answer but want of memory: it is parsed as one formula, or it is refused in one way.
 ///
-/// `some`: it is parsed as some formula, or refused for a reason of its own, and never both. `once`: it is parsed as one
-/// formula at most.
+/// `some`: one of the two comes. `parsed` and `refused`: each comes in one way at most. `exclusive`: never both come. So
+/// `parse` answers each exactly where it is said to come.
 pub fn one_answer()
-    ensures some { OneAnswer }
-    ensures once { ParsedOnce }
+    ensures { HaveOneAnswer IsParsedAs IsRefusedBy }
 {}
 
 /// What a text is parsed as is well formed: small, with names spelled as they must be, and without quantifiers.

@@ -25,8 +25,8 @@ use Rattle.ml_mu.specs.Signs.{Sign, Binds, Lower, Upper, Unknown, HasShortName, 
 use Rattle.ml_mu.specs.Text.{sign_at}
 use Rattle.ml_mu.specs.Spelling.{is_proposition, is_variable, is_reserved}
 use Rattle.ml_mu.specs.private.SignViews.{named}
-use Rattle.ml_mu.specs.declared.signs.Kind.{Kind}
-use Rattle.ml_mu.specs.declared.signs.Kind.TheVariants as kind
+use Rattle.ml_mu.specs.declared.signs.SignOver.{SignOver}
+use Rattle.ml_mu.specs.declared.signs.SignOver.TheVariants as kind
 use Rattle.ml_mu.proofs.Spelled.{IsSpelledSign, spelled_sign}
 use Rattle.ml_mu.proofs.WordSigns.{upper_sign}
 
@@ -121,23 +121,13 @@ short_name token.Word bytes n short size = short_word bytes (constant_of bytes) 
 -- ---- names that are cut
 
 -- the first bytes of a name are one
-pub cut_name : (k : Kind) (w : List ℕ) (s : Sign) → named k w ≡ s → IsSpelledSign s → HasShortName (named k (take 64 w))
-cut_name kind.Lower w s is spelled = cut_word w (proposition_letters w (subst IsSpelledSign (sym is) spelled))
-cut_name kind.Upper w s is spelled = cut_word w (upper_letters w (subst IsSpelledSign (sym is) spelled))
-cut_name kind.Not w s is spelled = tt
-cut_name (kind.Connective c) w s is spelled = tt
-cut_name (kind.Const b) w s is spelled = tt
-cut_name kind.Open w s is spelled = tt
-cut_name kind.Close w s is spelled = tt
-cut_name (kind.Begins m) w s is spelled = tt
-cut_name (kind.Ends m) w s is spelled = tt
-cut_name (kind.Binds q) w s is spelled = tt
-cut_name kind.Dot w s is spelled = tt
-cut_name kind.Blank w s is spelled = tt
-cut_name kind.Unknown w s is spelled = tt
+pub cut_name : (k : SignOver (Unit {0})) (w : List ℕ) (s : Sign) → named k w ≡ s → IsSpelledSign s → HasShortName (named k (take 64 w))
+cut_name (kind.Lower u) w s is spelled = cut_word w (proposition_letters w (subst IsSpelledSign (sym is) spelled))
+cut_name (kind.Upper u) w s is spelled = cut_word w (upper_letters w (subst IsSpelledSign (sym is) spelled))
+cut_name _ w s is spelled = tt
 
 -- a sign can be made of each token
-pub can_name : (k : Kind) (text : List ℕ) (p : Placed)
+pub can_name : (k : SignOver (Unit {0})) (text : List ℕ) (p : Placed)
     → p.start ≤ p.end
     → p.end ≤ length text
     → named k (bytes_of text p) ≡ sign_at text p

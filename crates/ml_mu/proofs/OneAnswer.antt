@@ -2,41 +2,32 @@
 --
 --   one_formula       == a text stands for one formula at most
 --   canonical_one     == the canonical text of a formula stands for it alone
---   parsed_once       == a text is parsed as one formula at most
---   parsed_or_refused == what is parsed is refused by nothing but want of memory
---   refused_one_way   == a text is refused in one way at most
+--   one_answer        == a text is parsed as one formula or refused in one way
 use Rattle.std.proofs.Common.{◌≡◌, ℕ, true, List, [], ◌∷◌, length, Some, None, refl, sym, ◌∙◌, ap}
 use Rattle.ml_base.specs.declared.parse_refusal.ParseRefusal.{ParseRefusal}
 use Rattle.ml_base.specs.declared.parse_refusal.ParseRefusal.TheVariants as refusal
+use Rattle.ml_text.specs.Answers.{HaveOneAnswer, IsUnambiguous}
 use Rattle.ml_text.specs.Refusals.{Cause, Syntax, TooMany, TooNested, NameTooLong, offset_of, signs_of}
 use Rattle.ml_text.proofs.Complete.{one_tree}
 use Rattle.ml_text.proofs.OneAnswer.{refused_once, accepted_not_refused}
 use Rattle.ml_mu.specs.Canonical.{canonical_text}
 use Rattle.ml_mu.specs.Formula.{Formula}
 use Rattle.ml_mu.specs.Grammar.{IsReadAs}
-use Rattle.ml_mu.specs.Parsing.{CanonicalStandsForOne, IsParsedAs, IsRefusedBy, ComesFirst, HasFault, StandForOne, NeverBoth, ParsedOnce, RefusedOnce}
+use Rattle.ml_mu.specs.Parsing.{CanonicalStandsForOne, IsParsedAs, IsRefusedBy, ComesFirst, HasFault}
 use Rattle.ml_mu.specs.private.Tables.{mu_grammar}
-use Rattle.ml_mu.specs.Text.{items, variable_places}
+use Rattle.ml_mu.specs.Text.{IsTextOf, items, variable_places}
 use Rattle.ml_mu.specs.VariableFaults.{Standing, Fine, Unbound, NotPositive, standings, fault_at, are_fine}
 use Rattle.ml_mu.proofs.CanonicalTexts.{canonical_stands}
 use Rattle.ml_mu.proofs.MuGrammar.{mu_regular, read_stands}
+use Rattle.ml_mu.proofs.SomeAnswer.{some_answer}
 
-read_once : (text : List ℕ) (f g : Formula)
-    → IsReadAs (signs_of (items text)) f
-    → IsReadAs (signs_of (items text)) g
-    → f ≡ g
-read_once text f g a b =
+pub one_formula : IsUnambiguous IsTextOf
+one_formula text f g a b =
     one_tree mu_grammar mu_regular (signs_of (items text)) f g (read_stands (signs_of (items text)) f a)
     (read_stands (signs_of (items text)) g b)
 
-pub one_formula : StandForOne
-one_formula text f g a b = read_once text f g a b
-
-pub parsed_once : ParsedOnce
-parsed_once text f g a b = read_once text f g a.accepted.stands b.accepted.stands
-
 pub canonical_one : CanonicalStandsForOne
-canonical_one f g is = let stands = canonical_stands f is in (stands, λ other. read_once (canonical_text f) g f other stands)
+canonical_one f g is = let stands = canonical_stands f is in (stands, λ other. one_formula (canonical_text f) g f other stands)
 
 -- a fault of no place is none
 fine_no_fault : (ss : List Standing) (places : List ℕ) → are_fine ss ≡ true → fault_at ss places ≡ None
@@ -48,7 +39,7 @@ fine_no_fault (NotPositive ∷ ss) places is = absurd (cc)
 
 parsed_no_fault : (text : List ℕ) (f : Formula) (s : Standing) (at : ℕ) → IsParsedAs text f → HasFault text s at → ⊥
 parsed_no_fault text f s at parsed fault =
-    let same : fault.0 ≡ f = read_once text fault.0 f (fault.1).stands parsed.accepted.stands in
+    let same : fault.0 ≡ f = one_formula text fault.0 f (fault.1).stands parsed.accepted.stands in
     let none = fine_no_fault (standings f) (variable_places (items text)) parsed.fine in
     let some = ap (λ h. fault_at (standings h) (variable_places (items text))) (sym same) ∙ fault.2 in
     cc
@@ -56,7 +47,10 @@ parsed_no_fault text f s at parsed fault =
 parsed_not_first : (text : List ℕ) (f : Formula) (c : Cause) (at : ℕ) → IsParsedAs text f → ComesFirst text c at → ⊥
 parsed_not_first text f c at parsed first = accepted_not_refused IsReadAs (items text) f c first.0 parsed.accepted first.1
 
-pub parsed_or_refused : NeverBoth
+parsed_or_refused : (text : List ℕ) (f : Formula) (e : ParseRefusal)
+    → IsParsedAs text f
+    → IsRefusedBy text e
+    → e ≡ refusal.NoMemory
 parsed_or_refused text f (refusal.Syntax at) parsed is = absurd (parsed_not_first text f Syntax at parsed is)
 parsed_or_refused text f (refusal.TooMany at) parsed is = absurd (parsed_not_first text f TooMany at parsed is)
 parsed_or_refused text f (refusal.TooNested at) parsed is = absurd (parsed_not_first text f TooNested at parsed is)
@@ -125,7 +119,7 @@ same_reason text (For c) (For d) i j a b =
 same_reason text (For c) (Because s) i j a b = absurd (accepted_not_refused IsReadAs (items text) b.0 c a.0 b.1 a.1)
 same_reason text (Because s) (For c) i j a b = absurd (accepted_not_refused IsReadAs (items text) a.0 c b.0 a.1 b.1)
 same_reason text (Because s) (Because r) i j a b =
-    let same : a.0 ≡ b.0 = read_once text a.0 b.0 (a.1).stands (b.1).stands in
+    let same : a.0 ≡ b.0 = one_formula text a.0 b.0 (a.1).stands (b.1).stands in
     let both : Some (s, i) ≡ Some (r, j) = sym a.2 ∙ ap (λ h. fault_at (standings h) (variable_places (items text))) same ∙ b.2 in
     let pair : (s, i) ≡ (r, j) = cc in
     (ap (λ (p : Standing × ℕ). Because p.0) pair, ap (λ (p : Standing × ℕ). p.1) pair)
@@ -133,7 +127,20 @@ same_reason text Wanting b i j a c = absurd a
 same_reason text (For c) Wanting i j a b = absurd b
 same_reason text (Because s) Wanting i j a b = absurd b
 
-pub refused_one_way : RefusedOnce
+refused_one_way : (text : List ℕ) (e d : ParseRefusal)
+    → (e ≡ refusal.NoMemory → ⊥)
+    → (d ≡ refusal.NoMemory → ⊥)
+    → IsRefusedBy text e
+    → IsRefusedBy text d
+    → e ≡ d
 refused_one_way text e d a b p q =
     let same = same_reason text (reason_of e).0 (reason_of d).0 (reason_of e).1 (reason_of d).1 (holds text e a p) (holds text d b q) in
     sym (back e) ∙ ap (λ r. refusal_of r (reason_of e).1) same.0 ∙ ap (refusal_of (reason_of d).0) same.1 ∙ back d
+
+pub one_answer : HaveOneAnswer IsParsedAs IsRefusedBy
+one_answer = record {
+  some = some_answer;
+  parsed = λ text f g a b. one_formula text f g a.accepted.stands b.accepted.stands;
+  refused = refused_one_way;
+  exclusive = parsed_or_refused;
+}

@@ -10,7 +10,7 @@ use Rattle.ml_text.specs.Refusals.{Cause, Syntax, TooMany, TooNested, NameTooLon
 use Rattle.ml_text.specs.private.Reading.{Outcome, Found, Refused}
 use Rattle.ml_mu.specs.Formula.{Formula}
 use Rattle.ml_mu.specs.Grammar.{IsReadAs}
-use Rattle.ml_mu.specs.Parsing.{IsParsedAs, IsRefusedBy, ComesFirst, HasFault, SomeAnswer}
+use Rattle.ml_mu.specs.Parsing.{IsParsedAs, IsRefusedBy, ComesFirst, HasFault}
 use Rattle.ml_mu.specs.Text.{items, variable_places}
 use Rattle.ml_mu.specs.VariableFaults.{Standing, Fine, Unbound, NotPositive, standings, fault_at}
 use Rattle.ml_mu.proofs.Parsed.{mu_outcome, found_accepted, comes_first, faultless_fine}
@@ -59,5 +59,5 @@ by_outcome text (Found f) is =
     by_fault text f (found_accepted text f is) (fault_at (standings f) (variable_places (items text))) refl
 by_outcome text (Refused c at) is = by_cause text c at (comes_first text c at is)
 
-pub some_answer : SomeAnswer
+pub some_answer : (text : List ℕ) → Answered text
 some_answer text = by_outcome text (mu_outcome text) refl

@@ -5,9 +5,9 @@
 --
 --   IsParsedAs text f   == the text is one of f, keeps the limits, and no variable is at fault
 --   IsRefusedBy text e  == the text is refused with this answer
---   StandForOne, CanonicalStandsForOne, SomeAnswer, ParsedOnce, RefusedOnce, NeverBoth, ParsedAreWellFormed,
---   CanonicalIsParsed == the laws of these notions
-use Rattle.std.specs.Prelude.{ℕ, ◌≡◌, ◌≢◌, ◌⊎◌, List, length, Some, true, IsTrue}
+--   CanonicalStandsForOne, ParsedAreWellFormed, CanonicalIsParsed == the laws of these notions, beside those of
+--   `ml_text/specs/Answers`
+use Rattle.std.specs.Prelude.{ℕ, ◌≡◌, List, length, Some, true, IsTrue}
 use Rattle.ml_base.specs.declared.parse_refusal.ParseRefusal.{ParseRefusal}
 use Rattle.ml_base.specs.declared.parse_refusal.ParseRefusal.TheVariants as refusal
 use Rattle.ml_text.specs.Refusals as cause
@@ -33,36 +33,11 @@ abbrev pub HasFault : List ℕ → Standing → ℕ → Type 0
 HasFault text s at = (f : Formula) × IsAccepted IsReadAs (items text) f × (fault_at (standings f) (variable_places (items text)) ≡ Some (s, at))
 
 abbrev pub IsRefusedBy : List ℕ → ParseRefusal → Type 0
-IsRefusedBy text (refusal.Syntax at) = ComesFirst text cause.Syntax at
 IsRefusedBy text (refusal.Unbound at) = HasFault text Unbound at
 IsRefusedBy text (refusal.NotPositive at) = HasFault text NotPositive at
-IsRefusedBy text (refusal.TooMany at) = ComesFirst text cause.TooMany at
-IsRefusedBy text (refusal.TooNested at) = ComesFirst text cause.TooNested at
-IsRefusedBy text (refusal.NameTooLong at) = ComesFirst text cause.NameTooLong at
--- want of memory is the one answer that says nothing of the text
-IsRefusedBy text refusal.NoMemory = Unit {0}
+IsRefusedBy text e = cause.IsRefusedBy IsReadAs (items text) (length text) e
 
 -- ---- laws
-
--- a text stands for one formula at most
-abbrev pub StandForOne : Type 0
-StandForOne = (text : List ℕ) (f g : Formula) → IsTextOf text f → IsTextOf text g → f ≡ g
-
--- each text is parsed as some formula, or is refused for a reason of its own
-abbrev pub SomeAnswer : Type 0
-SomeAnswer = (text : List ℕ) → ((f : Formula) × IsParsedAs text f) ⊎ ((e : ParseRefusal) × (e ≢ refusal.NoMemory) × IsRefusedBy text e)
-
--- a text is parsed as one formula at most
-abbrev pub ParsedOnce : Type 0
-ParsedOnce = (text : List ℕ) (f g : Formula) → IsParsedAs text f → IsParsedAs text g → f ≡ g
-
--- what is parsed as a formula is refused by nothing but want of memory
-abbrev pub NeverBoth : Type 0
-NeverBoth = (text : List ℕ) (f : Formula) (e : ParseRefusal) → IsParsedAs text f → IsRefusedBy text e → e ≡ refusal.NoMemory
-
--- but for want of memory, a text is refused in one way at most
-abbrev pub RefusedOnce : Type 0
-RefusedOnce = (text : List ℕ) (e d : ParseRefusal) → (e ≢ refusal.NoMemory) → (d ≢ refusal.NoMemory) → IsRefusedBy text e → IsRefusedBy text d → e ≡ d
 
 -- the canonical text of a formula whose names are spelled as they must be stands for it, and for no other
 abbrev pub CanonicalStandsForOne : Type 0

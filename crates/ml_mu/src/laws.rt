@@ -2,15 +2,17 @@
 // the theorems.
 ghost use Rattle.std.specs.Prelude.{◌≡◌, ℕ, true, List, ◌∷◌, length};
 ghost use Rattle.ml_base.specs.Structure.{Structure, StateSet, is_member};
+ghost use Rattle.ml_text.specs.Answers.{HaveOneAnswer, IsUnambiguous};
 ghost use Rattle.ml_mu.specs.Formula.{Formula, Binder, Fixpoint, Least, Greatest};
 ghost use Rattle.ml_mu.specs.Meaning.{Given, HaveFlags, meaning};
 ghost use Rattle.ml_mu.specs.Variables.{is_positive};
-ghost use Rattle.ml_mu.specs.Parsing.{CanonicalIsParsed, CanonicalStandsForOne, NeverBoth, ParsedAreWellFormed, ParsedOnce, RefusedOnce, SomeAnswer, StandForOne};
+ghost use Rattle.ml_mu.specs.Parsing.{CanonicalIsParsed, CanonicalStandsForOne, IsParsedAs, IsRefusedBy, ParsedAreWellFormed};
+ghost use Rattle.ml_mu.specs.Text.{IsTextOf};
 
 /// A text stands for one formula at most, by the grammar alone.
 #[tactic(auto, using(crate::proofs::OneAnswer::one_formula))]
 pub fn one_formula()
-    ensures { StandForOne }
+    ensures { IsUnambiguous IsTextOf }
 {}
 
 /// The canonical text of a formula whose names are spelled as they must be stands for it and for no other, by the
@@ -31,10 +33,7 @@ pub fn canonical_text_is_parsed()
 /// `some`: one of the two comes. `parsed` and `refused`: each comes in one way at most. `exclusive`: never both come. So
 /// `parse` answers each exactly where it is said to come.
 pub fn one_answer()
-    ensures some { SomeAnswer }
-    ensures parsed { ParsedOnce }
-    ensures refused { RefusedOnce }
-    ensures exclusive { NeverBoth }
+    ensures { HaveOneAnswer IsParsedAs IsRefusedBy }
 {}
 
 /// What a text is parsed as is well formed: small, with names spelled as they must be, and with bound and positive

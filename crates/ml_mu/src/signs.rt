@@ -25,9 +25,9 @@ pub(crate) enum Fixpoint {
     Greatest,
 }
 
-// what a token is, without its name
-#[derive(Clone, Copy)]
-pub(crate) enum Kind {
+// a token, where N is what is held of a name
+#[derive(Clone, Copy, Drop)]
+pub(crate) enum SignOver<N> {
     Not,
     Connective(Operator),
     Const(bool),
@@ -42,30 +42,18 @@ pub(crate) enum Kind {
     Dot,
     Blank,
     // a name that begins with a lower-case letter
-    Lower,
+    Lower(N),
     // a name that begins with an upper-case letter
-    Upper,
+    Upper(N),
     // in no text of the grammar
     Unknown,
 }
 
+// what a token is, without its name
+pub(crate) type Kind = SignOver<()>;
+
 // a token with its name
-#[derive(Drop)]
-pub(crate) enum Sign {
-    Not,
-    Connective(Operator),
-    Const(bool),
-    Open,
-    Close,
-    Begins(Modality),
-    Ends(Modality),
-    Binds(Fixpoint),
-    Dot,
-    Blank,
-    Lower(Name),
-    Upper(Name),
-    Unknown,
-}
+pub(crate) type Sign = SignOver<Name>;
 
 // a word that isn't reserved, by its first letter
 #[tactic(auto, using(crate::proofs::Names::name_of_lower, crate::proofs::Names::name_of_upper))]
@@ -75,9 +63,9 @@ fn name_kind(word: &[u8]) -> Kind
     ensures { named result word.now ≡ grammar.name_sign word.now }
 {
     if is_lower(word[0]) {
-        Kind::Lower
+        Kind::Lower(())
     } else {
-        Kind::Upper
+        Kind::Upper(())
     }
 }
 
@@ -158,8 +146,8 @@ pub(crate) fn sign_of(alloc: Global, kind: Kind, bytes: &[u8]) -> Result<Sign, N
         Kind::Binds(fixpoint) => Sign::Binds(fixpoint),
         Kind::Dot => Sign::Dot,
         Kind::Blank => Sign::Blank,
-        Kind::Lower => Sign::Lower(Name::from_bytes(alloc, bytes)?),
-        Kind::Upper => Sign::Upper(Name::from_bytes(alloc, bytes)?),
+        Kind::Lower(()) => Sign::Lower(Name::from_bytes(alloc, bytes)?),
+        Kind::Upper(()) => Sign::Upper(Name::from_bytes(alloc, bytes)?),
         Kind::Unknown => Sign::Unknown,
     })
 }
@@ -176,8 +164,8 @@ fn weight(kind: Kind) -> u32
         | Kind::Const(_)
         | Kind::Begins(_)
         | Kind::Binds(_)
-        | Kind::Lower
-        | Kind::Upper => 1,
+        | Kind::Lower(_)
+        | Kind::Upper(_) => 1,
         _ => 0,
     }
 }
@@ -205,5 +193,5 @@ pub(crate) fn bracket(kind: Kind) -> Bracket
 pub(crate) fn is_variable(silent: bool, kind: Kind) -> bool
     ensures { (word : List ℕ) → result ≡ is_variable_at silent (named kind word) }
 {
-    !silent && matches!(kind, Kind::Upper)
+    !silent && matches!(kind, Kind::Upper(_))
 }

@@ -3,11 +3,10 @@
 --
 --   IsParsedAs text f   == the text is one of f, and keeps the limits
 --   IsRefusedBy text e  == the text is refused with this answer
---   StandForOne, CanonicalStandsForOne, SomeAnswer, ParsedOnce, RefusedOnce, NeverBoth, ParsedAreWellFormed,
---   CanonicalIsParsed == the laws of these notions
-use Rattle.std.specs.Prelude.{ℕ, ◌≡◌, ◌≢◌, ◌⊎◌, List, length, IsTrue}
+--   CanonicalStandsForOne, ParsedAreWellFormed, CanonicalIsParsed == the laws of these notions, beside those of
+--   `ml_text/specs/Answers`
+use Rattle.std.specs.Prelude.{ℕ, ◌≡◌, List, length, IsTrue}
 use Rattle.ml_base.specs.declared.parse_refusal.ParseRefusal.{ParseRefusal}
-use Rattle.ml_base.specs.declared.parse_refusal.ParseRefusal.TheVariants as refusal
 use Rattle.ml_text.specs.Refusals as refused
 use Rattle.ml_text.specs.Refusals.{IsAccepted}
 use Rattle.ml_pdl.specs.Canonical.{canonical_text}
@@ -24,26 +23,6 @@ abbrev pub IsRefusedBy : List ℕ → ParseRefusal → Type 0
 IsRefusedBy text e = refused.IsRefusedBy IsReadAs (items text) (length text) e
 
 -- ---- laws
-
--- a text stands for one formula at most
-abbrev pub StandForOne : Type 0
-StandForOne = (text : List ℕ) (f g : Formula) → IsTextOf text f → IsTextOf text g → f ≡ g
-
--- each text is parsed as some formula, or is refused for a reason of its own
-abbrev pub SomeAnswer : Type 0
-SomeAnswer = (text : List ℕ) → ((f : Formula) × IsParsedAs text f) ⊎ ((e : ParseRefusal) × (e ≢ refusal.NoMemory) × IsRefusedBy text e)
-
--- a text is parsed as one formula at most
-abbrev pub ParsedOnce : Type 0
-ParsedOnce = (text : List ℕ) (f g : Formula) → IsParsedAs text f → IsParsedAs text g → f ≡ g
-
--- what is parsed as a formula is refused by nothing but want of memory
-abbrev pub NeverBoth : Type 0
-NeverBoth = (text : List ℕ) (f : Formula) (e : ParseRefusal) → IsParsedAs text f → IsRefusedBy text e → e ≡ refusal.NoMemory
-
--- but for want of memory, a text is refused in one way at most
-abbrev pub RefusedOnce : Type 0
-RefusedOnce = (text : List ℕ) (e d : ParseRefusal) → (e ≢ refusal.NoMemory) → (d ≢ refusal.NoMemory) → IsRefusedBy text e → IsRefusedBy text d → e ≡ d
 
 -- the canonical text of a formula whose names are spelled as they must be stands for it, and for no other
 abbrev pub CanonicalStandsForOne : Type 0

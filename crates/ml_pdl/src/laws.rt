@@ -1,12 +1,13 @@
 // What holds of texts by their grammar alone, and of meanings: the functions do nothing, their contracts are the theorems.
 ghost use Rattle.std.specs.Prelude.{◌≡◌, List};
+ghost use Rattle.ml_text.specs.Answers.{HaveOneAnswer, IsUnambiguous};
 ghost use Rattle.ml_text.specs.Grammar.{IsRegular, IsCompletable, StandsFor};
 ghost use Rattle.ml_pdl.specs.Formula.{Formula};
 ghost use Rattle.ml_pdl.specs.Signs.{Sign};
 ghost use Rattle.ml_pdl.specs.Grammar.{IsReadAs};
 ghost use Rattle.ml_pdl.specs.Marks.{MarksAreOfTests};
-ghost use Rattle.ml_pdl.specs.Parsing.{CanonicalIsParsed, CanonicalStandsForOne, NeverBoth, ParsedAreWellFormed, ParsedOnce, RefusedOnce, SomeAnswer, StandForOne};
-ghost use Rattle.ml_pdl.specs.Text.{MarksAreOfTexts};
+ghost use Rattle.ml_pdl.specs.Parsing.{CanonicalIsParsed, CanonicalStandsForOne, IsParsedAs, IsRefusedBy, ParsedAreWellFormed};
+ghost use Rattle.ml_pdl.specs.Text.{IsTextOf, MarksAreOfTexts};
 ghost use Rattle.ml_pdl.specs.Laws.{StarsAreLeast, RepetitionsAreGreatest};
 ghost use Rattle.ml_pdl.specs.Tables.{Phrase, OfFormula, pdl_grammar};
 
@@ -43,7 +44,7 @@ pub fn one_formula()
 /// A text stands for one formula at most, by the grammar alone.
 #[tactic(auto, using(crate::proofs::OneAnswer::one_text_formula))]
 pub fn texts_stand_for_one()
-    ensures { StandForOne }
+    ensures { IsUnambiguous IsTextOf }
 {}
 
 /// The canonical text of a formula whose names are spelled as they must be stands for it and for no other, by the
@@ -64,10 +65,7 @@ pub fn canonical_text_is_parsed()
 /// `some`: one of the two comes. `parsed` and `refused`: each comes in one way at most. `exclusive`: never both come. So
 /// `parse` answers each exactly where it is said to come.
 pub fn one_answer()
-    ensures some { SomeAnswer }
-    ensures parsed { ParsedOnce }
-    ensures refused { RefusedOnce }
-    ensures exclusive { NeverBoth }
+    ensures { HaveOneAnswer IsParsedAs IsRefusedBy }
 {}
 
 /// What a text is parsed as is well formed: small, with names spelled as they must be.

@@ -25,9 +25,9 @@ pub(crate) enum Mark {
     Unmarked,
 }
 
-// what a token is, without its name
-#[derive(Clone, Copy)]
-pub(crate) enum Kind {
+// a token, where N is what is held of a name
+#[derive(Clone, Copy, Drop)]
+pub(crate) enum SignOver<N> {
     Not,
     Connective(Operator),
     Const(bool),
@@ -45,33 +45,18 @@ pub(crate) enum Kind {
     Question,
     Blank,
     // a name that begins with a lower-case letter
-    Lower,
+    Lower(N),
     // a name that begins with an upper-case letter
-    Upper,
+    Upper(N),
     // in no text of the grammar
     Unknown,
 }
 
+// what a token is, without its name
+pub(crate) type Kind = SignOver<()>;
+
 // a token with its name
-#[derive(Drop)]
-pub(crate) enum Sign {
-    Not,
-    Connective(Operator),
-    Const(bool),
-    Open(Mark),
-    Close,
-    Begins(Modality),
-    Ends(Modality),
-    Repeats,
-    Plus,
-    Semicolon,
-    Star,
-    Question,
-    Blank,
-    Lower(Name),
-    Upper(Name),
-    Unknown,
-}
+pub(crate) type Sign = SignOver<Name>;
 
 /// The mark of a parenthesis, by whether a test stands in it.
 pub(crate) fn mark_for(is_test: bool) -> Mark
@@ -102,9 +87,9 @@ fn name_kind(word: &[u8]) -> Kind
     ensures { named result word.now ≡ grammar.name_sign word.now }
 {
     if is_lower(word[0]) {
-        Kind::Lower
+        Kind::Lower(())
     } else {
-        Kind::Upper
+        Kind::Upper(())
     }
 }
 
@@ -185,8 +170,8 @@ pub(crate) fn sign_of(alloc: Global, kind: Kind, bytes: &[u8]) -> Result<Sign, N
         Kind::Star => Sign::Star,
         Kind::Question => Sign::Question,
         Kind::Blank => Sign::Blank,
-        Kind::Lower => Sign::Lower(Name::from_bytes(alloc, bytes)?),
-        Kind::Upper => Sign::Upper(Name::from_bytes(alloc, bytes)?),
+        Kind::Lower(()) => Sign::Lower(Name::from_bytes(alloc, bytes)?),
+        Kind::Upper(()) => Sign::Upper(Name::from_bytes(alloc, bytes)?),
         Kind::Unknown => Sign::Unknown,
     })
 }

@@ -6,12 +6,14 @@
 --   accepted_no_refusal  == an accepted text has no other
 --   refused_for          == a cause that comes first has a refusal
 --   refused_first        == what comes of a text, where it is a refusal, is one by that cause
-use Rattle.std.proofs.Common.{◌≡◌, ℕ, ◌<◌, ◌≤◌, ◌⊎◌, List, refl, sym, ◌∙◌, ap, inl, inr, arith}
+--   one_answer           == where what comes of each text is right, texts have one answer
+use Rattle.std.proofs.Common.{◌≡◌, ℕ, ◌<◌, ◌≤◌, ◌⊎◌, List, length, refl, sym, ◌∙◌, ap, inl, inr, arith}
 use Rattle.ml_base.specs.declared.parse_refusal.ParseRefusal.{ParseRefusal}
 use Rattle.ml_base.specs.declared.parse_refusal.ParseRefusal.TheVariants as refusal
-use Rattle.ml_text.specs.Refusals.{Item, Cause, Syntax, TooMany, TooNested, NameTooLong, rank, IsRefused, IsAccepted, ComesFirst, IsRefusedBy, offset_of}
+use Rattle.ml_text.specs.Answers.{HaveOneAnswer}
+use Rattle.ml_text.specs.Refusals.{Item, Cause, Syntax, TooMany, TooNested, NameTooLong, rank, IsRefused, IsAccepted, ComesFirst, IsRefusedBy, offset_of, signs_of}
 use Rattle.ml_text.specs.private.Progress.{IsRefusal, refusal_of}
-use Rattle.ml_text.specs.private.Reading.{Outcome, Refused}
+use Rattle.ml_text.specs.private.Reading.{Outcome, Found, Refused}
 
 one_rank : (c d : Cause) → rank c ≤ rank d → rank d ≤ rank c → c ≡ d
 one_rank Syntax Syntax a b = refl
@@ -131,8 +133,8 @@ refused_for R items end TooMany at first = (refusal.TooMany at, (λ same. cc), f
 refused_for R items end TooNested at first = (refusal.TooNested at, (λ same. cc), first)
 refused_for R items end NameTooLong at first = (refusal.NameTooLong at, (λ same. cc), first)
 
-pub refused_first : {Sign Tree Found : Type 0} (R : List Sign → Tree → Type 0) (items : List (Item Sign)) (end : ℕ)
-    (out : Outcome Found)
+pub refused_first : {Sign Tree Value : Type 0} (R : List Sign → Tree → Type 0) (items : List (Item Sign)) (end : ℕ)
+    (out : Outcome Value)
     → ((c : Cause) (at : ℕ) → out ≡ Refused c at → ComesFirst R items end c at)
     → (e : ParseRefusal)
     → IsRefusal e out
@@ -144,3 +146,27 @@ refused_first R items end out first (refusal.NameTooLong at) is = first NameTooL
 refused_first R items end out first (refusal.Unbound at) is = absurd is
 refused_first R items end out first (refusal.NotPositive at) is = absurd is
 refused_first R items end out first refusal.NoMemory is = tt
+
+-- what comes of a text is an answer, where it is right
+some_answer : {Sign Tree Value : Type 0} (R : List Sign → Tree → Type 0) (items : List (Item Sign)) (end : ℕ)
+    (tree : Value → Tree) (out o : Outcome Value)
+    → ((v : Value) → out ≡ Found v → IsAccepted R items (tree v))
+    → ((c : Cause) (at : ℕ) → out ≡ Refused c at → ComesFirst R items end c at)
+    → out ≡ o
+    → ((f : Tree) × IsAccepted R items f) ⊎ ((e : ParseRefusal) × (e ≡ refusal.NoMemory → ⊥) × IsRefusedBy R items end e)
+some_answer R items end tree out (Found v) found first is = inl (tree v, found v is)
+some_answer R items end tree out (Refused c at) found first is = inr (refused_for R items end c at (first c at is))
+
+pub one_answer : {Sign Tree Value : Type 0} (R : List Sign → Tree → Type 0) (items : List ℕ → List (Item Sign))
+    (tree : Value → Tree) (out : List ℕ → Outcome Value)
+    → ((ts : List Sign) (f g : Tree) → R ts f → R ts g → f ≡ g)
+    → ((text : List ℕ) (v : Value) → out text ≡ Found v → IsAccepted R (items text) (tree v))
+    → ((text : List ℕ) (c : Cause) (at : ℕ) → out text ≡ Refused c at → ComesFirst R (items text) (length text) c at)
+    → HaveOneAnswer (λ text f. IsAccepted R (items text) f) (λ text e. IsRefusedBy R (items text) (length text) e)
+one_answer R items tree out one found first = record {
+  some =
+      λ text. some_answer R (items text) (length text) tree (out text) (out text) (found text) (first text) refl;
+  parsed = λ text f g a b. one (signs_of (items text)) f g a.stands b.stands;
+  refused = λ text. refused_one_way R (items text) (length text);
+  exclusive = λ text. accepted_no_refusal R (items text) (length text);
+}

@@ -14,6 +14,8 @@ pub mod Spelling
 pub mod Grammar
 -- limits, and where texts are refused
 pub mod Refusals
+-- what is true of texts and answers in any logic
+pub mod Answers
 -- texts as items
 pub mod Items
 -- what private contracts cite

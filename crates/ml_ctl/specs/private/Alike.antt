@@ -7,8 +7,8 @@ use Rattle.ml_ctl.specs.Formula.{Logic}
 use Rattle.ml_ctl.specs.Signs.{Sign, Lower}
 use Rattle.ml_ctl.specs.private.SignViews.{named}
 use Rattle.ml_ctl.specs.private.Tables.{Start, BehindInside, ctl_grammar}
-use Rattle.ml_ctl.specs.declared.signs.Kind.{Kind}
-use Rattle.ml_ctl.specs.declared.signs.Kind.TheVariants as kind
+use Rattle.ml_ctl.specs.declared.signs.SignOver.{SignOver}
+use Rattle.ml_ctl.specs.declared.signs.SignOver.TheVariants as kind
 
 same : (w : Logic) (t : Sign) → IsLike (ctl_grammar w) t t
 same w t = record { role = λ s. refl; shift = λ q. refl; post = λ v. refl }
@@ -23,14 +23,6 @@ lower_alike w p q = record {
   post = λ v. refl;
 }
 
-pub alike : (w : Logic) (k : Kind) (word other : List ℕ) → IsLike (ctl_grammar w) (named k word) (named k other)
-alike w kind.Lower a b = lower_alike w a b
-alike w kind.Not a b = same w _
-alike w (kind.Connective c) a b = same w _
-alike w (kind.Const c) a b = same w _
-alike w kind.Open a b = same w _
-alike w kind.Close a b = same w _
-alike w (kind.Tensed t) a b = same w _
-alike w (kind.Pairs p) a b = same w _
-alike w (kind.Quantifies q) a b = same w _
-alike w kind.Unknown a b = same w _
+pub alike : (w : Logic) (k : SignOver (Unit {0})) (word other : List ℕ) → IsLike (ctl_grammar w) (named k word) (named k other)
+alike w (kind.Lower u) a b = lower_alike w a b
+alike w _ a b = same w _

@@ -1,6 +1,7 @@
 -- What the reader of texts asks of CTL* and LTL.
 --
 --   ctl_tables w  == the grammar and the signs of a logic, and what the values of the program stand for
+use Rattle.std.specs.Prelude.{ℕ, List}
 use Rattle.ml_text.specs.private.Tables.{Tables}
 use Rattle.ml_ctl.specs.Formula.{Logic}
 use Rattle.ml_ctl.specs.Signs.{HasShortName}
@@ -12,11 +13,10 @@ use Rattle.ml_ctl.specs.private.Tables.{ctl_grammar}
 use Rattle.ml_ctl.specs.declared.forms.Sort.{Sort}
 use Rattle.ml_ctl.specs.declared.forms.Wait.{Wait}
 use Rattle.ml_ctl.specs.declared.forms.Hold.{Hold}
-use Rattle.ml_ctl.specs.declared.signs.Kind.{Kind}
-use Rattle.ml_ctl.specs.declared.signs.Sign.{Sign}
+use Rattle.ml_ctl.specs.declared.signs.SignOver.{SignOver}
 use Rattle.ml_ctl.specs.declared.term.Term.{Term}
 
-abbrev pub ctl_tables : Logic → Tables Kind (Unit {0}) Sort Sign Term Wait Hold
+abbrev pub ctl_tables : Logic → Tables (SignOver (Unit {0})) (Unit {0}) Sort (SignOver (List ℕ)) Term Wait Hold
 ctl_tables w = record {
   grammar = ctl_grammar w;
   signs = ctl_signs;

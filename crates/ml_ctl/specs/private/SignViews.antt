@@ -1,6 +1,7 @@
 -- The signs that the program holds, as the signs of the grammar.
 --
 --   tense_of, pairing_of, quantifier_of == the same, of the plain data
+--   sign_with bytes s == the sign of the grammar, with the bytes of what is held of a name
 --   named kind word   == the sign of a kind, where names have these bytes
 --   sign_view s       == the sign that the program holds
 use Rattle.std.specs.Prelude.{ℕ, List}
@@ -12,10 +13,8 @@ use Rattle.ml_ctl.specs.declared.signs.Pairing.{Pairing}
 use Rattle.ml_ctl.specs.declared.signs.Pairing.TheVariants as pairing
 use Rattle.ml_ctl.specs.declared.signs.Quantifier.{Quantifier}
 use Rattle.ml_ctl.specs.declared.signs.Quantifier.TheVariants as quantifier
-use Rattle.ml_ctl.specs.declared.signs.Kind.{Kind}
-use Rattle.ml_ctl.specs.declared.signs.Kind.TheVariants as kind
-use Rattle.ml_ctl.specs.declared.signs.Sign.{Sign}
-use Rattle.ml_ctl.specs.declared.signs.Sign.TheVariants as held
+use Rattle.ml_ctl.specs.declared.signs.SignOver.{SignOver}
+use Rattle.ml_ctl.specs.declared.signs.SignOver.TheVariants as held
 
 abbrev pub tense_of : Tense → plain.Tense
 tense_of tense.Next = plain.Next
@@ -31,26 +30,20 @@ abbrev pub quantifier_of : Quantifier → plain.Quantifier
 quantifier_of quantifier.Exists = plain.Exists
 quantifier_of quantifier.Forall = plain.Forall
 
-abbrev pub named : Kind → List ℕ → grammar.Sign
-named kind.Not word = grammar.Not
-named (kind.Connective o) word = grammar.Connective o
-named (kind.Const b) word = grammar.Const b
-named kind.Open word = grammar.Open
-named kind.Close word = grammar.Close
-named (kind.Tensed t) word = grammar.Tensed (tense_of t)
-named (kind.Pairs p) word = grammar.Pairs (pairing_of p)
-named (kind.Quantifies q) word = grammar.Quantifies (quantifier_of q)
-named kind.Lower word = grammar.Lower word
-named kind.Unknown word = grammar.Unknown
+abbrev pub sign_with : {N : Type 0} → (N → List ℕ) → SignOver N → grammar.Sign
+sign_with bytes held.Not = grammar.Not
+sign_with bytes (held.Connective o) = grammar.Connective o
+sign_with bytes (held.Const b) = grammar.Const b
+sign_with bytes held.Open = grammar.Open
+sign_with bytes held.Close = grammar.Close
+sign_with bytes (held.Tensed t) = grammar.Tensed (tense_of t)
+sign_with bytes (held.Pairs p) = grammar.Pairs (pairing_of p)
+sign_with bytes (held.Quantifies q) = grammar.Quantifies (quantifier_of q)
+sign_with bytes (held.Lower name) = grammar.Lower (bytes name)
+sign_with bytes held.Unknown = grammar.Unknown
 
-abbrev pub sign_view : Sign → grammar.Sign
-sign_view held.Not = grammar.Not
-sign_view (held.Connective o) = grammar.Connective o
-sign_view (held.Const b) = grammar.Const b
-sign_view held.Open = grammar.Open
-sign_view held.Close = grammar.Close
-sign_view (held.Tensed t) = grammar.Tensed (tense_of t)
-sign_view (held.Pairs p) = grammar.Pairs (pairing_of p)
-sign_view (held.Quantifies q) = grammar.Quantifies (quantifier_of q)
-sign_view (held.Lower p) = grammar.Lower p
-sign_view held.Unknown = grammar.Unknown
+abbrev pub named : SignOver (Unit {0}) → List ℕ → grammar.Sign
+named kind word = sign_with (λ u. word) kind
+
+abbrev pub sign_view : SignOver (List ℕ) → grammar.Sign
+sign_view sign = sign_with (λ p. p) sign

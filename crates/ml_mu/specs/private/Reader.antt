@@ -1,7 +1,7 @@
 -- What the reader of texts asks of the mu-calculus.
 --
 --   mu_tables  == its grammar and its signs, and what the values of the program stand for
-use Rattle.std.specs.Prelude.{Bool}
+use Rattle.std.specs.Prelude.{ℕ, Bool, List}
 use Rattle.ml_text.specs.private.Tables.{Tables}
 use Rattle.ml_mu.specs.Signs.{HasShortName}
 use Rattle.ml_mu.specs.Term.{formula_of}
@@ -11,11 +11,10 @@ use Rattle.ml_mu.specs.private.SignViews.{named, sign_view}
 use Rattle.ml_mu.specs.private.Tables.{mu_grammar}
 use Rattle.ml_mu.specs.declared.forms.Wait.{Wait}
 use Rattle.ml_mu.specs.declared.forms.Hold.{Hold}
-use Rattle.ml_mu.specs.declared.signs.Kind.{Kind}
-use Rattle.ml_mu.specs.declared.signs.Sign.{Sign}
+use Rattle.ml_mu.specs.declared.signs.SignOver.{SignOver}
 use Rattle.ml_mu.specs.declared.term.Term.{Term}
 
-abbrev pub mu_tables : Tables Kind Bool (Unit {0}) Sign Term Wait Hold
+abbrev pub mu_tables : Tables (SignOver (Unit {0})) Bool (Unit {0}) (SignOver (List ℕ)) Term Wait Hold
 mu_tables = record {
   grammar = mu_grammar;
   signs = mu_signs;

@@ -1,7 +1,7 @@
 -- What the reader of texts asks of PDL.
 --
 --   pdl_tables  == its grammar and its signs, and what the values of the program stand for
-use Rattle.std.specs.Prelude.{Bool}
+use Rattle.std.specs.Prelude.{ℕ, Bool, List}
 use Rattle.ml_text.specs.private.Tables.{Tables}
 use Rattle.ml_pdl.specs.Signs.{HasShortName}
 use Rattle.ml_pdl.specs.Tables.{pdl_grammar}
@@ -12,10 +12,9 @@ use Rattle.ml_pdl.specs.declared.forms.Phrase.{Phrase}
 use Rattle.ml_pdl.specs.declared.forms.Sort.{Sort}
 use Rattle.ml_pdl.specs.declared.forms.Wait.{Wait}
 use Rattle.ml_pdl.specs.declared.forms.Hold.{Hold}
-use Rattle.ml_pdl.specs.declared.signs.Kind.{Kind}
-use Rattle.ml_pdl.specs.declared.signs.Sign.{Sign}
+use Rattle.ml_pdl.specs.declared.signs.SignOver.{SignOver}
 
-abbrev pub pdl_tables : Tables Kind Bool Sort Sign Phrase Wait Hold
+abbrev pub pdl_tables : Tables (SignOver (Unit {0})) Bool Sort (SignOver (List ℕ)) Phrase Wait Hold
 pdl_tables = record {
   grammar = pdl_grammar;
   signs = pdl_signs;
