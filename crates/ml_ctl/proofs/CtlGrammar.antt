@@ -2,14 +2,13 @@
 --
 --   ctl_fits      == the tables are those of the grammar, and what the machine asks for
 --   one_formula   == signs stand for one formula at most
-use Rattle.std.proofs.Common.{◌≡◌, true, List, [], ◌∷◌, ◌++◌, Some, refl, subst, arith}
+use Rattle.std.proofs.Common.{◌≡◌, true, List, [], ◌∷◌, ◌++◌, Some, refl, subst}
 use Rattle.ml_text.specs.Grammar.{More, Opens, sign, read, whole, front, IsStop, IsRegular, Ending, IsCompletable, StandsFor}
 use Rattle.ml_text.proofs.Complete.{one_tree}
 use Rattle.ml_text.proofs.Fits.{Fits}
 use Rattle.ml_ctl.specs.Formula as plain
 use Rattle.ml_ctl.specs.Formula.{Formula, Logic, Ctl, Ltl}
 use Rattle.ml_ctl.specs.Signs.{Sign, Const, Close, Tensed, Quantifies}
-use Rattle.ml_ctl.specs.Grammar as grammar
 use Rattle.ml_ctl.specs.Grammar.{IsReadAs, Sort, State, Path}
 use Rattle.ml_ctl.specs.private.Tables.{Wait, Start, BehindInside, Hold, Negation, Tensing, Quantifying, Group, shift_start, resume, ctl_grammar}
 use Rattle.ml_ctl.proofs.GrammarTables.{tabled, untabled}
@@ -46,7 +45,7 @@ unfolding ending closes
 ctl_completable w = record { ending = ending w; closes = closes w }
 
 pub stands_read : (w : Logic) (ts : List Sign) (f : Formula) → StandsFor (ctl_grammar w) ts f → IsReadAs w ts f
-stands_read w ts f is = untabled w is grammar.Iff (omega arith)
+stands_read w ts f is = untabled w is
 
 pub read_stands : (w : Logic) (ts : List Sign) (f : Formula) → IsReadAs w ts f → StandsFor (ctl_grammar w) ts f
 read_stands w ts f is = tabled is

@@ -2,7 +2,7 @@
 --
 --   tabled    == what the grammar reads, the tables read
 --   untabled  == what the tables read, the grammar reads
-use Rattle.std.proofs.Common.{◌≡◌, ℕ, ◌≤◌, false, List, ◌∷◌, Option, Some, None, refl, sym, subst, arith}
+use Rattle.std.proofs.Common.{◌≡◌, ℕ, zero, suc, false, List, ◌∷◌, Option, Some, None, refl, sym, subst, arith}
 use Rattle.ml_text.specs.declared.token.Operator.{Operator}
 use Rattle.ml_text.specs.declared.token.Operator.TheVariants as operator
 use Rattle.ml_text.specs.Grammar as tables
@@ -10,7 +10,7 @@ use Rattle.ml_text.specs.Grammar.{Whole, More, Read, Inner, Opens, Part, Level, 
 use Rattle.ml_text.specs.Grammar.{form, whole, sign, read, inner, opens, left_level, right_level, takes, front}
 use Rattle.ml_text.specs.declared.forms.Role.TheVariants.{Infix}
 use Rattle.ml_text.specs.Operators.{operator_level}
-use Rattle.ml_text.proofs.Levels.{loosen}
+use Rattle.ml_text.proofs.Levels.{loosen, looser}
 use Rattle.ml_ctl.specs.Formula as plain
 use Rattle.ml_ctl.specs.Formula.{Formula, Logic, Ctl, Ltl, Tense, Quantifier}
 use Rattle.ml_ctl.specs.Signs.{Sign, Not, Connective, Const, Open, Close, Tensed, Pairs, Quantifies, Lower}
@@ -84,26 +84,24 @@ tabled (proposition p) = form (sign (read whole))
 
 -- ---- from the tables to the grammar
 
-abbrev pub number : grammar.Level → ℕ
-number grammar.Iff = 0
-number grammar.Imp = 1
-number grammar.Or = 2
-number grammar.And = 3
-number grammar.Pair = 4
-number grammar.Un = 5
+abbrev pub level_of : ℕ → grammar.Level
+level_of zero = grammar.Iff
+level_of (suc zero) = grammar.Imp
+level_of (suc (suc zero)) = grammar.Or
+level_of (suc (suc (suc zero))) = grammar.And
+level_of (suc (suc (suc (suc zero)))) = grammar.Pair
+level_of (suc (suc (suc (suc (suc l))))) = grammar.Un
 
 module _ {w : Logic} {s : Sort} where
-  pair_raised : (l : grammar.Level)
-      → number l ≤ 4
-      → {ts rest : List Sign} {f : Formula}
-      → Reads w s grammar.Pair ts f rest
-      → Reads w s l ts f rest
-  pair_raised grammar.Un le r = absurd (omega arith)
-  pair_raised grammar.Pair le r = r
-  pair_raised grammar.And le r = and_alone r
-  pair_raised grammar.Or le r = or_alone (and_alone r)
-  pair_raised grammar.Imp le r = imp_alone (or_alone (and_alone r))
-  pair_raised grammar.Iff le r = iff_alone (imp_alone (or_alone (and_alone r)))
+  before : (ts rest : List Sign) (f : Formula) (l : ℕ)
+      → Reads w s (level_of (suc l)) ts f rest
+      → Reads w s (level_of l) ts f rest
+  before ts rest f zero r = iff_alone r
+  before ts rest f (suc zero) r = imp_alone r
+  before ts rest f (suc (suc zero)) r = or_alone r
+  before ts rest f (suc (suc (suc zero))) r = and_alone r
+  before ts rest f (suc (suc (suc (suc zero)))) r = pair_alone r
+  before ts rest f (suc (suc (suc (suc (suc l))))) r = r
 
   pub un_raised : (l : grammar.Level) {ts rest : List Sign} {f : Formula}
       → Reads w s grammar.Un ts f rest
@@ -114,45 +112,6 @@ module _ {w : Logic} {s : Sort} where
   un_raised grammar.Or r = or_alone (and_alone (pair_alone r))
   un_raised grammar.Imp r = imp_alone (or_alone (and_alone (pair_alone r)))
   un_raised grammar.Iff r = iff_alone (imp_alone (or_alone (and_alone (pair_alone r))))
-
-  and_raised : (l : grammar.Level)
-      → number l ≤ 3
-      → {ts rest : List Sign} {f : Formula}
-      → Reads w s grammar.And ts f rest
-      → Reads w s l ts f rest
-  and_raised grammar.Un le r = absurd (omega arith)
-  and_raised grammar.Pair le r = absurd (omega arith)
-  and_raised grammar.And le r = r
-  and_raised grammar.Or le r = or_alone r
-  and_raised grammar.Imp le r = imp_alone (or_alone r)
-  and_raised grammar.Iff le r = iff_alone (imp_alone (or_alone r))
-
-  or_raised : (l : grammar.Level)
-      → number l ≤ 2
-      → {ts rest : List Sign} {f : Formula}
-      → Reads w s grammar.Or ts f rest
-      → Reads w s l ts f rest
-  or_raised grammar.Or le r = r
-  or_raised grammar.Imp le r = imp_alone r
-  or_raised grammar.Iff le r = iff_alone (imp_alone r)
-  or_raised _ le r = absurd (omega arith)
-
-  imp_raised : (l : grammar.Level)
-      → number l ≤ 1
-      → {ts rest : List Sign} {f : Formula}
-      → Reads w s grammar.Imp ts f rest
-      → Reads w s l ts f rest
-  imp_raised grammar.Imp le r = r
-  imp_raised grammar.Iff le r = iff_alone r
-  imp_raised _ le r = absurd (omega arith)
-
-  iff_raised : (l : grammar.Level)
-      → number l ≤ 0
-      → {ts rest : List Sign} {f : Formula}
-      → Reads w s grammar.Iff ts f rest
-      → Reads w s l ts f rest
-  iff_raised grammar.Iff le r = r
-  iff_raised _ le r = absurd (omega arith)
 
 -- what the rest of a form makes of the signs that were read of it
 abbrev pub Completes : Logic → Wait → List Sign → Formula → List Sign → Type 0
@@ -177,7 +136,7 @@ OfTurn w (Some (Inner k)) ts f rest = Enters w k ts f rest
 OfTurn w (Some (Opens k)) ts f rest = Unit {0}
 
 abbrev pub Untabled : (w : Logic) → Part (ctl_grammar w) → List Sign → Formula → List Sign → Type 0
-Untabled w (Level s l) ts f rest = (at : grammar.Level) → number at ≤ l → Reads w s at ts f rest
+Untabled w (Level s l) ts f rest = Reads w s (level_of l) ts f rest
 Untabled w (Operand s) ts f rest = Reads w s grammar.Un ts f rest
 Untabled w (Rest m) ts f rest = OfMode w m ts f rest
 Untabled w (Behind t turn) ts f rest = OfTurn w turn ts f rest
@@ -226,46 +185,47 @@ inner_enters : (w : Logic) (k : Hold) (ts us rest : List Sign) (v f : Formula)
     → Untabled w (Level (Rattle.ml_ctl.specs.private.Tables.sort k) (Rattle.ml_ctl.specs.private.Tables.level k)) ts v us
     → OfMode w (resume k v) us f rest
     → Enters w k ts f rest
-inner_enters w (Negation s) ts us rest v f a r = (v, r.0, subst (λ vs. Reads w s grammar.Un ts v vs) r.1 (a grammar.Un (omega arith)))
-inner_enters w (Tensing t) ts us rest v f a r = (v, r.0, subst (λ vs. Reads w Path grammar.Un ts v vs) r.1 (a grammar.Un (omega arith)))
-inner_enters w (Quantifying q) ts us rest v f a r = (v, r.0, subst (λ vs. Reads w Path grammar.Un ts v vs) r.1 (a grammar.Un (omega arith)))
-inner_enters w (Group s) ts us rest v f a r = r s ts (a grammar.Iff (omega arith))
+inner_enters w (Negation s) ts us rest v f a r = (v, r.0, subst (λ vs. Reads w s grammar.Un ts v vs) r.1 a)
+inner_enters w (Tensing t) ts us rest v f a r = (v, r.0, subst (λ vs. Reads w Path grammar.Un ts v vs) r.1 a)
+inner_enters w (Quantifying q) ts us rest v f a r = (v, r.0, subst (λ vs. Reads w Path grammar.Un ts v vs) r.1 a)
+inner_enters w (Group s) ts us rest v f a r = r s ts a
 
-joined_at : (w : Logic) (s : Sort) (o : Operator) (ts us rest : List Sign) (f h : Formula) (at : grammar.Level)
-    → number at ≤ operator_level o
+joined_at : (w : Logic) (s : Sort) (o : Operator) (ts us rest : List Sign) (f h : Formula)
     → Untabled w (Level s (left_level (ctl_grammar w) s (operator_level o))) ts f (Connective o ∷ us)
     → Untabled w (Level s (right_level (ctl_grammar w) s (operator_level o))) us h rest
-    → Reads w s at ts (plain.Binary o f h) rest
-joined_at w s operator.Iff ts us rest f h at le a b = iff_raised at le (iff (a grammar.Imp (omega arith)) (b grammar.Iff (omega arith)))
-joined_at w s operator.Implies ts us rest f h at le a b = imp_raised at le (imp (a grammar.Or (omega arith)) (b grammar.Imp (omega arith)))
-joined_at w s operator.Or ts us rest f h at le a b = or_raised at le (or (a grammar.Or (omega arith)) (b grammar.And (omega arith)))
-joined_at w s operator.And ts us rest f h at le a b = and_raised at le (and (a grammar.And (omega arith)) (b grammar.Pair (omega arith)))
+    → Untabled w (Level s (operator_level o)) ts (plain.Binary o f h) rest
+joined_at w s operator.Iff ts us rest f h a b = iff a b
+joined_at w s operator.Implies ts us rest f h a b = imp a b
+joined_at w s operator.Or ts us rest f h a b = or a b
+joined_at w s operator.And ts us rest f h a b = and a b
 
-joined_back : (w : Logic) (s : Sort) (o : Sign) (m l : ℕ) (ts us rest : List Sign) (f h : Formula)
+joined_back : (w : Logic) (s : Sort) (o : Sign) (m : ℕ) (ts us rest : List Sign) (f h : Formula)
     → role s o ≡ Infix m
-    → l ≤ m
     → Untabled w (Level s (left_level (ctl_grammar w) s m)) ts f (o ∷ us)
     → Untabled w (Level s (right_level (ctl_grammar w) s m)) us h rest
-    → Untabled w (Level s l) ts (Rattle.ml_ctl.specs.private.Tables.join o f h) rest
-joined_back w s (Connective o) m l ts us rest f h is le a b =
-    let same : m ≡ operator_level o = cc in
-    λ at below. joined_at w s o ts us rest f h at (omega arith)
-    (subst (λ n. Untabled w (Level s (left_level (ctl_grammar w) s n)) ts f (Connective o ∷ us)) same a)
-    (subst (λ n. Untabled w (Level s (right_level (ctl_grammar w) s n)) us h rest) same b)
-joined_back w State (Pairs p) m l ts us rest f h is le a b = absurd (cc)
-joined_back w Path (Pairs p) m l ts us rest f h is le a b =
+    → Untabled w (Level s m) ts (Rattle.ml_ctl.specs.private.Tables.join o f h) rest
+joined_back w s (Connective o) m ts us rest f h is a b =
+    let same : operator_level o ≡ m = cc in
+    subst (λ n. Untabled w (Level s n) ts (plain.Binary o f h) rest) same
+    (joined_at w s o ts us rest f h
+    (subst (λ n. Untabled w (Level s (left_level (ctl_grammar w) s n)) ts f (Connective o ∷ us)) (sym same) a)
+    (subst (λ n. Untabled w (Level s (right_level (ctl_grammar w) s n)) us h rest) (sym same) b))
+joined_back w State (Pairs p) m ts us rest f h is a b = absurd (cc)
+joined_back w Path (Pairs p) m ts us rest f h is a b =
     let same : m ≡ 4 = cc in
     let left = subst (λ n. Untabled w (Level Path (left_level (ctl_grammar w) Path n)) ts f (Pairs p ∷ us)) same a in
     let right = subst (λ n. Untabled w (Level Path (right_level (ctl_grammar w) Path n)) us h rest) same b in
-    λ at below. pair_raised at (omega arith) (pair p (left grammar.Un (omega arith)) (right grammar.Pair (omega arith)))
-joined_back w s _ m l ts us rest f h is le a b = absurd (cc)
+    subst (λ n. Untabled w (Level Path n) ts (Rattle.ml_ctl.specs.private.Tables.join (Pairs p) f h) rest) (sym same)
+    (pair p left right)
+joined_back w s _ m ts us rest f h is a b = absurd (cc)
 
 pub untabled : (w : Logic) {p : Part (ctl_grammar w)} {ts rest : List Sign} {f : Formula}
     → Tabled w p ts f rest
     → Untabled w p ts f rest
-untabled w (alone r) = λ at le. un_raised at (untabled w r)
+untabled w (alone {l = l} r) = un_raised (level_of l) (untabled w r)
 untabled w (joined {s = s} {l = l} {ts = ts} {us = us} {rest = rest} {f = f} {h = h} o m is le a b) =
-    joined_back w s o m l ts us rest f h is le (untabled w a) (untabled w b)
+    looser (λ n. Untabled w (Level s n) ts (Rattle.ml_ctl.specs.private.Tables.join o f h) rest) (before ts rest _) l m le
+    (joined_back w s o m ts us rest f h is (untabled w a) (untabled w b))
 untabled w (postfixed o is makes r) = absurd (cc)
 untabled w (form r) = untabled w r
 untabled w whole = (refl, refl)

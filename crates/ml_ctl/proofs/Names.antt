@@ -2,19 +2,17 @@
 --
 --   short_name      == a token that is no longer than a name has a short name, if it has one
 --   can_name        == a sign can be made of each token
-use Rattle.std.proofs.Common.{◌≡◌, ℕ, ◌≤◌, Bool, true, false, List, length, Option, Some, None, refl, sym, subst, arith, ◌&&◌, ◌==◌, nat_lt, not, cond, ltb-false, ◌-◌, take}
-use Rattle.std.proofs.lemmas.Bool.{and_parts}
+use Rattle.std.proofs.Common.{◌≡◌, ℕ, ◌≤◌, Bool, false, List, length, Option, Some, None, sym, subst, arith, ◌&&◌, ◌==◌, nat_lt, ltb-false, ◌-◌, take}
 use Rattle.ml_base.specs.Name.{longest_name}
-use Rattle.ml_text.specs.Bytes.{is_letter, is_lower}
 use Rattle.ml_text.specs.declared.token.Token.{Token}
 use Rattle.ml_text.specs.declared.token.Token.TheVariants as token
 use Rattle.ml_text.specs.declared.token.Placed.{Placed}
 use Rattle.ml_text.specs.Items.{is_word, bytes_of, name_bytes}
-use Rattle.ml_text.specs.Words.{constant_of, is_word_from}
-use Rattle.ml_text.proofs.TableItems.{one_of}
+use Rattle.ml_text.specs.Words.{constant_of}
+use Rattle.ml_text.proofs.TableItems.{one_of, one_by}
 use Rattle.ml_text.proofs.WordNames.{token_size, name_bytes_by, word_name, cut_word}
-use Rattle.ml_text.proofs.FirstLetters.{lower_letters}
-use Rattle.ml_ctl.specs.Signs.{Sign, Lower, Unknown, HasShortName, sign_of, byte_sign, word_sign_by}
+use Rattle.ml_text.proofs.FreeWords.{proposition_letters}
+use Rattle.ml_ctl.specs.Signs.{Sign, HasShortName, sign_of, byte_sign, word_sign_by}
 use Rattle.ml_ctl.specs.Text.{sign_at}
 use Rattle.ml_ctl.specs.Spelling.{is_proposition, is_reserved}
 use Rattle.ml_ctl.specs.private.SignViews.{named}
@@ -24,16 +22,10 @@ use Rattle.ml_ctl.proofs.Spelled.{IsSpelledSign, spelled_sign}
 
 -- ---- names that are short enough
 
-proposition_letters : (w : List ℕ) → is_proposition w ≡ true → is_word_from is_letter w ≡ true
-proposition_letters w is = lower_letters w (and_parts (is_word_from is_lower w) (not (is_reserved w)) is).0
-
-short_name_by : (w : List ℕ) (a : Bool) → is_proposition w ≡ a → length w ≤ 64 → HasShortName (cond a (Lower w) Unknown)
-short_name_by w true is short = word_name w (proposition_letters w is) short
-short_name_by w false is short = tt
-
 short_word : (w : List ℕ) (o : Option Bool) → length w ≤ 64 → HasShortName (word_sign_by o w)
 short_word w (Some b) short = tt
-short_word w None short = short_name_by w (is_proposition w) refl short
+short_word w None short =
+    one_by HasShortName (is_proposition w) _ _ (λ is. word_name w (proposition_letters w (is_reserved w) is) short) tt
 
 byte_name : (b : ℕ) → HasShortName (byte_sign b)
 byte_name b =
@@ -64,7 +56,7 @@ short_name token.Word bytes n short size =
 -- the first bytes of a name are one
 cut_name : (k : SignOver (Unit {0})) (w : List ℕ) (s : Sign) → named k w ≡ s → IsSpelledSign s → HasShortName (named k (take 64 w))
 cut_name (kind.Lower u) w s is spelled =
-    cut_word w (proposition_letters w (subst IsSpelledSign (sym is) spelled))
+    cut_word w (proposition_letters w (is_reserved w) (subst IsSpelledSign (sym is) spelled))
 cut_name _ w s is spelled = tt
 
 -- a sign can be made of each token

@@ -2,7 +2,7 @@
 --
 --   AreShort ts  == no name among the signs is longer than the limit
 --   text_short   == the formulas of texts without long names have none
-use Rattle.std.proofs.Common.{◌≡◌, ℕ, ◌-◌, ◌≤◌, true, List, length}
+use Rattle.std.proofs.Common.{◌≡◌, ℕ, ◌-◌, true, List}
 use Rattle.std.specs.List.{AllByRecursion}
 use Rattle.ml_text.specs.declared.token.WordStart.TheVariants.{LowerCase}
 use Rattle.ml_text.specs.Tokens.{tokens}
@@ -14,21 +14,13 @@ use Rattle.ml_text.proofs.WordNames.{name_length}
 use Rattle.ml_ctl.specs.Formula.{Formula, Logic}
 use Rattle.ml_ctl.specs.Grammar as grammar
 use Rattle.ml_ctl.specs.Grammar.{IsReadAs, Sort, Reads, iff_alone, iff, imp_alone, imp, or_alone, or, and_alone, and, pair_alone, pair, negation, temporal, quantified, group, constant, proposition}
-use Rattle.ml_ctl.specs.Signs.{Sign, Lower, HasShortName}
-use Rattle.ml_ctl.specs.Text.{ctl_signs, items, sign_at}
+use Rattle.ml_ctl.specs.Signs.{Sign, HasShortName}
+use Rattle.ml_ctl.specs.Text.{ctl_signs, items}
 use Rattle.ml_ctl.proofs.Names.{short_name}
 use Rattle.ml_ctl.specs.Spelling.{HasShortNames}
 
-abbrev ShortSign : Sign → Type 0
-ShortSign (Lower p) = length p ≤ 64
-ShortSign _ = Unit {0}
-
 abbrev AreShort : List Sign → Type 0
-AreShort ts = AllByRecursion ShortSign ts
-
-short_sign : (s : Sign) → HasShortName s → ShortSign s
-short_sign (Lower p) short = name_length p short
-short_sign _ short = tt
+AreShort ts = AllByRecursion HasShortName ts
 
 abbrev Keeps : Formula → List Sign → Type 0
 Keeps f rest = HasShortNames f × AreShort rest
@@ -53,7 +45,7 @@ module _ {w : Logic} where
   reads_short (quantified q e r) is = reads_short r is.1
   reads_short (group r) is = let x = reads_short r is.1 in (x.0, (x.1).1)
   reads_short (constant b) is = (tt, is.1)
-  reads_short (proposition p) is = (is.0, is.1)
+  reads_short (proposition p) is = (name_length p is.0, is.1)
 
 -- the signs of a text without long names
 text_signs : (text : List ℕ)
@@ -61,8 +53,8 @@ text_signs : (text : List ℕ)
     → AreShort (signs_of (items text))
 unfolding tokens
 text_signs text none =
-    signs_short ctl_signs ShortSign LowerCase text
-    (λ p short size. short_sign (sign_at text p) (short_name p.token (bytes_of text p) (p.end - p.start) short size))
+    signs_short ctl_signs HasShortName LowerCase text
+    (λ p short size. short_name p.token (bytes_of text p) (p.end - p.start) short size)
     0 tt (tokens LowerCase text) (are_tokens LowerCase text 0) none
 
 pub text_short : (w : Logic) (text : List ℕ) (f : Formula) → IsAccepted (IsReadAs w) (items text) f → HasShortNames f

@@ -3,7 +3,7 @@
 --   AreSpelled ts   == the names among the signs are spelled as propositions
 --   items_spelled   == the signs of a text are spelled
 --   reads_spelled   == what is read from spelled signs is spelled
-use Rattle.std.proofs.Common.{◌≡◌, ℕ, Bool, true, false, ◌==◌, List, Option, Some, None, refl, cond}
+use Rattle.std.proofs.Common.{◌≡◌, ℕ, Bool, true, ◌==◌, List, Option, Some, None, refl}
 use Rattle.std.specs.List.{AllByRecursion}
 use Rattle.std.proofs.lemmas.Bool.{and_from}
 use Rattle.ml_text.specs.declared.token.Token.{Token}
@@ -12,9 +12,9 @@ use Rattle.ml_text.specs.declared.token.Placed.{Placed}
 use Rattle.ml_text.specs.Items.{bytes_of}
 use Rattle.ml_text.specs.Words.{constant_of}
 use Rattle.ml_text.specs.Refusals.{signs_of}
-use Rattle.ml_text.proofs.TableItems.{one_of, signs_all}
+use Rattle.ml_text.proofs.TableItems.{one_of, one_by, signs_all}
 use Rattle.ml_ctl.specs.Formula.{Formula, Logic}
-use Rattle.ml_ctl.specs.Signs.{Sign, Lower, Unknown, sign_of, byte_sign, word_sign_by}
+use Rattle.ml_ctl.specs.Signs.{Sign, Lower, sign_of, byte_sign, word_sign_by}
 use Rattle.ml_ctl.specs.Grammar as grammar
 use Rattle.ml_ctl.specs.Grammar.{Sort, Reads, iff_alone, iff, imp_alone, imp, or_alone, or, and_alone, and, pair_alone, pair, negation, temporal, quantified, group, constant, proposition}
 use Rattle.ml_ctl.specs.Spelling.{is_proposition, is_spelled}
@@ -27,13 +27,9 @@ IsSpelledSign _ = Unit {0}
 abbrev pub AreSpelled : List Sign → Type 0
 AreSpelled ts = AllByRecursion IsSpelledSign ts
 
-spelled_by : (w : List ℕ) (b : Bool) → is_proposition w ≡ b → IsSpelledSign (cond b (Lower w) Unknown)
-spelled_by w true is = is
-spelled_by w false is = tt
-
 spelled_word : (w : List ℕ) (o : Option Bool) → IsSpelledSign (word_sign_by o w)
 spelled_word w (Some b) = tt
-spelled_word w None = spelled_by w (is_proposition w) refl
+spelled_word w None = one_by IsSpelledSign (is_proposition w) _ _ (λ is. is) tt
 
 spelled_byte : (b : ℕ) → IsSpelledSign (byte_sign b)
 spelled_byte b =

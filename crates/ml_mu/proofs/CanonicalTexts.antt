@@ -32,7 +32,7 @@ use Rattle.ml_mu.specs.Grammar as grammar
 use Rattle.ml_mu.specs.Grammar.{Reads, iff_alone, iff, imp_alone, imp, or_alone, or, and, negation, modal, modal_blank, binder, group, constant, proposition, variable}
 use Rattle.ml_mu.proofs.GrammarTables.{un_raised}
 use Rattle.ml_mu.specs.Text.{mu_signs, items, IsTextOf}
-use Rattle.ml_mu.proofs.WordSigns.{proposition_sign, variable_sign, action_sign, ActionSign}
+use Rattle.ml_mu.proofs.WordSigns.{proposition_sign, variable_sign, action_sign}
 
 -- ---- the tokens of a canonical text
 
@@ -101,13 +101,13 @@ modal_piece m a rest ss is r =
     (sym any)
     (begin_blank m rest (lone (end_byte m) ∷ ss) (end_piece m rest ss r)))
     (λ (other : bytes_eq a (codes "_") ≡ false).
-    let s : ActionSign a = action_sign a is other in
+    let s = action_sign a is other in
     subst
     (λ c. Scans AnyLetter (begin_byte m ∷ (cond c [] a ++ (end_byte m ∷ rest)))
     (lone (begin_byte m) ∷ cond c (lone (end_byte m) ∷ ss) ((token.Word, a) ∷ lone (end_byte m) ∷ ss)))
     (sym other)
-    (begin_word m a (end_byte m ∷ rest) ((token.Word, a) ∷ lone (end_byte m) ∷ ss) s.word
-    (word_piece AnyLetter a (end_byte m ∷ rest) (lone (end_byte m) ∷ ss) s.word (end_stops m rest)
+    (begin_word m a (end_byte m ∷ rest) ((token.Word, a) ∷ lone (end_byte m) ∷ ss) s.0
+    (word_piece AnyLetter a (end_byte m ∷ rest) (lone (end_byte m) ∷ ss) s.0 (end_stops m rest)
     (end_piece m rest ss r))))
     (cases_Bool (bytes_eq a (codes "_")))
 
@@ -229,7 +229,7 @@ modal_read m a f after rest is r =
     (plain.Modal m b f) rest)
     (sym same) read))
     (λ (other : bytes_eq a (codes "_") ≡ false).
-    let s : ActionSign a = action_sign a is other in
+    let s = action_sign a is other in
     subst
     (λ c. Reads grammar.Un
     (sign_spelt (lone (begin_byte m))
@@ -238,7 +238,7 @@ modal_read m a f after rest is r =
     (sym other)
     (subst (λ t. Reads grammar.Un (t ∷ word_sign a ∷ sign_spelt (lone (end_byte m)) ∷ map sign_spelt after) (plain.Modal m a f) rest) (sym open_is)
     (subst (λ t. Reads grammar.Un (Begins m ∷ word_sign a ∷ t ∷ map sign_spelt after) (plain.Modal m a f) rest)
-    (sym close_is) (modal m a (word_sign a) s.action r))))
+    (sym close_is) (modal m a (word_sign a) s.1 r))))
     (cases_Bool (bytes_eq a (codes "_")))
 
 binder_read : (q : Fixpoint) (x : List ℕ) (f : Formula) (after : List Spelt) (rest : List Sign)

@@ -2,7 +2,7 @@
 --
 --   tabled    == what the grammar reads, the tables read
 --   untabled  == what the tables read, the grammar reads
-use Rattle.std.proofs.Common.{◌≡◌, ℕ, ◌≤◌, false, List, [], ◌∷◌, Option, Some, None, refl, sym, ◌∙◌, ap, subst, arith, codes}
+use Rattle.std.proofs.Common.{◌≡◌, ℕ, zero, suc, false, List, [], ◌∷◌, Option, Some, None, refl, sym, ◌∙◌, ap, subst, arith, codes}
 use Rattle.ml_text.specs.declared.token.Operator.{Operator}
 use Rattle.ml_text.specs.declared.token.Operator.TheVariants as operator
 use Rattle.ml_text.specs.Grammar as tables
@@ -10,7 +10,7 @@ use Rattle.ml_text.specs.Grammar.{Whole, More, Read, Inner, Opens, Part, Level, 
 use Rattle.ml_text.specs.Grammar.{form, whole, sign, read, inner, opens, left_level, right_level, takes, front}
 use Rattle.ml_text.specs.declared.forms.Role.TheVariants.{Infix}
 use Rattle.ml_text.specs.Operators.{operator_level}
-use Rattle.ml_text.proofs.Levels.{loosen}
+use Rattle.ml_text.proofs.Levels.{loosen, looser}
 use Rattle.ml_mu.specs.Formula as plain
 use Rattle.ml_mu.specs.Formula.{Formula, Modality, Diamond, Square}
 use Rattle.ml_mu.specs.Signs.{Sign, Not, Connective, Const, Open, Close, Begins, Ends, Binds, Dot, Blank, Lower, Upper, action_of}
@@ -113,12 +113,19 @@ tabled (variable x) = form (sign (read whole))
 
 -- ---- from the tables to the grammar
 
-abbrev pub number : grammar.Level → ℕ
-number grammar.Iff = 0
-number grammar.Imp = 1
-number grammar.Or = 2
-number grammar.And = 3
-number grammar.Un = 4
+abbrev pub level_of : ℕ → grammar.Level
+level_of zero = grammar.Iff
+level_of (suc zero) = grammar.Imp
+level_of (suc (suc zero)) = grammar.Or
+level_of (suc (suc (suc zero))) = grammar.And
+level_of (suc (suc (suc (suc l)))) = grammar.Un
+
+before : (ts rest : List Sign) (f : Formula) (l : ℕ) → Reads (level_of (suc l)) ts f rest → Reads (level_of l) ts f rest
+before ts rest f zero r = iff_alone r
+before ts rest f (suc zero) r = imp_alone r
+before ts rest f (suc (suc zero)) r = or_alone r
+before ts rest f (suc (suc (suc zero))) r = and_alone r
+before ts rest f (suc (suc (suc (suc l)))) r = r
 
 pub un_raised : (l : grammar.Level) {ts rest : List Sign} {f : Formula} → Reads grammar.Un ts f rest → Reads l ts f rest
 un_raised grammar.Un r = r
@@ -126,50 +133,6 @@ un_raised grammar.And r = and_alone r
 un_raised grammar.Or r = or_alone (and_alone r)
 un_raised grammar.Imp r = imp_alone (or_alone (and_alone r))
 un_raised grammar.Iff r = iff_alone (imp_alone (or_alone (and_alone r)))
-
-and_raised : (l : grammar.Level)
-    → number l ≤ 3
-    → {ts rest : List Sign} {f : Formula}
-    → Reads grammar.And ts f rest
-    → Reads l ts f rest
-and_raised grammar.Un le r = absurd (omega arith)
-and_raised grammar.And le r = r
-and_raised grammar.Or le r = or_alone r
-and_raised grammar.Imp le r = imp_alone (or_alone r)
-and_raised grammar.Iff le r = iff_alone (imp_alone (or_alone r))
-
-or_raised : (l : grammar.Level)
-    → number l ≤ 2
-    → {ts rest : List Sign} {f : Formula}
-    → Reads grammar.Or ts f rest
-    → Reads l ts f rest
-or_raised grammar.Un le r = absurd (omega arith)
-or_raised grammar.And le r = absurd (omega arith)
-or_raised grammar.Or le r = r
-or_raised grammar.Imp le r = imp_alone r
-or_raised grammar.Iff le r = iff_alone (imp_alone r)
-
-imp_raised : (l : grammar.Level)
-    → number l ≤ 1
-    → {ts rest : List Sign} {f : Formula}
-    → Reads grammar.Imp ts f rest
-    → Reads l ts f rest
-imp_raised grammar.Un le r = absurd (omega arith)
-imp_raised grammar.And le r = absurd (omega arith)
-imp_raised grammar.Or le r = absurd (omega arith)
-imp_raised grammar.Imp le r = r
-imp_raised grammar.Iff le r = iff_alone r
-
-iff_raised : (l : grammar.Level)
-    → number l ≤ 0
-    → {ts rest : List Sign} {f : Formula}
-    → Reads grammar.Iff ts f rest
-    → Reads l ts f rest
-iff_raised grammar.Un le r = absurd (omega arith)
-iff_raised grammar.And le r = absurd (omega arith)
-iff_raised grammar.Or le r = absurd (omega arith)
-iff_raised grammar.Imp le r = absurd (omega arith)
-iff_raised grammar.Iff le r = r
 
 -- what the rest of a form makes of the signs that were read of it
 abbrev pub Completes : Wait → List Sign → Formula → List Sign → Type 0
@@ -198,7 +161,7 @@ OfTurn (Some (Inner k)) ts f rest = Enters k ts f rest
 OfTurn (Some (Opens k)) ts f rest = Unit {0}
 
 abbrev pub Untabled : Part mu_grammar → List Sign → Formula → List Sign → Type 0
-Untabled (Level s l) ts f rest = (at : grammar.Level) → number at ≤ l → Reads at ts f rest
+Untabled (Level s l) ts f rest = Reads (level_of l) ts f rest
 Untabled (Operand s) ts f rest = Reads grammar.Un ts f rest
 Untabled (Rest m) ts f rest = OfMode m ts f rest
 Untabled (Behind t turn) ts f rest = OfTurn turn ts f rest
@@ -268,43 +231,43 @@ inner_enters : (k : Hold) (ts us rest : List Sign) (v f : Formula)
     → takes mu_grammar tt (Rattle.ml_mu.specs.private.Tables.level k) (front us) ≡ false
     → OfMode (resume k v) us f rest
     → Enters k ts f rest
-inner_enters Negation ts us rest v f a un r = (v, r.0, subst (λ vs. Reads grammar.Un ts v vs) r.1 (a grammar.Un (omega arith)))
-inner_enters (Modal m b) ts us rest v f a un r = (v, r.0, subst (λ vs. Reads grammar.Un ts v vs) r.1 (a grammar.Un (omega arith)))
+inner_enters Negation ts us rest v f a un r = (v, r.0, subst (λ vs. Reads grammar.Un ts v vs) r.1 a)
+inner_enters (Modal m b) ts us rest v f a un r = (v, r.0, subst (λ vs. Reads grammar.Un ts v vs) r.1 a)
 inner_enters (Binder q x) ts us rest v f a un r = (
   v,
   r.0,
-  subst (λ vs. Reads grammar.Iff ts v vs) r.1 (a grammar.Iff (omega arith)),
+  subst (λ vs. Reads grammar.Iff ts v vs) r.1 a,
   ap begins_operator (sym r.1) ∙ no_operator us un,
 )
-inner_enters Group ts us rest v f a un r = r ts (a grammar.Iff (omega arith))
+inner_enters Group ts us rest v f a un r = r ts a
 
-joined_at : (o : Operator) (ts us rest : List Sign) (f h : Formula) (at : grammar.Level)
-    → number at ≤ operator_level o
+joined_at : (o : Operator) (ts us rest : List Sign) (f h : Formula)
     → Untabled (Level tt (left_level mu_grammar tt (operator_level o))) ts f (Connective o ∷ us)
     → Untabled (Level tt (right_level mu_grammar tt (operator_level o))) us h rest
-    → Reads at ts (plain.Binary o f h) rest
-joined_at operator.Iff ts us rest f h at le a b = iff_raised at le (iff (a grammar.Imp (omega arith)) (b grammar.Iff (omega arith)))
-joined_at operator.Implies ts us rest f h at le a b = imp_raised at le (imp (a grammar.Or (omega arith)) (b grammar.Imp (omega arith)))
-joined_at operator.Or ts us rest f h at le a b = or_raised at le (or (a grammar.Or (omega arith)) (b grammar.And (omega arith)))
-joined_at operator.And ts us rest f h at le a b = and_raised at le (and (a grammar.And (omega arith)) (b grammar.Un (omega arith)))
+    → Untabled (Level tt (operator_level o)) ts (plain.Binary o f h) rest
+joined_at operator.Iff ts us rest f h a b = iff a b
+joined_at operator.Implies ts us rest f h a b = imp a b
+joined_at operator.Or ts us rest f h a b = or a b
+joined_at operator.And ts us rest f h a b = and a b
 
-joined_back : (o : Sign) (m l : ℕ) (ts us rest : List Sign) (f h : Formula)
+joined_back : (o : Sign) (m : ℕ) (ts us rest : List Sign) (f h : Formula)
     → role o ≡ Infix m
-    → l ≤ m
     → Untabled (Level tt (left_level mu_grammar tt m)) ts f (o ∷ us)
     → Untabled (Level tt (right_level mu_grammar tt m)) us h rest
-    → Untabled (Level tt l) ts (Rattle.ml_mu.specs.private.Tables.join o f h) rest
-joined_back (Connective o) m l ts us rest f h is le a b =
-    let same : m ≡ operator_level o = cc in
-    λ at below. joined_at o ts us rest f h at (omega arith)
-    (subst (λ n. Untabled (Level tt (left_level mu_grammar tt n)) ts f (Connective o ∷ us)) same a)
-    (subst (λ n. Untabled (Level tt (right_level mu_grammar tt n)) us h rest) same b)
-joined_back _ m l ts us rest f h is le a b = absurd (cc)
+    → Untabled (Level tt m) ts (Rattle.ml_mu.specs.private.Tables.join o f h) rest
+joined_back (Connective o) m ts us rest f h is a b =
+    let same : operator_level o ≡ m = cc in
+    subst (λ n. Untabled (Level tt n) ts (plain.Binary o f h) rest) same
+    (joined_at o ts us rest f h
+    (subst (λ n. Untabled (Level tt (left_level mu_grammar tt n)) ts f (Connective o ∷ us)) (sym same) a)
+    (subst (λ n. Untabled (Level tt (right_level mu_grammar tt n)) us h rest) (sym same) b))
+joined_back _ m ts us rest f h is a b = absurd (cc)
 
 pub untabled : {p : Part mu_grammar} {ts rest : List Sign} {f : Formula} → Tabled p ts f rest → Untabled p ts f rest
-untabled (alone r) = λ at le. un_raised at (untabled r)
+untabled (alone {l = l} r) = un_raised (level_of l) (untabled r)
 untabled (joined {l = l} {ts = ts} {us = us} {rest = rest} {f = f} {h = h} o m is le a b) =
-    joined_back o m l ts us rest f h is le (untabled a) (untabled b)
+    looser (λ n. Untabled (Level tt n) ts (Rattle.ml_mu.specs.private.Tables.join o f h) rest) (before ts rest _) l m le
+    (joined_back o m ts us rest f h is (untabled a) (untabled b))
 untabled (postfixed o is makes r) = absurd (cc)
 untabled (form r) = untabled r
 untabled whole = (refl, refl)

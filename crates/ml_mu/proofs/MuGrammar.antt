@@ -3,12 +3,11 @@
 --   mu_regular      == no form of mu opens into another
 --   mu_completable  == each form of mu can be ended
 --   stands_read     == what the tables stand for, the grammar reads, and the other way round
-use Rattle.std.proofs.Common.{◌≡◌, ℕ, true, List, [], ◌∷◌, ◌++◌, Some, refl, subst, arith, codes}
+use Rattle.std.proofs.Common.{◌≡◌, ℕ, true, List, [], ◌∷◌, ◌++◌, Some, refl, subst, codes}
 use Rattle.ml_text.specs.Grammar.{More, Inner, Opens, Behind, Operand, sign, read, inner, alone, form, whole, front, IsStop, IsRegular, Ending, IsCompletable, StandsFor}
 use Rattle.ml_mu.specs.Formula as plain
 use Rattle.ml_mu.specs.Formula.{Formula, Modality, Diamond, Square, Fixpoint}
 use Rattle.ml_mu.specs.Signs.{Sign, Const, Close, Ends, Dot, Upper}
-use Rattle.ml_mu.specs.Grammar as grammar
 use Rattle.ml_mu.specs.Grammar.{IsReadAs}
 use Rattle.ml_mu.specs.private.Tables.{Wait, BehindBegin, BehindAction, BehindFixpoint, BehindVariable, BehindInside, Hold, Negation, Modal, Binder, Group, shift_operand, resume, mu_grammar}
 use Rattle.ml_mu.proofs.GrammarTables.{Tabled, tight, tabled, untabled}
@@ -93,7 +92,7 @@ unfolding ending closes
 mu_completable = record { ending = ending; closes = closes }
 
 pub stands_read : (ts : List Sign) (f : Formula) → StandsFor mu_grammar ts f → IsReadAs ts f
-stands_read ts f is = untabled is grammar.Iff (omega arith)
+stands_read ts f is = untabled is
 
 pub read_stands : (ts : List Sign) (f : Formula) → IsReadAs ts f → StandsFor mu_grammar ts f
 read_stands ts f is = tabled is

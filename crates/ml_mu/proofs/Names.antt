@@ -7,19 +7,20 @@
 --   cut_name        == so has a longer one, where its name is cut
 --   can_name        == so a sign can be made of each token
 use Rattle.std.proofs.Common.{◌≡◌, ℕ, ◌≤◌, Bool, true, false, List, [], ◌∷◌, length, Option, Some, None, refl, sym, ap, subst, arith}
-use Rattle.std.proofs.Common.{codes, bytes_eq, ◌&&◌, ◌==◌, nat_lt, not, cond, ltb-false, ◌-◌, take, slice_index}
-use Rattle.std.proofs.lemmas.Bool.{and_parts, and_from, or_from, not_from_false, cond-true}
+use Rattle.std.proofs.Common.{codes, bytes_eq, ◌&&◌, ◌==◌, nat_lt, cond, ltb-false, ◌-◌, take, slice_index}
+use Rattle.std.proofs.lemmas.Bool.{or_from, cond-true}
 use Rattle.ml_base.specs.Name.{longest_name}
-use Rattle.ml_text.specs.Bytes.{is_lower, is_letter}
+use Rattle.ml_text.specs.Bytes.{is_lower}
 use Rattle.ml_text.specs.declared.token.Token.{Token}
 use Rattle.ml_text.specs.declared.token.Token.TheVariants as token
 use Rattle.ml_text.specs.declared.token.Placed.{Placed}
 use Rattle.ml_text.specs.Items.{is_word, bytes_of, name_bytes}
-use Rattle.ml_text.specs.Words.{constant_of, IsWord, is_word_from}
+use Rattle.ml_text.specs.Words.{constant_of, IsWord}
 use Rattle.ml_text.proofs.ReservedWords as reserved
-use Rattle.ml_text.proofs.TableItems.{one_of}
+use Rattle.ml_text.proofs.TableItems.{one_of, one_by}
 use Rattle.ml_text.proofs.WordNames.{token_size, name_bytes_by, word_name, cut_word}
-use Rattle.ml_text.proofs.FirstLetters.{lower_letters, upper_letters, lower_word, upper_word}
+use Rattle.ml_text.proofs.FirstLetters.{upper_letters, lower_word, upper_word}
+use Rattle.ml_text.proofs.FreeWords.{proposition_from, proposition_letters}
 use Rattle.ml_mu.specs.Formula.{Fixpoint, Least, Greatest}
 use Rattle.ml_mu.specs.Signs.{Sign, Binds, Lower, Upper, Unknown, HasShortName, sign_of, byte_sign, word_sign_by, name_sign}
 use Rattle.ml_mu.specs.Text.{sign_at}
@@ -38,7 +39,7 @@ pub name_of_lower : (w : List ℕ)
     → is_lower (slice_index w 0) ≡ true
     → Lower w ≡ name_sign w
 name_of_lower w word free lower =
-    let is = and_from (is_word_from is_lower w) (not (is_reserved w)) (lower_word w word lower) (not_from_false (is_reserved w) free) in
+    let is = proposition_from w (is_reserved w) (lower_word w word lower) free in
     sym (cond-true (is_proposition w) (Lower w) (cond (is_variable w) (Upper w) Unknown) is)
 
 pub name_of_upper : (w : List ℕ) → IsWord w → is_lower (slice_index w 0) ≡ false → Upper w ≡ name_sign w
@@ -79,23 +80,13 @@ other_word false false other x y = refl
 
 -- ---- names that are short enough
 
-proposition_letters : (w : List ℕ) → is_proposition w ≡ true → is_word_from is_letter w ≡ true
-proposition_letters w is = lower_letters w (and_parts (is_word_from is_lower w) (not (is_reserved w)) is).0
-
-short_name_by : (w : List ℕ) (a b : Bool)
-    → is_proposition w ≡ a
-    → is_variable w ≡ b
-    → length w ≤ 64
-    → HasShortName (cond a (Lower w) (cond b (Upper w) Unknown))
-short_name_by w true b x y short = word_name w (proposition_letters w x) short
-short_name_by w false true x y short = word_name w (upper_letters w y) short
-short_name_by w false false x y short = tt
-
 short_word : (w : List ℕ) (o : Option Bool) → length w ≤ 64 → HasShortName (word_sign_by o w)
 short_word w (Some b) short = tt
 short_word w None short =
     one_of HasShortName (bytes_eq w (codes "mu")) _ _ tt
-    (one_of HasShortName (bytes_eq w (codes "nu")) _ _ tt (short_name_by w (is_proposition w) (is_variable w) refl refl short))
+    (one_of HasShortName (bytes_eq w (codes "nu")) _ _ tt
+    (one_by HasShortName (is_proposition w) _ _ (λ is. word_name w (proposition_letters w (is_reserved w) is) short)
+    (one_by HasShortName (is_variable w) _ _ (λ is. word_name w (upper_letters w is) short) tt)))
 
 byte_name : (b : ℕ) → HasShortName (byte_sign b)
 byte_name b =
@@ -122,7 +113,8 @@ short_name token.Word bytes n short size = short_word bytes (constant_of bytes) 
 
 -- the first bytes of a name are one
 pub cut_name : (k : SignOver (Unit {0})) (w : List ℕ) (s : Sign) → named k w ≡ s → IsSpelledSign s → HasShortName (named k (take 64 w))
-cut_name (kind.Lower u) w s is spelled = cut_word w (proposition_letters w (subst IsSpelledSign (sym is) spelled))
+cut_name (kind.Lower u) w s is spelled =
+    cut_word w (proposition_letters w (is_reserved w) (subst IsSpelledSign (sym is) spelled))
 cut_name (kind.Upper u) w s is spelled = cut_word w (upper_letters w (subst IsSpelledSign (sym is) spelled))
 cut_name _ w s is spelled = tt
 

@@ -2,10 +2,8 @@
 --
 --   AreShort ts  == no name among the signs is longer than the limit
 --   text_short   == the formulas of texts without long names have none
-use Rattle.std.proofs.Common.{◌≡◌, ℕ, ◌-◌, ◌≤◌, true, false, List, ◌∷◌, length, Some, codes, ap, arith}
+use Rattle.std.proofs.Common.{◌≡◌, ℕ, ◌-◌, ◌≤◌, true, false, List, length, Some, codes, ap, arith}
 use Rattle.std.specs.List.{AllByRecursion}
-use Rattle.ml_text.specs.declared.token.Operator.{Operator}
-use Rattle.ml_text.specs.declared.token.Operator.TheVariants as operator
 use Rattle.ml_text.specs.declared.token.WordStart.TheVariants.{AnyLetter}
 use Rattle.ml_text.specs.Tokens.{tokens}
 use Rattle.ml_text.specs.Refusals.{NameTooLong, signs_of, is_long_at, IsAccepted}
@@ -13,64 +11,43 @@ use Rattle.ml_text.specs.Items.{bytes_of}
 use Rattle.ml_text.proofs.Cover.{are_tokens}
 use Rattle.ml_text.proofs.TableItems.{signs_short}
 use Rattle.ml_text.proofs.WordNames.{name_length}
-use Rattle.ml_mu.specs.Formula as plain
 use Rattle.ml_mu.specs.Formula.{Formula}
 use Rattle.ml_mu.specs.Grammar as grammar
 use Rattle.ml_mu.specs.Grammar.{IsReadAs, Reads, iff_alone, iff, imp_alone, imp, or_alone, or, and_alone, and, negation, modal, modal_blank, binder, group, constant, proposition, variable}
-use Rattle.ml_mu.specs.Signs.{Sign, Lower, Upper, Blank, Connective, HasShortName, action_of}
-use Rattle.ml_mu.specs.Text.{mu_signs, items, sign_at}
+use Rattle.ml_mu.specs.Signs.{Sign, Lower, Upper, Blank, HasShortName, action_of}
+use Rattle.ml_mu.specs.Text.{mu_signs, items}
 use Rattle.ml_mu.proofs.Names.{short_name}
 use Rattle.ml_mu.specs.Spelling.{HasShortNames}
 
-abbrev ShortSign : Sign → Type 0
-ShortSign (Lower p) = length p ≤ 64
-ShortSign (Upper x) = length x ≤ 64
-ShortSign _ = Unit {0}
-
 abbrev AreShort : List Sign → Type 0
-AreShort ts = AllByRecursion ShortSign ts
+AreShort ts = AllByRecursion HasShortName ts
 
-short_sign : (s : Sign) → HasShortName s → ShortSign s
-short_sign (Lower p) short = name_length p short
-short_sign (Upper x) short = name_length x short
-short_sign _ short = tt
-
-short_action : (s : Sign) (a : List ℕ) → action_of s ≡ Some a → ShortSign s → length a ≤ 64
+short_action : (s : Sign) (a : List ℕ) → action_of s ≡ Some a → HasShortName s → length a ≤ 64
 short_action Blank a is short = let same : codes "_" ≡ a = cc in omega (arith, ap length same)
-short_action (Lower b) a is short = let same : b ≡ a = cc in omega (arith, ap length same, short)
-short_action (Upper b) a is short = let same : b ≡ a = cc in omega (arith, ap length same, short)
+short_action (Lower b) a is short = let same : b ≡ a = cc in omega (arith, ap length same, name_length b short)
+short_action (Upper b) a is short = let same : b ≡ a = cc in omega (arith, ap length same, name_length b short)
 short_action _ a is short = absurd (cc)
 
 abbrev Keeps : Formula → List Sign → Type 0
 Keeps f rest = HasShortNames f × AreShort rest
 
-both_short : (o : Operator) (f g : Formula) (t : Sign) (us rest : List Sign)
-    → Keeps f (t ∷ us)
-    → (AreShort us → Keeps g rest)
-    → Keeps (plain.Binary o f g) rest
-both_short o f g t us rest a b = let c : Keeps g rest = b (a.1).1 in ((a.0, c.0), c.1)
-
 reads_short : {l : grammar.Level} {ts rest : List Sign} {f : Formula} → Reads l ts f rest → AreShort ts → Keeps f rest
 reads_short (iff_alone r) is = reads_short r is
-reads_short (iff {us = us} {rest = rest} {f = f} {g = g} a b) is =
-    both_short operator.Iff f g (Connective operator.Iff) us rest (reads_short a is) (λ x. reads_short b x)
+reads_short (iff a b) is = let x = reads_short a is in let y = reads_short b (x.1).1 in ((x.0, y.0), y.1)
 reads_short (imp_alone r) is = reads_short r is
-reads_short (imp {us = us} {rest = rest} {f = f} {g = g} a b) is =
-    both_short operator.Implies f g (Connective operator.Implies) us rest (reads_short a is) (λ x. reads_short b x)
+reads_short (imp a b) is = let x = reads_short a is in let y = reads_short b (x.1).1 in ((x.0, y.0), y.1)
 reads_short (or_alone r) is = reads_short r is
-reads_short (or {us = us} {rest = rest} {f = f} {g = g} a b) is =
-    both_short operator.Or f g (Connective operator.Or) us rest (reads_short a is) (λ x. reads_short b x)
+reads_short (or a b) is = let x = reads_short a is in let y = reads_short b (x.1).1 in ((x.0, y.0), y.1)
 reads_short (and_alone r) is = reads_short r is
-reads_short (and {us = us} {rest = rest} {f = f} {g = g} a b) is =
-    both_short operator.And f g (Connective operator.And) us rest (reads_short a is) (λ x. reads_short b x)
+reads_short (and a b) is = let x = reads_short a is in let y = reads_short b (x.1).1 in ((x.0, y.0), y.1)
 reads_short (negation r) is = reads_short r is.1
 reads_short (modal m a s e r) is = let later = reads_short r ((is.1).1).1 in ((short_action s a e (is.1).0, later.0), later.1)
 reads_short (modal_blank m r) is = let later = reads_short r (is.1).1 in ((omega arith, later.0), later.1)
-reads_short (binder q x r e) is = let later = reads_short r ((is.1).1).1 in (((is.1).0, later.0), later.1)
+reads_short (binder q x r e) is = let later = reads_short r ((is.1).1).1 in ((name_length x (is.1).0, later.0), later.1)
 reads_short (group r) is = let later = reads_short r is.1 in (later.0, (later.1).1)
 reads_short (constant b) is = (tt, is.1)
-reads_short (proposition p) is = (is.0, is.1)
-reads_short (variable x) is = (is.0, is.1)
+reads_short (proposition p) is = (name_length p is.0, is.1)
+reads_short (variable x) is = (name_length x is.0, is.1)
 
 -- the signs of a text without long names
 text_signs : (text : List ℕ)
@@ -78,8 +55,8 @@ text_signs : (text : List ℕ)
     → AreShort (signs_of (items text))
 unfolding tokens
 text_signs text none =
-    signs_short mu_signs ShortSign AnyLetter text
-    (λ p short size. short_sign (sign_at text p) (short_name p.token (bytes_of text p) (p.end - p.start) short size))
+    signs_short mu_signs HasShortName AnyLetter text
+    (λ p short size. short_name p.token (bytes_of text p) (p.end - p.start) short size)
     0 false (tokens AnyLetter text) (are_tokens AnyLetter text 0) none
 
 pub text_short : (text : List ℕ) (f : Formula) → IsAccepted IsReadAs (items text) f → HasShortNames f

@@ -39,7 +39,7 @@ use Rattle.ml_pdl.specs.Text.{items, sign_by, IsTextOf}
 use Rattle.ml_pdl.proofs.FromTables.{un_raised}
 use Rattle.ml_pdl.proofs.MarkBytes.{neutral_test, neutral_word, weaker}
 use Rattle.ml_pdl.proofs.MarkedTexts.{marks_are_of_texts}
-use Rattle.ml_pdl.proofs.WordSigns.{proposition_sign, action_sign, ActionSign}
+use Rattle.ml_pdl.proofs.WordSigns.{proposition_sign, action_sign}
 
 -- ---- the tokens of a canonical text
 
@@ -147,8 +147,8 @@ action_starts a rest is =
     subst (λ b. Starts (b ++ rest)) (sym ((bytes_eq-Decides a (codes "_")).0 any))
     (record { first = 95; more = rest; is = refl; no_dash = refl; no_equals = refl }))
     (λ (other : bytes_eq a (codes "_") ≡ false).
-    let s : ActionSign a = action_sign a is other in
-    word_starts a rest s.word)
+    let s = action_sign a is other in
+    word_starts a rest s.0)
     (cases_Bool (bytes_eq a (codes "_")))
 
 program_starts : (p : Program) (rest : List ℕ) → program_is_spelled p ≡ true → Starts (program_text p ++ rest)
@@ -170,9 +170,9 @@ action_piece a rest ss is stops r =
     subst (λ b. Scans AnyLetter (b ++ rest) (action_token b ∷ ss)) (sym ((bytes_eq-Decides a (codes "_")).0 any))
     (lone_piece AnyLetter 95 rest ss refl r))
     (λ (other : bytes_eq a (codes "_") ≡ false).
-    let s : ActionSign a = action_sign a is other in
+    let s = action_sign a is other in
     subst (λ t. Scans AnyLetter (a ++ rest) (t ∷ ss)) (sym (cond-false (bytes_eq a (codes "_")) (lone 95) (token.Word, a) other))
-    (word_piece AnyLetter a rest ss s.word stops r))
+    (word_piece AnyLetter a rest ss s.0 stops r))
     (cases_Bool (bytes_eq a (codes "_")))
 
 joined_same : (a sp b rest : List ℕ)
@@ -388,8 +388,8 @@ action_read a is =
     (λ (any : bytes_eq a (codes "_") ≡ true).
     subst (λ b. action_of (sign_spelt (action_token b)) ≡ Some b) (sym ((bytes_eq-Decides a (codes "_")).0 any)) refl)
     (λ (other : bytes_eq a (codes "_") ≡ false).
-    let s : ActionSign a = action_sign a is other in
-    ap (λ t. action_of (sign_spelt t)) (cond-false (bytes_eq a (codes "_")) (lone 95) (token.Word, a) other) ∙ s.action)
+    let s = action_sign a is other in
+    ap (λ t. action_of (sign_spelt t)) (cond-false (bytes_eq a (codes "_")) (lone 95) (token.Word, a) other) ∙ s.1)
     (cases_Bool (bytes_eq a (codes "_")))
 
 marked_action : (b : Bool) (s : Sign) → action_of (with_mark b s) ≡ action_of s

@@ -4,13 +4,14 @@
 --   Completes, Enters, Opened, OfMode, OfTurn    == what the grammar reads behind signs of a form, by the form
 --   Untabled p ts v rest                         == what the grammar reads where the tables read the part p
 --   untabled                                     == what the tables read, the grammar reads
-use Rattle.std.proofs.Common.{◌≡◌, ℕ, ◌≤◌, false, List, ◌∷◌, Option, Some, None, refl, sym, ap, subst, arith, codes}
+use Rattle.std.proofs.Common.{◌≡◌, ℕ, zero, suc, false, List, ◌∷◌, Option, Some, None, refl, sym, ap, subst, arith, codes}
 use Rattle.ml_text.specs.declared.token.Operator.{Operator}
 use Rattle.ml_text.specs.declared.token.Operator.TheVariants as operator
 use Rattle.ml_text.specs.Grammar as tables
 use Rattle.ml_text.specs.Grammar.{Whole, More, Read, Inner, Opens, Part, Level, Operand, Rest, Behind, alone, joined, postfixed, form, whole, sign, read, inner, opens, left_level, right_level}
 use Rattle.ml_text.specs.declared.forms.Role.TheVariants.{Infix, Postfix}
 use Rattle.ml_text.specs.Operators.{operator_level}
+use Rattle.ml_text.proofs.Levels.{looser}
 use Rattle.ml_pdl.specs.Formula as plain
 use Rattle.ml_pdl.specs.Formula.{Formula, Program, Modality, Diamond, Square}
 use Rattle.ml_pdl.specs.Signs as signs
@@ -27,12 +28,18 @@ use Rattle.ml_pdl.proofs.ToTables.{Tabled}
 
 -- ---- levels
 
-abbrev pub number : grammar.Level → ℕ
-number grammar.Iff = 0
-number grammar.Imp = 1
-number grammar.Or = 2
-number grammar.And = 3
-number grammar.Un = 4
+abbrev pub level_of : ℕ → grammar.Level
+level_of zero = grammar.Iff
+level_of (suc zero) = grammar.Imp
+level_of (suc (suc zero)) = grammar.Or
+level_of (suc (suc (suc zero))) = grammar.And
+level_of (suc (suc (suc (suc l)))) = grammar.Un
+
+-- the levels of programs that have operators between operands
+abbrev pub program_level_of : ℕ → grammar.ProgramLevel
+program_level_of zero = grammar.Prog
+program_level_of (suc zero) = grammar.Seq
+program_level_of (suc (suc l)) = grammar.Star
 
 pub un_raised : (l : grammar.Level) {ts rest : List Sign} {f : Formula} → Reads grammar.Un ts f rest → Reads l ts f rest
 un_raised grammar.Un r = r
@@ -41,52 +48,6 @@ un_raised grammar.Or r = or_alone (and_alone r)
 un_raised grammar.Imp r = imp_alone (or_alone (and_alone r))
 un_raised grammar.Iff r = iff_alone (imp_alone (or_alone (and_alone r)))
 
-and_raised : (l : grammar.Level)
-    → number l ≤ 3
-    → {ts rest : List Sign} {f : Formula}
-    → Reads grammar.And ts f rest
-    → Reads l ts f rest
-and_raised grammar.Un le r = absurd (omega arith)
-and_raised grammar.And le r = r
-and_raised grammar.Or le r = or_alone r
-and_raised grammar.Imp le r = imp_alone (or_alone r)
-and_raised grammar.Iff le r = iff_alone (imp_alone (or_alone r))
-
-or_raised : (l : grammar.Level)
-    → number l ≤ 2
-    → {ts rest : List Sign} {f : Formula}
-    → Reads grammar.Or ts f rest
-    → Reads l ts f rest
-or_raised grammar.Un le r = absurd (omega arith)
-or_raised grammar.And le r = absurd (omega arith)
-or_raised grammar.Or le r = r
-or_raised grammar.Imp le r = imp_alone r
-or_raised grammar.Iff le r = iff_alone (imp_alone r)
-
-imp_raised : (l : grammar.Level)
-    → number l ≤ 1
-    → {ts rest : List Sign} {f : Formula}
-    → Reads grammar.Imp ts f rest
-    → Reads l ts f rest
-imp_raised grammar.Imp le r = r
-imp_raised grammar.Iff le r = iff_alone r
-imp_raised _ le r = absurd (omega arith)
-
-iff_raised : (l : grammar.Level)
-    → number l ≤ 0
-    → {ts rest : List Sign} {f : Formula}
-    → Reads grammar.Iff ts f rest
-    → Reads l ts f rest
-iff_raised grammar.Iff le r = r
-iff_raised _ le r = absurd (omega arith)
-
--- the levels of programs that have operators between operands
-abbrev pub program_number : grammar.ProgramLevel → ℕ
-program_number grammar.Prog = 0
-program_number grammar.Seq = 1
-program_number grammar.Star = 2
-program_number grammar.Base = 3
-
 base_raised : (l : grammar.ProgramLevel) {ts rest : List Sign} {p : Program}
     → ReadsProgram grammar.Base ts p rest
     → ReadsProgram l ts p rest
@@ -94,33 +55,6 @@ base_raised grammar.Base r = r
 base_raised grammar.Star r = star_alone r
 base_raised grammar.Seq r = seq_alone (star_alone r)
 base_raised grammar.Prog r = alt_alone (seq_alone (star_alone r))
-
-star_raised : (l : grammar.ProgramLevel)
-    → program_number l ≤ 2
-    → {ts rest : List Sign} {p : Program}
-    → ReadsProgram grammar.Star ts p rest
-    → ReadsProgram l ts p rest
-star_raised grammar.Base le r = absurd (omega arith)
-star_raised grammar.Star le r = r
-star_raised grammar.Seq le r = seq_alone r
-star_raised grammar.Prog le r = alt_alone (seq_alone r)
-
-seq_raised : (l : grammar.ProgramLevel)
-    → program_number l ≤ 1
-    → {ts rest : List Sign} {p : Program}
-    → ReadsProgram grammar.Seq ts p rest
-    → ReadsProgram l ts p rest
-seq_raised grammar.Seq le r = r
-seq_raised grammar.Prog le r = alt_alone r
-seq_raised _ le r = absurd (omega arith)
-
-alt_raised : (l : grammar.ProgramLevel)
-    → program_number l ≤ 0
-    → {ts rest : List Sign} {p : Program}
-    → ReadsProgram grammar.Prog ts p rest
-    → ReadsProgram l ts p rest
-alt_raised grammar.Prog le r = r
-alt_raised _ le r = absurd (omega arith)
 
 -- ---- trees
 
@@ -147,22 +81,6 @@ program_read : (l : grammar.ProgramLevel) (ts rest : List Sign) (v : Phrase)
 program_read l ts rest (OfFormula f) r = absurd r
 program_read l ts rest (OfProgram p) r = r
 program_read l ts rest (Name a) r = subst (λ us. ReadsProgram l us (plain.Act a) rest) (sym r) (base_raised l (action a (Lower a) refl))
-
-formula_raised : (l m : grammar.Level) (ts rest : List Sign) (v : Phrase)
-    → ((f : Formula) → Reads l ts f rest → Reads m ts f rest)
-    → AsFormula l ts v rest
-    → AsFormula m ts v rest
-formula_raised l m ts rest (OfFormula f) go r = go f r
-formula_raised l m ts rest (OfProgram p) go r = absurd r
-formula_raised l m ts rest (Name a) go r = absurd r
-
-program_raised : (l m : grammar.ProgramLevel) (ts rest : List Sign) (v : Phrase)
-    → ((p : Program) → ReadsProgram l ts p rest → ReadsProgram m ts p rest)
-    → AsProgram l ts v rest
-    → AsProgram m ts v rest
-program_raised l m ts rest (OfFormula f) go r = absurd r
-program_raised l m ts rest (OfProgram p) go r = go p r
-program_raised l m ts rest (Name a) go r = r
 
 -- ---- what is claimed
 
@@ -210,8 +128,8 @@ OfTurn t (Some (Inner k)) ts v rest = Enters k ts v rest
 OfTurn t (Some (Opens k)) ts v rest = Opened k (t ∷ ts) v rest
 
 abbrev pub AtLevel : Sort → ℕ → List Sign → Phrase → List Sign → Type 0
-AtLevel Formulas l ts v rest = (at : grammar.Level) → number at ≤ l → AsFormula at ts v rest
-AtLevel Programs l ts v rest = (at : grammar.ProgramLevel) → program_number at ≤ l → program_number at ≤ 2 → AsProgram at ts v rest
+AtLevel Formulas l ts v rest = AsFormula (level_of l) ts v rest
+AtLevel Programs l ts v rest = AsProgram (program_level_of l) ts v rest
 
 abbrev pub AsOperand : Sort → List Sign → Phrase → List Sign → Type 0
 AsOperand Formulas ts v rest = AsFormula grammar.Un ts v rest
@@ -225,15 +143,28 @@ Untabled (Behind t turn) ts v rest = OfTurn t turn ts v rest
 
 -- ---- operands alone, and forms
 
+before : (s : Sort) (ts rest : List Sign) (v : Phrase) (l : ℕ) → AtLevel s (suc l) ts v rest → AtLevel s l ts v rest
+before Formulas ts rest (OfFormula f) zero r = iff_alone r
+before Formulas ts rest (OfFormula f) (suc zero) r = imp_alone r
+before Formulas ts rest (OfFormula f) (suc (suc zero)) r = or_alone r
+before Formulas ts rest (OfFormula f) (suc (suc (suc zero))) r = and_alone r
+before Formulas ts rest (OfFormula f) (suc (suc (suc (suc l)))) r = r
+before Programs ts rest (OfProgram p) zero r = alt_alone r
+before Programs ts rest (OfProgram p) (suc zero) r = seq_alone r
+before Programs ts rest (OfProgram p) (suc (suc l)) r = r
+before _ ts rest _ l r = r
+
 alone_back : (s : Sort) (l : ℕ) (ts rest : List Sign) (v : Phrase) → AsOperand s ts v rest → AtLevel s l ts v rest
-alone_back Formulas l ts rest v r = λ at le. formula_raised grammar.Un at ts rest v (λ f a. un_raised at a) r
-alone_back Programs l ts rest v r = λ at le low. program_raised grammar.Star at ts rest v (λ p a. star_raised at low a) r
+alone_back Formulas l ts rest v r =
+    looser (λ n. AtLevel Formulas n ts v rest) (before Formulas ts rest v) l (suc (suc (suc (suc l)))) (omega arith) r
+alone_back Programs l ts rest v r =
+    looser (λ n. AtLevel Programs n ts v rest) (before Programs ts rest v) l (suc (suc l)) (omega arith) r
 
 form_back : (s : Sort) (ts rest : List Sign) (v : Phrase)
     → Completes (Rattle.ml_pdl.specs.Tables.start s) ts v rest
     → AsOperand s ts v rest
-form_back Formulas ts rest v r = r
-form_back Programs ts rest v r = program_raised grammar.Base grammar.Star ts rest v (λ p a. star_alone a) r
+form_back Programs ts rest (OfProgram p) r = star_alone r
+form_back _ ts rest _ r = r
 
 -- ---- signs of forms
 
@@ -354,15 +285,15 @@ sign_completes (BehindTested h) _ ts rest v r = absurd r
 
 -- what is held as a formula, and then passed on
 held_formula : (ts us : List Sign) (w : Phrase) → AtLevel Formulas 4 ts w us → Reads grammar.Un ts (formula_of w) us
-held_formula ts us w a = formula_read grammar.Un ts us w (a grammar.Un (omega arith))
+held_formula ts us w a = formula_read grammar.Un ts us w a
 
 held_group : (ts us : List Sign) (w : Phrase) → AtLevel Formulas 0 ts w us → Reads grammar.Iff ts (formula_of w) us
-held_group ts us w a = formula_read grammar.Iff ts us w (a grammar.Iff (omega arith))
+held_group ts us w a = formula_read grammar.Iff ts us w a
 
 held_program : (ts us : List Sign) (w : Phrase)
     → AtLevel Programs 0 ts w us
     → ReadsProgram grammar.Prog ts (program_of w) us
-held_program ts us w a = program_read grammar.Prog ts us w (a grammar.Prog (omega arith) (omega arith))
+held_program ts us w a = program_read grammar.Prog ts us w a
 
 inner_enters : (k : Hold) (ts us rest : List Sign) (w v : Phrase)
     → AtLevel (Rattle.ml_pdl.specs.Tables.sort k) (Rattle.ml_pdl.specs.Tables.level k) ts w us
@@ -385,27 +316,18 @@ opens_enters _ ts us rest w v a r = tt
 
 -- ---- operators
 
-joined_formula : (o : Operator) (ts us rest : List Sign) (v w : Phrase) (at : grammar.Level)
-    → number at ≤ operator_level o
+joined_formula : (o : Operator) (ts us rest : List Sign) (v w : Phrase)
     → AtLevel Formulas (left_level pdl_grammar Formulas (operator_level o)) ts v (Connective o ∷ us)
     → AtLevel Formulas (right_level pdl_grammar Formulas (operator_level o)) us w rest
-    → Reads at ts (plain.Binary o (formula_of v) (formula_of w)) rest
-joined_formula operator.Iff ts us rest v w at le a b =
-    iff_raised at le
-    (iff (formula_read grammar.Imp ts (Connective operator.Iff ∷ us) v (a grammar.Imp (omega arith)))
-    (formula_read grammar.Iff us rest w (b grammar.Iff (omega arith))))
-joined_formula operator.Implies ts us rest v w at le a b =
-    imp_raised at le
-    (imp (formula_read grammar.Or ts (Connective operator.Implies ∷ us) v (a grammar.Or (omega arith)))
-    (formula_read grammar.Imp us rest w (b grammar.Imp (omega arith))))
-joined_formula operator.Or ts us rest v w at le a b =
-    or_raised at le
-    (or (formula_read grammar.Or ts (Connective operator.Or ∷ us) v (a grammar.Or (omega arith)))
-    (formula_read grammar.And us rest w (b grammar.And (omega arith))))
-joined_formula operator.And ts us rest v w at le a b =
-    and_raised at le
-    (and (formula_read grammar.And ts (Connective operator.And ∷ us) v (a grammar.And (omega arith)))
-    (formula_read grammar.Un us rest w (b grammar.Un (omega arith))))
+    → Reads (level_of (operator_level o)) ts (plain.Binary o (formula_of v) (formula_of w)) rest
+joined_formula operator.Iff ts us rest v w a b =
+    iff (formula_read grammar.Imp ts (Connective operator.Iff ∷ us) v a) (formula_read grammar.Iff us rest w b)
+joined_formula operator.Implies ts us rest v w a b =
+    imp (formula_read grammar.Or ts (Connective operator.Implies ∷ us) v a) (formula_read grammar.Imp us rest w b)
+joined_formula operator.Or ts us rest v w a b =
+    or (formula_read grammar.Or ts (Connective operator.Or ∷ us) v a) (formula_read grammar.And us rest w b)
+joined_formula operator.And ts us rest v w a b =
+    and (formula_read grammar.And ts (Connective operator.And ∷ us) v a) (formula_read grammar.Un us rest w b)
 
 -- what is read at the level that an operator has
 abbrev pub Joined : Sort → ℕ → Sign → List Sign → Phrase → Phrase → List Sign → Type 0
@@ -413,29 +335,23 @@ Joined s m o ts v w rest =
     (us : List Sign)
     → AtLevel s (left_level pdl_grammar s m) ts v (o ∷ us)
     → AtLevel s (right_level pdl_grammar s m) us w rest
-    → (l : ℕ)
-    → l ≤ m
-    → AtLevel s l ts (join o v w) rest
+    → AtLevel s m ts (join o v w) rest
 
 joined_back : (s : Sort) (o : Sign) (m : ℕ) (ts rest : List Sign) (v w : Phrase)
     → role s o ≡ Infix m
     → Joined s m o ts v w rest
 joined_back Formulas (Connective o) m ts rest v w is =
     let same : operator_level o ≡ m = cc in
-    subst (λ n. Joined Formulas n (Connective o) ts v w rest) same (λ us a b l le at below. joined_formula o ts us rest v w at (omega arith) a b)
+    subst (λ n. Joined Formulas n (Connective o) ts v w rest) same (λ us a b. joined_formula o ts us rest v w a b)
 joined_back Formulas _ m ts rest v w is = absurd (cc)
 joined_back Programs Plus m ts rest v w is =
     let same : 0 ≡ m = cc in
     subst (λ n. Joined Programs n Plus ts v w rest) same
-    (λ us a b l le at below low. alt_raised at (omega arith)
-    (alt (program_read grammar.Prog ts (Plus ∷ us) v (a grammar.Prog (omega arith) (omega arith)))
-    (program_read grammar.Seq us rest w (b grammar.Seq (omega arith) (omega arith)))))
+    (λ us a b. alt (program_read grammar.Prog ts (Plus ∷ us) v a) (program_read grammar.Seq us rest w b))
 joined_back Programs Semicolon m ts rest v w is =
     let same : 1 ≡ m = cc in
     subst (λ n. Joined Programs n Semicolon ts v w rest) same
-    (λ us a b l le at below low. seq_raised at (omega arith)
-    (seq (program_read grammar.Seq ts (Semicolon ∷ us) v (a grammar.Seq (omega arith) (omega arith)))
-    (program_read grammar.Star us rest w (b grammar.Star (omega arith) (omega arith)))))
+    (λ us a b. seq (program_read grammar.Seq ts (Semicolon ∷ us) v a) (program_read grammar.Star us rest w b))
 joined_back Programs _ m ts rest v w is = absurd (cc)
 
 star_back : (ts rest : List Sign) (v h : Phrase)
@@ -475,7 +391,8 @@ post_back Programs _ ts rest v h is makes r = absurd (cc)
 pub untabled : {p : Part pdl_grammar} {ts rest : List Sign} {v : Phrase} → Tabled p ts v rest → Untabled p ts v rest
 untabled (alone {s = s} {l = l} {ts = ts} {rest = rest} {f = v} r) = alone_back s l ts rest v (untabled r)
 untabled (joined {s = s} {l = l} {ts = ts} {us = us} {rest = rest} {f = v} {h = w} o m is le a b) =
-    joined_back s o m ts rest v w is us (untabled a) (untabled b) l le
+    looser (λ n. AtLevel s n ts (join o v w) rest) (before s ts rest (join o v w)) l m le
+    (joined_back s o m ts rest v w is us (untabled a) (untabled b))
 untabled (postfixed {s = s} {ts = ts} {rest = rest} {f = v} {h = h} o is makes r) = post_back s o ts rest v h is makes (untabled r)
 untabled (form {s = s} {ts = ts} {rest = rest} {f = v} r) = form_back s ts rest v (untabled r)
 untabled whole = (refl, refl)

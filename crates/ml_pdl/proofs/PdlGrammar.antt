@@ -5,7 +5,7 @@
 --   stands_read     == what the tables stand for is a formula that the grammar reads
 --   read_stands     == what the grammar reads, the tables stand for
 --   one_formula     == signs stand for one formula at most
-use Rattle.std.proofs.Common.{◌≡◌, true, List, [], ◌∷◌, ◌++◌, Some, refl, ap, subst, arith}
+use Rattle.std.proofs.Common.{◌≡◌, true, List, [], ◌∷◌, ◌++◌, Some, refl, ap, subst}
 use Rattle.ml_text.specs.Grammar.{More, Inner, Opens, Behind, Operand, Rest, alone, inner, sign, read, form, whole, front, IsStop, IsRegular, Ending, IsCompletable, StandsFor}
 use Rattle.ml_text.proofs.Complete.{one_tree}
 use Rattle.ml_pdl.specs.Formula as plain
@@ -148,7 +148,7 @@ formula_stands ts (Name a) r = absurd r
 pub stands_read : (ts : List Sign) (v : Phrase)
     → StandsFor pdl_grammar ts v
     → (f : Formula) × (OfFormula f ≡ v) × IsReadAs ts f
-stands_read ts v is = formula_stands ts v (untabled is grammar.Iff (omega arith))
+stands_read ts v is = formula_stands ts v (untabled is)
 
 pub read_stands : (ts : List Sign) (f : Formula) → IsReadAs ts f → StandsFor pdl_grammar ts (OfFormula f)
 read_stands ts f is = tabled is

@@ -18,27 +18,17 @@ use Rattle.ml_pdl.specs.Grammar.{repetition, group, constant, proposition, Reads
 use Rattle.ml_pdl.specs.Grammar.{test, program_group, ReadsTested, tested_negation, tested_constant, tested_proposition, tested_group}
 use Rattle.ml_pdl.specs.Signs.{Sign, Lower, Upper, Blank, HasShortName, action_of}
 use Rattle.ml_pdl.specs.Marks.{is_test_behind}
-use Rattle.ml_pdl.specs.Text.{pdl_signs, items, sign_at, sign_by, signs_behind}
+use Rattle.ml_pdl.specs.Text.{pdl_signs, items, sign_by, signs_behind}
 use Rattle.ml_pdl.proofs.Names.{short_mark, short_name}
 use Rattle.ml_pdl.specs.Spelling.{HasShortNames, ProgramHasShortNames}
 
-abbrev ShortSign : Sign → Type 0
-ShortSign (Lower p) = length p ≤ 64
-ShortSign (Upper x) = length x ≤ 64
-ShortSign _ = Unit {0}
-
 abbrev AreShort : List Sign → Type 0
-AreShort ts = AllByRecursion ShortSign ts
+AreShort ts = AllByRecursion HasShortName ts
 
-short_sign : (s : Sign) → HasShortName s → ShortSign s
-short_sign (Lower p) short = name_length p short
-short_sign (Upper x) short = name_length x short
-short_sign _ short = tt
-
-short_action : (s : Sign) (a : List ℕ) → action_of s ≡ Some a → ShortSign s → length a ≤ 64
+short_action : (s : Sign) (a : List ℕ) → action_of s ≡ Some a → HasShortName s → length a ≤ 64
 short_action Blank a is short = let same : codes "_" ≡ a = cc in omega (arith, ap length same)
-short_action (Lower b) a is short = let same : b ≡ a = cc in omega (arith, ap length same, short)
-short_action (Upper b) a is short = let same : b ≡ a = cc in omega (arith, ap length same, short)
+short_action (Lower b) a is short = let same : b ≡ a = cc in omega (arith, ap length same, name_length b short)
+short_action (Upper b) a is short = let same : b ≡ a = cc in omega (arith, ap length same, name_length b short)
 short_action _ a is short = absurd (cc)
 
 abbrev Keeps : Formula → List Sign → Type 0
@@ -63,7 +53,7 @@ mutual
   reads_short (repetition k a) is = let x = program_short a (is.1).1 in (x.0, (x.1).1)
   reads_short (group k r) is = let x = reads_short r is.1 in (x.0, (x.1).1)
   reads_short (constant b) is = (tt, is.1)
-  reads_short (proposition p) is = (is.0, is.1)
+  reads_short (proposition p) is = (name_length p is.0, is.1)
 
   program_short : {l : grammar.ProgramLevel} {ts rest : List Sign} {p : Program}
       → ReadsProgram l ts p rest
@@ -82,7 +72,7 @@ mutual
   tested_short : {ts rest : List Sign} {f : Formula} → ReadsTested ts f rest → AreShort ts → Keeps f rest
   tested_short (tested_negation r) is = tested_short r is.1
   tested_short (tested_constant b) is = (tt, is.1)
-  tested_short (tested_proposition p) is = (is.0, is.1)
+  tested_short (tested_proposition p) is = (name_length p is.0, is.1)
   tested_short (tested_group k r) is = let x = reads_short r is.1 in (x.0, (x.1).1)
 
 -- the signs of a text without long names
@@ -91,10 +81,9 @@ text_signs : (text : List ℕ)
     → AreShort (signs_of (items text))
 unfolding tokens
 text_signs text none =
-    signs_short pdl_signs ShortSign AnyLetter text
-    (λ p short size. short_sign (sign_at text p)
-    (short_mark (is_test_behind 0 (signs_behind text p.end)) (sign_by text p)
-    (short_name p.token (bytes_of text p) (p.end - p.start) short size)))
+    signs_short pdl_signs HasShortName AnyLetter text
+    (λ p short size. short_mark (is_test_behind 0 (signs_behind text p.end)) (sign_by text p)
+    (short_name p.token (bytes_of text p) (p.end - p.start) short size))
     0 false (tokens AnyLetter text) (are_tokens AnyLetter text 0) none
 
 pub text_short : (text : List ℕ) (f : Formula) → IsAccepted IsReadAs (items text) f → HasShortNames f

@@ -3,11 +3,10 @@
 --   AreSpelled ts   == the names among the signs are spelled as propositions, or as words that begin with an upper-case letter
 --   items_spelled   == the signs of a text are spelled
 --   reads_spelled, program_spelled, tested_spelled == what is read from spelled signs is spelled
-use Rattle.std.proofs.Common.{◌≡◌, ℕ, Bool, true, false, ◌&&◌, List, Option, Some, None, refl, subst, cond, codes}
+use Rattle.std.proofs.Common.{◌≡◌, ℕ, Bool, true, false, ◌==◌, List, Option, Some, None, refl, subst, codes, bytes_eq}
 use Rattle.std.specs.List.{AllByRecursion}
-use Rattle.std.specs.Prelude.{not, bytes_eq}
-use Rattle.std.proofs.lemmas.Bool.{and_from, and_parts, or_right, not_from_false}
-use Rattle.ml_text.specs.Bytes.{is_lower, is_upper, is_letter}
+use Rattle.std.proofs.lemmas.Bool.{and_from}
+use Rattle.ml_text.specs.Bytes.{is_upper}
 use Rattle.ml_text.specs.declared.token.Operator.{Operator}
 use Rattle.ml_text.specs.declared.token.Operator.TheVariants as operator
 use Rattle.ml_text.specs.declared.token.Token.{Token}
@@ -15,10 +14,10 @@ use Rattle.ml_text.specs.declared.token.Token.TheVariants as token
 use Rattle.ml_text.specs.declared.token.Placed.{Placed}
 use Rattle.ml_text.specs.Words.{constant_of, is_word_from}
 use Rattle.ml_text.specs.Refusals.{signs_of}
-use Rattle.ml_text.proofs.TableItems.{one_of, signs_all}
+use Rattle.ml_text.proofs.TableItems.{one_of, one_by, signs_all}
 use Rattle.ml_pdl.specs.Formula as plain
 use Rattle.ml_pdl.specs.Formula.{Formula, Program}
-use Rattle.ml_pdl.specs.Signs.{Sign, Blank, Lower, Upper, Unknown, Open, action_of, sign_of, byte_sign, word_sign_by}
+use Rattle.ml_pdl.specs.Signs.{Sign, Blank, Lower, Upper, Open, action_of, sign_of, byte_sign, word_sign_by}
 use Rattle.ml_pdl.specs.Grammar as grammar
 use Rattle.ml_pdl.specs.Grammar.{Reads, iff_alone, iff, imp_alone, imp, or_alone, or, and_alone, and, negation, modal, modal_blank, repetition}
 use Rattle.ml_pdl.specs.Grammar.{group, constant, proposition, ReadsProgram, alt_alone, alt, seq_alone, seq, star_alone, star, action, test}
@@ -26,7 +25,8 @@ use Rattle.ml_pdl.specs.Grammar.{program_group, ReadsTested, tested_negation, te
 use Rattle.ml_pdl.specs.Spelling.{is_proposition, is_action, is_spelled, program_is_spelled, is_reserved, reserved}
 use Rattle.ml_pdl.specs.Marks.{with_mark, is_test_behind}
 use Rattle.ml_text.specs.Items.{bytes_of}
-use Rattle.ml_text.proofs.FirstLetters.{lower_letters, upper_letters, none_of}
+use Rattle.ml_text.proofs.FirstLetters.{none_of}
+use Rattle.ml_text.proofs.FreeWords.{proposition_action, upper_action}
 use Rattle.ml_pdl.specs.Text.{pdl_signs, sign_by, signs_behind, items_from}
 
 -- ---- spelled names
@@ -43,33 +43,26 @@ IsSpelledSign _ = Unit {0}
 abbrev pub AreSpelled : List Sign → Type 0
 AreSpelled ts = AllByRecursion IsSpelledSign ts
 
-spelled_by : (w : List ℕ) (a b : Bool)
-    → is_proposition w ≡ a
-    → is_variable w ≡ b
-    → IsSpelledSign (cond a (Lower w) (cond b (Upper w) Unknown))
-spelled_by w true b x y = x
-spelled_by w false true x y = y
-spelled_by w false false x y = tt
-
 spelled_word : (w : List ℕ) (o : Option Bool) → IsSpelledSign (word_sign_by o w)
 spelled_word w (Some b) = tt
 spelled_word w None =
-    one_of IsSpelledSign (Rattle.std.specs.Prelude.bytes_eq w (codes "repeat")) _ _ tt
-    (spelled_by w (is_proposition w) (is_variable w) refl refl)
+    one_of IsSpelledSign (bytes_eq w (codes "repeat")) _ _ tt
+    (one_by IsSpelledSign (is_proposition w) _ _ (λ is. is)
+    (one_by IsSpelledSign (is_variable w) _ _ (λ is. is) tt))
 
 spelled_byte : (b : ℕ) → IsSpelledSign (byte_sign b)
 spelled_byte b =
-    one_of IsSpelledSign (Rattle.std.specs.Prelude.◌==◌ b 40) _ _ tt
-    (one_of IsSpelledSign (Rattle.std.specs.Prelude.◌==◌ b 41) _ _ tt
-    (one_of IsSpelledSign (Rattle.std.specs.Prelude.◌==◌ b 60) _ _ tt
-    (one_of IsSpelledSign (Rattle.std.specs.Prelude.◌==◌ b 62) _ _ tt
-    (one_of IsSpelledSign (Rattle.std.specs.Prelude.◌==◌ b 91) _ _ tt
-    (one_of IsSpelledSign (Rattle.std.specs.Prelude.◌==◌ b 93) _ _ tt
-    (one_of IsSpelledSign (Rattle.std.specs.Prelude.◌==◌ b 43) _ _ tt
-    (one_of IsSpelledSign (Rattle.std.specs.Prelude.◌==◌ b 59) _ _ tt
-    (one_of IsSpelledSign (Rattle.std.specs.Prelude.◌==◌ b 42) _ _ tt
-    (one_of IsSpelledSign (Rattle.std.specs.Prelude.◌==◌ b 63) _ _ tt
-    (one_of IsSpelledSign (Rattle.std.specs.Prelude.◌==◌ b 95) _ _ tt tt))))))))))
+    one_of IsSpelledSign (b == 40) _ _ tt
+    (one_of IsSpelledSign (b == 41) _ _ tt
+    (one_of IsSpelledSign (b == 60) _ _ tt
+    (one_of IsSpelledSign (b == 62) _ _ tt
+    (one_of IsSpelledSign (b == 91) _ _ tt
+    (one_of IsSpelledSign (b == 93) _ _ tt
+    (one_of IsSpelledSign (b == 43) _ _ tt
+    (one_of IsSpelledSign (b == 59) _ _ tt
+    (one_of IsSpelledSign (b == 42) _ _ tt
+    (one_of IsSpelledSign (b == 63) _ _ tt
+    (one_of IsSpelledSign (b == 95) _ _ tt tt))))))))))
 
 pub spelled_sign : (t : Token) (bytes : List ℕ) → IsSpelledSign (sign_of t bytes)
 spelled_sign token.Not bytes = tt
@@ -94,21 +87,13 @@ items_spelled text b ps =
 pub unreserved : (x : List ℕ) → is_variable x ≡ true → is_reserved x ≡ false
 unreserved x is = none_of is_upper x reserved is refl
 
-lower_action : (p : List ℕ) → is_proposition p ≡ true → is_action p ≡ true
-lower_action p is =
-    let parts = and_parts (is_word_from is_lower p) (not (is_reserved p)) is in
-    or_right (bytes_eq p (codes "_")) (is_word_from is_letter p && not (is_reserved p))
-    (and_from (is_word_from is_letter p) (not (is_reserved p)) (lower_letters p parts.0) parts.1)
-
-upper_action : (x : List ℕ) → is_variable x ≡ true → is_action x ≡ true
-upper_action x is =
-    or_right (bytes_eq x (codes "_")) (is_word_from is_letter x && not (is_reserved x))
-    (and_from (is_word_from is_letter x) (not (is_reserved x)) (upper_letters x is) (not_from_false (is_reserved x) (unreserved x is)))
-
 spelled_action : (s : Sign) (a : List ℕ) → action_of s ≡ Some a → IsSpelledSign s → is_action a ≡ true
 spelled_action Blank a is spelled = let same : codes "_" ≡ a = cc in subst (λ b. is_action b ≡ true) same refl
-spelled_action (Lower b) a is spelled = let same : b ≡ a = cc in subst (λ b. is_action b ≡ true) same (lower_action b spelled)
-spelled_action (Upper b) a is spelled = let same : b ≡ a = cc in subst (λ b. is_action b ≡ true) same (upper_action b spelled)
+spelled_action (Lower b) a is spelled =
+    let same : b ≡ a = cc in subst (λ b. is_action b ≡ true) same (proposition_action b (is_reserved b) spelled)
+spelled_action (Upper b) a is spelled =
+    let same : b ≡ a = cc in
+    subst (λ b. is_action b ≡ true) same (upper_action b (is_reserved b) spelled (unreserved b spelled))
 spelled_action _ a is spelled = absurd (cc)
 
 abbrev pub Spells : Formula → List Sign → Type 0

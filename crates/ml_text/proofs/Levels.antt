@@ -7,7 +7,8 @@
 --   right_follows       == what may follow a joined operand may follow its right operand
 --   right_untaken       == and the right operand can't take it
 --   loosen              == what is read at a level is read at each looser one
-use Rattle.std.proofs.Common.{◌≡◌, ℕ, ◌+◌, ◌<◌, ◌≤◌, ◌⊎◌, true, false, List, Option, Some, None, refl, sym, ◌∙◌, ap, subst, inl, inr, ⊎_elim, arith, leb-false}
+--   looser              == so it is by any relation with levels by which it is read at the level before
+use Rattle.std.proofs.Common.{◌≡◌, ℕ, zero, suc, ◌+◌, ◌<◌, ◌≤◌, ◌⊎◌, true, false, List, Option, Some, None, refl, sym, ◌∙◌, ap, subst, inl, inr, ⊎_elim, arith, leb-false}
 use Rattle.std.proofs.lemmas.Bool.{cases_Bool, cond-true, cond-false, lt-leb, cases_lt}
 use Rattle.ml_text.specs.Grammar.{Grammar, Level, Reads, alone, joined, left_level, right_level, role_takes, takes}
 use Rattle.ml_text.specs.declared.forms.Role.{Role}
@@ -140,3 +141,11 @@ pub loosen : (g : Grammar) {s : g.Sort} {l : ℕ} {ts rest : List g.Sign} {f : g
     → Reads g (Level s k) ts f rest
 loosen g k below (alone r) = alone r
 loosen g k below (joined o m is le a b) = joined o m is (omega arith) a b
+
+pub looser : (R : ℕ → Type 0) → ((l : ℕ) → R (suc l) → R l) → (l m : ℕ) → l ≤ m → R m → R l
+looser R step l zero le r = let same : zero ≡ l = omega arith in subst R same r
+looser R step l (suc m) le r =
+    ⊎_elim
+    (λ (less : l < suc m). looser R step l m (omega arith) (step m r))
+    (λ (ge : suc m ≤ l). let same : suc m ≡ l = omega arith in subst R same r)
+    (cases_lt l (suc m))

@@ -58,3 +58,5 @@ pub mod TableItems
 pub mod AcceptedTexts
 -- reserved words
 pub mod ReservedWords
+-- words that a logic doesn't reserve
+pub mod FreeWords

@@ -1,6 +1,7 @@
 -- The items of a text by a table of signs: their signs, the names among them that are too long, and their parentheses.
 --
 --   one_of        == what holds of both signs holds of the one that is chosen
+--   one_by        == the first sign may need that it is chosen
 --   signs_all     == what holds of the sign of each token holds of all signs
 --   signs_spelt   == where a token's sign follows from its bytes, the signs follow from the tokens with their bytes
 --   IsShort s     == the token s is no word that is longer than a name may be
@@ -30,6 +31,10 @@ use Rattle.ml_text.proofs.WordNames.{token_size}
 pub one_of : {Sign : Type 0} (P : Sign → Type 0) (b : Bool) (s t : Sign) → P s → P t → P (cond b s t)
 one_of P true s t p q = p
 one_of P false s t p q = q
+
+pub one_by : {Sign : Type 0} (P : Sign → Type 0) (b : Bool) (s t : Sign) → (b ≡ true → P s) → P t → P (cond b s t)
+one_by P true s t p q = p refl
+one_by P false s t p q = q
 
 pub signs_all : {Sign Context : Type 0} (t : SignTable Sign Context) (P : Sign → Type 0) (text : List ℕ)
     → ((p : Placed) → P (t.sign_at text p))
