@@ -8,6 +8,7 @@
 --   AreAlike g h         == all nodes are the same so, and the roots
 --   flip                 == in both directions
 --   same_priorities      == the lists of priorities are the same
+--   number v, numbered w n == the number to which the node v refers, and the node of the shape w with the number n
 --   true_shaped, ..      == a node of some shape
 --   literal_there, diamond_there, square_there == a node with a name is one with this name in both
 --   same_square          == so the squares of a diamond's action are the same
@@ -17,7 +18,7 @@
 --   same_joined          == and so are those of a connective
 --   alike_below          == graphs of one size whose nodes are all the same are alike
 --   alike_of             == so are those whose occurrences all have the same nodes
-use Rattle.std.proofs.Common.{◌≡◌, ℕ, ◌+◌, ◌*◌, ◌<◌, ◌≤◌, ◌⊎◌, Bool, List, [], length, refl, sym, ◌∙◌, ap, subst, ⊎_elim, arith}
+use Rattle.std.proofs.Common.{◌≡◌, ℕ, ◌+◌, ◌*◌, ◌<◌, ◌≤◌, Bool, List, [], length, refl, sym, ◌∙◌, ap, subst, ⊎_elim, arith}
 use Rattle.std.proofs.lemmas.Bool.{cases_eq, cases_lt}
 use Rattle.std.proofs.lemmas.List.{get_or_past, get_or_default, same_lists}
 use Rattle.ml_graph.specs.Graph.{Graph, IsGraph, size, node_at, priority_at, prop_at, action_at}
@@ -78,68 +79,51 @@ same_priorities g h x =
 
 -- ---- nodes by their shapes
 
-pub false_shaped : (v : Node) → node.False ≡ shape v → v ≡ node.False
-false_shaped node.True is = cc
-false_shaped node.False is = refl
-false_shaped (node.Lit p positive) is = cc
-false_shaped (node.And l r) is = cc
-false_shaped (node.Or l r) is = cc
-false_shaped (node.Diamond a to) is = cc
-false_shaped (node.Square a to) is = cc
+-- the number of a node's proposition or action, and the node of a shape with it
+abbrev number : Node → ℕ
+number (node.Lit p positive) = p
+number (node.Diamond a to) = a
+number (node.Square a to) = a
+number _ = 0
 
-pub or_shaped : (l r : ℕ) (v : Node) → node.Or l r ≡ shape v → v ≡ node.Or l r
-or_shaped l r node.True is = cc
-or_shaped l r node.False is = cc
-or_shaped l r (node.Lit p positive) is = cc
-or_shaped l r (node.And x y) is = cc
-or_shaped l r (node.Or x y) is = sym is
-or_shaped l r (node.Diamond a to) is = cc
-or_shaped l r (node.Square a to) is = cc
+abbrev numbered : Node → ℕ → Node
+numbered (node.Lit q positive) p = node.Lit p positive
+numbered (node.Diamond b to) a = node.Diamond a to
+numbered (node.Square b to) a = node.Square a to
+numbered v n = v
 
-pub lit_shaped : (s : Bool) (v : Node) → node.Lit 0 s ≡ shape v → (p : ℕ) × (v ≡ node.Lit p s)
-lit_shaped s node.True is = absurd (cc)
-lit_shaped s node.False is = absurd (cc)
-lit_shaped s (node.Lit p positive) is = let same : positive ≡ s = cc in (p, ap (node.Lit p) same)
-lit_shaped s (node.And l r) is = absurd (cc)
-lit_shaped s (node.Or l r) is = absurd (cc)
-lit_shaped s (node.Diamond a to) is = absurd (cc)
-lit_shaped s (node.Square a to) is = absurd (cc)
+own_number : (v : Node) → v ≡ numbered (shape v) (number v)
+own_number node.True = refl
+own_number node.False = refl
+own_number (node.Lit p positive) = refl
+own_number (node.And l r) = refl
+own_number (node.Or l r) = refl
+own_number (node.Diamond a to) = refl
+own_number (node.Square a to) = refl
 
-pub diamond_shaped : (t : ℕ) (v : Node) → node.Diamond 0 t ≡ shape v → (a : ℕ) × (v ≡ node.Diamond a t)
-diamond_shaped t node.True is = absurd (cc)
-diamond_shaped t node.False is = absurd (cc)
-diamond_shaped t (node.Lit p positive) is = absurd (cc)
-diamond_shaped t (node.And l r) is = absurd (cc)
-diamond_shaped t (node.Or l r) is = absurd (cc)
-diamond_shaped t (node.Diamond a to) is = let same : to ≡ t = cc in (a, ap (node.Diamond a) same)
-diamond_shaped t (node.Square a to) is = absurd (cc)
-
-pub square_shaped : (t : ℕ) (v : Node) → node.Square 0 t ≡ shape v → (a : ℕ) × (v ≡ node.Square a t)
-square_shaped t node.True is = absurd (cc)
-square_shaped t node.False is = absurd (cc)
-square_shaped t (node.Lit p positive) is = absurd (cc)
-square_shaped t (node.And l r) is = absurd (cc)
-square_shaped t (node.Or l r) is = absurd (cc)
-square_shaped t (node.Diamond a to) is = absurd (cc)
-square_shaped t (node.Square a to) is = let same : to ≡ t = cc in (a, ap (node.Square a) same)
+of_shape : (w v : Node) → w ≡ shape v → v ≡ numbered w (number v)
+of_shape w v is = own_number v ∙ ap (λ x. numbered x (number v)) (sym is)
 
 pub true_shaped : (v : Node) → node.True ≡ shape v → v ≡ node.True
-true_shaped node.True is = refl
-true_shaped node.False is = cc
-true_shaped (node.Lit p positive) is = cc
-true_shaped (node.And l r) is = cc
-true_shaped (node.Or l r) is = cc
-true_shaped (node.Diamond a to) is = cc
-true_shaped (node.Square a to) is = cc
+true_shaped v is = of_shape node.True v is
+
+pub false_shaped : (v : Node) → node.False ≡ shape v → v ≡ node.False
+false_shaped v is = of_shape node.False v is
 
 pub and_shaped : (l r : ℕ) (v : Node) → node.And l r ≡ shape v → v ≡ node.And l r
-and_shaped l r node.True is = cc
-and_shaped l r node.False is = cc
-and_shaped l r (node.Lit p positive) is = cc
-and_shaped l r (node.And x y) is = sym is
-and_shaped l r (node.Or x y) is = cc
-and_shaped l r (node.Diamond a to) is = cc
-and_shaped l r (node.Square a to) is = cc
+and_shaped l r v is = of_shape (node.And l r) v is
+
+pub or_shaped : (l r : ℕ) (v : Node) → node.Or l r ≡ shape v → v ≡ node.Or l r
+or_shaped l r v is = of_shape (node.Or l r) v is
+
+pub lit_shaped : (s : Bool) (v : Node) → node.Lit 0 s ≡ shape v → (p : ℕ) × (v ≡ node.Lit p s)
+lit_shaped s v is = (number v, of_shape (node.Lit 0 s) v is)
+
+pub diamond_shaped : (t : ℕ) (v : Node) → node.Diamond 0 t ≡ shape v → (a : ℕ) × (v ≡ node.Diamond a t)
+diamond_shaped t v is = (number v, of_shape (node.Diamond 0 t) v is)
+
+pub square_shaped : (t : ℕ) (v : Node) → node.Square 0 t ≡ shape v → (a : ℕ) × (v ≡ node.Square a t)
+square_shaped t v is = (number v, of_shape (node.Square 0 t) v is)
 
 -- a node that isn't True has a place
 placed : (g : Graph) (n : ℕ) (v : Node) → node_at g n ≡ v → (node.True ≡ v → ⊥) → n < size g

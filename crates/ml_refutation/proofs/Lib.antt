@@ -1,0 +1,2 @@
+-- local walks through nodes of high priorities are decided
+pub mod HighWalks

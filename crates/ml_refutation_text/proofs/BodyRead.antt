@@ -4,7 +4,7 @@
 --   body_size           == how many lines a body has
 --   text_size           == how many lines a text of a refutation has
 --   runs_of             == what was read to a place runs there
---   at_end, to_entries  == behind the last entry; from the first line to the entries
+--   at_end              == behind the last entry
 --   body_read           == a text that was read to its end is one of what was read
 --   one_parts           == the parts of the entries of a text begin at one list of lines
 use Rattle.std.proofs.Common.{◌≡◌, ◌≢◌, ℕ, ◌+◌, ◌<◌, ◌≤◌, false, cond, nat_lt, List, [], ◌∷◌, ◌++◌, length, map, codes, inl, inr, refl, sym, ap, subst, ◌∙◌, length-append, append_assoc, arith}
@@ -24,6 +24,8 @@ use Rattle.ml_lists.specs.Documents.{IsReadTo, nothing_read, line_read}
 use Rattle.ml_trace.specs.Stack as traced
 use Rattle.ml_trace.specs.declared.letters.AutomatonState.{AutomatonState}
 use Rattle.ml_refutation.specs.Refutation.{Refutation, Entry, Fits, IsRefutation}
+use Rattle.ml_refutation.specs.Views.{entry_of}
+use Rattle.ml_refutation.specs.declared.refutation.Entry as program
 use Rattle.ml_refutation_text.specs.RefutationText.{Form, InFull, ByTables, names_line, entries_line, sequent_line, stack_line, stacks_line, live_line, heights_line}
 use Rattle.ml_refutation_text.specs.RefutationText.{end_line, decision_lines, HeadLines, ItemLines, EntriesLines, FirstLines, BodyLines, IsForm, IsTextOf}
 use Rattle.ml_refutation_text.specs.BodyRules.{Place, AtNames, AtEntries, AtEntry, AtEnd, AtNothing, after_names, after, at_entry, rule_number, body}
@@ -43,15 +45,18 @@ use Rattle.ml_refutation_text.proofs.GoodEntries.{body_run}
 use Rattle.ml_refutation_text.proofs.PlainLines.{run_plain}
 use Rattle.ml_refutation_text.proofs.ReadableTexts.{readable_is_text}
 use Rattle.ml_refutation_text.proofs.RefutationTexts.{text_lines, same_end}
-use Rattle.ml_refutation_text.proofs.Going.{goes_on, goes_run}
+use Rattle.ml_refutation_text.proofs.Going.{goes_run}
 
 -- ---- single lines
 
-module _ (v : Version) (at rest : Rest) where
-  pub names_goes : (n : ℕ) → Fits n → IsNext at (names_line n) rest → Goes v AtNames at (after_names v n) rest
-  names_goes n fits next =
-      goes_run v AtNames (after_names v n) at rest (names_line n) (names_line n) next refl (λ left. names_run v left n fits)
+pub names_goes : (v : Version) {at rest : Rest} (n : ℕ)
+    → Fits n
+    → IsNext at (names_line n) rest
+    → Goes v AtNames at (after_names v n) rest
+names_goes v {at = at} {rest = rest} n fits next =
+    goes_run v AtNames (after_names v n) at rest (names_line n) (names_line n) next refl (λ left. names_run v left n fits)
 
+module _ (v : Version) (at rest : Rest) where
   pub count_goes : (names : ℕ) (F : Form) (count : ℕ) → Fits count → IsNext at (entries_line count) rest → 0 < count
       → Goes v (AtEntries names F) at (at_entry (knows names F count) []) rest
   count_goes names F count fits next some =
@@ -196,19 +201,14 @@ runs_of v left k p lines j q rest (line_read i at line more before good) =
 -- ---- the parts of a body
 
 -- behind the last entry
-pub at_end : (v : Version) (names wanted : ℕ) (F : Form) (es : List Entry) (p : Place) (at rest : Rest)
-    → length es ≡ wanted
-    → Goes v p at (at_entry (knows names F wanted) es) rest → Goes v p at (AtEnd (record { names = names; entries = es })) rest
-at_end v names wanted F es p at rest full goes =
-    let test : nat_lt (length es) wanted ≡ false = grind (arith, nat_tests, full) in
+pub at_end : {v : Version} {p : Place} {at rest : Rest} (names wanted : ℕ) (F : Form) (items : List program.Entry)
+    → length items ≡ wanted
+    → Goes v p at (at_entry (knows names F wanted) (map entry_of items)) rest
+    → Goes v p at (AtEnd (record { names = names; entries = map entry_of items })) rest
+at_end {v = v} {p = p} {at = at} {rest = rest} names wanted F items whole goes =
+    let es = map entry_of items in
+    let test : nat_lt (length es) wanted ≡ false = grind (arith, nat_tests, length-map items entry_of, whole) in
     subst (λ b. Goes v p at (cond b (AtEntry (knows names F wanted) es) (AtEnd (record { names = names; entries = es }))) rest) test goes
-
-module _ (v : Version) (names wanted : ℕ) (F : Form) (at a b c : Rest) where
-  pub to_entries : Goes v AtNames at (after_names v names) a → Goes v (after_names v names) a (AtEntries names F) b
-      → Goes v (AtEntries names F) b (at_entry (knows names F wanted) []) c → Goes v AtNames at (at_entry (knows names F wanted) []) c
-  to_entries first second third =
-      goes_on v AtNames (after_names v names) (at_entry (knows names F wanted) []) at a c first
-      (goes_on v (after_names v names) (AtEntries names F) (at_entry (knows names F wanted) []) a b c second third)
 
 -- ---- a whole text
 

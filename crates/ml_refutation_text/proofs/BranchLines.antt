@@ -1,6 +1,7 @@
 -- The lines of a decision that are read, and the first rules that others break.
 --
 --   count_slots, free_slots, fit_numbers == how many words a kind has, and that words of numbers are of it
+--   lacks_behind                         == words that aren't of a kind, which begins with their first one
 --   lacks_red, lacks_green, no_mark      == words that aren't those of a mark, by their first one
 --   lacks_false, lacks_pair, lacks_cycle, no_cause == the same of a cause
 --   lacks_go_words, lacks_mark, lacks_diamond, lacks_entry == the same of what stands behind `go`
@@ -17,7 +18,7 @@ use Rattle.ml_refutation_text.specs.RefutationText.{InFull, mark_words, go_line}
 use Rattle.ml_refutation_text.specs.LineKinds.{Kind, Slot, Fixed, ANumber, AGuess, AnySize, InSlots, FitSlots, IsOfKinds, HaveNumbers}
 use Rattle.ml_refutation_text.specs.BodyRules.{Begun, AtDecision, numbered, clash_kinds, go_kinds, rules, rule_number, mark_of}
 use Rattle.ml_refutation_text.specs.private.ItemReads.{knows}
-use Rattle.ml_refutation_text.specs.private.BranchReads.{BreaksBranch, FitsMark, Shape, LacksNumbers, IsMarked, LacksMark, IsCaused, LacksCause, IsGo, LacksGo}
+use Rattle.ml_refutation_text.specs.private.BranchReads.{BreaksBranch, FitsMark, Shape, Lacks, LacksNumbers, IsMarked, LacksMark, IsCaused, LacksCause, IsGo, LacksGo}
 use Rattle.ml_refutation_text.specs.declared.body_rule.BodyRule.{BodyRule}
 use Rattle.ml_refutation_text.specs.declared.body_rule.BodyRule.TheVariants.{OfKind, Numbers, GoInRange}
 use Rattle.ml_lists.specs.Documents.{IsFirstBroken}
@@ -68,37 +69,45 @@ numbers_fit (Fixed f ∷ slots) words free are = absurd free
 numbers_fit (AGuess ∷ slots) words free are = absurd free
 numbers_fit (AnySize ∷ slots) words free are = absurd free
 
--- ---- marks
+-- ---- marks and causes, by their first word
+
+-- words of a kind that begins with this word where so many numbers stand behind it
+lacks_behind : (OfTheKind : Line → Type 0) (first : Word) (n : ℕ) (words rest : Line) (rule : BodyRule)
+    → (length rest ≡ n → OfTheKind (first ∷ rest))
+    → (OfTheKind (first ∷ rest) → length rest ≡ n)
+    → words ≡ first ∷ rest
+    → LacksNumbers n rest rule
+    → Lacks OfTheKind (λ ws. All IsNumber (drop 1 ws)) words rule
+lacks_behind OfTheKind first n words rest rule there back is lacks =
+    subst (λ ws. Lacks OfTheKind (λ l. All IsNumber (drop 1 l)) ws rule) (sym is) (go lacks)
+  where
+    go : LacksNumbers n rest rule → Lacks OfTheKind (λ l. All IsNumber (drop 1 l)) (first ∷ rest) rule
+    go (inl (kind, other)) = inl (kind, λ of. other (back of))
+    go (inr (kind, count, bad)) = inr (kind, there count, bad)
 
 pub lacks_red : (words rest : Line) (rule : BodyRule)
     → words ≡ codes "red" ∷ rest
     → LacksNumbers 1 rest rule
     → LacksMark words rule
-lacks_red words rest rule is lacks = subst (λ ws. LacksMark ws rule) (sym is) (go lacks)
+lacks_red words rest rule =
+    lacks_behind IsMarked (codes "red") 1 words rest rule (λ count. inl (refl, omega (arith, count))) back
   where
-    go : LacksNumbers 1 rest rule → LacksMark (codes "red" ∷ rest) rule
-    go (inl (kind, other)) = inl (kind, none)
-      where
-        none : IsMarked (codes "red" ∷ rest) → ⊥
-        none (inl red) = other (omega (arith, red.1))
-        none (inr (inl green)) = differ (codes "red") (codes "green") refl green.0
-        none (inr (inr neutral)) = differ (codes "red") (codes "neutral") refl neutral.0
-    go (inr (kind, count, bad)) = inr (kind, inl (refl, omega (arith, count)), bad)
+    back : IsMarked (codes "red" ∷ rest) → length rest ≡ 1
+    back (inl red) = omega (arith, red.1)
+    back (inr (inl green)) = absurd (differ (codes "red") (codes "green") refl green.0)
+    back (inr (inr neutral)) = absurd (differ (codes "red") (codes "neutral") refl neutral.0)
 
 pub lacks_green : (words rest : Line) (rule : BodyRule)
     → words ≡ codes "green" ∷ rest
     → LacksNumbers 1 rest rule
     → LacksMark words rule
-lacks_green words rest rule is lacks = subst (λ ws. LacksMark ws rule) (sym is) (go lacks)
+lacks_green words rest rule =
+    lacks_behind IsMarked (codes "green") 1 words rest rule (λ count. inr (inl (refl, omega (arith, count)))) back
   where
-    go : LacksNumbers 1 rest rule → LacksMark (codes "green" ∷ rest) rule
-    go (inl (kind, other)) = inl (kind, none)
-      where
-        none : IsMarked (codes "green" ∷ rest) → ⊥
-        none (inl red) = differ (codes "green") (codes "red") refl red.0
-        none (inr (inl green)) = other (omega (arith, green.1))
-        none (inr (inr neutral)) = differ (codes "green") (codes "neutral") refl neutral.0
-    go (inr (kind, count, bad)) = inr (kind, inr (inl (refl, omega (arith, count))), bad)
+    back : IsMarked (codes "green" ∷ rest) → length rest ≡ 1
+    back (inl red) = absurd (differ (codes "green") (codes "red") refl red.0)
+    back (inr (inl green)) = omega (arith, green.1)
+    back (inr (inr neutral)) = absurd (differ (codes "green") (codes "neutral") refl neutral.0)
 
 -- another word with something behind it
 pub no_mark : (words rest : Line) (color : Word)
@@ -113,52 +122,41 @@ no_mark words rest color is some no_red no_green = subst (λ ws. LacksMark ws Of
     none (inr (inl green)) = differ color (codes "green") no_green green.0
     none (inr (inr neutral)) = absurd (omega (arith, some, neutral.1))
 
--- ---- causes
-
 pub lacks_false : (words rest : Line) (rule : BodyRule)
     → words ≡ codes "false" ∷ rest
     → LacksNumbers 1 rest rule
     → LacksCause words rule
-lacks_false words rest rule is lacks = subst (λ ws. LacksCause ws rule) (sym is) (go lacks)
+lacks_false words rest rule =
+    lacks_behind IsCaused (codes "false") 1 words rest rule (λ count. inl (refl, omega (arith, count))) back
   where
-    go : LacksNumbers 1 rest rule → LacksCause (codes "false" ∷ rest) rule
-    go (inl (kind, other)) = inl (kind, none)
-      where
-        none : IsCaused (codes "false" ∷ rest) → ⊥
-        none (inl lie) = other (omega (arith, lie.1))
-        none (inr (inl pair)) = differ (codes "false") (codes "pair") refl pair.0
-        none (inr (inr cycle)) = differ (codes "false") (codes "cycle") refl cycle.0
-    go (inr (kind, count, bad)) = inr (kind, inl (refl, omega (arith, count)), bad)
+    back : IsCaused (codes "false" ∷ rest) → length rest ≡ 1
+    back (inl lie) = omega (arith, lie.1)
+    back (inr (inl pair)) = absurd (differ (codes "false") (codes "pair") refl pair.0)
+    back (inr (inr cycle)) = absurd (differ (codes "false") (codes "cycle") refl cycle.0)
 
 pub lacks_pair : (words rest : Line) (rule : BodyRule)
     → words ≡ codes "pair" ∷ rest
     → LacksNumbers 2 rest rule
     → LacksCause words rule
-lacks_pair words rest rule is lacks = subst (λ ws. LacksCause ws rule) (sym is) (go lacks)
+lacks_pair words rest rule =
+    lacks_behind IsCaused (codes "pair") 2 words rest rule (λ count. inr (inl (refl, omega (arith, count)))) back
   where
-    go : LacksNumbers 2 rest rule → LacksCause (codes "pair" ∷ rest) rule
-    go (inl (kind, other)) = inl (kind, none)
-      where
-        none : IsCaused (codes "pair" ∷ rest) → ⊥
-        none (inl lie) = differ (codes "pair") (codes "false") refl lie.0
-        none (inr (inl pair)) = other (omega (arith, pair.1))
-        none (inr (inr cycle)) = differ (codes "pair") (codes "cycle") refl cycle.0
-    go (inr (kind, count, bad)) = inr (kind, inr (inl (refl, omega (arith, count))), bad)
+    back : IsCaused (codes "pair" ∷ rest) → length rest ≡ 2
+    back (inl lie) = absurd (differ (codes "pair") (codes "false") refl lie.0)
+    back (inr (inl pair)) = omega (arith, pair.1)
+    back (inr (inr cycle)) = absurd (differ (codes "pair") (codes "cycle") refl cycle.0)
 
 pub lacks_cycle : (words rest : Line) (rule : BodyRule)
     → words ≡ codes "cycle" ∷ rest
     → LacksNumbers 1 rest rule
     → LacksCause words rule
-lacks_cycle words rest rule is lacks = subst (λ ws. LacksCause ws rule) (sym is) (go lacks)
+lacks_cycle words rest rule =
+    lacks_behind IsCaused (codes "cycle") 1 words rest rule (λ count. inr (inr (refl, omega (arith, count)))) back
   where
-    go : LacksNumbers 1 rest rule → LacksCause (codes "cycle" ∷ rest) rule
-    go (inl (kind, other)) = inl (kind, none)
-      where
-        none : IsCaused (codes "cycle" ∷ rest) → ⊥
-        none (inl lie) = differ (codes "cycle") (codes "false") refl lie.0
-        none (inr (inl pair)) = differ (codes "cycle") (codes "pair") refl pair.0
-        none (inr (inr cycle)) = other (omega (arith, cycle.1))
-    go (inr (kind, count, bad)) = inr (kind, inr (inr (refl, omega (arith, count))), bad)
+    back : IsCaused (codes "cycle" ∷ rest) → length rest ≡ 1
+    back (inl lie) = absurd (differ (codes "cycle") (codes "false") refl lie.0)
+    back (inr (inl pair)) = absurd (differ (codes "cycle") (codes "pair") refl pair.0)
+    back (inr (inr cycle)) = omega (arith, cycle.1)
 
 pub no_cause : (words rest : Line) (first : Word) → words ≡ first ∷ rest → bytes_eq first (codes "false") ≡ false
     → bytes_eq first (codes "pair") ≡ false → bytes_eq first (codes "cycle") ≡ false → LacksCause words OfKind

@@ -54,12 +54,12 @@ module _ (names wanted : ℕ) (at : Rest) where
 
     pub decides_room : HasRoom at → HasRoom rest
     decides_room room =
-        room_on One (place InFull [] no_entry []) (place InFull [] no_entry splits) at rest (so_far.goes One InFull [] no_entry) room
+        room_on (so_far.goes One InFull [] no_entry) room
 
     pub decides_missing : (e : DocRefusal) → ((v : Version) (p : Place) → IsUsual p → TellsFault v p rest e)
         → (v : Version) (F : Form) (es : List Entry) (b : Begun) → TellsFault v (AtDecision (knows names F wanted) es b []) at e
     decides_missing e missing v F es b =
-        fault_on v (place F es b []) (place F es b splits) at rest e (so_far.goes v F es b) (missing v (place F es b splits) tt)
+        fault_on e (so_far.goes v F es b) (missing v (place F es b splits) tt)
 
     module _ (line : Line) (behind : Rest) (next : IsNext rest line behind) where
       pub decides_broken : (rule : BodyRule) (e : DocRefusal) → e ≡ refused.Fault (record { line = rest.line; rule = rule_number rule })
@@ -68,7 +68,7 @@ module _ (names wanted : ℕ) (at : Rest) where
       decides_broken rule e is breaks v F es b =
           let p = place F es b splits in
           let deep : length (arounds_of splits) ≡ length splits = omega (arith, length-arounds [] splits) in
-          fault_on v (place F es b []) p at rest e (so_far.goes v F es b)
+          fault_on e (so_far.goes v F es b)
           (subst (TellsFault v p rest) (sym is) (fault_line v p rest behind line rule next (breaks F es b (arounds_of splits) deep)))
 
       pub decides_split : (n : ℕ) (inner : List split.Around)
@@ -81,7 +81,7 @@ module _ (names wanted : ℕ) (at : Rest) where
           let depth : length (arounds_of splits) < NESTING_LIMIT = omega (arith, length-arounds [] splits, deep) in record {
             goes = λ v F es b.
                 let k = knows names F wanted in
-                goes_on v (place F es b []) (place F es b splits) (place F es b inner) at rest behind (so_far.goes v F es b)
+                goes_on (so_far.goes v F es b)
                 (goes_run v (place F es b splits) (place F es b inner) rest behind line (split_line n) next is
                 (λ left.
                 subst (λ as'. Runs (body v left) (place F es b splits) (split_line n ∷ []) (AtDecision k es b as')) (sym now)
@@ -99,7 +99,7 @@ module _ (names wanted : ℕ) (at : Rest) where
             let deep : nesting d + length (arounds_of splits) ≤ NESTING_LIMIT =
             omega (arith, leaf.no_split, length-arounds [] splits, inside) in
             let q = closed k es b (arounds_of splits) d in
-            goes_on v (place F es b []) (place F es b splits) q at rest behind (so_far.goes v F es b)
+            goes_on (so_far.goes v F es b)
             (goes_run v (place F es b splits) q rest behind line line next refl
             (λ left.
             subst (λ ls. Runs (body v left) (place F es b splits) ls q) leaf.is_line

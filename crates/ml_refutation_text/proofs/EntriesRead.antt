@@ -196,7 +196,7 @@ module _ (k : Known) (V : Version) (at : Rest) where
 
   module _ (entries : List program.Entry) (parts : List EntryLines) (i : ℕ) (rest : Rest) (so_far : EntriesTo entries parts i rest) where
     pub entries_room : HasRoom at → HasRoom rest
-    entries_room room = room_on One (at_entry k []) (at_entry k (map entry_of entries)) at rest (so_far.goes One) room
+    entries_room room = room_on (so_far.goes One) room
 
     pub many_plain : length (map entry_of entries) ≡ i
     many_plain = length-map entries entry_of ∙ so_far.many
@@ -212,7 +212,7 @@ module _ (k : Known) (V : Version) (at : Rest) where
           → ((v : Version) (es : List Entry) → length es ≡ i → TellsFault v (AtEntry k es) rest e)
           → (v : Version) → TellsFault v (at_entry k []) at e
       entries_refused e tells v =
-          fault_on v (at_entry k []) (AtEntry k (map entry_of entries)) at rest e (here v) (tells v (map entry_of entries) many_plain)
+          fault_on e (here v) (tells v (map entry_of entries) many_plain)
 
       pub entries_more : (e : program.Entry) (lines : EntryLines) (behind : Rest) (more : List program.Entry)
           (others : List EntryLines)
@@ -224,7 +224,7 @@ module _ (k : Known) (V : Version) (at : Rest) where
           let all : map entry_of more ≡ es ++ entry_of e ∷ [] = ap (map entry_of) pushed ∙ map-append entry_of entries (e ∷ []) in record {
             goes = λ v.
                 subst (λ xs. Goes v (at_entry k []) at (at_entry k xs) behind) (sym all)
-                (goes_on v (at_entry k []) (AtEntry k es) (at_entry k (es ++ entry_of e ∷ [])) at rest behind (here v) (goes v es many_plain));
+                (goes_on (here v) (goes v es many_plain));
             many = omega (arith, so_far.many, ap length pushed, length-append entries (e ∷ []));
             are_parts =
                 parts_pushed ∙ (λ j. so_far.are_parts j ++ lines_are j ∷ [])

@@ -22,20 +22,33 @@ use Rattle.ml_refutation_text.specs.declared.rest.LineRefusal.{LineRefusal}
 use Rattle.ml_refutation_text.specs.declared.rest.LineRefusal.TheVariants as line
 use Rattle.ml_refutation_text.proofs.Runs.{Runs}
 
+pub goes_on : {v : Version} {p q r : Place} {at mid rest : Rest} → Goes v p at q mid → Goes v q mid r rest → Goes v p at r rest
+goes_on {v = v} {p = p} {q = q} {r = r} {at = at} {mid = mid} {rest = rest} first second = record {
+  read =
+      read_on (body v (left_of at.text.now)) at.line p (lines_of at.text.now) mid.line q (lines_of mid.text.now) rest.line r
+      (lines_of rest.text.now) first.read
+      (subst (λ left. IsReadTo (body v left) mid.line q (lines_of mid.text.now) rest.line r (lines_of rest.text.now))
+      (sym first.left_is) second.read);
+  left_is = first.left_is ∙ second.left_is;
+  room = omega (arith, first.room, second.room);
+}
+
+pub fault_on : {v : Version} {p q : Place} {at rest : Rest} (e : DocRefusal)
+    → Goes v p at q rest
+    → TellsFault v q rest e
+    → TellsFault v p at e
+fault_on refused.NoMemory goes tells = tt
+fault_on {v = v} {p = p} {q = q} {at = at} {rest = rest} (refused.Fault fault) goes tells =
+    bad_behind (body v (left_of at.text.now)) at.line p (lines_of at.text.now) rest.line q (lines_of rest.text.now) fault.line fault.rule
+    goes.read
+    (subst (λ left. IsFirstBad (body v left) rest.line q (lines_of rest.text.now) fault.line fault.rule) (sym goes.left_is) tells)
+
+pub room_on : {v : Version} {p q : Place} {at rest : Rest} → Goes v p at q rest → HasRoom at → HasRoom rest
+room_on goes room = omega (arith, goes.room, room)
+
 module _ (v : Version) where
   pub goes_begin : (p : Place) (at : Rest) → Goes v p at p at
   goes_begin p at = record { read = nothing_read; left_is = refl; room = omega arith }
-
-  pub goes_on : (p q r : Place) (at mid rest : Rest) → Goes v p at q mid → Goes v q mid r rest → Goes v p at r rest
-  goes_on p q r at mid rest first second = record {
-    read =
-        read_on (body v (left_of at.text.now)) at.line p (lines_of at.text.now) mid.line q (lines_of mid.text.now) rest.line r
-        (lines_of rest.text.now) first.read
-        (subst (λ left. IsReadTo (body v left) mid.line q (lines_of mid.text.now) rest.line r (lines_of rest.text.now))
-        (sym first.left_is) second.read);
-    left_is = first.left_is ∙ second.left_is;
-    room = omega (arith, first.room, second.room);
-  }
 
   -- one line
   pub goes_line : (p q : Place) (at rest : Rest) (line : Line)
@@ -60,16 +73,6 @@ module _ (v : Version) where
       let run = runs (left_of at.text.now) in
       goes_line p q at rest words (subst (λ l. IsNext at l rest) is next) run.0 run.1
 
-  pub fault_on : (p q : Place) (at rest : Rest) (e : DocRefusal)
-      → Goes v p at q rest
-      → TellsFault v q rest e
-      → TellsFault v p at e
-  fault_on p q at rest refused.NoMemory goes tells = tt
-  fault_on p q at rest (refused.Fault fault) goes tells =
-      bad_behind (body v (left_of at.text.now)) at.line p (lines_of at.text.now) rest.line q (lines_of rest.text.now) fault.line fault.rule
-      goes.read
-      (subst (λ left. IsFirstBad (body v left) rest.line q (lines_of rest.text.now) fault.line fault.rule) (sym goes.left_is) tells)
-
   pub fault_line : (p : Place) (at rest : Rest) (line : Line) (rule : BodyRule)
       → IsNext at line rest
       → Breaks p line rule
@@ -81,9 +84,6 @@ module _ (v : Version) where
       → TellsFault v p at (at_line at.line e)
   refused_line p at rest l (line.Breaks rule) next breaks = fault_line p at rest l rule next breaks
   refused_line p at rest l line.NoMemory next breaks = tt
-
-  pub room_on : (p q : Place) (at rest : Rest) → Goes v p at q rest → HasRoom at → HasRoom rest
-  room_on p q at rest goes room = omega (arith, goes.room, room)
 
 pub room_behind : (at rest : Rest) (line : Line) → IsNext at line rest → HasRoom at → HasRoom rest
 room_behind at rest line next room = omega (arith, next.shorter, next.counted, room)

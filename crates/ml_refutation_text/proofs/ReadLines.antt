@@ -15,12 +15,14 @@ use Rattle.ml_lines.specs.Reading.{IsNumber, value, word}
 use Rattle.ml_lines.proofs.Numbers.{own_value}
 use Rattle.ml_refutation_text.proofs.ReadWords.{no_dash}
 use Rattle.ml_lists.specs.Ascending.{IsAscending}
+use Rattle.ml_trace.specs.declared.marks.Mark.{Mark}
 use Rattle.ml_trace.specs.declared.marks.Mark.TheVariants.{Red, Green, Neutral}
 use Rattle.ml_trace.specs.Stack as traced
+use Rattle.ml_sequent.specs.declared.clashes.ClashCause.{ClashCause}
 use Rattle.ml_sequent.specs.declared.clashes.ClashCause.TheVariants.{False, Pair, Cycle}
 use Rattle.ml_trace.specs.declared.letters.AutomatonState.{AutomatonState}
-use Rattle.ml_refutation.specs.Refutation.{Decision, Clash, Go, IsMarkOf, Fits, FitsGuess, IsStack, IsItem, IsDecided, nesting}
-use Rattle.ml_refutation_text.specs.RefutationText.{Spells, Form, InFull, ByTables, numbers, stack_line, entry_line, guess_word, decision_lines, ItemLine, AreTables, IsForm}
+use Rattle.ml_refutation.specs.Refutation.{Decision, Clash, Go, IsMarkOf, Fits, FitsCause, FitsGuess, IsStack, IsItem, IsDecided, nesting}
+use Rattle.ml_refutation_text.specs.RefutationText.{Spells, Form, InFull, ByTables, numbers, stack_line, entry_line, guess_word, cause_words, mark_words, decision_lines, ItemLine, AreTables, IsForm}
 use Rattle.ml_refutation_text.specs.LineKinds.{Slot, kind, FitsSlot, Fixed, ANumber, AGuess, AnySize, InSlots, FitSlots, open_kind, IsOfKinds, HaveNumbers}
 use Rattle.ml_refutation_text.specs.BodyRules.{Begins, mark_of, clash_kinds, go_kinds, guess_of, numbered, stack_kind, values, state_of, stack_of, leaf_of}
 
@@ -103,22 +105,30 @@ pub record IsLeaf (names wanted : ℕ) (line : Line) : Type 0 where
       → IsDecided names wanted d
 
 module _ (names wanted : ℕ) where
-  pub false_leaf : (line : Line) → InSlots false (Fixed (codes "clash") ∷ Fixed (codes "false") ∷ ANumber ∷ []) line
-      → FitSlots (Fixed (codes "clash") ∷ Fixed (codes "false") ∷ ANumber ∷ []) line → IsLeaf names wanted line
-  false_leaf [] kind has = absurd kind
-  false_leaf (w ∷ []) kind has = absurd kind.1
-  false_leaf (w ∷ x ∷ []) kind has = absurd kind.1.1
-  false_leaf (w ∷ x ∷ y ∷ rest) kind has =
+  -- a clash at one node
+  node_leaf : (fixed : Word) (cause : ℕ → ClashCause)
+      → ((y : Word) (rest : Line) → leaf_of (codes "clash" ∷ fixed ∷ y ∷ rest) ≡ Clash (cause (value y)))
+      → ((n : ℕ) → cause_words (cause n) ≡ fixed ∷ number n ∷ [])
+      → ((n : ℕ) → Fits n → FitsCause (cause n))
+      → (line : Line)
+      → InSlots false (Fixed (codes "clash") ∷ Fixed fixed ∷ ANumber ∷ []) line
+      → FitSlots (Fixed (codes "clash") ∷ Fixed fixed ∷ ANumber ∷ []) line → IsLeaf names wanted line
+  node_leaf fixed cause told words fits [] kind has = absurd kind
+  node_leaf fixed cause told words fits (w ∷ []) kind has = absurd kind.1
+  node_leaf fixed cause told words fits (w ∷ x ∷ []) kind has = absurd kind.1.1
+  node_leaf fixed cause told words fits (w ∷ x ∷ y ∷ rest) kind has =
       let own = own_value y has.1.1.0 in record {
-        d = Clash (False (value y));
-        tells = ap leaf_of (λ i. kind.0 i ∷ kind.1.0 i ∷ y ∷ rest);
-        is_line = (λ i. (kind.0 i ∷ kind.1.0 i ∷ own.1 i ∷ kind.1.1.1 i) ∷ []);
+        d = Clash (cause (value y));
+        tells = ap leaf_of (λ i. kind.0 i ∷ kind.1.0 i ∷ y ∷ rest) ∙ told y rest;
+        is_line =
+            (λ i. (kind.0 i ∷ kind.1.0 i ∷ own.1 i ∷ kind.1.1.1 i) ∷ [])
+            ∙ ap (λ ws. (codes "clash" ∷ ws) ∷ []) (sym (words (value y)));
         is_flat = refl;
         no_split = ap (λ u. bytes_eq u (codes "split")) kind.0;
-        keeps = (λ _. own.0);
+        keeps = (λ _. fits (value y) own.0);
       }
 
-  pub pair_leaf : (line : Line)
+  pair_leaf : (line : Line)
       → InSlots false (Fixed (codes "clash") ∷ Fixed (codes "pair") ∷ ANumber ∷ ANumber ∷ []) line
       → FitSlots (Fixed (codes "clash") ∷ Fixed (codes "pair") ∷ ANumber ∷ ANumber ∷ []) line → IsLeaf names wanted line
   pair_leaf [] kind has = absurd kind
@@ -136,64 +146,36 @@ module _ (names wanted : ℕ) where
         keeps = (λ _. (own.0, other.0));
       }
 
-  pub cycle_leaf : (line : Line) → InSlots false (Fixed (codes "clash") ∷ Fixed (codes "cycle") ∷ ANumber ∷ []) line
-      → FitSlots (Fixed (codes "clash") ∷ Fixed (codes "cycle") ∷ ANumber ∷ []) line → IsLeaf names wanted line
-  cycle_leaf [] kind has = absurd kind
-  cycle_leaf (w ∷ []) kind has = absurd kind.1
-  cycle_leaf (w ∷ x ∷ []) kind has = absurd kind.1.1
-  cycle_leaf (w ∷ x ∷ y ∷ rest) kind has =
-      let own = own_value y has.1.1.0 in record {
-        d = Clash (Cycle (value y));
-        tells = ap leaf_of (λ i. kind.0 i ∷ kind.1.0 i ∷ y ∷ rest);
-        is_line = (λ i. (kind.0 i ∷ kind.1.0 i ∷ own.1 i ∷ kind.1.1.1 i) ∷ []);
-        is_flat = refl;
-        no_split = ap (λ u. bytes_eq u (codes "split")) kind.0;
-        keeps = (λ _. own.0);
-      }
-
-  pub red_leaf : (line : Line)
-      → InSlots false (Fixed (codes "go") ∷ ANumber ∷ ANumber ∷ Fixed (codes "red") ∷ ANumber ∷ []) line
-      → FitSlots (Fixed (codes "go") ∷ ANumber ∷ ANumber ∷ Fixed (codes "red") ∷ ANumber ∷ []) line → IsLeaf names wanted line
-  red_leaf [] kind has = absurd kind
-  red_leaf (w ∷ []) kind has = absurd kind.1
-  red_leaf (w ∷ x ∷ []) kind has = absurd kind.1.1
-  red_leaf (w ∷ x ∷ y ∷ []) kind has = absurd kind.1.1.1
-  red_leaf (w ∷ x ∷ y ∷ z ∷ []) kind has = absurd kind.1.1.1.1
-  red_leaf (w ∷ x ∷ y ∷ z ∷ u ∷ rest) kind has =
+  -- a go with the mark of a name
+  name_leaf : (color : Word) (mark : ℕ → Mark)
+      → ((w x y u : Word) (rest : Line) → mark_of (w ∷ x ∷ y ∷ color ∷ u ∷ rest) ≡ mark (value u))
+      → ((n : ℕ) → mark_words (mark n) ≡ color ∷ number n ∷ [])
+      → (line : Line)
+      → InSlots false (Fixed (codes "go") ∷ ANumber ∷ ANumber ∷ Fixed color ∷ ANumber ∷ []) line
+      → FitSlots (Fixed (codes "go") ∷ ANumber ∷ ANumber ∷ Fixed color ∷ ANumber ∷ []) line → IsLeaf names wanted line
+  name_leaf color mark told words [] kind has = absurd kind
+  name_leaf color mark told words (w ∷ []) kind has = absurd kind.1
+  name_leaf color mark told words (w ∷ x ∷ []) kind has = absurd kind.1.1
+  name_leaf color mark told words (w ∷ x ∷ y ∷ []) kind has = absurd kind.1.1.1
+  name_leaf color mark told words (w ∷ x ∷ y ∷ z ∷ []) kind has = absurd kind.1.1.1.1
+  name_leaf color mark told words (w ∷ x ∷ y ∷ z ∷ u ∷ rest) kind has =
       let diamond = own_value x has.1.0 in
       let entry = own_value y has.1.1.0 in
       let name = own_value u has.1.1.1.1.0 in
-      let marks = ap mark_of (λ i. w ∷ x ∷ y ∷ kind.1.1.1.0 i ∷ u ∷ rest) in record {
-        d = Go (value x) (value y) (Red (value u));
-        tells = ap leaf_of (λ i. kind.0 i ∷ x ∷ y ∷ kind.1.1.1.0 i ∷ u ∷ rest);
-        is_line = (λ i. (kind.0 i ∷ diamond.1 i ∷ entry.1 i ∷ kind.1.1.1.0 i ∷ name.1 i ∷ kind.1.1.1.1.1 i) ∷ []);
+      let marks = ap mark_of (λ i. w ∷ x ∷ y ∷ kind.1.1.1.0 i ∷ u ∷ rest) ∙ told w x y u rest in record {
+        d = Go (value x) (value y) (mark (value u));
+        tells =
+            ap leaf_of (λ i. kind.0 i ∷ x ∷ y ∷ kind.1.1.1.0 i ∷ u ∷ rest)
+            ∙ ap (Go (value x) (value y)) (told (codes "go") x y u rest);
+        is_line =
+            (λ i. (kind.0 i ∷ diamond.1 i ∷ entry.1 i ∷ kind.1.1.1.0 i ∷ name.1 i ∷ kind.1.1.1.1.1 i) ∷ [])
+            ∙ ap (λ ws. (codes "go" ∷ number (value x) ∷ number (value y) ∷ ws) ∷ []) (sym (words (value u)));
         is_flat = refl;
         no_split = ap (λ u. bytes_eq u (codes "split")) kind.0;
         keeps = (λ ranges. let both = ranges kind.0 in (diamond.0, both.0, subst (IsMarkOf names) marks both.1));
       }
 
-  pub green_leaf : (line : Line)
-      → InSlots false (Fixed (codes "go") ∷ ANumber ∷ ANumber ∷ Fixed (codes "green") ∷ ANumber ∷ []) line
-      → FitSlots (Fixed (codes "go") ∷ ANumber ∷ ANumber ∷ Fixed (codes "green") ∷ ANumber ∷ []) line → IsLeaf names wanted line
-  green_leaf [] kind has = absurd kind
-  green_leaf (w ∷ []) kind has = absurd kind.1
-  green_leaf (w ∷ x ∷ []) kind has = absurd kind.1.1
-  green_leaf (w ∷ x ∷ y ∷ []) kind has = absurd kind.1.1.1
-  green_leaf (w ∷ x ∷ y ∷ z ∷ []) kind has = absurd kind.1.1.1.1
-  green_leaf (w ∷ x ∷ y ∷ z ∷ u ∷ rest) kind has =
-      let diamond = own_value x has.1.0 in
-      let entry = own_value y has.1.1.0 in
-      let name = own_value u has.1.1.1.1.0 in
-      let marks = ap mark_of (λ i. w ∷ x ∷ y ∷ kind.1.1.1.0 i ∷ u ∷ rest) in record {
-        d = Go (value x) (value y) (Green (value u));
-        tells = ap leaf_of (λ i. kind.0 i ∷ x ∷ y ∷ kind.1.1.1.0 i ∷ u ∷ rest);
-        is_line = (λ i. (kind.0 i ∷ diamond.1 i ∷ entry.1 i ∷ kind.1.1.1.0 i ∷ name.1 i ∷ kind.1.1.1.1.1 i) ∷ []);
-        is_flat = refl;
-        no_split = ap (λ u. bytes_eq u (codes "split")) kind.0;
-        keeps = (λ ranges. let both = ranges kind.0 in (diamond.0, both.0, subst (IsMarkOf names) marks both.1));
-      }
-
-  pub neutral_leaf : (line : Line)
+  neutral_leaf : (line : Line)
       → InSlots false (Fixed (codes "go") ∷ ANumber ∷ ANumber ∷ Fixed (codes "neutral") ∷ []) line
       → FitSlots (Fixed (codes "go") ∷ ANumber ∷ ANumber ∷ Fixed (codes "neutral") ∷ []) line → IsLeaf names wanted line
   neutral_leaf [] kind has = absurd kind
@@ -216,11 +198,15 @@ module _ (names wanted : ℕ) where
       → IsOfKinds (clash_kinds ++ go_kinds) line
       → HaveNumbers (clash_kinds ++ go_kinds) line
       → IsLeaf names wanted line
-  leaf_line line (inl kind) has = false_leaf line kind.1 (has.0 kind)
+  leaf_line line (inl kind) has =
+      node_leaf (codes "false") False (λ y rest. refl) (λ n. refl) (λ n fits. fits) line kind.1 (has.0 kind)
   leaf_line line (inr (inl kind)) has = pair_leaf line kind.1 (has.1.0 kind)
-  leaf_line line (inr (inr (inl kind))) has = cycle_leaf line kind.1 (has.1.1.0 kind)
-  leaf_line line (inr (inr (inr (inl kind)))) has = red_leaf line kind.1 (has.1.1.1.0 kind)
-  leaf_line line (inr (inr (inr (inr (inl kind))))) has = green_leaf line kind.1 (has.1.1.1.1.0 kind)
+  leaf_line line (inr (inr (inl kind))) has =
+      node_leaf (codes "cycle") Cycle (λ y rest. refl) (λ n. refl) (λ n fits. fits) line kind.1 (has.1.1.0 kind)
+  leaf_line line (inr (inr (inr (inl kind)))) has =
+      name_leaf (codes "red") Red (λ w x y u rest. refl) (λ n. refl) line kind.1 (has.1.1.1.0 kind)
+  leaf_line line (inr (inr (inr (inr (inl kind))))) has =
+      name_leaf (codes "green") Green (λ w x y u rest. refl) (λ n. refl) line kind.1 (has.1.1.1.1.0 kind)
   leaf_line line (inr (inr (inr (inr (inr (inl kind)))))) has = neutral_leaf line kind.1 (has.1.1.1.1.1.0 kind)
   leaf_line line (inr (inr (inr (inr (inr (inr never)))))) has = absurd never
 

@@ -99,11 +99,14 @@ pub words_are : (words : Line) (w : Word) (behind : Option (List ℕ)) (rest : L
     → behind ≡ Some rest → words ≡ w ∷ words_of rest
 words_are words w behind rest is behind_is = is ∙ ap (λ b. w ∷ words_behind b) behind_is
 
-pub first_word : (words : Line) (w k : Word) (behind : Option (List ℕ)) (rest : List ℕ)
+-- where that one was compared with a fixed one
+pub first_word : (words : Line) (w b k : Word) (behind : Option (List ℕ)) (rest : List ℕ)
     → words ≡ w ∷ words_behind behind
-    → behind ≡ Some rest → w ≡ k → words ≡ k ∷ words_of rest
-first_word words w k behind rest is behind_is same =
-    words_are words w behind rest is behind_is ∙ ap (λ v. v ∷ words_of rest) same
+    → behind ≡ Some rest
+    → true ≡ bytes_eq w b
+    → b ≡ k → words ≡ k ∷ words_of rest
+first_word words w b k behind rest is behind_is test same =
+    words_are words w behind rest is behind_is ∙ ap (λ v. v ∷ words_of rest) (same_word w b k test same)
 
 -- a line has a word
 pub some_word : (line : List ℕ) → 0 < length (words_of line)

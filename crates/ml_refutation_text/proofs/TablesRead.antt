@@ -55,7 +55,7 @@ module _ (size : ℕ) (at : Rest) where
 
   module _ (rows : List (Vec ℕ)) (rest : Rest) (so_far : SequentsTo rows rest) where
     pub rows_room : HasRoom at → HasRoom rest
-    rows_room room = room_on One (at_sequent_table 0 size []) (at_sequent_table 0 size (rows_in rows)) at rest (so_far.goes One 0) room
+    rows_room room = room_on (so_far.goes One 0) room
 
     module _ (below : length rows < size) where
       -- the next line is one of the table
@@ -73,7 +73,7 @@ module _ (size : ℕ) (at : Rest) where
           → (v : Version) (names : ℕ)
           → TellsFault v (at_sequent_table names size []) at e
       row_refused e tells v names =
-          fault_on v (at_sequent_table names size []) (AtTableSequent names size (rows_in rows)) at rest e (at_row v names)
+          fault_on e (at_row v names)
           (tells.in_table v names size (rows_in rows))
 
       pub row_more : (row : Vec ℕ) (more : List (Vec ℕ)) (behind : Rest)
@@ -83,7 +83,7 @@ module _ (size : ℕ) (at : Rest) where
       row_more row more behind read pushed = record {
         goes = λ v names.
             let p = AtTableSequent names size (rows_in rows) in
-            goes_on v (at_sequent_table names size []) p (at_sequent_table names size (rows_in more)) at rest behind (at_row v names)
+            goes_on (at_row v names)
             (goes_run v p (at_sequent_table names size (rows_in more)) rest behind (sequent_line row.items) (sequent_line row.items) read.next refl
             (λ left.
             subst (λ rs. Runs (body v left) p (sequent_line row.items ∷ []) (at_sequent_table names size rs)) (sym (rows_push rows more row pushed))
@@ -125,8 +125,7 @@ module _ (names size : ℕ) (at : Rest) where
   module _ (rows : List (Vec ℕ)) (rest : Rest) (so_far : StacksTo rows rest) where
     pub stack_rows_room : HasRoom at → HasRoom rest
     stack_rows_room room =
-        room_on One (at_stack_table names [] size []) (at_stack_table names [] size (rows_in rows)) at rest
-        (so_far.goes One []) room
+        room_on (so_far.goes One []) room
 
     module _ (below : length rows < size) where
       at_stack : (v : Version) (qs : List (List ℕ))
@@ -141,7 +140,7 @@ module _ (names size : ℕ) (at : Rest) where
       pub stack_missing : (e : DocRefusal) → ((v : Version) (p : Place) → IsUsual p → TellsFault v p rest e)
           → (v : Version) (qs : List (List ℕ)) → TellsFault v (at_stack_table names qs size []) at e
       stack_missing e missing v qs =
-          fault_on v (at_stack_table names qs size []) (AtTableStack names qs size (rows_in rows)) at rest e (at_stack v qs)
+          fault_on e (at_stack v qs)
           (missing v (AtTableStack names qs size (rows_in rows)) tt)
 
       module _ (line : Line) (behind : Rest) (next : IsNext rest line behind) where
@@ -150,7 +149,7 @@ module _ (names size : ℕ) (at : Rest) where
             → (v : Version) (qs : List (List ℕ)) → TellsFault v (at_stack_table names qs size []) at told
         stack_refused e told is tells v qs =
             let p = AtTableStack names qs size (rows_in rows) in
-            fault_on v (at_stack_table names qs size []) p at rest told (at_stack v qs)
+            fault_on told (at_stack v qs)
             (subst (TellsFault v p rest) (sym is) (refused_line v p rest behind line e next (tells qs (rows_in rows) size)))
 
         pub stack_more : (row : Vec ℕ) (more : List (Vec ℕ))
@@ -161,7 +160,7 @@ module _ (names size : ℕ) (at : Rest) where
         stack_more row more small is stack pushed = record {
           goes = λ v qs.
               let p = AtTableStack names qs size (rows_in rows) in
-              goes_on v (at_stack_table names qs size []) p (at_stack_table names qs size (rows_in more)) at rest behind (at_stack v qs)
+              goes_on (at_stack v qs)
               (goes_run v p (at_stack_table names qs size (rows_in more)) rest behind line (stack_line row.items) next is
               (λ left.
               subst (λ rs. Runs (body v left) p (stack_line row.items ∷ []) (at_stack_table names qs size rs)) (sym (rows_push rows more row pushed))

@@ -11,7 +11,6 @@ use Rattle.ml_base.specs.declared.version.Version.TheVariants.{One}
 use Rattle.ml_base.specs.declared.doc_refusal.DocRefusal.{DocRefusal}
 use Rattle.ml_lines.specs.Lines.{Line}
 use Rattle.ml_lists.specs.Chains.{last_of}
-use Rattle.ml_trace.specs.Stack as traced
 use Rattle.ml_trace.specs.declared.letters.AutomatonState.{AutomatonState}
 use Rattle.ml_refutation.specs.Refutation.{Entry, Fits, IsAbove}
 use Rattle.ml_refutation.specs.Views.{item_of}
@@ -45,12 +44,12 @@ module _ (F : Form) (names live : ℕ) (at : Rest) where
 
   module _ (items : List Item) (rest : Rest) (so_far : ItemsTo items rest) where
     pub items_room : HasRoom at → HasRoom rest
-    items_room room = room_on One (place 0 [] [] []) (place 0 [] [] items) at rest (so_far.goes One 0 [] []) room
+    items_room room = room_on (so_far.goes One 0 [] []) room
 
     pub items_missing : (e : DocRefusal) → ((v : Version) (p : Place) → IsUsual p → TellsFault v p rest e)
         → (v : Version) (wanted : ℕ) (es : List Entry) (q : List ℕ) → TellsFault v (place wanted es q []) at e
     items_missing e missing v wanted es q =
-        fault_on v (place wanted es q []) (place wanted es q items) at rest e (so_far.goes v wanted es q) (missing v (place wanted es q items) tt)
+        fault_on e (so_far.goes v wanted es q) (missing v (place wanted es q items) tt)
 
     module _ (line : Line) (behind : Rest) (next : IsNext rest line behind) (before : Option AutomatonState)
         (last : before ≡ before_of (last_of None items)) where
@@ -63,7 +62,7 @@ module _ (F : Form) (names live : ℕ) (at : Rest) where
           → (v : Version) (wanted : ℕ) (es : List Entry) (q : List ℕ) → TellsFault v (place wanted es q []) at told
       items_broken e told is tells v wanted es q =
           let p = place wanted es q items in
-          fault_on v (place wanted es q []) p at rest told (so_far.goes v wanted es q)
+          fault_on told (so_far.goes v wanted es q)
           (subst (TellsFault v p rest) (sym is)
           (refused_line v p rest behind line e next (tells wanted es q (record { live = live; items = map item_of items }) stands)))
 
@@ -77,7 +76,7 @@ module _ (F : Form) (names live : ℕ) (at : Rest) where
             let above = subst (λ b. IsAbove b (item_of a).state) (last ∙ sym (last_state None items)) is.is_above in record {
               goes = λ v wanted es q.
                   let k = knows names F wanted in
-                  goes_on v (place wanted es q []) (place wanted es q items) (place wanted es q more) at rest behind (so_far.goes v wanted es q)
+                  goes_on (so_far.goes v wanted es q)
                   (goes_run v (place wanted es q items) (place wanted es q more) rest behind line (item_line (item_of a).state is.is_line.words) next
                   is.is_line.is_line
                   (λ left.
@@ -104,7 +103,7 @@ module _ (F : Form) (names live : ℕ) (at : Rest) where
               AtDecision (knows names F wanted) es
               (record { sequent = q; traces = record { live = live; items = map item_of items }; heights = hs }) []
               in
-              goes_on v (place wanted es q []) (place wanted es q items) end at rest behind (so_far.goes v wanted es q)
+              goes_on (so_far.goes v wanted es q)
               (goes_run v (place wanted es q items) end rest behind line (heights_line hs) next is.is_line
               (λ left. heights_run v left names wanted small es q live within F (map item_of items) hs is.fit is.one_each))),
           omega (arith, so_far.counted, next.counted),

@@ -46,8 +46,6 @@ pub mod Leaving
 pub mod FoundEntries
 -- the refutation, put together of them
 pub mod PuttingTogether
--- whether a node is on an odd cycle is decided
-pub mod DecidedCycles
 -- a spread with a cause has a first one
 pub mod SomeFirstCause
 -- longest counts exist where no cycle is even

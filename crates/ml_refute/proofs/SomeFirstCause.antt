@@ -17,7 +17,7 @@ use Rattle.ml_sequent.specs.Spread.{SpreadList, IsSpreadOf, IsCause, IsFirstCaus
 use Rattle.ml_sequent.specs.private.Tests.{is_false, partner, IsFirstPair, IsFirstOddCycle}
 use Rattle.ml_sequent.proofs.Causes.{false_cause, pair_cause, cycle_cause, no_cause}
 use Rattle.ml_sequent.proofs.Firsts.{FoundFirst, found_first, found_none}
-use Rattle.ml_refute.proofs.DecidedCycles.{decided_odd_cycle}
+use Rattle.ml_refutation.proofs.HighWalks.{decided_odd_cycle}
 use Rattle.ml_lists.proofs.Deciding.{decided_member}
 
 -- what an option holds, if it holds something
@@ -81,7 +81,7 @@ module _ (g : Graph) (ok : IsGraph g) (C : List ℕ) (c : List (ℕ × Side)) (s
       by_member : Decided (IsMember n sp.nodes) → Decided (OddHere n)
       by_member (inl inside) =
           decided_same (λ odd. (inside, odd)) (λ (both : OddHere n). both.1)
-          (decided_odd_cycle g ok sp.choice n (is_spread.low n inside))
+          (decided_odd_cycle g sp.choice ok n (is_spread.low n inside))
       by_member (inr outside) = inr (λ both. outside both.0)
 
   record FirstCycle : Type 0 where

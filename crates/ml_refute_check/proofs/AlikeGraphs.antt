@@ -1,7 +1,7 @@
 -- What a refutation asks of two graphs that differ in the numbers of their names alone.
 --
 --   children_same, walk_same, spread_same == local walks and spreads are the same
---   open_same, cause_same, diamond_same, target_same, trace_same, names_same == and what is asked of them
+--   open_same, cause_same, is_diamond_same, target_same, trace_same, odds_same, names_same == and what is asked of them
 --   keeps_same        == a part that keeps its rules in one keeps them in the other
 --   accepted_same, first_bad_same == so a refutation is accepted in both or in none, and has the same first bad part
 use Rattle.std.proofs.Common.{◌≡◌, ℕ, ◌<◌, ◌≤◌, ◌%◌, min, ◌⊎◌, Bool, true, false, List, [], ◌∷◌, All, get_or, inl, inr, refl, sym, ap, ◌∙◌, subst}
@@ -86,7 +86,7 @@ module _ (g h : Graph) (a : AreAlike g h) where
     );
   }
 
-  open_same : (sp : SpreadList) (n : ℕ) → IsOpenOr g sp n → IsOpenOr h sp n
+  pub open_same : (sp : SpreadList) (n : ℕ) → IsOpenOr g sp n → IsOpenOr h sp n
   open_same sp n o = record {
     member = o.member;
     is_open = record {
@@ -106,7 +106,7 @@ module _ (g h : Graph) (a : AreAlike g h) where
       in
       record { prop = first.0; positive = first.1; negative = second.1 ∙ ap (λ k. node.Lit k false) same }
 
-  cause_same : (sp : SpreadList) (x : ClashCause) → IsCause g sp x → IsCause h sp x
+  pub cause_same : (sp : SpreadList) (x : ClashCause) → IsCause g sp x → IsCause h sp x
   cause_same sp (cause.False n) i = (i.0, false_shaped (node_at h n) (sym (ap shape i.1) ∙ (a.nodes n).shapes))
   cause_same sp (cause.Pair p q) i = (i.0, i.1, pair_same p q i.2)
   cause_same sp (cause.Cycle n) i =
@@ -124,15 +124,14 @@ module _ (g h : Graph) (a : AreAlike g h) where
         ),
       )
 
+  pub is_diamond_same : (n : ℕ) → is_diamond (node_at g n) ≡ is_diamond (node_at h n)
+  is_diamond_same n =
+      sym (diamond_by_shape (node_at g n))
+      ∙ ap is_diamond (a.nodes n).shapes
+      ∙ diamond_by_shape (node_at h n)
+
   diamond_same : (sp : SpreadList) (d : ℕ) → IsDiamondOf g sp d → IsDiamondOf h sp d
-  diamond_same sp d i = record {
-    member = i.member;
-    holds =
-        sym (diamond_by_shape (node_at h d))
-        ∙ ap is_diamond (sym (a.nodes d).shapes)
-        ∙ diamond_by_shape (node_at g d)
-        ∙ i.holds;
-  }
+  diamond_same sp d i = record { member = i.member; holds = sym (is_diamond_same d) ∙ i.holds }
 
   leads_same : (sp : SpreadList) (d e m : ℕ) → LeadsOut g sp d e m → LeadsOut h sp d e m
   leads_same sp d e m l = by_kind l.leaves
@@ -146,10 +145,10 @@ module _ (g h : Graph) (a : AreAlike g h) where
           let both = same_square g h a d e l.action l.child m l.is_diamond is.1 in
           record { action = both.0; child = l.child; is_diamond = both.1; leaves = inr (is.0, both.2) }
 
-  target_same : (sp : SpreadList) (d m : ℕ) → IsTarget g sp d m → IsTarget h sp d m
+  pub target_same : (sp : SpreadList) (d m : ℕ) → IsTarget g sp d m → IsTarget h sp d m
   target_same sp d m t = record { leaving = t.leaving; leads = leads_same sp d t.leaving m t.leads }
 
-  trace_same : (C : List ℕ) (sp : SpreadList) (d : ℕ) (t : Triple) → IsTrace g C sp d t → IsTrace h C sp d t
+  pub trace_same : (C : List ℕ) (sp : SpreadList) (d : ℕ) (t : Triple) → IsTrace g C sp d t → IsTrace h C sp d t
   trace_same C sp d t i = record {
     from = i.from;
     leaving = i.leaving;
@@ -157,7 +156,7 @@ module _ (g h : Graph) (a : AreAlike g h) where
     leads = leads_same sp d i.leaving t.to i.leads;
   }
 
-  odds_same : odd_priorities g ≡ odd_priorities h
+  pub odds_same : odd_priorities g ≡ odd_priorities h
   odds_same =
       ap (λ ps. odd_priorities (record { nodes = []; priorities = ps; root = 0; props = []; actions = [] }))
       (same_priorities g h a)

@@ -1,12 +1,13 @@
 -- What checking the branches of a decision finds.
 --
+--   found_same           == what is found of the branches of the same decision
 --   of_spread_has, of_spread_is == what holds of the spread of a sequent, and what isn't true of it
 --   split_refused, split_left, split_right, split_kept == a split, by what is found of it and of its sides
 --   clash_kept, clash_refused == a clash
 --   go_kept, go_refused  == a `go`, by its rules
 --   counted_parts, left_less, right_less == as many branches as are counted, and fewer on each side of a split
 --   longer_stands        == a spread with one side more stands for the same sequent
-use Rattle.std.proofs.Common.{◌≡◌, ◌↔◌, ℕ, ◌+◌, ◌<◌, Bool, true, false, List, [], ◌∷◌, ◌++◌, None, Some, All, length, map, IsTrue, inl, inr, refl, sym, ap, ◌∙◌, subst, arith}
+use Rattle.std.proofs.Common.{◌≡◌, ◌↔◌, ℕ, ◌+◌, ◌<◌, Bool, true, false, List, [], ◌∷◌, ◌++◌, Option, None, Some, All, length, map, IsTrue, inl, inr, refl, sym, ap, ◌∙◌, subst, arith}
 use Rattle.std.proofs.lemmas.Bool.{true≢false}
 use Rattle.std.proofs.lemmas.List.{map-append, length-append}
 use Rattle.ml_graph.specs.Graph.{Graph, IsGraph, size}
@@ -18,6 +19,8 @@ use Rattle.ml_sequent.specs.Choice.{with_side}
 use Rattle.ml_sequent.specs.Spread.{SpreadList, IsSpreadOf, IsSpread, IsOpenOr, IsCause}
 use Rattle.ml_sequent.specs.Step.{IsDiamondOf}
 use Rattle.ml_refutation.specs.Refutation.{Decision, Split, Clash, Go}
+use Rattle.ml_refutation.specs.Views.{decision_of}
+use Rattle.ml_refutation.specs.declared.refutation.Decision as program
 use Rattle.ml_refutation.specs.Acceptance.{entry_at, OfSpread, Part, Decided, branches, LeadsWithinTargets, TracesNames, HeightsFall}
 use Rattle.ml_refute_check.specs.declared.finding.BadPart.{BadPart}
 use Rattle.ml_refute_check.specs.private.Parts.{Question, Finds, Stands, branch_parts, count_branches}
@@ -27,6 +30,16 @@ use Rattle.ml_refute_check.proofs.PartsFound.{found_next, found_behind, found_be
 -- a false test of a property, which doesn't hold then
 pub test_fails : (P : Type 0) (b : Bool) → (IsTrue b ↔ P) → b ≡ false → ¬ P
 test_fails P b told is = λ p. true≢false (sym (told.1 p) ∙ is)
+
+-- what is found of the branches of the same decision
+pub found_same : (q : Question) (e : ℕ) (c : List (ℕ × Side)) {d d' : program.Decision} {found found' : Option BadPart}
+    → d ≡ d'
+    → found ≡ found'
+    → Finds q e (branch_parts c (decision_of d)) found
+    → Finds q e (branch_parts c (decision_of d')) found'
+found_same q e c {d' = d'} {found = found} same is finds =
+    subst (Finds q e (branch_parts c (decision_of d'))) is
+    (subst (λ x. Finds q e (branch_parts c (decision_of x)) found) same finds)
 
 -- as many branches as are counted
 pub counted_parts : (c : List (ℕ × Side)) (d : Decision) → length (branch_parts c d) ≡ count_branches d

@@ -6,7 +6,7 @@
 --   one_spread        == there is one
 --   decided_of_spread == whether it has a property that is decided of it is decided
 --   decided_open_or, decided_cause, decided_diamond, decided_target, decided_trace == these properties
-use Rattle.std.proofs.Common.{◌≡◌, ℕ, ◌%◌, ◌<◌, ◌⊎◌, Bool, true, false, List, ◌∷◌, Option, None, Some, All, inl, inr, refl, sym, ap, ◌∙◌, subst}
+use Rattle.std.proofs.Common.{◌≡◌, ℕ, ◌<◌, ◌⊎◌, Bool, true, false, List, ◌∷◌, Option, None, Some, All, inl, inr, refl, sym, ap, ◌∙◌, subst}
 use Rattle.ml_lists.specs.Member.{IsMember}
 use Rattle.ml_lists.proofs.Ascending.{ascending_same}
 use Rattle.ml_lists.proofs.Decided.{Decided, decided_same, decided_both, decided_either, decided_number, decided_test}
@@ -14,7 +14,7 @@ use Rattle.ml_lists.proofs.Member.{All-member}
 use Rattle.ml_trace.specs.declared.letters.Triple.{Triple}
 use Rattle.ml_graph.specs.declared.node.Node.{Node}
 use Rattle.ml_graph.specs.declared.node.Node.TheVariants as node
-use Rattle.ml_graph.specs.Graph.{Graph, IsGraph, size, node_at, priority_at}
+use Rattle.ml_graph.specs.Graph.{Graph, IsGraph, size, node_at}
 use Rattle.ml_sequent.specs.declared.choice.Side.{Side}
 use Rattle.ml_sequent.specs.declared.clashes.ClashCause.{ClashCause}
 use Rattle.ml_sequent.specs.declared.clashes.ClashCause.TheVariants as cause
@@ -25,7 +25,8 @@ use Rattle.ml_sequent.specs.Step.{IsDiamondOf, LeadsOut, IsTarget, IsTrace}
 use Rattle.ml_sequent.proofs.RankedWalks.{walk_below}
 use Rattle.ml_refutation.specs.Acceptance.{OfSpread}
 use Rattle.ml_lists.proofs.Deciding.{decided_and, decided_truth, decided_member, some_member, Having, sieve}
-use Rattle.ml_refute_check.proofs.DecidedWalks.{decided_walk, decided_spread, decided_cycle}
+use Rattle.ml_refutation.proofs.HighWalks.{decided_odd_cycle}
+use Rattle.ml_refute_check.proofs.DecidedWalks.{decided_walk, decided_spread}
 
 abbrev pub Within : Graph → List ℕ → Type 0
 Within g C = All (λ n. n < size g) C
@@ -245,5 +246,4 @@ module _ (g : Graph) (sp : SpreadList) where
         (λ h. ((h.0, h.1), h.2))
         (decided_both (decided_both (in_nodes p) (in_nodes q)) (decided_pair p q))
     decided_cause low (cause.Cycle n) =
-        decided_and (in_nodes n)
-        (λ h. decided_both (decided_number (priority_at g n % 2) 1) (decided_cycle g sp.choice ok n (low n h)))
+        decided_and (in_nodes n) (λ h. decided_odd_cycle g sp.choice ok n (low n h))

@@ -42,19 +42,22 @@ module _ (q : Question) (e : ℕ) where
   abbrev pub item_parts : List Item → List acceptance.Part
   item_parts xs = map acceptance.Item (map item_of xs)
 
-  pub item_told : (nodes odds : List ℕ) (a : Item) (b : Bool) → nodes ≡ sequent → odds ≡ odd_priorities q.graph
+  pub item_told : {entry : plain.Entry} {nodes odds : List ℕ} → IsEntryOf q e entry → (a : Item) (b : Bool)
+      → nodes ≡ entry.sequent
+      → odds ≡ odd_priorities q.graph
       → (IsTrue b ↔ (IsMember a.node nodes × IsGuess odds a.odd))
       → IsTrue b ↔ Stand a
-  item_told nodes odds a b nodes_are odds_are told = (
-    λ h. let both = told.0 h in record {
-      member = subst (IsMember a.node) nodes_are both.0;
-      occurs = subst (λ ds. IsGuess ds a.odd) odds_are both.1;
-    },
-    λ s. told.1 (
-      subst (IsMember a.node) (sym nodes_are) s.member,
-      subst (λ ds. IsGuess ds a.odd) (sym odds_are) s.occurs,
-    ),
-  )
+  item_told {nodes = nodes} is a b nodes_are odds_are told =
+      let same : nodes ≡ sequent = nodes_are ∙ sym (ap (λ (x : plain.Entry). x.sequent) is.is) in (
+        λ h. let both = told.0 h in record {
+          member = subst (IsMember a.node) same both.0;
+          occurs = subst (λ ds. IsGuess ds a.odd) odds_are both.1;
+        },
+        λ s. told.1 (
+          subst (IsMember a.node) (sym same) s.member,
+          subst (λ ds. IsGuess ds a.odd) (sym odds_are) s.occurs,
+        ),
+      )
 
   one_item : (a : Item) → Stand a → KeepEach q e (item_parts (a ∷ []))
   unfolding KeepEach
@@ -64,9 +67,9 @@ module _ (q : Question) (e : ℕ) where
   unfolding KeepEach
   no_items = tt
 
-  pub items_more : (xs : List Item) (k : ℕ) (a : Item) → k < length xs → a ≡ get_or xs k a → Stand a
+  more_stand : (xs : List Item) (k : ℕ) (a : Item) → k < length xs → a ≡ get_or xs k a → Stand a
       → KeepEach q e (item_parts (take k xs)) → KeepEach q e (item_parts (take (k + 1) xs))
-  items_more xs k a low is stands keep =
+  more_stand xs k a low is stands keep =
       subst (λ ys. KeepEach q e (item_parts ys)) (sym (take_more xs k a low))
       (subst (KeepEach q e) (sym split)
       (keep_both q e (item_parts (take k xs)) (item_parts (get_or xs k a ∷ [])) keep
@@ -84,10 +87,22 @@ module _ (q : Question) (e : ℕ) where
   first_item (x ∷ xs) zero a low is fails keep = inl (refl, λ s. fails (subst Stand (sym is) s))
   first_item (x ∷ xs) (suc k) a low is fails keep = (keep.0, first_item xs k a (omega arith) is fails keep.1)
 
-  pub items_first : (xs : List Item) (k : ℕ) (a : Item) → k < length xs → a ≡ get_or xs k a → ¬ (Stand a)
-      → KeepEach q e (item_parts (take k xs)) → Finds q e (item_parts xs) (Some (record { part = k; rule = 4 }))
-  unfolding Finds
-  items_first xs k a low is fails keep = first_item xs k a low is fails keep
+  -- the next item of a list that is read as another one
+  module _ {xs ys : List Item} {a : Item} (k : ℕ) (same : ys ≡ xs) (low : k < length ys) (is : a ≡ get_or ys k a) where
+    abbrev here : k < length xs
+    here = subst (λ (zs : List Item). k < length zs) same low
+
+    abbrev at_place : a ≡ get_or xs k a
+    at_place = is ∙ ap (λ (zs : List Item). get_or zs k a) same
+
+    pub items_more : Stand a → KeepEach q e (item_parts (take k xs)) → KeepEach q e (item_parts (take (k + 1) xs))
+    items_more stands keep = more_stand xs k a here at_place stands keep
+
+    pub items_first : ¬ (Stand a)
+        → KeepEach q e (item_parts (take k xs))
+        → Finds q e (item_parts xs) (Some (record { part = k; rule = 4 }))
+    unfolding Finds
+    items_first fails keep = first_item xs k a here at_place fails keep
 
   pub items_all : (xs : List Item) (k : ℕ)
       → length xs ≤ k
@@ -114,10 +129,14 @@ module _ (q : Question) (e : ℕ) where
           λ w. told.1 (subst (All (λ n. n < size q.graph)) (sym same) w.in_graph, λ first. same ∙ w.starts first),
         )
 
-    pub live_told : (b : Bool)
-        → (IsTrue b ↔ EachNameStands entry.traces)
+    pub live_told : (live : ℕ) (b : Bool) {items xs : List Item} → xs ≡ items
+        → entry.traces ≡ record { live = live; items = map item_of items }
+        → (IsTrue b ↔ EachNameStands (record { live = live; items = map item_of xs }))
         → IsTrue b ↔ EachNameStands (entry_at q.refutation e).traces
-    live_told b told = subst (λ (x : plain.Entry). IsTrue b ↔ EachNameStands x.traces) (sym is.is) told
+    live_told live b same traces_are told =
+        subst (λ (x : plain.Entry). IsTrue b ↔ EachNameStands x.traces) (sym is.is)
+        (subst (λ t. IsTrue b ↔ EachNameStands t) (sym traces_are)
+        (subst (λ (ys : List Item). IsTrue b ↔ EachNameStands (record { live = live; items = map item_of ys })) same told))
 
     abbrev others : List acceptance.Part
     others = map acceptance.Item entry.traces.items

@@ -1,26 +1,25 @@
 -- What the tests of a `go` tell of its rules.
 --
 --   rows_told   == rows of heights fall exactly where the heights fall along the arc
+--   AtGo, at_go == leaving an entry along a diamond of a spread of it, to another entry
 --   within_told, names_told, falls_told == the tests tell exactly whether the rules are kept
-use Rattle.std.proofs.Common.{◌≡◌, ◌↔◌, ℕ, ◌*◌, ◌/◌, ◌≤◌, Bool, List, [], All, get_or, IsTrue, sym, ◌∙◌, subst, arith}
+use Rattle.std.proofs.Common.{◌≡◌, ◌↔◌, ℕ, ◌*◌, ◌/◌, ◌≤◌, Bool, List, [], All, get_or, IsTrue, sym, ap, ◌∙◌, subst, arith}
 use Rattle.std.proofs.Math.ListN.{get_or-map}
 use Rattle.ml_lists.specs.Member.{IsMember}
 use Rattle.ml_graph.specs.Graph.{Graph, IsGraph, odd_priorities}
 use Rattle.ml_parity.specs.declared.one_sided.graph.Arc.{Arc}
 use Rattle.ml_parity.specs.Heights.{FallsAlong}
 use Rattle.ml_parity.specs.HeightLists.{RowsFall}
-use Rattle.ml_trace.specs.declared.letters.AutomatonState.{AutomatonState}
 use Rattle.ml_trace.specs.declared.letters.Triple.{Triple}
 use Rattle.ml_trace.specs.declared.marks.Mark.{Mark}
 use Rattle.ml_trace.specs.Marks.{priority}
 use Rattle.ml_trace.specs.NamesCondition.{NamesCondition}
-use Rattle.ml_trace.specs.Stack as traced
 use Rattle.ml_sequent.specs.Spread.{SpreadList}
 use Rattle.ml_sequent.specs.Step.{IsTarget, IsTrace, IsStep}
 use Rattle.ml_refutation.specs.Refutation.{Entry, Refutation}
 use Rattle.ml_refutation.specs.GoStep.{GoStep, HasTransition}
 use Rattle.ml_refutation.specs.Acceptance.{entry_at, no_entry, heights_of, LeadsWithinTargets, TracesNames, HeightsFall}
-use Rattle.ml_refute_check.specs.private.Parts.{Question, Stands}
+use Rattle.ml_refute_check.specs.private.Parts.{Question, Stands, IsEntryOf}
 use Rattle.ml_refute_check.proofs.BranchesFound.{of_spread_has, of_spread_is}
 
 rows_there : (rows : List (List ℕ)) (a : Arc)
@@ -42,70 +41,95 @@ rows_back rows a f = record { stays = stays; falls = f.falls }
 heights_at : (r : Refutation) (e : ℕ) → get_or (heights_of r) e [] ≡ (entry_at r e).heights
 heights_at r e = get_or-map (λ (x : Entry). x.heights) r.entries e no_entry
 
-pub falls_told : (r : Refutation) (e f : ℕ) (m : Mark) (p : ℕ) (from to : List ℕ) (b : Bool)
-    → p ≡ priority (2 * r.names) m
-    → from ≡ (entry_at r e).heights
-    → to ≡ (entry_at r f).heights
+pub falls_told : {q : Question} {e f : ℕ} {entry behind : Entry} → IsEntryOf q e entry → IsEntryOf q f behind
+    → (m : Mark) (b : Bool) {p : ℕ} {from to : List ℕ}
+    → p ≡ priority (2 * q.refutation.names) m
+    → from ≡ entry.heights
+    → to ≡ behind.heights
     → (IsTrue b ↔ RowsFall p from to)
-    → IsTrue b ↔ HeightsFall r e f m
-falls_told r e f m p from to b p_is from_is to_is told = (
-  λ h. rows_there (heights_of r) (record { from = e; priority = priority (2 * r.names) m; to = f }) (there (told.0 h)),
-  λ h. told.1 (back (rows_back (heights_of r) (record { from = e; priority = priority (2 * r.names) m; to = f }) h)),
+    → IsTrue b ↔ HeightsFall q.refutation e f m
+falls_told {q = q} {e = e} {f = f} here there m b {p = p} {from = from} {to = to} p_is from_is to_is told = (
+  λ h. rows_there (heights_of q.refutation) (record { from = e; priority = priority (2 * q.refutation.names) m; to = f }) (falls (told.0 h)),
+  λ h. told.1 (back (rows_back (heights_of q.refutation) (record { from = e; priority = priority (2 * q.refutation.names) m; to = f }) h)),
 )
   where
-    there : RowsFall p from to
-        → RowsFall (priority (2 * r.names) m) (get_or (heights_of r) e []) (get_or (heights_of r) f [])
-    there h =
-        subst (λ k. RowsFall k (get_or (heights_of r) e []) (get_or (heights_of r) f [])) p_is
-        (subst (λ xs. RowsFall p xs (get_or (heights_of r) f [])) (from_is ∙ sym (heights_at r e))
-        (subst (λ ys. RowsFall p from ys) (to_is ∙ sym (heights_at r f)) h))
+    from_at : from ≡ get_or (heights_of q.refutation) e []
+    from_at = from_is ∙ sym (ap (λ (x : Entry). x.heights) here.is) ∙ sym (heights_at q.refutation e)
 
-    back : RowsFall (priority (2 * r.names) m) (get_or (heights_of r) e []) (get_or (heights_of r) f [])
+    to_at : to ≡ get_or (heights_of q.refutation) f []
+    to_at = to_is ∙ sym (ap (λ (x : Entry). x.heights) there.is) ∙ sym (heights_at q.refutation f)
+
+    falls : RowsFall p from to
+        → RowsFall (priority (2 * q.refutation.names) m) (get_or (heights_of q.refutation) e []) (get_or (heights_of q.refutation) f [])
+    falls h =
+        subst (λ k. RowsFall k (get_or (heights_of q.refutation) e []) (get_or (heights_of q.refutation) f [])) p_is
+        (subst (λ xs. RowsFall p xs (get_or (heights_of q.refutation) f [])) from_at
+        (subst (λ ys. RowsFall p from ys) to_at h))
+
+    back : RowsFall (priority (2 * q.refutation.names) m) (get_or (heights_of q.refutation) e []) (get_or (heights_of q.refutation) f [])
         → RowsFall p from to
     back h =
-        subst (λ ys. RowsFall p from ys) (sym (to_is ∙ sym (heights_at r f)))
-        (subst (λ xs. RowsFall p xs (get_or (heights_of r) f [])) (sym (from_is ∙ sym (heights_at r e)))
-        (subst (λ k. RowsFall k (get_or (heights_of r) e []) (get_or (heights_of r) f [])) (sym p_is) h))
+        subst (λ ys. RowsFall p from ys) (sym to_at)
+        (subst (λ xs. RowsFall p xs (get_or (heights_of q.refutation) f [])) (sym from_at)
+        (subst (λ k. RowsFall k (get_or (heights_of q.refutation) e []) (get_or (heights_of q.refutation) f [])) (sym p_is) h))
 
-module _ (q : Question) (e : ℕ) (nodes : List ℕ) (sp : SpreadList) (ok : IsGraph q.graph) (stands : Stands q e nodes sp)
-    (d f : ℕ) (m : Mark) (targets : List ℕ) (made : List Triple) (step : IsStep q.graph nodes sp d targets made) where
+-- leaving an entry along a diamond of a spread of it, to another entry
+pub record AtGo (q : Question) (e f d : ℕ) (nodes : List ℕ) (sp : SpreadList) (targets : List ℕ) (made : List Triple) (behind : Entry) : Type 0 where
+  pub is_graph : IsGraph q.graph
+  pub stands : Stands q e nodes sp
+  pub there : IsEntryOf q f behind
+  pub step : IsStep q.graph nodes sp d targets made
+
+pub at_go : {q : Question} {e f d : ℕ} {nodes targets : List ℕ} {sp : SpreadList} {made : List Triple} {behind : Entry} {g : Graph}
+    → Stands q e nodes sp
+    → IsGraph q.graph
+    → IsEntryOf q f behind
+    → g ≡ q.graph
+    → IsStep g nodes sp d targets made → AtGo q e f d nodes sp targets made behind
+at_go {d = d} {nodes = nodes} {targets = targets} {sp = sp} {made = made} stands is_graph there same step = record {
+  is_graph = is_graph;
+  stands = stands;
+  there = there;
+  step = subst (λ g. IsStep g nodes sp d targets made) same step;
+}
+
+module _ {q : Question} {e f d : ℕ} {nodes targets : List ℕ} {sp : SpreadList} {made : List Triple} {behind : Entry}
+    (w : AtGo q e f d nodes sp targets made behind) where
   abbrev Within : Type 0
   Within = LeadsWithinTargets (entry_at q.refutation e).sequent sp.choice d (entry_at q.refutation f).sequent q.graph
 
-  abbrev Names : Type 0
-  Names = TracesNames (entry_at q.refutation e) sp.choice d (entry_at q.refutation f) m q.graph
+  abbrev next_is : behind.sequent ≡ (entry_at q.refutation f).sequent
+  next_is = sym (ap (λ (x : Entry). x.sequent) w.there.is)
 
-  pub within_told : (values next : List ℕ) (b : Bool)
+  pub within_told : (b : Bool) {values next : List ℕ}
       → values ≡ targets
-      → next ≡ (entry_at q.refutation f).sequent
+      → next ≡ behind.sequent
       → (IsTrue b ↔ All (λ k. IsMember k values) next)
       → IsTrue b ↔ Within
-  within_told values next b values_are next_is told = (
-    λ h. of_spread_has q e nodes sp ok stands (λ s. All (IsTarget q.graph s d) (entry_at q.refutation f).sequent)
-        (subst (All (IsTarget q.graph sp d)) next_is
-        (λ k z low. (step.targets (get_or next k z)).0 (subst (IsMember (get_or next k z)) values_are (told.0 h k z low)))),
-    λ w. told.1 (λ k z low. subst (IsMember (get_or next k z)) (sym values_are)
-        ((step.targets (get_or next k z)).1 (target w k z low))),
+  within_told b {values = values} {next = next} values_are next_are told = (
+    λ h. of_spread_has q e nodes sp w.is_graph w.stands (λ s. All (IsTarget q.graph s d) (entry_at q.refutation f).sequent)
+        (subst (All (IsTarget q.graph sp d)) (next_are ∙ next_is)
+        (λ k z low. (w.step.targets (get_or next k z)).0 (subst (IsMember (get_or next k z)) values_are (told.0 h k z low)))),
+    λ within. told.1 (λ k z low. subst (IsMember (get_or next k z)) (sym values_are)
+        ((w.step.targets (get_or next k z)).1 (target within k z low))),
   )
     where
       target : Within → All (IsTarget q.graph sp d) next
-      target w =
-          subst (All (IsTarget q.graph sp d)) (sym next_is)
-          (of_spread_is q e nodes sp ok stands (λ s. All (IsTarget q.graph s d) (entry_at q.refutation f).sequent) w)
+      target within =
+          subst (All (IsTarget q.graph sp d)) (sym (next_are ∙ next_is))
+          (of_spread_is q e nodes sp w.is_graph w.stands (λ s. All (IsTarget q.graph s d) (entry_at q.refutation f).sequent) within)
 
-  pub names_told : (odds next : List ℕ) (triples : List Triple) (from to : traced.Entry AutomatonState) (b : Bool)
+  pub names_told : {entry : Entry} → IsEntryOf q e entry → (m : Mark) (b : Bool) {odds next : List ℕ} {triples : List Triple}
       → odds ≡ odd_priorities q.graph
-      → next ≡ (entry_at q.refutation f).sequent
+      → next ≡ behind.sequent
       → triples ≡ made
-      → from ≡ (entry_at q.refutation e).traces
-      → to ≡ (entry_at q.refutation f).traces
       → ((g : Graph) (go : GoStep) → odds ≡ odd_priorities g → next ≡ go.next
       → ((t : Triple) → IsMember t triples ↔ IsTrace g go.sequent go.spread go.diamond t)
-      → IsTrue b ↔ NamesCondition (HasTransition g) go m from to)
-      → IsTrue b ↔ Names
-  names_told odds next triples from to b odds_are next_is triples_are from_is to_is told = (
-    λ h. of_spread_has q e nodes sp ok stands Condition (here.0 h),
-    λ n. here.1 (of_spread_is q e nodes sp ok stands Condition n),
+      → IsTrue b ↔ NamesCondition (HasTransition g) go m entry.traces behind.traces)
+      → IsTrue b ↔ TracesNames (entry_at q.refutation e) sp.choice d (entry_at q.refutation f) m q.graph
+  names_told {entry = entry} here m b {triples = triples} odds_are next_are triples_are told = (
+    λ h. of_spread_has q e nodes sp w.is_graph w.stands Condition (now.0 h),
+    λ n. now.1 (of_spread_is q e nodes sp w.is_graph w.stands Condition n),
   )
     where
       go_step : SpreadList → GoStep
@@ -123,12 +147,12 @@ module _ (q : Question) (e : ℕ) (nodes : List ℕ) (sp : SpreadList) (ok : IsG
 
       is_trace : (t : Triple) → IsMember t triples ↔ IsTrace q.graph (entry_at q.refutation e).sequent sp d t
       is_trace t =
-          subst (λ ns. IsMember t triples ↔ IsTrace q.graph ns sp d t) stands.of_entry
-          (subst (λ ts. IsMember t ts ↔ IsTrace q.graph nodes sp d t) (sym triples_are) (step.traces t))
+          subst (λ ns. IsMember t triples ↔ IsTrace q.graph ns sp d t) w.stands.of_entry
+          (subst (λ ts. IsMember t ts ↔ IsTrace q.graph nodes sp d t) (sym triples_are) (w.step.traces t))
 
-      here : IsTrue b ↔ Condition sp
-      here =
-          subst (λ x. IsTrue b ↔ NamesCondition (HasTransition q.graph) (go_step sp) m
-          (entry_at q.refutation e).traces x) to_is
-          (subst (λ x. IsTrue b ↔ NamesCondition (HasTransition q.graph) (go_step sp) m x to) from_is
-          (told q.graph (go_step sp) odds_are next_is is_trace))
+      now : IsTrue b ↔ Condition sp
+      now =
+          subst (λ (x : Entry). IsTrue b ↔ NamesCondition (HasTransition q.graph) (go_step sp) m
+          (entry_at q.refutation e).traces x.traces) (sym w.there.is)
+          (subst (λ (x : Entry). IsTrue b ↔ NamesCondition (HasTransition q.graph) (go_step sp) m x.traces behind.traces)
+          (sym here.is) (told q.graph (go_step sp) odds_are (next_are ∙ next_is) is_trace))

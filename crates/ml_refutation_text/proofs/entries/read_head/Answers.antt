@@ -1,7 +1,7 @@
 use Rattle.std.proofs.Common.{ap, sym, subst, ◌∙◌}
 use Rattle.ml_base.specs.declared.version.Version.TheVariants.{One}
 use Rattle.ml_refutation_text.specs.RefutationText.{InFull, ByTables}
-use Rattle.ml_refutation_text.specs.BodyRules.{AtEntry, AtSequent, AtLive}
+use Rattle.ml_refutation_text.specs.BodyRules.{AtEntry, AtLive}
 use Rattle.ml_refutation_text.specs.private.Reads.{form_of, rows_in, rows_of, Goes, TellsFault}
 use Rattle.ml_refutation_text.specs.private.ItemReads.{knows}
 use Rattle.ml_refutation_text.proofs.Going.{goes_on, fault_on, room_on}
@@ -16,9 +16,7 @@ returns-in-Err-clause-refused c = λ v names wanted es here.
 pub read_sequent-requires : goal.read_sequent-requires
 read_sequent-requires c =
     let es = some_entries c.args.number in
-    let k = knows 0 InFull 0 in
-    room_on One (AtEntry k es) (AtSequent k es) c.args.at c.in-Ok.behind
-    (c.in-Ok.ensures.read One 0 0 es (length-some_entries c.args.number)) c.requires
+    room_on (c.in-Ok.ensures.read One 0 0 es (length-some_entries c.args.number)) c.requires
 
 pub returns-in-Ok-read_sequent-clause-read : goal.returns-in-Ok-read_sequent-clause-read
 returns-in-Ok-read_sequent-clause-read c = λ v names wanted es here.
@@ -26,7 +24,7 @@ returns-in-Ok-read_sequent-clause-read c = λ v names wanted es here.
     let q = c.in-Ok-read_sequent.sequent.items in
     let rest = c.in-Ok-read_sequent.rest in
     subst (λ F. Goes v (AtEntry (knows names F wanted) es) c.args.at (AtLive (knows names F wanted) es q) rest) (ap form_of (sym c.in-InFull.is))
-    (goes_on v (AtEntry k es) (AtSequent k es) (AtLive k es q) c.args.at c.in-Ok.behind rest (c.in-Ok.ensures.read v names wanted es here)
+    (goes_on (c.in-Ok.ensures.read v names wanted es here)
     (sequent_goes names wanted es v c.in-Ok.behind rest k q c.in-Ok-read_sequent.ensures.read))
 
 pub returns-in-Err-read_sequent-clause-refused : goal.returns-in-Err-read_sequent-clause-refused
@@ -34,8 +32,7 @@ returns-in-Err-read_sequent-clause-refused c = λ v names wanted es here.
     let k = knows names InFull wanted in
     let e = c.in-Err-read_sequent.refusal in
     subst (λ F. TellsFault v (AtEntry (knows names F wanted) es) c.args.at e) (ap form_of (sym c.in-InFull.is))
-    (fault_on v (AtEntry k es) (AtSequent k es) c.args.at c.in-Ok.behind e (c.in-Ok.ensures.read v names wanted es here)
-    (c.in-Err-read_sequent.ensures.refused.in_entry v k es))
+    (fault_on e (c.in-Ok.ensures.read v names wanted es here) (c.in-Err-read_sequent.ensures.refused.in_entry v k es))
 
 pub returns-in-Ok-read_placed-clause-read : goal.returns-in-Ok-read_placed-clause-read
 returns-in-Ok-read_placed-clause-read c = λ v names wanted es here.

@@ -1,7 +1,7 @@
 use Rattle.std.proofs.Common.{◌≡◌, codes, length, ap, sym, subst, arith}
 use Rattle.std.proofs.lemmas.Bool.Decides.{nat_tests}
 use Rattle.ml_lines.specs.Reading.{words_of}
-use Rattle.ml_refutation_text.specs.BodyRules.{AtEnd, AtNothing}
+use Rattle.ml_refutation_text.specs.BodyRules.{AtEnd}
 use Rattle.ml_refutation_text.specs.private.Reads.{TellsFault}
 use Rattle.ml_refutation_text.specs.declared.body_rule.BodyRule.TheVariants.{OfKind}
 use Rattle.ml_refutation_text.proofs.ReadWords.{differ, same_word, other_word}
@@ -24,8 +24,7 @@ returns-else-is_empty-clause-refused c = λ v r.
     let rest = c.in-Ok.next.1 in
     let is = same_word line c.as_slice.result.now (codes "end") c.if-eq.ensures c.as_slice.ensures in
     let some : length rest.text.now ≡ 0 → ⊥ = grind (arith, nat_tests) in
-    fault_on v (AtEnd r) (AtNothing r) c.args.at rest c.fault.result
-    (end_goes v c.args.at rest r (words_of line) c.in-Ok.ensures.read (end_is line is))
+    fault_on c.fault.result (end_goes v c.args.at rest r (words_of line) c.in-Ok.ensures.read (end_is line is))
     (behind_end v r rest c.fault.result (λ none. some (ap length none)) c.fault.ensures)
 
 pub returns-else-eq-clause-refused : goal.returns-else-eq-clause-refused

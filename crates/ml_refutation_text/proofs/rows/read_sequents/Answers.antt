@@ -18,8 +18,7 @@ returns-clause-read c =
     (λ r. (v : Version) (names : ℕ) → Goes v (at_sequent_table names size []) behind (AtStacks names (rows_of r.0)) r.1)
     (λ r. (v : Version) (names : ℕ) → Goes v (AtSequents names) c.args.at (AtStacks names (rows_of r.0)) r.1)
     (λ r goes v names.
-    goes_on v (AtSequents names) (at_sequent_table names size []) (AtStacks names (rows_of r.0)) c.args.at behind r.1
-    (sequents_begin v names size c.args.at behind c.in-Ok.ensures.read.2 c.in-Ok.ensures.read.0) (goes v names))
+    goes_on (sequents_begin v names size c.args.at behind c.in-Ok.ensures.read.2 c.in-Ok.ensures.read.0) (goes v names))
     c.read_sequent_rows.ensures.read
 
 pub returns-clause-refused : goal.returns-clause-refused
@@ -30,6 +29,5 @@ returns-clause-refused c =
     (λ e. (v : Version) (names : ℕ) → TellsFault v (at_sequent_table names size []) behind e)
     (λ e. (v : Version) (names : ℕ) → TellsFault v (AtSequents names) c.args.at e)
     (λ e tells v names.
-    fault_on v (AtSequents names) (at_sequent_table names size []) c.args.at behind e
-    (sequents_begin v names size c.args.at behind c.in-Ok.ensures.read.2 c.in-Ok.ensures.read.0) (tells v names))
+    fault_on e (sequents_begin v names size c.args.at behind c.in-Ok.ensures.read.2 c.in-Ok.ensures.read.0) (tells v names))
     c.read_sequent_rows.ensures.refused

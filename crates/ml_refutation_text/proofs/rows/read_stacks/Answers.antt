@@ -30,8 +30,7 @@ returns-in-Ok-stacks_of-clause-read c =
     → Goes v (at_stack_table names qs count []) behind (AtEntries names (ByTables qs (rows_of r.0))) r.1)
     (λ r. (v : Version) (qs : List (List ℕ)) → Goes v (AtStacks names qs) c.args.at (AtEntries names (ByTables qs (rows_of r.0))) r.1)
     (λ r goes v qs.
-    goes_on v (AtStacks names qs) (at_stack_table names qs count []) (AtEntries names (ByTables qs (rows_of r.0))) c.args.at behind r.1
-    (stacks_begin v names qs is.count c.args.at behind (words_of c.in-Ok.next.0.now) is.spells c.in-Ok.ensures.read is.is_line)
+    goes_on (stacks_begin v names qs is.count c.args.at behind (words_of c.in-Ok.next.0.now) is.spells c.in-Ok.ensures.read is.is_line)
     (goes v count qs is.capped))
     c.read_stack_rows.ensures.read
 
@@ -46,7 +45,6 @@ returns-in-Ok-stacks_of-clause-refused c =
     → TellsFault v (at_stack_table names qs count []) behind e)
     (λ e. (v : Version) (qs : List (List ℕ)) → TellsFault v (AtStacks names qs) c.args.at e)
     (λ e tells v qs.
-    fault_on v (AtStacks names qs) (at_stack_table names qs count []) c.args.at behind e
-    (stacks_begin v names qs is.count c.args.at behind (words_of c.in-Ok.next.0.now) is.spells c.in-Ok.ensures.read is.is_line)
+    fault_on e (stacks_begin v names qs is.count c.args.at behind (words_of c.in-Ok.next.0.now) is.spells c.in-Ok.ensures.read is.is_line)
     (tells v count qs is.capped))
     c.read_stack_rows.ensures.refused

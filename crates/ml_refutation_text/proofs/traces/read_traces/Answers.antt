@@ -1,4 +1,4 @@
-use Rattle.std.proofs.Common.{◌∙◌, length, ap, sym, subst, slice_get, arith, ◌-◌}
+use Rattle.std.proofs.Common.{◌∙◌, length, ap, sym, subst, slice_get, ◌-◌}
 use Rattle.std.specs.Option.{option_copied}
 use Rattle.ml_lists.proofs.Chains.{last_is}
 use Rattle.ml_lines.specs.Reading.{words_of}

@@ -1,23 +1,16 @@
-use Rattle.std.proofs.Common.{◌∙◌, subst, arith, below_more}
+use Rattle.std.proofs.Common.{◌∙◌, arith, below_more}
 use Rattle.std.proofs.lemmas.List.{length-map}
-use Rattle.ml_refutation.specs.Acceptance.{entry_at, parts}
 use Rattle.ml_refutation.specs.Views.{entry_of}
-use Rattle.ml_refute_check.specs.private.Parts.{question, Finds}
-use Rattle.ml_refute_check.proofs.PartsFound.{EntryKept, as_accepted, as_first_bad}
+use Rattle.ml_refute_check.specs.private.Parts.{question}
+use Rattle.ml_refute_check.proofs.PartsFound.{EntryKept, entry_found, as_accepted, as_first_bad}
 use Rattle.ml_refute_check.proofs.check_graph.check_refutation.Goals as goal
 
 pub loop-place-preserved : goal.loop-place-preserved
 loop-place-preserved c =
     let q = question c.args.graph.now c.args.refutation.now in
     let place = c.loop-place.place in
-    let there =
-    subst (λ g. Finds (question g c.in_ok-checker.checker.refutation.now) place
-    (parts (entry_at (question g c.in_ok-checker.checker.refutation.now).refutation place)) c.in_ok-bad.field-0)
-    c.in_ok-checker.ensures.graph c.in_ok-bad.ensures.found in
-    let here =
-    subst (λ r. Finds (question c.args.graph.now r) place (parts (entry_at (question c.args.graph.now r).refutation place)) c.in_ok-bad.field-0)
-    c.in_ok-checker.ensures.refutation there in
-    let found = subst (Finds q place (parts (entry_at q.refutation place))) c.in-None.is here in
+    let found =
+    entry_found place c.in_ok-checker.ensures.graph c.in_ok-checker.ensures.refutation c.in-None.is c.in_ok-bad.ensures.found in
     record {
       same = c.in_ok-bad.ensures.phase ∙ c.loop-place.invariant.same;
       kept = below_more (EntryKept q) place c.loop-place.invariant.kept found;
@@ -34,14 +27,8 @@ pub returns-in-Some : goal.returns-in-Some
 returns-in-Some c =
     let q = question c.args.graph.now c.args.refutation.now in
     let place = c.loop-place.place in
-    let there =
-    subst (λ g. Finds (question g c.in_ok-checker.checker.refutation.now) place
-    (parts (entry_at (question g c.in_ok-checker.checker.refutation.now).refutation place)) c.in_ok-bad.field-0)
-    c.in_ok-checker.ensures.graph c.in_ok-bad.ensures.found in
-    let here =
-    subst (λ r. Finds (question c.args.graph.now r) place (parts (entry_at (question c.args.graph.now r).refutation place)) c.in_ok-bad.field-0)
-    c.in_ok-checker.ensures.refutation there in
-    let found = subst (Finds q place (parts (entry_at q.refutation place))) c.in-Some.is here in
+    let found =
+    entry_found place c.in_ok-checker.ensures.graph c.in_ok-checker.ensures.refutation c.in-Some.is c.in_ok-bad.ensures.found in
     as_first_bad q place c.in-Some.bad
     (omega (arith, length-map c.args.refutation.now.entries.items entry_of, c.len-place-end.ensures, c.loop-place-test.true))
     c.loop-place.invariant.kept found

@@ -1,9 +1,6 @@
-use Rattle.std.proofs.Common.{◌≡◌, ◌<◌, ◌≤◌, ◌∙◌, List, length, get_or, ap, subst, sym}
+use Rattle.std.proofs.Common.{◌≤◌, ◌∙◌, List, length, subst, sym}
 use Rattle.ml_lists.specs.Ascending.{IsAscending}
-use Rattle.ml_refutation.specs.Refutation.{Entry}
 use Rattle.ml_refutation.specs.declared.refutation.Item.{Item}
-use Rattle.ml_refutation.specs.Views.{item_of}
-use Rattle.ml_refutation.specs.Acceptance.{StandsIn, entry_at}
 use Rattle.ml_refute_check.specs.private.Parts.{question}
 use Rattle.ml_refute_check.proofs.BranchesFound.{test_fails}
 use Rattle.ml_refute_check.proofs.EntryFound.{item_told, items_more, items_first, items_all, no_items, odds_ascend}
@@ -24,33 +21,20 @@ item_stands-requires-clause-odds c =
 pub loop-k-preserved : goal.loop-k-preserved
 loop-k-preserved c =
     let q = question c.args.self.now.graph.now c.args.self.now.refutation.now in
-    let xs = c.args.entry.now.items.items in
-    let a = c.item-item.result in
-    let low = subst (λ (ys : List Item). c.loop-k.k < length ys) c.deref-item-items.ensures.value c.loop-k-test.true in
-    let is : a ≡ get_or xs c.loop-k.k a =
-    c.item-item.is ∙ ap (λ (ys : List Item). get_or ys c.loop-k.k a) c.deref-item-items.ensures.value in
     let told =
-    item_told q c.args.place c.deref.result.now c.deref-in-loop-k.result.now a c.item_stands.result
-    (c.deref.ensures.value ∙ sym (ap (λ (x : Entry). x.sequent) c.requires.entry.is))
+    item_told q c.args.place c.requires.entry c.item-item.result c.item_stands.result c.deref.ensures.value
     (c.deref-in-loop-k.ensures.value ∙ c.requires.asks.odds_are) c.item_stands.ensures in
-    items_more q c.args.place xs c.loop-k.k a low is (told.0 c.if-not-item_stands.false) c.loop-k.invariant
+    items_more q c.args.place c.loop-k.k c.deref-item-items.ensures.value c.loop-k-test.true c.item-item.is
+    (told.0 c.if-not-item_stands.false) c.loop-k.invariant
 
 pub returns-then-not-item_stands : goal.returns-then-not-item_stands
 returns-then-not-item_stands c =
     let q = question c.args.self.now.graph.now c.args.self.now.refutation.now in
-    let xs = c.args.entry.now.items.items in
-    let a = c.item-item.result in
-    let low = subst (λ (ys : List Item). c.loop-k.k < length ys) c.deref-item-items.ensures.value c.loop-k-test.true in
-    let is : a ≡ get_or xs c.loop-k.k a =
-    c.item-item.is ∙ ap (λ (ys : List Item). get_or ys c.loop-k.k a) c.deref-item-items.ensures.value in
     let told =
-    item_told q c.args.place c.deref.result.now c.deref-in-loop-k.result.now a c.item_stands.result
-    (c.deref.ensures.value ∙ sym (ap (λ (x : Entry). x.sequent) c.requires.entry.is))
+    item_told q c.args.place c.requires.entry c.item-item.result c.item_stands.result c.deref.ensures.value
     (c.deref-in-loop-k.ensures.value ∙ c.requires.asks.odds_are) c.item_stands.ensures in
-    items_first q c.args.place xs c.loop-k.k a low is
-    (test_fails (StandsIn (entry_at q.refutation c.args.place).sequent (item_of a) q.graph) c.item_stands.result told
-    c.if-not-item_stands.true)
-    c.loop-k.invariant
+    items_first q c.args.place c.loop-k.k c.deref-item-items.ensures.value c.loop-k-test.true c.item-item.is
+    (test_fails _ c.item_stands.result told c.if-not-item_stands.true) c.loop-k.invariant
 
 pub returns : goal.returns
 returns c =
