@@ -9,18 +9,18 @@ use std::alloc::Global;
 use std::test::Fail;
 
 // The literals of p.
-const P: Node = Node::Lit {
+pub(crate) const P: Node = Node::Lit {
     prop: 0,
     positive: true,
 };
 
-const NOT_P: Node = Node::Lit {
+pub(crate) const NOT_P: Node = Node::Lit {
     prop: 0,
     positive: false,
 };
 
-// The graph of these nodes and priorities, with the one proposition p and the one action `_`.
-pub(crate) fn graph_of(
+// What comes of these nodes and priorities, with the one proposition p and the one action `_`.
+fn built(
     alloc: Global,
     nodes: &[Node],
     priorities: &[u32],
@@ -34,6 +34,19 @@ pub(crate) fn graph_of(
     let nodes = Vec::from_slice(alloc, nodes)?;
     let priorities = Vec::from_slice(alloc, priorities)?;
     Ok(ModalGraph::build(nodes, priorities, root, props, actions))
+}
+
+// The graph of them, where there are as many priorities as nodes, and few.
+pub(crate) fn graph_of(
+    alloc: Global,
+    nodes: &[Node],
+    priorities: &[u32],
+    root: u32,
+) -> Result<ModalGraph, Fail> {
+    if nodes.len() > 9 || priorities.len() != nodes.len() {
+        return Err(Fail::new("other numbers of nodes and priorities"));
+    }
+    Ok(built(alloc, nodes, priorities, root)??)
 }
 
 // Three states: an edge from 0 to 1, from 1 to 1 and from 0 to 2; p is true at 1 alone.
@@ -60,71 +73,90 @@ fn holds(alloc: Global, graph: &ModalGraph, structure: &Structure, state: u32) -
     Ok(solution.winner.get(vertex as usize) == Some(&Player::Even))
 }
 
+// Does it at just these of the states?
+fn holds_at(
+    alloc: Global,
+    graph: &ModalGraph,
+    structure: &Structure,
+    states: [bool; 3],
+) -> Result<bool, Fail> {
+    for state in 0..structure.states() {
+        let wanted = states.get(state as usize) == Some(&true);
+        if holds(alloc, graph, structure, state)? != wanted {
+            return Ok(false);
+        }
+    }
+    Ok(true)
+}
+
 // The number that is refused of a graph of one node, if one is.
 fn refused(alloc: Global, node: Node, root: u32) -> Result<Option<u32>, Fail> {
-    match graph_of(alloc, &[node], &[0], root)? {
+    match built(alloc, &[node], &[0], root)? {
         Err(GraphRefusal::OutOfRange(number)) => Ok(Some(number)),
         _ => Ok(None),
     }
 }
 
 #[test]
-fn root_out_of_range(rt: HostRuntime) -> Result<(), Fail> {
-    assert!(rt; refused(rt.alloc(), Node::True, 1)? == Some(1));
+fn numbers_out_of_range(rt: HostRuntime) -> Result<(), Fail> {
+    assert_eq!(rt; refused(rt.alloc(), Node::True, 1)?, Some(1));
+    let or = Node::Or { left: 3, right: 2 };
+    assert_eq!(rt; refused(rt.alloc(), or, 5)?, Some(3));
     Ok(())
 }
 
-#[test]
-fn first_number_out_of_range(rt: HostRuntime) -> Result<(), Fail> {
-    assert!(rt; refused(rt.alloc(), Node::Or { left: 3, right: 2 }, 5)? == Some(3));
-    Ok(())
-}
-
-// The odd priorities of a graph of three nodes, and whether it holds at each of the three states, by its checking game.
-fn holds_at(
-    alloc: Global,
-    nodes: &[Node; 3],
-    priorities: &[u32; 3],
-    root: u32,
-) -> Result<(Vec<u32>, [bool; 3]), Fail> {
-    let structure = three_states(alloc)?;
-    let graph = graph_of(alloc, nodes, priorities, root)??;
-    let mut found = [false; 3];
-    for state in 0..structure.states().min(3) {
-        found[state as usize] = holds(alloc, &graph, &structure, state)?;
-    }
-    Ok((graph.odd_priorities()?, found))
-}
+// A graph of three nodes with priorities and a root, its odd priorities, and the states at which it holds.
+type Row = ([Node; 3], [u32; 3], u32, &'static [u32], [bool; 3]);
 
 const NEXT: Node = Node::Diamond { action: 0, to: 0 };
 
-// p comes at some time: least X with p or <_>X.
-#[test]
-fn least_fixpoint_by_hand(rt: HostRuntime) -> Result<(), Fail> {
-    let nodes = [Node::Or { left: 1, right: 2 }, P, NEXT];
-    let (odds, found) = holds_at(rt.alloc(), &nodes, &[1, 2, 2], 0)?;
-    assert!(rt; odds.as_slice() == [1].as_slice() && found == [true, true, false]);
-    Ok(())
+const GRAPHS: [Row; 3] = [
+    // p comes at some time: least X with p or <_>X
+    (
+        [Node::Or { left: 1, right: 2 }, P, NEXT],
+        [1, 2, 2],
+        0,
+        &[1],
+        [true, true, false],
+    ),
+    // always not p, whatever edges are taken: greatest X with not p and [_]X
+    (
+        [
+            Node::And { left: 1, right: 2 },
+            NOT_P,
+            Node::Square { action: 0, to: 0 },
+        ],
+        [0, 2, 2],
+        0,
+        &[],
+        [false, false, true],
+    ),
+    // some way goes on for ever: greatest X with <_>X
+    (
+        [Node::And { left: 2, right: 2 }, Node::True, NEXT],
+        [0, 3, 2],
+        2,
+        &[3],
+        [true, true, false],
+    ),
+];
+
+// The place of the first graph with other odd priorities, or that holds at other states.
+fn first_wrong(alloc: Global, structure: &Structure, rows: &[Row]) -> Result<Option<usize>, Fail> {
+    for (place, (nodes, priorities, root, odds, states)) in rows.iter().enumerate() {
+        let graph = graph_of(alloc, nodes, priorities, *root)?;
+        if graph.odd_priorities()?.as_slice() != *odds
+            || !holds_at(alloc, &graph, structure, *states)?
+        {
+            return Ok(Some(place));
+        }
+    }
+    Ok(None)
 }
 
-// Always not p, whatever edges are taken: greatest X with not p and [_]X.
 #[test]
-fn greatest_fixpoint_by_hand(rt: HostRuntime) -> Result<(), Fail> {
-    let nodes = [
-        Node::And { left: 1, right: 2 },
-        NOT_P,
-        Node::Square { action: 0, to: 0 },
-    ];
-    let (odds, found) = holds_at(rt.alloc(), &nodes, &[0, 2, 2], 0)?;
-    assert!(rt; odds.is_empty() && found == [false, false, true]);
-    Ok(())
-}
-
-// Some way goes on for ever: greatest X with <_>X.
-#[test]
-fn endless_way_by_hand(rt: HostRuntime) -> Result<(), Fail> {
-    let nodes = [Node::And { left: 2, right: 2 }, Node::True, NEXT];
-    let (odds, found) = holds_at(rt.alloc(), &nodes, &[0, 3, 2], 2)?;
-    assert!(rt; odds.as_slice() == [3].as_slice() && found == [true, true, false]);
+fn graphs_by_hand(rt: HostRuntime) -> Result<(), Fail> {
+    let structure = three_states(rt.alloc())?;
+    assert_eq!(rt; first_wrong(rt.alloc(), &structure, &GRAPHS)?, None);
     Ok(())
 }

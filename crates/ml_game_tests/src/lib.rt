@@ -2,20 +2,17 @@
 // crates that they call, so that none of those is proved a second time for its tests. Tests of parity games, traces and
 // histories stand in `ml_tests`.
 //
-//   extract_tests  structures made of games that Even wins
+//   answer_tests   models and refutations, made of games that Even or Odd wins
 //   graph_tests    graphs built and refused, and the graphs that other tests take
 //   product_tests  decision games explored
-//   refute_tests   refutations made of games that Odd wins
 //   sequent_tests  spreads, clashes, splits and steps
 #![tactic(auto)]
 
 #[cfg(test)]
-mod extract_tests;
+mod answer_tests;
 #[cfg(test)]
 mod graph_tests;
 #[cfg(test)]
 mod product_tests;
-#[cfg(test)]
-mod refute_tests;
 #[cfg(test)]
 mod sequent_tests;

@@ -1,44 +1,17 @@
 // Decision games of small graphs, worked out by hand.
-ghost use Rattle.std.specs.Prelude.{◌≡◌, ◌<◌, ◌≤◌, length};
+ghost use Rattle.std.specs.Prelude.{◌≤◌};
 
-use ml_base::{Action, Name, NoMemory};
-use ml_graph::{GraphRefusal, ModalGraph, Node};
+use crate::graph_tests::{NOT_P, P, graph_of};
+use ml_base::NoMemory;
+use ml_graph::Node;
 use ml_parity::{Player, solve};
 use ml_product::{Arena, ExploreRefusal, explore, fits};
 use std::alloc::Global;
 use std::test::Fail;
 
-// The literals of p and of q.
-const P: Node = Node::Lit {
-    prop: 0,
-    positive: true,
-};
-
-const Q: Node = Node::Lit {
-    prop: 1,
-    positive: true,
-};
-
-// The graph of these nodes and priorities, with the propositions p and q and the action `_`; its root is node 0.
-fn graph_of(
-    alloc: Global,
-    nodes: &[Node],
-    priorities: &[u32],
-) -> Result<Result<ModalGraph, GraphRefusal>, Fail>
-    requires few { length nodes.now < 4294967296 }
-    requires priorities { length priorities.now ≡ length nodes.now }
-{
-    let props = vec![in alloc; Name::new(alloc, b"p")?, Name::new(alloc, b"q")?]?;
-    let actions = vec![in alloc; Action::new(alloc, b"_")?]?;
-    let nodes = Vec::from_slice(alloc, nodes)?;
-    let priorities = Vec::from_slice(alloc, priorities)?;
-    Ok(ModalGraph::build(nodes, priorities, 0, props, actions))
-}
-
 // What is found of a game: how many positions it has, the first two moves of the start, and who wins there.
 #[derive(Clone, Copy, Debug, PartialEq, Eq)]
 enum Answer {
-    NoGraph,
     Passed,
     Game(u32, Option<u64>, Option<u64>, Option<Player>),
 }
@@ -46,7 +19,7 @@ enum Answer {
 // What is found of an arena.
 fn found_in(alloc: Global, arena: &Arena) -> Result<Answer, Fail> {
     if arena.size() == 0 {
-        return Ok(Answer::NoGraph);
+        return Err(Fail::new("no position"));
     }
     let moves = arena.moves(0);
     let solution = solve(alloc, &arena.game()?)?;
@@ -60,15 +33,11 @@ fn found_in(alloc: Global, arena: &Arena) -> Result<Answer, Fail> {
 
 // What is found of the game of the graph of these nodes and priorities, where so many positions are allowed.
 fn found(alloc: Global, nodes: &[Node], priorities: &[u32], limit: u32) -> Result<Answer, Fail>
-    requires few { length nodes.now < 4294967296 }
-    requires priorities { length priorities.now ≡ length nodes.now }
     requires some { 1 ≤ limit }
 {
-    let Ok(graph) = graph_of(alloc, nodes, priorities)? else {
-        return Ok(Answer::NoGraph);
-    };
+    let graph = graph_of(alloc, nodes, priorities, 0)?;
     if !fits(&graph)? {
-        return Ok(Answer::NoGraph);
+        return Err(Fail::new("too many states"));
     }
     match explore(alloc, &graph, limit) {
         Ok(arena) => found_in(alloc, &arena),
@@ -79,8 +48,8 @@ fn found(alloc: Global, nodes: &[Node], priorities: &[u32], limit: u32) -> Resul
 
 #[test]
 fn a_disjunction_has_three_positions(rt: HostRuntime) -> Result<(), Fail> {
-    // p | q
-    let nodes = [Node::Or { left: 1, right: 2 }, P, Q];
+    // p | !p
+    let nodes = [Node::Or { left: 1, right: 2 }, P, NOT_P];
     let whole = Answer::Game(3, Some(1), Some(2), Some(Player::Even));
     assert_eq!(rt; found(rt.alloc(), &nodes, &[0; 3], 2)?, Answer::Passed);
     assert_eq!(rt; found(rt.alloc(), &nodes, &[0; 3], 3)?, whole);

@@ -2,7 +2,7 @@
 ghost use Rattle.std.specs.Prelude.{◌<◌, All, IfOk, IfSome};
 ghost use Rattle.ml_graph.specs.Graph.{size};
 
-use crate::graph_tests::graph_of;
+use crate::graph_tests::{NOT_P, P, graph_of};
 use ml_graph::{ModalGraph, Node};
 use ml_sequent::{
     Choice, ClashCause, LocalPhase, Sequent, Side, clash, diamonds, open_or, spread, step,
@@ -10,25 +10,6 @@ use ml_sequent::{
 use ml_trace::{LocalTraces, Triple};
 use std::alloc::Global;
 use std::test::Fail;
-
-// The literals of p.
-const P: Node = Node::Lit {
-    prop: 0,
-    positive: true,
-};
-
-const NOT_P: Node = Node::Lit {
-    prop: 0,
-    positive: false,
-};
-
-// A node that is another one.
-fn to(node: u32) -> Node {
-    Node::And {
-        left: node,
-        right: node,
-    }
-}
 
 // The sequent of these nodes, if they are nodes of the graph.
 fn sequent_of(alloc: Global, graph: &ModalGraph, nodes: &[u32]) -> Result<Option<Sequent>, Fail>
@@ -70,19 +51,32 @@ fn answers_in(
     Ok((cause, open_or(graph, &spread), diamonds.len()))
 }
 
-// What is answered of the spread of a node, where this side is chosen.
-fn answers(
+// A node, the side that is chosen, and what is answered of the spread of the node.
+type Row = (u32, Option<(u32, Side)>, Answers);
+
+// Is this answered?
+fn is_answered(
     alloc: Global,
-    nodes: &[Node; 8],
-    priorities: &[u32; 8],
+    graph: &ModalGraph,
     from: u32,
     chosen: Option<(u32, Side)>,
-) -> Result<Answers, Fail> {
-    let graph = graph_of(alloc, nodes, priorities, 0)??;
-    match sequent_of(alloc, &graph, &[from])? {
-        Some(sequent) => answers_in(alloc, &graph, &sequent, &choice_of(alloc, chosen)?),
-        None => Err(Fail::new("no such node")),
+    wanted: Answers,
+) -> Result<bool, Fail> {
+    let choice = choice_of(alloc, chosen)?;
+    match sequent_of(alloc, graph, &[from])? {
+        Some(sequent) => Ok(answers_in(alloc, graph, &sequent, &choice)? == wanted),
+        None => Ok(false),
     }
+}
+
+// The place of the first row of which something else is answered.
+fn first_wrong(alloc: Global, graph: &ModalGraph, rows: &[Row]) -> Result<Option<usize>, Fail> {
+    for (place, (from, chosen, wanted)) in rows.iter().enumerate() {
+        if !is_answered(alloc, graph, *from, *chosen, *wanted)? {
+            return Ok(Some(place));
+        }
+    }
+    Ok(None)
 }
 
 // p | !p, with one bar: both signs of each occurrence
@@ -109,69 +103,71 @@ const FIXPOINTS: [Node; 8] = [
     Node::False,
 ];
 
-const EVEN: [u32; 8] = [2; 8];
-
-const BINDERS: [u32; 8] = [1, 0, 2, 2, 2, 2, 2, 2];
-
-// Is this answered of the spread of a node, where this side is chosen: the clash, the open or-node, and how many diamonds
-// there are?
-fn is_answered(
-    alloc: Global,
-    nodes: &[Node; 8],
-    priorities: &[u32; 8],
-    from: u32,
-    chosen: Option<(u32, Side)>,
-    wanted: Answers,
-) -> Result<bool, Fail> {
-    Ok(answers(alloc, nodes, priorities, from, chosen)? == wanted)
-}
+const OF_EXCLUDED: [Row; 3] = [
+    (1, None, (Some(ClashCause::Pair(6, 3)), None, 0)),
+    (0, None, (None, Some(0), 0)),
+    (0, Some((0, Side::Left)), (None, None, 0)),
+];
 
 #[test]
 fn spreads_of_an_excluded_middle(rt: HostRuntime) -> Result<(), Fail> {
-    let alloc = rt.alloc();
-    let pair = Some(ClashCause::Pair(6, 3));
-    let left = Some((0, Side::Left));
-    assert!(rt; is_answered(alloc, &EXCLUDED, &EVEN, 1, None, (pair, None, 0))?);
-    assert!(rt; is_answered(alloc, &EXCLUDED, &EVEN, 0, None, (None, Some(0), 0))?);
-    assert!(rt; is_answered(alloc, &EXCLUDED, &EVEN, 0, left, (None, None, 0))?);
+    let graph = graph_of(rt.alloc(), &EXCLUDED, &[2; 8], 0)?;
+    assert_eq!(rt; first_wrong(rt.alloc(), &graph, &OF_EXCLUDED)?, None);
     Ok(())
 }
+
+const OF_FIXPOINTS: [Row; 5] = [
+    (0, None, (Some(ClashCause::Cycle(0)), None, 0)),
+    (1, None, (None, None, 0)),
+    (4, None, (None, Some(6), 1)),
+    (
+        4,
+        Some((6, Side::Left)),
+        (Some(ClashCause::False(7)), None, 1),
+    ),
+    (4, Some((6, Side::Right)), (None, None, 1)),
+];
 
 #[test]
 fn spreads_of_fixpoints(rt: HostRuntime) -> Result<(), Fail> {
-    let alloc = rt.alloc();
-    let cycle = Some(ClashCause::Cycle(0));
-    assert!(rt; is_answered(alloc, &FIXPOINTS, &BINDERS, 0, None, (cycle, None, 0))?);
-    assert!(rt; is_answered(alloc, &FIXPOINTS, &BINDERS, 1, None, (None, None, 0))?);
+    let graph = graph_of(rt.alloc(), &FIXPOINTS, &[1, 0, 2, 2, 2, 2, 2, 2], 0)?;
+    assert_eq!(rt; first_wrong(rt.alloc(), &graph, &OF_FIXPOINTS)?, None);
     Ok(())
 }
 
-#[test]
-fn spreads_with_a_diamond(rt: HostRuntime) -> Result<(), Fail> {
-    let alloc = rt.alloc();
-    let falsity = Some(ClashCause::False(7));
-    let left = Some((6, Side::Left));
-    let right = Some((6, Side::Right));
-    assert!(rt; is_answered(alloc, &FIXPOINTS, &BINDERS, 4, None, (None, Some(6), 1))?);
-    assert!(rt; is_answered(alloc, &FIXPOINTS, &BINDERS, 4, left, (falsity, None, 1))?);
-    assert!(rt; is_answered(alloc, &FIXPOINTS, &BINDERS, 4, right, (None, None, 1))?);
-    Ok(())
+// Has the sequent these values, as its nodes and in its copy too?
+fn is_sequent(alloc: Global, sequent: &Sequent, values: &[u32]) -> Result<bool, Fail> {
+    let nodes = sequent.nodes(alloc)?;
+    let copy = sequent.copy()?;
+    Ok(sequent.values() == values && nodes.as_slice() == values && copy.values() == values)
 }
 
 #[test]
-fn sequents_and_choices_are_lists(rt: HostRuntime) -> Result<(), Fail> {
+fn sequents_are_lists(rt: HostRuntime) -> Result<(), Fail> {
     let sequent = Sequent::of(rt.alloc(), &[5, 2, 5, 3])?;
-    assert_eq!(rt; sequent.nodes(rt.alloc())?.as_slice(), [2, 3, 5].as_slice());
-    assert_eq!(rt; sequent.copy()?.values(), [2, 3, 5].as_slice());
-    let empty = Choice::empty(rt.alloc());
-    assert!(rt; empty.is_empty());
-    let one = empty.with(4, Side::Right)?;
-    let two = one.with(1, Side::Left)?;
-    let rows = [(0, None), (1, Some(Side::Left)), (4, Some(Side::Right))];
-    for (node, wanted) in rows {
-        assert_eq!(rt; two.side(node), wanted, "{node}");
-    }
-    assert!(rt; !two.copy()?.is_empty());
+    assert!(rt; is_sequent(rt.alloc(), &sequent, &[2, 3, 5])?);
+    Ok(())
+}
+
+// The right side at 4 and the left one at 1.
+fn two_sides(alloc: Global) -> Result<Choice, Fail> {
+    let one = Choice::empty(alloc).with(4, Side::Right)?;
+    Ok(one.with(1, Side::Left)?)
+}
+
+// Has the choice these two sides?
+fn has_two_sides(choice: &Choice) -> bool {
+    choice.side(0).is_none()
+        && choice.side(1) == Some(Side::Left)
+        && choice.side(4) == Some(Side::Right)
+        && !choice.is_empty()
+}
+
+#[test]
+fn choices_are_lists(rt: HostRuntime) -> Result<(), Fail> {
+    let two = two_sides(rt.alloc())?;
+    assert!(rt; has_two_sides(&two) && has_two_sides(&two.copy()?));
+    assert!(rt; Choice::empty(rt.alloc()).is_empty());
     Ok(())
 }
 
@@ -191,20 +187,6 @@ fn first_step(
     Ok(step(alloc, graph, sequent, &spread, diamonds[0])?)
 }
 
-// The step of a graph of eight nodes from a sequent of these.
-fn step_of(
-    alloc: Global,
-    nodes: &[Node; 8],
-    priorities: &[u32; 8],
-    from: &[u32],
-) -> Result<(Sequent, LocalTraces), Fail> {
-    let graph = graph_of(alloc, nodes, priorities, 0)??;
-    match sequent_of(alloc, &graph, from)? {
-        Some(sequent) => first_step(alloc, &graph, &sequent),
-        None => Err(Fail::new("no such node")),
-    }
-}
-
 // A triple.
 fn triple(from: u32, lowest: u32, to: u32) -> Triple {
     Triple { from, lowest, to }
@@ -216,61 +198,78 @@ fn are_these(traces: &LocalTraces, wanted: &[Triple]) -> bool {
     triples.len() == wanted.len() && wanted.iter().all(|triple| triples.contains(triple))
 }
 
+// Does the first step from the sequent of these nodes lead to this sequent, with these local traces?
+fn is_step(
+    alloc: Global,
+    graph: &ModalGraph,
+    from: &[u32],
+    next: &[u32],
+    wanted: &[Triple],
+) -> Result<bool, Fail> {
+    match sequent_of(alloc, graph, from)? {
+        Some(sequent) => {
+            let (found, traces) = first_step(alloc, graph, &sequent)?;
+            Ok(found.values() == next && are_these(&traces, wanted))
+        }
+        None => Ok(false),
+    }
+}
+
+// mu X. <>X: the binder and its dual, the modalities, and the variable, twice
+const LEAST: [Node; 8] = [
+    Node::And { left: 2, right: 2 },
+    Node::And { left: 3, right: 3 },
+    Node::Diamond { action: 0, to: 4 },
+    Node::Square { action: 0, to: 5 },
+    Node::And { left: 0, right: 0 },
+    Node::And { left: 1, right: 1 },
+    P,
+    NOT_P,
+];
+
 #[test]
 fn step_of_a_least_fixpoint(rt: HostRuntime) -> Result<(), Fail> {
-    // mu X. <>X: the binder and its dual, the modalities, and the variable, twice
-    let nodes = [
-        to(2),
-        to(3),
-        Node::Diamond { action: 0, to: 4 },
-        Node::Square { action: 0, to: 5 },
-        to(0),
-        to(1),
-        P,
-        NOT_P,
-    ];
-    let (next, traces) = step_of(rt.alloc(), &nodes, &[1, 0, 2, 2, 2, 2, 2, 2], &[0])?;
-    assert_eq!(rt; next.nodes(rt.alloc())?.as_slice(), [4].as_slice());
-    assert_eq!(rt; next.copy()?.values(), [4].as_slice());
-    assert_eq!(rt; traces.triples(), [triple(0, 1, 4)].as_slice());
+    let graph = graph_of(rt.alloc(), &LEAST, &[1, 0, 2, 2, 2, 2, 2, 2], 0)?;
+    assert!(rt; is_step(rt.alloc(), &graph, &[0], &[4], &[triple(0, 1, 4)])?);
     Ok(())
 }
+
+const SEVERAL: [Node; 8] = [
+    Node::And { left: 1, right: 2 },
+    Node::And { left: 3, right: 4 },
+    Node::And { left: 3, right: 3 },
+    Node::Diamond { action: 0, to: 6 },
+    Node::Square { action: 0, to: 7 },
+    Node::Square { action: 0, to: 0 },
+    Node::True,
+    Node::True,
+];
 
 #[test]
 fn step_with_several_lowest_priorities(rt: HostRuntime) -> Result<(), Fail> {
-    let nodes = [
-        Node::And { left: 1, right: 2 },
-        Node::And { left: 3, right: 4 },
-        to(3),
-        Node::Diamond { action: 0, to: 6 },
-        Node::Square { action: 0, to: 7 },
-        Node::Square { action: 0, to: 0 },
-        Node::True,
-        Node::True,
-    ];
-    let (next, traces) = step_of(rt.alloc(), &nodes, &[4, 1, 3, 5, 5, 5, 2, 2], &[0])?;
-    assert_eq!(rt; next.values(), [6, 7].as_slice());
+    let graph = graph_of(rt.alloc(), &SEVERAL, &[4, 1, 3, 5, 5, 5, 2, 2], 0)?;
     let wanted = [triple(0, 1, 6), triple(0, 3, 6), triple(0, 1, 7)];
-    assert!(rt; are_these(&traces, &wanted));
+    assert!(rt; is_step(rt.alloc(), &graph, &[0], &[6, 7], &wanted)?);
     Ok(())
 }
 
+// 0 leads to 1 and 2, 1 back to 0 and to the diamond, 2 to the square; at 5 no side is chosen
+const WALKS: [Node; 8] = [
+    Node::And { left: 1, right: 2 },
+    Node::And { left: 3, right: 0 },
+    Node::And { left: 4, right: 4 },
+    Node::Diamond { action: 0, to: 6 },
+    Node::Square { action: 0, to: 7 },
+    Node::Or { left: 3, right: 4 },
+    Node::True,
+    Node::True,
+];
+
 #[test]
 fn walks_by_hand(rt: HostRuntime) -> Result<(), Fail> {
-    // 0 leads to 1 and 2, 1 back to 0 and to the diamond, 2 to the square; at 5 no side is chosen
-    let nodes = [
-        Node::And { left: 1, right: 2 },
-        Node::And { left: 3, right: 0 },
-        to(4),
-        Node::Diamond { action: 0, to: 6 },
-        Node::Square { action: 0, to: 7 },
-        Node::Or { left: 3, right: 4 },
-        Node::True,
-        Node::True,
-    ];
-    let priorities = [3, 1, 2, 5, 4, 0, 8, 8];
+    let graph = graph_of(rt.alloc(), &WALKS, &[3, 1, 2, 5, 4, 0, 8, 8], 0)?;
     // with and without the way over 1 and back; 3 leads nowhere, 5 neither
-    let walks = [
+    let wanted = [
         triple(0, 1, 6),
         triple(0, 1, 7),
         triple(0, 2, 7),
@@ -279,9 +278,7 @@ fn walks_by_hand(rt: HostRuntime) -> Result<(), Fail> {
         triple(2, 2, 7),
         triple(3, 5, 6),
     ];
-    let (next, traces) = step_of(rt.alloc(), &nodes, &priorities, &[0, 1, 2, 3, 5])?;
-    assert_eq!(rt; next.values(), [6, 7].as_slice());
-    assert!(rt; are_these(&traces, &walks));
+    assert!(rt; is_step(rt.alloc(), &graph, &[0, 1, 2, 3, 5], &[6, 7], &wanted)?);
     Ok(())
 }
 
@@ -297,8 +294,6 @@ const CAUSES: [Node; 8] = [
     Node::And { left: 0, right: 5 },
 ];
 
-const CAUSE_PRIORITIES: [u32; 8] = [1, 2, 2, 2, 2, 2, 2, 2];
-
 // Is this a cause in the spread of a sequent, with no side chosen?
 fn is_cause_in(
     alloc: Global,
@@ -313,37 +308,40 @@ fn is_cause_in(
     Ok(phase.is_cause(&spread, cause)?)
 }
 
-// The same of a node.
-fn is_cause_at(alloc: Global, from: u32, cause: ClashCause) -> Result<bool, Fail> {
-    let graph = graph_of(alloc, &CAUSES, &CAUSE_PRIORITIES, 0)??;
-    match sequent_of(alloc, &graph, &[from])? {
-        Some(sequent) => is_cause_in(alloc, &graph, &sequent, cause),
-        None => Err(Fail::new("no such node")),
+// A node and a cause, and is this one in the spread of the node?
+const IN_SPREADS: [(u32, ClashCause, bool); 8] = [
+    (6, ClashCause::False(6), true),
+    (2, ClashCause::False(6), false),
+    (2, ClashCause::Pair(3, 4), true),
+    (2, ClashCause::Pair(4, 3), false),
+    (3, ClashCause::Pair(3, 4), false),
+    (0, ClashCause::Cycle(0), true),
+    (0, ClashCause::Cycle(1), false),
+    (0, ClashCause::Cycle(99), false),
+];
+
+// The place of the first row of which it is told otherwise.
+fn first_wrong_cause(
+    alloc: Global,
+    graph: &ModalGraph,
+    rows: &[(u32, ClashCause, bool)],
+) -> Result<Option<usize>, Fail> {
+    for (place, (from, cause, wanted)) in rows.iter().enumerate() {
+        let told = match sequent_of(alloc, graph, &[*from])? {
+            Some(sequent) => is_cause_in(alloc, graph, &sequent, *cause)?,
+            None => return Err(Fail::new("no such node")),
+        };
+        if told != *wanted {
+            return Ok(Some(place));
+        }
     }
+    Ok(None)
 }
 
 #[test]
-fn false_as_a_cause(rt: HostRuntime) -> Result<(), Fail> {
-    let falsity = ClashCause::False(6);
-    assert!(rt; is_cause_at(rt.alloc(), 6, falsity)?);
-    assert!(rt; !is_cause_at(rt.alloc(), 2, falsity)?);
-    Ok(())
-}
-
-#[test]
-fn pairs_as_causes(rt: HostRuntime) -> Result<(), Fail> {
-    let pair = ClashCause::Pair(3, 4);
-    assert!(rt; is_cause_at(rt.alloc(), 2, pair)?);
-    assert!(rt; !is_cause_at(rt.alloc(), 2, ClashCause::Pair(4, 3))?);
-    assert!(rt; !is_cause_at(rt.alloc(), 3, pair)?);
-    Ok(())
-}
-
-#[test]
-fn cycles_as_causes(rt: HostRuntime) -> Result<(), Fail> {
-    assert!(rt; is_cause_at(rt.alloc(), 0, ClashCause::Cycle(0))?);
-    assert!(rt; !is_cause_at(rt.alloc(), 0, ClashCause::Cycle(1))?);
-    assert!(rt; !is_cause_at(rt.alloc(), 0, ClashCause::Cycle(99))?);
+fn causes_in_spreads(rt: HostRuntime) -> Result<(), Fail> {
+    let graph = graph_of(rt.alloc(), &CAUSES, &[1, 2, 2, 2, 2, 2, 2, 2], 0)?;
+    assert_eq!(rt; first_wrong_cause(rt.alloc(), &graph, &IN_SPREADS)?, None);
     Ok(())
 }
 
@@ -367,21 +365,26 @@ fn extended_in(
     }
 }
 
-// The same of a node.
-fn extended_at(alloc: Global, from: u32, side: Side) -> Result<Option<Vec<u32>>, Fail> {
-    let graph = graph_of(alloc, &CAUSES, &CAUSE_PRIORITIES, 0)??;
-    match sequent_of(alloc, &graph, &[from])? {
-        Some(sequent) => extended_in(alloc, &graph, &sequent, side),
-        None => Err(Fail::new("no such node")),
+// The same of a node, and are they these?
+fn is_extended(
+    alloc: Global,
+    graph: &ModalGraph,
+    from: u32,
+    side: Side,
+    wanted: Option<&[u32]>,
+) -> Result<bool, Fail> {
+    match sequent_of(alloc, graph, &[from])? {
+        Some(sequent) => Ok(extended_in(alloc, graph, &sequent, side)?.as_deref() == wanted),
+        None => Ok(false),
     }
 }
 
 #[test]
 fn spreads_with_a_side_more(rt: HostRuntime) -> Result<(), Fail> {
-    let left = extended_at(rt.alloc(), 7, Side::Left)?;
-    assert_eq!(rt; left.as_deref(), Some([0, 1, 5, 6, 7].as_slice()));
-    let right = extended_at(rt.alloc(), 7, Side::Right)?;
-    assert_eq!(rt; right.as_deref(), Some([0, 1, 3, 5, 7].as_slice()));
-    assert!(rt; extended_at(rt.alloc(), 2, Side::Left)?.is_none());
+    let alloc = rt.alloc();
+    let graph = graph_of(alloc, &CAUSES, &[1, 2, 2, 2, 2, 2, 2, 2], 0)?;
+    assert!(rt; is_extended(alloc, &graph, 7, Side::Left, Some(&[0, 1, 5, 6, 7]))?);
+    assert!(rt; is_extended(alloc, &graph, 7, Side::Right, Some(&[0, 1, 3, 5, 7]))?);
+    assert!(rt; is_extended(alloc, &graph, 2, Side::Left, None)?);
     Ok(())
 }

@@ -1,8 +1,10 @@
 // Formulas and structures that look random: the meaning against the game.
 ghost use Rattle.std.specs.Prelude.{◌<◌};
 
-use ml_base::{Action, Edge, Name};
-use ml_front::{AnyFormula, Logic, Problem, graph, negated, read};
+use crate::meanings::by_meaning;
+use crate::random_texts::{of_pdl, of_the_mu_calculus};
+use crate::structures::random_structure;
+use ml_front::{Logic, Problem, graph, negated, read};
 use ml_graph::checking_game;
 use ml_kripke::Structure;
 use ml_model_check::holds;
@@ -11,105 +13,7 @@ use ml_tests::Numbers;
 use std::alloc::Global;
 use std::test::Fail;
 
-// what stands before, between and behind one or two operands
-const SIGNS: [(&'static str, Option<&'static str>, &'static str); 13] = [
-    ("!(", None, ")"),
-    ("<>(", None, ")"),
-    ("<a>(", None, ")"),
-    ("[](", None, ")"),
-    ("(mu X. ", None, ")"),
-    ("(nu X. ", None, ")"),
-    ("(mu Y. ", None, ")"),
-    ("(nu Y. ", None, ")"),
-    ("(", Some(" & "), ")"),
-    ("(", Some(" & "), ")"),
-    ("(", Some(" | "), ")"),
-    ("(", Some(" -> "), ")"),
-    ("(", Some(" <-> "), ")"),
-];
-
-// a text whose variables are bound; it may be one of no formula, since some may not be positive
-fn random_text(alloc: Global, numbers: &mut Numbers) -> Result<Vec<u8>, Fail> {
-    let mut texts: Vec<Vec<u8>> = Vec::new(alloc);
-    for atom in ["p", "q", "X", "Y"] {
-        texts.push(Vec::from_slice(alloc, atom.as_bytes())?)?;
-    }
-    for round in 4_u64..11 {
-        let mut text = Vec::new(alloc);
-        let sign = numbers.below(13) as usize;
-        let left = numbers.below(round) as usize;
-        let right = numbers.below(round) as usize;
-        if let Some((before, between, behind)) = SIGNS.get(sign) {
-            text.extend_from_slice(before.as_bytes())?;
-            if let Some(operand) = texts.get(left) {
-                text.extend_from_slice(operand)?;
-            }
-            if let Some(between) = between {
-                text.extend_from_slice(between.as_bytes())?;
-                if let Some(operand) = texts.get(right) {
-                    text.extend_from_slice(operand)?;
-                }
-            }
-            text.extend_from_slice(behind.as_bytes())?;
-        }
-        texts.push(text)?;
-    }
-    let mut text = Vec::from_slice(alloc, b"nu X. mu Y. ")?;
-    if let Some(body) = texts.last() {
-        text.extend_from_slice(body)?;
-    }
-    Ok(text)
-}
-
-// a structure of up to four states with the propositions p and q and the actions `_` and a
-pub(crate) fn random_structure(alloc: Global, numbers: &mut Numbers) -> Result<Structure, Fail> {
-    let states = numbers.below(4) as u32 + 1;
-    let mut labels = Vec::new(alloc);
-    let mut edges = Vec::new(alloc);
-    for source in 0..states {
-        for name in [b"p", b"q"] {
-            if numbers.below(2) == 0 {
-                labels.push((source, Name::new(alloc, name.as_slice())?))?;
-            }
-        }
-        for target in 0..states {
-            for name in [b"_", b"a"] {
-                if numbers.below(3) == 0 {
-                    let action = Action::new(alloc, name.as_slice())?;
-                    edges.push(Edge {
-                        source,
-                        action,
-                        target,
-                    })?;
-                }
-            }
-        }
-    }
-    Ok(Structure::build(alloc, states, labels, edges)?)
-}
-
-// does the problem hold by the sets that its formula means?
-fn by_meaning(
-    alloc: Global,
-    problem: &Problem,
-    structure: &Structure,
-    state: u32,
-) -> Result<bool, Fail>
-    requires { state < structure.now.states }
-{
-    match &problem.formula {
-        AnyFormula::Mu(formula) => {
-            Ok(ml_mu::holds(alloc, formula, structure, state)? != problem.negated)
-        }
-        AnyFormula::Pdl(formula) => {
-            Ok(ml_pdl_meaning::holds(alloc, formula, structure, state)? != problem.negated)
-        }
-        // no set is computed of these
-        AnyFormula::Ctl(_) | AnyFormula::Ltl(_) => by_game(alloc, problem, structure, state),
-    }
-}
-
-// does it by the checking game of its graph?
+// does the problem hold by the checking game of its graph?
 fn by_game(
     alloc: Global,
     problem: &Problem,
@@ -142,10 +46,11 @@ fn agree(alloc: Global, problem: &Problem, structure: &Structure) -> Result<bool
 fn agree_on(
     alloc: Global,
     numbers: &mut Numbers,
+    logic: Logic,
     text: &[u8],
     structure: &Structure,
 ) -> Result<Option<bool>, Fail> {
-    match read(alloc, Logic::Mu, text) {
+    match read(alloc, logic, text) {
         Ok(plain) => {
             let problem = if numbers.below(2) == 0 {
                 plain
@@ -164,14 +69,27 @@ fn meaning_and_game_agree(rt: HostRuntime) -> Result<(), Fail> {
     let mut numbers = Numbers::new(1);
     let mut formulas = 0_u32;
     for _ in 0..800 {
-        let text = random_text(alloc, &mut numbers)?;
+        let text = of_the_mu_calculus(alloc, &mut numbers)?;
         let structure = random_structure(alloc, &mut numbers)?;
-        if let Some(agree) = agree_on(alloc, &mut numbers, &text, &structure)? {
+        if let Some(agree) = agree_on(alloc, &mut numbers, Logic::Mu, &text, &structure)? {
             assert!(rt; agree, "{text:?}");
             formulas = formulas.saturating_add(1);
         }
     }
     assert!(rt; formulas > 300, "{formulas}");
+    Ok(())
+}
+
+#[test]
+fn meaning_and_game_of_pdl_agree(rt: HostRuntime) -> Result<(), Fail> {
+    let alloc = rt.alloc();
+    let mut numbers = Numbers::new(1);
+    for _ in 0..400 {
+        let text = of_pdl(alloc, &mut numbers)?;
+        let structure = random_structure(alloc, &mut numbers)?;
+        let agree = agree_on(alloc, &mut numbers, Logic::Pdl, &text, &structure)?;
+        assert_eq!(rt; agree, Some(true), "{text:?}");
+    }
     Ok(())
 }
 
@@ -190,7 +108,7 @@ fn first_apart(alloc: Global, texts: &[&'static [u8]]) -> Result<Option<usize>, 
     let mut numbers = Numbers::new(3);
     for (place, text) in texts.iter().enumerate() {
         let structure = random_structure(alloc, &mut numbers)?;
-        if agree_on(alloc, &mut numbers, text, &structure)? != Some(true) {
+        if agree_on(alloc, &mut numbers, Logic::Mu, text, &structure)? != Some(true) {
             return Ok(Some(place));
         }
     }

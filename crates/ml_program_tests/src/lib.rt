@@ -4,9 +4,10 @@
 //
 //   checking_tests  the meaning of formulas against the checking game, on formulas and structures that look random
 //   meaning_tests   formulas with the states at which they hold
-//   pdl_checking_tests  the meaning of PDL against the checking game, on formulas and structures that look random
+//   meanings        the states at which formulas hold, by the sets that they mean
 //   pdl_meaning_tests  formulas of PDL with the states at which they hold, and programs with the pairs they relate
 //   program_tests   ends that fail, and input and output in pieces of one byte
+//   random_texts    texts of formulas that look random
 //   structures      structures of which tests speak
 #![tactic(auto)]
 
@@ -15,10 +16,12 @@ mod checking_tests;
 #[cfg(test)]
 mod meaning_tests;
 #[cfg(test)]
-mod pdl_checking_tests;
+mod meanings;
 #[cfg(test)]
 mod pdl_meaning_tests;
 #[cfg(test)]
 mod program_tests;
+#[cfg(test)]
+mod random_texts;
 #[cfg(test)]
 mod structures;

@@ -1,55 +1,21 @@
 // Formulas with the states at which they hold, worked out by hand.
-ghost use Rattle.std.specs.Prelude.{◌<◌};
-
+use crate::meanings::{Row, first_wrong};
 use crate::structures::four_states;
-use ml_kripke::Structure;
-use ml_mu::{evaluate, holds, parse};
+use ml_front::Logic;
 use std::alloc::Global;
 use std::test::Fail;
 
-// Four states. By `_`: from 0 to 1, and 1 and 2 to each other. By `a`: from 2 to 3, and 3 to itself.
-// p holds at 2, q at 1 and at 3.
-fn structure(alloc: Global) -> Result<Structure, Fail> {
-    four_states(
-        alloc,
-        [(1, b"q"), (2, b"p"), (3, b"q")],
-        [
-            (0, b"_", 1),
-            (1, b"_", 2),
-            (2, b"_", 1),
-            (2, b"a", 3),
-            (3, b"a", 3),
-        ],
-    )
+// The place of the first row that is wrong on the four states with the actions `_` and a.
+fn wrong(alloc: Global, rows: &[Row]) -> Result<Option<usize>, Fail> {
+    let structure = four_states(alloc, b"_", b"a")?;
+    first_wrong(alloc, Logic::Mu, &structure, rows)
 }
 
-// Does the formula of this text hold at these states and at no others?
-fn means(
-    alloc: Global,
-    structure: &Structure,
-    text: &[u8],
-    states: [bool; 4],
-) -> Result<bool, Fail> {
-    let formula = parse(alloc, text)?;
-    let set = evaluate(alloc, &formula, structure)?;
-    Ok(set.as_slice() == states.as_slice())
-}
-
-// The place of the first text that doesn't hold at its states and at no others.
-fn first_wrong(alloc: Global, rows: &[(&'static [u8], [bool; 4])]) -> Result<Option<usize>, Fail> {
-    let structure = structure(alloc)?;
-    for (place, (text, states)) in rows.iter().enumerate() {
-        if !means(alloc, &structure, text, *states)? {
-            return Ok(Some(place));
-        }
-    }
-    Ok(None)
-}
-
-const MEANINGS: [(&'static [u8], [bool; 4]); 12] = [
+const MEANINGS: [Row; 13] = [
     (b"tt", [true, true, true, true]),
     (b"p -> q", [true, true, false, true]),
     (b"p <-> q", [true, false, false, false]),
+    (b"!p & q", [false, true, false, true]),
     (b"<>q", [true, false, true, false]),
     (b"<a>q", [false, false, true, true]),
     (b"[]q", [true, false, true, true]),
@@ -64,11 +30,11 @@ const MEANINGS: [(&'static [u8], [bool; 4]); 12] = [
 
 #[test]
 fn meanings(rt: HostRuntime) -> Result<(), Fail> {
-    assert_eq!(rt; first_wrong(rt.alloc(), &MEANINGS)?, None);
+    assert_eq!(rt; wrong(rt.alloc(), &MEANINGS)?, None);
     Ok(())
 }
 
-const FIXPOINTS: [(&'static [u8], [bool; 4]); 9] = [
+const FIXPOINTS: [Row; 9] = [
     // nested: p again and again, and q for ever from some time on
     (b"nu X. mu Y. <>((p & X) | Y)", [true, true, true, false]),
     (b"mu X. nu Y. (q & <a>Y) | <a>X", [false, false, true, true]),
@@ -85,25 +51,6 @@ const FIXPOINTS: [(&'static [u8], [bool; 4]); 9] = [
 
 #[test]
 fn meanings_of_fixpoints(rt: HostRuntime) -> Result<(), Fail> {
-    assert_eq!(rt; first_wrong(rt.alloc(), &FIXPOINTS)?, None);
-    Ok(())
-}
-
-// Does the formula of this text hold at the state?
-fn holds_at(alloc: Global, structure: &Structure, text: &[u8], state: u32) -> Result<bool, Fail>
-    requires { state < structure.now.states }
-{
-    let formula = parse(alloc, text)?;
-    Ok(holds(alloc, &formula, structure, state)?)
-}
-
-#[test]
-fn states(rt: HostRuntime) -> Result<(), Fail> {
-    let structure = structure(rt.alloc())?;
-    if structure.states() != 4 {
-        return Err(Fail::new("other states"));
-    }
-    assert!(rt; holds_at(rt.alloc(), &structure, b"!p & q", 1)?);
-    assert!(rt; !holds_at(rt.alloc(), &structure, b"!p & q", 2)?);
+    assert_eq!(rt; wrong(rt.alloc(), &FIXPOINTS)?, None);
     Ok(())
 }

@@ -1,50 +1,21 @@
 // Formulas of PDL with the states at which they hold, and programs with the pairs that they relate, worked out by hand.
-ghost use Rattle.std.specs.Prelude.{◌<◌};
-
+use crate::meanings::{Row, first_wrong};
 use crate::structures::four_states;
+use ml_front::Logic;
 use ml_kripke::Structure;
 use ml_pdl::{Program, Term, parse};
-use ml_pdl_meaning::{evaluate, holds, relates};
+use ml_pdl_meaning::relates;
 use std::alloc::Global;
 use std::test::Fail;
 
-// Four states. By `a`: from 0 to 1, and 1 and 2 to each other. By `b`: from 2 to 3, and 3 to itself.
-// p holds at 2, q at 1 and at 3.
+// The four states with the actions a and b.
 fn structure(alloc: Global) -> Result<Structure, Fail> {
-    four_states(
-        alloc,
-        [(1, b"q"), (2, b"p"), (3, b"q")],
-        [
-            (0, b"a", 1),
-            (1, b"a", 2),
-            (2, b"a", 1),
-            (2, b"b", 3),
-            (3, b"b", 3),
-        ],
-    )
+    four_states(alloc, b"a", b"b")
 }
 
-// Does the formula of this text hold at these states and at no others?
-fn means(
-    alloc: Global,
-    structure: &Structure,
-    text: &[u8],
-    states: [bool; 4],
-) -> Result<bool, Fail> {
-    let formula = parse(alloc, text)?;
-    let set = evaluate(alloc, &formula, structure)?;
-    Ok(set.as_slice() == states.as_slice())
-}
-
-// The place of the first text that doesn't hold at its states and at no others.
-fn first_wrong(alloc: Global, rows: &[(&'static [u8], [bool; 4])]) -> Result<Option<usize>, Fail> {
-    let structure = structure(alloc)?;
-    for (place, (text, states)) in rows.iter().enumerate() {
-        if !means(alloc, &structure, text, *states)? {
-            return Ok(Some(place));
-        }
-    }
-    Ok(None)
+// The place of the first row that is wrong on them.
+fn wrong(alloc: Global, rows: &[Row]) -> Result<Option<usize>, Fail> {
+    first_wrong(alloc, Logic::Pdl, &structure(alloc)?, rows)
 }
 
 // Does the program relate these pairs and no others?
@@ -78,7 +49,7 @@ fn relates_pairs(
     }
 }
 
-const MODALITIES: [(&'static [u8], [bool; 4]); 12] = [
+const MODALITIES: [Row; 12] = [
     (b"tt", [true, true, true, true]),
     (b"p -> q", [true, true, false, true]),
     (b"p <-> q", [true, false, false, false]),
@@ -95,12 +66,13 @@ const MODALITIES: [(&'static [u8], [bool; 4]); 12] = [
 
 #[test]
 fn modalities(rt: HostRuntime) -> Result<(), Fail> {
-    assert_eq!(rt; first_wrong(rt.alloc(), &MODALITIES)?, None);
+    assert_eq!(rt; wrong(rt.alloc(), &MODALITIES)?, None);
     Ok(())
 }
 
-const STARS: [(&'static [u8], [bool; 4]); 9] = [
+const STARS: [Row; 10] = [
     (b"<a*>p", [true, true, true, false]),
+    (b"<a*>p & !p", [true, true, false, false]),
     (b"[a*]q", [false, false, false, true]),
     (b"<(a;a)*>p", [true, false, true, false]),
     (b"<(a;a)*;a>p", [false, true, false, false]),
@@ -114,11 +86,11 @@ const STARS: [(&'static [u8], [bool; 4]); 9] = [
 
 #[test]
 fn stars(rt: HostRuntime) -> Result<(), Fail> {
-    assert_eq!(rt; first_wrong(rt.alloc(), &STARS)?, None);
+    assert_eq!(rt; wrong(rt.alloc(), &STARS)?, None);
     Ok(())
 }
 
-const TESTS: [(&'static [u8], [bool; 4]); 12] = [
+const TESTS: [Row; 12] = [
     (b"<p?>tt", [false, false, true, false]),
     (b"[p?]q", [true, true, false, true]),
     (b"<ff?>tt", [false, false, false, false]),
@@ -138,11 +110,11 @@ const TESTS: [(&'static [u8], [bool; 4]); 12] = [
 
 #[test]
 fn tests_of_formulas(rt: HostRuntime) -> Result<(), Fail> {
-    assert_eq!(rt; first_wrong(rt.alloc(), &TESTS)?, None);
+    assert_eq!(rt; wrong(rt.alloc(), &TESTS)?, None);
     Ok(())
 }
 
-const REPETITIONS: [(&'static [u8], [bool; 4]); 10] = [
+const REPETITIONS: [Row; 10] = [
     (b"repeat(a)", [true, true, true, false]),
     (b"repeat(b)", [false, false, true, true]),
     (b"repeat(a;b)", [false, false, false, false]),
@@ -158,11 +130,11 @@ const REPETITIONS: [(&'static [u8], [bool; 4]); 10] = [
 
 #[test]
 fn repetitions(rt: HostRuntime) -> Result<(), Fail> {
-    assert_eq!(rt; first_wrong(rt.alloc(), &REPETITIONS)?, None);
+    assert_eq!(rt; wrong(rt.alloc(), &REPETITIONS)?, None);
     Ok(())
 }
 
-const REPETITIONS_INSIDE: [(&'static [u8], [bool; 4]); 9] = [
+const REPETITIONS_INSIDE: [Row; 9] = [
     (b"!repeat(a)", [false, false, false, true]),
     (b"<a>repeat(b)", [false, true, false, false]),
     (b"[a]repeat(b)", [false, true, false, true]),
@@ -180,7 +152,7 @@ const REPETITIONS_INSIDE: [(&'static [u8], [bool; 4]); 9] = [
 
 #[test]
 fn repetitions_inside(rt: HostRuntime) -> Result<(), Fail> {
-    assert_eq!(rt; first_wrong(rt.alloc(), &REPETITIONS_INSIDE)?, None);
+    assert_eq!(rt; wrong(rt.alloc(), &REPETITIONS_INSIDE)?, None);
     Ok(())
 }
 
@@ -211,24 +183,5 @@ fn stars_and_tests(rt: HostRuntime) -> Result<(), Fail> {
             &[(0, 0), (1, 1), (1, 2), (2, 2), (3, 3)]
         )?
     );
-    Ok(())
-}
-
-// Does the formula of this text hold at the state?
-fn holds_at(alloc: Global, structure: &Structure, text: &[u8], state: u32) -> Result<bool, Fail>
-    requires { state < structure.now.states }
-{
-    let formula = parse(alloc, text)?;
-    Ok(holds(alloc, &formula, structure, state)?)
-}
-
-#[test]
-fn states(rt: HostRuntime) -> Result<(), Fail> {
-    let structure = structure(rt.alloc())?;
-    if structure.states() != 4 {
-        return Err(Fail::new("other states"));
-    }
-    assert!(rt; holds_at(rt.alloc(), &structure, b"<a*>p & !p", 1)?);
-    assert!(rt; !holds_at(rt.alloc(), &structure, b"<a*>p & !p", 2)?);
     Ok(())
 }

@@ -7,14 +7,12 @@ use crate::numbers::Numbers;
 use ml_parity::{Arc, OneSided};
 use std::alloc::Global;
 
-/// The graph of these arcs, if they are those of one.
-fn checked(size: u64, top: u32, arcs: Vec<Arc>) -> Result<OneSided, NotMade>
+// The graph of these arcs, if they are those of one.
+pub(crate) fn checked(size: u64, top: u32, arcs: Vec<Arc>) -> Result<OneSided, NotMade>
     ensures { IfOk result (λ g. g ≡ graph_of size top arcs) }
 {
-    let low = arcs.iter().all(|arc| arc.priority <= top);
-    let begins = arcs.iter().all(|arc| arc.from < size);
-    let ends = arcs.iter().all(|arc| arc.to < size);
-    if top % 2 == 0 && low && begins && ends {
+    let are_in = arcs.iter().all(|arc| arc.priority <= top && arc.from < size && arc.to < size);
+    if top % 2 == 0 && are_in {
         Ok(OneSided::build(size, top, arcs))
     } else {
         Err(NotMade::TooLarge)

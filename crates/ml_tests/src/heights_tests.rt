@@ -1,43 +1,27 @@
 // Small graphs worked out by hand: heights, and even cycles.
-
+use crate::graphs::{chain, checked};
+use crate::not_made::NotMade;
 use ml_parity::{Arc, Heights, OneSided, heights, heights_ok};
 use std::alloc::{AllocError, Global};
 use std::test::Fail;
 
-/// An arc: where it begins, its priority, and where it ends.
+// An arc: where it begins, its priority, and where it ends.
 type Row = (u64, u32, u64);
 
-/// The graph of these arcs, if they are those of one.
-fn checked(size: u64, top: u32, arcs: Vec<Arc>) -> Option<OneSided> {
-    let low = arcs.iter().all(|arc| arc.priority <= top);
-    let begins = arcs.iter().all(|arc| arc.from < size);
-    let ends = arcs.iter().all(|arc| arc.to < size);
-    if top % 2 == 0 && low && begins && ends {
-        Some(OneSided::build(size, top, arcs))
-    } else {
-        None
-    }
-}
-
-/// The graph of these rows, if they are those of one.
-fn graph_of_rows(
-    alloc: Global,
-    size: u64,
-    top: u32,
-    rows: &[Row],
-) -> Result<Option<OneSided>, AllocError> {
+// The arcs of these rows.
+fn arcs_of(alloc: Global, rows: &[Row]) -> Result<Vec<Arc>, AllocError> {
     let mut arcs = Vec::new(alloc);
-    for row in rows {
+    for (from, priority, to) in rows {
         arcs.push(Arc {
-            from: row.0,
-            priority: row.1,
-            to: row.2,
+            from: *from,
+            priority: *priority,
+            to: *to,
         })?;
     }
-    Ok(checked(size, top, arcs))
+    Ok(arcs)
 }
 
-/// The numbers as heights.
+// The numbers as heights.
 fn heights_of_rows(alloc: Global, numbers: &[&[u64]]) -> Result<Heights, AllocError> {
     let mut rows = Vec::new(alloc);
     for row in numbers {
@@ -46,175 +30,153 @@ fn heights_of_rows(alloc: Global, numbers: &[&[u64]]) -> Result<Heights, AllocEr
     Ok(Heights { rows })
 }
 
-/// Whether these are the heights that are found of the graph of these arcs.
-fn has_heights(
+// What is found in a graph.
+#[derive(Clone, Copy)]
+enum Found {
+    // these heights
+    Heights(&'static [&'static [u64]]),
+    // this even cycle
+    Cycle(&'static [Row]),
+}
+
+// Is this what is found in the graph?
+fn is_found(alloc: Global, graph: &OneSided, wanted: Found) -> Result<bool, Fail> {
+    match (heights(alloc, graph)?, wanted) {
+        (Ok(found), Found::Heights(rows)) => {
+            Ok(heights_ok(graph, &found) && found.rows == heights_of_rows(alloc, rows)?.rows)
+        }
+        (Err(found), Found::Cycle(arcs)) => Ok(found.arcs == arcs_of(alloc, arcs)?),
+        _ => Ok(false),
+    }
+}
+
+// The size of a graph, its top and its arcs, and what is found in it.
+type Worked = (u64, u32, &'static [Row], Found);
+
+// The place of the first graph in which another thing is found.
+fn first_wrong(alloc: Global, rows: &[Worked]) -> Result<Option<usize>, Fail> {
+    for (place, (size, top, arcs, wanted)) in rows.iter().enumerate() {
+        let graph = checked(*size, *top, arcs_of(alloc, arcs)?)?;
+        if !is_found(alloc, &graph, *wanted)? {
+            return Ok(Some(place));
+        }
+    }
+    Ok(None)
+}
+
+const SMALL: [Worked; 9] = [
+    // no vertex
+    (0, 0, &[], Found::Heights(&[])),
+    // loops of one priority
+    (1, 2, &[(0, 0, 0)], Found::Cycle(&[(0, 0, 0)])),
+    (1, 2, &[(0, 1, 0)], Found::Heights(&[&[0, 0]])),
+    (1, 2, &[(0, 2, 0)], Found::Cycle(&[(0, 2, 0)])),
+    // an arc of another priority on the way does not count
+    (
+        4,
+        2,
+        &[(0, 0, 1), (1, 1, 2), (2, 0, 3)],
+        Found::Heights(&[&[2, 0], &[1, 0], &[1, 0], &[0, 0]]),
+    ),
+    // an arc twice, and a cycle of odd lowest priority beside it
+    (
+        2,
+        2,
+        &[(0, 1, 1), (1, 1, 0), (0, 2, 1), (0, 2, 1)],
+        Found::Heights(&[&[0, 1], &[0, 0]]),
+    ),
+    // an arc of a lower priority is not followed
+    (
+        2,
+        2,
+        &[(0, 1, 1), (1, 2, 0)],
+        Found::Heights(&[&[0, 0], &[0, 1]]),
+    ),
+    // round a cycle, and out of it; and a part of its own
+    (
+        4,
+        4,
+        &[(0, 3, 1), (1, 3, 0), (1, 2, 2), (3, 1, 3)],
+        Found::Heights(&[&[0, 1, 0], &[0, 1, 0], &[0, 0, 0], &[0, 0, 0]]),
+    ),
+    // the lowest priority of a cycle decides
+    (
+        2,
+        4,
+        &[(0, 3, 1), (1, 2, 0)],
+        Found::Cycle(&[(0, 3, 1), (1, 2, 0)]),
+    ),
+];
+
+#[test]
+fn heights_and_cycles_of_small_graphs(rt: HostRuntime) -> Result<(), Fail> {
+    assert_eq!(rt; first_wrong(rt.alloc(), &SMALL)?, None);
+    Ok(())
+}
+
+// Numbers, and are they heights of the graph with the arcs (0, 0, 1) and (1, 1, 1)?
+const NUMBERS: [(&'static [&'static [u64]], bool); 7] = [
+    (&[&[1, 0], &[0, 0]], true),
+    // larger numbers that fall are heights too
+    (&[&[9, 5], &[3, 7]], true),
+    // the height for 0 stays equal
+    (&[&[0, 0], &[0, 0]], false),
+    (&[&[0, 0], &[1, 0]], false),
+    (&[&[1, 0]], false),
+    (&[&[1, 0], &[0]], false),
+    (&[&[1, 0], &[0, 0], &[0, 0]], false),
+];
+
+// The place of the first numbers of which it is told otherwise.
+fn first_told_wrong(
     alloc: Global,
-    size: u64,
-    top: u32,
-    arcs: &[Row],
-    wanted: &[&[u64]],
-) -> Result<bool, Fail> {
-    let graph = graph_of_rows(alloc, size, top, arcs)?.ok_or("no graph")?;
-    let Ok(found) = heights(alloc, &graph)? else {
-        return Ok(false);
-    };
-    let rows = found.rows.iter().map(Vec::as_slice);
-    Ok(
-        heights_ok(&graph, &found)
-            && found.rows.len() == wanted.len()
-            && rows.zip(wanted).all(|(row, wanted)| row == *wanted),
-    )
-}
-
-/// Whether this is the even cycle that is found in the graph of these arcs.
-fn has_cycle(
-    alloc: Global,
-    size: u64,
-    top: u32,
-    arcs: &[Row],
-    wanted: &[Row],
-) -> Result<bool, Fail> {
-    let graph = graph_of_rows(alloc, size, top, arcs)?.ok_or("no graph")?;
-    let Err(found) = heights(alloc, &graph)? else {
-        return Ok(false);
-    };
-    let arcs = found.arcs.iter();
-    Ok(
-        found.arcs.len() == wanted.len()
-            && arcs.zip(wanted).all(|(arc, wanted)| (arc.from, arc.priority, arc.to) == *wanted),
-    )
-}
-
-#[test]
-fn no_vertex(rt: HostRuntime) -> Result<(), Fail> {
-    assert!(rt; has_heights(rt.alloc(), 0, 0, &[], &[])?);
-    Ok(())
-}
-
-#[test]
-fn even_loop(rt: HostRuntime) -> Result<(), Fail> {
-    assert!(rt; has_cycle(rt.alloc(), 1, 2, &[(0, 0, 0)], &[(0, 0, 0)])?);
-    Ok(())
-}
-
-#[test]
-fn odd_loop(rt: HostRuntime) -> Result<(), Fail> {
-    assert!(rt; has_heights(rt.alloc(), 1, 2, &[(0, 1, 0)], &[&[0, 0]])?);
-    Ok(())
-}
-
-#[test]
-fn loop_of_the_top(rt: HostRuntime) -> Result<(), Fail> {
-    assert!(rt; has_cycle(rt.alloc(), 1, 2, &[(0, 2, 0)], &[(0, 2, 0)])?);
-    Ok(())
-}
-
-// An arc of another priority on the way does not count.
-#[test]
-fn chain_of_two_priorities(rt: HostRuntime) -> Result<(), Fail> {
-    let arcs = [(0, 0, 1), (1, 1, 2), (2, 0, 3)];
-    assert!(rt;
-        has_heights(
-            rt.alloc(),
-            4,
-            2,
-            &arcs,
-            &[&[2, 0], &[1, 0], &[1, 0], &[0, 0]]
-        )?
-    );
-    Ok(())
-}
-
-// An arc twice, and a cycle of odd lowest priority beside it.
-#[test]
-fn arc_twice(rt: HostRuntime) -> Result<(), Fail> {
-    let arcs = [(0, 1, 1), (1, 1, 0), (0, 2, 1), (0, 2, 1)];
-    assert!(rt; has_heights(rt.alloc(), 2, 2, &arcs, &[&[0, 1], &[0, 0]])?);
-    Ok(())
-}
-
-// An arc of a lower priority is not followed.
-#[test]
-fn lower_priority(rt: HostRuntime) -> Result<(), Fail> {
-    assert!(rt;
-        has_heights(
-            rt.alloc(),
-            2,
-            2,
-            &[(0, 1, 1), (1, 2, 0)],
-            &[&[0, 0], &[0, 1]]
-        )?
-    );
-    Ok(())
-}
-
-// Round a cycle, and out of it; and a part of its own.
-#[test]
-fn out_of_a_cycle(rt: HostRuntime) -> Result<(), Fail> {
-    let arcs = [(0, 3, 1), (1, 3, 0), (1, 2, 2), (3, 1, 3)];
-    let wanted: [&[u64]; 4] = [&[0, 1, 0], &[0, 1, 0], &[0, 0, 0], &[0, 0, 0]];
-    assert!(rt; has_heights(rt.alloc(), 4, 4, &arcs, &wanted)?);
-    Ok(())
-}
-
-#[test]
-fn lowest_priority_of_a_cycle_decides(rt: HostRuntime) -> Result<(), Fail> {
-    let arcs = [(0, 3, 1), (1, 2, 0)];
-    assert!(rt; has_cycle(rt.alloc(), 2, 4, &arcs, &arcs)?);
-    Ok(())
+    graph: &OneSided,
+    table: &[(&'static [&'static [u64]], bool)],
+) -> Result<Option<usize>, AllocError> {
+    for (place, (rows, wanted)) in table.iter().enumerate() {
+        if heights_ok(graph, &heights_of_rows(alloc, rows)?) != *wanted {
+            return Ok(Some(place));
+        }
+    }
+    Ok(None)
 }
 
 #[test]
 fn which_numbers_are_heights(rt: HostRuntime) -> Result<(), Fail> {
-    let alloc = rt.alloc();
-    let graph = graph_of_rows(alloc, 2, 2, &[(0, 0, 1), (1, 1, 1)])?.ok_or("no graph")?;
-    let table: [(&[&[u64]], bool); 7] = [
-        (&[&[1, 0], &[0, 0]], true),
-        // larger numbers that fall are heights too
-        (&[&[9, 5], &[3, 7]], true),
-        // the height for 0 stays equal
-        (&[&[0, 0], &[0, 0]], false),
-        (&[&[0, 0], &[1, 0]], false),
-        (&[&[1, 0]], false),
-        (&[&[1, 0], &[0]], false),
-        (&[&[1, 0], &[0, 0], &[0, 0]], false),
-    ];
-    for (rows, wanted) in table {
-        let numbers = heights_of_rows(alloc, rows)?;
-        assert_eq!(rt; heights_ok(&graph, &numbers), wanted);
-    }
+    let graph = checked(2, 2, arcs_of(rt.alloc(), &[(0, 0, 1), (1, 1, 1)])?)?;
+    assert_eq!(rt; first_told_wrong(rt.alloc(), &graph, &NUMBERS)?, None);
     Ok(())
+}
+
+// The height of a vertex for the lowest priority.
+fn height(alloc: Global, graph: &OneSided, vertex: usize) -> Result<Option<u64>, Fail> {
+    let Ok(found) = heights(alloc, graph)? else {
+        return Ok(None);
+    };
+    match found.rows.get(vertex) {
+        Some(row) => Ok(row.first().copied()),
+        None => Ok(None),
+    }
+}
+
+// A chain of a thousand arcs that lead down.
+fn chain_down(alloc: Global) -> Result<OneSided, NotMade> {
+    let mut arcs = Vec::new(alloc);
+    for to in 0..1000 {
+        arcs.push(Arc {
+            from: to + 1,
+            priority: 0,
+            to,
+        })?;
+    }
+    checked(1001, 0, arcs)
 }
 
 #[test]
 fn long_chains(rt: HostRuntime) -> Result<(), Fail> {
-    let alloc = rt.alloc();
-    let length: u64 = 1000;
-    let mut up = Vec::new(alloc);
-    let mut down = Vec::new(alloc);
-    for k in 0..length {
-        up.push(Arc {
-            from: k,
-            priority: 0,
-            to: k + 1,
-        })?;
-        down.push(Arc {
-            from: k + 1,
-            priority: 0,
-            to: k,
-        })?;
-    }
-    let up = checked(length + 1, 0, up).ok_or("no graph")?;
-    let down = checked(length + 1, 0, down).ok_or("no graph")?;
-    let up = heights(alloc, &up)?.ok().ok_or("a cycle")?;
-    let down = heights(alloc, &down)?.ok().ok_or("a cycle")?;
-    assert_eq!(rt;
-        up.rows.first().and_then(|row| row.first().copied()),
-        Some(length)
-    );
-    assert_eq!(rt;
-        down.rows.last().and_then(|row| row.first().copied()),
-        Some(length)
-    );
+    let up = chain(rt.alloc(), 1000)?;
+    assert_eq!(rt; height(rt.alloc(), &up, 0)?, Some(1000));
+    let down = chain_down(rt.alloc())?;
+    assert_eq!(rt; height(rt.alloc(), &down, 1000)?, Some(1000));
     Ok(())
 }

@@ -1,18 +1,18 @@
 // Small games worked out by hand: what `Game::build` refuses, and who wins by the two solvers.
-
+use ml_base::NoMemory;
 use ml_parity::plain::solve_plain;
-use ml_parity::{Game, GameRefusal, Player, solve};
+use ml_parity::{Game, GameRefusal, Player, Solution, solve};
 use std::alloc::{AllocError, Global};
 use std::test::Fail;
 
-/// A vertex: its owner, its priority and its successors.
+// A vertex: its owner, its priority and its successors.
 type Row = (Player, u32, &'static [u64]);
 
 const E: Player = Player::Even;
 
 const O: Player = Player::Odd;
 
-/// The game of these rows.
+// The game of these rows.
 fn game_of_rows(alloc: Global, rows: &[Row]) -> Result<Result<Game, GameRefusal>, AllocError> {
     let mut owner = Vec::new(alloc);
     let mut priority = Vec::new(alloc);
@@ -25,119 +25,103 @@ fn game_of_rows(alloc: Global, rows: &[Row]) -> Result<Result<Game, GameRefusal>
     Ok(Game::build(owner, priority, successors))
 }
 
+// Why the game of these rows is refused, if it is.
+fn refusal(alloc: Global, rows: &[Row]) -> Result<Option<GameRefusal>, AllocError> {
+    Ok(game_of_rows(alloc, rows)?.err())
+}
+
 #[test]
 fn build_refuses_the_least_vertex(rt: HostRuntime) -> Result<(), Fail> {
     let alloc = rt.alloc();
-    let dead_end = game_of_rows(alloc, &[(E, 0, &[])])?;
-    assert_eq!(rt; dead_end.err(), Some(GameRefusal::DeadEnd(0)));
-    let out_of_range = game_of_rows(alloc, &[(E, 0, &[1])])?;
-    assert_eq!(rt; out_of_range.err(), Some(GameRefusal::OutOfRange(0)));
-    let dead_ends = game_of_rows(alloc, &[(E, 0, &[3]), (O, 0, &[]), (O, 0, &[])])?;
-    assert_eq!(rt; dead_ends.err(), Some(GameRefusal::DeadEnd(1)));
+    assert_eq!(rt;
+        refusal(alloc, &[(E, 0, &[])])?,
+        Some(GameRefusal::DeadEnd(0))
+    );
+    assert_eq!(rt;
+        refusal(alloc, &[(E, 0, &[1])])?,
+        Some(GameRefusal::OutOfRange(0))
+    );
+    let dead_ends = [(E, 0, [3].as_slice()), (O, 0, &[]), (O, 0, &[])];
+    assert_eq!(rt; refusal(alloc, &dead_ends)?, Some(GameRefusal::DeadEnd(1)));
     Ok(())
 }
 
-/// A game, its winners and the choices of the plain solver.
-#[derive(Clone, Copy)]
-struct Worked {
-    rows: &'static [Row],
-    winner: &'static [Player],
-    choice: &'static [u64],
+// A game, its winners, and the choices of both solvers.
+type Worked = (&'static [Row], &'static [Player], &'static [u64]);
+
+const WORKED: [Worked; 13] = [
+    // no vertex
+    (&[], &[], &[]),
+    // a loop of one vertex: the owner does not matter
+    (&[(E, 0, &[0])], &[E], &[0]),
+    (&[(O, 0, &[0])], &[E], &[0]),
+    (&[(E, 1, &[0])], &[O], &[0]),
+    // a loop of two vertices: the lowest priority decides, not the highest
+    (&[(E, 2, &[1]), (E, 1, &[0])], &[O, O], &[1, 0]),
+    (&[(E, 0, &[1]), (O, 1, &[0])], &[E, E], &[1, 0]),
+    // the first successor is not the move that wins
+    (&[(E, 1, &[0, 1]), (O, 0, &[1])], &[E, E], &[1, 1]),
+    // a choice between two loops
+    (
+        &[(E, 5, &[1, 2]), (E, 1, &[1]), (E, 2, &[2])],
+        &[E, O, E],
+        &[2, 1, 2],
+    ),
+    (
+        &[(O, 5, &[1, 2]), (E, 2, &[1]), (E, 1, &[2])],
+        &[O, E, O],
+        &[2, 1, 2],
+    ),
+    // staying is better than moving on
+    (&[(O, 1, &[0, 1]), (O, 0, &[0])], &[O, O], &[0, 0]),
+    // a choice between two ways round
+    (
+        &[(E, 3, &[1, 2]), (O, 2, &[0]), (O, 1, &[0])],
+        &[E, E, E],
+        &[1, 0, 0],
+    ),
+    (
+        &[(O, 4, &[1, 2]), (E, 3, &[0]), (E, 2, &[0])],
+        &[O, O, O],
+        &[1, 0, 0],
+    ),
+    // a player who keeps out of the vertex that the opponent wants
+    (
+        &[(E, 1, &[1]), (O, 1, &[2, 0]), (E, 0, &[2])],
+        &[O, O, E],
+        &[1, 0, 2],
+    ),
+];
+
+// Is this a solution with these winners and choices?
+fn is(solution: &Solution, winner: &[Player], choice: &[u64]) -> bool {
+    solution.winner.as_slice() == winner && solution.choice.as_slice() == choice
 }
 
-#[test]
-fn the_plain_solver_on_small_games(rt: HostRuntime) -> Result<(), Fail> {
-    let table = [
-        // no vertex
-        Worked {
-            rows: &[],
-            winner: &[],
-            choice: &[],
-        },
-        // a loop of one vertex: the owner does not matter
-        Worked {
-            rows: &[(E, 0, &[0])],
-            winner: &[E],
-            choice: &[0],
-        },
-        Worked {
-            rows: &[(O, 0, &[0])],
-            winner: &[E],
-            choice: &[0],
-        },
-        Worked {
-            rows: &[(E, 1, &[0])],
-            winner: &[O],
-            choice: &[0],
-        },
-        // a loop of two vertices: the lowest priority decides, not the highest
-        Worked {
-            rows: &[(E, 2, &[1]), (E, 1, &[0])],
-            winner: &[O, O],
-            choice: &[1, 0],
-        },
-        Worked {
-            rows: &[(E, 0, &[1]), (O, 1, &[0])],
-            winner: &[E, E],
-            choice: &[1, 0],
-        },
-        // the first successor is not the move that wins
-        Worked {
-            rows: &[(E, 1, &[0, 1]), (O, 0, &[1])],
-            winner: &[E, E],
-            choice: &[1, 1],
-        },
-        // a choice between two loops
-        Worked {
-            rows: &[(E, 5, &[1, 2]), (E, 1, &[1]), (E, 2, &[2])],
-            winner: &[E, O, E],
-            choice: &[2, 1, 2],
-        },
-        Worked {
-            rows: &[(O, 5, &[1, 2]), (E, 2, &[1]), (E, 1, &[2])],
-            winner: &[O, E, O],
-            choice: &[2, 1, 2],
-        },
-        // staying is better than moving on
-        Worked {
-            rows: &[(O, 1, &[0, 1]), (O, 0, &[0])],
-            winner: &[O, O],
-            choice: &[0, 0],
-        },
-        // a choice between two ways round
-        Worked {
-            rows: &[(E, 3, &[1, 2]), (O, 2, &[0]), (O, 1, &[0])],
-            winner: &[E, E, E],
-            choice: &[1, 0, 0],
-        },
-        Worked {
-            rows: &[(O, 4, &[1, 2]), (E, 3, &[0]), (E, 2, &[0])],
-            winner: &[O, O, O],
-            choice: &[1, 0, 0],
-        },
-        // a player who keeps out of the vertex that the opponent wants
-        Worked {
-            rows: &[(E, 1, &[1]), (O, 1, &[2, 0]), (E, 0, &[2])],
-            winner: &[O, O, E],
-            choice: &[1, 0, 2],
-        },
-    ];
-    let alloc = rt.alloc();
-    for worked in &table {
-        let game = game_of_rows(alloc, worked.rows)??;
-        let solution = solve_plain(alloc, &game)?;
-        assert_eq!(rt; solution.winner.as_slice(), worked.winner);
-        assert_eq!(rt; solution.choice.as_slice(), worked.choice);
+// Do both solvers find these winners and choices?
+fn is_solved(
+    alloc: Global,
+    game: &Game,
+    winner: &[Player],
+    choice: &[u64],
+) -> Result<bool, NoMemory> {
+    let plainly = is(&solve_plain(alloc, game)?, winner, choice);
+    Ok(plainly && is(&solve(alloc, game)?, winner, choice))
+}
+
+// The place of the first game that is solved otherwise.
+fn first_wrong(alloc: Global, rows: &[Worked]) -> Result<Option<usize>, Fail> {
+    for (place, (rows, winner, choice)) in rows.iter().enumerate() {
+        let game = game_of_rows(alloc, rows)??;
+        if !is_solved(alloc, &game, winner, choice)? {
+            return Ok(Some(place));
+        }
     }
-    Ok(())
+    Ok(None)
 }
 
 #[test]
-fn the_solver_on_a_small_game(rt: HostRuntime) -> Result<(), Fail> {
-    let alloc = rt.alloc();
-    let game = game_of_rows(alloc, &[(E, 1, &[0, 1]), (O, 0, &[1])])??;
-    let solution = solve(alloc, &game)?;
-    assert_eq!(rt; solution.winner.as_slice(), [E, E].as_slice());
-    assert_eq!(rt; solution.choice.as_slice(), [1, 1].as_slice());
+fn both_solvers_on_small_games(rt: HostRuntime) -> Result<(), Fail> {
+    assert_eq!(rt; first_wrong(rt.alloc(), &WORKED)?, None);
     Ok(())
 }

@@ -2,6 +2,16 @@
 use std::alloc::Global;
 use std::test::Fail;
 
+// Has the formula of a text in this logic so many occurrences, and its copy its text?
+macro_rules! is_counted {
+    ($logic:ident, $alloc:ident, $text:ident, $count:ident) => {{
+        let formula = $logic::parse($alloc, $text)?;
+        let copied = $logic::copy($alloc, &formula)?;
+        let same = $logic::print($alloc, &copied)? == $logic::print($alloc, &formula)?;
+        Ok(same && $logic::occurrences(&formula) == $count)
+    }};
+}
+
 const MU: [(&'static [u8], u32); 8] = [
     (b"p", 1),
     (b"!p", 2),
@@ -13,16 +23,8 @@ const MU: [(&'static [u8], u32); 8] = [
     (b"nu X. mu Y. <a>X | [b](Y & p)", 9),
 ];
 
-// Has the copy of a formula its text?
-fn is_copied_mu(alloc: Global, formula: &ml_mu::Formula) -> Result<bool, Fail> {
-    let copied = ml_mu::copy(alloc, formula)?;
-    Ok(ml_mu::print(alloc, &copied)? == ml_mu::print(alloc, formula)?)
-}
-
-// Has the formula of a text so many occurrences, and its copy its text?
 fn counts_mu(alloc: Global, text: &[u8], count: u32) -> Result<bool, Fail> {
-    let formula = ml_mu::parse(alloc, text)?;
-    Ok(ml_mu::occurrences(&formula) == count && is_copied_mu(alloc, &formula)?)
+    is_counted!(ml_mu, alloc, text, count)
 }
 
 #[test]
@@ -48,16 +50,8 @@ const PDL: [(&'static [u8], u32); 8] = [
     (b"<(a;p?)*>!p & [a]p", 12),
 ];
 
-// Has the copy of a formula its text?
-fn is_copied_pdl(alloc: Global, formula: &ml_pdl::Formula) -> Result<bool, Fail> {
-    let copied = ml_pdl::copy(alloc, formula)?;
-    Ok(ml_pdl::print(alloc, &copied)? == ml_pdl::print(alloc, formula)?)
-}
-
-// Has the formula of a text so many occurrences, and its copy its text?
 fn counts_pdl(alloc: Global, text: &[u8], count: u32) -> Result<bool, Fail> {
-    let formula = ml_pdl::parse(alloc, text)?;
-    Ok(ml_pdl::occurrences(&formula) == count && is_copied_pdl(alloc, &formula)?)
+    is_counted!(ml_pdl, alloc, text, count)
 }
 
 #[test]
@@ -79,16 +73,8 @@ const CTL: [(&'static [u8], u32); 6] = [
     (b"E (p W q) -> A (q R p)", 9),
 ];
 
-// Has the copy of a formula its text?
-fn is_copied_ctl(alloc: Global, formula: &ml_ctl::Formula) -> Result<bool, Fail> {
-    let copied = ml_ctl::copy(alloc, formula)?;
-    Ok(ml_ctl::print(alloc, &copied)? == ml_ctl::print(alloc, formula)?)
-}
-
-// Has the formula of a text so many occurrences, and its copy its text?
 fn counts_ctl(alloc: Global, text: &[u8], count: u32) -> Result<bool, Fail> {
-    let formula = ml_ctl::parse(alloc, text)?;
-    Ok(ml_ctl::occurrences(&formula) == count && is_copied_ctl(alloc, &formula)?)
+    is_counted!(ml_ctl, alloc, text, count)
 }
 
 #[test]
@@ -107,16 +93,8 @@ const LTL: [(&'static [u8], u32); 4] = [
     (b"(p U q) W r", 5),
 ];
 
-// Has the copy of a formula its text?
-fn is_copied_ltl(alloc: Global, formula: &ml_ltl::Formula) -> Result<bool, Fail> {
-    let copied = ml_ltl::copy(alloc, formula)?;
-    Ok(ml_ltl::print(alloc, &copied)? == ml_ltl::print(alloc, formula)?)
-}
-
-// Has the formula of a text so many occurrences, and its copy its text?
 fn counts_ltl(alloc: Global, text: &[u8], count: u32) -> Result<bool, Fail> {
-    let formula = ml_ltl::parse(alloc, text)?;
-    Ok(ml_ltl::occurrences(&formula) == count && is_copied_ltl(alloc, &formula)?)
+    is_counted!(ml_ltl, alloc, text, count)
 }
 
 #[test]

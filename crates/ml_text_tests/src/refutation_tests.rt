@@ -25,68 +25,38 @@ const EMPTY_NAME: &'static [u8] =
 const WRONG_SPLIT: &'static [u8] =
     b"names 1\nentries 1\nentry 0\nsequent 0\nlive 1\nitem 0 - 0\nheights 0 0\nsplit 0\nclash false 2\nclash false 4\nend\n";
 
-// is the text read in this version, written again as it was, and as this one in the other version?
-fn is_in(
-    alloc: Global,
-    text: &[u8],
-    version: Version,
-    other: Version,
-    wanted: &[u8],
-) -> Result<bool, DocRefusal> {
+// a text, its version, another version, and its refutation's text in that one
+type Row = (&'static [u8], Version, Version, &'static [u8]);
+
+const TEXTS: [Row; 4] = [
+    (ENDLESS, Version::One, Version::Two, ENDLESS_BY_TABLES),
+    (ENDLESS_BY_TABLES, Version::Two, Version::One, ENDLESS),
+    (EMPTY_NAME, Version::One, Version::One, EMPTY_NAME),
+    (WRONG_SPLIT, Version::One, Version::One, WRONG_SPLIT),
+];
+
+// is the text of the row read in its version, written again as it was, and in the other version as the row has it?
+fn is_read(alloc: Global, row: &Row) -> Result<bool, DocRefusal> {
+    let (text, version, other, wanted) = *row;
     let (refutation, _) = read(alloc, text, 6, version)?;
     let again = write(alloc, &refutation, version)?;
     let translated = write(alloc, &refutation, other)?;
     Ok(again.as_slice() == text && translated.as_slice() == wanted)
 }
 
-#[test]
-fn the_first_version_read(rt: HostRuntime) -> Result<(), Fail> {
-    assert!(rt;
-        is_in(
-            rt.alloc(),
-            ENDLESS,
-            Version::One,
-            Version::Two,
-            ENDLESS_BY_TABLES
-        )?
-    );
-    Ok(())
+// the place of the first row whose text is not
+fn first_wrong(alloc: Global, rows: &[Row]) -> Result<Option<usize>, DocRefusal> {
+    for (place, row) in rows.iter().enumerate() {
+        if !is_read(alloc, row)? {
+            return Ok(Some(place));
+        }
+    }
+    Ok(None)
 }
 
 #[test]
-fn the_second_version_read(rt: HostRuntime) -> Result<(), Fail> {
-    assert!(rt;
-        is_in(
-            rt.alloc(),
-            ENDLESS_BY_TABLES,
-            Version::Two,
-            Version::One,
-            ENDLESS
-        )?
-    );
-    Ok(())
-}
-
-#[test]
-fn false_refutations_read(rt: HostRuntime) -> Result<(), Fail> {
-    assert!(rt;
-        is_in(
-            rt.alloc(),
-            EMPTY_NAME,
-            Version::One,
-            Version::One,
-            EMPTY_NAME
-        )?
-    );
-    assert!(rt;
-        is_in(
-            rt.alloc(),
-            WRONG_SPLIT,
-            Version::One,
-            Version::One,
-            WRONG_SPLIT
-        )?
-    );
+fn refutations_are_read(rt: HostRuntime) -> Result<(), Fail> {
+    assert_eq!(rt; first_wrong(rt.alloc(), &TEXTS)?, None);
     Ok(())
 }
 

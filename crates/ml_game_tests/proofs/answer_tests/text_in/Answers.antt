@@ -9,7 +9,7 @@ use Rattle.ml_parity.specs.Solution.{GameSolution, IsSolution}
 use Rattle.ml_parity.specs.Winner.{Wins}
 use Rattle.ml_product.specs.Arena.{Arena, IsArenaOf, game_of}
 use Rattle.ml_extract.specs.Extraction.{EvenWins}
-use Rattle.ml_game_tests.proofs.extract_tests.model.Goals as goal
+use Rattle.ml_game_tests.proofs.answer_tests.text_in.Goals as goal
 
 even_wins : (g : Graph) (a : Arena) (s : GameSolution) (game : ParityGame) (winners : List Player) (w : Player)
     → IsGraph g
@@ -33,9 +33,9 @@ even_wins g a s game winners w g_ok arena game_is solved winners_are first even 
           (solution.right 0 (omega (arith, low, solution.winners)));
     }
 
-pub model_of-requires : goal.model_of-requires
-model_of-requires c =
-    even_wins c.args.graph.now c.in-Ok.arena c.in_ok-solution.solution c.in_ok-game.field-0 c.deref.result.now
-    c.in-Some-Even.field-0.now c.size-size.ensures.is_graph c.in-Ok.ensures.arena c.in_ok-game.ensures
+pub model_text-requires : goal.model_text-requires
+model_text-requires c =
+    even_wins c.args.graph.now c.args.arena.now c.in_ok-solution.solution c.in_ok-game.field-0 c.deref.result.now
+    c.in-Some-Even.field-0.now c.size-size.ensures.is_graph c.requires.arena c.in_ok-game.ensures
     c.in_ok-solution.ensures.ok (c.deref.ensures.value ∙ ap (λ (s : GameSolution). s.winner) c.solution.view_is)
     c.in-Some-Even.ensures.value c.in-Some-Even.field-0-is
