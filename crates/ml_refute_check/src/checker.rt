@@ -5,6 +5,8 @@ ghost use Rattle.ml_refutation.specs.Acceptance as acceptance;
 ghost use Rattle.ml_refutation.specs.Acceptance.{entry_at, parts};
 ghost use Rattle.ml_refutation.specs.Refutation as plain;
 ghost use Rattle.ml_refutation.specs.Refutation.{IsDecided, IsMarkOf};
+ghost use Rattle.ml_sequent.specs.Choice.{with_side};
+ghost use Rattle.ml_sequent.specs.Spread.{IsOpenOr};
 ghost use Rattle.ml_refutation.specs.Views.{cause_of, mark_of, decision_of, entry_of, item_of};
 ghost use Rattle.ml_refute_check.specs.private.Parts.{Finds, Stands, IsEntryOf, Asks, question, front_parts, branch_parts, count_branches};
 
@@ -136,6 +138,7 @@ impl<'a> Checker<'a> {
     }
 
     /// The first bad branch of a decision at this spread.
+    #[cycle(deciding)]
     fn check_decision(
         &self,
         phase: &mut LocalPhase,
@@ -160,16 +163,30 @@ impl<'a> Checker<'a> {
                 if !splits_open_or(self.graph, spread, *node) {
                     return Ok(Some(BadPart { part: 0, rule: 5 }));
                 }
-                let at_left = phase.extended(spread, *node, Side::Left)?;
-                match self.check_decision(phase, place, entry, sequent, &at_left, left)? {
+                match self.check_side(
+                    phase,
+                    place,
+                    entry,
+                    sequent,
+                    spread,
+                    *node,
+                    Side::Left,
+                    left,
+                )? {
                     Some(bad) => Ok(Some(later(bad, 1)?)),
-                    None => {
-                        let at_right = phase.extended(spread, *node, Side::Right)?;
-                        match self.check_decision(phase, place, entry, sequent, &at_right, right)? {
-                            Some(bad) => Ok(Some(later(later(bad, count_branches(left)?)?, 1)?)),
-                            None => Ok(None),
-                        }
-                    }
+                    None => match self.check_side(
+                        phase,
+                        place,
+                        entry,
+                        sequent,
+                        spread,
+                        *node,
+                        Side::Right,
+                        right,
+                    )? {
+                        Some(bad) => Ok(Some(later(later(bad, count_branches(left)?)?, 1)?)),
+                        None => Ok(None),
+                    },
                 }
             }
             Decision::Clash(cause) => self.check_clash(phase, place, sequent, spread, *cause),
@@ -188,6 +205,34 @@ impl<'a> Checker<'a> {
                 *mark,
             ),
         }
+    }
+
+    /// The first bad branch of one side of a split at an open or-node.
+    #[cycle(deciding)]
+    fn check_side(
+        &self,
+        phase: &mut LocalPhase,
+        place: usize,
+        entry: &Entry,
+        sequent: &Sequent,
+        spread: &Spread,
+        node: u32,
+        side: Side,
+        decision: &Decision,
+    ) -> Result<Option<BadPart>, NoMemory>
+        requires asks { Asks self.now.graph.now self.now.odds.items }
+        requires phase { phase.old ≡ self.now.graph.now }
+        requires entry { IsEntryOf (question self.now.graph.now self.now.refutation.now) place (entry_of entry.now) }
+        requires stands { Stands (question self.now.graph.now self.now.refutation.now) place sequent.now spread.now }
+        requires open { IsOpenOr self.now.graph.now spread.now node }
+        requires decided { IsDecided self.now.refutation.now.names
+            (length self.now.refutation.now.entries.items) (decision_of decision.now) }
+        ensures phase { phase.new ≡ phase.old }
+        ensures found { IfOk result (Finds (question self.now.graph.now self.now.refutation.now) place
+            (branch_parts (with_side spread.now.choice node side) (decision_of decision.now))) }
+    {
+        let longer = phase.extended(spread, node, side)?;
+        self.check_decision(phase, place, entry, sequent, &longer, decision)
     }
 
     /// Whether a clash is bad at this spread.
