@@ -1,7 +1,7 @@
 -- A graph of a formula of the mu-calculus with names and priorities that a program holds.
 --
 --   mu_held == a well-formed formula has such a graph in each sense
-use Rattle.std.proofs.Common.{◌≡◌, ℕ, ◌+◌, ◌*◌, ◌≤◌, not, Bool, true, if◌then◌else◌, List, [], ◌∷◌, ◌++◌, refl, arith}
+use Rattle.std.proofs.Common.{◌≡◌, ℕ, ◌+◌, ◌*◌, ◌≤◌, not, Bool, true, List, [], ◌∷◌, ◌++◌, refl, arith}
 use Rattle.std.specs.Cmp.{first_so, second_so}
 use Rattle.ml_base.specs.Name.{IsName, IsAction}
 use Rattle.ml_graph.specs.Graph.{Graph}
@@ -15,10 +15,8 @@ use Rattle.ml_mu.specs.Spelling.{HasShortNames, is_action, is_reserved, is_spell
 use Rattle.ml_mu.specs.WellFormed.{IsWellFormed}
 use Rattle.ml_mu_graph.specs.MuGraph.{IsGraphOf, binder_priority, binders, opposite}
 use Rattle.ml_nodes.specs.private.Connectives.{operator_priorities}
-use Rattle.ml_mu_graph.specs.private.NodeList.{actions_onto, nodes_of, priorities_of, props_onto}
-use Rattle.ml_mu_graph.specs.private.Views.{none_around}
-use Rattle.ml_mu_graph.proofs.InRange.{lists_make_graph}
-use Rattle.ml_mu_graph.proofs.Made.{graph_made}
+use Rattle.ml_mu_graph.specs.private.NodeList.{actions_onto, priorities_of, props_onto}
+use Rattle.ml_front.proofs.SomeGraph.{mu_graph, is_mu_graph}
 use Rattle.ml_refutation.specs.Refutation.{Fits}
 use Rattle.ml_driver.proofs.HeldNames.{Every, IsHeld, action_named, every_append, every_cons, held_lists, lower_name, with_named}
 
@@ -106,27 +104,12 @@ module _ (k top : ℕ) (low : k ≤ top) where
 
 -- ---- the graph
 
-abbrev graph_of : Formula → Bool → Graph
-graph_of f negated = record {
-  nodes = nodes_of (props_onto f []) (actions_onto f []) none_around 0 f;
-  priorities = priorities_of (2 * binders f) 0 f;
-  root = if negated then 1 else 0;
-  props = props_onto f [];
-  actions = actions_onto f [];
-}
-
-is_graph : (f : Formula) (negated : Bool) → IsGraphOf (graph_of f negated) f negated
-is_graph f negated =
-    graph_made (graph_of f negated) f negated
-    (lists_make_graph (graph_of f negated) f negated refl refl refl refl refl)
-    refl refl refl refl refl
-
 pub mu_held : (f : Formula) (negated : Bool) → IsWellFormed f → (g : Graph) × (IsGraphOf g f negated × IsHeld g)
 mu_held f negated well = (
-  graph_of f negated,
+  mu_graph f negated,
   (
-    is_graph f negated,
-    held_lists (graph_of f negated) (is_graph f negated).is_graph
+    is_mu_graph f negated,
+    held_lists (mu_graph f negated) (is_mu_graph f negated).is_graph
         (props_named f well.names_are_spelled well.names_are_short [] (λ x m. absurd m))
         (actions_named f well.names_are_spelled well.names_are_short [] (λ x m. absurd m))
         fits,

@@ -1,7 +1,7 @@
 -- A graph of a formula of PDL with names and priorities that a program holds.
 --
 --   pdl_held == a well-formed formula has such a graph in each sense
-use Rattle.std.proofs.Common.{◌≡◌, ℕ, ◌≤◌, not, Bool, true, if◌then◌else◌, List, [], ◌∷◌, ◌++◌, refl, arith}
+use Rattle.std.proofs.Common.{◌≡◌, ℕ, ◌≤◌, not, Bool, true, List, [], ◌∷◌, ◌++◌, refl, arith}
 use Rattle.std.specs.Cmp.{first_so, second_so}
 use Rattle.ml_base.specs.Name.{IsName, IsAction}
 use Rattle.ml_graph.specs.Graph.{Graph}
@@ -14,9 +14,8 @@ use Rattle.ml_pdl.specs.Spelling.{HasShortNames, ProgramHasShortNames, is_reserv
 use Rattle.ml_pdl.specs.WellFormed.{IsWellFormed}
 use Rattle.ml_pdl_graph.specs.PdlGraph.{IsGraphOf, plain}
 use Rattle.ml_nodes.specs.private.Connectives.{operator_priorities}
-use Rattle.ml_pdl_graph.specs.private.NodeList.{actions_onto, nodes_of, priorities_of, program_actions_onto, program_priorities, program_props_onto, props_onto}
-use Rattle.ml_pdl_graph.proofs.InRange.{lists_make_graph}
-use Rattle.ml_pdl_graph.proofs.Made.{graph_made}
+use Rattle.ml_pdl_graph.specs.private.NodeList.{actions_onto, priorities_of, program_actions_onto, program_priorities, program_props_onto, props_onto}
+use Rattle.ml_front.proofs.SomeGraph.{pdl_graph, is_pdl_graph}
 use Rattle.ml_refutation.specs.Refutation.{Fits}
 use Rattle.ml_driver.proofs.HeldNames.{Every, IsHeld, action_named, every_append, every_cons, held_lists, lower_name, with_named}
 
@@ -128,27 +127,12 @@ mutual
 
 -- ---- the graph
 
-abbrev graph_of : Formula → Bool → Graph
-graph_of f negated = record {
-  nodes = nodes_of (props_onto f []) (actions_onto f []) 0 f;
-  priorities = priorities_of f;
-  root = if negated then 1 else 0;
-  props = props_onto f [];
-  actions = actions_onto f [];
-}
-
-is_graph : (f : Formula) (negated : Bool) → IsGraphOf (graph_of f negated) f negated
-is_graph f negated =
-    graph_made (graph_of f negated) f negated
-    (lists_make_graph (graph_of f negated) f negated refl refl refl refl refl)
-    refl refl refl refl refl
-
 pub pdl_held : (f : Formula) (negated : Bool) → IsWellFormed f → (g : Graph) × (IsGraphOf g f negated × IsHeld g)
 pdl_held f negated well = (
-  graph_of f negated,
+  pdl_graph f negated,
   (
-    is_graph f negated,
-    held_lists (graph_of f negated) (is_graph f negated).is_graph
+    is_pdl_graph f negated,
+    held_lists (pdl_graph f negated) (is_pdl_graph f negated).is_graph
         (props_named f well.names_are_spelled well.names_are_short [] (λ x m. absurd m))
         (actions_named f well.names_are_spelled well.names_are_short [] (λ x m. absurd m))
         (low_priorities f),
