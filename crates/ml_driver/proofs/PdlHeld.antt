@@ -1,7 +1,7 @@
 -- A graph of a formula of PDL with names and priorities that a program holds.
 --
 --   pdl_held == a well-formed formula has such a graph in each sense
-use Rattle.std.proofs.Common.{◌≡◌, ℕ, ◌≤◌, not, Bool, true, List, [], ◌∷◌, ◌++◌, refl, arith}
+use Rattle.std.proofs.Common.{◌≡◌, ℕ, ◌≤◌, not, Bool, true, List, [], ◌∷◌, ◌++◌, arith}
 use Rattle.std.specs.Cmp.{first_so, second_so}
 use Rattle.ml_base.specs.Name.{IsName, IsAction}
 use Rattle.ml_graph.specs.Graph.{Graph}
