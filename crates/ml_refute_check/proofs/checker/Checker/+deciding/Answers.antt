@@ -63,8 +63,8 @@ check_decision-check_side-requires-in-None t c =
       ),
     )
 
-pub check_decision-returns-in-Some-clause-found : goal.check_decision-returns-in-Some-clause-found
-check_decision-returns-in-Some-clause-found t c =
+pub check_decision-returns-in_ok-later-in-Some-clause-found : goal.check_decision-returns-in_ok-later-in-Some-clause-found
+check_decision-returns-in_ok-later-in-Some-clause-found t c =
     let q = question c.args.self.now.graph.now c.args.self.now.refutation.now in
     let left = with_side c.args.spread.now.choice c.in-Split.node Left in
     found_same q c.args.place c.args.spread.now.choice (sym c.in-Split.is) refl
@@ -74,8 +74,8 @@ check_decision-returns-in-Some-clause-found t c =
     c.in_ok-later-in-Some.ensures.part c.in_ok-later-in-Some.ensures.rule
     (found_same q c.args.place left c.deref.ensures c.in-Some.is c.in_ok-bad-in-Split.ensures.found))
 
-pub check_decision-returns-in-Some-2-clause-found : goal.check_decision-returns-in-Some-2-clause-found
-check_decision-returns-in-Some-2-clause-found t c =
+pub check_decision-returns-in_ok-later-in-Some-2-2-clause-found : goal.check_decision-returns-in_ok-later-in-Some-2-2-clause-found
+check_decision-returns-in_ok-later-in-Some-2-2-clause-found t c =
     let q = question c.args.self.now.graph.now c.args.self.now.refutation.now in
     let left = with_side c.args.spread.now.choice c.in-Split.node Left in
     let right = with_side c.args.spread.now.choice c.in-Split.node Right in
@@ -91,8 +91,8 @@ check_decision-returns-in-Some-2-clause-found t c =
     (found_same q c.args.place left c.deref.ensures c.in-None.is c.in_ok-bad-in-Split.ensures.found)
     (found_same q c.args.place right c.deref-in-None.ensures c.in-Some-2.is c.in_ok-bad-in-None.ensures.found))
 
-pub check_decision-returns-in-Split-clause-found : goal.check_decision-returns-in-Split-clause-found
-check_decision-returns-in-Split-clause-found t c =
+pub check_decision-returns-in-None-2-clause-found : goal.check_decision-returns-in-None-2-clause-found
+check_decision-returns-in-None-2-clause-found t c =
     let q = question c.args.self.now.graph.now c.args.self.now.refutation.now in
     let left = with_side c.args.spread.now.choice c.in-Split.node Left in
     let right = with_side c.args.spread.now.choice c.in-Split.node Right in
