@@ -154,9 +154,10 @@ pub fn migrate(alloc: Global, bytes: &[u8]) -> Result<Vec<u8>, DocRefusal>
     ensures written { IfOk result (λ text. IsMigrated bytes.now text.items) }
     ensures refused { (fault : DocFault) → IsErrOf result (DocRefusal.Fault fault) → IsDocumentFault bytes.now fault }
 {
-    let shown = read_document(alloc, bytes)?;
-    let text = write_document(alloc, &shown)?;
-    Ok(text)
+    match read_document(alloc, bytes) {
+        Ok(shown) => Ok(write_document(alloc, &shown)?),
+        Err(refusal) => Err(refusal),
+    }
 }
 
 /// The version 2 document of what was read.
