@@ -45,7 +45,16 @@ pub(crate) fn measure(alloc: Global, family: Family, n: u32) -> Result<Output, N
     ensures { IfOk result (λ output. IsDue (Some (Command.Bench family n)) [] output.status output.bytes.items) }
 {
     let problem = problem_for(alloc, family, n)?;
-    let finding = found(alloc, &problem)?;
+    measured(alloc, family, n, &problem)
+}
+
+// the same of the family's problem
+fn measured(alloc: Global, family: Family, n: u32, problem: &Problem) -> Result<Output, NoMemory>
+    requires meant { IsMeant family n problem.now }
+    requires well_formed { IsWellFormed problem.now.formula }
+    ensures { IfOk result (λ output. IsDue (Some (Command.Bench family n)) [] output.status output.bytes.items) }
+{
+    let finding = found(alloc, problem)?;
     let status = status_of(finding.answer());
     let count = occurrences(&problem.formula);
     Ok(Output {

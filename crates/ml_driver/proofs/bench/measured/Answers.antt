@@ -1,13 +1,13 @@
 -- The lines tell what was found of the family's problem.
 use Rattle.std.proofs.Common.{◌∙◌, ap}
 use Rattle.ml_driver.specs.Bench as measures
-use Rattle.ml_driver.proofs.bench.measure.Goals as goal
+use Rattle.ml_driver.proofs.bench.measured.Goals as goal
 
 pub returns : goal.returns
 returns c = record {
-  problem = c.in_ok-problem.problem;
+  problem = c.args.problem.now;
   finding = c.in_ok-finding.finding;
-  is_meant = c.in_ok-problem.ensures;
+  is_meant = c.requires.meant;
   is_finding = c.in_ok-finding.ensures;
   status_is = c.status_of-status.ensures ∙ ap measures.status_of c.answer.ensures;
   is_written =
