@@ -7,7 +7,7 @@
 //
 // Each graph begins with the root, which leads to the problem's node and to the node of which two parts say that each state
 // has an edge.
-use ml_front::{Logic, MOST_NODES, Problem, graph, negated, read};
+use ml_blocks::{graph_of, ltl_graph_of};
 use ml_graph::{ModalGraph, Node};
 use std::alloc::Global;
 use std::test::Fail;
@@ -50,87 +50,81 @@ fn shown(alloc: Global, graph: &ModalGraph) -> Result<String, Fail> {
     Ok(out)
 }
 
-// is the graph of the problem this one, and is it too large for one node less?
-fn has_graph(alloc: Global, problem: &Problem, wanted: &str) -> Result<bool, Fail> {
-    let made = graph(alloc, problem, MOST_NODES)?;
-    let less = graph(alloc, problem, made.size().saturating_sub(1)).is_err();
-    Ok(less && shown(alloc, &made)?.as_str() == wanted)
+// is the graph of the problem of CTL* this one, and is it too large for one node less?
+fn is_graph(alloc: Global, text: &str, negated: bool, wanted: &str) -> Result<bool, Fail> {
+    let formula = ml_ctl::parse(alloc, text.as_bytes())?;
+    let graph = graph_of(alloc, &formula, negated, 4096)?;
+    let less = graph_of(alloc, &formula, negated, graph.size().saturating_sub(1));
+    Ok(less.is_err() && shown(alloc, &graph)?.as_str() == wanted)
 }
 
-// a text, is its formula negated, and the graph of the problem
-type Row = (&'static str, bool, &'static str);
-
-// the place of the first row whose graph is another one
-fn first_wrong(alloc: Global, logic: Logic, rows: &[Row]) -> Result<Option<usize>, Fail> {
-    for (place, (text, negate, wanted)) in rows.iter().enumerate() {
-        let plain = read(alloc, logic, text.as_bytes())?;
-        let problem = if *negate { negated(plain) } else { plain };
-        if !has_graph(alloc, &problem, wanted)? {
-            return Ok(Some(place));
-        }
-    }
-    Ok(None)
+// is the graph of the problem of LTL this one, and is it too large for one node less?
+fn is_linear_graph(alloc: Global, text: &str, negated: bool, wanted: &str) -> Result<bool, Fail> {
+    let formula = ml_ltl::parse(alloc, text.as_bytes())?;
+    let graph = ltl_graph_of(alloc, &formula, negated, 4096)?;
+    let less = ltl_graph_of(alloc, &formula, negated, graph.size().saturating_sub(1));
+    Ok(less.is_err() && shown(alloc, &graph)?.as_str() == wanted)
 }
-
-const STATE_FORMULAS: [Row; 6] = [
-    (
-        "tt",
-        false,
-        "1 & 2 (2)\ntt (2)\n3 & 4 (0)\n<> 5 (2)\n[] 2 (2)\ntt (2)\n",
-    ),
-    (
-        "p",
-        false,
-        "1 & 2 (2)\np (2)\n3 & 4 (0)\n<> 5 (2)\n[] 2 (2)\ntt (2)\n",
-    ),
-    (
-        "p",
-        true,
-        "1 & 2 (2)\n!p (2)\n3 & 4 (0)\n<> 5 (2)\n[] 2 (2)\ntt (2)\n",
-    ),
-    // both operands, or neither, and then the four literals
-    (
-        "p <-> q",
-        false,
-        "1 & 2 (2)\n3 | 4 (2)\n5 & 6 (0)\n7 & 8 (2)\n9 & 10 (2)\n<> 11 (2)\n[] 2 (2)\np (2)\nq (2)\n!p (2)\n!q (2)\ntt (2)\n",
-    ),
-    // node 3 waits for the next state, and node 6 asks p there
-    (
-        "E X p",
-        false,
-        "1 & 2 (2)\n3 & 3 (2)\n4 & 5 (0)\n<> 6 (0)\n<> 7 (2)\n[] 2 (2)\n8 & 7 (1)\ntt (2)\np (2)\n",
-    ),
-    // node 9 puts p off along each edge, which may not be done for ever
-    (
-        "A F p",
-        false,
-        "1 & 2 (2)\n3 & 3 (2)\n4 & 5 (0)\n6 | 6 (2)\n<> 7 (2)\n[] 2 (2)\n8 | 9 (2)\ntt (2)\np (2)\n[] 3 (1)\n",
-    ),
-];
 
 #[test]
 fn state_formulas(rt: HostRuntime) -> Result<(), Fail> {
-    assert_eq!(rt; first_wrong(rt.alloc(), Logic::Ctl, &STATE_FORMULAS)?, None);
+    let rows = [
+        (
+            "tt",
+            false,
+            "1 & 2 (2)\ntt (2)\n3 & 4 (0)\n<> 5 (2)\n[] 2 (2)\ntt (2)\n",
+        ),
+        (
+            "p",
+            false,
+            "1 & 2 (2)\np (2)\n3 & 4 (0)\n<> 5 (2)\n[] 2 (2)\ntt (2)\n",
+        ),
+        (
+            "p",
+            true,
+            "1 & 2 (2)\n!p (2)\n3 & 4 (0)\n<> 5 (2)\n[] 2 (2)\ntt (2)\n",
+        ),
+        // both operands, or neither, and then the four literals
+        (
+            "p <-> q",
+            false,
+            "1 & 2 (2)\n3 | 4 (2)\n5 & 6 (0)\n7 & 8 (2)\n9 & 10 (2)\n<> 11 (2)\n[] 2 (2)\np (2)\nq (2)\n!p (2)\n!q (2)\ntt (2)\n",
+        ),
+        // node 3 waits for the next state, and node 6 asks p there
+        (
+            "E X p",
+            false,
+            "1 & 2 (2)\n3 & 3 (2)\n4 & 5 (0)\n<> 6 (0)\n<> 7 (2)\n[] 2 (2)\n8 & 7 (1)\ntt (2)\np (2)\n",
+        ),
+        // node 9 puts p off along each edge, which may not be done for ever
+        (
+            "A F p",
+            false,
+            "1 & 2 (2)\n3 & 3 (2)\n4 & 5 (0)\n6 | 6 (2)\n<> 7 (2)\n[] 2 (2)\n8 | 9 (2)\ntt (2)\np (2)\n[] 3 (1)\n",
+        ),
+    ];
+    for (text, negated, wanted) in rows {
+        assert!(rt; is_graph(rt.alloc(), text, negated, wanted)?, "{text}");
+    }
     Ok(())
 }
 
-const PATH_FORMULAS: [Row; 2] = [
-    // node 10 puts the whole off
-    (
-        "p U q",
-        false,
-        "1 & 2 (2)\n3 | 4 (1)\n5 & 6 (0)\n7 & 8 (1)\n9 & 10 (1)\n<> 8 (2)\n[] 2 (2)\nq (2)\ntt (2)\np (2)\n<> 1 (1)\n",
-    ),
-    // along the edge of node 10 F p came true, along that of node 7 it is put off
-    (
-        "G F p",
-        false,
-        "1 & 2 (2)\n3 & 3 (1)\n4 & 5 (0)\n6 | 7 (1)\n<> 8 (2)\n[] 2 (2)\n9 & 10 (1)\n<> 11 (1)\ntt (2)\np (2)\n<> 1 (0)\n3 & 3 (1)\n",
-    ),
-];
-
 #[test]
 fn path_formulas(rt: HostRuntime) -> Result<(), Fail> {
-    assert_eq!(rt; first_wrong(rt.alloc(), Logic::Ltl, &PATH_FORMULAS)?, None);
+    let rows = [
+        // node 10 puts the whole off
+        (
+            "p U q",
+            "1 & 2 (2)\n3 | 4 (1)\n5 & 6 (0)\n7 & 8 (1)\n9 & 10 (1)\n<> 8 (2)\n[] 2 (2)\nq (2)\ntt (2)\np (2)\n<> 1 (1)\n",
+        ),
+        // along the edge of node 10 F p came true, along that of node 7 it is put off
+        (
+            "G F p",
+            "1 & 2 (2)\n3 & 3 (1)\n4 & 5 (0)\n6 | 7 (1)\n<> 8 (2)\n[] 2 (2)\n9 & 10 (1)\n<> 11 (1)\ntt (2)\np (2)\n<> 1 (0)\n3 & 3 (1)\n",
+        ),
+    ];
+    for (text, wanted) in rows {
+        assert!(rt; is_linear_graph(rt.alloc(), text, false, wanted)?, "{text}");
+    }
     Ok(())
 }
