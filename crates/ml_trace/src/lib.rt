@@ -9,8 +9,11 @@
 // share, and the theorem on loops of such steps (`laws`), on which both the determinisation and the checker of
 // refutations can rest.
 //
-// Below: ml_lists (general mathematics), ml_base (want of memory). Above: ml_history, which determinises the automaton.
-// What makes local traces, and what checks loops of steps without histories, will stand above too.
+// Beside them stands what it means that an automaton accepts an endless word (`specs/WordAutomata`), for Büchi automata and
+// for deterministic parity automata.
+//
+// Below: ml_lists (general mathematics), ml_base (want of memory). Above: ml_history, which determinises the automaton,
+// ml_sequent, which makes local traces, and ml_refute_check, which checks loops of steps without histories.
 #![tactic(auto)]
 
 pub mod laws;
