@@ -4,7 +4,7 @@
 --   limit_small   == so no limit does
 --   command_fits  == so the limit of a command that words are fits 32 bits, and its number is of its family's range
 use Rattle.std.proofs.Common.{◌≡◌, ◌&&◌, ℕ, ◌+◌, ◌-◌, ◌*◌, ◌<◌, ◌≤◌, ◌^◌, Bool, true, false, if◌then◌else◌, nat_le, bytes_eq}
-use Rattle.std.proofs.Common.{codes, List, [], ◌∷◌, length, Option, Some, None, option_and_then, refl, arith}
+use Rattle.std.proofs.Common.{codes, List, [], ◌∷◌, length, Option, Some, None, option_and_then, option_map, refl, arith}
 use Rattle.std.specs.Cmp.{second_so}
 use Rattle.std.proofs.lemmas.Bool.{leb-true}
 use Rattle.clap.specs.Words.{Kinds}
@@ -14,10 +14,12 @@ use Rattle.ml_gen.specs.Families.{family_named, is_in_range}
 use Rattle.ml_gen.specs.declared.family.Family.{Family}
 use Rattle.ml_front.specs.declared.logic.Logic.{Logic}
 use Rattle.ml_driver.specs.declared.command.Command.{Command}
-use Rattle.ml_driver.specs.declared.command.Command.TheVariants.{Decide, Valid, CheckModel, CheckRefutation, Migrate, Gen, Bench}
+use Rattle.ml_driver.specs.declared.command.Command.TheVariants.{Decide, Valid, CheckModel, CheckRefutation, Migrate, SolveGame, Gen, Bench}
 use Rattle.ml_driver.specs.declared.command.TheConstants.{GREATEST_LIMIT, LONGEST_NUMBER}
+use Rattle.ml_driver.specs.declared.engine.Engine.{Engine}
+use Rattle.ml_driver.specs.Games.{engine_named}
 use Rattle.ml_driver.specs.Laws.{HasFitNumbers}
-use Rattle.ml_driver.specs.Words.{at_least_one, bare_by, command_of, count_named, counted_by, decided_by, digit_on, faults_of, if_faultless}
+use Rattle.ml_driver.specs.Words.{about, asked_by, solved_by, at_least_one, bare_by, command_of, count_named, counted_by, decided_by, digit_on, faults_of, if_faultless}
 use Rattle.ml_driver.specs.Words.{if_in_range, is_digit, limit_named, number_named, parts_in, row, row_of, rows_in, value_from}
 
 -- what a test lets through
@@ -118,8 +120,23 @@ of_logic : (w : Word) (limit : Option Word) (o : Option Logic)
 of_logic w limit None = tt
 of_logic w limit (Some l) = of_limit w l limit (limit_named limit) refl
 
+solved_fits : (subject : Word) (limit : Option Word) → HasFitNumbers (solved_by subject limit)
+solved_fits subject (Some limit) = tt
+solved_fits subject None = by_engine (engine_named subject)
+  where
+    by_engine : (e : Option Engine) → HasFitNumbers (option_map SolveGame e)
+    by_engine None = tt
+    by_engine (Some e) = tt
+
+about_fits : (w subject : Word) (limit : Option Word) → HasFitNumbers (about w subject limit)
+about_fits w subject limit = by_word (bytes_eq w (codes "solve-game"))
+  where
+    by_word : (t : Bool) → HasFitNumbers (if t then solved_by subject limit else asked_by w subject limit)
+    by_word true = solved_fits subject limit
+    by_word false = of_logic w limit (logic_named subject)
+
 row_fits : (command subject count limit : Option Word) → HasFitNumbers (row_of command subject count limit)
-row_fits (Some w) (Some subject) None limit = of_logic w limit (logic_named subject)
+row_fits (Some w) (Some subject) None limit = about_fits w subject limit
 row_fits (Some w) (Some subject) (Some count) None = of_family w count (family_named subject)
 row_fits (Some w) (Some subject) (Some count) (Some limit) = tt
 row_fits (Some w) None None None = bare_fits w

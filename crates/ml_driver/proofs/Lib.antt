@@ -12,6 +12,8 @@ pub mod Answered
 pub mod FoundWords
 -- documents with a refutation
 pub mod RefutationDocuments
+-- what is due for `solve-game`
+pub mod GameAnswers
 -- one status is due
 pub mod OneDue
 -- what is written is read back

@@ -7,6 +7,7 @@
 --   SomeDueForWords  == so it is of all lists of words
 --   OneDue           == one status is due at most
 --   OneMeasure       == one output is due at most for `gen` and `bench`
+--   SameWinners      == both engines of `solve-game` name the same winners
 --   SomeGame         == the decision game of a graph has an arena with at most so many positions, or has more
 --   IsExact q p s    == the status s says of the problem p what is true of it
 --   AnswersAreExact  == each answer to a question is exact
@@ -24,6 +25,10 @@ use Rattle.ml_model_check.specs.Checked.{Shows}
 use Rattle.ml_front.specs.Problems.{IsSatisfiable}
 use Rattle.ml_front.specs.declared.problem.Problem.{Problem}
 use Rattle.ml_refute_check.specs.Documents.{IsAcceptedDocument}
+use Rattle.ml_parity.specs.Game.{size}
+use Rattle.ml_parity.specs.Solution.{winner_at}
+use Rattle.ml_driver.specs.Games.{IsSolved}
+use Rattle.ml_driver.specs.declared.engine.Engine.{Engine}
 use Rattle.ml_driver.specs.declared.cause.Cause.{Cause}
 use Rattle.ml_driver.specs.declared.status.Status.TheVariants.{Yes, No, Undecided}
 use Rattle.ml_driver.specs.Decision.{IsAnswered, IsClosed, IsProblem, Refuted, Satisfied, StaysOpen}
@@ -81,6 +86,12 @@ DecidedAreChecked = (q : Question) (text out : List ℕ) → Satisfied q text ou
 
 abbrev pub RefutedAreAccepted : Type 0
 RefutedAreAccepted = (q : Question) (text out : List ℕ) → Refuted q text out → IsAcceptedDocument out
+
+-- whichever engines solve the game of a text, it is one game with the same winners
+abbrev pub SameWinners : Type 0
+SameWinners = (d e : Engine) (text out more : List ℕ) (x : IsSolved d text out) (y : IsSolved e text more)
+    → (x.named ≡ y.named)
+    × ((v : ℕ) → v < size x.named.game → winner_at x.solution.winner v ≡ winner_at y.solution.winner v)
 
 abbrev pub SomeGame : Type 0
 SomeGame =

@@ -4,6 +4,8 @@ pub mod Words
 pub mod Documents
 -- the exit statuses
 pub mod Statuses
+-- parity games that are solved
+pub mod Games
 -- what a problem is decided to be
 pub mod Decision
 -- what is written of the formulas of families

@@ -36,11 +36,12 @@ use Rattle.ml_model_check.specs.Checked.{Shows, ShowsDeadlock, ShowsLargeClosure
 use Rattle.ml_refute_check.specs.Documents as refuted
 use Rattle.ml_refute_check.specs.Documents.{IsAcceptedDocument, IsMigrated, IsRejectedAt, HoldsNowhere}
 use Rattle.ml_driver.specs.declared.command.Command.{Command}
-use Rattle.ml_driver.specs.declared.command.Command.TheVariants.{Decide, Valid, CheckModel, CheckRefutation, Migrate, Gen, Bench}
+use Rattle.ml_driver.specs.declared.command.Command.TheVariants.{Decide, Valid, CheckModel, CheckRefutation, Migrate, SolveGame, Gen, Bench}
 use Rattle.ml_driver.specs.declared.status.Status.{Status}
 use Rattle.ml_driver.specs.declared.status.Status.TheVariants.{Yes, No, Undecided, Words, Text, ReadFault, WriteFault, NoMemory}
 use Rattle.ml_driver.specs.Bench.{IsBenched, gen_text}
 use Rattle.ml_driver.specs.Decision.{IsAnswered}
+use Rattle.ml_driver.specs.Games.{IsSolved, IsRefusedGame}
 use Rattle.ml_driver.specs.declared.question.Question.{Question}
 use Rattle.ml_front.specs.declared.logic.Logic.{Logic}
 use Rattle.ml_driver.specs.Statuses.{longest_document, longest_input, refused_words, refused_length, holds_line, fails_line, open_line, not_total_line, accepted_line, rejected_line, refused_document}
@@ -116,6 +117,8 @@ IsDue (Some CheckRefutation) text No out = (length text ≤ longest_document) ×
 IsDue (Some CheckRefutation) text Text out = IsRefusedDocument (refuted.IsDocumentFault text) text out
 IsDue (Some Migrate) text Yes out = (length text ≤ longest_document) × IsMigrated text out
 IsDue (Some Migrate) text Text out = IsRefusedDocument (refuted.IsDocumentFault text) text out
+IsDue (Some (SolveGame e)) text Yes out = IsSolved e text out
+IsDue (Some (SolveGame e)) text Text out = IsRefusedGame text out
 IsDue (Some (Gen f n)) text Yes out = out ≡ gen_text f n
 IsDue (Some (Bench f n)) text status out = IsBenched f n status out
 IsDue _ _ _ _ = ⊥

@@ -15,12 +15,13 @@
 --   limit_named w      == the limit that the word w tells: such a number from 1 on; without a word 50,000
 --   count_named f w    == the number of the range of the family f that the word w is
 --   Parts              == the words as they are taken apart: three positionals and the option's value
---   decided_by, counted_by, bare_by == the rows of the table with a logic, with a family and a number, and with neither
+--   decided_by, solved_by, counted_by, bare_by == the rows of the table with a logic, with an engine, with a family and a
+--                         number, and with none of these
 --   row p              == the command whose row the parts p are
 --   if_faultless ks c  == c, where there is no fault
 --   parts_in rows      == the parts that `clap` found
 --   command_of words   == the command that the words are, if they are one
-use Rattle.std.specs.Prelude.{ℕ, ◌+◌, ◌-◌, ◌*◌, ◌&&◌, Bool, true, List, [], ◌∷◌, length, Option, Some, None, if◌then◌else◌, nat_le, option_and_then, codes}
+use Rattle.std.specs.Prelude.{ℕ, ◌+◌, ◌-◌, ◌*◌, ◌&&◌, Bool, true, List, [], ◌∷◌, length, Option, Some, None, if◌then◌else◌, nat_le, option_and_then, option_map, codes}
 use Rattle.std.specs.Str.{bytes_eq}
 use Rattle.clap.specs.Words.{App, Kinds, Row, first_of, fault_of, matches_of, new_app, new_rule, with_rule}
 use Rattle.ml_lines.specs.Lines.{Word}
@@ -29,7 +30,9 @@ use Rattle.ml_front.specs.declared.logic.Logic.{Logic}
 use Rattle.ml_gen.specs.Families.{family_named, is_in_range}
 use Rattle.ml_gen.specs.declared.family.Family.{Family}
 use Rattle.ml_driver.specs.declared.command.Command.{Command}
-use Rattle.ml_driver.specs.declared.command.Command.TheVariants.{Decide, Valid, CheckModel, CheckRefutation, Migrate, Gen, Bench}
+use Rattle.ml_driver.specs.declared.command.Command.TheVariants.{Decide, Valid, CheckModel, CheckRefutation, Migrate, SolveGame, Gen, Bench}
+use Rattle.ml_driver.specs.Games.{engine_named}
+use Rattle.ml_driver.specs.declared.engine.Engine.{Engine}
 use Rattle.ml_driver.specs.declared.command.TheConstants.{DEFAULT_LIMIT, GREATEST_LIMIT, LONGEST_NUMBER}
 
 -- ---- what `clap` is told
@@ -104,9 +107,21 @@ bare_by w =
     else (if bytes_eq w (codes "check-refutation") then Some CheckRefutation
     else (if bytes_eq w (codes "migrate") then Some Migrate else None))
 
-abbrev pub row_of : Option Word → Option Word → Option Word → Option Word → Option Command
-row_of (Some w) (Some subject) None limit =
+-- a command with an engine, and no limit
+abbrev pub solved_by : Word → Option Word → Option Command
+solved_by subject None = option_map SolveGame (engine_named subject)
+solved_by subject (Some limit) = None
+
+abbrev pub asked_by : Word → Word → Option Word → Option Command
+asked_by w subject limit =
     option_and_then (λ (l : Logic). option_and_then (decided_by w l) (limit_named limit)) (logic_named subject)
+
+-- a command with a logic or an engine
+abbrev pub about : Word → Word → Option Word → Option Command
+about w subject limit = if bytes_eq w (codes "solve-game") then solved_by subject limit else asked_by w subject limit
+
+abbrev pub row_of : Option Word → Option Word → Option Word → Option Word → Option Command
+row_of (Some w) (Some subject) None limit = about w subject limit
 row_of (Some w) (Some subject) (Some count) None =
     option_and_then (λ (f : Family). option_and_then (counted_by w f) (count_named f count)) (family_named subject)
 row_of (Some w) None None None = bare_by w

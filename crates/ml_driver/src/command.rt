@@ -9,11 +9,13 @@ ghost use Rattle.ml_driver.specs.Words.{cli, faults_of, parts_in, row_of, rows_i
 ghost use Rattle.ml_driver.specs.private.Refused.{is_refusal};
 ghost use Rattle.ml_driver.specs.private.UsualNumbers.{HasUsualNumbers};
 
+use crate::Engine;
 use clap::error::ErrorKind;
 use clap::{Arg, ArgMatches, Error};
 use ml_base::NoMemory;
 use ml_front::Logic;
 use ml_gen::Family;
+use ml_pgsolver::LONGEST_GAME_TEXT;
 use std::alloc::{AllocError, Global};
 
 /// What the words ask for.
@@ -29,6 +31,8 @@ pub enum Command {
     CheckRefutation,
     /// `migrate`: the document with a refutation on the input, in version 2.
     Migrate,
+    /// `solve-game ENGINE`: who wins each vertex of the parity game on the input, and by which moves?
+    SolveGame { engine: Engine },
     /// `gen FAMILY N`: the text of the family's formula for the number. Nothing is read.
     Gen { family: Family, n: u32 },
     /// `bench FAMILY N`: the size of this formula, of its graph and of its decision game, and is it satisfiable? Nothing is
@@ -63,6 +67,7 @@ impl Command {
             Command::CheckModel | Command::CheckRefutation | Command::Migrate => {
                 Some(LONGEST_DOCUMENT)
             }
+            Command::SolveGame { .. } => Some(LONGEST_GAME_TEXT as u64),
             Command::Gen { .. } | Command::Bench { .. } => None,
         }
     }
@@ -151,11 +156,7 @@ fn row(
     ensures usual { IfSome result HasUsualNumbers }
 {
     match (command, subject, count, limit) {
-        (Some(command), Some(subject), None, limit) => {
-            let logic = Logic::named(subject.as_bytes())?;
-            let limit = limit_named(limit)?;
-            decided_by(command, logic, limit)
-        }
+        (Some(command), Some(subject), None, limit) => about(command, subject, limit),
         (Some(command), Some(subject), Some(count), None) => {
             let family = Family::named(subject.as_bytes())?;
             let n = count_named(family, count)?;
@@ -164,6 +165,39 @@ fn row(
         (Some(command), None, None, None) => bare_by(command),
         _ => None,
     }
+}
+
+fn about(command: &str, subject: &str, limit: Option<&str>) -> Option<Command>
+    ensures command { result ≡ command_line.about command.now subject.now (option_map (λ s. s.now) limit.entry) }
+    ensures usual { IfSome result HasUsualNumbers }
+{
+    if command == "solve-game" {
+        solved_by(subject, limit)
+    } else {
+        asked_by(command, subject, limit)
+    }
+}
+
+fn solved_by(subject: &str, limit: Option<&str>) -> Option<Command>
+    ensures command { result ≡ command_line.solved_by subject.now (option_map (λ s. s.now) limit.entry) }
+    ensures usual { IfSome result HasUsualNumbers }
+{
+    match limit {
+        None => {
+            let engine = Engine::named(subject.as_bytes())?;
+            Some(Command::SolveGame { engine })
+        }
+        Some(_) => None,
+    }
+}
+
+fn asked_by(command: &str, subject: &str, limit: Option<&str>) -> Option<Command>
+    ensures command { result ≡ command_line.asked_by command.now subject.now (option_map (λ s. s.now) limit.entry) }
+    ensures usual { IfSome result HasUsualNumbers }
+{
+    let logic = Logic::named(subject.as_bytes())?;
+    let limit = limit_named(limit)?;
+    decided_by(command, logic, limit)
 }
 
 fn decided_by(command: &str, logic: Logic, limit: u32) -> Option<Command>

@@ -1,7 +1,7 @@
 // What holds of what is due by its definition alone: the functions do nothing, their contracts are the theorems.
 ghost use Rattle.std.specs.Prelude.{◌≡◌, ◌+◌, ◌^◌};
 ghost use Rattle.ml_driver.specs.declared.command.TheConstants.{LONGEST_TEXT, LONGEST_DOCUMENT};
-ghost use Rattle.ml_driver.specs.Laws.{AnswersAreExact, DecidedAreChecked, OneDue, OneMeasure, RefutedAreAccepted, SomeDue, SomeDueForWords, SomeGame};
+ghost use Rattle.ml_driver.specs.Laws.{AnswersAreExact, DecidedAreChecked, OneDue, OneMeasure, RefutedAreAccepted, SameWinners, SomeDue, SomeDueForWords, SomeGame};
 
 /// For each command, for words that are none, and for each input exactly one status is due: some status with some output, and
 /// no other status. Of the limit of a command only this is asked, that it fits 32 bits, as that of each `Command` does; and
@@ -37,4 +37,9 @@ pub fn limits()
 /// has more.
 pub fn some_game()
     ensures { SomeGame }
+{}
+
+/// Whichever engine solves the game of a text: the text stands for one game, and the winners are the same.
+pub fn same_winners()
+    ensures { SameWinners }
 {}

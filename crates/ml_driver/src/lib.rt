@@ -3,7 +3,7 @@
 // `run` reads the words, then the source to its end, computes the answer as a value, makes its whole output as bytes,
 // and only then writes. Its contract (`specs/Run.antt`) says which status and output are due, and what each status
 // leaves behind; what the answers of `decide` and `valid` mean, in any of the four logics, stands in
-// `specs/Decision.antt`. `Status::code` is the number with which the program ends. `laws` says that one status is due for
+// `specs/Decision.antt`, and what `solve-game` answers in `specs/Games.antt`. `Status::code` is the number with which the program ends. `laws` says that one status is due for
 // all words and each input, that answers are exact, and that what is written is found to be right.
 //
 // Below stand all crates that it calls; above stands only the program `mlsolver`.
@@ -16,16 +16,19 @@ mod command;
 mod decide;
 mod deciding;
 mod documents;
+mod engine;
 mod finding;
 mod input;
 pub mod laws;
 mod output;
 mod question;
+mod solving;
 mod status;
 mod top;
 
 pub use cause::Cause;
 pub use command::{Command, LONGEST_DOCUMENT, LONGEST_TEXT, command_of};
+pub use engine::Engine;
 pub use finding::Finding;
 pub use question::Question;
 pub use status::Status;

@@ -1,0 +1,87 @@
+-- What `solve-game` answers of the text of a parity game.
+--
+-- Both engines answer with a solution of the game that the text stands for: who wins each vertex, and at each vertex whose
+-- owner wins it a move of one positional strategy that wins from all vertices of its player. Which moves these are is left
+-- open for `recursive`; for `measures` they are the first ones that progress in the owner's least progress measure.
+--
+--   engine_word e        == the word that names the engine e
+--   engine_named w       == the engine that the word w names, if it names one
+--   IsByMeasures g s     == the winners of s have lists in the least measures, and its moves are those that progress first
+--   IsMadeBy e g s       == what is said of the moves of the solution s of g, by the engine
+--   IsSolved e text out  == out is the text of a solution of the game that the text stands for
+--   game_refusal_line r  == the line for the text of a game that is refused: the number of the cause, and the byte
+--   IsRefusedGame text out == out says why the text is refused: by its length, or at a byte
+use Rattle.std.specs.Prelude.{ℕ, ◌≡◌, ◌<◌, ◌≤◌, ◌⊎◌, List, [], ◌∷◌, length, Option, Some, None, if◌then◌else◌, codes}
+use Rattle.std.specs.Str.{bytes_eq}
+use Rattle.ml_lines.specs.Lines.{Word, line_text, number}
+use Rattle.ml_parity.specs.Game.{ParityGame}
+use Rattle.ml_parity.specs.Solution.{GameSolution, IsSolution}
+use Rattle.ml_parity.specs.declared.players.Player.TheVariants.{Even, Odd}
+use Rattle.ml_pgsolver.specs.GameText.{NamedGame}
+use Rattle.ml_pgsolver.specs.Refusals.{IsReadAs, IsRefusedBy}
+use Rattle.ml_pgsolver.specs.SolutionText.{solution_text}
+use Rattle.ml_pgsolver.specs.declared.refusal.GameTextRefusal.{GameTextRefusal}
+use Rattle.ml_pgsolver.specs.declared.refusal.GameTextRefusal.TheVariants as cause
+use Rattle.ml_progress.specs.Measure.{IsLeastMeasure}
+use Rattle.ml_progress.specs.Measured.{MeasuredGame, IsTold, FirstProgressing}
+use Rattle.ml_driver.specs.Statuses.{longest_game, refused_length}
+use Rattle.ml_driver.specs.declared.engine.Engine.{Engine}
+use Rattle.ml_driver.specs.declared.engine.Engine.TheVariants.{Recursive, Measures}
+
+-- ---- engines
+
+abbrev pub engine_word : Engine → Word
+engine_word Recursive = codes "recursive"
+engine_word Measures = codes "measures"
+
+abbrev pub engine_named : Word → Option Engine
+engine_named word =
+    if bytes_eq word (engine_word Recursive) then Some Recursive
+    else (if bytes_eq word (engine_word Measures) then Some Measures else None)
+
+-- ---- games that are solved
+
+pub record IsByMeasures (g : ParityGame) (s : GameSolution) : Type 0 where
+  pub measured : MeasuredGame
+  pub even_is_least : IsLeastMeasure g Even measured.even
+  pub odd_is_least : IsLeastMeasure g Odd measured.odd
+  pub is_told : IsTold g measured
+  pub moves_first : FirstProgressing g measured
+  pub is_solution : s ≡ measured.solution
+
+abbrev pub IsMadeBy : Engine → ParityGame → GameSolution → Type 0
+IsMadeBy Recursive g s = Unit {0}
+IsMadeBy Measures g s = IsByMeasures g s
+
+pub record IsSolved (e : Engine) (text out : List ℕ) : Type 0 where
+  pub named : NamedGame
+  pub solution : GameSolution
+  pub is_short : length text ≤ longest_game
+  pub is_read : IsReadAs text named
+  pub is_solution : IsSolution named.game solution
+  pub is_made : IsMadeBy e named.game solution
+  pub is_written : out ≡ solution_text named solution
+
+-- ---- texts that are refused
+
+abbrev pub game_refused_at : ℕ → ℕ → Option (List ℕ)
+game_refused_at rule at =
+    Some (line_text (codes "refused" ∷ codes "game" ∷ codes "rule" ∷ number rule ∷ codes "at" ∷ number at ∷ []))
+
+-- want of memory is no refusal of the text
+abbrev pub game_refusal_line : GameTextRefusal → Option (List ℕ)
+game_refusal_line (cause.Syntax at) = game_refused_at 1 at
+game_refusal_line (cause.Repeated at) = game_refused_at 2 at
+game_refusal_line (cause.Unknown at) = game_refused_at 3 at
+game_refusal_line (cause.TooMany at) = game_refused_at 4 at
+game_refusal_line (cause.TooLarge at) = game_refused_at 5 at
+game_refusal_line cause.NoMemory = None
+
+pub record IsRefusedAsGame (text out : List ℕ) : Type 0 where
+  pub refusal : GameTextRefusal
+  pub is_short : length text ≤ longest_game
+  pub is_refused : IsRefusedBy text refusal
+  pub is_written : Some out ≡ game_refusal_line refusal
+
+abbrev pub IsRefusedGame : List ℕ → List ℕ → Type 0
+IsRefusedGame text out = ((longest_game < length text) × (out ≡ refused_length)) ⊎ IsRefusedAsGame text out
