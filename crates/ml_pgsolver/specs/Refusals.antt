@@ -19,10 +19,10 @@
 --   offset_of end ps k    == the byte at which the token number k begins; behind the last token it is the end
 --   IsReadAs text named   == the text stands for the game, and has no fault
 --   IsRefusedBy text e    == the text is refused with this answer
-use Rattle.std.specs.Prelude.{ℕ, ◌+◌, zero, suc, ◌<◌, ◌≤◌, ◌≡◌, ◌⊎◌, nat_le, List, [], ◌∷◌, ◌++◌, length, map, if◌then◌else◌}
+use Rattle.std.specs.Prelude.{ℕ, ◌+◌, zero, suc, ◌<◌, ◌≤◌, ◌≡◌, ◌⊎◌, nat_le, List, [], ◌∷◌, ◌++◌, length, if◌then◌else◌}
 use Rattle.ml_lines.specs.Reading.{value}
 use Rattle.ml_lists.specs.Member.{IsMember}
-use Rattle.ml_pgsolver.specs.Tokens.{Token, Number, Semicolon, Placed, tokens}
+use Rattle.ml_pgsolver.specs.Tokens.{Token, Number, Semicolon, Placed, tokens, signs_of}
 use Rattle.ml_pgsolver.specs.Grammar.{IsGameText, BeginsGameText}
 use Rattle.ml_pgsolver.specs.GameText.{NamedGame, StandsFor}
 use Rattle.ml_pgsolver.specs.declared.limits.TheConstants.{MOST_VERTICES, MOST_SUCCESSORS, GREATEST_NUMBER}
@@ -125,9 +125,6 @@ pub record IsFirstUnknown (ts : List Token) (k : ℕ) : Type 0 where
   pub faultless : HasNoFault ts
   pub comes : IsUnknown ts k
   pub first : (j : ℕ) → IsUnknown ts j → k ≤ j
-
-abbrev pub signs_of : List Placed → List Token
-signs_of ps = map (λ p. p.token) ps
 
 abbrev pub offset_of : ℕ → List Placed → ℕ → ℕ
 offset_of end [] k = end

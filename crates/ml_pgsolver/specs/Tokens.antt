@@ -12,7 +12,8 @@
 --   tokens_at k i text   == the tokens of a text whose first byte stands at the place i, where its first k bytes belong to a
 --                           token before it
 --   tokens text          == the tokens of the whole text
-use Rattle.std.specs.Prelude.{ℕ, ◌+◌, ◌-◌, zero, suc, Bool, ◌==◌, ◌||◌, not, nat_eq, List, [], ◌∷◌, ◌++◌, length, drop, if◌then◌else◌, codes}
+--   signs_of ps          == tokens without their places
+use Rattle.std.specs.Prelude.{ℕ, ◌+◌, ◌-◌, zero, suc, Bool, ◌==◌, ◌||◌, not, nat_eq, List, [], ◌∷◌, ◌++◌, length, map, drop, if◌then◌else◌, codes}
 use Rattle.std.specs.List.{starts_with, take_while}
 use Rattle.ml_text.specs.Bytes.{is_blank, is_digit}
 
@@ -65,3 +66,6 @@ tokens_at zero i (b ∷ rest) =
 
 unfoldable pub tokens : List ℕ → List Placed
 tokens text = tokens_at 0 0 text
+
+abbrev pub signs_of : List Placed → List Token
+signs_of ps = map (λ p. p.token) ps

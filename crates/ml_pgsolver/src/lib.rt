@@ -11,8 +11,10 @@
 pub mod laws;
 mod limits;
 mod named;
+mod reader;
 mod reading;
 mod refusal;
+mod scan;
 mod writing;
 
 pub use limits::{GREATEST_NUMBER, LONGEST_GAME_TEXT, MOST_SUCCESSORS, MOST_VERTICES};

@@ -3,6 +3,7 @@ ghost use Rattle.std.specs.Prelude.{MatchResult};
 ghost use Rattle.ml_pgsolver.specs.Refusals.{IsReadAs, IsRefusedBy};
 
 use crate::named::Named;
+use crate::reader::read_rows;
 use crate::refusal::GameTextRefusal;
 use std::alloc::Global;
 
@@ -29,6 +30,6 @@ use std::alloc::Global;
 pub fn read(alloc: Global, text: &[u8]) -> Result<Named, GameTextRefusal>
     ensures { MatchResult result (IsReadAs text.now) (IsRefusedBy text.now) }
 {
-    let _ = alloc;
+    let _ = read_rows(alloc, text)?;
     Err(GameTextRefusal::NoMemory)
 }
