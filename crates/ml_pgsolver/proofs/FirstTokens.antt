@@ -168,12 +168,14 @@ first_sign text i n sign size within long more is_sign is_size =
 -- where a digit stands, its number does
 pub digit_there : (text : List ℕ) (i : ℕ) (sign : Sign)
     → i < length text
-    → is_digit (get_or text i 0) ≡ true
+    → true ≡ is_digit (get_or (drop i text) 0 0)
     → sign ≡ sign_of (token.Number (take_while is_digit (drop i text)))
     → sign ≡ sign_of (token_at text i)
-digit_there text i sign within digit is =
+digit_there text i sign within digit_first is =
     let b = get_or text i 0 in
     let rest = drop (i + 1) text in
+    let digit : is_digit b ≡ true =
+    sym (digit_first ∙ ap (λ xs. is_digit (get_or xs 0 0)) (drop_more text i 0 within)) in
     let n = prefix_len is_digit rest in
     let one_more : 1 + n ≡ suc n = omega arith in
     let long : prefix_len is_digit (b ∷ rest) ≡ suc n = cond-true _ _ _ digit ∙ one_more in
