@@ -2,5 +2,15 @@
 mod FirstTokens
 -- numbers up to a cap
 mod Capped
+-- game texts as trees that grow
+mod Trees
+-- which tokens begin a game text
+mod Viable
+-- which tokens are ids and successors
+mod Roles
+-- what the reader makes of tokens
+mod Images
+-- the reader's steps are those of the grammar
+mod Comings
 -- one step of the reader
 mod Steps
