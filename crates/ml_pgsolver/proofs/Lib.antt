@@ -12,5 +12,11 @@ mod Roles
 mod Images
 -- the reader's steps are those of the grammar
 mod Comings
+-- a list that is cut in two ways
+mod Splits
+-- tokens that were read
+mod Readings
+-- what comes of a text
+mod Outcomes
 -- one step of the reader
 mod Steps

@@ -1,7 +1,8 @@
 -- One step of the reader, in what comes of the signs that are left.
 --
 --   goes_on      == behind a sign that is read, what comes is what comes of the others
---   told         == a sign that is refused is what comes
+--   stops        == a sign that is refused is what comes
+--   told         == and what is told of it
 --   told_along   == a refusal, carried along an equation
 --   too_soon     == a text may end only behind a vertex
 --   ends         == where no signs are left, the stage tells what comes
@@ -19,7 +20,7 @@ pub goes_on : (end : ℕ) (s next : State) (t : Sign) (at : ℕ) (ts : List (Sig
 unfolding outcome_from
 goes_on end s next t at ts is = ap (λ q. behind q (λ n. outcome_from end n ts)) is
 
-stops : (end : ℕ) (s : State) (t : Sign) (at : ℕ) (ts : List (Sign × ℕ)) (e : GameTextRefusal)
+pub stops : (end : ℕ) (s : State) (t : Sign) (at : ℕ) (ts : List (Sign × ℕ)) (e : GameTextRefusal)
     → step s t at ≡ Err e
     → outcome_from end s ((t, at) ∷ ts) ≡ Err e
 unfolding outcome_from

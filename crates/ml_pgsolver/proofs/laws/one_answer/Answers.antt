@@ -1,4 +1,4 @@
-use Rattle.ml_pgsolver.proofs.Comings.{came, stuck}
+use Rattle.ml_pgsolver.proofs.Outcomes.{comes}
 use Rattle.ml_pgsolver.proofs.laws.one_answer.Goals as goal
 
 pub returns-clause-unambiguous : goal.returns-clause-unambiguous
