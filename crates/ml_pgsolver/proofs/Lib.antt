@@ -1,0 +1,22 @@
+-- tokens of a text from a byte on
+mod FirstTokens
+-- numbers up to a cap
+mod Capped
+-- game texts as trees that grow
+mod Trees
+-- which tokens begin a game text
+mod Viable
+-- which tokens are ids and successors
+mod Roles
+-- what the reader makes of tokens
+mod Images
+-- the reader's steps are those of the grammar
+mod Comings
+-- a list that is cut in two ways
+mod Splits
+-- tokens that were read
+mod Readings
+-- what comes of a text
+mod Outcomes
+-- one step of the reader
+mod Steps
