@@ -79,7 +79,7 @@ impl Sequent {
         ensures { IfOk result (λ sequent. sequent ≡ self.now) }
     {
         Ok(Sequent {
-            nodes: self.nodes()?,
+            nodes: Vec::from_slice(*self.nodes.allocator(), self.values())?,
         })
     }
 }
