@@ -100,11 +100,20 @@ fn write_modal(
     ensures front { take (vec_len text.old) text.new.items ≡ text.old.items }
 {
     text.extend_from_slice(opens)?;
-    if action.bytes() != b"_".as_slice() {
-        text.extend_from_slice(action.bytes())?;
-    }
+    write_action(text, action)?;
     text.extend_from_slice(closes)?;
     write_term(text, operand)
+}
+
+// the action between the signs of a modality, unless it is `_`
+fn write_action(text: &mut Vec<u8>, action: &Action) -> Result<(), AllocError>
+    ensures text { OnOk result (text.new.items ≡ text.old.items ++ action_text action.now) }
+    ensures front { take (vec_len text.old) text.new.items ≡ text.old.items }
+{
+    if action.bytes() == b"_".as_slice() {
+        return Ok(());
+    }
+    text.extend_from_slice(action.bytes())
 }
 
 // `(word variable. body)`; the word has its blank
