@@ -2,7 +2,7 @@
 ghost use Rattle.std.specs.Prelude.{◌≡◌, ◌++◌, [], ◌∷◌, codes, take, IfOk, OnOk, OnErr, vec_len};
 ghost use Rattle.ml_base.specs.declared.version.Version.TheVariants as version;
 ghost use Rattle.ml_lines.specs.Lines.{line_text, text_of};
-ghost use Rattle.ml_front.specs.Head.{head_lines};
+ghost use Rattle.ml_front.specs.Head.{head_lines, sense_word};
 ghost use Rattle.ml_front.specs.Logics.{canonical_text, logic_of};
 
 use crate::answer::Answer;
@@ -50,15 +50,7 @@ fn append_lines(out: &mut Vec<u8>, problem: &Problem, answer: Answer) -> Result<
     append_pair(out, b"mlsolver", version_word(Version::Two))?;
     append_pair(out, b"answer", answer.word())?;
     append_pair(out, b"logic", logic(&problem.formula).word())?;
-    append_pair(
-        out,
-        b"sense",
-        if problem.negated {
-            b"negated"
-        } else {
-            b"plain"
-        },
-    )?;
+    append_pair(out, b"sense", sense_word(problem.negated))?;
     append_formula(out, &problem.formula)
 }
 
@@ -71,6 +63,12 @@ fn logic(formula: &AnyFormula) -> Logic
         AnyFormula::Ctl(_) => Logic::Ctl,
         AnyFormula::Ltl(_) => Logic::Ltl,
     }
+}
+
+fn sense_word(negated: bool) -> &'static [u8]
+    ensures { result.now ≡ sense_word negated }
+{
+    if negated { b"negated" } else { b"plain" }
 }
 
 fn append_pair(out: &mut Vec<u8>, first: &[u8], second: &[u8]) -> Result<(), NoMemory>
