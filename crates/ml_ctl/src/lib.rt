@@ -5,7 +5,8 @@
 // canonical text. What formulas mean, along paths and at states, stands in `specs/Meaning.antt`, and where a problem holds
 // in `specs/Problem.antt`. The module `laws` has what is true of texts and of meanings.
 //
-// Below stand `ml_text`, with tokens and grammars, and `ml_base`, with structures.
+// Below stand `ml_text`, with tokens and grammars, `ml_lines`, with what is written whole or not at all, and `ml_base`, with
+// structures.
 #![tactic(auto)]
 
 mod copying;

@@ -1,5 +1,5 @@
 // The canonical text of a formula.
-ghost use Rattle.std.specs.Prelude.{◌≡◌, ◌++◌, IfOk, OnOk, codes};
+ghost use Rattle.std.specs.Prelude.{◌≡◌, ◌++◌, take, IfOk, OnOk, OnErr, codes, vec_len};
 ghost use Rattle.ml_ctl.specs.Canonical.{canonical_text};
 ghost use Rattle.ml_ctl.specs.Formula as plain;
 ghost use Rattle.ml_ctl.specs.Parsing.{IsParsedAs};
@@ -8,6 +8,7 @@ ghost use Rattle.ml_ctl.specs.WellFormed.{IsWellFormed};
 
 use crate::{Formula, Term};
 use ml_base::NoMemory;
+use ml_lines::whole_or_none;
 use std::alloc::{AllocError, Global};
 
 /// The canonical text of a formula, which is read back as the same formula.
@@ -28,26 +29,37 @@ pub fn print(alloc: Global, formula: &Formula) -> Result<Vec<u8>, NoMemory>
 /// Appends the canonical text of a formula, as `print` gives it. Whoever asks also learns what the type keeps.
 ///
 /// # Errors
-/// `NoMemory` alone, and then a part of the text may stand in `out`.
+/// `NoMemory` alone, and then `out` is as before.
 ///
 /// Cost: linear in the text, over many calls.
 pub fn append_text(out: &mut Vec<u8>, formula: &Formula) -> Result<(), NoMemory>
     ensures text { OnOk result (out.new.items ≡ out.old.items ++ canonical_text formula.now) }
     ensures well_formed { IsWellFormed plain.Ctl formula.now }
+    ensures kept { OnErr result (out.new.items ≡ out.old.items) }
 {
-    append_term(out, formula.root())?;
-    Ok(())
+    append_term(out, formula.root())
 }
 
 /// Appends the canonical text of a tree.
 ///
 /// # Errors
-/// Want of memory alone, and then a part of the text may stand in `out`.
+/// `NoMemory` alone, and then `out` is as before.
 ///
 /// Cost: linear in the text, over many calls. No call is nested deeper than twice the tree.
+pub fn append_term(out: &mut Vec<u8>, term: &Term) -> Result<(), NoMemory>
+    ensures text { OnOk result (out.new.items ≡ out.old.items ++ canonical_text (formula_of term.now)) }
+    ensures kept { OnErr result (out.new.items ≡ out.old.items) }
+{
+    let end = out.len();
+    let written = write_term(out, term);
+    Ok(whole_or_none(out, end, written)?)
+}
+
+// Each function from here on leaves what stood in `text`, also where memory is wanting and a part stands behind it.
 #[cycle(printer)]
-pub fn append_term(text: &mut Vec<u8>, term: &Term) -> Result<(), AllocError>
-    ensures { OnOk result (text.new.items ≡ text.old.items ++ canonical_text (formula_of term.now)) }
+fn write_term(text: &mut Vec<u8>, term: &Term) -> Result<(), AllocError>
+    ensures text { OnOk result (text.new.items ≡ text.old.items ++ canonical_text (formula_of term.now)) }
+    ensures front { take (vec_len text.old) text.new.items ≡ text.old.items }
 {
     match term {
         Term::Const(true) => text.extend_from_slice(b"tt"),
@@ -72,11 +84,12 @@ pub fn append_term(text: &mut Vec<u8>, term: &Term) -> Result<(), AllocError>
 // a sign and its operand; the sign has its blank
 #[cycle(printer)]
 fn write_prefix(text: &mut Vec<u8>, sign: &[u8], operand: &Term) -> Result<(), AllocError>
-    ensures { OnOk result (text.new.items ≡
+    ensures text { OnOk result (text.new.items ≡
         text.old.items ++ (sign.now ++ canonical_text (formula_of operand.now))) }
+    ensures front { take (vec_len text.old) text.new.items ≡ text.old.items }
 {
     text.extend_from_slice(sign)?;
-    append_term(text, operand)
+    write_term(text, operand)
 }
 
 // `(left sign right)`; the sign has its blanks
@@ -87,13 +100,14 @@ fn write_binary(
     sign: &[u8],
     right: &Term,
 ) -> Result<(), AllocError>
-    ensures { OnOk result (text.new.items ≡
+    ensures text { OnOk result (text.new.items ≡
         text.old.items ++ (codes "(" ++ canonical_text (formula_of left.now) ++ sign.now
         ++ canonical_text (formula_of right.now) ++ codes ")")) }
+    ensures front { take (vec_len text.old) text.new.items ≡ text.old.items }
 {
     text.extend_from_slice(b"(")?;
-    append_term(text, left)?;
+    write_term(text, left)?;
     text.extend_from_slice(sign)?;
-    append_term(text, right)?;
+    write_term(text, right)?;
     text.extend_from_slice(b")")
 }

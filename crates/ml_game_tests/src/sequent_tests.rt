@@ -136,8 +136,8 @@ fn spreads_of_fixpoints(rt: HostRuntime) -> Result<(), Fail> {
 }
 
 // Has the sequent these values, as its nodes and in its copy too?
-fn is_sequent(alloc: Global, sequent: &Sequent, values: &[u32]) -> Result<bool, Fail> {
-    let nodes = sequent.nodes(alloc)?;
+fn is_sequent(sequent: &Sequent, values: &[u32]) -> Result<bool, Fail> {
+    let nodes = sequent.nodes()?;
     let copy = sequent.copy()?;
     Ok(sequent.values() == values && nodes.as_slice() == values && copy.values() == values)
 }
@@ -145,7 +145,7 @@ fn is_sequent(alloc: Global, sequent: &Sequent, values: &[u32]) -> Result<bool, 
 #[test]
 fn sequents_are_lists(rt: HostRuntime) -> Result<(), Fail> {
     let sequent = Sequent::of(rt.alloc(), &[5, 2, 5, 3])?;
-    assert!(rt; is_sequent(rt.alloc(), &sequent, &[2, 3, 5])?);
+    assert!(rt; is_sequent(&sequent, &[2, 3, 5])?);
     Ok(())
 }
 

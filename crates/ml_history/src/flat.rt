@@ -170,13 +170,13 @@ impl History {
     /// `NoMemory` alone.
     ///
     /// Cost: that of the tree's `stacks`.
-    pub fn of_tree(tree: &TreeHistory) -> Result<History, NoMemory>
+    pub fn of_tree(alloc: Global, tree: &TreeHistory) -> Result<History, NoMemory>
         ensures { IfOk result (λ h. h ≡ tree.now) }
     {
         tree.keeps();
         let all = tree.stacks()?;
         Ok(History {
-            stacks: laid(*all.allocator(), all.as_slice())?,
+            stacks: laid(alloc, all.as_slice())?,
             live: tree.live(),
         })
     }

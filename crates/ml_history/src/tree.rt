@@ -91,8 +91,9 @@ impl TreeHistory {
         above(self.roots.as_slice()) as u32
     }
 
-    // What the type keeps; the call does nothing.
-    pub(crate) fn keeps(&self)
+    /// What the type keeps: its states with their stacks are a history of the definition, and the states have numbers below
+    /// 2^30. The call does nothing.
+    pub fn keeps(&self)
         ensures { IsSmallHistory self.now }
     {
         let _roots = &self.roots;

@@ -29,11 +29,8 @@ pub fn write_number(out: &mut Vec<u8>, n: u64) -> Result<(), NoMemory>
     ensures err { OnErr result (out.new.items ≡ out.old.items) }
 {
     let end = out.len();
-    if let Err(no_memory) = write_digits(out, n) {
-        out.truncate(end);
-        return Err(no_memory);
-    }
-    Ok(())
+    let written = write_digits(out, n);
+    whole_or_none(out, end, written)
 }
 
 /// Appends a blank and a word behind it.
@@ -82,6 +79,28 @@ pub fn end_line(out: &mut Vec<u8>) -> Result<(), NoMemory>
 {
     out.push(b'\n')?;
     Ok(())
+}
+
+/// Hands on what a writer answered, and cuts what it appended unless it wrote all: `end` is the length that `out` had
+/// before. So what is written by several calls stands in `out` whole or not at all.
+///
+/// # Errors
+/// That of `written`; `out` then ends at `end`.
+///
+/// Cost: constant.
+pub fn whole_or_none<E: Drop>(
+    out: &mut Vec<u8>,
+    end: usize,
+    written: Result<(), E>,
+) -> Result<(), E>
+    ensures answer { result ≡ written }
+    ensures whole { OnOk result (out.new.items ≡ out.old.items) }
+    ensures none { OnErr result (out.new.items ≡ take end out.old.items) }
+{
+    if written.is_err() {
+        out.truncate(end);
+    }
+    written
 }
 
 // The last digit stands behind those of the tenth.

@@ -1,5 +1,5 @@
 // The canonical text of a formula.
-ghost use Rattle.std.specs.Prelude.{◌≡◌, ◌++◌, IfOk, OnOk};
+ghost use Rattle.std.specs.Prelude.{◌≡◌, ◌++◌, IfOk, OnOk, OnErr};
 ghost use Rattle.ml_ctl.specs.Canonical.{canonical_text};
 ghost use Rattle.ml_ctl.specs.Formula as plain;
 ghost use Rattle.ml_ctl.specs.WellFormed.{IsWellFormed};
@@ -28,13 +28,13 @@ pub fn print(alloc: Global, formula: &Formula) -> Result<Vec<u8>, NoMemory>
 /// Appends the canonical text of a formula, as `print` gives it. Whoever asks also learns what the type keeps.
 ///
 /// # Errors
-/// `NoMemory` alone, and then a part of the text may stand in `out`.
+/// `NoMemory` alone, and then `out` is as before.
 ///
 /// Cost: linear in the text, over many calls.
 pub fn append_text(out: &mut Vec<u8>, formula: &Formula) -> Result<(), NoMemory>
     ensures text { OnOk result (out.new.items ≡ out.old.items ++ canonical_text formula.now) }
     ensures well_formed { IsWellFormed plain.Ltl formula.now }
+    ensures kept { OnErr result (out.new.items ≡ out.old.items) }
 {
-    append_term(out, formula.root())?;
-    Ok(())
+    append_term(out, formula.root())
 }

@@ -3,8 +3,8 @@ ghost use Rattle.std.specs.Prelude.{◌≡◌, unwrap_or, IfOk, OnOk};
 ghost use Rattle.ml_mu_graph.specs.private.NodeList as listed;
 ghost use Rattle.ml_mu_graph.specs.private.Views.{none_around, around};
 
-use ml_base::Name;
-use std::alloc::{AllocError, Global};
+use ml_base::{Name, NoMemory};
+use std::alloc::Global;
 use std::collections::HashMap;
 
 // of each variable with a binder around, the occurrence of the innermost one
@@ -31,7 +31,7 @@ impl<'a> Binders<'a> {
     }
 
     // a binder of the variable is entered; what comes back is the one around it
-    pub(crate) fn enter(&mut self, variable: &'a Name, at: u32) -> Result<Option<u32>, AllocError>
+    pub(crate) fn enter(&mut self, variable: &'a Name, at: u32) -> Result<Option<u32>, NoMemory>
         ensures inside { OnOk result (around self.new ≡ listed.bound variable.now at (around self.old)) }
         ensures outer { IfOk result (λ outer. unwrap_or outer 0 ≡ around self.old variable.now) }
     {
@@ -39,7 +39,7 @@ impl<'a> Binders<'a> {
     }
 
     // a binder of the variable is left for the one around it
-    pub(crate) fn leave(&mut self, variable: &'a Name, outer: Option<u32>) -> Result<(), AllocError>
+    pub(crate) fn leave(&mut self, variable: &'a Name, outer: Option<u32>) -> Result<(), NoMemory>
         ensures { OnOk result (around self.new ≡ listed.bound variable.now (unwrap_or outer 0) (around self.old)) }
     {
         match outer {

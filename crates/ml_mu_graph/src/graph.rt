@@ -19,7 +19,7 @@ use ml_nodes::{
     Draft, Lists, Names, and, constant, lead_to, negative, or, positive, root_of, weight,
 };
 use ml_text::{MOST_OCCURRENCES, Operator};
-use std::alloc::{AllocError, Global};
+use std::alloc::Global;
 
 // how many binders a term has
 fn count_binders(term: &Term) -> u32
@@ -49,7 +49,7 @@ fn fill(nodes: &mut Vec<Node>, from: usize, block: &[Node])
 }
 
 // a block of placeholders for a connective, with their priorities
-fn open(draft: &mut Draft, operator: Operator, plain: u32) -> Result<(), AllocError>
+fn open(draft: &mut Draft, operator: Operator, plain: u32) -> Result<(), NoMemory>
     ensures nodes { OnOk result (draft.new.nodes.items ≡ draft.old.nodes.items ++ listed.operator_holes operator) }
     ensures priorities { OnOk result (draft.new.priorities.items ≡ draft.old.priorities.items ++ operator_priorities operator plain) }
 {
@@ -118,7 +118,7 @@ fn place<'a>(
     depth: u32,
     at: u32,
     term: &'a Term,
-) -> Result<(), AllocError>
+) -> Result<(), NoMemory>
     requires names { (length names.now.props.keys < 2 ^ 32) × (length names.now.actions.keys < 2 ^ 32) }
     requires start { length draft.old.nodes.items ≡ 2 * at }
     requires few { at + occurrences (formula_of term.now) ≤ 1000 }
@@ -266,7 +266,7 @@ fn place_both<'a>(
     operator: Operator,
     left: &'a Term,
     right: &'a Term,
-) -> Result<(), AllocError>
+) -> Result<(), NoMemory>
     requires names { (length names.now.props.keys < 2 ^ 32) × (length names.now.actions.keys < 2 ^ 32) }
     requires start { length draft.old.nodes.items ≡ 2 * at }
     requires few { at + occurrences (mu.Binary operator (formula_of left.now) (formula_of right.now)) ≤ 1000 }
@@ -299,7 +299,7 @@ fn place_body<'a>(
     at: u32,
     variable: &'a Name,
     body: &'a Term,
-) -> Result<(), AllocError>
+) -> Result<(), NoMemory>
     requires names { (length names.now.props.keys < 2 ^ 32) × (length names.now.actions.keys < 2 ^ 32) }
     requires start { length draft.old.nodes.items ≡ 2 * (at + 1) }
     requires few { at + 1 + occurrences (formula_of body.now) ≤ 1000 }
@@ -337,7 +337,7 @@ fn lists_of(alloc: Global, term: &Term) -> Result<Lists, NoMemory>
         0,
         term,
     )?;
-    Ok(Lists::of(alloc, draft, names)?)
+    Lists::of(alloc, draft, names)
 }
 
 /// The modal graph of a formula, or of its negation: it holds exactly where the formula does, or doesn't.

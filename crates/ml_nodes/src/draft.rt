@@ -1,8 +1,9 @@
 // The nodes and priorities of a graph that is being made.
-ghost use Rattle.std.specs.Prelude.{◌≡◌, ◌++◌, [], ◌∷◌, OnOk};
+ghost use Rattle.std.specs.Prelude.{◌≡◌, ◌++◌, [], ◌∷◌, OnOk, OnErr};
 
+use ml_base::NoMemory;
 use ml_graph::Node;
-use std::alloc::{AllocError, Global};
+use std::alloc::Global;
 
 /// The nodes and priorities so far.
 #[derive(Drop)]
@@ -26,17 +27,24 @@ impl Draft {
     /// Puts the two nodes of an occurrence behind those so far, with their priorities.
     ///
     /// # Errors
-    /// `AllocError` alone.
+    /// `NoMemory` alone, and then the draft is as before.
     ///
     /// Cost: constant on average.
-    pub fn put(&mut self, nodes: (Node, Node), priorities: (u32, u32)) -> Result<(), AllocError>
+    pub fn put(&mut self, nodes: (Node, Node), priorities: (u32, u32)) -> Result<(), NoMemory>
         ensures nodes { OnOk result (self.new.nodes.items ≡ self.old.nodes.items ++ nodes.0 ∷ nodes.1 ∷ []) }
         ensures priorities { OnOk result (self.new.priorities.items ≡ self.old.priorities.items ++ priorities.0 ∷ priorities.1 ∷ []) }
+        ensures kept { OnErr result (self.new.nodes.items ≡ self.old.nodes.items) }
+        ensures kept_priorities { OnErr result (self.new.priorities.items ≡ self.old.priorities.items) }
     {
-        self.nodes.push(nodes.0)?;
-        self.nodes.push(nodes.1)?;
-        self.priorities.push(priorities.0)?;
-        self.priorities.push(priorities.1)?;
+        let size = self.nodes.len();
+        self.nodes.extend_from_slice(&[nodes.0, nodes.1])?;
+        if let Err(no_memory) = self
+            .priorities
+            .extend_from_slice(&[priorities.0, priorities.1])
+        {
+            self.nodes.truncate(size);
+            return Err(NoMemory::from(no_memory));
+        }
         Ok(())
     }
 }

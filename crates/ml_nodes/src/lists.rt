@@ -4,9 +4,9 @@ ghost use Rattle.ml_graph.specs.Graph.{IsGraph, graph_of};
 
 use crate::draft::Draft;
 use crate::names::Names;
-use ml_base::{Action, Name};
+use ml_base::{Action, Name, NoMemory};
 use ml_graph::{ModalGraph, Node};
-use std::alloc::{AllocError, Global};
+use std::alloc::Global;
 
 /// The lists of a graph: nodes, a priority for each, and the names of propositions and actions.
 #[derive(Drop)]
@@ -21,19 +21,22 @@ impl Lists {
     /// The lists of a draft and of its names.
     ///
     /// # Errors
-    /// `AllocError` alone.
+    /// `NoMemory` alone.
     ///
     /// Cost: linear in the number of names.
-    pub fn of(alloc: Global, draft: Draft, names: Names) -> Result<Lists, AllocError>
+    pub fn of(alloc: Global, draft: Draft, names: Names) -> Result<Lists, NoMemory>
         ensures nodes { IfOk result (λ lists. lists.nodes.items ≡ draft.nodes.items) }
         ensures priorities { IfOk result (λ lists. lists.priorities.items ≡ draft.priorities.items) }
         ensures props { IfOk result (λ lists. lists.props.items ≡ names.props.keys) }
         ensures actions { IfOk result (λ lists. lists.actions.items ≡ names.actions.keys) }
     {
-        let (props, actions) = names.into_lists(alloc)?;
+        let Names { props, actions } = names;
+        let props = props.into_iter().collect(alloc)?;
+        let actions = actions.into_iter().collect(alloc)?;
+        let Draft { nodes, priorities } = draft;
         Ok(Lists {
-            nodes: draft.nodes,
-            priorities: draft.priorities,
+            nodes,
+            priorities,
             props,
             actions,
         })

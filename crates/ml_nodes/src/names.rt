@@ -1,11 +1,10 @@
 // The names of a graph: its propositions and its actions, each once, in the order in which they come.
-ghost use Rattle.std.specs.Prelude.{◌≡◌, ◌<◌, ◌^◌, ◌++◌, ◌∷◌, [], if◌then◌else◌, length, position, unwrap_or, OnOk, IfOk};
+ghost use Rattle.std.specs.Prelude.{◌≡◌, ◌<◌, ◌^◌, ◌++◌, ◌∷◌, [], if◌then◌else◌, length, position, unwrap_or, OnOk, OnErr};
 ghost use Rattle.std.specs.List.{list_any};
 ghost use Rattle.ml_text.specs.NameLists.{with_name, place_of};
 
 use indexmap::IndexSet;
 use ml_base::{Action, Name, NoMemory};
-use std::alloc::{AllocError, Global};
 use std::hash::Hash;
 
 /// The names of a graph.
@@ -18,8 +17,9 @@ pub struct Names {
 // adds a key, unless it is there
 fn add<T: Clone + Eq + Hash + Drop>(keys: &mut IndexSet<T>, key: &T) -> Result<(), NoMemory>
     requires { (a b : T) → T.is_clone a b → b ≡ a }
-    ensures { OnOk result (keys.new.keys
+    ensures added { OnOk result (keys.new.keys
         ≡ (if list_any (T.eq key.now) keys.old.keys then keys.old.keys else keys.old.keys ++ key.now ∷ [])) }
+    ensures kept { OnErr result (keys.new.keys ≡ keys.old.keys) }
 {
     if keys.contains(key) {
         return Ok(());
@@ -42,11 +42,12 @@ fn place<T: Eq + Hash>(keys: &IndexSet<T>, key: &T) -> u32
 /// Adds a proposition, unless it is there.
 ///
 /// # Errors
-/// `NoMemory` alone.
+/// `NoMemory` alone, and then `props` is as before.
 ///
 /// Cost: the name's length, on average.
 pub fn add_proposition(props: &mut IndexSet<Name>, name: &Name) -> Result<(), NoMemory>
-    ensures { OnOk result (props.new.keys ≡ with_name props.old.keys name.now) }
+    ensures added { OnOk result (props.new.keys ≡ with_name props.old.keys name.now) }
+    ensures kept { OnErr result (props.new.keys ≡ props.old.keys) }
 {
     add(props, name)
 }
@@ -54,11 +55,12 @@ pub fn add_proposition(props: &mut IndexSet<Name>, name: &Name) -> Result<(), No
 /// Adds an action, unless it is there.
 ///
 /// # Errors
-/// `NoMemory` alone.
+/// `NoMemory` alone, and then `actions` is as before.
 ///
 /// Cost: the name's length, on average.
 pub fn add_action(actions: &mut IndexSet<Action>, name: &Action) -> Result<(), NoMemory>
-    ensures { OnOk result (actions.new.keys ≡ with_name actions.old.keys name.now) }
+    ensures added { OnOk result (actions.new.keys ≡ with_name actions.old.keys name.now) }
+    ensures kept { OnErr result (actions.new.keys ≡ actions.old.keys) }
 {
     add(actions, name)
 }
@@ -82,22 +84,5 @@ impl Names {
         ensures { result ≡ place_of self.now.actions.keys name.now }
     {
         place(&self.actions, name)
-    }
-
-    /// The propositions and the actions as lists.
-    ///
-    /// # Errors
-    /// `AllocError` alone.
-    ///
-    /// Cost: linear in the number of names.
-    pub fn into_lists(self, alloc: Global) -> Result<(Vec<Name>, Vec<Action>), AllocError>
-        ensures props { IfOk result (λ lists. lists.0.items ≡ self.props.keys) }
-        ensures actions { IfOk result (λ lists. lists.1.items ≡ self.actions.keys) }
-    {
-        let Names { props, actions } = self;
-        Ok((
-            props.into_iter().collect(alloc)?,
-            actions.into_iter().collect(alloc)?,
-        ))
     }
 }

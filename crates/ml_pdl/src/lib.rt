@@ -5,8 +5,8 @@
 // What formulas and programs mean stands in `specs/Meaning.antt`, and where a problem holds in `specs/Problem.antt`. The
 // module `laws` has what is true of texts and of meanings.
 //
-// Below stand `ml_text`, with tokens and grammars, and `ml_base`, with structures; above stands `ml_pdl_graph`, with their
-// graphs.
+// Below stand `ml_text`, with tokens and grammars, `ml_lines`, with what is written whole or not at all, and `ml_base`, with
+// structures; above stands `ml_pdl_graph`, with their graphs.
 #![tactic(auto)]
 
 mod copying;

@@ -1,5 +1,5 @@
 // The canonical text of a formula.
-ghost use Rattle.std.specs.Prelude.{◌≡◌, ◌++◌, [], if◌then◌else◌, IfOk, OnOk, codes};
+ghost use Rattle.std.specs.Prelude.{◌≡◌, ◌++◌, [], if◌then◌else◌, take, IfOk, OnOk, OnErr, codes, vec_len};
 ghost use Rattle.ml_pdl.specs.Canonical.{canonical_text, program_text, whole_program};
 ghost use Rattle.ml_pdl.specs.Parsing.{IsParsedAs};
 ghost use Rattle.ml_pdl.specs.Term.{formula_of, program_of};
@@ -7,6 +7,7 @@ ghost use Rattle.ml_pdl.specs.WellFormed.{IsWellFormed};
 
 use crate::{Formula, Program, Term};
 use ml_base::NoMemory;
+use ml_lines::whole_or_none;
 use std::alloc::{AllocError, Global};
 
 /// The canonical text of a formula, which is read back as the same formula.
@@ -27,20 +28,24 @@ pub fn print(alloc: Global, formula: &Formula) -> Result<Vec<u8>, NoMemory>
 /// Appends the canonical text of a formula, as `print` gives it. Whoever asks also learns what the type keeps.
 ///
 /// # Errors
-/// `NoMemory` alone, and then a part of the text may stand in `out`.
+/// `NoMemory` alone, and then `out` is as before.
 ///
 /// Cost: linear in the text, over many calls.
 pub fn append_text(out: &mut Vec<u8>, formula: &Formula) -> Result<(), NoMemory>
     ensures text { OnOk result (out.new.items ≡ out.old.items ++ canonical_text formula.now) }
     ensures well_formed { IsWellFormed formula.now }
+    ensures kept { OnErr result (out.new.items ≡ out.old.items) }
 {
-    write_term(out, formula.root())?;
-    Ok(())
+    let end = out.len();
+    let written = write_term(out, formula.root());
+    Ok(whole_or_none(out, end, written)?)
 }
 
+// Each function from here on leaves what stood in `text`, also where memory is wanting and a part stands behind it.
 #[cycle(printer)]
 fn write_term(text: &mut Vec<u8>, term: &Term) -> Result<(), AllocError>
-    ensures { OnOk result (text.new.items ≡ text.old.items ++ canonical_text (formula_of term.now)) }
+    ensures text { OnOk result (text.new.items ≡ text.old.items ++ canonical_text (formula_of term.now)) }
+    ensures front { take (vec_len text.old) text.new.items ≡ text.old.items }
 {
     match term {
         Term::Const(true) => text.extend_from_slice(b"tt"),
@@ -72,9 +77,10 @@ fn write_binary(
     sign: &[u8],
     right: &Term,
 ) -> Result<(), AllocError>
-    ensures { OnOk result (text.new.items ≡
+    ensures text { OnOk result (text.new.items ≡
         text.old.items ++ (codes "(" ++ canonical_text (formula_of left.now) ++ sign.now
         ++ canonical_text (formula_of right.now) ++ codes ")")) }
+    ensures front { take (vec_len text.old) text.new.items ≡ text.old.items }
 {
     text.extend_from_slice(b"(")?;
     write_term(text, left)?;
@@ -92,9 +98,10 @@ fn write_modal(
     closes: &[u8],
     operand: &Term,
 ) -> Result<(), AllocError>
-    ensures { OnOk result (text.new.items ≡
+    ensures text { OnOk result (text.new.items ≡
         text.old.items ++ (opens.now ++ whole_program (program_of program.now) (program_text (program_of program.now))
         ++ closes.now ++ canonical_text (formula_of operand.now))) }
+    ensures front { take (vec_len text.old) text.new.items ≡ text.old.items }
 {
     text.extend_from_slice(opens)?;
     write_whole(text, program)?;
@@ -105,8 +112,9 @@ fn write_modal(
 // the program between the signs of a modality, unless it is `_`
 #[cycle(printer)]
 fn write_whole(text: &mut Vec<u8>, program: &Program) -> Result<(), AllocError>
-    ensures { OnOk result (text.new.items ≡
+    ensures text { OnOk result (text.new.items ≡
         text.old.items ++ whole_program (program_of program.now) (program_text (program_of program.now))) }
+    ensures front { take (vec_len text.old) text.new.items ≡ text.old.items }
 {
     if is_blank(program) {
         return Ok(());
@@ -127,7 +135,8 @@ fn is_blank(program: &Program) -> bool
 
 #[cycle(printer)]
 fn write_program(text: &mut Vec<u8>, program: &Program) -> Result<(), AllocError>
-    ensures { OnOk result (text.new.items ≡ text.old.items ++ program_text (program_of program.now)) }
+    ensures text { OnOk result (text.new.items ≡ text.old.items ++ program_text (program_of program.now)) }
+    ensures front { take (vec_len text.old) text.new.items ≡ text.old.items }
 {
     match program {
         Program::Act(action) => text.extend_from_slice(action.bytes()),
@@ -153,9 +162,10 @@ fn write_joined(
     sign: &[u8],
     right: &Program,
 ) -> Result<(), AllocError>
-    ensures { OnOk result (text.new.items ≡
+    ensures text { OnOk result (text.new.items ≡
         text.old.items ++ (codes "(" ++ program_text (program_of left.now) ++ sign.now
         ++ program_text (program_of right.now) ++ codes ")")) }
+    ensures front { take (vec_len text.old) text.new.items ≡ text.old.items }
 {
     text.extend_from_slice(b"(")?;
     write_program(text, left)?;

@@ -19,10 +19,10 @@ use ml_nodes::{
 };
 use ml_pdl::{Formula, Program, Term};
 use ml_text::{MOST_OCCURRENCES, Operator};
-use std::alloc::{AllocError, Global};
+use std::alloc::Global;
 
 // puts the two nodes of an occurrence that is of no star and of no infinite repetition
-fn put_plain(draft: &mut Draft, nodes: (Node, Node)) -> Result<(), AllocError>
+fn put_plain(draft: &mut Draft, nodes: (Node, Node)) -> Result<(), NoMemory>
     ensures nodes { OnOk result (draft.new.nodes.items ≡ draft.old.nodes.items ++ nodes.0 ∷ nodes.1 ∷ []) }
     ensures priorities { OnOk result (draft.new.priorities.items
         ≡ draft.old.priorities.items ++ graph.plain ∷ graph.plain ∷ []) }
@@ -37,7 +37,7 @@ fn put_connective(
     at: u32,
     l: u32,
     r: u32,
-) -> Result<(), AllocError>
+) -> Result<(), NoMemory>
     requires { (at ≤ 1000) × (l ≤ 1000) × (r ≤ 1000) }
     ensures nodes { OnOk result (draft.new.nodes.items ≡ draft.old.nodes.items ++ operator_nodes operator at l r) }
     ensures priorities { OnOk result (draft.new.priorities.items
@@ -86,7 +86,7 @@ fn place(
     at: u32,
     sizes: &[u32],
     term: &Term,
-) -> Result<(), AllocError>
+) -> Result<(), NoMemory>
     requires names { (length names.now.props.keys < 2 ^ 32) × (length names.now.actions.keys < 2 ^ 32) }
     requires few { at + occurrences (formula_of term.now) ≤ 1000 }
     requires sizes { measured.Measures sizes.now at (formula_of term.now) }
@@ -158,7 +158,7 @@ fn place_both(
     operator: Operator,
     left: &Term,
     right: &Term,
-) -> Result<(), AllocError>
+) -> Result<(), NoMemory>
     requires names { (length names.now.props.keys < 2 ^ 32) × (length names.now.actions.keys < 2 ^ 32) }
     requires few { at + occurrences (pdl.Binary operator (formula_of left.now) (formula_of right.now)) ≤ 1000 }
     requires sizes { measured.Measures sizes.now at (pdl.Binary operator (formula_of left.now) (formula_of right.now)) }
@@ -184,7 +184,7 @@ fn place_program(
     next: (u32, u32),
     sizes: &[u32],
     program: &Program,
-) -> Result<(), AllocError>
+) -> Result<(), NoMemory>
     requires names { (length names.now.props.keys < 2 ^ 32) × (length names.now.actions.keys < 2 ^ 32) }
     requires few { at + program_occurrences (program_of program.now) ≤ 1000 }
     requires sizes { measured.ProgramMeasures sizes.now at (program_of program.now) }
@@ -240,7 +240,7 @@ fn lists_of(alloc: Global, term: &Term) -> Result<Lists, NoMemory>
     let sizes = sizes_of(alloc, term)?;
     let mut draft = Draft::new(alloc);
     place(&mut draft, &names, 0, &sizes, term)?;
-    Ok(Lists::of(alloc, draft, names)?)
+    Lists::of(alloc, draft, names)
 }
 
 /// The modal graph of a formula, or of its negation: it holds exactly where the formula does, or doesn't.

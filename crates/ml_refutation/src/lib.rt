@@ -9,6 +9,7 @@
 // refutations, what makes them, and the checker.
 #![tactic(auto)]
 
+pub mod laws;
 mod refutation;
 
 pub use refutation::{Cause, Decision, Entry, Item, NESTING_LIMIT, Refutation, Step};

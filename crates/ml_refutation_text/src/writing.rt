@@ -1,5 +1,5 @@
 // The text of a refutation.
-ghost use Rattle.std.specs.Prelude.{◌≡◌, ◌+◌, ◌<◌, ◌^◌, [], ◌∷◌, ◌++◌, map, length, codes, IfOk, OnOk};
+ghost use Rattle.std.specs.Prelude.{◌≡◌, ◌+◌, ◌<◌, ◌^◌, [], ◌∷◌, ◌++◌, map, length, codes, take, IfOk, OnOk, OnErr, vec_len};
 ghost use Rattle.std.specs.List.{flat_map};
 ghost use Rattle.ml_lines.specs.Lines.{number, next, line_text, text_of};
 ghost use Rattle.ml_refutation.specs.Views.{cause_of, mark_of, decision_of, item_of, entry_of, of_parts};
@@ -9,7 +9,7 @@ ghost use Rattle.ml_refutation_text.specs.private.Filings.{shown, writing_of};
 
 use crate::tables::{Filing, Table, Tables, place_of, sequents_of, stacks_of};
 use ml_base::{NoMemory, Version};
-use ml_lines::{end_line, write_next_number, write_next_word, write_word};
+use ml_lines::{end_line, whole_or_none, write_next_number, write_next_word, write_word};
 use ml_refutation::{Cause, Decision, Entry, Item, Refutation, Step};
 use std::alloc::Global;
 
@@ -32,7 +32,7 @@ pub fn write(alloc: Global, refutation: &Refutation, version: Version) -> Result
 /// Appends the text of a refutation, as `write` gives it.
 ///
 /// # Errors
-/// `NoMemory` alone, and then a part of the text may stand in `out`.
+/// `NoMemory` alone, and then `out` is as before.
 ///
 /// Cost: as `write`, over many calls.
 pub fn append_refutation(
@@ -43,6 +43,23 @@ pub fn append_refutation(
 ) -> Result<(), NoMemory>
     ensures text { OnOk result (out.new.items ≡ out.old.items ++ written_text version (of_parts refutation.now.names refutation.now.entries)) }
     ensures counted { OnOk result (IsCounted version (of_parts refutation.now.names refutation.now.entries)) }
+    ensures kept { OnErr result (out.new.items ≡ out.old.items) }
+{
+    let end = out.len();
+    let written = write_parts(alloc, out, refutation, version);
+    whole_or_none(out, end, written)
+}
+
+// Each writer from here on leaves what stood in `out`, also where memory is wanting and a part stands behind it.
+fn write_parts(
+    alloc: Global,
+    out: &mut Vec<u8>,
+    refutation: &Refutation,
+    version: Version,
+) -> Result<(), NoMemory>
+    ensures text { OnOk result (out.new.items ≡ out.old.items ++ written_text version (of_parts refutation.now.names refutation.now.entries)) }
+    ensures counted { OnOk result (IsCounted version (of_parts refutation.now.names refutation.now.entries)) }
+    ensures front { take (vec_len out.old) out.new.items ≡ out.old.items }
 {
     write_numbered(out, b"names", u64::from(refutation.names))?;
     let entries = refutation.entries.as_slice();
@@ -56,6 +73,7 @@ pub fn append_refutation(
 fn write_by_tables(alloc: Global, out: &mut Vec<u8>, entries: &[Entry]) -> Result<(), NoMemory>
     ensures text { OnOk result (out.new.items ≡ out.old.items ++ text_of (lines_by_tables (map entry_of entries.now))) }
     ensures counted { OnOk result (length (used (map entry_of entries.now)) < 2 ^ 64) }
+    ensures front { take (vec_len out.old) out.new.items ≡ out.old.items }
 {
     let sequents = sequents_of(alloc, entries)?;
     let stacks = stacks_of(alloc, entries)?;
@@ -69,6 +87,7 @@ fn write_table(out: &mut Vec<u8>, many: &[u8], one: &[u8], table: &Table) -> Res
     ensures counted { length (shown table.now.keys) < 2 ^ 64 }
     ensures text { OnOk result (out.new.items ≡ out.old.items
         ++ text_of ((many.now ∷ number (length (shown table.now.keys)) ∷ []) ∷ map (λ ns. one.now ∷ numbers ns) (shown table.now.keys))) }
+    ensures front { take (vec_len out.old) out.new.items ≡ out.old.items }
 {
     write_numbered(out, many, table.len() as u64)?;
     for list in table.as_slice() {
@@ -79,7 +98,8 @@ fn write_table(out: &mut Vec<u8>, many: &[u8], one: &[u8], table: &Table) -> Res
 
 // the entries with their number, and the end
 fn write_last(out: &mut Vec<u8>, entries: &[Entry], filing: &Filing) -> Result<(), NoMemory>
-    ensures { OnOk result (out.new.items ≡ out.old.items ++ text_of (last_lines (writing_of filing.now) (map entry_of entries.now))) }
+    ensures text { OnOk result (out.new.items ≡ out.old.items ++ text_of (last_lines (writing_of filing.now) (map entry_of entries.now))) }
+    ensures front { take (vec_len out.old) out.new.items ≡ out.old.items }
 {
     write_numbered(out, b"entries", entries.len() as u64)?;
     write_entries(out, entries, filing)?;
@@ -88,7 +108,8 @@ fn write_last(out: &mut Vec<u8>, entries: &[Entry], filing: &Filing) -> Result<(
 }
 
 fn write_entries(out: &mut Vec<u8>, entries: &[Entry], filing: &Filing) -> Result<(), NoMemory>
-    ensures { OnOk result (out.new.items ≡ out.old.items ++ text_of (entries_lines (writing_of filing.now) 0 (map entry_of entries.now))) }
+    ensures text { OnOk result (out.new.items ≡ out.old.items ++ text_of (entries_lines (writing_of filing.now) 0 (map entry_of entries.now))) }
+    ensures front { take (vec_len out.old) out.new.items ≡ out.old.items }
 {
     for (i, entry) in entries.iter().enumerate() {
         write_entry(out, i, entry, filing)?;
@@ -97,7 +118,8 @@ fn write_entries(out: &mut Vec<u8>, entries: &[Entry], filing: &Filing) -> Resul
 }
 
 fn write_entry(out: &mut Vec<u8>, i: usize, entry: &Entry, filing: &Filing) -> Result<(), NoMemory>
-    ensures { OnOk result (out.new.items ≡ out.old.items ++ text_of (entry_lines (writing_of filing.now) i (entry_of entry.now))) }
+    ensures text { OnOk result (out.new.items ≡ out.old.items ++ text_of (entry_lines (writing_of filing.now) i (entry_of entry.now))) }
+    ensures front { take (vec_len out.old) out.new.items ≡ out.old.items }
 {
     write_head(out, i, entry.sequent.as_slice(), filing)?;
     write_numbered(out, b"live", u64::from(entry.live))?;
@@ -107,7 +129,8 @@ fn write_entry(out: &mut Vec<u8>, i: usize, entry: &Entry, filing: &Filing) -> R
 }
 
 fn write_head(out: &mut Vec<u8>, i: usize, sequent: &[u32], filing: &Filing) -> Result<(), NoMemory>
-    ensures { OnOk result (out.new.items ≡ out.old.items ++ text_of ((writing_of filing.now).head i sequent.now)) }
+    ensures text { OnOk result (out.new.items ≡ out.old.items ++ text_of ((writing_of filing.now).head i sequent.now)) }
+    ensures front { take (vec_len out.old) out.new.items ≡ out.old.items }
 {
     match filing {
         Filing::InFull => {
@@ -124,8 +147,9 @@ fn write_head(out: &mut Vec<u8>, i: usize, sequent: &[u32], filing: &Filing) -> 
 }
 
 fn write_items(out: &mut Vec<u8>, items: &[Item], filing: &Filing) -> Result<(), NoMemory>
-    ensures { OnOk result (out.new.items ≡ out.old.items
+    ensures text { OnOk result (out.new.items ≡ out.old.items
         ++ text_of (map (λ a. item_line a.state ((writing_of filing.now).words a.stack)) (map item_of items.now))) }
+    ensures front { take (vec_len out.old) out.new.items ≡ out.old.items }
 {
     for item in items {
         write_item(out, item, filing)?;
@@ -134,8 +158,9 @@ fn write_items(out: &mut Vec<u8>, items: &[Item], filing: &Filing) -> Result<(),
 }
 
 fn write_item(out: &mut Vec<u8>, item: &Item, filing: &Filing) -> Result<(), NoMemory>
-    ensures { OnOk result (out.new.items ≡ out.old.items
+    ensures text { OnOk result (out.new.items ≡ out.old.items
         ++ line_text (item_line (item_of item.now).state ((writing_of filing.now).words item.now.stack.items))) }
+    ensures front { take (vec_len out.old) out.new.items ≡ out.old.items }
 {
     write_word(out, b"item")?;
     write_next_number(out, u64::from(item.node))?;
@@ -146,7 +171,8 @@ fn write_item(out: &mut Vec<u8>, item: &Item, filing: &Filing) -> Result<(), NoM
 
 // a blank, and the odd priority or `-`
 fn write_guess(out: &mut Vec<u8>, odd: Option<u32>) -> Result<(), NoMemory>
-    ensures { OnOk result (out.new.items ≡ out.old.items ++ next (guess_word odd)) }
+    ensures text { OnOk result (out.new.items ≡ out.old.items ++ next (guess_word odd)) }
+    ensures front { take (vec_len out.old) out.new.items ≡ out.old.items }
 {
     match odd {
         None => write_next_word(out, b"-"),
@@ -156,7 +182,8 @@ fn write_guess(out: &mut Vec<u8>, odd: Option<u32>) -> Result<(), NoMemory>
 
 // the words for a stack, each behind a blank
 fn write_stack(out: &mut Vec<u8>, stack: &[u32], filing: &Filing) -> Result<(), NoMemory>
-    ensures { OnOk result (out.new.items ≡ out.old.items ++ flat_map next ((writing_of filing.now).words stack.now)) }
+    ensures text { OnOk result (out.new.items ≡ out.old.items ++ flat_map next ((writing_of filing.now).words stack.now)) }
+    ensures front { take (vec_len out.old) out.new.items ≡ out.old.items }
 {
     match filing {
         Filing::InFull => write_numbers(out, stack),
@@ -166,7 +193,8 @@ fn write_stack(out: &mut Vec<u8>, stack: &[u32], filing: &Filing) -> Result<(), 
 
 // the lines of a decision, in preorder
 fn write_decision(out: &mut Vec<u8>, decision: &Decision) -> Result<(), NoMemory>
-    ensures { OnOk result (out.new.items ≡ out.old.items ++ text_of (decision_lines (decision_of decision.now))) }
+    ensures text { OnOk result (out.new.items ≡ out.old.items ++ text_of (decision_lines (decision_of decision.now))) }
+    ensures front { take (vec_len out.old) out.new.items ≡ out.old.items }
 {
     match decision {
         Decision::Split { node, left, right } => {
@@ -184,7 +212,8 @@ fn write_decision(out: &mut Vec<u8>, decision: &Decision) -> Result<(), NoMemory
 }
 
 fn write_clash(out: &mut Vec<u8>, cause: Cause) -> Result<(), NoMemory>
-    ensures { OnOk result (out.new.items ≡ out.old.items ++ line_text (clash_line (cause_of cause))) }
+    ensures text { OnOk result (out.new.items ≡ out.old.items ++ line_text (clash_line (cause_of cause))) }
+    ensures front { take (vec_len out.old) out.new.items ≡ out.old.items }
 {
     write_word(out, b"clash")?;
     match cause {
@@ -206,7 +235,8 @@ fn write_clash(out: &mut Vec<u8>, cause: Cause) -> Result<(), NoMemory>
 }
 
 fn write_go(out: &mut Vec<u8>, diamond: u32, entry: u32, mark: Step) -> Result<(), NoMemory>
-    ensures { OnOk result (out.new.items ≡ out.old.items ++ line_text (go_line diamond entry (mark_of mark))) }
+    ensures text { OnOk result (out.new.items ≡ out.old.items ++ line_text (go_line diamond entry (mark_of mark))) }
+    ensures front { take (vec_len out.old) out.new.items ≡ out.old.items }
 {
     write_word(out, b"go")?;
     write_next_number(out, u64::from(diamond))?;
@@ -227,7 +257,8 @@ fn write_go(out: &mut Vec<u8>, diamond: u32, entry: u32, mark: Step) -> Result<(
 
 // a word with one number behind it
 fn write_numbered(out: &mut Vec<u8>, word: &[u8], n: u64) -> Result<(), NoMemory>
-    ensures { OnOk result (out.new.items ≡ out.old.items ++ line_text (word.now ∷ number n ∷ [])) }
+    ensures text { OnOk result (out.new.items ≡ out.old.items ++ line_text (word.now ∷ number n ∷ [])) }
+    ensures front { take (vec_len out.old) out.new.items ≡ out.old.items }
 {
     write_word(out, word)?;
     write_next_number(out, n)?;
@@ -236,7 +267,8 @@ fn write_numbered(out: &mut Vec<u8>, word: &[u8], n: u64) -> Result<(), NoMemory
 
 // a word with numbers behind it
 fn write_listed(out: &mut Vec<u8>, word: &[u8], ns: &[u32]) -> Result<(), NoMemory>
-    ensures { OnOk result (out.new.items ≡ out.old.items ++ line_text (word.now ∷ numbers ns.now)) }
+    ensures text { OnOk result (out.new.items ≡ out.old.items ++ line_text (word.now ∷ numbers ns.now)) }
+    ensures front { take (vec_len out.old) out.new.items ≡ out.old.items }
 {
     write_word(out, word)?;
     write_numbers(out, ns)?;
@@ -245,7 +277,8 @@ fn write_listed(out: &mut Vec<u8>, word: &[u8], ns: &[u32]) -> Result<(), NoMemo
 
 // numbers, each behind a blank
 fn write_numbers(out: &mut Vec<u8>, ns: &[u32]) -> Result<(), NoMemory>
-    ensures { OnOk result (out.new.items ≡ out.old.items ++ flat_map next (numbers ns.now)) }
+    ensures text { OnOk result (out.new.items ≡ out.old.items ++ flat_map next (numbers ns.now)) }
+    ensures front { take (vec_len out.old) out.new.items ≡ out.old.items }
 {
     for n in ns {
         write_next_number(out, u64::from(*n))?;

@@ -138,7 +138,7 @@ fn entry_at(
     ensures { IfOk result (λ e. IsPut odds.now (viewed view.entry) row.now (decision_of decision) (entry_of e)) }
 {
     Ok(Entry {
-        sequent: view.sequent.nodes(alloc)?,
+        sequent: view.sequent.nodes()?,
         live: view.history.live(),
         items: items_of(alloc, odds, view.history)?,
         heights: row_of(alloc, row)?,

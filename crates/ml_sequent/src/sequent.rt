@@ -7,7 +7,7 @@ ghost use Rattle.std.specs.Hash.{same_Alike};
 ghost use Rattle.ml_lists.specs.Ascending.{IsAscending, ascending};
 
 use crate::sets::ascending;
-use ml_base::{IdSet, NoMemory};
+use ml_base::NoMemory;
 use std::alloc::Global;
 use std::hash::{Hash, Hasher};
 use std::marker::Model;
@@ -15,15 +15,18 @@ use std::marker::Model;
 /// A set of nodes. Contracts see the strictly ascending list of them.
 #[derive(Debug, Drop)]
 pub struct Sequent {
-    nodes: IdSet,
+    nodes: Vec<u32>,
 }
 
 impl Model for Sequent {
     ghost use Rattle.std.specs.Prelude.{List, ℕ};
+    ghost use Rattle.ml_lists.specs.Ascending.{IsAscending};
 
     ghost Value = { List ℕ };
 
-    ghost view = { λ a. a.nodes };
+    ghost view = { λ a. a.nodes.items };
+
+    ghost invariant = { λ a. IsAscending a.nodes.items };
 }
 
 impl Sequent {
@@ -44,7 +47,7 @@ impl Sequent {
         ensures { result ≡ ascending nodes.items }
     {
         Sequent {
-            nodes: IdSet::from_ascending(ascending(nodes)),
+            nodes: ascending(nodes),
         }
     }
 
@@ -52,10 +55,12 @@ impl Sequent {
     ///
     /// # Errors
     /// `NoMemory` alone.
-    pub fn nodes(&self, alloc: Global) -> Result<Vec<u32>, NoMemory>
+    ///
+    /// Cost: linear in the nodes.
+    pub fn nodes(&self) -> Result<Vec<u32>, NoMemory>
         ensures { IfOk result (λ nodes. nodes.items ≡ self.now) }
     {
-        Ok(Vec::from_slice(alloc, self.values())?)
+        Ok(Vec::from_slice(*self.nodes.allocator(), self.values())?)
     }
 
     /// The nodes, ascending.
@@ -63,7 +68,7 @@ impl Sequent {
         ensures value { result.now ≡ self.now }
         ensures ascends { IsAscending result.now }
     {
-        self.nodes.values()
+        self.nodes.as_slice()
     }
 
     /// An equal sequent.
@@ -74,7 +79,7 @@ impl Sequent {
         ensures { IfOk result (λ sequent. sequent ≡ self.now) }
     {
         Ok(Sequent {
-            nodes: self.nodes.copy()?,
+            nodes: Vec::from_slice(*self.nodes.allocator(), self.values())?,
         })
     }
 }

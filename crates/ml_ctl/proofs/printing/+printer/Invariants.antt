@@ -4,8 +4,8 @@ use Rattle.ml_ctl.specs.Formula.{occurrences}
 use Rattle.ml_ctl.specs.Term.{formula_of}
 use Rattle.ml_ctl.proofs.printing.+printer.Given as goal
 
-abbrev pub decreases-append_term : goal.decreases-append_term
-decreases-append_term l = 2 * occurrences (formula_of l.term.now)
+abbrev pub decreases-write_term : goal.decreases-write_term
+decreases-write_term l = 2 * occurrences (formula_of l.term.now)
 
 abbrev pub decreases-write_prefix : goal.decreases-write_prefix
 decreases-write_prefix l = 2 * occurrences (formula_of l.operand.now) + 1

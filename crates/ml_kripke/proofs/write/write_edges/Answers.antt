@@ -10,4 +10,5 @@ loop-edge-preserved c = (
   grind (arith, common_steps),
   All-more_read (λ (e : Edge). IsAction e.action) c.args.edges.now c.loop-edge.edge-index c.edge-item.result
       c.loop-edge-test.true c.edge-item.is c.in_ok-write_edge.ensures.named c.loop-edge.invariant.1,
+  grind (arith, common_steps),
 )

@@ -1,4 +1,4 @@
-use Rattle.std.proofs.Common.{◌≡◌, ◌++◌, All, map, take}
+use Rattle.std.proofs.Common.{◌≡◌, ◌++◌, All, map, take, vec_len}
 use Rattle.ml_base.specs.Name.{IsAction}
 use Rattle.ml_lines.specs.Lines.{text_of}
 use Rattle.ml_kripke.specs.ModelText.{edge_line}
@@ -8,3 +8,4 @@ abbrev pub invariant-loop-edge : goal.invariant-loop-edge
 invariant-loop-edge l =
     (l.out.items ≡ l.fn.out.items ++ text_of (map edge_line (take l.edge-index l.edges)))
     × All (λ e. IsAction e.action) (take l.edge-index l.edges)
+    × (take (vec_len l.fn.out) l.out.items ≡ l.fn.out.items)

@@ -1,4 +1,5 @@
 use Rattle.std.proofs.Common.{◌≡◌, ◌<◌, ◌≤◌, All, length, map, get_or, sym, ◌∙◌, ap, arith}
+use Rattle.std.proofs.lemmas.Grind.{common_steps}
 use Rattle.std.proofs.lemmas.List.{get_or-map, length-map}
 use Rattle.ml_base.specs.Name.{IsName}
 use Rattle.ml_lists.proofs.Members.{All-more_read, All-read}
@@ -18,6 +19,7 @@ loop-state-preserved c =
       states_more rows s labels c.loop-state.out.items c.write_state.new.out.items _ here is c.loop-state.invariant.0
           c.in_ok-write_state.ensures.text,
       All-more_read (All IsName) rows s labels here is c.in_ok-write_state.ensures.named c.loop-state.invariant.1,
+      grind (arith, common_steps),
     )
 
 pub returns-clause-named : goal.returns-clause-named

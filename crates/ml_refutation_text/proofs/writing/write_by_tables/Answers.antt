@@ -13,10 +13,10 @@ returns-clause-text c =
     (tables_written (map entry_of c.args.entries.now) sequents stacks c.args.out.now.items c.write_table.new.out.items
     c.write_table-2.new.out.items c.write_last.new.out.items c.in_ok-sequents.ensures c.in_ok-stacks.ensures
     c.in_ok-write_table.ensures.text c.in_ok-write_table-2.ensures.text)
-    c.write_last.ensures
+    c.write_last.ensures.text
 
 pub returns-clause-counted : goal.returns-clause-counted
 returns-clause-counted c =
     on_ok_weaker c.write_last.result
     (λ _. subst (λ ks. length ks < 2 ^ 64) c.in_ok-stacks.ensures c.in_ok-write_table-2.ensures.counted)
-    c.write_last.ensures
+    c.write_last.ensures.text

@@ -1,4 +1,5 @@
 use Rattle.std.proofs.Common.{◌<◌, length, map, sym, ◌∙◌, ap, arith}
+use Rattle.std.proofs.lemmas.Grind.{common_steps}
 use Rattle.std.proofs.lemmas.List.{get_or-map, length-map}
 use Rattle.ml_refutation.specs.Views.{entry_of}
 use Rattle.ml_refutation_text.specs.private.Filings.{writing_of}
@@ -10,7 +11,9 @@ loop-i-preserved c =
     let entries = map entry_of c.args.entries.now in
     let i = c.loop-i.i in
     let e = c.index-entries-i.result in
-    let here : i < length entries = omega (arith, length-map c.args.entries.now entry_of) in
-    entries_more (writing_of c.args.filing.now) entries i (entry_of e) c.loop-i.out.items c.write_entry.new.out.items _ here
-    (ap entry_of c.index-entries-i.is ∙ sym (get_or-map entry_of c.args.entries.now i e (entry_of e) c.loop-i-test.true))
-    c.loop-i.invariant c.in_ok-write_entry.ensures
+    let here : i < length entries = omega (arith, length-map c.args.entries.now entry_of) in (
+      entries_more (writing_of c.args.filing.now) entries i (entry_of e) c.loop-i.out.items c.write_entry.new.out.items _ here
+          (ap entry_of c.index-entries-i.is ∙ sym (get_or-map entry_of c.args.entries.now i e (entry_of e) c.loop-i-test.true))
+          c.loop-i.invariant.0 c.in_ok-write_entry.ensures.text,
+      grind (arith, common_steps),
+    )
