@@ -18,5 +18,9 @@ mod Splits
 mod Readings
 -- what comes of a text
 mod Outcomes
+-- the highest priority
+mod Highest
+-- places among ids
+mod Places
 -- one step of the reader
 mod Steps
