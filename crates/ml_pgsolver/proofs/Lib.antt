@@ -22,5 +22,11 @@ mod Outcomes
 mod Highest
 -- places among ids
 mod Places
+-- rows in the order of their ids
+mod InIdOrder
+-- the game of such rows
+mod MadeGames
+-- rows that a program has sorted
+mod SortedRows
 -- one step of the reader
 mod Steps
