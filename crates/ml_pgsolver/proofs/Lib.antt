@@ -28,5 +28,11 @@ mod InIdOrder
 mod MadeGames
 -- rows that a program has sorted
 mod SortedRows
+-- a text that was read to its end
+mod Ended
+-- the first successor that is no id
+mod FirstUnknown
+-- what is answered to a text
+mod Answered
 -- one step of the reader
 mod Steps
