@@ -34,5 +34,7 @@ mod Ended
 mod FirstUnknown
 -- what is answered to a text
 mod Answered
+-- one sign among which a stranger is sought
+mod UnknownSteps
 -- one step of the reader
 mod Steps

@@ -1,7 +1,7 @@
 // The text of a game, read.
 ghost use Rattle.std.specs.Prelude.{◌≡◌, ◌<◌, length, MatchResult};
 ghost use Rattle.ml_pgsolver.specs.Refusals.{IsReadAs, IsRefusedBy};
-ghost use Rattle.ml_pgsolver.specs.private.Assembled.{is_unknown, sign_place, unknown_from};
+ghost use Rattle.ml_pgsolver.specs.private.Assembled.{is_stranger, is_unknown, sign_place, unknown_from};
 ghost use Rattle.ml_pgsolver.specs.private.Signs.{signs_from};
 
 use crate::assembling::assemble;
@@ -52,13 +52,20 @@ fn first_unknown(text: &[u8], ids: &IndexSet<u32>) -> u64
     let mut place = 0;
     let mut at = 0;
     while let Some(placed) = next_sign(text, at) {
-        if place >= 3 && is_unknown(placed.sign, ids) {
+        if is_stranger(place, placed.sign, ids) {
             return placed.start as u64;
         }
         place = sign_place(place, placed.sign);
         at = placed.end;
     }
     text.len() as u64
+}
+
+// is this a successor, by how many tokens stand behind the last `;`, and none of the ids?
+fn is_stranger(place: usize, sign: Sign, ids: &IndexSet<u32>) -> bool
+    ensures { result ≡ is_stranger ids.now.keys place sign }
+{
+    place >= 3 && is_unknown(sign, ids)
 }
 
 // is this a number, and none of the ids?

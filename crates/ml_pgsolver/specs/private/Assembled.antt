@@ -49,6 +49,9 @@ abbrev pub is_unknown : List ℕ → Sign → Bool
 is_unknown ids (sign.Number n) = is_unknown_value ids n.value
 is_unknown ids t = false
 
+abbrev pub is_stranger : List ℕ → ℕ → Sign → Bool
+is_stranger ids n t = nat_le 3 n && is_unknown ids t
+
 abbrev pub sign_place : ℕ → Sign → ℕ
 sign_place n sign.Semicolon = 0
 sign_place n t = n + 1
@@ -56,4 +59,4 @@ sign_place n t = n + 1
 unfoldable pub unknown_from : List ℕ → ℕ → ℕ → List (Sign × ℕ) → ℕ
 unknown_from ids end n [] = end
 unknown_from ids end n (t ∷ ts) =
-    if nat_le 3 n && is_unknown ids t.0 then t.1 else unknown_from ids end (sign_place n t.0) ts
+    if is_stranger ids n t.0 then t.1 else unknown_from ids end (sign_place n t.0) ts
