@@ -36,5 +36,7 @@ mod FirstUnknown
 mod Answered
 -- one sign among which a stranger is sought
 mod UnknownSteps
+-- the lines of a solution
+mod WrittenLines
 -- one step of the reader
 mod Steps

@@ -4,7 +4,7 @@ ghost use Rattle.ml_lists.specs.Ascending.{IsAscending};
 ghost use Rattle.ml_pgsolver.specs.GameText.{HasIds};
 
 use ml_base::IdSet;
-use ml_parity::Game;
+use ml_parity::{Game, Player};
 use std::marker::Model;
 
 /// A parity game with the id of each vertex: the vertices stand in ascending order of their ids, and there is one.
@@ -41,6 +41,13 @@ impl Named {
         ensures one_each { HasIds self.now.ids self.now.game }
     {
         self.ids.values()
+    }
+
+    // the owners of the vertices
+    pub(crate) fn owners(&self) -> &[Player]
+        ensures { result.now ≡ self.now.game.owner }
+    {
+        &self.game.owner
     }
 
     /// The game.
