@@ -1,6 +1,7 @@
 // Games whose vertices have ids.
 ghost use Rattle.std.specs.Prelude.{◌≡◌};
 ghost use Rattle.ml_lists.specs.Ascending.{IsAscending};
+ghost use Rattle.ml_parity.specs.Game.{IsGame};
 ghost use Rattle.ml_pgsolver.specs.GameText.{HasIds};
 
 use ml_base::IdSet;
@@ -43,9 +44,10 @@ impl Named {
         self.ids.values()
     }
 
-    // the owners of the vertices
+    // the owners of the vertices; says too that the game is one
     pub(crate) fn owners(&self) -> &[Player]
-        ensures { result.now ≡ self.now.game.owner }
+        ensures value { result.now ≡ self.now.game.owner }
+        ensures game { IsGame self.now.game }
     {
         &self.game.owner
     }
