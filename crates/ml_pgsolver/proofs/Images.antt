@@ -87,7 +87,7 @@ pub data Came (p : Progress) (t : Token) (q : Progress) (at : ℕ) (out : Step) 
 
 -- ---- tests
 
-fitting-cases : (n : ℕ) → ((fitting n ≡ Some n) × (n ≤ greatest_number)) ⊎ ((fitting n ≡ None) × (greatest_number < n))
+pub fitting-cases : (n : ℕ) → ((fitting n ≡ Some n) × (n ≤ greatest_number)) ⊎ ((fitting n ≡ None) × (greatest_number < n))
 fitting-cases n = by_test (nat_le n greatest_number) refl
   where
   by_test : (b : Bool) → nat_le n greatest_number ≡ b
@@ -102,7 +102,7 @@ full-cases m n = by_test (nat_le m n) refl
   by_test true is = inl (is, grind (arith, nat_tests))
   by_test false is = inr (is, grind (arith, nat_tests))
 
-among-cases : (ids : List ℕ) (n : ℕ)
+pub among-cases : (ids : List ℕ) (n : ℕ)
     → ((is_among ids n ≡ true) × IsMember n ids) ⊎ ((is_among ids n ≡ false) × (IsMember n ids → ⊥))
 among-cases ids n = by_test (is_among ids n) refl
   where

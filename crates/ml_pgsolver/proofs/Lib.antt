@@ -18,5 +18,25 @@ mod Splits
 mod Readings
 -- what comes of a text
 mod Outcomes
+-- the highest priority
+mod Highest
+-- places among ids
+mod Places
+-- rows in the order of their ids
+mod InIdOrder
+-- the game of such rows
+mod MadeGames
+-- rows that a program has sorted
+mod SortedRows
+-- a text that was read to its end
+mod Ended
+-- the first successor that is no id
+mod FirstUnknown
+-- what is answered to a text
+mod Answered
+-- one sign among which a stranger is sought
+mod UnknownSteps
+-- the lines of a solution
+mod WrittenLines
 -- one step of the reader
 mod Steps

@@ -41,7 +41,7 @@ Comes all end (Err e) = RefusedIn all end e
 
 -- ---- places
 
-offset-behind : (end : ℕ) (front : List Placed) (p : Placed) (rest : List Placed)
+pub offset-behind : (end : ℕ) (front : List Placed) (p : Placed) (rest : List Placed)
     → offset_of end (front ++ p ∷ rest) (length front) ≡ p.at
 offset-behind end [] p rest = refl
 offset-behind end (q ∷ front) p rest = offset-behind end front p rest
@@ -50,11 +50,11 @@ offset-end : (end : ℕ) (all : List Placed) → offset_of end all (length all) 
 offset-end end [] = refl
 offset-end end (q ∷ all) = offset-end end all
 
-signs-length : (ps : List Placed) → length (signs_of ps) ≡ length ps
+pub signs-length : (ps : List Placed) → length (signs_of ps) ≡ length ps
 signs-length [] = refl
 signs-length (p ∷ ps) = ap (λ n. suc n) (signs-length ps)
 
-signs-cut : (front : List Placed) (p : Placed) (rest : List Placed)
+pub signs-cut : (front : List Placed) (p : Placed) (rest : List Placed)
     → signs_of (front ++ p ∷ rest) ≡ signs_of front ++ p.token ∷ signs_of rest
 signs-cut front p rest = map-append (λ (q : Placed). q.token) front (p ∷ rest)
 

@@ -6,16 +6,17 @@
 --
 -- Each line ends with one LF; numbers are written without leading zeros.
 --
---   player_number p        == 0 for Even, 1 for Odd
---   move_text o w m        == the part of a line that names the move to m, where the owner o is the winner w
---   vertex_line named s v  == the line of a vertex, given by its place and its id
---   solution_text named s  == all lines
-use Rattle.std.specs.Prelude.{ℕ, ◌-◌, List, [], ◌∷◌, ◌++◌, length, codes}
+--   player_number p             == 0 for Even, 1 for Odd
+--   move_text o w m             == the part of a line that names the move to m, where the owner o is the winner w
+--   line_of id o w m            == the line of a vertex
+--   vertex_line ids owners s v  == the line of a vertex, given by its place and its id
+--   head_line ids               == the first line
+--   solution_text named s       == all lines
+use Rattle.std.specs.Prelude.{ℕ, ◌-◌, List, [], ◌∷◌, ◌++◌, length, codes, get_or}
 use Rattle.std.specs.List.{flat_map, enumerate_from}
 use Rattle.ml_lines.specs.Lines.{number, next}
 use Rattle.ml_parity.specs.declared.players.Player.{Player}
 use Rattle.ml_parity.specs.declared.players.Player.TheVariants.{Even, Odd}
-use Rattle.ml_parity.specs.Game.{owner_of}
 use Rattle.ml_parity.specs.Solution.{GameSolution, winner_at, choice_at}
 use Rattle.ml_pgsolver.specs.GameText.{NamedGame, id_at}
 
@@ -32,14 +33,17 @@ move_text Even Even m = next (number m)
 move_text Odd Odd m = next (number m)
 move_text owner winner m = []
 
-abbrev pub vertex_line : NamedGame → GameSolution → ℕ × ℕ → List ℕ
-vertex_line named s v =
-    number v.1
-    ++ next (number (player_number (winner_at s.winner v.0)))
-    ++ move_text (owner_of named.game v.0) (winner_at s.winner v.0) (id_at named.ids (choice_at s.choice v.0))
-    ++ line_end
+abbrev pub line_of : ℕ → Player → Player → ℕ → List ℕ
+line_of id owner winner m =
+    number id ++ next (number (player_number winner)) ++ move_text owner winner m ++ line_end
+
+abbrev pub vertex_line : List ℕ → List Player → GameSolution → ℕ × ℕ → List ℕ
+vertex_line ids owners s v =
+    line_of v.1 (get_or owners v.0 Even) (winner_at s.winner v.0) (id_at ids (choice_at s.choice v.0))
+
+abbrev pub head_line : List ℕ → List ℕ
+head_line ids = codes "paritysol" ++ next (number (id_at ids (length ids - 1))) ++ line_end
 
 abbrev pub solution_text : NamedGame → GameSolution → List ℕ
 solution_text named s =
-    codes "paritysol" ++ next (number (id_at named.ids (length named.ids - 1))) ++ line_end
-    ++ flat_map (vertex_line named s) (enumerate_from 0 named.ids)
+    head_line named.ids ++ flat_map (vertex_line named.ids named.game.owner s) (enumerate_from 0 named.ids)

@@ -6,3 +6,5 @@ pub mod Signs
 pub mod Machine
 -- what the reader holds
 pub mod Rows
+-- what is made of the rows
+pub mod Assembled

@@ -8,6 +8,7 @@
 // Below stand `ml_parity`, with games and solutions, `ml_text`, for blanks and digits, and `ml_lines`, for numbers.
 #![tactic(auto)]
 
+mod assembling;
 pub mod laws;
 mod limits;
 mod named;

@@ -1,10 +1,11 @@
 // Games whose vertices have ids.
 ghost use Rattle.std.specs.Prelude.{◌≡◌};
 ghost use Rattle.ml_lists.specs.Ascending.{IsAscending};
+ghost use Rattle.ml_parity.specs.Game.{IsGame};
 ghost use Rattle.ml_pgsolver.specs.GameText.{HasIds};
 
 use ml_base::IdSet;
-use ml_parity::Game;
+use ml_parity::{Game, Player};
 use std::marker::Model;
 
 /// A parity game with the id of each vertex: the vertices stand in ascending order of their ids, and there is one.
@@ -41,6 +42,14 @@ impl Named {
         ensures one_each { HasIds self.now.ids self.now.game }
     {
         self.ids.values()
+    }
+
+    // the owners of the vertices; says too that the game is one
+    pub(crate) fn owners(&self) -> &[Player]
+        ensures value { result.now ≡ self.now.game.owner }
+        ensures game { IsGame self.now.game }
+    {
+        &self.game.owner
     }
 
     /// The game.

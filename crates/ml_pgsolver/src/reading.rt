@@ -1,10 +1,15 @@
 // The text of a game, read.
-ghost use Rattle.std.specs.Prelude.{MatchResult};
+ghost use Rattle.std.specs.Prelude.{◌≡◌, ◌<◌, length, MatchResult};
 ghost use Rattle.ml_pgsolver.specs.Refusals.{IsReadAs, IsRefusedBy};
+ghost use Rattle.ml_pgsolver.specs.private.Assembled.{is_stranger, is_unknown, sign_place, unknown_from};
+ghost use Rattle.ml_pgsolver.specs.private.Signs.{signs_from};
 
+use crate::assembling::assemble;
 use crate::named::Named;
-use crate::reader::read_rows;
+use crate::reader::{Reader, read_rows};
 use crate::refusal::GameTextRefusal;
+use crate::scan::{Numeral, Sign, next_sign};
+use indexmap::IndexSet;
 use std::alloc::Global;
 
 /// The game that a text stands for, with the ids of its vertices.
@@ -30,6 +35,55 @@ use std::alloc::Global;
 pub fn read(alloc: Global, text: &[u8]) -> Result<Named, GameTextRefusal>
     ensures { MatchResult result (IsReadAs text.now) (IsRefusedBy text.now) }
 {
-    let _ = read_rows(alloc, text)?;
-    Err(GameTextRefusal::NoMemory)
+    let Reader { rows, ids, .. } = read_rows(alloc, text)?;
+    match assemble(alloc, rows)? {
+        Some(named) => Ok(named),
+        None => Err(GameTextRefusal::Unknown {
+            at: first_unknown(text, &ids),
+        }),
+    }
+}
+
+// the byte of the first successor that is none of the ids, or the text's end
+fn first_unknown(text: &[u8], ids: &IndexSet<u32>) -> u64
+    ensures { result ≡ unknown_from ids.now.keys (length text.now) 0 (signs_from text.now 0) }
+{
+    // how many tokens stand behind the last `;`
+    let mut place = 0;
+    let mut at = 0;
+    while let Some(placed) = next_sign(text, at) {
+        if is_stranger(place, placed.sign, ids) {
+            return placed.start as u64;
+        }
+        place = sign_place(place, placed.sign);
+        at = placed.end;
+    }
+    text.len() as u64
+}
+
+// is this a successor, by how many tokens stand behind the last `;`, and none of the ids?
+fn is_stranger(place: usize, sign: Sign, ids: &IndexSet<u32>) -> bool
+    ensures { result ≡ is_stranger ids.now.keys place sign }
+{
+    place >= 3 && is_unknown(sign, ids)
+}
+
+// is this a number, and none of the ids?
+fn is_unknown(sign: Sign, ids: &IndexSet<u32>) -> bool
+    ensures { result ≡ is_unknown ids.now.keys sign }
+{
+    match sign {
+        Sign::Number(Numeral { value: Some(id), .. }) => !ids.contains(&id),
+        _ => false,
+    }
+}
+
+fn sign_place(place: usize, sign: Sign) -> usize
+    requires { place < usize.MAX }
+    ensures { result ≡ sign_place place sign }
+{
+    match sign {
+        Sign::Semicolon => 0,
+        _ => place + 1,
+    }
 }
