@@ -1,0 +1,6 @@
+-- progress measures of a parity game
+pub mod Measure
+-- that the least measure tells who wins
+pub mod Law
+-- what the measures of both players and a solution say together
+pub mod Measured
