@@ -4,3 +4,5 @@ pub mod Measure
 pub mod Law
 -- what the measures of both players and a solution say together
 pub mod Measured
+-- what only private contracts and proofs cite
+pub mod private
