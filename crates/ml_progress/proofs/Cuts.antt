@@ -61,7 +61,7 @@ module _ (c d : ℕ) (bs : List ℕ) (low : c ≤ d) where
 -- ---- how much is cut
 
 -- how many numbers are at most m, by recursion
-abbrev up_to : ℕ → List ℕ → ℕ
+abbrev pub up_to : ℕ → List ℕ → ℕ
 up_to m [] = 0
 up_to m (k ∷ ks) = cond (leb k m) (1 + up_to m ks) (up_to m ks)
 

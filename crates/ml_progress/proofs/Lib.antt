@@ -8,3 +8,11 @@ pub mod Progress
 pub mod Cuts
 -- from a progress measure to a winning strategy
 pub mod Winning
+-- how many vertices of a priority a strategy leads to
+pub mod Visits
+-- ascending lists, cut at a number
+pub mod CutPlaces
+-- from a winning strategy to a progress measure
+pub mod RegionMeasure
+-- the least measure tells who wins
+pub mod WhoWins

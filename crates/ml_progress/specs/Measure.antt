@@ -21,7 +21,6 @@
 use Rattle.std.specs.Prelude.{ℕ, ◌≡◌, ◌<◌, ◌≤◌, ◌%◌, ◌==◌, nat_le, Bool, true, false, List, length, get_or, take, count_by, Option, Some, None}
 use Rattle.std.specs.List.{filter}
 use Rattle.ml_lists.specs.Ascending.{ascending}
-use Rattle.ml_lists.specs.Times.{times}
 use Rattle.ml_parity.specs.declared.players.Player.{Player}
 use Rattle.ml_parity.specs.declared.players.Player.TheVariants.{Even, Odd}
 use Rattle.ml_parity.specs.Player.{opponent}
@@ -40,7 +39,7 @@ bad_priorities g p = ascending (filter (is_bad p) g.priority)
 
 -- how many vertices have the priority k
 abbrev pub how_many : ParityGame → ℕ → ℕ
-how_many g k = times k g.priority
+how_many g k = count_by (λ n. n == k) g.priority
 
 -- ---- measures
 
