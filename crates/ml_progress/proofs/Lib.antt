@@ -16,3 +16,5 @@ pub mod CutPlaces
 pub mod RegionMeasure
 -- the least measure tells who wins
 pub mod WhoWins
+-- the list that comes next, within bounds
+pub mod NextLists

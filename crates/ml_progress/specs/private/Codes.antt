@@ -11,6 +11,7 @@
 --   step_of t                == one where t says that the priority is bad
 --   Steps c bs t a b         == a move progresses, in these numbers, where the one vertex has a and the other b
 --   IsTarget c bs t b o      == o is the least value with which a move to where b stands progresses
+--   listed b xs              == the list xs, or the top where b is false
 use Rattle.std.specs.Prelude.{ℕ, suc, ◌≡◌, ◌+◌, ◌*◌, ◌≤◌, Bool, true, false, List, [], ◌∷◌, take, drop, Option, Some, None}
 
 -- how many lists there are within the bounds
@@ -60,3 +61,8 @@ Steps c bs t (Some xs) b = cut_level c bs b + step_of t ≤ code (take c bs) (ta
 abbrev pub IsTarget : ℕ → List ℕ → Bool → Option (List ℕ) → Option (List ℕ) → Type 0
 IsTarget c bs t b None = space (take c bs) ≤ cut_level c bs b + step_of t
 IsTarget c bs t b (Some ys) = Fits bs ys × (code bs ys ≡ (cut_level c bs b + step_of t) * space (drop c bs))
+
+-- the list, if there is one
+abbrev pub listed : Bool → List ℕ → Option (List ℕ)
+listed true xs = Some xs
+listed false xs = None
