@@ -18,3 +18,5 @@ pub mod RegionMeasure
 pub mod WhoWins
 -- the list that comes next, within bounds
 pub mod NextLists
+-- a measure in one flat list of numbers
+pub mod FlatTables

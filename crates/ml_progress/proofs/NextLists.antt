@@ -153,15 +153,3 @@ module _ (c : ℕ) (bs xs ys : List ℕ) (f : Fits bs xs) (low : c ≤ length bs
         (let e : code (take c bs) (take c xs) ≡ code (take c bs) (take c xs) + 0 = omega arith in e)
         (copied_zeros ∙ ap (λ zs. code (take c bs) zs * space (drop c bs)) same_front),
   )
-
-  -- what is counted from it is counted from the list
-  pub counted_target : (t : Bool) → t ≡ true → (o : Option (List ℕ)) → IsTarget c bs true (Some ys) o
-      → IsTarget c bs t (Some xs) o
-  counted_target t bad o target = subst (λ b. IsTarget c bs b (Some xs) o) (sym bad) (from o target)
-    where
-      same : code (take c bs) (take c ys) ≡ code (take c bs) (take c xs)
-      same = ap (code (take c bs)) same_front
-
-      from : (o : Option (List ℕ)) → IsTarget c bs true (Some ys) o → IsTarget c bs true (Some xs) o
-      from None over = omega (arith, over, same)
-      from (Some zs) at = (at.0, at.1 ∙ ap (λ n. (n + 1) * space (drop c bs)) same)

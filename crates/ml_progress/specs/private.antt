@@ -2,3 +2,5 @@
 pub mod Codes
 -- the lists of a player's measures, as lists within bounds
 pub mod Bounds
+-- a measure in one flat list of numbers
+pub mod Tables

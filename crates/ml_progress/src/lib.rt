@@ -10,3 +10,4 @@
 
 pub mod laws;
 mod order;
+mod table;

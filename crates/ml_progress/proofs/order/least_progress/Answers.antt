@@ -1,7 +1,7 @@
 -- The first numbers of the row, with zeros behind them, are the least list that is no lower; counted up, the least above.
 use Rattle.std.proofs.Common.{arith}
 use Rattle.ml_progress.proofs.Codes.{fits_long}
-use Rattle.ml_progress.proofs.NextLists.{copied_fits, copied_zeros, copied_target, counted_target}
+use Rattle.ml_progress.proofs.NextLists.{copied_fits, copied_zeros, copied_target}
 use Rattle.ml_progress.proofs.order.least_progress.Goals as goal
 
 pub copy_front-requires-clause-room : goal.copy_front-requires-clause-room
