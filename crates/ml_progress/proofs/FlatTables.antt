@@ -11,11 +11,12 @@ use Rattle.std.proofs.Common.{ℕ, ◌≡◌, ◌≢◌, ◌+◌, ◌-◌, ◌*�
 use Rattle.std.specs.List.{range_with_len, between}
 use Rattle.std.proofs.Math.Nat.{mul-le-mul_right, add-mul}
 use Rattle.std.proofs.lemmas.Bool.{cases_eq, cases_lt, cases_order, cases_Bool}
-use Rattle.std.proofs.lemmas.List.{get_or_default, get_or-set_same, get_or-set_other, get_or-replicate, length-replicate, drop-replicate, take-replicate, take-append-le, take_all, same_lists}
+use Rattle.std.proofs.lemmas.List.{get_or_default, get_or-set_same, get_or-set_other, get_or-replicate, length-replicate, drop-replicate, take-replicate, same_lists}
 use Rattle.std.proofs.lemmas.List.FromFn.{length-map-range_with_len, get_or-map-range_with_len}
 use Rattle.std.proofs.lemmas.Slice.{between_is, between-put_mid, take-put_mid_below, drop-put_mid}
 use borrow.Rule.Slice.PartMut.{put_mid}
 use Rattle.ml_progress.specs.Measure.{Measure, IsBelow, measure_at}
+use Rattle.ml_progress.proofs.HandedBack.{handed_back}
 use Rattle.ml_progress.specs.private.Tables.{TableRows, row_at, unless_top, entry_of, table_of}
 
 -- t is the table of these fields
@@ -162,7 +163,7 @@ module _ (w : ℕ) (numbers : List ℕ) (tops : List Bool) (t : TableRows) (f : 
       → measure_at t.rows v ≢ None
       → map (entry_of w (take n (new ++ drop (length new) numbers)) tops) (range_with_len 0 (length tops)) ≡ set t.rows v (Some ys)
   row_handed n new ys long is wide listed =
-      ap (λ xs. map (entry_of w xs tops) (range_with_len 0 (length tops))) (whole ∙ written)
+      ap (λ xs. map (entry_of w xs tops) (range_with_len 0 (length tops))) (handed_back n new numbers long same ∙ written)
       ∙ row_written ys width listed
     where
       width : length ys ≡ w
@@ -171,7 +172,7 @@ module _ (w : ℕ) (numbers : List ℕ) (tops : List Bool) (t : TableRows) (f : 
       written : new ≡ put_mid (v * w) w numbers ys
       written = is ∙ ap (λ k. take (v * w) numbers ++ (ys ++ drop k (drop (v * w) numbers))) width
 
-      same : length new ≡ n
+      same : length new ≡ length numbers
       same = omega (
         arith,
         ap length is,
@@ -183,9 +184,6 @@ module _ (w : ℕ) (numbers : List ℕ) (tops : List Bool) (t : TableRows) (f : 
         row_within,
         width,
       )
-
-      whole : take n (new ++ drop (length new) numbers) ≡ new
-      whole = take-append-le n new (drop (length new) numbers) (omega (arith, same)) ∙ take_all n new (omega (arith, same))
 
 -- the table of zeros
 module _ (w n : ℕ) where

@@ -4,3 +4,7 @@ pub mod Codes
 pub mod Bounds
 -- a measure in one flat list of numbers
 pub mod Tables
+-- what the lists of a player's measures look like
+pub mod Scales
+-- the moves of a game from behind, and the vertices that wait to be lifted
+pub mod Waits

@@ -10,4 +10,8 @@
 
 pub mod laws;
 mod order;
+mod predecessors;
+mod reading;
+mod scale;
 mod table;
+mod waiting;
