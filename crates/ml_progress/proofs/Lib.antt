@@ -28,3 +28,5 @@ pub mod Scales
 pub mod MoveChains
 -- lists that were lent as slices, and come back
 pub mod HandedBack
+-- the queue of the vertices that wait
+pub mod Queues

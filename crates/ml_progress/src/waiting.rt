@@ -50,18 +50,20 @@ impl Waiting {
         Some(vertex)
     }
 
-    /// Puts a vertex into the queue, if it doesn't stand there.
-    fn add(&mut self, vertex: usize) -> Result<(), NoMemory>
+    /// Puts a vertex into the queue, if it doesn't stand there and hasn't the top.
+    fn add(&mut self, table: &Table, vertex: usize) -> Result<(), NoMemory>
         requires low { vertex < length self.old.flags.items }
+        requires long { length self.old.flags.items ≡ length table.now.rows }
         requires waiting { IsWaiting self.old.flags.items self.old.queue.items }
         ensures waiting { OnOk result (IsWaiting self.new.flags.items self.new.queue.items) }
-        ensures flags { OnOk result (self.new.flags.items ≡ set self.old.flags.items vertex true) }
+        ensures woken { OnOk result (Woken table.now.rows self.old.flags.items self.new.flags.items (λ u. u ≡ vertex)) }
         ensures few { OnOk result (length self.new.queue.items ≤ length self.old.queue.items + 1) }
     {
-        if !self.flags[vertex] {
-            self.queue.push_back(vertex)?;
-            self.flags[vertex] = true;
+        if self.flags[vertex] || table.is_top(vertex) {
+            return Ok(());
         }
+        self.queue.push_back(vertex)?;
+        self.flags[vertex] = true;
         Ok(())
     }
 
@@ -84,9 +86,7 @@ impl Waiting {
         let mut at = predecessors.last[vertex];
         while at > 0 {
             let arrow = predecessors.arrows[at - 1];
-            if !table.is_top(arrow.source) {
-                self.add(arrow.source)?;
-            }
+            self.add(table, arrow.source)?;
             at = arrow.before;
         }
         Ok(())
