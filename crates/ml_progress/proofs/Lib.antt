@@ -30,3 +30,5 @@ pub mod MoveChains
 pub mod HandedBack
 -- the queue of the vertices that wait
 pub mod Queues
+-- lifting keeps low, settles a vertex, and comes to an end
+pub mod LiftedMeasures

@@ -12,13 +12,13 @@ use Rattle.ml_progress.proofs.Codes.{fits_long, space_parts, space_some}
 
 -- ---- zeros
 
-fits_zeros : (bs : List ℕ) (n : ℕ) → n ≡ length bs → Fits bs (replicate n 0)
+pub fits_zeros : (bs : List ℕ) (n : ℕ) → n ≡ length bs → Fits bs (replicate n 0)
 fits_zeros [] zero long = tt
 fits_zeros [] (suc n) long = absurd (omega arith)
 fits_zeros (b ∷ bs) zero long = absurd (omega arith)
 fits_zeros (b ∷ bs) (suc n) long = (omega arith, fits_zeros bs n (omega arith))
 
-code_zeros : (bs : List ℕ) (n : ℕ) → code bs (replicate n 0) ≡ 0
+pub code_zeros : (bs : List ℕ) (n : ℕ) → code bs (replicate n 0) ≡ 0
 code_zeros [] n = refl
 code_zeros (b ∷ bs) zero = refl
 code_zeros (b ∷ bs) (suc n) = omega (arith, code_zeros bs n)

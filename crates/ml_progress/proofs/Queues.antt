@@ -8,7 +8,6 @@
 --   woken_itself == a vertex that is flagged, or has the top, need not be woken
 --   woken_set    == a vertex is flagged
 --   Waking       == what a walk along a chain has done so far
---   waking_begins, waking_more, waking_ends == such a walk
 use Rattle.std.proofs.Common.{ℕ, zero, suc, ◌≡◌, ◌≢◌, ◌+◌, ◌-◌, ◌<◌, ◌≤◌, ◌⊎◌, inl, inr, ⊎_elim, arith, Bool, true, false, List, [], ◌∷◌, ◌++◌, length, get_or, set, replicate, None, refl, sym, ap, ◌∙◌, subst, length-set, length-append}
 use Rattle.std.proofs.lemmas.Bool.{cases_eq, cases_lt}
 use Rattle.std.proofs.lemmas.List.{get_or-set_same, get_or-set_other, get_or-replicate, get_or_past, length-replicate}
@@ -141,67 +140,3 @@ pub record Waking (m : Measure) (n : ℕ) (arrows : List Arrow) (flags0 : List B
       → ((get_or flags v false ≡ true) ⊎ (measure_at m v ≡ None)) ⊎ InChain arrows v at
   pub few : length queue + at ≤ length queue0 + length arrows
 
-module _ (m : Measure) (n : ℕ) (arrows : List Arrow) (flags0 : List Bool) (queue0 : List ℕ) (first : ℕ) where
-  pub waking_begins : first ≤ length arrows → IsWaiting flags0 queue0 → length flags0 ≡ n
-      → Waking m n arrows flags0 queue0 first flags0 queue0 first
-  waking_begins low waiting long = record {
-    low = low;
-    waiting = waiting;
-    long = long;
-    kept = λ v flag. flag;
-    woken = λ v inside. inr inside;
-    few = omega arith;
-  }
-
-  -- one arrow more
-  pub waking_more : (flags flags2 : List Bool) (queue queue2 : List ℕ) (at : ℕ) (a : Arrow)
-      → IsLinked n arrows
-      → Waking m n arrows flags0 queue0 first flags queue at
-      → 0 < at
-      → arrow_at arrows at ≡ a
-      → IsWaiting flags2 queue2
-      → Woken m flags flags2 (λ u. u ≡ a.source)
-      → length queue2 ≤ length queue + 1
-      → Waking m n arrows flags0 queue0 first flags2 queue2 a.before
-  waking_more flags flags2 queue queue2 at a linked so_far some is waiting woken few =
-      let falls : a.before < at =
-      subst (λ (b : Arrow). b.before < at) is (linked.falls at some so_far.low) in
-      record {
-        low = omega (arith, falls, so_far.low);
-        waiting = waiting;
-        long = woken.long ∙ so_far.long;
-        kept = λ v flag. woken.kept v (so_far.kept v flag);
-        woken = λ v inside. from v (so_far.woken v inside);
-        few = omega (arith, falls, so_far.few, few);
-      }
-    where
-      in_chain : (v : ℕ) → InChain arrows v at
-          → ((get_or flags2 v false ≡ true) ⊎ (measure_at m v ≡ None)) ⊎ InChain arrows v a.before
-      in_chain v (here _ more e) = inl (woken.woken v (sym e ∙ ap (λ (b : Arrow). b.source) is))
-      in_chain v (later _ more rest) = inr (subst (λ (b : Arrow). InChain arrows v b.before) is rest)
-
-      from : (v : ℕ) → ((get_or flags v false ≡ true) ⊎ (measure_at m v ≡ None)) ⊎ InChain arrows v at
-          → ((get_or flags2 v false ≡ true) ⊎ (measure_at m v ≡ None)) ⊎ InChain arrows v a.before
-      from v (inl (inl flag)) = inl (inl (woken.kept v flag))
-      from v (inl (inr top)) = inl (inr top)
-      from v (inr inside) = in_chain v inside
-
-  -- the chain has come to its end
-  pub waking_ends : (flags : List Bool) (queue : List ℕ) (at : ℕ) → at ≤ 0
-      → Waking m n arrows flags0 queue0 first flags queue at
-      → length flags0 ≡ n
-      → Woken m flags0 flags (λ u. InChain arrows u first)
-  waking_ends flags queue at done so_far long = record {
-    long = so_far.long ∙ sym long;
-    kept = so_far.kept;
-    woken = λ v inside. from v (so_far.woken v inside);
-  }
-    where
-      nothing : (v : ℕ) → InChain arrows v at → ⊥
-      nothing v (here _ more e) = absurd (omega arith)
-      nothing v (later _ more rest) = absurd (omega arith)
-
-      from : (v : ℕ) → ((get_or flags v false ≡ true) ⊎ (measure_at m v ≡ None)) ⊎ InChain arrows v at
-          → (get_or flags v false ≡ true) ⊎ (measure_at m v ≡ None)
-      from v (inl told) = told
-      from v (inr inside) = absurd (nothing v inside)

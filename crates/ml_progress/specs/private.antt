@@ -8,3 +8,5 @@ pub mod Tables
 pub mod Scales
 -- the moves of a game from behind, and the vertices that wait to be lifted
 pub mod Waits
+-- how a measure rises to the least progress measure
+pub mod Lifting

@@ -9,6 +9,7 @@
 #![tactic(auto)]
 
 pub mod laws;
+mod lifting;
 mod order;
 mod predecessors;
 mod reading;

@@ -1,0 +1,104 @@
+// Lifting: a measure rises, vertex by vertex, to the least progress measure.
+
+ghost use Rattle.std.specs.Prelude.{◌≡◌, ◌≢◌, ◌<◌, ◌≤◌, ◌↔◌, ℕ, List, All, Contains, IfOk, IsTrue, None, length, get_or};
+ghost use Rattle.ml_parity.specs.Game.{IsGame, moves_of, size};
+ghost use Rattle.ml_progress.specs.Measure.{IsLeastMeasure, measure_at};
+ghost use Rattle.ml_progress.specs.private.Codes.{cut_level};
+ghost use Rattle.ml_progress.specs.private.Lifting.{AreFitting, IsExtreme, IsLifted, IsLow};
+ghost use Rattle.ml_progress.specs.private.Scales.{IsScale};
+ghost use Rattle.ml_progress.specs.private.Waits.{ChainsUpTo};
+
+use crate::order::{comes_before, least_progress};
+use crate::predecessors::Predecessors;
+use crate::reading::{is_bad, moves_at, owner_at, priority_at};
+use crate::scale::{Scale, scale_of};
+use crate::table::Table;
+use crate::waiting::Waiting;
+use ml_base::NoMemory;
+use ml_parity::{Game, Player};
+use std::alloc::Global;
+
+/// Whether the first `cut` numbers of one vertex come before those of another one. The top comes behind all lists.
+fn is_cut_before(table: &Table, first: usize, second: usize, cut: usize) -> bool
+    requires first { first < length table.now.rows }
+    requires second { second < length table.now.rows }
+    requires cut { cut ≤ table.now.wide }
+    ensures { (bs : List ℕ) → AreFitting bs table.now.rows → IsTrue result
+        ↔ (cut_level cut bs (measure_at table.now.rows first) < cut_level cut bs (measure_at table.now.rows second)) }
+{
+    if table.is_top(first) {
+        return false;
+    }
+    if table.is_top(second) {
+        return true;
+    }
+    comes_before(&table.row(first)[..cut], &table.row(second)[..cut])
+}
+
+/// Of these vertices one whose first `cut` numbers come first, or last if `least` is false.
+fn extreme_vertex(table: &Table, vertices: &[u64], cut: usize, least: bool) -> usize
+    requires some { 0 < length vertices.now }
+    requires low { All (λ w. w < length table.now.rows) vertices.now }
+    requires cut { cut ≤ table.now.wide }
+    ensures member { Contains vertices.now result }
+    ensures extreme { (bs : List ℕ) → AreFitting bs table.now.rows → IsExtreme least cut bs table.now.rows vertices.now result }
+{
+    let mut best = vertices[0] as usize;
+    for vertex in vertices {
+        let vertex = *vertex as usize;
+        let further = if least {
+            is_cut_before(table, vertex, best, cut)
+        } else {
+            is_cut_before(table, best, vertex, cut)
+        };
+        if further {
+            best = vertex;
+        }
+    }
+    best
+}
+
+/// Lifts a vertex: gives it the least value with which its moves progress, if that is above what it has. Says whether it is.
+fn lift(game: &Game, scale: &Scale, table: &mut Table, next: &mut [u64], vertex: usize) -> bool
+    requires game { IsGame game.now }
+    requires scale { IsScale game.now scale.now.player scale.now.bounds.items scale.now.cuts.items }
+    requires wide { table.old.wide ≡ length scale.now.bounds.items }
+    requires room { length next.old ≡ length scale.now.bounds.items }
+    requires vertex { vertex < size game.now }
+    requires low { IsLow game.now scale.now.player table.old.rows }
+    ensures wide { table.new.wide ≡ table.old.wide }
+    ensures lifted { IsLifted game.now scale.now.player table.old.rows table.new.rows vertex result }
+{
+    let own = owner_at(game, vertex) == scale.player;
+    let cut = scale.cuts[vertex];
+    let to = extreme_vertex(table, moves_at(game, vertex), cut, own);
+    let bad = is_bad(scale.player, priority_at(game, vertex));
+    if !table.is_top(to) && least_progress(&scale.bounds, cut, bad, table.row(to), next) {
+        table.raise(vertex, next)
+    } else {
+        table.raise_to_top(vertex)
+    }
+}
+
+/// The least progress measure of a player.
+pub(crate) fn least_measure(
+    alloc: Global,
+    game: &Game,
+    predecessors: &Predecessors,
+    player: Player,
+) -> Result<Table, NoMemory>
+    requires { ChainsUpTo game.now (size game.now) predecessors.now.last.items predecessors.now.arrows.items }
+    ensures { IfOk result (λ t. IsLeastMeasure game.now player t.rows) }
+{
+    let size = game.size();
+    let scale = scale_of(alloc, game, player)?;
+    let mut table = Table::new(alloc, size, scale.bounds.len())?;
+    let mut next = vec![in alloc; 0; scale.bounds.len()]?;
+    let mut waiting = Waiting::all(alloc, size)?;
+    while let Some(vertex) = waiting.take() {
+        if lift(game, &scale, &mut table, &mut next, vertex) {
+            waiting.add_predecessors(predecessors, &table, vertex)?;
+        }
+    }
+    Ok(table)
+}
