@@ -32,3 +32,5 @@ pub mod HandedBack
 pub mod Queues
 -- lifting keeps low, settles a vertex, and comes to an end
 pub mod LiftedMeasures
+-- cut levels, compared as the program does
+pub mod CutLevels

@@ -4,7 +4,7 @@ ghost use Rattle.std.specs.Prelude.{◌≡◌, ◌≢◌, ◌<◌, ◌≤◌, �
 ghost use Rattle.ml_parity.specs.Game.{IsGame, moves_of, size};
 ghost use Rattle.ml_progress.specs.Measure.{IsLeastMeasure, measure_at};
 ghost use Rattle.ml_progress.specs.private.Codes.{cut_level};
-ghost use Rattle.ml_progress.specs.private.Lifting.{AreFitting, IsExtreme, IsLifted, IsLow};
+ghost use Rattle.ml_progress.specs.private.Lifting.{AreFitting, IsExtreme, IsFurther, IsLifted, IsLow};
 ghost use Rattle.ml_progress.specs.private.Scales.{IsScale};
 ghost use Rattle.ml_progress.specs.private.Waits.{ChainsUpTo};
 
@@ -35,24 +35,34 @@ fn is_cut_before(table: &Table, first: usize, second: usize, cut: usize) -> bool
     comes_before(&table.row(first)[..cut], &table.row(second)[..cut])
 }
 
+/// Whether the first `cut` numbers of one vertex come before those of another one, or behind if `least` is false.
+fn is_further(table: &Table, first: usize, second: usize, cut: usize, least: bool) -> bool
+    requires first { first < length table.now.rows }
+    requires second { second < length table.now.rows }
+    requires cut { cut ≤ table.now.wide }
+    ensures { (bs : List ℕ) → AreFitting bs table.now.rows → IsTrue result
+        ↔ IsFurther least (cut_level cut bs (measure_at table.now.rows first)) (cut_level cut bs (measure_at table.now.rows second)) }
+{
+    if least {
+        is_cut_before(table, first, second, cut)
+    } else {
+        is_cut_before(table, second, first, cut)
+    }
+}
+
 /// Of these vertices one whose first `cut` numbers come first, or last if `least` is false.
 fn extreme_vertex(table: &Table, vertices: &[u64], cut: usize, least: bool) -> usize
     requires some { 0 < length vertices.now }
     requires low { All (λ w. w < length table.now.rows) vertices.now }
     requires cut { cut ≤ table.now.wide }
+    ensures low { result < length table.now.rows }
     ensures member { Contains vertices.now result }
     ensures extreme { (bs : List ℕ) → AreFitting bs table.now.rows → IsExtreme least cut bs table.now.rows vertices.now result }
 {
     let mut best = vertices[0] as usize;
     for vertex in vertices {
-        let vertex = *vertex as usize;
-        let further = if least {
-            is_cut_before(table, vertex, best, cut)
-        } else {
-            is_cut_before(table, best, vertex, cut)
-        };
-        if further {
-            best = vertex;
+        if is_further(table, *vertex as usize, best, cut, least) {
+            best = *vertex as usize;
         }
     }
     best

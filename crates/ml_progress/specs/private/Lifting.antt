@@ -4,6 +4,7 @@
 -- which its moves progress, in what its successors have. A vertex whose moves progress is settled, until a successor rises.
 --
 --   Furthest least a b         == a is at most b, or at least b where `least` is false
+--   IsFurther least a b        == a is below b, or above b where `least` is false
 --   IsExtreme least c bs m w v == v has the least cut level of these vertices, or the greatest one
 --   IsLow g p m                == the measure is within its bounds, and at no vertex above any progress measure
 --   IsSettled g p m v          == the moves from v progress as they have to
@@ -22,6 +23,11 @@ use Rattle.ml_progress.specs.private.Tables.{IsRaised}
 abbrev pub Furthest : Bool → ℕ → ℕ → Type 0
 Furthest true a b = a ≤ b
 Furthest false a b = b ≤ a
+
+-- a is below b, or above b
+abbrev pub IsFurther : Bool → ℕ → ℕ → Type 0
+IsFurther true a b = a < b
+IsFurther false a b = b < a
 
 -- v has the least cut level of these vertices, or the greatest one
 abbrev pub IsExtreme : Bool → ℕ → List ℕ → Measure → List ℕ → ℕ → Type 0
