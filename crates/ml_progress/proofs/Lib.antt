@@ -34,3 +34,5 @@ pub mod Queues
 pub mod LiftedMeasures
 -- cut levels, compared as the program does
 pub mod CutLevels
+-- a vertex as the program lifts it
+pub mod LiftSteps

@@ -10,7 +10,7 @@ ghost use Rattle.ml_progress.specs.private.Waits.{ChainsUpTo};
 
 use crate::order::{comes_before, least_progress};
 use crate::predecessors::Predecessors;
-use crate::reading::{is_bad, moves_at, owner_at, priority_at};
+use crate::reading::{is_bad, is_owned_by, moves_at, priority_at};
 use crate::scale::{Scale, scale_of};
 use crate::table::Table;
 use crate::waiting::Waiting;
@@ -79,7 +79,7 @@ fn lift(game: &Game, scale: &Scale, table: &mut Table, next: &mut [u64], vertex:
     ensures wide { table.new.wide ≡ table.old.wide }
     ensures lifted { IsLifted game.now scale.now.player table.old.rows table.new.rows vertex result }
 {
-    let own = owner_at(game, vertex) == scale.player;
+    let own = is_owned_by(game, vertex, scale.player);
     let cut = scale.cuts[vertex];
     let to = extreme_vertex(table, moves_at(game, vertex), cut, own);
     let bad = is_bad(scale.player, priority_at(game, vertex));

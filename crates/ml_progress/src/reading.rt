@@ -1,7 +1,7 @@
 // What is read in the fields of a game.
 
-ghost use Rattle.std.specs.Prelude.{◌≡◌, ◌<◌, All, length};
-ghost use Rattle.ml_parity.specs.Game.{IsGame, moves_of, owner_of, priority_of, size};
+ghost use Rattle.std.specs.Prelude.{◌≡◌, ◌<◌, ◌↔◌, All, IsTrue, length};
+ghost use Rattle.ml_parity.specs.Game.{moves_of, owner_of, priority_of, size};
 ghost use Rattle.ml_progress.specs.Measure.{is_bad};
 
 use ml_parity::{Game, Player};
@@ -12,6 +12,14 @@ pub(crate) fn owner_at(game: &Game, vertex: usize) -> Player
     ensures { result ≡ owner_of game.now vertex }
 {
     game.owner[vertex]
+}
+
+/// Whether a player owns a vertex.
+pub(crate) fn is_owned_by(game: &Game, vertex: usize, player: Player) -> bool
+    requires { vertex < size game.now }
+    ensures { IsTrue result ↔ (owner_of game.now vertex ≡ player) }
+{
+    owner_at(game, vertex) == player
 }
 
 /// The priority of a vertex.
