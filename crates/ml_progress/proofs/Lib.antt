@@ -36,3 +36,5 @@ pub mod LiftedMeasures
 pub mod CutLevels
 -- a vertex as the program lifts it
 pub mod LiftSteps
+-- a measure that rises, while vertices wait
+pub mod RisingMeasures
