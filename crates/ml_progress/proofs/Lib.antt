@@ -38,3 +38,5 @@ pub mod CutLevels
 pub mod LiftSteps
 -- a measure that rises, while vertices wait
 pub mod RisingMeasures
+-- there is a least measure
+pub mod SomeLeast

@@ -26,7 +26,7 @@ use Rattle.ml_progress.proofs.NextLists.{fits_zeros, code_zeros}
 use Rattle.ml_progress.proofs.Progress.{bounded_of_fits, measure_fits, progress_steps, steps_progress, below_level}
 
 -- what has the lower level is below
-level_below : (bs : List ℕ) (a b : Option (List ℕ)) → FitsIn bs a → FitsIn bs b → level bs a < level bs b → IsBelow a b
+pub level_below : (bs : List ℕ) (a b : Option (List ℕ)) → FitsIn bs a → FitsIn bs b → level bs a < level bs b → IsBelow a b
 level_below bs None b f h low = absurd (omega (arith, level_top bs b h))
 level_below bs (Some xs) None f h low = tt
 level_below bs (Some xs) (Some ys) f h low = code_before bs xs ys f h low
