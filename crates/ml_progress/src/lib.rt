@@ -8,6 +8,8 @@
 // Below stands `ml_parity`, with the games and their other solver.
 #![tactic(auto)]
 
+pub mod answer;
+mod choices;
 pub mod laws;
 mod lifting;
 mod order;
