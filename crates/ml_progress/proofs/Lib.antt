@@ -38,3 +38,7 @@ pub mod CutLevels
 pub mod LiftSteps
 -- a measure that rises, while vertices wait
 pub mod RisingMeasures
+-- moves that progress, as the program tests them
+pub mod TestedMoves
+-- winners and choices, and the solution that they are
+pub mod ToldSolutions

@@ -1,7 +1,8 @@
 // Winners and choices, read off the least measures.
 
 ghost use Rattle.std.specs.Prelude.{◌≡◌, ◌≢◌, ◌<◌, ◌↔◌, IfOk, IsTrue, None, length};
-ghost use Rattle.ml_parity.specs.Game.{IsGame, HasMove, owner_of, size};
+ghost use Rattle.ml_parity.specs.declared.players.Player.TheVariants.{Even, Odd};
+ghost use Rattle.ml_parity.specs.Game.{IsGame, owner_of, size};
 ghost use Rattle.ml_progress.specs.Law.{HasList};
 ghost use Rattle.ml_progress.specs.Measure.{Progresses};
 ghost use Rattle.ml_progress.specs.Measured.{IsFirstProgress};
@@ -85,4 +86,28 @@ pub(crate) fn winners(alloc: Global, game: &Game, even: &Table) -> Result<Vec<Pl
         })?;
     }
     Ok(winners)
+}
+
+/// The choice at each vertex: where the owner has a list the first successor to which the move progresses, and the first
+/// one elsewhere.
+pub(crate) fn choices(
+    alloc: Global,
+    game: &Game,
+    even: &Side,
+    odd: &Side,
+) -> Result<Vec<u64>, NoMemory>
+    requires game { IsGame game.now }
+    requires even { IsSide game.now Even even.now.scale.player even.now.scale.bounds.items even.now.scale.cuts.items even.now.table }
+    requires odd { IsSide game.now Odd odd.now.scale.player odd.now.scale.bounds.items odd.now.scale.cuts.items odd.now.table }
+    ensures { IfOk result (λ c. AreChoices game.now even.now.table.rows odd.now.table.rows c.items) }
+{
+    let size = game.size();
+    let mut choices = Vec::with_capacity(alloc, size)?;
+    for vertex in 0..size {
+        choices.push(match owner_at(game, vertex) {
+            Player::Even => choice_of(game, even, vertex),
+            Player::Odd => choice_of(game, odd, vertex),
+        })?;
+    }
+    Ok(choices)
 }
