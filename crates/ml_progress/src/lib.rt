@@ -12,9 +12,14 @@ pub mod answer;
 mod choices;
 pub mod laws;
 mod lifting;
+
 mod order;
 mod predecessors;
 mod reading;
 mod scale;
+mod solving;
 mod table;
 mod waiting;
+
+pub use answer::Measured;
+pub use solving::measures;

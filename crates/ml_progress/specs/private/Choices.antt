@@ -4,10 +4,12 @@
 --   AreWinners g m winners   == so for all vertices, m being the measure of Even
 --   IsChoiceFor g p m v w    == w is the first successor to which the move progresses, or the first one where p has the top
 --   AreChoices g me mo choices == so for all vertices, with the measure of the owner
+--   IsReadOff g me mo s        == both of a solution
 use Rattle.std.specs.Prelude.{ℕ, ◌≡◌, ◌≢◌, ◌<◌, List, length, get_or, Option, Some, None}
 use Rattle.ml_parity.specs.declared.players.Player.{Player}
 use Rattle.ml_parity.specs.declared.players.Player.TheVariants.{Even, Odd}
 use Rattle.ml_parity.specs.Game.{ParityGame, moves_of, owner_of, size}
+use Rattle.ml_parity.specs.Solution.{GameSolution}
 use Rattle.ml_progress.specs.Law.{HasList}
 use Rattle.ml_progress.specs.Measure.{Measure, measure_at}
 use Rattle.ml_progress.specs.Measured.{IsFirstProgress}
@@ -37,3 +39,8 @@ pub record AreChoices (g : ParityGame) (me mo : Measure) (choices : List ℕ) : 
   pub long : length choices ≡ size g
   pub each : (v : ℕ) → v < size g
       → IsChoiceFor g (owner_of g v) (measure_for (owner_of g v) me mo) v (get_or choices v 0)
+
+-- the solution is read off the measures of Even and of Odd
+pub record IsReadOff (g : ParityGame) (me mo : Measure) (s : GameSolution) : Type 0 where
+  pub winners : AreWinners g me s.winner
+  pub choices : AreChoices g me mo s.choice
