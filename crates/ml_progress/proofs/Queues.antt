@@ -139,4 +139,3 @@ pub record Waking (m : Measure) (n : ℕ) (arrows : List Arrow) (flags0 : List B
   pub woken : (v : ℕ) → InChain arrows v first
       → ((get_or flags v false ≡ true) ⊎ (measure_at m v ≡ None)) ⊎ InChain arrows v at
   pub few : length queue + at ≤ length queue0 + length arrows
-

@@ -2,7 +2,7 @@
 --
 --   told                            == the winner is the player whose measure isn't the top
 --   told_solution, told_elsewhere   == they are a solution of the game
---   answer_even, .., answer_first   == all that is said of the answer
+--   answer_solution, .., answer_first == what is said of the answer
 use Rattle.std.proofs.Common.{ℕ, ◌≡◌, ◌≢◌, ◌<◌, ◌⊎◌, inl, inr, ⊎_elim, ◌↔◌, arith, List, length, get_or, Option, Some, None, refl, sym, ap, ◌∙◌, subst}
 use Rattle.std.proofs.lemmas.List.{get_or_default}
 use Rattle.ml_parity.specs.declared.players.Player.{Player}
@@ -125,12 +125,6 @@ module _ (g : ParityGame) (ok : IsGame g) (me mo : Measure) (even : IsLeastMeasu
     measure_is : (p : Player) → measure_of m p ≡ measure_for p me mo
     measure_is Even = is_even
     measure_is Odd = is_odd
-
-    pub answer_even : IsLeastMeasure g Even m.even
-    answer_even = subst (IsLeastMeasure g Even) (sym is_even) even
-
-    pub answer_odd : IsLeastMeasure g Odd m.odd
-    answer_odd = subst (IsLeastMeasure g Odd) (sym is_odd) odd
 
     pub answer_solution : IsSolution g m.solution
     answer_solution = subst (IsSolution g) (sym is_solution) told_solution

@@ -12,7 +12,6 @@ pub mod answer;
 mod choices;
 pub mod laws;
 mod lifting;
-
 mod order;
 mod predecessors;
 mod reading;

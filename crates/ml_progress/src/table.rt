@@ -64,7 +64,11 @@ impl Table {
         requires { length numbers.items ≡ length tops.items * width }
         ensures { result ≡ table_of width numbers.items tops.items }
     {
-        Table { width, numbers, tops }
+        Table {
+            width,
+            numbers,
+            tops,
+        }
     }
 
     /// Whether a vertex has the top.

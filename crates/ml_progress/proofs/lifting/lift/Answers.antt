@@ -42,15 +42,15 @@ returns-else-not-is_top-clause-lifted c =
     (c.is_bad-bad.ensures ∙ ap (is_bad c.args.scale.now.player) c.priority_at.ensures)
     c.raise_to_top.new.self.rows c.raise_to_top.result in
     elim c.else-not-is_top.branch [
-      else-not-is_top-via-then-not-is_top+else-least_progress w ↦
-        made (Some w.row.result.now) None w.row.ensures.row
-        (subst (λ bs. IsTarget c.index-cut.result.now bs c.is_bad-bad.result (Some w.row.result.now) None)
-        w.deref.ensures.value
-        (subst (λ b. IsTarget c.index-cut.result.now w.deref.result.now c.is_bad-bad.result (Some w.row.result.now)
-        (listed b w.least_progress.new.next)) w.if-least_progress.false w.least_progress.ensures))
-        c.raise_to_top.ensures.raised
-    | else-not-is_top-via-else-not-is_top w ↦
-        made None None (c.is_top.ensures.0 w.if-not-is_top.false)
-        (top_target c.index-cut.result.now c.args.scale.now.bounds.items c.is_bad-bad.result)
-        c.raise_to_top.ensures.raised
+      | else-not-is_top-via-then-not-is_top+else-least_progress w ↦
+          made (Some w.row.result.now) None w.row.ensures.row
+          (subst (λ bs. IsTarget c.index-cut.result.now bs c.is_bad-bad.result (Some w.row.result.now) None)
+          w.deref.ensures.value
+          (subst (λ b. IsTarget c.index-cut.result.now w.deref.result.now c.is_bad-bad.result (Some w.row.result.now)
+          (listed b w.least_progress.new.next)) w.if-least_progress.false w.least_progress.ensures))
+          c.raise_to_top.ensures.raised
+      | else-not-is_top-via-else-not-is_top w ↦
+          made None None (c.is_top.ensures.0 w.if-not-is_top.false)
+          (top_target c.index-cut.result.now c.args.scale.now.bounds.items c.is_bad-bad.result)
+          c.raise_to_top.ensures.raised
     ]
