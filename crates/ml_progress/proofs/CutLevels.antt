@@ -2,7 +2,6 @@
 --
 --   top_first, top_second, both_rows == whether one cut level is below another one, by cases
 --   Extreme                          == the extreme one of the first k vertices
---   extreme_begins, extreme_more     == such a search
 use Rattle.std.proofs.Common.{ℕ, ◌≡◌, ◌≢◌, ◌+◌, ◌<◌, ◌≤◌, ◌⊎◌, inl, inr, ◌↔◌, arith, Bool, true, false, IsTrue, List, length, get_or, take, Option, Some, None, All, Contains, refl, sym, ap, ◌∙◌, subst}
 use Rattle.std.proofs.lemmas.Bool.{cases_eq, cases_order}
 use Rattle.std.proofs.lemmas.List.{get_or_default}
@@ -56,91 +55,9 @@ module _ (c : ℕ) (bs : List ℕ) where
 
 -- ---- the extreme one
 
-furthest_itself : (least : Bool) (a : ℕ) → Furthest least a a
-furthest_itself true a = omega arith
-furthest_itself false a = omega arith
-
-further_than : (least : Bool) (a b d : ℕ) → IsFurther least a b → Furthest least b d → Furthest least a d
-further_than true a b d less rest = omega arith
-further_than false a b d less rest = omega arith
-
-not_further : (least : Bool) (a b : ℕ) → (IsFurther least a b → ⊥) → Furthest least b a
-not_further true a b none = by_case (cases_order a b)
-  where
-    by_case : (a ≡ b) ⊎ ((a < b) ⊎ (b < a)) → b ≤ a
-    by_case (inl same) = omega arith
-    by_case (inr (inl low)) = absurd (none low)
-    by_case (inr (inr high)) = omega arith
-not_further false a b none = by_case (cases_order a b)
-  where
-    by_case : (a ≡ b) ⊎ ((a < b) ⊎ (b < a)) → a ≤ b
-    by_case (inl same) = omega arith
-    by_case (inr (inl low)) = omega arith
-    by_case (inr (inr high)) = absurd (none high)
-
 -- `best` is the extreme one of the first k vertices, and one of them all
 pub record Extreme (least : Bool) (c : ℕ) (m : Measure) (vertices : List ℕ) (k best : ℕ) : Type 0 where
   pub low : best < length m
   pub member : Contains vertices best
   pub extreme : (bs : List ℕ) → AreFitting bs m → (j : ℕ) → j < k
       → Furthest least (cut_level c bs (measure_at m best)) (cut_level c bs (measure_at m (get_or vertices j 0)))
-
-module _ (least : Bool) (c : ℕ) (m : Measure) (vertices : List ℕ) (each : All (λ w. w < length m) vertices) where
-  pub extreme_begins : 0 < length vertices → Extreme least c m vertices 0 (get_or vertices 0 0)
-  extreme_begins some = record {
-    low = each 0 0 some;
-    member = (0, some, get_or_default vertices 0 (get_or vertices 0 0) 0 some);
-    extreme = λ bs fits j low. absurd (omega arith);
-  }
-
-  module _ (k best : ℕ) (so_far : Extreme least c m vertices k best) (below : k < length vertices) (r : Bool)
-      (told : (bs : List ℕ) → AreFitting bs m → IsTrue r
-      ↔ IsFurther least (cut_level c bs (measure_at m (get_or vertices k 0))) (cut_level c bs (measure_at m best))) where
-    -- the next one is further
-    pub extreme_taken : r ≡ true → Extreme least c m vertices (k + 1) (get_or vertices k 0)
-    extreme_taken yes_it_is = record {
-      low = each k 0 below;
-      member = (k, below, get_or_default vertices k (get_or vertices k 0) 0 below);
-      extreme = λ bs fits j low. by_case bs fits j low (cases_eq j k);
-    }
-      where
-        by_case : (bs : List ℕ) → AreFitting bs m → (j : ℕ) → j < k + 1 → (j ≡ k) ⊎ (j ≡ k → ⊥)
-            → Furthest least (cut_level c bs (measure_at m (get_or vertices k 0)))
-            (cut_level c bs (measure_at m (get_or vertices j 0)))
-        by_case bs fits j low (inl same) =
-            subst (λ i. Furthest least (cut_level c bs (measure_at m (get_or vertices k 0)))
-            (cut_level c bs (measure_at m (get_or vertices i 0)))) (sym same)
-            (furthest_itself least (cut_level c bs (measure_at m (get_or vertices k 0))))
-        by_case bs fits j low (inr differs) =
-            further_than least (cut_level c bs (measure_at m (get_or vertices k 0))) (cut_level c bs (measure_at m best))
-            (cut_level c bs (measure_at m (get_or vertices j 0))) ((told bs fits).0 yes_it_is)
-            (so_far.extreme bs fits j (omega arith))
-
-    -- it isn't
-    pub extreme_left : r ≡ false → Extreme least c m vertices (k + 1) best
-    extreme_left not_it = record {
-      low = so_far.low;
-      member = so_far.member;
-      extreme = λ bs fits j low. by_case bs fits j low (cases_eq j k);
-    }
-      where
-        none : (bs : List ℕ) → AreFitting bs m
-            → IsFurther least (cut_level c bs (measure_at m (get_or vertices k 0))) (cut_level c bs (measure_at m best)) → ⊥
-        none bs fits further = let wrong : true ≡ false = sym ((told bs fits).1 further) ∙ not_it in absurd (cc)
-
-        by_case : (bs : List ℕ) → AreFitting bs m → (j : ℕ) → j < k + 1 → (j ≡ k) ⊎ (j ≡ k → ⊥)
-            → Furthest least (cut_level c bs (measure_at m best)) (cut_level c bs (measure_at m (get_or vertices j 0)))
-        by_case bs fits j low (inl same) =
-            subst (λ i. Furthest least (cut_level c bs (measure_at m best)) (cut_level c bs (measure_at m (get_or vertices i 0))))
-            (sym same)
-            (not_further least (cut_level c bs (measure_at m (get_or vertices k 0))) (cut_level c bs (measure_at m best))
-            (none bs fits))
-        by_case bs fits j low (inr differs) = so_far.extreme bs fits j (omega arith)
-
-  -- it is the extreme one of all
-  pub extreme_ends : (k best : ℕ) → length vertices ≤ k → Extreme least c m vertices k best
-      → (bs : List ℕ) → AreFitting bs m → IsExtreme least c bs m vertices best
-  extreme_ends k best done so_far bs fits x member =
-      subst (λ y. Furthest least (cut_level c bs (measure_at m best)) (cut_level c bs (measure_at m y)))
-      (get_or_default vertices member.0 0 x member.1 ∙ member.2)
-      (so_far.extreme bs fits member.0 (omega (arith, member.1)))

@@ -38,5 +38,9 @@ pub mod CutLevels
 pub mod LiftSteps
 -- a measure that rises, while vertices wait
 pub mod RisingMeasures
+-- moves that progress, as the program tests them
+pub mod TestedMoves
+-- winners and choices, and the solution that they are
+pub mod ToldSolutions
 -- there is a least measure
 pub mod SomeLeast

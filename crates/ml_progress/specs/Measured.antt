@@ -1,11 +1,13 @@
 -- What the measures of both players and a solution say together.
 --
 --   MeasuredGame            == the measures of Even and of Odd, and a solution
+--   measure_in entries      == the measure that vectors hold
 --   measure_of m p          == the measure of player p
 --   IsTold g m              == at each vertex the winner is the player whose measure isn't the top there
 --   IsFirstProgress g p m v w == w is the first successor in the list of v to which the move progresses
 --   FirstProgressing g m    == at a vertex whose owner wins it, the choice is that successor in the owner's measure
-use Rattle.std.specs.Prelude.{ℕ, ◌≡◌, ◌<◌, ◌↔◌, length, get_or}
+use Rattle.std.specs.Prelude.{ℕ, ◌≡◌, ◌<◌, ◌↔◌, List, length, get_or, map, Option, Some, None}
+use Rattle.std.specs.Global.{Vec}
 use Rattle.ml_lists.specs.Search.{IsFirst}
 use Rattle.ml_parity.specs.declared.players.Player.{Player}
 use Rattle.ml_parity.specs.declared.players.Player.TheVariants.{Even, Odd}
@@ -19,6 +21,15 @@ pub record MeasuredGame : Type 0 where
   pub even : Measure
   pub odd : Measure
   pub solution : GameSolution
+
+-- the list that a vector holds, if there is one
+abbrev pub list_in : Option (Vec ℕ) → Option (List ℕ)
+list_in None = None
+list_in (Some xs) = Some xs.items
+
+-- the measure that vectors hold
+abbrev pub measure_in : List (Option (Vec ℕ)) → Measure
+measure_in entries = map list_in entries
 
 -- the measure of a player
 abbrev pub measure_of : MeasuredGame → Player → Measure

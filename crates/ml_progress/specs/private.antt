@@ -10,3 +10,5 @@ pub mod Scales
 pub mod Waits
 -- how a measure rises to the least progress measure
 pub mod Lifting
+-- winners and choices, as they are read off the measures
+pub mod Choices

@@ -8,11 +8,17 @@
 // Below stands `ml_parity`, with the games and their other solver.
 #![tactic(auto)]
 
+pub mod answer;
+mod choices;
 pub mod laws;
 mod lifting;
 mod order;
 mod predecessors;
 mod reading;
 mod scale;
+mod solving;
 mod table;
 mod waiting;
+
+pub use answer::Measured;
+pub use solving::measures;

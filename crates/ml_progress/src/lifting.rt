@@ -5,7 +5,7 @@ ghost use Rattle.ml_parity.specs.Game.{IsGame, moves_of, size};
 ghost use Rattle.ml_progress.specs.Measure.{IsLeastMeasure, measure_at};
 ghost use Rattle.ml_progress.specs.private.Codes.{cut_level};
 ghost use Rattle.ml_progress.specs.private.Lifting.{AreFitting, IsExtreme, IsFurther, IsLifted, IsLow};
-ghost use Rattle.ml_progress.specs.private.Scales.{IsScale};
+ghost use Rattle.ml_progress.specs.private.Scales.{IsScale, IsSide};
 ghost use Rattle.ml_progress.specs.private.Waits.{ChainsUpTo};
 
 use crate::order::{comes_before, least_progress};
@@ -90,25 +90,54 @@ fn lift(game: &Game, scale: &Scale, table: &mut Table, next: &mut [u64], vertex:
     }
 }
 
-/// The least progress measure of a player.
-pub(crate) fn least_measure(
+/// The least progress measure of the player of a scale.
+fn least_measure(
     alloc: Global,
     game: &Game,
     predecessors: &Predecessors,
-    player: Player,
+    scale: &Scale,
 ) -> Result<Table, NoMemory>
-    requires { ChainsUpTo game.now (size game.now) predecessors.now.last.items predecessors.now.arrows.items }
-    ensures { IfOk result (λ t. IsLeastMeasure game.now player t.rows) }
+    requires scale { IsScale game.now scale.now.player scale.now.bounds.items scale.now.cuts.items }
+    requires chains { ChainsUpTo game.now (size game.now) predecessors.now.last.items predecessors.now.arrows.items }
+    ensures wide { IfOk result (λ t. t.wide ≡ length scale.now.bounds.items) }
+    ensures least { IfOk result (λ t. IsLeastMeasure game.now scale.now.player t.rows) }
 {
     let size = game.size();
-    let scale = scale_of(alloc, game, player)?;
     let mut table = Table::new(alloc, size, scale.bounds.len())?;
     let mut next = vec![in alloc; 0; scale.bounds.len()]?;
     let mut waiting = Waiting::all(alloc, size)?;
     while let Some(vertex) = waiting.take() {
-        if lift(game, &scale, &mut table, &mut next, vertex) {
+        if lift(game, scale, &mut table, &mut next, vertex) {
             waiting.add_predecessors(predecessors, &table, vertex)?;
         }
     }
     Ok(table)
+}
+
+/// A player's least progress measure, with what its lists look like.
+#[derive(Drop)]
+pub(crate) struct Side {
+    /// What the lists look like.
+    pub(crate) scale: Scale,
+    /// The measure.
+    pub(crate) table: Table,
+}
+
+/// The least progress measure of a player.
+///
+/// Cost: a lift looks at the cut lists of the successors; a vertex is lifted once, and once more for each rise of a
+/// successor, which may be as often as there are lists within the bounds.
+pub(crate) fn side_of(
+    alloc: Global,
+    game: &Game,
+    predecessors: &Predecessors,
+    player: Player,
+) -> Result<Side, NoMemory>
+    requires game { IsGame game.now }
+    requires chains { ChainsUpTo game.now (size game.now) predecessors.now.last.items predecessors.now.arrows.items }
+    ensures { IfOk result (λ s. IsSide game.now player s.scale.player s.scale.bounds.items s.scale.cuts.items s.table) }
+{
+    let scale = scale_of(alloc, game, player)?;
+    let table = least_measure(alloc, game, predecessors, &scale)?;
+    Ok(Side { scale, table })
 }
