@@ -44,3 +44,5 @@ pub mod TestedMoves
 pub mod ToldSolutions
 -- there is a least measure
 pub mod SomeLeast
+-- and a solution that both tell
+pub mod SomeMeasures

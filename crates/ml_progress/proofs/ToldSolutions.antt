@@ -13,7 +13,7 @@ use Rattle.ml_parity.specs.Winner.{WinsFrom, Wins}
 use Rattle.ml_parity.specs.Solution.{GameSolution, IsSolution, FirstElsewhere, winner_at, choice_at}
 use Rattle.ml_parity.proofs.Boards.{first_move, move_to}
 use Rattle.ml_parity.proofs.Winners.{clash, won_by_either}
-use Rattle.ml_progress.specs.Law.{HasList}
+use Rattle.ml_progress.specs.Measure.{HasList}
 use Rattle.ml_progress.specs.Measure.{Measure, Progresses, IsLeastMeasure, measure_at}
 use Rattle.ml_progress.specs.Measured.{MeasuredGame, measure_of, IsTold, IsFirstProgress, FirstProgressing}
 use Rattle.ml_progress.specs.private.Choices.{winner_from, AreWinners, IsChoiceFor, measure_for, AreChoices}

@@ -12,7 +12,8 @@ use Rattle.ml_parity.specs.Winner.{IsStrategyOf, Wins}
 use Rattle.ml_parity.proofs.Opponents.{is_or_not}
 use Rattle.ml_parity.proofs.Winners.{Winners, winners}
 use Rattle.ml_progress.specs.Measure.{Measure, IsBelow, Progresses, SomeProgress, IsProgressMeasure, IsLeastMeasure, measure_at}
-use Rattle.ml_progress.specs.Law.{HasList, MeasureLaw}
+use Rattle.ml_progress.specs.Law.{MeasureLaw}
+use Rattle.ml_progress.specs.Measure.{HasList}
 use Rattle.ml_progress.proofs.Winning.{progress_wins}
 use Rattle.ml_progress.proofs.RegionMeasure.{region_measure, region_listed, region_progresses}
 

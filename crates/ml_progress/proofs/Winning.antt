@@ -17,7 +17,7 @@ use Rattle.ml_parity.specs.Game.{ParityGame, IsGame, HasMove, owner_of, priority
 use Rattle.ml_parity.specs.Winner.{IsPlay, Follows, WinsFrom, winner}
 use Rattle.ml_parity.proofs.Opponents.{cases_player}
 use Rattle.ml_progress.specs.Measure.{Measure, IsProgressMeasure, Progresses, is_bad, measure_at}
-use Rattle.ml_progress.specs.Law.{HasList}
+use Rattle.ml_progress.specs.Measure.{HasList}
 use Rattle.ml_progress.specs.private.Codes.{FitsIn, cut_level, step_of, Steps}
 use Rattle.ml_progress.specs.private.Bounds.{bounds_of, cut_length, StepsAlong}
 use Rattle.ml_progress.proofs.Codes.{code_low, fits_take}

@@ -17,8 +17,9 @@
 --   cut g p v xs                == the numbers of xs for the bad priorities up to the priority of v
 --   Progresses g p m v w        == a move from v to w progresses
 --   IsProgressMeasure g p m     == some move from each vertex of p progresses, and all moves from the other ones
+--   HasList m v                 == the measure does not give vertex v the top
 --   IsLeastMeasure g p m        == a progress measure to which no other one is below at any vertex
-use Rattle.std.specs.Prelude.{ℕ, ◌≡◌, ◌<◌, ◌≤◌, ◌%◌, ◌==◌, nat_le, Bool, true, false, List, length, get_or, take, count_by, Option, Some, None}
+use Rattle.std.specs.Prelude.{ℕ, ◌≡◌, ◌≢◌, ◌<◌, ◌≤◌, ◌%◌, ◌==◌, nat_le, Bool, true, false, List, length, get_or, take, count_by, Option, Some, None}
 use Rattle.std.specs.List.{filter}
 use Rattle.ml_lists.specs.Ascending.{ascending}
 use Rattle.ml_parity.specs.declared.players.Player.{Player}
@@ -113,3 +114,7 @@ pub record IsProgressMeasure (g : ParityGame) (p : Player) (m : Measure) : Type 
 pub record IsLeastMeasure (g : ParityGame) (p : Player) (m : Measure) : Type 0 where
   pub progress : IsProgressMeasure g p m
   pub least : (n : Measure) → IsProgressMeasure g p n → (v : ℕ) → v < size g → ¬ (IsBelow (measure_at n v) (measure_at m v))
+
+-- the measure does not give vertex v the top
+abbrev pub HasList : Measure → ℕ → Type 0
+HasList m v = measure_at m v ≢ None

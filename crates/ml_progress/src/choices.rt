@@ -3,7 +3,7 @@
 ghost use Rattle.std.specs.Prelude.{◌≡◌, ◌≢◌, ◌<◌, ◌↔◌, IfOk, IsTrue, None, length};
 ghost use Rattle.ml_parity.specs.declared.players.Player.TheVariants.{Even, Odd};
 ghost use Rattle.ml_parity.specs.Game.{IsGame, owner_of, size};
-ghost use Rattle.ml_progress.specs.Law.{HasList};
+ghost use Rattle.ml_progress.specs.Measure.{HasList};
 ghost use Rattle.ml_progress.specs.Measure.{Progresses};
 ghost use Rattle.ml_progress.specs.Measured.{IsFirstProgress};
 ghost use Rattle.ml_progress.specs.private.Choices.{AreChoices, AreWinners, IsChoiceFor};

@@ -1,6 +1,6 @@
 // Laws about the definitions alone: empty functions, each of whose contract is a theorem.
 
-ghost use Rattle.ml_progress.specs.Law.{MeasureLaw, SomeLeastMeasure};
+ghost use Rattle.ml_progress.specs.Law.{MeasureLaw, SomeMeasured};
 
 /// The least progress measure of a player has a list exactly at the vertices that the player wins, in each parity game,
 /// of any number of vertices.
@@ -10,9 +10,10 @@ pub fn least_measure_tells()
     ensures law { MeasureLaw }
 {}
 
-/// Each player has a least progress measure, in each parity game.
+/// Each parity game has a least progress measure of each player, with a solution that they tell and whose moves are the
+/// first ones that progress.
 ///
 /// Does nothing when called.
-pub fn some_least_measure()
-    ensures some { SomeLeastMeasure }
+pub fn some_measures()
+    ensures some { SomeMeasured }
 {}

@@ -10,7 +10,7 @@ use Rattle.ml_parity.specs.declared.players.Player.{Player}
 use Rattle.ml_parity.specs.declared.players.Player.TheVariants.{Even, Odd}
 use Rattle.ml_parity.specs.Game.{ParityGame, moves_of, owner_of, size}
 use Rattle.ml_parity.specs.Solution.{GameSolution}
-use Rattle.ml_progress.specs.Law.{HasList}
+use Rattle.ml_progress.specs.Measure.{HasList}
 use Rattle.ml_progress.specs.Measure.{Measure, measure_at}
 use Rattle.ml_progress.specs.Measured.{IsFirstProgress}
 
