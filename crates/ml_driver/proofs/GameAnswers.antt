@@ -82,14 +82,7 @@ solution_by : (e : Engine) (g : ParityGame) → IsGame g → (s : GameSolution) 
 solution_by Recursive g ok = let s = some_solution g ok in (s.0, s.1, tt)
 solution_by Measures g ok =
     let m = some_measures g ok in
-    (m.0.solution, m.1.solution, record {
-      measured = m.0;
-      even_is_least = m.1.even;
-      odd_is_least = m.1.odd;
-      is_told = m.1.told;
-      moves_first = m.1.first;
-      is_solution = refl;
-    })
+    (m.0.solution, m.1.solution, record { measured = m.0; is_measured = m.1; is_solution = refl })
 
 pub on_game : (e : Engine) (text : List ℕ) → (s : Status) × ((out : List ℕ) × IsDue (Some (SolveGame e)) text s out)
 on_game e text =

@@ -16,14 +16,12 @@ use Rattle.std.specs.Str.{bytes_eq}
 use Rattle.ml_lines.specs.Lines.{Word, line_text, number}
 use Rattle.ml_parity.specs.Game.{ParityGame}
 use Rattle.ml_parity.specs.Solution.{GameSolution, IsSolution}
-use Rattle.ml_parity.specs.declared.players.Player.TheVariants.{Even, Odd}
 use Rattle.ml_pgsolver.specs.GameText.{NamedGame}
 use Rattle.ml_pgsolver.specs.Refusals.{IsReadAs, IsRefusedBy}
 use Rattle.ml_pgsolver.specs.SolutionText.{solution_text}
 use Rattle.ml_pgsolver.specs.declared.refusal.GameTextRefusal.{GameTextRefusal}
 use Rattle.ml_pgsolver.specs.declared.refusal.GameTextRefusal.TheVariants as cause
-use Rattle.ml_progress.specs.Measure.{IsLeastMeasure}
-use Rattle.ml_progress.specs.Measured.{MeasuredGame, IsTold, FirstProgressing}
+use Rattle.ml_progress.specs.Measured.{IsMeasured, MeasuredGame}
 use Rattle.ml_driver.specs.Statuses.{longest_game, refused_length}
 use Rattle.ml_driver.specs.declared.engine.Engine.{Engine}
 use Rattle.ml_driver.specs.declared.engine.Engine.TheVariants.{Recursive, Measures}
@@ -43,10 +41,7 @@ engine_named word =
 
 pub record IsByMeasures (g : ParityGame) (s : GameSolution) : Type 0 where
   pub measured : MeasuredGame
-  pub even_is_least : IsLeastMeasure g Even measured.even
-  pub odd_is_least : IsLeastMeasure g Odd measured.odd
-  pub is_told : IsTold g measured
-  pub moves_first : FirstProgressing g measured
+  pub is_measured : IsMeasured g measured
   pub is_solution : s ≡ measured.solution
 
 abbrev pub IsMadeBy : Engine → ParityGame → GameSolution → Type 0
