@@ -14,7 +14,8 @@ use Rattle.ml_pgsolver.specs.Refusals.{IsReadAs, IsRefusedBy}
 use Rattle.ml_pgsolver.specs.SolutionText.{solution_text}
 use Rattle.ml_pgsolver.specs.declared.refusal.GameTextRefusal.{GameTextRefusal}
 use Rattle.ml_pgsolver.specs.declared.refusal.GameTextRefusal.TheVariants as cause
-use Rattle.ml_pgsolver.proofs.OneAnswer.{unambiguous, one_answer}
+use Rattle.ml_pgsolver.proofs.OneAnswers.{never_both, one_game_of_text}
+use Rattle.ml_pgsolver.proofs.SomeAnswers.{some_answer}
 use Rattle.ml_product.proofs.SomeSolution.{some_solution}
 use Rattle.ml_progress.proofs.SomeMeasures.{some_measures}
 use Rattle.ml_driver.specs.Games.{IsMadeBy, IsRefusedAsGame, IsRefusedGame, IsSolved, game_refusal_line}
@@ -56,9 +57,9 @@ same_way text s t (too_long_game long) (read_game g short is) = absurd (omega (a
 same_way text s t (too_long_game long) (refused_game e short told is) = refl
 same_way text s t (read_game g short is) (too_long_game long) = absurd (omega (arith, long, short))
 same_way text s t (read_game g short is) (read_game h fits also) = refl
-same_way text s t (read_game g short is) (refused_game e fits told also) = absurd (told (one_answer.exclusive text g e is also))
+same_way text s t (read_game g short is) (refused_game e fits told also) = absurd (told (never_both text g e is also))
 same_way text s t (refused_game e short told is) (too_long_game long) = refl
-same_way text s t (refused_game e short told is) (read_game g fits also) = absurd (told (one_answer.exclusive text g e also is))
+same_way text s t (refused_game e short told is) (read_game g fits also) = absurd (told (never_both text g e also is))
 same_way text s t (refused_game e short told is) (refused_game d fits known also) = refl
 
 pub one_solved : (e : Engine) (text : List ℕ) (s t : Status) (out more : List ℕ)
@@ -109,14 +110,14 @@ on_game e text =
       is_refused = refused.2;
       is_written = line.1;
     }))))
-    (one_answer.some text))
+    (some_answer text))
     (cases_lt longest_game (length text))
 
 -- ---- both engines
 
 pub same_winners : SameWinners
 same_winners d e text out more x y =
-    let same = unambiguous text x.named y.named x.is_read.stands y.is_read.stands in
+    let same = one_game_of_text text x.named y.named x.is_read.stands y.is_read.stands in
     let other = subst (λ (n : NamedGame). IsSolution n.game y.solution) (sym same) y.is_solution in
     let ok = x.is_read.stands.is_game.is_named.game in
     (same, λ v low. solutions_agree x.named.game ok x.solution y.solution x.is_solution other v low)
