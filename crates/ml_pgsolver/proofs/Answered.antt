@@ -39,7 +39,7 @@ answered_whole text s is =
     let done = subst (Comes (tokens text) (length text)) is (outcome_comes text) in
     subst (Whole (signs_of (tokens text))) (sym done.2) (whole (signs_of (tokens text)) done.0 done.1 done.3)
 
-refused_so : (text : List ℕ) (e : GameTextRefusal) → outcome_of text ≡ Err e → RefusedIn (tokens text) (length text) e
+pub refused_so : (text : List ℕ) (e : GameTextRefusal) → outcome_of text ≡ Err e → RefusedIn (tokens text) (length text) e
 refused_so text e is = subst (Comes (tokens text) (length text)) is (outcome_comes text)
 
 pub answered_refused : (text : List ℕ) (e : GameTextRefusal) → IsTold e (outcome_of text) → IsRefusedBy text e

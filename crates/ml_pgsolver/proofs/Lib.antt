@@ -38,5 +38,9 @@ mod Answered
 mod UnknownSteps
 -- the lines of a solution
 mod WrittenLines
+-- rows are those of one game
+mod OneGame
+-- each text has one answer
+mod OneAnswers
 -- one step of the reader
 mod Steps
