@@ -67,11 +67,13 @@ answered_unknown text s w unknown =
     (w.successors_there ∙ ap (flat_map (λ (r : Row). r.successors)) (sym w.rows)) ids unknown in
     let found = first_stranger s.ids (length text) (tokens text) (small_number ts w.faultless) there in
     let f = found.1 in
-    let same : s.ids ≡ ids_of ts = w.ids ∙ sym w.ids_there in
-    (found.0, record {
-      faultless = no_fault_of ts w.draft w.spelled w.faultless;
-      comes = (f.before, f.token, f.there, (f.strange.0, f.strange.1, subst (λ xs. IsMember f.strange.0 xs → ⊥) same f.strange.2));
-      first = λ j other. f.first j other.0 other.1 other.2
-          (other.3.0, other.3.1, subst (λ xs. IsMember other.3.0 xs → ⊥) (sym same) other.3.2);
-    },
-    ap (unknown_from s.ids (length text) 0) (signs-all text) ∙ found.2)
+    let same : s.ids ≡ ids_of ts = w.ids ∙ sym w.ids_there in (
+      found.0,
+      record {
+        faultless = no_fault_of ts w.draft w.spelled w.faultless;
+        comes = (f.before, f.token, f.there, (f.strange.0, f.strange.1, subst (λ xs. IsMember f.strange.0 xs → ⊥) same f.strange.2));
+        first = λ j other. f.first j other.0 other.1 other.2
+            (other.3.0, other.3.1, subst (λ xs. IsMember other.3.0 xs → ⊥) (sym same) other.3.2);
+      },
+      ap (unknown_from s.ids (length text) 0) (signs-all text) ∙ found.2,
+    )

@@ -180,9 +180,9 @@ done_came h vs Id (Number digits) v at is r = absurd (cc)
 done_came h vs (Priority id) (Number digits) v at is r = absurd (cc)
 done_came h vs (Owner id priority) (Number digits) v at is r = absurd (not_done (owner_named digits) is)
   where
-  not_done : (o : Option Player) → owned id priority o ≡ Some (Done v) → ⊥
-  not_done None so = cc
-  not_done (Some owner) so = cc
+    not_done : (o : Option Player) → owned id priority o ≡ Some (Done v) → ⊥
+    not_done None so = cc
+    not_done (Some owner) so = cc
 done_came h vs (First id priority owner) (Number digits) v at is r = absurd (cc)
 done_came h vs (Further w) (Number digits) v at is r = absurd (cc)
 done_came h vs part t v at is r = absurd (cc)

@@ -90,28 +90,28 @@ pub data Came (p : Progress) (t : Token) (q : Progress) (at : ℕ) (out : Step) 
 pub fitting-cases : (n : ℕ) → ((fitting n ≡ Some n) × (n ≤ greatest_number)) ⊎ ((fitting n ≡ None) × (greatest_number < n))
 fitting-cases n = by_test (nat_le n greatest_number) refl
   where
-  by_test : (b : Bool) → nat_le n greatest_number ≡ b
-      → ((fitting n ≡ Some n) × (n ≤ greatest_number)) ⊎ ((fitting n ≡ None) × (greatest_number < n))
-  by_test true is = inl (cond-true _ _ _ is, grind (arith, nat_tests))
-  by_test false is = inr (cond-false _ _ _ is, grind (arith, nat_tests))
+    by_test : (b : Bool) → nat_le n greatest_number ≡ b
+        → ((fitting n ≡ Some n) × (n ≤ greatest_number)) ⊎ ((fitting n ≡ None) × (greatest_number < n))
+    by_test true is = inl (cond-true _ _ _ is, grind (arith, nat_tests))
+    by_test false is = inr (cond-false _ _ _ is, grind (arith, nat_tests))
 
 full-cases : (m n : ℕ) → ((nat_le m n ≡ true) × (m ≤ n)) ⊎ ((nat_le m n ≡ false) × (n < m))
 full-cases m n = by_test (nat_le m n) refl
   where
-  by_test : (b : Bool) → nat_le m n ≡ b → ((nat_le m n ≡ true) × (m ≤ n)) ⊎ ((nat_le m n ≡ false) × (n < m))
-  by_test true is = inl (is, grind (arith, nat_tests))
-  by_test false is = inr (is, grind (arith, nat_tests))
+    by_test : (b : Bool) → nat_le m n ≡ b → ((nat_le m n ≡ true) × (m ≤ n)) ⊎ ((nat_le m n ≡ false) × (n < m))
+    by_test true is = inl (is, grind (arith, nat_tests))
+    by_test false is = inr (is, grind (arith, nat_tests))
 
 pub among-cases : (ids : List ℕ) (n : ℕ)
     → ((is_among ids n ≡ true) × IsMember n ids) ⊎ ((is_among ids n ≡ false) × (IsMember n ids → ⊥))
 among-cases ids n = by_test (is_among ids n) refl
   where
-  by_test : (b : Bool) → is_among ids n ≡ b
-      → ((is_among ids n ≡ true) × IsMember n ids) ⊎ ((is_among ids n ≡ false) × (IsMember n ids → ⊥))
-  by_test true is =
-      let found = list_any-member (nat_eq n) ids is in
-      inl (is, subst (λ m. IsMember m ids) (sym (eqb-true n found.item found.passes)) found.member)
-  by_test false is = inr (is, λ m. let found = member-list_any (nat_eq n) n ids m (eq-eqb n n refl) in absurd (cc))
+    by_test : (b : Bool) → is_among ids n ≡ b
+        → ((is_among ids n ≡ true) × IsMember n ids) ⊎ ((is_among ids n ≡ false) × (IsMember n ids → ⊥))
+    by_test true is =
+        let found = list_any-member (nat_eq n) ids is in
+        inl (is, subst (λ m. IsMember m ids) (sym (eqb-true n found.item found.passes)) found.member)
+    by_test false is = inr (is, λ m. let found = member-list_any (nat_eq n) n ids m (eq-eqb n n refl) in absurd (cc))
 
 -- ---- an id
 

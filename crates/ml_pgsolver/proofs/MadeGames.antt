@@ -87,6 +87,8 @@ module _ (order : List Row) (ids : List ℕ) (owners : List Player) (priorities 
 pub unknown_before : (rows order : List Row) (ids before : List ℕ) → IsPermutation rows order → IsPermutation before ids
     → HasUnknownIn ids order
     → HasUnknownIn before rows
-unknown_before rows order ids before perm perm_ids (r, member, (n, inside, none)) =
-    (r, permuted-member r order rows (IsPermutation-sym rows order perm) member,
-    (n, inside, λ there. none (permuted-member n before ids perm_ids there)))
+unknown_before rows order ids before perm perm_ids (r, member, (n, inside, none)) = (
+  r,
+  permuted-member r order rows (IsPermutation-sym rows order perm) member,
+  (n, inside, λ there. none (permuted-member n before ids perm_ids there)),
+)

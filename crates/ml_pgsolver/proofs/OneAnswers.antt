@@ -124,17 +124,17 @@ one_refusal text e d e_other d_other e_is d_is =
 read_whole : (text : List ℕ) (g : NamedGame) → IsReadAs text g → (s : State) × Whole (signs_of (tokens text)) s
 read_whole text g read = by (outcome_of text) refl
   where
-  not_refused : (e : GameTextRefusal) → RefusedIn (tokens text) (length text) e → ⊥
-  not_refused (refusal.Syntax at) (k, x, is) = read.faultless Syntax k x.comes
-  not_refused (refusal.Repeated at) (k, x, is) = read.faultless Repeated k x.comes
-  not_refused (refusal.Unknown at) none = none
-  not_refused (refusal.TooMany at) (k, x, is) = read.faultless TooMany k x.comes
-  not_refused (refusal.TooLarge at) (k, x, is) = read.faultless TooLarge k x.comes
-  not_refused refusal.NoMemory none = none
+    not_refused : (e : GameTextRefusal) → RefusedIn (tokens text) (length text) e → ⊥
+    not_refused (refusal.Syntax at) (k, x, is) = read.faultless Syntax k x.comes
+    not_refused (refusal.Repeated at) (k, x, is) = read.faultless Repeated k x.comes
+    not_refused (refusal.Unknown at) none = none
+    not_refused (refusal.TooMany at) (k, x, is) = read.faultless TooMany k x.comes
+    not_refused (refusal.TooLarge at) (k, x, is) = read.faultless TooLarge k x.comes
+    not_refused refusal.NoMemory none = none
 
-  by : (out : Step) → outcome_of text ≡ out → (s : State) × Whole (signs_of (tokens text)) s
-  by (Ok s) is = (s, answered_whole text s is)
-  by (Err e) is = absurd (not_refused e (refused_so text e is))
+    by : (out : Step) → outcome_of text ≡ out → (s : State) × Whole (signs_of (tokens text)) s
+    by (Ok s) is = (s, answered_whole text s is)
+    by (Err e) is = absurd (not_refused e (refused_so text e is))
 
 -- in the game of some rows, each successor is an id
 successor_known : (rows : List Row) (g : NamedGame) → IsGameOf rows g → (r : Row) → IsMember r rows → (n : ℕ)

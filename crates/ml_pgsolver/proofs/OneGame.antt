@@ -37,11 +37,11 @@ tails : (x y : Row) (xs ys : List Row) → IsAscending (ids_in (x ∷ xs)) → x
     → (r : Row) → IsMember r xs → IsMember r ys
 tails x y xs ys up e within r member = by (within r (inr member))
   where
-  by : (r ≡ y) ⊎ IsMember r ys → IsMember r ys
-  by (inr later) = later
-  by (inl same) =
-      let high = up.0 r.id (member-map (λ (s : Row). s.id) r xs member) in
-      let is : r.id ≡ x.id = ap (λ (s : Row). s.id) (same ∙ sym e) in absurd (omega arith)
+    by : (r ≡ y) ⊎ IsMember r ys → IsMember r ys
+    by (inr later) = later
+    by (inl same) =
+        let high = up.0 r.id (member-map (λ (s : Row). s.id) r xs member) in
+        let is : r.id ≡ x.id = ap (λ (s : Row). s.id) (same ∙ sym e) in absurd (omega arith)
 
 pub one_order : (xs ys : List Row) → IsAscending (ids_in xs) → IsAscending (ids_in ys)
     → ((r : Row) → IsMember r xs → IsMember r ys)

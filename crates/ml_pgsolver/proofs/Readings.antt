@@ -66,10 +66,10 @@ apart-last : (n : ℕ) (xs : List ℕ) → IsApart xs → (IsMember n xs → ⊥
 apart-last n [] apart new = (λ m. m, tt)
 apart-last n (x ∷ xs) apart new = (λ m. by (member-append x xs (n ∷ []) m), apart-last n xs apart.1 (λ m. new (inr m)))
   where
-  by : IsMember x xs ⊎ IsMember x (n ∷ []) → ⊥
-  by (inl m) = apart.0 m
-  by (inr (inl e)) = new (inl (sym e))
-  by (inr (inr m)) = m
+    by : IsMember x xs ⊎ IsMember x (n ∷ []) → ⊥
+    by (inl m) = apart.0 m
+    by (inr (inl e)) = new (inl (sym e))
+    by (inr (inr m)) = m
 
 -- ---- the next token
 
@@ -77,9 +77,9 @@ module _ (before : List Token) (p : Progress) (t : Token) (q : Progress) (read :
   pub run_more : grown_from (Some Start) (before ++ t ∷ []) ≡ Some q
   run_more = grown-append (Some Start) before (t ∷ []) ∙ ap (λ o. grown_from o (t ∷ [])) read.run ∙ one (grow p t) more
     where
-    one : (o : Option Progress) → o ≡ Some q → grown_from o [] ≡ Some q
-    one None is = cc
-    one (Some r) is = is
+      one : (o : Option Progress) → o ≡ Some q → grown_from o [] ≡ Some q
+      one None is = cc
+      one (Some r) is = is
 
   pub not_syntax : IsFaulty Syntax before t → ⊥
   not_syntax faulty = faulty.1 (begins-grown (before ++ t ∷ []) q run_more)
@@ -175,9 +175,9 @@ module _ (before : List Token) (p : Progress) (t : Token) (q : Progress) (read :
   small_more xs here (none is) all_small small n (inr new) = absurd (subst (IsMember n) is new)
   small_more xs here (one digits is_t is) all_small small n (inr new) = by (subst (IsMember n) is new)
     where
-    by : IsMember n (value digits ∷ []) → n ≤ greatest_number
-    by (inl e) = let fits = small digits is_t in omega arith
-    by (inr m) = absurd m
+      by : IsMember n (value digits ∷ []) → n ≤ greatest_number
+      by (inl e) = let fits = small digits is_t in omega arith
+      by (inr m) = absurd m
 
   apart_more : (xs here : List ℕ) → Shape here → IsApart xs → ((n : ℕ) → here ≡ n ∷ [] → IsMember n xs → ⊥)
       → IsApart (xs ++ here)

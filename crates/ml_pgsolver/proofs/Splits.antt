@@ -26,8 +26,8 @@ pub last_split : {X : Type 0} (x y : X) (xs ys vs : List X) → xs ++ x ∷ [] �
     → ((xs ≡ ys) × (x ≡ y)) ⊎ ((ws : List X) × (xs ≡ ys ++ y ∷ ws))
 last_split {X} x y xs ys vs is = by (splits x y xs [] ys vs is)
   where
-  by : Splits x xs [] y ys vs → ((xs ≡ ys) × (x ≡ y)) ⊎ ((ws : List X) × (xs ≡ ys ++ y ∷ ws))
-  by (before ws later) =
-      absurd (omega (arith, ap length is, ap length later, length-append xs (x ∷ []), length-append ys (y ∷ vs), length-append xs (x ∷ ws)))
-  by (same front one rest) = inl (front, one)
-  by (behind ws earlier) = inr (ws, earlier)
+    by : Splits x xs [] y ys vs → ((xs ≡ ys) × (x ≡ y)) ⊎ ((ws : List X) × (xs ≡ ys ++ y ∷ ws))
+    by (before ws later) =
+        absurd (omega (arith, ap length is, ap length later, length-append xs (x ∷ []), length-append ys (y ∷ vs), length-append xs (x ∷ ws)))
+    by (same front one rest) = inl (front, one)
+    by (behind ws earlier) = inr (ws, earlier)

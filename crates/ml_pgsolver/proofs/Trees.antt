@@ -265,7 +265,7 @@ grown-vertices h vs (w ∷ ws) =
 pub grown-draft : (d : Draft) → grown_from (Some Start) (draft_tokens d) ≡ Some (Body d.header (vertices_of d) Id)
 grown-draft d = by_header d.header d.first d.others
   where
-  by_header : (h : Option (List ℕ)) (v : Vertex) (vs : List Vertex)
-      → grown_from (Some Start) (header_tokens h ++ flat_map vertex_tokens (v ∷ vs)) ≡ Some (Body h (v ∷ vs) Id)
-  by_header None v vs = grown-vertices None [] (v ∷ vs)
-  by_header (Some digits) v vs = grown-vertices (Some digits) [] (v ∷ vs)
+    by_header : (h : Option (List ℕ)) (v : Vertex) (vs : List Vertex)
+        → grown_from (Some Start) (header_tokens h ++ flat_map vertex_tokens (v ∷ vs)) ≡ Some (Body h (v ∷ vs) Id)
+    by_header None v vs = grown-vertices None [] (v ∷ vs)
+    by_header (Some digits) v vs = grown-vertices (Some digits) [] (v ∷ vs)

@@ -80,6 +80,7 @@ begins-body h vs part =
     (ap (λ ts. flat_map vertex_tokens vs ++ ts) (sym (append-nil (vertex_tokens e.vertex)))
     ∙ sym (flat_map-append vertex_tokens vs (e.vertex ∷ []))) in
     (e.missing, (whole.0, same ∙ whole.1))
+
 pub begins-tokens : (p : Progress) → BeginsGameText (tokens_of p)
 begins-tokens Start = let b = begins-body None [] Id in b
 begins-tokens HeaderNumber =

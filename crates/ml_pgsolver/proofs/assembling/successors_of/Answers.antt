@@ -12,9 +12,12 @@ loop-row-init c =
     (tt, tt, given_none c.args.ids.now _ c.in_ok-given.ensures.items)
 
 pub loop-row-preserved : goal.loop-row-preserved
-loop-row-preserved c =
-    (tt, tt, given_more c.args.ids.now c.loop-row.given.items c.loop-row.yielded c.in-Some.row c.in-Some-places_of.places
-    c.push.new.self.items c.loop-row.invariant.2 c.in-Some-places_of.ensures c.in_ok-push.ensures.items)
+loop-row-preserved c = (
+  tt,
+  tt,
+  given_more c.args.ids.now c.loop-row.given.items c.loop-row.yielded c.in-Some.row c.in-Some-places_of.places
+      c.push.new.self.items c.loop-row.invariant.2 c.in-Some-places_of.ensures c.in_ok-push.ensures.items,
+)
 
 pub returns-in_default : goal.returns-in_default
 returns-in_default c =
