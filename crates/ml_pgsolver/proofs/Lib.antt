@@ -42,5 +42,7 @@ mod WrittenLines
 mod OneGame
 -- each text has one answer
 mod OneAnswers
+-- each text has an answer
+mod SomeAnswers
 -- one step of the reader
 mod Steps
