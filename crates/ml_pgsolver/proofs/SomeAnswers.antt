@@ -48,23 +48,25 @@ put_in r (q ∷ rows) up new =
     (λ (high : q.id ≤ r.id). behind high (put_in r rows up.1 (λ m. new (inr m))))
     (cases_lt r.id q.id)
   where
-  in_front : r.id < q.id → (y : ℕ) → IsMember y (ids_in (q ∷ rows)) → r.id < y
-  in_front low y (inl e) = omega arith
-  in_front low y (inr m) = let above = up.0 y m in omega arith
+    in_front : r.id < q.id → (y : ℕ) → IsMember y (ids_in (q ∷ rows)) → r.id < y
+    in_front low y (inl e) = omega arith
+    in_front low y (inr m) = let above = up.0 y m in omega arith
 
-  behind : q.id ≤ r.id → PutIn r rows → PutIn r (q ∷ rows)
-  behind high put = record {
-    order = q ∷ put.order;
-    same = IsPermutation-trans (r ∷ (q ∷ rows)) (q ∷ (r ∷ rows)) (q ∷ put.order) (IsPermutation-middle (r ∷ []) q rows)
-        (IsPermutation-cons q (r ∷ rows) put.order put.same);
-    ascends = (λ y m. above y (permuted-member y (ids_in put.order) (ids_in (r ∷ rows))
-        (IsPermutation-sym (ids_in (r ∷ rows)) (ids_in put.order) (IsPermutation-map (λ (s : Row). s.id) (r ∷ rows) put.order put.same)) m),
-        put.ascends);
-  }
-    where
-    above : (y : ℕ) → IsMember y (ids_in (r ∷ rows)) → q.id < y
-    above y (inr m) = up.0 y m
-    above y (inl e) = ⊎_elim (λ (is : r.id ≡ q.id). absurd (new (inl is))) (λ (ne : r.id ≡ q.id → ⊥). omega arith) (cases_eq r.id q.id)
+    behind : q.id ≤ r.id → PutIn r rows → PutIn r (q ∷ rows)
+    behind high put = record {
+      order = q ∷ put.order;
+      same = IsPermutation-trans (r ∷ (q ∷ rows)) (q ∷ (r ∷ rows)) (q ∷ put.order) (IsPermutation-middle (r ∷ []) q rows)
+          (IsPermutation-cons q (r ∷ rows) put.order put.same);
+      ascends = (
+        λ y m. above y (permuted-member y (ids_in put.order) (ids_in (r ∷ rows))
+            (IsPermutation-sym (ids_in (r ∷ rows)) (ids_in put.order) (IsPermutation-map (λ (s : Row). s.id) (r ∷ rows) put.order put.same)) m),
+        put.ascends,
+      );
+    }
+      where
+        above : (y : ℕ) → IsMember y (ids_in (r ∷ rows)) → q.id < y
+        above y (inr m) = up.0 y m
+        above y (inl e) = ⊎_elim (λ (is : r.id ≡ q.id). absurd (new (inl is))) (λ (ne : r.id ≡ q.id → ⊥). omega arith) (cases_eq r.id q.id)
 
 record InOrder (rows : List Row) : Type 0 where
   order : List Row
@@ -89,39 +91,45 @@ some_top : (ps : List ℕ) → (P : ℕ) × IsLeastEvenFrom ps P
 some_top [] = (0, record { half = 0; even = refl; above = λ p m. absurd m; least = λ k bound. omega arith })
 some_top (p ∷ ps) = by (some_top ps)
   where
-  by : (P : ℕ) × IsLeastEvenFrom ps P → (P : ℕ) × IsLeastEvenFrom (p ∷ ps) P
-  by (P, rest) =
-      ⊎_elim
-      (λ (higher : P < p). (p + p % 2, record {
-        half = (p + p % 2) / 2;
-        even = omega arith;
-        above = λ q m. above_new higher q m;
-        least = λ k bound. let fits = bound p (inl refl) in omega arith;
-      }))
-      (λ (lower : p ≤ P). (P, record {
-        half = rest.half;
-        even = rest.even;
-        above = λ q m. above_old lower q m;
-        least = λ k bound. rest.least k (λ q m. bound q (inr m));
-      }))
-      (cases_lt P p)
-    where
-    above_new : P < p → (q : ℕ) → IsMember q (p ∷ ps) → q ≤ p + p % 2
-    above_new higher q (inl e) = omega arith
-    above_new higher q (inr m) = let fits = rest.above q m in omega arith
+    by : (P : ℕ) × IsLeastEvenFrom ps P → (P : ℕ) × IsLeastEvenFrom (p ∷ ps) P
+    by (P, rest) =
+        ⊎_elim
+        (λ (higher : P < p). (
+          p + p % 2,
+          record {
+            half = (p + p % 2) / 2;
+            even = omega arith;
+            above = λ q m. above_new higher q m;
+            least = λ k bound. let fits = bound p (inl refl) in omega arith;
+          },
+        ))
+        (λ (lower : p ≤ P). (
+          P,
+          record {
+            half = rest.half;
+            even = rest.even;
+            above = λ q m. above_old lower q m;
+            least = λ k bound. rest.least k (λ q m. bound q (inr m));
+          },
+        ))
+        (cases_lt P p)
+      where
+        above_new : P < p → (q : ℕ) → IsMember q (p ∷ ps) → q ≤ p + p % 2
+        above_new higher q (inl e) = omega arith
+        above_new higher q (inr m) = let fits = rest.above q m in omega arith
 
-    above_old : p ≤ P → (q : ℕ) → IsMember q (p ∷ ps) → q ≤ P
-    above_old lower q (inl e) = omega arith
-    above_old lower q (inr m) = rest.above q m
+        above_old : p ≤ P → (q : ℕ) → IsMember q (p ∷ ps) → q ≤ P
+        above_old lower q (inl e) = omega arith
+        above_old lower q (inr m) = rest.above q m
 
 -- ---- the places
 
 all_first : {X : Type 0} (P : X → Type 0) (x : X) (xs : List X) → P x → All P xs → All P (x ∷ xs)
 all_first {X} P x xs here all = member-All P (x ∷ xs) (λ y m. by y m)
   where
-  by : (y : X) → IsMember y (x ∷ xs) → P y
-  by y (inl e) = subst P (sym e) here
-  by y (inr m) = All-member P xs all y m
+    by : (y : X) → IsMember y (x ∷ xs) → P y
+    by y (inl e) = subst P (sym e) here
+    by y (inr m) = All-member P xs all y m
 
 record PlacesOf (ids xs : List ℕ) : Type 0 where
   places : List ℕ
@@ -131,22 +139,22 @@ some_places : (ids xs : List ℕ) → HasUnknown ids xs ⊎ PlacesOf ids xs
 some_places ids [] = inr (record { places = []; there = record { ids_there = refl; within = All-nil (λ i. i < length ids) } })
 some_places ids (x ∷ xs) = by (among-cases ids x) (some_places ids xs)
   where
-  by : ((is_among ids x ≡ true) × IsMember x ids) ⊎ ((is_among ids x ≡ false) × (IsMember x ids → ⊥))
-      → HasUnknown ids xs ⊎ PlacesOf ids xs
-      → HasUnknown ids (x ∷ xs) ⊎ PlacesOf ids (x ∷ xs)
-  by (inr (new, none)) rest = inl (x, inl refl, none)
-  by (inl (old, member)) (inl (n, inside, none)) = inl (n, inr inside, none)
-  by (inl (old, member)) (inr p) =
-      let at = member-place x ids member in
-      let head : id_at ids at.place ≡ x = at.holds 0 in
-      let tail = p.there.ids_there in
-      inr (record {
-        places = at.place ∷ p.places;
-        there = record {
-          ids_there = cc;
-          within = all_first (λ i. i < length ids) at.place p.places at.below p.there.within;
-        };
-      })
+    by : ((is_among ids x ≡ true) × IsMember x ids) ⊎ ((is_among ids x ≡ false) × (IsMember x ids → ⊥))
+        → HasUnknown ids xs ⊎ PlacesOf ids xs
+        → HasUnknown ids (x ∷ xs) ⊎ PlacesOf ids (x ∷ xs)
+    by (inr (new, none)) rest = inl (x, inl refl, none)
+    by (inl (old, member)) (inl (n, inside, none)) = inl (n, inr inside, none)
+    by (inl (old, member)) (inr p) =
+        let at = member-place x ids member in
+        let head : id_at ids at.place ≡ x = at.holds 0 in
+        let tail = p.there.ids_there in
+        inr (record {
+          places = at.place ∷ p.places;
+          there = record {
+            ids_there = cc;
+            within = all_first (λ i. i < length ids) at.place p.places at.below p.there.within;
+          };
+        })
 
 record GivenOf (ids : List ℕ) (rows : List Row) : Type 0 where
   given : List (List ℕ)
@@ -156,20 +164,20 @@ some_given : (ids : List ℕ) (rows : List Row) → HasUnknownIn ids rows ⊎ Gi
 some_given ids [] = inr (record { given = []; there = record { ids_there = refl; within = All-nil (All (λ i. i < length ids)) } })
 some_given ids (r ∷ rows) = by (some_places ids r.successors) (some_given ids rows)
   where
-  by : HasUnknown ids r.successors ⊎ PlacesOf ids r.successors → HasUnknownIn ids rows ⊎ GivenOf ids rows
-      → HasUnknownIn ids (r ∷ rows) ⊎ GivenOf ids (r ∷ rows)
-  by (inl unknown) rest = inl (r, inl refl, unknown)
-  by (inr p) (inl (q, member, unknown)) = inl (q, inr member, unknown)
-  by (inr p) (inr g) =
-      let head = p.there.ids_there in
-      let tail = g.there.ids_there in
-      inr (record {
-        given = p.places ∷ g.given;
-        there = record {
-          ids_there = cc;
-          within = all_first (All (λ i. i < length ids)) p.places g.given p.there.within g.there.within;
-        };
-      })
+    by : HasUnknown ids r.successors ⊎ PlacesOf ids r.successors → HasUnknownIn ids rows ⊎ GivenOf ids rows
+        → HasUnknownIn ids (r ∷ rows) ⊎ GivenOf ids (r ∷ rows)
+    by (inl unknown) rest = inl (r, inl refl, unknown)
+    by (inr p) (inl (q, member, unknown)) = inl (q, inr member, unknown)
+    by (inr p) (inr g) =
+        let head = p.there.ids_there in
+        let tail = g.there.ids_there in
+        inr (record {
+          given = p.places ∷ g.given;
+          there = record {
+            ids_there = cc;
+            within = all_first (All (λ i. i < length ids)) p.places g.given p.there.within g.there.within;
+          };
+        })
 
 -- ---- the game
 
@@ -183,10 +191,13 @@ game_in_order rows readable sorted (inr g) =
     let order = sorted.order in
     let top = some_top (map (λ (r : Row). r.priority) order) in
     let some : 0 < length order = omega (arith, readable.some, length_permutation rows order sorted.same) in
-    inr (_, made order (ids_in order) (map (λ (r : Row). r.owner) order) (map (λ (r : Row). top.0 - r.priority) order) g.given
-    top.0 refl refl refl g.there some
-    (all_permuted (λ (r : Row). 0 < length r.successors) rows order sorted.same readable.go_on)
-    rows sorted.same sorted.ascends top.1)
+    inr (
+      _,
+      made order (ids_in order) (map (λ (r : Row). r.owner) order) (map (λ (r : Row). top.0 - r.priority) order) g.given
+          top.0 refl refl refl g.there some
+          (all_permuted (λ (r : Row). 0 < length r.successors) rows order sorted.same readable.go_on)
+          rows sorted.same sorted.ascends top.1,
+    )
 
 some_game : (rows : List Row) → IsReadable rows → HasUnknownIn (ids_in rows) rows ⊎ ((g : NamedGame) × IsGameOf rows g)
 some_game rows readable =
@@ -218,8 +229,8 @@ whole_answer text s w (inr (g, game)) = inl (g, answered_game text s g w game)
 pub some_answer : (text : List ℕ) → Answer text
 some_answer text = by (outcome_of text) refl
   where
-  by : (out : Step) → outcome_of text ≡ out → Answer text
-  by (Ok s) is =
-      let w = answered_whole text s is in
-      whole_answer text s w (some_game s.rows (whole_readable (signs_of (tokens text)) s w))
-  by (Err e) is = let r = refused text e (refused_so text e is) in inr (e, r.0, r.1)
+    by : (out : Step) → outcome_of text ≡ out → Answer text
+    by (Ok s) is =
+        let w = answered_whole text s is in
+        whole_answer text s w (some_game s.rows (whole_readable (signs_of (tokens text)) s w))
+    by (Err e) is = let r = refused text e (refused_so text e is) in inr (e, r.0, r.1)
