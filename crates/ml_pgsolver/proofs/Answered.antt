@@ -4,23 +4,20 @@
 --   answered_refused  == a refusal on the way is right
 --   answered_game     == the game of the rows of a whole text is that of the text
 --   answered_unknown  == so is the refusal where some successor is no id
-use Rattle.std.proofs.Common.{◌≡◌, ℕ, ◌≤◌, List, [], length, map, Ok, Err, refl, sym, ◌∙◌, ap, subst}
+use Rattle.std.proofs.Common.{◌≡◌, ℕ, List, length, map, Ok, Err, refl, sym, ◌∙◌, ap, subst}
 use Rattle.std.specs.List.{flat_map}
 use Rattle.ml_lists.specs.Member.{IsMember}
 use Rattle.ml_pgsolver.specs.Tokens.{tokens, signs_of}
-use Rattle.ml_pgsolver.specs.Grammar.{vertices_of}
-use Rattle.ml_pgsolver.specs.GameText.{Row, NamedGame, IsGameOf, StandsFor, row_of}
-use Rattle.ml_pgsolver.specs.Refusals.{IsReadAs, IsRefusedBy, IsFirstUnknown, ids_of}
+use Rattle.ml_pgsolver.specs.GameText.{Row, NamedGame, IsGameOf}
+use Rattle.ml_pgsolver.specs.Refusals.{IsReadAs, IsRefusedBy, ids_of}
 use Rattle.ml_pgsolver.specs.declared.refusal.GameTextRefusal.{GameTextRefusal}
 use Rattle.ml_pgsolver.specs.declared.refusal.GameTextRefusal.TheVariants as refusal
 use Rattle.ml_pgsolver.specs.private.Assembled.{HasUnknownIn, unknown_from}
 use Rattle.ml_pgsolver.specs.private.Machine.{State, Step, start, outcome_from, IsTold}
 use Rattle.ml_pgsolver.specs.private.Signs.{signs_in, signs_from}
 use Rattle.ml_pgsolver.proofs.Ended.{Whole, whole, small_number, no_fault_of}
-use Rattle.ml_pgsolver.proofs.FirstUnknown.{Stranger, IsFirstStranger, Found, first_stranger, stranger_there}
-use Rattle.ml_pgsolver.proofs.Images.{image}
+use Rattle.ml_pgsolver.proofs.FirstUnknown.{first_stranger, stranger_there}
 use Rattle.ml_pgsolver.proofs.Outcomes.{Comes, RefusedIn, comes}
-use Rattle.ml_pgsolver.proofs.Trees.{Start}
 
 abbrev pub outcome_of : List ℕ → Step
 outcome_of text = outcome_from (length text) start (signs_from text 0)

@@ -3,17 +3,16 @@
 --   IsStranger ids b t   == behind these tokens, t is a successor and none of the ids
 --   first_stranger       == where there is one, the first is found
 --   stranger_there       == a successor of a row that is none of the ids stands somewhere
-use Rattle.std.proofs.Common.{◌≡◌, ℕ, ◌+◌, ◌<◌, ◌≤◌, ◌⊎◌, ⊎_elim, Bool, true, false, not, ◌&&◌, List, [], ◌∷◌, ◌++◌, length, map, Option, Some, None, refl, sym, ◌∙◌, ap, subst, arith, inl, inr, nat_le, length-append}
+use Rattle.std.proofs.Common.{◌≡◌, ℕ, ◌<◌, ◌≤◌, ◌⊎◌, Bool, true, false, not, ◌&&◌, List, [], ◌∷◌, ◌++◌, length, Some, None, refl, sym, ◌∙◌, ap, subst, arith, inl, inr, nat_le, length-append}
 use Rattle.std.specs.List.{flat_map}
-use Rattle.std.proofs.lemmas.Bool.{cond-true, cond-false, cases_lt}
-use Rattle.std.proofs.lemmas.Bool.Decides.{nat_tests}
+use Rattle.std.proofs.lemmas.Bool.{cond-true, cond-false}
 use Rattle.std.proofs.lemmas.List.{append_assoc, append-nil}
 use Rattle.ml_lines.specs.Reading.{value}
 use Rattle.ml_lists.specs.Member.{IsMember}
-use Rattle.ml_lists.proofs.Member.{member-append, member-append_right, member-flat_map}
+use Rattle.ml_lists.proofs.Member.{member-append, member-flat_map}
 use Rattle.ml_pgsolver.specs.Tokens.{Token, Number, Name, Parity, Comma, Semicolon, Stray, Placed, signs_of}
 use Rattle.ml_pgsolver.specs.GameText.{Row}
-use Rattle.ml_pgsolver.specs.Refusals.{next_place, place_from, place_behind, roles_from, successor_at_place, IsSuccessor, IsAt, IsUnknown, IsFirstUnknown, HasNoFault, ids_of, successors_among, offset_of, greatest_number}
+use Rattle.ml_pgsolver.specs.Refusals.{next_place, place_from, place_behind, roles_from, successor_at_place, IsSuccessor, IsAt, successors_among, offset_of, greatest_number}
 use Rattle.ml_pgsolver.specs.private.Assembled.{HasUnknownIn, is_unknown, is_unknown_value, sign_place, unknown_from}
 use Rattle.ml_pgsolver.specs.private.Machine.{is_among}
 use Rattle.ml_pgsolver.specs.private.Signs.{fitting, sign_of, signs_in}
@@ -21,7 +20,6 @@ use Rattle.ml_pgsolver.proofs.Splits.{Splits, before, same, behind, splits, last
 use Rattle.ml_pgsolver.proofs.Images.{fitting-cases, among-cases}
 use Rattle.ml_pgsolver.proofs.Readings.{place-more}
 use Rattle.ml_pgsolver.proofs.Outcomes.{offset-behind, signs-length, signs-cut}
-use Rattle.ml_pgsolver.proofs.Ended.{Cut, member_cut}
 
 abbrev pub IsStranger : List ℕ → List Token → Token → Type 0
 IsStranger ids b t = (n : ℕ) × IsSuccessor b t n × (IsMember n ids → ⊥)

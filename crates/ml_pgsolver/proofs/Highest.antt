@@ -3,7 +3,7 @@
 --   highest-more   == with one row more
 --   highest-small  == the highest is no greater than what no priority is greater than
 --   least_even     == the highest, made even, is the least even number that is no smaller than any priority
-use Rattle.std.proofs.Common.{◌≡◌, ℕ, ◌+◌, ◌-◌, ◌*◌, ◌/◌, ◌%◌, ◌<◌, ◌≤◌, List, [], ◌∷◌, length, map, drop, get_or, max, All, refl, sym, ◌∙◌, ap, arith, inl, inr, ◌⊎◌, ⊎_elim}
+use Rattle.std.proofs.Common.{◌≡◌, ℕ, ◌+◌, ◌*◌, ◌/◌, ◌%◌, ◌<◌, ◌≤◌, List, [], ◌∷◌, length, map, drop, get_or, max, All, refl, ap, arith, inl, inr, ◌⊎◌, ⊎_elim}
 use Rattle.std.proofs.lemmas.Bool.{cases_lt}
 use Rattle.std.proofs.lemmas.List.{drop_more}
 use Rattle.ml_lists.specs.Member.{IsMember}
@@ -11,7 +11,7 @@ use Rattle.ml_lists.proofs.Member.{member-map_from, All-member}
 use Rattle.ml_pgsolver.specs.GameText.{IsLeastEvenFrom}
 use Rattle.ml_pgsolver.specs.declared.reader.Row.{Row}
 use Rattle.ml_pgsolver.specs.private.Assembled.{highest_of}
-use Rattle.ml_pgsolver.specs.private.Rows.{row_view, rows_view}
+use Rattle.ml_pgsolver.specs.private.Rows.{rows_view}
 
 pub highest-more : (n : ℕ) (rows : List Row) (i : ℕ) (d : Row) → i < length rows
     → highest_of n (rows_view (drop i rows)) ≡ highest_of (max n (get_or rows i d).priority) (rows_view (drop (i + 1) rows))

@@ -3,22 +3,20 @@
 --   one_game_of_text    == a text stands for one game at most
 --   one_refusal         == it is refused in one way at most
 --   never_both          == what is read is refused by nothing but want of memory
-use Rattle.std.proofs.Common.{◌≡◌, ◌≢◌, ℕ, ◌<◌, ◌≤◌, ◌⊎◌, List, [], ◌∷◌, ◌++◌, length, map, get_or, Some, Result, Ok, Err, refl, sym, ◌∙◌, ap, subst, arith, inl, inr}
-use Rattle.std.specs.List.{flat_map}
+use Rattle.std.proofs.Common.{◌≡◌, ◌≢◌, ℕ, ◌<◌, ◌≤◌, ◌⊎◌, List, [], ◌∷◌, ◌++◌, length, map, Some, Ok, Err, refl, sym, ◌∙◌, ap, subst, arith, inl, inr}
 use Rattle.std.proofs.lemmas.List.{append_assoc}
 use Rattle.ml_lists.specs.Member.{IsMember}
-use Rattle.ml_lists.proofs.Member.{member-append_right, member-append_left, member-flat_map_from, member-map, member-map_from, member-place, place-member}
-use Rattle.ml_lists.proofs.Members.{contains_of_member}
+use Rattle.ml_lists.proofs.Member.{member-append_right, member-append_left, member-flat_map_from, member-map, member-map_from, place-member}
 use Rattle.ml_lists.proofs.Permuted.{permuted-member}
 use Rattle.std.proofs.lemmas.List.Sorted.{IsPermutation-sym}
 use Rattle.ml_pgsolver.specs.Tokens.{Token, tokens, signs_of}
 use Rattle.ml_pgsolver.specs.Grammar.{Draft, vertices_of, draft_tokens}
 use Rattle.ml_pgsolver.specs.GameText.{Row, NamedGame, IsGameOf, StandsFor, row_of, id_at}
-use Rattle.ml_pgsolver.specs.Refusals.{Cause, Syntax, Repeated, TooMany, TooLarge, rank, next_place, place_from, place_behind, roles_from, successor_at_place, successors_among, ids_of, IsFirstFault, IsUnknown, IsFirstUnknown, ComesAt, IsReadAs, IsRefusedBy, offset_of}
+use Rattle.ml_pgsolver.specs.Refusals.{Cause, Syntax, Repeated, TooMany, TooLarge, rank, next_place, place_from, place_behind, roles_from, successor_at_place, successors_among, IsFirstFault, IsUnknown, IsFirstUnknown, ComesAt, IsReadAs, IsRefusedBy, offset_of}
 use Rattle.ml_pgsolver.specs.declared.refusal.GameTextRefusal.{GameTextRefusal}
 use Rattle.ml_pgsolver.specs.declared.refusal.GameTextRefusal.TheVariants as refusal
 use Rattle.ml_pgsolver.specs.private.Machine.{State, Step}
-use Rattle.ml_pgsolver.proofs.Trees.{Body, Id, grown-draft, grown_from, Start}
+use Rattle.ml_pgsolver.proofs.Trees.{grown-draft, grown_from, Start}
 use Rattle.ml_pgsolver.proofs.Ended.{Whole}
 use Rattle.ml_pgsolver.proofs.Outcomes.{RefusedIn}
 use Rattle.ml_pgsolver.proofs.Answered.{outcome_of, answered_whole, refused_so}

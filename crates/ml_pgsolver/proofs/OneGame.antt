@@ -3,9 +3,8 @@
 --   one_order  == rows with the same members, both in ascending order of their ids, are the same list
 --   one_top    == numbers have one least even number from all of them on
 --   one_game   == rows have one game
-use Rattle.std.proofs.Common.{◌≡◌, ℕ, ◌+◌, ◌-◌, ◌*◌, ◌<◌, ◌≤◌, ◌⊎◌, ⊎_elim, List, [], ◌∷◌, length, map, get_or, All, refl, sym, ◌∙◌, ap, subst, arith, inl, inr}
+use Rattle.std.proofs.Common.{◌≡◌, ℕ, ◌-◌, ◌<◌, ◌≤◌, ◌⊎◌, ⊎_elim, List, [], ◌∷◌, length, map, get_or, refl, sym, ◌∙◌, ap, subst, arith, inl, inr}
 use Rattle.std.proofs.lemmas.Bool.{cases_eq, cases_lt}
-use Rattle.std.specs.List.Sorted.{IsPermutation}
 use Rattle.std.proofs.lemmas.List.Sorted.{IsPermutation-sym}
 use Rattle.ml_lists.specs.Ascending.{IsAscending}
 use Rattle.ml_lists.specs.Member.{IsMember}
@@ -15,7 +14,7 @@ use Rattle.ml_lists.proofs.Members.{contains_of_member}
 use Rattle.ml_lists.proofs.Permuted.{permuted-member}
 use Rattle.ml_parity.specs.declared.players.Player.{Player}
 use Rattle.ml_parity.specs.Game.{ParityGame, IsGame, size}
-use Rattle.ml_pgsolver.specs.GameText.{Row, NamedGame, IsNamed, IsGameOf, IsLeastEvenFrom, id_at}
+use Rattle.ml_pgsolver.specs.GameText.{Row, NamedGame, IsGameOf, IsLeastEvenFrom, id_at}
 
 -- ---- the order
 

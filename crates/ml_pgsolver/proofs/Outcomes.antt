@@ -3,25 +3,25 @@
 --   RefusedIn all end e  == tokens, and the end of the text, are refused with e for one of the first four causes
 --   Comes all end out    == out is right of these tokens
 --   comes                == what comes of the tokens is
-use Rattle.std.proofs.Common.{◌≡◌, ℕ, suc, ◌+◌, ◌<◌, ◌≤◌, ◌⊎◌, List, [], ◌∷◌, ◌++◌, length, map, Option, Some, None, Result, Ok, Err, refl, sym, ◌∙◌, ap, subst, arith, inl, inr, length-append}
+use Rattle.std.proofs.Common.{◌≡◌, ℕ, suc, ◌<◌, ◌≤◌, ◌⊎◌, List, [], ◌∷◌, ◌++◌, length, Option, Some, None, Ok, Err, refl, sym, ◌∙◌, ap, subst, arith, inl, inr, length-append}
 use Rattle.std.proofs.lemmas.List.{append_assoc, append-nil, map-append}
 use Rattle.ml_lists.specs.Member.{IsMember}
-use Rattle.ml_pgsolver.specs.Tokens.{Token, Number, Placed, signs_of}
+use Rattle.ml_pgsolver.specs.Tokens.{Token, Placed, signs_of}
 use Rattle.ml_pgsolver.specs.Grammar.{vertices_of, IsGameText, BeginsGameText}
-use Rattle.ml_pgsolver.specs.Refusals.{Cause, Syntax, Repeated, TooMany, TooLarge, rank, IsFaulty, IsAt, IsTokenFault, IsFault, IsFirstFault, EndsEarly, offset_of}
+use Rattle.ml_pgsolver.specs.Refusals.{Cause, Syntax, Repeated, TooMany, TooLarge, rank, IsFaulty, IsFault, IsFirstFault, offset_of}
 use Rattle.ml_pgsolver.specs.declared.reader.Stage.{Stage}
 use Rattle.ml_pgsolver.specs.declared.reader.Stage.TheVariants as stage
 use Rattle.ml_pgsolver.specs.declared.refusal.GameTextRefusal.{GameTextRefusal}
 use Rattle.ml_pgsolver.specs.declared.refusal.GameTextRefusal.TheVariants as refusal
-use Rattle.ml_pgsolver.specs.private.Machine.{State, Step, step, at_end, outcome_from}
+use Rattle.ml_pgsolver.specs.private.Machine.{Step, step, at_end, outcome_from}
 use Rattle.ml_pgsolver.specs.private.Signs.{sign_of, signs_in}
 use Rattle.ml_pgsolver.proofs.Splits.{Splits, before, same, behind, splits}
 use Rattle.ml_pgsolver.proofs.Steps.{goes_on, stops, ends}
-use Rattle.ml_pgsolver.proofs.Trees.{Progress, Start, HeaderNumber, HeaderEnd, Body, Id, grow, grown_from, grown-append}
+use Rattle.ml_pgsolver.proofs.Trees.{Progress, Start, Body, Id, grow, grown_from, grown-append}
 use Rattle.ml_pgsolver.proofs.Viable.{begins-grown, grown-begins, game-ended}
 use Rattle.ml_pgsolver.proofs.Images.{image, stage_of, Passes, Came, goes, repeats, fills_ids, fills_successors, outgrows}
 use Rattle.ml_pgsolver.proofs.Comings.{came, stuck}
-use Rattle.ml_pgsolver.proofs.Roles.{ids_in, id_here}
+use Rattle.ml_pgsolver.proofs.Roles.{ids_in}
 use Rattle.ml_pgsolver.proofs.Readings.{Read, read_none, read_more, not_syntax, not_repeated, not_many, is_id, is_successor}
 
 abbrev pub FaultAt : List Placed → ℕ → Cause → ℕ → Type 0

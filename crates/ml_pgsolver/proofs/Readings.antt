@@ -4,7 +4,7 @@
 --   Read before p           == these tokens were read as p, and none is at fault
 --   read_none, read_more    == none were read; one more is
 --   not_syntax, id_there, no_id_there, successor_there  == what the next token is
-use Rattle.std.proofs.Common.{◌≡◌, ℕ, zero, suc, ◌+◌, ◌<◌, ◌≤◌, ◌⊎◌, List, [], ◌∷◌, ◌++◌, length, Option, Some, None, refl, sym, ◌∙◌, ap, subst, arith, inl, inr, length-append, nat_le}
+use Rattle.std.proofs.Common.{◌≡◌, ℕ, zero, suc, ◌<◌, ◌≤◌, ◌⊎◌, List, [], ◌∷◌, ◌++◌, length, Option, Some, None, refl, sym, ◌∙◌, ap, subst, arith, inl, inr, length-append, nat_le}
 use Rattle.std.proofs.lemmas.Bool.{cond_both}
 use Rattle.std.proofs.lemmas.List.{append_assoc, append-nil}
 use Rattle.ml_lines.specs.Reading.{value}
@@ -12,12 +12,11 @@ use Rattle.ml_lists.specs.Member.{IsMember}
 use Rattle.ml_lists.specs.Times.{IsApart}
 use Rattle.ml_lists.proofs.Member.{member-append}
 use Rattle.ml_pgsolver.specs.Tokens.{Token, Number, Name, Parity, Comma, Semicolon, Stray}
-use Rattle.ml_pgsolver.specs.Grammar.{BeginsGameText}
 use Rattle.ml_pgsolver.specs.Refusals.{next_place, place_from, place_behind, roles_from, id_at_place, successor_at_place, ids_of, successors_among, Cause, Syntax, Repeated, TooMany, TooLarge, IsId, IsSuccessor, IsFaulty, most_vertices, most_successors, greatest_number}
 use Rattle.ml_pgsolver.proofs.Splits.{last_split}
 use Rattle.ml_pgsolver.proofs.Trees.{Progress, Start, grow, grown_from, grown-append}
 use Rattle.ml_pgsolver.proofs.Viable.{begins-grown}
-use Rattle.ml_pgsolver.proofs.Roles.{ids_in, successors_in, id_here, successor_here, PlaceFits, Roles, roles}
+use Rattle.ml_pgsolver.proofs.Roles.{ids_in, successors_in, id_here, successor_here, PlaceFits, roles}
 use Rattle.ml_pgsolver.proofs.Images.{Passes}
 use Rattle.ml_pgsolver.proofs.Comings.{AllSmall}
 

@@ -1,9 +1,5 @@
-use Rattle.std.proofs.Common.{subst, sym, ap, ◌∙◌}
 use Rattle.std.proofs.lemmas.Iterator.Adapters.{YieldsList-from_vec}
 use Rattle.std.proofs.lemmas.Iterator.Consumers.{YieldsList-turn}
-use Rattle.ml_parity.specs.Refusal.{lists_of}
-use Rattle.ml_pgsolver.specs.private.Assembled.{AreGiven}
-use Rattle.ml_pgsolver.specs.private.Rows.{rows_view}
 use Rattle.ml_pgsolver.proofs.Places.{given_none, given_more, unknown_in}
 use Rattle.ml_pgsolver.proofs.assembling.successors_of.Goals as goal
 
