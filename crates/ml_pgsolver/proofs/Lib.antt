@@ -1,0 +1,48 @@
+-- tokens of a text from a byte on
+mod FirstTokens
+-- numbers up to a cap
+mod Capped
+-- game texts as trees that grow
+mod Trees
+-- which tokens begin a game text
+mod Viable
+-- which tokens are ids and successors
+mod Roles
+-- what the reader makes of tokens
+mod Images
+-- the reader's steps are those of the grammar
+mod Comings
+-- a list that is cut in two ways
+mod Splits
+-- tokens that were read
+mod Readings
+-- what comes of a text
+mod Outcomes
+-- the highest priority
+mod Highest
+-- places among ids
+mod Places
+-- rows in the order of their ids
+mod InIdOrder
+-- the game of such rows
+mod MadeGames
+-- rows that a program has sorted
+mod SortedRows
+-- a text that was read to its end
+mod Ended
+-- the first successor that is no id
+mod FirstUnknown
+-- what is answered to a text
+mod Answered
+-- one sign among which a stranger is sought
+mod UnknownSteps
+-- the lines of a solution
+mod WrittenLines
+-- rows are those of one game
+mod OneGame
+-- each text has one answer
+mod OneAnswers
+-- each text has an answer
+mod SomeAnswers
+-- one step of the reader
+mod Steps

@@ -1,0 +1,25 @@
+-- What is true of texts and answers.
+--
+--   OneAnswer       == a text is read as one game, or is refused in one way, and never both
+--   TokensAreLongest == each token stands where it is said to, and no longer one begins there
+use Rattle.std.specs.Prelude.{ℕ, ◌≡◌, ◌≢◌, ◌⊎◌, List}
+use Rattle.ml_pgsolver.specs.GameText.{NamedGame, StandsFor}
+use Rattle.ml_pgsolver.specs.Refusals.{IsReadAs, IsRefusedBy}
+use Rattle.ml_pgsolver.specs.declared.refusal.GameTextRefusal.{GameTextRefusal}
+use Rattle.ml_pgsolver.specs.declared.refusal.GameTextRefusal.TheVariants as refusal
+
+-- a text stands for one game at most
+abbrev pub IsUnambiguous : Type 0
+IsUnambiguous = (text : List ℕ) (g h : NamedGame) → StandsFor text g → StandsFor text h → g ≡ h
+
+-- want of memory is the one answer that says nothing of the text
+pub record OneAnswer : Type 0 where
+  -- each text is read as some game, or is refused for a reason of its own
+  pub some : (text : List ℕ)
+      → ((g : NamedGame) × IsReadAs text g) ⊎ ((e : GameTextRefusal) × (e ≢ refusal.NoMemory) × IsRefusedBy text e)
+  -- but for want of memory, it is refused in one way at most
+  pub refused : (text : List ℕ) (e d : GameTextRefusal) → e ≢ refusal.NoMemory → d ≢ refusal.NoMemory
+      → IsRefusedBy text e → IsRefusedBy text d → e ≡ d
+  -- what is read is refused by nothing but want of memory
+  pub exclusive : (text : List ℕ) (g : NamedGame) (e : GameTextRefusal)
+      → IsReadAs text g → IsRefusedBy text e → e ≡ refusal.NoMemory

@@ -1,0 +1,14 @@
+-- the tokens of a text
+pub mod Tokens
+-- the grammar of game texts
+pub mod Grammar
+-- the game that a text stands for
+pub mod GameText
+-- where texts are refused, and what is read
+pub mod Refusals
+-- the text of a solution
+pub mod SolutionText
+-- what is true of texts and answers
+pub mod Laws
+-- what private contracts cite
+pub mod private

@@ -1,0 +1,20 @@
+// What holds of texts and answers by their definitions alone: the functions do nothing, their contracts are the theorems.
+ghost use Rattle.std.specs.Prelude.{◌≡◌};
+ghost use Rattle.ml_pgsolver.specs.Laws.{IsUnambiguous, OneAnswer};
+ghost use Rattle.ml_pgsolver.specs.declared.limits.TheConstants as limit;
+
+/// A text stands for one game at most; it is read as a game or refused, never both, and but for want of memory it is
+/// refused in one way at most. So `read` answers each exactly where it is said to come.
+pub fn one_answer()
+    ensures unambiguous { IsUnambiguous }
+    ensures answer { OneAnswer }
+{}
+
+/// A game text has at most 200,000 vertices, 2,000,000 successors and numbers up to 4,294,967,294; programs take up to
+/// 67,108,864 bytes.
+pub fn limits()
+    ensures vertices { limit.MOST_VERTICES ≡ 200000 }
+    ensures successors { limit.MOST_SUCCESSORS ≡ 2000000 }
+    ensures numbers { limit.GREATEST_NUMBER ≡ 4294967294 }
+    ensures bytes { limit.LONGEST_GAME_TEXT ≡ 67108864 }
+{}
