@@ -15,7 +15,10 @@ module _ (c : ℕ) (bs : List ℕ) where
   cut_top None f = omega arith
   cut_top (Some xs) f = omega (arith, code_low (take c bs) (take c xs) (fits_take c bs xs f))
 
-  pub top_first : (a b : Option (List ℕ)) → a ≡ None → FitsIn bs b → IsTrue false ↔ (cut_level c bs a < cut_level c bs b)
+  pub top_first : (a b : Option (List ℕ))
+      → a ≡ None
+      → FitsIn bs b
+      → IsTrue false ↔ (cut_level c bs a < cut_level c bs b)
   top_first a b top f = (
     λ e. absurd (cc),
     λ low. let is = ap (cut_level c bs) top in absurd (omega (arith, cut_top b f)),

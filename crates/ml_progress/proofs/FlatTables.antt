@@ -46,7 +46,8 @@ module _ (w u v : ℕ) (xs ys : List ℕ) (wide : length ys ≡ w) (within : v *
   row_other : (u ≡ v → ⊥) → take w (drop (u * w) (put_mid (v * w) w xs ys)) ≡ take w (drop (u * w) xs)
   row_other differs = by_case (cases_order u v)
     where
-      by_case : (u ≡ v) ⊎ ((u < v) ⊎ (v < u)) → take w (drop (u * w) (put_mid (v * w) w xs ys)) ≡ take w (drop (u * w) xs)
+      by_case : (u ≡ v) ⊎ ((u < v) ⊎ (v < u))
+          → take w (drop (u * w) (put_mid (v * w) w xs ys)) ≡ take w (drop (u * w) xs)
       by_case (inl same) = absurd (differs same)
       by_case (inr (inl before)) =
           row_is w (u * w) (put_mid (v * w) w xs ys)
@@ -120,7 +121,10 @@ module _ (w : ℕ) (numbers : List ℕ) (tops : List Bool) (t : TableRows) (f : 
         ))
         each
       where
-        at : (u : ℕ) (d : Option (List ℕ)) → u < length tops → (u ≡ v) ⊎ (u ≡ v → ⊥) → other u ≡ get_or (set t.rows v x) u d
+        at : (u : ℕ) (d : Option (List ℕ))
+            → u < length tops
+            → (u ≡ v) ⊎ (u ≡ v → ⊥)
+            → other u ≡ get_or (set t.rows v x) u d
         at u d under (inl same) = ap other same ∙ here ∙ sym (get_or-set_same t.rows v x d low)
             ∙ ap (λ k. get_or (set t.rows v x) k d) (sym same)
         at u d under (inr differs) = elsewhere u under differs

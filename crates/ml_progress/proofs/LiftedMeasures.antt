@@ -36,7 +36,11 @@ module _ (g : ParityGame) (ok : IsGame g) (p : Player) where
   bs = bounds_of g p
 
   -- the measure of zeros is low
-  pub zeros_low : (n w : ℕ) (m : Measure) → n ≡ size g → w ≡ length bs → m ≡ replicate n (Some (replicate {A = ℕ} w 0)) → IsLow g p m
+  pub zeros_low : (n w : ℕ) (m : Measure)
+      → n ≡ size g
+      → w ≡ length bs
+      → m ≡ replicate n (Some (replicate {A = ℕ} w 0))
+      → IsLow g p m
   zeros_low n w m count wide is = record {
     vertices = ap length is ∙ length-replicate n (Some (replicate {A = ℕ} w 0)) ∙ count;
     fits = λ v low.
@@ -118,7 +122,11 @@ module _ (g : ParityGame) (ok : IsGame g) (p : Player) where
               let e = ap (level bs) (risen_there u differs) in omega (arith, low.low k progress u less)
 
       -- a vertex without a move to the one that rose stays settled; the one that rose is settled then
-      pub stays_settled : (u : ℕ) → u < size g → (HasMove g u v → ⊥) → ((u ≡ v → ⊥) → IsSettled g p m u) → IsSettled g p n u
+      pub stays_settled : (u : ℕ)
+          → u < size g
+          → (HasMove g u v → ⊥)
+          → ((u ≡ v → ⊥) → IsSettled g p m u)
+          → IsSettled g p n u
       stays_settled u less none was = by_case (cases_eq u v)
         where
           away : (x : ℕ) → HasMove g u x → measure_at n x ≡ measure_at m x
@@ -175,7 +183,8 @@ module _ (g : ParityGame) (ok : IsGame g) (p : Player) where
                 l.is_target) less))
             by_case (inr more) = more
 
-        at : (x : ℕ) → cut_level (cut_length g p v) bs (measure_at m x) ≤ cut_level (cut_length g p v) bs (measure_at m l.chosen)
+        at : (x : ℕ)
+            → cut_level (cut_length g p v) bs (measure_at m x) ≤ cut_level (cut_length g p v) bs (measure_at m l.chosen)
             → StepsAlong g p m v x
         at x under =
             target_steps (cut_length g p v) bs (is_bad p (priority_of g v)) (measure_at m l.chosen) l.target
@@ -228,7 +237,11 @@ module _ (g : ParityGame) (ok : IsGame g) (p : Player) where
 
 -- ---- room
 
-total_less : (f h : ℕ → ℕ) (n v : ℕ) → v < n → ((u : ℕ) → u < n → (u ≡ v → ⊥) → f u ≡ h u) → f v < h v → total f n < total h n
+total_less : (f h : ℕ → ℕ) (n v : ℕ)
+    → v < n
+    → ((u : ℕ) → u < n → (u ≡ v → ⊥) → f u ≡ h u)
+    → f v < h v
+    → total f n < total h n
 total_less f h zero v low same less = absurd (omega arith)
 total_less f h (suc n) v low same less = by_case (cases_eq n v) (total_less f h n v)
   where

@@ -38,7 +38,10 @@ code_front (suc c) (b ∷ bs) (x ∷ xs) n f =
       add-mul (x * space (take c bs)) (code (take c bs) (take c xs)) (space (drop c bs)),
     )
 
-pub fits_front : (c : ℕ) (bs xs : List ℕ) (n : ℕ) → Fits bs xs → n ≡ length bs - c → Fits bs (take c xs ++ replicate n 0)
+pub fits_front : (c : ℕ) (bs xs : List ℕ) (n : ℕ)
+    → Fits bs xs
+    → n ≡ length bs - c
+    → Fits bs (take c xs ++ replicate n 0)
 fits_front zero bs xs n f long = fits_zeros bs n (omega arith)
 fits_front (suc c) [] [] n f long = fits_zeros [] n (omega arith)
 fits_front (suc c) [] (x ∷ xs) n f long = absurd f

@@ -54,7 +54,11 @@ module _ (g : ParityGame) (p : Player) where
 
 -- ---- progress
 
-falls_steps : (t : Bool) (bs xs ys : List ℕ) → Fits bs xs → Fits bs ys → Falls t xs ys → code bs ys + step_of t ≤ code bs xs
+falls_steps : (t : Bool) (bs xs ys : List ℕ)
+    → Fits bs xs
+    → Fits bs ys
+    → Falls t xs ys
+    → code bs ys + step_of t ≤ code bs xs
 falls_steps true bs xs ys f h falls = omega (arith, before_code bs ys xs h f falls)
 falls_steps false bs xs ys f h falls = by_case (cases_lt (code bs xs) (code bs ys))
   where
@@ -62,7 +66,11 @@ falls_steps false bs xs ys f h falls = by_case (cases_lt (code bs xs) (code bs y
     by_case (inl low) = absurd (falls (code_before bs xs ys f h low))
     by_case (inr high) = omega arith
 
-steps_falls : (t : Bool) (bs xs ys : List ℕ) → Fits bs xs → Fits bs ys → code bs ys + step_of t ≤ code bs xs → Falls t xs ys
+steps_falls : (t : Bool) (bs xs ys : List ℕ)
+    → Fits bs xs
+    → Fits bs ys
+    → code bs ys + step_of t ≤ code bs xs
+    → Falls t xs ys
 steps_falls true bs xs ys f h steps = code_before bs ys xs h f (omega arith)
 steps_falls false bs xs ys f h steps = λ b. omega (arith, before_code bs xs ys f h b)
 

@@ -22,7 +22,10 @@ pub record QueueUpTo (k : ℕ) (queue : List ℕ) : Type 0 where
   pub all : (v : ℕ) → v < k → IsMember v queue
   pub low : (v : ℕ) → IsMember v queue → v < k
 
-pub queue_more : (k : ℕ) (queue queue2 : List ℕ) → queue2 ≡ queue ++ k ∷ [] → QueueUpTo k queue → QueueUpTo (k + 1) queue2
+pub queue_more : (k : ℕ) (queue queue2 : List ℕ)
+    → queue2 ≡ queue ++ k ∷ []
+    → QueueUpTo k queue
+    → QueueUpTo (k + 1) queue2
 queue_more k queue queue2 is so_far = subst (QueueUpTo (k + 1)) (sym is) (record {
   all = λ v low. by_case v low (cases_eq v k);
   low = λ v inside. from v (member-append v queue (k ∷ []) inside);
