@@ -7,7 +7,7 @@
 --   top_settled     == a vertex with the top is settled
 --   room_falls      == there is less room after a rise
 --   settled_least   == a low measure in which all vertices are settled is the least progress measure
-use Rattle.std.proofs.Common.{ℕ, zero, suc, ◌≡◌, ◌≢◌, ◌+◌, ◌-◌, ◌*◌, ◌<◌, ◌≤◌, ◌⊎◌, inl, inr, ⊎_elim, arith, Bool, true, false, List, [], ◌∷◌, length, get_or, set, map, replicate, Option, Some, None, refl, sym, ap, ◌∙◌, subst, length-set}
+use Rattle.std.proofs.Common.{ℕ, zero, suc, ◌≡◌, ◌-◌, ◌<◌, ◌≤◌, ◌⊎◌, inl, inr, ⊎_elim, arith, Bool, true, false, List, length, get_or, replicate, Option, Some, None, refl, sym, ap, ◌∙◌, subst, length-set}
 use Rattle.std.proofs.lemmas.Bool.{cases_eq, cases_lt}
 use Rattle.std.proofs.lemmas.List.{get_or-set_same, get_or-set_other, get_or-replicate, length-replicate}
 use Rattle.ml_parity.specs.declared.players.Player.{Player}
@@ -17,9 +17,8 @@ use Rattle.ml_parity.proofs.Boards.{first_move}
 use Rattle.ml_parity.proofs.Opponents.{cases_player}
 use Rattle.ml_progress.specs.Measure.{Measure, IsMeasure, IsBelow, Progresses, SomeProgress, IsProgressMeasure, IsLeastMeasure, is_bad, measure_at}
 use Rattle.ml_progress.specs.private.Bounds.{bounds_of, cut_length, level_of, StepsAlong}
-use Rattle.ml_progress.specs.private.Codes.{space, code, Fits, FitsIn, level, cut_level, Steps, IsTarget}
-use Rattle.ml_progress.specs.private.Lifting.{IsLow, SomeStep, IsSettled, IsLifted, AreFitting, total, room}
-use Rattle.ml_progress.specs.private.Tables.{IsRaised}
+use Rattle.ml_progress.specs.private.Codes.{space, FitsIn, level, cut_level, Steps}
+use Rattle.ml_progress.specs.private.Lifting.{IsLow, IsSettled, IsLifted, total, room}
 use Rattle.ml_progress.proofs.Codes.{code_before}
 use Rattle.ml_progress.proofs.Levels.{level_top, cut_mono, target_fits, target_least, target_steps}
 use Rattle.ml_progress.proofs.NextLists.{fits_zeros, code_zeros}

@@ -4,14 +4,14 @@
 --   measure_fits                     == so what a measure gives a vertex is within the bounds
 --   progress_steps, steps_progress   == a move progresses exactly if it does in the codes
 --   below_level                      == what is below has the lower level
-use Rattle.std.proofs.Common.{ℕ, zero, suc, ◌≡◌, ◌+◌, ◌<◌, ◌≤◌, ◌⊎◌, inl, inr, arith, Bool, true, false, List, [], ◌∷◌, length, get_or, map, take, Option, Some, None, refl, sym, ap, ◌∙◌, subst}
+use Rattle.std.proofs.Common.{ℕ, zero, suc, ◌≡◌, ◌+◌, ◌<◌, ◌≤◌, ◌⊎◌, inl, inr, arith, Bool, true, false, List, [], ◌∷◌, length, get_or, map, take, Option, Some, None, refl, ◌∙◌}
 use Rattle.std.proofs.lemmas.Bool.{cases_lt}
-use Rattle.std.proofs.lemmas.List.{get_or-map, length-map}
+use Rattle.std.proofs.lemmas.List.{length-map}
 use Rattle.ml_parity.specs.declared.players.Player.{Player}
 use Rattle.ml_parity.specs.Game.{ParityGame, priority_of, size}
-use Rattle.ml_progress.specs.Measure.{Measure, Bounded, IsMeasure, ComesBefore, IsBelow, Falls, ProgressesFrom, Progresses, is_bad, bad_priorities, how_many, measure_at}
-use Rattle.ml_progress.specs.private.Codes.{code, space, Fits, FitsIn, level, step_of, Steps}
-use Rattle.ml_progress.specs.private.Bounds.{bounds_of, cut_length, StepsAlong}
+use Rattle.ml_progress.specs.Measure.{Measure, Bounded, IsMeasure, IsBelow, Falls, ProgressesFrom, is_bad, bad_priorities, how_many, measure_at}
+use Rattle.ml_progress.specs.private.Codes.{code, Fits, FitsIn, level, step_of, Steps}
+use Rattle.ml_progress.specs.private.Bounds.{bounds_of, cut_length}
 use Rattle.ml_progress.proofs.Codes.{code_low, fits_take, fits_long, before_code, code_before}
 
 -- ---- lists within bounds
