@@ -6,33 +6,32 @@
 use Rattle.std.proofs.Common.{◌≡◌, ℕ, true, false, List, ap₂, refl, sym, subst, ◌∙◌}
 use Rattle.ml_base.specs.declared.parse_refusal.ParseRefusal.{ParseRefusal}
 use Rattle.ml_base.specs.declared.parse_refusal.ParseRefusal.TheVariants as refusal
-use Rattle.ml_front.specs.Logics.{IsParsedAs, IsRefusedBy}
+use Rattle.ml_front.specs.Logics.{IsParsedAs, IsRefusedBy, logic_of}
 use Rattle.ml_front.specs.declared.logic.Logic.{Logic}
+use Rattle.ml_front.specs.declared.problem.AnyFormula.{AnyFormula}
 use Rattle.ml_front.specs.declared.problem.AnyFormula.TheVariants.{Mu, Pdl, Ltl}
 use Rattle.ml_front.specs.declared.problem.Problem.{Problem}
 use Rattle.ml_front.proofs.Logics.{formula_once, formula_or_refused}
 use Rattle.ml_gen.specs.Families.{formula_text, is_in_range}
+use Rattle.ml_gen.specs.Formulas.{and_formula, fair_formula, loop_formula, or_formula, step_formula}
 use Rattle.ml_gen.specs.declared.family.Family.{Family}
 use Rattle.ml_gen.specs.declared.family.Family.TheVariants.{And, Or, Step, Fair, Loop}
 use Rattle.ml_gen.proofs.FamilyTexts.{are_parsed}
 use Rattle.ml_driver.specs.Bench.{IsMeant, logic_for}
 
+meant : (f : Family) (n : ℕ) (formula : AnyFormula)
+    → logic_of formula ≡ logic_for f
+    → IsParsedAs (formula_text f n) formula
+    → (p : Problem) × IsMeant f n p
+meant f n formula of_logic parsed =
+    (record { formula = formula; negated = false }, record { of_logic = of_logic; is_plain = refl; is_parsed = parsed })
+
 pub family_problem : (f : Family) (n : ℕ) → is_in_range f n ≡ true → (p : Problem) × IsMeant f n p
-family_problem And n is =
-    let made = are_parsed And n is in
-    (record { formula = Mu made.0; negated = false }, record { of_logic = refl; is_plain = refl; is_parsed = made.1 })
-family_problem Or n is =
-    let made = are_parsed Or n is in
-    (record { formula = Mu made.0; negated = false }, record { of_logic = refl; is_plain = refl; is_parsed = made.1 })
-family_problem Step n is =
-    let made = are_parsed Step n is in
-    (record { formula = Pdl made.0; negated = false }, record { of_logic = refl; is_plain = refl; is_parsed = made.1 })
-family_problem Fair n is =
-    let made = are_parsed Fair n is in
-    (record { formula = Ltl made.0; negated = false }, record { of_logic = refl; is_plain = refl; is_parsed = made.1 })
-family_problem Loop n is =
-    let made = are_parsed Loop n is in
-    (record { formula = Pdl made.0; negated = false }, record { of_logic = refl; is_plain = refl; is_parsed = made.1 })
+family_problem And n is = meant And n (Mu (and_formula n)) refl (are_parsed And n is)
+family_problem Or n is = meant Or n (Mu (or_formula n)) refl (are_parsed Or n is)
+family_problem Step n is = meant Step n (Pdl (step_formula n)) refl (are_parsed Step n is)
+family_problem Fair n is = meant Fair n (Ltl (fair_formula n)) refl (are_parsed Fair n is)
+family_problem Loop n is = meant Loop n (Pdl (loop_formula n)) refl (are_parsed Loop n is)
 
 pub one_family_problem : (f : Family) (n : ℕ) (p r : Problem) → IsMeant f n p → IsMeant f n r → p ≡ r
 one_family_problem f n p r x y =

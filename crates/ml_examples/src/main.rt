@@ -4,7 +4,7 @@
 //
 // What is printed is each row whose answer is another, with what was answered, and for each file how many rows it has and
 // how many documents were written in them. Each document with an answer is read by the command that checks it, and has to
-// be found good.
+// be found good; one that `migrate` writes has to be found as the one that it is written of.
 //
 //   answers  what the program answers, and what is said of a document by the command that checks it
 //   failure  why the rows were not all run

@@ -1,7 +1,9 @@
 // What holds of heads and of graphs by their definitions alone: the functions do nothing, their contracts are the
 // theorems.
+ghost use Rattle.std.specs.Prelude.{◌≡◌};
 ghost use Rattle.ml_front.specs.Graphs.{GraphsAgree};
 ghost use Rattle.ml_front.specs.HeadRules.{HeadOrFault, HeadRulesRise, HeadsReadBack, OneHead, OneHeadFault, SomeHead};
+ghost use Rattle.ml_front.specs.declared.problem.TheConstants.{MOST_NODES};
 
 /// The graph of a problem holds where the problem does: on every structure of which the formula's logic speaks, of any
 /// number of states, at every state. The formula has to mean something by its logic: in the mu-calculus its variables have to
@@ -26,4 +28,9 @@ pub fn one_head()
 /// stands behind it. So what `write_head` writes is read back.
 pub fn heads_are_read_back()
     ensures { HeadsReadBack }
+{}
+
+/// The closure of a problem that is decided and checked has at most 4,096 nodes.
+pub fn limits()
+    ensures { MOST_NODES ≡ 4096 }
 {}

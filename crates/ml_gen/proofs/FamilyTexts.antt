@@ -1,6 +1,7 @@
--- The text of each family is parsed as a formula of its logic.
+-- The text of each family is parsed as its formula, and as no other.
 --
---   Parsed       == for each family
+--   are_parsed    == each is parsed as its formula
+--   parsed_as_one == and as no other
 use Rattle.std.proofs.Common.{◌≡◌, ℕ, zero, suc, ◌+◌, ◌*◌, ◌<◌, ◌≤◌, true, nat_le, List, [], ◌∷◌, ◌++◌, map, codes, refl, sym, ap, subst, ◌∙◌, append_assoc, arith}
 use Rattle.std.specs.Cmp.{first_so, second_so}
 use Rattle.std.specs.List.{flat_map, list_all, range_with_len}
@@ -11,11 +12,20 @@ use Rattle.ml_text.specs.Bytes.{is_word_byte}
 use Rattle.ml_text.specs.Refusals.{most_occurrences}
 use Rattle.ml_mu.specs.Canonical.{canonical_text}
 use Rattle.ml_mu.specs.Formula as mu
+use Rattle.ml_mu.specs.Parsing as mu_parsing
+use Rattle.ml_mu.proofs.OneAnswer as mu_answer
+use Rattle.ml_pdl.specs.Formula as pdl
+use Rattle.ml_pdl.specs.Parsing as pdl_parsing
+use Rattle.ml_pdl.proofs.OneAnswer as pdl_answer
 use Rattle.ml_ctl.specs.Formula as ltl
+use Rattle.ml_ctl.proofs.OneAnswer as ctl_answer
+use Rattle.ml_ltl.specs.Parsing as ltl_parsing
 use Rattle.ml_gen.specs.Families.{greatest, is_in_range, part}
-use Rattle.ml_gen.specs.Parsed.{AreParsed, HasFormula}
+use Rattle.ml_gen.specs.Formulas.{act, acts, and_formula, and_part, fair_formula, fair_part, loop_formula, or_formula, or_part, step_formula}
+use Rattle.ml_gen.specs.Parsed.{AreParsed, ParsedAsOne}
 use Rattle.ml_gen.specs.declared.family.Family.{Family}
 use Rattle.ml_gen.specs.declared.family.Family.TheVariants.{And, Or, Step, Fair, Loop}
+use Rattle.ml_gen.proofs.Joined.{onto, onto_joined}
 use Rattle.ml_gen.proofs.LtlChains as ltl_chains
 use Rattle.ml_gen.proofs.MuChains as mu_chains
 use Rattle.ml_gen.proofs.NumberedNames.{in_range, name_bytes, number_short}
@@ -28,12 +38,6 @@ range_parts family n is = (
 )
 
 -- ---- conjunctions of the mu-calculus
-
-abbrev and_part : ℕ → mu.Formula
-and_part i = mu.Prop (codes "p" ++ number i)
-
-abbrev or_part : ℕ → mu.Formula
-or_part i = mu.Binary operator.Or (mu.Prop (codes "p" ++ number i)) (mu.Prop (codes "q" ++ number i))
 
 and_is_part : (i : ℕ) → i ≤ 500 → mu_chains.IsPart (and_part i)
 and_is_part i low = record {
@@ -103,9 +107,6 @@ acts_text (suc k) a after = ap (λ rest. codes ";a" ++ rest) (acts_text k (a + 1
 
 -- ---- conjunctions of LTL
 
-abbrev fair_part : ℕ → ltl.Formula
-fair_part i = ltl.Temporal ltl.Globally (ltl.Temporal ltl.Finally (ltl.Prop (codes "p" ++ number i)))
-
 fair_is_part : (i : ℕ) → i ≤ 500 → ltl_chains.IsPart (fair_part i)
 fair_is_part i low = record {
   spelled = and_from (list_all is_word_byte (number i)) true (name_bytes i (omega arith)) refl;
@@ -132,6 +133,23 @@ fair_first w rest = simp append_assoc
 
 -- ---- all families
 
+mu_onto : (part_at : ℕ → mu.Formula) (k a : ℕ) (f : mu.Formula)
+    → mu_chains.chain f (map part_at (range_with_len a k)) ≡ onto (mu.Binary operator.And) part_at k a f
+mu_onto part_at zero a f = refl
+mu_onto part_at (suc k) a f = mu_onto part_at k (a + 1) (mu.Binary operator.And f (part_at a))
+
+ltl_onto : (part_at : ℕ → ltl.Formula) (k a : ℕ) (f : ltl.Formula)
+    → ltl_chains.chain f (map part_at (range_with_len a k)) ≡ onto (ltl.Binary operator.And) part_at k a f
+ltl_onto part_at zero a f = refl
+ltl_onto part_at (suc k) a f = ltl_onto part_at k (a + 1) (ltl.Binary operator.And f (part_at a))
+
+acts_onto : (k a : ℕ) (p : pdl.Program) → pdl_sequences.more_acts k p ≡ onto pdl.Seq (λ i. act) k a p
+acts_onto zero a p = refl
+acts_onto (suc k) a p = acts_onto k (a + 1) (pdl.Seq p act)
+
+acts_joined : (k : ℕ) → pdl_sequences.acts k ≡ acts (suc k)
+acts_joined k = acts_onto k 2 act ∙ onto_joined pdl.Seq (λ i. act) k
+
 pub are_parsed : AreParsed
 are_parsed And zero is = absurd (omega (arith, (range_parts And zero is).0))
 are_parsed And (suc k) is =
@@ -139,23 +157,32 @@ are_parsed And (suc k) is =
     let gs = map and_part (range_with_len 2 k) in
     let all = in_range mu_chains.IsPart and_part and_is_part k 2 (omega (arith, low)) in
     let small : mu.occurrences (mu_chains.chain (and_part 1) gs) ≤ most_occurrences = omega (arith, and_count k 2 (and_part 1), low) in
-    subst (λ more. HasFormula And (part And 1 ++ more)) (and_text k 2)
-    (mu_chains.chain (and_part 1) gs, mu_chains.chain_parsed (and_part 1) gs (and_is_part 1 (omega arith)) all small)
+    subst (λ more. mu_parsing.IsParsedAs (part And 1 ++ more) (and_formula (suc k))) (and_text k 2)
+    (subst (mu_parsing.IsParsedAs (mu_chains.chain_text (and_part 1) gs))
+    (mu_onto and_part k 2 (and_part 1) ∙ onto_joined (mu.Binary operator.And) and_part k)
+    (mu_chains.chain_parsed (and_part 1) gs (and_is_part 1 (omega arith)) all small))
 are_parsed Or zero is = absurd (omega (arith, (range_parts Or zero is).0))
 are_parsed Or (suc k) is =
     let low = (range_parts Or (suc k) is).1 in
     let gs = map or_part (range_with_len 2 k) in
     let all = in_range mu_chains.IsPart or_part or_is_part k 2 (omega (arith, low)) in
     let small : mu.occurrences (mu_chains.chain (or_part 1) gs) ≤ most_occurrences = omega (arith, or_count k 2 (or_part 1), low) in
-    subst (λ first. HasFormula Or (first ++ flat_map (λ i. codes " & " ++ part Or i) (range_with_len 2 k)))
-    (or_canonical 1 ∙ sym (or_written 1))
-    (subst (λ more. HasFormula Or (canonical_text (or_part 1) ++ more)) (or_text k 2)
-    (mu_chains.chain (or_part 1) gs, mu_chains.chain_parsed (or_part 1) gs (or_is_part 1 (omega arith)) all small))
+    let more = flat_map (λ i. codes " & " ++ part Or i) (range_with_len 2 k) in
+    subst (λ first. mu_parsing.IsParsedAs (first ++ more) (or_formula (suc k))) (or_canonical 1 ∙ sym (or_written 1))
+    (subst (λ rest. mu_parsing.IsParsedAs (canonical_text (or_part 1) ++ rest) (or_formula (suc k))) (or_text k 2)
+    (subst (mu_parsing.IsParsedAs (mu_chains.chain_text (or_part 1) gs))
+    (mu_onto or_part k 2 (or_part 1) ∙ onto_joined (mu.Binary operator.And) or_part k)
+    (mu_chains.chain_parsed (or_part 1) gs (or_is_part 1 (omega arith)) all small)))
 are_parsed Step zero is = absurd (omega (arith, (range_parts Step zero is).0))
 are_parsed Step (suc k) is =
     let low = (range_parts Step (suc k) is).1 in
-    subst (λ more. HasFormula Step (codes "<a" ++ more)) (sym (acts_text k 2 (codes ">p & [a*]!p")))
-    (pdl_sequences.step_formula k, pdl_sequences.step_parsed k (omega (arith, low)))
+    subst (λ more. pdl_parsing.IsParsedAs (codes "<a" ++ more) (step_formula (suc k)))
+    (sym (acts_text k 2 (codes ">p & [a*]!p")))
+    (subst (λ p. pdl_parsing.IsParsedAs (pdl_sequences.step_text k) (step_of p)) (acts_joined k)
+    (pdl_sequences.step_parsed k (omega (arith, low))))
+  where
+    step_of : pdl.Program → pdl.Formula
+    step_of p = pdl.Binary operator.And (pdl.Modal pdl.Diamond p pdl_sequences.prop) pdl_sequences.box
 are_parsed Fair zero is = absurd (omega (arith, (range_parts Fair zero is).0))
 are_parsed Fair (suc k) is =
     let low = (range_parts Fair (suc k) is).1 in
@@ -163,11 +190,22 @@ are_parsed Fair (suc k) is =
     let all = in_range ltl_chains.IsPart fair_part fair_is_part k 2 (omega (arith, low)) in
     let small : ltl.occurrences (ltl_chains.chain (fair_part 1) gs) < most_occurrences = omega (arith, fair_count k 2 (fair_part 1), low) in
     let rest = flat_map (λ i. codes " & " ++ part Fair i) (range_with_len 2 k) in
-    subst (HasFormula Fair)
+    subst (λ text. ltl_parsing.IsParsedAs text (fair_formula (suc k)))
     (ap (λ more. codes "(G F p" ++ (number 1 ++ (codes ")" ++ more))) (fair_text k 2) ∙ sym (fair_first (number 1) rest))
-    (ltl_chains.chain (fair_part 1) gs, ltl_chains.chain_parsed (fair_part 1) gs (fair_is_part 1 (omega arith)) all small)
+    (subst (ltl_parsing.IsParsedAs (ltl_chains.chain_text (fair_part 1) gs))
+    (ltl_onto fair_part k 2 (fair_part 1) ∙ onto_joined (ltl.Binary operator.And) fair_part k)
+    (ltl_chains.chain_parsed (fair_part 1) gs (fair_is_part 1 (omega arith)) all small))
 are_parsed Loop zero is = absurd (omega (arith, (range_parts Loop zero is).0))
 are_parsed Loop (suc k) is =
     let low = (range_parts Loop (suc k) is).1 in
-    subst (λ more. HasFormula Loop (codes "repeat(a" ++ more)) (sym (acts_text k 2 (codes ")")))
-    (pdl_sequences.loop_formula k, pdl_sequences.loop_parsed k (omega (arith, low)))
+    subst (λ more. pdl_parsing.IsParsedAs (codes "repeat(a" ++ more) (loop_formula (suc k))) (sym (acts_text k 2 (codes ")")))
+    (subst (λ p. pdl_parsing.IsParsedAs (pdl_sequences.loop_text k) (pdl.Repeat p)) (acts_joined k)
+    (pdl_sequences.loop_parsed k (omega (arith, low))))
+
+pub parsed_as_one : ParsedAsOne
+parsed_as_one And n is = λ f parsed. mu_answer.one_answer.parsed _ f (and_formula n) parsed (are_parsed And n is)
+parsed_as_one Or n is = λ f parsed. mu_answer.one_answer.parsed _ f (or_formula n) parsed (are_parsed Or n is)
+parsed_as_one Step n is = λ f parsed. pdl_answer.one_answer.parsed _ f (step_formula n) parsed (are_parsed Step n is)
+parsed_as_one Fair n is =
+    λ f parsed. (ctl_answer.one_answer ltl.Ltl).parsed _ f (fair_formula n) parsed (are_parsed Fair n is)
+parsed_as_one Loop n is = λ f parsed. pdl_answer.one_answer.parsed _ f (loop_formula n) parsed (are_parsed Loop n is)

@@ -6,5 +6,9 @@ pub mod NumberedNames
 pub mod MuChains
 pub mod LtlChains
 pub mod PdlSequences
+-- parts that are joined
+pub mod Joined
+-- how many occurrences formulas have
+pub mod Occurrences
 -- the texts of the families are parsed
 pub mod FamilyTexts

@@ -20,7 +20,7 @@ use Rattle.ml_text.proofs.Scans.{Spelt, spelt_at, Scans, ends, scans_tokens}
 use Rattle.ml_text.proofs.TableItems.{IsShort}
 use Rattle.ml_pdl.specs.Canonical.{canonical_text}
 use Rattle.ml_pdl.specs.Formula as plain
-use Rattle.ml_pdl.specs.Formula.{Formula, Program, Act, Seq, Star, Diamond, Square, occurrences, program_occurrences}
+use Rattle.ml_pdl.specs.Formula.{Formula, Program, Seq, Star, Diamond, Square, occurrences, program_occurrences}
 use Rattle.ml_pdl.specs.Grammar as grammar
 use Rattle.ml_pdl.specs.Grammar.{IsReadAs, Reads, ReadsProgram, iff_alone, imp_alone, or_alone, and, and_alone, alt_alone, seq, seq_alone, modal, repetition}
 use Rattle.ml_pdl.specs.Marks.{asks, is_test_behind, mark_of, marked, with_mark}
@@ -32,9 +32,7 @@ use Rattle.ml_pdl.proofs.CanonicalTexts.{plain_signs, program_onto, reads_formul
 use Rattle.ml_pdl.proofs.Counting.{counts, counted_items}
 use Rattle.ml_pdl.proofs.FromTables.{un_raised}
 use Rattle.ml_pdl.proofs.MarkedTexts.{marks_are_of_texts}
-
-abbrev pub act : Program
-act = Act (codes "a")
+use Rattle.ml_gen.specs.Formulas.{act}
 
 -- a program, and then the action so many times
 abbrev pub more_acts : ℕ → Program → Program
@@ -135,10 +133,10 @@ module _ (text : List ℕ) (spelt : List Spelt) (f : Formula) (scans : Scans Any
 
 -- ---- `<a;a;..>p & [a*]!p`
 
-abbrev prop : Formula
+abbrev pub prop : Formula
 prop = plain.Prop (codes "p")
 
-abbrev box : Formula
+abbrev pub box : Formula
 box = plain.Modal Square (Star act) (plain.Not prop)
 
 abbrev pub step_formula : ℕ → Formula

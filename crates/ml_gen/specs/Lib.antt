@@ -1,4 +1,6 @@
 -- the families, their ranges and the texts of their formulas
 pub mod Families
--- they stand for formulas
+-- the formulas, and how many occurrences they have
+pub mod Formulas
+-- the texts stand for them
 pub mod Parsed
