@@ -5,7 +5,7 @@
 --   too_long_due   == an input past the limit of its command is refused by its length
 --   given_past     == and was read, as far as it was given
 --   unread         == how a call ends that lacks memory before anything is read
-use Rattle.std.proofs.Common.{◌≡◌, ℕ, ◌<◌, ◌≤◌, length, List, [], Option, Some, None, refl, sym, ap, subst, inl, inr, ⊎_elim, arith}
+use Rattle.std.proofs.Common.{◌≡◌, ℕ, ◌+◌, ◌<◌, ◌≤◌, length, List, [], Option, Some, None, refl, sym, ap, subst, inl, inr, ⊎_elim, arith}
 use Rattle.std.specs.Io.KnownBytes.{append_known, prepend_known}
 use Rattle.ml_base.specs.Faults.{Rose}
 use Rattle.ml_base.specs.Whole.{AppendsPart}
@@ -138,11 +138,11 @@ too_long_due (Bench f n) k text is long = absurd (cc)
 
 -- ---- what was given
 
--- what was given of an input past its limit was read
+-- what was given of an input past its limit was read: one byte more
 pub given_past : (c : Command) (k : ℕ) (before after : Option (List ℕ)) (text : List ℕ)
     → longest_input c ≡ Some k
     → before ≡ prepend_known text after
-    → k < length text
+    → length text ≡ k + 1
     → WasGiven (longest_input c) before after text
 given_past c k before after text is gave long =
     subst (λ o. WasGiven o before after text) (sym is) (gave, inr long)

@@ -2,6 +2,7 @@
 --
 --   well_formed             == formulas that texts stand for are well formed
 --   has_room                == a trace automaton of a graph with so few nodes is small
+--   graphs_fit              == so that of the graph of a problem within the limits is
 --   admitted                == the structure that is extracted for a graph of a problem is one of which its logic speaks
 --   few_positions           == an arena with at most n positions is that of a game without more
 --   same_positions          == the graphs of a problem have games with the same positions
@@ -18,7 +19,7 @@ use Rattle.ml_front.specs.declared.problem.AnyFormula.{AnyFormula}
 use Rattle.ml_front.specs.declared.problem.AnyFormula.TheVariants.{Mu, Pdl, Ctl, Ltl}
 use Rattle.ml_front.specs.declared.problem.Problem.{Problem}
 use Rattle.ml_front.specs.declared.problem.TheConstants.{MOST_NODES}
-use Rattle.ml_front.proofs.Graphs.{graphs_alike}
+use Rattle.ml_front.proofs.Graphs.{graph_is, graph_small, graphs_alike}
 use Rattle.ml_front.proofs.Logics.{parsed_well}
 use Rattle.ml_graph.specs.Graph.{Graph, IsGraph, odd_priorities, size}
 use Rattle.ml_lists.specs.Ascending.{ascending, insert_once}
@@ -30,6 +31,7 @@ use Rattle.ml_blocks.specs.BlockGraph.{linear_start_of, start_of}
 use Rattle.ml_driver.proofs.ExtractedModels.{is_admitted}
 use Rattle.ml_driver.proofs.SamePositions.{more_there}
 use Rattle.ml_driver.specs.Decision.{PassesLimit}
+use Rattle.ml_driver.specs.Laws.{GraphsFit}
 
 pub well_formed : (text : List ℕ) (f : AnyFormula) → IsParsedAs text f → IsWellFormed f
 well_formed text f parsed = parsed_well text f parsed
@@ -76,6 +78,11 @@ has_room g is small =
     let few = count_by-le-length p g.priorities in
     let odd : length (odd_priorities g) + 1 ≤ 4097 = omega (arith, odds, some, few, is.priorities, small) in
     omega (arith, bounded (size g) (length (odd_priorities g) + 1) small odd)
+
+pub graphs_fit : GraphsFit
+graphs_fit g p well closed is =
+    let small = graph_small MOST_NODES g p.negated p.formula (omega arith) well is closed in
+    has_room g (graph_is g p.negated p.formula is) small
 
 -- ---- positions
 

@@ -3,14 +3,16 @@
 --   satisfied_read  == the document with a structure is one of which `check-model` answers that its problem holds
 --   decided_are_checked == the law
 --   refuted_are_accepted == the document with a refutation is one that `check-refutation` accepts
-use Rattle.std.proofs.Common.{ℕ, List, sym, subst}
+--   decide_is_checked, valid_is_checked == the laws on the commands
+use Rattle.std.proofs.Common.{ℕ, List, refl, sym, subst}
 use Rattle.ml_base.specs.declared.version.Version.TheVariants.{Two}
 use Rattle.ml_model_check.specs.Checked.{IsDocument, Shows}
 use Rattle.ml_model_check.proofs.ReadBack.{documents_read_back}
-use Rattle.ml_driver.specs.Decision.{Satisfied}
+use Rattle.ml_driver.specs.Decision.{Refuted, Satisfied}
 use Rattle.ml_driver.specs.declared.cause.Cause.TheVariants.{Closure}
 use Rattle.ml_driver.specs.declared.question.Question.{Question}
-use Rattle.ml_driver.specs.Laws.{DecidedAreChecked, RefutedAreAccepted}
+use Rattle.ml_driver.specs.Laws.{DecidedAreChecked, DecideIsChecked, IsFoundAccepted, IsFoundToHold, RefutedAreAccepted, ValidIsChecked}
+use Rattle.ml_driver.specs.Run.{for_negation, plainly, IsWhole}
 use Rattle.ml_refute_check.specs.Documents.{IsDocument as IsDocumentWith}
 use Rattle.ml_driver.proofs.ProblemGraphs.{well_formed}
 use Rattle.ml_driver.proofs.RefutationDocuments.{refutation_read_back}
@@ -36,18 +38,53 @@ satisfied_read q text out x =
 pub decided_are_checked : DecidedAreChecked
 decided_are_checked q text out x = satisfied_read q text out x
 
+-- the document with a refutation shows it
+refutation_shown : (q : Question) (text out : List ℕ) (x : Refuted q text out)
+    → IsDocumentWith out Two x.problem x.refutation
+refutation_shown q text out x =
+    let well = well_formed text x.problem.formula x.is_problem.is_parsed in
+    let shown = refutation_read_back x.problem x.refutation well x.is_refutation in
+    subst (λ t. IsDocumentWith t Two x.problem x.refutation) (sym x.is_written) shown
+
 pub refuted_are_accepted : RefutedAreAccepted
 refuted_are_accepted q text out x =
-    let p = x.problem in
-    let r = x.refutation in
-    let shown = refutation_read_back p r (well_formed text p.formula x.is_problem.is_parsed) x.is_refutation in
     record {
       version = Two;
-      problem = p;
-      refutation = r;
-      is_document = subst (λ t. IsDocumentWith t Two p r) (sym x.is_written) shown;
+      problem = x.problem;
+      refutation = x.refutation;
+      is_document = refutation_shown q text out x;
       graph = x.graph;
       is_graph = x.is_graph;
       closed = x.is_closed Closure;
       is_accepted = x.is_accepted;
     }
+
+-- ---- what the commands answer
+
+found_to_hold : (q : Question) (text out : List ℕ) → IsWhole out → Satisfied q text out → IsFoundToHold out
+found_to_hold q text out whole x = (whole, (satisfied_read q text out x, refl))
+
+found_accepted : (q : Question) (text out : List ℕ) → IsWhole out → Refuted q text out → IsFoundAccepted out
+found_accepted q text out whole x =
+    let shown = refutation_shown q text out x in (
+      whole,
+      record {
+        is_accepted = refuted_are_accepted q text out x;
+        is_true = record {
+          version = Two;
+          problem = x.problem;
+          body = shown.body;
+          has_head = shown.has_head;
+          holds_nowhere = x.is_unsatisfiable;
+        };
+        is_written = refl;
+      },
+    )
+
+pub decide_is_checked : DecideIsChecked
+decide_is_checked l n text out whole =
+    (found_to_hold (plainly l n) text out whole, found_accepted (plainly l n) text out whole)
+
+pub valid_is_checked : ValidIsChecked
+valid_is_checked l n text out whole =
+    (found_accepted (for_negation l n) text out whole, found_to_hold (for_negation l n) text out whole)

@@ -11,19 +11,26 @@
 --   SomeGame         == the decision game of a graph has an arena with at most so many positions, or has more
 --   IsExact q p s    == the status s says of the problem p what is true of it
 --   AnswersAreExact  == each answer to a question is exact
---   DecidedAreChecked, RefutedAreAccepted == the documents that `decide` and `valid` write are found to be right by
---                       `check-model` and `check-refutation`
+--   DecidedAreChecked, RefutedAreAccepted == the documents that `decide` and `valid` write are right, of whatever length
+--   DecideIsChecked, ValidIsChecked == where they are no longer than documents that are read, `check-model` answers
+--                       `holds` of one with a structure, and `check-refutation` answers `accepted` of one with a refutation
+--   GraphsFit        == the trace automaton of the graph of a problem within the limits has at most 2^30 states
 use Rattle.std.specs.Prelude.{ℕ, ◌≡◌, ◌<◌, ◌≤◌, ◌^◌, ◌⊎◌, Bool, true, false, List, length, Option, Some}
 use Rattle.ml_gen.specs.Families.{is_in_range}
 use Rattle.ml_gen.specs.declared.family.Family.{Family}
 use Rattle.ml_graph.specs.Graph.{Graph, IsGraph}
 use Rattle.ml_product.specs.Arena.{Arena, IsArenaOf}
 use Rattle.ml_product.specs.DecisionGame.{HasMoreThan}
-use Rattle.ml_driver.specs.declared.command.Command.TheVariants.{Decide, Valid, Gen, Bench}
+use Rattle.ml_driver.specs.declared.command.Command.TheVariants.{Decide, Valid, CheckModel, CheckRefutation, Gen, Bench}
 use Rattle.ml_driver.specs.declared.command.Command.{Command}
 use Rattle.ml_model_check.specs.Checked.{Shows}
+use Rattle.ml_front.specs.Graphs.{HasLargeClosure, IsGraphOf}
+use Rattle.ml_front.specs.Logics.{IsWellFormed}
 use Rattle.ml_front.specs.Problems.{IsSatisfiable}
+use Rattle.ml_front.specs.declared.logic.Logic.{Logic}
 use Rattle.ml_front.specs.declared.problem.Problem.{Problem}
+use Rattle.ml_front.specs.declared.problem.TheConstants.{MOST_NODES}
+use Rattle.ml_product.specs.Position.{automaton_states}
 use Rattle.ml_refute_check.specs.Documents.{IsAcceptedDocument}
 use Rattle.ml_parity.specs.Game.{size}
 use Rattle.ml_parity.specs.Solution.{winner_at}
@@ -34,7 +41,8 @@ use Rattle.ml_driver.specs.declared.status.Status.TheVariants.{Yes, No, Undecide
 use Rattle.ml_driver.specs.Decision.{IsAnswered, IsClosed, IsProblem, Refuted, Satisfied, StaysOpen}
 use Rattle.ml_driver.specs.declared.question.Question.{Question}
 use Rattle.ml_driver.specs.declared.status.Status.{Status}
-use Rattle.ml_driver.specs.Run.{IsDue}
+use Rattle.ml_driver.specs.Run.{IsDue, IsWhole}
+use Rattle.ml_driver.specs.Statuses.{accepted_line, holds_line}
 use Rattle.ml_driver.specs.Words.{command_of}
 use Rattle.ml_lines.specs.Lines.{Word}
 
@@ -80,12 +88,36 @@ abbrev pub AnswersAreExact : Type 0
 AnswersAreExact = (q : Question) (text : List ℕ) (p : Problem) (s : Status) (out : List ℕ)
     → IsProblem q text p → IsAnswered q text s out → IsExact q p s
 
--- the document with a structure is one that `check-model` finds to hold, and the one with a refutation is accepted
+-- the document with a structure is one in which its problem holds, and the one with a refutation is accepted
 abbrev pub DecidedAreChecked : Type 0
 DecidedAreChecked = (q : Question) (text out : List ℕ) → Satisfied q text out → Shows out
 
 abbrev pub RefutedAreAccepted : Type 0
 RefutedAreAccepted = (q : Question) (text out : List ℕ) → Refuted q text out → IsAcceptedDocument out
+
+-- what the two commands that check answer of a document that is right
+abbrev pub IsFoundToHold : List ℕ → Type 0
+IsFoundToHold out = IsDue (Some CheckModel) out Yes holds_line
+
+abbrev pub IsFoundAccepted : List ℕ → Type 0
+IsFoundAccepted out = IsDue (Some CheckRefutation) out Yes accepted_line
+
+abbrev pub DecideIsChecked : Type 0
+DecideIsChecked = (l : Logic) (n : ℕ) (text out : List ℕ) → IsWhole out
+    → (IsDue (Some (Decide l n)) text Yes out → IsFoundToHold out)
+    × (IsDue (Some (Decide l n)) text No out → IsFoundAccepted out)
+
+abbrev pub ValidIsChecked : Type 0
+ValidIsChecked = (l : Logic) (n : ℕ) (text out : List ℕ) → IsWhole out
+    → (IsDue (Some (Valid l n)) text Yes out → IsFoundAccepted out)
+    × (IsDue (Some (Valid l n)) text No out → IsFoundToHold out)
+
+abbrev pub GraphsFit : Type 0
+GraphsFit = (g : Graph) (p : Problem)
+    → IsWellFormed p.formula
+    → ¬ (HasLargeClosure p MOST_NODES)
+    → IsGraphOf g p
+    → automaton_states g ≤ 2 ^ 30
 
 -- whichever engines solve the game of a text, it is one game with the same winners
 abbrev pub SameWinners : Type 0

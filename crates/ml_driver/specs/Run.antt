@@ -21,12 +21,12 @@
 --   IsCalm w                  == neither count of faults changed
 --   input_limit c             == the limit on the length of the input, where one is taken; words that are no command take
 --                                none
---   WasRead c w text          == the text was given for the command c: to its end, or past the limit on its length;
---                                nothing was, where no input is taken
+--   WasRead c w text          == the text was given for the command c: to its end, or one byte past the limit on its
+--                                length; nothing was, where no input is taken
 --   GaveAtMost c w            == no more than the limit of the command c was given; nothing was, where no input is taken
 --   IsWhole out               == out isn't longer than the documents that are read
 --   Ended c w status          == what is true when the call has answered this status
-use Rattle.std.specs.Prelude.{ℕ, ◌≡◌, ◌<◌, ◌≤◌, ◌⊎◌, true, false, List, [], length, Option, Some, None, IsSome, option_and_then}
+use Rattle.std.specs.Prelude.{ℕ, ◌≡◌, ◌+◌, ◌<◌, ◌≤◌, ◌⊎◌, true, false, List, [], length, Option, Some, None, IsSome, option_and_then}
 use Rattle.std.specs.Io.KnownBytes.{IsAtEnd, append_known, prepend_known}
 use Rattle.ml_base.specs.Faults.{Rose}
 use Rattle.ml_base.specs.Whole.{AppendsPart, Gives}
@@ -143,7 +143,8 @@ input_limit c = option_and_then longest_input c
 -- by the limit, and by what was left of the source before and after
 abbrev pub WasGiven : Option ℕ → Option (List ℕ) → Option (List ℕ) → List ℕ → Type 0
 WasGiven None before after text = (after ≡ before) × (text ≡ [])
-WasGiven (Some n) before after text = (before ≡ prepend_known text after) × (IsAtEnd after ⊎ (n < length text))
+WasGiven (Some n) before after text =
+    (before ≡ prepend_known text after) × (((length text ≤ n) × IsAtEnd after) ⊎ (length text ≡ n + 1))
 
 abbrev pub GaveUpTo : Option ℕ → Option (List ℕ) → Option (List ℕ) → Type 0
 GaveUpTo None before after = after ≡ before

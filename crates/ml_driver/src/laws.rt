@@ -1,7 +1,7 @@
 // What holds of what is due by its definition alone: the functions do nothing, their contracts are the theorems.
 ghost use Rattle.std.specs.Prelude.{◌≡◌, ◌+◌, ◌^◌};
-ghost use Rattle.ml_driver.specs.declared.command.TheConstants.{LONGEST_TEXT, LONGEST_DOCUMENT};
-ghost use Rattle.ml_driver.specs.Laws.{AnswersAreExact, DecidedAreChecked, OneDue, OneMeasure, RefutedAreAccepted, SameWinners, SomeDue, SomeDueForWords, SomeGame};
+ghost use Rattle.ml_driver.specs.declared.command.TheConstants.{DEFAULT_LIMIT, GREATEST_LIMIT, LONGEST_DOCUMENT, LONGEST_NUMBER, LONGEST_TEXT};
+ghost use Rattle.ml_driver.specs.Laws.{AnswersAreExact, DecidedAreChecked, DecideIsChecked, GraphsFit, OneDue, OneMeasure, RefutedAreAccepted, SameWinners, SomeDue, SomeDueForWords, SomeGame, ValidIsChecked};
 
 /// For each command, for words that are none, and for each input exactly one status is due: some status with some output, and
 /// no other status. Of the limit of a command only this is asked, that it fits 32 bits, as that of each `Command` does; and
@@ -20,17 +20,30 @@ pub fn answers_are_exact()
     ensures { AnswersAreExact }
 {}
 
-/// The documents that are due for `decide` and `valid` are found to be right: `check-model` answers of one with a structure
-/// that its problem holds, and `check-refutation` accepts one with a refutation.
+/// The documents that are due for `decide` and `valid` are right, of whatever length: one with a structure shows that its
+/// problem holds, and the refutation of one with a refutation is accepted. So where they are no longer than the documents
+/// that are read, `check-model` answers `holds`, and `check-refutation` answers `accepted`.
 pub fn decided_are_checked()
     ensures satisfied { DecidedAreChecked }
     ensures refuted { RefutedAreAccepted }
+    ensures decided { DecideIsChecked }
+    ensures valid { ValidIsChecked }
 {}
 
-/// The text of a formula has at most 1,048,576 bytes, a document at most 2^63 - 1.
+/// The text of a formula has at most 1,048,576 bytes, a document at most 2^63 - 1. A decision game may have 50,000
+/// positions where the words don't say, and 200,000 at most; a number has at most six digits.
 pub fn limits()
     ensures text { LONGEST_TEXT ≡ 1048576 }
     ensures document { LONGEST_DOCUMENT + 1 ≡ 2 ^ 63 }
+    ensures usual { DEFAULT_LIMIT ≡ 50000 }
+    ensures greatest { GREATEST_LIMIT ≡ 200000 }
+    ensures digits { LONGEST_NUMBER ≡ 6 }
+{}
+
+/// The graph of each formula within the limits is small enough to be explored, whose closure isn't too large where its
+/// logic has one: `fits` of `ml_product` is true of it.
+pub fn graphs_fit()
+    ensures { GraphsFit }
 {}
 
 /// The decision game of a graph, of whatever size, has at most so many positions, and then there is an arena of it; or it

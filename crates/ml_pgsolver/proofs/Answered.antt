@@ -4,23 +4,20 @@
 --   answered_refused  == a refusal on the way is right
 --   answered_game     == the game of the rows of a whole text is that of the text
 --   answered_unknown  == so is the refusal where some successor is no id
-use Rattle.std.proofs.Common.{◌≡◌, ℕ, ◌≤◌, List, [], length, map, Ok, Err, refl, sym, ◌∙◌, ap, subst}
+use Rattle.std.proofs.Common.{◌≡◌, ℕ, List, length, map, Ok, Err, refl, sym, ◌∙◌, ap, subst}
 use Rattle.std.specs.List.{flat_map}
 use Rattle.ml_lists.specs.Member.{IsMember}
 use Rattle.ml_pgsolver.specs.Tokens.{tokens, signs_of}
-use Rattle.ml_pgsolver.specs.Grammar.{vertices_of}
-use Rattle.ml_pgsolver.specs.GameText.{Row, NamedGame, IsGameOf, StandsFor, row_of}
-use Rattle.ml_pgsolver.specs.Refusals.{IsReadAs, IsRefusedBy, IsFirstUnknown, ids_of}
+use Rattle.ml_pgsolver.specs.GameText.{Row, NamedGame, IsGameOf}
+use Rattle.ml_pgsolver.specs.Refusals.{IsReadAs, IsRefusedBy, ids_of}
 use Rattle.ml_pgsolver.specs.declared.refusal.GameTextRefusal.{GameTextRefusal}
 use Rattle.ml_pgsolver.specs.declared.refusal.GameTextRefusal.TheVariants as refusal
 use Rattle.ml_pgsolver.specs.private.Assembled.{HasUnknownIn, unknown_from}
 use Rattle.ml_pgsolver.specs.private.Machine.{State, Step, start, outcome_from, IsTold}
 use Rattle.ml_pgsolver.specs.private.Signs.{signs_in, signs_from}
 use Rattle.ml_pgsolver.proofs.Ended.{Whole, whole, small_number, no_fault_of}
-use Rattle.ml_pgsolver.proofs.FirstUnknown.{Stranger, IsFirstStranger, Found, first_stranger, stranger_there}
-use Rattle.ml_pgsolver.proofs.Images.{image}
+use Rattle.ml_pgsolver.proofs.FirstUnknown.{first_stranger, stranger_there}
 use Rattle.ml_pgsolver.proofs.Outcomes.{Comes, RefusedIn, comes}
-use Rattle.ml_pgsolver.proofs.Trees.{Start}
 
 abbrev pub outcome_of : List ℕ → Step
 outcome_of text = outcome_from (length text) start (signs_from text 0)
@@ -39,7 +36,7 @@ answered_whole text s is =
     let done = subst (Comes (tokens text) (length text)) is (outcome_comes text) in
     subst (Whole (signs_of (tokens text))) (sym done.2) (whole (signs_of (tokens text)) done.0 done.1 done.3)
 
-refused_so : (text : List ℕ) (e : GameTextRefusal) → outcome_of text ≡ Err e → RefusedIn (tokens text) (length text) e
+pub refused_so : (text : List ℕ) (e : GameTextRefusal) → outcome_of text ≡ Err e → RefusedIn (tokens text) (length text) e
 refused_so text e is = subst (Comes (tokens text) (length text)) is (outcome_comes text)
 
 pub answered_refused : (text : List ℕ) (e : GameTextRefusal) → IsTold e (outcome_of text) → IsRefusedBy text e
@@ -67,11 +64,13 @@ answered_unknown text s w unknown =
     (w.successors_there ∙ ap (flat_map (λ (r : Row). r.successors)) (sym w.rows)) ids unknown in
     let found = first_stranger s.ids (length text) (tokens text) (small_number ts w.faultless) there in
     let f = found.1 in
-    let same : s.ids ≡ ids_of ts = w.ids ∙ sym w.ids_there in
-    (found.0, record {
-      faultless = no_fault_of ts w.draft w.spelled w.faultless;
-      comes = (f.before, f.token, f.there, (f.strange.0, f.strange.1, subst (λ xs. IsMember f.strange.0 xs → ⊥) same f.strange.2));
-      first = λ j other. f.first j other.0 other.1 other.2
-          (other.3.0, other.3.1, subst (λ xs. IsMember other.3.0 xs → ⊥) (sym same) other.3.2);
-    },
-    ap (unknown_from s.ids (length text) 0) (signs-all text) ∙ found.2)
+    let same : s.ids ≡ ids_of ts = w.ids ∙ sym w.ids_there in (
+      found.0,
+      record {
+        faultless = no_fault_of ts w.draft w.spelled w.faultless;
+        comes = (f.before, f.token, f.there, (f.strange.0, f.strange.1, subst (λ xs. IsMember f.strange.0 xs → ⊥) same f.strange.2));
+        first = λ j other. f.first j other.0 other.1 other.2
+            (other.3.0, other.3.1, subst (λ xs. IsMember other.3.0 xs → ⊥) (sym same) other.3.2);
+      },
+      ap (unknown_from s.ids (length text) 0) (signs-all text) ∙ found.2,
+    )

@@ -9,19 +9,18 @@ use Rattle.ml_lines.specs.Reading.{value}
 use Rattle.ml_lists.specs.Member.{IsMember}
 use Rattle.ml_parity.specs.declared.players.Player.{Player}
 use Rattle.ml_parity.specs.declared.players.Player.TheVariants.{Even, Odd}
-use Rattle.ml_pgsolver.specs.Tokens.{Token, Number, Name, Parity, Comma, Semicolon, Stray}
+use Rattle.ml_pgsolver.specs.Tokens.{Token, Number, Name, Parity, Comma, Semicolon}
 use Rattle.ml_pgsolver.specs.Grammar.{Vertex, owner_digits}
 use Rattle.ml_pgsolver.specs.GameText.{Row, row_of}
 use Rattle.ml_pgsolver.specs.Refusals.{greatest_number}
-use Rattle.ml_pgsolver.specs.declared.reader.Head.{Head}
 use Rattle.ml_pgsolver.specs.declared.reader.Stage.{Stage}
 use Rattle.ml_pgsolver.specs.declared.reader.Stage.TheVariants as stage
 use Rattle.ml_pgsolver.specs.declared.refusal.GameTextRefusal.TheVariants as refusal
-use Rattle.ml_pgsolver.specs.private.Machine.{State, Step, step, on_number, led, with_owner, closed}
-use Rattle.ml_pgsolver.specs.private.Signs.{owner_named, sign_of, numeral_of}
+use Rattle.ml_pgsolver.specs.private.Machine.{State, step, led, with_owner, closed}
+use Rattle.ml_pgsolver.specs.private.Signs.{owner_named, sign_of}
 use Rattle.ml_pgsolver.proofs.Trees.{Part, Id, Priority, Owner, First, Behind, Further, Close, Progress, Start, HeaderNumber, HeaderEnd, Body, Turn, More, Done, owned, owner_named-is, first_of, with_further, named, grow, grow_part, turned}
 use Rattle.ml_pgsolver.proofs.Roles.{rows_of, ids_in, successors_in, part_successors, id_here, successor_here, Roles, roles}
-use Rattle.ml_pgsolver.proofs.Images.{image, head_of, body_stage, Passes, Came, goes, TakesId, id_came, TakesSuccessor, successor_came, TakesNumber, number_came, plain, quiet}
+use Rattle.ml_pgsolver.proofs.Images.{image, head_of, body_stage, Came, goes, TakesId, id_came, successor_came, number_came, plain, quiet}
 
 abbrev pub AllSmall : Progress → Type 0
 AllSmall p = (n : ℕ) → IsMember n (ids_in p) → n ≤ greatest_number
@@ -180,9 +179,9 @@ done_came h vs Id (Number digits) v at is r = absurd (cc)
 done_came h vs (Priority id) (Number digits) v at is r = absurd (cc)
 done_came h vs (Owner id priority) (Number digits) v at is r = absurd (not_done (owner_named digits) is)
   where
-  not_done : (o : Option Player) → owned id priority o ≡ Some (Done v) → ⊥
-  not_done None so = cc
-  not_done (Some owner) so = cc
+    not_done : (o : Option Player) → owned id priority o ≡ Some (Done v) → ⊥
+    not_done None so = cc
+    not_done (Some owner) so = cc
 done_came h vs (First id priority owner) (Number digits) v at is r = absurd (cc)
 done_came h vs (Further w) (Number digits) v at is r = absurd (cc)
 done_came h vs part t v at is r = absurd (cc)

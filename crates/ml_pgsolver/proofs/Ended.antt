@@ -4,23 +4,22 @@
 --   whole            == what was read to its end is whole
 --   whole_readable   == its rows can be put in order
 --   small_number     == where no token is at fault, no number is too large
-use Rattle.std.proofs.Common.{◌≡◌, ℕ, ◌<◌, ◌≤◌, ◌⊎◌, ⊎_elim, List, [], ◌∷◌, ◌++◌, length, map, All, Option, Some, refl, sym, ◌∙◌, ap, subst, arith, inl, inr}
+use Rattle.std.proofs.Common.{◌≡◌, ℕ, ◌<◌, ◌≤◌, ⊎_elim, List, [], ◌∷◌, ◌++◌, length, map, Option, refl, sym, ◌∙◌, ap, subst, arith, inl, inr}
 use Rattle.std.specs.List.{flat_map}
 use Rattle.std.proofs.lemmas.Bool.{cases_lt}
 use Rattle.std.proofs.lemmas.List.{append-nil}
-use Rattle.std.proofs.lemmas.List.Elements.{All-map}
 use Rattle.ml_lines.specs.Reading.{value}
 use Rattle.ml_lists.specs.Member.{IsMember}
 use Rattle.ml_lists.specs.Times.{IsApart}
 use Rattle.ml_lists.proofs.Member.{member-append_right, member-flat_map, member-map_from, member-All}
 use Rattle.ml_pgsolver.specs.Tokens.{Token, Number}
-use Rattle.ml_pgsolver.specs.Grammar.{Vertex, Draft, vertices_of, vertex_tokens, header_tokens, draft_tokens, IsGameText}
+use Rattle.ml_pgsolver.specs.Grammar.{Vertex, Draft, vertices_of, vertex_tokens, header_tokens, draft_tokens}
 use Rattle.ml_pgsolver.specs.GameText.{Row, row_of}
-use Rattle.ml_pgsolver.specs.Refusals.{Cause, TooLarge, IsFaulty, IsFault, HasNoFault, ids_of, successors_among, greatest_number}
+use Rattle.ml_pgsolver.specs.Refusals.{Cause, TooLarge, IsFaulty, HasNoFault, ids_of, successors_among, greatest_number}
 use Rattle.ml_pgsolver.specs.declared.reader.Stage.TheVariants as stage
 use Rattle.ml_pgsolver.specs.private.Assembled.{IsReadable}
 use Rattle.ml_pgsolver.specs.private.Machine.{State}
-use Rattle.ml_pgsolver.proofs.Trees.{Progress, Start, HeaderNumber, HeaderEnd, Body, Part, Id, Priority, Owner, First, Behind, Further, Close}
+use Rattle.ml_pgsolver.proofs.Trees.{Progress, Start, HeaderNumber, HeaderEnd, Body, Id, Priority, Owner, First, Behind, Further, Close}
 use Rattle.ml_pgsolver.proofs.Viable.{ended-draft}
 use Rattle.ml_pgsolver.proofs.Roles.{rows_of}
 use Rattle.ml_pgsolver.proofs.Images.{image, stage_of}

@@ -3,7 +3,7 @@
 --   front_token-within == the token at the front has a byte, and stands within the text
 --   no_sign_left       == where only blanks are left there is no token
 --   FirstSign          == the first token behind some blanks, and the others
-use Rattle.std.proofs.Common.{◌≡◌, ℕ, zero, suc, ◌+◌, ◌-◌, ◌<◌, ◌≤◌, Bool, true, false, List, [], ◌∷◌, length, take, drop, get_or, map, refl, sym, ◌∙◌, ap, subst, arith, ◌==◌, nat_eq, length-drop, length-append, drop-drop, get_or-drop, codes}
+use Rattle.std.proofs.Common.{◌≡◌, ℕ, zero, suc, ◌+◌, ◌-◌, ◌<◌, ◌≤◌, Bool, true, false, List, [], ◌∷◌, length, take, drop, get_or, refl, sym, ◌∙◌, ap, arith, ◌==◌, nat_eq, length-drop, length-append, drop-drop, get_or-drop, codes}
 use Rattle.std.proofs.lemmas.Bool.{cond-true, cond-false, cond_both}
 use Rattle.std.proofs.lemmas.List.{drop_more, drop_all}
 use Rattle.std.proofs.lemmas.List.Sums.{prefix_len-le-length, prefix_len_stops}
@@ -36,8 +36,10 @@ front_token-within b rest =
     let P : Token → Type 0 = λ t. IsWithin (length (spelling t)) (suc (length rest)) in
     let one : (t : Token) → length (spelling t) ≡ 1 → P t = λ t is. record { some = omega arith; fits = omega arith } in
     cond_both (is_digit b) _ _ P
-    (λ digit. record { some = omega arith;
-    fits = omega (arith, prefix_len-le-length is_digit rest, length-prefix_len is_digit rest) })
+    (λ digit. record {
+      some = omega arith;
+      fits = omega (arith, prefix_len-le-length is_digit rest, length-prefix_len is_digit rest);
+    })
     (λ other. cond_both (b == 34) _ _ P (λ quote. quoted-within rest)
     (λ other. cond_both (b == 44) _ _ P (λ comma. one token.Comma refl)
     (λ other. cond_both (b == 59) _ _ P (λ semicolon. one token.Semicolon refl)
@@ -74,20 +76,20 @@ blanks : (i : ℕ) (xs : List ℕ)
 blanks i [] = let e : i ≡ i + 0 = omega arith in ap (λ j. tokens_at 0 j []) e
 blanks i (b ∷ rest) = by_blank (is_blank b) refl (blanks (i + 1) rest)
   where
-  by_blank : (test : Bool) → is_blank b ≡ test
-      → tokens_at 0 (i + 1) rest ≡ tokens_at 0 (i + 1 + prefix_len is_blank rest) (drop (prefix_len is_blank rest) rest)
-      → tokens_at 0 i (b ∷ rest)
-      ≡ tokens_at 0 (i + prefix_len is_blank (b ∷ rest)) (drop (prefix_len is_blank (b ∷ rest)) (b ∷ rest))
-  by_blank true is more =
-      let n = prefix_len is_blank rest in
-      let long : prefix_len is_blank (b ∷ rest) ≡ suc n = cond-true _ _ _ is ∙ omega arith in
-      let e : i + 1 + n ≡ i + suc n = omega arith in
-      tokens_at-blank i b rest is ∙ more ∙ ap (λ j. tokens_at 0 j (drop n rest)) e
-      ∙ ap (λ k. tokens_at 0 (i + k) (drop k (b ∷ rest))) (sym long)
-  by_blank false is more =
-      let none : prefix_len is_blank (b ∷ rest) ≡ 0 = cond-false _ _ _ is in
-      let e : i ≡ i + 0 = omega arith in
-      ap (λ j. tokens_at 0 j (b ∷ rest)) e ∙ ap (λ k. tokens_at 0 (i + k) (drop k (b ∷ rest))) (sym none)
+    by_blank : (test : Bool) → is_blank b ≡ test
+        → tokens_at 0 (i + 1) rest ≡ tokens_at 0 (i + 1 + prefix_len is_blank rest) (drop (prefix_len is_blank rest) rest)
+        → tokens_at 0 i (b ∷ rest)
+        ≡ tokens_at 0 (i + prefix_len is_blank (b ∷ rest)) (drop (prefix_len is_blank (b ∷ rest)) (b ∷ rest))
+    by_blank true is more =
+        let n = prefix_len is_blank rest in
+        let long : prefix_len is_blank (b ∷ rest) ≡ suc n = cond-true _ _ _ is ∙ omega arith in
+        let e : i + 1 + n ≡ i + suc n = omega arith in
+        tokens_at-blank i b rest is ∙ more ∙ ap (λ j. tokens_at 0 j (drop n rest)) e
+        ∙ ap (λ k. tokens_at 0 (i + k) (drop k (b ∷ rest))) (sym long)
+    by_blank false is more =
+        let none : prefix_len is_blank (b ∷ rest) ≡ 0 = cond-false _ _ _ is in
+        let e : i ≡ i + 0 = omega arith in
+        ap (λ j. tokens_at 0 j (b ∷ rest)) e ∙ ap (λ k. tokens_at 0 (i + k) (drop k (b ∷ rest))) (sym none)
 
 -- n blanks at the byte i of a text, as many as stand there
 record Skipped (text : List ℕ) (i n : ℕ) : Type 0 where

@@ -3,17 +3,16 @@
 --   IsStranger ids b t   == behind these tokens, t is a successor and none of the ids
 --   first_stranger       == where there is one, the first is found
 --   stranger_there       == a successor of a row that is none of the ids stands somewhere
-use Rattle.std.proofs.Common.{◌≡◌, ℕ, ◌+◌, ◌<◌, ◌≤◌, ◌⊎◌, ⊎_elim, Bool, true, false, not, ◌&&◌, List, [], ◌∷◌, ◌++◌, length, map, Option, Some, None, refl, sym, ◌∙◌, ap, subst, arith, inl, inr, nat_le, length-append}
+use Rattle.std.proofs.Common.{◌≡◌, ℕ, ◌<◌, ◌≤◌, ◌⊎◌, Bool, true, false, not, ◌&&◌, List, [], ◌∷◌, ◌++◌, length, Some, None, refl, sym, ◌∙◌, ap, subst, arith, inl, inr, nat_le, length-append}
 use Rattle.std.specs.List.{flat_map}
-use Rattle.std.proofs.lemmas.Bool.{cond-true, cond-false, cases_lt}
-use Rattle.std.proofs.lemmas.Bool.Decides.{nat_tests}
+use Rattle.std.proofs.lemmas.Bool.{cond-true, cond-false}
 use Rattle.std.proofs.lemmas.List.{append_assoc, append-nil}
 use Rattle.ml_lines.specs.Reading.{value}
 use Rattle.ml_lists.specs.Member.{IsMember}
-use Rattle.ml_lists.proofs.Member.{member-append, member-append_right, member-flat_map}
+use Rattle.ml_lists.proofs.Member.{member-append, member-flat_map}
 use Rattle.ml_pgsolver.specs.Tokens.{Token, Number, Name, Parity, Comma, Semicolon, Stray, Placed, signs_of}
 use Rattle.ml_pgsolver.specs.GameText.{Row}
-use Rattle.ml_pgsolver.specs.Refusals.{next_place, place_from, place_behind, roles_from, successor_at_place, IsSuccessor, IsAt, IsUnknown, IsFirstUnknown, HasNoFault, ids_of, successors_among, offset_of, greatest_number}
+use Rattle.ml_pgsolver.specs.Refusals.{next_place, place_from, place_behind, roles_from, successor_at_place, IsSuccessor, IsAt, successors_among, offset_of, greatest_number}
 use Rattle.ml_pgsolver.specs.private.Assembled.{HasUnknownIn, is_unknown, is_unknown_value, sign_place, unknown_from}
 use Rattle.ml_pgsolver.specs.private.Machine.{is_among}
 use Rattle.ml_pgsolver.specs.private.Signs.{fitting, sign_of, signs_in}
@@ -21,7 +20,6 @@ use Rattle.ml_pgsolver.proofs.Splits.{Splits, before, same, behind, splits, last
 use Rattle.ml_pgsolver.proofs.Images.{fitting-cases, among-cases}
 use Rattle.ml_pgsolver.proofs.Readings.{place-more}
 use Rattle.ml_pgsolver.proofs.Outcomes.{offset-behind, signs-length, signs-cut}
-use Rattle.ml_pgsolver.proofs.Ended.{Cut, member_cut}
 
 abbrev pub IsStranger : List ℕ → List Token → Token → Type 0
 IsStranger ids b t = (n : ℕ) × IsSuccessor b t n × (IsMember n ids → ⊥)
@@ -44,16 +42,16 @@ number_passes ids n digits small true false is_late is_early passes = absurd (cc
 number_passes ids n digits small true true is_late is_early passes =
     (cond-true _ _ _ is_late, by (fitting-cases (value digits)) (among-cases ids (value digits)))
   where
-  by : ((fitting (value digits) ≡ Some (value digits)) × (value digits ≤ greatest_number))
-      ⊎ ((fitting (value digits) ≡ None) × (greatest_number < value digits))
-      → ((is_among ids (value digits) ≡ true) × IsMember (value digits) ids)
-      ⊎ ((is_among ids (value digits) ≡ false) × (IsMember (value digits) ids → ⊥))
-      → IsMember (value digits) ids
-      → ⊥
-  by (inr (none, large)) among = absurd (omega arith)
-  by (inl (fits, small)) (inr (new, fresh)) = fresh
-  by (inl (fits, small)) (inl (old, member)) =
-      let e : is_unknown_value ids (fitting (value digits)) ≡ not true = ap (is_unknown_value ids) fits ∙ ap not old in absurd (cc)
+    by : ((fitting (value digits) ≡ Some (value digits)) × (value digits ≤ greatest_number))
+        ⊎ ((fitting (value digits) ≡ None) × (greatest_number < value digits))
+        → ((is_among ids (value digits) ≡ true) × IsMember (value digits) ids)
+        ⊎ ((is_among ids (value digits) ≡ false) × (IsMember (value digits) ids → ⊥))
+        → IsMember (value digits) ids
+        → ⊥
+    by (inr (none, large)) among = absurd (omega arith)
+    by (inl (fits, small)) (inr (new, fresh)) = fresh
+    by (inl (fits, small)) (inl (old, member)) =
+        let e : is_unknown_value ids (fitting (value digits)) ≡ not true = ap (is_unknown_value ids) fits ∙ ap not old in absurd (cc)
 
 number_fails : (ids : List ℕ) (n : ℕ) (digits : List ℕ) → value digits ≤ greatest_number
     → (late early : Bool) → nat_le 3 n ≡ late → is_unknown_value ids (fitting (value digits)) ≡ early
@@ -67,17 +65,17 @@ number_fails ids n digits small true true is_late is_early fails m role none = c
 number_fails ids n digits small true false is_late is_early fails m role none =
     by (fitting-cases (value digits)) (among-cases ids (value digits))
   where
-  by : ((fitting (value digits) ≡ Some (value digits)) × (value digits ≤ greatest_number))
-      ⊎ ((fitting (value digits) ≡ None) × (greatest_number < value digits))
-      → ((is_among ids (value digits) ≡ true) × IsMember (value digits) ids)
-      ⊎ ((is_among ids (value digits) ≡ false) × (IsMember (value digits) ids → ⊥))
-      → ⊥
-  by (inr (no_value, large)) among = omega arith
-  by (inl (fits, small)) (inl (old, member)) =
-      let e : successor_at_place n (Number digits) ≡ value digits ∷ [] = cond-true _ _ _ is_late in
-      let is : value digits ≡ m = cc in none (subst (λ k. IsMember k ids) is member)
-  by (inl (fits, small)) (inr (new, fresh)) =
-      let e : is_unknown_value ids (fitting (value digits)) ≡ not false = ap (is_unknown_value ids) fits ∙ ap not new in cc
+    by : ((fitting (value digits) ≡ Some (value digits)) × (value digits ≤ greatest_number))
+        ⊎ ((fitting (value digits) ≡ None) × (greatest_number < value digits))
+        → ((is_among ids (value digits) ≡ true) × IsMember (value digits) ids)
+        ⊎ ((is_among ids (value digits) ≡ false) × (IsMember (value digits) ids → ⊥))
+        → ⊥
+    by (inr (no_value, large)) among = omega arith
+    by (inl (fits, small)) (inl (old, member)) =
+        let e : successor_at_place n (Number digits) ≡ value digits ∷ [] = cond-true _ _ _ is_late in
+        let is : value digits ≡ m = cc in none (subst (λ k. IsMember k ids) is member)
+    by (inl (fits, small)) (inr (new, fresh)) =
+        let e : is_unknown_value ids (fitting (value digits)) ≡ not false = ap (is_unknown_value ids) fits ∙ ap not new in cc
 
 abbrev AreSmall : Token → Type 0
 AreSmall t = (digits : List ℕ) → t ≡ Number digits → value digits ≤ greatest_number
@@ -133,10 +131,10 @@ none-more : (ids : List ℕ) (front : List Token) (t : Token) → HasNone ids fr
     → HasNone ids (front ++ t ∷ [])
 none-more ids front t none known b u rest is strange = by (last_split t u front b rest is)
   where
-  by : ((front ≡ b) × (t ≡ u)) ⊎ ((ws : List Token) × (front ≡ b ++ u ∷ ws)) → ⊥
-  by (inl (is_front, is_token)) =
-      known (subst (IsStranger ids front) (sym is_token) (subst (λ xs. IsStranger ids xs u) (sym is_front) strange))
-  by (inr (ws, earlier)) = none b u ws earlier strange
+    by : ((front ≡ b) × (t ≡ u)) ⊎ ((ws : List Token) × (front ≡ b ++ u ∷ ws)) → ⊥
+    by (inl (is_front, is_token)) =
+        known (subst (IsStranger ids front) (sym is_token) (subst (λ xs. IsStranger ids xs u) (sym is_front) strange))
+    by (inr (ws, earlier)) = none b u ws earlier strange
 
 abbrev pub Found : List ℕ → ℕ → List Placed → ℕ → Type 0
 Found ids end all at = (k : ℕ) × IsFirstStranger ids (signs_of all) k × (at ≡ offset_of end all k)
@@ -153,12 +151,12 @@ first_here ids front t rest none strange = record {
       (splits t.token u (signs_of front) (signs_of rest) b there.behind (sym (signs-cut front t rest) ∙ there.all));
 }
   where
-  by : (j : ℕ) (b : List Token) (u : Token) (there : IsAt (signs_of (front ++ t ∷ rest)) j b u) → IsStranger ids b u
-      → Splits t.token (signs_of front) (signs_of rest) u b there.behind
-      → length (signs_of front) ≤ j
-  by j b u there odd (before ws is) = omega (arith, there.number, ap length is, length-append (signs_of front) (t.token ∷ ws))
-  by j b u there odd (same is_front is_token is_rest) = omega (arith, there.number, ap length is_front)
-  by j b u there odd (behind ws is) = absurd (none b u ws is odd)
+    by : (j : ℕ) (b : List Token) (u : Token) (there : IsAt (signs_of (front ++ t ∷ rest)) j b u) → IsStranger ids b u
+        → Splits t.token (signs_of front) (signs_of rest) u b there.behind
+        → length (signs_of front) ≤ j
+    by j b u there odd (before ws is) = omega (arith, there.number, ap length is, length-append (signs_of front) (t.token ∷ ws))
+    by j b u there odd (same is_front is_token is_rest) = omega (arith, there.number, ap length is_front)
+    by j b u there odd (behind ws is) = absurd (none b u ws is odd)
 
 scan_token : (ids : List ℕ) (end : ℕ) (front : List Placed) (t : Placed) (rest : List Placed) (n : ℕ)
     → n ≡ place_behind (signs_of front)
@@ -170,9 +168,11 @@ scan_token : (ids : List ℕ) (end : ℕ) (front : List Placed) (t : Placed) (re
     → Found ids end (front ++ t ∷ rest) (unknown_from ids end n (signs_in (t ∷ rest)))
 unfolding unknown_from
 scan_token ids end front t rest n place none small on true is =
-    let strange = passes_is ids (signs_of front) t.token small (ap (λ m. test ids m t.token) (sym place) ∙ is) in
-    (length (signs_of front), first_here ids front t rest none strange,
-    cond-true _ _ _ is ∙ sym (ap (offset_of end (front ++ t ∷ rest)) (signs-length front) ∙ offset-behind end front t rest))
+    let strange = passes_is ids (signs_of front) t.token small (ap (λ m. test ids m t.token) (sym place) ∙ is) in (
+      length (signs_of front),
+      first_here ids front t rest none strange,
+      cond-true _ _ _ is ∙ sym (ap (offset_of end (front ++ t ∷ rest)) (signs-length front) ∙ offset-behind end front t rest),
+    )
 scan_token ids end front t rest n place none small on false is =
     let known = fails_is ids (signs_of front) t.token small (ap (λ m. test ids m t.token) (sym place) ∙ is) in
     let further = on (subst (HasNone ids) (sym (signs-cut front t [])) (none-more ids (signs_of front) t.token none known)) in
@@ -224,24 +224,24 @@ role_there role n m [] member = absurd member
 role_there role n m (t ∷ ts) member =
     by (member-append m (role n t) (roles_from role (next_place n t) ts) member) (role_there role (next_place n t) m ts)
   where
-  by : IsMember m (role n t) ⊎ IsMember m (roles_from role (next_place n t) ts)
-      → (IsMember m (roles_from role (next_place n t) ts) → RoleThere role (next_place n t) m ts)
-      → RoleThere role n m (t ∷ ts)
-  by (inl here) later = record { front = []; token = t; rest = ts; all = refl; inside = here }
-  by (inr member) later =
-      let r = later member in
-      record { front = t ∷ r.front; token = r.token; rest = r.rest; all = ap (λ us. t ∷ us) r.all; inside = r.inside }
+    by : IsMember m (role n t) ⊎ IsMember m (roles_from role (next_place n t) ts)
+        → (IsMember m (roles_from role (next_place n t) ts) → RoleThere role (next_place n t) m ts)
+        → RoleThere role n m (t ∷ ts)
+    by (inl here) later = record { front = []; token = t; rest = ts; all = refl; inside = here }
+    by (inr member) later =
+        let r = later member in
+        record { front = t ∷ r.front; token = r.token; rest = r.rest; all = ap (λ us. t ∷ us) r.all; inside = r.inside }
 
 one_successor : (n : ℕ) (t : Token) (m : ℕ) → IsMember m (successor_at_place n t) → successor_at_place n t ≡ m ∷ []
 one_successor n (Number digits) m member = by (nat_le 3 n) refl
   where
-  by : (b : Bool) → nat_le 3 n ≡ b → successor_at_place n (Number digits) ≡ m ∷ []
-  by true is = one (subst (IsMember m) (cond-true _ _ _ is) member)
-    where
-    one : IsMember m (value digits ∷ []) → successor_at_place n (Number digits) ≡ m ∷ []
-    one (inl e) = cond-true _ _ _ is ∙ ap (λ k. k ∷ []) (sym e)
-    one (inr none) = absurd none
-  by false is = absurd (subst (IsMember m) (cond-false _ _ _ is) member)
+    by : (b : Bool) → nat_le 3 n ≡ b → successor_at_place n (Number digits) ≡ m ∷ []
+    by true is = one (subst (IsMember m) (cond-true _ _ _ is) member)
+      where
+        one : IsMember m (value digits ∷ []) → successor_at_place n (Number digits) ≡ m ∷ []
+        one (inl e) = cond-true _ _ _ is ∙ ap (λ k. k ∷ []) (sym e)
+        one (inr none) = absurd none
+    by false is = absurd (subst (IsMember m) (cond-false _ _ _ is) member)
 one_successor n (Name inner) m member = absurd member
 one_successor n Parity m member = absurd member
 one_successor n Comma m member = absurd member

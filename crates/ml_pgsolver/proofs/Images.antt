@@ -4,27 +4,24 @@
 --   Passes p t        == the token t keeps the limits, and repeats no id
 --   Came p t q at out == what the reader makes of a token with which q is read
 --   id_came, successor_came, number_came, quiet  == of an id, of a successor, of another number, of another token
-use Rattle.std.proofs.Common.{◌≡◌, ℕ, ◌+◌, ◌<◌, ◌≤◌, ◌⊎◌, Bool, true, false, List, [], ◌∷◌, ◌++◌, length, map, Option, Some, None, Ok, Err, refl, sym, ◌∙◌, ap, subst, arith, nat_le, nat_eq, if◌then◌else◌, cond, inl, inr, length-append, add-one}
-use Rattle.std.specs.List.{flat_map}
-use Rattle.std.proofs.lemmas.List.{append-nil, append_assoc, map-append}
+use Rattle.std.proofs.Common.{◌≡◌, ℕ, ◌+◌, ◌<◌, ◌≤◌, ◌⊎◌, Bool, true, false, List, [], ◌∷◌, ◌++◌, length, Some, None, Ok, Err, refl, sym, ◌∙◌, ap, subst, arith, nat_le, nat_eq, inl, inr}
 use Rattle.std.proofs.lemmas.Bool.{cond-true, cond-false, eqb-true, eq-eqb}
 use Rattle.std.proofs.lemmas.Bool.Decides.{nat_tests}
 use Rattle.ml_lines.specs.Reading.{value}
 use Rattle.ml_lists.specs.Member.{IsMember}
 use Rattle.ml_lists.proofs.Member.{list_any-member, member-list_any}
-use Rattle.ml_parity.specs.declared.players.Player.{Player}
-use Rattle.ml_pgsolver.specs.Tokens.{Token, Number, Name, Parity, Comma, Semicolon, Stray}
-use Rattle.ml_pgsolver.specs.Grammar.{Vertex, owner_digits}
-use Rattle.ml_pgsolver.specs.GameText.{Row, row_of}
+use Rattle.ml_pgsolver.specs.Tokens.{Token, Number}
+use Rattle.ml_pgsolver.specs.Grammar.{Vertex}
+use Rattle.ml_pgsolver.specs.GameText.{Row}
 use Rattle.ml_pgsolver.specs.Refusals.{most_vertices, most_successors, greatest_number}
 use Rattle.ml_pgsolver.specs.declared.reader.Head.{Head}
 use Rattle.ml_pgsolver.specs.declared.reader.Stage.{Stage}
 use Rattle.ml_pgsolver.specs.declared.reader.Stage.TheVariants as stage
 use Rattle.ml_pgsolver.specs.declared.refusal.GameTextRefusal.TheVariants as refusal
-use Rattle.ml_pgsolver.specs.private.Machine.{State, Step, start, step, is_among, with_id, with_successor, with_number, with_owner, led, closed}
-use Rattle.ml_pgsolver.specs.private.Signs.{fitting, owner_named, sign_of}
-use Rattle.ml_pgsolver.proofs.Trees.{Part, Id, Priority, Owner, First, Behind, Further, Close, Progress, Start, HeaderNumber, HeaderEnd, Body, Turn, More, Done, owned, owner_named-is, first_of, with_further, named, grow, grow_part, turned}
-use Rattle.ml_pgsolver.proofs.Roles.{rows_of, ids_in, successors_in, part_ids, part_successors, id_here, successor_here, roles}
+use Rattle.ml_pgsolver.specs.private.Machine.{State, Step, is_among, with_id, with_successor, with_number, led}
+use Rattle.ml_pgsolver.specs.private.Signs.{fitting}
+use Rattle.ml_pgsolver.proofs.Trees.{Part, Id, Priority, Owner, First, Behind, Further, Close, Progress, Start, HeaderNumber, HeaderEnd, Body}
+use Rattle.ml_pgsolver.proofs.Roles.{rows_of, ids_in, successors_in, part_successors, id_here, successor_here}
 
 abbrev pub head_of : Vertex → Head
 head_of v = record { id = value v.id; priority = value v.priority; owner = v.owner }
@@ -90,28 +87,28 @@ pub data Came (p : Progress) (t : Token) (q : Progress) (at : ℕ) (out : Step) 
 pub fitting-cases : (n : ℕ) → ((fitting n ≡ Some n) × (n ≤ greatest_number)) ⊎ ((fitting n ≡ None) × (greatest_number < n))
 fitting-cases n = by_test (nat_le n greatest_number) refl
   where
-  by_test : (b : Bool) → nat_le n greatest_number ≡ b
-      → ((fitting n ≡ Some n) × (n ≤ greatest_number)) ⊎ ((fitting n ≡ None) × (greatest_number < n))
-  by_test true is = inl (cond-true _ _ _ is, grind (arith, nat_tests))
-  by_test false is = inr (cond-false _ _ _ is, grind (arith, nat_tests))
+    by_test : (b : Bool) → nat_le n greatest_number ≡ b
+        → ((fitting n ≡ Some n) × (n ≤ greatest_number)) ⊎ ((fitting n ≡ None) × (greatest_number < n))
+    by_test true is = inl (cond-true _ _ _ is, grind (arith, nat_tests))
+    by_test false is = inr (cond-false _ _ _ is, grind (arith, nat_tests))
 
 full-cases : (m n : ℕ) → ((nat_le m n ≡ true) × (m ≤ n)) ⊎ ((nat_le m n ≡ false) × (n < m))
 full-cases m n = by_test (nat_le m n) refl
   where
-  by_test : (b : Bool) → nat_le m n ≡ b → ((nat_le m n ≡ true) × (m ≤ n)) ⊎ ((nat_le m n ≡ false) × (n < m))
-  by_test true is = inl (is, grind (arith, nat_tests))
-  by_test false is = inr (is, grind (arith, nat_tests))
+    by_test : (b : Bool) → nat_le m n ≡ b → ((nat_le m n ≡ true) × (m ≤ n)) ⊎ ((nat_le m n ≡ false) × (n < m))
+    by_test true is = inl (is, grind (arith, nat_tests))
+    by_test false is = inr (is, grind (arith, nat_tests))
 
 pub among-cases : (ids : List ℕ) (n : ℕ)
     → ((is_among ids n ≡ true) × IsMember n ids) ⊎ ((is_among ids n ≡ false) × (IsMember n ids → ⊥))
 among-cases ids n = by_test (is_among ids n) refl
   where
-  by_test : (b : Bool) → is_among ids n ≡ b
-      → ((is_among ids n ≡ true) × IsMember n ids) ⊎ ((is_among ids n ≡ false) × (IsMember n ids → ⊥))
-  by_test true is =
-      let found = list_any-member (nat_eq n) ids is in
-      inl (is, subst (λ m. IsMember m ids) (sym (eqb-true n found.item found.passes)) found.member)
-  by_test false is = inr (is, λ m. let found = member-list_any (nat_eq n) n ids m (eq-eqb n n refl) in absurd (cc))
+    by_test : (b : Bool) → is_among ids n ≡ b
+        → ((is_among ids n ≡ true) × IsMember n ids) ⊎ ((is_among ids n ≡ false) × (IsMember n ids → ⊥))
+    by_test true is =
+        let found = list_any-member (nat_eq n) ids is in
+        inl (is, subst (λ m. IsMember m ids) (sym (eqb-true n found.item found.passes)) found.member)
+    by_test false is = inr (is, λ m. let found = member-list_any (nat_eq n) n ids m (eq-eqb n n refl) in absurd (cc))
 
 -- ---- an id
 

@@ -3,13 +3,12 @@
 --   times-permuted, apart-permuted  == a list in another order has each number as often
 --   ascending_rows   == rows that don't fall by their ids, of which none comes twice, ascend
 --   all_view, all_from_view, map-view  == rows that a program holds, and what they hold
-use Rattle.std.proofs.Common.{◌≡◌, ℕ, zero, suc, ◌+◌, ◌<◌, ◌≤◌, List, [], ◌∷◌, length, map, get_or, All, refl, sym, ◌∙◌, ap, subst, arith, ⊎_elim, ◌⊎◌}
+use Rattle.std.proofs.Common.{◌≡◌, ℕ, suc, ◌+◌, ◌<◌, ◌≤◌, List, [], ◌∷◌, map, get_or, All, refl, sym, ◌∙◌, ap, subst, arith, ⊎_elim}
 use Rattle.std.proofs.lemmas.Bool.{cases_eq}
 use Rattle.std.specs.List.{sum_by}
 use Rattle.std.specs.List.Sorted.{IsPermutation, IsNonDecreasingBy}
 use Rattle.std.proofs.lemmas.List.Sums.{sum_by-cons}
 use Rattle.std.proofs.lemmas.List.Sorted.{sum_by-IsPermutation, IsPermutation-sym}
-use Rattle.std.proofs.lemmas.Simd.{map-map}
 use Rattle.ml_lists.specs.Ascending.{IsAscending}
 use Rattle.ml_lists.specs.Member.{IsMember}
 use Rattle.ml_lists.specs.Times.{IsApart, times, once_for}
@@ -35,16 +34,16 @@ ascending_rows id [] rise apart = tt
 ascending_rows {R} id (r ∷ rows) rise apart =
     (above, ascending_rows id rows (λ i j d order below. rise (suc i) (suc j) d (omega arith) (omega arith)) apart.1)
   where
-  above : (y : ℕ) → IsMember y (map id rows) → id r < y
-  above y member =
-      let from = member-map_from id y rows member in
-      let place = member-place from.from rows from.member in
-      let low : id r ≤ id (get_or rows place.place r) = rise 0 (suc place.place) r (omega arith) (omega (arith, place.below)) in
-      let there = ap id (place.holds r) in
-      let is = from.holds in
-      ⊎_elim (λ (e : id r ≡ y). absurd (apart.0 (subst (λ n. IsMember n (map id rows)) (sym e) member)))
-      (λ (ne : id r ≡ y → ⊥). omega arith)
-      (cases_eq (id r) y)
+    above : (y : ℕ) → IsMember y (map id rows) → id r < y
+    above y member =
+        let from = member-map_from id y rows member in
+        let place = member-place from.from rows from.member in
+        let low : id r ≤ id (get_or rows place.place r) = rise 0 (suc place.place) r (omega arith) (omega (arith, place.below)) in
+        let there = ap id (place.holds r) in
+        let is = from.holds in
+        ⊎_elim (λ (e : id r ≡ y). absurd (apart.0 (subst (λ n. IsMember n (map id rows)) (sym e) member)))
+        (λ (ne : id r ≡ y → ⊥). omega arith)
+        (cases_eq (id r) y)
 
 pub all_permuted : {R : Type 0} (P : R → Type 0) (xs ys : List R) → IsPermutation xs ys → All P xs → All P ys
 all_permuted P xs ys perm all = member-All P ys (λ x member.

@@ -38,5 +38,11 @@ mod Answered
 mod UnknownSteps
 -- the lines of a solution
 mod WrittenLines
+-- rows are those of one game
+mod OneGame
+-- each text has one answer
+pub mod OneAnswers
+-- each text has an answer
+pub mod SomeAnswers
 -- one step of the reader
 mod Steps

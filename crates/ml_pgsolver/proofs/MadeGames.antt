@@ -2,20 +2,19 @@
 --
 --   made           == what is made of such rows is their game
 --   unknown_before == a successor that is no id of rows in another order is none
-use Rattle.std.proofs.Common.{◌≡◌, ℕ, ◌+◌, ◌-◌, ◌<◌, ◌≤◌, ◌⊎◌, ⊎_elim, List, [], ◌∷◌, length, map, get_or, All, Contains, refl, sym, ◌∙◌, ap, subst, arith}
+use Rattle.std.proofs.Common.{◌≡◌, ℕ, ◌-◌, ◌<◌, ◌≤◌, ⊎_elim, List, [], length, map, get_or, All, Contains, sym, ◌∙◌, ap, subst, arith}
 use Rattle.std.specs.List.Sorted.{IsPermutation}
 use Rattle.std.proofs.lemmas.Bool.{cases_lt}
 use Rattle.std.proofs.lemmas.List.{length-map, get_or-map, get_or_past}
 use Rattle.std.proofs.lemmas.List.Elements.{All-contains, All-map}
-use Rattle.std.proofs.lemmas.List.Sorted.{IsPermutation-sym, IsPermutation-map}
+use Rattle.std.proofs.lemmas.List.Sorted.{IsPermutation-sym}
 use Rattle.ml_lists.specs.Ascending.{IsAscending}
-use Rattle.ml_lists.specs.Member.{IsMember}
 use Rattle.ml_lists.proofs.Member.{place-member, All-member}
 use Rattle.ml_lists.proofs.Members.{contains_none}
 use Rattle.ml_lists.proofs.Permuted.{permuted-member}
 use Rattle.ml_parity.specs.declared.players.Player.{Player}
-use Rattle.ml_parity.specs.Game.{ParityGame, IsGame, size, moves_of}
-use Rattle.ml_pgsolver.specs.GameText.{Row, NamedGame, HasIds, IsNamed, IsGameOf, IsLeastEvenFrom, id_at}
+use Rattle.ml_parity.specs.Game.{ParityGame, IsGame, size}
+use Rattle.ml_pgsolver.specs.GameText.{Row, HasIds, IsGameOf, IsLeastEvenFrom, id_at}
 use Rattle.ml_pgsolver.specs.private.Assembled.{AreGiven, HasUnknownIn}
 
 module _ (order : List Row) (ids : List ℕ) (owners : List Player) (priorities : List ℕ) (given : List (List ℕ)) (P : ℕ)
@@ -87,6 +86,8 @@ module _ (order : List Row) (ids : List ℕ) (owners : List Player) (priorities 
 pub unknown_before : (rows order : List Row) (ids before : List ℕ) → IsPermutation rows order → IsPermutation before ids
     → HasUnknownIn ids order
     → HasUnknownIn before rows
-unknown_before rows order ids before perm perm_ids (r, member, (n, inside, none)) =
-    (r, permuted-member r order rows (IsPermutation-sym rows order perm) member,
-    (n, inside, λ there. none (permuted-member n before ids perm_ids there)))
+unknown_before rows order ids before perm perm_ids (r, member, (n, inside, none)) = (
+  r,
+  permuted-member r order rows (IsPermutation-sym rows order perm) member,
+  (n, inside, λ there. none (permuted-member n before ids perm_ids there)),
+)

@@ -3,25 +3,25 @@
 --   RefusedIn all end e  == tokens, and the end of the text, are refused with e for one of the first four causes
 --   Comes all end out    == out is right of these tokens
 --   comes                == what comes of the tokens is
-use Rattle.std.proofs.Common.{◌≡◌, ℕ, suc, ◌+◌, ◌<◌, ◌≤◌, ◌⊎◌, List, [], ◌∷◌, ◌++◌, length, map, Option, Some, None, Result, Ok, Err, refl, sym, ◌∙◌, ap, subst, arith, inl, inr, length-append}
+use Rattle.std.proofs.Common.{◌≡◌, ℕ, suc, ◌<◌, ◌≤◌, ◌⊎◌, List, [], ◌∷◌, ◌++◌, length, Option, Some, None, Ok, Err, refl, sym, ◌∙◌, ap, subst, arith, inl, inr, length-append}
 use Rattle.std.proofs.lemmas.List.{append_assoc, append-nil, map-append}
 use Rattle.ml_lists.specs.Member.{IsMember}
-use Rattle.ml_pgsolver.specs.Tokens.{Token, Number, Placed, signs_of}
+use Rattle.ml_pgsolver.specs.Tokens.{Token, Placed, signs_of}
 use Rattle.ml_pgsolver.specs.Grammar.{vertices_of, IsGameText, BeginsGameText}
-use Rattle.ml_pgsolver.specs.Refusals.{Cause, Syntax, Repeated, TooMany, TooLarge, rank, IsFaulty, IsAt, IsTokenFault, IsFault, IsFirstFault, EndsEarly, offset_of}
+use Rattle.ml_pgsolver.specs.Refusals.{Cause, Syntax, Repeated, TooMany, TooLarge, rank, IsFaulty, IsFault, IsFirstFault, offset_of}
 use Rattle.ml_pgsolver.specs.declared.reader.Stage.{Stage}
 use Rattle.ml_pgsolver.specs.declared.reader.Stage.TheVariants as stage
 use Rattle.ml_pgsolver.specs.declared.refusal.GameTextRefusal.{GameTextRefusal}
 use Rattle.ml_pgsolver.specs.declared.refusal.GameTextRefusal.TheVariants as refusal
-use Rattle.ml_pgsolver.specs.private.Machine.{State, Step, step, at_end, outcome_from}
+use Rattle.ml_pgsolver.specs.private.Machine.{Step, step, at_end, outcome_from}
 use Rattle.ml_pgsolver.specs.private.Signs.{sign_of, signs_in}
 use Rattle.ml_pgsolver.proofs.Splits.{Splits, before, same, behind, splits}
 use Rattle.ml_pgsolver.proofs.Steps.{goes_on, stops, ends}
-use Rattle.ml_pgsolver.proofs.Trees.{Progress, Start, HeaderNumber, HeaderEnd, Body, Id, grow, grown_from, grown-append}
+use Rattle.ml_pgsolver.proofs.Trees.{Progress, Start, Body, Id, grow, grown_from, grown-append}
 use Rattle.ml_pgsolver.proofs.Viable.{begins-grown, grown-begins, game-ended}
 use Rattle.ml_pgsolver.proofs.Images.{image, stage_of, Passes, Came, goes, repeats, fills_ids, fills_successors, outgrows}
 use Rattle.ml_pgsolver.proofs.Comings.{came, stuck}
-use Rattle.ml_pgsolver.proofs.Roles.{ids_in, id_here}
+use Rattle.ml_pgsolver.proofs.Roles.{ids_in}
 use Rattle.ml_pgsolver.proofs.Readings.{Read, read_none, read_more, not_syntax, not_repeated, not_many, is_id, is_successor}
 
 abbrev pub FaultAt : List Placed → ℕ → Cause → ℕ → Type 0
@@ -73,8 +73,10 @@ module _ (ts first : List Token) (t : Token) (rest : List Token) (c : Cause) (cu
   later d j b u more (before ws is) number wrong =
       inl (omega (arith, ap length is, length-append first (t ∷ ws)))
   later d j b u more (same front one all) number wrong =
-      inr (ap length front ∙ sym number,
-      lowest d (subst (λ v. IsFaulty d first v) (sym one) (subst (λ xs. IsFaulty d xs u) (sym front) wrong)))
+      inr (
+        ap length front ∙ sym number,
+        lowest d (subst (λ v. IsFaulty d first v) (sym one) (subst (λ xs. IsFaulty d xs u) (sym front) wrong)),
+      )
   later d j b u more (behind ws is) number wrong = absurd (faultless d b u ws is wrong)
 
   by_fault : (d : Cause) (j : ℕ) → IsFault d ts j → (length first < j) ⊎ ((length first ≡ j) × (rank c ≤ rank d))
@@ -96,9 +98,9 @@ end_fault : (ts : List Token)
     → IsFirstFault Syntax ts (length ts)
 end_fault ts faultless begins none = record { comes = inr (refl, (refl, begins, none)); first = by }
   where
-  by : (d : Cause) (j : ℕ) → IsFault d ts j → (length ts < j) ⊎ ((length ts ≡ j) × (1 ≤ rank d))
-  by d j (inl (b, u, there, wrong)) = absurd (faultless d b u there.behind there.all wrong)
-  by d j (inr (is, ends)) = inr (sym ends.0, let e : rank d ≡ 1 = ap rank is in omega arith)
+    by : (d : Cause) (j : ℕ) → IsFault d ts j → (length ts < j) ⊎ ((length ts ≡ j) × (1 ≤ rank d))
+    by d j (inl (b, u, there, wrong)) = absurd (faultless d b u there.behind there.all wrong)
+    by d j (inr (is, ends)) = inr (sym ends.0, let e : rank d ≡ 1 = ap rank is in omega arith)
 
 -- ---- the end of the text
 
@@ -111,11 +113,12 @@ not_ended ts p run open_stage (d, is) =
 at_the_end : (all : List Placed) (end : ℕ) (p : Progress) (q : Stage) → stage_of p ≡ q → Read (signs_of all) p
     → Comes all end (at_end q (image p) end)
 at_the_end all end p stage.NextVertex is read = (p, read, refl, is)
-at_the_end all end p q is read =
-    (length (signs_of all),
-    end_fault (signs_of all) read.faultless (begins-grown (signs_of all) p read.run)
-    (not_ended (signs_of all) p read.run (λ ended. cc)),
-    sym (ap (offset_of end all) (signs-length all) ∙ offset-end end all))
+at_the_end all end p q is read = (
+  length (signs_of all),
+  end_fault (signs_of all) read.faultless (begins-grown (signs_of all) p read.run)
+      (not_ended (signs_of all) p read.run (λ ended. cc)),
+  sym (ap (offset_of end all) (signs-length all) ∙ offset-end end all),
+)
 
 -- ---- the next token
 
@@ -130,25 +133,26 @@ module _ (front : List Placed) (p : Progress) (t : Placed) (rest : List Placed) 
   fault_here : (c : Cause) → IsFaulty c (signs_of front) t.token
       → ((d : Cause) → IsFaulty d (signs_of front) t.token → rank c ≤ rank d)
       → FaultAt all end c t.at
-  fault_here c faulty lowest =
-      (length (signs_of front),
-      token_fault (signs_of all) (signs_of front) t.token (signs_of rest) c (signs-cut front t rest) read.faultless faulty lowest,
-      place-is)
+  fault_here c faulty lowest = (
+    length (signs_of front),
+    token_fault (signs_of all) (signs_of front) t.token (signs_of rest) c (signs-cut front t rest) read.faultless faulty lowest,
+    place-is,
+  )
 
   no_way : grow p t.token ≡ None → FaultAt all end Syntax t.at
   no_way stops_here =
       fault_here Syntax (begins-grown (signs_of front) p read.run, λ begins. none_begins (grown-begins _ begins)) (λ d faulty. first_of_all d)
     where
-    none_begins : (q : Progress) × (grown_from (Some Start) (signs_of front ++ t.token ∷ []) ≡ Some q) → ⊥
-    none_begins (q, run) =
-        let stuck_run = grown-append (Some Start) (signs_of front) (t.token ∷ [])
-        ∙ ap (λ o. grown_from o (t.token ∷ [])) read.run ∙ ap (λ o. grown_from o []) stops_here in cc
+      none_begins : (q : Progress) × (grown_from (Some Start) (signs_of front ++ t.token ∷ []) ≡ Some q) → ⊥
+      none_begins (q, run) =
+          let stuck_run = grown-append (Some Start) (signs_of front) (t.token ∷ [])
+          ∙ ap (λ o. grown_from o (t.token ∷ [])) read.run ∙ ap (λ o. grown_from o []) stops_here in cc
 
-    first_of_all : (d : Cause) → 1 ≤ rank d
-    first_of_all Syntax = omega arith
-    first_of_all Repeated = omega arith
-    first_of_all TooMany = omega arith
-    first_of_all TooLarge = omega arith
+      first_of_all : (d : Cause) → 1 ≤ rank d
+      first_of_all Syntax = omega arith
+      first_of_all Repeated = omega arith
+      first_of_all TooMany = omega arith
+      first_of_all TooLarge = omega arith
 
   -- a token with which q is read is at fault, as the reader says
   at_fault : (q : Progress) → grow p t.token ≡ Some q → (out : Step)
@@ -157,43 +161,58 @@ module _ (front : List Placed) (p : Progress) (t : Placed) (rest : List Placed) 
       ⊎ ((e : GameTextRefusal) × (out ≡ Err e) × RefusedIn all end e)
   at_fault q more out (goes is passes) = inl (is, passes)
   at_fault q more out (repeats n here member is) =
-      inr (refusal.Repeated t.at, is, fault_here Repeated
-      (n, is_id (signs_of front) p t.token q read more n here, subst (IsMember n) (sym read.ids) member) lowest)
+      inr (
+        refusal.Repeated t.at,
+        is,
+        fault_here Repeated
+            (n, is_id (signs_of front) p t.token q read more n here, subst (IsMember n) (sym read.ids) member) lowest,
+      )
     where
-    lowest : (d : Cause) → IsFaulty d (signs_of front) t.token → 2 ≤ rank d
-    lowest Syntax faulty = absurd (not_syntax (signs_of front) p t.token q read more faulty)
-    lowest Repeated faulty = omega arith
-    lowest TooMany faulty = omega arith
-    lowest TooLarge faulty = omega arith
+      lowest : (d : Cause) → IsFaulty d (signs_of front) t.token → 2 ≤ rank d
+      lowest Syntax faulty = absurd (not_syntax (signs_of front) p t.token q read more faulty)
+      lowest Repeated faulty = omega arith
+      lowest TooMany faulty = omega arith
+      lowest TooLarge faulty = omega arith
   at_fault q more out (fills_ids n here fresh full is) =
-      inr (refusal.TooMany t.at, is, fault_here TooMany
-      (inl (n, is_id (signs_of front) p t.token q read more n here, omega (arith, ap length read.ids, read.few_ids))) lowest)
+      inr (
+        refusal.TooMany t.at,
+        is,
+        fault_here TooMany
+            (inl (n, is_id (signs_of front) p t.token q read more n here, omega (arith, ap length read.ids, read.few_ids))) lowest,
+      )
     where
-    lowest : (d : Cause) → IsFaulty d (signs_of front) t.token → 4 ≤ rank d
-    lowest Syntax faulty = absurd (not_syntax (signs_of front) p t.token q read more faulty)
-    lowest Repeated faulty = absurd (not_repeated (signs_of front) p t.token q read more
-        (λ m there member. let e : n ≡ m = cc in fresh (subst (λ k. IsMember k (ids_in p)) (sym e) member)) faulty)
-    lowest TooMany faulty = omega arith
-    lowest TooLarge faulty = omega arith
+      lowest : (d : Cause) → IsFaulty d (signs_of front) t.token → 4 ≤ rank d
+      lowest Syntax faulty = absurd (not_syntax (signs_of front) p t.token q read more faulty)
+      lowest Repeated faulty = absurd (not_repeated (signs_of front) p t.token q read more
+          (λ m there member. let e : n ≡ m = cc in fresh (subst (λ k. IsMember k (ids_in p)) (sym e) member)) faulty)
+      lowest TooMany faulty = omega arith
+      lowest TooLarge faulty = omega arith
   at_fault q more out (fills_successors n here no_id full is) =
-      inr (refusal.TooMany t.at, is, fault_here TooMany
-      (inr (n, is_successor (signs_of front) p t.token q read more n here,
-      omega (arith, ap length read.successors, read.few_successors))) lowest)
+      inr (
+        refusal.TooMany t.at,
+        is,
+        fault_here TooMany
+            (inr (
+              n,
+              is_successor (signs_of front) p t.token q read more n here,
+              omega (arith, ap length read.successors, read.few_successors),
+            )) lowest,
+      )
     where
-    lowest : (d : Cause) → IsFaulty d (signs_of front) t.token → 4 ≤ rank d
-    lowest Syntax faulty = absurd (not_syntax (signs_of front) p t.token q read more faulty)
-    lowest Repeated faulty = absurd (not_repeated (signs_of front) p t.token q read more
-        (λ m there member. let e : [] ≡ m ∷ [] = cc in cc) faulty)
-    lowest TooMany faulty = omega arith
-    lowest TooLarge faulty = omega arith
+      lowest : (d : Cause) → IsFaulty d (signs_of front) t.token → 4 ≤ rank d
+      lowest Syntax faulty = absurd (not_syntax (signs_of front) p t.token q read more faulty)
+      lowest Repeated faulty = absurd (not_repeated (signs_of front) p t.token q read more
+          (λ m there member. let e : [] ≡ m ∷ [] = cc in cc) faulty)
+      lowest TooMany faulty = omega arith
+      lowest TooLarge faulty = omega arith
   at_fault q more out (outgrows digits is_t large fresh id_room successor_room is) =
       inr (refusal.TooLarge t.at, is, fault_here TooLarge (digits, is_t, large) lowest)
     where
-    lowest : (d : Cause) → IsFaulty d (signs_of front) t.token → 5 ≤ rank d
-    lowest Syntax faulty = absurd (not_syntax (signs_of front) p t.token q read more faulty)
-    lowest Repeated faulty = absurd (not_repeated (signs_of front) p t.token q read more fresh faulty)
-    lowest TooMany faulty = absurd (not_many (signs_of front) p t.token q read more id_room successor_room faulty)
-    lowest TooLarge faulty = omega arith
+      lowest : (d : Cause) → IsFaulty d (signs_of front) t.token → 5 ≤ rank d
+      lowest Syntax faulty = absurd (not_syntax (signs_of front) p t.token q read more faulty)
+      lowest Repeated faulty = absurd (not_repeated (signs_of front) p t.token q read more fresh faulty)
+      lowest TooMany faulty = absurd (not_many (signs_of front) p t.token q read more id_room successor_room faulty)
+      lowest TooLarge faulty = omega arith
 
   -- by what the token does, where the tokens behind it are told of
   pub by_token : ((q : Progress) → Read (signs_of (front ++ t ∷ [])) q
@@ -206,15 +225,15 @@ module _ (front : List Placed) (p : Progress) (t : Placed) (rest : List Placed) 
       (no_way is)
   by_token on (Some q) is = by (at_fault q is (step (image p) (sign_of t.token) t.at) (came p t.token q t.at is read.small))
     where
-    by : ((step (image p) (sign_of t.token) t.at ≡ Ok (image q)) × Passes p t.token)
-        ⊎ ((e : GameTextRefusal) × (step (image p) (sign_of t.token) t.at ≡ Err e) × RefusedIn all end e)
-        → Comes all end (outcome_from end (image p) (signs_in (t ∷ rest)))
-    by (inl (goes_so, passes)) =
-        let read_on = subst (λ ts. Read ts q) (sym (signs-cut front t [])) (read_more (signs_of front) p t.token q read is passes) in
-        subst (Comes all end) (sym (goes_on end (image p) (image q) (sign_of t.token) t.at (signs_in rest) goes_so))
-        (subst (λ ps. Comes ps end (outcome_from end (image q) (signs_in rest))) (append_assoc front (t ∷ []) rest) (on q read_on))
-    by (inr (e, refused_so, refused)) =
-        subst (Comes all end) (sym (stops end (image p) (sign_of t.token) t.at (signs_in rest) e refused_so)) refused
+      by : ((step (image p) (sign_of t.token) t.at ≡ Ok (image q)) × Passes p t.token)
+          ⊎ ((e : GameTextRefusal) × (step (image p) (sign_of t.token) t.at ≡ Err e) × RefusedIn all end e)
+          → Comes all end (outcome_from end (image p) (signs_in (t ∷ rest)))
+      by (inl (goes_so, passes)) =
+          let read_on = subst (λ ts. Read ts q) (sym (signs-cut front t [])) (read_more (signs_of front) p t.token q read is passes) in
+          subst (Comes all end) (sym (goes_on end (image p) (image q) (sign_of t.token) t.at (signs_in rest) goes_so))
+          (subst (λ ps. Comes ps end (outcome_from end (image q) (signs_in rest))) (append_assoc front (t ∷ []) rest) (on q read_on))
+      by (inr (e, refused_so, refused)) =
+          subst (Comes all end) (sym (stops end (image p) (sign_of t.token) t.at (signs_in rest) e refused_so)) refused
 
 comes_from : (end : ℕ) (rest front : List Placed) (p : Progress) → Read (signs_of front) p
     → Comes (front ++ rest) end (outcome_from end (image p) (signs_in rest))

@@ -4,7 +4,7 @@
 --   Read before p           == these tokens were read as p, and none is at fault
 --   read_none, read_more    == none were read; one more is
 --   not_syntax, id_there, no_id_there, successor_there  == what the next token is
-use Rattle.std.proofs.Common.{◌≡◌, ℕ, zero, suc, ◌+◌, ◌<◌, ◌≤◌, ◌⊎◌, List, [], ◌∷◌, ◌++◌, length, Option, Some, None, refl, sym, ◌∙◌, ap, subst, arith, inl, inr, length-append, nat_le}
+use Rattle.std.proofs.Common.{◌≡◌, ℕ, zero, suc, ◌<◌, ◌≤◌, ◌⊎◌, List, [], ◌∷◌, ◌++◌, length, Option, Some, None, refl, sym, ◌∙◌, ap, subst, arith, inl, inr, length-append, nat_le}
 use Rattle.std.proofs.lemmas.Bool.{cond_both}
 use Rattle.std.proofs.lemmas.List.{append_assoc, append-nil}
 use Rattle.ml_lines.specs.Reading.{value}
@@ -12,12 +12,11 @@ use Rattle.ml_lists.specs.Member.{IsMember}
 use Rattle.ml_lists.specs.Times.{IsApart}
 use Rattle.ml_lists.proofs.Member.{member-append}
 use Rattle.ml_pgsolver.specs.Tokens.{Token, Number, Name, Parity, Comma, Semicolon, Stray}
-use Rattle.ml_pgsolver.specs.Grammar.{BeginsGameText}
 use Rattle.ml_pgsolver.specs.Refusals.{next_place, place_from, place_behind, roles_from, id_at_place, successor_at_place, ids_of, successors_among, Cause, Syntax, Repeated, TooMany, TooLarge, IsId, IsSuccessor, IsFaulty, most_vertices, most_successors, greatest_number}
 use Rattle.ml_pgsolver.proofs.Splits.{last_split}
 use Rattle.ml_pgsolver.proofs.Trees.{Progress, Start, grow, grown_from, grown-append}
 use Rattle.ml_pgsolver.proofs.Viable.{begins-grown}
-use Rattle.ml_pgsolver.proofs.Roles.{ids_in, successors_in, id_here, successor_here, PlaceFits, Roles, roles}
+use Rattle.ml_pgsolver.proofs.Roles.{ids_in, successors_in, id_here, successor_here, PlaceFits, roles}
 use Rattle.ml_pgsolver.proofs.Images.{Passes}
 use Rattle.ml_pgsolver.proofs.Comings.{AllSmall}
 
@@ -66,10 +65,10 @@ apart-last : (n : ℕ) (xs : List ℕ) → IsApart xs → (IsMember n xs → ⊥
 apart-last n [] apart new = (λ m. m, tt)
 apart-last n (x ∷ xs) apart new = (λ m. by (member-append x xs (n ∷ []) m), apart-last n xs apart.1 (λ m. new (inr m)))
   where
-  by : IsMember x xs ⊎ IsMember x (n ∷ []) → ⊥
-  by (inl m) = apart.0 m
-  by (inr (inl e)) = new (inl (sym e))
-  by (inr (inr m)) = m
+    by : IsMember x xs ⊎ IsMember x (n ∷ []) → ⊥
+    by (inl m) = apart.0 m
+    by (inr (inl e)) = new (inl (sym e))
+    by (inr (inr m)) = m
 
 -- ---- the next token
 
@@ -77,9 +76,9 @@ module _ (before : List Token) (p : Progress) (t : Token) (q : Progress) (read :
   pub run_more : grown_from (Some Start) (before ++ t ∷ []) ≡ Some q
   run_more = grown-append (Some Start) before (t ∷ []) ∙ ap (λ o. grown_from o (t ∷ [])) read.run ∙ one (grow p t) more
     where
-    one : (o : Option Progress) → o ≡ Some q → grown_from o [] ≡ Some q
-    one None is = cc
-    one (Some r) is = is
+      one : (o : Option Progress) → o ≡ Some q → grown_from o [] ≡ Some q
+      one None is = cc
+      one (Some r) is = is
 
   pub not_syntax : IsFaulty Syntax before t → ⊥
   not_syntax faulty = faulty.1 (begins-grown (before ++ t ∷ []) q run_more)
@@ -175,9 +174,9 @@ module _ (before : List Token) (p : Progress) (t : Token) (q : Progress) (read :
   small_more xs here (none is) all_small small n (inr new) = absurd (subst (IsMember n) is new)
   small_more xs here (one digits is_t is) all_small small n (inr new) = by (subst (IsMember n) is new)
     where
-    by : IsMember n (value digits ∷ []) → n ≤ greatest_number
-    by (inl e) = let fits = small digits is_t in omega arith
-    by (inr m) = absurd m
+      by : IsMember n (value digits ∷ []) → n ≤ greatest_number
+      by (inl e) = let fits = small digits is_t in omega arith
+      by (inr m) = absurd m
 
   apart_more : (xs here : List ℕ) → Shape here → IsApart xs → ((n : ℕ) → here ≡ n ∷ [] → IsMember n xs → ⊥)
       → IsApart (xs ++ here)

@@ -3,7 +3,7 @@
 --   Splits x xs us y ys vs  == of the cuts xs, x, us and ys, y, vs of a list one is before the other, or they are the same
 --   splits                  == so it is
 --   last_split              == a cut of a list with one entry at its end is at that end, or one of the list before it
-use Rattle.std.proofs.Common.{◌≡◌, ℕ, ◌+◌, ◌⊎◌, List, [], ◌∷◌, ◌++◌, length, refl, sym, ◌∙◌, ap, arith, inl, inr, length-append}
+use Rattle.std.proofs.Common.{◌≡◌, ◌⊎◌, List, [], ◌∷◌, ◌++◌, length, refl, ap, arith, inl, inr, length-append}
 
 pub data Splits {X : Type 0} (x : X) (xs us : List X) (y : X) (ys vs : List X) : Type 0 where
   before : (ws : List X) → ys ≡ xs ++ x ∷ ws → Splits x xs us y ys vs
@@ -26,8 +26,8 @@ pub last_split : {X : Type 0} (x y : X) (xs ys vs : List X) → xs ++ x ∷ [] �
     → ((xs ≡ ys) × (x ≡ y)) ⊎ ((ws : List X) × (xs ≡ ys ++ y ∷ ws))
 last_split {X} x y xs ys vs is = by (splits x y xs [] ys vs is)
   where
-  by : Splits x xs [] y ys vs → ((xs ≡ ys) × (x ≡ y)) ⊎ ((ws : List X) × (xs ≡ ys ++ y ∷ ws))
-  by (before ws later) =
-      absurd (omega (arith, ap length is, ap length later, length-append xs (x ∷ []), length-append ys (y ∷ vs), length-append xs (x ∷ ws)))
-  by (same front one rest) = inl (front, one)
-  by (behind ws earlier) = inr (ws, earlier)
+    by : Splits x xs [] y ys vs → ((xs ≡ ys) × (x ≡ y)) ⊎ ((ws : List X) × (xs ≡ ys ++ y ∷ ws))
+    by (before ws later) =
+        absurd (omega (arith, ap length is, ap length later, length-append xs (x ∷ []), length-append ys (y ∷ vs), length-append xs (x ∷ ws)))
+    by (same front one rest) = inl (front, one)
+    by (behind ws earlier) = inr (ws, earlier)

@@ -6,7 +6,7 @@
 --   told_along   == a refusal, carried along an equation
 --   too_soon     == a text may end only behind a vertex
 --   ends         == where no signs are left, the stage tells what comes
-use Rattle.std.proofs.Common.{◌≡◌, ℕ, List, [], ◌∷◌, Result, Ok, Err, ap, refl, subst, sym}
+use Rattle.std.proofs.Common.{◌≡◌, ℕ, List, [], ◌∷◌, Ok, Err, ap, refl, subst, sym}
 use Rattle.ml_pgsolver.specs.declared.reader.Stage.{Stage}
 use Rattle.ml_pgsolver.specs.declared.reader.Stage.TheVariants as stage
 use Rattle.ml_pgsolver.specs.declared.refusal.GameTextRefusal.{GameTextRefusal}

@@ -8,14 +8,14 @@
 --   grown-append         == tokens one behind the other
 --   grown-draft          == the tokens of a draft are read as it
 --   grown-tokens         == what was read tells its tokens
-use Rattle.std.proofs.Common.{◌≡◌, ℕ, List, [], ◌∷◌, ◌++◌, map, Option, Some, None, refl, sym, ◌∙◌, ap, true, false, ◌==◌, codes, if◌then◌else◌, Bool, arith}
+use Rattle.std.proofs.Common.{◌≡◌, ℕ, List, [], ◌∷◌, ◌++◌, Option, Some, None, refl, sym, ◌∙◌, ap, true, false, ◌==◌, if◌then◌else◌, Bool, arith}
 use Rattle.std.specs.List.{flat_map}
 use Rattle.std.proofs.lemmas.List.{append_assoc, append-nil}
 use Rattle.std.proofs.lemmas.Grind.{flat_map-append}
 use Rattle.std.proofs.lemmas.Bool.Decides.{nat_tests}
 use Rattle.ml_parity.specs.declared.players.Player.{Player}
 use Rattle.ml_parity.specs.declared.players.Player.TheVariants.{Even, Odd}
-use Rattle.ml_pgsolver.specs.Tokens.{Token, Number, Name, Parity, Comma, Semicolon, Stray}
+use Rattle.ml_pgsolver.specs.Tokens.{Token, Number, Name, Parity, Comma, Semicolon}
 use Rattle.ml_pgsolver.specs.Grammar.{Vertex, Draft, owner_digits, further, name_tokens, vertex_tokens, header_tokens, vertices_of, draft_tokens}
 use Rattle.ml_pgsolver.specs.private.Signs.{owner_named}
 
@@ -265,7 +265,7 @@ grown-vertices h vs (w ∷ ws) =
 pub grown-draft : (d : Draft) → grown_from (Some Start) (draft_tokens d) ≡ Some (Body d.header (vertices_of d) Id)
 grown-draft d = by_header d.header d.first d.others
   where
-  by_header : (h : Option (List ℕ)) (v : Vertex) (vs : List Vertex)
-      → grown_from (Some Start) (header_tokens h ++ flat_map vertex_tokens (v ∷ vs)) ≡ Some (Body h (v ∷ vs) Id)
-  by_header None v vs = grown-vertices None [] (v ∷ vs)
-  by_header (Some digits) v vs = grown-vertices (Some digits) [] (v ∷ vs)
+    by_header : (h : Option (List ℕ)) (v : Vertex) (vs : List Vertex)
+        → grown_from (Some Start) (header_tokens h ++ flat_map vertex_tokens (v ∷ vs)) ≡ Some (Body h (v ∷ vs) Id)
+    by_header None v vs = grown-vertices None [] (v ∷ vs)
+    by_header (Some digits) v vs = grown-vertices (Some digits) [] (v ∷ vs)

@@ -10,7 +10,7 @@ use Rattle.std.proofs.lemmas.List.{append_assoc, append-nil}
 use Rattle.std.proofs.lemmas.Grind.{flat_map-append}
 use Rattle.ml_parity.specs.declared.players.Player.TheVariants.{Even}
 use Rattle.ml_pgsolver.specs.Tokens.{Token, Number, Comma, Semicolon}
-use Rattle.ml_pgsolver.specs.Grammar.{Vertex, Draft, owner_digits, further, name_tokens, vertex_tokens, header_tokens, vertices_of, draft_tokens, IsGameText, BeginsGameText}
+use Rattle.ml_pgsolver.specs.Grammar.{Vertex, Draft, owner_digits, further, vertex_tokens, header_tokens, vertices_of, draft_tokens, IsGameText, BeginsGameText}
 use Rattle.ml_pgsolver.proofs.Trees.{Part, Id, Priority, Owner, First, Behind, Further, Close, Progress, Start, HeaderNumber, HeaderEnd, Body, first_of, with_further, named, core_tokens, part_tokens, tokens_of, grown_from, grown-append, grown-tokens, grown-draft}
 
 abbrev zero_digits : List ℕ
@@ -80,6 +80,7 @@ begins-body h vs part =
     (ap (λ ts. flat_map vertex_tokens vs ++ ts) (sym (append-nil (vertex_tokens e.vertex)))
     ∙ sym (flat_map-append vertex_tokens vs (e.vertex ∷ []))) in
     (e.missing, (whole.0, same ∙ whole.1))
+
 pub begins-tokens : (p : Progress) → BeginsGameText (tokens_of p)
 begins-tokens Start = let b = begins-body None [] Id in b
 begins-tokens HeaderNumber =

@@ -4,7 +4,7 @@
 --   lines_more           == what is written and what is left are the whole: so it stays by a further line
 --   lines_done           == and at the end the whole is written
 --   moves_within         == the moves of a solution are vertices
-use Rattle.std.proofs.Common.{◌≡◌, ℕ, ◌+◌, ◌<◌, ◌≤◌, List, [], ◌∷◌, ◌++◌, length, drop, get_or, All, refl, sym, ap, ◌∙◌, arith, append_assoc}
+use Rattle.std.proofs.Common.{◌≡◌, ℕ, ◌+◌, ◌<◌, ◌≤◌, List, ◌++◌, length, drop, get_or, All, refl, sym, ap, ◌∙◌, arith, append_assoc}
 use Rattle.std.specs.List.{flat_map, enumerate_from}
 use Rattle.std.proofs.lemmas.List.{append-nil, drop_more, drop_all, get_or_default}
 use Rattle.ml_parity.specs.Game.{ParityGame, IsGame, size, owner_of}

@@ -38,7 +38,11 @@ fn owners_of(alloc: Global, rows: &[Row]) -> Result<Vec<Player>, NoMemory>
 fn priorities_of(alloc: Global, rows: &[Row], top: u32) -> Result<Vec<u32>, NoMemory>
     ensures { IfOk result (λ priorities. priorities.items ≡ map (λ r. top - r.priority) rows.now) }
 {
-    Ok(rows.iter().map(|row| top.saturating_sub(row.priority)).collect(alloc)?)
+    Ok(
+        rows.iter()
+            .map(|row| top.saturating_sub(row.priority))
+            .collect(alloc)?,
+    )
 }
 
 fn highest_priority(rows: &[Row]) -> u32
@@ -91,7 +95,11 @@ fn places_of(mut successors: Vec<u64>, ids: &[u32]) -> Option<Vec<u64>>
 }
 
 // the successors of the rows, as places
-fn successors_of(alloc: Global, rows: Vec<Row>, ids: &[u32]) -> Result<Option<Vec<Vec<u64>>>, NoMemory>
+fn successors_of(
+    alloc: Global,
+    rows: Vec<Row>,
+    ids: &[u32],
+) -> Result<Option<Vec<Vec<u64>>>, NoMemory>
     requires { IsAscending ids.now }
     ensures { IfOk result (λ o. MatchOption o
         (HasUnknownIn ids.now (rows_view rows.items))

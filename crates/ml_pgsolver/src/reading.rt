@@ -73,7 +73,12 @@ fn is_unknown(sign: Sign, ids: &IndexSet<u32>) -> bool
     ensures { result ≡ is_unknown ids.now.keys sign }
 {
     match sign {
-        Sign::Number(Numeral { value: Some(id), .. }) => !ids.contains(&id),
+        Sign::Number(
+            Numeral {
+                value: Some(id),
+                ..
+            },
+        ) => !ids.contains(&id),
         _ => false,
     }
 }

@@ -110,7 +110,7 @@ fn write_vertices(
     requires within { All (λ m. m < length ids.now) choices.now }
     ensures { OnOk result (out.new.items ≡ out.old.items
         ++ flat_map (vertex_line ids.now owners.now (record { winner = winners.now; choice = choices.now }))
-            (enumerate_from 0 ids.now)) }
+        (enumerate_from 0 ids.now)) }
 {
     for place in 0..ids.len() {
         let target = ids[choices[place] as usize];

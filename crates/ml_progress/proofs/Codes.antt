@@ -6,7 +6,7 @@
 --   before_code, code_before   == the order of the lists is that of their codes
 --   fits_take, fits_drop       == the parts of a list within bounds
 --   space_parts, code_parts    == space and code of a list, by those of its parts
-use Rattle.std.proofs.Common.{ℕ, zero, suc, ◌≡◌, ◌+◌, ◌*◌, ◌<◌, ◌≤◌, ◌⊎◌, inl, inr, arith, List, [], ◌∷◌, length, get_or, take, drop, refl, sym, ap, ◌∙◌, subst}
+use Rattle.std.proofs.Common.{ℕ, zero, suc, ◌≡◌, ◌+◌, ◌*◌, ◌<◌, ◌≤◌, ◌⊎◌, inl, inr, arith, List, [], ◌∷◌, length, get_or, take, drop, refl, sym, ap, ◌∙◌}
 use Rattle.std.proofs.Math.Nat.{mul-le-mul_right, add-mul, mul_assoc}
 use Rattle.std.proofs.lemmas.Bool.{cases_order}
 use Rattle.ml_progress.specs.Measure.{ComesBefore}

@@ -2,12 +2,10 @@
 --
 --   top_first, top_second, both_rows == whether one cut level is below another one, by cases
 --   Extreme                          == the extreme one of the first k vertices
-use Rattle.std.proofs.Common.{ℕ, ◌≡◌, ◌≢◌, ◌+◌, ◌<◌, ◌≤◌, ◌⊎◌, inl, inr, ◌↔◌, arith, Bool, true, false, IsTrue, List, length, get_or, take, Option, Some, None, All, Contains, refl, sym, ap, ◌∙◌, subst}
-use Rattle.std.proofs.lemmas.Bool.{cases_eq, cases_order}
-use Rattle.std.proofs.lemmas.List.{get_or_default}
+use Rattle.std.proofs.Common.{ℕ, ◌≡◌, ◌≢◌, ◌<◌, ◌≤◌, ◌↔◌, arith, Bool, true, false, IsTrue, List, length, get_or, take, Option, Some, None, Contains, refl, ap, subst}
 use Rattle.ml_progress.specs.Measure.{Measure, ComesBefore, measure_at}
 use Rattle.ml_progress.specs.private.Codes.{space, code, Fits, FitsIn, cut_level}
-use Rattle.ml_progress.specs.private.Lifting.{AreFitting, Furthest, IsFurther, IsExtreme}
+use Rattle.ml_progress.specs.private.Lifting.{AreFitting, Furthest}
 use Rattle.ml_progress.proofs.Codes.{code_low, fits_take, before_code, code_before}
 
 module _ (c : ℕ) (bs : List ℕ) where
@@ -15,7 +13,10 @@ module _ (c : ℕ) (bs : List ℕ) where
   cut_top None f = omega arith
   cut_top (Some xs) f = omega (arith, code_low (take c bs) (take c xs) (fits_take c bs xs f))
 
-  pub top_first : (a b : Option (List ℕ)) → a ≡ None → FitsIn bs b → IsTrue false ↔ (cut_level c bs a < cut_level c bs b)
+  pub top_first : (a b : Option (List ℕ))
+      → a ≡ None
+      → FitsIn bs b
+      → IsTrue false ↔ (cut_level c bs a < cut_level c bs b)
   top_first a b top f = (
     λ e. absurd (cc),
     λ low. let is = ap (cut_level c bs) top in absurd (omega (arith, cut_top b f)),

@@ -5,15 +5,15 @@
 --   cut_up             == a higher priority has the longer cut
 --   cut_past           == a number up to the priority counts
 --   bad_side           == a priority is bad for p, or good for p
-use Rattle.std.proofs.Common.{ℕ, zero, suc, ◌≡◌, ◌+◌, ◌<◌, ◌≤◌, ◌⊎◌, inl, inr, arith, Bool, true, false, cond, eqb, leb, List, [], ◌∷◌, count_by, take, Option, Some, None, refl, sym, ap, ◌∙◌, subst, subst₂, le-leb, ◌%◌}
-use Rattle.std.proofs.lemmas.Bool.{cases_Bool, cond-true, cond-false, lt-leb, leb-true, eqb-true, eqb-false, eq-eqb, ne_eqb, cases_lt}
+use Rattle.std.proofs.Common.{ℕ, zero, suc, ◌≡◌, ◌+◌, ◌<◌, ◌≤◌, ◌⊎◌, inl, inr, arith, true, false, cond, eqb, leb, List, [], ◌∷◌, count_by, take, Option, Some, None, refl, ap, ◌∙◌, le-leb, ◌%◌}
+use Rattle.std.proofs.lemmas.Bool.{cond-true, cond-false, lt-leb, eqb-true, eqb-false, eq-eqb, ne_eqb, cases_lt}
 use Rattle.std.proofs.lemmas.List.Recursion.{is_count_by}
 use Rattle.ml_parity.specs.declared.players.Player.{Player}
 use Rattle.ml_parity.specs.declared.players.Player.TheVariants.{Even, Odd}
 use Rattle.ml_parity.specs.Player.{side, opponent}
 use Rattle.ml_parity.specs.Game.{ParityGame, priority_of}
 use Rattle.ml_progress.specs.Measure.{is_bad, bad_priorities}
-use Rattle.ml_progress.specs.private.Codes.{space, code, Fits, FitsIn, level, cut_level}
+use Rattle.ml_progress.specs.private.Codes.{space, code, FitsIn, level, cut_level}
 use Rattle.ml_progress.specs.private.Bounds.{cut_length}
 use Rattle.ml_progress.proofs.Codes.{fits_take}
 use Rattle.ml_progress.proofs.Levels.{cut_mono}

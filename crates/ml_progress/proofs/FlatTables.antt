@@ -8,9 +8,9 @@
 --   row_handed                   == as the program writes the row
 --   zero_table                   == the table of zeros
 use Rattle.std.proofs.Common.{ℕ, ◌≡◌, ◌≢◌, ◌+◌, ◌-◌, ◌*◌, ◌<◌, ◌≤◌, ◌⊎◌, inl, inr, ◌↔◌, arith, Bool, true, false, IsTrue, List, length, get_or, map, set, take, drop, ◌++◌, replicate, Option, Some, None, refl, sym, ap, ◌∙◌, subst, length-set, length-append, length-take, length-drop}
-use Rattle.std.specs.List.{range_with_len, between}
+use Rattle.std.specs.List.{range_with_len}
 use Rattle.std.proofs.Math.Nat.{mul-le-mul_right, add-mul}
-use Rattle.std.proofs.lemmas.Bool.{cases_eq, cases_lt, cases_order, cases_Bool}
+use Rattle.std.proofs.lemmas.Bool.{cases_eq, cases_order}
 use Rattle.std.proofs.lemmas.List.{get_or_default, get_or-set_same, get_or-set_other, get_or-replicate, length-replicate, drop-replicate, take-replicate, same_lists}
 use Rattle.std.proofs.lemmas.List.FromFn.{length-map-range_with_len, get_or-map-range_with_len}
 use Rattle.std.proofs.lemmas.Slice.{between_is, between-put_mid, take-put_mid_below, drop-put_mid}
@@ -46,7 +46,8 @@ module _ (w u v : ℕ) (xs ys : List ℕ) (wide : length ys ≡ w) (within : v *
   row_other : (u ≡ v → ⊥) → take w (drop (u * w) (put_mid (v * w) w xs ys)) ≡ take w (drop (u * w) xs)
   row_other differs = by_case (cases_order u v)
     where
-      by_case : (u ≡ v) ⊎ ((u < v) ⊎ (v < u)) → take w (drop (u * w) (put_mid (v * w) w xs ys)) ≡ take w (drop (u * w) xs)
+      by_case : (u ≡ v) ⊎ ((u < v) ⊎ (v < u))
+          → take w (drop (u * w) (put_mid (v * w) w xs ys)) ≡ take w (drop (u * w) xs)
       by_case (inl same) = absurd (differs same)
       by_case (inr (inl before)) =
           row_is w (u * w) (put_mid (v * w) w xs ys)
@@ -120,7 +121,10 @@ module _ (w : ℕ) (numbers : List ℕ) (tops : List Bool) (t : TableRows) (f : 
         ))
         each
       where
-        at : (u : ℕ) (d : Option (List ℕ)) → u < length tops → (u ≡ v) ⊎ (u ≡ v → ⊥) → other u ≡ get_or (set t.rows v x) u d
+        at : (u : ℕ) (d : Option (List ℕ))
+            → u < length tops
+            → (u ≡ v) ⊎ (u ≡ v → ⊥)
+            → other u ≡ get_or (set t.rows v x) u d
         at u d under (inl same) = ap other same ∙ here ∙ sym (get_or-set_same t.rows v x d low)
             ∙ ap (λ k. get_or (set t.rows v x) k d) (sym same)
         at u d under (inr differs) = elsewhere u under differs

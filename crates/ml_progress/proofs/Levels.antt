@@ -6,9 +6,9 @@
 --   target_fits                == the least value is within the bounds
 --   target_least               == it is at most what progresses to something no lower
 --   target_steps               == and what is no lower progresses to all that is no higher
-use Rattle.std.proofs.Common.{ℕ, suc, ◌≡◌, ◌+◌, ◌*◌, ◌<◌, ◌≤◌, arith, Bool, List, take, drop, Option, Some, None}
+use Rattle.std.proofs.Common.{ℕ, suc, ◌+◌, ◌*◌, ◌<◌, ◌≤◌, arith, Bool, List, take, drop, Option, Some, None}
 use Rattle.std.proofs.Math.Nat.{mul-le-mul_right, add-mul, lt_of_mul-lt-mul_right}
-use Rattle.ml_progress.specs.private.Codes.{space, code, Fits, FitsIn, level, cut_level, step_of, Steps, IsTarget}
+use Rattle.ml_progress.specs.private.Codes.{space, code, FitsIn, level, cut_level, step_of, Steps, IsTarget}
 use Rattle.ml_progress.proofs.Codes.{code_low, space_some, fits_take, fits_drop, space_parts, code_parts}
 
 -- no level is above the top

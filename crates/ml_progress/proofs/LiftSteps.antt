@@ -4,8 +4,7 @@
 --   cut_low     == it is no longer than the bounds
 --   lifted      == the vertex is lifted
 --   top_target  == where a successor with the top is chosen, the target is the top
-use Rattle.std.proofs.Common.{ℕ, ◌≡◌, ◌+◌, ◌<◌, ◌≤◌, ◌↔◌, arith, Bool, true, false, IsTrue, List, length, get_or, take, Option, Some, None, Contains, refl, sym, ap, ◌∙◌, subst}
-use Rattle.std.proofs.lemmas.Bool.{cases_Bool}
+use Rattle.std.proofs.Common.{ℕ, ◌≡◌, ◌<◌, ◌≤◌, ◌↔◌, arith, Bool, true, false, IsTrue, List, length, get_or, Option, None, Contains, refl, sym, ap, ◌∙◌, subst}
 use Rattle.std.proofs.lemmas.List.{get_or_default}
 use Rattle.ml_parity.specs.declared.players.Player.{Player}
 use Rattle.ml_parity.specs.Player.{opponent}
@@ -13,7 +12,7 @@ use Rattle.ml_parity.specs.Game.{ParityGame, HasMove, owner_of, priority_of, mov
 use Rattle.ml_parity.proofs.Opponents.{not_both}
 use Rattle.ml_progress.specs.Measure.{Measure, is_bad, measure_at}
 use Rattle.ml_progress.specs.private.Bounds.{bounds_of, cut_length}
-use Rattle.ml_progress.specs.private.Codes.{FitsIn, IsTarget, cut_level, space, step_of}
+use Rattle.ml_progress.specs.private.Codes.{IsTarget, cut_level}
 use Rattle.ml_progress.specs.private.Lifting.{AreFitting, Furthest, IsExtreme, IsLow, IsLifted}
 use Rattle.ml_progress.specs.private.Scales.{IsScale}
 use Rattle.ml_progress.specs.private.Tables.{IsRaised}

@@ -7,7 +7,7 @@
 --   top_settled     == a vertex with the top is settled
 --   room_falls      == there is less room after a rise
 --   settled_least   == a low measure in which all vertices are settled is the least progress measure
-use Rattle.std.proofs.Common.{ℕ, zero, suc, ◌≡◌, ◌≢◌, ◌+◌, ◌-◌, ◌*◌, ◌<◌, ◌≤◌, ◌⊎◌, inl, inr, ⊎_elim, arith, Bool, true, false, List, [], ◌∷◌, length, get_or, set, map, replicate, Option, Some, None, refl, sym, ap, ◌∙◌, subst, length-set}
+use Rattle.std.proofs.Common.{ℕ, zero, suc, ◌≡◌, ◌-◌, ◌<◌, ◌≤◌, ◌⊎◌, inl, inr, ⊎_elim, arith, Bool, true, false, List, length, get_or, replicate, Option, Some, None, refl, sym, ap, ◌∙◌, subst, length-set}
 use Rattle.std.proofs.lemmas.Bool.{cases_eq, cases_lt}
 use Rattle.std.proofs.lemmas.List.{get_or-set_same, get_or-set_other, get_or-replicate, length-replicate}
 use Rattle.ml_parity.specs.declared.players.Player.{Player}
@@ -17,9 +17,8 @@ use Rattle.ml_parity.proofs.Boards.{first_move}
 use Rattle.ml_parity.proofs.Opponents.{cases_player}
 use Rattle.ml_progress.specs.Measure.{Measure, IsMeasure, IsBelow, Progresses, SomeProgress, IsProgressMeasure, IsLeastMeasure, is_bad, measure_at}
 use Rattle.ml_progress.specs.private.Bounds.{bounds_of, cut_length, level_of, StepsAlong}
-use Rattle.ml_progress.specs.private.Codes.{space, code, Fits, FitsIn, level, cut_level, Steps, IsTarget}
-use Rattle.ml_progress.specs.private.Lifting.{IsLow, SomeStep, IsSettled, IsLifted, AreFitting, total, room}
-use Rattle.ml_progress.specs.private.Tables.{IsRaised}
+use Rattle.ml_progress.specs.private.Codes.{space, FitsIn, level, cut_level, Steps}
+use Rattle.ml_progress.specs.private.Lifting.{IsLow, IsSettled, IsLifted, total, room}
 use Rattle.ml_progress.proofs.Codes.{code_before}
 use Rattle.ml_progress.proofs.Levels.{level_top, cut_mono, target_fits, target_least, target_steps}
 use Rattle.ml_progress.proofs.NextLists.{fits_zeros, code_zeros}
@@ -36,7 +35,11 @@ module _ (g : ParityGame) (ok : IsGame g) (p : Player) where
   bs = bounds_of g p
 
   -- the measure of zeros is low
-  pub zeros_low : (n w : ℕ) (m : Measure) → n ≡ size g → w ≡ length bs → m ≡ replicate n (Some (replicate {A = ℕ} w 0)) → IsLow g p m
+  pub zeros_low : (n w : ℕ) (m : Measure)
+      → n ≡ size g
+      → w ≡ length bs
+      → m ≡ replicate n (Some (replicate {A = ℕ} w 0))
+      → IsLow g p m
   zeros_low n w m count wide is = record {
     vertices = ap length is ∙ length-replicate n (Some (replicate {A = ℕ} w 0)) ∙ count;
     fits = λ v low.
@@ -118,7 +121,11 @@ module _ (g : ParityGame) (ok : IsGame g) (p : Player) where
               let e = ap (level bs) (risen_there u differs) in omega (arith, low.low k progress u less)
 
       -- a vertex without a move to the one that rose stays settled; the one that rose is settled then
-      pub stays_settled : (u : ℕ) → u < size g → (HasMove g u v → ⊥) → ((u ≡ v → ⊥) → IsSettled g p m u) → IsSettled g p n u
+      pub stays_settled : (u : ℕ)
+          → u < size g
+          → (HasMove g u v → ⊥)
+          → ((u ≡ v → ⊥) → IsSettled g p m u)
+          → IsSettled g p n u
       stays_settled u less none was = by_case (cases_eq u v)
         where
           away : (x : ℕ) → HasMove g u x → measure_at n x ≡ measure_at m x
@@ -175,7 +182,8 @@ module _ (g : ParityGame) (ok : IsGame g) (p : Player) where
                 l.is_target) less))
             by_case (inr more) = more
 
-        at : (x : ℕ) → cut_level (cut_length g p v) bs (measure_at m x) ≤ cut_level (cut_length g p v) bs (measure_at m l.chosen)
+        at : (x : ℕ)
+            → cut_level (cut_length g p v) bs (measure_at m x) ≤ cut_level (cut_length g p v) bs (measure_at m l.chosen)
             → StepsAlong g p m v x
         at x under =
             target_steps (cut_length g p v) bs (is_bad p (priority_of g v)) (measure_at m l.chosen) l.target
@@ -228,7 +236,11 @@ module _ (g : ParityGame) (ok : IsGame g) (p : Player) where
 
 -- ---- room
 
-total_less : (f h : ℕ → ℕ) (n v : ℕ) → v < n → ((u : ℕ) → u < n → (u ≡ v → ⊥) → f u ≡ h u) → f v < h v → total f n < total h n
+total_less : (f h : ℕ → ℕ) (n v : ℕ)
+    → v < n
+    → ((u : ℕ) → u < n → (u ≡ v → ⊥) → f u ≡ h u)
+    → f v < h v
+    → total f n < total h n
 total_less f h zero v low same less = absurd (omega arith)
 total_less f h (suc n) v low same less = by_case (cases_eq n v) (total_less f h n v)
   where

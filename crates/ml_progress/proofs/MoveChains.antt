@@ -4,11 +4,10 @@
 --   moves_none    == no move so far
 --   moves_more    == one move more
 --   chains_more   == one vertex more
-use Rattle.std.proofs.Common.{ℕ, zero, suc, ◌≡◌, ◌+◌, ◌-◌, ◌<◌, ◌≤◌, ◌⊎◌, inl, inr, arith, List, [], ◌∷◌, ◌++◌, length, get_or, set, take, drop, replicate, refl, sym, ap, ◌∙◌, subst, length-append, length-set}
+use Rattle.std.proofs.Common.{ℕ, ◌≡◌, ◌+◌, ◌-◌, ◌<◌, ◌≤◌, ◌⊎◌, inl, inr, arith, List, [], ◌∷◌, ◌++◌, length, get_or, set, take, drop, sym, ap, ◌∙◌, subst, length-append, length-set}
 use Rattle.std.proofs.lemmas.Bool.{cases_eq, cases_lt}
-use Rattle.std.proofs.lemmas.List.{get_or_append_left, get_or_push, get_or-set_same, get_or-set_other, get_or-replicate, get_or_default, get_or_past, length-replicate}
-use Rattle.ml_lists.proofs.Members.{contains_none}
-use Rattle.ml_parity.specs.Game.{ParityGame, IsGame, HasMove, moves_of, size}
+use Rattle.std.proofs.lemmas.List.{get_or_append_left, get_or_push, get_or-set_same, get_or-set_other, get_or_default}
+use Rattle.ml_parity.specs.Game.{ParityGame, HasMove, moves_of}
 use Rattle.ml_progress.specs.declared.predecessors.Arrow.{Arrow}
 use Rattle.ml_progress.proofs.HandedBack.{handed_back}
 use Rattle.ml_progress.specs.private.Waits.{InChain, here, later, no_arrow, arrow_at, IsLinked, AreChained, AddsMoves, ChainsUpTo}

@@ -5,7 +5,7 @@
 --   count_more              == one more at a place that has room, with zeros behind it
 --   count_carry             == zero at a place that has none, and one still to be counted in front of it
 --   count_over              == there is no place left
-use Rattle.std.proofs.Common.{ℕ, zero, suc, ◌≡◌, ◌+◌, ◌-◌, ◌*◌, ◌<◌, ◌≤◌, ◌⊎◌, inl, inr, arith, Bool, true, false, List, [], ◌∷◌, ◌++◌, length, get_or, set, take, drop, replicate, not, Option, Some, None, refl, sym, ap, ◌∙◌, subst}
+use Rattle.std.proofs.Common.{ℕ, zero, suc, ◌≡◌, ◌+◌, ◌-◌, ◌*◌, ◌<◌, ◌≤◌, arith, Bool, true, false, List, [], ◌∷◌, ◌++◌, length, get_or, set, take, drop, replicate, not, Some, refl, sym, ap, ◌∙◌, subst}
 use Rattle.std.proofs.Math.Nat.{add-mul, mul_assoc, le_of_mul-le-mul_right}
 use Rattle.ml_progress.specs.private.Codes.{space, code, Fits, IsTarget, listed}
 use Rattle.ml_progress.proofs.Codes.{fits_long, space_parts, space_some}
@@ -38,7 +38,10 @@ code_front (suc c) (b ∷ bs) (x ∷ xs) n f =
       add-mul (x * space (take c bs)) (code (take c bs) (take c xs)) (space (drop c bs)),
     )
 
-pub fits_front : (c : ℕ) (bs xs : List ℕ) (n : ℕ) → Fits bs xs → n ≡ length bs - c → Fits bs (take c xs ++ replicate n 0)
+pub fits_front : (c : ℕ) (bs xs : List ℕ) (n : ℕ)
+    → Fits bs xs
+    → n ≡ length bs - c
+    → Fits bs (take c xs ++ replicate n 0)
 fits_front zero bs xs n f long = fits_zeros bs n (omega arith)
 fits_front (suc c) [] [] n f long = fits_zeros [] n (omega arith)
 fits_front (suc c) [] (x ∷ xs) n f long = absurd f

@@ -4,14 +4,14 @@
 --   measure_fits                     == so what a measure gives a vertex is within the bounds
 --   progress_steps, steps_progress   == a move progresses exactly if it does in the codes
 --   below_level                      == what is below has the lower level
-use Rattle.std.proofs.Common.{ℕ, zero, suc, ◌≡◌, ◌+◌, ◌<◌, ◌≤◌, ◌⊎◌, inl, inr, arith, Bool, true, false, List, [], ◌∷◌, length, get_or, map, take, Option, Some, None, refl, sym, ap, ◌∙◌, subst}
+use Rattle.std.proofs.Common.{ℕ, zero, suc, ◌≡◌, ◌+◌, ◌<◌, ◌≤◌, ◌⊎◌, inl, inr, arith, Bool, true, false, List, [], ◌∷◌, length, get_or, map, take, Option, Some, None, refl, ◌∙◌}
 use Rattle.std.proofs.lemmas.Bool.{cases_lt}
-use Rattle.std.proofs.lemmas.List.{get_or-map, length-map}
+use Rattle.std.proofs.lemmas.List.{length-map}
 use Rattle.ml_parity.specs.declared.players.Player.{Player}
 use Rattle.ml_parity.specs.Game.{ParityGame, priority_of, size}
-use Rattle.ml_progress.specs.Measure.{Measure, Bounded, IsMeasure, ComesBefore, IsBelow, Falls, ProgressesFrom, Progresses, is_bad, bad_priorities, how_many, measure_at}
-use Rattle.ml_progress.specs.private.Codes.{code, space, Fits, FitsIn, level, step_of, Steps}
-use Rattle.ml_progress.specs.private.Bounds.{bounds_of, cut_length, StepsAlong}
+use Rattle.ml_progress.specs.Measure.{Measure, Bounded, IsMeasure, IsBelow, Falls, ProgressesFrom, is_bad, bad_priorities, how_many, measure_at}
+use Rattle.ml_progress.specs.private.Codes.{code, Fits, FitsIn, level, step_of, Steps}
+use Rattle.ml_progress.specs.private.Bounds.{bounds_of, cut_length}
 use Rattle.ml_progress.proofs.Codes.{code_low, fits_take, fits_long, before_code, code_before}
 
 -- ---- lists within bounds
@@ -54,7 +54,11 @@ module _ (g : ParityGame) (p : Player) where
 
 -- ---- progress
 
-falls_steps : (t : Bool) (bs xs ys : List ℕ) → Fits bs xs → Fits bs ys → Falls t xs ys → code bs ys + step_of t ≤ code bs xs
+falls_steps : (t : Bool) (bs xs ys : List ℕ)
+    → Fits bs xs
+    → Fits bs ys
+    → Falls t xs ys
+    → code bs ys + step_of t ≤ code bs xs
 falls_steps true bs xs ys f h falls = omega (arith, before_code bs ys xs h f falls)
 falls_steps false bs xs ys f h falls = by_case (cases_lt (code bs xs) (code bs ys))
   where
@@ -62,7 +66,11 @@ falls_steps false bs xs ys f h falls = by_case (cases_lt (code bs xs) (code bs y
     by_case (inl low) = absurd (falls (code_before bs xs ys f h low))
     by_case (inr high) = omega arith
 
-steps_falls : (t : Bool) (bs xs ys : List ℕ) → Fits bs xs → Fits bs ys → code bs ys + step_of t ≤ code bs xs → Falls t xs ys
+steps_falls : (t : Bool) (bs xs ys : List ℕ)
+    → Fits bs xs
+    → Fits bs ys
+    → code bs ys + step_of t ≤ code bs xs
+    → Falls t xs ys
 steps_falls true bs xs ys f h steps = code_before bs ys xs h f (omega arith)
 steps_falls false bs xs ys f h steps = λ b. omega (arith, before_code bs xs ys f h b)
 

@@ -8,21 +8,24 @@
 --   woken_itself == a vertex that is flagged, or has the top, need not be woken
 --   woken_set    == a vertex is flagged
 --   Waking       == what a walk along a chain has done so far
-use Rattle.std.proofs.Common.{ℕ, zero, suc, ◌≡◌, ◌≢◌, ◌+◌, ◌-◌, ◌<◌, ◌≤◌, ◌⊎◌, inl, inr, ⊎_elim, arith, Bool, true, false, List, [], ◌∷◌, ◌++◌, length, get_or, set, replicate, None, refl, sym, ap, ◌∙◌, subst, length-set, length-append}
+use Rattle.std.proofs.Common.{ℕ, ◌≡◌, ◌+◌, ◌<◌, ◌≤◌, ◌⊎◌, inl, inr, ⊎_elim, arith, Bool, true, false, List, [], ◌∷◌, ◌++◌, length, get_or, set, replicate, None, refl, sym, ap, ◌∙◌, subst, length-set}
 use Rattle.std.proofs.lemmas.Bool.{cases_eq, cases_lt}
-use Rattle.std.proofs.lemmas.List.{get_or-set_same, get_or-set_other, get_or-replicate, get_or_past, length-replicate}
+use Rattle.std.proofs.lemmas.List.{get_or-set_same, get_or-set_other, get_or_past, length-replicate}
 use Rattle.ml_lists.specs.Member.{IsMember}
 use Rattle.ml_lists.proofs.Member.{member-append_left, member-append_right, member-append}
 use Rattle.ml_progress.specs.Measure.{Measure, measure_at}
 use Rattle.ml_progress.specs.declared.predecessors.Arrow.{Arrow}
-use Rattle.ml_progress.specs.private.Waits.{InChain, here, later, no_arrow, arrow_at, IsLinked, AreChained, IsWaiting, Woken}
+use Rattle.ml_progress.specs.private.Waits.{InChain, IsWaiting, Woken}
 
 -- the queue has the vertices below k, and no others
 pub record QueueUpTo (k : ℕ) (queue : List ℕ) : Type 0 where
   pub all : (v : ℕ) → v < k → IsMember v queue
   pub low : (v : ℕ) → IsMember v queue → v < k
 
-pub queue_more : (k : ℕ) (queue queue2 : List ℕ) → queue2 ≡ queue ++ k ∷ [] → QueueUpTo k queue → QueueUpTo (k + 1) queue2
+pub queue_more : (k : ℕ) (queue queue2 : List ℕ)
+    → queue2 ≡ queue ++ k ∷ []
+    → QueueUpTo k queue
+    → QueueUpTo (k + 1) queue2
 queue_more k queue queue2 is so_far = subst (QueueUpTo (k + 1)) (sym is) (record {
   all = λ v low. by_case v low (cases_eq v k);
   low = λ v inside. from v (member-append v queue (k ∷ []) inside);

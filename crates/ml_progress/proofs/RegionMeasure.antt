@@ -5,9 +5,9 @@
 --   region_measure      == that measure
 --   region_listed       == it has a list where the player wins
 --   region_progresses   == it is a progress measure
-use Rattle.std.proofs.Common.{ℕ, ◌≡◌, ◌≢◌, ◌+◌, ◌<◌, ◌≤◌, ◌⊎◌, inl, inr, ⊎_elim, arith, Bool, true, false, cond, List, length, get_or, map, take, count_by, leb, Option, Some, None, refl, sym, ap, ◌∙◌, subst, subst₂, length-take}
+use Rattle.std.proofs.Common.{ℕ, ◌≡◌, ◌≢◌, ◌<◌, ◌≤◌, ⊎_elim, arith, Bool, true, false, cond, List, length, get_or, map, take, Option, Some, None, refl, sym, ap, ◌∙◌, subst, subst₂, length-take}
 use Rattle.std.specs.List.{range_with_len, filter}
-use Rattle.std.proofs.lemmas.Bool.{cases_Bool, cond-true, cond-false}
+use Rattle.std.proofs.lemmas.Bool.{cond-true, cond-false}
 use Rattle.std.proofs.lemmas.List.{get_or-map, get_or-take, length-map}
 use Rattle.std.proofs.lemmas.List.FromFn.{length-map-range_with_len, get_or-map-range_with_len}
 use Rattle.ml_lists.specs.Member.{IsMember}
@@ -20,12 +20,12 @@ use Rattle.ml_parity.specs.Winner.{WinsFrom}
 use Rattle.ml_parity.specs.private.Sinks.{Holds}
 use Rattle.ml_parity.specs.private.SinkGame.{board_of}
 use Rattle.ml_parity.proofs.Boards.{first_move}
-use Rattle.ml_parity.proofs.Opponents.{cases_player, not_both, is_or_not, same_player, same_player-true, same_player-false}
+use Rattle.ml_parity.proofs.Opponents.{not_both, is_or_not, same_player, same_player-true, same_player-false}
 use Rattle.ml_parity.proofs.Winners.{Winners}
 use Rattle.ml_parity.proofs.FollowedWalks.{FollowedMove}
-use Rattle.ml_progress.specs.Measure.{Measure, Bounded, IsMeasure, ComesBefore, Falls, ProgressesFrom, Progresses, SomeProgress, IsProgressMeasure, is_bad, bad_priorities, how_many, measure_at, cut}
+use Rattle.ml_progress.specs.Measure.{Measure, Bounded, IsMeasure, ComesBefore, Falls, ProgressesFrom, Progresses, SomeProgress, IsProgressMeasure, is_bad, bad_priorities, how_many, measure_at}
 use Rattle.ml_progress.specs.private.Bounds.{cut_length}
-use Rattle.ml_progress.proofs.Cuts.{up_to, up_to-is, bad_side}
+use Rattle.ml_progress.proofs.Cuts.{up_to-is, bad_side}
 use Rattle.ml_progress.proofs.CutPlaces.{CutPlace, cut_fits, cut_low, cut_place, before_from}
 use Rattle.ml_progress.proofs.Visits.{Onward, visits, visits_low, visits_stay, visits_fall}
 

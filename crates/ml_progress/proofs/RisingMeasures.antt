@@ -6,7 +6,7 @@
 --   rising_rises    == a vertex was taken and rose, and those with a move to it wait
 --   less_to_rise    == there is less to be done then
 --   rising_ends     == where no vertex waits it is the least progress measure
-use Rattle.std.proofs.Common.{ℕ, ◌≡◌, ◌+◌, ◌*◌, ◌<◌, ◌≤◌, ◌⊎◌, inl, inr, ⊎_elim, arith, Bool, true, false, List, [], ◌∷◌, length, get_or, set, replicate, Some, None, refl, sym, ap, ◌∙◌, subst}
+use Rattle.std.proofs.Common.{ℕ, ◌≡◌, ◌+◌, ◌*◌, ◌<◌, ◌≤◌, ◌⊎◌, inl, inr, arith, Bool, true, false, List, [], ◌∷◌, length, get_or, set, replicate, Some, None, sym, ap, ◌∙◌, subst}
 use Rattle.std.proofs.Math.Nat.{mul-le-mul_right, add-mul}
 use Rattle.std.proofs.lemmas.Bool.{cases_eq}
 use Rattle.std.proofs.lemmas.List.{get_or-set_other}
@@ -18,7 +18,6 @@ use Rattle.ml_parity.specs.declared.players.Player.{Player}
 use Rattle.ml_parity.specs.Game.{ParityGame, IsGame, HasMove, moves_of, size}
 use Rattle.ml_progress.specs.Measure.{Measure, IsLeastMeasure, measure_at}
 use Rattle.ml_progress.specs.declared.predecessors.Arrow.{Arrow}
-use Rattle.ml_progress.specs.private.Bounds.{bounds_of}
 use Rattle.ml_progress.specs.private.Lifting.{IsLow, IsSettled, IsLifted, SettledOrFlagged, room}
 use Rattle.ml_progress.specs.private.Scales.{IsScale}
 use Rattle.ml_progress.specs.private.Waits.{InChain, ChainsUpTo, IsWaiting, Woken}

@@ -2,11 +2,11 @@
 --
 --   scale_made  == from the bad priorities, and the priorities of the vertices
 --   cut_within  == no cut is longer than a list
-use Rattle.std.proofs.Common.{◌≡◌, ℕ, ◌<◌, ◌≤◌, List, length, get_or, map, count_by, leb, arith, refl, sym, ap, ◌∙◌, subst}
+use Rattle.std.proofs.Common.{◌≡◌, ℕ, ◌≤◌, List, length, get_or, map, count_by, leb, arith, ap, ◌∙◌}
 use Rattle.std.proofs.lemmas.List.{get_or-map, length-map}
 use Rattle.std.proofs.lemmas.List.Sums.{count_by-le-length}
 use Rattle.ml_parity.specs.declared.players.Player.{Player}
-use Rattle.ml_parity.specs.Game.{ParityGame, IsGame, priority_of, size}
+use Rattle.ml_parity.specs.Game.{ParityGame, IsGame, priority_of}
 use Rattle.ml_progress.specs.Measure.{bad_priorities, how_many}
 use Rattle.ml_progress.specs.private.Bounds.{bounds_of, cut_length}
 use Rattle.ml_progress.specs.private.Scales.{IsScale}

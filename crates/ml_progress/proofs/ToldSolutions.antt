@@ -3,11 +3,9 @@
 --   told                            == the winner is the player whose measure isn't the top
 --   told_solution, told_elsewhere   == they are a solution of the game
 --   answer_solution, .., answer_first == what is said of the answer
-use Rattle.std.proofs.Common.{ℕ, ◌≡◌, ◌≢◌, ◌<◌, ◌⊎◌, inl, inr, ⊎_elim, ◌↔◌, arith, List, length, get_or, Option, Some, None, refl, sym, ap, ◌∙◌, subst}
-use Rattle.std.proofs.lemmas.List.{get_or_default}
+use Rattle.std.proofs.Common.{ℕ, ◌≡◌, ◌≢◌, ◌<◌, ⊎_elim, ◌↔◌, List, get_or, Option, Some, None, refl, sym, ap, ◌∙◌, subst}
 use Rattle.ml_parity.specs.declared.players.Player.{Player}
 use Rattle.ml_parity.specs.declared.players.Player.TheVariants.{Even, Odd}
-use Rattle.ml_parity.specs.Player.{opponent}
 use Rattle.ml_parity.specs.Game.{ParityGame, IsGame, HasMove, moves_of, owner_of, size}
 use Rattle.ml_parity.specs.Winner.{WinsFrom, Wins}
 use Rattle.ml_parity.specs.Solution.{GameSolution, IsSolution, FirstElsewhere, winner_at, choice_at}

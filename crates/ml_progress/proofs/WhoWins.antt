@@ -8,12 +8,11 @@ use Rattle.std.proofs.Common.{ℕ, ◌≡◌, ◌≢◌, ◌<◌, ◌≤◌, ◌
 use Rattle.std.proofs.lemmas.Bool.{cases_lt}
 use Rattle.ml_parity.specs.declared.players.Player.{Player}
 use Rattle.ml_parity.specs.Game.{ParityGame, IsGame, HasMove, owner_of, size}
-use Rattle.ml_parity.specs.Winner.{IsStrategyOf, Wins}
+use Rattle.ml_parity.specs.Winner.{Wins}
 use Rattle.ml_parity.proofs.Opponents.{is_or_not}
 use Rattle.ml_parity.proofs.Winners.{Winners, winners}
-use Rattle.ml_progress.specs.Measure.{Measure, IsBelow, Progresses, SomeProgress, IsProgressMeasure, IsLeastMeasure, measure_at}
+use Rattle.ml_progress.specs.Measure.{HasList, Measure, IsBelow, Progresses, IsProgressMeasure, IsLeastMeasure, measure_at}
 use Rattle.ml_progress.specs.Law.{MeasureLaw}
-use Rattle.ml_progress.specs.Measure.{HasList}
 use Rattle.ml_progress.proofs.Winning.{progress_wins}
 use Rattle.ml_progress.proofs.RegionMeasure.{region_measure, region_listed, region_progresses}
 

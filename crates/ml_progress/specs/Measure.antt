@@ -113,7 +113,11 @@ pub record IsProgressMeasure (g : ParityGame) (p : Player) (m : Measure) : Type 
 -- a progress measure to which no other one is below at any vertex
 pub record IsLeastMeasure (g : ParityGame) (p : Player) (m : Measure) : Type 0 where
   pub progress : IsProgressMeasure g p m
-  pub least : (n : Measure) → IsProgressMeasure g p n → (v : ℕ) → v < size g → ¬ (IsBelow (measure_at n v) (measure_at m v))
+  pub least : (n : Measure)
+      → IsProgressMeasure g p n
+      → (v : ℕ)
+      → v < size g
+      → ¬ (IsBelow (measure_at n v) (measure_at m v))
 
 -- the measure does not give vertex v the top
 abbrev pub HasList : Measure → ℕ → Type 0

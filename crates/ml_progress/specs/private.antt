@@ -12,3 +12,5 @@ pub mod Waits
 pub mod Lifting
 -- winners and choices, as they are read off the measures
 pub mod Choices
+-- the structs of the program, as what they hold
+pub mod Sides

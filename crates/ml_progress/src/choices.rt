@@ -1,13 +1,12 @@
 // Winners and choices, read off the least measures.
 
-ghost use Rattle.std.specs.Prelude.{◌≡◌, ◌≢◌, ◌<◌, ◌↔◌, IfOk, IsTrue, None, length};
+ghost use Rattle.std.specs.Prelude.{◌≡◌, ◌<◌, ◌↔◌, IfOk, IsTrue, length};
 ghost use Rattle.ml_parity.specs.declared.players.Player.TheVariants.{Even, Odd};
 ghost use Rattle.ml_parity.specs.Game.{IsGame, owner_of, size};
-ghost use Rattle.ml_progress.specs.Measure.{HasList};
 ghost use Rattle.ml_progress.specs.Measure.{Progresses};
 ghost use Rattle.ml_progress.specs.Measured.{IsFirstProgress};
 ghost use Rattle.ml_progress.specs.private.Choices.{AreChoices, AreWinners, IsChoiceFor};
-ghost use Rattle.ml_progress.specs.private.Scales.{IsSide};
+ghost use Rattle.ml_progress.specs.private.Sides.{HasSide, IsSideOf};
 
 use crate::lifting::Side;
 use crate::order::comes_before;
@@ -20,7 +19,7 @@ use std::alloc::Global;
 /// Whether a move progresses.
 fn progresses(game: &Game, side: &Side, from: usize, to: usize) -> bool
     requires game { IsGame game.now }
-    requires side { IsSide game.now side.now.scale.player side.now.scale.player side.now.scale.bounds.items side.now.scale.cuts.items side.now.table }
+    requires side { IsSideOf game.now side.now }
     requires from { from < size game.now }
     requires to { to < size game.now }
     ensures { IsTrue result ↔ Progresses game.now side.now.scale.player side.now.table.rows from to }
@@ -44,7 +43,7 @@ fn progresses(game: &Game, side: &Side, from: usize, to: usize) -> bool
 /// The first successor to which the move progresses, where the owner has a list.
 fn first_progress(game: &Game, side: &Side, vertex: usize) -> u64
     requires game { IsGame game.now }
-    requires side { IsSide game.now side.now.scale.player side.now.scale.player side.now.scale.bounds.items side.now.scale.cuts.items side.now.table }
+    requires side { IsSideOf game.now side.now }
     requires vertex { vertex < size game.now }
     requires own { owner_of game.now vertex ≡ side.now.scale.player }
     ensures { IsFirstProgress game.now side.now.scale.player side.now.table.rows vertex result }
@@ -60,7 +59,7 @@ fn first_progress(game: &Game, side: &Side, vertex: usize) -> u64
 /// The choice at a vertex of the player of this side.
 fn choice_of(game: &Game, side: &Side, vertex: usize) -> u64
     requires game { IsGame game.now }
-    requires side { IsSide game.now side.now.scale.player side.now.scale.player side.now.scale.bounds.items side.now.scale.cuts.items side.now.table }
+    requires side { IsSideOf game.now side.now }
     requires vertex { vertex < size game.now }
     requires own { owner_of game.now vertex ≡ side.now.scale.player }
     ensures { IsChoiceFor game.now side.now.scale.player side.now.table.rows vertex result }
@@ -97,8 +96,8 @@ pub(crate) fn choices(
     odd: &Side,
 ) -> Result<Vec<u64>, NoMemory>
     requires game { IsGame game.now }
-    requires even { IsSide game.now Even even.now.scale.player even.now.scale.bounds.items even.now.scale.cuts.items even.now.table }
-    requires odd { IsSide game.now Odd odd.now.scale.player odd.now.scale.bounds.items odd.now.scale.cuts.items odd.now.table }
+    requires even { HasSide game.now Even even.now }
+    requires odd { HasSide game.now Odd odd.now }
     ensures { IfOk result (λ c. AreChoices game.now even.now.table.rows odd.now.table.rows c.items) }
 {
     let size = game.size();

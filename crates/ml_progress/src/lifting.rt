@@ -1,12 +1,11 @@
 // Lifting: a measure rises, vertex by vertex, to the least progress measure.
 
-ghost use Rattle.std.specs.Prelude.{◌≡◌, ◌≢◌, ◌<◌, ◌≤◌, ◌↔◌, ℕ, List, All, Contains, IfOk, IsTrue, None, length, get_or};
-ghost use Rattle.ml_parity.specs.Game.{IsGame, moves_of, size};
+ghost use Rattle.std.specs.Prelude.{◌≡◌, ◌<◌, ◌≤◌, ◌↔◌, ℕ, List, All, Contains, IfOk, IsTrue, length};
+ghost use Rattle.ml_parity.specs.Game.{IsGame, size};
 ghost use Rattle.ml_progress.specs.Measure.{IsLeastMeasure, measure_at};
 ghost use Rattle.ml_progress.specs.private.Codes.{cut_level};
 ghost use Rattle.ml_progress.specs.private.Lifting.{AreFitting, IsExtreme, IsFurther, IsLifted, IsLow};
-ghost use Rattle.ml_progress.specs.private.Scales.{IsScale, IsSide};
-ghost use Rattle.ml_progress.specs.private.Waits.{ChainsUpTo};
+ghost use Rattle.ml_progress.specs.private.Sides.{HasChains, HasScale, HasSide};
 
 use crate::order::{comes_before, least_progress};
 use crate::predecessors::Predecessors;
@@ -40,8 +39,9 @@ fn is_further(table: &Table, first: usize, second: usize, cut: usize, least: boo
     requires first { first < length table.now.rows }
     requires second { second < length table.now.rows }
     requires cut { cut ≤ table.now.wide }
-    ensures { (bs : List ℕ) → AreFitting bs table.now.rows → IsTrue result
-        ↔ IsFurther least (cut_level cut bs (measure_at table.now.rows first)) (cut_level cut bs (measure_at table.now.rows second)) }
+    ensures { (bs : List ℕ) → AreFitting bs table.now.rows → IsTrue result ↔ IsFurther least
+        (cut_level cut bs (measure_at table.now.rows first))
+        (cut_level cut bs (measure_at table.now.rows second)) }
 {
     if least {
         is_cut_before(table, first, second, cut)
@@ -57,7 +57,8 @@ fn extreme_vertex(table: &Table, vertices: &[u64], cut: usize, least: bool) -> u
     requires cut { cut ≤ table.now.wide }
     ensures low { result < length table.now.rows }
     ensures member { Contains vertices.now result }
-    ensures extreme { (bs : List ℕ) → AreFitting bs table.now.rows → IsExtreme least cut bs table.now.rows vertices.now result }
+    ensures extreme { (bs : List ℕ) → AreFitting bs table.now.rows
+        → IsExtreme least cut bs table.now.rows vertices.now result }
 {
     let mut best = vertices[0] as usize;
     for vertex in vertices {
@@ -68,10 +69,11 @@ fn extreme_vertex(table: &Table, vertices: &[u64], cut: usize, least: bool) -> u
     best
 }
 
-/// Lifts a vertex: gives it the least value with which its moves progress, if that is above what it has. Says whether it is.
+/// Lifts a vertex: gives it the least value with which its moves progress, if that is above what it has. Says whether
+/// it is.
 fn lift(game: &Game, scale: &Scale, table: &mut Table, next: &mut [u64], vertex: usize) -> bool
     requires game { IsGame game.now }
-    requires scale { IsScale game.now scale.now.player scale.now.bounds.items scale.now.cuts.items }
+    requires scale { HasScale game.now scale.now }
     requires wide { table.old.wide ≡ length scale.now.bounds.items }
     requires room { length next.old ≡ length scale.now.bounds.items }
     requires vertex { vertex < size game.now }
@@ -97,8 +99,8 @@ fn least_measure(
     predecessors: &Predecessors,
     scale: &Scale,
 ) -> Result<Table, NoMemory>
-    requires scale { IsScale game.now scale.now.player scale.now.bounds.items scale.now.cuts.items }
-    requires chains { ChainsUpTo game.now (size game.now) predecessors.now.last.items predecessors.now.arrows.items }
+    requires scale { HasScale game.now scale.now }
+    requires chains { HasChains game.now predecessors.now }
     ensures wide { IfOk result (λ t. t.wide ≡ length scale.now.bounds.items) }
     ensures least { IfOk result (λ t. IsLeastMeasure game.now scale.now.player t.rows) }
 {
@@ -134,8 +136,8 @@ pub(crate) fn side_of(
     player: Player,
 ) -> Result<Side, NoMemory>
     requires game { IsGame game.now }
-    requires chains { ChainsUpTo game.now (size game.now) predecessors.now.last.items predecessors.now.arrows.items }
-    ensures { IfOk result (λ s. IsSide game.now player s.scale.player s.scale.bounds.items s.scale.cuts.items s.table) }
+    requires chains { HasChains game.now predecessors.now }
+    ensures { IfOk result (HasSide game.now player) }
 {
     let scale = scale_of(alloc, game, player)?;
     let table = least_measure(alloc, game, predecessors, &scale)?;

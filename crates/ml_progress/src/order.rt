@@ -31,7 +31,8 @@ fn copy_front(row: &[u64], cut: usize, next: &mut [u64])
 fn count_up(bounds: &[u64], cut: usize, numbers: &mut [u64]) -> bool
     requires fits { Fits bounds.now numbers.old }
     requires cut { cut ≤ length bounds.now }
-    requires zeros { code bounds.now numbers.old ≡ code (take cut bounds.now) (take cut numbers.old) * space (drop cut bounds.now) }
+    requires zeros { code bounds.now numbers.old
+        ≡ code (take cut bounds.now) (take cut numbers.old) * space (drop cut bounds.now) }
     ensures { IsTarget cut bounds.now true (Some numbers.old) (listed result numbers.new) }
 {
     let mut place = cut;

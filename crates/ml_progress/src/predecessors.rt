@@ -2,8 +2,8 @@
 // is a chain of moves for each vertex.
 
 ghost use Rattle.std.specs.Prelude.{◌≡◌, ◌<◌, IfOk, OnOk, All, length};
-ghost use Rattle.ml_parity.specs.Game.{size};
-ghost use Rattle.ml_progress.specs.private.Waits.{AddsMoves, AreChained, ChainsUpTo};
+ghost use Rattle.ml_progress.specs.private.Sides.{HasChains};
+ghost use Rattle.ml_progress.specs.private.Waits.{AddsMoves, AreChained};
 
 use crate::reading::moves_at;
 use ml_base::NoMemory;
@@ -38,7 +38,8 @@ fn add_moves(
     requires vertex { vertex < length last.old }
     requires moves { All (λ w. w < length last.old) moves.now }
     requires chained { AreChained (length last.old) last.old arrows.old.items }
-    ensures { OnOk result (AddsMoves (length last.old) vertex (length moves.now) moves.now last.old arrows.old.items last.new arrows.new.items) }
+    ensures { OnOk result (AddsMoves (length last.old) vertex (length moves.now) moves.now
+        last.old arrows.old.items last.new arrows.new.items) }
 {
     for to in moves {
         let to = *to as usize;
@@ -53,7 +54,7 @@ fn add_moves(
 
 /// The chains of all moves.
 pub(crate) fn predecessors_of(alloc: Global, game: &Game) -> Result<Predecessors, NoMemory>
-    ensures { IfOk result (λ p. ChainsUpTo game.now (size game.now) p.last.items p.arrows.items) }
+    ensures { IfOk result (HasChains game.now) }
 {
     let mut last = vec![in alloc; 0; game.size()]?;
     let mut arrows = Vec::new(alloc);

@@ -7,7 +7,7 @@ ghost use Rattle.ml_parity.specs.Solution.{IsSolution, FirstElsewhere};
 ghost use Rattle.ml_progress.specs.Measure.{IsLeastMeasure, measure_at};
 ghost use Rattle.ml_progress.specs.Measured.{FirstProgressing, IsTold, list_in, measure_in};
 ghost use Rattle.ml_progress.specs.private.Choices.{IsReadOff};
-ghost use Rattle.ml_progress.specs.private.Scales.{IsSide};
+ghost use Rattle.ml_progress.specs.private.Sides.{HasSide};
 
 use crate::answer::Measured;
 use crate::choices::{choices, winners};
@@ -44,8 +44,8 @@ fn entries(alloc: Global, size: usize, table: &Table) -> Result<Vec<Option<Vec<u
 /// The solution that the measures tell.
 fn solution(alloc: Global, game: &Game, even: &Side, odd: &Side) -> Result<Solution, NoMemory>
     requires game { IsGame game.now }
-    requires even { IsSide game.now Even even.now.scale.player even.now.scale.bounds.items even.now.scale.cuts.items even.now.table }
-    requires odd { IsSide game.now Odd odd.now.scale.player odd.now.scale.bounds.items odd.now.scale.cuts.items odd.now.table }
+    requires even { HasSide game.now Even even.now }
+    requires odd { HasSide game.now Odd odd.now }
     ensures { IfOk result (λ s. IsReadOff game.now even.now.table.rows odd.now.table.rows s) }
 {
     let winner = winners(alloc, game, &even.table)?;

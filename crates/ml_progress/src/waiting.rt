@@ -76,12 +76,14 @@ impl Waiting {
     ) -> Result<(), NoMemory>
         requires low { vertex < length self.old.flags.items }
         requires long { length self.old.flags.items ≡ length table.now.rows }
-        requires chained { AreChained (length self.old.flags.items) predecessors.now.last.items predecessors.now.arrows.items }
+        requires chained { AreChained (length self.old.flags.items)
+            predecessors.now.last.items predecessors.now.arrows.items }
         requires waiting { IsWaiting self.old.flags.items self.old.queue.items }
         ensures waiting { OnOk result (IsWaiting self.new.flags.items self.new.queue.items) }
         ensures woken { OnOk result (Woken table.now.rows self.old.flags.items self.new.flags.items
             (λ u. InChain predecessors.now.arrows.items u (get_or predecessors.now.last.items vertex 0))) }
-        ensures few { OnOk result (length self.new.queue.items ≤ length self.old.queue.items + length predecessors.now.arrows.items) }
+        ensures few { OnOk result (length self.new.queue.items
+            ≤ length self.old.queue.items + length predecessors.now.arrows.items) }
     {
         let mut at = predecessors.last[vertex];
         while at > 0 {

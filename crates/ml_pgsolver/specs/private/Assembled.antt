@@ -8,7 +8,7 @@
 --   highest_of n rows        == the highest priority of the rows, and n
 --   unknown_from ids end n ts == the byte of the first sign that is a successor and none of the ids, where n tokens stand
 --                               behind the last `;`, or the end
-use Rattle.std.specs.Prelude.{ℕ, ◌≡◌, ◌+◌, ◌<◌, ◌≤◌, Bool, true, false, not, ◌&&◌, nat_le, max, List, [], ◌∷◌, length, map, All, Option, Some, None, if◌then◌else◌}
+use Rattle.std.specs.Prelude.{ℕ, ◌≡◌, ◌+◌, ◌<◌, ◌≤◌, Bool, false, not, ◌&&◌, nat_le, max, List, [], ◌∷◌, length, map, All, Option, Some, None, if◌then◌else◌}
 use Rattle.ml_lists.specs.Member.{IsMember}
 use Rattle.ml_lists.specs.Times.{IsApart}
 use Rattle.ml_pgsolver.specs.GameText.{Row, id_at}

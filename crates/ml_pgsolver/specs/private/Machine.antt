@@ -8,7 +8,7 @@
 --   step s t at             == what it knows behind the sign t, which stands at this byte, or how it refuses the text
 --   outcome_from end s ts   == what comes of the signs ts, where the text ends at this byte
 --   IsTold e out            == the refusal e is what came; want of memory says nothing
-use Rattle.std.specs.Prelude.{ℕ, ◌+◌, ◌≡◌, Bool, true, false, nat_eq, nat_le, List, [], ◌∷◌, ◌++◌, length, Option, Some, None, Result, Ok, Err, if◌then◌else◌}
+use Rattle.std.specs.Prelude.{ℕ, ◌+◌, ◌≡◌, Bool, nat_eq, nat_le, List, [], ◌∷◌, ◌++◌, length, Option, Some, None, Result, Ok, Err, if◌then◌else◌}
 use Rattle.std.specs.List.{list_any}
 use Rattle.ml_parity.specs.declared.players.Player.{Player}
 use Rattle.ml_pgsolver.specs.GameText.{Row}

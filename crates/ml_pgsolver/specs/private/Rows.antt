@@ -3,7 +3,7 @@
 --   row_view r   == the row that r holds
 --   rows_view rs == the rows that these hold
 --   state_of r   == what the reader r knows
-use Rattle.std.specs.Prelude.{ℕ, List, map}
+use Rattle.std.specs.Prelude.{List, map}
 use Rattle.ml_pgsolver.specs.GameText as game_text
 use Rattle.ml_pgsolver.specs.declared.reader.Reader.{Reader}
 use Rattle.ml_pgsolver.specs.declared.reader.Row.{Row}

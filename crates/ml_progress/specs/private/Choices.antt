@@ -5,7 +5,7 @@
 --   IsChoiceFor g p m v w    == w is the first successor to which the move progresses, or the first one where p has the top
 --   AreChoices g me mo choices == so for all vertices, with the measure of the owner
 --   IsReadOff g me mo s        == both of a solution
-use Rattle.std.specs.Prelude.{ℕ, ◌≡◌, ◌≢◌, ◌<◌, List, length, get_or, Option, Some, None}
+use Rattle.std.specs.Prelude.{ℕ, ◌≡◌, ◌<◌, List, length, get_or, Option, Some, None}
 use Rattle.ml_parity.specs.declared.players.Player.{Player}
 use Rattle.ml_parity.specs.declared.players.Player.TheVariants.{Even, Odd}
 use Rattle.ml_parity.specs.Game.{ParityGame, moves_of, owner_of, size}

@@ -1,4 +1,4 @@
-use Rattle.ml_driver.proofs.ReadBack.{decided_are_checked, refuted_are_accepted}
+use Rattle.ml_driver.proofs.ReadBack.{decide_is_checked, decided_are_checked, refuted_are_accepted, valid_is_checked}
 use Rattle.ml_driver.proofs.laws.decided_are_checked.Goals as goal
 
 pub returns-clause-satisfied : goal.returns-clause-satisfied
@@ -6,3 +6,9 @@ returns-clause-satisfied c = decided_are_checked
 
 pub returns-clause-refuted : goal.returns-clause-refuted
 returns-clause-refuted c = refuted_are_accepted
+
+pub returns-clause-decided : goal.returns-clause-decided
+returns-clause-decided c = decide_is_checked
+
+pub returns-clause-valid : goal.returns-clause-valid
+returns-clause-valid c = valid_is_checked

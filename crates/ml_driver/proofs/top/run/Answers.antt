@@ -21,7 +21,7 @@ returns-in-Err-TooLong g c =
     let long : refused.limit < length gives.0 = omega (arith, gives.2) in
     ended_with (Some command) _ _ _ (sym c.in-Ok-Some.ensures.command ∙ c.in-Ok-Some.field-0-is)
     (ended_written (Some command) _ gives.0 status.Text refused_length _
-    (given_past command refused.limit _ _ gives.0 refused.takes gives.1 long) calm
+    (given_past command refused.limit _ _ gives.0 refused.takes gives.1 gives.2) calm
     (too_long_due command refused.limit gives.0 refused.takes long)
     c.written-in-Err-TooLong.ensures.is_whole c.written-in-Err-TooLong.ensures.wrote)
 

@@ -1,4 +1,4 @@
-use Rattle.std.proofs.Common.{◌≤◌, arith}
+use Rattle.std.proofs.Common.{arith}
 use Rattle.ml_pgsolver.specs.Refusals.{greatest_number}
 use Rattle.ml_pgsolver.proofs.Highest.{highest-small, least_even}
 use Rattle.ml_pgsolver.proofs.assembling.least_even_from.Goals as goal

@@ -1,4 +1,4 @@
-use Rattle.std.proofs.Common.{◌≡◌, ◌++◌, take, drop, length}
+use Rattle.std.proofs.Common.{◌≡◌, take, drop, length}
 use Rattle.ml_pgsolver.specs.private.Assembled.{ArePlaces}
 use Rattle.ml_pgsolver.proofs.assembling.places_of.Given as goal
 

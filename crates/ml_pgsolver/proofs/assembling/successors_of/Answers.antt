@@ -1,9 +1,5 @@
-use Rattle.std.proofs.Common.{subst, sym, ap, ◌∙◌}
 use Rattle.std.proofs.lemmas.Iterator.Adapters.{YieldsList-from_vec}
 use Rattle.std.proofs.lemmas.Iterator.Consumers.{YieldsList-turn}
-use Rattle.ml_parity.specs.Refusal.{lists_of}
-use Rattle.ml_pgsolver.specs.private.Assembled.{AreGiven}
-use Rattle.ml_pgsolver.specs.private.Rows.{rows_view}
 use Rattle.ml_pgsolver.proofs.Places.{given_none, given_more, unknown_in}
 use Rattle.ml_pgsolver.proofs.assembling.successors_of.Goals as goal
 
@@ -12,9 +8,12 @@ loop-row-init c =
     (tt, tt, given_none c.args.ids.now _ c.in_ok-given.ensures.items)
 
 pub loop-row-preserved : goal.loop-row-preserved
-loop-row-preserved c =
-    (tt, tt, given_more c.args.ids.now c.loop-row.given.items c.loop-row.yielded c.in-Some.row c.in-Some-places_of.places
-    c.push.new.self.items c.loop-row.invariant.2 c.in-Some-places_of.ensures c.in_ok-push.ensures.items)
+loop-row-preserved c = (
+  tt,
+  tt,
+  given_more c.args.ids.now c.loop-row.given.items c.loop-row.yielded c.in-Some.row c.in-Some-places_of.places
+      c.push.new.self.items c.loop-row.invariant.2 c.in-Some-places_of.ensures c.in_ok-push.ensures.items,
+)
 
 pub returns-in_default : goal.returns-in_default
 returns-in_default c =

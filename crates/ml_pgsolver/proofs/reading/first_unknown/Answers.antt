@@ -1,5 +1,5 @@
-use Rattle.std.proofs.Common.{◌≡◌, ◌≤◌, length, sym, ap, ◌∙◌, arith}
-use Rattle.ml_pgsolver.specs.private.Assembled.{is_stranger, sign_place, unknown_from}
+use Rattle.std.proofs.Common.{length, sym, ap, ◌∙◌, arith}
+use Rattle.ml_pgsolver.specs.private.Assembled.{unknown_from}
 use Rattle.ml_pgsolver.specs.private.Signs.{signs_from}
 use Rattle.ml_pgsolver.proofs.UnknownSteps.{stranger_here, stranger_later, no_stranger, place_grows}
 use Rattle.ml_pgsolver.proofs.reading.first_unknown.Goals as goal

@@ -1,4 +1,4 @@
-use Rattle.std.proofs.Common.{rules, ◌≡◌, length, map, sym, ap, subst, ◌∙◌}
+use Rattle.std.proofs.Common.{rules, map, sym, subst, ◌∙◌}
 use Rattle.std.proofs.lemmas.Simd.{map-map}
 use Rattle.ml_pgsolver.specs.GameText as game_text
 use Rattle.ml_pgsolver.specs.Tokens.{tokens, signs_of}

@@ -1,5 +1,4 @@
 -- The top comes behind all lists, and lists are compared by their first numbers.
-use Rattle.std.proofs.Common.{sym, ◌∙◌}
 use Rattle.ml_progress.specs.Measure.{measure_at}
 use Rattle.ml_progress.proofs.CutLevels.{top_first, top_second, both_rows}
 use Rattle.ml_progress.proofs.lifting.is_cut_before.Goals as goal

@@ -1,5 +1,5 @@
 -- The measure rises from zeros, until no vertex waits.
-use Rattle.std.proofs.Common.{◌≡◌, ◌∙◌, ap, arith, false, length, length-set, sym}
+use Rattle.std.proofs.Common.{◌≡◌, ◌∙◌, ap, false, length, length-set, sym}
 use Rattle.ml_progress.proofs.HandedBack.{handed_back}
 use Rattle.ml_progress.proofs.RisingMeasures.{rising_begins, rising_stays, rising_rises, less_to_rise, rising_ends}
 use Rattle.ml_progress.proofs.lifting.least_measure.Goals as goal

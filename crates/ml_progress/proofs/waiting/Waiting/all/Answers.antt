@@ -1,5 +1,4 @@
 -- In the end all vertices stand in the queue.
-use Rattle.std.proofs.Common.{arith}
 use Rattle.ml_progress.proofs.Queues.{queue_more, wait_all}
 use Rattle.ml_progress.proofs.waiting.Waiting.all.Goals as goal
 

@@ -1,0 +1,2 @@
+-- the deterministic automaton of histories
+pub mod Histories

@@ -1,0 +1,11 @@
+// Büchi automata made deterministic: a parity automaton over histories.
+//
+// A Büchi automaton over finitely many letters is a row of letters, each a set of transitions (`specs/Histories.antt`). Its
+// histories, along with the marks of their steps, are a deterministic parity automaton, and this accepts exactly the
+// endless words that the given one accepts: `laws::same_words`, which rests on both cycle laws of `ml_history`.
+//
+// Below stand `ml_trace`, with what it means that an automaton accepts a word, and `ml_history`, with the history step; of
+// `ml_product` only this is taken, that histories over finitely many states are finitely many.
+#![tactic(auto)]
+
+pub mod laws;

@@ -1,0 +1,2 @@
+-- the sizes of decision games
+pub mod Sizes

@@ -1,0 +1,13 @@
+// The families of formulas, measured for all numbers.
+//
+// `ml_gen` has the families, their formulas and how many occurrences these have; `bench` of `ml_driver` measures one of
+// them. Here stand the laws that say how many positions their decision games have for each number, and nothing that runs.
+//
+// The laws stand on one lemma (`proofs/Listed`): positions that are reached, the start among them, of which none stands
+// twice and from which moves lead to one another alone, are all that are reached. The games of `step` and `loop` are
+// lines of positions (`Kinds` there), those of `and` and `or` trees of choices (`proofs/Trees`).
+//
+// Below stand `ml_driver` and what it stands on.
+#![tactic(auto)]
+
+pub mod laws;

@@ -1,0 +1,11 @@
+// Tests of progress measures. They stand here, above the crates that they call, so that none of those is proved a second
+// time for its tests.
+//
+//   engine_tests   lifting against the recursion, on small and on random games
+//   worked_tests   measures that were worked out by hand
+#![tactic(auto)]
+
+#[cfg(test)]
+mod engine_tests;
+#[cfg(test)]
+mod worked_tests;
