@@ -44,5 +44,7 @@ mod OneGame
 mod OneAnswers
 -- each text has an answer
 mod SomeAnswers
+-- the longest token at the front of a text
+mod LongestTokens
 -- one step of the reader
 mod Steps
