@@ -44,5 +44,7 @@ mod OneGame
 pub mod OneAnswers
 -- each text has an answer
 pub mod SomeAnswers
+-- the longest token at the front of a text
+mod LongestTokens
 -- one step of the reader
 mod Steps

@@ -1,5 +1,7 @@
 -- the tokens of a text
 pub mod Tokens
+-- the longest token at the front of a text
+pub mod Longest
 -- the grammar of game texts
 pub mod Grammar
 -- the game that a text stands for

@@ -1,6 +1,7 @@
 // What holds of texts and answers by their definitions alone: the functions do nothing, their contracts are the theorems.
 ghost use Rattle.std.specs.Prelude.{◌≡◌};
 ghost use Rattle.ml_pgsolver.specs.Laws.{IsUnambiguous, OneAnswer};
+ghost use Rattle.ml_pgsolver.specs.Longest.{FrontIsLongest};
 ghost use Rattle.ml_pgsolver.specs.declared.limits.TheConstants as limit;
 
 /// A text stands for one game at most; it is read as a game or refused, never both, and but for want of memory it is
@@ -8,6 +9,12 @@ ghost use Rattle.ml_pgsolver.specs.declared.limits.TheConstants as limit;
 pub fn one_answer()
     ensures unambiguous { IsUnambiguous }
     ensures answer { OneAnswer }
+{}
+
+/// The token at the front of a text is the longest one of the grammar with which the text begins; a byte that begins none
+/// is a token by itself, which the grammar has nowhere.
+pub fn longest_token()
+    ensures { FrontIsLongest }
 {}
 
 /// A game text has at most 200,000 vertices, 2,000,000 successors and numbers up to 4,294,967,294; programs take up to
