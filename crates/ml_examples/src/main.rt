@@ -22,7 +22,7 @@ use std::fs;
 use std::io::Print;
 use std::rt::Files;
 
-const FILES: [&str; 14] = [
+const FILES: [&str; 15] = [
     "examples",
     "patterns",
     "words",
@@ -37,6 +37,7 @@ const FILES: [&str; 14] = [
     "families",
     "models",
     "refutations",
+    "games",
 ];
 
 /// The rows of a file, and how many they are.
