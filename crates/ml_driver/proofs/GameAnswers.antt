@@ -92,24 +92,34 @@ on_game e text =
     (λ (short : length text ≤ longest_game).
     ⊎_elim
     (λ (read : (g : NamedGame) × IsReadAs text g).
-    let s = solution_by e read.0.game read.1.stands.is_game.is_named.game in
-    (Yes, (solution_text read.0 s.0, record {
-      named = read.0;
-      solution = s.0;
-      is_short = short;
-      is_read = read.1;
-      is_solution = s.1;
-      is_made = s.2;
-      is_written = refl;
-    })))
+    let s = solution_by e read.0.game read.1.stands.is_game.is_named.game in (
+      Yes,
+      (
+        solution_text read.0 s.0,
+        record {
+          named = read.0;
+          solution = s.0;
+          is_short = short;
+          is_read = read.1;
+          is_solution = s.1;
+          is_made = s.2;
+          is_written = refl;
+        },
+      ),
+    ))
     (λ (refused : (d : GameTextRefusal) × (d ≢ cause.NoMemory) × IsRefusedBy text d).
-    let line = game_line refused.0 refused.1 in
-    (Text, (line.0, inr (record {
-      refusal = refused.0;
-      is_short = short;
-      is_refused = refused.2;
-      is_written = line.1;
-    }))))
+    let line = game_line refused.0 refused.1 in (
+      Text,
+      (
+        line.0,
+        inr (record {
+          refusal = refused.0;
+          is_short = short;
+          is_refused = refused.2;
+          is_written = line.1;
+        }),
+      ),
+    ))
     (some_answer text))
     (cases_lt longest_game (length text))
 
