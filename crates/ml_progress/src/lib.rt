@@ -5,7 +5,15 @@
 // list exactly at the vertices that the player wins, in games of any size: `laws::least_measure_tells` says so, of the
 // definitions alone.
 //
-// Below stands `ml_parity`, with the games and their other solver.
+// The calls to know:
+// - `measures` gives the least progress measures of both players, and the solution that they tell: Jurdziński's lifting.
+// - `laws::least_measure_tells` does nothing; its contract is the law.
+//
+// `scale` has what the lists of a player look like, `table` a measure in one flat list, `order` how lists are compared and
+// which one comes next, `lifting` the loop, with `predecessors` and the queue of `waiting`; `choices` and `solving` read
+// the solution off.
+//
+// Below stands `ml_parity`, with the games and their other solver. Tests stand in `ml_progress_tests`.
 #![tactic(auto)]
 
 pub mod answer;
