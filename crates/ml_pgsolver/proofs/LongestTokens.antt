@@ -1,17 +1,17 @@
 -- The token at the front of a text is the longest one.
 --
 --   front_is_longest  == so it is
-use Rattle.std.proofs.Common.{◌≡◌, ℕ, zero, suc, ◌+◌, ◌<◌, ◌≤◌, Bool, true, false, ◌==◌, nat_eq, List, [], ◌∷◌, ◌++◌, length, take, drop, get_or, All, inl, inr, if◌then◌else◌, refl, sym, ◌∙◌, ap, subst, arith, codes, length-append}
+use Rattle.std.proofs.Common.{◌≡◌, ℕ, suc, ◌+◌, ◌≤◌, Bool, true, false, ◌==◌, nat_eq, List, [], ◌∷◌, ◌++◌, length, take, drop, get_or, inl, inr, if◌then◌else◌, refl, sym, ◌∙◌, ap, subst, arith, codes}
 use Rattle.std.specs.List.{take_while, prefix_len, starts_with}
 use Rattle.std.proofs.lemmas.Bool.{cond-true, cond-false, cond_both, eqb-true, eq-eqb}
 use Rattle.std.proofs.lemmas.List.{take-append-drop, append_assoc}
 use Rattle.std.proofs.lemmas.List.Folds.{length-prefix_len}
-use Rattle.std.proofs.Math.Seq.{drop-append_seam, take-append_seam}
+use Rattle.std.proofs.Math.Seq.{drop-append_seam}
 use Rattle.ml_lists.specs.Member.{IsMember}
 use Rattle.ml_lists.proofs.Member.{All-member, member-All}
 use Rattle.ml_text.specs.Bytes.{is_digit}
 use Rattle.ml_text.proofs.Signs.{starts_with-front, front-starts_with}
-use Rattle.ml_pgsolver.specs.Tokens.{Token, Number, Name, Parity, Comma, Semicolon, Stray, spelling, is_inner, quoted, front_token}
+use Rattle.ml_pgsolver.specs.Tokens.{Token, Number, Name, Parity, Comma, Semicolon, Stray, spelling, is_inner, quoted}
 use Rattle.ml_pgsolver.specs.Longest.{IsProper, BeginsWith, IsLongest, FrontIsLongest}
 
 -- ---- runs of bytes
@@ -52,9 +52,9 @@ run_first p x xs b m later true is =
     let long : prefix_len p (x ∷ xs) ≡ suc k = cond-true _ _ _ is ∙ one in
     part (subst (λ j. IsMember b (take j (x ∷ xs))) long m)
   where
-  part : IsMember b (x ∷ take_while p xs) → p b ≡ true
-  part (inl e) = ap p e ∙ is
-  part (inr rest) = later rest
+    part : IsMember b (x ∷ take_while p xs) → p b ≡ true
+    part (inl e) = ap p e ∙ is
+    part (inr rest) = later rest
 
 run_passes : (p : ℕ → Bool) (xs : List ℕ) (b : ℕ) → IsMember b (take_while p xs) → p b ≡ true
 run_passes p [] b m = absurd m
@@ -113,82 +113,86 @@ number_first b rest digit = record {
   longest = λ u proper begins. by u (kind b rest u proper begins);
 }
   where
-  all : (c : ℕ) → IsMember c (b ∷ take_while is_digit rest) → is_digit c ≡ true
-  all c (inl e) = ap is_digit e ∙ digit
-  all c (inr m) = run_passes is_digit rest c m
+    all : (c : ℕ) → IsMember c (b ∷ take_while is_digit rest) → is_digit c ≡ true
+    all c (inl e) = ap is_digit e ∙ digit
+    all c (inr m) = run_passes is_digit rest c m
 
-  by : (u : Token) → Kind b rest u → Bound (Number (b ∷ take_while is_digit rest)) u
-  by u (number ds is short) =
-      ((omega arith, member-All (λ c. is_digit c ≡ true) (b ∷ take_while is_digit rest) all), short)
-  by u (name inner is closed) = let e = ap is_digit is in absurd (cc)
-  by u (parity is starts) = let e = ap is_digit is in absurd (cc)
-  by u (comma is) = let e = ap is_digit is in absurd (cc)
-  by u (semicolon is) = let e = ap is_digit is in absurd (cc)
+    by : (u : Token) → Kind b rest u → Bound (Number (b ∷ take_while is_digit rest)) u
+    by u (number ds is short) =
+        ((omega arith, member-All (λ c. is_digit c ≡ true) (b ∷ take_while is_digit rest) all), short)
+    by u (name inner is closed) = let e = ap is_digit is in absurd (cc)
+    by u (parity is starts) = let e = ap is_digit is in absurd (cc)
+    by u (comma is) = let e = ap is_digit is in absurd (cc)
+    by u (semicolon is) = let e = ap is_digit is in absurd (cc)
 
 quoted_first : (b : ℕ) (rest : List ℕ) → is_digit b ≡ false → b ≡ 34 → IsLongest (b ∷ rest) (quoted rest)
 quoted_first b rest other quote =
     cond_both (starts_with nat_eq (drop (length (take_while is_inner rest)) rest) (34 ∷ []))
     (Name (take_while is_inner rest)) (Stray 34) (IsLongest (b ∷ rest)) closed open_end
   where
-  closed : starts_with nat_eq (drop (length (take_while is_inner rest)) rest) (34 ∷ []) ≡ true
-      → IsLongest (b ∷ rest) (Name (take_while is_inner rest))
-  closed closes =
-      let inner = take_while is_inner rest in
-      let n = prefix_len is_inner rest in
-      let size : length inner ≡ n = length-prefix_len is_inner rest in
-      let left = drop (length inner) rest in
-      let cut : left ≡ 34 ∷ drop 1 left = sym (take-append-drop 1 left) ∙ ap (λ xs. xs ++ drop 1 left) (sym (starts_with-front left (34 ∷ []) closes)) in
-      let whole : rest ≡ inner ++ left = sym (take-append-drop n rest) ∙ ap (λ k. take n rest ++ drop k rest) (sym size) in
-      let is : quoted rest ≡ Name inner = cond-true _ _ _ closes in
-      record {
-        begins = (drop 1 left, ap (λ c. c ∷ rest) quote
-            ∙ ap (λ xs. 34 ∷ xs) (whole ∙ ap (λ xs. inner ++ xs) cut ∙ sym (append_assoc inner (34 ∷ []) (drop 1 left))));
-        longest = λ u proper begins. by is u (kind b rest u proper begins);
-      }
-    where
-    by : quoted rest ≡ Name (take_while is_inner rest) → (u : Token) → Kind b rest u → Bound (Name (take_while is_inner rest)) u
-    by is u (number ds digit short) = absurd (cc)
-    by is u (name inner first closed) =
-        let same : take_while is_inner rest ≡ inner = cc in
-        (member-All (λ c. is_inner c ≡ true) (take_while is_inner rest) (run_passes is_inner rest),
-        omega (arith, ap (λ xs. length (34 ∷ (xs ++ 34 ∷ []))) same))
-    by is u (parity first starts) = absurd (omega arith)
-    by is u (comma first) = absurd (omega arith)
-    by is u (semicolon first) = absurd (omega arith)
+    closed : starts_with nat_eq (drop (length (take_while is_inner rest)) rest) (34 ∷ []) ≡ true
+        → IsLongest (b ∷ rest) (Name (take_while is_inner rest))
+    closed closes =
+        let inner = take_while is_inner rest in
+        let n = prefix_len is_inner rest in
+        let size : length inner ≡ n = length-prefix_len is_inner rest in
+        let left = drop (length inner) rest in
+        let cut : left ≡ 34 ∷ drop 1 left = sym (take-append-drop 1 left) ∙ ap (λ xs. xs ++ drop 1 left) (sym (starts_with-front left (34 ∷ []) closes)) in
+        let whole : rest ≡ inner ++ left = sym (take-append-drop n rest) ∙ ap (λ k. take n rest ++ drop k rest) (sym size) in
+        let is : quoted rest ≡ Name inner = cond-true _ _ _ closes in
+        record {
+          begins = (
+            drop 1 left,
+            ap (λ c. c ∷ rest) quote
+                ∙ ap (λ xs. 34 ∷ xs) (whole ∙ ap (λ xs. inner ++ xs) cut ∙ sym (append_assoc inner (34 ∷ []) (drop 1 left))),
+          );
+          longest = λ u proper begins. by is u (kind b rest u proper begins);
+        }
+      where
+        by : quoted rest ≡ Name (take_while is_inner rest) → (u : Token) → Kind b rest u → Bound (Name (take_while is_inner rest)) u
+        by is u (number ds digit short) = absurd (cc)
+        by is u (name inner first closed) =
+            let same : take_while is_inner rest ≡ inner = cc in (
+              member-All (λ c. is_inner c ≡ true) (take_while is_inner rest) (run_passes is_inner rest),
+              omega (arith, ap (λ xs. length (34 ∷ (xs ++ 34 ∷ []))) same),
+            )
+        by is u (parity first starts) = absurd (omega arith)
+        by is u (comma first) = absurd (omega arith)
+        by is u (semicolon first) = absurd (omega arith)
 
-  open_end : starts_with nat_eq (drop (length (take_while is_inner rest)) rest) (34 ∷ []) ≡ false → IsLongest (b ∷ rest) (Stray 34)
-  open_end opens =
-      let is : quoted rest ≡ Stray 34 = cond-false _ _ _ opens in
-      record { begins = (rest, ap (λ c. c ∷ rest) quote); longest = λ u proper begins. by is u (kind b rest u proper begins) }
-    where
-    by : quoted rest ≡ Stray 34 → (u : Token) → Kind b rest u → Bound (Stray 34) u
-    by is u (number ds digit short) = absurd (cc)
-    by is u (name inner first closed) = absurd (cc)
-    by is u (parity first starts) = absurd (omega arith)
-    by is u (comma first) = absurd (omega arith)
-    by is u (semicolon first) = absurd (omega arith)
+    open_end : starts_with nat_eq (drop (length (take_while is_inner rest)) rest) (34 ∷ []) ≡ false → IsLongest (b ∷ rest) (Stray 34)
+    open_end opens =
+        let is : quoted rest ≡ Stray 34 = cond-false _ _ _ opens in
+        record { begins = (rest, ap (λ c. c ∷ rest) quote); longest = λ u proper begins. by is u (kind b rest u proper begins) }
+      where
+        by : quoted rest ≡ Stray 34 → (u : Token) → Kind b rest u → Bound (Stray 34) u
+        by is u (number ds digit short) = absurd (cc)
+        by is u (name inner first closed) = absurd (cc)
+        by is u (parity first starts) = absurd (omega arith)
+        by is u (comma first) = absurd (omega arith)
+        by is u (semicolon first) = absurd (omega arith)
 
 comma_first : (b : ℕ) (rest : List ℕ) → is_digit b ≡ false → b ≡ 44 → IsLongest (b ∷ rest) Comma
 comma_first b rest other first =
     record { begins = (rest, ap (λ c. c ∷ rest) first); longest = λ u proper begins. by u (kind b rest u proper begins) }
   where
-  by : (u : Token) → Kind b rest u → Bound Comma u
-  by u (number ds digit short) = absurd (cc)
-  by u (name inner is closed) = absurd (omega arith)
-  by u (parity is starts) = absurd (omega arith)
-  by u (comma is) = (tt, omega arith)
-  by u (semicolon is) = absurd (omega arith)
+    by : (u : Token) → Kind b rest u → Bound Comma u
+    by u (number ds digit short) = absurd (cc)
+    by u (name inner is closed) = absurd (omega arith)
+    by u (parity is starts) = absurd (omega arith)
+    by u (comma is) = (tt, omega arith)
+    by u (semicolon is) = absurd (omega arith)
 
 semicolon_first : (b : ℕ) (rest : List ℕ) → is_digit b ≡ false → b ≡ 59 → IsLongest (b ∷ rest) Semicolon
 semicolon_first b rest other first =
     record { begins = (rest, ap (λ c. c ∷ rest) first); longest = λ u proper begins. by u (kind b rest u proper begins) }
   where
-  by : (u : Token) → Kind b rest u → Bound Semicolon u
-  by u (number ds digit short) = absurd (cc)
-  by u (name inner is closed) = absurd (omega arith)
-  by u (parity is starts) = absurd (omega arith)
-  by u (comma is) = absurd (omega arith)
-  by u (semicolon is) = (tt, omega arith)
+    by : (u : Token) → Kind b rest u → Bound Semicolon u
+    by u (number ds digit short) = absurd (cc)
+    by u (name inner is closed) = absurd (omega arith)
+    by u (parity is starts) = absurd (omega arith)
+    by u (comma is) = absurd (omega arith)
+    by u (semicolon is) = (tt, omega arith)
 
 parity_first : (b : ℕ) (rest : List ℕ) → is_digit b ≡ false → starts_with nat_eq (b ∷ rest) (codes "parity") ≡ true
     → IsLongest (b ∷ rest) Parity
@@ -198,15 +202,15 @@ parity_first b rest other starts =
       longest = λ u proper begins. by u (kind b rest u proper begins);
     }
   where
-  front : codes "parity" ≡ take 6 (b ∷ rest)
-  front = starts_with-front (b ∷ rest) (codes "parity") starts
+    front : codes "parity" ≡ take 6 (b ∷ rest)
+    front = starts_with-front (b ∷ rest) (codes "parity") starts
 
-  by : (u : Token) → Kind b rest u → Bound Parity u
-  by u (number ds digit short) = absurd (cc)
-  by u (name inner is closed) = let first = ap (λ xs. get_or xs 0 0) front in absurd (omega arith)
-  by u (parity is again) = (tt, omega arith)
-  by u (comma is) = let first = ap (λ xs. get_or xs 0 0) front in absurd (omega arith)
-  by u (semicolon is) = let first = ap (λ xs. get_or xs 0 0) front in absurd (omega arith)
+    by : (u : Token) → Kind b rest u → Bound Parity u
+    by u (number ds digit short) = absurd (cc)
+    by u (name inner is closed) = let first = ap (λ xs. get_or xs 0 0) front in absurd (omega arith)
+    by u (parity is again) = (tt, omega arith)
+    by u (comma is) = let first = ap (λ xs. get_or xs 0 0) front in absurd (omega arith)
+    by u (semicolon is) = let first = ap (λ xs. get_or xs 0 0) front in absurd (omega arith)
 
 stray_first : (b : ℕ) (rest : List ℕ) → is_digit b ≡ false → (b == 34) ≡ false → (b == 44) ≡ false → (b == 59) ≡ false
     → starts_with nat_eq (b ∷ rest) (codes "parity") ≡ false
@@ -214,12 +218,12 @@ stray_first : (b : ℕ) (rest : List ℕ) → is_digit b ≡ false → (b == 34)
 stray_first b rest other no_quote no_comma no_semicolon no_parity =
     record { begins = (rest, refl); longest = λ u proper begins. by u (kind b rest u proper begins) }
   where
-  by : (u : Token) → Kind b rest u → Bound (Stray b) u
-  by u (number ds digit short) = absurd (cc)
-  by u (name inner is closed) = let e = eq-eqb b 34 is in absurd (cc)
-  by u (parity is starts) = absurd (cc)
-  by u (comma is) = let e = eq-eqb b 44 is in absurd (cc)
-  by u (semicolon is) = let e = eq-eqb b 59 is in absurd (cc)
+    by : (u : Token) → Kind b rest u → Bound (Stray b) u
+    by u (number ds digit short) = absurd (cc)
+    by u (name inner is closed) = let e = eq-eqb b 34 is in absurd (cc)
+    by u (parity is starts) = absurd (cc)
+    by u (comma is) = let e = eq-eqb b 44 is in absurd (cc)
+    by u (semicolon is) = let e = eq-eqb b 59 is in absurd (cc)
 
 pub front_is_longest : FrontIsLongest
 front_is_longest b rest =
