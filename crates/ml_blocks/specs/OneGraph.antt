@@ -1,4 +1,4 @@
--- A problem has one graph at most, up to the order in which names are listed.
+-- A problem has one graph at most, up to the lists of names: their order, and names that stand at no node.
 --
 --   AreAlikeNodes g h v w == v, a node of g, and w, a node of h, are one but for the places of names
 --   AreAlike g h          == so are all nodes of g and h with one number, and their priorities are the same

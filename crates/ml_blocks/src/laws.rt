@@ -46,8 +46,8 @@ pub fn graphs_agree()
     ensures paths_exactly { LinearGraphsHold }
 {}
 
-/// A problem has one graph at most: graphs of one closure have the same nodes with the same numbers and priorities, and differ
-/// in nothing but where they list the names of propositions and actions.
+/// A problem has one graph at most: graphs of one closure have the same nodes with the same numbers and priorities. They may
+/// differ in where they list the names of propositions and actions, and in names that stand at no node.
 pub fn one_graph()
     ensures { OneGraph }
 {}
