@@ -11,6 +11,7 @@ use Rattle.std.proofs.lemmas.List.Folds.{length-prefix_len}
 use Rattle.std.specs.List.{take_while, prefix_len, starts_with}
 use Rattle.ml_text.specs.Bytes.{is_blank, is_digit}
 use Rattle.ml_text.proofs.Signs.{starts_with-fits}
+use Rattle.ml_pgsolver.proofs.Capped.{digit_more}
 use Rattle.ml_pgsolver.specs.Tokens as token
 use Rattle.ml_pgsolver.specs.Tokens.{Token, Placed, spelling, is_inner, quoted, front_token, tokens_at, tokens}
 use Rattle.ml_pgsolver.specs.declared.scan.Sign.{Sign}
@@ -178,10 +179,5 @@ digit_there text i sign within digit_first is =
     let rest = drop (i + 1) text in
     let digit : is_digit b ≡ true =
     sym (digit_first ∙ ap (λ xs. is_digit (get_or xs 0 0)) (drop_more text i 0 within)) in
-    let n = prefix_len is_digit rest in
-    let one_more : 1 + n ≡ suc n = omega arith in
-    let long : prefix_len is_digit (b ∷ rest) ≡ suc n = cond-true _ _ _ digit ∙ one_more in
-    let run : take_while is_digit (b ∷ rest) ≡ b ∷ take_while is_digit rest = ap (λ k. take k (b ∷ rest)) long in
     let there : token_at text i ≡ token.Number (b ∷ take_while is_digit rest) = cond-true _ _ _ digit in
-    is ∙ ap (λ xs. sign_of (token.Number (take_while is_digit xs))) (drop_more text i 0 within)
-    ∙ ap (λ ds. sign_of (token.Number ds)) run ∙ ap sign_of (sym there)
+    is ∙ ap (λ ds. sign_of (token.Number ds)) (digit_more text i within digit) ∙ ap sign_of (sym there)

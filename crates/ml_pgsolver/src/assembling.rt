@@ -1,5 +1,5 @@
 // The game of the rows that were read.
-ghost use Rattle.std.specs.Prelude.{◌≡◌, ◌≤◌, ◌<◌, ◌-◌, map, get_or, length, All, IfOk, MatchOption, IsPermutation};
+ghost use Rattle.std.specs.Prelude.{◌≡◌, ◌≤◌, ◌<◌, ◌-◌, map, get_or, length, All, IfOk, IsTrue, MatchOption, IsPermutation, ◌↔◌};
 ghost use Rattle.std.specs.List.Sorted.{IsNonDecreasingBy};
 ghost use Rattle.ml_lists.specs.Ascending.{IsAscending};
 ghost use Rattle.ml_lists.specs.Member.{IsMember};
@@ -64,11 +64,24 @@ fn least_even_from(rows: &[Row]) -> u32
     highest + highest % 2
 }
 
+fn is_at_own_place(ids: &[u32], id: u64) -> bool
+    ensures { IsTrue result ↔ ((id < length ids.now) × (get_or ids.now id 0 ≡ id)) }
+{
+    match ids.get(id as usize) {
+        Some(found) => u64::from(*found) == id,
+        None => false,
+    }
+}
+
 // the place of an id
 fn place_of(ids: &[u32], id: u64) -> Option<u64>
     requires { IsAscending ids.now }
     ensures { MatchOption result (IsMember id ids.now → ⊥) (λ i. (i < length ids.now) × (get_or ids.now i 0 ≡ id)) }
 {
+    // where the ids are all numbers from 0 on, each stands at its own place
+    if is_at_own_place(ids, id) {
+        return Some(id);
+    }
     if id > u64::from(u32::MAX) {
         return None;
     }

@@ -4,7 +4,7 @@ ghost use Rattle.std.specs.List.{take_while};
 ghost use Rattle.ml_text.specs.Bytes.{is_blank, is_digit};
 ghost use Rattle.ml_pgsolver.specs.Tokens.{is_inner, quoted, spelling};
 ghost use Rattle.ml_pgsolver.specs.Tokens as token;
-ghost use Rattle.ml_pgsolver.specs.private.Signs.{sign_of, numeral_of, fitting, owner_named, signs_from, capped_value, token_at};
+ghost use Rattle.ml_pgsolver.specs.private.Signs.{sign_of, fitting, owner_named, signs_from, capped_value, token_at};
 
 use crate::limits::GREATEST_NUMBER;
 use ml_parity::Player;
@@ -46,13 +46,6 @@ fn blank_length(text: &[u8]) -> usize
     text.iter().take_while(|byte| is_blank(**byte)).count()
 }
 
-// how many digits stand at the front
-fn digit_length(text: &[u8]) -> usize
-    ensures { result ≡ length (take_while is_digit text.now) }
-{
-    text.iter().take_while(|byte| is_digit(**byte)).count()
-}
-
 // may this byte stand between the quotes of a name?
 fn is_inner(byte: u8) -> bool
     ensures { result ≡ is_inner byte }
@@ -70,15 +63,23 @@ fn inner_length(text: &[u8]) -> usize
 // more than any number that may stand in a text
 const CAP: u64 = 4_294_967_295;
 
-// the number that these digits are, or the cap where it is greater
-fn capped_value(digits: &[u8]) -> u64
-    ensures { result ≡ capped_value digits.now }
+// the number that the digits at the front are, or the cap where it is greater, and how many they are
+fn digits_value(text: &[u8]) -> (u64, usize)
+    ensures value { result.0 ≡ capped_value (take_while is_digit text.now) }
+    ensures length { result.1 ≡ length (take_while is_digit text.now) }
 {
     let mut value = 0;
-    for digit in digits {
-        value = (10 * value + u64::from(digit.saturating_sub(b'0'))).min(CAP);
+    let mut end = 0;
+    while end < text.len() {
+        let byte = text[end];
+        if is_digit(byte) {
+            value = (10 * value + u64::from(byte.saturating_sub(b'0'))).min(CAP);
+            end += 1;
+        } else {
+            return (value, end);
+        }
     }
-    value
+    (value, end)
 }
 
 fn owner_named(digits: &[u8]) -> Option<Player>
@@ -88,15 +89,6 @@ fn owner_named(digits: &[u8]) -> Option<Player>
         [b'0'] => Some(Player::Even),
         [b'1'] => Some(Player::Odd),
         _ => None,
-    }
-}
-
-fn read_numeral(digits: &[u8]) -> Numeral
-    ensures { result ≡ numeral_of digits.now }
-{
-    Numeral {
-        value: fitting(capped_value(digits)),
-        owner: owner_named(digits),
     }
 }
 
@@ -129,8 +121,12 @@ fn front_number(text: &[u8]) -> (Sign, usize)
     ensures sign { result.0 ≡ sign_of (token.Number (take_while is_digit text.now)) }
     ensures length { result.1 ≡ length (take_while is_digit text.now) }
 {
-    let end = digit_length(text);
-    (Sign::Number(read_numeral(&text[..end])), end)
+    let (value, end) = digits_value(text);
+    let numeral = Numeral {
+        value: fitting(value),
+        owner: owner_named(&text[..end]),
+    };
+    (Sign::Number(numeral), end)
 }
 
 // the longest token at the front of a text whose first byte, at `start`, is no blank, with its length
