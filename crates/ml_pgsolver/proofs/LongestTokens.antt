@@ -1,17 +1,17 @@
 -- The token at the front of a text is the longest one.
 --
 --   front_is_longest  == so it is
-use Rattle.std.proofs.Common.{◌≡◌, ℕ, zero, suc, ◌+◌, ◌<◌, ◌≤◌, Bool, true, false, ◌==◌, nat_eq, List, [], ◌∷◌, ◌++◌, length, take, drop, get_or, All, inl, inr, if◌then◌else◌, refl, sym, ◌∙◌, ap, subst, arith, codes, length-append}
+use Rattle.std.proofs.Common.{◌≡◌, ℕ, suc, ◌+◌, ◌≤◌, Bool, true, false, ◌==◌, nat_eq, List, [], ◌∷◌, ◌++◌, length, take, drop, get_or, inl, inr, if◌then◌else◌, refl, sym, ◌∙◌, ap, subst, arith, codes}
 use Rattle.std.specs.List.{take_while, prefix_len, starts_with}
 use Rattle.std.proofs.lemmas.Bool.{cond-true, cond-false, cond_both, eqb-true, eq-eqb}
 use Rattle.std.proofs.lemmas.List.{take-append-drop, append_assoc}
 use Rattle.std.proofs.lemmas.List.Folds.{length-prefix_len}
-use Rattle.std.proofs.Math.Seq.{drop-append_seam, take-append_seam}
+use Rattle.std.proofs.Math.Seq.{drop-append_seam}
 use Rattle.ml_lists.specs.Member.{IsMember}
 use Rattle.ml_lists.proofs.Member.{All-member, member-All}
 use Rattle.ml_text.specs.Bytes.{is_digit}
 use Rattle.ml_text.proofs.Signs.{starts_with-front, front-starts_with}
-use Rattle.ml_pgsolver.specs.Tokens.{Token, Number, Name, Parity, Comma, Semicolon, Stray, spelling, is_inner, quoted, front_token}
+use Rattle.ml_pgsolver.specs.Tokens.{Token, Number, Name, Parity, Comma, Semicolon, Stray, spelling, is_inner, quoted}
 use Rattle.ml_pgsolver.specs.Longest.{IsProper, BeginsWith, IsLongest, FrontIsLongest}
 
 -- ---- runs of bytes
