@@ -1,16 +1,19 @@
 // The measurements.
+ghost use Rattle.std.specs.Prelude.{◌<◌};
 
 use crate::counts::{highest, read_game, read_graph, read_letter, won_by_even};
 use crate::failure::Failure;
 use crate::forms::Form;
+use ml_base::NoMemory;
 use ml_history::History;
 use ml_history::tree::TreeHistory;
-use ml_parity::{Game, OneSided, heights, solve};
+use ml_parity::{Game, OneSided, Solution, heights, solve};
+use ml_progress::measures;
 use ml_tests::{
     Numbers, chain, deep_letter, ladder, random_blocks, random_game, random_letter, slow_row,
 };
 use ml_trace::Letter;
-use std::alloc::AllocGlobal;
+use std::alloc::{AllocGlobal, Global};
 use std::io::Print;
 use std::rt::Clock;
 use std::time::{Duration, Instant};
@@ -22,6 +25,10 @@ pub enum Measurement {
     Games,
     /// Solving a game of so many vertices that is deep.
     Ladder,
+    /// Solving a random game of so many vertices, three successors and two priorities by least progress measures.
+    Measures,
+    /// Solving a game that is deep by them.
+    MeasuresLadder,
     /// A hundred steps of a history along random letters over so many states, with ten transitions a state; as flat
     /// arrays, and as trees.
     Histories,
@@ -49,6 +56,8 @@ impl Measurement {
         match name {
             "games" => Some(Measurement::Games),
             "ladder" => Some(Measurement::Ladder),
+            "measures" => Some(Measurement::Measures),
+            "measures-ladder" => Some(Measurement::MeasuresLadder),
             "histories" => Some(Measurement::Histories),
             "trees" => Some(Measurement::Trees),
             "deep" => Some(Measurement::Deep),
@@ -88,17 +97,33 @@ fn print_time<R: Print>(
     Ok(())
 }
 
+/// What solves a game.
+#[derive(Clone, Copy)]
+enum Solver {
+    Recursion,
+    Measures,
+}
+
+/// The solution that a solver finds.
+fn solved(alloc: Global, game: &Game, solver: Solver) -> Result<Solution, NoMemory> {
+    match solver {
+        Solver::Recursion => solve(alloc, game),
+        Solver::Measures => Ok(measures(alloc, game)?.solution),
+    }
+}
+
 /// Solves a game.
 fn solve_game<R: Print + Clock + AllocGlobal>(
     rt: &R,
     game: &Game,
+    solver: Solver,
     is_timed: bool,
 ) -> Result<(), Failure> {
     let start = Instant::now(rt)?;
     let sum = read_game(game);
     let read = start.elapsed(rt)?;
     let start = Instant::now(rt)?;
-    let solution = solve(rt.alloc(), game)?;
+    let solution = solved(rt.alloc(), game, solver)?;
     let work = start.elapsed(rt)?;
     let size = game.size();
     let even = won_by_even(&solution);
@@ -230,23 +255,28 @@ fn step_usual<R: Print + Clock + AllocGlobal, F: Form + Drop>(
     step_random::<R, F>(rt, size, 10, 30, is_timed)
 }
 
-/// Solves a random game.
+/// Solves a random game of so many vertices and priorities.
 fn solve_random<R: Print + Clock + AllocGlobal>(
     rt: &R,
     size: u32,
+    priorities: u32,
+    solver: Solver,
     is_timed: bool,
-) -> Result<(), Failure> {
-    let game = random_game(rt.alloc(), &mut Numbers::new(1), size as u64, 3, 8)?;
-    solve_game(rt, &game, is_timed)
+) -> Result<(), Failure>
+    requires { 0 < priorities }
+{
+    let game = random_game(rt.alloc(), &mut Numbers::new(1), size as u64, 3, priorities)?;
+    solve_game(rt, &game, solver, is_timed)
 }
 
 /// Solves a game that is deep.
 fn solve_ladder<R: Print + Clock + AllocGlobal>(
     rt: &R,
     size: u32,
+    solver: Solver,
     is_timed: bool,
 ) -> Result<(), Failure> {
-    solve_game(rt, &ladder(rt.alloc(), size)?, is_timed)
+    solve_game(rt, &ladder(rt.alloc(), size)?, solver, is_timed)
 }
 
 /// Counts heights of a chain.
@@ -288,8 +318,10 @@ pub(crate) fn measure<R: Print + Clock + AllocGlobal>(
     is_timed: bool,
 ) -> Result<(), Failure> {
     match measurement {
-        Measurement::Games => solve_random(rt, size, is_timed),
-        Measurement::Ladder => solve_ladder(rt, size, is_timed),
+        Measurement::Games => solve_random(rt, size, 8, Solver::Recursion, is_timed),
+        Measurement::Ladder => solve_ladder(rt, size, Solver::Recursion, is_timed),
+        Measurement::Measures => solve_random(rt, size, 2, Solver::Measures, is_timed),
+        Measurement::MeasuresLadder => solve_ladder(rt, size, Solver::Measures, is_timed),
         Measurement::Histories => step_wide::<R, History>(rt, size, is_timed),
         Measurement::Trees => step_wide::<R, TreeHistory>(rt, size, is_timed),
         Measurement::Deep => step_deeper::<R, History>(rt, size, is_timed),
@@ -308,6 +340,8 @@ pub(crate) fn measure_small<R: Print + Clock + AllocGlobal>(rt: &R) -> Result<()
     let small = [
         (Measurement::Games, 1000),
         (Measurement::Ladder, 1000),
+        (Measurement::Measures, 1000),
+        (Measurement::MeasuresLadder, 10),
         (Measurement::Histories, 100),
         (Measurement::Trees, 100),
         (Measurement::Deep, 100),
