@@ -10,7 +10,6 @@ use Rattle.ml_base.specs.Structure.{Structure}
 use Rattle.ml_extract.specs.Extraction.{Extracted}
 use Rattle.ml_graph.specs.Graph.{Graph}
 use Rattle.ml_front.specs.Graphs.{HasLargeClosure, HoldsWhere, IsGraphOf}
-use Rattle.ml_product.specs.DecisionGame.{HasMoreThan}
 use Rattle.ml_front.specs.Logics.{IsRefusedBy}
 use Rattle.ml_front.specs.declared.problem.Problem.{Problem}
 use Rattle.ml_front.specs.declared.problem.TheConstants.{MOST_NODES}
@@ -23,6 +22,7 @@ use Rattle.ml_refutation.specs.Views.{of_parts}
 use Rattle.ml_refutation.specs.declared.refutation.Refutation.{Refutation}
 use Rattle.ml_refute_check.proofs.Refuted.{refuted_is_unsatisfiable}
 use Rattle.ml_refute_check.specs.Documents.{document_of}
+use Rattle.ml_driver.specs.Bench.{asked}
 use Rattle.ml_driver.specs.Decision.{IsAnsweredIn, IsProblem, IsClosed, LeftOpen, PassesLimit, Refuted, Satisfied, StaysOpen}
 use Rattle.ml_driver.specs.Documents.{satisfiable_document, undecided_document}
 use Rattle.ml_driver.specs.Statuses.{longest_text, refusal_line}
@@ -32,7 +32,7 @@ use Rattle.ml_driver.specs.declared.deciding.Decision.{Decision}
 use Rattle.ml_driver.specs.declared.deciding.Decision.TheVariants as decision
 use Rattle.ml_driver.specs.declared.question.Question.{Question}
 use Rattle.ml_driver.specs.declared.status.Status.TheVariants as status
-use Rattle.ml_driver.specs.private.Decisions.{IsDecisionOf, IsDocumentFor, IsFound, IsFoundOf, IsWon, status_in}
+use Rattle.ml_driver.specs.private.Decisions.{IsDecisionOf, IsDocumentFor, status_in}
 use Rattle.ml_front.proofs.Graphs.{meaningful}
 use Rattle.ml_driver.proofs.ProblemGraphs.{admitted, keeps_limit, well_formed}
 
@@ -107,46 +107,32 @@ module _ (q : Question) (text : List ℕ) (p : Problem) (is_problem : IsProblem 
   open_in true left = left
   open_in false left = left
 
-  by_model : (m : Model) → (HasLargeClosure p MOST_NODES → ⊥) → (found : IsFoundOf p q.limit (decision.Satisfiable m))
-      → IsWon found.graph (decision.Satisfiable m) × (HasMoreThan found.graph q.limit → ⊥)
+  by_model : (m : Model) → IsDecisionOf p q.limit (decision.Satisfiable m)
       → IsDocumentFor p (decision.Satisfiable m) out
       → Satisfied q text out
-  by_model m fits found (won, few) written =
-      satisfied found.graph m.structure m.start found.is_graph found.agrees
-      (closed q p fits (keeps_limit p found.graph q.limit found.is_graph few)) won.0 won.1 won.2 written.1 written.0
+  by_model m x written =
+      let (made, is_ordered, fits) = x.is_shown in
+      satisfied x.graph m.structure m.start x.is_graph x.agrees
+      (closed q p x.fits (keeps_limit p x.graph q.limit x.is_graph x.few)) made is_ordered fits written.1 written.0
 
-  by_refutation : (r : Refutation) → (HasLargeClosure p MOST_NODES → ⊥)
-      → (found : IsFoundOf p q.limit (decision.Unsatisfiable r))
-      → IsWon found.graph (decision.Unsatisfiable r) × (HasMoreThan found.graph q.limit → ⊥)
+  by_refutation : (r : Refutation) → IsDecisionOf p q.limit (decision.Unsatisfiable r)
       → IsDocumentFor p (decision.Unsatisfiable r) out
       → Refuted q text out
-  by_refutation r fits found (won, few) written =
-      refuted found.graph (of_parts r.names r.entries) found.is_graph
-      (closed q p fits (keeps_limit p found.graph q.limit found.is_graph few)) r.is_refutation won written
+  by_refutation r x written =
+      refuted x.graph (of_parts r.names r.entries) x.is_graph
+      (closed q p x.fits (keeps_limit p x.graph q.limit x.is_graph x.few)) r.is_refutation x.is_shown written
 
-  by_limit : (negated : Bool) (d : Decision) → (HasLargeClosure p MOST_NODES → ⊥) → (found : IsFoundOf p q.limit d)
-      → IsFound found.graph q.limit d
-      → IsDocumentFor p d out
-      → IsAnsweredIn negated q text (status_in negated d) out
-  by_limit false (decision.Satisfiable m) fits found (inl won) written = by_model m fits found won written
-  by_limit true (decision.Satisfiable m) fits found (inl won) written = by_model m fits found won written
-  by_limit false (decision.Unsatisfiable r) fits found (inl won) written = by_refutation r fits found won written
-  by_limit true (decision.Unsatisfiable r) fits found (inl won) written = by_refutation r fits found won written
-  by_limit negated (decision.Undecided c) fits found (inl won) written = absurd won.0
-  by_limit negated d fits found (inr passed) written =
-      let document = subst (λ e. IsDocumentFor p e out) passed.0 written in
-      subst (λ e. IsAnsweredIn negated q text (status_in negated e) out) (sym passed.0)
-      (open_in negated
-      (left_open (Positions q.limit)
-      (refl, fits, record { graph = found.graph; is_graph = found.is_graph; has_more = passed.1 }) document))
+  stays : (c : Cause) → StaysOpen (asked q.limit p) p c → StaysOpen q p c
+  stays (Positions n) x = x
+  stays Closure x = x
 
   pub answered : (negated : Bool) (d : Decision) → IsDecisionOf p q.limit d → IsDocumentFor p d out
       → IsAnsweredIn negated q text (status_in negated d) out
-  answered negated d (inl (fits, found)) written = by_limit negated d fits found found.is_found written
-  answered negated d (inr (is, large)) written =
-      let document = subst (λ e. IsDocumentFor p e out) is written in
-      subst (λ e. IsAnsweredIn negated q text (status_in negated e) out) (sym is)
-      (open_in negated (left_open Closure large document))
+  answered false (decision.Satisfiable m) x written = by_model m x written
+  answered true (decision.Satisfiable m) x written = by_model m x written
+  answered false (decision.Unsatisfiable r) x written = by_refutation r x written
+  answered true (decision.Unsatisfiable r) x written = by_refutation r x written
+  answered negated (decision.Undecided c) x written = open_in negated (left_open c (stays c x) written)
 
 pub refused_answered : (negated : Bool) (q : Question) (text out : List ℕ) (e : ParseRefusal)
     → length text ≤ longest_text

@@ -1,8 +1,8 @@
 -- What is found of a problem.
 --
---   found_of         == what is found in a graph of a problem and its game is found of the problem
 --   has_more         == the game of a graph has more positions than any smaller number
---   few_of           == where its arena has at most so many positions, the problem keeps the limit
+--   counted          == so its arena counts them
+--   found_of         == what is found at the stage to which the decision of a problem comes is found of the problem
 --   one_size, one_count == the graphs of a problem have as many nodes, and their games as many positions
 --   one_finding      == so one thing is found of it at most
 --   some_finding     == and something is
@@ -12,7 +12,7 @@ use Rattle.ml_front.specs.Graphs.{HasLargeClosure, IsGraphOf}
 use Rattle.ml_front.specs.Logics.{IsWellFormed}
 use Rattle.ml_front.specs.declared.problem.Problem.{Problem}
 use Rattle.ml_front.specs.declared.problem.TheConstants.{MOST_NODES}
-use Rattle.ml_front.proofs.Graphs.{graph_is, graphs_alike}
+use Rattle.ml_front.proofs.Graphs.{graph_is, graph_small, graphs_agree, graphs_alike, meaningful}
 use Rattle.ml_graph.specs.Graph.{Graph, size}
 use Rattle.ml_parity.specs.Solution.{winner_at}
 use Rattle.ml_parity.specs.declared.players.Player.{Player}
@@ -25,7 +25,11 @@ use Rattle.ml_driver.specs.Bench.{HasNodes, HasPositions, IsFinding, IsSatisfiab
 use Rattle.ml_driver.specs.declared.cause.Cause.TheVariants.{Positions, Closure}
 use Rattle.ml_driver.specs.declared.finding.Finding.{Finding}
 use Rattle.ml_driver.specs.declared.finding.Finding.TheVariants.{Decided, GamePassed, ClosurePassed}
-use Rattle.ml_driver.specs.private.Findings.{IsFoundIn, IsWonBy, winner_of}
+use Rattle.ml_driver.specs.declared.stages.SolvedGame.{SolvedGame}
+use Rattle.ml_driver.specs.declared.stages.Stage.{Stage}
+use Rattle.ml_driver.specs.declared.stages.Stage.TheVariants as stage
+use Rattle.ml_driver.specs.private.Findings.{finding_at, is_even}
+use Rattle.ml_driver.specs.private.Stages.{IsSolvedFor, IsStageOf, IsTranslated}
 use Rattle.ml_driver.proofs.Answered.{closed}
 use Rattle.ml_driver.proofs.HeldGraphs.{HeldGraph, held_graph}
 use Rattle.ml_driver.proofs.ProblemGraphs.{few_positions, keeps_limit, same_positions}
@@ -40,42 +44,41 @@ has_more g a n arena more = record {
   are_more = more;
 }
 
--- ---- in a graph of the problem
+-- ---- at a stage
 
-module _ (p : Problem) (n : ℕ) (small : n < 2 ^ 32) (well : IsWellFormed p.formula) (fits : ¬ (HasLargeClosure p MOST_NODES))
-    (g : Graph) (is_graph : IsGraphOf g p) where
-  told : (a : Arena) (b : Bool) → IsArenaOf g a → length a.positions < 2 ^ 32 → IsWonBy a b → IsSatisfiableOrNot b p
-  told a true arena few won =
-      even_wins p well fits g is_graph a arena won.solution won.is_solution won.winner_is
-  told a false arena few won =
-      odd_wins p well fits g is_graph a arena won.solution won.is_solution few won.winner_is
+-- the positions are counted by any arena
+pub counted : (p : Problem) (g : Graph) (a : Arena) → IsGraphOf g p → IsArenaOf g a → HasPositions p (length a.positions)
+counted p g a is_graph arena = record {
+  graph = g;
+  is_graph = is_graph;
+  are_no_more = few_positions g a (length a.positions) arena (omega arith);
+  are_no_fewer = λ n less. has_more g a n arena less;
+}
 
-  in_limit : (a : Arena) → IsArenaOf g a → ¬ (HasMoreThan g n) → length a.positions ≤ n
-  in_limit a arena few =
-      ⊎_elim
-      (λ (more : n < length a.positions). absurd (few (has_more g a n arena more)))
-      (λ (le : length a.positions ≤ n). le)
-      (cases_lt n (length a.positions))
+module _ (p : Problem) (n : ℕ) (small : n < 2 ^ 32) (well : IsWellFormed p.formula) where
+  told : (x : SolvedGame) (w : Player) → IsSolvedFor p n x → winner_at x.solution.winner 0 ≡ w
+      → IsSatisfiableOrNot (is_even w) p
+  told x Even solved is =
+      even_wins p well solved.translated.fits x.graph solved.translated.is_graph_of x.arena solved.is_arena x.solution
+      solved.is_solution is
+  told x Odd solved is =
+      odd_wins p well solved.translated.fits x.graph solved.translated.is_graph_of x.arena solved.is_arena x.solution
+      solved.is_solution (omega (arith, small, solved.within)) is
 
-  pub found_of : (x : Finding) → IsFoundIn g n x → IsFinding n p x
-  found_of (Decided nodes positions b) (size_is, few, out) =
-      let low = in_limit out.arena out.is_arena few in (
-        closed (asked n p) p fits (keeps_limit p g n is_graph few),
-        record { graph = g; is_graph = is_graph; are_so_many = size_is },
-        record {
-          graph = g;
-          arena = out.arena;
-          is_graph = is_graph;
-          is_arena = out.is_arena;
-          are_so_many = out.are_so_many;
-        },
-        told out.arena b out.is_arena (omega (arith, low, small)) out.is_won,
+  pub found_of : (x : Stage) → IsStageOf p n x → IsFinding n p (finding_at x)
+  found_of (stage.Solved x) solved =
+      let is_graph = solved.translated.is_graph_of in
+      let few = few_positions x.graph x.arena n solved.is_arena solved.within in (
+        closed (asked n p) p solved.translated.fits (keeps_limit p x.graph n is_graph few),
+        record { graph = x.graph; is_graph = is_graph; are_so_many = refl },
+        counted p x.graph x.arena is_graph solved.is_arena,
+        told x (winner_at x.solution.winner 0) solved refl,
       )
-  found_of (GamePassed nodes) (size_is, more) = (
-    (refl, fits, record { graph = g; is_graph = is_graph; has_more = more }),
-    record { graph = g; is_graph = is_graph; are_so_many = size_is },
+  found_of (stage.GamePassed g) (translated, more) = (
+    (refl, translated.fits, record { graph = g; is_graph = translated.is_graph_of; has_more = more }),
+    record { graph = g; is_graph = translated.is_graph_of; are_so_many = refl },
   )
-  found_of ClosurePassed found = absurd found
+  found_of stage.ClosurePassed large = large
 
 -- ---- one at most
 
@@ -88,9 +91,7 @@ module _ (p : Problem) where
   no_more j k x y =
       ⊎_elim
       (λ (more : k < j).
-      let there = has_more x.graph x.arena k x.is_arena (omega (arith, more, x.are_so_many)) in
-      let here = same_positions p x.graph y.graph k x.is_graph y.is_graph there in
-      absurd (few_positions y.graph y.arena k y.is_arena (omega (arith, y.are_so_many)) here))
+      absurd (y.are_no_more (same_positions p x.graph y.graph k x.is_graph y.is_graph (x.are_no_fewer k more))))
       (λ (le : j ≤ k). le)
       (cases_lt k j)
 
@@ -118,37 +119,30 @@ module _ (p : Problem) where
 
 -- ---- some one
 
-by_player : (w : Player) → (b : Bool) × (w ≡ winner_of b)
-by_player Even = (true, refl)
-by_player Odd = (false, refl)
-
-found_in : (g : Graph) (p : Problem) (n : ℕ)
-    → IsGraphOf g p
-    → ((a : Arena) × (IsArenaOf g a × (length a.positions ≤ n))) ⊎ HasMoreThan g n
-    → (x : Finding) × IsFoundIn g n x
-found_in g p n is_graph (inr more) = (GamePassed (size g), (refl, more))
-found_in g p n is_graph (inl (a, rest)) =
-    let s = some_solution (game_of a) (is_game g a rest.0) in
-    let b = by_player (winner_at s.0.winner 0) in (
-      Decided (size g) (length a.positions) b.0,
-      (
-        refl,
-        few_positions g a n rest.0 rest.1,
-        record {
-          arena = a;
-          is_arena = rest.0;
-          are_so_many = refl;
-          is_won = record { solution = s.0; is_solution = s.1; winner_is = b.1 };
-        },
-      ),
-    )
-
 pub some_finding : (p : Problem) (n : ℕ) → n < 2 ^ 32 → IsWellFormed p.formula → (x : Finding) × IsFinding n p x
 some_finding p n small well = by_graph (held_graph p.formula p.negated well)
   where
+    by_game : (g : Graph) → IsTranslated p g
+        → ((a : Arena) × (IsArenaOf g a × (length a.positions ≤ n))) ⊎ HasMoreThan g n
+        → (x : Stage) × IsStageOf p n x
+    by_game g translated (inr more) = (stage.GamePassed g, (translated, more))
+    by_game g translated (inl (a, arena, within)) =
+        let s = some_solution (game_of a) (is_game g a arena) in (
+          stage.Solved (record { graph = g; arena = a; solution = s.0 }),
+          record { translated = translated; is_arena = arena; within = within; is_solution = s.1 },
+        )
+
     by_graph : HeldGraph p.formula p.negated ⊎ HasLargeClosure p MOST_NODES → (x : Finding) × IsFinding n p x
     by_graph (inr large) = (ClosurePassed, large)
     by_graph (inl h) =
         let g = h.graph in
-        let made = found_in g p n h.is_graph (some_arena g (graph_is g p.negated p.formula h.is_graph) n) in
-        (made.0, found_of p n small well h.fits g h.is_graph made.0 made.1)
+        let ok = graph_is g p.negated p.formula h.is_graph in
+        let translated : IsTranslated p g = record {
+          is_graph_of = h.is_graph;
+          agrees = graphs_agree p g (meaningful p.formula well) h.is_graph;
+          fits = h.fits;
+          is_graph = ok;
+          small = graph_small MOST_NODES g p.negated p.formula (omega arith) well h.is_graph h.fits;
+        } in
+        let made = by_game g translated (some_arena g ok n) in
+        (finding_at made.0, found_of p n small well made.0 made.1)

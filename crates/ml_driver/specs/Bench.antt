@@ -19,7 +19,7 @@
 --   request_line, nodes_line, positions_line == the first, third and fourth line of five
 --   bench_text f n k x   == the five lines about a formula with k occurrences of which x is found
 --   IsBenched f n s out  == this status and this output are due for `bench f n`
-use Rattle.std.specs.Prelude.{ℕ, ◌≡◌, Bool, true, false, List, [], ◌∷◌, length, codes}
+use Rattle.std.specs.Prelude.{ℕ, ◌≡◌, ◌<◌, Bool, true, false, List, [], ◌∷◌, codes}
 use Rattle.ml_ctl.specs.Formula as ctl
 use Rattle.ml_front.specs.Graphs.{IsGraphOf}
 use Rattle.ml_front.specs.Head.{answer_line}
@@ -37,7 +37,7 @@ use Rattle.ml_graph.specs.Graph.{Graph, size}
 use Rattle.ml_lines.specs.Lines.{Line, line_text, number, text_of}
 use Rattle.ml_mu.specs.Formula as mu
 use Rattle.ml_pdl.specs.Formula as pdl
-use Rattle.ml_product.specs.Arena.{Arena, IsArenaOf}
+use Rattle.ml_product.specs.DecisionGame.{HasMoreThan}
 use Rattle.ml_driver.specs.Decision.{IsClosed, StaysOpen}
 use Rattle.ml_driver.specs.declared.cause.Cause.TheVariants.{Positions, Closure}
 use Rattle.ml_driver.specs.declared.command.TheConstants.{GREATEST_LIMIT}
@@ -72,10 +72,9 @@ pub record HasNodes (p : Problem) (k : ℕ) : Type 0 where
 
 pub record HasPositions (p : Problem) (k : ℕ) : Type 0 where
   pub graph : Graph
-  pub arena : Arena
   pub is_graph : IsGraphOf graph p
-  pub is_arena : IsArenaOf graph arena
-  pub are_so_many : length arena.positions ≡ k
+  pub are_no_more : ¬ (HasMoreThan graph k)
+  pub are_no_fewer : (n : ℕ) → n < k → HasMoreThan graph n
 
 abbrev pub IsSatisfiableOrNot : Bool → Problem → Type 0
 IsSatisfiableOrNot true p = IsSatisfiable p

@@ -1,29 +1,25 @@
 // The formulas of families: their texts, and how large they, their graphs and their decision games are.
-ghost use Rattle.std.specs.Prelude.{◌≡◌, ◌≤◌, true, [], ◌∷◌, ◌++◌, IfOk, OnOk, Some};
+ghost use Rattle.std.specs.Prelude.{◌≡◌, true, [], ◌∷◌, ◌++◌, IfOk, OnOk, Some};
 ghost use Rattle.ml_front.specs.Logics.{IsWellFormed};
-ghost use Rattle.ml_front.specs.declared.problem.TheConstants.{MOST_NODES};
 ghost use Rattle.ml_gen.specs.Families.{formula_text, is_in_range};
-ghost use Rattle.ml_graph.specs.Graph.{IsGraph, size};
 ghost use Rattle.ml_lines.specs.Lines.{line_text, number};
-ghost use Rattle.ml_product.specs.Arena.{IsArenaOf};
 ghost use Rattle.ml_driver.specs.Bench as measures;
 ghost use Rattle.ml_driver.specs.Bench.{IsFinding, IsMeant, bench_text, nodes_line, occurrences_of, positions_line, request_line};
 ghost use Rattle.ml_driver.specs.Run.{IsDue};
 ghost use Rattle.ml_driver.specs.declared.command.TheConstants.{GREATEST_LIMIT};
-ghost use Rattle.ml_driver.specs.private.Findings.{IsFoundIn, IsWonBy};
+ghost use Rattle.ml_driver.specs.private.Findings.{finding_at};
+ghost use Rattle.ml_driver.specs.private.Stages.{IsStageOf};
 
 use crate::command::GREATEST_LIMIT;
-use crate::deciding::first_winner;
 use crate::finding::Finding;
 use crate::output::Output;
+use crate::stages::{Stage, stage_of};
 use crate::{Command, Status};
 use ml_base::{NoMemory, ParseRefusal};
-use ml_front::{Answer, AnyFormula, Logic, MOST_NODES, Problem, graph, read};
+use ml_front::{Answer, AnyFormula, Logic, Problem, read};
 use ml_gen::{Family, GenRefusal, formula};
-use ml_graph::{BlockRefusal, ModalGraph};
 use ml_lines::{end_line, write_next_number, write_next_word, write_word};
-use ml_parity::{Player, solve};
-use ml_product::{Arena, ExploreRefusal, explore};
+use ml_parity::Player;
 use std::alloc::Global;
 
 // what is due for `gen`
@@ -123,45 +119,29 @@ fn occurrences(formula: &AnyFormula) -> u32
 
 // ---- what is found
 
-// by the graph of the problem
 fn found(alloc: Global, problem: &Problem) -> Result<Finding, NoMemory>
     requires { IsWellFormed problem.now.formula }
     ensures { IfOk result (IsFinding GREATEST_LIMIT problem.now) }
 {
-    let graph = match graph(alloc, problem, MOST_NODES) {
-        Ok(graph) => graph,
-        Err(BlockRefusal::ClosureTooLarge) => return Ok(Finding::ClosurePassed),
-        Err(BlockRefusal::NoMemory) => return Err(NoMemory),
-    };
-    found_in(alloc, &graph)
+    let stage = stage_of(alloc, problem, GREATEST_LIMIT)?;
+    Ok(finding_at(problem, &stage))
 }
 
-// by the graph's decision game
-fn found_in(alloc: Global, graph: &ModalGraph) -> Result<Finding, NoMemory>
-    requires is_graph { IsGraph graph.now }
-    requires small { size graph.now ≤ MOST_NODES }
-    ensures { IfOk result (IsFoundIn graph.now GREATEST_LIMIT) }
+fn finding_at(_problem: &Problem, stage: &Stage) -> Finding
+    requires { IsStageOf _problem.now GREATEST_LIMIT stage.now }
+    ensures { result ≡ finding_at stage.now }
 {
-    let nodes = graph.size();
-    match explore(alloc, graph, GREATEST_LIMIT) {
-        Ok(arena) => Ok(Finding::Decided {
-            nodes,
-            positions: arena.size(),
-            satisfiable: is_won(alloc, graph, &arena)?,
-        }),
-        Err(ExploreRefusal::Passed) => Ok(Finding::GamePassed { nodes }),
-        Err(ExploreRefusal::NoMemory) => Err(NoMemory),
+    match stage {
+        Stage::Solved(game) => Finding::Decided {
+            nodes: game.graph.size(),
+            positions: game.arena.size(),
+            satisfiable: matches!(game.winner(), Player::Even),
+        },
+        Stage::GamePassed(graph) => Finding::GamePassed {
+            nodes: graph.size(),
+        },
+        Stage::ClosurePassed => Finding::ClosurePassed,
     }
-}
-
-// whether Even wins the first position
-fn is_won(alloc: Global, _graph: &ModalGraph, arena: &Arena) -> Result<bool, NoMemory>
-    requires { IsArenaOf _graph.now arena.now }
-    ensures { IfOk result (IsWonBy arena.now) }
-{
-    let game = arena.game()?;
-    let solution = solve(alloc, &game)?;
-    Ok(matches!(first_winner(&solution), Player::Even))
 }
 
 fn status_of(answer: Answer) -> Status

@@ -1,6 +1,7 @@
 -- The trace automaton of a small graph has room.
 use Rattle.ml_driver.proofs.ProblemGraphs.{has_room}
-use Rattle.ml_driver.proofs.bench.found_in.Goals as goal
+use Rattle.ml_driver.proofs.stages.explored.Goals as goal
 
 pub explore-requires-clause-few_states : goal.explore-requires-clause-few_states
-explore-requires-clause-few_states c = has_room c.args.graph.now c.requires.is_graph c.requires.small
+explore-requires-clause-few_states c =
+    has_room c.args.graph c.requires.translated.is_graph c.requires.translated.small
