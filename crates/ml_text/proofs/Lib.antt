@@ -60,3 +60,5 @@ pub mod AcceptedTexts
 pub mod ReservedWords
 -- words that a logic doesn't reserve
 pub mod FreeWords
+-- signs, those of all logics and those that a logic adds
+pub mod NamedSigns

@@ -6,6 +6,8 @@ pub mod Tokens
 pub mod Words
 -- the connectives
 pub mod Operators
+-- signs: those that all logics have, and those that a logic adds
+pub mod Signs
 -- lists of names, and places in them
 pub mod NameLists
 -- what the tokens of a text are: the longest ones, and nothing but blanks between them

@@ -19,6 +19,7 @@ mod forms;
 pub mod laws;
 mod limits;
 mod logic;
+mod named_signs;
 mod operators;
 mod reading;
 mod stack;
@@ -30,6 +31,7 @@ pub use bytes::{is_blank, is_digit, is_letter, is_lower, is_upper, is_word_byte}
 pub use forms::{Frame, Mode, Role, Turn};
 pub use limits::{Bracket, MOST_OCCURRENCES, MOST_OPEN};
 pub use logic::Logic;
+pub use named_signs::{OwnSign, Sign, bracket_of, kind_of, sign_of};
 pub use operators::operator_level;
 pub use reading::{Reading, read};
 pub use token::{Operator, Placed, Token, WordStart, next_token};
