@@ -25,6 +25,8 @@ use Rattle.ml_text.specs.declared.token.Operator.TheVariants as operator
 use Rattle.ml_text.specs.Operators.{weight}
 use Rattle.ml_ctl.specs.Formula as plain
 use Rattle.ml_ctl.specs.Formula.{Formula, occurrences, is_state}
+use Rattle.ml_ctl.specs.declared.term.Quantifier.{Quantifier}
+use Rattle.ml_ctl.specs.declared.term.Quantifier.TheVariants as quantifier
 use Rattle.ml_ctl.specs.Laws.{IsDecided}
 use Rattle.ml_ctl.specs.Meaning.{HoldsAt, TruthAt}
 use Rattle.ml_ctl.specs.Paths.{IsPathFrom}
@@ -370,19 +372,19 @@ module _ (B : Board) where
 
   quantified_told : (n : ℕ)
       → StatesTold n
-      → (q : plain.Quantifier) (f : Formula)
+      → (q : Quantifier) (f : Formula)
       → occurrences f < n
       → (i : ℕ) (sign : Bool) (s : ℕ)
       (low : s < (B.m).states)
       → (a : Known B (Holding i (plain.Quantified q f) sign))
       → Told B s a.number sign (HoldsAt B.m (plain.Quantified q f) s)
-  quantified_told n told plain.Exists f small i sign s low a =
-      let h = leads_holds B (Holding i (plain.Quantified plain.Exists f) sign)
+  quantified_told n told quantifier.Exists f small i sign s low a =
+      let h = leads_holds B (Holding i (plain.Quantified quantifier.Exists f) sign)
       (block_of (now (i + 1) f true) sign) s low a refl in
       let t = told_block B (i + 1) f true sign (items_told n told (i + 1) f true sign small) s low h.to in
       record { won = both_ways t.won (back h.holds); decided = t.decided }
-  quantified_told n told plain.Forall f small i true s low a =
-      let h = leads_holds B (Holding i (plain.Quantified plain.Forall f) true)
+  quantified_told n told quantifier.Forall f small i true s low a =
+      let h = leads_holds B (Holding i (plain.Quantified quantifier.Forall f) true)
       (block_of (now (i + 1) f false) false) s low a refl in
       let its = items_told n told (i + 1) f false false small in
       let t = told_block B (i + 1) f false false its s low h.to in
@@ -392,8 +394,8 @@ module _ (B : Board) where
             (both_ways t.won (back h.holds));
         decided = decided_every B (i + 1) f false its s low h.to t.decided;
       }
-  quantified_told n told plain.Forall f small i false s low a =
-      let h = leads_holds B (Holding i (plain.Quantified plain.Forall f) false)
+  quantified_told n told quantifier.Forall f small i false s low a =
+      let h = leads_holds B (Holding i (plain.Quantified quantifier.Forall f) false)
       (block_of (now (i + 1) f false) true) s low a refl in
       let its = items_told n told (i + 1) f false true small in
       let t = told_block B (i + 1) f false true its s low h.to in

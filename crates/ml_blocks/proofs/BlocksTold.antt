@@ -25,6 +25,8 @@ use Rattle.ml_graph.proofs.OneStep.{vertex_low, one_step}
 use Rattle.ml_text.specs.declared.token.Operator.TheVariants as operator
 use Rattle.ml_ctl.specs.Formula as plain
 use Rattle.ml_ctl.specs.Formula.{Formula, occurrences, is_state}
+use Rattle.ml_ctl.specs.declared.term.Tense.TheVariants as tense
+use Rattle.ml_ctl.specs.declared.term.Pairing.TheVariants as pairing
 use Rattle.ml_ctl.specs.Laws.{IsDecided, IsDecidedAlong}
 use Rattle.ml_ctl.specs.Meaning.{HoldsAt}
 use Rattle.ml_ctl.specs.Paths.{IsPath, IsPathFrom}
@@ -56,17 +58,17 @@ state_row i (plain.Const c) b t e = refl
 state_row i (plain.Prop p) b t e = refl
 state_row i (plain.Quantified q f) b t e = refl
 state_row i (plain.Not f) b t e = absurd (cc)
-state_row i (plain.Temporal plain.Next f) b t e = absurd (cc)
-state_row i (plain.Temporal plain.Finally f) true t e = absurd (cc)
-state_row i (plain.Temporal plain.Finally f) false t e = absurd (cc)
-state_row i (plain.Temporal plain.Globally f) true t e = absurd (cc)
-state_row i (plain.Temporal plain.Globally f) false t e = absurd (cc)
-state_row i (plain.Paired plain.Until f g) true t e = absurd (cc)
-state_row i (plain.Paired plain.Until f g) false t e = absurd (cc)
-state_row i (plain.Paired plain.Weak f g) true t e = absurd (cc)
-state_row i (plain.Paired plain.Weak f g) false t e = absurd (cc)
-state_row i (plain.Paired plain.Release f g) true t e = absurd (cc)
-state_row i (plain.Paired plain.Release f g) false t e = absurd (cc)
+state_row i (plain.Temporal tense.Next f) b t e = absurd (cc)
+state_row i (plain.Temporal tense.Finally f) true t e = absurd (cc)
+state_row i (plain.Temporal tense.Finally f) false t e = absurd (cc)
+state_row i (plain.Temporal tense.Globally f) true t e = absurd (cc)
+state_row i (plain.Temporal tense.Globally f) false t e = absurd (cc)
+state_row i (plain.Paired pairing.Until f g) true t e = absurd (cc)
+state_row i (plain.Paired pairing.Until f g) false t e = absurd (cc)
+state_row i (plain.Paired pairing.Weak f g) true t e = absurd (cc)
+state_row i (plain.Paired pairing.Weak f g) false t e = absurd (cc)
+state_row i (plain.Paired pairing.Release f g) true t e = absurd (cc)
+state_row i (plain.Paired pairing.Release f g) false t e = absurd (cc)
 state_row i (plain.Binary operator.And f g) true t e = absurd (cc)
 state_row i (plain.Binary operator.And f g) false t e = absurd (cc)
 state_row i (plain.Binary operator.Or f g) true t e = absurd (cc)

@@ -11,6 +11,8 @@ use Rattle.ml_lists.specs.Walk.{walk}
 use Rattle.ml_base.specs.Structure.{Structure}
 use Rattle.ml_ctl.specs.Formula as plain
 use Rattle.ml_ctl.specs.Formula.{Formula, occurrences}
+use Rattle.ml_ctl.specs.declared.term.Tense.TheVariants as tense
+use Rattle.ml_ctl.specs.declared.term.Pairing.TheVariants as pairing
 use Rattle.ml_ctl.specs.Meaning.{Property, Nowhere, iterate_of}
 use Rattle.ml_ctl.specs.Paths.{places}
 use Rattle.ml_ctl.proofs.PlaceWalks.{walk-shift}
@@ -45,15 +47,15 @@ two_ways m l i (plain.Prop p) b t least = absurd (false≢true least)
 two_ways m l i (plain.Not f) b t least = absurd (false≢true least)
 two_ways m l i (plain.Binary op f g) b t least = absurd (false≢true least)
 two_ways m l i (plain.Quantified q f) b t least = absurd (false≢true least)
-two_ways m l i (plain.Temporal plain.Next f) b t least = absurd (false≢true least)
-two_ways m l i (plain.Temporal plain.Finally f) false t least = absurd (false≢true least)
-two_ways m l i (plain.Temporal plain.Globally f) true t least = absurd (false≢true least)
-two_ways m l i (plain.Paired plain.Until f g) false t least = absurd (false≢true least)
-two_ways m l i (plain.Paired plain.Release f g) true t least = absurd (false≢true least)
-two_ways m l i (plain.Paired plain.Weak f g) true t least = absurd (false≢true least)
-two_ways m l i (plain.Temporal plain.Finally f) true t least = record {
+two_ways m l i (plain.Temporal tense.Next f) b t least = absurd (false≢true least)
+two_ways m l i (plain.Temporal tense.Finally f) false t least = absurd (false≢true least)
+two_ways m l i (plain.Temporal tense.Globally f) true t least = absurd (false≢true least)
+two_ways m l i (plain.Paired pairing.Until f g) false t least = absurd (false≢true least)
+two_ways m l i (plain.Paired pairing.Release f g) true t least = absurd (false≢true least)
+two_ways m l i (plain.Paired pairing.Weak f g) true t least = absurd (false≢true least)
+two_ways m l i (plain.Temporal tense.Finally f) true t least = record {
   first = now (i + 1) f true ∷ [];
-  second = put_off (item i (plain.Temporal plain.Finally f) true t) ∷ [];
+  second = put_off (item i (plain.Temporal tense.Finally f) true t) ∷ [];
   is_row = refl;
   put = inl refl;
   all_now = λ y m. one_now (now (i + 1) f true) y refl m;
@@ -61,9 +63,9 @@ two_ways m l i (plain.Temporal plain.Finally f) true t least = record {
   puts_off = λ P y says. says.0;
   exchanged = λ P Q y says behind. (behind, tt);
 }
-two_ways m l i (plain.Temporal plain.Globally f) false t least = record {
+two_ways m l i (plain.Temporal tense.Globally f) false t least = record {
   first = now (i + 1) f false ∷ [];
-  second = put_off (item i (plain.Temporal plain.Globally f) false t) ∷ [];
+  second = put_off (item i (plain.Temporal tense.Globally f) false t) ∷ [];
   is_row = refl;
   put = inl refl;
   all_now = λ y m. one_now (now (i + 1) f false) y refl m;
@@ -71,9 +73,9 @@ two_ways m l i (plain.Temporal plain.Globally f) false t least = record {
   puts_off = λ P y says. says.0;
   exchanged = λ P Q y says behind. (behind, tt);
 }
-two_ways m l i (plain.Paired plain.Until f g) true t least = record {
+two_ways m l i (plain.Paired pairing.Until f g) true t least = record {
   first = now (i + 1 + occurrences f) g true ∷ [];
-  second = now (i + 1) f true ∷ put_off (item i (plain.Paired plain.Until f g) true t) ∷ [];
+  second = now (i + 1) f true ∷ put_off (item i (plain.Paired pairing.Until f g) true t) ∷ [];
   is_row = refl;
   put = inr (inl refl);
   all_now = λ y m. one_now (now (i + 1 + occurrences f) g true) y refl m;
@@ -81,9 +83,9 @@ two_ways m l i (plain.Paired plain.Until f g) true t least = record {
   puts_off = λ P y says. (says.1).0;
   exchanged = λ P Q y says behind. (says.0, (behind, tt));
 }
-two_ways m l i (plain.Paired plain.Release f g) false t least = record {
+two_ways m l i (plain.Paired pairing.Release f g) false t least = record {
   first = now (i + 1 + occurrences f) g false ∷ [];
-  second = now (i + 1) f false ∷ put_off (item i (plain.Paired plain.Release f g) false t) ∷ [];
+  second = now (i + 1) f false ∷ put_off (item i (plain.Paired pairing.Release f g) false t) ∷ [];
   is_row = refl;
   put = inr (inl refl);
   all_now = λ y m. one_now (now (i + 1 + occurrences f) g false) y refl m;
@@ -91,9 +93,9 @@ two_ways m l i (plain.Paired plain.Release f g) false t least = record {
   puts_off = λ P y says. (says.1).0;
   exchanged = λ P Q y says behind. (says.0, (behind, tt));
 }
-two_ways m l i (plain.Paired plain.Weak f g) false t least = record {
+two_ways m l i (plain.Paired pairing.Weak f g) false t least = record {
   first = now (i + 1 + occurrences f) g false ∷ now (i + 1) f false ∷ [];
-  second = now (i + 1 + occurrences f) g false ∷ put_off (item i (plain.Paired plain.Weak f g) false t) ∷ [];
+  second = now (i + 1 + occurrences f) g false ∷ put_off (item i (plain.Paired pairing.Weak f g) false t) ∷ [];
   is_row = refl;
   put = inr (inl refl);
   all_now = λ y m. two_now (now (i + 1 + occurrences f) g false) (now (i + 1) f false) y refl refl m;

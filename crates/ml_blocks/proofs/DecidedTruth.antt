@@ -9,6 +9,8 @@ use Rattle.ml_text.specs.declared.token.Operator.TheVariants as operator
 use Rattle.ml_base.specs.Structure.{Structure, lists}
 use Rattle.ml_ctl.specs.Formula as plain
 use Rattle.ml_ctl.specs.Formula.{Formula}
+use Rattle.ml_ctl.specs.declared.term.Tense.TheVariants as tense
+use Rattle.ml_ctl.specs.declared.term.Pairing.TheVariants as pairing
 use Rattle.ml_ctl.specs.Laws.{IsDecided, IsDecidedAlong}
 use Rattle.ml_ctl.specs.Meaning.{Nowhere, Everywhere, TruthAt}
 use Rattle.ml_ctl.specs.Paths.{IsPlace, places}
@@ -97,19 +99,19 @@ truth_is_decided m l (plain.Binary operator.Iff f g) given i place =
     let a = truth_is_decided m l f given.0 i place in
     let b = truth_is_decided m l g given.1 i place in
     decided_both (decided_implies a b) (decided_implies b a)
-truth_is_decided m l (plain.Temporal plain.Next f) given i place =
+truth_is_decided m l (plain.Temporal tense.Next f) given i place =
     truth_is_decided m l f given (next_place l i) (next_is_place l i place)
-truth_is_decided m l (plain.Temporal plain.Finally f) given i place =
+truth_is_decided m l (plain.Temporal tense.Finally f) given i place =
     until_decided m l Everywhere (TruthAt m l f) (λ x p. inl tt) (truth_is_decided m l f given) i place
-truth_is_decided m l (plain.Temporal plain.Globally f) given i place =
+truth_is_decided m l (plain.Temporal tense.Globally f) given i place =
     release_decided m l Nowhere (TruthAt m l f) (λ x p. inr (λ none. none)) (truth_is_decided m l f given) i place
-truth_is_decided m l (plain.Paired plain.Until f g) given i place =
+truth_is_decided m l (plain.Paired pairing.Until f g) given i place =
     until_decided m l (TruthAt m l f) (TruthAt m l g) (truth_is_decided m l f given.0)
     (truth_is_decided m l g given.1) i place
-truth_is_decided m l (plain.Paired plain.Release f g) given i place =
+truth_is_decided m l (plain.Paired pairing.Release f g) given i place =
     release_decided m l (TruthAt m l f) (TruthAt m l g) (truth_is_decided m l f given.0)
     (truth_is_decided m l g given.1) i place
-truth_is_decided m l (plain.Paired plain.Weak f g) given i place =
+truth_is_decided m l (plain.Paired pairing.Weak f g) given i place =
     release_decided m l (TruthAt m l g) (λ x. TruthAt m l f x ⊎ TruthAt m l g x) (truth_is_decided m l g given.1)
     (λ x p. decided_either (truth_is_decided m l f given.0 x p) (truth_is_decided m l g given.1 x p)) i place
 truth_is_decided m l (plain.Quantified q f) given i place = given i place

@@ -12,6 +12,8 @@ use Rattle.ml_lists.proofs.Member.{member-append, member-append_left, member-app
 use Rattle.ml_text.specs.declared.token.Operator.TheVariants as operator
 use Rattle.ml_ctl.specs.Formula as plain
 use Rattle.ml_ctl.specs.Formula.{Formula, occurrences}
+use Rattle.ml_ctl.specs.declared.term.Tense.TheVariants as tense
+use Rattle.ml_ctl.specs.declared.term.Pairing.TheVariants as pairing
 use Rattle.ml_blocks.specs.Items.{Item, Row, OfState, Waits, Becomes, Either, now, put_off, row, behind_next, is_least}
 use Rattle.ml_blocks.specs.ItemSets.{key, due, items_within, eventualities}
 use Rattle.ml_blocks.proofs.ItemsWithin.{IsOf}
@@ -136,39 +138,39 @@ head_closed i (plain.Const c) b y none = absurd none
 head_closed i (plain.Prop p) b y none = absurd none
 head_closed i (plain.Quantified q f) b y none = absurd none
 head_closed i (plain.Not f) b y m = one_of (λ e. inr (operand y (i + 1) f (not b) e)) m
-head_closed i (plain.Temporal plain.Next f) b y e = inr (operand y (i + 1) f b e)
-head_closed i (plain.Temporal plain.Finally f) true y m =
-    either_of (λ e. inr (operand y (i + 1) f true e)) (λ e. again y i (plain.Temporal plain.Finally f) true e) m
-head_closed i (plain.Temporal plain.Finally f) false y m =
-    two_of (λ e. inr (operand y (i + 1) f false e)) (λ e. again y i (plain.Temporal plain.Finally f) false e) m
-head_closed i (plain.Temporal plain.Globally f) true y m =
-    two_of (λ e. inr (operand y (i + 1) f true e)) (λ e. again y i (plain.Temporal plain.Globally f) true e) m
-head_closed i (plain.Temporal plain.Globally f) false y m =
-    either_of (λ e. inr (operand y (i + 1) f false e)) (λ e. again y i (plain.Temporal plain.Globally f) false e) m
-head_closed i (plain.Paired plain.Until f g) true y m =
-    let x = now i (plain.Paired plain.Until f g) true in let l = i + 1 in let r = l + occurrences f in
+head_closed i (plain.Temporal tense.Next f) b y e = inr (operand y (i + 1) f b e)
+head_closed i (plain.Temporal tense.Finally f) true y m =
+    either_of (λ e. inr (operand y (i + 1) f true e)) (λ e. again y i (plain.Temporal tense.Finally f) true e) m
+head_closed i (plain.Temporal tense.Finally f) false y m =
+    two_of (λ e. inr (operand y (i + 1) f false e)) (λ e. again y i (plain.Temporal tense.Finally f) false e) m
+head_closed i (plain.Temporal tense.Globally f) true y m =
+    two_of (λ e. inr (operand y (i + 1) f true e)) (λ e. again y i (plain.Temporal tense.Globally f) true e) m
+head_closed i (plain.Temporal tense.Globally f) false y m =
+    either_of (λ e. inr (operand y (i + 1) f false e)) (λ e. again y i (plain.Temporal tense.Globally f) false e) m
+head_closed i (plain.Paired pairing.Until f g) true y m =
+    let x = now i (plain.Paired pairing.Until f g) true in let l = i + 1 in let r = l + occurrences f in
     unless_of (λ e. in_right y i f g true true l r e x) (λ e. in_left y i f g true true l r e x)
-    (λ e. again y i (plain.Paired plain.Until f g) true e) m
-head_closed i (plain.Paired plain.Until f g) false y m =
-    let x = now i (plain.Paired plain.Until f g) false in let l = i + 1 in let r = l + occurrences f in
+    (λ e. again y i (plain.Paired pairing.Until f g) true e) m
+head_closed i (plain.Paired pairing.Until f g) false y m =
+    let x = now i (plain.Paired pairing.Until f g) false in let l = i + 1 in let r = l + occurrences f in
     released_of (λ e. in_right y i f g false false l r e x) (λ e. in_left y i f g false false l r e x)
-    (λ e. again y i (plain.Paired plain.Until f g) false e) m
-head_closed i (plain.Paired plain.Weak f g) true y m =
-    let x = now i (plain.Paired plain.Weak f g) true in let l = i + 1 in let r = l + occurrences f in
+    (λ e. again y i (plain.Paired pairing.Until f g) false e) m
+head_closed i (plain.Paired pairing.Weak f g) true y m =
+    let x = now i (plain.Paired pairing.Weak f g) true in let l = i + 1 in let r = l + occurrences f in
     unless_of (λ e. in_right y i f g true true l r e x) (λ e. in_left y i f g true true l r e x)
-    (λ e. again y i (plain.Paired plain.Weak f g) true e) m
-head_closed i (plain.Paired plain.Weak f g) false y m =
-    let x = now i (plain.Paired plain.Weak f g) false in let l = i + 1 in let r = l + occurrences f in
+    (λ e. again y i (plain.Paired pairing.Weak f g) true e) m
+head_closed i (plain.Paired pairing.Weak f g) false y m =
+    let x = now i (plain.Paired pairing.Weak f g) false in let l = i + 1 in let r = l + occurrences f in
     released_of (λ e. in_right y i f g false false l r e x) (λ e. in_left y i f g false false l r e x)
-    (λ e. again y i (plain.Paired plain.Weak f g) false e) m
-head_closed i (plain.Paired plain.Release f g) true y m =
-    let x = now i (plain.Paired plain.Release f g) true in let l = i + 1 in let r = l + occurrences f in
+    (λ e. again y i (plain.Paired pairing.Weak f g) false e) m
+head_closed i (plain.Paired pairing.Release f g) true y m =
+    let x = now i (plain.Paired pairing.Release f g) true in let l = i + 1 in let r = l + occurrences f in
     released_of (λ e. in_right y i f g true true l r e x) (λ e. in_left y i f g true true l r e x)
-    (λ e. again y i (plain.Paired plain.Release f g) true e) m
-head_closed i (plain.Paired plain.Release f g) false y m =
-    let x = now i (plain.Paired plain.Release f g) false in let l = i + 1 in let r = l + occurrences f in
+    (λ e. again y i (plain.Paired pairing.Release f g) true e) m
+head_closed i (plain.Paired pairing.Release f g) false y m =
+    let x = now i (plain.Paired pairing.Release f g) false in let l = i + 1 in let r = l + occurrences f in
     unless_of (λ e. in_right y i f g false false l r e x) (λ e. in_left y i f g false false l r e x)
-    (λ e. again y i (plain.Paired plain.Release f g) false e) m
+    (λ e. again y i (plain.Paired pairing.Release f g) false e) m
 head_closed i (plain.Binary operator.And f g) true y m =
     let x = now i (plain.Binary operator.And f g) true in let l = i + 1 in let r = l + occurrences f in
     two_of (λ e. in_left y i f g true true l r e x) (λ e. in_right y i f g true true l r e x) m

@@ -17,6 +17,8 @@ use Rattle.ml_text.specs.declared.token.Operator.TheVariants as operator
 use Rattle.ml_text.specs.Operators.{weight}
 use Rattle.ml_ctl.specs.Formula as plain
 use Rattle.ml_ctl.specs.Formula.{Formula, occurrences}
+use Rattle.ml_ctl.specs.declared.term.Tense.{Tense}
+use Rattle.ml_ctl.specs.declared.term.Pairing.{Pairing}
 use Rattle.ml_blocks.specs.Items.{Item, now}
 use Rattle.ml_blocks.specs.ItemSets.{key, due, items_within}
 use Rattle.ml_blocks.proofs.RowsOfItems.{item}
@@ -24,7 +26,7 @@ use Rattle.ml_blocks.proofs.RowsOfItems.{item}
 pub data StandsAt : ℕ → Formula → ℕ → Formula → Type 0 where
   here : (i : ℕ) (f : Formula) (j : ℕ) (g : Formula) → j ≡ i → g ≡ f → StandsAt i f j g
   under_not : (i : ℕ) (f : Formula) (j : ℕ) (g : Formula) → StandsAt (i + 1) f j g → StandsAt i (plain.Not f) j g
-  under_tense : (t : plain.Tense) (i : ℕ) (f : Formula) (j : ℕ) (g : Formula)
+  under_tense : (t : Tense) (i : ℕ) (f : Formula) (j : ℕ) (g : Formula)
       → StandsAt (i + 1) f j g
       → StandsAt i (plain.Temporal t f) j g
   at_left : (op : Operator) (i : ℕ) (f h : Formula) (j : ℕ) (g : Formula)
@@ -33,10 +35,10 @@ pub data StandsAt : ℕ → Formula → ℕ → Formula → Type 0 where
   at_right : (op : Operator) (i : ℕ) (f h : Formula) (j : ℕ) (g : Formula)
       → StandsAt (i + weight op + occurrences f) h j g
       → StandsAt i (plain.Binary op f h) j g
-  before : (p : plain.Pairing) (i : ℕ) (f h : Formula) (j : ℕ) (g : Formula)
+  before : (p : Pairing) (i : ℕ) (f h : Formula) (j : ℕ) (g : Formula)
       → StandsAt (i + 1) f j g
       → StandsAt i (plain.Paired p f h) j g
-  behind : (p : plain.Pairing) (i : ℕ) (f h : Formula) (j : ℕ) (g : Formula)
+  behind : (p : Pairing) (i : ℕ) (f h : Formula) (j : ℕ) (g : Formula)
       → StandsAt (i + 1 + occurrences f) h j g
       → StandsAt i (plain.Paired p f h) j g
 

@@ -7,7 +7,10 @@ use Rattle.std.proofs.Common.{ℕ, ◌≡◌, ◌+◌, Bool, true, [], Option, N
 use Rattle.std.proofs.lemmas.Option.{get_or_from_slice_get}
 use Rattle.ml_text.specs.declared.token.Operator.{Operator}
 use Rattle.ml_text.specs.Operators.{weight}
-use Rattle.ml_ctl.specs.Formula.{Formula, Const, Not, Binary, Temporal, Paired, Quantified, Tense, Pairing, Quantifier, occurrences}
+use Rattle.ml_ctl.specs.Formula.{Formula, Const, Not, Binary, Temporal, Paired, Quantified, occurrences}
+use Rattle.ml_ctl.specs.declared.term.Tense.{Tense}
+use Rattle.ml_ctl.specs.declared.term.Pairing.{Pairing}
+use Rattle.ml_ctl.specs.declared.term.Quantifier.{Quantifier}
 use Rattle.ml_blocks.specs.private.Occurrences.{formula_here, occurrence_here, eventualities_here, entry_at, eventualities_at, entry, sign_of}
 use Rattle.ml_blocks.specs.private.Views.{Kept, Stands, IsKept, formula_at}
 use Rattle.ml_blocks.specs.declared.table.Symbol.TheVariants as symbol

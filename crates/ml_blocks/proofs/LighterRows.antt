@@ -7,6 +7,8 @@ use Rattle.std.proofs.lemmas.Bool.{cases_Bool, cond-true, cond-false}
 use Rattle.ml_text.specs.declared.token.Operator.TheVariants as operator
 use Rattle.ml_ctl.specs.Formula as plain
 use Rattle.ml_ctl.specs.Formula.{Formula, occurrences}
+use Rattle.ml_ctl.specs.declared.term.Tense.TheVariants as tense
+use Rattle.ml_ctl.specs.declared.term.Pairing.TheVariants as pairing
 use Rattle.ml_blocks.specs.Items.{Item, row, now}
 use Rattle.ml_blocks.specs.ItemSets.{put_all, without}
 use Rattle.ml_blocks.specs.Places.{is_open, first_open}
@@ -48,35 +50,35 @@ takes_lighter i (plain.Prop p) b t ys e = nothing (plain.Prop p) ys e
 takes_lighter i (plain.Quantified q f) b t ys e = nothing (plain.Quantified q f) ys e
 takes_lighter i (plain.Not f) b t ys e =
     let low = load_low (i + 1) f (not b) in one_now (plain.Not f) ys _ e (omega (arith, low))
-takes_lighter i (plain.Temporal plain.Next f) b t ys none = absurd none
-takes_lighter i (plain.Temporal plain.Finally f) true t ys e =
+takes_lighter i (plain.Temporal tense.Next f) b t ys none = absurd none
+takes_lighter i (plain.Temporal tense.Finally f) true t ys e =
     let low = load_low (i + 1) f true in let some = some_symbol f in
-    one_of_two (plain.Temporal plain.Finally f) ys _ _ e (omega (arith, low)) (omega (arith, some))
-takes_lighter i (plain.Temporal plain.Finally f) false t ys e =
-    let low = load_low (i + 1) f false in one_now (plain.Temporal plain.Finally f) ys _ e (omega (arith, low))
-takes_lighter i (plain.Temporal plain.Globally f) true t ys e =
-    let low = load_low (i + 1) f true in one_now (plain.Temporal plain.Globally f) ys _ e (omega (arith, low))
-takes_lighter i (plain.Temporal plain.Globally f) false t ys e =
+    one_of_two (plain.Temporal tense.Finally f) ys _ _ e (omega (arith, low)) (omega (arith, some))
+takes_lighter i (plain.Temporal tense.Finally f) false t ys e =
+    let low = load_low (i + 1) f false in one_now (plain.Temporal tense.Finally f) ys _ e (omega (arith, low))
+takes_lighter i (plain.Temporal tense.Globally f) true t ys e =
+    let low = load_low (i + 1) f true in one_now (plain.Temporal tense.Globally f) ys _ e (omega (arith, low))
+takes_lighter i (plain.Temporal tense.Globally f) false t ys e =
     let low = load_low (i + 1) f false in let some = some_symbol f in
-    one_of_two (plain.Temporal plain.Globally f) ys _ _ e (omega (arith, low)) (omega (arith, some))
-takes_lighter i (plain.Paired plain.Until f g) true t ys e =
+    one_of_two (plain.Temporal tense.Globally f) ys _ _ e (omega (arith, low)) (omega (arith, some))
+takes_lighter i (plain.Paired pairing.Until f g) true t ys e =
     let a = load_low (i + 1) f true in let c = load_low (i + 1 + occurrences f) g true in
-    one_of_two (plain.Paired plain.Until f g) ys _ _ e (omega (arith, c)) (omega (arith, a))
-takes_lighter i (plain.Paired plain.Until f g) false t ys e =
+    one_of_two (plain.Paired pairing.Until f g) ys _ _ e (omega (arith, c)) (omega (arith, a))
+takes_lighter i (plain.Paired pairing.Until f g) false t ys e =
     let a = load_low (i + 1) f false in let c = load_low (i + 1 + occurrences f) g false in
-    one_of_two (plain.Paired plain.Until f g) ys _ _ e (omega (arith, a, c)) (omega (arith, c))
-takes_lighter i (plain.Paired plain.Weak f g) true t ys e =
+    one_of_two (plain.Paired pairing.Until f g) ys _ _ e (omega (arith, a, c)) (omega (arith, c))
+takes_lighter i (plain.Paired pairing.Weak f g) true t ys e =
     let a = load_low (i + 1) f true in let c = load_low (i + 1 + occurrences f) g true in
-    one_of_two (plain.Paired plain.Weak f g) ys _ _ e (omega (arith, c)) (omega (arith, a))
-takes_lighter i (plain.Paired plain.Weak f g) false t ys e =
+    one_of_two (plain.Paired pairing.Weak f g) ys _ _ e (omega (arith, c)) (omega (arith, a))
+takes_lighter i (plain.Paired pairing.Weak f g) false t ys e =
     let a = load_low (i + 1) f false in let c = load_low (i + 1 + occurrences f) g false in
-    one_of_two (plain.Paired plain.Weak f g) ys _ _ e (omega (arith, a, c)) (omega (arith, c))
-takes_lighter i (plain.Paired plain.Release f g) true t ys e =
+    one_of_two (plain.Paired pairing.Weak f g) ys _ _ e (omega (arith, a, c)) (omega (arith, c))
+takes_lighter i (plain.Paired pairing.Release f g) true t ys e =
     let a = load_low (i + 1) f true in let c = load_low (i + 1 + occurrences f) g true in
-    one_of_two (plain.Paired plain.Release f g) ys _ _ e (omega (arith, a, c)) (omega (arith, c))
-takes_lighter i (plain.Paired plain.Release f g) false t ys e =
+    one_of_two (plain.Paired pairing.Release f g) ys _ _ e (omega (arith, a, c)) (omega (arith, c))
+takes_lighter i (plain.Paired pairing.Release f g) false t ys e =
     let a = load_low (i + 1) f false in let c = load_low (i + 1 + occurrences f) g false in
-    one_of_two (plain.Paired plain.Release f g) ys _ _ e (omega (arith, c)) (omega (arith, a))
+    one_of_two (plain.Paired pairing.Release f g) ys _ _ e (omega (arith, c)) (omega (arith, a))
 takes_lighter i (plain.Binary operator.And f g) true t ys e =
     let a = load_low (i + 1) f true in let c = load_low (i + 1 + occurrences f) g true in
     one_now (plain.Binary operator.And f g) ys _ e (omega (arith, a, c))

@@ -13,6 +13,7 @@ use Rattle.ml_text.specs.Operators.{weight}
 use Rattle.ml_text.proofs.NameLists.{place_found}
 use Rattle.ml_ctl.specs.Formula as formula
 use Rattle.ml_ctl.specs.Formula.{Formula, Const, Prop, Not, Binary, Temporal, Paired, Quantified, occurrences}
+use Rattle.ml_ctl.specs.declared.term.Quantifier.TheVariants as quantifier
 use Rattle.ml_blocks.specs.Items.{Item, now}
 use Rattle.ml_blocks.specs.ItemSets.{next_items, eventualities, put_all, without}
 use Rattle.ml_blocks.specs.Places as node
@@ -186,12 +187,12 @@ module _ (K : Kept) (start : Place) where
       by_operator operator.Or is = is
       by_operator operator.Implies is = is
       by_operator operator.Iff is = is
-  state_same n (Quantified formula.Exists f) o sign s =
+  state_same n (Quantified quantifier.Exists f) o sign s =
       ap (λ h. let p = node.block_of (now (n + 1) h true) sign in node.And p p)
-      (formula_is K (n + 1) f (Some true) (of_quantifier K formula.Exists n f o s))
-  state_same n (Quantified formula.Forall f) o sign s =
+      (formula_is K (n + 1) f (Some true) (of_quantifier K quantifier.Exists n f o s))
+  state_same n (Quantified quantifier.Forall f) o sign s =
       ap (λ h. let p = node.block_of (now (n + 1) h false) (not sign) in node.And p p)
-      (formula_is K (n + 1) f (Some false) (of_quantifier K formula.Forall n f o s))
+      (formula_is K (n + 1) f (Some false) (of_quantifier K quantifier.Forall n f o s))
   state_same n (Temporal t f) o sign s = refl
   state_same n (Paired p f g) o sign s = refl
 
@@ -421,10 +422,10 @@ module _ (K : Kept) where
         is = formula_is K n (Binary op f g) o s ∙ ap (λ c. Binary c f g) is;
         kept = kept_at K n (Binary op f g) o s;
       })
-  state_fits n (Quantified formula.Exists f) o sign s =
-      begun_fits (n + 1) f true sign (of_quantifier K formula.Exists n f o s)
-  state_fits n (Quantified formula.Forall f) o sign s =
-      begun_fits (n + 1) f false (not sign) (of_quantifier K formula.Forall n f o s)
+  state_fits n (Quantified quantifier.Exists f) o sign s =
+      begun_fits (n + 1) f true sign (of_quantifier K quantifier.Exists n f o s)
+  state_fits n (Quantified quantifier.Forall f) o sign s =
+      begun_fits (n + 1) f false (not sign) (of_quantifier K quantifier.Forall n f o s)
   state_fits n (Temporal t f) o sign s = tt
   state_fits n (Paired p f g) o sign s = tt
 

@@ -10,13 +10,18 @@ use Rattle.ml_text.specs.declared.token.Operator.TheVariants as operator
 use Rattle.ml_text.specs.Operators.{weight}
 use Rattle.ml_ctl.specs.Formula as formula
 use Rattle.ml_ctl.specs.Formula.{Formula, Const, Prop, Not, Binary, Temporal, Paired, Quantified, occurrences}
+use Rattle.ml_ctl.specs.declared.term.Tense.{Tense}
+use Rattle.ml_ctl.specs.declared.term.Tense.TheVariants as tense
+use Rattle.ml_ctl.specs.declared.term.Pairing.{Pairing}
+use Rattle.ml_ctl.specs.declared.term.Pairing.TheVariants as pairing
+use Rattle.ml_ctl.specs.declared.term.Quantifier.TheVariants as quantifier
 use Rattle.ml_blocks.specs.Items as plain
 use Rattle.ml_blocks.specs.Items.{now}
 use Rattle.ml_blocks.specs.ItemSets.{next_of}
 use Rattle.ml_blocks.specs.Places.{is_open, is_wait}
 use Rattle.ml_blocks.specs.private.Asked.{now_at}
 use Rattle.ml_blocks.specs.private.Forms.{row_in, symbol_row, connective_row, tense_row, pairing_row, is_next, is_open_in, next_in}
-use Rattle.ml_blocks.specs.private.Occurrences.{occurrence_here, entry_at, tense_in, pairing_in}
+use Rattle.ml_blocks.specs.private.Occurrences.{occurrence_here, entry_at}
 use Rattle.ml_blocks.specs.private.Views.{Kept, Stands, IsKept, formula_at, item_of, row_of}
 use Rattle.ml_blocks.specs.declared.items.Asked.{Asked}
 use Rattle.ml_blocks.specs.declared.items.Few.{Few}
@@ -26,8 +31,6 @@ use Rattle.ml_blocks.specs.declared.rows.Row.TheVariants as row
 use Rattle.ml_blocks.specs.declared.table.Occurrence.{Occurrence}
 use Rattle.ml_blocks.specs.declared.table.Symbol.{Symbol}
 use Rattle.ml_blocks.specs.declared.table.Symbol.TheVariants as symbol
-use Rattle.ml_blocks.specs.declared.table.Tense.TheVariants as tense
-use Rattle.ml_blocks.specs.declared.table.Pairing.TheVariants as pairing
 use Rattle.ml_blocks.proofs.KeptFormulas.{formula_is, occurrence_is, kept_at, of_not, of_left, of_right, of_tense, before, behind}
 
 abbrev asked : ℕ → Bool → Bool → Asked
@@ -55,24 +58,24 @@ module _ (fs : List Formula) where
       ∙ ap (λ h. plain.row_of_connective op b (now l h) (now r (formula_at fs r))) at_l
       ∙ ap (λ h. plain.row_of_connective op b (now l f) (now r h)) at_r
 
-  tense_same : (t : formula.Tense) (n : ℕ) (b d : Bool) (l : ℕ)
-      → row_of fs (tense_row (tense_in t) (asked n b d) (now_at l b))
+  tense_same : (t : Tense) (n : ℕ) (b d : Bool) (l : ℕ)
+      → row_of fs (tense_row t (asked n b d) (now_at l b))
       ≡ plain.row_of_tense t (item_of fs (asked n b d)) (now l (formula_at fs l) b)
-  tense_same formula.Next n b d l = refl
-  tense_same formula.Finally n true d l = refl
-  tense_same formula.Finally n false d l = refl
-  tense_same formula.Globally n true d l = refl
-  tense_same formula.Globally n false d l = refl
+  tense_same tense.Next n b d l = refl
+  tense_same tense.Finally n true d l = refl
+  tense_same tense.Finally n false d l = refl
+  tense_same tense.Globally n true d l = refl
+  tense_same tense.Globally n false d l = refl
 
-  pairing_same : (p : formula.Pairing) (n : ℕ) (b d : Bool) (l r : ℕ)
-      → row_of fs (pairing_row (pairing_in p) (asked n b d) (now_at l b) (now_at r b))
+  pairing_same : (p : Pairing) (n : ℕ) (b d : Bool) (l r : ℕ)
+      → row_of fs (pairing_row p (asked n b d) (now_at l b) (now_at r b))
       ≡ plain.row_of_pairing p (item_of fs (asked n b d)) (now l (formula_at fs l) b) (now r (formula_at fs r) b)
-  pairing_same formula.Until n true d l r = refl
-  pairing_same formula.Until n false d l r = refl
-  pairing_same formula.Release n true d l r = refl
-  pairing_same formula.Release n false d l r = refl
-  pairing_same formula.Weak n true d l r = refl
-  pairing_same formula.Weak n false d l r = refl
+  pairing_same pairing.Until n true d l r = refl
+  pairing_same pairing.Until n false d l r = refl
+  pairing_same pairing.Release n true d l r = refl
+  pairing_same pairing.Release n false d l r = refl
+  pairing_same pairing.Weak n true d l r = refl
+  pairing_same pairing.Weak n false d l r = refl
 
   -- an X waits, and nothing else does
   connective_waits : (op : Operator) (b : Bool) (l r : ℕ) → false ≡ is_wait (row_of fs (connective_row op b l r))
@@ -88,8 +91,7 @@ module _ (fs : List Formula) where
   waits : (s : Symbol) (l r n : ℕ) (b d : Bool) → is_next s ≡ is_wait (row_of fs (symbol_row s l r (asked n b d)))
   waits (symbol.Const c) l r n b d = refl
   waits (symbol.Prop p) l r n b d = refl
-  waits symbol.Exists l r n b d = refl
-  waits symbol.Forall l r n b d = refl
+  waits (symbol.Quantified q) l r n b d = refl
   waits symbol.Not l r n b d = refl
   waits (symbol.Binary op) l r n b d = connective_waits op b l r
   waits (symbol.Temporal tense.Next) l r n b d = refl
@@ -127,27 +129,27 @@ module _ (K : Kept) where
   connective_kept operator.Iff true l r left right = ((left, right), (left, right))
   connective_kept operator.Iff false l r left right = ((left, right), (left, right))
 
-  tense_kept : (t : formula.Tense) (n : ℕ) (b d : Bool) (l : ℕ)
+  tense_kept : (t : Tense) (n : ℕ) (b d : Bool) (l : ℕ)
       → IsKept K n
       → IsKept K l
-      → RowKept K (tense_row (tense_in t) (asked n b d) (now_at l b))
-  tense_kept formula.Next n b d l own left = tt
-  tense_kept formula.Finally n true d l own left = (left, own)
-  tense_kept formula.Finally n false d l own left = (left, own)
-  tense_kept formula.Globally n true d l own left = (left, own)
-  tense_kept formula.Globally n false d l own left = (left, own)
+      → RowKept K (tense_row t (asked n b d) (now_at l b))
+  tense_kept tense.Next n b d l own left = tt
+  tense_kept tense.Finally n true d l own left = (left, own)
+  tense_kept tense.Finally n false d l own left = (left, own)
+  tense_kept tense.Globally n true d l own left = (left, own)
+  tense_kept tense.Globally n false d l own left = (left, own)
 
-  pairing_kept : (p : formula.Pairing) (n : ℕ) (b d : Bool) (l r : ℕ)
+  pairing_kept : (p : Pairing) (n : ℕ) (b d : Bool) (l r : ℕ)
       → IsKept K n
       → IsKept K l
       → IsKept K r
-      → RowKept K (pairing_row (pairing_in p) (asked n b d) (now_at l b) (now_at r b))
-  pairing_kept formula.Until n true d l r own left right = (right, (left, own))
-  pairing_kept formula.Until n false d l r own left right = ((right, left), (right, own))
-  pairing_kept formula.Release n true d l r own left right = ((right, left), (right, own))
-  pairing_kept formula.Release n false d l r own left right = (right, (left, own))
-  pairing_kept formula.Weak n true d l r own left right = (right, (left, own))
-  pairing_kept formula.Weak n false d l r own left right = ((right, left), (right, own))
+      → RowKept K (pairing_row p (asked n b d) (now_at l b) (now_at r b))
+  pairing_kept pairing.Until n true d l r own left right = (right, (left, own))
+  pairing_kept pairing.Until n false d l r own left right = ((right, left), (right, own))
+  pairing_kept pairing.Release n true d l r own left right = ((right, left), (right, own))
+  pairing_kept pairing.Release n false d l r own left right = (right, (left, own))
+  pairing_kept pairing.Weak n true d l r own left right = (right, (left, own))
+  pairing_kept pairing.Weak n false d l r own left right = ((right, left), (right, own))
 
   -- of the formula that stands there
   row_same : (x : Asked) (f : Formula) (o : Option Bool)
@@ -155,8 +157,8 @@ module _ (K : Kept) where
       → row_of K.formulas (row_in (occurrence_here K.names x.number f o) x) ≡ plain.row_at (item_of K.formulas x) f
   row_same x (Const b) o s = refl
   row_same x (Prop p) o s = refl
-  row_same x (Quantified formula.Exists f) o s = refl
-  row_same x (Quantified formula.Forall f) o s = refl
+  row_same x (Quantified quantifier.Exists f) o s = refl
+  row_same x (Quantified quantifier.Forall f) o s = refl
   row_same x (Not f) o s =
       ap (λ h. plain.Becomes (now (x.number + 1) h (not x.positive) ∷ []))
       (formula_is K (x.number + 1) f None (of_not K x.number f o s))
@@ -207,8 +209,8 @@ module _ (K : Kept) where
       → RowKept K (row_in (occurrence_here K.names x.number f o) x)
   kept_in x (Const b) o s = tt
   kept_in x (Prop p) o s = tt
-  kept_in x (Quantified formula.Exists f) o s = tt
-  kept_in x (Quantified formula.Forall f) o s = tt
+  kept_in x (Quantified quantifier.Exists f) o s = tt
+  kept_in x (Quantified quantifier.Forall f) o s = tt
   kept_in x (Not f) o s = kept_at K (x.number + 1) f None (of_not K x.number f o s)
   kept_in x (Binary op f g) o s =
       connective_kept op x.positive (x.number + weight op) (x.number + weight op + occurrences f)
@@ -245,35 +247,35 @@ module _ (K : Kept) where
       ≡ plain.operand_of (item_of K.formulas x) f
   beyond_same x (Const b) o s = refl
   beyond_same x (Prop p) o s = refl
-  beyond_same x (Quantified formula.Exists f) o s = refl
-  beyond_same x (Quantified formula.Forall f) o s = refl
+  beyond_same x (Quantified quantifier.Exists f) o s = refl
+  beyond_same x (Quantified quantifier.Forall f) o s = refl
   beyond_same x (Not f) o s = refl
   beyond_same x (Binary op f g) o s = refl
-  beyond_same x (Temporal formula.Next f) o s =
+  beyond_same x (Temporal tense.Next f) o s =
       ap (λ h. now (x.number + 1) h x.positive)
-      (formula_is K (x.number + 1) f None (of_tense K formula.Next x.number f o s))
-  beyond_same x (Temporal formula.Finally f) o s = refl
-  beyond_same x (Temporal formula.Globally f) o s = refl
-  beyond_same x (Paired formula.Until f g) o s = refl
-  beyond_same x (Paired formula.Release f g) o s = refl
-  beyond_same x (Paired formula.Weak f g) o s = refl
+      (formula_is K (x.number + 1) f None (of_tense K tense.Next x.number f o s))
+  beyond_same x (Temporal tense.Finally f) o s = refl
+  beyond_same x (Temporal tense.Globally f) o s = refl
+  beyond_same x (Paired pairing.Until f g) o s = refl
+  beyond_same x (Paired pairing.Release f g) o s = refl
+  beyond_same x (Paired pairing.Weak f g) o s = refl
 
   beyond_kept : (x : Asked) (f : Formula) (o : Option Bool)
       → Stands K x.number f o
       → IsKept K (beyond (occurrence_here K.names x.number f o) x).number
   beyond_kept x (Const b) o s = kept_at K x.number (Const b) o s
   beyond_kept x (Prop p) o s = kept_at K x.number (Prop p) o s
-  beyond_kept x (Quantified formula.Exists f) o s = kept_at K x.number (Quantified formula.Exists f) o s
-  beyond_kept x (Quantified formula.Forall f) o s = kept_at K x.number (Quantified formula.Forall f) o s
+  beyond_kept x (Quantified quantifier.Exists f) o s = kept_at K x.number (Quantified quantifier.Exists f) o s
+  beyond_kept x (Quantified quantifier.Forall f) o s = kept_at K x.number (Quantified quantifier.Forall f) o s
   beyond_kept x (Not f) o s = kept_at K x.number (Not f) o s
   beyond_kept x (Binary op f g) o s = kept_at K x.number (Binary op f g) o s
-  beyond_kept x (Temporal formula.Next f) o s =
-      kept_at K (x.number + 1) f None (of_tense K formula.Next x.number f o s)
-  beyond_kept x (Temporal formula.Finally f) o s = kept_at K x.number (Temporal formula.Finally f) o s
-  beyond_kept x (Temporal formula.Globally f) o s = kept_at K x.number (Temporal formula.Globally f) o s
-  beyond_kept x (Paired formula.Until f g) o s = kept_at K x.number (Paired formula.Until f g) o s
-  beyond_kept x (Paired formula.Release f g) o s = kept_at K x.number (Paired formula.Release f g) o s
-  beyond_kept x (Paired formula.Weak f g) o s = kept_at K x.number (Paired formula.Weak f g) o s
+  beyond_kept x (Temporal tense.Next f) o s =
+      kept_at K (x.number + 1) f None (of_tense K tense.Next x.number f o s)
+  beyond_kept x (Temporal tense.Finally f) o s = kept_at K x.number (Temporal tense.Finally f) o s
+  beyond_kept x (Temporal tense.Globally f) o s = kept_at K x.number (Temporal tense.Globally f) o s
+  beyond_kept x (Paired pairing.Until f g) o s = kept_at K x.number (Paired pairing.Until f g) o s
+  beyond_kept x (Paired pairing.Release f g) o s = kept_at K x.number (Paired pairing.Release f g) o s
+  beyond_kept x (Paired pairing.Weak f g) o s = kept_at K x.number (Paired pairing.Weak f g) o s
 
   by_time : (d : Bool) (n : ℕ) (b : Bool)
       → item_of K.formulas (beyond (entry_at K.occurrences n) (asked n b d))

@@ -12,6 +12,10 @@ use Rattle.ml_lists.proofs.Member.{member-append}
 use Rattle.ml_text.specs.declared.token.Operator.TheVariants as operator
 use Rattle.ml_ctl.specs.Formula as plain
 use Rattle.ml_ctl.specs.Formula.{Formula, occurrences}
+use Rattle.ml_ctl.specs.declared.term.Tense.{Tense}
+use Rattle.ml_ctl.specs.declared.term.Tense.TheVariants as tense
+use Rattle.ml_ctl.specs.declared.term.Pairing.{Pairing}
+use Rattle.ml_ctl.specs.declared.term.Pairing.TheVariants as pairing
 use Rattle.ml_blocks.specs.Items.{Item, Row, OfState, Waits, Becomes, Either, row, now, behind_next}
 use Rattle.ml_blocks.specs.ItemSets.{key, next_of, put_all, without, next_items, items_within, eventualities}
 use Rattle.ml_blocks.specs.Places.{Holding, first_open, is_open, is_wait, focus_behind}
@@ -223,46 +227,46 @@ module _ (B : Board) (first : Item) (b : Bool) where
   found x y e t = subst Reached (sym e) t
 
   -- the operand of F and G, and the operands of U, R and W
-  tense_operand : (t : plain.Tense) (i : ℕ) (f : Formula) (c : Bool) → At i (plain.Temporal t f) c → At (i + 1) f c
-  tense_operand plain.Next i f c r = next_reached (now i (plain.Temporal plain.Next f) c) r refl refl
-  tense_operand plain.Finally i f true r =
-      by_way i (plain.Temporal plain.Finally f) true r _ (inl refl) (now (i + 1) f true) (inl refl)
-  tense_operand plain.Finally i f false r =
-      by_way i (plain.Temporal plain.Finally f) false r _ refl (now (i + 1) f false) (inl refl)
-  tense_operand plain.Globally i f true r =
-      by_way i (plain.Temporal plain.Globally f) true r _ refl (now (i + 1) f true) (inl refl)
-  tense_operand plain.Globally i f false r =
-      by_way i (plain.Temporal plain.Globally f) false r _ (inl refl) (now (i + 1) f false) (inl refl)
+  tense_operand : (t : Tense) (i : ℕ) (f : Formula) (c : Bool) → At i (plain.Temporal t f) c → At (i + 1) f c
+  tense_operand tense.Next i f c r = next_reached (now i (plain.Temporal tense.Next f) c) r refl refl
+  tense_operand tense.Finally i f true r =
+      by_way i (plain.Temporal tense.Finally f) true r _ (inl refl) (now (i + 1) f true) (inl refl)
+  tense_operand tense.Finally i f false r =
+      by_way i (plain.Temporal tense.Finally f) false r _ refl (now (i + 1) f false) (inl refl)
+  tense_operand tense.Globally i f true r =
+      by_way i (plain.Temporal tense.Globally f) true r _ refl (now (i + 1) f true) (inl refl)
+  tense_operand tense.Globally i f false r =
+      by_way i (plain.Temporal tense.Globally f) false r _ (inl refl) (now (i + 1) f false) (inl refl)
 
-  left_operand : (p : plain.Pairing) (i : ℕ) (f g : Formula) (c : Bool) → At i (plain.Paired p f g) c → At (i + 1) f c
-  left_operand plain.Until i f g true r =
-      by_way i (plain.Paired plain.Until f g) true r _ (inr refl) (now (i + 1) f true) (inl refl)
-  left_operand plain.Until i f g false r =
-      by_way i (plain.Paired plain.Until f g) false r _ (inl refl) (now (i + 1) f false) (inr (inl refl))
-  left_operand plain.Weak i f g true r =
-      by_way i (plain.Paired plain.Weak f g) true r _ (inr refl) (now (i + 1) f true) (inl refl)
-  left_operand plain.Weak i f g false r =
-      by_way i (plain.Paired plain.Weak f g) false r _ (inl refl) (now (i + 1) f false) (inr (inl refl))
-  left_operand plain.Release i f g true r =
-      by_way i (plain.Paired plain.Release f g) true r _ (inl refl) (now (i + 1) f true) (inr (inl refl))
-  left_operand plain.Release i f g false r =
-      by_way i (plain.Paired plain.Release f g) false r _ (inr refl) (now (i + 1) f false) (inl refl)
+  left_operand : (p : Pairing) (i : ℕ) (f g : Formula) (c : Bool) → At i (plain.Paired p f g) c → At (i + 1) f c
+  left_operand pairing.Until i f g true r =
+      by_way i (plain.Paired pairing.Until f g) true r _ (inr refl) (now (i + 1) f true) (inl refl)
+  left_operand pairing.Until i f g false r =
+      by_way i (plain.Paired pairing.Until f g) false r _ (inl refl) (now (i + 1) f false) (inr (inl refl))
+  left_operand pairing.Weak i f g true r =
+      by_way i (plain.Paired pairing.Weak f g) true r _ (inr refl) (now (i + 1) f true) (inl refl)
+  left_operand pairing.Weak i f g false r =
+      by_way i (plain.Paired pairing.Weak f g) false r _ (inl refl) (now (i + 1) f false) (inr (inl refl))
+  left_operand pairing.Release i f g true r =
+      by_way i (plain.Paired pairing.Release f g) true r _ (inl refl) (now (i + 1) f true) (inr (inl refl))
+  left_operand pairing.Release i f g false r =
+      by_way i (plain.Paired pairing.Release f g) false r _ (inr refl) (now (i + 1) f false) (inl refl)
 
-  right_operand : (p : plain.Pairing) (i : ℕ) (f g : Formula) (c : Bool)
+  right_operand : (p : Pairing) (i : ℕ) (f g : Formula) (c : Bool)
       → At i (plain.Paired p f g) c
       → At (i + 1 + occurrences f) g c
-  right_operand plain.Until i f g true r =
-      by_way i (plain.Paired plain.Until f g) true r _ (inl refl) (now (i + 1 + occurrences f) g true) (inl refl)
-  right_operand plain.Until i f g false r =
-      by_way i (plain.Paired plain.Until f g) false r _ (inl refl) (now (i + 1 + occurrences f) g false) (inl refl)
-  right_operand plain.Weak i f g true r =
-      by_way i (plain.Paired plain.Weak f g) true r _ (inl refl) (now (i + 1 + occurrences f) g true) (inl refl)
-  right_operand plain.Weak i f g false r =
-      by_way i (plain.Paired plain.Weak f g) false r _ (inl refl) (now (i + 1 + occurrences f) g false) (inl refl)
-  right_operand plain.Release i f g true r =
-      by_way i (plain.Paired plain.Release f g) true r _ (inl refl) (now (i + 1 + occurrences f) g true) (inl refl)
-  right_operand plain.Release i f g false r =
-      by_way i (plain.Paired plain.Release f g) false r _ (inl refl) (now (i + 1 + occurrences f) g false) (inl refl)
+  right_operand pairing.Until i f g true r =
+      by_way i (plain.Paired pairing.Until f g) true r _ (inl refl) (now (i + 1 + occurrences f) g true) (inl refl)
+  right_operand pairing.Until i f g false r =
+      by_way i (plain.Paired pairing.Until f g) false r _ (inl refl) (now (i + 1 + occurrences f) g false) (inl refl)
+  right_operand pairing.Weak i f g true r =
+      by_way i (plain.Paired pairing.Weak f g) true r _ (inl refl) (now (i + 1 + occurrences f) g true) (inl refl)
+  right_operand pairing.Weak i f g false r =
+      by_way i (plain.Paired pairing.Weak f g) false r _ (inl refl) (now (i + 1 + occurrences f) g false) (inl refl)
+  right_operand pairing.Release i f g true r =
+      by_way i (plain.Paired pairing.Release f g) true r _ (inl refl) (now (i + 1 + occurrences f) g true) (inl refl)
+  right_operand pairing.Release i f g false r =
+      by_way i (plain.Paired pairing.Release f g) false r _ (inl refl) (now (i + 1 + occurrences f) g false) (inl refl)
 
   module _ (i : ℕ) (f g : Formula) where
     abbrev R : ℕ

@@ -10,6 +10,8 @@ use Rattle.ml_lists.specs.Member.{IsMember}
 use Rattle.ml_text.specs.declared.token.Operator.TheVariants as operator
 use Rattle.ml_ctl.specs.Formula as plain
 use Rattle.ml_ctl.specs.Formula.{Formula, occurrences}
+use Rattle.ml_ctl.specs.declared.term.Tense.TheVariants as tense
+use Rattle.ml_ctl.specs.declared.term.Pairing.TheVariants as pairing
 use Rattle.ml_blocks.specs.Items.{Item, Waits, row, now, put_off, behind_next}
 use Rattle.ml_blocks.specs.ItemSets.{due, next_of}
 use Rattle.ml_blocks.proofs.LocalRuns.{Takes, waiting}
@@ -73,44 +75,44 @@ ways_parts i (plain.Quantified q f) b t ys e =
 ways_parts i (plain.Not f) b t ys e =
     let h = plain.Not f in let x = item i h b t in
     as_one h x ys _ e (operand_alone h x (i + 1) f (not b) (omega arith))
-ways_parts i (plain.Temporal plain.Next f) b t ys none = absurd none
-ways_parts i (plain.Temporal plain.Finally f) true t ys e =
-    let h = plain.Temporal plain.Finally f in let x = item i h true t in
+ways_parts i (plain.Temporal tense.Next f) b t ys none = absurd none
+ways_parts i (plain.Temporal tense.Finally f) true t ys e =
+    let h = plain.Temporal tense.Finally f in let x = item i h true t in
     as_two h x ys _ _ e (operand_alone h x (i + 1) f true (omega arith)) (put_off_alone h x)
-ways_parts i (plain.Temporal plain.Finally f) false t ys e =
-    let h = plain.Temporal plain.Finally f in let x = item i h false t in
+ways_parts i (plain.Temporal tense.Finally f) false t ys e =
+    let h = plain.Temporal tense.Finally f in let x = item i h false t in
     as_one h x ys _ e (with_put_off h x (i + 1) f false (omega arith))
-ways_parts i (plain.Temporal plain.Globally f) true t ys e =
-    let h = plain.Temporal plain.Globally f in let x = item i h true t in
+ways_parts i (plain.Temporal tense.Globally f) true t ys e =
+    let h = plain.Temporal tense.Globally f in let x = item i h true t in
     as_one h x ys _ e (with_put_off h x (i + 1) f true (omega arith))
-ways_parts i (plain.Temporal plain.Globally f) false t ys e =
-    let h = plain.Temporal plain.Globally f in let x = item i h false t in
+ways_parts i (plain.Temporal tense.Globally f) false t ys e =
+    let h = plain.Temporal tense.Globally f in let x = item i h false t in
     as_two h x ys _ _ e (operand_alone h x (i + 1) f false (omega arith)) (put_off_alone h x)
-ways_parts i (plain.Paired plain.Until f g) true t ys e =
-    let h = plain.Paired plain.Until f g in let x = item i h true t in
+ways_parts i (plain.Paired pairing.Until f g) true t ys e =
+    let h = plain.Paired pairing.Until f g in let x = item i h true t in
     as_two h x ys _ _ e (operand_alone h x (i + 1 + occurrences f) g true (omega arith))
     (with_put_off h x (i + 1) f true (omega arith))
-ways_parts i (plain.Paired plain.Until f g) false t ys e =
-    let h = plain.Paired plain.Until f g in let x = item i h false t in
+ways_parts i (plain.Paired pairing.Until f g) false t ys e =
+    let h = plain.Paired pairing.Until f g in let x = item i h false t in
     as_two h x ys _ _ e
     (two_operands h x (i + 1 + occurrences f) (i + 1) g f false false (omega arith) (omega arith))
     (with_put_off h x (i + 1 + occurrences f) g false (omega arith))
-ways_parts i (plain.Paired plain.Weak f g) true t ys e =
-    let h = plain.Paired plain.Weak f g in let x = item i h true t in
+ways_parts i (plain.Paired pairing.Weak f g) true t ys e =
+    let h = plain.Paired pairing.Weak f g in let x = item i h true t in
     as_two h x ys _ _ e (operand_alone h x (i + 1 + occurrences f) g true (omega arith))
     (with_put_off h x (i + 1) f true (omega arith))
-ways_parts i (plain.Paired plain.Weak f g) false t ys e =
-    let h = plain.Paired plain.Weak f g in let x = item i h false t in
+ways_parts i (plain.Paired pairing.Weak f g) false t ys e =
+    let h = plain.Paired pairing.Weak f g in let x = item i h false t in
     as_two h x ys _ _ e
     (two_operands h x (i + 1 + occurrences f) (i + 1) g f false false (omega arith) (omega arith))
     (with_put_off h x (i + 1 + occurrences f) g false (omega arith))
-ways_parts i (plain.Paired plain.Release f g) true t ys e =
-    let h = plain.Paired plain.Release f g in let x = item i h true t in
+ways_parts i (plain.Paired pairing.Release f g) true t ys e =
+    let h = plain.Paired pairing.Release f g in let x = item i h true t in
     as_two h x ys _ _ e
     (two_operands h x (i + 1 + occurrences f) (i + 1) g f true true (omega arith) (omega arith))
     (with_put_off h x (i + 1 + occurrences f) g true (omega arith))
-ways_parts i (plain.Paired plain.Release f g) false t ys e =
-    let h = plain.Paired plain.Release f g in let x = item i h false t in
+ways_parts i (plain.Paired pairing.Release f g) false t ys e =
+    let h = plain.Paired pairing.Release f g in let x = item i h false t in
     as_two h x ys _ _ e (operand_alone h x (i + 1 + occurrences f) g false (omega arith))
     (with_put_off h x (i + 1) f false (omega arith))
 ways_parts i (plain.Binary operator.And f g) true t ys e =
@@ -151,21 +153,21 @@ abbrev Behind : Item → Type 0
 Behind x = ((behind_next x).later ≡ false) × (occurrences (behind_next x).formula < occurrences x.formula)
 
 pub behind_parts : (i : ℕ) (f : Formula) (b t : Bool) → row (item i f b t) ≡ Waits → Behind (item i f b t)
-behind_parts i (plain.Temporal plain.Next f) b t e = (refl, omega arith)
+behind_parts i (plain.Temporal tense.Next f) b t e = (refl, omega arith)
 behind_parts i (plain.Const c) b t e = absurd (cc)
 behind_parts i (plain.Prop p) b t e = absurd (cc)
 behind_parts i (plain.Quantified q f) b t e = absurd (cc)
 behind_parts i (plain.Not f) b t e = absurd (cc)
-behind_parts i (plain.Temporal plain.Finally f) true t e = absurd (cc)
-behind_parts i (plain.Temporal plain.Finally f) false t e = absurd (cc)
-behind_parts i (plain.Temporal plain.Globally f) true t e = absurd (cc)
-behind_parts i (plain.Temporal plain.Globally f) false t e = absurd (cc)
-behind_parts i (plain.Paired plain.Until f g) true t e = absurd (cc)
-behind_parts i (plain.Paired plain.Until f g) false t e = absurd (cc)
-behind_parts i (plain.Paired plain.Weak f g) true t e = absurd (cc)
-behind_parts i (plain.Paired plain.Weak f g) false t e = absurd (cc)
-behind_parts i (plain.Paired plain.Release f g) true t e = absurd (cc)
-behind_parts i (plain.Paired plain.Release f g) false t e = absurd (cc)
+behind_parts i (plain.Temporal tense.Finally f) true t e = absurd (cc)
+behind_parts i (plain.Temporal tense.Finally f) false t e = absurd (cc)
+behind_parts i (plain.Temporal tense.Globally f) true t e = absurd (cc)
+behind_parts i (plain.Temporal tense.Globally f) false t e = absurd (cc)
+behind_parts i (plain.Paired pairing.Until f g) true t e = absurd (cc)
+behind_parts i (plain.Paired pairing.Until f g) false t e = absurd (cc)
+behind_parts i (plain.Paired pairing.Weak f g) true t e = absurd (cc)
+behind_parts i (plain.Paired pairing.Weak f g) false t e = absurd (cc)
+behind_parts i (plain.Paired pairing.Release f g) true t e = absurd (cc)
+behind_parts i (plain.Paired pairing.Release f g) false t e = absurd (cc)
 behind_parts i (plain.Binary operator.And f g) true t e = absurd (cc)
 behind_parts i (plain.Binary operator.And f g) false t e = absurd (cc)
 behind_parts i (plain.Binary operator.Or f g) true t e = absurd (cc)

@@ -10,6 +10,8 @@ use Rattle.ml_text.specs.declared.token.Operator.TheVariants as operator
 use Rattle.ml_base.specs.Structure.{Structure}
 use Rattle.ml_ctl.specs.Formula as plain
 use Rattle.ml_ctl.specs.Formula.{Formula}
+use Rattle.ml_ctl.specs.declared.term.Tense.TheVariants as tense
+use Rattle.ml_ctl.specs.declared.term.Pairing.TheVariants as pairing
 use Rattle.ml_ctl.specs.Laws.{IsDecided}
 use Rattle.ml_ctl.specs.Meaning.{Property, Nowhere, Everywhere, TruthAt, Until, Release, until_step, release_step}
 use Rattle.ml_ctl.specs.Paths.{places}
@@ -77,41 +79,41 @@ module _ (m : Structure) (l : Lasso) (starts : l.start < places l) where
     decided_g : (y : ℕ) → y < n → IsDecided (G y)
     decided_g = decided g decides_g
 
-    until : IsMeant i (plain.Paired plain.Until f g) true t x
+    until : IsMeant i (plain.Paired pairing.Until f g) true t x
     until =
-        iterated next (until_step next F G) (step (item i (plain.Paired plain.Until f g) true t))
+        iterated next (until_step next F G) (step (item i (plain.Paired pairing.Until f g) true t))
         (λ P Q y same. row.unless same) Nowhere n (Until l F G) closes
         (λ y under. itself) (until_steps next F G n closes) x low
 
-    no_until : IsMeant i (plain.Paired plain.Until f g) false t x
+    no_until : IsMeant i (plain.Paired pairing.Until f g) false t x
     no_until =
-        iterated next (release_step next NotF NotG) (step (item i (plain.Paired plain.Until f g) false t))
+        iterated next (release_step next NotF NotG) (step (item i (plain.Paired pairing.Until f g) false t))
         (λ P Q y same. row.released same) Everywhere n (λ y. Until l F G y → ⊥) closes
         (λ y under. (not_until next n closes F G decided_f n y under, until_not next n closes F G n y))
         (release_steps next NotF NotG n closes) x low
 
-    release : IsMeant i (plain.Paired plain.Release f g) true t x
+    release : IsMeant i (plain.Paired pairing.Release f g) true t x
     release =
-        iterated next (release_step next F G) (step (item i (plain.Paired plain.Release f g) true t))
+        iterated next (release_step next F G) (step (item i (plain.Paired pairing.Release f g) true t))
         (λ P Q y same. row.released same) Everywhere n (Release l F G) closes
         (λ y under. itself) (release_steps next F G n closes) x low
 
-    no_release : IsMeant i (plain.Paired plain.Release f g) false t x
+    no_release : IsMeant i (plain.Paired pairing.Release f g) false t x
     no_release =
-        iterated next (until_step next NotF NotG) (step (item i (plain.Paired plain.Release f g) false t))
+        iterated next (until_step next NotF NotG) (step (item i (plain.Paired pairing.Release f g) false t))
         (λ P Q y same. row.unless same) Nowhere n (λ y. Release l F G y → ⊥) closes
         (λ y under. (not_release next n closes F G decided_g n y under, release_not next n closes F G n y))
         (until_steps next NotF NotG n closes) x low
 
-    weak : IsMeant i (plain.Paired plain.Weak f g) true t x
+    weak : IsMeant i (plain.Paired pairing.Weak f g) true t x
     weak =
-        iterated next (release_step next G Either) (step (item i (plain.Paired plain.Weak f g) true t))
+        iterated next (release_step next G Either) (step (item i (plain.Paired pairing.Weak f g) true t))
         (λ P Q y same. row.weakly same) Everywhere n (Release l G Either) closes
         (λ y under. itself) (release_steps next G Either n closes) x low
 
-    no_weak : IsMeant i (plain.Paired plain.Weak f g) false t x
+    no_weak : IsMeant i (plain.Paired pairing.Weak f g) false t x
     no_weak =
-        iterated next (until_step next NotG Neither) (step (item i (plain.Paired plain.Weak f g) false t))
+        iterated next (until_step next NotG Neither) (step (item i (plain.Paired pairing.Weak f g) false t))
         (λ P Q y same. row.unreleased same) Nowhere n (λ y. Release l G Either y → ⊥) closes
         (λ y under. (
           not_release next n closes G Either (λ z low. decided_either (decided_f z low) (decided_g z low)) n y under,
@@ -119,15 +121,15 @@ module _ (m : Structure) (l : Lasso) (starts : l.start < places l) where
         ))
         (until_steps next NotG Neither n closes) x low
 
-    finally : IsMeant i (plain.Temporal plain.Finally g) true t x
+    finally : IsMeant i (plain.Temporal tense.Finally g) true t x
     finally =
-        iterated next (until_step next Everywhere G) (step (item i (plain.Temporal plain.Finally g) true t))
+        iterated next (until_step next Everywhere G) (step (item i (plain.Temporal tense.Finally g) true t))
         (λ P Q y same. row.some same tt) Nowhere n (Until l Everywhere G) closes
         (λ y under. itself) (until_steps next Everywhere G n closes) x low
 
-    no_finally : IsMeant i (plain.Temporal plain.Finally g) false t x
+    no_finally : IsMeant i (plain.Temporal tense.Finally g) false t x
     no_finally =
-        iterated next (release_step next (λ y. Unit {0} → ⊥) NotG) (step (item i (plain.Temporal plain.Finally g) false t))
+        iterated next (release_step next (λ y. Unit {0} → ⊥) NotG) (step (item i (plain.Temporal tense.Finally g) false t))
         (λ P Q y same. row.all same (λ never. never tt)) Everywhere n (λ y. Until l Everywhere G y → ⊥) closes
         (λ y under. (
           not_until next n closes Everywhere G (λ z low. inl tt) n y under,
@@ -135,15 +137,15 @@ module _ (m : Structure) (l : Lasso) (starts : l.start < places l) where
         ))
         (release_steps next (λ y. Unit {0} → ⊥) NotG n closes) x low
 
-    globally : IsMeant i (plain.Temporal plain.Globally g) true t x
+    globally : IsMeant i (plain.Temporal tense.Globally g) true t x
     globally =
-        iterated next (release_step next Nowhere G) (step (item i (plain.Temporal plain.Globally g) true t))
+        iterated next (release_step next Nowhere G) (step (item i (plain.Temporal tense.Globally g) true t))
         (λ P Q y same. row.all same (λ none. none)) Everywhere n (Release l Nowhere G) closes
         (λ y under. itself) (release_steps next Nowhere G n closes) x low
 
-    no_globally : IsMeant i (plain.Temporal plain.Globally g) false t x
+    no_globally : IsMeant i (plain.Temporal tense.Globally g) false t x
     no_globally =
-        iterated next (until_step next (λ y. ⊥ → ⊥) NotG) (step (item i (plain.Temporal plain.Globally g) false t))
+        iterated next (until_step next (λ y. ⊥ → ⊥) NotG) (step (item i (plain.Temporal tense.Globally g) false t))
         (λ P Q y same. row.some same (λ none. none)) Nowhere n (λ y. Release l Nowhere G y → ⊥) closes
         (λ y under. (
           not_release next n closes Nowhere G decided_g n y under,
@@ -193,18 +195,18 @@ module _ (m : Structure) (l : Lasso) (starts : l.start < places l) where
   meant i (plain.Not f) false t given x low =
       at_once (item i (plain.Not f) false t) x low (λ P Q s. s) (row.not_not (decided f given x low))
   meant i (plain.Binary op f g) b t given x low = connective op i f g b t given.0 given.1 x low
-  meant i (plain.Temporal plain.Next f) b t given x low =
-      at_once (item i (plain.Temporal plain.Next f) b t) x low (λ P Q s. s) itself
-  meant i (plain.Temporal plain.Finally f) true t given x low = finally i f f t given given x low
-  meant i (plain.Temporal plain.Finally f) false t given x low = no_finally i f f t given given x low
-  meant i (plain.Temporal plain.Globally f) true t given x low = globally i f f t given given x low
-  meant i (plain.Temporal plain.Globally f) false t given x low = no_globally i f f t given given x low
-  meant i (plain.Paired plain.Until f g) true t given x low = until i f g t given.0 given.1 x low
-  meant i (plain.Paired plain.Until f g) false t given x low = no_until i f g t given.0 given.1 x low
-  meant i (plain.Paired plain.Release f g) true t given x low = release i f g t given.0 given.1 x low
-  meant i (plain.Paired plain.Release f g) false t given x low = no_release i f g t given.0 given.1 x low
-  meant i (plain.Paired plain.Weak f g) true t given x low = weak i f g t given.0 given.1 x low
-  meant i (plain.Paired plain.Weak f g) false t given x low = no_weak i f g t given.0 given.1 x low
+  meant i (plain.Temporal tense.Next f) b t given x low =
+      at_once (item i (plain.Temporal tense.Next f) b t) x low (λ P Q s. s) itself
+  meant i (plain.Temporal tense.Finally f) true t given x low = finally i f f t given given x low
+  meant i (plain.Temporal tense.Finally f) false t given x low = no_finally i f f t given given x low
+  meant i (plain.Temporal tense.Globally f) true t given x low = globally i f f t given given x low
+  meant i (plain.Temporal tense.Globally f) false t given x low = no_globally i f f t given given x low
+  meant i (plain.Paired pairing.Until f g) true t given x low = until i f g t given.0 given.1 x low
+  meant i (plain.Paired pairing.Until f g) false t given x low = no_until i f g t given.0 given.1 x low
+  meant i (plain.Paired pairing.Release f g) true t given x low = release i f g t given.0 given.1 x low
+  meant i (plain.Paired pairing.Release f g) false t given x low = no_release i f g t given.0 given.1 x low
+  meant i (plain.Paired pairing.Weak f g) true t given x low = weak i f g t given.0 given.1 x low
+  meant i (plain.Paired pairing.Weak f g) false t given x low = no_weak i f g t given.0 given.1 x low
   meant i (plain.Quantified q f) b t given x low = at_once (item i (plain.Quantified q f) b t) x low (λ P Q s. s) itself
 
 pub rows_say_the_same : RowsSayTheSame

@@ -15,6 +15,10 @@ use Rattle.ml_lists.proofs.Member.{member-append, member-append_left, member-app
 use Rattle.ml_text.specs.declared.token.Operator.TheVariants as operator
 use Rattle.ml_ctl.specs.Formula as plain
 use Rattle.ml_ctl.specs.Formula.{Formula, Const, Prop, Not, Binary, Temporal, Paired, Quantified, occurrences}
+use Rattle.ml_ctl.specs.declared.term.Tense.{Tense}
+use Rattle.ml_ctl.specs.declared.term.Tense.TheVariants as tense
+use Rattle.ml_ctl.specs.declared.term.Pairing.{Pairing}
+use Rattle.ml_ctl.specs.declared.term.Pairing.TheVariants as pairing
 use Rattle.ml_blocks.specs.Items.{Item, now, is_least}
 use Rattle.ml_blocks.specs.ItemSets.{key, items_within, eventualities}
 use Rattle.ml_blocks.specs.private.Occurrences.{wanted, own_tense, own_pairing, eventualities_here}
@@ -112,64 +116,64 @@ abbrev own : ℕ → Formula → Bool → List ℕ
 own i f b = keys_of (now i f b ∷ [])
 
 module _ (k i : ℕ) (f g : Formula) where
-  tense_to : (t : plain.Tense) (plus minus : Bool)
+  tense_to : (t : Tense) (plus minus : Bool)
       → IsMember k (own_tense t i plus minus)
       → Of plus minus k (own i (Temporal t f))
-  tense_to plain.Next plus minus none = absurd none
-  tense_to plain.Finally true minus (inl e) = inl (refl, inl (omega (arith, e)))
-  tense_to plain.Finally true minus (inr none) = absurd none
-  tense_to plain.Finally false minus none = absurd none
-  tense_to plain.Globally plus true (inl e) = inr (refl, inl (omega (arith, e)))
-  tense_to plain.Globally plus true (inr none) = absurd none
-  tense_to plain.Globally plus false none = absurd none
+  tense_to tense.Next plus minus none = absurd none
+  tense_to tense.Finally true minus (inl e) = inl (refl, inl (omega (arith, e)))
+  tense_to tense.Finally true minus (inr none) = absurd none
+  tense_to tense.Finally false minus none = absurd none
+  tense_to tense.Globally plus true (inl e) = inr (refl, inl (omega (arith, e)))
+  tense_to tense.Globally plus true (inr none) = absurd none
+  tense_to tense.Globally plus false none = absurd none
 
-  tense_from : (t : plain.Tense) (plus minus : Bool)
+  tense_from : (t : Tense) (plus minus : Bool)
       → Of plus minus k (own i (Temporal t f))
       → IsMember k (own_tense t i plus minus)
-  tense_from plain.Next plus minus (inl m) = m.1
-  tense_from plain.Next plus minus (inr m) = m.1
-  tense_from plain.Finally true minus (inl (e, inl is)) = inl (omega (arith, is))
-  tense_from plain.Finally true minus (inl (e, inr none)) = absurd none
-  tense_from plain.Finally false minus (inl m) = absurd (false_true m.0)
-  tense_from plain.Finally true minus (inr m) = absurd m.1
-  tense_from plain.Finally false minus (inr m) = m.1
-  tense_from plain.Globally plus true (inr (e, inl is)) = inl (omega (arith, is))
-  tense_from plain.Globally plus true (inr (e, inr none)) = absurd none
-  tense_from plain.Globally plus false (inr m) = absurd (false_true m.0)
-  tense_from plain.Globally plus true (inl m) = absurd m.1
-  tense_from plain.Globally plus false (inl m) = m.1
+  tense_from tense.Next plus minus (inl m) = m.1
+  tense_from tense.Next plus minus (inr m) = m.1
+  tense_from tense.Finally true minus (inl (e, inl is)) = inl (omega (arith, is))
+  tense_from tense.Finally true minus (inl (e, inr none)) = absurd none
+  tense_from tense.Finally false minus (inl m) = absurd (false_true m.0)
+  tense_from tense.Finally true minus (inr m) = absurd m.1
+  tense_from tense.Finally false minus (inr m) = m.1
+  tense_from tense.Globally plus true (inr (e, inl is)) = inl (omega (arith, is))
+  tense_from tense.Globally plus true (inr (e, inr none)) = absurd none
+  tense_from tense.Globally plus false (inr m) = absurd (false_true m.0)
+  tense_from tense.Globally plus true (inl m) = absurd m.1
+  tense_from tense.Globally plus false (inl m) = m.1
 
-  pairing_to : (p : plain.Pairing) (plus minus : Bool)
+  pairing_to : (p : Pairing) (plus minus : Bool)
       → IsMember k (own_pairing p i plus minus)
       → Of plus minus k (own i (Paired p f g))
-  pairing_to plain.Until true minus (inl e) = inl (refl, inl (omega (arith, e)))
-  pairing_to plain.Until true minus (inr none) = absurd none
-  pairing_to plain.Until false minus none = absurd none
-  pairing_to plain.Release plus true (inl e) = inr (refl, inl (omega (arith, e)))
-  pairing_to plain.Release plus true (inr none) = absurd none
-  pairing_to plain.Release plus false none = absurd none
-  pairing_to plain.Weak plus true (inl e) = inr (refl, inl (omega (arith, e)))
-  pairing_to plain.Weak plus true (inr none) = absurd none
-  pairing_to plain.Weak plus false none = absurd none
+  pairing_to pairing.Until true minus (inl e) = inl (refl, inl (omega (arith, e)))
+  pairing_to pairing.Until true minus (inr none) = absurd none
+  pairing_to pairing.Until false minus none = absurd none
+  pairing_to pairing.Release plus true (inl e) = inr (refl, inl (omega (arith, e)))
+  pairing_to pairing.Release plus true (inr none) = absurd none
+  pairing_to pairing.Release plus false none = absurd none
+  pairing_to pairing.Weak plus true (inl e) = inr (refl, inl (omega (arith, e)))
+  pairing_to pairing.Weak plus true (inr none) = absurd none
+  pairing_to pairing.Weak plus false none = absurd none
 
-  pairing_from : (p : plain.Pairing) (plus minus : Bool)
+  pairing_from : (p : Pairing) (plus minus : Bool)
       → Of plus minus k (own i (Paired p f g))
       → IsMember k (own_pairing p i plus minus)
-  pairing_from plain.Until true minus (inl (e, inl is)) = inl (omega (arith, is))
-  pairing_from plain.Until true minus (inl (e, inr none)) = absurd none
-  pairing_from plain.Until true minus (inr m) = absurd m.1
-  pairing_from plain.Until false minus (inl m) = absurd (false_true m.0)
-  pairing_from plain.Until false minus (inr m) = m.1
-  pairing_from plain.Release plus true (inr (e, inl is)) = inl (omega (arith, is))
-  pairing_from plain.Release plus true (inr (e, inr none)) = absurd none
-  pairing_from plain.Release plus true (inl m) = absurd m.1
-  pairing_from plain.Release plus false (inr m) = absurd (false_true m.0)
-  pairing_from plain.Release plus false (inl m) = m.1
-  pairing_from plain.Weak plus true (inr (e, inl is)) = inl (omega (arith, is))
-  pairing_from plain.Weak plus true (inr (e, inr none)) = absurd none
-  pairing_from plain.Weak plus true (inl m) = absurd m.1
-  pairing_from plain.Weak plus false (inr m) = absurd (false_true m.0)
-  pairing_from plain.Weak plus false (inl m) = m.1
+  pairing_from pairing.Until true minus (inl (e, inl is)) = inl (omega (arith, is))
+  pairing_from pairing.Until true minus (inl (e, inr none)) = absurd none
+  pairing_from pairing.Until true minus (inr m) = absurd m.1
+  pairing_from pairing.Until false minus (inl m) = absurd (false_true m.0)
+  pairing_from pairing.Until false minus (inr m) = m.1
+  pairing_from pairing.Release plus true (inr (e, inl is)) = inl (omega (arith, is))
+  pairing_from pairing.Release plus true (inr (e, inr none)) = absurd none
+  pairing_from pairing.Release plus true (inl m) = absurd m.1
+  pairing_from pairing.Release plus false (inr m) = absurd (false_true m.0)
+  pairing_from pairing.Release plus false (inl m) = m.1
+  pairing_from pairing.Weak plus true (inr (e, inl is)) = inl (omega (arith, is))
+  pairing_from pairing.Weak plus true (inr (e, inr none)) = absurd none
+  pairing_from pairing.Weak plus true (inl m) = absurd m.1
+  pairing_from pairing.Weak plus false (inr m) = absurd (false_true m.0)
+  pairing_from pairing.Weak plus false (inl m) = m.1
 
 -- ---- all that is gathered
 
@@ -205,7 +209,7 @@ two_iff i f g b =
     (keys-append (items_within l f true) (items_within l f false))
     ∙ ap (λ ys. (keys l f true ++ keys l f false) ++ ys) (keys-append (items_within r g true) (items_within r g false))
 
-two_paired : (p : plain.Pairing) (i : ℕ) (f g : Formula) (b : Bool)
+two_paired : (p : Pairing) (i : ℕ) (f g : Formula) (b : Bool)
     → keys i (Paired p f g) b ≡ own i (Paired p f g) b ++ (keys (i + 1) f b ++ keys (i + 1 + occurrences f) g b)
 two_paired p i f g b =
     let l = items_within (i + 1) f b in
@@ -334,29 +338,29 @@ wanted_from i (Paired p f g) plus minus k of =
 abbrev Within : ℕ → ℕ → ℕ → Type 0
 Within i n k = (4 * i ≤ k) × (k < 4 * (i + n))
 
-tense_within : (t : plain.Tense) (i n : ℕ) (plus minus : Bool) (k : ℕ)
+tense_within : (t : Tense) (i n : ℕ) (plus minus : Bool) (k : ℕ)
     → IsMember k (own_tense t i plus minus)
     → Within i (n + 1) k × (k < 4 * (i + 1))
-tense_within plain.Next i n plus minus k none = absurd none
-tense_within plain.Finally i n true minus k (inl e) = ((omega (arith, e), omega (arith, e)), omega (arith, e))
-tense_within plain.Finally i n true minus k (inr none) = absurd none
-tense_within plain.Finally i n false minus k none = absurd none
-tense_within plain.Globally i n plus true k (inl e) = ((omega (arith, e), omega (arith, e)), omega (arith, e))
-tense_within plain.Globally i n plus true k (inr none) = absurd none
-tense_within plain.Globally i n plus false k none = absurd none
+tense_within tense.Next i n plus minus k none = absurd none
+tense_within tense.Finally i n true minus k (inl e) = ((omega (arith, e), omega (arith, e)), omega (arith, e))
+tense_within tense.Finally i n true minus k (inr none) = absurd none
+tense_within tense.Finally i n false minus k none = absurd none
+tense_within tense.Globally i n plus true k (inl e) = ((omega (arith, e), omega (arith, e)), omega (arith, e))
+tense_within tense.Globally i n plus true k (inr none) = absurd none
+tense_within tense.Globally i n plus false k none = absurd none
 
-pairing_within : (p : plain.Pairing) (i n : ℕ) (plus minus : Bool) (k : ℕ)
+pairing_within : (p : Pairing) (i n : ℕ) (plus minus : Bool) (k : ℕ)
     → IsMember k (own_pairing p i plus minus)
     → Within i (n + 1) k × (k < 4 * (i + 1))
-pairing_within plain.Until i n true minus k (inl e) = ((omega (arith, e), omega (arith, e)), omega (arith, e))
-pairing_within plain.Until i n true minus k (inr none) = absurd none
-pairing_within plain.Until i n false minus k none = absurd none
-pairing_within plain.Release i n plus true k (inl e) = ((omega (arith, e), omega (arith, e)), omega (arith, e))
-pairing_within plain.Release i n plus true k (inr none) = absurd none
-pairing_within plain.Release i n plus false k none = absurd none
-pairing_within plain.Weak i n plus true k (inl e) = ((omega (arith, e), omega (arith, e)), omega (arith, e))
-pairing_within plain.Weak i n plus true k (inr none) = absurd none
-pairing_within plain.Weak i n plus false k none = absurd none
+pairing_within pairing.Until i n true minus k (inl e) = ((omega (arith, e), omega (arith, e)), omega (arith, e))
+pairing_within pairing.Until i n true minus k (inr none) = absurd none
+pairing_within pairing.Until i n false minus k none = absurd none
+pairing_within pairing.Release i n plus true k (inl e) = ((omega (arith, e), omega (arith, e)), omega (arith, e))
+pairing_within pairing.Release i n plus true k (inr none) = absurd none
+pairing_within pairing.Release i n plus false k none = absurd none
+pairing_within pairing.Weak i n plus true k (inl e) = ((omega (arith, e), omega (arith, e)), omega (arith, e))
+pairing_within pairing.Weak i n plus true k (inr none) = absurd none
+pairing_within pairing.Weak i n plus false k none = absurd none
 
 wider : (i n j m k : ℕ) → i ≤ j → j + m ≤ i + n → Within j m k → Within i n k
 wider i n j m k low high w = (omega (arith, low, w.0), omega (arith, high, w.1))
@@ -429,20 +433,20 @@ ascends_with c (x ∷ xs) ys up also low high = (
   ascends_with c xs ys up.1 also (λ k m. low k (inr m)) high,
 )
 
-tense_ascends : (t : plain.Tense) (i : ℕ) (plus minus : Bool) → IsAscending (own_tense t i plus minus)
-tense_ascends plain.Next i plus minus = tt
-tense_ascends plain.Finally i true minus = ((λ y none. absurd none), tt)
-tense_ascends plain.Finally i false minus = tt
-tense_ascends plain.Globally i plus true = ((λ y none. absurd none), tt)
-tense_ascends plain.Globally i plus false = tt
+tense_ascends : (t : Tense) (i : ℕ) (plus minus : Bool) → IsAscending (own_tense t i plus minus)
+tense_ascends tense.Next i plus minus = tt
+tense_ascends tense.Finally i true minus = ((λ y none. absurd none), tt)
+tense_ascends tense.Finally i false minus = tt
+tense_ascends tense.Globally i plus true = ((λ y none. absurd none), tt)
+tense_ascends tense.Globally i plus false = tt
 
-pairing_ascends : (p : plain.Pairing) (i : ℕ) (plus minus : Bool) → IsAscending (own_pairing p i plus minus)
-pairing_ascends plain.Until i true minus = ((λ y none. absurd none), tt)
-pairing_ascends plain.Until i false minus = tt
-pairing_ascends plain.Release i plus true = ((λ y none. absurd none), tt)
-pairing_ascends plain.Release i plus false = tt
-pairing_ascends plain.Weak i plus true = ((λ y none. absurd none), tt)
-pairing_ascends plain.Weak i plus false = tt
+pairing_ascends : (p : Pairing) (i : ℕ) (plus minus : Bool) → IsAscending (own_pairing p i plus minus)
+pairing_ascends pairing.Until i true minus = ((λ y none. absurd none), tt)
+pairing_ascends pairing.Until i false minus = tt
+pairing_ascends pairing.Release i plus true = ((λ y none. absurd none), tt)
+pairing_ascends pairing.Release i plus false = tt
+pairing_ascends pairing.Weak i plus true = ((λ y none. absurd none), tt)
+pairing_ascends pairing.Weak i plus false = tt
 
 -- of two operands, one behind the other
 two_ascend : (l : ℕ) (f g : Formula) (p m q n : Bool)

@@ -20,7 +20,8 @@ use Rattle.ml_graph.specs.CheckingGame.{Pair, Holds, checking_game, vertex_numbe
 use Rattle.ml_graph.specs.Graph.{Graph, IsGraph, references, node_at, priority_at}
 use Rattle.ml_graph.specs.declared.node.Node.TheVariants as node
 use Rattle.ml_graph.proofs.References.{all_in_range}
-use Rattle.ml_ctl.specs.Formula.{Formula, Prop, Temporal, Finally}
+use Rattle.ml_ctl.specs.Formula.{Formula, Prop, Temporal}
+use Rattle.ml_ctl.specs.declared.term.Tense.TheVariants.{Finally}
 use Rattle.ml_ctl.specs.Meaning.{HoldsOnSome}
 use Rattle.ml_ctl.specs.Problem.{IsAdmitted}
 use Rattle.ml_ctl.specs.Paths.{IsPathFrom, has_step}

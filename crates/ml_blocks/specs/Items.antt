@@ -17,7 +17,11 @@
 use Rattle.std.specs.Prelude.{ℕ, ◌+◌, Bool, true, false, not, if◌then◌else◌, List, [], ◌∷◌}
 use Rattle.ml_text.specs.declared.token.Operator.{Operator}
 use Rattle.ml_text.specs.declared.token.Operator.TheVariants as operator
-use Rattle.ml_ctl.specs.Formula.{Formula, Tense, Pairing, Const, Prop, Not, Binary, Temporal, Paired, Quantified, Next, Finally, Globally, Until, Release, Weak, occurrences}
+use Rattle.ml_ctl.specs.Formula.{Formula, Const, Prop, Not, Binary, Temporal, Paired, Quantified, occurrences}
+use Rattle.ml_ctl.specs.declared.term.Tense.{Tense}
+use Rattle.ml_ctl.specs.declared.term.Tense.TheVariants.{Next, Finally, Globally}
+use Rattle.ml_ctl.specs.declared.term.Pairing.{Pairing}
+use Rattle.ml_ctl.specs.declared.term.Pairing.TheVariants.{Until, Release, Weak}
 
 pub record Item : Type 0 where
   pub number : ℕ

@@ -23,7 +23,9 @@ use Rattle.std.specs.Bool.{beq}
 use Rattle.std.specs.List.{list_any}
 use Rattle.ml_text.specs.declared.token.Operator.{Operator}
 use Rattle.ml_text.specs.declared.token.Operator.TheVariants as operator
-use Rattle.ml_ctl.specs.Formula.{Formula, Quantifier, Const, Prop, Not, Binary, Temporal, Paired, Quantified, Exists, Forall, occurrences}
+use Rattle.ml_ctl.specs.Formula.{Formula, Const, Prop, Not, Binary, Temporal, Paired, Quantified, occurrences}
+use Rattle.ml_ctl.specs.declared.term.Quantifier.{Quantifier}
+use Rattle.ml_ctl.specs.declared.term.Quantifier.TheVariants.{Exists, Forall}
 use Rattle.ml_blocks.specs.Items.{Item, now, left_number, Row, row, OfState, Waits, Becomes, Either}
 use Rattle.ml_blocks.specs.ItemSets.{due, put_all, without, key, next_items, eventualities}
 

@@ -23,19 +23,10 @@ fn collect(term: &Term, props: &mut IndexSet<Name>) -> Result<(), NoMemory>
     match term {
         Term::Const(_) => Ok(()),
         Term::Prop(name) => add_proposition(props, name),
-        Term::Not(operand)
-        | Term::Next(operand)
-        | Term::Finally(operand)
-        | Term::Globally(operand)
-        | Term::Exists(operand)
-        | Term::Forall(operand) => collect(operand, props),
-        Term::And(left, right)
-        | Term::Or(left, right)
-        | Term::Implies(left, right)
-        | Term::Iff(left, right)
-        | Term::Until(left, right)
-        | Term::Release(left, right)
-        | Term::Weak(left, right) => {
+        Term::Not(operand) | Term::Temporal(_, operand) | Term::Quantified(_, operand) => {
+            collect(operand, props)
+        }
+        Term::Binary(_, left, right) | Term::Paired(_, left, right) => {
             collect(left, props)?;
             collect(right, props)
         }

@@ -3,7 +3,8 @@ ghost use Rattle.std.specs.Prelude.{◌≡◌};
 ghost use Rattle.ml_blocks.specs.private.Forms as forms;
 
 use crate::items::{Asked, Few};
-use crate::table::{Occurrence, Pairing, Symbol, Tense};
+use crate::table::{Occurrence, Symbol};
+use ml_ctl::{Pairing, Tense};
 use ml_text::Operator;
 
 // how an item is decomposed: it is about the state alone, waits for the next place, becomes others, or others in one of
@@ -74,7 +75,7 @@ pub(crate) fn row_of(occurrence: Occurrence, x: Asked) -> Row
         right,
     } = occurrence;
     match symbol {
-        Symbol::Const(_) | Symbol::Prop(_) | Symbol::Exists | Symbol::Forall => Row::OfState,
+        Symbol::Const(_) | Symbol::Prop(_) | Symbol::Quantified(_) => Row::OfState,
         Symbol::Not => Row::Becomes(Few::One(Asked::now(left, !x.positive))),
         Symbol::Binary(operator) => connective_row(operator, x.positive, left, right),
         Symbol::Temporal(tense) => tense_row(tense, x, Asked::now(left, x.positive)),

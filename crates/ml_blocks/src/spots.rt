@@ -8,6 +8,7 @@ use crate::items::{Asked, Items, others, put, put_few};
 use crate::rows::{Row, is_next, row_of};
 use crate::table::{Symbol, Table};
 use ml_base::NoMemory;
+use ml_ctl::Quantifier;
 use ml_text::Operator;
 use std::alloc::{AllocError, Global};
 
@@ -120,8 +121,12 @@ fn whole_form(alloc: Global, table: &Table, at: u32, positive: bool) -> Result<F
         Symbol::Prop(prop) => Ok(Form::Literal(prop, positive)),
         Symbol::Not => Ok(Form::Twice(true, whole(left, !positive))),
         Symbol::Binary(operator) => Ok(connective_form(operator, positive, at, left, right)),
-        Symbol::Exists => Ok(Form::Twice(true, begin(alloc, Asked::now(left, true), positive)?)),
-        Symbol::Forall => Ok(Form::Twice(true, begin(alloc, Asked::now(left, false), !positive)?)),
+        Symbol::Quantified(Quantifier::Exists) => {
+            Ok(Form::Twice(true, begin(alloc, Asked::now(left, true), positive)?))
+        }
+        Symbol::Quantified(Quantifier::Forall) => {
+            Ok(Form::Twice(true, begin(alloc, Asked::now(left, false), !positive)?))
+        }
         Symbol::Temporal(_) | Symbol::Paired(_) => Ok(Form::Constant(false)),
     }
 }

@@ -9,23 +9,9 @@ ghost use Rattle.ml_blocks.specs.declared.table.Symbol.TheVariants as symbol;
 
 use crate::names::Names;
 use ml_base::NoMemory;
-use ml_ctl::{Term, count_term};
+use ml_ctl::{Pairing, Quantifier, Tense, Term, count_term};
 use ml_text::Operator;
 use std::alloc::{AllocError, Global};
-
-#[derive(Clone, Copy, Debug)]
-pub(crate) enum Tense {
-    Next,
-    Finally,
-    Globally,
-}
-
-#[derive(Clone, Copy, Debug)]
-pub(crate) enum Pairing {
-    Until,
-    Release,
-    Weak,
-}
 
 // what an occurrence is; a proposition by its place among the names
 #[derive(Clone, Copy, Debug)]
@@ -36,8 +22,7 @@ pub(crate) enum Symbol {
     Binary(Operator),
     Temporal(Tense),
     Paired(Pairing),
-    Exists,
-    Forall,
+    Quantified(Quantifier),
 }
 
 // an occurrence with the numbers of its operands
@@ -78,6 +63,27 @@ fn add_if(out: &mut Vec<u64>, is_wanted: bool, key: u64) -> Result<(), AllocErro
     Ok(())
 }
 
+// the key of an occurrence of X, F or G, if it is an eventuality
+fn add_tense(out: &mut Vec<u64>, at: u32, tense: Tense, plus: bool, minus: bool) -> Result<(), AllocError>
+    ensures { OnOk result (out.new.items ≡ out.old.items ++ listed.own_tense tense at plus minus) }
+{
+    match tense {
+        Tense::Next => Ok(()),
+        Tense::Finally => add_if(out, plus, positive_key(at)),
+        Tense::Globally => add_if(out, minus, negative_key(at)),
+    }
+}
+
+// the same of U, R and W
+fn add_pairing(out: &mut Vec<u64>, at: u32, pairing: Pairing, plus: bool, minus: bool) -> Result<(), AllocError>
+    ensures { OnOk result (out.new.items ≡ out.old.items ++ listed.own_pairing pairing at plus minus) }
+{
+    match pairing {
+        Pairing::Until => add_if(out, plus, positive_key(at)),
+        Pairing::Release | Pairing::Weak => add_if(out, minus, negative_key(at)),
+    }
+}
+
 // the eventualities that come of a term as the occurrence `at`, asked to be true, to be false, or both
 fn gather(
     out: &mut Vec<u64>,
@@ -90,37 +96,27 @@ fn gather(
     ensures { OnOk result (out.new.items ≡ out.old.items ++ listed.wanted at (formula_of term.now) plus minus) }
 {
     match term {
-        Term::Const(_) | Term::Prop(_) | Term::Exists(_) | Term::Forall(_) => Ok(()),
+        Term::Const(_) | Term::Prop(_) | Term::Quantified(_, _) => Ok(()),
         Term::Not(operand) => gather(out, at + 1, operand, minus, plus),
-        Term::And(left, right) | Term::Or(left, right) => {
+        Term::Binary(Operator::And | Operator::Or, left, right) => {
             gather(out, at + 1, left, plus, minus)?;
             gather(out, at + 1 + count_term(left), right, plus, minus)
         }
-        Term::Implies(left, right) => {
+        Term::Binary(Operator::Implies, left, right) => {
             gather(out, at + 1, left, minus, plus)?;
             gather(out, at + 1 + count_term(left), right, plus, minus)
         }
-        Term::Iff(left, right) => {
+        Term::Binary(Operator::Iff, left, right) => {
             let some = plus || minus;
             gather(out, at + 3, left, some, some)?;
             gather(out, at + 3 + count_term(left), right, some, some)
         }
-        Term::Next(operand) => gather(out, at + 1, operand, plus, minus),
-        Term::Finally(operand) => {
-            add_if(out, plus, positive_key(at))?;
+        Term::Temporal(tense, operand) => {
+            add_tense(out, at, *tense, plus, minus)?;
             gather(out, at + 1, operand, plus, minus)
         }
-        Term::Globally(operand) => {
-            add_if(out, minus, negative_key(at))?;
-            gather(out, at + 1, operand, plus, minus)
-        }
-        Term::Until(left, right) => {
-            add_if(out, plus, positive_key(at))?;
-            gather(out, at + 1, left, plus, minus)?;
-            gather(out, at + 1 + count_term(left), right, plus, minus)
-        }
-        Term::Release(left, right) | Term::Weak(left, right) => {
-            add_if(out, minus, negative_key(at))?;
+        Term::Paired(pairing, left, right) => {
+            add_pairing(out, at, *pairing, plus, minus)?;
             gather(out, at + 1, left, plus, minus)?;
             gather(out, at + 1 + count_term(left), right, plus, minus)
         }
@@ -293,6 +289,16 @@ fn place_above(
     place(alloc, table, names, at + 1, first, operand)
 }
 
+// the sign of the item that a quantifier's block begins with
+fn sign_of(quantifier: Quantifier) -> bool
+    ensures { result ≡ listed.sign_of quantifier }
+{
+    match quantifier {
+        Quantifier::Exists => true,
+        Quantifier::Forall => false,
+    }
+}
+
 // the occurrences of a term, of which `at` is the first
 #[cycle(placing)]
 fn place(
@@ -318,95 +324,20 @@ fn place(
         Term::Not(operand) => {
             place_above(alloc, table, names, at, Symbol::Not, keys, None, operand)
         }
-        Term::And(left, right) => {
-            place_connective(alloc, table, names, at, Operator::And, keys, left, right)
+        Term::Binary(operator, left, right) => {
+            place_connective(alloc, table, names, at, *operator, keys, left, right)
         }
-        Term::Or(left, right) => {
-            place_connective(alloc, table, names, at, Operator::Or, keys, left, right)
+        Term::Temporal(tense, operand) => {
+            let symbol = Symbol::Temporal(*tense);
+            place_above(alloc, table, names, at, symbol, keys, None, operand)
         }
-        Term::Implies(left, right) => {
-            place_connective(
-                alloc,
-                table,
-                names,
-                at,
-                Operator::Implies,
-                keys,
-                left,
-                right,
-            )
+        Term::Paired(pairing, left, right) => {
+            place_pair(alloc, table, names, at, *pairing, keys, left, right)
         }
-        Term::Iff(left, right) => {
-            place_connective(alloc, table, names, at, Operator::Iff, keys, left, right)
-        }
-        Term::Next(operand) => {
-            place_above(
-                alloc,
-                table,
-                names,
-                at,
-                Symbol::Temporal(Tense::Next),
-                keys,
-                None,
-                operand,
-            )
-        }
-        Term::Finally(operand) => {
-            place_above(
-                alloc,
-                table,
-                names,
-                at,
-                Symbol::Temporal(Tense::Finally),
-                keys,
-                None,
-                operand,
-            )
-        }
-        Term::Globally(operand) => {
-            place_above(
-                alloc,
-                table,
-                names,
-                at,
-                Symbol::Temporal(Tense::Globally),
-                keys,
-                None,
-                operand,
-            )
-        }
-        Term::Until(left, right) => {
-            place_pair(alloc, table, names, at, Pairing::Until, keys, left, right)
-        }
-        Term::Release(left, right) => {
-            place_pair(alloc, table, names, at, Pairing::Release, keys, left, right)
-        }
-        Term::Weak(left, right) => {
-            place_pair(alloc, table, names, at, Pairing::Weak, keys, left, right)
-        }
-        Term::Exists(operand) => {
-            place_above(
-                alloc,
-                table,
-                names,
-                at,
-                Symbol::Exists,
-                keys,
-                Some(true),
-                operand,
-            )
-        }
-        Term::Forall(operand) => {
-            place_above(
-                alloc,
-                table,
-                names,
-                at,
-                Symbol::Forall,
-                keys,
-                Some(false),
-                operand,
-            )
+        Term::Quantified(quantifier, operand) => {
+            let symbol = Symbol::Quantified(*quantifier);
+            let first = Some(sign_of(*quantifier));
+            place_above(alloc, table, names, at, symbol, keys, first, operand)
         }
     }
 }

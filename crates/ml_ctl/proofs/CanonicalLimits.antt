@@ -13,7 +13,13 @@ use Rattle.ml_text.proofs.Scans.{Spelt}
 use Rattle.ml_text.proofs.AcceptedTexts.{weight_some}
 use Rattle.ml_ctl.specs.Canonical.{tense_letter, pairing_letter, quantifier_letter}
 use Rattle.ml_ctl.specs.Formula as plain
-use Rattle.ml_ctl.specs.Formula.{Formula, Tense, Pairing, Quantifier, occurrences}
+use Rattle.ml_ctl.specs.Formula.{Formula, occurrences}
+use Rattle.ml_ctl.specs.declared.term.Tense.{Tense}
+use Rattle.ml_ctl.specs.declared.term.Tense.TheVariants as tense
+use Rattle.ml_ctl.specs.declared.term.Pairing.{Pairing}
+use Rattle.ml_ctl.specs.declared.term.Pairing.TheVariants as pairing
+use Rattle.ml_ctl.specs.declared.term.Quantifier.{Quantifier}
+use Rattle.ml_ctl.specs.declared.term.Quantifier.TheVariants as quantifier
 use Rattle.ml_ctl.specs.Signs.{Sign, Lower, Unknown, word_sign, word_sign_by}
 use Rattle.ml_ctl.specs.Spelling.{HasShortNames, is_proposition}
 use Rattle.ml_ctl.specs.Text.{bracket_of}
@@ -59,18 +65,18 @@ closed_word : (w : List ℕ) → opening (bracket_of (word_sign w)) ≡ 0
 closed_word w = closed_word_by (constant_of w) w
 
 closed_tense : (t : Tense) → opening (bracket_of (sign_spelt (lone (tense_letter t)))) ≡ 0
-closed_tense plain.Next = refl
-closed_tense plain.Finally = refl
-closed_tense plain.Globally = refl
+closed_tense tense.Next = refl
+closed_tense tense.Finally = refl
+closed_tense tense.Globally = refl
 
 closed_pairing : (p : Pairing) → opening (bracket_of (sign_spelt (lone (pairing_letter p)))) ≡ 0
-closed_pairing plain.Until = refl
-closed_pairing plain.Release = refl
-closed_pairing plain.Weak = refl
+closed_pairing pairing.Until = refl
+closed_pairing pairing.Release = refl
+closed_pairing pairing.Weak = refl
 
 closed_quantifier : (q : Quantifier) → opening (bracket_of (sign_spelt (lone (quantifier_letter q)))) ≡ 0
-closed_quantifier plain.Exists = refl
-closed_quantifier plain.Forall = refl
+closed_quantifier quantifier.Exists = refl
+closed_quantifier quantifier.Forall = refl
 
 pub few_open : (f : Formula) (ss : List Spelt) → opens_of (tokens_onto f ss) ≤ occurrences f + opens_of ss
 few_open (plain.Const true) ss = omega (arith, closed_word (codes "tt"))

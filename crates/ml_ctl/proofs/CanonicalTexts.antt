@@ -21,12 +21,22 @@ use Rattle.ml_text.proofs.Pieces.{lone, lone_piece, not_piece, operator_piece, b
 use Rattle.ml_text.proofs.Scans.{Spelt, spelt_at, Scans, ends, blank, scans_tokens}
 use Rattle.ml_text.proofs.TableItems.{signs_spelt}
 use Rattle.ml_ctl.specs.Formula as plain
-use Rattle.ml_ctl.specs.Formula.{Formula, Logic, Ctl, Ltl, Tense, Pairing, Quantifier, is_of}
+use Rattle.ml_ctl.specs.Formula.{Formula, is_of}
+use Rattle.ml_ctl.specs.declared.term.Tense.{Tense}
+use Rattle.ml_ctl.specs.declared.term.Tense.TheVariants as tense
+use Rattle.ml_ctl.specs.declared.term.Pairing.{Pairing}
+use Rattle.ml_ctl.specs.declared.term.Pairing.TheVariants as pairing
+use Rattle.ml_ctl.specs.declared.term.Quantifier.{Quantifier}
+use Rattle.ml_ctl.specs.declared.term.Quantifier.TheVariants as quantifier
+use Rattle.ml_ctl.specs.declared.language.Language.{Language}
+use Rattle.ml_ctl.specs.declared.language.Language.TheVariants.{Ctl, Ltl}
 use Rattle.ml_ctl.specs.Canonical.{tense_letter, pairing_letter, quantifier_letter, between, canonical_text}
 use Rattle.ml_ctl.specs.Signs.{Sign, Connective, Const, Open, Close, Tensed, Pairs, Quantifies, sign_of, word_sign}
 use Rattle.ml_ctl.specs.Spelling.{is_spelled, is_reserved}
 use Rattle.ml_ctl.specs.Grammar as grammar
-use Rattle.ml_ctl.specs.Grammar.{Sort, State, Path, sort_of, Reads, iff_alone, iff, imp_alone, imp, or_alone, or, and_alone, and}
+use Rattle.ml_ctl.specs.Grammar.{sort_of, Reads, iff_alone, iff, imp_alone, imp, or_alone, or, and_alone, and}
+use Rattle.ml_ctl.specs.declared.language.Sort.{Sort}
+use Rattle.ml_ctl.specs.declared.language.Sort.TheVariants.{State, Path}
 use Rattle.ml_ctl.specs.Grammar.{pair_alone, pair, negation, temporal, quantified, group, constant, proposition}
 use Rattle.ml_ctl.specs.Text.{ctl_signs, items, IsTextOf}
 use Rattle.ml_ctl.proofs.GrammarTables.{un_raised}
@@ -53,22 +63,22 @@ SignPiece text s = (rest : List ℕ) (ss : List Spelt)
     → Scans LowerCase (codes " " ++ (text ++ (codes " " ++ rest))) (s ∷ ss)
 
 letter_piece : (p : Pairing) → SignPiece (pairing_letter p ∷ []) (lone (pairing_letter p))
-letter_piece plain.Until rest ss r = blank 32 refl (lone_piece LowerCase 85 (32 ∷ rest) ss refl (blank 32 refl r))
-letter_piece plain.Release rest ss r = blank 32 refl (lone_piece LowerCase 82 (32 ∷ rest) ss refl (blank 32 refl r))
-letter_piece plain.Weak rest ss r = blank 32 refl (lone_piece LowerCase 87 (32 ∷ rest) ss refl (blank 32 refl r))
+letter_piece pairing.Until rest ss r = blank 32 refl (lone_piece LowerCase 85 (32 ∷ rest) ss refl (blank 32 refl r))
+letter_piece pairing.Release rest ss r = blank 32 refl (lone_piece LowerCase 82 (32 ∷ rest) ss refl (blank 32 refl r))
+letter_piece pairing.Weak rest ss r = blank 32 refl (lone_piece LowerCase 87 (32 ∷ rest) ss refl (blank 32 refl r))
 
 -- a letter with the blank behind it in front of a text
 abbrev LetterPiece : ℕ → Type 0
 LetterPiece b = (rest : List ℕ) (ss : List Spelt) → Scans LowerCase rest ss → Scans LowerCase (b ∷ 32 ∷ rest) (lone b ∷ ss)
 
 tense_piece : (t : Tense) → LetterPiece (tense_letter t)
-tense_piece plain.Next rest ss r = lone_piece LowerCase 88 (32 ∷ rest) ss refl (blank 32 refl r)
-tense_piece plain.Finally rest ss r = lone_piece LowerCase 70 (32 ∷ rest) ss refl (blank 32 refl r)
-tense_piece plain.Globally rest ss r = lone_piece LowerCase 71 (32 ∷ rest) ss refl (blank 32 refl r)
+tense_piece tense.Next rest ss r = lone_piece LowerCase 88 (32 ∷ rest) ss refl (blank 32 refl r)
+tense_piece tense.Finally rest ss r = lone_piece LowerCase 70 (32 ∷ rest) ss refl (blank 32 refl r)
+tense_piece tense.Globally rest ss r = lone_piece LowerCase 71 (32 ∷ rest) ss refl (blank 32 refl r)
 
 quantifier_piece : (q : Quantifier) → LetterPiece (quantifier_letter q)
-quantifier_piece plain.Exists rest ss r = lone_piece LowerCase 69 (32 ∷ rest) ss refl (blank 32 refl r)
-quantifier_piece plain.Forall rest ss r = lone_piece LowerCase 65 (32 ∷ rest) ss refl (blank 32 refl r)
+quantifier_piece quantifier.Exists rest ss r = lone_piece LowerCase 69 (32 ∷ rest) ss refl (blank 32 refl r)
+quantifier_piece quantifier.Forall rest ss r = lone_piece LowerCase 65 (32 ∷ rest) ss refl (blank 32 refl r)
 
 abbrev ScansOf : Formula → Type 0
 ScansOf f = (rest : List ℕ) (ss : List Spelt)
@@ -126,20 +136,20 @@ unfolding constant_of
 false_sign = refl
 
 pub tense_sign : (t : Tense) → sign_spelt (lone (tense_letter t)) ≡ Tensed t
-tense_sign plain.Next = refl
-tense_sign plain.Finally = refl
-tense_sign plain.Globally = refl
+tense_sign tense.Next = refl
+tense_sign tense.Finally = refl
+tense_sign tense.Globally = refl
 
 pub pairing_sign : (p : Pairing) → sign_spelt (lone (pairing_letter p)) ≡ Pairs p
-pairing_sign plain.Until = refl
-pairing_sign plain.Release = refl
-pairing_sign plain.Weak = refl
+pairing_sign pairing.Until = refl
+pairing_sign pairing.Release = refl
+pairing_sign pairing.Weak = refl
 
 pub quantifier_sign : (q : Quantifier) → sign_spelt (lone (quantifier_letter q)) ≡ Quantifies q
-quantifier_sign plain.Exists = refl
-quantifier_sign plain.Forall = refl
+quantifier_sign quantifier.Exists = refl
+quantifier_sign quantifier.Forall = refl
 
-binary_read : {w : Logic} {s : Sort} (o : Operator) {ts us rest : List Sign} {f g : Formula}
+binary_read : {w : Language} {s : Sort} (o : Operator) {ts us rest : List Sign} {f g : Formula}
     → Reads w s grammar.Un ts f (Connective o ∷ us)
     → Reads w s grammar.Un us g (Close ∷ rest)
     → Reads w s grammar.Un (Open ∷ ts) (plain.Binary o f g) rest
@@ -149,13 +159,13 @@ binary_read operator.Or a b = group (iff_alone (imp_alone (or (un_raised grammar
 binary_read operator.And a b = group (iff_alone (imp_alone (or_alone (and (un_raised grammar.And a) (un_raised grammar.Pair b)))))
 
 -- a sign that begins an operand, by what it is
-begins_with : (w : Logic) (s : Sort) (t u : Sign) (ts rest : List Sign) (f : Formula)
+begins_with : (w : Language) (s : Sort) (t u : Sign) (ts rest : List Sign) (f : Formula)
     → t ≡ u
     → Reads w s grammar.Un (u ∷ ts) f rest
     → Reads w s grammar.Un (t ∷ ts) f rest
 begins_with w s t u ts rest f same r = subst (λ x. Reads w s grammar.Un (x ∷ ts) f rest) (sym same) r
 
-pair_read : (w : Logic) (p : Pairing) (t : Sign) (ts us rest : List Sign) (f g : Formula)
+pair_read : (w : Language) (p : Pairing) (t : Sign) (ts us rest : List Sign) (f g : Formula)
     → t ≡ Pairs p
     → Reads w Path grammar.Un ts f (t ∷ us)
     → Reads w Path grammar.Un us g (Close ∷ rest)
@@ -164,10 +174,10 @@ pair_read w p t ts us rest f g same a b =
     let left = subst (λ x. Reads w Path grammar.Un ts f (x ∷ us)) same a in
     group (iff_alone (imp_alone (or_alone (and_alone (pair p left (pair_alone b))))))
 
-abbrev ReadsBack : Logic → Sort → Formula → Type 0
+abbrev ReadsBack : Language → Sort → Formula → Type 0
 ReadsBack w s f = (ss : List Spelt) → Reads w s grammar.Un (map sign_spelt (tokens_onto f ss)) f (map sign_spelt ss)
 
-temporal_back : (w : Logic) (s : Sort) (t : Tense) (f : Formula)
+temporal_back : (w : Language) (s : Sort) (t : Tense) (f : Formula)
     → fits w s (plain.Temporal t f) ≡ true
     → (fits w Path f ≡ true → ReadsBack w Path f)
     → ReadsBack w s (plain.Temporal t f)
@@ -176,7 +186,7 @@ temporal_back w Path t f stand back ss =
     begins_with w Path (sign_spelt (lone (tense_letter t))) (Tensed t) (map sign_spelt (tokens_onto f ss)) (map sign_spelt ss)
     (plain.Temporal t f) (tense_sign t) (temporal t (back stand ss))
 
-paired_back : (w : Logic) (s : Sort) (p : Pairing) (f g : Formula)
+paired_back : (w : Language) (s : Sort) (p : Pairing) (f g : Formula)
     → fits w s (plain.Paired p f g) ≡ true
     → (fits w Path f ≡ true → ReadsBack w Path f)
     → (fits w Path g ≡ true → ReadsBack w Path g)
@@ -189,7 +199,7 @@ paired_back w Path p f g stand left right ss =
     (map sign_spelt (tokens_onto g (lone 41 ∷ ss))) (map sign_spelt ss) f g (pairing_sign p) (left parts.0 after)
     (right parts.1 (lone 41 ∷ ss))
 
-quantified_back : (w : Logic) (s : Sort) (q : Quantifier) (f : Formula)
+quantified_back : (w : Language) (s : Sort) (q : Quantifier) (f : Formula)
     → fits w s (plain.Quantified q f) ≡ true
     → (fits w Path f ≡ true → ReadsBack w Path f)
     → ReadsBack w s (plain.Quantified q f)
@@ -198,7 +208,7 @@ quantified_back Ctl s q f stand back ss =
     begins_with Ctl s (sign_spelt (lone (quantifier_letter q))) (Quantifies q) (map sign_spelt (tokens_onto f ss))
     (map sign_spelt ss) (plain.Quantified q f) (quantifier_sign q) (quantified q refl (back stand ss))
 
-pub reads_formula : (w : Logic) (s : Sort) (f : Formula) → is_spelled f ≡ true → fits w s f ≡ true → ReadsBack w s f
+pub reads_formula : (w : Language) (s : Sort) (f : Formula) → is_spelled f ≡ true → fits w s f ≡ true → ReadsBack w s f
 reads_formula w s (plain.Const true) is stand ss =
     begins_with w s (word_sign (codes "tt")) (Const true) (map sign_spelt ss) (map sign_spelt ss) (plain.Const true) true_sign
     (constant true)
@@ -231,7 +241,7 @@ canonical_tokens f is =
     subst (λ t. Scans LowerCase t (tokens_onto f [])) (append-nil text) (scans_formula f is [] [] refl ends) in
     scans_tokens LowerCase text (tokens_onto f []) scans
 
-pub canonical_stands : (w : Logic) (f : Formula)
+pub canonical_stands : (w : Language) (f : Formula)
     → is_spelled f ≡ true
     → is_of w f ≡ true
     → IsTextOf w (canonical_text f) f

@@ -8,10 +8,12 @@ use Rattle.std.proofs.lemmas.List.Sums.{sum_by-cons}
 use Rattle.ml_text.specs.declared.token.Placed.{Placed}
 use Rattle.ml_text.specs.Refusals.{Item, signs_of, counted}
 use Rattle.ml_text.specs.Items as text_items
-use Rattle.ml_ctl.specs.Formula.{Formula, Logic, occurrences}
+use Rattle.ml_ctl.specs.Formula.{Formula, occurrences}
+use Rattle.ml_ctl.specs.declared.language.Language.{Language}
 use Rattle.ml_ctl.specs.Signs.{Sign}
 use Rattle.ml_ctl.specs.Grammar as grammar
-use Rattle.ml_ctl.specs.Grammar.{Sort, Reads, iff_alone, iff, imp_alone, imp, or_alone, or, and_alone, and, pair_alone, pair, negation, temporal, quantified, group, constant, proposition}
+use Rattle.ml_ctl.specs.Grammar.{Reads, iff_alone, iff, imp_alone, imp, or_alone, or, and_alone, and, pair_alone, pair, negation, temporal, quantified, group, constant, proposition}
+use Rattle.ml_ctl.specs.declared.language.Sort.{Sort}
 use Rattle.ml_ctl.specs.Text.{weight_of, ctl_signs, items_from}
 
 abbrev pub count_signs : List Sign → ℕ
@@ -26,7 +28,7 @@ counted_items text (p ∷ ps) =
     let later = counted_items text ps in
     omega (arith, here, later)
 
-module _ {w : Logic} where
+module _ {w : Language} where
   pub counts : {s : Sort} {l : grammar.Level} {ts rest : List Sign} {f : Formula}
       → Reads w s l ts f rest
       → count_signs ts ≡ occurrences f + count_signs rest

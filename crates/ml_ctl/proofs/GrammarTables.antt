@@ -12,19 +12,27 @@ use Rattle.ml_text.specs.declared.forms.Role.TheVariants.{Infix}
 use Rattle.ml_text.specs.Operators.{operator_level}
 use Rattle.ml_text.proofs.Levels.{loosen, looser}
 use Rattle.ml_ctl.specs.Formula as plain
-use Rattle.ml_ctl.specs.Formula.{Formula, Logic, Ctl, Ltl, Tense, Quantifier}
+use Rattle.ml_ctl.specs.Formula.{Formula}
+use Rattle.ml_ctl.specs.declared.term.Tense.{Tense}
+use Rattle.ml_ctl.specs.declared.term.Quantifier.{Quantifier}
+use Rattle.ml_ctl.specs.declared.language.Language.{Language}
+use Rattle.ml_ctl.specs.declared.language.Language.TheVariants.{Ctl, Ltl}
 use Rattle.ml_ctl.specs.Signs.{Sign, Not, Connective, Const, Open, Close, Tensed, Pairs, Quantifies, Lower}
 use Rattle.ml_ctl.specs.Grammar as grammar
-use Rattle.ml_ctl.specs.Grammar.{Sort, State, Path, Reads, iff_alone, iff, imp_alone, imp, or_alone, or, and_alone, and, pair_alone, pair, negation, temporal, quantified, group, constant, proposition}
-use Rattle.ml_ctl.specs.private.Tables.{Wait, Start, BehindInside, Hold, Negation, Tensing, Quantifying, Group, CtlTurn, shift, resume, role, ctl_grammar}
+use Rattle.ml_ctl.specs.Grammar.{Reads, iff_alone, iff, imp_alone, imp, or_alone, or, and_alone, and, pair_alone, pair, negation, temporal, quantified, group, constant, proposition}
+use Rattle.ml_ctl.specs.declared.language.Sort.{Sort}
+use Rattle.ml_ctl.specs.declared.language.Sort.TheVariants.{State, Path}
+use Rattle.ml_ctl.specs.private.Tables.{Wait, Start, BehindInside, CtlTurn, shift, resume, role, ctl_grammar}
+use Rattle.ml_ctl.specs.declared.forms.Hold.{Hold}
+use Rattle.ml_ctl.specs.declared.forms.Hold.TheVariants.{Negation, Tensing, Quantifying, Group}
 
 -- what the tables read
-abbrev pub Tabled : (w : Logic) → Part (ctl_grammar w) → List Sign → Formula → List Sign → Type 0
+abbrev pub Tabled : (w : Language) → Part (ctl_grammar w) → List Sign → Formula → List Sign → Type 0
 Tabled w p ts f rest = tables.Reads (ctl_grammar w) p ts f rest
 
 -- ---- no operand of the level of un goes on
 
-pub tight : (w : Logic) (s : Sort) (n : Option Sign) → takes (ctl_grammar w) s 5 n ≡ false
+pub tight : (w : Language) (s : Sort) (n : Option Sign) → takes (ctl_grammar w) s 5 n ≡ false
 tight w s None = refl
 tight w s (Some (Connective operator.Iff)) = refl
 tight w s (Some (Connective operator.Implies)) = refl
@@ -36,7 +44,7 @@ tight w s (Some _) = refl
 
 -- ---- from the grammar to the tables
 
-abbrev pub part : (w : Logic) → Sort → grammar.Level → Part (ctl_grammar w)
+abbrev pub part : (w : Language) → Sort → grammar.Level → Part (ctl_grammar w)
 part w s grammar.Iff = Level s 0
 part w s grammar.Imp = Level s 1
 part w s grammar.Or = Level s 2
@@ -45,24 +53,24 @@ part w s grammar.Pair = Level s 4
 part w s grammar.Un = Operand s
 
 -- a sign that begins an operand, by what it does
-begun : (w : Logic) {s : Sort} {t : Sign} {ts rest : List Sign} {f : Formula} (turn : Option CtlTurn)
+begun : (w : Language) {s : Sort} {t : Sign} {ts rest : List Sign} {f : Formula} (turn : Option CtlTurn)
     → shift w (Start s) t ≡ turn
     → Tabled w (Behind t turn) ts f rest
     → Tabled w (Operand s) (t ∷ ts) f rest
 begun w {s} {t} {ts} {rest} {f} turn is r = form (sign (subst (λ x. Tabled w (Behind t x) ts f rest) (sym is) r))
 
-quantifier_begins : (w : Logic) (s : Sort) (q : Quantifier)
+quantifier_begins : (w : Language) (s : Sort) (q : Quantifier)
     → w ≡ Ctl
     → shift w (Start s) (Quantifies q) ≡ Some (Inner (Quantifying q))
 quantifier_begins Ctl s q is = refl
 quantifier_begins Ltl s q is = absurd (cc)
 
-quantified_read : (w : Logic) {t : Sign} {ts rest : List Sign} {f : Formula} (q : Quantifier)
+quantified_read : (w : Language) {t : Sign} {ts rest : List Sign} {f : Formula} (q : Quantifier)
     → Tabled w (Operand Path) ts f rest
     → Tabled w (Behind t (Some (Inner (Quantifying q)))) ts (plain.Quantified q f) rest
 quantified_read w {rest = rest} q r = inner (alone r) (tight w Path (front rest)) whole
 
-pub tabled : {w : Logic} {s : Sort} {l : grammar.Level} {ts rest : List Sign} {f : Formula}
+pub tabled : {w : Language} {s : Sort} {l : grammar.Level} {ts rest : List Sign} {f : Formula}
     → Reads w s l ts f rest
     → Tabled w (part w s l) ts f rest
 tabled {w = w} (iff_alone r) = loosen (ctl_grammar w) 0 (omega arith) (tabled r)
@@ -92,7 +100,7 @@ level_of (suc (suc (suc zero))) = grammar.And
 level_of (suc (suc (suc (suc zero)))) = grammar.Pair
 level_of (suc (suc (suc (suc (suc l))))) = grammar.Un
 
-module _ {w : Logic} {s : Sort} where
+module _ {w : Language} {s : Sort} where
   before : (ts rest : List Sign) (f : Formula) (l : ℕ)
       → Reads w s (level_of (suc l)) ts f rest
       → Reads w s (level_of l) ts f rest
@@ -114,59 +122,59 @@ module _ {w : Logic} {s : Sort} where
   un_raised grammar.Iff r = iff_alone (imp_alone (or_alone (and_alone (pair_alone r))))
 
 -- what the rest of a form makes of the signs that were read of it
-abbrev pub Completes : Logic → Wait → List Sign → Formula → List Sign → Type 0
+abbrev pub Completes : Language → Wait → List Sign → Formula → List Sign → Type 0
 Completes w (Start s) ts f rest = Reads w s grammar.Un ts f rest
 Completes w (BehindInside h) ts f rest = (s : Sort) (us : List Sign) → Reads w s grammar.Iff us h ts → Reads w s grammar.Un (Open ∷ us) f rest
 
 -- a held operand with what its form makes of it
-abbrev pub Enters : Logic → Hold → List Sign → Formula → List Sign → Type 0
+abbrev pub Enters : Language → Hold → List Sign → Formula → List Sign → Type 0
 Enters w (Negation s) ts f rest = (h : Formula) × (plain.Not h ≡ f) × Reads w s grammar.Un ts h rest
 Enters w (Tensing t) ts f rest = (h : Formula) × (plain.Temporal t h ≡ f) × Reads w Path grammar.Un ts h rest
 Enters w (Quantifying q) ts f rest = (h : Formula) × (plain.Quantified q h ≡ f) × Reads w Path grammar.Un ts h rest
 Enters w (Group s) ts f rest = Reads w s grammar.Un (Open ∷ ts) f rest
 
-abbrev pub OfMode : Logic → tables.Mode Formula Wait → List Sign → Formula → List Sign → Type 0
+abbrev pub OfMode : Language → tables.Mode Formula Wait → List Sign → Formula → List Sign → Type 0
 OfMode w (Whole h) ts f rest = (h ≡ f) × (ts ≡ rest)
 OfMode w (More q) ts f rest = Completes w q ts f rest
 
-abbrev pub OfTurn : Logic → Option CtlTurn → List Sign → Formula → List Sign → Type 0
+abbrev pub OfTurn : Language → Option CtlTurn → List Sign → Formula → List Sign → Type 0
 OfTurn w None ts f rest = ⊥
 OfTurn w (Some (Read m)) ts f rest = OfMode w m ts f rest
 OfTurn w (Some (Inner k)) ts f rest = Enters w k ts f rest
 OfTurn w (Some (Opens k)) ts f rest = Unit {0}
 
-abbrev pub Untabled : (w : Logic) → Part (ctl_grammar w) → List Sign → Formula → List Sign → Type 0
+abbrev pub Untabled : (w : Language) → Part (ctl_grammar w) → List Sign → Formula → List Sign → Type 0
 Untabled w (Level s l) ts f rest = Reads w s (level_of l) ts f rest
 Untabled w (Operand s) ts f rest = Reads w s grammar.Un ts f rest
 Untabled w (Rest m) ts f rest = OfMode w m ts f rest
 Untabled w (Behind t turn) ts f rest = OfTurn w turn ts f rest
 
 -- the formula of a form, which is equal to the one that is read
-same_tree : {w : Logic} {s : Sort} {l : grammar.Level} {ts rest : List Sign} {f g : Formula}
+same_tree : {w : Language} {s : Sort} {l : grammar.Level} {ts rest : List Sign} {f g : Formula}
     → f ≡ g
     → Reads w s l ts f rest
     → Reads w s l ts g rest
 same_tree {w} {s} {l} {ts} {rest} e r = subst (λ h. Reads w s l ts h rest) e r
 
-both_same : {w : Logic} {s : Sort} {l : grammar.Level} {t : Sign} {ts rest : List Sign} {h f : Formula}
+both_same : {w : Language} {s : Sort} {l : grammar.Level} {t : Sign} {ts rest : List Sign} {h f : Formula}
     → (h ≡ f) × (ts ≡ rest)
     → Reads w s l (t ∷ ts) h ts
     → Reads w s l (t ∷ ts) f rest
 both_same {w} {s} {l} {t} {ts} {rest} {h} {f} e r = subst (λ x. Reads w s l (t ∷ ts) x rest) e.0 (subst (λ us. Reads w s l (t ∷ ts) h us) e.1 r)
 
-tense_completes : (w : Logic) (s : Sort) (t : Tense) (ts rest : List Sign) (f : Formula)
+tense_completes : (w : Language) (s : Sort) (t : Tense) (ts rest : List Sign) (f : Formula)
     → OfTurn w (shift w (Start s) (Tensed t)) ts f rest
     → Reads w s grammar.Un (Tensed t ∷ ts) f rest
 tense_completes w State t ts rest f r = absurd r
 tense_completes w Path t ts rest f r = same_tree r.1 (temporal t r.2)
 
-quantifier_completes : (w : Logic) (s : Sort) (q : Quantifier) (ts rest : List Sign) (f : Formula)
+quantifier_completes : (w : Language) (s : Sort) (q : Quantifier) (ts rest : List Sign) (f : Formula)
     → OfTurn w (shift w (Start s) (Quantifies q)) ts f rest
     → Reads w s grammar.Un (Quantifies q ∷ ts) f rest
 quantifier_completes Ctl s q ts rest f r = same_tree r.1 (quantified q refl r.2)
 quantifier_completes Ltl s q ts rest f r = absurd r
 
-sign_completes : (w : Logic) (q : Wait) (t : Sign) (ts rest : List Sign) (f : Formula)
+sign_completes : (w : Language) (q : Wait) (t : Sign) (ts rest : List Sign) (f : Formula)
     → OfTurn w (shift w q t) ts f rest
     → Completes w q (t ∷ ts) f rest
 sign_completes w (Start s) Not ts rest f r = same_tree r.1 (negation r.2)
@@ -181,7 +189,7 @@ sign_completes w (BehindInside h) Close ts rest f r =
     (group (subst (λ vs. Reads w s grammar.Iff us h (Close ∷ vs)) r.1 a))
 sign_completes w (BehindInside h) _ ts rest f r = absurd r
 
-inner_enters : (w : Logic) (k : Hold) (ts us rest : List Sign) (v f : Formula)
+inner_enters : (w : Language) (k : Hold) (ts us rest : List Sign) (v f : Formula)
     → Untabled w (Level (Rattle.ml_ctl.specs.private.Tables.sort k) (Rattle.ml_ctl.specs.private.Tables.level k)) ts v us
     → OfMode w (resume k v) us f rest
     → Enters w k ts f rest
@@ -190,7 +198,7 @@ inner_enters w (Tensing t) ts us rest v f a r = (v, r.0, subst (λ vs. Reads w P
 inner_enters w (Quantifying q) ts us rest v f a r = (v, r.0, subst (λ vs. Reads w Path grammar.Un ts v vs) r.1 a)
 inner_enters w (Group s) ts us rest v f a r = r s ts a
 
-joined_at : (w : Logic) (s : Sort) (o : Operator) (ts us rest : List Sign) (f h : Formula)
+joined_at : (w : Language) (s : Sort) (o : Operator) (ts us rest : List Sign) (f h : Formula)
     → Untabled w (Level s (left_level (ctl_grammar w) s (operator_level o))) ts f (Connective o ∷ us)
     → Untabled w (Level s (right_level (ctl_grammar w) s (operator_level o))) us h rest
     → Untabled w (Level s (operator_level o)) ts (plain.Binary o f h) rest
@@ -199,7 +207,7 @@ joined_at w s operator.Implies ts us rest f h a b = imp a b
 joined_at w s operator.Or ts us rest f h a b = or a b
 joined_at w s operator.And ts us rest f h a b = and a b
 
-joined_back : (w : Logic) (s : Sort) (o : Sign) (m : ℕ) (ts us rest : List Sign) (f h : Formula)
+joined_back : (w : Language) (s : Sort) (o : Sign) (m : ℕ) (ts us rest : List Sign) (f h : Formula)
     → role s o ≡ Infix m
     → Untabled w (Level s (left_level (ctl_grammar w) s m)) ts f (o ∷ us)
     → Untabled w (Level s (right_level (ctl_grammar w) s m)) us h rest
@@ -219,7 +227,7 @@ joined_back w Path (Pairs p) m ts us rest f h is a b =
     (pair p left right)
 joined_back w s _ m ts us rest f h is a b = absurd (cc)
 
-pub untabled : (w : Logic) {p : Part (ctl_grammar w)} {ts rest : List Sign} {f : Formula}
+pub untabled : (w : Language) {p : Part (ctl_grammar w)} {ts rest : List Sign} {f : Formula}
     → Tabled w p ts f rest
     → Untabled w p ts f rest
 untabled w (alone {l = l} r) = un_raised (level_of l) (untabled w r)

@@ -15,7 +15,8 @@ use Rattle.ml_text.specs.private.Reading.{Outcome, Found, Refused, text_outcome}
 use Rattle.ml_text.specs.private.Progress.{IsRefusal}
 use Rattle.ml_text.proofs.Exact.{IsOutcome, exact, few_items}
 use Rattle.ml_text.proofs.OneAnswer as answer
-use Rattle.ml_ctl.specs.Formula.{Formula, Logic}
+use Rattle.ml_ctl.specs.Formula.{Formula}
+use Rattle.ml_ctl.specs.declared.language.Language.{Language}
 use Rattle.ml_ctl.specs.Grammar.{IsReadAs}
 use Rattle.ml_ctl.specs.Parsing.{IsParsedAs, IsRefusedBy, ParsedAreWellFormed}
 use Rattle.ml_ctl.specs.Text.{items}
@@ -27,25 +28,25 @@ use Rattle.ml_ctl.proofs.ShortNames.{text_short}
 use Rattle.ml_ctl.proofs.Sorts.{reads_fits, fits_is_of}
 use Rattle.ml_ctl.proofs.Spelled.{items_spelled, reads_spelled}
 
-abbrev pub ctl_outcome : Logic → List ℕ → Outcome Formula
+abbrev pub ctl_outcome : Language → List ℕ → Outcome Formula
 ctl_outcome w text = text_outcome (ctl_grammar w) (length text) (items text)
 
-abbrev IsRight : Logic → List ℕ → Outcome Formula → Type 0
+abbrev IsRight : Language → List ℕ → Outcome Formula → Type 0
 IsRight w text out = IsOutcome (ctl_grammar w) (IsReadAs w) (items text) (length text) out
 
-pub comes_of : (w : Logic) (text : List ℕ)
+pub comes_of : (w : Language) (text : List ℕ)
     → IsOutcome (ctl_grammar w) (IsReadAs w) (items text) (length text) (ctl_outcome w text)
 comes_of w text = exact (ctl_grammar w) (IsReadAs w) (ctl_fits w) (items text) (length text)
 
-pub found_parsed : (w : Logic) (text : List ℕ) (f : Formula) → ctl_outcome w text ≡ Found f → IsParsedAs w text f
+pub found_parsed : (w : Language) (text : List ℕ) (f : Formula) → ctl_outcome w text ≡ Found f → IsParsedAs w text f
 found_parsed w text f is = subst (IsRight w text) is (comes_of w text)
 
-pub comes_first : (w : Logic) (text : List ℕ) (c : Cause) (at : ℕ)
+pub comes_first : (w : Language) (text : List ℕ) (c : Cause) (at : ℕ)
     → ctl_outcome w text ≡ Refused c at
     → ComesFirst (IsReadAs w) (items text) (length text) c at
 comes_first w text c at is = subst (IsRight w text) is (comes_of w text)
 
-pub refused_first : (w : Logic) (text : List ℕ) (e : ParseRefusal)
+pub refused_first : (w : Language) (text : List ℕ) (e : ParseRefusal)
     → IsRefusal e (ctl_outcome w text)
     → IsRefusedBy w text e
 refused_first w text e = answer.refused_first (IsReadAs w) (items text) (length text) (ctl_outcome w text) (comes_first w text) e
@@ -62,5 +63,5 @@ parsed_well w text f parsed =
       is_of_logic = fits_is_of w f (reads_fits parsed.stands);
     }
 
-pub found_well : (w : Logic) (text : List ℕ) (f : Formula) → ctl_outcome w text ≡ Found f → IsWellFormed w f
+pub found_well : (w : Language) (text : List ℕ) (f : Formula) → ctl_outcome w text ≡ Found f → IsWellFormed w f
 found_well w text f is = parsed_well w text f (found_parsed w text f is)

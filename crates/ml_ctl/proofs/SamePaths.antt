@@ -7,6 +7,8 @@ use Rattle.ml_lists.proofs.Walks.{walk_keeps}
 use Rattle.ml_text.specs.declared.token.Operator.TheVariants as operator
 use Rattle.ml_base.specs.Structure.{lists}
 use Rattle.ml_ctl.specs.Formula as plain
+use Rattle.ml_ctl.specs.declared.term.Tense.TheVariants as tense
+use Rattle.ml_ctl.specs.declared.term.Pairing.TheVariants as pairing
 use Rattle.ml_ctl.specs.Laws.{FollowsThePath, PassSame}
 use Rattle.ml_ctl.specs.Meaning as meaning
 use Rattle.ml_ctl.specs.Meaning.{Nowhere, Everywhere, TruthAt, quantified}
@@ -58,30 +60,30 @@ follows_the_path m (plain.Binary operator.Iff f g) l k i j here there pass t = (
   (λ a. follows_the_path m g l k i j here there pass (t.0 (follows_the_path m f k l j i there here (λ n. sym (pass n)) a))),
   (λ b. follows_the_path m f l k i j here there pass (t.1 (follows_the_path m g k l j i there here (λ n. sym (pass n)) b))),
 )
-follows_the_path m (plain.Temporal plain.Next g) l k i j here there pass t =
+follows_the_path m (plain.Temporal tense.Next g) l k i j here there pass t =
     follows_the_path m g l k (after l i 1) (after k j 1) (after_is_place l i 1 here) (after_is_place k j 1 there)
     (pass_after l k i j 1 pass) t
-follows_the_path m (plain.Temporal plain.Finally g) l k i j here there pass t =
+follows_the_path m (plain.Temporal tense.Finally g) l k i j here there pass t =
     until_there l k i j here there Everywhere (TruthAt m l g) Everywhere (TruthAt m k g) (λ d u. u)
     (λ d. follows_the_path m g l k (after l i d) (after k j d) (after_is_place l i d here) (after_is_place k j d there)
     (pass_after l k i j d pass)) t
-follows_the_path m (plain.Temporal plain.Globally g) l k i j here there pass t =
+follows_the_path m (plain.Temporal tense.Globally g) l k i j here there pass t =
     release_there l k i j here there Nowhere (TruthAt m l g) Nowhere (TruthAt m k g) (λ d none. none)
     (λ d. follows_the_path m g l k (after l i d) (after k j d) (after_is_place l i d here) (after_is_place k j d there)
     (pass_after l k i j d pass)) t
-follows_the_path m (plain.Paired plain.Until f g) l k i j here there pass t =
+follows_the_path m (plain.Paired pairing.Until f g) l k i j here there pass t =
     until_there l k i j here there (TruthAt m l f) (TruthAt m l g) (TruthAt m k f) (TruthAt m k g)
     (λ d. follows_the_path m f l k (after l i d) (after k j d) (after_is_place l i d here) (after_is_place k j d there)
     (pass_after l k i j d pass))
     (λ d. follows_the_path m g l k (after l i d) (after k j d) (after_is_place l i d here) (after_is_place k j d there)
     (pass_after l k i j d pass)) t
-follows_the_path m (plain.Paired plain.Release f g) l k i j here there pass t =
+follows_the_path m (plain.Paired pairing.Release f g) l k i j here there pass t =
     release_there l k i j here there (TruthAt m l f) (TruthAt m l g) (TruthAt m k f) (TruthAt m k g)
     (λ d. follows_the_path m f l k (after l i d) (after k j d) (after_is_place l i d here) (after_is_place k j d there)
     (pass_after l k i j d pass))
     (λ d. follows_the_path m g l k (after l i d) (after k j d) (after_is_place l i d here) (after_is_place k j d there)
     (pass_after l k i j d pass)) t
-follows_the_path m (plain.Paired plain.Weak f g) l k i j here there pass t =
+follows_the_path m (plain.Paired pairing.Weak f g) l k i j here there pass t =
     release_there l k i j here there
     (TruthAt m l g) (λ x. TruthAt m l f x ⊎ TruthAt m l g x) (TruthAt m k g) (λ x. TruthAt m k f x ⊎ TruthAt m k g x)
     (λ d. follows_the_path m g l k (after l i d) (after k j d) (after_is_place l i d here) (after_is_place k j d there)

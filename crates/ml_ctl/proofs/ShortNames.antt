@@ -11,9 +11,11 @@ use Rattle.ml_text.specs.Items.{bytes_of}
 use Rattle.ml_text.proofs.Cover.{are_tokens}
 use Rattle.ml_text.proofs.TableItems.{signs_short}
 use Rattle.ml_text.proofs.WordNames.{name_length}
-use Rattle.ml_ctl.specs.Formula.{Formula, Logic}
+use Rattle.ml_ctl.specs.Formula.{Formula}
+use Rattle.ml_ctl.specs.declared.language.Language.{Language}
 use Rattle.ml_ctl.specs.Grammar as grammar
-use Rattle.ml_ctl.specs.Grammar.{IsReadAs, Sort, Reads, iff_alone, iff, imp_alone, imp, or_alone, or, and_alone, and, pair_alone, pair, negation, temporal, quantified, group, constant, proposition}
+use Rattle.ml_ctl.specs.Grammar.{IsReadAs, Reads, iff_alone, iff, imp_alone, imp, or_alone, or, and_alone, and, pair_alone, pair, negation, temporal, quantified, group, constant, proposition}
+use Rattle.ml_ctl.specs.declared.language.Sort.{Sort}
 use Rattle.ml_ctl.specs.Signs.{Sign, HasShortName}
 use Rattle.ml_ctl.specs.Text.{ctl_signs, items}
 use Rattle.ml_ctl.proofs.Names.{short_name}
@@ -25,7 +27,7 @@ AreShort ts = AllByRecursion HasShortName ts
 abbrev Keeps : Formula → List Sign → Type 0
 Keeps f rest = HasShortNames f × AreShort rest
 
-module _ {w : Logic} where
+module _ {w : Language} where
   reads_short : {s : Sort} {l : grammar.Level} {ts rest : List Sign} {f : Formula}
       → Reads w s l ts f rest
       → AreShort ts
@@ -57,5 +59,5 @@ text_signs text none =
     (λ p short size. short_name p.token (bytes_of text p) (p.end - p.start) short size)
     0 tt (tokens LowerCase text) (are_tokens LowerCase text 0) none
 
-pub text_short : (w : Logic) (text : List ℕ) (f : Formula) → IsAccepted (IsReadAs w) (items text) f → HasShortNames f
+pub text_short : (w : Language) (text : List ℕ) (f : Formula) → IsAccepted (IsReadAs w) (items text) f → HasShortNames f
 text_short w text f accepted = (reads_short accepted.stands (text_signs text (accepted.keeps NameTooLong))).0

@@ -6,9 +6,13 @@
 use Rattle.std.proofs.Common.{◌≡◌, Bool, true, false, ◌&&◌, List, refl, sym, ◌∙◌}
 use Rattle.std.proofs.lemmas.Bool.{and_from, and_parts, false≢true}
 use Rattle.ml_ctl.specs.Formula as plain
-use Rattle.ml_ctl.specs.Formula.{Formula, Logic, Ctl, Ltl, is_state, is_linear, is_of}
+use Rattle.ml_ctl.specs.Formula.{Formula, is_state, is_linear, is_of}
+use Rattle.ml_ctl.specs.declared.language.Language.{Language}
+use Rattle.ml_ctl.specs.declared.language.Language.TheVariants.{Ctl, Ltl}
 use Rattle.ml_ctl.specs.Grammar as grammar
-use Rattle.ml_ctl.specs.Grammar.{Sort, State, Path, sort_of, Reads, iff_alone, iff, imp_alone, imp, or_alone, or, and_alone, and}
+use Rattle.ml_ctl.specs.Grammar.{sort_of, Reads, iff_alone, iff, imp_alone, imp, or_alone, or, and_alone, and}
+use Rattle.ml_ctl.specs.declared.language.Sort.{Sort}
+use Rattle.ml_ctl.specs.declared.language.Sort.TheVariants.{State, Path}
 use Rattle.ml_ctl.specs.Grammar.{pair_alone, pair, negation, temporal, quantified, group, constant, proposition}
 use Rattle.ml_ctl.specs.Signs.{Sign}
 
@@ -16,11 +20,11 @@ abbrev pub is_path : Sort → Bool
 is_path State = false
 is_path Path = true
 
-abbrev pub has_quantifiers : Logic → Bool
+abbrev pub has_quantifiers : Language → Bool
 has_quantifiers Ctl = true
 has_quantifiers Ltl = false
 
-abbrev pub fits : Logic → Sort → Formula → Bool
+abbrev pub fits : Language → Sort → Formula → Bool
 fits w s (plain.Const b) = true
 fits w s (plain.Prop p) = true
 fits w s (plain.Not f) = fits w s f
@@ -29,11 +33,11 @@ fits w s (plain.Temporal t f) = is_path s && fits w s f
 fits w s (plain.Paired p f g) = is_path s && (fits w s f && fits w s g)
 fits w s (plain.Quantified q f) = has_quantifiers w && fits w Path f
 
-quantifiers_stand : (w : Logic) → w ≡ Ctl → has_quantifiers w ≡ true
+quantifiers_stand : (w : Language) → w ≡ Ctl → has_quantifiers w ≡ true
 quantifiers_stand Ctl is = refl
 quantifiers_stand Ltl is = absurd (cc)
 
-module _ {w : Logic} where
+module _ {w : Language} where
   pub reads_fits : {s : Sort} {l : grammar.Level} {ts rest : List Sign} {f : Formula}
       → Reads w s l ts f rest
       → fits w s f ≡ true
@@ -98,10 +102,10 @@ same_linear (plain.Temporal t f) = same_linear f
 same_linear (plain.Paired p f g) = λ i. same_linear f i && same_linear g i
 same_linear (plain.Quantified q f) = refl
 
-pub fits_is_of : (w : Logic) (f : Formula) → fits w (sort_of w) f ≡ true → is_of w f ≡ true
+pub fits_is_of : (w : Language) (f : Formula) → fits w (sort_of w) f ≡ true → is_of w f ≡ true
 fits_is_of Ctl f is = fits_state f is
 fits_is_of Ltl f is = sym (same_linear f) ∙ is
 
-pub is_of_fits : (w : Logic) (f : Formula) → is_of w f ≡ true → fits w (sort_of w) f ≡ true
+pub is_of_fits : (w : Language) (f : Formula) → is_of w f ≡ true → fits w (sort_of w) f ≡ true
 is_of_fits Ctl f is = state_fits f is
 is_of_fits Ltl f is = same_linear f ∙ is

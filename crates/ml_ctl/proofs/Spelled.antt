@@ -13,10 +13,12 @@ use Rattle.ml_text.specs.Items.{bytes_of}
 use Rattle.ml_text.specs.Words.{constant_of}
 use Rattle.ml_text.specs.Refusals.{signs_of}
 use Rattle.ml_text.proofs.TableItems.{one_of, one_by, signs_all}
-use Rattle.ml_ctl.specs.Formula.{Formula, Logic}
+use Rattle.ml_ctl.specs.Formula.{Formula}
+use Rattle.ml_ctl.specs.declared.language.Language.{Language}
 use Rattle.ml_ctl.specs.Signs.{Sign, Lower, sign_of, byte_sign, word_sign_by}
 use Rattle.ml_ctl.specs.Grammar as grammar
-use Rattle.ml_ctl.specs.Grammar.{Sort, Reads, iff_alone, iff, imp_alone, imp, or_alone, or, and_alone, and, pair_alone, pair, negation, temporal, quantified, group, constant, proposition}
+use Rattle.ml_ctl.specs.Grammar.{Reads, iff_alone, iff, imp_alone, imp, or_alone, or, and_alone, and, pair_alone, pair, negation, temporal, quantified, group, constant, proposition}
+use Rattle.ml_ctl.specs.declared.language.Sort.{Sort}
 use Rattle.ml_ctl.specs.Spelling.{is_proposition, is_spelled}
 use Rattle.ml_ctl.specs.Text.{ctl_signs, items_from}
 
@@ -58,7 +60,7 @@ items_spelled text ps = signs_all ctl_signs IsSpelledSign text (λ p. spelled_si
 abbrev pub Spells : Formula → List Sign → Type 0
 Spells f rest = (is_spelled f ≡ true) × AreSpelled rest
 
-module _ {w : Logic} where
+module _ {w : Language} where
   pub reads_spelled : {s : Sort} {l : grammar.Level} {ts rest : List Sign} {f : Formula}
       → Reads w s l ts f rest
       → AreSpelled ts

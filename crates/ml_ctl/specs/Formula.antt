@@ -15,23 +15,16 @@
 --   occurrences f  == the number of symbols of f, where iff counts as three
 --   is_state f     == is f a state formula?
 --   is_linear f    == is f without quantifiers?
---   Logic          == CTL* or LTL
---   is_of w f      == is f a formula of the logic w?
+--   Language       == CTL* or LTL
+--   is_of w f      == is f a formula of the language w?
 use Rattle.std.specs.Prelude.{ℕ, ◌+◌, Bool, true, false, ◌&&◌, List}
 use Rattle.ml_text.specs.declared.token.Operator.{Operator}
 use Rattle.ml_text.specs.Operators.{weight}
-
-pub data Logic : Type 0 where
-  Ctl Ltl : Logic
-
-pub data Tense : Type 0 where
-  Next Finally Globally : Tense
-
-pub data Pairing : Type 0 where
-  Until Release Weak : Pairing
-
-pub data Quantifier : Type 0 where
-  Exists Forall : Quantifier
+use Rattle.ml_ctl.specs.declared.language.Language.{Language}
+use Rattle.ml_ctl.specs.declared.language.Language.TheVariants.{Ctl, Ltl}
+use Rattle.ml_ctl.specs.declared.term.Tense.{Tense}
+use Rattle.ml_ctl.specs.declared.term.Pairing.{Pairing}
+use Rattle.ml_ctl.specs.declared.term.Quantifier.{Quantifier}
 
 pub data Formula : Type 0 where
   Const : Bool → Formula
@@ -69,6 +62,6 @@ is_linear (Temporal t f) = is_linear f
 is_linear (Paired p f g) = is_linear f && is_linear g
 is_linear (Quantified q f) = false
 
-abbrev pub is_of : Logic → Formula → Bool
+abbrev pub is_of : Language → Formula → Bool
 is_of Ctl f = is_state f
 is_of Ltl f = is_linear f

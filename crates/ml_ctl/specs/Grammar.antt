@@ -27,16 +27,20 @@
 use Rattle.std.specs.Prelude.{◌≡◌, ℕ, Bool, List, [], ◌∷◌}
 use Rattle.ml_text.specs.declared.token.Operator.TheVariants as operator
 use Rattle.ml_ctl.specs.Formula as plain
-use Rattle.ml_ctl.specs.Formula.{Formula, Logic, Ctl, Ltl, Tense, Pairing, Quantifier}
+use Rattle.ml_ctl.specs.Formula.{Formula}
+use Rattle.ml_ctl.specs.declared.term.Tense.{Tense}
+use Rattle.ml_ctl.specs.declared.term.Pairing.{Pairing}
+use Rattle.ml_ctl.specs.declared.term.Quantifier.{Quantifier}
+use Rattle.ml_ctl.specs.declared.language.Language.{Language}
+use Rattle.ml_ctl.specs.declared.language.Language.TheVariants.{Ctl, Ltl}
+use Rattle.ml_ctl.specs.declared.language.Sort.{Sort}
+use Rattle.ml_ctl.specs.declared.language.Sort.TheVariants.{State, Path}
 use Rattle.ml_ctl.specs.Signs.{Sign, Not, Connective, Const, Open, Close, Tensed, Pairs, Quantifies, Lower}
-
-pub data Sort : Type 0 where
-  State Path : Sort
 
 pub data Level : Type 0 where
   Iff Imp Or And Pair Un : Level
 
-pub data Reads (w : Logic) : Sort → Level → List Sign → Formula → List Sign → Type 0 where
+pub data Reads (w : Language) : Sort → Level → List Sign → Formula → List Sign → Type 0 where
   -- iff = imp [ IFF iff ]
   iff_alone : {s : Sort} {ts rest : List Sign} {f : Formula} → Reads w s Imp ts f rest → Reads w s Iff ts f rest
   iff : {s : Sort} {ts us rest : List Sign} {f g : Formula}
@@ -88,9 +92,9 @@ pub data Reads (w : Logic) : Sort → Level → List Sign → Formula → List S
   constant : {s : Sort} {rest : List Sign} (b : Bool) → Reads w s Un (Const b ∷ rest) (plain.Const b) rest
   proposition : {s : Sort} {rest : List Sign} (p : List ℕ) → Reads w s Un (Lower p ∷ rest) (plain.Prop p) rest
 
-abbrev pub sort_of : Logic → Sort
+abbrev pub sort_of : Language → Sort
 sort_of Ctl = State
 sort_of Ltl = Path
 
-abbrev pub IsReadAs : Logic → List Sign → Formula → Type 0
+abbrev pub IsReadAs : Language → List Sign → Formula → Type 0
 IsReadAs w ts f = Reads w (sort_of w) Iff ts f []

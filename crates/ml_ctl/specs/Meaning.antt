@@ -23,7 +23,13 @@ use Rattle.ml_text.specs.declared.token.Operator.{Operator}
 use Rattle.ml_text.specs.declared.token.Operator.TheVariants as operator
 use Rattle.ml_base.specs.Structure.{Structure, lists}
 use Rattle.ml_ctl.specs.Formula as plain
-use Rattle.ml_ctl.specs.Formula.{Formula, Tense, Pairing, Quantifier}
+use Rattle.ml_ctl.specs.Formula.{Formula}
+use Rattle.ml_ctl.specs.declared.term.Tense.{Tense}
+use Rattle.ml_ctl.specs.declared.term.Tense.TheVariants.{Next, Finally, Globally}
+use Rattle.ml_ctl.specs.declared.term.Pairing.{Pairing}
+use Rattle.ml_ctl.specs.declared.term.Pairing.TheVariants as pair
+use Rattle.ml_ctl.specs.declared.term.Quantifier.{Quantifier}
+use Rattle.ml_ctl.specs.declared.term.Quantifier.TheVariants.{Exists, Forall}
 use Rattle.ml_ctl.specs.Paths.{IsPathFrom, places}
 
 abbrev pub Property : Type 1
@@ -53,14 +59,14 @@ abbrev pub Release : Lasso → Property → Property → Property
 Release l f g = iterate_of (places l) (release_step (next_place l) f g) Everywhere
 
 abbrev pub tense : Tense → Lasso → Property → Property
-tense plain.Next l g = λ i. g (next_place l i)
-tense plain.Finally l g = Until l Everywhere g
-tense plain.Globally l g = Release l Nowhere g
+tense Next l g = λ i. g (next_place l i)
+tense Finally l g = Until l Everywhere g
+tense Globally l g = Release l Nowhere g
 
 abbrev pub pairing : Pairing → Lasso → Property → Property → Property
-pairing plain.Until l f g = Until l f g
-pairing plain.Release l f g = Release l f g
-pairing plain.Weak l f g = Release l g (λ i. f i ⊎ g i)
+pairing pair.Until l f g = Until l f g
+pairing pair.Release l f g = Release l f g
+pairing pair.Weak l f g = Release l g (λ i. f i ⊎ g i)
 
 abbrev pub truth_of : Operator → Type 0 → Type 0 → Type 0
 truth_of operator.And p q = p × q
@@ -69,8 +75,8 @@ truth_of operator.Implies p q = p → q
 truth_of operator.Iff p q = (p → q) × (q → p)
 
 abbrev pub quantified : Quantifier → Structure → ℕ → (Lasso → Type 0) → Type 0
-quantified plain.Exists m s P = (l : Lasso) × IsPathFrom m s l × P l
-quantified plain.Forall m s P = (l : Lasso) → IsPathFrom m s l → P l
+quantified Exists m s P = (l : Lasso) × IsPathFrom m s l × P l
+quantified Forall m s P = (l : Lasso) → IsPathFrom m s l → P l
 
 abbrev pub TruthAt : Structure → Lasso → Formula → Property
 TruthAt m l (plain.Const b) i = b ≡ true
@@ -95,4 +101,4 @@ HoldsAt m (plain.Paired p f g) s = ⊥
 HoldsAt m (plain.Quantified q f) s = quantified q m s (λ path. Satisfies m path f)
 
 abbrev pub HoldsOnSome : Structure → Formula → ℕ → Type 0
-HoldsOnSome m f s = quantified plain.Exists m s (λ path. Satisfies m path f)
+HoldsOnSome m f s = quantified Exists m s (λ path. Satisfies m path f)

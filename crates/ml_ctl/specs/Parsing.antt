@@ -10,29 +10,30 @@ use Rattle.ml_base.specs.declared.parse_refusal.ParseRefusal.{ParseRefusal}
 use Rattle.ml_text.specs.Refusals as refused
 use Rattle.ml_text.specs.Refusals.{IsAccepted}
 use Rattle.ml_ctl.specs.Canonical.{canonical_text}
-use Rattle.ml_ctl.specs.Formula.{Formula, Logic, is_of}
+use Rattle.ml_ctl.specs.Formula.{Formula, is_of}
+use Rattle.ml_ctl.specs.declared.language.Language.{Language}
 use Rattle.ml_ctl.specs.Grammar.{IsReadAs}
 use Rattle.ml_ctl.specs.Spelling.{is_spelled}
 use Rattle.ml_ctl.specs.Text.{IsTextOf, items}
 use Rattle.ml_ctl.specs.WellFormed.{IsWellFormed}
 
-abbrev pub IsParsedAs : Logic → List ℕ → Formula → Type 0
+abbrev pub IsParsedAs : Language → List ℕ → Formula → Type 0
 IsParsedAs w text f = IsAccepted (IsReadAs w) (items text) f
 
-abbrev pub IsRefusedBy : Logic → List ℕ → ParseRefusal → Type 0
+abbrev pub IsRefusedBy : Language → List ℕ → ParseRefusal → Type 0
 IsRefusedBy w text e = refused.IsRefusedBy (IsReadAs w) (items text) (length text) e
 
 -- ---- laws
 
 -- the canonical text of a formula of the logic whose names are spelled as they must be stands for it, and for no other
 abbrev pub CanonicalStandsForOne : Type 0
-CanonicalStandsForOne = (w : Logic) (f g : Formula) → IsTrue (is_spelled f) → IsTrue (is_of w f)
+CanonicalStandsForOne = (w : Language) (f g : Formula) → IsTrue (is_spelled f) → IsTrue (is_of w f)
     → IsTextOf w (canonical_text f) f × (IsTextOf w (canonical_text f) g → g ≡ f)
 
 -- the formulas that are parsed are well formed
 abbrev pub ParsedAreWellFormed : Type 0
-ParsedAreWellFormed = (w : Logic) (text : List ℕ) (f : Formula) → IsParsedAs w text f → IsWellFormed w f
+ParsedAreWellFormed = (w : Language) (text : List ℕ) (f : Formula) → IsParsedAs w text f → IsWellFormed w f
 
 -- the canonical text of a well-formed formula is parsed as it
 abbrev pub CanonicalIsParsed : Type 0
-CanonicalIsParsed = (w : Logic) (f : Formula) → IsWellFormed w f → IsParsedAs w (canonical_text f) f
+CanonicalIsParsed = (w : Language) (f : Formula) → IsWellFormed w f → IsParsedAs w (canonical_text f) f

@@ -14,7 +14,12 @@ use Rattle.ml_text.specs.declared.token.Operator.{Operator}
 use Rattle.ml_text.specs.declared.token.Token.{Token}
 use Rattle.ml_text.specs.declared.token.Token.TheVariants as token
 use Rattle.ml_text.specs.Words.{constant_of}
-use Rattle.ml_ctl.specs.Formula.{Tense, Next, Finally, Globally, Pairing, Until, Release, Weak, Quantifier, Exists, Forall}
+use Rattle.ml_ctl.specs.declared.term.Tense.{Tense}
+use Rattle.ml_ctl.specs.declared.term.Tense.TheVariants.{Next, Finally, Globally}
+use Rattle.ml_ctl.specs.declared.term.Pairing.{Pairing}
+use Rattle.ml_ctl.specs.declared.term.Pairing.TheVariants.{Until, Release, Weak}
+use Rattle.ml_ctl.specs.declared.term.Quantifier.{Quantifier}
+use Rattle.ml_ctl.specs.declared.term.Quantifier.TheVariants.{Exists, Forall}
 use Rattle.ml_ctl.specs.Spelling.{is_proposition}
 
 pub data Sign : Type 0 where

@@ -15,7 +15,8 @@ use Rattle.ml_text.specs.Refusals.{Item, signs_of}
 use Rattle.ml_text.specs.declared.limits.Bracket.{Bracket}
 use Rattle.ml_text.specs.declared.limits.Bracket.TheVariants.{Opening, Closing, Neither}
 use Rattle.ml_text.specs.Operators.{weight}
-use Rattle.ml_ctl.specs.Formula.{Formula, Logic}
+use Rattle.ml_ctl.specs.Formula.{Formula}
+use Rattle.ml_ctl.specs.declared.language.Language.{Language}
 use Rattle.ml_ctl.specs.Signs.{Sign, Connective, Open, Close, Unknown, sign_of}
 use Rattle.ml_ctl.specs.Grammar.{IsReadAs}
 
@@ -51,5 +52,5 @@ items_from text ps = text_items.items_from ctl_signs text tt ps
 abbrev pub items : List ℕ → List (Item Sign)
 items text = text_items.items ctl_signs text
 
-abbrev pub IsTextOf : Logic → List ℕ → Formula → Type 0
+abbrev pub IsTextOf : Language → List ℕ → Formula → Type 0
 IsTextOf w text f = IsReadAs w (signs_of (items text)) f

@@ -4,10 +4,11 @@
 --   IsWellFormed w f  == f is such a formula of the logic w
 use Rattle.std.specs.Prelude.{◌≤◌, IsTrue}
 use Rattle.ml_text.specs.Refusals.{most_occurrences}
-use Rattle.ml_ctl.specs.Formula.{Formula, Logic, occurrences, is_of}
+use Rattle.ml_ctl.specs.Formula.{Formula, occurrences, is_of}
+use Rattle.ml_ctl.specs.declared.language.Language.{Language}
 use Rattle.ml_ctl.specs.Spelling.{HasShortNames, is_spelled}
 
-pub record IsWellFormed (w : Logic) (f : Formula) : Type 0 where
+pub record IsWellFormed (w : Language) (f : Formula) : Type 0 where
   pub is_small : occurrences f ≤ most_occurrences
   pub names_are_short : HasShortNames f
   pub names_are_spelled : IsTrue (is_spelled f)

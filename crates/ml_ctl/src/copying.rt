@@ -5,7 +5,7 @@ ghost use Rattle.ml_ctl.specs.Term.{formula_of};
 
 use crate::{Formula, Term};
 use ml_base::NoMemory;
-use ml_text::MOST_OCCURRENCES;
+use ml_text::{MOST_OCCURRENCES, Operator};
 use std::alloc::Global;
 
 /// An equal formula.
@@ -35,39 +35,18 @@ pub fn copy_term(alloc: Global, term: &Term) -> Result<Term, NoMemory>
         Term::Const(value) => Ok(Term::Const(*value)),
         Term::Prop(name) => Ok(Term::Prop(name.copy()?)),
         Term::Not(operand) => Ok(Term::Not(copy_operand(alloc, operand)?)),
-        Term::And(left, right) => {
+        Term::Binary(operator, left, right) => {
             let (left, right) = copy_operands(alloc, left, right)?;
-            Ok(Term::And(left, right))
+            Ok(Term::Binary(*operator, left, right))
         }
-        Term::Or(left, right) => {
+        Term::Temporal(tense, operand) => Ok(Term::Temporal(*tense, copy_operand(alloc, operand)?)),
+        Term::Paired(pairing, left, right) => {
             let (left, right) = copy_operands(alloc, left, right)?;
-            Ok(Term::Or(left, right))
+            Ok(Term::Paired(*pairing, left, right))
         }
-        Term::Implies(left, right) => {
-            let (left, right) = copy_operands(alloc, left, right)?;
-            Ok(Term::Implies(left, right))
+        Term::Quantified(quantifier, operand) => {
+            Ok(Term::Quantified(*quantifier, copy_operand(alloc, operand)?))
         }
-        Term::Iff(left, right) => {
-            let (left, right) = copy_operands(alloc, left, right)?;
-            Ok(Term::Iff(left, right))
-        }
-        Term::Next(operand) => Ok(Term::Next(copy_operand(alloc, operand)?)),
-        Term::Until(left, right) => {
-            let (left, right) = copy_operands(alloc, left, right)?;
-            Ok(Term::Until(left, right))
-        }
-        Term::Release(left, right) => {
-            let (left, right) = copy_operands(alloc, left, right)?;
-            Ok(Term::Release(left, right))
-        }
-        Term::Finally(operand) => Ok(Term::Finally(copy_operand(alloc, operand)?)),
-        Term::Globally(operand) => Ok(Term::Globally(copy_operand(alloc, operand)?)),
-        Term::Weak(left, right) => {
-            let (left, right) = copy_operands(alloc, left, right)?;
-            Ok(Term::Weak(left, right))
-        }
-        Term::Exists(operand) => Ok(Term::Exists(copy_operand(alloc, operand)?)),
-        Term::Forall(operand) => Ok(Term::Forall(copy_operand(alloc, operand)?)),
     }
 }
 
@@ -114,18 +93,12 @@ pub fn count_term(term: &Term) -> u32
 {
     match term {
         Term::Const(_) | Term::Prop(_) => 1,
-        Term::Not(operand)
-        | Term::Next(operand)
-        | Term::Finally(operand)
-        | Term::Globally(operand)
-        | Term::Exists(operand)
-        | Term::Forall(operand) => 1 + count_term(operand),
-        Term::And(left, right)
-        | Term::Or(left, right)
-        | Term::Implies(left, right)
-        | Term::Until(left, right)
-        | Term::Release(left, right)
-        | Term::Weak(left, right) => 1 + count_term(left) + count_term(right),
-        Term::Iff(left, right) => 3 + count_term(left) + count_term(right),
+        Term::Not(operand) | Term::Temporal(_, operand) | Term::Quantified(_, operand) => {
+            1 + count_term(operand)
+        }
+        Term::Binary(Operator::Iff, left, right) => 3 + count_term(left) + count_term(right),
+        Term::Binary(_, left, right) | Term::Paired(_, left, right) => {
+            1 + count_term(left) + count_term(right)
+        }
     }
 }

@@ -4,30 +4,16 @@ ghost use Rattle.std.specs.Option.{option_map};
 ghost use Rattle.ml_text.specs.private.Views.{GivesBack, mode_view, turn_view};
 ghost use Rattle.ml_ctl.specs.Formula as plain;
 ghost use Rattle.ml_ctl.specs.Term.{formula_of};
-ghost use Rattle.ml_ctl.specs.private.FormViews.{hold_view, logic_of, sort_view, wait_view};
+ghost use Rattle.ml_ctl.specs.private.FormViews.{wait_view};
 ghost use Rattle.ml_ctl.specs.private.Reader.{ctl_tables};
-ghost use Rattle.ml_ctl.specs.private.SignViews.{pairing_of, quantifier_of, sign_view, tense_of};
+ghost use Rattle.ml_ctl.specs.private.SignViews.{sign_view};
 ghost use Rattle.ml_ctl.specs.private.Tables as tables;
 
-use crate::Term;
-use crate::signs::{Pairing, Quantifier, Sign, Tense};
+use crate::signs::Sign;
+use crate::{Language, Quantifier, Sort, Tense, Term};
 use ml_base::NoMemory;
-use ml_text::{Mode, Operator};
+use ml_text::Mode;
 use std::alloc::Global;
-
-// the logic whose texts are read
-#[derive(Clone, Copy)]
-pub(crate) enum Language {
-    Ctl,
-    Ltl,
-}
-
-// the sorts of operands
-#[derive(Clone, Copy)]
-pub(crate) enum Sort {
-    State,
-    Path,
-}
 
 // a form of which a token is to come
 #[derive(Drop)]
@@ -49,7 +35,7 @@ pub(crate) enum Hold {
 type Turn = ml_text::Turn<Sign, Term, Wait, Hold>;
 
 fn shift_tense(sort: Sort, tense: Tense) -> Option<Turn>
-    ensures turn { option_map (turn_view (ctl_tables plain.Ctl)) result ≡ tables.shift_tense (sort_view sort) (tense_of tense) }
+    ensures turn { option_map (turn_view (ctl_tables Language.Ctl)) result ≡ tables.shift_tense sort tense }
 {
     match sort {
         Sort::State => None,
@@ -58,8 +44,8 @@ fn shift_tense(sort: Sort, tense: Tense) -> Option<Turn>
 }
 
 fn shift_quantifier(language: Language, quantifier: Quantifier) -> Option<Turn>
-    ensures turn { option_map (turn_view (ctl_tables plain.Ctl)) result
-        ≡ tables.shift_quantifier (logic_of language) (quantifier_of quantifier) }
+    ensures turn { option_map (turn_view (ctl_tables Language.Ctl)) result
+        ≡ tables.shift_quantifier language quantifier }
 {
     match language {
         Language::Ctl => Some(Turn::Inner(Hold::Quantifying(quantifier))),
@@ -68,8 +54,8 @@ fn shift_quantifier(language: Language, quantifier: Quantifier) -> Option<Turn>
 }
 
 fn shift_start(language: Language, sort: Sort, sign: Sign) -> Option<Turn>
-    ensures turn { option_map (turn_view (ctl_tables plain.Ctl)) result
-        ≡ tables.shift_start (logic_of language) (sort_view sort) (sign_view sign) }
+    ensures turn { option_map (turn_view (ctl_tables Language.Ctl)) result
+        ≡ tables.shift_start language sort (sign_view sign) }
 {
     match sign {
         Sign::Not => Some(Turn::Inner(Hold::Negation(sort))),
@@ -84,9 +70,9 @@ fn shift_start(language: Language, sort: Sort, sign: Sign) -> Option<Turn>
 
 /// What a token does to a form of which one is to come; `None` where no text of the logic goes on so.
 pub(crate) fn shift(language: Language, wait: Wait, sign: Sign) -> Option<Turn>
-    ensures turn { option_map (turn_view (ctl_tables plain.Ctl)) result
-        ≡ tables.shift (logic_of language) (wait_view wait) (sign_view sign) }
-    ensures gives_back { GivesBack (ctl_tables plain.Ctl) result (sign_view sign) }
+    ensures turn { option_map (turn_view (ctl_tables Language.Ctl)) result
+        ≡ tables.shift language (wait_view wait) (sign_view sign) }
+    ensures gives_back { GivesBack (ctl_tables Language.Ctl) result (sign_view sign) }
 {
     match (wait, sign) {
         (Wait::Start(sort), sign) => shift_start(language, sort, sign),
@@ -95,66 +81,18 @@ pub(crate) fn shift(language: Language, wait: Wait, sign: Sign) -> Option<Turn>
     }
 }
 
-// a tense before its formula
-fn tensed(alloc: Global, tense: Tense, term: Term) -> Result<Term, NoMemory>
-    ensures { IfOk result (λ whole. formula_of whole ≡ plain.Temporal (tense_of tense) (formula_of term)) }
-{
-    let operand = Box::new(alloc, term)?;
-    Ok(match tense {
-        Tense::Next => Term::Next(operand),
-        Tense::Finally => Term::Finally(operand),
-        Tense::Globally => Term::Globally(operand),
-    })
-}
-
-// a quantifier before its formula
-fn quantified(alloc: Global, quantifier: Quantifier, term: Term) -> Result<Term, NoMemory>
-    ensures { IfOk result (λ whole. formula_of whole ≡ plain.Quantified (quantifier_of quantifier) (formula_of term)) }
-{
-    let operand = Box::new(alloc, term)?;
-    Ok(match quantifier {
-        Quantifier::Exists => Term::Exists(operand),
-        Quantifier::Forall => Term::Forall(operand),
-    })
-}
-
 /// A form behind its operand.
 pub(crate) fn resume(alloc: Global, hold: Hold, term: Term) -> Result<Mode<Term, Wait>, NoMemory>
     ensures { IfOk result (λ mode.
-        mode_view (ctl_tables plain.Ctl) mode ≡ tables.resume (hold_view hold) (formula_of term)) }
+        mode_view (ctl_tables Language.Ctl) mode ≡ tables.resume hold (formula_of term)) }
 {
     Ok(match hold {
         Hold::Negation(_) => Mode::Whole(Term::Not(Box::new(alloc, term)?)),
-        Hold::Tensing(tense) => Mode::Whole(tensed(alloc, tense, term)?),
-        Hold::Quantifying(quantifier) => Mode::Whole(quantified(alloc, quantifier, term)?),
+        Hold::Tensing(tense) => Mode::Whole(Term::Temporal(tense, Box::new(alloc, term)?)),
+        Hold::Quantifying(quantifier) => {
+            Mode::Whole(Term::Quantified(quantifier, Box::new(alloc, term)?))
+        }
         Hold::Group(_) => Mode::More(Wait::BehindInside(term)),
-    })
-}
-
-fn connected(alloc: Global, operator: Operator, left: Term, right: Term) -> Result<Term, NoMemory>
-    ensures { IfOk result (λ term.
-        formula_of term ≡ plain.Binary operator (formula_of left) (formula_of right)) }
-{
-    let left = Box::new(alloc, left)?;
-    let right = Box::new(alloc, right)?;
-    Ok(match operator {
-        Operator::Iff => Term::Iff(left, right),
-        Operator::Implies => Term::Implies(left, right),
-        Operator::Or => Term::Or(left, right),
-        Operator::And => Term::And(left, right),
-    })
-}
-
-fn paired(alloc: Global, pairing: Pairing, left: Term, right: Term) -> Result<Term, NoMemory>
-    ensures { IfOk result (λ term.
-        formula_of term ≡ plain.Paired (pairing_of pairing) (formula_of left) (formula_of right)) }
-{
-    let left = Box::new(alloc, left)?;
-    let right = Box::new(alloc, right)?;
-    Ok(match pairing {
-        Pairing::Until => Term::Until(left, right),
-        Pairing::Release => Term::Release(left, right),
-        Pairing::Weak => Term::Weak(left, right),
     })
 }
 
@@ -164,8 +102,12 @@ pub(crate) fn join(alloc: Global, sign: Sign, left: Term, right: Term) -> Result
         formula_of term ≡ tables.join (sign_view sign) (formula_of left) (formula_of right)) }
 {
     match sign {
-        Sign::Connective(operator) => connected(alloc, operator, left, right),
-        Sign::Pairs(pairing) => paired(alloc, pairing, left, right),
+        Sign::Connective(operator) => {
+            Ok(Term::Binary(operator, Box::new(alloc, left)?, Box::new(alloc, right)?))
+        }
+        Sign::Pairs(pairing) => {
+            Ok(Term::Paired(pairing, Box::new(alloc, left)?, Box::new(alloc, right)?))
+        }
         _ => Ok(left),
     }
 }

@@ -1,6 +1,6 @@
 // What holds of texts by their grammar alone, and of meanings: the functions do nothing, their contracts are the theorems.
 ghost use Rattle.ml_text.specs.Answers.{HaveOneAnswer, IsUnambiguous};
-ghost use Rattle.ml_ctl.specs.Formula.{Logic};
+ghost use Rattle.ml_ctl.specs.declared.language.Language.{Language};
 ghost use Rattle.ml_ctl.specs.Laws.{AllAreNotSome, FollowsThePath, LooksAtTheState, PathsStart, ReadAhead, ReadStepByStep, SomeAreNotAll};
 ghost use Rattle.ml_ctl.specs.Laws.{NegationsOfFinally, NegationsOfGlobally, NegationsOfNext, NegationsOfRelease, NegationsOfUntil, NegationsOfWeak};
 ghost use Rattle.ml_ctl.specs.Parsing.{CanonicalIsParsed, CanonicalStandsForOne, IsParsedAs, IsRefusedBy, ParsedAreWellFormed};
@@ -9,7 +9,7 @@ ghost use Rattle.ml_ctl.specs.Text.{IsTextOf};
 /// A text stands for one formula at most, by the grammar alone.
 #[tactic(auto, using(crate::proofs::OneAnswer::one_text_formula))]
 pub fn texts_stand_for_one()
-    ensures { (w : Logic) → IsUnambiguous (IsTextOf w) }
+    ensures { (w : Language) → IsUnambiguous (IsTextOf w) }
 {}
 
 /// The canonical text of a formula of the logic whose names are spelled as they must be stands for it and for no other, by
@@ -30,7 +30,7 @@ pub fn canonical_text_is_parsed()
 /// `some`: one of the two comes. `parsed` and `refused`: each comes in one way at most. `exclusive`: never both come. So
 /// `parse` answers each exactly where it is said to come.
 pub fn one_answer()
-    ensures { (w : Logic) → HaveOneAnswer (IsParsedAs w) (IsRefusedBy w) }
+    ensures { (w : Language) → HaveOneAnswer (IsParsedAs w) (IsRefusedBy w) }
 {}
 
 /// What a text is parsed as is well formed: small, with names spelled as they must be, and a formula of the logic.

@@ -12,6 +12,7 @@
 mod copying;
 mod forms;
 mod formula;
+mod language;
 pub mod laws;
 mod logic;
 mod parsing;
@@ -21,6 +22,7 @@ mod term;
 
 pub use copying::{copy, copy_term, count_term, occurrences};
 pub use formula::Formula;
+pub use language::{Language, Sort};
 pub use parsing::{parse, parse_path};
 pub use printing::{append_term, append_text, print};
-pub use term::Term;
+pub use term::{Pairing, Quantifier, Tense, Term};

@@ -1,26 +1,26 @@
 // CTL* and LTL, as the reader of texts asks for them. The two differ in the sort of a text, and in whether E and A stand
 // in it.
 ghost use Rattle.std.specs.Prelude.{◌≡◌};
-ghost use Rattle.ml_ctl.specs.Formula as plain;
+ghost use Rattle.ml_ctl.specs.declared.language.Language.{Language};
+ghost use Rattle.ml_ctl.specs.declared.language.Language.TheVariants as language;
 ghost use Rattle.ml_ctl.specs.Grammar.{sort_of};
-ghost use Rattle.ml_ctl.specs.private.FormViews.{logic_of, sort_view};
 ghost use Rattle.ml_ctl.specs.private.SignViews.{sign_view};
 ghost use Rattle.ml_ctl.specs.private.Tables as tables;
 
-use crate::Term;
-use crate::forms::{Hold, Language, Sort, Wait, join, resume, shift};
+use crate::forms::{Hold, Wait, join, resume, shift};
 use crate::signs::{Kind, Sign, bracket, kind_of, sign_of, weight};
+use crate::{Language, Sort, Term};
 use ml_base::NoMemory;
 use ml_text::{Bracket, Logic, Mode, Placed, Role, Turn, WordStart, operator_level};
 use std::alloc::Global;
 
 /// One of the two logics.
 pub(crate) trait Texts {
-    ghost logic: { plain.Logic };
+    ghost logic: { Language };
 
     /// Which one it is.
     fn language() -> Language
-        ensures { logic_of result ≡ logic };
+        ensures { result ≡ logic };
 }
 
 /// CTL*.
@@ -30,7 +30,7 @@ pub(crate) struct Ctl;
 pub(crate) struct Ltl;
 
 impl Texts for Ctl {
-    ghost logic = { plain.Ctl };
+    ghost logic = { language.Ctl };
 
     fn language() -> Language {
         Language::Ctl
@@ -38,7 +38,7 @@ impl Texts for Ctl {
 }
 
 impl Texts for Ltl {
-    ghost logic = { plain.Ltl };
+    ghost logic = { language.Ltl };
 
     fn language() -> Language {
         Language::Ltl
@@ -51,7 +51,7 @@ pub(crate) struct Reader<T> {
 }
 
 fn whole_sort(language: Language) -> Sort
-    ensures { sort_view result ≡ sort_of (logic_of language) }
+    ensures { result ≡ sort_of language }
 {
     match language {
         Language::Ctl => Sort::State,
@@ -60,7 +60,7 @@ fn whole_sort(language: Language) -> Sort
 }
 
 fn role(sort: Sort, sign: &Sign) -> Role
-    ensures { result ≡ tables.role (sort_view sort) (sign_view sign.now) }
+    ensures { result ≡ tables.role sort (sign_view sign.now) }
 {
     match (sort, sign) {
         (_, Sign::Connective(operator)) => Role::Infix(operator_level(*operator)),

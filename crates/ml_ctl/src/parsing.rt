@@ -1,6 +1,7 @@
 // Texts to formulas.
 ghost use Rattle.std.specs.Prelude.{MatchResult};
 ghost use Rattle.ml_ctl.specs.Formula as plain;
+ghost use Rattle.ml_ctl.specs.declared.language.Language.TheVariants as language;
 ghost use Rattle.ml_ctl.specs.Parsing.{IsParsedAs, IsRefusedBy};
 ghost use Rattle.ml_ctl.specs.Term.{formula_of};
 
@@ -25,7 +26,7 @@ use std::alloc::Global;
 ///
 /// Cost: linear in the text. No call is nested deeper than the formula, which has at most 1,000 occurrences.
 pub fn parse(alloc: Global, text: &[u8]) -> Result<Formula, ParseRefusal>
-    ensures { MatchResult result (IsParsedAs plain.Ctl text.now) (IsRefusedBy plain.Ctl text.now) }
+    ensures { MatchResult result (IsParsedAs language.Ctl text.now) (IsRefusedBy language.Ctl text.now) }
 {
     let Reading { tree, .. } = read::<Reader<Ctl>>(alloc, &Reader { texts: Ctl }, text)?;
     Ok(Formula::new(tree))
@@ -39,7 +40,7 @@ pub fn parse(alloc: Global, text: &[u8]) -> Result<Formula, ParseRefusal>
 /// Cost: as that of `parse`.
 pub fn parse_path(alloc: Global, text: &[u8]) -> Result<Term, ParseRefusal>
     ensures { MatchResult result
-        (λ term. IsParsedAs plain.Ltl text.now (formula_of term)) (IsRefusedBy plain.Ltl text.now) }
+        (λ term. IsParsedAs language.Ltl text.now (formula_of term)) (IsRefusedBy language.Ltl text.now) }
 {
     let Reading { tree, .. } = read::<Reader<Ltl>>(alloc, &Reader { texts: Ltl }, text)?;
     Ok(tree)

@@ -1,14 +1,17 @@
 // The canonical text of a formula.
-ghost use Rattle.std.specs.Prelude.{◌≡◌, ◌++◌, take, IfOk, OnOk, OnErr, codes, vec_len};
-ghost use Rattle.ml_ctl.specs.Canonical.{canonical_text};
+ghost use Rattle.std.specs.Prelude.{◌≡◌, ◌++◌, ◌∷◌, take, IfOk, OnOk, OnErr, codes, vec_len};
+ghost use Rattle.ml_text.specs.Operators.{spelling_of};
+ghost use Rattle.ml_ctl.specs.Canonical.{canonical_text, pairing_letter, quantifier_letter, tense_letter};
 ghost use Rattle.ml_ctl.specs.Formula as plain;
+ghost use Rattle.ml_ctl.specs.declared.language.Language.TheVariants as language;
 ghost use Rattle.ml_ctl.specs.Parsing.{IsParsedAs};
 ghost use Rattle.ml_ctl.specs.Term.{formula_of};
 ghost use Rattle.ml_ctl.specs.WellFormed.{IsWellFormed};
 
-use crate::{Formula, Term};
+use crate::{Formula, Pairing, Quantifier, Tense, Term};
 use ml_base::NoMemory;
 use ml_lines::whole_or_none;
+use ml_text::Operator;
 use std::alloc::{AllocError, Global};
 
 /// The canonical text of a formula, which is read back as the same formula.
@@ -19,7 +22,7 @@ use std::alloc::{AllocError, Global};
 /// Cost: linear in the text. No call is nested deeper than twice the formula.
 pub fn print(alloc: Global, formula: &Formula) -> Result<Vec<u8>, NoMemory>
     ensures text { IfOk result (λ text. text.items ≡ canonical_text formula.now) }
-    ensures reads_back { IfOk result (λ text. IsParsedAs plain.Ctl text.items formula.now) }
+    ensures reads_back { IfOk result (λ text. IsParsedAs language.Ctl text.items formula.now) }
 {
     let mut text = Vec::new(alloc);
     append_text(&mut text, formula)?;
@@ -34,7 +37,7 @@ pub fn print(alloc: Global, formula: &Formula) -> Result<Vec<u8>, NoMemory>
 /// Cost: linear in the text, over many calls.
 pub fn append_text(out: &mut Vec<u8>, formula: &Formula) -> Result<(), NoMemory>
     ensures text { OnOk result (out.new.items ≡ out.old.items ++ canonical_text formula.now) }
-    ensures well_formed { IsWellFormed plain.Ctl formula.now }
+    ensures well_formed { IsWellFormed language.Ctl formula.now }
     ensures kept { OnErr result (out.new.items ≡ out.old.items) }
 {
     append_term(out, formula.root())
@@ -55,6 +58,50 @@ pub fn append_term(out: &mut Vec<u8>, term: &Term) -> Result<(), NoMemory>
     Ok(whole_or_none(out, end, written)?)
 }
 
+// a connective with its blanks
+fn operator_sign(operator: Operator) -> &'static [u8]
+    ensures { result.now ≡ codes " " ++ spelling_of operator ++ codes " " }
+{
+    match operator {
+        Operator::And => b" & ",
+        Operator::Or => b" | ",
+        Operator::Implies => b" -> ",
+        Operator::Iff => b" <-> ",
+    }
+}
+
+// U, R or W with its blanks
+fn pairing_sign(pairing: Pairing) -> &'static [u8]
+    ensures { result.now ≡ codes " " ++ pairing_letter pairing ∷ codes " " }
+{
+    match pairing {
+        Pairing::Until => b" U ",
+        Pairing::Release => b" R ",
+        Pairing::Weak => b" W ",
+    }
+}
+
+// X, F or G with its blank
+fn tense_sign(tense: Tense) -> &'static [u8]
+    ensures { result.now ≡ tense_letter tense ∷ codes " " }
+{
+    match tense {
+        Tense::Next => b"X ",
+        Tense::Finally => b"F ",
+        Tense::Globally => b"G ",
+    }
+}
+
+// E or A with its blank
+fn quantifier_sign(quantifier: Quantifier) -> &'static [u8]
+    ensures { result.now ≡ quantifier_letter quantifier ∷ codes " " }
+{
+    match quantifier {
+        Quantifier::Exists => b"E ",
+        Quantifier::Forall => b"A ",
+    }
+}
+
 // Each function from here on leaves what stood in `text`, also where memory is wanting and a part stands behind it.
 #[cycle(printer)]
 fn write_term(text: &mut Vec<u8>, term: &Term) -> Result<(), AllocError>
@@ -66,18 +113,16 @@ fn write_term(text: &mut Vec<u8>, term: &Term) -> Result<(), AllocError>
         Term::Const(false) => text.extend_from_slice(b"ff"),
         Term::Prop(name) => text.extend_from_slice(name.bytes()),
         Term::Not(operand) => write_prefix(text, b"!", operand),
-        Term::And(left, right) => write_binary(text, left, b" & ", right),
-        Term::Or(left, right) => write_binary(text, left, b" | ", right),
-        Term::Implies(left, right) => write_binary(text, left, b" -> ", right),
-        Term::Iff(left, right) => write_binary(text, left, b" <-> ", right),
-        Term::Next(operand) => write_prefix(text, b"X ", operand),
-        Term::Until(left, right) => write_binary(text, left, b" U ", right),
-        Term::Release(left, right) => write_binary(text, left, b" R ", right),
-        Term::Finally(operand) => write_prefix(text, b"F ", operand),
-        Term::Globally(operand) => write_prefix(text, b"G ", operand),
-        Term::Weak(left, right) => write_binary(text, left, b" W ", right),
-        Term::Exists(operand) => write_prefix(text, b"E ", operand),
-        Term::Forall(operand) => write_prefix(text, b"A ", operand),
+        Term::Binary(operator, left, right) => {
+            write_binary(text, left, operator_sign(*operator), right)
+        }
+        Term::Temporal(tense, operand) => write_prefix(text, tense_sign(*tense), operand),
+        Term::Paired(pairing, left, right) => {
+            write_binary(text, left, pairing_sign(*pairing), right)
+        }
+        Term::Quantified(quantifier, operand) => {
+            write_prefix(text, quantifier_sign(*quantifier), operand)
+        }
     }
 }
 

@@ -6,29 +6,10 @@ ghost use Rattle.ml_ctl.specs.Signs as grammar;
 ghost use Rattle.ml_ctl.specs.Text.{bracket_of, weight_of};
 ghost use Rattle.ml_ctl.specs.private.SignViews.{named, sign_view};
 
+use crate::{Pairing, Quantifier, Tense};
 use ml_base::{Name, NoMemory};
 use ml_text::{Bracket, Operator, Token, WordStart, constant_of};
 use std::alloc::Global;
-
-#[derive(Clone, Copy)]
-pub(crate) enum Tense {
-    Next,
-    Finally,
-    Globally,
-}
-
-#[derive(Clone, Copy)]
-pub(crate) enum Pairing {
-    Until,
-    Release,
-    Weak,
-}
-
-#[derive(Clone, Copy)]
-pub(crate) enum Quantifier {
-    Exists,
-    Forall,
-}
 
 // a token, where N is what is held of a name
 #[derive(Clone, Copy, Drop)]

@@ -1,5 +1,37 @@
 // The trees of formulas.
 use ml_base::Name;
+use ml_text::Operator;
+
+/// A temporal operator with one operand.
+#[derive(Clone, Copy, Debug)]
+pub enum Tense {
+    /// `X f`: at the next place of the path.
+    Next,
+    /// `F f`: some time.
+    Finally,
+    /// `G f`: always.
+    Globally,
+}
+
+/// A temporal operator with two operands.
+#[derive(Clone, Copy, Debug)]
+pub enum Pairing {
+    /// `f U g`: g some time, and f until then.
+    Until,
+    /// `f R g`: g always, unless f releases it.
+    Release,
+    /// `f W g`: f until g, or for ever.
+    Weak,
+}
+
+/// Over the paths from a state.
+#[derive(Clone, Copy, Debug)]
+pub enum Quantifier {
+    /// `E f`: on some path.
+    Exists,
+    /// `A f`: on every path.
+    Forall,
+}
 
 /// A formula as a tree that owns its parts. Operands stand in the order of the text.
 ///
@@ -10,24 +42,8 @@ pub enum Term {
     Const(bool),
     Prop(Name),
     Not(Box<Term>),
-    And(Box<Term>, Box<Term>),
-    Or(Box<Term>, Box<Term>),
-    Implies(Box<Term>, Box<Term>),
-    Iff(Box<Term>, Box<Term>),
-    /// `X f`: at the next place of the path.
-    Next(Box<Term>),
-    /// `f U g`: g some time, and f until then.
-    Until(Box<Term>, Box<Term>),
-    /// `f R g`: g always, unless f releases it.
-    Release(Box<Term>, Box<Term>),
-    /// `F f`: some time.
-    Finally(Box<Term>),
-    /// `G f`: always.
-    Globally(Box<Term>),
-    /// `f W g`: f until g, or for ever.
-    Weak(Box<Term>, Box<Term>),
-    /// `E f`: on some path from the state.
-    Exists(Box<Term>),
-    /// `A f`: on every path from the state.
-    Forall(Box<Term>),
+    Binary(Operator, Box<Term>, Box<Term>),
+    Temporal(Tense, Box<Term>),
+    Paired(Pairing, Box<Term>, Box<Term>),
+    Quantified(Quantifier, Box<Term>),
 }

@@ -20,6 +20,12 @@ use Rattle.ml_text.specs.declared.token.Operator.{Operator}
 use Rattle.ml_text.specs.declared.token.Operator.TheVariants as operator
 use Rattle.ml_ctl.specs.Formula as plain
 use Rattle.ml_ctl.specs.Formula.{Formula, occurrences}
+use Rattle.ml_ctl.specs.declared.term.Tense.{Tense}
+use Rattle.ml_ctl.specs.declared.term.Tense.TheVariants as tense
+use Rattle.ml_ctl.specs.declared.term.Pairing.{Pairing}
+use Rattle.ml_ctl.specs.declared.term.Pairing.TheVariants as pairing
+use Rattle.ml_ctl.specs.declared.term.Quantifier.{Quantifier}
+use Rattle.ml_ctl.specs.declared.term.Quantifier.TheVariants as quantifier
 use Rattle.ml_ctl.specs.Spelling.{HasShortNames, is_reserved, is_spelled}
 use Rattle.ml_text.specs.Bytes.{is_lower}
 use Rattle.ml_text.specs.Words.{is_word_from}
@@ -106,16 +112,16 @@ module _ (x : Item) (named : NamedItem x) where
   either_row true r s p q = p
   either_row false r s p q = q
 
-  tense_named : (t : plain.Tense) (g : Item) → NamedItem g → NamedRow (row_of_tense t x g)
-  tense_named plain.Next g p = tt
-  tense_named plain.Finally g p =
+  tense_named : (t : Tense) (g : Item) → NamedItem g → NamedRow (row_of_tense t x g)
+  tense_named tense.Next g p = tt
+  tense_named tense.Finally g p =
       either_row x.positive (Either (g ∷ []) (put_off x ∷ [])) (Becomes (g ∷ put_off x ∷ []))
       (one g p, one (put_off x) named) (two g (put_off x) p named)
-  tense_named plain.Globally g p =
+  tense_named tense.Globally g p =
       either_row x.positive (Becomes (g ∷ put_off x ∷ [])) (Either (g ∷ []) (put_off x ∷ []))
       (two g (put_off x) p named) (one g p, one (put_off x) named)
 
-  pairing_named : (u : plain.Pairing) (f g : Item) → NamedItem f → NamedItem g → NamedRow (row_of_pairing u x f g)
+  pairing_named : (u : Pairing) (f g : Item) → NamedItem f → NamedItem g → NamedRow (row_of_pairing u x f g)
   pairing_named u f g p q = by_pairing u
     where
       waits : NamedRow (unless_put_off x f g)
@@ -124,10 +130,10 @@ module _ (x : Item) (named : NamedItem x) where
       goes_on : NamedRow (until_released x f g)
       goes_on = (two g f q p, two g (put_off x) q named)
 
-      by_pairing : (u : plain.Pairing) → NamedRow (row_of_pairing u x f g)
-      by_pairing plain.Until = either_row x.positive (unless_put_off x f g) (until_released x f g) waits goes_on
-      by_pairing plain.Weak = either_row x.positive (unless_put_off x f g) (until_released x f g) waits goes_on
-      by_pairing plain.Release = either_row x.positive (until_released x f g) (unless_put_off x f g) goes_on waits
+      by_pairing : (u : Pairing) → NamedRow (row_of_pairing u x f g)
+      by_pairing pairing.Until = either_row x.positive (unless_put_off x f g) (until_released x f g) waits goes_on
+      by_pairing pairing.Weak = either_row x.positive (unless_put_off x f g) (until_released x f g) waits goes_on
+      by_pairing pairing.Release = either_row x.positive (until_released x f g) (unless_put_off x f g) goes_on waits
 
   row_named : (f : Formula) → NamesOf f → NamedRow (row_at x f)
   row_named (plain.Const b) p = tt
@@ -143,9 +149,9 @@ module _ (x : Item) (named : NamedItem x) where
       pairing_named u (now l f x.positive) (now (l + occurrences f) g x.positive) p.0 p.1
 
   operand_named : (f : Formula) → NamesOf f → NamedItem (operand_of x f)
-  operand_named (plain.Temporal plain.Next f) p = p
-  operand_named (plain.Temporal plain.Finally f) p = named
-  operand_named (plain.Temporal plain.Globally f) p = named
+  operand_named (plain.Temporal tense.Next f) p = p
+  operand_named (plain.Temporal tense.Finally f) p = named
+  operand_named (plain.Temporal tense.Globally f) p = named
   operand_named (plain.Const b) p = named
   operand_named (plain.Prop w) p = named
   operand_named (plain.Not f) p = named
@@ -253,12 +259,12 @@ module _ (b : Block) (named : NamedItems b.items) where
 pub start_named : (x : Item) (positive : Bool) → NamedItem x → NamedPlace (block_of x positive)
 start_named x positive named = one x named
 
-quantifier_named : (q : plain.Quantifier) (i : ℕ) (f : Formula) (sign : Bool)
+quantifier_named : (q : Quantifier) (i : ℕ) (f : Formula) (sign : Bool)
     → NamesOf f
     → NamedForm (place.form_of_quantifier q i f sign)
-quantifier_named plain.Exists i f sign named =
+quantifier_named quantifier.Exists i f sign named =
     let p = start_named (now (i + 1) f true) sign named in (p, p)
-quantifier_named plain.Forall i f sign named =
+quantifier_named quantifier.Forall i f sign named =
     let p = start_named (now (i + 1) f false) (not sign) named in (p, p)
 
 formula_named : (i : ℕ) (f : Formula) (sign : Bool) → NamesOf f → NamedForm (form_of_formula i f sign)

@@ -6,7 +6,13 @@ use Rattle.std.specs.List.{list_all}
 use Rattle.std.proofs.lemmas.Bool.{and_parts, or_left}
 use Rattle.ml_ctl.specs.Canonical.{between, canonical_text, pairing_letter, quantifier_letter, tense_letter}
 use Rattle.ml_ctl.specs.Formula as plain
-use Rattle.ml_ctl.specs.Formula.{Formula, Pairing, Quantifier, Tense, Until, Release, Weak, Exists, Forall, Next, Finally, Globally}
+use Rattle.ml_ctl.specs.Formula.{Formula}
+use Rattle.ml_ctl.specs.declared.term.Tense.{Tense}
+use Rattle.ml_ctl.specs.declared.term.Tense.TheVariants.{Next, Finally, Globally}
+use Rattle.ml_ctl.specs.declared.term.Pairing.{Pairing}
+use Rattle.ml_ctl.specs.declared.term.Pairing.TheVariants.{Until, Release, Weak}
+use Rattle.ml_ctl.specs.declared.term.Quantifier.{Quantifier}
+use Rattle.ml_ctl.specs.declared.term.Quantifier.TheVariants.{Exists, Forall}
 use Rattle.ml_ctl.specs.Spelling.{is_reserved, is_spelled}
 use Rattle.ml_lines.proofs.LineFronts.{IsInLine}
 use Rattle.ml_text.specs.Bytes.{is_lower, is_upper, is_word_byte}

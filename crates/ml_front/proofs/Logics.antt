@@ -18,6 +18,7 @@ use Rattle.ml_lines.proofs.LineFronts.{IsInLine}
 use Rattle.ml_lists.proofs.Decided.{Decided}
 use Rattle.ml_text.specs.Answers.{HaveOneAnswer}
 use Rattle.ml_ctl.specs.Formula as ctl_formula
+use Rattle.ml_ctl.specs.declared.language.Language.TheVariants as language
 use Rattle.ml_ctl.proofs.CanonicalParsed as ctl_canonical
 use Rattle.ml_ctl.proofs.OneAnswer as ctl_answer
 use Rattle.ml_ctl.proofs.Parsed as ctl_parsed
@@ -87,8 +88,8 @@ one_logic l k same = sym (logic_read l) ∙ ap some_logic same ∙ logic_read k
 answers : (l : Logic) → HaveOneAnswer (λ text (e : PlainOf l). IsParsedAs text (any l e)) (IsRefusedBy l)
 answers logic.Mu = mu_answer.one_answer
 answers logic.Pdl = pdl_answer.one_answer
-answers logic.Ctl = ctl_answer.one_answer ctl_formula.Ctl
-answers logic.Ltl = ctl_answer.one_answer ctl_formula.Ltl
+answers logic.Ctl = ctl_answer.one_answer language.Ctl
+answers logic.Ltl = ctl_answer.one_answer language.Ltl
 
 pub formula_once : (text : List ℕ) (f g : AnyFormula)
     → logic_of f ≡ logic_of g
@@ -141,11 +142,11 @@ text_in_line (Ltl f) well = ctl_lines.canonical_in_line f well.names_are_spelled
 pub text_parsed : (f : AnyFormula) → IsWellFormed f → IsParsedAs (canonical_text f) f
 text_parsed (Mu f) well = mu_canonical.canonical_parsed f well
 text_parsed (Pdl f) well = pdl_canonical.canonical_parsed f well
-text_parsed (Ctl f) well = ctl_canonical.canonical_parsed ctl_formula.Ctl f well
-text_parsed (Ltl f) well = ctl_canonical.canonical_parsed ctl_formula.Ltl f well
+text_parsed (Ctl f) well = ctl_canonical.canonical_parsed language.Ctl f well
+text_parsed (Ltl f) well = ctl_canonical.canonical_parsed language.Ltl f well
 
 pub parsed_well : (text : List ℕ) (f : AnyFormula) → IsParsedAs text f → IsWellFormed f
 parsed_well text (Mu f) parsed = mu_parsed.parsed_well text f parsed
 parsed_well text (Pdl f) parsed = pdl_parsed.parsed_well text f parsed
-parsed_well text (Ctl f) parsed = ctl_parsed.parsed_well ctl_formula.Ctl text f parsed
-parsed_well text (Ltl f) parsed = ctl_parsed.parsed_well ctl_formula.Ltl text f parsed
+parsed_well text (Ctl f) parsed = ctl_parsed.parsed_well language.Ctl text f parsed
+parsed_well text (Ltl f) parsed = ctl_parsed.parsed_well language.Ltl text f parsed

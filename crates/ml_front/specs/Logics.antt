@@ -16,6 +16,7 @@ use Rattle.ml_base.specs.declared.parse_refusal.ParseRefusal.{ParseRefusal}
 use Rattle.ml_lines.specs.Lines.{Word}
 use Rattle.ml_ctl.specs.Canonical as ctl_canonical
 use Rattle.ml_ctl.specs.Formula as ctl_formula
+use Rattle.ml_ctl.specs.declared.language.Language.TheVariants as language
 use Rattle.ml_ctl.specs.Parsing as ctl_parsing
 use Rattle.ml_ctl.specs.WellFormed as ctl_formulas
 use Rattle.ml_ltl.specs.Parsing as ltl_parsing
@@ -55,13 +56,13 @@ some_logic word = unwrap_or (logic_named word) logic.Mu
 abbrev pub IsParsedAs : List ℕ → AnyFormula → Type 0
 IsParsedAs text (Mu f) = mu_parsing.IsParsedAs text f
 IsParsedAs text (Pdl f) = pdl_parsing.IsParsedAs text f
-IsParsedAs text (Ctl f) = ctl_parsing.IsParsedAs ctl_formula.Ctl text f
+IsParsedAs text (Ctl f) = ctl_parsing.IsParsedAs language.Ctl text f
 IsParsedAs text (Ltl f) = ltl_parsing.IsParsedAs text f
 
 abbrev pub IsRefusedBy : Logic → List ℕ → ParseRefusal → Type 0
 IsRefusedBy logic.Mu text e = mu_parsing.IsRefusedBy text e
 IsRefusedBy logic.Pdl text e = pdl_parsing.IsRefusedBy text e
-IsRefusedBy logic.Ctl text e = ctl_parsing.IsRefusedBy ctl_formula.Ctl text e
+IsRefusedBy logic.Ctl text e = ctl_parsing.IsRefusedBy language.Ctl text e
 IsRefusedBy logic.Ltl text e = ltl_parsing.IsRefusedBy text e
 
 abbrev pub canonical_text : AnyFormula → List ℕ
@@ -73,5 +74,5 @@ canonical_text (Ltl f) = ctl_canonical.canonical_text f
 abbrev pub IsWellFormed : AnyFormula → Type 0
 IsWellFormed (Mu f) = mu_formulas.IsWellFormed f
 IsWellFormed (Pdl f) = pdl_formulas.IsWellFormed f
-IsWellFormed (Ctl f) = ctl_formulas.IsWellFormed ctl_formula.Ctl f
-IsWellFormed (Ltl f) = ctl_formulas.IsWellFormed ctl_formula.Ltl f
+IsWellFormed (Ctl f) = ctl_formulas.IsWellFormed language.Ctl f
+IsWellFormed (Ltl f) = ctl_formulas.IsWellFormed language.Ltl f

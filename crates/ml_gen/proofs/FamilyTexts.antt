@@ -18,6 +18,7 @@ use Rattle.ml_pdl.specs.Formula as pdl
 use Rattle.ml_pdl.specs.Parsing as pdl_parsing
 use Rattle.ml_pdl.proofs.OneAnswer as pdl_answer
 use Rattle.ml_ctl.specs.Formula as ltl
+use Rattle.ml_ctl.specs.declared.language.Language.TheVariants as language
 use Rattle.ml_ctl.proofs.OneAnswer as ctl_answer
 use Rattle.ml_ltl.specs.Parsing as ltl_parsing
 use Rattle.ml_gen.specs.Families.{greatest, is_in_range, part}
@@ -207,5 +208,5 @@ parsed_as_one And n is = λ f parsed. mu_answer.one_answer.parsed _ f (and_formu
 parsed_as_one Or n is = λ f parsed. mu_answer.one_answer.parsed _ f (or_formula n) parsed (are_parsed Or n is)
 parsed_as_one Step n is = λ f parsed. pdl_answer.one_answer.parsed _ f (step_formula n) parsed (are_parsed Step n is)
 parsed_as_one Fair n is =
-    λ f parsed. (ctl_answer.one_answer ltl.Ltl).parsed _ f (fair_formula n) parsed (are_parsed Fair n is)
+    λ f parsed. (ctl_answer.one_answer language.Ltl).parsed _ f (fair_formula n) parsed (are_parsed Fair n is)
 parsed_as_one Loop n is = λ f parsed. pdl_answer.one_answer.parsed _ f (loop_formula n) parsed (are_parsed Loop n is)

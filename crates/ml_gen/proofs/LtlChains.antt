@@ -16,9 +16,11 @@ use Rattle.ml_text.proofs.Pieces.{lone, lone_piece, and_piece}
 use Rattle.ml_text.proofs.Scans.{Spelt, spelt_at, Scans, ends, scans_tokens}
 use Rattle.ml_text.proofs.TableItems.{IsShort, signs_spelt}
 use Rattle.ml_ctl.specs.Canonical.{canonical_text}
-use Rattle.ml_ctl.specs.Formula.{Formula, Ltl, Binary, occurrences}
+use Rattle.ml_ctl.specs.Formula.{Formula, Binary, occurrences}
+use Rattle.ml_ctl.specs.declared.language.Language.TheVariants.{Ltl}
 use Rattle.ml_ctl.specs.Grammar as grammar
-use Rattle.ml_ctl.specs.Grammar.{IsReadAs, Path, Reads, iff_alone, imp_alone, or_alone, and, pair_alone, group}
+use Rattle.ml_ctl.specs.Grammar.{IsReadAs, Reads, iff_alone, imp_alone, or_alone, and, pair_alone, group}
+use Rattle.ml_ctl.specs.declared.language.Sort.TheVariants.{Path}
 use Rattle.ml_ctl.specs.Signs.{Sign}
 use Rattle.ml_ctl.specs.Spelling.{HasShortNames, is_spelled}
 use Rattle.ml_ctl.specs.Text.{bracket_of, ctl_signs, items}

@@ -12,6 +12,7 @@ use Rattle.std.specs.Prelude.{ℕ, zero, suc, ◌≡◌, ◌+◌, ◌-◌, ◌*�
 use Rattle.ml_lines.specs.Lines.{number}
 use Rattle.ml_text.specs.declared.token.Operator.TheVariants as operator
 use Rattle.ml_ctl.specs.Formula as ctl
+use Rattle.ml_ctl.specs.declared.term.Tense.TheVariants as tense
 use Rattle.ml_mu.specs.Formula as mu
 use Rattle.ml_pdl.specs.Formula as pdl
 use Rattle.ml_gen.specs.declared.family.Family.{Family}
@@ -35,7 +36,7 @@ abbrev pub or_part : ℕ → mu.Formula
 or_part i = mu.Binary operator.Or (mu.Prop (numbered (codes "p") i)) (mu.Prop (numbered (codes "q") i))
 
 abbrev pub fair_part : ℕ → ctl.Formula
-fair_part i = ctl.Temporal ctl.Globally (ctl.Temporal ctl.Finally (ctl.Prop (numbered (codes "p") i)))
+fair_part i = ctl.Temporal tense.Globally (ctl.Temporal tense.Finally (ctl.Prop (numbered (codes "p") i)))
 
 abbrev pub and_formula : ℕ → mu.Formula
 and_formula n = joined (mu.Binary operator.And) and_part n

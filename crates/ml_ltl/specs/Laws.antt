@@ -7,7 +7,9 @@
 use Rattle.std.specs.Prelude.{ℕ, ◌↔◌, true, false, List}
 use Rattle.ml_base.specs.Structure.{Structure}
 use Rattle.ml_ctl.specs.Canonical.{canonical_text}
-use Rattle.ml_ctl.specs.Formula.{Formula, Not, Quantified, Exists, Ltl}
+use Rattle.ml_ctl.specs.Formula.{Formula, Not, Quantified}
+use Rattle.ml_ctl.specs.declared.term.Quantifier.TheVariants.{Exists}
+use Rattle.ml_ctl.specs.declared.language.Language.TheVariants.{Ltl}
 use Rattle.ml_ctl.specs.Problem as ctl
 use Rattle.ml_ctl.specs.WellFormed.{IsWellFormed}
 use Rattle.ml_ltl.specs.Parsing.{IsParsedAs}

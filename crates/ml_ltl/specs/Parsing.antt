@@ -7,7 +7,8 @@
 --   IsRefusedBy text e  == the text is refused with this answer
 use Rattle.std.specs.Prelude.{ℕ, List}
 use Rattle.ml_base.specs.declared.parse_refusal.ParseRefusal.{ParseRefusal}
-use Rattle.ml_ctl.specs.Formula.{Formula, Ltl}
+use Rattle.ml_ctl.specs.Formula.{Formula}
+use Rattle.ml_ctl.specs.declared.language.Language.TheVariants.{Ltl}
 use Rattle.ml_ctl.specs.Parsing as logic
 use Rattle.ml_ctl.specs.Text as texts
 

@@ -22,18 +22,19 @@ impl Model for Formula {
 
     ghost view = { λ f. formula_of f.root };
 
-    ghost invariant = { λ f. IsWellFormed plain.Ltl (formula_of f.root) };
+    ghost invariant = { λ f. IsWellFormed language.Ltl (formula_of f.root) };
 }
 
 impl Formula {
     ghost use Rattle.std.specs.Prelude.{◌≡◌};
     ghost use Rattle.ml_ctl.specs.Formula as plain;
+    ghost use Rattle.ml_ctl.specs.declared.language.Language.TheVariants as language;
     ghost use Rattle.ml_ctl.specs.Term.{formula_of};
     ghost use Rattle.ml_ctl.specs.WellFormed.{IsWellFormed};
 
     /// The formula with this tree.
     pub(crate) fn new(root: Term) -> Formula
-        requires { IsWellFormed plain.Ltl (formula_of root) }
+        requires { IsWellFormed language.Ltl (formula_of root) }
         ensures { result ≡ formula_of root }
     {
         Formula { root }
@@ -42,7 +43,7 @@ impl Formula {
     /// The tree of the formula.
     pub fn root(&self) -> &Term
         ensures tree { formula_of result.now ≡ self.now }
-        ensures well_formed { IsWellFormed plain.Ltl self.now }
+        ensures well_formed { IsWellFormed language.Ltl self.now }
     {
         &self.root
     }

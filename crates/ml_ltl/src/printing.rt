@@ -2,6 +2,7 @@
 ghost use Rattle.std.specs.Prelude.{◌≡◌, ◌++◌, IfOk, OnOk, OnErr};
 ghost use Rattle.ml_ctl.specs.Canonical.{canonical_text};
 ghost use Rattle.ml_ctl.specs.Formula as plain;
+ghost use Rattle.ml_ctl.specs.declared.language.Language.TheVariants as language;
 ghost use Rattle.ml_ctl.specs.WellFormed.{IsWellFormed};
 ghost use Rattle.ml_ltl.specs.Parsing.{IsParsedAs};
 
@@ -33,7 +34,7 @@ pub fn print(alloc: Global, formula: &Formula) -> Result<Vec<u8>, NoMemory>
 /// Cost: linear in the text, over many calls.
 pub fn append_text(out: &mut Vec<u8>, formula: &Formula) -> Result<(), NoMemory>
     ensures text { OnOk result (out.new.items ≡ out.old.items ++ canonical_text formula.now) }
-    ensures well_formed { IsWellFormed plain.Ltl formula.now }
+    ensures well_formed { IsWellFormed language.Ltl formula.now }
     ensures kept { OnErr result (out.new.items ≡ out.old.items) }
 {
     append_term(out, formula.root())

@@ -23,10 +23,11 @@ use Rattle.ml_blocks.specs.declared.rows.Row.TheVariants as row
 use Rattle.ml_blocks.specs.declared.table.Occurrence.{Occurrence}
 use Rattle.ml_blocks.specs.declared.table.Symbol.{Symbol}
 use Rattle.ml_blocks.specs.declared.table.Symbol.TheVariants as symbol
-use Rattle.ml_blocks.specs.declared.table.Tense.{Tense}
-use Rattle.ml_blocks.specs.declared.table.Tense.TheVariants as tense
-use Rattle.ml_blocks.specs.declared.table.Pairing.{Pairing}
-use Rattle.ml_blocks.specs.declared.table.Pairing.TheVariants as pairing
+use Rattle.ml_ctl.specs.declared.term.Tense.{Tense}
+use Rattle.ml_ctl.specs.declared.term.Tense.TheVariants as tense
+use Rattle.ml_ctl.specs.declared.term.Pairing.{Pairing}
+use Rattle.ml_ctl.specs.declared.term.Pairing.TheVariants as pairing
+use Rattle.ml_ctl.specs.declared.term.Quantifier.TheVariants as quantifier
 use Rattle.ml_blocks.specs.declared.spots.Block.{Block}
 use Rattle.ml_blocks.specs.declared.spots.Fixed.{Fixed}
 use Rattle.ml_blocks.specs.declared.spots.Fixed.TheVariants as fixed
@@ -79,8 +80,7 @@ pairing_row pairing.Release x f g = if x.positive then release_row x f g else un
 abbrev pub symbol_row : Symbol → (l r : ℕ) → Asked → Row
 symbol_row (symbol.Const b) l r x = row.OfState
 symbol_row (symbol.Prop p) l r x = row.OfState
-symbol_row symbol.Exists l r x = row.OfState
-symbol_row symbol.Forall l r x = row.OfState
+symbol_row (symbol.Quantified q) l r x = row.OfState
 symbol_row symbol.Not l r x = row.Becomes (few.One (now_at l (not x.positive)))
 symbol_row (symbol.Binary op) l r x = connective_row op x.positive l r
 symbol_row (symbol.Temporal t) l r x = tense_row t x (now_at l x.positive)
@@ -91,15 +91,7 @@ row_in o x = symbol_row o.symbol o.left o.right x
 
 abbrev pub is_next : Symbol → Bool
 is_next (symbol.Temporal tense.Next) = true
-is_next (symbol.Temporal tense.Finally) = false
-is_next (symbol.Temporal tense.Globally) = false
-is_next (symbol.Const b) = false
-is_next (symbol.Prop p) = false
-is_next symbol.Exists = false
-is_next symbol.Forall = false
-is_next symbol.Not = false
-is_next (symbol.Binary op) = false
-is_next (symbol.Paired p) = false
+is_next _ = false
 
 abbrev pub is_open_in : List Occurrence → Asked → Bool
 is_open_in os x = not x.later && not (is_next (entry_at os x.number).symbol)
@@ -178,8 +170,8 @@ symbol_form (symbol.Const b) sign n l r = form.Constant (beq b sign)
 symbol_form (symbol.Prop p) sign n l r = form.Literal p sign
 symbol_form symbol.Not sign n l r = form.Twice true (whole l (not sign))
 symbol_form (symbol.Binary op) sign n l r = connective_form op sign n l r
-symbol_form symbol.Exists sign n l r = form.Twice true (block_at (now_at l true) sign)
-symbol_form symbol.Forall sign n l r = form.Twice true (block_at (now_at l false) (not sign))
+symbol_form (symbol.Quantified quantifier.Exists) sign n l r = form.Twice true (block_at (now_at l true) sign)
+symbol_form (symbol.Quantified quantifier.Forall) sign n l r = form.Twice true (block_at (now_at l false) (not sign))
 symbol_form (symbol.Temporal t) sign n l r = form.Constant false
 symbol_form (symbol.Paired p) sign n l r = form.Constant false
 

@@ -16,18 +16,20 @@ use Rattle.ml_text.specs.Operators.{weight}
 use Rattle.ml_text.specs.NameLists.{place_of}
 use Rattle.ml_ctl.specs.Formula as plain
 use Rattle.ml_ctl.specs.Formula.{Formula, Const, Prop, Not, Binary, Temporal, Paired, Quantified, occurrences}
+use Rattle.ml_ctl.specs.declared.term.Tense.{Tense}
+use Rattle.ml_ctl.specs.declared.term.Tense.TheVariants as tense
+use Rattle.ml_ctl.specs.declared.term.Pairing.{Pairing}
+use Rattle.ml_ctl.specs.declared.term.Pairing.TheVariants as pairing
+use Rattle.ml_ctl.specs.declared.term.Quantifier.{Quantifier}
+use Rattle.ml_ctl.specs.declared.term.Quantifier.TheVariants as quantifier
 use Rattle.ml_blocks.specs.declared.table.Occurrence.{Occurrence}
 use Rattle.ml_blocks.specs.declared.table.Symbol.{Symbol}
 use Rattle.ml_blocks.specs.declared.table.Symbol.TheVariants as symbol
-use Rattle.ml_blocks.specs.declared.table.Tense.{Tense}
-use Rattle.ml_blocks.specs.declared.table.Tense.TheVariants as tense
-use Rattle.ml_blocks.specs.declared.table.Pairing.{Pairing}
-use Rattle.ml_blocks.specs.declared.table.Pairing.TheVariants as pairing
 
 -- the sign of the item that a quantifier's block begins with
-abbrev pub sign_of : plain.Quantifier → Bool
-sign_of plain.Exists = true
-sign_of plain.Forall = false
+abbrev pub sign_of : Quantifier → Bool
+sign_of quantifier.Exists = true
+sign_of quantifier.Forall = false
 
 module _ {X : Type 0} (here : ℕ → Formula → Option Bool → X) where
   -- behind the first number of a connective
@@ -54,20 +56,6 @@ module _ {X : Type 0} (here : ℕ → Formula → Option Bool → X) where
 abbrev pub formula_here : ℕ → Formula → Option Bool → Formula
 formula_here i f o = f
 
-abbrev pub tense_in : plain.Tense → Tense
-tense_in plain.Next = tense.Next
-tense_in plain.Finally = tense.Finally
-tense_in plain.Globally = tense.Globally
-
-abbrev pub pairing_in : plain.Pairing → Pairing
-pairing_in plain.Until = pairing.Until
-pairing_in plain.Release = pairing.Release
-pairing_in plain.Weak = pairing.Weak
-
-abbrev pub quantifier_in : plain.Quantifier → Symbol
-quantifier_in plain.Exists = symbol.Exists
-quantifier_in plain.Forall = symbol.Forall
-
 abbrev pub entry : Symbol → (left right : ℕ) → Occurrence
 entry s l r = record { symbol = s; left = l; right = r }
 
@@ -76,9 +64,9 @@ occurrence_here names i (Const b) o = entry (symbol.Const b) 0 0
 occurrence_here names i (Prop p) o = entry (symbol.Prop (place_of names p)) 0 0
 occurrence_here names i (Not f) o = entry symbol.Not (i + 1) 0
 occurrence_here names i (Binary op f g) o = entry (symbol.Binary op) (i + weight op) (i + weight op + occurrences f)
-occurrence_here names i (Temporal t f) o = entry (symbol.Temporal (tense_in t)) (i + 1) 0
-occurrence_here names i (Paired p f g) o = entry (symbol.Paired (pairing_in p)) (i + 1) (i + 1 + occurrences f)
-occurrence_here names i (Quantified q f) o = entry (quantifier_in q) (i + 1) 0
+occurrence_here names i (Temporal t f) o = entry (symbol.Temporal t) (i + 1) 0
+occurrence_here names i (Paired p f g) o = entry (symbol.Paired p) (i + 1) (i + 1 + occurrences f)
+occurrence_here names i (Quantified q f) o = entry (symbol.Quantified q) (i + 1) 0
 
 -- past the last one a constant
 abbrev pub entry_at : List Occurrence → ℕ → Occurrence
@@ -90,15 +78,15 @@ abbrev pub key_if : Bool → ℕ → List ℕ
 key_if b k = if b then k ∷ [] else []
 
 -- asked to be true its key is 4 i, and asked to be false 4 i + 2
-abbrev pub own_tense : plain.Tense → ℕ → (plus minus : Bool) → List ℕ
-own_tense plain.Next i plus minus = []
-own_tense plain.Finally i plus minus = key_if plus (4 * i)
-own_tense plain.Globally i plus minus = key_if minus (4 * i + 2)
+abbrev pub own_tense : Tense → ℕ → (plus minus : Bool) → List ℕ
+own_tense tense.Next i plus minus = []
+own_tense tense.Finally i plus minus = key_if plus (4 * i)
+own_tense tense.Globally i plus minus = key_if minus (4 * i + 2)
 
-abbrev pub own_pairing : plain.Pairing → ℕ → (plus minus : Bool) → List ℕ
-own_pairing plain.Until i plus minus = key_if plus (4 * i)
-own_pairing plain.Release i plus minus = key_if minus (4 * i + 2)
-own_pairing plain.Weak i plus minus = key_if minus (4 * i + 2)
+abbrev pub own_pairing : Pairing → ℕ → (plus minus : Bool) → List ℕ
+own_pairing pairing.Until i plus minus = key_if plus (4 * i)
+own_pairing pairing.Release i plus minus = key_if minus (4 * i + 2)
+own_pairing pairing.Weak i plus minus = key_if minus (4 * i + 2)
 
 abbrev pub wanted : ℕ → Formula → (plus minus : Bool) → List ℕ
 wanted i (Const b) plus minus = []

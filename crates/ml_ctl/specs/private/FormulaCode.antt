@@ -9,7 +9,13 @@ use Rattle.std.proofs.Common.{ap}
 use Rattle.ml_text.specs.declared.token.Operator.{Operator}
 use Rattle.ml_text.specs.declared.token.Operator.TheVariants.{Iff, Implies, Or, And}
 use Rattle.ml_text.specs.private.Codes.{Symbol, Reads, led, one_tree, read_symbols, symbols_code, top, two_trees, with_one, with_two}
-use Rattle.ml_ctl.specs.Formula.{Formula, Const, Prop, Not, Binary, Temporal, Paired, Quantified, Tense, Next, Finally, Globally, Pairing, Until, Release, Weak, Quantifier, Exists, Forall}
+use Rattle.ml_ctl.specs.Formula.{Formula, Const, Prop, Not, Binary, Temporal, Paired, Quantified}
+use Rattle.ml_ctl.specs.declared.term.Tense.{Tense}
+use Rattle.ml_ctl.specs.declared.term.Tense.TheVariants.{Next, Finally, Globally}
+use Rattle.ml_ctl.specs.declared.term.Pairing.{Pairing}
+use Rattle.ml_ctl.specs.declared.term.Pairing.TheVariants.{Until, Release, Weak}
+use Rattle.ml_ctl.specs.declared.term.Quantifier.{Quantifier}
+use Rattle.ml_ctl.specs.declared.term.Quantifier.TheVariants.{Exists, Forall}
 
 abbrev pub operator_kind : Operator → ℕ
 operator_kind And = 4

@@ -3,28 +3,28 @@
 --   ctl_tables w  == the grammar and the signs of a logic, and what the values of the program stand for
 use Rattle.std.specs.Prelude.{ℕ, List}
 use Rattle.ml_text.specs.private.Tables.{Tables}
-use Rattle.ml_ctl.specs.Formula.{Logic}
+use Rattle.ml_ctl.specs.declared.language.Language.{Language}
 use Rattle.ml_ctl.specs.Signs.{HasShortName}
 use Rattle.ml_ctl.specs.Term.{formula_of}
 use Rattle.ml_ctl.specs.Text.{ctl_signs}
-use Rattle.ml_ctl.specs.private.FormViews.{sort_view, wait_view, hold_view}
+use Rattle.ml_ctl.specs.private.FormViews.{wait_view}
 use Rattle.ml_ctl.specs.private.SignViews.{named, sign_view}
 use Rattle.ml_ctl.specs.private.Tables.{ctl_grammar}
-use Rattle.ml_ctl.specs.declared.forms.Sort.{Sort}
+use Rattle.ml_ctl.specs.declared.language.Sort.{Sort}
 use Rattle.ml_ctl.specs.declared.forms.Wait.{Wait}
 use Rattle.ml_ctl.specs.declared.forms.Hold.{Hold}
 use Rattle.ml_ctl.specs.declared.signs.SignOver.{SignOver}
 use Rattle.ml_ctl.specs.declared.term.Term.{Term}
 
-abbrev pub ctl_tables : Logic → Tables (SignOver (Unit {0})) (Unit {0}) Sort (SignOver (List ℕ)) Term Wait Hold
+abbrev pub ctl_tables : Language → Tables (SignOver (Unit {0})) (Unit {0}) Sort (SignOver (List ℕ)) Term Wait Hold
 ctl_tables w = record {
   grammar = ctl_grammar w;
   signs = ctl_signs;
   named = named;
   CanName = λ kind word. HasShortName (named kind word);
-  sort = sort_view;
+  sort = λ s. s;
   sign = sign_view;
   tree = formula_of;
   wait = wait_view;
-  hold = hold_view;
+  hold = λ k. k;
 }

@@ -13,8 +13,16 @@ use Rattle.ml_text.specs.Grammar.{Grammar, Mode, Whole, More, Turn, Read, Inner}
 use Rattle.ml_text.specs.declared.forms.Role.{Role}
 use Rattle.ml_text.specs.declared.forms.Role.TheVariants.{Infix, Outside}
 use Rattle.ml_ctl.specs.Formula as plain
-use Rattle.ml_ctl.specs.Formula.{Formula, Logic, Ctl, Ltl, Tense, Quantifier}
-use Rattle.ml_ctl.specs.Grammar.{Sort, State, Path, sort_of}
+use Rattle.ml_ctl.specs.Formula.{Formula}
+use Rattle.ml_ctl.specs.declared.term.Tense.{Tense}
+use Rattle.ml_ctl.specs.declared.term.Quantifier.{Quantifier}
+use Rattle.ml_ctl.specs.declared.language.Language.{Language}
+use Rattle.ml_ctl.specs.declared.language.Language.TheVariants.{Ctl, Ltl}
+use Rattle.ml_ctl.specs.Grammar.{sort_of}
+use Rattle.ml_ctl.specs.declared.language.Sort.{Sort}
+use Rattle.ml_ctl.specs.declared.language.Sort.TheVariants.{State, Path}
+use Rattle.ml_ctl.specs.declared.forms.Hold.{Hold}
+use Rattle.ml_ctl.specs.declared.forms.Hold.TheVariants.{Negation, Tensing, Quantifying, Group}
 use Rattle.ml_ctl.specs.Signs.{Sign, Not, Connective, Const, Open, Close, Tensed, Pairs, Quantifies, Lower}
 
 pub data Wait : Type 0 where
@@ -22,12 +30,6 @@ pub data Wait : Type 0 where
   Start : Sort → Wait
   -- behind what stands between parentheses
   BehindInside : Formula → Wait
-
-pub data Hold : Type 0 where
-  Negation : Sort → Hold
-  Tensing : Tense → Hold
-  Quantifying : Quantifier → Hold
-  Group : Sort → Hold
 
 abbrev pub CtlTurn : Type 0
 CtlTurn = Turn Formula Wait Hold
@@ -38,11 +40,11 @@ shift_tense State t = None
 shift_tense Path t = Some (Inner (Tensing t))
 
 -- E and A begin formulas of CTL* alone
-abbrev pub shift_quantifier : Logic → Quantifier → Option CtlTurn
+abbrev pub shift_quantifier : Language → Quantifier → Option CtlTurn
 shift_quantifier Ctl q = Some (Inner (Quantifying q))
 shift_quantifier Ltl q = None
 
-abbrev pub shift_start : Logic → Sort → Sign → Option CtlTurn
+abbrev pub shift_start : Language → Sort → Sign → Option CtlTurn
 shift_start w s Not = Some (Inner (Negation s))
 shift_start w s (Const b) = Some (Read (Whole (plain.Const b)))
 shift_start w s (Lower p) = Some (Read (Whole (plain.Prop p)))
@@ -55,7 +57,7 @@ abbrev pub shift_inside : Formula → Sign → Option CtlTurn
 shift_inside f Close = Some (Read (Whole f))
 shift_inside f _ = None
 
-abbrev pub shift : Logic → Wait → Sign → Option CtlTurn
+abbrev pub shift : Language → Wait → Sign → Option CtlTurn
 shift w (Start s) t = shift_start w s t
 shift w (BehindInside f) t = shift_inside f t
 
@@ -94,7 +96,7 @@ join (Connective o) f g = plain.Binary o f g
 join (Pairs p) f g = plain.Paired p f g
 join _ f g = f
 
-abbrev pub ctl_grammar : Logic → Grammar
+abbrev pub ctl_grammar : Language → Grammar
 ctl_grammar w = record {
   Sign = Sign;
   Tree = Formula;

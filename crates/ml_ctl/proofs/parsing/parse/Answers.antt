@@ -1,5 +1,5 @@
 use Rattle.std.proofs.Common.{rules, sym, subst}
-use Rattle.ml_ctl.specs.Formula.{Ctl}
+use Rattle.ml_ctl.specs.declared.language.Language.TheVariants.{Ctl}
 use Rattle.ml_ctl.specs.Parsing.{IsParsedAs}
 use Rattle.ml_ctl.specs.Term.{formula_of}
 use Rattle.ml_ctl.proofs.Parsed.{refused_first, found_parsed, found_well}

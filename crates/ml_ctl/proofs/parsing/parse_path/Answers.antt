@@ -1,5 +1,5 @@
 use Rattle.std.proofs.Common.{rules}
-use Rattle.ml_ctl.specs.Formula.{Ltl}
+use Rattle.ml_ctl.specs.declared.language.Language.TheVariants.{Ltl}
 use Rattle.ml_ctl.specs.Term.{formula_of}
 use Rattle.ml_ctl.proofs.Parsed.{refused_first, found_parsed}
 use Rattle.ml_ctl.proofs.parsing.parse_path.Goals as goal

@@ -1,6 +1,6 @@
 use Rattle.std.proofs.Common.{rules, ◌≡◌, sym, subst}
 use Rattle.ml_ctl.specs.Canonical.{canonical_text}
-use Rattle.ml_ctl.specs.Formula.{Ctl}
+use Rattle.ml_ctl.specs.declared.language.Language.TheVariants.{Ctl}
 use Rattle.ml_ctl.specs.Parsing.{IsParsedAs}
 use Rattle.ml_ctl.proofs.CanonicalParsed.{canonical_parsed}
 use Rattle.ml_ctl.proofs.printing.print.Goals as goal

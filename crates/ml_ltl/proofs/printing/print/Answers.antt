@@ -1,6 +1,6 @@
 use Rattle.std.proofs.Common.{rules, ◌≡◌, sym, subst}
 use Rattle.ml_ctl.specs.Canonical.{canonical_text}
-use Rattle.ml_ctl.specs.Formula.{Ltl}
+use Rattle.ml_ctl.specs.declared.language.Language.TheVariants.{Ltl}
 use Rattle.ml_ctl.proofs.CanonicalParsed.{canonical_parsed}
 use Rattle.ml_ltl.specs.Parsing.{IsParsedAs}
 use Rattle.ml_ltl.proofs.printing.print.Goals as goal
