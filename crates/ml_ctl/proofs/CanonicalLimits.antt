@@ -5,10 +5,10 @@
 use Rattle.std.proofs.Common.{◌≡◌, ℕ, ◌+◌, ◌≤◌, Bool, true, false, List, ◌∷◌, Option, Some, None, codes, refl, arith}
 use Rattle.std.specs.List.{AllByRecursion}
 use Rattle.ml_text.specs.declared.token.Token.TheVariants as token
-use Rattle.ml_text.specs.Words.{constant_of}
 use Rattle.ml_text.specs.Operators.{spelling_of}
+use Rattle.ml_text.proofs.NamedSigns.{closed_word}
 use Rattle.ml_text.proofs.Pieces.{lone}
-use Rattle.ml_text.proofs.TableItems.{IsShort, short_word, opening, opens_spelt, one_of}
+use Rattle.ml_text.proofs.TableItems.{IsShort, short_word, opening, opens_spelt}
 use Rattle.ml_text.proofs.Scans.{Spelt}
 use Rattle.ml_text.proofs.AcceptedTexts.{weight_some}
 use Rattle.ml_ctl.specs.Canonical.{tense_letter, pairing_letter, quantifier_letter}
@@ -20,9 +20,9 @@ use Rattle.ml_ctl.specs.declared.term.Pairing.{Pairing}
 use Rattle.ml_ctl.specs.declared.term.Pairing.TheVariants as pairing
 use Rattle.ml_ctl.specs.declared.term.Quantifier.{Quantifier}
 use Rattle.ml_ctl.specs.declared.term.Quantifier.TheVariants as quantifier
-use Rattle.ml_ctl.specs.Signs.{Sign, Lower, Unknown, word_sign, word_sign_by}
-use Rattle.ml_ctl.specs.Spelling.{HasShortNames, is_proposition}
-use Rattle.ml_ctl.specs.Text.{bracket_of}
+use Rattle.ml_text.specs.Signs.{bracket_of, word_sign}
+use Rattle.ml_ctl.specs.Signs.{own}
+use Rattle.ml_ctl.specs.Spelling.{HasShortNames}
 use Rattle.ml_ctl.proofs.CanonicalTexts.{tokens_onto, sign_spelt}
 
 -- ---- the tokens of a canonical text are short
@@ -52,36 +52,29 @@ tokens_short (plain.Quantified q f) short ss all = (refl, tokens_short f short s
 -- ---- parentheses
 
 abbrev pub opens_of : List Spelt → ℕ
-opens_of ss = opens_spelt (λ s. bracket_of (sign_spelt s)) ss
+opens_of ss = opens_spelt (λ s. bracket_of own (sign_spelt s)) ss
 
-abbrev IsClosed : Sign → Type 0
-IsClosed s = opening (bracket_of s) ≡ 0
+closed : (w : List ℕ) → opening (bracket_of own (word_sign own w)) ≡ 0
+closed w = closed_word own tt w
 
-closed_word_by : (o : Option Bool) (w : List ℕ) → opening (bracket_of (word_sign_by o w)) ≡ 0
-closed_word_by (Some b) w = refl
-closed_word_by None w = one_of IsClosed (is_proposition w) (Lower w) Unknown refl refl
-
-closed_word : (w : List ℕ) → opening (bracket_of (word_sign w)) ≡ 0
-closed_word w = closed_word_by (constant_of w) w
-
-closed_tense : (t : Tense) → opening (bracket_of (sign_spelt (lone (tense_letter t)))) ≡ 0
+closed_tense : (t : Tense) → opening (bracket_of own (sign_spelt (lone (tense_letter t)))) ≡ 0
 closed_tense tense.Next = refl
 closed_tense tense.Finally = refl
 closed_tense tense.Globally = refl
 
-closed_pairing : (p : Pairing) → opening (bracket_of (sign_spelt (lone (pairing_letter p)))) ≡ 0
+closed_pairing : (p : Pairing) → opening (bracket_of own (sign_spelt (lone (pairing_letter p)))) ≡ 0
 closed_pairing pairing.Until = refl
 closed_pairing pairing.Release = refl
 closed_pairing pairing.Weak = refl
 
-closed_quantifier : (q : Quantifier) → opening (bracket_of (sign_spelt (lone (quantifier_letter q)))) ≡ 0
+closed_quantifier : (q : Quantifier) → opening (bracket_of own (sign_spelt (lone (quantifier_letter q)))) ≡ 0
 closed_quantifier quantifier.Exists = refl
 closed_quantifier quantifier.Forall = refl
 
 pub few_open : (f : Formula) (ss : List Spelt) → opens_of (tokens_onto f ss) ≤ occurrences f + opens_of ss
-few_open (plain.Const true) ss = omega (arith, closed_word (codes "tt"))
-few_open (plain.Const false) ss = omega (arith, closed_word (codes "ff"))
-few_open (plain.Prop p) ss = omega (arith, closed_word p)
+few_open (plain.Const true) ss = omega (arith, closed (codes "tt"))
+few_open (plain.Const false) ss = omega (arith, closed (codes "ff"))
+few_open (plain.Prop p) ss = omega (arith, closed p)
 few_open (plain.Not f) ss = omega (arith, few_open f ss)
 few_open (plain.Binary o f g) ss =
     let left = few_open f ((token.Operator o, spelling_of o) ∷ tokens_onto g (lone 41 ∷ ss)) in

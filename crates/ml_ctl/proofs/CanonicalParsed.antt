@@ -6,11 +6,13 @@ use Rattle.std.proofs.Common.{[], refl, arith}
 use Rattle.ml_text.specs.declared.token.WordStart.TheVariants.{LowerCase}
 use Rattle.ml_text.specs.Tokens.{tokens}
 use Rattle.ml_text.specs.Refusals.{signs_of}
+use Rattle.ml_text.specs.Signs.{bracket_of}
 use Rattle.ml_text.proofs.AcceptedTexts.{accepted}
 use Rattle.ml_ctl.specs.Canonical.{canonical_text}
 use Rattle.ml_ctl.specs.Grammar.{IsReadAs}
 use Rattle.ml_ctl.specs.Parsing.{CanonicalIsParsed, CanonicalStandsForOne}
-use Rattle.ml_ctl.specs.Text.{bracket_of, ctl_signs, items}
+use Rattle.ml_ctl.specs.Signs.{own}
+use Rattle.ml_ctl.specs.Text.{ctl_signs, items}
 use Rattle.ml_ctl.proofs.CanonicalLimits.{few_open, tokens_short}
 use Rattle.ml_ctl.proofs.CanonicalTexts.{canonical_tokens, canonical_stands, sign_spelt, tokens_onto}
 use Rattle.ml_ctl.proofs.Counting.{counts, counted_items}
@@ -20,7 +22,7 @@ pub canonical_parsed : CanonicalIsParsed
 canonical_parsed w f well =
     let text = canonical_text f in
     let read = canonical_stands w f well.names_are_spelled well.is_of_logic in
-    accepted ctl_signs (IsReadAs w) text f (λ s. bracket_of (sign_spelt s)) (tokens_onto f []) (record {
+    accepted ctl_signs (IsReadAs w) text f (λ s. bracket_of own (sign_spelt s)) (tokens_onto f []) (record {
       tokens_are = canonical_tokens f well.names_are_spelled;
       brackets = λ p. refl;
       stands = read;

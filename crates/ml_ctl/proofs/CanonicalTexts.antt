@@ -17,6 +17,7 @@ use Rattle.ml_text.specs.Tokens.{tokens}
 use Rattle.ml_text.specs.Words.{constant_of, is_word_from}
 use Rattle.ml_text.specs.Refusals.{signs_of}
 use Rattle.ml_text.specs.Operators.{spelling_of}
+use Rattle.ml_text.proofs.NamedSigns.{proposition_sign}
 use Rattle.ml_text.proofs.Pieces.{lone, lone_piece, not_piece, operator_piece, between_same, ends_word, word_piece}
 use Rattle.ml_text.proofs.Scans.{Spelt, spelt_at, Scans, ends, blank, scans_tokens}
 use Rattle.ml_text.proofs.TableItems.{signs_spelt}
@@ -31,7 +32,10 @@ use Rattle.ml_ctl.specs.declared.term.Quantifier.TheVariants as quantifier
 use Rattle.ml_ctl.specs.declared.language.Language.{Language}
 use Rattle.ml_ctl.specs.declared.language.Language.TheVariants.{Ctl, Ltl}
 use Rattle.ml_ctl.specs.Canonical.{tense_letter, pairing_letter, quantifier_letter, between, canonical_text}
-use Rattle.ml_ctl.specs.Signs.{Sign, Connective, Const, Open, Close, Tensed, Pairs, Quantifies, sign_of, word_sign}
+use Rattle.ml_text.specs.Signs.{word_sign}
+use Rattle.ml_text.specs.declared.named_signs.Sign.TheVariants.{Connective, Const, Open, Close, Lower, Added}
+use Rattle.ml_ctl.specs.Signs.{Sign, own, sign_of}
+use Rattle.ml_ctl.specs.declared.signs.Own.TheVariants.{Tensed, Pairs, Quantifies}
 use Rattle.ml_ctl.specs.Spelling.{is_spelled, is_reserved}
 use Rattle.ml_ctl.specs.Grammar as grammar
 use Rattle.ml_ctl.specs.Grammar.{sort_of, Reads, iff_alone, iff, imp_alone, imp, or_alone, or, and_alone, and}
@@ -41,7 +45,6 @@ use Rattle.ml_ctl.specs.Grammar.{pair_alone, pair, negation, temporal, quantifie
 use Rattle.ml_ctl.specs.Text.{ctl_signs, items, IsTextOf}
 use Rattle.ml_ctl.proofs.GrammarTables.{un_raised}
 use Rattle.ml_ctl.proofs.Sorts.{fits, is_of_fits}
-use Rattle.ml_ctl.proofs.WordSigns.{proposition_sign}
 
 -- ---- the tokens of a canonical text
 
@@ -127,25 +130,25 @@ scans_formula (plain.Quantified q f) is rest ss stops r =
 abbrev pub sign_spelt : Spelt → Sign
 sign_spelt s = sign_of s.0 s.1
 
-true_sign : word_sign (codes "tt") ≡ Const true
+true_sign : word_sign own (codes "tt") ≡ Const true
 unfolding constant_of
 true_sign = refl
 
-false_sign : word_sign (codes "ff") ≡ Const false
+false_sign : word_sign own (codes "ff") ≡ Const false
 unfolding constant_of
 false_sign = refl
 
-pub tense_sign : (t : Tense) → sign_spelt (lone (tense_letter t)) ≡ Tensed t
+pub tense_sign : (t : Tense) → sign_spelt (lone (tense_letter t)) ≡ Added (Tensed t)
 tense_sign tense.Next = refl
 tense_sign tense.Finally = refl
 tense_sign tense.Globally = refl
 
-pub pairing_sign : (p : Pairing) → sign_spelt (lone (pairing_letter p)) ≡ Pairs p
+pub pairing_sign : (p : Pairing) → sign_spelt (lone (pairing_letter p)) ≡ Added (Pairs p)
 pairing_sign pairing.Until = refl
 pairing_sign pairing.Release = refl
 pairing_sign pairing.Weak = refl
 
-pub quantifier_sign : (q : Quantifier) → sign_spelt (lone (quantifier_letter q)) ≡ Quantifies q
+pub quantifier_sign : (q : Quantifier) → sign_spelt (lone (quantifier_letter q)) ≡ Added (Quantifies q)
 quantifier_sign quantifier.Exists = refl
 quantifier_sign quantifier.Forall = refl
 
@@ -166,7 +169,7 @@ begins_with : (w : Language) (s : Sort) (t u : Sign) (ts rest : List Sign) (f : 
 begins_with w s t u ts rest f same r = subst (λ x. Reads w s grammar.Un (x ∷ ts) f rest) (sym same) r
 
 pair_read : (w : Language) (p : Pairing) (t : Sign) (ts us rest : List Sign) (f g : Formula)
-    → t ≡ Pairs p
+    → t ≡ Added (Pairs p)
     → Reads w Path grammar.Un ts f (t ∷ us)
     → Reads w Path grammar.Un us g (Close ∷ rest)
     → Reads w Path grammar.Un (Open ∷ ts) (plain.Paired p f g) rest
@@ -183,7 +186,7 @@ temporal_back : (w : Language) (s : Sort) (t : Tense) (f : Formula)
     → ReadsBack w s (plain.Temporal t f)
 temporal_back w State t f stand back ss = absurd (false≢true stand)
 temporal_back w Path t f stand back ss =
-    begins_with w Path (sign_spelt (lone (tense_letter t))) (Tensed t) (map sign_spelt (tokens_onto f ss)) (map sign_spelt ss)
+    begins_with w Path (sign_spelt (lone (tense_letter t))) (Added (Tensed t)) (map sign_spelt (tokens_onto f ss)) (map sign_spelt ss)
     (plain.Temporal t f) (tense_sign t) (temporal t (back stand ss))
 
 paired_back : (w : Language) (s : Sort) (p : Pairing) (f g : Formula)
@@ -205,19 +208,19 @@ quantified_back : (w : Language) (s : Sort) (q : Quantifier) (f : Formula)
     → ReadsBack w s (plain.Quantified q f)
 quantified_back Ltl s q f stand back ss = absurd (false≢true stand)
 quantified_back Ctl s q f stand back ss =
-    begins_with Ctl s (sign_spelt (lone (quantifier_letter q))) (Quantifies q) (map sign_spelt (tokens_onto f ss))
+    begins_with Ctl s (sign_spelt (lone (quantifier_letter q))) (Added (Quantifies q)) (map sign_spelt (tokens_onto f ss))
     (map sign_spelt ss) (plain.Quantified q f) (quantifier_sign q) (quantified q refl (back stand ss))
 
 pub reads_formula : (w : Language) (s : Sort) (f : Formula) → is_spelled f ≡ true → fits w s f ≡ true → ReadsBack w s f
 reads_formula w s (plain.Const true) is stand ss =
-    begins_with w s (word_sign (codes "tt")) (Const true) (map sign_spelt ss) (map sign_spelt ss) (plain.Const true) true_sign
+    begins_with w s (word_sign own (codes "tt")) (Const true) (map sign_spelt ss) (map sign_spelt ss) (plain.Const true) true_sign
     (constant true)
 reads_formula w s (plain.Const false) is stand ss =
-    begins_with w s (word_sign (codes "ff")) (Const false) (map sign_spelt ss) (map sign_spelt ss) (plain.Const false) false_sign
+    begins_with w s (word_sign own (codes "ff")) (Const false) (map sign_spelt ss) (map sign_spelt ss) (plain.Const false) false_sign
     (constant false)
 reads_formula w s (plain.Prop p) is stand ss =
-    begins_with w s (word_sign p) (Rattle.ml_ctl.specs.Signs.Lower p) (map sign_spelt ss) (map sign_spelt ss) (plain.Prop p)
-    (proposition_sign p is) (proposition p)
+    begins_with w s (word_sign own p) (Lower p) (map sign_spelt ss) (map sign_spelt ss) (plain.Prop p)
+    (proposition_sign own p is) (proposition p)
 reads_formula w s (plain.Not f) is stand ss = negation (reads_formula w s f is stand ss)
 reads_formula w s (plain.Binary o f g) is stand ss =
     let parts = and_parts (is_spelled f) (is_spelled g) is in

@@ -10,7 +10,9 @@ use Rattle.ml_ctl.specs.Formula as plain
 use Rattle.ml_ctl.specs.Formula.{Formula}
 use Rattle.ml_ctl.specs.declared.language.Language.{Language}
 use Rattle.ml_ctl.specs.declared.language.Language.TheVariants.{Ctl, Ltl}
-use Rattle.ml_ctl.specs.Signs.{Sign, Const, Close, Tensed, Quantifies}
+use Rattle.ml_text.specs.declared.named_signs.Sign.TheVariants.{Not, Const, Close, Added}
+use Rattle.ml_ctl.specs.Signs.{Sign}
+use Rattle.ml_ctl.specs.declared.signs.Own.TheVariants.{Tensed, Quantifies}
 use Rattle.ml_ctl.specs.Grammar.{IsReadAs}
 use Rattle.ml_ctl.specs.declared.language.Sort.{Sort}
 use Rattle.ml_ctl.specs.declared.language.Sort.TheVariants.{State, Path}
@@ -20,11 +22,11 @@ use Rattle.ml_ctl.specs.declared.forms.Hold.TheVariants.{Negation, Tensing, Quan
 use Rattle.ml_ctl.proofs.GrammarTables.{tabled, untabled}
 
 never_opens : (w : Language) (s : Sort) (t : Sign) (k : Hold) → shift_start w s t ≡ Some (Opens k) → ⊥
-never_opens w State (Tensed t) k is = cc
-never_opens w Path (Tensed t) k is = cc
-never_opens Ctl s (Quantifies q) k is = cc
-never_opens Ltl s (Quantifies q) k is = cc
-never_opens w s Rattle.ml_ctl.specs.Signs.Not k is = cc
+never_opens w State (Added (Tensed t)) k is = cc
+never_opens w Path (Added (Tensed t)) k is = cc
+never_opens Ctl s (Added (Quantifies q)) k is = cc
+never_opens Ltl s (Added (Quantifies q)) k is = cc
+never_opens w s Not k is = cc
 never_opens w s _ k is = cc
 
 pub ctl_regular : (w : Language) → IsRegular (ctl_grammar w)

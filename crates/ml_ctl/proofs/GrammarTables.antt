@@ -17,7 +17,9 @@ use Rattle.ml_ctl.specs.declared.term.Tense.{Tense}
 use Rattle.ml_ctl.specs.declared.term.Quantifier.{Quantifier}
 use Rattle.ml_ctl.specs.declared.language.Language.{Language}
 use Rattle.ml_ctl.specs.declared.language.Language.TheVariants.{Ctl, Ltl}
-use Rattle.ml_ctl.specs.Signs.{Sign, Not, Connective, Const, Open, Close, Tensed, Pairs, Quantifies, Lower}
+use Rattle.ml_text.specs.declared.named_signs.Sign.TheVariants.{Not, Connective, Const, Open, Close, Lower, Added}
+use Rattle.ml_ctl.specs.Signs.{Sign}
+use Rattle.ml_ctl.specs.declared.signs.Own.TheVariants.{Tensed, Pairs, Quantifies}
 use Rattle.ml_ctl.specs.Grammar as grammar
 use Rattle.ml_ctl.specs.Grammar.{Reads, iff_alone, iff, imp_alone, imp, or_alone, or, and_alone, and, pair_alone, pair, negation, temporal, quantified, group, constant, proposition}
 use Rattle.ml_ctl.specs.declared.language.Sort.{Sort}
@@ -38,8 +40,8 @@ tight w s (Some (Connective operator.Iff)) = refl
 tight w s (Some (Connective operator.Implies)) = refl
 tight w s (Some (Connective operator.Or)) = refl
 tight w s (Some (Connective operator.And)) = refl
-tight w State (Some (Pairs p)) = refl
-tight w Path (Some (Pairs p)) = refl
+tight w State (Some (Added (Pairs p))) = refl
+tight w Path (Some (Added (Pairs p))) = refl
 tight w s (Some _) = refl
 
 -- ---- from the grammar to the tables
@@ -61,7 +63,7 @@ begun w {s} {t} {ts} {rest} {f} turn is r = form (sign (subst (λ x. Tabled w (B
 
 quantifier_begins : (w : Language) (s : Sort) (q : Quantifier)
     → w ≡ Ctl
-    → shift w (Start s) (Quantifies q) ≡ Some (Inner (Quantifying q))
+    → shift w (Start s) (Added (Quantifies q)) ≡ Some (Inner (Quantifying q))
 quantifier_begins Ctl s q is = refl
 quantifier_begins Ltl s q is = absurd (cc)
 
@@ -82,7 +84,7 @@ tabled (or a b) = joined (Connective operator.Or) 2 refl (omega arith) (tabled a
 tabled {w = w} (and_alone r) = loosen (ctl_grammar w) 3 (omega arith) (tabled r)
 tabled (and a b) = joined (Connective operator.And) 3 refl (omega arith) (tabled a) (tabled b)
 tabled (pair_alone r) = alone (tabled r)
-tabled (pair p a b) = joined (Pairs p) 4 refl (omega arith) (alone (tabled a)) (tabled b)
+tabled (pair p a b) = joined (Added (Pairs p)) 4 refl (omega arith) (alone (tabled a)) (tabled b)
 tabled {w = w} (negation {s = s} {rest = rest} r) = form (sign (inner (alone (tabled r)) (tight w s (front rest)) whole))
 tabled {w = w} (temporal {rest = rest} t r) = form (sign (inner (alone (tabled r)) (tight w Path (front rest)) whole))
 tabled {w = w} (quantified {s = s} q is r) = begun w (Some (Inner (Quantifying q))) (quantifier_begins w s q is) (quantified_read w q (tabled r))
@@ -163,14 +165,14 @@ both_same : {w : Language} {s : Sort} {l : grammar.Level} {t : Sign} {ts rest : 
 both_same {w} {s} {l} {t} {ts} {rest} {h} {f} e r = subst (λ x. Reads w s l (t ∷ ts) x rest) e.0 (subst (λ us. Reads w s l (t ∷ ts) h us) e.1 r)
 
 tense_completes : (w : Language) (s : Sort) (t : Tense) (ts rest : List Sign) (f : Formula)
-    → OfTurn w (shift w (Start s) (Tensed t)) ts f rest
-    → Reads w s grammar.Un (Tensed t ∷ ts) f rest
+    → OfTurn w (shift w (Start s) (Added (Tensed t))) ts f rest
+    → Reads w s grammar.Un (Added (Tensed t) ∷ ts) f rest
 tense_completes w State t ts rest f r = absurd r
 tense_completes w Path t ts rest f r = same_tree r.1 (temporal t r.2)
 
 quantifier_completes : (w : Language) (s : Sort) (q : Quantifier) (ts rest : List Sign) (f : Formula)
-    → OfTurn w (shift w (Start s) (Quantifies q)) ts f rest
-    → Reads w s grammar.Un (Quantifies q ∷ ts) f rest
+    → OfTurn w (shift w (Start s) (Added (Quantifies q))) ts f rest
+    → Reads w s grammar.Un (Added (Quantifies q) ∷ ts) f rest
 quantifier_completes Ctl s q ts rest f r = same_tree r.1 (quantified q refl r.2)
 quantifier_completes Ltl s q ts rest f r = absurd r
 
@@ -181,8 +183,8 @@ sign_completes w (Start s) Not ts rest f r = same_tree r.1 (negation r.2)
 sign_completes w (Start s) (Const b) ts rest f r = both_same r (constant b)
 sign_completes w (Start s) (Lower p) ts rest f r = both_same r (proposition p)
 sign_completes w (Start s) Open ts rest f r = r
-sign_completes w (Start s) (Tensed t) ts rest f r = tense_completes w s t ts rest f r
-sign_completes w (Start s) (Quantifies q) ts rest f r = quantifier_completes w s q ts rest f r
+sign_completes w (Start s) (Added (Tensed t)) ts rest f r = tense_completes w s t ts rest f r
+sign_completes w (Start s) (Added (Quantifies q)) ts rest f r = quantifier_completes w s q ts rest f r
 sign_completes w (Start s) _ ts rest f r = absurd r
 sign_completes w (BehindInside h) Close ts rest f r =
     λ s us a. subst (λ x. Reads w s grammar.Un (Open ∷ us) x rest) r.0
@@ -218,12 +220,12 @@ joined_back w s (Connective o) m ts us rest f h is a b =
     (joined_at w s o ts us rest f h
     (subst (λ n. Untabled w (Level s (left_level (ctl_grammar w) s n)) ts f (Connective o ∷ us)) (sym same) a)
     (subst (λ n. Untabled w (Level s (right_level (ctl_grammar w) s n)) us h rest) (sym same) b))
-joined_back w State (Pairs p) m ts us rest f h is a b = absurd (cc)
-joined_back w Path (Pairs p) m ts us rest f h is a b =
+joined_back w State (Added (Pairs p)) m ts us rest f h is a b = absurd (cc)
+joined_back w Path (Added (Pairs p)) m ts us rest f h is a b =
     let same : m ≡ 4 = cc in
-    let left = subst (λ n. Untabled w (Level Path (left_level (ctl_grammar w) Path n)) ts f (Pairs p ∷ us)) same a in
+    let left = subst (λ n. Untabled w (Level Path (left_level (ctl_grammar w) Path n)) ts f (Added (Pairs p) ∷ us)) same a in
     let right = subst (λ n. Untabled w (Level Path (right_level (ctl_grammar w) Path n)) us h rest) same b in
-    subst (λ n. Untabled w (Level Path n) ts (Rattle.ml_ctl.specs.private.Tables.join (Pairs p) f h) rest) (sym same)
+    subst (λ n. Untabled w (Level Path n) ts (Rattle.ml_ctl.specs.private.Tables.join (Added (Pairs p)) f h) rest) (sym same)
     (pair p left right)
 joined_back w s _ m ts us rest f h is a b = absurd (cc)
 

@@ -10,16 +10,12 @@ pub mod SamePaths
 pub mod StateFormulas
 -- negations of temporal operators and of quantifiers
 pub mod Negations
--- the signs that words are
-pub mod WordSigns
 -- the grammar is the one of the tables
 pub mod GrammarTables
 -- the tables are regular and can be completed
 pub mod CtlGrammar
 -- names are spelled as they must be
 pub mod Spelled
--- names in texts
-pub mod Names
 -- what a text counts is what its formula has
 pub mod Counting
 -- names in texts and formulas are short

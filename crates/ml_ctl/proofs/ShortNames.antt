@@ -9,6 +9,7 @@ use Rattle.ml_text.specs.Tokens.{tokens}
 use Rattle.ml_text.specs.Refusals.{NameTooLong, signs_of, is_long_at, IsAccepted}
 use Rattle.ml_text.specs.Items.{bytes_of}
 use Rattle.ml_text.proofs.Cover.{are_tokens}
+use Rattle.ml_text.proofs.NamedSigns.{short_name}
 use Rattle.ml_text.proofs.TableItems.{signs_short}
 use Rattle.ml_text.proofs.WordNames.{name_length}
 use Rattle.ml_ctl.specs.Formula.{Formula}
@@ -16,9 +17,9 @@ use Rattle.ml_ctl.specs.declared.language.Language.{Language}
 use Rattle.ml_ctl.specs.Grammar as grammar
 use Rattle.ml_ctl.specs.Grammar.{IsReadAs, Reads, iff_alone, iff, imp_alone, imp, or_alone, or, and_alone, and, pair_alone, pair, negation, temporal, quantified, group, constant, proposition}
 use Rattle.ml_ctl.specs.declared.language.Sort.{Sort}
-use Rattle.ml_ctl.specs.Signs.{Sign, HasShortName}
+use Rattle.ml_text.specs.Signs.{HasShortName}
+use Rattle.ml_ctl.specs.Signs.{Sign, own}
 use Rattle.ml_ctl.specs.Text.{ctl_signs, items}
-use Rattle.ml_ctl.proofs.Names.{short_name}
 use Rattle.ml_ctl.specs.Spelling.{HasShortNames}
 
 abbrev AreShort : List Sign → Type 0
@@ -56,7 +57,7 @@ text_signs : (text : List ℕ)
 unfolding tokens
 text_signs text none =
     signs_short ctl_signs HasShortName LowerCase text
-    (λ p short size. short_name p.token (bytes_of text p) (p.end - p.start) short size)
+    (λ p short size. short_name own p.token (bytes_of text p) (p.end - p.start) short size)
     0 tt (tokens LowerCase text) (are_tokens LowerCase text 0) none
 
 pub text_short : (w : Language) (text : List ℕ) (f : Formula) → IsAccepted (IsReadAs w) (items text) f → HasShortNames f

@@ -1,6 +1,5 @@
 -- The names of texts are spelled as they must be, and so are those of the formulas that texts stand for.
 --
---   AreSpelled ts   == the names among the signs are spelled as propositions
 --   items_spelled   == the signs of a text are spelled
 --   reads_spelled   == what is read from spelled signs is spelled
 use Rattle.std.proofs.Common.{◌≡◌, ℕ, Bool, true, ◌==◌, List, Option, Some, None, refl}
@@ -12,58 +11,30 @@ use Rattle.ml_text.specs.declared.token.Placed.{Placed}
 use Rattle.ml_text.specs.Items.{bytes_of}
 use Rattle.ml_text.specs.Words.{constant_of}
 use Rattle.ml_text.specs.Refusals.{signs_of}
-use Rattle.ml_text.proofs.TableItems.{one_of, one_by, signs_all}
+use Rattle.ml_text.proofs.NamedSigns.{AreSpelled, IsSpelledSign, spelled_sign}
+use Rattle.ml_text.proofs.TableItems.{signs_all}
 use Rattle.ml_ctl.specs.Formula.{Formula}
 use Rattle.ml_ctl.specs.declared.language.Language.{Language}
-use Rattle.ml_ctl.specs.Signs.{Sign, Lower, sign_of, byte_sign, word_sign_by}
+use Rattle.ml_ctl.specs.Signs.{Sign, own}
 use Rattle.ml_ctl.specs.Grammar as grammar
 use Rattle.ml_ctl.specs.Grammar.{Reads, iff_alone, iff, imp_alone, imp, or_alone, or, and_alone, and, pair_alone, pair, negation, temporal, quantified, group, constant, proposition}
 use Rattle.ml_ctl.specs.declared.language.Sort.{Sort}
 use Rattle.ml_ctl.specs.Spelling.{is_proposition, is_spelled}
 use Rattle.ml_ctl.specs.Text.{ctl_signs, items_from}
 
-abbrev pub IsSpelledSign : Sign → Type 0
-IsSpelledSign (Lower p) = is_proposition p ≡ true
-IsSpelledSign _ = Unit {0}
-
-abbrev pub AreSpelled : List Sign → Type 0
-AreSpelled ts = AllByRecursion IsSpelledSign ts
-
-spelled_word : (w : List ℕ) (o : Option Bool) → IsSpelledSign (word_sign_by o w)
-spelled_word w (Some b) = tt
-spelled_word w None = one_by IsSpelledSign (is_proposition w) _ _ (λ is. is) tt
-
-spelled_byte : (b : ℕ) → IsSpelledSign (byte_sign b)
-spelled_byte b =
-    one_of IsSpelledSign (b == 40) _ _ tt
-    (one_of IsSpelledSign (b == 41) _ _ tt
-    (one_of IsSpelledSign (b == 88) _ _ tt
-    (one_of IsSpelledSign (b == 70) _ _ tt
-    (one_of IsSpelledSign (b == 71) _ _ tt
-    (one_of IsSpelledSign (b == 85) _ _ tt
-    (one_of IsSpelledSign (b == 82) _ _ tt
-    (one_of IsSpelledSign (b == 87) _ _ tt
-    (one_of IsSpelledSign (b == 69) _ _ tt
-    (one_of IsSpelledSign (b == 65) _ _ tt tt)))))))))
-
-pub spelled_sign : (t : Token) (bytes : List ℕ) → IsSpelledSign (sign_of t bytes)
-spelled_sign token.Not bytes = tt
-spelled_sign (token.Operator o) bytes = tt
-spelled_sign (token.Byte b) bytes = spelled_byte b
-spelled_sign token.Word bytes = spelled_word bytes (constant_of bytes)
-
-pub items_spelled : (text : List ℕ) (ps : List Placed) → AreSpelled (signs_of (items_from text ps))
-items_spelled text ps = signs_all ctl_signs IsSpelledSign text (λ p. spelled_sign p.token (bytes_of text p)) tt ps
+pub items_spelled : (text : List ℕ) (ps : List Placed) → AreSpelled own (signs_of (items_from text ps))
+items_spelled text ps =
+    signs_all ctl_signs (IsSpelledSign own) text (λ p. spelled_sign own p.token (bytes_of text p)) tt ps
 
 -- ---- formulas
 
 abbrev pub Spells : Formula → List Sign → Type 0
-Spells f rest = (is_spelled f ≡ true) × AreSpelled rest
+Spells f rest = (is_spelled f ≡ true) × AreSpelled own rest
 
 module _ {w : Language} where
   pub reads_spelled : {s : Sort} {l : grammar.Level} {ts rest : List Sign} {f : Formula}
       → Reads w s l ts f rest
-      → AreSpelled ts
+      → AreSpelled own ts
       → Spells f rest
   reads_spelled (iff_alone r) is = reads_spelled r is
   reads_spelled (iff {f = f} {g = g} a b) is =

@@ -35,7 +35,9 @@ use Rattle.ml_ctl.specs.declared.language.Language.{Language}
 use Rattle.ml_ctl.specs.declared.language.Language.TheVariants.{Ctl, Ltl}
 use Rattle.ml_ctl.specs.declared.language.Sort.{Sort}
 use Rattle.ml_ctl.specs.declared.language.Sort.TheVariants.{State, Path}
-use Rattle.ml_ctl.specs.Signs.{Sign, Not, Connective, Const, Open, Close, Tensed, Pairs, Quantifies, Lower}
+use Rattle.ml_text.specs.declared.named_signs.Sign.TheVariants.{Not, Connective, Const, Open, Close, Lower, Added}
+use Rattle.ml_ctl.specs.Signs.{Sign}
+use Rattle.ml_ctl.specs.declared.signs.Own.TheVariants.{Tensed, Pairs, Quantifies}
 
 pub data Level : Type 0 where
   Iff Imp Or And Pair Un : Level
@@ -68,7 +70,7 @@ pub data Reads (w : Language) : Sort → Level → List Sign → Formula → Lis
   -- ptm = pun [ ( "U" | "R" | "W" ) ptm ]
   pair_alone : {s : Sort} {ts rest : List Sign} {f : Formula} → Reads w s Un ts f rest → Reads w s Pair ts f rest
   pair : {ts us rest : List Sign} {f g : Formula} (p : Pairing)
-      → Reads w Path Un ts f (Pairs p ∷ us)
+      → Reads w Path Un ts f (Added (Pairs p) ∷ us)
       → Reads w Path Pair us g rest
       → Reads w Path Pair ts (plain.Paired p f g) rest
   -- NOT un
@@ -78,12 +80,12 @@ pub data Reads (w : Language) : Sort → Level → List Sign → Formula → Lis
   -- ( "X" | "F" | "G" ) pun
   temporal : {ts rest : List Sign} {f : Formula} (t : Tense)
       → Reads w Path Un ts f rest
-      → Reads w Path Un (Tensed t ∷ ts) (plain.Temporal t f) rest
+      → Reads w Path Un (Added (Tensed t) ∷ ts) (plain.Temporal t f) rest
   -- ( "E" | "A" ) pun
   quantified : {s : Sort} {ts rest : List Sign} {f : Formula} (q : Quantifier)
       → w ≡ Ctl
       → Reads w Path Un ts f rest
-      → Reads w s Un (Quantifies q ∷ ts) (plain.Quantified q f) rest
+      → Reads w s Un (Added (Quantifies q) ∷ ts) (plain.Quantified q f) rest
   -- "(" iff ")"
   group : {s : Sort} {ts rest : List Sign} {f : Formula}
       → Reads w s Iff ts f (Close ∷ rest)

@@ -7,21 +7,17 @@
 --   is_proposition name  == a word that isn't reserved
 --   is_spelled f         == are all names in f propositions?
 --   HasShortNames f      == no name in f has more bytes than a name may have
-use Rattle.std.specs.Prelude.{ℕ, ◌≤◌, Bool, true, ◌&&◌, not, List, [], ◌∷◌, length, codes, bytes_eq}
-use Rattle.std.specs.List.{list_any}
+use Rattle.std.specs.Prelude.{ℕ, ◌≤◌, Bool, true, ◌&&◌, List, length}
 use Rattle.ml_base.specs.Name.{longest_name}
-use Rattle.ml_text.specs.Bytes.{is_lower}
-use Rattle.ml_text.specs.Words.{is_word_from}
+use Rattle.ml_text.specs.Signs as signs
+use Rattle.ml_ctl.specs.Signs.{own}
 use Rattle.ml_ctl.specs.Formula.{Formula, Const, Prop, Not, Binary, Temporal, Paired, Quantified}
 
-abbrev pub reserved : List (List ℕ)
-reserved = codes "tt" ∷ codes "true" ∷ codes "ff" ∷ codes "false" ∷ []
-
 abbrev pub is_reserved : List ℕ → Bool
-is_reserved name = list_any (bytes_eq name) reserved
+is_reserved name = signs.is_reserved own name
 
 abbrev pub is_proposition : List ℕ → Bool
-is_proposition name = is_word_from is_lower name && not (is_reserved name)
+is_proposition name = signs.is_proposition own name
 
 abbrev pub is_spelled : Formula → Bool
 is_spelled (Const b) = true

@@ -1,7 +1,6 @@
 -- CTL* and LTL texts: their items, with what each counts. Each symbol is counted at its own sign.
 --
 --   weight_of s        == as how many occurrences a sign counts
---   bracket_of s       == which parenthesis it is
 --   sign_at text p     == the sign that a token of the text is
 --   ctl_signs          == the signs of texts; nothing is to be known of those before
 --   items text         == the items of a text
@@ -12,12 +11,12 @@ use Rattle.ml_text.specs.declared.token.Placed.{Placed}
 use Rattle.ml_text.specs.Items as text_items
 use Rattle.ml_text.specs.Items.{SignTable, bytes_of}
 use Rattle.ml_text.specs.Refusals.{Item, signs_of}
-use Rattle.ml_text.specs.declared.limits.Bracket.{Bracket}
-use Rattle.ml_text.specs.declared.limits.Bracket.TheVariants.{Opening, Closing, Neither}
+use Rattle.ml_text.specs.Signs.{bracket_of}
 use Rattle.ml_text.specs.Operators.{weight}
 use Rattle.ml_ctl.specs.Formula.{Formula}
 use Rattle.ml_ctl.specs.declared.language.Language.{Language}
-use Rattle.ml_ctl.specs.Signs.{Sign, Connective, Open, Close, Unknown, sign_of}
+use Rattle.ml_text.specs.declared.named_signs.Sign.TheVariants.{Connective, Open, Close, Unknown}
+use Rattle.ml_ctl.specs.Signs.{Sign, own, sign_of}
 use Rattle.ml_ctl.specs.Grammar.{IsReadAs}
 
 abbrev pub weight_of : Sign → ℕ
@@ -26,11 +25,6 @@ weight_of Open = 0
 weight_of Close = 0
 weight_of Unknown = 0
 weight_of _ = 1
-
-abbrev pub bracket_of : Sign → Bracket
-bracket_of Open = Opening
-bracket_of Close = Closing
-bracket_of _ = Neither
 
 abbrev pub sign_at : List ℕ → Placed → Sign
 sign_at text p = sign_of p.token (bytes_of text p)
@@ -42,7 +36,7 @@ ctl_signs = record {
   first = tt;
   behind = λ s. tt;
   weight = λ c s. weight_of s;
-  bracket = bracket_of;
+  bracket = bracket_of own;
   is_noted = λ c s. false;
 }
 

@@ -6,10 +6,9 @@ ghost use Rattle.ml_ctl.specs.Formula as plain;
 ghost use Rattle.ml_ctl.specs.Term.{formula_of};
 ghost use Rattle.ml_ctl.specs.private.FormViews.{wait_view};
 ghost use Rattle.ml_ctl.specs.private.Reader.{ctl_tables};
-ghost use Rattle.ml_ctl.specs.private.SignViews.{sign_view};
 ghost use Rattle.ml_ctl.specs.private.Tables as tables;
 
-use crate::signs::Sign;
+use crate::signs::{Own, Sign};
 use crate::{Language, Quantifier, Sort, Tense, Term};
 use ml_base::NoMemory;
 use ml_text::Mode;
@@ -55,15 +54,15 @@ fn shift_quantifier(language: Language, quantifier: Quantifier) -> Option<Turn>
 
 fn shift_start(language: Language, sort: Sort, sign: Sign) -> Option<Turn>
     ensures turn { option_map (turn_view (ctl_tables Language.Ctl)) result
-        ≡ tables.shift_start language sort (sign_view sign) }
+        ≡ tables.shift_start language sort sign }
 {
     match sign {
         Sign::Not => Some(Turn::Inner(Hold::Negation(sort))),
         Sign::Const(value) => Some(Turn::Read(Mode::Whole(Term::Const(value)))),
         Sign::Lower(name) => Some(Turn::Read(Mode::Whole(Term::Prop(name)))),
         Sign::Open => Some(Turn::Inner(Hold::Group(sort))),
-        Sign::Tensed(tense) => shift_tense(sort, tense),
-        Sign::Quantifies(quantifier) => shift_quantifier(language, quantifier),
+        Sign::Added(Own::Tensed(tense)) => shift_tense(sort, tense),
+        Sign::Added(Own::Quantifies(quantifier)) => shift_quantifier(language, quantifier),
         _ => None,
     }
 }
@@ -71,8 +70,8 @@ fn shift_start(language: Language, sort: Sort, sign: Sign) -> Option<Turn>
 /// What a token does to a form of which one is to come; `None` where no text of the logic goes on so.
 pub(crate) fn shift(language: Language, wait: Wait, sign: Sign) -> Option<Turn>
     ensures turn { option_map (turn_view (ctl_tables Language.Ctl)) result
-        ≡ tables.shift language (wait_view wait) (sign_view sign) }
-    ensures gives_back { GivesBack (ctl_tables Language.Ctl) result (sign_view sign) }
+        ≡ tables.shift language (wait_view wait) sign }
+    ensures gives_back { GivesBack (ctl_tables Language.Ctl) result sign }
 {
     match (wait, sign) {
         (Wait::Start(sort), sign) => shift_start(language, sort, sign),
@@ -99,13 +98,13 @@ pub(crate) fn resume(alloc: Global, hold: Hold, term: Term) -> Result<Mode<Term,
 /// Two operands with an operator between them.
 pub(crate) fn join(alloc: Global, sign: Sign, left: Term, right: Term) -> Result<Term, NoMemory>
     ensures { IfOk result (λ term.
-        formula_of term ≡ tables.join (sign_view sign) (formula_of left) (formula_of right)) }
+        formula_of term ≡ tables.join sign (formula_of left) (formula_of right)) }
 {
     match sign {
         Sign::Connective(operator) => {
             Ok(Term::Binary(operator, Box::new(alloc, left)?, Box::new(alloc, right)?))
         }
-        Sign::Pairs(pairing) => {
+        Sign::Added(Own::Pairs(pairing)) => {
             Ok(Term::Paired(pairing, Box::new(alloc, left)?, Box::new(alloc, right)?))
         }
         _ => Ok(left),

@@ -4,14 +4,16 @@ ghost use Rattle.std.specs.Prelude.{◌≡◌};
 ghost use Rattle.ml_ctl.specs.declared.language.Language.{Language};
 ghost use Rattle.ml_ctl.specs.declared.language.Language.TheVariants as language;
 ghost use Rattle.ml_ctl.specs.Grammar.{sort_of};
-ghost use Rattle.ml_ctl.specs.private.SignViews.{sign_view};
 ghost use Rattle.ml_ctl.specs.private.Tables as tables;
 
 use crate::forms::{Hold, Wait, join, resume, shift};
-use crate::signs::{Kind, Sign, bracket, kind_of, sign_of, weight};
+use crate::signs::{Kind, Own, Sign, weight};
 use crate::{Language, Sort, Term};
 use ml_base::NoMemory;
-use ml_text::{Bracket, Logic, Mode, Placed, Role, Turn, WordStart, operator_level};
+use ml_text::{
+    Bracket, Logic, Mode, Placed, Role, Turn, WordStart, bracket_of, kind_of, operator_level,
+    sign_of,
+};
 use std::alloc::Global;
 
 /// One of the two logics.
@@ -60,11 +62,11 @@ fn whole_sort(language: Language) -> Sort
 }
 
 fn role(sort: Sort, sign: &Sign) -> Role
-    ensures { result ≡ tables.role sort (sign_view sign.now) }
+    ensures { result ≡ tables.role sort sign.now }
 {
     match (sort, sign) {
         (_, Sign::Connective(operator)) => Role::Infix(operator_level(*operator)),
-        (Sort::Path, Sign::Pairs(_)) => Role::Infix(4),
+        (Sort::Path, Sign::Added(Own::Pairs(_))) => Role::Infix(4),
         _ => Role::Outside,
     }
 }
@@ -113,7 +115,7 @@ impl<T: Texts> Logic for Reader<T> {
     }
 
     fn bracket(kind: Kind) -> Bracket {
-        bracket(kind)
+        bracket_of(kind)
     }
 
     fn is_noted(_context: (), _kind: Kind) -> bool {

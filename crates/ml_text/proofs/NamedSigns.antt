@@ -24,7 +24,7 @@ use Rattle.ml_text.specs.Items.{is_word, is_long_word, bytes_of, name_bytes}
 use Rattle.ml_text.specs.Signs.{OwnSigns, Named, HasShortName, bracket_of, byte_in, is_action, is_proposition, is_reserved, is_upper_word, name_of, name_sign, named, own_or, reserved, sign_of, word_in, word_sign, word_sign_by, words_of}
 use Rattle.ml_text.specs.Words.{IsWord, IsWordOf, constant_of, is_word_from}
 use Rattle.ml_text.specs.declared.named_signs.Sign.{Sign}
-use Rattle.ml_text.specs.declared.named_signs.Sign.TheVariants.{Not, Connective, Const, Open, Close, Lower, Upper, Own, Unknown}
+use Rattle.ml_text.specs.declared.named_signs.Sign.TheVariants.{Not, Connective, Const, Open, Close, Lower, Upper, Added, Unknown}
 use Rattle.ml_text.specs.declared.token.Placed.{Placed}
 use Rattle.ml_text.specs.declared.token.Token.{Token}
 use Rattle.ml_text.specs.declared.token.Token.TheVariants as token
@@ -243,5 +243,5 @@ alike_by g sign lower upper (Connective c) w o = same_like g (sign (Connective c
 alike_by g sign lower upper (Const b) w o = same_like g (sign (Const b))
 alike_by g sign lower upper Open w o = same_like g (sign Open)
 alike_by g sign lower upper Close w o = same_like g (sign Close)
-alike_by g sign lower upper (Own x) w o = same_like g (sign (Own x))
+alike_by g sign lower upper (Added x) w o = same_like g (sign (Added x))
 alike_by g sign lower upper Unknown w o = same_like g (sign Unknown)

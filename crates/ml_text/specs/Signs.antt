@@ -29,7 +29,7 @@ use Rattle.ml_text.specs.declared.token.Token.{Token}
 use Rattle.ml_text.specs.declared.token.Token.TheVariants as token
 use Rattle.ml_text.specs.declared.token.WordStart.{WordStart}
 use Rattle.ml_text.specs.declared.named_signs.Sign.{Sign}
-use Rattle.ml_text.specs.declared.named_signs.Sign.TheVariants.{Not, Connective, Const, Open, Close, Lower, Upper, Own, Unknown}
+use Rattle.ml_text.specs.declared.named_signs.Sign.TheVariants.{Not, Connective, Const, Open, Close, Lower, Upper, Added, Unknown}
 
 pub record OwnSigns (X : Type 0) : Type 0 where
   -- which letters begin a word
@@ -72,7 +72,7 @@ abbrev pub name_sign : {X : Type 0} → OwnSigns X → List ℕ → Named X
 name_sign own w = if is_proposition own w then Lower w else (if is_upper_word w then Upper w else Unknown)
 
 abbrev pub own_or : {X : Type 0} → Option X → Named X → Named X
-own_or (Some x) s = Own x
+own_or (Some x) s = Added x
 own_or None s = s
 
 abbrev pub word_sign_by : {X : Type 0} → OwnSigns X → Option Bool → List ℕ → Named X
@@ -103,7 +103,7 @@ sign_of own (token.Byte b) bytes = byte_sign own b
 abbrev pub bracket_of : {N X : Type 0} → OwnSigns X → Sign N X → Bracket
 bracket_of own Open = Opening
 bracket_of own Close = Closing
-bracket_of own (Own x) = own.bracket x
+bracket_of own (Added x) = own.bracket x
 bracket_of own _ = Neither
 
 abbrev pub name_of : {X : Type 0} → Named X → Option (List ℕ)
@@ -124,5 +124,5 @@ named Open w = Open
 named Close w = Close
 named (Lower u) w = Lower w
 named (Upper u) w = Upper w
-named (Own x) w = Own x
+named (Added x) w = Added x
 named Unknown w = Unknown

@@ -24,8 +24,8 @@ pub enum Sign<N, X> {
     Lower(N),
     /// A name that begins with an upper-case letter.
     Upper(N),
-    /// A sign of the logic's own.
-    Own(X),
+    /// A sign that the logic adds.
+    Added(X),
     /// In no text of any grammar.
     Unknown,
 }
@@ -70,7 +70,7 @@ fn word_kind<X: OwnSign>(word: &[u8]) -> Sign<(), X>
         return Sign::Const(value);
     }
     match X::of_word(word) {
-        Some(sign) => Sign::Own(sign),
+        Some(sign) => Sign::Added(sign),
         None => name_kind(word),
     }
 }
@@ -82,7 +82,7 @@ fn byte_kind<X: OwnSign>(byte: u8) -> Sign<(), X>
         b'(' => Sign::Open,
         b')' => Sign::Close,
         _ => match X::of_byte(byte) {
-            Some(sign) => Sign::Own(sign),
+            Some(sign) => Sign::Added(sign),
             None => Sign::Unknown,
         },
     }
@@ -123,7 +123,7 @@ pub fn sign_of<X: OwnSign>(
         Sign::Close => Sign::Close,
         Sign::Lower(()) => Sign::Lower(Name::from_bytes(alloc, bytes)?),
         Sign::Upper(()) => Sign::Upper(Name::from_bytes(alloc, bytes)?),
-        Sign::Own(sign) => Sign::Own(sign),
+        Sign::Added(sign) => Sign::Added(sign),
         Sign::Unknown => Sign::Unknown,
     })
 }
@@ -135,7 +135,7 @@ pub fn bracket_of<X: OwnSign>(kind: Sign<(), X>) -> Bracket
     match kind {
         Sign::Open => Bracket::Opening,
         Sign::Close => Bracket::Closing,
-        Sign::Own(sign) => sign.bracket(),
+        Sign::Added(sign) => sign.bracket(),
         _ => Bracket::Neither,
     }
 }

@@ -23,7 +23,9 @@ use Rattle.ml_ctl.specs.declared.language.Sort.{Sort}
 use Rattle.ml_ctl.specs.declared.language.Sort.TheVariants.{State, Path}
 use Rattle.ml_ctl.specs.declared.forms.Hold.{Hold}
 use Rattle.ml_ctl.specs.declared.forms.Hold.TheVariants.{Negation, Tensing, Quantifying, Group}
-use Rattle.ml_ctl.specs.Signs.{Sign, Not, Connective, Const, Open, Close, Tensed, Pairs, Quantifies, Lower}
+use Rattle.ml_text.specs.declared.named_signs.Sign.TheVariants.{Not, Connective, Const, Open, Close, Lower, Added}
+use Rattle.ml_ctl.specs.Signs.{Sign}
+use Rattle.ml_ctl.specs.declared.signs.Own.TheVariants.{Tensed, Pairs, Quantifies}
 
 pub data Wait : Type 0 where
   -- an operand is to come
@@ -49,8 +51,8 @@ shift_start w s Not = Some (Inner (Negation s))
 shift_start w s (Const b) = Some (Read (Whole (plain.Const b)))
 shift_start w s (Lower p) = Some (Read (Whole (plain.Prop p)))
 shift_start w s Open = Some (Inner (Group s))
-shift_start w s (Tensed t) = shift_tense s t
-shift_start w s (Quantifies q) = shift_quantifier w q
+shift_start w s (Added (Tensed t)) = shift_tense s t
+shift_start w s (Added (Quantifies q)) = shift_quantifier w q
 shift_start w s _ = None
 
 abbrev pub shift_inside : Formula → Sign → Option CtlTurn
@@ -84,7 +86,7 @@ pairing_role Path = Infix 4
 
 abbrev pub role : Sort → Sign → Role
 role s (Connective o) = Infix (operator_level o)
-role s (Pairs p) = pairing_role s
+role s (Added (Pairs p)) = pairing_role s
 role s _ = Outside
 
 -- the connectives of the levels 2 and 3 group to the left, all other operators to the right
@@ -93,7 +95,7 @@ groups_left l = nat_le 2 l && nat_le l 3
 
 abbrev pub join : Sign → Formula → Formula → Formula
 join (Connective o) f g = plain.Binary o f g
-join (Pairs p) f g = plain.Paired p f g
+join (Added (Pairs p)) f g = plain.Paired p f g
 join _ f g = f
 
 abbrev pub ctl_grammar : Language → Grammar
