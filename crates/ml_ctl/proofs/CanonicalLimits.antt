@@ -2,7 +2,7 @@
 --
 --   tokens_short  == the tokens of the canonical text of a formula with short names are short
 --   few_open      == it opens at most as many parentheses as its formula has occurrences
-use Rattle.std.proofs.Common.{◌≡◌, ℕ, ◌+◌, ◌≤◌, Bool, true, false, List, ◌∷◌, Option, Some, None, codes, refl, arith}
+use Rattle.std.proofs.Common.{◌≡◌, ℕ, ◌+◌, ◌≤◌, true, false, List, ◌∷◌, codes, refl, arith}
 use Rattle.std.specs.List.{AllByRecursion}
 use Rattle.ml_text.specs.declared.token.Token.TheVariants as token
 use Rattle.ml_text.specs.Operators.{spelling_of}

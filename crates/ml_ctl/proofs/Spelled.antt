@@ -2,14 +2,10 @@
 --
 --   items_spelled   == the signs of a text are spelled
 --   reads_spelled   == what is read from spelled signs is spelled
-use Rattle.std.proofs.Common.{◌≡◌, ℕ, Bool, true, ◌==◌, List, Option, Some, None, refl}
-use Rattle.std.specs.List.{AllByRecursion}
+use Rattle.std.proofs.Common.{◌≡◌, ℕ, true, List, refl}
 use Rattle.std.proofs.lemmas.Bool.{and_from}
-use Rattle.ml_text.specs.declared.token.Token.{Token}
-use Rattle.ml_text.specs.declared.token.Token.TheVariants as token
 use Rattle.ml_text.specs.declared.token.Placed.{Placed}
 use Rattle.ml_text.specs.Items.{bytes_of}
-use Rattle.ml_text.specs.Words.{constant_of}
 use Rattle.ml_text.specs.Refusals.{signs_of}
 use Rattle.ml_text.proofs.NamedSigns.{AreSpelled, IsSpelledSign, spelled_sign}
 use Rattle.ml_text.proofs.TableItems.{signs_all}
@@ -19,7 +15,7 @@ use Rattle.ml_ctl.specs.Signs.{Sign, own}
 use Rattle.ml_ctl.specs.Grammar as grammar
 use Rattle.ml_ctl.specs.Grammar.{Reads, iff_alone, iff, imp_alone, imp, or_alone, or, and_alone, and, pair_alone, pair, negation, temporal, quantified, group, constant, proposition}
 use Rattle.ml_ctl.specs.declared.language.Sort.{Sort}
-use Rattle.ml_ctl.specs.Spelling.{is_proposition, is_spelled}
+use Rattle.ml_ctl.specs.Spelling.{is_spelled}
 use Rattle.ml_ctl.specs.Text.{ctl_signs, items_from}
 
 pub items_spelled : (text : List ℕ) (ps : List Placed) → AreSpelled own (signs_of (items_from text ps))
