@@ -6,18 +6,16 @@
 --
 --   Formula        == the formulas: constants, propositions, variables, negations, connectives, modalities, fixpoints
 --   Operator       == and, or, implies, iff (of `ml_text`, since all logics share them)
---   Modality       == diamond (some edge) or square (every edge)
---   Fixpoint       == least or greatest
+--   Modality       == diamond (some edge) or square (every edge), as the program's terms hold it
+--   Fixpoint       == least or greatest, likewise
 --   occurrences f  == the number of symbols of f, where iff counts as three and the action of a modality as none
 use Rattle.std.specs.Prelude.{ℕ, ◌+◌, Bool, List}
 use Rattle.ml_text.specs.declared.token.Operator.{Operator}
 use Rattle.ml_text.specs.Operators.{weight}
-
-pub data Modality : Type 0 where
-  Diamond Square : Modality
-
-pub data Fixpoint : Type 0 where
-  Least Greatest : Fixpoint
+pub use Rattle.ml_mu.specs.declared.term.Modality.{Modality}
+pub use Rattle.ml_mu.specs.declared.term.Modality.TheVariants.{Diamond, Square}
+pub use Rattle.ml_mu.specs.declared.term.Fixpoint.{Fixpoint}
+pub use Rattle.ml_mu.specs.declared.term.Fixpoint.TheVariants.{Least, Greatest}
 
 pub data Formula : Type 0 where
   Const : Bool → Formula

@@ -12,10 +12,9 @@
 --   are_fine ss            == no variable is at fault
 use Rattle.std.specs.Prelude.{ℕ, ◌+◌, ◌-◌, ◌%◌, ◌==◌, ◌&&◌, Bool, true, false, List, [], ◌∷◌, ◌++◌, Option, Some, None, if◌then◌else◌, bytes_eq}
 use Rattle.ml_text.specs.declared.token.Operator.TheVariants.{Iff, Implies, Or, And}
+pub use Rattle.ml_mu.specs.declared.variables.Standing.{Standing}
+pub use Rattle.ml_mu.specs.declared.variables.Standing.TheVariants.{Fine, Unbound, NotPositive}
 use Rattle.ml_mu.specs.Formula.{Formula, Const, Prop, Var, Not, Binary, Modal, Binder}
-
-pub data Standing : Type 0 where
-  Fine Unbound NotPositive : Standing
 
 pub record Around : Type 0 where
   pub name : List ℕ

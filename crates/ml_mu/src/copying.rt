@@ -5,7 +5,7 @@ ghost use Rattle.ml_mu.specs.Term.{formula_of};
 
 use crate::{Formula, Term};
 use ml_base::NoMemory;
-use ml_text::MOST_OCCURRENCES;
+use ml_text::{MOST_OCCURRENCES, Operator};
 use std::alloc::Global;
 
 /// An equal formula.
@@ -30,37 +30,18 @@ fn copy_term(alloc: Global, term: &Term) -> Result<Term, NoMemory>
         Term::Prop(name) => Ok(Term::Prop(name.copy()?)),
         Term::Var(name) => Ok(Term::Var(name.copy()?)),
         Term::Not(operand) => Ok(Term::Not(copy_operand(alloc, operand)?)),
-        Term::And(left, right) => {
-            let (left, right) = copy_operands(alloc, left, right)?;
-            Ok(Term::And(left, right))
+        Term::Binary(operator, left, right) => {
+            let left = copy_operand(alloc, left)?;
+            let right = copy_operand(alloc, right)?;
+            Ok(Term::Binary(*operator, left, right))
         }
-        Term::Or(left, right) => {
-            let (left, right) = copy_operands(alloc, left, right)?;
-            Ok(Term::Or(left, right))
-        }
-        Term::Implies(left, right) => {
-            let (left, right) = copy_operands(alloc, left, right)?;
-            Ok(Term::Implies(left, right))
-        }
-        Term::Iff(left, right) => {
-            let (left, right) = copy_operands(alloc, left, right)?;
-            Ok(Term::Iff(left, right))
-        }
-        Term::Diamond(action, operand) => {
+        Term::Modal(modality, action, operand) => {
             let operand = copy_operand(alloc, operand)?;
-            Ok(Term::Diamond(action.copy()?, operand))
+            Ok(Term::Modal(*modality, action.copy()?, operand))
         }
-        Term::Square(action, operand) => {
-            let operand = copy_operand(alloc, operand)?;
-            Ok(Term::Square(action.copy()?, operand))
-        }
-        Term::Mu(name, body) => {
+        Term::Binder(fixpoint, name, body) => {
             let body = copy_operand(alloc, body)?;
-            Ok(Term::Mu(name.copy()?, body))
-        }
-        Term::Nu(name, body) => {
-            let body = copy_operand(alloc, body)?;
-            Ok(Term::Nu(name.copy()?, body))
+            Ok(Term::Binder(*fixpoint, name.copy()?, body))
         }
     }
 }
@@ -71,20 +52,6 @@ fn copy_operand(alloc: Global, operand: &Term) -> Result<Box<Term>, NoMemory>
 {
     let copied = copy_term(alloc, operand)?;
     Ok(Box::new(alloc, copied)?)
-}
-
-#[cycle(copier)]
-fn copy_operands(
-    alloc: Global,
-    left: &Term,
-    right: &Term,
-) -> Result<(Box<Term>, Box<Term>), NoMemory>
-    ensures left { IfOk result (λ copied. formula_of copied.0.value ≡ formula_of left.now) }
-    ensures right { IfOk result (λ copied. formula_of copied.1.value ≡ formula_of right.now) }
-{
-    let left = copy_operand(alloc, left)?;
-    let right = copy_operand(alloc, right)?;
-    Ok((left, right))
 }
 
 /// How many occurrences a formula has, from 1 to 1,000: constants, propositions, variables, operators, modalities and
@@ -105,13 +72,9 @@ fn count(term: &Term) -> u32
 {
     match term {
         Term::Const(_) | Term::Prop(_) | Term::Var(_) => 1,
-        Term::Not(operand) | Term::Diamond(_, operand) | Term::Square(_, operand) => {
-            1 + count(operand)
-        }
-        Term::And(left, right) | Term::Or(left, right) | Term::Implies(left, right) => {
-            1 + count(left) + count(right)
-        }
-        Term::Iff(left, right) => 3 + count(left) + count(right),
-        Term::Mu(_, body) | Term::Nu(_, body) => 1 + count(body),
+        Term::Not(operand) | Term::Modal(_, _, operand) => 1 + count(operand),
+        Term::Binder(_, _, body) => 1 + count(body),
+        Term::Binary(Operator::Iff, left, right) => 3 + count(left) + count(right),
+        Term::Binary(_, left, right) => 1 + count(left) + count(right),
     }
 }

@@ -9,7 +9,7 @@ ghost use Rattle.ml_mu.specs.private.Environment.{given_of};
 ghost use Rattle.ml_mu.specs.Meaning.{HaveFlags};
 ghost use Rattle.ml_mu.specs.Term.{formula_of};
 
-use crate::{Formula, Term};
+use crate::{Fixpoint, Formula, Modality, Term};
 use ml_base::{Action, Edge, Name, NoMemory};
 use ml_kripke::Structure;
 use ml_text::Operator;
@@ -87,59 +87,20 @@ fn evaluate_term<'a>(
             let set = evaluate_term(alloc, structure, given, operand)?;
             complement(alloc, &set)
         }
-        Term::And(left, right) => {
-            evaluate_binary(alloc, structure, given, Operator::And, left, right)
+        Term::Binary(operator, left, right) => {
+            let left = evaluate_term(alloc, structure, given, left)?;
+            let right = evaluate_term(alloc, structure, given, right)?;
+            combine(alloc, *operator, &left, &right)
         }
-        Term::Or(left, right) => evaluate_binary(
-            alloc,
-            structure,
-            given,
-            Operator::Or,
-            left,
-            right,
-        ),
-        Term::Implies(left, right) => {
-            evaluate_binary(alloc, structure, given, Operator::Implies, left, right)
-        }
-        Term::Iff(left, right) => {
-            evaluate_binary(alloc, structure, given, Operator::Iff, left, right)
-        }
-        Term::Diamond(action, operand) => {
+        Term::Modal(modality, action, operand) => {
             let set = evaluate_term(alloc, structure, given, operand)?;
-            diamond(alloc, structure, action, &set)
+            modal(alloc, structure, *modality, action, &set)
         }
-        Term::Square(action, operand) => {
-            let set = evaluate_term(alloc, structure, given, operand)?;
-            square(alloc, structure, action, &set)
-        }
-        Term::Mu(variable, body) => {
-            let nowhere = constant(alloc, structure.states(), false)?;
-            last_iterate(alloc, structure, given, variable, body, nowhere)
-        }
-        Term::Nu(variable, body) => {
-            let everywhere = constant(alloc, structure.states(), true)?;
-            last_iterate(alloc, structure, given, variable, body, everywhere)
+        Term::Binder(fixpoint, variable, body) => {
+            let first = first_iterate(alloc, structure, *fixpoint)?;
+            last_iterate(alloc, structure, given, variable, body, first)
         }
     }
-}
-
-#[cycle(evaluator)]
-fn evaluate_binary<'a>(
-    alloc: Global,
-    structure: &Structure,
-    given: &'a Bindings<'a>,
-    operator: Operator,
-    left: &'a Term,
-    right: &'a Term,
-) -> Result<Vec<bool>, NoMemory>
-    requires { HaveFlags structure.now.states (given_of given.now) }
-    ensures value { IfOk result (λ set. set.items
-        ≡ mean.meaning structure.now (given_of given.now) (plain.Binary operator (formula_of left.now) (formula_of right.now))) }
-    ensures flags { IfOk result (λ set. length set.items ≡ structure.now.states) }
-{
-    let left = evaluate_term(alloc, structure, given, left)?;
-    let right = evaluate_term(alloc, structure, given, right)?;
-    combine(alloc, operator, &left, &right)
 }
 
 // the iterate of the body from the set `first` with the number of states: all iterates behind a repeated one are equal
@@ -172,6 +133,21 @@ fn last_iterate<'a>(
         set = next;
     }
     Ok(set)
+}
+
+// the set from which a fixpoint is approached
+fn first_iterate(
+    alloc: Global,
+    structure: &Structure,
+    fixpoint: Fixpoint,
+) -> Result<Vec<bool>, NoMemory>
+    ensures value { IfOk result (λ set. set.items ≡ mean.first_iterate structure.now fixpoint) }
+    ensures flags { IfOk result (λ set. length set.items ≡ structure.now.states) }
+{
+    match fixpoint {
+        Fixpoint::Least => constant(alloc, structure.states(), false),
+        Fixpoint::Greatest => constant(alloc, structure.states(), true),
+    }
 }
 
 // all states, or none
@@ -267,6 +243,24 @@ fn truth_of(operator: Operator, left: bool, right: bool) -> bool
         Operator::Or => left || right,
         Operator::Implies => !left || right,
         Operator::Iff => left == right,
+    }
+}
+
+// the states whose edges by the action lead into the set, some of them or all
+fn modal(
+    alloc: Global,
+    structure: &Structure,
+    modality: Modality,
+    action: &Action,
+    set: &[bool],
+) -> Result<Vec<bool>, NoMemory>
+    requires { length set.now ≡ structure.now.states }
+    ensures value { IfOk result (λ states. states.items ≡ mean.modal structure.now modality action.now set.now) }
+    ensures flags { IfOk result (λ states. length states.items ≡ structure.now.states) }
+{
+    match modality {
+        Modality::Diamond => diamond(alloc, structure, action, set),
+        Modality::Square => square(alloc, structure, action, set),
     }
 }
 

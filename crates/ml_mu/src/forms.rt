@@ -4,13 +4,13 @@ ghost use Rattle.std.specs.Option.{option_map};
 ghost use Rattle.ml_text.specs.private.Views.{GivesBack, mode_view, turn_view};
 ghost use Rattle.ml_mu.specs.private.FormViews.{hold_view, wait_view};
 ghost use Rattle.ml_mu.specs.private.Reader.{mu_tables};
-ghost use Rattle.ml_mu.specs.private.SignViews.{modality_of, sign_view};
+ghost use Rattle.ml_mu.specs.private.SignViews.{sign_view};
 ghost use Rattle.ml_mu.specs.private.Tables as tables;
 ghost use Rattle.ml_mu.specs.Formula as plain;
 ghost use Rattle.ml_mu.specs.Term.{formula_of};
 
-use crate::Term;
-use crate::signs::{Fixpoint, Modality, Sign};
+use crate::signs::Sign;
+use crate::{Fixpoint, Modality, Term};
 use ml_base::{Action, Name, NoMemory};
 use ml_text::{Mode, Operator};
 use std::alloc::Global;
@@ -56,7 +56,7 @@ fn shift_operand(sign: Sign) -> Option<Turn>
 
 fn shift_begin(alloc: Global, modality: Modality, sign: Sign) -> Result<Option<Turn>, NoMemory>
     ensures { IfOk result (λ turn.
-        option_map (turn_view mu_tables) turn ≡ tables.shift_begin (modality_of modality) (sign_view sign)) }
+        option_map (turn_view mu_tables) turn ≡ tables.shift_begin modality (sign_view sign)) }
 {
     let action = match (modality, sign) {
         (Modality::Diamond, Sign::Ends(Modality::Diamond))
@@ -73,7 +73,7 @@ fn shift_begin(alloc: Global, modality: Modality, sign: Sign) -> Result<Option<T
 }
 
 fn shift_action(modality: Modality, action: Action, sign: Sign) -> Option<Turn>
-    ensures { option_map (turn_view mu_tables) result ≡ tables.shift_action (modality_of modality) action (sign_view sign) }
+    ensures { option_map (turn_view mu_tables) result ≡ tables.shift_action modality action (sign_view sign) }
 {
     match (modality, sign) {
         (Modality::Diamond, Sign::Ends(Modality::Diamond))
@@ -116,17 +116,12 @@ pub(crate) fn resume(alloc: Global, hold: Hold, term: Term) -> Result<Mode<Term,
 {
     Ok(match hold {
         Hold::Negation => Mode::Whole(Term::Not(Box::new(alloc, term)?)),
-        Hold::Modal(Modality::Diamond, action) => {
-            Mode::Whole(Term::Diamond(action, Box::new(alloc, term)?))
+        Hold::Modal(modality, action) => {
+            Mode::Whole(Term::Modal(modality, action, Box::new(alloc, term)?))
         }
-        Hold::Modal(Modality::Square, action) => {
-            Mode::Whole(Term::Square(action, Box::new(alloc, term)?))
+        Hold::Binder(fixpoint, name) => {
+            Mode::Whole(Term::Binder(fixpoint, name, Box::new(alloc, term)?))
         }
-        Hold::Binder(Fixpoint::Least, name) => Mode::Whole(Term::Mu(name, Box::new(alloc, term)?)),
-        Hold::Binder(Fixpoint::Greatest, name) => Mode::Whole(Term::Nu(
-            name,
-            Box::new(alloc, term)?,
-        )),
         Hold::Group => Mode::More(Wait::BehindInside(term)),
     })
 }
@@ -143,10 +138,5 @@ pub(crate) fn join(
 {
     let left = Box::new(alloc, left)?;
     let right = Box::new(alloc, right)?;
-    Ok(match operator {
-        Operator::Iff => Term::Iff(left, right),
-        Operator::Implies => Term::Implies(left, right),
-        Operator::Or => Term::Or(left, right),
-        Operator::And => Term::And(left, right),
-    })
+    Ok(Term::Binary(operator, left, right))
 }

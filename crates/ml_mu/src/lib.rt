@@ -27,4 +27,4 @@ pub use evaluator::{evaluate, holds};
 pub use formula::Formula;
 pub use parsing::parse;
 pub use printing::{append_text, print};
-pub use term::Term;
+pub use term::{Fixpoint, Modality, Term};

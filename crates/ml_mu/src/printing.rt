@@ -1,13 +1,15 @@
 // The canonical text of a formula.
 ghost use Rattle.std.specs.Prelude.{◌≡◌, ◌++◌, List, ℕ, take, IfOk, OnOk, OnErr, codes, vec_len};
-ghost use Rattle.ml_mu.specs.Canonical.{canonical_text, action_text};
+ghost use Rattle.ml_text.specs.Operators.{spelling_of};
+ghost use Rattle.ml_mu.specs.Canonical.{action_text, canonical_text, fixpoint_word, modality_text};
 ghost use Rattle.ml_mu.specs.Parsing.{IsParsedAs};
 ghost use Rattle.ml_mu.specs.Term.{formula_of};
 ghost use Rattle.ml_mu.specs.WellFormed.{IsWellFormed};
 
-use crate::{Formula, Term};
+use crate::{Fixpoint, Formula, Modality, Term};
 use ml_base::{Action, Name, NoMemory};
 use ml_lines::whole_or_none;
+use ml_text::Operator;
 use std::alloc::{AllocError, Global};
 
 /// The canonical text of a formula, which is read back as the same formula.
@@ -55,54 +57,61 @@ fn write_term(text: &mut Vec<u8>, term: &Term) -> Result<(), AllocError>
             text.extend_from_slice(b"!")?;
             write_term(text, operand)
         }
-        Term::And(left, right) => write_binary(text, left, b" & ", right),
-        Term::Or(left, right) => write_binary(text, left, b" | ", right),
-        Term::Implies(left, right) => write_binary(text, left, b" -> ", right),
-        Term::Iff(left, right) => write_binary(text, left, b" <-> ", right),
-        Term::Diamond(action, operand) => write_modal(text, b"<", action, b">", operand),
-        Term::Square(action, operand) => write_modal(text, b"[", action, b"]", operand),
-        Term::Mu(variable, body) => write_binder(text, b"mu ", variable, body),
-        Term::Nu(variable, body) => write_binder(text, b"nu ", variable, body),
+        Term::Binary(operator, left, right) => {
+            text.extend_from_slice(b"(")?;
+            write_term(text, left)?;
+            text.extend_from_slice(infix(*operator))?;
+            write_term(text, right)?;
+            text.extend_from_slice(b")")
+        }
+        Term::Modal(modality, action, operand) => {
+            write_modality(text, *modality, action)?;
+            write_term(text, operand)
+        }
+        Term::Binder(fixpoint, variable, body) => {
+            text.extend_from_slice(prefix(*fixpoint))?;
+            text.extend_from_slice(variable.bytes())?;
+            text.extend_from_slice(b". ")?;
+            write_term(text, body)?;
+            text.extend_from_slice(b")")
+        }
     }
 }
 
-// `(left sign right)`; the sign has its blanks
-#[cycle(printer)]
-fn write_binary(
-    text: &mut Vec<u8>,
-    left: &Term,
-    sign: &[u8],
-    right: &Term,
-) -> Result<(), AllocError>
-    ensures text { OnOk result (text.new.items ≡
-        text.old.items ++ (codes "(" ++ canonical_text (formula_of left.now) ++ sign.now
-        ++ canonical_text (formula_of right.now) ++ codes ")")) }
-    ensures front { take (vec_len text.old) text.new.items ≡ text.old.items }
+// a connective between its operands, with its blanks
+fn infix(operator: Operator) -> &'static [u8]
+    ensures { result.now ≡ codes " " ++ spelling_of operator ++ codes " " }
 {
-    text.extend_from_slice(b"(")?;
-    write_term(text, left)?;
-    text.extend_from_slice(sign)?;
-    write_term(text, right)?;
-    text.extend_from_slice(b")")
+    match operator {
+        Operator::And => b" & ",
+        Operator::Or => b" | ",
+        Operator::Implies => b" -> ",
+        Operator::Iff => b" <-> ",
+    }
 }
 
-// the operand behind the two signs of its modality, between which the action stands unless it is `_`
-#[cycle(printer)]
-fn write_modal(
-    text: &mut Vec<u8>,
-    opens: &[u8],
-    action: &Action,
-    closes: &[u8],
-    operand: &Term,
-) -> Result<(), AllocError>
-    ensures text { OnOk result (text.new.items ≡
-        text.old.items ++ (opens.now ++ action_text action.now ++ closes.now ++ canonical_text (formula_of operand.now))) }
+// a binder in front of its variable, with its parenthesis and its blank
+fn prefix(fixpoint: Fixpoint) -> &'static [u8]
+    ensures { result.now ≡ codes "(" ++ fixpoint_word fixpoint ++ codes " " }
+{
+    match fixpoint {
+        Fixpoint::Least => b"(mu ",
+        Fixpoint::Greatest => b"(nu ",
+    }
+}
+
+// the two signs of a modality, between which the action stands unless it is `_`
+fn write_modality(text: &mut Vec<u8>, modality: Modality, action: &Action) -> Result<(), AllocError>
+    ensures text { OnOk result (text.new.items ≡ text.old.items ++ modality_text modality action.now) }
     ensures front { take (vec_len text.old) text.new.items ≡ text.old.items }
 {
-    text.extend_from_slice(opens)?;
+    let (opens, closes) = match modality {
+        Modality::Diamond => (b'<', b'>'),
+        Modality::Square => (b'[', b']'),
+    };
+    text.push(opens)?;
     write_action(text, action)?;
-    text.extend_from_slice(closes)?;
-    write_term(text, operand)
+    Ok(text.push(closes)?)
 }
 
 // the action between the signs of a modality, unless it is `_`
@@ -114,25 +123,4 @@ fn write_action(text: &mut Vec<u8>, action: &Action) -> Result<(), AllocError>
         return Ok(());
     }
     text.extend_from_slice(action.bytes())
-}
-
-// `(word variable. body)`; the word has its blank
-#[cycle(printer)]
-fn write_binder(
-    text: &mut Vec<u8>,
-    word: &[u8],
-    variable: &Name,
-    body: &Term,
-) -> Result<(), AllocError>
-    ensures text { OnOk result (text.new.items ≡
-        text.old.items ++ (codes "(" ++ word.now ++ variable.now ++ codes ". " ++ canonical_text (formula_of body.now)
-        ++ codes ")")) }
-    ensures front { take (vec_len text.old) text.new.items ≡ text.old.items }
-{
-    text.extend_from_slice(b"(")?;
-    text.extend_from_slice(word)?;
-    text.extend_from_slice(variable.bytes())?;
-    text.extend_from_slice(b". ")?;
-    write_term(text, body)?;
-    text.extend_from_slice(b")")
 }

@@ -1,29 +1,17 @@
 // The signs of mu texts: tokens as the grammar sees them.
 ghost use Rattle.std.specs.Prelude.{◌≡◌, ℕ, ◌≤◌, false, if◌then◌else◌, bytes_eq, codes, IfOk, List, None, Some};
-ghost use Rattle.std.specs.Option.{option_map};
 ghost use Rattle.ml_text.specs.Spelling.{Spells};
 ghost use Rattle.ml_text.specs.Words.{IsWord};
 ghost use Rattle.ml_mu.specs.Formula as plain;
 ghost use Rattle.ml_mu.specs.Signs as grammar;
 ghost use Rattle.ml_mu.specs.Spelling as spelling;
-ghost use Rattle.ml_mu.specs.private.SignViews.{fixpoint_of, named, sign_view};
+ghost use Rattle.ml_mu.specs.private.SignViews.{named, sign_view};
 ghost use Rattle.ml_mu.specs.Text.{bracket_of, is_variable_at, silences, weight_of};
 
+use crate::{Fixpoint, Modality};
 use ml_base::{Name, NoMemory};
 use ml_text::{Bracket, Operator, Token, WordStart, constant_of, is_lower};
 use std::alloc::Global;
-
-#[derive(Clone, Copy)]
-pub(crate) enum Modality {
-    Diamond,
-    Square,
-}
-
-#[derive(Clone, Copy)]
-pub(crate) enum Fixpoint {
-    Least,
-    Greatest,
-}
 
 // a token, where N is what is held of a name
 #[derive(Clone, Copy, Drop)]
@@ -71,7 +59,7 @@ fn name_kind(word: &[u8]) -> Kind
 
 // the binder whose word this is
 fn binder_of(word: &[u8]) -> Option<Fixpoint>
-    ensures { option_map fixpoint_of result ≡ (if bytes_eq word.now (codes "mu") then Some plain.Least
+    ensures { result ≡ (if bytes_eq word.now (codes "mu") then Some plain.Least
         else (if bytes_eq word.now (codes "nu") then Some plain.Greatest else None)) }
 {
     match word {

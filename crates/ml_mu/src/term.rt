@@ -1,5 +1,24 @@
 // The tree of a formula.
 use ml_base::{Action, Name};
+use ml_text::Operator;
+
+/// Of which edges a modality speaks.
+#[derive(Clone, Copy)]
+pub enum Modality {
+    /// `<a>f`: some edge with the action leads to a state where the operand holds.
+    Diamond,
+    /// `[a]f`: every edge with the action leads to a state where the operand holds.
+    Square,
+}
+
+/// Which fixpoint a binder means.
+#[derive(Clone, Copy)]
+pub enum Fixpoint {
+    /// `mu X. f`
+    Least,
+    /// `nu X. f`
+    Greatest,
+}
 
 /// A formula as a tree that owns its parts. Operands stand in the order of the text.
 ///
@@ -10,16 +29,7 @@ pub enum Term {
     Prop(Name),
     Var(Name),
     Not(Box<Term>),
-    And(Box<Term>, Box<Term>),
-    Or(Box<Term>, Box<Term>),
-    Implies(Box<Term>, Box<Term>),
-    Iff(Box<Term>, Box<Term>),
-    /// `<a>f`: some edge with the action leads to a state where the operand holds.
-    Diamond(Action, Box<Term>),
-    /// `[a]f`: every edge with the action leads to a state where the operand holds.
-    Square(Action, Box<Term>),
-    /// `mu X. f`, the least fixpoint.
-    Mu(Name, Box<Term>),
-    /// `nu X. f`, the greatest fixpoint.
-    Nu(Name, Box<Term>),
+    Binary(Operator, Box<Term>, Box<Term>),
+    Modal(Modality, Action, Box<Term>),
+    Binder(Fixpoint, Name, Box<Term>),
 }

@@ -1,13 +1,13 @@
 // How the variables of a formula stand: which of them have no binder or aren't positive.
-ghost use Rattle.std.specs.Prelude.{◌≡◌, ◌+◌, ◌≤◌, ◌++◌, map, IfOk, MatchOption, None, OnOk, Some};
+ghost use Rattle.std.specs.Prelude.{◌≡◌, ◌+◌, ◌≤◌, ◌++◌, IfOk, MatchOption, None, OnOk, Some};
 ghost use Rattle.ml_mu.specs.Formula.{occurrences};
 ghost use Rattle.ml_mu.specs.Term.{formula_of};
 ghost use Rattle.ml_mu.specs.VariableFaults as faults;
-ghost use Rattle.ml_mu.specs.private.VariableViews.{IsFaultOf, scope_view, standing_view};
+ghost use Rattle.ml_mu.specs.private.VariableViews.{IsFaultOf, scope_view};
 
 use crate::Term;
 use ml_base::{Name, NoMemory, ParseRefusal};
-use ml_text::MOST_OCCURRENCES;
+use ml_text::{MOST_OCCURRENCES, Operator};
 use std::alloc::{AllocError, Global};
 
 /// How a variable stands.
@@ -26,7 +26,7 @@ enum Scope<'a> {
 }
 
 fn standing_of(scope: &Scope<'_>, negations: u32, iffs: u32, name: &Name) -> Standing
-    ensures { standing_view result ≡ faults.standing_of (scope_view scope.now) negations iffs name.now }
+    ensures { result ≡ faults.standing_of (scope_view scope.now) negations iffs name.now }
 {
     match scope {
         Scope::Outermost => Standing::Unbound,
@@ -52,8 +52,7 @@ fn collect(
 ) -> Result<(), AllocError>
     requires few_negations { negations + occurrences (formula_of term.now) ≤ MOST_OCCURRENCES }
     requires few_iffs { iffs + occurrences (formula_of term.now) ≤ MOST_OCCURRENCES }
-    ensures { OnOk result (map standing_view found.new.items
-        ≡ map standing_view found.old.items
+    ensures { OnOk result (found.new.items ≡ found.old.items
         ++ faults.standings_in (scope_view scope.now) negations iffs (formula_of term.now)) }
 {
     match term {
@@ -63,22 +62,20 @@ fn collect(
             Ok(())
         }
         Term::Not(operand) => collect(operand, scope, negations + 1, iffs, found),
-        Term::And(left, right) | Term::Or(left, right) => {
+        Term::Binary(Operator::And | Operator::Or, left, right) => {
             collect(left, scope, negations, iffs, found)?;
             collect(right, scope, negations, iffs, found)
         }
-        Term::Implies(left, right) => {
+        Term::Binary(Operator::Implies, left, right) => {
             collect(left, scope, negations + 1, iffs, found)?;
             collect(right, scope, negations, iffs, found)
         }
-        Term::Iff(left, right) => {
+        Term::Binary(Operator::Iff, left, right) => {
             collect(left, scope, negations, iffs + 1, found)?;
             collect(right, scope, negations, iffs + 1, found)
         }
-        Term::Diamond(_, operand) | Term::Square(_, operand) => {
-            collect(operand, scope, negations, iffs, found)
-        }
-        Term::Mu(name, body) | Term::Nu(name, body) => {
+        Term::Modal(_, _, operand) => collect(operand, scope, negations, iffs, found),
+        Term::Binder(_, name, body) => {
             let inside = Scope::Inside(name, negations, iffs, &*scope);
             collect(body, &inside, negations, iffs, found)
         }
@@ -88,7 +85,7 @@ fn collect(
 /// How the variables of a term stand, in the order of the text.
 pub(crate) fn standings(alloc: Global, term: &Term) -> Result<Vec<Standing>, NoMemory>
     requires { occurrences (formula_of term.now) ≤ MOST_OCCURRENCES }
-    ensures { IfOk result (λ found. map standing_view found.items ≡ faults.standings (formula_of term.now)) }
+    ensures { IfOk result (λ found. found.items ≡ faults.standings (formula_of term.now)) }
 {
     let mut found = Vec::new(alloc);
     collect(term, &Scope::Outermost, 0, 0, &mut found)?;
@@ -98,8 +95,8 @@ pub(crate) fn standings(alloc: Global, term: &Term) -> Result<Vec<Standing>, NoM
 // the refusal at a variable that stands so
 fn fault_here(standing: Standing, at: u64) -> Option<ParseRefusal>
     ensures { MatchOption result
-        (standing_view standing ≡ faults.Fine)
-        (λ refusal. IsFaultOf refusal (Some (standing_view standing, at))) }
+        (standing ≡ faults.Fine)
+        (λ refusal. IsFaultOf refusal (Some (standing, at))) }
 {
     match standing {
         Standing::Fine => None,
@@ -111,7 +108,7 @@ fn fault_here(standing: Standing, at: u64) -> Option<ParseRefusal>
 /// The refusal at the first variable that is at fault, if one is: they stand so, and at these places, in the order of
 /// the text.
 pub(crate) fn first_fault(standings: &[Standing], places: &[u64]) -> Option<ParseRefusal>
-    ensures { let first = faults.fault_at (map standing_view standings.now) places.now in
+    ensures { let first = faults.fault_at standings.now places.now in
         MatchOption result (first ≡ None) (λ refusal. IsFaultOf refusal first) }
 {
     let mut standings = standings;

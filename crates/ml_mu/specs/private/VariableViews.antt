@@ -1,7 +1,6 @@
--- How the program holds binders and the standings of variables.
+-- How the program holds binders and the faults of variables.
 --
 --   scope_view s     == the binders around, innermost first
---   standing_view s  == the standing of a variable
 --   IsFaultOf e o    == the refusal e is the first fault o, with its place
 use Rattle.std.specs.Prelude.{ℕ, ◌≡◌, List, [], ◌∷◌, Option, Some}
 use Rattle.ml_base.specs.declared.parse_refusal.ParseRefusal.{ParseRefusal}
@@ -10,13 +9,6 @@ use Rattle.ml_mu.specs.VariableFaults as faults
 use Rattle.ml_mu.specs.VariableFaults.{Around}
 use Rattle.ml_mu.specs.declared.variables.Scope.{Scope}
 use Rattle.ml_mu.specs.declared.variables.Scope.TheVariants as scope
-use Rattle.ml_mu.specs.declared.variables.Standing.{Standing}
-use Rattle.ml_mu.specs.declared.variables.Standing.TheVariants as standing
-
-abbrev pub standing_view : Standing → faults.Standing
-standing_view standing.Fine = faults.Fine
-standing_view standing.Unbound = faults.Unbound
-standing_view standing.NotPositive = faults.NotPositive
 
 abbrev pub IsFaultOf : ParseRefusal → Option (faults.Standing × ℕ) → Type 0
 IsFaultOf (refusal.Unbound at) o = o ≡ Some (faults.Unbound, at)

@@ -5,10 +5,7 @@ use Rattle.ml_mu.specs.Term.{formula_of}
 use Rattle.ml_mu.proofs.copying.+copier.Given as goal
 
 abbrev pub decreases-copy_term : goal.decreases-copy_term
-decreases-copy_term l = 3 * occurrences (formula_of l.term.now)
+decreases-copy_term l = 2 * occurrences (formula_of l.term.now)
 
 abbrev pub decreases-copy_operand : goal.decreases-copy_operand
-decreases-copy_operand l = 3 * occurrences (formula_of l.operand.now) + 1
-
-abbrev pub decreases-copy_operands : goal.decreases-copy_operands
-decreases-copy_operands l = 3 * occurrences (formula_of l.left.now) + 3 * occurrences (formula_of l.right.now) + 2
+decreases-copy_operand l = 2 * occurrences (formula_of l.operand.now) + 1

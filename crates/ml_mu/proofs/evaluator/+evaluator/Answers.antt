@@ -3,25 +3,32 @@ use Rattle.std.proofs.lemmas.Result.{IfOk-weaker}
 use Rattle.ml_mu.specs.private.Environment.{given_of}
 use Rattle.ml_mu.specs.Meaning.{meaning}
 use Rattle.ml_mu.specs.Term.{formula_of}
+use Rattle.ml_mu.specs.declared.term.Term.{Term}
 use Rattle.ml_mu.proofs.Evaluation.{constant_value, binary_value, binary_flags, body_step, stops_early, same_flags}
 use Rattle.ml_mu.proofs.evaluator.+evaluator.Goals as goal
 
-pub evaluate_binary-returns-clause-value : goal.evaluate_binary-returns-clause-value
-evaluate_binary-returns-clause-value t c =
+pub evaluate_term-returns-in_ok-right-in-Binary-clause-value : goal.evaluate_term-returns-in_ok-right-in-Binary-clause-value
+evaluate_term-returns-in_ok-right-in-Binary-clause-value t c =
+    let means = λ (term : Term). meaning c.args.structure.now (given_of c.args.given.now) (formula_of term) in
     IfOk-weaker c.combine.result _ _
     (λ set is.
-    binary_value c.args.structure.now (given_of c.args.given.now) c.args.operator (formula_of c.args.left.now)
-    (formula_of c.args.right.now)
-    c.deref.result.now c.deref-2.result.now set.items
-    (c.deref.ensures.value ∙ c.in_ok-left.ensures.value) (c.deref-2.ensures.value ∙ c.in_ok-right.ensures.value)
-    (ap length c.deref.ensures.value ∙ c.in_ok-left.ensures.flags) (ap length c.deref-2.ensures.value ∙ c.in_ok-right.ensures.flags) is)
+    binary_value c.args.structure.now (given_of c.args.given.now) c.in-Binary.operator
+    (formula_of c.in-Binary.left.value) (formula_of c.in-Binary.right.value)
+    c.deref-in-Binary-3.result.now c.deref-in-Binary-4.result.now set.items
+    (c.deref-in-Binary-3.ensures.value ∙ c.in_ok-left-in-Binary.ensures.value ∙ ap means c.deref-in-Binary.ensures)
+    (c.deref-in-Binary-4.ensures.value ∙ c.in_ok-right-in-Binary.ensures.value ∙ ap means c.deref-in-Binary-2.ensures)
+    (ap length c.deref-in-Binary-3.ensures.value ∙ c.in_ok-left-in-Binary.ensures.flags)
+    (ap length c.deref-in-Binary-4.ensures.value ∙ c.in_ok-right-in-Binary.ensures.flags) is
+    ∙ ap means (sym c.in-Binary.is))
     c.combine.ensures
 
-pub evaluate_binary-returns-clause-flags : goal.evaluate_binary-returns-clause-flags
-evaluate_binary-returns-clause-flags t c =
+pub evaluate_term-returns-in_ok-right-in-Binary-clause-flags : goal.evaluate_term-returns-in_ok-right-in-Binary-clause-flags
+evaluate_term-returns-in_ok-right-in-Binary-clause-flags t c =
     IfOk-weaker c.combine.result _ _
-    (λ set is. binary_flags c.args.structure.now.states c.args.operator c.deref.result.now c.deref-2.result.now set.items
-    (ap length c.deref.ensures.value ∙ c.in_ok-left.ensures.flags) (ap length c.deref-2.ensures.value ∙ c.in_ok-right.ensures.flags) is)
+    (λ set is.
+    binary_flags c.args.structure.now.states c.in-Binary.operator c.deref-in-Binary-3.result.now c.deref-in-Binary-4.result.now set.items
+    (ap length c.deref-in-Binary-3.ensures.value ∙ c.in_ok-left-in-Binary.ensures.flags)
+    (ap length c.deref-in-Binary-4.ensures.value ∙ c.in_ok-right-in-Binary.ensures.flags) is)
     c.combine.ensures
 
 pub evaluate_term-returns-in-Const-clause-value : goal.evaluate_term-returns-in-Const-clause-value

@@ -11,9 +11,6 @@ use Rattle.ml_mu.proofs.evaluator.+evaluator.Given as goal
 abbrev pub decreases-evaluate_term : goal.decreases-evaluate_term
 decreases-evaluate_term l = 2 * occurrences (formula_of l.term.now)
 
-abbrev pub decreases-evaluate_binary : goal.decreases-evaluate_binary
-decreases-evaluate_binary l = 2 * occurrences (formula_of l.left.now) + 2 * occurrences (formula_of l.right.now) + 1
-
 abbrev pub decreases-last_iterate : goal.decreases-last_iterate
 decreases-last_iterate l = 2 * occurrences (formula_of l.body.now) + 1
 

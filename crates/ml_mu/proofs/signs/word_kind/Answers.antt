@@ -1,6 +1,5 @@
 use Rattle.std.proofs.Common.{sym, ◌∙◌, ap, bytes_eq, codes}
 use Rattle.ml_mu.specs.Signs.{name_sign, word_sign_by}
-use Rattle.ml_mu.specs.private.SignViews.{fixpoint_of}
 use Rattle.ml_mu.proofs.Names.{free_word, no_binder, other_word, some_binder}
 use Rattle.ml_mu.proofs.signs.word_kind.Goals as goal
 
@@ -21,6 +20,6 @@ returns-in-None c =
 pub returns-in-Some-binder_of : goal.returns-in-Some-binder_of
 returns-in-Some-binder_of c =
     let word = c.args.word.now in
-    some_binder (bytes_eq word (codes "mu")) (bytes_eq word (codes "nu")) (fixpoint_of c.in-Some-binder_of.fixpoint)
+    some_binder (bytes_eq word (codes "mu")) (bytes_eq word (codes "nu")) c.in-Some-binder_of.fixpoint
     (name_sign word) c.in-Some-binder_of.ensures
     ∙ ap (λ o. word_sign_by o word) (c.in_default.ensures {u = tt})
