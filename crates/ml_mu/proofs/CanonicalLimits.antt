@@ -2,21 +2,20 @@
 --
 --   tokens_short  == the tokens of the canonical text of a formula with short names are short
 --   few_open      == it opens at most as many parentheses as its formula has occurrences
-use Rattle.std.proofs.Common.{◌≡◌, ℕ, ◌+◌, ◌≤◌, Bool, true, false, List, ◌∷◌, length, Option, Some, None, cond, codes, bytes_eq, refl, arith}
+use Rattle.std.proofs.Common.{◌≡◌, ℕ, ◌+◌, ◌≤◌, Bool, true, false, List, ◌∷◌, length, cond, codes, bytes_eq, refl, arith}
 use Rattle.std.specs.List.{AllByRecursion}
 use Rattle.ml_text.specs.declared.token.Token.TheVariants as token
-use Rattle.ml_text.specs.Words.{constant_of}
 use Rattle.ml_text.specs.Operators.{spelling_of}
+use Rattle.ml_text.proofs.NamedSigns.{closed_word}
 use Rattle.ml_text.proofs.Pieces.{lone}
-use Rattle.ml_text.proofs.TableItems.{IsShort, short_word, opening, opens_spelt, one_of}
+use Rattle.ml_text.proofs.TableItems.{IsShort, short_word, opening, opens_spelt}
 use Rattle.ml_text.proofs.Scans.{Spelt}
 use Rattle.ml_text.proofs.AcceptedTexts.{weight_some}
 use Rattle.ml_mu.specs.Formula as plain
 use Rattle.ml_mu.specs.Formula.{Formula, Modality, Diamond, Square, Fixpoint, Least, Greatest, occurrences}
 use Rattle.ml_mu.specs.Canonical.{fixpoint_word}
-use Rattle.ml_mu.specs.Spelling.{is_proposition, is_variable}
-use Rattle.ml_mu.specs.Signs.{Sign, Lower, Upper, Unknown, word_sign, word_sign_by}
-use Rattle.ml_mu.specs.Text.{bracket_of}
+use Rattle.ml_text.specs.Signs.{bracket_of, word_sign}
+use Rattle.ml_mu.specs.Signs.{own}
 use Rattle.ml_mu.proofs.CanonicalTexts.{action_tokens, begin_byte, end_byte, tokens_onto, sign_spelt}
 use Rattle.ml_mu.specs.Spelling.{HasShortNames}
 
@@ -59,27 +58,16 @@ tokens_short (plain.Binder q x f) short ss all =
 -- ---- parentheses
 
 abbrev pub opens_of : List Spelt → ℕ
-opens_of ss = opens_spelt (λ s. bracket_of (sign_spelt s)) ss
+opens_of ss = opens_spelt (λ s. bracket_of own (sign_spelt s)) ss
 
-abbrev IsClosed : Sign → Type 0
-IsClosed s = opening (bracket_of s) ≡ 0
+closed : (w : List ℕ) → opening (bracket_of own (word_sign own w)) ≡ 0
+closed w = closed_word own (refl, (refl, tt)) w
 
-closed_word_by : (o : Option Bool) (w : List ℕ) → opening (bracket_of (word_sign_by o w)) ≡ 0
-closed_word_by (Some b) w = refl
-closed_word_by None w =
-    one_of IsClosed (bytes_eq w (codes "mu")) _ _ refl
-    (one_of IsClosed (bytes_eq w (codes "nu")) _ _ refl
-    (one_of IsClosed (is_proposition w) (Lower w) (cond (is_variable w) (Upper w) Unknown) refl
-    (one_of IsClosed (is_variable w) (Upper w) Unknown refl refl)))
-
-closed_word : (w : List ℕ) → opening (bracket_of (word_sign w)) ≡ 0
-closed_word w = closed_word_by (constant_of w) w
-
-closed_begin : (m : Modality) → opening (bracket_of (sign_spelt (lone (begin_byte m)))) ≡ 0
+closed_begin : (m : Modality) → opening (bracket_of own (sign_spelt (lone (begin_byte m)))) ≡ 0
 closed_begin Diamond = refl
 closed_begin Square = refl
 
-closed_end : (m : Modality) → opening (bracket_of (sign_spelt (lone (end_byte m)))) ≡ 0
+closed_end : (m : Modality) → opening (bracket_of own (sign_spelt (lone (end_byte m)))) ≡ 0
 closed_end Diamond = refl
 closed_end Square = refl
 
@@ -88,13 +76,13 @@ closed_action a ss = go (bytes_eq a (codes "_"))
   where
     go : (b : Bool) → opens_of (cond b ss ((token.Word, a) ∷ ss)) ≡ opens_of ss
     go true = refl
-    go false = omega (arith, closed_word a)
+    go false = omega (arith, closed a)
 
 pub few_open : (f : Formula) (ss : List Spelt) → opens_of (tokens_onto f ss) ≤ occurrences f + opens_of ss
-few_open (plain.Const true) ss = omega (arith, closed_word (codes "tt"))
-few_open (plain.Const false) ss = omega (arith, closed_word (codes "ff"))
-few_open (plain.Prop p) ss = omega (arith, closed_word p)
-few_open (plain.Var x) ss = omega (arith, closed_word x)
+few_open (plain.Const true) ss = omega (arith, closed (codes "tt"))
+few_open (plain.Const false) ss = omega (arith, closed (codes "ff"))
+few_open (plain.Prop p) ss = omega (arith, closed p)
+few_open (plain.Var x) ss = omega (arith, closed x)
 few_open (plain.Not f) ss = omega (arith, few_open f ss)
 few_open (plain.Binary o f g) ss =
     omega (
@@ -106,4 +94,4 @@ few_open (plain.Binary o f g) ss =
 few_open (plain.Modal m a f) ss =
     omega (arith, closed_begin m, closed_action a (lone (end_byte m) ∷ tokens_onto f ss), closed_end m, few_open f ss)
 few_open (plain.Binder q x f) ss =
-    omega (arith, closed_word (fixpoint_word q), closed_word x, few_open f (lone 41 ∷ ss))
+    omega (arith, closed (fixpoint_word q), closed x, few_open f (lone 41 ∷ ss))

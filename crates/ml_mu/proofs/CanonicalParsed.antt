@@ -6,12 +6,14 @@ use Rattle.std.proofs.Common.{false, [], refl, arith}
 use Rattle.ml_text.specs.declared.token.WordStart.TheVariants.{AnyLetter}
 use Rattle.ml_text.specs.Tokens.{tokens}
 use Rattle.ml_text.specs.Refusals.{IsAccepted}
+use Rattle.ml_text.specs.Signs.{bracket_of}
 use Rattle.ml_text.proofs.AcceptedTexts.{accepted}
 use Rattle.ml_mu.specs.Formula.{Formula}
 use Rattle.ml_mu.specs.Canonical.{canonical_text}
 use Rattle.ml_mu.specs.Grammar.{IsReadAs}
 use Rattle.ml_mu.specs.Parsing.{CanonicalIsParsed}
-use Rattle.ml_mu.specs.Text.{bracket_of, mu_signs, items}
+use Rattle.ml_mu.specs.Signs.{own}
+use Rattle.ml_mu.specs.Text.{mu_signs, items}
 use Rattle.ml_mu.proofs.CanonicalTexts.{canonical_tokens, canonical_stands, sign_spelt, tokens_onto}
 use Rattle.ml_mu.proofs.Counting.{counts, counted_items}
 use Rattle.ml_mu.specs.WellFormed.{IsWellFormed}
@@ -22,7 +24,7 @@ canonical_accepted : (f : Formula) → IsWellFormed f → IsAccepted IsReadAs (i
 canonical_accepted f well =
     let text = canonical_text f in
     let read = canonical_stands f well.names_are_spelled in
-    accepted mu_signs IsReadAs text f (λ s. bracket_of (sign_spelt s)) (tokens_onto f []) (record {
+    accepted mu_signs IsReadAs text f (λ s. bracket_of own (sign_spelt s)) (tokens_onto f []) (record {
       tokens_are = canonical_tokens f well.names_are_spelled;
       brackets = λ p. refl;
       stands = read;

@@ -5,7 +5,7 @@
 --   reads_formula        == their signs are read as f
 --   canonical_tokens     == these are the tokens of the text alone
 --   canonical_stands     == so the text stands for f
-use Rattle.std.proofs.Common.{◌≡◌, ℕ, true, false, not, List, [], ◌∷◌, ◌++◌, map, refl, sym, ◌∙◌, ap, subst, if◌then◌else◌, cond, codes, append_assoc, bytes_eq, ⊎_elim}
+use Rattle.std.proofs.Common.{◌≡◌, ℕ, true, false, not, List, [], ◌∷◌, ◌++◌, map, Some, refl, sym, ◌∙◌, ap, subst, if◌then◌else◌, cond, codes, append_assoc, bytes_eq, ⊎_elim}
 use Rattle.std.specs.List.{list_all}
 use Rattle.std.proofs.lemmas.Bool.{and_parts, cases_Bool}
 use Rattle.std.proofs.lemmas.List.{append-nil}
@@ -19,6 +19,7 @@ use Rattle.ml_text.specs.Words.{constant_of, is_word_from}
 use Rattle.ml_text.specs.Refusals.{signs_of}
 use Rattle.ml_text.specs.Operators.{spelling_of}
 use Rattle.ml_text.proofs.ByteKinds.{differs_by}
+use Rattle.ml_text.proofs.NamedSigns.{action_sign, proposition_sign, upper_word_sign}
 use Rattle.ml_text.proofs.Pieces.{lone, lone_piece, less_piece, not_piece, operator_piece, between_same, ends_word, word_piece}
 use Rattle.ml_text.proofs.Scans.{Spelt, spelt_at, Scans, ends, blank, scans_tokens}
 use Rattle.ml_text.proofs.TableItems.{signs_spelt}
@@ -26,13 +27,15 @@ use Rattle.ml_text.proofs.FirstLetters.{lower_letters, upper_letters}
 use Rattle.ml_mu.specs.Formula as plain
 use Rattle.ml_mu.specs.Formula.{Formula, Modality, Diamond, Square, Fixpoint, Least, Greatest}
 use Rattle.ml_mu.specs.Canonical.{action_text, modality_text, fixpoint_word, canonical_text}
-use Rattle.ml_mu.specs.Signs.{Sign, Connective, Const, Open, Close, Begins, Ends, Binds, Dot, sign_of, word_sign}
+use Rattle.ml_text.specs.Signs.{name_of, word_sign}
+use Rattle.ml_text.specs.declared.named_signs.Sign.TheVariants.{Connective, Const, Open, Close, Lower, Upper, Added}
+use Rattle.ml_mu.specs.Signs.{Sign, action_of, own, sign_of}
+use Rattle.ml_mu.specs.declared.signs.Own.TheVariants.{Begins, Ends, Binds, Dot}
 use Rattle.ml_mu.specs.Spelling.{is_variable, is_action, is_spelled, is_reserved}
 use Rattle.ml_mu.specs.Grammar as grammar
 use Rattle.ml_mu.specs.Grammar.{Reads, iff_alone, iff, imp_alone, imp, or_alone, or, and, negation, modal, modal_blank, binder, group, constant, proposition, variable}
 use Rattle.ml_mu.proofs.GrammarTables.{un_raised}
 use Rattle.ml_mu.specs.Text.{mu_signs, items, IsTextOf}
-use Rattle.ml_mu.proofs.WordSigns.{proposition_sign, variable_sign, action_sign}
 
 -- ---- the tokens of a canonical text
 
@@ -56,6 +59,19 @@ tokens_onto (plain.Not f) ss = (token.Not, codes "!") ∷ tokens_onto f ss
 tokens_onto (plain.Binary o f g) ss = lone 40 ∷ tokens_onto f ((token.Operator o, spelling_of o) ∷ tokens_onto g (lone 41 ∷ ss))
 tokens_onto (plain.Modal m a f) ss = lone (begin_byte m) ∷ action_tokens a (lone (end_byte m) ∷ tokens_onto f ss)
 tokens_onto (plain.Binder q x f) ss = lone 40 ∷ (token.Word, fixpoint_word q) ∷ (token.Word, x) ∷ lone 46 ∷ tokens_onto f (lone 41 ∷ ss)
+
+-- an action other than `_` is a word with its sign
+action_named : (s : Sign) (a : List ℕ) → name_of s ≡ Some a → action_of s ≡ Some a
+action_named (Lower b) a is = is
+action_named (Upper b) a is = is
+action_named _ a is = absurd (cc)
+
+action_word : (a : List ℕ)
+    → is_action a ≡ true
+    → bytes_eq a (codes "_") ≡ false
+    → (is_word_from is_letter a ≡ true) × (action_of (word_sign own a) ≡ Some a)
+action_word a is other =
+    let s = action_sign own refl a is other in (s.0, action_named (word_sign own a) a s.1)
 
 end_piece : (m : Modality) (rest : List ℕ) (ss : List Spelt)
     → Scans AnyLetter rest ss
@@ -101,7 +117,7 @@ modal_piece m a rest ss is r =
     (sym any)
     (begin_blank m rest (lone (end_byte m) ∷ ss) (end_piece m rest ss r)))
     (λ (other : bytes_eq a (codes "_") ≡ false).
-    let s = action_sign a is other in
+    let s = action_word a is other in
     subst
     (λ c. Scans AnyLetter (begin_byte m ∷ (cond c [] a ++ (end_byte m ∷ rest)))
     (lone (begin_byte m) ∷ cond c (lone (end_byte m) ∷ ss) ((token.Word, a) ∷ lone (end_byte m) ∷ ss)))
@@ -168,24 +184,24 @@ scans_formula (plain.Binder q x f) is rest ss stops r =
 abbrev pub sign_spelt : Spelt → Sign
 sign_spelt s = sign_of s.0 s.1
 
-true_sign : word_sign (codes "tt") ≡ Const true
+true_sign : word_sign own (codes "tt") ≡ Const true
 unfolding constant_of
 true_sign = refl
 
-false_sign : word_sign (codes "ff") ≡ Const false
+false_sign : word_sign own (codes "ff") ≡ Const false
 unfolding constant_of
 false_sign = refl
 
-fixpoint_sign : (q : Fixpoint) → word_sign (fixpoint_word q) ≡ Binds q
+fixpoint_sign : (q : Fixpoint) → word_sign own (fixpoint_word q) ≡ Added (Binds q)
 unfolding constant_of
 fixpoint_sign Least = refl
 fixpoint_sign Greatest = refl
 
-begin_sign : (m : Modality) → sign_spelt (lone (begin_byte m)) ≡ Begins m
+begin_sign : (m : Modality) → sign_spelt (lone (begin_byte m)) ≡ Added (Begins m)
 begin_sign Diamond = refl
 begin_sign Square = refl
 
-end_sign : (m : Modality) → sign_spelt (lone (end_byte m)) ≡ Ends m
+end_sign : (m : Modality) → sign_spelt (lone (end_byte m)) ≡ Added (Ends m)
 end_sign Diamond = refl
 end_sign Square = refl
 
@@ -215,7 +231,7 @@ modal_read m a f after rest is r =
     (λ t.
     Reads grammar.Un (t ∷ sign_spelt (lone (end_byte m)) ∷ map sign_spelt after) (plain.Modal m (codes "_") f) rest)
     (sym open_is)
-    (subst (λ t. Reads grammar.Un (Begins m ∷ t ∷ map sign_spelt after) (plain.Modal m (codes "_") f) rest)
+    (subst (λ t. Reads grammar.Un (Added (Begins m) ∷ t ∷ map sign_spelt after) (plain.Modal m (codes "_") f) rest)
     (sym close_is) (modal_blank m r))
     in
     subst
@@ -229,27 +245,27 @@ modal_read m a f after rest is r =
     (plain.Modal m b f) rest)
     (sym same) read))
     (λ (other : bytes_eq a (codes "_") ≡ false).
-    let s = action_sign a is other in
+    let s = action_word a is other in
     subst
     (λ c. Reads grammar.Un
     (sign_spelt (lone (begin_byte m))
     ∷ map sign_spelt (cond c (lone (end_byte m) ∷ after) ((token.Word, a) ∷ lone (end_byte m) ∷ after)))
     (plain.Modal m a f) rest)
     (sym other)
-    (subst (λ t. Reads grammar.Un (t ∷ word_sign a ∷ sign_spelt (lone (end_byte m)) ∷ map sign_spelt after) (plain.Modal m a f) rest) (sym open_is)
-    (subst (λ t. Reads grammar.Un (Begins m ∷ word_sign a ∷ t ∷ map sign_spelt after) (plain.Modal m a f) rest)
-    (sym close_is) (modal m a (word_sign a) s.1 r))))
+    (subst (λ t. Reads grammar.Un (t ∷ word_sign own a ∷ sign_spelt (lone (end_byte m)) ∷ map sign_spelt after) (plain.Modal m a f) rest) (sym open_is)
+    (subst (λ t. Reads grammar.Un (Added (Begins m) ∷ word_sign own a ∷ t ∷ map sign_spelt after) (plain.Modal m a f) rest)
+    (sym close_is) (modal m a (word_sign own a) s.1 r))))
     (cases_Bool (bytes_eq a (codes "_")))
 
 binder_read : (q : Fixpoint) (x : List ℕ) (f : Formula) (after : List Spelt) (rest : List Sign)
     → is_variable x ≡ true
     → Reads grammar.Un (map sign_spelt after) f (Close ∷ rest)
-    → Reads grammar.Un (Open ∷ word_sign (fixpoint_word q) ∷ word_sign x ∷ Dot ∷ map sign_spelt after) (plain.Binder q x f) rest
+    → Reads grammar.Un (Open ∷ word_sign own (fixpoint_word q) ∷ word_sign own x ∷ Added Dot ∷ map sign_spelt after) (plain.Binder q x f) rest
 binder_read q x f after rest is r =
     let bound = un_raised grammar.Iff (binder q x (un_raised grammar.Iff r) refl) in
-    subst (λ t. Reads grammar.Un (Open ∷ t ∷ word_sign x ∷ Dot ∷ map sign_spelt after) (plain.Binder q x f) rest) (sym (fixpoint_sign q))
-    (subst (λ t. Reads grammar.Un (Open ∷ Binds q ∷ t ∷ Dot ∷ map sign_spelt after) (plain.Binder q x f) rest)
-    (sym (variable_sign x is)) (group bound))
+    subst (λ t. Reads grammar.Un (Open ∷ t ∷ word_sign own x ∷ Added Dot ∷ map sign_spelt after) (plain.Binder q x f) rest) (sym (fixpoint_sign q))
+    (subst (λ t. Reads grammar.Un (Open ∷ Added (Binds q) ∷ t ∷ Added Dot ∷ map sign_spelt after) (plain.Binder q x f) rest)
+    (sym (upper_word_sign own refl x is)) (group bound))
 
 pub reads_formula : (f : Formula)
     → is_spelled f ≡ true
@@ -263,9 +279,9 @@ reads_formula (plain.Const false) is ss =
     (constant false)
 reads_formula (plain.Prop p) is ss =
     subst (λ t. Reads grammar.Un (t ∷ map sign_spelt ss) (plain.Prop p) (map sign_spelt ss))
-    (sym (proposition_sign p is)) (proposition p)
+    (sym (proposition_sign own p is)) (proposition p)
 reads_formula (plain.Var x) is ss =
-    subst (λ t. Reads grammar.Un (t ∷ map sign_spelt ss) (plain.Var x) (map sign_spelt ss)) (sym (variable_sign x is))
+    subst (λ t. Reads grammar.Un (t ∷ map sign_spelt ss) (plain.Var x) (map sign_spelt ss)) (sym (upper_word_sign own refl x is))
     (variable x)
 reads_formula (plain.Not f) is ss = negation (reads_formula f is ss)
 reads_formula (plain.Binary o f g) is ss =

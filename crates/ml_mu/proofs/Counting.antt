@@ -12,7 +12,9 @@ use Rattle.ml_text.specs.declared.token.Placed.{Placed}
 use Rattle.ml_text.specs.Refusals.{Item, signs_of, counted}
 use Rattle.ml_mu.specs.Formula as plain
 use Rattle.ml_mu.specs.Formula.{Formula, occurrences}
-use Rattle.ml_mu.specs.Signs.{Sign, Begins, Ends, Blank, Lower, Upper, action_of}
+use Rattle.ml_text.specs.declared.named_signs.Sign.TheVariants.{Lower, Upper, Added}
+use Rattle.ml_mu.specs.Signs.{Sign, action_of}
+use Rattle.ml_mu.specs.declared.signs.Own.TheVariants.{Begins, Ends, Blank}
 use Rattle.ml_mu.specs.Grammar as grammar
 use Rattle.ml_mu.specs.Grammar.{Reads, iff_alone, iff, imp_alone, imp, or_alone, or, and_alone, and, negation, modal, modal_blank, binder, group, constant, proposition, variable}
 use Rattle.ml_mu.specs.Text.{weight_of, silences, item_by, sign_at, items_from, places_from, is_variable_at}
@@ -37,16 +39,16 @@ counted_items text silent (p ∷ ps) =
 
 -- a sign that is an action silences nothing
 action_silences : (s : Sign) (a : List ℕ) → action_of s ≡ Some a → silences s ≡ false
-action_silences Blank a is = refl
+action_silences (Added Blank) a is = refl
 action_silences (Lower b) a is = refl
 action_silences (Upper b) a is = refl
 action_silences _ a is = absurd (cc)
 
 count_modal : (m : plain.Modality) (s : Sign) (a : List ℕ) (ts : List Sign)
     → action_of s ≡ Some a
-    → count_signs false (Begins m ∷ s ∷ Ends m ∷ ts) ≡ 1 + count_signs false ts
+    → count_signs false (Added (Begins m) ∷ s ∷ Added (Ends m) ∷ ts) ≡ 1 + count_signs false ts
 count_modal m s a ts is =
-    let next = ap (λ b. count_signs b (Ends m ∷ ts)) (action_silences s a is) in
+    let next = ap (λ b. count_signs b (Added (Ends m) ∷ ts)) (action_silences s a is) in
     omega (arith, next)
 
 pub counts : {l : grammar.Level} {ts rest : List Sign} {f : Formula}
@@ -90,8 +92,8 @@ variables (plain.Binder q x f) = variables f
 
 words_modal : (m : plain.Modality) (s : Sign) (a : List ℕ) (ts : List Sign)
     → action_of s ≡ Some a
-    → variable_words false (Begins m ∷ s ∷ Ends m ∷ ts) ≡ variable_words false ts
-words_modal m Blank a ts is = refl
+    → variable_words false (Added (Begins m) ∷ s ∷ Added (Ends m) ∷ ts) ≡ variable_words false ts
+words_modal m (Added Blank) a ts is = refl
 words_modal m (Lower b) a ts is = refl
 words_modal m (Upper b) a ts is = refl
 words_modal m _ a ts is = absurd (cc)

@@ -13,7 +13,9 @@ use Rattle.ml_text.specs.Operators.{operator_level}
 use Rattle.ml_text.proofs.Levels.{loosen, looser}
 use Rattle.ml_mu.specs.Formula as plain
 use Rattle.ml_mu.specs.Formula.{Formula, Modality, Diamond, Square}
-use Rattle.ml_mu.specs.Signs.{Sign, Not, Connective, Const, Open, Close, Begins, Ends, Binds, Dot, Blank, Lower, Upper, action_of}
+use Rattle.ml_text.specs.declared.named_signs.Sign.TheVariants.{Not, Connective, Const, Open, Close, Lower, Upper, Added}
+use Rattle.ml_mu.specs.Signs.{Sign, action_of}
+use Rattle.ml_mu.specs.declared.signs.Own.TheVariants.{Begins, Ends, Binds, Dot, Blank}
 use Rattle.ml_mu.specs.Grammar as grammar
 use Rattle.ml_mu.specs.Grammar.{Reads, iff_alone, iff, imp_alone, imp, or_alone, or, and_alone, and, negation, modal, modal_blank, binder, group, constant, proposition, variable, begins_operator}
 use Rattle.ml_mu.specs.private.Tables.{Wait, BehindBegin, BehindAction, BehindFixpoint, BehindVariable, BehindInside, Hold, Negation, Modal, Binder, Group, MuTurn, shift, resume, role, mu_grammar}
@@ -57,19 +59,19 @@ part grammar.Un = Operand tt
 shift_begin_action : (m : Modality) (s : Sign) (a : List ℕ)
     → action_of s ≡ Some a
     → shift (BehindBegin m) s ≡ Some (Read (More (BehindAction m a)))
-shift_begin_action Diamond Blank a e = let same : codes "_" ≡ a = cc in ap (λ b. Some (Read (More (BehindAction Diamond b)))) same
-shift_begin_action Square Blank a e = let same : codes "_" ≡ a = cc in ap (λ b. Some (Read (More (BehindAction Square b)))) same
+shift_begin_action Diamond (Added Blank) a e = let same : codes "_" ≡ a = cc in ap (λ b. Some (Read (More (BehindAction Diamond b)))) same
+shift_begin_action Square (Added Blank) a e = let same : codes "_" ≡ a = cc in ap (λ b. Some (Read (More (BehindAction Square b)))) same
 shift_begin_action Diamond (Lower b) a e = let same : b ≡ a = cc in ap (λ b. Some (Read (More (BehindAction Diamond b)))) same
 shift_begin_action Square (Lower b) a e = let same : b ≡ a = cc in ap (λ b. Some (Read (More (BehindAction Square b)))) same
 shift_begin_action Diamond (Upper b) a e = let same : b ≡ a = cc in ap (λ b. Some (Read (More (BehindAction Diamond b)))) same
 shift_begin_action Square (Upper b) a e = let same : b ≡ a = cc in ap (λ b. Some (Read (More (BehindAction Square b)))) same
 shift_begin_action m _ a e = absurd (cc)
 
-shift_begin_end : (m : Modality) → shift (BehindBegin m) (Ends m) ≡ Some (Inner (Modal m (codes "_")))
+shift_begin_end : (m : Modality) → shift (BehindBegin m) (Added (Ends m)) ≡ Some (Inner (Modal m (codes "_")))
 shift_begin_end Diamond = refl
 shift_begin_end Square = refl
 
-shift_action_end : (m : Modality) (a : List ℕ) → shift (BehindAction m a) (Ends m) ≡ Some (Inner (Modal m a))
+shift_action_end : (m : Modality) (a : List ℕ) → shift (BehindAction m a) (Added (Ends m)) ≡ Some (Inner (Modal m a))
 shift_action_end Diamond a = refl
 shift_action_end Square a = refl
 
@@ -137,10 +139,10 @@ un_raised grammar.Iff r = iff_alone (imp_alone (or_alone (and_alone r)))
 -- what the rest of a form makes of the signs that were read of it
 abbrev pub Completes : Wait → List Sign → Formula → List Sign → Type 0
 Completes Wait.Operand ts f rest = Reads grammar.Un ts f rest
-Completes (BehindBegin m) ts f rest = Reads grammar.Un (Begins m ∷ ts) f rest
-Completes (BehindAction m a) ts f rest = (s : Sign) → action_of s ≡ Some a → Reads grammar.Un (Begins m ∷ s ∷ ts) f rest
-Completes (BehindFixpoint q) ts f rest = Reads grammar.Un (Binds q ∷ ts) f rest
-Completes (BehindVariable q x) ts f rest = Reads grammar.Un (Binds q ∷ Upper x ∷ ts) f rest
+Completes (BehindBegin m) ts f rest = Reads grammar.Un (Added (Begins m) ∷ ts) f rest
+Completes (BehindAction m a) ts f rest = (s : Sign) → action_of s ≡ Some a → Reads grammar.Un (Added (Begins m) ∷ s ∷ ts) f rest
+Completes (BehindFixpoint q) ts f rest = Reads grammar.Un (Added (Binds q) ∷ ts) f rest
+Completes (BehindVariable q x) ts f rest = Reads grammar.Un (Added (Binds q) ∷ Upper x ∷ ts) f rest
 Completes (BehindInside h) ts f rest = (us : List Sign) → Reads grammar.Iff us h ts → Reads grammar.Un (Open ∷ us) f rest
 
 -- a held operand with what its form makes of it
@@ -178,17 +180,17 @@ both_same {l} {t} {ts} {rest} {h} {f} e r = subst (λ x. Reads l (t ∷ ts) x re
 
 begin_completes : (m : Modality) (t : Sign) (ts rest : List Sign) (f : Formula)
     → OfTurn (shift (BehindBegin m) t) ts f rest
-    → Reads grammar.Un (Begins m ∷ t ∷ ts) f rest
-begin_completes Diamond (Ends Diamond) ts rest f r = same_tree r.1 (modal_blank Diamond r.2)
-begin_completes Square (Ends Square) ts rest f r = same_tree r.1 (modal_blank Square r.2)
-begin_completes Diamond Blank ts rest f r = r Blank refl
-begin_completes Square Blank ts rest f r = r Blank refl
+    → Reads grammar.Un (Added (Begins m) ∷ t ∷ ts) f rest
+begin_completes Diamond (Added (Ends Diamond)) ts rest f r = same_tree r.1 (modal_blank Diamond r.2)
+begin_completes Square (Added (Ends Square)) ts rest f r = same_tree r.1 (modal_blank Square r.2)
+begin_completes Diamond (Added Blank) ts rest f r = r (Added Blank) refl
+begin_completes Square (Added Blank) ts rest f r = r (Added Blank) refl
 begin_completes Diamond (Lower a) ts rest f r = r (Lower a) refl
 begin_completes Square (Lower a) ts rest f r = r (Lower a) refl
 begin_completes Diamond (Upper a) ts rest f r = r (Upper a) refl
 begin_completes Square (Upper a) ts rest f r = r (Upper a) refl
-begin_completes Diamond (Ends Square) ts rest f r = absurd r
-begin_completes Square (Ends Diamond) ts rest f r = absurd r
+begin_completes Diamond (Added (Ends Square)) ts rest f r = absurd r
+begin_completes Square (Added (Ends Diamond)) ts rest f r = absurd r
 begin_completes Diamond _ ts rest f r = absurd r
 begin_completes Square _ ts rest f r = absurd r
 
@@ -196,11 +198,11 @@ action_completes : (m : Modality) (a : List ℕ) (t : Sign) (ts rest : List Sign
     → OfTurn (shift (BehindAction m a) t) ts f rest
     → (s : Sign)
     → action_of s ≡ Some a
-    → Reads grammar.Un (Begins m ∷ s ∷ t ∷ ts) f rest
-action_completes Diamond a (Ends Diamond) ts rest f r s is = same_tree r.1 (modal Diamond a s is r.2)
-action_completes Square a (Ends Square) ts rest f r s is = same_tree r.1 (modal Square a s is r.2)
-action_completes Diamond a (Ends Square) ts rest f r s is = absurd r
-action_completes Square a (Ends Diamond) ts rest f r s is = absurd r
+    → Reads grammar.Un (Added (Begins m) ∷ s ∷ t ∷ ts) f rest
+action_completes Diamond a (Added (Ends Diamond)) ts rest f r s is = same_tree r.1 (modal Diamond a s is r.2)
+action_completes Square a (Added (Ends Square)) ts rest f r s is = same_tree r.1 (modal Square a s is r.2)
+action_completes Diamond a (Added (Ends Square)) ts rest f r s is = absurd r
+action_completes Square a (Added (Ends Diamond)) ts rest f r s is = absurd r
 action_completes Diamond a _ ts rest f r s is = absurd r
 action_completes Square a _ ts rest f r s is = absurd r
 
@@ -212,14 +214,14 @@ sign_completes Wait.Operand (Const b) ts rest f r = both_same r (constant b)
 sign_completes Wait.Operand (Lower p) ts rest f r = both_same r (proposition p)
 sign_completes Wait.Operand (Upper x) ts rest f r = both_same r (variable x)
 sign_completes Wait.Operand Open ts rest f r = r
-sign_completes Wait.Operand (Begins m) ts rest f r = r
-sign_completes Wait.Operand (Binds q) ts rest f r = r
+sign_completes Wait.Operand (Added (Begins m)) ts rest f r = r
+sign_completes Wait.Operand (Added (Binds q)) ts rest f r = r
 sign_completes Wait.Operand _ ts rest f r = absurd r
 sign_completes (BehindBegin m) t ts rest f r = begin_completes m t ts rest f r
 sign_completes (BehindAction m a) t ts rest f r = action_completes m a t ts rest f r
 sign_completes (BehindFixpoint q) (Upper x) ts rest f r = r
 sign_completes (BehindFixpoint q) _ ts rest f r = absurd r
-sign_completes (BehindVariable q x) Dot ts rest f r = same_tree r.1 (binder q x r.2 r.3)
+sign_completes (BehindVariable q x) (Added Dot) ts rest f r = same_tree r.1 (binder q x r.2 r.3)
 sign_completes (BehindVariable q x) _ ts rest f r = absurd r
 sign_completes (BehindInside h) Close ts rest f r =
     λ us a. subst (λ x. Reads grammar.Un (Open ∷ us) x rest) r.0

@@ -2,8 +2,6 @@
 pub mod GrammarTables
 -- the tables are regular and can be completed
 pub mod MuGrammar
--- names in texts
-pub mod Names
 -- what a text counts is what its formula has
 pub mod Counting
 -- names are spelled as they must be
@@ -26,8 +24,6 @@ pub mod Evaluation
 pub mod Inclusion
 -- a meaning has one flag for each state
 pub mod MeaningFlags
--- the signs that words are
-pub mod WordSigns
 -- canonical texts
 pub mod CanonicalTexts
 -- positive bodies are monotone

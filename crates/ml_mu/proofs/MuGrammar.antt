@@ -7,13 +7,18 @@ use Rattle.std.proofs.Common.{◌≡◌, ℕ, true, List, [], ◌∷◌, ◌++�
 use Rattle.ml_text.specs.Grammar.{More, Inner, Opens, Behind, Operand, sign, read, inner, alone, form, whole, front, IsStop, IsRegular, Ending, IsCompletable, StandsFor}
 use Rattle.ml_mu.specs.Formula as plain
 use Rattle.ml_mu.specs.Formula.{Formula, Modality, Diamond, Square, Fixpoint}
-use Rattle.ml_mu.specs.Signs.{Sign, Const, Close, Ends, Dot, Upper}
+use Rattle.ml_text.specs.declared.named_signs.Sign.TheVariants.{Not, Const, Close, Upper, Added}
+use Rattle.ml_mu.specs.Signs.{Sign}
+use Rattle.ml_mu.specs.declared.signs.Own.TheVariants.{Begins, Ends, Binds, Dot}
 use Rattle.ml_mu.specs.Grammar.{IsReadAs}
 use Rattle.ml_mu.specs.private.Tables.{Wait, BehindBegin, BehindAction, BehindFixpoint, BehindVariable, BehindInside, Hold, Negation, Modal, Binder, Group, shift_operand, resume, mu_grammar}
 use Rattle.ml_mu.proofs.GrammarTables.{Tabled, tight, tabled, untabled}
 
 never_opens : (t : Sign) (k : Hold) → shift_operand t ≡ Some (Opens k) → ⊥
-never_opens Rattle.ml_mu.specs.Signs.Not k is = cc
+never_opens Not k is = cc
+never_opens (Added (Begins m)) k is = cc
+never_opens (Added (Binds q)) k is = cc
+never_opens (Added _) k is = cc
 never_opens _ k is = cc
 
 pub mu_regular : IsRegular mu_grammar
@@ -39,39 +44,39 @@ ending : (q : Wait) → Ending mu_grammar q
 ending Wait.Operand = record { signs = Const true ∷ []; tree = plain.Const true; reads = λ rest stop. sign (read whole) }
 ending (BehindBegin Diamond) =
     record {
-      signs = Ends Diamond ∷ Const true ∷ [];
+      signs = Added (Ends Diamond) ∷ Const true ∷ [];
       tree = plain.Modal Diamond (codes "_") (plain.Const true);
-      reads = λ rest stop. sign (modal_true (Ends Diamond) Diamond (codes "_") rest);
+      reads = λ rest stop. sign (modal_true (Added (Ends Diamond)) Diamond (codes "_") rest);
     }
 ending (BehindBegin Square) =
     record {
-      signs = Ends Square ∷ Const true ∷ [];
+      signs = Added (Ends Square) ∷ Const true ∷ [];
       tree = plain.Modal Square (codes "_") (plain.Const true);
-      reads = λ rest stop. sign (modal_true (Ends Square) Square (codes "_") rest);
+      reads = λ rest stop. sign (modal_true (Added (Ends Square)) Square (codes "_") rest);
     }
 ending (BehindAction Diamond a) =
     record {
-      signs = Ends Diamond ∷ Const true ∷ [];
+      signs = Added (Ends Diamond) ∷ Const true ∷ [];
       tree = plain.Modal Diamond a (plain.Const true);
-      reads = λ rest stop. sign (modal_true (Ends Diamond) Diamond a rest);
+      reads = λ rest stop. sign (modal_true (Added (Ends Diamond)) Diamond a rest);
     }
 ending (BehindAction Square a) =
     record {
-      signs = Ends Square ∷ Const true ∷ [];
+      signs = Added (Ends Square) ∷ Const true ∷ [];
       tree = plain.Modal Square a (plain.Const true);
-      reads = λ rest stop. sign (modal_true (Ends Square) Square a rest);
+      reads = λ rest stop. sign (modal_true (Added (Ends Square)) Square a rest);
     }
 ending (BehindFixpoint q) =
     record {
-      signs = Upper some_variable ∷ Dot ∷ Const true ∷ [];
+      signs = Upper some_variable ∷ Added Dot ∷ Const true ∷ [];
       tree = plain.Binder q some_variable (plain.Const true);
-      reads = λ rest stop. sign (read (sign (binder_true Dot q some_variable rest stop)));
+      reads = λ rest stop. sign (read (sign (binder_true (Added Dot) q some_variable rest stop)));
     }
 ending (BehindVariable q x) =
     record {
-      signs = Dot ∷ Const true ∷ [];
+      signs = Added Dot ∷ Const true ∷ [];
       tree = plain.Binder q x (plain.Const true);
-      reads = λ rest stop. sign (binder_true Dot q x rest stop);
+      reads = λ rest stop. sign (binder_true (Added Dot) q x rest stop);
     }
 ending (BehindInside f) = record { signs = Close ∷ []; tree = f; reads = λ rest stop. sign (read whole) }
 

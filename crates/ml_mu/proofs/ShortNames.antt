@@ -9,21 +9,24 @@ use Rattle.ml_text.specs.Tokens.{tokens}
 use Rattle.ml_text.specs.Refusals.{NameTooLong, signs_of, is_long_at, IsAccepted}
 use Rattle.ml_text.specs.Items.{bytes_of}
 use Rattle.ml_text.proofs.Cover.{are_tokens}
+use Rattle.ml_text.proofs.NamedSigns.{short_name}
 use Rattle.ml_text.proofs.TableItems.{signs_short}
 use Rattle.ml_text.proofs.WordNames.{name_length}
 use Rattle.ml_mu.specs.Formula.{Formula}
 use Rattle.ml_mu.specs.Grammar as grammar
 use Rattle.ml_mu.specs.Grammar.{IsReadAs, Reads, iff_alone, iff, imp_alone, imp, or_alone, or, and_alone, and, negation, modal, modal_blank, binder, group, constant, proposition, variable}
-use Rattle.ml_mu.specs.Signs.{Sign, Lower, Upper, Blank, HasShortName, action_of}
+use Rattle.ml_text.specs.Signs.{HasShortName}
+use Rattle.ml_text.specs.declared.named_signs.Sign.TheVariants.{Lower, Upper, Added}
+use Rattle.ml_mu.specs.Signs.{Sign, action_of, own}
+use Rattle.ml_mu.specs.declared.signs.Own.TheVariants.{Blank}
 use Rattle.ml_mu.specs.Text.{mu_signs, items}
-use Rattle.ml_mu.proofs.Names.{short_name}
 use Rattle.ml_mu.specs.Spelling.{HasShortNames}
 
 abbrev AreShort : List Sign → Type 0
 AreShort ts = AllByRecursion HasShortName ts
 
 short_action : (s : Sign) (a : List ℕ) → action_of s ≡ Some a → HasShortName s → length a ≤ 64
-short_action Blank a is short = let same : codes "_" ≡ a = cc in omega (arith, ap length same)
+short_action (Added Blank) a is short = let same : codes "_" ≡ a = cc in omega (arith, ap length same)
 short_action (Lower b) a is short = let same : b ≡ a = cc in omega (arith, ap length same, name_length b short)
 short_action (Upper b) a is short = let same : b ≡ a = cc in omega (arith, ap length same, name_length b short)
 short_action _ a is short = absurd (cc)
@@ -56,7 +59,7 @@ text_signs : (text : List ℕ)
 unfolding tokens
 text_signs text none =
     signs_short mu_signs HasShortName AnyLetter text
-    (λ p short size. short_name p.token (bytes_of text p) (p.end - p.start) short size)
+    (λ p short size. short_name own p.token (bytes_of text p) (p.end - p.start) short size)
     0 false (tokens AnyLetter text) (are_tokens AnyLetter text 0) none
 
 pub text_short : (text : List ℕ) (f : Formula) → IsAccepted IsReadAs (items text) f → HasShortNames f

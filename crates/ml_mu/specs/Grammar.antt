@@ -21,7 +21,9 @@ use Rattle.std.specs.Prelude.{◌≡◌, ℕ, Bool, true, false, List, [], ◌�
 use Rattle.ml_text.specs.declared.token.Operator.TheVariants as operator
 use Rattle.ml_mu.specs.Formula as plain
 use Rattle.ml_mu.specs.Formula.{Formula, Modality, Fixpoint}
-use Rattle.ml_mu.specs.Signs.{Sign, Not, Connective, Const, Open, Close, Begins, Ends, Binds, Dot, Lower, Upper, action_of}
+use Rattle.ml_text.specs.declared.named_signs.Sign.TheVariants.{Not, Connective, Const, Open, Close, Lower, Upper, Added}
+use Rattle.ml_mu.specs.Signs.{Sign, action_of}
+use Rattle.ml_mu.specs.declared.signs.Own.TheVariants.{Begins, Ends, Binds, Dot}
 
 pub data Level : Type 0 where
   Iff Imp Or And Un : Level
@@ -46,10 +48,10 @@ pub data Reads : Level → List Sign → Formula → List Sign → Type 0 where
   -- NOT un
   negation : {ts rest : List Sign} {f : Formula} → Reads Un ts f rest → Reads Un (Not ∷ ts) (plain.Not f) rest
   -- "<" ACT ">" un, "[" ACT "]" un, and both without the action
-  modal : {ts rest : List Sign} {f : Formula} (m : Modality) (a : List ℕ) (s : Sign) → action_of s ≡ Some a → Reads Un ts f rest → Reads Un (Begins m ∷ s ∷ Ends m ∷ ts) (plain.Modal m a f) rest
-  modal_blank : {ts rest : List Sign} {f : Formula} (m : Modality) → Reads Un ts f rest → Reads Un (Begins m ∷ Ends m ∷ ts) (plain.Modal m (codes "_") f) rest
+  modal : {ts rest : List Sign} {f : Formula} (m : Modality) (a : List ℕ) (s : Sign) → action_of s ≡ Some a → Reads Un ts f rest → Reads Un (Added (Begins m) ∷ s ∷ Added (Ends m) ∷ ts) (plain.Modal m a f) rest
+  modal_blank : {ts rest : List Sign} {f : Formula} (m : Modality) → Reads Un ts f rest → Reads Un (Added (Begins m) ∷ Added (Ends m) ∷ ts) (plain.Modal m (codes "_") f) rest
   -- "mu" VAR "." iff, "nu" VAR "." iff
-  binder : {ts rest : List Sign} {f : Formula} (q : Fixpoint) (x : List ℕ) → Reads Iff ts f rest → begins_operator rest ≡ false → Reads Un (Binds q ∷ Upper x ∷ Dot ∷ ts) (plain.Binder q x f) rest
+  binder : {ts rest : List Sign} {f : Formula} (q : Fixpoint) (x : List ℕ) → Reads Iff ts f rest → begins_operator rest ≡ false → Reads Un (Added (Binds q) ∷ Upper x ∷ Added Dot ∷ ts) (plain.Binder q x f) rest
   -- "(" iff ")"
   group : {ts rest : List Sign} {f : Formula} → Reads Iff ts f (Close ∷ rest) → Reads Un (Open ∷ ts) f rest
   -- TT, FF, PROP, VAR

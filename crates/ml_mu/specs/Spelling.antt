@@ -9,28 +9,24 @@
 --   is_action name       == a word that isn't reserved, or `_`
 --   is_spelled f         == are all names in f propositions, variables and actions where they stand as such?
 --   HasShortNames f      == no name in f has more bytes than a name may have
-use Rattle.std.specs.Prelude.{ℕ, ◌≤◌, Bool, true, ◌&&◌, ◌||◌, not, List, [], ◌∷◌, length, codes}
-use Rattle.std.specs.List.{list_any}
-use Rattle.std.specs.Str.{bytes_eq}
+use Rattle.std.specs.Prelude.{ℕ, ◌≤◌, Bool, true, ◌&&◌, List, length}
 use Rattle.ml_base.specs.Name.{longest_name}
-use Rattle.ml_text.specs.Bytes.{is_lower, is_upper, is_letter}
-use Rattle.ml_text.specs.Words.{is_word_from}
+use Rattle.ml_text.specs.Signs as signs
+use Rattle.ml_text.specs.Signs.{is_upper_word}
+use Rattle.ml_mu.specs.Signs.{own}
 use Rattle.ml_mu.specs.Formula.{Formula, Const, Prop, Var, Not, Binary, Modal, Binder}
 
-abbrev pub reserved : List (List ℕ)
-reserved = codes "tt" ∷ codes "true" ∷ codes "ff" ∷ codes "false" ∷ codes "mu" ∷ codes "nu" ∷ []
-
 abbrev pub is_reserved : List ℕ → Bool
-is_reserved name = list_any (bytes_eq name) reserved
+is_reserved name = signs.is_reserved own name
 
 abbrev pub is_proposition : List ℕ → Bool
-is_proposition name = is_word_from is_lower name && not (is_reserved name)
+is_proposition name = signs.is_proposition own name
 
 abbrev pub is_variable : List ℕ → Bool
-is_variable name = is_word_from is_upper name
+is_variable name = is_upper_word name
 
 abbrev pub is_action : List ℕ → Bool
-is_action name = bytes_eq name (codes "_") || (is_word_from is_letter name && not (is_reserved name))
+is_action name = signs.is_action own name
 
 abbrev pub is_spelled : Formula → Bool
 is_spelled (Const b) = true

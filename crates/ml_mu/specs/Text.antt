@@ -16,32 +16,28 @@ use Rattle.ml_text.specs.declared.token.Placed.{Placed}
 use Rattle.ml_text.specs.Items as text_items
 use Rattle.ml_text.specs.Items.{SignTable, bytes_of}
 use Rattle.ml_text.specs.Refusals.{Item, signs_of}
-use Rattle.ml_text.specs.declared.limits.Bracket.{Bracket}
-use Rattle.ml_text.specs.declared.limits.Bracket.TheVariants.{Opening, Closing, Neither}
+use Rattle.ml_text.specs.Signs.{bracket_of}
 use Rattle.ml_text.specs.Operators.{weight}
 use Rattle.ml_mu.specs.Formula.{Formula}
-use Rattle.ml_mu.specs.Signs.{Sign, Not, Connective, Const, Open, Close, Begins, Binds, Lower, Upper, sign_of}
+use Rattle.ml_text.specs.declared.named_signs.Sign.TheVariants.{Not, Connective, Const, Lower, Upper, Added}
+use Rattle.ml_mu.specs.Signs.{Sign, own, sign_of}
+use Rattle.ml_mu.specs.declared.signs.Own.TheVariants.{Begins, Binds}
 use Rattle.ml_mu.specs.Grammar.{IsReadAs}
 
 abbrev pub weight_of : Sign → ℕ
 weight_of Not = 1
 weight_of (Connective o) = weight o
 weight_of (Const b) = 1
-weight_of (Begins m) = 1
-weight_of (Binds q) = 1
+weight_of (Added (Begins m)) = 1
+weight_of (Added (Binds q)) = 1
 weight_of (Lower p) = 1
 weight_of (Upper x) = 1
 weight_of _ = 0
 
 abbrev pub silences : Sign → Bool
-silences (Begins m) = true
-silences (Binds q) = true
+silences (Added (Begins m)) = true
+silences (Added (Binds q)) = true
 silences _ = false
-
-abbrev pub bracket_of : Sign → Bracket
-bracket_of Open = Opening
-bracket_of Close = Closing
-bracket_of _ = Neither
 
 abbrev pub sign_at : List ℕ → Placed → Sign
 sign_at text p = sign_of p.token (bytes_of text p)
@@ -57,7 +53,7 @@ mu_signs = record {
   first = false;
   behind = silences;
   weight = λ silent s. if silent then 0 else weight_of s;
-  bracket = bracket_of;
+  bracket = bracket_of own;
   is_noted = is_variable_at;
 }
 

@@ -2,8 +2,6 @@
 
 -- the grammar of texts as tables
 pub mod Tables
--- the signs that the program holds
-pub mod SignViews
 -- the forms that the program holds
 pub mod FormViews
 -- what the reader of texts asks of a logic

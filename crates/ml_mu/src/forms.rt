@@ -4,12 +4,11 @@ ghost use Rattle.std.specs.Option.{option_map};
 ghost use Rattle.ml_text.specs.private.Views.{GivesBack, mode_view, turn_view};
 ghost use Rattle.ml_mu.specs.private.FormViews.{hold_view, wait_view};
 ghost use Rattle.ml_mu.specs.private.Reader.{mu_tables};
-ghost use Rattle.ml_mu.specs.private.SignViews.{sign_view};
 ghost use Rattle.ml_mu.specs.private.Tables as tables;
 ghost use Rattle.ml_mu.specs.Formula as plain;
 ghost use Rattle.ml_mu.specs.Term.{formula_of};
 
-use crate::signs::Sign;
+use crate::signs::{Own, Sign};
 use crate::{Fixpoint, Modality, Term};
 use ml_base::{Action, Name, NoMemory};
 use ml_text::{Mode, Operator};
@@ -40,7 +39,7 @@ type Turn = ml_text::Turn<Sign, Term, Wait, Hold>;
 
 #[inline(always)]
 fn shift_operand(sign: Sign) -> Option<Turn>
-    ensures { option_map (turn_view mu_tables) result ≡ tables.shift_operand (sign_view sign) }
+    ensures { option_map (turn_view mu_tables) result ≡ tables.shift_operand sign }
 {
     match sign {
         Sign::Not => Some(Turn::Inner(Hold::Negation)),
@@ -48,23 +47,27 @@ fn shift_operand(sign: Sign) -> Option<Turn>
         Sign::Lower(name) => Some(Turn::Read(Mode::Whole(Term::Prop(name)))),
         Sign::Upper(name) => Some(Turn::Read(Mode::Whole(Term::Var(name)))),
         Sign::Open => Some(Turn::Inner(Hold::Group)),
-        Sign::Begins(modality) => Some(Turn::Read(Mode::More(Wait::BehindBegin(modality)))),
-        Sign::Binds(fixpoint) => Some(Turn::Read(Mode::More(Wait::BehindFixpoint(fixpoint)))),
+        Sign::Added(Own::Begins(modality)) => Some(Turn::Read(Mode::More(Wait::BehindBegin(
+            modality,
+        )))),
+        Sign::Added(Own::Binds(fixpoint)) => Some(Turn::Read(Mode::More(Wait::BehindFixpoint(
+            fixpoint,
+        )))),
         _ => None,
     }
 }
 
 fn shift_begin(alloc: Global, modality: Modality, sign: Sign) -> Result<Option<Turn>, NoMemory>
     ensures { IfOk result (λ turn.
-        option_map (turn_view mu_tables) turn ≡ tables.shift_begin modality (sign_view sign)) }
+        option_map (turn_view mu_tables) turn ≡ tables.shift_begin modality sign) }
 {
     let action = match (modality, sign) {
-        (Modality::Diamond, Sign::Ends(Modality::Diamond))
-        | (Modality::Square, Sign::Ends(Modality::Square)) => {
+        (Modality::Diamond, Sign::Added(Own::Ends(Modality::Diamond)))
+        | (Modality::Square, Sign::Added(Own::Ends(Modality::Square))) => {
             let hold = Hold::Modal(modality, Action::blank(alloc)?);
             return Ok(Some(Turn::Inner(hold)));
         }
-        (_, Sign::Blank) => Action::blank(alloc)?,
+        (_, Sign::Added(Own::Blank)) => Action::blank(alloc)?,
         (_, Sign::Lower(name)) => Action::from_name(name),
         (_, Sign::Upper(name)) => Action::from_name(name),
         _ => return Ok(None),
@@ -73,11 +76,11 @@ fn shift_begin(alloc: Global, modality: Modality, sign: Sign) -> Result<Option<T
 }
 
 fn shift_action(modality: Modality, action: Action, sign: Sign) -> Option<Turn>
-    ensures { option_map (turn_view mu_tables) result ≡ tables.shift_action modality action (sign_view sign) }
+    ensures { option_map (turn_view mu_tables) result ≡ tables.shift_action modality action sign }
 {
     match (modality, sign) {
-        (Modality::Diamond, Sign::Ends(Modality::Diamond))
-        | (Modality::Square, Sign::Ends(Modality::Square)) => {
+        (Modality::Diamond, Sign::Added(Own::Ends(Modality::Diamond)))
+        | (Modality::Square, Sign::Added(Own::Ends(Modality::Square))) => {
             Some(Turn::Inner(Hold::Modal(modality, action)))
         }
         _ => None,
@@ -88,8 +91,8 @@ fn shift_action(modality: Modality, action: Action, sign: Sign) -> Option<Turn>
 #[inline(always)]
 pub(crate) fn shift(alloc: Global, wait: Wait, sign: Sign) -> Result<Option<Turn>, NoMemory>
     ensures turn { IfOk result (λ turn.
-        option_map (turn_view mu_tables) turn ≡ tables.shift (wait_view wait) (sign_view sign)) }
-    ensures gives_back { IfOk result (λ turn. GivesBack mu_tables turn (sign_view sign)) }
+        option_map (turn_view mu_tables) turn ≡ tables.shift (wait_view wait) sign) }
+    ensures gives_back { IfOk result (λ turn. GivesBack mu_tables turn sign) }
 {
     match wait {
         Wait::Operand => Ok(shift_operand(sign)),
@@ -100,7 +103,7 @@ pub(crate) fn shift(alloc: Global, wait: Wait, sign: Sign) -> Result<Option<Turn
             _ => None,
         }),
         Wait::BehindVariable(fixpoint, name) => Ok(match sign {
-            Sign::Dot => Some(Turn::Inner(Hold::Binder(fixpoint, name))),
+            Sign::Added(Own::Dot) => Some(Turn::Inner(Hold::Binder(fixpoint, name))),
             _ => None,
         }),
         Wait::BehindInside(term) => Ok(match sign {

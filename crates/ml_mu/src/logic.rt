@@ -3,9 +3,12 @@ ghost use Rattle.ml_mu.specs.Term.{formula_of};
 
 use crate::Term;
 use crate::forms::{Hold, Wait, join, resume, shift};
-use crate::signs::{Kind, Sign, bracket, counted, is_variable, kind_of, sign_of, silences};
+use crate::signs::{Kind, Sign, counted, is_variable, silences};
 use ml_base::NoMemory;
-use ml_text::{Bracket, Logic, Mode, Placed, Role, Turn, WordStart, operator_level};
+use ml_text::{
+    Bracket, Logic, Mode, Placed, Role, Turn, WordStart, bracket_of, kind_of, operator_level,
+    sign_of,
+};
 use std::alloc::Global;
 
 /// The mu-calculus. Nothing is to be known of a text before it is read.
@@ -59,7 +62,7 @@ impl Logic for Mu {
     }
 
     fn bracket(kind: Kind) -> Bracket {
-        bracket(kind)
+        bracket_of(kind)
     }
 
     fn is_noted(silent: bool, kind: Kind) -> bool {

@@ -14,7 +14,9 @@ use Rattle.ml_text.specs.declared.forms.Role.{Role}
 use Rattle.ml_text.specs.declared.forms.Role.TheVariants.{Infix, Outside}
 use Rattle.ml_mu.specs.Formula as plain
 use Rattle.ml_mu.specs.Formula.{Formula, Modality, Diamond, Square, Fixpoint}
-use Rattle.ml_mu.specs.Signs.{Sign, Not, Connective, Const, Open, Close, Begins, Ends, Binds, Dot, Blank, Lower, Upper}
+use Rattle.ml_text.specs.declared.named_signs.Sign.TheVariants.{Not, Connective, Const, Open, Close, Lower, Upper, Added}
+use Rattle.ml_mu.specs.Signs.{Sign}
+use Rattle.ml_mu.specs.declared.signs.Own.TheVariants.{Begins, Ends, Binds, Dot, Blank}
 
 pub data Wait : Type 0 where
   -- an operand is to come
@@ -43,21 +45,21 @@ shift_operand (Const b) = Some (Read (Whole (plain.Const b)))
 shift_operand (Lower p) = Some (Read (Whole (plain.Prop p)))
 shift_operand (Upper x) = Some (Read (Whole (plain.Var x)))
 shift_operand Open = Some (Inner Group)
-shift_operand (Begins m) = Some (Read (More (BehindBegin m)))
-shift_operand (Binds q) = Some (Read (More (BehindFixpoint q)))
+shift_operand (Added (Begins m)) = Some (Read (More (BehindBegin m)))
+shift_operand (Added (Binds q)) = Some (Read (More (BehindFixpoint q)))
 shift_operand _ = None
 
 abbrev pub shift_begin : Modality → Sign → Option MuTurn
-shift_begin Diamond (Ends Diamond) = Some (Inner (Modal Diamond (codes "_")))
-shift_begin Square (Ends Square) = Some (Inner (Modal Square (codes "_")))
-shift_begin m Blank = Some (Read (More (BehindAction m (codes "_"))))
+shift_begin Diamond (Added (Ends Diamond)) = Some (Inner (Modal Diamond (codes "_")))
+shift_begin Square (Added (Ends Square)) = Some (Inner (Modal Square (codes "_")))
+shift_begin m (Added Blank) = Some (Read (More (BehindAction m (codes "_"))))
 shift_begin m (Lower a) = Some (Read (More (BehindAction m a)))
 shift_begin m (Upper a) = Some (Read (More (BehindAction m a)))
 shift_begin _ _ = None
 
 abbrev pub shift_action : Modality → List ℕ → Sign → Option MuTurn
-shift_action Diamond a (Ends Diamond) = Some (Inner (Modal Diamond a))
-shift_action Square a (Ends Square) = Some (Inner (Modal Square a))
+shift_action Diamond a (Added (Ends Diamond)) = Some (Inner (Modal Diamond a))
+shift_action Square a (Added (Ends Square)) = Some (Inner (Modal Square a))
 shift_action _ a _ = None
 
 abbrev pub shift_fixpoint : Fixpoint → Sign → Option MuTurn
@@ -65,7 +67,7 @@ shift_fixpoint q (Upper x) = Some (Read (More (BehindVariable q x)))
 shift_fixpoint q _ = None
 
 abbrev pub shift_variable : Fixpoint → List ℕ → Sign → Option MuTurn
-shift_variable q x Dot = Some (Inner (Binder q x))
+shift_variable q x (Added Dot) = Some (Inner (Binder q x))
 shift_variable q x _ = None
 
 abbrev pub shift_inside : Formula → Sign → Option MuTurn
