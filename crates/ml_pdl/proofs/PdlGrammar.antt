@@ -9,8 +9,11 @@ use Rattle.std.proofs.Common.{◌≡◌, true, List, [], ◌∷◌, ◌++◌, So
 use Rattle.ml_text.specs.Grammar.{More, Inner, Opens, Behind, Operand, Rest, alone, inner, sign, read, form, whole, front, IsStop, IsRegular, Ending, IsCompletable, StandsFor}
 use Rattle.ml_text.proofs.Complete.{one_tree}
 use Rattle.ml_pdl.specs.Formula as plain
-use Rattle.ml_pdl.specs.Formula.{Formula, Program, Modality, Diamond, Square}
-use Rattle.ml_pdl.specs.Signs.{Sign, Marked, Unmarked, Const, Open, Close, Ends, Question, Blank}
+use Rattle.ml_pdl.specs.Formula.{Formula, Program}
+use Rattle.ml_pdl.specs.declared.term.Modality.{Modality}
+use Rattle.ml_pdl.specs.declared.term.Modality.TheVariants.{Diamond, Square}
+use Rattle.ml_pdl.specs.Signs.{Sign, Const, Open, Close, Ends, Question, Blank}
+use Rattle.ml_pdl.specs.declared.signs.Mark.TheVariants.{Marked, Unmarked}
 use Rattle.ml_pdl.specs.Grammar as grammar
 use Rattle.ml_pdl.specs.Grammar.{IsReadAs}
 use Rattle.ml_pdl.specs.Tables.{Phrase, OfFormula, OfProgram, Name, formula_of, program_of, negated, Sort, Formulas, Programs, Wait}

@@ -18,11 +18,11 @@ use Rattle.ml_text.specs.declared.token.Token.{Token}
 use Rattle.ml_text.specs.declared.token.Token.TheVariants as token
 use Rattle.ml_text.specs.Bytes.{is_upper}
 use Rattle.ml_text.specs.Words.{constant_of, is_word_from}
-use Rattle.ml_pdl.specs.Formula.{Modality, Diamond, Square}
+use Rattle.ml_pdl.specs.declared.term.Modality.{Modality}
+use Rattle.ml_pdl.specs.declared.term.Modality.TheVariants.{Diamond, Square}
+use Rattle.ml_pdl.specs.declared.signs.Mark.{Mark}
+use Rattle.ml_pdl.specs.declared.signs.Mark.TheVariants.{Unmarked}
 use Rattle.ml_pdl.specs.Spelling.{is_proposition}
-
-pub data Mark : Type 0 where
-  Marked Unmarked : Mark
 
 pub data Sign : Type 0 where
   Not : Sign

@@ -5,13 +5,13 @@ ghost use Rattle.ml_text.specs.Grammar.{Read, Whole};
 ghost use Rattle.ml_text.specs.private.Views.{GivesBack, mode_view, turn_view};
 ghost use Rattle.ml_pdl.specs.private.FormViews.{hold_view, phrase_view, wait_view};
 ghost use Rattle.ml_pdl.specs.private.Reader.{pdl_tables};
-ghost use Rattle.ml_pdl.specs.private.SignViews.{modality_of, sign_view};
+ghost use Rattle.ml_pdl.specs.private.SignViews.{sign_view};
 ghost use Rattle.ml_pdl.specs.Tables as tables;
 ghost use Rattle.ml_pdl.specs.Formula as plain;
 ghost use Rattle.ml_pdl.specs.Term.{formula_of, program_of};
 
-use crate::signs::{Mark, Modality, Sign};
-use crate::{Program, Term};
+use crate::signs::{Mark, Sign};
+use crate::{Modality, Program, Term};
 use ml_base::{Action, Name, NoMemory};
 use ml_text::{Mode, Operator};
 use std::alloc::Global;
@@ -165,7 +165,7 @@ fn shift_program(alloc: Global, sign: Sign) -> Result<Option<Turn>, NoMemory>
 
 fn shift_begin(alloc: Global, modality: Modality, sign: Sign) -> Result<Option<Turn>, NoMemory>
     ensures turn { IfOk result (λ turn.
-        option_map (turn_view pdl_tables) turn ≡ tables.shift_begin (modality_of modality) (sign_view sign)) }
+        option_map (turn_view pdl_tables) turn ≡ tables.shift_begin modality (sign_view sign)) }
     ensures gives_back { IfOk result (λ turn. GivesBack pdl_tables turn (sign_view sign)) }
 {
     match (modality, sign) {
@@ -180,7 +180,7 @@ fn shift_begin(alloc: Global, modality: Modality, sign: Sign) -> Result<Option<T
 
 fn shift_end(modality: Modality, program: Program, sign: Sign) -> Option<Turn>
     ensures { option_map (turn_view pdl_tables) result
-        ≡ tables.shift_end (modality_of modality) (program_of program) (sign_view sign) }
+        ≡ tables.shift_end modality (program_of program) (sign_view sign) }
 {
     match (modality, sign) {
         (Modality::Diamond, Sign::Ends(Modality::Diamond))
@@ -223,12 +223,6 @@ fn shift_tested(alloc: Global, tested: Term, sign: Sign) -> Result<Option<Turn>,
     }
 }
 
-fn repetition(alloc: Global, program: Program) -> Result<Phrase, NoMemory>
-    ensures { IfOk result (λ phrase. phrase_view phrase ≡ tables.OfFormula (plain.Repeat (program_of program))) }
-{
-    Ok(Phrase::Formula(Term::Repeat(Box::new(alloc, program)?)))
-}
-
 /// What a token does to a form of which one is to come; `None` where no text goes on so.
 #[inline(always)]
 pub(crate) fn shift(alloc: Global, wait: Wait, sign: Sign) -> Result<Option<Turn>, NoMemory>
@@ -243,7 +237,7 @@ pub(crate) fn shift(alloc: Global, wait: Wait, sign: Sign) -> Result<Option<Turn
         Wait::BehindProgram(modality, program) => Ok(shift_end(modality, program, sign)),
         Wait::BehindRepeat => Ok(shift_repeat(sign)),
         Wait::BehindRepeatInside(program) => {
-            let whole = repetition(alloc, program)?;
+            let whole = Phrase::Formula(Term::Repeat(program));
             Ok(shift_close(Mode::Whole(whole), sign))
         }
         Wait::BehindFormulaInside(term) => {
@@ -268,14 +262,10 @@ fn modal(
     operand: Term,
 ) -> Result<Term, NoMemory>
     ensures { IfOk result (λ term.
-        formula_of term ≡ plain.Modal (modality_of modality) (program_of program) (formula_of operand)) }
+        formula_of term ≡ plain.Modal modality (program_of program) (formula_of operand)) }
 {
-    let program = Box::new(alloc, program)?;
     let operand = Box::new(alloc, operand)?;
-    Ok(match modality {
-        Modality::Diamond => Term::Diamond(program, operand),
-        Modality::Square => Term::Square(program, operand),
-    })
+    Ok(Term::Modal(modality, program, operand))
 }
 
 /// A form behind its operand.
@@ -316,12 +306,7 @@ fn connected(alloc: Global, operator: Operator, left: Term, right: Term) -> Resu
 {
     let left = Box::new(alloc, left)?;
     let right = Box::new(alloc, right)?;
-    Ok(match operator {
-        Operator::Iff => Term::Iff(left, right),
-        Operator::Implies => Term::Implies(left, right),
-        Operator::Or => Term::Or(left, right),
-        Operator::And => Term::And(left, right),
-    })
+    Ok(Term::Binary(operator, left, right))
 }
 
 fn join_formulas(

@@ -4,7 +4,6 @@
 --   sort_view s   == formulas or programs
 --   wait_view q   == a form of which a sign is to come
 --   hold_view k   == a form of which an operand is to come
-use Rattle.ml_pdl.specs.private.SignViews.{modality_of}
 use Rattle.ml_pdl.specs.Tables as tables
 use Rattle.ml_pdl.specs.Term.{formula_of, program_of}
 use Rattle.ml_pdl.specs.declared.forms.Phrase.{Phrase}
@@ -28,8 +27,8 @@ sort_view sort.Programs = tables.Programs
 abbrev pub wait_view : Wait → tables.Wait
 wait_view wait.FormulaStart = tables.FormulaStart
 wait_view wait.ProgramStart = tables.ProgramStart
-wait_view (wait.BehindBegin m) = tables.BehindBegin (modality_of m)
-wait_view (wait.BehindProgram m p) = tables.BehindProgram (modality_of m) (program_of p)
+wait_view (wait.BehindBegin m) = tables.BehindBegin m
+wait_view (wait.BehindProgram m p) = tables.BehindProgram m (program_of p)
 wait_view wait.BehindRepeat = tables.BehindRepeat
 wait_view (wait.BehindRepeatInside p) = tables.BehindRepeatInside (program_of p)
 wait_view (wait.BehindFormulaInside t) = tables.BehindFormulaInside (formula_of t)
@@ -40,8 +39,8 @@ wait_view (wait.BehindTested t) = tables.BehindTested (formula_of t)
 
 abbrev pub hold_view : Hold → tables.Hold
 hold_view hold.Negation = tables.Negation
-hold_view (hold.ModalProgram m) = tables.ModalProgram (modality_of m)
-hold_view (hold.Modal m p) = tables.Modal (modality_of m) (program_of p)
+hold_view (hold.ModalProgram m) = tables.ModalProgram m
+hold_view (hold.Modal m p) = tables.Modal m (program_of p)
 hold_view hold.FormulaGroup = tables.FormulaGroup
 hold_view hold.ProgramGroup = tables.ProgramGroup
 hold_view hold.RepeatGroup = tables.RepeatGroup

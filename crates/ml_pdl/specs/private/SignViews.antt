@@ -1,35 +1,21 @@
 -- The signs that the program holds, as the signs of the grammar.
 --
---   modality_of, mark_view   == the same, of the plain data
 --   sign_with bytes s        == the sign of the grammar, with the bytes of what is held of a name
 --   named kind word          == the sign of a kind, where names have these bytes
 --   sign_view s              == the sign that the program holds
 use Rattle.std.specs.Prelude.{ℕ, List}
-use Rattle.ml_pdl.specs.Formula as plain
 use Rattle.ml_pdl.specs.Signs as grammar
-use Rattle.ml_pdl.specs.declared.signs.Modality.{Modality}
-use Rattle.ml_pdl.specs.declared.signs.Modality.TheVariants as modality
-use Rattle.ml_pdl.specs.declared.signs.Mark.{Mark}
-use Rattle.ml_pdl.specs.declared.signs.Mark.TheVariants as mark
 use Rattle.ml_pdl.specs.declared.signs.SignOver.{SignOver}
 use Rattle.ml_pdl.specs.declared.signs.SignOver.TheVariants as held
-
-abbrev pub modality_of : Modality → plain.Modality
-modality_of modality.Diamond = plain.Diamond
-modality_of modality.Square = plain.Square
-
-abbrev pub mark_view : Mark → grammar.Mark
-mark_view mark.Marked = grammar.Marked
-mark_view mark.Unmarked = grammar.Unmarked
 
 abbrev pub sign_with : {N : Type 0} → (N → List ℕ) → SignOver N → grammar.Sign
 sign_with bytes held.Not = grammar.Not
 sign_with bytes (held.Connective o) = grammar.Connective o
 sign_with bytes (held.Const b) = grammar.Const b
-sign_with bytes (held.Open k) = grammar.Open (mark_view k)
+sign_with bytes (held.Open k) = grammar.Open k
 sign_with bytes held.Close = grammar.Close
-sign_with bytes (held.Begins m) = grammar.Begins (modality_of m)
-sign_with bytes (held.Ends m) = grammar.Ends (modality_of m)
+sign_with bytes (held.Begins m) = grammar.Begins m
+sign_with bytes (held.Ends m) = grammar.Ends m
 sign_with bytes held.Repeats = grammar.Repeats
 sign_with bytes held.Plus = grammar.Plus
 sign_with bytes held.Semicolon = grammar.Semicolon
