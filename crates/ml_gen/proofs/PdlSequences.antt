@@ -26,7 +26,8 @@ use Rattle.ml_pdl.specs.Grammar as grammar
 use Rattle.ml_pdl.specs.Grammar.{IsReadAs, Reads, ReadsProgram, iff_alone, imp_alone, or_alone, and, and_alone, alt_alone, seq, seq_alone, modal, repetition}
 use Rattle.ml_pdl.specs.Marks.{asks, is_test_behind, mark_of, marked, with_mark}
 use Rattle.ml_pdl.specs.Parsing.{IsParsedAs}
-use Rattle.ml_pdl.specs.Signs.{Sign, Open, Repeats, word_sign}
+use Rattle.ml_pdl.specs.Signs.{Sign, word_sign}
+use Rattle.ml_pdl.specs.declared.signs.SignOver.TheVariants.{Open, Repeats}
 use Rattle.ml_pdl.specs.Text.{bracket_of, pdl_signs, items, sign_by}
 use Rattle.ml_pdl.proofs.CanonicalLimits.{opens_of, token_bracket, few_open, program_few, program_short, tokens_short}
 use Rattle.ml_pdl.proofs.CanonicalTexts.{plain_signs, program_onto, reads_formula, reads_program, scans_formula, scans_program, sign_spelt, signs_with_marks, tokens_onto}

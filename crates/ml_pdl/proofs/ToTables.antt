@@ -65,17 +65,17 @@ tight (Some _) = refl
 -- ---- modalities
 
 -- a sign of a form, by what it does
-sign_by : {q : Wait} {t : Sign} {ts rest : List Sign} {v : Phrase} (turn : Option PdlTurn)
+pub sign_by : {q : Wait} {t : Sign} {ts rest : List Sign} {v : Phrase} (turn : Option PdlTurn)
     → shift q t ≡ turn
     → Tabled (Behind t turn) ts v rest
     → Tabled (Rest (More q)) (t ∷ ts) v rest
 sign_by {q} {t} {ts} {rest} {v} turn is r = sign (subst (λ x. Tabled (Behind t x) ts v rest) (sym is) r)
 
-begin_end : (m : Modality) → shift (BehindBegin m) (Ends m) ≡ Some (Inner (Modal m blank))
+pub begin_end : (m : Modality) → shift (BehindBegin m) (Ends m) ≡ Some (Inner (Modal m blank))
 begin_end Diamond = refl
 begin_end Square = refl
 
-program_end : (m : Modality) (p : Program) → shift (BehindProgram m p) (Ends m) ≡ Some (Inner (Modal m p))
+pub program_end : (m : Modality) (p : Program) → shift (BehindProgram m p) (Ends m) ≡ Some (Inner (Modal m p))
 program_end Diamond p = refl
 program_end Square p = refl
 

@@ -7,7 +7,7 @@ ghost use Rattle.ml_pdl.specs.Signs as grammar;
 ghost use Rattle.ml_pdl.specs.Spelling as spelling;
 ghost use Rattle.ml_pdl.specs.Marks.{mark_of, with_mark};
 ghost use Rattle.ml_pdl.specs.Text.{begins_modality, bracket_of, weight_of};
-ghost use Rattle.ml_pdl.specs.private.SignViews.{named, sign_view};
+ghost use Rattle.ml_pdl.specs.private.SignViews.{named};
 
 use crate::Modality;
 use ml_base::{Name, NoMemory};
@@ -150,7 +150,7 @@ pub(crate) fn begins_modality(kind: Kind) -> bool
 /// The sign of a kind, whose name has these bytes.
 pub(crate) fn sign_of(alloc: Global, kind: Kind, bytes: &[u8]) -> Result<Sign, NoMemory>
     requires { grammar.HasShortName (named kind bytes.now) }
-    ensures { IfOk result (λ sign. sign_view sign ≡ named kind bytes.now) }
+    ensures { IfOk result (λ sign. sign ≡ named kind bytes.now) }
 {
     Ok(match kind {
         Kind::Not => Sign::Not,

@@ -1,15 +1,12 @@
 -- The trees and forms that the program holds, as those of the tables.
 --
 --   phrase_view v == a tree of a part of a text
---   sort_view s   == formulas or programs
 --   wait_view q   == a form of which a sign is to come
 --   hold_view k   == a form of which an operand is to come
 use Rattle.ml_pdl.specs.Tables as tables
 use Rattle.ml_pdl.specs.Term.{formula_of, program_of}
 use Rattle.ml_pdl.specs.declared.forms.Phrase.{Phrase}
 use Rattle.ml_pdl.specs.declared.forms.Phrase.TheVariants as phrase
-use Rattle.ml_pdl.specs.declared.forms.Sort.{Sort}
-use Rattle.ml_pdl.specs.declared.forms.Sort.TheVariants as sort
 use Rattle.ml_pdl.specs.declared.forms.Wait.{Wait}
 use Rattle.ml_pdl.specs.declared.forms.Wait.TheVariants as wait
 use Rattle.ml_pdl.specs.declared.forms.Hold.{Hold}
@@ -19,10 +16,6 @@ abbrev pub phrase_view : Phrase → tables.Phrase
 phrase_view (phrase.Formula t) = tables.OfFormula (formula_of t)
 phrase_view (phrase.Program p) = tables.OfProgram (program_of p)
 phrase_view (phrase.Name a) = tables.Name a
-
-abbrev pub sort_view : Sort → tables.Sort
-sort_view sort.Formulas = tables.Formulas
-sort_view sort.Programs = tables.Programs
 
 abbrev pub wait_view : Wait → tables.Wait
 wait_view wait.FormulaStart = tables.FormulaStart
