@@ -14,7 +14,8 @@ use Rattle.ml_lists.specs.Member.{IsMember}
 use Rattle.ml_graph.specs.Graph.{Graph, node_at, priority_at}
 use Rattle.ml_graph.specs.declared.node.Node.TheVariants as node
 use Rattle.ml_nodes.specs.Nodes.{positive, negative, IsNode, LeadsTo}
-use Rattle.ml_pdl.specs.Formula.{Formula, Prop, Not, Modal, Square, Star, program_occurrences}
+use Rattle.ml_pdl.specs.Formula.{Formula, Prop, Not, Modal, Star, program_occurrences}
+use Rattle.ml_pdl.specs.declared.term.Modality.TheVariants.{Square}
 use Rattle.ml_pdl_graph.specs.PdlGraph.{IsGraphOf, ProgramStandsAt, StandsAt, diamond, box, plain}
 use Rattle.ml_gen.specs.Formulas.{act, acts, step_formula}
 use Rattle.ml_gen.proofs.Occurrences.{acts_count}

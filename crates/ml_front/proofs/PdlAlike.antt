@@ -5,9 +5,9 @@
 use Rattle.std.proofs.Common.{ℕ, ◌+◌, Bool, true, false, not, List, refl, sym, ◌∙◌}
 use Rattle.ml_graph.specs.Graph.{Graph}
 use Rattle.ml_graph.specs.declared.node.Node.TheVariants as node
-use Rattle.ml_pdl.specs.Formula.{Formula, Const, Prop, Not, Binary, Modal, Repeat, Program, Act, Seq, Alt, Star, Test, Diamond, Square, occurrences, program_occurrences}
+use Rattle.ml_pdl.specs.Formula.{Formula, Const, Prop, Not, Binary, Modal, Repeat, Program, Act, Seq, Alt, Star, Test, occurrences, program_occurrences}
 use Rattle.ml_nodes.specs.Nodes.{IsNode, constant, negative, positive}
-use Rattle.ml_pdl_graph.specs.PdlGraph.{IsGraphOf, IsLiteral, ProgramStandsAt, StandsAt, box, diamond, plain}
+use Rattle.ml_pdl_graph.specs.PdlGraph.{IsGraphOf, IsLiteral, ProgramStandsAt, StandsAt, box, diamond, dual, own, plain}
 use Rattle.ml_text.specs.Operators.{weight}
 use Rattle.ml_front.proofs.AlikeGraphs.{AreAlike, Range, SameNode, alike_of, one_occurrence, one_part, same_and, same_box}
 use Rattle.ml_front.proofs.AlikeGraphs.{same_diamond, same_joined, same_literal, same_or, same_plain, two_parts}
@@ -42,20 +42,13 @@ module _ (g h : Graph) where
         let l = i + weight op in
         two_parts P i (weight op) (occurrences f) (occurrences e) (same_joined g h plain op i l (l + occurrences f) x.0 y.0)
         (same_in l f x.1 y.1) (same_in (l + occurrences f) e x.2 y.2)
-    same_in i (Modal Diamond p f) x y =
+    same_in i (Modal m p f) x y =
         let l = i + 1 in
         let r = l + program_occurrences p in
         two_parts P i 1 (program_occurrences p) (occurrences f)
-        (one_occurrence P i (ands (positive i) (diamond l) (diamond l) plain x.0 y.0)
-        (ands (negative i) (box l) (box l) plain x.1 y.1))
-        (program_same l (positive r) (negative r) p x.2 y.2) (same_in r f x.3 y.3)
-    same_in i (Modal Square p f) x y =
-        let l = i + 1 in
-        let r = l + program_occurrences p in
-        two_parts P i 1 (program_occurrences p) (occurrences f)
-        (one_occurrence P i (ands (positive i) (box l) (box l) plain x.0 y.0)
-        (ands (negative i) (diamond l) (diamond l) plain x.1 y.1))
-        (program_same l (negative r) (positive r) p x.2 y.2) (same_in r f x.3 y.3)
+        (one_occurrence P i (ands (positive i) (own m l) (own m l) plain x.0 y.0)
+        (ands (negative i) (dual m l) (dual m l) plain x.1 y.1))
+        (program_same l (own m r) (dual m r) p x.2 y.2) (same_in r f x.3 y.3)
     same_in i (Repeat p) x y =
         let l = i + 1 in
         one_part P i (program_occurrences p) (ands (positive i) (diamond l) (diamond l) 0 x.0 y.0)

@@ -14,7 +14,9 @@ use Rattle.ml_text.specs.Words.{is_word_from}
 use Rattle.ml_text.proofs.FirstLetters.{lower_letters}
 use Rattle.ml_pdl.specs.Canonical.{canonical_text, modality_text, program_text, whole_program}
 use Rattle.ml_pdl.specs.Formula as plain
-use Rattle.ml_pdl.specs.Formula.{Formula, Program, Modality, Act, Seq, Alt, Star, Test, Diamond, Square}
+use Rattle.ml_pdl.specs.Formula.{Formula, Program, Act, Seq, Alt, Star, Test}
+use Rattle.ml_pdl.specs.declared.term.Modality.{Modality}
+use Rattle.ml_pdl.specs.declared.term.Modality.TheVariants.{Diamond, Square}
 use Rattle.ml_pdl.specs.Spelling.{is_action, is_reserved, is_spelled, program_is_spelled}
 use Rattle.ml_front.proofs.WordLines as words
 use Rattle.ml_front.proofs.WordLines.{both_in_line, three_in_line, five_in_line, seven_in_line}

@@ -15,6 +15,7 @@ use Rattle.ml_mu.specs.Formula as mu
 use Rattle.ml_mu.specs.Parsing as mu_parsing
 use Rattle.ml_mu.proofs.OneAnswer as mu_answer
 use Rattle.ml_pdl.specs.Formula as pdl
+use Rattle.ml_pdl.specs.declared.term.Modality.TheVariants as modality
 use Rattle.ml_pdl.specs.Parsing as pdl_parsing
 use Rattle.ml_pdl.proofs.OneAnswer as pdl_answer
 use Rattle.ml_ctl.specs.Formula as ltl
@@ -183,7 +184,7 @@ are_parsed Step (suc k) is =
     (pdl_sequences.step_parsed k (omega (arith, low))))
   where
     step_of : pdl.Program → pdl.Formula
-    step_of p = pdl.Binary operator.And (pdl.Modal pdl.Diamond p pdl_sequences.prop) pdl_sequences.box
+    step_of p = pdl.Binary operator.And (pdl.Modal modality.Diamond p pdl_sequences.prop) pdl_sequences.box
 are_parsed Fair zero is = absurd (omega (arith, (range_parts Fair zero is).0))
 are_parsed Fair (suc k) is =
     let low = (range_parts Fair (suc k) is).1 in

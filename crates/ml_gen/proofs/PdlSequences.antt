@@ -20,12 +20,14 @@ use Rattle.ml_text.proofs.Scans.{Spelt, spelt_at, Scans, ends, scans_tokens}
 use Rattle.ml_text.proofs.TableItems.{IsShort}
 use Rattle.ml_pdl.specs.Canonical.{canonical_text}
 use Rattle.ml_pdl.specs.Formula as plain
-use Rattle.ml_pdl.specs.Formula.{Formula, Program, Seq, Star, Diamond, Square, occurrences, program_occurrences}
+use Rattle.ml_pdl.specs.Formula.{Formula, Program, Seq, Star, occurrences, program_occurrences}
+use Rattle.ml_pdl.specs.declared.term.Modality.TheVariants.{Diamond, Square}
 use Rattle.ml_pdl.specs.Grammar as grammar
 use Rattle.ml_pdl.specs.Grammar.{IsReadAs, Reads, ReadsProgram, iff_alone, imp_alone, or_alone, and, and_alone, alt_alone, seq, seq_alone, modal, repetition}
 use Rattle.ml_pdl.specs.Marks.{asks, is_test_behind, mark_of, marked, with_mark}
 use Rattle.ml_pdl.specs.Parsing.{IsParsedAs}
-use Rattle.ml_pdl.specs.Signs.{Sign, Open, Repeats, word_sign}
+use Rattle.ml_pdl.specs.Signs.{Sign, word_sign}
+use Rattle.ml_pdl.specs.declared.signs.SignOver.TheVariants.{Open, Repeats}
 use Rattle.ml_pdl.specs.Text.{bracket_of, pdl_signs, items, sign_by}
 use Rattle.ml_pdl.proofs.CanonicalLimits.{opens_of, token_bracket, few_open, program_few, program_short, tokens_short}
 use Rattle.ml_pdl.proofs.CanonicalTexts.{plain_signs, program_onto, reads_formula, reads_program, scans_formula, scans_program, sign_spelt, signs_with_marks, tokens_onto}

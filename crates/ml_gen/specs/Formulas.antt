@@ -15,6 +15,7 @@ use Rattle.ml_ctl.specs.Formula as ctl
 use Rattle.ml_ctl.specs.declared.term.Tense.TheVariants as tense
 use Rattle.ml_mu.specs.Formula as mu
 use Rattle.ml_pdl.specs.Formula as pdl
+use Rattle.ml_pdl.specs.declared.term.Modality.TheVariants as modality
 use Rattle.ml_gen.specs.declared.family.Family.{Family}
 use Rattle.ml_gen.specs.declared.family.Family.TheVariants.{And, Or, Step, Fair, Loop}
 
@@ -58,8 +59,8 @@ acts n = joined pdl.Seq (λ i. act) n
 -- `<a;a;..>p & [a*]!p`
 abbrev pub step_formula : ℕ → pdl.Formula
 step_formula n =
-    pdl.Binary operator.And (pdl.Modal pdl.Diamond (acts n) (pdl.Prop (codes "p")))
-    (pdl.Modal pdl.Square (pdl.Star act) (pdl.Not (pdl.Prop (codes "p"))))
+    pdl.Binary operator.And (pdl.Modal modality.Diamond (acts n) (pdl.Prop (codes "p")))
+    (pdl.Modal modality.Square (pdl.Star act) (pdl.Not (pdl.Prop (codes "p"))))
 
 -- `repeat(a;a;..)`
 abbrev pub loop_formula : ℕ → pdl.Formula

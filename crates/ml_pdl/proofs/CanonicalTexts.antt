@@ -27,9 +27,13 @@ use Rattle.ml_text.proofs.Pieces.{lone, lone_piece, less_piece, not_piece, opera
 use Rattle.ml_text.proofs.Scans.{Spelt, spelt_at, Scans, ends, scans_tokens}
 use Rattle.ml_text.proofs.FirstLetters.{lower_letters}
 use Rattle.ml_pdl.specs.Formula as plain
-use Rattle.ml_pdl.specs.Formula.{Formula, Program, Modality, Diamond, Square}
+use Rattle.ml_pdl.specs.Formula.{Formula, Program}
+use Rattle.ml_pdl.specs.declared.term.Modality.{Modality}
+use Rattle.ml_pdl.specs.declared.term.Modality.TheVariants.{Diamond, Square}
 use Rattle.ml_pdl.specs.Canonical.{whole_program, modality_text, canonical_text, program_text}
-use Rattle.ml_pdl.specs.Signs.{Sign, Mark, Marked, Connective, Const, Open, Close, Begins, Ends, Repeats, Question, sign_of, word_sign, action_of}
+use Rattle.ml_pdl.specs.Signs.{Sign, Connective, Const, Open, Close, Begins, Ends, Repeats, Question, sign_of, word_sign, action_of}
+use Rattle.ml_pdl.specs.declared.signs.Mark.{Mark}
+use Rattle.ml_pdl.specs.declared.signs.Mark.TheVariants.{Marked}
 use Rattle.ml_pdl.specs.Marks.{asks, is_test_behind, mark_of, with_mark, marked}
 use Rattle.ml_pdl.specs.Spelling.{is_action, is_spelled, program_is_spelled, is_reserved}
 use Rattle.ml_pdl.specs.Grammar as grammar

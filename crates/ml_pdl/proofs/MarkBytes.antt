@@ -26,7 +26,8 @@ use Rattle.ml_text.proofs.TableItems.{one_of}
 use Rattle.ml_text.proofs.Spelling.{spells_by, signs_all}
 use Rattle.ml_text.proofs.Longest.{front_token-longest}
 use Rattle.ml_text.proofs.Scan.{tokens_at-blank, tokens_at-token, tokens_at-end}
-use Rattle.ml_pdl.specs.Signs.{Sign, Unmarked, Open, Close, Question, sign_of, word_sign_by, name_sign, byte_sign}
+use Rattle.ml_pdl.specs.Signs.{Sign, Open, Close, Question, sign_of, word_sign_by, name_sign, byte_sign}
+use Rattle.ml_pdl.specs.declared.signs.Mark.TheVariants.{Unmarked}
 use Rattle.ml_text.specs.Items.{bytes_of}
 use Rattle.ml_pdl.specs.Marks.{asks, is_test_behind, with_mark}
 use Rattle.ml_pdl.specs.Spelling.{is_proposition}

@@ -6,7 +6,8 @@ use Rattle.std.proofs.lemmas.List.{length-map, length-replicate}
 use Rattle.std.proofs.lemmas.List.FromFn.{length-map-range_with_len}
 use Rattle.ml_lists.specs.Iterate.{iterate}
 use Rattle.ml_base.specs.Structure.{Structure, lists, is_member, everywhere}
-use Rattle.ml_pdl.specs.Formula.{Formula, Const, Prop, Not, Binary, Modal, Repeat, Diamond, Square}
+use Rattle.ml_pdl.specs.Formula.{Formula, Const, Prop, Not, Binary, Modal, Repeat}
+use Rattle.ml_pdl.specs.declared.term.Modality.TheVariants.{Diamond, Square}
 use Rattle.ml_pdl.specs.Meaning.{Relation, truth_of, some_run, every_run, modal, meaning, relation}
 
 iterate_flags : (m : Structure) (r : Relation) (k : ℕ)

@@ -20,7 +20,7 @@ use Rattle.ml_text.proofs.TableItems.{one_of, one_by}
 use Rattle.ml_text.proofs.WordNames.{token_size, name_bytes_by, word_name, cut_word}
 use Rattle.ml_text.proofs.FirstLetters.{upper_letters, lower_word, upper_word}
 use Rattle.ml_text.proofs.FreeWords.{proposition_from, proposition_letters}
-use Rattle.ml_pdl.specs.Signs.{Sign, Repeats, Lower, Upper, Unknown, HasShortName, sign_of, byte_sign, word_sign_by, name_sign}
+use Rattle.ml_pdl.specs.Signs.{Sign, Open, Repeats, Lower, Upper, Unknown, HasShortName, sign_of, byte_sign, word_sign_by, name_sign}
 use Rattle.ml_pdl.specs.Text.{sign_at, sign_by, signs_behind}
 use Rattle.ml_pdl.specs.Marks.{with_mark, is_test_behind}
 use Rattle.ml_pdl.specs.Spelling.{is_proposition, is_reserved}
@@ -107,7 +107,7 @@ cut_name _ w s is spelled = tt
 
 -- a mark has no name
 pub short_mark : (b : Bool) (s : Sign) → HasShortName s → HasShortName (with_mark b s)
-short_mark b (Rattle.ml_pdl.specs.Signs.Open k) is = tt
+short_mark b (Open k) is = tt
 short_mark b (Lower p) is = is
 short_mark b (Upper p) is = is
 short_mark b _ is = tt

@@ -9,19 +9,21 @@ use Rattle.std.proofs.Common.{◌≡◌, true, List, [], ◌∷◌, ◌++◌, So
 use Rattle.ml_text.specs.Grammar.{More, Inner, Opens, Behind, Operand, Rest, alone, inner, sign, read, form, whole, front, IsStop, IsRegular, Ending, IsCompletable, StandsFor}
 use Rattle.ml_text.proofs.Complete.{one_tree}
 use Rattle.ml_pdl.specs.Formula as plain
-use Rattle.ml_pdl.specs.Formula.{Formula, Program, Modality, Diamond, Square}
-use Rattle.ml_pdl.specs.Signs.{Sign, Marked, Unmarked, Const, Open, Close, Ends, Question, Blank}
+use Rattle.ml_pdl.specs.Formula.{Formula, Program}
+use Rattle.ml_pdl.specs.declared.term.Modality.{Modality}
+use Rattle.ml_pdl.specs.Signs.{Sign, Not, Const, Open, Close, Ends, Question, Blank}
+use Rattle.ml_pdl.specs.declared.signs.Mark.TheVariants.{Marked, Unmarked}
 use Rattle.ml_pdl.specs.Grammar as grammar
 use Rattle.ml_pdl.specs.Grammar.{IsReadAs}
 use Rattle.ml_pdl.specs.Tables.{Phrase, OfFormula, OfProgram, Name, formula_of, program_of, negated, Sort, Formulas, Programs, Wait}
 use Rattle.ml_pdl.specs.Tables.{FormulaStart, ProgramStart, BehindBegin, BehindProgram, BehindRepeat, BehindRepeatInside, BehindFormulaInside}
 use Rattle.ml_pdl.specs.Tables.{BehindProgramInside, BehindTestInside, BehindNegations, BehindTested, Hold, Negation, ModalProgram, Modal}
 use Rattle.ml_pdl.specs.Tables.{FormulaGroup, ProgramGroup, RepeatGroup, TestGroup, blank, shift, start, resume, pdl_grammar}
-use Rattle.ml_pdl.proofs.ToTables.{Tabled, modal_read, tabled}
+use Rattle.ml_pdl.proofs.ToTables.{Tabled, begin_end, modal_read, program_end, sign_by, tabled}
 use Rattle.ml_pdl.proofs.FromTables.{AsFormula, untabled}
 
 never_opens : (s : Sort) (t : Sign) (k : Hold) → shift (start s) t ≡ Some (Opens k) → ⊥
-never_opens Formulas Rattle.ml_pdl.specs.Signs.Not k is = cc
+never_opens Formulas Not k is = cc
 never_opens Formulas _ k is = cc
 never_opens Programs (Open Marked) k is = cc
 never_opens Programs (Open Unmarked) k is = cc
@@ -49,29 +51,17 @@ read_blank rest = form (sign (read whole))
 ending : (q : Wait) → Ending pdl_grammar q
 ending FormulaStart = record { signs = Const true ∷ []; tree = OfFormula (plain.Const true); reads = λ rest stop. sign (read whole) }
 ending ProgramStart = record { signs = Blank ∷ []; tree = OfProgram blank; reads = λ rest stop. sign (read whole) }
-ending (BehindBegin Diamond) =
+ending (BehindBegin m) =
     record {
-      signs = Ends Diamond ∷ Const true ∷ [];
-      tree = OfFormula (plain.Modal Diamond blank (plain.Const true));
-      reads = λ rest stop. sign (modal_true (Ends Diamond) Diamond blank rest);
+      signs = Ends m ∷ Const true ∷ [];
+      tree = OfFormula (plain.Modal m blank (plain.Const true));
+      reads = λ rest stop. sign_by (Some (Inner (Modal m blank))) (begin_end m) (modal_true (Ends m) m blank rest);
     }
-ending (BehindBegin Square) =
+ending (BehindProgram m p) =
     record {
-      signs = Ends Square ∷ Const true ∷ [];
-      tree = OfFormula (plain.Modal Square blank (plain.Const true));
-      reads = λ rest stop. sign (modal_true (Ends Square) Square blank rest);
-    }
-ending (BehindProgram Diamond p) =
-    record {
-      signs = Ends Diamond ∷ Const true ∷ [];
-      tree = OfFormula (plain.Modal Diamond p (plain.Const true));
-      reads = λ rest stop. sign (modal_true (Ends Diamond) Diamond p rest);
-    }
-ending (BehindProgram Square p) =
-    record {
-      signs = Ends Square ∷ Const true ∷ [];
-      tree = OfFormula (plain.Modal Square p (plain.Const true));
-      reads = λ rest stop. sign (modal_true (Ends Square) Square p rest);
+      signs = Ends m ∷ Const true ∷ [];
+      tree = OfFormula (plain.Modal m p (plain.Const true));
+      reads = λ rest stop. sign_by (Some (Inner (Modal m p))) (program_end m p) (modal_true (Ends m) m p rest);
     }
 ending BehindRepeat = record {
   signs = Open Unmarked ∷ Blank ∷ Close ∷ [];
@@ -103,13 +93,6 @@ stop_end : (m : Modality) → IsStop pdl_grammar (Some (Ends m))
 stop_end m Formulas l = refl
 stop_end m Programs l = refl
 
--- the first sign of what ends a form behind the operand that it held
-stop_program : (m : Modality) (p : Program) (rest : List Sign)
-    → IsStop pdl_grammar (front ((ending (BehindProgram m p)).signs ++ rest))
-unfolding ending
-stop_program Diamond p rest = stop_end Diamond
-stop_program Square p rest = stop_end Square
-
 closes : (k : Hold) (v : Phrase) (q : Wait)
     → resume k v ≡ More q
     → (rest : List Sign)
@@ -119,7 +102,7 @@ closes Negation v q is rest = absurd (cc)
 closes (Modal m p) v q is rest = absurd (cc)
 closes (ModalProgram m) v q is rest =
     let same : BehindProgram m (program_of v) ≡ q = cc in
-    subst (λ w. IsStop pdl_grammar (front ((ending w).signs ++ rest))) same (stop_program m (program_of v) rest)
+    subst (λ w. IsStop pdl_grammar (front ((ending w).signs ++ rest))) same (stop_end m)
 closes FormulaGroup v q is rest =
     let same : BehindFormulaInside (formula_of v) ≡ q = cc in
     subst (λ w. IsStop pdl_grammar (front ((ending w).signs ++ rest))) same (stop_close rest)

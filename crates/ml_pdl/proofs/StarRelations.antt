@@ -16,7 +16,8 @@ use Rattle.ml_lists.specs.Iterate.{iterate}
 use Rattle.ml_lists.specs.Search.{Found}
 use Rattle.ml_lists.proofs.Growing.{stable_soon}
 use Rattle.ml_base.specs.Structure.{Structure, StateSet, is_member, states_where, everywhere}
-use Rattle.ml_pdl.specs.Formula.{Program, Star, Repeat, Diamond}
+use Rattle.ml_pdl.specs.Formula.{Program, Star, Repeat}
+use Rattle.ml_pdl.specs.declared.term.Modality.TheVariants.{Diamond}
 use Rattle.ml_pdl.specs.Meaning.{Relation, identity, either, followed_by, some_run, modal, relation, meaning}
 use Rattle.ml_pdl.specs.Laws.{HasRuns, StarsAreLeast, RepetitionsAreGreatest}
 use Rattle.ml_pdl.proofs.RunsInto.{same_number, equal_number, into, run_of, of_run}

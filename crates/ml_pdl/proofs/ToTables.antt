@@ -13,9 +13,13 @@ use Rattle.ml_text.specs.Grammar.{More, Inner, Opens, Part, Level, Operand, Rest
 use Rattle.ml_text.proofs.Fronts.{BeginsWith, begins_with}
 use Rattle.ml_text.proofs.Levels.{loosen}
 use Rattle.ml_pdl.specs.Formula as plain
-use Rattle.ml_pdl.specs.Formula.{Formula, Program, Modality, Diamond, Square}
+use Rattle.ml_pdl.specs.Formula.{Formula, Program}
+use Rattle.ml_pdl.specs.declared.term.Modality.{Modality}
+use Rattle.ml_pdl.specs.declared.term.Modality.TheVariants.{Diamond, Square}
 use Rattle.ml_pdl.specs.Signs as signs
-use Rattle.ml_pdl.specs.Signs.{Sign, Mark, Marked, Unmarked, Not, Connective, Const, Open, Close, Begins, Ends, Repeats, Plus, Semicolon, Question, Blank, Lower, Upper, action_of}
+use Rattle.ml_pdl.specs.Signs.{Sign, Not, Connective, Const, Open, Close, Begins, Ends, Repeats, Plus, Semicolon, Question, Blank, Lower, Upper, action_of}
+use Rattle.ml_pdl.specs.declared.signs.Mark.{Mark}
+use Rattle.ml_pdl.specs.declared.signs.Mark.TheVariants.{Marked, Unmarked}
 use Rattle.ml_pdl.specs.Grammar as grammar
 use Rattle.ml_pdl.specs.Grammar.{Reads, iff_alone, iff, imp_alone, imp, or_alone, or, and_alone, and, negation, modal, modal_blank, repetition, group}
 use Rattle.ml_pdl.specs.Grammar.{constant, proposition, ReadsProgram, alt_alone, alt, seq_alone, seq, star_alone, star, action, test, program_group}
@@ -61,17 +65,17 @@ tight (Some _) = refl
 -- ---- modalities
 
 -- a sign of a form, by what it does
-sign_by : {q : Wait} {t : Sign} {ts rest : List Sign} {v : Phrase} (turn : Option PdlTurn)
+pub sign_by : {q : Wait} {t : Sign} {ts rest : List Sign} {v : Phrase} (turn : Option PdlTurn)
     → shift q t ≡ turn
     → Tabled (Behind t turn) ts v rest
     → Tabled (Rest (More q)) (t ∷ ts) v rest
 sign_by {q} {t} {ts} {rest} {v} turn is r = sign (subst (λ x. Tabled (Behind t x) ts v rest) (sym is) r)
 
-begin_end : (m : Modality) → shift (BehindBegin m) (Ends m) ≡ Some (Inner (Modal m blank))
+pub begin_end : (m : Modality) → shift (BehindBegin m) (Ends m) ≡ Some (Inner (Modal m blank))
 begin_end Diamond = refl
 begin_end Square = refl
 
-program_end : (m : Modality) (p : Program) → shift (BehindProgram m p) (Ends m) ≡ Some (Inner (Modal m p))
+pub program_end : (m : Modality) (p : Program) → shift (BehindProgram m p) (Ends m) ≡ Some (Inner (Modal m p))
 program_end Diamond p = refl
 program_end Square p = refl
 

@@ -2,7 +2,8 @@
 -- to 0; p is true at 1 alone.
 use Rattle.std.proofs.Common.{◌≡◌, true, false, [], ◌∷◌, codes, refl}
 use Rattle.ml_base.specs.Structure.{Structure}
-use Rattle.ml_pdl.specs.Formula.{Formula, Const, Prop, Not, Modal, Repeat, Diamond, Square, Program, Act, Seq, Alt, Star, Test}
+use Rattle.ml_pdl.specs.Formula.{Formula, Const, Prop, Not, Modal, Repeat, Program, Act, Seq, Alt, Star, Test}
+use Rattle.ml_pdl.specs.declared.term.Modality.TheVariants.{Diamond, Square}
 use Rattle.ml_pdl.specs.Meaning.{meaning, relation}
 
 abbrev three : Structure

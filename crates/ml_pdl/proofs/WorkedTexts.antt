@@ -15,8 +15,10 @@ use Rattle.ml_text.specs.Refusals.{Item, Syntax}
 use Rattle.ml_text.specs.declared.limits.Bracket.TheVariants.{Neither}
 use Rattle.ml_text.specs.private.Reading.{Outcome, Found, Refused, text_outcome}
 use Rattle.ml_pdl.specs.Formula as plain
-use Rattle.ml_pdl.specs.Formula.{Formula, Diamond, Square}
-use Rattle.ml_pdl.specs.Signs.{Sign, Unmarked, Not, Connective, Const, Open, Close, Begins, Ends, Plus, Semicolon, Star, Question, Blank, Lower, Upper}
+use Rattle.ml_pdl.specs.Formula.{Formula}
+use Rattle.ml_pdl.specs.declared.term.Modality.TheVariants.{Diamond, Square}
+use Rattle.ml_pdl.specs.Signs.{Sign, Not, Connective, Const, Open, Close, Begins, Ends, Plus, Semicolon, Star, Question, Blank, Lower, Upper}
+use Rattle.ml_pdl.specs.declared.signs.Mark.TheVariants.{Unmarked}
 use Rattle.ml_pdl.specs.Marks.{marked}
 use Rattle.ml_pdl.specs.Tables.{Phrase, OfFormula, pdl_grammar}
 

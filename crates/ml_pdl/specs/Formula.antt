@@ -7,14 +7,12 @@
 --   Formula        == the formulas: constants, propositions, negations, connectives, modalities, infinite repetition
 --   Program        == the programs: actions; one program and then another; one of two; any number of times; a test
 --   Operator       == and, or, implies, iff (of `ml_text`, since all logics share them)
---   Modality       == diamond (some run of the program) or square (every run)
+--   Modality       == diamond (some run of the program) or square (every run), as trees have it (`src/term.rt`)
 --   occurrences f, program_occurrences p == the number of symbols, where iff counts as three and each action as one
 use Rattle.std.specs.Prelude.{ℕ, ◌+◌, Bool, List}
 use Rattle.ml_text.specs.declared.token.Operator.{Operator}
 use Rattle.ml_text.specs.Operators.{weight}
-
-pub data Modality : Type 0 where
-  Diamond Square : Modality
+use Rattle.ml_pdl.specs.declared.term.Modality.{Modality}
 
 mutual
   pub data Formula : Type 0 where

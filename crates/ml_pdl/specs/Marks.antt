@@ -10,7 +10,9 @@
 --   marked ts           == the signs ts with the marks that they have as a text
 --   MarksAreOfTests     == the law that the test says so
 use Rattle.std.specs.Prelude.{◌≡◌, ℕ, zero, suc, Bool, true, false, List, [], ◌∷◌, ◌++◌, Option, Some, None, IsTrue, ◌↔◌}
-use Rattle.ml_pdl.specs.Signs.{Sign, Mark, Marked, Unmarked, Open, Close, Question}
+use Rattle.ml_pdl.specs.Signs.{Sign, Open, Close, Question}
+use Rattle.ml_pdl.specs.declared.signs.Mark.{Mark}
+use Rattle.ml_pdl.specs.declared.signs.Mark.TheVariants.{Marked, Unmarked}
 
 abbrev pub open_behind : ℕ → List Sign → Option ℕ
 open_behind n [] = Some n

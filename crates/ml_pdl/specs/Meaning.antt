@@ -25,7 +25,9 @@ use Rattle.ml_lists.specs.Iterate.{iterate}
 use Rattle.ml_text.specs.declared.token.Operator.{Operator}
 use Rattle.ml_text.specs.declared.token.Operator.TheVariants as operator
 use Rattle.ml_base.specs.Structure.{Structure, StateSet, lists, is_member, states_where, everywhere}
-use Rattle.ml_pdl.specs.Formula.{Formula, Const, Prop, Not, Binary, Modal, Repeat, Program, Act, Seq, Alt, Star, Test, Modality, Diamond, Square}
+use Rattle.ml_pdl.specs.Formula.{Formula, Const, Prop, Not, Binary, Modal, Repeat, Program, Act, Seq, Alt, Star, Test}
+use Rattle.ml_pdl.specs.declared.term.Modality.{Modality}
+use Rattle.ml_pdl.specs.declared.term.Modality.TheVariants.{Diamond, Square}
 
 abbrev pub Relation : Type 0
 Relation = ℕ → ℕ → Bool

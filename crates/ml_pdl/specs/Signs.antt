@@ -5,7 +5,7 @@
 -- a token by itself gives an unmarked one, and which are marked is said of whole texts (`Marks.antt`).
 --
 --   Mark                == of `(`: marked as the one of a test, or not
---   Sign                == a sign of the grammar, a name with its bytes
+--   Sign                == a sign of the grammar, a name with its bytes (the cases stand in `src/signs.rt`)
 --   word_sign word      == the sign that a word is
 --   byte_sign b         == the sign that a byte is that is a token by itself; most are in no text of the grammar
 --   sign_of t bytes     == the sign that a token with these bytes is
@@ -13,34 +13,19 @@
 --   action_of s         == the action that a sign is, if it is one
 use Rattle.std.specs.Prelude.{ℕ, ◌==◌, Bool, List, Option, Some, None, if◌then◌else◌, codes, bytes_eq, IsTrue}
 use Rattle.ml_base.specs.Name.{is_name}
-use Rattle.ml_text.specs.declared.token.Operator.{Operator}
 use Rattle.ml_text.specs.declared.token.Token.{Token}
 use Rattle.ml_text.specs.declared.token.Token.TheVariants as token
 use Rattle.ml_text.specs.Bytes.{is_upper}
 use Rattle.ml_text.specs.Words.{constant_of, is_word_from}
-use Rattle.ml_pdl.specs.Formula.{Modality, Diamond, Square}
+use Rattle.ml_pdl.specs.declared.term.Modality.TheVariants.{Diamond, Square}
+use Rattle.ml_pdl.specs.declared.signs.Mark.TheVariants.{Unmarked}
+use Rattle.ml_pdl.specs.declared.signs.SignOver.{SignOver}
+pub use Rattle.ml_pdl.specs.declared.signs.SignOver.TheVariants.{Not, Connective, Const, Open, Close, Begins, Ends, Repeats}
+pub use Rattle.ml_pdl.specs.declared.signs.SignOver.TheVariants.{Plus, Semicolon, Star, Question, Blank, Lower, Upper, Unknown}
 use Rattle.ml_pdl.specs.Spelling.{is_proposition}
 
-pub data Mark : Type 0 where
-  Marked Unmarked : Mark
-
-pub data Sign : Type 0 where
-  Not : Sign
-  Connective : Operator → Sign
-  Const : Bool → Sign
-  -- `(` and `)`
-  Open : Mark → Sign
-  Close : Sign
-  -- `<` or `[`, and `>` or `]`
-  Begins Ends : Modality → Sign
-  -- the word `repeat`
-  Repeats : Sign
-  -- `+`, `;`, `*`, `?` and `_`
-  Plus Semicolon Star Question Blank : Sign
-  -- a name that begins with a lower-case or an upper-case letter
-  Lower Upper : List ℕ → Sign
-  -- what no text of the grammar has
-  Unknown : Sign
+abbrev pub Sign : Type 0
+Sign = SignOver (List ℕ)
 
 abbrev pub name_sign : List ℕ → Sign
 name_sign word =

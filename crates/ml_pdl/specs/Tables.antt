@@ -20,9 +20,14 @@ use Rattle.ml_text.specs.Operators.{operator_level}
 use Rattle.ml_text.specs.Grammar.{Grammar, Mode, Whole, More, Turn, Read, Inner, Opens}
 use Rattle.ml_text.specs.declared.forms.Role.{Role}
 use Rattle.ml_text.specs.declared.forms.Role.TheVariants.{Infix, Postfix, Outside}
+pub use Rattle.ml_pdl.specs.declared.forms.Sort.{Sort}
+pub use Rattle.ml_pdl.specs.declared.forms.Sort.TheVariants.{Formulas, Programs}
 use Rattle.ml_pdl.specs.Formula as plain
-use Rattle.ml_pdl.specs.Formula.{Formula, Program, Modality, Diamond, Square}
-use Rattle.ml_pdl.specs.Signs.{Sign, Marked, Unmarked, Not, Connective, Const, Open, Close, Begins, Ends, Repeats, Plus, Semicolon, Star, Question, Blank, Lower, Upper}
+use Rattle.ml_pdl.specs.Formula.{Formula, Program}
+use Rattle.ml_pdl.specs.declared.term.Modality.{Modality}
+use Rattle.ml_pdl.specs.declared.term.Modality.TheVariants.{Diamond, Square}
+use Rattle.ml_pdl.specs.Signs.{Sign, Not, Connective, Const, Open, Close, Begins, Ends, Repeats, Plus, Semicolon, Star, Question, Blank, Lower, Upper}
+use Rattle.ml_pdl.specs.declared.signs.Mark.TheVariants.{Marked, Unmarked}
 
 pub data Phrase : Type 0 where
   OfFormula : Formula → Phrase
@@ -44,9 +49,6 @@ program_of (Name a) = plain.Act a
 abbrev pub negated : ℕ → Formula → Formula
 negated zero f = f
 negated (suc n) f = negated n (plain.Not f)
-
-pub data Sort : Type 0 where
-  Formulas Programs : Sort
 
 pub data Wait : Type 0 where
   -- a formula or a program is to come

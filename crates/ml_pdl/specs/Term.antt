@@ -4,7 +4,6 @@
 --   formula_of t   == the plain formula of the term t
 --   program_of p   == the plain program of the program p
 use Rattle.ml_pdl.specs.Formula as plain
-use Rattle.ml_text.specs.declared.token.Operator.TheVariants as operator
 use Rattle.ml_pdl.specs.declared.term.Term.{Term}
 use Rattle.ml_pdl.specs.declared.term.Term.TheVariants as term
 use Rattle.ml_pdl.specs.declared.term.Program.{Program}
@@ -15,13 +14,9 @@ abbrev mutual
   formula_of (term.Const b) = plain.Const b
   formula_of (term.Prop p) = plain.Prop p
   formula_of (term.Not' at f) = plain.Not (formula_of f)
-  formula_of (term.And' at f at_right g) = plain.Binary operator.And (formula_of f) (formula_of g)
-  formula_of (term.Or' at f at_right g) = plain.Binary operator.Or (formula_of f) (formula_of g)
-  formula_of (term.Implies' at f at_right g) = plain.Binary operator.Implies (formula_of f) (formula_of g)
-  formula_of (term.Iff' at f at_right g) = plain.Binary operator.Iff (formula_of f) (formula_of g)
-  formula_of (term.Diamond' at p at_right f) = plain.Modal plain.Diamond (program_of p) (formula_of f)
-  formula_of (term.Square' at p at_right f) = plain.Modal plain.Square (program_of p) (formula_of f)
-  formula_of (term.Repeat' at p) = plain.Repeat (program_of p)
+  formula_of (term.Binary' op at f at_right g) = plain.Binary op (formula_of f) (formula_of g)
+  formula_of (term.Modal' m p at f) = plain.Modal m (program_of p) (formula_of f)
+  formula_of (term.Repeat p) = plain.Repeat (program_of p)
 
   pub program_of : Program → plain.Program
   program_of (program.Act a) = plain.Act a

@@ -3,6 +3,7 @@ ghost use Rattle.std.specs.Prelude.{◌≡◌, ◌≤◌, IfOk};
 ghost use Rattle.ml_pdl.specs.Formula.{occurrences, program_occurrences};
 ghost use Rattle.ml_pdl.specs.Term.{formula_of, program_of};
 
+use crate::signs::operator_weight;
 use crate::{Formula, Program, Term};
 use ml_base::NoMemory;
 use ml_text::MOST_OCCURRENCES;
@@ -29,31 +30,15 @@ fn copy_term(alloc: Global, term: &Term) -> Result<Term, NoMemory>
         Term::Const(value) => Ok(Term::Const(*value)),
         Term::Prop(name) => Ok(Term::Prop(name.copy()?)),
         Term::Not(operand) => Ok(Term::Not(copy_operand(alloc, operand)?)),
-        Term::And(left, right) => {
-            let (left, right) = copy_operands(alloc, left, right)?;
-            Ok(Term::And(left, right))
+        Term::Binary(operator, left, right) => {
+            let left = copy_operand(alloc, left)?;
+            Ok(Term::Binary(*operator, left, copy_operand(alloc, right)?))
         }
-        Term::Or(left, right) => {
-            let (left, right) = copy_operands(alloc, left, right)?;
-            Ok(Term::Or(left, right))
+        Term::Modal(modality, program, operand) => {
+            let program = copy_program(alloc, program)?;
+            Ok(Term::Modal(*modality, program, copy_operand(alloc, operand)?))
         }
-        Term::Implies(left, right) => {
-            let (left, right) = copy_operands(alloc, left, right)?;
-            Ok(Term::Implies(left, right))
-        }
-        Term::Iff(left, right) => {
-            let (left, right) = copy_operands(alloc, left, right)?;
-            Ok(Term::Iff(left, right))
-        }
-        Term::Diamond(program, operand) => {
-            let program = copy_part(alloc, program)?;
-            Ok(Term::Diamond(program, copy_operand(alloc, operand)?))
-        }
-        Term::Square(program, operand) => {
-            let program = copy_part(alloc, program)?;
-            Ok(Term::Square(program, copy_operand(alloc, operand)?))
-        }
-        Term::Repeat(program) => Ok(Term::Repeat(copy_part(alloc, program)?)),
+        Term::Repeat(program) => Ok(Term::Repeat(copy_program(alloc, program)?)),
     }
 }
 
@@ -66,32 +51,18 @@ fn copy_operand(alloc: Global, operand: &Term) -> Result<Box<Term>, NoMemory>
 }
 
 #[cycle(copier)]
-fn copy_operands(
-    alloc: Global,
-    left: &Term,
-    right: &Term,
-) -> Result<(Box<Term>, Box<Term>), NoMemory>
-    ensures left { IfOk result (λ copied. formula_of copied.0.value ≡ formula_of left.now) }
-    ensures right { IfOk result (λ copied. formula_of copied.1.value ≡ formula_of right.now) }
-{
-    let left = copy_operand(alloc, left)?;
-    let right = copy_operand(alloc, right)?;
-    Ok((left, right))
-}
-
-#[cycle(copier)]
 fn copy_program(alloc: Global, program: &Program) -> Result<Program, NoMemory>
     ensures { IfOk result (λ copied. program_of copied ≡ program_of program.now) }
 {
     match program {
         Program::Act(action) => Ok(Program::Act(action.copy()?)),
         Program::Seq(left, right) => {
-            let (left, right) = copy_parts(alloc, left, right)?;
-            Ok(Program::Seq(left, right))
+            let left = copy_part(alloc, left)?;
+            Ok(Program::Seq(left, copy_part(alloc, right)?))
         }
         Program::Alt(left, right) => {
-            let (left, right) = copy_parts(alloc, left, right)?;
-            Ok(Program::Alt(left, right))
+            let left = copy_part(alloc, left)?;
+            Ok(Program::Alt(left, copy_part(alloc, right)?))
         }
         Program::Star(operand) => Ok(Program::Star(copy_part(alloc, operand)?)),
         Program::Test(formula) => Ok(Program::Test(copy_operand(alloc, formula)?)),
@@ -104,20 +75,6 @@ fn copy_part(alloc: Global, part: &Program) -> Result<Box<Program>, NoMemory>
 {
     let copied = copy_program(alloc, part)?;
     Ok(Box::new(alloc, copied)?)
-}
-
-#[cycle(copier)]
-fn copy_parts(
-    alloc: Global,
-    left: &Program,
-    right: &Program,
-) -> Result<(Box<Program>, Box<Program>), NoMemory>
-    ensures left { IfOk result (λ copied. program_of copied.0.value ≡ program_of left.now) }
-    ensures right { IfOk result (λ copied. program_of copied.1.value ≡ program_of right.now) }
-{
-    let left = copy_part(alloc, left)?;
-    let right = copy_part(alloc, right)?;
-    Ok((left, right))
 }
 
 /// How many occurrences a formula has, from 1 to 1,000: constants, propositions, operators, modalities, repetitions, and
@@ -140,13 +97,10 @@ fn count(term: &Term) -> u32
     match term {
         Term::Const(_) | Term::Prop(_) => 1,
         Term::Not(operand) => 1 + count(operand),
-        Term::And(left, right) | Term::Or(left, right) | Term::Implies(left, right) => {
-            1 + count(left) + count(right)
+        Term::Binary(operator, left, right) => {
+            operator_weight(*operator) + count(left) + count(right)
         }
-        Term::Iff(left, right) => 3 + count(left) + count(right),
-        Term::Diamond(program, operand) | Term::Square(program, operand) => {
-            1 + count_program(program) + count(operand)
-        }
+        Term::Modal(_, program, operand) => 1 + count_program(program) + count(operand),
         Term::Repeat(program) => 1 + count_program(program),
     }
 }

@@ -5,13 +5,12 @@ ghost use Rattle.ml_text.specs.Grammar.{Read, Whole};
 ghost use Rattle.ml_text.specs.private.Views.{GivesBack, mode_view, turn_view};
 ghost use Rattle.ml_pdl.specs.private.FormViews.{hold_view, phrase_view, wait_view};
 ghost use Rattle.ml_pdl.specs.private.Reader.{pdl_tables};
-ghost use Rattle.ml_pdl.specs.private.SignViews.{modality_of, sign_view};
 ghost use Rattle.ml_pdl.specs.Tables as tables;
 ghost use Rattle.ml_pdl.specs.Formula as plain;
 ghost use Rattle.ml_pdl.specs.Term.{formula_of, program_of};
 
-use crate::signs::{Mark, Modality, Sign};
-use crate::{Program, Term};
+use crate::signs::{Mark, Sign};
+use crate::{Modality, Program, Term};
 use ml_base::{Action, Name, NoMemory};
 use ml_text::{Mode, Operator};
 use std::alloc::Global;
@@ -87,6 +86,14 @@ fn as_program(alloc: Global, phrase: Phrase) -> Result<Program, NoMemory>
     })
 }
 
+// the same in a box
+fn boxed_program(alloc: Global, phrase: Phrase) -> Result<Box<Program>, NoMemory>
+    ensures { IfOk result (λ program. program_of program.value ≡ tables.program_of (phrase_view phrase)) }
+{
+    let program = as_program(alloc, phrase)?;
+    Ok(Box::new(alloc, program)?)
+}
+
 // a formula behind so many negations
 #[tactic(auto, using(crate::proofs::Negations::negated_less))]
 fn negated(alloc: Global, negations: u32, term: Term) -> Result<Term, NoMemory>
@@ -103,7 +110,7 @@ fn negated(alloc: Global, negations: u32, term: Term) -> Result<Term, NoMemory>
 
 #[inline(always)]
 fn shift_formula(sign: Sign) -> Option<Turn>
-    ensures { option_map (turn_view pdl_tables) result ≡ tables.shift_formula (sign_view sign) }
+    ensures { option_map (turn_view pdl_tables) result ≡ tables.shift_formula sign }
 {
     match sign {
         Sign::Not => Some(Turn::Inner(Hold::Negation)),
@@ -126,7 +133,7 @@ fn one_more(negations: u32) -> Result<u32, NoMemory>
 // in a test, behind so many negations
 fn shift_test(alloc: Global, negations: u32, sign: Sign) -> Result<Option<Turn>, NoMemory>
     ensures { IfOk result (λ turn.
-        option_map (turn_view pdl_tables) turn ≡ tables.shift_test negations (sign_view sign)) }
+        option_map (turn_view pdl_tables) turn ≡ tables.shift_test negations sign) }
 {
     let tested = match sign {
         Sign::Not => {
@@ -149,7 +156,7 @@ fn act(action: Action) -> Turn
 
 fn shift_program(alloc: Global, sign: Sign) -> Result<Option<Turn>, NoMemory>
     ensures { IfOk result (λ turn.
-        option_map (turn_view pdl_tables) turn ≡ tables.shift_program (sign_view sign)) }
+        option_map (turn_view pdl_tables) turn ≡ tables.shift_program sign) }
 {
     match sign {
         Sign::Blank => Ok(Some(act(Action::blank(alloc)?))),
@@ -165,8 +172,8 @@ fn shift_program(alloc: Global, sign: Sign) -> Result<Option<Turn>, NoMemory>
 
 fn shift_begin(alloc: Global, modality: Modality, sign: Sign) -> Result<Option<Turn>, NoMemory>
     ensures turn { IfOk result (λ turn.
-        option_map (turn_view pdl_tables) turn ≡ tables.shift_begin (modality_of modality) (sign_view sign)) }
-    ensures gives_back { IfOk result (λ turn. GivesBack pdl_tables turn (sign_view sign)) }
+        option_map (turn_view pdl_tables) turn ≡ tables.shift_begin modality sign) }
+    ensures gives_back { IfOk result (λ turn. GivesBack pdl_tables turn sign) }
 {
     match (modality, sign) {
         (Modality::Diamond, Sign::Ends(Modality::Diamond))
@@ -180,7 +187,7 @@ fn shift_begin(alloc: Global, modality: Modality, sign: Sign) -> Result<Option<T
 
 fn shift_end(modality: Modality, program: Program, sign: Sign) -> Option<Turn>
     ensures { option_map (turn_view pdl_tables) result
-        ≡ tables.shift_end (modality_of modality) (program_of program) (sign_view sign) }
+        ≡ tables.shift_end modality (program_of program) sign }
 {
     match (modality, sign) {
         (Modality::Diamond, Sign::Ends(Modality::Diamond))
@@ -193,7 +200,7 @@ fn shift_end(modality: Modality, program: Program, sign: Sign) -> Option<Turn>
 
 // behind what stands between parentheses
 fn shift_close(mode: Mode<Phrase, Wait>, sign: Sign) -> Option<Turn>
-    ensures { option_map (turn_view pdl_tables) result ≡ tables.shift_close (mode_view pdl_tables mode) (sign_view sign) }
+    ensures { option_map (turn_view pdl_tables) result ≡ tables.shift_close (mode_view pdl_tables mode) sign }
 {
     match sign {
         Sign::Close => Some(Turn::Read(mode)),
@@ -202,7 +209,7 @@ fn shift_close(mode: Mode<Phrase, Wait>, sign: Sign) -> Option<Turn>
 }
 
 fn shift_repeat(sign: Sign) -> Option<Turn>
-    ensures { option_map (turn_view pdl_tables) result ≡ tables.shift_repeat (sign_view sign) }
+    ensures { option_map (turn_view pdl_tables) result ≡ tables.shift_repeat sign }
 {
     match sign {
         Sign::Open(_) => Some(Turn::Inner(Hold::RepeatGroup)),
@@ -212,7 +219,7 @@ fn shift_repeat(sign: Sign) -> Option<Turn>
 
 fn shift_tested(alloc: Global, tested: Term, sign: Sign) -> Result<Option<Turn>, NoMemory>
     ensures { IfOk result (λ turn.
-        option_map (turn_view pdl_tables) turn ≡ tables.shift_tested (formula_of tested) (sign_view sign)) }
+        option_map (turn_view pdl_tables) turn ≡ tables.shift_tested (formula_of tested) sign) }
 {
     match sign {
         Sign::Question => {
@@ -223,18 +230,12 @@ fn shift_tested(alloc: Global, tested: Term, sign: Sign) -> Result<Option<Turn>,
     }
 }
 
-fn repetition(alloc: Global, program: Program) -> Result<Phrase, NoMemory>
-    ensures { IfOk result (λ phrase. phrase_view phrase ≡ tables.OfFormula (plain.Repeat (program_of program))) }
-{
-    Ok(Phrase::Formula(Term::Repeat(Box::new(alloc, program)?)))
-}
-
 /// What a token does to a form of which one is to come; `None` where no text goes on so.
 #[inline(always)]
 pub(crate) fn shift(alloc: Global, wait: Wait, sign: Sign) -> Result<Option<Turn>, NoMemory>
     ensures turn { IfOk result (λ turn.
-        option_map (turn_view pdl_tables) turn ≡ tables.shift (wait_view wait) (sign_view sign)) }
-    ensures gives_back { IfOk result (λ turn. GivesBack pdl_tables turn (sign_view sign)) }
+        option_map (turn_view pdl_tables) turn ≡ tables.shift (wait_view wait) sign) }
+    ensures gives_back { IfOk result (λ turn. GivesBack pdl_tables turn sign) }
 {
     match wait {
         Wait::FormulaStart => Ok(shift_formula(sign)),
@@ -243,7 +244,7 @@ pub(crate) fn shift(alloc: Global, wait: Wait, sign: Sign) -> Result<Option<Turn
         Wait::BehindProgram(modality, program) => Ok(shift_end(modality, program, sign)),
         Wait::BehindRepeat => Ok(shift_repeat(sign)),
         Wait::BehindRepeatInside(program) => {
-            let whole = repetition(alloc, program)?;
+            let whole = Phrase::Formula(Term::Repeat(program));
             Ok(shift_close(Mode::Whole(whole), sign))
         }
         Wait::BehindFormulaInside(term) => {
@@ -258,24 +259,6 @@ pub(crate) fn shift(alloc: Global, wait: Wait, sign: Sign) -> Result<Option<Turn
         Wait::BehindNegations(negations) => shift_test(alloc, negations, sign),
         Wait::BehindTested(tested) => shift_tested(alloc, tested, sign),
     }
-}
-
-// a modality behind its formula
-fn modal(
-    alloc: Global,
-    modality: Modality,
-    program: Program,
-    operand: Term,
-) -> Result<Term, NoMemory>
-    ensures { IfOk result (λ term.
-        formula_of term ≡ plain.Modal (modality_of modality) (program_of program) (formula_of operand)) }
-{
-    let program = Box::new(alloc, program)?;
-    let operand = Box::new(alloc, operand)?;
-    Ok(match modality {
-        Modality::Diamond => Term::Diamond(program, operand),
-        Modality::Square => Term::Square(program, operand),
-    })
 }
 
 /// A form behind its operand.
@@ -296,8 +279,8 @@ pub(crate) fn resume(
             Mode::More(Wait::BehindProgram(modality, program))
         }
         Hold::Modal(modality, program) => {
-            let term = modal(alloc, modality, program, as_formula(operand))?;
-            Mode::Whole(Phrase::Formula(term))
+            let operand = Box::new(alloc, as_formula(operand))?;
+            Mode::Whole(Phrase::Formula(Term::Modal(modality, program, operand)))
         }
         Hold::FormulaGroup => Mode::More(Wait::BehindFormulaInside(as_formula(operand))),
         Hold::ProgramGroup => Mode::More(Wait::BehindProgramInside(as_program(alloc, operand)?)),
@@ -310,20 +293,6 @@ pub(crate) fn resume(
 }
 
 // two formulas with a connective between them
-fn connected(alloc: Global, operator: Operator, left: Term, right: Term) -> Result<Term, NoMemory>
-    ensures { IfOk result (λ term.
-        formula_of term ≡ plain.Binary operator (formula_of left) (formula_of right)) }
-{
-    let left = Box::new(alloc, left)?;
-    let right = Box::new(alloc, right)?;
-    Ok(match operator {
-        Operator::Iff => Term::Iff(left, right),
-        Operator::Implies => Term::Implies(left, right),
-        Operator::Or => Term::Or(left, right),
-        Operator::And => Term::And(left, right),
-    })
-}
-
 fn join_formulas(
     alloc: Global,
     operator: Operator,
@@ -333,16 +302,17 @@ fn join_formulas(
     ensures { IfOk result (λ phrase. phrase_view phrase ≡ tables.OfFormula (plain.Binary operator
         (tables.formula_of (phrase_view left)) (tables.formula_of (phrase_view right)))) }
 {
-    let term = connected(alloc, operator, as_formula(left), as_formula(right))?;
-    Ok(Phrase::Formula(term))
+    let left = Box::new(alloc, as_formula(left))?;
+    let right = Box::new(alloc, as_formula(right))?;
+    Ok(Phrase::Formula(Term::Binary(operator, left, right)))
 }
 
 fn choice(alloc: Global, left: Phrase, right: Phrase) -> Result<Phrase, NoMemory>
     ensures { IfOk result (λ phrase. phrase_view phrase ≡ tables.OfProgram (plain.Alt
         (tables.program_of (phrase_view left)) (tables.program_of (phrase_view right)))) }
 {
-    let left = Box::new(alloc, as_program(alloc, left)?)?;
-    let right = Box::new(alloc, as_program(alloc, right)?)?;
+    let left = boxed_program(alloc, left)?;
+    let right = boxed_program(alloc, right)?;
     Ok(Phrase::Program(Program::Alt(left, right)))
 }
 
@@ -350,8 +320,8 @@ fn sequence(alloc: Global, left: Phrase, right: Phrase) -> Result<Phrase, NoMemo
     ensures { IfOk result (λ phrase. phrase_view phrase ≡ tables.OfProgram (plain.Seq
         (tables.program_of (phrase_view left)) (tables.program_of (phrase_view right)))) }
 {
-    let left = Box::new(alloc, as_program(alloc, left)?)?;
-    let right = Box::new(alloc, as_program(alloc, right)?)?;
+    let left = boxed_program(alloc, left)?;
+    let right = boxed_program(alloc, right)?;
     Ok(Phrase::Program(Program::Seq(left, right)))
 }
 
@@ -363,7 +333,7 @@ pub(crate) fn join(
     right: Phrase,
 ) -> Result<Phrase, NoMemory>
     ensures { IfOk result (λ phrase.
-        phrase_view phrase ≡ tables.join (sign_view sign) (phrase_view left) (phrase_view right)) }
+        phrase_view phrase ≡ tables.join sign (phrase_view left) (phrase_view right)) }
 {
     match sign {
         Sign::Connective(operator) => join_formulas(alloc, operator, left, right),
@@ -389,11 +359,11 @@ fn test_of(alloc: Global, operand: Phrase) -> Result<Option<Phrase>, NoMemory>
 /// An operand with a sign behind it; `None` where no text goes on so.
 pub(crate) fn post(alloc: Global, sign: Sign, operand: Phrase) -> Result<Option<Phrase>, NoMemory>
     ensures { IfOk result (λ phrase.
-        option_map phrase_view phrase ≡ tables.post (sign_view sign) (phrase_view operand)) }
+        option_map phrase_view phrase ≡ tables.post sign (phrase_view operand)) }
 {
     match sign {
         Sign::Star => {
-            let program = Box::new(alloc, as_program(alloc, operand)?)?;
+            let program = boxed_program(alloc, operand)?;
             Ok(Some(Phrase::Program(Program::Star(program))))
         }
         Sign::Question => test_of(alloc, operand),

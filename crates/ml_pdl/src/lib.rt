@@ -24,4 +24,4 @@ pub use copying::{copy, occurrences};
 pub use formula::Formula;
 pub use parsing::parse;
 pub use printing::{append_text, print};
-pub use term::{Program, Term};
+pub use term::{Modality, Program, Term};

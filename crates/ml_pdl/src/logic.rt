@@ -1,8 +1,6 @@
 // PDL, as the reader of texts asks for it.
 ghost use Rattle.std.specs.Prelude.{◌≡◌};
 ghost use Rattle.ml_pdl.specs.Tables as tables;
-ghost use Rattle.ml_pdl.specs.private.FormViews.{sort_view};
-ghost use Rattle.ml_pdl.specs.private.SignViews.{sign_view};
 
 use crate::forms::{Hold, Phrase, Sort, Wait, join, post, resume, shift};
 use crate::marking::Marks;
@@ -12,7 +10,7 @@ use ml_text::{Bracket, Logic, Mode, Placed, Role, Turn, WordStart, operator_leve
 use std::alloc::Global;
 
 fn role(sort: Sort, sign: &Sign) -> Role
-    ensures { result ≡ tables.role (sort_view sort) (sign_view sign.now) }
+    ensures { result ≡ tables.role sort sign.now }
 {
     match (sort, sign) {
         (Sort::Formulas, Sign::Connective(operator)) => Role::Infix(operator_level(*operator)),

@@ -1,13 +1,15 @@
 // The canonical text of a formula.
-ghost use Rattle.std.specs.Prelude.{◌≡◌, ◌++◌, [], if◌then◌else◌, take, IfOk, OnOk, OnErr, codes, vec_len};
-ghost use Rattle.ml_pdl.specs.Canonical.{canonical_text, program_text, whole_program};
+ghost use Rattle.std.specs.Prelude.{◌≡◌, ◌++◌, ℕ, List, [], if◌then◌else◌, take, IfOk, OnOk, OnErr, codes, vec_len};
+ghost use Rattle.ml_text.specs.Operators.{spelling_of};
+ghost use Rattle.ml_pdl.specs.Canonical.{canonical_text, modality_text, program_text, whole_program};
 ghost use Rattle.ml_pdl.specs.Parsing.{IsParsedAs};
 ghost use Rattle.ml_pdl.specs.Term.{formula_of, program_of};
 ghost use Rattle.ml_pdl.specs.WellFormed.{IsWellFormed};
 
-use crate::{Formula, Program, Term};
+use crate::{Formula, Modality, Program, Term};
 use ml_base::NoMemory;
 use ml_lines::whole_or_none;
+use ml_text::Operator;
 use std::alloc::{AllocError, Global};
 
 /// The canonical text of a formula, which is read back as the same formula.
@@ -55,12 +57,17 @@ fn write_term(text: &mut Vec<u8>, term: &Term) -> Result<(), AllocError>
             text.extend_from_slice(b"!")?;
             write_term(text, operand)
         }
-        Term::And(left, right) => write_binary(text, left, b" & ", right),
-        Term::Or(left, right) => write_binary(text, left, b" | ", right),
-        Term::Implies(left, right) => write_binary(text, left, b" -> ", right),
-        Term::Iff(left, right) => write_binary(text, left, b" <-> ", right),
-        Term::Diamond(program, operand) => write_modal(text, b"<", program, b">", operand),
-        Term::Square(program, operand) => write_modal(text, b"[", program, b"]", operand),
+        Term::Binary(operator, left, right) => {
+            text.extend_from_slice(b"(")?;
+            write_term(text, left)?;
+            text.extend_from_slice(infix(*operator))?;
+            write_term(text, right)?;
+            text.extend_from_slice(b")")
+        }
+        Term::Modal(modality, program, operand) => {
+            write_modality(text, *modality, program)?;
+            write_term(text, operand)
+        }
         Term::Repeat(program) => {
             text.extend_from_slice(b"repeat(")?;
             write_program(text, program)?;
@@ -69,44 +76,43 @@ fn write_term(text: &mut Vec<u8>, term: &Term) -> Result<(), AllocError>
     }
 }
 
-// `(left sign right)`; the sign has its blanks
-#[cycle(printer)]
-fn write_binary(
-    text: &mut Vec<u8>,
-    left: &Term,
-    sign: &[u8],
-    right: &Term,
-) -> Result<(), AllocError>
-    ensures text { OnOk result (text.new.items ≡
-        text.old.items ++ (codes "(" ++ canonical_text (formula_of left.now) ++ sign.now
-        ++ canonical_text (formula_of right.now) ++ codes ")")) }
-    ensures front { take (vec_len text.old) text.new.items ≡ text.old.items }
+// a connective with its blanks
+fn infix(operator: Operator) -> &'static [u8]
+    ensures { result.now ≡ codes " " ++ spelling_of operator ++ codes " " }
 {
-    text.extend_from_slice(b"(")?;
-    write_term(text, left)?;
-    text.extend_from_slice(sign)?;
-    write_term(text, right)?;
-    text.extend_from_slice(b")")
+    match operator {
+        Operator::And => b" & ",
+        Operator::Or => b" | ",
+        Operator::Implies => b" -> ",
+        Operator::Iff => b" <-> ",
+    }
 }
 
-// the operand behind the two signs of its modality
+// a modality with its program, without the operand
 #[cycle(printer)]
-fn write_modal(
+fn write_modality(
     text: &mut Vec<u8>,
-    opens: &[u8],
+    modality: Modality,
     program: &Program,
-    closes: &[u8],
-    operand: &Term,
 ) -> Result<(), AllocError>
-    ensures text { OnOk result (text.new.items ≡
-        text.old.items ++ (opens.now ++ whole_program (program_of program.now) (program_text (program_of program.now))
-        ++ closes.now ++ canonical_text (formula_of operand.now))) }
+    ensures text { OnOk result (text.new.items ≡ text.old.items
+        ++ modality_text modality (whole_program (program_of program.now) (program_text (program_of program.now)))) }
     ensures front { take (vec_len text.old) text.new.items ≡ text.old.items }
 {
-    text.extend_from_slice(opens)?;
+    let (begins, ends) = brackets(modality);
+    text.extend_from_slice(begins)?;
     write_whole(text, program)?;
-    text.extend_from_slice(closes)?;
-    write_term(text, operand)
+    text.extend_from_slice(ends)
+}
+
+// the two signs of a modality
+fn brackets(modality: Modality) -> (&'static [u8], &'static [u8])
+    ensures { (text : List ℕ) → result.0.now ++ text ++ result.1.now ≡ modality_text modality text }
+{
+    match modality {
+        Modality::Diamond => (b"<", b">"),
+        Modality::Square => (b"[", b"]"),
+    }
 }
 
 // the program between the signs of a modality, unless it is `_`

@@ -1,22 +1,18 @@
 // The signs of PDL texts: tokens as the grammar sees them.
 ghost use Rattle.std.specs.Prelude.{◌≡◌, ℕ, ◌≤◌, false, if◌then◌else◌, IfOk, List, bytes_eq, codes};
+ghost use Rattle.ml_text.specs.Operators as operators;
 ghost use Rattle.ml_text.specs.Spelling.{Spells};
 ghost use Rattle.ml_text.specs.Words.{IsWord};
 ghost use Rattle.ml_pdl.specs.Signs as grammar;
 ghost use Rattle.ml_pdl.specs.Spelling as spelling;
 ghost use Rattle.ml_pdl.specs.Marks.{mark_of, with_mark};
 ghost use Rattle.ml_pdl.specs.Text.{begins_modality, bracket_of, weight_of};
-ghost use Rattle.ml_pdl.specs.private.SignViews.{mark_view, named, sign_view};
+ghost use Rattle.ml_pdl.specs.private.SignViews.{named};
 
+use crate::Modality;
 use ml_base::{Name, NoMemory};
 use ml_text::{Bracket, Operator, Token, WordStart, constant_of, is_lower};
 use std::alloc::Global;
-
-#[derive(Clone, Copy)]
-pub(crate) enum Modality {
-    Diamond,
-    Square,
-}
 
 // of an opening parenthesis: is its partner directly followed by `?`?
 #[derive(Clone, Copy)]
@@ -60,7 +56,7 @@ pub(crate) type Sign = SignOver<Name>;
 
 /// The mark of a parenthesis, by whether a test stands in it.
 pub(crate) fn mark_for(is_test: bool) -> Mark
-    ensures { mark_view result ≡ mark_of is_test }
+    ensures { result ≡ mark_of is_test }
 {
     if is_test {
         Mark::Marked
@@ -154,7 +150,7 @@ pub(crate) fn begins_modality(kind: Kind) -> bool
 /// The sign of a kind, whose name has these bytes.
 pub(crate) fn sign_of(alloc: Global, kind: Kind, bytes: &[u8]) -> Result<Sign, NoMemory>
     requires { grammar.HasShortName (named kind bytes.now) }
-    ensures { IfOk result (λ sign. sign_view sign ≡ named kind bytes.now) }
+    ensures { IfOk result (λ sign. sign ≡ named kind bytes.now) }
 {
     Ok(match kind {
         Kind::Not => Sign::Not,
@@ -176,6 +172,16 @@ pub(crate) fn sign_of(alloc: Global, kind: Kind, bytes: &[u8]) -> Result<Sign, N
     })
 }
 
+/// As how many occurrences a connective counts.
+pub(crate) fn operator_weight(operator: Operator) -> u32
+    ensures { result ≡ operators.weight operator }
+{
+    match operator {
+        Operator::Iff => 3,
+        Operator::Implies | Operator::Or | Operator::And => 1,
+    }
+}
+
 /// As how many occurrences a token counts, by whether it stands directly behind `<` or `[`: the end of a modality
 /// without a program counts as the action that it has.
 pub(crate) fn weight(is_first: bool, kind: Kind) -> u32
@@ -183,7 +189,7 @@ pub(crate) fn weight(is_first: bool, kind: Kind) -> u32
     ensures small { result ≤ 3 }
 {
     match kind {
-        Kind::Connective(Operator::Iff) => 3,
+        Kind::Connective(operator) => operator_weight(operator),
         Kind::Ends(_) => u32::from(is_first),
         Kind::Open(_) | Kind::Close | Kind::Unknown => 0,
         _ => 1,

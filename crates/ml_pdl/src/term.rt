@@ -1,5 +1,15 @@
 // The trees of formulas and of programs.
 use ml_base::{Action, Name};
+use ml_text::Operator;
+
+/// Of which runs of its program a modality speaks.
+#[derive(Clone, Copy, Debug, PartialEq, Eq)]
+pub enum Modality {
+    /// `<p>f`: some run of the program leads to a state where the operand holds.
+    Diamond,
+    /// `[p]f`: every run of the program leads to a state where the operand holds.
+    Square,
+}
 
 /// A formula as a tree that owns its parts. Operands stand in the order of the text.
 ///
@@ -10,16 +20,12 @@ pub enum Term {
     Const(bool),
     Prop(Name),
     Not(Box<Term>),
-    And(Box<Term>, Box<Term>),
-    Or(Box<Term>, Box<Term>),
-    Implies(Box<Term>, Box<Term>),
-    Iff(Box<Term>, Box<Term>),
-    /// `<p>f`: some run of the program leads to a state where the operand holds.
-    Diamond(Box<Program>, Box<Term>),
-    /// `[p]f`: every run of the program leads to a state where the operand holds.
-    Square(Box<Program>, Box<Term>),
+    /// Two operands with a connective between them.
+    Binary(Operator, Box<Term>, Box<Term>),
+    /// A modality with its program, and its operand.
+    Modal(Modality, Program, Box<Term>),
     /// `repeat(p)`: the program can be run again and again for ever.
-    Repeat(Box<Program>),
+    Repeat(Program),
 }
 
 /// A program as a tree that owns its parts, in the order of the text.

@@ -8,15 +8,15 @@ use Rattle.ml_base.specs.Structure.{Structure, IsStructure, is_member}
 use Rattle.ml_graph.specs.Graph.{Graph, IsGraph, size}
 use Rattle.ml_graph.specs.CheckingGame.{HoldsAt, Holds}
 use Rattle.ml_text.specs.Operators.{weight}
-use Rattle.ml_pdl.specs.Formula.{Formula, Const, Prop, Not, Binary, Modal, Repeat, Diamond, Square, Program, Act, Seq, Alt, Star, Test, occurrences, program_occurrences}
+use Rattle.ml_pdl.specs.Formula.{Formula, Const, Prop, Not, Binary, Modal, Repeat, Program, Act, Seq, Alt, Star, Test, occurrences, program_occurrences}
 use Rattle.ml_pdl.specs.Meaning.{meaning}
 use Rattle.ml_pdl.specs.Problem as problem
 use Rattle.ml_pdl_graph.specs.Laws.{GraphsAgree}
 use Rattle.ml_nodes.specs.Nodes.{positive, negative}
-use Rattle.ml_pdl_graph.specs.PdlGraph.{diamond, box, StandsAt, ProgramStandsAt, IsGraphOf}
+use Rattle.ml_pdl_graph.specs.PdlGraph.{diamond, box, own, dual, StandsAt, ProgramStandsAt, IsGraphOf}
 use Rattle.ml_pdl_graph.proofs.Players.{tells_turned}
 use Rattle.ml_pdl_graph.proofs.ProgramNodes.{Tests, some_occurrence}
-use Rattle.ml_pdl_graph.proofs.Connectives.{Both, both_const, both_prop, both_not, both_binary, both_diamond, both_square, both_repeat}
+use Rattle.ml_pdl_graph.proofs.Connectives.{Both, both_const, both_prop, both_not, both_binary, both_modal, both_repeat}
 
 module _ (g : Graph) (m : Structure) (g_ok : IsGraph g) (m_ok : IsStructure m) where
   mutual
@@ -27,16 +27,11 @@ module _ (g : Graph) (m : Structure) (g_ok : IsGraph g) (m_ok : IsStructure m) w
     shown (Binary op f h) i w room =
         both_binary g m g_ok m_ok op f h i w room (shown f (i + weight op) w.1 (omega (arith, room)))
         (shown h (i + weight op + occurrences f) w.2 (omega (arith, room)))
-    shown (Modal Diamond p f) i w room =
-        both_diamond g m g_ok m_ok p f i w room
-        (tests_shown p (i + 1) (positive (i + 1 + program_occurrences p)) (negative (i + 1 + program_occurrences p)) w.2
-        (omega (arith, room)))
-        (shown f (i + 1 + program_occurrences p) w.3 (omega (arith, room)))
-    shown (Modal Square p f) i w room =
-        both_square g m g_ok m_ok p f i w room
-        (tests_shown p (i + 1) (negative (i + 1 + program_occurrences p)) (positive (i + 1 + program_occurrences p)) w.2
-        (omega (arith, room)))
-        (shown f (i + 1 + program_occurrences p) w.3 (omega (arith, room)))
+    shown (Modal d p f) i w room =
+        let r = i + 1 + program_occurrences p in
+        both_modal g m g_ok m_ok d p f i w room
+        (tests_shown p (i + 1) (own d r) (dual d r) w.2 (omega (arith, room)))
+        (shown f r w.3 (omega (arith, room)))
     shown (Repeat p) i w room =
         both_repeat g m g_ok m_ok p i w room (tests_shown p (i + 1) (positive i) (negative i) w.2 (omega (arith, room)))
 

@@ -1,7 +1,7 @@
 -- The nodes of formulas, by their operands.
 --
 --   Both            == a formula is shown at its node of either sign
---   both_const, both_prop, both_not, both_binary, both_diamond, both_square, both_repeat == each case
+--   both_const, both_prop, both_not, both_binary, both_modal, both_repeat == each case
 use Rattle.std.proofs.Common.{◌≡◌, ℕ, ◌+◌, ◌*◌, ◌<◌, ◌≤◌, Bool, true, false, ◌&&◌, ◌||◌, not, List, [], ◌∷◌, refl, sym, ap, subst, ◌∙◌, arith}
 use Rattle.std.specs.List.{list_any, list_all, range_with_len}
 use Rattle.std.proofs.lemmas.List.{get_or-map}
@@ -11,7 +11,9 @@ use Rattle.ml_graph.specs.declared.node.Node.TheVariants as node
 use Rattle.ml_text.specs.declared.token.Operator.{Operator}
 use Rattle.ml_text.specs.declared.token.Operator.TheVariants as operator
 use Rattle.ml_text.specs.Operators.{weight}
-use Rattle.ml_pdl.specs.Formula.{Formula, Const, Prop, Not, Binary, Modal, Repeat, Program, Diamond, Square, occurrences, program_occurrences}
+use Rattle.ml_pdl.specs.Formula.{Formula, Const, Prop, Not, Binary, Modal, Repeat, Program, occurrences, program_occurrences}
+use Rattle.ml_pdl.specs.declared.term.Modality.{Modality}
+use Rattle.ml_pdl.specs.declared.term.Modality.TheVariants.{Diamond, Square}
 use Rattle.ml_pdl.specs.Meaning.{some_run, every_run, meaning, relation}
 use Rattle.ml_nodes.specs.Nodes.{positive, negative}
 use Rattle.ml_pdl_graph.specs.PdlGraph.{StandsAt}
@@ -207,7 +209,7 @@ module _ (g : Graph) (m : Structure) (g_ok : IsGraph g) (m_ok : IsStructure m) w
   continues_turned true r = refl
   continues_turned false r = refl
 
-  pub both_diamond : (p : Program) (f : Formula) (i : ℕ)
+  both_diamond : (p : Program) (f : Formula) (i : ℕ)
       → StandsAt g i (Modal Diamond p f)
       → 2 * (i + occurrences (Modal Diamond p f)) ≤ size g
       → ((e : Bool) → Tests g m g_ok m_ok e (i + 1) p) → Both (i + 1 + program_occurrences p) f → Both i
@@ -229,7 +231,7 @@ module _ (g : Graph) (m : Structure) (g_ok : IsGraph g) (m_ok : IsStructure m) w
       by_sign false = w.1.0
 
   -- a box is what its negation's diamond denies
-  pub both_square : (p : Program) (f : Formula) (i : ℕ)
+  both_square : (p : Program) (f : Formula) (i : ℕ)
       → StandsAt g i (Modal Square p f)
       → 2 * (i + occurrences (Modal Square p f)) ≤ size g
       → ((e : Bool) → Tests g m g_ok m_ok e (i + 1) p) → Both (i + 1 + program_occurrences p) f → Both i
@@ -270,6 +272,14 @@ module _ (g : Graph) (m : Structure) (g_ok : IsGraph g) (m_ok : IsStructure m) w
       turned false =
           tells_turned g m g_ok m_ok true s (positive (i + 1)) s_low (low true) (into m (relation m p) out s)
           (found true)
+
+  pub both_modal : (d : Modality) (p : Program) (f : Formula) (i : ℕ)
+      → StandsAt g i (Modal d p f)
+      → 2 * (i + occurrences (Modal d p f)) ≤ size g
+      → ((e : Bool) → Tests g m g_ok m_ok e (i + 1) p) → Both (i + 1 + program_occurrences p) f → Both i
+      (Modal d p f)
+  both_modal Diamond = both_diamond
+  both_modal Square = both_square
 
   pub both_repeat : (p : Program) (i : ℕ) → StandsAt g i (Repeat p) → 2 * (i + occurrences (Repeat p)) ≤ size g
       → ((e : Bool) → Tests g m g_ok m_ok e (i + 1) p) → Both i (Repeat p)

@@ -9,14 +9,20 @@ use Rattle.ml_graph.specs.declared.node.Node.{Node}
 use Rattle.ml_text.specs.Operators.{weight}
 use Rattle.ml_text.specs.NameLists.{place_of}
 use Rattle.ml_text.proofs.NameLists.{place_found}
-use Rattle.ml_pdl.specs.Formula.{Formula, Const, Prop, Not, Binary, Modal, Repeat, Program, Act, Seq, Alt, Star, Test, Diamond, Square, occurrences, program_occurrences}
+use Rattle.ml_pdl.specs.Formula.{Formula, Const, Prop, Not, Binary, Modal, Repeat, Program, Act, Seq, Alt, Star, Test, occurrences, program_occurrences}
+use Rattle.ml_pdl.specs.declared.term.Modality.{Modality}
+use Rattle.ml_pdl.specs.declared.term.Modality.TheVariants.{Diamond, Square}
 use Rattle.ml_nodes.specs.Nodes.{lead_to, negative, positive}
-use Rattle.ml_pdl_graph.specs.PdlGraph.{diamond, box}
+use Rattle.ml_pdl_graph.specs.PdlGraph.{diamond, box, own, dual}
 use Rattle.ml_nodes.specs.private.Connectives.{operator_nodes}
 use Rattle.ml_nodes.proofs.InRange.{AllFit, both_fit, constant_fits, fitting_graph, led_fit, none_twice, one, operator_fits, two}
 use Rattle.ml_pdl_graph.specs.private.NodeList.{nodes_of, program_nodes, priorities_of, props_onto, actions_onto}
 use Rattle.ml_pdl_graph.proofs.NameLists.{AreAmong, ProgramAreAmong, distinct_actions, distinct_props, names_among}
 use Rattle.ml_pdl_graph.proofs.NodeLists.{length-nodes, length-priorities, one_symbol, program_symbol}
+
+sides_fit : (m : Modality) (i n : ℕ) → 2 * (i + 1) ≤ n → (own m i < n) × (dual m i < n)
+sides_fit Diamond i n room = (omega (arith, room), omega (arith, room))
+sides_fit Square i n room = (omega (arith, room), omega (arith, room))
 
 module _ (n : ℕ) (ps acts : List (List ℕ)) where
   led_both : (j k : ℕ) (xs ys : List Node)
@@ -47,27 +53,13 @@ module _ (n : ℕ) (ps acts : List (List ℕ)) where
         (operator_fits n ps acts op i l r (omega (arith, room)) (omega (arith, room, left, right)) (omega (arith, room, left, right)))
         (both_fit n ps acts (nodes_of ps acts l f) (nodes_of ps acts r h) (nodes_fit l f among.0 (omega (arith, room)))
         (nodes_fit r h among.1 (omega (arith, room))))
-    nodes_fit i (Modal Diamond p f) among room =
+    nodes_fit i (Modal m p f) among room =
         let l = i + 1 in
         let r = l + program_occurrences p in
-        let left = program_symbol p in
-        let right = one_symbol f in
-        let on : positive r < n = omega (arith, room, right) in
-        let off : negative r < n = omega (arith, room, right) in
-        led_both (diamond l) (box l) (program_nodes ps acts l (positive r) (negative r) p) (nodes_of ps acts r f)
-        (omega (arith, room, left)) (omega (arith, room, left))
-        (program_fits l (positive r) (negative r) p among.0 (omega (arith, room)) on off)
-        (nodes_fit r f among.1 (omega (arith, room)))
-    nodes_fit i (Modal Square p f) among room =
-        let l = i + 1 in
-        let r = l + program_occurrences p in
-        let left = program_symbol p in
-        let right = one_symbol f in
-        let on : positive r < n = omega (arith, room, right) in
-        let off : negative r < n = omega (arith, room, right) in
-        led_both (box l) (diamond l) (program_nodes ps acts l (negative r) (positive r) p) (nodes_of ps acts r f)
-        (omega (arith, room, left)) (omega (arith, room, left))
-        (program_fits l (negative r) (positive r) p among.0 (omega (arith, room)) off on)
+        let first = sides_fit m l n (omega (arith, room, program_symbol p)) in
+        let second = sides_fit m r n (omega (arith, room, one_symbol f)) in
+        led_both (own m l) (dual m l) (program_nodes ps acts l (own m r) (dual m r) p) (nodes_of ps acts r f) first.0 first.1
+        (program_fits l (own m r) (dual m r) p among.0 (omega (arith, room)) second.0 second.1)
         (nodes_fit r f among.1 (omega (arith, room)))
     nodes_fit i (Repeat p) among room =
         let l = i + 1 in

@@ -8,9 +8,9 @@ use Rattle.std.proofs.Common.{◌≡◌, ℕ, ◌+◌, ◌*◌, ◌≤◌, List,
 use Rattle.ml_graph.specs.Graph.{Graph}
 use Rattle.ml_text.specs.Operators.{weight}
 use Rattle.ml_text.specs.NameLists.{place_of}
-use Rattle.ml_pdl.specs.Formula.{Formula, Const, Prop, Not, Binary, Modal, Repeat, Program, Act, Seq, Alt, Star, Test, Diamond, Square, occurrences, program_occurrences}
+use Rattle.ml_pdl.specs.Formula.{Formula, Const, Prop, Not, Binary, Modal, Repeat, Program, Act, Seq, Alt, Star, Test, occurrences, program_occurrences}
 use Rattle.ml_nodes.specs.Nodes.{positive, negative}
-use Rattle.ml_pdl_graph.specs.PdlGraph.{diamond, box, plain, StandsAt, ProgramStandsAt}
+use Rattle.ml_pdl_graph.specs.PdlGraph.{diamond, box, own, dual, plain, StandsAt, ProgramStandsAt}
 use Rattle.ml_pdl_graph.specs.private.NodeList.{nodes_of, program_nodes, priorities_of, program_priorities}
 use Rattle.ml_nodes.proofs.Connectives.{length-operator, length-operator_priorities, length-parts, one_weight}
 use Rattle.ml_nodes.proofs.StandingLists.{Stand, Parts, joined, pair, parts}
@@ -25,15 +25,10 @@ mutual
       let r = l + occurrences f in
       let operands = length-parts _ _ _ _ (length-nodes ps acts l f) (length-nodes ps acts r h) in
       omega (arith, length-parts _ _ _ _ (length-operator op i l r) operands)
-  length-nodes ps acts i (Modal Diamond p f) =
+  length-nodes ps acts i (Modal m p f) =
       let l = i + 1 in
       let r = l + program_occurrences p in
-      let program = length-program_nodes ps acts l (positive r) (negative r) p in
-      omega (arith, length-parts _ _ _ _ program (length-nodes ps acts r f))
-  length-nodes ps acts i (Modal Square p f) =
-      let l = i + 1 in
-      let r = l + program_occurrences p in
-      let program = length-program_nodes ps acts l (negative r) (positive r) p in
+      let program = length-program_nodes ps acts l (own m r) (dual m r) p in
       omega (arith, length-parts _ _ _ _ program (length-nodes ps acts r f))
   length-nodes ps acts i (Repeat p) = omega (arith, length-program_nodes ps acts (i + 1) (positive i) (negative i) p)
 
@@ -137,18 +132,12 @@ mutual
       let here = joined g plain op i l r _ _ s in
       let o = operands g l r f h here.behind refl in
       (here.joins, stands g l f names.0 o.left, stands g r h names.1 o.right)
-  stands g i (Modal Diamond p f) names s =
+  stands g i (Modal m p f) names s =
       let l = i + 1 in
       let r = l + program_occurrences p in
       let here = pair g i _ _ plain plain _ _ s in
-      let o = modal_parts g l r (positive r) (negative r) p f here.behind refl in
-      (here.first, here.second, program_stands g l (positive r) (negative r) p names.0 o.left, stands g r f names.1 o.right)
-  stands g i (Modal Square p f) names s =
-      let l = i + 1 in
-      let r = l + program_occurrences p in
-      let here = pair g i _ _ plain plain _ _ s in
-      let o = modal_parts g l r (negative r) (positive r) p f here.behind refl in
-      (here.first, here.second, program_stands g l (negative r) (positive r) p names.0 o.left, stands g r f names.1 o.right)
+      let o = modal_parts g l r (own m r) (dual m r) p f here.behind refl in
+      (here.first, here.second, program_stands g l (own m r) (dual m r) p names.0 o.left, stands g r f names.1 o.right)
   stands g i (Repeat p) names s =
       let here = pair g i _ _ 0 1 _ _ s in
       (here.first, here.second, program_stands g (i + 1) (positive i) (negative i) p names here.behind)

@@ -18,7 +18,8 @@ use Rattle.ml_graph.specs.CheckingGame.{Holds}
 use Rattle.ml_graph.specs.Graph.{Graph, IsGraph, references}
 use Rattle.ml_graph.specs.declared.node.Node.TheVariants as node
 use Rattle.ml_graph.proofs.References.{all_in_range}
-use Rattle.ml_pdl.specs.Formula.{Formula, Prop, Modal, Square, Repeat, Act, Seq, Alt, Star, Test}
+use Rattle.ml_pdl.specs.Formula.{Formula, Prop, Modal, Repeat, Act, Seq, Alt, Star, Test}
+use Rattle.ml_pdl.specs.declared.term.Modality.TheVariants.{Square}
 use Rattle.ml_pdl_graph.specs.PdlGraph.{IsGraphOf}
 use Rattle.ml_pdl_graph.proofs.Agreement.{graphs_agree}
 

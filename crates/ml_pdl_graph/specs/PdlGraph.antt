@@ -15,6 +15,8 @@
 -- `ml_nodes/specs/Nodes` has the two nodes of an occurrence, and what it means that a node of a graph is one.
 --
 --   diamond i, box i       == the two nodes of occurrence i where a program stands
+--   own m i, dual m i      == the node of occurrence i that goes on for the modality m, and the one that goes on for the
+--                             other modality: a square is the negation of a diamond whose operand is negated
 --   IsLiteral g n name b   == the node n is the literal of the proposition with this name, positive where b is true
 --   StandsAt g i f         == at the occurrence i of g stands the formula f
 --   ProgramStandsAt g i d b p == at the occurrence i of g stands the program p, whose diamond goes on at the node d and
@@ -25,13 +27,23 @@ use Rattle.ml_graph.specs.Graph.{Graph, IsGraph, size, prop_at, action_at}
 use Rattle.ml_graph.specs.declared.node.Node.TheVariants as node
 use Rattle.ml_text.specs.Operators.{weight}
 use Rattle.ml_nodes.specs.Nodes.{positive, negative, constant, IsNode, LeadsTo, Joins}
-use Rattle.ml_pdl.specs.Formula.{Formula, Const, Prop, Not, Binary, Modal, Repeat, Program, Act, Seq, Alt, Star, Test, Diamond, Square, occurrences, program_occurrences}
+use Rattle.ml_pdl.specs.Formula.{Formula, Const, Prop, Not, Binary, Modal, Repeat, Program, Act, Seq, Alt, Star, Test, occurrences, program_occurrences}
+use Rattle.ml_pdl.specs.declared.term.Modality.{Modality}
+use Rattle.ml_pdl.specs.declared.term.Modality.TheVariants.{Diamond, Square}
 
 abbrev pub diamond : ℕ → ℕ
 diamond i = 2 * i
 
 abbrev pub box : ℕ → ℕ
 box i = 2 * i + 1
+
+abbrev pub own : Modality → ℕ → ℕ
+own Diamond i = diamond i
+own Square i = box i
+
+abbrev pub dual : Modality → ℕ → ℕ
+dual Diamond i = box i
+dual Square i = diamond i
 
 -- the priority of nodes that are of no star and of no infinite repetition
 abbrev pub plain : ℕ
@@ -51,14 +63,10 @@ abbrev mutual
   StandsAt g i (Binary op f h) =
       let l = i + weight op in let r = l + occurrences f in
       Joins g plain op i l r × StandsAt g l f × StandsAt g r h
-  StandsAt g i (Modal Diamond p f) =
+  StandsAt g i (Modal m p f) =
       let l = i + 1 in let r = l + program_occurrences p in
-      LeadsTo g (positive i) (diamond l) plain × LeadsTo g (negative i) (box l) plain
-      × ProgramStandsAt g l (positive r) (negative r) p × StandsAt g r f
-  StandsAt g i (Modal Square p f) =
-      let l = i + 1 in let r = l + program_occurrences p in
-      LeadsTo g (positive i) (box l) plain × LeadsTo g (negative i) (diamond l) plain
-      × ProgramStandsAt g l (negative r) (positive r) p × StandsAt g r f
+      LeadsTo g (positive i) (own m l) plain × LeadsTo g (negative i) (dual m l) plain
+      × ProgramStandsAt g l (own m r) (dual m r) p × StandsAt g r f
   StandsAt g i (Repeat p) =
       let l = i + 1 in
       LeadsTo g (positive i) (diamond l) 0 × LeadsTo g (negative i) (box l) 1

@@ -1,6 +1,5 @@
 // The graph of a formula.
 ghost use Rattle.std.specs.Prelude.{◌≡◌, ◌+◌, ◌*◌, ◌^◌, ◌≤◌, ◌<◌, ◌++◌, [], ◌∷◌, length, IfOk, OnOk};
-ghost use Rattle.ml_pdl.specs.Formula as pdl;
 ghost use Rattle.ml_pdl.specs.Formula.{occurrences, program_occurrences};
 ghost use Rattle.ml_pdl.specs.Term.{formula_of, program_of};
 ghost use Rattle.ml_pdl_graph.specs.PdlGraph as graph;
@@ -17,7 +16,7 @@ use ml_graph::{ModalGraph, Node};
 use ml_nodes::{
     Draft, Lists, Names, and, constant, lead_to, negative, or, positive, root_of, weight,
 };
-use ml_pdl::{Formula, Program, Term};
+use ml_pdl::{Formula, Modality, Program, Term};
 use ml_text::{MOST_OCCURRENCES, Operator};
 use std::alloc::Global;
 
@@ -78,6 +77,18 @@ fn put_connective(
     }
 }
 
+// the node of an occurrence that goes on for the modality, and the one for the other modality
+fn sides(modality: Modality, at: u32) -> (u32, u32)
+    requires { at ≤ 1000 }
+    ensures own { result.0 ≡ graph.own modality at }
+    ensures dual { result.1 ≡ graph.dual modality at }
+{
+    match modality {
+        Modality::Diamond => (positive(at), negative(at)),
+        Modality::Square => (negative(at), positive(at)),
+    }
+}
+
 // the nodes and priorities of a term as the occurrence `at`
 #[cycle(placing)]
 fn place(
@@ -114,29 +125,18 @@ fn place(
             put_plain(draft, (lead_to(negative(l)), lead_to(positive(l))))?;
             place(draft, names, l, sizes, operand)
         }
-        Term::And(left, right) => place_both(draft, names, at, sizes, Operator::And, left, right),
-        Term::Or(left, right) => place_both(draft, names, at, sizes, Operator::Or, left, right),
-        Term::Implies(left, right) => place_both(
-            draft,
-            names,
-            at,
-            sizes,
-            Operator::Implies,
-            left,
-            right,
-        ),
-        Term::Iff(left, right) => place_both(draft, names, at, sizes, Operator::Iff, left, right),
-        Term::Diamond(program, operand) => {
+        Term::Binary(operator, left, right) => {
+            let l = at + weight(*operator);
             let r = l + sizes[l as usize];
-            put_plain(draft, (lead_to(positive(l)), lead_to(negative(l))))?;
-            let next = (positive(r), negative(r));
-            place_program(draft, names, l, next, sizes, program)?;
-            place(draft, names, r, sizes, operand)
+            put_connective(draft, *operator, at, l, r)?;
+            place(draft, names, l, sizes, left)?;
+            place(draft, names, r, sizes, right)
         }
-        Term::Square(program, operand) => {
+        Term::Modal(modality, program, operand) => {
             let r = l + sizes[l as usize];
-            put_plain(draft, (lead_to(negative(l)), lead_to(positive(l))))?;
-            let next = (negative(r), positive(r));
+            let (own, dual) = sides(*modality, l);
+            put_plain(draft, (lead_to(own), lead_to(dual)))?;
+            let next = sides(*modality, r);
             place_program(draft, names, l, next, sizes, program)?;
             place(draft, names, r, sizes, operand)
         }
@@ -146,33 +146,6 @@ fn place(
             place_program(draft, names, l, again, sizes, program)
         }
     }
-}
-
-// the same of a connective
-#[cycle(placing)]
-fn place_both(
-    draft: &mut Draft,
-    names: &Names,
-    at: u32,
-    sizes: &[u32],
-    operator: Operator,
-    left: &Term,
-    right: &Term,
-) -> Result<(), NoMemory>
-    requires names { (length names.now.props.keys < 2 ^ 32) × (length names.now.actions.keys < 2 ^ 32) }
-    requires few { at + occurrences (pdl.Binary operator (formula_of left.now) (formula_of right.now)) ≤ 1000 }
-    requires sizes { measured.Measures sizes.now at (pdl.Binary operator (formula_of left.now) (formula_of right.now)) }
-    ensures nodes { OnOk result (draft.new.nodes.items ≡ draft.old.nodes.items
-        ++ listed.nodes_of names.now.props.keys names.now.actions.keys at
-        (pdl.Binary operator (formula_of left.now) (formula_of right.now))) }
-    ensures priorities { OnOk result (draft.new.priorities.items ≡ draft.old.priorities.items
-        ++ listed.priorities_of (pdl.Binary operator (formula_of left.now) (formula_of right.now))) }
-{
-    let l = at + weight(operator);
-    let r = l + sizes[l as usize];
-    put_connective(draft, operator, at, l, r)?;
-    place(draft, names, l, sizes, left)?;
-    place(draft, names, r, sizes, right)
 }
 
 // the nodes and priorities of a program as the occurrence `at`, whose diamond and box go on at these nodes

@@ -23,14 +23,11 @@ fn collect(
         Term::Const(_) => Ok(()),
         Term::Prop(name) => add_proposition(props, name),
         Term::Not(operand) => collect(operand, props, actions),
-        Term::And(left, right)
-        | Term::Or(left, right)
-        | Term::Implies(left, right)
-        | Term::Iff(left, right) => {
+        Term::Binary(_, left, right) => {
             collect(left, props, actions)?;
             collect(right, props, actions)
         }
-        Term::Diamond(program, operand) | Term::Square(program, operand) => {
+        Term::Modal(_, program, operand) => {
             collect_program(program, props, actions)?;
             collect(operand, props, actions)
         }

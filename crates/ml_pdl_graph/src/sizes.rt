@@ -1,11 +1,13 @@
 // How many occurrences the parts of a term have, counted once.
 ghost use Rattle.std.specs.Prelude.{◌≡◌, ◌≤◌, ◌++◌, ◌∷◌, reverse, IfOk, OnOk};
+ghost use Rattle.ml_text.specs.Operators as operators;
 ghost use Rattle.ml_pdl.specs.Formula.{occurrences, program_occurrences};
 ghost use Rattle.ml_pdl.specs.Term.{formula_of, program_of};
 ghost use Rattle.ml_pdl_graph.specs.private.Sizes as listed;
 
 use ml_pdl::{Program, Term};
-use ml_text::MOST_OCCURRENCES;
+use ml_nodes::weight;
+use ml_text::{MOST_OCCURRENCES, Operator};
 use std::alloc::{AllocError, Global};
 
 // puts a size behind those so far
@@ -15,6 +17,24 @@ fn put(sizes: &mut Vec<u32>, size: u32) -> Result<u32, AllocError>
 {
     sizes.push(size)?;
     Ok(size)
+}
+
+// puts the size of a connective whose operands have so many occurrences, once for each that it counts
+fn put_connective(sizes: &mut Vec<u32>, operator: Operator, operands: u32) -> Result<u32, AllocError>
+    requires { operands ≤ MOST_OCCURRENCES }
+    ensures whole { IfOk result (λ size. size ≡ operators.weight operator + operands) }
+    ensures sizes { OnOk result (reverse sizes.new.items
+        ≡ listed.operator_sizes operator (operators.weight operator + operands) ++ reverse sizes.old.items) }
+{
+    let size = weight(operator) + operands;
+    match operator {
+        Operator::Iff => {
+            put(sizes, size)?;
+            put(sizes, size)?;
+            put(sizes, size)
+        }
+        Operator::Implies | Operator::Or | Operator::And => put(sizes, size),
+    }
 }
 
 // puts the sizes of a term's parts, the last one first; the term's own comes back
@@ -31,20 +51,12 @@ fn measure(sizes: &mut Vec<u32>, term: &Term) -> Result<u32, AllocError>
             let inner = measure(sizes, operand)?;
             put(sizes, 1 + inner)
         }
-        Term::And(left, right) | Term::Or(left, right) | Term::Implies(left, right) => {
+        Term::Binary(operator, left, right) => {
             let second = measure(sizes, right)?;
             let first = measure(sizes, left)?;
-            put(sizes, 1 + first + second)
+            put_connective(sizes, *operator, first + second)
         }
-        Term::Iff(left, right) => {
-            let second = measure(sizes, right)?;
-            let first = measure(sizes, left)?;
-            let size = 3 + first + second;
-            put(sizes, size)?;
-            put(sizes, size)?;
-            put(sizes, size)
-        }
-        Term::Diamond(program, operand) | Term::Square(program, operand) => {
+        Term::Modal(_, program, operand) => {
             let second = measure(sizes, operand)?;
             let first = measure_program(sizes, program)?;
             put(sizes, 1 + first + second)

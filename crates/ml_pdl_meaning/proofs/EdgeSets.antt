@@ -17,7 +17,7 @@ use Rattle.ml_lists.proofs.Member.{list_any-member, member-list_any}
 use Rattle.ml_lists.proofs.Tables.{table_const, table_set, table_same}
 use Rattle.ml_base.specs.declared.structure.Edge.{Edge}
 use Rattle.ml_base.specs.Structure.{Structure, StateSet, is_member}
-use Rattle.ml_pdl.specs.Formula.{Diamond}
+use Rattle.ml_pdl.specs.declared.term.Modality.TheVariants.{Diamond}
 use Rattle.ml_pdl.specs.Meaning.{has_edge, some_run, modal}
 use Rattle.ml_pdl.proofs.RunsInto.{same_number, equal_number, run_of, of_run}
 use Rattle.ml_pdl_meaning.proofs.RunsIntoSets.{same_tests}

@@ -18,7 +18,8 @@ use Rattle.ml_lists.proofs.Iterates.{iterate_once_more, iterate_stays}
 use Rattle.ml_lists.proofs.Tables.{table_const}
 use Rattle.ml_text.specs.declared.token.Operator.{Operator}
 use Rattle.ml_base.specs.Structure.{Structure, StateSet, is_member, states_where}
-use Rattle.ml_pdl.specs.Formula.{Formula, Const, Binary, Program, Seq, Alt, Star, Test, Square}
+use Rattle.ml_pdl.specs.Formula.{Formula, Const, Binary, Program, Seq, Alt, Star, Test}
+use Rattle.ml_pdl.specs.declared.term.Modality.TheVariants.{Square}
 use Rattle.ml_pdl.specs.Meaning.{Relation, truth_of, some_run, modal, meaning, relation}
 use Rattle.ml_pdl.proofs.RunsInto.{same_number, equal_number, run_of, of_run}
 use Rattle.ml_pdl.proofs.StarRelations.{member_where}

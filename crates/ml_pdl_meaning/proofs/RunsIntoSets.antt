@@ -19,7 +19,7 @@ use Rattle.std.proofs.lemmas.List.FromFn.{length-map-range_with_len, get_or-map-
 use Rattle.std.proofs.lemmas.Simd.{map-map}
 use Rattle.ml_lists.specs.Iterate.{iterate}
 use Rattle.ml_base.specs.Structure.{Structure, StateSet, is_member, states_where}
-use Rattle.ml_pdl.specs.Formula.{Diamond, Square}
+use Rattle.ml_pdl.specs.declared.term.Modality.TheVariants.{Diamond, Square}
 use Rattle.ml_pdl.specs.Meaning.{Relation, identity, either, followed_by, some_run, every_run, modal}
 use Rattle.ml_pdl.proofs.RunsInto.{same_number, equal_number, into, run_of, of_run}
 use Rattle.ml_pdl.proofs.StarRelations.{member_where, rounds}

@@ -8,7 +8,7 @@ ghost use Rattle.ml_pdl.specs.Term.{formula_of, program_of};
 use crate::sets::{combine, complement, constant, edges_into, singleton, states_with};
 use ml_base::NoMemory;
 use ml_kripke::Structure;
-use ml_pdl::{Formula, Program, Term};
+use ml_pdl::{Formula, Modality, Program, Term};
 use ml_text::Operator;
 use std::alloc::Global;
 
@@ -88,39 +88,37 @@ fn evaluate_term(alloc: Global, structure: &Structure, term: &Term) -> Result<Ve
             let set = evaluate_term(alloc, structure, operand)?;
             complement(alloc, &set)
         }
-        Term::And(left, right) => evaluate_binary(alloc, structure, Operator::And, left, right),
-        Term::Or(left, right) => evaluate_binary(alloc, structure, Operator::Or, left, right),
-        Term::Implies(left, right) => {
-            evaluate_binary(alloc, structure, Operator::Implies, left, right)
+        Term::Binary(operator, left, right) => {
+            let left = evaluate_term(alloc, structure, left)?;
+            let right = evaluate_term(alloc, structure, right)?;
+            combine(alloc, structure, *operator, &left, &right)
         }
-        Term::Iff(left, right) => evaluate_binary(alloc, structure, Operator::Iff, left, right),
-        Term::Diamond(program, operand) => {
+        Term::Modal(modality, program, operand) => {
             let set = evaluate_term(alloc, structure, operand)?;
-            runs_into(alloc, structure, program, &set)
-        }
-        Term::Square(program, operand) => {
-            let set = evaluate_term(alloc, structure, operand)?;
-            all_runs_into(alloc, structure, program, &set)
+            modal(alloc, structure, *modality, program, &set)
         }
         Term::Repeat(program) => repeats(alloc, structure, program),
     }
 }
 
+// the states from which some run of the program leads into the set, or all do
 #[cycle(evaluator)]
-fn evaluate_binary(
+fn modal(
     alloc: Global,
     structure: &Structure,
-    operator: Operator,
-    left: &Term,
-    right: &Term,
+    modality: Modality,
+    program: &Program,
+    set: &[bool],
 ) -> Result<Vec<bool>, NoMemory>
-    ensures value { IfOk result (λ set. set.items
-        ≡ mean.meaning structure.now (plain.Binary operator (formula_of left.now) (formula_of right.now))) }
-    ensures flags { IfOk result (λ set. length set.items ≡ structure.now.states) }
+    requires { length set.now ≡ structure.now.states }
+    ensures value { IfOk result (λ states. states.items
+        ≡ mean.modal structure.now modality (mean.relation structure.now (program_of program.now)) set.now) }
+    ensures flags { IfOk result (λ states. length states.items ≡ structure.now.states) }
 {
-    let left = evaluate_term(alloc, structure, left)?;
-    let right = evaluate_term(alloc, structure, right)?;
-    combine(alloc, structure, operator, &left, &right)
+    match modality {
+        Modality::Diamond => runs_into(alloc, structure, program, set),
+        Modality::Square => all_runs_into(alloc, structure, program, set),
+    }
 }
 
 // the states from which some run of the program leads into the set
@@ -133,7 +131,7 @@ fn runs_into(
 ) -> Result<Vec<bool>, NoMemory>
     requires { length set.now ≡ structure.now.states }
     ensures value { IfOk result (λ states. states.items
-        ≡ mean.modal structure.now plain.Diamond (mean.relation structure.now (program_of program.now)) set.now) }
+        ≡ mean.modal structure.now Modality.Diamond (mean.relation structure.now (program_of program.now)) set.now) }
     ensures flags { IfOk result (λ states. length states.items ≡ structure.now.states) }
 {
     match program {
@@ -165,7 +163,7 @@ fn all_runs_into(
 ) -> Result<Vec<bool>, NoMemory>
     requires { length set.now ≡ structure.now.states }
     ensures value { IfOk result (λ states. states.items
-        ≡ mean.modal structure.now plain.Square (mean.relation structure.now (program_of program.now)) set.now) }
+        ≡ mean.modal structure.now Modality.Square (mean.relation structure.now (program_of program.now)) set.now) }
     ensures flags { IfOk result (λ states. length states.items ≡ structure.now.states) }
 {
     let outside = complement(alloc, set)?;
@@ -183,7 +181,7 @@ fn rounds_into(
 ) -> Result<Vec<bool>, NoMemory>
     requires { length set.now ≡ structure.now.states }
     ensures value { IfOk result (λ states. states.items
-        ≡ mean.modal structure.now plain.Diamond
+        ≡ mean.modal structure.now Modality.Diamond
         (mean.relation structure.now (plain.Star (program_of program.now))) set.now) }
     ensures flags { IfOk result (λ states. length states.items ≡ structure.now.states) }
 {

@@ -2,11 +2,11 @@
 ghost use Rattle.std.specs.Prelude.{◌≡◌, ◌<◌, ◌==◌, ◌&&◌, not, map, replicate, length, IfOk};
 ghost use Rattle.std.specs.Str.{bytes_eq};
 ghost use Rattle.ml_base.specs.Structure as kripke;
-ghost use Rattle.ml_pdl.specs.Formula as plain;
 ghost use Rattle.ml_pdl.specs.Meaning as mean;
 
 use ml_base::{Action, Edge, Name, NoMemory};
 use ml_kripke::Structure;
+use ml_pdl::Modality;
 use ml_text::Operator;
 use std::alloc::Global;
 
@@ -97,7 +97,7 @@ pub(crate) fn edges_into(
 ) -> Result<Vec<bool>, NoMemory>
     requires { length set.now ≡ structure.now.states }
     ensures value { IfOk result (λ states. states.items
-        ≡ mean.modal structure.now plain.Diamond (mean.has_edge structure.now action.now) set.now) }
+        ≡ mean.modal structure.now Modality.Diamond (mean.has_edge structure.now action.now) set.now) }
     ensures flags { IfOk result (λ states. length states.items ≡ structure.now.states) }
 {
     let mut states = constant(alloc, structure.states(), false)?;

@@ -3,7 +3,7 @@ use crate::meanings::{Row, first_wrong};
 use crate::structures::four_states;
 use ml_front::Logic;
 use ml_kripke::Structure;
-use ml_pdl::{Program, Term, parse};
+use ml_pdl::{Modality, Program, Term, parse};
 use ml_pdl_meaning::relates;
 use std::alloc::Global;
 use std::test::Fail;
@@ -44,7 +44,7 @@ fn relates_pairs(
 ) -> Result<bool, Fail> {
     let formula = parse(alloc, diamond)?;
     match formula.root() {
-        Term::Diamond(program, _) => relates_exactly(alloc, program, structure, pairs),
+        Term::Modal(Modality::Diamond, program, _) => relates_exactly(alloc, program, structure, pairs),
         _ => Ok(false),
     }
 }

@@ -3,7 +3,7 @@
 --   alike  == signs of one kind do the same, but for what they make
 use Rattle.std.specs.Prelude.{ℕ, List, refl}
 use Rattle.ml_text.specs.private.Tables.{IsLike}
-use Rattle.ml_pdl.specs.Formula.{Diamond}
+use Rattle.ml_pdl.specs.declared.term.Modality.TheVariants.{Diamond}
 use Rattle.ml_pdl.specs.Signs.{Sign, Lower, Upper}
 use Rattle.ml_pdl.specs.private.SignViews.{named}
 use Rattle.ml_pdl.specs.Tables.{BehindBegin, BehindProgram, Formulas, Programs, pdl_grammar}

@@ -10,7 +10,9 @@ use Rattle.std.proofs.Common.{ap}
 use Rattle.ml_text.specs.declared.token.Operator.{Operator}
 use Rattle.ml_text.specs.declared.token.Operator.TheVariants.{Iff, Implies, Or, And}
 use Rattle.ml_text.specs.private.Codes.{Symbol, Leads, led, one_more, read_symbols, symbols_code, top, two_more, under, with_one, with_two}
-use Rattle.ml_pdl.specs.Formula.{Formula, Const, Prop, Not, Binary, Modal, Repeat, Program, Act, Seq, Alt, Star, Test, Modality, Diamond, Square}
+use Rattle.ml_pdl.specs.Formula.{Formula, Const, Prop, Not, Binary, Modal, Repeat, Program, Act, Seq, Alt, Star, Test}
+use Rattle.ml_pdl.specs.declared.term.Modality.{Modality}
+use Rattle.ml_pdl.specs.declared.term.Modality.TheVariants.{Diamond, Square}
 
 abbrev pub operator_kind : Operator → ℕ
 operator_kind And = 4

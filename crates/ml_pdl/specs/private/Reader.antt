@@ -6,8 +6,8 @@ use Rattle.ml_text.specs.private.Tables.{Tables}
 use Rattle.ml_pdl.specs.Signs.{HasShortName}
 use Rattle.ml_pdl.specs.Tables.{pdl_grammar}
 use Rattle.ml_pdl.specs.Text.{pdl_signs}
-use Rattle.ml_pdl.specs.private.FormViews.{sort_view, phrase_view, wait_view, hold_view}
-use Rattle.ml_pdl.specs.private.SignViews.{named, sign_view}
+use Rattle.ml_pdl.specs.private.FormViews.{phrase_view, wait_view, hold_view}
+use Rattle.ml_pdl.specs.private.SignViews.{named}
 use Rattle.ml_pdl.specs.declared.forms.Phrase.{Phrase}
 use Rattle.ml_pdl.specs.declared.forms.Sort.{Sort}
 use Rattle.ml_pdl.specs.declared.forms.Wait.{Wait}
@@ -20,8 +20,8 @@ pdl_tables = record {
   signs = pdl_signs;
   named = named;
   CanName = λ kind word. HasShortName (named kind word);
-  sort = sort_view;
-  sign = sign_view;
+  sort = λ s. s;
+  sign = λ s. s;
   tree = phrase_view;
   wait = wait_view;
   hold = hold_view;

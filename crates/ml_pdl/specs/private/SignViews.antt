@@ -1,47 +1,25 @@
--- The signs that the program holds, as the signs of the grammar.
+-- The signs of the kinds that the program tells tokens by.
 --
---   modality_of, mark_view   == the same, of the plain data
---   sign_with bytes s        == the sign of the grammar, with the bytes of what is held of a name
---   named kind word          == the sign of a kind, where names have these bytes
---   sign_view s              == the sign that the program holds
+--   named kind word == the sign of a kind, where names have these bytes
 use Rattle.std.specs.Prelude.{ℕ, List}
-use Rattle.ml_pdl.specs.Formula as plain
-use Rattle.ml_pdl.specs.Signs as grammar
-use Rattle.ml_pdl.specs.declared.signs.Modality.{Modality}
-use Rattle.ml_pdl.specs.declared.signs.Modality.TheVariants as modality
-use Rattle.ml_pdl.specs.declared.signs.Mark.{Mark}
-use Rattle.ml_pdl.specs.declared.signs.Mark.TheVariants as mark
+use Rattle.ml_pdl.specs.Signs as sign
 use Rattle.ml_pdl.specs.declared.signs.SignOver.{SignOver}
-use Rattle.ml_pdl.specs.declared.signs.SignOver.TheVariants as held
+use Rattle.ml_pdl.specs.declared.signs.SignOver.TheVariants as kind
 
-abbrev pub modality_of : Modality → plain.Modality
-modality_of modality.Diamond = plain.Diamond
-modality_of modality.Square = plain.Square
-
-abbrev pub mark_view : Mark → grammar.Mark
-mark_view mark.Marked = grammar.Marked
-mark_view mark.Unmarked = grammar.Unmarked
-
-abbrev pub sign_with : {N : Type 0} → (N → List ℕ) → SignOver N → grammar.Sign
-sign_with bytes held.Not = grammar.Not
-sign_with bytes (held.Connective o) = grammar.Connective o
-sign_with bytes (held.Const b) = grammar.Const b
-sign_with bytes (held.Open k) = grammar.Open (mark_view k)
-sign_with bytes held.Close = grammar.Close
-sign_with bytes (held.Begins m) = grammar.Begins (modality_of m)
-sign_with bytes (held.Ends m) = grammar.Ends (modality_of m)
-sign_with bytes held.Repeats = grammar.Repeats
-sign_with bytes held.Plus = grammar.Plus
-sign_with bytes held.Semicolon = grammar.Semicolon
-sign_with bytes held.Star = grammar.Star
-sign_with bytes held.Question = grammar.Question
-sign_with bytes held.Blank = grammar.Blank
-sign_with bytes (held.Lower name) = grammar.Lower (bytes name)
-sign_with bytes (held.Upper name) = grammar.Upper (bytes name)
-sign_with bytes held.Unknown = grammar.Unknown
-
-abbrev pub named : SignOver (Unit {0}) → List ℕ → grammar.Sign
-named kind word = sign_with (λ u. word) kind
-
-abbrev pub sign_view : SignOver (List ℕ) → grammar.Sign
-sign_view sign = sign_with (λ p. p) sign
+abbrev pub named : SignOver (Unit {0}) → List ℕ → sign.Sign
+named kind.Not word = sign.Not
+named (kind.Connective o) word = sign.Connective o
+named (kind.Const b) word = sign.Const b
+named (kind.Open k) word = sign.Open k
+named kind.Close word = sign.Close
+named (kind.Begins m) word = sign.Begins m
+named (kind.Ends m) word = sign.Ends m
+named kind.Repeats word = sign.Repeats
+named kind.Plus word = sign.Plus
+named kind.Semicolon word = sign.Semicolon
+named kind.Star word = sign.Star
+named kind.Question word = sign.Question
+named kind.Blank word = sign.Blank
+named (kind.Lower u) word = sign.Lower word
+named (kind.Upper u) word = sign.Upper word
+named kind.Unknown word = sign.Unknown

@@ -10,10 +10,10 @@ use Rattle.ml_graph.specs.declared.node.Node.{Node}
 use Rattle.ml_graph.specs.declared.node.Node.TheVariants as node
 use Rattle.ml_text.specs.NameLists.{with_name, place_of}
 use Rattle.ml_text.specs.Operators.{weight}
-use Rattle.ml_pdl.specs.Formula.{Formula, Const, Prop, Not, Binary, Modal, Repeat, Program, Act, Seq, Alt, Star, Test, Diamond, Square, occurrences, program_occurrences}
+use Rattle.ml_pdl.specs.Formula.{Formula, Const, Prop, Not, Binary, Modal, Repeat, Program, Act, Seq, Alt, Star, Test, occurrences, program_occurrences}
 use Rattle.ml_nodes.specs.Nodes.{positive, negative, lead_to, constant}
 use Rattle.ml_nodes.specs.private.Connectives.{operator_nodes, operator_priorities}
-use Rattle.ml_pdl_graph.specs.PdlGraph.{diamond, box, plain}
+use Rattle.ml_pdl_graph.specs.PdlGraph.{diamond, box, own, dual, plain}
 
 abbrev mutual
   pub props_onto : Formula → List (List ℕ) → List (List ℕ)
@@ -56,14 +56,10 @@ abbrev mutual
   nodes_of ps acts i (Binary op f h) =
       let l = i + weight op in let r = l + occurrences f in
       operator_nodes op i l r ++ (nodes_of ps acts l f ++ nodes_of ps acts r h)
-  nodes_of ps acts i (Modal Diamond p f) =
+  nodes_of ps acts i (Modal m p f) =
       let l = i + 1 in let r = l + program_occurrences p in
-      lead_to (diamond l) ∷ lead_to (box l)
-      ∷ (program_nodes ps acts l (positive r) (negative r) p ++ nodes_of ps acts r f)
-  nodes_of ps acts i (Modal Square p f) =
-      let l = i + 1 in let r = l + program_occurrences p in
-      lead_to (box l) ∷ lead_to (diamond l)
-      ∷ (program_nodes ps acts l (negative r) (positive r) p ++ nodes_of ps acts r f)
+      lead_to (own m l) ∷ lead_to (dual m l)
+      ∷ (program_nodes ps acts l (own m r) (dual m r) p ++ nodes_of ps acts r f)
   nodes_of ps acts i (Repeat p) =
       lead_to (diamond (i + 1)) ∷ lead_to (box (i + 1)) ∷ program_nodes ps acts (i + 1) (positive i) (negative i) p
 

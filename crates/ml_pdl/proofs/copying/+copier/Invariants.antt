@@ -5,20 +5,13 @@ use Rattle.ml_pdl.specs.Term.{formula_of, program_of}
 use Rattle.ml_pdl.proofs.copying.+copier.Given as goal
 
 abbrev pub decreases-copy_term : goal.decreases-copy_term
-decreases-copy_term l = 3 * occurrences (formula_of l.term.now)
+decreases-copy_term l = 2 * occurrences (formula_of l.term.now)
 
 abbrev pub decreases-copy_operand : goal.decreases-copy_operand
-decreases-copy_operand l = 3 * occurrences (formula_of l.operand.now) + 1
-
-abbrev pub decreases-copy_operands : goal.decreases-copy_operands
-decreases-copy_operands l = 3 * occurrences (formula_of l.left.now) + 3 * occurrences (formula_of l.right.now) + 2
+decreases-copy_operand l = 2 * occurrences (formula_of l.operand.now) + 1
 
 abbrev pub decreases-copy_program : goal.decreases-copy_program
-decreases-copy_program l = 3 * program_occurrences (program_of l.program.now)
+decreases-copy_program l = 2 * program_occurrences (program_of l.program.now)
 
 abbrev pub decreases-copy_part : goal.decreases-copy_part
-decreases-copy_part l = 3 * program_occurrences (program_of l.part.now) + 1
-
-abbrev pub decreases-copy_parts : goal.decreases-copy_parts
-decreases-copy_parts l =
-    3 * program_occurrences (program_of l.left.now) + 3 * program_occurrences (program_of l.right.now) + 2
+decreases-copy_part l = 2 * program_occurrences (program_of l.part.now) + 1

@@ -7,12 +7,8 @@ use Rattle.ml_pdl.proofs.printing.+printer.Given as goal
 abbrev pub decreases-write_term : goal.decreases-write_term
 decreases-write_term l = 3 * occurrences (formula_of l.term.now)
 
-abbrev pub decreases-write_binary : goal.decreases-write_binary
-decreases-write_binary l = 3 * occurrences (formula_of l.left.now) + 3 * occurrences (formula_of l.right.now) + 1
-
-abbrev pub decreases-write_modal : goal.decreases-write_modal
-decreases-write_modal l =
-    3 * program_occurrences (program_of l.program.now) + 3 * occurrences (formula_of l.operand.now) + 2
+abbrev pub decreases-write_modality : goal.decreases-write_modality
+decreases-write_modality l = 3 * program_occurrences (program_of l.program.now) + 2
 
 abbrev pub decreases-write_whole : goal.decreases-write_whole
 decreases-write_whole l = 3 * program_occurrences (program_of l.program.now) + 1

@@ -7,12 +7,18 @@ use Rattle.ml_pdl_meaning.proofs.RunsIntoSets.{before, grown}
 use Rattle.ml_pdl_meaning.proofs.Evaluation.{constant_value, binary_value, square_value, followed_value, either_value, test_value, grown_value, star_value, iterates_once_more, stops_early, same_flags}
 use Rattle.ml_pdl_meaning.proofs.evaluator.+evaluator.Goals as goal
 
-pub evaluate_binary-returns-clause-value : goal.evaluate_binary-returns-clause-value
-evaluate_binary-returns-clause-value t c =
+pub evaluate_term-returns-in_ok-right-in-Binary-clause-value : goal.evaluate_term-returns-in_ok-right-in-Binary-clause-value
+evaluate_term-returns-in_ok-right-in-Binary-clause-value t c =
+    let m = c.args.structure.now in
     IfOk-weaker c.combine.result _ _
-    (λ set is. binary_value c.args.structure.now c.args.operator (formula_of c.args.left.now)
-    (formula_of c.args.right.now) c.deref.result.now c.deref-2.result.now set.items
-    (c.deref.ensures.value ∙ c.in_ok-left.ensures.value) (c.deref-2.ensures.value ∙ c.in_ok-right.ensures.value) is)
+    (λ set is. binary_value m c.in-Binary.operator (formula_of c.in-Binary.left.value)
+    (formula_of c.in-Binary.right.value) c.deref-in-Binary-3.result.now c.deref-in-Binary-4.result.now set.items
+    (c.deref-in-Binary-3.ensures.value ∙ c.in_ok-left-in-Binary.ensures.value
+    ∙ ap (λ x. meaning m (formula_of x)) c.deref-in-Binary.ensures)
+    (c.deref-in-Binary-4.ensures.value ∙ c.in_ok-right-in-Binary.ensures.value
+    ∙ ap (λ x. meaning m (formula_of x)) c.deref-in-Binary-2.ensures)
+    is
+    ∙ ap (λ x. meaning m (formula_of x)) (sym c.in-Binary.is))
     c.combine.ensures.value
 
 pub evaluate_term-returns-in-Const-clause-value : goal.evaluate_term-returns-in-Const-clause-value

@@ -1,4 +1,4 @@
--- The evaluator ends: each call has fewer symbols to evaluate. A helper stands between a symbol and its operands.
+-- The evaluator ends: each call has fewer symbols to evaluate. A helper or two stand between a symbol and its operands.
 -- An iterate is one by its number, and has one flag for each state.
 use Rattle.std.proofs.Common.{◌≡◌, ◌+◌, ◌*◌, true, length, replicate}
 use Rattle.ml_lists.specs.Iterate.{iterate}
@@ -9,22 +9,22 @@ use Rattle.ml_pdl_meaning.proofs.RunsIntoSets.{before, grown}
 use Rattle.ml_pdl_meaning.proofs.evaluator.+evaluator.Given as goal
 
 abbrev pub decreases-evaluate_term : goal.decreases-evaluate_term
-decreases-evaluate_term l = 2 * occurrences (formula_of l.term.now)
+decreases-evaluate_term l = 3 * occurrences (formula_of l.term.now)
 
-abbrev pub decreases-evaluate_binary : goal.decreases-evaluate_binary
-decreases-evaluate_binary l = 2 * occurrences (formula_of l.left.now) + 2 * occurrences (formula_of l.right.now) + 1
+abbrev pub decreases-modal : goal.decreases-modal
+decreases-modal l = 3 * program_occurrences (program_of l.program.now) + 2
 
 abbrev pub decreases-runs_into : goal.decreases-runs_into
-decreases-runs_into l = 2 * program_occurrences (program_of l.program.now)
+decreases-runs_into l = 3 * program_occurrences (program_of l.program.now)
 
 abbrev pub decreases-all_runs_into : goal.decreases-all_runs_into
-decreases-all_runs_into l = 2 * program_occurrences (program_of l.program.now) + 1
+decreases-all_runs_into l = 3 * program_occurrences (program_of l.program.now) + 1
 
 abbrev pub decreases-rounds_into : goal.decreases-rounds_into
-decreases-rounds_into l = 2 * program_occurrences (program_of l.program.now) + 1
+decreases-rounds_into l = 3 * program_occurrences (program_of l.program.now) + 1
 
 abbrev pub decreases-repeats : goal.decreases-repeats
-decreases-repeats l = 2 * program_occurrences (program_of l.program.now) + 1
+decreases-repeats l = 3 * program_occurrences (program_of l.program.now) + 1
 
 abbrev pub invariant-rounds_into-loop : goal.invariant-rounds_into-loop
 invariant-rounds_into-loop l =
