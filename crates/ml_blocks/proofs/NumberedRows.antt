@@ -14,7 +14,6 @@ use Rattle.ml_ctl.specs.declared.term.Tense.{Tense}
 use Rattle.ml_ctl.specs.declared.term.Tense.TheVariants as tense
 use Rattle.ml_ctl.specs.declared.term.Pairing.{Pairing}
 use Rattle.ml_ctl.specs.declared.term.Pairing.TheVariants as pairing
-use Rattle.ml_ctl.specs.declared.term.Quantifier.TheVariants as quantifier
 use Rattle.ml_blocks.specs.Items as plain
 use Rattle.ml_blocks.specs.Items.{now}
 use Rattle.ml_blocks.specs.ItemSets.{next_of}
@@ -157,8 +156,7 @@ module _ (K : Kept) where
       → row_of K.formulas (row_in (occurrence_here K.names x.number f o) x) ≡ plain.row_at (item_of K.formulas x) f
   row_same x (Const b) o s = refl
   row_same x (Prop p) o s = refl
-  row_same x (Quantified quantifier.Exists f) o s = refl
-  row_same x (Quantified quantifier.Forall f) o s = refl
+  row_same x (Quantified q f) o s = refl
   row_same x (Not f) o s =
       ap (λ h. plain.Becomes (now (x.number + 1) h (not x.positive) ∷ []))
       (formula_is K (x.number + 1) f None (of_not K x.number f o s))
@@ -209,8 +207,7 @@ module _ (K : Kept) where
       → RowKept K (row_in (occurrence_here K.names x.number f o) x)
   kept_in x (Const b) o s = tt
   kept_in x (Prop p) o s = tt
-  kept_in x (Quantified quantifier.Exists f) o s = tt
-  kept_in x (Quantified quantifier.Forall f) o s = tt
+  kept_in x (Quantified q f) o s = tt
   kept_in x (Not f) o s = kept_at K (x.number + 1) f None (of_not K x.number f o s)
   kept_in x (Binary op f g) o s =
       connective_kept op x.positive (x.number + weight op) (x.number + weight op + occurrences f)
@@ -245,37 +242,21 @@ module _ (K : Kept) where
       → Stands K x.number f o
       → item_of K.formulas (beyond (occurrence_here K.names x.number f o) x)
       ≡ plain.operand_of (item_of K.formulas x) f
-  beyond_same x (Const b) o s = refl
-  beyond_same x (Prop p) o s = refl
-  beyond_same x (Quantified quantifier.Exists f) o s = refl
-  beyond_same x (Quantified quantifier.Forall f) o s = refl
-  beyond_same x (Not f) o s = refl
-  beyond_same x (Binary op f g) o s = refl
   beyond_same x (Temporal tense.Next f) o s =
       ap (λ h. now (x.number + 1) h x.positive)
       (formula_is K (x.number + 1) f None (of_tense K tense.Next x.number f o s))
   beyond_same x (Temporal tense.Finally f) o s = refl
   beyond_same x (Temporal tense.Globally f) o s = refl
-  beyond_same x (Paired pairing.Until f g) o s = refl
-  beyond_same x (Paired pairing.Release f g) o s = refl
-  beyond_same x (Paired pairing.Weak f g) o s = refl
+  beyond_same x _ o s = refl
 
   beyond_kept : (x : Asked) (f : Formula) (o : Option Bool)
       → Stands K x.number f o
       → IsKept K (beyond (occurrence_here K.names x.number f o) x).number
-  beyond_kept x (Const b) o s = kept_at K x.number (Const b) o s
-  beyond_kept x (Prop p) o s = kept_at K x.number (Prop p) o s
-  beyond_kept x (Quantified quantifier.Exists f) o s = kept_at K x.number (Quantified quantifier.Exists f) o s
-  beyond_kept x (Quantified quantifier.Forall f) o s = kept_at K x.number (Quantified quantifier.Forall f) o s
-  beyond_kept x (Not f) o s = kept_at K x.number (Not f) o s
-  beyond_kept x (Binary op f g) o s = kept_at K x.number (Binary op f g) o s
   beyond_kept x (Temporal tense.Next f) o s =
       kept_at K (x.number + 1) f None (of_tense K tense.Next x.number f o s)
   beyond_kept x (Temporal tense.Finally f) o s = kept_at K x.number (Temporal tense.Finally f) o s
   beyond_kept x (Temporal tense.Globally f) o s = kept_at K x.number (Temporal tense.Globally f) o s
-  beyond_kept x (Paired pairing.Until f g) o s = kept_at K x.number (Paired pairing.Until f g) o s
-  beyond_kept x (Paired pairing.Release f g) o s = kept_at K x.number (Paired pairing.Release f g) o s
-  beyond_kept x (Paired pairing.Weak f g) o s = kept_at K x.number (Paired pairing.Weak f g) o s
+  beyond_kept x f o s = kept_at K x.number f o s
 
   by_time : (d : Bool) (n : ℕ) (b : Bool)
       → item_of K.formulas (beyond (entry_at K.occurrences n) (asked n b d))

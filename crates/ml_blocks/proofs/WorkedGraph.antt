@@ -20,9 +20,10 @@ use Rattle.ml_graph.specs.CheckingGame.{Pair, Holds, checking_game, vertex_numbe
 use Rattle.ml_graph.specs.Graph.{Graph, IsGraph, references, node_at, priority_at}
 use Rattle.ml_graph.specs.declared.node.Node.TheVariants as node
 use Rattle.ml_graph.proofs.References.{all_in_range}
-use Rattle.ml_ctl.specs.Formula.{Formula, Prop, Temporal}
+use Rattle.ml_ctl.specs.Formula.{Formula, Prop, Temporal, Quantified}
 use Rattle.ml_ctl.specs.declared.term.Tense.TheVariants.{Finally}
-use Rattle.ml_ctl.specs.Meaning.{HoldsOnSome}
+use Rattle.ml_ctl.specs.declared.term.Quantifier.TheVariants.{Exists}
+use Rattle.ml_ctl.specs.Meaning.{HoldsAt}
 use Rattle.ml_ctl.specs.Problem.{IsAdmitted}
 use Rattle.ml_ctl.specs.Paths.{IsPathFrom, has_step}
 use Rattle.ml_blocks.specs.BlockGraph.{IsGraphAt, IsClosure, IsReached, at_root, behind, HasForm, children, linear_start_of}
@@ -294,7 +295,7 @@ path_from = record { is_path = record { starts = omega arith; joined = joined };
     joined (suc zero) low = refl
     joined (suc (suc k)) low = absurd (omega (arith, low))
 
-some_path : HoldsOnSome turning worked 0
+some_path : HoldsAt turning (Quantified Exists worked) 0
 some_path = (path, path_from, inr (tt, inl refl))
 
 abbrev OddWins : Type 0
@@ -302,6 +303,6 @@ OddWins = Wins (checking_game worked_graph turning) Odd (vertex_number worked_gr
 
 holds_at_turn : Holds worked_graph turning 0
 holds_at_turn =
-    ⊎_elim (λ (both : HoldsOnSome turning worked 0 × Holds worked_graph turning 0). both.1)
-    (λ (fails : (HoldsOnSome turning worked 0 → ⊥) × OddWins). absurd (fails.0 some_path))
+    ⊎_elim (λ (both : HoldsAt turning (Quantified Exists worked) 0 × Holds worked_graph turning 0). both.1)
+    (λ (fails : (HoldsAt turning (Quantified Exists worked) 0 → ⊥) × OddWins). absurd (fails.0 some_path))
     (linear_graphs_agree worked false worked_graph is_its_graph turning turning_admitted 0 (omega arith))

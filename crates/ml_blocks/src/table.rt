@@ -64,7 +64,13 @@ fn add_if(out: &mut Vec<u64>, is_wanted: bool, key: u64) -> Result<(), AllocErro
 }
 
 // the key of an occurrence of X, F or G, if it is an eventuality
-fn add_tense(out: &mut Vec<u64>, at: u32, tense: Tense, plus: bool, minus: bool) -> Result<(), AllocError>
+fn add_tense(
+    out: &mut Vec<u64>,
+    at: u32,
+    tense: Tense,
+    plus: bool,
+    minus: bool,
+) -> Result<(), AllocError>
     ensures { OnOk result (out.new.items ≡ out.old.items ++ listed.own_tense tense at plus minus) }
 {
     match tense {
@@ -75,7 +81,13 @@ fn add_tense(out: &mut Vec<u64>, at: u32, tense: Tense, plus: bool, minus: bool)
 }
 
 // the same of U, R and W
-fn add_pairing(out: &mut Vec<u64>, at: u32, pairing: Pairing, plus: bool, minus: bool) -> Result<(), AllocError>
+fn add_pairing(
+    out: &mut Vec<u64>,
+    at: u32,
+    pairing: Pairing,
+    plus: bool,
+    minus: bool,
+) -> Result<(), AllocError>
     ensures { OnOk result (out.new.items ≡ out.old.items ++ listed.own_pairing pairing at plus minus) }
 {
     match pairing {
@@ -201,94 +213,6 @@ fn fill(
     }
 }
 
-// a connective as the occurrence `at`, with its operands
-#[cycle(placing)]
-fn place_connective(
-    alloc: Global,
-    table: &mut Table,
-    names: &Names,
-    at: u32,
-    operator: Operator,
-    keys: Vec<u64>,
-    left: &Term,
-    right: &Term,
-) -> Result<(), AllocError>
-    requires names { length names.now.props.keys < 2 ^ 32 }
-    requires few { at + weight operator + occurrences (formula_of left.now) + occurrences (formula_of right.now) ≤ 1000 }
-    ensures occurrences { OnOk result (table.new.occurrences.items ≡ table.old.occurrences.items
-        ++ listed.spread (listed.occurrence_here names.now.props.keys) at
-        (plain.Binary operator (formula_of left.now) (formula_of right.now)) None) }
-    ensures eventualities { OnOk result (listed.lists_of table.new.eventualities.items
-        ≡ listed.lists_of table.old.eventualities.items ++ (keys.items ∷ (listed.fill listed.eventualities_here operator at
-        ++ (listed.spread listed.eventualities_here (at + weight operator) (formula_of left.now) None
-        ++ listed.spread listed.eventualities_here (at + weight operator + occurrences (formula_of left.now))
-        (formula_of right.now) None)))) }
-{
-    let l = at + weight(operator);
-    let r = l + count_term(left);
-    put(table, Symbol::Binary(operator), (l, r), keys)?;
-    fill(alloc, table, names, operator, at)?;
-    place(alloc, table, names, l, None, left)?;
-    place(alloc, table, names, r, None, right)
-}
-
-// the same of U, R and W
-#[cycle(placing)]
-fn place_pair(
-    alloc: Global,
-    table: &mut Table,
-    names: &Names,
-    at: u32,
-    pairing: Pairing,
-    keys: Vec<u64>,
-    left: &Term,
-    right: &Term,
-) -> Result<(), AllocError>
-    requires names { length names.now.props.keys < 2 ^ 32 }
-    requires few { at + 1 + occurrences (formula_of left.now) + occurrences (formula_of right.now) ≤ 1000 }
-    ensures occurrences { OnOk result (table.new.occurrences.items ≡ table.old.occurrences.items
-        ++ (listed.entry (symbol.Paired pairing) (at + 1) (at + 1 + occurrences (formula_of left.now))
-        ∷ (listed.spread (listed.occurrence_here names.now.props.keys) (at + 1) (formula_of left.now) None
-        ++ listed.spread (listed.occurrence_here names.now.props.keys) (at + 1 + occurrences (formula_of left.now))
-        (formula_of right.now) None))) }
-    ensures eventualities { OnOk result (listed.lists_of table.new.eventualities.items
-        ≡ listed.lists_of table.old.eventualities.items ++ (keys.items
-        ∷ (listed.spread listed.eventualities_here (at + 1) (formula_of left.now) None
-        ++ listed.spread listed.eventualities_here (at + 1 + occurrences (formula_of left.now))
-        (formula_of right.now) None))) }
-{
-    let l = at + 1;
-    let r = l + count_term(left);
-    put(table, Symbol::Paired(pairing), (l, r), keys)?;
-    place(alloc, table, names, l, None, left)?;
-    place(alloc, table, names, r, None, right)
-}
-
-// the same of an operator with one operand, which may be one of a quantifier
-#[cycle(placing)]
-fn place_above(
-    alloc: Global,
-    table: &mut Table,
-    names: &Names,
-    at: u32,
-    symbol: Symbol,
-    keys: Vec<u64>,
-    first: Option<bool>,
-    operand: &Term,
-) -> Result<(), AllocError>
-    requires names { length names.now.props.keys < 2 ^ 32 }
-    requires few { at + 1 + occurrences (formula_of operand.now) ≤ 1000 }
-    ensures occurrences { OnOk result (table.new.occurrences.items ≡ table.old.occurrences.items
-        ++ (listed.entry symbol (at + 1) 0
-        ∷ listed.spread (listed.occurrence_here names.now.props.keys) (at + 1) (formula_of operand.now) first)) }
-    ensures eventualities { OnOk result (listed.lists_of table.new.eventualities.items
-        ≡ listed.lists_of table.old.eventualities.items ++ (keys.items
-        ∷ listed.spread listed.eventualities_here (at + 1) (formula_of operand.now) first)) }
-{
-    put(table, symbol, (at + 1, 0), keys)?;
-    place(alloc, table, names, at + 1, first, operand)
-}
-
 // the sign of the item that a quantifier's block begins with
 fn sign_of(quantifier: Quantifier) -> bool
     ensures { result ≡ listed.sign_of quantifier }
@@ -297,6 +221,31 @@ fn sign_of(quantifier: Quantifier) -> bool
         Quantifier::Exists => true,
         Quantifier::Forall => false,
     }
+}
+
+// the occurrences of two operands, of which `at` is the first
+#[cycle(placing)]
+fn place_both(
+    alloc: Global,
+    table: &mut Table,
+    names: &Names,
+    at: u32,
+    left: &Term,
+    right: &Term,
+) -> Result<(), AllocError>
+    requires names { length names.now.props.keys < 2 ^ 32 }
+    requires few { at + occurrences (formula_of left.now) + occurrences (formula_of right.now) ≤ 1000 }
+    ensures occurrences { OnOk result (table.new.occurrences.items ≡ table.old.occurrences.items
+        ++ (listed.spread (listed.occurrence_here names.now.props.keys) at (formula_of left.now) None
+        ++ listed.spread (listed.occurrence_here names.now.props.keys) (at + occurrences (formula_of left.now))
+        (formula_of right.now) None)) }
+    ensures eventualities { OnOk result (listed.lists_of table.new.eventualities.items
+        ≡ listed.lists_of table.old.eventualities.items
+        ++ (listed.spread listed.eventualities_here at (formula_of left.now) None
+        ++ listed.spread listed.eventualities_here (at + occurrences (formula_of left.now)) (formula_of right.now) None)) }
+{
+    place(alloc, table, names, at, None, left)?;
+    place(alloc, table, names, at + count_term(left), None, right)
 }
 
 // the occurrences of a term, of which `at` is the first
@@ -322,22 +271,29 @@ fn place(
         Term::Const(value) => put(table, Symbol::Const(*value), (0, 0), keys),
         Term::Prop(name) => put(table, Symbol::Prop(names.proposition(name)), (0, 0), keys),
         Term::Not(operand) => {
-            place_above(alloc, table, names, at, Symbol::Not, keys, None, operand)
+            put(table, Symbol::Not, (at + 1, 0), keys)?;
+            place(alloc, table, names, at + 1, None, operand)
         }
         Term::Binary(operator, left, right) => {
-            place_connective(alloc, table, names, at, *operator, keys, left, right)
+            let l = at + weight(*operator);
+            let operands = (l, l + count_term(left));
+            put(table, Symbol::Binary(*operator), operands, keys)?;
+            fill(alloc, table, names, *operator, at)?;
+            place_both(alloc, table, names, l, left, right)
         }
         Term::Temporal(tense, operand) => {
-            let symbol = Symbol::Temporal(*tense);
-            place_above(alloc, table, names, at, symbol, keys, None, operand)
+            put(table, Symbol::Temporal(*tense), (at + 1, 0), keys)?;
+            place(alloc, table, names, at + 1, None, operand)
         }
         Term::Paired(pairing, left, right) => {
-            place_pair(alloc, table, names, at, *pairing, keys, left, right)
+            let operands = (at + 1, at + 1 + count_term(left));
+            put(table, Symbol::Paired(*pairing), operands, keys)?;
+            place_both(alloc, table, names, at + 1, left, right)
         }
         Term::Quantified(quantifier, operand) => {
-            let symbol = Symbol::Quantified(*quantifier);
+            put(table, Symbol::Quantified(*quantifier), (at + 1, 0), keys)?;
             let first = Some(sign_of(*quantifier));
-            place_above(alloc, table, names, at, symbol, keys, first, operand)
+            place(alloc, table, names, at + 1, first, operand)
         }
     }
 }

@@ -5,8 +5,10 @@
 --   negations_of_..             == the laws
 use Rattle.std.proofs.Common.{ℕ, zero, suc, ◌<◌, ◌⊎◌, inl, inr, ⊎_elim}
 use Rattle.ml_lists.specs.Lasso.{next_place}
+use Rattle.ml_ctl.specs.Formula.{Quantified}
+use Rattle.ml_ctl.specs.declared.term.Quantifier.TheVariants.{Exists}
 use Rattle.ml_ctl.specs.Laws.{IsDecided, NegationsOfNext, NegationsOfUntil, NegationsOfRelease, NegationsOfWeak, NegationsOfFinally, NegationsOfGlobally, AllAreNotSome, SomeAreNotAll}
-use Rattle.ml_ctl.specs.Meaning.{Nowhere, Everywhere, TruthAt, Satisfies, HoldsOnSome}
+use Rattle.ml_ctl.specs.Meaning.{Nowhere, Everywhere, TruthAt, Satisfies, HoldsAt}
 use Rattle.ml_ctl.specs.Paths.{places}
 use Rattle.ml_ctl.proofs.Iterated.{untils, releases, until_maps, release_maps}
 use Rattle.ml_ctl.proofs.StepByStep.{closed}
@@ -154,8 +156,8 @@ pub some_are_not_all : SomeAreNotAll
 some_are_not_all m f s decided = (
   (λ some all. all some.0 some.1 some.2),
   (λ not_all.
-      ⊎_elim (λ (t : HoldsOnSome m f s). t)
-      (λ (none : HoldsOnSome m f s → ⊥). absurd (not_all (λ path from t. none (path, from, t)))) decided),
+      ⊎_elim (λ (t : HoldsAt m (Quantified Exists f) s). t)
+      (λ (none : HoldsAt m (Quantified Exists f) s → ⊥). absurd (not_all (λ path from t. none (path, from, t)))) decided),
 )
 
 -- the laws of the temporal operators, for the function that states them

@@ -16,7 +16,6 @@
 --   TruthAt m l f i          == f is true at the place i of the path l of m
 --   Satisfies m l f          == the path l satisfies f
 --   HoldsAt m f s            == the state formula f is true at the state s of m
---   HoldsOnSome m f s        == some path from s satisfies f: what a formula of LTL means at a state
 use Rattle.std.specs.Prelude.{ℕ, zero, suc, ◌≡◌, ◌⊎◌, true}
 use Rattle.ml_lists.specs.Lasso.{Lasso, entry, next_place}
 use Rattle.ml_text.specs.declared.token.Operator.{Operator}
@@ -99,6 +98,3 @@ HoldsAt m (plain.Binary op f g) s = truth_of op (HoldsAt m f s) (HoldsAt m g s)
 HoldsAt m (plain.Temporal t f) s = ⊥
 HoldsAt m (plain.Paired p f g) s = ⊥
 HoldsAt m (plain.Quantified q f) s = quantified q m s (λ path. Satisfies m path f)
-
-abbrev pub HoldsOnSome : Structure → Formula → ℕ → Type 0
-HoldsOnSome m f s = quantified Exists m s (λ path. Satisfies m path f)

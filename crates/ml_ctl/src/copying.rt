@@ -3,7 +3,7 @@ ghost use Rattle.std.specs.Prelude.{◌≡◌, ◌≤◌, IfOk};
 ghost use Rattle.ml_ctl.specs.Formula.{occurrences};
 ghost use Rattle.ml_ctl.specs.Term.{formula_of};
 
-use crate::{Formula, Term};
+use crate::{FormulaOf, Term, Words};
 use ml_base::NoMemory;
 use ml_text::{MOST_OCCURRENCES, Operator};
 use std::alloc::Global;
@@ -14,21 +14,16 @@ use std::alloc::Global;
 /// `NoMemory` alone.
 ///
 /// Cost: linear in the occurrences and the lengths of the names. No call is nested deeper than the formula.
-pub fn copy(alloc: Global, formula: &Formula) -> Result<Formula, NoMemory>
+pub fn copy<W: Words>(alloc: Global, formula: &FormulaOf<W>) -> Result<FormulaOf<W>, NoMemory>
     ensures { IfOk result (λ copied. copied ≡ formula.now) }
 {
     let root = copy_term(alloc, formula.root())?;
-    Ok(Formula::new(root))
+    Ok(FormulaOf::new(root))
 }
 
-/// An equal tree.
-///
-/// # Errors
-/// `NoMemory` alone.
-///
-/// Cost: linear in the occurrences and the lengths of the names. No call is nested deeper than the tree.
+// an equal tree
 #[cycle(copier)]
-pub fn copy_term(alloc: Global, term: &Term) -> Result<Term, NoMemory>
+fn copy_term(alloc: Global, term: &Term) -> Result<Term, NoMemory>
     ensures { IfOk result (λ copied. formula_of copied ≡ formula_of term.now) }
 {
     match term {
@@ -76,7 +71,7 @@ fn copy_operands(
 /// counts as three.
 ///
 /// Cost: linear in them. No call is nested deeper than the formula.
-pub fn occurrences(formula: &Formula) -> u32
+pub fn occurrences<W: Words>(formula: &FormulaOf<W>) -> u32
     ensures number { result ≡ occurrences formula.now }
     ensures range { (1 ≤ result) × (result ≤ MOST_OCCURRENCES) }
 {

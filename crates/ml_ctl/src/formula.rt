@@ -1,17 +1,20 @@
 // Formulas that keep their limits.
-use crate::Term;
-use std::marker::Model;
+use crate::{Ctl, Term, Words};
+use std::marker::{Model, PhantomData};
 
-/// A state formula within the limit on its size, whose names are spelt as they must be. Contracts see it as the plain
-/// formula of `specs/Formula.antt`.
+/// A formula of a language within the limit on its size, whose names are spelt as they must be. Contracts see it as the
+/// plain formula of `specs/Formula.antt`.
 #[derive(Drop)]
-pub struct Formula {
+pub struct FormulaOf<W: Words> {
     root: Term,
+    words: PhantomData<W>,
 }
 
-impl Model for Formula {
+/// A formula of CTL*, which is a state formula.
+pub type Formula = FormulaOf<Ctl>;
+
+impl<W: Words> Model for FormulaOf<W> {
     ghost use Rattle.ml_ctl.specs.Formula as plain;
-    ghost use Rattle.ml_ctl.specs.declared.language.Language.TheVariants as language;
     ghost use Rattle.ml_ctl.specs.private.FormulaCode.{formula_code};
 
     ghost Value = { plain.Formula };
@@ -23,28 +26,29 @@ impl Model for Formula {
 
     ghost view = { λ f. formula_of f.root };
 
-    ghost invariant = { λ f. IsWellFormed language.Ctl (formula_of f.root) };
+    ghost invariant = { λ f. IsWellFormed W.language (formula_of f.root) };
 }
 
-impl Formula {
+impl<W: Words> FormulaOf<W> {
     ghost use Rattle.std.specs.Prelude.{◌≡◌};
-    ghost use Rattle.ml_ctl.specs.Formula as plain;
-    ghost use Rattle.ml_ctl.specs.declared.language.Language.TheVariants as language;
     ghost use Rattle.ml_ctl.specs.Term.{formula_of};
     ghost use Rattle.ml_ctl.specs.WellFormed.{IsWellFormed};
 
     /// The formula with this tree.
-    pub(crate) fn new(root: Term) -> Formula
-        requires { IsWellFormed language.Ctl (formula_of root) }
+    pub(crate) fn new(root: Term) -> FormulaOf<W>
+        requires { IsWellFormed W.language (formula_of root) }
         ensures { result ≡ formula_of root }
     {
-        Formula { root }
+        FormulaOf {
+            root,
+            words: PhantomData,
+        }
     }
 
     /// The tree of the formula.
     pub fn root(&self) -> &Term
         ensures tree { formula_of result.now ≡ self.now }
-        ensures well_formed { IsWellFormed language.Ctl self.now }
+        ensures well_formed { IsWellFormed W.language self.now }
     {
         &self.root
     }

@@ -1,55 +1,24 @@
 // CTL* and LTL, as the reader of texts asks for them. The two differ in the sort of a text, and in whether E and A stand
 // in it.
 ghost use Rattle.std.specs.Prelude.{◌≡◌};
-ghost use Rattle.ml_ctl.specs.declared.language.Language.{Language};
-ghost use Rattle.ml_ctl.specs.declared.language.Language.TheVariants as language;
 ghost use Rattle.ml_ctl.specs.Grammar.{sort_of};
 ghost use Rattle.ml_ctl.specs.private.Tables as tables;
 
 use crate::forms::{Hold, Wait, join, resume, shift};
 use crate::signs::{Kind, Own, Sign, weight};
-use crate::{Language, Sort, Term};
+use crate::{Language, Sort, Term, Words};
 use ml_base::NoMemory;
 use ml_text::{
     Bracket, Logic, Mode, Placed, Role, Turn, WordStart, bracket_of, kind_of, operator_level,
     sign_of,
 };
 use std::alloc::Global;
+use std::marker::PhantomData;
 
-/// One of the two logics.
-pub(crate) trait Texts {
-    ghost logic: { Language };
-
-    /// Which one it is.
-    fn language() -> Language
-        ensures { result ≡ logic };
-}
-
-/// CTL*.
-pub(crate) struct Ctl;
-
-/// LTL.
-pub(crate) struct Ltl;
-
-impl Texts for Ctl {
-    ghost logic = { language.Ctl };
-
-    fn language() -> Language {
-        Language::Ctl
-    }
-}
-
-impl Texts for Ltl {
-    ghost logic = { language.Ltl };
-
-    fn language() -> Language {
-        Language::Ltl
-    }
-}
-
-/// The texts of a logic. Nothing is to be known of a text before it is read.
-pub(crate) struct Reader<T> {
-    pub(crate) texts: T,
+/// The texts of a language. Nothing is to be known of a text before it is read.
+#[derive(Drop)]
+pub(crate) struct Reader<W> {
+    pub(crate) words: PhantomData<W>,
 }
 
 fn whole_sort(language: Language) -> Sort
@@ -71,7 +40,7 @@ fn role(sort: Sort, sign: &Sign) -> Role
     }
 }
 
-impl<T: Texts> Logic for Reader<T> {
+impl<W: Words> Logic for Reader<W> {
     type Kind = Kind;
 
     type Context = ();
@@ -90,7 +59,7 @@ impl<T: Texts> Logic for Reader<T> {
     ghost use Rattle.ml_ctl.specs.private.Reader.{ctl_tables};
     ghost use Rattle.ml_ctl.specs.private.Alike.{alike};
 
-    ghost tables = { ctl_tables T.logic };
+    ghost tables = { ctl_tables W.language };
 
     ghost IsFor = { λ _ _. Unit {0} };
 
@@ -123,7 +92,7 @@ impl<T: Texts> Logic for Reader<T> {
     }
 
     fn whole() -> Sort {
-        whole_sort(T::language())
+        whole_sort(W::which())
     }
 
     fn start(sort: Sort) -> Wait {
@@ -136,7 +105,7 @@ impl<T: Texts> Logic for Reader<T> {
         wait: Wait,
         sign: Sign,
     ) -> Result<Option<Turn<Sign, Term, Wait, Hold>>, NoMemory> {
-        Ok(shift(T::language(), wait, sign))
+        Ok(shift(W::which(), wait, sign))
     }
 
     #[inline(always)]
@@ -178,5 +147,5 @@ impl<T: Texts> Logic for Reader<T> {
         Ok(None)
     }
 
-    ghost alike = { alike T.logic };
+    ghost alike = { alike W.language };
 }

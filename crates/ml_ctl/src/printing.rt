@@ -2,13 +2,11 @@
 ghost use Rattle.std.specs.Prelude.{◌≡◌, ◌++◌, ◌∷◌, take, IfOk, OnOk, OnErr, codes, vec_len};
 ghost use Rattle.ml_text.specs.Operators.{spelling_of};
 ghost use Rattle.ml_ctl.specs.Canonical.{canonical_text, pairing_letter, quantifier_letter, tense_letter};
-ghost use Rattle.ml_ctl.specs.Formula as plain;
-ghost use Rattle.ml_ctl.specs.declared.language.Language.TheVariants as language;
 ghost use Rattle.ml_ctl.specs.Parsing.{IsParsedAs};
 ghost use Rattle.ml_ctl.specs.Term.{formula_of};
 ghost use Rattle.ml_ctl.specs.WellFormed.{IsWellFormed};
 
-use crate::{Formula, Pairing, Quantifier, Tense, Term};
+use crate::{FormulaOf, Pairing, Quantifier, Tense, Term, Words};
 use ml_base::NoMemory;
 use ml_lines::whole_or_none;
 use ml_text::Operator;
@@ -20,9 +18,9 @@ use std::alloc::{AllocError, Global};
 /// `NoMemory` alone.
 ///
 /// Cost: linear in the text. No call is nested deeper than twice the formula.
-pub fn print(alloc: Global, formula: &Formula) -> Result<Vec<u8>, NoMemory>
+pub fn print<W: Words>(alloc: Global, formula: &FormulaOf<W>) -> Result<Vec<u8>, NoMemory>
     ensures text { IfOk result (λ text. text.items ≡ canonical_text formula.now) }
-    ensures reads_back { IfOk result (λ text. IsParsedAs language.Ctl text.items formula.now) }
+    ensures reads_back { IfOk result (λ text. IsParsedAs W.language text.items formula.now) }
 {
     let mut text = Vec::new(alloc);
     append_text(&mut text, formula)?;
@@ -35,26 +33,13 @@ pub fn print(alloc: Global, formula: &Formula) -> Result<Vec<u8>, NoMemory>
 /// `NoMemory` alone, and then `out` is as before.
 ///
 /// Cost: linear in the text, over many calls.
-pub fn append_text(out: &mut Vec<u8>, formula: &Formula) -> Result<(), NoMemory>
+pub fn append_text<W: Words>(out: &mut Vec<u8>, formula: &FormulaOf<W>) -> Result<(), NoMemory>
     ensures text { OnOk result (out.new.items ≡ out.old.items ++ canonical_text formula.now) }
-    ensures well_formed { IsWellFormed language.Ctl formula.now }
-    ensures kept { OnErr result (out.new.items ≡ out.old.items) }
-{
-    append_term(out, formula.root())
-}
-
-/// Appends the canonical text of a tree.
-///
-/// # Errors
-/// `NoMemory` alone, and then `out` is as before.
-///
-/// Cost: linear in the text, over many calls. No call is nested deeper than twice the tree.
-pub fn append_term(out: &mut Vec<u8>, term: &Term) -> Result<(), NoMemory>
-    ensures text { OnOk result (out.new.items ≡ out.old.items ++ canonical_text (formula_of term.now)) }
+    ensures well_formed { IsWellFormed W.language formula.now }
     ensures kept { OnErr result (out.new.items ≡ out.old.items) }
 {
     let end = out.len();
-    let written = write_term(out, term);
+    let written = write_term(out, formula.root());
     Ok(whole_or_none(out, end, written)?)
 }
 

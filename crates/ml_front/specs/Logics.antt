@@ -19,7 +19,6 @@ use Rattle.ml_ctl.specs.Formula as ctl_formula
 use Rattle.ml_ctl.specs.declared.language.Language.TheVariants as language
 use Rattle.ml_ctl.specs.Parsing as ctl_parsing
 use Rattle.ml_ctl.specs.WellFormed as ctl_formulas
-use Rattle.ml_ltl.specs.Parsing as ltl_parsing
 use Rattle.ml_mu.specs.Canonical as mu_canonical
 use Rattle.ml_mu.specs.Parsing as mu_parsing
 use Rattle.ml_mu.specs.WellFormed as mu_formulas
@@ -57,13 +56,13 @@ abbrev pub IsParsedAs : List ℕ → AnyFormula → Type 0
 IsParsedAs text (Mu f) = mu_parsing.IsParsedAs text f
 IsParsedAs text (Pdl f) = pdl_parsing.IsParsedAs text f
 IsParsedAs text (Ctl f) = ctl_parsing.IsParsedAs language.Ctl text f
-IsParsedAs text (Ltl f) = ltl_parsing.IsParsedAs text f
+IsParsedAs text (Ltl f) = ctl_parsing.IsParsedAs language.Ltl text f
 
 abbrev pub IsRefusedBy : Logic → List ℕ → ParseRefusal → Type 0
 IsRefusedBy logic.Mu text e = mu_parsing.IsRefusedBy text e
 IsRefusedBy logic.Pdl text e = pdl_parsing.IsRefusedBy text e
 IsRefusedBy logic.Ctl text e = ctl_parsing.IsRefusedBy language.Ctl text e
-IsRefusedBy logic.Ltl text e = ltl_parsing.IsRefusedBy text e
+IsRefusedBy logic.Ltl text e = ctl_parsing.IsRefusedBy language.Ltl text e
 
 abbrev pub canonical_text : AnyFormula → List ℕ
 canonical_text (Mu f) = mu_canonical.canonical_text f

@@ -21,7 +21,7 @@ use Rattle.ml_pdl.proofs.OneAnswer as pdl_answer
 use Rattle.ml_ctl.specs.Formula as ltl
 use Rattle.ml_ctl.specs.declared.language.Language.TheVariants as language
 use Rattle.ml_ctl.proofs.OneAnswer as ctl_answer
-use Rattle.ml_ltl.specs.Parsing as ltl_parsing
+use Rattle.ml_ctl.specs.Parsing as ltl_parsing
 use Rattle.ml_gen.specs.Families.{greatest, is_in_range, part}
 use Rattle.ml_gen.specs.Formulas.{act, acts, and_formula, and_part, fair_formula, fair_part, loop_formula, or_formula, or_part, step_formula}
 use Rattle.ml_gen.specs.Parsed.{AreParsed, ParsedAsOne}
@@ -192,9 +192,9 @@ are_parsed Fair (suc k) is =
     let all = in_range ltl_chains.IsPart fair_part fair_is_part k 2 (omega (arith, low)) in
     let small : ltl.occurrences (ltl_chains.chain (fair_part 1) gs) < most_occurrences = omega (arith, fair_count k 2 (fair_part 1), low) in
     let rest = flat_map (λ i. codes " & " ++ part Fair i) (range_with_len 2 k) in
-    subst (λ text. ltl_parsing.IsParsedAs text (fair_formula (suc k)))
+    subst (λ text. ltl_parsing.IsParsedAs language.Ltl text (fair_formula (suc k)))
     (ap (λ more. codes "(G F p" ++ (number 1 ++ (codes ")" ++ more))) (fair_text k 2) ∙ sym (fair_first (number 1) rest))
-    (subst (ltl_parsing.IsParsedAs (ltl_chains.chain_text (fair_part 1) gs))
+    (subst (ltl_parsing.IsParsedAs language.Ltl (ltl_chains.chain_text (fair_part 1) gs))
     (ltl_onto fair_part k 2 (fair_part 1) ∙ onto_joined (ltl.Binary operator.And) fair_part k)
     (ltl_chains.chain_parsed (fair_part 1) gs (fair_is_part 1 (omega arith)) all small))
 are_parsed Loop zero is = absurd (omega (arith, (range_parts Loop zero is).0))

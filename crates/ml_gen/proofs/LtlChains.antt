@@ -29,7 +29,7 @@ use Rattle.ml_ctl.proofs.CanonicalTexts.{reads_formula, scans_formula, sign_spel
 use Rattle.ml_ctl.proofs.Counting.{counts, counted_items}
 use Rattle.ml_ctl.proofs.GrammarTables.{un_raised}
 use Rattle.ml_ctl.proofs.Sorts.{fits}
-use Rattle.ml_ltl.specs.Parsing.{IsParsedAs}
+use Rattle.ml_ctl.specs.Parsing.{IsParsedAs}
 
 abbrev pub chain : Formula → List Formula → Formula
 chain f [] = f
@@ -115,7 +115,7 @@ module _ (f : Formula) (gs : List Formula) (part : IsPart f) (parts : AllByRecur
       ∙ ap (map sign_spelt) tokens_are))
       (iff_alone (imp_alone (or_alone (reads_more gs parts f (map sign_spelt spelt) first))))
 
-  pub chain_parsed : IsParsedAs (chain_text f gs) (chain f gs)
+  pub chain_parsed : IsParsedAs Ltl (chain_text f gs) (chain f gs)
   chain_parsed =
       let behind = lone 41 ∷ more_tokens gs in
       accepted ctl_signs (IsReadAs Ltl) text (chain f gs) (λ s. bracket_of (sign_spelt s)) spelt (record {

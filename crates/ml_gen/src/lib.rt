@@ -4,8 +4,8 @@
 // named by a word (`Family::word`, `Family::named`). What the texts are stands in `specs/Families.antt`, and `laws` says
 // that each is parsed in its logic.
 //
-// Below stand `ml_base`, `ml_lines`, which appends numbers, and the formulas of the logics (`ml_mu`, `ml_pdl`, `ml_ctl`,
-// `ml_ltl`), which the law alone speaks of; above stands `ml_driver`.
+// Below stand `ml_base`, `ml_lines`, which appends numbers, and the formulas of the logics (`ml_mu`, `ml_pdl`, `ml_ctl`),
+// which the law alone speaks of; above stands `ml_driver`.
 #![tactic(auto)]
 
 mod family;

@@ -1,6 +1,4 @@
 -- problems
 pub mod Problem
--- what is parsed, and what is refused
-pub mod Parsing
--- what is true of texts and problems
+-- what is true of problems
 pub mod Laws

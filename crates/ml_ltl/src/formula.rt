@@ -1,50 +1,22 @@
-// Formulas that keep their limits.
-use ml_ctl::Term;
-use std::marker::Model;
+// The formulas of LTL, and their texts.
+ghost use Rattle.std.specs.Prelude.{MatchResult};
+ghost use Rattle.ml_ctl.specs.Parsing.{IsParsedAs, IsRefusedBy};
 
-/// A path formula without quantifiers, within the limit on its size, whose names are spelt as they must be. Contracts see
-/// it as the plain formula of `ml_ctl/specs/Formula.antt`.
-#[derive(Drop)]
-pub struct Formula {
-    root: Term,
-}
+use ml_base::ParseRefusal;
+use ml_ctl::{FormulaOf, Language, Ltl, parse_in};
+use std::alloc::Global;
 
-impl Model for Formula {
-    ghost use Rattle.ml_ctl.specs.Formula as plain;
-    ghost use Rattle.ml_ctl.specs.private.FormulaCode.{formula_code};
+/// A formula of LTL, which is a path formula without quantifiers.
+pub type Formula = FormulaOf<Ltl>;
 
-    ghost Value = { plain.Formula };
-
-    ghost coded = { formula_code };
-
-    ghost use Rattle.ml_ctl.specs.Term.{formula_of};
-    ghost use Rattle.ml_ctl.specs.WellFormed.{IsWellFormed};
-
-    ghost view = { λ f. formula_of f.root };
-
-    ghost invariant = { λ f. IsWellFormed language.Ltl (formula_of f.root) };
-}
-
-impl Formula {
-    ghost use Rattle.std.specs.Prelude.{◌≡◌};
-    ghost use Rattle.ml_ctl.specs.Formula as plain;
-    ghost use Rattle.ml_ctl.specs.declared.language.Language.TheVariants as language;
-    ghost use Rattle.ml_ctl.specs.Term.{formula_of};
-    ghost use Rattle.ml_ctl.specs.WellFormed.{IsWellFormed};
-
-    /// The formula with this tree.
-    pub(crate) fn new(root: Term) -> Formula
-        requires { IsWellFormed language.Ltl (formula_of root) }
-        ensures { result ≡ formula_of root }
-    {
-        Formula { root }
-    }
-
-    /// The tree of the formula.
-    pub fn root(&self) -> &Term
-        ensures tree { formula_of result.now ≡ self.now }
-        ensures well_formed { IsWellFormed language.Ltl self.now }
-    {
-        &self.root
-    }
+/// The formula of LTL that a text stands for.
+///
+/// # Errors
+/// As those of `ml_ctl::parse_in`. `E` and `A` are in no text of LTL.
+///
+/// Cost: as that of `ml_ctl::parse_in`.
+pub fn parse(alloc: Global, text: &[u8]) -> Result<Formula, ParseRefusal>
+    ensures { MatchResult result (IsParsedAs Language.Ltl text.now) (IsRefusedBy Language.Ltl text.now) }
+{
+    parse_in::<Ltl>(alloc, text)
 }

@@ -102,6 +102,6 @@ fn formulas_of_ltl(rt: HostRuntime) -> Result<(), Fail> {
     for (text, count) in &LTL {
         assert!(rt; counts_ltl(rt.alloc(), text, *count)?, "{text:?}");
     }
-    ml_ltl::laws::one_answer();
+    ml_ltl::laws::problems_ask_for_paths();
     Ok(())
 }

@@ -1,4 +1,4 @@
-use Rattle.ml_ltl.proofs.laws.problems_are_those_of_ctl.Goals as goal
+use Rattle.ml_ltl.proofs.laws.problems_ask_for_paths.Goals as goal
 
 pub returns-clause-plain : goal.returns-clause-plain
 returns-clause-plain c = λ m f s. ((λ t. t), (λ t. t))
