@@ -11,6 +11,7 @@ use Rattle.ml_text.specs.declared.token.Token.TheVariants as token
 use Rattle.ml_text.specs.declared.token.WordStart.TheVariants.{LowerCase}
 use Rattle.ml_text.specs.Tokens.{tokens}
 use Rattle.ml_text.specs.Refusals.{signs_of, most_occurrences}
+use Rattle.ml_text.specs.Signs.{bracket_of}
 use Rattle.ml_text.proofs.AcceptedTexts.{accepted}
 use Rattle.ml_text.proofs.Pieces.{lone, lone_piece, and_piece}
 use Rattle.ml_text.proofs.Scans.{Spelt, spelt_at, Scans, ends, scans_tokens}
@@ -21,9 +22,9 @@ use Rattle.ml_ctl.specs.declared.language.Language.TheVariants.{Ltl}
 use Rattle.ml_ctl.specs.Grammar as grammar
 use Rattle.ml_ctl.specs.Grammar.{IsReadAs, Reads, iff_alone, imp_alone, or_alone, and, pair_alone, group}
 use Rattle.ml_ctl.specs.declared.language.Sort.TheVariants.{Path}
-use Rattle.ml_ctl.specs.Signs.{Sign}
+use Rattle.ml_ctl.specs.Signs.{Sign, own}
 use Rattle.ml_ctl.specs.Spelling.{HasShortNames, is_spelled}
-use Rattle.ml_ctl.specs.Text.{bracket_of, ctl_signs, items}
+use Rattle.ml_ctl.specs.Text.{ctl_signs, items}
 use Rattle.ml_ctl.proofs.CanonicalLimits.{few_open, opens_of, tokens_short}
 use Rattle.ml_ctl.proofs.CanonicalTexts.{reads_formula, scans_formula, sign_spelt, tokens_onto}
 use Rattle.ml_ctl.proofs.Counting.{counts, counted_items}
@@ -118,7 +119,7 @@ module _ (f : Formula) (gs : List Formula) (part : IsPart f) (parts : AllByRecur
   pub chain_parsed : IsParsedAs Ltl (chain_text f gs) (chain f gs)
   chain_parsed =
       let behind = lone 41 ∷ more_tokens gs in
-      accepted ctl_signs (IsReadAs Ltl) text (chain f gs) (λ s. bracket_of (sign_spelt s)) spelt (record {
+      accepted ctl_signs (IsReadAs Ltl) text (chain f gs) (λ s. bracket_of own (sign_spelt s)) spelt (record {
         tokens_are = tokens_are;
         brackets = λ p. refl;
         stands = stands;

@@ -12,6 +12,7 @@ use Rattle.ml_text.specs.declared.token.Token.TheVariants as token
 use Rattle.ml_text.specs.declared.token.WordStart.TheVariants.{AnyLetter}
 use Rattle.ml_text.specs.Tokens.{tokens}
 use Rattle.ml_text.specs.Refusals.{signs_of, most_occurrences}
+use Rattle.ml_text.specs.Signs.{bracket_of}
 use Rattle.ml_text.proofs.AcceptedTexts.{accepted}
 use Rattle.ml_text.proofs.Pieces.{and_piece, ends_word}
 use Rattle.ml_text.proofs.Scans.{Spelt, spelt_at, Scans, ends, scans_tokens}
@@ -21,9 +22,9 @@ use Rattle.ml_mu.specs.Formula.{Formula, Binary, occurrences}
 use Rattle.ml_mu.specs.Grammar as grammar
 use Rattle.ml_mu.specs.Grammar.{IsReadAs, Reads, iff_alone, imp_alone, or_alone, and}
 use Rattle.ml_mu.specs.Parsing.{IsParsedAs}
-use Rattle.ml_mu.specs.Signs.{Sign}
+use Rattle.ml_mu.specs.Signs.{Sign, own}
 use Rattle.ml_mu.specs.Spelling.{HasShortNames, is_spelled}
-use Rattle.ml_mu.specs.Text.{bracket_of, mu_signs, items}
+use Rattle.ml_mu.specs.Text.{mu_signs, items}
 use Rattle.ml_mu.specs.Variables.{is_bound, is_positive}
 use Rattle.ml_mu.proofs.CanonicalLimits.{few_open, opens_of, tokens_short}
 use Rattle.ml_mu.proofs.CanonicalTexts.{reads_formula, scans_formula, sign_spelt, tokens_onto}
@@ -119,7 +120,7 @@ module _ (f : Formula) (gs : List Formula) (part : IsPart f) (parts : AllByRecur
   chain_parsed =
       let whole = chain_part gs f part parts in
       record {
-        accepted = accepted mu_signs IsReadAs text (chain f gs) (λ s. bracket_of (sign_spelt s)) spelt (record {
+        accepted = accepted mu_signs IsReadAs text (chain f gs) (λ s. bracket_of own (sign_spelt s)) spelt (record {
           tokens_are = tokens_are;
           brackets = λ p. refl;
           stands = stands;

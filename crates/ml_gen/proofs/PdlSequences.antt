@@ -14,6 +14,7 @@ use Rattle.ml_text.specs.declared.token.Placed.{Placed}
 use Rattle.ml_text.specs.Tokens.{tokens}
 use Rattle.ml_text.specs.Words.{constant_of}
 use Rattle.ml_text.specs.Refusals.{signs_of, most_occurrences}
+use Rattle.ml_text.specs.Signs.{bracket_of, word_sign}
 use Rattle.ml_text.proofs.AcceptedTexts.{accepted}
 use Rattle.ml_text.proofs.Pieces.{lone, lone_piece, less_piece, and_piece, ends_word, word_piece}
 use Rattle.ml_text.proofs.Scans.{Spelt, spelt_at, Scans, ends, scans_tokens}
@@ -26,9 +27,10 @@ use Rattle.ml_pdl.specs.Grammar as grammar
 use Rattle.ml_pdl.specs.Grammar.{IsReadAs, Reads, ReadsProgram, iff_alone, imp_alone, or_alone, and, and_alone, alt_alone, seq, seq_alone, modal, repetition}
 use Rattle.ml_pdl.specs.Marks.{asks, is_test_behind, mark_of, marked, with_mark}
 use Rattle.ml_pdl.specs.Parsing.{IsParsedAs}
-use Rattle.ml_pdl.specs.Signs.{Sign, word_sign}
-use Rattle.ml_pdl.specs.declared.signs.SignOver.TheVariants.{Open, Repeats}
-use Rattle.ml_pdl.specs.Text.{bracket_of, pdl_signs, items, sign_by}
+use Rattle.ml_pdl.specs.Signs.{Sign, own}
+use Rattle.ml_text.specs.declared.named_signs.Sign.TheVariants.{Added}
+use Rattle.ml_pdl.specs.declared.signs.Own.TheVariants.{Paren, Repeats}
+use Rattle.ml_pdl.specs.Text.{pdl_signs, items, sign_by}
 use Rattle.ml_pdl.proofs.CanonicalLimits.{opens_of, token_bracket, few_open, program_few, program_short, tokens_short}
 use Rattle.ml_pdl.proofs.CanonicalTexts.{plain_signs, program_onto, reads_formula, reads_program, scans_formula, scans_program, sign_spelt, signs_with_marks, tokens_onto}
 use Rattle.ml_pdl.proofs.Counting.{counts, counted_items}
@@ -124,7 +126,7 @@ module _ (text : List ℕ) (spelt : List Spelt) (f : Formula) (scans : Scans Any
 
   spelt_parsed : IsParsedAs text f
   spelt_parsed =
-      accepted pdl_signs IsReadAs text f (λ s. bracket_of (sign_spelt s)) spelt (record {
+      accepted pdl_signs IsReadAs text f (λ s. bracket_of own (sign_spelt s)) spelt (record {
         tokens_are = tokens_are;
         brackets = token_bracket text;
         stands = stands;
@@ -201,7 +203,7 @@ scans_loop k =
     word_piece AnyLetter (codes "repeat") (40 ∷ rest) (lone 40 ∷ toks) refl refl
     (lone_piece AnyLetter 40 rest toks refl inside)
 
-repeat_sign : word_sign (codes "repeat") ≡ Repeats
+repeat_sign : word_sign own (codes "repeat") ≡ Added Repeats
 unfolding constant_of
 repeat_sign = refl
 
@@ -212,7 +214,7 @@ reads_loop k =
     un_raised grammar.Iff
     (subst
     (λ t. Reads grammar.Un
-    (with_mark (is_test_behind 0 (plain_signs (lone 40 ∷ toks))) t ∷ Open (mark_of b) ∷ signs_with_marks toks)
+    (with_mark (is_test_behind 0 (plain_signs (lone 40 ∷ toks))) t ∷ Added (Paren (mark_of b)) ∷ signs_with_marks toks)
     (loop_formula k) [])
     (sym repeat_sign) (repetition (mark_of b) (reads_acts k (lone 41 ∷ []) refl)))
 

@@ -2,14 +2,14 @@
 --
 --   tokens_short  == the tokens of the canonical text of a formula with short names are short
 --   few_open      == it opens at most as many parentheses as its formula has occurrences
-use Rattle.std.proofs.Common.{◌≡◌, ℕ, ◌+◌, ◌≤◌, Bool, true, false, List, ◌∷◌, length, Option, Some, None, cond, codes, bytes_eq, refl, sym, subst, ⊎_elim, arith}
+use Rattle.std.proofs.Common.{◌≡◌, ℕ, ◌+◌, ◌≤◌, Bool, true, false, List, ◌∷◌, length, cond, codes, bytes_eq, refl, sym, subst, ⊎_elim, arith}
 use Rattle.std.specs.List.{AllByRecursion}
 use Rattle.ml_text.specs.declared.token.Token.TheVariants as token
 use Rattle.ml_text.specs.declared.token.Placed.{Placed}
-use Rattle.ml_text.specs.Words.{constant_of}
 use Rattle.ml_text.specs.Operators.{spelling_of}
+use Rattle.ml_text.proofs.NamedSigns.{closed_word}
 use Rattle.ml_text.proofs.Pieces.{lone}
-use Rattle.ml_text.proofs.TableItems.{IsShort, short_word, opening, opens_spelt, one_of}
+use Rattle.ml_text.proofs.TableItems.{IsShort, short_word, opening, opens_spelt}
 use Rattle.ml_text.proofs.Scans.{Spelt, spelt_at}
 use Rattle.ml_text.proofs.AcceptedTexts.{weight_some}
 use Rattle.ml_pdl.specs.Formula as plain
@@ -17,11 +17,11 @@ use Rattle.ml_pdl.specs.Formula.{Formula, Program, occurrences, program_occurren
 use Rattle.ml_pdl.specs.declared.term.Modality.{Modality}
 use Rattle.ml_pdl.specs.declared.term.Modality.TheVariants.{Diamond, Square}
 use Rattle.ml_pdl.specs.Marks.{is_test_behind, with_mark}
-use Rattle.ml_pdl.specs.Spelling.{is_proposition}
-use Rattle.ml_pdl.specs.Signs.{Sign, Open, Lower, Upper, Unknown, word_sign, word_sign_by}
-use Rattle.ml_pdl.specs.Text.{bracket_of, sign_at, sign_by, signs_behind}
+use Rattle.ml_text.specs.Signs.{bracket_of, word_sign}
+use Rattle.ml_text.specs.declared.named_signs.Sign.TheVariants.{Open}
+use Rattle.ml_pdl.specs.Signs.{Sign, own as added}
+use Rattle.ml_pdl.specs.Text.{sign_at, sign_by, signs_behind}
 use Rattle.ml_pdl.proofs.CanonicalTexts.{action_token, whole_tokens, whole_cases, IsWhole, begin_byte, end_byte, tokens_onto, program_onto, sign_spelt}
-use Rattle.ml_pdl.proofs.Spelled.{is_variable}
 use Rattle.ml_pdl.specs.Spelling.{HasShortNames, ProgramHasShortNames}
 
 -- ---- the tokens of a canonical text are short
@@ -81,44 +81,34 @@ mutual
 -- ---- parentheses
 
 abbrev pub opens_of : List Spelt → ℕ
-opens_of ss = opens_spelt (λ s. bracket_of (sign_spelt s)) ss
+opens_of ss = opens_spelt (λ s. bracket_of added (sign_spelt s)) ss
 
 -- a mark changes no bracket
-marked_bracket : (b : Bool) (s : Sign) → bracket_of (with_mark b s) ≡ bracket_of s
-marked_bracket b (Open k) = refl
+marked_bracket : (b : Bool) (s : Sign) → bracket_of added (with_mark b s) ≡ bracket_of added s
+marked_bracket b Open = refl
 marked_bracket b _ = refl
 
 pub token_bracket : (text : List ℕ) (p : Placed)
-    → bracket_of (sign_at text p) ≡ bracket_of (sign_spelt (spelt_at text p))
+    → bracket_of added (sign_at text p) ≡ bracket_of added (sign_spelt (spelt_at text p))
 token_bracket text p = marked_bracket (is_test_behind 0 (signs_behind text p.end)) (sign_by text p)
 
-abbrev IsClosed : Sign → Type 0
-IsClosed s = opening (bracket_of s) ≡ 0
+closed : (w : List ℕ) → opening (bracket_of added (word_sign added w)) ≡ 0
+closed w = closed_word added (refl, tt) w
 
-closed_word_by : (o : Option Bool) (w : List ℕ) → opening (bracket_of (word_sign_by o w)) ≡ 0
-closed_word_by (Some b) w = refl
-closed_word_by None w =
-    one_of IsClosed (bytes_eq w (codes "repeat")) _ _ refl
-    (one_of IsClosed (is_proposition w) (Lower w) (cond (is_variable w) (Upper w) Unknown) refl
-    (one_of IsClosed (is_variable w) (Upper w) Unknown refl refl))
-
-closed_word : (w : List ℕ) → opening (bracket_of (word_sign w)) ≡ 0
-closed_word w = closed_word_by (constant_of w) w
-
-closed_begin : (m : Modality) → opening (bracket_of (sign_spelt (lone (begin_byte m)))) ≡ 0
+closed_begin : (m : Modality) → opening (bracket_of added (sign_spelt (lone (begin_byte m)))) ≡ 0
 closed_begin Diamond = refl
 closed_begin Square = refl
 
-closed_end : (m : Modality) → opening (bracket_of (sign_spelt (lone (end_byte m)))) ≡ 0
+closed_end : (m : Modality) → opening (bracket_of added (sign_spelt (lone (end_byte m)))) ≡ 0
 closed_end Diamond = refl
 closed_end Square = refl
 
-closed_action : (a : List ℕ) → opening (bracket_of (sign_spelt (action_token a))) ≡ 0
+closed_action : (a : List ℕ) → opening (bracket_of added (sign_spelt (action_token a))) ≡ 0
 closed_action a = go (bytes_eq a (codes "_"))
   where
-    go : (b : Bool) → opening (bracket_of (sign_spelt (cond b (lone 95) (token.Word, a)))) ≡ 0
+    go : (b : Bool) → opening (bracket_of added (sign_spelt (cond b (lone 95) (token.Word, a)))) ≡ 0
     go true = refl
-    go false = closed_word a
+    go false = closed a
 
 -- a whole program has as many as it has, or none
 whole_open : (p : Program) (own after : List Spelt) (n : ℕ)
@@ -132,9 +122,9 @@ whole_open p own after n le =
 
 mutual
   pub few_open : (f : Formula) (ss : List Spelt) → opens_of (tokens_onto f ss) ≤ occurrences f + opens_of ss
-  few_open (plain.Const true) ss = omega (arith, closed_word (codes "tt"))
-  few_open (plain.Const false) ss = omega (arith, closed_word (codes "ff"))
-  few_open (plain.Prop p) ss = omega (arith, closed_word p)
+  few_open (plain.Const true) ss = omega (arith, closed (codes "tt"))
+  few_open (plain.Const false) ss = omega (arith, closed (codes "ff"))
+  few_open (plain.Prop p) ss = omega (arith, closed p)
   few_open (plain.Not f) ss = omega (arith, few_open f ss)
   few_open (plain.Binary o f g) ss =
       omega (
@@ -147,7 +137,7 @@ mutual
       let after = lone (end_byte m) ∷ tokens_onto f ss in
       let own = program_few p after in
       omega (arith, closed_begin m, closed_end m, whole_open p (program_onto p after) after (program_occurrences p) own, few_open f ss)
-  few_open (plain.Repeat p) ss = omega (arith, closed_word (codes "repeat"), program_few p (lone 41 ∷ ss))
+  few_open (plain.Repeat p) ss = omega (arith, closed (codes "repeat"), program_few p (lone 41 ∷ ss))
 
   pub program_few : (p : Program) (ss : List Spelt) → opens_of (program_onto p ss) ≤ program_occurrences p + opens_of ss
   program_few (plain.Act a) ss = omega (arith, closed_action a)

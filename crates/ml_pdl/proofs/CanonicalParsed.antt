@@ -7,12 +7,14 @@ use Rattle.std.proofs.Common.{false, [], arith}
 use Rattle.ml_text.specs.declared.token.WordStart.TheVariants.{AnyLetter}
 use Rattle.ml_text.specs.Tokens.{tokens}
 use Rattle.ml_text.specs.Refusals.{signs_of, IsAccepted}
+use Rattle.ml_text.specs.Signs.{bracket_of}
 use Rattle.ml_text.proofs.AcceptedTexts.{accepted}
 use Rattle.ml_pdl.specs.Formula.{Formula}
 use Rattle.ml_pdl.specs.Canonical.{canonical_text}
 use Rattle.ml_pdl.specs.Grammar.{IsReadAs}
 use Rattle.ml_pdl.specs.Parsing.{CanonicalIsParsed, CanonicalStandsForOne}
-use Rattle.ml_pdl.specs.Text.{bracket_of, pdl_signs, items}
+use Rattle.ml_pdl.specs.Signs.{own}
+use Rattle.ml_pdl.specs.Text.{pdl_signs, items}
 use Rattle.ml_pdl.proofs.PdlGrammar.{one_formula}
 use Rattle.ml_pdl.proofs.CanonicalTexts.{canonical_tokens, canonical_stands, sign_spelt, tokens_onto}
 use Rattle.ml_pdl.proofs.Counting.{counts, counted_items}
@@ -23,7 +25,7 @@ canonical_accepted : (f : Formula) → IsWellFormed f → IsAccepted IsReadAs (i
 canonical_accepted f well =
     let text = canonical_text f in
     let read = canonical_stands f well.names_are_spelled in
-    accepted pdl_signs IsReadAs text f (λ s. bracket_of (sign_spelt s)) (tokens_onto f []) (record {
+    accepted pdl_signs IsReadAs text f (λ s. bracket_of own (sign_spelt s)) (tokens_onto f []) (record {
       tokens_are = canonical_tokens f well.names_are_spelled;
       brackets = token_bracket text;
       stands = read;

@@ -23,6 +23,7 @@ use Rattle.ml_text.specs.Words.{constant_of, is_word_from}
 use Rattle.ml_text.specs.Refusals.{signs_of}
 use Rattle.ml_text.specs.Operators.{spelling_of}
 use Rattle.ml_text.proofs.ByteKinds.{differs_by}
+use Rattle.ml_text.proofs.NamedSigns.{action_sign, proposition_sign}
 use Rattle.ml_text.proofs.Pieces.{lone, lone_piece, less_piece, not_piece, operator_piece, between_same, ends_word, word_piece}
 use Rattle.ml_text.proofs.Scans.{Spelt, spelt_at, Scans, ends, scans_tokens}
 use Rattle.ml_text.proofs.FirstLetters.{lower_letters}
@@ -31,7 +32,10 @@ use Rattle.ml_pdl.specs.Formula.{Formula, Program}
 use Rattle.ml_pdl.specs.declared.term.Modality.{Modality}
 use Rattle.ml_pdl.specs.declared.term.Modality.TheVariants.{Diamond, Square}
 use Rattle.ml_pdl.specs.Canonical.{whole_program, modality_text, canonical_text, program_text}
-use Rattle.ml_pdl.specs.Signs.{Sign, Connective, Const, Open, Close, Begins, Ends, Repeats, Question, sign_of, word_sign, action_of}
+use Rattle.ml_text.specs.Signs.{name_of, word_sign}
+use Rattle.ml_text.specs.declared.named_signs.Sign.TheVariants.{Connective, Const, Open, Lower, Upper, Close, Added}
+use Rattle.ml_pdl.specs.Signs.{Sign, own as added, sign_of, action_of}
+use Rattle.ml_pdl.specs.declared.signs.Own.TheVariants.{Begins, Ends, Repeats, Question, Paren}
 use Rattle.ml_pdl.specs.declared.signs.Mark.{Mark}
 use Rattle.ml_pdl.specs.declared.signs.Mark.TheVariants.{Marked}
 use Rattle.ml_pdl.specs.Marks.{asks, is_test_behind, mark_of, with_mark, marked}
@@ -43,7 +47,6 @@ use Rattle.ml_pdl.specs.Text.{items, sign_by, IsTextOf}
 use Rattle.ml_pdl.proofs.FromTables.{un_raised}
 use Rattle.ml_pdl.proofs.MarkBytes.{neutral_test, neutral_word, weaker}
 use Rattle.ml_pdl.proofs.MarkedTexts.{marks_are_of_texts}
-use Rattle.ml_pdl.proofs.WordSigns.{proposition_sign, action_sign}
 
 -- ---- the tokens of a canonical text
 
@@ -144,6 +147,19 @@ word_starts (b ∷ bs) rest word =
 open_starts : (text : List ℕ) → Starts (40 ∷ text)
 open_starts text = record { first = 40; more = text; is = refl; no_dash = refl; no_equals = refl }
 
+-- an action other than `_` is a word with its sign
+action_named : (s : Sign) (a : List ℕ) → name_of s ≡ Some a → action_of s ≡ Some a
+action_named (Lower b) a is = is
+action_named (Upper b) a is = is
+action_named _ a is = absurd (cc)
+
+action_word : (a : List ℕ)
+    → is_action a ≡ true
+    → bytes_eq a (codes "_") ≡ false
+    → (is_word_from is_letter a ≡ true) × (action_of (word_sign added a) ≡ Some a)
+action_word a is other =
+    let s = action_sign added refl a is other in (s.0, action_named (word_sign added a) a s.1)
+
 action_starts : (a rest : List ℕ) → is_action a ≡ true → Starts (a ++ rest)
 action_starts a rest is =
     ⊎_elim
@@ -151,7 +167,7 @@ action_starts a rest is =
     subst (λ b. Starts (b ++ rest)) (sym ((bytes_eq-Decides a (codes "_")).0 any))
     (record { first = 95; more = rest; is = refl; no_dash = refl; no_equals = refl }))
     (λ (other : bytes_eq a (codes "_") ≡ false).
-    let s = action_sign a is other in
+    let s = action_word a is other in
     word_starts a rest s.0)
     (cases_Bool (bytes_eq a (codes "_")))
 
@@ -174,7 +190,7 @@ action_piece a rest ss is stops r =
     subst (λ b. Scans AnyLetter (b ++ rest) (action_token b ∷ ss)) (sym ((bytes_eq-Decides a (codes "_")).0 any))
     (lone_piece AnyLetter 95 rest ss refl r))
     (λ (other : bytes_eq a (codes "_") ≡ false).
-    let s = action_sign a is other in
+    let s = action_word a is other in
     subst (λ t. Scans AnyLetter (a ++ rest) (t ∷ ss)) (sym (cond-false (bytes_eq a (codes "_")) (lone 95) (token.Word, a) other))
     (word_piece AnyLetter a rest ss s.0 stops r))
     (cases_Bool (bytes_eq a (codes "_")))
@@ -307,7 +323,7 @@ plain_signs ss = map sign_spelt ss
 
 even_word : (w : List ℕ) (ss : List Spelt) (n : ℕ)
     → is_test_behind n (plain_signs ((token.Word, w) ∷ ss)) ≡ is_test_behind n (plain_signs ss)
-even_word w ss n = neutral_test (word_sign w) n (plain_signs ss) (weaker (word_sign w) (neutral_word w (constant_of w)))
+even_word w ss n = neutral_test (word_sign added w) n (plain_signs ss) (weaker (word_sign added w) (neutral_word w (constant_of w)))
 
 even_action : (a : List ℕ) (ss : List Spelt) (n : ℕ)
     → is_test_behind n (plain_signs (action_token a ∷ ss)) ≡ is_test_behind n (plain_signs ss)
@@ -374,15 +390,15 @@ mutual
 abbrev pub signs_with_marks : List Spelt → List Sign
 signs_with_marks ss = marked (plain_signs ss)
 
-true_sign : word_sign (codes "tt") ≡ Const true
+true_sign : word_sign added (codes "tt") ≡ Const true
 unfolding constant_of
 true_sign = refl
 
-false_sign : word_sign (codes "ff") ≡ Const false
+false_sign : word_sign added (codes "ff") ≡ Const false
 unfolding constant_of
 false_sign = refl
 
-repeat_sign : word_sign (codes "repeat") ≡ Repeats
+repeat_sign : word_sign added (codes "repeat") ≡ (Added Repeats)
 unfolding constant_of
 repeat_sign = refl
 
@@ -392,18 +408,18 @@ action_read a is =
     (λ (any : bytes_eq a (codes "_") ≡ true).
     subst (λ b. action_of (sign_spelt (action_token b)) ≡ Some b) (sym ((bytes_eq-Decides a (codes "_")).0 any)) refl)
     (λ (other : bytes_eq a (codes "_") ≡ false).
-    let s = action_sign a is other in
+    let s = action_word a is other in
     ap (λ t. action_of (sign_spelt t)) (cond-false (bytes_eq a (codes "_")) (lone 95) (token.Word, a) other) ∙ s.1)
     (cases_Bool (bytes_eq a (codes "_")))
 
 marked_action : (b : Bool) (s : Sign) → action_of (with_mark b s) ≡ action_of s
-marked_action b (Open k) = refl
+marked_action b Open = refl
 marked_action b _ = refl
 
 binary_read : (o : Operator) (k : Mark) (ts us rest : List Sign) (f g : Formula)
     → Reads grammar.Un ts f (Connective o ∷ us)
     → Reads grammar.Un us g (Close ∷ rest)
-    → Reads grammar.Un (Open k ∷ ts) (plain.Binary o f g) rest
+    → Reads grammar.Un (Added (Paren k) ∷ ts) (plain.Binary o f g) rest
 binary_read operator.Iff k ts us rest f g a b = group k (iff (un_raised grammar.Imp a) (un_raised grammar.Iff b))
 binary_read operator.Implies k ts us rest f g a b = group k (iff_alone (imp (un_raised grammar.Or a) (un_raised grammar.Imp b)))
 binary_read operator.Or k ts us rest f g a b = group k (iff_alone (imp_alone (or (un_raised grammar.Or a) (un_raised grammar.And b))))
@@ -418,36 +434,36 @@ star_raised r = alt_alone (seq_alone r)
 group_read : (b : Bool) (ts rest : List Sign) (p : Program)
     → b ≡ false
     → ReadsProgram grammar.Prog ts p (Close ∷ rest)
-    → ReadsProgram grammar.Star (Open (mark_of b) ∷ ts) p rest
-group_read b ts rest p is r = subst (λ k. ReadsProgram grammar.Star (Open (mark_of k) ∷ ts) p rest) (sym is) (star_alone (program_group r))
+    → ReadsProgram grammar.Star (Added (Paren (mark_of b)) ∷ ts) p rest
+group_read b ts rest p is r = subst (λ k. ReadsProgram grammar.Star (Added (Paren (mark_of k)) ∷ ts) p rest) (sym is) (star_alone (program_group r))
 
 -- and a test
 test_read : (b : Bool) (ts rest : List Sign) (f : Formula)
     → b ≡ true
-    → Reads grammar.Un ts f (Close ∷ Question ∷ rest)
-    → ReadsProgram grammar.Star (Open (mark_of b) ∷ ts) (plain.Test f) rest
+    → Reads grammar.Un ts f (Close ∷ Added Question ∷ rest)
+    → ReadsProgram grammar.Star (Added (Paren (mark_of b)) ∷ ts) (plain.Test f) rest
 test_read b ts rest f is r =
-    subst (λ k. ReadsProgram grammar.Star (Open (mark_of k) ∷ ts) (plain.Test f) rest) (sym is)
+    subst (λ k. ReadsProgram grammar.Star (Added (Paren (mark_of k)) ∷ ts) (plain.Test f) rest) (sym is)
     (star_alone (test refl (tested_group Marked (un_raised grammar.Iff r))))
 
 -- a modality, by its program
 modal_read : (m : Modality) (p : Program) (f : Formula) (own after : List Spelt) (rest : List Sign)
-    → ReadsProgram grammar.Star (signs_with_marks own) p (Ends m ∷ signs_with_marks after)
+    → ReadsProgram grammar.Star (signs_with_marks own) p (Added (Ends m) ∷ signs_with_marks after)
     → Reads grammar.Un (signs_with_marks after) f rest
-    → (l : List Spelt) → signs_with_marks (lone (end_byte m) ∷ after) ≡ Ends m ∷ signs_with_marks after
+    → (l : List Spelt) → signs_with_marks (lone (end_byte m) ∷ after) ≡ Added (Ends m) ∷ signs_with_marks after
     → l ≡ whole_tokens p own (lone (end_byte m) ∷ after)
-    → Reads grammar.Un (Begins m ∷ signs_with_marks l) (plain.Modal m p f) rest
+    → Reads grammar.Un (Added (Begins m) ∷ signs_with_marks l) (plain.Modal m p f) rest
 modal_read m p f own after rest a b l last is =
-    subst (λ x. Reads grammar.Un (Begins m ∷ signs_with_marks x) (plain.Modal m p f) rest) (sym is)
+    subst (λ x. Reads grammar.Un (Added (Begins m) ∷ signs_with_marks x) (plain.Modal m p f) rest) (sym is)
     (⊎_elim
     (λ (is_blank : p ≡ plain.Act (codes "_")).
     subst
-    (λ q. Reads grammar.Un (Begins m ∷ signs_with_marks (whole_tokens q own (lone (end_byte m) ∷ after)))
+    (λ q. Reads grammar.Un (Added (Begins m) ∷ signs_with_marks (whole_tokens q own (lone (end_byte m) ∷ after)))
     (plain.Modal m q f) rest)
     (sym is_blank)
-    (subst (λ ts. Reads grammar.Un (Begins m ∷ ts) (plain.Modal m (plain.Act (codes "_")) f) rest) (sym last) (modal_blank m b)))
+    (subst (λ ts. Reads grammar.Un (Added (Begins m) ∷ ts) (plain.Modal m (plain.Act (codes "_")) f) rest) (sym last) (modal_blank m b)))
     (λ (w : IsWhole p).
-    subst (λ x. Reads grammar.Un (Begins m ∷ signs_with_marks x) (plain.Modal m p f) rest) (sym (w.toks own (lone (end_byte m) ∷ after)))
+    subst (λ x. Reads grammar.Un (Added (Begins m) ∷ signs_with_marks x) (plain.Modal m p f) rest) (sym (w.toks own (lone (end_byte m) ∷ after)))
     (modal m (star_raised a) b))
     (whole_cases p))
 
@@ -471,7 +487,7 @@ mutual
       subst
       (λ t. Reads grammar.Un (with_mark (is_test_behind 0 (plain_signs ss)) t ∷ signs_with_marks ss) (plain.Prop p)
       (signs_with_marks ss))
-      (sym (proposition_sign p is)) (proposition p)
+      (sym (proposition_sign added p is)) (proposition p)
   reads_formula (plain.Not f) is ss = negation (reads_formula f is ss)
   reads_formula (plain.Binary o f g) is ss =
       let parts = and_parts (is_spelled f) (is_spelled g) is in
@@ -495,7 +511,7 @@ mutual
       let inside = plain_signs own in
       subst
       (λ t. Reads grammar.Un
-      (with_mark (is_test_behind 0 (plain_signs (lone 40 ∷ own))) t ∷ Open (mark_of (is_test_behind 0 inside))
+      (with_mark (is_test_behind 0 (plain_signs (lone 40 ∷ own))) t ∷ Added (Paren (mark_of (is_test_behind 0 inside)))
       ∷ signs_with_marks own)
       (plain.Repeat p) (signs_with_marks ss))
       (sym repeat_sign)

@@ -8,7 +8,9 @@ use Rattle.ml_text.specs.declared.token.Placed.{Placed}
 use Rattle.ml_text.specs.Refusals.{Item, signs_of, counted}
 use Rattle.ml_text.specs.Items as text_items
 use Rattle.ml_pdl.specs.Formula.{Formula, Program, occurrences, program_occurrences}
-use Rattle.ml_pdl.specs.Signs.{Sign, Blank, Lower, Upper, action_of}
+use Rattle.ml_text.specs.declared.named_signs.Sign.TheVariants.{Lower, Upper, Added}
+use Rattle.ml_pdl.specs.Signs.{Sign, action_of}
+use Rattle.ml_pdl.specs.declared.signs.Own.TheVariants.{Blank}
 use Rattle.ml_pdl.specs.Grammar as grammar
 use Rattle.ml_pdl.specs.Grammar.{Reads, iff_alone, iff, imp_alone, imp, or_alone, or, and_alone, and, negation, modal, modal_blank, repetition}
 use Rattle.ml_pdl.specs.Grammar.{group, constant, proposition, ReadsProgram, alt_alone, alt, seq_alone, seq, star_alone, star, action, test}
@@ -34,7 +36,7 @@ counted_items text b (p ∷ ps) =
 action_first : (a : List ℕ) (s : Sign) (ts : List Sign)
     → action_of s ≡ Some a
     → count_signs true (s ∷ ts) ≡ count_signs false (s ∷ ts)
-action_first a Blank ts is = refl
+action_first a (Added Blank) ts is = refl
 action_first a (Lower b) ts is = refl
 action_first a (Upper b) ts is = refl
 action_first a _ ts is = absurd (cc)
@@ -65,7 +67,7 @@ mutual
 action_counts : (a : List ℕ) (s : Sign) (ts : List Sign)
     → action_of s ≡ Some a
     → count_signs false (s ∷ ts) ≡ 1 + count_signs false ts
-action_counts a Blank ts is = refl
+action_counts a (Added Blank) ts is = refl
 action_counts a (Lower b) ts is = refl
 action_counts a (Upper b) ts is = refl
 action_counts a _ ts is = absurd (cc)

@@ -16,8 +16,10 @@ use Rattle.ml_pdl.specs.Formula as plain
 use Rattle.ml_pdl.specs.Formula.{Formula, Program}
 use Rattle.ml_pdl.specs.declared.term.Modality.{Modality}
 use Rattle.ml_pdl.specs.declared.term.Modality.TheVariants.{Diamond, Square}
-use Rattle.ml_pdl.specs.Signs as signs
-use Rattle.ml_pdl.specs.Signs.{Sign, Not, Connective, Const, Open, Close, Begins, Ends, Repeats, Plus, Semicolon, Question, Blank, Lower, Upper}
+use Rattle.ml_pdl.specs.declared.signs.Own.TheVariants as signs
+use Rattle.ml_text.specs.declared.named_signs.Sign.TheVariants.{Not, Connective, Const, Close, Lower, Upper, Added}
+use Rattle.ml_pdl.specs.Signs.{Sign}
+use Rattle.ml_pdl.specs.declared.signs.Own.TheVariants.{Begins, Ends, Repeats, Plus, Semicolon, Question, Blank, Paren}
 use Rattle.ml_pdl.specs.declared.signs.Mark.{Mark}
 use Rattle.ml_pdl.specs.declared.signs.Mark.TheVariants.{Marked, Unmarked}
 use Rattle.ml_pdl.specs.Grammar as grammar
@@ -92,33 +94,33 @@ program_read l ts rest (Name a) r = subst (λ us. ReadsProgram l us (plain.Act a
 abbrev pub Completes : Wait → List Sign → Phrase → List Sign → Type 0
 Completes FormulaStart ts v rest = AsFormula grammar.Un ts v rest
 Completes ProgramStart ts v rest = AsProgram grammar.Base ts v rest
-Completes (BehindBegin m) ts v rest = AsFormula grammar.Un (Begins m ∷ ts) v rest
-Completes (BehindProgram m p) ts v rest = (us : List Sign) → ReadsProgram grammar.Prog us p ts → AsFormula grammar.Un (Begins m ∷ us) v rest
-Completes BehindRepeat ts v rest = AsFormula grammar.Un (Repeats ∷ ts) v rest
+Completes (BehindBegin m) ts v rest = AsFormula grammar.Un (Added (Begins m) ∷ ts) v rest
+Completes (BehindProgram m p) ts v rest = (us : List Sign) → ReadsProgram grammar.Prog us p ts → AsFormula grammar.Un (Added (Begins m) ∷ us) v rest
+Completes BehindRepeat ts v rest = AsFormula grammar.Un (Added Repeats ∷ ts) v rest
 Completes (BehindRepeatInside p) ts v rest =
     (us : List Sign) (k : Mark)
     → ReadsProgram grammar.Prog us p ts
-    → AsFormula grammar.Un (Repeats ∷ Open k ∷ us) v rest
-Completes (BehindFormulaInside h) ts v rest = (us : List Sign) (k : Mark) → Reads grammar.Iff us h ts → AsFormula grammar.Un (Open k ∷ us) v rest
+    → AsFormula grammar.Un (Added Repeats ∷ Added (Paren k) ∷ us) v rest
+Completes (BehindFormulaInside h) ts v rest = (us : List Sign) (k : Mark) → Reads grammar.Iff us h ts → AsFormula grammar.Un (Added (Paren k) ∷ us) v rest
 Completes (BehindProgramInside p) ts v rest =
-    (us : List Sign) → ReadsProgram grammar.Prog us p ts → AsProgram grammar.Base (Open Unmarked ∷ us) v rest
-Completes (BehindTestInside h) ts v rest = (ts ≡ Close ∷ Question ∷ rest) × (OfProgram (plain.Test h) ≡ v)
-Completes (BehindNegations n) ts v rest = (h : Formula) × ReadsTested ts h (Question ∷ rest) × (OfProgram (plain.Test (negated n h)) ≡ v)
-Completes (BehindTested h) ts v rest = (ts ≡ Question ∷ rest) × (OfProgram (plain.Test h) ≡ v)
+    (us : List Sign) → ReadsProgram grammar.Prog us p ts → AsProgram grammar.Base (Added (Paren Unmarked) ∷ us) v rest
+Completes (BehindTestInside h) ts v rest = (ts ≡ Close ∷ Added Question ∷ rest) × (OfProgram (plain.Test h) ≡ v)
+Completes (BehindNegations n) ts v rest = (h : Formula) × ReadsTested ts h (Added Question ∷ rest) × (OfProgram (plain.Test (negated n h)) ≡ v)
+Completes (BehindTested h) ts v rest = (ts ≡ Added Question ∷ rest) × (OfProgram (plain.Test h) ≡ v)
 
 -- a held operand with what its form makes of it
 abbrev pub Enters : Hold → List Sign → Phrase → List Sign → Type 0
 Enters Negation ts v rest = (h : Formula) × Reads grammar.Un ts h rest × (OfFormula (plain.Not h) ≡ v)
 Enters (ModalProgram m) ts v rest = Unit {0}
 Enters (Modal m p) ts v rest = (h : Formula) × Reads grammar.Un ts h rest × (OfFormula (plain.Modal m p h) ≡ v)
-Enters FormulaGroup ts v rest = (k : Mark) → AsFormula grammar.Un (Open k ∷ ts) v rest
-Enters RepeatGroup ts v rest = (k : Mark) → AsFormula grammar.Un (Repeats ∷ Open k ∷ ts) v rest
-Enters ProgramGroup ts v rest = AsProgram grammar.Base (Open Unmarked ∷ ts) v rest
-Enters (TestGroup n) ts v rest = (h : Formula) × Reads grammar.Iff ts h (Close ∷ Question ∷ rest) × (OfProgram (plain.Test (negated n h)) ≡ v)
+Enters FormulaGroup ts v rest = (k : Mark) → AsFormula grammar.Un (Added (Paren k) ∷ ts) v rest
+Enters RepeatGroup ts v rest = (k : Mark) → AsFormula grammar.Un (Added Repeats ∷ Added (Paren k) ∷ ts) v rest
+Enters ProgramGroup ts v rest = AsProgram grammar.Base (Added (Paren Unmarked) ∷ ts) v rest
+Enters (TestGroup n) ts v rest = (h : Formula) × Reads grammar.Iff ts h (Close ∷ Added Question ∷ rest) × (OfProgram (plain.Test (negated n h)) ≡ v)
 
 -- the same of an operand that begins with the sign itself
 abbrev pub Opened : Hold → List Sign → Phrase → List Sign → Type 0
-Opened (ModalProgram m) ts v rest = AsFormula grammar.Un (Begins m ∷ ts) v rest
+Opened (ModalProgram m) ts v rest = AsFormula grammar.Un (Added (Begins m) ∷ ts) v rest
 Opened _ ts v rest = Unit {0}
 
 abbrev pub OfMode : tables.Mode Phrase Wait → List Sign → Phrase → List Sign → Type 0
@@ -203,17 +205,17 @@ test_completes : (n : ℕ) (t : Sign) (ts rest : List Sign) (v : Phrase)
 test_completes n Not ts rest v r = (plain.Not r.0, tested_negation r.1, r.2)
 test_completes n (Const b) ts rest v r = (plain.Const b, subst (λ us. ReadsTested (Const b ∷ ts) (plain.Const b) us) r.0 (tested_constant b), r.1)
 test_completes n (Lower p) ts rest v r = (plain.Prop p, subst (λ us. ReadsTested (Lower p ∷ ts) (plain.Prop p) us) r.0 (tested_proposition p), r.1)
-test_completes n (Open k) ts rest v r = (r.0, tested_group k r.1, r.2)
+test_completes n (Added (Paren k)) ts rest v r = (r.0, tested_group k r.1, r.2)
 test_completes n _ ts rest v r = absurd r
 
 program_completes : (t : Sign) (ts rest : List Sign) (v : Phrase)
     → OfTurn t (shift ProgramStart t) ts v rest
     → AsProgram grammar.Base (t ∷ ts) v rest
-program_completes Blank ts rest v r = whole_program (Blank ∷ ts) ts rest (plain.Act (codes "_")) v r (action (codes "_") Blank refl)
+program_completes (Added Blank) ts rest v r = whole_program (Added Blank ∷ ts) ts rest (plain.Act (codes "_")) v r (action (codes "_") (Added Blank) refl)
 program_completes (Lower a) ts rest v r = whole_name ts rest a v r
 program_completes (Upper a) ts rest v r = whole_program (Upper a ∷ ts) ts rest (plain.Act a) v r (action a (Upper a) refl)
-program_completes (Open Unmarked) ts rest v r = r
-program_completes (Open Marked) ts rest v r = tested_program (Open Marked ∷ ts) rest v refl (test_completes 0 (Open Marked) ts rest v r)
+program_completes (Added (Paren Unmarked)) ts rest v r = r
+program_completes (Added (Paren Marked)) ts rest v r = tested_program (Added (Paren Marked) ∷ ts) rest v refl (test_completes 0 (Added (Paren Marked)) ts rest v r)
 program_completes Not ts rest v r = tested_program (Not ∷ ts) rest v refl (test_completes 0 Not ts rest v r)
 program_completes (Const b) ts rest v r = tested_program (Const b ∷ ts) rest v refl (test_completes 0 (Const b) ts rest v r)
 program_completes _ ts rest v r = absurd r
@@ -231,22 +233,22 @@ formula_completes : (t : Sign) (ts rest : List Sign) (v : Phrase)
 formula_completes Not ts rest v r = made_formula (Not ∷ ts) rest (plain.Not r.0) v r.2 (negation r.1)
 formula_completes (Const b) ts rest v r = whole_formula (Const b ∷ ts) ts rest (plain.Const b) v r (constant b)
 formula_completes (Lower p) ts rest v r = whole_formula (Lower p ∷ ts) ts rest (plain.Prop p) v r (proposition p)
-formula_completes (Open k) ts rest v r = r k
-formula_completes (Begins m) ts rest v r = r
-formula_completes Repeats ts rest v r = r
+formula_completes (Added (Paren k)) ts rest v r = r k
+formula_completes (Added (Begins m)) ts rest v r = r
+formula_completes (Added Repeats) ts rest v r = r
 formula_completes _ ts rest v r = absurd r
 
 begin_completes : (m : Modality) (t : Sign) (ts rest : List Sign) (v : Phrase)
     → OfTurn t (shift (BehindBegin m) t) ts v rest
-    → AsFormula grammar.Un (Begins m ∷ t ∷ ts) v rest
-begin_completes Diamond (Ends Diamond) ts rest v r =
-    made_formula (Begins Diamond ∷ Ends Diamond ∷ ts) rest (plain.Modal Diamond (plain.Act (codes "_")) r.0) v r.2
+    → AsFormula grammar.Un (Added (Begins m) ∷ t ∷ ts) v rest
+begin_completes Diamond (Added (Ends Diamond)) ts rest v r =
+    made_formula (Added (Begins Diamond) ∷ Added (Ends Diamond) ∷ ts) rest (plain.Modal Diamond (plain.Act (codes "_")) r.0) v r.2
     (modal_blank Diamond r.1)
-begin_completes Square (Ends Square) ts rest v r =
-    made_formula (Begins Square ∷ Ends Square ∷ ts) rest (plain.Modal Square (plain.Act (codes "_")) r.0) v r.2
+begin_completes Square (Added (Ends Square)) ts rest v r =
+    made_formula (Added (Begins Square) ∷ Added (Ends Square) ∷ ts) rest (plain.Modal Square (plain.Act (codes "_")) r.0) v r.2
     (modal_blank Square r.1)
-begin_completes Diamond (Ends Square) ts rest v r = r
-begin_completes Square (Ends Diamond) ts rest v r = r
+begin_completes Diamond (Added (Ends Square)) ts rest v r = r
+begin_completes Square (Added (Ends Diamond)) ts rest v r = r
 begin_completes Diamond _ ts rest v r = r
 begin_completes Square _ ts rest v r = r
 
@@ -254,12 +256,12 @@ end_completes : (m : Modality) (p : Program) (t : Sign) (ts rest : List Sign) (v
     → OfTurn t (shift (BehindProgram m p) t) ts v rest
     → (us : List Sign)
     → ReadsProgram grammar.Prog us p (t ∷ ts)
-    → AsFormula grammar.Un (Begins m ∷ us) v rest
-end_completes Diamond p (Ends Diamond) ts rest v r us a =
-    made_formula (Begins Diamond ∷ us) rest (plain.Modal Diamond p r.0) v r.2 (modal Diamond a r.1)
-end_completes Square p (Ends Square) ts rest v r us a = made_formula (Begins Square ∷ us) rest (plain.Modal Square p r.0) v r.2 (modal Square a r.1)
-end_completes Diamond p (Ends Square) ts rest v r us a = absurd r
-end_completes Square p (Ends Diamond) ts rest v r us a = absurd r
+    → AsFormula grammar.Un (Added (Begins m) ∷ us) v rest
+end_completes Diamond p (Added (Ends Diamond)) ts rest v r us a =
+    made_formula (Added (Begins Diamond) ∷ us) rest (plain.Modal Diamond p r.0) v r.2 (modal Diamond a r.1)
+end_completes Square p (Added (Ends Square)) ts rest v r us a = made_formula (Added (Begins Square) ∷ us) rest (plain.Modal Square p r.0) v r.2 (modal Square a r.1)
+end_completes Diamond p (Added (Ends Square)) ts rest v r us a = absurd r
+end_completes Square p (Added (Ends Diamond)) ts rest v r us a = absurd r
 end_completes Diamond p _ ts rest v r us a = absurd r
 end_completes Square p _ ts rest v r us a = absurd r
 
@@ -270,19 +272,19 @@ sign_completes FormulaStart t ts rest v r = formula_completes t ts rest v r
 sign_completes ProgramStart t ts rest v r = program_completes t ts rest v r
 sign_completes (BehindBegin m) t ts rest v r = begin_completes m t ts rest v r
 sign_completes (BehindProgram m p) t ts rest v r = end_completes m p t ts rest v r
-sign_completes BehindRepeat (Open k) ts rest v r = r k
+sign_completes BehindRepeat (Added (Paren k)) ts rest v r = r k
 sign_completes BehindRepeat _ ts rest v r = absurd r
 sign_completes (BehindRepeatInside p) Close ts rest v r =
-    λ us k a. whole_formula (Repeats ∷ Open k ∷ us) ts rest (plain.Repeat p) v r (repetition k a)
+    λ us k a. whole_formula (Added Repeats ∷ Added (Paren k) ∷ us) ts rest (plain.Repeat p) v r (repetition k a)
 sign_completes (BehindRepeatInside p) _ ts rest v r = absurd r
-sign_completes (BehindFormulaInside h) Close ts rest v r = λ us k a. whole_formula (Open k ∷ us) ts rest h v r (group k a)
+sign_completes (BehindFormulaInside h) Close ts rest v r = λ us k a. whole_formula (Added (Paren k) ∷ us) ts rest h v r (group k a)
 sign_completes (BehindFormulaInside h) _ ts rest v r = absurd r
-sign_completes (BehindProgramInside p) Close ts rest v r = λ us a. whole_program (Open Unmarked ∷ us) ts rest p v r (program_group a)
+sign_completes (BehindProgramInside p) Close ts rest v r = λ us a. whole_program (Added (Paren Unmarked) ∷ us) ts rest p v r (program_group a)
 sign_completes (BehindProgramInside p) _ ts rest v r = absurd r
 sign_completes (BehindTestInside h) Close ts rest v r = (ap (λ us. Close ∷ us) r.0, r.1)
 sign_completes (BehindTestInside h) _ ts rest v r = absurd r
 sign_completes (BehindNegations n) t ts rest v r = test_completes n t ts rest v r
-sign_completes (BehindTested h) Question ts rest v r = (ap (λ us. Question ∷ us) r.1, r.0)
+sign_completes (BehindTested h) (Added Question) ts rest v r = (ap (λ us. Added Question ∷ us) r.1, r.0)
 sign_completes (BehindTested h) _ ts rest v r = absurd r
 
 -- ---- held operands
@@ -348,31 +350,31 @@ joined_back Formulas (Connective o) m ts rest v w is =
     let same : operator_level o ≡ m = cc in
     subst (λ n. Joined Formulas n (Connective o) ts v w rest) same (λ us a b. joined_formula o ts us rest v w a b)
 joined_back Formulas _ m ts rest v w is = absurd (cc)
-joined_back Programs Plus m ts rest v w is =
+joined_back Programs (Added Plus) m ts rest v w is =
     let same : 0 ≡ m = cc in
-    subst (λ n. Joined Programs n Plus ts v w rest) same
-    (λ us a b. alt (program_read grammar.Prog ts (Plus ∷ us) v a) (program_read grammar.Seq us rest w b))
-joined_back Programs Semicolon m ts rest v w is =
+    subst (λ n. Joined Programs n (Added Plus) ts v w rest) same
+    (λ us a b. alt (program_read grammar.Prog ts (Added Plus ∷ us) v a) (program_read grammar.Seq us rest w b))
+joined_back Programs (Added Semicolon) m ts rest v w is =
     let same : 1 ≡ m = cc in
-    subst (λ n. Joined Programs n Semicolon ts v w rest) same
-    (λ us a b. seq (program_read grammar.Seq ts (Semicolon ∷ us) v a) (program_read grammar.Star us rest w b))
+    subst (λ n. Joined Programs n (Added Semicolon) ts v w rest) same
+    (λ us a b. seq (program_read grammar.Seq ts (Added Semicolon ∷ us) v a) (program_read grammar.Star us rest w b))
 joined_back Programs _ m ts rest v w is = absurd (cc)
 
 star_back : (ts rest : List Sign) (v h : Phrase)
-    → post signs.Star v ≡ Some h
-    → AsProgram grammar.Star ts v (signs.Star ∷ rest)
+    → post (Added signs.Star) v ≡ Some h
+    → AsProgram grammar.Star ts v (Added signs.Star ∷ rest)
     → AsProgram grammar.Star ts h rest
 star_back ts rest v h makes r =
     let same : OfProgram (plain.Star (program_of v)) ≡ h = cc in
-    subst (λ x. AsProgram grammar.Star ts x rest) same (star (program_read grammar.Star ts (signs.Star ∷ rest) v r))
+    subst (λ x. AsProgram grammar.Star ts x rest) same (star (program_read grammar.Star ts (Added signs.Star ∷ rest) v r))
 
 question_back : (ts rest : List Sign) (v h : Phrase)
-    → post Question v ≡ Some h
-    → AsProgram grammar.Star ts v (Question ∷ rest)
+    → post (Added Question) v ≡ Some h
+    → AsProgram grammar.Star ts v (Added Question ∷ rest)
     → AsProgram grammar.Star ts h rest
 question_back ts rest (Name a) h makes r =
     let same : OfProgram (plain.Test (plain.Prop a)) ≡ h = cc in
-    let read_test : ReadsProgram grammar.Star (Lower a ∷ Question ∷ rest) (plain.Test (plain.Prop a)) rest =
+    let read_test : ReadsProgram grammar.Star (Lower a ∷ Added Question ∷ rest) (plain.Test (plain.Prop a)) rest =
     star_alone (test refl (tested_proposition a))
     in
     subst (λ x. AsProgram grammar.Star ts x rest) same (subst (λ us. ReadsProgram grammar.Star us (plain.Test (plain.Prop a)) rest) (sym r) read_test)
@@ -386,8 +388,8 @@ post_back : (s : Sort) (o : Sign) (ts rest : List Sign) (v h : Phrase)
     → AsOperand s ts h rest
 post_back Formulas (Connective o) ts rest v h is makes r = absurd (cc)
 post_back Formulas _ ts rest v h is makes r = absurd (cc)
-post_back Programs signs.Star ts rest v h is makes r = star_back ts rest v h makes r
-post_back Programs Question ts rest v h is makes r = question_back ts rest v h makes r
+post_back Programs (Added signs.Star) ts rest v h is makes r = star_back ts rest v h makes r
+post_back Programs (Added Question) ts rest v h is makes r = question_back ts rest v h makes r
 post_back Programs _ ts rest v h is makes r = absurd (cc)
 
 -- ---- all of it

@@ -20,8 +20,6 @@ pub mod MeaningFlags
 mod WorkedMeanings
 -- names are spelled as they must be
 pub mod Spelled
--- names in texts
-pub mod Names
 -- negations in front of tests
 pub mod Negations
 -- marks, told from bytes
@@ -36,8 +34,6 @@ pub mod Parsed
 pub mod OneAnswer
 -- the signs of a text are marked
 pub mod MarkedTexts
--- the signs that words are
-pub mod WordSigns
 -- canonical texts
 pub mod CanonicalTexts
 -- canonical texts pass no limit

@@ -14,7 +14,7 @@ use Rattle.std.proofs.lemmas.Bool.{cases_Bool, cond-true, cond-false, and_parts,
 use Rattle.std.proofs.lemmas.List.{drop_all, drop_more, get_or-set_same, get_or-set_other, length-set, reverse-append}
 use Rattle.std.proofs.lemmas.List.Sums.{list_all-from_AllPass}
 use Rattle.ml_text.specs.Bytes.{is_blank, is_word_byte}
-use Rattle.ml_text.specs.Words.{IsWordOf, constant_of, is_word_from}
+use Rattle.ml_text.specs.Words.{IsWordOf, constant_of}
 use Rattle.ml_text.specs.Tokens.{signs, front_token, tokens_at, tokens_from}
 use Rattle.ml_text.specs.Spelling.{IsSign, Spells}
 use Rattle.ml_text.specs.declared.token.Token.{Token}
@@ -22,55 +22,57 @@ use Rattle.ml_text.specs.declared.token.Token.TheVariants as token
 use Rattle.ml_text.specs.declared.token.WordStart.TheVariants.{AnyLetter}
 use Rattle.ml_text.specs.declared.token.Placed.{Placed}
 use Rattle.ml_text.proofs.ByteKinds.{letter-word_byte}
+use Rattle.ml_text.proofs.NamedSigns.{own_byte, own_word}
 use Rattle.ml_text.proofs.TableItems.{one_of}
 use Rattle.ml_text.proofs.Spelling.{spells_by, signs_all}
 use Rattle.ml_text.proofs.Longest.{front_token-longest}
 use Rattle.ml_text.proofs.Scan.{tokens_at-blank, tokens_at-token, tokens_at-end}
-use Rattle.ml_pdl.specs.Signs.{Sign, Open, Close, Question, sign_of, word_sign_by, name_sign, byte_sign}
-use Rattle.ml_pdl.specs.declared.signs.Mark.TheVariants.{Unmarked}
+use Rattle.ml_text.specs.Signs.{byte_sign, is_proposition, is_upper_word, name_sign, word_sign_by}
+use Rattle.ml_text.specs.declared.named_signs.Sign.TheVariants.{Close, Open, Added, Unknown}
+use Rattle.ml_pdl.specs.Signs.{Sign, own, sign_of}
+use Rattle.ml_pdl.specs.declared.signs.Own.TheVariants.{Question}
 use Rattle.ml_text.specs.Items.{bytes_of}
 use Rattle.ml_pdl.specs.Marks.{asks, is_test_behind, with_mark}
-use Rattle.ml_pdl.specs.Spelling.{is_proposition}
 use Rattle.ml_pdl.specs.Text.{sign_by, signs_behind}
 use Rattle.ml_pdl.specs.private.MarkTests.{asks_at, closes, test_at, told, Tells, AreMarks}
 
 -- ---- signs that say nothing of marks
 
 abbrev pub IsNeutral : Sign → Type 0
-IsNeutral (Open k) = ⊥
+IsNeutral Open = ⊥
 IsNeutral Close = ⊥
-IsNeutral Question = ⊥
+IsNeutral (Added Question) = ⊥
 IsNeutral _ = Unit {0}
 
 -- these may be `?`
 abbrev pub IsNoBracket : Sign → Type 0
-IsNoBracket (Open k) = ⊥
+IsNoBracket Open = ⊥
 IsNoBracket Close = ⊥
 IsNoBracket _ = Unit {0}
 
 pub weaker : (s : Sign) → IsNeutral s → IsNoBracket s
-weaker (Open k) is = is
+weaker Open is = is
 weaker Close is = is
-weaker Question is = tt
+weaker (Added Question) is = tt
 weaker _ is = tt
 
 pub neutral_test : (s : Sign) (n : ℕ) (ts : List Sign) → IsNoBracket s → is_test_behind n (s ∷ ts) ≡ is_test_behind n ts
-neutral_test (Open k) n ts is = absurd is
+neutral_test Open n ts is = absurd is
 neutral_test Close n ts is = absurd is
 neutral_test _ n ts is = refl
 
 neutral_asks : (s : Sign) (ts : List Sign) → IsNeutral s → asks (s ∷ ts) ≡ false
-neutral_asks (Open k) ts is = absurd is
+neutral_asks Open ts is = absurd is
 neutral_asks Close ts is = absurd is
-neutral_asks Question ts is = absurd is
+neutral_asks (Added Question) ts is = absurd is
 neutral_asks _ ts is = refl
 
-neutral_name : (w : List ℕ) → IsNeutral (name_sign w)
-neutral_name w = one_of IsNeutral (is_proposition w) _ _ tt (one_of IsNeutral (is_word_from Rattle.ml_text.specs.Bytes.is_upper w) _ _ tt tt)
+neutral_name : (w : List ℕ) → IsNeutral (name_sign own w)
+neutral_name w = one_of IsNeutral (is_proposition own w) _ _ tt (one_of IsNeutral (is_upper_word w) _ _ tt tt)
 
-pub neutral_word : (w : List ℕ) (o : Option Bool) → IsNeutral (word_sign_by o w)
+pub neutral_word : (w : List ℕ) (o : Option Bool) → IsNeutral (word_sign_by own o w)
 neutral_word w (Some b) = tt
-neutral_word w None = one_of IsNeutral (Rattle.std.specs.Prelude.bytes_eq w (Rattle.std.specs.Prelude.codes "repeat")) _ _ tt (neutral_name w)
+neutral_word w None = own_word IsNeutral own.words w (name_sign own w) (tt, tt) (neutral_name w)
 
 -- ---- bytes that say nothing of marks
 
@@ -156,29 +158,22 @@ quiet_agrees s ts m b rest neutral some no_blank is says = record {
 
 -- a sign that is a single byte
 byte_tests : (p q : Bool) (s : Sign) (n : ℕ) (ts : List Sign) (rest : List ℕ) → IsNoBracket s → Says ts rest
-    → is_test_behind n (cond p (Open Unmarked) (cond q Close s) ∷ ts)
+    → is_test_behind n (cond p Open (cond q Close s) ∷ ts)
     ≡ cond p (test_at (suc n) rest) (cond q (closes n (asks_at rest) (λ m. test_at m rest)) (test_at n rest))
 byte_tests true q s n ts rest is says = says.tests (suc n)
 byte_tests false true s zero ts rest is says = says.asked
 byte_tests false true s (suc n) ts rest is says = says.tests n
 byte_tests false false s n ts rest is says = neutral_test s n ts is ∙ says.tests n
 
-byte_asks : (b : ℕ) (ts : List Sign) → asks (byte_sign b ∷ ts) ≡ (b == 63)
+byte_asks : (b : ℕ) (ts : List Sign) → asks (byte_sign own b ∷ ts) ≡ (b == 63)
 byte_asks b ts =
     ⊎_elim
-    (λ (is : b == 63 ≡ true). ap (λ c. asks (byte_sign c ∷ ts)) (eqb-true b 63 is) ∙ sym is)
+    (λ (is : b == 63 ≡ true). ap (λ c. asks (byte_sign own c ∷ ts)) (eqb-true b 63 is) ∙ sym is)
     (λ (other : b == 63 ≡ false).
     one_of No (b == 40) _ _ refl
     (one_of No (b == 41) _ _ refl
-    (one_of No (b == 60) _ _ refl
-    (one_of No (b == 62) _ _ refl
-    (one_of No (b == 91) _ _ refl
-    (one_of No (b == 93) _ _ refl
-    (one_of No (b == 43) _ _ refl
-    (one_of No (b == 59) _ _ refl
-    (one_of No (b == 42) _ _ refl
-    (subst No (sym (cond-false (b == 63) Question _ other))
-    (one_of No (b == 95) _ _ refl refl))))))))))
+    (own_byte No own.bytes b Unknown
+    ((λ here. refl), ((λ here. refl), ((λ here. refl), ((λ here. refl), ((λ here. refl), ((λ here. refl), ((λ here. refl), ((λ here. absurd (false≢true (sym other ∙ here))), ((λ here. refl), tt))))))))) refl))
     ∙ sym other)
     (cases_Bool (b == 63))
   where
@@ -188,19 +183,11 @@ byte_asks b ts =
 byte_agrees : (b : ℕ) (ts : List Sign) (rest : List ℕ)
     → is_blank b ≡ false
     → Says ts rest
-    → Says (byte_sign b ∷ ts) (b ∷ rest)
+    → Says (byte_sign own b ∷ ts) (b ∷ rest)
 byte_agrees b ts rest no_blank says = record {
   tests = λ n.
       byte_tests (b == 40) (b == 41) _ n ts rest
-      (one_of IsNoBracket (b == 60) _ _ tt
-      (one_of IsNoBracket (b == 62) _ _ tt
-      (one_of IsNoBracket (b == 91) _ _ tt
-      (one_of IsNoBracket (b == 93) _ _ tt
-      (one_of IsNoBracket (b == 43) _ _ tt
-      (one_of IsNoBracket (b == 59) _ _ tt
-      (one_of IsNoBracket (b == 42) _ _ tt
-      (one_of IsNoBracket (b == 63) _ _ tt
-      (one_of IsNoBracket (b == 95) _ _ tt tt)))))))))
+      (own_byte IsNoBracket own.bytes b Unknown ((λ here. tt), ((λ here. tt), ((λ here. tt), ((λ here. tt), ((λ here. tt), ((λ here. tt), ((λ here. tt), ((λ here. tt), ((λ here. tt), tt))))))))) tt)
       says;
   asked = byte_asks b ts ∙ sym (cond-false (is_blank b) _ _ no_blank);
 }
@@ -250,7 +237,7 @@ token_agrees t bytes ts m b rest no_blank some fits spells says =
     no_blank (signs_quiet (take m (b ∷ rest)) u sign) says)
     (λ c byte.
     let one = one_byte m b c rest fits byte.alone in
-    subst (λ d. Says (byte_sign d ∷ ts) (b ∷ rest)) one.0 (byte_agrees b ts rest no_blank (subst (λ r. Says ts r) one.1 says)))
+    subst (λ d. Says (byte_sign own d ∷ ts) (b ∷ rest)) one.0 (byte_agrees b ts rest no_blank (subst (λ r. Says ts r) one.1 says)))
     t spells
 
 -- ---- all tokens
@@ -430,36 +417,27 @@ passed byte tests mark no_open no_close bytes tells = (
 -- ---- the mark of a token
 
 abbrev IsNoOpen : Sign → Type 0
-IsNoOpen (Open k) = ⊥
+IsNoOpen Open = ⊥
 IsNoOpen _ = Unit {0}
 
 neutral_open : (s : Sign) → IsNeutral s → IsNoOpen s
-neutral_open (Open k) is = is
+neutral_open Open is = is
 neutral_open Close is = tt
-neutral_open Question is = tt
+neutral_open (Added Question) is = tt
 neutral_open _ is = tt
 
 unmarked : (a b : Bool) (s : Sign) → IsNoOpen s → with_mark a s ≡ with_mark b s
-unmarked a b (Open k) is = absurd is
+unmarked a b Open is = absurd is
 unmarked a b _ is = refl
 
-byte_mark : (a b : Bool) (c : ℕ) → (c ≡ 40 → a ≡ b) → with_mark a (byte_sign c) ≡ with_mark b (byte_sign c)
+byte_mark : (a b : Bool) (c : ℕ) → (c ≡ 40 → a ≡ b) → with_mark a (byte_sign own c) ≡ with_mark b (byte_sign own c)
 byte_mark a b c same =
     ⊎_elim
-    (λ (is : c == 40 ≡ true). ap (λ m. with_mark m (byte_sign c)) (same (eqb-true c 40 is)))
+    (λ (is : c == 40 ≡ true). ap (λ m. with_mark m (byte_sign own c)) (same (eqb-true c 40 is)))
     (λ (other : c == 40 ≡ false).
-    unmarked a b (byte_sign c)
-    (subst IsNoOpen (sym (cond-false (c == 40) (Open Unmarked) _ other))
-    (one_of IsNoOpen (c == 41) _ _ tt
-    (one_of IsNoOpen (c == 60) _ _ tt
-    (one_of IsNoOpen (c == 62) _ _ tt
-    (one_of IsNoOpen (c == 91) _ _ tt
-    (one_of IsNoOpen (c == 93) _ _ tt
-    (one_of IsNoOpen (c == 43) _ _ tt
-    (one_of IsNoOpen (c == 59) _ _ tt
-    (one_of IsNoOpen (c == 42) _ _ tt
-    (one_of IsNoOpen (c == 63) _ _ tt
-    (one_of IsNoOpen (c == 95) _ _ tt tt))))))))))))
+    unmarked a b (byte_sign own c)
+    (subst IsNoOpen (sym (cond-false (c == 40) Open _ other))
+    (one_of IsNoOpen (c == 41) _ _ tt (own_byte IsNoOpen own.bytes c Unknown ((λ here. tt), ((λ here. tt), ((λ here. tt), ((λ here. tt), ((λ here. tt), ((λ here. tt), ((λ here. tt), ((λ here. tt), ((λ here. tt), tt))))))))) tt))))
     (cases_Bool (c == 40))
 
 -- a token has a byte

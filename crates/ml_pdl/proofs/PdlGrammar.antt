@@ -11,7 +11,9 @@ use Rattle.ml_text.proofs.Complete.{one_tree}
 use Rattle.ml_pdl.specs.Formula as plain
 use Rattle.ml_pdl.specs.Formula.{Formula, Program}
 use Rattle.ml_pdl.specs.declared.term.Modality.{Modality}
-use Rattle.ml_pdl.specs.Signs.{Sign, Not, Const, Open, Close, Ends, Question, Blank}
+use Rattle.ml_text.specs.declared.named_signs.Sign.TheVariants.{Not, Const, Close, Added}
+use Rattle.ml_pdl.specs.Signs.{Sign}
+use Rattle.ml_pdl.specs.declared.signs.Own.TheVariants.{Begins, Blank, Ends, Paren, Question, Repeats}
 use Rattle.ml_pdl.specs.declared.signs.Mark.TheVariants.{Marked, Unmarked}
 use Rattle.ml_pdl.specs.Grammar as grammar
 use Rattle.ml_pdl.specs.Grammar.{IsReadAs}
@@ -24,9 +26,15 @@ use Rattle.ml_pdl.proofs.FromTables.{AsFormula, untabled}
 
 never_opens : (s : Sort) (t : Sign) (k : Hold) → shift (start s) t ≡ Some (Opens k) → ⊥
 never_opens Formulas Not k is = cc
+never_opens Formulas (Added (Paren m)) k is = cc
+never_opens Formulas (Added (Begins m)) k is = cc
+never_opens Formulas (Added Repeats) k is = cc
+never_opens Formulas (Added _) k is = cc
 never_opens Formulas _ k is = cc
-never_opens Programs (Open Marked) k is = cc
-never_opens Programs (Open Unmarked) k is = cc
+never_opens Programs (Added (Paren Marked)) k is = cc
+never_opens Programs (Added (Paren Unmarked)) k is = cc
+never_opens Programs (Added Blank) k is = cc
+never_opens Programs (Added _) k is = cc
 never_opens Programs _ k is = cc
 
 pub pdl_regular : IsRegular pdl_grammar
@@ -41,30 +49,30 @@ modal_true : (t : Sign) (m : Modality) (p : Program) (rest : List Sign)
 modal_true t m p rest = modal_read m p (read_true rest)
 
 test_end : (f : Formula) (rest : List Sign)
-    → Tabled (Rest (More (BehindTested f))) (Question ∷ rest) (OfProgram (plain.Test f)) rest
+    → Tabled (Rest (More (BehindTested f))) (Added Question ∷ rest) (OfProgram (plain.Test f)) rest
 test_end f rest = sign (read whole)
 
 -- `_)` ends a repetition
-read_blank : (rest : List Sign) → Tabled (Operand Programs) (Blank ∷ rest) (OfProgram blank) rest
+read_blank : (rest : List Sign) → Tabled (Operand Programs) (Added Blank ∷ rest) (OfProgram blank) rest
 read_blank rest = form (sign (read whole))
 
 ending : (q : Wait) → Ending pdl_grammar q
 ending FormulaStart = record { signs = Const true ∷ []; tree = OfFormula (plain.Const true); reads = λ rest stop. sign (read whole) }
-ending ProgramStart = record { signs = Blank ∷ []; tree = OfProgram blank; reads = λ rest stop. sign (read whole) }
+ending ProgramStart = record { signs = Added Blank ∷ []; tree = OfProgram blank; reads = λ rest stop. sign (read whole) }
 ending (BehindBegin m) =
     record {
-      signs = Ends m ∷ Const true ∷ [];
+      signs = Added (Ends m) ∷ Const true ∷ [];
       tree = OfFormula (plain.Modal m blank (plain.Const true));
-      reads = λ rest stop. sign_by (Some (Inner (Modal m blank))) (begin_end m) (modal_true (Ends m) m blank rest);
+      reads = λ rest stop. sign_by (Some (Inner (Modal m blank))) (begin_end m) (modal_true (Added (Ends m)) m blank rest);
     }
 ending (BehindProgram m p) =
     record {
-      signs = Ends m ∷ Const true ∷ [];
+      signs = Added (Ends m) ∷ Const true ∷ [];
       tree = OfFormula (plain.Modal m p (plain.Const true));
-      reads = λ rest stop. sign_by (Some (Inner (Modal m p))) (program_end m p) (modal_true (Ends m) m p rest);
+      reads = λ rest stop. sign_by (Some (Inner (Modal m p))) (program_end m p) (modal_true (Added (Ends m)) m p rest);
     }
 ending BehindRepeat = record {
-  signs = Open Unmarked ∷ Blank ∷ Close ∷ [];
+  signs = Added (Paren Unmarked) ∷ Added Blank ∷ Close ∷ [];
   tree = OfFormula (plain.Repeat blank);
   reads = λ rest stop. sign (inner (alone (read_blank (Close ∷ rest))) refl (sign (read whole)));
 }
@@ -73,23 +81,23 @@ ending (BehindFormulaInside f) = record { signs = Close ∷ []; tree = OfFormula
 ending (BehindProgramInside p) = record { signs = Close ∷ []; tree = OfProgram p; reads = λ rest stop. sign (read whole) }
 ending (BehindTestInside f) =
     record {
-      signs = Close ∷ Question ∷ [];
+      signs = Close ∷ Added Question ∷ [];
       tree = OfProgram (plain.Test f);
       reads = λ rest stop. sign (read (test_end f rest));
     }
 ending (BehindNegations n) =
     record {
-      signs = Const true ∷ Question ∷ [];
+      signs = Const true ∷ Added Question ∷ [];
       tree = OfProgram (plain.Test (negated n (plain.Const true)));
       reads = λ rest stop. sign (read (test_end (negated n (plain.Const true)) rest));
     }
-ending (BehindTested f) = record { signs = Question ∷ []; tree = OfProgram (plain.Test f); reads = λ rest stop. test_end f rest }
+ending (BehindTested f) = record { signs = Added Question ∷ []; tree = OfProgram (plain.Test f); reads = λ rest stop. test_end f rest }
 
 stop_close : (rest : List Sign) → IsStop pdl_grammar (Some Close)
 stop_close rest Formulas l = refl
 stop_close rest Programs l = refl
 
-stop_end : (m : Modality) → IsStop pdl_grammar (Some (Ends m))
+stop_end : (m : Modality) → IsStop pdl_grammar (Some (Added (Ends m)))
 stop_end m Formulas l = refl
 stop_end m Programs l = refl
 

@@ -16,8 +16,10 @@ use Rattle.ml_pdl.specs.Formula as plain
 use Rattle.ml_pdl.specs.Formula.{Formula, Program}
 use Rattle.ml_pdl.specs.declared.term.Modality.{Modality}
 use Rattle.ml_pdl.specs.declared.term.Modality.TheVariants.{Diamond, Square}
-use Rattle.ml_pdl.specs.Signs as signs
-use Rattle.ml_pdl.specs.Signs.{Sign, Not, Connective, Const, Open, Close, Begins, Ends, Repeats, Plus, Semicolon, Question, Blank, Lower, Upper, action_of}
+use Rattle.ml_pdl.specs.declared.signs.Own.TheVariants as signs
+use Rattle.ml_text.specs.declared.named_signs.Sign.TheVariants.{Connective, Close, Lower, Upper, Added}
+use Rattle.ml_pdl.specs.Signs.{Sign, action_of}
+use Rattle.ml_pdl.specs.declared.signs.Own.TheVariants.{Begins, Ends, Repeats, Plus, Semicolon, Question, Blank, Paren}
 use Rattle.ml_pdl.specs.declared.signs.Mark.{Mark}
 use Rattle.ml_pdl.specs.declared.signs.Mark.TheVariants.{Marked, Unmarked}
 use Rattle.ml_pdl.specs.Grammar as grammar
@@ -71,11 +73,11 @@ pub sign_by : {q : Wait} {t : Sign} {ts rest : List Sign} {v : Phrase} (turn : O
     → Tabled (Rest (More q)) (t ∷ ts) v rest
 sign_by {q} {t} {ts} {rest} {v} turn is r = sign (subst (λ x. Tabled (Behind t x) ts v rest) (sym is) r)
 
-pub begin_end : (m : Modality) → shift (BehindBegin m) (Ends m) ≡ Some (Inner (Modal m blank))
+pub begin_end : (m : Modality) → shift (BehindBegin m) (Added (Ends m)) ≡ Some (Inner (Modal m blank))
 begin_end Diamond = refl
 begin_end Square = refl
 
-pub program_end : (m : Modality) (p : Program) → shift (BehindProgram m p) (Ends m) ≡ Some (Inner (Modal m p))
+pub program_end : (m : Modality) (p : Program) → shift (BehindProgram m p) (Added (Ends m)) ≡ Some (Inner (Modal m p))
 program_end Diamond p = refl
 program_end Square p = refl
 
@@ -83,8 +85,8 @@ program_end Square p = refl
 begin_program : (m : Modality) (t : Sign)
     → (shift_program t ≡ None → ⊥)
     → shift (BehindBegin m) t ≡ Some (Opens (ModalProgram m))
-begin_program Diamond (Ends n) goes = absurd (goes refl)
-begin_program Square (Ends n) goes = absurd (goes refl)
+begin_program Diamond (Added (Ends n)) goes = absurd (goes refl)
+begin_program Square (Added (Ends n)) goes = absurd (goes refl)
 begin_program Diamond _ goes = refl
 begin_program Square _ goes = refl
 
@@ -97,26 +99,26 @@ modal_read {rest = rest} m p r = inner (alone r) (tight (front rest)) whole
 program_read : {ts rest : List Sign} {f : Formula} (m : Modality) (p q : Program)
     → p ≡ q
     → Tabled (Operand Formulas) ts (OfFormula f) rest
-    → Tabled (Rest (More (BehindProgram m p))) (Ends m ∷ ts) (OfFormula (plain.Modal m q f)) rest
+    → Tabled (Rest (More (BehindProgram m p))) (Added (Ends m) ∷ ts) (OfFormula (plain.Modal m q f)) rest
 program_read {ts} {rest} {f} m p q same r =
-    subst (λ x. Tabled (Rest (More (BehindProgram m p))) (Ends m ∷ ts) (OfFormula (plain.Modal m x f)) rest) same
+    subst (λ x. Tabled (Rest (More (BehindProgram m p))) (Added (Ends m) ∷ ts) (OfFormula (plain.Modal m x f)) rest) same
     (sign_by (Some (Inner (Modal m p))) (program_end m p) (modal_read m p r))
 
-stop_end : (m : Modality) → takes pdl_grammar Programs 0 (Some (Ends m)) ≡ false
+stop_end : (m : Modality) → takes pdl_grammar Programs 0 (Some (Added (Ends m))) ≡ false
 stop_end m = refl
 
 opened : (m : Modality) (ts us rest : List Sign) (v w : Phrase)
-    → Tabled (Level Programs 0) ts v (Ends m ∷ us)
+    → Tabled (Level Programs 0) ts v (Added (Ends m) ∷ us)
     → BeginsWith pdl_grammar Wait.ProgramStart ts
-    → Tabled (Rest (More (BehindProgram m (program_of v)))) (Ends m ∷ us) w rest
+    → Tabled (Rest (More (BehindProgram m (program_of v)))) (Added (Ends m) ∷ us) w rest
     → Tabled (Rest (More (BehindBegin m))) ts w rest
 opened m [] us rest v w r begins later = absurd begins
 opened m (t ∷ ts) us rest v w r begins later = sign_by (Some (Opens (ModalProgram m))) (begin_program m t begins) (opens r (stop_end m) later)
 
 modal_tabled : {ts us rest : List Sign} {p : Program} {f : Formula} (m : Modality)
-    → TabledProgram (Level Programs 0) ts p (Ends m ∷ us)
+    → TabledProgram (Level Programs 0) ts p (Added (Ends m) ∷ us)
     → Tabled (Operand Formulas) us (OfFormula f) rest
-    → Tabled (Operand Formulas) (Begins m ∷ ts) (OfFormula (plain.Modal m p f)) rest
+    → Tabled (Operand Formulas) (Added (Begins m) ∷ ts) (OfFormula (plain.Modal m p f)) rest
 modal_tabled {ts} {us} {rest} {p} {f} m a b =
     form
     (sign
@@ -133,41 +135,41 @@ program_loosened : {l : ℕ} {ts rest : List Sign} {p : Program} (k : ℕ)
 program_loosened k le a = (a.0, loosen pdl_grammar k le a.1, a.2)
 
 alt_tabled : {ts us rest : List Sign} {p q : Program}
-    → TabledProgram (Level Programs 0) ts p (Plus ∷ us)
+    → TabledProgram (Level Programs 0) ts p (Added Plus ∷ us)
     → TabledProgram (Level Programs 1) us q rest
     → TabledProgram (Level Programs 0) ts (plain.Alt p q) rest
 alt_tabled {p = p} a b = (
   OfProgram (plain.Alt (program_of a.0) (program_of b.0)),
-  joined Plus 0 refl (omega arith) a.1 b.1,
+  joined (Added Plus) 0 refl (omega arith) a.1 b.1,
   ap (λ x. plain.Alt x (program_of b.0)) a.2 ∙ ap (plain.Alt p) b.2,
 )
 
 seq_tabled : {ts us rest : List Sign} {p q : Program}
-    → TabledProgram (Level Programs 1) ts p (Semicolon ∷ us)
+    → TabledProgram (Level Programs 1) ts p (Added Semicolon ∷ us)
     → TabledProgram (Operand Programs) us q rest
     → TabledProgram (Level Programs 1) ts (plain.Seq p q) rest
 seq_tabled {p = p} a b = (
   OfProgram (plain.Seq (program_of a.0) (program_of b.0)),
-  joined Semicolon 1 refl (omega arith) a.1 (alone b.1),
+  joined (Added Semicolon) 1 refl (omega arith) a.1 (alone b.1),
   ap (λ x. plain.Seq x (program_of b.0)) a.2 ∙ ap (plain.Seq p) b.2,
 )
 
 star_tabled : {ts rest : List Sign} {p : Program}
-    → TabledProgram (Operand Programs) ts p (signs.Star ∷ rest)
+    → TabledProgram (Operand Programs) ts p (Added signs.Star ∷ rest)
     → TabledProgram (Operand Programs) ts (plain.Star p) rest
-star_tabled a = (OfProgram (plain.Star (program_of a.0)), postfixed signs.Star refl refl a.1, ap plain.Star a.2)
+star_tabled a = (OfProgram (plain.Star (program_of a.0)), postfixed (Added signs.Star) refl refl a.1, ap plain.Star a.2)
 
 action_tabled : {rest : List Sign} (a : List ℕ) (s : Sign)
     → action_of s ≡ Some a
     → TabledProgram (Operand Programs) (s ∷ rest) (plain.Act a) rest
-action_tabled a Blank is = let same : codes "_" ≡ a = cc in (OfProgram blank, form (sign (read whole)), ap plain.Act same)
+action_tabled a (Added Blank) is = let same : codes "_" ≡ a = cc in (OfProgram blank, form (sign (read whole)), ap plain.Act same)
 action_tabled a (Lower b) is = let same : b ≡ a = cc in (Name b, form (sign (read whole)), ap plain.Act same)
 action_tabled a (Upper b) is = let same : b ≡ a = cc in (OfProgram (plain.Act b), form (sign (read whole)), ap plain.Act same)
 action_tabled a _ is = absurd (cc)
 
 program_group_tabled : {ts rest : List Sign} {p : Program}
     → TabledProgram (Level Programs 0) ts p (Close ∷ rest)
-    → TabledProgram (Operand Programs) (Open Unmarked ∷ ts) p rest
+    → TabledProgram (Operand Programs) (Added (Paren Unmarked) ∷ ts) p rest
 program_group_tabled a = (OfProgram (program_of a.0), form (sign (inner a.1 refl (sign (read whole)))), a.2)
 
 -- the test of f, read by the form of tests
@@ -177,21 +179,21 @@ test_tabled : {ts rest : List Sign} {f : Formula}
 test_tabled {f = f} r = (OfProgram (plain.Test f), r, refl)
 
 question_read : {rest : List Sign} (f : Formula)
-    → Tabled (Rest (More (BehindTested f))) (Question ∷ rest) (OfProgram (plain.Test f)) rest
+    → Tabled (Rest (More (BehindTested f))) (Added Question ∷ rest) (OfProgram (plain.Test f)) rest
 question_read f = sign (read whole)
 
 group_test : {ts rest : List Sign} {f : Formula} (k : Mark)
-    → opens_program (Open k ∷ ts) ≡ false
-    → Tabled (Level Formulas 0) ts (OfFormula f) (Close ∷ Question ∷ rest)
-    → TabledProgram (Operand Programs) (Open k ∷ ts) (plain.Test f) rest
+    → opens_program (Added (Paren k) ∷ ts) ≡ false
+    → Tabled (Level Formulas 0) ts (OfFormula f) (Close ∷ Added Question ∷ rest)
+    → TabledProgram (Operand Programs) (Added (Paren k) ∷ ts) (plain.Test f) rest
 group_test {f = f} Marked e r = test_tabled (form (sign (inner r refl (sign (read (question_read f))))))
 group_test Unmarked e r = absurd (cc)
 
 repeat_tabled : {ts rest : List Sign} {p : Program} (k : Mark)
     → TabledProgram (Level Programs 0) ts p (Close ∷ rest)
-    → Tabled (Operand Formulas) (Repeats ∷ Open k ∷ ts) (OfFormula (plain.Repeat p)) rest
+    → Tabled (Operand Formulas) (Added Repeats ∷ Added (Paren k) ∷ ts) (OfFormula (plain.Repeat p)) rest
 repeat_tabled {ts} {rest} {p} k a =
-    subst (λ x. Tabled (Operand Formulas) (Repeats ∷ Open k ∷ ts) (OfFormula (plain.Repeat x)) rest) a.2
+    subst (λ x. Tabled (Operand Formulas) (Added Repeats ∷ Added (Paren k) ∷ ts) (OfFormula (plain.Repeat x)) rest) a.2
     (form (sign (read (sign (inner a.1 refl (sign (read whole)))))))
 
 -- ---- all of it
@@ -230,7 +232,7 @@ mutual
       test_tabled
       (form (sign (read (tabled_tested r 1 (OfProgram (plain.Test (plain.Not f))) rest (question_read (plain.Not f))))))
   tabled_program (test e (tested_constant b)) = test_tabled (form (sign (read (question_read (plain.Const b)))))
-  tabled_program (test e (tested_proposition p)) = test_tabled (postfixed Question refl refl (form (sign (read whole))))
+  tabled_program (test e (tested_proposition p)) = test_tabled (postfixed (Added Question) refl refl (form (sign (read whole))))
   tabled_program (test e (tested_group k r)) = group_test k e (tabled r)
   tabled_program (program_group r) = program_group_tabled (tabled_program r)
 

@@ -17,8 +17,9 @@ use Rattle.ml_text.specs.private.Reading.{Outcome, Found, Refused, text_outcome}
 use Rattle.ml_pdl.specs.Formula as plain
 use Rattle.ml_pdl.specs.Formula.{Formula}
 use Rattle.ml_pdl.specs.declared.term.Modality.TheVariants.{Diamond, Square}
-use Rattle.ml_pdl.specs.Signs.{Sign, Not, Connective, Const, Open, Close, Begins, Ends, Plus, Semicolon, Star, Question, Blank, Lower, Upper}
-use Rattle.ml_pdl.specs.declared.signs.Mark.TheVariants.{Unmarked}
+use Rattle.ml_text.specs.declared.named_signs.Sign.TheVariants.{Open, Not, Connective, Const, Close, Lower, Upper, Added}
+use Rattle.ml_pdl.specs.Signs.{Sign}
+use Rattle.ml_pdl.specs.declared.signs.Own.TheVariants.{Begins, Ends, Plus, Semicolon, Star, Question, Blank}
 use Rattle.ml_pdl.specs.Marks.{marked}
 use Rattle.ml_pdl.specs.Tables.{Phrase, OfFormula, pdl_grammar}
 
@@ -46,55 +47,55 @@ abbrev act : plain.Program
 act = plain.Act (codes "p")
 
 abbrev open_ : Sign
-open_ = Open Unmarked
+open_ = Open
 
 abbrev lt : Sign
-lt = Begins Diamond
+lt = Added (Begins Diamond)
 
 abbrev gt : Sign
-gt = Ends Diamond
+gt = Added (Ends Diamond)
 
 -- refused at these signs: <(tt)>p at 3,  <(!p)>p at 4,  <(p;p)?>p at 3,  <(p&p)>p at 3,  <!(p)>p at 5
 groups_in_programs : (is_refused (lt ∷ open_ ∷ Const true ∷ Close ∷ gt ∷ name ∷ []) 3)
     × (is_refused (lt ∷ open_ ∷ Not ∷ name ∷ Close ∷ gt ∷ name ∷ []) 4)
-    × (is_refused (lt ∷ open_ ∷ name ∷ Semicolon ∷ name ∷ Close ∷ Question ∷ gt ∷ name ∷ []) 3)
+    × (is_refused (lt ∷ open_ ∷ name ∷ Added Semicolon ∷ name ∷ Close ∷ Added Question ∷ gt ∷ name ∷ []) 3)
     × (is_refused (lt ∷ open_ ∷ name ∷ Connective And ∷ name ∷ Close ∷ gt ∷ name ∷ []) 3)
     × (is_refused (lt ∷ Not ∷ open_ ∷ name ∷ Close ∷ gt ∷ name ∷ []) 5)
 groups_in_programs = (refl, refl, refl, refl, refl)
 
 -- refused: <p?p>p at 3,  <A?>p at 2,  <tt>p at 2,  <!p;p>p at 3,  <!_?>p at 2,  p? at 1,  <p*?>p at 3
-tests_without_groups : (is_refused (lt ∷ name ∷ Question ∷ name ∷ gt ∷ name ∷ []) 3)
-    × (is_refused (lt ∷ Upper (codes "A") ∷ Question ∷ gt ∷ name ∷ []) 2)
+tests_without_groups : (is_refused (lt ∷ name ∷ Added Question ∷ name ∷ gt ∷ name ∷ []) 3)
+    × (is_refused (lt ∷ Upper (codes "A") ∷ Added Question ∷ gt ∷ name ∷ []) 2)
     × (is_refused (lt ∷ Const true ∷ gt ∷ name ∷ []) 2)
-    × (is_refused (lt ∷ Not ∷ name ∷ Semicolon ∷ name ∷ gt ∷ name ∷ []) 3)
-    × (is_refused (lt ∷ Not ∷ Blank ∷ Question ∷ gt ∷ name ∷ []) 2)
-    × (is_refused (name ∷ Question ∷ []) 1)
-    × (is_refused (lt ∷ name ∷ Star ∷ Question ∷ gt ∷ name ∷ []) 3)
+    × (is_refused (lt ∷ Not ∷ name ∷ Added Semicolon ∷ name ∷ gt ∷ name ∷ []) 3)
+    × (is_refused (lt ∷ Not ∷ Added Blank ∷ Added Question ∷ gt ∷ name ∷ []) 2)
+    × (is_refused (name ∷ Added Question ∷ []) 1)
+    × (is_refused (lt ∷ name ∷ Added Star ∷ Added Question ∷ gt ∷ name ∷ []) 3)
 tests_without_groups = (refl, refl, refl, refl, refl, refl, refl)
 
 -- refused: (p)? at 3,  <((p)?)?>p at 5
-groups_elsewhere : (is_refused (open_ ∷ name ∷ Close ∷ Question ∷ []) 3)
-    × (is_refused (lt ∷ open_ ∷ open_ ∷ name ∷ Close ∷ Question ∷ Close ∷ Question ∷ gt ∷ name ∷ []) 5)
+groups_elsewhere : (is_refused (open_ ∷ name ∷ Close ∷ Added Question ∷ []) 3)
+    × (is_refused (lt ∷ open_ ∷ open_ ∷ name ∷ Close ∷ Added Question ∷ Close ∷ Added Question ∷ gt ∷ name ∷ []) 5)
 groups_elsewhere = (refl, refl)
 
 -- refused: <(p at 3,  <(p)? at 5,  <> at 2,  [ at 1,  the empty text at 0,  <p]p at 2
 ends : (is_refused (lt ∷ open_ ∷ name ∷ []) 3)
-    × (is_refused (lt ∷ open_ ∷ name ∷ Close ∷ Question ∷ []) 5)
+    × (is_refused (lt ∷ open_ ∷ name ∷ Close ∷ Added Question ∷ []) 5)
     × (is_refused (lt ∷ gt ∷ []) 2)
-    × (is_refused (Begins Square ∷ []) 1)
+    × (is_refused (Added (Begins Square) ∷ []) 1)
     × (is_refused [] 0)
-    × (is_refused (lt ∷ name ∷ Ends Square ∷ name ∷ []) 2)
+    × (is_refused (lt ∷ name ∷ Added (Ends Square) ∷ name ∷ []) 2)
 ends = (refl, refl, refl, refl, refl, refl)
 
 -- <(p&p)?>p,  <((p)?)*>p,  <(p)>p,  []p,  <p?*;p+_>p,  <!!tt?>p
-accepted : (stands_for (lt ∷ open_ ∷ name ∷ Connective And ∷ name ∷ Close ∷ Question ∷ gt ∷ name ∷ [])
+accepted : (stands_for (lt ∷ open_ ∷ name ∷ Connective And ∷ name ∷ Close ∷ Added Question ∷ gt ∷ name ∷ [])
     (plain.Modal Diamond (plain.Test (plain.Binary And prop prop)) prop))
-    × (stands_for (lt ∷ open_ ∷ open_ ∷ name ∷ Close ∷ Question ∷ Close ∷ Star ∷ gt ∷ name ∷ [])
+    × (stands_for (lt ∷ open_ ∷ open_ ∷ name ∷ Close ∷ Added Question ∷ Close ∷ Added Star ∷ gt ∷ name ∷ [])
     (plain.Modal Diamond (plain.Star (plain.Test prop)) prop))
     × (stands_for (lt ∷ open_ ∷ name ∷ Close ∷ gt ∷ name ∷ []) (plain.Modal Diamond act prop))
-    × (stands_for (Begins Square ∷ Ends Square ∷ name ∷ []) (plain.Modal Square (plain.Act (codes "_")) prop))
-    × (stands_for (lt ∷ name ∷ Question ∷ Star ∷ Semicolon ∷ name ∷ Plus ∷ Blank ∷ gt ∷ name ∷ [])
+    × (stands_for (Added (Begins Square) ∷ Added (Ends Square) ∷ name ∷ []) (plain.Modal Square (plain.Act (codes "_")) prop))
+    × (stands_for (lt ∷ name ∷ Added Question ∷ Added Star ∷ Added Semicolon ∷ name ∷ Added Plus ∷ Added Blank ∷ gt ∷ name ∷ [])
     (plain.Modal Diamond (plain.Alt (plain.Seq (plain.Star (plain.Test prop)) act) (plain.Act (codes "_"))) prop))
-    × (stands_for (lt ∷ Not ∷ Not ∷ Const true ∷ Question ∷ gt ∷ name ∷ [])
+    × (stands_for (lt ∷ Not ∷ Not ∷ Const true ∷ Added Question ∷ gt ∷ name ∷ [])
     (plain.Modal Diamond (plain.Test (plain.Not (plain.Not (plain.Const true)))) prop))
 accepted = (refl, refl, refl, refl, refl, refl)

@@ -26,8 +26,10 @@ use Rattle.ml_text.specs.declared.token.Operator.TheVariants as operator
 use Rattle.ml_pdl.specs.Formula as plain
 use Rattle.ml_pdl.specs.Formula.{Formula, Program}
 use Rattle.ml_pdl.specs.declared.term.Modality.{Modality}
-use Rattle.ml_pdl.specs.Signs as sign
-use Rattle.ml_pdl.specs.Signs.{Sign, Not, Connective, Const, Open, Close, Begins, Ends, Repeats, Plus, Semicolon, Question, Lower, action_of}
+use Rattle.ml_pdl.specs.declared.signs.Own.TheVariants as sign
+use Rattle.ml_text.specs.declared.named_signs.Sign.TheVariants.{Not, Connective, Const, Close, Lower, Added}
+use Rattle.ml_pdl.specs.Signs.{Sign, action_of}
+use Rattle.ml_pdl.specs.declared.signs.Own.TheVariants.{Begins, Ends, Repeats, Plus, Semicolon, Question, Paren}
 use Rattle.ml_pdl.specs.declared.signs.Mark.{Mark}
 use Rattle.ml_pdl.specs.declared.signs.Mark.TheVariants.{Unmarked}
 
@@ -38,7 +40,7 @@ pub data ProgramLevel : Type 0 where
   Prog Seq Star Base : ProgramLevel
 
 abbrev pub opens_program : List Sign → Bool
-opens_program (Open Unmarked ∷ ts) = true
+opens_program (Added (Paren Unmarked) ∷ ts) = true
 opens_program _ = false
 
 mutual
@@ -58,12 +60,12 @@ mutual
     -- NOT un
     negation : {ts rest : List Sign} {f : Formula} → Reads Un ts f rest → Reads Un (Not ∷ ts) (plain.Not f) rest
     -- "<" prog ">" un, "[" prog "]" un, and both without the program
-    modal : {ts us rest : List Sign} {p : Program} {f : Formula} (m : Modality) → ReadsProgram Prog ts p (Ends m ∷ us) → Reads Un us f rest → Reads Un (Begins m ∷ ts) (plain.Modal m p f) rest
-    modal_blank : {ts rest : List Sign} {f : Formula} (m : Modality) → Reads Un ts f rest → Reads Un (Begins m ∷ Ends m ∷ ts) (plain.Modal m (plain.Act (codes "_")) f) rest
+    modal : {ts us rest : List Sign} {p : Program} {f : Formula} (m : Modality) → ReadsProgram Prog ts p (Added (Ends m) ∷ us) → Reads Un us f rest → Reads Un (Added (Begins m) ∷ ts) (plain.Modal m p f) rest
+    modal_blank : {ts rest : List Sign} {f : Formula} (m : Modality) → Reads Un ts f rest → Reads Un (Added (Begins m) ∷ Added (Ends m) ∷ ts) (plain.Modal m (plain.Act (codes "_")) f) rest
     -- "repeat" "(" prog ")"
-    repetition : {ts rest : List Sign} {p : Program} (k : Mark) → ReadsProgram Prog ts p (Close ∷ rest) → Reads Un (Repeats ∷ Open k ∷ ts) (plain.Repeat p) rest
+    repetition : {ts rest : List Sign} {p : Program} (k : Mark) → ReadsProgram Prog ts p (Close ∷ rest) → Reads Un (Added Repeats ∷ Added (Paren k) ∷ ts) (plain.Repeat p) rest
     -- "(" iff ")"
-    group : {ts rest : List Sign} {f : Formula} (k : Mark) → Reads Iff ts f (Close ∷ rest) → Reads Un (Open k ∷ ts) f rest
+    group : {ts rest : List Sign} {f : Formula} (k : Mark) → Reads Iff ts f (Close ∷ rest) → Reads Un (Added (Paren k) ∷ ts) f rest
     -- TT, FF, PROP
     constant : {rest : List Sign} (b : Bool) → Reads Un (Const b ∷ rest) (plain.Const b) rest
     proposition : {rest : List Sign} (p : List ℕ) → Reads Un (Lower p ∷ rest) (plain.Prop p) rest
@@ -71,19 +73,19 @@ mutual
   pub data ReadsProgram : ProgramLevel → List Sign → Program → List Sign → Type 0 where
     -- prog = seq { "+" seq }
     alt_alone : {ts rest : List Sign} {p : Program} → ReadsProgram Seq ts p rest → ReadsProgram Prog ts p rest
-    alt : {ts us rest : List Sign} {p q : Program} → ReadsProgram Prog ts p (Plus ∷ us) → ReadsProgram Seq us q rest → ReadsProgram Prog ts (plain.Alt p q) rest
+    alt : {ts us rest : List Sign} {p q : Program} → ReadsProgram Prog ts p (Added Plus ∷ us) → ReadsProgram Seq us q rest → ReadsProgram Prog ts (plain.Alt p q) rest
     -- seq = star { ";" star }
     seq_alone : {ts rest : List Sign} {p : Program} → ReadsProgram Star ts p rest → ReadsProgram Seq ts p rest
-    seq : {ts us rest : List Sign} {p q : Program} → ReadsProgram Seq ts p (Semicolon ∷ us) → ReadsProgram Star us q rest → ReadsProgram Seq ts (plain.Seq p q) rest
+    seq : {ts us rest : List Sign} {p q : Program} → ReadsProgram Seq ts p (Added Semicolon ∷ us) → ReadsProgram Star us q rest → ReadsProgram Seq ts (plain.Seq p q) rest
     -- star = base { "*" }
     star_alone : {ts rest : List Sign} {p : Program} → ReadsProgram Base ts p rest → ReadsProgram Star ts p rest
-    star : {ts rest : List Sign} {p : Program} → ReadsProgram Star ts p (sign.Star ∷ rest) → ReadsProgram Star ts (plain.Star p) rest
+    star : {ts rest : List Sign} {p : Program} → ReadsProgram Star ts p (Added sign.Star ∷ rest) → ReadsProgram Star ts (plain.Star p) rest
     -- base = ACT
     action : {rest : List Sign} (a : List ℕ) (s : Sign) → action_of s ≡ Some a → ReadsProgram Base (s ∷ rest) (plain.Act a) rest
     -- base = test, which begins with no unmarked parenthesis
-    test : {ts rest : List Sign} {f : Formula} → opens_program ts ≡ false → ReadsTested ts f (Question ∷ rest) → ReadsProgram Base ts (plain.Test f) rest
+    test : {ts rest : List Sign} {f : Formula} → opens_program ts ≡ false → ReadsTested ts f (Added Question ∷ rest) → ReadsProgram Base ts (plain.Test f) rest
     -- base = "(" prog ")", whose parenthesis is unmarked
-    program_group : {ts rest : List Sign} {p : Program} → ReadsProgram Prog ts p (Close ∷ rest) → ReadsProgram Base (Open Unmarked ∷ ts) p rest
+    program_group : {ts rest : List Sign} {p : Program} → ReadsProgram Prog ts p (Close ∷ rest) → ReadsProgram Base (Added (Paren Unmarked) ∷ ts) p rest
 
   pub data ReadsTested : List Sign → Formula → List Sign → Type 0 where
     -- { NOT }
@@ -92,7 +94,7 @@ mutual
     tested_constant : {rest : List Sign} (b : Bool) → ReadsTested (Const b ∷ rest) (plain.Const b) rest
     tested_proposition : {rest : List Sign} (p : List ℕ) → ReadsTested (Lower p ∷ rest) (plain.Prop p) rest
     -- "(" iff ")"
-    tested_group : {ts rest : List Sign} {f : Formula} (k : Mark) → Reads Iff ts f (Close ∷ rest) → ReadsTested (Open k ∷ ts) f rest
+    tested_group : {ts rest : List Sign} {f : Formula} (k : Mark) → Reads Iff ts f (Close ∷ rest) → ReadsTested (Added (Paren k) ∷ ts) f rest
 
 abbrev pub IsReadAs : List Sign → Formula → Type 0
 IsReadAs ts f = Reads Iff ts f []

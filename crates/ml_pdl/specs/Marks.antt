@@ -10,27 +10,29 @@
 --   marked ts           == the signs ts with the marks that they have as a text
 --   MarksAreOfTests     == the law that the test says so
 use Rattle.std.specs.Prelude.{◌≡◌, ℕ, zero, suc, Bool, true, false, List, [], ◌∷◌, ◌++◌, Option, Some, None, IsTrue, ◌↔◌}
-use Rattle.ml_pdl.specs.Signs.{Sign, Open, Close, Question}
+use Rattle.ml_text.specs.declared.named_signs.Sign.TheVariants.{Close, Open, Added}
+use Rattle.ml_pdl.specs.Signs.{Sign}
+use Rattle.ml_pdl.specs.declared.signs.Own.TheVariants.{Paren, Question}
 use Rattle.ml_pdl.specs.declared.signs.Mark.{Mark}
 use Rattle.ml_pdl.specs.declared.signs.Mark.TheVariants.{Marked, Unmarked}
 
 abbrev pub open_behind : ℕ → List Sign → Option ℕ
 open_behind n [] = Some n
-open_behind n (Open k ∷ ts) = open_behind (suc n) ts
+open_behind n (Open ∷ ts) = open_behind (suc n) ts
 open_behind zero (Close ∷ ts) = None
 open_behind (suc n) (Close ∷ ts) = open_behind n ts
 open_behind n (_ ∷ ts) = open_behind n ts
 
 abbrev pub IsTestBehind : List Sign → Type 0
-IsTestBehind ts = (inside : List Sign) × (after : List Sign) × (ts ≡ inside ++ Close ∷ Question ∷ after) × (open_behind 0 inside ≡ Some 0)
+IsTestBehind ts = (inside : List Sign) × (after : List Sign) × (ts ≡ inside ++ Close ∷ Added Question ∷ after) × (open_behind 0 inside ≡ Some 0)
 
 abbrev pub asks : List Sign → Bool
-asks (Question ∷ ts) = true
+asks (Added Question ∷ ts) = true
 asks _ = false
 
 abbrev pub is_test_behind : ℕ → List Sign → Bool
 is_test_behind n [] = false
-is_test_behind n (Open k ∷ ts) = is_test_behind (suc n) ts
+is_test_behind n (Open ∷ ts) = is_test_behind (suc n) ts
 is_test_behind zero (Close ∷ ts) = asks ts
 is_test_behind (suc n) (Close ∷ ts) = is_test_behind n ts
 is_test_behind n (_ ∷ ts) = is_test_behind n ts
@@ -40,7 +42,7 @@ mark_of true = Marked
 mark_of false = Unmarked
 
 abbrev pub with_mark : Bool → Sign → Sign
-with_mark b (Open k) = Open (mark_of b)
+with_mark b Open = Added (Paren (mark_of b))
 with_mark b t = t
 
 abbrev pub marked : List Sign → List Sign

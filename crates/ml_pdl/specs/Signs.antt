@@ -1,71 +1,57 @@
--- The signs of PDL texts: the tokens as the grammar sees them.
+-- The signs of PDL texts: what PDL adds to those that all logics have.
 --
--- A word is a constant, `repeat`, or a name with its bytes: one that begins with a lower-case letter may be a proposition, and
--- each may be an action. `_` is an action. An opening parenthesis is marked or not, and the mark is a part of the sign:
--- a token by itself gives an unmarked one, and which are marked is said of whole texts (`Marks.antt`).
+-- `repeat` is reserved. A name that begins with a lower-case letter may be a proposition, and each name an action. `_` is an
+-- action. An opening parenthesis has a mark in a text, and is then a sign of PDL's own; which mark is said of whole texts
+-- (`Marks.antt`).
 --
---   Mark                == of `(`: marked as the one of a test, or not
---   Sign                == a sign of the grammar, a name with its bytes (the cases stand in `src/signs.rt`)
---   word_sign word      == the sign that a word is
---   byte_sign b         == the sign that a byte is that is a token by itself; most are in no text of the grammar
---   sign_of t bytes     == the sign that a token with these bytes is
---   HasShortName s      == if the sign has a name, it is one that the program can hold, of at most 64 bytes
---   action_of s         == the action that a sign is, if it is one
-use Rattle.std.specs.Prelude.{ℕ, ◌==◌, Bool, List, Option, Some, None, if◌then◌else◌, codes, bytes_eq, IsTrue}
-use Rattle.ml_base.specs.Name.{is_name}
+--   Mark            == of `(`: marked as the one of a test, or not
+--   Own             == `(` with its mark, the brackets of modalities, the word `repeat`, and `+`, `;`, `*`, `?`, `_`
+--   own             == the table of those that a token is by itself
+--   Sign            == a sign of the grammar, a name with its bytes
+--   sign_of t bytes == the sign that a token with these bytes is by itself
+--   action_of s     == the action that a sign is, if it is one
+use Rattle.std.specs.Prelude.{ℕ, List, [], ◌∷◌, Option, Some, codes}
+use Rattle.ml_text.specs.Signs as signs
+use Rattle.ml_text.specs.Signs.{Named, OwnSigns, name_of}
+use Rattle.ml_text.specs.declared.limits.Bracket.{Bracket}
+use Rattle.ml_text.specs.declared.limits.Bracket.TheVariants.{Opening, Neither}
+use Rattle.ml_text.specs.declared.named_signs.Sign.TheVariants.{Added}
 use Rattle.ml_text.specs.declared.token.Token.{Token}
-use Rattle.ml_text.specs.declared.token.Token.TheVariants as token
-use Rattle.ml_text.specs.Bytes.{is_upper}
-use Rattle.ml_text.specs.Words.{constant_of, is_word_from}
+use Rattle.ml_text.specs.declared.token.WordStart.TheVariants.{AnyLetter}
+use Rattle.ml_pdl.specs.declared.signs.Own.{Own}
+use Rattle.ml_pdl.specs.declared.signs.Own.TheVariants.{Paren, Begins, Ends, Repeats, Plus, Semicolon, Star, Question, Blank}
 use Rattle.ml_pdl.specs.declared.term.Modality.TheVariants.{Diamond, Square}
-use Rattle.ml_pdl.specs.declared.signs.Mark.TheVariants.{Unmarked}
-use Rattle.ml_pdl.specs.declared.signs.SignOver.{SignOver}
-pub use Rattle.ml_pdl.specs.declared.signs.SignOver.TheVariants.{Not, Connective, Const, Open, Close, Begins, Ends, Repeats}
-pub use Rattle.ml_pdl.specs.declared.signs.SignOver.TheVariants.{Plus, Semicolon, Star, Question, Blank, Lower, Upper, Unknown}
-use Rattle.ml_pdl.specs.Spelling.{is_proposition}
+
+abbrev pub bracket_of_own : Own → Bracket
+bracket_of_own (Paren k) = Opening
+bracket_of_own _ = Neither
+
+abbrev pub own : OwnSigns Own
+own = record {
+  starts = AnyLetter;
+  words = (codes "repeat", Repeats) ∷ [];
+  bytes =
+      -- < > [ ]
+      (60, Begins Diamond)
+      ∷ (62, Ends Diamond)
+      ∷ (91, Begins Square)
+      ∷ (93, Ends Square)
+      -- + ; * ? _
+      ∷ (43, Plus)
+      ∷ (59, Semicolon)
+      ∷ (42, Star)
+      ∷ (63, Question)
+      ∷ (95, Blank)
+      ∷ [];
+  bracket = bracket_of_own;
+}
 
 abbrev pub Sign : Type 0
-Sign = SignOver (List ℕ)
-
-abbrev pub name_sign : List ℕ → Sign
-name_sign word =
-    if is_proposition word then Lower word else (if is_word_from is_upper word then Upper word else Unknown)
-
-abbrev pub word_sign_by : Option Bool → List ℕ → Sign
-word_sign_by (Some b) word = Const b
-word_sign_by None word = if bytes_eq word (codes "repeat") then Repeats else name_sign word
-
-abbrev pub word_sign : List ℕ → Sign
-word_sign word = word_sign_by (constant_of word) word
-
--- ( ) < > [ ] + ; * ? _
-abbrev pub byte_sign : ℕ → Sign
-byte_sign b =
-    if b == 40 then Open Unmarked
-    else (if b == 41 then Close
-    else (if b == 60 then Begins Diamond
-    else (if b == 62 then Ends Diamond
-    else (if b == 91 then Begins Square
-    else (if b == 93 then Ends Square
-    else (if b == 43 then Plus
-    else (if b == 59 then Semicolon
-    else (if b == 42 then Star
-    else (if b == 63 then Question
-    else (if b == 95 then Blank else Unknown))))))))))
+Sign = Named Own
 
 abbrev pub sign_of : Token → List ℕ → Sign
-sign_of token.Not bytes = Not
-sign_of (token.Operator o) bytes = Connective o
-sign_of token.Word bytes = word_sign bytes
-sign_of (token.Byte b) bytes = byte_sign b
-
-abbrev pub HasShortName : Sign → Type 0
-HasShortName (Lower p) = IsTrue (is_name p)
-HasShortName (Upper x) = IsTrue (is_name x)
-HasShortName _ = Unit {0}
+sign_of t bytes = signs.sign_of own t bytes
 
 abbrev pub action_of : Sign → Option (List ℕ)
-action_of Blank = Some (codes "_")
-action_of (Lower a) = Some a
-action_of (Upper a) = Some a
-action_of _ = None
+action_of (Added Blank) = Some (codes "_")
+action_of s = name_of s

@@ -8,24 +8,20 @@
 --   is_action name       == a word that isn't reserved, or `_`
 --   is_spelled f, program_is_spelled p       == are all names there propositions and actions where they stand as such?
 --   HasShortNames f, ProgramHasShortNames p  == no name there has more bytes than a name may have
-use Rattle.std.specs.Prelude.{ℕ, ◌≤◌, Bool, true, ◌&&◌, ◌||◌, not, List, [], ◌∷◌, length, codes, bytes_eq}
-use Rattle.std.specs.List.{list_any}
+use Rattle.std.specs.Prelude.{ℕ, ◌≤◌, Bool, true, ◌&&◌, List, length}
 use Rattle.ml_base.specs.Name.{longest_name}
-use Rattle.ml_text.specs.Bytes.{is_lower, is_letter}
-use Rattle.ml_text.specs.Words.{is_word_from}
+use Rattle.ml_text.specs.Signs as signs
+use Rattle.ml_pdl.specs.Signs.{own}
 use Rattle.ml_pdl.specs.Formula.{Formula, Const, Prop, Not, Binary, Modal, Repeat, Program, Act, Seq, Alt, Star, Test}
 
-abbrev pub reserved : List (List ℕ)
-reserved = codes "tt" ∷ codes "true" ∷ codes "ff" ∷ codes "false" ∷ codes "repeat" ∷ []
-
 abbrev pub is_reserved : List ℕ → Bool
-is_reserved name = list_any (bytes_eq name) reserved
+is_reserved name = signs.is_reserved own name
 
 abbrev pub is_proposition : List ℕ → Bool
-is_proposition name = is_word_from is_lower name && not (is_reserved name)
+is_proposition name = signs.is_proposition own name
 
 abbrev pub is_action : List ℕ → Bool
-is_action name = bytes_eq name (codes "_") || (is_word_from is_letter name && not (is_reserved name))
+is_action name = signs.is_action own name
 
 abbrev mutual
   pub is_spelled : Formula → Bool

@@ -26,7 +26,9 @@ use Rattle.ml_pdl.specs.Formula as plain
 use Rattle.ml_pdl.specs.Formula.{Formula, Program}
 use Rattle.ml_pdl.specs.declared.term.Modality.{Modality}
 use Rattle.ml_pdl.specs.declared.term.Modality.TheVariants.{Diamond, Square}
-use Rattle.ml_pdl.specs.Signs.{Sign, Not, Connective, Const, Open, Close, Begins, Ends, Repeats, Plus, Semicolon, Star, Question, Blank, Lower, Upper}
+use Rattle.ml_text.specs.declared.named_signs.Sign.TheVariants.{Not, Connective, Const, Close, Lower, Upper, Added}
+use Rattle.ml_pdl.specs.Signs.{Sign}
+use Rattle.ml_pdl.specs.declared.signs.Own.TheVariants.{Begins, Ends, Repeats, Plus, Semicolon, Star, Question, Blank, Paren}
 use Rattle.ml_pdl.specs.declared.signs.Mark.TheVariants.{Marked, Unmarked}
 
 pub data Phrase : Type 0 where
@@ -88,9 +90,9 @@ abbrev pub shift_formula : Sign → Option PdlTurn
 shift_formula Not = Some (Inner Negation)
 shift_formula (Const b) = Some (Read (Whole (OfFormula (plain.Const b))))
 shift_formula (Lower p) = Some (Read (Whole (OfFormula (plain.Prop p))))
-shift_formula (Open k) = Some (Inner FormulaGroup)
-shift_formula (Begins m) = Some (Read (More (BehindBegin m)))
-shift_formula Repeats = Some (Read (More BehindRepeat))
+shift_formula (Added (Paren k)) = Some (Inner FormulaGroup)
+shift_formula (Added (Begins m)) = Some (Read (More (BehindBegin m)))
+shift_formula (Added Repeats) = Some (Read (More BehindRepeat))
 shift_formula _ = None
 
 -- in a test, behind n negations
@@ -98,27 +100,27 @@ abbrev pub shift_test : ℕ → Sign → Option PdlTurn
 shift_test n Not = Some (Read (More (BehindNegations (suc n))))
 shift_test n (Const b) = Some (Read (More (BehindTested (negated n (plain.Const b)))))
 shift_test n (Lower p) = Some (Read (More (BehindTested (negated n (plain.Prop p)))))
-shift_test n (Open k) = Some (Inner (TestGroup n))
+shift_test n (Added (Paren k)) = Some (Inner (TestGroup n))
 shift_test n _ = None
 
 abbrev pub shift_program : Sign → Option PdlTurn
-shift_program Blank = Some (Read (Whole (OfProgram blank)))
+shift_program (Added Blank) = Some (Read (Whole (OfProgram blank)))
 shift_program (Lower a) = Some (Read (Whole (Name a)))
 shift_program (Upper a) = Some (Read (Whole (OfProgram (plain.Act a))))
-shift_program (Open Unmarked) = Some (Inner ProgramGroup)
-shift_program (Open Marked) = shift_test 0 (Open Marked)
+shift_program (Added (Paren Unmarked)) = Some (Inner ProgramGroup)
+shift_program (Added (Paren Marked)) = shift_test 0 (Added (Paren Marked))
 shift_program Not = shift_test 0 Not
 shift_program (Const b) = shift_test 0 (Const b)
 shift_program _ = None
 
 abbrev pub shift_begin : Modality → Sign → Option PdlTurn
-shift_begin Diamond (Ends Diamond) = Some (Inner (Modal Diamond blank))
-shift_begin Square (Ends Square) = Some (Inner (Modal Square blank))
+shift_begin Diamond (Added (Ends Diamond)) = Some (Inner (Modal Diamond blank))
+shift_begin Square (Added (Ends Square)) = Some (Inner (Modal Square blank))
 shift_begin m _ = Some (Opens (ModalProgram m))
 
 abbrev pub shift_end : Modality → Program → Sign → Option PdlTurn
-shift_end Diamond p (Ends Diamond) = Some (Inner (Modal Diamond p))
-shift_end Square p (Ends Square) = Some (Inner (Modal Square p))
+shift_end Diamond p (Added (Ends Diamond)) = Some (Inner (Modal Diamond p))
+shift_end Square p (Added (Ends Square)) = Some (Inner (Modal Square p))
 shift_end _ p _ = None
 
 -- behind what stands between parentheses
@@ -127,11 +129,11 @@ shift_close m Close = Some (Read m)
 shift_close m _ = None
 
 abbrev pub shift_repeat : Sign → Option PdlTurn
-shift_repeat (Open k) = Some (Inner RepeatGroup)
+shift_repeat (Added (Paren k)) = Some (Inner RepeatGroup)
 shift_repeat _ = None
 
 abbrev pub shift_tested : Formula → Sign → Option PdlTurn
-shift_tested f Question = Some (Read (Whole (OfProgram (plain.Test f))))
+shift_tested f (Added Question) = Some (Read (Whole (OfProgram (plain.Test f))))
 shift_tested f _ = None
 
 abbrev pub shift : Wait → Sign → Option PdlTurn
@@ -173,10 +175,10 @@ resume (TestGroup n) v = More (BehindTestInside (negated n (formula_of v)))
 
 abbrev pub role : Sort → Sign → Role
 role Formulas (Connective o) = Infix (operator_level o)
-role Programs Plus = Infix 0
-role Programs Semicolon = Infix 1
-role Programs Star = Postfix
-role Programs Question = Postfix
+role Programs (Added Plus) = Infix 0
+role Programs (Added Semicolon) = Infix 1
+role Programs (Added Star) = Postfix
+role Programs (Added Question) = Postfix
 role _ _ = Outside
 
 -- of formulas the connectives of the levels 2 and 3 group to the left, of programs all operators
@@ -186,8 +188,8 @@ groups_left Programs l = true
 
 abbrev pub join : Sign → Phrase → Phrase → Phrase
 join (Connective o) v w = OfFormula (plain.Binary o (formula_of v) (formula_of w))
-join Plus v w = OfProgram (plain.Alt (program_of v) (program_of w))
-join Semicolon v w = OfProgram (plain.Seq (program_of v) (program_of w))
+join (Added Plus) v w = OfProgram (plain.Alt (program_of v) (program_of w))
+join (Added Semicolon) v w = OfProgram (plain.Seq (program_of v) (program_of w))
 join _ v w = v
 
 abbrev pub test_of : Phrase → Option Phrase
@@ -195,8 +197,8 @@ test_of (Name a) = Some (OfProgram (plain.Test (plain.Prop a)))
 test_of _ = None
 
 abbrev pub post : Sign → Phrase → Option Phrase
-post Star v = Some (OfProgram (plain.Star (program_of v)))
-post Question v = test_of v
+post (Added Star) v = Some (OfProgram (plain.Star (program_of v)))
+post (Added Question) v = test_of v
 post _ v = None
 
 abbrev pub pdl_grammar : Grammar

@@ -20,11 +20,12 @@ use Rattle.ml_text.specs.Tokens.{tokens, tokens_from}
 use Rattle.ml_text.specs.Items as text_items
 use Rattle.ml_text.specs.Items.{SignTable, bytes_of}
 use Rattle.ml_text.specs.Refusals.{Item, signs_of}
-use Rattle.ml_text.specs.declared.limits.Bracket.{Bracket}
-use Rattle.ml_text.specs.declared.limits.Bracket.TheVariants.{Opening, Closing, Neither}
+use Rattle.ml_text.specs.Signs.{bracket_of}
 use Rattle.ml_text.specs.Operators.{weight}
 use Rattle.ml_pdl.specs.Formula.{Formula}
-use Rattle.ml_pdl.specs.Signs.{Sign, Connective, Open, Close, Begins, Ends, Unknown, sign_of}
+use Rattle.ml_text.specs.declared.named_signs.Sign.TheVariants.{Connective, Open, Close, Unknown, Added}
+use Rattle.ml_pdl.specs.Signs.{Sign, own, sign_of}
+use Rattle.ml_pdl.specs.declared.signs.Own.TheVariants.{Begins, Ends, Paren}
 use Rattle.ml_pdl.specs.Marks.{is_test_behind, marked, with_mark}
 use Rattle.ml_pdl.specs.Grammar.{IsReadAs}
 
@@ -34,20 +35,16 @@ end_weight false = 0
 
 abbrev pub weight_of : Bool → Sign → ℕ
 weight_of b (Connective o) = weight o
-weight_of b (Ends m) = end_weight b
-weight_of b (Open k) = 0
+weight_of b (Added (Ends m)) = end_weight b
+weight_of b (Added (Paren k)) = 0
+weight_of b Open = 0
 weight_of b Close = 0
 weight_of b Unknown = 0
 weight_of b _ = 1
 
 abbrev pub begins_modality : Sign → Bool
-begins_modality (Begins m) = true
+begins_modality (Added (Begins m)) = true
 begins_modality _ = false
-
-abbrev pub bracket_of : Sign → Bracket
-bracket_of (Open k) = Opening
-bracket_of Close = Closing
-bracket_of _ = Neither
 
 abbrev pub sign_by : List ℕ → Placed → Sign
 sign_by text p = sign_of p.token (bytes_of text p)
@@ -65,7 +62,7 @@ pdl_signs = record {
   first = false;
   behind = begins_modality;
   weight = weight_of;
-  bracket = bracket_of;
+  bracket = bracket_of own;
   is_noted = λ b s. false;
 }
 

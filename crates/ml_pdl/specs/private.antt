@@ -2,8 +2,6 @@
 
 -- the code of formulas
 pub mod FormulaCode
--- the signs that the program holds
-pub mod SignViews
 -- the trees and forms that the program holds
 pub mod FormViews
 -- what the reader of texts asks of a logic

@@ -2,6 +2,7 @@
 ghost use Rattle.std.specs.Prelude.{◌≡◌, ◌+◌, IfOk};
 ghost use Rattle.std.specs.Option.{option_map};
 ghost use Rattle.ml_text.specs.Grammar.{Read, Whole};
+ghost use Rattle.ml_text.specs.declared.named_signs.Sign.TheVariants.{Added};
 ghost use Rattle.ml_text.specs.private.Views.{GivesBack, mode_view, turn_view};
 ghost use Rattle.ml_pdl.specs.private.FormViews.{hold_view, phrase_view, wait_view};
 ghost use Rattle.ml_pdl.specs.private.Reader.{pdl_tables};
@@ -9,7 +10,7 @@ ghost use Rattle.ml_pdl.specs.Tables as tables;
 ghost use Rattle.ml_pdl.specs.Formula as plain;
 ghost use Rattle.ml_pdl.specs.Term.{formula_of, program_of};
 
-use crate::signs::{Mark, Sign};
+use crate::signs::{Mark, Own, Sign};
 use crate::{Modality, Program, Term};
 use ml_base::{Action, Name, NoMemory};
 use ml_text::{Mode, Operator};
@@ -116,9 +117,11 @@ fn shift_formula(sign: Sign) -> Option<Turn>
         Sign::Not => Some(Turn::Inner(Hold::Negation)),
         Sign::Const(value) => Some(Turn::Read(Mode::Whole(Phrase::Formula(Term::Const(value))))),
         Sign::Lower(name) => Some(Turn::Read(Mode::Whole(Phrase::Formula(Term::Prop(name))))),
-        Sign::Open(_) => Some(Turn::Inner(Hold::FormulaGroup)),
-        Sign::Begins(modality) => Some(Turn::Read(Mode::More(Wait::BehindBegin(modality)))),
-        Sign::Repeats => Some(Turn::Read(Mode::More(Wait::BehindRepeat))),
+        Sign::Added(Own::Paren(_)) => Some(Turn::Inner(Hold::FormulaGroup)),
+        Sign::Added(Own::Begins(modality)) => Some(Turn::Read(Mode::More(Wait::BehindBegin(
+            modality,
+        )))),
+        Sign::Added(Own::Repeats) => Some(Turn::Read(Mode::More(Wait::BehindRepeat))),
         _ => None,
     }
 }
@@ -140,7 +143,7 @@ fn shift_test(alloc: Global, negations: u32, sign: Sign) -> Result<Option<Turn>,
             let more = one_more(negations)?;
             return Ok(Some(Turn::Read(Mode::More(Wait::BehindNegations(more)))));
         }
-        Sign::Open(_) => return Ok(Some(Turn::Inner(Hold::TestGroup(negations)))),
+        Sign::Added(Own::Paren(_)) => return Ok(Some(Turn::Inner(Hold::TestGroup(negations)))),
         Sign::Const(value) => negated(alloc, negations, Term::Const(value))?,
         Sign::Lower(name) => negated(alloc, negations, Term::Prop(name))?,
         _ => return Ok(None),
@@ -159,11 +162,11 @@ fn shift_program(alloc: Global, sign: Sign) -> Result<Option<Turn>, NoMemory>
         option_map (turn_view pdl_tables) turn ≡ tables.shift_program sign) }
 {
     match sign {
-        Sign::Blank => Ok(Some(act(Action::blank(alloc)?))),
+        Sign::Added(Own::Blank) => Ok(Some(act(Action::blank(alloc)?))),
         Sign::Upper(name) => Ok(Some(act(Action::from_name(name)))),
         Sign::Lower(name) => Ok(Some(Turn::Read(Mode::Whole(Phrase::Name(name))))),
-        Sign::Open(Mark::Unmarked) => Ok(Some(Turn::Inner(Hold::ProgramGroup))),
-        Sign::Open(Mark::Marked) => shift_test(alloc, 0, Sign::Open(Mark::Marked)),
+        Sign::Added(Own::Paren(Mark::Unmarked)) => Ok(Some(Turn::Inner(Hold::ProgramGroup))),
+        Sign::Added(Own::Paren(Mark::Marked)) => Ok(Some(Turn::Inner(Hold::TestGroup(0)))),
         Sign::Not => shift_test(alloc, 0, Sign::Not),
         Sign::Const(value) => shift_test(alloc, 0, Sign::Const(value)),
         _ => Ok(None),
@@ -176,8 +179,8 @@ fn shift_begin(alloc: Global, modality: Modality, sign: Sign) -> Result<Option<T
     ensures gives_back { IfOk result (λ turn. GivesBack pdl_tables turn sign) }
 {
     match (modality, sign) {
-        (Modality::Diamond, Sign::Ends(Modality::Diamond))
-        | (Modality::Square, Sign::Ends(Modality::Square)) => {
+        (Modality::Diamond, Sign::Added(Own::Ends(Modality::Diamond)))
+        | (Modality::Square, Sign::Added(Own::Ends(Modality::Square))) => {
             let program = Program::Act(Action::blank(alloc)?);
             Ok(Some(Turn::Inner(Hold::Modal(modality, program))))
         }
@@ -190,8 +193,8 @@ fn shift_end(modality: Modality, program: Program, sign: Sign) -> Option<Turn>
         ≡ tables.shift_end modality (program_of program) sign }
 {
     match (modality, sign) {
-        (Modality::Diamond, Sign::Ends(Modality::Diamond))
-        | (Modality::Square, Sign::Ends(Modality::Square)) => {
+        (Modality::Diamond, Sign::Added(Own::Ends(Modality::Diamond)))
+        | (Modality::Square, Sign::Added(Own::Ends(Modality::Square))) => {
             Some(Turn::Inner(Hold::Modal(modality, program)))
         }
         _ => None,
@@ -212,7 +215,7 @@ fn shift_repeat(sign: Sign) -> Option<Turn>
     ensures { option_map (turn_view pdl_tables) result ≡ tables.shift_repeat sign }
 {
     match sign {
-        Sign::Open(_) => Some(Turn::Inner(Hold::RepeatGroup)),
+        Sign::Added(Own::Paren(_)) => Some(Turn::Inner(Hold::RepeatGroup)),
         _ => None,
     }
 }
@@ -222,7 +225,7 @@ fn shift_tested(alloc: Global, tested: Term, sign: Sign) -> Result<Option<Turn>,
         option_map (turn_view pdl_tables) turn ≡ tables.shift_tested (formula_of tested) sign) }
 {
     match sign {
-        Sign::Question => {
+        Sign::Added(Own::Question) => {
             let test = Program::Test(Box::new(alloc, tested)?);
             Ok(Some(Turn::Read(Mode::Whole(Phrase::Program(test)))))
         }
@@ -337,8 +340,18 @@ pub(crate) fn join(
 {
     match sign {
         Sign::Connective(operator) => join_formulas(alloc, operator, left, right),
-        Sign::Plus => choice(alloc, left, right),
-        Sign::Semicolon => sequence(alloc, left, right),
+        Sign::Added(own) => join_programs(alloc, own, left, right),
+        _ => Ok(left),
+    }
+}
+
+fn join_programs(alloc: Global, own: Own, left: Phrase, right: Phrase) -> Result<Phrase, NoMemory>
+    ensures { IfOk result (λ phrase.
+        phrase_view phrase ≡ tables.join (Added own) (phrase_view left) (phrase_view right)) }
+{
+    match own {
+        Own::Plus => choice(alloc, left, right),
+        Own::Semicolon => sequence(alloc, left, right),
         _ => Ok(left),
     }
 }
@@ -362,11 +375,21 @@ pub(crate) fn post(alloc: Global, sign: Sign, operand: Phrase) -> Result<Option<
         option_map phrase_view phrase ≡ tables.post sign (phrase_view operand)) }
 {
     match sign {
-        Sign::Star => {
+        Sign::Added(own) => post_own(alloc, own, operand),
+        _ => Ok(None),
+    }
+}
+
+fn post_own(alloc: Global, own: Own, operand: Phrase) -> Result<Option<Phrase>, NoMemory>
+    ensures { IfOk result (λ phrase.
+        option_map phrase_view phrase ≡ tables.post (Added own) (phrase_view operand)) }
+{
+    match own {
+        Own::Star => {
             let program = boxed_program(alloc, operand)?;
             Ok(Some(Phrase::Program(Program::Star(program))))
         }
-        Sign::Question => test_of(alloc, operand),
+        Own::Question => test_of(alloc, operand),
         _ => Ok(None),
     }
 }

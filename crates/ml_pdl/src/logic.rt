@@ -4,9 +4,12 @@ ghost use Rattle.ml_pdl.specs.Tables as tables;
 
 use crate::forms::{Hold, Phrase, Sort, Wait, join, post, resume, shift};
 use crate::marking::Marks;
-use crate::signs::{Kind, Sign, begins_modality, bracket, kind_of, marked, sign_of, weight};
+use crate::signs::{Kind, Own, Sign, begins_modality, marked, weight};
 use ml_base::NoMemory;
-use ml_text::{Bracket, Logic, Mode, Placed, Role, Turn, WordStart, operator_level};
+use ml_text::{
+    Bracket, Logic, Mode, Placed, Role, Turn, WordStart, bracket_of, kind_of, operator_level,
+    sign_of,
+};
 use std::alloc::Global;
 
 fn role(sort: Sort, sign: &Sign) -> Role
@@ -14,9 +17,9 @@ fn role(sort: Sort, sign: &Sign) -> Role
 {
     match (sort, sign) {
         (Sort::Formulas, Sign::Connective(operator)) => Role::Infix(operator_level(*operator)),
-        (Sort::Programs, Sign::Plus) => Role::Infix(0),
-        (Sort::Programs, Sign::Semicolon) => Role::Infix(1),
-        (Sort::Programs, Sign::Star | Sign::Question) => Role::Postfix,
+        (Sort::Programs, Sign::Added(Own::Plus)) => Role::Infix(0),
+        (Sort::Programs, Sign::Added(Own::Semicolon)) => Role::Infix(1),
+        (Sort::Programs, Sign::Added(Own::Star) | Sign::Added(Own::Question)) => Role::Postfix,
         _ => Role::Outside,
     }
 }
@@ -71,7 +74,7 @@ impl Logic for Marks {
     }
 
     fn bracket(kind: Kind) -> Bracket {
-        bracket(kind)
+        bracket_of(kind)
     }
 
     fn is_noted(_is_first: bool, _kind: Kind) -> bool {

@@ -3,6 +3,7 @@
 --
 --   starts_word       == a word of a logic begins with a letter
 --   no_own            == a word that isn't in a table of words is none of its words
+--   own_word, own_byte == what holds of the signs of a table holds of the one that is found
 --   free_word         == a word that is no constant and no sign of the logic isn't reserved
 --   name_of_lower, name_of_upper == such a word is a name by its first letter
 --   name_word         == a word that isn't reserved is a name
@@ -44,6 +45,13 @@ starts_word LowerCase [] word = word
 starts_word LowerCase (b ∷ bs) word = (or_left (is_lower b) (is_upper b) word.0, word.1)
 
 module _ {X : Type 0} where
+  found_by : (P : Named X → Type 0) (b : Bool) (x : X) (o : Option X) (s : Named X)
+      → (b ≡ true → P (Added x))
+      → P (own_or o s)
+      → P (own_or (cond b (Some x) o) s)
+  found_by P true x o s here later = here refl
+  found_by P false x o s here later = later
+
   pub no_own : (table : List (List ℕ × X)) (w : List ℕ)
       → word_in table w ≡ None
       → list_any (bytes_eq w) (words_of table) ≡ false
@@ -64,6 +72,23 @@ module _ {X : Type 0} where
   none_own (x ∷ table) w none =
       let parts = or_parts (bytes_eq w x.0) (list_any (bytes_eq w) (words_of table)) none in
       cond-false (bytes_eq w x.0) (Some x.1) (word_in table w) parts.0 ∙ none_own table w parts.1
+
+  -- what holds of the signs of a table, and of another sign, holds of the one that is found
+  pub own_word : (P : Named X → Type 0) (table : List (List ℕ × X)) (w : List ℕ) (s : Named X)
+      → AllByRecursion (λ x. P (Added x.1)) table
+      → P s
+      → P (own_or (word_in table w) s)
+  own_word P [] w s all is = is
+  own_word P (x ∷ table) w s all is =
+      found_by P (bytes_eq w x.0) x.1 (word_in table w) s (λ here. all.0) (own_word P table w s all.1 is)
+
+  pub own_byte : (P : Named X → Type 0) (table : List (ℕ × X)) (b : ℕ) (s : Named X)
+      → AllByRecursion (λ x. (b == x.0) ≡ true → P (Added x.1)) table
+      → P s
+      → P (own_or (byte_in table b) s)
+  own_byte P [] b s all is = is
+  own_byte P (x ∷ table) b s all is =
+      found_by P (b == x.0) x.1 (byte_in table b) s all.0 (own_byte P table b s all.1 is)
 
   module _ (own : OwnSigns X) where
     -- ---- which words are names
@@ -128,24 +153,12 @@ module _ {X : Type 0} where
         one_of (λ s. opening (bracket_of own s) ≡ 0) (is_proposition own w) _ _ refl
         (one_of (λ s. opening (bracket_of own s) ≡ 0) (is_upper_word w) _ _ refl refl)
 
-    closed_in : (table : List (List ℕ × X)) (w : List ℕ) (s : Named X)
-        → AreClosed table
-        → opening (bracket_of own s) ≡ 0
-        → opening (bracket_of own (own_or (word_in table w) s)) ≡ 0
-    closed_in [] w s all is = is
-    closed_in (x ∷ table) w s all is = by_test (bytes_eq w x.0) (closed_in table w s all.1 is)
-      where
-        by_test : (b : Bool) → opening (bracket_of own (own_or (word_in table w) s)) ≡ 0
-            → opening (bracket_of own (own_or (cond b (Some x.1) (word_in table w)) s)) ≡ 0
-        by_test true later = all.0
-        by_test false later = later
-
     pub closed_word : AreClosed own.words → (w : List ℕ) → opening (bracket_of own (word_sign own w)) ≡ 0
     closed_word all w = by_constant (constant_of w)
       where
         by_constant : (o : Option Bool) → opening (bracket_of own (word_sign_by own o w)) ≡ 0
         by_constant (Some b) = refl
-        by_constant None = closed_in own.words w (name_sign own w) all (closed_name w)
+        by_constant None = own_word (λ s. opening (bracket_of own s) ≡ 0) own.words w (name_sign own w) all (closed_name w)
 
     -- ---- spelled names
 

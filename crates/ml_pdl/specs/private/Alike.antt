@@ -2,16 +2,14 @@
 --
 --   alike  == signs of one kind do the same, but for what they make
 use Rattle.std.specs.Prelude.{ℕ, List, refl}
+use Rattle.ml_text.specs.Signs.{named}
+use Rattle.ml_text.specs.declared.named_signs.Sign.{Sign}
 use Rattle.ml_text.specs.private.Tables.{IsLike}
+use Rattle.ml_text.proofs.NamedSigns.{alike_by}
 use Rattle.ml_pdl.specs.declared.term.Modality.TheVariants.{Diamond}
-use Rattle.ml_pdl.specs.Signs.{Sign, Lower, Upper}
-use Rattle.ml_pdl.specs.private.SignViews.{named}
+use Rattle.ml_text.specs.declared.named_signs.Sign.TheVariants.{Lower, Upper}
+use Rattle.ml_pdl.specs.declared.signs.Own.{Own}
 use Rattle.ml_pdl.specs.Tables.{BehindBegin, BehindProgram, Formulas, Programs, pdl_grammar}
-use Rattle.ml_pdl.specs.declared.signs.SignOver.{SignOver}
-use Rattle.ml_pdl.specs.declared.signs.SignOver.TheVariants as kind
-
-same : (t : Sign) → IsLike pdl_grammar t t
-same t = record { role = λ s. refl; shift = λ q. refl; post = λ v. refl }
 
 lower_alike : (p q : List ℕ) → IsLike pdl_grammar (Lower p) (Lower q)
 lower_alike p q = record {
@@ -41,7 +39,5 @@ upper_alike p q = record {
   post = λ v. refl;
 }
 
-pub alike : (k : SignOver (Unit {0})) (word other : List ℕ) → IsLike pdl_grammar (named k word) (named k other)
-alike (kind.Lower u) w o = lower_alike w o
-alike (kind.Upper u) w o = upper_alike w o
-alike _ w o = same _
+pub alike : (k : Sign (Unit {0}) Own) (word other : List ℕ) → IsLike pdl_grammar (named k word) (named k other)
+alike = alike_by pdl_grammar (λ s. s) lower_alike upper_alike

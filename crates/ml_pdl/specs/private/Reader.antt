@@ -3,18 +3,18 @@
 --   pdl_tables  == its grammar and its signs, and what the values of the program stand for
 use Rattle.std.specs.Prelude.{ℕ, Bool, List}
 use Rattle.ml_text.specs.private.Tables.{Tables}
-use Rattle.ml_pdl.specs.Signs.{HasShortName}
+use Rattle.ml_text.specs.Signs.{HasShortName, named}
+use Rattle.ml_text.specs.declared.named_signs.Sign.{Sign}
 use Rattle.ml_pdl.specs.Tables.{pdl_grammar}
 use Rattle.ml_pdl.specs.Text.{pdl_signs}
 use Rattle.ml_pdl.specs.private.FormViews.{phrase_view, wait_view, hold_view}
-use Rattle.ml_pdl.specs.private.SignViews.{named}
 use Rattle.ml_pdl.specs.declared.forms.Phrase.{Phrase}
 use Rattle.ml_pdl.specs.declared.forms.Sort.{Sort}
 use Rattle.ml_pdl.specs.declared.forms.Wait.{Wait}
 use Rattle.ml_pdl.specs.declared.forms.Hold.{Hold}
-use Rattle.ml_pdl.specs.declared.signs.SignOver.{SignOver}
+use Rattle.ml_pdl.specs.declared.signs.Own.{Own}
 
-abbrev pub pdl_tables : Tables (SignOver (Unit {0})) Bool Sort (SignOver (List ℕ)) Phrase Wait Hold
+abbrev pub pdl_tables : Tables (Sign (Unit {0}) Own) Bool Sort (Sign (List ℕ) Own) Phrase Wait Hold
 pdl_tables = record {
   grammar = pdl_grammar;
   signs = pdl_signs;

@@ -1,8 +1,11 @@
 use Rattle.std.proofs.Common.{◌∙◌, ap, arith}
 use Rattle.ml_text.specs.Items.{bytes_of}
-use Rattle.ml_pdl.specs.Marks.{with_mark}
-use Rattle.ml_pdl.specs.Text.{sign_by}
-use Rattle.ml_pdl.proofs.Names.{can_name}
+use Rattle.ml_text.proofs.NamedSigns.{can_name, short_name, spelled_sign}
+use Rattle.ml_pdl.specs.Marks.{is_test_behind, with_mark}
+use Rattle.ml_pdl.specs.Signs.{own}
+use Rattle.ml_pdl.specs.Text.{sign_at, sign_by, signs_behind}
+use Rattle.ml_pdl.proofs.ShortNames.{short_mark}
+use Rattle.ml_pdl.proofs.Spelled.{spelled_mark}
 use Rattle.ml_pdl.proofs.MarkBytes.{mark_right, token_within}
 use Rattle.ml_pdl.proofs.logic.MarksLogic.kind_of.Goals as goal
 
@@ -22,4 +25,10 @@ returns-clause-sign c =
 
 pub returns-clause-can_name : goal.returns-clause-can_name
 returns-clause-can_name c =
-    can_name c.marked.result c.args.text.now c.args.placed c.requires.place.0 c.requires.place.1 (returns-clause-sign c)
+    let text = c.args.text.now in
+    let p = c.args.placed in
+    let bytes = bytes_of text p in
+    let mark = is_test_behind 0 (signs_behind text p.end) in
+    can_name own c.marked.result text p (sign_at text p) c.requires.place.0 c.requires.place.1 (returns-clause-sign c)
+    (spelled_mark mark (sign_by text p) (spelled_sign own p.token bytes))
+    (λ short size. short_mark mark (sign_by text p) (short_name own p.token bytes _ short size))
