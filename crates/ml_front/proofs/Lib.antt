@@ -1,5 +1,6 @@
 -- texts that stand in one line
 pub mod WordLines
+pub mod MuLines
 pub mod PdlLines
 pub mod CtlLines
 -- what each logic proves of its texts, said of all
