@@ -6,7 +6,7 @@ use crate::forms::{Hold, Wait, join, resume, shift};
 use crate::signs::{Kind, Sign, counted, is_variable, silences};
 use ml_base::NoMemory;
 use ml_text::{
-    Bracket, Logic, Mode, Placed, Role, Turn, WordStart, bracket_of, kind_of, operator_level,
+    Bracket, Mode, Notation, Placed, Role, Turn, WordStart, bracket_of, kind_of, operator_level,
     sign_of,
 };
 use std::alloc::Global;
@@ -14,7 +14,7 @@ use std::alloc::Global;
 /// The mu-calculus. Nothing is to be known of a text before it is read.
 pub(crate) struct Mu;
 
-impl Logic for Mu {
+impl Notation for Mu {
     type Kind = Kind;
     // is the next token silent, an action or the variable of a binder?
     type Context = bool;

@@ -7,7 +7,7 @@ use crate::marking::Marks;
 use crate::signs::{Kind, Own, Sign, begins_modality, marked, weight};
 use ml_base::NoMemory;
 use ml_text::{
-    Bracket, Logic, Mode, Placed, Role, Turn, WordStart, bracket_of, kind_of, operator_level,
+    Bracket, Mode, Notation, Placed, Role, Turn, WordStart, bracket_of, kind_of, operator_level,
     sign_of,
 };
 use std::alloc::Global;
@@ -24,7 +24,7 @@ fn role(sort: Sort, sign: &Sign) -> Role
     }
 }
 
-impl Logic for Marks {
+impl Notation for Marks {
     type Kind = Kind;
     // does the next token stand directly behind `<` or `[`?
     type Context = bool;

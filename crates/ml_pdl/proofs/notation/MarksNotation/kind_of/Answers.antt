@@ -7,7 +7,7 @@ use Rattle.ml_pdl.specs.Text.{sign_at, sign_by, signs_behind}
 use Rattle.ml_pdl.proofs.ShortNames.{short_mark}
 use Rattle.ml_pdl.proofs.Spelled.{spelled_mark}
 use Rattle.ml_pdl.proofs.MarkBytes.{mark_right, token_within}
-use Rattle.ml_pdl.proofs.logic.MarksLogic.kind_of.Goals as goal
+use Rattle.ml_pdl.proofs.notation.MarksNotation.kind_of.Goals as goal
 
 pub is_test-requires : goal.is_test-requires
 is_test-requires c =

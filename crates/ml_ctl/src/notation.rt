@@ -9,7 +9,7 @@ use crate::signs::{Kind, Own, Sign, weight};
 use crate::{Language, Sort, Term, Words};
 use ml_base::NoMemory;
 use ml_text::{
-    Bracket, Logic, Mode, Placed, Role, Turn, WordStart, bracket_of, kind_of, operator_level,
+    Bracket, Mode, Notation, Placed, Role, Turn, WordStart, bracket_of, kind_of, operator_level,
     sign_of,
 };
 use std::alloc::Global;
@@ -40,7 +40,7 @@ fn role(sort: Sort, sign: &Sign) -> Role
     }
 }
 
-impl<W: Words> Logic for Reader<W> {
+impl<W: Words> Notation for Reader<W> {
     type Kind = Kind;
 
     type Context = ();
