@@ -30,3 +30,7 @@ pub mod Closures
 pub mod Graphs
 -- each formula has a graph
 pub mod SomeGraph
+-- graphs with names and priorities that a program holds
+pub mod HeldGraphs
+-- structures of which a logic speaks
+pub mod AdmittedStructures

@@ -7,7 +7,11 @@ use Rattle.ml_lines.proofs.LineFronts.{IsInLine}
 use Rattle.ml_text.specs.Operators.{spelling_of}
 use Rattle.ml_mu.specs.Canonical.{action_text, canonical_text, fixpoint_word, modality_text}
 use Rattle.ml_mu.specs.Formula as plain
-use Rattle.ml_mu.specs.Formula.{Formula, Modality, Diamond, Square, Fixpoint, Least, Greatest}
+use Rattle.ml_mu.specs.Formula.{Formula}
+use Rattle.ml_mu.specs.declared.term.Fixpoint.{Fixpoint}
+use Rattle.ml_mu.specs.declared.term.Fixpoint.TheVariants.{Least, Greatest}
+use Rattle.ml_mu.specs.declared.term.Modality.{Modality}
+use Rattle.ml_mu.specs.declared.term.Modality.TheVariants.{Diamond, Square}
 use Rattle.ml_mu.specs.Signs.{own}
 use Rattle.ml_mu.specs.Spelling.{is_action, is_spelled, is_variable}
 use Rattle.ml_front.proofs.WordLines.{action_in_line, between_in_line, both_in_line, proposition_in_line, seven_in_line, spelling_in_line, three_in_line, upper_in_line}

@@ -26,9 +26,8 @@ use Rattle.ml_ctl.specs.declared.term.Pairing.{Pairing}
 use Rattle.ml_ctl.specs.declared.term.Pairing.TheVariants as pairing
 use Rattle.ml_ctl.specs.declared.term.Quantifier.{Quantifier}
 use Rattle.ml_ctl.specs.declared.term.Quantifier.TheVariants as quantifier
-use Rattle.ml_ctl.specs.Spelling.{HasShortNames, is_reserved, is_spelled}
-use Rattle.ml_text.specs.Bytes.{is_lower}
-use Rattle.ml_text.specs.Words.{is_word_from}
+use Rattle.ml_ctl.specs.Signs.{own}
+use Rattle.ml_ctl.specs.Spelling.{HasShortNames, is_spelled}
 use Rattle.ml_blocks.specs.BlockGraph.{HasForm, IsGraphAt, IsNumberedBy, IsReached, at_root, behind, children}
 use Rattle.ml_blocks.specs.Items.{Item, Row, OfState, Waits, Becomes, Either, now, put_off, row, row_at, row_of_connective, row_of_pairing}
 use Rattle.ml_blocks.specs.Items.{row_of_tense, unless_put_off, until_released, left_number, behind_next, operand_of}
@@ -39,8 +38,7 @@ use Rattle.ml_blocks.specs.Places.{form_of_edge, form_of_formula, form_of_item, 
 use Rattle.ml_blocks.proofs.EdgesGoOn.{diamond_action}
 use Rattle.ml_blocks.proofs.ItemSetMembers.{next_items-member, put_all-member, without-member}
 use Rattle.ml_blocks.proofs.LocalRuns.{some_open}
-use Rattle.ml_refutation.specs.Refutation.{Fits}
-use Rattle.ml_driver.proofs.HeldNames.{Every, IsHeld, every_cons, lower_name}
+use Rattle.ml_nodes.proofs.HeldNames.{Every, Fits, IsHeld, every_cons, proposition_name}
 
 -- ---- formulas
 
@@ -56,7 +54,7 @@ NamesOf (plain.Quantified q f) = NamesOf f
 pub names_of : (f : Formula) → is_spelled f ≡ true → HasShortNames f → NamesOf f
 names_of (plain.Const b) spelled short = tt
 names_of (plain.Prop p) spelled short =
-    lower_name p (first_so (is_word_from is_lower p) (not (is_reserved p)) spelled) short
+    proposition_name own p spelled short
 names_of (plain.Not f) spelled short = names_of f spelled short
 names_of (plain.Binary op f g) spelled short = (
   names_of f (first_so (is_spelled f) (is_spelled g) spelled) short.0,

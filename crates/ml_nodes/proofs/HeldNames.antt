@@ -1,15 +1,14 @@
 -- Graphs whose names and priorities are what a program holds, whatever the logic.
 --
+--   Fits k        == the number k fits 32 bits
 --   Every P xs    == the members of xs have the property P
 --   IsHeld g      == the propositions of literals are names, the actions of diamonds are actions, and priorities fit 32 bits
 --   held_lists    == so it is where all names that the graph lists are such
 --   with_named    == a list of names to which a name was added
---   lower_name    == a word that begins with a small letter, and is short, is a name
---   action_named  == an action that is spelt as one, and short, is one
-use Rattle.std.proofs.Common.{◌≡◌, ◌||◌, ◌&&◌, ℕ, ◌<◌, ◌≤◌, ◌⊎◌, Bool, true, false, if◌then◌else◌, codes, bytes_eq, List, [], ◌∷◌, ◌++◌, length, inl, inr, refl, sym, subst}
-use Rattle.std.specs.Cmp.{first_so}
+--   proposition_name, action_name == a proposition that is spelled as one, and short, is a name; and so of an action
+use Rattle.std.proofs.Common.{◌≡◌, ℕ, ◌<◌, ◌≤◌, ◌⊎◌, Bool, true, false, if◌then◌else◌, codes, bytes_eq, List, [], ◌∷◌, ◌++◌, ◌^◌, length, inl, inr, refl, sym, subst, ⊎_elim}
 use Rattle.std.specs.List.{list_any}
-use Rattle.std.proofs.lemmas.Bool.{or_left}
+use Rattle.std.proofs.lemmas.Bool.{cases_Bool, or_left}
 use Rattle.std.proofs.lemmas.Slice.Eq.{bytes_eq-Decides}
 use Rattle.ml_base.specs.Name.{IsName, IsAction, is_blank_action, is_name, longest_name}
 use Rattle.ml_lists.specs.Member.{IsMember}
@@ -17,11 +16,13 @@ use Rattle.ml_lists.proofs.Member.{member-append, place-member}
 use Rattle.ml_graph.specs.Graph.{Graph, IsGraph, action_at, node_at, prop_at, size}
 use Rattle.ml_graph.specs.declared.node.Node.TheVariants as node
 use Rattle.ml_graph.proofs.References.{diamond_action, prop_in_range}
-use Rattle.ml_text.specs.Bytes.{is_letter, is_lower}
-use Rattle.ml_text.specs.Words.{is_word_from}
-use Rattle.ml_text.proofs.FirstLetters.{lower_letters}
+use Rattle.ml_text.specs.Signs.{OwnSigns, is_action, is_proposition, is_reserved}
+use Rattle.ml_text.proofs.FreeWords.{of_action, proposition_letters}
 use Rattle.ml_text.proofs.WordNames.{word_name}
-use Rattle.ml_refutation.specs.Refutation.{Fits}
+
+-- a number of 32 bits
+abbrev pub Fits : ℕ → Type 0
+Fits k = k < 2 ^ 32
 
 -- ---- members
 
@@ -68,18 +69,17 @@ with_named P ps p named all = by_test (list_any (bytes_eq p) ps)
     by_test true = all
     by_test false = every_append P ps (p ∷ []) all (every_cons P p [] named (λ y m. absurd m))
 
--- a proposition that is spelt as one, and short
-pub lower_name : (w : List ℕ) → is_word_from is_lower w ≡ true → length w ≤ longest_name → IsName w
-lower_name w word short = word_name w (lower_letters w word) short
+module _ {X : Type 0} (own : OwnSigns X) where
+  -- a proposition that is spelled as one, and short
+  pub proposition_name : (p : List ℕ) → is_proposition own p ≡ true → length p ≤ longest_name → IsName p
+  proposition_name p is short = word_name p (proposition_letters p (is_reserved own p) is) short
 
--- an action that is spelt as one, and short
-pub action_named : (a : List ℕ) (free : Bool)
-    → (bytes_eq a (codes "_") || (is_word_from is_letter a && free)) ≡ true
-    → length a ≤ longest_name
-    → IsAction a
-action_named a free is short = by_test (bytes_eq a (codes "_")) refl is
-  where
-    by_test : (b : Bool) → bytes_eq a (codes "_") ≡ b → (b || (is_word_from is_letter a && free)) ≡ true → IsAction a
-    by_test true same h = subst IsAction (sym ((bytes_eq-Decides a (codes "_")).0 same)) refl
-    by_test false other h =
-        or_left (is_name a) (is_blank_action a) (word_name a (first_so (is_word_from is_letter a) free h) short)
+  -- an action that is spelled as one, and short
+  pub action_name : (a : List ℕ) → is_action own a ≡ true → length a ≤ longest_name → IsAction a
+  action_name a is short =
+      ⊎_elim
+      (λ (any : bytes_eq a (codes "_") ≡ true). subst IsAction (sym ((bytes_eq-Decides a (codes "_")).0 any)) refl)
+      (λ (other : bytes_eq a (codes "_") ≡ false).
+      let word = (of_action (Unit {0}) a (is_reserved own a) is other (λ lower. tt) (λ upper. tt)).0 in
+      or_left (is_name a) (is_blank_action a) (word_name a word short))
+      (cases_Bool (bytes_eq a (codes "_")))

@@ -1,24 +1,40 @@
 -- A graph of a formula of the mu-calculus with names and priorities that a program holds.
 --
---   mu_held == a well-formed formula has such a graph in each sense
-use Rattle.std.proofs.Common.{◌≡◌, ℕ, ◌+◌, ◌*◌, ◌≤◌, not, Bool, true, List, [], ◌∷◌, ◌++◌, arith}
+--   mu_graph, is_mu_graph == the graph that the program makes of a formula, or of its negation
+--   mu_held               == a well-formed formula has such a graph in each sense
+use Rattle.std.proofs.Common.{◌≡◌, ℕ, ◌+◌, ◌*◌, ◌≤◌, Bool, true, if◌then◌else◌, List, [], ◌∷◌, ◌++◌, refl, arith}
 use Rattle.std.specs.Cmp.{first_so, second_so}
 use Rattle.ml_base.specs.Name.{IsName, IsAction}
 use Rattle.ml_graph.specs.Graph.{Graph}
-use Rattle.ml_text.specs.Bytes.{is_lower}
 use Rattle.ml_text.specs.declared.token.Operator.{Operator}
 use Rattle.ml_text.specs.declared.token.Operator.TheVariants as operator
-use Rattle.ml_text.specs.Words.{is_word_from}
 use Rattle.ml_text.specs.NameLists.{with_name}
-use Rattle.ml_mu.specs.Formula.{Formula, Const, Prop, Var, Not, Binary, Modal, Binder, Fixpoint, Least, Greatest, occurrences}
-use Rattle.ml_mu.specs.Spelling.{HasShortNames, is_action, is_reserved, is_spelled, is_variable}
+use Rattle.ml_mu.specs.Formula.{Formula, Const, Prop, Var, Not, Binary, Modal, Binder, occurrences}
+use Rattle.ml_mu.specs.declared.term.Fixpoint.{Fixpoint}
+use Rattle.ml_mu.specs.declared.term.Fixpoint.TheVariants.{Least, Greatest}
+use Rattle.ml_mu.specs.Signs.{own}
+use Rattle.ml_mu.specs.Spelling.{HasShortNames, is_action, is_spelled, is_variable}
 use Rattle.ml_mu.specs.WellFormed.{IsWellFormed}
 use Rattle.ml_mu_graph.specs.MuGraph.{IsGraphOf, binder_priority, binders, opposite}
 use Rattle.ml_nodes.specs.private.Connectives.{operator_priorities}
-use Rattle.ml_mu_graph.specs.private.NodeList.{actions_onto, priorities_of, props_onto}
-use Rattle.ml_front.proofs.SomeGraph.{mu_graph, is_mu_graph}
-use Rattle.ml_refutation.specs.Refutation.{Fits}
-use Rattle.ml_driver.proofs.HeldNames.{Every, IsHeld, action_named, every_append, every_cons, held_lists, lower_name, with_named}
+use Rattle.ml_mu_graph.specs.private.NodeList.{actions_onto, nodes_of, priorities_of, props_onto}
+use Rattle.ml_mu_graph.specs.private.Views.{none_around}
+use Rattle.ml_mu_graph.proofs.Made.{graph_made}
+use Rattle.ml_nodes.proofs.HeldNames.{Every, Fits, IsHeld, action_name, every_append, every_cons, held_lists, proposition_name, with_named}
+
+-- ---- the graph that the program makes
+
+abbrev pub mu_graph : Formula → Bool → Graph
+mu_graph f negated = record {
+  nodes = nodes_of (props_onto f []) (actions_onto f []) none_around 0 f;
+  priorities = priorities_of (2 * binders f) 0 f;
+  root = if negated then 1 else 0;
+  props = props_onto f [];
+  actions = actions_onto f [];
+}
+
+pub is_mu_graph : (f : Formula) (negated : Bool) → IsGraphOf (mu_graph f negated) f negated
+is_mu_graph f negated = graph_made {g = mu_graph f negated} {t = f} refl refl refl refl refl refl refl
 
 -- ---- names
 
@@ -27,7 +43,7 @@ props_named : (f : Formula) → is_spelled f ≡ true → HasShortNames f → (p
 props_named (Const b) spelled short ps all = all
 props_named (Prop p) spelled short ps all =
     with_named IsName ps p
-    (lower_name p (first_so (is_word_from is_lower p) (not (is_reserved p)) spelled) short) all
+    (proposition_name own p spelled short) all
 props_named (Var x) spelled short ps all = all
 props_named (Not f) spelled short ps all = props_named f spelled short ps all
 props_named (Binary op f h) spelled short ps all =
@@ -50,7 +66,7 @@ actions_named (Binary op f h) spelled short acts all =
 actions_named (Modal m a f) spelled short acts all =
     actions_named f (second_so (is_action a) (is_spelled f) spelled) short.1 (with_name acts a)
     (with_named IsAction acts a
-    (action_named a (not (is_reserved a)) (first_so (is_action a) (is_spelled f) spelled) short.0) all)
+    (action_name own a (first_so (is_action a) (is_spelled f) spelled) short.0) all)
 actions_named (Binder q x f) spelled short acts all =
     actions_named f (second_so (is_variable x) (is_spelled f) spelled) short.1 acts all
 
@@ -102,7 +118,7 @@ module _ (k top : ℕ) (low : k ≤ top) where
       (of_binder q d (omega (arith, fits))) (of_binder (opposite q) d (omega (arith, fits)))
       (low_priorities f (d + 1) (omega (arith, fits)))
 
--- ---- the graph
+-- ---- so it is held
 
 pub mu_held : (f : Formula) (negated : Bool) → IsWellFormed f → (g : Graph) × (IsGraphOf g f negated × IsHeld g)
 mu_held f negated well = (

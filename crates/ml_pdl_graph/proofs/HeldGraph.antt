@@ -1,23 +1,36 @@
 -- A graph of a formula of PDL with names and priorities that a program holds.
 --
---   pdl_held == a well-formed formula has such a graph in each sense
-use Rattle.std.proofs.Common.{◌≡◌, ℕ, ◌≤◌, not, Bool, true, List, [], ◌∷◌, ◌++◌, arith}
+--   pdl_graph, is_pdl_graph == the graph that the program makes of a formula, or of its negation
+--   pdl_held                == a well-formed formula has such a graph in each sense
+use Rattle.std.proofs.Common.{◌≡◌, ℕ, ◌≤◌, Bool, true, if◌then◌else◌, List, [], ◌∷◌, ◌++◌, refl, arith}
 use Rattle.std.specs.Cmp.{first_so, second_so}
 use Rattle.ml_base.specs.Name.{IsName, IsAction}
 use Rattle.ml_graph.specs.Graph.{Graph}
-use Rattle.ml_text.specs.Bytes.{is_lower}
 use Rattle.ml_text.specs.declared.token.Operator.{Operator}
 use Rattle.ml_text.specs.declared.token.Operator.TheVariants as operator
-use Rattle.ml_text.specs.Words.{is_word_from}
 use Rattle.ml_pdl.specs.Formula.{Formula, Const, Prop, Not, Binary, Modal, Repeat, Program, Act, Seq, Alt, Star, Test}
-use Rattle.ml_pdl.specs.Spelling.{HasShortNames, ProgramHasShortNames, is_reserved, is_spelled, program_is_spelled}
+use Rattle.ml_pdl.specs.Signs.{own}
+use Rattle.ml_pdl.specs.Spelling.{HasShortNames, ProgramHasShortNames, is_spelled, program_is_spelled}
 use Rattle.ml_pdl.specs.WellFormed.{IsWellFormed}
 use Rattle.ml_pdl_graph.specs.PdlGraph.{IsGraphOf, plain}
 use Rattle.ml_nodes.specs.private.Connectives.{operator_priorities}
-use Rattle.ml_pdl_graph.specs.private.NodeList.{actions_onto, priorities_of, program_actions_onto, program_priorities, program_props_onto, props_onto}
-use Rattle.ml_front.proofs.SomeGraph.{pdl_graph, is_pdl_graph}
-use Rattle.ml_refutation.specs.Refutation.{Fits}
-use Rattle.ml_driver.proofs.HeldNames.{Every, IsHeld, action_named, every_append, every_cons, held_lists, lower_name, with_named}
+use Rattle.ml_pdl_graph.specs.private.NodeList.{actions_onto, nodes_of, priorities_of, program_actions_onto, program_priorities, program_props_onto, props_onto}
+use Rattle.ml_pdl_graph.proofs.Made.{graph_made}
+use Rattle.ml_nodes.proofs.HeldNames.{Every, Fits, IsHeld, action_name, every_append, every_cons, held_lists, proposition_name, with_named}
+
+-- ---- the graph that the program makes
+
+abbrev pub pdl_graph : Formula → Bool → Graph
+pdl_graph f negated = record {
+  nodes = nodes_of (props_onto f []) (actions_onto f []) 0 f;
+  priorities = priorities_of f;
+  root = if negated then 1 else 0;
+  props = props_onto f [];
+  actions = actions_onto f [];
+}
+
+pub is_pdl_graph : (f : Formula) (negated : Bool) → IsGraphOf (pdl_graph f negated) f negated
+is_pdl_graph f negated = graph_made {g = pdl_graph f negated} {t = f} refl refl refl refl refl refl refl
 
 -- ---- names
 
@@ -27,7 +40,7 @@ mutual
   props_named (Const b) spelled short ps all = all
   props_named (Prop p) spelled short ps all =
       with_named IsName ps p
-      (lower_name p (first_so (is_word_from is_lower p) (not (is_reserved p)) spelled) short) all
+      (proposition_name own p spelled short) all
   props_named (Not f) spelled short ps all = props_named f spelled short ps all
   props_named (Binary op f h) spelled short ps all =
       props_named h (second_so (is_spelled f) (is_spelled h) spelled) short.1 (props_onto f ps)
@@ -70,7 +83,7 @@ mutual
       → Every IsAction acts
       → Every IsAction (program_actions_onto p acts)
   program_actions_named (Act a) spelled short acts all =
-      with_named IsAction acts a (action_named a (not (is_reserved a)) spelled short) all
+      with_named IsAction acts a (action_name own a spelled short) all
   program_actions_named (Seq p q) spelled short acts all =
       program_actions_named q (second_so (program_is_spelled p) (program_is_spelled q) spelled) short.1
       (program_actions_onto p acts)

@@ -1,5 +1,6 @@
 -- What the complete decision needs of each logic. A further logic adds its line to each of these.
 --
+--   IsHeld g     == the names and priorities of g are such as a program holds
 --   held_graph   == a well-formed formula has a graph in each sense, with names and priorities that a program holds, or its
 --                   closure is large
 use Rattle.std.proofs.Common.{◌⊎◌, Bool, true, not, inl, inr}
@@ -12,10 +13,14 @@ use Rattle.ml_front.specs.declared.problem.TheConstants.{MOST_NODES}
 use Rattle.ml_front.proofs.SomeGraph.{some_graph}
 use Rattle.ml_blocks.specs.BlockGraph.{linear_start_of, start_of}
 use Rattle.ml_blocks.specs.Items.{now}
-use Rattle.ml_driver.proofs.BlocksHeld.{blocks_held, names_of, start_named}
-use Rattle.ml_driver.proofs.HeldNames.{IsHeld}
-use Rattle.ml_driver.proofs.MuHeld.{mu_held}
-use Rattle.ml_driver.proofs.PdlHeld.{pdl_held}
+use Rattle.ml_blocks.proofs.HeldGraphs.{blocks_held, names_of, start_named}
+use Rattle.ml_nodes.proofs.HeldNames as names
+use Rattle.ml_mu_graph.proofs.HeldGraph.{mu_held}
+use Rattle.ml_pdl_graph.proofs.HeldGraph.{pdl_held}
+
+-- the names and priorities of a graph are such as a program holds
+abbrev pub IsHeld : Graph → Type 0
+IsHeld g = names.IsHeld g
 
 pub record HeldGraph (f : AnyFormula) (negated : Bool) : Type 0 where
   pub graph : Graph
