@@ -10,7 +10,9 @@ use Rattle.ml_text.specs.declared.token.Operator.{Operator}
 use Rattle.ml_text.specs.declared.token.Operator.TheVariants as operator
 use Rattle.ml_text.specs.Words.{is_word_from}
 use Rattle.ml_text.specs.NameLists.{with_name}
-use Rattle.ml_mu.specs.Formula.{Formula, Const, Prop, Var, Not, Binary, Modal, Binder, Fixpoint, Least, Greatest, occurrences}
+use Rattle.ml_mu.specs.Formula.{Formula, Const, Prop, Var, Not, Binary, Modal, Binder, occurrences}
+use Rattle.ml_mu.specs.declared.term.Fixpoint.{Fixpoint}
+use Rattle.ml_mu.specs.declared.term.Fixpoint.TheVariants.{Least, Greatest}
 use Rattle.ml_mu.specs.Spelling.{HasShortNames, is_action, is_reserved, is_spelled, is_variable}
 use Rattle.ml_mu.specs.WellFormed.{IsWellFormed}
 use Rattle.ml_mu_graph.specs.MuGraph.{IsGraphOf, binder_priority, binders, opposite}
