@@ -12,12 +12,8 @@ use Rattle.ml_text.specs.NameLists.{with_name}
 use Rattle.ml_mu.specs.Formula.{Formula, Const, Prop, Var, Not, Binary, Modal, Binder, occurrences}
 use Rattle.ml_mu.specs.declared.term.Fixpoint.{Fixpoint}
 use Rattle.ml_mu.specs.declared.term.Fixpoint.TheVariants.{Least, Greatest}
-<<<<<<< HEAD:crates/ml_mu_graph/proofs/HeldGraph.antt
 use Rattle.ml_mu.specs.Signs.{own}
 use Rattle.ml_mu.specs.Spelling.{HasShortNames, is_action, is_spelled, is_variable}
-=======
-use Rattle.ml_mu.specs.Spelling.{HasShortNames, is_action, is_reserved, is_spelled, is_variable}
->>>>>>> e90c55cd44c0d881fffeef1cc2ba513692eba282:crates/ml_driver/proofs/MuHeld.antt
 use Rattle.ml_mu.specs.WellFormed.{IsWellFormed}
 use Rattle.ml_mu_graph.specs.MuGraph.{IsGraphOf, binder_priority, binders, opposite}
 use Rattle.ml_nodes.specs.private.Connectives.{operator_priorities}
