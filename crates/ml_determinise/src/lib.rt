@@ -8,4 +8,11 @@
 // `ml_product` only this is taken, that histories over finitely many states are finitely many.
 #![tactic(auto)]
 
+mod determinising;
 pub mod laws;
+mod moves;
+mod refusals;
+
+pub use determinising::determinise;
+pub use moves::DetMove;
+pub use refusals::DetRefusal;
