@@ -1,12 +1,12 @@
 -- Deterministic parity automata that go alike.
 --
--- A relation between the states of two of them says so: related states have the same priorities along each letter, and what
--- lies behind them is related again. Then the second accepts what the first does, where a state of the first is related
--- to one of the second at most.
+-- A relation between the states of two of them says so: related states have the same priorities along each letter, and
+-- what lies behind them is related again. Then the second accepts what the first does, where a state of the first is
+-- related to one of the second at most.
 --
 --   word_letter     == a letter that is read of a lasso is one of its word
 --   accepted_alike  == what the first accepts is accepted by the second
-use Rattle.std.proofs.Common.{ℕ, zero, suc, ◌≡◌, ◌⊎◌, inl, inr, List, [], ◌∷◌, ◌++◌, take, drop, refl, sym, ap, ◌∙◌, subst}
+use Rattle.std.proofs.Common.{ℕ, zero, suc, ◌≡◌, ◌⊎◌, inl, inr, List, [], ◌∷◌, ◌++◌, refl, subst}
 use Rattle.std.proofs.lemmas.List.{take-append-drop}
 use Rattle.ml_lists.specs.Member.{IsMember}
 use Rattle.ml_lists.specs.Repeated.{repeated}
@@ -79,8 +79,7 @@ module _ {S T L : Type 0} (d : DetAutomaton S L) (e : DetAutomaton T L) (R : S �
     comes = refl;
     rounds = a.rounds;
     once = a.once;
-    returns = alike.one a.state (state_behind e end circle) end
-        (subst (λ z. R z (state_behind e end circle)) a.returns (behind_alike circle a.state end round_letters there)) there;
+    returns = alike.one a.state (state_behind e end circle) end back there;
     lowest = a.lowest;
     is_lowest = subst (IsLowest a.lowest) (priorities_alike circle a.state end round_letters there) a.is_lowest;
     is_odd = a.is_odd;
@@ -100,3 +99,8 @@ module _ {S T L : Type 0} (d : DetAutomaton S L) (e : DetAutomaton T L) (R : S �
 
       round_letters : (l : L) → IsMember l circle → P l
       round_letters l m = all l (turn_letter l w a.rounds m)
+
+      back : R a.state (state_behind e end circle)
+      back =
+          subst (λ z. R z (state_behind e end circle)) a.returns
+          (behind_alike circle a.state end round_letters there)

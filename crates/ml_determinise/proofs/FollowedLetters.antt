@@ -9,7 +9,7 @@
 --   partway_at      == so a history keeps its place
 --   partway_more    == one letter more
 --   partway_passed  == where there is no room for what it leads to, all letters lead to too many
-use Rattle.std.proofs.Common.{ℕ, suc, ◌≡◌, ◌+◌, ◌<◌, ◌≤◌, ◌⊎◌, inl, inr, arith, List, [], ◌∷◌, ◌++◌, length, map, get_or, take}
+use Rattle.std.proofs.Common.{ℕ, ◌≡◌, ◌+◌, ◌<◌, ◌≤◌, ◌⊎◌, inl, inr, arith, List, [], ◌∷◌, ◌++◌, length, map, get_or, take}
 use Rattle.std.proofs.Common.{refl, sym, ap, ◌∙◌, subst, append_assoc, append-nil, length-append}
 use Rattle.std.proofs.lemmas.Bool.{cases_lt}
 use Rattle.std.proofs.lemmas.List.{get_or_append_left, get_or_default, map_push, map-append, take_more}
@@ -17,7 +17,7 @@ use Rattle.std.proofs.lemmas.Option.{slice_get_within}
 use Rattle.ml_lists.specs.Added.{IsAdded}
 use Rattle.ml_lists.specs.Member.{IsMember}
 use Rattle.ml_lists.proofs.Added.{added_early, added_long}
-use Rattle.ml_lists.proofs.FirstEntries.{AreApart, firsts, firsts-apart, firsts-front, firsts-member, member-firsts, number, number_at}
+use Rattle.ml_lists.proofs.FirstEntries.{AreApart, firsts, firsts-apart, firsts-front, member-firsts, number_at}
 use Rattle.ml_lists.proofs.Member.{member-append_right, member-map}
 use Rattle.ml_trace.specs.declared.letters.Transition.{Transition}
 use Rattle.ml_trace.specs.Marks.{priority}
@@ -25,7 +25,7 @@ use Rattle.ml_trace.specs.Stack.{Item}
 use Rattle.ml_history.specs.HistoryOrder.{history_eq, history_eq-decides}
 use Rattle.ml_history.specs.HistoryStep.{stepped, step_mark}
 use Rattle.ml_determinise.specs.Histories.{neutral}
-use Rattle.ml_determinise.specs.Numbering.{successors, move_along, moves_from}
+use Rattle.ml_determinise.specs.Numbering.{successors, move_along}
 use Rattle.ml_determinise.specs.private.Walk.{history_at, HasNoRoom, IsPartway}
 use Rattle.ml_determinise.specs.declared.moves.DetMove.{DetMove}
 use Rattle.ml_determinise.proofs.Firsts.{firsts_of_apart, firsts_new, firsts_added, number_grows}
@@ -45,7 +45,8 @@ pub read_history : (hs ks : List (List (Item ℕ))) (v : ℕ) (h : List (Item �
     → h ≡ history_at hs v
 read_history hs ks v h same low is = is ∙ ap (λ xs. get_or xs v h) same ∙ get_or_default hs v h [] low
 
-module _ (limit : ℕ) (hs ks : List (List (Item ℕ))) (h : List (Item ℕ)) (i : ℕ) (few : length hs ≤ limit) (a : IsAdded hs h ks i) where
+module _ (limit : ℕ) (hs ks : List (List (Item ℕ))) (h : List (Item ℕ)) (i : ℕ) (few : length hs ≤ limit)
+    (a : IsAdded hs h ks i) where
   pub has_room : i < limit → length ks ≤ limit
   has_room low = by_place (cases_lt i (length hs))
     where

@@ -22,3 +22,5 @@ pub mod FollowedLetters
 pub mod WalkedHistories
 -- refusals that are handed on
 pub mod HandedOn
+-- histories have one numbering at most
+pub mod OneNumbering

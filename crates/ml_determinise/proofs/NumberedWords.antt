@@ -6,20 +6,20 @@
 --   inside          == what is behind a numbered history along a letter is numbered
 --   move_is         == the move that is read at a number and a letter is that of its history
 --   numbered_same_words == the law
-use Rattle.std.proofs.Common.{ℕ, ◌≡◌, ◌<◌, ◌↔◌, List, [], ◌∷◌, length, map, get_or, Some, refl, sym, ap, ◌∙◌, subst, inl, inr}
+use Rattle.std.proofs.Common.{ℕ, ◌≡◌, ◌<◌, ◌↔◌, List, [], ◌∷◌, length, get_or, Some, sym, ap, ◌∙◌, subst, inr}
 use Rattle.std.specs.List.{flat_map, slice_get}
 use Rattle.std.proofs.lemmas.List.{get_or-map}
 use Rattle.std.proofs.lemmas.Option.{slice_get_within, get_or_from_slice_get}
 use Rattle.ml_lists.specs.Member.{IsMember}
-use Rattle.ml_lists.proofs.FirstEntries.{AreApart, apart_places, firsts, firsts-apart, member-firsts, number, number_is}
+use Rattle.ml_lists.proofs.FirstEntries.{AreApart, apart_places, firsts-apart, member-firsts, number_is}
 use Rattle.ml_lists.proofs.Member.{member-flat_map, member-map, member_of_get, place-member}
 use Rattle.ml_trace.specs.declared.letters.Transition.{Transition}
 use Rattle.ml_trace.specs.Stack.{Item}
-use Rattle.ml_trace.specs.WordAutomata.{WordLasso, IsWordLasso, IsDetAcceptedFrom}
+use Rattle.ml_trace.specs.WordAutomata.{WordLasso, IsDetAcceptedFrom}
 use Rattle.ml_history.specs.History.{start}
 use Rattle.ml_history.specs.HistoryOrder.{history_eq, history_eq-decides}
 use Rattle.ml_history.specs.HistoryStep.{stepped}
-use Rattle.ml_determinise.specs.Histories.{StaysBelow, histories_of, leads_in, letter_at}
+use Rattle.ml_determinise.specs.Histories.{histories_of, letter_at}
 use Rattle.ml_determinise.specs.Numbering.{IsNumbering, IsNumbered, NumberedSameWords, IsWord, automaton_of, move_along, move_at, moves_from, moves_of, successors}
 use Rattle.ml_determinise.specs.declared.moves.DetMove.{DetMove}
 use Rattle.ml_determinise.proofs.AlikeAutomata.{GoAlike, accepted_alike}
@@ -68,7 +68,8 @@ module _ (states : ℕ) (row : List (List Transition)) (hs : List (List (Item �
 
 -- ---- the law
 
-module _ (states : ℕ) (row : List (List Transition)) (q : ℕ) (moves : List (List DetMove)) (m : IsNumbered states row q moves) where
+module _ (states : ℕ) (row : List (List Transition)) (q : ℕ) (moves : List (List DetMove))
+    (m : IsNumbered states row q moves) where
   abbrev hs : List (List (Item ℕ))
   hs = m.histories
 
@@ -82,7 +83,10 @@ module _ (states : ℕ) (row : List (List Transition)) (q : ℕ) (moves : List (
   abbrev InRow : ℕ → Type 0
   InRow i = i < length row
 
-  read : (v i : ℕ) (h : List (Item ℕ)) → HasNumber h v → InRow i → move_at moves v i ≡ move_along states hs h (letter_at row i)
+  read : (v i : ℕ) (h : List (Item ℕ))
+      → HasNumber h v
+      → InRow i
+      → move_at moves v i ≡ move_along states hs h (letter_at row i)
   read v i h at low = ap (λ ms. move_at ms v i) m.moves_are ∙ move_is states row hs v i h at low
 
   next_has : (h : List (Item ℕ)) (v i : ℕ)

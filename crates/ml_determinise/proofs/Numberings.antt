@@ -1,11 +1,11 @@
 -- At most so many histories have a numbering, or more are reached.
 --
--- Histories are met breadth first from the start. Where the search ends, what it met is a numbering; and where it doesn't, it
--- met more.
+-- Histories are met breadth first from the start. Where the search ends, what it met is a numbering; and where it
+-- doesn't, it met more.
 --
 --   all_numbered    == each history that is reached has a number
 --   some_numbering, never_both == the laws
-use Rattle.std.proofs.Common.{ℕ, ◌≡◌, ◌<◌, ◌≤◌, ◌⊎◌, inl, inr, arith, List, [], ◌∷◌, ◌++◌, length, refl, sym, ap, ◌∙◌, subst, append-nil}
+use Rattle.std.proofs.Common.{ℕ, ◌⊎◌, inl, inr, arith, List, refl, sym, ◌∙◌, append-nil}
 use Rattle.ml_lists.specs.Member.{IsMember}
 use Rattle.ml_lists.proofs.BreadthFirstSearch.{Ended, TooMany, search}
 use Rattle.ml_lists.proofs.FirstEntries.{apart_places, none_more}
@@ -13,7 +13,6 @@ use Rattle.ml_trace.specs.declared.letters.Transition.{Transition}
 use Rattle.ml_trace.specs.Stack.{Item}
 use Rattle.ml_history.specs.History.{start}
 use Rattle.ml_history.specs.HistoryOrder.{history_eq, history_eq-decides}
-use Rattle.ml_history.specs.HistoryStep.{stepped}
 use Rattle.ml_determinise.specs.Numbering.{IsReached, at_start, along, HasMoreThan, IsNumbering, IsNumberingWithin, NeverBoth, SomeNumbering, successors}
 use Rattle.ml_determinise.proofs.NumberedWords.{listed, inside}
 use Rattle.ml_determinise.proofs.ReachedHistories.{behind}

@@ -1,5 +1,5 @@
--- Histories that are reached: their states are below the number of states, so the marks of their steps have priorities below
--- the neutral one.
+-- Histories that are reached: their states are below the number of states, so the marks of their steps have priorities
+-- below the neutral one.
 --
 --   behind        == what is behind a history that is reached is reached
 --   reached_small == the states of a history that is reached are states of the automaton
@@ -42,4 +42,5 @@ module _ (states : ℕ) (row : List (List Transition)) (q : ℕ) (stays : StaysB
       at : Place letter row → FitsBelow (neutral states) (step_mark h letter)
       at p =
           subst (λ l. FitsBelow (neutral states) (step_mark h l)) (p.holds [])
-          (marks_fit states row stays h (p.place ∷ []) (reached_small h r) (step_mark h (letter_at row p.place)) (inl refl))
+          (marks_fit states row stays h (p.place ∷ []) (reached_small h r) (step_mark h (letter_at row p.place))
+          (inl refl))

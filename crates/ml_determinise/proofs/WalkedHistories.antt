@@ -3,10 +3,10 @@
 --   walked_begun    == at the start
 --   walked_apart, walked_reached == no history stands there twice, and each is reached
 --   walked_more     == all letters were followed from one history more
---   walked_numbering, walked_ended == where there are no new histories, they are a numbering, and the moves are its moves
+--   walked_numbering, walked_ended == where there are no new histories, they are a numbering with these moves
 --   walked_passed   == where letters lead to too many, more are reached than are allowed
 use Rattle.std.proofs.Common.{ℕ, ◌≡◌, ◌+◌, ◌<◌, ◌≤◌, ◌⊎◌, inl, inr, arith, List, [], ◌∷◌, ◌++◌, length, map}
-use Rattle.std.proofs.Common.{refl, sym, ap, ◌∙◌, subst, append_assoc, append-nil, length-append}
+use Rattle.std.proofs.Common.{refl, sym, ap, ◌∙◌, subst, append-nil, length-append}
 use Rattle.std.specs.List.{flat_map}
 use Rattle.std.proofs.Math.Seq.{get_or-append_seam}
 use Rattle.std.proofs.lemmas.Grind.{flat_map-append}
@@ -30,7 +30,7 @@ use Rattle.ml_determinise.proofs.ReachedHistories.{behind}
 -- the moves of a front stay the same where the histories grow
 fronts_stay : (states : ℕ) (row : List (List Transition)) (hs more front : List (List (Item ℕ)))
     → ((h : List (Item ℕ)) (letter : List Transition)
-      → IsMember h front → IsMember letter row → IsMember (stepped h letter) hs)
+    → IsMember h front → IsMember letter row → IsMember (stepped h letter) hs)
     → map (moves_from states row hs) front ≡ map (moves_from states row (hs ++ more)) front
 fronts_stay states row hs more [] listed = refl
 fronts_stay states row hs more (h ∷ front) listed =
@@ -115,7 +115,8 @@ module _ (states : ℕ) (row : List (List Transition)) (q limit : ℕ) where
 
       rest_is : (rest : List (List (Item ℕ))) × (w.back ≡ this ∷ rest)
       rest_is =
-          let at = at_seam w.front w.back (length all) many (subst (λ xs. length all < length xs) w.histories_are low) in
+          let within = subst (λ xs. length all < length xs) w.histories_are low in
+          let at = at_seam w.front w.back (length all) many within in
           (at.0, at.1 ∙ ap (λ xs. history_at xs (length all) ∷ at.0) (sym w.histories_are))
 
       further : (more : List (List (Item ℕ))) × Looked history_eq next (start q) reached (w.front ++ this ∷ []) more
@@ -163,7 +164,8 @@ module _ (states : ℕ) (row : List (List Transition)) (q limit : ℕ) where
       walked_passed more = record {
         histories = firsts history_eq (hs ++ next this);
         are_apart = firsts-apart history_eq history_eq-decides (hs ++ next this);
-        are_reached = λ h m. by_part h (member-append h hs (next this) (firsts-member history_eq h (hs ++ next this) m));
+        are_reached =
+            λ h m. by_part h (member-append h hs (next this) (firsts-member history_eq h (hs ++ next this) m));
         are_more = more;
       }
         where

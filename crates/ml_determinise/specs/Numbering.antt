@@ -1,9 +1,9 @@
 -- The deterministic automaton of histories with its states numbered, as lists of moves.
 --
--- A history is reached if letters of the row lead to it from the start. The histories that are reached are numbered breadth
--- first: the start, then those behind the start, letter by letter, then those behind the next one, and so on, each
--- where it comes first. (Without saying that each is reached, a history could stand there because of itself alone.) A move
--- has the priority of a step, and the number of the history that it leads to.
+-- A history is reached if letters of the row lead to it from the start. The histories that are reached are numbered
+-- breadth first: the start, then those behind the start, letter by letter, then those behind the next one, and so on,
+-- each where it comes first. (Without saying that each is reached, a history could stand there because of itself
+-- alone.) A move has the priority of a step, and the number of the history that it leads to.
 --
 -- Of lists of values `ml_lists` has three notions (`proofs/FirstEntries`), with a test `eq` that tells equal ones:
 --
@@ -22,6 +22,7 @@
 --   automaton_of moves       == the deterministic parity automaton that has these moves
 --   IsWord row w             == the letters of w are numbers of letters of the row
 --   NumberedSameWords        == from 0 it accepts the words that the Büchi automaton accepts from q
+--   OneNumbering             == histories have one numbering at most
 --   SomeNumbering            == at most n histories have a numbering, or more than n are reached
 --   NeverBoth                == and never both
 use Rattle.std.specs.Prelude.{ℕ, ◌≡◌, ◌<◌, ◌≤◌, ◌⊎◌, ◌↔◌, List, [], ◌∷◌, length, map, get_or}
@@ -121,6 +122,12 @@ NumberedSameWords = (states : ℕ) (row : List (List Transition)) (q : ℕ) (mov
     → IsWordLasso w
     → IsWord row w
     → IsAcceptedFrom (leads_in row) q w ↔ IsDetAcceptedFrom (automaton_of moves) 0 w
+
+abbrev pub OneNumbering : Type 0
+OneNumbering = (row : List (List Transition)) (q : ℕ) (hs ks : List (List (Item ℕ)))
+    → IsNumbering row q hs
+    → IsNumbering row q ks
+    → hs ≡ ks
 
 -- a numbering of at most n histories
 pub record IsNumberingWithin (row : List (List Transition)) (q n : ℕ) (hs : List (List (Item ℕ))) : Type 0 where

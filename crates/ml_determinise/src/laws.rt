@@ -1,6 +1,6 @@
 // Laws about the definitions alone: empty functions, each of whose contract is a theorem.
 ghost use Rattle.ml_determinise.specs.Histories.{SameWords};
-ghost use Rattle.ml_determinise.specs.Numbering.{NumberedSameWords, SomeNumbering, NeverBoth};
+ghost use Rattle.ml_determinise.specs.Numbering.{NumberedSameWords, OneNumbering, SomeNumbering, NeverBoth};
 
 /// The deterministic parity automaton of histories accepts exactly the endless words that the Büchi automaton accepts, from
 /// each of its states.
@@ -16,6 +16,13 @@ pub fn same_words()
 /// Does nothing when called.
 pub fn numbered_same_words()
     ensures { NumberedSameWords }
+{}
+
+/// The histories that are reached from a state have one numbering at most; so the moves are known.
+///
+/// Does nothing when called.
+pub fn one_numbering()
+    ensures { OneNumbering }
 {}
 
 /// At most n histories are reached and have a numbering, or more than n are reached; and never both.

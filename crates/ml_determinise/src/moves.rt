@@ -45,7 +45,11 @@ fn add(histories: &mut IndexSet<History>, history: History) -> Result<usize, NoM
 }
 
 // the number of a history, if that many are allowed
-fn number(histories: &mut IndexSet<History>, history: History, limit: u32) -> Result<u32, DetRefusal>
+fn number(
+    histories: &mut IndexSet<History>,
+    history: History,
+    limit: u32,
+) -> Result<u32, DetRefusal>
     requires few { length histories.old.keys ≤ limit }
     ensures added { IfOk result (IsAdded histories.old.keys history histories.new.keys) }
     ensures few { OnOk result (length histories.new.keys ≤ limit) }

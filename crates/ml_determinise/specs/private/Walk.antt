@@ -5,16 +5,16 @@
 --   HasNoRoom limit hs h == h is a new one, and there are as many as are allowed
 --   IsPartway           == some letters were followed from a history
 --   IsWalked            == all letters were followed from the histories that have moves
-use Rattle.std.specs.Prelude.{ℕ, ◌≡◌, ◌<◌, ◌≤◌, List, [], ◌++◌, length, map, get_or}
+use Rattle.std.specs.Prelude.{ℕ, ◌≡◌, ◌≤◌, List, [], ◌++◌, length, map, get_or}
 use Rattle.ml_lists.specs.Member.{IsMember}
-use Rattle.ml_lists.proofs.FirstEntries.{AreApart, firsts}
+use Rattle.ml_lists.proofs.FirstEntries.{firsts}
 use Rattle.ml_lists.proofs.BreadthFirstSearch.{Looked}
 use Rattle.ml_trace.specs.declared.letters.Transition.{Transition}
 use Rattle.ml_trace.specs.Marks.{FitsBelow}
 use Rattle.ml_trace.specs.Stack.{Item}
 use Rattle.ml_history.specs.History.{start}
 use Rattle.ml_history.specs.HistoryOrder.{history_eq}
-use Rattle.ml_history.specs.HistoryStep.{stepped, step_mark}
+use Rattle.ml_history.specs.HistoryStep.{step_mark}
 use Rattle.ml_determinise.specs.Numbering.{IsReached, successors, move_along, moves_from}
 use Rattle.ml_determinise.specs.declared.moves.DetMove.{DetMove}
 
@@ -32,8 +32,8 @@ pub record HasNoRoom (limit : ℕ) (hs : List (List (Item ℕ))) (h : List (Item
   pub is_new : ¬ (IsMember h hs)
 
 -- these letters were followed from h, where the histories were hs and are now ks
-pub record IsPartway (states limit : ℕ) (hs : List (List (Item ℕ))) (h : List (Item ℕ)) (letters : List (List Transition))
-    (ks : List (List (Item ℕ))) (moves : List DetMove) : Type 0 where
+pub record IsPartway (states limit : ℕ) (hs : List (List (Item ℕ))) (h : List (Item ℕ))
+    (letters : List (List Transition)) (ks : List (List (Item ℕ))) (moves : List DetMove) : Type 0 where
   pub met : ks ≡ firsts history_eq (hs ++ successors letters h)
   pub moves_are : moves ≡ map (move_along states ks h) letters
   pub few : length ks ≤ limit

@@ -19,4 +19,5 @@ returns-clause-priority c =
     let is = read_history keys c.as_slice.result.now c.args.v c.index-as_slice-v.result c.as_slice.ensures.keys
     c.requires.number c.index-as_slice-v.is in
     c.priority_of.ensures
-    ∙ ap (priority (2 * (c.args.states + 1))) (c.in_ok-history.ensures.mark ∙ ap (λ h. step_mark h c.args.letter.now) is)
+    ∙ ap (priority (2 * (c.args.states + 1)))
+    (c.in_ok-history.ensures.mark ∙ ap (λ h. step_mark h c.args.letter.now) is)

@@ -51,8 +51,8 @@ returns-in_err-follow-clause-passed c = λ e.
     l.invariant c.args.v c.requires.number).1 in
     let next = next_letter row l.letter-index letter c.loop-letter-test.true c.letter-item.is in
     let p = err_from_is_err_and c.from_residual-in_err-follow.result c.from_residual-in_err-follow.ensures.1 in
-    partway_passed c.args.states c.args.limit hs h c.requires.apart done l.histories.keys l.moves.items l.invariant letter
-    row (drop (l.letter-index + 1) row)
+    partway_passed c.args.states c.args.limit hs h c.requires.apart done l.histories.keys l.moves.items l.invariant
+    letter row (drop (l.letter-index + 1) row)
     (ap (λ xs. xs ++ drop (l.letter-index + 1) row) (sym next) ∙ take-append-drop (l.letter-index + 1) row)
     (subst (λ k. HasNoRoom c.args.limit l.histories.keys (stepped k letter)) at
     (c.in_err-follow.ensures.passed (handed_on c.from_residual-in_err-follow.result c.in_err-follow.field-0.0 p e)))
