@@ -24,3 +24,5 @@ pub mod WalkedHistories
 pub mod HandedOn
 -- histories have one numbering at most
 pub mod OneNumbering
+-- no more histories are reached than there are
+pub mod BoundedHistories

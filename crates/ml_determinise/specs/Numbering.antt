@@ -20,12 +20,14 @@
 --   rows_of all              == the lists of moves that the vectors hold
 --   HasMoreThan row q n      == more than n different histories are reached
 --   automaton_of moves       == the deterministic parity automaton that has these moves
+--   most_histories states    == how many histories over so many states there are at most
 --   IsWord row w             == the letters of w are numbers of letters of the row
 --   NumberedSameWords        == from 0 it accepts the words that the Büchi automaton accepts from q
 --   OneNumbering             == histories have one numbering at most
 --   SomeNumbering            == at most n histories have a numbering, or more than n are reached
 --   NeverBoth                == and never both
-use Rattle.std.specs.Prelude.{ℕ, ◌≡◌, ◌<◌, ◌≤◌, ◌⊎◌, ◌↔◌, List, [], ◌∷◌, length, map, get_or}
+--   HistoriesAreBounded      == no more are reached than there are at most
+use Rattle.std.specs.Prelude.{ℕ, ◌≡◌, ◌+◌, ◌*◌, ◌^◌, ◌<◌, ◌≤◌, ◌⊎◌, ◌↔◌, List, [], ◌∷◌, length, map, get_or}
 use Rattle.std.specs.Global.{Vec}
 use Rattle.std.specs.List.{flat_map}
 use Rattle.ml_lists.specs.Member.{IsMember}
@@ -142,3 +144,13 @@ abbrev pub NeverBoth : Type 0
 NeverBoth = (row : List (List Transition)) (q n : ℕ) (hs : List (List (Item ℕ)))
     → IsNumberingWithin row q n hs
     → ¬ (HasMoreThan row q n)
+
+-- one number below `states` for each name, its parent, and one of at most `states` for each state, its last name
+abbrev pub most_histories : ℕ → ℕ
+most_histories states = states ^ states * (states + 1) ^ states
+
+abbrev pub HistoriesAreBounded : Type 0
+HistoriesAreBounded = (states : ℕ) (row : List (List Transition)) (q : ℕ)
+    → StaysBelow states row
+    → q < states
+    → ¬ (HasMoreThan row q (most_histories states))

@@ -1,6 +1,6 @@
 // Laws about the definitions alone: empty functions, each of whose contract is a theorem.
 ghost use Rattle.ml_determinise.specs.Histories.{SameWords};
-ghost use Rattle.ml_determinise.specs.Numbering.{NumberedSameWords, OneNumbering, SomeNumbering, NeverBoth};
+ghost use Rattle.ml_determinise.specs.Numbering.{HistoriesAreBounded, NumberedSameWords, OneNumbering, SomeNumbering, NeverBoth};
 
 /// The deterministic parity automaton of histories accepts exactly the endless words that the Büchi automaton accepts, from
 /// each of its states.
@@ -31,4 +31,12 @@ pub fn one_numbering()
 pub fn numbered_or_passed()
     ensures one { SomeNumbering }
     ensures never_both { NeverBoth }
+{}
+
+/// Over Q states at most Q^Q * (Q + 1)^Q histories are reached: where the limit is no less, no automaton is refused for its
+/// size.
+///
+/// Does nothing when called.
+pub fn histories_are_bounded()
+    ensures { HistoriesAreBounded }
 {}
