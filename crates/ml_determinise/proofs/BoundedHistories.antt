@@ -23,7 +23,8 @@ histories_are_bounded states row q stays low many =
 
     small : (k : ℕ) → k < length many.histories → Small states (at k)
     small k below =
-        reached_small states row q stays low (at k) (many.are_reached (at k) (place-member many.histories k (start q) below))
+        reached_small states row q stays low (at k)
+        (many.are_reached (at k) (place-member many.histories k (start q) below))
 
     twice : Twice (λ k. code states (at k)) (most_histories states) → ⊥
     twice t =
@@ -32,7 +33,8 @@ histories_are_bounded states row q stays low many =
         let more = many.are_more in
         let first_low : t.first < length many.histories = omega arith in
         let second_low : t.second < length many.histories = omega arith in
-        let same = same_code states (at t.first) (at t.second) (small t.first first_low) (small t.second second_low) t.same in
+        let same = same_code states (at t.first) (at t.second) (small t.first first_low) (small t.second second_low)
+        t.same in
         let one = apart_places many.histories many.are_apart t.first t.second (at t.second)
         (slice_get-get_or many.histories t.first (start q) first_low ∙ ap Some same)
         (slice_get-get_or many.histories t.second (start q) second_low) in
