@@ -5,7 +5,7 @@
 --   step_formula k, step_text k == `<a;a;..>p & [a*]!p`, with k times more
 --   loop_formula k, loop_text k == `repeat(a;a;..)`, with k times more
 --   step_parsed, loop_parsed    == where k is at most 400, the text is parsed as the formula
-use Rattle.std.proofs.Common.{◌≡◌, ℕ, zero, suc, ◌+◌, ◌*◌, ◌≤◌, true, false, List, [], ◌∷◌, ◌++◌, map, codes, refl, sym, ap, subst, ◌∙◌, arith}
+use Rattle.std.proofs.Common.{◌≡◌, ℕ, zero, suc, ◌+◌, ◌*◌, ◌≤◌, true, false, None, List, [], ◌∷◌, ◌++◌, map, codes, refl, sym, ap, subst, ◌∙◌, arith}
 use Rattle.std.specs.List.{AllByRecursion}
 use Rattle.ml_text.specs.declared.token.Operator.TheVariants as operator
 use Rattle.ml_text.specs.declared.token.Token.TheVariants as token
@@ -26,8 +26,7 @@ use Rattle.ml_pdl.specs.Grammar as grammar
 use Rattle.ml_pdl.specs.Grammar.{IsReadAs, Reads, ReadsProgram, iff_alone, imp_alone, or_alone, and, and_alone, alt_alone, seq, seq_alone, modal, repetition}
 use Rattle.ml_pdl.specs.Marks.{asks, is_test_behind, mark_of, marked, with_mark}
 use Rattle.ml_pdl.specs.Parsing.{IsParsedAs}
-use Rattle.ml_pdl.specs.Signs.{Sign, word_sign}
-use Rattle.ml_pdl.specs.declared.signs.SignOver.TheVariants.{Open, Repeats}
+use Rattle.ml_pdl.specs.Signs.{Sign, byte_sign, word_sign, word_sign_by}
 use Rattle.ml_pdl.specs.Text.{bracket_of, pdl_signs, items, sign_by}
 use Rattle.ml_pdl.proofs.CanonicalLimits.{opens_of, token_bracket, few_open, program_few, program_short, tokens_short}
 use Rattle.ml_pdl.proofs.CanonicalTexts.{plain_signs, program_onto, reads_formula, reads_program, scans_formula, scans_program, sign_spelt, signs_with_marks, tokens_onto}
@@ -201,7 +200,7 @@ scans_loop k =
     word_piece AnyLetter (codes "repeat") (40 ∷ rest) (lone 40 ∷ toks) refl refl
     (lone_piece AnyLetter 40 rest toks refl inside)
 
-repeat_sign : word_sign (codes "repeat") ≡ Repeats
+repeat_sign : word_sign (codes "repeat") ≡ word_sign_by None (codes "repeat")
 unfolding constant_of
 repeat_sign = refl
 
@@ -212,7 +211,7 @@ reads_loop k =
     un_raised grammar.Iff
     (subst
     (λ t. Reads grammar.Un
-    (with_mark (is_test_behind 0 (plain_signs (lone 40 ∷ toks))) t ∷ Open (mark_of b) ∷ signs_with_marks toks)
+    (with_mark (is_test_behind 0 (plain_signs (lone 40 ∷ toks))) t ∷ with_mark b (byte_sign 40) ∷ signs_with_marks toks)
     (loop_formula k) [])
     (sym repeat_sign) (repetition (mark_of b) (reads_acts k (lone 41 ∷ []) refl)))
 
