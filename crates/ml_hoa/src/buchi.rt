@@ -75,7 +75,11 @@ impl Model for Buchi {
     ghost view = { λ b. record { states = b.states; start = b.start; props = b.props.items; edges = edges_of b.edges.items } };
 
     ghost invariant = { λ b. IsAutomaton (record {
-        states = b.states; start = b.start; props = b.props.items; edges = edges_of b.edges.items }) };
+      states = b.states;
+      start = b.start;
+      props = b.props.items;
+      edges = edges_of b.edges.items;
+    }) };
 }
 
 impl Buchi {

@@ -15,10 +15,14 @@ mod level;
 mod limits;
 mod numbers;
 mod reader;
+mod reading;
 mod refusal;
 mod token;
 
 pub use buchi::{Buchi, BuchiEdge, Quoted};
 pub use guard::Guard;
-pub use limits::{LONGEST_AUTOMATON_TEXT, MOST_EDGES, MOST_OPEN, MOST_OPERATORS, MOST_PROPS, MOST_STATES};
+pub use limits::{
+    LONGEST_AUTOMATON_TEXT, MOST_EDGES, MOST_OPEN, MOST_OPERATORS, MOST_PROPS, MOST_STATES,
+};
+pub use reading::read;
 pub use refusal::HoaRefusal;

@@ -260,7 +260,11 @@ impl Reader {
             Token::Plain(Mark::States) => self.want(self.stood.states, Stage::StatesNumber, at),
             Token::Plain(Mark::Start) => self.want(self.stood.start, Stage::StartNumber, at),
             Token::Plain(Mark::Props) => self.want(self.stood.props, Stage::PropsNumber, at),
-            Token::Plain(Mark::Acceptance) => self.want(self.stood.acceptance, Stage::AcceptanceNumber, at),
+            Token::Plain(Mark::Acceptance) => self.want(
+                self.stood.acceptance,
+                Stage::AcceptanceNumber,
+                at,
+            ),
             Token::Plain(Mark::Ignored) => self.go(Stage::Ignored),
             Token::Plain(Mark::Body) => self.enter_body(at),
             _ => Err(HoaRefusal::Syntax { at }),
@@ -276,7 +280,9 @@ impl Reader {
             Token::Plain(
                 Mark::States | Mark::Start | Mark::Props | Mark::Acceptance | Mark::Body,
             ) => self.take_header(token, at),
-            Token::Plain(Mark::Hoa | Mark::State | Mark::Foreign | Mark::Unclosed) => Err(HoaRefusal::Syntax { at }),
+            Token::Plain(Mark::Hoa | Mark::State | Mark::Foreign | Mark::Unclosed) => Err(
+                HoaRefusal::Syntax { at },
+            ),
             _ => self.go(Stage::Ignored),
         }
     }
