@@ -6,7 +6,7 @@
 --   answered_range  == with a fault, it is refused there
 --   answered_early  == a text that ends too soon is refused at its end
 --   answered_refused == a refusal on the way is right
-use Rattle.std.proofs.Common.{◌≡◌, ◌≢◌, ℕ, List, [], ◌∷◌, length, Option, Some, None, refl, sym, ◌∙◌, ap, subst, ◌⊎◌, inl, inr}
+use Rattle.std.proofs.Common.{◌≡◌, ◌≢◌, ℕ, List, [], ◌∷◌, length, Some, None, refl, sym, ◌∙◌, ap, subst, ◌⊎◌, inl, inr}
 use Rattle.ml_hoa.specs.declared.reader.Stage.TheVariants as stage
 use Rattle.ml_hoa.specs.declared.refusal.HoaRefusal.{HoaRefusal}
 use Rattle.ml_hoa.specs.declared.refusal.HoaRefusal.TheVariants as refusal

@@ -3,20 +3,17 @@
 --   at_body h s q ..     == the reader in the body, behind headers that say h, at the stage q
 --   clipped_edge         == an edge, with numbers that are not in range clipped
 --   edge_read, edges_read, state_read, states_read == edges and states are read
-use Rattle.std.proofs.Common.{◌≡◌, ℕ, suc, ◌+◌, ◌<◌, ◌≤◌, ◌==◌, ◌||◌, Bool, true, false, nat_eq, nat_le, if◌then◌else◌, List, [], ◌∷◌, ◌++◌, length, map, Option, Some, None, refl, sym, ◌∙◌, ap, subst, arith, length-append}
+use Rattle.std.proofs.Common.{◌≡◌, ℕ, ◌+◌, ◌||◌, Bool, true, false, nat_eq, nat_le, if◌then◌else◌, List, [], ◌∷◌, ◌++◌, length, map, Option, Some, None, refl, sym, ◌∙◌, ap, arith, length-append}
 use Rattle.std.specs.List.{flat_map, list_any}
-use Rattle.std.proofs.lemmas.List.{append_assoc, append-nil}
-use Rattle.ml_lines.specs.Reading.{value}
+use Rattle.std.proofs.lemmas.List.{append_assoc}
 use Rattle.ml_hoa.specs.declared.token.Mark.TheVariants as mark
-use Rattle.ml_hoa.specs.declared.reader.Acceptance.{Acceptance}
-use Rattle.ml_hoa.specs.declared.reader.Acceptance.TheVariants as acceptance
 use Rattle.ml_hoa.specs.declared.reader.Stage.{Stage}
 use Rattle.ml_hoa.specs.declared.reader.Stage.TheVariants as stage
-use Rattle.ml_hoa.specs.Automaton.{Guard, Edge, most_operators, most_edges}
-use Rattle.ml_hoa.specs.Tokens.{Token, Number, Text, Plain}
+use Rattle.ml_hoa.specs.Automaton.{Edge, most_edges}
+use Rattle.ml_hoa.specs.Tokens.{Token, Plain}
 use Rattle.ml_hoa.specs.Grammar.{Numeral, EdgeText, StateText, Heads, number_token, label_tokens, sets_tokens, name_tokens, edge_tokens, state_tokens}
-use Rattle.ml_hoa.specs.AutomatonText.{number_of, members, is_zero, has_zero, accepts, operators_in, most_inside, most_open, IsSmallLabel, sets_of, past, label_faults, sets_faults, edge_faults}
-use Rattle.ml_hoa.specs.private.Machine.{LevelState, no_level, State, first_of, number_below, last_accepting, level_guard, with_target, with_id, on_edges, turn, edge_begun}
+use Rattle.ml_hoa.specs.AutomatonText.{number_of, is_zero, has_zero, accepts, operators_in, IsSmallLabel, sets_of, past, label_faults, sets_faults, edge_faults}
+use Rattle.ml_hoa.specs.private.Machine.{no_level, State, first_of, last_accepting, with_id, turn, edge_begun}
 use Rattle.ml_hoa.proofs.LastEdges.{last_snoc}
 use Rattle.ml_hoa.proofs.Runs.{led, run, Fits, led_within}
 use Rattle.ml_hoa.proofs.LabelRuns.{noted_by, noted_both, noted_if, clipped, clipped_guard, after_level, whole_guard, label_read}

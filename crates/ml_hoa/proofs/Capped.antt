@@ -3,10 +3,10 @@
 --   value_capped    == a number cut at the bound leads to the same number, cut there
 --   capped_step     == a digit more is one that is left
 --   capped_done     == where none is left, the number is there
-use Rattle.std.proofs.Common.{◌≡◌, ℕ, suc, ◌+◌, ◌-◌, ◌*◌, ◌<◌, ◌≤◌, List, [], ◌∷◌, length, get_or, drop, min, refl, sym, ◌∙◌, ap, arith}
+use Rattle.std.proofs.Common.{◌≡◌, ℕ, ◌+◌, ◌-◌, ◌*◌, ◌<◌, ◌≤◌, List, [], ◌∷◌, length, get_or, drop, min, sym, ◌∙◌, ap, arith}
 use Rattle.std.proofs.lemmas.Bool.Decides.{nat_tests}
 use Rattle.std.proofs.lemmas.List.{drop_more, drop_all}
-use Rattle.ml_lines.specs.Reading.{value, value_on}
+use Rattle.ml_lines.specs.Reading.{value_on}
 
 cut_twice : (v d b : ℕ) → min (10 * min v b + d) b ≡ min (10 * v + d) b
 cut_twice v d b = grind (arith, nat_tests)

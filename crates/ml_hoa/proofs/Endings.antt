@@ -2,18 +2,14 @@
 --
 --   Ending strict s      == tokens with which the reader, as it stands, reads a text to its end
 --   ending               == there are such
-use Rattle.std.proofs.Common.{◌≡◌, ℕ, zero, suc, ◌+◌, ◌-◌, ◌<◌, ◌≤◌, ◌==◌, Bool, true, false, nat_eq, nat_le, if◌then◌else◌, List, [], ◌∷◌, ◌++◌, Option, Some, None, refl, sym, ◌∙◌, ap, subst, arith, codes}
+use Rattle.std.proofs.Common.{◌≡◌, ℕ, zero, suc, ◌-◌, Bool, true, false, nat_eq, nat_le, if◌then◌else◌, List, [], ◌∷◌, ◌++◌, Some, refl, ◌∙◌, ap, arith, codes}
 use Rattle.std.specs.List.{list_any}
-use Rattle.std.proofs.lemmas.Bool.{cond-false}
-use Rattle.std.proofs.lemmas.Bool.Decides.{nat_tests}
-use Rattle.ml_lines.specs.Reading.{value}
-use Rattle.ml_hoa.specs.declared.token.Mark.{Mark}
 use Rattle.ml_hoa.specs.declared.token.Mark.TheVariants as mark
 use Rattle.ml_hoa.specs.declared.reader.Acceptance.TheVariants as acceptance
 use Rattle.ml_hoa.specs.declared.reader.Stage.{Stage}
 use Rattle.ml_hoa.specs.declared.reader.Stage.TheVariants as stage
 use Rattle.ml_hoa.specs.Tokens.{Token, Number, Text, Plain}
-use Rattle.ml_hoa.specs.private.Machine.{LevelState, State, Turn, Next, turn, turn_at, on_header, wanted, into_body, strings, closed, label_ended, first_of, with_id}
+use Rattle.ml_hoa.specs.private.Machine.{LevelState, State, Next, turn, turn_at, on_header, wanted, into_body, strings, closed, label_ended, first_of}
 use Rattle.ml_hoa.proofs.Runs.{led, run}
 use Rattle.ml_hoa.proofs.HeadRuns.{head_stage, strings_some}
 

@@ -5,12 +5,11 @@
 --   told h                 == what it holds behind all headers
 --   headed h               == so it enters the body
 --   headers_read           == headers are read
-use Rattle.std.proofs.Common.{◌≡◌, ℕ, suc, ◌+◌, ◌-◌, ◌<◌, ◌≤◌, ◌==◌, ◌&&◌, Bool, true, false, nat_eq, nat_le, min, if◌then◌else◌, List, [], ◌∷◌, ◌++◌, length, map, Option, Some, None, refl, sym, ◌∙◌, ap, subst, arith, length-append, codes}
+use Rattle.std.proofs.Common.{◌≡◌, ℕ, suc, ◌+◌, ◌-◌, ◌==◌, ◌&&◌, Bool, true, false, nat_le, min, if◌then◌else◌, List, [], ◌∷◌, ◌++◌, length, map, Option, Some, None, refl, sym, ◌∙◌, ap, arith, codes}
 use Rattle.std.specs.List.{flat_map, list_all}
-use Rattle.std.proofs.lemmas.Bool.{cond-true, cond-false}
+use Rattle.std.proofs.lemmas.Bool.{cond-false}
 use Rattle.std.proofs.lemmas.Bool.Decides.{nat_tests}
 use Rattle.std.proofs.lemmas.List.{append_assoc, append-nil}
-use Rattle.ml_lines.specs.Reading.{value}
 use Rattle.ml_hoa.specs.declared.token.Mark.TheVariants as mark
 use Rattle.ml_hoa.specs.declared.reader.Acceptance.{Acceptance}
 use Rattle.ml_hoa.specs.declared.reader.Acceptance.TheVariants as acceptance
@@ -20,8 +19,8 @@ use Rattle.ml_hoa.specs.declared.reader.Stood.{Stood}
 use Rattle.ml_hoa.specs.Automaton.{most_states, most_props}
 use Rattle.ml_hoa.specs.Tokens.{Token, Number, Text, Plain}
 use Rattle.ml_hoa.specs.Grammar.{Numeral, Heads, Header, States, Start, Props, Every, Marked, Other, IsHeader, header_tokens, is_passed, states_in, start_in, props_in, acceptance_in}
-use Rattle.ml_hoa.specs.AutomatonText.{number_of, past}
-use Rattle.ml_hoa.specs.private.Machine.{State, start, Next, wanted, strings, with_string, on_ignored, first_of, turn}
+use Rattle.ml_hoa.specs.AutomatonText.{number_of}
+use Rattle.ml_hoa.specs.private.Machine.{State, start, Next, wanted, strings, on_ignored}
 use Rattle.ml_hoa.proofs.Runs.{led, run, Fits, led_within}
 use Rattle.ml_hoa.proofs.BodyRuns.{Each, Body, at_body}
 

@@ -5,14 +5,14 @@
 --   Tail                      == what is left of a label, behind an operand, up to the parenthesis or bracket that closes it
 --   BehindRest, OperandRest   == what is left behind an operand, and before one
 --   operand_back, behind_back == a token more in front of what is left
-use Rattle.std.proofs.Common.{◌≡◌, ℕ, suc, ◌+◌, ◌-◌, ◌<◌, ◌≤◌, Bool, true, false, nat_le, max, List, [], ◌∷◌, ◌++◌, length, Option, Some, None, refl, sym, ◌∙◌, ap, subst, arith}
+use Rattle.std.proofs.Common.{◌≡◌, ℕ, ◌+◌, ◌-◌, ◌<◌, ◌≤◌, Bool, true, false, nat_le, max, List, [], ◌∷◌, ◌++◌, length, Option, Some, None, refl, sym, ◌∙◌, ap, subst, arith}
 use Rattle.std.proofs.lemmas.Bool.Decides.{nat_tests}
 use Rattle.std.proofs.lemmas.List.{append_assoc, append-nil}
 use Rattle.ml_hoa.specs.declared.token.Mark.TheVariants as mark
 use Rattle.ml_hoa.specs.declared.reader.Stage.TheVariants as stage
 use Rattle.ml_hoa.specs.Automaton.{most_operators}
-use Rattle.ml_hoa.specs.Tokens.{Token, Number, Text, Plain}
-use Rattle.ml_hoa.specs.Grammar.{Numeral, Literal, Conjunction, Disjunction, Label, Const, Ap, Not, Inside, Last, And, Least, Or, label_tokens, const_token}
+use Rattle.ml_hoa.specs.Tokens.{Token, Number, Plain}
+use Rattle.ml_hoa.specs.Grammar.{Literal, Conjunction, Disjunction, Label, Const, Ap, Not, Inside, Last, And, Least, Or, label_tokens, const_token}
 use Rattle.ml_hoa.specs.AutomatonText.{operators_in, most_inside, most_open}
 use Rattle.ml_hoa.specs.private.Machine.{LevelState, State, Turn, Next, Past, Stuck, limited, on_operand, behind_operand, closed, label_ended}
 

@@ -7,19 +7,17 @@
 --   after_level         == what the reader holds behind a part of a label
 --   noted_by f fs       == the first number out of range, of f and those of fs
 --   label_read          == a part of a label is read
-use Rattle.std.proofs.Common.{◌≡◌, ℕ, suc, ◌+◌, ◌<◌, ◌≤◌, Bool, true, false, nat_le, max, if◌then◌else◌, List, [], ◌∷◌, ◌++◌, length, Option, Some, None, refl, sym, ◌∙◌, ap, subst, arith}
-use Rattle.std.proofs.lemmas.List.{append_assoc, append-nil}
-use Rattle.ml_lines.specs.Reading.{value}
+use Rattle.std.proofs.Common.{◌≡◌, ℕ, ◌+◌, Bool, true, false, nat_le, if◌then◌else◌, List, [], ◌∷◌, ◌++◌, length, Option, Some, None, refl, sym, ◌∙◌, ap, arith}
+use Rattle.std.proofs.lemmas.List.{append_assoc}
 use Rattle.ml_hoa.specs.declared.token.Mark.TheVariants as mark
-use Rattle.ml_hoa.specs.declared.reader.Stage.{Stage}
 use Rattle.ml_hoa.specs.declared.reader.Stage.TheVariants as stage
 use Rattle.ml_hoa.specs.Automaton as automaton
 use Rattle.ml_hoa.specs.Automaton.{Guard, most_operators}
-use Rattle.ml_hoa.specs.Tokens.{Token, Number, Plain}
-use Rattle.ml_hoa.specs.Grammar.{Numeral, Level, Literal, Conjunction, Disjunction, Label, Const, Ap, Not, Inside, Last, And, Least, Or, const_token, label_tokens, number_token}
+use Rattle.ml_hoa.specs.Tokens.{Token, Plain}
+use Rattle.ml_hoa.specs.Grammar.{Numeral, Level, Literal, Conjunction, Disjunction, Label, Const, Ap, Not, Inside, Last, And, Least, Or, label_tokens}
 use Rattle.ml_hoa.specs.AutomatonText.{number_of, joined, guard_with, operators_in, most_inside, most_open, past, label_faults}
-use Rattle.ml_hoa.specs.private.Machine.{LevelState, no_level, with_literal, with_not, with_or, level_guard, State, first_of, number_below, with_prop, with_operand, opened, turn}
-use Rattle.ml_hoa.proofs.Runs.{led, run, Fits, led_within}
+use Rattle.ml_hoa.specs.private.Machine.{LevelState, no_level, with_literal, with_not, level_guard, State, first_of, number_below}
+use Rattle.ml_hoa.proofs.Runs.{run, Fits, led_within}
 
 -- ---- numbers out of range
 

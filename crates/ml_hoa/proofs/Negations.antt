@@ -1,5 +1,5 @@
 -- Guards behind some `!`.
-use Rattle.std.proofs.Common.{◌≡◌, ℕ, suc, ◌+◌, ◌-◌, ◌<◌, ◌≤◌, refl, ap, ◌∙◌, arith}
+use Rattle.std.proofs.Common.{◌≡◌, ℕ, suc, ◌+◌, ◌-◌, ◌<◌, ◌≤◌, ap, arith}
 use Rattle.ml_hoa.specs.Automaton.{Guard, Not}
 use Rattle.ml_hoa.specs.private.Machine.{negated}
 

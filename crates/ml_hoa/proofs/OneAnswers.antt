@@ -3,21 +3,20 @@
 --   answer_of out end   == how a text is refused of which this comes, if it is
 --   refused_so, read_so == what is said of a text is what comes of it
 --   one_automaton, some_answer, one_refusal, never_both == so it is read or refused, in one way
-use Rattle.std.proofs.Common.{◌≡◌, ◌≢◌, ℕ, ◌++◌, Bool, true, false, List, [], ◌∷◌, length, map, Option, Some, None, refl, sym, ◌∙◌, ap, subst, ◌⊎◌, inl, inr, if◌then◌else◌}
-use Rattle.std.proofs.lemmas.List.{map-append}
+use Rattle.std.proofs.Common.{◌≡◌, ◌≢◌, ℕ, ◌++◌, Bool, true, false, List, [], ◌∷◌, length, Option, Some, None, refl, sym, ◌∙◌, ap, ◌⊎◌, inl, inr, if◌then◌else◌}
 use Rattle.ml_hoa.specs.declared.reader.Stage.{Stage}
 use Rattle.ml_hoa.specs.declared.reader.Stage.TheVariants as stage
 use Rattle.ml_hoa.specs.declared.refusal.HoaRefusal.{HoaRefusal}
 use Rattle.ml_hoa.specs.declared.refusal.HoaRefusal.TheVariants as refusal
 use Rattle.ml_hoa.specs.Automaton.{Automaton}
 use Rattle.ml_hoa.specs.Tokens.{Token, Placed, tokens, signs_of}
-use Rattle.ml_hoa.specs.Grammar.{Draft, IsText}
-use Rattle.ml_hoa.specs.AutomatonText.{faults, StandsFor}
+use Rattle.ml_hoa.specs.Grammar.{Draft}
+use Rattle.ml_hoa.specs.AutomatonText.{StandsFor}
 use Rattle.ml_hoa.specs.Refusals.{Begins, BeginsSmall, IsReadAs, IsRefusedBy, IsAt, IsStuckAt, EndsEarly, IsTooManyAt}
 use Rattle.ml_hoa.specs.private.Machine.{State, Turn, Next, Past, Stuck, turn, start, Outcome, Read, Refused, went, outcome}
 use Rattle.ml_hoa.proofs.LabelRuns.{noted_by}
 use Rattle.ml_hoa.proofs.Runs.{led, run, loose}
-use Rattle.ml_hoa.proofs.Outcomes.{read_state, complete, begins, begins_small, begun_read, after_one, read_whole, outcome_read}
+use Rattle.ml_hoa.proofs.Outcomes.{read_state, complete, begins, begins_small, begun_read, after_one, read_whole}
 use Rattle.ml_hoa.proofs.Values.{held_fault}
 use Rattle.ml_hoa.proofs.Answered.{outcome_of, held, whole_held, answered_whole, answered_range, answered_early, stopped_right}
 

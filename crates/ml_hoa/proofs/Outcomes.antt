@@ -5,27 +5,23 @@
 --   begun              == what is read begins a text
 --   Stopped            == the first token that is refused
 --   stuck_there, past_there, ends_early, read_whole == what that says of the text
-use Rattle.std.proofs.Common.{◌≡◌, ℕ, ◌+◌, ◌<◌, ◌≤◌, ◌⊎◌, Bool, true, false, List, [], ◌∷◌, ◌++◌, length, map, All, Option, Some, None, refl, sym, ◌∙◌, ap, subst, arith, inl, inr}
-use Rattle.std.specs.List.{flat_map}
-use Rattle.std.proofs.lemmas.List.{append_assoc, append-nil, map-append}
+use Rattle.std.proofs.Common.{◌≡◌, ℕ, ◌⊎◌, Bool, true, false, List, [], ◌∷◌, ◌++◌, length, Option, Some, None, refl, sym, ◌∙◌, ap, arith, inl, inr}
 use Rattle.ml_lists.specs.Member.{IsMember}
 use Rattle.ml_lists.proofs.Member.{All-member}
-use Rattle.ml_hoa.specs.declared.token.Mark.TheVariants as mark
 use Rattle.ml_hoa.specs.declared.reader.Acceptance.TheVariants as acceptance
-use Rattle.ml_hoa.specs.declared.reader.Stage.{Stage}
 use Rattle.ml_hoa.specs.declared.reader.Stage.TheVariants as stage
 use Rattle.ml_hoa.specs.declared.refusal.HoaRefusal.{HoaRefusal}
 use Rattle.ml_hoa.specs.declared.refusal.HoaRefusal.TheVariants as refusal
-use Rattle.ml_hoa.specs.Tokens.{Token, Plain, Placed, tokens, signs_of}
-use Rattle.ml_hoa.specs.Grammar.{EdgeText, StateText, Header, IsHeader, Draft, IsText, body_tokens, header_tokens}
+use Rattle.ml_hoa.specs.Tokens.{Token, Placed, tokens, signs_of}
+use Rattle.ml_hoa.specs.Grammar.{IsHeader, Draft, IsText, body_tokens}
 use Rattle.ml_hoa.specs.AutomatonText.{IsSmall, IsSmallLabel}
 use Rattle.ml_hoa.specs.Refusals.{Begins, BeginsSmall, IsAt, IsStuckAt, EndsEarly, IsTooManyAt}
-use Rattle.ml_hoa.specs.private.Machine.{State, Turn, Next, Past, Stuck, turn, start, Outcome, Read, Refused, went, outcome}
+use Rattle.ml_hoa.specs.private.Machine.{State, Turn, Next, Past, Stuck, turn, start, Read, Refused, went, outcome}
 use Rattle.ml_hoa.proofs.Runs.{led, run, behind, run-append, loose}
 use Rattle.ml_hoa.proofs.BodyRuns.{Each, FitsLabel, edge_texts, at_body, behind_states, body_read}
 use Rattle.ml_hoa.proofs.HeadRuns.{Head, at_head, told, headed, headers_read}
 use Rattle.ml_hoa.proofs.Sound.{ReadText, read_text}
-use Rattle.ml_hoa.proofs.Endings.{Ending, ending}
+use Rattle.ml_hoa.proofs.Endings.{ending}
 
 -- ---- the tokens of a draft
 

@@ -4,19 +4,18 @@
 --   later_unclosed     == where a `"` is not closed, no later one is
 --   piece_within       == a piece has a byte, and stands within the text
 --   tokens_step        == the tokens from a piece on: its own, and those behind it
-use Rattle.std.proofs.Common.{◌≡◌, ℕ, zero, suc, ◌+◌, ◌-◌, ◌<◌, ◌≤◌, ◌==◌, ◌||◌, ◌&&◌, ◌⊎◌, inl, inr, not, if◌then◌else◌, Bool, true, false, nat_eq, List, [], ◌∷◌, ◌++◌, length, take, drop, get_or, Option, Some, None, refl, sym, ◌∙◌, ap, subst, arith, codes, length-drop, drop-drop, get_or-drop}
+use Rattle.std.proofs.Common.{◌≡◌, ℕ, zero, suc, ◌+◌, ◌-◌, ◌<◌, ◌≤◌, ◌==◌, ◌||◌, ◌&&◌, ◌⊎◌, inl, inr, not, if◌then◌else◌, Bool, true, false, nat_eq, List, [], ◌∷◌, ◌++◌, length, drop, get_or, Option, Some, None, refl, sym, ◌∙◌, ap, subst, arith, codes, length-drop, drop-drop}
 use Rattle.std.proofs.lemmas.Bool.{cond-true, cond-false, cond_both, cases_lt}
 use Rattle.std.proofs.lemmas.Bool.Decides.{nat_tests}
 use Rattle.std.proofs.lemmas.List.{drop_more, drop_all}
 use Rattle.std.proofs.lemmas.List.Sums.{prefix_len-le-length}
 use Rattle.std.proofs.lemmas.List.Folds.{length-prefix_len}
 use Rattle.std.specs.List.{take_while, prefix_len, starts_with}
-use Rattle.ml_text.specs.Bytes.{is_blank, is_digit, is_letter, is_word_byte}
+use Rattle.ml_text.specs.Bytes.{is_blank, is_digit, is_letter}
 use Rattle.ml_text.proofs.Signs.{starts_with-fits}
-use Rattle.ml_hoa.specs.declared.token.Mark.TheVariants as mark
-use Rattle.ml_hoa.specs.Tokens.{Token, Text, Plain, Piece, gap, piece, Placed, placed, is_word_part, closing_quote, closing_comment, number_piece, worded, quoted, commented, marked, front_piece, tokens_at, tokens, name_mark, word_mark}
+use Rattle.ml_hoa.specs.Tokens.{Plain, Piece, piece, placed, is_word_part, closing_quote, closing_comment, worded, quoted, commented, marked, front_piece, tokens_at, tokens, name_mark, word_mark}
 use Rattle.ml_hoa.specs.private.Views.{piece_at, tokens_from}
-use Rattle.ml_hoa.proofs.Closings.{quote_ends, quote_more, quote_none}
+use Rattle.ml_hoa.proofs.Closings.{quote_ends, quote_more}
 
 abbrev pub NoneCloses : List ℕ → ℕ → Type 0
 NoneCloses text i = (j : ℕ) → i ≤ j → get_or text j 0 ≡ 34 → closing_quote false 0 (drop (j + 1) text) ≡ None

@@ -6,7 +6,7 @@
 --   led_within              == what keeps a limit leads on
 --   run-append              == tokens behind tokens
 --   loose                   == what is read within the limits is read whatever they are
-use Rattle.std.proofs.Common.{◌≡◌, ℕ, ◌<◌, ◌≤◌, Bool, true, false, nat_le, List, [], ◌∷◌, ◌++◌, Option, Some, None, refl, sym, ◌∙◌, ap, arith}
+use Rattle.std.proofs.Common.{◌≡◌, ℕ, ◌<◌, ◌≤◌, Bool, true, false, nat_le, List, [], ◌∷◌, ◌++◌, Option, Some, None, refl, arith}
 use Rattle.std.proofs.lemmas.Bool.Decides.{nat_tests}
 use Rattle.ml_hoa.specs.Tokens.{Token}
 use Rattle.ml_hoa.specs.private.Machine.{State, Turn, Next, Past, Stuck, turn, limited}

@@ -11,7 +11,7 @@ use Rattle.std.specs.List.{flat_map, list_all, list_any}
 use Rattle.std.specs.Prelude.{bytes_eq}
 use Rattle.std.proofs.lemmas.Slice.Eq.{bytes_eq-Decides}
 use Rattle.std.proofs.lemmas.Bool.Decides.{nat_tests}
-use Rattle.std.proofs.lemmas.List.{append_assoc, append-nil}
+use Rattle.std.proofs.lemmas.List.{append_assoc}
 use Rattle.ml_lines.specs.Reading.{value}
 use Rattle.ml_hoa.specs.declared.token.Mark.TheVariants as mark
 use Rattle.ml_hoa.specs.declared.reader.Acceptance.{Acceptance}
@@ -23,11 +23,11 @@ use Rattle.ml_hoa.specs.Automaton.{Edge, most_states, most_props, most_edges, mo
 use Rattle.ml_hoa.specs.Tokens.{Token, Number, Text, Plain}
 use Rattle.ml_hoa.specs.Grammar as grammar
 use Rattle.ml_hoa.specs.Grammar.{Numeral, EdgeText, StateText, Header, IsHeader, header_tokens, sets_tokens, name_tokens, edge_tokens, state_tokens, body_tokens, label_tokens, number_token, is_passed, states_in, start_in, props_in, acceptance_in}
-use Rattle.ml_hoa.specs.AutomatonText.{number_of, operators_in, most_inside, most_open, IsSmallLabel, IsSmall}
-use Rattle.ml_hoa.specs.private.Machine.{State, Turn, Next, Past, Stuck, turn, turn_at, wanted, strings, into_body, on_header, on_ignored, on_body, on_edges, behind_name, behind_number, behind_target, on_acceptance, on_set, edge_begun, start, first_of, with_id, with_edge_set, with_state_set, with_target, edge_to, last_accepting, on_operand, behind_operand, closed, label_ended, LevelState}
+use Rattle.ml_hoa.specs.AutomatonText.{number_of, operators_in, most_open, IsSmallLabel, IsSmall}
+use Rattle.ml_hoa.specs.private.Machine.{State, Turn, Next, Past, Stuck, turn, turn_at, wanted, strings, into_body, on_header, on_ignored, on_body, on_edges, behind_name, behind_number, behind_target, start, first_of, with_id, with_edge_set, with_state_set, with_target, edge_to, last_accepting, on_operand, behind_operand, closed, label_ended, LevelState}
 use Rattle.ml_hoa.proofs.Runs.{led, run}
 use Rattle.ml_hoa.proofs.BodyRuns.{Each, FitsLabel, edge_texts}
-use Rattle.ml_hoa.proofs.LabelRests.{Goes, Left, Kept, kept, Tail, BehindRest, OperandRest, conjunction, disjunction, is_conjunction, is_disjunction, and_tokens, or_tokens, operand_back, behind_back}
+use Rattle.ml_hoa.proofs.LabelRests.{Goes, Left, kept, BehindRest, OperandRest, conjunction, disjunction, is_conjunction, is_disjunction, and_tokens, or_tokens, operand_back, behind_back}
 
 -- ---- what is left in the body, where n edges were read
 

@@ -22,7 +22,7 @@
 --                             piece before it
 --   tokens text            == the tokens of the whole text
 --   signs_of ps            == tokens without their places
-use Rattle.std.specs.Prelude.{ℕ, ◌+◌, ◌-◌, zero, suc, Bool, true, false, ◌==◌, ◌||◌, ◌&&◌, not, nat_eq, List, [], ◌∷◌, ◌++◌, length, map, take, drop, Option, Some, None, if◌then◌else◌, codes, bytes_eq}
+use Rattle.std.specs.Prelude.{ℕ, ◌+◌, ◌-◌, zero, suc, Bool, false, ◌==◌, ◌||◌, ◌&&◌, not, nat_eq, List, [], ◌∷◌, ◌++◌, length, map, take, drop, Option, Some, None, if◌then◌else◌, codes, bytes_eq}
 use Rattle.std.specs.List.{starts_with, take_while}
 use Rattle.ml_text.specs.Bytes.{is_blank, is_digit, is_letter, is_lower, is_word_byte}
 use Rattle.ml_hoa.specs.declared.token.Mark.{Mark}

@@ -1,4 +1,4 @@
-use Rattle.std.proofs.Common.{◌∙◌, ◌+◌, ◌-◌, ap, sym, arith}
+use Rattle.std.proofs.Common.{◌∙◌, ◌+◌, ◌-◌, ap, sym}
 use Rattle.ml_hoa.specs.Automaton.{Not}
 use Rattle.ml_hoa.specs.private.Machine.{negated}
 use Rattle.ml_hoa.specs.private.Views.{guard_of}

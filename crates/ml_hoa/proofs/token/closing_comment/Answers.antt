@@ -1,5 +1,5 @@
-use Rattle.std.proofs.Common.{sym, ap, ◌∙◌, arith}
-use Rattle.ml_hoa.proofs.Closings.{comment_ends, comment_closes, comment_opens, comment_more, comment_none}
+use Rattle.std.proofs.Common.{sym, ◌∙◌, arith}
+use Rattle.ml_hoa.proofs.Closings.{comment_closes, comment_opens, comment_more, comment_none}
 use Rattle.ml_hoa.proofs.token.closing_comment.Goals as goal
 
 pub loop-at-preserved : goal.loop-at-preserved
