@@ -126,10 +126,10 @@ some_finding p n small well = by_graph (held_graph p.formula p.negated well)
         → ((a : Arena) × (IsArenaOf g a × (length a.positions ≤ n))) ⊎ HasMoreThan g n
         → (x : Stage) × IsStageOf p n x
     by_game g translated (inr more) = (stage.GamePassed g, (translated, more))
-    by_game g translated (inl (a, arena, within)) =
-        let s = some_solution (game_of a) (is_game g a arena) in (
+    by_game g translated (inl (a, made)) =
+        let s = some_solution (game_of a) (is_game g a made.0) in (
           stage.Solved (record { graph = g; arena = a; solution = s.0 }),
-          record { translated = translated; is_arena = arena; within = within; is_solution = s.1 },
+          record { translated = translated; is_arena = made.0; within = made.1; is_solution = s.1 },
         )
 
     by_graph : HeldGraph p.formula p.negated ⊎ HasLargeClosure p MOST_NODES → (x : Finding) × IsFinding n p x
