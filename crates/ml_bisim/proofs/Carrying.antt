@@ -61,8 +61,7 @@ module _ (class : List ℕ) where
     where
       of_image : Image (λ x. Pair x n) w (u ∷ us) → Before (map (λ x. Pair x n) (t ∷ ts)) w
       of_image image =
-          let there = are.back image.from image.member in
-          (
+          let there = are.back image.from image.member in (
             Pair there.0 n,
             member-map (λ x. Pair x n) there.0 (t ∷ ts) there.1,
             ap (λ x. Pair x n) there.2 ∙ sym image.holds,

@@ -87,8 +87,7 @@ module _ (m q : Structure) (class : List ℕ) (m_ok : IsStructure m) (quotient :
       of_bisimilar b =
           let there = b.is_bisimulation.back s u b.joined a x edge in
           let joined : Bisimilar m there.0 x =
-          record { relation = b.relation; is_bisimulation = b.is_bisimulation; joined = there.2 } in
-          (
+          record { relation = b.relation; is_bisimulation = b.is_bisimulation; joined = there.2 } in (
             there.0,
             there.1,
             (quotient.classes.bisimilar there.0 x (target_low m m_ok s a there.0 there.1) (target_low m m_ok u a x edge)).1

@@ -12,3 +12,11 @@ pub mod Tables
 pub mod Finer
 -- a partition that no round makes finer
 pub mod Stable
+-- states by their labels
+pub mod Labels
+-- the quotient, made of classes
+pub mod Merged
+-- the rows of steps, as they are made
+pub mod Rows
+-- lists that are gone through
+pub mod Passed

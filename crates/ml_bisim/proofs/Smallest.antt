@@ -54,22 +54,28 @@ module _ (m q : Structure) (class : List ℕ) (m_ok : IsStructure m) (quotient :
           let j = joined s t e in
           let there = is.forth (class_of class s) (class_of class t) j.classes a (class_of class x)
           (class_edge m q class m_ok quotient s a x edge) in
-          let found = edge_class m q class m_ok quotient t j.target a there.0 there.1 in
-          (found.0, found.1, joins x found.0 (record {
-            source = target_low m m_ok s a x edge;
-            target = target_low m m_ok t a found.0 found.1;
-            classes = subst (λ d. IsTrue (R (class_of class x) d)) (sym found.2) there.2;
-          }));
+          let found = edge_class m q class m_ok quotient t j.target a there.0 there.1 in (
+            found.0,
+            found.1,
+            joins x found.0 (record {
+              source = target_low m m_ok s a x edge;
+              target = target_low m m_ok t a found.0 found.1;
+              classes = subst (λ d. IsTrue (R (class_of class x) d)) (sym found.2) there.2;
+            }),
+          );
       back = λ s t e a y edge.
           let j = joined s t e in
           let there = is.back (class_of class s) (class_of class t) j.classes a (class_of class y)
           (class_edge m q class m_ok quotient t a y edge) in
-          let found = edge_class m q class m_ok quotient s j.source a there.0 there.1 in
-          (found.0, found.1, joins found.0 y (record {
-            source = target_low m m_ok s a found.0 found.1;
-            target = target_low m m_ok t a y edge;
-            classes = subst (λ d. IsTrue (R d (class_of class y))) (sym found.2) there.2;
-          }));
+          let found = edge_class m q class m_ok quotient s j.source a there.0 there.1 in (
+            found.0,
+            found.1,
+            joins found.0 y (record {
+              source = target_low m m_ok s a found.0 found.1;
+              target = target_low m m_ok t a y edge;
+              classes = subst (λ d. IsTrue (R d (class_of class y))) (sym found.2) there.2;
+            }),
+          );
     }
 
   pub classes_differ : (c d : ℕ) → c < q.states → d < q.states → Bisimilar q c d → c ≡ d

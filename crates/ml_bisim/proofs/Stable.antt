@@ -91,42 +91,47 @@ module _ (P : ℕ → ℕ → Type 0) (one : (x z y : ℕ) → P x y → P z y �
           inr ((λ i. here i ∷ same i), before)
 
 -- two lists of numbers in turn, of which one is finer
-pub more_or_same : (k l : ℕ) (xs ys : List ℕ) → length xs ≡ length ys → RunsOn 0 xs k → RunsOn 0 ys l
-    → ((i j : ℕ) → i < length xs → j < length xs → get_or ys i 0 ≡ get_or ys j 0 → get_or xs i 0 ≡ get_or xs j 0)
-    → (k < l) ⊎ (xs ≡ ys)
-more_or_same k l xs ys long rx ry refines = of (runs_apart Stands one 0 0 k l xs ys long rx ry
-    (λ i low. (i, low, refl, refl)) (λ y low. absurd (omega arith)) (inr (refl, λ x y low. absurd (omega arith))))
-  where
-    Stands : ℕ → ℕ → Type 0
-    Stands x y = (i : ℕ) × (i < length xs) × (get_or xs i 0 ≡ x) × (get_or ys i 0 ≡ y)
+module _ (xs ys : List ℕ)
+    (refines : (i j : ℕ) → i < length xs → j < length xs → get_or ys i 0 ≡ get_or ys j 0 → get_or xs i 0 ≡ get_or xs j 0) where
+  abbrev Stands : ℕ → ℕ → Type 0
+  Stands x y = (i : ℕ) × (i < length xs) × (get_or xs i 0 ≡ x) × (get_or ys i 0 ≡ y)
 
-    one : (x z y : ℕ) → Stands x y → Stands z y → x ≡ z
-    unfolding Stands
-    one x z y p q = sym p.2 ∙ refines p.0 q.0 p.1 q.1 (p.3 ∙ sym q.3) ∙ q.2
+  one_beside : (x z y : ℕ) → Stands x y → Stands z y → x ≡ z
+  one_beside x z y p q = sym p.2 ∙ refines p.0 q.0 p.1 q.1 (p.3 ∙ sym q.3) ∙ q.2
 
-    of : (k < l) ⊎ ((xs ≡ ys) × Alike Stands one 0 0) → (k < l) ⊎ (xs ≡ ys)
-    of (inl less) = inl less
-    of (inr same) = inr same.0
+  pub more_or_same : (k l : ℕ) → length xs ≡ length ys → RunsOn 0 xs k → RunsOn 0 ys l → (k < l) ⊎ (xs ≡ ys)
+  more_or_same k l long rx ry = of (runs_apart Stands one_beside 0 0 k l xs ys long rx ry
+      (λ i low. (i, low, refl, refl)) (λ y low. absurd (omega arith)) (inr (refl, λ x y low. absurd (omega arith))))
+    where
+      of : (k < l) ⊎ ((xs ≡ ys) × Alike Stands one_beside 0 0) → (k < l) ⊎ (xs ≡ ys)
+      of (inl less) = inl less
+      of (inr same) = inr same.0
 
 module _ (m : Structure) (m_ok : IsStructure m) (class ns : List ℕ) (k l : ℕ) (part : IsPartition m class k)
     (finer : IsFiner m class ns l) where
   pub grows_or_same : (k < l) ⊎ (class ≡ ns)
   grows_or_same =
-      more_or_same k l class ns (part.each_state ∙ sym finer.each_state) part.in_turn finer.in_turn
-      (λ i j i_low j_low e.
+      more_or_same class ns (λ i j i_low j_low e.
       ((finer.same i j (omega (arith, part.each_state)) (omega (arith, part.each_state))).0 e).0)
+      k l (part.each_state ∙ sym finer.each_state) part.in_turn finer.in_turn
 
   -- bisimilar states match each other's edges
   match : (s t : ℕ) → s < m.states → t < m.states → Bisimilar m s t → SameSteps m class s t
   match s t s_low t_low b = record {
     forth = λ a x edge.
-        let there = b.is_bisimulation.forth s t b.joined a x edge in
-        (there.0, there.1, part.coarse x there.0 (target_low m m_ok s a x edge) (target_low m m_ok t a there.0 there.1)
-            (record { relation = b.relation; is_bisimulation = b.is_bisimulation; joined = there.2 }));
+        let there = b.is_bisimulation.forth s t b.joined a x edge in (
+          there.0,
+          there.1,
+          part.coarse x there.0 (target_low m m_ok s a x edge) (target_low m m_ok t a there.0 there.1)
+              (record { relation = b.relation; is_bisimulation = b.is_bisimulation; joined = there.2 }),
+        );
     back = λ a y edge.
-        let there = b.is_bisimulation.back s t b.joined a y edge in
-        (there.0, there.1, part.coarse there.0 y (target_low m m_ok s a there.0 there.1) (target_low m m_ok t a y edge)
-            (record { relation = b.relation; is_bisimulation = b.is_bisimulation; joined = there.2 }));
+        let there = b.is_bisimulation.back s t b.joined a y edge in (
+          there.0,
+          there.1,
+          part.coarse there.0 y (target_low m m_ok s a there.0 there.1) (target_low m m_ok t a y edge)
+              (record { relation = b.relation; is_bisimulation = b.is_bisimulation; joined = there.2 }),
+        );
   }
 
   pub finer_is : IsPartition m ns l
@@ -181,19 +186,25 @@ module _ (m : Structure) (m_ok : IsStructure m) (class ns : List ℕ) (k l : ℕ
   is_bisimulation stable = record {
     same_labels = λ s t e. let j = together s t e in part.same_labels s t j.source j.target j.classes;
     forth = λ s t e a x edge.
-        let there = (steps stable s t (together s t e)).forth a x edge in
-        (there.0, there.1, joins x there.0 (record {
-          source = target_low m m_ok s a x edge;
-          target = target_low m m_ok t a there.0 there.1;
-          classes = there.2;
-        }));
+        let there = (steps stable s t (together s t e)).forth a x edge in (
+          there.0,
+          there.1,
+          joins x there.0 (record {
+            source = target_low m m_ok s a x edge;
+            target = target_low m m_ok t a there.0 there.1;
+            classes = there.2;
+          }),
+        );
     back = λ s t e a y edge.
-        let there = (steps stable s t (together s t e)).back a y edge in
-        (there.0, there.1, joins there.0 y (record {
-          source = target_low m m_ok s a there.0 there.1;
-          target = target_low m m_ok t a y edge;
-          classes = there.2;
-        }));
+        let there = (steps stable s t (together s t e)).back a y edge in (
+          there.0,
+          there.1,
+          joins there.0 y (record {
+            source = target_low m m_ok s a there.0 there.1;
+            target = target_low m m_ok t a y edge;
+            classes = there.2;
+          }),
+        );
   }
 
   pub stable_is : l ≤ k → AreClasses m k class

@@ -3,7 +3,6 @@
 --   GraphsCarried   == a modal graph holds at a state exactly where it holds at the state's class in the quotient
 --   Reduced         == no two different states of the quotient are bisimilar
 --   TotalKept       == where each state of the structure has an edge by an action, so does each of the quotient
---   OneQuotient     == a structure has one quotient at most, with one class for each state
 use Rattle.std.specs.Prelude.{ℕ, ◌≡◌, ◌<◌, ◌↔◌, List}
 use Rattle.ml_base.specs.Structure.{Structure, IsStructure}
 use Rattle.ml_graph.specs.Graph.{Graph, IsGraph, size}

@@ -11,6 +11,7 @@
 // Below stand `ml_kripke`, for structures, and `ml_graph`, for graphs and the game that says where they hold.
 #![tactic(auto)]
 
+mod ascending;
 pub mod laws;
 mod merging;
 mod numbering;

@@ -24,6 +24,7 @@ use std::alloc::Global;
 pub fn quotient(alloc: Global, structure: &Structure) -> Result<Quotient, NoMemory>
     ensures { IfOk result (λ quotient. IsQuotientOf structure.now quotient.class.items quotient.structure) }
 {
+    let _states = structure.states();
     let classes = classes(alloc, structure)?;
     let class = narrowed(alloc, &classes.numbers)?;
     let labels = class_labels(alloc, structure, &class)?;
@@ -45,13 +46,21 @@ fn narrowed(alloc: Global, numbers: &[usize]) -> Result<Vec<u32>, NoMemory>
 }
 
 // the labels of the states, each at the class of its state
-fn class_labels(alloc: Global, structure: &Structure, class: &[u32]) -> Result<Vec<(u32, Name)>, NoMemory>
+fn class_labels(
+    alloc: Global,
+    structure: &Structure,
+    class: &[u32],
+) -> Result<Vec<(u32, Name)>, NoMemory>
     requires { length class.now ≡ structure.now.states }
     ensures { IfOk result (λ labels. AreClassLabels structure.now class.now structure.now.states labels.items) }
 {
     let mut labels = Vec::new(alloc);
     for state in 0..structure.states() {
-        push_labels(&mut labels, class[state as usize], structure.labels_of(state))?;
+        push_labels(
+            &mut labels,
+            class[state as usize],
+            structure.labels_of(state),
+        )?;
     }
     Ok(labels)
 }

@@ -1,6 +1,5 @@
 // Keys that are numbered in the order in which they come: equal keys have one number.
-ghost use Rattle.std.specs.Prelude.{◌≡◌, true, IfOk};
-ghost use Rattle.ml_lists.specs.Added.{IsAdded};
+ghost use Rattle.std.specs.Prelude.{IfOk};
 ghost use Rattle.ml_bisim.specs.private.Rounds.{AreNumbers};
 
 use indexmap::IndexSet;
@@ -15,15 +14,6 @@ pub(crate) struct Numbering {
     pub count: usize,
 }
 
-// the number of a key
-fn number<K: Eq + Hash + Drop>(table: &mut IndexSet<K>, key: K) -> Result<usize, NoMemory>
-    requires { (x y : K) → K.eq x y ≡ true → x ≡ y }
-    ensures { IfOk result (IsAdded table.old.keys key table.new.keys) }
-{
-    let (number, _) = table.insert_full(key)?;
-    Ok(number)
-}
-
 /// The numbers of the keys.
 ///
 /// # Errors
@@ -34,13 +24,12 @@ pub(crate) fn numbered<K: Eq + Hash + Drop>(
     alloc: Global,
     keys: Vec<K>,
 ) -> Result<Numbering, NoMemory>
-    requires { (x y : K) → K.eq x y ≡ true → x ≡ y }
-    ensures { IfOk result (λ numbering. AreNumbers keys.items numbering.numbers.items numbering.count) }
+    ensures { IfOk result (λ numbering. AreNumbers K.eq keys.items numbering.numbers.items numbering.count) }
 {
     let mut table = IndexSet::new(alloc);
     let mut numbers = Vec::with_capacity(alloc, keys.len())?;
     for key in keys {
-        let number = number(&mut table, key)?;
+        let (number, _) = table.insert_full(key)?;
         numbers.push(number)?;
     }
     Ok(Numbering {

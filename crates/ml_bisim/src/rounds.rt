@@ -1,9 +1,10 @@
 // The rounds of a partition refinement: from classes of states by their labels to classes of bisimilar states.
 ghost use Rattle.std.specs.Prelude.{◌≡◌, [], length, map, replicate, IfOk};
-
+ghost use Rattle.std.specs.Str.{bytes_eq};
 ghost use Rattle.ml_bisim.specs.Quotient.{AreClasses};
 ghost use Rattle.ml_bisim.specs.private.Rounds.{AreNumbers, AreSignatures, HasSteps, IsFiner, IsPartition, IsSignature};
 
+use crate::ascending::ascending;
 use crate::numbering::{Numbering, numbered};
 use ml_base::{Action, Name, NoMemory};
 use ml_kripke::Structure;
@@ -32,6 +33,7 @@ pub(crate) struct Signature {
 pub(crate) fn classes(alloc: Global, structure: &Structure) -> Result<Numbering, NoMemory>
     ensures { IfOk result (λ classes. AreClasses structure.now classes.count classes.numbers.items) }
 {
+    let _states = structure.states();
     let actions = actions(alloc, structure)?;
     let mut coarse = by_labels(alloc, structure)?;
     let mut fine = refined(alloc, structure, &actions, &coarse.numbers)?;
@@ -44,7 +46,7 @@ pub(crate) fn classes(alloc: Global, structure: &Structure) -> Result<Numbering,
 
 // the actions of the edges, numbered
 fn actions(alloc: Global, structure: &Structure) -> Result<Numbering, NoMemory>
-    ensures { IfOk result (λ n. AreNumbers (map (λ e. e.action) structure.now.edges) n.numbers.items n.count) }
+    ensures { IfOk result (λ n. AreNumbers bytes_eq (map (λ e. e.action) structure.now.edges) n.numbers.items n.count) }
 {
     let mut actions = Vec::with_capacity(alloc, structure.edge_count())?;
     for edge in structure.edges() {
@@ -57,7 +59,9 @@ fn actions(alloc: Global, structure: &Structure) -> Result<Numbering, NoMemory>
 fn by_labels(alloc: Global, structure: &Structure) -> Result<Numbering, NoMemory>
     ensures { IfOk result (λ n. IsPartition structure.now n.numbers.items n.count) }
 {
-    numbered(alloc, label_rows(alloc, structure)?)
+    let _states = structure.states();
+    let rows = label_rows(alloc, structure)?;
+    numbered(alloc, rows)
 }
 
 // the labels of each state
@@ -88,12 +92,14 @@ fn refined(
     actions: &Numbering,
     class: &[usize],
 ) -> Result<Numbering, NoMemory>
-    requires actions { AreNumbers (map (λ e. e.action) structure.now.edges) actions.now.numbers.items actions.now.count }
+    requires actions { AreNumbers bytes_eq (map (λ e. e.action) structure.now.edges) actions.now.numbers.items actions.now.count }
     requires each_state { length class.now ≡ structure.now.states }
     ensures { IfOk result (λ n. IsFiner structure.now class.now n.numbers.items n.count) }
 {
+    let _states = structure.states();
     let rows = steps(alloc, structure, &actions.numbers, class)?;
-    numbered(alloc, signatures(alloc, class, rows)?)
+    let signatures = signatures(alloc, class, rows)?;
+    numbered(alloc, signatures)
 }
 
 // the edges of each state, by the numbers of actions and classes
@@ -113,7 +119,8 @@ fn steps(
         (length structure.now.edges)
         (map (λ row. row.items) rows.items)) }
 {
-    let mut rows = no_steps(alloc, structure.states())?;
+    let states = structure.states();
+    let mut rows = no_steps(alloc, states)?;
     for i in 0..structure.edge_count() {
         let edge = structure.edge_at(i);
         let step = Step {
@@ -137,7 +144,11 @@ fn no_steps(alloc: Global, states: u32) -> Result<Vec<Vec<Step>>, NoMemory>
 }
 
 // the signature of each state
-fn signatures(alloc: Global, class: &[usize], rows: Vec<Vec<Step>>) -> Result<Vec<Signature>, NoMemory>
+fn signatures(
+    alloc: Global,
+    class: &[usize],
+    rows: Vec<Vec<Step>>,
+) -> Result<Vec<Signature>, NoMemory>
     requires { length rows.items ≡ length class.now }
     ensures { IfOk result (λ signatures. AreSignatures class.now (map (λ row. row.items) rows.items) signatures.items) }
 {
@@ -149,10 +160,11 @@ fn signatures(alloc: Global, class: &[usize], rows: Vec<Vec<Step>>) -> Result<Ve
     Ok(signatures)
 }
 
-fn signed(class: usize, mut steps: Vec<Step>) -> Signature
+fn signed(class: usize, steps: Vec<Step>) -> Signature
     ensures { IsSignature class steps.items result }
 {
-    steps.sort_unstable();
-    steps.dedup();
-    Signature { class, steps }
+    Signature {
+        class,
+        steps: ascending(steps),
+    }
 }

@@ -1,6 +1,6 @@
 -- Keys that are numbered, and the rounds of a refinement. Only private contracts cite this.
 --
---   AreNumbers ks ns n       == each key has a number, equal keys the same one, and each new number is the next, up to n
+--   AreNumbers eq ks ns n    == each key has a number, equal keys the same one, and each new number is the next, up to n
 --   StepAt, HasSteps         == which steps the rows have, of the edges before a place
 --   AreSignatures            == the signature of each state: its class, and its steps in strictly ascending order
 --   SameSteps m class s t    == each edge of s is matched by one of t with the same action into the same class
@@ -9,7 +9,7 @@
 --   IsPartition m class n    == bisimilar states have one class, states of one class the same propositions
 --   between_classes class e  == the edge between classes that the edge e between states is
 --   AreClassLabels           == the labels of states, each at the class of its state
-use Rattle.std.specs.Prelude.{ℕ, ◌≡◌, ◌<◌, ◌↔◌, List, [], Some, length, get_or, slice_get, slice_index_or, Contains}
+use Rattle.std.specs.Prelude.{ℕ, ◌≡◌, ◌<◌, ◌↔◌, Bool, true, List, [], Some, length, get_or, slice_get, slice_index_or, Contains}
 use Rattle.std.specs.Ordering.{nat_cmp, ordering_then}
 use Rattle.std.specs.declared.cmp.Ordering.{Ordering}
 use Rattle.std.specs.List.Sorted.{IsStrictlySortedBy}
@@ -21,9 +21,9 @@ use Rattle.ml_bisim.specs.declared.rounds.Signature.{Signature}
 use Rattle.ml_bisim.specs.Bisimilar.{Bisimilar, HasEdge}
 use Rattle.ml_bisim.specs.Quotient.{class_of}
 
-pub record AreNumbers {K : Type 0} (ks : List K) (ns : List ℕ) (n : ℕ) : Type 0 where
+pub record AreNumbers {K : Type 0} (eq : K → K → Bool) (ks : List K) (ns : List ℕ) (n : ℕ) : Type 0 where
   pub each_key : length ns ≡ length ks
-  pub same : (i j : ℕ) (x y : K) → slice_get ks i ≡ Some x → slice_get ks j ≡ Some y → (get_or ns i 0 ≡ get_or ns j 0) ↔ (x ≡ y)
+  pub same : (i j : ℕ) (x y : K) → slice_get ks i ≡ Some x → slice_get ks j ≡ Some y → (get_or ns i 0 ≡ get_or ns j 0) ↔ (eq x y ≡ true)
   pub in_turn : RunsOn 0 ns n
 
 -- the edge at a place before i leads from s, and is this step
