@@ -1,0 +1,2 @@
+-- keys that are numbered, and the rounds of a refinement
+pub mod Rounds

@@ -1,0 +1,22 @@
+// The bisimulation quotient of a Kripke structure.
+//
+// Two states of a structure are bisimilar if no formula of any of the logics can tell them apart. The quotient has one
+// state for each class of bisimilar states: the smallest structure in which every formula holds where it held before.
+//
+// The calls to know:
+// - `quotient` makes the quotient of a structure, and tells the class of each state.
+// - `laws` says what that is good for: a modal graph holds at a state exactly where it holds at the state's class, and
+//   the quotient can't be made smaller.
+//
+// Below stand `ml_kripke`, for structures, and `ml_graph`, for graphs and the game that says where they hold.
+#![tactic(auto)]
+
+mod ascending;
+pub mod laws;
+mod merging;
+mod numbering;
+mod quotients;
+mod rounds;
+
+pub use merging::quotient;
+pub use quotients::Quotient;
