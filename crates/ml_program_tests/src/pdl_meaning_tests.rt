@@ -44,7 +44,9 @@ fn relates_pairs(
 ) -> Result<bool, Fail> {
     let formula = parse(alloc, diamond)?;
     match formula.root() {
-        Term::Modal(Modality::Diamond, program, _) => relates_exactly(alloc, program, structure, pairs),
+        Term::Modal(Modality::Diamond, program, _) => relates_exactly(
+            alloc, program, structure, pairs,
+        ),
         _ => Ok(false),
     }
 }
