@@ -15,3 +15,7 @@ pub mod Plays
 pub mod Cycles
 -- the agreement of game and meaning
 pub mod Agreement
+-- how many nodes a graph has
+pub mod Sizes
+-- what is satisfiable on words, and on paths
+pub mod Satisfiable

@@ -45,13 +45,10 @@ player_of false = Odd
 abbrev pub verdict : Bool → ℕ
 verdict b = if b then 0 else 1
 
-some_at : {X : Type 0} (xs : List X) (k : ℕ) → k < length xs → (x : X) × (slice_get xs k ≡ Some x)
+pub some_at : {X : Type 0} (xs : List X) (k : ℕ) → k < length xs → (x : X) × (slice_get xs k ≡ Some x)
 some_at [] k low = absurd (omega arith)
 some_at (x ∷ xs) zero low = (x, refl)
 some_at (x ∷ xs) (suc k) low = some_at xs k (omega arith)
-
-pub one_number : {X : Type 0} (x y : X) → Some x ≡ Some y → x ≡ y
-one_number x y e = cc
 
 -- a conjunction where Odd is the player, and a disjunction where Even is
 abbrev pub own_form : Bool → Place → Place → Form
