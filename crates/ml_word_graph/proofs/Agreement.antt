@@ -3,11 +3,11 @@
 --   holds_by_value  == the graph holds at a state exactly where the value of the root there is true
 --   problem_by_value == and so does the problem
 --   graphs_agree    == so graphs agree with formulas
-use Rattle.std.proofs.Common.{◌≡◌, ◌↔◌, ℕ, ◌<◌, ◌⊎◌, Bool, true, false, ◌&&◌, not, refl, sym, ap, subst, ◌∙◌, ⊎_elim, arith}
+use Rattle.std.proofs.Common.{◌≡◌, ◌↔◌, ℕ, ◌<◌, Bool, true, false, not, refl, sym, subst, ⊎_elim, arith}
 use Rattle.std.proofs.lemmas.Bool.{cases_Bool, false≢true}
-use Rattle.ml_lists.specs.Lasso.{Lasso, entry}
+use Rattle.ml_lists.specs.Lasso.{Lasso}
 use Rattle.ml_base.specs.Structure.{Structure}
-use Rattle.ml_parity.specs.declared.players.Player.TheVariants.{Even, Odd}
+use Rattle.ml_parity.specs.declared.players.Player.TheVariants.{Even}
 use Rattle.ml_parity.specs.Winner.{Wins}
 use Rattle.ml_parity.proofs.Winners.{clash}
 use Rattle.ml_graph.specs.Graph.{Graph, size}

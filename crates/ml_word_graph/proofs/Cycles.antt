@@ -9,21 +9,21 @@
 --   never              == there is no such loop where something has to come about
 --   loop_won           == each loop is won by the player
 --   player_wins        == so the player wins from each good vertex
-use Rattle.std.proofs.Common.{◌≡◌, ℕ, zero, suc, ◌+◌, ◌-◌, ◌<◌, ◌≤◌, ◌⊎◌, Bool, true, false, ◌&&◌, not, List, []}
+use Rattle.std.proofs.Common.{◌≡◌, ℕ, zero, suc, ◌+◌, ◌-◌, ◌<◌, ◌≤◌, ◌⊎◌, Bool, true, false, not, List}
 use Rattle.std.proofs.Common.{if◌then◌else◌, length, get_or, inl, inr, refl, sym, ap, subst, ◌∙◌, ⊎_elim, arith}
 use Rattle.std.proofs.lemmas.Bool.{cases_Bool, false≢true}
 use Rattle.ml_lists.specs.Lasso.{Lasso, entry, round}
 use Rattle.ml_lists.specs.Walk.{walk}
 use Rattle.ml_lists.proofs.Lasso.{round-entry, on_loop, loop_length, lowest_on_loop_is, lowest_on_loop_place}
 use Rattle.ml_base.specs.Structure.{Structure}
-use Rattle.ml_parity.specs.declared.players.Player.TheVariants.{Even, Odd}
+use Rattle.ml_parity.specs.declared.players.Player.TheVariants.{Even}
 use Rattle.ml_parity.specs.Game.{priority_of}
 use Rattle.ml_parity.specs.Player.{side}
 use Rattle.ml_parity.specs.Winner.{IsPlay, Follows, Wins, winner}
-use Rattle.ml_graph.specs.Graph.{Graph, IsGraph, priority_at}
-use Rattle.ml_graph.specs.CheckingGame.{Vertex, Pair, Sink, checking_game, priority_at_vertex, vertex_number}
+use Rattle.ml_graph.specs.Graph.{Graph, IsGraph}
+use Rattle.ml_graph.specs.CheckingGame.{Vertex, Pair, Sink, checking_game, vertex_number}
 use Rattle.ml_graph.proofs.CheckingGame.{priority_is}
-use Rattle.ml_ctl.specs.Formula.{Formula, Const, Prop, Not, Binary, Temporal, Paired, Quantified, is_linear, occurrences}
+use Rattle.ml_ctl.specs.Formula.{Formula, Const, Prop, Not, Binary, Temporal, Paired, Quantified}
 use Rattle.ml_ctl.specs.declared.term.Tense.TheVariants as tense
 use Rattle.ml_ctl.specs.declared.term.Pairing.{Pairing}
 use Rattle.ml_ctl.specs.declared.term.Pairing.TheVariants as pairing
@@ -35,7 +35,7 @@ use Rattle.ml_word_graph.proofs.StateValues.{comes_about, exit_of, is_cycle, is_
 use Rattle.ml_word_graph.proofs.NodeValues.{node_value, signed}
 use Rattle.ml_word_graph.proofs.Levels.{IsLinear, Stays, level, some_occurrence}
 use Rattle.ml_word_graph.proofs.Moves.{Good, good_pair, good_sink, good_vertex, number_linear, own_form, player_of, state_behind, verdict}
-use Rattle.ml_word_graph.proofs.Plays.{At, OnAt, all_good, is_strategy, loop_good, on_left, on_stay, strategy}
+use Rattle.ml_word_graph.proofs.Plays.{At, OnAt, is_strategy, loop_good, on_left, on_stay, strategy}
 
 abbrev one_or_two : Bool → ℕ
 one_or_two c = if c then 1 else 2
@@ -153,16 +153,14 @@ module _ (g : Graph) (m : Structure) (ok : IsAdmitted m) (root : Place) (places 
     round_on s i (Temporal tense.Next f) sign cycle sides o = absurd (false≢true cycle)
     round_on s i (Temporal tense.Finally f) sign cycle sides o =
         let w : Formula = Temporal tense.Finally f in
-        let x : Place = Now (i + 1) f sign in
-        (
+        let x : Place = Now (i + 1) f sign in (
           from_later s i w sign (stay_to s s (Now i w sign) (Later i w sign) o (λ c is. is) (all_stays (not sign) x (Later i w sign) s)),
           λ is. left_bad s (Now i w sign) x (Later i w sign) o
               (one_own sign x (Later i w sign) ∙ ap (λ c. own_form c x (Later i w sign)) sides) (omega arith) (ap (signed sign) is ∙ sides),
         )
     round_on s i (Temporal tense.Globally f) sign cycle sides o =
         let w : Formula = Temporal tense.Globally f in
-        let x : Place = Now (i + 1) f sign in
-        (
+        let x : Place = Now (i + 1) f sign in (
           from_later s i w sign (stay_to s s (Now i w sign) (Later i w sign) o (λ c is. is) (all_stays sign x (Later i w sign) s)),
           λ is. left_bad s (Now i w sign) x (Later i w sign) o
               (all_own sign x (Later i w sign) ∙ ap (λ c. own_form c x (Later i w sign)) sides) (omega arith) (ap (signed sign) is ∙ sides),
@@ -171,8 +169,7 @@ module _ (g : Graph) (m : Structure) (ok : IsAdmitted m) (root : Place) (places 
         let w : Formula = Paired pairing.Until f h in
         let x : Place = Now (right_at (i + 1) f) h sign in
         let y : Place = Rest i pairing.Until f h sign in
-        let some = some_occurrence f in
-        (
+        let some = some_occurrence f in (
           from_later s i w sign (from_rest s i pairing.Until f h sign (to_rest s i pairing.Until f h sign o)),
           λ is. left_bad s (Now i w sign) x y o (one_own sign x y ∙ ap (λ c. own_form c x y) sides) (omega arith) (ap (signed sign) is ∙ sides),
         )
@@ -180,8 +177,7 @@ module _ (g : Graph) (m : Structure) (ok : IsAdmitted m) (root : Place) (places 
         let w : Formula = Paired pairing.Release f h in
         let x : Place = Now (right_at (i + 1) f) h sign in
         let y : Place = Rest i pairing.Release f h sign in
-        let some = some_occurrence f in
-        (
+        let some = some_occurrence f in (
           from_later s i w sign (from_rest s i pairing.Release f h sign (to_rest s i pairing.Release f h sign o)),
           λ is. left_bad s (Now i w sign) x y o (all_own sign x y ∙ ap (λ c. own_form c x y) sides) (omega arith) (ap (signed sign) is ∙ sides),
         )
@@ -189,8 +185,7 @@ module _ (g : Graph) (m : Structure) (ok : IsAdmitted m) (root : Place) (places 
         let w : Formula = Paired pairing.Weak f h in
         let x : Place = Now (i + 1) f sign in
         let y : Place = Later i w sign in
-        let rest = to_rest s i pairing.Weak f h sign o in
-        (
+        let rest = to_rest s i pairing.Weak f h sign o in (
           from_later s i w sign (from_rest s i pairing.Weak f h sign rest),
           λ is. left_bad s (Rest i pairing.Weak f h sign) x y rest (all_own sign x y ∙ ap (λ c. own_form c x y) sides) (omega arith)
               (ap (signed sign) is ∙ sides),

@@ -12,8 +12,8 @@
 --   ChildOf f s b w           == the vertex w is that of a child of the form f
 --   pair_step                 == from a good pair one comes to a good child or to a good sink
 --   chosen_left               == the player takes the left child where it is good
-use Rattle.std.proofs.Common.{◌≡◌, ℕ, zero, suc, ◌+◌, ◌<◌, ◌⊎◌, ◌==◌, ◌&&◌, ◌||◌, Bool, true, false, not, List, [], ◌∷◌, Option, None, Some}
-use Rattle.std.proofs.Common.{if◌then◌else◌, length, get_or, slice_get, codes, bytes_eq, inl, inr, refl, sym, ap, subst, ◌∙◌, ⊎_elim, eqb-true, arith}
+use Rattle.std.proofs.Common.{◌≡◌, ℕ, zero, suc, ◌<◌, ◌⊎◌, ◌==◌, ◌&&◌, ◌||◌, Bool, true, false, List, [], ◌∷◌, Option, None, Some}
+use Rattle.std.proofs.Common.{if◌then◌else◌, length, slice_get, codes, bytes_eq, inl, inr, refl, sym, ap, subst, ◌∙◌, eqb-true, arith}
 use Rattle.std.specs.Bool.{beq}
 use Rattle.std.proofs.lemmas.Bool.{and_parts, and_from, eq-eqb, false≢true}
 use Rattle.std.proofs.lemmas.Option.{slice_get_within}
@@ -23,7 +23,7 @@ use Rattle.ml_base.specs.declared.structure.Edge.{Edge}
 use Rattle.ml_base.specs.Structure.{Structure, lists}
 use Rattle.ml_parity.specs.declared.players.Player.{Player}
 use Rattle.ml_parity.specs.declared.players.Player.TheVariants.{Even, Odd}
-use Rattle.ml_graph.specs.Graph.{Graph, IsGraph, size, node_at, prop_at, action_at}
+use Rattle.ml_graph.specs.Graph.{Graph, size, node_at, prop_at, action_at}
 use Rattle.ml_graph.specs.CheckingGame.{Vertex, Pair, Sink, mover, owner_at, pairs_or_sink, successors, successors_of, targets}
 use Rattle.ml_graph.specs.declared.node.Node.{Node}
 use Rattle.ml_graph.specs.declared.node.Node.TheVariants as node

@@ -9,25 +9,24 @@
 --   OnAt s p              == the pair of the state s and the node p is on the loop, and good
 --   on_stay               == the loop goes on to the child at the same level
 --   on_left               == where the player picks, the left child isn't good, if it is lower
-use Rattle.std.proofs.Common.{◌≡◌, ℕ, ◌+◌, ◌-◌, ◌<◌, ◌≤◌, ◌⊎◌, Bool, List, [], ◌∷◌, Option, None, Some, Contains}
+use Rattle.std.proofs.Common.{◌≡◌, ℕ, ◌+◌, ◌<◌, ◌≤◌, ◌⊎◌, Bool, List, [], ◌∷◌, Option, None, Some, Contains}
 use Rattle.std.proofs.Common.{length, get_or, map, slice_get, inl, inr, refl, sym, ap, subst, ◌∙◌, ⊎_elim, arith}
 use Rattle.std.proofs.lemmas.Bool.{cases_lt}
 use Rattle.std.proofs.lemmas.List.{get_or-map, length-map}
-use Rattle.ml_lists.specs.Lasso.{Lasso, entry, round}
+use Rattle.ml_lists.specs.Lasso.{Lasso, round}
 use Rattle.ml_lists.specs.Member.{IsMember}
-use Rattle.ml_lists.proofs.Lasso.{round-entry, on_loop, loop_length, loop_closed, lasso_keeps}
+use Rattle.ml_lists.proofs.Lasso.{on_loop, loop_length, loop_closed, lasso_keeps}
 use Rattle.ml_lists.proofs.Loops.{loop_is_flat}
 use Rattle.ml_lists.proofs.Member.{member-map, member-map_from, place-member}
 use Rattle.ml_lists.proofs.Members.{member_of_contains, contains_of_member}
 use Rattle.ml_base.specs.Structure.{Structure}
-use Rattle.ml_parity.specs.Game.{ParityGame, HasMove, moves_of, owner_of, size}
+use Rattle.ml_parity.specs.Game.{ParityGame, HasMove, moves_of, owner_of}
 use Rattle.ml_parity.specs.Winner.{IsPlay, IsStrategyOf, Follows}
-use Rattle.ml_graph.specs.Graph as graph
 use Rattle.ml_graph.specs.Graph.{Graph, IsGraph}
 use Rattle.ml_graph.specs.CheckingGame.{Vertex, Pair, Sink, checking_game, owner_at, successors, vertex_number, vertices}
-use Rattle.ml_graph.proofs.CheckingGame.{IsVertex, is_vertex, leads_to_vertices, moves_are, owner_is, vertex_at, vertices-length}
+use Rattle.ml_graph.proofs.CheckingGame.{IsVertex, is_vertex, leads_to_vertices, moves_are, owner_is, vertex_at}
 use Rattle.ml_word_graph.specs.Problem.{IsAdmitted}
-use Rattle.ml_word_graph.specs.WordGraph.{Place, Form, IsNumberOf, IsNumberedBy, form_of}
+use Rattle.ml_word_graph.specs.WordGraph.{Place, IsNumberOf, IsNumberedBy, form_of}
 use Rattle.ml_word_graph.proofs.NodeValues.{node_value}
 use Rattle.ml_word_graph.proofs.Levels.{IsLinear, Stays, level, child_level, stays_level}
 use Rattle.ml_word_graph.proofs.Moves.{ChildOf, Good, StepBy, chosen, chosen_left, choose, good_pair, good_sink, good_vertex, own_form, pair_step, player_of, state_behind, verdict}

@@ -8,8 +8,8 @@
 --   lasso_of_word      == the lasso through its states from 0
 --   same_truth         == formulas have the same values along it
 --   as_satisfiable     == so satisfiable problems are the same
-use Rattle.std.proofs.Common.{◌≡◌, ◌↔◌, ℕ, zero, suc, ◌+◌, ◌<◌, ◌==◌, Bool, true, false, ◌&&◌, ◌||◌, not, List, [], ◌∷◌, map}
-use Rattle.std.proofs.Common.{cond, ltb, length, get_or, slice_index_or, codes, bytes_eq, refl, sym, ap, subst, subst₂, ◌∙◌, eqb-true, arith}
+use Rattle.std.proofs.Common.{◌≡◌, ◌↔◌, ℕ, zero, suc, ◌+◌, ◌<◌, ◌==◌, Bool, true, false, ◌&&◌, ◌||◌, not, List, [], map}
+use Rattle.std.proofs.Common.{cond, ltb, get_or, slice_index_or, codes, bytes_eq, refl, sym, ap, subst, subst₂, ◌∙◌, eqb-true, arith}
 use Rattle.std.specs.List.{list_any, range_with_len}
 use Rattle.std.proofs.lemmas.Bool.{and_parts, and_from, eq-eqb}
 use Rattle.std.proofs.lemmas.List.FromFn.{length-range_with_len, get_or-range_with_len, length-map-range_with_len, get_or-map-range_with_len}
@@ -21,12 +21,11 @@ use Rattle.ml_lists.proofs.Member.{list_any-member, member-list_any, member-map,
 use Rattle.ml_lists.proofs.Unrolling.{next_place_low, next_place-entry}
 use Rattle.ml_base.specs.declared.structure.Edge.{Edge}
 use Rattle.ml_base.specs.Structure.{Structure, lists}
-use Rattle.ml_text.specs.declared.token.Operator.{Operator}
 use Rattle.ml_ctl.specs.Formula.{Formula, Const, Prop, Not, Binary, Temporal, Paired, Quantified, is_linear}
 use Rattle.ml_ctl.specs.declared.term.Tense.TheVariants as tense
 use Rattle.ml_ctl.specs.declared.term.Pairing.TheVariants as pairing
 use Rattle.ml_ctl.specs.Meaning.{Satisfies}
-use Rattle.ml_ctl.specs.Paths.{IsPath, IsPathFrom, has_step, places}
+use Rattle.ml_ctl.specs.Paths.{has_step, places}
 use Rattle.ml_ctl.specs.Problem as ctl
 use Rattle.ml_ltl.specs.Problem as ltl
 use Rattle.ml_word_graph.specs.Laws.{AsSatisfiable}

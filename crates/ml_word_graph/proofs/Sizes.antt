@@ -5,15 +5,13 @@
 --   nodes_closed        == from one of them one comes to others of them
 --   few_places          == a list without repetitions whose members stand in a list is no longer than it
 --   graphs_are_small    == so a graph has at most four nodes for each occurrence, and five more
-use Rattle.std.proofs.Common.{◌≡◌, ◌≢◌, ℕ, zero, suc, ◌+◌, ◌*◌, ◌<◌, ◌≤◌, ◌⊎◌, Bool, true, false, not, List, [], ◌∷◌, ◌++◌, Some}
+use Rattle.std.proofs.Common.{◌≡◌, ℕ, ◌+◌, ◌*◌, ◌<◌, ◌≤◌, ◌⊎◌, Bool, true, false, not, List, [], ◌∷◌, ◌++◌, Some}
 use Rattle.std.proofs.Common.{length, get_or, slice_get, inl, inr, refl, sym, ap, subst, ◌∙◌, ⊎_elim, arith, length-append}
 use Rattle.std.proofs.lemmas.Bool.{cases_lt}
 use Rattle.ml_lists.specs.Member.{IsMember}
 use Rattle.ml_lists.specs.Pigeons.{Twice}
 use Rattle.ml_lists.proofs.Member.{member-append, member-append_left, member-append_right, member-place, member_of_get}
 use Rattle.ml_lists.proofs.Pigeons.{pigeons}
-use Rattle.ml_graph.specs.Graph.{size}
-use Rattle.ml_text.specs.declared.token.Operator.{Operator}
 use Rattle.ml_text.specs.declared.token.Operator.TheVariants as operator
 use Rattle.ml_text.specs.Operators.{weight}
 use Rattle.ml_ctl.specs.Formula.{Formula, Const, Prop, Not, Binary, Temporal, Paired, Quantified, occurrences}

@@ -4,9 +4,9 @@
 --   only_next           == no other edge does
 --   path_goes           == each path goes from state to state like this
 --   a_word              == from each state goes the lasso of the states until one comes again
-use Rattle.std.proofs.Common.{◌≡◌, ◌≢◌, ℕ, zero, suc, ◌+◌, ◌<◌, ◌≤◌, ◌⊎◌, ◌==◌, ◌&&◌, Bool, true, length, get_or, codes, bytes_eq, inl, inr, refl, sym, ap, subst, ◌∙◌, ⊎_elim, eqb-true, arith}
+use Rattle.std.proofs.Common.{◌≡◌, ◌≢◌, ℕ, zero, suc, ◌+◌, ◌<◌, ◌≤◌, ◌⊎◌, ◌==◌, ◌&&◌, true, codes, bytes_eq, inl, inr, refl, sym, ap, subst, ◌∙◌, ⊎_elim, eqb-true, arith}
 use Rattle.std.proofs.lemmas.Bool.{and_parts, cases_eq, cases_lt}
-use Rattle.ml_lists.specs.Lasso.{Lasso, entry, next_place, round}
+use Rattle.ml_lists.specs.Lasso.{Lasso, entry, next_place}
 use Rattle.ml_lists.specs.Walk.{walk}
 use Rattle.ml_lists.specs.Search.{Found, First}
 use Rattle.ml_lists.specs.Pigeons.{Twice}
@@ -18,7 +18,7 @@ use Rattle.ml_lists.proofs.Unrolling.{next_step, next_place_low}
 use Rattle.ml_lists.proofs.Member.{list_any-member, All-member}
 use Rattle.ml_base.specs.declared.structure.Edge.{Edge}
 use Rattle.ml_base.specs.Structure.{Structure}
-use Rattle.ml_ctl.specs.Paths.{IsPath, IsPathFrom, IsPlace, IsTotal, after, has_step, places}
+use Rattle.ml_ctl.specs.Paths.{IsPath, IsPlace, IsTotal, after, has_step}
 use Rattle.ml_ctl.proofs.TotalPaths.{next, next_steps}
 use Rattle.ml_word_graph.specs.Problem.{IsAdmitted, IsWordFrom}
 
@@ -105,18 +105,20 @@ module _ (m : Structure) (ok : IsAdmitted m) where
     from_first f =
         let i : ℕ = f.is_first.holds.place in
         let j : ℕ = f.place in
-        let apart = f.is_first.holds.below in
-        (lasso_of passed i j, record {
-          is_path = record {
-            is_path = lasso_of_is (λ t u. has_step m t u ≡ true) passed i j apart f.is_first.holds.holds (λ k low. steps k);
-            starts_at = lasso_of-entry passed i j 0 (omega (arith, apart));
-          };
-          differ = λ a b a_low b_low same.
-              let size = lasso_of-length passed i j in
-              let one = lasso_of-entry passed i j a (omega (arith, a_low, size)) in
-              let two = lasso_of-entry passed i j b (omega (arith, b_low, size)) in
-              alike f a b (omega (arith, a_low, size)) (omega (arith, b_low, size)) (sym one ∙ same ∙ two);
-        })
+        let apart = f.is_first.holds.below in (
+          lasso_of passed i j,
+          record {
+            is_path = record {
+              is_path = lasso_of_is (λ t u. has_step m t u ≡ true) passed i j apart f.is_first.holds.holds (λ k low. steps k);
+              starts_at = lasso_of-entry passed i j 0 (omega (arith, apart));
+            };
+            differ = λ a b a_low b_low same.
+                let size = lasso_of-length passed i j in
+                let one = lasso_of-entry passed i j a (omega (arith, a_low, size)) in
+                let two = lasso_of-entry passed i j b (omega (arith, b_low, size)) in
+                alike f a b (omega (arith, a_low, size)) (omega (arith, b_low, size)) (sym one ∙ same ∙ two);
+          },
+        )
       where
         alike : (f : First Comes (suc m.states)) (a b : ℕ) → a < f.place → b < f.place → passed a ≡ passed b → a ≡ b
         alike f a b a_low b_low same =
