@@ -1,0 +1,21 @@
+-- the truth values of formulas along a lasso
+pub mod Values
+-- the path from each state
+pub mod Words
+-- the truth values of formulas at states, and of nodes
+pub mod StateValues
+pub mod NodeValues
+-- which nodes are on cycles
+pub mod Levels
+-- the moves of the checking game
+pub mod Moves
+-- plays, and loops of plays
+pub mod Plays
+-- who wins a loop
+pub mod Cycles
+-- the agreement of game and meaning
+pub mod Agreement
+-- how many nodes a graph has
+pub mod Sizes
+-- what is satisfiable on words, and on paths
+pub mod Satisfiable

@@ -1,0 +1,39 @@
+-- The game on a formula's graph, and the formula's meaning on words.
+--
+--   HoldsWhere g p == on each structure in which each state has exactly one edge by `_`, of any number of states, the graph g
+--                     holds at the states at which the problem p does
+--   GraphsAgree    == of each formula of LTL, in its plain sense and negated: its graph holds where the problem does
+--   GraphsAreSmall == a graph has at most four nodes for each occurrence, and five more
+--   AsSatisfiable  == a problem is satisfiable on words exactly where it is as a problem of LTL on paths among many
+use Rattle.std.specs.Prelude.{ℕ, ◌≡◌, ◌<◌, ◌≤◌, ◌+◌, ◌*◌, ◌↔◌, Bool, true}
+use Rattle.ml_base.specs.Structure.{Structure}
+use Rattle.ml_graph.specs.CheckingGame.{Holds}
+use Rattle.ml_graph.specs.Graph.{Graph, size}
+use Rattle.ml_ctl.specs.Formula.{Formula, is_linear, occurrences}
+use Rattle.ml_ctl.specs.Problem.{Problem}
+use Rattle.ml_ltl.specs.Problem as ltl
+use Rattle.ml_word_graph.specs.Problem.{HoldsAt, IsAdmitted, IsSatisfiable}
+use Rattle.ml_word_graph.specs.WordGraph.{IsGraphOf}
+
+abbrev pub HoldsWhere : Graph → Problem → Type 0
+HoldsWhere g p = (m : Structure) → IsAdmitted m → (s : ℕ) → s < m.states → Holds g m s ↔ HoldsAt m s p
+
+abbrev pub GraphsAgree : Type 0
+GraphsAgree =
+    (f : Formula) (negated : Bool) (g : Graph)
+    → is_linear f ≡ true
+    → IsGraphOf g f negated
+    → HoldsWhere g (record { formula = f; negated = negated })
+
+abbrev pub GraphsAreSmall : Type 0
+GraphsAreSmall =
+    (f : Formula) (negated : Bool) (g : Graph)
+    → IsGraphOf g f negated
+    → size g ≤ 4 * occurrences f + 5
+
+abbrev pub AsSatisfiable : Type 0
+AsSatisfiable =
+    (f : Formula) (negated : Bool)
+    → is_linear f ≡ true
+    → IsSatisfiable (record { formula = f; negated = negated })
+    ↔ ltl.IsSatisfiable (record { formula = f; negated = negated })
