@@ -82,3 +82,5 @@ pub mod ClosedDrafts
 pub mod GraphMade
 -- what is told of results
 pub mod OkResults
+-- graphs with names and priorities that a program holds
+pub mod HeldGraphs

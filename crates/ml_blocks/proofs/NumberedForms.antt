@@ -11,7 +11,6 @@ use Rattle.ml_text.specs.declared.token.Operator.{Operator}
 use Rattle.ml_text.specs.declared.token.Operator.TheVariants as operator
 use Rattle.ml_text.specs.Operators.{weight}
 use Rattle.ml_text.proofs.NameLists.{place_found}
-use Rattle.ml_ctl.specs.Formula as formula
 use Rattle.ml_ctl.specs.Formula.{Formula, Const, Prop, Not, Binary, Temporal, Paired, Quantified, occurrences}
 use Rattle.ml_ctl.specs.declared.term.Quantifier.TheVariants as quantifier
 use Rattle.ml_blocks.specs.Items.{Item, now}

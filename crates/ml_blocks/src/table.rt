@@ -1,11 +1,9 @@
 // The occurrences of a formula, by their numbers.
 ghost use Rattle.std.specs.Prelude.{◌≡◌, ◌+◌, ◌*◌, ◌<◌, ◌≤◌, ◌^◌, ◌++◌, [], ◌∷◌, None, Some, length, get_or, IfOk, OnOk};
 ghost use Rattle.ml_text.specs.Operators.{weight};
-ghost use Rattle.ml_ctl.specs.Formula as plain;
 ghost use Rattle.ml_ctl.specs.Formula.{occurrences};
 ghost use Rattle.ml_ctl.specs.Term.{formula_of};
 ghost use Rattle.ml_blocks.specs.private.Occurrences as listed;
-ghost use Rattle.ml_blocks.specs.declared.table.Symbol.TheVariants as symbol;
 
 use crate::names::Names;
 use ml_base::NoMemory;

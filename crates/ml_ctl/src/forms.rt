@@ -2,7 +2,6 @@
 ghost use Rattle.std.specs.Prelude.{◌≡◌, IfOk};
 ghost use Rattle.std.specs.Option.{option_map};
 ghost use Rattle.ml_text.specs.private.Views.{GivesBack, mode_view, turn_view};
-ghost use Rattle.ml_ctl.specs.Formula as plain;
 ghost use Rattle.ml_ctl.specs.Term.{formula_of};
 ghost use Rattle.ml_ctl.specs.private.FormViews.{wait_view};
 ghost use Rattle.ml_ctl.specs.private.Reader.{ctl_tables};

@@ -15,7 +15,7 @@ mod forms;
 mod formula;
 mod language;
 pub mod laws;
-mod logic;
+mod notation;
 mod parsing;
 mod printing;
 mod signs;

@@ -2,7 +2,7 @@
 ghost use Rattle.std.specs.Prelude.{MatchResult};
 ghost use Rattle.ml_ctl.specs.Parsing.{IsParsedAs, IsRefusedBy};
 
-use crate::logic::Reader;
+use crate::notation::Reader;
 use crate::{Ctl, Formula, FormulaOf, Language, Words};
 use ml_base::ParseRefusal;
 use ml_text::{Reading, read};

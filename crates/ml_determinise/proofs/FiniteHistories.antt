@@ -7,6 +7,7 @@
 --   names_fit       == then it has at most so many names in use
 --   marks_fit       == and the marks of its steps have numbers below the neutral priority
 --   small_step      == steps along letters below the number keep it
+--   code states h   == its number, of which code_low says that it is small, and same_code that h alone has it
 --   two_same        == of a sequence of such histories two are the same
 use Rattle.std.proofs.Common.{◌≡◌, ℕ, ◌+◌, ◌*◌, ◌^◌, ◌<◌, ◌≤◌, List, [], ◌∷◌, map, refl, sym, subst, inl, inr, arith}
 use Rattle.std.proofs.lemmas.List.{length-map}
@@ -109,7 +110,7 @@ parents_code states h = pack states states (parent_of h)
 abbrev tips_code : ℕ → List (Item ℕ) → ℕ
 tips_code states h = pack (states + 1) states (tip_of h)
 
-abbrev code : ℕ → List (Item ℕ) → ℕ
+abbrev pub code : ℕ → List (Item ℕ) → ℕ
 code states h = parents_code states h * (states + 1) ^ states + tips_code states h
 
 module _ (states : ℕ) (h : List (Item ℕ)) (small : Small states h) where
@@ -122,12 +123,16 @@ module _ (states : ℕ) (h : List (Item ℕ)) (small : Small states h) where
   tips_low : tips_code states h < (states + 1) ^ states
   tips_low = pack_low (states + 1) states (tip_of h) tip_digits
 
-  code_low : code states h < states ^ states * (states + 1) ^ states
+  pub code_low : code states h < states ^ states * (states + 1) ^ states
   code_low =
       pair_low (parents_code states h) (tips_code states h) (states ^ states) ((states + 1) ^ states)
       (pack_low states states (parent_of h) parent_digits) tips_low
 
-same_code : (states : ℕ) (h k : List (Item ℕ)) → Small states h → Small states k → code states h ≡ code states k → h ≡ k
+pub same_code : (states : ℕ) (h k : List (Item ℕ))
+    → Small states h
+    → Small states k
+    → code states h ≡ code states k
+    → h ≡ k
 same_code states h k is_h is_k e =
     let parts = pair_same (parents_code states h) (tips_code states h) (parents_code states k) (tips_code states k)
     ((states + 1) ^ states) (tips_low states h is_h) (tips_low states k is_k) e in

@@ -2,8 +2,6 @@
 pub mod Endings
 -- the decision games of graphs that differ in the numbers of names have the same positions
 pub mod SamePositions
--- structures that are extracted for graphs of CTL* and LTL
-pub mod ExtractedModels
 -- the graphs of problems
 pub mod ProblemGraphs
 -- a decision is what is due
@@ -26,12 +24,6 @@ pub mod WorkedWords
 pub mod SomeTurn
 -- the decision game has an arena, or passes the limit
 pub mod SomeArena
--- graphs with names and priorities that a program holds
-pub mod HeldNames
-pub mod MuHeld
-pub mod PdlHeld
-pub mod BlocksHeld
-pub mod HeldGraphs
 -- models with such names
 pub mod NamedModels
 -- each question on each text has an answer

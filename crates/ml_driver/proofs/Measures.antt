@@ -31,7 +31,7 @@ use Rattle.ml_driver.specs.declared.stages.Stage.TheVariants as stage
 use Rattle.ml_driver.specs.private.Findings.{finding_at, is_even}
 use Rattle.ml_driver.specs.private.Stages.{IsSolvedFor, IsStageOf, IsTranslated}
 use Rattle.ml_driver.proofs.Answered.{closed}
-use Rattle.ml_driver.proofs.HeldGraphs.{HeldGraph, held_graph}
+use Rattle.ml_front.proofs.HeldGraphs.{HeldGraph, held_graph}
 use Rattle.ml_driver.proofs.ProblemGraphs.{few_positions, keeps_limit, same_positions}
 use Rattle.ml_driver.proofs.SomeArena.{some_arena}
 use Rattle.ml_driver.proofs.Winners.{even_wins, odd_wins}

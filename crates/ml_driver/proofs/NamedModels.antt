@@ -18,7 +18,7 @@ use Rattle.ml_lists.proofs.Member.{member_of_get}
 use Rattle.ml_extract.specs.Extraction.{Extracted, HasDiamond}
 use Rattle.ml_extract.specs.Model.{IsLabel, IsModelOf, State}
 use Rattle.ml_extract.proofs.Numbering.{last_spread}
-use Rattle.ml_driver.proofs.HeldNames.{IsHeld}
+use Rattle.ml_front.proofs.HeldGraphs.{IsHeld}
 
 module _ (g : Graph) (a : Arena) (s : GameSolution) (m : Structure) (start : ℕ)
     (model : IsModelOf g a s m start) (extracted : Extracted g m start) (held : IsHeld g) where

@@ -11,24 +11,24 @@ use Rattle.std.proofs.Common.{ℕ, ◌+◌, ◌*◌, ◌^◌, ◌≤◌, ◌%◌
 use Rattle.std.proofs.lemmas.List.Sums.{count_by-le-length, length-filter}
 use Rattle.std.proofs.Math.Nat.{mul-le-mul}
 use Rattle.ml_base.specs.Structure.{Structure}
-use Rattle.ml_extract.specs.Extraction.{Extracted}
-use Rattle.ml_front.specs.Graphs.{IsGraphAs, IsGraphOf}
+use Rattle.ml_base.specs.declared.structure.Edge.{Edge}
+use Rattle.ml_extract.specs.Extraction.{Extracted, IsReachedFrom, itself, along}
+use Rattle.ml_front.specs.Graphs.{IsGraphOf}
 use Rattle.ml_front.specs.Logics.{IsParsedAs, IsWellFormed, logic_of}
 use Rattle.ml_front.specs.Problems.{IsAdmitted}
 use Rattle.ml_front.specs.declared.problem.AnyFormula.{AnyFormula}
-use Rattle.ml_front.specs.declared.problem.AnyFormula.TheVariants.{Mu, Pdl, Ctl, Ltl}
 use Rattle.ml_front.specs.declared.problem.Problem.{Problem}
 use Rattle.ml_front.specs.declared.problem.TheConstants.{MOST_NODES}
 use Rattle.ml_front.proofs.Graphs.{graph_is, graph_small, graphs_alike}
 use Rattle.ml_front.proofs.Logics.{parsed_well}
 use Rattle.ml_graph.specs.Graph.{Graph, IsGraph, odd_priorities, size}
+use Rattle.ml_lists.specs.Member.{IsMember}
 use Rattle.ml_lists.specs.Ascending.{ascending, insert_once}
 use Rattle.ml_product.specs.Arena.{Arena, IsArenaOf}
 use Rattle.ml_product.specs.DecisionGame.{HasMoreThan}
 use Rattle.ml_product.specs.Position.{automaton_states}
 use Rattle.ml_refute.proofs.Different.{different_within}
-use Rattle.ml_blocks.specs.BlockGraph.{linear_start_of, start_of}
-use Rattle.ml_driver.proofs.ExtractedModels.{is_admitted}
+use Rattle.ml_front.proofs.AdmittedStructures.{is_admitted}
 use Rattle.ml_driver.proofs.SamePositions.{more_there}
 use Rattle.ml_driver.specs.Decision.{PassesLimit}
 use Rattle.ml_driver.specs.Laws.{GraphsFit}
@@ -36,20 +36,34 @@ use Rattle.ml_driver.specs.Laws.{GraphsFit}
 pub well_formed : (text : List ℕ) (f : AnyFormula) → IsParsedAs text f → IsWellFormed f
 well_formed text f parsed = parsed_well text f parsed
 
-admitted_as : (g : Graph) (negated : Bool) (f : AnyFormula) (m : Structure) (start : ℕ)
-    → IsGraphAs g negated f
-    → Extracted g m start
-    → IsAdmitted (logic_of f) m
-admitted_as g negated (Mu f) m start is extracted = extracted.is_structure
-admitted_as g negated (Pdl f) m start is extracted = extracted.is_structure
-admitted_as g negated (Ctl f) m start is extracted = is_admitted (start_of f negated) g m start is extracted
-admitted_as g negated (Ltl f) m start is extracted = is_admitted (linear_start_of f negated) g m start is extracted
+module _ (m : Structure) (start : ℕ) (P : ℕ → Type 0) (first : P start)
+    (goes_on : (e : Edge) → P e.source → IsMember e m.edges → P e.target) where
+  along_edges : (t : ℕ) → IsReachedFrom m start t → P t
+  along_edges _ itself = first
+  along_edges _ (along e reached inside) = goes_on e (along_edges e.source reached) inside
 
 pub admitted : (g : Graph) (p : Problem) (m : Structure) (start : ℕ)
     → IsGraphOf g p
     → Extracted g m start
     → IsAdmitted (logic_of p.formula) m
-admitted g p m start is extracted = admitted_as g p.negated p.formula m start is extracted
+admitted g p m start is extracted =
+    is_admitted g p m start is
+    (record {
+      is_structure = extracted.is_structure;
+      is_state = extracted.is_state;
+      holds = extracted.holds;
+      along_diamonds = λ e inside.
+          let d = extracted.along_diamonds e inside in
+          record {
+            diamond = d.diamond;
+            is_node = d.is_node;
+            action = d.action;
+            child = d.child;
+            is_diamond = d.is_diamond;
+            action_is = d.action_is;
+          };
+      reached = λ P first goes_on t low. along_edges m start P first goes_on t (extracted.reached t low);
+    })
 
 -- ---- the trace automaton
 

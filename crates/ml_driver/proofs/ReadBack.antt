@@ -7,6 +7,7 @@
 use Rattle.std.proofs.Common.{ℕ, List, refl, sym, subst}
 use Rattle.ml_base.specs.declared.version.Version.TheVariants.{Two}
 use Rattle.ml_model_check.specs.Checked.{IsDocument, Shows}
+use Rattle.ml_model_check.specs.declared.checked.Checked.TheVariants.{Holds}
 use Rattle.ml_model_check.proofs.ReadBack.{documents_read_back}
 use Rattle.ml_driver.specs.Decision.{Refuted, Satisfied}
 use Rattle.ml_driver.specs.declared.cause.Cause.TheVariants.{Closure}
@@ -17,7 +18,7 @@ use Rattle.ml_refute_check.specs.Documents.{IsDocument as IsDocumentWith}
 use Rattle.ml_driver.proofs.ProblemGraphs.{well_formed}
 use Rattle.ml_driver.proofs.RefutationDocuments.{refutation_read_back}
 
-satisfied_read : (q : Question) (text out : List ℕ) → Satisfied q text out → Shows out
+satisfied_read : (q : Question) (text out : List ℕ) → Satisfied q text out → Shows out Holds
 satisfied_read q text out x =
     let p = x.problem in
     let m = x.structure in
@@ -30,9 +31,7 @@ satisfied_read q text out x =
       structure = m;
       start = x.start;
       is_document = shown;
-      admitted = x.is_admitted;
-      closed = x.is_closed Closure;
-      holds = x.holds;
+      finds = (x.is_admitted, x.is_closed Closure, x.holds);
     }
 
 pub decided_are_checked : DecidedAreChecked

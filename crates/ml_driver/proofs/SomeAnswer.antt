@@ -48,8 +48,8 @@ use Rattle.ml_driver.specs.declared.question.Question.{Question}
 use Rattle.ml_driver.specs.declared.status.Status.{Status}
 use Rattle.ml_driver.specs.declared.status.Status.TheVariants.{Yes, No, Undecided, Text}
 use Rattle.ml_driver.proofs.Answered.{closed, left_open, open_in, refused_answered, refuted, satisfied}
-use Rattle.ml_driver.proofs.HeldGraphs.{HeldGraph, held_graph}
-use Rattle.ml_driver.proofs.HeldNames.{IsHeld}
+use Rattle.ml_front.proofs.HeldGraphs.{HeldGraph, held_graph}
+use Rattle.ml_front.proofs.HeldGraphs.{IsHeld}
 use Rattle.ml_driver.proofs.NamedModels.{has_names}
 use Rattle.ml_driver.proofs.ProblemGraphs.{few_positions, keeps_limit, well_formed}
 use Rattle.ml_driver.proofs.SomeArena.{some_arena}

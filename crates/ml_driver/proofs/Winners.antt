@@ -31,7 +31,7 @@ use Rattle.ml_refute.proofs.Entries.{Extraction}
 use Rattle.ml_refute.proofs.SomeRefutation.{some_refutation}
 use Rattle.ml_refute.proofs.WellFormed.{extracted_refutation}
 use Rattle.ml_refute_check.proofs.Refuted.{refuted_is_unsatisfiable}
-use Rattle.ml_driver.proofs.HeldGraphs.{HeldGraph, held_graph}
+use Rattle.ml_front.proofs.HeldGraphs.{HeldGraph, held_graph}
 use Rattle.ml_driver.proofs.ProblemGraphs.{admitted}
 
 module _ (p : Problem) (well : IsWellFormed p.formula) (fits : ¬ (HasLargeClosure p MOST_NODES)) (g : Graph)

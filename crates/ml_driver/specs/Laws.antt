@@ -24,6 +24,7 @@ use Rattle.ml_product.specs.DecisionGame.{HasMoreThan}
 use Rattle.ml_driver.specs.declared.command.Command.TheVariants.{Decide, Valid, CheckModel, CheckRefutation, Gen, Bench}
 use Rattle.ml_driver.specs.declared.command.Command.{Command}
 use Rattle.ml_model_check.specs.Checked.{Shows}
+use Rattle.ml_model_check.specs.declared.checked.Checked.TheVariants.{Holds}
 use Rattle.ml_front.specs.Graphs.{HasLargeClosure, IsGraphOf}
 use Rattle.ml_front.specs.Logics.{IsWellFormed}
 use Rattle.ml_front.specs.Problems.{IsSatisfiable}
@@ -90,7 +91,7 @@ AnswersAreExact = (q : Question) (text : List ℕ) (p : Problem) (s : Status) (o
 
 -- the document with a structure is one in which its problem holds, and the one with a refutation is accepted
 abbrev pub DecidedAreChecked : Type 0
-DecidedAreChecked = (q : Question) (text out : List ℕ) → Satisfied q text out → Shows out
+DecidedAreChecked = (q : Question) (text out : List ℕ) → Satisfied q text out → Shows out Holds
 
 abbrev pub RefutedAreAccepted : Type 0
 RefutedAreAccepted = (q : Question) (text out : List ℕ) → Refuted q text out → IsAcceptedDocument out

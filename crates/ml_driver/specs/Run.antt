@@ -32,7 +32,8 @@ use Rattle.ml_base.specs.Faults.{Rose}
 use Rattle.ml_base.specs.Whole.{AppendsPart, Gives}
 use Rattle.ml_base.specs.declared.doc_fault.DocFault.{DocFault}
 use Rattle.ml_model_check.specs.Checked as shown
-use Rattle.ml_model_check.specs.Checked.{Shows, ShowsDeadlock, ShowsLargeClosure, ShowsNot}
+use Rattle.ml_model_check.specs.Checked.{Shows}
+use Rattle.ml_model_check.specs.declared.checked.Checked.TheVariants.{Holds, Fails, NotTotal, ClosureTooLarge}
 use Rattle.ml_refute_check.specs.Documents as refuted
 use Rattle.ml_refute_check.specs.Documents.{IsAcceptedDocument, IsMigrated, IsRejectedAt, HoldsNowhere}
 use Rattle.ml_driver.specs.declared.command.Command.{Command}
@@ -59,15 +60,15 @@ IsTooLong limit text out = (limit < length text) × (out ≡ refused_length)
 
 -- the document shows a structure, and its problem holds at the start
 abbrev pub IsChecked : List ℕ → List ℕ → Type 0
-IsChecked text out = Shows text × (out ≡ holds_line)
+IsChecked text out = Shows text Holds × (out ≡ holds_line)
 
 -- the document shows a structure, and its problem doesn't hold at the start
 abbrev pub IsRefuted : List ℕ → List ℕ → Type 0
-IsRefuted text out = ShowsNot text × (out ≡ fails_line)
+IsRefuted text out = Shows text Fails × (out ≡ fails_line)
 
 -- the document shows a structure of which its logic speaks, and a problem with too large a closure
 abbrev pub IsLeftOpen : List ℕ → List ℕ → Type 0
-IsLeftOpen text out = ShowsLargeClosure text × (out ≡ open_line)
+IsLeftOpen text out = Shows text ClosureTooLarge × (out ≡ open_line)
 
 -- the document shows a refutation that is accepted for its problem; so what it answers is true
 pub record IsAcceptedRefutation (text out : List ℕ) : Type 0 where
@@ -96,7 +97,7 @@ pub data IsRefusedDocument (IsFault : DocFault → Type 0) (text out : List ℕ)
 -- the document shows a structure, and this is its first state without an edge, where its logic wants one
 pub record IsNotTotal (text out : List ℕ) : Type 0 where
   pub state : ℕ
-  pub is_deadlock : ShowsDeadlock text state
+  pub is_deadlock : Shows text (NotTotal state)
   pub is_written : out ≡ not_total_line state
 
 -- the three reasons to refuse a document with a structure

@@ -1,4 +1,7 @@
 // The formulas of families: their texts, and how large they, their graphs and their decision games are.
+//
+// `generate` writes the text of a family's formula. `measure` reads it back as a problem, and takes that through the same
+// stages as a decision (`stages`); of the last one only counts and the winner are kept (`Finding`), and written as five lines.
 ghost use Rattle.std.specs.Prelude.{◌≡◌, true, [], ◌∷◌, ◌++◌, IfOk, OnOk, Some};
 ghost use Rattle.ml_front.specs.Logics.{IsWellFormed};
 ghost use Rattle.ml_gen.specs.Families.{formula_text, is_in_range};

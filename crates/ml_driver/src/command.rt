@@ -1,4 +1,8 @@
 // The commands, and the words that ask for them.
+//
+// `clap` takes the words apart as those of one simple command: three positional words and an option (`taken_apart`). Which of
+// these are a command is the table in the middle of the file, from `row` on, a function for each kind of row. Numbers are
+// read digit by digit, and refused above their limit.
 ghost use Rattle.std.specs.Prelude.{◌≡◌, ◌≢◌, ◌≤◌, true, [], map, option_map, IfOk, IfSome, MatchOption};
 ghost use Rattle.std.specs.String.{string_bytes};
 ghost use Rattle.clap.specs.Words.{app_of, found_of, kind_of, rows_of};

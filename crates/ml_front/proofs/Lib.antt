@@ -1,5 +1,6 @@
 -- texts that stand in one line
 pub mod WordLines
+pub mod MuLines
 pub mod PdlLines
 pub mod CtlLines
 -- what each logic proves of its texts, said of all
@@ -29,3 +30,7 @@ pub mod Closures
 pub mod Graphs
 -- each formula has a graph
 pub mod SomeGraph
+-- graphs with names and priorities that a program holds
+pub mod HeldGraphs
+-- structures of which a logic speaks
+pub mod AdmittedStructures

@@ -23,7 +23,6 @@ use Rattle.ml_ctl.proofs.CanonicalParsed as ctl_canonical
 use Rattle.ml_ctl.proofs.OneAnswer as ctl_answer
 use Rattle.ml_ctl.proofs.Parsed as ctl_parsed
 use Rattle.ml_mu.specs.Formula as mu_formula
-use Rattle.ml_mu.proofs.CanonicalLines as mu_lines
 use Rattle.ml_mu.proofs.CanonicalParsed as mu_canonical
 use Rattle.ml_mu.proofs.OneAnswer as mu_answer
 use Rattle.ml_mu.proofs.Parsed as mu_parsed
@@ -37,6 +36,7 @@ use Rattle.ml_front.specs.declared.logic.Logic.{Logic}
 use Rattle.ml_front.specs.declared.logic.Logic.TheVariants as logic
 use Rattle.ml_front.specs.declared.problem.AnyFormula.{AnyFormula}
 use Rattle.ml_front.specs.declared.problem.AnyFormula.TheVariants.{Mu, Pdl, Ctl, Ltl}
+use Rattle.ml_front.proofs.MuLines as mu_lines
 use Rattle.ml_front.proofs.CtlLines as ctl_lines
 use Rattle.ml_front.proofs.PdlLines as pdl_lines
 

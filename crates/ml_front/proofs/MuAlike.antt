@@ -5,7 +5,9 @@
 use Rattle.std.proofs.Common.{ℕ, ◌+◌, ◌*◌, Bool, true, false, not, List, [], ◌∷◌, length, refl, sym, ◌∙◌}
 use Rattle.ml_graph.specs.Graph.{Graph}
 use Rattle.ml_graph.specs.declared.node.Node.TheVariants as node
-use Rattle.ml_mu.specs.Formula.{Formula, Const, Prop, Var, Not, Binary, Modal, Binder, Modality, Diamond, Square, occurrences}
+use Rattle.ml_mu.specs.Formula.{Formula, Const, Prop, Var, Not, Binary, Modal, Binder, occurrences}
+use Rattle.ml_mu.specs.declared.term.Modality.{Modality}
+use Rattle.ml_mu.specs.declared.term.Modality.TheVariants.{Diamond, Square}
 use Rattle.ml_nodes.specs.Nodes.{IsNode, constant, negative, positive}
 use Rattle.ml_mu_graph.specs.MuGraph.{Around, IsGraphOf, IsLiteral, IsModality, StandsAt, binder_of, binder_priority, binders, dual, opposite}
 use Rattle.ml_text.specs.Operators.{weight}

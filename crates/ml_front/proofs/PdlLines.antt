@@ -1,56 +1,22 @@
 -- The canonical text of a formula of PDL has no line end in it.
 --
 --   canonical_in_line  == where its names are spelled as they must be, it stands in one line
-use Rattle.std.proofs.Common.{◌≡◌, ℕ, Bool, true, false, ◌||◌, not, List, [], ◌∷◌, cond, codes, bytes_eq, refl, sym, subst}
-use Rattle.std.specs.List.{list_all}
+use Rattle.std.proofs.Common.{◌≡◌, ℕ, Bool, true, false, List, [], cond, codes, bytes_eq, refl}
 use Rattle.std.proofs.lemmas.Bool.{and_parts}
-use Rattle.std.proofs.lemmas.Slice.Eq.{bytes_eq-Decides}
 use Rattle.ml_lines.proofs.LineFronts.{IsInLine}
-use Rattle.ml_text.specs.Bytes.{is_lower, is_letter, is_word_byte}
-use Rattle.ml_text.specs.declared.token.Operator.{Operator}
-use Rattle.ml_text.specs.declared.token.Operator.TheVariants as operator
 use Rattle.ml_text.specs.Operators.{spelling_of}
-use Rattle.ml_text.specs.Words.{is_word_from}
-use Rattle.ml_text.proofs.FirstLetters.{lower_letters}
 use Rattle.ml_pdl.specs.Canonical.{canonical_text, modality_text, program_text, whole_program}
 use Rattle.ml_pdl.specs.Formula as plain
 use Rattle.ml_pdl.specs.Formula.{Formula, Program, Act, Seq, Alt, Star, Test}
 use Rattle.ml_pdl.specs.declared.term.Modality.{Modality}
 use Rattle.ml_pdl.specs.declared.term.Modality.TheVariants.{Diamond, Square}
-use Rattle.ml_pdl.specs.Spelling.{is_action, is_reserved, is_spelled, program_is_spelled}
-use Rattle.ml_front.proofs.WordLines as words
-use Rattle.ml_front.proofs.WordLines.{both_in_line, three_in_line, five_in_line, seven_in_line}
-
-letters_in_line : (w : List ℕ) → is_word_from is_letter w ≡ true → IsInLine w
-letters_in_line [] is = refl
-letters_in_line (b ∷ bs) is =
-    let parts = and_parts (is_letter b) (list_all is_word_byte bs) is in words.letters_in_line b bs parts.0 parts.1
-
--- an action that isn't `_` is a word
-other_in_line : (a : List ℕ) → bytes_eq a (codes "_") ≡ false → is_action a ≡ true → IsInLine a
-other_in_line a other is =
-    letters_in_line a (and_parts (is_word_from is_letter a) (not (is_reserved a)) (or_other (bytes_eq a (codes "_")) _ is other)).0
-  where
-    or_other : (x y : Bool) → (x || y) ≡ true → x ≡ false → y ≡ true
-    or_other true y holds no_x = absurd (cc)
-    or_other false y holds no_x = holds
-
-action_in_line : (a : List ℕ) → is_action a ≡ true → IsInLine a
-action_in_line a is = go (bytes_eq a (codes "_")) refl
-  where
-    go : (b : Bool) → bytes_eq a (codes "_") ≡ b → IsInLine a
-    go true any = subst IsInLine (sym ((bytes_eq-Decides a (codes "_")).0 any)) refl
-    go false other = other_in_line a other is
+use Rattle.ml_pdl.specs.Signs.{own}
+use Rattle.ml_pdl.specs.Spelling.{is_spelled, program_is_spelled}
+use Rattle.ml_front.proofs.WordLines.{action_in_line, between_in_line, both_in_line, three_in_line, five_in_line, proposition_in_line, spelling_in_line}
 
 unless_blank : (b : Bool) (text : List ℕ) → IsInLine text → IsInLine (cond b [] text)
 unless_blank true text is = refl
 unless_blank false text is = is
-
-spelling_in_line : (o : Operator) → IsInLine (spelling_of o)
-spelling_in_line operator.Iff = refl
-spelling_in_line operator.Implies = refl
-spelling_in_line operator.Or = refl
-spelling_in_line operator.And = refl
 
 modality_in_line : (m : Modality) (text : List ℕ) → IsInLine text → IsInLine (modality_text m text)
 modality_in_line Diamond text is = three_in_line (codes "<") text (codes ">") refl is refl
@@ -69,12 +35,12 @@ mutual
   canonical_in_line (plain.Const true) is = refl
   canonical_in_line (plain.Const false) is = refl
   canonical_in_line (plain.Prop p) is =
-      letters_in_line p (lower_letters p (and_parts (is_word_from is_lower p) (not (is_reserved p)) is).0)
+      proposition_in_line own p is
   canonical_in_line (plain.Not f) is = canonical_in_line f is
   canonical_in_line (plain.Binary o f g) is =
       let parts = and_parts (is_spelled f) (is_spelled g) is in
-      seven_in_line (codes "(") (canonical_text f) (codes " ") (spelling_of o) (codes " ") (canonical_text g) (codes ")") refl
-      (canonical_in_line f parts.0) refl (spelling_in_line o) refl (canonical_in_line g parts.1) refl
+      between_in_line (canonical_text f) (spelling_of o) (canonical_text g) (canonical_in_line f parts.0) (spelling_in_line o)
+      (canonical_in_line g parts.1)
   canonical_in_line (plain.Modal m p f) is =
       let parts = and_parts (program_is_spelled p) (is_spelled f) is in
       both_in_line (modality_text m (whole_program p (program_text p))) (canonical_text f)
@@ -83,7 +49,7 @@ mutual
       three_in_line (codes "repeat(") (program_text p) (codes ")") refl (program_in_line p is) refl
 
   program_in_line : (p : Program) → program_is_spelled p ≡ true → IsInLine (program_text p)
-  program_in_line (Act a) is = action_in_line a is
+  program_in_line (Act a) is = action_in_line own a is
   program_in_line (Seq p q) is =
       let parts = and_parts (program_is_spelled p) (program_is_spelled q) is in
       five_in_line (codes "(") (program_text p) (codes ";") (program_text q) (codes ")") refl (program_in_line p parts.0) refl

@@ -15,7 +15,6 @@ use Rattle.std.specs.Str.{bytes_eq}
 use Rattle.ml_base.specs.declared.parse_refusal.ParseRefusal.{ParseRefusal}
 use Rattle.ml_lines.specs.Lines.{Word}
 use Rattle.ml_ctl.specs.Canonical as ctl_canonical
-use Rattle.ml_ctl.specs.Formula as ctl_formula
 use Rattle.ml_ctl.specs.declared.language.Language.TheVariants as language
 use Rattle.ml_ctl.specs.Parsing as ctl_parsing
 use Rattle.ml_ctl.specs.WellFormed as ctl_formulas

@@ -1,4 +1,8 @@
 // Reading the head of a document.
+//
+// Each of its five lines has a function that reads it and answers the rest of the text, or the rule that it breaks:
+// title, answer, logic, sense, formula. `read_lines` calls them in order and counts the lines. The formula's line is cut out
+// first, and then read by the parser of the logic.
 ghost use Rattle.std.specs.Prelude.{◌≡◌, ℕ, List, [], ◌∷◌, IfOk, IfErr, IsErrOf, MatchOption, codes};
 ghost use Rattle.ml_base.specs.declared.doc_fault.DocFault.{DocFault};
 ghost use Rattle.ml_base.specs.declared.version.Version.{Version};

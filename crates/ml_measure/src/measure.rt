@@ -1,4 +1,8 @@
-// The measurements.
+// The measurements: what they are called, what each makes, and how its time is told.
+//
+// `measure` makes what is measured, by the generators of `ml_tests`, and hands it to `solve_game`, to `count_heights`,
+// or a row of steps of a history (`step_along`, `print_steps`). Each prints a line with numbers that depend on all of the
+// input and of the answer, so that nothing is left out.
 ghost use Rattle.std.specs.Prelude.{◌<◌};
 
 use crate::counts::{highest, read_game, read_graph, read_letter, won_by_even};

@@ -1,10 +1,8 @@
 -- What checking finds of a structure and a start for a problem.
 --
---   Finds c p m s    == c is found of the state s of the structure m for the problem p
---   one_finding      == of them one thing is found at most
+--   one_finding      == one thing is found of them at most
 --   some_finding     == and something, where s is a state and the formula means something
---   FoundIn text c   == the text shows a structure and a start for a problem, of which c is found
---   found_in, told   == what checking a text finds is that, or its first bad line
+--   found_in, told   == what checking a text finds is what is found of what it shows, or its first bad line
 use Rattle.std.proofs.Common.{◌≡◌, ℕ, ◌<◌, ◌⊎◌, List, inl, inr, refl, ap}
 use Rattle.ml_base.specs.Structure.{Structure, IsStructure}
 use Rattle.ml_base.specs.declared.doc_fault.DocFault.{DocFault}
@@ -17,23 +15,12 @@ use Rattle.ml_front.specs.declared.problem.Problem.{Problem}
 use Rattle.ml_front.specs.declared.problem.TheConstants.{MOST_NODES}
 use Rattle.ml_front.proofs.Graphs.{admitted_or_not, holds_or_fails, never_both, one_deadlock}
 use Rattle.ml_front.proofs.SomeGraph.{some_graph}
-use Rattle.ml_model_check.specs.Checked.{IsCheckedAs, IsDocument, IsDocumentFault}
+use Rattle.ml_model_check.specs.Checked.{Finds, IsCheckedAs, IsDocumentFault, Shows, SpeaksOf}
 use Rattle.ml_model_check.specs.declared.checked.Checked.{Checked}
 use Rattle.ml_model_check.specs.declared.checked.Checked.TheVariants.{Holds, Fails, Unreadable, NotTotal, ClosureTooLarge}
 
 abbrev IsClosed : Problem → Type 0
 IsClosed p = ¬ (HasLargeClosure p MOST_NODES)
-
--- the logic of the problem speaks of the structure
-abbrev SpeaksOf : Problem → Structure → Type 0
-SpeaksOf p m = IsAdmitted (logic_of p.formula) m
-
-abbrev pub Finds : Checked → Problem → Structure → ℕ → Type 0
-Finds Holds p m s = SpeaksOf p m × IsClosed p × HoldsAt m s p
-Finds Fails p m s = SpeaksOf p m × IsClosed p × (¬ (HoldsAt m s p))
-Finds (Unreadable fault) p m s = ⊥
-Finds (NotTotal dead) p m s = IsFirstDeadlock (logic_of p.formula) m dead
-Finds ClosureTooLarge p m s = SpeaksOf p m × HasLargeClosure p MOST_NODES
 
 module _ (p : Problem) (m : Structure) (s : ℕ) where
   never : (dead : ℕ) → SpeaksOf p m → ¬ (IsFirstDeadlock (logic_of p.formula) m dead)
@@ -79,84 +66,20 @@ module _ (p : Problem) (m : Structure) (s : ℕ) where
 
 -- ---- in a text
 
-pub record FoundIn (text : List ℕ) (c : Checked) : Type 0 where
-  pub problem : Problem
-  pub structure : Structure
-  pub start : ℕ
-  pub is_document : IsDocument text problem structure start
-  pub finds : Finds c problem structure start
-
 -- c is the first bad line of the text
 abbrev pub IsFault : List ℕ → Checked → Type 0
 IsFault text c = (fault : DocFault) × (c ≡ Unreadable fault) × IsDocumentFault text fault
 
-pub found_in : (text : List ℕ) (c : Checked) → IsCheckedAs text c → FoundIn text c ⊎ IsFault text c
-found_in text Holds x =
-    inl (record {
-      problem = x.problem;
-      structure = x.structure;
-      start = x.start;
-      is_document = x.is_document;
-      finds = (x.admitted, x.closed, x.holds);
-    })
-found_in text Fails x =
-    inl (record {
-      problem = x.problem;
-      structure = x.structure;
-      start = x.start;
-      is_document = x.is_document;
-      finds = (x.admitted, x.closed, x.fails);
-    })
+pub found_in : (text : List ℕ) (c : Checked) → IsCheckedAs text c → Shows text c ⊎ IsFault text c
 found_in text (Unreadable fault) x = inr (fault, refl, x)
-found_in text (NotTotal dead) x =
-    inl (record {
-      problem = x.problem;
-      structure = x.structure;
-      start = x.start;
-      is_document = x.is_document;
-      finds = x.is_first;
-    })
-found_in text ClosureTooLarge x =
-    inl (record {
-      problem = x.problem;
-      structure = x.structure;
-      start = x.start;
-      is_document = x.is_document;
-      finds = (x.admitted, x.is_large);
-    })
+found_in text Holds x = inl x
+found_in text Fails x = inl x
+found_in text (NotTotal dead) x = inl x
+found_in text ClosureTooLarge x = inl x
 
-pub told : (text : List ℕ) (c : Checked) → FoundIn text c → IsCheckedAs text c
-told text Holds x = record {
-  problem = x.problem;
-  structure = x.structure;
-  start = x.start;
-  is_document = x.is_document;
-  admitted = x.finds.0;
-  closed = x.finds.1;
-  holds = x.finds.2;
-}
-told text Fails x = record {
-  problem = x.problem;
-  structure = x.structure;
-  start = x.start;
-  is_document = x.is_document;
-  admitted = x.finds.0;
-  closed = x.finds.1;
-  fails = x.finds.2;
-}
+pub told : (text : List ℕ) (c : Checked) → Shows text c → IsCheckedAs text c
 told text (Unreadable fault) x = absurd x.finds
-told text (NotTotal dead) x = record {
-  problem = x.problem;
-  structure = x.structure;
-  start = x.start;
-  is_document = x.is_document;
-  is_first = x.finds;
-}
-told text ClosureTooLarge x = record {
-  problem = x.problem;
-  structure = x.structure;
-  start = x.start;
-  is_document = x.is_document;
-  admitted = x.finds.0;
-  is_large = x.finds.1;
-}
+told text Holds x = x
+told text Fails x = x
+told text (NotTotal dead) x = x
+told text ClosureTooLarge x = x

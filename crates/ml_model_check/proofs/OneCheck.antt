@@ -21,10 +21,11 @@ use Rattle.ml_front.proofs.Graphs.{meaningful}
 use Rattle.ml_front.proofs.HeadLines.{one_head}
 use Rattle.ml_front.proofs.Logics.{parsed_well}
 use Rattle.ml_front.proofs.OneFault as head
-use Rattle.ml_model_check.specs.Checked.{IsCheckedAs, IsDocument, IsDocumentFault, OneCheck, SomeCheck, first_body_line}
+use Rattle.ml_model_check.specs.Checked.{Finds, IsCheckedAs, IsDocument, IsDocumentFault, Shows, first_body_line}
+use Rattle.ml_model_check.specs.Laws.{OneCheck, SomeCheck}
 use Rattle.ml_model_check.specs.declared.checked.Checked.{Checked}
 use Rattle.ml_model_check.specs.declared.checked.Checked.TheVariants.{Unreadable}
-use Rattle.ml_model_check.proofs.Findings.{Finds, FoundIn, IsFault, found_in, one_finding, some_finding, told}
+use Rattle.ml_model_check.proofs.Findings.{IsFault, found_in, one_finding, some_finding, told}
 
 pub one_document : (text : List ℕ) (p q : Problem) (m n : Structure) (s t : ℕ)
     → IsDocument text p m s
@@ -60,7 +61,7 @@ one_fault text e f (inr x) (inr y) =
 pub one_check : OneCheck
 one_check text c d x y = go (found_in text c x) (found_in text d y)
   where
-    go : FoundIn text c ⊎ IsFault text c → FoundIn text d ⊎ IsFault text d → c ≡ d
+    go : Shows text c ⊎ IsFault text c → Shows text d ⊎ IsFault text d → c ≡ d
     go (inl a) (inl b) =
         let same =
         one_document text a.problem b.problem a.structure b.structure a.start b.start a.is_document b.is_document in

@@ -5,7 +5,7 @@ use Rattle.std.proofs.Common.{refl}
 use Rattle.ml_kripke.specs.ModelText.{model_text}
 use Rattle.ml_front.specs.declared.answer.Answer.TheVariants.{Satisfiable}
 use Rattle.ml_front.proofs.ReadBack.{heads_read_back}
-use Rattle.ml_model_check.specs.Checked.{DocumentsReadBack}
+use Rattle.ml_model_check.specs.Laws.{DocumentsReadBack}
 
 pub documents_read_back : DocumentsReadBack
 documents_read_back v p m start well written ordered = record {

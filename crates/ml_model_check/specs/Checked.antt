@@ -9,26 +9,22 @@
 --
 --   IsDocument text p m s   == the text shows the structure m with the start s for the problem p
 --   IsDocumentFault text f  == f tells the first bad line of the text, and the number of the lowest rule that it breaks
---   Shows text, ShowsNot text == the text shows an admitted structure for a problem without a large closure, which
---                              holds at the start, or doesn't
---   ShowsDeadlock text s    == it shows a structure whose first deadlock for the problem's logic is s
---   ShowsLargeClosure text  == it shows an admitted structure, and a problem with a large closure
+--   Finds c p m s          == c is found of the state s of the structure m for the problem p: that p holds there, or doesn't,
+--                              or that m has a deadlock, or the closure of p is large
+--   Shows text c            == the text shows a structure and a start for a problem, of which c is found
 --   IsCheckedAs text c      == c is what checking the text finds
---   SomeCheck, OneCheck, DocumentsReadBack == laws of these notions
-use Rattle.std.specs.Prelude.{ℕ, ◌≡◌, ◌⊎◌, List, ◌++◌}
+use Rattle.std.specs.Prelude.{ℕ, ◌≡◌, ◌⊎◌, List}
 use Rattle.ml_base.specs.Structure.{Structure}
 use Rattle.ml_base.specs.declared.doc_fault.DocFault.{DocFault}
 use Rattle.ml_base.specs.declared.version.Version.{Version}
-use Rattle.ml_lines.specs.Lines.{text_of}
 use Rattle.ml_kripke.specs.BodyRules.{IsFaultOf}
 use Rattle.ml_kripke.specs.Laws.{IsWritten}
 use Rattle.ml_kripke.specs.ModelText.{model_text}
 use Rattle.ml_kripke.specs.Ordered.{IsOrdered}
 use Rattle.ml_front.specs.Graphs.{HasLargeClosure}
-use Rattle.ml_front.specs.Head.{head_lines}
 use Rattle.ml_front.specs.declared.answer.Answer.TheVariants.{Satisfiable}
 use Rattle.ml_front.specs.HeadRules.{IsHead, IsHeadFault}
-use Rattle.ml_front.specs.Logics.{IsWellFormed, logic_of}
+use Rattle.ml_front.specs.Logics.{logic_of}
 use Rattle.ml_front.specs.Problems.{HoldsAt, IsAdmitted, IsFirstDeadlock}
 use Rattle.ml_front.specs.declared.problem.Problem.{Problem}
 use Rattle.ml_front.specs.declared.problem.TheConstants.{MOST_NODES}
@@ -60,62 +56,25 @@ IsDocumentFault text fault = IsHeadFault Satisfiable text fault ⊎ IsFaultOfBod
 
 -- ---- what checking finds
 
--- the text shows a structure and a start, at which its problem holds
-pub record Shows (text : List ℕ) : Type 0 where
-  pub problem : Problem
-  pub structure : Structure
-  pub start : ℕ
-  pub is_document : IsDocument text problem structure start
-  pub admitted : IsAdmitted (logic_of problem.formula) structure
-  pub closed : ¬ (HasLargeClosure problem MOST_NODES)
-  pub holds : HoldsAt structure start problem
+-- the logic of the problem speaks of the structure; the first state without an edge tells where it doesn't
+abbrev pub SpeaksOf : Problem → Structure → Type 0
+SpeaksOf p m = IsAdmitted (logic_of p.formula) m
 
--- the text shows a structure and a start, at which its problem doesn't hold
-pub record ShowsNot (text : List ℕ) : Type 0 where
-  pub problem : Problem
-  pub structure : Structure
-  pub start : ℕ
-  pub is_document : IsDocument text problem structure start
-  pub admitted : IsAdmitted (logic_of problem.formula) structure
-  pub closed : ¬ (HasLargeClosure problem MOST_NODES)
-  pub fails : ¬ (HoldsAt structure start problem)
+abbrev pub Finds : Checked → Problem → Structure → ℕ → Type 0
+Finds Holds p m s = SpeaksOf p m × (¬ (HasLargeClosure p MOST_NODES)) × HoldsAt m s p
+Finds Fails p m s = SpeaksOf p m × (¬ (HasLargeClosure p MOST_NODES)) × (¬ (HoldsAt m s p))
+Finds (NotTotal dead) p m s = IsFirstDeadlock (logic_of p.formula) m dead
+Finds ClosureTooLarge p m s = SpeaksOf p m × HasLargeClosure p MOST_NODES
+Finds (Unreadable fault) p m s = ⊥
 
--- the text shows a structure with a deadlock, of which its problem's logic doesn't speak; this is the first one
-pub record ShowsDeadlock (text : List ℕ) (state : ℕ) : Type 0 where
+-- the text shows a structure and a start, and c is found of them
+pub record Shows (text : List ℕ) (c : Checked) : Type 0 where
   pub problem : Problem
   pub structure : Structure
   pub start : ℕ
   pub is_document : IsDocument text problem structure start
-  pub is_first : IsFirstDeadlock (logic_of problem.formula) structure state
-
--- the text shows a structure of which its problem's logic speaks, and the problem's closure is too large
-pub record ShowsLargeClosure (text : List ℕ) : Type 0 where
-  pub problem : Problem
-  pub structure : Structure
-  pub start : ℕ
-  pub is_document : IsDocument text problem structure start
-  pub admitted : IsAdmitted (logic_of problem.formula) structure
-  pub is_large : HasLargeClosure problem MOST_NODES
+  pub finds : Finds c problem structure start
 
 abbrev pub IsCheckedAs : List ℕ → Checked → Type 0
-IsCheckedAs text Holds = Shows text
-IsCheckedAs text Fails = ShowsNot text
 IsCheckedAs text (Unreadable fault) = IsDocumentFault text fault
-IsCheckedAs text (NotTotal state) = ShowsDeadlock text state
-IsCheckedAs text ClosureTooLarge = ShowsLargeClosure text
-
--- ---- laws
-
--- checking a text finds something
-abbrev pub SomeCheck : Type 0
-SomeCheck = (text : List ℕ) → (c : Checked) × IsCheckedAs text c
-
--- and one thing at most
-abbrev pub OneCheck : Type 0
-OneCheck = (text : List ℕ) (c d : Checked) → IsCheckedAs text c → IsCheckedAs text d → c ≡ d
-
--- what is written for a well-formed formula, with a structure in order and a start, is read back, in either version
-abbrev pub DocumentsReadBack : Type 0
-DocumentsReadBack = (v : Version) (p : Problem) (m : Structure) (start : ℕ)
-    → IsWellFormed p.formula → IsWritten m start → IsOrdered m
-    → IsDocument (text_of (head_lines v Satisfiable p) ++ model_text m start) p m start
+IsCheckedAs text c = Shows text c

@@ -142,13 +142,8 @@ fn graph_holds(
 fn nests_deeper(term: &Term, binders: u32) -> bool {
     match term {
         Term::Const(_) | Term::Prop(_) | Term::Var(_) => false,
-        Term::Not(operand) | Term::Diamond(_, operand) | Term::Square(_, operand) => {
-            nests_deeper(operand, binders)
-        }
-        Term::And(left, right)
-        | Term::Or(left, right)
-        | Term::Implies(left, right)
-        | Term::Iff(left, right) => nests_deeper(left, binders) || nests_deeper(right, binders),
-        Term::Mu(_, body) | Term::Nu(_, body) => binders == 0 || nests_deeper(body, binders - 1),
+        Term::Not(operand) | Term::Modal(_, _, operand) => nests_deeper(operand, binders),
+        Term::Binary(_, left, right) => nests_deeper(left, binders) || nests_deeper(right, binders),
+        Term::Binder(_, _, body) => binders == 0 || nests_deeper(body, binders - 1),
     }
 }

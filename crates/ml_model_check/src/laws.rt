@@ -1,5 +1,5 @@
 // What holds of documents by their definitions alone: the functions do nothing, their contracts are the theorems.
-ghost use Rattle.ml_model_check.specs.Checked.{DocumentsReadBack, OneCheck, SomeCheck};
+ghost use Rattle.ml_model_check.specs.Laws.{DocumentsReadBack, OneCheck, SomeCheck};
 
 /// Checking a text finds exactly one thing: it shows a structure at whose start its problem holds, or one at whose
 /// start it doesn't, or one with a deadlock, or a problem whose closure is too large, or it has a first bad line. So

@@ -36,5 +36,3 @@ pub mod ShortNames
 pub mod CanonicalLimits
 -- canonical texts are parsed
 pub mod CanonicalParsed
--- canonical texts stand in one line
-pub mod CanonicalLines

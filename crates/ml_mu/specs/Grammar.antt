@@ -35,25 +35,49 @@ begins_operator _ = false
 pub data Reads : Level → List Sign → Formula → List Sign → Type 0 where
   -- iff = imp [ IFF iff ]
   iff_alone : {ts rest : List Sign} {f : Formula} → Reads Imp ts f rest → Reads Iff ts f rest
-  iff : {ts us rest : List Sign} {f g : Formula} → Reads Imp ts f (Connective operator.Iff ∷ us) → Reads Iff us g rest → Reads Iff ts (plain.Binary operator.Iff f g) rest
+  iff : {ts us rest : List Sign} {f g : Formula}
+      → Reads Imp ts f (Connective operator.Iff ∷ us)
+      → Reads Iff us g rest
+      → Reads Iff ts (plain.Binary operator.Iff f g) rest
   -- imp = or [ IMP imp ]
   imp_alone : {ts rest : List Sign} {f : Formula} → Reads Or ts f rest → Reads Imp ts f rest
-  imp : {ts us rest : List Sign} {f g : Formula} → Reads Or ts f (Connective operator.Implies ∷ us) → Reads Imp us g rest → Reads Imp ts (plain.Binary operator.Implies f g) rest
+  imp : {ts us rest : List Sign} {f g : Formula}
+      → Reads Or ts f (Connective operator.Implies ∷ us)
+      → Reads Imp us g rest
+      → Reads Imp ts (plain.Binary operator.Implies f g) rest
   -- or = and { OR and }
   or_alone : {ts rest : List Sign} {f : Formula} → Reads And ts f rest → Reads Or ts f rest
-  or : {ts us rest : List Sign} {f g : Formula} → Reads Or ts f (Connective operator.Or ∷ us) → Reads And us g rest → Reads Or ts (plain.Binary operator.Or f g) rest
+  or : {ts us rest : List Sign} {f g : Formula}
+      → Reads Or ts f (Connective operator.Or ∷ us)
+      → Reads And us g rest
+      → Reads Or ts (plain.Binary operator.Or f g) rest
   -- and = un { AND un }
   and_alone : {ts rest : List Sign} {f : Formula} → Reads Un ts f rest → Reads And ts f rest
-  and : {ts us rest : List Sign} {f g : Formula} → Reads And ts f (Connective operator.And ∷ us) → Reads Un us g rest → Reads And ts (plain.Binary operator.And f g) rest
+  and : {ts us rest : List Sign} {f g : Formula}
+      → Reads And ts f (Connective operator.And ∷ us)
+      → Reads Un us g rest
+      → Reads And ts (plain.Binary operator.And f g) rest
   -- NOT un
-  negation : {ts rest : List Sign} {f : Formula} → Reads Un ts f rest → Reads Un (Not ∷ ts) (plain.Not f) rest
+  negation : {ts rest : List Sign} {f : Formula}
+      → Reads Un ts f rest
+      → Reads Un (Not ∷ ts) (plain.Not f) rest
   -- "<" ACT ">" un, "[" ACT "]" un, and both without the action
-  modal : {ts rest : List Sign} {f : Formula} (m : Modality) (a : List ℕ) (s : Sign) → action_of s ≡ Some a → Reads Un ts f rest → Reads Un (Added (Begins m) ∷ s ∷ Added (Ends m) ∷ ts) (plain.Modal m a f) rest
-  modal_blank : {ts rest : List Sign} {f : Formula} (m : Modality) → Reads Un ts f rest → Reads Un (Added (Begins m) ∷ Added (Ends m) ∷ ts) (plain.Modal m (codes "_") f) rest
+  modal : {ts rest : List Sign} {f : Formula} (m : Modality) (a : List ℕ) (s : Sign)
+      → action_of s ≡ Some a
+      → Reads Un ts f rest
+      → Reads Un (Added (Begins m) ∷ s ∷ Added (Ends m) ∷ ts) (plain.Modal m a f) rest
+  modal_blank : {ts rest : List Sign} {f : Formula} (m : Modality)
+      → Reads Un ts f rest
+      → Reads Un (Added (Begins m) ∷ Added (Ends m) ∷ ts) (plain.Modal m (codes "_") f) rest
   -- "mu" VAR "." iff, "nu" VAR "." iff
-  binder : {ts rest : List Sign} {f : Formula} (q : Fixpoint) (x : List ℕ) → Reads Iff ts f rest → begins_operator rest ≡ false → Reads Un (Added (Binds q) ∷ Upper x ∷ Added Dot ∷ ts) (plain.Binder q x f) rest
+  binder : {ts rest : List Sign} {f : Formula} (q : Fixpoint) (x : List ℕ)
+      → Reads Iff ts f rest
+      → begins_operator rest ≡ false
+      → Reads Un (Added (Binds q) ∷ Upper x ∷ Added Dot ∷ ts) (plain.Binder q x f) rest
   -- "(" iff ")"
-  group : {ts rest : List Sign} {f : Formula} → Reads Iff ts f (Close ∷ rest) → Reads Un (Open ∷ ts) f rest
+  group : {ts rest : List Sign} {f : Formula}
+      → Reads Iff ts f (Close ∷ rest)
+      → Reads Un (Open ∷ ts) f rest
   -- TT, FF, PROP, VAR
   constant : {rest : List Sign} (b : Bool) → Reads Un (Const b ∷ rest) (plain.Const b) rest
   proposition : {rest : List Sign} (p : List ℕ) → Reads Un (Lower p ∷ rest) (plain.Prop p) rest

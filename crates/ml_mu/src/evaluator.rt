@@ -1,4 +1,8 @@
 // The evaluator: the meaning of a formula on a structure, computed as it is defined.
+//
+// A set of states is a list of flags. `evaluate_term` goes down the formula with the sets of the binders around it
+// (`Bindings`, a list that is lent from call to call); a binder's set is iterated until it is repeated (`last_iterate`). A
+// square is a diamond between two complements.
 ghost use Rattle.std.specs.Prelude.{◌≡◌, ◌<◌, ◌&&◌, not, map, zip, replicate, length, [], ◌∷◌, All, IfOk, OnOk};
 ghost use Rattle.std.specs.Str.{bytes_eq};
 ghost use Rattle.ml_lists.specs.Iterate.{iterate};

@@ -15,7 +15,7 @@ mod evaluator;
 mod forms;
 mod formula;
 pub mod laws;
-mod logic;
+mod notation;
 mod parsing;
 mod printing;
 mod signs;

@@ -3,7 +3,7 @@ ghost use Rattle.std.specs.Prelude.{MatchResult};
 ghost use Rattle.ml_mu.specs.Parsing.{IsParsedAs, IsRefusedBy};
 
 use crate::Formula;
-use crate::logic::Mu;
+use crate::notation::Mu;
 use crate::variables::{first_fault, standings};
 use ml_base::ParseRefusal;
 use ml_text::{Reading, read};

@@ -32,7 +32,9 @@ use Rattle.ml_graph.proofs.CheckingGame.{IsVertex, vertices-length, owner_is, pr
 use Rattle.ml_graph.proofs.OneStep.{vertex_low}
 use Rattle.ml_fixpoints.specs.Binders.{IsSinkOf, Binder, HasVerdicts, IsLeast}
 use Rattle.ml_mu.specs.Formula as formula
-use Rattle.ml_mu.specs.Formula.{Formula, Fixpoint, Least, Greatest}
+use Rattle.ml_mu.specs.Formula.{Formula}
+use Rattle.ml_mu.specs.declared.term.Fixpoint.{Fixpoint}
+use Rattle.ml_mu.specs.declared.term.Fixpoint.TheVariants.{Least, Greatest}
 use Rattle.ml_mu.specs.Meaning.{Given, HaveFlags, meaning}
 use Rattle.ml_mu.specs.Variables.{is_positive}
 use Rattle.ml_mu.proofs.MeaningFlags.{meaning_flags}

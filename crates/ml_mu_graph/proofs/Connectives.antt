@@ -12,7 +12,9 @@ use Rattle.ml_graph.specs.CheckingGame.{HoldsAt}
 use Rattle.ml_text.specs.declared.token.Operator.{Operator}
 use Rattle.ml_text.specs.declared.token.Operator.TheVariants as operator
 use Rattle.ml_text.specs.Operators.{weight}
-use Rattle.ml_mu.specs.Formula.{Formula, Const, Prop, Var, Not, Binary, Modal, Modality, Diamond, Square, occurrences}
+use Rattle.ml_mu.specs.Formula.{Formula, Const, Prop, Var, Not, Binary, Modal, occurrences}
+use Rattle.ml_mu.specs.declared.term.Modality.{Modality}
+use Rattle.ml_mu.specs.declared.term.Modality.TheVariants.{Diamond, Square}
 use Rattle.ml_mu.specs.Meaning.{Given, given_set, meaning, some_edge, every_edge}
 use Rattle.ml_mu.specs.Variables.{is_bound, is_positive}
 use Rattle.ml_mu.proofs.MeaningFlags.{meaning_flags}

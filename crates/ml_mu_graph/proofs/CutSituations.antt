@@ -15,7 +15,8 @@ use Rattle.ml_lists.proofs.Member.{place-member}
 use Rattle.ml_text.specs.declared.token.Operator.{Operator}
 use Rattle.ml_text.specs.declared.token.Operator.TheVariants as operator
 use Rattle.ml_text.specs.Operators.{weight}
-use Rattle.ml_mu.specs.Formula.{Formula, Const, Prop, Var, Not, Binary, Modal, Binder, Fixpoint, occurrences}
+use Rattle.ml_mu.specs.Formula.{Formula, Const, Prop, Var, Not, Binary, Modal, Binder, occurrences}
+use Rattle.ml_mu.specs.declared.term.Fixpoint.{Fixpoint}
 use Rattle.ml_mu.specs.Meaning.{Given}
 use Rattle.ml_mu.specs.Variables.{is_positive, occurs_only}
 use Rattle.ml_nodes.specs.Nodes.{positive, negative, IsNode, Joins}

@@ -9,7 +9,9 @@ use Rattle.ml_graph.specs.Graph.{Graph, IsGraph, size}
 use Rattle.ml_text.specs.Operators.{weight}
 use Rattle.ml_text.specs.NameLists.{place_of}
 use Rattle.ml_text.proofs.NameLists.{place_found}
-use Rattle.ml_mu.specs.Formula.{Formula, Const, Prop, Var, Not, Binary, Modal, Binder, Modality, Diamond, Square, occurrences}
+use Rattle.ml_mu.specs.Formula.{Formula, Const, Prop, Var, Not, Binary, Modal, Binder, occurrences}
+use Rattle.ml_mu.specs.declared.term.Modality.{Modality}
+use Rattle.ml_mu.specs.declared.term.Modality.TheVariants.{Diamond, Square}
 use Rattle.ml_nodes.specs.Nodes.{negative, positive}
 use Rattle.ml_mu_graph.specs.MuGraph.{binders, dual, modality}
 use Rattle.ml_nodes.specs.private.Connectives.{operator_nodes}

@@ -27,3 +27,5 @@ pub mod Binding
 pub mod Agreement
 -- the lists of a formula make a graph
 pub mod InRange
+-- the graph that the program makes, with names and priorities that a program holds
+pub mod HeldGraph

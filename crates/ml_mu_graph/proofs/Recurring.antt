@@ -28,7 +28,9 @@ use Rattle.ml_graph.specs.CheckingGame.{Vertex, Pair, Sink, vertex_number, succe
 use Rattle.ml_graph.specs.declared.node.Node.{Node}
 use Rattle.ml_graph.specs.declared.node.Node.TheVariants as node
 use Rattle.ml_graph.proofs.CheckingGame.{IsVertex, vertex_at, priority_is, moves_are}
-use Rattle.ml_mu.specs.Formula.{Formula, Binder, Fixpoint, Least, Greatest}
+use Rattle.ml_mu.specs.Formula.{Formula, Binder}
+use Rattle.ml_mu.specs.declared.term.Fixpoint.{Fixpoint}
+use Rattle.ml_mu.specs.declared.term.Fixpoint.TheVariants.{Least, Greatest}
 use Rattle.ml_mu.specs.Meaning.{Given}
 use Rattle.ml_nodes.specs.Nodes.{positive, negative}
 use Rattle.ml_mu_graph.specs.MuGraph.{Around, binder_of, binder_priority, opposite}

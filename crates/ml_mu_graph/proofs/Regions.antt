@@ -16,7 +16,11 @@ use Rattle.ml_graph.specs.Graph.{Graph, node_at, priority_at}
 use Rattle.ml_graph.specs.declared.node.Node.{Node}
 use Rattle.ml_graph.specs.declared.node.Node.TheVariants as node
 use Rattle.ml_text.specs.declared.token.Operator.TheVariants as operator
-use Rattle.ml_mu.specs.Formula.{Formula, Const, Prop, Var, Not, Binary, Modal, Binder, Modality, Diamond, Square, Fixpoint, Least, Greatest, occurrences}
+use Rattle.ml_mu.specs.Formula.{Formula, Const, Prop, Var, Not, Binary, Modal, Binder, occurrences}
+use Rattle.ml_mu.specs.declared.term.Modality.{Modality}
+use Rattle.ml_mu.specs.declared.term.Modality.TheVariants.{Diamond, Square}
+use Rattle.ml_mu.specs.declared.term.Fixpoint.{Fixpoint}
+use Rattle.ml_mu.specs.declared.term.Fixpoint.TheVariants.{Least, Greatest}
 use Rattle.ml_mu.specs.Variables.{is_positive, occurs_only}
 use Rattle.ml_nodes.specs.Nodes.{positive, negative, constant}
 use Rattle.ml_mu_graph.specs.MuGraph.{binders, Around, binder_of, StandsAt, modality, dual, binder_priority, opposite}

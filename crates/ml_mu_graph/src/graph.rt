@@ -14,7 +14,7 @@ use crate::binders::Binders;
 use crate::names::names_of;
 use ml_base::{Name, NoMemory};
 use ml_graph::{ModalGraph, Node};
-use ml_mu::{Formula, Term};
+use ml_mu::{Fixpoint, Formula, Modality, Term};
 use ml_nodes::{
     Draft, Lists, Names, and, constant, lead_to, negative, or, positive, root_of, weight,
 };
@@ -29,14 +29,9 @@ fn count_binders(term: &Term) -> u32
 {
     match term {
         Term::Const(_) | Term::Prop(_) | Term::Var(_) => 0,
-        Term::Not(operand) | Term::Diamond(_, operand) | Term::Square(_, operand) => count_binders(
-            operand,
-        ),
-        Term::And(left, right)
-        | Term::Or(left, right)
-        | Term::Implies(left, right)
-        | Term::Iff(left, right) => count_binders(left) + count_binders(right),
-        Term::Mu(_, body) | Term::Nu(_, body) => 1 + count_binders(body),
+        Term::Not(operand) | Term::Modal(_, _, operand) => count_binders(operand),
+        Term::Binary(_, left, right) => count_binders(left) + count_binders(right),
+        Term::Binder(_, _, body) => 1 + count_binders(body),
     }
 }
 
@@ -108,6 +103,37 @@ fn placed(nodes: &[Node]) -> u32
     (nodes.len() / 2) as u32
 }
 
+// a modality by the action, which leads to the node `to`
+fn modal(modality: Modality, action: u32, to: u32) -> Node
+    ensures { result ≡ graph.modality modality action to }
+{
+    match modality {
+        Modality::Diamond => Node::Diamond { action, to },
+        Modality::Square => Node::Square { action, to },
+    }
+}
+
+fn dual(modality: Modality) -> Modality
+    ensures { result ≡ graph.dual modality }
+{
+    match modality {
+        Modality::Diamond => Modality::Square,
+        Modality::Square => Modality::Diamond,
+    }
+}
+
+// the priorities of a binder with `depth` binders around it
+fn binder_priorities(fixpoint: Fixpoint, depth: u32) -> (u32, u32)
+    requires { depth < 1000 }
+    ensures itself { result.0 ≡ graph.binder_priority fixpoint depth }
+    ensures negation { result.1 ≡ graph.binder_priority (graph.opposite fixpoint) depth }
+{
+    match fixpoint {
+        Fixpoint::Least => (2 * depth + 1, 2 * depth),
+        Fixpoint::Greatest => (2 * depth, 2 * depth + 1),
+    }
+}
+
 // the nodes and priorities of a term as the occurrence `at`, with `depth` binders around it
 #[cycle(placing)]
 fn place<'a>(
@@ -159,95 +185,22 @@ fn place<'a>(
             )?;
             place(draft, names, plain, binders, depth, at + 1, operand)
         }
-        Term::And(left, right) => {
+        Term::Binary(operator, left, right) => {
             place_both(
-                draft,
-                names,
-                plain,
-                binders,
-                depth,
-                at,
-                Operator::And,
-                left,
-                right,
+                draft, names, plain, binders, depth, at, *operator, left, right,
             )
         }
-        Term::Or(left, right) => {
-            place_both(
-                draft,
-                names,
-                plain,
-                binders,
-                depth,
-                at,
-                Operator::Or,
-                left,
-                right,
-            )
-        }
-        Term::Implies(left, right) => {
-            place_both(
-                draft,
-                names,
-                plain,
-                binders,
-                depth,
-                at,
-                Operator::Implies,
-                left,
-                right,
-            )
-        }
-        Term::Iff(left, right) => {
-            place_both(
-                draft,
-                names,
-                plain,
-                binders,
-                depth,
-                at,
-                Operator::Iff,
-                left,
-                right,
-            )
-        }
-        Term::Diamond(name, operand) => {
+        Term::Modal(modality, name, operand) => {
             let action = names.action(name);
-            let some = Node::Diamond {
-                action,
-                to: positive(at + 1),
-            };
-            let every = Node::Square {
-                action,
-                to: negative(at + 1),
-            };
-            draft.put((some, every), usual)?;
+            let itself = modal(*modality, action, positive(at + 1));
+            let negation = modal(dual(*modality), action, negative(at + 1));
+            draft.put((itself, negation), usual)?;
             place(draft, names, plain, binders, depth, at + 1, operand)
         }
-        Term::Square(name, operand) => {
-            let action = names.action(name);
-            let every = Node::Square {
-                action,
-                to: positive(at + 1),
-            };
-            let some = Node::Diamond {
-                action,
-                to: negative(at + 1),
-            };
-            draft.put((every, some), usual)?;
-            place(draft, names, plain, binders, depth, at + 1, operand)
-        }
-        Term::Mu(name, body) => {
+        Term::Binder(fixpoint, name, body) => {
             draft.put(
                 (lead_to(positive(at + 1)), lead_to(negative(at + 1))),
-                (2 * depth + 1, 2 * depth),
-            )?;
-            place_body(draft, names, plain, binders, depth, at, name, body)
-        }
-        Term::Nu(name, body) => {
-            draft.put(
-                (lead_to(positive(at + 1)), lead_to(negative(at + 1))),
-                (2 * depth, 2 * depth + 1),
+                binder_priorities(*fixpoint, depth),
             )?;
             place_body(draft, names, plain, binders, depth, at, name, body)
         }

@@ -22,18 +22,15 @@ fn collect(
         Term::Const(_) | Term::Var(_) => Ok(()),
         Term::Prop(name) => add_proposition(props, name),
         Term::Not(operand) => collect(operand, props, actions),
-        Term::And(left, right)
-        | Term::Or(left, right)
-        | Term::Implies(left, right)
-        | Term::Iff(left, right) => {
+        Term::Binary(_, left, right) => {
             collect(left, props, actions)?;
             collect(right, props, actions)
         }
-        Term::Diamond(action, operand) | Term::Square(action, operand) => {
+        Term::Modal(_, action, operand) => {
             add_action(actions, action)?;
             collect(operand, props, actions)
         }
-        Term::Mu(_, body) | Term::Nu(_, body) => collect(body, props, actions),
+        Term::Binder(_, _, body) => collect(body, props, actions),
     }
 }
 

@@ -8,3 +8,5 @@ pub mod StandingLists
 pub mod Connectives
 -- numbers in range
 pub mod InRange
+-- names and priorities that a program holds
+pub mod HeldNames

@@ -47,54 +47,104 @@ mutual
   pub data Reads : Level → List Sign → Formula → List Sign → Type 0 where
     -- iff = imp [ IFF iff ]
     iff_alone : {ts rest : List Sign} {f : Formula} → Reads Imp ts f rest → Reads Iff ts f rest
-    iff : {ts us rest : List Sign} {f g : Formula} → Reads Imp ts f (Connective operator.Iff ∷ us) → Reads Iff us g rest → Reads Iff ts (plain.Binary operator.Iff f g) rest
+    iff : {ts us rest : List Sign} {f g : Formula}
+        → Reads Imp ts f (Connective operator.Iff ∷ us)
+        → Reads Iff us g rest
+        → Reads Iff ts (plain.Binary operator.Iff f g) rest
     -- imp = or [ IMP imp ]
     imp_alone : {ts rest : List Sign} {f : Formula} → Reads Or ts f rest → Reads Imp ts f rest
-    imp : {ts us rest : List Sign} {f g : Formula} → Reads Or ts f (Connective operator.Implies ∷ us) → Reads Imp us g rest → Reads Imp ts (plain.Binary operator.Implies f g) rest
+    imp : {ts us rest : List Sign} {f g : Formula}
+        → Reads Or ts f (Connective operator.Implies ∷ us)
+        → Reads Imp us g rest
+        → Reads Imp ts (plain.Binary operator.Implies f g) rest
     -- or = and { OR and }
     or_alone : {ts rest : List Sign} {f : Formula} → Reads And ts f rest → Reads Or ts f rest
-    or : {ts us rest : List Sign} {f g : Formula} → Reads Or ts f (Connective operator.Or ∷ us) → Reads And us g rest → Reads Or ts (plain.Binary operator.Or f g) rest
+    or : {ts us rest : List Sign} {f g : Formula}
+        → Reads Or ts f (Connective operator.Or ∷ us)
+        → Reads And us g rest
+        → Reads Or ts (plain.Binary operator.Or f g) rest
     -- and = un { AND un }
     and_alone : {ts rest : List Sign} {f : Formula} → Reads Un ts f rest → Reads And ts f rest
-    and : {ts us rest : List Sign} {f g : Formula} → Reads And ts f (Connective operator.And ∷ us) → Reads Un us g rest → Reads And ts (plain.Binary operator.And f g) rest
+    and : {ts us rest : List Sign} {f g : Formula}
+        → Reads And ts f (Connective operator.And ∷ us)
+        → Reads Un us g rest
+        → Reads And ts (plain.Binary operator.And f g) rest
     -- NOT un
-    negation : {ts rest : List Sign} {f : Formula} → Reads Un ts f rest → Reads Un (Not ∷ ts) (plain.Not f) rest
+    negation : {ts rest : List Sign} {f : Formula}
+        → Reads Un ts f rest
+        → Reads Un (Not ∷ ts) (plain.Not f) rest
     -- "<" prog ">" un, "[" prog "]" un, and both without the program
-    modal : {ts us rest : List Sign} {p : Program} {f : Formula} (m : Modality) → ReadsProgram Prog ts p (Added (Ends m) ∷ us) → Reads Un us f rest → Reads Un (Added (Begins m) ∷ ts) (plain.Modal m p f) rest
-    modal_blank : {ts rest : List Sign} {f : Formula} (m : Modality) → Reads Un ts f rest → Reads Un (Added (Begins m) ∷ Added (Ends m) ∷ ts) (plain.Modal m (plain.Act (codes "_")) f) rest
+    modal : {ts us rest : List Sign} {p : Program} {f : Formula} (m : Modality)
+        → ReadsProgram Prog ts p (Added (Ends m) ∷ us)
+        → Reads Un us f rest
+        → Reads Un (Added (Begins m) ∷ ts) (plain.Modal m p f) rest
+    modal_blank : {ts rest : List Sign} {f : Formula} (m : Modality)
+        → Reads Un ts f rest
+        → Reads Un (Added (Begins m) ∷ Added (Ends m) ∷ ts) (plain.Modal m (plain.Act (codes "_")) f) rest
     -- "repeat" "(" prog ")"
-    repetition : {ts rest : List Sign} {p : Program} (k : Mark) → ReadsProgram Prog ts p (Close ∷ rest) → Reads Un (Added Repeats ∷ Added (Paren k) ∷ ts) (plain.Repeat p) rest
+    repetition : {ts rest : List Sign} {p : Program} (k : Mark)
+        → ReadsProgram Prog ts p (Close ∷ rest)
+        → Reads Un (Added Repeats ∷ Added (Paren k) ∷ ts) (plain.Repeat p) rest
     -- "(" iff ")"
-    group : {ts rest : List Sign} {f : Formula} (k : Mark) → Reads Iff ts f (Close ∷ rest) → Reads Un (Added (Paren k) ∷ ts) f rest
+    group : {ts rest : List Sign} {f : Formula} (k : Mark)
+        → Reads Iff ts f (Close ∷ rest)
+        → Reads Un (Added (Paren k) ∷ ts) f rest
     -- TT, FF, PROP
     constant : {rest : List Sign} (b : Bool) → Reads Un (Const b ∷ rest) (plain.Const b) rest
     proposition : {rest : List Sign} (p : List ℕ) → Reads Un (Lower p ∷ rest) (plain.Prop p) rest
 
   pub data ReadsProgram : ProgramLevel → List Sign → Program → List Sign → Type 0 where
     -- prog = seq { "+" seq }
-    alt_alone : {ts rest : List Sign} {p : Program} → ReadsProgram Seq ts p rest → ReadsProgram Prog ts p rest
-    alt : {ts us rest : List Sign} {p q : Program} → ReadsProgram Prog ts p (Added Plus ∷ us) → ReadsProgram Seq us q rest → ReadsProgram Prog ts (plain.Alt p q) rest
+    alt_alone : {ts rest : List Sign} {p : Program}
+        → ReadsProgram Seq ts p rest
+        → ReadsProgram Prog ts p rest
+    alt : {ts us rest : List Sign} {p q : Program}
+        → ReadsProgram Prog ts p (Added Plus ∷ us)
+        → ReadsProgram Seq us q rest
+        → ReadsProgram Prog ts (plain.Alt p q) rest
     -- seq = star { ";" star }
-    seq_alone : {ts rest : List Sign} {p : Program} → ReadsProgram Star ts p rest → ReadsProgram Seq ts p rest
-    seq : {ts us rest : List Sign} {p q : Program} → ReadsProgram Seq ts p (Added Semicolon ∷ us) → ReadsProgram Star us q rest → ReadsProgram Seq ts (plain.Seq p q) rest
+    seq_alone : {ts rest : List Sign} {p : Program}
+        → ReadsProgram Star ts p rest
+        → ReadsProgram Seq ts p rest
+    seq : {ts us rest : List Sign} {p q : Program}
+        → ReadsProgram Seq ts p (Added Semicolon ∷ us)
+        → ReadsProgram Star us q rest
+        → ReadsProgram Seq ts (plain.Seq p q) rest
     -- star = base { "*" }
-    star_alone : {ts rest : List Sign} {p : Program} → ReadsProgram Base ts p rest → ReadsProgram Star ts p rest
-    star : {ts rest : List Sign} {p : Program} → ReadsProgram Star ts p (Added sign.Star ∷ rest) → ReadsProgram Star ts (plain.Star p) rest
+    star_alone : {ts rest : List Sign} {p : Program}
+        → ReadsProgram Base ts p rest
+        → ReadsProgram Star ts p rest
+    star : {ts rest : List Sign} {p : Program}
+        → ReadsProgram Star ts p (Added sign.Star ∷ rest)
+        → ReadsProgram Star ts (plain.Star p) rest
     -- base = ACT
-    action : {rest : List Sign} (a : List ℕ) (s : Sign) → action_of s ≡ Some a → ReadsProgram Base (s ∷ rest) (plain.Act a) rest
+    action : {rest : List Sign} (a : List ℕ) (s : Sign)
+        → action_of s ≡ Some a
+        → ReadsProgram Base (s ∷ rest) (plain.Act a) rest
     -- base = test, which begins with no unmarked parenthesis
-    test : {ts rest : List Sign} {f : Formula} → opens_program ts ≡ false → ReadsTested ts f (Added Question ∷ rest) → ReadsProgram Base ts (plain.Test f) rest
+    test : {ts rest : List Sign} {f : Formula}
+        → opens_program ts ≡ false
+        → ReadsTested ts f (Added Question ∷ rest)
+        → ReadsProgram Base ts (plain.Test f) rest
     -- base = "(" prog ")", whose parenthesis is unmarked
-    program_group : {ts rest : List Sign} {p : Program} → ReadsProgram Prog ts p (Close ∷ rest) → ReadsProgram Base (Added (Paren Unmarked) ∷ ts) p rest
+    program_group : {ts rest : List Sign} {p : Program}
+        → ReadsProgram Prog ts p (Close ∷ rest)
+        → ReadsProgram Base (Added (Paren Unmarked) ∷ ts) p rest
 
   pub data ReadsTested : List Sign → Formula → List Sign → Type 0 where
     -- { NOT }
-    tested_negation : {ts rest : List Sign} {f : Formula} → ReadsTested ts f rest → ReadsTested (Not ∷ ts) (plain.Not f) rest
+    tested_negation : {ts rest : List Sign} {f : Formula}
+        → ReadsTested ts f rest
+        → ReadsTested (Not ∷ ts) (plain.Not f) rest
     -- TT, FF, PROP
-    tested_constant : {rest : List Sign} (b : Bool) → ReadsTested (Const b ∷ rest) (plain.Const b) rest
-    tested_proposition : {rest : List Sign} (p : List ℕ) → ReadsTested (Lower p ∷ rest) (plain.Prop p) rest
+    tested_constant : {rest : List Sign} (b : Bool)
+        → ReadsTested (Const b ∷ rest) (plain.Const b) rest
+    tested_proposition : {rest : List Sign} (p : List ℕ)
+        → ReadsTested (Lower p ∷ rest) (plain.Prop p) rest
     -- "(" iff ")"
-    tested_group : {ts rest : List Sign} {f : Formula} (k : Mark) → Reads Iff ts f (Close ∷ rest) → ReadsTested (Added (Paren k) ∷ ts) f rest
+    tested_group : {ts rest : List Sign} {f : Formula} (k : Mark)
+        → Reads Iff ts f (Close ∷ rest)
+        → ReadsTested (Added (Paren k) ∷ ts) f rest
 
 abbrev pub IsReadAs : List Sign → Formula → Type 0
 IsReadAs ts f = Reads Iff ts f []

@@ -1,4 +1,9 @@
 // The forms of operands: what a token does to a form, and what a form is behind its operand.
+//
+// Formulas and programs are read by one machine, so what is read is a `Phrase` of either sort, and the form that is held
+// tells which one is to come. A name is kept as such: behind it `?` makes a test of it, and else it is an action. `shift`
+// asks the form that waits, one function for each of its kinds; `resume` closes one behind its operand; `join` and `post`
+// put connectives, `;`, `+`, `*` and `?` behind operands. Each function is the line of `specs/Tables.antt` of its name.
 ghost use Rattle.std.specs.Prelude.{◌≡◌, ◌+◌, IfOk};
 ghost use Rattle.std.specs.Option.{option_map};
 ghost use Rattle.ml_text.specs.Grammar.{Read, Whole};

@@ -26,3 +26,5 @@ pub mod Made
 pub mod InRange
 -- the sizes of a formula's parts
 pub mod PartSizes
+-- the graph that the program makes, with names and priorities that a program holds
+pub mod HeldGraph

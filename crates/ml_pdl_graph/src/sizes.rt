@@ -1,12 +1,12 @@
 // How many occurrences the parts of a term have, counted once.
-ghost use Rattle.std.specs.Prelude.{◌≡◌, ◌≤◌, ◌++◌, ◌∷◌, reverse, IfOk, OnOk};
+ghost use Rattle.std.specs.Prelude.{◌≡◌, ◌+◌, ◌≤◌, ◌++◌, ◌∷◌, reverse, IfOk, OnOk};
 ghost use Rattle.ml_text.specs.Operators as operators;
 ghost use Rattle.ml_pdl.specs.Formula.{occurrences, program_occurrences};
 ghost use Rattle.ml_pdl.specs.Term.{formula_of, program_of};
 ghost use Rattle.ml_pdl_graph.specs.private.Sizes as listed;
 
-use ml_pdl::{Program, Term};
 use ml_nodes::weight;
+use ml_pdl::{Program, Term};
 use ml_text::{MOST_OCCURRENCES, Operator};
 use std::alloc::{AllocError, Global};
 
@@ -20,8 +20,12 @@ fn put(sizes: &mut Vec<u32>, size: u32) -> Result<u32, AllocError>
 }
 
 // puts the size of a connective whose operands have so many occurrences, once for each that it counts
-fn put_connective(sizes: &mut Vec<u32>, operator: Operator, operands: u32) -> Result<u32, AllocError>
-    requires { operands ≤ MOST_OCCURRENCES }
+fn put_connective(
+    sizes: &mut Vec<u32>,
+    operator: Operator,
+    operands: u32,
+) -> Result<u32, AllocError>
+    requires { operators.weight operator + operands ≤ MOST_OCCURRENCES }
     ensures whole { IfOk result (λ size. size ≡ operators.weight operator + operands) }
     ensures sizes { OnOk result (reverse sizes.new.items
         ≡ listed.operator_sizes operator (operators.weight operator + operands) ++ reverse sizes.old.items) }

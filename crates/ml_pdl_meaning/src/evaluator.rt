@@ -1,4 +1,8 @@
 // The evaluator: the meaning of a formula on a structure, and of a program.
+//
+// A set of states is a list of flags. A program is never made a relation: `runs_into` takes a set back through it, to the
+// states from which a run leads into the set, and `all_runs_into` is its dual; a star iterates it (`rounds_into`), and so does
+// an infinite repetition, from all states downwards (`repeats`).
 ghost use Rattle.std.specs.Prelude.{◌≡◌, ◌<◌, length, IfOk};
 ghost use Rattle.ml_base.specs.Structure as kripke;
 ghost use Rattle.ml_pdl.specs.Formula as plain;

@@ -1,4 +1,9 @@
 // A refutation that is checked in a graph, entry by entry.
+//
+// `check_entry` looks for the first bad part of an entry: its sequent and names, its items, and then the branches of its
+// decision. `check_decision` walks these with the spread of the branch, which a side more extends, so that a spread is
+// never made anew; at its leaves a clash is asked for its cause, and a go for its targets, its step, its names (`names`) and
+// its heights. What is found is a `BadPart`, the part's place and the lowest rule that it breaks.
 ghost use Rattle.std.specs.Prelude.{◌≡◌, ◌<◌, ◌+◌, [], length, map, All, IfOk};
 ghost use Rattle.ml_graph.specs.Graph.{size};
 ghost use Rattle.ml_refutation.specs.Acceptance as acceptance;

@@ -1,4 +1,8 @@
 // The condition on names along a `go`, over the local traces of its step.
+//
+// A name below the bound of the mark, or its green one, has to come from somewhere: each item behind the step that has it
+// needs a trace from an item that has it too, and for the green name from one that makes progress. `keeps_names` asks it
+// of all items and names, with the traces sorted by the nodes to which they lead.
 ghost use Rattle.std.specs.Prelude.{◌≡◌, ◌↔◌, ◌<◌, false, true, All, IfOk, IsTrue};
 ghost use Rattle.ml_lists.specs.Ascending.{IsAscending};
 ghost use Rattle.ml_refute_check.specs.private.Sources.{IsSource, SourceAmong, HasSource, Serves, IsNameTraced, IsItemTraced, AreInUse, LeadInto, RiseByNode, RiseByTarget, green_of, traces_of};

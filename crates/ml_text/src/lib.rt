@@ -5,7 +5,7 @@
 // which letters begin a word (`WordStart`), and which tokens its grammar has. What the grammars of the logics share is
 // said in `specs/`: a grammar as tables (`Grammar`), texts as items (`Items`), where texts are refused (`Refusals`).
 //
-// Begin with `Logic`, what a logic tells the reader: its signs, the forms of its operands, its operators, and how a tree
+// Begin with `Notation`, what a logic tells the reader: its signs, the forms of its operands, its operators, and how a tree
 // is made. `read` then reads a text of it, in one pass, within the limits; which of `Refusals` a text meets is proved
 // once, in `proofs/Exact`. `next_token` is the first token at or behind an offset; `constant_of` knows the words that all
 // logics reserve, and `operator_level` how tight their connectives bind. The module `laws` has the theorems on tokens:
@@ -18,8 +18,8 @@ mod bytes;
 mod forms;
 pub mod laws;
 mod limits;
-mod logic;
 mod named_signs;
+mod notation;
 mod operators;
 mod reading;
 mod stack;
@@ -30,8 +30,8 @@ mod words;
 pub use bytes::{is_blank, is_digit, is_letter, is_lower, is_upper, is_word_byte};
 pub use forms::{Frame, Mode, Role, Turn};
 pub use limits::{Bracket, MOST_OCCURRENCES, MOST_OPEN};
-pub use logic::Logic;
 pub use named_signs::{OwnSign, Sign, bracket_of, kind_of, sign_of};
+pub use notation::Notation;
 pub use operators::operator_level;
 pub use reading::{Reading, read};
 pub use token::{Operator, Placed, Token, WordStart, next_token};

@@ -10,7 +10,7 @@ ghost use Rattle.ml_text.specs.private.Reading as outcome;
 
 use crate::forms::{Frame, Mode};
 use crate::limits::{Bracket, MOST_OCCURRENCES, MOST_OPEN};
-use crate::logic::Logic;
+use crate::notation::Notation;
 use crate::stepping::{finish, step};
 use crate::token::{Placed, Token, next_token};
 use ml_base::{LONGEST_NAME, ParseRefusal};
@@ -98,7 +98,7 @@ fn note(places: &mut Vec<u64>, is_wanted: bool, at: u64) -> Result<(), AllocErro
 }
 
 // what is read behind one token more
-fn read_item<L: Logic>(
+fn read_item<L: Notation>(
     alloc: Global,
     logic: &L,
     progress: Progress<L::Context, L::Sort, L::Sign, L::Tree, L::Wait, L::Hold>,
@@ -151,7 +151,7 @@ fn read_item<L: Logic>(
 /// `Syntax`, `TooMany`, `TooNested` and `NameTooLong`, whichever comes first; `NoMemory`.
 ///
 /// Cost: each byte is read once, and each frame of the stack is pushed and popped once. No call is nested.
-pub fn read<L: Logic>(
+pub fn read<L: Notation>(
     alloc: Global,
     logic: &L,
     text: &[u8],

@@ -5,12 +5,12 @@ ghost use Rattle.ml_text.specs.private.Machine as machine;
 ghost use Rattle.ml_text.specs.private.Views.{IsStopped, IsUntaken, frame_takes, frame_view, mode_view, stack_view};
 
 use crate::forms::{Frame, Mode, Role};
-use crate::logic::Logic;
+use crate::notation::Notation;
 use ml_base::NoMemory;
 use std::alloc::Global;
 
 // what a frame makes of its operand
-fn popped<L: Logic>(
+fn popped<L: Notation>(
     alloc: Global,
     frame: Frame<L::Sort, L::Sign, L::Tree, L::Hold>,
     tree: L::Tree,
@@ -25,7 +25,7 @@ fn popped<L: Logic>(
 }
 
 // does the operand of this frame go on with the sign that follows?
-fn takes<L: Logic>(frame: &Frame<L::Sort, L::Sign, L::Tree, L::Hold>, sign: &L::Sign) -> bool
+fn takes<L: Notation>(frame: &Frame<L::Sort, L::Sign, L::Tree, L::Hold>, sign: &L::Sign) -> bool
     ensures { result ≡ frame_takes L.tables.grammar (frame_view L.tables frame.now) (L.tables.sign sign.now) }
 {
     match frame {
@@ -49,7 +49,7 @@ fn takes<L: Logic>(frame: &Frame<L::Sort, L::Sign, L::Tree, L::Hold>, sign: &L::
 }
 
 // the topmost frame, unless its operand takes the sign that follows
-fn pop_untaken<L: Logic>(
+fn pop_untaken<L: Notation>(
     stack: &mut Vec<Frame<L::Sort, L::Sign, L::Tree, L::Hold>>,
     sign: &L::Sign,
 ) -> Option<Frame<L::Sort, L::Sign, L::Tree, L::Hold>>
@@ -65,7 +65,7 @@ fn pop_untaken<L: Logic>(
 }
 
 /// The operand that goes on with the sign that follows, or the form that is then to go on.
-pub(crate) fn reduce<L: Logic>(
+pub(crate) fn reduce<L: Notation>(
     alloc: Global,
     stack: &mut Vec<Frame<L::Sort, L::Sign, L::Tree, L::Hold>>,
     tree: L::Tree,
@@ -86,7 +86,7 @@ pub(crate) fn reduce<L: Logic>(
 }
 
 /// The tree of a whole text that ends behind this operand; `None` where a form isn't ended.
-pub(crate) fn close<L: Logic>(
+pub(crate) fn close<L: Notation>(
     alloc: Global,
     stack: Vec<Frame<L::Sort, L::Sign, L::Tree, L::Hold>>,
     tree: L::Tree,

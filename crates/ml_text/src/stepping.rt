@@ -5,13 +5,13 @@ ghost use Rattle.ml_text.specs.private.Machine as machine;
 ghost use Rattle.ml_text.specs.private.Views.{GivesBack, frame_view, mode_view, stack_view, turn_view};
 
 use crate::forms::{Frame, Mode, Role, Turn};
-use crate::logic::Logic;
+use crate::notation::Notation;
 use crate::stack::{close, reduce};
 use ml_base::NoMemory;
 use std::alloc::Global;
 
 // a form that holds an operand is put on the stack
-fn hold<L: Logic>(
+fn hold<L: Notation>(
     stack: &mut Vec<Frame<L::Sort, L::Sign, L::Tree, L::Hold>>,
     held: L::Hold,
 ) -> Result<Mode<L::Tree, L::Wait>, NoMemory>
@@ -24,7 +24,7 @@ fn hold<L: Logic>(
 }
 
 // behind a sign with which the operand of the topmost frame begins
-fn begin<L: Logic>(
+fn begin<L: Notation>(
     stack: &mut Vec<Frame<L::Sort, L::Sign, L::Tree, L::Hold>>,
     turn: Option<Turn<L::Sign, L::Tree, L::Wait, L::Hold>>,
 ) -> Result<Option<Mode<L::Tree, L::Wait>>, NoMemory>
@@ -39,7 +39,7 @@ fn begin<L: Logic>(
 }
 
 // behind a sign, by what it does to the topmost form
-fn enter<L: Logic>(
+fn enter<L: Notation>(
     alloc: Global,
     stack: &mut Vec<Frame<L::Sort, L::Sign, L::Tree, L::Hold>>,
     turn: Option<Turn<L::Sign, L::Tree, L::Wait, L::Hold>>,
@@ -63,7 +63,7 @@ fn enter<L: Logic>(
 }
 
 // the sort of the operand that is being read
-fn top_sort<L: Logic>(stack: &[Frame<L::Sort, L::Sign, L::Tree, L::Hold>]) -> L::Sort
+fn top_sort<L: Notation>(stack: &[Frame<L::Sort, L::Sign, L::Tree, L::Hold>]) -> L::Sort
     ensures { L.tables.sort result ≡ machine.sort_of L.tables.grammar (stack_view L.tables stack.now) }
 {
     match stack.last() {
@@ -74,7 +74,7 @@ fn top_sort<L: Logic>(stack: &[Frame<L::Sort, L::Sign, L::Tree, L::Hold>]) -> L:
 }
 
 // behind an operand: an operator waits for its right operand
-fn take_sign<L: Logic>(
+fn take_sign<L: Notation>(
     alloc: Global,
     stack: &mut Vec<Frame<L::Sort, L::Sign, L::Tree, L::Hold>>,
     tree: L::Tree,
@@ -100,7 +100,7 @@ fn take_sign<L: Logic>(
 }
 
 // behind a sign, once the frames are popped whose operand doesn't take it
-fn resolve<L: Logic>(
+fn resolve<L: Notation>(
     alloc: Global,
     mode: Mode<L::Tree, L::Wait>,
     stack: &mut Vec<Frame<L::Sort, L::Sign, L::Tree, L::Hold>>,
@@ -120,7 +120,7 @@ fn resolve<L: Logic>(
 }
 
 /// What is read, and begun, behind the next sign; `None` where no text goes on so.
-pub(crate) fn step<L: Logic>(
+pub(crate) fn step<L: Notation>(
     alloc: Global,
     mode: Mode<L::Tree, L::Wait>,
     stack: &mut Vec<Frame<L::Sort, L::Sign, L::Tree, L::Hold>>,
@@ -140,7 +140,7 @@ pub(crate) fn step<L: Logic>(
 }
 
 /// The tree, if the text ends here.
-pub(crate) fn finish<L: Logic>(
+pub(crate) fn finish<L: Notation>(
     alloc: Global,
     mode: Mode<L::Tree, L::Wait>,
     stack: Vec<Frame<L::Sort, L::Sign, L::Tree, L::Hold>>,

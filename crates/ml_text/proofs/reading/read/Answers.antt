@@ -12,7 +12,7 @@ use Rattle.ml_text.proofs.reading.read.Goals as goal
 pub loop-placed-init : goal.loop-placed-init
 unfolding tokens
 loop-placed-init g c =
-    let t = g.L.Logic.tables in
+    let t = g.L.Notation.tables in
     let text = c.args.text.now in
     let toks = tokens_from t.signs.words text 0 in
     record {
@@ -33,7 +33,7 @@ loop-placed-init g c =
 
 pub read_item-requires-clause-spells : goal.read_item-requires-clause-spells
 read_item-requires-clause-spells g c =
-    let t = g.L.Logic.tables in
+    let t = g.L.Notation.tables in
     let text = c.args.text.now in
     let placed = c.in-Some.placed in
     let split : tokens_from t.signs.words text c.loop-placed.at ≡ placed ∷ tokens_from t.signs.words text placed.end =
@@ -44,7 +44,7 @@ read_item-requires-clause-spells g c =
 
 pub returns-in_err-progress : goal.returns-in_err-progress
 returns-in_err-progress g c =
-    let t = g.L.Logic.tables in
+    let t = g.L.Notation.tables in
     let text = c.args.text.now in
     let placed = c.in-Some.placed in
     let p = c.loop-placed.progress in
@@ -61,7 +61,7 @@ returns-in_err-progress g c =
 
 pub loop-placed-preserved : goal.loop-placed-preserved
 loop-placed-preserved g c =
-    let t = g.L.Logic.tables in
+    let t = g.L.Notation.tables in
     let text = c.args.text.now in
     let placed = c.in-Some.placed in
     let p = c.loop-placed.progress in

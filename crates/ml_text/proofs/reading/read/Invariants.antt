@@ -7,7 +7,7 @@ use Rattle.ml_text.proofs.reading.read.Given as goal
 
 abbrev pub invariant-loop-placed : goal.invariant-loop-placed
 invariant-loop-placed g l =
-    let t = g.L.Logic.tables in
+    let t = g.L.Notation.tables in
     let rest = items_from t.signs l.text l.progress.context (tokens_from t.signs.words l.text l.at) in
     record {
       limits : KeepsLimits l.progress;

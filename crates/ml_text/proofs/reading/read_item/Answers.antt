@@ -8,13 +8,13 @@ use Rattle.ml_text.proofs.reading.read_item.Goals as goal
 
 pub returns-in_default : goal.returns-in_default
 returns-in_default g c =
-    let t = g.L.Logic.tables in
+    let t = g.L.Notation.tables in
     let p = c.args.progress in
     let text = c.args.text.now in
     let kind = c.kind_of-kind.result in
     let item = text_items.item_at t.signs text p.context c.args.placed in
     let like : IsLike t.grammar item.sign (t.sign c.in_ok-sign.sign) =
-    like_of t.grammar (t.named kind) (g.met.L.Logic.alike kind) item.sign (t.sign c.in_ok-sign.sign)
+    like_of t.grammar (t.named kind) (g.met.L.Notation.alike kind) item.sign (t.sign c.in_ok-sign.sign)
     (text_items.bytes_of text c.args.placed) _ c.kind_of-kind.ensures.sign c.in_ok-sign.ensures in
     let step = rw c.in_default.is at c.in_ok-mode.ensures in
     λ end rest. stuck_like t.grammar end (mode_view t p.mode) (stack_view t p.stack.items) p.count p.depth item rest
@@ -22,13 +22,13 @@ returns-in_default g c =
 
 pub returns-in-Some-limit_refusal : goal.returns-in-Some-limit_refusal
 returns-in-Some-limit_refusal g c =
-    let t = g.L.Logic.tables in
+    let t = g.L.Notation.tables in
     let p = c.args.progress in
     let text = c.args.text.now in
     let kind = c.kind_of-kind.result in
     let item = text_items.item_at t.signs text p.context c.args.placed in
     let like : IsLike t.grammar item.sign (t.sign c.in_ok-sign.sign) =
-    like_of t.grammar (t.named kind) (g.met.L.Logic.alike kind) item.sign (t.sign c.in_ok-sign.sign)
+    like_of t.grammar (t.named kind) (g.met.L.Notation.alike kind) item.sign (t.sign c.in_ok-sign.sign)
     (text_items.bytes_of text c.args.placed) _ c.kind_of-kind.ensures.sign c.in_ok-sign.ensures in
     let step = rw c.in-Some.is at c.in_ok-mode.ensures in
     let sum = ap (λ n. p.count + n) (c.weight.ensures.weight (text_items.bytes_of text c.args.placed)
@@ -43,7 +43,7 @@ returns-in-Some-limit_refusal g c =
 
 pub returns : goal.returns
 returns g c =
-    let t = g.L.Logic.tables in
+    let t = g.L.Notation.tables in
     let p = c.args.progress in
     let text = c.args.text.now in
     let kind = c.kind_of-kind.result in

@@ -8,5 +8,5 @@ returns-in-Some g c =
     let some : 0 < vec_len c.args.stack.now = omega (arith, (item.3).0, c.deref.ensures.len) in
     let value = c.pop.ensures.value c.in-Some.top.now some in
     let is : c.pop.result ≡ Some c.in-Some.top.now = cc (value, item.1, c.deref.ensures.value, c.deref.ensures.len) in
-    popped_frame g.L.Logic.tables c.args.stack.now.items c.pop.new.self.items c.pop.result c.in-Some.top.now
-    (g.L.Logic.tables.sign c.args.sign.now) c.pop.ensures.items is (sym c.takes.ensures ∙ c.if-not-takes.true)
+    popped_frame g.L.Notation.tables c.args.stack.now.items c.pop.new.self.items c.pop.result c.in-Some.top.now
+    (g.L.Notation.tables.sign c.args.sign.now) c.pop.ensures.items is (sym c.takes.ensures ∙ c.if-not-takes.true)

@@ -5,10 +5,10 @@ use Rattle.ml_text.proofs.stack.reduce.Given as goal
 
 abbrev pub invariant-loop-frame : goal.invariant-loop-frame
 invariant-loop-frame g l =
-    machine.reduce g.L.Logic.tables.grammar (Some (g.L.Logic.tables.sign l.fn.sign))
-    (stack_view g.L.Logic.tables l.stack.items) (g.L.Logic.tables.tree l.tree)
-    ≡ machine.reduce g.L.Logic.tables.grammar (Some (g.L.Logic.tables.sign l.fn.sign))
-    (stack_view g.L.Logic.tables l.initial.stack.items) (g.L.Logic.tables.tree l.initial.tree)
+    machine.reduce g.L.Notation.tables.grammar (Some (g.L.Notation.tables.sign l.fn.sign))
+    (stack_view g.L.Notation.tables l.stack.items) (g.L.Notation.tables.tree l.tree)
+    ≡ machine.reduce g.L.Notation.tables.grammar (Some (g.L.Notation.tables.sign l.fn.sign))
+    (stack_view g.L.Notation.tables l.initial.stack.items) (g.L.Notation.tables.tree l.initial.tree)
 
 abbrev pub decreases-loop-frame : goal.decreases-loop-frame
 decreases-loop-frame g l = goal.left-loop-frame g l

@@ -1,0 +1,401 @@
+-- The graphs of CTL* and LTL have names and priorities that a program holds.
+--
+--   NamesOf f     == the propositions of the formula f are names
+--   names_of      == so it is where they are spelt as such, and short
+--   NamedPlace p  == so it is of each formula of which the node p says something
+--   form_named    == so it is of the nodes to which it leads, and of the proposition that it asks for itself
+--   blocks_held   == so the graph of a closure whose first node is such has names and priorities that a program holds
+use Rattle.std.proofs.Common.{◌≡◌, ℕ, ◌+◌, ◌<◌, ◌≤◌, ◌⊎◌, inl, inr, Bool, true, false, not, if◌then◌else◌, List, [], ◌∷◌, length, get_or, Option, Some, None, refl, sym, subst, ◌∙◌, arith}
+use Rattle.std.specs.Bool.{beq}
+use Rattle.std.specs.Cmp.{first_so, second_so}
+use Rattle.std.specs.List.{slice_get}
+use Rattle.std.proofs.lemmas.Option.{slice_get-get_or}
+use Rattle.ml_base.specs.Name.{IsName, IsAction}
+use Rattle.ml_lists.specs.Member.{IsMember}
+use Rattle.ml_lists.proofs.Member.{member-place, place-member}
+use Rattle.ml_graph.specs.Graph.{Graph, node_at, prop_at, size}
+use Rattle.ml_graph.specs.declared.node.Node.{Node}
+use Rattle.ml_graph.specs.declared.node.Node.TheVariants as node
+use Rattle.ml_text.specs.declared.token.Operator.{Operator}
+use Rattle.ml_text.specs.declared.token.Operator.TheVariants as operator
+use Rattle.ml_ctl.specs.Formula as plain
+use Rattle.ml_ctl.specs.Formula.{Formula, occurrences}
+use Rattle.ml_ctl.specs.declared.term.Tense.{Tense}
+use Rattle.ml_ctl.specs.declared.term.Tense.TheVariants as tense
+use Rattle.ml_ctl.specs.declared.term.Pairing.{Pairing}
+use Rattle.ml_ctl.specs.declared.term.Pairing.TheVariants as pairing
+use Rattle.ml_ctl.specs.declared.term.Quantifier.{Quantifier}
+use Rattle.ml_ctl.specs.declared.term.Quantifier.TheVariants as quantifier
+use Rattle.ml_ctl.specs.Signs.{own}
+use Rattle.ml_ctl.specs.Spelling.{HasShortNames, is_spelled}
+use Rattle.ml_blocks.specs.BlockGraph.{HasForm, IsGraphAt, IsNumberedBy, IsReached, at_root, behind, children}
+use Rattle.ml_blocks.specs.Items.{Item, Row, OfState, Waits, Becomes, Either, now, put_off, row, row_at, row_of_connective, row_of_pairing}
+use Rattle.ml_blocks.specs.Items.{row_of_tense, unless_put_off, until_released, left_number, behind_next, operand_of}
+use Rattle.ml_blocks.specs.ItemSets.{due, eventualities, next_items, next_of, put_all, without}
+use Rattle.ml_blocks.specs.Places as place
+use Rattle.ml_blocks.specs.Places.{Block, Place, Form, block_of, edge_priority, first_open, focus_behind, form_of, form_of_block}
+use Rattle.ml_blocks.specs.Places.{form_of_edge, form_of_formula, form_of_item, is_put_off, path_of, priority_of, priority_of_block}
+use Rattle.ml_blocks.proofs.EdgesGoOn.{diamond_action}
+use Rattle.ml_blocks.proofs.ItemSetMembers.{next_items-member, put_all-member, without-member}
+use Rattle.ml_blocks.proofs.LocalRuns.{some_open}
+use Rattle.ml_nodes.proofs.HeldNames.{Every, Fits, IsHeld, every_cons, proposition_name}
+
+-- ---- formulas
+
+abbrev pub NamesOf : Formula → Type 0
+NamesOf (plain.Const b) = Unit {0}
+NamesOf (plain.Prop p) = IsName p
+NamesOf (plain.Not f) = NamesOf f
+NamesOf (plain.Binary op f g) = NamesOf f × NamesOf g
+NamesOf (plain.Temporal t f) = NamesOf f
+NamesOf (plain.Paired p f g) = NamesOf f × NamesOf g
+NamesOf (plain.Quantified q f) = NamesOf f
+
+pub names_of : (f : Formula) → is_spelled f ≡ true → HasShortNames f → NamesOf f
+names_of (plain.Const b) spelled short = tt
+names_of (plain.Prop p) spelled short =
+    proposition_name own p spelled short
+names_of (plain.Not f) spelled short = names_of f spelled short
+names_of (plain.Binary op f g) spelled short = (
+  names_of f (first_so (is_spelled f) (is_spelled g) spelled) short.0,
+  names_of g (second_so (is_spelled f) (is_spelled g) spelled) short.1,
+)
+names_of (plain.Temporal t f) spelled short = names_of f spelled short
+names_of (plain.Paired p f g) spelled short = (
+  names_of f (first_so (is_spelled f) (is_spelled g) spelled) short.0,
+  names_of g (second_so (is_spelled f) (is_spelled g) spelled) short.1,
+)
+names_of (plain.Quantified q f) spelled short = names_of f spelled short
+
+-- ---- items
+
+abbrev NamedItem : Item → Type 0
+NamedItem x = NamesOf x.formula
+
+abbrev NamedItems : List Item → Type 0
+NamedItems xs = Every NamedItem xs
+
+none : NamedItems []
+none y m = absurd m
+
+one : (x : Item) → NamedItem x → NamedItems (x ∷ [])
+one x named = every_cons NamedItem x [] named none
+
+two : (x y : Item) → NamedItem x → NamedItem y → NamedItems (x ∷ y ∷ [])
+two x y named also = every_cons NamedItem x (y ∷ []) named (one y also)
+
+abbrev NamedRow : Row → Type 0
+NamedRow OfState = Unit {0}
+NamedRow Waits = Unit {0}
+NamedRow (Becomes ys) = NamedItems ys
+NamedRow (Either ys zs) = NamedItems ys × NamedItems zs
+
+module _ (x : Item) (named : NamedItem x) where
+  connective_named : (op : Operator) (sign : Bool) (l r : Bool → Item)
+      → ((b : Bool) → NamedItem (l b))
+      → ((b : Bool) → NamedItem (r b))
+      → NamedRow (row_of_connective op sign l r)
+  connective_named operator.And true l r p q = two (l true) (r true) (p true) (q true)
+  connective_named operator.And false l r p q = (one (l false) (p false), one (r false) (q false))
+  connective_named operator.Or true l r p q = (one (l true) (p true), one (r true) (q true))
+  connective_named operator.Or false l r p q = two (l false) (r false) (p false) (q false)
+  connective_named operator.Implies true l r p q = (one (l false) (p false), one (r true) (q true))
+  connective_named operator.Implies false l r p q = two (l true) (r false) (p true) (q false)
+  connective_named operator.Iff true l r p q =
+      (two (l true) (r true) (p true) (q true), two (l false) (r false) (p false) (q false))
+  connective_named operator.Iff false l r p q =
+      (two (l true) (r false) (p true) (q false), two (l false) (r true) (p false) (q true))
+
+  either_row : (b : Bool) (r s : Row) → NamedRow r → NamedRow s → NamedRow (if b then r else s)
+  either_row true r s p q = p
+  either_row false r s p q = q
+
+  tense_named : (t : Tense) (g : Item) → NamedItem g → NamedRow (row_of_tense t x g)
+  tense_named tense.Next g p = tt
+  tense_named tense.Finally g p =
+      either_row x.positive (Either (g ∷ []) (put_off x ∷ [])) (Becomes (g ∷ put_off x ∷ []))
+      (one g p, one (put_off x) named) (two g (put_off x) p named)
+  tense_named tense.Globally g p =
+      either_row x.positive (Becomes (g ∷ put_off x ∷ [])) (Either (g ∷ []) (put_off x ∷ []))
+      (two g (put_off x) p named) (one g p, one (put_off x) named)
+
+  pairing_named : (u : Pairing) (f g : Item) → NamedItem f → NamedItem g → NamedRow (row_of_pairing u x f g)
+  pairing_named u f g p q = by_pairing u
+    where
+      waits : NamedRow (unless_put_off x f g)
+      waits = (one g q, two f (put_off x) p named)
+
+      goes_on : NamedRow (until_released x f g)
+      goes_on = (two g f q p, two g (put_off x) q named)
+
+      by_pairing : (u : Pairing) → NamedRow (row_of_pairing u x f g)
+      by_pairing pairing.Until = either_row x.positive (unless_put_off x f g) (until_released x f g) waits goes_on
+      by_pairing pairing.Weak = either_row x.positive (unless_put_off x f g) (until_released x f g) waits goes_on
+      by_pairing pairing.Release = either_row x.positive (until_released x f g) (unless_put_off x f g) goes_on waits
+
+  row_named : (f : Formula) → NamesOf f → NamedRow (row_at x f)
+  row_named (plain.Const b) p = tt
+  row_named (plain.Prop w) p = tt
+  row_named (plain.Quantified q f) p = tt
+  row_named (plain.Not f) p = one (now (x.number + 1) f (not x.positive)) p
+  row_named (plain.Binary op f g) p =
+      let l = left_number x.number (plain.Binary op f g) in
+      connective_named op x.positive (now l f) (now (l + occurrences f) g) (λ b. p.0) (λ b. p.1)
+  row_named (plain.Temporal t f) p = tense_named t (now (x.number + 1) f x.positive) p
+  row_named (plain.Paired u f g) p =
+      let l = x.number + 1 in
+      pairing_named u (now l f x.positive) (now (l + occurrences f) g x.positive) p.0 p.1
+
+  operand_named : (f : Formula) → NamesOf f → NamedItem (operand_of x f)
+  operand_named (plain.Temporal tense.Next f) p = p
+  operand_named (plain.Temporal tense.Finally f) p = named
+  operand_named (plain.Temporal tense.Globally f) p = named
+  operand_named (plain.Const b) p = named
+  operand_named (plain.Prop w) p = named
+  operand_named (plain.Not f) p = named
+  operand_named (plain.Binary op f g) p = named
+  operand_named (plain.Paired u f g) p = named
+  operand_named (plain.Quantified q f) p = named
+
+  next_named : NamedItem (next_of x)
+  next_named = by_time x.later
+    where
+      by_time : (later : Bool) → NamedItem (if later then due x else behind_next x)
+      by_time true = named
+      by_time false = operand_named x.formula named
+
+-- ---- nodes
+
+abbrev pub NamedPlace : Place → Type 0
+NamedPlace (place.Root start) = NamedPlace start
+NamedPlace place.Total = Unit {0}
+NamedPlace place.HasEdge = Unit {0}
+NamedPlace place.LeadsOn = Unit {0}
+NamedPlace place.True = Unit {0}
+NamedPlace place.False = Unit {0}
+NamedPlace (place.Holding i f sign) = NamesOf f
+NamedPlace (place.Both i f g sign) = NamesOf f × NamesOf g
+NamedPlace (place.Neither i f g sign) = NamesOf f × NamesOf g
+NamedPlace (place.Path b) = NamedItems b.items
+
+abbrev NamedForm : Form → Type 0
+NamedForm (place.Constant b) = Unit {0}
+NamedForm (place.Literal name sign) = IsName name
+NamedForm (place.And p q) = NamedPlace p × NamedPlace q
+NamedForm (place.Or p q) = NamedPlace p × NamedPlace q
+NamedForm (place.Diamond p) = NamedPlace p
+NamedForm (place.Square p) = NamedPlace p
+
+-- ---- blocks
+
+module _ (b : Block) (named : NamedItems b.items) where
+  path_named : (xs : List Item) (k : ℕ) → NamedItems xs → NamedPlace (path_of b xs k)
+  path_named [] k all = by_sign b.positive
+    where
+      by_sign : (sign : Bool) → NamedPlace (if sign then place.True else place.False)
+      by_sign true = tt
+      by_sign false = tt
+  path_named (x ∷ xs) k all = all
+
+  without_named : (x : Item) → NamedItems (without x b.items)
+  without_named x y m = named y (without-member y x b.items m)
+
+  abbrev behind_way : Item → List Item → Place
+  behind_way x ys = path_of b (put_all ys (without x b.items)) b.focus
+
+  put_named : (x : Item) (ys : List Item) → NamedItems ys → NamedPlace (behind_way x ys)
+  put_named x ys all = path_named (put_all ys (without x b.items)) b.focus put
+    where
+      put : NamedItems (put_all ys (without x b.items))
+      put y m = by_part (put_all-member y ys (without x b.items) m)
+        where
+          by_part : IsMember y ys ⊎ IsMember y (without x b.items) → NamedItem y
+          by_part (inl i) = all y i
+          by_part (inr i) = without_named x y i
+
+  both_named : (sign : Bool) (p q : Place) → NamedPlace p → NamedPlace q → NamedForm (place.both_ways sign p q)
+  both_named true p q x y = (x, y)
+  both_named false p q x y = (x, y)
+
+  one_named : (sign : Bool) (p q : Place) → NamedPlace p → NamedPlace q → NamedForm (place.one_way sign p q)
+  one_named true p q x y = (x, y)
+  one_named false p q x y = (x, y)
+
+  item_named : (x : Item) (r : Row) → NamedItem x → NamedRow r → NamedForm (form_of_item b x r)
+  item_named x OfState this all =
+      both_named b.positive (place.Holding x.number x.formula (beq x.positive b.positive))
+      (path_of b (without x b.items) b.focus) this (path_named (without x b.items) b.focus (without_named x))
+  item_named x Waits this all =
+      let p = path_named b.items b.focus named in (p, p)
+  item_named x (Becomes ys) this all =
+      let p = put_named x ys all in both_named b.positive (behind_way x ys) (behind_way x ys) p p
+  item_named x (Either ys zs) this all =
+      one_named b.positive (behind_way x ys) (behind_way x zs) (put_named x ys all.0) (put_named x zs all.1)
+
+  next_items_named : NamedItems (next_items b.items)
+  next_items_named y m =
+      let found = next_items-member y b.items m in
+      subst NamedItem (sym found.2) (next_named found.0 (named found.0 found.1))
+
+  edge_named : NamedForm (form_of_edge b)
+  edge_named =
+      let k = focus_behind (eventualities b.first) b.focus b.items in
+      by_sign b.positive (path_of b (next_items b.items) k) (path_named (next_items b.items) k next_items_named)
+    where
+      by_sign : (sign : Bool) (p : Place) → NamedPlace p → NamedForm (if sign then place.Diamond p else place.Square p)
+      by_sign true p named = named
+      by_sign false p named = named
+
+  block_named : (o : Option Item) → first_open b.items ≡ o → NamedForm (form_of_block b o)
+  block_named None is = edge_named
+  block_named (Some x) is =
+      let this = named x (some_open b.items x is).0 in
+      item_named x (row x) this (row_named x this x.formula this)
+
+-- ---- formulas of states
+
+pub start_named : (x : Item) (positive : Bool) → NamedItem x → NamedPlace (block_of x positive)
+start_named x positive named = one x named
+
+quantifier_named : (q : Quantifier) (i : ℕ) (f : Formula) (sign : Bool)
+    → NamesOf f
+    → NamedForm (place.form_of_quantifier q i f sign)
+quantifier_named quantifier.Exists i f sign named =
+    let p = start_named (now (i + 1) f true) sign named in (p, p)
+quantifier_named quantifier.Forall i f sign named =
+    let p = start_named (now (i + 1) f false) (not sign) named in (p, p)
+
+formula_named : (i : ℕ) (f : Formula) (sign : Bool) → NamesOf f → NamedForm (form_of_formula i f sign)
+formula_named i (plain.Const b) sign named = tt
+formula_named i (plain.Prop p) sign named = named
+formula_named i (plain.Not f) sign named = (named, named)
+formula_named i (plain.Binary operator.And f g) true named = named
+formula_named i (plain.Binary operator.And f g) false named = named
+formula_named i (plain.Binary operator.Or f g) true named = named
+formula_named i (plain.Binary operator.Or f g) false named = named
+formula_named i (plain.Binary operator.Implies f g) true named = named
+formula_named i (plain.Binary operator.Implies f g) false named = named
+formula_named i (plain.Binary operator.Iff f g) sign named = (named, named)
+formula_named i (plain.Quantified q f) sign named = quantifier_named q i f sign named
+formula_named i (plain.Temporal t f) sign named = tt
+formula_named i (plain.Paired p f g) sign named = tt
+
+form_named : (p : Place) → NamedPlace p → NamedForm (form_of p)
+form_named (place.Root start) named = (named, tt)
+form_named place.Total named = (tt, tt)
+form_named place.HasEdge named = tt
+form_named place.LeadsOn named = tt
+form_named place.True named = tt
+form_named place.False named = tt
+form_named (place.Holding i f sign) named = formula_named i f sign named
+form_named (place.Both j f g sign) named = named
+form_named (place.Neither j f g sign) named = named
+form_named (place.Path b) named = block_named b named (first_open b.items) refl
+
+-- ---- what is reached
+
+child_named : (f : Form) (p : Place) → NamedForm f → IsMember p (children f) → NamedPlace p
+child_named (place.Constant b) p named none = absurd none
+child_named (place.Literal name sign) p named none = absurd none
+child_named (place.And q r) p named (inl is) = subst NamedPlace (sym is) named.0
+child_named (place.And q r) p named (inr (inl is)) = subst NamedPlace (sym is) named.1
+child_named (place.And q r) p named (inr (inr none)) = absurd none
+child_named (place.Or q r) p named (inl is) = subst NamedPlace (sym is) named.0
+child_named (place.Or q r) p named (inr (inl is)) = subst NamedPlace (sym is) named.1
+child_named (place.Or q r) p named (inr (inr none)) = absurd none
+child_named (place.Diamond q) p named (inl is) = subst NamedPlace (sym is) named
+child_named (place.Diamond q) p named (inr none) = absurd none
+child_named (place.Square q) p named (inl is) = subst NamedPlace (sym is) named
+child_named (place.Square q) p named (inr none) = absurd none
+
+reached_named : (root p : Place) → NamedPlace root → IsReached root p → NamedPlace p
+reached_named root _ named at_root = named
+reached_named root _ named (behind q p reached child) =
+    child_named (form_of q) p (form_named q (reached_named root q named reached)) child
+
+-- ---- the graph
+
+module _ (g : Graph) (places : List Place) (v : Node) where
+  literal_named : (f : Form) (p : ℕ) (sign : Bool)
+      → NamedForm f
+      → HasForm g places v f
+      → v ≡ node.Lit p sign
+      → IsName (prop_at g p)
+  literal_named (place.Constant true) p sign named h is = absurd (cc)
+  literal_named (place.Constant false) p sign named h is = absurd (cc)
+  literal_named (place.Literal name positive) p sign named h is =
+      let one = sym h.1 ∙ is in
+      let same : h.0 ≡ p = cc in
+      subst (λ q. IsName (prop_at g q)) same (subst IsName (sym h.2) named)
+  literal_named (place.And q r) p sign named h is = let wrong = sym h.4 ∙ is in absurd (cc)
+  literal_named (place.Or q r) p sign named h is = let wrong = sym h.4 ∙ is in absurd (cc)
+  literal_named (place.Diamond q) p sign named h is = let wrong = sym h.3 ∙ is in absurd (cc)
+  literal_named (place.Square q) p sign named h is = let wrong = sym h.3 ∙ is in absurd (cc)
+
+low_edge : (es : List ℕ) (k : ℕ) (xs : List Item) → edge_priority es k xs ≤ 1
+low_edge [] k xs = omega arith
+low_edge (e ∷ es) k xs = by_test (is_put_off (e ∷ es) k xs)
+  where
+    by_test : (t : Bool) → (if t then 1 else 0) ≤ 1
+    by_test true = omega arith
+    by_test false = omega arith
+
+low_block : (b : Block) (o : Option Item) → priority_of_block b o ≤ 1
+low_block b (Some x) = omega arith
+low_block b None = low_edge (eventualities b.first) b.focus b.items
+
+low_priority : (p : Place) → priority_of p ≤ 2
+low_priority (place.Root start) = omega arith
+low_priority place.Total = omega arith
+low_priority place.HasEdge = omega arith
+low_priority place.LeadsOn = omega arith
+low_priority place.True = omega arith
+low_priority place.False = omega arith
+low_priority (place.Holding i f sign) = omega arith
+low_priority (place.Both i f g sign) = omega arith
+low_priority (place.Neither i f g sign) = omega arith
+low_priority (place.Path b) = by_sign b.positive
+  where
+    by_sign : (sign : Bool) → priority_of_block b (first_open b.items) + (if sign then 0 else 1) ≤ 2
+    by_sign true = omega (arith, low_block b (first_open b.items))
+    by_sign false = omega (arith, low_block b (first_open b.items))
+
+module _ (start : Place) (g : Graph) (is : IsGraphAt g start) where
+  abbrev places : List Place
+  places = is.is_numbered.0
+
+  abbrev numbered : IsNumberedBy g (place.Root start) places
+  numbered = is.is_numbered.1
+
+  abbrev at : ℕ → Place
+  at n = get_or places n place.True
+
+  within : (n : ℕ) → n < size g → n < length places
+  within n low = omega (arith, low, numbered.one_each)
+
+  stands_at : (n : ℕ) → n < size g → slice_get places n ≡ Some (at n)
+  stands_at n low = slice_get-get_or places n place.True (within n low)
+
+  form_at : (n : ℕ) → n < size g → HasForm g places (node_at g n) (form_of (at n))
+  form_at n low = numbered.has_forms n (at n) (stands_at n low)
+
+  named_at : NamedPlace start → (n : ℕ) → n < size g → NamedForm (form_of (at n))
+  named_at named n low =
+      let inside = place-member places n place.True (within n low) in
+      form_named (at n)
+      (reached_named (place.Root start) (at n) named ((numbered.is_closure.are_reached (at n)).0 inside))
+
+  low_at : (x : ℕ) → IsMember x g.priorities → Fits x
+  low_at x m =
+      let f = member-place x g.priorities m in
+      let low : f.place < size g = omega (arith, f.below, is.is_graph.priorities) in
+      omega
+      (arith, f.holds 0, numbered.has_priorities f.place (at f.place) (stands_at f.place low), low_priority (at f.place))
+
+  pub blocks_held : NamedPlace start → IsHeld g
+  blocks_held named = record {
+    literals = λ n p positive low lit.
+        literal_named g places (node_at g n) (form_of (at n)) p positive (named_at named n low) (form_at n low) lit;
+    diamonds = λ n a to low diamond. subst IsAction (sym (diamond_action start g is n a to low diamond)) refl;
+    priorities = low_at;
+  }
