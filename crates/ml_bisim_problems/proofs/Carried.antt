@@ -59,9 +59,11 @@ module _ (m q : Structure) (class : List ℕ) (m_ok : IsStructure m) (quotient :
   total_too total c low =
       let s = some_state m q class m_ok quotient c low in
       let step = total s.0 s.1 in
-      let edge = class_edge m q class m_ok quotient s.0 blank step.0 (step_edge m s.0 step.0 step.1) in
-      (class_of class step.0, edge_step q c (class_of class step.0)
-          (subst (λ d. HasEdge q d blank (class_of class step.0)) s.2 edge))
+      let edge = class_edge m q class m_ok quotient s.0 blank step.0 (step_edge m s.0 step.0 step.1) in (
+        class_of class step.0,
+        edge_step q c (class_of class step.0)
+            (subst (λ d. HasEdge q d blank (class_of class step.0)) s.2 edge),
+      )
 
   pub kept : (l : Logic) → IsAdmitted l m → IsAdmitted l q
   kept logic.Mu admitted = quotient.is_structure

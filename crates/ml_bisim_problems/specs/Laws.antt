@@ -1,6 +1,7 @@
 -- Problems and the quotient of a structure.
 --
---   HasFiniteClosure p == the closure of p has at most n nodes, for some n
+--   HasFiniteClosure p == the closure of p has at most n nodes, for some n: always in the mu-calculus and in PDL, whose
+--                         problems have none
 --   AdmittedKept       == where a logic speaks of a structure, it speaks of the quotient
 --   ProblemsCarried    == a problem holds at a state exactly where it holds at the state's class in the quotient
 use Rattle.std.specs.Prelude.{ℕ, ◌<◌, ◌↔◌, List}
