@@ -3,21 +3,20 @@
 --   carried_pair == a vertex of the one game as a vertex of the other: the state is replaced by its class
 --   forth, back  == to what a vertex leads in the one game, its image leads in the other, and to nothing else
 --   graphs_carried == so both players win the same in both
-use Rattle.std.proofs.Common.{ℕ, ◌≡◌, ◌+◌, ◌<◌, ◌↔◌, ◌⊎◌, inl, inr, Bool, cond, List, [], ◌∷◌, length, get_or, map, Contains, refl, sym, ap, ◌∙◌, subst, arith}
+use Rattle.std.proofs.Common.{ℕ, ◌≡◌, ◌<◌, ◌↔◌, inl, inr, Bool, cond, List, [], ◌∷◌, length, get_or, map, Contains, refl, sym, ap, ◌∙◌, subst, arith}
 use Rattle.std.specs.Bool.{beq}
 use Rattle.std.proofs.lemmas.List.{length-map}
 use Rattle.ml_base.specs.Structure.{Structure, IsStructure, lists}
 use Rattle.ml_lists.specs.Member.{IsMember}
 use Rattle.ml_lists.proofs.Member.{member-map, Image, member-map_from}
 use Rattle.ml_lists.proofs.Members.{member_of_contains, contains_of_member}
-use Rattle.ml_parity.specs.declared.players.Player.{Player}
 use Rattle.ml_parity.specs.declared.players.Player.TheVariants.{Even}
 use Rattle.ml_parity.specs.Game.{HasMove, owner_of, priority_of}
 use Rattle.ml_parity.specs.Winner.{Wins}
 use Rattle.ml_parity.proofs.Carried.{IsCopied, IsRegion, MoveTo, straight, copied}
 use Rattle.ml_graph.specs.declared.node.Node.{Node}
 use Rattle.ml_graph.specs.declared.node.Node.TheVariants as node
-use Rattle.ml_graph.specs.Graph.{Graph, IsGraph, size, node_at, prop_at, action_at}
+use Rattle.ml_graph.specs.Graph.{Graph, IsGraph, node_at, prop_at, action_at}
 use Rattle.ml_graph.specs.CheckingGame.{Vertex, Pair, Sink, owner_at, priority_at_vertex, vertex_number, successors, successors_of, pairs_or_sink, targets, vertices, checking_game}
 use Rattle.ml_graph.proofs.CheckingGame.{IsVertex, leads_to_vertices, is_game, vertices-length, number_low, vertex_at, owner_is, priority_is, moves_are}
 use Rattle.ml_bisim.specs.Quotient.{IsQuotientOf, class_of}

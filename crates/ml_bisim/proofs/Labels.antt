@@ -3,7 +3,7 @@
 --   entry_at    == below the length of a list there is an entry
 --   same_row    == states with the same propositions have the same row
 --   labelled    == so states that are numbered by their rows are a partition that bisimilar states don't leave
-use Rattle.std.proofs.Common.{ℕ, zero, suc, ◌≡◌, ◌<◌, ◌↔◌, Bool, true, false, List, [], ◌∷◌, length, get_or, slice_get, slice_index_or, map, Some, Contains, refl, sym, ap, ◌∙◌, subst, arith}
+use Rattle.std.proofs.Common.{ℕ, zero, suc, ◌≡◌, ◌<◌, ◌↔◌, Bool, true, List, [], ◌∷◌, length, slice_get, slice_index_or, map, Some, Contains, refl, sym, ap, ◌∙◌, subst, arith}
 use Rattle.std.specs.Cmp.Lexicographic.{slice_cmp, bytes_decides, texts_ties, pointwise, pointwise_decides}
 use Rattle.std.specs.Global.{Vec}
 use Rattle.std.specs.List.{list_any}

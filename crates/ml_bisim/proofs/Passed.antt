@@ -3,7 +3,7 @@
 --   further   == one more was seen, and the rest is left
 --   all_seen  == where nothing is left, all were seen
 --   ok_then   == what follows from what a call ensures where it succeeds
-use Rattle.std.proofs.Common.{ℕ, ◌≡◌, List, [], ◌∷◌, ◌++◌, length, Result, Ok, Err, IfOk, refl, sym, ap, ◌∙◌, arith}
+use Rattle.std.proofs.Common.{◌≡◌, List, [], ◌∷◌, ◌++◌, length, Result, Ok, Err, IfOk, refl, sym, ap, ◌∙◌, arith}
 use Rattle.std.proofs.lemmas.List.{append-nil}
 
 module _ {X : Type 0} where

@@ -4,16 +4,14 @@
 --   pulled_back    == a bisimulation of the quotient joins states of the structure by their classes
 --   reduced        == so bisimilar classes are one
 --   total_kept     == an edge of a state of a class is one of the class
-use Rattle.std.proofs.Common.{ℕ, ◌≡◌, ◌<◌, ◌&&◌, Bool, true, nat_lt, List, Contains, IsTrue, refl, sym, ap, ◌∙◌, subst, arith, lt-ltb}
-use Rattle.std.specs.List.{list_any}
+use Rattle.std.proofs.Common.{ℕ, ◌≡◌, ◌<◌, ◌&&◌, Bool, true, nat_lt, List, Contains, IsTrue, sym, ◌∙◌, subst, arith, lt-ltb}
 use Rattle.std.proofs.lemmas.Bool.{and_parts, and_from}
 use Rattle.std.proofs.lemmas.Bool.Decides.{nat_tests}
-use Rattle.ml_base.specs.declared.structure.Edge.{Edge}
-use Rattle.ml_base.specs.Structure.{Structure, IsStructure, lists}
+use Rattle.ml_base.specs.Structure.{Structure, IsStructure}
 use Rattle.ml_lists.proofs.Member.{Passing, list_any-member, member-list_any}
 use Rattle.ml_lists.proofs.Members.{member_of_contains, contains_of_member}
 use Rattle.ml_kripke.specs.Total.{IsTotal, goes_on}
-use Rattle.ml_bisim.specs.Bisimilar.{Bisimilar, HasEdge, IsBisimulation}
+use Rattle.ml_bisim.specs.Bisimilar.{Bisimilar, IsBisimulation}
 use Rattle.ml_bisim.specs.Quotient.{IsQuotientOf, class_of}
 use Rattle.ml_bisim.specs.Laws.{Reduced, TotalKept}
 use Rattle.ml_bisim.proofs.Classes.{edge_from, leaves, leaves_from, from_leaves, target_low, class_edge, edge_class, some_state}

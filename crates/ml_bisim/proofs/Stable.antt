@@ -6,16 +6,15 @@
 --   more_or_same   == so, of a partition and what a round makes of it
 --   finer_is       == what a round makes of a partition is one again
 --   stable_is      == where it is the same, states of one class are bisimilar
-use Rattle.std.proofs.Common.{ℕ, zero, suc, ◌≡◌, ◌+◌, ◌<◌, ◌≤◌, ◌⊎◌, inl, inr, ⊎_elim, ◌==◌, ◌&&◌, Bool, true, nat_lt, List, [], ◌∷◌, length, get_or, IsTrue, refl, sym, ap, ◌∙◌, subst, arith, lt-ltb}
+use Rattle.std.proofs.Common.{ℕ, suc, ◌≡◌, ◌+◌, ◌<◌, ◌≤◌, ◌⊎◌, inl, inr, ⊎_elim, ◌==◌, ◌&&◌, Bool, true, nat_lt, List, [], ◌∷◌, length, get_or, IsTrue, refl, sym, ◌∙◌, subst, arith, lt-ltb}
 use Rattle.std.proofs.lemmas.Bool.{and_parts, and_from, cases_eq}
 use Rattle.std.proofs.lemmas.Bool.Decides.{nat_tests}
-use Rattle.ml_base.specs.Structure.{Structure, IsStructure, lists}
+use Rattle.ml_base.specs.Structure.{Structure, IsStructure}
 use Rattle.ml_lists.specs.InTurn.{RunsOn}
-use Rattle.ml_lists.proofs.InTurn.{runs_up}
-use Rattle.ml_bisim.specs.Bisimilar.{Bisimilar, HasEdge, IsBisimulation}
+use Rattle.ml_bisim.specs.Bisimilar.{Bisimilar, IsBisimulation}
 use Rattle.ml_bisim.specs.Quotient.{AreClasses, class_of}
 use Rattle.ml_bisim.specs.private.Rounds.{IsFiner, IsPartition, SameSteps}
-use Rattle.ml_bisim.proofs.Classes.{source_low, target_low}
+use Rattle.ml_bisim.proofs.Classes.{target_low}
 
 module _ (P : ℕ → ℕ → Type 0) (one : (x z y : ℕ) → P x y → P z y → x ≡ z) where
   -- each number of the finer list that was met stands beside one of the other that was met

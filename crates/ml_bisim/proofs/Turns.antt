@@ -3,7 +3,7 @@
 --   runs_low    == each is below where the run ends
 --   runs_place  == each number below that stands at some place
 --   runs_long   == there are no more of them than places
-use Rattle.std.proofs.Common.{ℕ, zero, suc, ◌≡◌, ◌+◌, ◌<◌, ◌≤◌, inl, inr, List, [], ◌∷◌, length, get_or, sym, arith}
+use Rattle.std.proofs.Common.{ℕ, zero, suc, ◌≡◌, ◌+◌, ◌<◌, ◌≤◌, inl, inr, List, [], ◌∷◌, length, get_or, arith}
 use Rattle.ml_lists.specs.InTurn.{RunsOn}
 use Rattle.ml_lists.proofs.InTurn.{runs_up, runs_has}
 use Rattle.ml_lists.proofs.Member.{Place, member-place}

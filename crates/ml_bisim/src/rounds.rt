@@ -6,7 +6,7 @@ ghost use Rattle.ml_bisim.specs.private.Rounds.{AreNumbers, AreSignatures, HasSt
 
 use crate::ascending::ascending;
 use crate::numbering::{Numbering, numbered};
-use ml_base::{Action, Name, NoMemory};
+use ml_base::{Name, NoMemory};
 use ml_kripke::Structure;
 use std::alloc::Global;
 

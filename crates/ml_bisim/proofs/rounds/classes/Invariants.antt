@@ -1,6 +1,5 @@
-use Rattle.std.proofs.Common.{◌≡◌, ◌-◌, map}
-use Rattle.ml_base.specs.Structure.{IsStructure}
-use Rattle.ml_bisim.specs.private.Rounds.{AreNumbers, IsFiner, IsPartition}
+use Rattle.std.proofs.Common.{◌-◌}
+use Rattle.ml_bisim.specs.private.Rounds.{IsFiner, IsPartition}
 use Rattle.ml_bisim.proofs.rounds.classes.Given as goal
 
 abbrev pub invariant-loop-coarse : goal.invariant-loop-coarse

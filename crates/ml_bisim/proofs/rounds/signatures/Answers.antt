@@ -1,4 +1,4 @@
-use Rattle.std.proofs.Common.{◌≡◌, ◌∙◌, ap, sym, subst, refl, length, map, arith, rules, ◌∷◌, ◌++◌, []}
+use Rattle.std.proofs.Common.{◌≡◌, ap, sym, subst, refl, length, map, arith, rules, ◌∷◌, ◌++◌, []}
 use Rattle.std.proofs.lemmas.Grind.{common_steps}
 use Rattle.std.proofs.lemmas.List.{map-append}
 use Rattle.std.specs.Global.{Vec}
@@ -6,7 +6,7 @@ use Rattle.std.specs.Vec.Iter.{into_iter_items}
 use Rattle.ml_bisim.specs.declared.rounds.Step.{Step}
 use Rattle.ml_bisim.specs.private.Rounds.{AreSignatures, IsSignature}
 use Rattle.ml_bisim.specs.Quotient.{class_of}
-use Rattle.ml_bisim.proofs.Passed.{all_seen, further}
+use Rattle.ml_bisim.proofs.Passed.{further}
 use Rattle.ml_bisim.proofs.Rows.{signs_none, signs_more}
 use Rattle.ml_bisim.proofs.rounds.signatures.Goals as goal
 

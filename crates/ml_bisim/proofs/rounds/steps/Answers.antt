@@ -1,4 +1,4 @@
-use Rattle.std.proofs.Common.{◌∙◌, [], ap, map, replicate, set, get_or, refl, sym, arith}
+use Rattle.std.proofs.Common.{◌∙◌, [], ap, map, replicate, set, get_or, refl, arith}
 use Rattle.std.proofs.lemmas.List.{length-map}
 use Rattle.std.specs.Global.{Vec}
 use Rattle.ml_bisim.specs.declared.rounds.Step.{Step}
