@@ -1,0 +1,93 @@
+-- Problems hold at classes where they hold at states.
+--
+--   step_edge, edge_step == a step of a path is an edge by the action `_`
+--   admitted_kept        == where a logic speaks of a structure, it speaks of the quotient
+--   problems_carried     == the graph of a problem holds where the problem does, in the structure and in the quotient
+use Rattle.std.proofs.Common.{ℕ, ◌≡◌, ◌<◌, ◌==◌, ◌&&◌, ◌↔◌, ◌⊎◌, inl, inr, Bool, true, List, Contains, codes, refl, sym, ap, ◌∙◌, subst, arith}
+use Rattle.std.proofs.lemmas.Bool.{and_parts, and_from}
+use Rattle.std.proofs.lemmas.Bool.Decides.{nat_tests}
+use Rattle.ml_base.specs.declared.structure.Edge.{Edge}
+use Rattle.ml_base.specs.Structure.{Structure, IsStructure}
+use Rattle.ml_lists.proofs.Member.{Passing, list_any-member, member-list_any}
+use Rattle.ml_lists.proofs.Members.{member_of_contains, contains_of_member}
+use Rattle.ml_bisim.specs.Bisimilar.{HasEdge}
+use Rattle.ml_bisim.specs.Quotient.{IsQuotientOf, class_of}
+use Rattle.ml_bisim.proofs.Carrying.{graphs_carried}
+use Rattle.ml_bisim.proofs.Classes.{class_edge, class_low, edge_from, from_leaves, leaves, leaves_from, some_state}
+use Rattle.ml_ctl.specs.Paths.{IsTotal, has_step}
+use Rattle.ml_graph.specs.Graph.{Graph}
+use Rattle.ml_graph.proofs.References.{root_in_range}
+use Rattle.ml_front.specs.Graphs.{HasLargeClosure, IsGraphAs, IsMeaningful}
+use Rattle.ml_front.specs.Logics.{logic_of}
+use Rattle.ml_front.specs.Problems.{HoldsAt, IsAdmitted}
+use Rattle.ml_front.specs.declared.logic.Logic.{Logic}
+use Rattle.ml_front.specs.declared.logic.Logic.TheVariants as logic
+use Rattle.ml_front.specs.declared.problem.Problem.{Problem}
+use Rattle.ml_front.proofs.Graphs.{graph_is, graphs_agree, is_structure}
+use Rattle.ml_front.proofs.SomeGraph.{some_graph}
+use Rattle.ml_bisim_problems.specs.Laws.{AdmittedKept, HasFiniteClosure, ProblemsCarried}
+
+abbrev blank : List ℕ
+blank = codes "_"
+
+abbrev goes : ℕ → ℕ → Edge → Bool
+goes s t e = leaves s blank e && (e.target == t)
+
+same_number : (x y : ℕ) → (x == y) ≡ true → x ≡ y
+same_number x y e = grind (arith, nat_tests)
+
+itself : (x : ℕ) → (x == x) ≡ true
+itself x = grind (arith, nat_tests)
+
+step_edge : (m : Structure) (s t : ℕ) → has_step m s t ≡ true → HasEdge m s blank t
+step_edge m s t is = of_passing (list_any-member (goes s t) m.edges is)
+  where
+    of_passing : Passing (goes s t) m.edges → HasEdge m s blank t
+    of_passing found =
+        let both = and_parts (leaves s blank found.item) (found.item.target == t) found.passes in
+        subst (λ e. Contains m.edges e)
+        (leaves_from s blank found.item both.0 ∙ ap (edge_from s blank) (same_number found.item.target t both.1))
+        (contains_of_member found.item m.edges found.member)
+
+edge_step : (m : Structure) (s t : ℕ) → HasEdge m s blank t → has_step m s t ≡ true
+edge_step m s t edge =
+    member-list_any (goes s t) (edge_from s blank t) m.edges (member_of_contains (edge_from s blank t) m.edges edge)
+    (and_from (leaves s blank (edge_from s blank t)) (t == t) (from_leaves s blank t) (itself t))
+
+module _ (m q : Structure) (class : List ℕ) (m_ok : IsStructure m) (quotient : IsQuotientOf m class q) where
+  total_too : IsTotal m → IsTotal q
+  total_too total c low =
+      let s = some_state m q class m_ok quotient c low in
+      let step = total s.0 s.1 in
+      let edge = class_edge m q class m_ok quotient s.0 blank step.0 (step_edge m s.0 step.0 step.1) in (
+        class_of class step.0,
+        edge_step q c (class_of class step.0)
+            (subst (λ d. HasEdge q d blank (class_of class step.0)) s.2 edge),
+      )
+
+  pub kept : (l : Logic) → IsAdmitted l m → IsAdmitted l q
+  kept logic.Mu admitted = quotient.is_structure
+  kept logic.Pdl admitted = quotient.is_structure
+  kept logic.Ctl admitted = record { is_structure = quotient.is_structure; is_total = total_too admitted.is_total }
+  kept logic.Ltl admitted = record { is_structure = quotient.is_structure; is_total = total_too admitted.is_total }
+
+pub admitted_kept : AdmittedKept
+admitted_kept m q class m_ok quotient l admitted = kept m q class m_ok quotient l admitted
+
+pub problems_carried : ProblemsCarried
+problems_carried m q class quotient p meaningful finite admitted s low =
+    by_graph (some_graph finite.0 p.negated p.formula)
+  where
+    m_ok : IsStructure m
+    m_ok = is_structure (logic_of p.formula) m admitted
+
+    by_graph : ((g : Graph) × IsGraphAs g p.negated p.formula × (¬ (HasLargeClosure p finite.0))) ⊎ HasLargeClosure p finite.0
+        → HoldsAt m s p ↔ HoldsAt q (class_of class s) p
+    by_graph (inr large) = absurd (finite.1 large)
+    by_graph (inl (g, is, none)) =
+        let g_ok = graph_is g p.negated p.formula is in
+        let here = graphs_agree p g meaningful is m admitted s low in
+        let there = graphs_agree p g meaningful is q (kept m q class m_ok quotient (logic_of p.formula) admitted)
+        (class_of class s) (class_low m q class m_ok quotient s low) in
+        let both = graphs_carried m q class m_ok quotient g g_ok s g.root low (root_in_range g g_ok) in
+        ((λ h. there.0 (both.0 (here.1 h))), (λ h. here.0 (both.1 (there.1 h))))

@@ -1,0 +1,2 @@
+-- problems hold at classes where they hold at states
+pub mod Carried

@@ -1,0 +1,2 @@
+-- problems and the quotient of a structure
+pub mod Laws
