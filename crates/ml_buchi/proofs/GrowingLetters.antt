@@ -20,10 +20,14 @@ same_more [] (n ∷ made) l m s here = absurd s
 same_more (k ∷ row) [] l m s here = absurd s
 same_more (k ∷ row) (n ∷ made) l m s here = (s.0, same_more row made l m s.1 here)
 
-pub next_letters : (a : Automaton) (v : ℕ) (made : List (List Transition)) (m : List Transition)
+pub next_letters : (a : Automaton) (v : ℕ) (made now : List (List Transition)) (m : List Transition)
     → SameLetters (map (letter_of a) (range_with_len 0 v)) made
     → IsPermutation (letter_of a v) m
-    → SameLetters (map (letter_of a) (range_with_len 0 (v + 1))) (made ++ m ∷ [])
-next_letters a v made m s p =
-    subst (λ row. SameLetters row (made ++ m ∷ [])) (sym (map-range_with_len_more (letter_of a) 0 v v (omega arith)))
-    (same_more (map (letter_of a) (range_with_len 0 v)) made (letter_of a v) m s (permuted_same (letter_of a v) m p))
+    → now ≡ made ++ m ∷ []
+    → SameLetters (map (letter_of a) (range_with_len 0 (v + 1))) now
+next_letters a v made now m s p is =
+    let row : map (letter_of a) (range_with_len 0 (v + 1)) ≡ map (letter_of a) (range_with_len 0 v) ++ letter_of a v ∷ [] =
+    map-range_with_len_more (letter_of a) 0 v v (omega arith) in
+    subst (λ made. SameLetters (map (letter_of a) (range_with_len 0 (v + 1))) made) (sym is)
+    (subst (λ row. SameLetters row (made ++ m ∷ [])) (sym row)
+    (same_more (map (letter_of a) (range_with_len 0 v)) made (letter_of a v) m s (permuted_same (letter_of a v) m p)))

@@ -6,7 +6,7 @@
 --   small_ends       == their ends are below 2^30
 --   small_props      == the guard of an edge has few propositions
 --   permuted_same    == a letter in another order is the same set
-use Rattle.std.proofs.Common.{ℕ, ◌≡◌, ◌+◌, ◌<◌, ◌≤◌, ◌^◌, arith, Bool, true, false, List, [], ◌∷◌, ◌++◌, length, map, take, get_or, All, refl, sym, subst, ap, ◌∙◌, append-nil}
+use Rattle.std.proofs.Common.{ℕ, ◌≡◌, ◌+◌, ◌<◌, ◌≤◌, ◌^◌, arith, true, false, List, [], ◌∷◌, ◌++◌, length, map, take, get_or, sym, subst, ap, ◌∙◌, append-nil}
 use Rattle.std.specs.List.{filter}
 use Rattle.std.specs.List.Sorted.{IsPermutation}
 use Rattle.std.proofs.lemmas.Bool.{cond-true, cond-false}
@@ -17,7 +17,7 @@ use Rattle.ml_lists.proofs.Member.{All-member, member-All, place-member, member-
 use Rattle.ml_lists.proofs.Permuted.{same_members}
 use Rattle.ml_trace.specs.Automaton.{HasSmallEnds}
 use Rattle.ml_trace.specs.declared.letters.Transition.{Transition}
-use Rattle.ml_hoa.specs.Automaton.{Guard, Const, Ap, Not, And, Or, Edge, Automaton, IsAutomaton, IsEdge, PropsBelow, most_props}
+use Rattle.ml_hoa.specs.Automaton.{Guard, Const, Ap, Not, And, Or, Automaton, IsAutomaton, IsEdge, PropsBelow, most_props}
 use Rattle.ml_hoa.specs.declared.buchi.BuchiEdge.{BuchiEdge}
 use Rattle.ml_hoa.specs.private.Views.{guard_of, edge_of, edges_of}
 use Rattle.ml_buchi.specs.Valuations.{SameLetter, holds, letter_of, may_take, transition_of}

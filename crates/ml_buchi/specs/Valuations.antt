@@ -1,7 +1,8 @@
 -- Valuations: the letters of an automaton whose edges have guards.
 --
 -- A valuation says of each proposition whether it is true. It is a number below 2 to the number of propositions: bit n of it
--- says so of the proposition n. An edge may be taken under it if its guard is true. Endless words are words of valuations.
+-- says so of the proposition n. An edge may be taken under it if its guard is true. Such an automaton reads valuations, so
+-- its letters are the sets of transitions that may be taken under each of them.
 --
 --   is_true v n          == the proposition n is true
 --   holds v g            == the guard g is true
@@ -11,9 +12,11 @@
 --   letter_of a v        == the transitions of the edges that may be taken
 --   valuations a         == how many valuations there are
 --   letters_of a         == the letters of all valuations, in order
+--   letter_at row v      == the letter of a row at a place; past its end the one without transitions
 --   SameLetter l m       == the letters stand for the same set of transitions
 --   SameLetters row made == so do the letters of two rows, one by one
 --   LettersLead          == the letter of a valuation leads as the edges do
+--   IsBelow states m     == the ends of the transition are below this number
 --   LettersStay          == all ends of transitions are below the number of states
 use Rattle.std.specs.Prelude.{ℕ, ◌≡◌, ◌==◌, ◌&&◌, ◌||◌, ◌^◌, ◌<◌, ◌↔◌, not, Bool, true, List, [], ◌∷◌, length, map, filter, get_or}
 use Rattle.std.specs.Int.{bit_at}
