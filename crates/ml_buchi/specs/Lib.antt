@@ -1,0 +1,2 @@
+-- valuations, as the letters of an automaton
+pub mod Valuations
