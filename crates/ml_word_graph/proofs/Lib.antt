@@ -19,3 +19,9 @@ pub mod Agreement
 pub mod Sizes
 -- what is satisfiable on words, and on paths
 pub mod Satisfiable
+-- drafts of nodes by new numbers
+pub mod ReachedDrafts
+-- where the nodes of all occurrences stand
+pub mod Laid
+-- what is made of a formula
+pub mod Made

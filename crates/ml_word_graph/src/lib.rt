@@ -11,3 +11,6 @@
 #![tactic(auto)]
 
 pub mod laws;
+mod layout;
+mod names;
+mod reached;
