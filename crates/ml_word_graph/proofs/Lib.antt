@@ -23,5 +23,7 @@ pub mod Satisfiable
 pub mod ReachedDrafts
 -- where the nodes of all occurrences stand
 pub mod Laid
+-- the propositions of nodes
+pub mod Names
 -- what is made of a formula
 pub mod Made

@@ -18,7 +18,7 @@ use Rattle.ml_graph.specs.Graph.{Graph}
 use Rattle.ml_graph.specs.declared.node.Node.{Node}
 use Rattle.ml_graph.specs.declared.node.Node.TheVariants as node
 use Rattle.ml_ctl.specs.Formula.{Formula}
-use Rattle.ml_word_graph.specs.WordGraph.{Place, Form, Root, True, Constant, Literal, And, Or, Diamond, Square, IsReached, at_root, behind, IsNumberOf, IsNumberedBy, HasForm}
+use Rattle.ml_word_graph.specs.WordGraph.{Place, Form, Root, Total, HasEdge, LeadsOn, True, Constant, Literal, And, Or, Diamond, Square, IsReached, at_root, behind, IsNumberOf, IsNumberedBy, HasForm}
 use Rattle.ml_word_graph.specs.WordGraph.{children, form_of, priority_of, row_of, start_of}
 use Rattle.ml_word_graph.specs.private.Layout as layout
 use Rattle.ml_word_graph.specs.private.Layout.{key, made, node_of}
@@ -63,7 +63,7 @@ module _ (f : Formula) (negated : Bool) (ps : List (List ℕ)) where
 
   all_are : all ≡ map (made ps) P
   all_are =
-      ap (λ ws. made ps root ∷ made ps _ ∷ made ps _ ∷ made ps _ ∷ made ps _ ∷ ws) (nodes_are ps 0 f)
+      ap (λ ws. made ps root ∷ made ps Total ∷ made ps HasEdge ∷ made ps LeadsOn ∷ made ps True ∷ ws) (nodes_are ps 0 f)
 
   node_at_key : (k : ℕ) → node_in all k ≡ made ps (place k)
   node_at_key k = ap (λ vs. get_or vs k node.True) all_are ∙ get_made ps P k
@@ -76,12 +76,13 @@ module _ (f : Formula) (negated : Bool) (ps : List (List ℕ)) where
     pub reached : IsReached root (place k)
     pub same : key (place k) ≡ k
 
+  from_child : (j k : ℕ) → IsKey j → (c : Place) × IsMember c (children (form_of (place j))) × (k ≡ key c) → IsKey k
+  from_child j k here (c, child, same) =
+      let c_reached = behind (place j) c here.reached child in
+      let is : place k ≡ c = ap place same ∙ place_of_key c c_reached in
+      record { reached = subst (IsReached root) (sym is) c_reached; same = ap key is ∙ sym same }
+
   pub reached_key : (k : ℕ) → IsReachedIn all k → IsKey k
   reached_key k listed.first = record { reached = at_root; same = refl }
-  reached_key k (listed.behind j _ reached m) = from (row_child ps (form_of (place j)) k (subst (λ v. IsMember k (row_of v)) (node_at_key j) m))
-    where
-      from : (c : Place) × IsMember c (children (form_of (place j))) × (k ≡ key c) → IsKey k
-      from (c, child, same) =
-          let c_reached = behind (place j) c (reached_key j reached).reached child in
-          let is : place k ≡ c = ap place same ∙ place_of_key c c_reached in
-          record { reached = subst (IsReached root) (sym is) c_reached; same = ap key is ∙ sym same }
+  reached_key k (listed.behind j _ reached m) =
+      from_child j k (reached_key j reached) (row_child ps (form_of (place j)) k (subst (λ v. IsMember k (row_of v)) (node_at_key j) m))

@@ -117,7 +117,7 @@ module _ (all : List Node) (ranks : List ℕ) where
         from_earlier = λ k some low. let one = ap length root in absurd (omega (arith, some, low, one));
       }
     where
-      alone : (xs ≡ []) ⊎ ((xs ≡ [] ++ 0 ∷ []) × ¬ (IsMember 0 [])) → xs ≡ 0 ∷ []
+      alone : (xs ≡ []) ⊎ ((xs ≡ [] ++ 0 ∷ []) × ¬ (IsMember {X = ℕ} 0 [])) → xs ≡ 0 ∷ []
       alone (inl none) =
           let wrong : 1 ≤ length xs = omega (arith, slice_get_within xs i 0 a.stands) in
           let zero_long = ap length none in
