@@ -24,6 +24,6 @@ pub mod ReachedDrafts
 -- where the nodes of all occurrences stand
 pub mod Laid
 -- the propositions of nodes
-pub mod Names
+pub mod NamedNodes
 -- what is made of a formula
 pub mod Made
