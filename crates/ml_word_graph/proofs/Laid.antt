@@ -80,6 +80,48 @@ module _ (ps : List (List ℕ)) where
   nodes_are i (Quantified q f) =
       two_maps (own_places i (Quantified q f)) (places_of (i + 1) f) (layout.own_nodes ps i (Quantified q f)) _ refl (nodes_are (i + 1) f)
 
+-- ---- their priorities
+
+two_ranks : (xs ys : List Place) (us vs : List ℕ) → us ≡ map priority_of xs → vs ≡ map priority_of ys
+    → us ++ vs ≡ map priority_of (xs ++ ys)
+two_ranks xs ys us vs x y =
+    ap (λ ws. ws ++ vs) x ∙ ap (λ ws. map priority_of xs ++ ws) y ∙ sym (map-append priority_of xs ys)
+
+iff_ranks : (op : Operator) (i : ℕ) (f g : Formula) → layout.iff_priorities op ≡ map priority_of (iff_places op i f g)
+iff_ranks operator.And i f g = refl
+iff_ranks operator.Or i f g = refl
+iff_ranks operator.Implies i f g = refl
+iff_ranks operator.Iff i f g = refl
+
+pub priorities_are : (i : ℕ) (f : Formula) → layout.priorities_of f ≡ map priority_of (places_of i f)
+priorities_are i (Const b) = refl
+priorities_are i (Prop p) = refl
+priorities_are i (Not f) =
+    two_ranks (own_places i (Not f)) (places_of (i + 1) f) (layout.own_priorities (Not f)) (layout.priorities_of f) refl
+    (priorities_are (i + 1) f)
+priorities_are i (Binary op f g) =
+    let l = i + weight op in
+    let r = right_at l f in
+    two_ranks (own_places i (Binary op f g)) (iff_places op i f g ++ (places_of l f ++ places_of r g))
+    (layout.own_priorities (Binary op f g))
+    (layout.iff_priorities op ++ (layout.priorities_of f ++ layout.priorities_of g)) refl
+    (two_ranks (iff_places op i f g) (places_of l f ++ places_of r g) (layout.iff_priorities op)
+    (layout.priorities_of f ++ layout.priorities_of g) (iff_ranks op i f g)
+    (two_ranks (places_of l f) (places_of r g) (layout.priorities_of f) (layout.priorities_of g) (priorities_are l f)
+    (priorities_are r g)))
+priorities_are i (Temporal t f) =
+    two_ranks (own_places i (Temporal t f)) (places_of (i + 1) f) (layout.own_priorities (Temporal t f))
+    (layout.priorities_of f) refl (priorities_are (i + 1) f)
+priorities_are i (Paired p f g) =
+    let r = right_at (i + 1) f in
+    two_ranks (own_places i (Paired p f g)) (places_of (i + 1) f ++ places_of r g) (layout.own_priorities (Paired p f g))
+    (layout.priorities_of f ++ layout.priorities_of g) refl
+    (two_ranks (places_of (i + 1) f) (places_of r g) (layout.priorities_of f) (layout.priorities_of g)
+    (priorities_are (i + 1) f) (priorities_are r g))
+priorities_are i (Quantified q f) =
+    two_ranks (own_places i (Quantified q f)) (places_of (i + 1) f) (layout.own_priorities (Quantified q f))
+    (layout.priorities_of f) refl (priorities_are (i + 1) f)
+
 -- ---- where they stand
 
 abbrev pub StandIn : List Place → ℕ → List Place → Type 0

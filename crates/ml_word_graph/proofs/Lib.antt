@@ -27,3 +27,5 @@ pub mod Laid
 pub mod NamedNodes
 -- what is made of a formula
 pub mod Made
+-- what is told of results
+pub mod OkResults

@@ -4,22 +4,26 @@
 --   grown         == they do
 --   one_key       == the first node alone is a draft
 --   stepped       == one node more
-use Rattle.std.proofs.Common.{ℕ, zero, suc, ◌≡◌, ◌+◌, ◌<◌, ◌≤◌, ◌⊎◌, inl, inr, arith, List, [], ◌∷◌, ◌++◌}
-use Rattle.std.proofs.Common.{length, map, get_or, Some, refl, sym, ap, ◌∙◌, subst, ⊎_elim, append-nil, length-append}
+--   smaller       == fewer are left then
+--   all_inside, few_keys == keys are places of the list, so there are no more of them
+use Rattle.std.proofs.Common.{ℕ, zero, suc, ◌≡◌, ◌+◌, ◌-◌, ◌<◌, ◌≤◌, ◌⊎◌, inl, inr, arith, List, [], ◌∷◌, ◌++◌}
+use Rattle.std.proofs.Common.{All, length, map, get_or, Some, refl, sym, ap, ◌∙◌, subst, ⊎_elim, append-nil, length-append}
 use Rattle.std.specs.List.{flat_map, slice_get}
 use Rattle.std.proofs.lemmas.Bool.{cases_lt}
 use Rattle.std.proofs.lemmas.Grind.{flat_map-append}
 use Rattle.std.proofs.lemmas.List.{get_or_append_left, get_or_push, length-map, map-append}
-use Rattle.std.proofs.lemmas.Option.{slice_get_within}
+use Rattle.std.proofs.lemmas.List.Elements.{All-from_get_or}
+use Rattle.std.proofs.lemmas.Option.{slice_get_within, slice_get-get_or}
 use Rattle.ml_lists.specs.Added.{IsAdded, HasOnePlace}
 use Rattle.ml_lists.specs.InTurn.{RunsOn}
 use Rattle.ml_lists.specs.Member.{IsMember}
 use Rattle.ml_lists.proofs.Added.{added_all, added_once, added_keeps, added_runs}
+use Rattle.ml_lists.proofs.Pigeons.{TwiceInList, pigeons_list}
 use Rattle.ml_lists.proofs.InTurn.{runs_append, runs_has, runs_up}
 use Rattle.ml_graph.specs.declared.node.Node.{Node}
 use Rattle.ml_graph.specs.declared.node.Node.TheVariants as node
 use Rattle.ml_word_graph.specs.WordGraph.{row_of}
-use Rattle.ml_word_graph.specs.private.Reached.{node_in, IsReachedIn, first, behind, RenumbersTwo, RenumbersOne, Renumbers, IsRenumbered, IsMade, IsDraft, IsStep}
+use Rattle.ml_word_graph.specs.private.Reached.{node_in, IsReachedIn, first, behind, RenumbersTwo, RenumbersOne, Renumbers, IsRenumbered, IsMade, IsDraft, IsStep, AreInside}
 
 pub record Grows (P : ℕ → Type 0) (xs ys : List ℕ) (v w : Node) : Type 0 where
   pub once : HasOnePlace xs → HasOnePlace ys
@@ -228,3 +232,38 @@ module _ (all : List Node) (ranks : List ℕ) where
       runs_on = runs;
       from_earlier = earlier;
     }
+
+  module _ (inside : AreInside all) (xs : List ℕ) (vs : List Node) (ps : List ℕ) (D : IsDraft all ranks xs vs ps) where
+    stands : (i : ℕ) → i < length xs → slice_get xs i ≡ Some (get_or xs i 0)
+    stands i low = slice_get-get_or xs i 0 low
+
+    key_low : (i : ℕ) → i < length xs → get_or xs i 0 < length all
+    key_low i low = inside (get_or xs i 0) (D.are_reached i (get_or xs i 0) (stands i low))
+
+    pub all_inside : All (λ k. k < length all) xs
+    all_inside = All-from_get_or (λ k. k < length all) xs 0 key_low
+
+    twice : TwiceInList xs → ⊥
+    twice t =
+        let same =
+        D.once t.first t.second (get_or xs t.second 0)
+        (stands t.first (let a = t.apart in let w = t.within in omega (arith, a, w)) ∙ ap Some (t.same 0))
+        (stands t.second t.within) in
+        let a = t.apart in
+        omega (arith, a, same)
+
+    pub few_keys : length xs ≤ length all
+    few_keys =
+        ⊎_elim (λ (more : length all < length xs). absurd (twice (pigeons_list (length all) xs more key_low)))
+        (λ (le : length xs ≤ length all). le) (cases_lt (length all) (length xs))
+
+  pub smaller : AreInside all → (xs ys : List ℕ) (vs ws : List Node) (ps qs : List ℕ) → IsDraft all ranks xs vs ps
+      → IsStep all ranks xs ys vs ws ps qs
+      → length all - length ws < length all - length vs
+  smaller inside xs ys vs ws ps qs D S =
+      omega (
+        arith,
+        long xs ys vs ws ps qs D S,
+        low_old xs ys vs ws ps qs D S,
+        few_keys inside xs vs ps D,
+      )

@@ -3,7 +3,7 @@ ghost use Rattle.std.specs.Prelude.{◌≡◌, ◌<◌, ◌≤◌, ◌^◌, ◌+
 ghost use Rattle.ml_graph.specs.declared.node.Node.TheVariants as graph_node;
 ghost use Rattle.ml_word_graph.specs.WordGraph.{row_of};
 ghost use Rattle.ml_word_graph.specs.private.Reached as listed;
-ghost use Rattle.ml_word_graph.specs.private.Reached.{IsDraft, IsStep, Renumbers};
+ghost use Rattle.ml_word_graph.specs.private.Reached.{AreInside, IsStep, IsTrimmed, Renumbers};
 ghost use Rattle.ml_lists.specs.Added.{IsAdded};
 
 use indexmap::IndexSet;
@@ -71,4 +71,20 @@ fn step(all: &Draft, reached: &mut IndexSet<u32>, draft: &mut Draft) -> Result<(
     let old = reached.as_slice()[draft.nodes.len()] as usize;
     let node = renumbered(reached, all.nodes[old])?;
     keep(draft, node, all.priorities[old])
+}
+
+// the nodes that are reached, in their order
+pub(crate) fn trimmed(alloc: Global, all: &Draft) -> Result<Draft, NoMemory>
+    requires inside { AreInside all.now.nodes.items }
+    requires few { length all.now.nodes.items < 2 ^ 31 }
+    requires ranks { length all.now.priorities.items ≡ length all.now.nodes.items }
+    ensures trimmed { IfOk result (λ d. IsTrimmed all.now.nodes.items all.now.priorities.items d.nodes.items d.priorities.items) }
+{
+    let mut reached = IndexSet::new(alloc);
+    number(&mut reached, 0)?;
+    let mut draft = Draft::new(alloc);
+    while draft.nodes.len() < reached.len() {
+        step(all, &mut reached, &mut draft)?;
+    }
+    Ok(draft)
 }

@@ -6,6 +6,8 @@
 --   IsRenumbered xs v w      == w is v by the numbers that xs gives
 --   IsDraft all ranks xs vs ps == xs are nodes by their numbers; vs and ps the first nodes and priorities by numbers, so far
 --   IsStep all ranks xs ys vs ws ps qs == one node more
+--   AreInside all         == what is reached stands in the list
+--   IsTrimmed all ranks vs ps == vs and ps are all nodes that are reached, and their priorities
 use Rattle.std.specs.Prelude.{ℕ, ◌≡◌, ◌≤◌, ◌<◌, List, [], ◌∷◌, ◌++◌, Some, length, map, get_or, slice_get}
 use Rattle.std.specs.List.{flat_map}
 use Rattle.ml_lists.specs.Added.{IsAdded, HasOnePlace}
@@ -72,3 +74,11 @@ pub record IsStep (all : List Node) (ranks : List ℕ) (xs ys : List ℕ) (vs ws
   pub numbers : Renumbers (node_in all old) xs ys node
   pub nodes : ws ≡ vs ++ node ∷ []
   pub priorities : qs ≡ ps ++ get_or ranks old 0 ∷ []
+
+abbrev pub AreInside : List Node → Type 0
+AreInside all = (k : ℕ) → IsReachedIn all k → k < length all
+
+pub record IsTrimmed (all : List Node) (ranks : List ℕ) (vs : List Node) (ps : List ℕ) : Type 0 where
+  pub keys : List ℕ
+  pub draft : IsDraft all ranks keys vs ps
+  pub whole : length vs ≡ length keys
