@@ -26,6 +26,7 @@ pub(crate) enum Kind {
 
 // the priority of a node that asks for something that has to come about, and that of each other one
 const EVENTUAL: u32 = 1;
+
 const PLAIN: u32 = 2;
 
 // where a node of an occurrence stands
@@ -195,7 +196,10 @@ fn put_occurrence(
         ++ ranks.0 ∷ ranks.1 ∷ 2 ∷ 2 ∷ 2 ∷ 2 ∷ []) }
 {
     draft.put(now_nodes, ranks)?;
-    draft.put((square(now(at, true)), square(now(at, false))), (PLAIN, PLAIN))?;
+    draft.put(
+        (square(now(at, true)), square(now(at, false))),
+        (PLAIN, PLAIN),
+    )?;
     draft.put(rest_nodes, (PLAIN, PLAIN))
 }
 
@@ -231,7 +235,13 @@ fn put_cases(draft: &mut Draft, operator: Operator, left: u32, right: u32) -> Re
 
 // the occurrences of two operands, of which `at` is the first
 #[cycle(placing)]
-fn place_both(draft: &mut Draft, names: &Names, at: u32, left: &Term, right: &Term) -> Result<(), NoMemory>
+fn place_both(
+    draft: &mut Draft,
+    names: &Names,
+    at: u32,
+    left: &Term,
+    right: &Term,
+) -> Result<(), NoMemory>
     requires names { length names.now.props.keys < 2 ^ 32 }
     requires few { at + occurrences (formula_of left.now) + occurrences (formula_of right.now) ≤ 1000 }
     ensures nodes { OnOk result (draft.new.nodes.items ≡ draft.old.nodes.items
@@ -261,8 +271,14 @@ fn place(draft: &mut Draft, names: &Names, at: u32, term: &Term) -> Result<(), N
         }
         Term::Prop(name) => {
             let prop = names.proposition(name);
-            let yes = Node::Lit { prop, positive: true };
-            let no = Node::Lit { prop, positive: false };
+            let yes = Node::Lit {
+                prop,
+                positive: true,
+            };
+            let no = Node::Lit {
+                prop,
+                positive: false,
+            };
             put_occurrence(draft, at, (yes, no), (PLAIN, PLAIN), NONE)
         }
         Term::Not(operand) => {
@@ -315,7 +331,12 @@ fn put_root(draft: &mut Draft, negated: bool) -> Result<(), NoMemory>
 }
 
 // all nodes of a problem
-pub(crate) fn laid_out(alloc: Global, names: &Names, term: &Term, negated: bool) -> Result<Draft, NoMemory>
+pub(crate) fn laid_out(
+    alloc: Global,
+    names: &Names,
+    term: &Term,
+    negated: bool,
+) -> Result<Draft, NoMemory>
     requires names { length names.now.props.keys < 2 ^ 32 }
     requires few { occurrences (formula_of term.now) ≤ 1000 }
     ensures nodes { IfOk result (λ d. d.nodes.items ≡ layout.all_nodes names.now.props.keys (formula_of term.now) negated) }

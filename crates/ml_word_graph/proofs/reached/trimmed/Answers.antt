@@ -24,7 +24,7 @@ step-requires-clause-few c =
     omega (
       arith,
       few_keys c.args.all.now.nodes.items c.args.all.now.priorities.items c.requires.inside c.loop-reached.reached.keys
-      draft.nodes.items draft.priorities.items c.loop-reached.invariant,
+          draft.nodes.items draft.priorities.items c.loop-reached.invariant,
       c.requires.few,
     )
 
