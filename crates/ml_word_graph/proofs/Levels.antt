@@ -11,7 +11,7 @@
 --   Inherits Q p    == the formula of the node p has it
 --   reached_inherits == so have those of all nodes that are reached, if that of the root has
 --   IsLinear p      == the formula of the node p is one of LTL
-use Rattle.std.proofs.Common.{◌≡◌, ℕ, ◌+◌, ◌<◌, ◌⊎◌, Bool, true, false, ◌&&◌, not, [], ◌∷◌, inl, inr, ap, subst, sym, arith}
+use Rattle.std.proofs.Common.{◌≡◌, ℕ, ◌+◌, ◌<◌, ◌⊎◌, Bool, true, false, not, [], ◌∷◌, inl, inr, ap, subst, sym, arith}
 use Rattle.std.proofs.lemmas.Bool.{and_parts}
 use Rattle.ml_lists.specs.Member.{IsMember}
 use Rattle.ml_text.specs.declared.token.Operator.{Operator}

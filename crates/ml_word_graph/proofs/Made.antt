@@ -4,7 +4,7 @@
 --   are_inside, all_length, as_many_ranks == what is reached is laid out, with a priority each
 --   few_nodes              == no more nodes are reached than are laid out
 --   graph_made             == the nodes that are reached, by their numbers, make the graph of the formula
-use Rattle.std.proofs.Common.{◌≡◌, ℕ, zero, suc, ◌+◌, ◌*◌, ◌<◌, ◌≤◌, ◌⊎◌, Bool, true, false, not, List, [], ◌∷◌, ◌++◌, map, length, get_or, Option, None, Some, codes, bytes_eq}
+use Rattle.std.proofs.Common.{◌≡◌, ℕ, zero, suc, ◌+◌, ◌*◌, ◌<◌, ◌≤◌, Bool, true, false, List, [], ◌∷◌, map, length, get_or, Option, None, Some, codes, bytes_eq}
 use Rattle.std.proofs.Common.{All, inl, inr, refl, sym, ap, subst, ◌∙◌, ⊎_elim, arith}
 use Rattle.std.specs.List.{flat_map, range_with_len, slice_get, IsDistinct}
 use Rattle.std.specs.Option.{option_map}
@@ -32,7 +32,7 @@ use Rattle.ml_word_graph.specs.private.Layout as layout
 use Rattle.ml_word_graph.specs.private.Layout.{key, made, node_of}
 use Rattle.ml_word_graph.specs.private.Reached as listed
 use Rattle.ml_word_graph.specs.private.Reached.{node_in, IsReachedIn, IsRenumbered, IsDraft, IsTrimmed, AreInside}
-use Rattle.ml_word_graph.proofs.Laid.{all_found, all_places, nodes_are, places_length, places_of, priorities_are}
+use Rattle.ml_word_graph.proofs.Laid.{all_found, all_places, nodes_are, places_length, priorities_are}
 use Rattle.ml_word_graph.proofs.NamedNodes.{AreAmong, IsNamed, all_among, distinct_props, reached_named}
 use Rattle.ml_word_graph.proofs.ReachedDrafts.{few_keys}
 use Rattle.ml_word_graph.proofs.Sizes.{reached_in}

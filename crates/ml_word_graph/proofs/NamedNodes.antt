@@ -11,10 +11,9 @@ use Rattle.ml_text.specs.declared.token.Operator.TheVariants as operator
 use Rattle.ml_text.proofs.NameLists.{is_among, kept_among, added_among, Covers, distinct_with, with_length}
 use Rattle.ml_ctl.specs.Formula.{Formula, Const, Prop, Not, Binary, Temporal, Paired, Quantified, occurrences}
 use Rattle.ml_ctl.specs.declared.term.Tense.TheVariants as tense
-use Rattle.ml_ctl.specs.declared.term.Pairing.{Pairing}
 use Rattle.ml_ctl.specs.declared.term.Pairing.TheVariants as pairing
 use Rattle.ml_word_graph.specs.WordGraph.{Place, Form, Root, Total, HasEdge, LeadsOn, True, Now, Later, Rest, Both, Neither}
-use Rattle.ml_word_graph.specs.WordGraph.{Constant, Literal, And, Or, Diamond, Square, IsReached, all_of, form_of}
+use Rattle.ml_word_graph.specs.WordGraph.{Literal, IsReached, all_of, form_of}
 use Rattle.ml_word_graph.specs.private.Layout.{props_onto}
 use Rattle.ml_word_graph.proofs.Levels.{Inherits, IsInherited, reached_inherits}
 

@@ -23,7 +23,7 @@ use Rattle.ml_lists.proofs.InTurn.{runs_append, runs_has, runs_up}
 use Rattle.ml_graph.specs.declared.node.Node.{Node}
 use Rattle.ml_graph.specs.declared.node.Node.TheVariants as node
 use Rattle.ml_word_graph.specs.WordGraph.{row_of}
-use Rattle.ml_word_graph.specs.private.Reached.{node_in, IsReachedIn, first, behind, RenumbersTwo, RenumbersOne, Renumbers, IsRenumbered, IsMade, IsDraft, IsStep, AreInside}
+use Rattle.ml_word_graph.specs.private.Reached.{node_in, IsReachedIn, first, behind, RenumbersTwo, Renumbers, IsRenumbered, IsMade, IsDraft, IsStep, AreInside}
 
 pub record Grows (P : ℕ → Type 0) (xs ys : List ℕ) (v w : Node) : Type 0 where
   pub once : HasOnePlace xs → HasOnePlace ys

@@ -18,7 +18,7 @@ use Rattle.ml_text.specs.NameLists.{with_name, place_of}
 use Rattle.ml_text.specs.declared.token.Operator.{Operator}
 use Rattle.ml_text.specs.declared.token.Operator.TheVariants as operator
 use Rattle.ml_text.specs.Operators.{weight}
-use Rattle.ml_ctl.specs.Formula.{Formula, Const, Prop, Not, Binary, Temporal, Paired, Quantified, occurrences}
+use Rattle.ml_ctl.specs.Formula.{Formula, Const, Prop, Not, Binary, Temporal, Paired, Quantified}
 use Rattle.ml_nodes.specs.Nodes.{constant}
 use Rattle.ml_word_graph.specs.declared.layout.Kind.{Kind}
 use Rattle.ml_word_graph.specs.declared.layout.Kind.TheVariants as kind

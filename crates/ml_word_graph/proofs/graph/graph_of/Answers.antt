@@ -1,4 +1,4 @@
-use Rattle.std.proofs.Common.{length, sym, subst, ◌≤◌, arith}
+use Rattle.std.proofs.Common.{sym, subst, ◌≤◌, arith}
 use Rattle.ml_ctl.specs.Formula.{occurrences}
 use Rattle.ml_ctl.specs.Term.{formula_of}
 use Rattle.ml_word_graph.specs.WordGraph.{IsGraphOf}

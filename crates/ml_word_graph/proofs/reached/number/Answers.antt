@@ -1,4 +1,4 @@
-use Rattle.std.proofs.Common.{◌≡◌, true, nat_eq, refl}
+use Rattle.std.proofs.Common.{nat_eq, refl}
 use Rattle.std.proofs.lemmas.Bool.{eq-eqb, eqb-true}
 use Rattle.ml_lists.proofs.Added.{added}
 use Rattle.ml_word_graph.proofs.reached.number.Goals as goal
