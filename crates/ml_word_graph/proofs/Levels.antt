@@ -7,13 +7,17 @@
 --   Stays p q       == from p one goes on to q without going down
 --   child_level     == where a node leads, it leads down or stays
 --   stays_level     == where it stays, the level is the same
---   IsLinear p      == the formulas of the node p are formulas of LTL
---   child_linear, reached_linear == so are those of all nodes that are reached
-use Rattle.std.proofs.Common.{◌≡◌, ℕ, ◌+◌, ◌<◌, ◌⊎◌, Bool, true, false, ◌&&◌, not, [], ◌∷◌, inl, inr, ap, subst, sym, arith}
+--   IsInherited Q   == a property of formulas that their operands have too
+--   Inherits Q p    == the formula of the node p has it
+--   reached_inherits == so have those of all nodes that are reached, if that of the root has
+--   IsLinear p      == the formula of the node p is one of LTL
+use Rattle.std.proofs.Common.{◌≡◌, ℕ, ◌+◌, ◌<◌, ◌⊎◌, Bool, true, false, not, [], ◌∷◌, inl, inr, ap, subst, sym, arith}
 use Rattle.std.proofs.lemmas.Bool.{and_parts}
 use Rattle.ml_lists.specs.Member.{IsMember}
+use Rattle.ml_text.specs.declared.token.Operator.{Operator}
 use Rattle.ml_text.specs.declared.token.Operator.TheVariants as operator
 use Rattle.ml_ctl.specs.Formula.{Formula, Const, Prop, Not, Binary, Temporal, Paired, Quantified, is_linear, occurrences}
+use Rattle.ml_ctl.specs.declared.term.Tense.{Tense}
 use Rattle.ml_ctl.specs.declared.term.Tense.TheVariants as tense
 use Rattle.ml_ctl.specs.declared.term.Pairing.{Pairing}
 use Rattle.ml_ctl.specs.declared.term.Pairing.TheVariants as pairing
@@ -185,88 +189,118 @@ stays_level (Rest i p f g sign) q h = ap level h
 stays_level (Both i f g sign) q h = absurd h
 stays_level (Neither i f g sign) q h = absurd h
 
+-- ---- what formulas inherit
+
+-- a property of formulas that their operands have too
+pub record IsInherited (Q : Formula → Type 0) : Type 0 where
+  pub of_not : (f : Formula) → Q (Not f) → Q f
+  pub of_binary : (op : Operator) (f g : Formula) → Q (Binary op f g) → Q f × Q g
+  pub of_temporal : (t : Tense) (f : Formula) → Q (Temporal t f) → Q f
+  pub of_paired : (p : Pairing) (f g : Formula) → Q (Paired p f g) → Q f × Q g
+
+module _ (Q : Formula → Type 0) where
+  -- the formula of a node has the property
+  abbrev pub Inherits : Place → Type 0
+  Inherits (Root p) = Inherits p
+  Inherits Total = Unit {0}
+  Inherits HasEdge = Unit {0}
+  Inherits LeadsOn = Unit {0}
+  Inherits True = Unit {0}
+  Inherits (Now i f sign) = Q f
+  Inherits (Later i f sign) = Q f
+  Inherits (Rest i p f g sign) = Q (Paired p f g)
+  Inherits (Both i f g sign) = Q (Binary operator.Iff f g)
+  Inherits (Neither i f g sign) = Q (Binary operator.Iff f g)
+
+  is_one : (r q : Place) → Inherits r → q ≡ r → Inherits q
+  is_one r q has same = subst Inherits (sym same) has
+
+  of_two : (l r q : Place) (all : Bool) → Inherits l → Inherits r → IsMember q (children (all_of all l r)) → Inherits q
+  of_two l r q true x y (inl same) = is_one l q x same
+  of_two l r q true x y (inr (inl same)) = is_one r q y same
+  of_two l r q true x y (inr (inr none)) = absurd none
+  of_two l r q false x y (inl same) = is_one l q x same
+  of_two l r q false x y (inr (inl same)) = is_one r q y same
+  of_two l r q false x y (inr (inr none)) = absurd none
+
+  of_one : (r q : Place) → Inherits r → IsMember q (r ∷ []) → Inherits q
+  of_one r q x (inl same) = is_one r q x same
+  of_one r q x (inr none) = absurd none
+
+  module _ (I : IsInherited Q) where
+    now_inherits : (i : ℕ) (f : Formula) (sign : Bool) (q : Place) → Q f → IsMember q (children (form_of (Now i f sign))) → Inherits q
+    now_inherits i (Const b) sign q x h = absurd h
+    now_inherits i (Prop p) sign q x h = absurd h
+    now_inherits i (Not f) sign q x h =
+        let y = I.of_not f x in of_two (Now (i + 1) f (not sign)) (Now (i + 1) f (not sign)) q true y y h
+    now_inherits i (Binary operator.And f g) sign q x h =
+        let both = I.of_binary operator.And f g x in
+        of_two (Now (i + 1) f sign) (Now (right_at (i + 1) f) g sign) q sign both.0 both.1 h
+    now_inherits i (Binary operator.Or f g) sign q x h =
+        let both = I.of_binary operator.Or f g x in
+        of_two (Now (i + 1) f sign) (Now (right_at (i + 1) f) g sign) q (not sign) both.0 both.1 h
+    now_inherits i (Binary operator.Implies f g) sign q x h =
+        let both = I.of_binary operator.Implies f g x in
+        of_two (Now (i + 1) f (not sign)) (Now (right_at (i + 1) f) g sign) q (not sign) both.0 both.1 h
+    now_inherits i (Binary operator.Iff f g) sign q x h = of_two (Both i f g sign) (Neither i f g sign) q false x x h
+    now_inherits i (Temporal tense.Next f) sign q x h = of_one (Now (i + 1) f sign) q (I.of_temporal tense.Next f x) h
+    now_inherits i (Temporal tense.Finally f) sign q x h =
+        of_two (Now (i + 1) f sign) (Later i (Temporal tense.Finally f) sign) q (not sign) (I.of_temporal tense.Finally f x) x h
+    now_inherits i (Temporal tense.Globally f) sign q x h =
+        of_two (Now (i + 1) f sign) (Later i (Temporal tense.Globally f) sign) q sign (I.of_temporal tense.Globally f x) x h
+    now_inherits i (Paired pairing.Until f g) sign q x h =
+        of_two (Now (right_at (i + 1) f) g sign) (Rest i pairing.Until f g sign) q (not sign) (I.of_paired pairing.Until f g x).1 x h
+    now_inherits i (Paired pairing.Weak f g) sign q x h =
+        of_two (Now (right_at (i + 1) f) g sign) (Rest i pairing.Weak f g sign) q (not sign) (I.of_paired pairing.Weak f g x).1 x h
+    now_inherits i (Paired pairing.Release f g) sign q x h =
+        of_two (Now (right_at (i + 1) f) g sign) (Rest i pairing.Release f g sign) q sign (I.of_paired pairing.Release f g x).1 x h
+    now_inherits i (Quantified k f) sign q x h = absurd h
+
+    rest_inherits : (i : ℕ) (p : Pairing) (f g : Formula) (sign : Bool) (q : Place) → Q (Paired p f g)
+        → IsMember q (children (form_of (Rest i p f g sign)))
+        → Inherits q
+    rest_inherits i pairing.Until f g sign q x h =
+        of_two (Now (i + 1) f sign) (Later i (Paired pairing.Until f g) sign) q sign (I.of_paired pairing.Until f g x).0 x h
+    rest_inherits i pairing.Weak f g sign q x h =
+        of_two (Now (i + 1) f sign) (Later i (Paired pairing.Weak f g) sign) q sign (I.of_paired pairing.Weak f g x).0 x h
+    rest_inherits i pairing.Release f g sign q x h =
+        of_two (Now (i + 1) f sign) (Later i (Paired pairing.Release f g) sign) q (not sign) (I.of_paired pairing.Release f g x).0 x h
+
+    child_inherits : (p q : Place) → Inherits p → IsMember q (children (form_of p)) → Inherits q
+    child_inherits (Root start) q x h = of_two start Total q true x tt h
+    child_inherits Total q x h = of_two HasEdge LeadsOn q true tt tt h
+    child_inherits HasEdge q x h = of_one True q tt h
+    child_inherits LeadsOn q x h = of_one Total q tt h
+    child_inherits True q x h = absurd h
+    child_inherits (Now i f sign) q x h = now_inherits i f sign q x h
+    child_inherits (Later i f sign) q x h = of_one (Now i f sign) q x h
+    child_inherits (Rest i p f g sign) q x h = rest_inherits i p f g sign q x h
+    child_inherits (Both i f g sign) q x h =
+        let both = I.of_binary operator.Iff f g x in
+        of_two (Now (i + 3) f true) (Now (right_at (i + 3) f) g sign) q true both.0 both.1 h
+    child_inherits (Neither i f g sign) q x h =
+        let both = I.of_binary operator.Iff f g x in
+        of_two (Now (i + 3) f false) (Now (right_at (i + 3) f) g (not sign)) q true both.0 both.1 h
+
+    pub reached_inherits : (root p : Place) → Inherits root → IsReached root p → Inherits p
+    reached_inherits root p has at_root = has
+    reached_inherits root p has (behind q _ reached child) = child_inherits q p (reached_inherits root q has reached) child
+
 -- ---- formulas of LTL
 
+abbrev pub Linear : Formula → Type 0
+Linear f = is_linear f ≡ true
+
+linear_inherited : IsInherited Linear
+linear_inherited = record {
+  of_not = λ f x. x;
+  of_binary = λ op f g x. and_parts (is_linear f) (is_linear g) x;
+  of_temporal = λ t f x. x;
+  of_paired = λ p f g x. and_parts (is_linear f) (is_linear g) x;
+}
+
 abbrev pub IsLinear : Place → Type 0
-IsLinear (Root p) = IsLinear p
-IsLinear Total = Unit {0}
-IsLinear HasEdge = Unit {0}
-IsLinear LeadsOn = Unit {0}
-IsLinear True = Unit {0}
-IsLinear (Now i f sign) = is_linear f ≡ true
-IsLinear (Later i f sign) = is_linear f ≡ true
-IsLinear (Rest i p f g sign) = (is_linear f && is_linear g) ≡ true
-IsLinear (Both i f g sign) = (is_linear f && is_linear g) ≡ true
-IsLinear (Neither i f g sign) = (is_linear f && is_linear g) ≡ true
-
-is_one : (r q : Place) → IsLinear r → q ≡ r → IsLinear q
-is_one r q linear same = subst IsLinear (sym same) linear
-
-of_two : (l r q : Place) (all : Bool) → IsLinear l → IsLinear r → IsMember q (children (all_of all l r)) → IsLinear q
-of_two l r q true x y (inl same) = is_one l q x same
-of_two l r q true x y (inr (inl same)) = is_one r q y same
-of_two l r q true x y (inr (inr none)) = absurd none
-of_two l r q false x y (inl same) = is_one l q x same
-of_two l r q false x y (inr (inl same)) = is_one r q y same
-of_two l r q false x y (inr (inr none)) = absurd none
-
-of_one : (r q : Place) → IsLinear r → IsMember q (r ∷ []) → IsLinear q
-of_one r q x (inl same) = is_one r q x same
-of_one r q x (inr none) = absurd none
-
-now_linear : (i : ℕ) (f : Formula) (sign : Bool) (q : Place) → is_linear f ≡ true → IsMember q (children (form_of (Now i f sign))) → IsLinear q
-now_linear i (Const b) sign q x h = absurd h
-now_linear i (Prop p) sign q x h = absurd h
-now_linear i (Not f) sign q x h = of_two (Now (i + 1) f (not sign)) (Now (i + 1) f (not sign)) q true x x h
-now_linear i (Binary operator.And f g) sign q x h =
-    let parts = and_parts (is_linear f) (is_linear g) x in
-    of_two (Now (i + 1) f sign) (Now (right_at (i + 1) f) g sign) q sign parts.0 parts.1 h
-now_linear i (Binary operator.Or f g) sign q x h =
-    let parts = and_parts (is_linear f) (is_linear g) x in
-    of_two (Now (i + 1) f sign) (Now (right_at (i + 1) f) g sign) q (not sign) parts.0 parts.1 h
-now_linear i (Binary operator.Implies f g) sign q x h =
-    let parts = and_parts (is_linear f) (is_linear g) x in
-    of_two (Now (i + 1) f (not sign)) (Now (right_at (i + 1) f) g sign) q (not sign) parts.0 parts.1 h
-now_linear i (Binary operator.Iff f g) sign q x h = of_two (Both i f g sign) (Neither i f g sign) q false x x h
-now_linear i (Temporal tense.Next f) sign q x h = of_one (Now (i + 1) f sign) q x h
-now_linear i (Temporal tense.Finally f) sign q x h =
-    of_two (Now (i + 1) f sign) (Later i (Temporal tense.Finally f) sign) q (not sign) x x h
-now_linear i (Temporal tense.Globally f) sign q x h =
-    of_two (Now (i + 1) f sign) (Later i (Temporal tense.Globally f) sign) q sign x x h
-now_linear i (Paired pairing.Until f g) sign q x h =
-    of_two (Now (right_at (i + 1) f) g sign) (Rest i pairing.Until f g sign) q (not sign) (and_parts (is_linear f) (is_linear g) x).1 x h
-now_linear i (Paired pairing.Weak f g) sign q x h =
-    of_two (Now (right_at (i + 1) f) g sign) (Rest i pairing.Weak f g sign) q (not sign) (and_parts (is_linear f) (is_linear g) x).1 x h
-now_linear i (Paired pairing.Release f g) sign q x h =
-    of_two (Now (right_at (i + 1) f) g sign) (Rest i pairing.Release f g sign) q sign (and_parts (is_linear f) (is_linear g) x).1 x h
-now_linear i (Quantified k f) sign q x h = absurd h
-
-rest_linear : (i : ℕ) (p : Pairing) (f g : Formula) (sign : Bool) (q : Place) → (is_linear f && is_linear g) ≡ true
-    → IsMember q (children (form_of (Rest i p f g sign)))
-    → IsLinear q
-rest_linear i pairing.Until f g sign q x h =
-    of_two (Now (i + 1) f sign) (Later i (Paired pairing.Until f g) sign) q sign (and_parts (is_linear f) (is_linear g) x).0 x h
-rest_linear i pairing.Weak f g sign q x h =
-    of_two (Now (i + 1) f sign) (Later i (Paired pairing.Weak f g) sign) q sign (and_parts (is_linear f) (is_linear g) x).0 x h
-rest_linear i pairing.Release f g sign q x h =
-    of_two (Now (i + 1) f sign) (Later i (Paired pairing.Release f g) sign) q (not sign) (and_parts (is_linear f) (is_linear g) x).0 x h
-
-pub child_linear : (p q : Place) → IsLinear p → IsMember q (children (form_of p)) → IsLinear q
-child_linear (Root start) q x h = of_two start Total q true x tt h
-child_linear Total q x h = of_two HasEdge LeadsOn q true tt tt h
-child_linear HasEdge q x h = of_one True q tt h
-child_linear LeadsOn q x h = of_one Total q tt h
-child_linear True q x h = absurd h
-child_linear (Now i f sign) q x h = now_linear i f sign q x h
-child_linear (Later i f sign) q x h = of_one (Now i f sign) q x h
-child_linear (Rest i p f g sign) q x h = rest_linear i p f g sign q x h
-child_linear (Both i f g sign) q x h =
-    let parts = and_parts (is_linear f) (is_linear g) x in
-    of_two (Now (i + 3) f true) (Now (right_at (i + 3) f) g sign) q true parts.0 parts.1 h
-child_linear (Neither i f g sign) q x h =
-    let parts = and_parts (is_linear f) (is_linear g) x in
-    of_two (Now (i + 3) f false) (Now (right_at (i + 3) f) g (not sign)) q true parts.0 parts.1 h
+IsLinear p = Inherits Linear p
 
 pub reached_linear : (root p : Place) → IsLinear root → IsReached root p → IsLinear p
-reached_linear root p linear at_root = linear
-reached_linear root p linear (behind q _ reached child) = child_linear q p (reached_linear root q linear reached) child
+reached_linear root p has reached = reached_inherits Linear linear_inherited root p has reached

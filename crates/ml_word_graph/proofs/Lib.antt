@@ -19,3 +19,13 @@ pub mod Agreement
 pub mod Sizes
 -- what is satisfiable on words, and on paths
 pub mod Satisfiable
+-- drafts of nodes by new numbers
+pub mod ReachedDrafts
+-- where the nodes of all occurrences stand
+pub mod Laid
+-- the propositions of nodes
+pub mod NamedNodes
+-- what is made of a formula
+pub mod Made
+-- what is told of results
+pub mod OkResults

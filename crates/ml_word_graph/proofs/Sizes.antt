@@ -238,7 +238,7 @@ own_closed i (Paired k f g) sign p (inr (inr (inl same))) =
 own_closed i (Paired k f g) sign p (inr (inr (inr none))) = absurd none
 
 -- a node of the occurrence itself, or of its operands
-parts : (i : ℕ) (f : Formula) (rest : List Place) (p : Place) (P : Type 0) → IsMember p (both_signs i f rest)
+pub parts : (i : ℕ) (f : Formula) (rest : List Place) (p : Place) (P : Type 0) → IsMember p (both_signs i f rest)
     → ((sign : Bool) → IsMember p (own i f sign) → P)
     → (IsMember p rest → P)
     → P

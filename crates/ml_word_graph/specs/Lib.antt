@@ -4,3 +4,5 @@ pub mod Problem
 pub mod WordGraph
 -- that it agrees with the formula's meaning
 pub mod Laws
+-- what private contracts cite
+pub mod private

@@ -1,0 +1,48 @@
+// The names of a formula's graph: its propositions, each once, in the order of the text, and the action `_`.
+ghost use Rattle.std.specs.Prelude.{◌≡◌, [], ◌∷◌, codes, OnOk, IfOk};
+ghost use Rattle.ml_ctl.specs.Term.{formula_of};
+ghost use Rattle.ml_word_graph.specs.private.Layout as layout;
+
+use indexmap::IndexSet;
+use ml_base::{Action, Name, NoMemory};
+use ml_ctl::Term;
+use ml_nodes::{Names, add_action, add_proposition};
+use std::alloc::Global;
+
+// the propositions of a term, in the order of the text
+fn collect(term: &Term, props: &mut IndexSet<Name>) -> Result<(), NoMemory>
+    ensures { OnOk result (props.new.keys ≡ layout.props_onto (formula_of term.now) props.old.keys) }
+{
+    match term {
+        Term::Const(_) => Ok(()),
+        Term::Prop(name) => add_proposition(props, name),
+        Term::Not(operand) | Term::Temporal(_, operand) | Term::Quantified(_, operand) => {
+            collect(operand, props)
+        }
+        Term::Binary(_, left, right) | Term::Paired(_, left, right) => {
+            collect(left, props)?;
+            collect(right, props)
+        }
+    }
+}
+
+// the only action
+fn actions_of(alloc: Global) -> Result<IndexSet<Action>, NoMemory>
+    ensures { IfOk result (λ actions. actions.keys ≡ codes "_" ∷ []) }
+{
+    let blank = Action::blank(alloc)?;
+    let mut actions = IndexSet::new(alloc);
+    add_action(&mut actions, &blank)?;
+    Ok(actions)
+}
+
+// the names of a term's graph
+pub(crate) fn names_of(alloc: Global, term: &Term) -> Result<Names, NoMemory>
+    ensures props { IfOk result (λ names. names.props.keys ≡ layout.props_onto (formula_of term.now) []) }
+    ensures actions { IfOk result (λ names. names.actions.keys ≡ codes "_" ∷ []) }
+{
+    let mut props = IndexSet::new(alloc);
+    collect(term, &mut props)?;
+    let actions = actions_of(alloc)?;
+    Ok(Names { props, actions })
+}
