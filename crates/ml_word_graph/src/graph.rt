@@ -39,6 +39,9 @@ fn lists_of(alloc: Global, term: &Term, negated: bool) -> Result<Lists, NoMemory
 ///
 /// Cost: linear in the formula on average, since names and nodes are looked up by their hashes. Calls are nested at most
 /// twice as deep as the formula, which has at most 1,000 occurrences.
+///
+/// Source: Vardi and Wolper, An automata-theoretic approach to automatic program verification (1986), for places of
+/// subformulas.
 pub fn graph_of(alloc: Global, formula: &Formula, negated: bool) -> Result<ModalGraph, NoMemory>
     ensures graph { IfOk result (λ g. IsGraphOf g formula.now negated) }
     ensures agrees { IfOk result (λ g. HoldsWhere g (record { formula = formula.now; negated = negated })) }

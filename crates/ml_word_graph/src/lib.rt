@@ -4,8 +4,8 @@
 // and each subformula can have nodes of its own: the graph is linear in the formula, where that of `ml_blocks`, for paths
 // among many, has sets of formulas as nodes.
 //
-// Begin with `graph_of`. `specs/Problem.antt` says where a problem holds, `specs/WordGraph.antt` what the graph of a formula is, and the module `laws`
-// that they agree.
+// Begin with `graph_of`. `specs/Problem.antt` says where a problem holds, `specs/WordGraph.antt` what the graph of a formula
+// is, and the module `laws` that they agree.
 //
 // Below stand `ml_ltl`, for formulas and their meaning, and `ml_graph`, for graphs and the checking game.
 #![tactic(auto)]
