@@ -3,7 +3,7 @@
 --   holds_by_value  == the graph holds at a state exactly where the value of the root there is true
 --   problem_by_value == and so does the problem
 --   graphs_agree    == so graphs agree with formulas
-use Rattle.std.proofs.Common.{◌≡◌, ◌↔◌, ℕ, ◌<◌, Bool, true, false, not, refl, sym, subst, ⊎_elim, arith}
+use Rattle.std.proofs.Common.{◌≡◌, ◌↔◌, ℕ, ◌<◌, Bool, true, false, not, refl, ⊎_elim}
 use Rattle.std.proofs.lemmas.Bool.{cases_Bool, false≢true}
 use Rattle.ml_lists.specs.Lasso.{Lasso}
 use Rattle.ml_base.specs.Structure.{Structure}
@@ -22,7 +22,8 @@ use Rattle.ml_word_graph.specs.Problem.{HoldsAt, IsAdmitted, IsWordFrom}
 use Rattle.ml_word_graph.specs.WordGraph.{IsGraphOf, Place, Root, start_of}
 use Rattle.ml_word_graph.proofs.Values.{Says}
 use Rattle.ml_word_graph.proofs.Words.{a_word}
-use Rattle.ml_word_graph.proofs.StateValues.{says_value, value}
+use Rattle.ml_word_graph.proofs.StateValues.{value}
+use Rattle.ml_word_graph.proofs.Complement.{here_says}
 use Rattle.ml_word_graph.proofs.NodeValues.{node_value, signed}
 use Rattle.ml_word_graph.proofs.Moves.{good_pair, number_low, player_of}
 use Rattle.ml_word_graph.proofs.Cycles.{player_wins}
@@ -60,12 +61,7 @@ module _ (f : Formula) (negated : Bool) (g : Graph) (linear : is_linear f ≡ tr
   sense_says true false x = (λ none. refl, λ e p. false≢true (x.0 p))
 
   word_says : (l : Lasso) → IsWordFrom m s l → Says (in_sense negated (Satisfies m l f)) (node_value m ok root s)
-  word_says l w =
-      let path = w.is_path.is_path in
-      let starts = w.is_path.starts_at in
-      sense_says negated (value m ok f s)
-      (subst (λ t. Says (Satisfies m l f) (value m ok f t)) starts
-      (says_value m ok l path 0 (path.starts, omega (arith, path.starts)) (subst (λ t. t < m.states) (sym starts) low) f linear))
+  word_says l w = sense_says negated (value m ok f s) (here_says f linear m ok s low l w)
 
   pub agreement : Holds g m s ↔ HoldsAt m s (record { formula = f; negated = negated })
   agreement =

@@ -13,6 +13,8 @@ pub mod Moves
 pub mod Plays
 -- who wins a loop
 pub mod Cycles
+-- on words negation is complement
+pub mod Complement
 -- the agreement of game and meaning
 pub mod Agreement
 -- how many nodes a graph has

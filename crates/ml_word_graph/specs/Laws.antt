@@ -4,8 +4,9 @@
 --                     holds at the states at which the problem p does
 --   GraphsAgree    == of each formula of LTL, in its plain sense and negated: its graph holds where the problem does
 --   GraphsAreSmall == a graph has at most four nodes for each occurrence, and five more
+--   NegationIsComplement == a negated problem holds at a state exactly where the plain one doesn't
 --   AsSatisfiable  == a problem is satisfiable on words exactly where it is as a problem of LTL on paths among many
-use Rattle.std.specs.Prelude.{ℕ, ◌≡◌, ◌<◌, ◌≤◌, ◌+◌, ◌*◌, ◌↔◌, Bool, true}
+use Rattle.std.specs.Prelude.{ℕ, ◌≡◌, ◌<◌, ◌≤◌, ◌+◌, ◌*◌, ◌↔◌, Bool, true, false}
 use Rattle.ml_base.specs.Structure.{Structure}
 use Rattle.ml_graph.specs.CheckingGame.{Holds}
 use Rattle.ml_graph.specs.Graph.{Graph, size}
@@ -37,3 +38,14 @@ AsSatisfiable =
     → is_linear f ≡ true
     → IsSatisfiable (record { formula = f; negated = negated })
     ↔ ltl.IsSatisfiable (record { formula = f; negated = negated })
+
+abbrev pub NegationIsComplement : Type 0
+NegationIsComplement =
+    (f : Formula)
+    → is_linear f ≡ true
+    → (m : Structure)
+    → IsAdmitted m
+    → (s : ℕ)
+    → s < m.states
+    → HoldsAt m s (record { formula = f; negated = true })
+    ↔ ¬ (HoldsAt m s (record { formula = f; negated = false }))

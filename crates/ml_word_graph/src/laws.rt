@@ -1,5 +1,5 @@
 // Laws over the definitions alone: no caller runs these functions, their contracts are the theorems.
-ghost use Rattle.ml_word_graph.specs.Laws.{AsSatisfiable, GraphsAgree, GraphsAreSmall};
+ghost use Rattle.ml_word_graph.specs.Laws.{AsSatisfiable, GraphsAgree, GraphsAreSmall, NegationIsComplement};
 
 /// The checking game on the graph of a formula of LTL agrees with the formula's meaning on words: on every finite structure in
 /// which each state has exactly one edge by `_`, at every state, in the plain sense and negated.
@@ -22,4 +22,10 @@ pub fn graphs_are_small()
 /// Source: the places of a path that satisfies a formula make a word that does.
 pub fn satisfiable_alike()
     ensures { AsSatisfiable }
+{}
+
+/// A negated problem holds at a state exactly where the plain one doesn't: from each state goes one word, which satisfies the
+/// formula or doesn't.
+pub fn negation_is_complement()
+    ensures { NegationIsComplement }
 {}

@@ -1,0 +1,35 @@
+-- On words negation is complement.
+--
+--   here_says  == the value of the formula at the state tells whether a word from there satisfies it, whichever word
+--   complement == so a problem holds where the negated one doesn't, since from each state goes a word
+use Rattle.std.proofs.Common.{◌≡◌, ℕ, ◌<◌, Bool, true, subst, sym, arith}
+use Rattle.ml_lists.specs.Lasso.{Lasso}
+use Rattle.ml_base.specs.Structure.{Structure}
+use Rattle.ml_ctl.specs.Formula.{Formula, is_linear}
+use Rattle.ml_ctl.specs.Meaning.{Satisfies}
+use Rattle.ml_word_graph.specs.Laws.{NegationIsComplement}
+use Rattle.ml_word_graph.specs.Problem.{IsAdmitted, IsWordFrom}
+use Rattle.ml_word_graph.proofs.Values.{Says}
+use Rattle.ml_word_graph.proofs.Words.{a_word}
+use Rattle.ml_word_graph.proofs.StateValues.{says_value, value}
+
+pub here_says : (f : Formula)
+    → is_linear f ≡ true
+    → (m : Structure) (ok : IsAdmitted m) (s : ℕ)
+    → s < m.states
+    → (l : Lasso)
+    → IsWordFrom m s l
+    → Says (Satisfies m l f) (value m ok f s)
+here_says f linear m ok s low l w =
+    let path = w.is_path.is_path in
+    let starts = w.is_path.starts_at in
+    subst (λ t. Says (Satisfies m l f) (value m ok f t)) starts
+    (says_value m ok l path 0 (path.starts, omega (arith, path.starts)) (subst (λ t. t < m.states) (sym starts) low) f linear)
+
+pub complement : NegationIsComplement
+complement f linear m ok s low =
+    let says = here_says f linear m ok s low in
+    let w = a_word m ok s low in (
+      λ p q. p.2 ((says p.0 p.1).1 ((says q.0 q.1).0 q.2)),
+      λ none. (w.0, w.1, λ holds. none (w.0, w.1, holds)),
+    )
