@@ -24,8 +24,9 @@ pub fn satisfiable_alike()
     ensures { AsSatisfiable }
 {}
 
-/// A negated problem holds at a state exactly where the plain one doesn't: from each state goes one word, which satisfies the
-/// formula or doesn't.
+/// On words negation is complement: a negated problem holds at a state exactly where the plain one doesn't.
+///
+/// Does nothing when called.
 pub fn negation_is_complement()
     ensures { NegationIsComplement }
 {}
