@@ -215,7 +215,8 @@ module _ (K : Kept) (start : Place) where
       has_view : (v : Node) (f : Form)
           → HasFormIn xs v f
           → HasForm graph numbers v (form_view K.names K.formulas start f)
-      has_view v (form.Constant b) has = has
+      has_view v (form.Constant true) has = has
+      has_view v (form.Constant false) has = has
       has_view v (form.Literal p b) has = (p, has, refl)
       has_view v (form.Two true l r) has = (has.0, has.1, place_at xs has.0 l has.2, place_at xs has.1 r has.3, has.4)
       has_view v (form.Two false l r) has = (has.0, has.1, place_at xs has.0 l has.2, place_at xs has.1 r has.3, has.4)

@@ -34,10 +34,10 @@ use Rattle.ml_blocks.specs.Items.{row_of_tense, unless_put_off, until_released, 
 use Rattle.ml_blocks.specs.ItemSets.{due, eventualities, next_items, next_of, put_all, without}
 use Rattle.ml_blocks.specs.Places as place
 use Rattle.ml_blocks.specs.Places.{Block, Place, Form, block_of, edge_priority, first_open, focus_behind, form_of, form_of_block}
-use Rattle.ml_blocks.specs.Places.{form_of_edge, form_of_formula, form_of_item, is_put_off, path_of, priority_of, priority_of_block}
-use Rattle.ml_blocks.proofs.EdgesGoOn.{diamond_action}
+use Rattle.ml_blocks.specs.Places.{form_of_edge, form_of_formula, form_of_item, forms, is_put_off, path_of, priority_of, priority_of_block}
 use Rattle.ml_blocks.proofs.ItemSetMembers.{next_items-member, put_all-member, without-member}
 use Rattle.ml_blocks.proofs.LocalRuns.{some_open}
+use Rattle.ml_nodes.proofs.HeldClosures.{IsNamedForm, held}
 use Rattle.ml_nodes.proofs.HeldNames.{Every, Fits, IsHeld, every_cons, proposition_name}
 
 -- ---- formulas
@@ -315,23 +315,6 @@ reached_named root _ named (behind q p reached child) =
 
 -- ---- the graph
 
-module _ (g : Graph) (places : List Place) (v : Node) where
-  literal_named : (f : Form) (p : ℕ) (sign : Bool)
-      → NamedForm f
-      → HasForm g places v f
-      → v ≡ node.Lit p sign
-      → IsName (prop_at g p)
-  literal_named (place.Constant true) p sign named h is = absurd (cc)
-  literal_named (place.Constant false) p sign named h is = absurd (cc)
-  literal_named (place.Literal name positive) p sign named h is =
-      let one = sym h.1 ∙ is in
-      let same : h.0 ≡ p = cc in
-      subst (λ q. IsName (prop_at g q)) same (subst IsName (sym h.2) named)
-  literal_named (place.And q r) p sign named h is = let wrong = sym h.4 ∙ is in absurd (cc)
-  literal_named (place.Or q r) p sign named h is = let wrong = sym h.4 ∙ is in absurd (cc)
-  literal_named (place.Diamond q) p sign named h is = let wrong = sym h.3 ∙ is in absurd (cc)
-  literal_named (place.Square q) p sign named h is = let wrong = sym h.3 ∙ is in absurd (cc)
-
 low_edge : (es : List ℕ) (k : ℕ) (xs : List Item) → edge_priority es k xs ≤ 1
 low_edge [] k xs = omega arith
 low_edge (e ∷ es) k xs = by_test (is_put_off (e ∷ es) k xs)
@@ -360,42 +343,16 @@ low_priority (place.Path b) = by_sign b.positive
     by_sign true = omega (arith, low_block b (first_open b.items))
     by_sign false = omega (arith, low_block b (first_open b.items))
 
-module _ (start : Place) (g : Graph) (is : IsGraphAt g start) where
-  abbrev places : List Place
-  places = is.is_numbered.0
+literal_named : (f : Form) → NamedForm f → IsNamedForm f
+literal_named (place.Literal name positive) named = named
+literal_named (place.Constant b) named = tt
+literal_named (place.And l r) named = tt
+literal_named (place.Or l r) named = tt
+literal_named (place.Diamond p) named = tt
+literal_named (place.Square p) named = tt
 
-  abbrev numbered : IsNumberedBy g (place.Root start) places
-  numbered = is.is_numbered.1
-
-  abbrev at : ℕ → Place
-  at n = get_or places n place.True
-
-  within : (n : ℕ) → n < size g → n < length places
-  within n low = omega (arith, low, numbered.one_each)
-
-  stands_at : (n : ℕ) → n < size g → slice_get places n ≡ Some (at n)
-  stands_at n low = slice_get-get_or places n place.True (within n low)
-
-  form_at : (n : ℕ) → n < size g → HasForm g places (node_at g n) (form_of (at n))
-  form_at n low = numbered.has_forms n (at n) (stands_at n low)
-
-  named_at : NamedPlace start → (n : ℕ) → n < size g → NamedForm (form_of (at n))
-  named_at named n low =
-      let inside = place-member places n place.True (within n low) in
-      form_named (at n)
-      (reached_named (place.Root start) (at n) named ((numbered.is_closure.are_reached (at n)).0 inside))
-
-  low_at : (x : ℕ) → IsMember x g.priorities → Fits x
-  low_at x m =
-      let f = member-place x g.priorities m in
-      let low : f.place < size g = omega (arith, f.below, is.is_graph.priorities) in
-      omega
-      (arith, f.holds 0, numbered.has_priorities f.place (at f.place) (stands_at f.place low), low_priority (at f.place))
-
-  pub blocks_held : NamedPlace start → IsHeld g
-  blocks_held named = record {
-    literals = λ n p positive low lit.
-        literal_named g places (node_at g n) (form_of (at n)) p positive (named_at named n low) (form_at n low) lit;
-    diamonds = λ n a to low diamond. subst IsAction (sym (diamond_action start g is n a to low diamond)) refl;
-    priorities = low_at;
-  }
+pub blocks_held : (start : Place) (g : Graph) → IsGraphAt g start → NamedPlace start → IsHeld g
+blocks_held start g is named =
+    held forms (place.Root start) g is
+    (λ p reached. literal_named (form_of p) (form_named p (reached_named (place.Root start) p named reached)))
+    (λ p. omega (arith, low_priority p))

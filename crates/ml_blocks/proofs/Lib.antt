@@ -42,18 +42,10 @@ pub mod BlocksTold
 pub mod Agreement
 -- a graph worked out by hand
 mod WorkedGraph
--- lists in which numbers come up in their order
-pub mod FirstOccurrences
--- one numbering at most
-pub mod OneNumbering
 -- nodes are equal or not
 pub mod PlaceEquality
--- the graph of a list of nodes
-pub mod GraphOfPlaces
--- some graph, or more nodes
-pub mod SomeGraph
--- how large a graph is
-pub mod OneSize
+-- graphs of closures
+pub mod ClosureGraphs
 -- edges go on where a graph holds
 pub mod EdgesGoOn
 -- what is kept of occurrences

@@ -1,29 +1,14 @@
 -- The equality of nodes, as values, is decided: a node is its parts.
 --
---   same_formula         == of formulas
 --   Parts                == how many roots stand before a node, which kind it is of, and what it holds
 --   parts_of, place_from == the parts of a node, and the node of these parts
 --   same_place           == of nodes
---   place_eq, place_eq-tells == the test that tells it
 use Rattle.std.proofs.Common.{ℕ, zero, suc, ◌≡◌, ◌==◌, inl, inr, Bool, true, false, if◌then◌else◌, List, [], ◌∷◌, get_or, refl, sym, ap, ◌∙◌}
-use Rattle.std.specs.Bool.{Decides}
-use Rattle.ml_lists.proofs.Decided.{Decided, decided_same, decided_both, decided_number, decided_bytes, decided_list}
+use Rattle.ml_lists.proofs.Decided.{Decided, decided_same, decided_both, decided_number, decided_list}
 use Rattle.ml_ctl.specs.Formula.{Formula, Const}
-use Rattle.ml_text.specs.private.Codes.{Symbol}
-use Rattle.ml_ctl.specs.private.FormulaCode.{symbols_of, formula_from, formula_from-symbols_of}
+use Rattle.ml_ctl.proofs.FormulaEquality.{same_formula}
 use Rattle.ml_blocks.specs.Items.{Item}
 use Rattle.ml_blocks.specs.Places.{Place, Root, Total, HasEdge, LeadsOn, True, False, Holding, Both, Neither, Path}
-
-same_symbol : (s t : Symbol) → Decided (s ≡ t)
-same_symbol s t =
-    decided_same (λ (both : (s.0 ≡ t.0) × (s.1 ≡ t.1)) i. (both.0 i, both.1 i))
-    (λ e. (ap (λ (x : Symbol). x.0) e, ap (λ (x : Symbol). x.1) e))
-    (decided_both (decided_number s.0 t.0) (decided_bytes s.1 t.1))
-
-pub same_formula : (f g : Formula) → Decided (f ≡ g)
-same_formula f g =
-    decided_same (λ e. sym (formula_from-symbols_of f) ∙ ap formula_from e ∙ formula_from-symbols_of g) (ap symbols_of)
-    (decided_list same_symbol (symbols_of f) (symbols_of g))
 
 same_truth : (a b : Bool) → Decided (a ≡ b)
 same_truth true true = inl refl
@@ -170,21 +155,3 @@ pub same_place : (p q : Place) → Decided (p ≡ q)
 same_place p q =
     decided_same (λ e. sym (place_from-parts_of p) ∙ ap place_from e ∙ place_from-parts_of q) (ap parts_of)
     (same_parts (parts_of p) (parts_of q))
-
--- ---- a test
-
-is_so : {P : Type 0} → Decided P → Bool
-is_so (inl p) = true
-is_so (inr none) = false
-
-is_so-decides : {P : Type 0} (d : Decided P) → Decides (is_so d) P
-unfolding is_so
-is_so-decides (inl p) = ((λ e. p), (λ h. refl))
-is_so-decides (inr none) = ((λ e. absurd (cc)), (λ h. absurd (none h)))
-
-pub place_eq : Place → Place → Bool
-place_eq p q = is_so (same_place p q)
-
-pub place_eq-tells : (p q : Place) → Decides (place_eq p q) (p ≡ q)
-unfolding place_eq
-place_eq-tells p q = is_so-decides (same_place p q)

@@ -18,9 +18,12 @@
 --   path_of b xs k    == the node of the block b with the items xs and the focus k instead
 --   form_of p         == what the node p is
 --   priority_of p     == its priority
+--   forms             == both
 use Rattle.std.specs.Prelude.{ℕ, ◌+◌, ◌%◌, ◌==◌, ◌&&◌, Bool, true, false, not, if◌then◌else◌, List, [], ◌∷◌, find, length, get_or, Option, None, Some}
 use Rattle.std.specs.Bool.{beq}
 use Rattle.std.specs.List.{list_any}
+use Rattle.ml_nodes.specs.ClosureGraph as closure
+pub use Rattle.ml_nodes.specs.ClosureGraph.{Constant, Literal, And, Or, Diamond, Square}
 use Rattle.ml_text.specs.declared.token.Operator.{Operator}
 use Rattle.ml_text.specs.declared.token.Operator.TheVariants as operator
 use Rattle.ml_ctl.specs.Formula.{Formula, Const, Prop, Not, Binary, Temporal, Paired, Quantified, occurrences}
@@ -48,12 +51,9 @@ pub data Place : Type 0 where
   Both Neither : (number : ℕ) → (left right : Formula) → (positive : Bool) → Place
   Path : Block → Place
 
-pub data Form : Type 0 where
-  Constant : Bool → Form
-  Literal : (name : List ℕ) → (positive : Bool) → Form
-  And Or : (left right : Place) → Form
-  -- along some edge by the action `_`, and along each
-  Diamond Square : Place → Form
+-- what a node is, and to which nodes it leads
+abbrev pub Form : Type 0
+Form = closure.Form Place
 
 abbrev pub leads_to : Place → Form
 leads_to p = And p p
@@ -169,3 +169,6 @@ abbrev pub priority_of : Place → ℕ
 priority_of Total = 0
 priority_of (Path b) = priority_of_block b (first_open b.items) + (if b.positive then 0 else 1)
 priority_of _ = 2
+
+abbrev pub forms : closure.Forms Place
+forms = record { form_of = form_of; priority_of = priority_of }

@@ -34,3 +34,5 @@ pub mod CanonicalLimits
 pub mod CanonicalParsed
 -- paths of total structures
 pub mod TotalPaths
+-- formulas are equal or not
+pub mod FormulaEquality

@@ -62,6 +62,7 @@ admitted g p m start is extracted =
             is_diamond = d.is_diamond;
             action_is = d.action_is;
           };
+      only_edge = extracted.only_edge;
       reached = λ P first goes_on t low. along_edges m start P first goes_on t (extracted.reached t low);
     })
 

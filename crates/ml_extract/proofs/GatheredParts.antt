@@ -110,7 +110,7 @@ state_of_first [] i v is = cc
 state_of_first (x ∷ xs) zero v is = (x, refl, let e : x.first ≡ v = cc in e)
 state_of_first (x ∷ xs) (suc i) v is = state_of_first xs i v is
 
-first_of_state : (xs : List State) (i : ℕ) (x : State) → slice_get xs i ≡ Some x
+pub first_of_state : (xs : List State) (i : ℕ) (x : State) → slice_get xs i ≡ Some x
     → slice_get (map (λ (y : State). y.first) xs) i ≡ Some x.first
 first_of_state [] i x is = cc
 first_of_state (y ∷ xs) zero x is = let e : y ≡ x = cc in ap (λ (z : State). Some z.first) e

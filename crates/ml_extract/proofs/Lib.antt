@@ -34,5 +34,7 @@ pub mod GatheredParts
 pub mod StateParts
 -- where Even wins, there is a model
 pub mod SomeModel
+-- one diamond makes one edge a state
+pub mod OnlyEdge
 -- lists put in order
 pub mod SortedLists

@@ -58,6 +58,7 @@ use Rattle.ml_extract.specs.Extraction.{Extracted, ModelsHold}
 use Rattle.ml_extract.proofs.Board.{won_at_first}
 use Rattle.ml_extract.proofs.Setting.{Setting, board, even_moves, WonByMoves, EvenWalk}
 use Rattle.ml_extract.proofs.Numbering.{FirstState, first_state, state_low, is_structure, reached_from_start, has_diamond}
+use Rattle.ml_extract.proofs.OnlyEdge.{only_edge}
 use Rattle.ml_extract.proofs.AtNodes.{Rival, pair, OddWalk, OddWins, AtState}
 use Rattle.ml_extract.proofs.LeavingStates.{odd_side}
 use Rattle.ml_extract.proofs.CrossedEdges.{facts_at, Entered, Step, step}
@@ -406,6 +407,7 @@ module _ (S : Setting) where
     holds = subst (Holds S.g S.m) (sym S.model.starts) holds_at_start;
     reached = reached_from_start S;
     along_diamonds = has_diamond S;
+    only_edge = only_edge S.g S.a S.s S.m S.start S.model;
   }
 
 -- where Even wins the decision game, the model of Even's moves is a structure at whose start the graph holds

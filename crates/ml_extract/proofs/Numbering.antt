@@ -76,7 +76,7 @@ diamond_of (node.Diamond a to) is = (a, (to, refl))
 diamond_of (node.Square a to) is = absurd (cc)
 
 -- the first parts of pairs
-zip_first : (ds vs : List ℕ) (d v : ℕ) → IsMember (d, v) (zip ds vs) → IsMember d ds
+pub zip_first : (ds vs : List ℕ) (d v : ℕ) → IsMember (d, v) (zip ds vs) → IsMember d ds
 zip_first [] vs d v m = absurd m
 zip_first (e ∷ ds) [] d v m = absurd m
 zip_first (e ∷ ds) (w ∷ vs) d v (inl same) = inl (ap (λ (x : ℕ × ℕ). x.0) same)

@@ -3,8 +3,9 @@
 --   EvenWins g a s      == a is the arena of the graph g, s a solution of its game, and Even wins vertex 0
 --   IsReachedFrom m s t == edges of m lead from the state s to the state t
 --   HasDiamond g e      == the edge has the action of a diamond of g
---   Extracted g m s     == m is a structure with the state s, the graph holds there, every state is reached from s, and
---                          every edge has the action of a diamond
+--   Extracted g m s     == m is a structure with the state s, the graph holds there, every state is reached from s, every
+--                          edge has the action of a diamond, and where the graph has one diamond at most, edges from one
+--                          state are one
 --   ModelsHold          == where Even wins, the model is such a structure with its start
 --   IsMet a s v         == v is a vertex of a play from vertex 0 that follows Even's moves
 --   StatesAreMet        == where Even wins, the states of the model begin exactly at the positions that are met and at
@@ -22,6 +23,7 @@ use Rattle.ml_parity.specs.Winner.{Wins}
 use Rattle.ml_graph.specs.declared.node.Node.TheVariants as node
 use Rattle.ml_graph.specs.Graph.{Graph, IsGraph, node_at, action_at, size}
 use Rattle.ml_graph.specs.CheckingGame.{Holds}
+use Rattle.ml_graph.specs.Diamonds.{HasOneDiamond}
 use Rattle.ml_product.specs.Position.{Position}
 use Rattle.ml_product.specs.Arena.{Arena, IsArenaOf, game_of}
 use Rattle.ml_extract.specs.Model.{PositionAt, IsModelOf}
@@ -50,6 +52,7 @@ pub record Extracted (g : Graph) (m : Structure) (start : ℕ) : Type 0 where
   pub holds : Holds g m start
   pub reached : (t : ℕ) → t < m.states → IsReachedFrom m start t
   pub along_diamonds : (e : Edge) → IsMember e m.edges → HasDiamond g e
+  pub only_edge : HasOneDiamond g → (e f : Edge) → IsMember e m.edges → IsMember f m.edges → e.source ≡ f.source → e.target ≡ f.target
 
 abbrev pub ModelsHold : Type 0
 ModelsHold =

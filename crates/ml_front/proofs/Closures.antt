@@ -10,8 +10,7 @@ use Rattle.ml_graph.specs.Graph.{Graph, size}
 use Rattle.ml_blocks.specs.BlockGraph.{IsGraphAt}
 use Rattle.ml_blocks.specs.Closures.{HasMoreThan}
 use Rattle.ml_blocks.specs.Places.{Place, Root}
-use Rattle.ml_blocks.proofs.OneSize.{one_size}
-use Rattle.ml_blocks.proofs.SomeGraph.{some_graph}
+use Rattle.ml_blocks.proofs.ClosureGraphs.{one_size, some_graph}
 
 pub size_at_most : (start : Place) (g : Graph) (n : ℕ) → IsGraphAt g start → ¬ (HasMoreThan (Root start) n) → size g ≤ n
 size_at_most start g n is none =

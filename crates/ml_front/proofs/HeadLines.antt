@@ -70,12 +70,14 @@ logic_words logic.Mu = line_read (codes "logic") (codes "mu" ∷ []) (refl, (ref
 logic_words logic.Pdl = line_read (codes "logic") (codes "pdl" ∷ []) (refl, (refl, tt))
 logic_words logic.Ctl = line_read (codes "logic") (codes "ctl" ∷ []) (refl, (refl, tt))
 logic_words logic.Ltl = line_read (codes "logic") (codes "ltl" ∷ []) (refl, (refl, tt))
+logic_words logic.Word = line_read (codes "logic") (codes "word" ∷ []) (refl, (refl, tt))
 
 logic_in_line : (l : Logic) → IsInLine (bytes_of (logic_line l))
 logic_in_line logic.Mu = refl
 logic_in_line logic.Pdl = refl
 logic_in_line logic.Ctl = refl
 logic_in_line logic.Ltl = refl
+logic_in_line logic.Word = refl
 
 sense_words : (negated : Bool) → words_of (bytes_of (sense_line negated)) ≡ sense_line negated
 sense_words false = line_read (codes "sense") (codes "plain" ∷ []) (refl, (refl, tt))

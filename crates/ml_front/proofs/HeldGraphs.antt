@@ -8,7 +8,7 @@ use Rattle.ml_graph.specs.Graph.{Graph}
 use Rattle.ml_front.specs.Graphs.{HasLargeClosureAs, IsGraphAs}
 use Rattle.ml_front.specs.Logics.{IsWellFormed}
 use Rattle.ml_front.specs.declared.problem.AnyFormula.{AnyFormula}
-use Rattle.ml_front.specs.declared.problem.AnyFormula.TheVariants.{Mu, Pdl, Ctl, Ltl}
+use Rattle.ml_front.specs.declared.problem.AnyFormula.TheVariants.{Mu, Pdl, Ctl, Ltl, Word}
 use Rattle.ml_front.specs.declared.problem.TheConstants.{MOST_NODES}
 use Rattle.ml_front.proofs.SomeGraph.{some_graph}
 use Rattle.ml_blocks.specs.BlockGraph.{linear_start_of, start_of}
@@ -17,6 +17,8 @@ use Rattle.ml_blocks.proofs.HeldGraphs.{blocks_held, names_of, start_named}
 use Rattle.ml_nodes.proofs.HeldNames as names
 use Rattle.ml_mu_graph.proofs.HeldGraph.{mu_held}
 use Rattle.ml_pdl_graph.proofs.HeldGraph.{pdl_held}
+use Rattle.ml_word_graph.proofs.ClosureGraphs as word_graphs
+use Rattle.ml_word_graph.proofs.HeldGraph.{props_named, word_held}
 
 -- the names and priorities of a graph are such as a program holds
 abbrev pub IsHeld : Graph → Type 0
@@ -55,3 +57,11 @@ held_graph (Ltl f) negated well =
     from_graph (Ltl f) negated
     (λ g is. blocks_held (linear_start_of f negated) g is (start_named (now 0 f (not negated)) true named))
     (some_graph MOST_NODES negated (Ltl f))
+held_graph (Word f) negated well =
+    let made = word_graphs.some_graph f negated in
+    inl (record {
+      graph = made.0;
+      is_graph = made.1;
+      is_held = word_held f negated made.0 made.1 (props_named f well.names_are_spelled well.names_are_short);
+      fits = λ large. large;
+    })

@@ -19,11 +19,13 @@ pub mod ReadBack
 pub mod AlikeGraphs
 pub mod MuAlike
 pub mod PdlAlike
-pub mod BlocksAlike
+pub mod ClosuresAlike
 -- graphs of problems of LTL
 pub mod LinearGraphs
 -- each state has an edge, or some is the first deadlock
 pub mod Deadlocks
+-- each state has exactly one, or some is the first fork
+pub mod Forks
 -- how many nodes the graph of a closure has
 pub mod Closures
 -- what each logic proves of its graphs, said of all

@@ -1,7 +1,7 @@
--- The graph of a problem of LTL holds where the problem does.
+-- The graph of a problem of LTL, or of LTL on words, holds where the problem does.
 --
 --   HoldsAs g b f   == on each admitted structure g holds at the states at which the formula f does, in the sense b
---   linear_agrees   == so it is of what is made of a formula of LTL
+--   linear_agrees, word_agrees == so it is of what is made of a formula of LTL, and on words
 use Rattle.std.proofs.Common.{◌≡◌, ◌<◌, ◌↔◌, ℕ, Bool, Result, Ok, Err, IfOk, sym, subst}
 use Rattle.ml_base.specs.Structure.{Structure}
 use Rattle.ml_blocks.specs.Agreement as blocks
@@ -9,12 +9,13 @@ use Rattle.ml_ctl.specs.Formula.{Formula}
 use Rattle.ml_graph.specs.CheckingGame.{Holds}
 use Rattle.ml_graph.specs.Graph.{Graph}
 use Rattle.ml_ltl.specs.Problem as ltl
+use Rattle.ml_word_graph.specs.Laws as word
 use Rattle.ml_front.specs.Graphs.{HoldsWhere}
 use Rattle.ml_front.specs.Logics.{logic_of}
 use Rattle.ml_front.specs.Problems as problems
 use Rattle.ml_front.specs.Problems.{IsAdmitted}
 use Rattle.ml_front.specs.declared.problem.AnyFormula.{AnyFormula}
-use Rattle.ml_front.specs.declared.problem.AnyFormula.TheVariants.{Ltl}
+use Rattle.ml_front.specs.declared.problem.AnyFormula.TheVariants.{Ltl, Word}
 use Rattle.ml_front.specs.declared.problem.Problem.{Problem}
 
 abbrev HoldsAs : Graph → Bool → AnyFormula → Type 0
@@ -27,3 +28,10 @@ pub linear_agrees : {E : Type 0} (p : Problem) (f : Formula) (r : Result Graph E
     → IfOk r (λ g. HoldsWhere g p)
 linear_agrees p f (Ok g) is agrees = subst (HoldsAs g p.negated) (sym is) agrees
 linear_agrees p f (Err e) is agrees = tt
+
+pub word_agrees : {E : Type 0} (p : Problem) (f : Formula) (r : Result Graph E)
+    → p.formula ≡ Word f
+    → IfOk r (λ g. word.HoldsWhere g (record { formula = f; negated = p.negated }))
+    → IfOk r (λ g. HoldsWhere g p)
+word_agrees p f (Ok g) is agrees = subst (HoldsAs g p.negated) (sym is) agrees
+word_agrees p f (Err e) is agrees = tt

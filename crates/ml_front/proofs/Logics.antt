@@ -35,7 +35,7 @@ use Rattle.ml_front.specs.Logics.{canonical_text, logic_of, logic_word, some_log
 use Rattle.ml_front.specs.declared.logic.Logic.{Logic}
 use Rattle.ml_front.specs.declared.logic.Logic.TheVariants as logic
 use Rattle.ml_front.specs.declared.problem.AnyFormula.{AnyFormula}
-use Rattle.ml_front.specs.declared.problem.AnyFormula.TheVariants.{Mu, Pdl, Ctl, Ltl}
+use Rattle.ml_front.specs.declared.problem.AnyFormula.TheVariants.{Mu, Pdl, Ctl, Ltl, Word}
 use Rattle.ml_front.proofs.MuLines as mu_lines
 use Rattle.ml_front.proofs.CtlLines as ctl_lines
 use Rattle.ml_front.proofs.PdlLines as pdl_lines
@@ -47,18 +47,21 @@ PlainOf logic.Mu = mu_formula.Formula
 PlainOf logic.Pdl = pdl_formula.Formula
 PlainOf logic.Ctl = ctl_formula.Formula
 PlainOf logic.Ltl = ctl_formula.Formula
+PlainOf logic.Word = ctl_formula.Formula
 
 abbrev any : (l : Logic) → PlainOf l → AnyFormula
 any logic.Mu e = Mu e
 any logic.Pdl e = Pdl e
 any logic.Ctl e = Ctl e
 any logic.Ltl e = Ltl e
+any logic.Word e = Word e
 
 logic_of_any : (l : Logic) (e : PlainOf l) → logic_of (any l e) ≡ l
 logic_of_any logic.Mu e = refl
 logic_of_any logic.Pdl e = refl
 logic_of_any logic.Ctl e = refl
 logic_of_any logic.Ltl e = refl
+logic_of_any logic.Word e = refl
 
 abbrev IsAny : AnyFormula → Logic → Type 0
 IsAny f l = (e : PlainOf l) × (f ≡ any l e)
@@ -68,6 +71,7 @@ is_any (Mu e) = (e, refl)
 is_any (Pdl e) = (e, refl)
 is_any (Ctl e) = (e, refl)
 is_any (Ltl e) = (e, refl)
+is_any (Word e) = (e, refl)
 
 of_logic : (l : Logic) (f : AnyFormula) → logic_of f ≡ l → IsAny f l
 of_logic l f same = subst (IsAny f) same (is_any f)
@@ -79,6 +83,7 @@ logic_read logic.Mu = refl
 logic_read logic.Pdl = refl
 logic_read logic.Ctl = refl
 logic_read logic.Ltl = refl
+logic_read logic.Word = refl
 
 pub one_logic : (l k : Logic) → logic_word l ≡ logic_word k → l ≡ k
 one_logic l k same = sym (logic_read l) ∙ ap some_logic same ∙ logic_read k
@@ -90,6 +95,7 @@ answers logic.Mu = mu_answer.one_answer
 answers logic.Pdl = pdl_answer.one_answer
 answers logic.Ctl = ctl_answer.one_answer language.Ctl
 answers logic.Ltl = ctl_answer.one_answer language.Ltl
+answers logic.Word = ctl_answer.one_answer language.Ltl
 
 pub formula_once : (text : List ℕ) (f g : AnyFormula)
     → logic_of f ≡ logic_of g
@@ -138,15 +144,18 @@ text_in_line (Mu f) well = mu_lines.canonical_in_line f well.names_are_spelled
 text_in_line (Pdl f) well = pdl_lines.canonical_in_line f well.names_are_spelled
 text_in_line (Ctl f) well = ctl_lines.canonical_in_line f well.names_are_spelled
 text_in_line (Ltl f) well = ctl_lines.canonical_in_line f well.names_are_spelled
+text_in_line (Word f) well = ctl_lines.canonical_in_line f well.names_are_spelled
 
 pub text_parsed : (f : AnyFormula) → IsWellFormed f → IsParsedAs (canonical_text f) f
 text_parsed (Mu f) well = mu_canonical.canonical_parsed f well
 text_parsed (Pdl f) well = pdl_canonical.canonical_parsed f well
 text_parsed (Ctl f) well = ctl_canonical.canonical_parsed language.Ctl f well
 text_parsed (Ltl f) well = ctl_canonical.canonical_parsed language.Ltl f well
+text_parsed (Word f) well = ctl_canonical.canonical_parsed language.Ltl f well
 
 pub parsed_well : (text : List ℕ) (f : AnyFormula) → IsParsedAs text f → IsWellFormed f
 parsed_well text (Mu f) parsed = mu_parsed.parsed_well text f parsed
 parsed_well text (Pdl f) parsed = pdl_parsed.parsed_well text f parsed
 parsed_well text (Ctl f) parsed = ctl_parsed.parsed_well language.Ctl text f parsed
 parsed_well text (Ltl f) parsed = ctl_parsed.parsed_well language.Ltl text f parsed
+parsed_well text (Word f) parsed = ctl_parsed.parsed_well language.Ltl text f parsed

@@ -1,6 +1,7 @@
 -- Formulas of all logics, and their texts.
 --
--- What is said of a formula is said by its logic; a further logic adds its line to each of these.
+-- What is said of a formula is said by its logic; a further logic adds its line to each of these. The logic `word` is LTL read
+-- on single words, so its texts are those of LTL.
 --
 --   logic_of f           == the logic of the formula f
 --   logic_word l         == its word
@@ -27,26 +28,29 @@ use Rattle.ml_pdl.specs.WellFormed as pdl_formulas
 use Rattle.ml_front.specs.declared.logic.Logic.{Logic}
 use Rattle.ml_front.specs.declared.logic.Logic.TheVariants as logic
 use Rattle.ml_front.specs.declared.problem.AnyFormula.{AnyFormula}
-use Rattle.ml_front.specs.declared.problem.AnyFormula.TheVariants.{Mu, Pdl, Ctl, Ltl}
+use Rattle.ml_front.specs.declared.problem.AnyFormula.TheVariants.{Mu, Pdl, Ctl, Ltl, Word}
 
 abbrev pub logic_of : AnyFormula → Logic
 logic_of (Mu f) = logic.Mu
 logic_of (Pdl f) = logic.Pdl
 logic_of (Ctl f) = logic.Ctl
 logic_of (Ltl f) = logic.Ltl
+logic_of (Word f) = logic.Word
 
 abbrev pub logic_word : Logic → Word
 logic_word logic.Mu = codes "mu"
 logic_word logic.Pdl = codes "pdl"
 logic_word logic.Ctl = codes "ctl"
 logic_word logic.Ltl = codes "ltl"
+logic_word logic.Word = codes "word"
 
 abbrev pub logic_named : Word → Option Logic
 logic_named word =
     if bytes_eq word (logic_word logic.Mu) then Some logic.Mu
     else (if bytes_eq word (logic_word logic.Pdl) then Some logic.Pdl
     else (if bytes_eq word (logic_word logic.Ctl) then Some logic.Ctl
-    else (if bytes_eq word (logic_word logic.Ltl) then Some logic.Ltl else None)))
+    else (if bytes_eq word (logic_word logic.Ltl) then Some logic.Ltl
+    else (if bytes_eq word (logic_word logic.Word) then Some logic.Word else None))))
 
 abbrev pub some_logic : Word → Logic
 some_logic word = unwrap_or (logic_named word) logic.Mu
@@ -56,21 +60,25 @@ IsParsedAs text (Mu f) = mu_parsing.IsParsedAs text f
 IsParsedAs text (Pdl f) = pdl_parsing.IsParsedAs text f
 IsParsedAs text (Ctl f) = ctl_parsing.IsParsedAs language.Ctl text f
 IsParsedAs text (Ltl f) = ctl_parsing.IsParsedAs language.Ltl text f
+IsParsedAs text (Word f) = ctl_parsing.IsParsedAs language.Ltl text f
 
 abbrev pub IsRefusedBy : Logic → List ℕ → ParseRefusal → Type 0
 IsRefusedBy logic.Mu text e = mu_parsing.IsRefusedBy text e
 IsRefusedBy logic.Pdl text e = pdl_parsing.IsRefusedBy text e
 IsRefusedBy logic.Ctl text e = ctl_parsing.IsRefusedBy language.Ctl text e
 IsRefusedBy logic.Ltl text e = ctl_parsing.IsRefusedBy language.Ltl text e
+IsRefusedBy logic.Word text e = ctl_parsing.IsRefusedBy language.Ltl text e
 
 abbrev pub canonical_text : AnyFormula → List ℕ
 canonical_text (Mu f) = mu_canonical.canonical_text f
 canonical_text (Pdl f) = pdl_canonical.canonical_text f
 canonical_text (Ctl f) = ctl_canonical.canonical_text f
 canonical_text (Ltl f) = ctl_canonical.canonical_text f
+canonical_text (Word f) = ctl_canonical.canonical_text f
 
 abbrev pub IsWellFormed : AnyFormula → Type 0
 IsWellFormed (Mu f) = mu_formulas.IsWellFormed f
 IsWellFormed (Pdl f) = pdl_formulas.IsWellFormed f
 IsWellFormed (Ctl f) = ctl_formulas.IsWellFormed language.Ctl f
 IsWellFormed (Ltl f) = ctl_formulas.IsWellFormed language.Ltl f
+IsWellFormed (Word f) = ctl_formulas.IsWellFormed language.Ltl f

@@ -7,7 +7,7 @@ ghost use Rattle.ml_front.specs.declared.problem.TheConstants.{MOST_NODES};
 
 /// The graph of a problem holds where the problem does: on every structure of which the formula's logic speaks, of any
 /// number of states, at every state. The formula has to mean something by its logic: in the mu-calculus its variables have to
-/// be bound and positive, and a formula of CTL* has to be a state formula.
+/// be bound and positive, a formula of CTL* has to be a state formula, and one of LTL on words has no quantifier.
 pub fn agrees()
     ensures { GraphsAgree }
 {}

@@ -8,14 +8,15 @@
 // wanted, in either version, and tells the first bad line where there is none; `write_head` writes it. What a head is,
 // and by which rules it is refused, stands in `specs/HeadRules.antt`.
 //
-// The logics are the mu-calculus, PDL, CTL* and LTL. CTL* and LTL speak of the structures in which each state has an edge by
-// `_`; and the closure of a problem of theirs, from which its graph is made, may be too large: `graph` says so.
+// The logics are the mu-calculus, PDL, CTL*, LTL, and LTL on single words. CTL* and LTL speak of the structures in which each
+// state has an edge by `_`, and LTL on words of those in which each has exactly one. The closure of a problem of CTL* and LTL,
+// from which its graph is made, may be too large: `graph` says so.
 //
 // `laws` says that the graph of a problem holds where the problem does, and that each text is a head or is refused at
 // one line.
 //
 // Below stand the formulas of the logics (`ml_mu`, `ml_pdl`, `ml_ctl`, `ml_ltl`) and their graphs (`ml_mu_graph`,
-// `ml_pdl_graph`, `ml_blocks`), `ml_graph` (graphs), `ml_lines` (lines and words) and `ml_lists` (documents as places and
+// `ml_pdl_graph`, `ml_blocks`, `ml_word_graph`), `ml_graph` (graphs), `ml_lines` (lines and words) and `ml_lists` (documents as places and
 // rules); above stand the crates that decide problems, and those that check and write documents.
 #![tactic(auto)]
 

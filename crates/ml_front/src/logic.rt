@@ -11,8 +11,10 @@ pub enum Logic {
     Pdl,
     /// CTL*.
     Ctl,
-    /// LTL.
+    /// LTL: some path, or none, among many.
     Ltl,
+    /// LTL, read on single words.
+    Word,
 }
 
 impl Logic {
@@ -25,6 +27,7 @@ impl Logic {
             Logic::Pdl => b"pdl",
             Logic::Ctl => b"ctl",
             Logic::Ltl => b"ltl",
+            Logic::Word => b"word",
         }
     }
 
@@ -41,6 +44,8 @@ impl Logic {
             Some(Logic::Ctl)
         } else if word == Logic::Ltl.word() {
             Some(Logic::Ltl)
+        } else if word == Logic::Word.word() {
+            Some(Logic::Word)
         } else {
             None
         }

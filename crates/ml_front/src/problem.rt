@@ -15,10 +15,11 @@ pub enum AnyFormula {
     Pdl(ml_pdl::Formula),
     Ctl(ml_ctl::Formula),
     Ltl(ml_ltl::Formula),
+    Word(ml_ltl::Formula),
 }
 
 /// A formula with its sense: a plain problem asks for a state at which the formula holds, a negated one for a state at
-/// which its negation does. A formula of LTL holds where some path satisfies it.
+/// which its negation does. A formula of LTL holds where some path satisfies it, and on words where the one path does.
 #[derive(Drop)]
 pub struct Problem {
     pub formula: AnyFormula,
@@ -57,6 +58,7 @@ pub(crate) fn parse(alloc: Global, logic: Logic, text: &[u8]) -> Result<AnyFormu
         Logic::Pdl => Ok(AnyFormula::Pdl(ml_pdl::parse(alloc, text)?)),
         Logic::Ctl => Ok(AnyFormula::Ctl(ml_ctl::parse(alloc, text)?)),
         Logic::Ltl => Ok(AnyFormula::Ltl(ml_ltl::parse(alloc, text)?)),
+        Logic::Word => Ok(AnyFormula::Word(ml_ltl::parse(alloc, text)?)),
     }
 }
 
@@ -95,6 +97,7 @@ fn copy_formula(alloc: Global, formula: &AnyFormula) -> Result<AnyFormula, NoMem
         AnyFormula::Pdl(formula) => Ok(AnyFormula::Pdl(ml_pdl::copy(alloc, formula)?)),
         AnyFormula::Ctl(formula) => Ok(AnyFormula::Ctl(ml_ctl::copy(alloc, formula)?)),
         AnyFormula::Ltl(formula) => Ok(AnyFormula::Ltl(ml_ltl::copy(alloc, formula)?)),
+        AnyFormula::Word(formula) => Ok(AnyFormula::Word(ml_ltl::copy(alloc, formula)?)),
     }
 }
 
@@ -113,6 +116,7 @@ pub fn print(alloc: Global, problem: &Problem) -> Result<Vec<u8>, NoMemory>
         AnyFormula::Pdl(formula) => ml_pdl::print(alloc, formula),
         AnyFormula::Ctl(formula) => ml_ctl::print(alloc, formula),
         AnyFormula::Ltl(formula) => ml_ltl::print(alloc, formula),
+        AnyFormula::Word(formula) => ml_ltl::print(alloc, formula),
     }
 }
 
@@ -121,14 +125,14 @@ pub const MOST_NODES: u32 = 4_096;
 
 /// The graph of a problem: on every admitted structure it holds exactly where the problem does.
 ///
-/// `max` is how many nodes the closure of a problem of CTL* or LTL may have; problems of the mu-calculus and of PDL have
-/// none.
+/// `max` is how many nodes the closure of a problem of CTL* or LTL may have; problems of the mu-calculus, of PDL and of LTL on
+/// words have none.
 ///
 /// # Errors
 /// `ClosureTooLarge` exactly where the problem's closure has more than `max` nodes. `NoMemory`.
 ///
 /// Cost: that of the logic's translation (`ml_mu_graph::graph_of`, `ml_pdl_graph::graph_of`, `ml_blocks::graph_of`,
-/// `ml_blocks::ltl_graph_of`).
+/// `ml_blocks::ltl_graph_of`, `ml_word_graph::graph_of`).
 #[tactic(auto, using(crate::proofs::Closures::fits))]
 pub fn graph(alloc: Global, problem: &Problem, max: u32) -> Result<ModalGraph, BlockRefusal>
     ensures graph { IfOk result (λ g. IsGraphOf g problem.now) }
@@ -141,5 +145,6 @@ pub fn graph(alloc: Global, problem: &Problem, max: u32) -> Result<ModalGraph, B
         AnyFormula::Pdl(formula) => Ok(ml_pdl_graph::graph_of(alloc, formula, problem.negated)?),
         AnyFormula::Ctl(formula) => ml_blocks::graph_of(alloc, formula, problem.negated, max),
         AnyFormula::Ltl(formula) => ml_blocks::ltl_graph_of(alloc, formula, problem.negated, max),
+        AnyFormula::Word(formula) => Ok(ml_word_graph::graph_of(alloc, formula, problem.negated)?),
     }
 }

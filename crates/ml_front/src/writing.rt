@@ -62,6 +62,7 @@ fn logic(formula: &AnyFormula) -> Logic
         AnyFormula::Pdl(_) => Logic::Pdl,
         AnyFormula::Ctl(_) => Logic::Ctl,
         AnyFormula::Ltl(_) => Logic::Ltl,
+        AnyFormula::Word(_) => Logic::Word,
     }
 }
 
@@ -98,5 +99,6 @@ fn append_text(out: &mut Vec<u8>, formula: &AnyFormula) -> Result<(), NoMemory>
         AnyFormula::Pdl(formula) => ml_pdl::append_text(out, formula),
         AnyFormula::Ctl(formula) => ml_ctl::append_text(out, formula),
         AnyFormula::Ltl(formula) => ml_ltl::append_text(out, formula),
+        AnyFormula::Word(formula) => ml_ltl::append_text(out, formula),
     }
 }

@@ -6,3 +6,5 @@ pub mod CheckingGame
 pub mod private
 -- where a graph holds at a node, told by the nodes to which it refers
 pub mod Laws
+-- graphs with one diamond at most
+pub mod Diamonds

@@ -10,38 +10,47 @@ use Rattle.ml_lists.proofs.Decided.{Decided}
 use Rattle.ml_graph.specs.Graph.{Graph}
 use Rattle.ml_front.specs.Graphs.{HasLargeClosure, IsGraphOf, IsMeaningful}
 use Rattle.ml_front.specs.Logics.{logic_of}
-use Rattle.ml_front.specs.Problems.{HoldsAt, IsAdmitted, IsFirstDeadlock}
+use Rattle.ml_front.specs.Problems.{HoldsAt, IsAdmitted}
 use Rattle.ml_front.specs.declared.problem.Problem.{Problem}
 use Rattle.ml_front.specs.declared.problem.TheConstants.{MOST_NODES}
-use Rattle.ml_front.proofs.Graphs.{admitted_or_not, holds_or_fails, never_both, one_deadlock}
+use Rattle.ml_front.proofs.Graphs.{IsFirstUnfit, admitted_or_not, dead_or_fork, holds_or_fails, never_both, one_deadlock, one_fork}
 use Rattle.ml_front.proofs.SomeGraph.{some_graph}
 use Rattle.ml_model_check.specs.Checked.{Finds, IsCheckedAs, IsDocumentFault, Shows, SpeaksOf}
 use Rattle.ml_model_check.specs.declared.checked.Checked.{Checked}
-use Rattle.ml_model_check.specs.declared.checked.Checked.TheVariants.{Holds, Fails, Unreadable, NotTotal, ClosureTooLarge}
+use Rattle.ml_model_check.specs.declared.checked.Checked.TheVariants.{Holds, Fails, Unreadable, NotTotal, NotAWord, ClosureTooLarge}
 
 abbrev IsClosed : Problem → Type 0
 IsClosed p = ¬ (HasLargeClosure p MOST_NODES)
 
 module _ (p : Problem) (m : Structure) (s : ℕ) where
-  never : (dead : ℕ) → SpeaksOf p m → ¬ (IsFirstDeadlock (logic_of p.formula) m dead)
-  never dead = never_both (logic_of p.formula) m dead
+  never : (state : ℕ) → SpeaksOf p m → ¬ (IsFirstUnfit (logic_of p.formula) m state)
+  never state = never_both (logic_of p.formula) m state
 
   pub one_finding : (c d : Checked) → Finds c p m s → Finds d p m s → c ≡ d
   one_finding Holds Holds x y = refl
   one_finding Holds Fails x y = absurd (y.2 x.2)
-  one_finding Holds (NotTotal dead) x y = absurd (never dead x.0 y)
+  one_finding Holds (NotTotal dead) x y = absurd (never dead x.0 (inl y))
+  one_finding Holds (NotAWord fork) x y = absurd (never fork x.0 (inr y))
   one_finding Holds ClosureTooLarge x y = absurd (x.1 y.1)
   one_finding Fails Holds x y = absurd (x.2 y.2)
   one_finding Fails Fails x y = refl
-  one_finding Fails (NotTotal dead) x y = absurd (never dead x.0 y)
+  one_finding Fails (NotTotal dead) x y = absurd (never dead x.0 (inl y))
+  one_finding Fails (NotAWord fork) x y = absurd (never fork x.0 (inr y))
   one_finding Fails ClosureTooLarge x y = absurd (x.1 y.1)
-  one_finding (NotTotal dead) Holds x y = absurd (never dead y.0 x)
-  one_finding (NotTotal dead) Fails x y = absurd (never dead y.0 x)
+  one_finding (NotTotal dead) Holds x y = absurd (never dead y.0 (inl x))
+  one_finding (NotTotal dead) Fails x y = absurd (never dead y.0 (inl x))
+  one_finding (NotTotal dead) (NotAWord fork) x y = absurd (dead_or_fork (logic_of p.formula) m dead fork x y)
   one_finding (NotTotal dead) (NotTotal other) x y = ap NotTotal (one_deadlock (logic_of p.formula) m dead other x y)
-  one_finding (NotTotal dead) ClosureTooLarge x y = absurd (never dead y.0 x)
+  one_finding (NotTotal dead) ClosureTooLarge x y = absurd (never dead y.0 (inl x))
+  one_finding (NotAWord fork) Holds x y = absurd (never fork y.0 (inr x))
+  one_finding (NotAWord fork) Fails x y = absurd (never fork y.0 (inr x))
+  one_finding (NotAWord fork) (NotTotal dead) x y = absurd (dead_or_fork (logic_of p.formula) m dead fork y x)
+  one_finding (NotAWord fork) (NotAWord other) x y = ap NotAWord (one_fork (logic_of p.formula) m fork other x y)
+  one_finding (NotAWord fork) ClosureTooLarge x y = absurd (never fork y.0 (inr x))
   one_finding ClosureTooLarge Holds x y = absurd (y.1 x.1)
   one_finding ClosureTooLarge Fails x y = absurd (y.1 x.1)
-  one_finding ClosureTooLarge (NotTotal dead) x y = absurd (never dead x.0 y)
+  one_finding ClosureTooLarge (NotTotal dead) x y = absurd (never dead x.0 (inl y))
+  one_finding ClosureTooLarge (NotAWord fork) x y = absurd (never fork x.0 (inr y))
   one_finding ClosureTooLarge ClosureTooLarge x y = refl
   one_finding (Unreadable fault) d x y = absurd x
   one_finding c (Unreadable fault) x y = absurd y
@@ -59,10 +68,11 @@ module _ (p : Problem) (m : Structure) (s : ℕ) where
           by_holding closed speaks (holds_or_fails p g m s meaningful is_graph speaks low)
       by_closure speaks (inr large) = (ClosureTooLarge, (speaks, large))
 
-      by_structure : SpeaksOf p m ⊎ ((dead : ℕ) × IsFirstDeadlock (logic_of p.formula) m dead)
+      by_structure : SpeaksOf p m ⊎ ((state : ℕ) × IsFirstUnfit (logic_of p.formula) m state)
           → (c : Checked) × Finds c p m s
       by_structure (inl speaks) = by_closure speaks (some_graph MOST_NODES p.negated p.formula)
-      by_structure (inr (dead, first)) = (NotTotal dead, first)
+      by_structure (inr (dead, inl first)) = (NotTotal dead, first)
+      by_structure (inr (fork, inr first)) = (NotAWord fork, first)
 
 -- ---- in a text
 
@@ -75,6 +85,7 @@ found_in text (Unreadable fault) x = inr (fault, refl, x)
 found_in text Holds x = inl x
 found_in text Fails x = inl x
 found_in text (NotTotal dead) x = inl x
+found_in text (NotAWord fork) x = inl x
 found_in text ClosureTooLarge x = inl x
 
 pub told : (text : List ℕ) (c : Checked) → Shows text c → IsCheckedAs text c
@@ -82,4 +93,5 @@ told text (Unreadable fault) x = absurd x.finds
 told text Holds x = x
 told text Fails x = x
 told text (NotTotal dead) x = x
+told text (NotAWord fork) x = x
 told text ClosureTooLarge x = x

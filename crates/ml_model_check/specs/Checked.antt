@@ -4,13 +4,13 @@
 -- the text of a structure in order with a state to start from; the head may be in either version. Whether the problem
 -- holds there is not asked of the document: that is what is checked. Where a document shows none, its first bad line
 -- tells why; the lines of the body are counted on from those of the head, so from 6 on. Where it shows one, the
--- problem's logic may want an edge from each state, and then the first state without one is told; and a problem with a
--- closure that is too large isn't checked.
+-- problem's logic may want an edge from each state, or exactly one, and then the first state that hasn't is told; and a
+-- problem with a closure that is too large isn't checked.
 --
 --   IsDocument text p m s   == the text shows the structure m with the start s for the problem p
 --   IsDocumentFault text f  == f tells the first bad line of the text, and the number of the lowest rule that it breaks
 --   Finds c p m s          == c is found of the state s of the structure m for the problem p: that p holds there, or doesn't,
---                              or that m has a deadlock, or the closure of p is large
+--                              or that m has a deadlock or a fork, or the closure of p is large
 --   Shows text c            == the text shows a structure and a start for a problem, of which c is found
 --   IsCheckedAs text c      == c is what checking the text finds
 use Rattle.std.specs.Prelude.{ℕ, ◌≡◌, ◌⊎◌, List}
@@ -25,11 +25,11 @@ use Rattle.ml_front.specs.Graphs.{HasLargeClosure}
 use Rattle.ml_front.specs.declared.answer.Answer.TheVariants.{Satisfiable}
 use Rattle.ml_front.specs.HeadRules.{IsHead, IsHeadFault}
 use Rattle.ml_front.specs.Logics.{logic_of}
-use Rattle.ml_front.specs.Problems.{HoldsAt, IsAdmitted, IsFirstDeadlock}
+use Rattle.ml_front.specs.Problems.{HoldsAt, IsAdmitted, IsFirstDeadlock, IsFirstFork}
 use Rattle.ml_front.specs.declared.problem.Problem.{Problem}
 use Rattle.ml_front.specs.declared.problem.TheConstants.{MOST_NODES}
 use Rattle.ml_model_check.specs.declared.checked.Checked.{Checked}
-use Rattle.ml_model_check.specs.declared.checked.Checked.TheVariants.{Holds, Fails, Unreadable, NotTotal, ClosureTooLarge}
+use Rattle.ml_model_check.specs.declared.checked.Checked.TheVariants.{Holds, Fails, Unreadable, NotTotal, NotAWord, ClosureTooLarge}
 
 -- the number of the first line of a body
 abbrev pub first_body_line : ℕ
@@ -56,7 +56,8 @@ IsDocumentFault text fault = IsHeadFault Satisfiable text fault ⊎ IsFaultOfBod
 
 -- ---- what checking finds
 
--- the logic of the problem speaks of the structure; the first state without an edge tells where it doesn't
+-- the logic of the problem speaks of the structure; the first state without an edge, or without exactly one, tells where it
+-- doesn't
 abbrev pub SpeaksOf : Problem → Structure → Type 0
 SpeaksOf p m = IsAdmitted (logic_of p.formula) m
 
@@ -64,6 +65,7 @@ abbrev pub Finds : Checked → Problem → Structure → ℕ → Type 0
 Finds Holds p m s = SpeaksOf p m × (¬ (HasLargeClosure p MOST_NODES)) × HoldsAt m s p
 Finds Fails p m s = SpeaksOf p m × (¬ (HasLargeClosure p MOST_NODES)) × (¬ (HoldsAt m s p))
 Finds (NotTotal dead) p m s = IsFirstDeadlock (logic_of p.formula) m dead
+Finds (NotAWord fork) p m s = IsFirstFork (logic_of p.formula) m fork
 Finds ClosureTooLarge p m s = SpeaksOf p m × HasLargeClosure p MOST_NODES
 Finds (Unreadable fault) p m s = ⊥
 

@@ -19,14 +19,16 @@ const FIRST_BODY_LINE: u64 = 6;
 /// The document answers `satisfiable`: the five lines of its head, in either version, and then the text of a model. It
 /// may have any length.
 ///
-/// - `Holds` exactly where the bytes are such a document, and neither of the last two answers comes, and its formula,
+/// - `Holds` exactly where the bytes are such a document, and none of the last three answers comes, and its formula,
 ///   in its sense, holds at the start;
-/// - `Fails` exactly where they are, neither comes, and it doesn't;
+/// - `Fails` exactly where they are, none of these comes, and it doesn't;
 /// - `Unreadable` exactly where they are none, with the first bad line, counted from 1, and the lowest rule that this
 ///   line breaks: of the head 1 where a line is missing or not of the kind that stands there, 2 where the formula is
 ///   refused by its parser, 3 where the answer is another one; of the body 11 to 17, as `read_model` says;
 /// - `NotTotal` exactly where they are, the formula's logic wants an edge by `_` from each state, and the structure has
 ///   a state without one, with the least such state;
+/// - `NotAWord` exactly where they are, the logic wants exactly one such edge from each state, and the structure has a state
+///   with none or more, with the least such state;
 /// - `ClosureTooLarge` exactly where they are, the logic speaks of the structure, and the formula, in its sense, has a
 ///   closure of more than 4,096 nodes.
 ///
@@ -58,6 +60,7 @@ fn check_body(alloc: Global, _bytes: &[u8], head: &Head<'_>) -> Result<Checked, 
         Ok(true) => Ok(Checked::Holds),
         Ok(false) => Ok(Checked::Fails),
         Err(CheckRefusal::NotTotal(state)) => Ok(Checked::NotTotal(state)),
+        Err(CheckRefusal::NotAWord(state)) => Ok(Checked::NotAWord(state)),
         Err(CheckRefusal::ClosureTooLarge) => Ok(Checked::ClosureTooLarge),
         Err(CheckRefusal::NoMemory) => Err(NoMemory),
     }

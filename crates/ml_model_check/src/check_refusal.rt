@@ -10,6 +10,9 @@ pub enum CheckRefusal {
     /// This state, the least such one, has no edge by `_`, where the logic wants each state to have one.
     #[error("state {0} has no edge")]
     NotTotal(u32),
+    /// This state, the least such one, hasn't exactly one edge by `_`, where the logic wants that of each state.
+    #[error("state {0} has no edge, or more than one")]
+    NotAWord(u32),
     /// The formula's closure is too large to be checked.
     #[error("the closure is too large")]
     ClosureTooLarge,

@@ -12,6 +12,8 @@ pub enum Checked {
     Unreadable(DocFault),
     /// This state, the least such one, has no edge by `_`, where the logic wants each state to have one.
     NotTotal(u32),
+    /// This state, the least such one, hasn't exactly one edge by `_`, where the logic wants that of each state.
+    NotAWord(u32),
     /// The formula's closure is too large to be checked.
     ClosureTooLarge,
 }

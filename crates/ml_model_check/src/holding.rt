@@ -3,11 +3,11 @@ ghost use Rattle.std.specs.Prelude.{◌↔◌, ◌<◌, ℕ, IfOk, OnOk, IsErrOf
 ghost use Rattle.ml_graph.specs.CheckingGame.{Holds};
 ghost use Rattle.ml_front.specs.Graphs.{HasLargeClosure};
 ghost use Rattle.ml_front.specs.Logics.{logic_of};
-ghost use Rattle.ml_front.specs.Problems.{HoldsAs, HoldsAt, IsAdmitted, IsFirstDeadlock};
+ghost use Rattle.ml_front.specs.Problems.{HoldsAs, HoldsAt, IsAdmitted, IsFirstDeadlock, IsFirstFork};
 ghost use Rattle.ml_front.specs.declared.problem.AnyFormula.TheVariants.{Mu};
 
+use crate::admitted::admitted;
 use crate::check_refusal::CheckRefusal;
-use crate::deadlock::first_deadlock;
 use ml_base::NoMemory;
 use ml_front::{AnyFormula, MOST_NODES, Problem, graph};
 use ml_graph::{BlockRefusal, ModalGraph, checking_game};
@@ -24,8 +24,9 @@ const MOST_NESTED: u32 = 2;
 ///
 /// # Errors
 /// `NotTotal` exactly where the problem's logic wants an edge by `_` from each state and some state has none, with the
+/// least such state. `NotAWord` exactly where it wants exactly one such edge from each state and some state hasn't, with the
 /// least such state. `ClosureTooLarge` exactly where the logic speaks of the structure and the problem's closure has
-/// more than 4,096 nodes. So neither comes in the mu-calculus and in PDL. `NoMemory`.
+/// more than 4,096 nodes. So none comes in the mu-calculus and in PDL. `NoMemory`.
 ///
 /// Cost: a formula of the mu-calculus with at most two binders one inside the other costs what `ml_mu::evaluate` does;
 /// each other problem what `ml_front::graph` does, and what `ml_parity::solve` does on a game with a vertex for each
@@ -43,13 +44,13 @@ pub fn holds(
     ensures closed { OnOk result (¬ (HasLargeClosure problem.now MOST_NODES)) }
     ensures total { (s : ℕ) → IsErrOf result (CheckRefusal.NotTotal s)
         → IsFirstDeadlock (logic_of problem.now.formula) structure.now s }
+    ensures word { (s : ℕ) → IsErrOf result (CheckRefusal.NotAWord s)
+        → IsFirstFork (logic_of problem.now.formula) structure.now s }
     ensures fits { IsErrOf result CheckRefusal.ClosureTooLarge
         → IsAdmitted (logic_of problem.now.formula) structure.now × HasLargeClosure problem.now MOST_NODES }
 {
-    match first_deadlock(alloc, &problem.formula, structure)? {
-        Some(dead) => Err(CheckRefusal::NotTotal(dead)),
-        None => holds_where_admitted(alloc, problem, structure, state),
-    }
+    admitted(alloc, &problem.formula, structure)?;
+    holds_where_admitted(alloc, problem, structure, state)
 }
 
 // on a structure of which the problem's logic speaks
@@ -64,6 +65,7 @@ fn holds_where_admitted(
     ensures holds { IfOk result (λ holds. IsTrue holds ↔ HoldsAt structure.now state problem.now) }
     ensures closed { OnOk result (¬ (HasLargeClosure problem.now MOST_NODES)) }
     ensures total { (s : ℕ) → ¬ (IsErrOf result (CheckRefusal.NotTotal s)) }
+    ensures word { (s : ℕ) → ¬ (IsErrOf result (CheckRefusal.NotAWord s)) }
     ensures fits { IsErrOf result CheckRefusal.ClosureTooLarge → HasLargeClosure problem.now MOST_NODES }
 {
     match &problem.formula {
@@ -75,7 +77,10 @@ fn holds_where_admitted(
                 Ok(holds)
             }
         }
-        AnyFormula::Pdl(_) | AnyFormula::Ctl(_) | AnyFormula::Ltl(_) => {
+        AnyFormula::Pdl(_)
+        | AnyFormula::Ctl(_)
+        | AnyFormula::Ltl(_)
+        | AnyFormula::Word(_) => {
             holds_by_game(alloc, problem, structure, state)
         }
     }
@@ -108,6 +113,7 @@ fn holds_by_game(
     ensures holds { IfOk result (λ holds. IsTrue holds ↔ HoldsAt structure.now state problem.now) }
     ensures closed { OnOk result (¬ (HasLargeClosure problem.now MOST_NODES)) }
     ensures total { (s : ℕ) → ¬ (IsErrOf result (CheckRefusal.NotTotal s)) }
+    ensures word { (s : ℕ) → ¬ (IsErrOf result (CheckRefusal.NotAWord s)) }
     ensures fits { IsErrOf result CheckRefusal.ClosureTooLarge → HasLargeClosure problem.now MOST_NODES }
 {
     let graph = match graph(alloc, problem, MOST_NODES) {

@@ -3,19 +3,20 @@
 // `holds` answers it of a problem of any logic and a structure in hand. `check_document` reads a document that answers
 // `satisfiable`, and answers whether the problem of its head holds at the start of the structure of its body. It trusts
 // nothing of who wrote the document: what it answers is said of the bytes, by the definitions of heads (`ml_front`), of
-// bodies (`ml_kripke`) and of problems (`ml_front`). Both tell the first deadlock of a structure of which the problem's
-// logic doesn't speak, and check no problem whose closure is too large.
+// bodies (`ml_kripke`) and of problems (`ml_front`). Both tell the first state for which the problem's logic doesn't speak of
+// the structure, and check no problem whose closure is too large.
 //
 // Below stand `ml_base`, `ml_lines` (lines and words), `ml_front` (problems and heads), `ml_kripke` (bodies), `ml_mu`
 // (formulas and meanings), `ml_graph` (the checking game) and `ml_parity` (its solver); above stands the program.
 #![tactic(auto)]
 
+mod admitted;
 mod check;
 mod check_refusal;
 mod checked;
-mod deadlock;
 mod holding;
 pub mod laws;
+mod steps;
 
 pub use check::check_document;
 pub use check_refusal::CheckRefusal;

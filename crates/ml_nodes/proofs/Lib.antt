@@ -10,3 +10,19 @@ pub mod Connectives
 pub mod InRange
 -- names and priorities that a program holds
 pub mod HeldNames
+-- lists in which numbers come up in their order
+pub mod FirstOccurrences
+-- a closure has one graph at most
+pub mod OneNumbering
+-- a test that tells equal values
+pub mod ValueTests
+-- the graph of a list of values
+pub mod GraphOfValues
+-- some graph, or more values
+pub mod SomeGraph
+-- how large a graph is
+pub mod OneSize
+-- where the nodes of a closure hold
+pub mod ClosureNodes
+-- names and priorities of the graphs of closures
+pub mod HeldClosures

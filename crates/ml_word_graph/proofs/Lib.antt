@@ -31,3 +31,11 @@ pub mod NamedNodes
 pub mod Made
 -- what is told of results
 pub mod OkResults
+-- one node alone is a diamond
+pub mod OneDiamond
+-- names and priorities that a program holds
+pub mod HeldGraph
+-- nodes are equal or not
+pub mod PlaceEquality
+-- one graph, and some graph
+pub mod ClosureGraphs

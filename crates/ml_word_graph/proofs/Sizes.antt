@@ -351,10 +351,18 @@ few_places xs ys once within =
         (omega (arith, t.within, more)) t.same in
         omega (arith, same, t.apart)
 
+-- so many nodes are reached at most
+pub few_reached : (f : Formula) (negated : Bool) (places : List Place)
+    → ((i j : ℕ) (p : Place) → slice_get places i ≡ Some p → slice_get places j ≡ Some p → i ≡ j)
+    → ((p : Place) → IsMember p places → IsReached (Root (start_of f negated)) p)
+    → length places ≤ 4 * occurrences f + 5
+few_reached f negated places once reached =
+    let few = few_places places (all_nodes f negated) once (λ p h. reached_in f negated p (reached p h)) in
+    omega (arith, few, nodes_few 0 f)
+
 pub graphs_are_small : GraphsAreSmall
 graphs_are_small f negated g is =
     let numbered = is.is_numbered.1 in
     let few =
-    few_places is.is_numbered.0 (all_nodes f negated) numbered.is_closure.once
-    (λ p h. reached_in f negated p ((numbered.is_closure.are_reached p).0 h)) in
-    omega (arith, few, numbered.one_each, nodes_few 0 f)
+    few_reached f negated is.is_numbered.0 numbered.is_closure.once (λ p h. (numbered.is_closure.are_reached p).0 h) in
+    omega (arith, few, numbered.one_each)

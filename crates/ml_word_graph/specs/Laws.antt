@@ -5,11 +5,13 @@
 --   GraphsAgree    == of each formula of LTL, in its plain sense and negated: its graph holds where the problem does
 --   GraphsAreSmall == a graph has at most four nodes for each occurrence, and five more
 --   NegationIsComplement == a negated problem holds at a state exactly where the plain one doesn't
+--   OneGraph, SomeGraph == a formula has one graph in each sense, up to the lists of names
 --   AsSatisfiable  == a problem is satisfiable on words exactly where it is as a problem of LTL on paths among many
 use Rattle.std.specs.Prelude.{ℕ, ◌≡◌, ◌<◌, ◌≤◌, ◌+◌, ◌*◌, ◌↔◌, Bool, true, false}
 use Rattle.ml_base.specs.Structure.{Structure}
 use Rattle.ml_graph.specs.CheckingGame.{Holds}
 use Rattle.ml_graph.specs.Graph.{Graph, size}
+use Rattle.ml_nodes.specs.AlikeNodes.{AreAlike}
 use Rattle.ml_ctl.specs.Formula.{Formula, is_linear, occurrences}
 use Rattle.ml_ctl.specs.Problem.{Problem}
 use Rattle.ml_ltl.specs.Problem as ltl
@@ -49,3 +51,9 @@ NegationIsComplement =
     → s < m.states
     → HoldsAt m s (record { formula = f; negated = true })
     ↔ ¬ (HoldsAt m s (record { formula = f; negated = false }))
+
+abbrev pub OneGraph : Type 0
+OneGraph = (f : Formula) (negated : Bool) (g h : Graph) → IsGraphOf g f negated → IsGraphOf h f negated → AreAlike g h
+
+abbrev pub SomeGraph : Type 0
+SomeGraph = (f : Formula) (negated : Bool) → (g : Graph) × IsGraphOf g f negated

@@ -7,29 +7,24 @@
 -- operands put it together with their left operand in a node `Rest`. So these operators are cycles, and the priority of
 -- `Now` says of which kind: 1 where what is asked has to come about some time, and 2 elsewhere.
 --
--- The root asks beside the problem that each state have an edge. Nodes are those that are reached from the root, which is 0;
--- they are numbered breadth first, the left child of a node before the right one.
+-- The root asks beside the problem that each state have an edge. The graph is that of a closure: of the nodes, as values,
+-- that are reached from the root (`ml_nodes/specs/ClosureGraph`).
 --
 --   Place                   == the nodes: the root and its part on edges, and those of occurrences, with their formulas
 --   Form                    == what a node is, and to which nodes it leads
 --   form_of p               == what the node p is
 --   is_eventual f sign      == does f, or its negation, ask for something that has to come about?
 --   priority_of p           == the priority of the node p
+--   forms                   == both
 --   start_of f negated      == the node that a problem starts with
---   HasForm g places v f    == the node v is of the form f, with its children's numbers by `places`
 --   IsReached root p        == the node p is reached from the root
---   IsClosure root places   == these are the nodes that are reached, each once
 --   IsNumberedBy g root places == the nodes of g are those of the closure, numbered by their places
 --   IsGraphOf g f negated   == g is the graph of f, or of its negation
-use Rattle.std.specs.Prelude.{ℕ, ◌≡◌, ◌↔◌, ◌+◌, Bool, true, false, not, if◌then◌else◌, List, [], ◌∷◌, Some, length, map, slice_get, codes}
+use Rattle.std.specs.Prelude.{ℕ, ◌+◌, Bool, true, false, not, if◌then◌else◌, List}
 use Rattle.std.specs.Bool.{beq}
-use Rattle.std.specs.List.{range_with_len}
-use Rattle.ml_lists.specs.BreadthFirst.{IsBreadthFirst}
-use Rattle.ml_lists.specs.Member.{IsMember}
-use Rattle.ml_graph.specs.Graph.{Graph, IsGraph, size, node_at, priority_at, prop_at, action_at}
-use Rattle.ml_graph.specs.declared.node.Node.{Node}
-use Rattle.ml_graph.specs.declared.node.Node.TheVariants as node
-use Rattle.ml_nodes.specs.Nodes.{constant}
+use Rattle.ml_graph.specs.Graph.{Graph}
+use Rattle.ml_nodes.specs.ClosureGraph as closure
+pub use Rattle.ml_nodes.specs.ClosureGraph.{Constant, Literal, And, Or, Diamond, Square, IsNumberOf, HasForm, at_root, behind, children, row_of}
 use Rattle.ml_text.specs.declared.token.Operator.{Operator}
 use Rattle.ml_text.specs.declared.token.Operator.TheVariants as operator
 use Rattle.ml_text.specs.Operators.{weight}
@@ -53,12 +48,8 @@ pub data Place : Type 0 where
   -- both operands of an iff, and neither; each or its negation. The number is that of the iff
   Both Neither : (number : ℕ) → (left right : Formula) → (positive : Bool) → Place
 
-pub data Form : Type 0 where
-  Constant : Bool → Form
-  Literal : (name : List ℕ) → (positive : Bool) → Form
-  And Or : (left right : Place) → Form
-  -- along some edge by the action `_`, and along each
-  Diamond Square : Place → Form
+abbrev pub Form : Type 0
+Form = closure.Form Place
 
 abbrev pub leads_to : Place → Form
 leads_to p = And p p
@@ -143,60 +134,16 @@ priority_of p = 2
 abbrev pub start_of : Formula → Bool → Place
 start_of f negated = Now 0 f (not negated)
 
+abbrev pub forms : closure.Forms Place
+forms = record { form_of = form_of; priority_of = priority_of }
+
 -- ---- the graph
 
-abbrev pub children : Form → List Place
-children (Constant b) = []
-children (Literal name sign) = []
-children (And l r) = l ∷ r ∷ []
-children (Or l r) = l ∷ r ∷ []
-children (Diamond p) = p ∷ []
-children (Square p) = p ∷ []
+abbrev pub IsReached : Place → Place → Type 0
+IsReached root = closure.IsReached forms root
 
--- what is reached from a node
-pub data IsReached (root : Place) : Place → Type 0 where
-  at_root : IsReached root root
-  behind : (q p : Place) → IsReached root q → IsMember p (children (form_of q)) → IsReached root p
+abbrev pub IsNumberedBy : Graph → Place → List Place → Type 0
+IsNumberedBy g root places = closure.IsNumberedBy forms g root places
 
--- each node that is reached from the root stands at one place of the list, and no other node does
-pub record IsClosure (root : Place) (places : List Place) : Type 0 where
-  pub once : (i j : ℕ) (p : Place) → slice_get places i ≡ Some p → slice_get places j ≡ Some p → i ≡ j
-  pub are_reached : (p : Place) → IsMember p places ↔ IsReached root p
-
--- the number c is that of the node p
-abbrev pub IsNumberOf : List Place → ℕ → Place → Type 0
-IsNumberOf places c p = slice_get places c ≡ Some p
-
--- the node of a graph is one of this form
-abbrev pub HasForm : Graph → List Place → Node → Form → Type 0
-HasForm g places v (Constant b) = v ≡ constant b
-HasForm g places v (Literal name sign) = (p : ℕ) × (v ≡ node.Lit p sign) × (prop_at g p ≡ name)
-HasForm g places v (And l r) =
-    (c d : ℕ) × IsNumberOf places c l × IsNumberOf places d r × (v ≡ node.And c d)
-HasForm g places v (Or l r) =
-    (c d : ℕ) × IsNumberOf places c l × IsNumberOf places d r × (v ≡ node.Or c d)
-HasForm g places v (Diamond p) =
-    (a c : ℕ) × IsNumberOf places c p × (v ≡ node.Diamond a c) × (action_at g a ≡ codes "_")
-HasForm g places v (Square p) =
-    (a c : ℕ) × IsNumberOf places c p × (v ≡ node.Square a c) × (action_at g a ≡ codes "_")
-
--- the numbers to which a node leads, left before right
-abbrev pub row_of : Node → List ℕ
-row_of (node.And l r) = l ∷ r ∷ []
-row_of (node.Or l r) = l ∷ r ∷ []
-row_of (node.Diamond a c) = c ∷ []
-row_of (node.Square a c) = c ∷ []
-row_of _ = []
-
-pub record IsNumberedBy (g : Graph) (root : Place) (places : List Place) : Type 0 where
-  pub is_closure : IsClosure root places
-  pub one_each : size g ≡ length places
-  pub has_forms : (n : ℕ) (p : Place) → IsNumberOf places n p → HasForm g places (node_at g n) (form_of p)
-  pub has_priorities : (n : ℕ) (p : Place) → IsNumberOf places n p → priority_at g n ≡ priority_of p
-  pub root_is : IsNumberOf places g.root root
-  pub is_first : g.root ≡ 0
-  pub breadth_first : IsBreadthFirst 0 (map row_of g.nodes) (range_with_len 0 (size g))
-
-pub record IsGraphOf (g : Graph) (f : Formula) (negated : Bool) : Type 0 where
-  pub is_graph : IsGraph g
-  pub is_numbered : (places : List Place) × IsNumberedBy g (Root (start_of f negated)) places
+abbrev pub IsGraphOf : Graph → Formula → Bool → Type 0
+IsGraphOf g f negated = closure.IsGraphFrom forms g (Root (start_of f negated))

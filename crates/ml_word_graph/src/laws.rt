@@ -1,5 +1,5 @@
 // Laws over the definitions alone: no caller runs these functions, their contracts are the theorems.
-ghost use Rattle.ml_word_graph.specs.Laws.{AsSatisfiable, GraphsAgree, GraphsAreSmall, NegationIsComplement};
+ghost use Rattle.ml_word_graph.specs.Laws.{AsSatisfiable, GraphsAgree, GraphsAreSmall, NegationIsComplement, OneGraph, SomeGraph};
 
 /// The checking game on the graph of a formula of LTL agrees with the formula's meaning on words: on every finite structure in
 /// which each state has exactly one edge by `_`, at every state, in the plain sense and negated.
@@ -29,4 +29,12 @@ pub fn satisfiable_alike()
 /// Does nothing when called.
 pub fn negation_is_complement()
     ensures { NegationIsComplement }
+{}
+
+/// A formula has a graph in each sense, and one at most, up to the lists of names.
+///
+/// Does nothing when called.
+pub fn one_graph()
+    ensures one { OneGraph }
+    ensures some { SomeGraph }
 {}

@@ -1,5 +1,5 @@
 -- proofs/laws/one_graph
-use Rattle.ml_blocks.proofs.OneNumbering as lemma
+use Rattle.ml_blocks.proofs.ClosureGraphs as lemma
 use Rattle.ml_blocks.proofs.laws.one_graph.Goals as goal
 
 pub returns : goal.returns

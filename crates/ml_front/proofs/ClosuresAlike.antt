@@ -1,15 +1,13 @@
--- Two graphs of a problem of CTL* or LTL are alike.
+-- Two graphs that are one but for their lists of names are alike, so those of one closure are.
 --
 --   same_node  == nodes that are one but for the places of names have one shape, and refer to one name
---   alike      == graphs of one closure are alike
+--   alike      == and so it is of graphs
 use Rattle.std.proofs.Common.{◌≡◌, sym, ap, ◌∙◌}
-use Rattle.ml_graph.specs.Graph.{Graph, node_at}
+use Rattle.ml_graph.specs.Graph.{Graph, IsGraph, node_at}
 use Rattle.ml_graph.specs.declared.node.Node.{Node}
 use Rattle.ml_graph.specs.declared.node.Node.TheVariants as node
-use Rattle.ml_blocks.specs.BlockGraph.{IsGraphAt}
-use Rattle.ml_blocks.specs.OneGraph.{AreAlikeNodes}
-use Rattle.ml_blocks.specs.Places.{Place}
-use Rattle.ml_blocks.proofs.OneNumbering.{one_graph}
+use Rattle.ml_nodes.specs.AlikeNodes as nodes
+use Rattle.ml_nodes.specs.AlikeNodes.{AreAlikeNodes}
 use Rattle.ml_front.proofs.AlikeGraphs.{AreAlike, alike_below, name_in, shape}
 
 module _ (g h : Graph) where
@@ -22,10 +20,9 @@ module _ (g h : Graph) where
   same_node (node.Diamond a to) w (b, is, name) = (ap shape (sym is), sym name ∙ ap (name_in h) (sym is))
   same_node (node.Square a to) w (b, is, name) = (ap shape (sym is), sym name ∙ ap (name_in h) (sym is))
 
-  pub alike : (start : Place) → IsGraphAt g start → IsGraphAt h start → AreAlike g h
-  alike start x y =
-      let one = one_graph start g h x y in
-      alike_below g h x.is_graph y.is_graph one.sizes one.roots
+  pub alike : nodes.AreAlike g h → IsGraph g → IsGraph h → AreAlike g h
+  alike one is other =
+      alike_below g h is other one.sizes one.roots
       (λ n low.
       let same = same_node (node_at g n) (node_at h n) (one.nodes n low) in
       record { shapes = same.0; names = same.1; ranks = one.priorities n low })

@@ -1,4 +1,4 @@
--- Two breadth-first numberings of one closure are the same, so a problem has one graph at most.
+-- Two breadth-first numberings of one closure are the same, so a closure has one graph at most.
 --
 --   Paired R xs ys    == two lists whose entries are paired by R, one by one
 --   same_next         == numberings that agree below n agree at n
@@ -14,10 +14,9 @@ use Rattle.ml_lists.proofs.Member.{member-append, member-place, place-member}
 use Rattle.ml_graph.specs.Graph.{Graph, size, node_at}
 use Rattle.ml_graph.specs.declared.node.Node.{Node}
 use Rattle.ml_graph.specs.declared.node.Node.TheVariants as node
-use Rattle.ml_blocks.specs.BlockGraph.{IsNumberedBy, HasForm, row_of}
-use Rattle.ml_blocks.specs.OneGraph.{AreAlikeNodes, OneGraph}
-use Rattle.ml_blocks.specs.Places.{Place, Form, Root, Constant, Literal, And, Or, Diamond, Square, form_of}
-use Rattle.ml_blocks.proofs.FirstOccurrences.{Orderly, orderly, orderly_front, rows_before, all_rows, row_member}
+use Rattle.ml_nodes.specs.AlikeNodes.{AreAlike, AreAlikeNodes}
+use Rattle.ml_nodes.specs.ClosureGraph.{Form, Forms, Constant, Literal, And, Or, Diamond, Square, IsGraphFrom, IsNumberedBy, HasForm, row_of}
+use Rattle.ml_nodes.proofs.FirstOccurrences.{Orderly, orderly, orderly_front, rows_before, all_rows, row_member}
 
 abbrev pub Paired : (ℕ → ℕ → Type 0) → List ℕ → List ℕ → Type 0
 Paired R [] [] = Unit {0}
@@ -49,17 +48,14 @@ paired_rows R (suc n) (r ∷ rows) (o ∷ others) a b each =
 zero_in_front : (n : ℕ) → 0 + n ≡ n
 zero_in_front n = omega arith
 
-some_same : {p q : Place} → Some p ≡ Some q → p ≡ q
-some_same e = cc
-
 -- ---- two numberings
 
-module _ (ps qs : List Place)
-    (once_p : (i j : ℕ) (q : Place) → slice_get ps i ≡ Some q → slice_get ps j ≡ Some q → i ≡ j)
-    (once_q : (i j : ℕ) (q : Place) → slice_get qs i ≡ Some q → slice_get qs j ≡ Some q → i ≡ j) where
+module _ {P : Type 0} (ps qs : List P)
+    (once_p : (i j : ℕ) (q : P) → slice_get ps i ≡ Some q → slice_get ps j ≡ Some q → i ≡ j)
+    (once_q : (i j : ℕ) (q : P) → slice_get qs i ≡ Some q → slice_get qs j ≡ Some q → i ≡ j) where
   -- the same node, by its two numbers
   pub record SameNode (x y : ℕ) : Type 0 where
-    pub node : Place
+    pub node : P
     pub first : slice_get ps x ≡ Some node
     pub second : slice_get qs y ≡ Some node
 
@@ -128,15 +124,16 @@ module _ (ps qs : List Place)
 
 -- ---- two graphs
 
-module _ (root : Place) (g h : Graph) (ps qs : List Place) (N : IsNumberedBy g root ps) (M : IsNumberedBy h root qs) where
+module _ {P : Type 0} (F : Forms P) (root : P) (g h : Graph) (ps qs : List P) (N : IsNumberedBy F g root ps)
+    (M : IsNumberedBy F h root qs) where
   abbrev Same : ℕ → ℕ → Type 0
   Same = SameNode ps qs (N.is_closure).once (M.is_closure).once
 
-  same_node : (x y : ℕ) (q : Place) → slice_get ps x ≡ Some q → slice_get qs y ≡ Some q → Same x y
+  same_node : (x y : ℕ) (q : P) → slice_get ps x ≡ Some q → slice_get qs y ≡ Some q → Same x y
   same_node x y q a b = record { node = q; first = a; second = b }
 
   -- the rows of one form
-  rows_paired : (v w : Node) (f : Form) → HasForm g ps v f → HasForm h qs w f → Paired Same (row_of v) (row_of w)
+  rows_paired : (v w : Node) (f : Form P) → HasForm g ps v f → HasForm h qs w f → Paired Same (row_of v) (row_of w)
   rows_paired v w (Constant true) a b =
       subst (λ u. Paired Same (row_of u) (row_of w)) (sym a) (subst (λ u. Paired Same [] (row_of u)) (sym b) tt)
   rows_paired v w (Constant false) a b =
@@ -181,7 +178,7 @@ module _ (root : Place) (g h : Graph) (ps qs : List Place) (N : IsNumberedBy g r
       let q = get_or ps j root in
       let here = place_there j (omega (arith, low, a)) in
       let there : slice_get qs j ≡ Some q = sym (agree j low) ∙ here in
-      let pair = rows_paired (node_at g j) (node_at h j) (form_of q) (N.has_forms j q here) (M.has_forms j q there) in
+      let pair = rows_paired (node_at g j) (node_at h j) (F.form_of q) (N.has_forms j q here) (M.has_forms j q there) in
       subst (λ r. Paired Same r (get_or rows_h j []))
       (sym (get_or-map row_of g.nodes j node.True [] (omega (arith, low, a))))
       (subst (λ r. Paired Same (row_of (node_at g j)) r)
@@ -267,9 +264,9 @@ module _ (root : Place) (g h : Graph) (ps qs : List Place) (N : IsNumberedBy g r
 
 -- ---- alike
 
-module _ (g h : Graph) (ps : List Place)
-    (once : (i j : ℕ) (q : Place) → slice_get ps i ≡ Some q → slice_get ps j ≡ Some q → i ≡ j) where
-  alike : (v w : Node) (f : Form) → HasForm g ps v f → HasForm h ps w f → AreAlikeNodes g h v w
+module _ {P : Type 0} (g h : Graph) (ps : List P)
+    (once : (i j : ℕ) (q : P) → slice_get ps i ≡ Some q → slice_get ps j ≡ Some q → i ≡ j) where
+  alike : (v w : Node) (f : Form P) → HasForm g ps v f → HasForm h ps w f → AreAlikeNodes g h v w
   alike v w (Constant true) a b = subst (λ u. AreAlikeNodes g h u w) (sym a) b
   alike v w (Constant false) a b = subst (λ u. AreAlikeNodes g h u w) (sym a) b
   alike v w (Literal name sign) a b = subst (λ u. AreAlikeNodes g h u w) (sym a.1) (b.0, b.1, b.2 ∙ sym a.2)
@@ -287,8 +284,8 @@ module _ (g h : Graph) (ps : List Place)
       (b.0, b.3 ∙ ap (node.Square b.0) (once b.1 a.1 q b.2 a.2), b.4 ∙ sym a.4)
 
 -- the same numbers in both lists
-over : (h : Graph) (ps qs : List Place) (w : Node) (f : Form)
-    → ((k : ℕ) (q : Place) → slice_get qs k ≡ Some q → slice_get ps k ≡ Some q)
+over : {P : Type 0} (h : Graph) (ps qs : List P) (w : Node) (f : Form P)
+    → ((k : ℕ) (q : P) → slice_get qs k ≡ Some q → slice_get ps k ≡ Some q)
     → HasForm h qs w f
     → HasForm h ps w f
 over h ps qs w (Constant c) same b = b
@@ -298,49 +295,49 @@ over h ps qs w (Or l r) same b = (b.0, b.1, same b.0 l b.2, same b.1 r b.3, b.4)
 over h ps qs w (Diamond q) same b = (b.0, b.1, same b.1 q b.2, b.3, b.4)
 over h ps qs w (Square q) same b = (b.0, b.1, same b.1 q b.2, b.3, b.4)
 
-pub one_graph : OneGraph
-one_graph start g h is_g is_h = record {
+pub one_graph : {P : Type 0} (F : Forms P) (root : P) (g h : Graph) → IsGraphFrom F g root → IsGraphFrom F h root → AreAlike g h
+one_graph {P = P} F root g h is_g is_h = record {
   sizes = sizes;
   roots = N.is_first ∙ sym M.is_first;
   priorities = λ n low. N.has_priorities n (at n) (here n low) ∙ sym (M.has_priorities n (at n) (there n low));
   nodes = λ n low.
-      alike g h ps (N.is_closure).once (node_at g n) (node_at h n) (form_of (at n)) (N.has_forms n (at n) (here n low))
-      (over h ps qs (node_at h n) (form_of (at n)) back_to (M.has_forms n (at n) (there n low)));
+      alike g h ps (N.is_closure).once (node_at g n) (node_at h n) (F.form_of (at n)) (N.has_forms n (at n) (here n low))
+      (over h ps qs (node_at h n) (F.form_of (at n)) back_to (M.has_forms n (at n) (there n low)));
 }
   where
-    ps : List Place
+    ps : List P
     ps = (is_g.is_numbered).0
 
-    qs : List Place
+    qs : List P
     qs = (is_h.is_numbered).0
 
-    N : IsNumberedBy g (Root start) (is_g.is_numbered).0
+    N : IsNumberedBy F g root (is_g.is_numbered).0
     N = (is_g.is_numbered).1
 
-    M : IsNumberedBy h (Root start) (is_h.is_numbered).0
+    M : IsNumberedBy F h root (is_h.is_numbered).0
     M = (is_h.is_numbered).1
 
     sizes : size g ≡ size h
     sizes =
-        ⊎_elim (λ (low : size g < size h). absurd (not_fewer (Root start) g h ps qs N M low))
+        ⊎_elim (λ (low : size g < size h). absurd (not_fewer F root g h ps qs N M low))
         (λ (high : size h ≤ size g).
-        ⊎_elim (λ (low : size h < size g). absurd (not_fewer (Root start) h g qs ps M N low))
+        ⊎_elim (λ (low : size h < size g). absurd (not_fewer F root h g qs ps M N low))
         (λ (same : size g ≤ size h). omega (arith, high, same)) (cases_lt (size h) (size g)))
         (cases_lt (size g) (size h))
 
-    at : ℕ → Place
-    at n = get_or ps n (Root start)
+    at : ℕ → P
+    at n = get_or ps n root
 
     here : (n : ℕ) → n < size g → slice_get ps n ≡ Some (at n)
-    here n low = place_there (Root start) g h ps qs N M n low
+    here n low = place_there F root g h ps qs N M n low
 
     agree : (n : ℕ) → n < size g → slice_get ps n ≡ slice_get qs n
-    agree n low = agree_to (Root start) g h ps qs N M (size g) (omega arith) (omega (arith, sizes)) n low
+    agree n low = agree_to F root g h ps qs N M (size g) (omega arith) (omega (arith, sizes)) n low
 
     there : (n : ℕ) → n < size g → slice_get qs n ≡ Some (at n)
     there n low = sym (agree n low) ∙ here n low
 
-    back_to : (k : ℕ) (q : Place) → slice_get qs k ≡ Some q → slice_get ps k ≡ Some q
+    back_to : (k : ℕ) (q : P) → slice_get qs k ≡ Some q → slice_get ps k ≡ Some q
     back_to k q e =
         let within = slice_get_within qs k q e in
         let all = M.one_each in
