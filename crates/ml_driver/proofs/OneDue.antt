@@ -19,7 +19,7 @@ use Rattle.ml_driver.specs.declared.command.Command.TheVariants.{Decide, Valid, 
 use Rattle.ml_driver.specs.declared.status.Status.{Status}
 use Rattle.ml_driver.specs.declared.status.Status.TheVariants.{Yes, No, Undecided, Words, Text}
 use Rattle.ml_driver.specs.Statuses.{longest_document, refusal_line}
-use Rattle.ml_driver.specs.Run.{IsDue, plainly, for_negation, IsRefusedDocument, IsRefusedModel, as_document, by_deadlock, document_by_length, by_line}
+use Rattle.ml_driver.specs.Run.{IsDue, plainly, for_negation, IsRefusedDocument, IsRefusedModel, as_document, by_deadlock, by_fork, document_by_length, by_line}
 use Rattle.ml_refute_check.specs.Documents as refuted
 use Rattle.ml_refute_check.specs.Documents.{IsMigrated, IsVerdict}
 use Rattle.ml_refute_check.specs.declared.verdict.Verdict.{Verdict}
@@ -181,6 +181,7 @@ says_of_check checked.Holds = Yes
 says_of_check checked.Fails = No
 says_of_check (checked.Unreadable fault) = Text
 says_of_check (checked.NotTotal state) = Text
+says_of_check (checked.NotAWord state) = Text
 says_of_check checked.ClosureTooLarge = Undecided
 
 -- the document is too long, or checking it finds this
@@ -193,6 +194,7 @@ unfolding says_of_check
 refused_model text out (as_document (document_by_length long)) = too_long long.0 refl
 refused_model text out (as_document (by_line short r)) = found short (checked.Unreadable r.fault) r.is_fault refl
 refused_model text out (by_deadlock short d) = found short (checked.NotTotal d.state) d.is_deadlock refl
+refused_model text out (by_fork short d) = found short (checked.NotAWord d.state) d.is_fork refl
 
 checks : (text : List ℕ) (s : Status) (out : List ℕ) → IsDue (Some CheckModel) text s out → Checks text s
 unfolding says_of_check

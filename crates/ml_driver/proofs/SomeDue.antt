@@ -9,7 +9,7 @@ use Rattle.ml_base.specs.declared.doc_fault.DocFault.{DocFault}
 use Rattle.ml_model_check.specs.Checked.{IsCheckedAs}
 use Rattle.ml_model_check.specs.declared.checked.Checked.{Checked}
 use Rattle.ml_model_check.specs.declared.checked.Checked.TheVariants as checked
-use Rattle.ml_model_check.specs.declared.checked.Checked.TheVariants.{Holds, Fails, NotTotal, ClosureTooLarge}
+use Rattle.ml_model_check.specs.declared.checked.Checked.TheVariants.{Holds, Fails, NotTotal, NotAWord, ClosureTooLarge}
 use Rattle.ml_model_check.proofs.OneCheck.{some_check}
 use Rattle.ml_refute_check.specs.Documents as refuted
 use Rattle.ml_refute_check.specs.Documents.{IsVerdict, document_of}
@@ -28,8 +28,8 @@ use Rattle.ml_driver.proofs.Measures.{some_finding}
 use Rattle.ml_driver.specs.declared.command.Command.TheVariants.{Decide, Valid, CheckModel, CheckRefutation, Migrate, SolveGame, Gen, Bench}
 use Rattle.ml_driver.specs.declared.status.Status.{Status}
 use Rattle.ml_driver.specs.declared.status.Status.TheVariants.{Yes, No, Undecided, Words, Text}
-use Rattle.ml_driver.specs.Statuses.{longest_document, refused_words, refused_length, holds_line, fails_line, open_line, not_total_line, accepted_line, rejected_line, refused_document}
-use Rattle.ml_driver.specs.Run.{IsDue, as_document, by_deadlock, document_by_length, by_line, for_negation, plainly}
+use Rattle.ml_driver.specs.Statuses.{longest_document, refused_words, refused_length, holds_line, fails_line, open_line, not_total_line, not_a_word_line, accepted_line, rejected_line, refused_document}
+use Rattle.ml_driver.specs.Run.{IsDue, as_document, by_deadlock, by_fork, document_by_length, by_line, for_negation, plainly}
 use Rattle.ml_driver.proofs.ProblemGraphs.{well_formed}
 use Rattle.ml_driver.proofs.RefutationDocuments.{ShowsRefutation, refutation_or_fault, refutation_read_back}
 use Rattle.ml_driver.proofs.SomeAnswer.{some_answer}
@@ -53,6 +53,8 @@ on_document text =
         (Text, (refused_document fault, as_document unreadable))
     by_check (NotTotal state) is short =
         (Text, (not_total_line state, by_deadlock short (record { state = state; is_deadlock = is; is_written = refl })))
+    by_check (NotAWord state) is short =
+        (Text, (not_a_word_line state, by_fork short (record { state = state; is_fork = is; is_written = refl })))
     by_check ClosureTooLarge is short = (Undecided, (open_line, (short, (is, refl))))
 
 on_refutation : (text : List ℕ) → Due (Some CheckRefutation) text

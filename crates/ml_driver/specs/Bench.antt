@@ -29,7 +29,7 @@ use Rattle.ml_front.specs.declared.answer.Answer.{Answer}
 use Rattle.ml_front.specs.declared.answer.Answer.TheVariants.{Satisfiable, Unsatisfiable, Undecided}
 use Rattle.ml_front.specs.declared.logic.Logic.{Logic}
 use Rattle.ml_front.specs.declared.problem.AnyFormula.{AnyFormula}
-use Rattle.ml_front.specs.declared.problem.AnyFormula.TheVariants.{Mu, Pdl, Ctl, Ltl}
+use Rattle.ml_front.specs.declared.problem.AnyFormula.TheVariants.{Mu, Pdl, Ctl, Ltl, Word}
 use Rattle.ml_front.specs.declared.problem.Problem.{Problem}
 use Rattle.ml_gen.specs.Families.{family_word, formula_text, logic_name}
 use Rattle.ml_gen.specs.declared.family.Family.{Family}
@@ -62,6 +62,7 @@ occurrences_of (Mu f) = mu.occurrences f
 occurrences_of (Pdl f) = pdl.occurrences f
 occurrences_of (Ctl f) = ctl.occurrences f
 occurrences_of (Ltl f) = ctl.occurrences f
+occurrences_of (Word f) = ctl.occurrences f
 
 -- ---- what is found
 

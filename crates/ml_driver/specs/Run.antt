@@ -13,7 +13,7 @@
 --   IsRefusedDocument F text out == out says why the document is refused: by its length, or by its first bad line, which
 --                                F tells
 --   IsRefusedModel text out   == so it says for a document with a structure, or that its logic wants an edge from each
---                                state, and at which state the first one is missing
+--                                state, or exactly one, and which state is the first that hasn't
 --   IsDue c text status out   == for the command c, or for words that are none, this status and this output are due
 --                                where the input is the text; where none is taken, whatever the text is
 --   World                     == what a call found and left: the bytes of the source, those of the sink, both counts of
@@ -33,7 +33,7 @@ use Rattle.ml_base.specs.Whole.{AppendsPart, Gives}
 use Rattle.ml_base.specs.declared.doc_fault.DocFault.{DocFault}
 use Rattle.ml_model_check.specs.Checked as shown
 use Rattle.ml_model_check.specs.Checked.{Shows}
-use Rattle.ml_model_check.specs.declared.checked.Checked.TheVariants.{Holds, Fails, NotTotal, ClosureTooLarge}
+use Rattle.ml_model_check.specs.declared.checked.Checked.TheVariants.{Holds, Fails, NotTotal, NotAWord, ClosureTooLarge}
 use Rattle.ml_refute_check.specs.Documents as refuted
 use Rattle.ml_refute_check.specs.Documents.{IsAcceptedDocument, IsMigrated, IsRejectedAt, HoldsNowhere}
 use Rattle.ml_driver.specs.declared.command.Command.{Command}
@@ -45,7 +45,7 @@ use Rattle.ml_driver.specs.Decision.{IsAnswered}
 use Rattle.ml_driver.specs.Games.{IsSolved, IsRefusedGame}
 use Rattle.ml_driver.specs.declared.question.Question.{Question}
 use Rattle.ml_front.specs.declared.logic.Logic.{Logic}
-use Rattle.ml_driver.specs.Statuses.{longest_document, longest_input, refused_words, refused_length, holds_line, fails_line, open_line, not_total_line, accepted_line, rejected_line, refused_document}
+use Rattle.ml_driver.specs.Statuses.{longest_document, longest_input, refused_words, refused_length, holds_line, fails_line, open_line, not_total_line, not_a_word_line, accepted_line, rejected_line, refused_document}
 
 -- what `decide` and `valid` ask
 abbrev pub plainly : Logic → ℕ → Question
@@ -100,10 +100,17 @@ pub record IsNotTotal (text out : List ℕ) : Type 0 where
   pub is_deadlock : Shows text (NotTotal state)
   pub is_written : out ≡ not_total_line state
 
--- the three reasons to refuse a document with a structure
+-- the document shows a structure, and this is its first state that hasn't exactly one edge, where its logic wants that
+pub record IsNotAWord (text out : List ℕ) : Type 0 where
+  pub state : ℕ
+  pub is_fork : Shows text (NotAWord state)
+  pub is_written : out ≡ not_a_word_line state
+
+-- the four reasons to refuse a document with a structure
 pub data IsRefusedModel (text out : List ℕ) : Type 0 where
   as_document : IsRefusedDocument (shown.IsDocumentFault text) text out → IsRefusedModel text out
   by_deadlock : length text ≤ longest_document → IsNotTotal text out → IsRefusedModel text out
+  by_fork : length text ≤ longest_document → IsNotAWord text out → IsRefusedModel text out
 
 abbrev pub IsDue : Option Command → List ℕ → Status → List ℕ → Type 0
 IsDue None text Words out = out ≡ refused_words

@@ -11,6 +11,7 @@
 --   fails_line       == the line for one whose problem doesn't
 --   open_line        == the line for one whose problem has too large a closure to tell
 --   not_total_line s == the line for one in which the state s is the first without an edge, where its logic wants one
+--   not_a_word_line s == the line for one in which s is the first state that hasn't exactly one edge, where its logic wants that
 --   accepted_line    == the line for a document whose refutation is accepted
 --   rejected_line l k == the line for one whose refutation isn't: the first line with a broken rule, and the lowest such
 --                        rule
@@ -76,6 +77,10 @@ open_line = line_text (codes "undecided" ∷ codes "closure" ∷ number MOST_NOD
 abbrev pub not_total_line : ℕ → List ℕ
 not_total_line state =
     line_text (codes "not" ∷ codes "total" ∷ codes "at" ∷ codes "state" ∷ number state ∷ [])
+
+abbrev pub not_a_word_line : ℕ → List ℕ
+not_a_word_line state =
+    line_text (codes "not" ∷ codes "a" ∷ codes "word" ∷ codes "at" ∷ codes "state" ∷ number state ∷ [])
 
 abbrev pub accepted_line : List ℕ
 accepted_line = line_text (codes "accepted" ∷ [])

@@ -116,7 +116,7 @@ fn occurrences(formula: &AnyFormula) -> u32
         AnyFormula::Mu(formula) => ml_mu::occurrences(formula),
         AnyFormula::Pdl(formula) => ml_pdl::occurrences(formula),
         AnyFormula::Ctl(formula) => ml_ctl::occurrences(formula),
-        AnyFormula::Ltl(formula) => ml_ltl::occurrences(formula),
+        AnyFormula::Ltl(formula) | AnyFormula::Word(formula) => ml_ltl::occurrences(formula),
     }
 }
 

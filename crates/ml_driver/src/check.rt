@@ -35,6 +35,10 @@ pub(crate) fn check_model(alloc: Global, text: &[u8]) -> Result<Output, NoMemory
             status: Status::Text,
             bytes: not_total(alloc, state)?,
         },
+        Checked::NotAWord(state) => Output {
+            status: Status::Text,
+            bytes: not_a_word(alloc, state)?,
+        },
         Checked::ClosureTooLarge => Output {
             status: Status::Undecided,
             bytes: left_open(alloc)?,
@@ -93,6 +97,21 @@ fn not_total(alloc: Global, state: u32) -> Result<Vec<u8>, NoMemory>
     end_line(&mut line)?;
     Ok(line)
 }
+
+fn not_a_word(alloc: Global, state: u32) -> Result<Vec<u8>, NoMemory>
+    ensures { IfOk result (λ line. line.items ≡ statuses.not_a_word_line state) }
+{
+    let mut line = Vec::new(alloc);
+    write_word(&mut line, b"not")?;
+    write_next_word(&mut line, b"a")?;
+    write_next_word(&mut line, b"word")?;
+    write_next_word(&mut line, b"at")?;
+    write_next_word(&mut line, b"state")?;
+    write_next_number(&mut line, u64::from(state))?;
+    end_line(&mut line)?;
+    Ok(line)
+}
+
 
 fn left_open(alloc: Global) -> Result<Vec<u8>, NoMemory>
     ensures { IfOk result (λ line. line.items ≡ statuses.open_line) }
