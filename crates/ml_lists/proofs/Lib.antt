@@ -80,6 +80,8 @@ pub mod InTurn
 pub mod ComesFirst
 -- first entries, and numbers of entries
 pub mod FirstEntries
+-- different members of a list are no more than its entries
+pub mod Different
 -- breadth-first search among values
 pub mod BreadthFirstSearch
 -- propositions that are decided: one under another, and all or some of finitely many
