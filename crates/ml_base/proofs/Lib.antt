@@ -8,3 +8,5 @@ pub mod Listing
 pub mod IdSets
 -- two ascending lists as one
 pub mod Merging
+-- the order of edges
+pub mod Edges

@@ -24,6 +24,7 @@ use Rattle.ml_lists.specs.Member.{IsMember}
 use Rattle.ml_lists.proofs.Grids.{length-even_rows, get_or-even_row}
 use Rattle.ml_lists.proofs.Member.{member-append, Image, member-map_from, InList, member-flat_map_from, member-filter_from, All-member, place-member}
 use Rattle.ml_lists.proofs.Members.{member_of_contains, contains_none}
+use Rattle.ml_lists.proofs.Ranges.{range-member}
 use Rattle.ml_parity.specs.declared.players.Player.TheVariants.{Even}
 use Rattle.ml_parity.specs.Game.{IsGame, HasMove, owner_of, priority_of, moves_of}
 use Rattle.ml_graph.specs.declared.node.Node.{Node}
@@ -107,15 +108,6 @@ module _ (g : Graph) (m : Structure) where
       (omega (arith, vertices-length, number_low v is))
       ∙ ap (λ x. map (vertex_number g m) (successors g m x)) (vertex_at v is)
 
--- a member of a range from 0 is below its end
-in_range : (n a k : ℕ) → IsMember k (range_with_len a n) → k < a + n
-in_range zero a k h = absurd h
-in_range (suc n) a k (inl e) = omega arith
-in_range (suc n) a k (inr h) = let low = in_range n (a + 1) k h in omega arith
-
-below : (n k : ℕ) → IsMember k (range_with_len 0 n) → k < n
-below n k h = let low = in_range n 0 k h in omega arith
-
 module _ (g : Graph) (m : Structure) where
   -- all vertices are vertices
   pub is_vertex : (v : Vertex) → IsMember v (vertices g m) → IsVertex g m v
@@ -131,10 +123,10 @@ module _ (g : Graph) (m : Structure) where
       of_sink (inr (inr e)) = absurd e
 
       of_node : (s : ℕ) → s < m.states → Image (Pair s) v (range_with_len 0 (size g)) → IsVertex g m v
-      of_node s low image = subst (IsVertex g m) (sym image.holds) (low, below (size g) image.from image.member)
+      of_node s low image = subst (IsVertex g m) (sym image.holds) (low, range-member (size g) image.from image.member)
 
       of_state : InList (pairs_at g) v (range_with_len 0 m.states) → IsVertex g m v
-      of_state found = of_node found.from (below m.states found.from found.member)
+      of_state found = of_node found.from (range-member m.states found.from found.member)
           (member-map_from (Pair found.from) v (range_with_len 0 (size g)) found.inside)
 
   -- each vertex leads somewhere

@@ -10,9 +10,7 @@ use Rattle.std.proofs.Common.{length, map, filter, take, drop, Option, Some, Non
 use Rattle.std.specs.List.{AllByRecursion, position, position_or_len}
 use Rattle.std.specs.Option.{unwrap_or}
 use Rattle.std.specs.List.Sorted.{IsStrictlySortedBy}
-use Rattle.std.specs.Ordering.{nat_cmp, ordering_then}
-use Rattle.std.specs.Cmp.Lexicographic.{slice_cmp}
-use Rattle.std.specs.declared.cmp.Ordering.TheVariants.{Less, Equal, Greater}
+use Rattle.std.specs.declared.cmp.Ordering.TheVariants.{Less}
 use Rattle.std.specs.Str.{bytes_eq}
 use Rattle.std.proofs.lemmas.Bool.{eqb-true}
 use Rattle.std.proofs.lemmas.Bool.Decides.{nat_tests}
@@ -24,6 +22,7 @@ use Rattle.ml_base.specs.EdgeOrder.{edge_cmp}
 use Rattle.ml_base.specs.Structure.{Structure}
 use Rattle.ml_graph.specs.CheckingGame.{targets}
 use Rattle.ml_graph.specs.private.Making.{targets_in, targets_by, AreEdgesOf, AreLeft}
+use Rattle.ml_base.proofs.Edges.{source_rises}
 
 -- ---- targets of some edges
 
@@ -65,18 +64,6 @@ all_leave s a (e ∷ es) here =
     by_test false rest = rest
 
 -- ---- edges that ascend, cut behind those of one state
-
--- an edge that is above another has no lower source
-source_rises : (e f : Edge) → edge_cmp e f ≡ Less → e.source ≤ f.source
-source_rises e f less = go (nat_lt e.source f.source) refl (e.source == f.source) refl less
-  where
-    go : (b : Bool) → nat_lt e.source f.source ≡ b → (c : Bool) → (e.source == f.source) ≡ c
-        → ordering_then (cond b Less (cond c Equal Greater))
-        (ordering_then (slice_cmp nat_cmp e.action f.action) (nat_cmp e.target f.target)) ≡ Less
-        → e.source ≤ f.source
-    go true is c at below = grind (arith, nat_tests)
-    go false is true at below = grind (arith, nat_tests)
-    go false is false at below = absurd (cc)
 
 all_later : (s : ℕ) (e : Edge) → s < e.source → (es : List Edge) → AllByRecursion (λ f. edge_cmp e f ≡ Less) es
     → AllByRecursion (λ f. s + 1 ≤ f.source) es

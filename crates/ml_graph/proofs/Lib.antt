@@ -1,6 +1,6 @@
 -- references of nodes, in range and out of range
 pub mod References
--- the odd priorities, sorted and each once
+-- the odd priorities
 pub mod OddPriorities
 -- places of names
 pub mod Places

@@ -1,25 +1,15 @@
--- The odd priorities, sorted and each once.
+-- The odd priorities of a graph.
 --
---   sorted_once == a list that was sorted, and then left without repeats, is its members in ascending order
-use Rattle.std.proofs.Common.{◌≡◌, ℕ, List, eqb}
-use Rattle.std.specs.List.{dedup}
-use Rattle.std.specs.List.Sorted.{IsPermutation, IsSorted}
-use Rattle.std.specs.Ordering.{nat_cmp}
-use Rattle.std.proofs.lemmas.List.Kept.{Contains-dedup_nat, Contains-from_dedup}
-use Rattle.std.proofs.lemmas.List.Sorted.{Contains-permutation, IsPermutation-sym}
-use Rattle.std.proofs.lemmas.Map.Keys.{IsStrictlyIncreasing-dedup}
-use Rattle.ml_lists.specs.Ascending.{ascending}
-use Rattle.ml_lists.proofs.Ascending.{ascending_same, ascending-is, member-ascending, ascending-member}
-use Rattle.ml_lists.proofs.Increasing.{ascending_of_increasing}
-use Rattle.ml_lists.proofs.Members.{member_of_contains, contains_of_member}
+--   odd_is_odd == they are odd
+use Rattle.std.proofs.Common.{◌≡◌, ℕ, ◌%◌, ◌==◌, filter}
+use Rattle.std.proofs.lemmas.Bool.{eqb-true}
+use Rattle.ml_lists.specs.Member.{IsMember}
+use Rattle.ml_lists.proofs.Ascending.{ascending-member}
+use Rattle.ml_lists.proofs.Member.{member-filter_from}
+use Rattle.ml_graph.specs.Graph.{Graph, odd_priorities}
 
-pub sorted_once : (xs ys : List ℕ) → IsPermutation xs ys → IsSorted nat_cmp ys → dedup eqb ys ≡ ascending xs
-sorted_once xs ys same sorted =
-    ascending_same (dedup eqb ys) (ascending xs)
-    (ascending_of_increasing (dedup eqb ys) (IsStrictlyIncreasing-dedup ys sorted)) (ascending-is xs)
-    (λ v m. member-ascending v xs
-    (member_of_contains v xs (Contains-permutation ys xs v (IsPermutation-sym xs ys same)
-    (Contains-from_dedup eqb ys v (contains_of_member v (dedup eqb ys) m)))))
-    (λ v m. member_of_contains v (dedup eqb ys)
-    (Contains-dedup_nat ys v (Contains-permutation xs ys v same
-    (contains_of_member v xs (ascending-member v xs m)))))
+pub odd_is_odd : (g : Graph) (d : ℕ) → IsMember d (odd_priorities g) → d % 2 ≡ 1
+odd_is_odd g d m =
+    eqb-true (d % 2) 1
+    (member-filter_from (λ k. k % 2 == 1) d g.priorities
+    (ascending-member d (filter (λ k. k % 2 == 1) g.priorities) m)).1

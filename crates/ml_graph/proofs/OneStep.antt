@@ -2,6 +2,8 @@
 --
 --   vertex_low      == a vertex is one of the game
 --   sink_holds      == Even wins the sink of 0, and not that of 1
+--   move_to, move_from == a move leads to a vertex to which v leads, and the other way round
+--   pair_member        == to each target, at the node behind it
 --   even_step, odd_step == who wins a vertex is told by the vertices to which it leads
 --   one_step        == where a node holds is told by the nodes to which it refers
 use Rattle.std.proofs.Common.{ℕ, ◌≡◌, ◌<◌, ◌⊎◌, inl, inr, ◌↔◌, Bool, true, false, cond, List, [], ◌∷◌, length, map, Contains, refl, sym, ap, ◌∙◌, subst, arith}
@@ -23,6 +25,10 @@ use Rattle.ml_graph.specs.Graph.{Graph, IsGraph, node_at, prop_at, action_at}
 use Rattle.ml_graph.specs.CheckingGame.{Vertex, Pair, Sink, owner_at, mover, vertex_number, successors, successors_of, pairs_or_sink, targets, vertices, checking_game, HoldsAt}
 use Rattle.ml_graph.specs.Laws.{NodeHolds, OneStepLaw}
 use Rattle.ml_graph.proofs.CheckingGame.{IsVertex, number_low, vertices-length, owner_is, priority_is, moves_are, is_game}
+
+pub pair_member : (n p t : ℕ) (ts : List ℕ) → IsMember t ts → IsMember (Pair t n) (pairs_or_sink n p ts)
+pair_member n p t [] h = absurd h
+pair_member n p t (x ∷ xs) h = member-map (λ s. Pair s n) t (x ∷ xs) h
 
 module _ (g : Graph) (m : Structure) (g_ok : IsGraph g) (m_ok : IsStructure m) where
   -- a vertex is one of the game
@@ -48,14 +54,14 @@ module _ (g : Graph) (m : Structure) (g_ok : IsGraph g) (m_ok : IsStructure m) w
     pub wins : EvenWins to
 
   -- a move leads to a vertex to which v leads, and the other way round
-  move_to : (v : Vertex) → IsVertex g m v → (w : Vertex) → IsMember w (successors g m v)
+  pub move_to : (v : Vertex) → IsVertex g m v → (w : Vertex) → IsMember w (successors g m v)
       → HasMove (checking_game g m) (vertex_number g m v) (vertex_number g m w)
   move_to v is w h =
       subst (λ ws. Contains ws (vertex_number g m w)) (sym (moves_are g m v is))
       (contains_of_member (vertex_number g m w) (map (vertex_number g m) (successors g m v))
       (member-map (vertex_number g m) w (successors g m v) h))
 
-  move_from : (v : Vertex) → IsVertex g m v → (x : ℕ) → HasMove (checking_game g m) (vertex_number g m v) x
+  pub move_from : (v : Vertex) → IsVertex g m v → (x : ℕ) → HasMove (checking_game g m) (vertex_number g m v) x
       → Image (vertex_number g m) x (successors g m v)
   move_from v is x move =
       member-map_from (vertex_number g m) x (successors g m v)

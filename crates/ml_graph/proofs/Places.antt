@@ -5,7 +5,7 @@
 --   found_at                    == a name that is found is equal to that name alone
 --   one_name                    == a list of one name has none twice
 --   name_added                  == the names up to a place, and then the name at it
-use Rattle.std.proofs.Common.{ℕ, zero, suc, ◌≡◌, ◌+◌, ◌<◌, ◌≤◌, ◌==◌, ◌⊎◌, inl, inr, ⊎_elim, Bool, true, false, cond, ◌||◌, if◌then◌else◌}
+use Rattle.std.proofs.Common.{ℕ, zero, suc, ◌≡◌, ◌+◌, ◌<◌, ◌≤◌, ◌==◌, ◌⊎◌, inl, inr, ⊎_elim, Bool, true, false, ◌||◌, if◌then◌else◌}
 use Rattle.std.proofs.Common.{nat_lt, List, [], ◌∷◌, ◌++◌, length, get_or, take, Some, None, refl, sym, ap, ◌∙◌, subst, arith}
 use Rattle.std.specs.List.{list_any, position, position_or_len, IsDistinct, AllByRecursion}
 use Rattle.std.specs.Str.{bytes_eq}
@@ -14,21 +14,14 @@ use Rattle.std.proofs.lemmas.Bool.Decides.{nat_tests}
 use Rattle.std.proofs.lemmas.List.{take_more}
 use Rattle.std.proofs.lemmas.List.Sums.{fails_before_first, passes_at_first}
 use Rattle.std.proofs.lemmas.Slice.Eq.{bytes_eq-Decides}
-
--- what a choice says of its test
-some_of : (b : Bool) (n i : ℕ) → cond b (Some n) None ≡ Some i → (b ≡ true) × (n ≡ i)
-some_of true n i e = let same : n ≡ i = cc in (refl, same)
-some_of false n i e = cc
-
-none_of : (b : Bool) (n : ℕ) → cond b (Some n) None ≡ None → b ≡ false
-none_of true n e = cc
-none_of false n e = refl
+use Rattle.std.proofs.lemmas.Option.{cond_some}
+use Rattle.ml_lists.proofs.Entries.{cond-none}
 
 -- where a test first passes, it passes
 pub position_hit : {X : Type 0} → (p : X → Bool) (xs : List X) (i : ℕ) (d : X) → position p xs ≡ Some i
     → (i < length xs) × (p (get_or xs i d) ≡ true)
 position_hit p xs i d e =
-    let is = some_of (nat_lt (position_or_len p xs) (length xs)) (position_or_len p xs) i e in
+    let is = cond_some (nat_lt (position_or_len p xs) (length xs)) (position_or_len p xs) i e in
     let low : position_or_len p xs < length xs = grind (arith, nat_tests) in
     (omega arith, subst (λ k. p (get_or xs k d) ≡ true) is.1 (passes_at_first p xs d low))
 
@@ -36,7 +29,7 @@ position_hit p xs i d e =
 pub position_miss : {X : Type 0} → (p : X → Bool) (xs : List X) (d : X) → position p xs ≡ None → (k : ℕ)
     → k < length xs → p (get_or xs k d) ≡ false
 position_miss p xs d e k low =
-    let is = none_of (nat_lt (position_or_len p xs) (length xs)) (position_or_len p xs) e in
+    let is = (cond-none (nat_lt (position_or_len p xs) (length xs)) (position_or_len p xs) None e).0 in
     let high : length xs ≤ position_or_len p xs = grind (arith, nat_tests) in
     fails_before_first p xs k d (omega arith)
 

@@ -11,12 +11,12 @@
 --   prop_in_range, diamond_action, diamond_target, square_action, square_target, and_left, and_right, or_left, or_right
 --                     == the same, of each field
 use Rattle.std.proofs.Common.{◌≡◌, ℕ, suc, ◌+◌, ◌<◌, Bool, true, false, cond, nat_le, List, [], ◌∷◌, ◌++◌, length, get_or, drop, Option, Some}
-use Rattle.std.proofs.Common.{None, find, All, inl, inr, refl, subst, sym, ap, ◌∙◌, arith, append_assoc, add-one, drop-cons}
+use Rattle.std.proofs.Common.{None, find, All, inl, inr, refl, subst, sym, ap, ◌∙◌, append_assoc, add-one, drop-cons}
 use Rattle.std.specs.List.{flat_map}
 use Rattle.std.specs.Option.{option_or, option_map}
-use Rattle.std.proofs.lemmas.Bool.Decides.{nat_tests}
 use Rattle.std.proofs.lemmas.List.Folds.{find-append}
 use Rattle.std.proofs.lemmas.List.Elements.{All-nil, All-cons, All-head, All-tail}
+use Rattle.std.proofs.lemmas.Bool.{leb-false, lt-leb}
 use Rattle.ml_lists.specs.Member.{IsMember}
 use Rattle.ml_lists.proofs.Member.{All-member, member-append_left, member-append_right, member-flat_map, place-member}
 use Rattle.ml_graph.specs.declared.node.Node.{Node}
@@ -52,25 +52,19 @@ passed : (b : Bool) (x : Reference) (o : Option Reference)
 passed true x o e = cc
 passed false x o e = (refl, e)
 
-in_range : (bound k : ℕ) → nat_le bound k ≡ false → k < bound
-in_range bound k e = grind (arith, nat_tests)
-
-not_bad : (bound k : ℕ) → k < bound → nat_le bound k ≡ false
-not_bad bound k low = grind (arith, nat_tests)
-
 -- where no reference is bad, all are in range
 pub all_in_range : (refs : List Reference) → first_bad refs ≡ None → All (λ r. r.number < r.bound) refs
 all_in_range [] e = All-nil (λ (r : Reference). r.number < r.bound)
 all_in_range (r ∷ refs) e =
     let here = passed (nat_le r.bound r.number) r (find (λ (x : Reference). nat_le x.bound x.number) refs) e in
-    All-cons (λ (x : Reference). x.number < x.bound) r refs (in_range r.bound r.number here.0)
+    All-cons (λ (x : Reference). x.number < x.bound) r refs (leb-false r.bound r.number here.0)
     (all_in_range refs here.1)
 
 -- and where all are in range, none is bad
 pub none_bad : (refs : List Reference) → All (λ r. r.number < r.bound) refs → first_bad refs ≡ None
 none_bad [] all = refl
 none_bad (r ∷ refs) all =
-    let here = not_bad r.bound r.number (All-head (λ (x : Reference). x.number < x.bound) r refs all) in
+    let here = lt-leb r.bound r.number (All-head (λ (x : Reference). x.number < x.bound) r refs all) in
     let rest = none_bad refs (All-tail (λ (x : Reference). x.number < x.bound) r refs all) in
     ap (λ (b : Bool). option_map (λ (x : Reference). x.number)
     (cond b (Some r) (find (λ (x : Reference). nat_le x.bound x.number) refs))) here ∙ rest

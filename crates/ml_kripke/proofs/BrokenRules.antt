@@ -4,7 +4,7 @@
 --   missing_numbered, missing_state, missing_edge  == lines that are missing
 --   other_number, other_labels          == the line of a state
 --   other_kind, no_numbers, other_edge  == the line of an edge
---   no_end, end_is                      == bytes that aren't `end` are no line `end`, and `end` is one
+--   no_end                              == bytes that aren't `end` are no line `end`
 --   lowest_state, lowest_edge           == the lowest rule, where a line may not be of its kind
 --   stated_is                           == a line of `state` and further words is one of its kind but for empty words
 --   edge_line_is                        == the line of an edge, from its words
@@ -169,20 +169,19 @@ module _ (left : List ℕ) where
 
 -- ---- `state`
 
-pub stated_is : (line : Line) (bytes : List ℕ) → line ≡ codes "state" ∷ words_of bytes → line ≡ codes "state" ∷ word line 1 ∷ drop 2 line
+pub stated_is : (line : Line) (bytes : List ℕ)
+    → line ≡ codes "state" ∷ words_of bytes
+    → line ≡ codes "state" ∷ word line 1 ∷ drop 2 line
 stated_is line bytes is = go (words_of bytes) (some_part is_blank bytes) is
   where
-    go : (rest : Line) → 0 < length rest → line ≡ codes "state" ∷ rest → line ≡ codes "state" ∷ word line 1 ∷ drop 2 line
+    go : (rest : Line)
+        → 0 < length rest
+        → line ≡ codes "state" ∷ rest
+        → line ≡ codes "state" ∷ word line 1 ∷ drop 2 line
     go [] some begins = absurd (omega arith)
     go (w ∷ rest) some begins = begins ∙ ap (λ l. codes "state" ∷ word l 1 ∷ drop 2 l) (sym begins)
 
 -- ---- `end`
 
-bytes_of : (bytes : List ℕ) → join_with_byte 32 (words_of bytes) ≡ bytes
-bytes_of bytes = join_with_byte-slice_split 32 bytes
-
 pub no_end : (bytes : List ℕ) → bytes ≢ codes "end" → words_of bytes ≢ end_line
-no_end bytes apart is = apart (sym (bytes_of bytes) ∙ ap (join_with_byte 32) is)
-
-pub end_is : (bytes : List ℕ) → bytes ≡ codes "end" → words_of bytes ≡ end_line
-end_is bytes is = ap words_of is
+no_end bytes apart is = apart (sym (join_with_byte-slice_split 32 bytes) ∙ ap (join_with_byte 32) is)

@@ -11,16 +11,16 @@ use Rattle.std.proofs.Common.{get_or, IsTrue, Option, Some, None, MatchOption, �
 use Rattle.std.specs.List.{list_any, AllByRecursion}
 use Rattle.std.specs.List.Sorted.{IsStrictlySortedBy}
 use Rattle.std.specs.Option.{is_none}
-use Rattle.std.specs.Ordering.{nat_cmp, ordering_then}
 use Rattle.std.specs.Str.{bytes_eq}
-use Rattle.std.specs.Cmp.Lexicographic.{slice_cmp}
-use Rattle.std.specs.declared.cmp.Ordering.TheVariants.{Less, Equal, Greater}
+use Rattle.std.specs.declared.cmp.Ordering.TheVariants.{Less}
 use Rattle.std.proofs.lemmas.Bool.Decides.{nat_tests}
 use Rattle.std.proofs.lemmas.List.{drop_more, drop_all}
+use Rattle.std.proofs.lemmas.Bool.{or_right}
 use Rattle.ml_base.specs.declared.structure.Edge.{Edge}
 use Rattle.ml_base.specs.Structure.{Structure}
 use Rattle.ml_base.specs.EdgeOrder.{edge_cmp}
 use Rattle.ml_kripke.specs.Total.{IsTotal, IsLeastDead}
+use Rattle.ml_base.proofs.Edges.{source_rises}
 
 abbrev pub leaves : List ℕ → ℕ → Edge → Bool
 leaves a s e = (e.source == s) && bytes_eq e.action a
@@ -58,20 +58,6 @@ from_source a e t is = go (e.source == t) refl is
     go false no_source leads = cc
     go true at leads = grind (arith, nat_tests)
 
--- an edge that is above another has no lower source
-by_source : (e f : Edge) → edge_cmp e f ≡ Less → e.source ≤ f.source
-by_source e f less = go (nat_lt e.source f.source) refl (e.source == f.source) refl less
-  where
-    go : (b : Bool) → nat_lt e.source f.source ≡ b → (c : Bool) → (e.source == f.source) ≡ c
-        → ordering_then (cond b Less (cond c Equal Greater))
-        (ordering_then (slice_cmp nat_cmp e.action f.action) (nat_cmp e.target f.target))
-        ≡
-        Less
-        → e.source ≤ f.source
-    go true is c at below = grind (arith, nat_tests)
-    go false is true at below = grind (arith, nat_tests)
-    go false is false at below = absurd (cc)
-
 later_sources : (a : List ℕ) (e : Edge) (t : ℕ)
     → t < e.source
     → (es : List Edge)
@@ -79,7 +65,7 @@ later_sources : (a : List ℕ) (e : Edge) (t : ℕ)
     → some_leaves a es t ≡ false
 later_sources a e t below [] all = refl
 later_sources a e t below (f ∷ es) all =
-    let above = by_source e f all.0 in
+    let above = source_rises e f all.0 in
     let here = not_from a f t (λ same. omega (arith, above, below, same)) in
     ap (λ b. b || some_leaves a es t) here ∙ later_sources a e t below es all.1
 
@@ -111,13 +97,9 @@ led_on a e es s d here rest =
           ap (λ b. b || some_leaves a es d) (not_from a e d (λ same. omega (arith, source, same, rest.not_before))) ∙ rest.is_dead;
     }
   where
-    or_true : (b c : Bool) → c ≡ true → (b || c) ≡ true
-    or_true true c is = refl
-    or_true false c is = is
-
     go : (t : ℕ) → s ≤ t → t < d → (b : Bool) → nat_lt s t ≡ b → some_leaves a (e ∷ es) t ≡ true
     go t from to true is =
-        let past : s + 1 ≤ t = grind (arith, nat_tests) in or_true (leaves a t e) (some_leaves a es t) (rest.go_on t past to)
+        let past : s + 1 ≤ t = grind (arith, nat_tests) in or_right (leaves a t e) (some_leaves a es t) (rest.go_on t past to)
     go t from to false is =
         let same : s ≡ t = grind (arith, nat_tests) in
         subst (λ u. some_leaves a (e ∷ es) u ≡ true) same (ap (λ b. b || some_leaves a es s) here)
@@ -130,14 +112,10 @@ passed : (a : List ℕ) (e : Edge) (es : List Edge) (s d : ℕ)
     → IsDead a (e ∷ es) s d
 passed a e es s d source here rest = record {
   not_before = rest.not_before;
-  go_on = λ t from to. or_true (leaves a t e) (some_leaves a es t) (rest.go_on t from to);
+  go_on = λ t from to. or_right (leaves a t e) (some_leaves a es t) (rest.go_on t from to);
   is_dead = ap (λ b. b || some_leaves a es d) (go (nat_lt s d) refl) ∙ rest.is_dead;
 }
   where
-    or_true : (b c : Bool) → c ≡ true → (b || c) ≡ true
-    or_true true c is = refl
-    or_true false c is = is
-
     go : (b : Bool) → nat_lt s d ≡ b → leaves a d e ≡ false
     go true is = let past : s < d = grind (arith, nat_tests) in not_from a e d (λ same. omega (arith, past, same, source))
     go false is =

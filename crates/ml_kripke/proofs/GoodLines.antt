@@ -5,10 +5,11 @@
 --   states_good, start_good, state_good, edge_good, nothing_good == what keeps all rules is such a line
 --   after_states, after_edge     == what stands behind it
 --   at_state_below, at_state_done == the line of a state, and behind the last one an edge
-use Rattle.std.proofs.Common.{◌≡◌, ℕ, ◌^◌, ◌<◌, ◌≤◌, ◌⊎◌, Bool, true, false, cond, ◌&&◌, nat_lt, List, [], ◌∷◌, Option, None, Some, drop, All, codes, refl, sym, ap, subst, ◌∙◌, inl, inr, arith}
+use Rattle.std.proofs.Common.{◌≡◌, ℕ, ◌^◌, ◌<◌, ◌≤◌, ◌⊎◌, true, false, cond, nat_lt, List, [], ◌∷◌, Option, None, Some, drop, All, codes, refl, sym, ap, subst, ◌∙◌, inl, inr, arith}
 use Rattle.std.specs.List.{list_all}
 use Rattle.std.proofs.lemmas.Bool.Decides.{nat_tests}
 use Rattle.std.proofs.lemmas.List.Elements.{All-head, All-tail}
+use Rattle.std.proofs.lemmas.Bool.{and_from}
 use Rattle.ml_base.specs.declared.structure.Edge.{Edge}
 use Rattle.ml_base.specs.Name.{IsName, IsAction}
 use Rattle.ml_lines.specs.Lines.{Word, Line, number}
@@ -30,17 +31,14 @@ action-is_word : (w : Word) → IsAction w → is_word w ≡ true
 action-is_word [] named = named
 action-is_word (b ∷ bs) named = refl
 
-both_true : (a b : Bool) → a ≡ true → b ≡ true → (a && b) ≡ true
-both_true a b e f = ap (λ c. c && b) e ∙ f
-
 names_words : (labels : List Word) → All IsName labels → list_all is_word labels ≡ true
 names_words [] named = refl
 names_words (label ∷ labels) named =
-    both_true (is_word label) (list_all is_word labels) (name-is_word label (All-head IsName label labels named))
+    and_from (is_word label) (list_all is_word labels) (name-is_word label (All-head IsName label labels named))
     (names_words labels (All-tail IsName label labels named))
 
 number_first : (n : ℕ) (line : Line) → n < 2 ^ 32 → AreWords line → AreWords (number n ∷ line)
-number_first n line fits words = both_true (is_word (number n)) (list_all is_word line) (number-is_word n (omega arith)) words
+number_first n line fits words = and_from (is_word (number n)) (list_all is_word line) (number-is_word n (omega arith)) words
 
 -- ---- lines
 
@@ -91,7 +89,7 @@ module _ (left : List ℕ) where
       let target : e.target < 2 ^ 32 = omega (arith, behind.target_below) in
       let words =
       number_first e.source (e.action ∷ number e.target ∷ []) source
-      (both_true (is_word e.action) (list_all is_word (number e.target ∷ [])) (action-is_word e.action behind.has_action)
+      (and_from (is_word e.action) (list_all is_word (number e.target ∷ [])) (action-is_word e.action behind.has_action)
       (number_first e.target [] target refl)) in (
         inr (words, refl),
         (

@@ -12,7 +12,7 @@ use Rattle.std.proofs.Common.{length, map, get_or, take, drop, All, codes, refl,
 use Rattle.std.specs.Char.{is_ascii_alphabetic, is_ascii_alphanumeric}
 use Rattle.std.specs.Int.{is_in_range}
 use Rattle.std.specs.List.{list_all, enumerate_from}
-use Rattle.std.proofs.lemmas.Bool.{true≢false}
+use Rattle.std.proofs.lemmas.Bool.{true≢false, and_parts}
 use Rattle.std.proofs.lemmas.Bool.Decides.{nat_tests}
 use Rattle.std.proofs.lemmas.Fmt.{decimal_by_steps, decimal_injective}
 use Rattle.std.proofs.lemmas.List.{append_cancel_right, take_at, drop_at, length-map}
@@ -58,10 +58,6 @@ other_byte c none b some = go (b == c) refl
         let same : b ≡ c = grind (arith, nat_tests) in
         absurd (true≢false (sym some ∙ ap is_name_byte same ∙ none))
 
-both : (a b : Bool) → (a && b) ≡ true → (a ≡ true) × (b ≡ true)
-both true b e = (refl, e)
-both false b e = cc
-
 name_bytes_without : (c : ℕ)
     → is_name_byte c ≡ false
     → (bs : List ℕ)
@@ -69,7 +65,7 @@ name_bytes_without : (c : ℕ)
     → has c bs ≡ false
 name_bytes_without c none [] all = refl
 name_bytes_without c none (b ∷ bs) all =
-    let parts = both (is_name_byte b) (list_all is_name_byte bs) all in
+    let parts = and_parts (is_name_byte b) (list_all is_name_byte bs) all in
     ap (λ first. first || has c bs) (other_byte c none b parts.0) ∙ name_bytes_without c none bs parts.1
 
 alpha_byte : (d a b u : Bool) → (a || b) ≡ true → (((d || a) || b) || u) ≡ true
@@ -85,8 +81,8 @@ or_true false = refl
 name_without : (c : ℕ) → is_name_byte c ≡ false → (bytes : List ℕ) → IsName bytes → has c bytes ≡ false
 name_without c none [] e = refl
 name_without c none (b ∷ bs) e =
-    let parts = both (is_ascii_alphabetic b && list_all is_name_byte bs) (nat_le (length (b ∷ bs)) longest_name) e in
-    let bytes = both (is_ascii_alphabetic b) (list_all is_name_byte bs) parts.0 in
+    let parts = and_parts (is_ascii_alphabetic b && list_all is_name_byte bs) (nat_le (length (b ∷ bs)) longest_name) e in
+    let bytes = and_parts (is_ascii_alphabetic b) (list_all is_name_byte bs) parts.0 in
     let first = alpha_byte (is_in_range 48 57 b) (is_in_range 65 90 b) (is_in_range 97 122 b) (b == 95) bytes.0 in
     ap (λ here. here || has c bs) (other_byte c none b first) ∙ name_bytes_without c none bs bytes.1
 

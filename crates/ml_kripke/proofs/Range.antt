@@ -3,12 +3,12 @@
 --   first_bad_parts   == the first state out of range is a label's, or else an edge's
 --   labels_in_range   == where no state is out of range, the labels' are in range
 --   edges_in_range    == where no state is out of range, both ends of each edge are in range
-use Rattle.std.proofs.Common.{◌≡◌, ℕ, ◌<◌, Bool, true, false, cond, nat_le, List, [], ◌∷◌, Option, Some, None, map, find, All, refl, sym, ◌∙◌, arith}
+use Rattle.std.proofs.Common.{◌≡◌, ℕ, ◌<◌, Bool, true, false, cond, nat_le, List, [], ◌∷◌, Option, Some, None, map, find, All, refl, sym, ◌∙◌}
 use Rattle.std.specs.List.{flat_map}
 use Rattle.std.specs.Option.{option_or}
-use Rattle.std.proofs.lemmas.Bool.Decides.{nat_tests}
 use Rattle.std.proofs.lemmas.List.Folds.{find-append}
 use Rattle.std.proofs.lemmas.List.Elements.{All-nil, All-cons}
+use Rattle.std.proofs.lemmas.Bool.{leb-false}
 use Rattle.ml_base.specs.declared.structure.Edge.{Edge}
 use Rattle.ml_kripke.specs.Ordered.{ends, first_bad_state}
 
@@ -25,15 +25,13 @@ passed : {T : Type 0} (b : Bool) (x : T) (o : Option T) → cond b (Some x) o �
 passed true x o e = cc
 passed false x o e = (refl, e)
 
-in_range : (states s : ℕ) → nat_le states s ≡ false → s < states
-in_range states s e = grind (arith, nat_tests)
-
-pub labels_in_range : (states : ℕ) (labels : List (ℕ × List ℕ)) → find (nat_le states) (map (λ label. label.0) labels) ≡ None
+pub labels_in_range : (states : ℕ) (labels : List (ℕ × List ℕ))
+    → find (nat_le states) (map (λ label. label.0) labels) ≡ None
     → All (λ label. label.0 < states) labels
 labels_in_range states [] e = All-nil (λ (label : ℕ × List ℕ). label.0 < states)
 labels_in_range states (label ∷ labels) e =
     let first = passed (nat_le states label.0) label.0 (find (nat_le states) (map (λ l. l.0) labels)) e in
-    All-cons (λ (l : ℕ × List ℕ). l.0 < states) label labels (in_range states label.0 first.0) (labels_in_range states labels first.1)
+    All-cons (λ (l : ℕ × List ℕ). l.0 < states) label labels (leb-false states label.0 first.0) (labels_in_range states labels first.1)
 
 pub edges_in_range : (states : ℕ) (edges : List Edge) → find (nat_le states) (flat_map ends edges) ≡ None
     → All (λ e. (e.source < states) × (e.target < states)) edges
@@ -43,9 +41,10 @@ edges_in_range states (edge ∷ edges) none =
     let first = passed (nat_le states edge.source) edge.source (cond (nat_le states edge.target) (Some edge.target) rest) none in
     let second = passed (nat_le states edge.target) edge.target rest first.1 in
     All-cons (λ (e : Edge). (e.source < states) × (e.target < states)) edge edges
-    (in_range states edge.source first.0, in_range states edge.target second.0) (edges_in_range states edges second.1)
+    (leb-false states edge.source first.0, leb-false states edge.target second.0) (edges_in_range states edges second.1)
 
-pub all_in_range : (states : ℕ) (labels : List (ℕ × List ℕ)) (edges : List Edge) → first_bad_state states labels edges ≡ None
+pub all_in_range : (states : ℕ) (labels : List (ℕ × List ℕ)) (edges : List Edge)
+    → first_bad_state states labels edges ≡ None
     → All (λ label. label.0 < states) labels × All (λ e. (e.source < states) × (e.target < states)) edges
 all_in_range states labels edges none =
     let both = none_left _ _ (sym (find-append (nat_le states) (map (λ label. label.0) labels) (flat_map ends edges)) ∙ none) in

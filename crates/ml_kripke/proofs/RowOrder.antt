@@ -4,15 +4,14 @@
 --   labels_at-ascends      == of labels that ascend, those of one state do
 --   labels_at-contains     == what stands in a state's row is a label of that state
 --   labels_at-contained    == a label of a state stands in its row
-use Rattle.std.proofs.Common.{◌≡◌, ◌==◌, ℕ, Bool, true, false, cond, List, [], ◌∷◌, map, filter, Contains, Ordering, refl, sym, ap, ◌∙◌, ⊎_elim, eq-eqb, arith, subst, ◌⊎◌}
+use Rattle.std.proofs.Common.{◌≡◌, ◌==◌, ℕ, Bool, true, false, cond, List, [], ◌∷◌, map, filter, Contains, Ordering, refl, sym, ap, ◌∙◌, ⊎_elim, eq-eqb, subst, ◌⊎◌}
 use Rattle.std.specs.List.{AllByRecursion}
 use Rattle.std.specs.List.Sorted.{IsStrictlySortedBy}
 use Rattle.std.specs.Ordering.{nat_cmp, ordering_then}
 use Rattle.std.specs.declared.cmp.Ordering.TheVariants.{Less}
 use Rattle.std.specs.Cmp.Lexicographic.{slice_cmp}
 use Rattle.std.proofs.lemmas.Cmp.{tied_itself, nat_cmp_total}
-use Rattle.std.proofs.lemmas.Bool.{true≢false}
-use Rattle.std.proofs.lemmas.Bool.Decides.{nat_tests}
+use Rattle.std.proofs.lemmas.Bool.{true≢false, eqb-true}
 use Rattle.ml_kripke.specs.Ordered.{labels_at}
 use Rattle.ml_lists.proofs.Members.{contains_head, contains_later, contains_cases, contains_none}
 
@@ -28,9 +27,6 @@ name_of x = x.1
 abbrev at : ℕ → Label → Bool
 at s x = x.0 == s
 
-same_state : (s t : ℕ) → (s == t) ≡ true → s ≡ t
-same_state s t e = grind (arith, nat_tests)
-
 -- of two labels of one state, the names decide
 by_name : (x y : Label) → x.0 ≡ y.0 → label_cmp x y ≡ slice_cmp nat_cmp x.1 y.1
 by_name x y e =
@@ -44,7 +40,7 @@ above x s e (y ∷ ys) all = go (at s y) refl (above x s e ys all.1)
   where
     go : (b : Bool) → at s y ≡ b → AllByRecursion (λ p. slice_cmp nat_cmp x.1 p ≡ Less) (labels_at ys s)
         → AllByRecursion (λ p. slice_cmp nat_cmp x.1 p ≡ Less) (map name_of (cond b (y ∷ filter (at s) ys) (filter (at s) ys)))
-    go true is rest = (sym (by_name x y (e ∙ sym (same_state y.0 s is))) ∙ all.0, rest)
+    go true is rest = (sym (by_name x y (e ∙ sym (eqb-true y.0 s is))) ∙ all.0, rest)
     go false is rest = rest
 
 pub labels_at-ascends : (s : ℕ) (xs : List Label)
@@ -56,7 +52,7 @@ labels_at-ascends s (x ∷ xs) ascends = go (at s x) refl (labels_at-ascends s x
   where
     go : (b : Bool) → at s x ≡ b → IsStrictlySortedBy (slice_cmp nat_cmp) (labels_at xs s)
         → IsStrictlySortedBy (slice_cmp nat_cmp) (map name_of (cond b (x ∷ filter (at s) xs) (filter (at s) xs)))
-    go true is rest = (above x s (same_state x.0 s is) xs ascends.0, rest)
+    go true is rest = (above x s (eqb-true x.0 s is) xs ascends.0, rest)
     go false is rest = rest
 
 pub labels_at-contains : (s : ℕ) (xs : List Label) (p : List ℕ) → Contains (labels_at xs s) p → Contains xs (s, p)
@@ -66,7 +62,7 @@ labels_at-contains s (x ∷ xs) p h = go (at s x) refl h (labels_at-contains s x
     go : (b : Bool) → at s x ≡ b → Contains (map name_of (cond b (x ∷ filter (at s) xs) (filter (at s) xs))) p
         → (Contains (labels_at xs s) p → Contains xs (s, p)) → Contains (x ∷ xs) (s, p)
     go true is inside rest =
-        let state = same_state x.0 s is in
+        let state = eqb-true x.0 s is in
         ⊎_elim
         (λ (e : x.1 ≡ p). let same : x ≡ (s, p) = λ i. (state i, e i) in subst (Contains (x ∷ xs)) same (contains_head x xs))
         (λ (later : Contains (labels_at xs s) p). contains_later x xs (s, p) (rest later))

@@ -16,18 +16,12 @@ use Rattle.std.proofs.lemmas.Bool.Decides.{nat_tests}
 use Rattle.std.proofs.lemmas.List.{length-drop}
 use Rattle.std.proofs.lemmas.List.Sums.{position_or_len_is}
 use Rattle.std.proofs.Math.Seq.{take-length}
+use Rattle.std.proofs.lemmas.Option.{cond_some}
 use Rattle.memchr.specs.Find.{IsFirstByte, is_byte}
 use Rattle.ml_lines.specs.Reading.{words_of, lines_of, left_of, fronts, last_part, is_blank, is_line_end}
+use Rattle.ml_lists.proofs.Entries.{cond-none}
 
 module _ (p : ℕ → Bool) where
-  shift_none : (b : Bool) (n : ℕ) → cond b (Some n) None ≡ None → b ≡ false
-  shift_none true n e = cc
-  shift_none false n e = refl
-
-  shift_some : (b : Bool) (n i : ℕ) → cond b (Some n) None ≡ Some i → (b ≡ true) × (n ≡ i)
-  shift_some true n i e = (refl, cc)
-  shift_some false n i e = cc
-
   cut_past : (xs : List ℕ) → length xs ≤ position_or_len p xs → slice_split p xs ≡ xs ∷ []
   cut_past [] past = refl
   cut_past (x ∷ xs) past = go (p x) past (cut_past xs)
@@ -41,14 +35,14 @@ module _ (p : ℕ → Bool) where
   pub cut_none : (xs : List ℕ) → position p xs ≡ None → slice_split p xs ≡ xs ∷ []
   cut_none xs none =
       let past : nat_lt (position_or_len p xs) (length xs) ≡ false =
-      shift_none (nat_lt (position_or_len p xs) (length xs)) (position_or_len p xs) none in
+      (cond-none (nat_lt (position_or_len p xs) (length xs)) (position_or_len p xs) None none).0 in
       cut_past xs (grind (arith, nat_tests))
 
   pub cut_at : (xs : List ℕ) (i : ℕ)
       → position p xs ≡ Some i
       → (i < length xs) × (slice_split p xs ≡ take i xs ∷ slice_split p (drop (i + 1) xs))
   cut_at xs i some =
-      let parts = shift_some (nat_lt (position_or_len p xs) (length xs)) (position_or_len p xs) i some in
+      let parts = cond_some (nat_lt (position_or_len p xs) (length xs)) (position_or_len p xs) i some in
       let below : position_or_len p xs < length xs = grind (arith, nat_tests) in (
         omega (arith, parts.1),
         subst (λ k. slice_split p xs ≡ take k xs ∷ slice_split p (drop (k + 1) xs)) parts.1 (slice_split_first p xs 0 below),

@@ -8,6 +8,7 @@ use Rattle.std.proofs.Common.{◌≡◌, ℕ, Bool, true, false, ◌||◌, List,
 use Rattle.std.specs.List.{slice_split, join_with_byte, AllByRecursion, list_any, onto_first}
 use Rattle.std.proofs.lemmas.List.Elements.{All-nil, All-cons}
 use Rattle.std.proofs.lemmas.List.Splits.{slice_split_at, slice_split-cons_yes, slice_split-cons_no, join_with_byte-slice_split}
+use Rattle.std.proofs.lemmas.Bool.{or_parts}
 use Rattle.ml_lines.specs.Reading.{words_of, lines_of, left_of, fronts, last_part, is_line_end}
 use Rattle.ml_lines.proofs.Cuts.{some_part, fronts_more, last_more}
 
@@ -16,14 +17,10 @@ IsInLine bytes = list_any is_line_end bytes ≡ false
 
 -- ---- a line in front
 
-part_parts : (a b : Bool) → (a || b) ≡ false → (a ≡ false) × (b ≡ false)
-part_parts true b e = absurd (cc)
-part_parts false b e = (refl, e)
-
 pub none_passes : (p : ℕ → Bool) (bytes : List ℕ) → list_any p bytes ≡ false → All (λ b. p b ≡ false) bytes
 none_passes p [] is = All-nil (λ (b : ℕ). p b ≡ false)
 none_passes p (b ∷ bs) is =
-    let parts = part_parts (p b) (list_any p bs) is in All-cons (λ (c : ℕ). p c ≡ false) b bs parts.0 (none_passes p bs parts.1)
+    let parts = or_parts (p b) (list_any p bs) is in All-cons (λ (c : ℕ). p c ≡ false) b bs parts.0 (none_passes p bs parts.1)
 
 pub line_front : (bytes rest : List ℕ) → IsInLine bytes
     → (lines_of (bytes ++ 10 ∷ rest) ≡ words_of bytes ∷ lines_of rest) × (left_of (bytes ++ 10 ∷ rest) ≡ left_of rest)

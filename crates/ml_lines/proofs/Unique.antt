@@ -9,10 +9,11 @@
 --   IsPlain line           == a line of at least one word, without blanks and LFs in them
 --   line_unique            == the bytes of two plain lines without their LF are equal only where the lines are
 --   text_unique            == the bytes of two lists of plain lines are equal only where the lists are
-use Rattle.std.proofs.Common.{◌≡◌, ◌==◌, ℕ, Bool, true, false, cond, ◌||◌, List, [], ◌∷◌, ◌++◌, drop, refl, sym, ap, ◌∙◌, append_assoc}
+use Rattle.std.proofs.Common.{◌≡◌, ◌==◌, ℕ, Bool, false, cond, List, [], ◌∷◌, ◌++◌, drop, refl, sym, ap, ◌∙◌, append_assoc}
 use Rattle.std.specs.List.{flat_map, list_any}
 use Rattle.std.proofs.lemmas.List.{append-nil}
 use Rattle.std.proofs.lemmas.List.Folds.{list_any-append}
+use Rattle.std.proofs.lemmas.Bool.{or_parts, or_from}
 use Rattle.ml_lines.specs.Lines.{Word, Line, next, text_of}
 use Rattle.ml_lines.proofs.Words.{line_text-words}
 
@@ -39,24 +40,16 @@ abbrev pub ArePlain : List Line → Type 0
 ArePlain [] = Unit {0}
 ArePlain (line ∷ lines) = IsPlain line × ArePlain lines
 
-no_part : (a b : Bool) → (a || b) ≡ false → (a ≡ false) × (b ≡ false)
-no_part true b e = cc
-no_part false b e = (refl, e)
-
-no_part_of : (a b : Bool) → a ≡ false → b ≡ false → (a || b) ≡ false
-no_part_of true b e f = e
-no_part_of false b e f = f
-
 before-append : (c : ℕ) (xs ys : List ℕ) → has c xs ≡ false → before c (xs ++ ys) ≡ xs ++ before c ys
 before-append c [] ys e = refl
 before-append c (x ∷ xs) ys e =
-    let parts = no_part (x == c) (has c xs) e in
+    let parts = or_parts (x == c) (has c xs) e in
     ap (λ here. cond here [] (x ∷ before c (xs ++ ys))) parts.0 ∙ ap (λ rest. x ∷ rest) (before-append c xs ys parts.1)
 
 from-append : (c : ℕ) (xs ys : List ℕ) → has c xs ≡ false → from c (xs ++ ys) ≡ from c ys
 from-append c [] ys e = refl
 from-append c (x ∷ xs) ys e =
-    let parts = no_part (x == c) (has c xs) e in
+    let parts = or_parts (x == c) (has c xs) e in
     ap (λ here. cond here (x ∷ (xs ++ ys)) (from c (xs ++ ys))) parts.0 ∙ from-append c xs ys parts.1
 
 before_next : (words : Line) → before 32 (flat_map next words) ≡ []
@@ -97,7 +90,7 @@ no_end : (words : Line) → avoids 10 words → has 10 (flat_map next words) ≡
 no_end [] ok = refl
 no_end (word ∷ words) ok =
     list_any-append (λ x. x == 10) word (flat_map next words)
-    ∙ no_part_of (has 10 word) (has 10 (flat_map next words)) ok.0 (no_end words ok.1)
+    ∙ or_from (has 10 word) (has 10 (flat_map next words)) ok.0 (no_end words ok.1)
 
 pub no_end_in : (word : Word) (words : Line) → avoids 10 (word ∷ words) → has 10 (body word words) ≡ false
 no_end_in word words ok = no_end (word ∷ words) ok

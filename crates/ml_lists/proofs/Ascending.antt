@@ -5,11 +5,13 @@
 --   ascending-is                           == it is ascending
 --   ascending_same                         == two ascending lists with the same members are one
 --   ascending-apart                        == an earlier entry of an ascending list is below a later one
+--   ascending-append, ascending-filter     == a list with a greater entry at its end ascends, and a part of one
+--   length-insert_once, length-ascending   == an ascending list is no longer than the list
 --   ascending-one, ascending-cons          == a list of one entry ascends, and one with a lower entry put in front
-use Rattle.std.proofs.Common.{ℕ, ◌≡◌, ◌<◌, ◌⊎◌, inl, inr, arith, true, false, cond, List, [], ◌∷◌, eqb, ltb, refl, sym, subst, ◌∙◌, zero, suc, length, get_or}
+use Rattle.std.proofs.Common.{ℕ, ◌≡◌, ◌+◌, ◌<◌, ◌≤◌, ◌⊎◌, inl, inr, arith, Bool, true, false, cond, filter, List, [], ◌∷◌, ◌++◌, eqb, ltb, refl, sym, subst, ◌∙◌, zero, suc, length, get_or}
 use Rattle.std.proofs.lemmas.Bool.{cases_Bool, cond-true, cond-false, ltb-true, ltb-false, eqb-true, eqb-false}
 use Rattle.ml_lists.specs.Member.{IsMember}
-use Rattle.ml_lists.proofs.Member.{place-member}
+use Rattle.ml_lists.proofs.Member.{member-append, member-filter_from, place-member}
 use Rattle.ml_lists.specs.Ascending.{IsAscending, insert_once, ascending}
 
 -- the three forms of the set with x
@@ -178,3 +180,47 @@ ascending-cons x y ys low a = (above, a)
     above : (v : ℕ) → IsMember v (y ∷ ys) → x < v
     above v (inl e) = omega arith
     above v (inr m) = let later = a.0 v m in omega arith
+
+-- an ascending list with a greater entry at its end ascends
+pub ascending-append : (xs : List ℕ) (x : ℕ)
+    → IsAscending xs
+    → ((y : ℕ) → IsMember y xs → y < x)
+    → IsAscending (xs ++ x ∷ [])
+ascending-append [] x a high = ((λ y m. absurd m), tt)
+ascending-append (z ∷ zs) x a high = (
+  (λ y m. by_part y (member-append y zs (x ∷ []) m)),
+  ascending-append zs x a.1 (λ y m. high y (inr m)),
+)
+  where
+    by_part : (y : ℕ) → IsMember y zs ⊎ IsMember y (x ∷ []) → z < y
+    by_part y (inl old) = a.0 y old
+    by_part y (inr (inl new)) = let low = high z (inl refl) in omega arith
+    by_part y (inr (inr none)) = absurd none
+
+-- a part of an ascending list ascends
+pub ascending-filter : (test : ℕ → Bool) (xs : List ℕ) → IsAscending xs → IsAscending (filter test xs)
+ascending-filter test [] a = tt
+ascending-filter test (x ∷ xs) a = by_test (cases_Bool (test x)) (ascending-filter test xs a.1)
+  where
+    by_test : (test x ≡ true) ⊎ (test x ≡ false) → IsAscending (filter test xs) → IsAscending (filter test (x ∷ xs))
+    by_test (inl passes) rest =
+        subst IsAscending (sym (cond-true (test x) (x ∷ filter test xs) (filter test xs) passes))
+        ((λ y m. a.0 y (member-filter_from test y xs m).0), rest)
+    by_test (inr fails) rest =
+        subst IsAscending (sym (cond-false (test x) (x ∷ filter test xs) (filter test xs) fails)) rest
+
+-- the set with x has one member more at most
+pub length-insert_once : (x : ℕ) (ys : List ℕ) → length (insert_once x ys) ≤ length ys + 1
+length-insert_once x [] = omega arith
+length-insert_once x (y ∷ ys) = by_test (ltb x y) (eqb x y) (length-insert_once x ys)
+  where
+    by_test : (a b : Bool) → length (insert_once x ys) ≤ length ys + 1
+        → length (cond a (x ∷ (y ∷ ys)) (cond b (y ∷ ys) (y ∷ insert_once x ys))) ≤ length (y ∷ ys) + 1
+    by_test true b rest = omega arith
+    by_test false true rest = omega arith
+    by_test false false rest = omega arith
+
+-- the ascending list is no longer
+pub length-ascending : (xs : List ℕ) → length (ascending xs) ≤ length xs
+length-ascending [] = omega arith
+length-ascending (x ∷ xs) = omega (arith, length-insert_once x (ascending xs), length-ascending xs)

@@ -1,6 +1,6 @@
 -- A breadth-first list is determined by its start and the rows of its entries.
 --
---   member-each_once    == a list with each entry once has the same members
+--   member-each_once, each_once-member == a list with each entry once has the same members
 --   row_inside          == what an entry leads to is an entry
 --   AreOnce, each_once-is == nothing stands in it twice
 --   each_once-front     == that of a longer list begins with it
@@ -31,6 +31,12 @@ member-each_once v (x ∷ xs) m = by_case (cases_eq v x) m (member-each_once v x
     by_case (inr other) (inr i) later =
         let passes : not (v == x) ≡ true = grind (arith, nat_tests) in
         inr (member-filter (λ y. not (y == x)) v (each_once xs) (later i) passes)
+
+pub each_once-member : (v : ℕ) (xs : List ℕ) → IsMember v (each_once xs) → IsMember v xs
+each_once-member v [] m = absurd m
+each_once-member v (x ∷ xs) (inl same) = inl same
+each_once-member v (x ∷ xs) (inr m) =
+    inr (each_once-member v xs (member-filter_from (λ y. not (y == x)) v (each_once xs) m).0)
 
 -- what an entry leads to is an entry
 pub row_inside : (start : ℕ) (rows : List (List ℕ)) (xs : List ℕ)

@@ -17,6 +17,7 @@ use Rattle.std.proofs.lemmas.Grind.{flat_map-append}
 use Rattle.std.proofs.lemmas.Option.{slice_get-get_or}
 use Rattle.ml_lists.specs.Member.{IsMember}
 use Rattle.ml_lists.proofs.Member.{InList, Place, member-append, member-append_right, member-flat_map_from, member-place}
+use Rattle.ml_lists.proofs.Entries.{get_grown}
 use Rattle.ml_lists.proofs.FirstEntries.{AreApart, firsts, firsts-apart, firsts-front, firsts-member}
 
 pub record FromEarlier {X : Type 0} (next : X → List X) (xs : List X) (k : ℕ) (x : X) : Type 0 where
@@ -27,11 +28,6 @@ pub record FromEarlier {X : Type 0} (next : X → List X) (xs : List X) (k : ℕ
   pub leads : IsMember x (next from)
 
 -- ---- one more entry
-
-get_grown : {X : Type 0} (xs ys : List X) (k : ℕ) (x : X) → slice_get xs k ≡ Some x → slice_get (xs ++ ys) k ≡ Some x
-get_grown [] ys k x is = absurd (cc)
-get_grown (z ∷ zs) ys zero x is = is
-get_grown (z ∷ zs) ys (suc k) x is = get_grown zs ys k x is
 
 get_one_more : {X : Type 0} (xs : List X) (y : X) (k : ℕ) (x : X)
     → slice_get (xs ++ y ∷ []) k ≡ Some x

@@ -17,12 +17,11 @@ use Rattle.std.proofs.Common.{ℕ, zero, suc, ◌≡◌, ◌<◌, ◌≤◌, ◌
 use Rattle.std.proofs.Common.{[], ◌∷◌, ◌++◌, length, map, filter, get_or, Some, refl, sym, ap, ◌∙◌, subst, ⊎_elim}
 use Rattle.std.specs.Bool.{Decides}
 use Rattle.std.specs.List.{slice_get, range_with_len}
-use Rattle.std.proofs.lemmas.Bool.{cases_Bool, cases_lt, cond-true, cond-false}
-use Rattle.std.proofs.lemmas.Bool.Decides.{nat_tests}
+use Rattle.std.proofs.lemmas.Bool.{cases_Bool, cases_lt, cond-true, cond-false, eq-eqb, ne_eqb}
 use Rattle.std.proofs.lemmas.List.{ext_get_or, get_or-map, length-map}
 use Rattle.std.proofs.lemmas.List.Elements.{filter-append}
 use Rattle.std.proofs.lemmas.List.FromFn.{get_or-range_with_len, length-range_with_len}
-use Rattle.std.proofs.lemmas.Option.{slice_get_within, slice_get-get_or}
+use Rattle.std.proofs.lemmas.Option.{same_Some, slice_get_within, slice_get-get_or}
 use Rattle.ml_lists.specs.BreadthFirst.{each_once}
 use Rattle.ml_lists.specs.Member.{IsMember}
 use Rattle.ml_lists.specs.Pigeons.{Twice}
@@ -33,9 +32,6 @@ abbrev pub AreApart : {X : Type 0} → List X → Type 0
 AreApart [] = Unit {0}
 AreApart (x ∷ xs) = (IsMember x xs → ⊥) × AreApart xs
 
-some_same : {X : Type 0} {x y : X} → Some x ≡ Some y → x ≡ y
-some_same e = cc
-
 pub apart_places : {X : Type 0} (xs : List X)
     → AreApart xs
     → (i j : ℕ) (x : X)
@@ -45,9 +41,9 @@ pub apart_places : {X : Type 0} (xs : List X)
 apart_places [] apart i j x here there = absurd (cc)
 apart_places (y ∷ ys) apart zero zero x here there = refl
 apart_places (y ∷ ys) apart zero (suc j) x here there =
-    absurd (apart.0 (subst (λ z. IsMember z ys) (sym (some_same here)) (member_of_get ys j x there)))
+    absurd (apart.0 (subst (λ z. IsMember z ys) (sym (same_Some y x here)) (member_of_get ys j x there)))
 apart_places (y ∷ ys) apart (suc i) zero x here there =
-    absurd (apart.0 (subst (λ z. IsMember z ys) (sym (some_same there)) (member_of_get ys i x here)))
+    absurd (apart.0 (subst (λ z. IsMember z ys) (sym (same_Some y x there)) (member_of_get ys i x here)))
 apart_places (y ∷ ys) apart (suc i) (suc j) x here there = ap suc (apart_places ys apart.1 i j x here there)
 
 -- ---- first entries
@@ -86,12 +82,6 @@ firsts-member eq x (y ∷ ys) (inr m) =
 abbrev pub number : {X : Type 0} → (X → X → Bool) → List X → X → ℕ
 number eq [] x = 0
 number eq (y ∷ ys) x = if eq x y then 0 else suc (number eq ys x)
-
-other_false : (m n : ℕ) → (m ≡ n → ⊥) → (m == n) ≡ false
-other_false m n other = grind (arith, nat_tests)
-
-same_true : (m n : ℕ) → m ≡ n → (m == n) ≡ true
-same_true m n same = grind (arith, nat_tests)
 
 module _ {X : Type 0} (eq : X → X → Bool) (tells : (x y : X) → Decides (eq x y) (x ≡ y)) where
   pub firsts-apart : (xs : List X) → AreApart (firsts eq xs)
@@ -138,7 +128,7 @@ module _ {X : Type 0} (eq : X → X → Bool) (tells : (x y : X) → Decides (eq
   number_low xs x m = slice_get_within xs (number eq xs x) x (number_is xs x m)
 
   pub one_number : (xs : List X) (x y : X) → IsMember x xs → IsMember y xs → number eq xs x ≡ number eq xs y → x ≡ y
-  one_number xs x y m i same = some_same (sym (number_is xs x m) ∙ ap (slice_get xs) same ∙ number_is xs y i)
+  one_number xs x y m i same = same_Some x y (sym (number_is xs x m) ∙ ap (slice_get xs) same ∙ number_is xs y i)
 
   -- a value has the number of the place where it stands
   pub number_at : (xs : List X) → AreApart xs → (k : ℕ) (x : X) → slice_get xs k ≡ Some x → number eq xs x ≡ k
@@ -206,7 +196,7 @@ module _ {X : Type 0} (eq : X → X → Bool) (tells : (x y : X) → Decides (eq
           → filter (λ n. not (n == f x)) (map f ys) ≡ map f (filter (λ z. not (eq z x)) ys)
           → filter (λ n. not (n == f x)) (map f (y ∷ ys)) ≡ map f (filter (λ z. not (eq z x)) (y ∷ ys))
       by_test (inl t) rest =
-          let fails : not (f y == f x) ≡ false = ap not (same_true (f y) (f x) (ap f ((tells y x).0 t))) in
+          let fails : not (f y == f x) ≡ false = ap not (eq-eqb (f y) (f x) (ap f ((tells y x).0 t))) in
           cond-false (not (f y == f x)) (f y ∷ filter (λ n. not (n == f x)) (map f ys))
           (filter (λ n. not (n == f x)) (map f ys)) fails
           ∙ rest
@@ -214,7 +204,7 @@ module _ {X : Type 0} (eq : X → X → Bool) (tells : (x y : X) → Decides (eq
           (filter (λ z. not (eq z x)) ys) (ap not t)))
       by_test (inr n) rest =
           let passes : not (f y == f x) ≡ true =
-          ap not (other_false (f y) (f x) (λ e. let t = (tells y x).1 (one y (inl refl) e) in absurd (cc))) in
+          ap not (ne_eqb (f y) (f x) (λ e. let t = (tells y x).1 (one y (inl refl) e) in absurd (cc))) in
           cond-true (not (f y == f x)) (f y ∷ filter (λ n. not (n == f x)) (map f ys))
           (filter (λ n. not (n == f x)) (map f ys)) passes
           ∙ ap (λ ns. f y ∷ ns) rest

@@ -2,9 +2,10 @@
 --
 --   iterate_once_more  == the next iterate is one application more
 --   iterate_stays      == where two iterates in a row are equal, all later ones are
+--   iterates_once_more, stops_early  == the same of a walk that keeps what it came to
 --   iterate_keeps      == what holds of the start, and stays by an application, holds of each iterate
 --   iterates_related   == the same of the iterates of two functions, and a relation
-use Rattle.std.proofs.Common.{◌≡◌, ℕ, zero, suc, ◌+◌, ◌-◌, ◌≤◌, ap, ◌∙◌, arith, add-one, add-zero, add-suc}
+use Rattle.std.proofs.Common.{◌≡◌, ℕ, zero, suc, ◌+◌, ◌-◌, ◌≤◌, sym, ap, ◌∙◌, arith, add-one, add-zero, add-suc}
 use Rattle.ml_lists.specs.Iterate.{iterate}
 
 pub iterate_once_more : {A : Type 0} (step : A → A) (x : A) (k : ℕ) → iterate (k + 1) step x ≡ step (iterate k step x)
@@ -21,6 +22,21 @@ pub iterate_stays : {A : Type 0} (step : A → A) (x : A) (k n : ℕ) → step (
 iterate_stays step x k n same within =
     let parts : n ≡ k + (n - k) = omega arith in
     ap (λ j. iterate j step x) parts ∙ stays_for step x k (n - k) same
+
+pub iterates_once_more : {A : Type 0} (step : A → A) (first x next : A) (k : ℕ)
+    → x ≡ iterate k step first
+    → next ≡ step x
+    → next ≡ iterate (k + 1) step first
+iterates_once_more step first x next k so_far is = is ∙ ap step so_far ∙ sym (iterate_once_more step first k)
+
+pub stops_early : {A : Type 0} (step : A → A) (first x next : A) (k n : ℕ)
+    → x ≡ iterate k step first
+    → next ≡ step x
+    → next ≡ x
+    → k ≤ n
+    → x ≡ iterate n step first
+stops_early step first x next k n so_far is same within =
+    so_far ∙ sym (iterate_stays step first k n (ap step (sym so_far) ∙ sym is ∙ same ∙ so_far) within)
 
 pub iterate_keeps : {A : Type 0} (P : A → Type 0) (step : A → A) (x : A) (k : ℕ) → P x → ((y : A) → P y → P (step y))
     → P (iterate k step x)

@@ -6,6 +6,7 @@
 --
 --   round-entry, round-end == the entries of the round: those of the list, then that at the start
 --   on_loop l k            == entry k of the loop, as a sequence
+--   on_loop-entry          == which is the entry of the list that many places behind the start
 --   loop_length l          == how many entries the loop has
 --   loop_closed            == the loop comes back to where it began
 --   lasso_keeps            == what each step of the round keeps, and holds at its first entry, holds at each
@@ -33,6 +34,10 @@ round-end l k last = get_or_push l.entries (entry l l.start) 0 k (sym last)
 -- entry k of the loop
 abbrev pub on_loop : Lasso → ℕ → ℕ
 on_loop l k = get_or (round l) (l.start + k) 0
+
+pub on_loop-entry : (l : Lasso) (k : ℕ) → l.start ≤ k → k < length l.entries → on_loop l (k - l.start) ≡ entry l k
+on_loop-entry l k late low =
+    let same : l.start + (k - l.start) ≡ k = omega arith in ap (λ n. get_or (round l) n 0) same ∙ round-entry l k low
 
 -- how many entries the loop has
 abbrev pub loop_length : Lasso → ℕ

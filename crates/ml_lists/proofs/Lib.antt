@@ -52,6 +52,16 @@ pub mod Chains
 pub mod Grids
 -- lassos along a map
 pub mod MappedLasso
+-- the numbers from one on
+pub mod Ranges
+-- entries of lists, found by a place or by a test
+pub mod Entries
+-- answers of comparisons, one after the other
+pub mod Orderings
+-- propositions and their truth values
+pub mod Says
+-- lists of numbers that std has sorted
+pub mod Sorted
 -- lists in another order
 pub mod Permuted
 -- how often a number stands in a list
@@ -70,6 +80,8 @@ pub mod InTurn
 pub mod ComesFirst
 -- first entries, and numbers of entries
 pub mod FirstEntries
+-- different members of a list are no more than its entries
+pub mod Different
 -- breadth-first search among values
 pub mod BreadthFirstSearch
 -- propositions that are decided: one under another, and all or some of finitely many

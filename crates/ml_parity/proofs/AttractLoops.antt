@@ -1,7 +1,6 @@
 -- The loops that make and undo attractors, over the lists of the program.
 --
 --   left_here, left_elsewhere == one count is counted down
---   next_entry      == what is still to be seen, with its first entry
 --   preds_low, preds_move == the entries of a list of predecessors are vertices with such a move
 --   taken_up        == the counts when a vertex is taken up
 --   one_counted     == the counts when a predecessor is seen
@@ -10,11 +9,10 @@
 --   counted_turn, kept_turn == one turn of the loop over the predecessors
 --   all_room, all_up == the same for all predecessors of the vertex at a place
 use Rattle.std.proofs.Common.{ℕ, ◌≡◌, ◌+◌, ◌-◌, ◌<◌, ◌≤◌, ◌⊎◌, inl, inr, ⊎_elim, Bool, arith, List, [], ◌∷◌, length, get_or, set, take, drop}
-use Rattle.std.proofs.Common.{cond, nat_eq, subst, sym, ap, ◌∙◌, refl, eq-eqb, ne_eqb, add-one, get_or-set_same, get_or-set_other}
-use Rattle.std.proofs.Math.Seq.{drop-cons}
+use Rattle.std.proofs.Common.{cond, nat_eq, subst, sym, ap, ◌∙◌, refl, eq-eqb, ne_eqb, get_or-set_same, get_or-set_other}
 use Rattle.std.specs.List.{count_by}
 use Rattle.std.proofs.lemmas.Bool.{cases_eq, cases_lt}
-use Rattle.std.proofs.lemmas.List.{get_or_default, get_or_past}
+use Rattle.std.proofs.lemmas.List.{get_or_default, get_or_past, drop_more}
 use Rattle.std.proofs.lemmas.List.Sums.{count_by-le-length, sum_by-take-le, count_by_more_yes, count_by_more_no}
 use borrow.Author.Tests.{eqb-true}
 use Rattle.ml_parity.specs.Game.{ParityGame, HasMove, size, moves_of}
@@ -40,9 +38,6 @@ pub left_elsewhere : (left : List ℕ) (u x v : ℕ) → (v ≡ u → ⊥) → n
 left_elsewhere left u x v other = get_or-set_other left u v x 0 other
 
 -- what is still to be seen, with its first entry
-pub next_entry : (xs : List ℕ) (k : ℕ) → k < length xs → drop k xs ≡ get_or xs k 0 ∷ drop (k + 1) xs
-next_entry xs k low = drop-cons xs k 0 low ∙ ap (λ j. get_or xs k 0 ∷ drop j xs) (sym (add-one k))
-
 -- a vertex that stands among the predecessors has such a move
 pub preds_move : (g : ParityGame) (w : ℕ) (preds : List ℕ)
     → ((u : ℕ) → times u preds ≡ times w (moves_of g u))
@@ -229,7 +224,7 @@ pub some_left : (g : ParityGame) (place : ℕ → ℕ) (a : ℕ) (left preds : L
 some_left g place a left preds k low vertex lefts =
     let u : ℕ = get_or preds k 0 in
     let e = lefts u vertex in
-    let t : times u (drop k preds) ≡ times u (u ∷ drop (k + 1) preds) = ap (times u) (next_entry preds k low) in
+    let t : times u (drop k preds) ≡ times u (u ∷ drop (k + 1) preds) = ap (times u) (drop_more preds k 0 low) in
     let one = times_here u u (drop (k + 1) preds) refl in
     omega arith
 
@@ -252,7 +247,7 @@ counted_turn g place place2 r a win s s2 left left2 preds k kept fits low vertex
     ∙ one_counted g place place2 a (get_or preds k 0) left (drop (k + 1) preds)
     (some_left g place a left preds k low vertex lefts) (in_to r place win s place2 win s2 kept a fits)
     (still_behind r a place place2 win s s2 kept fits)
-    (λ u here. lefts u here ∙ ap (λ (xs : List ℕ). moves_before g place a u + times u xs) (next_entry preds k low))
+    (λ u here. lefts u here ∙ ap (λ (xs : List ℕ). moves_before g place a u + times u xs) (drop_more preds k 0 low))
     v inside
 
 -- what is kept, one step further

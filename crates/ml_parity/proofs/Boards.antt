@@ -15,7 +15,7 @@ use Rattle.std.proofs.lemmas.List.{get_or_default}
 use Rattle.ml_lists.specs.Search.{Found}
 use Rattle.ml_lists.specs.Lasso.{Lasso, entry, round, lowest_on_loop}
 use Rattle.ml_lists.proofs.Search.{search}
-use Rattle.ml_lists.proofs.Lasso.{round-entry, on_loop, loop_length, loop_closed, lasso_keeps, lowest_on_loop_is, lasso_of, lasso_of-length, lasso_of-entry}
+use Rattle.ml_lists.proofs.Lasso.{round-entry, on_loop-entry, on_loop, loop_length, loop_closed, lasso_keeps, lowest_on_loop_is, lasso_of, lasso_of-length, lasso_of-entry}
 use Rattle.ml_parity.specs.declared.players.Player.{Player}
 use Rattle.ml_parity.specs.Player.{opponent, side}
 use Rattle.ml_parity.specs.Game.{ParityGame, IsGame, HasMove, owner_of, priority_of, moves_of, size}
@@ -59,14 +59,10 @@ winner_is g l p starts good = ap side lowest ∙ here ∙ good.right
     at : (k : ℕ) → k < loop_length l → on_loop l k ≡ entry l (l.start + k)
     at k low = round-entry l (l.start + k) (omega arith)
 
-    reach : (j : ℕ) → l.start ≤ j → j < length l.entries → on_loop l (j - l.start) ≡ entry l j
-    reach j later low = let e : l.start + (j - l.start) ≡ j = omega arith in at (j - l.start) (omega arith)
-        ∙ ap (entry l) e
-
     least : (j : ℕ) → l.start ≤ j → j < length l.entries
         → priority_of g (entry l (l.start + good.place)) ≤ priority_of g (entry l j)
-    least j later low = subst₂ (λ x y. priority_of g x ≤ priority_of g y) (at good.place good.below) (reach j later low)
-        (good.least (j - l.start) (omega arith))
+    least j later low = subst₂ (λ x y. priority_of g x ≤ priority_of g y) (at good.place good.below)
+        (on_loop-entry l j later low) (good.least (j - l.start) (omega arith))
 
     lowest : lowest_on_loop (priority_of g) l ≡ priority_of g (entry l (l.start + good.place))
     lowest = lowest_on_loop_is (priority_of g) l (l.start + good.place) (omega arith) (omega (arith, good.below)) least

@@ -3,6 +3,7 @@
 -- The number of Neutral is even and above those of the other marks in play.
 --
 --   priority_le, priority_ge == the order of marks is that of their numbers
+--   priority-most            == no mark that fits has a greater number than Neutral
 --   priority-lower           == the number of the lower of two marks is the lower number
 --   lowest_priority          == the lowest number is that of the lowest mark
 --   odd_priority             == it is odd exactly if the mark is
@@ -95,3 +96,9 @@ priorities_agree top m ms even fits =
     let odd = odd_priority top (lowest_mark (m ∷ ms)) even in
     let same = lowest_priority top m ms fits in
     ((λ e. odd.0 (subst (λ v. v % 2 ≡ 1) same e)), (λ e. subst (λ v. v % 2 ≡ 1) (sym same) (odd.1 e)))
+
+-- no mark that fits has a greater number than Neutral
+pub priority-most : (top : ℕ) (m : Mark) → FitsBelow top m → priority top m ≤ top
+priority-most top (Red x) fits = omega arith
+priority-most top (Green x) fits = omega arith
+priority-most top Neutral fits = omega arith

@@ -4,8 +4,10 @@
 --   has-member, member-has == to stand in a stack is to be an entry of it
 --   ends-cons              == the last name of a stack is that of the stack with a name in front
 --   ends-cons_not          == and the other way round, where the stack has the name
+--   ends_at                == the last name of a stack is the entry at its last place
+--   one_end                == a stack has one last name
 --   ends-map               == the image of the last name is the last name of the image
-use Rattle.std.proofs.Common.{ℕ, ◌≡◌, ◌⊎◌, inl, inr, List, [], ◌∷◌, true, false, eqb, sym, map, ap}
+use Rattle.std.proofs.Common.{ℕ, suc, ◌≡◌, ◌-◌, ◌<◌, ◌⊎◌, inl, inr, List, [], ◌∷◌, true, false, eqb, length, get_or, refl, sym, ◌∙◌, map, ap, arith}
 use Rattle.std.proofs.lemmas.Bool.{or_left, or_right, or_cases, eqb-true, eq-eqb}
 use Rattle.ml_lists.specs.Member.{IsMember}
 use Rattle.ml_trace.specs.Stack.{has, ends_in}
@@ -46,3 +48,17 @@ pub ends-map : (f : ℕ → ℕ) (y : ℕ) (s : List ℕ) → ends_in y s ≡ tr
 ends-map f y [] e = absurd (cc)
 ends-map f y (x ∷ []) e = eq-eqb (f x) (f y) (ap f (eqb-true x y e))
 ends-map f y (x ∷ (z ∷ zs)) e = ends-map f y (z ∷ zs) e
+
+-- the last name of a stack is the entry at its last place
+pub ends_at : (name : ℕ) (s : List ℕ) → 0 < length s → eqb (get_or s (length s - 1) 0) name ≡ ends_in name s
+ends_at name [] some = absurd (omega arith)
+ends_at name (x ∷ []) some = refl
+ends_at name (x ∷ (y ∷ ys)) some =
+    let e : length (x ∷ (y ∷ ys)) - 1 ≡ suc (length (y ∷ ys) - 1) = omega arith in
+    ap (λ k. eqb (get_or (x ∷ (y ∷ ys)) k 0) name) e ∙ ends_at name (y ∷ ys) (omega arith)
+
+-- a stack has one last name
+pub one_end : (y z : ℕ) (s : List ℕ) → ends_in y s ≡ true → ends_in z s ≡ true → y ≡ z
+one_end y z [] e f = absurd (cc)
+one_end y z (v ∷ []) e f = sym (eqb-true v y e) ∙ eqb-true v z f
+one_end y z (v ∷ (u ∷ us)) e f = one_end y z (u ∷ us) e f

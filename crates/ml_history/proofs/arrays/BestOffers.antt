@@ -18,7 +18,7 @@ use Rattle.std.proofs.lemmas.List.{length-append, map-append, take_more, get_or-
 use Rattle.std.proofs.lemmas.Grind.{flat_map-append}
 use Rattle.ml_lists.specs.Ascending.{IsAscending}
 use Rattle.ml_lists.specs.Member.{IsMember}
-use Rattle.ml_lists.proofs.Ascending.{ascending-apart}
+use Rattle.ml_lists.proofs.Ascending.{ascending-apart, ascending-append}
 use Rattle.ml_lists.proofs.Member.{Image, Place, member-append, member-append_left, member-append_right, member-place, place-member, member-map, member-map_from}
 use Rattle.ml_trace.specs.declared.letters.Transition.{Transition}
 use Rattle.ml_trace.specs.Automaton.{RiseByTarget}
@@ -31,7 +31,6 @@ use Rattle.ml_history.proofs.trees.ItemsByState.{state_of, one_item, items_same}
 use Rattle.ml_history.proofs.definition.OrderOfOffers.{beats_irreflexive, beats_asymmetric, beats_not_trans}
 use Rattle.ml_history.proofs.definition.LetterSets.{beats_antisymmetric}
 use Rattle.ml_history.proofs.definition.NamesInUse.{live-has}
-use Rattle.ml_history.proofs.definition.OfferedStacks.{ascending-append}
 use Rattle.ml_history.proofs.definition.Offers.{offer_from}
 use Rattle.ml_history.proofs.arrays.OrderOfNames.{beats-extends, beats-longer, beats-younger, front-ascends}
 use Rattle.ml_history.proofs.definition.TakenOffers.{taken-offer, taken_by, taken-ascends}

@@ -12,7 +12,7 @@ use Rattle.std.proofs.Common.{ℕ, zero, suc, ◌≡◌, ◌≢◌, ◌+◌, ◌
 use Rattle.std.proofs.Common.{◌∷◌, ◌++◌, length, get_or, take, drop, map, refl, sym, subst, ap, ◌∙◌, append_assoc, append-nil}
 use Rattle.std.specs.List.{list_any}
 use Rattle.std.proofs.lemmas.Bool.{cases_Bool, eqb-true, or_cases, or_left, or_right}
-use Rattle.std.proofs.lemmas.List.{map-append, take_all, take_more}
+use Rattle.std.proofs.lemmas.List.{map-append, take_all, take_more, drop_more}
 use Rattle.std.proofs.lemmas.List.Folds.{list_any-append}
 use Rattle.ml_lists.specs.Ascending.{IsAscending}
 use Rattle.ml_lists.specs.Member.{IsMember}
@@ -27,7 +27,7 @@ use Rattle.ml_history.specs.private.Arrays.{AreLaidOut}
 use Rattle.ml_history.specs.private.Keys.{stack_at, offered_by}
 use Rattle.ml_history.specs.private.Ways.{AreWays, PassesDown}
 use Rattle.ml_history.proofs.definition.CutStacks.{through-stops, through-goes, through-whole}
-use Rattle.ml_history.proofs.arrays.FlagsAlongStacks.{cut_by, drop_next, drop_all, member-take, or-swap, passes_down-part, ways_down}
+use Rattle.ml_history.proofs.arrays.FlagsAlongStacks.{cut_by, drop_all, member-take, or-swap, passes_down-part, ways_down}
 use Rattle.ml_history.proofs.arrays.StackLayout.{laid_none, laid_one_more}
 use Rattle.ml_history.proofs.definition.NamesInUse.{live-has}
 use Rattle.ml_history.proofs.definition.OfferedStacks.{last_name-ends, offered-accepting, offered-plain, offered-not_empty}
@@ -281,9 +281,9 @@ through_next test s i old names names' low t is f = record {
       ap (λ l. l ++ through test (drop (i + 1) s)) is
       ∙ append_assoc names (get_or s i 0 ∷ []) (through test (drop (i + 1) s))
       ∙ ap (λ l. names ++ l)
-      (sym (ap (through test) (drop_next s i low) ∙ through-goes test (get_or s i 0) (drop (i + 1) s) f))
+      (sym (ap (through test) (drop_more s i 0 low) ∙ through-goes test (get_or s i 0) (drop (i + 1) s) f))
       ∙ t.rest;
-  any = sym (ap (list_any test) (drop_next s i low) ∙ ap (λ b. b || list_any test (drop (i + 1) s)) f) ∙ t.any;
+  any = sym (ap (list_any test) (drop_more s i 0 low) ∙ ap (λ b. b || list_any test (drop (i + 1) s)) f) ∙ t.any;
 }
 
 -- a name that passes ends it
@@ -295,9 +295,9 @@ pub through_stop : (test : ℕ → Bool) (s : List ℕ) (i : ℕ) (old names nam
     → (names' ≡ old ++ through test s) × (true ≡ list_any test s)
 through_stop test s i old names names' low t is passes = (
   is ∙ ap (λ l. names ++ l)
-      (sym (ap (through test) (drop_next s i low) ∙ through-stops test (get_or s i 0) (drop (i + 1) s) passes))
+      (sym (ap (through test) (drop_more s i 0 low) ∙ through-stops test (get_or s i 0) (drop (i + 1) s) passes))
       ∙ t.rest,
-  sym (ap (list_any test) (drop_next s i low) ∙ ap (λ b. b || list_any test (drop (i + 1) s)) passes) ∙ t.any,
+  sym (ap (list_any test) (drop_more s i 0 low) ∙ ap (λ b. b || list_any test (drop (i + 1) s)) passes) ∙ t.any,
 )
 
 pub through_end : (test : ℕ → Bool) (s : List ℕ) (i : ℕ) (old names : List ℕ)

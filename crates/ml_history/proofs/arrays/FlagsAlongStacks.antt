@@ -14,8 +14,9 @@
 use Rattle.std.proofs.Common.{ℕ, zero, suc, ◌≡◌, ◌+◌, ◌<◌, ◌≤◌, ◌⊎◌, inl, inr, arith, Bool, true, false, ◌||◌, eqb, List, [], ◌∷◌, length, get_or, take, drop, refl, sym, subst, ap, ◌∙◌}
 use Rattle.std.proofs.Math.ListN.{set}
 use Rattle.std.proofs.lemmas.Bool.{cases_Bool, cases_eq, eq-eqb, eqb-true, ne_eqb, or_left, or_right}
-use Rattle.std.proofs.lemmas.List.{take_all, take_more, get_or-set_same, get_or-set_other}
+use Rattle.std.proofs.lemmas.List.{take_all, take_more, get_or-set_same, get_or-set_other, drop_more}
 use Rattle.std.proofs.lemmas.List.Folds.{list_any-append}
+use Rattle.std.proofs.Math.Bool.{or_assoc}
 use Rattle.ml_lists.specs.Ascending.{IsAscending}
 use Rattle.ml_lists.specs.Member.{IsMember}
 use Rattle.ml_lists.proofs.Member.{Image, place-member, member-map_from}
@@ -148,13 +149,6 @@ drop-none : (xs : List ℕ) → drop 0 xs ≡ xs
 drop-none [] = refl
 drop-none (x ∷ xs) = refl
 
-pub drop_next : (s : List ℕ) (i : ℕ) → i < length s → drop i s ≡ get_or s i 0 ∷ drop (i + 1) s
-drop_next [] i low = absurd (omega arith)
-drop_next (x ∷ []) zero low = refl
-drop_next (x ∷ (y ∷ ys)) zero low = refl
-drop_next (x ∷ xs) (suc i) low = let e : suc (i + 1) ≡ suc i + 1 = omega arith in drop_next xs i (omega arith)
-    ∙ ap (λ k. get_or xs i 0 ∷ drop k (x ∷ xs)) e
-
 pub drop_all : (s : List ℕ) (i : ℕ) → length s ≤ i → drop i s ≡ []
 drop_all [] zero all = refl
 drop_all [] (suc i) all = refl
@@ -176,10 +170,6 @@ not_behind (x ∷ xs) (suc i) a low =
 or-true : (b : Bool) → (b || true) ≡ true
 or-true true = refl
 or-true false = refl
-
-or-joins : (a b c : Bool) → (a || (b || c)) ≡ ((a || b) || c)
-or-joins true b c = refl
-or-joins false b c = refl
 
 -- a name that passes adds nothing
 nothing_new : (test : ℕ → Bool) (x y : ℕ) (b : Bool)
@@ -226,8 +216,8 @@ pub flags-more : (test : ℕ → Bool) (s : List ℕ) (i : ℕ) (flags : List Bo
 flags-more test s i flags low within before y =
     flag_set flags (get_or s i 0) y within
     ∙ ap (λ b. eqb (get_or s i 0) y || b) (before y)
-    ∙ or-joins (eqb (get_or s i 0) y) (has y (drop (i + 1) s)) (test y)
-    ∙ sym (ap (λ l. has y l || test y) (drop_next s i low))
+    ∙ sym (or_assoc (eqb (get_or s i 0) y) (has y (drop (i + 1) s)) (test y))
+    ∙ sym (ap (λ l. has y l || test y) (drop_more s i 0 low))
 
 pub flags-whole : (test : ℕ → Bool) (s : List ℕ) (i : ℕ) (flags : List Bool)
     → i ≡ 0

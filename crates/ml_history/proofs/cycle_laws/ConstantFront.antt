@@ -19,15 +19,16 @@
 --   full_mark           == so some mark is at or below green for this name
 --   red_above           == and each red mark is above it
 use Rattle.std.proofs.Common.{ℕ, zero, suc, ◌≡◌, ◌+◌, ◌<◌, ◌≤◌, ◌⊎◌, inl, inr, arith, Bool, true, false, List, [], ◌∷◌, ◌++◌, refl, sym, subst, ap, ◌∙◌, append_assoc}
-use Rattle.std.proofs.lemmas.Bool.{cases_Bool, cases_lt, cases_eq, eqb-true}
+use Rattle.std.proofs.lemmas.Bool.{cases_Bool, cases_lt, cases_eq}
 use Rattle.ml_lists.specs.Counting.{count}
 use Rattle.ml_lists.specs.Member.{IsMember}
 use Rattle.ml_lists.proofs.Ranks.{count_lost}
+use Rattle.ml_lists.proofs.Entries.{same_head}
 use Rattle.ml_trace.specs.declared.marks.Mark.{Mark}
 use Rattle.ml_trace.specs.declared.marks.Mark.TheVariants.{Red, Green}
 use Rattle.ml_trace.specs.Marks.{mark_le}
 use Rattle.ml_trace.specs.Stack.{has, ends_in}
-use Rattle.ml_trace.proofs.Stacks.{ends-has}
+use Rattle.ml_trace.proofs.Stacks.{ends-has, one_end}
 use Rattle.ml_history.specs.HistoryStep.{offered, beats, last_name}
 use Rattle.ml_history.proofs.cycle_laws.FrontStep.{Quiet, FollowedBy, front_kept, front_followed}
 use Rattle.ml_history.proofs.definition.OfferedStacks.{offered-accepting, offered-plain, last_name-ends}
@@ -74,9 +75,6 @@ SomeFull p (suc n) s c w = ((z : ℕ) × (ends_in z p ≡ true) × (w.1.full z �
 same_rest : (p a b : List ℕ) → p ++ a ≡ p ++ b → a ≡ b
 same_rest [] a b e = e
 same_rest (x ∷ xs) a b e = let f : xs ++ a ≡ xs ++ b = cc in same_rest xs a b f
-
-same_head : (x y : ℕ) (a b : List ℕ) → x ∷ a ≡ y ∷ b → x ≡ y
-same_head x y a b e = cc
 
 -- a front with a name at its end
 longer_front : (p : List ℕ) (x : ℕ) (rest : List ℕ) → p ++ x ∷ rest ≡ (p ++ x ∷ []) ++ rest
@@ -250,11 +248,6 @@ full_or_quiet : (full : ℕ → Bool) (p : List ℕ) → ((z : ℕ) × (ends_in 
 full_or_quiet full [] = inr (λ z e. absurd (cc))
 full_or_quiet full (x ∷ xs) = by_test (cases_Bool (full (last_name (x ∷ xs))))
   where
-    one_end : (y z : ℕ) (s : List ℕ) → ends_in y s ≡ true → ends_in z s ≡ true → y ≡ z
-    one_end y z [] e f = absurd (cc)
-    one_end y z (v ∷ []) e f = sym (eqb-true v y e) ∙ eqb-true v z f
-    one_end y z (v ∷ (u ∷ us)) e f = one_end y z (u ∷ us) e f
-
     ends : ends_in (last_name (x ∷ xs)) (x ∷ xs) ≡ true
     ends = last_name-ends (x ∷ xs) (λ e. cc)
 

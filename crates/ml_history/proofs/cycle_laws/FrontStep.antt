@@ -13,6 +13,7 @@ use Rattle.std.proofs.Common.{ℕ, ◌≡◌, ◌<◌, ◌≤◌, ◌⊎◌, inl
 use Rattle.std.proofs.lemmas.Bool.{cases_Bool, or_cases, or_left, or_right, eqb-true, eq-eqb}
 use Rattle.ml_lists.specs.Counting.{count}
 use Rattle.ml_lists.proofs.Counting.{count_le}
+use Rattle.ml_lists.proofs.Entries.{same_head}
 use Rattle.ml_trace.specs.Stack.{has, ends_in}
 use Rattle.ml_trace.proofs.Stacks.{ends-cons}
 use Rattle.ml_history.specs.HistoryStep.{beats, through}
@@ -22,10 +23,6 @@ use Rattle.ml_history.proofs.definition.CutStacks.{through-stops, through-goes}
 -- the last name of p is not full
 abbrev pub Quiet : (ℕ → Bool) → List ℕ → Type 0
 Quiet full p = (z : ℕ) → ends_in z p ≡ true → full z ≡ false
-
--- the first of a list
-heads : (x y : ℕ) (xs ys : List ℕ) → x ∷ xs ≡ y ∷ ys → x ≡ y
-heads x y xs ys e = cc
 
 -- the others of a list
 tails : (x y : ℕ) (xs ys : List ℕ) → x ∷ xs ≡ y ∷ ys → xs ≡ ys
@@ -39,9 +36,9 @@ module _ (full alive : ℕ → Bool) where
   first_number x t z rest e = by_test (cases_Bool (full x))
     where
       by_test : (full x ≡ true) ⊎ (full x ≡ false) → count alive x ≡ z
-      by_test (inl stops) = heads (count alive x) z [] rest
+      by_test (inl stops) = same_head (count alive x) z [] rest
           (ap (map (count alive)) (sym (through-stops full x t stops)) ∙ e)
-      by_test (inr goes) = heads (count alive x) z (map (count alive) (through full t)) rest
+      by_test (inr goes) = same_head (count alive x) z (map (count alive) (through full t)) rest
           (ap (map (count alive)) (sym (through-goes full x t goes)) ∙ e)
 
   -- if the first name is not full, the rest is what the others give

@@ -15,6 +15,7 @@ use Rattle.std.proofs.lemmas.Bool.{cases_Bool, cond-true, cond-false, eqb-true, 
 use Rattle.ml_lists.specs.Ascending.{IsAscending}
 use Rattle.ml_lists.specs.Member.{IsMember}
 use Rattle.ml_lists.proofs.Member.{member-append}
+use Rattle.ml_lists.proofs.Ascending.{ascending-append}
 use Rattle.ml_trace.specs.Stack.{has, ends_in}
 use Rattle.ml_trace.proofs.Stacks.{ends-has, has-member, member-has}
 use Rattle.ml_history.specs.History.{up_to}
@@ -84,22 +85,6 @@ offered-not_empty r accepting s full e = by_test (cases_Bool accepting)
     by_test : (accepting ≡ true) ⊎ (accepting ≡ false) → ⊥
     by_test (inl t) = some s (r + last_name s) (sym (offered-accepting r accepting s t) ∙ e)
     by_test (inr f) = full (sym (offered-plain r accepting s f) ∙ e)
-
--- a list that ascends, with a higher number at its end, ascends
-pub ascending-append : (s : List ℕ) (x : ℕ)
-    → IsAscending s
-    → ((y : ℕ) → IsMember y s → y < x)
-    → IsAscending (s ++ x ∷ [])
-ascending-append [] x a high = ((λ y m. absurd m), tt)
-ascending-append (z ∷ zs) x a high = (
-  (λ y m. by_part y (member-append y zs (x ∷ []) m)),
-  ascending-append zs x a.1 (λ y m. high y (inr m)),
-)
-  where
-    by_part : (y : ℕ) → IsMember y zs ⊎ IsMember y (x ∷ []) → z < y
-    by_part y (inl old) = a.0 y old
-    by_part y (inr (inl new)) = let low = high z (inl refl) in omega arith
-    by_part y (inr (inr none)) = absurd none
 
 -- an offered stack ascends, if the stack ascends and has names below r alone
 pub offered-ascends : (r : ℕ) (accepting : Bool) (s : List ℕ)

@@ -1,10 +1,8 @@
 -- The parts of the plain step on single stacks.
 --
 --   last_at            == the last entry of a stack is its last name
---   ends_at            == so whether it is a name says whether the stack ends in this name
 --   beats-longer       == a stack that goes on where the other ends beats it
-use Rattle.std.proofs.Common.{ℕ, zero, suc, ◌≡◌, ◌-◌, ◌<◌, arith, true, eqb, List, [], ◌∷◌, length, get_or, drop, refl, ap, ◌∙◌}
-use Rattle.ml_trace.specs.Stack.{ends_in}
+use Rattle.std.proofs.Common.{ℕ, zero, suc, ◌≡◌, ◌-◌, ◌<◌, arith, true, List, [], ◌∷◌, length, get_or, drop, refl, ap, ◌∙◌}
 use Rattle.ml_history.specs.HistoryStep.{beats, last_name}
 
 -- the last entry of a stack is its last name
@@ -14,14 +12,6 @@ last_at (x ∷ []) some = refl
 last_at (x ∷ (y ∷ ys)) some =
     let e : length (x ∷ (y ∷ ys)) - 1 ≡ suc (length (y ∷ ys) - 1) = omega arith in
     ap (λ k. get_or (x ∷ (y ∷ ys)) k 0) e ∙ last_at (y ∷ ys) (omega arith)
-
--- so whether it is a name says whether the stack ends in this name
-pub ends_at : (name : ℕ) (s : List ℕ) → 0 < length s → eqb (get_or s (length s - 1) 0) name ≡ ends_in name s
-ends_at name [] some = absurd (omega arith)
-ends_at name (x ∷ []) some = refl
-ends_at name (x ∷ (y ∷ ys)) some =
-    let e : length (x ∷ (y ∷ ys)) - 1 ≡ suc (length (y ∷ ys) - 1) = omega arith in
-    ap (λ k. eqb (get_or (x ∷ (y ∷ ys)) k 0) name) e ∙ ends_at name (y ∷ ys) (omega arith)
 
 -- a stack that goes on where the other ends beats it
 pub beats-longer : (s t : List ℕ) (i : ℕ) → i < length s → i ≡ length t → beats (drop i s) (drop i t) ≡ true

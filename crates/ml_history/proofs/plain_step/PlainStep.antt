@@ -7,7 +7,7 @@
 --   step_is_plain           == a step along a letter leads from such a history to such a history
 --   step_mark-of            == the mark of the step, from its parts
 use Rattle.std.proofs.Common.{ℕ, zero, suc, ◌≡◌, ◌+◌, ◌*◌, ◌^◌, ◌<◌, ◌≤◌, ◌⊎◌, inl, inr, arith, Bool, true, false, not, ◌&&◌, ◌||◌, ltb, List, [], ◌∷◌, length, map, refl, sym, ap, ◌∙◌, subst}
-use Rattle.std.proofs.lemmas.Bool.{cases_Bool, or_cases, eqb-true}
+use Rattle.std.proofs.lemmas.Bool.{cases_Bool, or_cases}
 use Rattle.std.proofs.lemmas.List.{length-map}
 use Rattle.ml_lists.specs.Ascending.{IsAscending}
 use Rattle.ml_lists.specs.Counting.{count}
@@ -25,6 +25,7 @@ use Rattle.ml_history.specs.HistoryStep.{live, taken_along, is_full, is_last, cu
 use Rattle.ml_history.proofs.definition.NamesInUse.{is_last-in}
 use Rattle.ml_history.proofs.definition.OneStep.{Behind, behind, taken_from}
 use Rattle.ml_history.proofs.definition.StepKeeps.{step_is_history}
+use Rattle.ml_trace.proofs.Stacks.{one_end}
 
 -- ---- how many names there can be
 
@@ -108,12 +109,6 @@ count_one p (suc n) one = by_test (count_one p n one) (cases_Bool (p n))
     by_test : count p n ≤ 1 → (p n ≡ true) ⊎ (p n ≡ false) → count p (suc n) ≤ 1
     by_test old (inl t) = omega (arith, count_none p n (λ k low. lower t k low (cases_Bool (p k))), count-true p n t)
     by_test old (inr f) = omega (arith, old, count-false p n f)
-
--- a stack has one last name
-one_end : (y z : ℕ) (s : List ℕ) → ends_in y s ≡ true → ends_in z s ≡ true → y ≡ z
-one_end y z [] e f = absurd (cc)
-one_end y z (v ∷ []) e f = sym (eqb-true v y e) ∙ eqb-true v z f
-one_end y z (v ∷ (u ∷ us)) e f = one_end y z (u ∷ us) e f
 
 -- at most as many numbers are last names as there are items
 lasts : (h : List (Item ℕ)) (n : ℕ) → count (is_last h) n ≤ length h

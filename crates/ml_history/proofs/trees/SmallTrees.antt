@@ -4,20 +4,19 @@
 --   live-above       == the number of names in use is one more than the greatest age
 --   start_is_kept    == the tree of one state
 --   sorted_items     == the states with their stacks, sorted by states, are the items
-use Rattle.std.proofs.Common.{◌≡◌, ℕ, suc, ◌+◌, ◌<◌, ◌≤◌, ◌^◌, ◌⊎◌, inl, inr, arith, List, [], ◌∷◌, get_or, map, sum_by, refl, sym, subst, ap, ◌∙◌}
+use Rattle.std.proofs.Common.{◌≡◌, ℕ, ◌<◌, ◌≤◌, ◌^◌, ◌⊎◌, inl, inr, arith, List, [], ◌∷◌, map, refl, sym, subst, ap}
 use Rattle.std.specs.List.Sorted.{IsPermutation, IsNonDecreasingBy}
 use Rattle.std.specs.Prelude.{Vec}
 use Rattle.std.specs.declared.alloc.Global.{Global}
 use Rattle.std.proofs.lemmas.Bool.{cases_lt}
-use Rattle.std.proofs.lemmas.List.Sorted.{IsPermutation-map, IsPermutation-sym, sum_by-IsPermutation}
-use Rattle.std.proofs.lemmas.List.Sums.{sum_by-cons}
+use Rattle.std.proofs.lemmas.List.Sorted.{IsPermutation-map, IsPermutation-sym}
 use Rattle.ml_lists.specs.Ascending.{IsAscending}
 use Rattle.ml_lists.specs.Member.{IsMember}
-use Rattle.ml_lists.proofs.Member.{Image, Place, member-map, member-map_from, member-place}
+use Rattle.ml_lists.proofs.Member.{member-map}
 use Rattle.ml_lists.proofs.Permuted.{permuted-member}
 use Rattle.ml_trace.specs.Stack.{Item}
 use Rattle.ml_history.specs.private.Forest.{Forest, Empty, Tree, names, places, items, IsProper}
-use Rattle.ml_lists.specs.Times.{IsApart, once_for, times}
+use Rattle.ml_lists.specs.Times.{IsApart}
 use Rattle.ml_history.specs.HistoryStep.{above, live}
 use Rattle.ml_history.specs.History.{IsSmallHistory}
 use Rattle.ml_history.specs.Stacks.{stacked}
@@ -27,7 +26,7 @@ use Rattle.ml_history.proofs.trees.ItemsByState.{state_of, arranged-member, memb
 use Rattle.ml_history.proofs.trees.Forests.{places-states}
 use Rattle.ml_history.proofs.plain_step.PlainStep.{live-small}
 use Rattle.ml_history.proofs.trees.ProperTrees.{items-member, names-live, live-names, proper_is_history}
-use Rattle.ml_lists.proofs.Times.{apart-times, times-apart}
+use Rattle.ml_lists.proofs.Sorted.{ascending_by, apart-permuted}
 
 -- the items of a tree that is kept are a history with small states
 pub kept_is_plain : (f : Forest) → IsKept f → IsSmallHistory (items f)
@@ -92,39 +91,6 @@ start_is_kept q low = record {
 
 -- ---- the sorted list
 
--- keys that do not descend and stand apart ascend
-rising_apart : {X : Type 0} (key : X → ℕ) (xs : List X)
-    → IsNonDecreasingBy key xs
-    → IsApart (map key xs)
-    → IsAscending (map key xs)
-rising_apart key [] rise apart = tt
-rising_apart {X} key (x ∷ xs) rise apart = (
-  λ y m. from_image y m (member-map_from key y xs m),
-  rising_apart key xs (λ i j d le low. rise (suc i) (suc j) d (omega arith) (omega arith)) apart.1,
-)
-  where
-    from_place : (y : ℕ) → IsMember y (map key xs) → (v : X) → y ≡ key v → Place v xs → key x < y
-    from_place y m v is p =
-        let le : key x ≤ key (get_or xs p.place v) =
-        rise 0 (suc p.place) v (omega arith) (let low = p.below in omega arith) in
-        let here : key (get_or xs p.place v) ≡ y = ap key (p.holds v) ∙ sym is in
-        let ne : key x ≡ y → ⊥ = λ e. apart.0 (subst (λ n. IsMember n (map key xs)) (sym e) m) in
-        omega arith
-
-    from_image : (y : ℕ) → IsMember y (map key xs) → Image key y xs → key x < y
-    from_image y m j = from_place y m j.from j.holds (member-place j.from xs j.member)
-
-times-sum : (y : ℕ) (xs : List ℕ) → times y xs ≡ sum_by (once_for y) xs
-times-sum y [] = refl
-times-sum y (x ∷ xs) = ap (λ n. once_for y x + n) (times-sum y xs) ∙ sym (sum_by-cons (once_for y) x xs)
-
--- numbers that stand apart do so in another order
-permuted_apart : (xs ys : List ℕ) → IsPermutation xs ys → IsApart xs → IsApart ys
-permuted_apart xs ys p apart =
-    times-apart ys
-    (λ y. subst (λ n. n ≤ 1) (times-sum y xs ∙ sym (sum_by-IsPermutation (once_for y) xs ys p)
-    ∙ sym (times-sum y ys)) (apart-times y xs apart))
-
 first_part : ℕ × Vec ℕ Global → ℕ
 first_part a = a.0
 
@@ -144,11 +110,11 @@ sorted_items ss ss' f proper e p rise =
     let apart : IsApart (map state_of (map stacked ss)) =
     subst (λ l. IsApart (map state_of l)) (sym e) (subst IsApart (sym (places-states f)) proper.states_apart) in
     let apart' : IsApart (map state_of (map stacked ss')) =
-    permuted_apart (map state_of (map stacked ss)) (map state_of (map stacked ss'))
+    apart-permuted (map state_of (map stacked ss)) (map state_of (map stacked ss'))
     (IsPermutation-map state_of (map stacked ss) (map stacked ss') moved) apart in
     let up : IsAscending (map state_of (map stacked ss')) =
     subst IsAscending (sym (stacked_states ss'))
-    (rising_apart (λ (a : ℕ × Vec ℕ Global). a.0) ss' rise (subst IsApart (stacked_states ss') apart')) in
+    (ascending_by (λ (a : ℕ × Vec ℕ Global). a.0) ss' rise (subst IsApart (stacked_states ss') apart')) in
     items_same (map stacked ss') (items f) up (proper_is_history f proper).states_ascend
     (λ v m. member-arranged v (places f)
     (subst (IsMember v) e (permuted-member v (map stacked ss') (map stacked ss)

@@ -1,7 +1,7 @@
 use Rattle.std.proofs.Common.{rules, ◌≡◌, ◌%◌, ◌==◌, ◌∙◌, ap, filter}
 use Rattle.std.proofs.lemmas.List.Filters.{dedup_is}
 use Rattle.ml_lists.specs.Ascending.{ascending}
-use Rattle.ml_graph.proofs.OddPriorities.{sorted_once}
+use Rattle.ml_lists.proofs.Sorted.{sorted_once}
 use Rattle.ml_graph.proofs.modal_graph.ModalGraph.odd_priorities.Goals as goal
 
 pub returns : goal.returns

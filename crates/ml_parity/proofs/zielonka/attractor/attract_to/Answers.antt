@@ -1,11 +1,11 @@
 -- One predecessor more is seen, and in the end all are.
 use Rattle.std.proofs.Common.{arith, ◌<◌, ◌≤◌, ◌+◌, ◌∙◌, subst, drop, get_or}
-use Rattle.std.proofs.lemmas.List.{drop_all}
+use Rattle.std.proofs.lemmas.List.{drop_all, drop_more}
 use Rattle.ml_parity.specs.declared.players.Player.TheVariants.{Even}
 use Rattle.ml_parity.specs.Game.{size}
 use Rattle.ml_parity.specs.Solution.{choice_at}
 use Rattle.ml_parity.specs.private.SolverSteps.{place_of, number_at, IsAttracting}
-use Rattle.ml_parity.proofs.AttractLoops.{next_entry, preds_move, move_low, some_left, counted_turn, kept_turn}
+use Rattle.ml_parity.proofs.AttractLoops.{preds_move, move_low, some_left, counted_turn, kept_turn}
 use Rattle.ml_parity.proofs.zielonka.attractor.attract_to.Goals as goal
 
 pub attract_one-rest-requires-clause-vertex : goal.attract_one-rest-requires-clause-vertex
@@ -52,7 +52,7 @@ loop-from-preserved c =
           c.loop-from-test.true)
           (subst (IsAttracting c.args.game.now (place_of c.loop-from.work.row.place.items) n mid c.loop-from.rest a
           c.args.player (choice_at c.loop-from.work.choice.items) (number_at c.loop-from.work.left.items))
-          (next_entry c.args.predecessors.now c.loop-from.from-index c.loop-from-test.true)
+          (drop_more c.args.predecessors.now c.loop-from.from-index 0 c.loop-from-test.true)
           (c.loop-from.invariant.attracts n mid a here inside before));
     }
 

@@ -1,0 +1,37 @@
+-- The order of edges.
+--
+--   same_edge     == edges with one source, action and target are one
+--   edges_exact   == edges that the order doesn't tell apart are one
+--   source_rises  == an edge that comes before another one has no greater source
+use Rattle.std.proofs.Common.{ℕ, ◌≡◌, ◌≤◌, ◌==◌, nat_lt, Bool, true, false, cond, refl, arith}
+use Rattle.std.specs.Cmp.Lexicographic.{slice_cmp}
+use Rattle.std.specs.Ordering.{nat_cmp, ordering_then}
+use Rattle.std.specs.declared.cmp.Ordering.TheVariants.{Less, Equal, Greater}
+use Rattle.std.proofs.lemmas.Bool.Decides.{nat_tests}
+use Rattle.std.proofs.lemmas.Map.Lookups.{exact_unsigned, exact_bytes}
+use Rattle.ml_lists.proofs.Orderings.{both_tied}
+use Rattle.ml_base.specs.EdgeOrder.{edge_cmp}
+use Rattle.ml_base.specs.declared.structure.Edge.{Edge}
+
+pub same_edge : (e f : Edge) → e.source ≡ f.source → e.action ≡ f.action → e.target ≡ f.target → e ≡ f
+same_edge e f s a t = λ i. record { source = s i; action = a i; target = t i }
+
+pub edges_exact : (e f : Edge) → edge_cmp e f ≡ Equal → e ≡ f
+edges_exact e f tied =
+    let first =
+    both_tied (nat_cmp e.source f.source)
+    (ordering_then (slice_cmp nat_cmp e.action f.action) (nat_cmp e.target f.target)) tied in
+    let second = both_tied (slice_cmp nat_cmp e.action f.action) (nat_cmp e.target f.target) first.1 in
+    same_edge e f (exact_unsigned e.source f.source first.0) (exact_bytes e.action f.action second.0)
+    (exact_unsigned e.target f.target second.1)
+
+pub source_rises : (e f : Edge) → edge_cmp e f ≡ Less → e.source ≤ f.source
+source_rises e f less = go (nat_lt e.source f.source) refl (e.source == f.source) refl less
+  where
+    go : (b : Bool) → nat_lt e.source f.source ≡ b → (c : Bool) → (e.source == f.source) ≡ c
+        → ordering_then (cond b Less (cond c Equal Greater))
+        (ordering_then (slice_cmp nat_cmp e.action f.action) (nat_cmp e.target f.target)) ≡ Less
+        → e.source ≤ f.source
+    go true is c at below = grind (arith, nat_tests)
+    go false is true at below = grind (arith, nat_tests)
+    go false is false at below = absurd (cc)
