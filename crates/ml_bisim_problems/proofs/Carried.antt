@@ -2,6 +2,7 @@
 --
 --   step_edge, edge_step == a step of a path is an edge by the action `_`
 --   admitted_kept        == where a logic speaks of a structure, it speaks of the quotient
+--   finite_closure       == the closure of a problem is finite
 --   problems_carried     == the graph of a problem holds where the problem does, in the structure and in the quotient
 use Rattle.std.proofs.Common.{ℕ, ◌≡◌, ◌<◌, ◌==◌, ◌&&◌, ◌↔◌, ◌⊎◌, inl, inr, Bool, true, List, Contains, codes, refl, sym, ap, ◌∙◌, subst, arith}
 use Rattle.std.proofs.lemmas.Bool.{and_parts, and_from}
@@ -14,18 +15,21 @@ use Rattle.ml_bisim.specs.Bisimilar.{HasEdge}
 use Rattle.ml_bisim.specs.Quotient.{IsQuotientOf, class_of}
 use Rattle.ml_bisim.proofs.Carrying.{graphs_carried}
 use Rattle.ml_bisim.proofs.Classes.{class_edge, class_low, edge_from, from_leaves, leaves, leaves_from, some_state}
+use Rattle.ml_blocks.proofs.FiniteClosures.{closures_are_finite}
 use Rattle.ml_ctl.specs.Paths.{IsTotal, has_step}
 use Rattle.ml_graph.specs.Graph.{Graph}
 use Rattle.ml_graph.proofs.References.{root_in_range}
-use Rattle.ml_front.specs.Graphs.{HasLargeClosure, IsGraphAs, IsMeaningful}
+use Rattle.ml_front.specs.Graphs.{HasLargeClosure, HasLargeClosureAs, IsGraphAs}
 use Rattle.ml_front.specs.Logics.{logic_of}
 use Rattle.ml_front.specs.Problems.{HoldsAt, IsAdmitted}
 use Rattle.ml_front.specs.declared.logic.Logic.{Logic}
 use Rattle.ml_front.specs.declared.logic.Logic.TheVariants as logic
+use Rattle.ml_front.specs.declared.problem.AnyFormula.{AnyFormula}
+use Rattle.ml_front.specs.declared.problem.AnyFormula.TheVariants.{Mu, Pdl, Ctl, Ltl}
 use Rattle.ml_front.specs.declared.problem.Problem.{Problem}
 use Rattle.ml_front.proofs.Graphs.{graph_is, graphs_agree, is_structure}
 use Rattle.ml_front.proofs.SomeGraph.{some_graph}
-use Rattle.ml_bisim_problems.specs.Laws.{AdmittedKept, HasFiniteClosure, ProblemsCarried}
+use Rattle.ml_bisim_problems.specs.Laws.{AdmittedKept, ProblemsCarried}
 
 abbrev blank : List ℕ
 blank = codes "_"
@@ -74,17 +78,24 @@ module _ (m q : Structure) (class : List ℕ) (m_ok : IsStructure m) (quotient :
 pub admitted_kept : AdmittedKept
 admitted_kept m q class m_ok quotient l admitted = kept m q class m_ok quotient l admitted
 
+finite_closure : (negated : Bool) (f : AnyFormula) → (n : ℕ) × (¬ (HasLargeClosureAs n negated f))
+finite_closure negated (Mu f) = (0, λ none. absurd none)
+finite_closure negated (Pdl f) = (0, λ none. absurd none)
+finite_closure negated (Ctl f) = (closures_are_finite f negated).0
+finite_closure negated (Ltl f) = (closures_are_finite f negated).1
+
 pub problems_carried : ProblemsCarried
-problems_carried m q class quotient p meaningful finite admitted s low =
-    by_graph (some_graph finite.0 p.negated p.formula)
+problems_carried m q class quotient p meaningful admitted s low =
+    by_graph (finite_closure p.negated p.formula) (some_graph (finite_closure p.negated p.formula).0 p.negated p.formula)
   where
     m_ok : IsStructure m
     m_ok = is_structure (logic_of p.formula) m admitted
 
-    by_graph : ((g : Graph) × IsGraphAs g p.negated p.formula × (¬ (HasLargeClosure p finite.0))) ⊎ HasLargeClosure p finite.0
+    by_graph : (finite : (n : ℕ) × (¬ (HasLargeClosure p n)))
+        → ((g : Graph) × IsGraphAs g p.negated p.formula × (¬ (HasLargeClosure p finite.0))) ⊎ HasLargeClosure p finite.0
         → HoldsAt m s p ↔ HoldsAt q (class_of class s) p
-    by_graph (inr large) = absurd (finite.1 large)
-    by_graph (inl (g, is, none)) =
+    by_graph finite (inr large) = absurd (finite.1 large)
+    by_graph finite (inl (g, is, none)) =
         let g_ok = graph_is g p.negated p.formula is in
         let here = graphs_agree p g meaningful is m admitted s low in
         let there = graphs_agree p g meaningful is q (kept m q class m_ok quotient (logic_of p.formula) admitted)

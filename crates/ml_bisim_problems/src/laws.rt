@@ -3,8 +3,7 @@
 ghost use Rattle.ml_bisim_problems.specs.Laws.{AdmittedKept, ProblemsCarried};
 
 /// A problem of any of the logics holds at a state of a structure exactly where it holds at the state's class in the
-/// quotient. The formula has to mean something by its logic, the logic has to speak of the structure, and the closure of
-/// the problem has to be finite.
+/// quotient. The formula has to mean something by its logic, and the logic has to speak of the structure.
 ///
 /// Does nothing when called.
 pub fn problems_are_carried()

@@ -6,8 +6,8 @@
 --   next_items-member, next_items-has           == what is asked of the next place
 --   load xs                                     == the symbols of the items that are to be decomposed
 --   put_all-load, without-load                  == how the load changes
-use Rattle.std.proofs.Common.{ℕ, ◌≡◌, ◌+◌, ◌≤◌, ◌⊎◌, inl, inr, arith, true, false, cond, Bool, not, List, [], ◌∷◌, eqb, eq-eqb, ltb, refl, sym, ap, subst, ◌∙◌, filter}
-use Rattle.std.proofs.lemmas.Bool.{cases_Bool, cond-true, cond-false, eqb-true}
+use Rattle.std.proofs.Common.{ℕ, ◌≡◌, ◌+◌, ◌<◌, ◌≤◌, ◌⊎◌, inl, inr, arith, true, false, cond, Bool, not, List, [], ◌∷◌, eqb, eq-eqb, ltb, refl, sym, ap, subst, ◌∙◌, filter}
+use Rattle.std.proofs.lemmas.Bool.{cases_Bool, cond-true, cond-false, eqb-true, eqb-false, ltb-true, ltb-false}
 use Rattle.ml_lists.specs.Member.{IsMember}
 use Rattle.ml_lists.proofs.Member.{member-filter, member-filter_from}
 use Rattle.ml_ctl.specs.Formula.{occurrences}
@@ -31,19 +31,29 @@ module _ (x y : Item) (ys : List Item) where
       ∙ cond-false (eqb (key x) (key y)) (y ∷ ys) (y ∷ put x ys) g
 
   -- what holds in each of the three forms
+  pub by_order : (P : List Item → Type 0)
+      → (key x < key y → P (x ∷ (y ∷ ys)))
+      → (key x ≡ key y → P (y ∷ ys))
+      → (key y < key x → P (y ∷ put x ys))
+      → P (put x (y ∷ ys))
+  by_order P front here behind = by_test (cases_Bool (ltb (key x) (key y))) (cases_Bool (eqb (key x) (key y)))
+    where
+      by_test : (ltb (key x) (key y) ≡ true) ⊎ (ltb (key x) (key y) ≡ false)
+          → (eqb (key x) (key y) ≡ true) ⊎ (eqb (key x) (key y) ≡ false)
+          → P (put x (y ∷ ys))
+      by_test (inl t) e = subst P (sym (below t)) (front (ltb-true (key x) (key y) t))
+      by_test (inr f) (inl t) = subst P (sym (same f t)) (here (eqb-true (key x) (key y) t))
+      by_test (inr f) (inr g) =
+          let no_less = ltb-false (key x) (key y) f in
+          let other = eqb-false (key x) (key y) g in
+          subst P (sym (beyond f g)) (behind (omega (arith, no_less, other)))
+
   pub by_form : (P : List Item → Type 0)
       → P (x ∷ (y ∷ ys))
       → (key x ≡ key y → P (y ∷ ys))
       → P (y ∷ put x ys)
       → P (put x (y ∷ ys))
-  by_form P front here behind = by_test (cases_Bool (ltb (key x) (key y))) (cases_Bool (eqb (key x) (key y)))
-    where
-      by_test : (ltb (key x) (key y) ≡ true) ⊎ (ltb (key x) (key y) ≡ false)
-          → (eqb (key x) (key y) ≡ true) ⊎ (eqb (key x) (key y) ≡ false)
-          → P (put x (y ∷ ys))
-      by_test (inl t) e = subst P (sym (below t)) front
-      by_test (inr f) (inl t) = subst P (sym (same f t)) (here (eqb-true (key x) (key y) t))
-      by_test (inr f) (inr g) = subst P (sym (beyond f g)) behind
+  by_form P front here behind = by_order P (λ low. front) here (λ high. behind)
 
 pub put-member : (v x : Item) (ys : List Item) → IsMember v (put x ys) → (v ≡ x) ⊎ IsMember v ys
 put-member v x [] (inl e) = inl e

@@ -231,7 +231,7 @@ bits_apart false false true false same = absurd (omega (arith, same))
 bits_apart false false false true same = absurd (omega (arith, same))
 bits_apart false false false false same = (refl, refl)
 
-bits_low : (b d : Bool) → cond b 0 2 + cond d 1 0 < 4
+pub bits_low : (b d : Bool) → cond b 0 2 + cond d 1 0 < 4
 bits_low true true = omega arith
 bits_low true false = omega arith
 bits_low false true = omega arith

@@ -76,3 +76,11 @@ pub mod GraphMade
 pub mod OkResults
 -- graphs with names and priorities that a program holds
 pub mod HeldGraphs
+-- places that are reached, all in one finite list
+pub mod ReachedPlaces
+-- sets of items, in order, are finitely many
+pub mod OrderedItems
+-- what is reached from a block is finite
+pub mod FiniteBlocks
+-- closures are finite
+pub mod FiniteClosures

@@ -10,6 +10,8 @@ pub mod Places
 pub mod BlockGraph
 -- how large a closure is
 pub mod Closures
+-- that it is finite
+pub mod FiniteClosures
 -- that it agrees with the problem
 pub mod Agreement
 -- that it is one

@@ -2,6 +2,7 @@
 ghost use Rattle.ml_blocks.specs.Agreement.{GraphsAgree, GraphsHold, LinearGraphsAgree, LinearGraphsHold};
 ghost use Rattle.ml_blocks.specs.Closures.{OneSize, SomeGraph};
 ghost use Rattle.ml_blocks.specs.EdgesGoOn.{EdgesGoOn};
+ghost use Rattle.ml_blocks.specs.FiniteClosures.{ClosuresAreFinite};
 ghost use Rattle.ml_blocks.specs.OneGraph.{OneGraph};
 ghost use Rattle.ml_blocks.specs.Laws.{EventualitiesAreLeast, EventualitiesComeTrue, OthersAreGreatest, RowsSayTheSame, TruthIsDecided};
 
@@ -60,6 +61,11 @@ pub fn some_graph()
 /// More than so many nodes are reached from the root of a closure exactly where the graph of the closure has more.
 pub fn one_size()
     ensures { OneSize }
+{}
+
+/// The closure of a problem of CTL* or LTL is finite: for some n not more than n nodes are reached from its root.
+pub fn closures_are_finite()
+    ensures { ClosuresAreFinite }
 {}
 
 /// Where the graph of a closure holds at a state of a structure, whatever structure it is, each state that is reached from there
