@@ -15,9 +15,9 @@ use Rattle.ml_lists.specs.Search.{First, IsFirst}
 use Rattle.ml_lists.proofs.Decided.{Decided}
 use Rattle.ml_lists.proofs.Member.{list_any-member, member-list_any}
 use Rattle.ml_lists.proofs.Search.{search_first}
-use Rattle.ml_word_graph.specs.Problem.{HasOneStep}
+use Rattle.ml_word_graph.specs.Problem.{HasOneStep, IsFork}
 use Rattle.ml_word_graph.specs.Problem as word
-use Rattle.ml_front.specs.Problems.{IsDeadlock, IsFork}
+use Rattle.ml_front.specs.Problems.{IsDeadlock}
 use Rattle.ml_front.proofs.Deadlocks.{goes_on, no_deadlock}
 
 module _ (m : Structure) (s t : ℕ) (is : has_step m s t ≡ true) where

@@ -28,13 +28,14 @@ use Rattle.ml_mu_graph.proofs.Agreement as mu
 use Rattle.ml_pdl.specs.Meaning as pdl_meaning
 use Rattle.ml_pdl_graph.proofs.Agreement as pdl
 use Rattle.ml_word_graph.specs.Problem as word
+use Rattle.ml_word_graph.specs.Problem.{IsFork}
 use Rattle.ml_word_graph.proofs.Agreement as words
 use Rattle.ml_word_graph.proofs.ClosureGraphs as word_graphs
 use Rattle.ml_word_graph.proofs.Complement as complement
 use Rattle.ml_word_graph.proofs.Sizes as sizes
 use Rattle.ml_front.specs.Graphs.{GraphsAgree, HasLargeClosureAs, HoldsWhere, IsGraphAs, IsGraphOf, IsMeaningful}
 use Rattle.ml_front.specs.Logics.{IsWellFormed, logic_of}
-use Rattle.ml_front.specs.Problems.{HoldsAs, HoldsAt, IsAdmitted, IsDeadlock, IsFirstDeadlock, IsFirstFork, IsFork}
+use Rattle.ml_front.specs.Problems.{HoldsAs, HoldsAt, IsAdmitted, IsDeadlock, IsFirstDeadlock, IsFirstFork}
 use Rattle.ml_front.specs.declared.logic.Logic.{Logic}
 use Rattle.ml_front.specs.declared.logic.Logic.TheVariants as logic
 use Rattle.ml_front.specs.declared.problem.AnyFormula.{AnyFormula}

@@ -9,7 +9,6 @@
 --                       those in which each state has an edge by the action `_`, and LTL on words of those in which each
 --                       state has exactly one
 --   IsDeadlock m s   == no edge by the action `_` leads from the state s
---   IsFork m s       == not exactly one such edge does
 --   IsFirstDeadlock l m s == in CTL* and LTL, which speak of no structure with a deadlock, s is the first of m: never in the
 --                       other logics
 --   IsFirstFork l m s == in LTL on words s is the first state of m that hasn't exactly one edge by `_`: never in the other
@@ -49,12 +48,8 @@ IsFirstDeadlock logic.Ctl m s = IsFirst (IsDeadlock m) m.states s
 IsFirstDeadlock logic.Ltl m s = IsFirst (IsDeadlock m) m.states s
 IsFirstDeadlock logic.Word m s = ⊥
 
--- not exactly one edge by `_` leads from s
-abbrev pub IsFork : Structure → ℕ → Type 0
-IsFork m s = ¬ (word.HasOneStep m s)
-
 abbrev pub IsFirstFork : Logic → Structure → ℕ → Type 0
-IsFirstFork logic.Word m s = IsFirst (IsFork m) m.states s
+IsFirstFork logic.Word m s = IsFirst (word.IsFork m) m.states s
 IsFirstFork l m s = ⊥
 
 -- a formula, in its sense

@@ -8,5 +8,3 @@ pub mod OneCheck
 pub mod ReadBack
 -- the winner of a checking game tells where the graph holds
 pub mod Winners
--- where the edges of states lead
-pub mod Steps

@@ -16,7 +16,6 @@ mod check_refusal;
 mod checked;
 mod holding;
 pub mod laws;
-mod steps;
 
 pub use check::check_document;
 pub use check_refusal::CheckRefusal;

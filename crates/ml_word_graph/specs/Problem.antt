@@ -5,6 +5,7 @@
 -- formula, and a negated one if it doesn't; so negation is complement here.
 --
 --   HasOneStep m s      == exactly one edge by `_` leads from s
+--   IsFork m s          == not exactly one does
 --   IsAdmitted m        == m is a structure in which each state has exactly one edge by `_`
 --   IsWordFrom m s l    == l is the lasso of the states along these edges from s, until one comes again
 --   HoldsAt m s p       == the problem p holds at the state s of the structure m
@@ -20,6 +21,10 @@ pub record HasOneStep (m : Structure) (s : ℕ) : Type 0 where
   pub target : ℕ
   pub leads : has_step m s target ≡ true
   pub only : (t : ℕ) → has_step m s t ≡ true → t ≡ target
+
+-- not exactly one edge by `_` leads from s
+abbrev pub IsFork : Structure → ℕ → Type 0
+IsFork m s = ¬ (HasOneStep m s)
 
 pub record IsAdmitted (m : Structure) : Type 0 where
   pub is_structure : IsStructure m

@@ -9,8 +9,8 @@
 use Rattle.std.specs.Prelude.{ℕ, ◌≡◌, ◌≢◌, ◌==◌, ◌&&◌, ◌<◌, Bool, true, false, if◌then◌else◌, List, length, get_or, set, bytes_eq, codes}
 use Rattle.std.specs.List.{list_any}
 use Rattle.ml_base.specs.declared.structure.Edge.{Edge}
-use Rattle.ml_model_check.specs.declared.steps.Steps.{Steps}
-use Rattle.ml_model_check.specs.declared.steps.Steps.TheVariants.{Nowhere, Only, Apart}
+use Rattle.ml_word_check.specs.declared.steps.Steps.{Steps}
+use Rattle.ml_word_check.specs.declared.steps.Steps.TheVariants.{Nowhere, Only, Apart}
 
 abbrev pub leaves : ℕ → Edge → Bool
 leaves s e = (e.source == s) && bytes_eq e.action (codes "_")

@@ -1,8 +1,8 @@
 // Where the edges by `_` of the states of a structure lead.
 ghost use Rattle.std.specs.Prelude.{◌≡◌, ◌<◌, length, not, codes, IfOk};
 ghost use Rattle.std.specs.List.{position};
-ghost use Rattle.ml_model_check.specs.private.Steps.{AllTell, is_only, with_edge};
-ghost use Rattle.ml_model_check.specs.private.Steps as spec;
+ghost use Rattle.ml_word_check.specs.private.Steps.{AllTell, is_only, with_edge};
+ghost use Rattle.ml_word_check.specs.private.Steps as spec;
 
 use ml_base::{Action, Edge, NoMemory};
 use ml_kripke::Structure;

@@ -16,12 +16,11 @@ use Rattle.std.proofs.lemmas.List.Sums.{fails_before_first}
 use Rattle.ml_base.specs.Structure.{Structure, IsStructure}
 use Rattle.ml_base.specs.declared.structure.Edge.{Edge}
 use Rattle.ml_lists.specs.Search.{IsFirst}
-use Rattle.ml_word_graph.specs.Problem.{HasOneStep}
+use Rattle.ml_word_graph.specs.Problem.{HasOneStep, IsFork}
 use Rattle.ml_word_graph.specs.Problem as word
-use Rattle.ml_front.specs.Problems.{IsFork}
-use Rattle.ml_model_check.specs.declared.steps.Steps.{Steps}
-use Rattle.ml_model_check.specs.declared.steps.Steps.TheVariants.{Nowhere, Only, Apart}
-use Rattle.ml_model_check.specs.private.Steps.{AllTell, Tells, goes, is_only, leaves, some_goes, with_edge, with_target}
+use Rattle.ml_word_check.specs.declared.steps.Steps.{Steps}
+use Rattle.ml_word_check.specs.declared.steps.Steps.TheVariants.{Nowhere, Only, Apart}
+use Rattle.ml_word_check.specs.private.Steps.{AllTell, Tells, goes, is_only, leaves, some_goes, with_edge, with_target}
 
 -- ---- gathered
 
