@@ -48,30 +48,35 @@ module _ (left : List ℕ) where
       inl (
         refl,
         ⊎_elim (λ (end : [] ≡ codes "end" ∷ []). cc)
-            (λ (edge : IsEdged []). let apart : [] ≡ codes "edge" ∷ word [] 1 ∷ word [] 2 ∷ word [] 3 ∷ [] = edge.1 in cc),
+            (λ (edge : IsEdged []). let apart : [] ≡ codes "edge" ∷ word [] 1 ∷ word [] 2 ∷ word [] 3 ∷ [] = edge.1 in
+            cc),
       )
 
   -- ---- a fixed word and a number
 
   module _ (line : Line) (w : Word) (words : AreWords line) where
     pub no_number : line ≡ codes "states" ∷ w ∷ [] → ¬ (IsNumber w) → Breaks AtStates Numbers line
-    no_number is none = subst (Breaks AtStates Numbers) (sym is) (inr ((subst AreWords is words, refl), inl (refl, none)))
+    no_number is none =
+        subst (Breaks AtStates Numbers) (sym is) (inr ((subst AreWords is words, refl), inl (refl, none)))
 
     pub no_states : line ≡ codes "states" ∷ w ∷ [] → w ≡ number 0 → Breaks AtStates HasStates line
     no_states is zero_is =
         let zero_value : value w ≡ 0 = ap value zero_is ∙ value-number 0 (omega arith) in
         subst (Breaks AtStates HasStates) (sym is)
-        (inr ((subst AreWords is words, refl), inr ((0, omega arith, zero_is), inl (refl, λ some. absurd (omega (arith, zero_value))))))
+        (inr ((subst AreWords is words, refl), inr
+        ((0, omega arith, zero_is), inl (refl, λ some. absurd (omega (arith, zero_value))))))
 
     module _ (n : ℕ) (is : line ≡ codes "start" ∷ w ∷ []) where
       pub no_start : ¬ (IsNumber w) → Breaks (AtStart n) Numbers line
-      no_start none = subst (Breaks (AtStart n) Numbers) (sym is) (inr ((subst AreWords is words, refl), inl (refl, none)))
+      no_start none =
+          subst (Breaks (AtStart n) Numbers) (sym is) (inr ((subst AreWords is words, refl), inl (refl, none)))
 
       pub bad_start : (k : ℕ) → w ≡ number k → k < 2 ^ 32 → n ≤ k → Breaks (AtStart n) StartInRange line
       bad_start k is_k fits past =
           let is_value : value w ≡ k = ap value is_k ∙ value-number k (omega arith) in
           subst (Breaks (AtStart n) StartInRange) (sym is)
-          (inr ((subst AreWords is words, refl), inr ((k, fits, is_k), inl (refl, λ below. absurd (omega (arith, is_value))))))
+          (inr ((subst AreWords is words, refl), inr
+          ((k, fits, is_k), inl (refl, λ below. absurd (omega (arith, is_value))))))
 
   -- ---- the line of a state
 
@@ -98,8 +103,10 @@ module _ (left : List ℕ) where
       → IsLowest (IsStated line) rule r
       → (IsStated line → Breaks (AtState n i) rule line)
       → Breaks (AtState n i) r line
-  lowest_state n i line rule r (inl (is, stated)) broken = subst (λ q. Breaks (AtState n i) q line) (sym is) (broken stated)
-  lowest_state n i line rule r (inr (is, other)) broken = subst (λ q. Breaks (AtState n i) q line) (sym is) (inl (refl, other))
+  lowest_state n i line rule r (inl (is, stated)) broken =
+      subst (λ q. Breaks (AtState n i) q line) (sym is) (broken stated)
+  lowest_state n i line rule r (inr (is, other)) broken =
+      subst (λ q. Breaks (AtState n i) q line) (sym is) (inl (refl, other))
 
   -- ---- the line of an edge
 
@@ -112,7 +119,8 @@ module _ (left : List ℕ) where
         → IsLowest (IsEdged line) rule r
         → (IsEdged line → Breaks (AtEdge n before) rule line)
         → Breaks (AtEdge n before) r line
-    lowest_edge rule r apart (inl (is, edged)) broken = subst (λ q. Breaks (AtEdge n before) q line) (sym is) (broken edged)
+    lowest_edge rule r apart (inl (is, edged)) broken =
+        subst (λ q. Breaks (AtEdge n before) q line) (sym is) (broken edged)
     lowest_edge rule r apart (inr (is, other)) broken =
         subst (λ q. Breaks (AtEdge n before) q line) (sym is) (other_kind apart other)
 
@@ -155,7 +163,9 @@ module _ (left : List ℕ) where
 
         pub other_edge : ¬ (IsEdgeBehind n before edge) → Breaks (AtEdge n before) Edges line
         other_edge none =
-            let bad = ⊎_elim not_end (λ (behind : IsEdgeBehind n before told). none (subst (IsEdgeBehind n before) edge_is behind)) in
+            let bad =
+            ⊎_elim not_end (λ (behind : IsEdgeBehind n before told). none
+            (subst (IsEdgeBehind n before) edge_is behind)) in
             subst (Breaks (AtEdge n before) Edges) (sym is)
             (inr (inr edged, inr (inr ((x, fits_x, is_x), (y, fits_y, is_y)), inl (refl, bad))))
 

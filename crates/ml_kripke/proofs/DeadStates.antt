@@ -80,7 +80,8 @@ stopped : (a : List ℕ) (e : Edge) (es : List Edge) (s : ℕ)
 stopped a e es s below all = record {
   not_before = omega arith;
   go_on = λ t from to. absurd (omega (arith, from, to));
-  is_dead = ap (λ b. b || some_leaves a es s) (not_from a e s (λ same. omega (arith, below, same))) ∙ later_sources a e s below es all;
+  is_dead = ap (λ b. b || some_leaves a es s) (not_from a e s (λ same. omega (arith, below, same)))
+      ∙ later_sources a e s below es all;
 }
 
 -- one more edge in front, which leads from s by the action
@@ -94,12 +95,14 @@ led_on a e es s d here rest =
       not_before = omega (arith, rest.not_before);
       go_on = λ t from to. go t from to (nat_lt s t) refl;
       is_dead =
-          ap (λ b. b || some_leaves a es d) (not_from a e d (λ same. omega (arith, source, same, rest.not_before))) ∙ rest.is_dead;
+          ap (λ b. b || some_leaves a es d) (not_from a e d (λ same. omega (arith, source, same, rest.not_before)))
+          ∙ rest.is_dead;
     }
   where
     go : (t : ℕ) → s ≤ t → t < d → (b : Bool) → nat_lt s t ≡ b → some_leaves a (e ∷ es) t ≡ true
     go t from to true is =
-        let past : s + 1 ≤ t = grind (arith, nat_tests) in or_right (leaves a t e) (some_leaves a es t) (rest.go_on t past to)
+        let past : s + 1 ≤ t = grind (arith, nat_tests) in
+        or_right (leaves a t e) (some_leaves a es t) (rest.go_on t past to)
     go t from to false is =
         let same : s ≡ t = grind (arith, nat_tests) in
         subst (λ u. some_leaves a (e ∷ es) u ≡ true) same (ap (λ b. b || some_leaves a es s) here)
@@ -117,20 +120,23 @@ passed a e es s d source here rest = record {
 }
   where
     go : (b : Bool) → nat_lt s d ≡ b → leaves a d e ≡ false
-    go true is = let past : s < d = grind (arith, nat_tests) in not_from a e d (λ same. omega (arith, past, same, source))
+    go true is = let past : s < d = grind (arith, nat_tests) in
+        not_from a e d (λ same. omega (arith, past, same, source))
     go false is =
         let before : s ≤ d = rest.not_before in
         let same : s ≡ d = grind (arith, nat_tests) in subst (λ u. leaves a u e ≡ false) same here
 
 pub dead_found : (a : List ℕ) (es : List Edge) (s : ℕ) → IsStrictlySortedBy edge_cmp es → Found a es s
 unfolding IsStrictlySortedBy
-dead_found a [] s ascends = record { not_before = omega arith; go_on = λ t from to. absurd (omega (arith, from, to)); is_dead = refl }
+dead_found a [] s ascends =
+    record { not_before = omega arith; go_on = λ t from to. absurd (omega (arith, from, to)); is_dead = refl }
 dead_found a (e ∷ es) s ascends =
     go (nat_lt s e.source) refl (leaves a s e) refl (dead_found a es (s + 1) ascends.1) (dead_found a es s ascends.1)
   where
     go : (b : Bool) → nat_lt s e.source ≡ b → (c : Bool) → leaves a s e ≡ c → Found a es (s + 1) → Found a es s
         → IsDead a (e ∷ es) s (cond b s (dead_from a es (behind c s)))
-    go true is c leads one same = let below : s < e.source = grind (arith, nat_tests) in stopped a e es s below ascends.0
+    go true is c leads one same = let below : s < e.source = grind (arith, nat_tests) in
+        stopped a e es s below ascends.0
     go false is true leads one same = led_on a e es s (dead_from a es (s + 1)) leads one
     go false is false leads one same =
         let source : e.source ≤ s = grind (arith, nat_tests) in passed a e es s (dead_from a es s) source leads same
@@ -142,7 +148,8 @@ pub walk_stops : (a : List ℕ) (es : List Edge) (i s : ℕ) (e : Edge) → i < 
 walk_stops a es i s e here is below =
     let first = drop_more es i e here ∙ ap (λ f. f ∷ drop (i + 1) es) (sym is) in
     let test : nat_lt s e.source ≡ true = grind (arith, nat_tests) in
-    sym (ap (λ fs. dead_from a fs s) first ∙ ap (λ b. cond b s (dead_from a (drop (i + 1) es) (behind (leaves a s e) s))) test)
+    sym (ap (λ fs. dead_from a fs s) first
+    ∙ ap (λ b. cond b s (dead_from a (drop (i + 1) es) (behind (leaves a s e) s))) test)
 
 pub walk_ends : (a : List ℕ) (es : List Edge) (i s : ℕ) → length es ≤ i → dead_from a (drop i es) s ≡ s
 walk_ends a es i s past = ap (λ fs. dead_from a fs s) (drop_all i es past)

@@ -38,7 +38,8 @@ names_words (label ∷ labels) named =
     (names_words labels (All-tail IsName label labels named))
 
 number_first : (n : ℕ) (line : Line) → n < 2 ^ 32 → AreWords line → AreWords (number n ∷ line)
-number_first n line fits words = and_from (is_word (number n)) (list_all is_word line) (number-is_word n (omega arith)) words
+number_first n line fits words =
+    and_from (is_word (number n)) (list_all is_word line) (number-is_word n (omega arith)) words
 
 -- ---- lines
 
@@ -66,7 +67,8 @@ module _ (left : List ℕ) where
   pub good_state : (n i : ℕ) (labels : List Word) → i < 2 ^ 32 → All IsName labels → Ascend labels
       → IsGood (body left) (AtState n i) (state_line i labels)
   good_state n i labels fits named ascend =
-      ((number_first i labels fits (names_words labels named), refl), ((i, fits, refl), (value-number i (omega arith), ((named, ascend), tt))))
+      ((number_first i labels fits (names_words labels named), refl),
+      ((i, fits, refl), (value-number i (omega arith), ((named, ascend), tt))))
 
   pub state_good : (n i : ℕ) (line : Line) → IsGood (body left) (AtState n i) line → IsStateLine line i (drop 2 line)
   state_good n i line (kind, (is_number, (next, (labels, none)))) =
@@ -128,7 +130,9 @@ pub after_edge : (n : ℕ) (before : Option Edge) (e : Edge) → e.source < 2 ^ 
 after_edge n before e source target = ap (λ edge. AtEdge n (Some edge)) (edge_back [] e source target)
 
 pub at_state_below : (n i : ℕ) → i < n → at_state n i ≡ AtState n i
-at_state_below n i below = let is : nat_lt i n ≡ true = grind (arith, nat_tests) in ap (λ b. cond b (AtState n i) (AtEdge n None)) is
+at_state_below n i below = let is : nat_lt i n ≡ true = grind (arith, nat_tests) in
+    ap (λ b. cond b (AtState n i) (AtEdge n None)) is
 
 pub at_state_done : (n i : ℕ) → n ≤ i → at_state n i ≡ AtEdge n None
-at_state_done n i past = let is : nat_lt i n ≡ false = grind (arith, nat_tests) in ap (λ b. cond b (AtState n i) (AtEdge n None)) is
+at_state_done n i past = let is : nat_lt i n ≡ false = grind (arith, nat_tests) in
+    ap (λ b. cond b (AtState n i) (AtEdge n None)) is

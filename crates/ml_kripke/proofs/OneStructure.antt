@@ -18,7 +18,8 @@ use Rattle.ml_base.proofs.Edges.{edges_exact}
 pub edge_order : IsTotalOrder edge_cmp
 edge_order =
     then_total (on_total (λ (e : Edge). e.source) nat_cmp_total)
-    (then_total (on_total (λ (e : Edge). e.action) nat_list_cmp_total) (on_total (λ (e : Edge). e.target) nat_cmp_total))
+    (then_total (on_total (λ (e : Edge). e.action) nat_list_cmp_total)
+    (on_total (λ (e : Edge). e.target) nat_cmp_total))
 
 pub one_structure : OneStructure
 one_structure m n is_m is_n up_m up_n same =
@@ -34,7 +35,8 @@ one_structure m n is_m is_n up_m up_n same =
 
     row : (s : ℕ) → s < length m.labels → get_or m.labels s [] ≡ get_or n.labels s []
     row s here =
-        same_from_members (slice_cmp nat_cmp) nat_list_cmp_total exact_bytes (get_or m.labels s []) (get_or n.labels s [])
+        same_from_members (slice_cmp nat_cmp) nat_list_cmp_total exact_bytes (get_or m.labels s [])
+        (get_or n.labels s [])
         (up_m.labels_ascend s [] here) (up_n.labels_ascend s [] (omega (arith, long)))
         (λ p. (same.labels_same s p).0) (λ p. (same.labels_same s p).1)
 

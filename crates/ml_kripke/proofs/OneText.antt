@@ -37,7 +37,8 @@ digit_plain : (n c : ℕ) → c < 48 → (48 + n == c) ≡ false
 digit_plain n c small = grind (arith, nat_tests)
 
 has-push : (c x : ℕ) (xs : List ℕ) → has c xs ≡ false → (x == c) ≡ false → has c (xs ++ x ∷ []) ≡ false
-has-push c x xs e f = list_any-append (λ y. y == c) xs (x ∷ []) ∙ ap (λ front. front || ((x == c) || false)) e ∙ ap (λ last. last || false) f
+has-push c x xs e f = list_any-append (λ y. y == c) xs (x ∷ []) ∙ ap (λ front. front || ((x == c) || false)) e
+    ∙ ap (λ last. last || false) f
 
 number_without : (c : ℕ) → c < 48 → (n : ℕ) → n < 2 ^ 64 → has c (number n) ≡ false
 number_without c small =
@@ -81,7 +82,8 @@ or_true false = refl
 name_without : (c : ℕ) → is_name_byte c ≡ false → (bytes : List ℕ) → IsName bytes → has c bytes ≡ false
 name_without c none [] e = refl
 name_without c none (b ∷ bs) e =
-    let parts = and_parts (is_ascii_alphabetic b && list_all is_name_byte bs) (nat_le (length (b ∷ bs)) longest_name) e in
+    let parts =
+    and_parts (is_ascii_alphabetic b && list_all is_name_byte bs) (nat_le (length (b ∷ bs)) longest_name) e in
     let bytes = and_parts (is_ascii_alphabetic b) (list_all is_name_byte bs) parts.0 in
     let first = alpha_byte (is_in_range 48 57 b) (is_in_range 65 90 b) (is_in_range 97 122 b) (b == 95) bytes.0 in
     ap (λ here. here || has c bs) (other_byte c none b first) ∙ name_bytes_without c none bs bytes.1
@@ -89,7 +91,8 @@ name_without c none (b ∷ bs) e =
 blank_without : (c : ℕ) → is_name_byte c ≡ false → (bytes : List ℕ) → is_blank_action bytes ≡ true → has c bytes ≡ false
 blank_without c none [] e = refl
 blank_without c none (b ∷ []) e =
-    let first : is_name_byte b ≡ true = ap (λ last. is_ascii_alphanumeric b || last) e ∙ or_true (is_ascii_alphanumeric b) in
+    let first : is_name_byte b ≡ true =
+    ap (λ last. is_ascii_alphanumeric b || last) e ∙ or_true (is_ascii_alphanumeric b) in
     ap (λ here. here || false) (other_byte c none b first)
 blank_without c none (b ∷ d ∷ bs) e = cc
 
@@ -105,7 +108,8 @@ action_without c none bytes e = go (is_name bytes) refl e
 names_avoid : (c : ℕ) → is_name_byte c ≡ false → (labels : List (List ℕ)) → All IsName labels → avoids c labels
 names_avoid c none [] named = tt
 names_avoid c none (label ∷ labels) named =
-    (name_without c none label (All-head IsName label labels named), names_avoid c none labels (All-tail IsName label labels named))
+    (name_without c none label (All-head IsName label labels named), names_avoid c none labels
+    (All-tail IsName label labels named))
 
 state_plain : (s : ℕ) (labels : List (List ℕ)) → s < 2 ^ 64 → All IsName labels → IsPlain (state_line s labels)
 state_plain s labels fits named =
@@ -168,7 +172,8 @@ model_plain m s ok =
       (
         numbered_plain (codes "start") s (refl, refl) start,
         plain-append (state_lines 0 m.labels ++ map edge_line m.edges) ((codes "end" ∷ []) ∷ [])
-            (plain-append (state_lines 0 m.labels) (map edge_line m.edges) (states_plain 0 m.labels rows ok.has_names.labels_named)
+            (plain-append (state_lines 0 m.labels) (map edge_line m.edges)
+            (states_plain 0 m.labels rows ok.has_names.labels_named)
             (edges_plain m.states fits m.edges ok.is_structure.joins_states ok.has_names.actions_named))
             (((refl, tt), (refl, tt)), tt),
       ),
@@ -209,11 +214,14 @@ edge_lines_unique n fits (x ∷ es) [] below_es below_fs e = cc
 edge_lines_unique n fits (x ∷ es) (f ∷ fs) below_es below_fs e =
     let first = edge_unique n fits x f (All-head (EndsBelow n) x es below_es) (All-head (EndsBelow n) f fs below_fs)
     (ap (λ (lines : List Line). get_or lines 0 []) e) in
-    let rest = edge_lines_unique n fits es fs (All-tail (EndsBelow n) x es below_es) (All-tail (EndsBelow n) f fs below_fs) (ap (drop 1) e) in
+    let rest =
+    edge_lines_unique n fits es fs (All-tail (EndsBelow n) x es below_es) (All-tail (EndsBelow n) f fs below_fs)
+    (ap (drop 1) e) in
     λ i. first i ∷ rest i
 
 pub length-state_lines : (s : ℕ) (rows : List (List (List ℕ))) → length (state_lines s rows) ≡ length rows
-length-state_lines s rows = length-map (enumerate_from s rows) (λ labelled. state_line labelled.0 labelled.1) ∙ length-enumerate_from s rows
+length-state_lines s rows =
+    length-map (enumerate_from s rows) (λ labelled. state_line labelled.0 labelled.1) ∙ length-enumerate_from s rows
 
 lines_unique : (m n : Structure) (s t : ℕ)
     → IsWritten m s
@@ -229,7 +237,8 @@ lines_unique m n s t ok_m ok_n e = (λ i. record { states = states i; labels = l
     fits_n = omega (arith, ok_n.fits)
 
     states : m.states ≡ n.states
-    states = numbers_unique m.states n.states fits_m fits_n (ap (λ (lines : List Line). get_or (get_or lines 0 []) 1 []) e)
+    states = numbers_unique m.states n.states fits_m fits_n
+        (ap (λ (lines : List Line). get_or (get_or lines 0 []) 1 []) e)
 
     start : s ≡ t
     start =
@@ -238,7 +247,8 @@ lines_unique m n s t ok_m ok_n e = (λ i. record { states = states i; labels = l
 
     joined : state_lines 0 m.labels ++ map edge_line m.edges ≡ state_lines 0 n.labels ++ map edge_line n.edges
     joined =
-        append_cancel_right (state_lines 0 m.labels ++ map edge_line m.edges) (state_lines 0 n.labels ++ map edge_line n.edges)
+        append_cancel_right (state_lines 0 m.labels ++ map edge_line m.edges)
+        (state_lines 0 n.labels ++ map edge_line n.edges)
         ((codes "end" ∷ []) ∷ []) (ap (drop 2) e)
 
     long_m : length (state_lines 0 m.labels) ≡ m.states
@@ -264,4 +274,5 @@ lines_unique m n s t ok_m ok_n e = (λ i. record { states = states i; labels = l
 
 pub one_text : OneText
 one_text m n s t ok_m ok_n e =
-    lines_unique m n s t ok_m ok_n (text_unique (model_lines m s) (model_lines n t) (model_plain m s ok_m) (model_plain n t ok_n) e)
+    lines_unique m n s t ok_m ok_n (text_unique (model_lines m s) (model_lines n t) (model_plain m s ok_m)
+    (model_plain n t ok_n) e)

@@ -11,35 +11,34 @@ use Rattle.std.proofs.lemmas.List.Elements.{All-nil, All-cons}
 use Rattle.std.proofs.lemmas.Bool.{leb-false}
 use Rattle.ml_base.specs.declared.structure.Edge.{Edge}
 use Rattle.ml_kripke.specs.Ordered.{ends, first_bad_state}
+use Rattle.ml_lists.proofs.Entries.{cond-none}
 
 pub first_bad_parts : (states : ℕ) (labels : List (ℕ × List ℕ)) (edges : List Edge)
-    → first_bad_state states labels edges ≡ option_or (find (nat_le states) (map (λ label. label.0) labels)) (find (nat_le states) (flat_map ends edges))
+    → first_bad_state states labels edges
+    ≡ option_or (find (nat_le states) (map (λ label. label.0) labels)) (find (nat_le states) (flat_map ends edges))
 first_bad_parts states labels edges = find-append (nat_le states) (map (λ label. label.0) labels) (flat_map ends edges)
 
 none_left : {T : Type 0} (o p : Option T) → option_or o p ≡ None → (o ≡ None) × (p ≡ None)
 none_left None p e = (refl, e)
 none_left (Some x) p e = cc
 
--- a test that found nothing
-passed : {T : Type 0} (b : Bool) (x : T) (o : Option T) → cond b (Some x) o ≡ None → (b ≡ false) × (o ≡ None)
-passed true x o e = cc
-passed false x o e = (refl, e)
-
 pub labels_in_range : (states : ℕ) (labels : List (ℕ × List ℕ))
     → find (nat_le states) (map (λ label. label.0) labels) ≡ None
     → All (λ label. label.0 < states) labels
 labels_in_range states [] e = All-nil (λ (label : ℕ × List ℕ). label.0 < states)
 labels_in_range states (label ∷ labels) e =
-    let first = passed (nat_le states label.0) label.0 (find (nat_le states) (map (λ l. l.0) labels)) e in
-    All-cons (λ (l : ℕ × List ℕ). l.0 < states) label labels (leb-false states label.0 first.0) (labels_in_range states labels first.1)
+    let first = cond-none (nat_le states label.0) label.0 (find (nat_le states) (map (λ l. l.0) labels)) e in
+    All-cons (λ (l : ℕ × List ℕ). l.0 < states) label labels (leb-false states label.0 first.0)
+        (labels_in_range states labels first.1)
 
 pub edges_in_range : (states : ℕ) (edges : List Edge) → find (nat_le states) (flat_map ends edges) ≡ None
     → All (λ e. (e.source < states) × (e.target < states)) edges
 edges_in_range states [] none = All-nil (λ (e : Edge). (e.source < states) × (e.target < states))
 edges_in_range states (edge ∷ edges) none =
     let rest = find (nat_le states) (flat_map ends edges) in
-    let first = passed (nat_le states edge.source) edge.source (cond (nat_le states edge.target) (Some edge.target) rest) none in
-    let second = passed (nat_le states edge.target) edge.target rest first.1 in
+    let first =
+    cond-none (nat_le states edge.source) edge.source (cond (nat_le states edge.target) (Some edge.target) rest) none in
+    let second = cond-none (nat_le states edge.target) edge.target rest first.1 in
     All-cons (λ (e : Edge). (e.source < states) × (e.target < states)) edge edges
     (leb-false states edge.source first.0, leb-false states edge.target second.0) (edges_in_range states edges second.1)
 
@@ -47,5 +46,6 @@ pub all_in_range : (states : ℕ) (labels : List (ℕ × List ℕ)) (edges : Lis
     → first_bad_state states labels edges ≡ None
     → All (λ label. label.0 < states) labels × All (λ e. (e.source < states) × (e.target < states)) edges
 all_in_range states labels edges none =
-    let both = none_left _ _ (sym (find-append (nat_le states) (map (λ label. label.0) labels) (flat_map ends edges)) ∙ none) in
+    let both =
+    none_left _ _ (sym (find-append (nat_le states) (map (λ label. label.0) labels) (flat_map ends edges)) ∙ none) in
     (labels_in_range states labels both.0, edges_in_range states edges both.1)

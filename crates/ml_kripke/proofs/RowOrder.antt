@@ -39,7 +39,8 @@ above x s e [] all = all
 above x s e (y ∷ ys) all = go (at s y) refl (above x s e ys all.1)
   where
     go : (b : Bool) → at s y ≡ b → AllByRecursion (λ p. slice_cmp nat_cmp x.1 p ≡ Less) (labels_at ys s)
-        → AllByRecursion (λ p. slice_cmp nat_cmp x.1 p ≡ Less) (map name_of (cond b (y ∷ filter (at s) ys) (filter (at s) ys)))
+        → AllByRecursion (λ p. slice_cmp nat_cmp x.1 p ≡ Less)
+        (map name_of (cond b (y ∷ filter (at s) ys) (filter (at s) ys)))
     go true is rest = (sym (by_name x y (e ∙ sym (eqb-true y.0 s is))) ∙ all.0, rest)
     go false is rest = rest
 
@@ -64,7 +65,8 @@ labels_at-contains s (x ∷ xs) p h = go (at s x) refl h (labels_at-contains s x
     go true is inside rest =
         let state = eqb-true x.0 s is in
         ⊎_elim
-        (λ (e : x.1 ≡ p). let same : x ≡ (s, p) = λ i. (state i, e i) in subst (Contains (x ∷ xs)) same (contains_head x xs))
+        (λ (e : x.1 ≡ p). let same : x ≡ (s, p) = λ i. (state i, e i) in
+        subst (Contains (x ∷ xs)) same (contains_head x xs))
         (λ (later : Contains (labels_at xs s) p). contains_later x xs (s, p) (rest later))
         (contains_cases x.1 (labels_at xs s) p inside)
     go false is inside rest = contains_later x xs (s, p) (rest inside)
@@ -80,11 +82,13 @@ labels_at-contained s (x ∷ xs) p h = go (at s x) refl (contains_cases x xs (s,
         → Contains (map name_of (cond b (x ∷ filter (at s) xs) (filter (at s) xs))) p
     go true is found rest =
         ⊎_elim
-        (λ (e : x ≡ (s, p)). subst (Contains (x.1 ∷ labels_at xs s)) (ap name_of e) (contains_head x.1 (labels_at xs s)))
+        (λ (e : x ≡ (s, p)). subst (Contains (x.1 ∷ labels_at xs s)) (ap name_of e)
+        (contains_head x.1 (labels_at xs s)))
         (λ (later : Contains xs (s, p)). contains_later x.1 (labels_at xs s) p (rest later))
         found
     go false is found rest =
         ⊎_elim
-        (λ (e : x ≡ (s, p)). let here : at s x ≡ true = eq-eqb x.0 s (ap (λ (l : Label). l.0) e) in absurd (true≢false (sym here ∙ is)))
+        (λ (e : x ≡ (s, p)). let here : at s x ≡ true = eq-eqb x.0 s (ap (λ (l : Label). l.0) e) in
+        absurd (true≢false (sym here ∙ is)))
         (λ (later : Contains xs (s, p)). rest later)
         found

@@ -45,7 +45,8 @@ module _ (p : ℕ → Bool) where
       let parts = cond_some (nat_lt (position_or_len p xs) (length xs)) (position_or_len p xs) i some in
       let below : position_or_len p xs < length xs = grind (arith, nat_tests) in (
         omega (arith, parts.1),
-        subst (λ k. slice_split p xs ≡ take k xs ∷ slice_split p (drop (k + 1) xs)) parts.1 (slice_split_first p xs 0 below),
+        subst (λ k. slice_split p xs ≡ take k xs ∷ slice_split p (drop (k + 1) xs)) parts.1
+        (slice_split_first p xs 0 below),
       )
 
 -- the first place of a list, and none
@@ -58,7 +59,8 @@ unplaced n = let no : nat_lt n n ≡ false = grind (arith, nat_tests) in sym (ap
 pub byte_place : (b : ℕ) (xs : List ℕ) (r : Option ℕ) → IsFirstByte (is_byte b) xs r → r ≡ position (is_byte b) xs
 byte_place b xs None none =
     let at = position_or_len_is (is_byte b) xs (length xs) 0 (omega arith)
-    (λ k below. false_from_ne_true (is_byte b (get_or xs k 0)) (none k (omega arith) below)) (λ below. absurd (omega arith)) in
+    (λ k below. false_from_ne_true (is_byte b (get_or xs k 0)) (none k (omega arith) below))
+    (λ below. absurd (omega arith)) in
     unplaced (length xs) ∙ ap (λ n. cond (nat_lt n (length xs)) (Some n) None) (sym at)
 byte_place b xs (Some i) (first, is) =
     let at = position_or_len_is (is_byte b) xs i 0 (omega (arith, first.high))
@@ -92,7 +94,8 @@ line_none text none =
     (ap (λ parts. map words_of (fronts parts)) is, ap last_part is)
 
 pub line_at : (text : List ℕ) (i : ℕ) → position is_line_end text ≡ Some i
-    → (lines_of text ≡ words_of (take i text) ∷ lines_of (drop (i + 1) text)) × (left_of text ≡ left_of (drop (i + 1) text))
+    → (lines_of text ≡ words_of (take i text) ∷ lines_of (drop (i + 1) text))
+    × (left_of text ≡ left_of (drop (i + 1) text))
 line_at text i some =
     let is = (cut_at is_line_end text i some).1 in
     let rest = slice_split is_line_end (drop (i + 1) text) in

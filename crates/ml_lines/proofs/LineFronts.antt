@@ -20,7 +20,8 @@ IsInLine bytes = list_any is_line_end bytes ≡ false
 pub none_passes : (p : ℕ → Bool) (bytes : List ℕ) → list_any p bytes ≡ false → All (λ b. p b ≡ false) bytes
 none_passes p [] is = All-nil (λ (b : ℕ). p b ≡ false)
 none_passes p (b ∷ bs) is =
-    let parts = or_parts (p b) (list_any p bs) is in All-cons (λ (c : ℕ). p c ≡ false) b bs parts.0 (none_passes p bs parts.1)
+    let parts = or_parts (p b) (list_any p bs) is in
+    All-cons (λ (c : ℕ). p c ≡ false) b bs parts.0 (none_passes p bs parts.1)
 
 pub line_front : (bytes rest : List ℕ) → IsInLine bytes
     → (lines_of (bytes ++ 10 ∷ rest) ≡ words_of bytes ∷ lines_of rest) × (left_of (bytes ++ 10 ∷ rest) ≡ left_of rest)
@@ -51,7 +52,8 @@ parts_plain (x ∷ xs) = go (is_line_end x) refl (parts_plain xs)
         → AllByRecursion IsInLine (slice_split is_line_end (x ∷ xs))
     go true is rest = subst (AllByRecursion IsInLine) (sym (slice_split-cons_yes is_line_end x xs is)) (refl, rest)
     go false is rest =
-        subst (AllByRecursion IsInLine) (sym (slice_split-cons_no is_line_end x xs is)) (onto_plain x (slice_split is_line_end xs) is rest)
+        subst (AllByRecursion IsInLine) (sym (slice_split-cons_no is_line_end x xs is))
+        (onto_plain x (slice_split is_line_end xs) is rest)
 
 lines_in : (parts : List (List ℕ)) → AllByRecursion IsInLine parts
     → AllByRecursion (λ line. IsInLine (join_with_byte 32 line)) (map words_of (fronts parts))

@@ -98,7 +98,8 @@ no_end_in word words ok = no_end (word ∷ words) ok
 pub text-cons : (word : Word) (words : Line) (lines : List Line)
     → text_of ((word ∷ words) ∷ lines) ≡ body word words ++ 10 ∷ text_of lines
 text-cons word words lines =
-    ap (λ first. first ++ text_of lines) (line_text-words word words ∙ sym (append_assoc word (flat_map next words) (10 ∷ [])))
+    ap (λ first. first ++ text_of lines)
+    (line_text-words word words ∙ sym (append_assoc word (flat_map next words) (10 ∷ [])))
     ∙ append_assoc (body word words) (10 ∷ []) (text_of lines)
 
 first_line : (word : Word) (words : Line) (lines : List Line) → avoids 10 (word ∷ words)
@@ -110,7 +111,8 @@ first_line word words lines ok =
 later_lines : (word : Word) (words : Line) (lines : List Line) → avoids 10 (word ∷ words)
     → from 10 (text_of ((word ∷ words) ∷ lines)) ≡ 10 ∷ text_of lines
 later_lines word words lines ok =
-    ap (from 10) (text-cons word words lines) ∙ from-append 10 (body word words) (10 ∷ text_of lines) (no_end_in word words ok)
+    ap (from 10) (text-cons word words lines)
+    ∙ from-append 10 (body word words) (10 ∷ text_of lines) (no_end_in word words ok)
 
 pub text_unique : (ls ks : List Line) → ArePlain ls → ArePlain ks → text_of ls ≡ text_of ks → ls ≡ ks
 text_unique [] [] ok_ls ok_ks e = refl

@@ -38,6 +38,7 @@ one_word_is bytes w is = sym (join_with_byte-slice_split 32 bytes) ∙ ap (join_
 
 pub one_number_is : (bytes : List ℕ) (r : Option ℕ)
     → MatchOption r (¬ (IsNumber bytes)) (λ n. (bytes ≡ number n) × (n < 2 ^ 32))
-    → MatchOption r ((n : ℕ) → n < 2 ^ 32 → words_of bytes ≢ number n ∷ []) (λ n. (words_of bytes ≡ number n ∷ []) × (n < 2 ^ 32))
+    → MatchOption r ((n : ℕ) → n < 2 ^ 32 → words_of bytes ≢ number n ∷ [])
+    (λ n. (words_of bytes ≡ number n ∷ []) × (n < 2 ^ 32))
 one_number_is bytes None none = λ n fits is. none (n, fits, one_word_is bytes (number n) is)
 one_number_is bytes (Some n) (is, fits) = (ap words_of is ∙ number-words n (omega arith), fits)

@@ -40,10 +40,12 @@ lines_read ([] ∷ lines) ok = absurd ok.0
 lines_read ((word ∷ words) ∷ lines) ok =
     let rest = slice_split is_line_end (text_of lines) in
     let some = some_part is_line_end (text_of lines) in
-    let cut = ap (slice_split is_line_end) (text-cons word words lines) ∙ cut_line (body word words) (text_of lines) (no_end_in word words ok.0.1) in
+    let cut = ap (slice_split is_line_end) (text-cons word words lines)
+    ∙ cut_line (body word words) (text_of lines) (no_end_in word words ok.0.1) in
     let behind = lines_read lines ok.1 in (
       ap (λ parts. map words_of (fronts parts)) cut ∙ ap (map words_of) (fronts_more (body word words) rest some)
-          ∙ ap (λ first. first ∷ lines_of (text_of lines)) (line_read word words ok.0.0) ∙ ap (λ more. (word ∷ words) ∷ more) behind.0,
+          ∙ ap (λ first. first ∷ lines_of (text_of lines)) (line_read word words ok.0.0)
+          ∙ ap (λ more. (word ∷ words) ∷ more) behind.0,
       ap last_part cut ∙ last_more (body word words) rest some ∙ behind.1,
     )
 
@@ -55,8 +57,10 @@ parts_back : (parts : List (List ℕ))
 parts_back [] = refl
 parts_back (part ∷ []) = refl
 parts_back (part ∷ second ∷ parts) =
-    append_assoc (line_text (words_of part)) (text_of (map words_of (fronts (second ∷ parts)))) (last_part (second ∷ parts))
-    ∙ ap (λ line. line ++ (text_of (map words_of (fronts (second ∷ parts))) ++ last_part (second ∷ parts))) (line_back part)
+    append_assoc (line_text (words_of part)) (text_of (map words_of (fronts (second ∷ parts))))
+    (last_part (second ∷ parts))
+    ∙ ap (λ line. line ++ (text_of (map words_of (fronts (second ∷ parts))) ++ last_part (second ∷ parts)))
+    (line_back part)
     ∙ append_assoc part (10 ∷ []) (text_of (map words_of (fronts (second ∷ parts))) ++ last_part (second ∷ parts))
     ∙ ap (λ more. part ++ 10 ∷ more) (parts_back (second ∷ parts))
 

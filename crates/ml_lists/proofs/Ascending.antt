@@ -113,7 +113,8 @@ insert_once-is x (y ∷ ys) a = by_test (insert_once-is x ys a.1) (cases_Bool (l
 -- a member of the list is one of the ascending list
 pub member-ascending : (v : ℕ) (xs : List ℕ) → IsMember v xs → IsMember v (ascending xs)
 member-ascending v [] m = absurd m
-member-ascending v (x ∷ xs) (inl e) = subst (λ w. IsMember w (insert_once x (ascending xs))) (sym e) (member-insert_once x (ascending xs))
+member-ascending v (x ∷ xs) (inl e) =
+    subst (λ w. IsMember w (insert_once x (ascending xs))) (sym e) (member-insert_once x (ascending xs))
 member-ascending v (x ∷ xs) (inr m) = insert_once-keeps v x (ascending xs) (member-ascending v xs m)
 
 -- and the other way round

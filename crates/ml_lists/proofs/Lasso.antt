@@ -75,7 +75,8 @@ loop_value f l (suc j) d low =
 -- how long the list of the values on the loop is
 loop_values_length : (f : ℕ → ℕ) (l : Lasso) → l.start < length l.entries
     → length (f (entry l l.start) ∷ map f (drop (suc l.start) l.entries)) + l.start ≡ length l.entries
-loop_values_length f l starts = omega (arith, length-map (drop (suc l.start) l.entries) f, length-drop (suc l.start) l.entries)
+loop_values_length f l starts =
+    omega (arith, length-map (drop (suc l.start) l.entries) f, length-drop (suc l.start) l.entries)
 
 -- the lowest on the loop is at most f of each entry of the loop
 pub lowest_on_loop_le : (f : ℕ → ℕ) (l : Lasso) (k : ℕ) → l.start ≤ k → k < length l.entries
@@ -139,7 +140,8 @@ lasso_of-round c i j k apart same low = by_case (cases_eq k j)
   where
     by_case : (k ≡ j) ⊎ (k ≡ j → ⊥) → get_or (round (lasso_of c i j)) k 0 ≡ c k
     by_case (inl last) =
-        round-end (lasso_of c i j) k (last ∙ sym (lasso_of-length c i j)) ∙ lasso_of-entry c i j i apart ∙ same ∙ ap c (sym last)
+        round-end (lasso_of c i j) k (last ∙ sym (lasso_of-length c i j)) ∙ lasso_of-entry c i j i apart ∙ same
+        ∙ ap c (sym last)
     by_case (inr other) =
         round-entry (lasso_of c i j) k (omega (arith, lasso_of-length c i j)) ∙ lasso_of-entry c i j k (omega arith)
 

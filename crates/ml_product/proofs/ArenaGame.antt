@@ -74,6 +74,10 @@ some_target g p sp (Leading []) ts is moves = absurd (omega (arith, is.2))
 some_target g p sp (Leading (d ∷ ds)) ts is (q, others, follows, rest, are) = let e = ap length are in omega arith
 some_target g p sp Settled ts is moves = let e = ap length moves in omega arith
 
+pub single_low : (w x n : ℕ) → x < n → IsMember w (x ∷ []) → w < n
+single_low w x n low (inl same) = omega arith
+single_low w x n low (inr none) = absurd none
+
 module _ (g : Graph) (a : Arena) (is : IsArenaOf g a) where
   -- a position with a number is reached
   pub here : (v : ℕ) (p : Position) → slice_get a.positions v ≡ Some p → IsReached g p
@@ -128,10 +132,6 @@ module _ (g : Graph) (a : Arena) (is : IsArenaOf g a) where
       let played = played_at v low in
       let t = target_of a.positions played.turn.targets (get_or a.moves v []) played.moves_are w m in
       vertex_low a.positions t.target w t.is_vertex
-
-  single_low : (w x n : ℕ) → x < n → IsMember w (x ∷ []) → w < n
-  single_low w x n low (inl same) = omega arith
-  single_low w x n low (inr none) = absurd none
 
   -- the game of an arena is one
   pub is_game : IsGame (game_of a)

@@ -1,11 +1,12 @@
 -- What an exploration has found.
 --
 --   turned_all   == where what was recorded has as many entries as there are positions, these are all that are reached
---   few_reached  == different positions that all stand in a list are no more than its entries
+--   are_apart    == different positions stand apart
+--   few_reached  == so different positions that all stand in a list are no more than its entries
 --   not_more     == so no more positions are reached than stand in that list
 --   passed       == where a new position finds no room, more are reached than are allowed
 --   is_arena     == the positions with what was recorded are the decision game
-use Rattle.std.proofs.Common.{ℕ, suc, ◌≡◌, ◌≤◌, ◌⊎◌, inl, inr, List, [], ◌∷◌, ◌++◌, length, map, slice_get, get_or, Some, refl, sym, ap, ◌∙◌, subst, arith}
+use Rattle.std.proofs.Common.{ℕ, ◌≡◌, ◌≤◌, ◌⊎◌, inl, inr, List, [], ◌∷◌, ◌++◌, length, map, slice_get, get_or, Some, sym, ◌∙◌, subst, arith}
 use Rattle.std.proofs.lemmas.List.{length-map, get_or-map}
 use Rattle.std.proofs.lemmas.Option.{slice_get_within, get_or_from_slice_get}
 use Rattle.ml_lists.specs.Member.{IsMember}
@@ -21,53 +22,23 @@ use Rattle.ml_product.specs.private.Pools.{positions_of}
 use Rattle.ml_product.specs.private.Recorded.{owner_of, moves_of, IsRecorded}
 use Rattle.ml_product.specs.private.Exploring.{Explores, IsNumbered, HasNoRoom, IsLonger, AreTurned, Becomes}
 use Rattle.ml_lists.proofs.Member.{member_of_get}
+use Rattle.ml_lists.proofs.FirstEntries.{AreApart}
+use Rattle.ml_lists.proofs.Different.{different_within}
 use Rattle.ml_product.proofs.OnePlace.{PlaceOf, place_of}
 use Rattle.ml_product.proofs.OneTurn.{same_targets}
 use Rattle.ml_product.proofs.Vertices.{target_stands, at_the_end, longer_self}
 
 -- ---- counting
 
--- a list without the first thing that is p
-record Without (p : Position) (ps : List Position) : Type 0 where
-  pub rest : List Position
-  pub shorter : length ps ≡ suc (length rest)
-  pub kept : (q : Position) → IsMember q ps → (q ≡ p → ⊥) → IsMember q rest
+are_apart : (ps : List Position) → AreDifferent ps → AreApart ps
+are_apart [] different = tt
+are_apart (p ∷ ps) different = (different.0, are_apart ps different.1)
 
-without : (p : Position) (ps : List Position) → IsMember p ps → Without p ps
-without p [] none = absurd none
-without p (x ∷ ps) (inl same) = record {
-  rest = ps;
-  shorter = refl;
-  kept = λ q m other. by_place q other m;
-}
-  where
-    by_place : (q : Position) → (q ≡ p → ⊥) → (q ≡ x) ⊎ IsMember q ps → IsMember q ps
-    by_place q other (inl here) = absurd (other (here ∙ sym same))
-    by_place q other (inr later) = later
-without p (x ∷ ps) (inr m) = from (without p ps m)
-  where
-    from : Without p ps → Without p (x ∷ ps)
-    from w = record {
-      rest = x ∷ w.rest;
-      shorter = ap suc w.shorter;
-      kept = λ q i other. by_place q other i;
-    }
-      where
-        by_place : (q : Position) → (q ≡ p → ⊥) → (q ≡ x) ⊎ IsMember q ps → IsMember q (x ∷ w.rest)
-        by_place q other (inl here) = inl here
-        by_place q other (inr later) = inr (w.kept q later other)
-
--- different positions that all stand in a list are no more than its entries
 pub few_reached : (qs ps : List Position)
     → AreDifferent qs
     → ((q : Position) → IsMember q qs → IsMember q ps)
     → length qs ≤ length ps
-few_reached [] ps apart inside = omega arith
-few_reached (q ∷ qs) ps apart inside =
-    let w = without q ps (inside q (inl refl)) in
-    let rest = few_reached qs w.rest apart.1
-    (λ r m. w.kept r (inside r (inr m)) (λ same. apart.0 (subst (λ x. IsMember x qs) same m))) in
-    omega (arith, w.shorter)
+few_reached qs ps different inside = different_within qs ps (are_apart qs different) inside
 
 -- ---- what is reached
 
@@ -91,7 +62,8 @@ module _ (g : Graph) (limit : ℕ) (b : Pool) (rs : List Recorded) (t : AreTurne
       from : PlaceOf p (positions_of b) → IsMember q (positions_of b)
       from at =
           let r = found at.place p at.stands in
-          target_stands 0 (positions_of b) r.turn.targets (moves_of 0 (get_or rs at.place recorded.Lost)) q (r.moves_are 0)
+          target_stands 0 (positions_of b) r.turn.targets (moves_of 0 (get_or rs at.place recorded.Lost)) q
+          (r.moves_are 0)
           (subst (IsMember (To q)) (same_targets g p u r.turn) leads)
 
   -- all that are reached stand there
@@ -174,7 +146,8 @@ module _ (g : Graph) (limit : ℕ) (b : Pool) (e : Explores g limit b) (p : Posi
           among (x ∷ ps) all (inl same) = all q (inl same)
           among (x ∷ ps) all (inr later) = among ps (λ r i. all r (inr i)) later
 
-      by_kind : (positions_of d ≡ positions_of b) ⊎ ((positions_of d ≡ positions_of b ++ p ∷ []) × ¬ (IsMember p (positions_of b)))
+      by_kind : (positions_of d ≡ positions_of b)
+          ⊎ ((positions_of d ≡ positions_of b ++ p ∷ []) × ¬ (IsMember p (positions_of b)))
           → Becomes g limit (positions_of b) d
       by_kind (inl old) = record {
         explores = record {

@@ -15,6 +15,7 @@ use Rattle.ml_product.specs.declared.stored.Stored.{Stored}
 use Rattle.ml_product.specs.private.Shared.{IsHeld, seen, shown}
 use Rattle.ml_product.specs.Position.{Position}
 use Rattle.ml_product.specs.Arena.{Arena, game_of}
+use Rattle.ml_product.proofs.ArenaGame.{single_low}
 
 module _ (a : Arena) (n : ℕ)
     (count : length a.positions ≡ n)
@@ -42,21 +43,19 @@ module _ (a : Arena) (n : ℕ)
       ap (λ k. get_or (game_of a).successors k []) e ∙ get_or-append-add a.moves ends 1 []
       ∙ ap (λ k. (k + 1) ∷ []) count
 
-  only : (w x m : ℕ) → x < m → IsMember w (x ∷ []) → w < m
-  only w x m less (inl same) = omega arith
-  only w x m less (inr none) = absurd none
-
   goes_on : (v : ℕ) → v < n + 2
       → (v < n) ⊎ (n ≤ v)
       → (v ≡ n) ⊎ (v ≡ n → ⊥)
       → 0 < length (moves_of (game_of a) v)
   goes_on v bound (inl inside) at_lost = subst (λ ms. 0 < length ms) (sym (inside_moves v inside)) (some v inside)
   goes_on v bound (inr past) (inl same) =
-      let e : length (moves_of (game_of a) v) ≡ 1 = ap (λ k. length (moves_of (game_of a) k)) same ∙ ap length lost_moves in
+      let e : length (moves_of (game_of a) v) ≡ 1 =
+      ap (λ k. length (moves_of (game_of a) k)) same ∙ ap length lost_moves in
       omega arith
   goes_on v bound (inr past) (inr other) =
       let same : v ≡ n + 1 = omega (arith, other) in
-      let e : length (moves_of (game_of a) v) ≡ 1 = ap (λ k. length (moves_of (game_of a) k)) same ∙ ap length won_moves in
+      let e : length (moves_of (game_of a) v) ≡ 1 =
+      ap (λ k. length (moves_of (game_of a) k)) same ∙ ap length won_moves in
       omega arith
 
   list_size : length (game_of a).successors ≡ n + 2
@@ -70,11 +69,11 @@ module _ (a : Arena) (n : ℕ)
       → w < n + 2
   in_range v w move (inl inside) at_lost at_won = low v w (subst (λ ms. Contains ms w) (inside_moves v inside) move)
   in_range v w move (inr past) (inl same) at_won =
-      only w n (n + 2) (omega arith)
+      single_low w n (n + 2) (omega arith)
       (subst (λ ms. IsMember w ms) (ap (moves_of (game_of a)) same ∙ lost_moves)
       (member_of_contains w (moves_of (game_of a) v) move))
   in_range v w move (inr past) (inr other) (inl same) =
-      only w (n + 1) (n + 2) (omega arith)
+      single_low w (n + 1) (n + 2) (omega arith)
       (subst (λ ms. IsMember w ms) (ap (moves_of (game_of a)) same ∙ won_moves)
       (member_of_contains w (moves_of (game_of a) v) move))
   in_range v w move (inr past) (inr other) (inr another) =
@@ -101,7 +100,8 @@ module _ (a : Arena) (n : ℕ)
 abbrev pub of_lists : List Player → List ℕ → List (List ℕ) → ParityGame
 of_lists os ps ms = record { owner = os; priority = ps; successors = ms }
 
-module _ (ss : List (List ℕ)) (hs : List (List (Item ℕ))) (xs : List Stored) (owners : List Player) (moves : List (List ℕ)) where
+module _ (ss : List (List ℕ)) (hs : List (List (Item ℕ))) (xs : List Stored) (owners : List Player)
+    (moves : List (List ℕ)) where
   abbrev held : Arena
   held = record { positions = shown ss hs xs; owners = owners; moves = moves }
 

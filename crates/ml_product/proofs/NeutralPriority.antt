@@ -6,6 +6,7 @@
 --   MovesTo             == a position to which a move leads: with one more side, or by a step along a diamond
 --   moves_to            == each move to a position is one of these
 --   sequent_low         == the nodes of a sequent of a position that is reached are nodes of the graph
+--   state_low           == the states of its history are states of the automaton
 --   names_fit           == there are at most as many names in use as states of the automaton
 --   mark_fits           == the number of a step's mark is below the neutral priority
 --   priority_at_most    == no position that is reached has a greater priority than the neutral one
@@ -21,11 +22,12 @@ use Rattle.ml_trace.specs.declared.letters.Transition.{Transition}
 use Rattle.ml_trace.specs.declared.marks.Mark.{Mark}
 use Rattle.ml_trace.specs.declared.marks.Mark.TheVariants.{Red, Green, Neutral}
 use Rattle.ml_trace.specs.Automaton.{states_per_node}
-use Rattle.ml_trace.specs.Marks.{priority, FitsBelow}
+use Rattle.ml_trace.specs.Marks.{FitsBelow}
 use Rattle.ml_trace.specs.NamesCondition.{NamesCondition, bound}
 use Rattle.ml_trace.specs.Run.{in_letter}
 use Rattle.ml_trace.specs.Stack.{Item}
 use Rattle.ml_trace.proofs.Numbers.{guess_place-le}
+use Rattle.ml_trace.proofs.Priorities.{priority-most}
 use Rattle.ml_history.specs.CycleLaws.{entry}
 use Rattle.ml_history.specs.HistoryStep.{live, stepped, step_mark}
 use Rattle.ml_history.proofs.definition.StepNames.{step_names}
@@ -107,12 +109,13 @@ pub sequent_low : (g : Graph) (p : Position) (sp : SpreadList)
     → n < size g
 sequent_low g p sp is n m = is.low n ((is.nodes n).1 (record { from = n; member = m; lowest = _; walk = stays n }))
 
-module _ (g : Graph) (p : Position) (facts : Facts g p) (sp : SpreadList)
-    (is_spread : IsSpreadOf g p.sequent p.choice sp) where
-  state_low : (a : Item ℕ) → IsMember a p.history → a.state < automaton_states g
+-- so the numbers of its states are below the automaton's, as many as can be in use
+module _ (g : Graph) (p : Position) (facts : Facts g p)
+    (node_low : (n : ℕ) → IsMember n p.sequent → n < size g) where
+  pub state_low : (a : Item ℕ) → IsMember a p.history → a.state < automaton_states g
   state_low a m =
       let t : IsTraced g p.sequent a = facts.traced a m in
-      let node : t.state.node < size g = sequent_low g p sp is_spread t.state.node t.member in
+      let node : t.state.node < size g = node_low t.state.node t.member in
       let place =
       guess_place-le (odd_priorities g) t.state.odd (ascending-is (filter (λ d. d % 2 == 1) g.priorities))
       t.is_state in
@@ -132,6 +135,11 @@ module _ (g : Graph) (p : Position) (facts : Facts g p) (sp : SpreadList)
       of_image : (x : ℕ) → Image (λ (a : Item ℕ). a.state) x p.history → x < automaton_states g
       of_image x i = subst (λ y. y < automaton_states g) (sym i.holds) (state_low i.from i.member)
 
+module _ (g : Graph) (p : Position) (facts : Facts g p) (sp : SpreadList)
+    (is_spread : IsSpreadOf g p.sequent p.choice sp) where
+  names_few : live p.history ≤ automaton_states g
+  names_few = names_fit g p facts (sequent_low g p sp is_spread)
+
   -- the number of a step's mark is below the neutral priority
   pub mark_fits : (letter : List Transition) → FitsBelow (neutral g) (step_mark p.history letter)
   mark_fits letter = by_mark (step_mark p.history letter) refl
@@ -144,15 +152,11 @@ module _ (g : Graph) (p : Position) (facts : Facts g p) (sp : SpreadList)
       by_mark (Red x) is =
           let low : bound (live p.history) (Red x) ≤ live p.history =
           subst (λ k. bound (live p.history) k ≤ live p.history) is names.in_use.0 in
-          omega (arith, names_fit)
-      by_mark (Green x) is = omega (arith, names_fit, (names.green_in_use x is).0)
+          omega (arith, names_few)
+      by_mark (Green x) is = omega (arith, names_few, (names.green_in_use x is).0)
       by_mark Neutral is = tt
 
 -- a number that fits is at most the neutral one
-fits_at_most : (top : ℕ) (k : Mark) → FitsBelow top k → priority top k ≤ top
-fits_at_most top (Red x) fits = omega arith
-fits_at_most top (Green x) fits = omega arith
-fits_at_most top Neutral fits = omega arith
 
 -- no position that is reached has a greater priority than the neutral one
 pub priority_at_most : (g : Graph) (p : Position) → IsReached g p → p.priority ≤ neutral g
@@ -164,4 +168,4 @@ priority_at_most g p (by_move before _ turn reached m) = by_kind (moves_to g bef
         let e : p.priority ≡ neutral g = ap (λ (q : Position). q.priority) is in omega arith
     by_kind (steps sp d is_spread inside f) =
         let fits = mark_fits g before (reached_facts g before reached) sp is_spread f.letter in
-        omega (arith, f.marked, fits_at_most (neutral g) (step_mark before.history f.letter) fits)
+        omega (arith, f.marked, priority-most (neutral g) (step_mark before.history f.letter) fits)

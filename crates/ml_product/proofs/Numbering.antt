@@ -17,7 +17,8 @@ use Rattle.ml_product.specs.private.Exploring.{IsNumbered, HasNoRoom}
 use Rattle.ml_lists.proofs.Member.{member_of_get}
 use Rattle.ml_lists.proofs.Added.{last_or}
 
-module _ (limit : ℕ) (ps : List Position) (p : Position) (b : Pool) (n : ℕ) (few : length ps ≤ limit) (is : IsInterned ps p b n) where
+module _ (limit : ℕ) (ps : List Position) (p : Position) (b : Pool) (n : ℕ) (few : length ps ≤ limit)
+    (is : IsInterned ps p b n) where
   -- a position with a number that is allowed
   pub numbered : n < limit → IsNumbered limit ps p b n
   numbered low = record { is_pool = is.is_pool; added = is.added; few = by_kind is.added.grown }
@@ -58,17 +59,13 @@ module _ (limit : ℕ) (ps : List Position) (p : Position) (b : Pool) (n : ℕ) 
   for_err r high e = no_room (high e)
 
 -- a position with another choice
-module _ (limit : ℕ) (ps : List Position) (v k : ℕ) (choice : List (ℕ × Side)) (b : Pool) (n : ℕ) (few : length ps ≤ limit)
+module _ (limit : ℕ) (ps : List Position) (v k : ℕ) (choice : List (ℕ × Side)) (b : Pool) (n : ℕ)
+    (few : length ps ≤ limit)
     (is : (p : Position) → slice_get ps v ≡ Some p → IsInterned ps (beside p k choice) b n) where
   pub beside_ok : (r : Result ℕ ExploreRefusal) → IfOk r (λ w. (w ≡ n) × (w < limit))
       → IfOk r (λ w. (p : Position) → slice_get ps v ≡ Some p → IsNumbered limit ps (beside p k choice) b w)
   beside_ok (Ok w) i = λ p at. for_ok limit ps (beside p k choice) b n few (is p at) (Ok w) i
   beside_ok (Err x) i = tt
-
--- what follows from what is true of an answer is true of it
-pub ok_also : {X E : Type 0} (r : Result X E) (P Q : X → Type 0) → ((x : X) → P x → Q x) → IfOk r P → IfOk r Q
-ok_also (Ok x) P Q also is = also x is
-ok_also (Err e) P Q also is = tt
 
 -- an answer that hands on another's refusal refuses for the same cause
 pub handed_on : {X Y : Type 0} (r : Result X ExploreRefusal) (x : ExploreRefusal)

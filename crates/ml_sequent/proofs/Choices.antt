@@ -5,8 +5,8 @@
 --   nodes_apart     == the nodes of a choice ascend, place by place
 --   side_found, side_missing == what a binary search for a node finds
 --   with_is_choice  == a choice with a side more is a choice
-use Rattle.std.proofs.Common.{ℕ, zero, suc, ◌≡◌, ◌<◌, ◌≤◌, ◌==◌, Bool, true, false, cond, nat_lt, List, [], ◌∷◌, ◌++◌, length, get_or, map}
-use Rattle.std.proofs.Common.{take, drop, Option, Some, None, refl, sym, ap, ◌∙◌, subst, arith, ◌⊎◌, inl, inr, ⊎_elim, Ok, Err}
+use Rattle.std.proofs.Common.{ℕ, zero, suc, ◌≡◌, ◌<◌, ◌≤◌, ◌==◌, true, false, cond, nat_lt, List, [], ◌∷◌, ◌++◌, length, get_or, map}
+use Rattle.std.proofs.Common.{take, drop, Some, None, refl, sym, ap, ◌∙◌, subst, arith, ◌⊎◌, inl, inr, ⊎_elim, Ok, Err}
 use Rattle.std.proofs.lemmas.Bool.{cases_Bool, cases_lt, cond-true, cond-false}
 use Rattle.std.proofs.lemmas.Bool.Decides.{nat_tests}
 use Rattle.std.specs.List.Sorted.{IsBinarySearchResult, IsNonDecreasingBy}
@@ -16,6 +16,7 @@ use Rattle.std.proofs.lemmas.List.{length-map}
 use Rattle.std.proofs.lemmas.List.Sorted.{IsNonDecreasingBy-from_default}
 use Rattle.ml_lists.specs.Ascending.{IsAscending, insert_once}
 use Rattle.ml_lists.proofs.Ascending.{insert_once-is, ascending-apart}
+use Rattle.ml_lists.proofs.Entries.{cond-none}
 use Rattle.ml_sequent.specs.declared.choice.Side.{Side}
 use Rattle.ml_sequent.specs.declared.choice.Side.TheVariants.{Left}
 use Rattle.ml_sequent.specs.Choice.{side_of, IsChoice, with_side}
@@ -34,21 +35,18 @@ with_side_split (p ∷ c) n s (suc i) d low before behind =
     let more : p.0 ≤ n = before 0 (omega arith) in
     let test : nat_lt n p.0 ≡ false = grind (arith, nat_tests) in
     cond-false (nat_lt n p.0) ((n, s) ∷ p ∷ c) (p ∷ with_side c n s) test
-    ∙ ap (λ xs. p ∷ xs) (with_side_split c n s i d (omega arith) (λ k k_low. before (suc k) (omega arith)) (λ i_low. behind (omega arith)))
-
--- a test that found nothing here
-none_here : (b : Bool) (s : Side) (o : Option Side) → cond b (Some s) o ≡ None → (b ≡ false) × (o ≡ None)
-none_here true s o e = cc
-none_here false s o e = (refl, e)
+    ∙ ap (λ xs. p ∷ xs) (with_side_split c n s i d (omega arith) (λ k k_low. before (suc k) (omega arith))
+    (λ i_low. behind (omega arith)))
 
 -- its nodes are those of the choice with one more
 nodes_with : (c : List (ℕ × Side)) (n : ℕ) (s : Side) → side_of c n ≡ None
     → map (λ p. p.0) (with_side c n s) ≡ insert_once n (map (λ p. p.0) c)
 nodes_with [] n s none = refl
-nodes_with (p ∷ c) n s none = by_test (cases_Bool (nat_lt n p.0)) (λ (later : side_of c n ≡ None). nodes_with c n s later)
+nodes_with (p ∷ c) n s none =
+    by_test (cases_Bool (nat_lt n p.0)) (λ (later : side_of c n ≡ None). nodes_with c n s later)
   where
     here : ((p.0 == n) ≡ false) × (side_of c n ≡ None)
-    here = none_here (p.0 == n) p.1 (side_of c n) none
+    here = cond-none (p.0 == n) p.1 (side_of c n) none
 
     by_test : ((nat_lt n p.0) ≡ true) ⊎ ((nat_lt n p.0) ≡ false)
         → (side_of c n ≡ None → map (λ q. q.0) (with_side c n s) ≡ insert_once n (map (λ q. q.0) c))
@@ -68,7 +66,8 @@ nodes_with (p ∷ c) n s none = by_test (cases_Bool (nat_lt n p.0)) (λ (later :
         (cond-false (nat_lt n p.0) (n ∷ (p.0 ∷ map (λ (q : ℕ × Side). q.0) c))
         (cond (n == p.0) (p.0 ∷ map (λ (q : ℕ × Side). q.0) c) (p.0 ∷ insert_once n (map (λ (q : ℕ × Side). q.0) c)))
         more
-        ∙ cond-false (n == p.0) (p.0 ∷ map (λ (q : ℕ × Side). q.0) c) (p.0 ∷ insert_once n (map (λ (q : ℕ × Side). q.0) c)) other)
+        ∙ cond-false (n == p.0) (p.0 ∷ map (λ (q : ℕ × Side). q.0) c)
+        (p.0 ∷ insert_once n (map (λ (q : ℕ × Side). q.0) c)) other)
 
 -- a choice with a side more is a choice
 pub with_is_choice : (c : List (ℕ × Side)) (n : ℕ) (s : Side)
@@ -132,7 +131,8 @@ module _ (c : List (ℕ × Side)) (is : IsChoice c) (n : ℕ) where
   rises = IsNonDecreasingBy-from_default (λ p. ordering_index (nat_cmp p.0 n)) c (0, Left) (λ i j le low.
       let order : (get_or c i (0, Left)).0 ≤ (get_or c j (0, Left)).0 = ⊎_elim
       (λ (less : i < j). let apart = nodes_apart c i j (0, Left) is less low in omega arith)
-      (λ (more : j ≤ i). let same : i ≡ j = omega arith in let e = ap (λ k. (get_or c k (0, Left)).0) same in omega arith)
+      (λ (more : j ≤ i). let same : i ≡ j = omega arith in let e = ap (λ k. (get_or c k (0, Left)).0) same in
+      omega arith)
       (cases_lt i j)
       in
       grind (arith, nat_tests))
@@ -150,5 +150,6 @@ module _ (c : List (ℕ × Side)) (is : IsChoice c) (n : ℕ) where
       (λ (less : k < i).
       let lower = ranked (get_or c k (0, Left)).0 n _ (sym ((parted rises).0 k (0, Left) (omega arith) less)) in
       absurd (omega arith))
-      (λ (more : i ≤ k). let higher = ranked (get_or c k (0, Left)).0 n _ (sym ((parted rises).1 k (0, Left) more low)) in absurd (omega arith))
+      (λ (more : i ≤ k). let higher = ranked (get_or c k (0, Left)).0 n _ (sym ((parted rises).1 k (0, Left) more low))
+      in absurd (omega arith))
       (cases_lt k i))

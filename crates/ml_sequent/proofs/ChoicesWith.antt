@@ -7,6 +7,7 @@ use Rattle.std.proofs.lemmas.Bool.{cases_Bool, cond-true, cond-false}
 use Rattle.std.proofs.lemmas.Bool.Decides.{nat_tests}
 use Rattle.ml_sequent.specs.declared.choice.Side.{Side}
 use Rattle.ml_sequent.specs.Choice.{side_of, with_side}
+use Rattle.ml_lists.proofs.Entries.{cond-none}
 
 -- what the first pair of a choice says, or the later ones
 first_or_later : (b : Bool) (x y : Side) (o : Option Side) → cond b (Some x) o ≡ Some y
@@ -33,7 +34,8 @@ side_with (p ∷ c) n x k y is = by_test (cases_Bool (nat_lt n p.0)) (side_with 
     here_or_later : (((p.0 == k) ≡ true) × (p.1 ≡ y)) ⊎ (((p.0 == k) ≡ false) × (side_of (with_side c n x) k ≡ Some y))
         → (side_of (with_side c n x) k ≡ Some y → ((n ≡ k) × (x ≡ y)) ⊎ (side_of c k ≡ Some y))
         → ((n ≡ k) × (x ≡ y)) ⊎ (side_of (p ∷ c) k ≡ Some y)
-    here_or_later (inl h) rest = inr (cond-true (p.0 == k) (Some p.1) (side_of c k) h.0 ∙ (let some : Some p.1 ≡ Some y = cc in some))
+    here_or_later (inl h) rest =
+        inr (cond-true (p.0 == k) (Some p.1) (side_of c k) h.0 ∙ (let some : Some p.1 ≡ Some y = cc in some))
     here_or_later (inr h) rest = later (rest h.1)
       where
         later : ((n ≡ k) × (x ≡ y)) ⊎ (side_of c k ≡ Some y) → ((n ≡ k) × (x ≡ y)) ⊎ (side_of (p ∷ c) k ≡ Some y)
@@ -45,22 +47,20 @@ side_with (p ∷ c) n x k y is = by_test (cases_Bool (nat_lt n p.0)) (side_with 
         → ((n ≡ k) × (x ≡ y)) ⊎ (side_of (p ∷ c) k ≡ Some y)
     by_test (inl less) rest =
         let list = cond-true (nat_lt n p.0) ((n, x) ∷ p ∷ c) (p ∷ with_side c n x) less in
-        in_front (first_or_later (n == k) x y (side_of (p ∷ c) k) (subst (λ (d : List (ℕ × Side)). side_of d k ≡ Some y) list is))
+        in_front (first_or_later (n == k) x y (side_of (p ∷ c) k)
+        (subst (λ (d : List (ℕ × Side)). side_of d k ≡ Some y) list is))
     by_test (inr more) rest =
         let list = cond-false (nat_lt n p.0) ((n, x) ∷ p ∷ c) (p ∷ with_side c n x) more in
-        here_or_later (first_or_later (p.0 == k) p.1 y (side_of (with_side c n x) k) (subst (λ (d : List (ℕ × Side)). side_of d k ≡ Some y) list is)) rest
-
--- a choice says nothing of a node exactly where its first pair is of another one, and the rest says nothing
-first_other : (b : Bool) (x : Side) (o : Option Side) → cond b (Some x) o ≡ None → (b ≡ false) × (o ≡ None)
-first_other true x o e = cc
-first_other false x o e = (refl, e)
+        here_or_later (first_or_later (p.0 == k) p.1 y (side_of (with_side c n x) k)
+        (subst (λ (d : List (ℕ × Side)). side_of d k ≡ Some y) list is)) rest
 
 -- the choice with one side more has it
 pub side_new : (c : List (ℕ × Side)) (n : ℕ) (x : Side) → side_of c n ≡ None → side_of (with_side c n x) n ≡ Some x
 side_new [] n x none =
     let test : (n == n) ≡ true = grind (arith, nat_tests) in
     cond-true (n == n) (Some x) None test
-side_new (p ∷ c) n x none = by_test (cases_Bool (nat_lt n p.0)) (first_other (p.0 == n) p.1 (side_of c n) none) (side_new c n x)
+side_new (p ∷ c) n x none =
+    by_test (cases_Bool (nat_lt n p.0)) (cond-none (p.0 == n) p.1 (side_of c n) none) (side_new c n x)
   where
     by_test : (nat_lt n p.0 ≡ true) ⊎ (nat_lt n p.0 ≡ false)
         → ((p.0 == n) ≡ false) × (side_of c n ≡ None)
@@ -71,7 +71,8 @@ side_new (p ∷ c) n x none = by_test (cases_Bool (nat_lt n p.0)) (first_other (
         ap (λ (d : List (ℕ × Side)). side_of d n) (cond-true (nat_lt n p.0) ((n, x) ∷ p ∷ c) (p ∷ with_side c n x) less)
         ∙ cond-true (n == n) (Some x) (side_of (p ∷ c) n) test
     by_test (inr more) other rest =
-        ap (λ (d : List (ℕ × Side)). side_of d n) (cond-false (nat_lt n p.0) ((n, x) ∷ p ∷ c) (p ∷ with_side c n x) more)
+        ap (λ (d : List (ℕ × Side)). side_of d n)
+        (cond-false (nat_lt n p.0) ((n, x) ∷ p ∷ c) (p ∷ with_side c n x) more)
         ∙ cond-false (p.0 == n) (Some p.1) (side_of (with_side c n x) n) other.0
         ∙ rest other.1
 
@@ -79,7 +80,8 @@ side_new (p ∷ c) n x none = by_test (cases_Bool (nat_lt n p.0)) (first_other (
 pub side_kept : (c : List (ℕ × Side)) (n : ℕ) (x : Side) (k : ℕ) (y : Side) → side_of c n ≡ None → side_of c k ≡ Some y
     → side_of (with_side c n x) k ≡ Some y
 side_kept [] n x k y none is = cc
-side_kept (p ∷ c) n x k y none is = by_test (cases_Bool (nat_lt n p.0)) (first_other (p.0 == n) p.1 (side_of c n) none) (side_kept c n x k y)
+side_kept (p ∷ c) n x k y none is =
+    by_test (cases_Bool (nat_lt n p.0)) (cond-none (p.0 == n) p.1 (side_of c n) none) (side_kept c n x k y)
   where
     apart : (n == k) ≡ false
     apart = by_eq (cases_Bool (n == k))
@@ -108,5 +110,6 @@ side_kept (p ∷ c) n x k y none is = by_test (cases_Bool (nat_lt n p.0)) (first
         ∙ cond-false (n == k) (Some x) (side_of (p ∷ c) k) apart
         ∙ is
     by_test (inr more) other rest =
-        ap (λ (d : List (ℕ × Side)). side_of d k) (cond-false (nat_lt n p.0) ((n, x) ∷ p ∷ c) (p ∷ with_side c n x) more)
+        ap (λ (d : List (ℕ × Side)). side_of d k)
+        (cond-false (nat_lt n p.0) ((n, x) ∷ p ∷ c) (p ∷ with_side c n x) more)
         ∙ later (with_side c n x) (rest other.1)

@@ -5,8 +5,8 @@
 --   all_above       == a search with the floor 0 goes on everywhere
 --   way_onward, way_above == a way above the floor is a way; a way whose end is not below the floor is one above it
 --   on_cycle        == a search behind a node that comes back to it, and the other way round
-use Rattle.std.proofs.Common.{ℕ, ◌≡◌, ◌<◌, ◌≤◌, ◌↔◌, min, true, false, nat_le, List, [], ◌∷◌, ◌++◌, get_or, refl, sym, ap, ◌∙◌, subst, arith}
-use Rattle.std.proofs.lemmas.Bool.{cond-true, cond-false}
+use Rattle.std.proofs.Common.{ℕ, ◌≡◌, ◌<◌, ◌≤◌, ◌↔◌, min, true, nat_le, List, [], ◌∷◌, ◌++◌, get_or, refl, sym, ap, ◌∙◌, subst, arith}
+use Rattle.std.proofs.lemmas.Bool.{cond-true, cond-false, lt-leb, leb-true}
 use Rattle.std.proofs.lemmas.Bool.Decides.{nat_tests}
 use Rattle.std.proofs.lemmas.List.Elements.{filter-append}
 use Rattle.ml_lists.specs.Member.{IsMember}
@@ -24,19 +24,13 @@ use Rattle.ml_sequent.proofs.RankedWalks.{children_low, no_later, level_order}
 le_test : (a b : ℕ) → a ≤ b → nat_le a b ≡ true
 le_test a b h = grind (arith, nat_tests)
 
-le_tested : (a b : ℕ) → nat_le a b ≡ true → a ≤ b
-le_tested a b h = grind (arith, nat_tests)
-
-gt_test : (a b : ℕ) → b < a → nat_le a b ≡ false
-gt_test a b h = grind (arith, nat_tests)
-
 -- a place that is not below the floor
 pub above_in : (floor : ℕ) (v : Visit) → floor ≤ v.rank → above floor (v ∷ []) ≡ v ∷ []
 above_in floor v h = cond-true (nat_le floor v.rank) (v ∷ []) [] (le_test floor v.rank h)
 
 -- and one that is
 pub above_out : (floor : ℕ) (v : Visit) → v.rank < floor → above floor (v ∷ []) ≡ []
-above_out floor v h = cond-false (nat_le floor v.rank) (v ∷ []) [] (gt_test floor v.rank h)
+above_out floor v h = cond-false (nat_le floor v.rank) (v ∷ []) [] (lt-leb floor v.rank h)
 
 -- two places, part by part
 pub above_two : (floor : ℕ) (v w : Visit) → above floor (v ∷ w ∷ []) ≡ above floor (v ∷ []) ++ above floor (w ∷ [])
@@ -57,15 +51,18 @@ module _ (g : Graph) (c : List (ℕ × Side)) (ranks : List ℕ) (floor : ℕ) w
   pub way_onward : (v w : Visit) → Leads (behind g c ranks floor) v w → Leads (onward g c ranks) v w
   way_onward v w (ends _) = ends v
   way_onward v w (moves _ u h way) =
-      moves v u (member-filter_from (λ (x : Visit). nat_le floor x.rank) u (onward g c ranks v) h).0 (way_onward u w way)
+      moves v u (member-filter_from (λ (x : Visit). nat_le floor x.rank) u (onward g c ranks v) h).0
+      (way_onward u w way)
 
   -- ranks fall along a way
   pub way_falls : (v w : Visit) → Leads (onward g c ranks) v w → w.rank ≤ v.rank
   way_falls v w (ends _) = omega arith
-  way_falls v w (moves _ u h way) = from (member-map_from (onto ranks v.rank) u (children g c v.node) h) (way_falls u w way)
+  way_falls v w (moves _ u h way) =
+      from (member-map_from (onto ranks v.rank) u (children g c v.node) h) (way_falls u w way)
     where
       from : Image (onto ranks v.rank) u (children g c v.node) → w.rank ≤ u.rank → w.rank ≤ v.rank
-      from i below = let rank_is : u.rank ≡ min v.rank (get_or ranks i.from 0) = ap (λ (x : Visit). x.rank) i.holds in omega arith
+      from i below = let rank_is : u.rank ≡ min v.rank (get_or ranks i.from 0) = ap (λ (x : Visit). x.rank) i.holds in
+          omega arith
 
   -- a way whose end is not below the floor is one above it
   pub way_above : (v w : Visit) → floor ≤ w.rank → Leads (onward g c ranks) v w → Leads (behind g c ranks floor) v w
@@ -82,7 +79,8 @@ pub on_cycle : (g : Graph) (c : List (ℕ × Side)) (levels : LevelList)
     → IsRanked g levels
     → (n : ℕ) (found : List Visit)
     → n < size g
-    → HasReached (behind g c levels.ranks (get_or levels.ranks n 0)) (behind g c levels.ranks (get_or levels.ranks n 0) (ranked levels.ranks n)) found
+    → HasReached (behind g c levels.ranks (get_or levels.ranks n 0))
+    (behind g c levels.ranks (get_or levels.ranks n 0) (ranked levels.ranks n)) found
     → IsMember (ranked levels.ranks n) found ↔ OnCycle g c n
 on_cycle g c levels ok is n found low has = (
   (λ h. of_reached ((has (ranked levels.ranks n)).0 h)),
@@ -98,14 +96,18 @@ on_cycle g c levels ok is n found low has = (
         → OnCycle g c n
     of_child r high i =
         let node_is : r.from.node ≡ i.from = ap (λ (x : Visit). x.node) i.holds in
-        let rank_is : r.from.rank ≡ min (get_or levels.ranks n 0) (get_or levels.ranks i.from 0) = ap (λ (x : Visit). x.rank) i.holds in
-        let child : IsMember r.from.node (children g c n) = subst (λ k. IsMember k (children g c n)) (sym node_is) i.member in
-        let ranks_are : get_or levels.ranks r.from.node 0 ≡ get_or levels.ranks i.from 0 = ap (λ k. get_or levels.ranks k 0) node_is in
+        let rank_is : r.from.rank ≡ min (get_or levels.ranks n 0) (get_or levels.ranks i.from 0) =
+        ap (λ (x : Visit). x.rank) i.holds in
+        let child : IsMember r.from.node (children g c n) =
+        subst (λ k. IsMember k (children g c n)) (sym node_is) i.member in
+        let ranks_are : get_or levels.ranks r.from.node 0 ≡ get_or levels.ranks i.from 0 =
+        ap (λ k. get_or levels.ranks k 0) node_is in
         let t =
         walks.traced g c levels ok is r.from (ranked levels.ranks n) (children_low g c ok n r.from.node low child)
         (omega arith) (way_onward g c levels.ranks (get_or levels.ranks n 0) r.from (ranked levels.ranks n) r.way)
         in
-        let order = no_later levels.priorities (get_or levels.ranks n 0) t.rank is.ascends (omega (arith, t.holds)) t.low in
+        let order =
+        no_later levels.priorities (get_or levels.ranks n 0) t.rank is.ascends (omega (arith, t.holds)) t.low in
         record {
           next = r.from.node;
           child = child;
@@ -122,7 +124,7 @@ on_cycle g c levels ok is n found low has = (
         member-filter_from (λ (x : Visit). nat_le (get_or levels.ranks n 0) x.rank) r.from
         (onward g c levels.ranks (ranked levels.ranks n)) r.member
         in
-        of_child r (le_tested (get_or levels.ranks n 0) r.from.rank kept.1)
+        of_child r (leb-true (get_or levels.ranks n 0) r.from.rank kept.1)
         (member-map_from (onto levels.ranks (get_or levels.ranks n 0)) r.from (children g c n) kept.0)
 
     of_cycle : (o : OnCycle g c n) → walks.Ranked g c levels ok is o.next o.lowest n
@@ -136,7 +138,9 @@ on_cycle g c levels ok is n found low has = (
         level_order levels.priorities floor (get_or levels.ranks o.next 0) is.ascends (is.low n low)
         (is.low o.next next_low) (omega (arith, is.right n low, is.right o.next next_low, o.high))
         in
-        let high = level_order levels.priorities floor r.rank is.ascends (is.low n low) r.low (omega (arith, is.right n low, r.holds, o.high)) in
+        let high =
+        level_order levels.priorities floor r.rank is.ascends (is.low n low) r.low
+        (omega (arith, is.right n low, r.holds, o.high)) in
         let start : Visit = onto levels.ranks floor o.next in
         let same : min (min floor (get_or levels.ranks o.next 0)) r.rank ≡ floor = omega arith in
         let way =

@@ -7,7 +7,7 @@ use Rattle.std.proofs.Common.{length, get_or, map, All, refl, sym, ap, ◌∙◌
 use Rattle.std.proofs.lemmas.Bool.{cases_eq, cases_lt}
 use Rattle.ml_lists.specs.Ascending.{IsAscending, ascending}
 use Rattle.ml_lists.specs.Member.{IsMember}
-use Rattle.ml_lists.proofs.Ascending.{ascending-is, ascending-member, member-ascending, ascending_same}
+use Rattle.ml_lists.proofs.Ascending.{ascending-is, ascending-member, member-ascending, ascending_same, ascending-append}
 use Rattle.ml_lists.proofs.Member.{Image, member-map, member-map_from, member-append, member-append_left, member-append_right, place-member, All-member, member-All}
 use Rattle.ml_graph.specs.Graph.{Graph}
 use Rattle.ml_sequent.specs.declared.choice.Side.{Side}
@@ -42,17 +42,6 @@ node_inside width n size low = ⊎_elim
     (λ (less : n < size). less)
     (λ (more : size ≤ n). let step : width * size ≤ width * n = mul-le-mul_left width more in absurd (omega arith))
     (cases_lt n size)
-
--- a list that ascends, with a higher number at its end, ascends
-ascending_end : (xs : List ℕ) (n : ℕ) → IsAscending xs → ((y : ℕ) → IsMember y xs → y < n) → IsAscending (xs ++ n ∷ [])
-ascending_end [] n up high = ((λ y none. absurd none), tt)
-ascending_end (x ∷ xs) n up high =
-    ((λ y h. above y (member-append y xs (n ∷ []) h)), ascending_end xs n up.1 (λ y h. high y (inr h)))
-  where
-    above : (y : ℕ) → IsMember y xs ⊎ IsMember y (n ∷ []) → x < y
-    above y (inl old) = up.0 y old
-    above y (inr (inl e)) = subst (λ k. x < k) (sym e) (high x (inl refl))
-    above y (inr (inr none)) = absurd none
 
 module _ (width : ℕ) (marks : List Bool) where
   -- the last node, if it is marked
@@ -96,7 +85,7 @@ module _ (width : ℕ) (marks : List Bool) where
     where
       by_mark : (b : Bool) → IsAscending (marked_nodes width marks n)
           → IsAscending (marked_nodes width marks n ++ cond b (n ∷ []) [])
-      by_mark true up = ascending_end (marked_nodes width marks n) n up (λ y h. (marked_below n y h).0)
+      by_mark true up = ascending-append (marked_nodes width marks n) n up (λ y h. (marked_below n y h).0)
       by_mark false up = subst IsAscending (sym (append-nil (marked_nodes width marks n))) up
 
   -- the marked nodes are the nodes of what was found, ascending
@@ -107,7 +96,8 @@ module _ (width : ℕ) (marks : List Bool) where
       → All (λ v. v.rank ≡ 0) found
       → marked_nodes width marks size ≡ ascending (map (λ v. v.node) found)
   marked_found size found is room wide ranks =
-      ascending_same (marked_nodes width marks size) (ascending nodes) (marked_ascends size) (ascending-is nodes) to back
+      ascending_same (marked_nodes width marks size) (ascending nodes) (marked_ascends size) (ascending-is nodes) to
+      back
     where
       nodes : List ℕ
       nodes = map (λ v. v.node) found

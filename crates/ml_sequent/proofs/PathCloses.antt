@@ -24,7 +24,7 @@ use Rattle.ml_sequent.specs.private.ConnectedParts.{Owner, IsUnder, shut, IsLeas
 use Rattle.ml_sequent.proofs.FrameLists.{all_done_here, all_done_other, all_done_length}
 use Rattle.ml_sequent.proofs.LeastLoops.{same_least, offered_least}
 use Rattle.ml_sequent.proofs.LocalWalks.{walk_low, walk_joined}
-use Rattle.ml_sequent.proofs.PathWalks.{framed_below}
+use Rattle.ml_sequent.proofs.PathWalks.{framed_below, same_place}
 
 module _ (g : Graph) (c : List (ℕ × Side)) (d : ℕ) (N : List ℕ) (set_is : IsClosedIn g c N) (x : WalkList)
     (is : IsUnder g c d N [] x) (f : Frame) (rest : List Frame) (frames_are : x.frames ≡ f ∷ rest)
@@ -70,7 +70,8 @@ module _ (g : Graph) (c : List (ℕ × Side)) (d : ℕ) (N : List ℕ) (set_is :
       get_or-drop f.first x.path (at.place - f.first) 0 ∙ ap (λ k. get_or x.path k 0) split ∙ at.holds
       in
       subst (λ k. IsMember k (drop f.first x.path)) here
-      (place-member (drop f.first x.path) (at.place - f.first) 0 (omega (arith, at.low, at.behind, length-drop f.first x.path)))
+      (place-member (drop f.first x.path) (at.place - f.first) 0
+      (omega (arith, at.low, at.behind, length-drop f.first x.path)))
 
   from_drop : (n : ℕ) → IsMember n (drop f.first x.path) → Dropped n
   from_drop n m = from (member-place n (drop f.first x.path) m)
@@ -86,14 +87,12 @@ module _ (g : Graph) (c : List (ℕ × Side)) (d : ℕ) (N : List ℕ) (set_is :
   -- these are done
   dropped_done : (n : ℕ) → Dropped n → stage_of (shut f rest x) n ≡ Done
   dropped_done n at =
-      all_done_here (drop f.first x.path) x.stages n (omega (arith, is.sized, set_is.low n (dropped_member n at))) (in_drop n at)
+      all_done_here (drop f.first x.path) x.stages n (omega (arith, is.sized, set_is.low n (dropped_member n at)))
+      (in_drop n at)
 
   -- and how far others are stays
   kept : (n : ℕ) → (Dropped n → ⊥) → stage_of (shut f rest x) n ≡ stage_of x n
   kept n other = all_done_other (drop f.first x.path) x.stages n (λ m. other (from_drop n m))
-
-  same_place : (p q : ℕ) → On p ≡ On q → p ≡ q
-  same_place p q e = cc
 
   not_dropped : (n : ℕ) (s : Stage) → stage_of x n ≡ s → ((p : ℕ) → s ≡ On p → f.first ≤ p → ⊥) → Dropped n → ⊥
   not_dropped n s e other at = other at.place (sym e ∙ dropped_on n at) at.behind
@@ -106,7 +105,8 @@ module _ (g : Graph) (c : List (ℕ × Side)) (d : ℕ) (N : List ℕ) (set_is :
       by_stage New e = inr (not_dropped n New e (λ p same behind. absurd (cc)))
       by_stage Done e = inr (not_dropped n Done e (λ p same behind. absurd (cc)))
       by_stage (On p) e = ⊎_elim
-          (λ (before : p < f.first). inr (not_dropped n (On p) e (λ q same behind. let at = same_place p q same in omega arith)))
+          (λ (before : p < f.first). inr (not_dropped n (On p) e
+          (λ q same behind. let at = same_place p q same in omega arith)))
           (λ (behind : f.first ≤ p).
           let at = is.placed n p n_in e in inl (record { place = p; behind = behind; low = at.0; holds = at.1 }))
           (cases_lt p f.first)
@@ -120,7 +120,8 @@ module _ (g : Graph) (c : List (ℕ × Side)) (d : ℕ) (N : List ℕ) (set_is :
 
   -- the children of a node of the frame are done
   frame_child : (n m : ℕ) → Dropped n → IsChild g c d n m → stage_of (shut f rest x) m ≡ Done
-  frame_child n m at child = from (is.leads f f_in at.place m at.behind at.low (subst (λ k. IsChild g c d k m) (sym at.holds) child))
+  frame_child n m at child =
+      from (is.leads f f_in at.place m at.behind at.low (subst (λ k. IsChild g c d k m) (sym at.holds) child))
     where
       from : Led x [] f m → stage_of (shut f rest x) m ≡ Done
       from (is_done e) = done_kept m e
@@ -141,7 +142,8 @@ module _ (g : Graph) (c : List (ℕ × Side)) (d : ℕ) (N : List ℕ) (set_is :
       (not_dropped (get_or x.path p 0) (On p) old.2 (λ q same behind. let at = same_place p q same in omega arith))
       ∙ old.2
       in
-      subst (λ n. IsMember n N × (d ≤ priority_at g n) × (stage_of (shut f rest x) n ≡ On p)) (sym (earlier p low)) (old.0, old.1, stage)
+      subst (λ n. IsMember n N × (d ≤ priority_at g n) × (stage_of (shut f rest x) n ≡ On p)) (sym (earlier p low))
+      (old.0, old.1, stage)
 
   close_placed : (n p : ℕ) → IsMember n N → stage_of (shut f rest x) n ≡ On p
       → (p < f.first) × (get_or (take f.first x.path) p 0 ≡ n)
@@ -215,7 +217,8 @@ module _ (g : Graph) (c : List (ℕ × Side)) (d : ℕ) (N : List ℕ) (set_is :
     forth = λ p q order low.
         let q_low : q < f.first = omega (arith, short) in
         subst (λ n. Reaches g c d n (get_or (take f.first x.path) q 0)) (sym (earlier p (omega arith)))
-        (subst (λ n. Reaches g c d (get_or x.path p 0) n) (sym (earlier q q_low)) (is.forth p q order (omega (arith, begins))));
+        (subst (λ n. Reaches g c d (get_or x.path p 0) n) (sym (earlier q q_low))
+        (is.forth p q order (omega (arith, begins))));
     back = λ p q order low together.
         let q_low : q < f.first = omega (arith, short) in
         subst (λ n. Reaches g c d n (get_or (take f.first x.path) p 0)) (sym (earlier q q_low))
@@ -224,7 +227,8 @@ module _ (g : Graph) (c : List (ℕ × Side)) (d : ℕ) (N : List ℕ) (set_is :
     closed = close_closed;
     leads = λ h h_in p m at low child. close_leads h h_in p m at (omega (arith, short)) child;
     owned = λ k low. close_owned k low (is.owned k low);
-    framed = subst (λ n. IsFramed n (length x.waiting) rest) (sym short) (subst (λ k. IsFramed f.first k rest) (sym waits_are) framed.2);
+    framed = subst (λ n. IsFramed n (length x.waiting) rest) (sym short)
+        (subst (λ k. IsFramed f.first k rest) (sym waits_are) framed.2);
   }
 
   -- ---- cycles
@@ -246,13 +250,15 @@ module _ (g : Graph) (c : List (ℕ × Side)) (d : ℕ) (N : List ℕ) (set_is :
       → ⊥
   none_on_cycle single none n at loop =
       let child : IsChild g c d n loop.1.next = (loop.1.child, omega (arith, low)) in
-      from (is.leads f f_in at.place loop.1.next at.behind at.low (subst (λ k. IsChild g c d k loop.1.next) (sym at.holds) child))
+      from (is.leads f f_in at.place loop.1.next at.behind at.low
+      (subst (λ k. IsChild g c d k loop.1.next) (sym at.holds) child))
     where
       low : priority_at g n ≤ priority_at g loop.1.next
       low = omega (arith, walk_low g c loop.1.next loop.1.lowest n loop.1.walk, loop.1.high)
 
       here : n ≡ get_or x.path f.first 0
-      here = let same : at.place ≡ f.first = omega (arith, at.behind, at.low) in sym at.holds ∙ ap (λ k. get_or x.path k 0) same
+      here = let same : at.place ≡ f.first = omega (arith, at.behind, at.low) in
+          sym at.holds ∙ ap (λ k. get_or x.path k 0) same
 
       n_in : IsMember n N
       n_in = dropped_member n at
@@ -312,7 +318,8 @@ module _ (g : Graph) (c : List (ℕ × Side)) (d : ℕ) (N : List ℕ) (set_is :
   -- the nodes of a frame of two nodes or more are on cycles
   two_on_cycle : 1 < length (drop f.first x.path) → (n : ℕ) → Dropped n → priority_at g n ≡ d → OnCycle g c n
   two_on_cycle more n at high = ⊎_elim
-      (λ (first : at.place ≡ f.first). with_other (f.first + 1) (omega arith) (omega (arith, length-drop f.first x.path)) (omega arith))
+      (λ (first : at.place ≡ f.first). with_other (f.first + 1) (omega arith)
+      (omega (arith, length-drop f.first x.path)) (omega arith))
       (λ (other : at.place ≡ f.first → ⊥). with_other f.first (omega arith) begins (omega (arith, at.behind)))
       (cases_eq at.place f.first)
     where
@@ -352,7 +359,8 @@ module _ (g : Graph) (c : List (ℕ × Side)) (d : ℕ) (N : List ℕ) (set_is :
           → IsDoneLoop g c d N (shut f rest x) n
       to n (inl old) = (old.0, done_kept n old.1, old.2)
       to n (inr new) =
-          let at = from_drop n new.0 in (dropped_member n at, dropped_done n at, (new.1, all_on_cycle cyclic n at new.1))
+          let at = from_drop n new.0 in
+          (dropped_member n at, dropped_done n at, (new.1, all_on_cycle cyclic n at new.1))
 
       from : (n : ℕ)
           → IsDoneLoop g c d N (shut f rest x) n
@@ -367,7 +375,8 @@ module _ (g : Graph) (c : List (ℕ × Side)) (d : ℕ) (N : List ℕ) (set_is :
   -- and where it isn't
   pub close_plain : (best : Option ℕ) → (IsCyclic g c (drop f.first x.path) → ⊥) → IsLeast (IsDoneLoop g c d N x) best
       → IsLeast (IsDoneLoop g c d N (shut f rest x)) best
-  close_plain best plain is_least = same_least (IsDoneLoop g c d N x) (IsDoneLoop g c d N (shut f rest x)) best to from is_least
+  close_plain best plain is_least =
+      same_least (IsDoneLoop g c d N x) (IsDoneLoop g c d N (shut f rest x)) best to from is_least
     where
       to : (n : ℕ) → IsDoneLoop g c d N x n → IsDoneLoop g c d N (shut f rest x) n
       to n old = (old.0, done_kept n old.1, old.2)

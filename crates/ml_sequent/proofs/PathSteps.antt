@@ -20,7 +20,7 @@ use Rattle.ml_sequent.specs.declared.parts.Stage.TheVariants.{New, On, Done}
 use Rattle.ml_sequent.specs.LocalWalk.{children}
 use Rattle.ml_sequent.specs.private.ConnectedParts.{IsChild, Reaches, WalkList, stage_of, IsFramed, AreTogether, Led, is_done, is_on, waits}
 use Rattle.ml_sequent.specs.private.ConnectedParts.{looked_at, Owner, IsUnder, Coming, high_children, entered, folded, folded_to}
-use Rattle.ml_sequent.proofs.PathWalks.{at_end, framed_below, reaches_self, reaches_joined, same_reaches, coming_reach}
+use Rattle.ml_sequent.proofs.PathWalks.{at_end, framed_below, reaches_self, reaches_joined, same_reaches, coming_reach, same_place}
 
 -- ---- frames that are left
 
@@ -52,7 +52,8 @@ left_or_behind w (e ∷ fs) f m = by_test (cases_Bool (nat_lt w e.first)) m (lef
     by_test (inl behind) (inr later) rest = from (rest later)
       where
         from : IsMember f (folded w fs) ⊎ (w < f.first) → IsMember f (folded w (e ∷ fs)) ⊎ (w < f.first)
-        from (inl left) = inl (subst (IsMember f) (sym (cond-true (nat_lt w e.first) (folded w fs) (e ∷ fs) behind)) left)
+        from (inl left) =
+            inl (subst (IsMember f) (sym (cond-true (nat_lt w e.first) (folded w fs) (e ∷ fs) behind)) left)
         from (inr gone) = inr gone
     by_test (inr before) at rest =
         inl (subst (IsMember f) (sym (cond-false (nat_lt w e.first) (folded w fs) (e ∷ fs) before)) at)
@@ -116,7 +117,8 @@ module _ (g : Graph) (c : List (ℕ × Side)) (d : ℕ) (N : List ℕ) where
     forth = is.forth;
     back = back;
     closed = is.closed;
-    leads = λ f f_in p k at low child. still f (old f f_in) (low_first f f_in) k (is.leads f (old f f_in) p k at low child);
+    leads = λ f f_in p k at low child. still f (old f f_in) (low_first f f_in) k
+        (is.leads f (old f f_in) p k at low child);
     owned = λ k low. owner k (is.owned k low);
     framed = folded_framed w (length x.path) (length x.waiting) x.frames place.0 is.framed;
   }
@@ -161,7 +163,8 @@ module _ (g : Graph) (c : List (ℕ × Side)) (d : ℕ) (N : List ℕ) where
       from_target : (p : ℕ) → p < length x.path → ((f : Frame) → IsMember f (folded w x.frames) → f.first ≤ p)
           → Reaches g c d (get_or x.path w 0) (get_or x.path p 0)
       from_target p low firsts = ⊎_elim
-          (λ (before : p < w). is.back p w (omega arith) place.0 (λ f f_in. by_left f (left_or_behind w x.frames f f_in)))
+          (λ (before : p < w). is.back p w (omega arith) place.0
+          (λ f f_in. by_left f (left_or_behind w x.frames f f_in)))
           (λ (behind : w ≤ p). is.forth w p behind low)
           (cases_lt p w)
         where
@@ -218,9 +221,6 @@ module _ (g : Graph) (c : List (ℕ × Side)) (d : ℕ) (N : List ℕ) where
     kids : List ℕ
     kids = high_children g c d m
 
-    same_place : (p q : ℕ) → On p ≡ On q → p ≡ q
-    same_place p q e = cc
-
     enter_inside : (p : ℕ) → p < length x.path + 1
         → IsMember (get_or (x.path ++ m ∷ []) p 0) N
         × (d ≤ priority_at g (get_or (x.path ++ m ∷ []) p 0))
@@ -249,9 +249,13 @@ module _ (g : Graph) (c : List (ℕ × Side)) (d : ℕ) (N : List ℕ) where
       where
         from : (n ≡ m) ⊎ (n ≡ m → ⊥) → (p < length x.path + 1) × (get_or (x.path ++ m ∷ []) p 0 ≡ n)
         from (inl same) =
-            let at : length x.path ≡ p = same_place (length x.path) p (sym here ∙ ap (stage_of (entered g c d m x)) (sym same) ∙ on) in
-            let end : p ≡ length x.path + 0 = omega arith in
-            (omega arith, ap (λ k. get_or (x.path ++ m ∷ []) k 0) end ∙ get_or-append-add x.path (m ∷ []) 0 0 ∙ sym same)
+            let at : length x.path ≡ p =
+            same_place (length x.path) p (sym here ∙ ap (stage_of (entered g c d m x)) (sym same) ∙ on) in
+            let end : p ≡ length x.path + 0 = omega arith in (
+              omega arith,
+              ap (λ k. get_or (x.path ++ m ∷ []) k 0) end ∙ get_or-append-add x.path (m ∷ []) 0 0
+                  ∙ sym same,
+            )
         from (inr apart) =
             let old = is.placed n p n_in (sym (other n apart) ∙ on) in
             (omega (arith, old.0), get_or_append_left x.path (m ∷ []) 0 p old.0 ∙ old.1)
@@ -265,7 +269,8 @@ module _ (g : Graph) (c : List (ℕ × Side)) (d : ℕ) (N : List ℕ) where
             → ((q < length x.path) × (get_or (x.path ++ m ∷ []) q 0 ≡ get_or x.path q 0))
             ⊎ ((q ≡ length x.path) × (get_or (x.path ++ m ∷ []) q 0 ≡ m))
             → Reaches g c d (get_or (x.path ++ m ∷ []) p 0) (get_or (x.path ++ m ∷ []) q 0)
-        from (inl a) (inl b) = same_reaches g c d _ _ (get_or x.path p 0) (get_or x.path q 0) a.1 b.1 (is.forth p q order b.0)
+        from (inl a) (inl b) =
+            same_reaches g c d _ _ (get_or x.path p 0) (get_or x.path q 0) a.1 b.1 (is.forth p q order b.0)
         from (inl a) (inr b) = same_reaches g c d _ _ (get_or x.path p 0) m a.1 b.1 (reach p a.0)
         from (inr a) (inl b) = absurd (omega (arith, a.0, b.0))
         from (inr a) (inr b) = same_reaches g c d _ _ m m a.1 b.1 (reaches_self g c d m high)
@@ -329,7 +334,8 @@ module _ (g : Graph) (c : List (ℕ × Side)) (d : ℕ) (N : List ℕ) where
         is_on (length x.path) (ap (stage_of (entered g c d m x)) same ∙ here) (omega (arith, below.0))
     enter_still f f_in k (looked_at (inr none)) = absurd none
 
-    enter_leads : (f : Frame) → IsMember f (record { first = length x.path; waits = length x.waiting } ∷ x.frames) → (p k : ℕ)
+    enter_leads : (f : Frame) → IsMember f (record { first = length x.path; waits = length x.waiting } ∷ x.frames)
+        → (p k : ℕ)
         → f.first ≤ p
         → p < length x.path + 1
         → IsChild g c d (get_or (x.path ++ m ∷ []) p 0) k
@@ -366,11 +372,13 @@ module _ (g : Graph) (c : List (ℕ × Side)) (d : ℕ) (N : List ℕ) where
           framed = framed;
         }
           where
-            child : IsChild g c d (get_or (x.path ++ m ∷ []) o.place 0) (get_or (x.waiting ++ high_children g c d m) k 0)
+            child : IsChild g c d (get_or (x.path ++ m ∷ []) o.place 0)
+                (get_or (x.waiting ++ high_children g c d m) k 0)
             child =
                 subst (λ j. IsChild g c d (get_or (x.path ++ m ∷ []) o.place 0) j)
                 (sym (get_or_append_left x.waiting (high_children g c d m) 0 k less))
-                (subst (λ n. IsChild g c d n (get_or x.waiting k 0)) (sym (get_or_append_left x.path (m ∷ []) 0 o.place o.low)) o.child)
+                (subst (λ n. IsChild g c d n (get_or x.waiting k 0))
+                (sym (get_or_append_left x.path (m ∷ []) 0 o.place o.low)) o.child)
 
             framed : (f : Frame) → IsMember f (record { first = length x.path; waits = length x.waiting } ∷ x.frames)
                 → (f.waits ≤ k → f.first ≤ o.place) × (k < f.waits → o.place < f.first)
@@ -391,23 +399,27 @@ module _ (g : Graph) (c : List (ℕ × Side)) (d : ℕ) (N : List ℕ) where
             j : ℕ
             j = k - length x.waiting
 
-            at : get_or (x.waiting ++ high_children g c d m) k 0 ≡ get_or (high_children g c d m) (k - length x.waiting) 0
+            at : get_or (x.waiting ++ high_children g c d m) k 0
+                ≡ get_or (high_children g c d m) (k - length x.waiting) 0
             at =
                 let split : k ≡ length x.waiting + (k - length x.waiting) = omega arith in
                 ap (λ i. get_or (x.waiting ++ high_children g c d m) i 0) split
                 ∙ get_or-append-add x.waiting (high_children g c d m) (k - length x.waiting) 0
 
-            child : IsChild g c d (get_or (x.path ++ m ∷ []) (length x.path) 0) (get_or (x.waiting ++ high_children g c d m) k 0)
+            child : IsChild g c d (get_or (x.path ++ m ∷ []) (length x.path) 0)
+                (get_or (x.waiting ++ high_children g c d m) k 0)
             child =
                 let end : length x.path ≡ length x.path + 0 = omega arith in
                 let node = ap (λ i. get_or (x.path ++ m ∷ []) i 0) end ∙ get_or-append-add x.path (m ∷ []) 0 0 in
-                let few : k - length x.waiting < length (high_children g c d m) = omega (arith, length-append x.waiting (high_children g c d m)) in
+                let few : k - length x.waiting < length (high_children g c d m) =
+                omega (arith, length-append x.waiting (high_children g c d m)) in
                 let kid =
                 member-filter_from (λ i. nat_le d (priority_at g i))
                 (get_or (high_children g c d m) (k - length x.waiting) 0) (children g c m)
                 (place-member (high_children g c d m) (k - length x.waiting) 0 few)
                 in
-                let at_least : d ≤ priority_at g (get_or (high_children g c d m) (k - length x.waiting) 0) = grind (arith, nat_tests, kid.1) in
+                let at_least : d ≤ priority_at g (get_or (high_children g c d m) (k - length x.waiting) 0) =
+                grind (arith, nat_tests, kid.1) in
                 subst (λ n. IsChild g c d n (get_or (x.waiting ++ high_children g c d m) k 0)) (sym node)
                 (subst (λ i. IsChild g c d m i) (sym at) (kid.0, at_least))
 

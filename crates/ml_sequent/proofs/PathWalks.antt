@@ -3,6 +3,7 @@
 --   reaches_self, reaches_child, reaches_joined == nowhere, to a child, and one behind the other
 --   same_reaches     == between equal nodes
 --   framed_below     == each frame begins on the path, and its targets among those that wait
+--   same_place       == a node on the path has one place
 --   at_end           == an entry of a list with one more
 --   coming_reach     == each node on the path leads to the target that is looked at
 --   relead           == what is looked at changes where its children are still led to
@@ -17,19 +18,27 @@ use Rattle.ml_lists.specs.Member.{IsMember}
 use Rattle.ml_graph.specs.Graph.{Graph, size, priority_at}
 use Rattle.ml_sequent.specs.declared.choice.Side.{Side}
 use Rattle.ml_sequent.specs.declared.parts.Frame.{Frame}
-use Rattle.ml_sequent.specs.declared.parts.Stage.TheVariants.{New, Done}
+use Rattle.ml_sequent.specs.declared.parts.Stage.TheVariants.{New, On, Done}
 use Rattle.ml_sequent.specs.LocalWalk.{stays, goes}
 use Rattle.ml_sequent.specs.private.ConnectedParts.{IsChild, Reaches, WalkList, stage_of, IsFramed, Led, is_done, is_on, waits, looked_at, Owner, IsUnder, Coming}
 use Rattle.ml_sequent.proofs.LocalWalks.{walk_joined}
 
+pub same_place : (p q : ℕ) → On p ≡ On q → p ≡ q
+same_place p q e = cc
+
 -- an entry of a list with one more
 pub at_end : (xs : List ℕ) (y p : ℕ) → p < length xs + 1
-    → ((p < length xs) × (get_or (xs ++ y ∷ []) p 0 ≡ get_or xs p 0)) ⊎ ((p ≡ length xs) × (get_or (xs ++ y ∷ []) p 0 ≡ y))
+    → ((p < length xs) × (get_or (xs ++ y ∷ []) p 0 ≡ get_or xs p 0))
+    ⊎ ((p ≡ length xs) × (get_or (xs ++ y ∷ []) p 0 ≡ y))
 at_end xs y p low = ⊎_elim
     (λ (less : p < length xs). inl (less, get_or_append_left xs (y ∷ []) 0 p less))
     (λ (more : length xs ≤ p).
     let here : p ≡ length xs + 0 = omega arith in
-    inr ((let last : p ≡ length xs = omega arith in last), ap (λ k. get_or (xs ++ y ∷ []) k 0) here ∙ get_or-append-add xs (y ∷ []) 0 0))
+    inr (
+      (let last : p ≡ length xs = omega arith in last),
+      ap (λ k. get_or (xs ++ y ∷ []) k 0) here
+          ∙ get_or-append-add xs (y ∷ []) 0 0,
+    ))
     (cases_lt p (length xs))
 
 -- each frame begins on the path, and its targets among those that wait
@@ -39,7 +48,8 @@ framed_below n k [] is f m = absurd m
 framed_below n k (e ∷ fs) is f (inl same) =
     subst (λ (h : Frame). (h.first < n) × (h.waits ≤ k)) (sym same) (is.0, is.1)
 framed_below n k (e ∷ fs) is f (inr later) =
-    let below = framed_below e.first e.waits fs is.2 f later in (omega (arith, below.0, is.0), omega (arith, below.1, is.1))
+    let below = framed_below e.first e.waits fs is.2 f later in
+    (omega (arith, below.0, is.0), omega (arith, below.1, is.1))
 
 module _ (g : Graph) (c : List (ℕ × Side)) (d : ℕ) where
   pub reaches_self : (n : ℕ) → d ≤ priority_at g n → Reaches g c d n n
@@ -47,11 +57,19 @@ module _ (g : Graph) (c : List (ℕ × Side)) (d : ℕ) where
 
   pub reaches_child : (n m : ℕ) → d ≤ priority_at g n → IsChild g c d n m → Reaches g c d n m
   reaches_child n m high child =
-      record { lowest = min (priority_at g n) (priority_at g m); walk = goes n m child.0 (stays m); high = omega (arith, child.1) }
+      record {
+        lowest = min (priority_at g n) (priority_at g m);
+        walk = goes n m child.0 (stays m);
+        high = omega (arith, child.1);
+      }
 
   pub reaches_joined : (n m k : ℕ) → Reaches g c d n m → Reaches g c d m k → Reaches g c d n k
   reaches_joined n m k r s =
-      record { lowest = min r.lowest s.lowest; walk = walk_joined g c n r.lowest m s.lowest k r.walk s.walk; high = omega (arith, r.high, s.high) }
+      record {
+        lowest = min r.lowest s.lowest;
+        walk = walk_joined g c n r.lowest m s.lowest k r.walk s.walk;
+        high = omega (arith, r.high, s.high);
+      }
 
   pub same_reaches : (n m k j : ℕ) → n ≡ k → m ≡ j → Reaches g c d k j → Reaches g c d n m
   same_reaches n m k j e f r = subst (λ x. Reaches g c d x m) (sym e) (subst (λ x. Reaches g c d k x) (sym f) r)
@@ -68,8 +86,10 @@ module _ (g : Graph) (c : List (ℕ × Side)) (d : ℕ) where
         let high = (is.inside to.place to.low).1 in
         let step = reaches_child (get_or x.path to.place 0) m high to.child in
         ⊎_elim
-        (λ (before : p < to.place). reaches_joined (get_or x.path p 0) (get_or x.path to.place 0) m (is.forth p to.place (omega arith) to.low) step)
-        (λ (behind : to.place ≤ p). reaches_joined (get_or x.path p 0) (get_or x.path to.place 0) m (is.back to.place p behind low (λ f f_in. inl (to.last f f_in))) step)
+        (λ (before : p < to.place). reaches_joined (get_or x.path p 0) (get_or x.path to.place 0) m
+        (is.forth p to.place (omega arith) to.low) step)
+        (λ (behind : to.place ≤ p). reaches_joined (get_or x.path p 0) (get_or x.path to.place 0) m
+        (is.back to.place p behind low (λ f f_in. inl (to.last f f_in))) step)
         (cases_lt p to.place)
 
     -- what is looked at changes where its children are still led to
@@ -175,7 +195,8 @@ module _ (g : Graph) (c : List (ℕ × Side)) (d : ℕ) where
               place = o.place;
               low = o.low;
               child = subst (IsChild g c d (get_or x.path o.place 0)) (here (length w) refl) o.child;
-              last = λ f f_in. (o.framed f f_in).0 (framed_below (length x.path) (length w) x.frames all_framed f f_in).1;
+              last = λ f f_in. (o.framed f f_in).0
+                  (framed_below (length x.path) (length w) x.frames all_framed f f_in).1;
             }
 
     -- nothing is on the path yet

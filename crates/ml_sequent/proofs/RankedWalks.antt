@@ -5,22 +5,22 @@
 --   level_min        == the lower of two ranked priorities is that of the lower rank
 --   level_order      == an entry of an ascending list that is no greater stands no later
 --   walk_below       == where a local walk leads is a node
+--   spread_low       == so the nodes of a spread are nodes
 --   looked_up, never_missed == a binary search finds a member of an ascending list
---   few_different    == a list of numbers has no more different ones
 --   Traced, traced   == a way of the search is a local walk, of which it keeps the rank of the lowest priority
 --   Ranked, ranked   == a local walk is a way of the search
-use Rattle.std.proofs.Common.{ℕ, ◌≡◌, ◌+◌, ◌<◌, ◌≤◌, inl, inr, ⊎_elim, min, List, [], ◌∷◌, length, get_or, Option, Some, None, refl}
-use Rattle.std.proofs.Common.{sym, ap, ◌∙◌, subst, arith, All, Ok, Err, Bool, true, false, cond, nat_lt, ◌==◌}
+use Rattle.std.proofs.Common.{ℕ, ◌≡◌, ◌<◌, ◌≤◌, inl, inr, ⊎_elim, min, List, [], ◌∷◌, length, get_or, Option, Some, None, refl}
+use Rattle.std.proofs.Common.{sym, ap, ◌∙◌, subst, arith, All, Ok, Err}
 use Rattle.std.proofs.lemmas.Bool.{cases_eq, cases_lt}
 use Rattle.std.proofs.lemmas.List.Elements.{All-nil, All-cons}
 use Rattle.std.specs.List.Sorted.{IsBinarySearchResult}
 use Rattle.std.specs.Ordering.{nat_cmp}
 use Rattle.std.proofs.lemmas.List.Sorted.{searched}
 use Rattle.ml_base.proofs.IdSets.{search_member}
-use Rattle.ml_lists.specs.Ascending.{IsAscending, ascending, insert_once}
+use Rattle.ml_lists.specs.Ascending.{IsAscending}
 use Rattle.ml_lists.specs.Member.{IsMember}
 use Rattle.ml_lists.proofs.Ascending.{ascending-apart}
-use Rattle.ml_lists.proofs.Member.{Image, member-map, member-map_from}
+use Rattle.ml_lists.proofs.Member.{Image, member-map, member-map_from, All-member}
 use Rattle.ml_graph.specs.declared.node.Node.{Node}
 use Rattle.ml_graph.specs.declared.node.Node.TheVariants as node
 use Rattle.ml_graph.specs.Graph.{Graph, IsGraph, size, node_at, priority_at}
@@ -29,7 +29,7 @@ use Rattle.ml_sequent.specs.declared.choice.Side.{Side}
 use Rattle.ml_sequent.specs.declared.choice.Side.TheVariants.{Left, Right}
 use Rattle.ml_sequent.specs.declared.reach.Visit.{Visit}
 use Rattle.ml_sequent.specs.Choice.{side_of}
-use Rattle.ml_sequent.specs.LocalWalk.{LocalWalk, stays, goes, children, children_of, chosen_child}
+use Rattle.ml_sequent.specs.LocalWalk.{LocalWalk, stays, goes, children, children_of, chosen_child, InSpread}
 use Rattle.ml_sequent.specs.private.Reach.{Leads, ends, moves, onto, onward, LevelList, IsRanked}
 use Rattle.ml_sequent.proofs.LocalWalks.{walk_low}
 
@@ -59,7 +59,8 @@ children_low g c ok n m low h = of_node (node_at g n) refl h
     of_node node.False is none = absurd none
     of_node (node.Lit p positive) is none = absurd none
     of_node (node.And l r) is both = of_two l r (and_left g ok n low l r is) (and_right g ok n low l r is) both
-    of_node (node.Or l r) is one = of_side (side_of c n) l r (or_left g ok n low l r is) (or_right g ok n low l r is) one
+    of_node (node.Or l r) is one =
+        of_side (side_of c n) l r (or_left g ok n low l r is) (or_right g ok n low l r is) one
     of_node (node.Diamond a to) is none = absurd none
     of_node (node.Square a to) is none = absurd none
 
@@ -109,7 +110,15 @@ pub walk_below : (g : Graph) (c : List (ℕ × Side))
     → LocalWalk g c n k m
     → m < size g
 walk_below g c ok n k m low (stays _) = low
-walk_below g c ok n k m low (goes {k = j} _ next child w) = walk_below g c ok next j m (children_low g c ok n next low child) w
+walk_below g c ok n k m low (goes {k = j} _ next child w) =
+    walk_below g c ok next j m (children_low g c ok n next low child) w
+
+-- so the nodes of a spread are nodes
+pub spread_low : (g : Graph) (ok : IsGraph g) (C : List ℕ) (low : All (λ n. n < size g) C) (c : List (ℕ × Side)) (m : ℕ)
+    → InSpread g c C m
+    → m < size g
+spread_low g ok C low c m s =
+    walk_below g c ok s.from s.lowest m (All-member (λ n. n < size g) C low s.from s.member) s.walk
 
 -- ---- ranks as they are looked up
 
@@ -124,21 +133,6 @@ pub never_missed : (xs : List ℕ) (x i : ℕ)
     → IsBinarySearchResult (λ y. nat_cmp y x) xs (Err i)
     → ⊥
 never_missed xs x i up member found = let is = (search_member xs x (Err i) up found).1 member in cc
-
--- a list of numbers has no more different ones
-pub few_different : (xs : List ℕ) → length (ascending xs) ≤ length xs
-few_different [] = omega arith
-few_different (x ∷ xs) = let more = one_more x (ascending xs) in let rest = few_different xs in omega arith
-  where
-    one_more : (y : ℕ) (ys : List ℕ) → length (insert_once y ys) ≤ length ys + 1
-    one_more y [] = omega arith
-    one_more y (z ∷ zs) = by_less (nat_lt y z) (y == z) (one_more y zs)
-      where
-        by_less : (a b : Bool) → length (insert_once y zs) ≤ length zs + 1
-            → length (cond a (y ∷ (z ∷ zs)) (cond b (z ∷ zs) (z ∷ insert_once y zs))) ≤ length (z ∷ zs) + 1
-        by_less true b rest = omega arith
-        by_less false true rest = omega arith
-        by_less false false rest = omega arith
 
 module _ (g : Graph) (c : List (ℕ × Side)) (levels : LevelList) (ok : IsGraph g) (is : IsRanked g levels) where
   -- a local walk between two places, and the rank of the lowest priority on it
@@ -170,9 +164,11 @@ module _ (g : Graph) (c : List (ℕ × Side)) (levels : LevelList) (ok : IsGraph
       from i rest =
           let node_is : u.node ≡ i.from = ap (λ (x : Visit). x.node) i.holds in
           let rank_is : u.rank ≡ min v.rank (get_or levels.ranks i.from 0) = ap (λ (x : Visit). x.rank) i.holds in
-          let child : IsMember u.node (children g c v.node) = subst (λ n. IsMember n (children g c v.node)) (sym node_is) i.member in
+          let child : IsMember u.node (children g c v.node) =
+          subst (λ n. IsMember n (children g c v.node)) (sym node_is) i.member in
           let u_low = children_low g c ok v.node u.node low child in
-          let ranks_are : get_or levels.ranks u.node 0 ≡ get_or levels.ranks i.from 0 = ap (λ n. get_or levels.ranks n 0) node_is in
+          let ranks_are : get_or levels.ranks u.node 0 ≡ get_or levels.ranks i.from 0 =
+          ap (λ n. get_or levels.ranks n 0) node_is in
           step (rest u_low (omega arith)) child u_low (rank_is ∙ ap (min v.rank) (sym ranks_are))
         where
           step : Traced u w → IsMember u.node (children g c v.node) → u.node < size g
@@ -184,7 +180,8 @@ module _ (g : Graph) (c : List (ℕ × Side)) (levels : LevelList) (ok : IsGraph
               level_order levels.priorities t.rank (get_or levels.ranks u.node 0) is.ascends t.low (is.low u.node u_low)
               (omega (arith, is.right u.node u_low))
               in
-              let lower = level_min levels.priorities (get_or levels.ranks v.node 0) t.rank is.ascends (is.low v.node low) t.low in
+              let lower =
+              level_min levels.priorities (get_or levels.ranks v.node 0) t.rank is.ascends (is.low v.node low) t.low in
               let lowest :
               min (priority_at g v.node) (get_or levels.priorities t.rank 0)
               ≡ get_or levels.priorities (min (get_or levels.ranks v.node 0) t.rank) 0 =
@@ -229,10 +226,13 @@ module _ (g : Graph) (c : List (ℕ × Side)) (levels : LevelList) (ok : IsGraph
           record {
             rank = min (get_or levels.ranks n 0) t.rank;
             low = omega (arith, t.low);
-            holds = sym lower ∙ ap (λ x. min x (get_or levels.priorities t.rank 0)) (is.right n low) ∙ ap (min (priority_at g n)) t.holds;
+            holds = sym lower ∙ ap (λ x. min x (get_or levels.priorities t.rank 0)) (is.right n low)
+                ∙ ap (min (priority_at g n)) t.holds;
             way = λ r fits.
-                let same : min (min r (get_or levels.ranks next 0)) t.rank ≡ min r (min (get_or levels.ranks n 0) t.rank) = omega arith in
-                moves (record { node = n; rank = r }) (record { node = next; rank = min r (get_or levels.ranks next 0) })
+                let same : min (min r (get_or levels.ranks next 0)) t.rank
+                ≡ min r (min (get_or levels.ranks n 0) t.rank) = omega arith in
+                moves (record { node = n; rank = r })
+                (record { node = next; rank = min r (get_or levels.ranks next 0) })
                 (member-map (onto levels.ranks r) next (children g c n) child)
                 (subst
                 (λ q.

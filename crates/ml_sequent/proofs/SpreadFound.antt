@@ -12,7 +12,7 @@ use Rattle.ml_sequent.specs.declared.reach.Visit.{Visit}
 use Rattle.ml_sequent.specs.LocalWalk.{InSpread}
 use Rattle.ml_sequent.specs.Spread.{SpreadList, IsSpreadOf}
 use Rattle.ml_sequent.specs.private.Reach.{Leads, IsReached, onward, unranked, LevelList, IsRanked, HasReached}
-use Rattle.ml_sequent.proofs.RankedWalks.{traced, ranked, walk_below}
+use Rattle.ml_sequent.proofs.RankedWalks.{traced, ranked, spread_low}
 
 module _ (g : Graph) (c : List (ℕ × Side)) (levels : LevelList) (ok : IsGraph g) (is : IsRanked g levels) (C : List ℕ)
     (C_low : All (λ n. n < size g) C) (found : List Visit)
@@ -25,7 +25,8 @@ module _ (g : Graph) (c : List (ℕ × Side)) (levels : LevelList) (ok : IsGraph
           → InSpread g c C m
       of_start r j =
           let low = All-member (λ n. n < size g) C C_low j.from j.member in
-          let t = traced g c levels ok is (unranked j.from) i.from low (omega arith) (subst (λ u. Leads (onward g c levels.ranks) u i.from) j.holds r.way) in
+          let t = traced g c levels ok is (unranked j.from) i.from low (omega arith)
+          (subst (λ u. Leads (onward g c levels.ranks) u i.from) j.holds r.way) in
           subst (InSpread g c C) (sym i.holds)
           (record { from = j.from; member = j.member; lowest = get_or levels.priorities t.rank 0; walk = t.walk })
 
@@ -38,7 +39,11 @@ module _ (g : Graph) (c : List (ℕ × Side)) (levels : LevelList) (ok : IsGraph
       let r = ranked g c levels ok is s.from s.lowest m low s.walk in
       let v : Visit = record { node = m; rank = min 0 r.rank } in
       member-map (λ (w : Visit). w.node) v found
-      ((has v).1 (record { from = unranked s.from; member = member-map unranked s.from C s.member; way = r.way 0 (omega arith) }))
+      ((has v).1 (record {
+        from = unranked s.from;
+        member = member-map unranked s.from C s.member;
+        way = r.way 0 (omega arith);
+      }))
 
   -- the nodes of the places that were found, ascending, are the spread
   pub spread_found : (sp : SpreadList)
@@ -48,12 +53,15 @@ module _ (g : Graph) (c : List (ℕ × Side)) (levels : LevelList) (ok : IsGraph
   spread_found sp nodes choice = record {
     choice = choice;
     ascends = subst IsAscending (sym nodes) (ascending-is (map (λ (v : Visit). v.node) found));
-    low = λ m h. low m (of_member m h);
-    nodes = λ m. (of_member m, λ s. subst (IsMember m) (sym nodes) (member-ascending m (map (λ (v : Visit). v.node) found) (was_found m s)));
+    low = λ m h. spread_low g ok C C_low c m (of_member m h);
+    nodes = λ m. (
+      of_member m,
+      λ s. subst (IsMember m) (sym nodes)
+          (member-ascending m (map (λ (v : Visit). v.node) found) (was_found m s)),
+    );
   }
     where
       of_member : (m : ℕ) → IsMember m sp.nodes → InSpread g c C m
-      of_member m h = in_spread m (member-map_from (λ (v : Visit). v.node) m found (ascending-member m (map (λ (v : Visit). v.node) found) (subst (IsMember m) nodes h)))
-
-      low : (m : ℕ) → InSpread g c C m → m < size g
-      low m s = walk_below g c ok s.from s.lowest m (All-member (λ n. n < size g) C C_low s.from s.member) s.walk
+      of_member m h =
+          in_spread m (member-map_from (λ (v : Visit). v.node) m found
+          (ascending-member m (map (λ (v : Visit). v.node) found) (subst (IsMember m) nodes h)))

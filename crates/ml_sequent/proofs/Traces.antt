@@ -5,14 +5,16 @@
 --   traces_more     == the triples from one node more
 --   exit_leads, leads_exit == to lead out along a diamond, as the program tells it and as the step says it
 --   sequent_low     == the nodes of a sequent that has a spread are nodes
+--   diamond_of      == a node that passes the test is a diamond
 --   step_is         == such triples and their targets are a step
-use Rattle.std.proofs.Common.{ℕ, ◌≡◌, ◌+◌, ◌<◌, ◌⊎◌, inl, inr, ⊎_elim, ◌↔◌, ◌==◌, min, Bool, true, false, List, [], ◌∷◌, ◌++◌, map, length}
-use Rattle.std.proofs.Common.{get_or, take, Option, Some, None, cond, refl, sym, ap, ◌∙◌, subst, arith, append_assoc, append-nil}
+use Rattle.std.proofs.Common.{ℕ, ◌≡◌, ◌+◌, ◌<◌, ◌⊎◌, inl, inr, ⊎_elim, ◌↔◌, ◌==◌, min, true, List, [], ◌∷◌, ◌++◌, map, length}
+use Rattle.std.proofs.Common.{get_or, take, Option, Some, None, refl, sym, ap, ◌∙◌, subst, arith, append_assoc, append-nil}
 use Rattle.std.specs.List.{flat_map}
 use Rattle.std.proofs.lemmas.Bool.{eqb-true, cond-true}
 use Rattle.std.proofs.lemmas.Bool.Decides.{nat_tests}
 use Rattle.std.proofs.lemmas.List.{take_more}
 use Rattle.std.proofs.lemmas.List.Concat.{flat_map-append}
+use Rattle.std.proofs.lemmas.Option.{cond_some}
 use Rattle.ml_lists.specs.Ascending.{IsAscending, ascending}
 use Rattle.ml_lists.specs.Member.{IsMember}
 use Rattle.ml_lists.proofs.Ascending.{ascending-is, ascending-member, member-ascending}
@@ -63,9 +65,11 @@ gives : (from lowest : ℕ) (o : Option ℕ) (t : Triple) → Given from lowest 
 gives from lowest o t w =
     let from_is = w.from_is in
     let lowest_is = w.lowest_is in
-    subst (λ p. IsMember t (triple_to from lowest p)) (sym w.leads) (inl (λ i. record { from = from_is i; lowest = lowest_is i; to = t.to }))
+    subst (λ p. IsMember t (triple_to from lowest p)) (sym w.leads)
+    (inl (λ i. record { from = from_is i; lowest = lowest_is i; to = t.to }))
 
-module _ (g : Graph) (c : List (ℕ × Side)) (levels : LevelList) (ok : IsGraph g) (is : IsRanked g levels) (a d : ℕ) where
+module _ (g : Graph) (c : List (ℕ × Side)) (levels : LevelList) (ok : IsGraph g) (is : IsRanked g levels)
+    (a d : ℕ) where
   -- the triples of what a search from a node found are the local walks from it that lead out
   pub found_traces : (n : ℕ) (found : List Visit) → n < size g
       → HasReached (onward g c levels.ranks) (ranked levels.ranks n ∷ []) found
@@ -86,7 +90,8 @@ module _ (g : Graph) (c : List (ℕ × Side)) (levels : LevelList) (ok : IsGraph
           (omega (arith, is.right n low))
           in
           let rank_is : r.rank ≡ v.rank = omega (arith, r.holds) in
-          let lowest_is : get_or levels.priorities r.rank 0 ≡ t.lowest = ap (λ k. get_or levels.priorities k 0) rank_is ∙ sym w.lowest_is in (
+          let lowest_is : get_or levels.priorities r.rank 0 ≡ t.lowest =
+          ap (λ k. get_or levels.priorities k 0) rank_is ∙ sym w.lowest_is in (
             w.from_is,
             record {
               leaving = v.node;
@@ -129,7 +134,12 @@ module _ (g : Graph) (c : List (ℕ × Side)) (levels : LevelList) (ok : IsGraph
           let lowest_is : t.lowest ≡ get_or levels.priorities (min (get_or levels.ranks n 0) r.rank) 0 =
           sym r.holds ∙ ap (λ k. get_or levels.priorities k 0) rank_is
           in
-          let member = (has v).1 (record { from = ranked levels.ranks n; member = inl refl; way = r.way (get_or levels.ranks n 0) (omega arith) }) in
+          let member =
+          (has v).1 (record {
+            from = ranked levels.ranks n;
+            member = inl refl;
+            way = r.way (get_or levels.ranks n 0) (omega arith);
+          }) in
           member-flat_map (exits g levels.priorities a d n) v t found member
           (gives n (get_or levels.priorities v.rank 0) (exit_of a d v.node (node_at g v.node)) t
           (record { from_is = from; lowest_is = lowest_is; leads = w.leads }))
@@ -147,14 +157,16 @@ module _ (g : Graph) (c : List (ℕ × Side)) (levels : LevelList) (ok : IsGraph
       → ((t : Triple) → IsMember t traces ↔ (IsMember t.from (take i nodes) × IsTraceFrom g c a d t))
       → (t : Triple) → IsMember t traces2 ↔ (IsMember t.from (take (i + 1) nodes) × IsTraceFrom g c a d t)
   traces_more nodes i found traces traces2 low node_low has more before t = (
-    (λ h. of_member (member-append t traces (flat_map (exits g levels.priorities a d (get_or nodes i 0)) found) (subst (IsMember t) more h))),
+    (λ h. of_member (member-append t traces (flat_map (exits g levels.priorities a d (get_or nodes i 0)) found)
+        (subst (IsMember t) more h))),
     (λ h. subst (IsMember t) (sym more)
         (of_trace h.1
         (member-append t.from (take i nodes) (get_or nodes i 0 ∷ [])
         (subst (IsMember t.from) (take_more nodes i 0 low) h.0)))),
   )
     where
-      here : IsMember t (flat_map (exits g levels.priorities a d (get_or nodes i 0)) found) ↔ ((t.from ≡ get_or nodes i 0) × IsTraceFrom g c a d t)
+      here : IsMember t (flat_map (exits g levels.priorities a d (get_or nodes i 0))
+          found) ↔ ((t.from ≡ get_or nodes i 0) × IsTraceFrom g c a d t)
       here = found_traces (get_or nodes i 0) found node_low has t
 
       longer : IsMember t.from (take i nodes ++ get_or nodes i 0 ∷ []) → IsMember t.from (take (i + 1) nodes)
@@ -162,23 +174,22 @@ module _ (g : Graph) (c : List (ℕ × Side)) (levels : LevelList) (ok : IsGraph
 
       of_member : IsMember t traces ⊎ IsMember t (flat_map (exits g levels.priorities a d (get_or nodes i 0)) found)
           → IsMember t.from (take (i + 1) nodes) × IsTraceFrom g c a d t
-      of_member (inl old) = let o = (before t).0 old in (longer (member-append_left t.from (take i nodes) (get_or nodes i 0 ∷ []) o.0), o.1)
-      of_member (inr new) = let o = here.0 new in (longer (member-append_right t.from (take i nodes) (get_or nodes i 0 ∷ []) (inl o.0)), o.1)
+      of_member (inl old) = let o = (before t).0 old in
+          (longer (member-append_left t.from (take i nodes) (get_or nodes i 0 ∷ []) o.0), o.1)
+      of_member (inr new) = let o = here.0 new in
+          (longer (member-append_right t.from (take i nodes) (get_or nodes i 0 ∷ []) (inl o.0)), o.1)
 
       of_trace : IsTraceFrom g c a d t → IsMember t.from (take i nodes) ⊎ IsMember t.from (get_or nodes i 0 ∷ [])
           → IsMember t (traces ++ flat_map (exits g levels.priorities a d (get_or nodes i 0)) found)
       of_trace w (inl earlier) =
           member-append_left t traces (flat_map (exits g levels.priorities a d (get_or nodes i 0)) found)
           ((before t).1 (earlier, w))
-      of_trace w (inr (inl e)) = member-append_right t traces (flat_map (exits g levels.priorities a d (get_or nodes i 0)) found) (here.1 (e, w))
+      of_trace w (inr (inl e)) =
+          member-append_right t traces (flat_map (exits g levels.priorities a d (get_or nodes i 0)) found)
+          (here.1 (e, w))
       of_trace w (inr (inr none)) = absurd none
 
 -- ---- leading out
-
--- a test that gave something passed
-tested : (b : Bool) (to m : ℕ) → cond b (Some to) None ≡ Some m → (b ≡ true) × (to ≡ m)
-tested true to m e = (refl, cc)
-tested false to m e = absurd (cc)
 
 same_test : (k : ℕ) → (k == k) ≡ true
 same_test k = grind (arith, nat_tests)
@@ -204,11 +215,11 @@ module _ (g : Graph) (sp : SpreadList) (a d child : ℕ) (is : node_at g d ≡ n
       of_node (node.And l r) here h = absurd (cc)
       of_node (node.Or l r) here h = absurd (cc)
       of_node (node.Diamond b to) here h =
-          let t = tested (e == d) to m h in
+          let t = cond_some (e == d) to m h in
           let same = eqb-true e d t.0 in
           out (inl (same, of_diamond b to here same t.1))
       of_node (node.Square b to) here h =
-          let t = tested (b == a) to m h in
+          let t = cond_some (b == a) to m h in
           let same = eqb-true b a t.0 in
           let found = t.1 in
           out (inr (member, here ∙ (λ i. node.Square (same i) (found i))))
@@ -225,7 +236,9 @@ module _ (g : Graph) (sp : SpreadList) (a d child : ℕ) (is : node_at g d ≡ n
       ∙ cond-true (e == d) (Some child) None (subst (λ k. (e == k) ≡ true) own.0 (same_test e))
       ∙ ap (λ (k : ℕ). Some k) (children_are ∙ sym own.1))
       (λ (square : IsMember e sp.nodes × (node_at g e ≡ node.Square l.action m)).
-      ap (exit_of a d e) square.1 ∙ cond-true (l.action == a) (Some m) None (subst (λ k. (l.action == k) ≡ true) (sym actions) (same_test l.action)))
+      ap (exit_of a d e) square.1
+      ∙ cond-true (l.action == a) (Some m) None
+      (subst (λ k. (l.action == k) ≡ true) (sym actions) (same_test l.action)))
       l.leaves
 
 -- a diamond node is one of its action
@@ -241,6 +254,9 @@ diamond_is (node.And l r) e = absurd (cc)
 diamond_is (node.Or l r) e = absurd (cc)
 diamond_is (node.Diamond a to) e = record { child = to; holds = refl }
 diamond_is (node.Square a to) e = absurd (cc)
+
+pub diamond_of : (x : Node) → is_diamond x ≡ true → (a : ℕ) × ((to : ℕ) × (x ≡ node.Diamond a to))
+diamond_of x is = let d = diamond_is x is in (action_of x, (d.child, d.holds))
 
 -- such triples and their targets are a step
 pub step_is : (g : Graph) (C : List ℕ) (sp : SpreadList) (d : ℕ) (next : List ℕ) (made : List Triple)
@@ -306,11 +322,15 @@ step_is g C sp d next made of diamond next_is traces_are = by_child (diamond_is 
             let member =
             (traces_are t).1 (
               s.member,
-              record
-                  { leaving = e; walk = s.walk; leads = leads_exit g sp (action_of (node_at g d)) d x.child x.holds e m l },
+              record {
+                leaving = e;
+                walk = s.walk;
+                leads = leads_exit g sp (action_of (node_at g d)) d x.child x.holds e m l;
+              },
             )
             in
-            subst (IsMember m) (sym next_is) (member-ascending m (map (λ (u : Triple). u.to) made) (member-map (λ (u : Triple). u.to) t made member))
+            subst (IsMember m) (sym next_is)
+            (member-ascending m (map (λ (u : Triple). u.to) made) (member-map (λ (u : Triple). u.to) t made member))
 
 -- the nodes of a sequent that has a spread are nodes
 pub sequent_low : (g : Graph) (C : List ℕ) (sp : SpreadList) (n : ℕ)

@@ -82,7 +82,8 @@ pub lowest_priority : (top : ℕ) (m : Mark) (ms : List Mark)
 lowest_priority top m [] fits = ap (priority top) (sym (cond-true (mark_le m Neutral) m Neutral (below_neutral m)))
 lowest_priority top m (n ∷ ns) fits =
     ap (λ v. min (priority top m) v) (lowest_priority top n ns (λ l i. fits l (inr i)))
-    ∙ sym (priority-lower top m (lowest_mark (n ∷ ns)) (fits m (inl refl)) (lowest_fits top (n ∷ ns) (λ l i. fits l (inr i))))
+    ∙ sym (priority-lower top m (lowest_mark (n ∷ ns)) (fits m (inl refl))
+    (lowest_fits top (n ∷ ns) (λ l i. fits l (inr i))))
 
 -- a number is odd exactly if its mark is
 pub odd_priority : (top : ℕ) (m : Mark) → top % 2 ≡ 0 → (priority top m % 2 ≡ 1) ↔ (is_odd m ≡ true)

@@ -238,7 +238,8 @@ source_down h best k d standing ends history sources ways low m =
     let o = get_or best k d in
     let member = place-member best k d low in
     let t = map (offered_by h) best in
-    let down = ways_down t (map (offered_by h) (take k best)) (offered_by h o) ways (member-map (offered_by h) o best member)
+    let down =
+    ways_down t (map (offered_by h) (take k best)) (offered_by h o) ways (member-map (offered_by h) o best member)
     (λ b mb. earlier b (member-map_from (offered_by h) b (take k best) mb)) in
     passes_down-part (flagged standing) (offered_by h o).stack (stack_at h o.source)
     (source_part h history o (sources o member))

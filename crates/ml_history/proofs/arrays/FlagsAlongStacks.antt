@@ -116,7 +116,8 @@ cut_by test a = record { state = a.state; stack = through test a.stack }
 pub cut_ways : (t : List (Item ℕ)) → AreWays t → AreWays (cut t)
 cut_ways t ways = record {
   ascend = λ a m. ascends a (member-map_from (cut_by test) a t m);
-  agree = λ a b y ma mb na nb. agrees a b y (member-map_from (cut_by test) a t ma) (member-map_from (cut_by test) b t mb)
+  agree = λ a b y ma mb na nb. agrees a b y (member-map_from (cut_by test) a t ma)
+      (member-map_from (cut_by test) b t mb)
       na nb;
 }
   where

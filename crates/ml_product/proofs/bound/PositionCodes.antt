@@ -10,33 +10,27 @@
 --   code_low         == it is below the bound
 --   same_code        == it tells the position
 --   position_bound   == no decision game has more positions
-use Rattle.std.proofs.Common.{ℕ, zero, suc, ◌≡◌, ◌+◌, ◌*◌, ◌^◌, ◌%◌, ◌==◌, ◌<◌, ◌≤◌, ◌⊎◌, inl, inr, List, [], ◌∷◌, map, length, get_or, filter, sym, ap, ◌∙◌, subst, arith}
-use Rattle.std.proofs.Math.Nat.{mul-le-mul_right}
+use Rattle.std.proofs.Common.{ℕ, zero, suc, ◌≡◌, ◌+◌, ◌*◌, ◌^◌, ◌<◌, ◌≤◌, ◌⊎◌, inl, inr, List, [], ◌∷◌, map, length, get_or, sym, ap, ◌∙◌, subst, arith}
 use Rattle.std.proofs.lemmas.List.{length-map, get_or-map}
 use Rattle.ml_lists.specs.Ascending.{IsAscending}
 use Rattle.ml_lists.specs.Member.{IsMember}
-use Rattle.ml_lists.proofs.Ascending.{ascending-is}
-use Rattle.ml_lists.proofs.Member.{Image, member-map_from, place-member}
+use Rattle.ml_lists.proofs.Member.{place-member}
 use Rattle.ml_lists.proofs.Pigeons.{TwiceInList, pigeons_list}
-use Rattle.ml_graph.specs.Graph.{Graph, IsGraph, size, node_at, odd_priorities}
+use Rattle.ml_graph.specs.Graph.{Graph, IsGraph, size, node_at}
 use Rattle.ml_graph.specs.declared.node.Node.TheVariants as node
 use Rattle.ml_graph.proofs.References.{root_in_range, diamond_target, square_target}
-use Rattle.ml_trace.specs.Automaton.{states_per_node}
 use Rattle.ml_trace.specs.Stack.{Item}
-use Rattle.ml_trace.proofs.Numbers.{guess_place-le}
 use Rattle.ml_trace.proofs.Stacks.{member-has}
 use Rattle.ml_history.specs.History.{IsHistory}
-use Rattle.ml_history.specs.HistoryStep.{live}
 use Rattle.ml_history.proofs.definition.NamesInUse.{live-has}
-use Rattle.ml_history.proofs.plain_step.PlainStep.{live-length, ascending_length}
 use Rattle.ml_sequent.specs.Choice.{side_of}
 use Rattle.ml_sequent.specs.Spread.{SpreadList}
 use Rattle.ml_sequent.specs.Step.{LeadsOut, IsTarget}
 use Rattle.ml_product.specs.Position.{Position, start_of, automaton_states, neutral}
 use Rattle.ml_product.specs.DecisionGame.{IsReached, at_start, by_move, AreDifferent}
 use Rattle.ml_product.specs.Bound.{bound, PositionBoundLaw}
-use Rattle.ml_product.proofs.NeutralPriority.{MovesTo, chooses, steps, moves_to, priority_at_most}
-use Rattle.ml_product.proofs.Reached.{Facts, IsTraced, reached_facts}
+use Rattle.ml_product.proofs.NeutralPriority.{MovesTo, chooses, steps, moves_to, priority_at_most, state_low, names_fit}
+use Rattle.ml_product.proofs.Reached.{Facts, reached_facts}
 use Rattle.ml_product.proofs.ReachedChoices.{ChoiceFacts, reached_choice}
 use Rattle.ml_product.proofs.bound.Packs.{pair_low, pair_same, pack, pack_low, pack_same}
 use Rattle.ml_product.proofs.bound.SetCodes.{flag, bit_low, same_sets, side_digit, side_digit_low, same_choices}
@@ -61,7 +55,8 @@ module _ (g : Graph) (ok : IsGraph g) where
   pub reached_low : (p : Position) → IsReached g p → (n : ℕ) → IsMember n p.sequent → n < size g
   reached_low p at_start n (inl is) = subst (λ k. k < size g) (sym is) (root_in_range g ok)
   reached_low p at_start n (inr none) = absurd none
-  reached_low p (by_move from _ turn reached m) n inside = by_kind (moves_to g from p turn m) (reached_low from reached n)
+  reached_low p (by_move from _ turn reached m) n inside =
+      by_kind (moves_to g from p turn m) (reached_low from reached n)
     where
       by_kind : MovesTo g from p → (IsMember n from.sequent → n < size g) → n < size g
       by_kind (chooses sp o x is_spread is_open is) old =
@@ -87,35 +82,14 @@ module _ (g : Graph) (ok : IsGraph g) where
     low = reached_low p reached;
     choice = reached_choice g p reached;
     history = facts.is_history;
-    states = state_low;
-    names = λ a m z i. let used = live-has p.history z a m (member-has z a.stack i) in omega (arith, names_fit);
+    states = state_low g p facts (reached_low p reached);
+    names = λ a m z i. let used = live-has p.history z a m (member-has z a.stack i) in
+        omega (arith, names_fit g p facts (reached_low p reached));
     priority = priority_at_most g p reached;
   }
     where
       facts : Facts g p
       facts = reached_facts g p reached
-
-      state_low : (a : Item ℕ) → IsMember a p.history → a.state < automaton_states g
-      state_low a m =
-          let t : IsTraced g p.sequent a = facts.traced a m in
-          let node : t.state.node < size g = reached_low p reached t.state.node t.member in
-          let place =
-          guess_place-le (odd_priorities g) t.state.odd (ascending-is (filter (λ d. d % 2 == 1) g.priorities))
-          t.is_state in
-          let whole : (t.state.node + 1) * states_per_node (odd_priorities g) ≤ size g * states_per_node
-          (odd_priorities g) = mul-le-mul_right (states_per_node (odd_priorities g)) (omega arith) in
-          omega (arith, t.numbered_so)
-
-      of_image : (x : ℕ) → Image (λ (a : Item ℕ). a.state) x p.history → x < automaton_states g
-      of_image x i = subst (λ y. y < automaton_states g) (sym i.holds) (state_low i.from i.member)
-
-      names_fit : live p.history ≤ automaton_states g
-      names_fit =
-          let few =
-          ascending_length (map (λ (a : Item ℕ). a.state) p.history) (automaton_states g)
-          facts.is_history.states_ascend
-          (λ x m. of_image x (member-map_from (λ (a : Item ℕ). a.state) x p.history m)) in
-          omega (arith, live-length p.history facts.is_history, length-map p.history (λ (a : Item ℕ). a.state))
 
   -- ---- the code, part by part
 

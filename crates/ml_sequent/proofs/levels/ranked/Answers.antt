@@ -1,18 +1,18 @@
 use Rattle.std.proofs.Common.{◌∙◌, length, get_or, sym, ap, subst, arith}
 use Rattle.ml_lists.specs.Ascending.{IsAscending}
 use Rattle.ml_lists.specs.Member.{IsMember}
-use Rattle.ml_lists.proofs.Ascending.{ascending-is, member-ascending}
+use Rattle.ml_lists.proofs.Ascending.{ascending-is, member-ascending, length-ascending}
 use Rattle.ml_lists.proofs.Member.{place-member}
-use Rattle.ml_sequent.proofs.RankedWalks.{few_different}
 use Rattle.ml_sequent.proofs.levels.ranked.Goals as goal
 
 pub rank_in-requires-clause-ascends : goal.rank_in-requires-clause-ascends
 rank_in-requires-clause-ascends c =
-    subst IsAscending (sym (c.deref.ensures.value ∙ c.ascending-priorities.ensures)) (ascending-is c.in_ok-from_slice.field-0.items)
+    subst IsAscending (sym (c.deref.ensures.value ∙ c.ascending-priorities.ensures))
+    (ascending-is c.in_ok-from_slice.field-0.items)
 
 pub rank_in-requires-clause-few : goal.rank_in-requires-clause-few
 rank_in-requires-clause-few c =
-    let few = few_different c.in_ok-from_slice.field-0.items in
+    let few = length-ascending c.in_ok-from_slice.field-0.items in
     let same = ap length (c.deref.ensures.value ∙ c.ascending-priorities.ensures) in
     let all = ap length (c.in_ok-from_slice.ensures.items ∙ c.priorities.ensures) in
     let fits = c.ranges.nodes.fits in
@@ -21,10 +21,13 @@ rank_in-requires-clause-few c =
 pub rank_in-requires-clause-has : goal.rank_in-requires-clause-has
 rank_in-requires-clause-has c =
     let all = c.in_ok-from_slice.ensures.items ∙ c.priorities.ensures in
-    let here = place-member c.priorities-priority-items.result.now c.loop-priority.priority-index 0 c.loop-priority-test.true in
+    let here =
+    place-member c.priorities-priority-items.result.now c.loop-priority.priority-index 0 c.loop-priority-test.true in
     let x = get_or c.priorities-priority-items.result.now c.loop-priority.priority-index 0 in
-    let own : IsMember x c.in_ok-from_slice.field-0.items = subst (IsMember x) (c.priorities-priority-items.ensures ∙ sym all) here in
-    subst (IsMember x) (sym (c.deref.ensures.value ∙ c.ascending-priorities.ensures)) (member-ascending x c.in_ok-from_slice.field-0.items own)
+    let own : IsMember x c.in_ok-from_slice.field-0.items =
+    subst (IsMember x) (c.priorities-priority-items.ensures ∙ sym all) here in
+    subst (IsMember x) (sym (c.deref.ensures.value ∙ c.ascending-priorities.ensures))
+    (member-ascending x c.in_ok-from_slice.field-0.items own)
 
 pub returns-clause-ranked : goal.returns-clause-ranked
 returns-clause-ranked c =
@@ -40,7 +43,7 @@ returns-clause-ranked c =
 
 pub returns-clause-few : goal.returns-clause-few
 returns-clause-few c =
-    let few = few_different c.in_ok-from_slice.field-0.items in
+    let few = length-ascending c.in_ok-from_slice.field-0.items in
     let same = ap length c.ascending-priorities.ensures in
     let all = ap length (c.in_ok-from_slice.ensures.items ∙ c.priorities.ensures) in
     let fits = c.ranges.nodes.fits in
