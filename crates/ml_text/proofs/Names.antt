@@ -6,6 +6,8 @@
 --   kind_append               == to add those of two lists is to add those of the one and then those of the other
 --   few_added                 == no more are added than there are names
 --   kind_parts, of_kind_all   == what holds of those of a kind in two lists, and in a list of which it holds altogether
+--   AreAmong ps acts xs       == the propositions are among the names ps, the actions among the names acts
+--   among_parts, kind_among, names_among == so of two lists, and of what is listed of them
 --   Bears P s                 == P holds of the name of the sign s, as whatever it may stand
 --   bears_spelled, bears_short == so it is of names that are spelled as they must be, and of short ones
 use Rattle.std.proofs.Common.{◌≡◌, ℕ, ◌+◌, ◌≤◌, Bool, true, false, if◌then◌else◌, List, [], ◌∷◌, ◌++◌, length, refl, sym, ◌∙◌, ap, subst, arith}
@@ -19,7 +21,7 @@ use Rattle.ml_text.specs.Signs.{OwnSigns, Named, HasShortName, is_reserved, is_u
 use Rattle.ml_text.specs.declared.named_signs.Sign.TheVariants.{Lower, Upper}
 use Rattle.ml_text.proofs.FirstLetters.{none_of}
 use Rattle.ml_text.proofs.FreeWords.{proposition_action, upper_action}
-use Rattle.ml_text.proofs.NameLists.{few_names, names_append}
+use Rattle.ml_text.proofs.NameLists.{added_names, few_names, is_among, names_append}
 use Rattle.ml_text.proofs.NamedSigns.{IsSpelledSign}
 use Rattle.ml_text.proofs.WordNames.{name_length}
 
@@ -109,6 +111,35 @@ module _ (P : KindedName → Type 0) where
   pub of_kind_all : (k : Kind) (xs : List KindedName) → AllByRecursion P xs → AllByRecursion (λ w. P (k, w)) (of_kind k xs)
   of_kind_all k [] all = tt
   of_kind_all k (x ∷ xs) all = kept_all k x.0 x.1 (of_kind k xs) all.0 (of_kind_all k xs all.1)
+
+-- ---- names among others
+
+-- the propositions are among the names ps, and the actions among the names acts
+abbrev pub AreAmong : List (List ℕ) → List (List ℕ) → List KindedName → Type 0
+AreAmong ps acts xs =
+    AllByRecursion (λ p. is_among ps p ≡ true) (of_kind Proposition xs)
+    × AllByRecursion (λ a. is_among acts a ≡ true) (of_kind Action xs)
+
+pub among_parts : (ps acts : List (List ℕ)) (xs ys : List KindedName)
+    → AreAmong ps acts (xs ++ ys)
+    → AreAmong ps acts xs × AreAmong ps acts ys
+among_parts ps acts xs ys among =
+    let props = kind_parts (λ p. is_among ps p ≡ true) Proposition xs ys among.0 in
+    let actions = kind_parts (λ a. is_among acts a ≡ true) Action xs ys among.1 in
+    ((props.0, actions.0), (props.1, actions.1))
+
+-- those of a kind are among what is listed of them
+pub kind_among : {ps : List (List ℕ)} (k : Kind) (xs : List KindedName)
+    → ps ≡ with_names [] (of_kind k xs)
+    → AllByRecursion (λ p. is_among ps p ≡ true) (of_kind k xs)
+kind_among k xs same =
+    subst (λ qs. AllByRecursion (λ p. is_among qs p ≡ true) (of_kind k xs)) (sym same) (added_names [] (of_kind k xs))
+
+pub names_among : {ps acts : List (List ℕ)} (xs : List KindedName)
+    → ps ≡ with_names [] (of_kind Proposition xs)
+    → acts ≡ with_names [] (of_kind Action xs)
+    → AreAmong ps acts xs
+names_among xs props actions = (kind_among Proposition xs props, kind_among Action xs actions)
 
 -- ---- names of signs
 
