@@ -7,7 +7,7 @@ use Rattle.std.proofs.Common.{◌≡◌, ℕ, ◌-◌, true, false, List, ◌++�
 use Rattle.std.specs.List.{AllByRecursion}
 use Rattle.ml_text.specs.declared.token.WordStart.TheVariants.{AnyLetter}
 use Rattle.ml_text.specs.Tokens.{tokens}
-use Rattle.ml_text.specs.Refusals.{NameTooLong, signs_of, IsAccepted}
+use Rattle.ml_text.specs.Refusals.{NameTooLong, IsAccepted}
 use Rattle.ml_text.specs.Items.{bytes_of}
 use Rattle.ml_text.specs.Names.{Action, KindedName, IsShortName}
 use Rattle.ml_text.specs.declared.named_signs.Sign.TheVariants.{Lower, Upper, Added}

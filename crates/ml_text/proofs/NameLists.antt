@@ -2,7 +2,6 @@
 --
 --   is_among ps p           == is p one of the names ps?
 --   added_among, kept_among == a name that is added is among them, and one that was stays
---   Covers ps qs            == the names ps are among the names qs
 --   distinct_with           == no name stands twice when one is added
 --   place_found             == a name among others stands at its place
 --   with_length             == there is one name more at most when one is added
@@ -76,10 +75,6 @@ distinct_with ps p distinct =
     subst (IsDistinct bytes_eq) (sym (cond-false (is_among ps p) ps (ps ++ p ∷ []) fresh))
     (distinct_more ps p distinct fresh))
     (cases_Bool (is_among ps p))
-
--- names that are among the ones are among the others
-abbrev pub Covers : List (List ℕ) → List (List ℕ) → Type 0
-Covers ps qs = (p : List ℕ) → is_among ps p ≡ true → is_among qs p ≡ true
 
 -- ---- places
 
