@@ -6,6 +6,7 @@
 --   canonical_tokens     == these are the tokens of the text alone
 --   canonical_stands     == so the text stands for f
 use Rattle.std.proofs.Common.{◌≡◌, ℕ, true, false, not, List, [], ◌∷◌, ◌++◌, map, refl, sym, ◌∙◌, ap, subst, codes}
+use Rattle.std.specs.Cmp.{first_so}
 use Rattle.std.proofs.lemmas.Bool.{and_parts, false≢true}
 use Rattle.std.proofs.lemmas.List.{append-nil}
 use Rattle.ml_text.specs.Bytes.{is_lower}
@@ -18,11 +19,12 @@ use Rattle.ml_text.specs.Words.{constant_of, is_word_from}
 use Rattle.ml_text.specs.Refusals.{signs_of}
 use Rattle.ml_text.specs.Operators.{spelling_of}
 use Rattle.ml_text.proofs.NamedSigns.{proposition_sign}
+use Rattle.ml_text.proofs.Names.{spelled_parts}
 use Rattle.ml_text.proofs.Pieces.{lone, lone_piece, not_piece, operator_piece, between_same, ends_word, word_piece}
 use Rattle.ml_text.proofs.Scans.{Spelt, spelt_at, Scans, ends, blank, scans_tokens}
 use Rattle.ml_text.proofs.TableItems.{signs_spelt}
 use Rattle.ml_ctl.specs.Formula as plain
-use Rattle.ml_ctl.specs.Formula.{Formula, is_of}
+use Rattle.ml_ctl.specs.Formula.{Formula, is_of, names}
 use Rattle.ml_ctl.specs.declared.term.Tense.{Tense}
 use Rattle.ml_ctl.specs.declared.term.Tense.TheVariants as tense
 use Rattle.ml_ctl.specs.declared.term.Pairing.{Pairing}
@@ -36,7 +38,7 @@ use Rattle.ml_text.specs.Signs.{word_sign}
 use Rattle.ml_text.specs.declared.named_signs.Sign.TheVariants.{Connective, Const, Open, Close, Lower, Added}
 use Rattle.ml_ctl.specs.Signs.{Sign, own, sign_of}
 use Rattle.ml_ctl.specs.declared.signs.Own.TheVariants.{Tensed, Pairs, Quantifies}
-use Rattle.ml_ctl.specs.Spelling.{is_spelled, is_reserved}
+use Rattle.ml_ctl.specs.Spelling.{is_proposition, is_reserved, is_spelled}
 use Rattle.ml_ctl.specs.Grammar as grammar
 use Rattle.ml_ctl.specs.Grammar.{sort_of, Reads, iff_alone, iff, imp_alone, imp, or_alone, or, and_alone, and}
 use Rattle.ml_ctl.specs.declared.language.Sort.{Sort}
@@ -109,17 +111,17 @@ pub scans_formula : (f : Formula) → is_spelled f ≡ true → ScansOf f
 scans_formula (plain.Const true) is rest ss stops r = word_piece LowerCase (codes "tt") rest ss refl stops r
 scans_formula (plain.Const false) is rest ss stops r = word_piece LowerCase (codes "ff") rest ss refl stops r
 scans_formula (plain.Prop p) is rest ss stops r =
-    word_piece LowerCase p rest ss (and_parts (is_word_from is_lower p) (not (is_reserved p)) is).0 stops r
+    word_piece LowerCase p rest ss (first_so (is_word_from is_lower p) (not (is_reserved p)) (first_so (is_proposition p) true is)) stops r
 scans_formula (plain.Not f) is rest ss stops r =
     not_piece LowerCase (canonical_text f ++ rest) (tokens_onto f ss) (scans_formula f is rest ss stops r)
 scans_formula (plain.Binary o f g) is rest ss stops r =
-    let parts = and_parts (is_spelled f) (is_spelled g) is in
+    let parts = spelled_parts own (names f) (names g) is in
     two_scans f g (spelling_of o) (token.Operator o, spelling_of o) rest ss (operator_piece LowerCase o) (scans_formula f parts.0)
     (scans_formula g parts.1) r
 scans_formula (plain.Temporal t f) is rest ss stops r =
     tense_piece t (canonical_text f ++ rest) (tokens_onto f ss) (scans_formula f is rest ss stops r)
 scans_formula (plain.Paired p f g) is rest ss stops r =
-    let parts = and_parts (is_spelled f) (is_spelled g) is in
+    let parts = spelled_parts own (names f) (names g) is in
     two_scans f g (pairing_letter p ∷ []) (lone (pairing_letter p)) rest ss (letter_piece p) (scans_formula f parts.0)
     (scans_formula g parts.1) r
 scans_formula (plain.Quantified q f) is rest ss stops r =
@@ -220,16 +222,16 @@ reads_formula w s (plain.Const false) is stand ss =
     (constant false)
 reads_formula w s (plain.Prop p) is stand ss =
     begins_with w s (word_sign own p) (Lower p) (map sign_spelt ss) (map sign_spelt ss) (plain.Prop p)
-    (proposition_sign own p is) (proposition p)
+    (proposition_sign own p (first_so (is_proposition p) true is)) (proposition p)
 reads_formula w s (plain.Not f) is stand ss = negation (reads_formula w s f is stand ss)
 reads_formula w s (plain.Binary o f g) is stand ss =
-    let parts = and_parts (is_spelled f) (is_spelled g) is in
+    let parts = spelled_parts own (names f) (names g) is in
     let both = and_parts (fits w s f) (fits w s g) stand in
     binary_read o (reads_formula w s f parts.0 both.0 ((token.Operator o, spelling_of o) ∷ tokens_onto g (lone 41 ∷ ss)))
     (reads_formula w s g parts.1 both.1 (lone 41 ∷ ss))
 reads_formula w s (plain.Temporal t f) is stand ss = temporal_back w s t f stand (reads_formula w Path f is) ss
 reads_formula w s (plain.Paired p f g) is stand ss =
-    let parts = and_parts (is_spelled f) (is_spelled g) is in
+    let parts = spelled_parts own (names f) (names g) is in
     paired_back w s p f g stand (reads_formula w Path f parts.0) (reads_formula w Path g parts.1) ss
 reads_formula w s (plain.Quantified q f) is stand ss = quantified_back w s q f stand (reads_formula w Path f is) ss
 

@@ -3,12 +3,14 @@
 --   count_signs ts  == the occurrences that the signs count
 --   counted_items   == the items of a text count what its signs do
 --   counts          == what is read has as many occurrences as its signs count
-use Rattle.std.proofs.Common.{◌≡◌, ℕ, ◌+◌, List, [], ◌∷◌, refl, arith}
+--   few_names       == a formula has no more names than occurrences
+use Rattle.std.proofs.Common.{◌≡◌, ℕ, ◌+◌, ◌≤◌, List, [], ◌∷◌, length, refl, arith, length-append}
 use Rattle.std.proofs.lemmas.List.Sums.{sum_by-cons}
 use Rattle.ml_text.specs.declared.token.Placed.{Placed}
 use Rattle.ml_text.specs.Refusals.{Item, signs_of, counted}
 use Rattle.ml_text.specs.Items as text_items
-use Rattle.ml_ctl.specs.Formula.{Formula, occurrences}
+use Rattle.ml_ctl.specs.Formula as plain
+use Rattle.ml_ctl.specs.Formula.{Formula, names, occurrences}
 use Rattle.ml_ctl.specs.declared.language.Language.{Language}
 use Rattle.ml_ctl.specs.Signs.{Sign}
 use Rattle.ml_ctl.specs.Grammar as grammar
@@ -48,3 +50,12 @@ module _ {w : Language} where
   counts (group r) = let x = counts r in omega (arith, x)
   counts (constant b) = omega arith
   counts (proposition p) = omega arith
+
+pub few_names : (f : Formula) → length (names f) ≤ occurrences f
+few_names (plain.Const b) = omega arith
+few_names (plain.Prop p) = omega arith
+few_names (plain.Not f) = omega (arith, few_names f)
+few_names (plain.Binary op f g) = omega (arith, length-append (names f) (names g), few_names f, few_names g)
+few_names (plain.Temporal t f) = omega (arith, few_names f)
+few_names (plain.Paired p f g) = omega (arith, length-append (names f) (names g), few_names f, few_names g)
+few_names (plain.Quantified q f) = omega (arith, few_names f)

@@ -14,12 +14,10 @@ pub mod Negations
 pub mod GrammarTables
 -- the tables are regular and can be completed
 pub mod CtlGrammar
--- names are spelled as they must be
-pub mod Spelled
+-- the names of what is read are those of its signs
+pub mod ReadNames
 -- what a text counts is what its formula has
 pub mod Counting
--- names in texts and formulas are short
-pub mod ShortNames
 -- texts of a logic stand for its formulas
 pub mod Sorts
 -- from what was read to what is answered

@@ -24,9 +24,8 @@ use Rattle.ml_ctl.specs.WellFormed.{IsWellFormed}
 use Rattle.ml_ctl.specs.private.Tables.{ctl_grammar}
 use Rattle.ml_ctl.proofs.Counting.{counts, counted_items}
 use Rattle.ml_ctl.proofs.CtlGrammar.{ctl_fits}
-use Rattle.ml_ctl.proofs.ShortNames.{text_short}
+use Rattle.ml_ctl.proofs.ReadNames.{text_short, text_spelled}
 use Rattle.ml_ctl.proofs.Sorts.{reads_fits, fits_is_of}
-use Rattle.ml_ctl.proofs.Spelled.{items_spelled, reads_spelled}
 
 abbrev pub ctl_outcome : Language → List ℕ → Outcome Formula
 ctl_outcome w text = text_outcome (ctl_grammar w) (length text) (items text)
@@ -59,7 +58,7 @@ parsed_well w text f parsed =
     record {
       is_small = omega (arith, few, same, has);
       names_are_short = text_short w text f parsed;
-      names_are_spelled = (reads_spelled parsed.stands (items_spelled text (tokens LowerCase text))).0;
+      names_are_spelled = text_spelled w text f parsed;
       is_of_logic = fits_is_of w f (reads_fits parsed.stands);
     }
 

@@ -13,11 +13,13 @@
 --   Pairing        == until (U), release (R) or weak until (W)
 --   Quantifier     == some path (E) or every path (A)
 --   occurrences f  == the number of symbols of f, where iff counts as three
+--   names f        == the names in f, in the order of the text: propositions alone
 --   is_state f     == is f a state formula?
 --   is_linear f    == is f without quantifiers?
 --   Language       == CTL* or LTL
 --   is_of w f      == is f a formula of the language w?
-use Rattle.std.specs.Prelude.{ℕ, ◌+◌, Bool, true, false, ◌&&◌, List}
+use Rattle.std.specs.Prelude.{ℕ, ◌+◌, Bool, true, false, ◌&&◌, List, [], ◌∷◌, ◌++◌}
+use Rattle.ml_text.specs.Names.{KindedName, Proposition}
 use Rattle.ml_text.specs.declared.token.Operator.{Operator}
 use Rattle.ml_text.specs.Operators.{weight}
 use Rattle.ml_ctl.specs.declared.language.Language.{Language}
@@ -43,6 +45,15 @@ occurrences (Binary op f g) = weight op + occurrences f + occurrences g
 occurrences (Temporal t f) = 1 + occurrences f
 occurrences (Paired p f g) = 1 + occurrences f + occurrences g
 occurrences (Quantified q f) = 1 + occurrences f
+
+abbrev pub names : Formula → List KindedName
+names (Const b) = []
+names (Prop p) = (Proposition, p) ∷ []
+names (Not f) = names f
+names (Binary op f g) = names f ++ names g
+names (Temporal t f) = names f
+names (Paired p f g) = names f ++ names g
+names (Quantified q f) = names f
 
 abbrev pub is_state : Formula → Bool
 is_state (Const b) = true

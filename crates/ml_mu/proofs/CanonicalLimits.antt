@@ -7,12 +7,13 @@ use Rattle.std.specs.List.{AllByRecursion}
 use Rattle.ml_text.specs.declared.token.Token.TheVariants as token
 use Rattle.ml_text.specs.Operators.{spelling_of}
 use Rattle.ml_text.proofs.NamedSigns.{closed_word}
+use Rattle.ml_text.proofs.Names.{short_parts}
 use Rattle.ml_text.proofs.Pieces.{lone}
 use Rattle.ml_text.proofs.TableItems.{IsShort, short_word, opening, opens_spelt}
 use Rattle.ml_text.proofs.Scans.{Spelt}
 use Rattle.ml_text.proofs.AcceptedTexts.{weight_some}
 use Rattle.ml_mu.specs.Formula as plain
-use Rattle.ml_mu.specs.Formula.{Formula, Modality, Diamond, Square, Fixpoint, Least, Greatest, occurrences}
+use Rattle.ml_mu.specs.Formula.{Formula, Modality, Diamond, Square, Fixpoint, Least, Greatest, names, occurrences}
 use Rattle.ml_mu.specs.Canonical.{fixpoint_word}
 use Rattle.ml_text.specs.Signs.{bracket_of, word_sign}
 use Rattle.ml_mu.specs.Signs.{own}
@@ -42,14 +43,15 @@ pub tokens_short : (f : Formula)
     → AllByRecursion IsShort (tokens_onto f ss)
 tokens_short (plain.Const true) short ss all = (refl, all)
 tokens_short (plain.Const false) short ss all = (refl, all)
-tokens_short (plain.Prop p) short ss all = (short_word p short, all)
-tokens_short (plain.Var x) short ss all = (short_word x short, all)
+tokens_short (plain.Prop p) short ss all = (short_word p short.0, all)
+tokens_short (plain.Var x) short ss all = (short_word x short.0, all)
 tokens_short (plain.Not f) short ss all = (refl, tokens_short f short ss all)
-tokens_short (plain.Binary o f g) short ss all = (
-  refl,
-  tokens_short f short.0 ((token.Operator o, spelling_of o) ∷ tokens_onto g (lone 41 ∷ ss))
-      (refl, tokens_short g short.1 (lone 41 ∷ ss) (refl, all)),
-)
+tokens_short (plain.Binary o f g) short ss all =
+    let parts = short_parts (names f) (names g) short in (
+      refl,
+      tokens_short f parts.0 ((token.Operator o, spelling_of o) ∷ tokens_onto g (lone 41 ∷ ss))
+          (refl, tokens_short g parts.1 (lone 41 ∷ ss) (refl, all)),
+    )
 tokens_short (plain.Modal m a f) short ss all =
     (refl, action_short a (lone (end_byte m) ∷ tokens_onto f ss) short.0 (refl, tokens_short f short.1 ss all))
 tokens_short (plain.Binder q x f) short ss all =

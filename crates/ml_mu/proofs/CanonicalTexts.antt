@@ -5,11 +5,12 @@
 --   reads_formula        == their signs are read as f
 --   canonical_tokens     == these are the tokens of the text alone
 --   canonical_stands     == so the text stands for f
-use Rattle.std.proofs.Common.{◌≡◌, ℕ, true, false, not, List, [], ◌∷◌, ◌++◌, map, Some, refl, sym, ◌∙◌, ap, subst, if◌then◌else◌, cond, codes, append_assoc, bytes_eq, ⊎_elim}
+use Rattle.std.proofs.Common.{◌≡◌, ℕ, true, false, List, [], ◌∷◌, ◌++◌, map, Some, refl, sym, ◌∙◌, ap, subst, if◌then◌else◌, cond, codes, append_assoc, bytes_eq, ⊎_elim}
+use Rattle.std.specs.Cmp.{first_so}
 use Rattle.std.specs.List.{list_all}
 use Rattle.std.proofs.lemmas.Bool.{and_parts, cases_Bool}
 use Rattle.std.proofs.lemmas.List.{append-nil}
-use Rattle.ml_text.specs.Bytes.{is_lower, is_letter, is_word_byte}
+use Rattle.ml_text.specs.Bytes.{is_letter, is_word_byte}
 use Rattle.ml_text.specs.declared.token.Operator.{Operator}
 use Rattle.ml_text.specs.declared.token.Operator.TheVariants as operator
 use Rattle.ml_text.specs.declared.token.Token.TheVariants as token
@@ -23,15 +24,17 @@ use Rattle.ml_text.proofs.NamedSigns.{action_sign, proposition_sign, upper_word_
 use Rattle.ml_text.proofs.Pieces.{lone, lone_piece, less_piece, not_piece, operator_piece, between_same, ends_word, word_piece}
 use Rattle.ml_text.proofs.Scans.{Spelt, spelt_at, Scans, ends, blank, scans_tokens}
 use Rattle.ml_text.proofs.TableItems.{signs_spelt}
-use Rattle.ml_text.proofs.FirstLetters.{lower_letters, upper_letters}
+use Rattle.ml_text.proofs.FirstLetters.{upper_letters}
+use Rattle.ml_text.proofs.FreeWords.{proposition_letters}
+use Rattle.ml_text.proofs.Names.{spelled_parts}
 use Rattle.ml_mu.specs.Formula as plain
-use Rattle.ml_mu.specs.Formula.{Formula, Modality, Diamond, Square, Fixpoint, Least, Greatest}
+use Rattle.ml_mu.specs.Formula.{Formula, Modality, Diamond, Square, Fixpoint, Least, Greatest, names}
 use Rattle.ml_mu.specs.Canonical.{action_text, modality_text, fixpoint_word, canonical_text}
 use Rattle.ml_text.specs.Signs.{name_of, word_sign}
 use Rattle.ml_text.specs.declared.named_signs.Sign.TheVariants.{Connective, Const, Open, Close, Lower, Upper, Added}
 use Rattle.ml_mu.specs.Signs.{Sign, action_of, own, sign_of}
 use Rattle.ml_mu.specs.declared.signs.Own.TheVariants.{Begins, Ends, Binds, Dot}
-use Rattle.ml_mu.specs.Spelling.{is_variable, is_action, is_spelled, is_reserved}
+use Rattle.ml_mu.specs.Spelling.{is_proposition, is_variable, is_action, is_spelled, is_reserved}
 use Rattle.ml_mu.specs.Grammar as grammar
 use Rattle.ml_mu.specs.Grammar.{Reads, iff_alone, iff, imp_alone, imp, or_alone, or, and, negation, modal, modal_blank, binder, group, constant, proposition, variable}
 use Rattle.ml_mu.proofs.GrammarTables.{un_raised}
@@ -144,13 +147,13 @@ pub scans_formula : (f : Formula)
 scans_formula (plain.Const true) is rest ss stops r = word_piece AnyLetter (codes "tt") rest ss refl stops r
 scans_formula (plain.Const false) is rest ss stops r = word_piece AnyLetter (codes "ff") rest ss refl stops r
 scans_formula (plain.Prop p) is rest ss stops r =
-    word_piece AnyLetter p rest ss (lower_letters p (and_parts (is_word_from is_lower p) (not (is_reserved p)) is).0)
+    word_piece AnyLetter p rest ss (proposition_letters p (is_reserved p) (first_so (is_proposition p) true is))
     stops r
-scans_formula (plain.Var x) is rest ss stops r = word_piece AnyLetter x rest ss (upper_letters x is) stops r
+scans_formula (plain.Var x) is rest ss stops r = word_piece AnyLetter x rest ss (upper_letters x (first_so (is_variable x) true is)) stops r
 scans_formula (plain.Not f) is rest ss stops r =
     not_piece AnyLetter (canonical_text f ++ rest) (tokens_onto f ss) (scans_formula f is rest ss stops r)
 scans_formula (plain.Binary o f g) is rest ss stops r =
-    let parts = and_parts (is_spelled f) (is_spelled g) is in
+    let parts = spelled_parts own (names f) (names g) is in
     let right = scans_formula g parts.1 (41 ∷ rest) (lone 41 ∷ ss) refl (lone_piece AnyLetter 41 rest ss refl r) in
     let sign = operator_piece AnyLetter o (canonical_text g ++ (41 ∷ rest)) (tokens_onto g (lone 41 ∷ ss)) right in
     let after = codes " " ++ (spelling_of o ++ (codes " " ++ (canonical_text g ++ (41 ∷ rest)))) in
@@ -279,13 +282,13 @@ reads_formula (plain.Const false) is ss =
     (constant false)
 reads_formula (plain.Prop p) is ss =
     subst (λ t. Reads grammar.Un (t ∷ map sign_spelt ss) (plain.Prop p) (map sign_spelt ss))
-    (sym (proposition_sign own p is)) (proposition p)
+    (sym (proposition_sign own p (first_so (is_proposition p) true is))) (proposition p)
 reads_formula (plain.Var x) is ss =
-    subst (λ t. Reads grammar.Un (t ∷ map sign_spelt ss) (plain.Var x) (map sign_spelt ss)) (sym (upper_word_sign own refl x is))
+    subst (λ t. Reads grammar.Un (t ∷ map sign_spelt ss) (plain.Var x) (map sign_spelt ss)) (sym (upper_word_sign own refl x (first_so (is_variable x) true is)))
     (variable x)
 reads_formula (plain.Not f) is ss = negation (reads_formula f is ss)
 reads_formula (plain.Binary o f g) is ss =
-    let parts = and_parts (is_spelled f) (is_spelled g) is in
+    let parts = spelled_parts own (names f) (names g) is in
     binary_read o _ _ (map sign_spelt ss) f g
     (reads_formula f parts.0 ((token.Operator o, spelling_of o) ∷ tokens_onto g (lone 41 ∷ ss)))
     (reads_formula g parts.1 (lone 41 ∷ ss))

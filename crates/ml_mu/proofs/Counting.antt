@@ -6,12 +6,13 @@
 --   counted_items              == the items of a text count what its signs do
 --   counts                     == the occurrences of a formula are those of its text
 --   words_are_variables        == the variables of a formula are those of its text
-use Rattle.std.proofs.Common.{◌≡◌, ℕ, suc, ◌+◌, Bool, true, false, List, [], ◌∷◌, ◌++◌, length, Some, refl, sym, ◌∙◌, ap, arith, if◌then◌else◌, append_assoc, length-append}
+--   few_names                  == a formula has no more names than occurrences
+use Rattle.std.proofs.Common.{◌≡◌, ℕ, suc, ◌+◌, ◌≤◌, Bool, true, false, List, [], ◌∷◌, ◌++◌, length, Some, refl, sym, ◌∙◌, ap, arith, if◌then◌else◌, append_assoc, length-append}
 use Rattle.ml_text.specs.declared.token.Operator.TheVariants as operator
 use Rattle.ml_text.specs.declared.token.Placed.{Placed}
 use Rattle.ml_text.specs.Refusals.{Item, signs_of, counted}
 use Rattle.ml_mu.specs.Formula as plain
-use Rattle.ml_mu.specs.Formula.{Formula, occurrences}
+use Rattle.ml_mu.specs.Formula.{Formula, names, occurrences}
 use Rattle.ml_text.specs.declared.named_signs.Sign.TheVariants.{Lower, Upper, Added}
 use Rattle.ml_mu.specs.Signs.{Sign, action_of}
 use Rattle.ml_mu.specs.declared.signs.Own.TheVariants.{Begins, Ends, Blank}
@@ -70,6 +71,15 @@ counts (group r) = let x = counts r in omega (arith, x)
 counts (constant b) = omega arith
 counts (proposition p) = omega arith
 counts (variable x) = omega arith
+
+pub few_names : (f : Formula) → length (names f) ≤ occurrences f
+few_names (plain.Const b) = omega arith
+few_names (plain.Prop p) = omega arith
+few_names (plain.Var x) = omega arith
+few_names (plain.Not f) = omega (arith, few_names f)
+few_names (plain.Binary op f g) = omega (arith, length-append (names f) (names g), few_names f, few_names g)
+few_names (plain.Modal m a f) = omega (arith, few_names f)
+few_names (plain.Binder q x f) = omega (arith, few_names f)
 
 -- ---- variables
 

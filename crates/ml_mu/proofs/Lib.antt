@@ -4,8 +4,8 @@ pub mod GrammarTables
 pub mod MuGrammar
 -- what a text counts is what its formula has
 pub mod Counting
--- names are spelled as they must be
-pub mod Spelled
+-- the names of what is read are those of its signs
+pub mod ReadNames
 -- variables that are fine are bound and positive
 pub mod Fine
 -- variables that are bound and positive are fine
@@ -30,8 +30,6 @@ pub mod CanonicalTexts
 pub mod Monotone
 -- the n-th iterate is a fixpoint, the least or the greatest
 pub mod Fixpoints
--- names in texts and formulas are short
-pub mod ShortNames
 -- canonical texts pass no limit
 pub mod CanonicalLimits
 -- canonical texts are parsed

@@ -31,8 +31,7 @@ use Rattle.ml_mu.specs.WellFormed.{IsWellFormed}
 use Rattle.ml_mu.proofs.Counting.{counts, counted_items, words_are_variables, variables, length-places, length-standings}
 use Rattle.ml_mu.proofs.Fine.{IsWellBound, fine_well}
 use Rattle.ml_mu.proofs.MuGrammar.{mu_regular, mu_completable, stands_read, read_stands}
-use Rattle.ml_mu.proofs.ShortNames.{text_short}
-use Rattle.ml_mu.proofs.Spelled.{items_spelled, reads_spelled}
+use Rattle.ml_mu.proofs.ReadNames.{text_short, text_spelled}
 
 pub mu_fits : Fits mu_grammar IsReadAs
 mu_fits = record { regular = mu_regular; completable = mu_completable; to = read_stands; from = stands_read }
@@ -76,7 +75,7 @@ accepted_fine text f accepted fine =
     record {
       is_small = accepted_small text f accepted;
       names_are_short = text_short text f accepted;
-      names_are_spelled = (reads_spelled accepted.stands (items_spelled text false (tokens AnyLetter text))).0;
+      names_are_spelled = text_spelled text f accepted;
       variables_are_bound = w.bound;
       variables_are_positive = w.positive;
     }

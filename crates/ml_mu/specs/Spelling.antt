@@ -9,12 +9,12 @@
 --   is_action name       == a word that isn't reserved, or `_`
 --   is_spelled f         == are all names in f propositions, variables and actions where they stand as such?
 --   HasShortNames f      == no name in f has more bytes than a name may have
-use Rattle.std.specs.Prelude.{ℕ, ◌≤◌, Bool, true, ◌&&◌, List, length}
-use Rattle.ml_base.specs.Name.{longest_name}
+use Rattle.std.specs.Prelude.{ℕ, Bool, List}
+use Rattle.ml_text.specs.Names.{AreShort, are_spelled}
 use Rattle.ml_text.specs.Signs as signs
 use Rattle.ml_text.specs.Signs.{is_upper_word}
 use Rattle.ml_mu.specs.Signs.{own}
-use Rattle.ml_mu.specs.Formula.{Formula, Const, Prop, Var, Not, Binary, Modal, Binder}
+use Rattle.ml_mu.specs.Formula.{Formula, names}
 
 abbrev pub is_reserved : List ℕ → Bool
 is_reserved name = signs.is_reserved own name
@@ -29,19 +29,7 @@ abbrev pub is_action : List ℕ → Bool
 is_action name = signs.is_action own name
 
 abbrev pub is_spelled : Formula → Bool
-is_spelled (Const b) = true
-is_spelled (Prop p) = is_proposition p
-is_spelled (Var x) = is_variable x
-is_spelled (Not f) = is_spelled f
-is_spelled (Binary op f g) = is_spelled f && is_spelled g
-is_spelled (Modal m a f) = is_action a && is_spelled f
-is_spelled (Binder q x f) = is_variable x && is_spelled f
+is_spelled f = are_spelled own (names f)
 
 abbrev pub HasShortNames : Formula → Type 0
-HasShortNames (Const b) = Unit {0}
-HasShortNames (Prop p) = length p ≤ longest_name
-HasShortNames (Var x) = length x ≤ longest_name
-HasShortNames (Not f) = HasShortNames f
-HasShortNames (Binary op f g) = HasShortNames f × HasShortNames g
-HasShortNames (Modal m a f) = (length a ≤ longest_name) × HasShortNames f
-HasShortNames (Binder q x f) = (length x ≤ longest_name) × HasShortNames f
+HasShortNames f = AreShort (names f)

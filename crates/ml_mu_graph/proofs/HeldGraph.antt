@@ -8,19 +8,18 @@ use Rattle.ml_base.specs.Name.{IsName, IsAction}
 use Rattle.ml_graph.specs.Graph.{Graph}
 use Rattle.ml_text.specs.declared.token.Operator.{Operator}
 use Rattle.ml_text.specs.declared.token.Operator.TheVariants as operator
-use Rattle.ml_text.specs.NameLists.{with_name}
-use Rattle.ml_mu.specs.Formula.{Formula, Const, Prop, Var, Not, Binary, Modal, Binder, occurrences}
+use Rattle.ml_text.specs.Names.{Proposition, Action}
+use Rattle.ml_mu.specs.Formula.{Formula, Const, Prop, Var, Not, Binary, Modal, Binder, names, occurrences}
 use Rattle.ml_mu.specs.declared.term.Fixpoint.{Fixpoint}
 use Rattle.ml_mu.specs.declared.term.Fixpoint.TheVariants.{Least, Greatest}
 use Rattle.ml_mu.specs.Signs.{own}
-use Rattle.ml_mu.specs.Spelling.{HasShortNames, is_action, is_spelled, is_variable}
 use Rattle.ml_mu.specs.WellFormed.{IsWellFormed}
 use Rattle.ml_mu_graph.specs.MuGraph.{IsGraphOf, binder_priority, binders, opposite}
 use Rattle.ml_nodes.specs.private.Connectives.{operator_priorities}
 use Rattle.ml_mu_graph.specs.private.NodeList.{actions_onto, nodes_of, priorities_of, props_onto}
 use Rattle.ml_mu_graph.specs.private.Views.{none_around}
 use Rattle.ml_mu_graph.proofs.Made.{graph_made}
-use Rattle.ml_nodes.proofs.HeldNames.{Every, Fits, IsHeld, action_name, every_append, every_cons, held_lists, proposition_name, with_named}
+use Rattle.ml_nodes.proofs.HeldNames.{Every, Fits, IsHeld, every_append, every_cons, held_lists, listed_named}
 
 -- ---- the graph that the program makes
 
@@ -35,40 +34,6 @@ mu_graph f negated = record {
 
 pub is_mu_graph : (f : Formula) (negated : Bool) → IsGraphOf (mu_graph f negated) f negated
 is_mu_graph f negated = graph_made {g = mu_graph f negated} {t = f} refl refl refl refl refl refl refl
-
--- ---- names
-
-props_named : (f : Formula) → is_spelled f ≡ true → HasShortNames f → (ps : List (List ℕ)) → Every IsName ps
-    → Every IsName (props_onto f ps)
-props_named (Const b) spelled short ps all = all
-props_named (Prop p) spelled short ps all =
-    with_named IsName ps p
-    (proposition_name own p spelled short) all
-props_named (Var x) spelled short ps all = all
-props_named (Not f) spelled short ps all = props_named f spelled short ps all
-props_named (Binary op f h) spelled short ps all =
-    props_named h (second_so (is_spelled f) (is_spelled h) spelled) short.1 (props_onto f ps)
-    (props_named f (first_so (is_spelled f) (is_spelled h) spelled) short.0 ps all)
-props_named (Modal m a f) spelled short ps all =
-    props_named f (second_so (is_action a) (is_spelled f) spelled) short.1 ps all
-props_named (Binder q x f) spelled short ps all =
-    props_named f (second_so (is_variable x) (is_spelled f) spelled) short.1 ps all
-
-actions_named : (f : Formula) → is_spelled f ≡ true → HasShortNames f → (acts : List (List ℕ)) → Every IsAction acts
-    → Every IsAction (actions_onto f acts)
-actions_named (Const b) spelled short acts all = all
-actions_named (Prop p) spelled short acts all = all
-actions_named (Var x) spelled short acts all = all
-actions_named (Not f) spelled short acts all = actions_named f spelled short acts all
-actions_named (Binary op f h) spelled short acts all =
-    actions_named h (second_so (is_spelled f) (is_spelled h) spelled) short.1 (actions_onto f acts)
-    (actions_named f (first_so (is_spelled f) (is_spelled h) spelled) short.0 acts all)
-actions_named (Modal m a f) spelled short acts all =
-    actions_named f (second_so (is_action a) (is_spelled f) spelled) short.1 (with_name acts a)
-    (with_named IsAction acts a
-    (action_name own a (first_so (is_action a) (is_spelled f) spelled) short.0) all)
-actions_named (Binder q x f) spelled short acts all =
-    actions_named f (second_so (is_variable x) (is_spelled f) spelled) short.1 acts all
 
 -- ---- priorities
 
@@ -126,8 +91,8 @@ mu_held f negated well = (
   (
     is_mu_graph f negated,
     held_lists (mu_graph f negated) (is_mu_graph f negated).is_graph
-        (props_named f well.names_are_spelled well.names_are_short [] (λ x m. absurd m))
-        (actions_named f well.names_are_spelled well.names_are_short [] (λ x m. absurd m))
+        (listed_named own Proposition (names f) well.names_are_spelled well.names_are_short)
+        (listed_named own Action (names f) well.names_are_spelled well.names_are_short)
         fits,
   ),
 )

@@ -15,8 +15,6 @@ pub mod CutOpen
 pub mod Told
 -- the lists of a formula's graph
 pub mod NodeLists
--- the names of a formula
-pub mod NameLists
 -- binders around, entered and left
 pub mod Bindings
 -- the graph that was made

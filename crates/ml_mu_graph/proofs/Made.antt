@@ -3,13 +3,13 @@
 --   graph_made  == the graph of lists that are those of a formula is the formula's
 use Rattle.std.proofs.Common.{◌≡◌, ◌*◌, Bool, [], length, sym, ◌∙◌, ap, subst, if◌then◌else◌}
 use Rattle.ml_graph.specs.Graph.{Graph}
-use Rattle.ml_mu.specs.Formula.{Formula}
+use Rattle.ml_text.proofs.Names.{names_among}
+use Rattle.ml_mu.specs.Formula.{Formula, names}
 use Rattle.ml_mu_graph.specs.MuGraph.{binders, IsGraphOf}
 use Rattle.ml_mu_graph.specs.private.NodeList.{props_onto, actions_onto, nodes_of, priorities_of}
 use Rattle.ml_mu_graph.specs.private.Views.{none_around}
 use Rattle.ml_nodes.proofs.StandingLists.{all_stand}
 use Rattle.ml_mu_graph.proofs.InRange.{lists_make_graph}
-use Rattle.ml_mu_graph.proofs.NameLists.{names_among, names_in}
 use Rattle.ml_mu_graph.proofs.NodeLists.{length-nodes, stands}
 
 pub graph_made : {g h : Graph} {t f : Formula} {negated : Bool}
@@ -26,7 +26,7 @@ graph_made {g} {h} {t} {f} {negated} same tree props actions nodes priorities ro
       is_graph = lists_make_graph g t negated props actions nodes priorities root;
       two_for_each = ap length nodes ∙ length-nodes g.props g.actions none_around 0 t;
       stands =
-          stands g (2 * binders t) [] 0 t (names_in t g.props g.actions (names_among t g.props g.actions props actions))
+          stands g (2 * binders t) [] 0 t (names_among (names t) props actions)
           (all_stand g (nodes_of g.props g.actions none_around 0 t) (priorities_of (2 * binders t) 0 t) nodes priorities);
       root_is = root;
     } in

@@ -1,7 +1,6 @@
 -- Where the lists of a formula's graph stand in a graph, the formula stands.
 --
 --   length-nodes, length-priorities == two for each occurrence
---   NamesIn ps acts f   == each name of f is at its place
 --   stands            == the nodes and priorities of a formula say what stands there
 use Rattle.std.proofs.Common.{◌≡◌, ℕ, ◌+◌, ◌*◌, ◌/◌, ◌≤◌, List, [], ◌∷◌, ◌++◌, length, get_or, refl, sym, ◌∙◌, ap, subst, arith, length-append, append_assoc, take, drop}
 use Rattle.std.proofs.Math.Seq.{take-append_seam, drop-append_seam}
@@ -11,7 +10,9 @@ use Rattle.ml_text.specs.declared.token.Operator.{Operator}
 use Rattle.ml_text.specs.declared.token.Operator.TheVariants as operator
 use Rattle.ml_text.specs.Operators.{weight}
 use Rattle.ml_text.specs.NameLists.{place_of}
-use Rattle.ml_mu.specs.Formula.{Formula, Const, Prop, Var, Not, Binary, Modal, Binder, occurrences}
+use Rattle.ml_text.proofs.NameLists.{place_found}
+use Rattle.ml_text.proofs.Names.{AreAmong, among_parts}
+use Rattle.ml_mu.specs.Formula.{Formula, Const, Prop, Var, Not, Binary, Modal, Binder, names, occurrences}
 use Rattle.ml_mu_graph.specs.MuGraph.{Around, binder_of, binder_priority, opposite, StandsAt}
 use Rattle.ml_nodes.specs.private.Connectives.{operator_nodes}
 use Rattle.ml_mu_graph.specs.private.NodeList.{operator_holes, bound, nodes_of, priorities_of}
@@ -43,15 +44,6 @@ length-priorities k d (Binary op f h) =
 length-priorities k d (Modal m a f) = omega (arith, length-priorities k d f)
 length-priorities k d (Binder q x f) = omega (arith, length-priorities k (d + 1) f)
 
-abbrev pub NamesIn : List (List ℕ) → List (List ℕ) → Formula → Type 0
-NamesIn ps acts (Const b) = Unit {0}
-NamesIn ps acts (Prop p) = get_or ps (place_of ps p) [] ≡ p
-NamesIn ps acts (Var x) = Unit {0}
-NamesIn ps acts (Not f) = NamesIn ps acts f
-NamesIn ps acts (Binary op f h) = NamesIn ps acts f × NamesIn ps acts h
-NamesIn ps acts (Modal m a f) = (get_or acts (place_of acts a) [] ≡ a) × NamesIn ps acts f
-NamesIn ps acts (Binder q x f) = NamesIn ps acts f
-
 -- the operands of a connective
 operands : (g : Graph) (k d : ℕ) (bs : Around) (l r : ℕ) (f h : Formula)
     → Stand g l (nodes_of g.props g.actions (binder_of bs) l f ++ nodes_of g.props g.actions (binder_of bs) r h)
@@ -65,36 +57,39 @@ operands g k d bs l r f h s is =
     (length-nodes g.props g.actions (binder_of bs) l f) (length-priorities k d f) is
 
 pub stands : (g : Graph) (k : ℕ) (bs : Around) (i : ℕ) (f : Formula)
-    → NamesIn g.props g.actions f
+    → AreAmong g.props g.actions (names f)
     → Stand g i (nodes_of g.props g.actions (binder_of bs) i f) (priorities_of k (length bs) f)
     → StandsAt g k bs i f
-stands g k bs i (Const b) names s = let p = pair g i _ _ k k [] [] s in (p.first, p.second)
-stands g k bs i (Prop p) names s =
+stands g k bs i (Const b) among s = let p = pair g i _ _ k k [] [] s in (p.first, p.second)
+stands g k bs i (Prop p) among s =
     let q = pair g i _ _ k k [] [] s in
-    ((place_of g.props p, q.first, names), (place_of g.props p, q.second, names))
-stands g k bs i (Var x) names s = let p = pair g i _ _ k k [] [] s in (p.first, p.second)
-stands g k bs i (Not f) names s =
-    let p = pair g i _ _ k k _ _ s in (p.first, p.second, stands g k bs (i + 1) f names p.behind)
-stands g k bs i (Binary op f h) names s =
+    let named = (place_found g.props p among.0.0).named in
+    ((place_of g.props p, q.first, named), (place_of g.props p, q.second, named))
+stands g k bs i (Var x) among s = let p = pair g i _ _ k k [] [] s in (p.first, p.second)
+stands g k bs i (Not f) among s =
+    let p = pair g i _ _ k k _ _ s in (p.first, p.second, stands g k bs (i + 1) f among p.behind)
+stands g k bs i (Binary op f h) among s =
+    let parts = among_parts g.props g.actions (names f) (names h) among in
     let l = i + weight op in
     let r = l + occurrences f in
     let here = joined g k op i l r _ _ s in
     let o = operands g k (length bs) bs l r f h here.behind refl in
-    (here.joins, stands g k bs l f names.0 o.left, stands g k bs r h names.1 o.right)
-stands g k bs i (Modal m a f) names s =
-    let p = pair g i _ _ k k _ _ s in (
-      (place_of g.actions a, p.first, names.0),
-      (place_of g.actions a, p.second, names.0),
-      stands g k bs (i + 1) f names.1 p.behind,
+    (here.joins, stands g k bs l f parts.0 o.left, stands g k bs r h parts.1 o.right)
+stands g k bs i (Modal m a f) among s =
+    let p = pair g i _ _ k k _ _ s in
+    let named = (place_found g.actions a among.1.0).named in (
+      (place_of g.actions a, p.first, named),
+      (place_of g.actions a, p.second, named),
+      stands g k bs (i + 1) f (among.0, among.1.1) p.behind,
     )
-stands g k bs i (Binder q x f) names s =
+stands g k bs i (Binder q x f) among s =
     let inside = nodes_of g.props g.actions (binder_of ((x, i) ∷ bs)) (i + 1) f in
     let d = length bs in
     let p = pair g i _ _ (binder_priority q d) (binder_priority (opposite q) d) inside (priorities_of k (d + 1) f) s in
     let deeper : length bs + 1 ≡ length ((x, i) ∷ bs) = omega arith in (
       p.first,
       p.second,
-      stands g k ((x, i) ∷ bs) (i + 1) f names
+      stands g k ((x, i) ∷ bs) (i + 1) f among
           (subst (λ d. Stand g (i + 1) inside (priorities_of k d f)) deeper p.behind),
     )
 

@@ -8,12 +8,13 @@ use Rattle.ml_text.specs.declared.token.Token.TheVariants as token
 use Rattle.ml_text.specs.declared.token.Placed.{Placed}
 use Rattle.ml_text.specs.Operators.{spelling_of}
 use Rattle.ml_text.proofs.NamedSigns.{closed_word}
+use Rattle.ml_text.proofs.Names.{short_parts}
 use Rattle.ml_text.proofs.Pieces.{lone}
 use Rattle.ml_text.proofs.TableItems.{IsShort, short_word, opening, opens_spelt}
 use Rattle.ml_text.proofs.Scans.{Spelt, spelt_at}
 use Rattle.ml_text.proofs.AcceptedTexts.{weight_some}
 use Rattle.ml_pdl.specs.Formula as plain
-use Rattle.ml_pdl.specs.Formula.{Formula, Program, occurrences, program_occurrences}
+use Rattle.ml_pdl.specs.Formula.{Formula, Program, names, program_names, occurrences, program_occurrences}
 use Rattle.ml_pdl.specs.declared.term.Modality.{Modality}
 use Rattle.ml_pdl.specs.declared.term.Modality.TheVariants.{Diamond, Square}
 use Rattle.ml_pdl.specs.Marks.{is_test_behind, with_mark}
@@ -51,17 +52,19 @@ mutual
       → AllByRecursion IsShort (tokens_onto f ss)
   tokens_short (plain.Const true) short ss all = (refl, all)
   tokens_short (plain.Const false) short ss all = (refl, all)
-  tokens_short (plain.Prop p) short ss all = (short_word p short, all)
+  tokens_short (plain.Prop p) short ss all = (short_word p short.0, all)
   tokens_short (plain.Not f) short ss all = (refl, tokens_short f short ss all)
-  tokens_short (plain.Binary o f g) short ss all = (
-    refl,
-    tokens_short f short.0 ((token.Operator o, spelling_of o) ∷ tokens_onto g (lone 41 ∷ ss))
-        (refl, tokens_short g short.1 (lone 41 ∷ ss) (refl, all)),
-  )
+  tokens_short (plain.Binary o f g) short ss all =
+      let parts = short_parts (names f) (names g) short in (
+        refl,
+        tokens_short f parts.0 ((token.Operator o, spelling_of o) ∷ tokens_onto g (lone 41 ∷ ss))
+            (refl, tokens_short g parts.1 (lone 41 ∷ ss) (refl, all)),
+      )
   tokens_short (plain.Modal m p f) short ss all =
       let after = lone (end_byte m) ∷ tokens_onto f ss in
-      let rest : AllByRecursion IsShort after = (refl, tokens_short f short.1 ss all) in
-      (refl, whole_short p (program_onto p after) after (program_short p short.0 after rest) rest)
+      let parts = short_parts (program_names p) (names f) short in
+      let rest : AllByRecursion IsShort after = (refl, tokens_short f parts.1 ss all) in
+      (refl, whole_short p (program_onto p after) after (program_short p parts.0 after rest) rest)
   tokens_short (plain.Repeat p) short ss all = (refl, (refl, program_short p short (lone 41 ∷ ss) (refl, all)))
 
   pub program_short : (p : Program)
@@ -69,11 +72,13 @@ mutual
       → (ss : List Spelt)
       → AllByRecursion IsShort ss
       → AllByRecursion IsShort (program_onto p ss)
-  program_short (plain.Act a) short ss all = (action_short a short, all)
+  program_short (plain.Act a) short ss all = (action_short a short.0, all)
   program_short (plain.Seq p q) short ss all =
-      (refl, program_short p short.0 (lone 59 ∷ program_onto q (lone 41 ∷ ss)) (refl, program_short q short.1 (lone 41 ∷ ss) (refl, all)))
+      let parts = short_parts (program_names p) (program_names q) short in
+      (refl, program_short p parts.0 (lone 59 ∷ program_onto q (lone 41 ∷ ss)) (refl, program_short q parts.1 (lone 41 ∷ ss) (refl, all)))
   program_short (plain.Alt p q) short ss all =
-      (refl, program_short p short.0 (lone 43 ∷ program_onto q (lone 41 ∷ ss)) (refl, program_short q short.1 (lone 41 ∷ ss) (refl, all)))
+      let parts = short_parts (program_names p) (program_names q) short in
+      (refl, program_short p parts.0 (lone 43 ∷ program_onto q (lone 41 ∷ ss)) (refl, program_short q parts.1 (lone 41 ∷ ss) (refl, all)))
   program_short (plain.Star p) short ss all = program_short p short (lone 42 ∷ ss) (refl, all)
   program_short (plain.Test f) short ss all =
       (refl, tokens_short f short (lone 41 ∷ lone 63 ∷ ss) (refl, (refl, all)))

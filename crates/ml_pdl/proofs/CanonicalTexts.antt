@@ -6,13 +6,14 @@
 --   reads_formula, reads_program        == their signs, with the marks that they have, are read as f, or as p
 --   canonical_tokens                    == these are the tokens of the text alone
 --   canonical_stands                    == so the text stands for f
-use Rattle.std.proofs.Common.{◌≡◌, ℕ, suc, ◌⊎◌, Bool, true, false, ◌==◌, not, List, [], ◌∷◌, ◌++◌, map, Some, refl, sym, ◌∙◌}
+use Rattle.std.proofs.Common.{◌≡◌, ℕ, suc, ◌⊎◌, Bool, true, false, ◌==◌, List, [], ◌∷◌, ◌++◌, map, Some, refl, sym, ◌∙◌}
 use Rattle.std.proofs.Common.{ap, subst, if◌then◌else◌, cond, codes, append_assoc, bytes_eq, ⊎_elim, inl, inr}
+use Rattle.std.specs.Cmp.{first_so}
 use Rattle.std.specs.List.{list_all}
 use Rattle.std.proofs.lemmas.Bool.{and_parts, cases_Bool, cond-false}
 use Rattle.std.proofs.lemmas.List.{append-nil}
 use Rattle.std.proofs.lemmas.Slice.Eq.{bytes_eq-Decides}
-use Rattle.ml_text.specs.Bytes.{is_lower, is_letter, is_word_byte}
+use Rattle.ml_text.specs.Bytes.{is_letter, is_word_byte}
 use Rattle.ml_text.specs.declared.token.Operator.{Operator}
 use Rattle.ml_text.specs.declared.token.Operator.TheVariants as operator
 use Rattle.ml_text.specs.declared.token.Token.TheVariants as token
@@ -26,9 +27,10 @@ use Rattle.ml_text.proofs.ByteKinds.{differs_by}
 use Rattle.ml_text.proofs.NamedSigns.{action_sign, proposition_sign}
 use Rattle.ml_text.proofs.Pieces.{lone, lone_piece, less_piece, not_piece, operator_piece, between_same, ends_word, word_piece}
 use Rattle.ml_text.proofs.Scans.{Spelt, spelt_at, Scans, ends, scans_tokens}
-use Rattle.ml_text.proofs.FirstLetters.{lower_letters}
+use Rattle.ml_text.proofs.FreeWords.{proposition_letters}
+use Rattle.ml_text.proofs.Names.{spelled_parts}
 use Rattle.ml_pdl.specs.Formula as plain
-use Rattle.ml_pdl.specs.Formula.{Formula, Program}
+use Rattle.ml_pdl.specs.Formula.{Formula, Program, names, program_names}
 use Rattle.ml_pdl.specs.declared.term.Modality.{Modality}
 use Rattle.ml_pdl.specs.declared.term.Modality.TheVariants.{Diamond, Square}
 use Rattle.ml_pdl.specs.Canonical.{whole_program, modality_text, canonical_text, program_text}
@@ -39,7 +41,7 @@ use Rattle.ml_pdl.specs.declared.signs.Own.TheVariants.{Begins, Ends, Repeats, Q
 use Rattle.ml_pdl.specs.declared.signs.Mark.{Mark}
 use Rattle.ml_pdl.specs.declared.signs.Mark.TheVariants.{Marked}
 use Rattle.ml_pdl.specs.Marks.{asks, is_test_behind, mark_of, with_mark, marked}
-use Rattle.ml_pdl.specs.Spelling.{is_action, is_spelled, program_is_spelled, is_reserved}
+use Rattle.ml_pdl.specs.Spelling.{is_action, is_proposition, is_reserved, is_spelled, program_is_spelled}
 use Rattle.ml_pdl.specs.Grammar as grammar
 use Rattle.ml_pdl.specs.Grammar.{Reads, iff_alone, iff, imp_alone, imp, or_alone, or, and, negation, modal, modal_blank, repetition, group, constant}
 use Rattle.ml_pdl.specs.Grammar.{proposition, ReadsProgram, alt_alone, alt, seq_alone, seq, star_alone, star, action, test, program_group, tested_group}
@@ -172,7 +174,7 @@ action_starts a rest is =
     (cases_Bool (bytes_eq a (codes "_")))
 
 program_starts : (p : Program) (rest : List ℕ) → program_is_spelled p ≡ true → Starts (program_text p ++ rest)
-program_starts (plain.Act a) rest is = action_starts a rest is
+program_starts (plain.Act a) rest is = action_starts a rest (first_so (is_action a) true is)
 program_starts (plain.Seq p q) rest is = open_starts _
 program_starts (plain.Alt p q) rest is = open_starts _
 program_starts (plain.Star p) rest is =
@@ -237,12 +239,12 @@ mutual
   scans_formula (plain.Const true) is rest ss stops r = word_piece AnyLetter (codes "tt") rest ss refl stops r
   scans_formula (plain.Const false) is rest ss stops r = word_piece AnyLetter (codes "ff") rest ss refl stops r
   scans_formula (plain.Prop p) is rest ss stops r =
-      word_piece AnyLetter p rest ss (lower_letters p (and_parts (is_word_from is_lower p) (not (is_reserved p)) is).0)
+      word_piece AnyLetter p rest ss (proposition_letters p (is_reserved p) (first_so (is_proposition p) true is))
       stops r
   scans_formula (plain.Not f) is rest ss stops r =
       not_piece AnyLetter (canonical_text f ++ rest) (tokens_onto f ss) (scans_formula f is rest ss stops r)
   scans_formula (plain.Binary o f g) is rest ss stops r =
-      let parts = and_parts (is_spelled f) (is_spelled g) is in
+      let parts = spelled_parts added (names f) (names g) is in
       let right = scans_formula g parts.1 (41 ∷ rest) (lone 41 ∷ ss) refl (close_piece rest ss r) in
       let sign = operator_piece AnyLetter o (canonical_text g ++ (41 ∷ rest)) (tokens_onto g (lone 41 ∷ ss)) right in
       let after = codes " " ++ (spelling_of o ++ (codes " " ++ (canonical_text g ++ (41 ∷ rest)))) in
@@ -251,7 +253,7 @@ mutual
       (sym (between_same (canonical_text f) (spelling_of o) (canonical_text g) rest))
       (open_piece (canonical_text f ++ after) (tokens_onto f ((token.Operator o, spelling_of o) ∷ tokens_onto g (lone 41 ∷ ss))) left)
   scans_formula (plain.Modal m p f) is rest ss stops r =
-      let parts = and_parts (program_is_spelled p) (is_spelled f) is in
+      let parts = spelled_parts added (program_names p) (names f) is in
       let behind = scans_formula f parts.1 rest ss stops r in
       let after = lone (end_byte m) ∷ tokens_onto f ss in
       let close = end_piece m (canonical_text f ++ rest) (tokens_onto f ss) behind in
@@ -284,9 +286,9 @@ mutual
       → ends_word rest ≡ true
       → Scans AnyLetter rest ss
       → Scans AnyLetter (program_text p ++ rest) (program_onto p ss)
-  scans_program (plain.Act a) is rest ss stops r = action_piece a rest ss is stops r
+  scans_program (plain.Act a) is rest ss stops r = action_piece a rest ss (first_so (is_action a) true is) stops r
   scans_program (plain.Seq p q) is rest ss stops r =
-      let parts = and_parts (program_is_spelled p) (program_is_spelled q) is in
+      let parts = spelled_parts added (program_names p) (program_names q) is in
       let right = scans_program q parts.1 (41 ∷ rest) (lone 41 ∷ ss) refl (close_piece rest ss r) in
       let after = program_text q ++ (41 ∷ rest) in
       let toks = program_onto q (lone 41 ∷ ss) in
@@ -295,7 +297,7 @@ mutual
       (open_piece (program_text p ++ (59 ∷ after)) (program_onto p (lone 59 ∷ toks))
       (scans_program p parts.0 (59 ∷ after) (lone 59 ∷ toks) refl sign))
   scans_program (plain.Alt p q) is rest ss stops r =
-      let parts = and_parts (program_is_spelled p) (program_is_spelled q) is in
+      let parts = spelled_parts added (program_names p) (program_names q) is in
       let right = scans_program q parts.1 (41 ∷ rest) (lone 41 ∷ ss) refl (close_piece rest ss r) in
       let after = program_text q ++ (41 ∷ rest) in
       let toks = program_onto q (lone 41 ∷ ss) in
@@ -487,21 +489,21 @@ mutual
       subst
       (λ t. Reads grammar.Un (with_mark (is_test_behind 0 (plain_signs ss)) t ∷ signs_with_marks ss) (plain.Prop p)
       (signs_with_marks ss))
-      (sym (proposition_sign added p is)) (proposition p)
+      (sym (proposition_sign added p (first_so (is_proposition p) true is))) (proposition p)
   reads_formula (plain.Not f) is ss = negation (reads_formula f is ss)
   reads_formula (plain.Binary o f g) is ss =
-      let parts = and_parts (is_spelled f) (is_spelled g) is in
+      let parts = spelled_parts added (names f) (names g) is in
       binary_read o _ _ _ (signs_with_marks ss) f g
       (reads_formula f parts.0 ((token.Operator o, spelling_of o) ∷ tokens_onto g (lone 41 ∷ ss)))
       (reads_formula g parts.1 (lone 41 ∷ ss))
   reads_formula (plain.Modal Diamond p f) is ss =
-      let parts = and_parts (program_is_spelled p) (is_spelled f) is in
+      let parts = spelled_parts added (program_names p) (names f) is in
       let after = tokens_onto f ss in
       modal_read Diamond p f (program_onto p (lone 62 ∷ after)) after (signs_with_marks ss)
       (reads_program p parts.0 (lone 62 ∷ after) refl) (reads_formula f parts.1 ss)
       (whole_tokens p (program_onto p (lone 62 ∷ after)) (lone 62 ∷ after)) refl refl
   reads_formula (plain.Modal Square p f) is ss =
-      let parts = and_parts (program_is_spelled p) (is_spelled f) is in
+      let parts = spelled_parts added (program_names p) (names f) is in
       let after = tokens_onto f ss in
       modal_read Square p f (program_onto p (lone 93 ∷ after)) after (signs_with_marks ss)
       (reads_program p parts.0 (lone 93 ∷ after) refl) (reads_formula f parts.1 ss)
@@ -525,16 +527,16 @@ mutual
   reads_program (plain.Act a) is ss no_test =
       star_alone
       (action a (with_mark (is_test_behind 0 (plain_signs ss)) (sign_spelt (action_token a)))
-      (marked_action (is_test_behind 0 (plain_signs ss)) (sign_spelt (action_token a)) ∙ action_read a is))
+      (marked_action (is_test_behind 0 (plain_signs ss)) (sign_spelt (action_token a)) ∙ action_read a (first_so (is_action a) true is)))
   reads_program (plain.Seq p q) is ss no_test =
-      let parts = and_parts (program_is_spelled p) (program_is_spelled q) is in
+      let parts = spelled_parts added (program_names p) (program_names q) is in
       let right = reads_program q parts.1 (lone 41 ∷ ss) refl in
       let left = reads_program p parts.0 (lone 59 ∷ program_onto q (lone 41 ∷ ss)) refl in
       group_read _ _ _ (plain.Seq p q)
       (program_even p (lone 59 ∷ program_onto q (lone 41 ∷ ss)) 0 ∙ program_even q (lone 41 ∷ ss) 0 ∙ no_test)
       (alt_alone (seq (seq_alone left) right))
   reads_program (plain.Alt p q) is ss no_test =
-      let parts = and_parts (program_is_spelled p) (program_is_spelled q) is in
+      let parts = spelled_parts added (program_names p) (program_names q) is in
       let right = reads_program q parts.1 (lone 41 ∷ ss) refl in
       let left = reads_program p parts.0 (lone 43 ∷ program_onto q (lone 41 ∷ ss)) refl in
       group_read _ _ _ (plain.Alt p q)

@@ -3,11 +3,13 @@
 --   count_signs b ts   == the occurrences that the signs count, where b says whether they stand directly behind `<` or `[`
 --   counted_items      == the items of a text count what its signs do
 --   counts, program_counts, tested_counts == what is read has as many occurrences as its signs count
-use Rattle.std.proofs.Common.{◌≡◌, ℕ, ◌+◌, Bool, true, false, List, [], ◌∷◌, Some, refl, arith}
+--   few_names          == a formula has no more names than occurrences
+use Rattle.std.proofs.Common.{◌≡◌, ℕ, ◌+◌, ◌≤◌, Bool, true, false, List, [], ◌∷◌, length, Some, refl, arith, length-append}
 use Rattle.ml_text.specs.declared.token.Placed.{Placed}
 use Rattle.ml_text.specs.Refusals.{Item, signs_of, counted}
 use Rattle.ml_text.specs.Items as text_items
-use Rattle.ml_pdl.specs.Formula.{Formula, Program, occurrences, program_occurrences}
+use Rattle.ml_pdl.specs.Formula as plain
+use Rattle.ml_pdl.specs.Formula.{Formula, Program, names, program_names, occurrences, program_occurrences}
 use Rattle.ml_text.specs.declared.named_signs.Sign.TheVariants.{Lower, Upper, Added}
 use Rattle.ml_pdl.specs.Signs.{Sign, action_of}
 use Rattle.ml_pdl.specs.declared.signs.Own.TheVariants.{Blank}
@@ -112,3 +114,22 @@ mutual
   tested_counts (tested_constant b) = omega arith
   tested_counts (tested_proposition p) = omega arith
   tested_counts (tested_group k r) = let x = counts r in omega (arith, x)
+
+mutual
+  pub few_names : (f : Formula) → length (names f) ≤ occurrences f
+  few_names (plain.Const b) = omega arith
+  few_names (plain.Prop p) = omega arith
+  few_names (plain.Not f) = omega (arith, few_names f)
+  few_names (plain.Binary op f g) = omega (arith, length-append (names f) (names g), few_names f, few_names g)
+  few_names (plain.Modal m p f) =
+      omega (arith, length-append (program_names p) (names f), program_few_names p, few_names f)
+  few_names (plain.Repeat p) = omega (arith, program_few_names p)
+
+  program_few_names : (p : Program) → length (program_names p) ≤ program_occurrences p
+  program_few_names (plain.Act a) = omega arith
+  program_few_names (plain.Seq p q) =
+      omega (arith, length-append (program_names p) (program_names q), program_few_names p, program_few_names q)
+  program_few_names (plain.Alt p q) =
+      omega (arith, length-append (program_names p) (program_names q), program_few_names p, program_few_names q)
+  program_few_names (plain.Star p) = omega (arith, program_few_names p)
+  program_few_names (plain.Test f) = omega (arith, few_names f)

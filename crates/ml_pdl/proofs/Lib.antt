@@ -18,16 +18,14 @@ pub mod StarRelations
 pub mod MeaningFlags
 -- meanings worked out by hand
 mod WorkedMeanings
--- names are spelled as they must be
-pub mod Spelled
+-- the names of what is read are those of its signs
+pub mod ReadNames
 -- negations in front of tests
 pub mod Negations
 -- marks, told from bytes
 pub mod MarkBytes
 -- what a text counts is what its formula has
 pub mod Counting
--- names in texts and formulas are short
-pub mod ShortNames
 -- from what was read to what parse answers
 pub mod Parsed
 -- a text has one answer

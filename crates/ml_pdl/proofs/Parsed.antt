@@ -25,8 +25,7 @@ use Rattle.ml_pdl.specs.Text.{items}
 use Rattle.ml_pdl.specs.WellFormed.{IsWellFormed}
 use Rattle.ml_pdl.proofs.Counting.{counts, counted_items}
 use Rattle.ml_pdl.proofs.Refusals.{pdl_fits, pdl_same, accepted}
-use Rattle.ml_pdl.proofs.ShortNames.{text_short}
-use Rattle.ml_pdl.proofs.Spelled.{items_spelled, reads_spelled}
+use Rattle.ml_pdl.proofs.ReadNames.{text_short, text_spelled}
 
 abbrev pub pdl_outcome : List ℕ → Outcome Phrase
 pdl_outcome text = text_outcome pdl_grammar (length text) (items text)
@@ -59,7 +58,7 @@ parsed_well text f parsed =
     record {
       is_small = omega (arith, few, same, has);
       names_are_short = text_short text f parsed;
-      names_are_spelled = (reads_spelled parsed.stands (items_spelled text false (tokens AnyLetter text))).0;
+      names_are_spelled = text_spelled text f parsed;
     }
 
 pub found_well : (text : List ℕ) (v : Phrase) → pdl_outcome text ≡ Found v → IsWellFormed (formula_of v)

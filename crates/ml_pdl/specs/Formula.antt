@@ -9,7 +9,9 @@
 --   Operator       == and, or, implies, iff (of `ml_text`, since all logics share them)
 --   Modality       == diamond (some run of the program) or square (every run), as trees have it (`src/term.rt`)
 --   occurrences f, program_occurrences p == the number of symbols, where iff counts as three and each action as one
-use Rattle.std.specs.Prelude.{ℕ, ◌+◌, Bool, List}
+--   names f, program_names p             == the names there, in the order of the text: propositions and actions
+use Rattle.std.specs.Prelude.{ℕ, ◌+◌, Bool, List, [], ◌∷◌, ◌++◌}
+use Rattle.ml_text.specs.Names.{KindedName, Proposition, Action}
 use Rattle.ml_text.specs.declared.token.Operator.{Operator}
 use Rattle.ml_text.specs.Operators.{weight}
 use Rattle.ml_pdl.specs.declared.term.Modality.{Modality}
@@ -46,3 +48,19 @@ abbrev mutual
   program_occurrences (Alt p q) = 1 + program_occurrences p + program_occurrences q
   program_occurrences (Star p) = 1 + program_occurrences p
   program_occurrences (Test f) = 1 + occurrences f
+
+abbrev mutual
+  pub names : Formula → List KindedName
+  names (Const b) = []
+  names (Prop p) = (Proposition, p) ∷ []
+  names (Not f) = names f
+  names (Binary op f g) = names f ++ names g
+  names (Modal m p f) = program_names p ++ names f
+  names (Repeat p) = program_names p
+
+  pub program_names : Program → List KindedName
+  program_names (Act a) = (Action, a) ∷ []
+  program_names (Seq p q) = program_names p ++ program_names q
+  program_names (Alt p q) = program_names p ++ program_names q
+  program_names (Star p) = program_names p
+  program_names (Test f) = names f

@@ -52,6 +52,8 @@ pub mod FirstLetters
 pub mod WordNames
 -- names among others, each once
 pub mod NameLists
+-- names with their kinds
+pub mod Names
 -- the items of a text by a table of signs
 pub mod TableItems
 -- texts that keep the limits

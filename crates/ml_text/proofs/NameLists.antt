@@ -2,10 +2,11 @@
 --
 --   is_among ps p           == is p one of the names ps?
 --   added_among, kept_among == a name that is added is among them, and one that was stays
---   Covers ps qs            == the names ps are among the names qs
 --   distinct_with           == no name stands twice when one is added
 --   place_found             == a name among others stands at its place
 --   with_length             == there is one name more at most when one is added
+--   names_append            == to add two lists of names is to add the one and then the other
+--   kept_names, added_names, distinct_names, few_names == the same of a list of names that is added
 use Rattle.std.proofs.Common.{◌≡◌, ℕ, ◌+◌, ◌<◌, ◌≤◌, Bool, true, false, ◌||◌, List, [], ◌∷◌, ◌++◌, length, get_or, Some, None, refl, sym}
 use Rattle.std.proofs.Common.{◌∙◌, ap, subst, ⊎_elim, arith, cond, bytes_eq, unwrap_or, not, nat_lt, lt-ltb, length-append}
 use Rattle.std.specs.Cmp.Lexicographic.{nat_list_eq_equiv}
@@ -15,7 +16,7 @@ use Rattle.std.proofs.lemmas.List.Folds.{list_any-append}
 use Rattle.std.proofs.lemmas.List.Quantifiers.{position-Some}
 use Rattle.std.proofs.lemmas.Map.Keys.{IsDistinct-cons, IsDistinct-head, IsDistinct-tail}
 use Rattle.std.proofs.lemmas.Slice.Eq.{bytes_eq-Decides}
-use Rattle.ml_text.specs.NameLists.{with_name, place_of}
+use Rattle.ml_text.specs.NameLists.{with_name, with_names, place_of}
 
 abbrev pub is_among : List (List ℕ) → List ℕ → Bool
 is_among ps p = list_any (bytes_eq p) ps
@@ -75,10 +76,6 @@ distinct_with ps p distinct =
     (distinct_more ps p distinct fresh))
     (cases_Bool (is_among ps p))
 
--- names that are among the ones are among the others
-abbrev pub Covers : List (List ℕ) → List (List ℕ) → Type 0
-Covers ps qs = (p : List ℕ) → is_among ps p ≡ true → is_among qs p ≡ true
-
 -- ---- places
 
 pub record Found (ps : List (List ℕ)) (p : List ℕ) : Type 0 where
@@ -123,3 +120,28 @@ with_length ps p =
     let more = ap length (cond-false (is_among ps p) ps (ps ++ p ∷ []) fresh) in
     omega (arith, more, length-append ps (p ∷ [])))
     (cases_Bool (is_among ps p))
+
+-- ---- lists that are added
+
+-- to add two lists is to add the one and then the other
+pub names_append : (ps qs rs : List (List ℕ)) → with_names ps (qs ++ rs) ≡ with_names (with_names ps qs) rs
+names_append ps [] rs = refl
+names_append ps (q ∷ qs) rs = names_append (with_name ps q) qs rs
+
+pub kept_names : (ps qs : List (List ℕ)) (p : List ℕ) → is_among ps p ≡ true → is_among (with_names ps qs) p ≡ true
+kept_names ps [] p is = is
+kept_names ps (q ∷ qs) p is = kept_names (with_name ps q) qs p (kept_among ps p q is)
+
+pub distinct_names : (ps qs : List (List ℕ)) → IsDistinct bytes_eq ps → IsDistinct bytes_eq (with_names ps qs)
+distinct_names ps [] distinct = distinct
+distinct_names ps (q ∷ qs) distinct = distinct_names (with_name ps q) qs (distinct_with ps q distinct)
+
+pub few_names : (ps qs : List (List ℕ)) → length (with_names ps qs) ≤ length ps + length qs
+few_names ps [] = omega arith
+few_names ps (q ∷ qs) = omega (arith, with_length ps q, few_names (with_name ps q) qs)
+
+-- a name that is added is among them
+pub added_names : (ps qs : List (List ℕ)) → AllByRecursion (λ q. is_among (with_names ps qs) q ≡ true) qs
+added_names ps [] = tt
+added_names ps (q ∷ qs) =
+    (kept_names (with_name ps q) qs q (added_among ps q), added_names (with_name ps q) qs)

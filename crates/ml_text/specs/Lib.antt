@@ -8,6 +8,8 @@ pub mod Words
 pub mod Operators
 -- signs: those that all logics have, and those that a logic adds
 pub mod Signs
+-- the names in a formula, with their kinds
+pub mod Names
 -- lists of names, and places in them
 pub mod NameLists
 -- what the tokens of a text are: the longest ones, and nothing but blanks between them

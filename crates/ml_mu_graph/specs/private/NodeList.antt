@@ -11,32 +11,21 @@ use Rattle.std.specs.Prelude.{ℕ, ◌+◌, true, false, not, if◌then◌else�
 use Rattle.std.specs.Str.{bytes_eq}
 use Rattle.ml_graph.specs.declared.node.Node.{Node}
 use Rattle.ml_graph.specs.declared.node.Node.TheVariants as node
-use Rattle.ml_text.specs.NameLists.{with_name, place_of}
+use Rattle.ml_text.specs.NameLists.{with_names, place_of}
+use Rattle.ml_text.specs.Names.{Proposition, Action, of_kind}
 use Rattle.ml_text.specs.declared.token.Operator.{Operator}
 use Rattle.ml_text.specs.declared.token.Operator.TheVariants as operator
 use Rattle.ml_text.specs.Operators.{weight}
-use Rattle.ml_mu.specs.Formula.{Formula, Const, Prop, Var, Not, Binary, Modal, Binder, occurrences}
+use Rattle.ml_mu.specs.Formula.{Formula, Const, Prop, Var, Not, Binary, Modal, Binder, names, occurrences}
 use Rattle.ml_nodes.specs.Nodes.{positive, negative, lead_to, constant}
 use Rattle.ml_nodes.specs.private.Connectives.{operator_nodes, operator_priorities}
 use Rattle.ml_mu_graph.specs.MuGraph.{modality, dual, binder_priority, opposite}
 
 abbrev pub props_onto : Formula → List (List ℕ) → List (List ℕ)
-props_onto (Const b) ps = ps
-props_onto (Prop p) ps = with_name ps p
-props_onto (Var x) ps = ps
-props_onto (Not f) ps = props_onto f ps
-props_onto (Binary op f h) ps = props_onto h (props_onto f ps)
-props_onto (Modal m a f) ps = props_onto f ps
-props_onto (Binder q x f) ps = props_onto f ps
+props_onto f ps = with_names ps (of_kind Proposition (names f))
 
 abbrev pub actions_onto : Formula → List (List ℕ) → List (List ℕ)
-actions_onto (Const b) acts = acts
-actions_onto (Prop p) acts = acts
-actions_onto (Var x) acts = acts
-actions_onto (Not f) acts = actions_onto f acts
-actions_onto (Binary op f h) acts = actions_onto h (actions_onto f acts)
-actions_onto (Modal m a f) acts = actions_onto f (with_name acts a)
-actions_onto (Binder q x f) acts = actions_onto f acts
+actions_onto f acts = with_names acts (of_kind Action (names f))
 
 -- as many nodes that say nothing yet as a connective has
 abbrev pub operator_holes : Operator → List Node

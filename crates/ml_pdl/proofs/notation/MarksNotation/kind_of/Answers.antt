@@ -4,8 +4,7 @@ use Rattle.ml_text.proofs.NamedSigns.{can_name, short_name, spelled_sign}
 use Rattle.ml_pdl.specs.Marks.{is_test_behind, with_mark}
 use Rattle.ml_pdl.specs.Signs.{own}
 use Rattle.ml_pdl.specs.Text.{sign_at, sign_by, signs_behind}
-use Rattle.ml_pdl.proofs.ShortNames.{short_mark}
-use Rattle.ml_pdl.proofs.Spelled.{spelled_mark}
+use Rattle.ml_pdl.proofs.ReadNames.{short_mark, spelled_mark}
 use Rattle.ml_pdl.proofs.MarkBytes.{mark_right, token_within}
 use Rattle.ml_pdl.proofs.notation.MarksNotation.kind_of.Goals as goal
 
