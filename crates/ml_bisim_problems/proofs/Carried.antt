@@ -1,6 +1,7 @@
 -- Problems hold at classes where they hold at states.
 --
 --   step_edge, edge_step == a step of a path is an edge by the action `_`
+--   step_of_state        == from a class lead the steps of each of its states; so the quotient of a word is one
 --   admitted_kept        == where a logic speaks of a structure, it speaks of the quotient
 --   finite_closure       == the closure of a problem is finite
 --   problems_carried     == the graph of a problem holds where the problem does, in the structure and in the quotient
@@ -16,8 +17,11 @@ use Rattle.ml_bisim.specs.Quotient.{IsQuotientOf, class_of}
 use Rattle.ml_bisim.proofs.Carrying.{graphs_carried}
 use Rattle.ml_bisim.proofs.Classes.{class_edge, class_low, edge_from, from_leaves, leaves, leaves_from, some_state}
 use Rattle.ml_blocks.proofs.FiniteClosures.{closures_are_finite}
+use Rattle.ml_blocks.proofs.SaidItems.{step_states}
 use Rattle.ml_ctl.specs.Paths.{IsTotal, has_step}
 use Rattle.ml_graph.specs.Graph.{Graph}
+use Rattle.ml_word_graph.specs.Problem as word
+use Rattle.ml_word_graph.specs.Problem.{HasOneStep}
 use Rattle.ml_graph.proofs.References.{root_in_range}
 use Rattle.ml_front.specs.Graphs.{HasLargeClosure, HasLargeClosureAs, IsGraphAs}
 use Rattle.ml_front.specs.Logics.{logic_of}
@@ -25,7 +29,7 @@ use Rattle.ml_front.specs.Problems.{HoldsAt, IsAdmitted}
 use Rattle.ml_front.specs.declared.logic.Logic.{Logic}
 use Rattle.ml_front.specs.declared.logic.Logic.TheVariants as logic
 use Rattle.ml_front.specs.declared.problem.AnyFormula.{AnyFormula}
-use Rattle.ml_front.specs.declared.problem.AnyFormula.TheVariants.{Mu, Pdl, Ctl, Ltl}
+use Rattle.ml_front.specs.declared.problem.AnyFormula.TheVariants.{Mu, Pdl, Ctl, Ltl, Word}
 use Rattle.ml_front.specs.declared.problem.Problem.{Problem}
 use Rattle.ml_front.proofs.Graphs.{graph_is, graphs_agree, is_structure}
 use Rattle.ml_front.proofs.SomeGraph.{some_graph}
@@ -69,11 +73,39 @@ module _ (m q : Structure) (class : List ℕ) (m_ok : IsStructure m) (quotient :
             (subst (λ d. HasEdge q d blank (class_of class step.0)) s.2 edge),
       )
 
+  -- from a class lead the steps of each of its states
+  step_of_state : (s c d : ℕ) → s < m.states → class_of class s ≡ c → has_step q c d ≡ true
+      → (t : ℕ) × (has_step m s t ≡ true) × (class_of class t ≡ d)
+  step_of_state s c d low is step =
+      let edge = (quotient.edges c blank d).0 (step_edge q c d step) in
+      let away = edge_step m edge.0 edge.1 edge.2 in
+      let lows = step_states m m_ok edge.0 edge.1 away in
+      let alike = (quotient.classes.bisimilar edge.0 s lows.0 low).0 (edge.3 ∙ sym is) in
+      let matched = alike.is_bisimulation.forth edge.0 s alike.joined blank edge.1 edge.2 in
+      let there = edge_step m s matched.0 matched.1 in
+      let to = step_states m m_ok s matched.0 there in
+      let same = record { relation = alike.relation; is_bisimulation = alike.is_bisimulation; joined = matched.2 } in
+      (matched.0, there, sym ((quotient.classes.bisimilar edge.1 matched.0 lows.1 to.1).1 same) ∙ edge.4)
+
+  word_too : word.IsAdmitted m → (c : ℕ) → c < q.states → HasOneStep q c
+  word_too admitted c low =
+      let s = some_state m q class m_ok quotient c low in
+      let one = admitted.one_step s.0 s.1 in
+      let edge = class_edge m q class m_ok quotient s.0 blank one.target (step_edge m s.0 one.target one.leads) in
+      record {
+        target = class_of class one.target;
+        leads = edge_step q c (class_of class one.target) (subst (λ d. HasEdge q d blank (class_of class one.target)) s.2 edge);
+        only = λ d step.
+            let t = step_of_state s.0 c d s.1 s.2 step in
+            sym t.2 ∙ ap (class_of class) (one.only t.0 t.1);
+      }
+
   pub kept : (l : Logic) → IsAdmitted l m → IsAdmitted l q
   kept logic.Mu admitted = quotient.is_structure
   kept logic.Pdl admitted = quotient.is_structure
   kept logic.Ctl admitted = record { is_structure = quotient.is_structure; is_total = total_too admitted.is_total }
   kept logic.Ltl admitted = record { is_structure = quotient.is_structure; is_total = total_too admitted.is_total }
+  kept logic.Word admitted = record { is_structure = quotient.is_structure; one_step = word_too admitted }
 
 pub admitted_kept : AdmittedKept
 admitted_kept m q class m_ok quotient l admitted = kept m q class m_ok quotient l admitted
@@ -83,6 +115,7 @@ finite_closure negated (Mu f) = (0, λ none. absurd none)
 finite_closure negated (Pdl f) = (0, λ none. absurd none)
 finite_closure negated (Ctl f) = (closures_are_finite f negated).0
 finite_closure negated (Ltl f) = (closures_are_finite f negated).1
+finite_closure negated (Word f) = (0, λ none. absurd none)
 
 pub problems_carried : ProblemsCarried
 problems_carried m q class quotient p meaningful admitted s low =

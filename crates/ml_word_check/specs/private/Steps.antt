@@ -4,7 +4,7 @@
 --   Tells s es x           == x tells of the edges es where those by `_` from s lead
 --   with_target x t        == with an edge to t more
 --   with_edge rows e       == the rows of all states, with an edge more
---   is_only x              == is it to one state alone?
+--   is_only x, target_of x == is it to one state alone, and to which?
 --   AllTell n es rows      == the rows tell of the edges es, for each state below n
 use Rattle.std.specs.Prelude.{ℕ, ◌≡◌, ◌≢◌, ◌==◌, ◌&&◌, ◌<◌, Bool, true, false, if◌then◌else◌, List, length, get_or, set, bytes_eq, codes}
 use Rattle.std.specs.List.{list_any}
@@ -39,6 +39,11 @@ with_edge rows e =
 pub record AllTell (n : ℕ) (es : List Edge) (rows : List Steps) : Type 0 where
   pub each_state : length rows ≡ n
   pub tell : (s : ℕ) → s < n → Tells s es (get_or rows s Nowhere)
+
+-- where it leads; past the one edge, where nobody asks, to 0
+abbrev pub target_of : Steps → ℕ
+target_of (Only t) = t
+target_of x = 0
 
 abbrev pub is_only : Steps → Bool
 is_only (Only t) = true

@@ -1,0 +1,170 @@
+-- The path from a state, as it is walked.
+--
+--   none_walked == nothing is walked yet
+--   one_more    == one state more
+--   comes_again == where a state comes again, the path is whole
+--   is_word     == and it is the path from the state
+use Rattle.std.proofs.Common.{ℕ, zero, suc, ◌≡◌, ◌-◌, ◌+◌, ◌<◌, ◌≤◌, ◌⊎◌, inl, inr, Bool, true, false, List, [], ◌∷◌, ◌++◌, All, Option, Some, None, length, get_or, set, replicate, cond, ltb, refl, sym, ap, ◌∙◌, subst, ⊎_elim, arith, length-append}
+use Rattle.std.proofs.lemmas.Bool.{cases_eq, cases_lt}
+use Rattle.std.proofs.lemmas.Bool.Decides.{nat_tests}
+use Rattle.std.proofs.lemmas.List.{get_or_append_left, get_or_past, get_or_push, get_or-replicate, get_or-set_other, get_or-set_same, length-replicate, length-set}
+use Rattle.ml_base.specs.Structure.{Structure}
+use Rattle.ml_lists.specs.Lasso.{Lasso, entry}
+use Rattle.ml_lists.proofs.Lasso.{round-entry, round-end}
+use Rattle.ml_ctl.specs.Paths.{has_step}
+use Rattle.ml_word_graph.specs.Problem.{IsWordFrom}
+use Rattle.ml_word_check.specs.private.Walked.{IsWalked, IsWordOf, Leads, lasso_from}
+
+pub none_walked : (next : List ℕ) (s : ℕ) → s < length next → IsWalked next s [] s (replicate (length next) None)
+none_walked next s low = record {
+  as_many = length-replicate (length next) None;
+  inside = low;
+  first = λ some. absurd (omega (arith, some));
+  none_yet = λ none. refl;
+  all_inside = λ i less. absurd (omega (arith, less));
+  steps = λ i less. absurd (omega (arith, less));
+  last = λ i is. absurd (omega (arith, is));
+  stand = λ i less. absurd (omega (arith, less));
+  found = λ t i is. absurd (nowhere t i is (cases_lt t (length next)));
+}
+  where
+    nowhere : (t i : ℕ) → get_or (replicate (length next) None) t None ≡ Some i → (t < length next) ⊎ (length next ≤ t) → ⊥
+    nowhere t i is (inl low) =
+        let none : get_or (replicate (length next) None) t None ≡ None = get_or-replicate (length next) t None None low in
+        let wrong = sym none ∙ is in
+        absurd (cc)
+    nowhere t i is (inr past) =
+        let none : get_or (replicate (length next) None) t None ≡ None = get_or_past (replicate (length next) None) t None (omega (arith, past, length-replicate {A = Option ℕ} (length next) None)) in
+        let wrong = sym none ∙ is in
+        absurd (cc)
+
+module _ (next : List ℕ) (s : ℕ) (xs : List ℕ) (at : ℕ) (places : List (Option ℕ)) (w : IsWalked next s xs at places)
+    (closed : (t : ℕ) → t < length next → get_or next t 0 < length next)
+    (new : get_or places at None ≡ None) where
+  abbrev ys : List ℕ
+  ys = xs ++ at ∷ []
+
+  abbrev marked : List (Option ℕ)
+  marked = set places at (Some (length xs))
+
+  long : length ys ≡ length xs + 1
+  long = length-append xs (at ∷ [])
+
+  old : (i : ℕ) → i < length xs → get_or ys i 0 ≡ get_or xs i 0
+  old i low = get_or_append_left xs (at ∷ []) 0 i low
+
+  at_end : (i : ℕ) → i ≡ length xs → get_or ys i 0 ≡ at
+  at_end i is = get_or_push xs at 0 i is
+
+  -- what holds of the states so far, and of the last one
+  each : (P : ℕ → Type 0) → ((i : ℕ) → i < length xs → P i) → P (length xs) → (i : ℕ) → i < length ys → P i
+  each P before last i low = by_case (cases_eq i (length xs))
+    where
+      by_case : (i ≡ length xs) ⊎ (i ≡ length xs → ⊥) → P i
+      by_case (inl is) = subst P (sym is) last
+      by_case (inr other) = before i (omega (arith, low, long, other))
+
+  apart : (i : ℕ) → i < length xs → get_or xs i 0 ≡ at → ⊥
+  apart i low same =
+      let wrong = sym (w.stand i low) ∙ ap (λ t. get_or places t None) same ∙ new in absurd (cc)
+
+  first_is : 0 < length ys → get_or ys 0 0 ≡ s
+  first_is some = by_case (cases_eq 0 (length xs))
+    where
+      by_case : (0 ≡ length xs) ⊎ (0 ≡ length xs → ⊥) → get_or ys 0 0 ≡ s
+      by_case (inl none) = at_end 0 none ∙ w.none_yet (sym none)
+      by_case (inr other) = old 0 (omega (arith, other)) ∙ w.first (omega (arith, other))
+
+  stands : (i : ℕ) → i < length ys → get_or marked (get_or ys i 0) None ≡ Some i
+  stands = each (λ i. get_or marked (get_or ys i 0) None ≡ Some i)
+      (λ i low.
+      ap (λ t. get_or marked t None) (old i low)
+      ∙ get_or-set_other places at (get_or xs i 0) (Some (length xs)) None (apart i low)
+      ∙ w.stand i low)
+      (ap (λ t. get_or marked t None) (at_end (length xs) refl)
+      ∙ get_or-set_same places at (Some (length xs)) None (omega (arith, w.inside, w.as_many)))
+
+  found_at : (t i : ℕ) → get_or marked t None ≡ Some i → (i < length ys) × (get_or ys i 0 ≡ t)
+  found_at t i is = by_case (cases_eq t at)
+    where
+      by_case : (t ≡ at) ⊎ (t ≡ at → ⊥) → (i < length ys) × (get_or ys i 0 ≡ t)
+      by_case (inl same) =
+          let one : Some (length xs) ≡ Some i =
+          sym (get_or-set_same places at (Some (length xs)) None (omega (arith, w.inside, w.as_many)))
+          ∙ ap (λ k. get_or marked k None) (sym same)
+          ∙ is in
+          let place : i ≡ length xs = cc in
+          (omega (arith, place, long), at_end i place ∙ sym same)
+      by_case (inr other) =
+          let before = w.found t i (sym (get_or-set_other places at t (Some (length xs)) None other) ∙ is) in
+          (omega (arith, before.0, long), old i before.0 ∙ before.1)
+
+  pub one_more : IsWalked next s ys (get_or next at 0) marked
+  one_more = record {
+    as_many = length-set places at (Some (length xs)) ∙ w.as_many;
+    inside = closed at w.inside;
+    first = first_is;
+    none_yet = λ none. absurd (omega (arith, none, long));
+    all_inside = each (λ i. get_or ys i 0 < length next)
+        (λ i low. subst (λ t. t < length next) (sym (old i low)) (w.all_inside i low))
+        (subst (λ t. t < length next) (sym (at_end (length xs) refl)) w.inside);
+    steps = λ i low. step_at i (omega (arith, low, long)) (cases_eq (i + 1) (length xs));
+    last = λ i is. ap (λ t. get_or next t 0) (sym (at_end i (omega (arith, is, long))));
+    stand = stands;
+    found = found_at;
+  }
+    where
+      step_at : (i : ℕ) → i < length xs → (i + 1 ≡ length xs) ⊎ (i + 1 ≡ length xs → ⊥)
+          → get_or ys (i + 1) 0 ≡ get_or next (get_or ys i 0) 0
+      step_at i low (inl is) = at_end (i + 1) is ∙ w.last i is ∙ ap (λ t. get_or next t 0) (sym (old i low))
+      step_at i low (inr other) =
+          old (i + 1) (omega (arith, low, other)) ∙ w.steps i (omega (arith, low, other)) ∙ ap (λ t. get_or next t 0) (sym (old i low))
+
+-- ---- where a state comes again
+
+pub comes_again : (next : List ℕ) (s : ℕ) (xs : List ℕ) (at : ℕ) (places : List (Option ℕ)) (start : ℕ)
+    → IsWalked next s xs at places
+    → get_or places at None ≡ Some start
+    → IsWordOf next s xs start
+comes_again next s xs at places start w is =
+    let here = w.found at start is in record {
+      start_inside = here.0;
+      first = w.first (omega (arith, here.0));
+      all_inside = w.all_inside;
+      steps = w.steps;
+      closes = λ i last. here.1 ∙ w.last i last;
+      differ = λ i j low under same.
+          let one : Some i ≡ Some j =
+          sym (w.stand i low) ∙ ap (λ t. get_or places t None) same ∙ w.stand j under in
+          cc;
+    }
+
+-- ---- the path
+
+pub is_word : (m : Structure) (next : List ℕ) (s : ℕ) (xs : List ℕ) (start : ℕ)
+    → Leads m next
+    → IsWordOf next s xs start
+    → IsWordFrom m s (lasso_from xs start)
+is_word m next s xs start leads w = record {
+  is_path = record {
+    is_path = record { starts = w.start_inside; joined = λ k low. joined k low (cases_eq (k + 1) (length xs)) };
+    starts_at = w.first;
+  };
+  differ = w.differ;
+}
+  where
+    goes : (k : ℕ) → k < length xs → has_step m (get_or xs k 0) (get_or next (get_or xs k 0) 0) ≡ true
+    goes k low = leads.leads (get_or xs k 0) (let inside = w.all_inside k low in omega (arith, inside, leads.each_state))
+
+    joined : (k : ℕ) → k < length xs → (k + 1 ≡ length xs) ⊎ (k + 1 ≡ length xs → ⊥)
+        → has_step m (get_or (xs ++ get_or xs start 0 ∷ []) k 0) (get_or (xs ++ get_or xs start 0 ∷ []) (k + 1) 0) ≡ true
+    joined k low (inl last) =
+        subst (λ t. has_step m t (get_or (xs ++ get_or xs start 0 ∷ []) (k + 1) 0) ≡ true)
+        (sym (round-entry (lasso_from xs start) k low))
+        (subst (λ t. has_step m (get_or xs k 0) t ≡ true)
+        (sym (round-end (lasso_from xs start) (k + 1) last ∙ w.closes k last)) (goes k low))
+    joined k low (inr other) =
+        subst (λ t. has_step m t (get_or (xs ++ get_or xs start 0 ∷ []) (k + 1) 0) ≡ true)
+        (sym (round-entry (lasso_from xs start) k low))
+        (subst (λ t. has_step m (get_or xs k 0) t ≡ true)
+        (sym (round-entry (lasso_from xs start) (k + 1) (omega (arith, low, other)) ∙ w.steps k (omega (arith, low, other)))) (goes k low))

@@ -1,0 +1,2 @@
+-- what private contracts cite
+pub mod private
