@@ -23,7 +23,7 @@ use Rattle.ml_graph.specs.Graph.{node_at, prop_at, action_at}
 use Rattle.ml_graph.specs.CheckingGame.{Vertex, Pair, mover, vertex_number, successors, successors_of, pairs_or_sink, targets, checking_game}
 use Rattle.ml_graph.specs.Laws.{NodeHolds}
 use Rattle.ml_graph.proofs.CheckingGame.{IsVertex, owner_is, moves_are, is_game}
-use Rattle.ml_graph.proofs.OneStep.{one_step, vertex_low}
+use Rattle.ml_graph.proofs.OneStep.{one_step, vertex_low, pair_member}
 use Rattle.ml_graph.proofs.Places.{same_place}
 use Rattle.ml_graph.proofs.References.{prop_in_range, diamond_action, square_action}
 use Rattle.ml_parity.specs.declared.players.Player.TheVariants.{Even, Odd}
@@ -303,10 +303,6 @@ module _ (S : Setting) (t : AtState S) where
           (side_member t.number l r x)))
 
       -- ---- along edges
-
-      pair_member : (e p u : ℕ) (ts : List ℕ) → IsMember u ts → IsMember (Pair u e) (pairs_or_sink e p ts)
-      pair_member e p u [] h = absurd h
-      pair_member e p u (x ∷ xs) h = member-map (λ s. Pair s e) u (x ∷ xs) h
 
       at_diamond : (a to : ℕ) → node_at S.g n ≡ node.Diamond a to → AtNode n
       unfolding next_at

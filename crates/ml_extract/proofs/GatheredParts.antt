@@ -36,6 +36,7 @@ use Rattle.ml_extract.specs.private.Gathered.{names_of, names_in, labelled, acti
 use Rattle.ml_extract.specs.private.Numbered.{AreNumbered}
 use Rattle.ml_extract.proofs.Numbering.{leading_diamond}
 use Rattle.ml_extract.proofs.GrowingFirst.{known, once_differ}
+use Rattle.ml_base.proofs.Edges.{same_edge}
 
 -- ---- names
 
@@ -100,9 +101,6 @@ standing fs v once m = from (member-place v fs m)
         record { place = p.place; stands = stands; is_place = place_is fs v p.place once stands }
 
 -- ---- states
-
-same_edge : (e f : Edge) → e.source ≡ f.source → e.action ≡ f.action → e.target ≡ f.target → e ≡ f
-same_edge e f s a t = λ i. record { source = s i; action = a i; target = t i }
 
 state_of_first : (xs : List State) (i v : ℕ) → slice_get (map (λ (x : State). x.first) xs) i ≡ Some v
     → (x : State) × (slice_get xs i ≡ Some x) × (x.first ≡ v)

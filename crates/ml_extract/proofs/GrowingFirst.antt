@@ -9,37 +9,27 @@
 use Rattle.std.proofs.Common.{ℕ, zero, suc, ◌≡◌, ◌+◌, ◌-◌, ◌<◌, ◌≤◌, ◌==◌, ◌⊎◌, inl, inr, Bool, true, false, not, ◌||◌}
 use Rattle.std.proofs.Common.{List, [], ◌∷◌, ◌++◌, length, get_or, nat_eq, take, refl, sym, ap, ◌∙◌, subst, arith, append_assoc, append-nil, length-append}
 use Rattle.std.specs.List.{flat_map, filter, list_any}
-use Rattle.std.proofs.lemmas.Bool.{cases_eq, cases_lt, cases_Bool, cond-true, cond-false}
+use Rattle.std.proofs.lemmas.Bool.{cases_eq, cases_lt, cases_Bool, cond-true, cond-false, eq-eqb}
 use Rattle.std.proofs.lemmas.Bool.Decides.{nat_tests}
 use Rattle.std.proofs.lemmas.Grind.{flat_map-append, fold-append}
 use Rattle.std.proofs.lemmas.List.{get_or_append_left, get_or-append-add, get_or_past, take_more}
 use Rattle.std.proofs.lemmas.List.Elements.{filter-append}
 use Rattle.ml_lists.specs.BreadthFirst.{each_once, IsBreadthFirst}
 use Rattle.ml_lists.specs.Member.{IsMember}
-use Rattle.ml_lists.proofs.BreadthFirst.{member-each_once, AreOnce, each_once-is}
-use Rattle.ml_lists.proofs.Member.{member-filter_from, member-list_any, place-member}
+use Rattle.ml_lists.proofs.BreadthFirst.{member-each_once, AreOnce, each_once-is, each_once-member}
+use Rattle.ml_lists.proofs.Member.{member-list_any, place-member}
 use Rattle.ml_lists.proofs.Pigeons.{pigeons_list}
 use Rattle.indexmap.specs.IndexSet.{insert_key, insert_all}
 use Rattle.ml_extract.specs.private.Begun.{seen, IsBegun}
 
 -- ---- one entry more
 
-same_true : (v y : ℕ) → v ≡ y → nat_eq v y ≡ true
-same_true v y e = grind (arith, nat_tests)
-
 other_false : (v y : ℕ) → (v ≡ y → ⊥) → nat_eq v y ≡ false
 other_false v y n = grind (arith, nat_tests)
 
--- each entry once: those of the list are members of it
-member-once_from : (v : ℕ) (xs : List ℕ) → IsMember v (each_once xs) → IsMember v xs
-member-once_from v [] m = absurd m
-member-once_from v (x ∷ xs) (inl same) = inl same
-member-once_from v (x ∷ xs) (inr m) =
-    inr (member-once_from v xs (member-filter_from (λ y. not (y == x)) v (each_once xs) m).0)
-
 -- a number that a list has, or hasn't
 pub known : (v : ℕ) (ks : List ℕ) → IsMember v ks → list_any (nat_eq v) ks ≡ true
-known v ks m = member-list_any (nat_eq v) v ks m (same_true v v refl)
+known v ks m = member-list_any (nat_eq v) v ks m (eq-eqb v v refl)
 
 pub unknown : (v : ℕ) (ks : List ℕ) → (IsMember v ks → ⊥) → list_any (nat_eq v) ks ≡ false
 unknown v [] none = refl
@@ -84,7 +74,7 @@ once_more_known (x ∷ xs) v m = by_case (is_member v xs) m (once_more_known xs 
     by_case (inr none) (inr i) again = absurd (none i)
     by_case (inr none) (inl same) again =
         let test : ℕ → Bool = λ y. not (y == x) in
-        let fails : not (v == x) ≡ false = ap not (same_true v x same) in
+        let fails : not (v == x) ≡ false = ap not (eq-eqb v x same) in
         let one : filter test (v ∷ []) ≡ [] = cond-false (test v) (v ∷ []) [] fails in
         ap (λ ys. x ∷ filter test ys) (once_more_new xs v none)
         ∙ ap (λ ys. x ∷ ys)
@@ -103,7 +93,7 @@ pushed xs v = by_case (is_member v xs)
     by_case (inr none) =
         once_more_new xs v none
         ∙ sym (cond-false (list_any (nat_eq v) (each_once xs)) (each_once xs) (each_once xs ++ v ∷ [])
-        (unknown v (each_once xs) (λ m. none (member-once_from v xs m))))
+        (unknown v (each_once xs) (λ m. none (each_once-member v xs m))))
 
 -- so it is with a row more
 pub added : (xs row : List ℕ) → each_once (xs ++ row) ≡ insert_all nat_eq (each_once xs) row

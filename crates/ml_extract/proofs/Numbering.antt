@@ -3,24 +3,23 @@
 --   StateAt         == the state that begins at a position
 --   first_state     == the state 0 begins at position 0
 --   state_for       == each next position is one where a state begins
---   diamond_of      == a node that passes the test is a diamond
 --   last_spread     == the spread of a state is that of its last position
 --   structure_of    == the model is a structure
 --   Earlier, earlier_state == each state but the first is the next one of an earlier state
 --   reached_from_start, has_diamond == each state is reached along edges, each edge has a diamond's action
 --   target_in, target_from == where the edges of an action lead
-use Rattle.std.proofs.Common.{length, ℕ, zero, suc, ◌≡◌, ◌<◌, ◌≤◌, ◌==◌, inl, inr, Bool, true, false, ◌&&◌, List, [], ◌∷◌, get_or, slice_get, map, Some, refl, sym, ap, ◌∙◌, subst, arith}
+use Rattle.std.proofs.Common.{length, ℕ, zero, suc, ◌≡◌, ◌<◌, ◌≤◌, ◌==◌, inl, inr, Bool, true, ◌&&◌, List, [], ◌∷◌, get_or, slice_get, map, Some, refl, sym, ap, ◌∙◌, subst, arith}
 use Rattle.std.specs.List.{zip, filter}
 use Rattle.std.specs.Str.{bytes_eq}
 use Rattle.std.proofs.lemmas.Bool.Decides.{Decides-eqb}
 use Rattle.std.proofs.lemmas.List.{get_or-map, length-map}
 use Rattle.std.proofs.lemmas.Option.{slice_get_within, slice_get-get_or, get_or_from_slice_get}
 use Rattle.std.proofs.lemmas.Slice.Eq.{bytes_eq-Decides}
+use Rattle.std.proofs.lemmas.Bool.{and_parts}
 use Rattle.ml_base.specs.declared.structure.Edge.{Edge}
 use Rattle.ml_base.specs.Structure.{Structure, IsStructure}
 use Rattle.ml_lists.specs.Member.{IsMember}
 use Rattle.ml_lists.proofs.Member.{Image, member-map, member-map_from, member-filter, member-filter_from, member-place, member-All, Place}
-use Rattle.ml_graph.specs.declared.node.Node.{Node}
 use Rattle.ml_graph.specs.declared.node.Node.TheVariants as node
 use Rattle.ml_graph.specs.Graph.{Graph, node_at, action_at}
 use Rattle.ml_graph.specs.CheckingGame.{targets}
@@ -33,6 +32,7 @@ use Rattle.ml_extract.specs.Model.{SpreadAt, Chooses, ends, moves, State, nexts,
 use Rattle.ml_extract.specs.Extraction.{IsReachedFrom, itself, along, HasDiamond}
 use Rattle.ml_lists.proofs.BreadthFirst.{row_inside}
 use Rattle.ml_extract.proofs.Setting.{Setting}
+use Rattle.ml_sequent.proofs.Traces.{diamond_of}
 
 -- the state that begins at position v
 pub record StateAt (xs : List State) (v : ℕ) : Type 0 where
@@ -64,16 +64,6 @@ pub record FirstState (xs : List State) : Type 0 where
 head_state : (xs : List State) (rest : List ℕ) → map (λ (x : State). x.first) xs ≡ 0 ∷ rest → FirstState xs
 head_state [] rest e = cc
 head_state (x ∷ xs) rest e = record { state = x; stands = refl; first_is = let same : x.first ≡ 0 = cc in same }
-
--- a diamond
-pub diamond_of : (x : Node) → is_diamond x ≡ true → (a : ℕ) × ((to : ℕ) × (x ≡ node.Diamond a to))
-diamond_of node.True is = absurd (cc)
-diamond_of node.False is = absurd (cc)
-diamond_of (node.Lit p positive) is = absurd (cc)
-diamond_of (node.And l k) is = absurd (cc)
-diamond_of (node.Or l k) is = absurd (cc)
-diamond_of (node.Diamond a to) is = (a, (to, refl))
-diamond_of (node.Square a to) is = absurd (cc)
 
 -- the first parts of pairs
 pub zip_first : (ds vs : List ℕ) (d v : ℕ) → IsMember (d, v) (zip ds vs) → IsMember d ds
@@ -258,10 +248,6 @@ target_in m i name j inside =
     member-map (λ (x : Edge). x.target) e (filter (leaving i name) m.edges)
     (member-filter (leaving i name) e m.edges inside passes)
 
-both_true : (x y : Bool) → (x && y) ≡ true → (x ≡ true) × (y ≡ true)
-both_true true y e = (refl, e)
-both_true false y e = cc
-
 pub record EdgeTo (m : Structure) (i : ℕ) (name : List ℕ) (j : ℕ) : Type 0 where
   pub edge : Edge
   pub member : IsMember edge m.edges
@@ -277,7 +263,7 @@ target_from m i name j inside =
     of_image : Image (λ (x : Edge). x.target) j (filter (leaving i name) m.edges) → EdgeTo m i name j
     of_image k =
         let kept = member-filter_from (leaving i name) k.from m.edges k.member in
-        let both = both_true (k.from.source == i) (bytes_eq k.from.action name) kept.1 in
+        let both = and_parts (k.from.source == i) (bytes_eq k.from.action name) kept.1 in
         record {
           edge = k.from;
           member = kept.0;

@@ -12,7 +12,7 @@
 use Rattle.std.proofs.Common.{◌≡◌, ◌↔◌, ℕ, zero, suc, ◌+◌, ◌<◌, ◌≤◌, nat_eq, List, [], ◌∷◌, ◌++◌, length, get_or, map, slice_get, Option}
 use Rattle.std.proofs.Common.{Some, None, Contains, Ordering, ⊎_elim, refl, sym, ap, ◌∙◌, subst, arith, length-append}
 use Rattle.std.specs.List.{range_with_len}
-use Rattle.std.specs.Ordering.{nat_cmp, ordering_then}
+use Rattle.std.specs.Ordering.{nat_cmp}
 use Rattle.std.specs.Cmp.{IsTotalOrder}
 use Rattle.std.specs.Cmp.Lexicographic.{slice_cmp}
 use Rattle.std.specs.declared.cmp.Ordering.TheVariants.{Equal}
@@ -20,6 +20,7 @@ use Rattle.std.proofs.lemmas.Bool.{cases_lt}
 use Rattle.std.proofs.lemmas.Cmp.{on_total, then_total, nat_cmp_total, nat_list_cmp_total}
 use Rattle.std.proofs.lemmas.List.{length-map}
 use Rattle.std.proofs.lemmas.Option.{slice_get_within, slice_get-get_or, get_or_from_slice_get}
+use Rattle.std.proofs.lemmas.Map.Lookups.{exact_unsigned, exact_bytes}
 use Rattle.ml_base.specs.EdgeOrder.{edge_cmp}
 use Rattle.ml_base.specs.declared.structure.Edge.{Edge}
 use Rattle.ml_base.specs.Structure.{Structure, IsStructure}
@@ -28,6 +29,7 @@ use Rattle.ml_kripke.proofs.Build as build
 use Rattle.ml_kripke.proofs.OneStructure.{edge_order}
 use Rattle.ml_kripke.proofs.RowOrder.{label_cmp}
 use Rattle.ml_lists.proofs.Members.{member_of_contains, contains_of_member}
+use Rattle.ml_lists.proofs.Orderings.{both_tied}
 use Rattle.ml_graph.specs.Graph.{Graph, size}
 use Rattle.ml_parity.specs.declared.players.Player.{Player}
 use Rattle.ml_parity.specs.declared.players.Player.TheVariants.{Even, Odd}
@@ -46,9 +48,10 @@ use Rattle.ml_extract.specs.private.WonPositions.{AreBehind, IsChosenEnd, IsEnd,
 use Rattle.ml_extract.proofs.Board.{Board, board_of, even_moves}
 use Rattle.ml_extract.proofs.GatheredParts.{is_model, none_gathered, one_more}
 use Rattle.ml_extract.proofs.NumberedStates.{all_looked_at, begins, is_pending, looked_at, states_few}
-use Rattle.ml_extract.proofs.SortedLists.{Sorted, bytes_exact, numbers_exact, sorted, tied_both}
+use Rattle.ml_extract.proofs.SortedLists.{Sorted, sorted}
 use Rattle.ml_extract.proofs.StateParts.{all_in_range, numbered_few, same_lengths, some_state}
 use Rattle.ml_extract.proofs.WonEnds.{behind_even, behind_odd, chosen_before, chosen_end, ends_at_odd, ends_past, goes_on}
+use Rattle.ml_base.proofs.Edges.{edges_exact}
 
 -- ---- where choices end
 
@@ -169,21 +172,10 @@ label_order =
 
 labels_exact : (x y : ℕ × List ℕ) → label_cmp x y ≡ Equal → x ≡ y
 labels_exact x y tied =
-    let both = tied_both (nat_cmp x.0 y.0) (slice_cmp nat_cmp x.1 y.1) tied in
-    let state = numbers_exact x.0 y.0 both.0 in
-    let name = bytes_exact x.1 y.1 both.1 in
+    let both = both_tied (nat_cmp x.0 y.0) (slice_cmp nat_cmp x.1 y.1) tied in
+    let state = exact_unsigned x.0 y.0 both.0 in
+    let name = exact_bytes x.1 y.1 both.1 in
     λ i. (state i, name i)
-
-edges_exact : (e f : Edge) → edge_cmp e f ≡ Equal → e ≡ f
-edges_exact e f tied =
-    let first =
-    tied_both (nat_cmp e.source f.source)
-    (ordering_then (slice_cmp nat_cmp e.action f.action) (nat_cmp e.target f.target)) tied in
-    let second = tied_both (slice_cmp nat_cmp e.action f.action) (nat_cmp e.target f.target) first.1 in
-    let source = numbers_exact e.source f.source first.0 in
-    let action = bytes_exact e.action f.action second.0 in
-    let target = numbers_exact e.target f.target second.1 in
-    λ i. record { source = source i; action = action i; target = target i }
 
 record SomeStructure (n : ℕ) (labels : List (ℕ × List ℕ)) (edges : List Edge) : Type 0 where
   pub structure : Structure

@@ -1,28 +1,13 @@
 -- Each list has one with the same entries that strictly ascends. (General; it would belong to `ml_lists`.)
 --
 --   Sorted xs, sorted        == such a list
---   numbers_exact, bytes_exact == numbers, and bytes, that their order doesn't tell apart are one
---   tied_both                == where neither of two orders tells apart, both tie
-use Rattle.std.proofs.Common.{◌≡◌, ℕ, List, [], ◌∷◌, Ordering, inl, inr, ◌⊎◌, refl, sym, ap, ◌∙◌, subst, arith}
+use Rattle.std.proofs.Common.{◌≡◌, List, [], ◌∷◌, Ordering, inl, inr, ◌⊎◌, refl, sym, ap, ◌∙◌, subst}
 use Rattle.std.specs.Cmp.{IsTotalOrder}
-use Rattle.std.specs.Cmp.Lexicographic.{slice_cmp, bytes_decides, texts_ties}
 use Rattle.std.specs.List.{AllByRecursion}
 use Rattle.std.specs.List.Sorted.{IsStrictlySortedBy}
-use Rattle.std.specs.Ordering.{nat_cmp, ordering_then, ordering_reverse, is_eq}
+use Rattle.std.specs.Ordering.{ordering_reverse}
 use Rattle.std.specs.declared.cmp.Ordering.TheVariants.{Less, Equal, Greater}
-use Rattle.std.proofs.lemmas.Bool.Decides.{nat_tests}
 use Rattle.ml_lists.specs.Member.{IsMember}
-
-pub numbers_exact : (x y : ℕ) → nat_cmp x y ≡ Equal → x ≡ y
-numbers_exact x y e = grind (arith, nat_tests)
-
-pub bytes_exact : (p q : List ℕ) → slice_cmp nat_cmp p q ≡ Equal → p ≡ q
-bytes_exact p q e = (bytes_decides p q).0 (texts_ties p q ∙ ap is_eq e)
-
-pub tied_both : (a b : Ordering) → ordering_then a b ≡ Equal → (a ≡ Equal) × (b ≡ Equal)
-tied_both Less b e = cc
-tied_both Equal b e = (refl, e)
-tied_both Greater b e = cc
 
 module _ {K : Type 0} (R : K → K → Ordering) where
   pub record Sorted (xs : List K) : Type 0 where

@@ -7,10 +7,8 @@
 --   diamonds_fit, are_diamonds, all_begin == what is asked of the diamonds of its spread, and where they lead
 --   gathered_more   == with the parts of one state more
 --   all_in_range    == the labels and edges of all states are of states that there are
-use Rattle.std.proofs.Common.{ℕ, ◌≡◌, ◌+◌, ◌<◌, ◌≤◌, ◌⊎◌, inl, inr, true, false, List, [], ◌∷◌, ◌++◌, length, get_or, slice_get, map, find, nat_le, Some, None, All, refl, sym, ap, ◌∙◌, subst, arith}
+use Rattle.std.proofs.Common.{ℕ, ◌≡◌, ◌+◌, ◌<◌, ◌≤◌, ◌⊎◌, inl, inr, true, List, [], ◌++◌, length, get_or, slice_get, map, Some, None, All, sym, ap, ◌∙◌, subst, arith}
 use Rattle.std.specs.List.{zip, flat_map}
-use Rattle.std.proofs.lemmas.Bool.{cond-false}
-use Rattle.std.proofs.lemmas.Bool.Decides.{nat_tests}
 use Rattle.std.proofs.lemmas.List.{get_or_default, length-map, get_or-map}
 use Rattle.std.proofs.lemmas.Option.{slice_get_within, slice_get-get_or}
 use Rattle.ml_base.specs.declared.structure.Edge.{Edge}
@@ -25,6 +23,7 @@ use Rattle.ml_product.specs.DecisionGame.{diamonds_of}
 use Rattle.ml_product.specs.Arena.{Arena}
 use Rattle.ml_product.proofs.ArenaGame.{same_entry}
 use Rattle.ml_lists.proofs.Member.{member_of_get}
+use Rattle.ml_lists.proofs.Entries.{find-none}
 use Rattle.ml_product.proofs.NeutralPriority.{sequent_low}
 use Rattle.ml_extract.specs.Model.{State, SpreadAt, Chooses, ends as choice_ends, moves, nexts}
 use Rattle.ml_extract.specs.private.Gathered.{names_in, labelled, edge_to, AreGathered}
@@ -40,14 +39,6 @@ first_low : (g : Graph) (a : Arena) (s : GameSolution) (v w : ℕ) (sp : SpreadL
     → v < length a.positions
 first_low g a s v w sp (choice_ends _ _ h none) = slice_get_within a.positions v h.position h.stands
 first_low g a s v w sp (moves _ _ n here _ h is_open rest) = slice_get_within a.positions v h.position h.stands
-
--- no number is at or above a bound
-none_above : (k : ℕ) (xs : List ℕ) → ((v : ℕ) → IsMember v xs → v < k) → find (nat_le k) xs ≡ None
-none_above k [] low = refl
-none_above k (x ∷ xs) low =
-    let here = low x (inl refl) in
-    let below : nat_le k x ≡ false = grind (arith, nat_tests) in
-    cond-false (nat_le k x) (Some x) (find (nat_le k) xs) below ∙ none_above k xs (λ v m. low v (inr m))
 
 module _ (g : Graph) (a : Arena) (s : GameSolution) (fs ls : List ℕ) (n : AreNumbered g a s fs ls) where
   pub same_lengths : length fs ≡ length ls
@@ -173,7 +164,7 @@ module _ (g : Graph) (a : Arena) (s : GameSolution) (fs ls : List ℕ) (n : AreN
   pub all_in_range : (labels : List (ℕ × List ℕ)) (edges : List Edge)
       → AreGathered g a n.states (length ls) labels edges
       → first_bad_state (length ls) labels edges ≡ None
-  all_in_range labels edges old = none_above (length ls) (named_states labels edges) (λ v m. low v m)
+  all_in_range labels edges old = find-none (length ls) (named_states labels edges) (λ v m. low v m)
     where
       of_end : (v : ℕ) (e : Edge) → IsMember e edges → IsMember v (ends e) → v < length ls
       of_end v e m (inl source) = let h = (old.edges_are e).0 m in omega (arith, h.0)

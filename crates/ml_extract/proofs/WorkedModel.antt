@@ -23,6 +23,7 @@ use Rattle.ml_sequent.specs.Spread.{SpreadList, IsSpreadOf, IsOpenOr}
 use Rattle.ml_product.specs.Position.{start_of}
 use Rattle.ml_product.specs.Arena.{Arena}
 use Rattle.ml_extract.specs.Model.{Chooses, ends, State, AreStates, IsLabel, IsModelEdge, IsModelOf}
+use Rattle.ml_base.proofs.Edges.{same_edge}
 
 abbrev graph : Graph
 graph = record { nodes = node.Diamond 0 0 ∷ []; priorities = 0 ∷ []; root = 0; props = []; actions = (95 ∷ []) ∷ [] }
@@ -112,9 +113,6 @@ no_label x name is l = by_member (subst (λ (y : State). IsMember l.literal y.sp
     by_member : IsMember l.literal (0 ∷ []) → ⊥
     by_member (inl same) = let wrong = ap (node_at graph) (sym same) ∙ l.is_positive in cc
     by_member (inr none) = absurd none
-
-same_edge : (e f : Edge) → e.source ≡ f.source → e.action ≡ f.action → e.target ≡ f.target → e ≡ f
-same_edge e f s a t = λ i. record { source = s i; action = a i; target = t i }
 
 is_edge : IsModelEdge graph arena (state ∷ []) loop
 is_edge = record {

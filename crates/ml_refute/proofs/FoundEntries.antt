@@ -28,6 +28,7 @@ use Rattle.ml_product.proofs.ArenaGame.{size_is}
 use Rattle.ml_lists.proofs.Member.{member_of_get}
 use Rattle.ml_product.proofs.OnePlace.{same_place}
 use Rattle.ml_product.proofs.ReachedChoices.{with_side_length, chosen_few}
+use Rattle.ml_product.proofs.Explored.{few_reached}
 use Rattle.ml_refutation.specs.Acceptance.{OfSpread}
 use Rattle.ml_refutation.specs.Refutation.{Decision, Split, Clash, Go}
 use Rattle.ml_sequent.specs.declared.choice.Side.{Side}
@@ -39,20 +40,13 @@ use Rattle.ml_trace.specs.Marks.{priority, FitsBelow}
 use Rattle.ml_refute.specs.Extracted.{IsDecisionAt, IsGo, leads_to}
 use Rattle.ml_refute.specs.private.Found.{OddWins, IsWon, LeavesTo, AreSides, AreNumbered, IsNumberOf, IsDecided, AreLooked, position_at}
 use Rattle.ml_lists.specs.InTurn.{RunsOn}
-use Rattle.ml_refute.proofs.Different.{different_within}
 use Rattle.ml_refute.proofs.Leaving.{placed, reached_here}
 use Rattle.ml_lists.proofs.InTurn.{runs_append, runs_up, runs_has}
+use Rattle.ml_lists.proofs.Entries.{get_grown}
 
 -- ---- lists
 
 -- what stands in a list stands in a longer one
-pub get_grown : {X : Type 0} (xs ys : List X) (k : ℕ) (x : X)
-    → slice_get xs k ≡ Some x
-    → slice_get (xs ++ ys) k ≡ Some x
-get_grown xs ys k x is =
-    let low = slice_get_within xs k x is in
-    slice_get-get_or (xs ++ ys) k x (omega (arith, low, length-append xs ys))
-    ∙ ap Some (get_or_append_left xs ys x k low ∙ get_or_from_slice_get xs k x x is)
 
 -- the last one, put behind
 pub get_last : {X : Type 0} (xs : List X) (x : X) → slice_get (xs ++ x ∷ []) (length xs) ≡ Some x
@@ -133,7 +127,7 @@ module _ (g : Graph) (a : Arena) (s : GameSolution) where
     -- no more vertices are numbered than there are positions
     pub few_numbered : (vs : List ℕ) → AreNumbered g a s vs → length vs ≤ length a.positions
     few_numbered vs numbered =
-        let few = different_within (map (position_at g a) vs) a.positions numbered.are_different
+        let few = few_reached (map (position_at g a) vs) a.positions numbered.are_different
         (λ p m. of_image p (member-map_from (position_at g a) p vs m)) in
         omega (arith, few, length-map vs (position_at g a))
       where
@@ -196,7 +190,12 @@ module _ (g : Graph) (a : Arena) (s : GameSolution) where
               grown = ws_is ∙ sym (append-nil vs);
               numbered = subst (AreNumbered g a s) (sym ws_is) numbered;
               stands = stands;
-              runs_on = inl ((omega (arith, low, ap (λ (xs : List ℕ). length xs) ws_is)), ap (λ (xs : List ℕ). length xs) (sym ws_is));
+              runs_on =
+                  inl (
+                    (omega (arith, low, ap (λ (xs : List ℕ). length xs) ws_is)),
+                    ap (λ (xs : List ℕ). length xs)
+                        (sym ws_is),
+                  );
             }
         by_test (inr fresh) = record {
           more = v ∷ [];
@@ -243,7 +242,8 @@ module _ (g : Graph) (a : Arena) (s : GameSolution) where
 
     pub leave_decided : (vs ws : List ℕ) (v d n : ℕ) (m : Mark)
         → IsWon a s v
-        → (t : OfSpread g (position_at g a v).sequent (position_at g a v).choice (λ sp. IsResolved g sp × LeavesTo g a s v sp d))
+        → (t : OfSpread g (position_at g a v).sequent (position_at g a v).choice
+        (λ sp. IsResolved g sp × LeavesTo g a s v sp d))
         → IsNumberOf g a s vs ws (choice_at s.choice v) n
         → m ≡ t.holds.1.mark
         → IsDecided g a s vs ws v (Go d n m)
@@ -287,7 +287,8 @@ module _ (g : Graph) (a : Arena) (s : GameSolution) where
         → IsDecided g a s vs ws v (Split o left right)
     split_decided vs us ws v o l r left right verdict sides at_left at_right = record {
       more = at_left.more ++ at_right.more;
-      grown = at_right.grown ∙ ap (λ xs. xs ++ at_right.more) at_left.grown ∙ append_assoc vs at_left.more at_right.more;
+      grown = at_right.grown ∙ ap (λ xs. xs ++ at_right.more) at_left.grown
+          ∙ append_assoc vs at_left.more at_right.more;
       numbered = at_right.numbered;
       is_decision = (
         verdict,

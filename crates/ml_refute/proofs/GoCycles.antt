@@ -35,6 +35,7 @@ use Rattle.ml_refute.proofs.GoGraph.{GoArc, go_arc, mark_low}
 use Rattle.ml_refute.proofs.GoSteps.{number_fits}
 use Rattle.ml_refute.proofs.GoWalks.{Walk, ArcWalk}
 use Rattle.ml_product.proofs.OnePlace.{same_place}
+use Rattle.ml_trace.proofs.Priorities.{priority-most}
 
 -- ---- marks
 
@@ -59,10 +60,6 @@ even_agrees top other (Green x) even is = is
 even_agrees top other Neutral even is = even
 
 -- a mark that fits has a number up to neutral
-up_to_top : (top : ℕ) (m : Mark) → FitsBelow top m → priority top m ≤ top
-up_to_top top (Red x) fits = omega arith
-up_to_top top (Green x) fits = omega arith
-up_to_top top Neutral fits = omega arith
 
 -- an even priority isn't good for Odd
 even_is_not_odd : (k : ℕ) → k % 2 ≡ 0 → side k ≡ Odd → ⊥
@@ -196,7 +193,7 @@ module _ (X : Extraction) (solution : IsSolution (game_of X.a) X.s) (odd : winne
           stands = w.walk.stands;
           lowest = w.walk.lowest;
           walk = w.walk.walk;
-          high = w.walk.high in_game high (up_to_top (neutral X.g) lowest_mark fits_game);
+          high = w.walk.high in_game high (priority-most (neutral X.g) lowest_mark fits_game);
           low = w.walk.low;
           meets = λ some. inr (met (cases_eq x.priority in_file) some);
         }

@@ -8,16 +8,16 @@
 --   StepAt, step_at == the moves of a position, one for each diamond
 --   won_not_odd     == Odd doesn't win Won
 --   GoesOn, goes_on == what Odd's choice leads to
-use Rattle.std.proofs.Common.{Bool, true, false, filter, ℕ, zero, suc, ◌≡◌, ◌+◌, ◌<◌, ◌≤◌, ◌⊎◌, inl, inr, List, [], ◌∷◌, Some}
+use Rattle.std.proofs.Common.{ℕ, zero, suc, ◌≡◌, ◌+◌, ◌<◌, ◌≤◌, ◌⊎◌, inl, inr, List, [], ◌∷◌, Some}
 use Rattle.std.proofs.Common.{length, get_or, map, slice_get, Contains, refl, sym, ap, ◌∙◌, subst, arith}
-use Rattle.std.proofs.lemmas.Bool.{cases_Bool, cases_lt, cases_eq, cond-true, cond-false}
+use Rattle.std.proofs.lemmas.Bool.{cases_lt, cases_eq}
 use Rattle.std.proofs.lemmas.List.{get_or-append-add, length-map}
 use Rattle.std.proofs.lemmas.Option.{slice_get_within}
 use Rattle.ml_lists.specs.Ascending.{IsAscending}
 use Rattle.ml_lists.specs.Member.{IsMember}
 use Rattle.ml_lists.specs.Search.{First, IsFirst}
-use Rattle.ml_lists.proofs.Ascending.{ascending_same, ascending-apart}
-use Rattle.ml_lists.proofs.Member.{member-place, place-member, Place, member-filter_from}
+use Rattle.ml_lists.proofs.Ascending.{ascending_same, ascending-apart, ascending-filter}
+use Rattle.ml_lists.proofs.Member.{member-place, place-member, Place}
 use Rattle.ml_lists.proofs.Members.{member_of_contains, contains_of_member}
 use Rattle.ml_lists.proofs.Search.{search_first}
 use Rattle.ml_graph.specs.Graph.{Graph, node_at, odd_priorities}
@@ -45,17 +45,6 @@ use Rattle.ml_trace.specs.Marks.{priority, FitsBelow}
 use Rattle.ml_refute.specs.Extracted.{Chooses, IsLeastTo}
 
 -- the members of an ascending list that pass a test ascend
-filter_ascends : (test : ℕ → Bool) (xs : List ℕ) → IsAscending xs → IsAscending (filter test xs)
-filter_ascends test [] up = tt
-filter_ascends test (x ∷ xs) up = by_test (cases_Bool (test x)) (filter_ascends test xs up.1)
-  where
-    by_test : (test x ≡ true) ⊎ (test x ≡ false) → IsAscending (filter test xs) → IsAscending (filter test (x ∷ xs))
-    by_test (inl passes) rest =
-        subst IsAscending (sym (cond-true (test x) (x ∷ filter test xs) (filter test xs) passes))
-        ((λ y m. up.0 y (member-filter_from test y xs m).0), rest)
-    by_test (inr fails) rest = subst IsAscending (sym (cond-false (test x) (x ∷ filter test xs) (filter test xs) fails))
-        rest
-
 -- ---- one step
 
 -- the transitions of one step are those of another one along the same diamond
@@ -87,7 +76,8 @@ one_target g p q x sp d f h = λ i. record {
         (λ m i. (h.is_step.targets m).1 ((f.is_step.targets m).0 i))
         (λ m i. (f.is_step.targets m).1 ((h.is_step.targets m).0 i))
 
-    steps : (stepped p.history f.letter ≡ stepped p.history h.letter) × (step_mark p.history f.letter ≡ step_mark p.history h.letter)
+    steps : (stepped p.history f.letter ≡ stepped p.history h.letter)
+        × (step_mark p.history f.letter ≡ step_mark p.history h.letter)
     steps = letters_are_sets p.history f.letter h.letter (same_letter g p q x sp d f h) (same_letter g p x q sp d h f)
 
     histories : q.history ≡ x.history
@@ -118,7 +108,8 @@ step_at g positions p sp (d ∷ ds) ts vs (q, rest, f, later, ts_is) vertices k 
     (λ others are j j_low. step_at g positions p sp ds rest others later are j j_low)
   where
     from : AreVertices positions (To q ∷ rest) vs
-        → ((others : List ℕ) → AreVertices positions rest others → (j : ℕ) → j < length others → StepAt g positions p sp ds others j)
+        → ((others : List ℕ) → AreVertices positions rest others → (j : ℕ) → j < length others
+        → StepAt g positions p sp ds others j)
         → StepAt g positions p sp (d ∷ ds) vs k
     from (v, others, v_is, are, vs_is) again = subst (λ x. StepAt g positions p sp (d ∷ ds) x k) (sym vs_is)
         (at k (subst (λ x. k < length x) vs_is low))
@@ -215,7 +206,7 @@ module _ (g : Graph) (a : Arena) (arena : IsArenaOf g a) (s : GameSolution) wher
         at k k_low = step_at g a.positions p sp ds ts vs steps vertices k k_low
 
         ascends : IsAscending ds
-        ascends = subst IsAscending (sym ds_are) (filter_ascends (λ n. is_diamond (node_at g n)) sp.nodes
+        ascends = subst IsAscending (sym ds_are) (ascending-filter (λ n. is_diamond (node_at g n)) sp.nodes
             is_spread.ascends)
 
         of_first : (k : ℕ)
@@ -281,7 +272,8 @@ module _ (g : Graph) (a : Arena) (arena : IsArenaOf g a) (s : GameSolution) wher
                             let up = ascending-apart ds k j.place 0 ascends (omega (arith, le, differ)) j.below in
                             absurd (omega (arith, up, c_is, c_low))
 
-        from : First (λ k. get_or vs k 0 ≡ choice_at s.choice v) (length vs) ⊎ ((k : ℕ) → k < length vs → get_or vs k 0 ≡ choice_at s.choice v → ⊥)
+        from : First (λ k. get_or vs k 0 ≡ choice_at s.choice v) (length vs)
+            ⊎ ((k : ℕ) → k < length vs → get_or vs k 0 ≡ choice_at s.choice v → ⊥)
             → GoesOn v p sp
         from (inl first) = of_first first.place first.is_first (at first.place first.is_first.below)
         from (inr none) = absurd (of_place (member-place (choice_at s.choice v) vs inside))

@@ -35,17 +35,19 @@ use Rattle.ml_refute.specs.private.Found.{OddWins, AreNumbered, AreLooked, posit
 use Rattle.ml_refute.specs.private.PutTogether.{IsMostBelow, HasMarksOf, arcs_at, go_graph_of, IsNamesOf, IsPut, ArePut}
 use Rattle.ml_refute.proofs.Accepted.{extracted_accepted}
 use Rattle.ml_refute.proofs.Entries.{Extraction}
-use Rattle.ml_refute.proofs.FoundEntries.{get_grown, get_last}
+use Rattle.ml_refute.proofs.FoundEntries.{get_last}
 use Rattle.ml_refute.proofs.GoCycles.{no_even_cycle}
 use Rattle.ml_refute.proofs.GoGraph.{is_one_sided}
 use Rattle.ml_lists.proofs.InTurn.{in_turn}
+use Rattle.ml_lists.proofs.Entries.{get_grown}
 use Rattle.ml_refute.proofs.WellFormed.{names_few, decided_at, extracted_refutation}
 
 -- the arcs of entries are those of their decisions
 pub arcs_from_decisions : (top e : ℕ) (es : List Entry)
     → arcs_from top e es ≡ arcs_at top e (map (λ (x : Entry). x.decision) es)
 arcs_from_decisions top e [] = refl
-arcs_from_decisions top e (x ∷ es) = ap (λ (ys : List Arc). arcs_of top e x.decision ++ ys) (arcs_from_decisions top (e + 1) es)
+arcs_from_decisions top e (x ∷ es) =
+    ap (λ (ys : List Arc). arcs_of top e x.decision ++ ys) (arcs_from_decisions top (e + 1) es)
 
 -- the marks of a decision are of so many names
 pub marks_of_decided : (n k : ℕ) (d : Decision) → IsDecided n k d → HasMarksOf n d
@@ -265,7 +267,8 @@ module _ (g : Graph) (a : Arena) (s : GameSolution) (odd : OddWins g a s) (vs : 
         earlier : (k : ℕ)
             → k < length es
             → ((j : ℕ) × (j < k) × IsMember k (get_or (map leads_to ds) j []))
-            → (j : ℕ) × (j < k) × IsMember (get_or (range_with_len 0 (length es)) k 0) (get_or (map (λ (e : Entry). leads_to e.decision) es) j [])
+            → (j : ℕ) × (j < k) × IsMember (get_or (range_with_len 0 (length es)) k 0)
+            (get_or (map (λ (e : Entry). leads_to e.decision) es) j [])
         earlier k low (j, early, inside) = (
           j,
           early,
@@ -315,7 +318,8 @@ module _ (g : Graph) (a : Arena) (s : GameSolution) (odd : OddWins g a s) (vs : 
         starts =
             let low = slice_get_within vs 0 0 looked.numbered.starts in
             let first = get_or_from_slice_get vs 0 0 0 looked.numbered.starts in
-            slice_get-get_or (map (position_at g a) vs) 0 (start_of g) (omega (arith, low, length-map vs (position_at g a)))
+            slice_get-get_or (map (position_at g a) vs) 0 (start_of g)
+            (omega (arith, low, length-map vs (position_at g a)))
             ∙ ap Some (get_or-map (position_at g a) vs 0 0 (start_of g) low ∙ ap (position_at g a) first
             ∙ get_or_from_slice_get a.positions 0 (start_of g) (start_of g) odd.arena.starts)
             ∙ sym odd.arena.starts
@@ -341,7 +345,8 @@ module _ (g : Graph) (a : Arena) (s : GameSolution) (odd : OddWins g a s) (vs : 
     is_refutation longest = record {
       outline = outline;
       heights = subst (λ x. AreLongest x (heights_of (record { names = n; entries = es }))) (sym graph_is)
-          (subst (AreLongest (go_graph_of n ds)) (heights_are (longest.shape.vertices ∙ sym put.an_entry_each)) longest);
+          (subst (AreLongest (go_graph_of n ds)) (heights_are (longest.shape.vertices ∙ sym put.an_entry_each))
+          longest);
     }
 
   -- ---- entries with given heights
@@ -379,7 +384,8 @@ module _ (g : Graph) (a : Arena) (s : GameSolution) (odd : OddWins g a s) (vs : 
           ∙ get_or_from_slice_get (entries_with rows) k e e stands in (
             get_or ds k none_here,
             slice_get-get_or ds k none_here low,
-            subst (IsPut (odd_priorities g) (position_at g a (get_or vs k 0)) (get_or rows k []) (get_or ds k none_here)) is
+            subst (IsPut (odd_priorities g) (position_at g a (get_or vs k 0)) (get_or rows k [])
+                (get_or ds k none_here)) is
                 (record { sequent = refl; traces = refl; heights = refl; decision = refl }),
           )
 
@@ -414,7 +420,8 @@ module _ (g : Graph) (a : Arena) (s : GameSolution) (odd : OddWins g a s) (vs : 
       let long = length-map-range_with_len (entry_with []) 0 (length ds) in
       let is = decided_at blank_extraction g_ok small k (omega (arith, low, long)) in
       let same : (get_or blanks k no_entry).decision ≡ get_or ds k d =
-      ap (λ (e : Entry). e.decision) (get_or-map-range_with_len (entry_with []) 0 (length ds) k k no_entry low (omega arith))
+      ap (λ (e : Entry). e.decision) (get_or-map-range_with_len (entry_with []) 0 (length ds) k k no_entry low
+      (omega arith))
       ∙ get_or_default ds k none_here d low in
       subst (HasMarksOf n) same (marks_of_decided n (length blanks) (get_or blanks k no_entry).decision is)
 

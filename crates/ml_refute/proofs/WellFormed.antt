@@ -12,7 +12,7 @@ use Rattle.std.proofs.lemmas.List.Sums.{length-filter, count_by-le-length}
 use Rattle.std.proofs.lemmas.Nat.{mul-le}
 use Rattle.ml_lists.specs.Ascending.{IsAscending}
 use Rattle.ml_lists.specs.Member.{IsMember}
-use Rattle.ml_lists.proofs.Ascending.{ascending-is, ascending-member}
+use Rattle.ml_lists.proofs.Ascending.{ascending-is, ascending-member, length-ascending}
 use Rattle.ml_lists.proofs.Member.{All-member, member-All, member-place, member-filter_from, member-map_from, Image, Place}
 use Rattle.ml_graph.specs.Graph.{IsGraph, size, odd_priorities, node_at}
 use Rattle.ml_history.specs.HistoryStep.{live}
@@ -20,7 +20,7 @@ use Rattle.ml_history.proofs.definition.NamesInUse.{live-has}
 use Rattle.ml_parity.specs.Heights.{AreLongest}
 use Rattle.ml_parity.proofs.HeightTables.{longest_low}
 use Rattle.ml_product.specs.Position.{Position, automaton_states, with_chosen}
-use Rattle.ml_product.proofs.NeutralPriority.{names_fit}
+use Rattle.ml_product.proofs.NeutralPriority.{names_fit, sequent_low}
 use Rattle.ml_product.proofs.Reached.{Facts, IsTraced}
 use Rattle.ml_refutation.specs.declared.refutation.TheConstants.{NESTING_LIMIT}
 use Rattle.ml_refutation.specs.Acceptance.{entry_at, no_entry, heights_of}
@@ -30,17 +30,16 @@ use Rattle.ml_sequent.specs.declared.choice.Side.TheVariants.{Left, Right}
 use Rattle.ml_sequent.specs.declared.clashes.ClashCause.{ClashCause}
 use Rattle.ml_sequent.specs.declared.clashes.ClashCause.TheVariants as cause
 use Rattle.ml_sequent.specs.Spread.{SpreadList, IsCause, is_diamond}
-use Rattle.ml_sequent.proofs.RankedWalks.{few_different}
 use Rattle.ml_trace.specs.declared.letters.AutomatonState.{AutomatonState}
 use Rattle.ml_trace.specs.Automaton.{states_per_node, state_of, IsGuess}
 use Rattle.ml_trace.specs.Stack as traced
 use Rattle.ml_trace.proofs.Stacks.{member-has}
 use Rattle.std.proofs.lemmas.Option.{slice_get_within}
 use Rattle.ml_product.proofs.OnePlace.{PlaceOf, place_of}
+use Rattle.ml_product.proofs.Explored.{few_reached}
 use Rattle.ml_refute.specs.Extracted.{IsDecisionAt, IsGo, go_graph, traces_of}
 use Rattle.ml_refute.proofs.CarriedNames.{carried_item}
 use Rattle.ml_refute.proofs.Decisions.{chosen_facts, spread_here}
-use Rattle.ml_refute.proofs.Different.{different_within}
 use Rattle.ml_refute.proofs.Entries.{Extraction, At, position_at, facts_at, low_at, is_reached}
 use Rattle.ml_refute.proofs.GoGraph.{is_one_sided, live_within, more_names}
 use Rattle.ml_refute.proofs.GoSteps.{state_numbered, go_mark_in_use}
@@ -58,7 +57,7 @@ module _ (X : Extraction) (g_ok : IsGraph X.g) (small : size X.g ≤ NESTING_LIM
       let odds_few : length (odd_priorities X.g) ≤ size X.g =
       omega (
         arith,
-        few_different (filter (λ d. d % 2 == 1) X.g.priorities),
+        length-ascending (filter (λ d. d % 2 == 1) X.g.priorities),
         length-filter (λ d. d % 2 == 1)
             X.g.priorities,
         count_by-le-length (λ d. d % 2 == 1) X.g.priorities,
@@ -80,7 +79,7 @@ module _ (X : Extraction) (g_ok : IsGraph X.g) (small : size X.g ≤ NESTING_LIM
     live_few : (entry_at X.r e).traces.live ≤ automaton_states X.g
     live_few =
         let here = spread_here X.g X.a X.s X.o.positions h.position (entry_at X.r e).decision h.is_entry.decision in
-        omega (arith, names_fit X.g h.position facts here.spread here.is_spread, live_is)
+        omega (arith, names_fit X.g h.position facts (sequent_low X.g h.position here.spread here.is_spread), live_is)
 
   -- there are no more names than states of the automaton
   pub names_few : X.r.names ≤ 4096 * 4097
@@ -97,7 +96,7 @@ module _ (X : Extraction) (g_ok : IsGraph X.g) (small : size X.g ≤ NESTING_LIM
   -- and no more entries than positions
   entries_low : length X.r.entries ≤ length X.a.positions
   entries_low =
-      let few = different_within X.o.positions X.a.positions X.o.are_different
+      let few = few_reached X.o.positions X.a.positions X.o.are_different
       (λ p m. of_place p (place_of p X.o.positions m)) in
       omega (arith, few, X.o.a_position_each)
     where
@@ -170,7 +169,8 @@ module _ (X : Extraction) (g_ok : IsGraph X.g) (small : size X.g ≤ NESTING_LIM
       where
         of_traced : IsTraced X.g p.sequent x → IsItem (live p.history) (carried_item (state_of (odd_priorities X.g)) x)
         of_traced t =
-            let state_is : state_of (odd_priorities X.g) x.state ≡ t.state = state_numbered X.g x.state t.state t.is_state
+            let state_is : state_of (odd_priorities X.g) x.state ≡ t.state =
+            state_numbered X.g x.state t.state t.is_state
             t.numbered_so in
             record {
               node_fits = subst (λ (y : AutomatonState). Fits y.node) (sym state_is)
