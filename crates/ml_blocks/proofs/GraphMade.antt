@@ -4,9 +4,12 @@
 --   starts        == the problem starts with the node that is meant
 --   graph_made    == a draft of all nodes is the graph
 --   closure_large == a draft that overflows tells of a large closure
-use Rattle.std.proofs.Common.{ℕ, ◌≡◌, Bool, true, List, [], ◌∷◌, ◌++◌, length, Option, None, Some, codes, bytes_eq, refl, sym, ap, ◌∙◌, subst, append-nil}
+use Rattle.std.proofs.Common.{ℕ, ◌≡◌, Bool, List, [], ◌∷◌, ◌++◌, length, Option, None, Some, codes, bytes_eq, refl, sym, ap, ◌∙◌, subst, append-nil}
 use Rattle.std.specs.List.{IsDistinct}
-use Rattle.ml_text.proofs.NameLists.{is_among}
+use Rattle.ml_text.specs.Names.{Proposition, of_kind}
+use Rattle.ml_text.proofs.NameLists.{distinct_names}
+use Rattle.ml_text.proofs.Names.{kind_among}
+use Rattle.ml_ctl.specs.Formula as plain
 use Rattle.ml_ctl.specs.Formula.{Formula}
 use Rattle.ml_graph.specs.Graph.{Graph}
 use Rattle.ml_graph.specs.declared.node.Node.{Node}
@@ -25,12 +28,12 @@ use Rattle.ml_blocks.specs.declared.table.Occurrence.{Occurrence}
 use Rattle.ml_blocks.specs.declared.spots.Spot.{Spot}
 use Rattle.ml_blocks.proofs.ClosedDrafts.{numbered, made_graph, too_large}
 use Rattle.ml_blocks.proofs.KeptFormulas.{formula_is, kept_at}
-use Rattle.ml_blocks.proofs.NameLists.{all_among, distinct_props}
 use Rattle.ml_blocks.proofs.NumberedForms.{begun_fits}
 use Rattle.ml_blocks.proofs.SpreadLists.{stands_in}
 
 pub names_differ : (names : List (List ℕ)) (f : Formula) → names ≡ props_onto f [] → IsDistinct bytes_eq names
-names_differ names f is = subst (IsDistinct bytes_eq) (sym is) (distinct_props f [] none_twice)
+names_differ names f is =
+    subst (IsDistinct bytes_eq) (sym is) (distinct_names [] (of_kind Proposition (plain.names f)) none_twice)
 
 whole_list : {X : Type 0} (here : ℕ → Formula → Option Bool → X) (f : Formula) (o : Option Bool)
     → spread here 0 f o ≡ [] ++ (spread here 0 f o ++ [])
@@ -57,7 +60,7 @@ module _ (f : Formula) (first : Option Bool) (sign : Bool) (max : ℕ) (names : 
         stands_in (occurrence_here names) os 0 f first [] [] (os_are ∙ whole_list (occurrence_here names) f first) refl;
     eventualities =
         stands_in eventualities_here lists 0 f first [] [] (lists_are ∙ whole_list eventualities_here f first) refl;
-    among = all_among f [] names (λ p is. subst (λ ns. is_among ns p ≡ true) (sym names_are) is);
+    among = kind_among Proposition (plain.names f) names_are;
   }
 
   abbrev start : Place

@@ -5,10 +5,9 @@
 --   NamedPlace p  == so it is of each formula of which the node p says something
 --   form_named    == so it is of the nodes to which it leads, and of the proposition that it asks for itself
 --   blocks_held   == so the graph of a closure whose first node is such has names and priorities that a program holds
-use Rattle.std.proofs.Common.{◌≡◌, ℕ, ◌+◌, ◌<◌, ◌≤◌, ◌⊎◌, inl, inr, Bool, true, false, not, if◌then◌else◌, List, [], ◌∷◌, length, get_or, Option, Some, None, refl, sym, subst, ◌∙◌, arith}
+use Rattle.std.proofs.Common.{◌≡◌, ℕ, ◌+◌, ◌<◌, ◌≤◌, ◌⊎◌, inl, inr, Bool, true, false, not, if◌then◌else◌, List, [], ◌∷◌, ◌++◌, length, get_or, Option, Some, None, refl, sym, subst, ◌∙◌, arith}
 use Rattle.std.specs.Bool.{beq}
-use Rattle.std.specs.Cmp.{first_so, second_so}
-use Rattle.std.specs.List.{slice_get}
+use Rattle.std.specs.List.{AllByRecursion, slice_get}
 use Rattle.std.proofs.lemmas.Option.{slice_get-get_or}
 use Rattle.ml_base.specs.Name.{IsName, IsAction}
 use Rattle.ml_lists.specs.Member.{IsMember}
@@ -16,10 +15,11 @@ use Rattle.ml_lists.proofs.Member.{member-place, place-member}
 use Rattle.ml_graph.specs.Graph.{Graph, node_at, prop_at, size}
 use Rattle.ml_graph.specs.declared.node.Node.{Node}
 use Rattle.ml_graph.specs.declared.node.Node.TheVariants as node
+use Rattle.ml_text.specs.Names.{Proposition, of_kind}
 use Rattle.ml_text.specs.declared.token.Operator.{Operator}
 use Rattle.ml_text.specs.declared.token.Operator.TheVariants as operator
 use Rattle.ml_ctl.specs.Formula as plain
-use Rattle.ml_ctl.specs.Formula.{Formula, occurrences}
+use Rattle.ml_ctl.specs.Formula.{Formula, names, occurrences}
 use Rattle.ml_ctl.specs.declared.term.Tense.{Tense}
 use Rattle.ml_ctl.specs.declared.term.Tense.TheVariants as tense
 use Rattle.ml_ctl.specs.declared.term.Pairing.{Pairing}
@@ -35,37 +35,24 @@ use Rattle.ml_blocks.specs.ItemSets.{due, eventualities, next_items, next_of, pu
 use Rattle.ml_blocks.specs.Places as place
 use Rattle.ml_blocks.specs.Places.{Block, Place, Form, block_of, edge_priority, first_open, focus_behind, form_of, form_of_block}
 use Rattle.ml_blocks.specs.Places.{form_of_edge, form_of_formula, form_of_item, forms, is_put_off, path_of, priority_of, priority_of_block}
+use Rattle.ml_text.proofs.Names.{kind_parts}
 use Rattle.ml_blocks.proofs.ItemSetMembers.{next_items-member, put_all-member, without-member}
 use Rattle.ml_blocks.proofs.LocalRuns.{some_open}
 use Rattle.ml_nodes.proofs.HeldClosures.{IsNamedForm, held}
-use Rattle.ml_nodes.proofs.HeldNames.{Every, Fits, IsHeld, every_cons, proposition_name}
+use Rattle.ml_nodes.proofs.HeldNames.{Every, Fits, IsHeld, every_cons, kind_named}
 
 -- ---- formulas
 
 abbrev pub NamesOf : Formula → Type 0
-NamesOf (plain.Const b) = Unit {0}
-NamesOf (plain.Prop p) = IsName p
-NamesOf (plain.Not f) = NamesOf f
-NamesOf (plain.Binary op f g) = NamesOf f × NamesOf g
-NamesOf (plain.Temporal t f) = NamesOf f
-NamesOf (plain.Paired p f g) = NamesOf f × NamesOf g
-NamesOf (plain.Quantified q f) = NamesOf f
+NamesOf f = AllByRecursion IsName (of_kind Proposition (names f))
 
 pub names_of : (f : Formula) → is_spelled f ≡ true → HasShortNames f → NamesOf f
-names_of (plain.Const b) spelled short = tt
-names_of (plain.Prop p) spelled short =
-    proposition_name own p spelled short
-names_of (plain.Not f) spelled short = names_of f spelled short
-names_of (plain.Binary op f g) spelled short = (
-  names_of f (first_so (is_spelled f) (is_spelled g) spelled) short.0,
-  names_of g (second_so (is_spelled f) (is_spelled g) spelled) short.1,
-)
-names_of (plain.Temporal t f) spelled short = names_of f spelled short
-names_of (plain.Paired p f g) spelled short = (
-  names_of f (first_so (is_spelled f) (is_spelled g) spelled) short.0,
-  names_of g (second_so (is_spelled f) (is_spelled g) spelled) short.1,
-)
-names_of (plain.Quantified q f) spelled short = names_of f spelled short
+names_of f spelled short = kind_named own Proposition (names f) spelled short
+
+operands_named : (f g : Formula)
+    → AllByRecursion IsName (of_kind Proposition (names f ++ names g))
+    → NamesOf f × NamesOf g
+operands_named f g all = kind_parts IsName Proposition (names f) (names g) all
 
 -- ---- items
 
@@ -140,11 +127,13 @@ module _ (x : Item) (named : NamedItem x) where
   row_named (plain.Not f) p = one (now (x.number + 1) f (not x.positive)) p
   row_named (plain.Binary op f g) p =
       let l = left_number x.number (plain.Binary op f g) in
-      connective_named op x.positive (now l f) (now (l + occurrences f) g) (λ b. p.0) (λ b. p.1)
+      let parts = operands_named f g p in
+      connective_named op x.positive (now l f) (now (l + occurrences f) g) (λ b. parts.0) (λ b. parts.1)
   row_named (plain.Temporal t f) p = tense_named t (now (x.number + 1) f x.positive) p
   row_named (plain.Paired u f g) p =
       let l = x.number + 1 in
-      pairing_named u (now l f x.positive) (now (l + occurrences f) g x.positive) p.0 p.1
+      let parts = operands_named f g p in
+      pairing_named u (now l f x.positive) (now (l + occurrences f) g x.positive) parts.0 parts.1
 
   operand_named : (f : Formula) → NamesOf f → NamedItem (operand_of x f)
   operand_named (plain.Temporal tense.Next f) p = p
@@ -267,15 +256,16 @@ quantifier_named quantifier.Forall i f sign named =
 
 formula_named : (i : ℕ) (f : Formula) (sign : Bool) → NamesOf f → NamedForm (form_of_formula i f sign)
 formula_named i (plain.Const b) sign named = tt
-formula_named i (plain.Prop p) sign named = named
+formula_named i (plain.Prop p) sign named = named.0
 formula_named i (plain.Not f) sign named = (named, named)
-formula_named i (plain.Binary operator.And f g) true named = named
-formula_named i (plain.Binary operator.And f g) false named = named
-formula_named i (plain.Binary operator.Or f g) true named = named
-formula_named i (plain.Binary operator.Or f g) false named = named
-formula_named i (plain.Binary operator.Implies f g) true named = named
-formula_named i (plain.Binary operator.Implies f g) false named = named
-formula_named i (plain.Binary operator.Iff f g) sign named = (named, named)
+formula_named i (plain.Binary operator.And f g) true named = operands_named f g named
+formula_named i (plain.Binary operator.And f g) false named = operands_named f g named
+formula_named i (plain.Binary operator.Or f g) true named = operands_named f g named
+formula_named i (plain.Binary operator.Or f g) false named = operands_named f g named
+formula_named i (plain.Binary operator.Implies f g) true named = operands_named f g named
+formula_named i (plain.Binary operator.Implies f g) false named = operands_named f g named
+formula_named i (plain.Binary operator.Iff f g) sign named =
+    let parts = operands_named f g named in (parts, parts)
 formula_named i (plain.Quantified q f) sign named = quantifier_named q i f sign named
 formula_named i (plain.Temporal t f) sign named = tt
 formula_named i (plain.Paired p f g) sign named = tt

@@ -52,8 +52,6 @@ pub mod EdgesGoOn
 pub mod SpreadLists
 -- what is kept of a formula, and of its operands
 pub mod KeptFormulas
--- the names of propositions
-pub mod NameLists
 -- rows by numbers
 pub mod NumberedRows
 -- lists of items by numbers

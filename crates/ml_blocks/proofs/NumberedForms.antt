@@ -165,7 +165,7 @@ module _ (K : Kept) (start : Place) where
       (occurrence_here K.names n f o).right)
       ≡ form_of_formula n f sign
   state_same n (Const c) o sign s = refl
-  state_same n (Prop p) o sign s = ap (λ name. node.Literal name sign) (place_found K.names p s.among).named
+  state_same n (Prop p) o sign s = ap (λ name. node.Literal name sign) (place_found K.names p s.among.0).named
   state_same n (Not f) o sign s =
       ap (λ h. node.And (node.Holding (n + 1) h (not sign)) (node.Holding (n + 1) h (not sign)))
       (formula_is K (n + 1) f None (of_not K n f o s))
@@ -409,7 +409,7 @@ module _ (K : Kept) where
       → FormFits K (symbol_form (occurrence_here K.names n f o).symbol sign n (occurrence_here K.names n f o).left
       (occurrence_here K.names n f o).right)
   state_fits n (Const c) o sign s = tt
-  state_fits n (Prop p) o sign s = (place_found K.names p s.among).below
+  state_fits n (Prop p) o sign s = (place_found K.names p s.among.0).below
   state_fits n (Not f) o sign s = kept_at K (n + 1) f None (of_not K n f o s)
   state_fits n (Binary op f g) o sign s =
       connective_fits op sign n (n + weight op) (n + weight op + occurrences f)

@@ -17,6 +17,7 @@ pub(crate) struct Names {
 }
 
 // the propositions of a term, in the order of the text
+#[tactic(auto, using(ml_text::proofs::Names::kind_append))]
 fn collect(term: &Term, props: &mut IndexSet<Name>) -> Result<(), NoMemory>
     ensures { OnOk result (props.new.keys ≡ listed.props_onto (formula_of term.now) props.old.keys) }
 {

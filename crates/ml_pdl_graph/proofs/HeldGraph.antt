@@ -8,15 +8,15 @@ use Rattle.ml_base.specs.Name.{IsName, IsAction}
 use Rattle.ml_graph.specs.Graph.{Graph}
 use Rattle.ml_text.specs.declared.token.Operator.{Operator}
 use Rattle.ml_text.specs.declared.token.Operator.TheVariants as operator
-use Rattle.ml_pdl.specs.Formula.{Formula, Const, Prop, Not, Binary, Modal, Repeat, Program, Act, Seq, Alt, Star, Test}
+use Rattle.ml_text.specs.Names.{Proposition, Action}
+use Rattle.ml_pdl.specs.Formula.{Formula, Const, Prop, Not, Binary, Modal, Repeat, Program, Act, Seq, Alt, Star, Test, names}
 use Rattle.ml_pdl.specs.Signs.{own}
-use Rattle.ml_pdl.specs.Spelling.{HasShortNames, ProgramHasShortNames, is_spelled, program_is_spelled}
 use Rattle.ml_pdl.specs.WellFormed.{IsWellFormed}
 use Rattle.ml_pdl_graph.specs.PdlGraph.{IsGraphOf, plain}
 use Rattle.ml_nodes.specs.private.Connectives.{operator_priorities}
 use Rattle.ml_pdl_graph.specs.private.NodeList.{actions_onto, nodes_of, priorities_of, program_actions_onto, program_priorities, program_props_onto, props_onto}
 use Rattle.ml_pdl_graph.proofs.Made.{graph_made}
-use Rattle.ml_nodes.proofs.HeldNames.{Every, Fits, IsHeld, action_name, every_append, every_cons, held_lists, proposition_name, with_named}
+use Rattle.ml_nodes.proofs.HeldNames.{Every, Fits, IsHeld, every_append, every_cons, held_lists, listed_named}
 
 -- ---- the graph that the program makes
 
@@ -31,69 +31,6 @@ pdl_graph f negated = record {
 
 pub is_pdl_graph : (f : Formula) (negated : Bool) → IsGraphOf (pdl_graph f negated) f negated
 is_pdl_graph f negated = graph_made {g = pdl_graph f negated} {t = f} refl refl refl refl refl refl refl
-
--- ---- names
-
-mutual
-  props_named : (f : Formula) → is_spelled f ≡ true → HasShortNames f → (ps : List (List ℕ)) → Every IsName ps
-      → Every IsName (props_onto f ps)
-  props_named (Const b) spelled short ps all = all
-  props_named (Prop p) spelled short ps all =
-      with_named IsName ps p
-      (proposition_name own p spelled short) all
-  props_named (Not f) spelled short ps all = props_named f spelled short ps all
-  props_named (Binary op f h) spelled short ps all =
-      props_named h (second_so (is_spelled f) (is_spelled h) spelled) short.1 (props_onto f ps)
-      (props_named f (first_so (is_spelled f) (is_spelled h) spelled) short.0 ps all)
-  props_named (Modal m p f) spelled short ps all =
-      props_named f (second_so (program_is_spelled p) (is_spelled f) spelled) short.1 (program_props_onto p ps)
-      (program_props_named p (first_so (program_is_spelled p) (is_spelled f) spelled) short.0 ps all)
-  props_named (Repeat p) spelled short ps all = program_props_named p spelled short ps all
-
-  program_props_named : (p : Program) → program_is_spelled p ≡ true → ProgramHasShortNames p → (ps : List (List ℕ))
-      → Every IsName ps
-      → Every IsName (program_props_onto p ps)
-  program_props_named (Act a) spelled short ps all = all
-  program_props_named (Seq p q) spelled short ps all =
-      program_props_named q (second_so (program_is_spelled p) (program_is_spelled q) spelled) short.1
-      (program_props_onto p ps)
-      (program_props_named p (first_so (program_is_spelled p) (program_is_spelled q) spelled) short.0 ps all)
-  program_props_named (Alt p q) spelled short ps all =
-      program_props_named q (second_so (program_is_spelled p) (program_is_spelled q) spelled) short.1
-      (program_props_onto p ps)
-      (program_props_named p (first_so (program_is_spelled p) (program_is_spelled q) spelled) short.0 ps all)
-  program_props_named (Star p) spelled short ps all = program_props_named p spelled short ps all
-  program_props_named (Test f) spelled short ps all = props_named f spelled short ps all
-
-mutual
-  actions_named : (f : Formula) → is_spelled f ≡ true → HasShortNames f → (acts : List (List ℕ)) → Every IsAction acts
-      → Every IsAction (actions_onto f acts)
-  actions_named (Const b) spelled short acts all = all
-  actions_named (Prop p) spelled short acts all = all
-  actions_named (Not f) spelled short acts all = actions_named f spelled short acts all
-  actions_named (Binary op f h) spelled short acts all =
-      actions_named h (second_so (is_spelled f) (is_spelled h) spelled) short.1 (actions_onto f acts)
-      (actions_named f (first_so (is_spelled f) (is_spelled h) spelled) short.0 acts all)
-  actions_named (Modal m p f) spelled short acts all =
-      actions_named f (second_so (program_is_spelled p) (is_spelled f) spelled) short.1 (program_actions_onto p acts)
-      (program_actions_named p (first_so (program_is_spelled p) (is_spelled f) spelled) short.0 acts all)
-  actions_named (Repeat p) spelled short acts all = program_actions_named p spelled short acts all
-
-  program_actions_named : (p : Program) → program_is_spelled p ≡ true → ProgramHasShortNames p → (acts : List (List ℕ))
-      → Every IsAction acts
-      → Every IsAction (program_actions_onto p acts)
-  program_actions_named (Act a) spelled short acts all =
-      with_named IsAction acts a (action_name own a spelled short) all
-  program_actions_named (Seq p q) spelled short acts all =
-      program_actions_named q (second_so (program_is_spelled p) (program_is_spelled q) spelled) short.1
-      (program_actions_onto p acts)
-      (program_actions_named p (first_so (program_is_spelled p) (program_is_spelled q) spelled) short.0 acts all)
-  program_actions_named (Alt p q) spelled short acts all =
-      program_actions_named q (second_so (program_is_spelled p) (program_is_spelled q) spelled) short.1
-      (program_actions_onto p acts)
-      (program_actions_named p (first_so (program_is_spelled p) (program_is_spelled q) spelled) short.0 acts all)
-  program_actions_named (Star p) spelled short acts all = program_actions_named p spelled short acts all
-  program_actions_named (Test f) spelled short acts all = actions_named f spelled short acts all
 
 -- ---- priorities
 
@@ -146,8 +83,8 @@ pdl_held f negated well = (
   (
     is_pdl_graph f negated,
     held_lists (pdl_graph f negated) (is_pdl_graph f negated).is_graph
-        (props_named f well.names_are_spelled well.names_are_short [] (λ x m. absurd m))
-        (actions_named f well.names_are_spelled well.names_are_short [] (λ x m. absurd m))
+        (listed_named own Proposition (names f) well.names_are_spelled well.names_are_short)
+        (listed_named own Action (names f) well.names_are_spelled well.names_are_short)
         (low_priorities f),
   ),
 )

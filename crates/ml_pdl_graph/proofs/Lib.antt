@@ -18,8 +18,6 @@ pub mod Agreement
 mod WorkedGraph
 -- the lists of a graph, as what stands there
 pub mod NodeLists
--- the names of a formula
-pub mod NameLists
 -- the graph that was made
 pub mod Made
 -- numbers in range

@@ -1,14 +1,15 @@
 -- Where the lists of a formula's graph stand in a graph, the formula stands.
 --
 --   length-nodes, length-program_nodes, .. == two for each occurrence
---   NamesIn ps acts f, ProgramNamesIn ps acts p == each name of f, or of p, is at its place
 --   stands, program_stands                 == the nodes and priorities of a formula, or of a program, say what stands there
 --   one_symbol, program_symbol             == each formula and program has an occurrence
 use Rattle.std.proofs.Common.{◌≡◌, ℕ, ◌+◌, ◌*◌, ◌≤◌, List, [], ◌++◌, length, get_or, refl, arith}
 use Rattle.ml_graph.specs.Graph.{Graph}
 use Rattle.ml_text.specs.Operators.{weight}
 use Rattle.ml_text.specs.NameLists.{place_of}
-use Rattle.ml_pdl.specs.Formula.{Formula, Const, Prop, Not, Binary, Modal, Repeat, Program, Act, Seq, Alt, Star, Test, occurrences, program_occurrences}
+use Rattle.ml_text.proofs.NameLists.{place_found}
+use Rattle.ml_text.proofs.Names.{AreAmong, among_parts}
+use Rattle.ml_pdl.specs.Formula.{Formula, Const, Prop, Not, Binary, Modal, Repeat, Program, Act, Seq, Alt, Star, Test, names, program_names, occurrences, program_occurrences}
 use Rattle.ml_nodes.specs.Nodes.{positive, negative}
 use Rattle.ml_pdl_graph.specs.PdlGraph.{diamond, box, own, dual, plain, StandsAt, ProgramStandsAt}
 use Rattle.ml_pdl_graph.specs.private.NodeList.{nodes_of, program_nodes, priorities_of, program_priorities}
@@ -69,22 +70,6 @@ mutual
   length-program_priorities (Star p) = omega (arith, length-program_priorities p)
   length-program_priorities (Test f) = omega (arith, length-priorities f)
 
-abbrev mutual
-  pub NamesIn : List (List ℕ) → List (List ℕ) → Formula → Type 0
-  NamesIn ps acts (Const b) = Unit {0}
-  NamesIn ps acts (Prop p) = get_or ps (place_of ps p) [] ≡ p
-  NamesIn ps acts (Not f) = NamesIn ps acts f
-  NamesIn ps acts (Binary op f h) = NamesIn ps acts f × NamesIn ps acts h
-  NamesIn ps acts (Modal m p f) = ProgramNamesIn ps acts p × NamesIn ps acts f
-  NamesIn ps acts (Repeat p) = ProgramNamesIn ps acts p
-
-  pub ProgramNamesIn : List (List ℕ) → List (List ℕ) → Program → Type 0
-  ProgramNamesIn ps acts (Act a) = get_or acts (place_of acts a) [] ≡ a
-  ProgramNamesIn ps acts (Seq p q) = ProgramNamesIn ps acts p × ProgramNamesIn ps acts q
-  ProgramNamesIn ps acts (Alt p q) = ProgramNamesIn ps acts p × ProgramNamesIn ps acts q
-  ProgramNamesIn ps acts (Star p) = ProgramNamesIn ps acts p
-  ProgramNamesIn ps acts (Test f) = NamesIn ps acts f
-
 -- the two operands of a connective
 operands : (g : Graph) (l r : ℕ) (f h : Formula)
     → Stand g l (nodes_of g.props g.actions l f ++ nodes_of g.props g.actions r h) (priorities_of f ++ priorities_of h)
@@ -117,55 +102,60 @@ program_parts g l r d b e c p q s is =
 
 mutual
   pub stands : (g : Graph) (i : ℕ) (f : Formula)
-      → NamesIn g.props g.actions f
+      → AreAmong g.props g.actions (names f)
       → Stand g i (nodes_of g.props g.actions i f) (priorities_of f)
       → StandsAt g i f
-  stands g i (Const b) names s = let p = pair g i _ _ plain plain [] [] s in (p.first, p.second)
-  stands g i (Prop p) names s =
+  stands g i (Const b) among s = let p = pair g i _ _ plain plain [] [] s in (p.first, p.second)
+  stands g i (Prop p) among s =
       let q = pair g i _ _ plain plain [] [] s in
-      ((place_of g.props p, q.first, names), (place_of g.props p, q.second, names))
-  stands g i (Not f) names s =
-      let p = pair g i _ _ plain plain _ _ s in (p.first, p.second, stands g (i + 1) f names p.behind)
-  stands g i (Binary op f h) names s =
+      let named = (place_found g.props p among.0.0).named in
+      ((place_of g.props p, q.first, named), (place_of g.props p, q.second, named))
+  stands g i (Not f) among s =
+      let p = pair g i _ _ plain plain _ _ s in (p.first, p.second, stands g (i + 1) f among p.behind)
+  stands g i (Binary op f h) among s =
+      let parts = among_parts g.props g.actions (names f) (names h) among in
       let l = i + weight op in
       let r = l + occurrences f in
       let here = joined g plain op i l r _ _ s in
       let o = operands g l r f h here.behind refl in
-      (here.joins, stands g l f names.0 o.left, stands g r h names.1 o.right)
-  stands g i (Modal m p f) names s =
+      (here.joins, stands g l f parts.0 o.left, stands g r h parts.1 o.right)
+  stands g i (Modal m p f) among s =
+      let parts = among_parts g.props g.actions (program_names p) (names f) among in
       let l = i + 1 in
       let r = l + program_occurrences p in
       let here = pair g i _ _ plain plain _ _ s in
       let o = modal_parts g l r (own m r) (dual m r) p f here.behind refl in
-      (here.first, here.second, program_stands g l (own m r) (dual m r) p names.0 o.left, stands g r f names.1 o.right)
-  stands g i (Repeat p) names s =
+      (here.first, here.second, program_stands g l (own m r) (dual m r) p parts.0 o.left, stands g r f parts.1 o.right)
+  stands g i (Repeat p) among s =
       let here = pair g i _ _ 0 1 _ _ s in
-      (here.first, here.second, program_stands g (i + 1) (positive i) (negative i) p names here.behind)
+      (here.first, here.second, program_stands g (i + 1) (positive i) (negative i) p among here.behind)
 
   pub program_stands : (g : Graph) (i d b : ℕ) (p : Program)
-      → ProgramNamesIn g.props g.actions p
+      → AreAmong g.props g.actions (program_names p)
       → Stand g i (program_nodes g.props g.actions i d b p) (program_priorities p)
       → ProgramStandsAt g i d b p
-  program_stands g i d b (Act a) names s =
-      let q = pair g i _ _ plain plain [] [] s in (place_of g.actions a, q.first, q.second, names)
-  program_stands g i d b (Seq p q) names s =
+  program_stands g i d b (Act a) among s =
+      let q = pair g i _ _ plain plain [] [] s in (place_of g.actions a, q.first, q.second, (place_found g.actions a among.1.0).named)
+  program_stands g i d b (Seq p q) among s =
+      let parts = among_parts g.props g.actions (program_names p) (program_names q) among in
       let l = i + 1 in
       let r = l + program_occurrences p in
       let here = pair g i _ _ plain plain _ _ s in
       let o = program_parts g l r (diamond r) (box r) d b p q here.behind refl in
-      (here.first, here.second, program_stands g l (diamond r) (box r) p names.0 o.left, program_stands g r d b q names.1 o.right)
-  program_stands g i d b (Alt p q) names s =
+      (here.first, here.second, program_stands g l (diamond r) (box r) p parts.0 o.left, program_stands g r d b q parts.1 o.right)
+  program_stands g i d b (Alt p q) among s =
+      let parts = among_parts g.props g.actions (program_names p) (program_names q) among in
       let l = i + 1 in
       let r = l + program_occurrences p in
       let here = pair g i _ _ plain plain _ _ s in
       let o = program_parts g l r d b d b p q here.behind refl in
-      (here.first, here.second, program_stands g l d b p names.0 o.left, program_stands g r d b q names.1 o.right)
-  program_stands g i d b (Star p) names s =
+      (here.first, here.second, program_stands g l d b p parts.0 o.left, program_stands g r d b q parts.1 o.right)
+  program_stands g i d b (Star p) among s =
       let here = pair g i _ _ 3 2 _ _ s in
-      (here.first, here.second, program_stands g (i + 1) (diamond i) (box i) p names here.behind)
-  program_stands g i d b (Test f) names s =
+      (here.first, here.second, program_stands g (i + 1) (diamond i) (box i) p among here.behind)
+  program_stands g i d b (Test f) among s =
       let here = pair g i _ _ plain plain _ _ s in
-      (here.first, here.second, stands g (i + 1) f names here.behind)
+      (here.first, here.second, stands g (i + 1) f among here.behind)
 
 -- ---- each has an occurrence
 

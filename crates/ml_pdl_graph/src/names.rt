@@ -11,6 +11,7 @@ use std::alloc::Global;
 
 // the propositions and the actions of a term, in the order of the text
 #[cycle(collecting)]
+#[tactic(auto, using(ml_text::proofs::Names::kind_append))]
 fn collect(
     term: &Term,
     props: &mut IndexSet<Name>,
@@ -37,6 +38,7 @@ fn collect(
 
 // the same of a program
 #[cycle(collecting)]
+#[tactic(auto, using(ml_text::proofs::Names::kind_append))]
 fn collect_program(
     program: &Program,
     props: &mut IndexSet<Name>,

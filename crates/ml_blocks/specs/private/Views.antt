@@ -12,11 +12,12 @@
 --   Fits K s             == so do all formulas of the node s
 --   start_place first f b == the node that a problem of f starts with
 use Rattle.std.specs.Prelude.{ℕ, ◌≡◌, ◌<◌, ◌+◌, Bool, true, false, List, [], ◌∷◌, Option, None, Some, map, get_or, slice_get, length}
-use Rattle.std.specs.List.{list_any}
+use Rattle.std.specs.List.{AllByRecursion, list_any}
 use Rattle.std.specs.Str.{bytes_eq}
 use Rattle.ml_text.specs.declared.token.Operator.TheVariants as operator
+use Rattle.ml_text.specs.Names.{Proposition, of_kind}
 use Rattle.ml_text.specs.Operators.{weight}
-use Rattle.ml_ctl.specs.Formula.{Formula, Const, Prop, Not, Binary, Temporal, Paired, Quantified, occurrences}
+use Rattle.ml_ctl.specs.Formula.{Formula, Const, Prop, Not, Binary, Temporal, Paired, Quantified, names, occurrences}
 use Rattle.ml_blocks.specs.Items as plain
 use Rattle.ml_blocks.specs.Items.{Item}
 use Rattle.ml_blocks.specs.Places as node
@@ -117,13 +118,7 @@ module _ {X : Type 0} (here : ℕ → Formula → Option Bool → X) (xs : List 
 
 -- all propositions of a formula are among these
 abbrev pub AreAmong : List (List ℕ) → Formula → Type 0
-AreAmong ps (Const b) = Unit {0}
-AreAmong ps (Prop p) = list_any (bytes_eq p) ps ≡ true
-AreAmong ps (Not f) = AreAmong ps f
-AreAmong ps (Binary op f g) = AreAmong ps f × AreAmong ps g
-AreAmong ps (Temporal t f) = AreAmong ps f
-AreAmong ps (Paired p f g) = AreAmong ps f × AreAmong ps g
-AreAmong ps (Quantified q f) = AreAmong ps f
+AreAmong ps f = AllByRecursion (λ p. list_any (bytes_eq p) ps ≡ true) (of_kind Proposition (names f))
 
 pub record Kept : Type 0 where
   pub names : List (List ℕ)

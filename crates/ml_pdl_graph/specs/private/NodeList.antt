@@ -8,44 +8,25 @@
 use Rattle.std.specs.Prelude.{ℕ, ◌+◌, true, false, not, List, [], ◌∷◌, ◌++◌}
 use Rattle.ml_graph.specs.declared.node.Node.{Node}
 use Rattle.ml_graph.specs.declared.node.Node.TheVariants as node
-use Rattle.ml_text.specs.NameLists.{with_name, place_of}
+use Rattle.ml_text.specs.NameLists.{with_names, place_of}
+use Rattle.ml_text.specs.Names.{Proposition, Action, of_kind}
 use Rattle.ml_text.specs.Operators.{weight}
-use Rattle.ml_pdl.specs.Formula.{Formula, Const, Prop, Not, Binary, Modal, Repeat, Program, Act, Seq, Alt, Star, Test, occurrences, program_occurrences}
+use Rattle.ml_pdl.specs.Formula.{Formula, Const, Prop, Not, Binary, Modal, Repeat, Program, Act, Seq, Alt, Star, Test, names, program_names, occurrences, program_occurrences}
 use Rattle.ml_nodes.specs.Nodes.{positive, negative, lead_to, constant}
 use Rattle.ml_nodes.specs.private.Connectives.{operator_nodes, operator_priorities}
 use Rattle.ml_pdl_graph.specs.PdlGraph.{diamond, box, own, dual, plain}
 
-abbrev mutual
-  pub props_onto : Formula → List (List ℕ) → List (List ℕ)
-  props_onto (Const b) ps = ps
-  props_onto (Prop p) ps = with_name ps p
-  props_onto (Not f) ps = props_onto f ps
-  props_onto (Binary op f h) ps = props_onto h (props_onto f ps)
-  props_onto (Modal m p f) ps = props_onto f (program_props_onto p ps)
-  props_onto (Repeat p) ps = program_props_onto p ps
+abbrev pub props_onto : Formula → List (List ℕ) → List (List ℕ)
+props_onto f ps = with_names ps (of_kind Proposition (names f))
 
-  pub program_props_onto : Program → List (List ℕ) → List (List ℕ)
-  program_props_onto (Act a) ps = ps
-  program_props_onto (Seq p q) ps = program_props_onto q (program_props_onto p ps)
-  program_props_onto (Alt p q) ps = program_props_onto q (program_props_onto p ps)
-  program_props_onto (Star p) ps = program_props_onto p ps
-  program_props_onto (Test f) ps = props_onto f ps
+abbrev pub program_props_onto : Program → List (List ℕ) → List (List ℕ)
+program_props_onto p ps = with_names ps (of_kind Proposition (program_names p))
 
-abbrev mutual
-  pub actions_onto : Formula → List (List ℕ) → List (List ℕ)
-  actions_onto (Const b) acts = acts
-  actions_onto (Prop p) acts = acts
-  actions_onto (Not f) acts = actions_onto f acts
-  actions_onto (Binary op f h) acts = actions_onto h (actions_onto f acts)
-  actions_onto (Modal m p f) acts = actions_onto f (program_actions_onto p acts)
-  actions_onto (Repeat p) acts = program_actions_onto p acts
+abbrev pub actions_onto : Formula → List (List ℕ) → List (List ℕ)
+actions_onto f acts = with_names acts (of_kind Action (names f))
 
-  pub program_actions_onto : Program → List (List ℕ) → List (List ℕ)
-  program_actions_onto (Act a) acts = with_name acts a
-  program_actions_onto (Seq p q) acts = program_actions_onto q (program_actions_onto p acts)
-  program_actions_onto (Alt p q) acts = program_actions_onto q (program_actions_onto p acts)
-  program_actions_onto (Star p) acts = program_actions_onto p acts
-  program_actions_onto (Test f) acts = actions_onto f acts
+abbrev pub program_actions_onto : Program → List (List ℕ) → List (List ℕ)
+program_actions_onto p acts = with_names acts (of_kind Action (program_names p))
 
 abbrev mutual
   pub nodes_of : List (List ℕ) → List (List ℕ) → ℕ → Formula → List Node

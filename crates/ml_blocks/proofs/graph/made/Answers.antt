@@ -1,18 +1,22 @@
-use Rattle.std.proofs.Common.{rules, ◌≡◌, [], length, codes, bytes_eq, refl, ap, sym, subst, true, false, arith}
+use Rattle.std.proofs.Common.{rules, ◌≡◌, length, codes, bytes_eq, refl, ap, sym, subst, true, false, arith}
 use Rattle.std.specs.List.{IsDistinct}
 use Rattle.ml_graph.proofs.Places.{one_name}
 use Rattle.ml_graph.specs.Graph.{graph_of}
+use Rattle.ml_text.specs.Names.{Proposition}
+use Rattle.ml_text.proofs.Names.{few_added}
+use Rattle.ml_ctl.specs.Formula.{names, occurrences}
 use Rattle.ml_ctl.specs.Term.{formula_of}
+use Rattle.ml_ctl.proofs.Counting.{few_names}
 use Rattle.ml_blocks.specs.BlockGraph.{IsGraphAt}
 use Rattle.ml_blocks.specs.private.Occurrences.{lists_of}
 use Rattle.ml_blocks.specs.private.Views.{start_place}
 use Rattle.ml_blocks.proofs.GraphMade.{closure_large, graph_made}
-use Rattle.ml_blocks.proofs.NameLists.{few_props}
 use Rattle.ml_blocks.proofs.graph.made.Goals as goal
 
 pub of-requires-2-clause-names : goal.of-requires-2-clause-names
 of-requires-2-clause-names c =
-    omega (arith, ap length c.in_ok-names.ensures, few_props (formula_of c.args.term.now) [], c.requires.few)
+    let f = formula_of c.args.term.now in
+    omega (arith, ap length c.in_ok-names.ensures, few_added Proposition (names f) (occurrences f) (few_names f), c.requires.few)
 
 pub returns-in_err-draft-clause-too_large : goal.returns-in_err-draft-clause-too_large
 returns-in_err-draft-clause-too_large c = λ e.
