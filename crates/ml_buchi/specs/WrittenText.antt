@@ -17,13 +17,16 @@
 --                             those that meet both of two conditions, or one of them
 --   meets seen c           == is c met, where `seen` tells the sets that are met again and again?
 --   lowest_is_odd n m      == of the set n and the m sets behind it, the lowest one that is met again and again is odd
+--   alone n                == where no set stands behind n: an even one is met finitely often, an odd one again and again
+--   joined n c             == where c says so of the sets behind it
 --   parity_condition top   == so of all sets below `top`
 --   operand_text c         == c as a part of a condition: between parentheses, unless it is about one set
 --   condition_text c       == c as a whole
---   quoted name            == a name between quotes; so bracketed and braced words
+--   quoted name            == a name between quotes; so words that are bracketed and braced
 --   literal v n            == the proposition n, or its negation, whichever the valuation v makes true
+--   next_literal v n       == an `&` and this literal
 --   label k v              == the literals of k propositions; `t` where there is none
---   move_line k m          == the line of the move m.1 under the valuation m.0
+--   move_line k m          == the line of the move m.1 under the valuation m.0; move_text has its bytes
 --   state_text k s         == the lines of the state s.0 with the moves s.1
 --   head_lines n ps top    == the lines before n states, where the propositions have the names ps
 --   automaton_text d       == all lines
@@ -54,11 +57,11 @@ meets seen (Or c d) = meets seen c || meets seen d
 abbrev pub is_even : ℕ → Bool
 is_even n = n % 2 == 0
 
--- the lowest set is odd, if n alone may be met
+-- no set behind n is met
 abbrev pub alone : ℕ → Condition
 alone n = if is_even n then Fin n else Inf n
 
--- it is odd, where c says so of the sets behind n
+-- c says of the sets behind n that the lowest one is odd
 abbrev pub joined : ℕ → Condition → Condition
 joined n c = if is_even n then And (Fin n) c else Or (Inf n) c
 

@@ -5,13 +5,13 @@ ghost use Rattle.ml_lines.specs.Lines.{line_text, next, number, text_of};
 ghost use Rattle.ml_hoa.specs.Automaton.{most_props};
 ghost use Rattle.ml_determinise.specs.Numbering.{rows_of};
 ghost use Rattle.ml_buchi.specs.WrittenText.{alone, automaton_text, braced, bracketed, condition_text, head_lines, IsWritable, label, literal, move_text, operand_text, parity_condition, quoted, state_text};
-ghost use Rattle.ml_buchi.specs.private.Openings.{closings, opening, operator_of};
+ghost use Rattle.ml_buchi.specs.private.Openings.{closings, opening};
 
 use crate::deterministic::Deterministic;
 use ml_base::NoMemory;
 use ml_determinise::DetMove;
 use ml_hoa::Quoted;
-use ml_lines::{end_line, write_next_number, write_next_word, write_number, write_word};
+use ml_lines::{end_line, write_next_number, write_number, write_word};
 use std::alloc::Global;
 
 /// The text of a deterministic automaton, in HOA's first version. Its acceptance says in full that the lowest set that is

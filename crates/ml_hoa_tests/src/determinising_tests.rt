@@ -1,4 +1,6 @@
 // Texts with the texts of their deterministic automata.
+ghost use Rattle.std.specs.Prelude.{◌≤◌};
+
 use ml_buchi::{determinise, write};
 use ml_determinise::DetRefusal;
 use ml_hoa::read;
@@ -58,7 +60,9 @@ fn deterministic_automata_of_texts(rt: HostRuntime) -> Result<(), Fail> {
 }
 
 // Is the automaton of the text refused for having more states than so many?
-fn is_passed(alloc: Global, text: &[u8], limit: u32) -> Result<bool, Fail> {
+fn is_passed(alloc: Global, text: &[u8], limit: u32) -> Result<bool, Fail>
+    requires { 1 ≤ limit }
+{
     let automaton = read(alloc, text)?;
     match determinise(alloc, &automaton, limit) {
         Ok(_) => Ok(false),
