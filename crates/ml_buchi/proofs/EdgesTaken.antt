@@ -13,7 +13,8 @@ use Rattle.ml_lists.proofs.Member.{All-member, Image, member-map, member-map_fro
 use Rattle.ml_trace.specs.declared.letters.Transition.{Transition}
 use Rattle.ml_trace.specs.Run.{in_letter}
 use Rattle.ml_hoa.specs.Automaton.{Edge, Automaton, IsAutomaton, IsEdge}
-use Rattle.ml_buchi.specs.Valuations.{IsBelow, Leads, LettersLead, LettersStay, letter_at, letter_of, letters_of, may_take, transition_of, valuations}
+use Rattle.ml_determinise.specs.Histories.{IsBelow, StaysBelow, leads_in, letter_at}
+use Rattle.ml_buchi.specs.Valuations.{Leads, LettersLead, LettersStay, letter_of, letters_of, may_take, transition_of, valuations}
 
 -- the edge of a transition of the letter
 record Taken (a : Automaton) (v : ℕ) (m : Transition) : Type 0 where
@@ -56,7 +57,7 @@ module _ (a : Automaton) where
 
   leads_same : (v s t : ℕ) (b : Bool)
       → v < valuations a
-      → in_letter (letter_at (letters_of a) v) s t b ↔ Leads a v s t b
+      → leads_in (letters_of a) v s t b ↔ Leads a v s t b
   leads_same v s t b low = (
     λ l. leads_from v s t b (subst (λ k. in_letter k s t b) (letter_is v low) l),
     λ l. subst (λ k. in_letter k s t b) (sym (letter_is v low)) (leads_to v s t b l),
@@ -68,7 +69,7 @@ module _ (a : Automaton) where
       let fits = All-member (IsEdge a.states (length a.props)) a.edges is.edges_fit j.edge j.is_edge in
       subst (IsBelow a.states) (sym j.is) (record { from_low = fits.from_below; to_low = fits.to_below })
 
-  all_stay : IsAutomaton a → (v : ℕ) (m : Transition) → IsMember m (letter_at (letters_of a) v) → IsBelow a.states m
+  all_stay : IsAutomaton a → StaysBelow a.states (letters_of a)
   all_stay is v m i = by_place (cases_lt v (valuations a))
     where
       by_place : (v < valuations a) ⊎ (valuations a ≤ v) → IsBelow a.states m
@@ -81,4 +82,4 @@ pub letters_lead : LettersLead
 letters_lead a v s t b low = leads_same a v s t b low
 
 pub letters_stay : LettersStay
-letters_stay a v m is i = all_stay a is v m i
+letters_stay a is = all_stay a is

@@ -4,3 +4,19 @@ mod EdgesTaken
 mod TakenEdges
 -- rows of letters grow
 mod GrowingLetters
+-- rows of letters that stand for the same sets
+mod SameRows
+-- automata that lead alike
+mod LeadAlike
+-- the deterministic automaton accepts the same words
+mod SameWords
+-- what is made of letters that stand for the same sets
+mod MadeDeterministic
+-- what is made deterministic can be written
+mod Writable
+-- what is written part by part
+mod WrittenParts
+-- parity conditions
+mod Conditions
+-- lines of the text
+mod WrittenLines

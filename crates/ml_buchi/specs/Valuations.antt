@@ -12,19 +12,17 @@
 --   letter_of a v        == the transitions of the edges that may be taken
 --   valuations a         == how many valuations there are
 --   letters_of a         == the letters of all valuations, in order
---   letter_at row v      == the letter of a row at a place; past its end the one without transitions
 --   SameLetter l m       == the letters stand for the same set of transitions
 --   SameLetters row made == so do the letters of two rows, one by one
 --   LettersLead          == the letter of a valuation leads as the edges do
---   IsBelow states m     == the ends of the transition are below this number
 --   LettersStay          == all ends of transitions are below the number of states
-use Rattle.std.specs.Prelude.{ℕ, ◌≡◌, ◌==◌, ◌&&◌, ◌||◌, ◌^◌, ◌<◌, ◌↔◌, not, Bool, true, List, [], ◌∷◌, length, map, filter, get_or}
+use Rattle.std.specs.Prelude.{ℕ, ◌≡◌, ◌==◌, ◌&&◌, ◌||◌, ◌^◌, ◌<◌, ◌↔◌, not, Bool, true, List, [], ◌∷◌, length, map, filter}
 use Rattle.std.specs.Int.{bit_at}
 use Rattle.std.specs.List.{range_with_len}
 use Rattle.ml_lists.specs.Member.{IsMember}
 use Rattle.ml_lists.specs.Within.{Within}
-use Rattle.ml_trace.specs.Run.{in_letter}
 use Rattle.ml_trace.specs.declared.letters.Transition.{Transition}
+use Rattle.ml_determinise.specs.Histories.{StaysBelow, leads_in}
 use Rattle.ml_hoa.specs.Automaton.{Guard, Const, Ap, Not, And, Or, Edge, Automaton, IsAutomaton}
 
 -- ---- guards
@@ -67,9 +65,6 @@ valuations a = 2 ^ length a.props
 abbrev pub letters_of : Automaton → List (List Transition)
 letters_of a = map (letter_of a) (range_with_len 0 (valuations a))
 
-abbrev pub letter_at : List (List Transition) → ℕ → List Transition
-letter_at row v = get_or row v []
-
 -- the same set of transitions
 pub record SameLetter (l m : List Transition) : Type 0 where
   pub to : Within l m
@@ -86,14 +81,7 @@ SameLetters (l ∷ row) (m ∷ made) = SameLetter l m × SameLetters row made
 abbrev pub LettersLead : Type 0
 LettersLead = (a : Automaton) (v s t : ℕ) (accepting : Bool)
     → v < valuations a
-    → in_letter (letter_at (letters_of a) v) s t accepting ↔ Leads a v s t accepting
-
-pub record IsBelow (states : ℕ) (m : Transition) : Type 0 where
-  pub from_low : m.from < states
-  pub to_low : m.to < states
+    → leads_in (letters_of a) v s t accepting ↔ Leads a v s t accepting
 
 abbrev pub LettersStay : Type 0
-LettersStay = (a : Automaton) (v : ℕ) (m : Transition)
-    → IsAutomaton a
-    → IsMember m (letter_at (letters_of a) v)
-    → IsBelow a.states m
+LettersStay = (a : Automaton) → IsAutomaton a → StaysBelow a.states (letters_of a)

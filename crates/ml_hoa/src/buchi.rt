@@ -39,6 +39,18 @@ impl Quoted {
     {
         &self.bytes
     }
+
+    /// A copy.
+    ///
+    /// # Errors
+    /// `NoMemory` alone.
+    ///
+    /// Cost: linear in the bytes.
+    pub fn copy(&self) -> Result<Quoted, NoMemory>
+        ensures { IfOk result (λ q. q ≡ self.now) }
+    {
+        Quoted::new(*self.bytes.allocator(), &self.bytes)
+    }
 }
 
 /// An edge of an automaton: it may be taken where its guard is true.
