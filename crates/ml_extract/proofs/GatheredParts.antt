@@ -72,7 +72,7 @@ in_labels g x name l =
 
 -- ---- places
 
-place_is : (fs : List ℕ) (v i : ℕ) → AreOnce fs → slice_get fs i ≡ Some v → place_of fs v ≡ i
+pub place_is : (fs : List ℕ) (v i : ℕ) → AreOnce fs → slice_get fs i ≡ Some v → place_of fs v ≡ i
 place_is fs v i once is =
     let low = slice_get_within fs i v is in
     let entry = get_or_from_slice_get fs i v 0 is in

@@ -18,7 +18,7 @@ use Rattle.ml_nodes.proofs.HeldNames as names
 use Rattle.ml_mu_graph.proofs.HeldGraph.{mu_held}
 use Rattle.ml_pdl_graph.proofs.HeldGraph.{pdl_held}
 use Rattle.ml_word_graph.proofs.ClosureGraphs as word_graphs
-use Rattle.ml_word_graph.proofs.HeldGraph.{props_named, word_held}
+use Rattle.ml_word_graph.proofs.HeldGraph.{word_held}
 
 -- the names and priorities of a graph are such as a program holds
 abbrev pub IsHeld : Graph → Type 0
@@ -62,6 +62,6 @@ held_graph (Word f) negated well =
     inl (record {
       graph = made.0;
       is_graph = made.1;
-      is_held = word_held f negated made.0 made.1 (props_named f well.names_are_spelled well.names_are_short);
+      is_held = word_held f negated made.0 well.names_are_spelled well.names_are_short made.1;
       fits = λ large. large;
     })
