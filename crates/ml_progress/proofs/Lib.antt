@@ -20,8 +20,6 @@ pub mod WhoWins
 pub mod NextLists
 -- a measure in one flat list of numbers
 pub mod FlatTables
--- lists that were sorted, and left without repeats
-pub mod SortedOnce
 -- the bounds and the cuts of a player
 pub mod Scales
 -- the moves of a game in chains

@@ -1,5 +1,6 @@
 -- Lifting keeps a measure low, settles a vertex, and comes to an end.
 --
+--   low_fits        == the entry of a vertex fits in a low measure
 --   zeros_low       == the measure of zeros is low
 --   lift_keeps      == a lifted measure is low
 --   lift_settles    == a vertex that did not rise is settled
@@ -25,10 +26,22 @@ use Rattle.ml_progress.proofs.NextLists.{fits_zeros, code_zeros}
 use Rattle.ml_progress.proofs.Progress.{bounded_of_fits, measure_fits, progress_steps, steps_progress, below_level}
 
 -- what has the lower level is below
-pub level_below : (bs : List ℕ) (a b : Option (List ℕ)) → FitsIn bs a → FitsIn bs b → level bs a < level bs b → IsBelow a b
+pub level_below : (bs : List ℕ) (a b : Option (List ℕ))
+    → FitsIn bs a
+    → FitsIn bs b
+    → level bs a < level bs b
+    → IsBelow a b
 level_below bs None b f h low = absurd (omega (arith, level_top bs b h))
 level_below bs (Some xs) None f h low = tt
 level_below bs (Some xs) (Some ys) f h low = code_before bs xs ys f h low
+
+-- the entry of a vertex of the game fits
+pub low_fits : (g : ParityGame) (p : Player) (m : Measure)
+    → IsLow g p m
+    → (v : ℕ)
+    → v < size g
+    → FitsIn (bounds_of g p) (measure_at m v)
+low_fits g p m low v less = low.fits v (omega (arith, low.vertices))
 
 module _ (g : ParityGame) (ok : IsGame g) (p : Player) where
   abbrev bs : List ℕ
@@ -57,9 +70,6 @@ module _ (g : ParityGame) (ok : IsGame g) (p : Player) where
     within : v < length m
     within = omega (arith, low.vertices)
 
-    fits : (u : ℕ) → u < size g → FitsIn bs (measure_at m u)
-    fits u less = low.fits u (omega (arith, low.vertices))
-
     module _ (l : IsLifted g p m n v true) where
       risen_here : measure_at n v ≡ l.target
       risen_here = ap (λ k. measure_at k v) l.raised.1 ∙ get_or-set_same m v l.target None within
@@ -68,7 +78,8 @@ module _ (g : ParityGame) (ok : IsGame g) (p : Player) where
       risen_there u differs = ap (λ k. measure_at k u) l.raised.1 ∙ get_or-set_other m v u l.target None differs
 
       risen_fits : FitsIn bs l.target
-      risen_fits = target_fits (cut_length g p v) bs (is_bad p (priority_of g v)) (measure_at m l.chosen) l.target l.is_target
+      risen_fits =
+          target_fits (cut_length g p v) bs (is_bad p (priority_of g v)) (measure_at m l.chosen) l.target l.is_target
 
       -- no progress measure is below what the vertex has then
       target_low : (k : Measure) → IsProgressMeasure g p k → level bs l.target ≤ level_of g p k v
@@ -82,7 +93,8 @@ module _ (g : ParityGame) (ok : IsGame g) (p : Player) where
           fits_k = measure_fits g p k progress.measure
 
           at : (x : ℕ) → Progresses g p k v x → HasMove g v x
-              → cut_level (cut_length g p v) bs (measure_at m l.chosen) ≤ cut_level (cut_length g p v) bs (measure_at m x)
+              → cut_level (cut_length g p v) bs (measure_at m l.chosen) ≤ cut_level (cut_length g p v) bs
+              (measure_at m x)
               → level bs l.target ≤ level_of g p k v
           at x goes move under =
               let x_low = ok.in_range v x move in
@@ -91,7 +103,8 @@ module _ (g : ParityGame) (ok : IsGame g) (p : Player) where
               (omega (
                 arith,
                 under,
-                cut_mono (cut_length g p v) bs (measure_at m x) (measure_at k x) (fits x x_low) (fits_k x x_low)
+                cut_mono (cut_length g p v) bs (measure_at m x) (measure_at k x) (low_fits g p m low x x_low)
+                    (fits_k x x_low)
                     (low.low k progress x x_low),
               ))
               (progress_steps g p v (measure_at k v) (measure_at k x) (fits_k v below) (fits_k x x_low) goes)
@@ -102,14 +115,15 @@ module _ (g : ParityGame) (ok : IsGame g) (p : Player) where
       risen_low : IsLow g p n
       risen_low = record {
         vertices = ap length l.raised.1 ∙ length-set m v l.target ∙ low.vertices;
-        fits = λ u less. fits_at u (omega (arith, ap length l.raised.1, length-set m v l.target, low.vertices)) (cases_eq u v);
+        fits = λ u less. fits_at u (omega (arith, ap length l.raised.1, length-set m v l.target, low.vertices))
+            (cases_eq u v);
         low = λ k progress u less. low_at k progress u less (cases_eq u v);
       }
         where
           fits_at : (u : ℕ) → u < size g → (u ≡ v) ⊎ (u ≡ v → ⊥) → FitsIn bs (measure_at n u)
           fits_at u less (inl same) =
               subst (FitsIn bs) (sym (ap (measure_at n) same ∙ risen_here)) risen_fits
-          fits_at u less (inr differs) = subst (FitsIn bs) (sym (risen_there u differs)) (fits u less)
+          fits_at u less (inr differs) = subst (FitsIn bs) (sym (risen_there u differs)) (low_fits g p m low u less)
 
           low_at : (k : Measure) → IsProgressMeasure g p k → (u : ℕ) → u < size g → (u ≡ v) ⊎ (u ≡ v → ⊥)
               → level_of g p n u ≤ level_of g p k u
@@ -132,19 +146,22 @@ module _ (g : ParityGame) (ok : IsGame g) (p : Player) where
           away x move = risen_there x (λ same. none (subst (HasMove g u) same move))
 
           at_itself : (x : ℕ) → HasMove g v x → (u ≡ v)
-              → cut_level (cut_length g p v) bs (measure_at m x) ≤ cut_level (cut_length g p v) bs (measure_at m l.chosen)
+              → cut_level (cut_length g p v) bs (measure_at m x) ≤ cut_level (cut_length g p v) bs
+              (measure_at m l.chosen)
               → StepsAlong g p n v x
           at_itself x move same under =
               target_steps (cut_length g p v) bs (is_bad p (priority_of g v)) (measure_at m l.chosen) l.target
               (measure_at n x) (measure_at n v) l.is_target (subst (FitsIn bs) (sym risen_here) risen_fits)
-              (let e = ap (cut_level (cut_length g p v) bs) (away x (subst (λ y. HasMove g y x) (sym same) move)) in omega arith)
+              (let e = ap (cut_level (cut_length g p v) bs) (away x (subst (λ y. HasMove g y x) (sym same) move)) in
+              omega arith)
               (let e = ap (level bs) risen_here in omega arith)
 
           elsewhere : (x : ℕ) → HasMove g u x → (u ≡ v → ⊥) → StepsAlong g p m u x → StepsAlong g p n u x
           elsewhere x move differs steps =
               subst (λ o. Steps (cut_length g p u) bs (is_bad p (priority_of g u)) o (measure_at n x))
               (sym (risen_there u differs))
-              (subst (Steps (cut_length g p u) bs (is_bad p (priority_of g u)) (measure_at m u)) (sym (away x move)) steps)
+              (subst (Steps (cut_length g p u) bs (is_bad p (priority_of g u)) (measure_at m u)) (sym (away x move))
+              steps)
 
           by_case : (u ≡ v) ⊎ (u ≡ v → ⊥) → IsSettled g p n u
           by_case (inl same) = subst (IsSettled g p n) (sym same) (record {
@@ -177,7 +194,8 @@ module _ (g : ParityGame) (ok : IsGame g) (p : Player) where
           where
             by_case : (level_of g p m v < level bs l.target) ⊎ (level bs l.target ≤ level_of g p m v)
                 → level bs l.target ≤ level_of g p m v
-            by_case (inl less) = absurd (l.raised.0 (level_below bs (measure_at m v) l.target (fits v below)
+            by_case (inl less) =
+                absurd (l.raised.0 (level_below bs (measure_at m v) l.target (low_fits g p m low v below)
                 (target_fits (cut_length g p v) bs (is_bad p (priority_of g v)) (measure_at m l.chosen) l.target
                 l.is_target) less))
             by_case (inr more) = more
@@ -187,12 +205,16 @@ module _ (g : ParityGame) (ok : IsGame g) (p : Player) where
             → StepsAlong g p m v x
         at x under =
             target_steps (cut_length g p v) bs (is_bad p (priority_of g v)) (measure_at m l.chosen) l.target
-            (measure_at m x) (measure_at m v) l.is_target (fits v below) under up
+            (measure_at m x) (measure_at m v) l.is_target (low_fits g p m low v below) under up
 
   -- a vertex with the top is settled
   pub top_settled : (m : Measure) (v : ℕ) → v < size g → measure_at m v ≡ None → IsSettled g p m v
   top_settled m v low top = record {
-    own = λ mine. record { to = get_or (moves_of g v) 0 0; move = first_move g ok v low; steps = steps (get_or (moves_of g v) 0 0) };
+    own = λ mine. record {
+      to = get_or (moves_of g v) 0 0;
+      move = first_move g ok v low;
+      steps = steps (get_or (moves_of g v) 0 0);
+    };
     other = λ theirs w move. steps w;
   }
     where
@@ -206,17 +228,15 @@ module _ (g : ParityGame) (ok : IsGame g) (p : Player) where
     least = λ n progress v below under. omega (
       arith,
       low.low n progress v below,
-      below_level bs (measure_at n v) (measure_at m v) (measure_fits g p n progress.measure v below) (fit v below) under,
+      below_level bs (measure_at n v) (measure_at m v) (measure_fits g p n progress.measure v below)
+          (low_fits g p m low v below) under,
     );
   }
     where
-      fit : (v : ℕ) → v < size g → FitsIn bs (measure_at m v)
-      fit v below = low.fits v (omega (arith, low.vertices))
-
       measure : IsMeasure g p m
       measure = record {
         vertices = low.vertices;
-        lists = λ v xs below is. bounded_of_fits g p xs (subst (FitsIn bs) is (fit v below));
+        lists = λ v xs below is. bounded_of_fits g p xs (subst (FitsIn bs) is (low_fits g p m low v below));
       }
 
       own : (v : ℕ) → v < size g → owner_of g v ≡ p → SomeProgress g p m v
@@ -225,13 +245,14 @@ module _ (g : ParityGame) (ok : IsGame g) (p : Player) where
           record {
             to = some.to;
             move = some.move;
-            progresses = steps_progress g p v (measure_at m v) (measure_at m some.to) (fit v below)
-                (fit some.to (ok.in_range v some.to some.move)) some.steps;
+            progresses = steps_progress g p v (measure_at m v) (measure_at m some.to) (low_fits g p m low v below)
+                (low_fits g p m low some.to (ok.in_range v some.to some.move)) some.steps;
           }
 
       other : (v w : ℕ) → v < size g → owner_of g v ≡ opponent p → HasMove g v w → Progresses g p m v w
       other v w below theirs move =
-          steps_progress g p v (measure_at m v) (measure_at m w) (fit v below) (fit w (ok.in_range v w move))
+          steps_progress g p v (measure_at m v) (measure_at m w) (low_fits g p m low v below)
+          (low_fits g p m low w (ok.in_range v w move))
           ((settled v below).other theirs w move)
 
 -- ---- room
@@ -254,13 +275,19 @@ total_less f h (suc n) v low same less = by_case (cases_eq n v) (total_less f h 
         → total f (suc n) < total h (suc n)
     by_case (inl is) rest = let a = ap f is in let b = ap h is in omega (arith, alike n (omega arith) (sym is))
     by_case (inr differs) rest =
-        omega (arith, rest (omega arith) (λ u under other. same u (omega arith) other) less, same n (omega arith) differs)
+        omega (
+          arith,
+          rest (omega arith) (λ u under other. same u (omega arith) other) less,
+          same n (omega arith)
+              differs,
+        )
 
 -- there is less room after a rise
 pub room_falls : (g : ParityGame) (p : Player) (m n : Measure) (v : ℕ) → IsLow g p m → v < size g
     → IsLifted g p m n v true → room g p n < room g p m
 room_falls g p m n v low below l =
-    total_less (λ u. space (bounds_of g p) - level_of g p n u) (λ u. space (bounds_of g p) - level_of g p m u) (size g) v below
+    total_less (λ u. space (bounds_of g p) - level_of g p n u) (λ u. space (bounds_of g p) - level_of g p m u) (size g)
+    v below
     (λ u under differs.
     ap (λ o. space (bounds_of g p) - level (bounds_of g p) o)
     (ap (λ k. measure_at k u) l.raised.1 ∙ get_or-set_other m v u l.target None differs))

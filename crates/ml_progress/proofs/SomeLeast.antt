@@ -8,7 +8,7 @@
 --   extreme     == of some numbers one is the least, or the greatest
 --   some_lift   == each vertex can be lifted
 --   some_least  == there is a least progress measure
-use Rattle.std.proofs.Common.{ℕ, zero, suc, ◌≡◌, ◌+◌, ◌-◌, ◌*◌, ◌<◌, ◌≤◌, ◌⊎◌, inl, inr, ⊎_elim, arith, Bool, true, false, List, [], ◌∷◌, length, get_or, set, replicate, take, drop, Option, Some, None, refl, sym, ap, ◌∙◌, subst}
+use Rattle.std.proofs.Common.{ℕ, zero, suc, ◌≡◌, ◌+◌, ◌-◌, ◌*◌, ◌<◌, ◌≤◌, ◌⊎◌, inl, inr, ⊎_elim, arith, Bool, true, false, List, [], ◌∷◌, length, get_or, set, replicate, take, drop, Option, Some, None, refl, ◌∙◌, subst}
 use Rattle.std.proofs.Math.Nat.{mul-le-mul_right}
 use Rattle.std.proofs.lemmas.Bool.{cases_lt}
 use Rattle.std.proofs.lemmas.List.{get_or_default}
@@ -19,13 +19,13 @@ use Rattle.ml_parity.specs.Player.{opponent}
 use Rattle.ml_parity.specs.Game.{ParityGame, IsGame, HasMove, owner_of, priority_of, moves_of, size}
 use Rattle.ml_parity.proofs.Opponents.{cases_player, not_both}
 use Rattle.ml_progress.specs.Measure.{Measure, IsLeastMeasure, is_bad, measure_at}
-use Rattle.ml_progress.specs.private.Bounds.{bounds_of, cut_length, level_of}
+use Rattle.ml_progress.specs.private.Bounds.{bounds_of, cut_length}
 use Rattle.ml_progress.specs.private.Codes.{Fits, FitsIn, IsTarget, code, cut_level, level, space, step_of}
 use Rattle.ml_progress.specs.private.Lifting.{Furthest, IsLifted, IsLow, IsSettled, room}
 use Rattle.ml_progress.specs.private.Tables.{IsRaised}
 use Rattle.ml_progress.proofs.Codes.{code_low, fits_take, space_parts, space_some}
 use Rattle.ml_progress.proofs.Levels.{target_fits}
-use Rattle.ml_progress.proofs.LiftedMeasures.{level_below, lift_keeps, lift_settles, room_falls, settled_least, zeros_low}
+use Rattle.ml_progress.proofs.LiftedMeasures.{level_below, lift_keeps, lift_settles, low_fits, room_falls, settled_least, zeros_low}
 use Rattle.ml_progress.proofs.Progress.{below_level}
 
 -- ---- lists from their codes
@@ -43,11 +43,13 @@ record Digit (b : ℕ) (bs : List ℕ) (n : ℕ) : Type 0 where
   pub parts : n ≡ first * space bs + rest
 
 digit : (b : ℕ) (bs : List ℕ) (n : ℕ) → n < suc b * space bs → Digit b bs n
-digit zero bs n below = record { first = 0; low = omega arith; rest = n; rest_low = omega (arith, below); parts = omega arith }
+digit zero bs n below =
+    record { first = 0; low = omega arith; rest = n; rest_low = omega (arith, below); parts = omega arith }
 digit (suc b) bs n below =
     ⊎_elim
     (λ (small : n < space bs).
-    let none : Digit (suc b) bs n = record { first = 0; low = omega arith; rest = n; rest_low = small; parts = omega arith } in
+    let none : Digit (suc b) bs n =
+    record { first = 0; low = omega arith; rest = n; rest_low = small; parts = omega arith } in
     none)
     (λ (large : space bs ≤ n). one_more large (digit b bs (n - space bs) (omega (arith, below, large))))
     (cases_lt n (space bs))
@@ -160,9 +162,6 @@ module _ (g : ParityGame) (ok : IsGame g) (p : Player) where
     pub lifted : IsLifted g p m next v rises
 
   module _ (m : Measure) (low : IsLow g p m) (v : ℕ) (below : v < size g) where
-    fits : (u : ℕ) → u < size g → FitsIn bs (measure_at m u)
-    fits u less = low.fits u (omega (arith, low.vertices, less))
-
     abbrev moves : List ℕ
     moves = moves_of g v
 
@@ -183,7 +182,7 @@ module _ (g : ParityGame) (ok : IsGame g) (p : Player) where
         from (extreme least (λ j. cut_of (get_or moves j 0)) (length moves) (space (take (cut_length g p v) bs))
         (ok.goes_on v below)
         (λ j less. cut_top (cut_length g p v) bs (measure_at m (get_or moves j 0))
-        (fits (get_or moves j 0) (ok.in_range v (get_or moves j 0) (move_at j less)))))
+        (low_fits g p m low (get_or moves j 0) (ok.in_range v (get_or moves j 0) (move_at j less)))))
       where
         from : Extreme least (λ j. cut_of (get_or moves j 0)) (length moves) → Chosen least
         from e = record {
@@ -201,7 +200,7 @@ module _ (g : ParityGame) (ok : IsGame g) (p : Player) where
     lift_to least c own other =
         let bad = is_bad p (priority_of g v) in
         let target = some_target (cut_length g p v) bs bad (measure_at m c.chosen) in
-        let raise = some_raise bs m v target.0 (fits v below)
+        let raise = some_raise bs m v target.0 (low_fits g p m low v below)
         (target_fits (cut_length g p v) bs bad (measure_at m c.chosen) target.0 target.1) in
         record {
           next = raise.next;
@@ -255,7 +254,8 @@ module _ (g : ParityGame) (ok : IsGame g) (p : Player) where
 
   from_low : (fuel : ℕ) (m : Measure) → IsLow g p m → room g p m ≤ fuel → (n : Measure) × IsLeastMeasure g p n
   from_low zero m low small = one_turn m low (λ n is_low less. absurd (omega (arith, less, small)))
-  from_low (suc fuel) m low small = one_turn m low (λ n is_low less. from_low fuel n is_low (omega (arith, less, small)))
+  from_low (suc fuel) m low small =
+      one_turn m low (λ n is_low less. from_low fuel n is_low (omega (arith, less, small)))
 
   pub some_least : (n : Measure) × IsLeastMeasure g p n
   some_least =

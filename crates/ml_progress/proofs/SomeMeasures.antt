@@ -4,7 +4,7 @@
 --   some_first      == at a vertex of the player some successor is the first to which the move progresses
 --   some_choice     == at each vertex there is a choice
 --   some_measures   == there are both measures, with winners and choices read off them
-use Rattle.std.proofs.Common.{ℕ, ◌≡◌, ◌≢◌, ◌+◌, ◌<◌, ◌≤◌, ◌⊎◌, inl, inr, ⊎_elim, arith, List, length, get_or, map, take, Option, Some, None, refl, sym, ◌∙◌, subst}
+use Rattle.std.proofs.Common.{ℕ, ◌≡◌, ◌+◌, ◌<◌, ◌≤◌, ◌⊎◌, inl, inr, ⊎_elim, arith, List, length, get_or, map, take, Option, Some, None, refl, sym, ◌∙◌, subst}
 use Rattle.std.specs.List.{range_with_len}
 use Rattle.std.proofs.lemmas.Bool.{cases_lt}
 use Rattle.std.proofs.lemmas.List.{get_or_default}
@@ -14,17 +14,15 @@ use Rattle.ml_lists.proofs.Search.{search_first}
 use Rattle.ml_parity.specs.declared.players.Player.{Player}
 use Rattle.ml_parity.specs.declared.players.Player.TheVariants.{Even, Odd}
 use Rattle.ml_parity.specs.Game.{ParityGame, IsGame, moves_of, owner_of, priority_of, size}
-use Rattle.ml_parity.specs.Solution.{GameSolution}
 use Rattle.ml_progress.specs.Law.{SomeMeasured}
-use Rattle.ml_progress.specs.Measure.{HasList}
-use Rattle.ml_progress.specs.Measure.{IsLeastMeasure, Measure, Progresses, ProgressesFrom, SomeProgress, is_bad, measure_at}
+use Rattle.ml_progress.specs.Measure.{IsLeastMeasure, Measure, Progresses, ProgressesFrom, is_bad, measure_at}
 use Rattle.ml_progress.specs.Measured.{IsFirstProgress, IsMeasured, MeasuredGame}
 use Rattle.ml_progress.specs.private.Bounds.{bounds_of, cut_length}
 use Rattle.ml_progress.specs.private.Choices.{AreChoices, AreWinners, IsChoiceFor, measure_for, winner_from}
 use Rattle.ml_progress.specs.private.Codes.{FitsIn, code, cut_level, step_of}
 use Rattle.ml_progress.proofs.Progress.{measure_fits, progress_steps, steps_progress}
 use Rattle.ml_progress.proofs.SomeLeast.{some_least}
-use Rattle.ml_progress.proofs.ToldSolutions.{answer_first, answer_solution, answer_told}
+use Rattle.ml_progress.proofs.ToldSolutions.{answer_first, answer_solution, answer_told, least_for}
 
 module _ (g : ParityGame) (ok : IsGame g) where
   module _ (p : Player) (m : Measure) (least : IsLeastMeasure g p m) where
@@ -101,14 +99,11 @@ module _ (g : ParityGame) (ok : IsGame g) where
             (first.0, record { listed = λ has. first.1; top = λ none. let wrong = sym is ∙ none in absurd (cc) })
 
   module _ (me mo : Measure) (even : IsLeastMeasure g Even me) (odd : IsLeastMeasure g Odd mo) where
-    least_for : (p : Player) → IsLeastMeasure g p (measure_for p me mo)
-    least_for Even = even
-    least_for Odd = odd
-
     choice_at_vertex : (v : ℕ) → v < size g
         → (w : ℕ) × IsChoiceFor g (owner_of g v) (measure_for (owner_of g v) me mo) v w
     choice_at_vertex v low =
-        some_choice (owner_of g v) (measure_for (owner_of g v) me mo) (least_for (owner_of g v)) v low refl
+        some_choice (owner_of g v) (measure_for (owner_of g v) me mo) (least_for g me mo even odd (owner_of g v)) v low
+        refl
 
     abbrev chosen_by : (v : ℕ) → (v < size g) ⊎ (size g ≤ v) → ℕ
     chosen_by v (inl low) = (choice_at_vertex v low).0
@@ -131,7 +126,8 @@ module _ (g : ParityGame) (ok : IsGame g) where
     are_winners : AreWinners g me winners
     are_winners = record {
       long = length-map-range_with_len (λ v. winner_from (measure_at me v)) 0 (size g);
-      each = λ v low. get_or-map-range_with_len (λ u. winner_from (measure_at me u)) 0 (size g) v v Even low (omega arith);
+      each = λ v low. get_or-map-range_with_len (λ u. winner_from (measure_at me u)) 0 (size g) v v Even low
+          (omega arith);
     }
 
     are_choices : AreChoices g me mo choices

@@ -1,5 +1,6 @@
 -- Winners and choices that are read off the least measures, and the solution that they are.
 --
+--   least_for                       == the measure of each player is the least one
 --   told                            == the winner is the player whose measure isn't the top
 --   told_solution, told_elsewhere   == they are a solution of the game
 --   answer_solution, .., answer_first == what is said of the answer
@@ -27,8 +28,16 @@ from_odd : (a : Option (List ℕ)) → (winner_from a ≡ Odd) ↔ (a ≡ None)
 from_odd None = (λ e. refl, λ e. refl)
 from_odd (Some xs) = (λ e. absurd (cc), λ e. absurd (cc))
 
-module _ (g : ParityGame) (ok : IsGame g) (me mo : Measure) (even : IsLeastMeasure g Even me) (odd : IsLeastMeasure g Odd mo)
-    (winners : List Player) (choices : List ℕ) (won : AreWinners g me winners) (chosen : AreChoices g me mo choices) where
+pub least_for : (g : ParityGame) (me mo : Measure) → IsLeastMeasure g Even me → IsLeastMeasure g Odd mo
+    → (p : Player)
+    → IsLeastMeasure g p (measure_for p me mo)
+least_for g me mo even odd Even = even
+least_for g me mo even odd Odd = odd
+
+module _ (g : ParityGame) (ok : IsGame g) (me mo : Measure) (even : IsLeastMeasure g Even me)
+    (odd : IsLeastMeasure g Odd mo)
+    (winners : List Player) (choices : List ℕ) (won : AreWinners g me winners)
+    (chosen : AreChoices g me mo choices) where
   -- the winner is the player whose measure isn't the top
   told : (p : Player) (v : ℕ) → v < size g → (winner_at winners v ≡ p) ↔ HasList (measure_for p me mo) v
   told Even v low = (
@@ -66,10 +75,6 @@ module _ (g : ParityGame) (ok : IsGame g) (me mo : Measure) (even : IsLeastMeasu
       → IsFirstProgress g p (measure_for p me mo) v (choice_at choices v)
   first v p low own = (choice_for v p low own).listed
 
-  least : (p : Player) → IsLeastMeasure g p (measure_for p me mo)
-  least Even = even
-  least Odd = odd
-
   -- each choice is a move
   move_of : (v : ℕ) (p : Player) → v < size g → owner_of g v ≡ p
       → (a : Option (List ℕ)) → measure_at (measure_for p me mo) v ≡ a → HasMove g v (choice_at choices v)
@@ -85,7 +90,7 @@ module _ (g : ParityGame) (ok : IsGame g) (me mo : Measure) (even : IsLeastMeasu
   -- a player wins with these choices wherever the player's measure has a list
   wins_by : (p : Player) (v : ℕ) → v < size g → HasList (measure_for p me mo) v → WinsFrom g p (choice_at choices) v
   wins_by p v low listed =
-      progress_wins g ok p (measure_for p me mo) (least p).progress (choice_at choices)
+      progress_wins g ok p (measure_for p me mo) (least_for g me mo even odd p).progress (choice_at choices)
       (λ u below own has.
       let f = first u p below own has in
       subst (Progresses g p (measure_for p me mo) u) (sym f.there) f.first.holds)
@@ -138,7 +143,8 @@ module _ (g : ParityGame) (ok : IsGame g) (me mo : Measure) (even : IsLeastMeasu
 
     pub answer_first : FirstProgressing g m
     answer_first v low own =
-        subst (λ k. IsFirstProgress g (owner_of g v) k v (choice_at m.solution.choice v)) (sym (measure_is (owner_of g v)))
+        subst (λ k. IsFirstProgress g (owner_of g v) k v (choice_at m.solution.choice v))
+        (sym (measure_is (owner_of g v)))
         (subst (λ (s : GameSolution). IsFirstProgress g (owner_of g v) (measure_for (owner_of g v) me mo) v
         (choice_at s.choice v)) (sym is_solution)
         (first v (owner_of g v) low refl

@@ -3,7 +3,7 @@ use Rattle.std.proofs.Common.{rules, ◌≡◌, ◌∙◌, ap, filter}
 use Rattle.std.proofs.lemmas.List.Filters.{dedup_is}
 use Rattle.ml_lists.specs.Ascending.{ascending}
 use Rattle.ml_progress.specs.Measure.{is_bad}
-use Rattle.ml_progress.proofs.SortedOnce.{sorted_once}
+use Rattle.ml_lists.proofs.Sorted.{sorted_once}
 use Rattle.ml_progress.proofs.scale.bad_priorities.Goals as goal
 
 pub returns : goal.returns
