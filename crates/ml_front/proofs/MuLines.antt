@@ -2,18 +2,20 @@
 --
 --   canonical_in_line  == where its names are spelled as they must be, it stands in one line
 use Rattle.std.proofs.Common.{◌≡◌, ℕ, Bool, true, false, List, [], cond, codes, bytes_eq, refl}
-use Rattle.std.proofs.lemmas.Bool.{and_parts, cases_Bool}
+use Rattle.std.specs.Cmp.{first_so}
+use Rattle.std.proofs.lemmas.Bool.{and_parts}
 use Rattle.ml_lines.proofs.LineFronts.{IsInLine}
 use Rattle.ml_text.specs.Operators.{spelling_of}
+use Rattle.ml_text.proofs.Names.{spelled_parts}
 use Rattle.ml_mu.specs.Canonical.{action_text, canonical_text, fixpoint_word, modality_text}
 use Rattle.ml_mu.specs.Formula as plain
-use Rattle.ml_mu.specs.Formula.{Formula}
+use Rattle.ml_mu.specs.Formula.{Formula, names}
 use Rattle.ml_mu.specs.declared.term.Fixpoint.{Fixpoint}
 use Rattle.ml_mu.specs.declared.term.Fixpoint.TheVariants.{Least, Greatest}
 use Rattle.ml_mu.specs.declared.term.Modality.{Modality}
 use Rattle.ml_mu.specs.declared.term.Modality.TheVariants.{Diamond, Square}
 use Rattle.ml_mu.specs.Signs.{own}
-use Rattle.ml_mu.specs.Spelling.{is_action, is_spelled, is_variable}
+use Rattle.ml_mu.specs.Spelling.{is_action, is_proposition, is_spelled, is_variable}
 use Rattle.ml_front.proofs.WordLines.{action_in_line, between_in_line, both_in_line, proposition_in_line, seven_in_line, spelling_in_line, three_in_line, upper_in_line}
 
 unless_blank : (b : Bool) (text : List ℕ) → IsInLine text → IsInLine (cond b [] text)
@@ -34,11 +36,11 @@ fixpoint_in_line Greatest = refl
 pub canonical_in_line : (f : Formula) → is_spelled f ≡ true → IsInLine (canonical_text f)
 canonical_in_line (plain.Const true) is = refl
 canonical_in_line (plain.Const false) is = refl
-canonical_in_line (plain.Prop p) is = proposition_in_line own p is
-canonical_in_line (plain.Var x) is = upper_in_line x is
+canonical_in_line (plain.Prop p) is = proposition_in_line own p (first_so (is_proposition p) true is)
+canonical_in_line (plain.Var x) is = upper_in_line x (first_so (is_variable x) true is)
 canonical_in_line (plain.Not f) is = canonical_in_line f is
 canonical_in_line (plain.Binary o f g) is =
-    let parts = and_parts (is_spelled f) (is_spelled g) is in
+    let parts = spelled_parts own (names f) (names g) is in
     between_in_line (canonical_text f) (spelling_of o) (canonical_text g) (canonical_in_line f parts.0) (spelling_in_line o)
     (canonical_in_line g parts.1)
 canonical_in_line (plain.Modal m a f) is =

@@ -2,9 +2,7 @@
 --
 --   pdl_graph, is_pdl_graph == the graph that the program makes of a formula, or of its negation
 --   pdl_held                == a well-formed formula has such a graph in each sense
-use Rattle.std.proofs.Common.{◌≡◌, ℕ, ◌≤◌, Bool, true, if◌then◌else◌, List, [], ◌∷◌, ◌++◌, refl, arith}
-use Rattle.std.specs.Cmp.{first_so, second_so}
-use Rattle.ml_base.specs.Name.{IsName, IsAction}
+use Rattle.std.proofs.Common.{ℕ, ◌≤◌, Bool, if◌then◌else◌, List, [], ◌∷◌, ◌++◌, refl, arith}
 use Rattle.ml_graph.specs.Graph.{Graph}
 use Rattle.ml_text.specs.declared.token.Operator.{Operator}
 use Rattle.ml_text.specs.declared.token.Operator.TheVariants as operator
@@ -14,7 +12,7 @@ use Rattle.ml_pdl.specs.Signs.{own}
 use Rattle.ml_pdl.specs.WellFormed.{IsWellFormed}
 use Rattle.ml_pdl_graph.specs.PdlGraph.{IsGraphOf, plain}
 use Rattle.ml_nodes.specs.private.Connectives.{operator_priorities}
-use Rattle.ml_pdl_graph.specs.private.NodeList.{actions_onto, nodes_of, priorities_of, program_actions_onto, program_priorities, program_props_onto, props_onto}
+use Rattle.ml_pdl_graph.specs.private.NodeList.{actions_onto, nodes_of, priorities_of, program_priorities, props_onto}
 use Rattle.ml_pdl_graph.proofs.Made.{graph_made}
 use Rattle.ml_nodes.proofs.HeldNames.{Every, Fits, IsHeld, every_append, every_cons, held_lists, listed_named}
 

@@ -3,7 +3,7 @@
 --   length-nodes, length-program_nodes, .. == two for each occurrence
 --   stands, program_stands                 == the nodes and priorities of a formula, or of a program, say what stands there
 --   one_symbol, program_symbol             == each formula and program has an occurrence
-use Rattle.std.proofs.Common.{◌≡◌, ℕ, ◌+◌, ◌*◌, ◌≤◌, List, [], ◌++◌, length, get_or, refl, arith}
+use Rattle.std.proofs.Common.{◌≡◌, ℕ, ◌+◌, ◌*◌, ◌≤◌, List, [], ◌++◌, length, refl, arith}
 use Rattle.ml_graph.specs.Graph.{Graph}
 use Rattle.ml_text.specs.Operators.{weight}
 use Rattle.ml_text.specs.NameLists.{place_of}

@@ -1,4 +1,4 @@
-use Rattle.std.proofs.Common.{[], length, ap, arith}
+use Rattle.std.proofs.Common.{length, ap, arith}
 use Rattle.ml_mu.specs.Term.{formula_of}
 use Rattle.ml_mu_graph.specs.private.Views.{none_around, around}
 use Rattle.ml_mu_graph.proofs.Bindings.{low_same}

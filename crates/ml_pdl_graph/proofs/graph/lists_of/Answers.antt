@@ -1,4 +1,4 @@
-use Rattle.std.proofs.Common.{[], length, ap, ◌∙◌, arith}
+use Rattle.std.proofs.Common.{length, ap, ◌∙◌, arith}
 use Rattle.ml_pdl.specs.Term.{formula_of}
 use Rattle.ml_text.specs.Names.{Proposition, Action}
 use Rattle.ml_text.proofs.Names.{few_added}
