@@ -23,8 +23,11 @@ use Rattle.ml_graph.specs.Graph.{Graph, IsGraph, Reference, references_of}
 use Rattle.ml_graph.specs.declared.node.Node.{Node}
 use Rattle.ml_graph.specs.declared.node.Node.TheVariants as node
 use Rattle.ml_text.specs.NameLists.{place_of}
-use Rattle.ml_text.proofs.NameLists.{is_among, place_found}
+use Rattle.ml_text.specs.Names.{Proposition, of_kind}
+use Rattle.ml_text.proofs.NameLists.{distinct_names, place_found}
+use Rattle.ml_text.proofs.Names.{kind_among}
 use Rattle.ml_nodes.proofs.InRange.{none_twice}
+use Rattle.ml_ctl.specs.Formula as plain
 use Rattle.ml_ctl.specs.Formula.{Formula, occurrences}
 use Rattle.ml_word_graph.specs.WordGraph.{Place, Form, Root, Total, HasEdge, LeadsOn, True, Constant, Literal, And, Or, Diamond, Square, IsReached, at_root, behind, IsNumberOf, IsNumberedBy, IsGraphOf, HasForm}
 use Rattle.ml_word_graph.specs.WordGraph.{children, form_of, priority_of, row_of, start_of}
@@ -33,7 +36,7 @@ use Rattle.ml_word_graph.specs.private.Layout.{key, made, node_of}
 use Rattle.ml_word_graph.specs.private.Reached as listed
 use Rattle.ml_word_graph.specs.private.Reached.{node_in, IsReachedIn, IsRenumbered, IsDraft, IsTrimmed, AreInside}
 use Rattle.ml_word_graph.proofs.Laid.{all_found, all_places, nodes_are, places_length, priorities_are}
-use Rattle.ml_word_graph.proofs.NamedNodes.{AreAmong, IsNamed, all_among, distinct_props, reached_named}
+use Rattle.ml_word_graph.proofs.NamedNodes.{AreAmong, IsNamed, reached_named}
 use Rattle.ml_word_graph.proofs.ReachedDrafts.{few_keys}
 use Rattle.ml_word_graph.proofs.Sizes.{reached_in}
 
@@ -355,5 +358,5 @@ graph_made f negated names actions vs qs same blank t =
     subst (λ ws. IsGraphOf (record { nodes = vs; priorities = qs; root = 0; props = names; actions = ws }) f negated)
     (sym blank)
     (trimmed_graph f negated names vs qs t
-    (all_among f [] names (λ p is. subst (λ ws. is_among ws p ≡ true) (sym same) is))
-    (subst (IsDistinct bytes_eq) (sym same) (distinct_props f [] none_twice)))
+    (kind_among Proposition (plain.names f) same)
+    (subst (IsDistinct bytes_eq) (sym same) (distinct_names [] (of_kind Proposition (plain.names f)) none_twice)))

@@ -10,6 +10,7 @@ use ml_nodes::{Names, add_action, add_proposition};
 use std::alloc::Global;
 
 // the propositions of a term, in the order of the text
+#[tactic(auto, using(ml_text::proofs::Names::kind_append))]
 fn collect(term: &Term, props: &mut IndexSet<Name>) -> Result<(), NoMemory>
     ensures { OnOk result (props.new.keys ≡ layout.props_onto (formula_of term.now) props.old.keys) }
 {

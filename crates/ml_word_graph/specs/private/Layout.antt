@@ -14,11 +14,12 @@
 use Rattle.std.specs.Prelude.{ℕ, ◌+◌, ◌*◌, Bool, true, false, if◌then◌else◌, List, [], ◌∷◌, ◌++◌}
 use Rattle.ml_graph.specs.declared.node.Node.{Node}
 use Rattle.ml_graph.specs.declared.node.Node.TheVariants as node
-use Rattle.ml_text.specs.NameLists.{with_name, place_of}
+use Rattle.ml_text.specs.NameLists.{with_names, place_of}
+use Rattle.ml_text.specs.Names.{Proposition, of_kind}
 use Rattle.ml_text.specs.declared.token.Operator.{Operator}
 use Rattle.ml_text.specs.declared.token.Operator.TheVariants as operator
 use Rattle.ml_text.specs.Operators.{weight}
-use Rattle.ml_ctl.specs.Formula.{Formula, Const, Prop, Not, Binary, Temporal, Paired, Quantified}
+use Rattle.ml_ctl.specs.Formula.{Formula, Const, Prop, Not, Binary, Temporal, Paired, Quantified, names}
 use Rattle.ml_nodes.specs.Nodes.{constant}
 use Rattle.ml_word_graph.specs.declared.layout.Kind.{Kind}
 use Rattle.ml_word_graph.specs.declared.layout.Kind.TheVariants as kind
@@ -116,10 +117,4 @@ abbrev pub all_priorities : Formula → List ℕ
 all_priorities f = 2 ∷ 2 ∷ 2 ∷ 2 ∷ 2 ∷ priorities_of f
 
 abbrev pub props_onto : Formula → List (List ℕ) → List (List ℕ)
-props_onto (Const b) ps = ps
-props_onto (Prop p) ps = with_name ps p
-props_onto (Not f) ps = props_onto f ps
-props_onto (Binary op f g) ps = props_onto g (props_onto f ps)
-props_onto (Temporal t f) ps = props_onto f ps
-props_onto (Paired p f g) ps = props_onto g (props_onto f ps)
-props_onto (Quantified q f) ps = props_onto f ps
+props_onto f ps = with_names ps (of_kind Proposition (names f))

@@ -1,15 +1,19 @@
-use Rattle.std.proofs.Common.{◌≡◌, [], length, ap, sym, subst, ◌∙◌, arith}
+use Rattle.std.proofs.Common.{◌≡◌, length, ap, sym, subst, ◌∙◌, arith}
+use Rattle.ml_text.specs.Names.{Proposition}
+use Rattle.ml_text.proofs.Names.{few_added}
+use Rattle.ml_ctl.specs.Formula.{names, occurrences}
 use Rattle.ml_ctl.specs.Term.{formula_of}
+use Rattle.ml_ctl.proofs.Counting.{few_names}
 use Rattle.ml_word_graph.specs.private.Layout as layout
 use Rattle.ml_word_graph.specs.private.Reached.{AreInside, IsTrimmed}
 use Rattle.ml_word_graph.proofs.Made.{all_length, are_inside, as_many_ranks}
-use Rattle.ml_word_graph.proofs.NamedNodes.{few_props}
 use Rattle.ml_word_graph.proofs.OkResults.{ok_three}
 use Rattle.ml_word_graph.proofs.graph.lists_of.Goals as goal
 
 pub laid_out-requires-clause-names : goal.laid_out-requires-clause-names
 laid_out-requires-clause-names c =
-    omega (arith, ap length c.in_ok-names.ensures.props, few_props (formula_of c.args.term.now) [], c.requires)
+    let f = formula_of c.args.term.now in
+    omega (arith, ap length c.in_ok-names.ensures.props, few_added Proposition (names f) (occurrences f) (few_names f), c.requires)
 
 pub trimmed-requires-clause-inside : goal.trimmed-requires-clause-inside
 trimmed-requires-clause-inside c =
