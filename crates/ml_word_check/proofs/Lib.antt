@@ -1,8 +1,8 @@
 -- where the edges of states lead
-pub mod Steps
+pub mod EdgesGathered
 -- the truth of a formula at the places of a path
-pub mod Truths
+pub mod TruthValues
 -- the path from a state
 pub mod Walked
 -- what is found at the state
-pub mod Holding
+pub mod FoundAtStates
