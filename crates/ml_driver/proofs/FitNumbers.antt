@@ -14,13 +14,13 @@ use Rattle.ml_gen.specs.Families.{family_named, is_in_range}
 use Rattle.ml_gen.specs.declared.family.Family.{Family}
 use Rattle.ml_front.specs.declared.logic.Logic.{Logic}
 use Rattle.ml_driver.specs.declared.command.Command.{Command}
-use Rattle.ml_driver.specs.declared.command.Command.TheVariants.{Decide, Valid, CheckModel, CheckRefutation, Migrate, SolveGame, Gen, Bench}
+use Rattle.ml_driver.specs.declared.command.Command.TheVariants.{Decide, Valid, CheckModel, CheckRefutation, Migrate, SolveGame, Determinise, Gen, Bench}
 use Rattle.ml_driver.specs.declared.command.TheConstants.{GREATEST_LIMIT, LONGEST_NUMBER}
 use Rattle.ml_driver.specs.declared.engine.Engine.{Engine}
 use Rattle.ml_driver.specs.Games.{engine_named}
 use Rattle.ml_driver.specs.Laws.{HasFitNumbers}
-use Rattle.ml_driver.specs.Words.{about, asked_by, solved_by, at_least_one, bare_by, command_of, count_named, counted_by, decided_by, digit_on, faults_of, if_faultless}
-use Rattle.ml_driver.specs.Words.{if_in_range, is_digit, limit_named, number_named, parts_in, row, row_of, rows_in, value_from}
+use Rattle.ml_driver.specs.Words.{about, alone, asked_by, solved_by, at_least_one, bare_by, command_of, count_named, counted_by, decided_by, digit_on, faults_of, if_faultless}
+use Rattle.ml_driver.specs.Words.{if_in_range, is_digit, limit_named, number_named, parts_in, row, row_of, rows_in, unlimited, value_from}
 
 -- what a test lets through
 passed : (t : Bool) (x n : ℕ) → (if t then Some x else None) ≡ Some n → (t ≡ true) × (x ≡ n)
@@ -135,12 +135,21 @@ about_fits w subject limit = by_word (bytes_eq w (codes "solve-game"))
     by_word true = solved_fits subject limit
     by_word false = of_logic w limit (logic_named subject)
 
+alone_fits : (w : Word) (limit : Option Word) → HasFitNumbers (alone w limit)
+alone_fits w limit = by_word (bytes_eq w (codes "determinise")) limit (limit_named limit)
+  where
+    by_word : (t : Bool) (limit : Option Word) (n : Option ℕ)
+        → HasFitNumbers (if t then option_map Determinise n else unlimited w limit)
+    by_word true limit None = tt
+    by_word true limit (Some n) = tt
+    by_word false None n = bare_fits w
+    by_word false (Some word) n = tt
+
 row_fits : (command subject count limit : Option Word) → HasFitNumbers (row_of command subject count limit)
 row_fits (Some w) (Some subject) None limit = about_fits w subject limit
 row_fits (Some w) (Some subject) (Some count) None = of_family w count (family_named subject)
 row_fits (Some w) (Some subject) (Some count) (Some limit) = tt
-row_fits (Some w) None None None = bare_fits w
-row_fits (Some w) None None (Some limit) = tt
+row_fits (Some w) None None limit = alone_fits w limit
 row_fits (Some w) None (Some count) limit = tt
 row_fits None subject count limit = tt
 

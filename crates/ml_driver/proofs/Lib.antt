@@ -12,6 +12,8 @@ pub mod FoundWords
 pub mod RefutationDocuments
 -- what is due for `solve-game`
 pub mod GameAnswers
+-- what is due for `determinise`
+pub mod AutomatonAnswers
 -- one status is due
 pub mod OneDue
 -- what is written is read back

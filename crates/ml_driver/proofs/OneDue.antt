@@ -15,7 +15,7 @@ use Rattle.ml_model_check.specs.Checked.{IsCheckedAs}
 use Rattle.ml_model_check.specs.declared.checked.Checked.{Checked}
 use Rattle.ml_model_check.specs.declared.checked.Checked.TheVariants as checked
 use Rattle.ml_model_check.proofs.OneCheck.{one_check}
-use Rattle.ml_driver.specs.declared.command.Command.TheVariants.{Decide, Valid, CheckModel, CheckRefutation, Migrate, SolveGame, Gen, Bench}
+use Rattle.ml_driver.specs.declared.command.Command.TheVariants.{Decide, Valid, CheckModel, CheckRefutation, Migrate, SolveGame, Determinise, Gen, Bench}
 use Rattle.ml_driver.specs.declared.status.Status.{Status}
 use Rattle.ml_driver.specs.declared.status.Status.TheVariants.{Yes, No, Undecided, Words, Text}
 use Rattle.ml_driver.specs.Statuses.{longest_document, refusal_line}
@@ -29,6 +29,7 @@ use Rattle.ml_driver.proofs.RefutationDocuments.{no_refutation_at_fault}
 use Rattle.ml_gen.specs.declared.family.Family.{Family}
 use Rattle.ml_driver.specs.Bench.{IsBenched, IsFinding, answer_of, bench_text, gen_text, occurrences_of, status_of}
 use Rattle.ml_driver.specs.declared.command.TheConstants.{GREATEST_LIMIT}
+use Rattle.ml_driver.proofs.AutomatonAnswers.{one_determinised}
 use Rattle.ml_driver.proofs.FamilyProblems.{one_family_problem}
 use Rattle.ml_driver.proofs.GameAnswers.{one_solved}
 use Rattle.ml_driver.proofs.Measures.{one_finding}
@@ -292,6 +293,7 @@ one_due (Some CheckRefutation) text s t out more x y =
 one_due (Some Migrate) text s t out more x y =
     one_migrated text s t out more (migrates text s out x) (migrates text t more y)
 one_due (Some (SolveGame e)) text s t out more x y = one_solved e text s t out more x y
+one_due (Some (Determinise n)) text s t out more x y = (one_determinised n text s t out more x y).0
 one_due (Some (Gen f n)) text s t out more x y =
     let a = generated f n text s out x in
     let b = generated f n text t more y in

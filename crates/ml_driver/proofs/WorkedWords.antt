@@ -3,7 +3,7 @@ use Rattle.std.proofs.Common.{◌≡◌, [], ◌∷◌, Some, None, refl, codes}
 use Rattle.clap.proofs.OnLiterals.{clap_on_literals}
 use Rattle.ml_front.specs.declared.logic.Logic.TheVariants.{Mu, Pdl, Ctl, Ltl}
 use Rattle.ml_gen.specs.declared.family.Family.TheVariants.{Or, Loop}
-use Rattle.ml_driver.specs.declared.command.Command.TheVariants.{Decide, Valid, CheckModel, Gen, Bench}
+use Rattle.ml_driver.specs.declared.command.Command.TheVariants.{Decide, Valid, CheckModel, Determinise, Gen, Bench}
 use Rattle.ml_driver.specs.Words.{cli, command_of, faults_of, rows_in}
 
 bare : command_of (codes "decide" ∷ codes "mu" ∷ []) ≡ Some (Decide Mu 50000)
@@ -34,6 +34,22 @@ of_ltl = refl
 check : command_of (codes "check-model" ∷ []) ≡ Some CheckModel
 unfolding cli faults_of rows_in clap_on_literals
 check = refl
+
+to_determinise : command_of (codes "determinise" ∷ []) ≡ Some (Determinise 50000)
+unfolding cli faults_of rows_in clap_on_literals
+to_determinise = refl
+
+to_determinise_within : command_of (codes "determinise" ∷ codes "--limit" ∷ codes "2" ∷ []) ≡ Some (Determinise 2)
+unfolding cli faults_of rows_in clap_on_literals
+to_determinise_within = refl
+
+no_state : command_of (codes "determinise" ∷ codes "--limit=0" ∷ []) ≡ None
+unfolding cli faults_of rows_in clap_on_literals
+no_state = refl
+
+of_no_logic : command_of (codes "determinise" ∷ codes "ltl" ∷ []) ≡ None
+unfolding cli faults_of rows_in clap_on_literals
+of_no_logic = refl
 
 none : command_of [] ≡ None
 unfolding cli faults_of rows_in clap_on_literals

@@ -8,6 +8,9 @@
 --   OneDue           == one status is due at most
 --   OneMeasure       == one output is due at most for `gen` and `bench`
 --   SameWinners      == both engines of `solve-game` name the same winners
+--   OneAutomatonDue  == one status and one output are due at most for `determinise`
+--   OneAutomatonWritten == one automaton is written of a text at most, whatever the limit
+--   WrittenAcceptsTheSame == it accepts the words of valuations that the text's automaton accepts
 --   SomeGame         == the decision game of a graph has an arena with at most so many positions, or has more
 --   IsExact q p s    == the status s says of the problem p what is true of it
 --   AnswersAreExact  == each answer to a question is exact
@@ -15,13 +18,16 @@
 --   DecideIsChecked, ValidIsChecked == where they are no longer than documents that are read, `check-model` answers
 --                       `holds` of one with a structure, and `check-refutation` answers `accepted` of one with a refutation
 --   GraphsFit        == the trace automaton of the graph of a problem within the limits has at most 2^30 states
-use Rattle.std.specs.Prelude.{ℕ, ◌≡◌, ◌<◌, ◌≤◌, ◌^◌, ◌⊎◌, Bool, true, false, List, length, Option, Some}
+use Rattle.std.specs.Prelude.{ℕ, ◌≡◌, ◌<◌, ◌≤◌, ◌^◌, ◌⊎◌, ◌↔◌, Bool, true, false, List, length, Option, Some}
+use Rattle.ml_buchi.specs.Deterministic.{IsValuationWord}
+use Rattle.ml_buchi.specs.Valuations.{Leads}
+use Rattle.ml_determinise.specs.Numbering.{automaton_of}
 use Rattle.ml_gen.specs.Families.{is_in_range}
 use Rattle.ml_gen.specs.declared.family.Family.{Family}
 use Rattle.ml_graph.specs.Graph.{Graph, IsGraph}
 use Rattle.ml_product.specs.Arena.{Arena, IsArenaOf}
 use Rattle.ml_product.specs.DecisionGame.{HasMoreThan}
-use Rattle.ml_driver.specs.declared.command.Command.TheVariants.{Decide, Valid, CheckModel, CheckRefutation, Gen, Bench}
+use Rattle.ml_driver.specs.declared.command.Command.TheVariants.{Decide, Valid, CheckModel, CheckRefutation, Determinise, Gen, Bench}
 use Rattle.ml_driver.specs.declared.command.Command.{Command}
 use Rattle.ml_model_check.specs.Checked.{Shows}
 use Rattle.ml_model_check.specs.declared.checked.Checked.TheVariants.{Holds}
@@ -35,6 +41,7 @@ use Rattle.ml_product.specs.Position.{automaton_states}
 use Rattle.ml_refute_check.specs.Documents.{IsAcceptedDocument}
 use Rattle.ml_parity.specs.Game.{size}
 use Rattle.ml_parity.specs.Solution.{winner_at}
+use Rattle.ml_trace.specs.WordAutomata.{IsAcceptedFrom, IsDetAcceptedFrom, IsWordLasso, WordLasso}
 use Rattle.ml_driver.specs.Games.{IsSolved}
 use Rattle.ml_driver.specs.declared.engine.Engine.{Engine}
 use Rattle.ml_driver.specs.declared.cause.Cause.{Cause}
@@ -51,7 +58,7 @@ abbrev pub OneDue : Type 0
 OneDue = (c : Option Command) (text : List ℕ) (s t : Status) (out more : List ℕ)
     → IsDue c text s out → IsDue c text t more → s ≡ t
 
--- for `gen` a number may be any: the text is told for each
+-- for `gen` and `determinise` a number may be any
 abbrev pub HasFitNumbers : Option Command → Type 0
 HasFitNumbers (Some (Decide l n)) = n < 2 ^ 32
 HasFitNumbers (Some (Valid l n)) = n < 2 ^ 32
@@ -125,6 +132,26 @@ abbrev pub SameWinners : Type 0
 SameWinners = (d e : Engine) (text out more : List ℕ) (x : IsSolved d text out) (y : IsSolved e text more)
     → (x.named ≡ y.named)
     × ((v : ℕ) → v < size x.named.game → winner_at x.solution.winner v ≡ winner_at y.solution.winner v)
+
+abbrev pub OneAutomatonDue : Type 0
+OneAutomatonDue = (n : ℕ) (text : List ℕ) (s t : Status) (out more : List ℕ)
+    → IsDue (Some (Determinise n)) text s out
+    → IsDue (Some (Determinise n)) text t more
+    → (s ≡ t) × (out ≡ more)
+
+abbrev pub OneAutomatonWritten : Type 0
+OneAutomatonWritten = (n m : ℕ) (text out more : List ℕ)
+    → IsDue (Some (Determinise n)) text Yes out
+    → IsDue (Some (Determinise m)) text Yes more
+    → out ≡ more
+
+-- from its state 0, with the moves that are written
+abbrev pub WrittenAcceptsTheSame : Type 0
+WrittenAcceptsTheSame = (n : ℕ) (text out : List ℕ) (x : IsDue (Some (Determinise n)) text Yes out) (w : WordLasso ℕ)
+    → IsWordLasso w
+    → IsValuationWord x.automaton w
+    → IsAcceptedFrom (Leads x.automaton) x.automaton.start w
+    ↔ IsDetAcceptedFrom (automaton_of x.is_so.deterministic.moves) 0 w
 
 abbrev pub SomeGame : Type 0
 SomeGame =

@@ -6,6 +6,8 @@ pub mod Documents
 pub mod Statuses
 -- parity games that are solved
 pub mod Games
+-- automata that are made deterministic
+pub mod Automata
 -- what a problem is decided to be
 pub mod Decision
 -- what is written of the formulas of families

@@ -37,9 +37,10 @@ use Rattle.ml_model_check.specs.declared.checked.Checked.TheVariants.{Holds, Fai
 use Rattle.ml_refute_check.specs.Documents as refuted
 use Rattle.ml_refute_check.specs.Documents.{IsAcceptedDocument, IsMigrated, IsRejectedAt, HoldsNowhere}
 use Rattle.ml_driver.specs.declared.command.Command.{Command}
-use Rattle.ml_driver.specs.declared.command.Command.TheVariants.{Decide, Valid, CheckModel, CheckRefutation, Migrate, SolveGame, Gen, Bench}
+use Rattle.ml_driver.specs.declared.command.Command.TheVariants.{Decide, Valid, CheckModel, CheckRefutation, Migrate, SolveGame, Determinise, Gen, Bench}
 use Rattle.ml_driver.specs.declared.status.Status.{Status}
 use Rattle.ml_driver.specs.declared.status.Status.TheVariants.{Yes, No, Undecided, Words, Text, ReadFault, WriteFault, NoMemory}
+use Rattle.ml_driver.specs.Automata.{IsRefusedAutomaton, IsWrittenFor, PassesLimit, StandsForOne}
 use Rattle.ml_driver.specs.Bench.{IsBenched, gen_text}
 use Rattle.ml_driver.specs.Decision.{IsAnswered}
 use Rattle.ml_driver.specs.Games.{IsSolved, IsRefusedGame}
@@ -127,6 +128,9 @@ IsDue (Some Migrate) text Yes out = (length text ≤ longest_document) × IsMigr
 IsDue (Some Migrate) text Text out = IsRefusedDocument (refuted.IsDocumentFault text) text out
 IsDue (Some (SolveGame e)) text Yes out = IsSolved e text out
 IsDue (Some (SolveGame e)) text Text out = IsRefusedGame text out
+IsDue (Some (Determinise n)) text Yes out = StandsForOne text (λ a. IsWrittenFor a n out)
+IsDue (Some (Determinise n)) text Undecided out = StandsForOne text (λ a. PassesLimit a n out)
+IsDue (Some (Determinise n)) text Text out = IsRefusedAutomaton text out
 IsDue (Some (Gen f n)) text Yes out = out ≡ gen_text f n
 IsDue (Some (Bench f n)) text status out = IsBenched f n status out
 IsDue _ _ _ _ = ⊥

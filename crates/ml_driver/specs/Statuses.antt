@@ -5,6 +5,7 @@
 --   longest_text     == the limit on the length of a formula's text
 --   longest_document == the limit on the length of a document
 --   longest_game     == the limit on the length of a game's text
+--   longest_automaton == the limit on the length of an automaton's text
 --   longest_input c  == the limit on the length of the input of a command, if it takes one
 --   refused_length   == the line for a longer input
 --   holds_line       == the line for a document whose problem holds where the document says so
@@ -23,9 +24,10 @@ use Rattle.ml_base.specs.declared.parse_refusal.ParseRefusal.{ParseRefusal}
 use Rattle.ml_base.specs.declared.parse_refusal.ParseRefusal.TheVariants as refusal
 use Rattle.ml_lines.specs.Lines.{number, line_text}
 use Rattle.ml_front.specs.declared.problem.TheConstants.{MOST_NODES}
+use Rattle.ml_hoa.specs.declared.limits.TheConstants.{LONGEST_AUTOMATON_TEXT}
 use Rattle.ml_pgsolver.specs.declared.limits.TheConstants.{LONGEST_GAME_TEXT}
 use Rattle.ml_driver.specs.declared.command.Command.{Command}
-use Rattle.ml_driver.specs.declared.command.Command.TheVariants.{Decide, Valid, CheckModel, CheckRefutation, Migrate, SolveGame, Gen, Bench}
+use Rattle.ml_driver.specs.declared.command.Command.TheVariants.{Decide, Valid, CheckModel, CheckRefutation, Migrate, SolveGame, Determinise, Gen, Bench}
 use Rattle.ml_driver.specs.declared.command.TheConstants.{LONGEST_TEXT, LONGEST_DOCUMENT}
 use Rattle.ml_driver.specs.declared.status.Status.{Status}
 use Rattle.ml_driver.specs.declared.status.Status.TheVariants.{Yes, No, Undecided, Words, Text, ReadFault, WriteFault, NoMemory}
@@ -52,6 +54,9 @@ longest_document = LONGEST_DOCUMENT
 abbrev pub longest_game : ℕ
 longest_game = LONGEST_GAME_TEXT
 
+abbrev pub longest_automaton : ℕ
+longest_automaton = LONGEST_AUTOMATON_TEXT
+
 abbrev pub longest_input : Command → Option ℕ
 longest_input (Decide l n) = Some longest_text
 longest_input (Valid l n) = Some longest_text
@@ -59,6 +64,7 @@ longest_input CheckModel = Some longest_document
 longest_input CheckRefutation = Some longest_document
 longest_input Migrate = Some longest_document
 longest_input (SolveGame e) = Some longest_game
+longest_input (Determinise n) = Some longest_automaton
 longest_input (Gen f n) = None
 longest_input (Bench f n) = None
 

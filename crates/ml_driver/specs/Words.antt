@@ -16,7 +16,8 @@
 --   count_named f w    == the number of the range of the family f that the word w is
 --   Parts              == the words as they are taken apart: three positionals and the option's value
 --   decided_by, solved_by, counted_by, bare_by == the rows of the table with a logic, with an engine, with a family and a
---                         number, and with none of these
+--                         number, and with none of these and no limit
+--   determinised_by limit, unlimited w limit, alone w limit == the row with a limit alone; those of bare_by; these together
 --   row p              == the command whose row the parts p are
 --   if_faultless ks c  == c, where there is no fault
 --   parts_in rows      == the parts that `clap` found
@@ -30,7 +31,7 @@ use Rattle.ml_front.specs.declared.logic.Logic.{Logic}
 use Rattle.ml_gen.specs.Families.{family_named, is_in_range}
 use Rattle.ml_gen.specs.declared.family.Family.{Family}
 use Rattle.ml_driver.specs.declared.command.Command.{Command}
-use Rattle.ml_driver.specs.declared.command.Command.TheVariants.{Decide, Valid, CheckModel, CheckRefutation, Migrate, SolveGame, Gen, Bench}
+use Rattle.ml_driver.specs.declared.command.Command.TheVariants.{Decide, Valid, CheckModel, CheckRefutation, Migrate, SolveGame, Determinise, Gen, Bench}
 use Rattle.ml_driver.specs.Games.{engine_named}
 use Rattle.ml_driver.specs.declared.engine.Engine.{Engine}
 use Rattle.ml_driver.specs.declared.command.TheConstants.{DEFAULT_LIMIT, GREATEST_LIMIT, LONGEST_NUMBER}
@@ -107,6 +108,19 @@ bare_by w =
     else (if bytes_eq w (codes "check-refutation") then Some CheckRefutation
     else (if bytes_eq w (codes "migrate") then Some Migrate else None))
 
+-- a command with a limit alone
+abbrev pub determinised_by : Option Word → Option Command
+determinised_by limit = option_map Determinise (limit_named limit)
+
+-- a command that stands alone, and no limit
+abbrev pub unlimited : Word → Option Word → Option Command
+unlimited w None = bare_by w
+unlimited w (Some limit) = None
+
+-- a command without a logic, an engine or a family
+abbrev pub alone : Word → Option Word → Option Command
+alone w limit = if bytes_eq w (codes "determinise") then determinised_by limit else unlimited w limit
+
 -- a command with an engine, and no limit
 abbrev pub solved_by : Word → Option Word → Option Command
 solved_by subject None = option_map SolveGame (engine_named subject)
@@ -124,7 +138,7 @@ abbrev pub row_of : Option Word → Option Word → Option Word → Option Word 
 row_of (Some w) (Some subject) None limit = about w subject limit
 row_of (Some w) (Some subject) (Some count) None =
     option_and_then (λ (f : Family). option_and_then (counted_by w f) (count_named f count)) (family_named subject)
-row_of (Some w) None None None = bare_by w
+row_of (Some w) None None limit = alone w limit
 row_of _ _ _ _ = None
 
 abbrev pub row : Parts → Option Command

@@ -19,6 +19,7 @@ use clap::{Arg, ArgMatches, Error};
 use ml_base::NoMemory;
 use ml_front::Logic;
 use ml_gen::Family;
+use ml_hoa::LONGEST_AUTOMATON_TEXT;
 use ml_pgsolver::LONGEST_GAME_TEXT;
 use std::alloc::{AllocError, Global};
 
@@ -37,6 +38,9 @@ pub enum Command {
     Migrate,
     /// `solve-game ENGINE`: who wins each vertex of the parity game on the input, and by which moves?
     SolveGame { engine: Engine },
+    /// `determinise`: the deterministic automaton of the Büchi automaton on the input, which may have as many states as the
+    /// limit.
+    Determinise { limit: u32 },
     /// `gen FAMILY N`: the text of the family's formula for the number. Nothing is read.
     Gen { family: Family, n: u32 },
     /// `bench FAMILY N`: the size of this formula, of its graph and of its decision game, and is it satisfiable? Nothing is
@@ -50,10 +54,10 @@ pub const LONGEST_TEXT: u64 = 1_048_576;
 /// How many bytes a document has at most, 2^63 - 1: no slice of bytes is longer.
 pub const LONGEST_DOCUMENT: u64 = 0x7fff_ffff_ffff_ffff;
 
-/// How many positions a decision game may have, where the words don't say.
+/// How many positions a decision game may have, or states a deterministic automaton, where the words don't say.
 pub const DEFAULT_LIMIT: u32 = 50_000;
 
-/// How many positions a decision game may have at most.
+/// How many positions a decision game, or states a deterministic automaton, may have at most.
 pub const GREATEST_LIMIT: u32 = 200_000;
 
 /// How many digits a number has at most.
@@ -72,6 +76,7 @@ impl Command {
                 Some(LONGEST_DOCUMENT)
             }
             Command::SolveGame { .. } => Some(LONGEST_GAME_TEXT as u64),
+            Command::Determinise { .. } => Some(LONGEST_AUTOMATON_TEXT as u64),
             Command::Gen { .. } | Command::Bench { .. } => None,
         }
     }
@@ -166,7 +171,7 @@ fn row(
             let n = count_named(family, count)?;
             counted_by(command, family, n)
         }
-        (Some(command), None, None, None) => bare_by(command),
+        (Some(command), None, None, limit) => alone(command, limit),
         _ => None,
     }
 }
@@ -179,6 +184,35 @@ fn about(command: &str, subject: &str, limit: Option<&str>) -> Option<Command>
         solved_by(subject, limit)
     } else {
         asked_by(command, subject, limit)
+    }
+}
+
+fn alone(command: &str, limit: Option<&str>) -> Option<Command>
+    ensures command { result ≡ command_line.alone command.now (option_map (λ s. s.now) limit.entry) }
+    ensures usual { IfSome result HasUsualNumbers }
+{
+    if command == "determinise" {
+        determinised_by(limit)
+    } else {
+        unlimited(command, limit)
+    }
+}
+
+fn determinised_by(limit: Option<&str>) -> Option<Command>
+    ensures command { result ≡ command_line.determinised_by (option_map (λ s. s.now) limit.entry) }
+    ensures usual { IfSome result HasUsualNumbers }
+{
+    let limit = limit_named(limit)?;
+    Some(Command::Determinise { limit })
+}
+
+fn unlimited(command: &str, limit: Option<&str>) -> Option<Command>
+    ensures command { result ≡ command_line.unlimited command.now (option_map (λ s. s.now) limit.entry) }
+    ensures usual { IfSome result HasUsualNumbers }
+{
+    match limit {
+        None => bare_by(command),
+        Some(_) => None,
     }
 }
 

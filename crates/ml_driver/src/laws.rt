@@ -1,7 +1,7 @@
 // What holds of what is due by its definition alone: the functions do nothing, their contracts are the theorems.
 ghost use Rattle.std.specs.Prelude.{◌≡◌, ◌+◌, ◌^◌};
 ghost use Rattle.ml_driver.specs.declared.command.TheConstants.{DEFAULT_LIMIT, GREATEST_LIMIT, LONGEST_DOCUMENT, LONGEST_NUMBER, LONGEST_TEXT};
-ghost use Rattle.ml_driver.specs.Laws.{AnswersAreExact, DecidedAreChecked, DecideIsChecked, GraphsFit, OneDue, OneMeasure, RefutedAreAccepted, SameWinners, SomeDue, SomeDueForWords, SomeGame, ValidIsChecked};
+ghost use Rattle.ml_driver.specs.Laws.{AnswersAreExact, DecidedAreChecked, DecideIsChecked, GraphsFit, OneAutomatonDue, OneAutomatonWritten, OneDue, OneMeasure, RefutedAreAccepted, SameWinners, SomeDue, SomeDueForWords, SomeGame, ValidIsChecked, WrittenAcceptsTheSame};
 
 /// For each command, for words that are none, and for each input exactly one status is due: some status with some output, and
 /// no other status. Of the limit of a command only this is asked, that it fits 32 bits, as that of each `Command` does; and
@@ -55,4 +55,12 @@ pub fn some_game()
 /// Whichever engine solves the game of a text: the text stands for one game, and the winners are the same.
 pub fn same_winners()
     ensures { SameWinners }
+{}
+
+/// For `determinise` one status is due, with one output. Of a text one automaton is written at most, whatever the limit, and
+/// it accepts exactly the endless words of valuations that the automaton of the text accepts.
+pub fn one_automaton()
+    ensures due { OneAutomatonDue }
+    ensures written { OneAutomatonWritten }
+    ensures same_words { WrittenAcceptsTheSame }
 {}

@@ -16,6 +16,7 @@ mod check;
 mod command;
 mod decide;
 mod deciding;
+mod determinising;
 mod documents;
 mod engine;
 mod finding;
