@@ -9,7 +9,7 @@ mod SameRows
 -- automata that lead alike
 mod LeadAlike
 -- the deterministic automaton accepts the same words
-mod SameWords
+pub mod SameWords
 -- what is made of letters that stand for the same sets
 mod MadeDeterministic
 -- what is made deterministic can be written

@@ -5,23 +5,23 @@
 --   one_determinised == one status is due at most, and one output
 --   on_automaton   == some status is due, with some output
 --   written_words  == what is written accepts the words that the text's automaton accepts
-use Rattle.std.proofs.Common.{◌≡◌, ◌≢◌, ℕ, ◌+◌, ◌*◌, ◌<◌, ◌≤◌, ◌⊎◌, List, length, Option, Some, None, refl, sym, ap, subst, ◌∙◌, inl, inr, ⊎_elim, arith}
+use Rattle.std.proofs.Common.{◌≡◌, ◌≢◌, ℕ, ◌+◌, ◌*◌, ◌<◌, ◌≤◌, List, length, Some, None, refl, sym, ap, subst, ◌∙◌, inl, inr, ⊎_elim, arith}
 use Rattle.std.proofs.lemmas.Bool.{cases_lt}
 use Rattle.std.proofs.lemmas.List.{length-map}
 use Rattle.ml_trace.specs.Stack.{Item}
-use Rattle.ml_hoa.specs.Automaton.{Automaton, IsAutomaton}
+use Rattle.ml_hoa.specs.Automaton.{Automaton}
 use Rattle.ml_hoa.specs.Refusals.{IsReadAs, IsRefusedBy}
 use Rattle.ml_hoa.specs.declared.refusal.HoaRefusal.{HoaRefusal}
 use Rattle.ml_hoa.specs.declared.refusal.HoaRefusal.TheVariants as cause
 use Rattle.ml_hoa.proofs.OneAnswers.{never_both, one_automaton, one_refusal, some_answer}
-use Rattle.ml_hoa.proofs.Values.{is_automaton}
+use Rattle.ml_hoa.proofs.ReadAutomata.{read_is_automaton}
 use Rattle.ml_determinise.specs.Numbering.{HasMoreThan, IsNumberingWithin, moves_from, moves_of}
 use Rattle.ml_determinise.proofs.Numberings.{never_both as never_numbered, some_numbering}
 use Rattle.ml_buchi.specs.Deterministic.{Deterministic, IsDeterminised}
 use Rattle.ml_buchi.specs.Valuations.{letters_of}
 use Rattle.ml_buchi.specs.WrittenText.{automaton_text}
 use Rattle.ml_buchi.proofs.SameWords.{one_automaton as one_deterministic, same_words}
-use Rattle.ml_driver.specs.Automata.{IsRefusedAsAutomaton, IsRefusedAutomaton, IsWrittenFor, PassesLimit, StandsForOne, automaton_refusal_line, passed_line}
+use Rattle.ml_driver.specs.Automata.{IsRefusedAsAutomaton, IsWrittenFor, PassesLimit, StandsForOne, automaton_refusal_line, passed_line}
 use Rattle.ml_driver.specs.Laws.{OneAutomatonDue, OneAutomatonWritten, WrittenAcceptsTheSame}
 use Rattle.ml_driver.specs.Run.{IsDue}
 use Rattle.ml_driver.specs.Statuses.{longest_automaton, refused_length}
@@ -191,10 +191,6 @@ on_automaton n text =
     (cases_lt longest_automaton (length text))
 
 -- ---- the words
-
-read_is_automaton : (text : List ℕ) (a : Automaton) → IsReadAs text a → IsAutomaton a
-read_is_automaton text a is =
-    subst IsAutomaton (sym is.is_automaton) (is_automaton is.draft is.stands.is_small is.in_range)
 
 pub written_words : WrittenAcceptsTheSame
 written_words n text out x w lasso letters =

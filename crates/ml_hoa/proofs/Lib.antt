@@ -31,4 +31,6 @@ mod Values
 -- what is answered to a text
 mod Answered
 -- each text has one answer
-mod OneAnswers
+pub mod OneAnswers
+-- what texts are read as
+pub mod ReadAutomata
