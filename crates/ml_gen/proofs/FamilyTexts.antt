@@ -43,8 +43,8 @@ range_parts family n is = (
 
 and_is_part : (i : ℕ) → i ≤ 500 → mu_chains.IsPart (and_part i)
 and_is_part i low = record {
-  spelled = and_from (list_all is_word_byte (number i)) true (name_bytes i (omega arith)) refl;
-  short = omega (arith, number_short i low);
+  spelled = and_from _ true (and_from (list_all is_word_byte (number i)) true (name_bytes i (omega arith)) refl) refl;
+  short = (omega (arith, number_short i low), tt);
   bound = refl;
   positive = refl;
 }
@@ -53,8 +53,8 @@ or_is_part : (i : ℕ) → i ≤ 500 → mu_chains.IsPart (or_part i)
 or_is_part i low =
     let named = and_from (list_all is_word_byte (number i)) true (name_bytes i (omega arith)) refl in
     record {
-      spelled = and_from _ _ named named;
-      short = (omega (arith, number_short i low), omega (arith, number_short i low));
+      spelled = and_from _ _ named (and_from _ true named refl);
+      short = (omega (arith, number_short i low), (omega (arith, number_short i low), tt));
       bound = refl;
       positive = refl;
     }
@@ -111,8 +111,8 @@ acts_text (suc k) a after = ap (λ rest. codes ";a" ++ rest) (acts_text k (a + 1
 
 fair_is_part : (i : ℕ) → i ≤ 500 → ltl_chains.IsPart (fair_part i)
 fair_is_part i low = record {
-  spelled = and_from (list_all is_word_byte (number i)) true (name_bytes i (omega arith)) refl;
-  short = omega (arith, number_short i low);
+  spelled = and_from _ true (and_from (list_all is_word_byte (number i)) true (name_bytes i (omega arith)) refl) refl;
+  short = (omega (arith, number_short i low), tt);
   stands = refl;
 }
 

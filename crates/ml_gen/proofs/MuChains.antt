@@ -18,7 +18,9 @@ use Rattle.ml_text.proofs.Pieces.{and_piece, ends_word}
 use Rattle.ml_text.proofs.Scans.{Spelt, spelt_at, Scans, ends, scans_tokens}
 use Rattle.ml_text.proofs.TableItems.{IsShort, signs_spelt}
 use Rattle.ml_mu.specs.Canonical.{canonical_text}
-use Rattle.ml_mu.specs.Formula.{Formula, Binary, occurrences}
+use Rattle.ml_text.specs.Names.{IsShortName}
+use Rattle.ml_text.proofs.Names.{all_both, spelled_both}
+use Rattle.ml_mu.specs.Formula.{Formula, Binary, names, occurrences}
 use Rattle.ml_mu.specs.Grammar as grammar
 use Rattle.ml_mu.specs.Grammar.{IsReadAs, Reads, iff_alone, imp_alone, or_alone, and}
 use Rattle.ml_mu.specs.Parsing.{IsParsedAs}
@@ -51,8 +53,8 @@ pub record IsPart (f : Formula) : Type 0 where
 
 both : (f g : Formula) → IsPart f → IsPart g → IsPart (Binary operator.And f g)
 both f g p q = record {
-  spelled = and_from _ _ p.spelled q.spelled;
-  short = (p.short, q.short);
+  spelled = spelled_both own (names f) (names g) p.spelled q.spelled;
+  short = all_both IsShortName (names f) (names g) p.short q.short;
   bound = and_from _ _ p.bound q.bound;
   positive = and_from _ _ p.positive q.positive;
 }

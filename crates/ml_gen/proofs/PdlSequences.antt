@@ -94,9 +94,9 @@ reads_acts k ss none =
 short_acts : (k : ℕ) (ss : List Spelt)
     → AllByRecursion IsShort ss
     → AllByRecursion IsShort (program_onto act (more_tokens k ss))
-short_acts zero ss all = program_short act (omega arith) ss all
+short_acts zero ss all = program_short act (omega arith, tt) ss all
 short_acts (suc k) ss all =
-    program_short act (omega arith) (more_tokens (suc k) ss) (refl, short_acts k ss all)
+    program_short act (omega arith, tt) (more_tokens (suc k) ss) (refl, short_acts k ss all)
 
 few_acts : (k : ℕ) (ss : List Spelt) → opens_of (program_onto act (more_tokens k ss)) ≤ k + 1 + opens_of ss
 few_acts zero ss = omega (arith, program_few act ss)
@@ -176,8 +176,8 @@ reads_step k =
 
 pub step_parsed : (k : ℕ) → k ≤ 400 → IsParsedAs (step_text k) (step_formula k)
 step_parsed k few =
-    let end_short = tokens_short prop (omega arith) ((token.Operator operator.And, codes "&") ∷ tokens_onto box [])
-    (refl, tokens_short box (omega arith, omega arith) [] tt) in
+    let end_short = tokens_short prop (omega arith, tt) ((token.Operator operator.And, codes "&") ∷ tokens_onto box [])
+    (refl, tokens_short box (omega arith, (omega arith, tt)) [] tt) in
     let end_few = few_open prop ((token.Operator operator.And, codes "&") ∷ tokens_onto box []) in
     spelt_parsed (step_text k) (step_spelt k) (step_formula k) (scans_step k) (reads_step k)
     (omega (arith, more_count k act, few)) (refl, short_acts k step_end (refl, end_short))
