@@ -24,8 +24,9 @@ use Rattle.ml_lists.proofs.FirstEntries.{none_more}
 use Rattle.ml_blocks.proofs.FiniteBlocks.{block_finite}
 use Rattle.ml_blocks.proofs.ItemsFollow.{itself_within}
 use Rattle.ml_blocks.proofs.ItemsWithin.{StandsAt, here, under_not, under_tense, at_left, at_right, before, behind, within_stands}
-use Rattle.ml_blocks.proofs.PlaceEquality.{place_eq, place_eq-tells}
+use Rattle.ml_blocks.proofs.PlaceEquality.{same_place}
 use Rattle.ml_blocks.proofs.ReachedPlaces.{Finite, above}
+use Rattle.ml_nodes.proofs.ValueTests.{value_eq, value_eq-tells}
 
 abbrev OfOne : Formula → Type 0
 OfOne f = (i : ℕ) (sign : Bool) → Finite (Holding i f sign)
@@ -159,7 +160,7 @@ is_finite start finite = (length root.places, few)
     few : ¬ (HasMoreThan (Root start) (length root.places))
     few many =
         let most =
-        none_more place_eq place_eq-tells many.places root.places many.once
+        none_more (value_eq same_place) (value_eq-tells same_place) many.places root.places many.once
         (λ p m. root.has_all p (many.are_reached p m)) in
         let more = many.is_longer in
         absurd (omega (arith, most, more))

@@ -55,13 +55,15 @@ module _ (K : Kept) where
       → Stands K i (Binary op f g) o
       → Stands K (i + weight op) f None
   of_left op i f g o s =
-      record { formulas = s.formulas.1; occurrences = s.occurrences.1; eventualities = s.eventualities.1; among = (operands_among f g s.among).0 }
+      let parts = operands_among f g s.among in
+      record { formulas = s.formulas.1; occurrences = s.occurrences.1; eventualities = s.eventualities.1; among = parts.0 }
 
   pub of_right : (op : Operator) (i : ℕ) (f g : Formula) (o : Option Bool)
       → Stands K i (Binary op f g) o
       → Stands K (i + weight op + occurrences f) g None
   of_right op i f g o s =
-      record { formulas = s.formulas.2; occurrences = s.occurrences.2; eventualities = s.eventualities.2; among = (operands_among f g s.among).1 }
+      let parts = operands_among f g s.among in
+      record { formulas = s.formulas.2; occurrences = s.occurrences.2; eventualities = s.eventualities.2; among = parts.1 }
 
   pub of_tense : (t : Tense) (i : ℕ) (f : Formula) (o : Option Bool)
       → Stands K i (Temporal t f) o
@@ -73,13 +75,15 @@ module _ (K : Kept) where
       → Stands K i (Paired p f g) o
       → Stands K (i + 1) f None
   before p i f g o s =
-      record { formulas = s.formulas.1; occurrences = s.occurrences.1; eventualities = s.eventualities.1; among = (operands_among f g s.among).0 }
+      let parts = operands_among f g s.among in
+      record { formulas = s.formulas.1; occurrences = s.occurrences.1; eventualities = s.eventualities.1; among = parts.0 }
 
   pub behind : (p : Pairing) (i : ℕ) (f g : Formula) (o : Option Bool)
       → Stands K i (Paired p f g) o
       → Stands K (i + 1 + occurrences f) g None
   behind p i f g o s =
-      record { formulas = s.formulas.2; occurrences = s.occurrences.2; eventualities = s.eventualities.2; among = (operands_among f g s.among).1 }
+      let parts = operands_among f g s.among in
+      record { formulas = s.formulas.2; occurrences = s.occurrences.2; eventualities = s.eventualities.2; among = parts.1 }
 
   pub of_quantifier : (q : Quantifier) (i : ℕ) (f : Formula) (o : Option Bool)
       → Stands K i (Quantified q f) o

@@ -4,7 +4,7 @@
 --   satisfied, refuted, left_open == a problem with what was found for it
 --   answered           == a decision with its document answers the question
 --   refused_answered   == a refusal of the parser with its line does
-use Rattle.std.proofs.Common.{◌≡◌, ◌≤◌, ◌<◌, ◌^◌, ℕ, Bool, true, false, List, length, Some, refl, sym, subst, inl, inr}
+use Rattle.std.proofs.Common.{◌≡◌, ◌≤◌, ◌<◌, ◌^◌, ℕ, Bool, true, false, List, length, Some, inr}
 use Rattle.ml_base.specs.declared.parse_refusal.ParseRefusal.{ParseRefusal}
 use Rattle.ml_base.specs.Structure.{Structure}
 use Rattle.ml_extract.specs.Extraction.{Extracted}
@@ -34,7 +34,8 @@ use Rattle.ml_driver.specs.declared.question.Question.{Question}
 use Rattle.ml_driver.specs.declared.status.Status.TheVariants as status
 use Rattle.ml_driver.specs.private.Decisions.{IsDecisionOf, IsDocumentFor, status_in}
 use Rattle.ml_front.proofs.Graphs.{meaningful}
-use Rattle.ml_driver.proofs.ProblemGraphs.{admitted, keeps_limit, well_formed}
+use Rattle.ml_front.proofs.Logics.{parsed_well}
+use Rattle.ml_driver.proofs.ProblemGraphs.{admitted, keeps_limit}
 
 pub closed : (q : Question) (p : Problem)
     → (HasLargeClosure p MOST_NODES → ⊥)
@@ -91,7 +92,7 @@ module _ (q : Question) (text : List ℕ) (p : Problem) (is_problem : IsProblem 
         is_problem = is_problem;
         is_closed = is_closed;
         is_unsatisfiable =
-            refuted_is_unsatisfiable p g r (meaningful p.formula (well_formed text p.formula is_problem.is_parsed))
+            refuted_is_unsatisfiable p g r (meaningful p.formula (parsed_well text p.formula is_problem.is_parsed))
             is_graph is_refutation accepted;
         is_graph = is_graph;
         is_refutation = is_refutation;

@@ -24,8 +24,7 @@ use Rattle.ml_refute_check.specs.Documents as refuted
 use Rattle.ml_refute_check.specs.Documents.{IsMigrated, IsVerdict}
 use Rattle.ml_refute_check.specs.declared.verdict.Verdict.{Verdict}
 use Rattle.ml_refute_check.specs.declared.verdict.Verdict.TheVariants as verdict
-use Rattle.ml_refute_check.proofs.OneVerdict.{one_verdict}
-use Rattle.ml_driver.proofs.RefutationDocuments.{no_refutation_at_fault}
+use Rattle.ml_refute_check.proofs.OneVerdict.{one_verdict, document_fault}
 use Rattle.ml_gen.specs.declared.family.Family.{Family}
 use Rattle.ml_driver.specs.Bench.{IsBenched, IsFinding, answer_of, bench_text, gen_text, occurrences_of, status_of}
 use Rattle.ml_driver.specs.declared.command.TheConstants.{GREATEST_LIMIT}
@@ -258,7 +257,7 @@ migrated_refused : (text out more : List ℕ) → length text ≤ longest_docume
     → IsRefusedDocument (refuted.IsDocumentFault text) text more → ⊥
 migrated_refused text out more short x (document_by_length long) = absurd (omega (arith, short, long.0))
 migrated_refused text out more short x (by_line fits r) =
-    no_refutation_at_fault text x.version x.problem x.refutation r.fault x.is_document r.is_fault
+    document_fault text x.version x.problem x.refutation r.fault x.is_document r.is_fault
 
 one_migrated : (text : List ℕ) (s t : Status) (out more : List ℕ) → Migrates text out s → Migrates text more t → s ≡ t
 one_migrated text s t out more (migrated short x) (migrated fits y) = refl

@@ -1,40 +1,34 @@
 -- The graphs of problems, and their decision games: what the program needs of them, logic by logic.
 --
---   well_formed             == formulas that texts stand for are well formed
 --   has_room                == a trace automaton of a graph with so few nodes is small
 --   graphs_fit              == so that of the graph of a problem within the limits is
 --   admitted                == the structure that is extracted for a graph of a problem is one of which its logic speaks
 --   few_positions           == an arena with at most n positions is that of a game without more
 --   same_positions          == the graphs of a problem have games with the same positions
 --   keeps_limit             == so a graph whose game keeps a limit tells that of its problem
-use Rattle.std.proofs.Common.{ℕ, ◌+◌, ◌*◌, ◌^◌, ◌≤◌, ◌%◌, ◌==◌, nat_lt, if◌then◌else◌, Bool, true, false, List, [], ◌∷◌, length, filter, arith}
+use Rattle.std.proofs.Common.{ℕ, ◌+◌, ◌*◌, ◌^◌, ◌≤◌, ◌%◌, ◌==◌, Bool, length, filter, arith}
 use Rattle.std.proofs.lemmas.List.Sums.{count_by-le-length, length-filter}
 use Rattle.std.proofs.Math.Nat.{mul-le-mul}
 use Rattle.ml_base.specs.Structure.{Structure}
 use Rattle.ml_base.specs.declared.structure.Edge.{Edge}
 use Rattle.ml_extract.specs.Extraction.{Extracted, IsReachedFrom, itself, along}
 use Rattle.ml_front.specs.Graphs.{IsGraphOf}
-use Rattle.ml_front.specs.Logics.{IsParsedAs, IsWellFormed, logic_of}
+use Rattle.ml_front.specs.Logics.{logic_of}
 use Rattle.ml_front.specs.Problems.{IsAdmitted}
-use Rattle.ml_front.specs.declared.problem.AnyFormula.{AnyFormula}
 use Rattle.ml_front.specs.declared.problem.Problem.{Problem}
 use Rattle.ml_front.specs.declared.problem.TheConstants.{MOST_NODES}
 use Rattle.ml_front.proofs.Graphs.{graph_is, graph_small, graphs_alike}
-use Rattle.ml_front.proofs.Logics.{parsed_well}
 use Rattle.ml_graph.specs.Graph.{Graph, IsGraph, odd_priorities, size}
 use Rattle.ml_lists.specs.Member.{IsMember}
-use Rattle.ml_lists.specs.Ascending.{ascending, insert_once}
 use Rattle.ml_product.specs.Arena.{Arena, IsArenaOf}
 use Rattle.ml_product.specs.DecisionGame.{HasMoreThan}
 use Rattle.ml_product.specs.Position.{automaton_states}
-use Rattle.ml_refute.proofs.Different.{different_within}
 use Rattle.ml_front.proofs.AdmittedStructures.{is_admitted}
 use Rattle.ml_driver.proofs.SamePositions.{more_there}
 use Rattle.ml_driver.specs.Decision.{PassesLimit}
 use Rattle.ml_driver.specs.Laws.{GraphsFit}
-
-pub well_formed : (text : List ℕ) (f : AnyFormula) → IsParsedAs text f → IsWellFormed f
-well_formed text f parsed = parsed_well text f parsed
+use Rattle.ml_product.proofs.Explored.{few_reached}
+use Rattle.ml_lists.proofs.Ascending.{length-ascending}
 
 module _ (m : Structure) (start : ℕ) (P : ℕ → Type 0) (first : P start)
     (goes_on : (e : Edge) → P e.source → IsMember e m.edges → P e.target) where
@@ -68,26 +62,12 @@ admitted g p m start is extracted =
 
 -- ---- the trace automaton
 
-inserted : (x : ℕ) (xs : List ℕ) → length (insert_once x xs) ≤ length xs + 1
-inserted x [] = omega arith
-inserted x (y ∷ ys) = by_order (nat_lt x y) (x == y) (inserted x ys)
-  where
-    by_order : (before same : Bool) → length (insert_once x ys) ≤ length ys + 1
-        → length (if before then x ∷ (y ∷ ys) else (if same then y ∷ ys else y ∷ insert_once x ys)) ≤ length (y ∷ ys) + 1
-    by_order true same rest = omega arith
-    by_order false true rest = omega arith
-    by_order false false rest = omega (arith, rest)
-
-ascended : (xs : List ℕ) → length (ascending xs) ≤ length xs
-ascended [] = omega arith
-ascended (x ∷ xs) = omega (arith, inserted x (ascending xs), ascended xs)
-
 bounded : (a b : ℕ) → a ≤ 4096 → b ≤ 4097 → a * b ≤ 4096 * 4097
 bounded a b low under = mul-le-mul low under
 
 pub has_room : (g : Graph) → IsGraph g → size g ≤ MOST_NODES → automaton_states g ≤ 2 ^ 30
 has_room g is small =
-    let odds = ascended (filter (λ d. d % 2 == 1) g.priorities) in
+    let odds = length-ascending (filter (λ d. d % 2 == 1) g.priorities) in
     let p : ℕ → Bool = λ d. d % 2 == 1 in
     let some = length-filter p g.priorities in
     let few = count_by-le-length p g.priorities in
@@ -107,7 +87,7 @@ few_positions g a n arena few more =
       arith,
       few,
       more.are_more,
-      different_within more.positions a.positions more.are_different
+      few_reached more.positions a.positions more.are_different
           (λ p m. (arena.are_reached p).1 (more.are_reached p m)),
     )
 

@@ -15,14 +15,14 @@ use Rattle.ml_driver.specs.declared.question.Question.{Question}
 use Rattle.ml_driver.specs.Laws.{DecidedAreChecked, DecideIsChecked, IsFoundAccepted, IsFoundToHold, RefutedAreAccepted, ValidIsChecked}
 use Rattle.ml_driver.specs.Run.{for_negation, plainly, IsWhole}
 use Rattle.ml_refute_check.specs.Documents.{IsDocument as IsDocumentWith}
-use Rattle.ml_driver.proofs.ProblemGraphs.{well_formed}
 use Rattle.ml_driver.proofs.RefutationDocuments.{refutation_read_back}
+use Rattle.ml_front.proofs.Logics.{parsed_well}
 
 satisfied_read : (q : Question) (text out : List ℕ) → Satisfied q text out → Shows out Holds
 satisfied_read q text out x =
     let p = x.problem in
     let m = x.structure in
-    let well = well_formed text p.formula x.is_problem.is_parsed in
+    let well = parsed_well text p.formula x.is_problem.is_parsed in
     let shown : IsDocument out p m x.start =
     subst (λ t. IsDocument t p m x.start) (sym x.is_written)
     (documents_read_back Two p m x.start well x.can_be_written x.is_ordered) in
@@ -41,7 +41,7 @@ decided_are_checked q text out x = satisfied_read q text out x
 refutation_shown : (q : Question) (text out : List ℕ) (x : Refuted q text out)
     → IsDocumentWith out Two x.problem x.refutation
 refutation_shown q text out x =
-    let well = well_formed text x.problem.formula x.is_problem.is_parsed in
+    let well = parsed_well text x.problem.formula x.is_problem.is_parsed in
     let shown = refutation_read_back x.problem x.refutation well x.is_refutation in
     subst (λ t. IsDocumentWith t Two x.problem x.refutation) (sym x.is_written) shown
 

@@ -50,8 +50,9 @@ use Rattle.ml_driver.specs.declared.status.Status.TheVariants.{Yes, No, Undecide
 use Rattle.ml_driver.proofs.Answered.{closed, left_open, open_in, refused_answered, refuted, satisfied}
 use Rattle.ml_front.proofs.HeldGraphs.{HeldGraph, held_graph}
 use Rattle.ml_front.proofs.HeldGraphs.{IsHeld}
+use Rattle.ml_front.proofs.Logics.{parsed_well}
 use Rattle.ml_driver.proofs.NamedModels.{has_names}
-use Rattle.ml_driver.proofs.ProblemGraphs.{few_positions, keeps_limit, well_formed}
+use Rattle.ml_driver.proofs.ProblemGraphs.{few_positions, keeps_limit}
 use Rattle.ml_driver.proofs.SomeArena.{some_arena}
 
 abbrev pub Answer : Bool → Question → List ℕ → Type 0
@@ -94,7 +95,7 @@ module _ (n : Bool) (q : Question) (text : List ℕ) (p : Problem) (is_problem :
             let extracted = models_hold g a s m start even model in
             as_satisfied n q text (satisfiable_document p m start)
             (satisfied q text p is_problem (satisfiable_document p m start) g m start is_graph
-            (graphs_agree p g (meaningful p.formula (well_formed text p.formula is_problem.is_parsed)) is_graph)
+            (graphs_agree p g (meaningful p.formula (parsed_well text p.formula is_problem.is_parsed)) is_graph)
             is_closed extracted model.nothing_twice (omega (arith, states, few, small))
             (has_names g a s m start model extracted held) refl)
 
@@ -103,7 +104,7 @@ module _ (n : Bool) (q : Question) (text : List ℕ) (p : Problem) (is_problem :
         let made = some_refutation g a s ok arena solved is in
         let r = made.0 in
         let x : Extraction = record { g = g; a = a; arena = arena; s = s; r = r; o = made.1.outline } in
-        let well = well_formed text p.formula is_problem.is_parsed in
+        let well = parsed_well text p.formula is_problem.is_parsed in
         let nodes = graph_small MOST_NODES g p.negated p.formula (omega arith) well is_graph (is_closed Closure) in
         let is_refutation =
         extracted_refutation x ok (omega (arith, nodes)) made.1.heights
@@ -134,7 +135,7 @@ module _ (n : Bool) (q : Question) (text : List ℕ) (p : Problem) (is_problem :
       by_winner g is_graph ok held (closed q p fits keeps) a rest.0 rest.1 s.0 s.1 (winner_at s.0.winner 0) refl
 
   of_problem : Answer n q text
-  of_problem = by_closure (held_graph p.formula p.negated (well_formed text p.formula is_problem.is_parsed))
+  of_problem = by_closure (held_graph p.formula p.negated (parsed_well text p.formula is_problem.is_parsed))
     where
       by_closure : HeldGraph p.formula p.negated ⊎ HasLargeClosure p MOST_NODES → Answer n q text
       by_closure (inr large) = (

@@ -31,10 +31,10 @@ use Rattle.ml_driver.specs.declared.status.Status.{Status}
 use Rattle.ml_driver.specs.declared.status.Status.TheVariants.{Yes, No, Undecided, Words, Text}
 use Rattle.ml_driver.specs.Statuses.{longest_document, refused_words, refused_length, holds_line, fails_line, open_line, not_total_line, not_a_word_line, accepted_line, rejected_line, refused_document}
 use Rattle.ml_driver.specs.Run.{IsDue, as_document, by_deadlock, by_fork, document_by_length, by_line, for_negation, plainly}
-use Rattle.ml_driver.proofs.ProblemGraphs.{well_formed}
 use Rattle.ml_driver.proofs.RefutationDocuments.{ShowsRefutation, refutation_or_fault, refutation_read_back}
 use Rattle.ml_driver.proofs.SomeAnswer.{some_answer}
 use Rattle.ml_driver.specs.Laws.{SomeDue}
+use Rattle.ml_front.proofs.Logics.{parsed_well}
 
 abbrev Due : Option Command → List ℕ → Type 0
 Due c text = (s : Status) × ((out : List ℕ) × IsDue c text s out)
@@ -95,7 +95,7 @@ to_migrate text =
             is_document = shown;
             is_written = refl;
             shows_the_same =
-                refutation_read_back p r (well_formed shown.has_head.formula_text p.formula shown.has_head.is_parsed)
+                refutation_read_back p r (parsed_well shown.has_head.formula_text p.formula shown.has_head.is_parsed)
                 shown.is_refutation;
           },
         ),
@@ -109,7 +109,7 @@ to_migrate text =
 of_family : (f : Family) (n : ℕ) (text : List ℕ) → is_in_range f n ≡ true → Due (Some (Bench f n)) text
 of_family f n text inside =
     let p = family_problem f n inside in
-    let well = well_formed (formula_text f n) p.0.formula p.1.is_parsed in
+    let well = parsed_well (formula_text f n) p.0.formula p.1.is_parsed in
     let x = some_finding p.0 GREATEST_LIMIT (omega arith) well in (
       status_of (answer_of x.0),
       (

@@ -21,10 +21,11 @@ use Rattle.ml_product.specs.Arena.{Arena, IsArenaOf}
 use Rattle.ml_product.specs.DecisionGame.{IsReached, Turn}
 use Rattle.ml_product.specs.Position.{Position}
 use Rattle.ml_product.proofs.OnePlace.{place_of}
+use Rattle.ml_product.proofs.Explored.{few_reached}
 use Rattle.ml_families.specs.Sizes.{LoopsAreSatisfiable, MuGames, PdlGames}
 use Rattle.ml_families.proofs.Conjunctions.{flat_listed}
 use Rattle.ml_families.proofs.Flat.{IsFlat, a_prop, both, either, ors, right_of}
-use Rattle.ml_families.proofs.Listed.{IsListed, all_listed, line_listed, listed_within}
+use Rattle.ml_families.proofs.Listed.{IsListed, all_listed, line_listed}
 use Rattle.ml_families.proofs.Loops.{IsRound, loop_kinds, loop_nodes}
 use Rattle.ml_families.proofs.Steps.{IsBehind, box_place, step_kinds, step_nodes}
 use Rattle.ml_families.proofs.Trees.{trees, trees_count}
@@ -36,9 +37,9 @@ turn_at g a arena p reached =
 listed_count : (g : Graph) (a : Arena) (ps : List Position) → IsArenaOf g a → IsListed g ps
     → length a.positions ≡ length ps
 listed_count g a ps arena listed =
-    let few = listed_within a.positions ps arena.are_different
+    let few = few_reached a.positions ps arena.are_different
     (λ p m. all_listed g ps listed p ((arena.are_reached p).0 m)) in
-    let many = listed_within ps a.positions listed.are_different
+    let many = few_reached ps a.positions listed.are_different
     (λ p m. (arena.are_reached p).1 (listed.are_reached p m)) in
     omega (arith, few, many)
 

@@ -8,8 +8,8 @@ use Rattle.std.proofs.Common.{◌≡◌, ℕ, ◌%◌, ◌==◌, ◌⊎◌, Bool
 use Rattle.std.proofs.lemmas.Bool.{cases_Bool, eqb-true}
 use Rattle.ml_lists.specs.Ascending.{ascending}
 use Rattle.ml_lists.specs.Member.{IsMember}
-use Rattle.ml_lists.proofs.Ascending.{ascending_same, ascending-member, ascending-one, member-ascending}
-use Rattle.ml_lists.proofs.Member.{member-filter_from, member-map, member-map_from}
+use Rattle.ml_lists.proofs.Ascending.{ascending_same, ascending-one, member-ascending}
+use Rattle.ml_lists.proofs.Member.{member-map, member-map_from}
 use Rattle.ml_graph.specs.Graph.{Graph, node_at, odd_priorities, priority_at}
 use Rattle.ml_graph.specs.declared.node.Node.TheVariants as node
 use Rattle.ml_history.specs.CycleLaws.{HasState, IsLedTo}
@@ -26,6 +26,7 @@ use Rattle.ml_product.specs.DecisionGame.{To, Turn}
 use Rattle.ml_families.proofs.Beginnings.{AreFresh, IsPlainLetter, fresh, fresh_mark, fresh_stepped}
 use Rattle.ml_families.proofs.Forms.{IsFormed, Moved, form_region, moved}
 use Rattle.ml_families.proofs.Regions.{AreIn, IsRegion, Nodes, Reaches}
+use Rattle.ml_graph.proofs.OddPriorities.{odd_is_odd}
 
 abbrev pub node_states : List ℕ → ℕ → List ℕ
 node_states odds d =
@@ -78,10 +79,7 @@ walk_even g c S region even n k m (goes {k = j} _ next child w) here =
     let first = even n here in
     omega arith
 
-odd_is_odd : (g : Graph) (d : ℕ) → IsMember d (odd_priorities g) → d % 2 ≡ 1
-odd_is_odd g d m =
-    let f = member-filter_from (λ k. k % 2 == 1) d g.priorities (ascending-member d _ m) in
-    eqb-true (d % 2) 1 f.1
+
 
 -- a triple with an even priority gives no accepting transition
 plain_leads : (g : Graph) (k : ℕ) (b f : Option ℕ) (accepting : Bool)

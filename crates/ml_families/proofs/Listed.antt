@@ -2,14 +2,12 @@
 --
 --   IsListed g ps  == ps has different positions that are reached, with the start among them, and is closed under moves
 --   all_listed     == then it has all positions that are reached
---   listed_within  == different positions of a list are no more than its entries
 --   Kinds          == positions of kinds 0 to n, where moves lead from each kind to the next one, or behind the last one to
 --                     a kind of one position alone
 --   line_listed    == then n + 1 positions are reached
-use Rattle.std.proofs.Common.{◌≡◌, ℕ, zero, suc, ◌+◌, ◌<◌, ◌≤◌, ◌⊎◌, List, [], ◌∷◌, ◌++◌, length, length-append, inl, inr, refl, sym, ap, subst, ◌∙◌, arith}
+use Rattle.std.proofs.Common.{◌≡◌, ℕ, zero, suc, ◌+◌, ◌<◌, ◌≤◌, ◌⊎◌, List, [], ◌∷◌, length, inl, inr, refl, sym, subst, ◌∙◌, arith}
 use Rattle.std.proofs.lemmas.Bool.{cases_lt}
 use Rattle.ml_lists.specs.Member.{IsMember}
-use Rattle.ml_lists.proofs.Member.{member-append, member-append_left, member-append_right}
 use Rattle.ml_graph.specs.Graph.{Graph}
 use Rattle.ml_product.specs.Position.{Position, start_of}
 use Rattle.ml_product.specs.DecisionGame.{Target, To, Turn, IsReached, at_start, by_move, AreDifferent}
@@ -28,41 +26,6 @@ pub record IsListed (g : Graph) (ps : List Position) : Type 0 where
 pub all_listed : (g : Graph) (ps : List Position) → IsListed g ps → (p : Position) → IsReached g p → IsMember p ps
 all_listed g ps is p at_start = is.starts
 all_listed g ps is p (by_move before _ t reached m) = is.closed before (all_listed g ps is before reached) t p m
-
--- ---- no more than that
-
--- xs is a list with x between two others
-record Around (x : Position) (xs : List Position) : Type 0 where
-  pub front : List Position
-  pub back : List Position
-  pub is : xs ≡ front ++ x ∷ back
-
-around : (x : Position) (xs : List Position) → IsMember x xs → Around x xs
-around x [] m = absurd m
-around x (y ∷ ys) (inl same) = record { front = []; back = ys; is = ap (λ z. z ∷ ys) (sym same) }
-around x (y ∷ ys) (inr m) =
-    let i = around x ys m in record { front = y ∷ i.front; back = i.back; is = ap (λ zs. y ∷ zs) i.is }
-
--- another member stands in one of the two lists
-beside : (x y : Position) (front back : List Position) → (y ≡ x → ⊥) → IsMember y (front ++ x ∷ back)
-    → IsMember y (front ++ back)
-beside x y front back other m = by_part (member-append y front (x ∷ back) m)
-  where
-    by_part : IsMember y front ⊎ IsMember y (x ∷ back) → IsMember y (front ++ back)
-    by_part (inl before) = member-append_left y front back before
-    by_part (inr (inl same)) = absurd (other same)
-    by_part (inr (inr behind)) = member-append_right y front back behind
-
--- different members of a list are no more than its entries
-pub listed_within : (xs ys : List Position) → AreDifferent xs → ((p : Position) → IsMember p xs → IsMember p ys)
-    → length xs ≤ length ys
-listed_within [] ys apart within = omega arith
-listed_within (x ∷ xs) ys apart within =
-    let i = around x ys (within x (inl refl)) in
-    let rest = listed_within xs (i.front ++ i.back) apart.1
-    (λ p m. beside x p i.front i.back (λ same. apart.0 (subst (λ q. IsMember q xs) same m))
-    (subst (λ zs. IsMember p zs) i.is (within p (inr m)))) in
-    omega (arith, rest, ap length i.is, length-append i.front (x ∷ i.back), length-append i.front i.back)
 
 -- ---- one position behind the other
 

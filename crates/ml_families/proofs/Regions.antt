@@ -8,11 +8,9 @@
 --   no_target       == so where there are no or-nodes
 --   HasOneDiamond   == a region of such nodes, without or-nodes, with one diamond, which is reached
 --   one_target      == a position there has one move, the step along that diamond
-use Rattle.std.proofs.Common.{◌≡◌, ℕ, ◌%◌, ◌⊎◌, Bool, true, false, List, [], ◌∷◌, filter, length, min, inl, inr, refl, sym, ap, subst, ◌∙◌, arith}
-use Rattle.std.proofs.lemmas.Bool.{cases_Bool, cond-true, cond-false}
+use Rattle.std.proofs.Common.{◌≡◌, ℕ, ◌%◌, ◌⊎◌, Bool, true, false, List, [], ◌∷◌, length, min, inl, inr, refl, sym, ap, subst, ◌∙◌, arith}
 use Rattle.ml_lists.specs.Member.{IsMember}
-use Rattle.ml_lists.specs.Ascending.{IsAscending}
-use Rattle.ml_lists.proofs.Ascending.{ascending_same, ascending-one}
+use Rattle.ml_lists.proofs.Ascending.{ascending_same, ascending-one, ascending-filter}
 use Rattle.ml_lists.proofs.Member.{member-filter, member-filter_from}
 use Rattle.ml_graph.specs.Graph.{Graph, node_at, priority_at}
 use Rattle.ml_graph.specs.declared.node.Node.{Node}
@@ -139,17 +137,6 @@ no_target g p S region all quiet t q m =
 -- ---- one target
 
 -- the members of an ascending list that pass a test ascend
-filter_ascends : (test : ℕ → Bool) (xs : List ℕ) → IsAscending xs → IsAscending (filter test xs)
-filter_ascends test [] up = tt
-filter_ascends test (x ∷ xs) up = by_test (cases_Bool (test x)) (filter_ascends test xs up.1)
-  where
-    by_test : (test x ≡ true) ⊎ (test x ≡ false) → IsAscending (filter test xs) → IsAscending (filter test (x ∷ xs))
-    by_test (inl passes) rest =
-        subst IsAscending (sym (cond-true (test x) (x ∷ filter test xs) (filter test xs) passes))
-        ((λ y m. up.0 y (member-filter_from test y xs m).0), rest)
-    by_test (inr fails) rest =
-        subst IsAscending (sym (cond-false (test x) (x ∷ filter test xs) (filter test xs) fails)) rest
-
 pub record HasOneDiamond (g : Graph) (p : Position) (b : Bool) (S : Nodes) (d : ℕ) : Type 0 where
   pub region : IsRegion g p.choice S
   pub sequent : AreIn S p.sequent
@@ -196,7 +183,7 @@ one_target g p b S d h t = by_verdict t.verdict t.is_verdict t.are_moves
     one : diamonds_of g t.spread ≡ d ∷ []
     one =
         ascending_same (diamonds_of g t.spread) (d ∷ [])
-        (filter_ascends (λ n. is_diamond (node_at g n)) t.spread.nodes t.is_spread.ascends) (ascending-one d)
+        (ascending-filter (λ n. is_diamond (node_at g n)) t.spread.nodes t.is_spread.ascends) (ascending-one d)
         (λ n m. inl (only n m)) back
       where
         back : (n : ℕ) → (n ≡ d) ⊎ ⊥ → IsMember n (diamonds_of g t.spread)

@@ -6,21 +6,20 @@
 --   none_yet                == without edges: no state
 --   one_more, one_kept      == an edge that leads into the set, and one that doesn't
 --   all_edges               == behind all edges: runs of the action
-use Rattle.std.proofs.Common.{◌≡◌, ◌≢◌, ◌==◌, ℕ, ◌+◌, ◌<◌, ◌≤◌, Bool, true, false, ◌&&◌, ◌||◌, List, [], length, map, replicate, take, get_or, set, All, refl, sym, ap, ◌∙◌, subst, ⊎_elim, arith}
+use Rattle.std.proofs.Common.{◌≡◌, ◌==◌, ℕ, ◌+◌, ◌<◌, ◌≤◌, Bool, true, false, ◌&&◌, ◌||◌, List, [], length, map, replicate, take, get_or, set, All, refl, sym, ap, ◌∙◌, subst, ⊎_elim, arith}
 use Rattle.std.specs.List.{list_any, range_with_len}
 use Rattle.std.specs.Str.{bytes_eq}
-use Rattle.std.proofs.lemmas.Bool.{and_parts, and_from, cases_lt}
-use Rattle.std.proofs.lemmas.Bool.Decides.{nat_tests}
+use Rattle.std.proofs.lemmas.Bool.{and_parts, and_from, cases_lt, ne_eqb}
 use Rattle.std.proofs.lemmas.List.{get_or_past, take_all}
 use Rattle.std.proofs.lemmas.List.Folds.{list_any_more}
 use Rattle.ml_lists.proofs.Member.{list_any-member, member-list_any}
 use Rattle.ml_lists.proofs.Tables.{table_const, table_set, table_same}
+use Rattle.ml_lists.proofs.Says.{same_truth}
 use Rattle.ml_base.specs.declared.structure.Edge.{Edge}
 use Rattle.ml_base.specs.Structure.{Structure, StateSet, is_member}
 use Rattle.ml_pdl.specs.declared.term.Modality.TheVariants.{Diamond}
 use Rattle.ml_pdl.specs.Meaning.{has_edge, some_run, modal}
 use Rattle.ml_pdl.proofs.RunsInto.{same_number, equal_number, run_of, of_run}
-use Rattle.ml_pdl_meaning.proofs.RunsIntoSets.{same_tests}
 
 -- does the edge lead by the action into the set?
 abbrev pub leads : List ℕ → StateSet → Edge → Bool
@@ -43,7 +42,7 @@ pub edge_runs : (m : Structure) (a : List ℕ) (flags : StateSet) → length fla
     → some_states m.edges a flags m.states ≡ modal m Diamond (has_edge m a) flags
 edge_runs m a flags long =
     table_same (some_of m.edges a flags) (some_run m (has_edge m a) flags) 0 m.states
-    (λ s. same_tests (some_of m.edges a flags s) (some_run m (has_edge m a) flags s) (to s) (from s))
+    (λ s. same_truth (some_of m.edges a flags s) (some_run m (has_edge m a) flags s) (to s) (from s))
   where
     to : (s : ℕ) → some_of m.edges a flags s ≡ true → some_run m (has_edge m a) flags s ≡ true
     to s is =
@@ -92,9 +91,6 @@ undecided true x b leads = refl
 undecided false false b leads = refl
 undecided false true b leads = leads
 
-other_state : (s k : ℕ) → s ≢ k → (k == s) ≡ false
-other_state s k ne = grind (arith, nat_tests)
-
 behind : (es : List Edge) (a : List ℕ) (flags : StateSet) (i : ℕ) (e : Edge) (s : ℕ) → i < length es → e ≡ get_or es i e
     → some_of (take (i + 1) es) a flags s ≡ (some_of (take i es) a flags s || ((e.source == s) && leads a flags e))
 behind es a flags i e s below is =
@@ -118,7 +114,8 @@ one_more es a flags n i e so_far below is within leading is_so_far =
     ∙ decided (some_of (take i es) a flags e.source) (e.source == e.source) (leads a flags e) leading
     (equal_number e.source))
     (λ s ne. behind es a flags i e s below is
-    ∙ elsewhere (some_of (take i es) a flags s) (e.source == s) (leads a flags e) (other_state s e.source ne))
+    ∙ elsewhere (some_of (take i es) a flags s) (e.source == s) (leads a flags e)
+    (ne_eqb e.source s (λ same. ne (sym same))))
 
 pub one_kept : (es : List Edge) (a : List ℕ) (flags : StateSet) (n i : ℕ) (e : Edge) (so_far : StateSet)
     → i < length es

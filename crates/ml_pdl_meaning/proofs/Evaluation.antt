@@ -5,17 +5,15 @@
 --   square_value             == what no run leads out of
 --   followed_value, either_value, test_value, star_value == runs of programs into a set
 --   related_value            == runs to one state
---   iterates_once_more       == the next iterate
---   stops_early              == an iterate that is its own next one is the last one too
 --   same_flags               == two lists of flags that pass the test for equality are equal
-use Rattle.std.proofs.Common.{◌≡◌, ℕ, ◌+◌, ◌≤◌, ◌<◌, ◌==◌, ◌&&◌, Bool, true, not, length, map, replicate, refl, sym, ap, subst, ◌∙◌}
+use Rattle.std.proofs.Common.{◌≡◌, ℕ, ◌<◌, ◌==◌, ◌&&◌, Bool, true, not, length, map, replicate, refl, sym, ap, subst, ◌∙◌}
 use Rattle.std.proofs.Math.Bool.{beq}
 use Rattle.std.specs.Cmp.{booleans_Decides}
 use Rattle.std.specs.Cmp.Lexicographic.{pointwise}
 use Rattle.std.proofs.lemmas.Slice.Eq.{slice_eq-Decides}
 use Rattle.ml_lists.specs.Iterate.{iterate}
-use Rattle.ml_lists.proofs.Iterates.{iterate_once_more, iterate_stays}
 use Rattle.ml_lists.proofs.Tables.{table_const}
+use Rattle.ml_lists.proofs.Says.{same_truth}
 use Rattle.ml_text.specs.declared.token.Operator.{Operator}
 use Rattle.ml_base.specs.Structure.{Structure, StateSet, is_member, states_where}
 use Rattle.ml_pdl.specs.Formula.{Formula, Const, Binary, Program, Seq, Alt, Star, Test}
@@ -23,7 +21,7 @@ use Rattle.ml_pdl.specs.declared.term.Modality.TheVariants.{Square}
 use Rattle.ml_pdl.specs.Meaning.{Relation, truth_of, some_run, modal, meaning, relation}
 use Rattle.ml_pdl.proofs.RunsInto.{same_number, equal_number, run_of, of_run}
 use Rattle.ml_pdl.proofs.StarRelations.{member_where}
-use Rattle.ml_pdl_meaning.proofs.RunsIntoSets.{before, union, grown, same_tests, before_either, before_followed, before_test, before_rounds, all_before}
+use Rattle.ml_pdl_meaning.proofs.RunsIntoSets.{before, union, grown, before_either, before_followed, before_test, before_rounds, all_before}
 
 pub constant_value : (m : Structure) (b : Bool) (set : StateSet) → set ≡ replicate m.states b
     → set ≡ meaning m (Const b)
@@ -92,7 +90,7 @@ pub related_value : (m : Structure) (r : Relation) (from to : ℕ) (end states :
 related_value m r from to end states related from_low to_low end_is states_is is =
     is ∙ ap (λ a. is_member a from) (states_is ∙ ap (before m r) end_is)
     ∙ member_where m (some_run m r there) from from_low
-    ∙ same_tests (some_run m r there from) (r from to) arrives
+    ∙ same_truth (some_run m r there from) (r from to) arrives
     (λ runs. of_run m r (is_member there) from to to_low runs
     (member_where m (λ s. s == to) to to_low ∙ equal_number to))
   where
@@ -104,19 +102,6 @@ related_value m r from to end states related from_low to_low end_is states_is is
         let run = run_of m r (is_member there) from runs in
         subst (λ t. r from t ≡ true)
         (same_number run.state to (sym (member_where m (λ s. s == to) run.state run.low) ∙ run.inside)) run.run
-
-pub iterates_once_more : (step : StateSet → StateSet) (first set next : StateSet) (k : ℕ) → set ≡ iterate k step first
-    → next ≡ step set → next ≡ iterate (k + 1) step first
-iterates_once_more step first set next k so_far is = is ∙ ap step so_far ∙ sym (iterate_once_more step first k)
-
-pub stops_early : (step : StateSet → StateSet) (first set next : StateSet) (k n : ℕ)
-    → set ≡ iterate k step first
-    → next ≡ step set
-    → next ≡ set
-    → k ≤ n
-    → set ≡ iterate n step first
-stops_early step first set next k n so_far is same within =
-    so_far ∙ sym (iterate_stays step first k n (ap step (sym so_far) ∙ sym is ∙ same ∙ so_far) within)
 
 pub same_flags : (left right : StateSet) → true ≡ pointwise beq left right → left ≡ right
 same_flags left right test = (slice_eq-Decides booleans_Decides left right true test).0 refl

@@ -3,7 +3,6 @@
 --   before m r set     == the states from which some run of r leads into the set
 --   union m a b        == the states in one of two sets
 --   grown m r set      == one step of a star: the set, or what leads into what we have
---   same_tests         == two tests that pass where the other one does are equal
 --   same_states        == tests that agree at the states make the same set
 --   own_states         == a set is that of its members
 --   before_either, before_followed, before_identity, before_test
@@ -23,6 +22,7 @@ use Rattle.ml_pdl.specs.declared.term.Modality.TheVariants.{Diamond, Square}
 use Rattle.ml_pdl.specs.Meaning.{Relation, identity, either, followed_by, some_run, every_run, modal}
 use Rattle.ml_pdl.proofs.RunsInto.{same_number, equal_number, into, run_of, of_run}
 use Rattle.ml_pdl.proofs.StarRelations.{member_where, rounds}
+use Rattle.ml_lists.proofs.Says.{same_truth}
 
 abbrev pub before : Structure → Relation → StateSet → StateSet
 before m r set = modal m Diamond r set
@@ -32,11 +32,6 @@ union m a b = states_where m (λ s. is_member a s || is_member b s)
 
 abbrev pub grown : Structure → Relation → StateSet → StateSet → StateSet
 grown m r set so_far = union m set (before m r so_far)
-
-pub same_tests : (a b : Bool) → (a ≡ true → b ≡ true) → (b ≡ true → a ≡ true) → a ≡ b
-same_tests true b to from = sym (to refl)
-same_tests false true to from = from refl
-same_tests false false to from = refl
 
 pub same_states : (m : Structure) (f g : ℕ → Bool) → ((s : ℕ) → s < m.states → f s ≡ g s)
     → states_where m f ≡ states_where m g
@@ -64,7 +59,7 @@ module _ (m : Structure) where
   before_either r q set =
       same_states m (some_run m (either r q) set) (λ s. is_member (before m r set) s || is_member (before m q set) s)
       (λ s low.
-      same_tests (some_run m (either r q) set s) (some_run m r set s || some_run m q set s) (to s) (from s)
+      same_truth (some_run m (either r q) set s) (some_run m r set s || some_run m q set s) (to s) (from s)
       ∙ ap (λ b. b || some_run m q set s) (sym (member_where m (some_run m r set) s low))
       ∙ ap (λ b. is_member (before m r set) s || b) (sym (member_where m (some_run m q set) s low)))
     where
@@ -95,7 +90,7 @@ module _ (m : Structure) where
       → before m (followed_by m r q) set ≡ before m r (before m q set)
   before_followed r q set =
       same_states m (some_run m (followed_by m r q) set) (some_run m r (before m q set))
-      (λ s low. same_tests (some_run m (followed_by m r q) set s) (some_run m r (before m q set) s) (to s) (from s))
+      (λ s low. same_truth (some_run m (followed_by m r q) set s) (some_run m r (before m q set) s) (to s) (from s))
     where
       to : (s : ℕ) → some_run m (followed_by m r q) set s ≡ true → some_run m r (before m q set) s ≡ true
       to s is =
@@ -118,7 +113,7 @@ module _ (m : Structure) where
   before_union r a b =
       same_states m (some_run m r (union m a b)) (λ s. is_member (before m r a) s || is_member (before m r b) s)
       (λ s low.
-      same_tests (some_run m r (union m a b) s) (some_run m r a s || some_run m r b s) (to s) (from s)
+      same_truth (some_run m r (union m a b) s) (some_run m r a s || some_run m r b s) (to s) (from s)
       ∙ ap (λ x. x || some_run m r b s) (sym (member_where m (some_run m r a) s low))
       ∙ ap (λ x. is_member (before m r a) s || x) (sym (member_where m (some_run m r b) s low)))
     where
@@ -157,7 +152,7 @@ module _ (m : Structure) where
       ≡ states_where m (λ s. is_member holding s && is_member set s)
   before_test holding set =
       same_states m (some_run m tested set) (λ s. is_member holding s && is_member set s)
-      (λ s low. same_tests (some_run m tested set s) (is_member holding s && is_member set s) (to s) (from s low))
+      (λ s low. same_truth (some_run m tested set s) (is_member holding s && is_member set s) (to s) (from s low))
     where
       tested : Relation
       tested s t = (s == t) && is_member holding s
@@ -179,7 +174,7 @@ module _ (m : Structure) where
   pub before_identity : (set : StateSet) → length set ≡ m.states → before m identity set ≡ set
   before_identity set flags =
       same_states m (some_run m identity set) (is_member set)
-      (λ s low. same_tests (some_run m identity set s) (is_member set s) (to s)
+      (λ s low. same_truth (some_run m identity set s) (is_member set s) (to s)
       (λ is. of_run m identity (is_member set) s s low (equal_number s) is))
       ∙ own_states m set flags
     where
@@ -227,7 +222,7 @@ module _ (m : Structure) where
   all_before r set flags =
       same_states m (every_run m r set) (λ s. not (some_run m r (map not set) s))
       (λ s low. none_out (r s) (is_member set) (range_with_len 0 m.states)
-      ∙ ap not (same_tests (into m r (λ t. not (is_member set t)) s) (some_run m r (map not set) s) (to s) (from s)))
+      ∙ ap not (same_truth (into m r (λ t. not (is_member set t)) s) (some_run m r (map not set) s) (to s) (from s)))
       ∙ sym (map-map not (some_run m r (map not set)) (range_with_len 0 m.states))
     where
       outside : (t : ℕ) → t < m.states → is_member (map not set) t ≡ not (is_member set t)

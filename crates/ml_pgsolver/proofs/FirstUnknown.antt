@@ -10,6 +10,7 @@ use Rattle.std.proofs.lemmas.List.{append_assoc, append-nil}
 use Rattle.ml_lines.specs.Reading.{value}
 use Rattle.ml_lists.specs.Member.{IsMember}
 use Rattle.ml_lists.proofs.Member.{member-append, member-flat_map}
+use Rattle.ml_lists.proofs.Entries.{no_middle}
 use Rattle.ml_pgsolver.specs.Tokens.{Token, Number, Name, Parity, Comma, Semicolon, Stray, Placed, signs_of}
 use Rattle.ml_pgsolver.specs.GameText.{Row}
 use Rattle.ml_pgsolver.specs.Refusals.{next_place, place_from, place_behind, roles_from, successor_at_place, IsSuccessor, IsAt, successors_among, offset_of, greatest_number}
@@ -51,7 +52,8 @@ number_passes ids n digits small true true is_late is_early passes =
     by (inr (none, large)) among = absurd (omega arith)
     by (inl (fits, small)) (inr (new, fresh)) = fresh
     by (inl (fits, small)) (inl (old, member)) =
-        let e : is_unknown_value ids (fitting (value digits)) ≡ not true = ap (is_unknown_value ids) fits ∙ ap not old in absurd (cc)
+        let e : is_unknown_value ids (fitting (value digits)) ≡ not true =
+        ap (is_unknown_value ids) fits ∙ ap not old in absurd (cc)
 
 number_fails : (ids : List ℕ) (n : ℕ) (digits : List ℕ) → value digits ≤ greatest_number
     → (late early : Bool) → nat_le 3 n ≡ late → is_unknown_value ids (fitting (value digits)) ≡ early
@@ -75,21 +77,30 @@ number_fails ids n digits small true false is_late is_early fails m role none =
         let e : successor_at_place n (Number digits) ≡ value digits ∷ [] = cond-true _ _ _ is_late in
         let is : value digits ≡ m = cc in none (subst (λ k. IsMember k ids) is member)
     by (inl (fits, small)) (inr (new, fresh)) =
-        let e : is_unknown_value ids (fitting (value digits)) ≡ not false = ap (is_unknown_value ids) fits ∙ ap not new in cc
+        let e : is_unknown_value ids (fitting (value digits)) ≡ not false =
+        ap (is_unknown_value ids) fits ∙ ap not new in cc
 
 abbrev AreSmall : Token → Type 0
 AreSmall t = (digits : List ℕ) → t ≡ Number digits → value digits ≤ greatest_number
 
-passes_is : (ids : List ℕ) (b : List Token) (t : Token) → AreSmall t → test ids (place_behind b) t ≡ true → IsStranger ids b t
+passes_is : (ids : List ℕ) (b : List Token) (t : Token)
+    → AreSmall t
+    → test ids (place_behind b) t ≡ true
+    → IsStranger ids b t
 passes_is ids b (Number digits) small passes =
-    let r = number_passes ids (place_behind b) digits (small digits refl) _ _ refl refl passes in (value digits, r.0, r.1)
+    let r = number_passes ids (place_behind b) digits (small digits refl) _ _ refl refl passes in
+    (value digits, r.0, r.1)
 passes_is ids b (Name inner) small passes = absurd (and_no (nat_le 3 (place_behind b)) passes)
 passes_is ids b Parity small passes = absurd (and_no (nat_le 3 (place_behind b)) passes)
 passes_is ids b Comma small passes = absurd (and_no (nat_le 3 (place_behind b)) passes)
 passes_is ids b Semicolon small passes = absurd (and_no (nat_le 3 (place_behind b)) passes)
 passes_is ids b (Stray x) small passes = absurd (and_no (nat_le 3 (place_behind b)) passes)
 
-fails_is : (ids : List ℕ) (b : List Token) (t : Token) → AreSmall t → test ids (place_behind b) t ≡ false → IsStranger ids b t → ⊥
+fails_is : (ids : List ℕ) (b : List Token) (t : Token)
+    → AreSmall t
+    → test ids (place_behind b) t ≡ false
+    → IsStranger ids b t
+    → ⊥
 fails_is ids b (Number digits) small fails (m, role, none) =
     number_fails ids (place_behind b) digits (small digits refl) _ _ refl refl fails m role none
 fails_is ids b (Name inner) small fails (m, role, none) = cc
@@ -154,7 +165,8 @@ first_here ids front t rest none strange = record {
     by : (j : ℕ) (b : List Token) (u : Token) (there : IsAt (signs_of (front ++ t ∷ rest)) j b u) → IsStranger ids b u
         → Splits t.token (signs_of front) (signs_of rest) u b there.behind
         → length (signs_of front) ≤ j
-    by j b u there odd (before ws is) = omega (arith, there.number, ap length is, length-append (signs_of front) (t.token ∷ ws))
+    by j b u there odd (before ws is) =
+        omega (arith, there.number, ap length is, length-append (signs_of front) (t.token ∷ ws))
     by j b u there odd (same is_front is_token is_rest) = omega (arith, there.number, ap length is_front)
     by j b u there odd (behind ws is) = absurd (none b u ws is odd)
 
@@ -171,11 +183,13 @@ scan_token ids end front t rest n place none small on true is =
     let strange = passes_is ids (signs_of front) t.token small (ap (λ m. test ids m t.token) (sym place) ∙ is) in (
       length (signs_of front),
       first_here ids front t rest none strange,
-      cond-true _ _ _ is ∙ sym (ap (offset_of end (front ++ t ∷ rest)) (signs-length front) ∙ offset-behind end front t rest),
+      cond-true _ _ _ is ∙ sym (ap (offset_of end (front ++ t ∷ rest)) (signs-length front)
+          ∙ offset-behind end front t rest),
     )
 scan_token ids end front t rest n place none small on false is =
     let known = fails_is ids (signs_of front) t.token small (ap (λ m. test ids m t.token) (sym place) ∙ is) in
-    let further = on (subst (HasNone ids) (sym (signs-cut front t [])) (none-more ids (signs_of front) t.token none known)) in
+    let further =
+    on (subst (HasNone ids) (sym (signs-cut front t [])) (none-more ids (signs_of front) t.token none known)) in
     let step = cond-false _ _ _ is ∙ ap (λ m. unknown_from ids end m (signs_in rest)) (place_same n t.token) in
     subst (Found ids end (front ++ t ∷ rest)) (sym step)
     (subst (λ all. Found ids end all (unknown_from ids end (next_place n t.token) (signs_in rest)))
@@ -198,16 +212,12 @@ scan ids end (t ∷ rest) front n place none small s =
     (subst (λ all. Stranger ids (signs_of all)) (sym (append_assoc front (t ∷ []) rest)) s))
     (test ids n t.token) refl
 
-no_front : (b : List Token) (t : Token) (rest : List Token) → [] ≡ b ++ t ∷ rest → ⊥
-no_front [] t rest is = cc
-no_front (u ∷ b) t rest is = cc
-
 pub first_stranger : (ids : List ℕ) (end : ℕ) (all : List Placed)
     → ((digits : List ℕ) → IsMember (Number digits) (signs_of all) → value digits ≤ greatest_number)
     → Stranger ids (signs_of all)
     → Found ids end all (unknown_from ids end 0 (signs_in all))
 first_stranger ids end all small s =
-    scan ids end all [] 0 refl (λ b t rest is strange. no_front b t rest is)
+    scan ids end all [] 0 refl (λ b t rest is strange. no_middle b t rest is)
     (λ t member digits is. small digits (subst (λ u. IsMember u (signs_of all)) is member)) s
 
 -- ---- a successor of a row
@@ -219,7 +229,9 @@ record RoleThere (role : ℕ → Token → List ℕ) (n m : ℕ) (ts : List Toke
   all : ts ≡ front ++ token ∷ rest
   inside : IsMember m (role (place_from n front) token)
 
-role_there : (role : ℕ → Token → List ℕ) (n m : ℕ) (ts : List Token) → IsMember m (roles_from role n ts) → RoleThere role n m ts
+role_there : (role : ℕ → Token → List ℕ) (n m : ℕ) (ts : List Token)
+    → IsMember m (roles_from role n ts)
+    → RoleThere role n m ts
 role_there role n m [] member = absurd member
 role_there role n m (t ∷ ts) member =
     by (member-append m (role n t) (roles_from role (next_place n t) ts) member) (role_there role (next_place n t) m ts)
@@ -261,5 +273,10 @@ stranger_there ids given rows ts successors same_ids (r, member, (m, inside, non
       token = at.token;
       rest = at.rest;
       all = at.all;
-      strange = (m, one_successor (place_behind at.front) at.token m at.inside, subst (λ xs. IsMember m xs → ⊥) same_ids none);
+      strange = (
+        m,
+        one_successor (place_behind at.front) at.token m at.inside,
+        subst (λ xs. IsMember m xs → ⊥) same_ids
+            none,
+      );
     }

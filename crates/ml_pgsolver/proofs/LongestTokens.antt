@@ -9,6 +9,7 @@ use Rattle.std.proofs.lemmas.List.Folds.{length-prefix_len}
 use Rattle.std.proofs.Math.Seq.{drop-append_seam}
 use Rattle.ml_lists.specs.Member.{IsMember}
 use Rattle.ml_lists.proofs.Member.{All-member, member-All}
+use Rattle.ml_lists.proofs.Entries.{same_head}
 use Rattle.ml_text.specs.Bytes.{is_digit}
 use Rattle.ml_text.proofs.Signs.{starts_with-front, front-starts_with}
 use Rattle.ml_pgsolver.specs.Tokens.{Token, Number, Name, Parity, Comma, Semicolon, Stray, spelling, is_inner, quoted}
@@ -62,30 +63,34 @@ run_passes p (x ∷ xs) b m = run_first p x xs b m (λ later. run_passes p xs b 
 
 -- ---- what begins a text
 
-closed_name : (inner rest : List ℕ) → ((b : ℕ) → IsMember b inner → is_inner b ≡ true) → quoted (inner ++ 34 ∷ rest) ≡ Name inner
+closed_name : (inner rest : List ℕ)
+    → ((b : ℕ) → IsMember b inner → is_inner b ≡ true)
+    → quoted (inner ++ 34 ∷ rest) ≡ Name inner
 closed_name inner rest all =
     let bytes = inner ++ 34 ∷ rest in
     let run : take_while is_inner bytes ≡ inner = run_ended is_inner inner rest 34 all refl in
     let closes : starts_with nat_eq (drop (length inner) bytes) (34 ∷ []) ≡ true =
-    ap (λ xs. starts_with nat_eq xs (34 ∷ [])) (drop-append_seam inner (34 ∷ rest)) ∙ front-starts_with (34 ∷ rest) (34 ∷ []) refl in
-    ap (λ i. if starts_with nat_eq (drop (length i) bytes) (34 ∷ []) then Name i else Stray 34) run ∙ cond-true _ _ _ closes
+    ap (λ xs. starts_with nat_eq xs (34 ∷ [])) (drop-append_seam inner (34 ∷ rest))
+    ∙ front-starts_with (34 ∷ rest) (34 ∷ []) refl in
+    ap (λ i. if starts_with nat_eq (drop (length i) bytes) (34 ∷ []) then Name i else Stray 34) run
+    ∙ cond-true _ _ _ closes
 
 -- a token of the grammar with which the text b, rest begins
 data Kind (b : ℕ) (rest : List ℕ) : Token → Type 0 where
-  number : (digits : List ℕ) → is_digit b ≡ true → length digits ≤ suc (length (take_while is_digit rest)) → Kind b rest (Number digits)
+  number : (digits : List ℕ)
+      → is_digit b ≡ true
+      → length digits ≤ suc (length (take_while is_digit rest))
+      → Kind b rest (Number digits)
   name : (inner : List ℕ) → b ≡ 34 → quoted rest ≡ Name inner → Kind b rest (Name inner)
   parity : b ≡ 112 → starts_with nat_eq (b ∷ rest) (codes "parity") ≡ true → Kind b rest Parity
   comma : b ≡ 44 → Kind b rest Comma
   semicolon : b ≡ 59 → Kind b rest Semicolon
 
-first_byte : (b c : ℕ) (xs ys : List ℕ) → b ∷ xs ≡ c ∷ ys → b ≡ c
-first_byte b c xs ys is = cc
-
 kind : (b : ℕ) (rest : List ℕ) (u : Token) → IsProper u → BeginsWith (b ∷ rest) u → Kind b rest u
 kind b rest (Number []) (some, all) (r, is) = absurd (omega arith)
 kind b rest (Number (d ∷ ds)) (some, all) (r, is) =
     let digit : (c : ℕ) → IsMember c (d ∷ ds) → is_digit c ≡ true = All-member (λ c. is_digit c ≡ true) (d ∷ ds) all in
-    let head : b ≡ d = first_byte b d rest (ds ++ r) is in
+    let head : b ≡ d = same_head b d rest (ds ++ r) is in
     let passes : is_digit b ≡ true = ap is_digit head ∙ digit d (inl refl) in
     let short = run_longer is_digit (d ∷ ds) r (b ∷ rest) is digit in
     let long : prefix_len is_digit (b ∷ rest) ≡ 1 + prefix_len is_digit rest = cond-true _ _ _ passes in
@@ -93,13 +98,13 @@ kind b rest (Number (d ∷ ds)) (some, all) (r, is) =
 kind b rest (Name inner) all (r, is) =
     let tail : rest ≡ inner ++ 34 ∷ [] ++ r = cc in
     let moved : inner ++ 34 ∷ [] ++ r ≡ inner ++ 34 ∷ r = append_assoc inner (34 ∷ []) r in
-    name inner (first_byte b 34 rest (inner ++ 34 ∷ [] ++ r) is)
+    name inner (same_head b 34 rest (inner ++ 34 ∷ [] ++ r) is)
     (ap quoted (tail ∙ moved) ∙ closed_name inner r (All-member (λ c. is_inner c ≡ true) inner all))
 kind b rest Parity proper (r, is) =
     let front : codes "parity" ≡ take 6 (b ∷ rest) = ap (take 6) (sym is) in
     parity (ap (λ xs. get_or xs 0 0) is) (front-starts_with (b ∷ rest) (codes "parity") front)
-kind b rest Comma proper (r, is) = comma (first_byte b 44 rest r is)
-kind b rest Semicolon proper (r, is) = semicolon (first_byte b 59 rest r is)
+kind b rest Comma proper (r, is) = comma (same_head b 44 rest r is)
+kind b rest Semicolon proper (r, is) = semicolon (same_head b 59 rest r is)
 kind b rest (Stray x) proper begins = absurd proper
 
 -- ---- the cases
@@ -107,9 +112,15 @@ kind b rest (Stray x) proper begins = absurd proper
 abbrev Bound : Token → Token → Type 0
 Bound t u = IsProper t × (length (spelling u) ≤ length (spelling t))
 
-number_first : (b : ℕ) (rest : List ℕ) → is_digit b ≡ true → IsLongest (b ∷ rest) (Number (b ∷ take_while is_digit rest))
+number_first : (b : ℕ) (rest : List ℕ)
+    → is_digit b ≡ true
+    → IsLongest (b ∷ rest) (Number (b ∷ take_while is_digit rest))
 number_first b rest digit = record {
-  begins = (drop (prefix_len is_digit rest) rest, ap (λ xs. b ∷ xs) (sym (take-append-drop (prefix_len is_digit rest) rest)));
+  begins = (
+    drop (prefix_len is_digit rest) rest,
+    ap (λ xs. b ∷ xs)
+        (sym (take-append-drop (prefix_len is_digit rest) rest)),
+  );
   longest = λ u proper begins. by u (kind b rest u proper begins);
 }
   where
@@ -137,19 +148,25 @@ quoted_first b rest other quote =
         let n = prefix_len is_inner rest in
         let size : length inner ≡ n = length-prefix_len is_inner rest in
         let left = drop (length inner) rest in
-        let cut : left ≡ 34 ∷ drop 1 left = sym (take-append-drop 1 left) ∙ ap (λ xs. xs ++ drop 1 left) (sym (starts_with-front left (34 ∷ []) closes)) in
-        let whole : rest ≡ inner ++ left = sym (take-append-drop n rest) ∙ ap (λ k. take n rest ++ drop k rest) (sym size) in
+        let cut : left ≡ 34 ∷ drop 1 left = sym (take-append-drop 1 left)
+        ∙ ap (λ xs. xs ++ drop 1 left) (sym (starts_with-front left (34 ∷ []) closes)) in
+        let whole : rest ≡ inner ++ left =
+        sym (take-append-drop n rest) ∙ ap (λ k. take n rest ++ drop k rest) (sym size) in
         let is : quoted rest ≡ Name inner = cond-true _ _ _ closes in
         record {
           begins = (
             drop 1 left,
             ap (λ c. c ∷ rest) quote
-                ∙ ap (λ xs. 34 ∷ xs) (whole ∙ ap (λ xs. inner ++ xs) cut ∙ sym (append_assoc inner (34 ∷ []) (drop 1 left))),
+                ∙ ap (λ xs. 34 ∷ xs) (whole ∙ ap (λ xs. inner ++ xs) cut
+                ∙ sym (append_assoc inner (34 ∷ []) (drop 1 left))),
           );
           longest = λ u proper begins. by is u (kind b rest u proper begins);
         }
       where
-        by : quoted rest ≡ Name (take_while is_inner rest) → (u : Token) → Kind b rest u → Bound (Name (take_while is_inner rest)) u
+        by : quoted rest ≡ Name (take_while is_inner rest)
+            → (u : Token)
+            → Kind b rest u
+            → Bound (Name (take_while is_inner rest)) u
         by is u (number ds digit short) = absurd (cc)
         by is u (name inner first closed) =
             let same : take_while is_inner rest ≡ inner = cc in (
@@ -160,10 +177,14 @@ quoted_first b rest other quote =
         by is u (comma first) = absurd (omega arith)
         by is u (semicolon first) = absurd (omega arith)
 
-    open_end : starts_with nat_eq (drop (length (take_while is_inner rest)) rest) (34 ∷ []) ≡ false → IsLongest (b ∷ rest) (Stray 34)
+    open_end : starts_with nat_eq (drop (length (take_while is_inner rest)) rest) (34 ∷ []) ≡ false
+        → IsLongest (b ∷ rest) (Stray 34)
     open_end opens =
         let is : quoted rest ≡ Stray 34 = cond-false _ _ _ opens in
-        record { begins = (rest, ap (λ c. c ∷ rest) quote); longest = λ u proper begins. by is u (kind b rest u proper begins) }
+        record {
+          begins = (rest, ap (λ c. c ∷ rest) quote);
+          longest = λ u proper begins. by is u (kind b rest u proper begins);
+        }
       where
         by : quoted rest ≡ Stray 34 → (u : Token) → Kind b rest u → Bound (Stray 34) u
         by is u (number ds digit short) = absurd (cc)
@@ -174,7 +195,10 @@ quoted_first b rest other quote =
 
 comma_first : (b : ℕ) (rest : List ℕ) → is_digit b ≡ false → b ≡ 44 → IsLongest (b ∷ rest) Comma
 comma_first b rest other first =
-    record { begins = (rest, ap (λ c. c ∷ rest) first); longest = λ u proper begins. by u (kind b rest u proper begins) }
+    record {
+      begins = (rest, ap (λ c. c ∷ rest) first);
+      longest = λ u proper begins. by u (kind b rest u proper begins);
+    }
   where
     by : (u : Token) → Kind b rest u → Bound Comma u
     by u (number ds digit short) = absurd (cc)
@@ -185,7 +209,10 @@ comma_first b rest other first =
 
 semicolon_first : (b : ℕ) (rest : List ℕ) → is_digit b ≡ false → b ≡ 59 → IsLongest (b ∷ rest) Semicolon
 semicolon_first b rest other first =
-    record { begins = (rest, ap (λ c. c ∷ rest) first); longest = λ u proper begins. by u (kind b rest u proper begins) }
+    record {
+      begins = (rest, ap (λ c. c ∷ rest) first);
+      longest = λ u proper begins. by u (kind b rest u proper begins);
+    }
   where
     by : (u : Token) → Kind b rest u → Bound Semicolon u
     by u (number ds digit short) = absurd (cc)
@@ -198,7 +225,11 @@ parity_first : (b : ℕ) (rest : List ℕ) → is_digit b ≡ false → starts_w
     → IsLongest (b ∷ rest) Parity
 parity_first b rest other starts =
     record {
-      begins = (drop 6 (b ∷ rest), sym (take-append-drop 6 (b ∷ rest)) ∙ ap (λ xs. xs ++ drop 6 (b ∷ rest)) (sym front));
+      begins = (
+        drop 6 (b ∷ rest),
+        sym (take-append-drop 6 (b ∷ rest))
+            ∙ ap (λ xs. xs ++ drop 6 (b ∷ rest)) (sym front),
+      );
       longest = λ u proper begins. by u (kind b rest u proper begins);
     }
   where

@@ -11,6 +11,7 @@ use Rattle.ml_lines.specs.Reading.{value}
 use Rattle.ml_lists.specs.Member.{IsMember}
 use Rattle.ml_lists.specs.Times.{IsApart}
 use Rattle.ml_lists.proofs.Member.{member-append}
+use Rattle.ml_lists.proofs.Entries.{no_middle}
 use Rattle.ml_pgsolver.specs.Tokens.{Token, Number, Name, Parity, Comma, Semicolon, Stray}
 use Rattle.ml_pgsolver.specs.Refusals.{next_place, place_from, place_behind, roles_from, id_at_place, successor_at_place, ids_of, successors_among, Cause, Syntax, Repeated, TooMany, TooLarge, IsId, IsSuccessor, IsFaulty, most_vertices, most_successors, greatest_number}
 use Rattle.ml_pgsolver.proofs.Splits.{last_split}
@@ -44,10 +45,6 @@ pub record Read (before : List Token) (p : Progress) : Type 0 where
       → IsFaulty c b t
       → ⊥
 
-no_split : (b : List Token) (t : Token) (behind : List Token) → [] ≡ b ++ t ∷ behind → ⊥
-no_split [] t behind is = cc
-no_split (u ∷ b) t behind is = cc
-
 pub read_none : Read [] Start
 read_none = record {
   run = refl;
@@ -58,7 +55,7 @@ read_none = record {
   few_successors = omega arith;
   small = λ n m. absurd m;
   apart = tt;
-  faultless = λ c b t behind is faulty. no_split b t behind is;
+  faultless = λ c b t behind is faulty. no_middle b t behind is;
 }
 
 apart-last : (n : ℕ) (xs : List ℕ) → IsApart xs → (IsMember n xs → ⊥) → IsApart (xs ++ n ∷ [])
@@ -72,7 +69,8 @@ apart-last n (x ∷ xs) apart new = (λ m. by (member-append x xs (n ∷ []) m),
 
 -- ---- the next token
 
-module _ (before : List Token) (p : Progress) (t : Token) (q : Progress) (read : Read before p) (more : grow p t ≡ Some q) where
+module _ (before : List Token) (p : Progress) (t : Token) (q : Progress) (read : Read before p)
+    (more : grow p t ≡ Some q) where
   pub run_more : grown_from (Some Start) (before ++ t ∷ []) ≡ Some q
   run_more = grown-append (Some Start) before (t ∷ []) ∙ ap (λ o. grown_from o (t ∷ [])) read.run ∙ one (grow p t) more
     where
@@ -107,7 +105,9 @@ module _ (before : List Token) (p : Progress) (t : Token) (q : Progress) (read :
   not_many id_room successor_room (inr (n, successor, full)) =
       let room = successor_room n (successor_there n successor) in omega (arith, ap length read.successors)
 
-  pub not_large : ((digits : List ℕ) → t ≡ Number digits → value digits ≤ greatest_number) → IsFaulty TooLarge before t → ⊥
+  pub not_large : ((digits : List ℕ) → t ≡ Number digits → value digits ≤ greatest_number)
+      → IsFaulty TooLarge before t
+      → ⊥
   not_large small (digits, is, large) = let fits = small digits is in omega arith
 
   -- ---- it is read without a fault
@@ -197,7 +197,8 @@ module _ (before : List Token) (p : Progress) (t : Token) (q : Progress) (read :
   pub read_more : Passes p t → Read (before ++ t ∷ []) q
   read_more passes = record {
     run = run_more;
-    place = subst (PlaceFits q) (sym (place-more 0 before t)) ((roles p t q more).place (place_behind before) read.place);
+    place = subst (PlaceFits q) (sym (place-more 0 before t))
+        ((roles p t q more).place (place_behind before) read.place);
     ids = roles-more id_at_place 0 before t ∙ ap (λ xs. xs ++ id_at_place (place_behind before) t) read.ids
         ∙ ap (λ xs. ids_in p ++ xs) ((roles p t q more).id_role (place_behind before) read.place) ∙ sym ids_more;
     successors = roles-more successor_at_place 0 before t
@@ -207,7 +208,8 @@ module _ (before : List Token) (p : Progress) (t : Token) (q : Progress) (read :
     few_ids = subst (λ xs. length xs ≤ most_vertices) (sym ids_more)
         (few (ids_in p) (id_here p t) most_vertices id_shape_here read.few_ids passes.id_room);
     few_successors = subst (λ xs. length xs ≤ most_successors) (sym successors_more)
-        (few (successors_in p) (successor_here p t) most_successors successor_shape_here read.few_successors passes.successor_room);
+        (few (successors_in p) (successor_here p t) most_successors successor_shape_here read.few_successors
+        passes.successor_room);
     small = λ n m. small_more (ids_in p) (id_here p t) id_shape_here read.small passes.small n
         (member-append n (ids_in p) (id_here p t) (subst (IsMember n) ids_more m));
     apart = subst IsApart (sym ids_more) (apart_more (ids_in p) (id_here p t) id_shape_here read.apart passes.fresh);

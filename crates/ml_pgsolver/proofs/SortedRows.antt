@@ -13,13 +13,14 @@ use Rattle.ml_parity.specs.declared.players.Player.{Player}
 use Rattle.ml_parity.specs.Game.{IsGame}
 use Rattle.ml_parity.specs.Refusal.{game_of, lists_of}
 use Rattle.ml_pgsolver.specs.GameText as game_text
-use Rattle.ml_pgsolver.specs.GameText.{HasIds, IsGameOf, IsLeastEvenFrom, id_at}
+use Rattle.ml_pgsolver.specs.GameText.{HasIds, IsGameOf, IsLeastEvenFrom}
 use Rattle.ml_pgsolver.specs.Refusals.{greatest_number}
 use Rattle.ml_pgsolver.specs.declared.reader.Row.{Row}
 use Rattle.ml_pgsolver.specs.private.Assembled.{AreGiven, HasUnknownIn, IsReadable}
 use Rattle.ml_pgsolver.specs.private.Rows.{row_view, rows_view}
-use Rattle.ml_pgsolver.proofs.InIdOrder.{apart-permuted, ascending_rows, all_permuted, all_from_map}
+use Rattle.ml_pgsolver.proofs.InIdOrder.{all_permuted, all_from_map}
 use Rattle.ml_pgsolver.proofs.MadeGames.{made, made_is_game, made_has_ids, unknown_before}
+use Rattle.ml_lists.proofs.Sorted.{apart-permuted, ascending_by}
 
 pub record AreSorted (rows now : List Row) : Type 0 where
   pub readable : IsReadable (rows_view rows)
@@ -38,7 +39,7 @@ module _ (rows now : List Row) (sorted : AreSorted rows now) where
   same_rows = IsPermutation-map row_view rows now sorted.same
 
   pub sorted_ascend : IsAscending (map (λ r. r.id) now)
-  sorted_ascend = ascending_rows (λ (r : Row). r.id) now sorted.rise
+  sorted_ascend = ascending_by (λ (r : Row). r.id) now sorted.rise
       (apart-permuted (map (λ (r : Row). r.id) rows) (map (λ (r : Row). r.id) now) same_ids
       (subst IsApart (map-map (λ (r : game_text.Row). r.id) row_view rows) sorted.readable.apart))
 

@@ -5,7 +5,7 @@
 --   below_is, below_not        == what the test says whether numbers are below a bound
 use Rattle.std.proofs.Common.{◌≡◌, ℕ, ◌+◌, ◌<◌, ◌≤◌, Bool, true, false, ◌&&◌, nat_lt, List, [], ◌∷◌, length, get_or, drop, All, inl, refl, ap, ◌∙◌, arith}
 use Rattle.std.specs.List.{list_all}
-use Rattle.std.proofs.lemmas.Bool.{true≢false}
+use Rattle.std.proofs.lemmas.Bool.{true≢false, and_parts}
 use Rattle.std.proofs.lemmas.Bool.Decides.{nat_tests}
 use Rattle.std.proofs.lemmas.List.{drop_more, drop_all}
 use Rattle.std.proofs.lemmas.List.Elements.{All-nil, All-cons, All-head, All-tail}
@@ -41,14 +41,10 @@ module _ (first last i : ℕ) (xs : List ℕ) (so_far : ascends_behind first xs 
   pub behind_done : length xs ≤ i → ascends_behind first xs ≡ true
   behind_done past = so_far ∙ ap (ascends_behind last) (drop_all i xs past)
 
-both : (a b : Bool) → (a && b) ≡ true → (a ≡ true) × (b ≡ true)
-both true b e = (refl, e)
-both false b e = cc
-
 pub ascends_is : (x : ℕ) (xs : List ℕ) → ascends_behind x xs ≡ true → IsAscending (x ∷ xs)
 ascends_is x [] is = ascending-one x
 ascends_is x (y ∷ ys) is =
-    let parts = both (nat_lt x y) (ascends_behind y ys) is in
+    let parts = and_parts (nat_lt x y) (ascends_behind y ys) is in
     ascending-cons x y ys (test_less x y parts.0) (ascends_is y ys parts.1)
 
 pub ascends_not : (x : ℕ) (xs : List ℕ) → ascends_behind x xs ≡ false → ¬ (IsAscending (x ∷ xs))
@@ -67,7 +63,7 @@ ascends_not x (y ∷ ys) is ascends = go (nat_lt x y) refl is (ascends_not y ys)
 pub below_is : (bound : ℕ) (xs : List ℕ) → list_all (λ n. nat_lt n bound) xs ≡ true → All (λ x. x < bound) xs
 below_is bound [] is = All-nil (λ (x : ℕ). x < bound)
 below_is bound (x ∷ xs) is =
-    let parts = both (nat_lt x bound) (list_all (λ n. nat_lt n bound) xs) is in
+    let parts = and_parts (nat_lt x bound) (list_all (λ n. nat_lt n bound) xs) is in
     All-cons (λ (y : ℕ). y < bound) x xs (test_less x bound parts.0) (below_is bound xs parts.1)
 
 pub below_not : (bound : ℕ) (xs : List ℕ) → list_all (λ n. nat_lt n bound) xs ≡ false → ¬ (All (λ x. x < bound) xs)

@@ -54,13 +54,15 @@ pub names_goes : (v : Version) {at rest : Rest} (n : ℕ)
     → IsNext at (names_line n) rest
     → Goes v AtNames at (after_names v n) rest
 names_goes v {at = at} {rest = rest} n fits next =
-    goes_run v AtNames (after_names v n) at rest (names_line n) (names_line n) next refl (λ left. names_run v left n fits)
+    goes_run v AtNames (after_names v n) at rest (names_line n) (names_line n) next refl
+    (λ left. names_run v left n fits)
 
 module _ (v : Version) (at rest : Rest) where
   pub count_goes : (names : ℕ) (F : Form) (count : ℕ) → Fits count → IsNext at (entries_line count) rest → 0 < count
       → Goes v (AtEntries names F) at (at_entry (knows names F count) []) rest
   count_goes names F count fits next some =
-      goes_run v (AtEntries names F) (at_entry (knows names F count) []) at rest (entries_line count) (entries_line count) next refl
+      goes_run v (AtEntries names F) (at_entry (knows names F count) []) at rest (entries_line count)
+      (entries_line count) next refl
       (λ left. entries_run v left names F count fits some)
 
   pub end_goes : (r : Refutation) (line : Line)
@@ -82,12 +84,6 @@ no_entries names F count fits none left =
       ),
     )
 
-bytes_of : (bytes : List ℕ) → join_with_byte 32 (words_of bytes) ≡ bytes
-bytes_of bytes = join_with_byte-slice_split 32 bytes
-
-pub end_is : (bytes : List ℕ) → bytes ≡ codes "end" → words_of bytes ≡ end_line
-end_is bytes is = ap words_of is
-
 pub not_end : (r : Refutation) (bytes : List ℕ) → bytes ≢ codes "end" → Breaks (AtEnd r) (words_of bytes) OfKind
 not_end r bytes apart left = inl (refl, none)
   where
@@ -97,7 +93,7 @@ not_end r bytes apart left = inl (refl, none)
     is_end line (inr never) = absurd never
 
     none : IsOfKinds (kind (Fixed (codes "end") ∷ []) ∷ []) (words_of bytes) → ⊥
-    none of = apart (sym (bytes_of bytes) ∙ ap (join_with_byte 32) (is_end (words_of bytes) of))
+    none of = apart (sym (join_with_byte-slice_split 32 bytes) ∙ ap (join_with_byte 32) (is_end (words_of bytes) of))
 
 -- where bytes follow the end, the line behind it is the first bad one
 pub behind_end : (v : Version) (r : Refutation) (at : Rest) (told : DocRefusal) → at.text.now ≢ []
@@ -113,7 +109,8 @@ behind_end v r at told some is = go (fronts (slice_split is_line_end at.text.now
         sym (ap (λ lines. text_of lines ++ left_of at.text.now) no_lines) ∙ text_read at.text.now
         in
         subst (TellsFault v (AtNothing r) at) (sym is)
-        (fault_missing (body v) at.line (AtNothing r) at.text.now 21 no_lines (inl (refl, λ kind. some (sym all_left ∙ kind.1))))
+        (fault_missing (body v) at.line (AtNothing r) at.text.now 21 no_lines
+        (inl (refl, λ kind. some (sym all_left ∙ kind.1))))
     go (part ∷ parts) first =
         let begins : lines_of at.text.now ≡ words_of part ∷ map words_of parts = ap (map words_of) first in
         subst (TellsFault v (AtNothing r) at) (sym is)
@@ -126,7 +123,8 @@ item_count : (F : Form) (items : List (traced.Item AutomatonState)) (lines : Lis
     → ItemLines F items lines
     → length lines ≡ length items
 item_count F [] lines is = ap length is
-item_count F (a ∷ items) lines (line, others, first, rest, is) = omega (arith, ap length is, item_count F items others rest)
+item_count F (a ∷ items) lines (line, others, first, rest, is) =
+    omega (arith, ap length is, item_count F items others rest)
 
 head_count : (v : Version) (names : ℕ) (F : Form) (i : ℕ) (q : List ℕ) (lines : List Line)
     → IsForm v names F
@@ -146,7 +144,8 @@ entries_count v names F i (e ∷ es) lines form (first, others, one, rest, is) =
       ap length is,
       length-append first others,
       ap length one.are_lines,
-      length-append one.head (live_line e.traces.live ∷ (one.items ++ heights_line e.heights ∷ decision_lines e.decision)),
+      length-append one.head (live_line
+      e.traces.live ∷ (one.items ++ heights_line e.heights ∷ decision_lines e.decision)),
       length-append one.items (heights_line e.heights ∷ decision_lines e.decision),
       head_count v names F i e.sequent one.head form one.is_head,
       item_count F e.traces.items one.items one.are_items,
@@ -180,7 +179,8 @@ body_size v F r lines form is =
 
 -- ---- what was read to a place
 
-pub record RunsOf (v : Version) (left : List ℕ) (k : ℕ) (p : Place) (lines : List Line) (j : ℕ) (q : Place) (rest : List Line) : Type 0 where
+pub record RunsOf (v : Version) (left : List ℕ) (k : ℕ) (p : Place) (lines : List Line) (j : ℕ) (q : Place)
+    (rest : List Line) : Type 0 where
   pub front : List Line
   pub is_front : lines ≡ front ++ rest
   pub run : Runs (body v left) p front q
@@ -189,7 +189,8 @@ pub record RunsOf (v : Version) (left : List ℕ) (k : ℕ) (p : Place) (lines :
 pub runs_of : (v : Version) (left : List ℕ) (k : ℕ) (p : Place) (lines : List Line) (j : ℕ) (q : Place)
     (rest : List Line)
     → IsReadTo (body v left) k p lines j q rest → RunsOf v left k p lines j q rest
-runs_of v left k p lines j q rest nothing_read = record { front = []; is_front = refl; run = refl; counted = omega arith }
+runs_of v left k p lines j q rest nothing_read =
+    record { front = []; is_front = refl; run = refl; counted = omega arith }
 runs_of v left k p lines j q rest (line_read i at line more before good) =
     let so_far = runs_of v left k p lines i at (line ∷ more) before in record {
       front = so_far.front ++ line ∷ [];
@@ -208,7 +209,8 @@ pub at_end : {v : Version} {p : Place} {at rest : Rest} (names wanted : ℕ) (F 
 at_end {v = v} {p = p} {at = at} {rest = rest} names wanted F items whole goes =
     let es = map entry_of items in
     let test : nat_lt (length es) wanted ≡ false = grind (arith, nat_tests, length-map items entry_of, whole) in
-    subst (λ b. Goes v p at (cond b (AtEntry (knows names F wanted) es) (AtEnd (record { names = names; entries = es }))) rest) test goes
+    subst (λ b. Goes v p at (cond b (AtEntry (knows names F wanted) es)
+        (AtEnd (record { names = names; entries = es }))) rest) test goes
 
 -- ---- a whole text
 
@@ -220,9 +222,11 @@ text_size v t r is written =
     (body_run v (0 ∷ []) written.form r written.lines is written.is_form written.are_lines)
     in
     let read = lines_read written.lines plain in
-    ap length (ap lines_of written.is_text ∙ read.0) ∙ body_size v written.form r written.lines written.is_form written.are_lines
+    ap length (ap lines_of written.is_text ∙ read.0)
+    ∙ body_size v written.form r written.lines written.is_form written.are_lines
 
-module _ (v : Version) (at rest : Rest) (r : Refutation) (goes : Goes v AtNames at (AtNothing r) rest) (none : rest.text.now ≡ []) where
+module _ (v : Version) (at rest : Rest) (r : Refutation) (goes : Goes v AtNames at (AtNothing r) rest)
+    (none : rest.text.now ≡ []) where
   pub record IsWhole : Type 0 where
     pub is : IsRefutation r
     pub written : IsTextOf v at.text.now r
@@ -231,15 +235,19 @@ module _ (v : Version) (at rest : Rest) (r : Refutation) (goes : Goes v AtNames 
   whole_read : IsWhole
   whole_read =
       let t = at.text.now in
-      let read = runs_of v (left_of t) at.line AtNames (lines_of t) rest.line (AtNothing r) (lines_of rest.text.now) goes.read in
+      let read =
+      runs_of v (left_of t) at.line AtNames (lines_of t) rest.line (AtNothing r) (lines_of rest.text.now) goes.read in
       let left : left_of t ≡ [] = goes.left_is ∙ ap left_of none in
-      let full : lines_of t ≡ read.front = read.is_front ∙ ap (λ text. read.front ++ lines_of text) none ∙ append-nil read.front in
+      let full : lines_of t ≡ read.front =
+      read.is_front ∙ ap (λ text. read.front ++ lines_of text) none ∙ append-nil read.front in
       let run = subst (λ ls. Runs (body v (left_of t)) AtNames ls (AtNothing r)) (sym full) read.run in
       let readable = run_readable (body v (left_of t)) AtNames (AtNothing r) (lines_of t) run ((refl, left), tt) in
       let text = readable_is_text v t readable in
       let lines = text_lines v t text.0 text.1 text.2 in
       let mine = subst (λ l. Runs (body v l) AtNames (lines_of t) (AtNothing r)) left run in
-      let same = same_end r text.0 (one_end (body v []) AtNames (AtNothing r) (AtNothing text.0) (lines_of t) mine lines.run) in record {
+      let same =
+      same_end r text.0 (one_end (body v []) AtNames (AtNothing r) (AtNothing text.0) (lines_of t) mine lines.run) in
+      record {
         is = subst IsRefutation (sym same) text.1;
         written = subst (IsTextOf v t) (sym same) text.2;
         counted = omega (arith, read.counted, ap length full);
@@ -252,7 +260,8 @@ module _ (v : Version) (at rest : Rest) (r : Refutation) (goes : Goes v AtNames 
   body_read start before parts begins are counted =
       let whole = whole_read in
       let size = text_size v at.text.now r whole.is whole.written in
-      let first : start ≡ at.line + lines_before whole.written.form = omega (arith, begins, counted, whole.counted, size) in record {
+      let first : start ≡ at.line + lines_before whole.written.form =
+      omega (arith, begins, counted, whole.counted, size) in record {
         is_refutation = whole.is;
         are_lines = record {
           written = whole.written;

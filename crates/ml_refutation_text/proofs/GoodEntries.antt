@@ -3,7 +3,7 @@
 --   head_run, items_run, heights_run  == the lines of an entry before its decision
 --   entry_run, entries_run            == those of an entry, and of the entries
 --   body_run                          == those of a body
-use Rattle.std.proofs.Common.{◌≡◌, ℕ, ◌+◌, ◌<◌, ◌≤◌, true, false, cond, nat_lt, List, [], ◌∷◌, ◌++◌, Option, None, Some, length, map}
+use Rattle.std.proofs.Common.{◌≡◌, ℕ, ◌+◌, ◌<◌, ◌≤◌, true, false, cond, nat_lt, List, [], ◌∷◌, ◌++◌, None, Some, length, map}
 use Rattle.std.proofs.Common.{All, codes, refl, sym, ap, subst, ◌∙◌, inl, inr, length-append, append_assoc, arith}
 use Rattle.std.specs.Prelude.{slice_index_or}
 use Rattle.std.proofs.lemmas.Bool.Decides.{nat_tests}
@@ -31,6 +31,7 @@ use Rattle.ml_refutation_text.proofs.ReadWords.{is_number, are_numbers, words_fi
 use Rattle.ml_refutation_text.proofs.ReadWords.{values_back, guess_back, guess_word_fits, guess_is_word, differ, spelt_is_word}
 use Rattle.ml_refutation_text.proofs.GoodLines.{Run, numbered_of, numbered_fits, names_fit, sequent_good, sequent_fits, names_run}
 use Rattle.ml_refutation_text.proofs.GoodLines.{entries_run, end_run, sequents_run, stacks_run, live_run, decision_run}
+use Rattle.ml_lists.proofs.Chains.{last_push}
 
 -- what a program knows behind the number of entries
 abbrev pub known : ℕ → Form → ℕ → Known
@@ -54,15 +55,12 @@ item_words : (s : AutomatonState) (words : Line)
     → AreWords (item_line s words)
 item_words s words fits guess are =
     words_first (codes "item") (number s.node ∷ guess_word s.odd ∷ words) refl
-    (words_number s.node (guess_word s.odd ∷ words) fits (words_first (guess_word s.odd) words (guess_is_word s.odd guess) are))
+    (words_number s.node (guess_word s.odd ∷ words) fits
+    (words_first (guess_word s.odd) words (guess_is_word s.odd guess) are))
 
-no_item : (form : Form) (others : Line) → IsOfKind (item_kind form) (codes "heights" ∷ others) → ⊥
+pub no_item : (form : Form) (others : Line) → IsOfKind (item_kind form) (codes "heights" ∷ others) → ⊥
 no_item InFull others kind = differ (codes "heights") (codes "item") refl kind.1.0
 no_item (ByTables qs ks) others kind = differ (codes "heights") (codes "item") refl kind.1.0
-
-last_push : {K : Type 0} (before : Option K) (xs : List K) (x : K) → last_of before (xs ++ x ∷ []) ≡ Some x
-last_push before [] x = refl
-last_push before (y ∷ ys) x = last_push (Some y) ys x
 
 -- a line is of the kind of items, and has its numbers
 pub record IsItemLine (form : Form) (line : Line) : Type 0 where
@@ -95,7 +93,9 @@ pub table_item : (qs ks : List (List ℕ)) (s : AutomatonState) (w : Word) (t : 
     → FitsGuess s.odd
     → IsItemLine (ByTables qs ks) (item_line s (w ∷ []))
 table_item qs ks s w t spells node guess = record {
-  of_kind = (item_words s (w ∷ []) node guess (words_first w [] (spelt_is_word w t spells) refl), (refl, (tt, (tt, (tt, refl)))));
+  of_kind =
+      (item_words s (w ∷ []) node guess (words_first w [] (spelt_is_word w t spells) refl),
+      (refl, (tt, (tt, (tt, refl)))));
   numbers_are = (
     (λ _. (tt, (is_number s.node node, (guess_word_fits s.odd guess, ((t, spells), All-nil IsNumber))))),
     ((λ kind. absurd (no_heights (number s.node ∷ guess_word s.odd ∷ w ∷ []) kind)), tt),
@@ -124,7 +124,8 @@ module _ (v : Version) (left : List ℕ) (names wanted : ℕ) (small : Fits name
       let i = length es in
       let back = values_back q fit in
       subst (λ ls. Run v left (AtEntry k es) ls (AtLive k es q)) (sym is) (
-        (inl (numbered_of v left (codes "entry") i refl fits), (numbered_fits v left (codes "entry") i fits, (value_back i fits, (tt, tt)))),
+        (inl (numbered_of v left (codes "entry") i refl fits),
+        (numbered_fits v left (codes "entry") i fits, (value_back i fits, (tt, tt)))),
         (
           (inl (sequent_good v left q fit), (sequent_fits v left q fit, (subst IsAscending (sym back) ascends, tt))),
           ap (AtLive k es) back,
@@ -163,20 +164,23 @@ module _ (v : Version) (left : List ℕ) (names wanted : ℕ) (small : Fits name
         → IsNextItem form (record { live = live; items = before }) (item_line a.state words)
     next_item form before a words is above back = record {
       is_above =
-          subst (IsAbove (last_of None (map (λ b. b.state) before))) (sym (state_back a.state words is.node_fits is.guess_fits)) above;
+          subst (IsAbove (last_of None (map (λ b. b.state) before)))
+          (sym (state_back a.state words is.node_fits is.guess_fits)) above;
       ascends = subst IsAscending (sym back) is.ascends;
       in_use = subst (All (λ x. x < live)) (sym back) is.below;
     }
 
     pub item_run : (form : Form) (before : List (traced.Item AutomatonState)) (a : traced.Item AutomatonState)
         (words : List Word)
-        → MayStand live a → SomeIn form a.stack → IsAbove (last_of None (map (λ b. b.state) before)) a.state → StackWords form a.stack words
+        → MayStand live a → SomeIn form a.stack → IsAbove (last_of None (map (λ b. b.state) before)) a.state
+        → StackWords form a.stack words
         → Run v left (at_item form before) (item_line a.state words ∷ []) (at_item form (before ++ a ∷ []))
     item_run InFull before a words is some above spelt =
         let fit = names_fit v left live a.stack (omega (arith, within, small)) is.below in
         let line = full_item a.state a.stack some fit is.node_fits is.guess_fits in
         let back = values_back a.stack fit in
-        subst (λ ws. Run v left (at_item InFull before) (item_line a.state ws ∷ []) (at_item InFull (before ++ a ∷ []))) (sym spelt) (
+        subst (λ ws. Run v left (at_item InFull before) (item_line a.state ws ∷ []) (at_item InFull (before ++ a ∷ [])))
+        (sym spelt) (
           (
             inl line.of_kind,
             (
@@ -187,7 +191,8 @@ module _ (v : Version) (left : List ℕ) (names wanted : ℕ) (small : Fits name
               ),
             ),
           ),
-          (λ i. at_item InFull (before ++ record { state = state_back a.state (numbers a.stack) is.node_fits is.guess_fits i; stack = back i } ∷ [])),
+          (λ i. at_item InFull (before ++ record { state = state_back a.state (numbers a.stack) is.node_fits
+          is.guess_fits i; stack = back i } ∷ [])),
         )
     item_run (ByTables qs ks) before a words is some above (t, w, spells, there, spelt) =
         let form = ByTables qs ks in
@@ -195,7 +200,8 @@ module _ (v : Version) (left : List ℕ) (names wanted : ℕ) (small : Fits name
         let back : slice_index_or ks (value w) [] ≡ a.stack =
         ap (λ n. slice_index_or ks n []) spells.is_value ∙ get_or_from_slice_get ks t a.stack [] there in
         let below : value w < length ks = omega (arith, spells.is_value, slice_get_within ks t a.stack there) in
-        subst (λ ws. Run v left (at_item form before) (item_line a.state ws ∷ []) (at_item form (before ++ a ∷ []))) (sym spelt) (
+        subst (λ ws. Run v left (at_item form before) (item_line a.state ws ∷ []) (at_item form (before ++ a ∷ [])))
+        (sym spelt) (
           (
             inl line.of_kind,
             (
@@ -206,7 +212,8 @@ module _ (v : Version) (left : List ℕ) (names wanted : ℕ) (small : Fits name
               ),
             ),
           ),
-          (λ i. at_item form (before ++ record { state = state_back a.state (w ∷ []) is.node_fits is.guess_fits i; stack = back i } ∷ [])),
+          (λ i. at_item form (before ++ record { state = state_back a.state (w ∷ []) is.node_fits is.guess_fits i;
+          stack = back i } ∷ [])),
         )
 
     items_run : (form : Form) (before items : List (traced.Item AutomatonState)) (lines : List Line)
@@ -221,19 +228,23 @@ module _ (v : Version) (left : List ℕ) (names wanted : ℕ) (small : Fits name
         (item_run form before a first.words (may_stand live a (All-head (IsItem live) a items are))
         (some_in live form a (All-head (IsItem live) a items are)) above.0 first.for_stack) in
         let last : last_of None (map (λ b. b.state) (before ++ a ∷ [])) ≡ Some a.state =
-        ap (last_of None) (map-append (λ b. b.state) before (a ∷ [])) ∙ last_push None (map (λ b. b.state) before) a.state in
+        ap (last_of None) (map-append (λ b. b.state) before (a ∷ []))
+        ∙ last_push None (map (λ b. b.state) before) a.state in
         let more =
         items_run form (before ++ a ∷ []) items others (All-tail (IsItem live) a items are)
         (subst (λ b. AreAbove b (map (λ b. b.state) items)) (sym last) above.1) rest in
         subst (λ ls. Run v left (at_item form before) ls (at_item form (before ++ a ∷ items))) (sym is)
-        (run_on (body v left) (at_item form before) (at_item form (before ++ a ∷ [])) (at_item form (before ++ a ∷ items)) (line ∷ []) others one
-        (subst (λ all. Run v left (at_item form (before ++ a ∷ [])) others (at_item form all)) (append_assoc before (a ∷ []) items) more))
+        (run_on (body v left) (at_item form before) (at_item form (before ++ a ∷ []))
+        (at_item form (before ++ a ∷ items)) (line ∷ []) others one
+        (subst (λ all. Run v left (at_item form (before ++ a ∷ [])) others (at_item form all))
+        (append_assoc before (a ∷ []) items) more))
 
     pub heights_run : (form : Form) (items : List (traced.Item AutomatonState)) (hs : List ℕ)
         → All Fits hs
         → length hs ≡ names + 1
         → Run v left (at_item form items) (heights_line hs ∷ [])
-        (AtDecision (known names form wanted) es (record { sequent = q; traces = record { live = live; items = items }; heights = hs }) [])
+        (AtDecision (known names form wanted) es
+        (record { sequent = q; traces = record { live = live; items = items }; heights = hs }) [])
     heights_run form items hs fit count = (
       (
         inr (inl (words_first (codes "heights") (numbers hs) refl (words_numbers hs fit), (refl, tt))),
@@ -272,41 +283,53 @@ module _ (v : Version) (left : List ℕ) (names wanted : ℕ) (small : Fits name
       let last : List Line = decision_lines e.decision in
       let decided : Run v left (AtDecision k es b []) last behind =
       decision_run v left k es b e.decision [] small few is.is_decided (omega (arith, is.nested)) in
-      let heights = heights_run es e.sequent live within form e.traces.items e.heights is.heights_fit is.a_height_each in
+      let heights =
+      heights_run es e.sequent live within form e.traces.items e.heights is.heights_fit is.a_height_each in
       let items =
       items_run es e.sequent live within form [] e.traces.items written.items is.is_traced.are_items is.is_traced.ascend
       written.are_items
       in
       let lives = live_run v left k es e.sequent live (omega (arith, within, small)) within in
-      let head = head_run form es e.sequent written.head (omega (arith, here, few)) tables is.nodes_fit is.ascends written.is_head in
+      let head =
+      head_run form es e.sequent written.head (omega (arith, here, few)) tables is.nodes_fit is.ascends written.is_head
+      in
       subst (λ ls. Run v left (AtEntry k es) ls behind) (sym written.are_lines)
-      (run_on F (AtEntry k es) (AtLive k es e.sequent) behind written.head (live_line live ∷ (written.items ++ heights_line e.heights ∷ last)) head
-      (run_on F (AtLive k es e.sequent) (AtItem k es e.sequent (record { live = live; items = [] })) behind (live_line live ∷ [])
+      (run_on F (AtEntry k es) (AtLive k es e.sequent) behind written.head
+      (live_line live ∷ (written.items ++ heights_line e.heights ∷ last)) head
+      (run_on F (AtLive k es e.sequent) (AtItem k es e.sequent (record { live = live; items = [] })) behind
+      (live_line live ∷ [])
       (written.items ++ heights_line e.heights ∷ last) lives
-      (run_on F (AtItem k es e.sequent (record { live = live; items = [] })) (AtItem k es e.sequent e.traces) behind written.items
+      (run_on F (AtItem k es e.sequent (record { live = live; items = [] })) (AtItem k es e.sequent e.traces) behind
+      written.items
       (heights_line e.heights ∷ last) items
-      (run_on F (AtItem k es e.sequent e.traces) (AtDecision k es b []) behind (heights_line e.heights ∷ []) last heights decided))))
+      (run_on F (AtItem k es e.sequent e.traces) (AtDecision k es b []) behind (heights_line e.heights ∷ []) last
+      heights decided))))
 
   entries_from : (form : Form) (es more : List Entry) (lines : List Line)
       → Fits wanted
       → length es + length more ≡ wanted
       → SequentsFit form → All (IsEntry names wanted) more → EntriesLines form (length es) more lines
-      → Run v left (at_entry (known names form wanted) es) lines (AtEnd (record { names = names; entries = es ++ more }))
+      → Run v left (at_entry (known names form wanted) es) lines
+      (AtEnd (record { names = names; entries = es ++ more }))
   entries_from form es [] lines few full tables are written =
       let none : nat_lt (length es) wanted ≡ false = grind (arith, nat_tests) in
-      subst (λ ls. Run v left (at_entry (known names form wanted) es) ls (AtEnd (record { names = names; entries = es ++ [] }))) (sym written)
+      subst (λ ls. Run v left (at_entry (known names form wanted) es) ls
+          (AtEnd (record { names = names; entries = es ++ [] }))) (sym written)
       (ap (λ b. cond b (AtEntry (known names form wanted) es) (AtEnd (record { names = names; entries = es }))) none
       ∙ ap (λ l. AtEnd (record { names = names; entries = l })) (sym (append-nil es)))
   entries_from form es (e ∷ more) lines few full tables are (first, others, one, rest, is) =
       let k = known names form wanted in
       let end = AtEnd (record { names = names; entries = es ++ e ∷ more }) in
       let below : nat_lt (length es) wanted ≡ true = grind (arith, nat_tests) in
-      let run = entry_run form es e first few (omega (arith, full)) tables (All-head (IsEntry names wanted) e more are) one in
+      let run =
+      entry_run form es e first few (omega (arith, full)) tables (All-head (IsEntry names wanted) e more are) one in
       let next : length es + 1 ≡ length (es ++ e ∷ []) = omega (arith, length-append es (e ∷ [])) in
       let runs =
-      entries_from form (es ++ e ∷ []) more others few (omega (arith, full, next)) tables (All-tail (IsEntry names wanted) e more are)
+      entries_from form (es ++ e ∷ []) more others few (omega (arith, full, next)) tables
+      (All-tail (IsEntry names wanted) e more are)
       (subst (λ i. EntriesLines form i more others) next rest) in
-      subst (λ p. Run v left p lines end) (sym (ap (λ b. cond b (AtEntry k es) (AtEnd (record { names = names; entries = es }))) below))
+      subst (λ p. Run v left p lines end)
+          (sym (ap (λ b. cond b (AtEntry k es) (AtEnd (record { names = names; entries = es }))) below))
       (subst (λ ls. Run v left (AtEntry k es) ls end) (sym is)
       (run_on (body v left) (AtEntry k es) (at_entry k (es ++ e ∷ [])) end first others run
       (subst (λ l. Run v left (at_entry k (es ++ e ∷ [])) others (AtEnd (record { names = names; entries = l })))
@@ -331,7 +354,8 @@ first_run Two left (ByTables qs ks) names lines fits is (w, spells, written) =
     run_on F AtNames (AtSequents names) (AtEntries names (ByTables qs ks)) (names_line names ∷ []) (tables ++ stacks)
     (names_run Two left names fits)
     (run_on F (AtSequents names) (AtStacks names qs) (AtEntries names (ByTables qs ks)) tables stacks
-    (sequents_run Two left names qs is.sequents_fit is.nodes_fit is.sequents_ascend) (stacks_run Two left names qs ks w fits spells is.are_stacks)) in
+    (sequents_run Two left names qs is.sequents_fit is.nodes_fit is.sequents_ascend)
+    (stacks_run Two left names qs ks w fits spells is.are_stacks)) in
     (subst (λ ls. Run Two left AtNames ls (AtEntries names (ByTables qs ks))) (sym written) run, is.sequents_fit)
 
 pub body_run : (v : Version) (left : List ℕ) (form : Form) (r : Refutation) (lines : List Line)
@@ -349,6 +373,8 @@ body_run v left form r lines is is_form written =
     first.1 is.are_entries written.are_entries
     in
     subst (λ ls. Run v left AtNames ls (AtNothing r)) (sym written.are_lines)
-    (run_on F AtNames (AtEntries r.names form) (AtNothing r) written.first (entries_line count ∷ (written.entries ++ end_line ∷ [])) first.0
-    (run_on F (AtEntries r.names form) (at_entry k []) (AtNothing r) (entries_line count ∷ []) (written.entries ++ end_line ∷ []) counts
+    (run_on F AtNames (AtEntries r.names form) (AtNothing r) written.first
+    (entries_line count ∷ (written.entries ++ end_line ∷ [])) first.0
+    (run_on F (AtEntries r.names form) (at_entry k []) (AtNothing r) (entries_line count ∷ [])
+    (written.entries ++ end_line ∷ []) counts
     (run_on F (at_entry k []) (AtEnd r) (AtNothing r) written.entries (end_line ∷ []) entries (end_run v left r))))

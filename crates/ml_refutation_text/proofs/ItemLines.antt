@@ -26,7 +26,7 @@ use Rattle.ml_refutation_text.specs.private.WordReads.{FitsAGuess}
 use Rattle.ml_refutation_text.specs.private.ItemReads.{knows, AreNames, IsItemed, AtItems, IsItemOf, LacksStack}
 use Rattle.ml_refutation_text.specs.declared.body_rule.BodyRule.TheVariants.{OfKind, Numbers, ItemsAscend, HeightForEach, InTables}
 use Rattle.ml_refutation_text.proofs.ReadWords.{some_word, differ, are_numbers, words_numbers, values_back, words_first}
-use Rattle.ml_refutation_text.proofs.GoodEntries.{full_item, table_item, state_back}
+use Rattle.ml_refutation_text.proofs.GoodEntries.{full_item, table_item, state_back, no_item}
 
 module _ (names wanted : ℕ) (es : List Entry) (q : List ℕ) (traces : traced.Entry AutomatonState) where
   abbrev at : Form → Place
@@ -58,10 +58,6 @@ module _ (names wanted : ℕ) (es : List Entry) (q : List ℕ) (traces : traced.
             ),
           ),
         ))
-      where
-        no_item : (form : Form) (others : Line) → IsOfKind (item_kind form) (codes "heights" ∷ others) → ⊥
-        no_item InFull others kind = differ (codes "heights") (codes "item") refl kind.1.0
-        no_item (ByTables qs ks) others kind = differ (codes "heights") (codes "item") refl kind.1.0
 
   no_kind : (F : Form) (line : Line)
       → ¬ (IsOfKind (item_kind F) line)
@@ -93,7 +89,8 @@ module _ (names wanted : ℕ) (es : List Entry) (q : List ℕ) (traces : traced.
       → ¬ ((IsNumber n × FitsAGuess g) × All IsNumber words) → Breaks (at InFull) line Numbers
   full_no_numbers line [] n g is some are bad left = absurd (omega (arith, some))
   full_no_numbers line (w ∷ words) n g is some are bad left =
-      let kind : IsOfKind (item_kind InFull) (codes "item" ∷ n ∷ g ∷ w ∷ words) = (subst AreWords is are, (refl, (tt, (tt, (tt, tt))))) in
+      let kind : IsOfKind (item_kind InFull) (codes "item" ∷ n ∷ g ∷ w ∷ words) =
+      (subst AreWords is are, (refl, (tt, (tt, (tt, tt))))) in
       subst (λ l. IsFirstBroken (rules left (at InFull)) l 22) (sym is)
       (inr (
         inl kind,
@@ -119,7 +116,8 @@ module _ (names wanted : ℕ) (es : List Entry) (q : List ℕ) (traces : traced.
             λ keeps.
                 let next = keeps refl in
                 bad (
-                  subst (IsAbove (last_of None (map (λ a. a.state) traces.items))) (state_back s (numbers ns) node guess) next.is_above,
+                  subst (IsAbove (last_of None (map (λ a. a.state) traces.items)))
+                  (state_back s (numbers ns) node guess) next.is_above,
                   subst (AreNames traces.live) (values_back ns fit) (next.ascends, next.in_use),
                 ),
           ),
@@ -127,12 +125,14 @@ module _ (names wanted : ℕ) (es : List Entry) (q : List ℕ) (traces : traced.
       )
 
   pub full_no_names : (line : Line) (live : ℕ) (before : Option AutomatonState) (s : AutomatonState) (ns : List ℕ)
-      → AtItems live before traces → line ≡ item_line s (numbers ns) → 0 < length ns → All Fits ns → Fits s.node → FitsGuess s.odd
+      → AtItems live before traces → line ≡ item_line s (numbers ns) → 0 < length ns → All Fits ns → Fits s.node
+      → FitsGuess s.odd
       → ¬ (IsAbove before s × AreNames live ns) → Breaks (at InFull) line ItemsAscend
   full_no_names line live before s ns stand is some fit node guess bad left =
       subst (λ l. IsFirstBroken (rules left (at InFull)) l 27) (sym is)
       (full_bad s ns some fit node guess
-      (λ both. bad (subst (λ b. IsAbove b s) stand.behind both.0, subst (λ m. AreNames m ns) stand.with_live both.1)) left)
+      (λ both. bad (subst (λ b. IsAbove b s) stand.behind both.0, subst (λ m. AreNames m ns) stand.with_live both.1))
+      left)
 
   -- ---- by its table
 
@@ -163,7 +163,8 @@ module _ (names wanted : ℕ) (es : List Entry) (q : List ℕ) (traces : traced.
     module _ (p : Word) (is : line ≡ codes "item" ∷ n ∷ g ∷ p ∷ []) where
       pub table_no_numbers : AreWords line → ¬ ((IsNumber n × FitsAGuess g) × IsSpelt p) → Breaks (at F) line Numbers
       table_no_numbers are bad left =
-          let kind : IsOfKind (item_kind F) (codes "item" ∷ n ∷ g ∷ p ∷ []) = (subst AreWords is are, (refl, (tt, (tt, (tt, refl))))) in
+          let kind : IsOfKind (item_kind F) (codes "item" ∷ n ∷ g ∷ p ∷ []) =
+          (subst AreWords is are, (refl, (tt, (tt, (tt, refl))))) in
           subst (λ l. IsFirstBroken (rules left (at F)) l 22) (sym is)
           (inr (inl kind, inl (refl, λ have. let fits = (have.0 kind).1 in bad ((fits.0, fits.1.0), fits.1.1.0))))
 
@@ -173,7 +174,8 @@ module _ (names wanted : ℕ) (es : List Entry) (q : List ℕ) (traces : traced.
         spelt : line ≡ item_line s (p ∷ [])
         spelt = is ∙ (λ i. codes "item" ∷ n_is i ∷ g_is i ∷ p ∷ [])
 
-        table_bad : ¬ (IsAbove (last_of None (map (λ a. a.state) traces.items)) s × AreNames traces.live (slice_index_or ks (value p) []))
+        table_bad : ¬ (IsAbove (last_of None (map (λ a. a.state) traces.items)) s
+            × AreNames traces.live (slice_index_or ks (value p) []))
             → Breaks (at F) (item_line s (p ∷ [])) ItemsAscend
         table_bad bad left =
             let l = table_item qs ks s p (value p) spells node guess in
@@ -186,7 +188,8 @@ module _ (names wanted : ℕ) (es : List Entry) (q : List ℕ) (traces : traced.
                   λ keeps.
                       let next = keeps refl in
                       bad (
-                        subst (IsAbove (last_of None (map (λ a. a.state) traces.items))) (state_back s (p ∷ []) node guess) next.is_above,
+                        subst (IsAbove (last_of None (map (λ a. a.state) traces.items)))
+                        (state_back s (p ∷ []) node guess) next.is_above,
                         (next.ascends, next.in_use),
                       ),
                 ),
@@ -216,7 +219,8 @@ module _ (names wanted : ℕ) (es : List Entry) (q : List ℕ) (traces : traced.
                 inr (
                   (λ _. record {
                     is_above =
-                        subst (IsAbove (last_of None (map (λ a. a.state) traces.items))) (sym (state_back s (p ∷ []) node guess))
+                        subst (IsAbove (last_of None (map (λ a. a.state) traces.items)))
+                        (sym (state_back s (p ∷ []) node guess))
                         (subst (λ b. IsAbove b s) (sym stand.behind) above);
                     ascends = subst IsAscending (sym none) tt;
                     in_use = subst (All (λ x. x < traces.live)) (sym none) (All-nil (λ (x : ℕ). x < traces.live));
@@ -248,7 +252,8 @@ module _ (names wanted : ℕ) (es : List Entry) (q : List ℕ) (traces : traced.
 
 -- ---- the item that was read
 
-module _ (line : Line) (n g : Word) (rest : List ℕ) (node : ℕ) (odd : Option ℕ) (ns : List ℕ) (is : line ≡ codes "item" ∷ n ∷ g ∷ words_of rest)
+module _ (line : Line) (n g : Word) (rest : List ℕ) (node : ℕ) (odd : Option ℕ) (ns : List ℕ)
+    (is : line ≡ codes "item" ∷ n ∷ g ∷ words_of rest)
     (n_is : n ≡ number node) (g_is : g ≡ guess_word odd) (ns_are : words_of rest ≡ numbers ns) where
   pub full_spelt : line ≡ item_line (record { node = node; odd = odd }) (numbers ns)
   full_spelt = is ∙ (λ i. codes "item" ∷ n_is i ∷ g_is i ∷ ns_are i)
@@ -257,7 +262,8 @@ module _ (line : Line) (n g : Word) (rest : List ℕ) (node : ℕ) (odd : Option
   full_some = omega (arith, some_word rest, ap length ns_are, length-map ns number)
 
 pub full_is : (line : Line) (live : ℕ) (before : Option AutomatonState) (s : AutomatonState) (ns : List ℕ)
-    → line ≡ item_line s (numbers ns) → 0 < length ns → Fits s.node → FitsGuess s.odd → IsAbove before s → AreNames live ns
+    → line ≡ item_line s (numbers ns) → 0 < length ns → Fits s.node → FitsGuess s.odd → IsAbove before s
+    → AreNames live ns
     → IsItemOf InFull live before line (record { state = s; stack = ns })
 full_is line live before s ns is some node guess above names = record {
   is_line = record { words = numbers ns; for_stack = refl; is_line = is };
@@ -268,7 +274,8 @@ full_is line live before s ns is some node guess above names = record {
 
 pub table_is : (qs ks : List (List ℕ)) (line : Line) (live : ℕ) (before : Option AutomatonState) (s : AutomatonState)
     (ns : List ℕ) (p : Word)
-    → line ≡ item_line s (p ∷ []) → Spells p (value p) → slice_get ks (value p) ≡ Some ns → Fits s.node → FitsGuess s.odd
+    → line ≡ item_line s (p ∷ []) → Spells p (value p) → slice_get ks (value p) ≡ Some ns → Fits s.node
+    → FitsGuess s.odd
     → IsAbove before s → AreNames live ns
     → IsItemOf (ByTables qs ks) live before line (record { state = s; stack = ns })
 table_is qs ks line live before s ns p is spells there node guess above names = record {

@@ -3,11 +3,12 @@
 --   digits_without     == digits are neither
 --   kinds_plain, place_plain == a line of a kind whose fixed words are plain is plain
 --   run_plain          == so are good lines one behind the other, where nothing may stand behind the last one
-use Rattle.std.proofs.Common.{◌≡◌, ◌==◌, ℕ, ◌<◌, ◌≤◌, Bool, true, false, ◌||◌, ◌&&◌, nat_le, List, [], ◌∷◌, length, All, codes, refl, ap, ◌∙◌, inl, inr, arith}
+use Rattle.std.proofs.Common.{◌≡◌, ◌==◌, ℕ, ◌<◌, ◌≤◌, Bool, true, false, nat_le, List, [], ◌∷◌, length, All, codes, refl, ap, ◌∙◌, inl, inr, arith}
 use Rattle.std.specs.Str.{all_ascii_digits}
 use Rattle.std.specs.Char.{is_ascii_digit}
 use Rattle.std.proofs.lemmas.Bool.Decides.{nat_tests}
 use Rattle.std.proofs.lemmas.List.Elements.{All-head, All-tail}
+use Rattle.std.proofs.lemmas.Bool.{and_parts, or_from}
 use Rattle.ml_base.specs.declared.version.Version.{Version}
 use Rattle.ml_lines.specs.Lines.{Word, Line, number}
 use Rattle.ml_lines.specs.Reading.{IsNumber}
@@ -22,13 +23,6 @@ use Rattle.ml_refutation_text.proofs.Runs.{Runs}
 
 -- ---- words
 
-both : (a b : Bool) → (a && b) ≡ true → (a ≡ true) × (b ≡ true)
-both true b e = (refl, e)
-both false b e = cc
-
-neither : (a b : Bool) → a ≡ false → b ≡ false → (a || b) ≡ false
-neither a b e f = ap (λ c. c || b) e ∙ f
-
 no_digit : (c b : ℕ) → c < 48 → is_ascii_digit b ≡ true → (b == c) ≡ false
 no_digit c b small digit = go (b == c) refl
   where
@@ -36,14 +30,14 @@ no_digit c b small digit = go (b == c) refl
     go false e = e
     go true e =
         let same : b ≡ c = grind (arith, nat_tests) in
-        let low = (both (nat_le 48 b) (nat_le b 57) digit).0 in
+        let low = (and_parts (nat_le 48 b) (nat_le b 57) digit).0 in
         let above : 48 ≤ b = grind (arith, nat_tests) in absurd (omega (arith, same, above, small))
 
 digits_without : (c : ℕ) → c < 48 → (w : Word) → all_ascii_digits w ≡ true → has c w ≡ false
 digits_without c small [] digits = refl
 digits_without c small (b ∷ bs) digits =
-    let parts = both (is_ascii_digit b) (all_ascii_digits bs) digits in
-    neither (b == c) (has c bs) (no_digit c b small parts.0) (digits_without c small bs parts.1)
+    let parts = and_parts (is_ascii_digit b) (all_ascii_digits bs) digits in
+    or_from (b == c) (has c bs) (no_digit c b small parts.0) (digits_without c small bs parts.1)
 
 module _ (c : ℕ) (small : c < 48) (no_dash : has c (codes "-") ≡ false) where
   number_without : (w : Word) → IsNumber w → has c w ≡ false
@@ -116,22 +110,30 @@ kinds_plain (k ∷ ks) line plain (inr later) fits = kinds_plain ks line plain.1
 
 entry_plain : (form : Form) → IsPlainKind (entry_kind form)
 entry_plain InFull = record { some = omega arith; no_blank = (refl, (tt, tt)); no_end = (refl, (tt, tt)) }
-entry_plain (ByTables qs ks) = record { some = omega arith; no_blank = (refl, (tt, (tt, tt))); no_end = (refl, (tt, (tt, tt))) }
+entry_plain (ByTables qs ks) =
+    record { some = omega arith; no_blank = (refl, (tt, (tt, tt))); no_end = (refl, (tt, (tt, tt))) }
 
 item_plain : (form : Form) → IsPlainKind (item_kind form)
-item_plain InFull = record { some = omega arith; no_blank = (refl, (tt, (tt, (tt, tt)))); no_end = (refl, (tt, (tt, (tt, tt)))) }
-item_plain (ByTables qs ks) = record { some = omega arith; no_blank = (refl, (tt, (tt, (tt, tt)))); no_end = (refl, (tt, (tt, (tt, tt)))) }
+item_plain InFull =
+    record { some = omega arith; no_blank = (refl, (tt, (tt, (tt, tt)))); no_end = (refl, (tt, (tt, (tt, tt)))) }
+item_plain (ByTables qs ks) =
+    record { some = omega arith; no_blank = (refl, (tt, (tt, (tt, tt)))); no_end = (refl, (tt, (tt, (tt, tt)))) }
 
 pub place_plain : (p : Place) → ArePlainKinds (kinds p)
 place_plain AtNames = (record { some = omega arith; no_blank = (refl, (tt, tt)); no_end = (refl, (tt, tt)) }, tt)
 place_plain (AtSequents n) = (record { some = omega arith; no_blank = (refl, (tt, tt)); no_end = (refl, (tt, tt)) }, tt)
-place_plain (AtTableSequent n size rows) = (record { some = omega arith; no_blank = (refl, tt); no_end = (refl, tt) }, tt)
-place_plain (AtStacks n qs) = (record { some = omega arith; no_blank = (refl, (tt, tt)); no_end = (refl, (tt, tt)) }, tt)
-place_plain (AtTableStack n qs size rows) = (record { some = omega arith; no_blank = (refl, (tt, tt)); no_end = (refl, (tt, tt)) }, tt)
-place_plain (AtEntries n form) = (record { some = omega arith; no_blank = (refl, (tt, tt)); no_end = (refl, (tt, tt)) }, tt)
+place_plain (AtTableSequent n size rows) =
+    (record { some = omega arith; no_blank = (refl, tt); no_end = (refl, tt) }, tt)
+place_plain (AtStacks n qs) =
+    (record { some = omega arith; no_blank = (refl, (tt, tt)); no_end = (refl, (tt, tt)) }, tt)
+place_plain (AtTableStack n qs size rows) =
+    (record { some = omega arith; no_blank = (refl, (tt, tt)); no_end = (refl, (tt, tt)) }, tt)
+place_plain (AtEntries n form) =
+    (record { some = omega arith; no_blank = (refl, (tt, tt)); no_end = (refl, (tt, tt)) }, tt)
 place_plain (AtEntry k es) = (entry_plain k.form, tt)
 place_plain (AtSequent k es) = (record { some = omega arith; no_blank = (refl, tt); no_end = (refl, tt) }, tt)
-place_plain (AtLive k es q) = (record { some = omega arith; no_blank = (refl, (tt, tt)); no_end = (refl, (tt, tt)) }, tt)
+place_plain (AtLive k es q) =
+    (record { some = omega arith; no_blank = (refl, (tt, tt)); no_end = (refl, (tt, tt)) }, tt)
 place_plain (AtItem k es q traces) =
     (item_plain k.form, (record { some = omega arith; no_blank = (refl, tt); no_end = (refl, tt) }, tt))
 place_plain (AtDecision k es b around) = (
@@ -143,10 +145,13 @@ place_plain (AtDecision k es b around) = (
       (
         record { some = omega arith; no_blank = (refl, (refl, (tt, tt))); no_end = (refl, (refl, (tt, tt))) },
         (
-          record { some = omega arith; no_blank = (refl, (tt, (tt, (refl, (tt, tt))))); no_end = (refl, (tt, (tt, (refl, (tt, tt))))) },
+          record { some = omega arith; no_blank = (refl, (tt, (tt, (refl, (tt, tt)))));
+              no_end = (refl, (tt, (tt, (refl, (tt, tt))))) },
           (
-            record { some = omega arith; no_blank = (refl, (tt, (tt, (refl, (tt, tt))))); no_end = (refl, (tt, (tt, (refl, (tt, tt))))) },
-            (record { some = omega arith; no_blank = (refl, (tt, (tt, (refl, tt)))); no_end = (refl, (tt, (tt, (refl, tt)))) }, tt),
+            record { some = omega arith; no_blank = (refl, (tt, (tt, (refl, (tt, tt)))));
+                no_end = (refl, (tt, (tt, (refl, (tt, tt))))) },
+            (record { some = omega arith; no_blank = (refl, (tt, (tt, (refl, tt))));
+            no_end = (refl, (tt, (tt, (refl, tt)))) }, tt),
           ),
         ),
       ),
@@ -160,17 +165,22 @@ module _ (v : Version) (b : ℕ) (bs : List ℕ) where
   -- where something is left behind the last LF, nothing is good at the end
   good_plain : (p : Place) (line : Line) → IsGood (body v (b ∷ bs)) p line → IsPlain line
   good_plain AtNames line good = kinds_plain (kinds AtNames) line (place_plain AtNames) good.0 good.1.0
-  good_plain (AtSequents n) line good = kinds_plain (kinds (AtSequents n)) line (place_plain (AtSequents n)) good.0 good.1.0
+  good_plain (AtSequents n) line good =
+      kinds_plain (kinds (AtSequents n)) line (place_plain (AtSequents n)) good.0 good.1.0
   good_plain (AtTableSequent n size rows) line good =
       kinds_plain (kinds (AtTableSequent n size rows)) line (place_plain (AtTableSequent n size rows)) good.0 good.1.0
-  good_plain (AtStacks n qs) line good = kinds_plain (kinds (AtStacks n qs)) line (place_plain (AtStacks n qs)) good.0 good.1.0
+  good_plain (AtStacks n qs) line good =
+      kinds_plain (kinds (AtStacks n qs)) line (place_plain (AtStacks n qs)) good.0 good.1.0
   good_plain (AtTableStack n qs size rows) line good =
       kinds_plain (kinds (AtTableStack n qs size rows)) line (place_plain (AtTableStack n qs size rows)) good.0 good.1.0
   good_plain (AtEntries n form) line good =
       kinds_plain (kinds (AtEntries n form)) line (place_plain (AtEntries n form)) good.0 good.1.0
-  good_plain (AtEntry k es) line good = kinds_plain (kinds (AtEntry k es)) line (place_plain (AtEntry k es)) good.0 good.1.0
-  good_plain (AtSequent k es) line good = kinds_plain (kinds (AtSequent k es)) line (place_plain (AtSequent k es)) good.0 good.1.0
-  good_plain (AtLive k es q) line good = kinds_plain (kinds (AtLive k es q)) line (place_plain (AtLive k es q)) good.0 good.1.0
+  good_plain (AtEntry k es) line good =
+      kinds_plain (kinds (AtEntry k es)) line (place_plain (AtEntry k es)) good.0 good.1.0
+  good_plain (AtSequent k es) line good =
+      kinds_plain (kinds (AtSequent k es)) line (place_plain (AtSequent k es)) good.0 good.1.0
+  good_plain (AtLive k es q) line good =
+      kinds_plain (kinds (AtLive k es q)) line (place_plain (AtLive k es q)) good.0 good.1.0
   good_plain (AtItem k es q traces) line good =
       kinds_plain (kinds (AtItem k es q traces)) line (place_plain (AtItem k es q traces)) good.0 good.1.0
   good_plain (AtDecision k es e around) line good =

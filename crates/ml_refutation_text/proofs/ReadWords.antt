@@ -9,10 +9,10 @@
 --   spelt_is_word                 == a word that spells a number has a byte
 --   same_word, other_word         == words that were compared with fixed ones
 --   words_are, first_word, some_word == the words of a line, by its first one
-use Rattle.std.proofs.Common.{◌≡◌, ℕ, ◌<◌, Bool, true, false, cond, ◌&&◌, List, [], ◌∷◌, length, Option, None, Some, All, codes, refl, sym, ap, ◌∙◌, inl, inr, arith}
+use Rattle.std.proofs.Common.{◌≡◌, ℕ, ◌<◌, Bool, true, false, cond, List, [], ◌∷◌, length, Option, None, Some, All, codes, refl, sym, ap, ◌∙◌, inl, inr, arith}
 use Rattle.std.specs.List.{list_all}
 use Rattle.std.specs.Str.{bytes_eq, all_ascii_digits}
-use Rattle.std.proofs.lemmas.Bool.{true≢false}
+use Rattle.std.proofs.lemmas.Bool.{true≢false, and_from}
 use Rattle.std.proofs.lemmas.Slice.Eq.{bytes_eq-Decides}
 use Rattle.std.proofs.lemmas.List.Elements.{All-nil, All-cons, All-head, All-tail}
 use Rattle.ml_lines.specs.Lines.{Word, Line, number}
@@ -31,20 +31,19 @@ is_number n fits = (n, fits, refl)
 pub are_numbers : (ns : List ℕ) → All Fits ns → All IsNumber (numbers ns)
 are_numbers [] fit = All-nil IsNumber
 are_numbers (n ∷ ns) fit =
-    All-cons IsNumber (number n) (numbers ns) (is_number n (All-head Fits n ns fit)) (are_numbers ns (All-tail Fits n ns fit))
-
-both_true : (a b : Bool) → a ≡ true → b ≡ true → (a && b) ≡ true
-both_true a b e f = ap (λ c. c && b) e ∙ f
+    All-cons IsNumber (number n) (numbers ns) (is_number n (All-head Fits n ns fit))
+    (are_numbers ns (All-tail Fits n ns fit))
 
 pub words_first : (w : Word) (line : Line) → is_word w ≡ true → AreWords line → AreWords (w ∷ line)
-words_first w line is words = both_true (is_word w) (list_all is_word line) is words
+words_first w line is words = and_from (is_word w) (list_all is_word line) is words
 
 pub words_number : (n : ℕ) (line : Line) → Fits n → AreWords line → AreWords (number n ∷ line)
 words_number n line fits words = words_first (number n) line (number-is_word n (omega (arith, fits))) words
 
 pub words_numbers : (ns : List ℕ) → All Fits ns → AreWords (numbers ns)
 words_numbers [] fit = refl
-words_numbers (n ∷ ns) fit = words_number n (numbers ns) (All-head Fits n ns fit) (words_numbers ns (All-tail Fits n ns fit))
+words_numbers (n ∷ ns) fit =
+    words_number n (numbers ns) (All-head Fits n ns fit) (words_numbers ns (All-tail Fits n ns fit))
 
 pub value_back : (n : ℕ) → Fits n → value (number n) ≡ n
 value_back n fits = value-number n (omega (arith, fits))

@@ -4,7 +4,7 @@
 --   code            == a state as a number: states ascend as their codes do
 --   items_few       == an entry has no more items than there are states
 --   few_stacks      == so a refutation has fewer stacks than 10 ^ 64
-use Rattle.std.proofs.Common.{◌≡◌, ℕ, zero, suc, ◌+◌, ◌-◌, ◌*◌, ◌/◌, ◌%◌, ◌^◌, ◌<◌, ◌≤◌, Bool, true, false, ◌&&◌, ◌||◌, ◌==◌, nat_lt, List, [], ◌∷◌, ◌++◌}
+use Rattle.std.proofs.Common.{◌≡◌, ℕ, zero, suc, ◌+◌, ◌-◌, ◌*◌, ◌/◌, ◌%◌, ◌^◌, ◌<◌, ◌≤◌, Bool, true, false, ◌&&◌, ◌==◌, nat_lt, List, [], ◌∷◌, ◌++◌}
 use Rattle.std.proofs.Common.{Option, None, Some, length, map, get_or, All, inl, inr, ◌⊎◌, refl, ap, ◌∙◌, length-append, arith}
 use Rattle.std.specs.List.{flat_map}
 use Rattle.std.specs.Str.{all_ascii_digits}
@@ -13,6 +13,7 @@ use Rattle.std.proofs.lemmas.Fmt.{decimal_by_steps_wide}
 use Rattle.std.proofs.lemmas.Bool.Decides.{nat_tests}
 use Rattle.std.proofs.lemmas.List.{length-map}
 use Rattle.std.proofs.lemmas.List.Elements.{All-head, All-tail}
+use Rattle.std.proofs.lemmas.Bool.{or_cases, and_parts}
 use Rattle.ml_lines.specs.Lines.{Word, number}
 use Rattle.ml_lines.specs.Reading.{value, value_on}
 use Rattle.ml_trace.specs.declared.letters.AutomatonState.{AutomatonState}
@@ -107,22 +108,14 @@ guess_less None (Some e) is = omega arith
 guess_less (Some d) None is = absurd (cc)
 guess_less (Some d) (Some e) is = grind (arith, nat_tests)
 
-either : (a b : Bool) → (a || b) ≡ true → (a ≡ true) ⊎ (b ≡ true)
-either true b e = inl refl
-either false b e = inr e
-
-both : (a b : Bool) → (a && b) ≡ true → (a ≡ true) × (b ≡ true)
-both true b e = (refl, e)
-both false b e = absurd (cc)
-
 code_less : (s t : AutomatonState) → FitsGuess s.odd → comes_before s t ≡ true → code s < code t
-code_less s t fits before = go (either (nat_lt s.node t.node) ((s.node == t.node) && guess_before s.odd t.odd) before)
+code_less s t fits before = go (or_cases (nat_lt s.node t.node) ((s.node == t.node) && guess_before s.odd t.odd) before)
   where
     go : (nat_lt s.node t.node ≡ true) ⊎ (((s.node == t.node) && guess_before s.odd t.odd) ≡ true) → code s < code t
     go (inl less) =
         let below : s.node < t.node = grind (arith, nat_tests) in omega (arith, below, guess_within s.odd fits)
     go (inr same) =
-        let parts = both (s.node == t.node) (guess_before s.odd t.odd) same in
+        let parts = and_parts (s.node == t.node) (guess_before s.odd t.odd) same in
         let equal : s.node ≡ t.node = grind (arith, nat_tests) in
         omega (arith, equal, guess_less s.odd t.odd parts.1)
 
@@ -154,14 +147,16 @@ items_in_range : (live : ℕ) (items : List (traced.Item AutomatonState))
 items_in_range live [] all = tt
 items_in_range live (a ∷ items) all =
     let first = All-head (IsItem live) a items all in
-    (record { node = first.node_fits; guess = first.guess_fits }, items_in_range live items (All-tail (IsItem live) a items all))
+    (record { node = first.node_fits; guess = first.guess_fits }, items_in_range live items
+    (All-tail (IsItem live) a items all))
 
 items_few : (names entries : ℕ) (e : Entry) → IsEntry names entries e → length (used_stacks e) ≤ 18446744078004518912
 items_few names entries e is =
     let traces = is.is_traced in
     omega (
       arith,
-      states_few (map (λ a. a.state) e.traces.items) (items_in_range e.traces.live e.traces.items traces.are_items) traces.ascend,
+      states_few (map (λ a. a.state) e.traces.items) (items_in_range e.traces.live e.traces.items traces.are_items)
+      traces.ascend,
       length-map e.traces.items (λ a. a.state),
       length-map e.traces.items (λ a. a.stack),
     )

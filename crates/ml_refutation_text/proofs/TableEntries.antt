@@ -13,17 +13,11 @@ use Rattle.std.proofs.lemmas.List.Elements.{All-nil, All-head, All-tail, All-pus
 use Rattle.std.proofs.lemmas.List.Folds.{list_any-append}
 use Rattle.std.proofs.lemmas.Option.{slice_get_read}
 use Rattle.std.proofs.lemmas.Slice.Eq.{bytes_eq-Decides}
+use Rattle.std.proofs.lemmas.Bool.{or_right, or_left}
 use Rattle.ml_refutation_text.specs.WrittenText.{with_new, each_once, place_in}
 
 abbrev pub Has : List (List ℕ) → List ℕ → Type 0
 Has ks x = list_any (bytes_eq x) ks ≡ true
-
-either : (a b : Bool) → a ≡ true → (a || b) ≡ true
-either a b e = ap (λ c. c || b) e
-
-or_last : (a b : Bool) → b ≡ true → (a || b) ≡ true
-or_last true b e = refl
-or_last false b e = e
 
 new_keeps : (ks : List (List ℕ)) (x y : List ℕ) → Has ks y → Has (with_new ks x) y
 new_keeps ks x y has = go (list_any (bytes_eq x) ks)
@@ -32,7 +26,7 @@ new_keeps ks x y has = go (list_any (bytes_eq x) ks)
     go true = has
     go false =
         list_any-append (bytes_eq y) ks (x ∷ [])
-        ∙ either (list_any (bytes_eq y) ks) (list_any (bytes_eq y) (x ∷ [])) has
+        ∙ or_left (list_any (bytes_eq y) ks) (list_any (bytes_eq y) (x ∷ [])) has
 
 new_has : (ks : List (List ℕ)) (x : List ℕ) → Has (with_new ks x) x
 new_has ks x = go (list_any (bytes_eq x) ks) refl
@@ -41,7 +35,8 @@ new_has ks x = go (list_any (bytes_eq x) ks) refl
     go true is = is
     go false is =
         list_any-append (bytes_eq x) ks (x ∷ [])
-        ∙ or_last (list_any (bytes_eq x) ks) (bytes_eq x x || false) (either (bytes_eq x x) false ((bytes_eq-Decides x x).1 refl))
+        ∙ or_right (list_any (bytes_eq x) ks) (bytes_eq x x || false)
+        (or_left (bytes_eq x x) false ((bytes_eq-Decides x x).1 refl))
 
 fold_keeps : (ks xs : List (List ℕ)) (y : List ℕ) → Has ks y → Has (fold with_new ks xs) y
 fold_keeps ks [] y has = has

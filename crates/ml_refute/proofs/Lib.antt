@@ -18,8 +18,6 @@ pub mod GoWalks
 pub mod EntryVertices
 -- no cycle of go's is even
 pub mod GoCycles
--- different positions among others
-pub mod Different
 -- the items of an entry are in order
 pub mod Items
 -- how deep decisions are

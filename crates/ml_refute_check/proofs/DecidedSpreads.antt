@@ -22,7 +22,7 @@ use Rattle.ml_sequent.specs.Choice.{side_of}
 use Rattle.ml_sequent.specs.LocalWalk.{LocalWalk, InSpread}
 use Rattle.ml_sequent.specs.Spread.{SpreadList, IsSpreadOf, IsOpenNode, IsOpenOr, IsCause, IsPair, is_diamond}
 use Rattle.ml_sequent.specs.Step.{IsDiamondOf, LeadsOut, IsTarget, IsTrace}
-use Rattle.ml_sequent.proofs.RankedWalks.{walk_below}
+use Rattle.ml_sequent.proofs.RankedWalks.{spread_low}
 use Rattle.ml_refutation.specs.Acceptance.{OfSpread}
 use Rattle.ml_lists.proofs.Deciding.{decided_and, decided_truth, decided_member, some_member, Having, sieve}
 use Rattle.ml_refutation.proofs.HighWalks.{decided_odd_cycle}
@@ -38,9 +38,6 @@ pub record SomeSpread (g : Graph) (C : List ℕ) (c : List (ℕ × Side)) : Type
   pub is : IsSpreadOf g C c spread
 
 module _ (g : Graph) (ok : IsGraph g) (C : List ℕ) (low : Within g C) (c : List (ℕ × Side)) where
-  spread_low : (m : ℕ) → InSpread g c C m → m < size g
-  spread_low m s = walk_below g c ok s.from s.lowest m (All-member (λ n. n < size g) C low s.from s.member) s.walk
-
   pub some_spread : SomeSpread g C c
   some_spread =
       let kept = sieve (InSpread g c C) (size g) (λ m m_low. decided_spread g c ok C low m) in

@@ -9,7 +9,7 @@
 --   Leads e t         == what the entry e leads to at the state t
 --   agrees_with       == a choice with the side more that the strategy takes agrees with it
 --   leads_on          == an entry that is won at a state leads to one that is won at a state
-use Rattle.std.proofs.Common.{ℕ, ◌≡◌, ◌<◌, ◌⊎◌, inl, inr, Bool, true, List, [], ◌∷◌, length, map, Contains, Some, None, refl, sym, ap, ◌∙◌, subst}
+use Rattle.std.proofs.Common.{ℕ, ◌≡◌, ◌<◌, ◌⊎◌, inl, inr, Bool, List, [], ◌∷◌, length, map, Contains, Some, None, refl, sym, ap, ◌∙◌, subst}
 use Rattle.ml_base.specs.Structure.{Structure}
 use Rattle.ml_lists.specs.Documents.{KeepsAll}
 use Rattle.ml_lists.specs.Member.{IsMember}
@@ -20,13 +20,12 @@ use Rattle.ml_parity.specs.Game.{HasMove}
 use Rattle.ml_trace.specs.declared.letters.AutomatonState.{AutomatonState}
 use Rattle.ml_trace.specs.declared.marks.Mark.{Mark}
 use Rattle.ml_trace.specs.NamesCondition.{NamesCondition}
-use Rattle.ml_graph.specs.declared.node.Node.{Node}
 use Rattle.ml_graph.specs.declared.node.Node.TheVariants as node
 use Rattle.ml_graph.specs.Graph.{Graph, size, node_at, action_at}
 use Rattle.ml_graph.specs.CheckingGame.{Vertex, Pair, mover, vertex_number, successors, successors_of, pairs_or_sink, targets, checking_game, HoldsAt}
 use Rattle.ml_graph.specs.Laws.{NodeHolds}
 use Rattle.ml_graph.proofs.CheckingGame.{owner_is, moves_are, target_is_state}
-use Rattle.ml_graph.proofs.OneStep.{vertex_low}
+use Rattle.ml_graph.proofs.OneStep.{vertex_low, pair_member}
 use Rattle.ml_graph.proofs.References.{diamond_target, square_target}
 use Rattle.ml_sequent.specs.declared.choice.Side.{Side}
 use Rattle.ml_sequent.specs.declared.choice.Side.TheVariants.{Left, Right}
@@ -38,6 +37,7 @@ use Rattle.ml_refutation.specs.Refutation.{Refutation, IsRefutation, IsEntry, De
 use Rattle.ml_refutation.specs.GoStep.{GoStep, HasTransition}
 use Rattle.ml_refutation.specs.Acceptance.{entry_at, no_entry, Branch, branches, Decided, rules, OfSpread, Item, IsAccepted, HeightsFall}
 use Rattle.ml_sequent.proofs.ChoicesWith.{side_with}
+use Rattle.ml_sequent.proofs.Traces.{diamond_of}
 use Rattle.ml_parity.proofs.FollowedWalks.{won_behind}
 use Rattle.ml_refute_check.proofs.Positions.{Board, vertex, Move, Walk, IsWon, takes, free_move, Agrees, walk_to, won_spread, no_clash}
 
@@ -150,10 +150,6 @@ module _ (board : Board) where
     pub move : Move board (at t leaving) (at u n)
     pub is_node : n < size g
 
-  pair_member : (n p u : ℕ) (ts : List ℕ) → IsMember u ts → IsMember (Pair u n) (pairs_or_sink n p ts)
-  pair_member n p u [] h = absurd h
-  pair_member n p u (x ∷ xs) h = member-map (λ s. Pair s n) u (x ∷ xs) h
-
   leaves_to : (t d a to : ℕ) → t < m.states → Won t d → node_at g d ≡ node.Diamond a to → (edge : TakesEdge t d a to)
       → (sp : SpreadList) (e n : ℕ) → e < size g → LeadsOut g sp d e n → LeavesTo t edge.state e n
   leaves_to t d a to t_low won is edge sp e n e_low leads = by_kind leads.leaves
@@ -219,16 +215,6 @@ module _ (board : Board) where
           → (n : ℕ) → IsMember n sp.nodes → Won t n
       spread_won c agrees sp is n h =
           won_spread board c t t_low agrees (entry_at r e).sequent won n ((is.nodes n).0 h)
-
-      -- a diamond
-      diamond_of : (x : Node) → is_diamond x ≡ true → (a : ℕ) × ((to : ℕ) × (x ≡ node.Diamond a to))
-      diamond_of node.True is = absurd (cc)
-      diamond_of node.False is = absurd (cc)
-      diamond_of (node.Lit p positive) is = absurd (cc)
-      diamond_of (node.And l k) is = absurd (cc)
-      diamond_of (node.Or l k) is = absurd (cc)
-      diamond_of (node.Diamond a to) is = (a, (to, refl))
-      diamond_of (node.Square a to) is = absurd (cc)
 
       -- along the diamond
       go_on : (c : List (ℕ × Side)) → Chosen c t → (d f : ℕ) (k : Mark) → f < length r.entries → IsMarkOf r.names k

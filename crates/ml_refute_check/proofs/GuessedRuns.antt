@@ -13,14 +13,11 @@
 --   run_goes_high          == a run with the guess d is a walk with no lower priority, or stands
 --   accepting_meets        == an accepting one is a walk with exactly this lowest priority
 --   no_accepting_loop      == where a node is won, no accepting run leads from it round a tour to itself
-use Rattle.std.proofs.Common.{ℕ, zero, suc, ◌≡◌, ◌≤◌, ◌%◌, ◌==◌, inl, inr, min, Bool, true, List, [], ◌∷◌, ◌++◌, Option, Some, None, refl, sym, ap, ◌∙◌, subst, arith}
+use Rattle.std.proofs.Common.{ℕ, zero, suc, ◌≡◌, ◌≤◌, ◌==◌, inl, inr, min, Bool, true, List, [], ◌∷◌, ◌++◌, Option, Some, None, refl, sym, ap, ◌∙◌, subst, arith}
 use Rattle.std.proofs.lemmas.Bool.Decides.{nat_tests}
 use Rattle.ml_base.specs.Structure.{Structure}
 use Rattle.ml_lists.specs.Member.{IsMember}
 use Rattle.ml_lists.specs.Repeated.{repeated}
-use Rattle.ml_lists.proofs.Ascending.{ascending-member}
-use Rattle.ml_lists.proofs.Member.{member-filter_from}
-use Rattle.std.specs.List.{filter}
 use Rattle.ml_parity.specs.declared.players.Player.TheVariants.{Even}
 use Rattle.ml_trace.specs.declared.letters.AutomatonState.{AutomatonState}
 use Rattle.ml_trace.specs.Automaton.{Leads}
@@ -32,6 +29,7 @@ use Rattle.ml_refutation.specs.GoStep.{GoStep, HasTransition}
 use Rattle.ml_parity.proofs.FollowedWalks.{walks_joined, closed_walk_good, odd_is_not_even}
 use Rattle.ml_refute_check.proofs.Positions.{Board, vertex, Walk, IsWon}
 use Rattle.ml_refute_check.proofs.Descent.{Plays}
+use Rattle.ml_graph.proofs.OddPriorities.{odd_is_odd}
 
 -- ---- guesses
 
@@ -54,11 +52,7 @@ never_accepts odds k None h = absurd (cc)
 never_accepts odds k (Some d) h = let wrong = h.1 in absurd (cc)
 
 -- an odd priority that occurs is odd
-occurring_is_odd : (g : Graph) (d : ℕ) → IsMember d (odd_priorities g) → d % 2 ≡ 1
-occurring_is_odd g d h =
-    let test = (member-filter_from (λ e. e % 2 == 1) d g.priorities
-    (ascending-member d (filter (λ e. e % 2 == 1) g.priorities) h)).1 in
-    grind (arith, nat_tests)
+
 
 module _ (g : Graph) where
   -- a transition of a step, from a state with the guess d
@@ -196,5 +190,5 @@ module _ (board : Board) where
           absurd (cc)
       by_guess (Some d) is =
           let meets = accepting_meets w t t p p d tour run is in
-          odd_is_not_even d (occurring_is_odd g d meets.occurs)
+          odd_is_not_even d (odd_is_odd g d meets.occurs)
           (closed_walk_good (checking_game g m) Even board.strategy (at t p.node) d meets.walk won.wins)

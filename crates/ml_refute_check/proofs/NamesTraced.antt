@@ -4,11 +4,10 @@
 --   before_source   == and the other way round
 --   condition_holds, condition_tells == names of all items are traced back exactly where the condition on names holds,
 --                      of names that are in use
-use Rattle.std.proofs.Common.{◌≡◌, ◌↔◌, ◌⊎◌, ℕ, ◌<◌, ◌≤◌, Bool, true, false, not, eqb, List, Option, Some, map, All, IsTrue, inl, inr, refl, sym, ap, ◌∙◌, subst}
+use Rattle.std.proofs.Common.{◌≡◌, ◌↔◌, ◌⊎◌, ℕ, ◌<◌, ◌≤◌, Bool, true, false, not, List, Option, Some, map, All, IsTrue, inl, inr, refl, sym, ap, ◌∙◌, subst}
 use Rattle.std.proofs.lemmas.Bool.{cases_Bool, true≢false}
-use Rattle.std.proofs.lemmas.Bool.{eq-eqb, eqb-true}
 use Rattle.ml_lists.specs.Member.{IsMember}
-use Rattle.ml_lists.proofs.Member.{Image, member-map, member-map_from, All-member, member-All, list_any-member, member-list_any}
+use Rattle.ml_lists.proofs.Member.{Image, member-map, member-map_from, All-member, member-All}
 use Rattle.ml_trace.specs.declared.letters.AutomatonState.{AutomatonState}
 use Rattle.ml_trace.specs.declared.letters.Triple.{Triple}
 use Rattle.ml_trace.specs.declared.marks.Mark.{Mark}
@@ -23,14 +22,11 @@ use Rattle.ml_refutation.specs.declared.refutation.Item.{Item}
 use Rattle.ml_refutation.specs.Views.{item_of}
 use Rattle.ml_refutation.specs.GoStep.{GoStep, HasTransition}
 use Rattle.ml_refute_check.specs.private.Sources.{HasSource, IsNameTraced, IsItemTraced, AreInUse, LeadInto, green_of}
+use Rattle.ml_trace.proofs.Stacks.{has-member, member-has}
 
-has_member : (y : ℕ) (s : List ℕ) → has y s ≡ true → IsMember y s
-has_member y s h =
-    let p = list_any-member (λ x. eqb x y) s h in
-    subst (λ x. IsMember x s) (eqb-true p.item y p.passes) p.member
 
-member_has : (y : ℕ) (s : List ℕ) → IsMember y s → has y s ≡ true
-member_has y s h = member-list_any (λ x. eqb x y) y s h (eq-eqb y y refl)
+
+
 
 green_is : (m : Mark) (x : ℕ) → green_of m ≡ Some x → m ≡ Green x
 green_is (Red y) x e = absurd (cc)
@@ -147,13 +143,13 @@ module _ (g : Graph) (step : GoStep) (traces : List Triple)
         name i member y h =
             All-member (Traced i) i.stack.items
             (All-member (λ (a : Item). All (Traced a) a.stack.items) items_behind all i member) y
-            (has_member y i.stack.items h)
+            (has-member y i.stack.items h)
 
     pub condition_tells : Condition → InUse × AllTraced
     condition_tells n = (
       (n.in_use, n.green_in_use),
       member-All (λ (a : Item). All (Traced a) a.stack.items) items_behind
-          (λ i member. member-All (Traced i) i.stack.items (λ y h. name i member y (member_has y i.stack.items h))),
+          (λ i member. member-All (Traced i) i.stack.items (λ y h. name i member y (member-has y i.stack.items h))),
     )
       where
         gains : (i : Item) (y : ℕ) → Gains y i → HasSource odds traces y true items i

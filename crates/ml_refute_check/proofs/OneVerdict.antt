@@ -69,7 +69,7 @@ pub alike_checked : AlikeChecked
 alike_checked text other v w p r x y =
     (accepted_so text other v w p r x y, accepted_so other text w v p r y x)
 
-document_fault : (text : List ℕ) (v : Version) (p : Problem) (r : Refutation) (fault : DocFault)
+pub document_fault : (text : List ℕ) (v : Version) (p : Problem) (r : Refutation) (fault : DocFault)
     → IsDocument text v p r → IsDocumentFault text fault → ⊥
 document_fault text v p r fault x (inl of_head) =
     head.head_or_fault Unsatisfiable text v p x.body fault x.has_head of_head

@@ -13,22 +13,20 @@
 --   walk_to           == a local walk, and one move more, are a walk that follows it
 --   won_along         == what is won stays won along a local walk
 --   no_clash          == where all nodes are won, no clash is one of their spread
-use Rattle.std.proofs.Common.{ℕ, ◌≡◌, ◌<◌, ◌%◌, inl, inr, min, true, false, List, [], ◌∷◌, map, Option, Some, None, Contains, refl, sym, ap, ◌∙◌, subst, arith}
+use Rattle.std.proofs.Common.{ℕ, ◌≡◌, ◌<◌, ◌%◌, inl, inr, min, true, false, List, [], ◌∷◌, Option, Some, None, refl, sym, ap, ◌∙◌, subst, arith}
 use Rattle.ml_base.specs.Structure.{Structure, IsStructure, lists}
 use Rattle.ml_lists.specs.Member.{IsMember}
-use Rattle.ml_lists.proofs.Member.{member-map}
-use Rattle.ml_lists.proofs.Members.{contains_of_member}
 use Rattle.ml_parity.specs.declared.players.Player.TheVariants.{Even, Odd}
 use Rattle.ml_parity.specs.Player.{side}
-use Rattle.ml_parity.specs.Game.{HasMove, owner_of}
+use Rattle.ml_parity.specs.Game.{owner_of}
 use Rattle.ml_parity.specs.Winner.{IsStrategyOf, WinsFrom}
 use Rattle.ml_graph.specs.declared.node.Node.{Node}
 use Rattle.ml_graph.specs.declared.node.Node.TheVariants as node
 use Rattle.ml_graph.specs.Graph.{Graph, IsGraph, size, node_at, priority_at, prop_at}
 use Rattle.ml_graph.specs.CheckingGame.{Vertex, Pair, owner_at, mover, vertex_number, successors, successors_of, checking_game}
 use Rattle.ml_graph.specs.Laws.{NodeHolds}
-use Rattle.ml_graph.proofs.CheckingGame.{IsVertex, owner_is, priority_is, moves_are}
-use Rattle.ml_graph.proofs.OneStep.{one_step}
+use Rattle.ml_graph.proofs.CheckingGame.{IsVertex, owner_is, priority_is}
+use Rattle.ml_graph.proofs.OneStep.{one_step, move_to}
 use Rattle.ml_graph.proofs.References.{and_left, and_right, or_left, or_right}
 use Rattle.ml_sequent.specs.declared.choice.Side.{Side}
 use Rattle.ml_sequent.specs.declared.choice.Side.TheVariants.{Left, Right}
@@ -76,19 +74,11 @@ module _ (board : Board) where
       (one_step g m board.is_graph board.is_structure t n low won.is_node).0
       (record { strategy = board.strategy; is_strategy = board.is_strategy; wins = won.wins })
 
-  -- a move leads to each successor
-  pub move_to : (v : Vertex) → IsVertex g m v → (w : Vertex) → IsMember w (successors g m v)
-      → HasMove (checking_game g m) (vertex_number g m v) (vertex_number g m w)
-  move_to v is w h =
-      subst (λ ws. Contains ws (vertex_number g m w)) (sym (moves_are g m v is))
-      (contains_of_member (vertex_number g m w) (map (vertex_number g m) (successors g m v))
-      (member-map (vertex_number g m) w (successors g m v) h))
-
   -- where Odd moves, each move follows the strategy
   pub free_move : (v : Vertex) → IsVertex g m v → owner_at g v ≡ Odd → (w : Vertex) → IsMember w (successors g m v)
       → Move (vertex_number g m v) (vertex_number g m w)
   free_move v is own w h = record {
-    move = move_to v is w h;
+    move = move_to g m board.is_graph board.is_structure v is w h;
     chosen = λ even. let odd : owner_of (checking_game g m) (vertex_number g m v) ≡ Odd = owner_is g m v is
         ∙ own in absurd (let wrong : Even ≡ Odd = sym even ∙ odd in cc);
   }
@@ -119,7 +109,7 @@ module _ (board : Board) where
     or_move n l r low is next (Some x) side (inr h) = absurd h
     or_move n l r low is next (Some x) side (inl e) = subst (LocalMove t n) (sym e) (record {
       move = record {
-        move = move_to (Pair t n) (t_low, low) (Pair t (chosen x l r))
+        move = move_to g m board.is_graph board.is_structure (Pair t n) (t_low, low) (Pair t (chosen x l r))
             (subst (IsMember (Pair t (chosen x l r))) (sym (ap (successors_of g m t) is)) (side_member l r x));
         chosen = λ own. agrees n l r x is side;
       };

@@ -1,22 +1,15 @@
--- Where a name comes from, as it is searched for.
+-- Walks down a list, and what they have told so far.
 --
---   last_is_end       == the last entry of a list is the one in which it ends
---   found_among, none_among == a search among items that found a source, and one that found none
---   found_source, none_source == the same, of traces
-use Rattle.std.proofs.Common.{◌≡◌, ◌↔◌, ℕ, suc, ◌-◌, ◌+◌, ◌<◌, ◌≤◌, ◌⊎◌, inl, inr, Bool, true, false, List, [], ◌∷◌, ◌++◌, length, get_or, take, eqb, All, IsTrue, refl, sym, ap, ◌∙◌, subst, arith}
+--   NoneBefore, none_more, none_at_all        == a search that has found nothing yet, one entry on, and at its end
+--   entry_member                              == what is read at a place is a member
+--   AllBefore, all_more, all_found, one_fails == a test of all entries that has passed so far, and one that fails
+--   KeptBefore, kept_more, kept_same, kept_all == the entries that are kept so far, one entry on, and at the end
+use Rattle.std.proofs.Common.{◌≡◌, ◌↔◌, ℕ, ◌-◌, ◌+◌, ◌<◌, ◌≤◌, ◌⊎◌, inl, inr, Bool, true, false, List, [], ◌∷◌, ◌++◌, length, get_or, take, All, IsTrue, refl, sym, ◌∙◌, subst}
 use Rattle.std.proofs.lemmas.Bool.{true≢false}
 use Rattle.std.proofs.lemmas.List.{take_all, take_more}
 use Rattle.ml_lists.specs.Member.{IsMember}
 use Rattle.ml_lists.proofs.Member.{All-member, place-member, member-append, member-append_left, member-append_right}
 use Rattle.ml_lists.proofs.Members.{All-more_read, All-read}
-use Rattle.ml_trace.specs.Stack.{ends_in}
-
-pub last_is_end : (y : ℕ) (xs : List ℕ) → 0 < length xs → eqb (get_or xs (length xs - 1) 0) y ≡ ends_in y xs
-last_is_end y [] some = absurd (omega arith)
-last_is_end y (x ∷ []) some = refl
-last_is_end y (x ∷ z ∷ zs) some =
-    let e : length (x ∷ z ∷ zs) - 1 ≡ suc (length (z ∷ zs) - 1) = omega arith in
-    ap (λ k. eqb (get_or (x ∷ z ∷ zs) k 0) y) e ∙ last_is_end y (z ∷ zs) (omega arith)
 
 -- ---- a search down a list
 

@@ -6,3 +6,5 @@ pub mod TruthValues
 pub mod Walked
 -- what is found at the state
 pub mod FoundAtStates
+-- values changed one after the other
+pub mod Changes

@@ -2,6 +2,7 @@
 --
 --   none_walked == nothing is walked yet
 --   one_more    == one state more
+--   fewer_nones == fewer states have no place then
 --   comes_again == where a state comes again, the path is whole
 --   is_word     == and it is the path from the state
 use Rattle.std.proofs.Common.{ℕ, zero, suc, ◌≡◌, ◌-◌, ◌+◌, ◌<◌, ◌≤◌, ◌⊎◌, inl, inr, Bool, true, false, List, [], ◌∷◌, ◌++◌, All, Option, Some, None, length, get_or, set, replicate, cond, ltb, refl, sym, ap, ◌∙◌, subst, ⊎_elim, arith, length-append}
@@ -13,7 +14,7 @@ use Rattle.ml_lists.specs.Lasso.{Lasso, entry}
 use Rattle.ml_lists.proofs.Lasso.{round-entry, round-end}
 use Rattle.ml_ctl.specs.Paths.{has_step}
 use Rattle.ml_word_graph.specs.Problem.{IsWordFrom}
-use Rattle.ml_word_check.specs.private.Walked.{IsWalked, IsWordOf, Leads, lasso_from}
+use Rattle.ml_word_check.specs.private.Walked.{IsWalked, IsWordOf, Leads, lasso_from, nones}
 
 pub none_walked : (next : List ℕ) (s : ℕ) → s < length next → IsWalked next s [] s (replicate (length next) None)
 none_walked next s low = record {
@@ -54,7 +55,7 @@ module _ (next : List ℕ) (s : ℕ) (xs : List ℕ) (at : ℕ) (places : List (
   old i low = get_or_append_left xs (at ∷ []) 0 i low
 
   at_end : (i : ℕ) → i ≡ length xs → get_or ys i 0 ≡ at
-  at_end i is = get_or_push xs at 0 i is
+  at_end i is = get_or_push xs at 0 i (sym is)
 
   -- what holds of the states so far, and of the last one
   each : (P : ℕ → Type 0) → ((i : ℕ) → i < length xs → P i) → P (length xs) → (i : ℕ) → i < length ys → P i
@@ -119,6 +120,15 @@ module _ (next : List ℕ) (s : ℕ) (xs : List ℕ) (at : ℕ) (places : List (
       step_at i low (inl is) = at_end (i + 1) is ∙ w.last i is ∙ ap (λ t. get_or next t 0) (sym (old i low))
       step_at i low (inr other) =
           old (i + 1) (omega (arith, low, other)) ∙ w.steps i (omega (arith, low, other)) ∙ ap (λ t. get_or next t 0) (sym (old i low))
+
+-- fewer states have no place then
+pub fewer_nones : (ps : List (Option ℕ)) (k i : ℕ) → k < length ps → get_or ps k None ≡ None
+    → suc (nones (set ps k (Some i))) ≡ nones ps
+fewer_nones [] k i low none = absurd (omega (arith, low))
+fewer_nones (None ∷ ps) zero i low none = refl
+fewer_nones (Some j ∷ ps) zero i low none = absurd (cc)
+fewer_nones (None ∷ ps) (suc k) i low none = ap suc (fewer_nones ps k i (omega (arith, low)) none)
+fewer_nones (Some j ∷ ps) (suc k) i low none = fewer_nones ps k i (omega (arith, low)) none
 
 -- ---- where a state comes again
 

@@ -48,13 +48,13 @@ fn ahead(cycle: Cycle, left: &[bool], right: &[bool], start: usize, place: usize
     ensures { result ≡ cycles cycle (next_in (length right.now) start) (at left.now) (at right.now) (length right.now) place }
 {
     let places = right.len();
-    let mut place = place;
-    for _ in 0..places {
-        let low = step(cycle, left[place], right[place], false);
-        if low == step(cycle, left[place], right[place], true) {
+    let mut here = place;
+    for _looked in 0..places {
+        let low = step(cycle, left[here], right[here], false);
+        if low == step(cycle, left[here], right[here], true) {
             return low;
         }
-        place = next(places, start, place);
+        here = next(places, start, here);
     }
     base(cycle)
 }

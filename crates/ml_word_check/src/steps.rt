@@ -37,10 +37,10 @@ fn with_target(steps: Steps, target: u32) -> Steps
 }
 
 // with this edge more
-fn add(rows: &mut [Steps], edge: &Edge, blank: &Action)
-    requires inside { edge.now.source < length rows.old }
+fn add(rows: &mut Vec<Steps>, edge: &Edge, blank: &Action)
+    requires inside { edge.now.source < length rows.old.items }
     requires blank { blank.now ≡ codes "_" }
-    ensures { rows.new ≡ with_edge rows.old edge.now }
+    ensures { rows.new.items ≡ with_edge rows.old.items edge.now }
 {
     if edge.action == *blank {
         let row = edge.source as usize;
@@ -61,7 +61,7 @@ pub(crate) fn steps_of(alloc: Global, structure: &Structure) -> Result<Vec<Steps
     let blank = Action::blank(alloc)?;
     let mut rows = vec![in alloc; Steps::Nowhere; states as usize]?;
     for i in 0..structure.edge_count() {
-        add(rows.as_mut_slice(), structure.edge_at(i), &blank);
+        add(&mut rows, structure.edge_at(i), &blank);
     }
     Ok(rows)
 }

@@ -5,8 +5,9 @@
 --   base c, step c f g later == the value of U or R before any place is looked at, and by one place more
 --   cycles c next f g k i  == by k places from i on
 --   tense_in t n start g i, paired_in p n start f g i == an operator, from the values of its operands at n places
+--   ChangedTo h old new k, ChangedBack h old new k == the first k values were changed to those of h, and the last k
 --   AreTruths m l f fs     == fs are the truth values of f at the places of l
-use Rattle.std.specs.Prelude.{ℕ, zero, suc, ◌≡◌, ◌<◌, ◌&&◌, ◌||◌, Bool, true, false, List, length, get_or, cond, ltb}
+use Rattle.std.specs.Prelude.{ℕ, zero, suc, ◌≡◌, ◌+◌, ◌<◌, ◌≤◌, ◌&&◌, ◌||◌, Bool, true, false, List, length, get_or, cond, ltb}
 use Rattle.ml_base.specs.Structure.{Structure}
 use Rattle.ml_ctl.specs.Formula.{Formula}
 use Rattle.ml_ctl.specs.Paths.{places}
@@ -46,6 +47,18 @@ abbrev pub paired_in : Pairing → ℕ → ℕ → (f g : ℕ → Bool) → ℕ 
 paired_in pairing.Until n start f g i = cycles Until (next_in n start) f g n i
 paired_in pairing.Release n start f g i = cycles Release (next_in n start) f g n i
 paired_in pairing.Weak n start f g i = cycles Release (next_in n start) g (λ j. f j || g j) n i
+
+-- the first k values were changed to those of h, and the others weren't
+pub record ChangedTo (h : ℕ → Bool) (old new : List Bool) (k : ℕ) : Type 0 where
+  pub long : length new ≡ length old
+  pub done : (i : ℕ) → i < k → at new i ≡ h i
+  pub rest : (i : ℕ) → k ≤ i → at new i ≡ at old i
+
+-- so were the last k values
+pub record ChangedBack (h : ℕ → Bool) (old new : List Bool) (k : ℕ) : Type 0 where
+  pub long : length new ≡ length old
+  pub done : (i : ℕ) → i < length old → length old ≤ i + k → at new i ≡ h i
+  pub rest : (i : ℕ) → i + k < length old → at new i ≡ at old i
 
 pub record AreTruths (m : Structure) (l : Lasso) (f : Formula) (fs : List Bool) : Type 0 where
   pub each_place : length fs ≡ places l

@@ -4,8 +4,9 @@
 --   IsWalked next s xs at places == xs are the states from s on, the next one is at, and places tells where each state stands
 --                             among xs, if it does
 --   IsWordOf next s xs start == xs are the states of a path from s, of which the last one is followed by that at start
+--   nones places           == how many states have no place yet
 --   lasso_from xs start    == the path through xs, and round from there for ever
-use Rattle.std.specs.Prelude.{ℕ, ◌≡◌, ◌-◌, ◌+◌, ◌<◌, true, List, [], Option, Some, None, length, get_or}
+use Rattle.std.specs.Prelude.{ℕ, suc, ◌≡◌, ◌+◌, ◌<◌, true, List, [], ◌∷◌, Option, Some, None, length, get_or}
 use Rattle.ml_base.specs.Structure.{Structure}
 use Rattle.ml_ctl.specs.Paths.{has_step}
 use Rattle.ml_lists.specs.Lasso.{Lasso}
@@ -25,6 +26,12 @@ pub record IsWalked (next : List ℕ) (s : ℕ) (xs : List ℕ) (at : ℕ) (plac
   pub last : (i : ℕ) → i + 1 ≡ length xs → at ≡ get_or next (get_or xs i 0) 0
   pub stand : (i : ℕ) → i < length xs → get_or places (get_or xs i 0) None ≡ Some i
   pub found : (t i : ℕ) → get_or places t None ≡ Some i → (i < length xs) × (get_or xs i 0 ≡ t)
+
+-- how many have no place yet
+abbrev pub nones : List (Option ℕ) → ℕ
+nones [] = 0
+nones (None ∷ ps) = suc (nones ps)
+nones (Some i ∷ ps) = nones ps
 
 abbrev pub lasso_from : List ℕ → ℕ → Lasso
 lasso_from xs start = record { entries = xs; start = start }

@@ -1,13 +1,13 @@
 -- The decision is what is due, once it is written.
 use Rattle.std.proofs.Common.{sym, subst}
 use Rattle.ml_driver.proofs.Answered.{answered}
-use Rattle.ml_driver.proofs.ProblemGraphs.{well_formed}
 use Rattle.ml_driver.specs.Decision.{IsAnswered}
 use Rattle.ml_driver.proofs.decide.answer.Goals as goal
+use Rattle.ml_front.proofs.Logics.{parsed_well}
 
 pub decision_of-requires-clause-well_formed : goal.decision_of-requires-clause-well_formed
 decision_of-requires-clause-well_formed c =
-    well_formed c.args._text.now c.args.problem.now.formula c.requires.problem.is_parsed
+    parsed_well c.args._text.now c.args.problem.now.formula c.requires.problem.is_parsed
 
 pub returns : goal.returns
 returns c =

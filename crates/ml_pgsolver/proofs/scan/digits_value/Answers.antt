@@ -1,5 +1,4 @@
-use Rattle.std.proofs.Common.{◌≡◌, ◌+◌, ◌-◌, ◌*◌, min, length, get_or, drop, true, sym, ap, ◌∙◌, arith}
-use Rattle.std.specs.List.{take_while}
+use Rattle.std.proofs.Common.{◌≡◌, ◌+◌, ◌-◌, ◌*◌, min, length, get_or, true, sym, ap, ◌∙◌, arith}
 use Rattle.ml_text.specs.Bytes.{is_digit}
 use Rattle.ml_pgsolver.specs.declared.scan.TheConstants.{CAP}
 use Rattle.ml_pgsolver.proofs.Capped.{digit_more, digits_step}

@@ -6,7 +6,7 @@ use Rattle.ml_refutation_text.specs.private.Reads.{TellsFault}
 use Rattle.ml_refutation_text.specs.declared.body_rule.BodyRule.TheVariants.{OfKind}
 use Rattle.ml_refutation_text.proofs.ReadWords.{differ, same_word, other_word}
 use Rattle.ml_refutation_text.proofs.Going.{fault_on, fault_line}
-use Rattle.ml_refutation_text.proofs.BodyRead.{end_goes, end_is, not_end, behind_end}
+use Rattle.ml_refutation_text.proofs.BodyRead.{end_goes, not_end, behind_end}
 use Rattle.ml_refutation_text.proofs.reading.read_end.Goals as goal
 
 pub returns-in-Err-clause-refused : goal.returns-in-Err-clause-refused
@@ -16,7 +16,7 @@ pub returns-then-is_empty-clause-read : goal.returns-then-is_empty-clause-read
 returns-then-is_empty-clause-read c = λ v r.
     let line = c.in-Ok.next.0.now in
     let is = same_word line c.as_slice.result.now (codes "end") c.if-eq.ensures c.as_slice.ensures in
-    end_goes v c.args.at c.in-Ok.next.1 r (words_of line) c.in-Ok.ensures.read (end_is line is)
+    end_goes v c.args.at c.in-Ok.next.1 r (words_of line) c.in-Ok.ensures.read (ap words_of is)
 
 pub returns-else-is_empty-clause-refused : goal.returns-else-is_empty-clause-refused
 returns-else-is_empty-clause-refused c = λ v r.
@@ -24,7 +24,7 @@ returns-else-is_empty-clause-refused c = λ v r.
     let rest = c.in-Ok.next.1 in
     let is = same_word line c.as_slice.result.now (codes "end") c.if-eq.ensures c.as_slice.ensures in
     let some : length rest.text.now ≡ 0 → ⊥ = grind (arith, nat_tests) in
-    fault_on c.fault.result (end_goes v c.args.at rest r (words_of line) c.in-Ok.ensures.read (end_is line is))
+    fault_on c.fault.result (end_goes v c.args.at rest r (words_of line) c.in-Ok.ensures.read (ap words_of is))
     (behind_end v r rest c.fault.result (λ none. some (ap length none)) c.fault.ensures)
 
 pub returns-else-eq-clause-refused : goal.returns-else-eq-clause-refused
