@@ -22,7 +22,7 @@ use std::fs;
 use std::io::Print;
 use std::rt::Files;
 
-const FILES: [&str; 15] = [
+const FILES: [&str; 16] = [
     "examples",
     "patterns",
     "words",
@@ -38,6 +38,7 @@ const FILES: [&str; 15] = [
     "models",
     "refutations",
     "games",
+    "automata",
 ];
 
 /// The rows of a file, and how many they are.
