@@ -14,7 +14,7 @@
 use Rattle.std.specs.Prelude.{ℕ, List, Option, Some, None, if◌then◌else◌, unwrap_or, codes}
 use Rattle.std.specs.Str.{bytes_eq}
 use Rattle.ml_base.specs.declared.parse_refusal.ParseRefusal.{ParseRefusal}
-use Rattle.ml_lines.specs.Lines.{Word}
+use Rattle.ml_lines.specs.Lines as lines
 use Rattle.ml_ctl.specs.Canonical as ctl_canonical
 use Rattle.ml_ctl.specs.declared.language.Language.TheVariants as language
 use Rattle.ml_ctl.specs.Parsing as ctl_parsing
@@ -37,14 +37,14 @@ logic_of (Ctl f) = logic.Ctl
 logic_of (Ltl f) = logic.Ltl
 logic_of (Word f) = logic.Word
 
-abbrev pub logic_word : Logic → Word
+abbrev pub logic_word : Logic → lines.Word
 logic_word logic.Mu = codes "mu"
 logic_word logic.Pdl = codes "pdl"
 logic_word logic.Ctl = codes "ctl"
 logic_word logic.Ltl = codes "ltl"
 logic_word logic.Word = codes "word"
 
-abbrev pub logic_named : Word → Option Logic
+abbrev pub logic_named : lines.Word → Option Logic
 logic_named word =
     if bytes_eq word (logic_word logic.Mu) then Some logic.Mu
     else (if bytes_eq word (logic_word logic.Pdl) then Some logic.Pdl
@@ -52,7 +52,7 @@ logic_named word =
     else (if bytes_eq word (logic_word logic.Ltl) then Some logic.Ltl
     else (if bytes_eq word (logic_word logic.Word) then Some logic.Word else None))))
 
-abbrev pub some_logic : Word → Logic
+abbrev pub some_logic : lines.Word → Logic
 some_logic word = unwrap_or (logic_named word) logic.Mu
 
 abbrev pub IsParsedAs : List ℕ → AnyFormula → Type 0
