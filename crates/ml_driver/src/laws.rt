@@ -31,7 +31,8 @@ pub fn decided_are_checked()
 {}
 
 /// The text of a formula has at most 1,048,576 bytes, a document at most 2^63 - 1. A decision game may have 50,000
-/// positions where the words don't say, and 200,000 at most; a number has at most six digits.
+/// positions, and a deterministic automaton as many states, where the words don't say, and 200,000 at most; a number has at
+/// most six digits.
 pub fn limits()
     ensures text { LONGEST_TEXT ≡ 1048576 }
     ensures document { LONGEST_DOCUMENT + 1 ≡ 2 ^ 63 }

@@ -30,11 +30,11 @@ use std::alloc::Global;
 ///   the start of its structure, and where it doesn't; of `check-refutation` where the document's refutation is accepted,
 ///   and where it isn't; of `bench` where the family's formula is satisfiable, and where it isn't, with its occurrences,
 ///   the nodes of its graph and the positions of its game counted; `Yes` of `migrate` with the document that is written
-///   of the same refutation, of `solve-game` with the text of a solution, of `determinise` with the text of the deterministic
-///   automaton, and of `gen` with the text of the family's formula;
-/// - `Undecided` of `determinise` exactly where that automaton has more states than the limit; of `decide`, `valid` and `bench` exactly where the closure of the problem has too many nodes, or the
+///   of the same refutation, of `solve-game` with the text of a solution, of `determinise` with the text of the
+///   deterministic automaton, and of `gen` with the text of the family's formula;
+/// - `Undecided` of `decide`, `valid` and `bench` exactly where the closure of the problem has too many nodes, or the
 ///   decision game passes the limit; of `check-model` exactly where the closure has too many nodes, on a structure of which
-///   the logic speaks;
+///   the logic speaks; of `determinise` exactly where the deterministic automaton has more states than the limit;
 /// - `Words` exactly for words that are no command, `Text` exactly for input that the command refuses, both with one
 ///   line that says so.
 ///
