@@ -157,8 +157,8 @@ pub one_edge_more : (m : Structure) (is : IsStructure m) (rows : List Steps) (i 
 one_edge_more m is rows i e found all =
     let low = slice_get_within m.edges i e found in
     let taken =
-        take_more m.edges i e low
-        ∙ ap (λ x. take i m.edges ++ x ∷ []) (get_or_from_slice_get m.edges i e e found) in
+    take_more m.edges i e low
+    ∙ ap (λ x. take i m.edges ++ x ∷ []) (get_or_from_slice_get m.edges i e e found) in
     subst (λ es. AllTell m.states es (with_edge rows e)) (sym taken)
     (one_more m.states (take i m.edges) e rows (is.joins_states i e found).0 all)
 

@@ -57,10 +57,7 @@ fn first_deadlock(alloc: Global, structure: &Structure) -> Result<Option<u32>, N
 }
 
 // the first state that hasn't exactly one
-fn first_without_one_step(
-    alloc: Global,
-    structure: &Structure,
-) -> Result<Option<u32>, NoMemory>
+fn first_without_one_step(alloc: Global, structure: &Structure) -> Result<Option<u32>, NoMemory>
     ensures { IfOk result (λ found. MatchOption found (words.IsAdmitted structure.now)
         (IsFirst (words.IsFork structure.now) structure.now.states)) }
 {
