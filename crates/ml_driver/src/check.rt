@@ -112,7 +112,6 @@ fn not_a_word(alloc: Global, state: u32) -> Result<Vec<u8>, NoMemory>
     Ok(line)
 }
 
-
 fn left_open(alloc: Global) -> Result<Vec<u8>, NoMemory>
     ensures { IfOk result (λ line. line.items ≡ statuses.open_line) }
 {

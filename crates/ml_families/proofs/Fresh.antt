@@ -79,8 +79,6 @@ walk_even g c S region even n k m (goes {k = j} _ next child w) here =
     let first = even n here in
     omega arith
 
-
-
 -- a triple with an even priority gives no accepting transition
 plain_leads : (g : Graph) (k : ℕ) (b f : Option ℕ) (accepting : Bool)
     → k % 2 ≡ 0 → Leads (odd_priorities g) k b f accepting → accepting ≡ false

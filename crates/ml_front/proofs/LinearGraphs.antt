@@ -29,9 +29,8 @@ pub linear_agrees : {E : Type 0} (p : Problem) (f : Formula) (r : Result Graph E
 linear_agrees p f (Ok g) is agrees = subst (HoldsAs g p.negated) (sym is) agrees
 linear_agrees p f (Err e) is agrees = tt
 
-pub word_agrees : {E : Type 0} (p : Problem) (f : Formula) (r : Result Graph E)
+pub word_agrees : (p : Problem) (f : Formula) (g : Graph)
     → p.formula ≡ Word f
-    → IfOk r (λ g. word.HoldsWhere g (record { formula = f; negated = p.negated }))
-    → IfOk r (λ g. HoldsWhere g p)
-word_agrees p f (Ok g) is agrees = subst (HoldsAs g p.negated) (sym is) agrees
-word_agrees p f (Err e) is agrees = tt
+    → word.HoldsWhere g (record { formula = f; negated = p.negated })
+    → HoldsWhere g p
+word_agrees p f g is agrees = subst (HoldsAs g p.negated) (sym is) agrees

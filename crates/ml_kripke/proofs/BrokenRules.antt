@@ -63,8 +63,11 @@ module _ (left : List ℕ) where
     no_states is zero_is =
         let zero_value : value w ≡ 0 = ap value zero_is ∙ value-number 0 (omega arith) in
         subst (Breaks AtStates HasStates) (sym is)
-        (inr ((subst AreWords is words, refl), inr
-        ((0, omega arith, zero_is), inl (refl, λ some. absurd (omega (arith, zero_value))))))
+        (inr (
+          (subst AreWords is words, refl),
+          inr
+              ((0, omega arith, zero_is), inl (refl, λ some. absurd (omega (arith, zero_value)))),
+        ))
 
     module _ (n : ℕ) (is : line ≡ codes "start" ∷ w ∷ []) where
       pub no_start : ¬ (IsNumber w) → Breaks (AtStart n) Numbers line
@@ -75,8 +78,11 @@ module _ (left : List ℕ) where
       bad_start k is_k fits past =
           let is_value : value w ≡ k = ap value is_k ∙ value-number k (omega arith) in
           subst (Breaks (AtStart n) StartInRange) (sym is)
-          (inr ((subst AreWords is words, refl), inr
-          ((k, fits, is_k), inl (refl, λ below. absurd (omega (arith, is_value))))))
+          (inr (
+            (subst AreWords is words, refl),
+            inr
+                ((k, fits, is_k), inl (refl, λ below. absurd (omega (arith, is_value)))),
+          ))
 
   -- ---- the line of a state
 

@@ -66,9 +66,10 @@ module _ (left : List ℕ) where
 
   pub good_state : (n i : ℕ) (labels : List Word) → i < 2 ^ 32 → All IsName labels → Ascend labels
       → IsGood (body left) (AtState n i) (state_line i labels)
-  good_state n i labels fits named ascend =
-      ((number_first i labels fits (names_words labels named), refl),
-      ((i, fits, refl), (value-number i (omega arith), ((named, ascend), tt))))
+  good_state n i labels fits named ascend = (
+    (number_first i labels fits (names_words labels named), refl),
+    ((i, fits, refl), (value-number i (omega arith), ((named, ascend), tt))),
+  )
 
   pub state_good : (n i : ℕ) (line : Line) → IsGood (body left) (AtState n i) line → IsStateLine line i (drop 2 line)
   state_good n i line (kind, (is_number, (next, (labels, none)))) =

@@ -107,9 +107,11 @@ action_without c none bytes e = go (is_name bytes) refl e
 
 names_avoid : (c : ℕ) → is_name_byte c ≡ false → (labels : List (List ℕ)) → All IsName labels → avoids c labels
 names_avoid c none [] named = tt
-names_avoid c none (label ∷ labels) named =
-    (name_without c none label (All-head IsName label labels named), names_avoid c none labels
-    (All-tail IsName label labels named))
+names_avoid c none (label ∷ labels) named = (
+  name_without c none label (All-head IsName label labels named),
+  names_avoid c none labels
+      (All-tail IsName label labels named),
+)
 
 state_plain : (s : ℕ) (labels : List (List ℕ)) → s < 2 ^ 64 → All IsName labels → IsPlain (state_line s labels)
 state_plain s labels fits named =

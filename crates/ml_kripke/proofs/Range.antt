@@ -29,7 +29,7 @@ labels_in_range states [] e = All-nil (λ (label : ℕ × List ℕ). label.0 < s
 labels_in_range states (label ∷ labels) e =
     let first = cond-none (nat_le states label.0) label.0 (find (nat_le states) (map (λ l. l.0) labels)) e in
     All-cons (λ (l : ℕ × List ℕ). l.0 < states) label labels (leb-false states label.0 first.0)
-        (labels_in_range states labels first.1)
+    (labels_in_range states labels first.1)
 
 pub edges_in_range : (states : ℕ) (edges : List Edge) → find (nat_le states) (flat_map ends edges) ≡ None
     → All (λ e. (e.source < states) × (e.target < states)) edges

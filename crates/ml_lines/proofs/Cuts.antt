@@ -46,7 +46,7 @@ module _ (p : ℕ → Bool) where
       let below : position_or_len p xs < length xs = grind (arith, nat_tests) in (
         omega (arith, parts.1),
         subst (λ k. slice_split p xs ≡ take k xs ∷ slice_split p (drop (k + 1) xs)) parts.1
-        (slice_split_first p xs 0 below),
+            (slice_split_first p xs 0 below),
       )
 
 -- the first place of a list, and none

@@ -2,3 +2,5 @@
 pub mod Checked
 -- what is true of them
 pub mod Laws
+-- what private contracts cite
+pub mod private

@@ -3,7 +3,7 @@ ghost use Rattle.std.specs.Prelude.{ℕ, IfOk, OnOk, IsErrOf, MatchOption};
 ghost use Rattle.ml_ctl.specs.Problem as ctl;
 ghost use Rattle.ml_lists.specs.Search.{IsFirst};
 ghost use Rattle.ml_front.specs.Logics.{logic_of};
-ghost use Rattle.ml_front.specs.Problems.{IsAdmitted, IsDeadlock, IsFirstDeadlock, IsFirstFork, IsFork};
+ghost use Rattle.ml_front.specs.Problems.{IsAdmitted, IsDeadlock, IsFirstDeadlock, IsFirstFork};
 ghost use Rattle.ml_word_graph.specs.Problem as words;
 
 use crate::check_refusal::CheckRefusal;
@@ -57,12 +57,9 @@ fn first_deadlock(alloc: Global, structure: &Structure) -> Result<Option<u32>, N
 }
 
 // the first state that hasn't exactly one
-fn first_without_one_step(
-    alloc: Global,
-    structure: &Structure,
-) -> Result<Option<u32>, NoMemory>
+fn first_without_one_step(alloc: Global, structure: &Structure) -> Result<Option<u32>, NoMemory>
     ensures { IfOk result (λ found. MatchOption found (words.IsAdmitted structure.now)
-        (IsFirst (IsFork structure.now) structure.now.states)) }
+        (IsFirst (words.IsFork structure.now) structure.now.states)) }
 {
     let _states = structure.states();
     let steps = steps_of(alloc, structure)?;

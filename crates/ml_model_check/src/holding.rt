@@ -77,10 +77,7 @@ fn holds_where_admitted(
                 Ok(holds)
             }
         }
-        AnyFormula::Pdl(_)
-        | AnyFormula::Ctl(_)
-        | AnyFormula::Ltl(_)
-        | AnyFormula::Word(_) => {
+        AnyFormula::Pdl(_) | AnyFormula::Ctl(_) | AnyFormula::Ltl(_) | AnyFormula::Word(_) => {
             holds_by_game(alloc, problem, structure, state)
         }
     }

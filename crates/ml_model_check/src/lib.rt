@@ -16,6 +16,7 @@ mod check_refusal;
 mod checked;
 mod holding;
 pub mod laws;
+mod steps;
 
 pub use check::check_document;
 pub use check_refusal::CheckRefusal;

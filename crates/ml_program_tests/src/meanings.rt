@@ -22,7 +22,9 @@ pub(crate) fn by_meaning(
         AnyFormula::Pdl(formula) => {
             Ok(ml_pdl_meaning::holds(alloc, formula, structure, state)? != problem.negated)
         }
-        AnyFormula::Ctl(_) | AnyFormula::Ltl(_) | AnyFormula::Word(_) => Err(Fail::new("no set is computed of these")),
+        AnyFormula::Ctl(_) | AnyFormula::Ltl(_) | AnyFormula::Word(_) => Err(Fail::new(
+            "no set is computed of these",
+        )),
     }
 }
 
@@ -31,7 +33,9 @@ fn set(alloc: Global, problem: &Problem, structure: &Structure) -> Result<Vec<bo
     match &problem.formula {
         AnyFormula::Mu(formula) => Ok(ml_mu::evaluate(alloc, formula, structure)?),
         AnyFormula::Pdl(formula) => Ok(ml_pdl_meaning::evaluate(alloc, formula, structure)?),
-        AnyFormula::Ctl(_) | AnyFormula::Ltl(_) | AnyFormula::Word(_) => Err(Fail::new("no set is computed of these")),
+        AnyFormula::Ctl(_) | AnyFormula::Ltl(_) | AnyFormula::Word(_) => Err(Fail::new(
+            "no set is computed of these",
+        )),
     }
 }
 

@@ -145,7 +145,7 @@ entries_count v names F i (e ∷ es) lines form (first, others, one, rest, is) =
       length-append first others,
       ap length one.are_lines,
       length-append one.head (live_line
-      e.traces.live ∷ (one.items ++ heights_line e.heights ∷ decision_lines e.decision)),
+          e.traces.live ∷ (one.items ++ heights_line e.heights ∷ decision_lines e.decision)),
       length-append one.items (heights_line e.heights ∷ decision_lines e.decision),
       head_count v names F i e.sequent one.head form one.is_head,
       item_count F e.traces.items one.items one.are_items,
@@ -210,7 +210,7 @@ at_end {v = v} {p = p} {at = at} {rest = rest} names wanted F items whole goes =
     let es = map entry_of items in
     let test : nat_lt (length es) wanted ≡ false = grind (arith, nat_tests, length-map items entry_of, whole) in
     subst (λ b. Goes v p at (cond b (AtEntry (knows names F wanted) es)
-        (AtEnd (record { names = names; entries = es }))) rest) test goes
+    (AtEnd (record { names = names; entries = es }))) rest) test goes
 
 -- ---- a whole text
 

@@ -93,9 +93,10 @@ pub table_item : (qs ks : List (List ℕ)) (s : AutomatonState) (w : Word) (t : 
     → FitsGuess s.odd
     → IsItemLine (ByTables qs ks) (item_line s (w ∷ []))
 table_item qs ks s w t spells node guess = record {
-  of_kind =
-      (item_words s (w ∷ []) node guess (words_first w [] (spelt_is_word w t spells) refl),
-      (refl, (tt, (tt, (tt, refl)))));
+  of_kind = (
+    item_words s (w ∷ []) node guess (words_first w [] (spelt_is_word w t spells) refl),
+    (refl, (tt, (tt, (tt, refl)))),
+  );
   numbers_are = (
     (λ _. (tt, (is_number s.node node, (guess_word_fits s.odd guess, ((t, spells), All-nil IsNumber))))),
     ((λ kind. absurd (no_heights (number s.node ∷ guess_word s.odd ∷ w ∷ []) kind)), tt),
@@ -124,8 +125,10 @@ module _ (v : Version) (left : List ℕ) (names wanted : ℕ) (small : Fits name
       let i = length es in
       let back = values_back q fit in
       subst (λ ls. Run v left (AtEntry k es) ls (AtLive k es q)) (sym is) (
-        (inl (numbered_of v left (codes "entry") i refl fits),
-        (numbered_fits v left (codes "entry") i fits, (value_back i fits, (tt, tt)))),
+        (
+          inl (numbered_of v left (codes "entry") i refl fits),
+          (numbered_fits v left (codes "entry") i fits, (value_back i fits, (tt, tt))),
+        ),
         (
           (inl (sequent_good v left q fit), (sequent_fits v left q fit, (subst IsAscending (sym back) ascends, tt))),
           ap (AtLive k es) back,
@@ -191,8 +194,11 @@ module _ (v : Version) (left : List ℕ) (names wanted : ℕ) (small : Fits name
               ),
             ),
           ),
-          (λ i. at_item InFull (before ++ record { state = state_back a.state (numbers a.stack) is.node_fits
-          is.guess_fits i; stack = back i } ∷ [])),
+          (λ i. at_item InFull (before ++ record {
+            state = state_back a.state (numbers a.stack) is.node_fits
+                is.guess_fits i;
+            stack = back i;
+          } ∷ [])),
         )
     item_run (ByTables qs ks) before a words is some above (t, w, spells, there, spelt) =
         let form = ByTables qs ks in
@@ -212,8 +218,10 @@ module _ (v : Version) (left : List ℕ) (names wanted : ℕ) (small : Fits name
               ),
             ),
           ),
-          (λ i. at_item form (before ++ record { state = state_back a.state (w ∷ []) is.node_fits is.guess_fits i;
-          stack = back i } ∷ [])),
+          (λ i. at_item form (before ++ record {
+            state = state_back a.state (w ∷ []) is.node_fits is.guess_fits i;
+            stack = back i;
+          } ∷ [])),
         )
 
     items_run : (form : Form) (before items : List (traced.Item AutomatonState)) (lines : List Line)
@@ -314,7 +322,7 @@ module _ (v : Version) (left : List ℕ) (names wanted : ℕ) (small : Fits name
   entries_from form es [] lines few full tables are written =
       let none : nat_lt (length es) wanted ≡ false = grind (arith, nat_tests) in
       subst (λ ls. Run v left (at_entry (known names form wanted) es) ls
-          (AtEnd (record { names = names; entries = es ++ [] }))) (sym written)
+      (AtEnd (record { names = names; entries = es ++ [] }))) (sym written)
       (ap (λ b. cond b (AtEntry (known names form wanted) es) (AtEnd (record { names = names; entries = es }))) none
       ∙ ap (λ l. AtEnd (record { names = names; entries = l })) (sym (append-nil es)))
   entries_from form es (e ∷ more) lines few full tables are (first, others, one, rest, is) =
@@ -329,7 +337,7 @@ module _ (v : Version) (left : List ℕ) (names wanted : ℕ) (small : Fits name
       (All-tail (IsEntry names wanted) e more are)
       (subst (λ i. EntriesLines form i more others) next rest) in
       subst (λ p. Run v left p lines end)
-          (sym (ap (λ b. cond b (AtEntry k es) (AtEnd (record { names = names; entries = es }))) below))
+      (sym (ap (λ b. cond b (AtEntry k es) (AtEnd (record { names = names; entries = es }))) below))
       (subst (λ ls. Run v left (AtEntry k es) ls end) (sym is)
       (run_on (body v left) (AtEntry k es) (at_entry k (es ++ e ∷ [])) end first others run
       (subst (λ l. Run v left (at_entry k (es ++ e ∷ [])) others (AtEnd (record { names = names; entries = l })))

@@ -117,7 +117,7 @@ module _ (names wanted : ℕ) (es : List Entry) (q : List ℕ) (traces : traced.
                 let next = keeps refl in
                 bad (
                   subst (IsAbove (last_of None (map (λ a. a.state) traces.items)))
-                  (state_back s (numbers ns) node guess) next.is_above,
+                      (state_back s (numbers ns) node guess) next.is_above,
                   subst (AreNames traces.live) (values_back ns fit) (next.ascends, next.in_use),
                 ),
           ),
@@ -189,7 +189,7 @@ module _ (names wanted : ℕ) (es : List Entry) (q : List ℕ) (traces : traced.
                       let next = keeps refl in
                       bad (
                         subst (IsAbove (last_of None (map (λ a. a.state) traces.items)))
-                        (state_back s (p ∷ []) node guess) next.is_above,
+                            (state_back s (p ∷ []) node guess) next.is_above,
                         (next.ascends, next.in_use),
                       ),
                 ),

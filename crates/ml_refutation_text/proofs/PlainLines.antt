@@ -145,13 +145,25 @@ place_plain (AtDecision k es b around) = (
       (
         record { some = omega arith; no_blank = (refl, (refl, (tt, tt))); no_end = (refl, (refl, (tt, tt))) },
         (
-          record { some = omega arith; no_blank = (refl, (tt, (tt, (refl, (tt, tt)))));
-              no_end = (refl, (tt, (tt, (refl, (tt, tt))))) },
+          record {
+            some = omega arith;
+            no_blank = (refl, (tt, (tt, (refl, (tt, tt)))));
+            no_end = (refl, (tt, (tt, (refl, (tt, tt)))));
+          },
           (
-            record { some = omega arith; no_blank = (refl, (tt, (tt, (refl, (tt, tt)))));
-                no_end = (refl, (tt, (tt, (refl, (tt, tt))))) },
-            (record { some = omega arith; no_blank = (refl, (tt, (tt, (refl, tt))));
-            no_end = (refl, (tt, (tt, (refl, tt)))) }, tt),
+            record {
+              some = omega arith;
+              no_blank = (refl, (tt, (tt, (refl, (tt, tt)))));
+              no_end = (refl, (tt, (tt, (refl, (tt, tt)))));
+            },
+            (
+              record {
+                some = omega arith;
+                no_blank = (refl, (tt, (tt, (refl, tt))));
+                no_end = (refl, (tt, (tt, (refl, tt))));
+              },
+              tt,
+            ),
           ),
         ),
       ),

@@ -146,9 +146,11 @@ items_in_range : (live : ℕ) (items : List (traced.Item AutomatonState))
     → AreInRange (map (λ a. a.state) items)
 items_in_range live [] all = tt
 items_in_range live (a ∷ items) all =
-    let first = All-head (IsItem live) a items all in
-    (record { node = first.node_fits; guess = first.guess_fits }, items_in_range live items
-    (All-tail (IsItem live) a items all))
+    let first = All-head (IsItem live) a items all in (
+      record { node = first.node_fits; guess = first.guess_fits },
+      items_in_range live items
+          (All-tail (IsItem live) a items all),
+    )
 
 items_few : (names entries : ℕ) (e : Entry) → IsEntry names entries e → length (used_stacks e) ≤ 18446744078004518912
 items_few names entries e is =
@@ -156,7 +158,7 @@ items_few names entries e is =
     omega (
       arith,
       states_few (map (λ a. a.state) e.traces.items) (items_in_range e.traces.live e.traces.items traces.are_items)
-      traces.ascend,
+          traces.ascend,
       length-map e.traces.items (λ a. a.state),
       length-map e.traces.items (λ a. a.stack),
     )

@@ -53,7 +53,6 @@ never_accepts odds k (Some d) h = let wrong = h.1 in absurd (cc)
 
 -- an odd priority that occurs is odd
 
-
 module _ (g : Graph) where
   -- a transition of a step, from a state with the guess d
   guessed : (l : GoStep) (p q : AutomatonState) (accepting : Bool) (d : ℕ) (a : HasTransition g l p q accepting)

@@ -24,10 +24,6 @@ use Rattle.ml_refutation.specs.GoStep.{GoStep, HasTransition}
 use Rattle.ml_refute_check.specs.private.Sources.{HasSource, IsNameTraced, IsItemTraced, AreInUse, LeadInto, green_of}
 use Rattle.ml_trace.proofs.Stacks.{has-member, member-has}
 
-
-
-
-
 green_is : (m : Mark) (x : ℕ) → green_of m ≡ Some x → m ≡ Green x
 green_is (Red y) x e = absurd (cc)
 green_is (Green y) x e = ap Green (let names : y ≡ x = cc in names)
