@@ -1,0 +1,2 @@
+-- where the edges by `_` of each state lead
+pub mod Steps
