@@ -11,6 +11,7 @@ use Rattle.std.proofs.lemmas.Bool.{and_parts, cases_eq, cases_lt, cond-true, or_
 use Rattle.std.proofs.lemmas.Bool.Decides.{Decides-eqb, nat_tests}
 use Rattle.std.proofs.lemmas.List.{get_or-set_same, get_or-set_other, get_or-replicate, length-replicate, length-set, take_more}
 use Rattle.std.proofs.lemmas.Option.{get_or_from_slice_get, slice_get_within}
+use Rattle.std.proofs.lemmas.List.Elements.{All-get_or}
 use Rattle.std.proofs.lemmas.List.Folds.{list_any-append}
 use Rattle.std.proofs.lemmas.List.Quantifiers.{position-Some}
 use Rattle.std.proofs.lemmas.List.Sums.{fails_before_first}
@@ -156,11 +157,11 @@ pub one_edge_more : (m : Structure) (is : IsStructure m) (rows : List Steps) (i 
     → AllTell m.states (take (i + 1) m.edges) (with_edge rows e)
 one_edge_more m is rows i e found all =
     let low = slice_get_within m.edges i e found in
-    let taken =
-    take_more m.edges i e low
-    ∙ ap (λ x. take i m.edges ++ x ∷ []) (get_or_from_slice_get m.edges i e e found) in
+    let same = get_or_from_slice_get m.edges i e e found in
+    let taken = take_more m.edges i e low ∙ ap (λ x. take i m.edges ++ x ∷ []) same in
+    let ends = All-get_or (λ (x : Edge). (x.source < m.states) × (x.target < m.states)) m.edges i e low is.joins_states in
     subst (λ es. AllTell m.states es (with_edge rows e)) (sym taken)
-    (one_more m.states (take i m.edges) e rows (is.joins_states i e found).0 all)
+    (one_more m.states (take i m.edges) e rows (subst (λ (x : Edge). x.source < m.states) same ends.0) all)
 
 -- ---- words
 
