@@ -47,7 +47,7 @@ module _ (g : Graph) (ok : IsGraph g) (C : List ℕ) (low : Within g C) (c : Lis
           choice = refl;
           ascends = kept.ascends;
           low = λ m h. (kept.members m h).0;
-          nodes = λ m. ((λ h. (kept.members m h).1), (λ s. kept.all m (spread_low m s) s));
+          nodes = λ m. ((λ h. (kept.members m h).1), (λ s. kept.all m (spread_low g ok C low c m s) s));
         };
       }
 
