@@ -12,7 +12,7 @@ use Rattle.ml_base.specs.declared.structure.Edge.{Edge}
 use Rattle.ml_base.specs.Structure.{Structure, IsStructure}
 use Rattle.ml_lists.proofs.Member.{Passing, list_any-member, member-list_any}
 use Rattle.ml_lists.proofs.Members.{member_of_contains, contains_of_member}
-use Rattle.ml_bisim.specs.Bisimilar.{HasEdge}
+use Rattle.ml_bisim.specs.Bisimilar.{Bisimilar, HasEdge}
 use Rattle.ml_bisim.specs.Quotient.{IsQuotientOf, class_of}
 use Rattle.ml_bisim.proofs.Carrying.{graphs_carried}
 use Rattle.ml_bisim.proofs.Classes.{class_edge, class_low, edge_from, from_leaves, leaves, leaves_from, some_state}
@@ -84,7 +84,8 @@ module _ (m q : Structure) (class : List ℕ) (m_ok : IsStructure m) (quotient :
       let matched = alike.is_bisimulation.forth edge.0 s alike.joined blank edge.1 edge.2 in
       let there = edge_step m s matched.0 matched.1 in
       let to = step_states m m_ok s matched.0 there in
-      let same = record { relation = alike.relation; is_bisimulation = alike.is_bisimulation; joined = matched.2 } in
+      let same : Bisimilar m edge.1 matched.0 =
+          record { relation = alike.relation; is_bisimulation = alike.is_bisimulation; joined = matched.2 } in
       (matched.0, there, sym ((quotient.classes.bisimilar edge.1 matched.0 lows.1 to.1).1 same) ∙ edge.4)
 
   word_too : word.IsAdmitted m → (c : ℕ) → c < q.states → HasOneStep q c
