@@ -1,7 +1,5 @@
 -- the least state without an edge by `_` is the first deadlock
 pub mod Deadlocks
--- where the edges by `_` lead, and whether the structure is one of words
-pub mod EdgesGathered
 -- what is found of a structure for a problem
 pub mod Findings
 -- checking a text finds exactly one thing

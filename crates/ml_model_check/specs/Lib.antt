@@ -2,5 +2,3 @@
 pub mod Checked
 -- what is true of them
 pub mod Laws
--- what private contracts cite
-pub mod private

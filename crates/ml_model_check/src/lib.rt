@@ -7,16 +7,15 @@
 // the structure, and check no problem whose closure is too large.
 //
 // Below stand `ml_base`, `ml_lines` (lines and words), `ml_front` (problems and heads), `ml_kripke` (bodies), `ml_mu`
-// (formulas and meanings), `ml_graph` (the checking game) and `ml_parity` (its solver); above stands the program.
+// (formulas and meanings), `ml_word_check` (LTL along single words), `ml_graph` (the checking game) and `ml_parity` (its solver);
+// above stands the program.
 #![tactic(auto)]
 
-mod admitted;
 mod check;
 mod check_refusal;
 mod checked;
 mod holding;
 pub mod laws;
-mod steps;
 
 pub use check::check_document;
 pub use check_refusal::CheckRefusal;

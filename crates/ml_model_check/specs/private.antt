@@ -1,2 +1,0 @@
--- where the edges by `_` of each state lead
-pub mod Steps
