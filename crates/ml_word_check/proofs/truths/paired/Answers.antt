@@ -1,0 +1,11 @@
+use Rattle.std.proofs.Common.{rules, ℕ, ◌≡◌, ◌<◌, ◌+◌, not, length, map, All, IfOk, ◌-◌, ◌*◌, ◌≤◌, ◌/◌, ◌%◌, Bool, true, false, nat_eq, nat_lt, List, [], ◌∷◌, ◌++◌, slice_index_or, slice_set, bit_and, bit_or, Fits, w8, w32, w64, Bor, MutBor}
+use Rattle.ml_base.specs.Structure.{lists}
+use Rattle.ml_ctl.specs.Term.{formula_of}
+use Rattle.ml_word_graph.proofs.Values.{connective_value}
+use Rattle.ml_word_check.specs.private.Truths.{AreTruths, at, next_in, paired_in, tense_in}
+use Rattle.ml_word_check.specs.private.Walked.{lasso_from}
+use Rattle.ml_word_check.proofs.truths.paired.Goals as goal
+
+-- src/truths.rt:100:1
+pub returns-in-Weak-clause-values : goal.returns-in-Weak-clause-values
+returns-in-Weak-clause-values c = ?
