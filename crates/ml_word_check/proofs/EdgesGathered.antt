@@ -2,14 +2,17 @@
 --
 --   none_yet       == of no edges there are none
 --   one_more       == with an edge more
+--   edge_more      == that a structure has
 --   none_passes_at == where no entry of a list passes a test, each fails it
 --   one_or_fork    == a state from which exactly one edge leads has one step, and every other one is a fork
 --   word_found     == so a structure is one of words, or has a first fork
-use Rattle.std.proofs.Common.{ℕ, ◌≡◌, ◌≢◌, ◌==◌, ◌&&◌, ◌||◌, ◌<◌, ◌≤◌, ◌⊎◌, inl, inr, Bool, true, false, not, nat_lt, if◌then◌else◌, List, [], ◌∷◌, ◌++◌, length, get_or, set, replicate, Option, Some, None, MatchOption, bytes_eq, codes, refl, sym, ap, ◌∙◌, subst, arith}
-use Rattle.std.specs.List.{list_any, position, position_or_len}
+use Rattle.std.proofs.Common.{ℕ, ◌≡◌, ◌≢◌, ◌==◌, ◌&&◌, ◌||◌, ◌<◌, ◌≤◌, ◌+◌, ◌⊎◌, inl, inr, Bool, true, false, not, nat_lt, if◌then◌else◌, List, [], ◌∷◌, ◌++◌, length, get_or, set, take, replicate, Option, Some, None, MatchOption, bytes_eq, codes, refl, sym, ap, ◌∙◌, subst, arith}
+use Rattle.std.specs.List.{list_any, position, position_or_len, slice_get}
 use Rattle.std.proofs.lemmas.Bool.{and_parts, cases_eq, cases_lt, cond-true, or_cases, or_left, or_right, false≢true, true≢false}
 use Rattle.std.proofs.lemmas.Bool.Decides.{Decides-eqb, nat_tests}
-use Rattle.std.proofs.lemmas.List.{get_or-set_same, get_or-set_other, get_or-replicate, length-replicate, length-set}
+use Rattle.std.proofs.lemmas.List.{get_or-set_same, get_or-set_other, get_or-replicate, length-replicate, length-set, take_more}
+use Rattle.std.proofs.lemmas.List.Elements.{All-get_or}
+use Rattle.std.proofs.lemmas.Option.{get_or_from_slice_get, slice_get_within}
 use Rattle.std.proofs.lemmas.List.Folds.{list_any-append}
 use Rattle.std.proofs.lemmas.List.Quantifiers.{position-Some}
 use Rattle.std.proofs.lemmas.List.Sums.{fails_before_first}
@@ -146,8 +149,25 @@ module _ (n : ℕ) (es : List Edge) (e : Edge) (rows : List Steps) (inside : e.s
               away : (e.source == s) ≡ false
               away = grind (arith, nat_tests)
 
-  pub one_more : AllTell n (es ++ e ∷ []) (with_edge rows e)
+  one_more : AllTell n (es ++ e ∷ []) (with_edge rows e)
   one_more = by_blank (bytes_eq e.action (codes "_")) refl
+
+-- an edge more of a structure's
+pub edge_more : (m : Structure) → IsStructure m → (i : ℕ) (e : Edge) (rows new : List Steps)
+    → slice_get m.edges i ≡ Some e
+    → AllTell m.states (take i m.edges) rows
+    → new ≡ with_edge rows e
+    → AllTell m.states (take (i + 1) m.edges) new
+edge_more m is i e rows new at all with =
+    let low = slice_get_within m.edges i e at in
+    let entry = get_or_from_slice_get m.edges i e e at in
+    let inside : e.source < m.states =
+    subst (λ x. x.source < m.states) entry
+    (All-get_or (λ x. (x.source < m.states) × (x.target < m.states)) m.edges i e low is.joins_states).0 in
+    let taken : take (i + 1) m.edges ≡ take i m.edges ++ e ∷ [] =
+    take_more m.edges i e low ∙ ap (λ x. take i m.edges ++ x ∷ []) entry in
+    subst (AllTell m.states (take (i + 1) m.edges)) (sym with)
+    (subst (λ es. AllTell m.states es (with_edge rows e)) (sym taken) (one_more m.states (take i m.edges) e rows inside all))
 
 -- ---- words
 

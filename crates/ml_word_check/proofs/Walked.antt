@@ -2,13 +2,15 @@
 --
 --   none_walked == nothing is walked yet
 --   one_more    == one state more
+--   none_read, some_read == what is read at a place
 --   fewer_nones == fewer states have no place then
 --   comes_again == where a state comes again, the path is whole
 --   is_word     == and it is the path from the state
 use Rattle.std.proofs.Common.{ℕ, zero, suc, ◌≡◌, ◌-◌, ◌+◌, ◌<◌, ◌≤◌, ◌⊎◌, inl, inr, Bool, true, false, List, [], ◌∷◌, ◌++◌, All, Option, Some, None, length, get_or, set, replicate, cond, ltb, refl, sym, ap, ◌∙◌, subst, ⊎_elim, arith, length-append}
-use Rattle.std.proofs.lemmas.Bool.{cases_eq, cases_lt}
+use Rattle.std.specs.Option.{is_some}
+use Rattle.std.proofs.lemmas.Bool.{cases_eq, cases_lt, true≢false}
 use Rattle.std.proofs.lemmas.Bool.Decides.{nat_tests}
-use Rattle.std.proofs.lemmas.List.{get_or_append_left, get_or_past, get_or_push, get_or-replicate, get_or-set_other, get_or-set_same, length-replicate, length-set}
+use Rattle.std.proofs.lemmas.List.{get_or_append_left, get_or_past, get_or_push, get_or_read_under, get_or-replicate, get_or-set_other, get_or-set_same, length-replicate, length-set}
 use Rattle.ml_base.specs.Structure.{Structure}
 use Rattle.ml_lists.specs.Lasso.{Lasso, entry}
 use Rattle.ml_lists.proofs.Lasso.{round-entry, round-end}
@@ -100,8 +102,8 @@ module _ (next : List ℕ) (s : ℕ) (xs : List ℕ) (at : ℕ) (places : List (
           let before = w.found t i (sym (get_or-set_other places at t (Some (length xs)) None other) ∙ is) in
           (omega (arith, before.0, long), old i before.0 ∙ before.1)
 
-  pub one_more : IsWalked next s ys (get_or next at 0) marked
-  one_more = record {
+  walked_more : IsWalked next s ys (get_or next at 0) marked
+  walked_more = record {
     as_many = length-set places at (Some (length xs)) ∙ w.as_many;
     inside = closed at w.inside;
     first = first_is;
@@ -120,6 +122,31 @@ module _ (next : List ℕ) (s : ℕ) (xs : List ℕ) (at : ℕ) (places : List (
       step_at i low (inl is) = at_end (i + 1) is ∙ w.last i is ∙ ap (λ t. get_or next t 0) (sym (old i low))
       step_at i low (inr other) =
           old (i + 1) (omega (arith, low, other)) ∙ w.steps i (omega (arith, low, other)) ∙ ap (λ t. get_or next t 0) (sym (old i low))
+
+  -- as the program writes it
+  pub one_more : (zs : List ℕ) (count : ℕ)
+      → zs ≡ ys
+      → count ≡ length xs
+      → IsWalked next s zs (get_or next at 0) (set places at (Some count))
+  one_more zs count states place =
+      subst (λ vs. IsWalked next s vs (get_or next at 0) (set places at (Some count))) (sym states)
+      (subst (λ k. IsWalked next s ys (get_or next at 0) (set places at (Some k))) (sym place) walked_more)
+
+-- where a place is read
+pub none_read : (ps : List (Option ℕ)) (k : ℕ) (p : Option ℕ)
+    → k < length ps
+    → p ≡ get_or ps k p
+    → is_some p ≡ false
+    → get_or ps k None ≡ None
+none_read ps k None low is none = sym is
+none_read ps k (Some i) low is none = absurd (true≢false none)
+
+pub some_read : (ps : List (Option ℕ)) (k i : ℕ) (p : Option ℕ)
+    → k < length ps
+    → p ≡ get_or ps k p
+    → p ≡ Some i
+    → get_or ps k None ≡ Some i
+some_read ps k i p low is some = sym (get_or_read_under ps k (length ps) p None is low refl) ∙ some
 
 -- fewer states have no place then
 pub fewer_nones : (ps : List (Option ℕ)) (k i : ℕ) → k < length ps → get_or ps k None ≡ None
