@@ -6,11 +6,12 @@
 --   none_passes_at == where no entry of a list passes a test, each fails it
 --   one_or_fork    == a state from which exactly one edge leads has one step, and every other one is a fork
 --   word_found     == so a structure is one of words, or has a first fork
-use Rattle.std.proofs.Common.{ℕ, ◌≡◌, ◌≢◌, ◌==◌, ◌&&◌, ◌||◌, ◌<◌, ◌≤◌, ◌+◌, ◌⊎◌, inl, inr, Bool, true, false, not, nat_lt, if◌then◌else◌, List, [], ◌∷◌, ◌++◌, length, get_or, set, take, replicate, Option, Some, None, MatchOption, bytes_eq, codes, refl, sym, ap, ◌∙◌, subst, arith}
+--   all_only, leads_along == where it has none, exactly one edge leads from each state, and it is told where
+use Rattle.std.proofs.Common.{ℕ, ◌≡◌, ◌≢◌, ◌==◌, ◌&&◌, ◌||◌, ◌<◌, ◌≤◌, ◌+◌, ◌⊎◌, inl, inr, Bool, true, false, not, nat_lt, if◌then◌else◌, List, [], ◌∷◌, ◌++◌, All, length, map, get_or, set, take, replicate, Option, Some, None, MatchOption, bytes_eq, codes, refl, sym, ap, ◌∙◌, subst, arith}
 use Rattle.std.specs.List.{list_any, position, position_or_len, slice_get}
 use Rattle.std.proofs.lemmas.Bool.{and_parts, cases_eq, cases_lt, cond-true, or_cases, or_left, or_right, false≢true, true≢false}
 use Rattle.std.proofs.lemmas.Bool.Decides.{Decides-eqb, nat_tests}
-use Rattle.std.proofs.lemmas.List.{get_or-set_same, get_or-set_other, get_or-replicate, length-replicate, length-set, take_more}
+use Rattle.std.proofs.lemmas.List.{get_or-set_same, get_or-set_other, get_or-map, get_or-replicate, length-map, length-replicate, length-set, take_more}
 use Rattle.std.proofs.lemmas.List.Elements.{All-get_or}
 use Rattle.std.proofs.lemmas.Option.{get_or_from_slice_get, slice_get_within}
 use Rattle.std.proofs.lemmas.List.Folds.{list_any-append}
@@ -19,11 +20,14 @@ use Rattle.std.proofs.lemmas.List.Sums.{fails_before_first}
 use Rattle.ml_base.specs.Structure.{Structure, IsStructure}
 use Rattle.ml_base.specs.declared.structure.Edge.{Edge}
 use Rattle.ml_lists.specs.Search.{IsFirst}
+use Rattle.ml_ctl.specs.Paths.{has_step}
 use Rattle.ml_word_graph.specs.Problem.{HasOneStep, IsFork}
 use Rattle.ml_word_graph.specs.Problem as word
+use Rattle.ml_word_graph.proofs.Words.{next_low, only_next}
 use Rattle.ml_word_check.specs.declared.steps.Steps.{Steps}
 use Rattle.ml_word_check.specs.declared.steps.Steps.TheVariants.{Nowhere, Only, Apart}
-use Rattle.ml_word_check.specs.private.Steps.{AllTell, Tells, goes, is_only, leaves, some_goes, with_edge, with_target}
+use Rattle.ml_word_check.specs.private.Steps.{AllTell, Tells, goes, is_only, leaves, some_goes, target_of, with_edge, with_target}
+use Rattle.ml_word_check.specs.private.Walked.{Leads}
 
 -- ---- gathered
 
@@ -221,3 +225,32 @@ module _ (m : Structure) (is : IsStructure m) (rows : List Steps) (all : AllTell
         before = λ t less fork.
             fork ((at_state t (omega (arith, less, low))).0 (not_false (is_only (get_or rows t Nowhere)) (at.2 t less)));
       }
+
+  -- where no state is a fork
+  module _ (none : position (λ x. not (is_only x)) rows ≡ None) where
+    pub all_only : All (λ x. is_only x ≡ true) rows
+    all_only k d low = not_false (is_only (get_or rows k d)) (none_passes_at (λ x. not (is_only x)) rows d none k low)
+
+    goes_there : (s : ℕ) (x : Steps) → Tells s m.edges x → is_only x ≡ true → has_step m s (target_of x) ≡ true
+    goes_there s Nowhere no_edge e = absurd (false≢true e)
+    goes_there s (Only t) only e = only.0
+    goes_there s Apart two e = absurd (false≢true e)
+
+    pub leads_along : (next : List ℕ) → next ≡ map target_of rows → Leads m next
+    leads_along next targets = record {
+      each_state = ap length targets ∙ length-map rows target_of ∙ all.each_state;
+      inside = λ s low. subst (λ t. t < m.states) (sym (only_next m ok s low (get_or next s 0) (leads s low))) (next_low m ok s low);
+      leads = leads;
+    }
+      where
+        ok : word.IsAdmitted m
+        ok = word_found None (sym none)
+
+        inside_rows : (s : ℕ) → s < m.states → s < length rows
+        inside_rows s low = omega (arith, low, all.each_state)
+
+        leads : (s : ℕ) → s < m.states → has_step m s (get_or next s 0) ≡ true
+        leads s low =
+            subst (λ t. has_step m s t ≡ true)
+            (sym (ap (λ xs. get_or xs s 0) targets ∙ get_or-map target_of rows s Nowhere 0 (inside_rows s low)))
+            (goes_there s (get_or rows s Nowhere) (all.tell s low) (all_only s Nowhere (inside_rows s low)))

@@ -1,22 +1,29 @@
-use Rattle.std.proofs.Common.{rules, ℕ, ◌≡◌, ◌<◌, ◌↔◌, true, All, map, IfOk, OnOk, IsErrOf, IsTrue, ◌+◌, ◌-◌, ◌*◌, ◌≤◌, length, ◌/◌, ◌%◌, Bool, false, nat_eq, nat_lt, List, [], ◌∷◌, ◌++◌, slice_index_or, slice_set, bit_and, bit_or, Fits, w8, w32, w64, Bor, MutBor}
-use Rattle.ml_lists.specs.Search.{IsFirst}
-use Rattle.ml_word_graph.specs.Problem.{HoldsAt, IsAdmitted, IsFork}
+use Rattle.std.proofs.Common.{◌≡◌, ◌∙◌, ℕ, All, None, map, not, true, ap, subst, sym}
+use Rattle.std.specs.List.{position}
 use Rattle.ml_word_check.specs.private.Steps.{is_only, target_of}
-use Rattle.ml_word_check.specs.private.Walked.{Leads}
+use Rattle.ml_word_check.proofs.EdgesGathered.{all_only, leads_along, word_found}
 use Rattle.ml_word_check.proofs.holding.next_states.Goals as goal
 
--- src/holding.rt:37:1
 pub returns-in-Some-clause-fork : goal.returns-in-Some-clause-fork
-returns-in-Some-clause-fork c = ?
+returns-in-Some-clause-fork c = λ s is. ?
 
--- src/holding.rt:42:20
 pub targets-requires : goal.targets-requires
-targets-requires c = ?
+targets-requires c =
+    let value = c.as_slice.ensures.value in
+    let none : position (λ x. not (is_only x)) c.in_ok-steps.steps.items ≡ None =
+    ap (position (λ x. not (is_only x))) (sym value) ∙ sym c.first_fork.ensures ∙ c.in-None.is in
+    subst (λ rows. All (λ x. is_only x ≡ true) rows) (sym c.as_slice-in-None.ensures.value)
+    (all_only c.args.structure.now c.states-states.ensures.is_structure c.in_ok-steps.steps.items c.in_ok-steps.ensures none)
 
--- src/holding.rt:33:1
 pub returns-clause-leads : goal.returns-clause-leads
-returns-clause-leads c = ?
+returns-clause-leads c =
+    let value = c.as_slice.ensures.value in
+    let none : position (λ x. not (is_only x)) c.in_ok-steps.steps.items ≡ None =
+    ap (position (λ x. not (is_only x))) (sym value) ∙ sym c.first_fork.ensures ∙ c.in-None.is in
+    leads_along c.args.structure.now c.states-states.ensures.is_structure c.in_ok-steps.steps.items c.in_ok-steps.ensures none
+    _ (c.in_ok-targets-in-None.ensures ∙ ap (map target_of) c.as_slice-in-None.ensures.value)
 
--- src/holding.rt:33:1
 pub returns-clause-admitted : goal.returns-clause-admitted
-returns-clause-admitted c = ?
+returns-clause-admitted c =
+    word_found c.args.structure.now c.states-states.ensures.is_structure c.in_ok-steps.steps.items c.in_ok-steps.ensures None
+    (sym c.in-None.is ∙ c.first_fork.ensures ∙ ap (position (λ x. not (is_only x))) c.as_slice.ensures.value)
