@@ -9,9 +9,9 @@ use Rattle.ml_word_check.proofs.truths.along.Goals as goal
 -- src/truths.rt:79:1
 pub returns-in_ok-always-in-Finally-clause-values :
     goal.returns-in_ok-always-in-Finally-clause-values
-returns-in_ok-always-in-Finally-clause-values c = ?
+returns-in_ok-always-in-Finally-clause-values c = let h = c.in_ok-always-in-Finally.ensures in let k = c.in_ok-always-in-Finally.ensures.items_if_clones_equal in ?
 
 -- src/truths.rt:79:1
 pub returns-in_ok-never-in-Globally-clause-values :
     goal.returns-in_ok-never-in-Globally-clause-values
-returns-in_ok-never-in-Globally-clause-values c = ?
+returns-in_ok-never-in-Globally-clause-values c = let h = c.in_ok-never-in-Globally.ensures in let k = c.in_ok-never-in-Globally.ensures.items_if_clones_equal in ?
