@@ -1,8 +1,10 @@
 -- Values that are changed one after the other, from the first one on or from the last one back.
 --
---   none_changed, one_changed, all_changed == from the first one on
---   none_back, one_back, all_back          == from the last one back
-use Rattle.std.proofs.Common.{ℕ, ◌≡◌, ◌+◌, ◌<◌, ◌≤◌, ◌⊎◌, inl, inr, Bool, false, List, length, set, get_or, refl, sym, ap, ◌∙◌, arith}
+--   none_changed, one_changed              == from the first one on
+--   none_back, one_back                    == from the last one back
+--   written                                == what a list holds whose items were all changed
+use Rattle.std.proofs.Common.{ℕ, ◌≡◌, ◌+◌, ◌<◌, ◌≤◌, ◌⊎◌, inl, inr, Bool, false, List, ◌++◌, length, set, take, get_or, refl, sym, ap, ◌∙◌, arith}
+use Rattle.std.proofs.Math.Seq.{take-append_seam}
 use Rattle.std.proofs.lemmas.Bool.{cases_eq}
 use Rattle.std.proofs.lemmas.List.{get_or-set_other, get_or-set_same, length-set}
 use Rattle.ml_word_check.specs.private.Truths.{ChangedBack, ChangedTo, at}
@@ -47,3 +49,7 @@ module _ (h : ℕ → Bool) (old : List Bool) where
           ap (at (set new p b)) same ∙ get_or-set_same new p b false (omega (arith, place, c.long)) ∙ is ∙ ap h (sym same)
       done_at i low past (inr other) =
           get_or-set_other new p i b false other ∙ c.done i low (omega (arith, past, place, other))
+
+-- a list's items that were all changed
+pub written : (n : ℕ) (new rest : List Bool) → n ≡ length new → take n (new ++ rest) ≡ new
+written n new rest is = ap (λ k. take k (new ++ rest)) is ∙ take-append_seam new rest

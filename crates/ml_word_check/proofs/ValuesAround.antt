@@ -5,14 +5,17 @@
 --   unknown_there    == and where it isn't, that at the next place is
 --   none_left        == behind all places it is the one of no place
 --   none_computed, place_back == the values computed back begin, and go on by one place
-use Rattle.std.proofs.Common.{ℕ, suc, ◌≡◌, ◌-◌, ◌+◌, ◌<◌, ◌≤◌, ◌⊎◌, inl, inr, Bool, true, false, List, length, set, ltb, sym, ap, ◌∙◌, subst, arith}
+--   constant_left, weak_is == what is computed for F, G and W
+use Rattle.std.proofs.Common.{ℕ, suc, ◌≡◌, ◌-◌, ◌+◌, ◌<◌, ◌≤◌, ◌||◌, ◌⊎◌, inl, inr, Bool, true, false, List, length, replicate, set, ltb, refl, sym, ap, ◌∙◌, subst, arith}
 use Rattle.std.specs.Bool.{beq}
 use Rattle.std.specs.Cmp.{booleans_Decides}
 use Rattle.std.proofs.lemmas.Bool.{cases_lt, cond-true, cond-false, lt-ltb, le-ltb, true≢false}
+use Rattle.std.proofs.lemmas.List.{get_or-replicate}
 use Rattle.ml_word_check.specs.declared.cycles.Cycle.{Cycle}
+use Rattle.ml_word_check.specs.declared.cycles.Cycle.TheVariants.{Release}
 use Rattle.ml_word_check.specs.private.Truths.{ChangedBack, at, base, cycles, next_in, step}
 use Rattle.ml_word_check.proofs.Changes.{none_back, one_back}
-use Rattle.ml_word_check.proofs.TruthValues.{known, unknown}
+use Rattle.ml_word_check.proofs.TruthValues.{known, same_cycles, unknown}
 use Rattle.ml_word_check.proofs.TruthValues as truths
 
 -- ---- places
@@ -92,3 +95,30 @@ module _ (c : Cycle) (start : ℕ) (f old : List Bool) (starts : start < length 
           ∙ ap (step c (at f p) (at old p)) (b.next_value p place)
           ∙ sym (truths.one_more (next_in (length old) start) (at f) (at old) (length old) (next_low (length old) start starts) p
           (omega (arith, place)) c)
+
+-- ---- operators of formulas
+
+-- an operand that is one value at all places
+pub constant_left : (c : Cycle) (b : Bool) (f g : List Bool) (n start : ℕ)
+    → start < n
+    → f ≡ replicate n b
+    → (i : ℕ)
+    → i < n
+    → cycles c (next_in n start) (at f) (at g) n i ≡ cycles c (next_in n start) (λ j. b) (at g) n i
+constant_left c b f g n start starts is i low =
+    same_cycles c (next_in n start) (at f) (at g) (λ j. b) (at g) n (next_low n start starts)
+    (λ j under. ap (λ xs. at xs j) is ∙ get_or-replicate n j b false under) (λ j under. refl) n i low
+
+-- W as R, whose operands are the right one and either of them
+pub weak_is : (f g either new : List Bool) (n start : ℕ)
+    → start < n
+    → length either ≡ n
+    → ((i : ℕ) → i < n → at either i ≡ (at f i || at g i))
+    → ((i : ℕ) → i < length either → at new i ≡ cycles Release (next_in (length either) start) (at g) (at either) (length either) i)
+    → (i : ℕ)
+    → i < n
+    → at new i ≡ cycles Release (next_in n start) (at g) (λ j. at f j || at g j) n i
+weak_is f g either new n start starts long joined values i low =
+    subst (λ k. at new i ≡ cycles Release (next_in k start) (at g) (at either) k i) long (values i (omega (arith, low, long)))
+    ∙ same_cycles Release (next_in n start) (at g) (at either) (at g) (λ j. at f j || at g j) n (next_low n start starts)
+    (λ j under. refl) joined n i low
