@@ -9,7 +9,7 @@
 --   all_only, leads_along == where it has none, exactly one edge leads from each state, and it is told where
 use Rattle.std.proofs.Common.{ℕ, ◌≡◌, ◌≢◌, ◌==◌, ◌&&◌, ◌||◌, ◌<◌, ◌≤◌, ◌+◌, ◌⊎◌, inl, inr, Bool, true, false, not, nat_lt, if◌then◌else◌, List, [], ◌∷◌, ◌++◌, All, length, map, get_or, set, take, replicate, Option, Some, None, MatchOption, bytes_eq, codes, refl, sym, ap, ◌∙◌, subst, arith}
 use Rattle.std.specs.List.{list_any, position, position_or_len, slice_get}
-use Rattle.std.proofs.lemmas.Bool.{and_parts, cases_eq, cases_lt, cond-true, or_cases, or_left, or_right, false≢true, true≢false}
+use Rattle.std.proofs.lemmas.Bool.{and_parts, cases_eq, cases_lt, cond-true, or_cases, or_left, or_right, false≢true, not-true, true≢false}
 use Rattle.std.proofs.lemmas.Bool.Decides.{Decides-eqb, nat_tests}
 use Rattle.std.proofs.lemmas.List.{get_or-set_same, get_or-set_other, get_or-map, get_or-replicate, length-map, length-replicate, length-set, take_more}
 use Rattle.std.proofs.lemmas.List.Elements.{All-get_or}
@@ -202,10 +202,6 @@ module _ (m : Structure) (is : IsStructure m) (rows : List Steps) (all : AllTell
   not_false true e = refl
   not_false false e = absurd (true≢false e)
 
-  not_true : (b : Bool) → not b ≡ true → b ≡ false
-  not_true true e = absurd (false≢true e)
-  not_true false e = refl
-
   pub word_found : (found : Option ℕ)
       → found ≡ position (λ x. not (is_only x)) rows
       → MatchOption found (word.IsAdmitted m) (IsFirst (IsFork m) m.states)
@@ -221,7 +217,7 @@ module _ (m : Structure) (is : IsStructure m) (rows : List Steps) (all : AllTell
       let low : s < m.states = omega (arith, at.0, all.each_state) in
       record {
         below = low;
-        holds = (at_state s low).1 (not_true (is_only (get_or rows s Nowhere)) at.1);
+        holds = (at_state s low).1 (not-true (is_only (get_or rows s Nowhere)) at.1);
         before = λ t less fork.
             fork ((at_state t (omega (arith, less, low))).0 (not_false (is_only (get_or rows t Nowhere)) (at.2 t less)));
       }

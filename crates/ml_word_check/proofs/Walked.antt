@@ -28,18 +28,17 @@ none_walked next s low = record {
   steps = λ i less. absurd (omega (arith, less));
   last = λ i is. absurd (omega (arith, is));
   stand = λ i less. absurd (omega (arith, less));
-  found = λ t i is. absurd (nowhere t i is (cases_lt t (length next)));
+  found = λ t i is. absurd (differ (get_or (replicate (length next) None) t None) i (is_none t (cases_lt t (length next))) is);
 }
   where
-    nowhere : (t i : ℕ) → get_or (replicate (length next) None) t None ≡ Some i → (t < length next) ⊎ (length next ≤ t) → ⊥
-    nowhere t i is (inl low) =
-        let none : get_or (replicate (length next) None) t None ≡ None = get_or-replicate (length next) t None None low in
-        let wrong = sym none ∙ is in
-        absurd (cc)
-    nowhere t i is (inr past) =
-        let none : get_or (replicate (length next) None) t None ≡ None = get_or_past (replicate (length next) None) t None (omega (arith, past, length-replicate {A = Option ℕ} (length next) None)) in
-        let wrong = sym none ∙ is in
-        absurd (cc)
+    differ : (p : Option ℕ) (i : ℕ) → p ≡ None → p ≡ Some i → ⊥
+    differ p i none some = absurd (cc)
+
+    -- no state has a place yet, nor has what is no state
+    is_none : (t : ℕ) → (t < length next) ⊎ (length next ≤ t) → get_or {A = Option ℕ} (replicate (length next) None) t None ≡ None
+    is_none t (inl low) = get_or-replicate (length next) t None None low
+    is_none t (inr past) =
+        get_or_past (replicate (length next) None) t None (omega (arith, past, length-replicate {A = Option ℕ} (length next) None))
 
 module _ (next : List ℕ) (s : ℕ) (xs : List ℕ) (at : ℕ) (places : List (Option ℕ)) (w : IsWalked next s xs at places)
     (closed : (t : ℕ) → t < length next → get_or next t 0 < length next)
