@@ -4,14 +4,13 @@
 --   one_more        == among n places, a place more makes no difference
 --   same_cycles     == nor do values past the places
 --   const_truths, prop_truths, not_truths, binary_truths, tense_truths, paired_truths == of each formula
-use Rattle.std.proofs.Common.{ℕ, zero, suc, ◌≡◌, ◌<◌, ◌&&◌, ◌||◌, Bool, true, false, not, List, length, map, get_or, replicate, refl, sym, ap, ◌∙◌, subst, arith}
+use Rattle.std.proofs.Common.{ℕ, zero, suc, ◌≡◌, ◌<◌, ◌&&◌, ◌||◌, Bool, true, false, not, List, length, map, replicate, refl, sym, ap, ◌∙◌, subst, arith}
 use Rattle.std.proofs.lemmas.List.{get_or-map, get_or-replicate, length-map, length-replicate}
 use Rattle.ml_base.specs.Structure.{Structure, lists}
-use Rattle.ml_lists.specs.Lasso.{Lasso, entry, next_place}
+use Rattle.ml_lists.specs.Lasso.{Lasso, next_place}
 use Rattle.ml_lists.proofs.Unrolling.{next_place_low}
 use Rattle.ml_text.specs.declared.token.Operator.{Operator}
 use Rattle.ml_ctl.specs.Formula.{Formula, Const, Prop, Not, Binary, Temporal, Paired, Quantified}
-use Rattle.ml_ctl.specs.Meaning.{iterate_of, until_step, release_step}
 use Rattle.ml_ctl.specs.Paths.{places}
 use Rattle.ml_ctl.specs.declared.term.Tense.{Tense}
 use Rattle.ml_ctl.specs.declared.term.Tense.TheVariants as tense
@@ -22,7 +21,7 @@ use Rattle.ml_ctl.proofs.Iterated.{until_steps, release_steps}
 use Rattle.ml_word_graph.proofs.Values.{Says, connective_value, equal_values, pairing_value, releases, releases_say, tense_value, truth, untils, untils_say}
 use Rattle.ml_word_check.specs.declared.cycles.Cycle.{Cycle}
 use Rattle.ml_word_check.specs.declared.cycles.Cycle.TheVariants.{Until, Release}
-use Rattle.ml_word_check.specs.private.Truths.{AreTruths, at, base, cycles, next_in, paired_in, step, tense_in}
+use Rattle.ml_word_check.specs.private.Truths.{AreTruths, at, cycles, paired_in, step, tense_in}
 
 -- ---- cycles
 

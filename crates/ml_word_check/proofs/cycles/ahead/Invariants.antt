@@ -6,5 +6,5 @@ abbrev pub invariant-loop-looked : goal.invariant-loop-looked
 invariant-loop-looked l = record {
   inside : l.here < length l.right;
   same_value : cycles l.cycle (next_in (length l.right) l.start) (at l.left) (at l.right) (length l.right) l.place
-      ≡ cycles l.cycle (next_in (length l.right) l.start) (at l.left) (at l.right) (length l.right - l._looked) l.here
+      ≡ cycles l.cycle (next_in (length l.right) l.start) (at l.left) (at l.right) (length l.right - l._looked) l.here;
 }

@@ -1,4 +1,3 @@
-use Rattle.std.proofs.Common.{rules}
 use Rattle.ml_word_check.proofs.EdgesGathered.{edge_more}
 use Rattle.ml_word_check.proofs.steps.steps_of.Goals as goal
 

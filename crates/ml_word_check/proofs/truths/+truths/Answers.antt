@@ -1,4 +1,4 @@
-use Rattle.std.proofs.Common.{◌≡◌, ◌∙◌, Bool, List, ap, arith, length, subst, sym}
+use Rattle.std.proofs.Common.{◌≡◌, Bool, List, ap, arith, length, subst, sym}
 use Rattle.ml_ctl.specs.Term.{formula_of}
 use Rattle.ml_ctl.specs.declared.term.Term.{Term}
 use Rattle.ml_word_check.specs.private.Truths.{AreTruths}

@@ -1,4 +1,4 @@
-use Rattle.std.proofs.Common.{◌≡◌, ◌<◌, Option, None, Some, All, get_or, length, set, arith}
+use Rattle.std.proofs.Common.{◌<◌, Some, length, set, arith}
 use Rattle.std.proofs.lemmas.List.Elements.{All-get_or}
 use Rattle.ml_word_check.specs.private.Walked.{nones}
 use Rattle.ml_word_check.proofs.Walked.{comes_again, fewer_nones, none_read, one_more, some_read}
