@@ -57,7 +57,8 @@ module _ (s : ℕ) (es : List Edge) (e : Edge) where
       last (inl is) = is
       last (inr wrong) = absurd (false≢true wrong)
 
-      by_case : (some_goes s es t ≡ true) ⊎ ((goes s t e || false) ≡ true) → (some_goes s es t ≡ true) ⊎ (goes s t e ≡ true)
+      by_case : (some_goes s es t ≡ true) ⊎ ((goes s t e || false) ≡ true)
+          → (some_goes s es t ≡ true) ⊎ (goes s t e ≡ true)
       by_case (inl is) = inl is
       by_case (inr is) = inr (last (or_cases (goes s t e) false is))
 
@@ -122,7 +123,9 @@ module _ (n : ℕ) (es : List Edge) (e : Edge) (rows : List Steps) (inside : e.s
   abbrev row : Steps
   row = with_target (get_or rows e.source Nowhere) e.target
 
-  by_blank : (b : Bool) → bytes_eq e.action (codes "_") ≡ b → AllTell n (es ++ e ∷ []) (if b then set rows e.source row else rows)
+  by_blank : (b : Bool)
+      → bytes_eq e.action (codes "_") ≡ b
+      → AllTell n (es ++ e ∷ []) (if b then set rows e.source row else rows)
   by_blank false other = record {
     each_state = all.each_state;
     tell = λ s low. kept s es e (away s) (get_or rows s Nowhere) (all.tell s low);
@@ -139,7 +142,8 @@ module _ (n : ℕ) (es : List Edge) (e : Edge) (rows : List Steps) (inside : e.s
       at_state : (s : ℕ) → s < n → Tells s (es ++ e ∷ []) (get_or (set rows e.source row) s Nowhere)
       at_state s low = by_case (cases_eq s e.source)
         where
-          by_case : (s ≡ e.source) ⊎ (s ≡ e.source → ⊥) → Tells s (es ++ e ∷ []) (get_or (set rows e.source row) s Nowhere)
+          by_case : (s ≡ e.source) ⊎ (s ≡ e.source → ⊥)
+              → Tells s (es ++ e ∷ []) (get_or (set rows e.source row) s Nowhere)
           by_case (inl same) =
               subst (λ k. Tells k (es ++ e ∷ []) (get_or (set rows e.source row) k Nowhere)) (sym same)
               (subst (Tells e.source (es ++ e ∷ []))
@@ -176,7 +180,11 @@ edge_more m is i e rows new at all with =
 -- ---- words
 
 -- where none passes, each place fails
-none_passes_at : {X : Type 0} (p : X → Bool) (xs : List X) (d : X) → position p xs ≡ None → (k : ℕ) → k < length xs → p (get_or xs k d) ≡ false
+none_passes_at : {X : Type 0} (p : X → Bool) (xs : List X) (d : X)
+    → position p xs ≡ None
+    → (k : ℕ)
+    → k < length xs
+    → p (get_or xs k d) ≡ false
 none_passes_at p xs d none k low = fails_before_first p xs k d (by_case (cases_lt (position_or_len p xs) (length xs)))
   where
     by_case : (position_or_len p xs < length xs) ⊎ (length xs ≤ position_or_len p xs) → k < position_or_len p xs
@@ -187,7 +195,9 @@ none_passes_at p xs d none k low = fails_before_first p xs k d (by_case (cases_l
         absurd (cc)
 
 module _ (m : Structure) (is : IsStructure m) (rows : List Steps) (all : AllTell m.states m.edges rows) where
-  one_or_fork : (s : ℕ) (x : Steps) → Tells s m.edges x → ((is_only x ≡ true) → HasOneStep m s) × ((is_only x ≡ false) → IsFork m s)
+  one_or_fork : (s : ℕ) (x : Steps)
+      → Tells s m.edges x
+      → ((is_only x ≡ true) → HasOneStep m s) × ((is_only x ≡ false) → IsFork m s)
   one_or_fork s Nowhere none =
       ((λ e. absurd (false≢true e)), λ e one. true≢false (sym one.leads ∙ none one.target))
   one_or_fork s (Only t) only = ((λ e. record { target = t; leads = only.0; only = only.1 }), λ e. absurd (true≢false e))
@@ -235,7 +245,8 @@ module _ (m : Structure) (is : IsStructure m) (rows : List Steps) (all : AllTell
     pub leads_along : (next : List ℕ) → next ≡ map target_of rows → Leads m next
     leads_along next targets = record {
       each_state = ap length targets ∙ length-map rows target_of ∙ all.each_state;
-      inside = λ s low. subst (λ t. t < m.states) (sym (only_next m ok s low (get_or next s 0) (leads s low))) (next_low m ok s low);
+      inside = λ s low.
+          subst (λ t. t < m.states) (sym (only_next m ok s low (get_or next s 0) (leads s low))) (next_low m ok s low);
       leads = leads;
     }
       where

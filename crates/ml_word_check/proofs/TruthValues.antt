@@ -103,7 +103,9 @@ module _ (m : Structure) (l : Lasso) (starts : l.start < places l) where
     are = λ i low. ap (λ gs. at gs i) is ∙ get_or-replicate (places l) i b false low;
   }
 
-  pub quantified_truths : (q : Quantifier) (f : Formula) (fs : List Bool) → fs ≡ replicate (places l) false → AreTruths m l (Quantified q f) fs
+  pub quantified_truths : (q : Quantifier) (f : Formula) (fs : List Bool)
+      → fs ≡ replicate (places l) false
+      → AreTruths m l (Quantified q f) fs
   quantified_truths q f fs is = record {
     each_place = ap length is ∙ length-replicate (places l) false;
     are = λ i low. ap (λ gs. at gs i) is ∙ get_or-replicate (places l) i false false low;
@@ -141,14 +143,16 @@ module _ (m : Structure) (l : Lasso) (starts : l.start < places l) where
         → i < places l
         → paired_in p (places l) l.start (at fs) (at gs) i ≡ pairing_value p l (truth m l f) (truth m l g) i
     paired_is pairing.Until i low =
-        same_cycles Until (next_place l) (at fs) (at gs) (truth m l f) (truth m l g) (places l) closed x.are y.are (places l) i low
+        same_cycles Until (next_place l) (at fs) (at gs) (truth m l f) (truth m l g) (places l) closed x.are y.are
+        (places l) i low
         ∙ untils_are (next_place l) (truth m l f) (truth m l g) (places l) i
     paired_is pairing.Release i low =
-        same_cycles Release (next_place l) (at fs) (at gs) (truth m l f) (truth m l g) (places l) closed x.are y.are (places l) i low
+        same_cycles Release (next_place l) (at fs) (at gs) (truth m l f) (truth m l g) (places l) closed x.are y.are
+        (places l) i low
         ∙ releases_are (next_place l) (truth m l f) (truth m l g) (places l) i
     paired_is pairing.Weak i low =
-        same_cycles Release (next_place l) (at gs) (λ j. at fs j || at gs j) (truth m l g) (λ j. truth m l f j || truth m l g j)
-        (places l) closed y.are (λ j under t. x.are j under t || y.are j under t) (places l) i low
+        same_cycles Release (next_place l) (at gs) (λ j. at fs j || at gs j) (truth m l g)
+        (λ j. truth m l f j || truth m l g j) (places l) closed y.are (λ j under t. x.are j under t || y.are j under t) (places l) i low
         ∙ releases_are (next_place l) (truth m l g) (λ j. truth m l f j || truth m l g j) (places l) i
 
     pub paired_truths : (p : Pairing) (rs : List Bool)
@@ -164,15 +168,17 @@ module _ (m : Structure) (l : Lasso) (starts : l.start < places l) where
     }
 
   module _ (g : Formula) (gs : List Bool) (y : AreTruths m l g gs) where
-    tense_is : (t : Tense) (i : ℕ) → i < places l → tense_in t (places l) l.start (at gs) i ≡ tense_value t l (truth m l g) i
+    tense_is : (t : Tense) (i : ℕ)
+        → i < places l
+        → tense_in t (places l) l.start (at gs) i ≡ tense_value t l (truth m l g) i
     tense_is tense.Next i low = y.are (next_place l i) (closed i low)
     tense_is tense.Finally i low =
-        same_cycles Until (next_place l) (λ j. true) (at gs) (λ j. true) (truth m l g) (places l) closed (λ j under. refl) y.are
-        (places l) i low
+        same_cycles Until (next_place l) (λ j. true) (at gs) (λ j. true) (truth m l g) (places l) closed
+        (λ j under. refl) y.are (places l) i low
         ∙ untils_are (next_place l) (λ j. true) (truth m l g) (places l) i
     tense_is tense.Globally i low =
-        same_cycles Release (next_place l) (λ j. false) (at gs) (λ j. false) (truth m l g) (places l) closed (λ j under. refl) y.are
-        (places l) i low
+        same_cycles Release (next_place l) (λ j. false) (at gs) (λ j. false) (truth m l g) (places l) closed
+        (λ j under. refl) y.are (places l) i low
         ∙ releases_are (next_place l) (λ j. false) (truth m l g) (places l) i
 
     pub tense_truths : (t : Tense) (rs : List Bool)

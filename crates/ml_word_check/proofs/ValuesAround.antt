@@ -35,7 +35,8 @@ next_low n start starts i low = by_case (cases_lt (suc i) n)
 
 -- ---- looked up ahead
 
-module _ (c : Cycle) (next : ℕ → ℕ) (f g : ℕ → Bool) (x : Bool) (n looked i : ℕ) (is : x ≡ cycles c next f g (n - looked) i) where
+module _ (c : Cycle) (next : ℕ → ℕ) (f g : ℕ → Bool) (x : Bool) (n looked i : ℕ)
+    (is : x ≡ cycles c next f g (n - looked) i) where
   pub none_left : n ≤ looked → base c ≡ x
   none_left past = let none : n - looked ≡ 0 = omega arith in sym (is ∙ ap (λ k. cycles c next f g k i) none)
 
@@ -93,8 +94,8 @@ module _ (c : Cycle) (start : ℕ) (f old : List Bool) (starts : start < length 
           is
           ∙ ap (λ x. step c (at f p) x later) (b.changed.rest p (omega (arith, place)))
           ∙ ap (step c (at f p) (at old p)) (b.next_value p place)
-          ∙ sym (truths.one_more (next_in (length old) start) (at f) (at old) (length old) (next_low (length old) start starts) p
-          (omega (arith, place)) c)
+          ∙ sym (truths.one_more (next_in (length old) start) (at f) (at old) (length old)
+          (next_low (length old) start starts) p (omega (arith, place)) c)
 
 -- ---- operators of formulas
 
@@ -114,11 +115,13 @@ pub weak_is : (f g either new : List Bool) (n start : ℕ)
     → start < n
     → length either ≡ n
     → ((i : ℕ) → i < n → at either i ≡ (at f i || at g i))
-    → ((i : ℕ) → i < length either → at new i ≡ cycles Release (next_in (length either) start) (at g) (at either) (length either) i)
+    → ((i : ℕ) → i < length either
+    → at new i ≡ cycles Release (next_in (length either) start) (at g) (at either) (length either) i)
     → (i : ℕ)
     → i < n
     → at new i ≡ cycles Release (next_in n start) (at g) (λ j. at f j || at g j) n i
 weak_is f g either new n start starts long joined values i low =
-    subst (λ k. at new i ≡ cycles Release (next_in k start) (at g) (at either) k i) long (values i (omega (arith, low, long)))
+    subst (λ k. at new i ≡ cycles Release (next_in k start) (at g) (at either) k i) long
+    (values i (omega (arith, low, long)))
     ∙ same_cycles Release (next_in n start) (at g) (at either) (at g) (λ j. at f j || at g j) n (next_low n start starts)
     (λ j under. refl) joined n i low

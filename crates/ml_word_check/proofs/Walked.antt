@@ -26,17 +26,20 @@ none_walked next s low = record {
   steps = λ i less. absurd (omega (arith, less));
   last = λ i is. absurd (omega (arith, is));
   stand = λ i less. absurd (omega (arith, less));
-  found = λ t i is. absurd (differ (get_or (replicate (length next) None) t None) i (is_none t (cases_lt t (length next))) is);
+  found = λ t i is.
+      absurd (differ (get_or (replicate (length next) None) t None) i (is_none t (cases_lt t (length next))) is);
 }
   where
     differ : (p : Option ℕ) (i : ℕ) → p ≡ None → p ≡ Some i → ⊥
     differ p i none some = absurd (cc)
 
     -- no state has a place yet, nor has what is no state
-    is_none : (t : ℕ) → (t < length next) ⊎ (length next ≤ t) → get_or {A = Option ℕ} (replicate (length next) None) t None ≡ None
+    is_none : (t : ℕ) → (t < length next) ⊎ (length next ≤ t)
+        → get_or {A = Option ℕ} (replicate (length next) None) t None ≡ None
     is_none t (inl low) = get_or-replicate (length next) t None None low
     is_none t (inr past) =
-        get_or_past (replicate (length next) None) t None (omega (arith, past, length-replicate {A = Option ℕ} (length next) None))
+        get_or_past (replicate (length next) None) t None
+        (omega (arith, past, length-replicate {A = Option ℕ} (length next) None))
 
 module _ (next : List ℕ) (s : ℕ) (xs : List ℕ) (at : ℕ) (places : List (Option ℕ)) (w : IsWalked next s xs at places)
     (closed : (t : ℕ) → t < length next → get_or next t 0 < length next)
@@ -118,7 +121,8 @@ module _ (next : List ℕ) (s : ℕ) (xs : List ℕ) (at : ℕ) (places : List (
           → get_or ys (i + 1) 0 ≡ get_or next (get_or ys i 0) 0
       step_at i low (inl is) = at_end (i + 1) is ∙ w.last i is ∙ ap (λ t. get_or next t 0) (sym (old i low))
       step_at i low (inr other) =
-          old (i + 1) (omega (arith, low, other)) ∙ w.steps i (omega (arith, low, other)) ∙ ap (λ t. get_or next t 0) (sym (old i low))
+          let inner : i + 1 < length xs = omega (arith, low, other) in
+          old (i + 1) inner ∙ w.steps i inner ∙ ap (λ t. get_or next t 0) (sym (old i low))
 
   -- as the program writes it
   pub one_more : (zs : List ℕ) (count : ℕ)
@@ -201,4 +205,7 @@ is_word m next s xs start leads w = record {
         subst (λ t. has_step m t (get_or (xs ++ get_or xs start 0 ∷ []) (k + 1) 0) ≡ true)
         (sym (round-entry (lasso_from xs start) k low))
         (subst (λ t. has_step m (get_or xs k 0) t ≡ true)
-        (sym (round-entry (lasso_from xs start) (k + 1) (omega (arith, low, other)) ∙ w.steps k (omega (arith, low, other)))) (goes k low))
+        (sym (round-entry (lasso_from xs start) (k + 1) inner ∙ w.steps k inner)) (goes k low))
+      where
+        inner : k + 1 < length xs
+        inner = omega (arith, low, other)

@@ -9,8 +9,8 @@ loop-behind-init c =
 
 pub loop-behind-preserved : goal.loop-behind-preserved
 loop-behind-preserved c =
-    place_back c.args.cycle c.args.start c.args.left.now c.args.right.now c.requires.start c.loop-behind.right c.loop-behind.later
-    c.loop-behind.behind (length c.loop-behind.right - 1 - c.loop-behind.behind) c.step-later.result
+    place_back c.args.cycle c.args.start c.args.left.now c.args.right.now c.requires.start c.loop-behind.right
+    c.loop-behind.later c.loop-behind.behind (length c.loop-behind.right - 1 - c.loop-behind.behind) c.step-later.result
     c.loop-behind.invariant (omega arith) c.step-later.ensures
 
 pub returns-clause-each_place : goal.returns-clause-each_place

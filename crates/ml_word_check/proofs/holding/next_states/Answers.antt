@@ -31,10 +31,10 @@ returns-clause-leads c =
     let value = c.as_slice.ensures.value in
     let none : position (λ x. not (is_only x)) c.in_ok-steps.steps.items ≡ None =
     ap (position (λ x. not (is_only x))) (sym value) ∙ sym c.first_fork.ensures ∙ c.in-None.is in
-    leads_along c.args.structure.now c.states-states.ensures.is_structure c.in_ok-steps.steps.items c.in_ok-steps.ensures none
-    _ (c.in_ok-targets-in-None.ensures ∙ ap (map target_of) c.as_slice-in-None.ensures.value)
+    leads_along c.args.structure.now c.states-states.ensures.is_structure c.in_ok-steps.steps.items c.in_ok-steps.ensures
+    none _ (c.in_ok-targets-in-None.ensures ∙ ap (map target_of) c.as_slice-in-None.ensures.value)
 
 pub returns-clause-admitted : goal.returns-clause-admitted
 returns-clause-admitted c =
-    word_found c.args.structure.now c.states-states.ensures.is_structure c.in_ok-steps.steps.items c.in_ok-steps.ensures None
-    (sym c.in-None.is ∙ c.first_fork.ensures ∙ ap (position (λ x. not (is_only x))) c.as_slice.ensures.value)
+    word_found c.args.structure.now c.states-states.ensures.is_structure c.in_ok-steps.steps.items c.in_ok-steps.ensures
+    None (sym c.in-None.is ∙ c.first_fork.ensures ∙ ap (position (λ x. not (is_only x))) c.as_slice.ensures.value)

@@ -7,7 +7,8 @@ use Rattle.ml_word_check.proofs.truths.along.Goals as goal
 pub returns-in_ok-always-in-Finally-clause-values : goal.returns-in_ok-always-in-Finally-clause-values
 returns-in_ok-always-in-Finally-clause-values c =
     let old = c.args.truths.now in
-    subst (λ t. (i : ℕ) → i < length old → at c.around.new.right i ≡ tense_in t (length old) c.args.start (at old) i)
+    subst
+    (λ t. (i : ℕ) → i < length old → at c.around.new.right i ≡ tense_in t (length old) c.args.start (at old) i)
     (sym c.in-Finally.is)
     (λ i low.
     c.around.ensures.values i low
@@ -17,7 +18,9 @@ returns-in_ok-always-in-Finally-clause-values c =
 pub returns-in_ok-never-in-Globally-clause-values : goal.returns-in_ok-never-in-Globally-clause-values
 returns-in_ok-never-in-Globally-clause-values c =
     let old = c.args.truths.now in
-    subst (λ t. (i : ℕ) → i < length old → at c.around-in-Globally.new.right i ≡ tense_in t (length old) c.args.start (at old) i)
+    subst
+    (λ t. (i : ℕ) → i < length old
+    → at c.around-in-Globally.new.right i ≡ tense_in t (length old) c.args.start (at old) i)
     (sym c.in-Globally.is)
     (λ i low.
     c.around-in-Globally.ensures.values i low
