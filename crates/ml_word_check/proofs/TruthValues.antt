@@ -3,7 +3,8 @@
 --   untils_are, releases_are == cycles are what the meaning of U and R computes
 --   one_more        == among n places, a place more makes no difference
 --   same_cycles     == nor do values past the places
---   const_truths, prop_truths, not_truths, binary_truths, tense_truths, paired_truths == of each formula
+--   known, unknown  == where the value at a place is known without the next one, and where it is that of the next one
+--   tense_truths, paired_truths == the truth of a temporal formula, from its operands'
 use Rattle.std.proofs.Common.{ℕ, zero, suc, ◌≡◌, ◌<◌, ◌&&◌, ◌||◌, Bool, true, false, not, List, length, map, replicate, refl, sym, ap, ◌∙◌, subst, arith}
 use Rattle.std.proofs.lemmas.List.{get_or-map, get_or-replicate, length-map, length-replicate}
 use Rattle.ml_base.specs.Structure.{Structure, lists}
@@ -96,47 +97,6 @@ unknown Release false false x other = absurd (other refl)
 module _ (m : Structure) (l : Lasso) (starts : l.start < places l) where
   closed : (i : ℕ) → i < places l → next_place l i < places l
   closed i low = next_place_low l starts i low
-
-  pub const_truths : (b : Bool) (fs : List Bool) → fs ≡ replicate (places l) b → AreTruths m l (Const b) fs
-  const_truths b fs is = record {
-    each_place = ap length is ∙ length-replicate (places l) b;
-    are = λ i low. ap (λ gs. at gs i) is ∙ get_or-replicate (places l) i b false low;
-  }
-
-  pub quantified_truths : (q : Quantifier) (f : Formula) (fs : List Bool)
-      → fs ≡ replicate (places l) false
-      → AreTruths m l (Quantified q f) fs
-  quantified_truths q f fs is = record {
-    each_place = ap length is ∙ length-replicate (places l) false;
-    are = λ i low. ap (λ gs. at gs i) is ∙ get_or-replicate (places l) i false false low;
-  }
-
-  pub prop_truths : (p : List ℕ) (fs : List Bool) → fs ≡ map (λ s. lists m s p) l.entries → AreTruths m l (Prop p) fs
-  prop_truths p fs is = record {
-    each_place = ap length is ∙ length-map l.entries (λ s. lists m s p);
-    are = λ i low. ap (λ gs. at gs i) is ∙ get_or-map (λ s. lists m s p) l.entries i 0 false low;
-  }
-
-  pub not_truths : (f : Formula) (fs rs : List Bool)
-      → AreTruths m l f fs
-      → length rs ≡ length fs
-      → ((i : ℕ) → i < length fs → at rs i ≡ not (at fs i))
-      → AreTruths m l (Not f) rs
-  not_truths f fs rs x long values = record {
-    each_place = long ∙ x.each_place;
-    are = λ i low. values i (omega (arith, low, x.each_place)) ∙ ap not (x.are i low);
-  }
-
-  pub binary_truths : (op : Operator) (f g : Formula) (fs gs rs : List Bool)
-      → AreTruths m l f fs
-      → AreTruths m l g gs
-      → length rs ≡ length fs
-      → ((i : ℕ) → i < length fs → at rs i ≡ connective_value op (at fs i) (at gs i))
-      → AreTruths m l (Binary op f g) rs
-  binary_truths op f g fs gs rs x y long values = record {
-    each_place = long ∙ x.each_place;
-    are = λ i low. values i (omega (arith, low, x.each_place)) ∙ (λ t. connective_value op (x.are i low t) (y.are i low t));
-  }
 
   module _ (f g : Formula) (fs gs : List Bool) (x : AreTruths m l f fs) (y : AreTruths m l g gs) where
     paired_is : (p : Pairing) (i : ℕ)

@@ -1,6 +1,5 @@
 -- The path from a state, as it is walked.
 --
---   none_walked == nothing is walked yet
 --   one_more    == one state more
 --   none_read, some_read == what is read at a place
 --   fewer_nones == fewer states have no place then
@@ -15,31 +14,6 @@ use Rattle.ml_lists.proofs.Lasso.{round-entry, round-end}
 use Rattle.ml_ctl.specs.Paths.{has_step}
 use Rattle.ml_word_graph.specs.Problem.{IsWordFrom}
 use Rattle.ml_word_check.specs.private.Walked.{IsWalked, IsWordOf, Leads, lasso_from, nones}
-
-pub none_walked : (next : List ℕ) (s : ℕ) → s < length next → IsWalked next s [] s (replicate (length next) None)
-none_walked next s low = record {
-  as_many = length-replicate (length next) None;
-  inside = low;
-  first = λ some. absurd (omega (arith, some));
-  none_yet = λ none. refl;
-  all_inside = λ i less. absurd (omega (arith, less));
-  steps = λ i less. absurd (omega (arith, less));
-  last = λ i is. absurd (omega (arith, is));
-  stand = λ i less. absurd (omega (arith, less));
-  found = λ t i is.
-      absurd (differ (get_or (replicate (length next) None) t None) i (is_none t (cases_lt t (length next))) is);
-}
-  where
-    differ : (p : Option ℕ) (i : ℕ) → p ≡ None → p ≡ Some i → ⊥
-    differ p i none some = absurd (cc)
-
-    -- no state has a place yet, nor has what is no state
-    is_none : (t : ℕ) → (t < length next) ⊎ (length next ≤ t)
-        → get_or {A = Option ℕ} (replicate (length next) None) t None ≡ None
-    is_none t (inl low) = get_or-replicate (length next) t None None low
-    is_none t (inr past) =
-        get_or_past (replicate (length next) None) t None
-        (omega (arith, past, length-replicate {A = Option ℕ} (length next) None))
 
 module _ (next : List ℕ) (s : ℕ) (xs : List ℕ) (at : ℕ) (places : List (Option ℕ)) (w : IsWalked next s xs at places)
     (closed : (t : ℕ) → t < length next → get_or next t 0 < length next)
