@@ -1,8 +1,9 @@
 -- What the truth at the first place of the path says of the problem.
 --
 --   found_at == the problem holds at the state exactly where its formula's truth there isn't its sense
-use Rattle.std.proofs.Common.{ℕ, ◌≡◌, ◌<◌, ◌↔◌, Bool, true, false, refl, sym, ◌∙◌}
-use Rattle.std.proofs.lemmas.Bool.{false≢true, true≢false}
+use Rattle.std.proofs.Common.{ℕ, ◌≡◌, ◌<◌, ◌↔◌, Bool, true, false, not, refl, sym, ◌∙◌}
+use Rattle.std.specs.Bool.{IsTrue, beq}
+use Rattle.std.proofs.lemmas.Bool.{false≢true}
 use Rattle.ml_base.specs.Structure.{Structure}
 use Rattle.ml_lists.specs.Lasso.{Lasso}
 use Rattle.ml_ctl.specs.Formula.{Formula, is_linear}
@@ -24,11 +25,11 @@ module _ (f : Formula) (linear : is_linear f ≡ true) (m : Structure) (ok : IsA
       ((λ x. same ∙ says.0 x), (λ e. says.1 (sym same ∙ e)))
 
   pub found_at : (negated b : Bool) → truth m l f 0 ≡ b
-      → (b ≡ negated → ⊥) ↔ HoldsAt m s (record { formula = f; negated = negated })
-  found_at false true is = ((λ other. (l, w, (on_each l w).1 is)), (λ holds wrong. true≢false wrong))
+      → IsTrue (not (beq b negated)) ↔ HoldsAt m s (record { formula = f; negated = negated })
+  found_at false true is = ((λ differ. (l, w, (on_each l w).1 is)), (λ holds. refl))
   found_at false false is =
-      ((λ other. absurd (other refl)), (λ holds wrong. false≢true (sym is ∙ (on_each holds.0 holds.1).0 holds.2)))
+      ((λ differ. absurd (false≢true differ)), (λ holds. sym is ∙ (on_each holds.0 holds.1).0 holds.2))
   found_at true true is =
-      ((λ other. absurd (other refl)), (λ holds wrong. holds.2 ((on_each holds.0 holds.1).1 is)))
+      ((λ differ. absurd (false≢true differ)), (λ holds. absurd (holds.2 ((on_each holds.0 holds.1).1 is))))
   found_at true false is =
-      ((λ other. (l, w, λ holds. false≢true (sym is ∙ (on_each l w).0 holds))), (λ holds wrong. false≢true wrong))
+      ((λ differ. (l, w, λ holds. false≢true (sym is ∙ (on_each l w).0 holds))), (λ holds. refl))

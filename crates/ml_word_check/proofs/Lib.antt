@@ -8,3 +8,5 @@ pub mod Walked
 pub mod FoundAtStates
 -- values changed one after the other
 pub mod Changes
+-- U and R at all places
+pub mod ValuesAround

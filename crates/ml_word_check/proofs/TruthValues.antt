@@ -3,15 +3,15 @@
 --   untils_are, releases_are == cycles are what the meaning of U and R computes
 --   one_more        == among n places, a place more makes no difference
 --   same_cycles     == nor do values past the places
---   const_truths, prop_truths, not_truths, binary_truths, tense_truths, paired_truths == of each formula
-use Rattle.std.proofs.Common.{ℕ, zero, suc, ◌≡◌, ◌<◌, ◌&&◌, ◌||◌, Bool, true, false, not, List, length, map, get_or, replicate, refl, sym, ap, ◌∙◌, subst, arith}
+--   known, unknown  == where the value at a place is known without the next one, and where it is that of the next one
+--   tense_truths, paired_truths == the truth of a temporal formula, from its operands'
+use Rattle.std.proofs.Common.{ℕ, zero, suc, ◌≡◌, ◌<◌, ◌&&◌, ◌||◌, Bool, true, false, not, List, length, map, replicate, refl, sym, ap, ◌∙◌, subst, arith}
 use Rattle.std.proofs.lemmas.List.{get_or-map, get_or-replicate, length-map, length-replicate}
 use Rattle.ml_base.specs.Structure.{Structure, lists}
-use Rattle.ml_lists.specs.Lasso.{Lasso, entry, next_place}
+use Rattle.ml_lists.specs.Lasso.{Lasso, next_place}
 use Rattle.ml_lists.proofs.Unrolling.{next_place_low}
 use Rattle.ml_text.specs.declared.token.Operator.{Operator}
 use Rattle.ml_ctl.specs.Formula.{Formula, Const, Prop, Not, Binary, Temporal, Paired, Quantified}
-use Rattle.ml_ctl.specs.Meaning.{iterate_of, until_step, release_step}
 use Rattle.ml_ctl.specs.Paths.{places}
 use Rattle.ml_ctl.specs.declared.term.Tense.{Tense}
 use Rattle.ml_ctl.specs.declared.term.Tense.TheVariants as tense
@@ -22,7 +22,7 @@ use Rattle.ml_ctl.proofs.Iterated.{until_steps, release_steps}
 use Rattle.ml_word_graph.proofs.Values.{Says, connective_value, equal_values, pairing_value, releases, releases_say, tense_value, truth, untils, untils_say}
 use Rattle.ml_word_check.specs.declared.cycles.Cycle.{Cycle}
 use Rattle.ml_word_check.specs.declared.cycles.Cycle.TheVariants.{Until, Release}
-use Rattle.ml_word_check.specs.private.Truths.{AreTruths, at, base, cycles, next_in, paired_in, step, tense_in}
+use Rattle.ml_word_check.specs.private.Truths.{AreTruths, at, cycles, paired_in, step, tense_in}
 
 -- ---- cycles
 
@@ -98,58 +98,21 @@ module _ (m : Structure) (l : Lasso) (starts : l.start < places l) where
   closed : (i : ℕ) → i < places l → next_place l i < places l
   closed i low = next_place_low l starts i low
 
-  pub const_truths : (b : Bool) (fs : List Bool) → fs ≡ replicate (places l) b → AreTruths m l (Const b) fs
-  const_truths b fs is = record {
-    each_place = ap length is ∙ length-replicate (places l) b;
-    are = λ i low. ap (λ gs. at gs i) is ∙ get_or-replicate (places l) i b false low;
-  }
-
-  pub quantified_truths : (q : Quantifier) (f : Formula) (fs : List Bool) → fs ≡ replicate (places l) false → AreTruths m l (Quantified q f) fs
-  quantified_truths q f fs is = record {
-    each_place = ap length is ∙ length-replicate (places l) false;
-    are = λ i low. ap (λ gs. at gs i) is ∙ get_or-replicate (places l) i false false low;
-  }
-
-  pub prop_truths : (p : List ℕ) (fs : List Bool) → fs ≡ map (λ s. lists m s p) l.entries → AreTruths m l (Prop p) fs
-  prop_truths p fs is = record {
-    each_place = ap length is ∙ length-map l.entries (λ s. lists m s p);
-    are = λ i low. ap (λ gs. at gs i) is ∙ get_or-map (λ s. lists m s p) l.entries i 0 false low;
-  }
-
-  pub not_truths : (f : Formula) (fs rs : List Bool)
-      → AreTruths m l f fs
-      → length rs ≡ length fs
-      → ((i : ℕ) → i < length fs → at rs i ≡ not (at fs i))
-      → AreTruths m l (Not f) rs
-  not_truths f fs rs x long values = record {
-    each_place = long ∙ x.each_place;
-    are = λ i low. values i (omega (arith, low, x.each_place)) ∙ ap not (x.are i low);
-  }
-
-  pub binary_truths : (op : Operator) (f g : Formula) (fs gs rs : List Bool)
-      → AreTruths m l f fs
-      → AreTruths m l g gs
-      → length rs ≡ length fs
-      → ((i : ℕ) → i < length fs → at rs i ≡ connective_value op (at fs i) (at gs i))
-      → AreTruths m l (Binary op f g) rs
-  binary_truths op f g fs gs rs x y long values = record {
-    each_place = long ∙ x.each_place;
-    are = λ i low. values i (omega (arith, low, x.each_place)) ∙ (λ t. connective_value op (x.are i low t) (y.are i low t));
-  }
-
   module _ (f g : Formula) (fs gs : List Bool) (x : AreTruths m l f fs) (y : AreTruths m l g gs) where
     paired_is : (p : Pairing) (i : ℕ)
         → i < places l
         → paired_in p (places l) l.start (at fs) (at gs) i ≡ pairing_value p l (truth m l f) (truth m l g) i
     paired_is pairing.Until i low =
-        same_cycles Until (next_place l) (at fs) (at gs) (truth m l f) (truth m l g) (places l) closed x.are y.are (places l) i low
+        same_cycles Until (next_place l) (at fs) (at gs) (truth m l f) (truth m l g) (places l) closed x.are y.are
+        (places l) i low
         ∙ untils_are (next_place l) (truth m l f) (truth m l g) (places l) i
     paired_is pairing.Release i low =
-        same_cycles Release (next_place l) (at fs) (at gs) (truth m l f) (truth m l g) (places l) closed x.are y.are (places l) i low
+        same_cycles Release (next_place l) (at fs) (at gs) (truth m l f) (truth m l g) (places l) closed x.are y.are
+        (places l) i low
         ∙ releases_are (next_place l) (truth m l f) (truth m l g) (places l) i
     paired_is pairing.Weak i low =
-        same_cycles Release (next_place l) (at gs) (λ j. at fs j || at gs j) (truth m l g) (λ j. truth m l f j || truth m l g j)
-        (places l) closed y.are (λ j under t. x.are j under t || y.are j under t) (places l) i low
+        same_cycles Release (next_place l) (at gs) (λ j. at fs j || at gs j) (truth m l g)
+        (λ j. truth m l f j || truth m l g j) (places l) closed y.are (λ j under t. x.are j under t || y.are j under t) (places l) i low
         ∙ releases_are (next_place l) (truth m l g) (λ j. truth m l f j || truth m l g j) (places l) i
 
     pub paired_truths : (p : Pairing) (rs : List Bool)
@@ -165,15 +128,17 @@ module _ (m : Structure) (l : Lasso) (starts : l.start < places l) where
     }
 
   module _ (g : Formula) (gs : List Bool) (y : AreTruths m l g gs) where
-    tense_is : (t : Tense) (i : ℕ) → i < places l → tense_in t (places l) l.start (at gs) i ≡ tense_value t l (truth m l g) i
+    tense_is : (t : Tense) (i : ℕ)
+        → i < places l
+        → tense_in t (places l) l.start (at gs) i ≡ tense_value t l (truth m l g) i
     tense_is tense.Next i low = y.are (next_place l i) (closed i low)
     tense_is tense.Finally i low =
-        same_cycles Until (next_place l) (λ j. true) (at gs) (λ j. true) (truth m l g) (places l) closed (λ j under. refl) y.are
-        (places l) i low
+        same_cycles Until (next_place l) (λ j. true) (at gs) (λ j. true) (truth m l g) (places l) closed
+        (λ j under. refl) y.are (places l) i low
         ∙ untils_are (next_place l) (λ j. true) (truth m l g) (places l) i
     tense_is tense.Globally i low =
-        same_cycles Release (next_place l) (λ j. false) (at gs) (λ j. false) (truth m l g) (places l) closed (λ j under. refl) y.are
-        (places l) i low
+        same_cycles Release (next_place l) (λ j. false) (at gs) (λ j. false) (truth m l g) (places l) closed
+        (λ j under. refl) y.are (places l) i low
         ∙ releases_are (next_place l) (λ j. false) (truth m l g) (places l) i
 
     pub tense_truths : (t : Tense) (rs : List Bool)

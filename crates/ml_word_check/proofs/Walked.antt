@@ -1,43 +1,19 @@
 -- The path from a state, as it is walked.
 --
---   none_walked == nothing is walked yet
 --   one_more    == one state more
+--   none_read, some_read == what is read at a place
 --   fewer_nones == fewer states have no place then
 --   comes_again == where a state comes again, the path is whole
 --   is_word     == and it is the path from the state
-use Rattle.std.proofs.Common.{ℕ, zero, suc, ◌≡◌, ◌-◌, ◌+◌, ◌<◌, ◌≤◌, ◌⊎◌, inl, inr, Bool, true, false, List, [], ◌∷◌, ◌++◌, All, Option, Some, None, length, get_or, set, replicate, cond, ltb, refl, sym, ap, ◌∙◌, subst, ⊎_elim, arith, length-append}
-use Rattle.std.proofs.lemmas.Bool.{cases_eq, cases_lt}
-use Rattle.std.proofs.lemmas.Bool.Decides.{nat_tests}
-use Rattle.std.proofs.lemmas.List.{get_or_append_left, get_or_past, get_or_push, get_or-replicate, get_or-set_other, get_or-set_same, length-replicate, length-set}
+use Rattle.std.proofs.Common.{ℕ, zero, suc, ◌≡◌, ◌+◌, ◌<◌, ◌≤◌, ◌⊎◌, inl, inr, true, false, List, [], ◌∷◌, ◌++◌, Option, Some, None, length, get_or, set, replicate, refl, sym, ap, ◌∙◌, subst, arith, length-append}
+use Rattle.std.specs.Option.{is_some}
+use Rattle.std.proofs.lemmas.Bool.{cases_eq, cases_lt, true≢false}
+use Rattle.std.proofs.lemmas.List.{get_or_append_left, get_or_past, get_or_push, get_or_read_under, get_or-replicate, get_or-set_other, get_or-set_same, length-replicate, length-set}
 use Rattle.ml_base.specs.Structure.{Structure}
-use Rattle.ml_lists.specs.Lasso.{Lasso, entry}
 use Rattle.ml_lists.proofs.Lasso.{round-entry, round-end}
 use Rattle.ml_ctl.specs.Paths.{has_step}
 use Rattle.ml_word_graph.specs.Problem.{IsWordFrom}
 use Rattle.ml_word_check.specs.private.Walked.{IsWalked, IsWordOf, Leads, lasso_from, nones}
-
-pub none_walked : (next : List ℕ) (s : ℕ) → s < length next → IsWalked next s [] s (replicate (length next) None)
-none_walked next s low = record {
-  as_many = length-replicate (length next) None;
-  inside = low;
-  first = λ some. absurd (omega (arith, some));
-  none_yet = λ none. refl;
-  all_inside = λ i less. absurd (omega (arith, less));
-  steps = λ i less. absurd (omega (arith, less));
-  last = λ i is. absurd (omega (arith, is));
-  stand = λ i less. absurd (omega (arith, less));
-  found = λ t i is. absurd (nowhere t i is (cases_lt t (length next)));
-}
-  where
-    nowhere : (t i : ℕ) → get_or (replicate (length next) None) t None ≡ Some i → (t < length next) ⊎ (length next ≤ t) → ⊥
-    nowhere t i is (inl low) =
-        let none : get_or (replicate (length next) None) t None ≡ None = get_or-replicate (length next) t None None low in
-        let wrong = sym none ∙ is in
-        absurd (cc)
-    nowhere t i is (inr past) =
-        let none : get_or (replicate (length next) None) t None ≡ None = get_or_past (replicate (length next) None) t None (omega (arith, past, length-replicate {A = Option ℕ} (length next) None)) in
-        let wrong = sym none ∙ is in
-        absurd (cc)
 
 module _ (next : List ℕ) (s : ℕ) (xs : List ℕ) (at : ℕ) (places : List (Option ℕ)) (w : IsWalked next s xs at places)
     (closed : (t : ℕ) → t < length next → get_or next t 0 < length next)
@@ -100,8 +76,8 @@ module _ (next : List ℕ) (s : ℕ) (xs : List ℕ) (at : ℕ) (places : List (
           let before = w.found t i (sym (get_or-set_other places at t (Some (length xs)) None other) ∙ is) in
           (omega (arith, before.0, long), old i before.0 ∙ before.1)
 
-  pub one_more : IsWalked next s ys (get_or next at 0) marked
-  one_more = record {
+  walked_more : IsWalked next s ys (get_or next at 0) marked
+  walked_more = record {
     as_many = length-set places at (Some (length xs)) ∙ w.as_many;
     inside = closed at w.inside;
     first = first_is;
@@ -119,7 +95,33 @@ module _ (next : List ℕ) (s : ℕ) (xs : List ℕ) (at : ℕ) (places : List (
           → get_or ys (i + 1) 0 ≡ get_or next (get_or ys i 0) 0
       step_at i low (inl is) = at_end (i + 1) is ∙ w.last i is ∙ ap (λ t. get_or next t 0) (sym (old i low))
       step_at i low (inr other) =
-          old (i + 1) (omega (arith, low, other)) ∙ w.steps i (omega (arith, low, other)) ∙ ap (λ t. get_or next t 0) (sym (old i low))
+          let inner : i + 1 < length xs = omega (arith, low, other) in
+          old (i + 1) inner ∙ w.steps i inner ∙ ap (λ t. get_or next t 0) (sym (old i low))
+
+  -- as the program writes it
+  pub one_more : (zs : List ℕ) (count : ℕ)
+      → zs ≡ ys
+      → count ≡ length xs
+      → IsWalked next s zs (get_or next at 0) (set places at (Some count))
+  one_more zs count states place =
+      subst (λ vs. IsWalked next s vs (get_or next at 0) (set places at (Some count))) (sym states)
+      (subst (λ k. IsWalked next s ys (get_or next at 0) (set places at (Some k))) (sym place) walked_more)
+
+-- where a place is read
+pub none_read : (ps : List (Option ℕ)) (k : ℕ) (p : Option ℕ)
+    → k < length ps
+    → p ≡ get_or ps k p
+    → is_some p ≡ false
+    → get_or ps k None ≡ None
+none_read ps k None low is none = sym is
+none_read ps k (Some i) low is none = absurd (true≢false none)
+
+pub some_read : (ps : List (Option ℕ)) (k i : ℕ) (p : Option ℕ)
+    → k < length ps
+    → p ≡ get_or ps k p
+    → p ≡ Some i
+    → get_or ps k None ≡ Some i
+some_read ps k i p low is some = sym (get_or_read_under ps k (length ps) p None is low refl) ∙ some
 
 -- fewer states have no place then
 pub fewer_nones : (ps : List (Option ℕ)) (k i : ℕ) → k < length ps → get_or ps k None ≡ None
@@ -177,4 +179,7 @@ is_word m next s xs start leads w = record {
         subst (λ t. has_step m t (get_or (xs ++ get_or xs start 0 ∷ []) (k + 1) 0) ≡ true)
         (sym (round-entry (lasso_from xs start) k low))
         (subst (λ t. has_step m (get_or xs k 0) t ≡ true)
-        (sym (round-entry (lasso_from xs start) (k + 1) (omega (arith, low, other)) ∙ w.steps k (omega (arith, low, other)))) (goes k low))
+        (sym (round-entry (lasso_from xs start) (k + 1) inner ∙ w.steps k inner)) (goes k low))
+      where
+        inner : k + 1 < length xs
+        inner = omega (arith, low, other)
