@@ -5,21 +5,18 @@
 --   same_cycles     == nor do values past the places
 --   known, unknown  == where the value at a place is known without the next one, and where it is that of the next one
 --   tense_truths, paired_truths == the truth of a temporal formula, from its operands'
-use Rattle.std.proofs.Common.{ℕ, zero, suc, ◌≡◌, ◌<◌, ◌&&◌, ◌||◌, Bool, true, false, not, List, length, map, replicate, refl, sym, ap, ◌∙◌, subst, arith}
-use Rattle.std.proofs.lemmas.List.{get_or-map, get_or-replicate, length-map, length-replicate}
-use Rattle.ml_base.specs.Structure.{Structure, lists}
+use Rattle.std.proofs.Common.{ℕ, zero, suc, ◌≡◌, ◌<◌, ◌&&◌, ◌||◌, Bool, true, false, List, length, refl, sym, ap, ◌∙◌, subst, arith}
+use Rattle.ml_base.specs.Structure.{Structure}
 use Rattle.ml_lists.specs.Lasso.{Lasso, next_place}
 use Rattle.ml_lists.proofs.Unrolling.{next_place_low}
-use Rattle.ml_text.specs.declared.token.Operator.{Operator}
-use Rattle.ml_ctl.specs.Formula.{Formula, Const, Prop, Not, Binary, Temporal, Paired, Quantified}
+use Rattle.ml_ctl.specs.Formula.{Formula, Temporal, Paired}
 use Rattle.ml_ctl.specs.Paths.{places}
 use Rattle.ml_ctl.specs.declared.term.Tense.{Tense}
 use Rattle.ml_ctl.specs.declared.term.Tense.TheVariants as tense
 use Rattle.ml_ctl.specs.declared.term.Pairing.{Pairing}
 use Rattle.ml_ctl.specs.declared.term.Pairing.TheVariants as pairing
-use Rattle.ml_ctl.specs.declared.term.Quantifier.{Quantifier}
 use Rattle.ml_ctl.proofs.Iterated.{until_steps, release_steps}
-use Rattle.ml_word_graph.proofs.Values.{Says, connective_value, equal_values, pairing_value, releases, releases_say, tense_value, truth, untils, untils_say}
+use Rattle.ml_word_graph.proofs.Values.{Says, equal_values, pairing_value, releases, releases_say, tense_value, truth, untils, untils_say}
 use Rattle.ml_word_check.specs.declared.cycles.Cycle.{Cycle}
 use Rattle.ml_word_check.specs.declared.cycles.Cycle.TheVariants.{Until, Release}
 use Rattle.ml_word_check.specs.private.Truths.{AreTruths, at, cycles, paired_in, step, tense_in}

@@ -16,7 +16,8 @@ loop-looked-preserved c = record {
   same_value =
       unknown_there c.args.cycle (next_in _ c.args.start) (at c.args.left.now) (at c.args.right.now) _ _
       c.loop-looked._looked c.loop-looked.here c.loop-looked.invariant.same_value c.loop-looked-test.true
-      c.step-low.result c.step.result c.step-low.ensures c.step.ensures c.if-low-step.false c.next-here.result c.next-here.ensures;
+      c.step-low.result c.step.result c.step-low.ensures c.step.ensures c.if-low-step.false c.next-here.result
+      c.next-here.ensures;
 }
 
 pub returns : goal.returns
