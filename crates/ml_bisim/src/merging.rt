@@ -3,7 +3,7 @@ ghost use Rattle.std.specs.Prelude.{◌≡◌, ◌<◌, ◌++◌, ◌^◌, None,
 ghost use Rattle.ml_base.specs.Structure.{IsStructure};
 ghost use Rattle.ml_kripke.specs.Ordered.{IsBuiltFrom, IsOrdered, first_bad_state};
 ghost use Rattle.ml_bisim.specs.Quotient.{IsQuotientOf};
-ghost use Rattle.ml_bisim.specs.private.Rounds.{AreClassLabels, between_classes};
+ghost use Rattle.ml_bisim.specs.private.Merged.{AreClassLabels, between_classes};
 
 use crate::quotients::Quotient;
 use crate::rounds::classes;

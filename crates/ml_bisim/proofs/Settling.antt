@@ -1,0 +1,80 @@
+-- States that aren't settled any more: those from which an edge leads to a state that was renamed.
+--
+--   unchanged       == an edge of a settled state leads to one that wasn't renamed
+--   refined_again   == so settled states of one class match each other's edges by the new classes
+--   grows_too       == and where no state was renamed, all are settled
+use Rattle.std.proofs.Common.{ℕ, ◌≡◌, ◌<◌, ◌⊎◌, inl, inr, Bool, List, [], length, get_or, All, Contains, refl, sym, ap, ◌∙◌, subst, arith}
+use Rattle.std.specs.Global.{Vec}
+use Rattle.std.proofs.lemmas.Grind.{get_or_default_zero}
+use Rattle.ml_base.specs.Structure.{Structure, IsStructure}
+use Rattle.ml_bisim.specs.Bisimilar.{HasEdge}
+use Rattle.ml_bisim.specs.Quotient.{class_of}
+use Rattle.ml_bisim.specs.declared.partition.Partition.{Partition}
+use Rattle.ml_bisim.specs.private.Rounds.{AreListed, AreSettled, Grows, HasMembers, IsCutOff, IsFiner, IsPartition, IsRefined, IsSettled, IsSplit, rows}
+use Rattle.ml_bisim.specs.private.Signatures.{SameSteps}
+use Rattle.ml_bisim.proofs.Classes.{edge_from}
+use Rattle.ml_bisim.proofs.Stable.{finer_is}
+
+module _ (m : Structure) (m_ok : IsStructure m) (class after renamed : List ℕ) (flags : List Bool) (finer : IsFiner m class after)
+    (has : (s : ℕ) → (class_of after s ≡ class_of class s) ⊎ Contains renamed s)
+    (cut_off : (i : ℕ) → i < length renamed → IsCutOff m.edges flags (get_or renamed i 0)) where
+  unchanged : (s : ℕ) (a : List ℕ) (x : ℕ) → IsSettled flags s → HasEdge m s a x → class_of after x ≡ class_of class x
+  unchanged s a x is edge = by_case (has x)
+    where
+      by_case : (class_of after x ≡ class_of class x) ⊎ Contains renamed x → class_of after x ≡ class_of class x
+      by_case (inl same) = same
+      by_case (inr (i, low, at)) =
+          absurd (cut_off i low (edge_from s a x) edge (sym (sym (get_or_default_zero renamed i x low) ∙ at)) is)
+
+  matched : (s t : ℕ) → IsSettled flags s → IsSettled flags t → SameSteps m class s t → SameSteps m after s t
+  matched s t s_is t_is same = record {
+    forth = λ a x edge.
+        let there = same.forth a x edge in (
+          there.0,
+          there.1,
+          unchanged s a x s_is edge ∙ there.2 ∙ sym (unchanged t a there.0 t_is there.1),
+        );
+    back = λ a y edge.
+        let there = same.back a y edge in (
+          there.0,
+          there.1,
+          unchanged s a there.0 s_is there.1 ∙ there.2 ∙ sym (unchanged t a y t_is edge),
+        );
+  }
+
+  pub still_settled : AreSettled m after flags
+  still_settled s t s_low t_low s_is t_is e = matched s t s_is t_is ((finer.same s t s_low t_low).0 e).1
+
+pub refined_again : (m : Structure) → IsStructure m → (class : List ℕ) → IsPartition m class → (p q : Partition)
+    → (renamed next : List ℕ)
+    → IsSplit m class p renamed
+    → q.class ≡ p.class
+    → q.members ≡ p.members
+    → q.keeper ≡ p.keeper
+    → length q.is_settled.items ≡ m.states
+    → All (λ s. s < m.states) next
+    → AreListed q.is_settled.items m.states next
+    → ((i : ℕ) → i < length renamed → IsCutOff m.edges q.is_settled.items (get_or renamed i 0))
+    → IsRefined m q next
+refined_again m m_ok class part p q renamed next split classes members keepers long low listed cut_off =
+    let same : q.class.items ≡ p.class.items = ap (λ (v : Vec ℕ). v.items) classes in
+    let after = p.class.items in
+    record {
+      part = subst (IsPartition m) (sym same) (finer_is m m_ok class part after split.finer);
+      members =
+          subst (λ c. HasMembers c m.states (rows q.members.items)) (sym same)
+          (subst (λ (v : Vec (Vec ℕ)). HasMembers after m.states (rows v.items)) (sym members) split.members);
+      keepers =
+          ap (λ (v : Vec ℕ). length v.items) keepers ∙ split.keepers
+          ∙ ap (λ (v : Vec (Vec ℕ)). length v.items) (sym members);
+      flags = long;
+      settled =
+          subst (λ c. AreSettled m c q.is_settled.items) (sym same)
+          (still_settled m m_ok class after renamed q.is_settled.items split.finer split.has cut_off);
+      listed = listed;
+      in_range = low;
+    }
+
+pub grows_too : (old new renamed next : List ℕ) → Grows old new renamed → (length renamed ≡ 0 → next ≡ []) → Grows old new next
+grows_too old new renamed next (inl more) none = inl more
+grows_too old new renamed next (inr (same, no_fewer)) none = inr (none (ap length same), no_fewer)
