@@ -6,7 +6,7 @@
 use Rattle.std.proofs.Common.{ℕ, ◌≡◌, ◌+◌, ◌<◌, ◌≤◌, ◌↔◌, ◌⊎◌, inl, inr, Bool, List, [], ◌∷◌, ◌++◌, length, length-append, get_or, map, All, Contains, refl, sym, ap, ◌∙◌, subst, arith}
 use Rattle.std.proofs.lemmas.Bool.{cases_eq, cases_lt}
 use Rattle.std.proofs.lemmas.Grind.{get_or_default_zero}
-use Rattle.std.proofs.lemmas.List.{get_or-map, get_or_append_left, get_or_default, length-map}
+use Rattle.std.proofs.lemmas.List.{get_or-map, get_or_append_left, length-map}
 use Rattle.ml_lists.proofs.Members.{All-more_read}
 use Rattle.ml_bisim.specs.Quotient.{class_of}
 use Rattle.ml_bisim.specs.private.Rounds.{AreChosen, IsSettled}
@@ -122,8 +122,7 @@ module _ (class : List ℕ) (flags : List Bool) (n : ℕ) (states classes : List
       listed j under = (
         j,
         omega (arith, under, length-map states (class_of class)),
-        get_or-map (class_of class) states j (get_or states j 0)
-            ∙ ap (class_of class) (get_or_default states j (get_or states j 0) 0 under),
+        get_or-map (class_of class) states j 0 (class_of class (get_or states j 0)) under,
       )
 
       some : (j : ℕ) → j < first → Contains classes (class_of class (get_or states j 0))

@@ -7,7 +7,7 @@
 use Rattle.std.proofs.Common.{ℕ, ◌≡◌, ◌+◌, ◌<◌, ◌≤◌, ◌⊎◌, inl, inr, Bool, true, false, List, [], ◌∷◌, ◌++◌, length, get_or, set, slice_get, map, Some, All, Contains, refl, sym, ap, ◌∙◌, subst, arith}
 use Rattle.std.proofs.lemmas.Bool.{cases_eq, cases_lt, false≢true}
 use Rattle.std.proofs.lemmas.List.{get_or-set_same, get_or-set_other, length-map, length-set}
-use Rattle.std.proofs.lemmas.List.Elements.{All-more, Contains-append_left, Contains-append_right}
+use Rattle.std.proofs.lemmas.List.Elements.{All-push, Contains-append_left, Contains-append_right}
 use Rattle.std.proofs.lemmas.Option.{slice_get-get_or, slice_get_within}
 use Rattle.ml_base.specs.declared.structure.Edge.{Edge}
 use Rattle.ml_lists.proofs.Member.{Place, member-place}
@@ -20,20 +20,19 @@ use Rattle.ml_bisim.proofs.Steps.{number_at}
 some_same : {K : Type 0} {x y : K} → Some x ≡ Some y → x ≡ y
 some_same e = cc
 
+pub record Passed (edges : List Edge) (n t : ℕ) (old : List Bool) (rest : ℕ) (flags : List Bool) (states : List ℕ) : Type 0 where
+  pub in_range : rest ≤ length edges
+  pub mine : (i : ℕ) → rest ≡ i + 1 → get_or (map (λ (f : Edge). f.target) edges) i 0 ≡ t
+  pub flags_long : length flags ≡ n
+  pub low : All (λ s. s < n) states
+  pub listed : AreListed flags n states
+  pub fewer : (s : ℕ) → IsSettled flags s → IsSettled old s
+  pub done : (place : ℕ) (e : Edge) → slice_get edges place ≡ Some e → rest ≤ place → e.target ≡ t → ¬ (IsSettled flags e.source)
+
 module _ (edges : List Edge) (n : ℕ) (p : Places) (places : ArePlaces (map (λ (f : Edge). f.target) edges) n p) (t : ℕ)
     (old : List Bool) where
   abbrev targets : List ℕ
   targets = map (λ (f : Edge). f.target) edges
-
-  pub record Passed (rest : ℕ) (flags : List Bool) (states : List ℕ) : Type 0 where
-    pub in_range : rest ≤ length edges
-    pub mine : (i : ℕ) → rest ≡ i + 1 → get_or targets i 0 ≡ t
-    pub flags_long : length flags ≡ n
-    pub low : All (λ s. s < n) states
-    pub listed : AreListed flags n states
-    pub fewer : (s : ℕ) → IsSettled flags s → IsSettled old s
-    pub done : (place : ℕ) (e : Edge) → slice_get edges place ≡ Some e → rest ≤ place → e.target ≡ t
-        → ¬ (IsSettled flags e.source)
 
   edges_long : length targets ≡ length edges
   edges_long = length-map edges (λ (f : Edge). f.target)
@@ -43,7 +42,7 @@ module _ (edges : List Edge) (n : ℕ) (p : Places) (places : ArePlaces (map (λ
       → length old ≡ n
       → All (λ s. s < n) states
       → AreListed old n states
-      → Passed (get_or p.last.items t 0) old states
+      → Passed edges n t old (get_or p.last.items t 0) old states
   passed_none states t_low long low listed =
       let is = places.last t t_low in
       record {
@@ -57,7 +56,7 @@ module _ (edges : List Edge) (n : ℕ) (p : Places) (places : ArePlaces (map (λ
             (omega (arith, slice_get_within edges place e at, edges_long)) (number_at (λ (f : Edge). f.target) edges place e at ∙ same));
       }
 
-  module _ (rest place : ℕ) (e : Edge) (flags : List Bool) (states : List ℕ) (is : Passed rest flags states)
+  module _ (rest place : ℕ) (e : Edge) (flags : List Bool) (states : List ℕ) (is : Passed edges n t old rest flags states)
       (next : rest ≡ place + 1) (stands : slice_get edges place ≡ Some e) where
     link : IsLastBefore targets place (get_or targets place 0) (get_or p.before.items place 0)
     link = places.links place (omega (arith, is.in_range, next, edges_long))
@@ -74,7 +73,7 @@ module _ (edges : List Edge) (n : ℕ) (p : Places) (places : ArePlaces (map (λ
             absurd (link.none_later k le (omega (arith, below, other, next))
             (number_at (λ (g : Edge). g.target) edges k f at ∙ same ∙ sym (is.mine place next)))
 
-    pub passed_same : (¬ (IsSettled flags e.source)) → Passed (get_or p.before.items place 0) flags states
+    pub passed_same : (¬ (IsSettled flags e.source)) → Passed edges n t old (get_or p.before.items place 0) flags states
     passed_same unsettled = record {
       in_range = omega (arith, link.before, is.in_range, next);
       mine = λ i at. link.stands i at ∙ is.mine place next;
@@ -94,12 +93,12 @@ module _ (edges : List Edge) (n : ℕ) (p : Places) (places : ArePlaces (map (λ
         → e.source < n
         → new ≡ set flags e.source false
         → more ≡ states ++ e.source ∷ []
-        → Passed (get_or p.before.items place 0) new more
+        → Passed edges n t old (get_or p.before.items place 0) new more
     passed_more new more s_low written pushed = record {
       in_range = omega (arith, link.before, is.in_range, next);
       mine = λ i at. link.stands i at ∙ is.mine place next;
       flags_long = ap length written ∙ length-set flags e.source false ∙ is.flags_long;
-      low = subst (All (λ s. s < n)) (sym pushed) (All-more (λ s. s < n) states e.source is.low s_low);
+      low = subst (All (λ s. s < n)) (sym pushed) (All-push (λ s. s < n) states e.source is.low s_low);
       listed = λ s low. listed s low (cases_eq s e.source);
       fewer = λ s h. is.fewer s (still s h (cases_eq s e.source));
       done = λ k f at le same. done k f at same (next_or_passed k f at le same);
@@ -135,7 +134,7 @@ module _ (edges : List Edge) (n : ℕ) (p : Places) (places : ArePlaces (map (λ
         done k f at same (inl one) = here f.source (ap (λ (g : Edge). g.source) one)
         done k f at same (inr above) = λ h. is.done k f at above same (still f.source h (cases_eq f.source e.source))
 
-  pub passed_all : (rest : ℕ) (flags : List Bool) (states : List ℕ) → Passed rest flags states → rest ≡ 0 → IsCutOff edges flags t
+  pub passed_all : (rest : ℕ) (flags : List Bool) (states : List ℕ) → Passed edges n t old rest flags states → rest ≡ 0 → IsCutOff edges flags t
   passed_all rest flags states is end e h same = of_place (member-place e edges (member_of_contains e edges h))
     where
       of_place : Place e edges → ¬ (IsSettled flags e.source)

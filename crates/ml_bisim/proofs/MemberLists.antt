@@ -23,6 +23,15 @@ row_written items rows s new row is = map-set items rows s new ∙ ap (set (map 
 abbrev none : List ℕ
 none = []
 
+pub row_pushed : {V : Type 0} (items : V → List ℕ) (rows : List V) (c s : ℕ) (row pushed : V)
+    → c < length rows
+    → row ≡ get_or rows c row
+    → items pushed ≡ items row ++ s ∷ []
+    → map items (set rows c pushed) ≡ set (map items rows) c (get_or (map items rows) c none ++ s ∷ [])
+row_pushed items rows c s row pushed low read more =
+    row_written items rows c pushed (get_or (map items rows) c none ++ s ∷ [])
+    (more ∙ ap (λ r. r ++ s ∷ []) (ap items read ∙ sym (get_or-map items rows c row none low)))
+
 module _ (class : List ℕ) (n : ℕ) (rows new : List (List ℕ)) (old : HasMembers class n rows) where
   -- the list of the class c is this one then
   module _ (c : ℕ) (row : List ℕ) (low : c < length rows) (is : new ≡ set rows c row) where

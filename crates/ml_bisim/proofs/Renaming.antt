@@ -3,13 +3,19 @@
 --   renamed_none, set_none   == at first
 --   renamed_more, renamed_same == the next state gets another name than it has, or has it already
 --   set_more                 == it is settled
+--   RenamedSo                == the first i states have their names, in a partition
+--   named_already, named_now == so has the next one, with the name that it had or another one
 use Rattle.std.proofs.Common.{ℕ, ◌≡◌, ◌≢◌, ◌+◌, ◌<◌, ◌⊎◌, inl, inr, Bool, true, false, List, [], ◌∷◌, ◌++◌, length, get_or, set, Contains, refl, sym, ap, ◌∙◌, subst, arith}
 use Rattle.std.proofs.lemmas.Bool.{cases_eq}
-use Rattle.std.proofs.lemmas.List.{get_or-set_same, get_or-set_other, length-set}
+use Rattle.std.proofs.lemmas.List.{get_or-set_same, get_or-set_other, length-map, length-set}
+use Rattle.std.specs.Global.{Vec}
+use Rattle.std.specs.Vec.{with_item}
 use Rattle.std.proofs.lemmas.List.Elements.{Contains-append_left, Contains-append_right, Contains-append_cases}
 use Rattle.ml_lists.proofs.Members.{contains_cases, contains_head, contains_none}
 use Rattle.ml_bisim.specs.Quotient.{class_of}
-use Rattle.ml_bisim.specs.private.Rounds.{AreRenamed, AreSet, IsSettled, name_at}
+use Rattle.ml_bisim.specs.declared.partition.Partition.{Partition}
+use Rattle.ml_bisim.specs.private.Rounds.{AreRenamed, AreSet, HasMembers, IsSettled, name_at, rows}
+use Rattle.ml_bisim.proofs.MemberLists.{moved, row_pushed}
 
 module _ (old states ns names : List ℕ) (n : ℕ) where
   abbrev Renamed : ℕ → List ℕ → List ℕ → Type 0
@@ -160,3 +166,69 @@ module _ (old : List Bool) (states : List ℕ) where
       set_at : (j : ℕ) → j < i + 1 → (j ≡ i) ⊎ (j ≡ i → ⊥) → IsSettled new (get_or states j 0)
       set_at j under (inl same) = here (get_or states j 0) (ap (λ k. get_or states k 0) same ∙ at)
       set_at j under (inr other) = stays (get_or states j 0) (is.set j (omega (arith, under, other))) (cases_eq (get_or states j 0) s)
+
+-- ---- a partition, as its states get their names
+
+pub record RenamedSo (old : Partition) (states ns names : List ℕ) (i : ℕ) (p : Partition) (renamed : List ℕ) : Type 0 where
+  pub members : HasMembers p.class.items (length old.class.items) (rows p.members.items)
+  pub each_class : length p.members.items ≡ length old.members.items
+  pub keepers : p.keeper.items ≡ old.keeper.items
+  pub flags : AreSet old.is_settled.items states i p.is_settled.items
+  pub names_are : AreRenamed old.class.items states ns names i (length old.class.items) p.class.items renamed
+
+module _ (old : Partition) (states ns names : List ℕ) (i s : ℕ) (p q : Partition) (renamed : List ℕ)
+    (is : RenamedSo old states ns names i p renamed) (at : get_or states i 0 ≡ s) (low : s < length old.class.items)
+    (flags : length old.is_settled.items ≡ length old.class.items) where
+  set_next : AreSet old.is_settled.items states (i + 1) (set p.is_settled.items s true)
+  set_next =
+      set_more old.is_settled.items states i s p.is_settled.items (set p.is_settled.items s true) is.flags at
+      (omega (arith, low, flags, is.flags.each_state)) refl
+
+  pub named_already : q ≡ record {
+    class = p.class;
+    members = p.members;
+    keeper = p.keeper;
+    is_settled = with_item p.is_settled s true;
+  }
+      → class_of p.class.items s ≡ name_at names ns i
+      → RenamedSo old states ns names (i + 1) q renamed
+  named_already same has_name = subst (λ r. RenamedSo old states ns names (i + 1) r renamed) (sym same) (record {
+    members = is.members;
+    each_class = is.each_class;
+    keepers = is.keepers;
+    flags = set_next;
+    names_are = renamed_same old.class.items states ns names (length old.class.items) i s p.class.items renamed is.names_are at has_name;
+  })
+
+  pub named_now : (row pushed : Vec ℕ) (more : List ℕ)
+      → q ≡ record {
+        class = with_item p.class s (name_at names ns i);
+        members = with_item p.members (name_at names ns i) pushed;
+        keeper = p.keeper;
+        is_settled = with_item p.is_settled s true;
+      }
+      → name_at names ns i < length old.members.items
+      → class_of p.class.items s ≢ name_at names ns i
+      → ((j : ℕ) → j < i → get_or states j 0 ≡ get_or states i 0 → get_or ns j 0 ≡ get_or ns i 0)
+      → row ≡ get_or p.members.items (name_at names ns i) row
+      → pushed.items ≡ row.items ++ s ∷ []
+      → more ≡ renamed ++ s ∷ []
+      → RenamedSo old states ns names (i + 1) q more
+  named_now row pushed more same name_low other one_part read put added =
+      let name = name_at names ns i in
+      let within : s < length p.class.items = omega (arith, low, is.names_are.each_state) in
+      let member_low : name < length p.members.items = omega (arith, name_low, is.each_class) in
+      let rows_long = length-map p.members.items (λ (v : Vec ℕ). v.items) in
+      subst (λ r. RenamedSo old states ns names (i + 1) r more) (sym same) (record {
+        members =
+            moved p.class.items (length old.class.items) (rows p.members.items) (rows (set p.members.items name pushed))
+            is.members name s (omega (arith, member_low, rows_long))
+            (row_pushed (λ (v : Vec ℕ). v.items) p.members.items name s row pushed member_low read put)
+            (set p.class.items s name) low within refl;
+        each_class = length-set p.members.items name pushed ∙ is.each_class;
+        keepers = is.keepers;
+        flags = set_next;
+        names_are =
+            renamed_more old.class.items states ns names (length old.class.items) i s p.class.items renamed is.names_are at
+            (set p.class.items s name) more within low other one_part refl added;
+      })

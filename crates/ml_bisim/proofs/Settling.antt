@@ -3,16 +3,20 @@
 --   unchanged       == an edge of a settled state leads to one that wasn't renamed
 --   refined_again   == so settled states of one class match each other's edges by the new classes
 --   grows_too       == and where no state was renamed, all are settled
-use Rattle.std.proofs.Common.{ℕ, ◌≡◌, ◌<◌, ◌⊎◌, inl, inr, Bool, List, [], length, get_or, All, Contains, refl, sym, ap, ◌∙◌, subst, arith}
+--   falls           == so the rounds end
+--   nothing_left    == and then states of one class match each other's edges
+use Rattle.std.proofs.Common.{ℕ, ◌≡◌, ◌+◌, ◌-◌, ◌<◌, ◌⊎◌, inl, inr, Bool, List, [], ◌∷◌, length, get_or, All, Contains, refl, sym, ap, ◌∙◌, subst, arith}
 use Rattle.std.specs.Global.{Vec}
 use Rattle.std.proofs.lemmas.Grind.{get_or_default_zero}
 use Rattle.ml_base.specs.Structure.{Structure, IsStructure}
+use Rattle.ml_lists.proofs.Members.{contains_none}
 use Rattle.ml_bisim.specs.Bisimilar.{HasEdge}
 use Rattle.ml_bisim.specs.Quotient.{class_of}
 use Rattle.ml_bisim.specs.declared.partition.Partition.{Partition}
-use Rattle.ml_bisim.specs.private.Rounds.{AreListed, AreSettled, Grows, HasMembers, IsCutOff, IsFiner, IsPartition, IsRefined, IsSettled, IsSplit, rows}
+use Rattle.ml_bisim.specs.private.Rounds.{AreListed, AreSettled, Grows, HasMembers, IsCutOff, IsFiner, IsPartition, IsRefined, IsSettled, IsSplit, different, rows}
 use Rattle.ml_bisim.specs.private.Signatures.{SameSteps}
 use Rattle.ml_bisim.proofs.Classes.{edge_from}
+use Rattle.ml_bisim.proofs.Different.{different_le, some_left}
 use Rattle.ml_bisim.proofs.Stable.{finer_is}
 
 module _ (m : Structure) (m_ok : IsStructure m) (class after renamed : List ℕ) (flags : List Bool) (finer : IsFiner m class after)
@@ -78,3 +82,30 @@ refined_again m m_ok class part p q renamed next split classes members keepers l
 pub grows_too : (old new renamed next : List ℕ) → Grows old new renamed → (length renamed ≡ 0 → next ≡ []) → Grows old new next
 grows_too old new renamed next (inl more) none = inl more
 grows_too old new renamed next (inr (same, no_fewer)) none = inr (none (ap length same), no_fewer)
+
+-- with fewer numbers left, or no more and nothing to look at, the measure of the rounds falls
+pub falls : (n : ℕ) (old new next unsettled : List ℕ)
+    → length new ≡ n
+    → (unsettled ≡ [] → ⊥)
+    → Grows old new next
+    → (n - different new) + some_left next < (n - different old) + some_left unsettled
+falls n old new next [] long some grows = absurd (some refl)
+falls n old new next (x ∷ xs) long some (inr (none, no_fewer)) =
+    let left = ap some_left none in omega (arith, left, no_fewer)
+falls n old new [] (x ∷ xs) long some (inl more) = let le = different_le new in omega (arith, more, le, long)
+falls n old new (y ∷ ys) (x ∷ xs) long some (inl more) = let le = different_le new in omega (arith, more, le, long)
+
+-- where no state is to be looked at, all are settled
+pub nothing_left : (m : Structure) (p : Partition) (states : List ℕ) → IsRefined m p states → states ≡ [] → (s t : ℕ)
+    → s < m.states
+    → t < m.states
+    → class_of p.class.items s ≡ class_of p.class.items t
+    → SameSteps m p.class.items s t
+nothing_left m p states is none s t s_low t_low = is.settled s t s_low t_low (settled s s_low) (settled t t_low)
+  where
+    settled : (s : ℕ) → s < m.states → IsSettled p.is_settled.items s
+    settled s low = by_case (is.listed s low)
+      where
+        by_case : IsSettled p.is_settled.items s ⊎ Contains states s → IsSettled p.is_settled.items s
+        by_case (inl h) = h
+        by_case (inr h) = absurd (contains_none s (subst (λ xs. Contains xs s) none h))

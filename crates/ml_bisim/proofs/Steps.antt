@@ -2,11 +2,11 @@
 --
 --   Gathered       == the steps of the edges from a place on are there, and the next place is one of the state's
 --   gathered_none, gathered_more, gathered_all == at first, with one edge more, and in the end
---   source_below, target_below == edges join states
-use Rattle.std.proofs.Common.{ℕ, ◌≡◌, ◌+◌, ◌<◌, ◌≤◌, ◌↔◌, ◌⊎◌, inl, inr, List, [], ◌∷◌, ◌++◌, length, get_or, slice_get, map, Some, Contains, refl, sym, ap, ◌∙◌, subst, arith}
+--   source_below, target_below, sources_low, targets_low == edges join states
+use Rattle.std.proofs.Common.{ℕ, ◌≡◌, ◌+◌, ◌<◌, ◌≤◌, ◌↔◌, ◌⊎◌, inl, inr, List, [], ◌∷◌, ◌++◌, length, get_or, slice_get, map, Some, All, Contains, refl, sym, ap, ◌∙◌, subst, arith}
 use Rattle.std.proofs.lemmas.Bool.{cases_eq, cases_lt}
 use Rattle.std.proofs.lemmas.List.{length-map}
-use Rattle.std.proofs.lemmas.List.Elements.{All-contains, Contains-append_left, Contains-append_right, Contains-append_cases}
+use Rattle.std.proofs.lemmas.List.Elements.{All-contains, All-map, Contains-append_left, Contains-append_right, Contains-append_cases}
 use Rattle.std.proofs.lemmas.Option.{get_or_from_slice_get, slice_get-map, slice_get_within}
 use Rattle.std.specs.Option.{option_map}
 use Rattle.ml_base.specs.declared.structure.Edge.{Edge}
@@ -37,20 +37,36 @@ target_below m ok i e at =
     (All-contains (λ (f : Edge). (f.source < m.states) × (f.target < m.states)) m.edges e ok.joins_states
     (contains_of_member e m.edges (member_of_get m.edges i e at))).1
 
+pub sources_low : (m : Structure) → IsStructure m → (xs : List ℕ) → xs ≡ map (λ (f : Edge). f.source) m.edges → (n : ℕ)
+    → n ≡ m.states
+    → All (λ x. x < n) xs
+sources_low m ok xs are n is =
+    subst (λ k. All (λ x. x < k) xs) (sym is)
+    (subst (All (λ x. x < m.states)) (sym are)
+    (All-map (λ x. x < m.states) (λ (f : Edge). f.source) m.edges (λ k d low. (ok.joins_states k d low).0)))
+
+pub targets_low : (m : Structure) → IsStructure m → (xs : List ℕ) → xs ≡ map (λ (f : Edge). f.target) m.edges → (n : ℕ)
+    → n ≡ m.states
+    → All (λ x. x < n) xs
+targets_low m ok xs are n is =
+    subst (λ k. All (λ x. x < k) xs) (sym is)
+    (subst (All (λ x. x < m.states)) (sym are)
+    (All-map (λ x. x < m.states) (λ (f : Edge). f.target) m.edges (λ k d low. (ok.joins_states k d low).1)))
+
+pub record Gathered (edges : List Edge) (actions class : List ℕ) (s rest : ℕ) (steps : List Step) : Type 0 where
+  pub in_range : rest ≤ length edges
+  pub mine : (i : ℕ) → rest ≡ i + 1 → get_or (map (λ (f : Edge). f.source) edges) i 0 ≡ s
+  pub same : (x : Step) → Contains steps x ↔ StepAt edges actions class rest s x
+
 module _ (edges : List Edge) (actions class : List ℕ) (n : ℕ) (p : Places)
     (places : ArePlaces (map (λ (f : Edge). f.source) edges) n p) (s : ℕ) (s_low : s < n) where
   abbrev sources : List ℕ
   sources = map (λ (f : Edge). f.source) edges
 
-  pub record Gathered (rest : ℕ) (steps : List Step) : Type 0 where
-    pub in_range : rest ≤ length edges
-    pub mine : (i : ℕ) → rest ≡ i + 1 → get_or sources i 0 ≡ s
-    pub same : (x : Step) → Contains steps x ↔ StepAt edges actions class rest s x
-
   edges_long : length sources ≡ length edges
   edges_long = length-map edges (λ (f : Edge). f.source)
 
-  pub gathered_none : (steps : List Step) → steps ≡ [] → Gathered (get_or p.last.items s 0) steps
+  pub gathered_none : (steps : List Step) → steps ≡ [] → Gathered edges actions class s (get_or p.last.items s 0) steps
   gathered_none steps none =
       let is = places.last s s_low in
       record {
@@ -66,13 +82,13 @@ module _ (edges : List Edge) (actions class : List ℕ) (n : ℕ) (p : Places)
 
   -- the edge at the next place is one more
   pub gathered_more : (rest place : ℕ) (e : Edge) (step : Step) (steps new : List Step)
-      → Gathered rest steps
+      → Gathered edges actions class s rest steps
       → rest ≡ place + 1
       → slice_get edges place ≡ Some e
       → step.action ≡ get_or actions place 0
       → step.class ≡ class_of class e.target
       → new ≡ steps ++ step ∷ []
-      → Gathered (get_or p.before.items place 0) new
+      → Gathered edges actions class s (get_or p.before.items place 0) new
   gathered_more rest place e step steps new old next stands by_action into_class pushed = record {
     in_range = omega (arith, link.before, old.in_range, next);
     mine = λ i is. link.stands i is ∙ old.mine place next;
@@ -137,7 +153,7 @@ module _ (edges : List Edge) (actions class : List ℕ) (n : ℕ) (p : Places)
           (number_at (λ (f : Edge). f.source) edges o.place o.edge o.stands ∙ o.leaves ∙ sym (old.mine place next)))
 
   pub gathered_all : (rest : ℕ) (steps : List Step)
-      → Gathered rest steps
+      → Gathered edges actions class s rest steps
       → rest ≡ 0
       → (x : Step) → Contains steps x ↔ StepAt edges actions class 0 s x
   gathered_all rest steps is end x = subst (λ r. Contains steps x ↔ StepAt edges actions class r s x) end (is.same x)

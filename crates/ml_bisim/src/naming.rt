@@ -32,8 +32,7 @@ pub(crate) fn keep(
     ensures kept { OnOk result (AreKept class.now states.now parts.now.numbers.items keeper.new first) }
 {
     keep_from(keeper, class, states, &parts.numbers, 0);
-    let sizes = sizes(alloc, &parts.numbers, parts.count)?;
-    keep_larger(keeper, class, states, &parts.numbers, &sizes);
+    keep_larger(alloc, keeper, class, states, parts)?;
     keep_from(keeper, class, states, &parts.numbers, first);
     Ok(())
 }
@@ -54,22 +53,30 @@ fn keep_from(keeper: &mut [usize], class: &[usize], states: &[u32], numbers: &[u
 }
 
 // larger parts keep the numbers of their classes
-fn keep_larger(keeper: &mut [usize], class: &[usize], states: &[u32], numbers: &[usize], sizes: &[usize])
+fn keep_larger(
+    alloc: Global,
+    keeper: &mut [usize],
+    class: &[usize],
+    states: &[u32],
+    parts: &Numbering,
+) -> Result<(), NoMemory>
     requires in_range { All (λ s. s < length class.now) states.now }
     requires classes { All (λ c. c < length keeper.old) class.now }
-    requires each_state { length numbers.now ≡ length states.now }
-    requires numbers { All (λ n. n < length sizes.now) numbers.now }
-    requires kept { (i : ℕ) → i < length states.now → KeepsFrom class.now states.now numbers.now keeper.old 0 (class_of class.now (get_or states.now i 0)) }
+    requires each_state { length parts.now.numbers.items ≡ length states.now }
+    requires numbers { All (λ n. n < parts.now.count) parts.now.numbers.items }
+    requires kept { (i : ℕ) → i < length states.now → KeepsFrom class.now states.now parts.now.numbers.items keeper.old 0 (class_of class.now (get_or states.now i 0)) }
     ensures each_class { length keeper.new ≡ length keeper.old }
-    ensures kept { (i : ℕ) → i < length states.now → KeepsFrom class.now states.now numbers.now keeper.new 0 (class_of class.now (get_or states.now i 0)) }
+    ensures kept { OnOk result ((i : ℕ) → i < length states.now → KeepsFrom class.now states.now parts.now.numbers.items keeper.new 0 (class_of class.now (get_or states.now i 0))) }
 {
+    let sizes = sizes(alloc, &parts.numbers, parts.count)?;
     for i in 0..states.len() {
         let class = class[states[i] as usize];
-        let part = numbers[i];
+        let part = parts.numbers[i];
         if sizes[part] > sizes[keeper[class]] {
             keeper[class] = part;
         }
     }
+    Ok(())
 }
 
 // how often each number stands there

@@ -31,7 +31,7 @@ pub(crate) fn classes(alloc: Global, structure: &Structure) -> Result<Numbering,
     let edges = edges_of(alloc, structure)?;
     let mut unsettled = all_states(alloc, structure)?;
     let mut partition = Partition::by_labels(alloc, structure, &unsettled)?;
-    while !unsettled.is_empty() {
+    'rounds: while !unsettled.is_empty() {
         unsettled = refine(alloc, structure, &edges, &mut partition, unsettled)?;
     }
     numbered(alloc, partition.class)
@@ -61,8 +61,9 @@ fn refine(
     ensures refined { IfOk result (λ next. IsRefined structure.now partition.new next.items) }
     ensures grows { IfOk result (λ next. Grows partition.old.class.items partition.new.class.items next.items) }
 {
+    let _states = structure.states();
     let renamed = split(alloc, structure, edges, partition, unsettled)?;
-    unsettle(alloc, structure, edges, &mut partition.is_settled, &renamed)
+    unsettle(alloc, structure, edges, partition, &renamed)
 }
 
 // The classes are split by the edges of their states. What comes back are the states that got a new class.
@@ -132,12 +133,12 @@ fn rename(
     for i in 0..first {
         let state = states[i];
         let name = names[numbers[i]];
+        partition.is_settled[state as usize] = true;
         if partition.class[state as usize] != name {
             partition.class[state as usize] = name;
             partition.members[name].push(state)?;
             renamed.push(state)?;
         }
-        partition.is_settled[state as usize] = true;
     }
     Ok(renamed)
 }
@@ -147,22 +148,31 @@ fn unsettle(
     alloc: Global,
     structure: &Structure,
     edges: &Edges,
-    is_settled: &mut [bool],
+    partition: &mut Partition,
     renamed: &[u32],
 ) -> Result<Vec<u32>, NoMemory>
     requires edges { AreEdges structure.now edges.now }
-    requires flags { length is_settled.old ≡ structure.now.states }
-    requires settled { (s : ℕ) → s < structure.now.states → IsSettled is_settled.old s }
+    requires flags { length partition.old.is_settled.items ≡ structure.now.states }
+    requires settled { (s : ℕ) → s < structure.now.states → IsSettled partition.old.is_settled.items s }
     requires in_range { All (λ s. s < structure.now.states) renamed.now }
-    ensures flags { length is_settled.new ≡ structure.now.states }
+    ensures class { OnOk result (partition.new.class ≡ partition.old.class) }
+    ensures members { OnOk result (partition.new.members ≡ partition.old.members) }
+    ensures keepers { OnOk result (partition.new.keeper ≡ partition.old.keeper) }
+    ensures flags { OnOk result (length partition.new.is_settled.items ≡ structure.now.states) }
     ensures in_range { IfOk result (λ states. All (λ s. s < structure.now.states) states.items) }
-    ensures listed { IfOk result (λ states. AreListed is_settled.new structure.now.states states.items) }
-    ensures cut_off { OnOk result ((i : ℕ) → i < length renamed.now → IsCutOff structure.now.edges is_settled.new (get_or renamed.now i 0)) }
+    ensures listed { IfOk result (λ states. AreListed partition.new.is_settled.items structure.now.states states.items) }
+    ensures cut_off { OnOk result ((i : ℕ) → i < length renamed.now → IsCutOff structure.now.edges partition.new.is_settled.items (get_or renamed.now i 0)) }
     ensures none { IfOk result (λ states. length renamed.now ≡ 0 → states.items ≡ []) }
 {
     let mut unsettled = Vec::new(alloc);
     for state in renamed {
-        unsettle_before(structure, edges, is_settled, &mut unsettled, *state)?;
+        unsettle_before(
+            structure,
+            edges,
+            &mut partition.is_settled,
+            &mut unsettled,
+            *state,
+        )?;
     }
     Ok(unsettled)
 }

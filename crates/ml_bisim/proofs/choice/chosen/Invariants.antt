@@ -7,4 +7,4 @@ abbrev pub invariant-loop-of : goal.invariant-loop-of
 invariant-loop-of l =
     HasMembers l.class (length l.class) (rows l.members)
     × (length l.members ≡ length l.fn.members)
-    × Choosing l.class l.is_settled (length l.class) l.fn.states.items l.classes.items l.of-index l.chosen.items
+    × Choosing l.class l.is_settled (length l.class) l.fn.states.items l.of-items l.of-index l.chosen.items

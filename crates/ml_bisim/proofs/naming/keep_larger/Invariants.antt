@@ -8,5 +8,5 @@ invariant-loop-i l = record {
   each_class : length l.keeper ≡ length l.fn.keeper;
   kept : (j : ℕ)
       → j < length l.states
-      → KeepsFrom l.class l.states l.numbers l.keeper 0 (class_of l.class (get_or l.states j 0));
+      → KeepsFrom l.class l.states l.parts.numbers.items l.keeper 0 (class_of l.class (get_or l.states j 0));
 }

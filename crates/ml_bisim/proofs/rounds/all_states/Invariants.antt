@@ -1,6 +1,6 @@
-use Rattle.std.proofs.Common.{◌≡◌}
-use Rattle.std.specs.List.{range_with_len}
+use Rattle.std.proofs.Common.{ℕ, ◌≡◌, ◌<◌, length, get_or}
 use Rattle.ml_bisim.proofs.rounds.all_states.Given as goal
 
 abbrev pub invariant-loop-state : goal.invariant-loop-state
-invariant-loop-state l = l.states.items ≡ range_with_len 0 l.state
+invariant-loop-state l =
+    (length l.states.items ≡ l.state) × ((k : ℕ) → k < l.state → get_or l.states.items k 0 ≡ k)

@@ -1,10 +1,10 @@
-use Rattle.std.proofs.Common.{ℕ, ◌+◌, ◌-◌, List, [], ◌∷◌}
+use Rattle.std.proofs.Common.{◌+◌, ◌-◌}
 use Rattle.ml_bisim.specs.private.Rounds.{IsRefined, different}
 use Rattle.ml_bisim.proofs.Different.{some_left}
 use Rattle.ml_bisim.proofs.rounds.classes.Given as goal
 
-abbrev pub invariant-loop-unsettled : goal.invariant-loop-unsettled
-invariant-loop-unsettled l = IsRefined l.structure l.partition l.unsettled.items
+abbrev pub invariant-rounds : goal.invariant-rounds
+invariant-rounds l = IsRefined l.structure l.partition l.unsettled.items
 
-abbrev pub decreases-loop-unsettled : goal.decreases-loop-unsettled
-decreases-loop-unsettled l = (l.structure.states - different l.partition.class.items) + some_left l.unsettled.items
+abbrev pub decreases-rounds : goal.decreases-rounds
+decreases-rounds l = (l.structure.states - different l.partition.class.items) + some_left l.unsettled.items
