@@ -3,13 +3,14 @@
 --   Choosing       == of the first i classes a settled state was chosen, where there is one
 --   choosing_none, choosing_one, choosing_other == at first, with a settled state of the next class, and where it has none
 --   are_chosen     == in the end, where the classes are those of the states
+--   class_listed   == these classes have lists of members
 use Rattle.std.proofs.Common.{ℕ, ◌≡◌, ◌+◌, ◌<◌, ◌≤◌, ◌↔◌, ◌⊎◌, inl, inr, Bool, List, [], ◌∷◌, ◌++◌, length, length-append, get_or, map, All, Contains, refl, sym, ap, ◌∙◌, subst, arith}
 use Rattle.std.proofs.lemmas.Bool.{cases_eq, cases_lt}
 use Rattle.std.proofs.lemmas.Grind.{get_or_default_zero}
 use Rattle.std.proofs.lemmas.List.{get_or-map, get_or_append_left, length-map}
 use Rattle.ml_lists.proofs.Members.{All-more_read}
 use Rattle.ml_bisim.specs.Quotient.{class_of}
-use Rattle.ml_bisim.specs.private.Rounds.{AreChosen, IsSettled}
+use Rattle.ml_bisim.specs.private.Rounds.{AreChosen, HasMembers, IsSettled}
 use Rattle.ml_bisim.proofs.Links.{last_entry}
 
 module _ (class : List ℕ) (flags : List Bool) (n : ℕ) (states classes : List ℕ) where
@@ -130,3 +131,21 @@ module _ (class : List ℕ) (flags : List Bool) (n : ℕ) (states classes : List
       some j under (k, low, at) =
           let there = sym (get_or_default_zero classes k (class_of class (get_or states j 0)) low) ∙ at in
           subst (Covers chosen) (there ∙ ap (class_of class) (sym (is.front j under))) (is.covers k (omega (arith, low, all)))
+
+-- the class of a state is the number of a list of members
+pub class_listed : (class : List ℕ) (n : ℕ) (members : List (List ℕ)) (states classes : List ℕ)
+    → HasMembers class n members
+    → All (λ s. s < n) states
+    → ((c : ℕ) → Contains classes c ↔ Contains (map (class_of class) states) c)
+    → (i : ℕ)
+    → i < length classes
+    → get_or classes i 0 < length members
+class_listed class n members states classes has low same i i_low =
+    of_state ((same (get_or classes i 0)).0 (i, i_low, get_or_default_zero classes i (get_or classes i 0) i_low))
+  where
+    of_state : Contains (map (class_of class) states) (get_or classes i 0) → get_or classes i 0 < length members
+    of_state (k, k_low, at) =
+        let under : k < length states = omega (arith, k_low, length-map states (class_of class)) in
+        let is = get_or-map (class_of class) states k 0 (get_or classes i 0) under in
+        let below = has.classes (get_or states k 0) (low k 0 under) in
+        omega (arith, is, at, below)

@@ -6,13 +6,15 @@
 --   pruned    == a class's list without what isn't in the class
 --   widened   == one list more, with no members
 --   no_states == no states are in any lists
+--   row_is, row_low, row_has, row_pruned == a list of the members, as a vector among vectors
 use Rattle.std.proofs.Common.{ℕ, zero, suc, ◌≡◌, ◌≢◌, ◌+◌, ◌<◌, ◌≤◌, ◌⊎◌, inl, inr, List, [], ◌∷◌, ◌++◌, length, length-append, get_or, set, map, replicate, All, Contains, refl, sym, ap, ◌∙◌, subst, arith}
 use Rattle.std.proofs.lemmas.Bool.{cases_eq, cases_lt}
-use Rattle.std.proofs.lemmas.List.{get_or-map, get_or-set_same, get_or-set_other, get_or_append_left, get_or_past, length-set, map-set}
+use Rattle.std.proofs.lemmas.List.{get_or-map, get_or-set_same, get_or-set_other, get_or_append_left, get_or_default, get_or_past, length-map, length-set, map-set}
+use Rattle.std.specs.Global.{Vec}
 use Rattle.std.proofs.lemmas.List.Elements.{All-contains, Contains-append_left, Contains-append_right, Contains-append_cases}
 use Rattle.ml_lists.proofs.Members.{contains_cases, contains_head, contains_none}
 use Rattle.ml_bisim.specs.Quotient.{class_of}
-use Rattle.ml_bisim.specs.private.Rounds.{HasMembers}
+use Rattle.ml_bisim.specs.private.Rounds.{HasMembers, rows}
 use Rattle.ml_bisim.proofs.Links.{last_entry}
 
 pub row_written : {V : Type 0} (items : V → List ℕ) (rows : List V) (s : ℕ) (new : V) (row : List ℕ)
@@ -185,3 +187,32 @@ no_states class rows k are = record {
   has = λ s low. absurd (omega (arith, low));
   low = λ d s h. absurd (contains_none s (subst (λ xs. Contains xs s) (ap (λ rs. get_or rs d none) are ∙ empty_rows k d) h));
 }
+
+-- a list of the members, as a vector among vectors
+module _ (class : List ℕ) (n : ℕ) (members : List (Vec ℕ)) (is : HasMembers class n (rows members)) (c : ℕ) (low : c < length members)
+    (v : Vec ℕ) where
+  abbrev this : List ℕ
+  this = (get_or members c v).items
+
+  pub row_is : get_or (rows members) c none ≡ this
+  row_is = get_or-map (λ (u : Vec ℕ). u.items) members c v none low
+
+  pub row_low : All (λ s. s < n) this
+  row_low = λ k d k_low.
+      is.low c (get_or this k d)
+      (subst (λ xs. Contains xs (get_or this k d)) (sym row_is)
+      (k, k_low, get_or_default this k (get_or this k d) d k_low))
+
+  pub row_has : (s : ℕ) → s < n → class_of class s ≡ c → Contains this s
+  row_has s s_low e =
+      subst (λ xs. Contains xs s) row_is (subst (λ d. Contains (get_or (rows members) d none) s) e (is.has s s_low))
+
+  pub row_pruned : (new : Vec ℕ)
+      → All (λ s. s < n) new.items
+      → ((s : ℕ) → class_of class s ≡ c → Contains this s → Contains new.items s)
+      → HasMembers class n (rows (set members c new))
+  row_pruned new all kept =
+      pruned class n (rows members) (rows (set members c new)) is c new.items
+      (omega (arith, low, length-map members (λ (u : Vec ℕ). u.items)))
+      (row_written (λ (u : Vec ℕ). u.items) members c new new.items refl)
+      (λ s e h. kept s e (subst (λ xs. Contains xs s) row_is h)) all

@@ -6,15 +6,19 @@
 --   is_finer         == so it is with any two
 --   value_kept       == no number of a class is lost
 --   split_grows      == and where a state is renamed there is one more
+--   parts_as, one_class, one_part == what is known of parts
+--   split_is         == what a round makes of a partition
 use Rattle.std.proofs.Common.{ℕ, ◌≡◌, ◌≢◌, ◌+◌, ◌<◌, ◌≤◌, ◌↔◌, ◌⊎◌, inl, inr, Bool, List, [], ◌∷◌, length, get_or, Contains, refl, sym, ap, ◌∙◌, subst, arith}
 use Rattle.std.proofs.lemmas.Bool.{cases_eq}
+use Rattle.std.proofs.lemmas.List.{get_or_default}
 use Rattle.ml_base.specs.Structure.{Structure}
 use Rattle.ml_lists.specs.Member.{IsMember}
 use Rattle.ml_lists.proofs.Member.{Place, member-place, place-member}
 use Rattle.ml_lists.proofs.Members.{contains_head}
 use Rattle.ml_bisim.specs.Bisimilar.{HasEdge}
 use Rattle.ml_bisim.specs.Quotient.{class_of}
-use Rattle.ml_bisim.specs.private.Rounds.{AreChosen, AreKept, AreNames, AreRenamed, AreSettled, Grows, IsFiner, IsSettled, KeepsFrom, different, name_at}
+use Rattle.ml_bisim.specs.declared.partition.Partition.{Partition}
+use Rattle.ml_bisim.specs.private.Rounds.{AreChosen, AreKept, AreNames, AreRenamed, AreSet, AreSettled, Grows, HasMembers, IsFiner, IsRefined, IsSettled, IsSplit, KeepsFrom, different, name_at, rows}
 use Rattle.ml_bisim.specs.private.Signatures.{AreParts, SameSteps}
 use Rattle.ml_bisim.proofs.Different.{more, no_fewer}
 
@@ -278,3 +282,71 @@ module _ (m : Structure) (class : List ℕ) (flags : List Bool) (each_state : le
       by_list : (xs : List ℕ) → renamed ≡ xs → Grows class after renamed
       by_list [] e = inr (e, no_fewer class after inside)
       by_list (x ∷ xs) e = inl (one_more x (subst (λ ys. Contains ys x) (sym e) (contains_head x xs)))
+
+-- ---- where states and classes stand in several places
+
+pub parts_as : (m : Structure) (class lent states given : List ℕ) (ns : List ℕ) (n : ℕ)
+    → lent ≡ class
+    → given ≡ states
+    → AreParts m class states ns n
+    → AreParts m lent given ns n
+parts_as m class lent states given ns n same_class same_states parts =
+    subst (λ c. AreParts m c given ns n) (sym same_class) (subst (λ xs. AreParts m class xs ns n) (sym same_states) parts)
+
+pub one_class : (m : Structure) (class states ns : List ℕ) (n : ℕ) → AreParts m class states ns n → (i j : ℕ)
+    → i < length states
+    → j < length states
+    → get_or ns i 0 ≡ get_or ns j 0
+    → class_of class (get_or states i 0) ≡ class_of class (get_or states j 0)
+one_class m class states ns n parts i j i_low j_low e = ((parts.same i j i_low j_low).0 e).0
+
+pub one_part : (m : Structure) (class states ns : List ℕ) (n : ℕ) → AreParts m class states ns n → (i j : ℕ)
+    → i < length states
+    → j < length states
+    → get_or states i 0 ≡ get_or states j 0
+    → get_or ns i 0 ≡ get_or ns j 0
+one_part m class states ns n parts i j i_low j_low e =
+    (parts.same i j i_low j_low).1
+    (ap (class_of class) e, subst (SameSteps m class (get_or states i 0)) e (same_itself m class (get_or states i 0)))
+
+pub split_is : (m : Structure) (p q : Partition) (unsettled states ns keeper names renamed : List ℕ) (count old new : ℕ)
+    → IsRefined m p unsettled
+    → AreChosen p.class.items p.is_settled.items m.states (length unsettled) states
+    → ((i : ℕ) → i < length unsettled → get_or states i 0 ≡ get_or unsettled i 0)
+    → AreParts m p.class.items states ns count
+    → AreKept p.class.items states ns keeper (length unsettled)
+    → AreNames p.class.items states ns keeper names old new
+    → ((s : ℕ) → s < m.states → class_of p.class.items s < old)
+    → AreRenamed p.class.items states ns names (length unsettled) m.states q.class.items renamed
+    → AreSet p.is_settled.items states (length unsettled) q.is_settled.items
+    → HasMembers q.class.items m.states (rows q.members.items)
+    → length q.keeper.items ≡ length q.members.items
+    → IsSplit m p.class.items q renamed
+split_is m p q unsettled states ns keeper names renamed count old new is chosen front parts kept named old_low are set members keepers =
+    record {
+      finer = is_finer m p.class.items p.is_settled.items is.part.each_state is.settled states (length unsettled) chosen listed
+          ns count parts keeper kept old new old_low names named q.class.items renamed are;
+      members = members;
+      keepers = keepers;
+      flags = set.each_state ∙ is.flags;
+      settled = λ s low. settled s (listed s low);
+      has = are.has;
+      in_range = λ k d low. (are.only (get_or renamed k d)
+          (k, low, get_or_default renamed k (get_or renamed k d) d low)).0;
+      grows = split_grows m p.class.items p.is_settled.items is.part.each_state is.settled states (length unsettled) chosen
+          listed ns count parts keeper kept old new old_low names named q.class.items renamed are;
+    }
+  where
+    listed : (s : ℕ) → s < m.states
+        → IsSettled p.is_settled.items s ⊎ ((i : ℕ) × (i < length unsettled) × (get_or states i 0 ≡ s))
+    listed s low = by_case (is.listed s low)
+      where
+        by_case : IsSettled p.is_settled.items s ⊎ Contains unsettled s
+            → IsSettled p.is_settled.items s ⊎ ((i : ℕ) × (i < length unsettled) × (get_or states i 0 ≡ s))
+        by_case (inl h) = inl h
+        by_case (inr (i, i_low, at)) = inr (i, i_low, front i i_low ∙ get_or_default unsettled i 0 s i_low ∙ at)
+
+    settled : (s : ℕ) → IsSettled p.is_settled.items s ⊎ ((i : ℕ) × (i < length unsettled) × (get_or states i 0 ≡ s))
+        → IsSettled q.is_settled.items s
+    settled s (inl h) = set.stay s h
+    settled s (inr (i, low, at)) = subst (IsSettled q.is_settled.items) at (set.set i low)

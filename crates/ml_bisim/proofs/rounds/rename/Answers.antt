@@ -1,4 +1,4 @@
-use Rattle.std.proofs.Common.{ℕ, ◌≡◌, ◌<◌, ◌∙◌, ap, get_or, length, refl, subst, sym, arith}
+use Rattle.std.proofs.Common.{ℕ, ◌≡◌, ◌+◌, ◌<◌, ◌∙◌, ap, get_or, length, refl, subst, sym, arith}
 use Rattle.std.proofs.lemmas.List.{get_or_default}
 use Rattle.std.specs.Global.{Vec}
 use Rattle.ml_bisim.specs.private.Rounds.{name_at}
@@ -41,7 +41,7 @@ loop-i-preserved c =
             w.index_mut-then-index-name-2.ensures.value w.in_ok-push.ensures.items
             (ap (λ (v : Vec ℕ). v.items) w.renamed-is ∙ w.in_ok-push-2.ensures.items)
       | else-index-name w ↦
-            subst (λ (v : Vec ℕ). RenamedSo old states ns names _ c.if-index-name.partition v.items) (sym w.renamed-is)
+            subst (λ (v : Vec ℕ). RenamedSo old states ns names (i + 1) c.if-index-name.partition v.items) (sym w.renamed-is)
             (named_already old states ns names i s p c.if-index-name.partition c.loop-i.renamed.items c.loop-i.invariant refl low
             c.requires.flags w.partition-is (sym read ∙ w.if-index-name.false))
     ]
