@@ -1,35 +1,45 @@
 -- The states from which an edge leads to a state, as they are gone through from the last of these edges back to the first.
 --
---   Passed       == no edge from a place on that leads to the state leaves a settled one
---   passed_none, passed_same, passed_more, passed_all == at first, with an edge more that leaves a state that isn't settled or
---                                                        one that is, and in the end
---   fewer_cut_off == with fewer settled states it stays so
+--   Passed       == each edge from a place on that leads to the state leaves one that isn't settled, or is alone in its class
+--   passed_none, passed_next, passed_all == at first, with one edge more, and in the end
+--   still_loose, fewer_cut_off, cut_off_more == with fewer settled states it stays so
+--   alone_among  == a state is alone where its class has one member
 use Rattle.std.proofs.Common.{ℕ, ◌≡◌, ◌+◌, ◌<◌, ◌≤◌, ◌⊎◌, inl, inr, Bool, true, false, List, [], ◌∷◌, ◌++◌, length, get_or, set, slice_get, map, Some, All, Contains, refl, sym, ap, ◌∙◌, subst, arith}
 use Rattle.std.proofs.lemmas.Bool.{cases_eq, cases_lt, false≢true}
-use Rattle.std.proofs.lemmas.List.{get_or-set_same, get_or-set_other, length-map, length-set}
-use Rattle.std.proofs.lemmas.List.Elements.{All-push, Contains-append_left, Contains-append_right}
+use Rattle.std.proofs.lemmas.List.{get_or-set_same, get_or-set_other, get_or_default, length-map}
+use Rattle.std.proofs.lemmas.List.Elements.{Contains-append_left, Contains-append_right}
 use Rattle.std.proofs.lemmas.Option.{slice_get-get_or, slice_get_within}
 use Rattle.ml_base.specs.declared.structure.Edge.{Edge}
 use Rattle.ml_lists.proofs.Member.{Place, member-place}
 use Rattle.ml_lists.proofs.Members.{contains_head, member_of_contains}
 use Rattle.ml_bisim.specs.declared.places.Places.{Places}
 use Rattle.ml_bisim.specs.private.Places.{ArePlaces, IsLastBefore}
-use Rattle.ml_bisim.specs.private.Rounds.{AreListed, IsCutOff, IsSettled}
+use Rattle.ml_bisim.specs.Quotient.{class_of}
+use Rattle.ml_bisim.specs.private.Rounds.{AreListed, HasMembers, IsAlone, IsCutOff, IsLoose, IsSettled}
 use Rattle.ml_bisim.proofs.Steps.{number_at}
 
 some_same : {K : Type 0} {x y : K} → Some x ≡ Some y → x ≡ y
 some_same e = cc
 
-pub record Passed (edges : List Edge) (n t : ℕ) (old : List Bool) (rest : ℕ) (flags : List Bool) (states : List ℕ) : Type 0 where
+pub record Passed (edges : List Edge) (class : List ℕ) (n t : ℕ) (old : List Bool) (rest : ℕ) (flags : List Bool)
+    (states : List ℕ) : Type 0 where
   pub in_range : rest ≤ length edges
   pub mine : (i : ℕ) → rest ≡ i + 1 → get_or (map (λ (f : Edge). f.target) edges) i 0 ≡ t
   pub flags_long : length flags ≡ n
   pub low : All (λ s. s < n) states
   pub listed : AreListed flags n states
   pub fewer : (s : ℕ) → IsSettled flags s → IsSettled old s
-  pub done : (place : ℕ) (e : Edge) → slice_get edges place ≡ Some e → rest ≤ place → e.target ≡ t → ¬ (IsSettled flags e.source)
+  pub done : (place : ℕ) (e : Edge) → slice_get edges place ≡ Some e → rest ≤ place → e.target ≡ t
+      → IsLoose class n flags e.source
 
-module _ (edges : List Edge) (n : ℕ) (p : Places) (places : ArePlaces (map (λ (f : Edge). f.target) edges) n p) (t : ℕ)
+pub still_loose : (class : List ℕ) (n : ℕ) (old new : List Bool) (s : ℕ)
+    → ((s : ℕ) → IsSettled new s → IsSettled old s)
+    → IsLoose class n old s
+    → IsLoose class n new s
+still_loose class n old new s fewer (inl off) = inl (λ h. off (fewer s h))
+still_loose class n old new s fewer (inr alone) = inr alone
+
+module _ (edges : List Edge) (n : ℕ) (p : Places) (places : ArePlaces (map (λ (f : Edge). f.target) edges) n p) (class : List ℕ) (t : ℕ)
     (old : List Bool) where
   abbrev targets : List ℕ
   targets = map (λ (f : Edge). f.target) edges
@@ -42,7 +52,7 @@ module _ (edges : List Edge) (n : ℕ) (p : Places) (places : ArePlaces (map (λ
       → length old ≡ n
       → All (λ s. s < n) states
       → AreListed old n states
-      → Passed edges n t old (get_or p.last.items t 0) old states
+      → Passed edges class n t old (get_or p.last.items t 0) old states
   passed_none states t_low long low listed =
       let is = places.last t t_low in
       record {
@@ -56,7 +66,7 @@ module _ (edges : List Edge) (n : ℕ) (p : Places) (places : ArePlaces (map (λ
             (omega (arith, slice_get_within edges place e at, edges_long)) (number_at (λ (f : Edge). f.target) edges place e at ∙ same));
       }
 
-  module _ (rest place : ℕ) (e : Edge) (flags : List Bool) (states : List ℕ) (is : Passed edges n t old rest flags states)
+  module _ (rest place : ℕ) (e : Edge) (flags : List Bool) (states : List ℕ) (is : Passed edges class n t old rest flags states)
       (next : rest ≡ place + 1) (stands : slice_get edges place ≡ Some e) where
     link : IsLastBefore targets place (get_or targets place 0) (get_or p.before.items place 0)
     link = places.links place (omega (arith, is.in_range, next, edges_long))
@@ -73,76 +83,69 @@ module _ (edges : List Edge) (n : ℕ) (p : Places) (places : ArePlaces (map (λ
             absurd (link.none_later k le (omega (arith, below, other, next))
             (number_at (λ (g : Edge). g.target) edges k f at ∙ same ∙ sym (is.mine place next)))
 
-    pub passed_same : (¬ (IsSettled flags e.source)) → Passed edges n t old (get_or p.before.items place 0) flags states
-    passed_same unsettled = record {
+    pub passed_next : (new : List Bool) (more : List ℕ)
+        → length new ≡ n
+        → All (λ s. s < n) more
+        → AreListed new n more
+        → ((s : ℕ) → IsSettled new s → IsSettled flags s)
+        → IsLoose class n new e.source
+        → Passed edges class n t old (get_or p.before.items place 0) new more
+    passed_next new more long low listed fewer loose = record {
       in_range = omega (arith, link.before, is.in_range, next);
       mine = λ i at. link.stands i at ∙ is.mine place next;
-      flags_long = is.flags_long;
-      low = is.low;
-      listed = is.listed;
-      fewer = is.fewer;
+      flags_long = long;
+      low = low;
+      listed = listed;
+      fewer = λ s h. is.fewer s (fewer s h);
       done = λ k f at le same. done k f at same (next_or_passed k f at le same);
     }
       where
         done : (k : ℕ) (f : Edge) → slice_get edges k ≡ Some f → f.target ≡ t → (f ≡ e) ⊎ (rest ≤ k)
-            → ¬ (IsSettled flags f.source)
-        done k f at same (inl one) = subst (λ (g : Edge). ¬ (IsSettled flags g.source)) (sym one) unsettled
-        done k f at same (inr above) = is.done k f at above same
+            → IsLoose class n new f.source
+        done k f at same (inl one) = subst (λ (g : Edge). IsLoose class n new g.source) (sym one) loose
+        done k f at same (inr above) = still_loose class n flags new f.source fewer (is.done k f at above same)
 
-    pub passed_more : (new : List Bool) (more : List ℕ)
-        → e.source < n
-        → new ≡ set flags e.source false
-        → more ≡ states ++ e.source ∷ []
-        → Passed edges n t old (get_or p.before.items place 0) new more
-    passed_more new more s_low written pushed = record {
-      in_range = omega (arith, link.before, is.in_range, next);
-      mine = λ i at. link.stands i at ∙ is.mine place next;
-      flags_long = ap length written ∙ length-set flags e.source false ∙ is.flags_long;
-      low = subst (All (λ s. s < n)) (sym pushed) (All-push (λ s. s < n) states e.source is.low s_low);
-      listed = λ s low. listed s low (cases_eq s e.source);
-      fewer = λ s h. is.fewer s (still s h (cases_eq s e.source));
-      done = λ k f at le same. done k f at same (next_or_passed k f at le same);
-    }
-      where
-        here : (s : ℕ) → s ≡ e.source → ¬ (IsSettled new s)
-        here s same h =
-            let off : get_or new s false ≡ false =
-            ap (λ xs. get_or xs s false) written ∙ ap (λ u. get_or (set flags e.source false) u false) same
-            ∙ get_or-set_same flags e.source false false (omega (arith, s_low, is.flags_long)) in
-            false≢true (sym off ∙ h)
-
-        there : (s : ℕ) → (s ≡ e.source → ⊥) → get_or new s false ≡ get_or flags s false
-        there s apart = ap (λ xs. get_or xs s false) written ∙ get_or-set_other flags e.source s false false apart
-
-        still : (s : ℕ) → IsSettled new s → (s ≡ e.source) ⊎ (s ≡ e.source → ⊥) → IsSettled flags s
-        still s h (inl same) = absurd (here s same h)
-        still s h (inr apart) = sym (there s apart) ∙ h
-
-        listed : (s : ℕ) → s < n → (s ≡ e.source) ⊎ (s ≡ e.source → ⊥) → IsSettled new s ⊎ Contains more s
-        listed s low (inl same) =
-            inr (subst (λ xs. Contains xs s) (sym pushed) (Contains-append_right states (e.source ∷ []) s
-            (subst (λ u. Contains (e.source ∷ []) u) (sym same) (contains_head e.source []))))
-        listed s low (inr apart) = by_case (is.listed s low)
-          where
-            by_case : IsSettled flags s ⊎ Contains states s → IsSettled new s ⊎ Contains more s
-            by_case (inl h) = inl (there s apart ∙ h)
-            by_case (inr h) =
-                inr (subst (λ xs. Contains xs s) (sym pushed) (Contains-append_left states (e.source ∷ []) s h))
-
-        done : (k : ℕ) (f : Edge) → slice_get edges k ≡ Some f → f.target ≡ t → (f ≡ e) ⊎ (rest ≤ k)
-            → ¬ (IsSettled new f.source)
-        done k f at same (inl one) = here f.source (ap (λ (g : Edge). g.source) one)
-        done k f at same (inr above) = λ h. is.done k f at above same (still f.source h (cases_eq f.source e.source))
-
-  pub passed_all : (rest : ℕ) (flags : List Bool) (states : List ℕ) → Passed edges n t old rest flags states → rest ≡ 0 → IsCutOff edges flags t
+  pub passed_all : (rest : ℕ) (flags : List Bool) (states : List ℕ) → Passed edges class n t old rest flags states → rest ≡ 0
+      → IsCutOff edges class n flags t
   passed_all rest flags states is end e h same = of_place (member-place e edges (member_of_contains e edges h))
     where
-      of_place : Place e edges → ¬ (IsSettled flags e.source)
+      of_place : Place e edges → IsLoose class n flags e.source
       of_place q =
           is.done q.place e (slice_get-get_or edges q.place e q.below ∙ ap Some (q.holds e)) (omega (arith, end)) same
 
-pub fewer_cut_off : (edges : List Edge) (old new : List Bool) (t : ℕ)
+pub fewer_cut_off : (edges : List Edge) (class : List ℕ) (n : ℕ) (old new : List Bool) (t : ℕ)
     → ((s : ℕ) → IsSettled new s → IsSettled old s)
-    → IsCutOff edges old t
-    → IsCutOff edges new t
-fewer_cut_off edges old new t fewer is e h same settled = is e h same (fewer e.source settled)
+    → IsCutOff edges class n old t
+    → IsCutOff edges class n new t
+fewer_cut_off edges class n old new t fewer is e h same = still_loose class n old new e.source fewer (is e h same)
+
+pub cut_off_more : (edges : List Edge) (class : List ℕ) (n : ℕ) (old new : List Bool) (states : List ℕ) (i : ℕ)
+    → ((s : ℕ) → IsSettled new s → IsSettled old s)
+    → ((j : ℕ) → j < i → IsCutOff edges class n old (get_or states j 0))
+    → IsCutOff edges class n new (get_or states i 0)
+    → (j : ℕ)
+    → j < i + 1
+    → IsCutOff edges class n new (get_or states j 0)
+cut_off_more edges class n old new states i fewer before here j low = by_case (cases_eq j i)
+  where
+    by_case : (j ≡ i) ⊎ (j ≡ i → ⊥) → IsCutOff edges class n new (get_or states j 0)
+    by_case (inl same) = subst (λ k. IsCutOff edges class n new (get_or states k 0)) (sym same) here
+    by_case (inr other) =
+        fewer_cut_off edges class n old new (get_or states j 0) fewer (before j (omega (arith, low, other)))
+
+-- ---- one state
+
+-- whose members are one alone
+pub alone_among : (class : List ℕ) (n : ℕ) (members : List (List ℕ)) (s : ℕ)
+    → HasMembers class n members
+    → s < n
+    → length (get_or members (class_of class s) []) ≡ 1
+    → IsAlone class n s
+alone_among class n members s is s_low one t t_low e =
+    only (get_or members (class_of class s) []) one
+    (subst (λ c. Contains (get_or members c []) t) e (is.has t t_low)) (is.has s s_low)
+  where
+    only : (xs : List ℕ) → length xs ≡ 1 → Contains xs t → Contains xs s → t ≡ s
+    only xs single (k, k_low, at) (j, j_low, there) =
+        let same : k ≡ j = omega (arith, single, k_low, j_low) in
+        sym at ∙ ap (λ i. get_or xs i t) same ∙ get_or_default xs j t s j_low ∙ there

@@ -146,8 +146,8 @@ module _ (m : Structure) (e : Edges) (ok : AreEdges m e) (class : List ℕ) wher
         → (y : ℕ) × HasEdge m t a y × (class_of class x ≡ class_of class y)
     matched same a x edge =
         let o = step_of s a x edge in
-        let in_k = (of_s.same o.step).1 o.at in
-        of_other o ((of_t.same o.step).0 (subst (λ (xs : List Step). Contains xs o.step) same in_k))
+        let in_k = (of_s.steps.same o.step).1 o.at in
+        of_other o ((of_t.steps.same o.step).0 (subst (λ (xs : List Step). Contains xs o.step) same in_k))
       where
         of_other : (o : StepOf s a x) → Steps t o.step → (y : ℕ) × HasEdge m t a y × (class_of class x ≡ class_of class y)
         of_other o other =
@@ -163,7 +163,7 @@ module _ (m : Structure) (e : Edges) (ok : AreEdges m e) (class : List ℕ) wher
         → (step : Step)
         → Contains k.steps.items step
         → Contains l.steps.items step
-    within matches step h = of_edge ((of_s.same step).0 h)
+    within matches step h = of_edge ((of_s.steps.same step).0 h)
       where
         of_edge : Steps s step → Contains l.steps.items step
         of_edge o =
@@ -179,7 +179,7 @@ module _ (m : Structure) (e : Edges) (ok : AreEdges m e) (class : List ℕ) wher
                 let action = p.at.by_action ∙ sym numbers ∙ sym o.by_action in
                 let class = p.at.into_class ∙ ap (class_of class) p.into ∙ sym classes ∙ sym o.into_class in
                 let same : p.step ≡ step = λ i. record { action = action i; class = class i } in
-                subst (λ x. Contains l.steps.items x) same ((of_t.same p.step).1 p.at)
+                subst (λ x. Contains l.steps.items x) same ((of_t.steps.same p.step).1 p.at)
 
   module _ (s t : ℕ) (k l : Signature) (of_s : Signs s k) (of_t : Signs t l) where
     abbrev Alike : Type 0
@@ -198,7 +198,7 @@ module _ (m : Structure) (e : Edges) (ok : AreEdges m e) (class : List ℕ) wher
     same_signature : Alike → HasSameParts k l
     same_signature a = (
       of_s.in_class ∙ a.0 ∙ sym of_t.in_class,
-      same_from_members step_cmp step_order steps_exact k.steps.items l.steps.items of_s.ascends of_t.ascends
+      same_from_members step_cmp step_order steps_exact k.steps.items l.steps.items of_s.steps.ascends of_t.steps.ascends
           (within s t k l of_s of_t a.1.forth)
           (within t s l k of_t of_s (λ b y edge. let there = a.1.back b y edge in (there.0, there.1, sym there.2))),
     )

@@ -1,6 +1,6 @@
 -- States that aren't settled any more: those from which an edge leads to a state that was renamed.
 --
---   unchanged       == an edge of a settled state leads to one that wasn't renamed
+--   unchanged       == an edge of a settled state leads to one that wasn't renamed, or the state is alone in its class
 --   refined_again   == so settled states of one class match each other's edges by the new classes
 --   grows_too       == and where no state was renamed, all are settled
 --   falls           == so the rounds end
@@ -13,7 +13,7 @@ use Rattle.ml_lists.proofs.Members.{contains_none}
 use Rattle.ml_bisim.specs.Bisimilar.{HasEdge}
 use Rattle.ml_bisim.specs.Quotient.{class_of}
 use Rattle.ml_bisim.specs.declared.partition.Partition.{Partition}
-use Rattle.ml_bisim.specs.private.Rounds.{AreListed, AreSettled, Grows, HasMembers, IsCutOff, IsFiner, IsPartition, IsRefined, IsSettled, IsSplit, different, rows}
+use Rattle.ml_bisim.specs.private.Rounds.{AreListed, AreSettled, Grows, HasMembers, IsAlone, IsCutOff, IsFiner, IsLoose, IsPartition, IsRefined, IsSettled, IsSplit, different, rows}
 use Rattle.ml_bisim.specs.private.Signatures.{SameSteps}
 use Rattle.ml_bisim.proofs.Classes.{edge_from}
 use Rattle.ml_bisim.proofs.Different.{different_le, some_left}
@@ -21,33 +21,55 @@ use Rattle.ml_bisim.proofs.Stable.{finer_is}
 
 module _ (m : Structure) (m_ok : IsStructure m) (class after renamed : List ℕ) (flags : List Bool) (finer : IsFiner m class after)
     (has : (s : ℕ) → (class_of after s ≡ class_of class s) ⊎ Contains renamed s)
-    (cut_off : (i : ℕ) → i < length renamed → IsCutOff m.edges flags (get_or renamed i 0)) where
-  unchanged : (s : ℕ) (a : List ℕ) (x : ℕ) → IsSettled flags s → HasEdge m s a x → class_of after x ≡ class_of class x
+    (cut_off : (i : ℕ) → i < length renamed → IsCutOff m.edges after m.states flags (get_or renamed i 0)) where
+  unchanged : (s : ℕ) (a : List ℕ) (x : ℕ)
+      → IsSettled flags s
+      → HasEdge m s a x
+      → (class_of after x ≡ class_of class x) ⊎ IsAlone after m.states s
   unchanged s a x is edge = by_case (has x)
     where
-      by_case : (class_of after x ≡ class_of class x) ⊎ Contains renamed x → class_of after x ≡ class_of class x
-      by_case (inl same) = same
-      by_case (inr (i, low, at)) =
-          absurd (cut_off i low (edge_from s a x) edge (sym (sym (get_or_default_zero renamed i x low) ∙ at)) is)
+      of_loose : IsLoose after m.states flags s → (class_of after x ≡ class_of class x) ⊎ IsAlone after m.states s
+      of_loose (inl off) = absurd (off is)
+      of_loose (inr alone) = inr alone
 
-  matched : (s t : ℕ) → IsSettled flags s → IsSettled flags t → SameSteps m class s t → SameSteps m after s t
-  matched s t s_is t_is same = record {
-    forth = λ a x edge.
-        let there = same.forth a x edge in (
-          there.0,
-          there.1,
-          unchanged s a x s_is edge ∙ there.2 ∙ sym (unchanged t a there.0 t_is there.1),
-        );
-    back = λ a y edge.
-        let there = same.back a y edge in (
-          there.0,
-          there.1,
-          unchanged s a there.0 s_is there.1 ∙ there.2 ∙ sym (unchanged t a y t_is edge),
-        );
-  }
+      by_case : (class_of after x ≡ class_of class x) ⊎ Contains renamed x
+          → (class_of after x ≡ class_of class x) ⊎ IsAlone after m.states s
+      by_case (inl same) = inl same
+      by_case (inr (i, low, at)) =
+          of_loose (cut_off i low (edge_from s a x) edge (sym (sym (get_or_default_zero renamed i x low) ∙ at)))
+
+  module _ (s t : ℕ) (s_low : s < m.states) (t_low : t < m.states) (s_is : IsSettled flags s) (t_is : IsSettled flags t)
+      (e : class_of after s ≡ class_of after t) where
+    -- by an edge of one that is alone in the class of both
+    itself : (a : List ℕ) (x : ℕ) → HasEdge m s a x → t ≡ s → (y : ℕ) × HasEdge m t a y × (class_of after x ≡ class_of after y)
+    itself a x edge same = (x, subst (λ u. HasEdge m u a x) (sym same) edge, refl)
+
+    matched : ((a : List ℕ) (x : ℕ) → HasEdge m s a x → (y : ℕ) × HasEdge m t a y × (class_of class x ≡ class_of class y))
+        → (a : List ℕ) (x : ℕ)
+        → HasEdge m s a x
+        → (y : ℕ) × HasEdge m t a y × (class_of after x ≡ class_of after y)
+    matched matches a x edge =
+        let there = matches a x edge in
+        by_case there.0 there.1 there.2 (unchanged s a x s_is edge) (unchanged t a there.0 t_is there.1)
+      where
+        by_case : (y : ℕ) → HasEdge m t a y → class_of class x ≡ class_of class y
+            → (class_of after x ≡ class_of class x) ⊎ IsAlone after m.states s
+            → (class_of after y ≡ class_of class y) ⊎ IsAlone after m.states t
+            → (y : ℕ) × HasEdge m t a y × (class_of after x ≡ class_of after y)
+        by_case y other one (inr alone) c = itself a x edge (alone t t_low (sym e))
+        by_case y other one (inl same) (inr alone) = itself a x edge (sym (alone s s_low e))
+        by_case y other one (inl same) (inl also) = (y, other, same ∙ one ∙ sym also)
 
   pub still_settled : AreSettled m after flags
-  still_settled s t s_low t_low s_is t_is e = matched s t s_is t_is ((finer.same s t s_low t_low).0 e).1
+  still_settled s t s_low t_low s_is t_is e =
+      let same = ((finer.same s t s_low t_low).0 e).1 in
+      record {
+        forth = matched s t s_low t_low s_is t_is e same.forth;
+        back = λ a y edge.
+            let there = matched t s t_low s_low t_is s_is (sym e)
+            (λ b x one. let other = same.back b x one in (other.0, other.1, sym other.2)) a y edge in
+            (there.0, there.1, sym there.2);
+      }
 
 pub refined_again : (m : Structure) → IsStructure m → (class : List ℕ) → IsPartition m class → (p q : Partition)
     → (renamed next : List ℕ)
@@ -58,7 +80,7 @@ pub refined_again : (m : Structure) → IsStructure m → (class : List ℕ) →
     → length q.is_settled.items ≡ m.states
     → All (λ s. s < m.states) next
     → AreListed q.is_settled.items m.states next
-    → ((i : ℕ) → i < length renamed → IsCutOff m.edges q.is_settled.items (get_or renamed i 0))
+    → ((i : ℕ) → i < length renamed → IsCutOff m.edges p.class.items m.states q.is_settled.items (get_or renamed i 0))
     → IsRefined m q next
 refined_again m m_ok class part p q renamed next split classes members keepers long low listed cut_off =
     let same : q.class.items ≡ p.class.items = ap (λ (v : Vec ℕ). v.items) classes in

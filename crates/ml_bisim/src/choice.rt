@@ -3,7 +3,7 @@ ghost use Rattle.std.specs.Prelude.{ℕ, ◌≡◌, ◌<◌, ◌↔◌, length, 
 ghost use Rattle.ml_bisim.specs.Quotient.{class_of};
 ghost use Rattle.ml_bisim.specs.private.Rounds.{AreChosen, HasMembers, IsSettled, rows};
 
-use crate::ascending::ascending;
+use crate::ascending::ascend;
 use ml_base::NoMemory;
 use std::alloc::Global;
 
@@ -48,7 +48,8 @@ fn classes_of(alloc: Global, class: &[usize], states: &[u32]) -> Result<Vec<usiz
     for state in states {
         classes.push(class[*state as usize])?;
     }
-    Ok(ascending(classes))
+    ascend(&mut classes);
+    Ok(classes)
 }
 
 // A settled state of the class `of`, if there is one. What isn't in the class is dropped from its members.

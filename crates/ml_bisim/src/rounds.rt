@@ -5,7 +5,7 @@
 ghost use Rattle.std.specs.Prelude.{ℕ, ◌≡◌, ◌<◌, ◌≤◌, [], length, get_or, All, Contains, IfOk, OnOk};
 ghost use Rattle.ml_bisim.specs.Quotient.{AreClasses};
 ghost use Rattle.ml_bisim.specs.private.Signatures.{AreEdges};
-ghost use Rattle.ml_bisim.specs.private.Rounds.{AreListed, AreRenamed, AreSet, Grows, HasMembers, IsCutOff, IsRefined, IsSettled, IsSplit, rows};
+ghost use Rattle.ml_bisim.specs.private.Rounds.{AreListed, AreRenamed, AreSet, Grows, HasMembers, IsCutOff, IsLoose, IsRefined, IsSettled, IsSplit, rows};
 
 use crate::choice::chosen;
 use crate::edges::{Edges, edges_of};
@@ -143,7 +143,8 @@ fn rename(
     Ok(renamed)
 }
 
-// The states from which an edge leads to one of those that are renamed: they are settled no more.
+// The states from which an edge leads to one of those that are renamed: they are settled no more, unless they are alone in
+// their classes.
 fn unsettle(
     alloc: Global,
     structure: &Structure,
@@ -152,6 +153,8 @@ fn unsettle(
     renamed: &[u32],
 ) -> Result<Vec<u32>, NoMemory>
     requires edges { AreEdges structure.now edges.now }
+    requires members { HasMembers partition.old.class.items structure.now.states (rows partition.old.members.items) }
+    requires each_state { length partition.old.class.items ≡ structure.now.states }
     requires flags { length partition.old.is_settled.items ≡ structure.now.states }
     requires settled { (s : ℕ) → s < structure.now.states → IsSettled partition.old.is_settled.items s }
     requires in_range { All (λ s. s < structure.now.states) renamed.now }
@@ -161,7 +164,7 @@ fn unsettle(
     ensures flags { OnOk result (length partition.new.is_settled.items ≡ structure.now.states) }
     ensures in_range { IfOk result (λ states. All (λ s. s < structure.now.states) states.items) }
     ensures listed { IfOk result (λ states. AreListed partition.new.is_settled.items structure.now.states states.items) }
-    ensures cut_off { OnOk result ((i : ℕ) → i < length renamed.now → IsCutOff structure.now.edges partition.new.is_settled.items (get_or renamed.now i 0)) }
+    ensures cut_off { OnOk result ((i : ℕ) → i < length renamed.now → IsCutOff structure.now.edges partition.new.class.items structure.now.states partition.new.is_settled.items (get_or renamed.now i 0)) }
     ensures none { IfOk result (λ states. length renamed.now ≡ 0 → states.items ≡ []) }
 {
     let mut unsettled = Vec::new(alloc);
@@ -169,6 +172,8 @@ fn unsettle(
         unsettle_before(
             structure,
             edges,
+            &partition.class,
+            &partition.members,
             &mut partition.is_settled,
             &mut unsettled,
             *state,
@@ -181,11 +186,15 @@ fn unsettle(
 fn unsettle_before(
     structure: &Structure,
     edges: &Edges,
+    class: &[usize],
+    members: &[Vec<u32>],
     is_settled: &mut [bool],
     unsettled: &mut Vec<u32>,
     state: u32,
 ) -> Result<(), NoMemory>
     requires edges { AreEdges structure.now edges.now }
+    requires members { HasMembers class.now structure.now.states (rows members.now) }
+    requires each_state { length class.now ≡ structure.now.states }
     requires flags { length is_settled.old ≡ structure.now.states }
     requires in_range { state < structure.now.states }
     requires states { All (λ s. s < structure.now.states) unsettled.old.items }
@@ -194,18 +203,45 @@ fn unsettle_before(
     ensures states { OnOk result (All (λ s. s < structure.now.states) unsettled.new.items) }
     ensures listed { OnOk result (AreListed is_settled.new structure.now.states unsettled.new.items) }
     ensures fewer { (s : ℕ) → IsSettled is_settled.new s → IsSettled is_settled.old s }
-    ensures cut_off { OnOk result (IsCutOff structure.now.edges is_settled.new state) }
+    ensures cut_off { OnOk result (IsCutOff structure.now.edges class.now structure.now.states is_settled.new state) }
 {
     let _states = structure.states();
     let mut rest = edges.entering.last[state as usize];
     while rest > 0 {
         let place = rest - 1;
         let source = structure.edge_at(place).source;
-        if is_settled[source as usize] {
-            is_settled[source as usize] = false;
-            unsettled.push(source)?;
-        }
+        loosen(class, members, is_settled, unsettled, source)?;
         rest = edges.entering.before[place];
     }
+    Ok(())
+}
+
+// The state is settled no more, unless it is alone in its class.
+fn loosen(
+    class: &[usize],
+    members: &[Vec<u32>],
+    is_settled: &mut [bool],
+    unsettled: &mut Vec<u32>,
+    state: u32,
+) -> Result<(), NoMemory>
+    requires members { HasMembers class.now (length class.now) (rows members.now) }
+    requires flags { length is_settled.old ≡ length class.now }
+    requires in_range { state < length class.now }
+    requires states { All (λ s. s < length class.now) unsettled.old.items }
+    requires listed { AreListed is_settled.old (length class.now) unsettled.old.items }
+    ensures flags { length is_settled.new ≡ length class.now }
+    ensures states { OnOk result (All (λ s. s < length class.now) unsettled.new.items) }
+    ensures listed { OnOk result (AreListed is_settled.new (length class.now) unsettled.new.items) }
+    ensures fewer { (s : ℕ) → IsSettled is_settled.new s → IsSettled is_settled.old s }
+    ensures loose { OnOk result (IsLoose class.now (length class.now) is_settled.new state) }
+{
+    if !is_settled[state as usize] {
+        return Ok(());
+    }
+    if members[class[state as usize]].len() == 1 {
+        return Ok(());
+    }
+    is_settled[state as usize] = false;
+    unsettled.push(state)?;
     Ok(())
 }

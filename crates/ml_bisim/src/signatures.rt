@@ -1,8 +1,8 @@
 // What tells states of one class apart: into which classes their edges lead.
-ghost use Rattle.std.specs.Prelude.{◌≡◌, ◌<◌, length, All, IfOk};
-ghost use Rattle.ml_bisim.specs.private.Signatures.{AreEdges, AreParts, AreSignatures, IsSignature};
+ghost use Rattle.std.specs.Prelude.{◌≡◌, ◌<◌, length, All, IfOk, OnOk};
+ghost use Rattle.ml_bisim.specs.private.Signatures.{AreEdges, AreParts, AreSignatures, AreSteps};
 
-use crate::ascending::ascending;
+use crate::ascending::ascend;
 use crate::edges::Edges;
 use crate::numbering::{Numbering, numbered};
 use ml_base::NoMemory;
@@ -61,26 +61,32 @@ fn signatures(
     ensures { IfOk result (λ ks. AreSignatures structure.now.edges edges.now.actions.items class.now states.now ks.items) }
 {
     let mut signatures = Vec::with_capacity(alloc, states.len())?;
+    let mut steps = Vec::new(alloc);
     for state in states {
-        signatures.push(sign(alloc, structure, edges, class, *state)?)?;
+        gather(structure, edges, class, *state, &mut steps)?;
+        signatures.push(Signature {
+            class: class[*state as usize],
+            steps: Vec::from_slice(alloc, &steps)?,
+        })?;
     }
     Ok(signatures)
 }
 
-fn sign(
-    alloc: Global,
+// the steps of a state, in strictly ascending order
+fn gather(
     structure: &Structure,
     edges: &Edges,
     class: &[usize],
     state: u32,
-) -> Result<Signature, NoMemory>
+    steps: &mut Vec<Step>,
+) -> Result<(), NoMemory>
     requires edges { AreEdges structure.now edges.now }
     requires each_state { length class.now ≡ structure.now.states }
     requires in_range { state < structure.now.states }
-    ensures { IfOk result (IsSignature structure.now.edges edges.now.actions.items class.now state) }
+    ensures { OnOk result (AreSteps structure.now.edges edges.now.actions.items class.now state steps.new.items) }
 {
     let _states = structure.states();
-    let mut steps = Vec::new(alloc);
+    steps.clear();
     let mut rest = edges.leaving.last[state as usize];
     while rest > 0 {
         let place = rest - 1;
@@ -91,8 +97,6 @@ fn sign(
         steps.push(step)?;
         rest = edges.leaving.before[place];
     }
-    Ok(Signature {
-        class: class[state as usize],
-        steps: ascending(steps),
-    })
+    ascend(steps);
+    Ok(())
 }

@@ -21,6 +21,9 @@
 --   different xs                == how many different numbers stand in xs
 --   Grows old new renamed       == there are no fewer numbers, and more if a state was renamed
 --   IsSplit m old p renamed     == a round made this of the classes `old`, and these states have new names
+--   IsAlone class n s           == no other state below n has the class of s
+--   IsLoose class n flags s     == s isn't settled, or is alone in its class
+--   IsCutOff edges ... flags t  == so is each state from which an edge leads to t
 use Rattle.std.specs.Prelude.{ℕ, ◌≡◌, ◌≢◌, ◌<◌, ◌≤◌, ◌⊎◌, ◌↔◌, Bool, true, false, nat_eq, List, [], length, get_or, map, All, Contains}
 use Rattle.std.specs.Global.{Vec}
 use Rattle.ml_base.specs.declared.structure.Edge.{Edge}
@@ -140,6 +143,11 @@ pub record IsSplit (m : Structure) (old : List ℕ) (p : Partition) (renamed : L
   pub in_range : All (λ s. s < m.states) renamed
   pub grows : Grows old p.class.items renamed
 
--- no edge to this state leaves a settled one
-abbrev pub IsCutOff : List Edge → List Bool → ℕ → Type 0
-IsCutOff edges flags t = (e : Edge) → Contains edges e → e.target ≡ t → ¬ (IsSettled flags e.source)
+abbrev pub IsAlone : List ℕ → ℕ → ℕ → Type 0
+IsAlone class n s = (t : ℕ) → t < n → class_of class t ≡ class_of class s → t ≡ s
+
+abbrev pub IsLoose : List ℕ → ℕ → List Bool → ℕ → Type 0
+IsLoose class n flags s = (¬ (IsSettled flags s)) ⊎ IsAlone class n s
+
+abbrev pub IsCutOff : List Edge → List ℕ → ℕ → List Bool → ℕ → Type 0
+IsCutOff edges class n flags t = (e : Edge) → Contains edges e → e.target ≡ t → IsLoose class n flags e.source

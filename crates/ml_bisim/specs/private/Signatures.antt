@@ -3,7 +3,8 @@
 --   AreEdges m e             == e has of each edge of m the number of its action, and the places of the edges that leave a
 --                               state and that enter it
 --   StepAt                   == an edge leaves the state and is this step
---   IsSignature ... s k      == the signature of s: its class, and its steps in strictly ascending order
+--   AreSteps ... s steps     == the steps of s, in strictly ascending order
+--   IsSignature ... s k      == the signature of s: its class, and its steps
 --   AreSignatures ... ss ks  == those of the states ss
 --   SameSteps m class s t    == each edge of s is matched by one of t with the same action into the same class
 --   AreParts m class ss ns n == of the states ss, two have one number if they have one class and match each other's edges;
@@ -43,10 +44,13 @@ pub record StepAt (edges : List Edge) (actions class : List ℕ) (k s : ℕ) (st
 abbrev pub step_cmp : Step → Step → Ordering
 step_cmp a b = ordering_then (nat_cmp a.action b.action) (nat_cmp a.class b.class)
 
+pub record AreSteps (edges : List Edge) (actions class : List ℕ) (s : ℕ) (steps : List Step) : Type 0 where
+  pub ascends : IsStrictlySortedBy step_cmp steps
+  pub same : (step : Step) → Contains steps step ↔ StepAt edges actions class 0 s step
+
 pub record IsSignature (edges : List Edge) (actions class : List ℕ) (s : ℕ) (k : Signature) : Type 0 where
   pub in_class : k.class ≡ class_of class s
-  pub ascends : IsStrictlySortedBy step_cmp k.steps.items
-  pub same : (step : Step) → Contains k.steps.items step ↔ StepAt edges actions class 0 s step
+  pub steps : AreSteps edges actions class s k.steps.items
 
 pub record AreSignatures (edges : List Edge) (actions class states : List ℕ) (ks : List Signature) : Type 0 where
   pub each_state : length ks ≡ length states

@@ -7,5 +7,5 @@ pub returns : goal.returns
 returns c = λ x.
     let class = c.args.class.now in
     let all = take_all c.loop-state.state-index c.args.states.now c.loop-state-test.false in
-    subst (λ ys. Contains c.ascending.result.items x ↔ Contains ys x)
-    (c.loop-state.invariant ∙ ap (map (class_of class)) all) (c.ascending.ensures.same x)
+    subst (λ ys. Contains c.ascend.new.items.items x ↔ Contains ys x)
+    (c.loop-state.invariant ∙ ap (map (class_of class)) all) (c.ascend.ensures.same x)

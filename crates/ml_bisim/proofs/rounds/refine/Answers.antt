@@ -16,11 +16,20 @@ refined_where_ok : {E : Type 0} (m : Structure) → IsStructure m → (class : L
     → OnOk r (length q.is_settled.items ≡ m.states)
     → IfOk r (λ next. All (λ s. s < m.states) next.items)
     → IfOk r (λ next. AreListed q.is_settled.items m.states next.items)
-    → OnOk r ((i : ℕ) → i < length renamed → IsCutOff m.edges q.is_settled.items (get_or renamed i 0))
+    → OnOk r ((i : ℕ) → i < length renamed → IsCutOff m.edges p.class.items m.states q.is_settled.items (get_or renamed i 0))
     → IfOk r (λ next. IsRefined m q next.items)
 refined_where_ok m m_ok class part p q renamed split (Err e) a b c d l k h = tt
 refined_where_ok m m_ok class part p q renamed split (Ok next) classes members keepers long low listed cut_off =
     refined_again m m_ok class part p q renamed next.items split classes members keepers long low listed cut_off
+
+cut_off_where_ok : {E : Type 0} (m : Structure) (p q : Partition) (renamed : List ℕ) (r : Result (Vec ℕ) E)
+    → OnOk r (q.class ≡ p.class)
+    → OnOk r ((i : ℕ) → i < length renamed → IsCutOff m.edges q.class.items m.states q.is_settled.items (get_or renamed i 0))
+    → OnOk r ((i : ℕ) → i < length renamed → IsCutOff m.edges p.class.items m.states q.is_settled.items (get_or renamed i 0))
+cut_off_where_ok m p q renamed (Err e) same cut_off = tt
+cut_off_where_ok m p q renamed (Ok next) same cut_off =
+    subst (λ (v : Vec ℕ). (i : ℕ) → i < length renamed
+        → IsCutOff m.edges v.items m.states q.is_settled.items (get_or renamed i 0)) same cut_off
 
 pub returns-clause-refined : goal.returns-clause-refined
 returns-clause-refined c =
@@ -29,8 +38,10 @@ returns-clause-refined c =
     c.unsettle.new.partition c.in_ok-renamed.renamed.items c.in_ok-renamed.ensures c.unsettle.result c.unsettle.ensures.class
     c.unsettle.ensures.members c.unsettle.ensures.keepers c.unsettle.ensures.flags c.unsettle.ensures.in_range
     c.unsettle.ensures.listed
-    (subst (λ xs. OnOk c.unsettle.result ((i : ℕ) → i < length xs → IsCutOff m.edges
-    c.unsettle.new.partition.is_settled.items (get_or xs i 0))) c.deref.ensures.value c.unsettle.ensures.cut_off)
+    (cut_off_where_ok m c.split.new.partition c.unsettle.new.partition c.in_ok-renamed.renamed.items c.unsettle.result
+    c.unsettle.ensures.class
+    (subst (λ xs. OnOk c.unsettle.result ((i : ℕ) → i < length xs → IsCutOff m.edges c.unsettle.new.partition.class.items
+    m.states c.unsettle.new.partition.is_settled.items (get_or xs i 0))) c.deref.ensures.value c.unsettle.ensures.cut_off))
 
 grows_where_ok : {E : Type 0} (class : List ℕ) (p q : Partition) (renamed : List ℕ)
     → Grows class p.class.items renamed

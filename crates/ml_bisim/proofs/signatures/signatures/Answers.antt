@@ -1,5 +1,5 @@
-use Rattle.std.proofs.Common.{◌≡◌, get_or, length, arith}
-use Rattle.ml_bisim.specs.private.Signatures.{IsSignature}
+use Rattle.std.proofs.Common.{◌≡◌, ◌∙◌, get_or, length, refl, subst, sym, arith}
+use Rattle.ml_bisim.specs.private.Signatures.{AreSteps, IsSignature}
 use Rattle.ml_bisim.proofs.Signed.{are_signed, signed_more}
 use Rattle.ml_bisim.proofs.signatures.signatures.Goals as goal
 
@@ -8,8 +8,12 @@ loop-state-preserved c =
     signed_more
     (λ i k. IsSignature c.args.structure.now.edges c.args.edges.now.actions.items c.args.class.now
     (get_or c.args.states.now i 0) k)
-    c.loop-state.state-index c.loop-state.signatures.items c.push.new.self.items c.in_ok-sign.field-0
-    c.loop-state.invariant c.in_ok-sign.ensures c.in_ok-push.ensures.items
+    c.loop-state.state-index c.loop-state.signatures.items c.push.new.self.items _ c.loop-state.invariant
+    (record {
+      in_class = refl;
+      steps = subst (AreSteps c.args.structure.now.edges c.args.edges.now.actions.items c.args.class.now
+          (get_or c.args.states.now c.loop-state.state-index 0)) (sym (c.in_ok-from_slice.ensures.items ∙ c.deref.ensures.value)) c.in_ok-gather.ensures;
+    }) c.in_ok-push.ensures.items
 
 pub returns : goal.returns
 returns c =

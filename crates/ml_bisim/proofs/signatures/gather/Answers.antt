@@ -2,7 +2,7 @@ use Rattle.std.proofs.Common.{◌≡◌, ◌+◌, ◌-◌, ◌<◌, ◌∙◌, a
 use Rattle.std.proofs.lemmas.List.{get_or_default, length-map}
 use Rattle.ml_base.specs.declared.structure.Edge.{Edge}
 use Rattle.ml_bisim.proofs.Steps.{Gathered, gathered_none, gathered_more, gathered_all, target_below}
-use Rattle.ml_bisim.proofs.signatures.sign.Goals as goal
+use Rattle.ml_bisim.proofs.signatures.gather.Goals as goal
 
 pub loop-rest-init : goal.loop-rest-init
 loop-rest-init c =
@@ -11,10 +11,10 @@ loop-rest-init c =
     let places = c.requires.edges.leaving in
     let low : c.args.state < length last = omega (arith, c.requires.in_range, places.each_number) in
     let read = c.index-rest.ensures ∙ get_or_default last c.args.state c.index-rest.result.now 0 low in
-    subst (λ r. Gathered edges c.args.edges.now.actions.items c.args.class.now c.args.state r c.new-steps.result.items)
+    subst (λ r. Gathered edges c.args.edges.now.actions.items c.args.class.now c.args.state r c.clear.new.self.items)
     (sym read)
     (gathered_none edges c.args.edges.now.actions.items c.args.class.now c.args.structure.now.states
-    c.args.edges.now.leaving places c.args.state c.requires.in_range c.new-steps.result.items c.new-steps.ensures.items)
+    c.args.edges.now.leaving places c.args.state c.requires.in_range c.clear.new.self.items c.clear.ensures.items)
 
 pub bounds-class-edge_at : goal.bounds-class-edge_at
 bounds-class-edge_at c =
@@ -66,10 +66,9 @@ pub returns : goal.returns
 returns c =
     let end : c.loop-rest.rest ≡ 0 = omega (arith, c.loop-rest-test.false) in
     record {
-      in_class = refl;
-      ascends = c.ascending.ensures.ascends;
+      ascends = c.ascend.ensures.ascends;
       same = λ x.
-          let a = c.ascending.ensures.same x in
+          let a = c.ascend.ensures.same x in
           let b = gathered_all c.args.structure.now.edges c.args.edges.now.actions.items c.args.class.now
           c.args.structure.now.states c.args.edges.now.leaving c.requires.edges.leaving c.args.state c.requires.in_range
           c.loop-rest.rest c.loop-rest.steps.items c.loop-rest.invariant end x in
