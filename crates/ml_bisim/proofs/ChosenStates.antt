@@ -1,14 +1,13 @@
 -- The states that a round looks at, as they are chosen, class by class.
 --
 --   Choosing       == of the first i classes a settled state was chosen, where there is one
---   choosing_none, choosing_one, choosing_other == at first, with a settled state of the next class, and where it has none
+--   choosing_one, choosing_other == with a settled state of the next class, and where it has none
 --   are_chosen     == in the end, where the classes are those of the states
 --   class_listed   == these classes have lists of members
 use Rattle.std.proofs.Common.{ℕ, ◌≡◌, ◌+◌, ◌<◌, ◌≤◌, ◌↔◌, ◌⊎◌, inl, inr, Bool, List, [], ◌∷◌, ◌++◌, length, length-append, get_or, map, All, Contains, refl, sym, ap, ◌∙◌, subst, arith}
-use Rattle.std.proofs.lemmas.Bool.{cases_eq, cases_lt}
+use Rattle.std.proofs.lemmas.Bool.{cases_eq}
 use Rattle.std.proofs.lemmas.Grind.{get_or_default_zero}
 use Rattle.std.proofs.lemmas.List.{get_or-map, get_or_append_left, length-map}
-use Rattle.ml_lists.proofs.Members.{All-more_read}
 use Rattle.ml_bisim.specs.Quotient.{class_of}
 use Rattle.ml_bisim.specs.private.Rounds.{AreChosen, HasMembers, IsSettled}
 use Rattle.ml_bisim.proofs.Links.{last_entry}
@@ -28,15 +27,6 @@ module _ (class : List ℕ) (flags : List Bool) (n : ℕ) (states classes : List
     pub in_range : (j : ℕ) → j < length chosen → get_or chosen j 0 < n
     pub settled : (j : ℕ) → first ≤ j → j < length chosen → IsSettled flags (get_or chosen j 0)
     pub covers : (j : ℕ) → j < i → Covers chosen (get_or classes j 0)
-
-  pub choosing_none : All (λ s. s < n) states → Choosing 0 states
-  choosing_none low = record {
-    long = omega arith;
-    front = λ j under. refl;
-    in_range = λ j under. low j 0 under;
-    settled = λ j above under. absurd (omega (arith, above, under));
-    covers = λ j under. absurd (omega (arith, under));
-  }
 
   pub choosing_other : (i : ℕ) (chosen : List ℕ) (c : ℕ)
       → Choosing i chosen

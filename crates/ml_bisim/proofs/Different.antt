@@ -3,7 +3,7 @@
 --   some_left      == 1, unless the list is empty
 --   different_le   == no more than its entries
 --   no_fewer, more == a list that has the numbers of another has as many, and more with one that isn't there
-use Rattle.std.proofs.Common.{ℕ, ◌≡◌, ◌<◌, ◌≤◌, ◌⊎◌, inl, inr, nat_eq, List, [], ◌∷◌, length, slice_get, Some, refl, sym, subst, arith}
+use Rattle.std.proofs.Common.{ℕ, ◌≡◌, ◌<◌, ◌≤◌, inl, inr, nat_eq, List, [], ◌∷◌, length, sym, subst, arith}
 use Rattle.std.specs.Bool.{Decides}
 use Rattle.std.proofs.lemmas.Bool.{eqb-true}
 use Rattle.ml_lists.specs.Member.{IsMember}

@@ -4,14 +4,13 @@
 --   passed_none, passed_next, passed_all == at first, with one edge more, and in the end
 --   still_loose, fewer_cut_off, cut_off_more == with fewer settled states it stays so
 --   alone_among  == a state is alone where its class has one member
-use Rattle.std.proofs.Common.{ℕ, ◌≡◌, ◌+◌, ◌<◌, ◌≤◌, ◌⊎◌, inl, inr, Bool, true, false, List, [], ◌∷◌, ◌++◌, length, get_or, set, slice_get, map, Some, All, Contains, refl, sym, ap, ◌∙◌, subst, arith}
-use Rattle.std.proofs.lemmas.Bool.{cases_eq, cases_lt, false≢true}
-use Rattle.std.proofs.lemmas.List.{get_or-set_same, get_or-set_other, get_or_default, length-map}
-use Rattle.std.proofs.lemmas.List.Elements.{Contains-append_left, Contains-append_right}
+use Rattle.std.proofs.Common.{ℕ, ◌≡◌, ◌+◌, ◌<◌, ◌≤◌, ◌⊎◌, inl, inr, Bool, List, [], length, get_or, slice_get, map, Some, All, Contains, sym, ap, ◌∙◌, subst, arith}
+use Rattle.std.proofs.lemmas.Bool.{cases_eq, cases_lt}
+use Rattle.std.proofs.lemmas.List.{get_or_default, length-map}
 use Rattle.std.proofs.lemmas.Option.{slice_get-get_or, slice_get_within}
 use Rattle.ml_base.specs.declared.structure.Edge.{Edge}
 use Rattle.ml_lists.proofs.Member.{Place, member-place}
-use Rattle.ml_lists.proofs.Members.{contains_head, member_of_contains}
+use Rattle.ml_lists.proofs.Members.{member_of_contains}
 use Rattle.ml_bisim.specs.declared.places.Places.{Places}
 use Rattle.ml_bisim.specs.private.Places.{ArePlaces, IsLastBefore}
 use Rattle.ml_bisim.specs.Quotient.{class_of}

@@ -1,14 +1,12 @@
 -- The places of a list, as they are linked.
 --
---   some_same, last_entry, front_entry, value_kept, value_set == entries of lists
+--   last_entry   == the entry that was put behind a list
 --   Linked       == the first k places are linked
---   linked_none, linked_more == at first, and with one place more
---   linked_all   == where all are, these are the places
-use Rattle.std.proofs.Common.{ℕ, ◌≡◌, ◌≢◌, ◌+◌, ◌<◌, ◌≤◌, ◌⊎◌, inl, inr, List, [], ◌∷◌, ◌++◌, length, length-append, get_or, set, replicate, Some, refl, sym, ap, ◌∙◌, subst, arith}
+--   linked_more  == with one place more
+use Rattle.std.proofs.Common.{ℕ, ◌≡◌, ◌≢◌, ◌+◌, ◌<◌, ◌≤◌, ◌⊎◌, inl, inr, List, [], ◌∷◌, ◌++◌, length, length-append, get_or, set, sym, ap, ◌∙◌, subst, arith}
 use Rattle.std.proofs.lemmas.Bool.{cases_eq}
-use Rattle.std.proofs.lemmas.List.{get_or-replicate, get_or-set_same, get_or-set_other, get_or_append_left, get_or_push, length-set, length-replicate}
-use Rattle.ml_bisim.specs.declared.places.Places.{Places}
-use Rattle.ml_bisim.specs.private.Places.{ArePlaces, IsLastBefore}
+use Rattle.std.proofs.lemmas.List.{get_or-set_same, get_or-set_other, get_or_append_left, get_or_push, length-set}
+use Rattle.ml_bisim.specs.private.Places.{IsLastBefore}
 
 pub last_entry : {X : Type 0} (xs : List X) (x d : X) (k : ℕ) → k ≡ length xs → get_or (xs ++ x ∷ []) k d ≡ x
 last_entry xs x d k e = get_or_push xs x d k (sym e)
@@ -37,23 +35,6 @@ pub record Linked (xs : List ℕ) (bound k : ℕ) (last before : List ℕ) : Typ
   pub each_place : length before ≡ k
   pub last_of : (x : ℕ) → x < bound → IsLastBefore xs k x (get_or last x 0)
   pub links : (i : ℕ) → i < k → IsLastBefore xs i (get_or xs i 0) (get_or before i 0)
-
-pub linked_none : (xs : List ℕ) (bound : ℕ) (last before : List ℕ)
-    → last ≡ replicate bound 0
-    → before ≡ []
-    → Linked xs bound 0 last before
-linked_none xs bound last before zeros none = record {
-  each_number = ap length zeros ∙ length-replicate bound 0;
-  each_place = ap length none;
-  last_of = λ x low.
-      let is : get_or last x 0 ≡ 0 = ap (λ l. get_or l x 0) zeros ∙ get_or-replicate bound x 0 0 low in
-      record {
-        before = omega (arith, is);
-        stands = λ i e. absurd (omega (arith, is, e));
-        none_later = λ i le under. absurd (omega (arith, under));
-      };
-  links = λ i low. absurd (omega (arith, low));
-}
 
 pub linked_more : (xs : List ℕ) (bound k x : ℕ) (last before new_last new_before : List ℕ)
     → Linked xs bound k last before
@@ -96,14 +77,3 @@ linked_more xs bound k x last before new_last new_before old here low pushed wri
         ap (λ l. get_or l i 0) pushed
         ∙ get_or_append_left before (get_or last x 0 ∷ []) 0 i (omega (arith, under, old.each_place)) in
         subst (IsLastBefore xs i (get_or xs i 0)) (sym is) (old.links i under)
-
-pub linked_all : (xs : List ℕ) (bound k : ℕ) (p : Places)
-    → k ≡ length xs
-    → Linked xs bound k p.last.items p.before.items
-    → ArePlaces xs bound p
-linked_all xs bound k p all is = record {
-  each_number = is.each_number;
-  each_place = is.each_place ∙ all;
-  last = λ x low. subst (λ n. IsLastBefore xs n x (get_or p.last.items x 0)) all (is.last_of x low);
-  links = λ i low. is.links i (omega (arith, low, all));
-}

@@ -5,9 +5,8 @@
 --   moved     == a state that is in another class then
 --   pruned    == a class's list without what isn't in the class
 --   widened   == one list more, with no members
---   no_states == no states are in any lists
 --   row_is, row_low, row_has, row_pruned == a list of the members, as a vector among vectors
-use Rattle.std.proofs.Common.{ℕ, zero, suc, ◌≡◌, ◌≢◌, ◌+◌, ◌<◌, ◌≤◌, ◌⊎◌, inl, inr, List, [], ◌∷◌, ◌++◌, length, length-append, get_or, set, map, replicate, All, Contains, refl, sym, ap, ◌∙◌, subst, arith}
+use Rattle.std.proofs.Common.{ℕ, ◌≡◌, ◌≢◌, ◌+◌, ◌<◌, ◌≤◌, ◌⊎◌, inl, inr, List, [], ◌∷◌, ◌++◌, length, length-append, get_or, set, map, All, Contains, refl, sym, ap, ◌∙◌, subst, arith}
 use Rattle.std.proofs.lemmas.Bool.{cases_eq, cases_lt}
 use Rattle.std.proofs.lemmas.List.{get_or-map, get_or-set_same, get_or-set_other, get_or_append_left, get_or_default, get_or_past, length-map, length-set, map-set}
 use Rattle.std.specs.Global.{Vec}
@@ -175,18 +174,6 @@ module _ (class : List ℕ) (n : ℕ) (rows new : List (List ℕ)) (old : HasMem
           empty (inl same) = ap (λ rs. get_or rs d none) is ∙ last_entry rows none none d same
           empty (inr other) =
               get_or_past new d none (omega (arith, behind, other, ap length is, length-append rows (none ∷ [])))
-
-empty_rows : (k d : ℕ) → get_or (replicate k none) d none ≡ none
-empty_rows zero d = refl
-empty_rows (suc k) zero = refl
-empty_rows (suc k) (suc d) = empty_rows k d
-
-pub no_states : (class : List ℕ) (rows : List (List ℕ)) (k : ℕ) → rows ≡ replicate k [] → HasMembers class 0 rows
-no_states class rows k are = record {
-  classes = λ s low. absurd (omega (arith, low));
-  has = λ s low. absurd (omega (arith, low));
-  low = λ d s h. absurd (contains_none s (subst (λ xs. Contains xs s) (ap (λ rs. get_or rs d none) are ∙ empty_rows k d) h));
-}
 
 -- a list of the members, as a vector among vectors
 module _ (class : List ℕ) (n : ℕ) (members : List (Vec ℕ)) (is : HasMembers class n (rows members)) (c : ℕ) (low : c < length members)

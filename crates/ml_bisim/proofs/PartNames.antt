@@ -5,15 +5,14 @@
 --   named_old    == a state whose part has a name already
 --   named_more   == the next part gets a name
 --   kept_name, new_name == its class, if it is kept, and else a number that no class has
---   named_all    == in the end each part has one
 --   NamedSo, class_added == the same with the members and the keepers of classes, and with one class more
 use Rattle.std.proofs.Common.{ℕ, ◌≡◌, ◌≢◌, ◌+◌, ◌<◌, ◌≤◌, ◌⊎◌, inl, inr, List, [], ◌∷◌, ◌++◌, length, length-append, get_or, drop, refl, sym, ap, ◌∙◌, subst, arith}
-use Rattle.std.proofs.lemmas.Bool.{cases_eq, cases_lt}
+use Rattle.std.proofs.lemmas.Bool.{cases_eq}
 use Rattle.std.proofs.lemmas.List.{get_or_append_left, drop_more, map-append}
 use Rattle.std.specs.Global.{Vec}
 use Rattle.ml_lists.specs.InTurn.{RunsOn}
 use Rattle.ml_bisim.specs.Quotient.{class_of}
-use Rattle.ml_bisim.specs.private.Rounds.{AreNames, HasMembers, name_at, rows}
+use Rattle.ml_bisim.specs.private.Rounds.{HasMembers, name_at, rows}
 use Rattle.ml_bisim.proofs.Links.{last_entry}
 use Rattle.ml_bisim.proofs.MemberLists.{widened}
 
@@ -55,7 +54,7 @@ module _ (class states ns keeper : List ℕ) (count old : ℕ) where
 
   module _ (each : length ns ≡ length states)
       (one_class : (i j : ℕ) → i < length states → j < length states → get_or ns i 0 ≡ get_or ns j 0
-          → class_at i ≡ class_at j) where
+      → class_at i ≡ class_at j) where
     module _ (i cur : ℕ) (names : List ℕ) (is : Named i cur names) (i_low : i < length states) where
       next : drop i ns ≡ part i ∷ drop (i + 1) ns
       next = drop_more ns i 0 (omega (arith, i_low, each))
@@ -196,19 +195,6 @@ module _ (class states ns keeper : List ℕ) (count old : ℕ) where
           named_more new cur cur_new met pushed (omega (arith, one_more)) (λ e. absurd (other e)) (λ e. is.grown)
           (λ low. absurd (omega (arith, low, is.grown))) (omega (arith, one_more))
           (λ h low e. let under = is.low h low in omega (arith, under, e))
-
-  pub named_all : (i cur : ℕ) (names : List ℕ) → Named i cur names → i ≡ length states
-      → AreNames class states ns keeper names old cur
-  named_all i cur names is all = record {
-    each_part = λ j low. part_low j low;
-    kept = λ j low e. is.kept j low (part_low j low) e;
-    fresh = λ j low e. is.fresh j low (part_low j low) e;
-    apart = λ j k j_low k_low e. is.apart (part j) (part k) (part_low j j_low) (part_low k k_low) e;
-    in_range = λ j low. is.low (part j) (part_low j low);
-  }
-    where
-      part_low : (j : ℕ) → j < length states → part j < length names
-      part_low j low = is.part_low j (omega (arith, low, all))
 
 -- ---- with the members and the keepers of classes
 

@@ -5,9 +5,8 @@
 --   matched          == states with one signature match each other's edges
 --   within           == the steps of a state are those of one that matches its edges
 --   are_parts        == so numbers of signatures tell apart the states of a class that don't match each other's edges
-use Rattle.std.proofs.Common.{ℕ, ◌≡◌, ◌<◌, ◌↔◌, ◌&&◌, Bool, true, nat_eq, List, [], length, get_or, slice_get, map, Some, Contains, Ordering, refl, sym, ap, ◌∙◌, subst, arith}
+use Rattle.std.proofs.Common.{ℕ, ◌≡◌, ◌↔◌, ◌&&◌, Bool, true, nat_eq, List, get_or, slice_get, map, Some, Contains, Ordering, refl, sym, ap, ◌∙◌, subst, arith}
 use Rattle.std.specs.Cmp.{IsTotalOrder}
-use Rattle.std.specs.Str.{bytes_eq}
 use Rattle.std.specs.Cmp.Lexicographic.{pointwise, pointwise_decides}
 use Rattle.std.specs.Option.{option_map}
 use Rattle.std.specs.Ordering.{nat_cmp, ordering_then}
@@ -18,7 +17,7 @@ use Rattle.std.proofs.lemmas.Cmp.{on_total, then_total, nat_cmp_total, nat_eq_eq
 use Rattle.std.proofs.lemmas.Slice.Eq.{bytes_eq-Decides}
 use Rattle.std.proofs.lemmas.Option.{slice_get-get_or, slice_get-map}
 use Rattle.ml_base.specs.declared.structure.Edge.{Edge}
-use Rattle.ml_base.specs.Structure.{Structure, IsStructure}
+use Rattle.ml_base.specs.Structure.{Structure}
 use Rattle.ml_lists.proofs.Member.{Place, member-place, member_of_get}
 use Rattle.ml_lists.proofs.Members.{member_of_contains, contains_of_member}
 use Rattle.ml_lists.proofs.StrictlySorted.{same_from_members}

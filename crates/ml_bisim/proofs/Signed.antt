@@ -1,11 +1,11 @@
 -- Signatures, as they are made one after the other.
 --
 --   Signed P i ks == of each of the first i places there is a signature with P
---   signed_none, signed_more, are_signed == at first, with one more, and in the end
-use Rattle.std.proofs.Common.{ℕ, ◌≡◌, ◌+◌, ◌<◌, ◌⊎◌, inl, inr, List, [], ◌∷◌, ◌++◌, length, length-append, get_or, slice_get, Some, refl, sym, ap, ◌∙◌, subst, arith}
+--   signed_more, are_signed == with one more, and in the end
+use Rattle.std.proofs.Common.{ℕ, ◌≡◌, ◌+◌, ◌<◌, ◌⊎◌, inl, inr, List, [], ◌∷◌, ◌++◌, length, length-append, get_or, slice_get, Some, sym, ap, ◌∙◌, subst, arith}
 use Rattle.std.proofs.lemmas.Bool.{cases_eq}
 use Rattle.std.proofs.lemmas.List.{get_or_append_left}
-use Rattle.std.proofs.lemmas.Option.{get_or_from_slice_get, slice_get-get_or, slice_get_within}
+use Rattle.std.proofs.lemmas.Option.{slice_get-get_or, slice_get_within}
 use Rattle.ml_base.specs.declared.structure.Edge.{Edge}
 use Rattle.ml_bisim.specs.declared.signatures.Signature.{Signature}
 use Rattle.ml_bisim.specs.private.Signatures.{AreSignatures, IsSignature}
@@ -15,9 +15,6 @@ module _ (P : ℕ → Signature → Type 0) where
   pub record Signed (i : ℕ) (ks : List Signature) : Type 0 where
     pub long : length ks ≡ i
     pub each : (j : ℕ) → j < i → (k : Signature) × (slice_get ks j ≡ Some k) × P j k
-
-  pub signed_none : (ks : List Signature) → ks ≡ [] → Signed 0 ks
-  signed_none ks none = record { long = ap length none; each = λ j low. absurd (omega (arith, low)) }
 
   pub signed_more : (i : ℕ) (ks new : List Signature) (k : Signature) → Signed i ks → P i k → new ≡ ks ++ k ∷ [] → Signed (i + 1) new
   signed_more i ks new k is here pushed = record {

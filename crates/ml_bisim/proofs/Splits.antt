@@ -8,14 +8,13 @@
 --   split_grows      == and where a state is renamed there is one more
 --   parts_as, one_class, one_part == what is known of parts
 --   split_is         == what a round makes of a partition
-use Rattle.std.proofs.Common.{ℕ, ◌≡◌, ◌≢◌, ◌+◌, ◌<◌, ◌≤◌, ◌↔◌, ◌⊎◌, inl, inr, Bool, List, [], ◌∷◌, length, get_or, Contains, refl, sym, ap, ◌∙◌, subst, arith}
+use Rattle.std.proofs.Common.{ℕ, ◌≡◌, ◌≢◌, ◌<◌, ◌≤◌, ◌↔◌, ◌⊎◌, inl, inr, Bool, List, [], ◌∷◌, length, get_or, Contains, refl, sym, ap, ◌∙◌, subst, arith}
 use Rattle.std.proofs.lemmas.Bool.{cases_eq}
 use Rattle.std.proofs.lemmas.List.{get_or_default}
 use Rattle.ml_base.specs.Structure.{Structure}
 use Rattle.ml_lists.specs.Member.{IsMember}
 use Rattle.ml_lists.proofs.Member.{Place, member-place, place-member}
 use Rattle.ml_lists.proofs.Members.{contains_head}
-use Rattle.ml_bisim.specs.Bisimilar.{HasEdge}
 use Rattle.ml_bisim.specs.Quotient.{class_of}
 use Rattle.ml_bisim.specs.declared.partition.Partition.{Partition}
 use Rattle.ml_bisim.specs.private.Rounds.{AreChosen, AreKept, AreNames, AreRenamed, AreSet, AreSettled, Grows, HasMembers, IsFiner, IsRefined, IsSettled, IsSplit, KeepsFrom, different, name_at, rows}
@@ -184,7 +183,7 @@ module _ (m : Structure) (class : List ℕ) (flags : List Bool) (each_state : le
       let b_low = low_at b.place b.before in
       let same = parts.same a.place b.place a_low b_low in (
         (λ e. subst (λ u. Alike s u) b.stands (subst (λ u. Alike u (get_or states b.place 0)) a.stands
-        (same.0 (named.apart a.place b.place a_low b_low (sym a.has_name ∙ e ∙ b.has_name))))),
+            (same.0 (named.apart a.place b.place a_low b_low (sym a.has_name ∙ e ∙ b.has_name))))),
         (λ alike.
             a.has_name
             ∙ ap (λ n. get_or names n 0) (same.1 (subst (λ u. Alike u (get_or states b.place 0)) (sym a.stands)

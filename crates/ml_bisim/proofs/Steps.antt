@@ -2,8 +2,8 @@
 --
 --   Gathered       == the steps of the edges from a place on are there, and the next place is one of the state's
 --   gathered_none, gathered_more, gathered_all == at first, with one edge more, and in the end
---   source_below, target_below, sources_low, targets_low == edges join states
-use Rattle.std.proofs.Common.{ℕ, ◌≡◌, ◌+◌, ◌<◌, ◌≤◌, ◌↔◌, ◌⊎◌, inl, inr, List, [], ◌∷◌, ◌++◌, length, get_or, slice_get, map, Some, All, Contains, refl, sym, ap, ◌∙◌, subst, arith}
+--   target_below, sources_low, targets_low == edges join states
+use Rattle.std.proofs.Common.{ℕ, ◌≡◌, ◌+◌, ◌<◌, ◌≤◌, ◌↔◌, ◌⊎◌, inl, inr, List, [], ◌∷◌, ◌++◌, length, get_or, slice_get, map, Some, All, Contains, sym, ap, ◌∙◌, subst, arith}
 use Rattle.std.proofs.lemmas.Bool.{cases_eq, cases_lt}
 use Rattle.std.proofs.lemmas.List.{length-map}
 use Rattle.std.proofs.lemmas.List.Elements.{All-contains, All-map, Contains-append_left, Contains-append_right, Contains-append_cases}
@@ -26,11 +26,6 @@ some_same e = cc
 pub number_at : (f : Edge → ℕ) (edges : List Edge) (i : ℕ) (e : Edge) → slice_get edges i ≡ Some e → get_or (map f edges) i 0 ≡ f e
 number_at f edges i e at =
     get_or_from_slice_get (map f edges) i (f e) 0 (slice_get-map f edges i ∙ ap (option_map f) at)
-
-pub source_below : (m : Structure) → IsStructure m → (i : ℕ) (e : Edge) → slice_get m.edges i ≡ Some e → e.source < m.states
-source_below m ok i e at =
-    (All-contains (λ (f : Edge). (f.source < m.states) × (f.target < m.states)) m.edges e ok.joins_states
-    (contains_of_member e m.edges (member_of_get m.edges i e at))).0
 
 pub target_below : (m : Structure) → IsStructure m → (i : ℕ) (e : Edge) → slice_get m.edges i ≡ Some e → e.target < m.states
 target_below m ok i e at =

@@ -53,7 +53,12 @@ fn classes_of(alloc: Global, class: &[usize], states: &[u32]) -> Result<Vec<usiz
 }
 
 // A settled state of the class `of`, if there is one. What isn't in the class is dropped from its members.
-fn settled_in(members: &mut Vec<u32>, class: &[usize], is_settled: &[bool], of: usize) -> Option<u32>
+fn settled_in(
+    members: &mut Vec<u32>,
+    class: &[usize],
+    is_settled: &[bool],
+    of: usize,
+) -> Option<u32>
     requires in_range { All (λ s. s < length class.now) members.old.items }
     requires flags { length is_settled.now ≡ length class.now }
     ensures in_range { All (λ s. s < length class.now) members.new.items }

@@ -18,7 +18,9 @@ use std::alloc::Global;
 /// # Errors
 /// `NoMemory` alone.
 ///
-/// Cost: a round for each class at most, of `n log n` in the edges and linear in the labels, on average.
+/// Cost: linear in the labels and `n log n` in the edges, and a round for each class at most, on average. A round costs
+/// `n log n` in the edges of the states from which an edge leads to a state that got a new class in the round before, and of
+/// one more state of each of their classes.
 ///
 /// Source: partition refinement after Kanellakis and Smolka (1990), with the signatures of Blom and Orzan (2005).
 pub fn quotient(alloc: Global, structure: &Structure) -> Result<Quotient, NoMemory>

@@ -81,15 +81,15 @@ loop-of-preserved c =
     c.loop-of-test.true in
     let chosen : Choosing class flags n states classes (i + 1) c.match-settled_in.chosen.items =
     elim c.match-settled_in.branch [
-        in-Some+in_ok-push w ↦
-            choosing_one class flags n states classes i c.loop-of.chosen.items c.match-settled_in.chosen.items of
-            w.in-Some.state c.loop-of.invariant.2 refl w.in-Some.ensures.some.0 w.in-Some.ensures.some.1
-            w.in-Some.ensures.some.2 (ap (λ (v : Vec ℕ). v.items) w.chosen-is ∙ w.in_ok-push.ensures.items)
+      | in-Some+in_ok-push w ↦
+          choosing_one class flags n states classes i c.loop-of.chosen.items c.match-settled_in.chosen.items of
+          w.in-Some.state c.loop-of.invariant.2 refl w.in-Some.ensures.some.0 w.in-Some.ensures.some.1
+          w.in-Some.ensures.some.2 (ap (λ (v : Vec ℕ). v.items) w.chosen-is ∙ w.in_ok-push.ensures.items)
       | in_default w ↦
-            subst (λ (v : Vec ℕ). Choosing class flags n states classes (i + 1) v.items) (sym w.chosen-is)
-            (choosing_other class flags n states classes i c.loop-of.chosen.items of c.loop-of.invariant.2 refl
-            (λ t t_low e. w.in_default.ensures.none t e
-            (row_has class n c.loop-of.members c.loop-of.invariant.0 of low c.index-members-of.result t t_low e)))
+          subst (λ (v : Vec ℕ). Choosing class flags n states classes (i + 1) v.items) (sym w.chosen-is)
+          (choosing_other class flags n states classes i c.loop-of.chosen.items of c.loop-of.invariant.2 refl
+          (λ t t_low e. w.in_default.ensures.none t e
+          (row_has class n c.loop-of.members c.loop-of.invariant.0 of low c.index-members-of.result t t_low e)))
     ] in (
       row_pruned class n c.loop-of.members c.loop-of.invariant.0 of low c.index-members-of.result c.settled_in.new.members
           c.settled_in.ensures.in_range c.settled_in.ensures.kept,

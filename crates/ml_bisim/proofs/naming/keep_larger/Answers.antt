@@ -24,8 +24,7 @@ kept_next : (class states ns : List ℕ) (n i : ℕ) (keeper new : List ℕ)
     → new ≡ set keeper (class_of class (get_or states i 0)) (get_or ns i 0)
     → AllKept class states ns n new
 kept_next class states ns n i keeper new is low within written =
-    let c = class_of class (get_or states i 0) in
-    (
+    let c = class_of class (get_or states i 0) in (
       subst (λ xs. length xs ≡ n) (sym written) (length-set keeper c (get_or ns i 0) ∙ is.0),
       λ j j_low. kept_more class states ns keeper new i 0 c (omega arith) low refl (omega (arith, within, is.0)) written
           (class_of class (get_or states j 0)) (is.1 j j_low),
@@ -45,9 +44,9 @@ loop-i-preserved c =
     let number = c.index-part.ensures
     ∙ get_or_default ns i c.index-part.result.now 0 (omega (arith, c.loop-i-test.true, c.requires.each_state)) in
     let next : AllKept class states ns (length c.args.keeper.now) c.if-index.keeper = elim c.if-index.branch [
-        then-index w ↦
-            kept_next class states ns (length c.args.keeper.now) i keeper c.if-index.keeper before c.loop-i-test.true within
-            (w.keeper-is ∙ ap (set keeper (class_of class (get_or states i 0))) number)
+      | then-index w ↦
+          kept_next class states ns (length c.args.keeper.now) i keeper c.if-index.keeper before c.loop-i-test.true within
+          (w.keeper-is ∙ ap (set keeper (class_of class (get_or states i 0))) number)
       | else-index w ↦ subst (AllKept class states ns (length c.args.keeper.now)) (sym w.keeper-is) before
     ] in
     record { each_class = next.0; kept = next.1 }

@@ -2,8 +2,7 @@ use Rattle.std.proofs.Common.{ℕ, ◌≡◌, ◌+◌, ◌<◌, ◌∙◌, List,
 use Rattle.std.proofs.lemmas.List.{get_or_default, length-map, length_push}
 use Rattle.std.specs.Global.{Vec}
 use Rattle.ml_bisim.specs.Quotient.{class_of}
-use Rattle.ml_bisim.specs.private.Rounds.{AreNames}
-use Rattle.ml_bisim.proofs.PartNames.{Named, NamedSo, class_added, kept_name, named_all, named_none, named_old, new_name}
+use Rattle.ml_bisim.proofs.PartNames.{Named, NamedSo, class_added, kept_name, named_none, named_old, new_name}
 use Rattle.ml_bisim.proofs.naming.names.Goals as goal
 use Rattle.ml_bisim.proofs.naming.names.Goals.{then-part-len+then-index-part+in_ok-push, then-part-len+else-index-part+in_ok-push-2+in_ok-push-3+in_ok-push-4, else-part-len}
 
@@ -54,41 +53,41 @@ loop-i-preserved c =
     let long : c.len.result ≡ length names = omega (arith, c.len.ensures, c.loop-i.names.ok.0) in
     let next = i + 1 in
     elim c.if-part-len.branch [
-        then-part-len+then-index-part+in_ok-push w ↦
-            let met = sym number ∙ w.if-part-len.true ∙ long in
-            let inside : of < length c.loop-i.keeper.items =
-            omega (arith, class_low, before.keepers, before.named.grown) in
-            let keeps = sym (before.as_before of (omega (arith, class_low, c.requires.keepers)))
-            ∙ sym (w.index.ensures ∙ get_or_default c.loop-i.keeper.items of w.index.result.now 0 inside)
-            ∙ w.if-index-part.true ∙ number in
-            as_named class states ns count old keeper next c.loop-i.members c.if-part-len.members c.loop-i.keeper
-            c.if-part-len.keeper c.if-part-len.names w.members-is w.keeper-is before
-            (kept_name class states ns keeper count old c.requires.each_state c.requires.one_class i cur names before.named low
-            c.if-part-len.names.items met class_low keeps
-            (ap (λ (v : Vec ℕ). v.items) w.names-is ∙ w.in_ok-push.ensures.items))
+      | then-part-len+then-index-part+in_ok-push w ↦
+          let met = sym number ∙ w.if-part-len.true ∙ long in
+          let inside : of < length c.loop-i.keeper.items =
+          omega (arith, class_low, before.keepers, before.named.grown) in
+          let keeps = sym (before.as_before of (omega (arith, class_low, c.requires.keepers)))
+          ∙ sym (w.index.ensures ∙ get_or_default c.loop-i.keeper.items of w.index.result.now 0 inside)
+          ∙ w.if-index-part.true ∙ number in
+          as_named class states ns count old keeper next c.loop-i.members c.if-part-len.members c.loop-i.keeper
+          c.if-part-len.keeper c.if-part-len.names w.members-is w.keeper-is before
+          (kept_name class states ns keeper count old c.requires.each_state c.requires.one_class i cur names before.named low
+          c.if-part-len.names.items met class_low keeps
+          (ap (λ (v : Vec ℕ). v.items) w.names-is ∙ w.in_ok-push.ensures.items))
       | then-part-len+else-index-part+in_ok-push-2+in_ok-push-3+in_ok-push-4 w ↦
-            let met = sym number ∙ w.if-part-len.true ∙ long in
-            let inside : of < length c.loop-i.keeper.items =
-            omega (arith, class_low, before.keepers, before.named.grown) in
-            let read = w.index.ensures ∙ get_or_default c.loop-i.keeper.items of w.index.result.now 0 inside in
-            let kept = before.as_before of (omega (arith, class_low, c.requires.keepers)) in
-            let here : w.len-else-index-part.result ≡ cur =
-            omega (arith, w.len-else-index-part.ensures, c.loop-i.members.ok.0) in
-            let members_are = ap (λ (v : Vec (Vec ℕ)). v.items) w.members-is ∙ w.in_ok-push-3.ensures.items in
-            let grown : length c.if-part-len.members.items ≡ cur + 1 =
-            ap length members_are ∙ length_push members w.new.result in
-            class_added class states ns count old keeper i next members c.if-part-len.members.items c.loop-i.keeper.items
-            c.if-part-len.keeper.items names c.if-part-len.names.items w.new.result 0 before w.new.ensures.items members_are
-            (ap (λ (v : Vec ℕ). v.items) w.keeper-is ∙ w.in_ok-push-4.ensures.items) c.requires.keepers
-            (new_name class states ns keeper count old c.requires.each_state c.requires.one_class i cur names before.named low
-            c.if-part-len.names.items (length c.if-part-len.members.items) met
-            (λ e. w.if-index-part.false (read ∙ kept ∙ e ∙ sym number))
-            (ap (λ (v : Vec ℕ). v.items) w.names-is ∙ w.in_ok-push-2.ensures.items ∙ ap (λ k. names ++ k ∷ []) here) grown)
+          let met = sym number ∙ w.if-part-len.true ∙ long in
+          let inside : of < length c.loop-i.keeper.items =
+          omega (arith, class_low, before.keepers, before.named.grown) in
+          let read = w.index.ensures ∙ get_or_default c.loop-i.keeper.items of w.index.result.now 0 inside in
+          let kept = before.as_before of (omega (arith, class_low, c.requires.keepers)) in
+          let here : w.len-else-index-part.result ≡ cur =
+          omega (arith, w.len-else-index-part.ensures, c.loop-i.members.ok.0) in
+          let members_are = ap (λ (v : Vec (Vec ℕ)). v.items) w.members-is ∙ w.in_ok-push-3.ensures.items in
+          let grown : length c.if-part-len.members.items ≡ cur + 1 =
+          ap length members_are ∙ length_push members w.new.result in
+          class_added class states ns count old keeper i next members c.if-part-len.members.items c.loop-i.keeper.items
+          c.if-part-len.keeper.items names c.if-part-len.names.items w.new.result 0 before w.new.ensures.items members_are
+          (ap (λ (v : Vec ℕ). v.items) w.keeper-is ∙ w.in_ok-push-4.ensures.items) c.requires.keepers
+          (new_name class states ns keeper count old c.requires.each_state c.requires.one_class i cur names before.named low
+          c.if-part-len.names.items (length c.if-part-len.members.items) met
+          (λ e. w.if-index-part.false (read ∙ kept ∙ e ∙ sym number))
+          (ap (λ (v : Vec ℕ). v.items) w.names-is ∙ w.in_ok-push-2.ensures.items ∙ ap (λ k. names ++ k ∷ []) here) grown)
       | else-part-len w ↦
-            subst (λ (v : Vec ℕ). NamedSo class states ns count old keeper next c.if-part-len.members.items
-            c.if-part-len.keeper.items v.items) (sym w.names-is)
-            (as_named class states ns count old keeper next c.loop-i.members c.if-part-len.members c.loop-i.keeper
-            c.if-part-len.keeper c.loop-i.names w.members-is w.keeper-is before
-            (named_old class states ns keeper count old c.requires.each_state c.requires.one_class i cur names before.named low
-            (λ e. w.if-part-len.false (number ∙ e ∙ sym long))))
+          subst (λ (v : Vec ℕ). NamedSo class states ns count old keeper next c.if-part-len.members.items
+          c.if-part-len.keeper.items v.items) (sym w.names-is)
+          (as_named class states ns count old keeper next c.loop-i.members c.if-part-len.members c.loop-i.keeper
+          c.if-part-len.keeper c.loop-i.names w.members-is w.keeper-is before
+          (named_old class states ns keeper count old c.requires.each_state c.requires.one_class i cur names before.named low
+          (λ e. w.if-part-len.false (number ∙ e ∙ sym long))))
     ]

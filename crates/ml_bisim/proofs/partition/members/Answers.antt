@@ -1,4 +1,4 @@
-use Rattle.std.proofs.Common.{ℕ, ◌≡◌, ◌<◌, ◌∙◌, get_or, length, refl, subst, sym, arith}
+use Rattle.std.proofs.Common.{ℕ, ◌≡◌, ◌<◌, ◌∙◌, get_or, length, refl, subst, arith}
 use Rattle.std.proofs.lemmas.List.{length-map, length-set}
 use Rattle.std.specs.Global.{Vec}
 use Rattle.ml_bisim.specs.private.Rounds.{HasMembers, rows}
@@ -15,8 +15,7 @@ loop-state-preserved c =
     let state_low : state < length class = omega (arith, c.loop-state-test.true, c.requires.each_state) in
     let low = c.requires.in_range state 0 state_low in
     let within : of < length members = omega (arith, low, c.loop-state.invariant.1) in
-    let inside : of < length (rows members) = omega (arith, within, length-map members items) in
-    (
+    let inside : of < length (rows members) = omega (arith, within, length-map members items) in (
       added class state (rows members) _ c.loop-state.invariant.0 of state inside
           (row_pushed items members of state c.index_mut.result.now c.push.new.self within c.index_mut.ensures.value
           c.in_ok-push.ensures.items) refl refl,

@@ -29,7 +29,7 @@ cut_off_where_ok : {E : Type 0} (m : Structure) (p q : Partition) (renamed : Lis
 cut_off_where_ok m p q renamed (Err e) same cut_off = tt
 cut_off_where_ok m p q renamed (Ok next) same cut_off =
     subst (λ (v : Vec ℕ). (i : ℕ) → i < length renamed
-        → IsCutOff m.edges v.items m.states q.is_settled.items (get_or renamed i 0)) same cut_off
+    → IsCutOff m.edges v.items m.states q.is_settled.items (get_or renamed i 0)) same cut_off
 
 pub returns-clause-refined : goal.returns-clause-refined
 returns-clause-refined c =

@@ -30,7 +30,7 @@ rename-requires-clause-one_part c =
     let n = c.in_ok-parts.parts.count in
     let states = c.deref-9.result.now in
     subst (λ xs. (i j : ℕ) → i < length states → j < length states → get_or states i 0 ≡ get_or states j 0
-        → get_or xs i 0 ≡ get_or xs j 0) (sym c.deref-10.ensures.value)
+    → get_or xs i 0 ≡ get_or xs j 0) (sym c.deref-10.ensures.value)
     (one_part m c.deref-3.result.now states ns n
     (parts_as m c.deref-3.result.now c.deref-3.result.now c.deref-4.result.now states ns n (λ i. c.deref-3.result.now)
     (c.deref-9.ensures.value ∙ sym c.deref-4.ensures.value) c.in_ok-parts.ensures))

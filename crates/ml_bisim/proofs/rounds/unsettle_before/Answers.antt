@@ -3,7 +3,6 @@ use Rattle.std.proofs.lemmas.List.{get_or_default, length-map}
 use Rattle.ml_base.specs.declared.structure.Edge.{Edge}
 use Rattle.ml_bisim.specs.private.Rounds.{AreListed, IsLoose}
 use Rattle.ml_bisim.proofs.Entering.{Passed, passed_all, passed_next, passed_none}
-use Rattle.ml_bisim.proofs.Steps.{source_below}
 use Rattle.ml_bisim.proofs.rounds.unsettle_before.Goals as goal
 
 pub loop-rest-init : goal.loop-rest-init

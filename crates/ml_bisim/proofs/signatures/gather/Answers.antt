@@ -1,4 +1,4 @@
-use Rattle.std.proofs.Common.{◌≡◌, ◌+◌, ◌-◌, ◌<◌, ◌∙◌, ap, get_or, length, map, refl, subst, sym, arith}
+use Rattle.std.proofs.Common.{◌≡◌, ◌+◌, ◌-◌, ◌<◌, ◌∙◌, get_or, length, map, refl, subst, sym, arith}
 use Rattle.std.proofs.lemmas.List.{get_or_default, length-map}
 use Rattle.ml_base.specs.declared.structure.Edge.{Edge}
 use Rattle.ml_bisim.proofs.Steps.{Gathered, gathered_none, gathered_more, gathered_all, target_below}
