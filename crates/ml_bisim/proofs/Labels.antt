@@ -20,7 +20,8 @@ use Rattle.ml_lists.proofs.Member.{Passing, list_any-member, member-list_any}
 use Rattle.ml_lists.proofs.Members.{member_of_contains, contains_of_member}
 use Rattle.ml_lists.proofs.StrictlySorted.{same_from_members}
 use Rattle.ml_kripke.specs.Ordered.{IsOrdered}
-use Rattle.ml_bisim.specs.private.Rounds.{AreNumbers, IsPartition}
+use Rattle.ml_bisim.specs.private.Numbers.{AreNumbers}
+use Rattle.ml_bisim.specs.private.Rounds.{IsPartition}
 
 names_exact : (p q : List ℕ) → slice_cmp nat_cmp p q ≡ Equal → p ≡ q
 names_exact p q e = (bytes_decides p q).0 (texts_ties p q ∙ ap is_eq e)
@@ -76,10 +77,9 @@ module _ (m : Structure) (ok : IsStructure m) (ordered : IsOrdered m) (rows : Li
       ∙ ap (option_map (λ (r : Vec (List ℕ)). r.items)) found.1 in
       record { vector = found.0; stands = found.1; is_row = sym (get_or_from_slice_get m.labels s found.0.items [] at) }
 
-  pub labelled : (ns : List ℕ) (n : ℕ) → AreNumbers row_eq rows ns n → IsPartition m ns n
+  pub labelled : (ns : List ℕ) (n : ℕ) → AreNumbers row_eq rows ns n → IsPartition m ns
   labelled ns n are = record {
     each_state = are.each_key ∙ rows_long;
-    in_turn = are.in_turn;
     coarse = λ s t s_low t_low b.
         let r = row_at s s_low in
         let u = row_at t t_low in

@@ -8,15 +8,39 @@ pub mod Carrying
 pub mod Smallest
 -- numbers of keys, by a table
 pub mod Tables
--- one round of a refinement
-pub mod Finer
--- a partition that no round makes finer
+-- the parts into which a round cuts classes
+pub mod Parts
+-- a partition in which each state is settled
 pub mod Stable
 -- states by their labels
 pub mod Labels
 -- the quotient, made of classes
 pub mod Merged
--- the rows of steps, as they are made
-pub mod Rows
 -- lists that are gone through
 pub mod Passed
+-- the places of a list, as they are linked
+pub mod Links
+-- the steps of a state, as they are gathered
+pub mod Steps
+-- members of a class, gone through
+pub mod Scanning
+-- lists of the members of classes
+pub mod MemberLists
+-- which parts keep the numbers of their classes
+pub mod KeptParts
+-- the names of parts
+pub mod PartNames
+-- how many different numbers stand in a list
+pub mod Different
+-- what a round makes of the classes
+pub mod Splits
+-- states that aren't settled any more
+pub mod Settling
+-- signatures, as they are made
+pub mod Signed
+-- the states that a round looks at, as they are chosen
+pub mod ChosenStates
+-- states get the names of their parts
+pub mod Renaming
+-- the states from which an edge leads to a state, gone through
+pub mod Entering

@@ -17,7 +17,7 @@ use Rattle.ml_lists.proofs.Members.{member_of_contains, contains_of_member}
 use Rattle.ml_kripke.specs.Ordered.{IsBuiltFrom, IsOrdered, ends, first_bad_state, named_states}
 use Rattle.ml_bisim.specs.Bisimilar.{HasEdge}
 use Rattle.ml_bisim.specs.Quotient.{AreClasses, IsQuotientOf, SomeEdge, class_of}
-use Rattle.ml_bisim.specs.private.Rounds.{AreClassLabels, between_classes}
+use Rattle.ml_bisim.specs.private.Merged.{AreClassLabels, between_classes}
 use Rattle.ml_bisim.proofs.Classes.{edge_from, source_low, target_low}
 use Rattle.ml_bisim.proofs.Labels.{listed, row}
 use Rattle.ml_bisim.proofs.Turns.{runs_long, runs_low}

@@ -1,119 +1,21 @@
--- A partition that no round makes finer.
+-- A partition in which each state is settled.
 --
--- Two lists of numbers that come in turn, of which the one tells apart what the other one does, are equal, or the finer
--- one has more numbers.
---
---   more_or_same   == so, of a partition and what a round makes of it
 --   finer_is       == what a round makes of a partition is one again
---   stable_is      == where it is the same, states of one class are bisimilar
-use Rattle.std.proofs.Common.{ℕ, suc, ◌≡◌, ◌+◌, ◌<◌, ◌≤◌, ◌⊎◌, inl, inr, ⊎_elim, ◌==◌, ◌&&◌, Bool, true, nat_lt, List, [], ◌∷◌, length, get_or, IsTrue, refl, sym, ◌∙◌, subst, arith, lt-ltb}
-use Rattle.std.proofs.lemmas.Bool.{and_parts, and_from, cases_eq}
+--   stable_is      == where all states are settled, states of one class are bisimilar
+use Rattle.std.proofs.Common.{ℕ, ◌≡◌, ◌<◌, ◌↔◌, ◌==◌, ◌&&◌, Bool, true, nat_eq, nat_lt, List, get_or, IsTrue, ◌∙◌, arith, lt-ltb}
+use Rattle.std.proofs.lemmas.Bool.{and_parts, and_from, eqb-true}
 use Rattle.std.proofs.lemmas.Bool.Decides.{nat_tests}
+use Rattle.std.proofs.lemmas.Option.{slice_get-get_or}
 use Rattle.ml_base.specs.Structure.{Structure, IsStructure}
-use Rattle.ml_lists.specs.InTurn.{RunsOn}
 use Rattle.ml_bisim.specs.Bisimilar.{Bisimilar, IsBisimulation}
 use Rattle.ml_bisim.specs.Quotient.{AreClasses, class_of}
-use Rattle.ml_bisim.specs.private.Rounds.{IsFiner, IsPartition, SameSteps}
+use Rattle.ml_bisim.specs.private.Numbers.{AreNumbers}
+use Rattle.ml_bisim.specs.private.Rounds.{IsFiner, IsPartition}
+use Rattle.ml_bisim.specs.private.Signatures.{SameSteps}
 use Rattle.ml_bisim.proofs.Classes.{target_low}
+use Rattle.ml_bisim.proofs.Parts.{number_itself}
 
-module _ (P : ℕ → ℕ → Type 0) (one : (x z y : ℕ) → P x y → P z y → x ≡ z) where
-  -- each number of the finer list that was met stands beside one of the other that was met
-  abbrev Met : ℕ → ℕ → Type 0
-  Met n m = (y : ℕ) → y < m → (x : ℕ) × (x < n) × P x y
-
-  abbrev Alike : ℕ → ℕ → Type 0
-  Alike n m = (n ≡ m) × ((x y : ℕ) → y < m → P x y → x ≡ y)
-
-  abbrev Beside : List ℕ → List ℕ → Type 0
-  Beside xs ys = (i : ℕ) → i < length xs → P (get_or xs i 0) (get_or ys i 0)
-
-  met_more : (n m k : ℕ) → n ≤ k → Met n m → Met k m
-  met_more n m k le met y low = let there = met y low in (there.0, omega (arith, le, there.1), there.2)
-
-  met_new : (n m x : ℕ) → x < n → P x m → Met n m → Met n (m + 1)
-  met_new n m x low here met y y_low = by_case (cases_eq y m)
-    where
-      by_case : (y ≡ m) ⊎ (y ≡ m → ⊥) → (x : ℕ) × (x < n) × P x y
-      by_case (inl same) = (x, low, subst (P x) (sym same) here)
-      by_case (inr other) = met y (omega arith)
-
-  -- the finer list ends with more numbers, or each pair from here on is one number twice
-  runs_apart : (n m k l : ℕ) (xs ys : List ℕ) → length xs ≡ length ys → RunsOn n xs k → RunsOn m ys l → Beside xs ys
-      → Met n m → (n < m) ⊎ Alike n m → (k < l) ⊎ ((xs ≡ ys) × Alike n m)
-  runs_apart n m k l [] [] long rx ry beside met (inl less) = inl (omega (arith, rx, ry, less))
-  runs_apart n m k l [] [] long rx ry beside met (inr alike) = inr (refl, alike)
-  runs_apart n m k l [] (y ∷ ys) long rx ry beside met state = absurd (omega arith)
-  runs_apart n m k l (x ∷ xs) [] long rx ry beside met state = absurd (omega arith)
-  runs_apart n m k l (x ∷ xs) (y ∷ ys) long (inl (x_old, rx)) (inl (y_old, ry)) beside met state =
-      head (runs_apart n m k l xs ys (omega arith) rx ry (λ i low. beside (suc i) (omega arith)) met state)
-    where
-      head : (k < l) ⊎ ((xs ≡ ys) × Alike n m) → (k < l) ⊎ ((x ∷ xs ≡ y ∷ ys) × Alike n m)
-      head (inl less) = inl less
-      head (inr (same, alike)) =
-          let here : x ≡ y = alike.1 x y y_old (beside 0 (omega arith)) in
-          inr ((λ i. here i ∷ same i), alike)
-  runs_apart n m k l (x ∷ xs) (y ∷ ys) long (inl (x_old, rx)) (inr (y_new, ry)) beside met state =
-      less (runs_apart n (m + 1) k l xs ys (omega arith) rx ry (λ i low. beside (suc i) (omega arith))
-      (met_new n m x x_old (subst (P x) y_new (beside 0 (omega arith))) met) (inl (below state)))
-    where
-      below : (n < m) ⊎ Alike n m → n < m + 1
-      below (inl less) = omega arith
-      below (inr alike) = omega (arith, alike.0)
-
-      less : (k < l) ⊎ ((xs ≡ ys) × Alike n (m + 1)) → (k < l) ⊎ ((x ∷ xs ≡ y ∷ ys) × Alike n m)
-      less (inl l) = inl l
-      less (inr (same, alike)) = absurd (omega (arith, below state, alike.0))
-  runs_apart n m k l (x ∷ xs) (y ∷ ys) long (inr (x_new, rx)) (inl (y_old, ry)) beside met state =
-      let there = met y y_old in
-      let same = one there.0 x y there.2 (beside 0 (omega arith)) in
-      absurd (omega (arith, there.1, x_new, same))
-  runs_apart n m k l (x ∷ xs) (y ∷ ys) long (inr (x_new, rx)) (inr (y_new, ry)) beside met state =
-      head state (runs_apart (n + 1) (m + 1) k l xs ys (omega arith) rx ry (λ i low. beside (suc i) (omega arith))
-      (met_new (n + 1) m x (omega (arith, x_new)) (subst (P x) y_new (beside 0 (omega arith)))
-      (met_more n m (n + 1) (omega arith) met)) (next state))
-    where
-      next : (n < m) ⊎ Alike n m → (n + 1 < m + 1) ⊎ Alike (n + 1) (m + 1)
-      next (inl less) = inl (omega arith)
-      next (inr alike) = inr (omega (arith, alike.0), λ u v low p. by_case u v p low (cases_eq v m))
-        where
-          by_case : (u v : ℕ) → P u v → v < m + 1 → (v ≡ m) ⊎ (v ≡ m → ⊥) → u ≡ v
-          by_case u v p low (inl same) =
-              one u x v p (subst (P x) (y_new ∙ sym same) (beside 0 (omega arith))) ∙ x_new ∙ alike.0 ∙ sym same
-          by_case u v p low (inr other) = alike.1 u v (omega arith) p
-
-      head : (n < m) ⊎ Alike n m → (k < l) ⊎ ((xs ≡ ys) × Alike (n + 1) (m + 1))
-          → (k < l) ⊎ ((x ∷ xs ≡ y ∷ ys) × Alike n m)
-      head state (inl less) = inl less
-      head (inl less) (inr (same, alike)) = absurd (omega (arith, less, alike.0))
-      head (inr before) (inr (same, alike)) =
-          let here : x ≡ y = x_new ∙ before.0 ∙ sym y_new in
-          inr ((λ i. here i ∷ same i), before)
-
--- two lists of numbers in turn, of which one is finer
-module _ (xs ys : List ℕ)
-    (refines : (i j : ℕ) → i < length xs → j < length xs → get_or ys i 0 ≡ get_or ys j 0 → get_or xs i 0 ≡ get_or xs j 0) where
-  abbrev Stands : ℕ → ℕ → Type 0
-  Stands x y = (i : ℕ) × (i < length xs) × (get_or xs i 0 ≡ x) × (get_or ys i 0 ≡ y)
-
-  one_beside : (x z y : ℕ) → Stands x y → Stands z y → x ≡ z
-  one_beside x z y p q = sym p.2 ∙ refines p.0 q.0 p.1 q.1 (p.3 ∙ sym q.3) ∙ q.2
-
-  pub more_or_same : (k l : ℕ) → length xs ≡ length ys → RunsOn 0 xs k → RunsOn 0 ys l → (k < l) ⊎ (xs ≡ ys)
-  more_or_same k l long rx ry = of (runs_apart Stands one_beside 0 0 k l xs ys long rx ry
-      (λ i low. (i, low, refl, refl)) (λ y low. absurd (omega arith)) (inr (refl, λ x y low. absurd (omega arith))))
-    where
-      of : (k < l) ⊎ ((xs ≡ ys) × Alike Stands one_beside 0 0) → (k < l) ⊎ (xs ≡ ys)
-      of (inl less) = inl less
-      of (inr same) = inr same.0
-
-module _ (m : Structure) (m_ok : IsStructure m) (class ns : List ℕ) (k l : ℕ) (part : IsPartition m class k)
-    (finer : IsFiner m class ns l) where
-  pub grows_or_same : (k < l) ⊎ (class ≡ ns)
-  grows_or_same =
-      more_or_same class ns (λ i j i_low j_low e.
-      ((finer.same i j (omega (arith, part.each_state)) (omega (arith, part.each_state))).0 e).0)
-      k l (part.each_state ∙ sym finer.each_state) part.in_turn finer.in_turn
-
+module _ (m : Structure) (m_ok : IsStructure m) (class : List ℕ) (part : IsPartition m class) where
   -- bisimilar states match each other's edges
   match : (s t : ℕ) → s < m.states → t < m.states → Bisimilar m s t → SameSteps m class s t
   match s t s_low t_low b = record {
@@ -133,10 +35,9 @@ module _ (m : Structure) (m_ok : IsStructure m) (class ns : List ℕ) (k l : ℕ
         );
   }
 
-  pub finer_is : IsPartition m ns l
-  finer_is = record {
+  pub finer_is : (ns : List ℕ) → IsFiner m class ns → IsPartition m ns
+  finer_is ns finer = record {
     each_state = finer.each_state;
-    in_turn = finer.in_turn;
     coarse = λ s t s_low t_low b.
         (finer.same s t s_low t_low).1 (part.coarse s t s_low t_low b, match s t s_low t_low b);
     same_labels = λ s t s_low t_low e. part.same_labels s t s_low t_low ((finer.same s t s_low t_low).0 e).0;
@@ -177,15 +78,17 @@ module _ (m : Structure) (m_ok : IsStructure m) (class ns : List ℕ) (k l : ℕ
       (and_from (nat_lt t m.states) (class_of class s == class_of class t) (lt-ltb t m.states j.target)
       (same_is (class_of class s) (class_of class t) j.classes))
 
-  steps : class ≡ ns → (s t : ℕ) → AreTogether s t → SameSteps m class s t
-  steps stable s t j =
-      ((finer.same s t j.source j.target).0 (subst (λ c. class_of c s ≡ class_of c t) stable j.classes)).1
+  abbrev AllMatch : Type 0
+  AllMatch = (s t : ℕ) → s < m.states → t < m.states → class_of class s ≡ class_of class t → SameSteps m class s t
 
-  is_bisimulation : class ≡ ns → IsBisimulation m in_class
-  is_bisimulation stable = record {
+  steps : AllMatch → (s t : ℕ) → AreTogether s t → SameSteps m class s t
+  steps all s t j = all s t j.source j.target j.classes
+
+  is_bisimulation : AllMatch → IsBisimulation m in_class
+  is_bisimulation all = record {
     same_labels = λ s t e. let j = together s t e in part.same_labels s t j.source j.target j.classes;
     forth = λ s t e a x edge.
-        let there = (steps stable s t (together s t e)).forth a x edge in (
+        let there = (steps all s t (together s t e)).forth a x edge in (
           there.0,
           there.1,
           joins x there.0 (record {
@@ -195,7 +98,7 @@ module _ (m : Structure) (m_ok : IsStructure m) (class ns : List ℕ) (k l : ℕ
           }),
         );
     back = λ s t e a y edge.
-        let there = (steps stable s t (together s t e)).back a y edge in (
+        let there = (steps all s t (together s t e)).back a y edge in (
           there.0,
           there.1,
           joins there.0 y (record {
@@ -206,19 +109,27 @@ module _ (m : Structure) (m_ok : IsStructure m) (class ns : List ℕ) (k l : ℕ
         );
   }
 
-  pub stable_is : l ≤ k → AreClasses m k class
-  stable_is few = record {
-    each_state = part.each_state;
+  pub stable_is : AllMatch → (ns : List ℕ) (n : ℕ) → AreNumbers nat_eq class ns n → AreClasses m n ns
+  stable_is all ns n are = record {
+    each_state = are.each_key ∙ part.each_state;
     bisimilar = λ s t s_low t_low. (
       (λ e. record {
         relation = in_class;
-        is_bisimulation = is_bisimulation same;
-        joined = joins s t (record { source = s_low; target = t_low; classes = e });
+        is_bisimulation = is_bisimulation all;
+        joined = joins s t (record {
+          source = s_low;
+          target = t_low;
+          classes = eqb-true (class_of class s) (class_of class t) ((same s t s_low t_low).0 e);
+        });
       }),
-      (λ b. part.coarse s t s_low t_low b),
+      (λ b. (same s t s_low t_low).1 (number_itself (class_of class s) (class_of class t) (part.coarse s t s_low t_low b))),
     );
-    in_turn = part.in_turn;
+    in_turn = are.in_turn;
   }
     where
-      same : class ≡ ns
-      same = ⊎_elim (λ (less : k < l). absurd (omega arith)) (λ (e : class ≡ ns). e) grows_or_same
+      same : (s t : ℕ) → s < m.states → t < m.states
+          → (get_or ns s 0 ≡ get_or ns t 0) ↔ (nat_eq (class_of class s) (class_of class t) ≡ true)
+      same s t s_low t_low =
+          are.same s t (class_of class s) (class_of class t)
+          (slice_get-get_or class s 0 (omega (arith, s_low, part.each_state)))
+          (slice_get-get_or class t 0 (omega (arith, t_low, part.each_state)))

@@ -14,7 +14,7 @@ use Rattle.ml_lists.specs.InTurn.{RunsOn}
 use Rattle.ml_lists.proofs.Added.{last_or}
 use Rattle.ml_lists.proofs.InTurn.{runs_append}
 use Rattle.ml_lists.proofs.Member.{member-list_any, member_of_get}
-use Rattle.ml_bisim.specs.private.Rounds.{AreNumbers}
+use Rattle.ml_bisim.specs.private.Numbers.{AreNumbers}
 
 some_same : {K : Type 0} {x y : K} → Some x ≡ Some y → x ≡ y
 some_same e = cc

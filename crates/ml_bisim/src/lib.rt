@@ -12,11 +12,17 @@
 #![tactic(auto)]
 
 mod ascending;
+mod choice;
+mod edges;
 pub mod laws;
 mod merging;
+mod naming;
 mod numbering;
+mod partition;
+mod places;
 mod quotients;
 mod rounds;
+mod signatures;
 
 pub use merging::quotient;
 pub use quotients::Quotient;

@@ -3,7 +3,7 @@ ghost use Rattle.std.specs.Prelude.{◌≡◌, ◌<◌, ◌++◌, ◌^◌, None,
 ghost use Rattle.ml_base.specs.Structure.{IsStructure};
 ghost use Rattle.ml_kripke.specs.Ordered.{IsBuiltFrom, IsOrdered, first_bad_state};
 ghost use Rattle.ml_bisim.specs.Quotient.{IsQuotientOf};
-ghost use Rattle.ml_bisim.specs.private.Rounds.{AreClassLabels, between_classes};
+ghost use Rattle.ml_bisim.specs.private.Merged.{AreClassLabels, between_classes};
 
 use crate::quotients::Quotient;
 use crate::rounds::classes;
@@ -18,7 +18,9 @@ use std::alloc::Global;
 /// # Errors
 /// `NoMemory` alone.
 ///
-/// Cost: a round for each class at most, of `n log n` in the edges and linear in the labels, on average.
+/// Cost: linear in the labels and `n log n` in the edges, and a round for each class at most, on average. A round costs
+/// `n log n` in the edges of the states from which an edge leads to a state that got a new class in the round before, and of
+/// one more state of each of their classes.
 ///
 /// Source: partition refinement after Kanellakis and Smolka (1990), with the signatures of Blom and Orzan (2005).
 pub fn quotient(alloc: Global, structure: &Structure) -> Result<Quotient, NoMemory>

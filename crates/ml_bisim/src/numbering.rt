@@ -1,6 +1,6 @@
 // Keys that are numbered in the order in which they come: equal keys have one number.
 ghost use Rattle.std.specs.Prelude.{IfOk};
-ghost use Rattle.ml_bisim.specs.private.Rounds.{AreNumbers};
+ghost use Rattle.ml_bisim.specs.private.Numbers.{AreNumbers};
 
 use indexmap::IndexSet;
 use ml_base::NoMemory;

@@ -1,170 +1,247 @@
 // The rounds of a partition refinement: from classes of states by their labels to classes of bisimilar states.
-ghost use Rattle.std.specs.Prelude.{◌≡◌, [], length, map, replicate, IfOk};
-ghost use Rattle.std.specs.Str.{bytes_eq};
+//
+// A round looks at the states alone from which an edge leads to a state that got a new class in the last one, and at one
+// other state of each of their classes. In the first round it looks at all.
+ghost use Rattle.std.specs.Prelude.{ℕ, ◌≡◌, ◌<◌, ◌≤◌, [], length, get_or, All, Contains, IfOk, OnOk};
 ghost use Rattle.ml_bisim.specs.Quotient.{AreClasses};
-ghost use Rattle.ml_bisim.specs.private.Rounds.{AreNumbers, AreSignatures, HasSteps, IsFiner, IsPartition, IsSignature};
+ghost use Rattle.ml_bisim.specs.private.Signatures.{AreEdges};
+ghost use Rattle.ml_bisim.specs.private.Rounds.{AreListed, AreRenamed, AreSet, Grows, HasMembers, IsCutOff, IsLoose, IsRefined, IsSettled, IsSplit, rows};
 
-use crate::ascending::ascending;
+use crate::choice::chosen;
+use crate::edges::{Edges, edges_of};
+use crate::naming::{keep, names};
 use crate::numbering::{Numbering, numbered};
-use ml_base::{Name, NoMemory};
+use crate::partition::Partition;
+use crate::signatures::parts;
+use ml_base::NoMemory;
 use ml_kripke::Structure;
 use std::alloc::Global;
-
-/// An edge of a state: the number of its action, and the class into which it leads.
-#[derive(Debug, Clone, Copy, PartialEq, Eq, PartialOrd, Ord, Hash, Drop)]
-pub(crate) struct Step {
-    pub action: usize,
-    pub class: usize,
-}
-
-/// What tells states of one class apart: into which classes their edges lead.
-#[derive(Debug, PartialEq, Eq, Hash, Drop)]
-pub(crate) struct Signature {
-    pub class: usize,
-    pub steps: Vec<Step>,
-}
 
 /// The classes of bisimilar states.
 ///
 /// # Errors
 /// `NoMemory` alone.
 ///
-/// Cost: a round for each class at most, of `n log n` in the edges, on average.
+/// Cost: a round for each class at most. A round costs `n log n`, on average, in the edges of the states from which an edge
+/// leads to a state that got a new class in the round before, and of one other state of each of their classes.
 pub(crate) fn classes(alloc: Global, structure: &Structure) -> Result<Numbering, NoMemory>
     ensures { IfOk result (λ classes. AreClasses structure.now classes.count classes.numbers.items) }
 {
     let _states = structure.states();
-    let actions = actions(alloc, structure)?;
-    let mut coarse = by_labels(alloc, structure)?;
-    let mut fine = refined(alloc, structure, &actions, &coarse.numbers)?;
-    while fine.count > coarse.count {
-        coarse = fine;
-        fine = refined(alloc, structure, &actions, &coarse.numbers)?;
+    let edges = edges_of(alloc, structure)?;
+    let mut unsettled = all_states(alloc, structure)?;
+    let mut partition = Partition::by_labels(alloc, structure, &unsettled)?;
+    'rounds: while !unsettled.is_empty() {
+        unsettled = refine(alloc, structure, &edges, &mut partition, unsettled)?;
     }
-    Ok(coarse)
+    numbered(alloc, partition.class)
 }
 
-// the actions of the edges, numbered
-fn actions(alloc: Global, structure: &Structure) -> Result<Numbering, NoMemory>
-    ensures { IfOk result (λ n. AreNumbers bytes_eq (map (λ e. e.action) structure.now.edges) n.numbers.items n.count) }
+fn all_states(alloc: Global, structure: &Structure) -> Result<Vec<u32>, NoMemory>
+    ensures in_range { IfOk result (λ states. All (λ s. s < structure.now.states) states.items) }
+    ensures all { IfOk result (λ states. (s : ℕ) → s < structure.now.states → Contains states.items s) }
 {
-    let mut actions = Vec::with_capacity(alloc, structure.edge_count())?;
-    for edge in structure.edges() {
-        actions.push(edge.action.copy()?)?;
-    }
-    numbered(alloc, actions)
-}
-
-// states by their labels alone
-fn by_labels(alloc: Global, structure: &Structure) -> Result<Numbering, NoMemory>
-    ensures { IfOk result (λ n. IsPartition structure.now n.numbers.items n.count) }
-{
-    let _states = structure.states();
-    let rows = label_rows(alloc, structure)?;
-    numbered(alloc, rows)
-}
-
-// the labels of each state
-fn label_rows(alloc: Global, structure: &Structure) -> Result<Vec<Vec<Name>>, NoMemory>
-    ensures { IfOk result (λ rows. map (λ row. row.items) rows.items ≡ structure.now.labels) }
-{
-    let mut rows = Vec::with_capacity(alloc, structure.states() as usize)?;
+    let mut states = Vec::with_capacity(alloc, structure.states() as usize)?;
     for state in 0..structure.states() {
-        rows.push(copied(alloc, structure.labels_of(state))?)?;
+        states.push(state)?;
     }
-    Ok(rows)
+    Ok(states)
 }
 
-fn copied(alloc: Global, names: &[Name]) -> Result<Vec<Name>, NoMemory>
-    ensures { IfOk result (λ copy. copy.items ≡ names.now) }
-{
-    let mut copy = Vec::with_capacity(alloc, names.len())?;
-    for name in names {
-        copy.push(name.copy()?)?;
-    }
-    Ok(copy)
-}
-
-// one round: states of one class stay together where their edges lead into the same classes
-fn refined(
+// One round. What comes back are the states that aren't settled then.
+fn refine(
     alloc: Global,
     structure: &Structure,
-    actions: &Numbering,
-    class: &[usize],
-) -> Result<Numbering, NoMemory>
-    requires actions { AreNumbers bytes_eq (map (λ e. e.action) structure.now.edges) actions.now.numbers.items actions.now.count }
-    requires each_state { length class.now ≡ structure.now.states }
-    ensures { IfOk result (λ n. IsFiner structure.now class.now n.numbers.items n.count) }
+    edges: &Edges,
+    partition: &mut Partition,
+    unsettled: Vec<u32>,
+) -> Result<Vec<u32>, NoMemory>
+    requires edges { AreEdges structure.now edges.now }
+    requires refined { IsRefined structure.now partition.old unsettled.items }
+    ensures refined { IfOk result (λ next. IsRefined structure.now partition.new next.items) }
+    ensures grows { IfOk result (λ next. Grows partition.old.class.items partition.new.class.items next.items) }
 {
     let _states = structure.states();
-    let rows = steps(alloc, structure, &actions.numbers, class)?;
-    let signatures = signatures(alloc, class, rows)?;
-    numbered(alloc, signatures)
+    let renamed = split(alloc, structure, edges, partition, unsettled)?;
+    unsettle(alloc, structure, edges, partition, &renamed)
 }
 
-// the edges of each state, by the numbers of actions and classes
-fn steps(
+// The classes are split by the edges of their states. What comes back are the states that got a new class.
+fn split(
     alloc: Global,
     structure: &Structure,
-    actions: &[usize],
-    class: &[usize],
-) -> Result<Vec<Vec<Step>>, NoMemory>
-    requires each_edge { length actions.now ≡ length structure.now.edges }
-    requires each_state { length class.now ≡ structure.now.states }
-    ensures { IfOk result (λ rows. HasSteps
-        structure.now.states
-        structure.now.edges
-        actions.now
-        class.now
-        (length structure.now.edges)
-        (map (λ row. row.items) rows.items)) }
+    edges: &Edges,
+    partition: &mut Partition,
+    unsettled: Vec<u32>,
+) -> Result<Vec<u32>, NoMemory>
+    requires edges { AreEdges structure.now edges.now }
+    requires refined { IsRefined structure.now partition.old unsettled.items }
+    ensures { IfOk result (λ renamed. IsSplit structure.now partition.old.class.items partition.new renamed.items) }
 {
-    let states = structure.states();
-    let mut rows = no_steps(alloc, states)?;
-    for i in 0..structure.edge_count() {
-        let edge = structure.edge_at(i);
-        let step = Step {
-            action: actions[i],
-            class: class[edge.target as usize],
-        };
-        rows[edge.source as usize].push(step)?;
-    }
-    Ok(rows)
+    let first = unsettled.len();
+    let states = chosen(
+        alloc,
+        &mut partition.members,
+        &partition.class,
+        &partition.is_settled,
+        unsettled,
+    )?;
+    let parts = parts(alloc, structure, edges, &partition.class, &states)?;
+    keep(
+        alloc,
+        &mut partition.keeper,
+        &partition.class,
+        &states,
+        &parts,
+        first,
+    )?;
+    let names = names(
+        alloc,
+        &mut partition.members,
+        &mut partition.keeper,
+        &partition.class,
+        &states,
+        &parts,
+    )?;
+    rename(alloc, partition, &states, &parts.numbers, &names, first)
 }
 
-// an empty row for each state
-fn no_steps(alloc: Global, states: u32) -> Result<Vec<Vec<Step>>, NoMemory>
-    ensures { IfOk result (λ rows. map (λ row. row.items) rows.items ≡ replicate states []) }
-{
-    let mut rows = Vec::with_capacity(alloc, states as usize)?;
-    for _ in 0..states {
-        rows.push(Vec::new(alloc))?;
-    }
-    Ok(rows)
-}
-
-// the signature of each state
-fn signatures(
+// The states before `first` get the names of their parts, and are settled. What comes back are those that had another name.
+fn rename(
     alloc: Global,
-    class: &[usize],
-    rows: Vec<Vec<Step>>,
-) -> Result<Vec<Signature>, NoMemory>
-    requires { length rows.items ≡ length class.now }
-    ensures { IfOk result (λ signatures. AreSignatures class.now (map (λ row. row.items) rows.items) signatures.items) }
+    partition: &mut Partition,
+    states: &[u32],
+    numbers: &[usize],
+    names: &[usize],
+    first: usize,
+) -> Result<Vec<u32>, NoMemory>
+    requires in_range { All (λ s. s < length partition.old.class.items) states.now }
+    requires members { HasMembers partition.old.class.items (length partition.old.class.items) (rows partition.old.members.items) }
+    requires flags { length partition.old.is_settled.items ≡ length partition.old.class.items }
+    requires before { first ≤ length states.now }
+    requires each_state { length numbers.now ≡ length states.now }
+    requires each_part { (i : ℕ) → i < length states.now → get_or numbers.now i 0 < length names.now }
+    requires names { (i : ℕ) → i < length states.now → get_or names.now (get_or numbers.now i 0) 0 < length partition.old.members.items }
+    requires one_part { (i j : ℕ) → i < length states.now → j < length states.now → get_or states.now i 0 ≡ get_or states.now j 0 → get_or numbers.now i 0 ≡ get_or numbers.now j 0 }
+    ensures members { OnOk result (HasMembers partition.new.class.items (length partition.old.class.items) (rows partition.new.members.items)) }
+    ensures each_class { OnOk result (length partition.new.members.items ≡ length partition.old.members.items) }
+    ensures keepers { OnOk result (partition.new.keeper.items ≡ partition.old.keeper.items) }
+    ensures flags { OnOk result (AreSet partition.old.is_settled.items states.now first partition.new.is_settled.items) }
+    ensures renamed { IfOk result (λ renamed. AreRenamed partition.old.class.items states.now numbers.now names.now first (length partition.old.class.items) partition.new.class.items renamed.items) }
 {
-    let mut signatures = Vec::with_capacity(alloc, rows.len())?;
-    for steps in rows {
-        let class = class[signatures.len()];
-        signatures.push(signed(class, steps))?;
+    let mut renamed = Vec::new(alloc);
+    for i in 0..first {
+        let state = states[i];
+        let name = names[numbers[i]];
+        partition.is_settled[state as usize] = true;
+        if partition.class[state as usize] != name {
+            partition.class[state as usize] = name;
+            partition.members[name].push(state)?;
+            renamed.push(state)?;
+        }
     }
-    Ok(signatures)
+    Ok(renamed)
 }
 
-fn signed(class: usize, steps: Vec<Step>) -> Signature
-    ensures { IsSignature class steps.items result }
+// The states from which an edge leads to one of those that are renamed: they are settled no more, unless they are alone in
+// their classes.
+fn unsettle(
+    alloc: Global,
+    structure: &Structure,
+    edges: &Edges,
+    partition: &mut Partition,
+    renamed: &[u32],
+) -> Result<Vec<u32>, NoMemory>
+    requires edges { AreEdges structure.now edges.now }
+    requires members { HasMembers partition.old.class.items structure.now.states (rows partition.old.members.items) }
+    requires each_state { length partition.old.class.items ≡ structure.now.states }
+    requires flags { length partition.old.is_settled.items ≡ structure.now.states }
+    requires settled { (s : ℕ) → s < structure.now.states → IsSettled partition.old.is_settled.items s }
+    requires in_range { All (λ s. s < structure.now.states) renamed.now }
+    ensures class { OnOk result (partition.new.class ≡ partition.old.class) }
+    ensures members { OnOk result (partition.new.members ≡ partition.old.members) }
+    ensures keepers { OnOk result (partition.new.keeper ≡ partition.old.keeper) }
+    ensures flags { OnOk result (length partition.new.is_settled.items ≡ structure.now.states) }
+    ensures in_range { IfOk result (λ states. All (λ s. s < structure.now.states) states.items) }
+    ensures listed { IfOk result (λ states. AreListed partition.new.is_settled.items structure.now.states states.items) }
+    ensures cut_off { OnOk result ((i : ℕ) → i < length renamed.now → IsCutOff structure.now.edges partition.new.class.items structure.now.states partition.new.is_settled.items (get_or renamed.now i 0)) }
+    ensures none { IfOk result (λ states. length renamed.now ≡ 0 → states.items ≡ []) }
 {
-    Signature {
-        class,
-        steps: ascending(steps),
+    let mut unsettled = Vec::new(alloc);
+    for state in renamed {
+        unsettle_before(
+            structure,
+            edges,
+            &partition.class,
+            &partition.members,
+            &mut partition.is_settled,
+            &mut unsettled,
+            *state,
+        )?;
     }
+    Ok(unsettled)
+}
+
+// those from which an edge leads to this state
+fn unsettle_before(
+    structure: &Structure,
+    edges: &Edges,
+    class: &[usize],
+    members: &[Vec<u32>],
+    is_settled: &mut [bool],
+    unsettled: &mut Vec<u32>,
+    state: u32,
+) -> Result<(), NoMemory>
+    requires edges { AreEdges structure.now edges.now }
+    requires members { HasMembers class.now structure.now.states (rows members.now) }
+    requires each_state { length class.now ≡ structure.now.states }
+    requires flags { length is_settled.old ≡ structure.now.states }
+    requires in_range { state < structure.now.states }
+    requires states { All (λ s. s < structure.now.states) unsettled.old.items }
+    requires listed { AreListed is_settled.old structure.now.states unsettled.old.items }
+    ensures flags { length is_settled.new ≡ structure.now.states }
+    ensures states { OnOk result (All (λ s. s < structure.now.states) unsettled.new.items) }
+    ensures listed { OnOk result (AreListed is_settled.new structure.now.states unsettled.new.items) }
+    ensures fewer { (s : ℕ) → IsSettled is_settled.new s → IsSettled is_settled.old s }
+    ensures cut_off { OnOk result (IsCutOff structure.now.edges class.now structure.now.states is_settled.new state) }
+{
+    let _states = structure.states();
+    let mut rest = edges.entering.last[state as usize];
+    while rest > 0 {
+        let place = rest - 1;
+        let source = structure.edge_at(place).source;
+        loosen(class, members, is_settled, unsettled, source)?;
+        rest = edges.entering.before[place];
+    }
+    Ok(())
+}
+
+// The state is settled no more, unless it is alone in its class.
+fn loosen(
+    class: &[usize],
+    members: &[Vec<u32>],
+    is_settled: &mut [bool],
+    unsettled: &mut Vec<u32>,
+    state: u32,
+) -> Result<(), NoMemory>
+    requires members { HasMembers class.now (length class.now) (rows members.now) }
+    requires flags { length is_settled.old ≡ length class.now }
+    requires in_range { state < length class.now }
+    requires states { All (λ s. s < length class.now) unsettled.old.items }
+    requires listed { AreListed is_settled.old (length class.now) unsettled.old.items }
+    ensures flags { length is_settled.new ≡ length class.now }
+    ensures states { OnOk result (All (λ s. s < length class.now) unsettled.new.items) }
+    ensures listed { OnOk result (AreListed is_settled.new (length class.now) unsettled.new.items) }
+    ensures fewer { (s : ℕ) → IsSettled is_settled.new s → IsSettled is_settled.old s }
+    ensures loose { OnOk result (IsLoose class.now (length class.now) is_settled.new state) }
+{
+    if !is_settled[state as usize] {
+        return Ok(());
+    }
+    if members[class[state as usize]].len() == 1 {
+        return Ok(());
+    }
+    is_settled[state as usize] = false;
+    unsettled.push(state)?;
+    Ok(())
 }

@@ -1,5 +1,5 @@
 use Rattle.std.proofs.Common.{◌≡◌, map, take}
-use Rattle.ml_bisim.specs.private.Rounds.{between_classes}
+use Rattle.ml_bisim.specs.private.Merged.{between_classes}
 use Rattle.ml_bisim.proofs.merging.class_edges.Given as goal
 
 abbrev pub invariant-loop-edge : goal.invariant-loop-edge

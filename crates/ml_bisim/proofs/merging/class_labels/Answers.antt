@@ -1,5 +1,5 @@
 use Rattle.std.proofs.Common.{arith, ◌≡◌, ◌∙◌, ◌++◌, ap, sym, subst, map, get_or}
-use Rattle.ml_bisim.specs.private.Rounds.{AreClassLabels}
+use Rattle.ml_bisim.specs.private.Merged.{AreClassLabels}
 use Rattle.ml_bisim.proofs.Merged.{at_class, labels_none, labels_more}
 use Rattle.ml_bisim.proofs.merging.class_labels.Goals as goal
 

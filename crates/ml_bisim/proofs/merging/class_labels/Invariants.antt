@@ -1,4 +1,4 @@
-use Rattle.ml_bisim.specs.private.Rounds.{AreClassLabels}
+use Rattle.ml_bisim.specs.private.Merged.{AreClassLabels}
 use Rattle.ml_bisim.proofs.merging.class_labels.Given as goal
 
 abbrev pub invariant-loop-state : goal.invariant-loop-state

@@ -1,6 +1,6 @@
 use Rattle.std.proofs.Common.{◌≡◌, ◌∙◌, ap, rules, sym, subst, refl, length, arith}
 use Rattle.std.specs.Vec.Iter.{into_iter_items}
-use Rattle.ml_bisim.specs.private.Rounds.{AreNumbers}
+use Rattle.ml_bisim.specs.private.Numbers.{AreNumbers}
 use Rattle.ml_bisim.proofs.Passed.{all_seen, further}
 use Rattle.ml_bisim.proofs.Tables.{are_numbers, table_more, table_none, IsTable}
 use Rattle.ml_bisim.proofs.numbering.numbered.Goals as goal

@@ -1,10 +1,10 @@
-use Rattle.std.proofs.Common.{◌-◌}
-use Rattle.ml_bisim.specs.private.Rounds.{IsFiner, IsPartition}
+use Rattle.std.proofs.Common.{◌+◌, ◌-◌}
+use Rattle.ml_bisim.specs.private.Rounds.{IsRefined, different}
+use Rattle.ml_bisim.proofs.Different.{some_left}
 use Rattle.ml_bisim.proofs.rounds.classes.Given as goal
 
-abbrev pub invariant-loop-coarse : goal.invariant-loop-coarse
-invariant-loop-coarse l = IsPartition l.structure l.coarse.numbers.items l.coarse.count
-    × IsFiner l.structure l.coarse.numbers.items l.fine.numbers.items l.fine.count
+abbrev pub invariant-rounds : goal.invariant-rounds
+invariant-rounds l = IsRefined l.structure l.partition l.unsettled.items
 
-abbrev pub decreases-loop-coarse : goal.decreases-loop-coarse
-decreases-loop-coarse l = l.structure.states - l.coarse.count
+abbrev pub decreases-rounds : goal.decreases-rounds
+decreases-rounds l = (l.structure.states - different l.partition.class.items) + some_left l.unsettled.items

@@ -1,5 +1,0 @@
-use Rattle.std.proofs.Common.{◌≡◌, map, take}
-use Rattle.ml_bisim.proofs.rounds.actions.Given as goal
-
-abbrev pub invariant-loop-edge : goal.invariant-loop-edge
-invariant-loop-edge l = l.actions.items ≡ map (λ e. e.action) (take l.edge-index l.structure.edges)
