@@ -52,6 +52,8 @@ pub fn holds(
     ensures fits { IsErrOf result CheckRefusal.ClosureTooLarge
         → IsAdmitted (logic_of problem.now.formula) structure.now × HasLargeClosure problem.now MOST_NODES }
 {
+    // whoever asks a structure for its states learns what its type keeps
+    let _states = structure.states();
     match &problem.formula {
         AnyFormula::Mu(formula) => {
             if nests_deeper(formula.root(), MOST_NESTED) {
