@@ -85,7 +85,7 @@ module _ (m q : Structure) (class : List ℕ) (m_ok : IsStructure m) (quotient :
       let there = edge_step m s matched.0 matched.1 in
       let to = step_states m m_ok s matched.0 there in
       let same : Bisimilar m edge.1 matched.0 =
-          record { relation = alike.relation; is_bisimulation = alike.is_bisimulation; joined = matched.2 } in
+      record { relation = alike.relation; is_bisimulation = alike.is_bisimulation; joined = matched.2 } in
       (matched.0, there, sym ((quotient.classes.bisimilar edge.1 matched.0 lows.1 to.1).1 same) ∙ edge.4)
 
   word_too : word.IsAdmitted m → (c : ℕ) → c < q.states → HasOneStep q c
