@@ -120,7 +120,8 @@ module _ (class : List ℕ) (flags : List Bool) (n : ℕ) (states classes : List
           → Covers chosen (class_of class (get_or chosen j 0))
       some j under (k, low, at) =
           let there = sym (get_or_default_zero classes k (class_of class (get_or states j 0)) low) ∙ at in
-          subst (Covers chosen) (there ∙ ap (class_of class) (sym (is.front j under))) (is.covers k (omega (arith, low, all)))
+          subst (Covers chosen) (there ∙ ap (class_of class) (sym (is.front j under)))
+          (is.covers k (omega (arith, low, all)))
 
 -- the class of a state is the number of a list of members
 pub class_listed : (class : List ℕ) (n : ℕ) (members : List (List ℕ)) (states classes : List ℕ)

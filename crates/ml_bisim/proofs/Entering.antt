@@ -38,7 +38,8 @@ pub still_loose : (class : List ℕ) (n : ℕ) (old new : List Bool) (s : ℕ)
 still_loose class n old new s fewer (inl off) = inl (λ h. off (fewer s h))
 still_loose class n old new s fewer (inr alone) = inr alone
 
-module _ (edges : List Edge) (n : ℕ) (p : Places) (places : ArePlaces (map (λ (f : Edge). f.target) edges) n p) (class : List ℕ) (t : ℕ)
+module _ (edges : List Edge) (n : ℕ) (p : Places) (places : ArePlaces (map (λ (f : Edge). f.target) edges) n p)
+    (class : List ℕ) (t : ℕ)
     (old : List Bool) where
   abbrev targets : List ℕ
   targets = map (λ (f : Edge). f.target) edges
@@ -62,10 +63,12 @@ module _ (edges : List Edge) (n : ℕ) (p : Places) (places : ArePlaces (map (λ
         listed = listed;
         fewer = λ s h. h;
         done = λ place e at le same. absurd (is.none_later place le
-            (omega (arith, slice_get_within edges place e at, edges_long)) (number_at (λ (f : Edge). f.target) edges place e at ∙ same));
+            (omega (arith, slice_get_within edges place e at, edges_long)) (number_at (λ (f : Edge). f.target) edges
+            place e at ∙ same));
       }
 
-  module _ (rest place : ℕ) (e : Edge) (flags : List Bool) (states : List ℕ) (is : Passed edges class n t old rest flags states)
+  module _ (rest place : ℕ) (e : Edge) (flags : List Bool) (states : List ℕ)
+      (is : Passed edges class n t old rest flags states)
       (next : rest ≡ place + 1) (stands : slice_get edges place ≡ Some e) where
     link : IsLastBefore targets place (get_or targets place 0) (get_or p.before.items place 0)
     link = places.links place (omega (arith, is.in_range, next, edges_long))
@@ -104,7 +107,8 @@ module _ (edges : List Edge) (n : ℕ) (p : Places) (places : ArePlaces (map (λ
         done k f at same (inl one) = subst (λ (g : Edge). IsLoose class n new g.source) (sym one) loose
         done k f at same (inr above) = still_loose class n flags new f.source fewer (is.done k f at above same)
 
-  pub passed_all : (rest : ℕ) (flags : List Bool) (states : List ℕ) → Passed edges class n t old rest flags states → rest ≡ 0
+  pub passed_all : (rest : ℕ) (flags : List Bool) (states : List ℕ) → Passed edges class n t old rest flags states
+      → rest ≡ 0
       → IsCutOff edges class n flags t
   passed_all rest flags states is end e h same = of_place (member-place e edges (member_of_contains e edges h))
     where

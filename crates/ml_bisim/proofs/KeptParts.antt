@@ -71,7 +71,8 @@ module _ (class states ns : List ℕ) where
     settled = settled;
   }
     where
-      each : (i : ℕ) → i < length states → (get_or new (class_at i) 0 ≡ get_or keeper (class_at i) 0) ⊎ Keeps new first (class_at i)
+      each : (i : ℕ) → i < length states → (get_or new (class_at i) 0 ≡ get_or keeper (class_at i) 0) ⊎ Keeps new
+          first (class_at i)
           → Keeps new 0 (class_at i)
       each i low (inl same) = as_before keeper new 0 (class_at i) same (larger i low)
       each i low (inr kept) = from_earlier new 0 first (class_at i) (omega arith) kept

@@ -128,7 +128,8 @@ module _ (class : List ℕ) (n : ℕ) (rows new : List (List ℕ)) (old : HasMem
       where
         class_here : (s : ℕ) → s ≡ t → class_of new_class s ≡ c
         class_here s same =
-            ap (λ xs. get_or xs s 0) written ∙ ap (λ x. get_or (set class t c) x 0) same ∙ get_or-set_same class t c 0 within
+            ap (λ xs. get_or xs s 0) written ∙ ap (λ x. get_or (set class t c) x 0) same ∙ get_or-set_same class t c
+            0 within
 
         class_there : (s : ℕ) → s ≢ t → class_of new_class s ≡ class_of class s
         class_there s other = ap (λ xs. get_or xs s 0) written ∙ get_or-set_other class t s c 0 other
@@ -176,7 +177,8 @@ module _ (class : List ℕ) (n : ℕ) (rows new : List (List ℕ)) (old : HasMem
               get_or_past new d none (omega (arith, behind, other, ap length is, length-append rows (none ∷ [])))
 
 -- a list of the members, as a vector among vectors
-module _ (class : List ℕ) (n : ℕ) (members : List (Vec ℕ)) (is : HasMembers class n (rows members)) (c : ℕ) (low : c < length members)
+module _ (class : List ℕ) (n : ℕ) (members : List (Vec ℕ)) (is : HasMembers class n (rows members)) (c : ℕ)
+    (low : c < length members)
     (v : Vec ℕ) where
   abbrev this : List ℕ
   this = (get_or members c v).items

@@ -89,7 +89,8 @@ module _ (class states ns keeper : List ℕ) (count old : ℕ) where
           by_run (inr (same, rest)) = absurd (other same)
 
       -- the next part gets the name w
-      module _ (new : List ℕ) (w cur_new : ℕ) (met : part i ≡ length names) (pushed : new ≡ names ++ w ∷ []) (more : cur ≤ cur_new)
+      module _ (new : List ℕ) (w cur_new : ℕ) (met : part i ≡ length names) (pushed : new ≡ names ++ w ∷ [])
+          (more : cur ≤ cur_new)
           (w_kept : keeper_of (class_at i) ≡ part i → w ≡ class_at i)
           (w_fresh : keeper_of (class_at i) ≢ part i → old ≤ w)
           (w_back : w < old → keeper_of w ≡ part i)
@@ -143,7 +144,8 @@ module _ (class states ns keeper : List ℕ) (count old : ℕ) where
                 let is_w = at_end g same in ap keeper_of is_w ∙ w_back (omega (arith, under, is_w)) ∙ met ∙ sym same
 
             low_new : (g : ℕ) → (g < length names) ⊎ (g ≡ length names) → get_or new g 0 < cur_new
-            low_new g (inl low) = let is_old = before g low in let under = is.low g low in omega (arith, is_old, under, more)
+            low_new g (inl low) = let is_old = before g low in let under = is.low g low in omega
+                (arith, is_old, under, more)
             low_new g (inr same) = let is_w = at_end g same in omega (arith, is_w, w_low)
 
             apart : (g h : ℕ) → (g < length names) ⊎ (g ≡ length names) → (h < length names) ⊎ (h ≡ length names)
@@ -178,7 +180,8 @@ module _ (class states ns keeper : List ℕ) (count old : ℕ) where
           → new ≡ names ++ class_at i ∷ []
           → Named (i + 1) cur new
       kept_name new met class_low keeps pushed =
-          named_more new (class_at i) cur met pushed (omega arith) (λ e. refl) (λ other. absurd (other keeps)) (λ low. keeps)
+          named_more new (class_at i) cur met pushed (omega arith) (λ e. refl) (λ other. absurd (other keeps))
+          (λ low. keeps)
           (omega (arith, class_low, is.grown))
           (λ h low e. let under : get_or names h 0 < old = omega (arith, class_low, e) in
           let same : h ≡ part i = sym (is.back h low under) ∙ ap keeper_of e ∙ keeps in
@@ -214,7 +217,8 @@ pub class_added : (class states ns : List ℕ) (count old : ℕ) (keeper : List 
     → length keeper ≡ old
     → Named class states ns keeper count old j (length more) more_names
     → NamedSo class states ns count old keeper j more more_keepers more_names
-class_added class states ns count old keeper i j members more new_keeper more_keepers names more_names v k is none pushed put all named =
+class_added class states ns count old keeper i j members more new_keeper more_keepers names more_names v k is none
+    pushed put all named =
     let items = λ (u : Vec ℕ). u.items in
     let long = length-append members (v ∷ []) in
     let is_more = ap length pushed in

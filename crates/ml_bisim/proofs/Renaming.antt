@@ -165,7 +165,8 @@ module _ (old : List Bool) (states : List ℕ) where
 
       set_at : (j : ℕ) → j < i + 1 → (j ≡ i) ⊎ (j ≡ i → ⊥) → IsSettled new (get_or states j 0)
       set_at j under (inl same) = here (get_or states j 0) (ap (λ k. get_or states k 0) same ∙ at)
-      set_at j under (inr other) = stays (get_or states j 0) (is.set j (omega (arith, under, other))) (cases_eq (get_or states j 0) s)
+      set_at j under (inr other) = stays (get_or states j 0) (is.set j (omega (arith, under, other)))
+          (cases_eq (get_or states j 0) s)
 
 -- ---- a partition, as its states get their names
 
@@ -197,7 +198,8 @@ module _ (old : Partition) (states ns names : List ℕ) (i s : ℕ) (p q : Parti
     each_class = is.each_class;
     keepers = is.keepers;
     flags = set_next;
-    names_are = renamed_same old.class.items states ns names (length old.class.items) i s p.class.items renamed is.names_are at has_name;
+    names_are = renamed_same old.class.items states ns names (length old.class.items) i s p.class.items renamed
+        is.names_are at has_name;
   })
 
   pub named_now : (row pushed : Vec ℕ) (more : List ℕ)

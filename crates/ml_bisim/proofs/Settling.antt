@@ -19,7 +19,8 @@ use Rattle.ml_bisim.proofs.Classes.{edge_from}
 use Rattle.ml_bisim.proofs.Different.{different_le, some_left}
 use Rattle.ml_bisim.proofs.Stable.{finer_is}
 
-module _ (m : Structure) (m_ok : IsStructure m) (class after renamed : List ℕ) (flags : List Bool) (finer : IsFiner m class after)
+module _ (m : Structure) (m_ok : IsStructure m) (class after renamed : List ℕ) (flags : List Bool)
+    (finer : IsFiner m class after)
     (has : (s : ℕ) → (class_of after s ≡ class_of class s) ⊎ Contains renamed s)
     (cut_off : (i : ℕ) → i < length renamed → IsCutOff m.edges after m.states flags (get_or renamed i 0)) where
   unchanged : (s : ℕ) (a : List ℕ) (x : ℕ)
@@ -41,7 +42,8 @@ module _ (m : Structure) (m_ok : IsStructure m) (class after renamed : List ℕ)
   module _ (s t : ℕ) (s_low : s < m.states) (t_low : t < m.states) (s_is : IsSettled flags s) (t_is : IsSettled flags t)
       (e : class_of after s ≡ class_of after t) where
     -- by an edge of one that is alone in the class of both
-    itself : (a : List ℕ) (x : ℕ) → HasEdge m s a x → t ≡ s → (y : ℕ) × HasEdge m t a y × (class_of after x ≡ class_of after y)
+    itself : (a : List ℕ) (x : ℕ) → HasEdge m s a x → t ≡ s
+        → (y : ℕ) × HasEdge m t a y × (class_of after x ≡ class_of after y)
     itself a x edge same = (x, subst (λ u. HasEdge m u a x) (sym same) edge, refl)
 
     matched : ((a : List ℕ) (x : ℕ) → HasEdge m s a x → (y : ℕ) × HasEdge m t a y × (class_of class x ≡ class_of class y))
@@ -101,7 +103,8 @@ refined_again m m_ok class part p q renamed next split classes members keepers l
       in_range = low;
     }
 
-pub grows_too : (old new renamed next : List ℕ) → Grows old new renamed → (length renamed ≡ 0 → next ≡ []) → Grows old new next
+pub grows_too : (old new renamed next : List ℕ) → Grows old new renamed → (length renamed ≡ 0 → next ≡ [])
+    → Grows old new next
 grows_too old new renamed next (inl more) none = inl more
 grows_too old new renamed next (inr (same, no_fewer)) none = inr (none (ap length same), no_fewer)
 

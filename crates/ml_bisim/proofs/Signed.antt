@@ -16,7 +16,8 @@ module _ (P : ℕ → Signature → Type 0) where
     pub long : length ks ≡ i
     pub each : (j : ℕ) → j < i → (k : Signature) × (slice_get ks j ≡ Some k) × P j k
 
-  pub signed_more : (i : ℕ) (ks new : List Signature) (k : Signature) → Signed i ks → P i k → new ≡ ks ++ k ∷ [] → Signed (i + 1) new
+  pub signed_more : (i : ℕ) (ks new : List Signature) (k : Signature) → Signed i ks → P i k → new ≡ ks ++ k ∷ []
+      → Signed (i + 1) new
   signed_more i ks new k is here pushed = record {
     long = let added = length-append ks (k ∷ []) in let is_new = ap length pushed in omega (arith, added, is_new, is.long);
     each = λ j low. each j low (cases_eq j i);

@@ -44,7 +44,8 @@ module _ (m : Structure) (class : List ℕ) where
   }
 
 module _ (m : Structure) (class : List ℕ) (flags : List Bool) (each_state : length class ≡ m.states)
-    (settled : AreSettled m class flags) (states : List ℕ) (first : ℕ) (chosen : AreChosen class flags m.states first states)
+    (settled : AreSettled m class flags) (states : List ℕ) (first : ℕ) (chosen : AreChosen class flags m.states first
+    states)
     (listed : (s : ℕ) → s < m.states → IsSettled flags s ⊎ ((i : ℕ) × (i < first) × (get_or states i 0 ≡ s)))
     (ns : List ℕ) (count : ℕ) (parts : AreParts m class states ns count)
     (keeper : List ℕ) (kept : AreKept class states ns keeper first) (old new : ℕ)
@@ -321,9 +322,11 @@ pub split_is : (m : Structure) (p q : Partition) (unsettled states ns keeper nam
     → HasMembers q.class.items m.states (rows q.members.items)
     → length q.keeper.items ≡ length q.members.items
     → IsSplit m p.class.items q renamed
-split_is m p q unsettled states ns keeper names renamed count old new is chosen front parts kept named old_low are set members keepers =
+split_is m p q unsettled states ns keeper names renamed count old new is chosen front parts kept named old_low are
+    set members keepers =
     record {
-      finer = is_finer m p.class.items p.is_settled.items is.part.each_state is.settled states (length unsettled) chosen listed
+      finer = is_finer m p.class.items p.is_settled.items is.part.each_state is.settled states (length unsettled)
+          chosen listed
           ns count parts keeper kept old new old_low names named q.class.items renamed are;
       members = members;
       keepers = keepers;

@@ -23,7 +23,8 @@ some_same : {K : Type 0} {x y : K} → Some x ≡ Some y → x ≡ y
 some_same e = cc
 
 -- what a list of one of an edge's numbers has at the place of the edge
-pub number_at : (f : Edge → ℕ) (edges : List Edge) (i : ℕ) (e : Edge) → slice_get edges i ≡ Some e → get_or (map f edges) i 0 ≡ f e
+pub number_at : (f : Edge → ℕ) (edges : List Edge) (i : ℕ) (e : Edge) → slice_get edges i ≡ Some e
+    → get_or (map f edges) i 0 ≡ f e
 number_at f edges i e at =
     get_or_from_slice_get (map f edges) i (f e) 0 (slice_get-map f edges i ∙ ap (option_map f) at)
 
@@ -142,7 +143,8 @@ module _ (edges : List Edge) (actions class : List ℕ) (n : ℕ) (p : Places)
           let action = by_action ∙ sym (ap (λ q. get_or actions q 0) same) ∙ sym o.by_action in
           let class = into_class ∙ sym (ap (λ (f : Edge). class_of class f.target) edge) ∙ sym o.into_class in
           let one : step ≡ x = λ j. record { action = action j; class = class j } in
-          subst (λ y. Contains (steps ++ step ∷ []) y) one (Contains-append_right steps (step ∷ []) step (contains_head step []))
+          subst (λ y. Contains (steps ++ step ∷ []) y) one (Contains-append_right steps (step ∷ []) step
+          (contains_head step []))
       back x o (inl below) (inr other) =
           absurd (link.none_later o.place o.from_here (omega (arith, below, other, next))
           (number_at (λ (f : Edge). f.source) edges o.place o.edge o.stands ∙ o.leaves ∙ sym (old.mine place next)))

@@ -6,5 +6,6 @@ use Rattle.ml_lists.specs.InTurn.{RunsOn}
 
 pub record AreNumbers {K : Type 0} (eq : K → K → Bool) (ks : List K) (ns : List ℕ) (n : ℕ) : Type 0 where
   pub each_key : length ns ≡ length ks
-  pub same : (i j : ℕ) (x y : K) → slice_get ks i ≡ Some x → slice_get ks j ≡ Some y → (get_or ns i 0 ≡ get_or ns j 0) ↔ (eq x y ≡ true)
+  pub same : (i j : ℕ) (x y : K) → slice_get ks i ≡ Some x → slice_get ks j ≡ Some y
+      → (get_or ns i 0 ≡ get_or ns j 0) ↔ (eq x y ≡ true)
   pub in_turn : RunsOn 0 ns n

@@ -86,7 +86,8 @@ pub record AreChosen (class : List ℕ) (flags : List Bool) (n first : ℕ) (sta
   pub before : first ≤ length states
   pub settled : (i : ℕ) → first ≤ i → i < length states → IsSettled flags (get_or states i 0)
   pub some : (i : ℕ) → i < first
-      → ((j : ℕ) × (first ≤ j) × (j < length states) × (class_of class (get_or states j 0) ≡ class_of class (get_or states i 0)))
+      → ((j : ℕ) × (first ≤ j) × (j < length states) × (class_of class (get_or states j 0) ≡ class_of class
+      (get_or states i 0)))
       ⊎ ((t : ℕ) → t < n → class_of class t ≡ class_of class (get_or states i 0) → ¬ (IsSettled flags t))
 
 abbrev pub KeepsFrom : List ℕ → List ℕ → List ℕ → List ℕ → ℕ → ℕ → Type 0

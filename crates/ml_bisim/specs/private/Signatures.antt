@@ -66,4 +66,5 @@ pub record AreParts (m : Structure) (class states ns : List ℕ) (n : ℕ) : Typ
   pub in_turn : RunsOn 0 ns n
   pub same : (i j : ℕ) → i < length states → j < length states
       → (get_or ns i 0 ≡ get_or ns j 0)
-      ↔ ((class_of class (get_or states i 0) ≡ class_of class (get_or states j 0)) × SameSteps m class (get_or states i 0) (get_or states j 0))
+      ↔ ((class_of class (get_or states i 0) ≡ class_of class (get_or states j 0)) × SameSteps m class
+      (get_or states i 0) (get_or states j 0))

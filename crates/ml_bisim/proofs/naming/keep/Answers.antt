@@ -8,7 +8,8 @@ pub keep_larger-requires-clause-kept : goal.keep_larger-requires-clause-kept
 keep_larger-requires-clause-kept c = λ i low.
     let class = c.args.class.now in
     let states = c.args.states.now in
-    subst (λ ns. KeepsFrom class states ns c.keep_from.new.keeper 0 (class_of class (get_or states i 0))) c.deref.ensures.value
+    subst (λ ns. KeepsFrom class states ns c.keep_from.new.keeper 0 (class_of class (get_or states i 0)))
+    c.deref.ensures.value
     (c.keep_from.ensures.kept i (omega arith) low)
 
 pub returns-clause-kept : goal.returns-clause-kept
@@ -20,5 +21,6 @@ returns-clause-kept c =
     c.in_ok-keep_larger.ensures.kept
     (λ i from low. subst (λ ns. KeepsFrom class states ns new c.args.first (class_of class (get_or states i 0)))
     c.deref-2.ensures.value (c.keep_from-2.ensures.kept i from low))
-    (subst (λ ns. (d : ℕ) → (get_or new d 0 ≡ get_or c.keep_larger.new.keeper d 0) ⊎ KeepsFrom class states ns new c.args.first d)
+    (subst (λ ns. (d : ℕ) → (get_or new d 0 ≡ get_or c.keep_larger.new.keeper d 0) ⊎ KeepsFrom class states ns new
+    c.args.first d)
     c.deref-2.ensures.value c.keep_from-2.ensures.others)

@@ -13,10 +13,12 @@ as_named : (class states ns : List ℕ) (count old : ℕ) (keeper : List ℕ) (i
     → NamedSo class states ns count old keeper j members.items new_keeper.items names
     → Named class states ns keeper count old i (length members.items) more_names.items
     → NamedSo class states ns count old keeper i more.items more_keepers.items more_names.items
-as_named class states ns count old keeper i members more new_keeper more_keepers more_names same_members same_keepers is named =
+as_named class states ns count old keeper i members more new_keeper more_keepers more_names same_members same_keepers
+    is named =
     subst (λ (v : Vec (Vec ℕ)). NamedSo class states ns count old keeper i v.items more_keepers.items more_names.items)
     (sym same_members)
-    (subst (λ (v : Vec ℕ). NamedSo class states ns count old keeper i members.items v.items more_names.items) (sym same_keepers)
+    (subst (λ (v : Vec ℕ). NamedSo class states ns count old keeper i members.items v.items more_names.items)
+    (sym same_keepers)
     (record { has_members = is.has_members; keepers = is.keepers; as_before = is.as_before; named = named }))
 
 pub loop-i-init : goal.loop-i-init
@@ -62,7 +64,8 @@ loop-i-preserved c =
           ∙ w.if-index-part.true ∙ number in
           as_named class states ns count old keeper next c.loop-i.members c.if-part-len.members c.loop-i.keeper
           c.if-part-len.keeper c.if-part-len.names w.members-is w.keeper-is before
-          (kept_name class states ns keeper count old c.requires.each_state c.requires.one_class i cur names before.named low
+          (kept_name class states ns keeper count old c.requires.each_state c.requires.one_class i cur names
+          before.named low
           c.if-part-len.names.items met class_low keeps
           (ap (λ (v : Vec ℕ). v.items) w.names-is ∙ w.in_ok-push.ensures.items))
       | then-part-len+else-index-part+in_ok-push-2+in_ok-push-3+in_ok-push-4 w ↦
@@ -88,6 +91,7 @@ loop-i-preserved c =
           c.if-part-len.keeper.items v.items) (sym w.names-is)
           (as_named class states ns count old keeper next c.loop-i.members c.if-part-len.members c.loop-i.keeper
           c.if-part-len.keeper c.loop-i.names w.members-is w.keeper-is before
-          (named_old class states ns keeper count old c.requires.each_state c.requires.one_class i cur names before.named low
+          (named_old class states ns keeper count old c.requires.each_state c.requires.one_class i cur names
+          before.named low
           (λ e. w.if-part-len.false (number ∙ e ∙ sym long))))
     ]

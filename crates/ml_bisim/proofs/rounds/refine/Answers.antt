@@ -16,7 +16,8 @@ refined_where_ok : {E : Type 0} (m : Structure) → IsStructure m → (class : L
     → OnOk r (length q.is_settled.items ≡ m.states)
     → IfOk r (λ next. All (λ s. s < m.states) next.items)
     → IfOk r (λ next. AreListed q.is_settled.items m.states next.items)
-    → OnOk r ((i : ℕ) → i < length renamed → IsCutOff m.edges p.class.items m.states q.is_settled.items (get_or renamed i 0))
+    → OnOk r ((i : ℕ) → i < length renamed → IsCutOff m.edges p.class.items m.states q.is_settled.items
+    (get_or renamed i 0))
     → IfOk r (λ next. IsRefined m q next.items)
 refined_where_ok m m_ok class part p q renamed split (Err e) a b c d l k h = tt
 refined_where_ok m m_ok class part p q renamed split (Ok next) classes members keepers long low listed cut_off =
@@ -24,8 +25,10 @@ refined_where_ok m m_ok class part p q renamed split (Ok next) classes members k
 
 cut_off_where_ok : {E : Type 0} (m : Structure) (p q : Partition) (renamed : List ℕ) (r : Result (Vec ℕ) E)
     → OnOk r (q.class ≡ p.class)
-    → OnOk r ((i : ℕ) → i < length renamed → IsCutOff m.edges q.class.items m.states q.is_settled.items (get_or renamed i 0))
-    → OnOk r ((i : ℕ) → i < length renamed → IsCutOff m.edges p.class.items m.states q.is_settled.items (get_or renamed i 0))
+    → OnOk r ((i : ℕ) → i < length renamed → IsCutOff m.edges q.class.items m.states q.is_settled.items
+    (get_or renamed i 0))
+    → OnOk r ((i : ℕ) → i < length renamed → IsCutOff m.edges p.class.items m.states q.is_settled.items
+    (get_or renamed i 0))
 cut_off_where_ok m p q renamed (Err e) same cut_off = tt
 cut_off_where_ok m p q renamed (Ok next) same cut_off =
     subst (λ (v : Vec ℕ). (i : ℕ) → i < length renamed
@@ -34,8 +37,10 @@ cut_off_where_ok m p q renamed (Ok next) same cut_off =
 pub returns-clause-refined : goal.returns-clause-refined
 returns-clause-refined c =
     let m = c.args.structure.now in
-    refined_where_ok m c.states-states.ensures.is_structure c.args.partition.now.class.items c.requires.refined.part c.split.new.partition
-    c.unsettle.new.partition c.in_ok-renamed.renamed.items c.in_ok-renamed.ensures c.unsettle.result c.unsettle.ensures.class
+    refined_where_ok m c.states-states.ensures.is_structure c.args.partition.now.class.items c.requires.refined.part
+    c.split.new.partition
+    c.unsettle.new.partition c.in_ok-renamed.renamed.items c.in_ok-renamed.ensures c.unsettle.result
+    c.unsettle.ensures.class
     c.unsettle.ensures.members c.unsettle.ensures.keepers c.unsettle.ensures.flags c.unsettle.ensures.in_range
     c.unsettle.ensures.listed
     (cut_off_where_ok m c.split.new.partition c.unsettle.new.partition c.in_ok-renamed.renamed.items c.unsettle.result
@@ -51,7 +56,8 @@ grows_where_ok : {E : Type 0} (class : List ℕ) (p q : Partition) (renamed : Li
     → IfOk r (λ next. Grows class q.class.items next.items)
 grows_where_ok class p q renamed grows (Err e) same none = tt
 grows_where_ok class p q renamed grows (Ok next) same none =
-    subst (λ (v : Vec ℕ). Grows class v.items next.items) (sym same) (grows_too class p.class.items renamed next.items grows none)
+    subst (λ (v : Vec ℕ). Grows class v.items next.items) (sym same)
+    (grows_too class p.class.items renamed next.items grows none)
 
 pub returns-clause-grows : goal.returns-clause-grows
 returns-clause-grows c =

@@ -41,6 +41,7 @@ loop-i-preserved c =
           (ap (λ (v : Vec ℕ). v.items) w.renamed-is ∙ w.in_ok-push-2.ensures.items)
       | else-index-name w ↦
           subst (λ (v : Vec ℕ). RenamedSo old states ns names (i + 1) c.if-index-name.partition v.items) (sym w.renamed-is)
-          (named_already old states ns names i s p c.if-index-name.partition c.loop-i.renamed.items c.loop-i.invariant refl low
+          (named_already old states ns names i s p c.if-index-name.partition c.loop-i.renamed.items
+          c.loop-i.invariant refl low
           c.requires.flags w.partition-is (sym read ∙ w.if-index-name.false))
     ]

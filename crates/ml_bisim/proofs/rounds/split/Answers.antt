@@ -11,7 +11,8 @@ use Rattle.ml_bisim.proofs.Turns.{all_low}
 use Rattle.ml_bisim.proofs.rounds.split.Goals as goal
 
 pub keep-requires-clause-numbers : goal.keep-requires-clause-numbers
-keep-requires-clause-numbers c = all_low c.in_ok-parts.parts.count c.in_ok-parts.parts.numbers.items c.in_ok-parts.ensures.in_turn
+keep-requires-clause-numbers c = all_low c.in_ok-parts.parts.count c.in_ok-parts.parts.numbers.items
+    c.in_ok-parts.ensures.in_turn
 
 pub names-requires-clause-one_class : goal.names-requires-clause-one_class
 names-requires-clause-one_class c =
@@ -35,7 +36,8 @@ rename-requires-clause-one_part c =
     (parts_as m c.deref-3.result.now c.deref-3.result.now c.deref-4.result.now states ns n (λ i. c.deref-3.result.now)
     (c.deref-9.ensures.value ∙ sym c.deref-4.ensures.value) c.in_ok-parts.ensures))
 
-split_where_ok : {E : Type 0} (m : Structure) (p q : Partition) (unsettled states ns keeper names : List ℕ) (count old new first : ℕ)
+split_where_ok : {E : Type 0} (m : Structure) (p q : Partition) (unsettled states ns keeper names : List ℕ)
+    (count old new first : ℕ)
     (members : List (Vec ℕ))
     → IsRefined m p unsettled
     → first ≡ length unsettled
@@ -52,8 +54,10 @@ split_where_ok : {E : Type 0} (m : Structure) (p q : Partition) (unsettled state
     → OnOk r (HasMembers q.class.items (length p.class.items) (rows q.members.items))
     → OnOk r (length q.keeper.items ≡ length q.members.items)
     → IfOk r (λ renamed. IsSplit m p.class.items q renamed.items)
-split_where_ok m p q unsettled states ns keeper names count old new first members is e chosen front parts kept named has old_is (Err x) a b d f = tt
-split_where_ok m p q unsettled states ns keeper names count old new first members is e chosen front parts kept named has old_is (Ok renamed) are set has_new keepers =
+split_where_ok m p q unsettled states ns keeper names count old new first members is e chosen front parts kept named
+    has old_is (Err x) a b d f = tt
+split_where_ok m p q unsettled states ns keeper names count old new first members is e chosen front parts kept named
+    has old_is (Ok renamed) are set has_new keepers =
     let n = is.part.each_state in
     split_is m p q unsettled states ns keeper names renamed.items count old new is
     (subst (λ k. AreChosen p.class.items p.is_settled.items k (length unsettled) states) n chosen) front parts
@@ -103,7 +107,8 @@ returns c =
     let here : first ≡ length unsettled = omega (arith, c.len-first.ensures, c.args.unsettled.ok.0) in
     let chosen =
     subst (λ cl. AreChosen cl flags (length cl) (length unsettled) states) c.deref.ensures.value
-    (subst (λ fl. AreChosen c.deref.result.now fl (length c.deref.result.now) (length unsettled) states) c.deref-2.ensures.value
+    (subst (λ fl. AreChosen c.deref.result.now fl (length c.deref.result.now) (length unsettled) states)
+    c.deref-2.ensures.value
     c.in_ok-states.ensures.chosen) in
     let has = subst (λ cl. HasMembers cl (length cl) (rows c.chosen.new.members)) c.deref.ensures.value
     c.in_ok-states.ensures.members in
@@ -115,13 +120,16 @@ returns c =
     let new = length c.names.new.members.items in
     let named =
     subst (λ cl. AreNames cl states ns keeper names (length c.chosen.new.members) new) c.deref-7.ensures.value
-    (subst (λ xs. AreNames c.deref-7.result.now xs ns keeper names (length c.chosen.new.members) new) c.deref-8.ensures.value
-    (as_written c.deref-7.result.now c.deref-8.result.now ns names new p.keeper.len p.members.len keeper _ c.chosen.new.members _
+    (subst (λ xs. AreNames c.deref-7.result.now xs ns keeper names (length c.chosen.new.members) new)
+    c.deref-8.ensures.value
+    (as_written c.deref-7.result.now c.deref-8.result.now ns names new p.keeper.len p.members.len keeper _
+    c.chosen.new.members _
     (omega (arith, c.in_ok-keep.ensures.each_class, c.deref_mut-2.ensures.len))
     (omega (arith, c.in_ok-states.ensures.each_class, c.deref_mut.ensures.len))
     c.in_ok-names.ensures.names)) in
     let renamed =
-    subst (λ xs. IfOk c.rename.result (λ renamed. AreRenamed class xs ns names first (length class) q.class.items renamed.items))
+    subst (λ xs. IfOk c.rename.result (λ renamed. AreRenamed class xs ns names first (length class) q.class.items
+    renamed.items))
     c.deref-9.ensures.value
     (subst (λ xs. IfOk c.rename.result (λ renamed. AreRenamed class c.deref-9.result.now xs names first (length class)
     q.class.items renamed.items)) c.deref-10.ensures.value
@@ -130,8 +138,10 @@ returns c =
     let set =
     subst (λ xs. OnOk c.rename.result (AreSet flags xs first q.is_settled.items)) c.deref-9.ensures.value
     c.rename.ensures.flags in
-    split_where_ok m p q unsettled states ns keeper names n (length c.chosen.new.members) (length c.names.new.members.items) first
-    c.chosen.new.members c.requires.refined here chosen c.in_ok-states.ensures.listed parts kept named has refl c.rename.result
+    split_where_ok m p q unsettled states ns keeper names n (length c.chosen.new.members)
+    (length c.names.new.members.items) first
+    c.chosen.new.members c.requires.refined here chosen c.in_ok-states.ensures.listed parts kept named has refl
+    c.rename.result
     renamed set c.rename.ensures.members
     (keepers_where_ok p q c.rename.result c.names.new.keeper.items c.names.new.members.items c.rename.ensures.keepers
     c.rename.ensures.each_class c.in_ok-names.ensures.keepers)

@@ -12,6 +12,7 @@ invariant-loop-state l = record {
   listed : AreListed l.partition.is_settled.items l.structure.states l.unsettled.items;
   cut_off : (i : ℕ)
       → i < l.state-index
-      → IsCutOff l.structure.edges l.partition.class.items l.structure.states l.partition.is_settled.items (get_or l.renamed i 0);
+      → IsCutOff l.structure.edges l.partition.class.items l.structure.states l.partition.is_settled.items
+      (get_or l.renamed i 0);
   none : length l.renamed ≡ 0 → l.unsettled.items ≡ [];
 }

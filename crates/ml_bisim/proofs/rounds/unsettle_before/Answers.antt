@@ -12,7 +12,8 @@ loop-rest-init c =
     let places = c.requires.edges.entering in
     let low : c.args.state < length last = omega (arith, c.requires.in_range, places.each_number) in
     let read = c.index-rest.ensures ∙ get_or_default last c.args.state c.index-rest.result.now 0 low in
-    subst (λ r. Passed m.edges c.args.class.now m.states c.args.state c.args.is_settled.now r c.args.is_settled.now c.args.unsettled.now.items)
+    subst (λ r. Passed m.edges c.args.class.now m.states c.args.state c.args.is_settled.now r c.args.is_settled.now
+    c.args.unsettled.now.items)
     (sym read)
     (passed_none m.edges m.states c.args.edges.now.entering places c.args.class.now c.args.state c.args.is_settled.now
     c.args.unsettled.now.items c.requires.in_range c.requires.flags c.requires.states c.requires.listed)
@@ -50,7 +51,8 @@ loop-rest-preserved c =
     subst (λ r. Passed m.edges c.args.class.now m.states c.args.state c.args.is_settled.now r c.loosen.new.is_settled
     c.loosen.new.unsettled.items) (sym read)
     (passed_next m.edges m.states c.args.edges.now.entering places c.args.class.now c.args.state c.args.is_settled.now
-    c.loop-rest.rest place c.edge_at.result.now c.loop-rest.is_settled c.loop-rest.unsettled.items c.loop-rest.invariant next
+    c.loop-rest.rest place c.edge_at.result.now c.loop-rest.is_settled c.loop-rest.unsettled.items
+    c.loop-rest.invariant next
     c.edge_at.ensures c.loosen.new.is_settled c.loosen.new.unsettled.items (c.in_ok-loosen.ensures.flags ∙ n)
     (subst (λ k. All (λ s. s < k) c.loosen.new.unsettled.items) n c.in_ok-loosen.ensures.states)
     (subst (λ k. AreListed c.loosen.new.is_settled k c.loosen.new.unsettled.items) n c.in_ok-loosen.ensures.listed)
@@ -62,5 +64,6 @@ pub returns-clause-cut_off : goal.returns-clause-cut_off
 returns-clause-cut_off c =
     let m = c.args.structure.now in
     let end : c.loop-rest.rest ≡ 0 = omega (arith, c.loop-rest-test.false) in
-    passed_all m.edges m.states c.args.edges.now.entering c.requires.edges.entering c.args.class.now c.args.state c.args.is_settled.now
+    passed_all m.edges m.states c.args.edges.now.entering c.requires.edges.entering c.args.class.now c.args.state
+    c.args.is_settled.now
     c.loop-rest.rest c.loop-rest.is_settled c.loop-rest.unsettled.items c.loop-rest.invariant end

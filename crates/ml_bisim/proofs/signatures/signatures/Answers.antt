@@ -12,7 +12,8 @@ loop-state-preserved c =
     (record {
       in_class = refl;
       steps = subst (AreSteps c.args.structure.now.edges c.args.edges.now.actions.items c.args.class.now
-          (get_or c.args.states.now c.loop-state.state-index 0)) (sym (c.in_ok-from_slice.ensures.items ∙ c.deref.ensures.value)) c.in_ok-gather.ensures;
+          (get_or c.args.states.now c.loop-state.state-index 0))
+          (sym (c.in_ok-from_slice.ensures.items ∙ c.deref.ensures.value)) c.in_ok-gather.ensures;
     }) c.in_ok-push.ensures.items
 
 pub returns : goal.returns
