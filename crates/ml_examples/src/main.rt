@@ -22,7 +22,7 @@ use std::fs;
 use std::io::Print;
 use std::rt::Files;
 
-const FILES: [&str; 16] = [
+const FILES: [&str; 17] = [
     "examples",
     "patterns",
     "words",
@@ -34,6 +34,7 @@ const FILES: [&str; 16] = [
     "pdl",
     "ctl",
     "ltl",
+    "word",
     "families",
     "models",
     "refutations",
