@@ -68,8 +68,13 @@ fn is_set(row: &[bool], place: usize) -> bool {
 }
 
 impl World {
-    // each state leads to one that is drawn, and perhaps to others
-    fn random(alloc: Global, numbers: &mut Numbers, states: u32) -> Result<World, Fail> {
+    // each state leads to one that is drawn, and perhaps to others, if it may
+    fn random(
+        alloc: Global,
+        numbers: &mut Numbers,
+        states: u32,
+        may_branch: bool,
+    ) -> Result<World, Fail> {
         let mut world = World {
             states,
             steps: Vec::new(alloc),
@@ -83,7 +88,7 @@ impl World {
                 0
             };
             for target in 0..states {
-                let may_be = numbers.below(3) == 0;
+                let may_be = may_branch && numbers.below(3) == 0;
                 world.steps.push(target as u64 == sure || may_be)?;
             }
             world.p.push(numbers.below(2) == 0)?;
@@ -455,7 +460,7 @@ fn path_formulas(rt: HostRuntime) -> Result<(), Fail> {
         let count = numbers.below(4).saturating_add(2);
         let made = Terms::random(alloc, &mut numbers, count, 9)?;
         let states = numbers.below(2) as u32 + 1;
-        let world = World::random(alloc, &mut numbers, states)?;
+        let world = World::random(alloc, &mut numbers, states, true)?;
         assert!(rt; agree(alloc, Logic::Ltl, &world, &made)?, "{round}");
     }
     Ok(())
@@ -472,8 +477,22 @@ fn state_formulas(rt: HostRuntime) -> Result<(), Fail> {
         let quantifier = if numbers.below(2) == 0 { 9 } else { 10 };
         made.add(alloc, quantifier, last, 0)?;
         let states = numbers.below(2) as u32 + 1;
-        let world = World::random(alloc, &mut numbers, states)?;
+        let world = World::random(alloc, &mut numbers, states, true)?;
         assert!(rt; agree(alloc, Logic::Ctl, &world, &made)?, "{round}");
+    }
+    Ok(())
+}
+
+#[test]
+fn words(rt: HostRuntime) -> Result<(), Fail> {
+    let alloc = rt.alloc();
+    let mut numbers = Numbers::new(3);
+    for round in 0_u64..60 {
+        let count = numbers.below(5).saturating_add(2);
+        let made = Terms::random(alloc, &mut numbers, count, 9)?;
+        let states = numbers.below(3) as u32 + 1;
+        let world = World::random(alloc, &mut numbers, states, false)?;
+        assert!(rt; agree(alloc, Logic::Word, &world, &made)?, "{round}");
     }
     Ok(())
 }
