@@ -1,6 +1,7 @@
 -- A decision that is found for a problem is what is due, once it is written.
 --
 --   closed             == a problem is closed, where the closure is small and the limit kept
+--   closure_fits       == of a problem that is closed the closure is small
 --   satisfied, refuted, left_open == a problem with what was found for it
 --   answered           == a decision with its document answers the question
 --   refused_answered   == a refusal of the parser with its line does
@@ -23,7 +24,7 @@ use Rattle.ml_refutation.specs.declared.refutation.Refutation.{Refutation}
 use Rattle.ml_refute_check.proofs.Refuted.{refuted_is_unsatisfiable}
 use Rattle.ml_refute_check.specs.Documents.{document_of}
 use Rattle.ml_driver.specs.Bench.{asked}
-use Rattle.ml_driver.specs.Decision.{IsAnsweredIn, IsProblem, IsClosed, LeftOpen, PassesLimit, Refuted, Satisfied, StaysOpen}
+use Rattle.ml_driver.specs.Decision.{IsAnsweredIn, IsProblem, IsClosed, IsClosedBy, LeftOpen, PassesLimit, Refuted, Satisfied, StaysOpen}
 use Rattle.ml_driver.specs.Documents.{satisfiable_document, undecided_document}
 use Rattle.ml_driver.specs.Statuses.{longest_text, refusal_line}
 use Rattle.ml_driver.specs.declared.cause.Cause.{Cause}
@@ -31,18 +32,47 @@ use Rattle.ml_driver.specs.declared.cause.Cause.TheVariants.{Positions, Closure}
 use Rattle.ml_driver.specs.declared.deciding.Decision.{Decision}
 use Rattle.ml_driver.specs.declared.deciding.Decision.TheVariants as decision
 use Rattle.ml_driver.specs.declared.question.Question.{Question}
+use Rattle.ml_driver.specs.declared.question.Way.{Way}
+use Rattle.ml_driver.specs.declared.question.Way.TheVariants.{WholeGame, Search}
 use Rattle.ml_driver.specs.declared.status.Status.TheVariants as status
-use Rattle.ml_driver.specs.private.Decisions.{IsDecisionOf, IsDocumentFor, status_in}
+use Rattle.ml_driver.specs.private.Decisions.{IsDecisionOf, IsDocumentFor, ShownIn, status_in}
 use Rattle.ml_front.proofs.Graphs.{meaningful}
 use Rattle.ml_front.proofs.Logics.{parsed_well}
 use Rattle.ml_driver.proofs.ProblemGraphs.{admitted, keeps_limit}
+
+closes : (q : Question) (p : Problem)
+    → (HasLargeClosure p MOST_NODES → ⊥)
+    → (PassesLimit p q.limit → ⊥)
+    → (c : Cause)
+    → ¬ (StaysOpen q p c)
+closes q p fits keeps (Positions n) stays = keeps stays.2
+closes q p fits keeps Closure stays = fits stays
+
+closed_by : (w : Way) (q : Question) (p : Problem)
+    → (HasLargeClosure p MOST_NODES → ⊥)
+    → (PassesLimit p q.limit → ⊥)
+    → IsClosedBy w q p
+closed_by WholeGame q p fits keeps = closes q p fits keeps
+closed_by Search q p fits keeps = fits
 
 pub closed : (q : Question) (p : Problem)
     → (HasLargeClosure p MOST_NODES → ⊥)
     → (PassesLimit p q.limit → ⊥)
     → IsClosed q p
-closed q p fits keeps (Positions n) stays = keeps stays.2
-closed q p fits keeps Closure stays = fits stays
+closed q p fits keeps = closed_by q.way q p fits keeps
+
+fits_by : (w : Way) (q : Question) (p : Problem) → IsClosedBy w q p → HasLargeClosure p MOST_NODES → ⊥
+fits_by WholeGame q p is_closed = is_closed Closure
+fits_by Search q p is_closed = is_closed
+
+pub closure_fits : (q : Question) (p : Problem) → IsClosed q p → HasLargeClosure p MOST_NODES → ⊥
+closure_fits q p is_closed = fits_by q.way q p is_closed
+
+-- a graph for which something is shown tells that its problem is closed
+shown_closed : (w : Way) (q : Question) (p : Problem) (IsShown : Graph → Type 0) → ShownIn w p q.limit IsShown
+    → IsClosedBy w q p
+shown_closed WholeGame q p IsShown x = closes q p x.fits (keeps_limit p x.graph q.limit x.is_graph x.few)
+shown_closed Search q p IsShown x = x.fits
 
 module _ (q : Question) (text : List ℕ) (p : Problem) (is_problem : IsProblem q text p) (out : List ℕ) where
   -- a structure that was made for a graph of the problem
@@ -108,26 +138,26 @@ module _ (q : Question) (text : List ℕ) (p : Problem) (is_problem : IsProblem 
   open_in true left = left
   open_in false left = left
 
-  by_model : (m : Model) → IsDecisionOf p q.limit (decision.Satisfiable m)
+  by_model : (m : Model) → IsDecisionOf q.way p q.limit (decision.Satisfiable m)
       → IsDocumentFor p (decision.Satisfiable m) out
       → Satisfied q text out
   by_model m x written =
       let (made, is_ordered, fits) = x.is_shown in
-      satisfied x.graph m.structure m.start x.is_graph x.agrees
-      (closed q p x.fits (keeps_limit p x.graph q.limit x.is_graph x.few)) made is_ordered fits written.1 written.0
+      satisfied x.graph m.structure m.start x.is_graph x.agrees (shown_closed q.way q p _ x) made is_ordered fits
+      written.1 written.0
 
-  by_refutation : (r : Refutation) → IsDecisionOf p q.limit (decision.Unsatisfiable r)
+  by_refutation : (r : Refutation) → IsDecisionOf q.way p q.limit (decision.Unsatisfiable r)
       → IsDocumentFor p (decision.Unsatisfiable r) out
       → Refuted q text out
   by_refutation r x written =
-      refuted x.graph (of_parts r.names r.entries) x.is_graph
-      (closed q p x.fits (keeps_limit p x.graph q.limit x.is_graph x.few)) r.is_refutation x.is_shown written
+      refuted x.graph (of_parts r.names r.entries) x.is_graph (shown_closed q.way q p _ x) r.is_refutation x.is_shown
+      written
 
   stays : (c : Cause) → StaysOpen (asked q.limit p) p c → StaysOpen q p c
   stays (Positions n) x = x
   stays Closure x = x
 
-  pub answered : (negated : Bool) (d : Decision) → IsDecisionOf p q.limit d → IsDocumentFor p d out
+  pub answered : (negated : Bool) (d : Decision) → IsDecisionOf q.way p q.limit d → IsDocumentFor p d out
       → IsAnsweredIn negated q text (status_in negated d) out
   answered false (decision.Satisfiable m) x written = by_model m x written
   answered true (decision.Satisfiable m) x written = by_model m x written

@@ -12,7 +12,7 @@ use Rattle.ml_base.specs.Whole.{AppendsPart}
 use Rattle.ml_front.specs.declared.answer.Answer.{Answer}
 use Rattle.ml_front.specs.declared.answer.Answer.TheVariants as answer
 use Rattle.ml_driver.specs.declared.command.Command.{Command}
-use Rattle.ml_driver.specs.declared.command.Command.TheVariants.{Decide, Valid, CheckModel, CheckRefutation, Migrate, SolveGame, Determinise, Gen, Bench}
+use Rattle.ml_driver.specs.declared.command.Command.TheVariants.{Decide, Valid, Find, Prove, CheckModel, CheckRefutation, Migrate, SolveGame, Determinise, Gen, Bench}
 use Rattle.ml_driver.specs.declared.status.Status.{Status}
 use Rattle.ml_driver.specs.declared.status.Status.TheVariants.{Yes, No, Undecided, Words, Text, ReadFault, WriteFault, NoMemory}
 use Rattle.ml_driver.specs.Bench.{answer_of, status_of}
@@ -31,6 +31,8 @@ no_fault_due : (c : Option Command) (text output : List ℕ) → IsDue c text Re
 no_fault_due None text output due = due
 no_fault_due (Some (Decide l n)) text output due = due
 no_fault_due (Some (Valid l n)) text output due = due
+no_fault_due (Some (Find l n)) text output due = due
+no_fault_due (Some (Prove l n)) text output due = due
 no_fault_due (Some CheckModel) text output due = due
 no_fault_due (Some CheckRefutation) text output due = due
 no_fault_due (Some Migrate) text output due = due
@@ -44,6 +46,8 @@ no_write_fault_due : (c : Option Command) (text output : List ℕ) → IsDue c t
 no_write_fault_due None text output due = due
 no_write_fault_due (Some (Decide l n)) text output due = due
 no_write_fault_due (Some (Valid l n)) text output due = due
+no_write_fault_due (Some (Find l n)) text output due = due
+no_write_fault_due (Some (Prove l n)) text output due = due
 no_write_fault_due (Some CheckModel) text output due = due
 no_write_fault_due (Some CheckRefutation) text output due = due
 no_write_fault_due (Some Migrate) text output due = due
@@ -57,6 +61,8 @@ no_want_due : (c : Option Command) (text output : List ℕ) → IsDue c text NoM
 no_want_due None text output due = due
 no_want_due (Some (Decide l n)) text output due = due
 no_want_due (Some (Valid l n)) text output due = due
+no_want_due (Some (Find l n)) text output due = due
+no_want_due (Some (Prove l n)) text output due = due
 no_want_due (Some CheckModel) text output due = due
 no_want_due (Some CheckRefutation) text output due = due
 no_want_due (Some Migrate) text output due = due
@@ -131,6 +137,8 @@ pub too_long_due : (c : Command) (k : ℕ) (text : List ℕ)
     → IsDue (Some c) text Text refused_length
 too_long_due (Decide l n) k text is long = inl (past_limit longest_text k text is long)
 too_long_due (Valid l n) k text is long = inl (past_limit longest_text k text is long)
+too_long_due (Find l n) k text is long = inl (past_limit longest_text k text is long)
+too_long_due (Prove l n) k text is long = inl (past_limit longest_text k text is long)
 too_long_due CheckModel k text is long =
     as_document (document_by_length (past_limit longest_document k text is long))
 too_long_due CheckRefutation k text is long = document_by_length (past_limit longest_document k text is long)

@@ -14,7 +14,7 @@ use Rattle.ml_gen.specs.Families.{family_named, is_in_range}
 use Rattle.ml_gen.specs.declared.family.Family.{Family}
 use Rattle.ml_front.specs.declared.logic.Logic.{Logic}
 use Rattle.ml_driver.specs.declared.command.Command.{Command}
-use Rattle.ml_driver.specs.declared.command.Command.TheVariants.{Decide, Valid, CheckModel, CheckRefutation, Migrate, SolveGame, Determinise, Gen, Bench}
+use Rattle.ml_driver.specs.declared.command.Command.TheVariants.{Decide, Valid, Find, Prove, CheckModel, CheckRefutation, Migrate, SolveGame, Determinise, Gen, Bench}
 use Rattle.ml_driver.specs.declared.command.TheConstants.{GREATEST_LIMIT, LONGEST_NUMBER}
 use Rattle.ml_driver.specs.declared.engine.Engine.{Engine}
 use Rattle.ml_driver.specs.Games.{engine_named}
@@ -65,13 +65,19 @@ limit_small (Some w) n e = by_test (nat_le 1 (length w) && nat_le (length w) LON
 -- ---- the table
 
 decided_fits : (w : Word) (l : Logic) (n : ℕ) → n < 2 ^ 32 → HasFitNumbers (decided_by w l n)
-decided_fits w l n small = by_words (bytes_eq w (codes "decide")) (bytes_eq w (codes "valid"))
+decided_fits w l n small =
+    by_words (bytes_eq w (codes "decide")) (bytes_eq w (codes "valid")) (bytes_eq w (codes "find"))
+    (bytes_eq w (codes "prove"))
   where
-    by_words : (a b : Bool)
-        → HasFitNumbers (if a then Some (Decide l n) else (if b then Some (Valid l n) else None))
-    by_words true b = small
-    by_words false true = small
-    by_words false false = tt
+    by_words : (a b c d : Bool)
+        → HasFitNumbers (if a then Some (Decide l n)
+        else (if b then Some (Valid l n)
+        else (if c then Some (Find l n) else (if d then Some (Prove l n) else None))))
+    by_words true b c d = small
+    by_words false true c d = small
+    by_words false false true d = small
+    by_words false false false true = small
+    by_words false false false false = tt
 
 bare_fits : (w : Word) → HasFitNumbers (bare_by w)
 bare_fits w =

@@ -38,3 +38,5 @@ pub mod FamilyProblems
 pub mod Winners
 -- what is found of a problem
 pub mod Measures
+-- a search answers what the whole game does
+pub mod Searched

@@ -1,21 +1,24 @@
 -- One status is due.
 --
 --   Told, Checks, Verdicts, Migrates == what is due for the commands, with the reason of each
---   one_answer            == one status answers a question
+--   one_answer            == one status answers a question by the whole game
+--   answers_agree         == two statuses that answer a question are the same, unless one says that the problem stays open
 --   answers_are_exact     == and says what is true
 --   one_benched           == one thing is found of the formula of a family
---   one_due               == one status is due at most
-use Rattle.std.proofs.Common.{◌≡◌, ℕ, ◌<◌, ◌≤◌, Bool, true, false, List, length, Some, None, refl, sym, ap, ap₂, subst, ◌∙◌, inl, inr, arith}
+--   one_due               == one status is due at most, for a command that doesn't search
+--   one_unless_open       == two statuses that are due agree, for each command
+use Rattle.std.proofs.Common.{◌≡◌, ℕ, ◌<◌, ◌≤◌, ◌⊎◌, Bool, true, false, List, length, Some, None, refl, sym, ap, ap₂, subst, ◌∙◌, inl, inr, arith}
 use Rattle.ml_front.specs.Problems.{IsSatisfiable}
 use Rattle.ml_front.specs.declared.problem.Problem.{Problem}
 use Rattle.ml_front.proofs.Logics.{formula_once, formula_or_refused}
-use Rattle.ml_driver.specs.Decision.{IsAnswered, IsAnsweredIn, IsClosed, IsProblem, LeftOpen, Refuted, RefusedText, Satisfied, StaysOpen}
+use Rattle.ml_driver.specs.Decision.{IsAnswered, IsAnsweredIn, IsClosed, IsClosedBy, IsProblem, LeftOpen, Refuted, RefusedText, Satisfied, StaysOpen}
 use Rattle.ml_driver.specs.declared.question.Question.{Question}
+use Rattle.ml_driver.specs.declared.question.Way.TheVariants.{WholeGame, Search}
 use Rattle.ml_model_check.specs.Checked.{IsCheckedAs}
 use Rattle.ml_model_check.specs.declared.checked.Checked.{Checked}
 use Rattle.ml_model_check.specs.declared.checked.Checked.TheVariants as checked
 use Rattle.ml_model_check.proofs.OneCheck.{one_check}
-use Rattle.ml_driver.specs.declared.command.Command.TheVariants.{Decide, Valid, CheckModel, CheckRefutation, Migrate, SolveGame, Determinise, Gen, Bench}
+use Rattle.ml_driver.specs.declared.command.Command.TheVariants.{Decide, Valid, Find, Prove, CheckModel, CheckRefutation, Migrate, SolveGame, Determinise, Gen, Bench}
 use Rattle.ml_driver.specs.declared.status.Status.{Status}
 use Rattle.ml_driver.specs.declared.status.Status.TheVariants.{Yes, No, Undecided, Words, Text}
 use Rattle.ml_driver.specs.Statuses.{longest_document, refusal_line}
@@ -32,7 +35,7 @@ use Rattle.ml_driver.proofs.AutomatonAnswers.{one_determinised}
 use Rattle.ml_driver.proofs.FamilyProblems.{one_family_problem}
 use Rattle.ml_driver.proofs.GameAnswers.{one_solved}
 use Rattle.ml_driver.proofs.Measures.{one_finding}
-use Rattle.ml_driver.specs.Laws.{AnswersAreExact, IsExact, OneDue, OneMeasure, says, open_at, satisfiable_at, unsatisfiable_at}
+use Rattle.ml_driver.specs.Laws.{AgreeUnlessOpen, AnswersAreExact, IsExact, OneDue, OneMeasure, OneUnlessOpen, says, open_at, satisfiable_at, unsatisfiable_at}
 
 -- ---- words that are no command
 
@@ -90,40 +93,63 @@ sat_unsat q text out more x y =
     subst (λ p. ¬ (IsSatisfiable p)) same y.is_unsatisfiable
     (x.structure, x.is_admitted, (x.start, x.can_be_written.is_state, x.holds))
 
-closed_open : (q : Question) (text more : List ℕ) (p : Problem)
+closed_open : (q : Question) (text more : List ℕ) (p : Problem) → q.way ≡ WholeGame
     → IsProblem q text p
     → IsClosed q p
     → LeftOpen q text more
     → ⊥
-closed_open q text more p is closed y =
-    closed y.cause
+closed_open q text more p whole is closed y =
+    subst (λ w. IsClosedBy w q p) whole closed y.cause
     (subst (λ r. StaysOpen q r y.cause) (same_problem q text y.problem p y.is_problem is) y.stays_open)
 
-one_told : (negated : Bool) (q : Question) (text out more : List ℕ) (k : Told q text out) (j : Told q text more)
-    → told_as negated q text out k ≡ told_as negated q text more j
+open_told : (negated : Bool) (q : Question) (text out : List ℕ) (x : LeftOpen q text out)
+    → told_as negated q text out (open_left x) ≡ Undecided
 unfolding told_as
-one_told false q text out more (held x) (held y) = refl
-one_told true q text out more (held x) (held y) = refl
-one_told negated q text out more (held x) (excluded y) = absurd (sat_unsat q text out more x y)
-one_told negated q text out more (held x) (open_left y) =
-    absurd (closed_open q text more x.problem x.is_problem x.is_closed y)
-one_told negated q text out more (held x) (refused y) = absurd (problem_refused q text more x.problem x.is_problem y)
-one_told negated q text out more (excluded x) (held y) = absurd (sat_unsat q text more out y x)
-one_told false q text out more (excluded x) (excluded y) = refl
-one_told true q text out more (excluded x) (excluded y) = refl
-one_told negated q text out more (excluded x) (open_left y) =
-    absurd (closed_open q text more x.problem x.is_problem x.is_closed y)
-one_told negated q text out more (excluded x) (refused y) = absurd (problem_refused q text more x.problem x.is_problem y)
-one_told negated q text out more (open_left x) (held y) =
-    absurd (closed_open q text out y.problem y.is_problem y.is_closed x)
-one_told negated q text out more (open_left x) (excluded y) =
-    absurd (closed_open q text out y.problem y.is_problem y.is_closed x)
-one_told negated q text out more (open_left x) (open_left y) = refl
-one_told negated q text out more (open_left x) (refused y) = absurd (problem_refused q text more x.problem x.is_problem y)
-one_told negated q text out more (refused x) (held y) = absurd (problem_refused q text out y.problem y.is_problem x)
-one_told negated q text out more (refused x) (excluded y) = absurd (problem_refused q text out y.problem y.is_problem x)
-one_told negated q text out more (refused x) (open_left y) = absurd (problem_refused q text out y.problem y.is_problem x)
-one_told negated q text out more (refused x) (refused y) = refl
+open_told false q text out x = refl
+open_told true q text out x = refl
+
+-- an answer stands beside a problem that is left open
+abbrev Apart : Question → List ℕ → (Status → Status → Type 0) → Type 1
+Apart q text R = (p : Problem) (more : List ℕ) (s t : Status) → IsProblem q text p → IsClosed q p → LeftOpen q text more
+    → (s ≡ Undecided) ⊎ (t ≡ Undecided) → R s t
+
+-- what is told of one text is related so, if each status is to itself, and so are an answer and that the problem is open
+told_alike : (negated : Bool) (q : Question) (text out more : List ℕ) (R : Status → Status → Type 0)
+    → ((s : Status) → R s s)
+    → Apart q text R
+    → (k : Told q text out) (j : Told q text more)
+    → R (told_as negated q text out k) (told_as negated q text more j)
+unfolding told_as
+told_alike false q text out more R same apart (held x) (held y) = same Yes
+told_alike true q text out more R same apart (held x) (held y) = same No
+told_alike negated q text out more R same apart (held x) (excluded y) = absurd (sat_unsat q text out more x y)
+told_alike negated q text out more R same apart (held x) (open_left y) =
+    apart x.problem more _ _ x.is_problem x.is_closed y (inr (open_told negated q text more y))
+told_alike negated q text out more R same apart (held x) (refused y) =
+    absurd (problem_refused q text more x.problem x.is_problem y)
+told_alike negated q text out more R same apart (excluded x) (held y) = absurd (sat_unsat q text more out y x)
+told_alike false q text out more R same apart (excluded x) (excluded y) = same No
+told_alike true q text out more R same apart (excluded x) (excluded y) = same Yes
+told_alike negated q text out more R same apart (excluded x) (open_left y) =
+    apart x.problem more _ _ x.is_problem x.is_closed y (inr (open_told negated q text more y))
+told_alike negated q text out more R same apart (excluded x) (refused y) =
+    absurd (problem_refused q text more x.problem x.is_problem y)
+told_alike negated q text out more R same apart (open_left x) (held y) =
+    apart y.problem out _ _ y.is_problem y.is_closed x (inl (open_told negated q text out x))
+told_alike negated q text out more R same apart (open_left x) (excluded y) =
+    apart y.problem out _ _ y.is_problem y.is_closed x (inl (open_told negated q text out x))
+told_alike false q text out more R same apart (open_left x) (open_left y) = same Undecided
+told_alike true q text out more R same apart (open_left x) (open_left y) = same Undecided
+told_alike negated q text out more R same apart (open_left x) (refused y) =
+    absurd (problem_refused q text more x.problem x.is_problem y)
+told_alike negated q text out more R same apart (refused x) (held y) =
+    absurd (problem_refused q text out y.problem y.is_problem x)
+told_alike negated q text out more R same apart (refused x) (excluded y) =
+    absurd (problem_refused q text out y.problem y.is_problem x)
+told_alike negated q text out more R same apart (refused x) (open_left y) =
+    absurd (problem_refused q text out y.problem y.is_problem x)
+told_alike false q text out more R same apart (refused x) (refused y) = same Text
+told_alike true q text out more R same apart (refused x) (refused y) = same Text
 
 exact_as : (negated : Bool) (q : Question) (text out : List ℕ) (p : Problem) (s : Status)
     → q.negated ≡ negated
@@ -165,14 +191,33 @@ answers_are_exact q text p s out problem answered =
     let k = told q.negated q text s out answered in
     exact_as q.negated q text out p s refl problem k.0 k.1
 
-pub one_answer : (q : Question) (text : List ℕ) (s t : Status) (out more : List ℕ)
+alike_answers : (q : Question) (text : List ℕ) (s t : Status) (out more : List ℕ) (R : Status → Status → Type 0)
+    → ((u : Status) → R u u)
+    → Apart q text R
+    → IsAnswered q text s out
+    → IsAnswered q text t more
+    → R s t
+alike_answers q text s t out more R same apart x y =
+    let k = told q.negated q text s out x in
+    let j = told q.negated q text t more y in
+    subst (λ u. R u t) (sym k.1)
+    (subst (R (told_as q.negated q text out k.0)) (sym j.1)
+    (told_alike q.negated q text out more R same apart k.0 j.0))
+
+-- by the whole game
+pub one_answer : (q : Question) (text : List ℕ) (s t : Status) (out more : List ℕ) → q.way ≡ WholeGame
     → IsAnswered q text s out
     → IsAnswered q text t more
     → s ≡ t
-one_answer q text s t out more x y =
-    let k = told q.negated q text s out x in
-    let j = told q.negated q text t more y in
-    k.1 ∙ one_told q.negated q text out more k.0 j.0 ∙ sym j.1
+one_answer q text s t out more whole x y =
+    alike_answers q text s t out more (λ u v. u ≡ v) (λ u. refl)
+    (λ p other u v is closed left either. absurd (closed_open q text other p whole is closed left)) x y
+
+-- in both ways
+pub answers_agree : (q : Question) (text : List ℕ) (s t : Status) (out more : List ℕ) → IsAnswered q text s out
+    → IsAnswered q text t more → AgreeUnlessOpen s t
+answers_agree q text s t out more x y =
+    alike_answers q text s t out more AgreeUnlessOpen (λ u. inl refl) (λ p other u v is closed left either. inr either) x y
 
 -- ---- check-model
 
@@ -283,21 +328,41 @@ one_benched f n s t out more x y =
     )
 
 pub one_due : OneDue
-one_due None text s t out more x y = words_due text s out x ∙ sym (words_due text t more y)
-one_due (Some (Decide l n)) text s t out more x y = one_answer (plainly l n) text s t out more x y
-one_due (Some (Valid l n)) text s t out more x y = one_answer (for_negation l n) text s t out more x y
-one_due (Some CheckModel) text s t out more x y = one_checked text s t (checks text s out x) (checks text t more y)
-one_due (Some CheckRefutation) text s t out more x y =
+one_due None text s t out more whole x y = words_due text s out x ∙ sym (words_due text t more y)
+one_due (Some (Decide l n)) text s t out more whole x y =
+    one_answer (plainly WholeGame l n) text s t out more refl x y
+one_due (Some (Valid l n)) text s t out more whole x y =
+    one_answer (for_negation WholeGame l n) text s t out more refl x y
+one_due (Some (Find l n)) text s t out more whole x y = absurd (cc)
+one_due (Some (Prove l n)) text s t out more whole x y = absurd (cc)
+one_due (Some CheckModel) text s t out more whole x y = one_checked text s t (checks text s out x) (checks text t more y)
+one_due (Some CheckRefutation) text s t out more whole x y =
     one_judged text s t (verdicts text s out x) (verdicts text t more y)
-one_due (Some Migrate) text s t out more x y =
+one_due (Some Migrate) text s t out more whole x y =
     one_migrated text s t out more (migrates text s out x) (migrates text t more y)
-one_due (Some (SolveGame e)) text s t out more x y = one_solved e text s t out more x y
-one_due (Some (Determinise n)) text s t out more x y = (one_determinised n text s t out more x y).0
-one_due (Some (Gen f n)) text s t out more x y =
+one_due (Some (SolveGame e)) text s t out more whole x y = one_solved e text s t out more x y
+one_due (Some (Determinise n)) text s t out more whole x y = (one_determinised n text s t out more x y).0
+one_due (Some (Gen f n)) text s t out more whole x y =
     let a = generated f n text s out x in
     let b = generated f n text t more y in
     a.0 ∙ sym b.0
-one_due (Some (Bench f n)) text s t out more x y = (one_benched f n s t out more x y).0
+one_due (Some (Bench f n)) text s t out more whole x y = (one_benched f n s t out more x y).0
+
+pub one_unless_open : OneUnlessOpen
+one_unless_open (Some (Find l n)) text s t out more x y = answers_agree (plainly Search l n) text s t out more x y
+one_unless_open (Some (Prove l n)) text s t out more x y = answers_agree (for_negation Search l n) text s t out more x y
+one_unless_open None text s t out more x y = inl (one_due None text s t out more refl x y)
+one_unless_open (Some (Decide l n)) text s t out more x y = inl (one_due (Some (Decide l n)) text s t out more refl x y)
+one_unless_open (Some (Valid l n)) text s t out more x y = inl (one_due (Some (Valid l n)) text s t out more refl x y)
+one_unless_open (Some CheckModel) text s t out more x y = inl (one_due (Some CheckModel) text s t out more refl x y)
+one_unless_open (Some CheckRefutation) text s t out more x y =
+    inl (one_due (Some CheckRefutation) text s t out more refl x y)
+one_unless_open (Some Migrate) text s t out more x y = inl (one_due (Some Migrate) text s t out more refl x y)
+one_unless_open (Some (SolveGame e)) text s t out more x y = inl (one_due (Some (SolveGame e)) text s t out more refl x y)
+one_unless_open (Some (Determinise n)) text s t out more x y =
+    inl (one_due (Some (Determinise n)) text s t out more refl x y)
+one_unless_open (Some (Gen f n)) text s t out more x y = inl (one_due (Some (Gen f n)) text s t out more refl x y)
+one_unless_open (Some (Bench f n)) text s t out more x y = inl (one_due (Some (Bench f n)) text s t out more refl x y)
 
 pub one_measure : OneMeasure
 one_measure f n text more s t out other = (

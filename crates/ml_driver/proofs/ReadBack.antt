@@ -1,20 +1,21 @@
--- What `decide` and `valid` write, the checkers read.
+-- What answers a question, the checkers read.
 --
 --   satisfied_read  == the document with a structure is one of which `check-model` answers that its problem holds
 --   decided_are_checked == the law
 --   refuted_are_accepted == the document with a refutation is one that `check-refutation` accepts
---   decide_is_checked, valid_is_checked == the laws on the commands
+--   decide_is_checked, valid_is_checked, find_is_checked, prove_is_checked == the laws on the commands
 use Rattle.std.proofs.Common.{ℕ, List, refl, sym, subst}
 use Rattle.ml_base.specs.declared.version.Version.TheVariants.{Two}
 use Rattle.ml_model_check.specs.Checked.{IsDocument, Shows}
 use Rattle.ml_model_check.specs.declared.checked.Checked.TheVariants.{Holds}
 use Rattle.ml_model_check.proofs.ReadBack.{documents_read_back}
 use Rattle.ml_driver.specs.Decision.{Refuted, Satisfied}
-use Rattle.ml_driver.specs.declared.cause.Cause.TheVariants.{Closure}
 use Rattle.ml_driver.specs.declared.question.Question.{Question}
-use Rattle.ml_driver.specs.Laws.{DecidedAreChecked, DecideIsChecked, IsFoundAccepted, IsFoundToHold, RefutedAreAccepted, ValidIsChecked}
+use Rattle.ml_driver.specs.declared.question.Way.TheVariants.{WholeGame, Search}
+use Rattle.ml_driver.specs.Laws.{DecidedAreChecked, DecideIsChecked, FindIsChecked, IsFoundAccepted, IsFoundToHold, ProveIsChecked, RefutedAreAccepted, ValidIsChecked}
 use Rattle.ml_driver.specs.Run.{for_negation, plainly, IsWhole}
 use Rattle.ml_refute_check.specs.Documents.{IsDocument as IsDocumentWith}
+use Rattle.ml_driver.proofs.Answered.{closure_fits}
 use Rattle.ml_driver.proofs.RefutationDocuments.{refutation_read_back}
 use Rattle.ml_front.proofs.Logics.{parsed_well}
 
@@ -31,7 +32,7 @@ satisfied_read q text out x =
       structure = m;
       start = x.start;
       is_document = shown;
-      finds = (x.is_admitted, x.is_closed Closure, x.holds);
+      finds = (x.is_admitted, closure_fits q x.problem x.is_closed, x.holds);
     }
 
 pub decided_are_checked : DecidedAreChecked
@@ -54,7 +55,7 @@ refuted_are_accepted q text out x =
       is_document = refutation_shown q text out x;
       graph = x.graph;
       is_graph = x.is_graph;
-      closed = x.is_closed Closure;
+      closed = closure_fits q x.problem x.is_closed;
       is_accepted = x.is_accepted;
     }
 
@@ -82,8 +83,16 @@ found_accepted q text out whole x =
 
 pub decide_is_checked : DecideIsChecked
 decide_is_checked l n text out whole =
-    (found_to_hold (plainly l n) text out whole, found_accepted (plainly l n) text out whole)
+    (found_to_hold (plainly WholeGame l n) text out whole, found_accepted (plainly WholeGame l n) text out whole)
 
 pub valid_is_checked : ValidIsChecked
 valid_is_checked l n text out whole =
-    (found_accepted (for_negation l n) text out whole, found_to_hold (for_negation l n) text out whole)
+    (found_to_hold (for_negation WholeGame l n) text out whole, found_accepted (for_negation WholeGame l n) text out whole)
+
+pub find_is_checked : FindIsChecked
+find_is_checked l n text out whole =
+    (found_to_hold (plainly Search l n) text out whole, found_accepted (plainly Search l n) text out whole)
+
+pub prove_is_checked : ProveIsChecked
+prove_is_checked l n text out whole =
+    (found_to_hold (for_negation Search l n) text out whole, found_accepted (for_negation Search l n) text out whole)

@@ -47,7 +47,7 @@ use Rattle.ml_driver.specs.declared.cause.Cause.TheVariants.{Closure, Positions}
 use Rattle.ml_driver.specs.declared.question.Question.{Question}
 use Rattle.ml_driver.specs.declared.status.Status.{Status}
 use Rattle.ml_driver.specs.declared.status.Status.TheVariants.{Yes, No, Undecided, Text}
-use Rattle.ml_driver.proofs.Answered.{closed, left_open, open_in, refused_answered, refuted, satisfied}
+use Rattle.ml_driver.proofs.Answered.{closed, closure_fits, left_open, open_in, refused_answered, refuted, satisfied}
 use Rattle.ml_front.proofs.HeldGraphs.{HeldGraph, held_graph}
 use Rattle.ml_front.proofs.HeldGraphs.{IsHeld}
 use Rattle.ml_front.proofs.Logics.{parsed_well}
@@ -105,7 +105,7 @@ module _ (n : Bool) (q : Question) (text : List ℕ) (p : Problem) (is_problem :
         let r = made.0 in
         let x : Extraction = record { g = g; a = a; arena = arena; s = s; r = r; o = made.1.outline } in
         let well = parsed_well text p.formula is_problem.is_parsed in
-        let nodes = graph_small MOST_NODES g p.negated p.formula (omega arith) well is_graph (is_closed Closure) in
+        let nodes = graph_small MOST_NODES g p.negated p.formula (omega arith) well is_graph (closure_fits q p is_closed) in
         let is_refutation =
         extracted_refutation x ok (omega (arith, nodes)) made.1.heights
         (member-All Fits g.priorities held.priorities) (omega (arith, few, small)) in

@@ -26,7 +26,8 @@ use Rattle.ml_driver.proofs.AutomatonAnswers.{on_automaton}
 use Rattle.ml_driver.proofs.FamilyProblems.{family_problem}
 use Rattle.ml_driver.proofs.GameAnswers.{on_game}
 use Rattle.ml_driver.proofs.Measures.{some_finding}
-use Rattle.ml_driver.specs.declared.command.Command.TheVariants.{Decide, Valid, CheckModel, CheckRefutation, Migrate, SolveGame, Determinise, Gen, Bench}
+use Rattle.ml_driver.specs.declared.command.Command.TheVariants.{Decide, Valid, Find, Prove, CheckModel, CheckRefutation, Migrate, SolveGame, Determinise, Gen, Bench}
+use Rattle.ml_driver.specs.declared.question.Way.TheVariants.{WholeGame, Search}
 use Rattle.ml_driver.specs.declared.status.Status.{Status}
 use Rattle.ml_driver.specs.declared.status.Status.TheVariants.{Yes, No, Undecided, Words, Text}
 use Rattle.ml_driver.specs.Statuses.{longest_document, refused_words, refused_length, holds_line, fails_line, open_line, not_total_line, not_a_word_line, accepted_line, rejected_line, refused_document}
@@ -127,8 +128,10 @@ of_family f n text inside =
 
 pub some_due : SomeDue
 some_due None text small = (Words, (refused_words, refl))
-some_due (Some (Decide l n)) text small = some_answer (plainly l n) text small
-some_due (Some (Valid l n)) text small = some_answer (for_negation l n) text small
+some_due (Some (Decide l n)) text small = some_answer (plainly WholeGame l n) text small
+some_due (Some (Valid l n)) text small = some_answer (for_negation WholeGame l n) text small
+some_due (Some (Find l n)) text small = some_answer (plainly Search l n) text small
+some_due (Some (Prove l n)) text small = some_answer (for_negation Search l n) text small
 some_due (Some CheckModel) text small = on_document text
 some_due (Some CheckRefutation) text small = on_refutation text
 some_due (Some Migrate) text small = to_migrate text

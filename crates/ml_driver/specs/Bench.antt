@@ -44,6 +44,7 @@ use Rattle.ml_driver.specs.declared.command.TheConstants.{GREATEST_LIMIT}
 use Rattle.ml_driver.specs.declared.finding.Finding.{Finding}
 use Rattle.ml_driver.specs.declared.finding.Finding.TheVariants.{Decided, GamePassed, ClosurePassed}
 use Rattle.ml_driver.specs.declared.question.Question.{Question}
+use Rattle.ml_driver.specs.declared.question.Way.TheVariants.{WholeGame}
 use Rattle.ml_driver.specs.declared.status.Status.{Status}
 use Rattle.ml_driver.specs.declared.status.Status.TheVariants as status
 
@@ -82,7 +83,7 @@ IsSatisfiableOrNot true p = IsSatisfiable p
 IsSatisfiableOrNot false p = ¬ (IsSatisfiable p)
 
 abbrev pub asked : ℕ → Problem → Question
-asked n p = record { logic = logic_of p.formula; negated = p.negated; limit = n }
+asked n p = record { logic = logic_of p.formula; negated = p.negated; limit = n; way = WholeGame }
 
 abbrev pub IsFinding : ℕ → Problem → Finding → Type 0
 IsFinding n p (Decided nodes positions satisfiable) =

@@ -1,15 +1,18 @@
 -- What a problem of any logic is decided to be.
 --
--- A question is a logic, a sense and a limit on the positions of the decision game. It is asked of a text: the problem is
--- the formula that the text stands for, in this sense. Whether the limit is kept is told by the definition of the game
--- alone. The graphs of a problem differ in the names that they list and in their order, so their games have the same
--- positions, and it doesn't matter which graph is meant.
+-- A question is a logic, a sense, a limit on the positions of the decision game, and a way to seek the answer. It is asked
+-- of a text: the problem is the formula that the text stands for, in this sense. Whether the limit is kept is told by the
+-- definition of the game alone. The graphs of a problem differ in the names that they list and in their order, so their
+-- games have the same positions, and it doesn't matter which graph is meant. What stays open is said alike for both ways.
+-- By the whole game a problem that stays open has no answer; a search may have one all the same, where the closure is
+-- small.
 --
 --   IsProblem q text p    == p is the problem of the text
 --   PassesLimit p n       == the decision game of a graph of p has more than n positions
 --   StaysOpen q p c       == p stays undecided for the cause c: a closure with more nodes than are decided, or else a game
 --                            past the limit
---   IsClosed q p          == for no cause
+--   IsClosed q p          == q may be answered: by the whole game, where p stays open for no cause; by a search, where the
+--                            closure of p has no more nodes than are decided
 --   Satisfied q text out  == out is a document about the problem of the text, with a structure and a state at which it
 --                            holds
 --   Refuted q text out    == out is a document about it, with a refutation that is accepted for it; it holds nowhere
@@ -35,6 +38,8 @@ use Rattle.ml_refute_check.specs.Documents.{document_of}
 use Rattle.ml_driver.specs.declared.cause.Cause.{Cause}
 use Rattle.ml_driver.specs.declared.cause.Cause.TheVariants.{Positions, Closure}
 use Rattle.ml_driver.specs.declared.question.Question.{Question}
+use Rattle.ml_driver.specs.declared.question.Way.{Way}
+use Rattle.ml_driver.specs.declared.question.Way.TheVariants.{WholeGame, Search}
 use Rattle.ml_driver.specs.declared.status.Status.{Status}
 use Rattle.ml_driver.specs.declared.status.Status.TheVariants.{Yes, No, Undecided, Text}
 use Rattle.ml_driver.specs.Documents.{satisfiable_document, undecided_document}
@@ -57,8 +62,12 @@ abbrev pub StaysOpen : Question → Problem → Cause → Type 0
 StaysOpen q p (Positions n) = (n ≡ q.limit) × (¬ (HasLargeClosure p MOST_NODES)) × PassesLimit p q.limit
 StaysOpen q p Closure = HasLargeClosure p MOST_NODES
 
+abbrev pub IsClosedBy : Way → Question → Problem → Type 0
+IsClosedBy WholeGame q p = (c : Cause) → ¬ (StaysOpen q p c)
+IsClosedBy Search q p = ¬ (HasLargeClosure p MOST_NODES)
+
 abbrev pub IsClosed : Question → Problem → Type 0
-IsClosed q p = (c : Cause) → ¬ (StaysOpen q p c)
+IsClosed q = IsClosedBy q.way q
 
 -- ---- answers
 

@@ -5,7 +5,12 @@
 --   SomeDue          == for each such command, for words that are none, and for each input, some status is due, with
 --                       some output
 --   SomeDueForWords  == so it is of all lists of words
---   OneDue           == one status is due at most
+--   searches c       == c seeks its answer by a search
+--   OneDue           == one status is due at most, for each command that doesn't search
+--   OneUnlessOpen    == of two statuses that are due for a command, also for one that searches, they are the same, or one of
+--                       them says that the problem stays open
+--   FindsAsDecided, ProvesAsDecided == what `decide` (`valid`) answers, `find` (`prove`) may answer; and what these answer is
+--                       yes, or no, or is due for `decide` (`valid`), with the same output
 --   OneMeasure       == one output is due at most for `gen` and `bench`
 --   SameWinners      == both engines of `solve-game` name the same winners
 --   OneAutomatonDue  == one status and one output are due at most for `determinise`
@@ -14,11 +19,12 @@
 --   SomeGame         == the decision game of a graph has an arena with at most so many positions, or has more
 --   IsExact q p s    == the status s says of the problem p what is true of it
 --   AnswersAreExact  == each answer to a question is exact
---   DecidedAreChecked, RefutedAreAccepted == the documents that `decide` and `valid` write are right, of whatever length
---   DecideIsChecked, ValidIsChecked == where they are no longer than documents that are read, `check-model` answers
---                       `holds` of one with a structure, and `check-refutation` answers `accepted` of one with a refutation
+--   DecidedAreChecked, RefutedAreAccepted == the documents that answer a question are right, of whatever length
+--   DecideIsChecked, ValidIsChecked, FindIsChecked, ProveIsChecked == where they are no longer than documents that are read,
+--                       `check-model` answers `holds` of one with a structure, and `check-refutation` answers `accepted` of
+--                       one with a refutation
 --   GraphsFit        == the trace automaton of the graph of a problem within the limits has at most 2^30 states
-use Rattle.std.specs.Prelude.{ℕ, ◌≡◌, ◌<◌, ◌≤◌, ◌^◌, ◌⊎◌, ◌↔◌, Bool, true, false, List, length, Option, Some}
+use Rattle.std.specs.Prelude.{ℕ, ◌≡◌, ◌≢◌, ◌<◌, ◌≤◌, ◌^◌, ◌⊎◌, ◌↔◌, Bool, true, false, List, length, Option, Some}
 use Rattle.ml_buchi.specs.Deterministic.{IsValuationWord}
 use Rattle.ml_buchi.specs.Valuations.{Leads}
 use Rattle.ml_determinise.specs.Numbering.{automaton_of}
@@ -27,7 +33,7 @@ use Rattle.ml_gen.specs.declared.family.Family.{Family}
 use Rattle.ml_graph.specs.Graph.{Graph, IsGraph}
 use Rattle.ml_product.specs.Arena.{Arena, IsArenaOf}
 use Rattle.ml_product.specs.DecisionGame.{HasMoreThan}
-use Rattle.ml_driver.specs.declared.command.Command.TheVariants.{Decide, Valid, CheckModel, CheckRefutation, Determinise, Gen, Bench}
+use Rattle.ml_driver.specs.declared.command.Command.TheVariants.{Decide, Valid, Find, Prove, CheckModel, CheckRefutation, Determinise, Gen, Bench}
 use Rattle.ml_driver.specs.declared.command.Command.{Command}
 use Rattle.ml_model_check.specs.Checked.{Shows}
 use Rattle.ml_model_check.specs.declared.checked.Checked.TheVariants.{Holds}
@@ -54,14 +60,41 @@ use Rattle.ml_driver.specs.Statuses.{accepted_line, holds_line}
 use Rattle.ml_driver.specs.Words.{command_of}
 use Rattle.ml_lines.specs.Lines.{Word}
 
+abbrev pub searches : Option Command → Bool
+searches (Some (Find l n)) = true
+searches (Some (Prove l n)) = true
+searches _ = false
+
 abbrev pub OneDue : Type 0
-OneDue = (c : Option Command) (text : List ℕ) (s t : Status) (out more : List ℕ)
+OneDue = (c : Option Command) (text : List ℕ) (s t : Status) (out more : List ℕ) → searches c ≡ false
     → IsDue c text s out → IsDue c text t more → s ≡ t
+
+-- whether a search finds an answer is free where the whole game passes the limit; which answer isn't
+abbrev pub AgreeUnlessOpen : Status → Status → Type 0
+AgreeUnlessOpen s t = (s ≡ t) ⊎ ((s ≡ Undecided) ⊎ (t ≡ Undecided))
+
+abbrev pub OneUnlessOpen : Type 0
+OneUnlessOpen = (c : Option Command) (text : List ℕ) (s t : Status) (out more : List ℕ)
+    → IsDue c text s out → IsDue c text t more → AgreeUnlessOpen s t
+
+-- by a command that searches, and the one that explores the whole game
+abbrev pub AnswersAs : (Logic → ℕ → Command) → (Logic → ℕ → Command) → Type 0
+AnswersAs searching whole = (l : Logic) (n : ℕ) (text : List ℕ) (s : Status) (out : List ℕ)
+    → (IsDue (Some (whole l n)) text s out → IsDue (Some (searching l n)) text s out)
+    × (s ≢ Yes → s ≢ No → IsDue (Some (searching l n)) text s out → IsDue (Some (whole l n)) text s out)
+
+abbrev pub FindsAsDecided : Type 0
+FindsAsDecided = AnswersAs Find Decide
+
+abbrev pub ProvesAsDecided : Type 0
+ProvesAsDecided = AnswersAs Prove Valid
 
 -- for `gen` and `determinise` a number may be any
 abbrev pub HasFitNumbers : Option Command → Type 0
 HasFitNumbers (Some (Decide l n)) = n < 2 ^ 32
 HasFitNumbers (Some (Valid l n)) = n < 2 ^ 32
+HasFitNumbers (Some (Find l n)) = n < 2 ^ 32
+HasFitNumbers (Some (Prove l n)) = n < 2 ^ 32
 HasFitNumbers (Some (Bench f n)) = is_in_range f n ≡ true
 HasFitNumbers _ = Unit {0}
 
@@ -110,15 +143,23 @@ IsFoundToHold out = IsDue (Some CheckModel) out Yes holds_line
 abbrev pub IsFoundAccepted : List ℕ → Type 0
 IsFoundAccepted out = IsDue (Some CheckRefutation) out Yes accepted_line
 
+-- of a command that writes a structure with the one status, and a refutation with the other
+abbrev pub IsCheckedBy : (Logic → ℕ → Command) → Status → Status → Type 0
+IsCheckedBy command held excluded = (l : Logic) (n : ℕ) (text out : List ℕ) → IsWhole out
+    → (IsDue (Some (command l n)) text held out → IsFoundToHold out)
+    × (IsDue (Some (command l n)) text excluded out → IsFoundAccepted out)
+
 abbrev pub DecideIsChecked : Type 0
-DecideIsChecked = (l : Logic) (n : ℕ) (text out : List ℕ) → IsWhole out
-    → (IsDue (Some (Decide l n)) text Yes out → IsFoundToHold out)
-    × (IsDue (Some (Decide l n)) text No out → IsFoundAccepted out)
+DecideIsChecked = IsCheckedBy Decide Yes No
 
 abbrev pub ValidIsChecked : Type 0
-ValidIsChecked = (l : Logic) (n : ℕ) (text out : List ℕ) → IsWhole out
-    → (IsDue (Some (Valid l n)) text Yes out → IsFoundAccepted out)
-    × (IsDue (Some (Valid l n)) text No out → IsFoundToHold out)
+ValidIsChecked = IsCheckedBy Valid No Yes
+
+abbrev pub FindIsChecked : Type 0
+FindIsChecked = IsCheckedBy Find Yes No
+
+abbrev pub ProveIsChecked : Type 0
+ProveIsChecked = IsCheckedBy Prove No Yes
 
 abbrev pub GraphsFit : Type 0
 GraphsFit = (g : Graph) (p : Problem)

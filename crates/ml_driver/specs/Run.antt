@@ -4,7 +4,8 @@
 -- never comes with an output of another one. What is said of bytes read and written is said of a source and a sink
 -- that tell their bytes; of others the clauses on faults remain.
 --
---   plainly l n, for_negation l n == what `decide` and `valid` ask: of the formula, and of its negation
+--   plainly w l n, for_negation w l n == what `decide` and `valid` ask by the whole game, `find` and `prove` by a search: of
+--                                the formula, and of its negation
 --   IsChecked text out        == out says that the problem of the document holds where the document says so
 --   IsRefuted text out        == out says that it doesn't
 --   IsAcceptedRefutation text out == out says that the document's refutation is accepted, and its problem holds nowhere
@@ -37,7 +38,7 @@ use Rattle.ml_model_check.specs.declared.checked.Checked.TheVariants.{Holds, Fai
 use Rattle.ml_refute_check.specs.Documents as refuted
 use Rattle.ml_refute_check.specs.Documents.{IsAcceptedDocument, IsMigrated, IsRejectedAt, HoldsNowhere}
 use Rattle.ml_driver.specs.declared.command.Command.{Command}
-use Rattle.ml_driver.specs.declared.command.Command.TheVariants.{Decide, Valid, CheckModel, CheckRefutation, Migrate, SolveGame, Determinise, Gen, Bench}
+use Rattle.ml_driver.specs.declared.command.Command.TheVariants.{Decide, Valid, Find, Prove, CheckModel, CheckRefutation, Migrate, SolveGame, Determinise, Gen, Bench}
 use Rattle.ml_driver.specs.declared.status.Status.{Status}
 use Rattle.ml_driver.specs.declared.status.Status.TheVariants.{Yes, No, Undecided, Words, Text, ReadFault, WriteFault, NoMemory}
 use Rattle.ml_driver.specs.Automata.{IsRefusedAutomaton, IsWrittenFor, PassesLimit, StandsForOne}
@@ -45,15 +46,17 @@ use Rattle.ml_driver.specs.Bench.{IsBenched, gen_text}
 use Rattle.ml_driver.specs.Decision.{IsAnswered}
 use Rattle.ml_driver.specs.Games.{IsSolved, IsRefusedGame}
 use Rattle.ml_driver.specs.declared.question.Question.{Question}
+use Rattle.ml_driver.specs.declared.question.Way.{Way}
+use Rattle.ml_driver.specs.declared.question.Way.TheVariants.{WholeGame, Search}
 use Rattle.ml_front.specs.declared.logic.Logic.{Logic}
 use Rattle.ml_driver.specs.Statuses.{longest_document, longest_input, refused_words, refused_length, holds_line, fails_line, open_line, not_total_line, not_a_word_line, accepted_line, rejected_line, refused_document}
 
--- what `decide` and `valid` ask
-abbrev pub plainly : Logic → ℕ → Question
-plainly l n = record { logic = l; negated = false; limit = n }
+-- what `decide` and `find` ask, and `valid` and `prove`
+abbrev pub plainly : Way → Logic → ℕ → Question
+plainly w l n = record { logic = l; negated = false; limit = n; way = w }
 
-abbrev pub for_negation : Logic → ℕ → Question
-for_negation l n = record { logic = l; negated = true; limit = n }
+abbrev pub for_negation : Way → Logic → ℕ → Question
+for_negation w l n = record { logic = l; negated = true; limit = n; way = w }
 
 -- the input is longer than its limit: what was given of it is
 abbrev pub IsTooLong : ℕ → List ℕ → List ℕ → Type 0
@@ -115,8 +118,10 @@ pub data IsRefusedModel (text out : List ℕ) : Type 0 where
 
 abbrev pub IsDue : Option Command → List ℕ → Status → List ℕ → Type 0
 IsDue None text Words out = out ≡ refused_words
-IsDue (Some (Decide l n)) text status out = IsAnswered (plainly l n) text status out
-IsDue (Some (Valid l n)) text status out = IsAnswered (for_negation l n) text status out
+IsDue (Some (Decide l n)) text status out = IsAnswered (plainly WholeGame l n) text status out
+IsDue (Some (Valid l n)) text status out = IsAnswered (for_negation WholeGame l n) text status out
+IsDue (Some (Find l n)) text status out = IsAnswered (plainly Search l n) text status out
+IsDue (Some (Prove l n)) text status out = IsAnswered (for_negation Search l n) text status out
 IsDue (Some CheckModel) text Yes out = (length text ≤ longest_document) × IsChecked text out
 IsDue (Some CheckModel) text No out = (length text ≤ longest_document) × IsRefuted text out
 IsDue (Some CheckModel) text Undecided out = (length text ≤ longest_document) × IsLeftOpen text out

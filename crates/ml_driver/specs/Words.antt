@@ -31,7 +31,7 @@ use Rattle.ml_front.specs.declared.logic.Logic.{Logic}
 use Rattle.ml_gen.specs.Families.{family_named, is_in_range}
 use Rattle.ml_gen.specs.declared.family.Family.{Family}
 use Rattle.ml_driver.specs.declared.command.Command.{Command}
-use Rattle.ml_driver.specs.declared.command.Command.TheVariants.{Decide, Valid, CheckModel, CheckRefutation, Migrate, SolveGame, Determinise, Gen, Bench}
+use Rattle.ml_driver.specs.declared.command.Command.TheVariants.{Decide, Valid, Find, Prove, CheckModel, CheckRefutation, Migrate, SolveGame, Determinise, Gen, Bench}
 use Rattle.ml_driver.specs.Games.{engine_named}
 use Rattle.ml_driver.specs.declared.engine.Engine.{Engine}
 use Rattle.ml_driver.specs.declared.command.TheConstants.{DEFAULT_LIMIT, GREATEST_LIMIT, LONGEST_NUMBER}
@@ -93,7 +93,9 @@ pub record Parts : Type 0 where
 abbrev pub decided_by : Word → Logic → ℕ → Option Command
 decided_by w l n =
     if bytes_eq w (codes "decide") then Some (Decide l n)
-    else (if bytes_eq w (codes "valid") then Some (Valid l n) else None)
+    else (if bytes_eq w (codes "valid") then Some (Valid l n)
+    else (if bytes_eq w (codes "find") then Some (Find l n)
+    else (if bytes_eq w (codes "prove") then Some (Prove l n) else None)))
 
 -- a command with a family and a number of its range
 abbrev pub counted_by : Word → Family → ℕ → Option Command

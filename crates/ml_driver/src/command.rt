@@ -30,6 +30,10 @@ pub enum Command {
     Decide { logic: Logic, limit: u32 },
     /// `valid LOGIC`: does the formula on the input hold at every state, so that its negation is unsatisfiable?
     Valid { logic: Logic, limit: u32 },
+    /// `find LOGIC`: as `decide`, but a structure or a refutation is searched for before the whole game is explored.
+    Find { logic: Logic, limit: u32 },
+    /// `prove LOGIC`: as `valid`, with a search before the whole game.
+    Prove { logic: Logic, limit: u32 },
     /// `check-model`: does the problem of the document on the input hold at the start of the document's structure?
     CheckModel,
     /// `check-refutation`: is the refutation of the document on the input accepted for the document's problem?
@@ -71,7 +75,10 @@ impl Command {
         ensures { result ≡ longest_input self }
     {
         match self {
-            Command::Decide { .. } | Command::Valid { .. } => Some(LONGEST_TEXT),
+            Command::Decide { .. }
+            | Command::Valid { .. }
+            | Command::Find { .. }
+            | Command::Prove { .. } => Some(LONGEST_TEXT),
             Command::CheckModel | Command::CheckRefutation | Command::Migrate => {
                 Some(LONGEST_DOCUMENT)
             }
@@ -247,6 +254,10 @@ fn decided_by(command: &str, logic: Logic, limit: u32) -> Option<Command>
         Some(Command::Decide { logic, limit })
     } else if command == "valid" {
         Some(Command::Valid { logic, limit })
+    } else if command == "find" {
+        Some(Command::Find { logic, limit })
+    } else if command == "prove" {
+        Some(Command::Prove { logic, limit })
     } else {
         None
     }

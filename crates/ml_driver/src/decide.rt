@@ -47,7 +47,7 @@ fn answer(
     requires some { 1 ≤ question.limit }
     ensures { IfOk result (λ output. IsAnswered question _text.now output.status output.bytes.items) }
 {
-    let decision = decision_of(alloc, problem, question.limit)?;
+    let decision = decision_of(alloc, problem, question.way, question.limit)?;
     Ok(Output {
         status: status_in(question.negated, &decision),
         bytes: document(alloc, problem, &decision)?,

@@ -1,26 +1,36 @@
 // What holds of what is due by its definition alone: the functions do nothing, their contracts are the theorems.
 ghost use Rattle.std.specs.Prelude.{◌≡◌, ◌+◌, ◌^◌};
 ghost use Rattle.ml_driver.specs.declared.command.TheConstants.{DEFAULT_LIMIT, GREATEST_LIMIT, LONGEST_DOCUMENT, LONGEST_NUMBER, LONGEST_TEXT};
-ghost use Rattle.ml_driver.specs.Laws.{AnswersAreExact, DecidedAreChecked, DecideIsChecked, GraphsFit, OneAutomatonDue, OneAutomatonWritten, OneDue, OneMeasure, RefutedAreAccepted, SameWinners, SomeDue, SomeDueForWords, SomeGame, ValidIsChecked, WrittenAcceptsTheSame};
+ghost use Rattle.ml_driver.specs.Laws.{AnswersAreExact, DecidedAreChecked, DecideIsChecked, FindIsChecked, FindsAsDecided, GraphsFit, OneAutomatonDue, OneAutomatonWritten, OneDue, OneMeasure, OneUnlessOpen, ProveIsChecked, ProvesAsDecided, RefutedAreAccepted, SameWinners, SomeDue, SomeDueForWords, SomeGame, ValidIsChecked, WrittenAcceptsTheSame};
 
-/// For each command, for words that are none, and for each input exactly one status is due: some status with some output, and
-/// no other status. Of the limit of a command only this is asked, that it fits 32 bits, as that of each `Command` does; and
-/// of the number for which a formula is measured, that it is of its family's range. So some status is due for each list of
-/// words and each input. For `gen` and `bench` one output is due.
+/// For each command but `find` and `prove`, for words that are none, and for each input exactly one status is due: some
+/// status with some output, and no other status. For `find` and `prove` some status is due too, and two that are due are the
+/// same, or one of them is `Undecided`. Of the limit of a command only this is asked, that it fits 32 bits, as that of each
+/// `Command` does; and of the number for which a formula is measured, that it is of its family's range. So some status is
+/// due for each list of words and each input. For `gen` and `bench` one output is due.
 pub fn one_due()
     ensures some { SomeDue }
     ensures words { SomeDueForWords }
     ensures one { OneDue }
+    ensures agree { OneUnlessOpen }
     ensures output { OneMeasure }
 {}
 
-/// An answer to a question about a text that stands for a formula is exact: undecided exactly where the closure is too
-/// large or the game passes the limit, and else it tells whether the problem is satisfiable.
+/// An answer to a question about a text that stands for a formula is exact: it says undecided only where the closure is too
+/// large or the game passes the limit, and else it tells whether the problem is satisfiable. By the whole game it says
+/// undecided exactly there; by a search always where the closure is too large.
 pub fn answers_are_exact()
     ensures { AnswersAreExact }
 {}
 
-/// The documents that are due for `decide` and `valid` are right, of whatever length: one with a structure shows that its
+/// Whatever is due for `decide` is due for `find`. And whatever is due for `find`, but yes and no, is due for `decide`, with
+/// the same output: what stays undecided, and texts that are refused. So it is for `prove` and `valid`.
+pub fn searches_find_as_much()
+    ensures finds { FindsAsDecided }
+    ensures proves { ProvesAsDecided }
+{}
+
+/// The documents that answer a question are right, of whatever length: one with a structure shows that its
 /// problem holds, and the refutation of one with a refutation is accepted. So where they are no longer than the documents
 /// that are read, `check-model` answers `holds`, and `check-refutation` answers `accepted`.
 pub fn decided_are_checked()
@@ -28,6 +38,8 @@ pub fn decided_are_checked()
     ensures refuted { RefutedAreAccepted }
     ensures decided { DecideIsChecked }
     ensures valid { ValidIsChecked }
+    ensures found { FindIsChecked }
+    ensures proved { ProveIsChecked }
 {}
 
 /// The text of a formula has at most 1,048,576 bytes, a document at most 2^63 - 1. A decision game may have 50,000

@@ -33,6 +33,6 @@ pub use cause::Cause;
 pub use command::{Command, LONGEST_DOCUMENT, LONGEST_TEXT, command_of};
 pub use engine::Engine;
 pub use finding::Finding;
-pub use question::Question;
+pub use question::{Question, Way};
 pub use status::Status;
 pub use top::run;

@@ -1,7 +1,9 @@
 // How far the decision of a problem comes: its graph, the graph's decision game, a solution of the game. All commands that
 // decide share these stages; what they make of the last one is theirs.
-ghost use Rattle.std.specs.Prelude.{◌≤◌, IfOk};
+ghost use Rattle.std.specs.Prelude.{◌≤◌, IfOk, MatchOption};
+ghost use Rattle.ml_front.specs.Graphs.{HasLargeClosure};
 ghost use Rattle.ml_front.specs.Logics.{IsWellFormed};
+ghost use Rattle.ml_front.specs.declared.problem.TheConstants.{MOST_NODES};
 ghost use Rattle.ml_parity.specs.Solution.{IsSolution};
 ghost use Rattle.ml_product.specs.Arena.{game_of};
 ghost use Rattle.ml_driver.specs.private.Stages.{IsStageOf, IsTranslated};
@@ -51,12 +53,22 @@ pub(crate) fn stage_of(alloc: Global, problem: &Problem, limit: u32) -> Result<S
     requires some { 1 ≤ limit }
     ensures { IfOk result (IsStageOf problem.now limit) }
 {
-    let graph = match graph(alloc, problem, MOST_NODES) {
-        Ok(graph) => graph,
-        Err(BlockRefusal::ClosureTooLarge) => return Ok(Stage::ClosurePassed),
-        Err(BlockRefusal::NoMemory) => return Err(NoMemory),
-    };
-    explored(alloc, problem, graph, limit)
+    match graph_of(alloc, problem)? {
+        Some(graph) => explored(alloc, problem, graph, limit),
+        None => Ok(Stage::ClosurePassed),
+    }
+}
+
+/// The graph of a problem, or `None` where its closure has more nodes than are decided.
+pub(crate) fn graph_of(alloc: Global, problem: &Problem) -> Result<Option<ModalGraph>, NoMemory>
+    requires well_formed { IsWellFormed problem.now.formula }
+    ensures { IfOk result (λ found. MatchOption found (HasLargeClosure problem.now MOST_NODES) (IsTranslated problem.now)) }
+{
+    match graph(alloc, problem, MOST_NODES) {
+        Ok(graph) => Ok(Some(graph)),
+        Err(BlockRefusal::ClosureTooLarge) => Ok(None),
+        Err(BlockRefusal::NoMemory) => Err(NoMemory),
+    }
 }
 
 // by the graph's decision game

@@ -12,10 +12,11 @@ use crate::decide::decide;
 use crate::determinising::determinise_text;
 use crate::input::input_of;
 use crate::output::Output;
-use crate::question::Question;
+use crate::question::{Question, Way};
 use crate::solving::solve_game;
 use crate::{Command, Status, command_of};
 use ml_base::{NoMemory, ReadRefusal, Sink, Source, write_all};
+use ml_front::Logic;
 use std::alloc::Global;
 
 /// Answers a command: reads the words, which come without the program's name, then the source to its end, computes
@@ -24,16 +25,16 @@ use std::alloc::Global;
 ///
 /// The contract says which status and output are due, and what each status leaves behind. But for faults and want of
 /// memory:
-/// - `Yes` and `No` as the command says, in each of the four logics: of `decide` with a structure and a state at which the
-///   formula of the text holds, and with a refutation that is accepted, where it holds nowhere; of `valid` where its
-///   negation holds nowhere, and where it holds at some state; of `check-model` where the problem of the document holds at
+/// - `Yes` and `No` as the command says, in each of the logics: of `decide` and `find` with a structure and a state at
+///   which the formula of the text holds, and with a refutation that is accepted, where it holds nowhere; of `valid` and
+///   `prove` where its negation holds nowhere, and where it holds at some state; of `check-model` where the problem of the document holds at
 ///   the start of its structure, and where it doesn't; of `check-refutation` where the document's refutation is accepted,
 ///   and where it isn't; of `bench` where the family's formula is satisfiable, and where it isn't, with its occurrences,
 ///   the nodes of its graph and the positions of its game counted; `Yes` of `migrate` with the document that is written
 ///   of the same refutation, of `solve-game` with the text of a solution, of `determinise` with the text of the
 ///   deterministic automaton, and of `gen` with the text of the family's formula;
 /// - `Undecided` of `decide`, `valid` and `bench` exactly where the closure of the problem has too many nodes, or the
-///   decision game passes the limit; of `check-model` exactly where the closure has too many nodes, on a structure of which
+///   decision game passes the limit; of `find` and `prove` only there; of `check-model` exactly where the closure has too many nodes, on a structure of which
 ///   the logic speaks; of `determinise` exactly where the deterministic automaton has more states than the limit;
 /// - `Words` exactly for words that are no command, `Text` exactly for input that the command refuses, both with one
 ///   line that says so.
@@ -87,20 +88,16 @@ fn outcome(alloc: Global, command: Command, text: &[u8]) -> Result<Output, NoMem
 {
     match command {
         Command::Decide { logic, limit } => {
-            let question = Question {
-                logic,
-                negated: false,
-                limit,
-            };
-            decide(alloc, question, text)
+            decide(alloc, asked(logic, false, limit, Way::WholeGame), text)
         }
         Command::Valid { logic, limit } => {
-            let question = Question {
-                logic,
-                negated: true,
-                limit,
-            };
-            decide(alloc, question, text)
+            decide(alloc, asked(logic, true, limit, Way::WholeGame), text)
+        }
+        Command::Find { logic, limit } => {
+            decide(alloc, asked(logic, false, limit, Way::Search), text)
+        }
+        Command::Prove { logic, limit } => {
+            decide(alloc, asked(logic, true, limit, Way::Search), text)
         }
         Command::CheckModel => check_model(alloc, text),
         Command::CheckRefutation => check_refutation(alloc, text),
@@ -109,6 +106,17 @@ fn outcome(alloc: Global, command: Command, text: &[u8]) -> Result<Output, NoMem
         Command::Determinise { limit } => determinise_text(alloc, limit, text),
         Command::Gen { family, n } => generate(alloc, family, n),
         Command::Bench { family, n } => measure(alloc, family, n),
+    }
+}
+
+fn asked(logic: Logic, negated: bool, limit: u32, way: Way) -> Question
+    ensures { result ≡ record { logic = logic; negated = negated; limit = limit; way = way } }
+{
+    Question {
+        logic,
+        negated,
+        limit,
+        way,
     }
 }
 

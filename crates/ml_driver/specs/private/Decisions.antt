@@ -1,11 +1,12 @@
 -- Decisions before they are written. Private contracts cite this; what is due stands in `Decision.antt`.
 --
---   ShownIn p n S       == S is shown of a graph of p whose game has no more than n positions
---   IsDecisionOf p n d  == the decision d of p is shown, by a structure or by a refutation; or p stays open where the game
+--   HasFewBy w g n      == the game of g has no more than n positions, where w is the whole game; a search asks for nothing
+--   ShownIn w p n S     == S is shown of a graph of p whose game has so few positions
+--   IsDecisionOf w p n d == the decision d of p is shown, by a structure or by a refutation; or p stays open where the game
 --                          may have n positions, for the cause that d tells
 --   IsDocumentFor p d out == out is the document about p with the decision d, whose names can be written
 --   status_in n d       == the status that goes with the decision d, where n tells whether the negation was asked for
-use Rattle.std.specs.Prelude.{ℕ, ◌≡◌, ◌<◌, ◌^◌, Bool, true, false, List}
+use Rattle.std.specs.Prelude.{ℕ, ◌≡◌, ◌<◌, ◌^◌, ⊤, Bool, true, false, List}
 use Rattle.ml_extract.specs.Extraction.{Extracted}
 use Rattle.ml_front.specs.Graphs.{HasLargeClosure, HoldsWhere, IsGraphOf}
 use Rattle.ml_front.specs.declared.problem.Problem.{Problem}
@@ -20,24 +21,30 @@ use Rattle.ml_driver.specs.Bench.{asked}
 use Rattle.ml_driver.specs.Decision.{StaysOpen}
 use Rattle.ml_driver.specs.declared.deciding.Decision.{Decision}
 use Rattle.ml_driver.specs.declared.deciding.Decision.TheVariants as decision
+use Rattle.ml_driver.specs.declared.question.Way.{Way}
+use Rattle.ml_driver.specs.declared.question.Way.TheVariants.{WholeGame, Search}
 use Rattle.ml_driver.specs.declared.status.Status.{Status}
 use Rattle.ml_driver.specs.declared.status.Status.TheVariants as status
 use Rattle.ml_driver.specs.Documents.{satisfiable_document, undecided_document}
 
--- a graph of the problem whose game keeps the limit, with what is shown for it
-pub record ShownIn (p : Problem) (n : ℕ) (IsShown : Graph → Type 0) : Type 0 where
+abbrev pub HasFewBy : Way → Graph → ℕ → Type 0
+HasFewBy WholeGame g n = ¬ (HasMoreThan g n)
+HasFewBy Search g n = ⊤
+
+-- a graph of the problem whose game keeps the limit, where that is asked, with what is shown for it
+pub record ShownIn (w : Way) (p : Problem) (n : ℕ) (IsShown : Graph → Type 0) : Type 0 where
   pub graph : Graph
   pub is_graph : IsGraphOf graph p
   pub agrees : HoldsWhere graph p
   pub fits : ¬ (HasLargeClosure p MOST_NODES)
-  pub few : ¬ (HasMoreThan graph n)
+  pub few : HasFewBy w graph n
   pub is_shown : IsShown graph
 
-abbrev pub IsDecisionOf : Problem → ℕ → Decision → Type 0
-IsDecisionOf p n (decision.Satisfiable m) =
-    ShownIn p n (λ g. Extracted g m.structure m.start × IsOrdered m.structure × (m.structure.states < 2 ^ 32))
-IsDecisionOf p n (decision.Unsatisfiable r) = ShownIn p n (λ g. IsAccepted g (of_parts r.names r.entries))
-IsDecisionOf p n (decision.Undecided c) = StaysOpen (asked n p) p c
+abbrev pub IsDecisionOf : Way → Problem → ℕ → Decision → Type 0
+IsDecisionOf w p n (decision.Satisfiable m) =
+    ShownIn w p n (λ g. Extracted g m.structure m.start × IsOrdered m.structure × (m.structure.states < 2 ^ 32))
+IsDecisionOf w p n (decision.Unsatisfiable r) = ShownIn w p n (λ g. IsAccepted g (of_parts r.names r.entries))
+IsDecisionOf w p n (decision.Undecided c) = StaysOpen (asked n p) p c
 
 abbrev pub IsDocumentFor : Problem → Decision → List ℕ → Type 0
 IsDocumentFor p (decision.Satisfiable m) out =

@@ -2,6 +2,7 @@
 use Rattle.std.proofs.Common.{ℕ, arith}
 use Rattle.ml_front.specs.declared.problem.Problem.{Problem}
 use Rattle.ml_graph.specs.Graph.{Graph}
+use Rattle.ml_driver.specs.declared.question.Way.TheVariants.{WholeGame}
 use Rattle.ml_driver.specs.declared.stages.SolvedGame.{SolvedGame}
 use Rattle.ml_driver.specs.private.Decisions.{ShownIn}
 use Rattle.ml_driver.specs.private.Stages.{IsSolvedFor}
@@ -9,7 +10,7 @@ use Rattle.ml_driver.proofs.ProblemGraphs.{few_positions}
 use Rattle.ml_driver.proofs.deciding.decided.Goals as goal
 
 shown : (p : Problem) (n : ℕ) (x : SolvedGame) (IsShown : Graph → Type 0) → IsSolvedFor p n x → IsShown x.graph
-    → ShownIn p n IsShown
+    → ShownIn WholeGame p n IsShown
 shown p n x IsShown solved is = record {
   graph = x.graph;
   is_graph = solved.translated.is_graph_of;

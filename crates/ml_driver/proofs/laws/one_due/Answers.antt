@@ -1,4 +1,4 @@
-use Rattle.ml_driver.proofs.OneDue.{one_due, one_measure}
+use Rattle.ml_driver.proofs.OneDue.{one_due, one_measure, one_unless_open}
 use Rattle.ml_driver.proofs.FitNumbers.{command_fits}
 use Rattle.ml_driver.proofs.SomeDue.{some_due}
 use Rattle.ml_driver.specs.Words.{command_of}
@@ -9,6 +9,9 @@ returns-clause-some c = some_due
 
 pub returns-clause-one : goal.returns-clause-one
 returns-clause-one c = one_due
+
+pub returns-clause-agree : goal.returns-clause-agree
+returns-clause-agree c = one_unless_open
 
 pub returns-clause-output : goal.returns-clause-output
 returns-clause-output c = one_measure

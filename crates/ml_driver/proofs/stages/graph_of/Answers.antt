@@ -2,10 +2,10 @@
 use Rattle.std.proofs.Common.{arith}
 use Rattle.ml_front.proofs.Graphs.{graph_is, graph_small}
 use Rattle.ml_front.specs.declared.problem.TheConstants.{MOST_NODES}
-use Rattle.ml_driver.proofs.stages.stage_of.Goals as goal
+use Rattle.ml_driver.proofs.stages.graph_of.Goals as goal
 
-pub explored-requires-clause-translated : goal.explored-requires-clause-translated
-explored-requires-clause-translated c =
+pub returns-in-Ok : goal.returns-in-Ok
+returns-in-Ok c =
     let p = c.args.problem.now in
     record {
       is_graph_of = c.in-Ok.ensures.graph;
