@@ -109,7 +109,7 @@ open_told false q text out x = refl
 open_told true q text out x = refl
 
 -- an answer stands beside a problem that is left open
-abbrev Apart : Question → List ℕ → (Status → Status → Type 0) → Type 1
+abbrev Apart : Question → List ℕ → (Status → Status → Type 0) → Type 0
 Apart q text R = (p : Problem) (more : List ℕ) (s t : Status) → IsProblem q text p → IsClosed q p → LeftOpen q text more
     → (s ≡ Undecided) ⊎ (t ≡ Undecided) → R s t
 

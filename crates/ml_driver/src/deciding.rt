@@ -82,10 +82,10 @@ fn found(
     ensures { IfOk result (IsDecisionOf Way.Search _problem.now limit) }
 {
     match search(alloc, graph, limit) {
-        Ok(Found::Model(model)) => {
+        Ok(Found::Model(held)) => {
             // whoever asks a structure for its states learns what its type keeps
-            let _states = model.structure.states();
-            Ok(Decision::Satisfiable(model))
+            let _states = held.structure.states();
+            Ok(Decision::Satisfiable(held))
         }
         Ok(Found::Refutation(refutation)) => Ok(Decision::Unsatisfiable(refutation)),
         Err(SearchRefusal::Passed) => Ok(Decision::Undecided(Cause::Positions(limit))),

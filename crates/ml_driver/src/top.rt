@@ -1,5 +1,5 @@
 // The top call.
-ghost use Rattle.std.specs.Prelude.{map, IfOk, Some};
+ghost use Rattle.std.specs.Prelude.{◌≡◌, map, IfOk, Some};
 ghost use Rattle.std.specs.String.{string_bytes};
 ghost use Rattle.ml_driver.specs.Words as command_line;
 ghost use Rattle.ml_driver.specs.Run.{Ended, IsDue, IsWhole, Wrote};

@@ -1,0 +1,2 @@
+-- models have few edges
+pub mod FewEdges
