@@ -34,7 +34,7 @@ module _ (m : Structure) (ok : IsStructure m) where
     longer = x.class ++ v ∷ []
 
     old : (s : ℕ) → s < k → class_of longer s ≡ class_of x.class s
-    old s s_low = get_or_append_left x.class (v ∷ []) s 0 (omega (arith, s_low, x.long))
+    old s s_low = get_or_append_left x.class (v ∷ []) 0 s (omega (arith, s_low, x.long))
 
     new : class_of longer k ≡ v
     new = get_or_push x.class v 0 k x.long

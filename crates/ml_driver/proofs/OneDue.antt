@@ -15,7 +15,7 @@ use Rattle.ml_model_check.specs.Checked.{IsCheckedAs}
 use Rattle.ml_model_check.specs.declared.checked.Checked.{Checked}
 use Rattle.ml_model_check.specs.declared.checked.Checked.TheVariants as checked
 use Rattle.ml_model_check.proofs.OneCheck.{one_check}
-use Rattle.ml_driver.specs.declared.command.Command.TheVariants.{Decide, Valid, CheckModel, CheckRefutation, Migrate, SolveGame, Determinise, Gen, Bench}
+use Rattle.ml_driver.specs.declared.command.Command.TheVariants.{Decide, Valid, CheckModel, CheckRefutation, Migrate, Quotient, SolveGame, Determinise, Gen, Bench}
 use Rattle.ml_driver.specs.declared.status.Status.{Status}
 use Rattle.ml_driver.specs.declared.status.Status.TheVariants.{Yes, No, Undecided, Words, Text}
 use Rattle.ml_driver.specs.Statuses.{longest_document, refusal_line}
@@ -32,6 +32,7 @@ use Rattle.ml_driver.proofs.AutomatonAnswers.{one_determinised}
 use Rattle.ml_driver.proofs.FamilyProblems.{one_family_problem}
 use Rattle.ml_driver.proofs.GameAnswers.{one_solved}
 use Rattle.ml_driver.proofs.Measures.{one_finding}
+use Rattle.ml_driver.proofs.QuotientAnswers.{one_quotient_due}
 use Rattle.ml_driver.specs.Laws.{AnswersAreExact, IsExact, OneDue, OneMeasure, says, open_at, satisfiable_at, unsatisfiable_at}
 
 -- ---- words that are no command
@@ -291,6 +292,7 @@ one_due (Some CheckRefutation) text s t out more x y =
     one_judged text s t (verdicts text s out x) (verdicts text t more y)
 one_due (Some Migrate) text s t out more x y =
     one_migrated text s t out more (migrates text s out x) (migrates text t more y)
+one_due (Some Quotient) text s t out more x y = (one_quotient_due text s t out more x y).0
 one_due (Some (SolveGame e)) text s t out more x y = one_solved e text s t out more x y
 one_due (Some (Determinise n)) text s t out more x y = (one_determinised n text s t out more x y).0
 one_due (Some (Gen f n)) text s t out more x y =
