@@ -44,3 +44,15 @@ pub mod ChosenStates
 pub mod Renaming
 -- the states from which an edge leads to a state, gone through
 pub mod Entering
+-- numbers that come in turn are told by which of them are equal
+pub mod OneRun
+-- a structure has one quotient
+pub mod OneQuotient
+-- bisimilarity is an equivalence
+pub mod Equivalent
+-- that a list of a given length has a property is decided
+pub mod FiniteSearch
+-- bisimilarity is decided
+pub mod DecidedBisimilar
+-- the states of each structure have classes
+pub mod SomeClasses

@@ -1,6 +1,7 @@
 -- The quotient, made of the classes of the states.
 --
 --   labels_more  == the labels of one state more, at its class
+--   same_truth   == truth values that follow from each other are the same
 --   in_range     == labels and edges of classes are those of states of the quotient
 --   merged       == what is built from them is the quotient
 --   some_states, parts_in_range, quotient_is == the same, as the program has the classes
@@ -75,7 +76,7 @@ labels_more m class n labels more are is c p = (there, back)
             (subst (λ d. IsMember (d, p) (map (at_class (class_of class n)) (row m n))) classes
             (member-map (at_class (class_of class n)) p (row m n) (member_of_contains p (row m n) in_row)))
 
-same_truth : (a b : Bool) → (a ≡ true → b ≡ true) → (b ≡ true → a ≡ true) → a ≡ b
+pub same_truth : (a b : Bool) → (a ≡ true → b ≡ true) → (b ≡ true → a ≡ true) → a ≡ b
 same_truth true b there back = sym (there refl)
 same_truth false true there back = back refl
 same_truth false false there back = refl

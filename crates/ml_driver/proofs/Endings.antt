@@ -12,7 +12,7 @@ use Rattle.ml_base.specs.Whole.{AppendsPart}
 use Rattle.ml_front.specs.declared.answer.Answer.{Answer}
 use Rattle.ml_front.specs.declared.answer.Answer.TheVariants as answer
 use Rattle.ml_driver.specs.declared.command.Command.{Command}
-use Rattle.ml_driver.specs.declared.command.Command.TheVariants.{Decide, Valid, Find, Prove, CheckModel, CheckRefutation, Migrate, SolveGame, Determinise, Gen, Bench}
+use Rattle.ml_driver.specs.declared.command.Command.TheVariants.{Decide, Valid, Find, Prove, CheckModel, CheckRefutation, Migrate, Quotient, SolveGame, Determinise, Gen, Bench}
 use Rattle.ml_driver.specs.declared.status.Status.{Status}
 use Rattle.ml_driver.specs.declared.status.Status.TheVariants.{Yes, No, Undecided, Words, Text, ReadFault, WriteFault, NoMemory}
 use Rattle.ml_driver.specs.Bench.{answer_of, status_of}
@@ -36,6 +36,7 @@ no_fault_due (Some (Prove l n)) text output due = due
 no_fault_due (Some CheckModel) text output due = due
 no_fault_due (Some CheckRefutation) text output due = due
 no_fault_due (Some Migrate) text output due = due
+no_fault_due (Some Quotient) text output due = due
 no_fault_due (Some (SolveGame e)) text output due = due
 no_fault_due (Some (Determinise n)) text output due = due
 no_fault_due (Some (Gen f n)) text output due = due
@@ -51,6 +52,7 @@ no_write_fault_due (Some (Prove l n)) text output due = due
 no_write_fault_due (Some CheckModel) text output due = due
 no_write_fault_due (Some CheckRefutation) text output due = due
 no_write_fault_due (Some Migrate) text output due = due
+no_write_fault_due (Some Quotient) text output due = due
 no_write_fault_due (Some (SolveGame e)) text output due = due
 no_write_fault_due (Some (Determinise n)) text output due = due
 no_write_fault_due (Some (Gen f n)) text output due = due
@@ -66,6 +68,7 @@ no_want_due (Some (Prove l n)) text output due = due
 no_want_due (Some CheckModel) text output due = due
 no_want_due (Some CheckRefutation) text output due = due
 no_want_due (Some Migrate) text output due = due
+no_want_due (Some Quotient) text output due = due
 no_want_due (Some (SolveGame e)) text output due = due
 no_want_due (Some (Determinise n)) text output due = due
 no_want_due (Some (Gen f n)) text output due = due
@@ -143,6 +146,7 @@ too_long_due CheckModel k text is long =
     as_document (document_by_length (past_limit longest_document k text is long))
 too_long_due CheckRefutation k text is long = document_by_length (past_limit longest_document k text is long)
 too_long_due Migrate k text is long = document_by_length (past_limit longest_document k text is long)
+too_long_due Quotient k text is long = document_by_length (past_limit longest_document k text is long)
 too_long_due (SolveGame e) k text is long = inl (past_limit longest_game k text is long)
 too_long_due (Determinise n) k text is long = inl (past_limit longest_automaton k text is long)
 too_long_due (Gen f n) k text is long = absurd (cc)

@@ -14,6 +14,10 @@ pub mod RefutationDocuments
 pub mod GameAnswers
 -- what is due for `determinise`
 pub mod AutomatonAnswers
+-- each structure has a quotient
+pub mod SomeQuotient
+-- what is due for `quotient`
+pub mod QuotientAnswers
 -- one status is due
 pub mod OneDue
 -- what is written is read back

@@ -18,7 +18,7 @@ use Rattle.ml_model_check.specs.Checked.{IsCheckedAs}
 use Rattle.ml_model_check.specs.declared.checked.Checked.{Checked}
 use Rattle.ml_model_check.specs.declared.checked.Checked.TheVariants as checked
 use Rattle.ml_model_check.proofs.OneCheck.{one_check}
-use Rattle.ml_driver.specs.declared.command.Command.TheVariants.{Decide, Valid, Find, Prove, CheckModel, CheckRefutation, Migrate, SolveGame, Determinise, Gen, Bench}
+use Rattle.ml_driver.specs.declared.command.Command.TheVariants.{Decide, Valid, Find, Prove, CheckModel, CheckRefutation, Migrate, Quotient, SolveGame, Determinise, Gen, Bench}
 use Rattle.ml_driver.specs.declared.status.Status.{Status}
 use Rattle.ml_driver.specs.declared.status.Status.TheVariants.{Yes, No, Undecided, Words, Text}
 use Rattle.ml_driver.specs.Statuses.{longest_document, refusal_line}
@@ -35,6 +35,7 @@ use Rattle.ml_driver.proofs.AutomatonAnswers.{one_determinised}
 use Rattle.ml_driver.proofs.FamilyProblems.{one_family_problem}
 use Rattle.ml_driver.proofs.GameAnswers.{one_solved}
 use Rattle.ml_driver.proofs.Measures.{one_finding}
+use Rattle.ml_driver.proofs.QuotientAnswers.{one_quotient_due}
 use Rattle.ml_driver.specs.Laws.{AgreeUnlessOpen, AnswersAreExact, IsExact, OneDue, OneMeasure, OneUnlessOpen, says, open_at, satisfiable_at, unsatisfiable_at}
 
 -- ---- words that are no command
@@ -340,6 +341,7 @@ one_due (Some CheckRefutation) text s t out more whole x y =
     one_judged text s t (verdicts text s out x) (verdicts text t more y)
 one_due (Some Migrate) text s t out more whole x y =
     one_migrated text s t out more (migrates text s out x) (migrates text t more y)
+one_due (Some Quotient) text s t out more whole x y = (one_quotient_due text s t out more x y).0
 one_due (Some (SolveGame e)) text s t out more whole x y = one_solved e text s t out more x y
 one_due (Some (Determinise n)) text s t out more whole x y = (one_determinised n text s t out more x y).0
 one_due (Some (Gen f n)) text s t out more whole x y =
@@ -358,6 +360,7 @@ one_unless_open (Some CheckModel) text s t out more x y = inl (one_due (Some Che
 one_unless_open (Some CheckRefutation) text s t out more x y =
     inl (one_due (Some CheckRefutation) text s t out more refl x y)
 one_unless_open (Some Migrate) text s t out more x y = inl (one_due (Some Migrate) text s t out more refl x y)
+one_unless_open (Some Quotient) text s t out more x y = inl (one_due (Some Quotient) text s t out more refl x y)
 one_unless_open (Some (SolveGame e)) text s t out more x y = inl (one_due (Some (SolveGame e)) text s t out more refl x y)
 one_unless_open (Some (Determinise n)) text s t out more x y =
     inl (one_due (Some (Determinise n)) text s t out more refl x y)

@@ -26,8 +26,9 @@ use Rattle.ml_driver.proofs.AutomatonAnswers.{on_automaton}
 use Rattle.ml_driver.proofs.FamilyProblems.{family_problem}
 use Rattle.ml_driver.proofs.GameAnswers.{on_game}
 use Rattle.ml_driver.proofs.Measures.{some_finding}
-use Rattle.ml_driver.specs.declared.command.Command.TheVariants.{Decide, Valid, Find, Prove, CheckModel, CheckRefutation, Migrate, SolveGame, Determinise, Gen, Bench}
 use Rattle.ml_driver.specs.declared.question.Way.TheVariants.{WholeGame, Search}
+use Rattle.ml_driver.proofs.QuotientAnswers.{on_structure}
+use Rattle.ml_driver.specs.declared.command.Command.TheVariants.{Decide, Valid, Find, Prove, CheckModel, CheckRefutation, Migrate, Quotient, SolveGame, Determinise, Gen, Bench}
 use Rattle.ml_driver.specs.declared.status.Status.{Status}
 use Rattle.ml_driver.specs.declared.status.Status.TheVariants.{Yes, No, Undecided, Words, Text}
 use Rattle.ml_driver.specs.Statuses.{longest_document, refused_words, refused_length, holds_line, fails_line, open_line, not_total_line, not_a_word_line, accepted_line, rejected_line, refused_document}
@@ -135,6 +136,7 @@ some_due (Some (Prove l n)) text small = some_answer (for_negation Search l n) t
 some_due (Some CheckModel) text small = on_document text
 some_due (Some CheckRefutation) text small = on_refutation text
 some_due (Some Migrate) text small = to_migrate text
+some_due (Some Quotient) text small = on_structure text
 some_due (Some (SolveGame e)) text small = on_game e text
 some_due (Some (Determinise n)) text small = on_automaton n text
 some_due (Some (Gen f n)) text small = (Yes, (gen_text f n, refl))

@@ -13,6 +13,11 @@
 --                       yes, or no, or is due for `decide` (`valid`), with the same output
 --   OneMeasure       == one output is due at most for `gen` and `bench`
 --   SameWinners      == both engines of `solve-game` name the same winners
+--   OneQuotientDue   == one status and one output are due at most for `quotient`
+--   QuotientsAreRead == what is written for `quotient` is read as a document of the same problem, with the quotient
+--   WrittenHoldsTheSame == where its logic speaks of the structure, the problem holds at the start that is written exactly
+--                       where it holds at the start that was read
+--   QuotientsAreCheckedAlike == what `check-model` answers of such a document, it answers of what is written
 --   OneAutomatonDue  == one status and one output are due at most for `determinise`
 --   OneAutomatonWritten == one automaton is written of a text at most, whatever the limit
 --   WrittenAcceptsTheSame == it accepts the words of valuations that the text's automaton accepts
@@ -33,13 +38,14 @@ use Rattle.ml_gen.specs.declared.family.Family.{Family}
 use Rattle.ml_graph.specs.Graph.{Graph, IsGraph}
 use Rattle.ml_product.specs.Arena.{Arena, IsArenaOf}
 use Rattle.ml_product.specs.DecisionGame.{HasMoreThan}
-use Rattle.ml_driver.specs.declared.command.Command.TheVariants.{Decide, Valid, Find, Prove, CheckModel, CheckRefutation, Determinise, Gen, Bench}
+use Rattle.ml_driver.specs.declared.command.Command.TheVariants.{Decide, Valid, Find, Prove, CheckModel, CheckRefutation, Quotient, Determinise, Gen, Bench}
 use Rattle.ml_driver.specs.declared.command.Command.{Command}
-use Rattle.ml_model_check.specs.Checked.{Shows}
+use Rattle.ml_bisim.specs.Quotient.{class_of}
+use Rattle.ml_model_check.specs.Checked.{IsDocument, Shows, SpeaksOf}
 use Rattle.ml_model_check.specs.declared.checked.Checked.TheVariants.{Holds}
 use Rattle.ml_front.specs.Graphs.{HasLargeClosure, IsGraphOf}
 use Rattle.ml_front.specs.Logics.{IsWellFormed}
-use Rattle.ml_front.specs.Problems.{IsSatisfiable}
+use Rattle.ml_front.specs.Problems.{HoldsAt, IsSatisfiable}
 use Rattle.ml_front.specs.declared.logic.Logic.{Logic}
 use Rattle.ml_front.specs.declared.problem.Problem.{Problem}
 use Rattle.ml_front.specs.declared.problem.TheConstants.{MOST_NODES}
@@ -55,6 +61,7 @@ use Rattle.ml_driver.specs.declared.status.Status.TheVariants.{Yes, No, Undecide
 use Rattle.ml_driver.specs.Decision.{IsAnswered, IsClosed, IsProblem, Refuted, Satisfied, StaysOpen}
 use Rattle.ml_driver.specs.declared.question.Question.{Question}
 use Rattle.ml_driver.specs.declared.status.Status.{Status}
+use Rattle.ml_driver.specs.Quotients.{IsReduced}
 use Rattle.ml_driver.specs.Run.{IsDue, IsWhole}
 use Rattle.ml_driver.specs.Statuses.{accepted_line, holds_line}
 use Rattle.ml_driver.specs.Words.{command_of}
@@ -173,6 +180,28 @@ abbrev pub SameWinners : Type 0
 SameWinners = (d e : Engine) (text out more : List ℕ) (x : IsSolved d text out) (y : IsSolved e text more)
     → (x.named ≡ y.named)
     × ((v : ℕ) → v < size x.named.game → winner_at x.solution.winner v ≡ winner_at y.solution.winner v)
+
+abbrev pub OneQuotientDue : Type 0
+OneQuotientDue = (text : List ℕ) (s t : Status) (out more : List ℕ)
+    → IsDue (Some Quotient) text s out
+    → IsDue (Some Quotient) text t more
+    → (s ≡ t) × (out ≡ more)
+
+abbrev pub QuotientsAreRead : Type 0
+QuotientsAreRead = (text out : List ℕ) (x : IsReduced text out)
+    → IsDocument out x.problem x.quotient (class_of x.class x.start)
+
+abbrev pub WrittenHoldsTheSame : Type 0
+WrittenHoldsTheSame = (text out : List ℕ) (x : IsReduced text out) → SpeaksOf x.problem x.structure
+    → SpeaksOf x.problem x.quotient
+    × (HoldsAt x.structure x.start x.problem ↔ HoldsAt x.quotient (class_of x.class x.start) x.problem)
+
+-- where the logic of the problem speaks of the structure that was read
+abbrev pub QuotientsAreCheckedAlike : Type 0
+QuotientsAreCheckedAlike = (text out : List ℕ) (x : IsDue (Some Quotient) text Yes out)
+    → SpeaksOf x.1.problem x.1.structure
+    → IsWhole out
+    → (s : Status) (line : List ℕ) → IsDue (Some CheckModel) text s line → IsDue (Some CheckModel) out s line
 
 abbrev pub OneAutomatonDue : Type 0
 OneAutomatonDue = (n : ℕ) (text : List ℕ) (s t : Status) (out more : List ℕ)

@@ -4,6 +4,8 @@ pub mod Words
 pub mod Documents
 -- the exit statuses
 pub mod Statuses
+-- documents with a structure made smaller
+pub mod Quotients
 -- parity games that are solved
 pub mod Games
 -- automata that are made deterministic

@@ -38,13 +38,14 @@ use Rattle.ml_model_check.specs.declared.checked.Checked.TheVariants.{Holds, Fai
 use Rattle.ml_refute_check.specs.Documents as refuted
 use Rattle.ml_refute_check.specs.Documents.{IsAcceptedDocument, IsMigrated, IsRejectedAt, HoldsNowhere}
 use Rattle.ml_driver.specs.declared.command.Command.{Command}
-use Rattle.ml_driver.specs.declared.command.Command.TheVariants.{Decide, Valid, Find, Prove, CheckModel, CheckRefutation, Migrate, SolveGame, Determinise, Gen, Bench}
+use Rattle.ml_driver.specs.declared.command.Command.TheVariants.{Decide, Valid, Find, Prove, CheckModel, CheckRefutation, Migrate, Quotient, SolveGame, Determinise, Gen, Bench}
 use Rattle.ml_driver.specs.declared.status.Status.{Status}
 use Rattle.ml_driver.specs.declared.status.Status.TheVariants.{Yes, No, Undecided, Words, Text, ReadFault, WriteFault, NoMemory}
 use Rattle.ml_driver.specs.Automata.{IsRefusedAutomaton, IsWrittenFor, PassesLimit, StandsForOne}
 use Rattle.ml_driver.specs.Bench.{IsBenched, gen_text}
 use Rattle.ml_driver.specs.Decision.{IsAnswered}
 use Rattle.ml_driver.specs.Games.{IsSolved, IsRefusedGame}
+use Rattle.ml_driver.specs.Quotients.{IsReduced}
 use Rattle.ml_driver.specs.declared.question.Question.{Question}
 use Rattle.ml_driver.specs.declared.question.Way.{Way}
 use Rattle.ml_driver.specs.declared.question.Way.TheVariants.{WholeGame, Search}
@@ -131,6 +132,8 @@ IsDue (Some CheckRefutation) text No out = (length text ≤ longest_document) ×
 IsDue (Some CheckRefutation) text Text out = IsRefusedDocument (refuted.IsDocumentFault text) text out
 IsDue (Some Migrate) text Yes out = (length text ≤ longest_document) × IsMigrated text out
 IsDue (Some Migrate) text Text out = IsRefusedDocument (refuted.IsDocumentFault text) text out
+IsDue (Some Quotient) text Yes out = (length text ≤ longest_document) × IsReduced text out
+IsDue (Some Quotient) text Text out = IsRefusedDocument (shown.IsDocumentFault text) text out
 IsDue (Some (SolveGame e)) text Yes out = IsSolved e text out
 IsDue (Some (SolveGame e)) text Text out = IsRefusedGame text out
 IsDue (Some (Determinise n)) text Yes out = StandsForOne text (λ a. IsWrittenFor a n out)

@@ -27,7 +27,7 @@ use Rattle.ml_front.specs.declared.problem.TheConstants.{MOST_NODES}
 use Rattle.ml_hoa.specs.declared.limits.TheConstants.{LONGEST_AUTOMATON_TEXT}
 use Rattle.ml_pgsolver.specs.declared.limits.TheConstants.{LONGEST_GAME_TEXT}
 use Rattle.ml_driver.specs.declared.command.Command.{Command}
-use Rattle.ml_driver.specs.declared.command.Command.TheVariants.{Decide, Valid, Find, Prove, CheckModel, CheckRefutation, Migrate, SolveGame, Determinise, Gen, Bench}
+use Rattle.ml_driver.specs.declared.command.Command.TheVariants.{Decide, Valid, Find, Prove, CheckModel, CheckRefutation, Migrate, Quotient, SolveGame, Determinise, Gen, Bench}
 use Rattle.ml_driver.specs.declared.command.TheConstants.{LONGEST_TEXT, LONGEST_DOCUMENT}
 use Rattle.ml_driver.specs.declared.status.Status.{Status}
 use Rattle.ml_driver.specs.declared.status.Status.TheVariants.{Yes, No, Undecided, Words, Text, ReadFault, WriteFault, NoMemory}
@@ -65,6 +65,7 @@ longest_input (Prove l n) = Some longest_text
 longest_input CheckModel = Some longest_document
 longest_input CheckRefutation = Some longest_document
 longest_input Migrate = Some longest_document
+longest_input Quotient = Some longest_document
 longest_input (SolveGame e) = Some longest_game
 longest_input (Determinise n) = Some longest_automaton
 longest_input (Gen f n) = None

@@ -136,7 +136,7 @@ fn rejected(alloc: Global, number: u64, rule: u32) -> Result<Vec<u8>, NoMemory>
     Ok(line)
 }
 
-fn refused_document(alloc: Global, fault: DocFault) -> Result<Vec<u8>, NoMemory>
+pub(crate) fn refused_document(alloc: Global, fault: DocFault) -> Result<Vec<u8>, NoMemory>
     ensures { IfOk result (λ line. line.items ≡ statuses.refused_document fault) }
 {
     let mut line = Vec::new(alloc);

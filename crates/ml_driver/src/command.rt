@@ -40,6 +40,8 @@ pub enum Command {
     CheckRefutation,
     /// `migrate`: the document with a refutation on the input, in version 2.
     Migrate,
+    /// `quotient`: the document with a structure on the input, with the quotient of the structure.
+    Quotient,
     /// `solve-game ENGINE`: who wins each vertex of the parity game on the input, and by which moves?
     SolveGame { engine: Engine },
     /// `determinise`: the deterministic automaton of the Büchi automaton on the input, which may have as many states as the
@@ -79,9 +81,8 @@ impl Command {
             | Command::Valid { .. }
             | Command::Find { .. }
             | Command::Prove { .. } => Some(LONGEST_TEXT),
-            Command::CheckModel | Command::CheckRefutation | Command::Migrate => {
-                Some(LONGEST_DOCUMENT)
-            }
+            Command::CheckModel | Command::CheckRefutation | Command::Migrate | Command::Quotient =>
+                Some(LONGEST_DOCUMENT),
             Command::SolveGame { .. } => Some(LONGEST_GAME_TEXT as u64),
             Command::Determinise { .. } => Some(LONGEST_AUTOMATON_TEXT as u64),
             Command::Gen { .. } | Command::Bench { .. } => None,
@@ -287,6 +288,8 @@ fn bare_by(command: &str) -> Option<Command>
         Some(Command::CheckRefutation)
     } else if command == "migrate" {
         Some(Command::Migrate)
+    } else if command == "quotient" {
+        Some(Command::Quotient)
     } else {
         None
     }

@@ -1,7 +1,7 @@
 // What holds of what is due by its definition alone: the functions do nothing, their contracts are the theorems.
 ghost use Rattle.std.specs.Prelude.{◌≡◌, ◌+◌, ◌^◌};
 ghost use Rattle.ml_driver.specs.declared.command.TheConstants.{DEFAULT_LIMIT, GREATEST_LIMIT, LONGEST_DOCUMENT, LONGEST_NUMBER, LONGEST_TEXT};
-ghost use Rattle.ml_driver.specs.Laws.{AnswersAreExact, DecidedAreChecked, DecideIsChecked, FindIsChecked, FindsAsDecided, GraphsFit, OneAutomatonDue, OneAutomatonWritten, OneDue, OneMeasure, OneUnlessOpen, ProveIsChecked, ProvesAsDecided, RefutedAreAccepted, SameWinners, SomeDue, SomeDueForWords, SomeGame, ValidIsChecked, WrittenAcceptsTheSame};
+ghost use Rattle.ml_driver.specs.Laws.{AnswersAreExact, DecideIsChecked, DecidedAreChecked, FindIsChecked, FindsAsDecided, GraphsFit, OneAutomatonDue, OneAutomatonWritten, OneDue, OneMeasure, OneQuotientDue, OneUnlessOpen, ProveIsChecked, ProvesAsDecided, QuotientsAreCheckedAlike, QuotientsAreRead, RefutedAreAccepted, SameWinners, SomeDue, SomeDueForWords, SomeGame, ValidIsChecked, WrittenAcceptsTheSame, WrittenHoldsTheSame};
 
 /// For each command but `find` and `prove`, for words that are none, and for each input exactly one status is due: some
 /// status with some output, and no other status. For `find` and `prove` some status is due too, and two that are due are the
@@ -68,6 +68,16 @@ pub fn some_game()
 /// Whichever engine solves the game of a text: the text stands for one game, and the winners are the same.
 pub fn same_winners()
     ensures { SameWinners }
+{}
+
+/// For `quotient` one status is due, with one output. What is written is a document of the same problem with the quotient of
+/// the structure; and where the problem's logic speaks of the structure, the problem holds at the start of the one exactly
+/// where it holds at the start of the other. So `check-model` answers of what is written what it answers of what was read.
+pub fn quotients_say_the_same()
+    ensures due { OneQuotientDue }
+    ensures read { QuotientsAreRead }
+    ensures same { WrittenHoldsTheSame }
+    ensures checked { QuotientsAreCheckedAlike }
 {}
 
 /// For `determinise` one status is due, with one output. Of a text one automaton is written at most, whatever the limit, and

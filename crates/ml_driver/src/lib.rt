@@ -3,8 +3,8 @@
 // `run` reads the words, then the source to its end, computes the answer as a value, makes its whole output as bytes,
 // and only then writes. Its contract (`specs/Run.antt`) says which status and output are due, and what each status
 // leaves behind; what the answers of `decide` and `valid` mean, in any of the four logics, stands in
-// `specs/Decision.antt`, what `solve-game` answers in `specs/Games.antt`, and what `determinise` answers in
-// `specs/Automata.antt`. `Status::code` is the number with which the program ends. `laws` says that one status is due for all
+// `specs/Decision.antt`, what `quotient` answers in `specs/Quotients.antt`, what `solve-game` answers in `specs/Games.antt`,
+// and what `determinise` answers in `specs/Automata.antt`. `Status::code` is the number with which the program ends. `laws` says that one status is due for all
 // words and each input, that answers are exact, and that what is written is found to be right.
 //
 // Below stand all crates that it calls; above stands only the program `mlsolver`.
@@ -24,6 +24,7 @@ mod input;
 pub mod laws;
 mod output;
 mod question;
+mod quotienting;
 mod solving;
 mod stages;
 mod status;

@@ -13,6 +13,7 @@ use crate::determinising::determinise_text;
 use crate::input::input_of;
 use crate::output::Output;
 use crate::question::{Question, Way};
+use crate::quotienting::quotient_document;
 use crate::solving::solve_game;
 use crate::{Command, Status, command_of};
 use ml_base::{NoMemory, ReadRefusal, Sink, Source, write_all};
@@ -31,11 +32,13 @@ use std::alloc::Global;
 ///   the start of its structure, and where it doesn't; of `check-refutation` where the document's refutation is accepted,
 ///   and where it isn't; of `bench` where the family's formula is satisfiable, and where it isn't, with its occurrences,
 ///   the nodes of its graph and the positions of its game counted; `Yes` of `migrate` with the document that is written
-///   of the same refutation, of `solve-game` with the text of a solution, of `determinise` with the text of the
+///   of the same refutation, of `quotient` with the document of the same problem that has the quotient of the structure and
+///   the class of the start, of `solve-game` with the text of a solution, of `determinise` with the text of the
 ///   deterministic automaton, and of `gen` with the text of the family's formula;
 /// - `Undecided` of `decide`, `valid` and `bench` exactly where the closure of the problem has too many nodes, or the
-///   decision game passes the limit; of `find` and `prove` only there; of `check-model` exactly where the closure has too many nodes, on a structure of which
-///   the logic speaks; of `determinise` exactly where the deterministic automaton has more states than the limit;
+///   decision game passes the limit; of `find` and `prove` only there; of `check-model` exactly where the closure has too
+///   many nodes, on a structure of which the logic speaks; of `determinise` exactly where the deterministic automaton has
+///   more states than the limit;
 /// - `Words` exactly for words that are no command, `Text` exactly for input that the command refuses, both with one
 ///   line that says so.
 ///
@@ -102,6 +105,7 @@ fn outcome(alloc: Global, command: Command, text: &[u8]) -> Result<Output, NoMem
         Command::CheckModel => check_model(alloc, text),
         Command::CheckRefutation => check_refutation(alloc, text),
         Command::Migrate => migrate(alloc, text),
+        Command::Quotient => quotient_document(alloc, text),
         Command::SolveGame { engine } => solve_game(alloc, engine, text),
         Command::Determinise { limit } => determinise_text(alloc, limit, text),
         Command::Gen { family, n } => generate(alloc, family, n),

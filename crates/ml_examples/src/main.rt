@@ -4,7 +4,8 @@
 //
 // What is printed is each row whose answer is another, with what was answered, and for each file how many rows it has and
 // how many documents were written in them. Each document with an answer is read by the command that checks it, and has to
-// be found good; one that `migrate` writes has to be found as the one that it is written of.
+// be found good; one that `migrate` or `quotient` writes has to be
+// found as the one that it is written of.
 //
 //   answers  what the program answers, and what is said of a document by the command that checks it
 //   failure  why the rows were not all run
@@ -22,7 +23,7 @@ use std::fs;
 use std::io::Print;
 use std::rt::Files;
 
-const FILES: [&str; 17] = [
+const FILES: [&str; 18] = [
     "examples",
     "patterns",
     "words",
@@ -40,6 +41,7 @@ const FILES: [&str; 17] = [
     "refutations",
     "games",
     "automata",
+    "quotients",
 ];
 
 /// The rows of a file, and how many they are.

@@ -131,7 +131,7 @@ fn is_checked(
         None => Ok(true),
         Some(command) => {
             counts.documents = counts.documents.saturating_add(1);
-            let wanted = if row.words.as_str() == "migrate" {
+            let wanted = if matches!(row.words.as_str(), "migrate" | "quotient") {
                 answer_to(alloc, command, &row.input)?.status
             } else {
                 0

@@ -4,6 +4,7 @@
 //   determinising_tests   texts with the texts of their deterministic automata
 //   limit_tests           labels and texts at the limits, and past them
 //   reason                why a text is refused, for tables
+//   random_tests          automata that look random, on all short words
 //   reading_tests         texts with the automata that they stand for
 //   refusal_tests         texts with the places where they are refused
 #![tactic(auto)]
@@ -12,6 +13,8 @@
 mod determinising_tests;
 #[cfg(test)]
 mod limit_tests;
+#[cfg(test)]
+mod random_tests;
 #[cfg(test)]
 mod reading_tests;
 #[cfg(test)]

@@ -1,18 +1,13 @@
 // Checking a document.
 ghost use Rattle.std.specs.Prelude.{IfOk};
-ghost use Rattle.ml_front.specs.HeadRules.{IsHead};
-ghost use Rattle.ml_front.specs.declared.answer.Answer.TheVariants.{Satisfiable};
-ghost use Rattle.ml_model_check.specs.Checked.{IsCheckedAs};
+ghost use Rattle.ml_model_check.specs.Checked.{IsCheckedAs, IsDocument};
 
 use crate::check_refusal::CheckRefusal;
 use crate::checked::Checked;
+use crate::document::{ShownModel, read_document};
 use crate::holding::holds;
 use ml_base::{DocRefusal, NoMemory};
-use ml_front::{Answer, Head, read_head};
-use ml_kripke::read_model;
 use std::alloc::Global;
-
-const FIRST_BODY_LINE: u64 = 6;
 
 /// Does the problem of a document hold at the start of the document's structure?
 ///
@@ -23,8 +18,7 @@ const FIRST_BODY_LINE: u64 = 6;
 ///   in its sense, holds at the start;
 /// - `Fails` exactly where they are, none of these comes, and it doesn't;
 /// - `Unreadable` exactly where they are none, with the first bad line, counted from 1, and the lowest rule that this
-///   line breaks: of the head 1 where a line is missing or not of the kind that stands there, 2 where the formula is
-///   refused by its parser, 3 where the answer is another one; of the body 11 to 17, as `read_model` says;
+///   line breaks, as `read_document` says;
 /// - `NotTotal` exactly where they are, the formula's logic wants an edge by `_` from each state, and the structure has
 ///   a state without one, with the least such state;
 /// - `NotAWord` exactly where they are, the logic wants exactly one such edge from each state, and the structure has a state
@@ -39,24 +33,24 @@ const FIRST_BODY_LINE: u64 = 6;
 pub fn check_document(alloc: Global, bytes: &[u8]) -> Result<Checked, NoMemory>
     ensures { IfOk result (IsCheckedAs bytes.now) }
 {
-    match read_head(alloc, bytes, Answer::Satisfiable) {
-        Ok(head) => check_body(alloc, bytes, &head),
+    match read_document(alloc, bytes) {
+        Ok(shown) => check_shown(alloc, bytes, &shown),
         Err(DocRefusal::Fault(fault)) => Ok(Checked::Unreadable(fault)),
         Err(DocRefusal::NoMemory) => Err(NoMemory),
     }
 }
 
-// what is found behind the head
-fn check_body(alloc: Global, _bytes: &[u8], head: &Head<'_>) -> Result<Checked, NoMemory>
-    requires { IsHead Satisfiable _bytes.now head.now.version head.now.problem head.now.rest.now }
+// what is found of what the document shows
+fn check_shown(alloc: Global, _bytes: &[u8], shown: &ShownModel) -> Result<Checked, NoMemory>
+    requires { IsDocument _bytes.now shown.now.problem shown.now.model.structure shown.now.model.start }
     ensures { IfOk result (IsCheckedAs _bytes.now) }
 {
-    let model = match read_model(alloc, head.rest, FIRST_BODY_LINE) {
-        Ok(model) => model,
-        Err(DocRefusal::Fault(fault)) => return Ok(Checked::Unreadable(fault)),
-        Err(DocRefusal::NoMemory) => return Err(NoMemory),
-    };
-    match holds(alloc, &head.problem, &model.structure, model.start) {
+    match holds(
+        alloc,
+        &shown.problem,
+        &shown.model.structure,
+        shown.model.start,
+    ) {
         Ok(true) => Ok(Checked::Holds),
         Ok(false) => Ok(Checked::Fails),
         Err(CheckRefusal::NotTotal(state)) => Ok(Checked::NotTotal(state)),

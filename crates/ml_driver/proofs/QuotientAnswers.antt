@@ -1,0 +1,261 @@
+-- What is due for `quotient`: exactly one status with exactly one output, which says of the problem what was said before.
+--
+--   Reduces            == the text is too long, or refused, or a document of which this is written
+--   one_quotient_due   == one status is due at most, and one output
+--   on_structure       == some status is due, with some output
+--   named_quotient     == the names of a quotient are those of the structure
+--   quotients_are_read == what is written is read as a document of the same problem
+--   written_holds_the_same == it holds at the start exactly where it held
+--   carried            == so checking finds the same
+--   quotients_are_checked_alike == and `check-model` answers the same
+use Rattle.std.proofs.Common.{◌≡◌, ℕ, ◌<◌, ◌≤◌, ◌⊎◌, ◌↔◌, List, [], length, All, Contains, Some, inl, inr, refl, sym, ap, subst, ◌∙◌, ⊎_elim, arith}
+use Rattle.std.proofs.lemmas.Bool.{cases_lt}
+use Rattle.std.proofs.lemmas.List.Elements.{All-contains, All-from_get_or}
+use Rattle.ml_base.specs.Name.{IsName, IsAction}
+use Rattle.ml_base.specs.Structure.{Structure, IsStructure}
+use Rattle.ml_base.specs.declared.doc_fault.DocFault.{DocFault}
+use Rattle.ml_base.specs.declared.structure.Edge.{Edge}
+use Rattle.ml_base.specs.declared.version.Version.TheVariants.{Two}
+use Rattle.ml_lists.proofs.Member.{member-All}
+use Rattle.ml_lists.proofs.Members.{contains_of_member}
+use Rattle.ml_kripke.specs.Laws.{IsWritten}
+use Rattle.ml_kripke.specs.Ordered.{HasNames}
+use Rattle.ml_bisim.specs.Bisimilar.{HasEdge}
+use Rattle.ml_bisim.specs.Quotient.{IsQuotientOf, SomeEdge, class_of}
+use Rattle.ml_bisim.proofs.Classes.{class_low, some_state}
+use Rattle.ml_bisim.proofs.Labels.{listed, row}
+use Rattle.ml_bisim.proofs.Merged.{few_classes}
+use Rattle.ml_bisim.proofs.OneQuotient.{one_quotient}
+use Rattle.ml_bisim_problems.proofs.Carried.{admitted_kept, problems_carried}
+use Rattle.ml_front.specs.Logics.{IsWellFormed, logic_of}
+use Rattle.ml_front.specs.Problems.{HoldsAt}
+use Rattle.ml_front.specs.declared.problem.Problem.{Problem}
+use Rattle.ml_front.proofs.Graphs.{meaningful, never_both}
+use Rattle.ml_front.proofs.Logics.{parsed_well}
+use Rattle.ml_model_check.specs.Checked.{Finds, IsDocument, IsDocumentFault, Shows, SpeaksOf}
+use Rattle.ml_model_check.specs.declared.checked.Checked.{Checked}
+use Rattle.ml_model_check.specs.declared.checked.Checked.TheVariants as checked
+use Rattle.ml_model_check.proofs.OneCheck.{SomeDocument, SomeFault, document_fault, document_or_fault, one_document, one_fault}
+use Rattle.ml_model_check.proofs.ReadBack.{documents_read_back}
+use Rattle.ml_driver.specs.Documents.{satisfiable_document}
+use Rattle.ml_driver.specs.Laws.{OneQuotientDue, QuotientsAreCheckedAlike, QuotientsAreRead, WrittenHoldsTheSame}
+use Rattle.ml_driver.specs.Quotients.{IsReduced}
+use Rattle.ml_driver.specs.Run.{IsDue, IsRefusedDocument, IsRefusedModel, IsUnreadable, IsWhole, as_document, by_deadlock, by_fork, document_by_length, by_line}
+use Rattle.ml_driver.specs.Statuses.{longest_document, refused_document, refused_length}
+use Rattle.ml_driver.specs.declared.command.Command.TheVariants.{CheckModel, Quotient}
+use Rattle.ml_driver.specs.declared.status.Status.{Status}
+use Rattle.ml_driver.specs.declared.status.Status.TheVariants.{Yes, No, Undecided, Text}
+use Rattle.ml_driver.proofs.SomeQuotient.{some_quotient}
+
+-- ---- one status, one output
+
+-- what comes of a text
+data Reduces (text out : List ℕ) : Status → Type 0 where
+  past_length : longest_document < length text → out ≡ refused_length → Reduces text out Text
+  unreadable : length text ≤ longest_document → IsUnreadable (IsDocumentFault text) out → Reduces text out Text
+  reduced : length text ≤ longest_document → IsReduced text out → Reduces text out Yes
+
+refused : (text out : List ℕ) → IsRefusedDocument (IsDocumentFault text) text out → Reduces text out Text
+refused text out (document_by_length long) = past_length long.0 long.1
+refused text out (by_line short r) = unreadable short r
+
+reduces : (text : List ℕ) (s : Status) (out : List ℕ) → IsDue (Some Quotient) text s out → Reduces text out s
+reduces text Yes out due = reduced due.0 due.1
+reduces text Text out due = refused text out due
+reduces text _ out due = absurd due
+
+read_or_refused : (text out more : List ℕ) → IsReduced text out → IsUnreadable (IsDocumentFault text) more → ⊥
+read_or_refused text out more x r =
+    document_fault text x.problem x.structure x.start r.fault x.is_document r.is_fault
+
+one_line : (text out more : List ℕ) (r : IsUnreadable (IsDocumentFault text) out)
+    (w : IsUnreadable (IsDocumentFault text) more) → out ≡ more
+one_line text out more r w =
+    r.is_written ∙ ap refused_document (one_fault text r.fault w.fault r.is_fault w.is_fault) ∙ sym w.is_written
+
+one_reduced : (text out more : List ℕ) → IsReduced text out → IsReduced text more → out ≡ more
+one_reduced text out more x y =
+    let same =
+    one_document text y.problem x.problem y.structure x.structure y.start x.start y.is_document x.is_document in
+    let other = subst (λ m. IsQuotientOf m y.class y.quotient) same.1.0 y.is_quotient in
+    let one = one_quotient x.structure x.quotient y.quotient x.class y.class x.is_quotient other in
+    let start = ap (class_of x.class) (sym same.1.1) ∙ ap (λ c. class_of c y.start) one.0 in
+    x.is_written
+    ∙ ap (λ p. satisfiable_document p x.quotient (class_of x.class x.start)) (sym same.0)
+    ∙ ap (λ q. satisfiable_document y.problem q (class_of x.class x.start)) one.1
+    ∙ ap (satisfiable_document y.problem y.quotient) start
+    ∙ sym y.is_written
+
+same_way : (text out more : List ℕ) (s t : Status) → Reduces text out s → Reduces text more t → (s ≡ t) × (out ≡ more)
+same_way text out more s t (past_length long is) (past_length also line) = (refl, is ∙ sym line)
+same_way text out more s t (past_length long is) (unreadable short r) = absurd (omega (arith, long, short))
+same_way text out more s t (past_length long is) (reduced short y) = absurd (omega (arith, long, short))
+same_way text out more s t (unreadable short r) (past_length long is) = absurd (omega (arith, long, short))
+same_way text out more s t (unreadable short r) (unreadable fits w) = (refl, one_line text out more r w)
+same_way text out more s t (unreadable short r) (reduced fits y) = absurd (read_or_refused text more out y r)
+same_way text out more s t (reduced short x) (past_length long is) = absurd (omega (arith, long, short))
+same_way text out more s t (reduced short x) (unreadable fits w) = absurd (read_or_refused text out more x w)
+same_way text out more s t (reduced short x) (reduced fits y) = (refl, one_reduced text out more x y)
+
+pub one_quotient_due : OneQuotientDue
+one_quotient_due text s t out more x y = same_way text out more s t (reduces text s out x) (reduces text t more y)
+
+-- ---- some status
+
+abbrev Due : List ℕ → Type 0
+Due text = (s : Status) × ((out : List ℕ) × IsDue (Some Quotient) text s out)
+
+of_document : (text : List ℕ) (p : Problem) (m : Structure) (start : ℕ) → length text ≤ longest_document
+    → IsDocument text p m start
+    → Due text
+of_document text p m start short is =
+    let q = some_quotient m is.is_written.is_structure in (
+      Yes,
+      (
+        satisfiable_document p q.structure (class_of q.class start),
+        (
+          short,
+          record {
+            problem = p;
+            structure = m;
+            start = start;
+            quotient = q.structure;
+            class = q.class;
+            is_document = is;
+            is_quotient = q.is_quotient;
+            is_written = refl;
+          },
+        ),
+      ),
+    )
+
+pub on_structure : (text : List ℕ) → Due text
+on_structure text =
+    ⊎_elim
+    (λ (long : longest_document < length text). (Text, (refused_length, document_by_length (long, refl))))
+    (λ (short : length text ≤ longest_document). by_reading short (document_or_fault text))
+    (cases_lt longest_document (length text))
+  where
+    by_reading : length text ≤ longest_document → SomeDocument text ⊎ SomeFault text → Due text
+    by_reading short (inl (p, m, s, is)) = of_document text p m s short is
+    by_reading short (inr (fault, found)) =
+        (Text, (refused_document fault, by_line short (record { fault = fault; is_fault = found; is_written = refl })))
+
+-- ---- names
+
+module _ (m q : Structure) (class : List ℕ) (ok : IsStructure m) (names : HasNames m) (x : IsQuotientOf m class q) where
+  label_named : (c : ℕ) → c < q.states → (p : List ℕ) → Contains (row q c) p → IsName p
+  label_named c low p h =
+      let s = some_state m q class ok x c low in
+      let there = subst (λ d. Contains (row q d) p) (sym s.2) h in
+      let here = (listed m s.0 p).0 (sym (x.labels s.0 s.1 p) ∙ (listed q (class_of class s.0) p).1 there) in
+      All-contains IsName (row m s.0) p (names.labels_named s.0 [] (omega (arith, s.1, ok.labels_states))) here
+
+  action_named : (e : Edge) → Contains q.edges e → IsAction e.action
+  action_named e h = of_some ((x.edges e.source e.action e.target).0 h)
+    where
+      of_some : SomeEdge m class e.source e.action e.target → IsAction e.action
+      of_some some =
+          All-contains (λ (f : Edge). IsAction f.action) m.edges
+          (record { source = some.0; action = e.action; target = some.1 }) names.actions_named some.2
+
+  named_quotient : HasNames q
+  named_quotient = record {
+    labels_named =
+        All-from_get_or (All IsName) q.labels [] (λ c low.
+        member-All IsName (row q c) (λ p h.
+        label_named c (omega (arith, low, x.is_structure.labels_states)) p (contains_of_member p (row q c) h)));
+    actions_named = member-All (λ (e : Edge). IsAction e.action) q.edges (λ e h. action_named e (contains_of_member e q.edges h));
+  }
+
+-- ---- what is written
+
+module _ (text out : List ℕ) (x : IsReduced text out) where
+  is_well : IsWellFormed x.problem.formula
+  is_well = let h = x.is_document.has_head in parsed_well h.formula_text x.problem.formula h.is_parsed
+
+  can_be_written : IsWritten x.quotient (class_of x.class x.start)
+  can_be_written =
+      let old = x.is_document.is_written in
+      let few = few_classes x.structure x.quotient.states x.class x.is_quotient.classes in
+      record {
+        is_structure = x.is_quotient.is_structure;
+        has_names =
+            named_quotient x.structure x.quotient x.class old.is_structure old.has_names x.is_quotient;
+        fits = omega (arith, few, old.fits);
+        is_state = class_low x.structure x.quotient x.class old.is_structure x.is_quotient x.start old.is_state;
+      }
+
+  read_back : IsDocument out x.problem x.quotient (class_of x.class x.start)
+  read_back =
+      subst (λ t. IsDocument t x.problem x.quotient (class_of x.class x.start)) (sym x.is_written)
+      (documents_read_back Two x.problem x.quotient (class_of x.class x.start) is_well can_be_written
+      x.is_quotient.is_ordered)
+
+  module _ (speaks : SpeaksOf x.problem x.structure) where
+    speaks_too : SpeaksOf x.problem x.quotient
+    speaks_too =
+        admitted_kept x.structure x.quotient x.class x.is_document.is_written.is_structure x.is_quotient
+        (logic_of x.problem.formula) speaks
+
+    same_there : HoldsAt x.structure x.start x.problem ↔ HoldsAt x.quotient (class_of x.class x.start) x.problem
+    same_there =
+        problems_carried x.structure x.quotient x.class x.is_quotient x.problem
+        (meaningful x.problem.formula is_well) speaks x.start x.is_document.is_written.is_state
+
+    -- what checking finds of the document
+    found : (c : Checked) → Finds c x.problem x.structure x.start
+        → Finds c x.problem x.quotient (class_of x.class x.start)
+    found checked.Holds f = (speaks_too, f.1, same_there.0 f.2)
+    found checked.Fails f = (speaks_too, f.1, λ holds. f.2 (same_there.1 holds))
+    found checked.ClosureTooLarge f = (speaks_too, f.1)
+    found (checked.NotTotal state) f = absurd (never_both (logic_of x.problem.formula) x.structure state speaks (inl f))
+    found (checked.NotAWord state) f = absurd (never_both (logic_of x.problem.formula) x.structure state speaks (inr f))
+    found (checked.Unreadable fault) f = absurd f
+
+    finds_here : (c : Checked) → Shows text c → Finds c x.problem x.structure x.start
+    finds_here c shows =
+        let same =
+        one_document text shows.problem x.problem shows.structure x.structure shows.start x.start shows.is_document
+        x.is_document in
+        subst (λ s. Finds c x.problem x.structure s) same.1.1
+        (subst (λ m. Finds c x.problem m shows.start) same.1.0
+        (subst (λ p. Finds c p shows.structure shows.start) same.0 shows.finds))
+
+    carried : (c : Checked) → Shows text c → Shows out c
+    carried c shows = record {
+      problem = x.problem;
+      structure = x.quotient;
+      start = class_of x.class x.start;
+      is_document = read_back;
+      finds = found c (finds_here c shows);
+    }
+
+    -- `check-model` doesn't refuse the document
+    not_refused : (line : List ℕ) → length text ≤ longest_document → IsRefusedModel text line → ⊥
+    not_refused line short (as_document (document_by_length long)) = absurd (omega (arith, short, long.0))
+    not_refused line short (as_document (by_line fits r)) = read_or_refused text out line x r
+    not_refused line short (by_deadlock fits d) =
+        never_both (logic_of x.problem.formula) x.structure d.state speaks
+        (inl (finds_here (checked.NotTotal d.state) d.is_deadlock))
+    not_refused line short (by_fork fits d) =
+        never_both (logic_of x.problem.formula) x.structure d.state speaks
+        (inr (finds_here (checked.NotAWord d.state) d.is_fork))
+
+    alike : length text ≤ longest_document → IsWhole out → (s : Status) (line : List ℕ)
+        → IsDue (Some CheckModel) text s line
+        → IsDue (Some CheckModel) out s line
+    alike short whole Yes line due = (whole, (carried checked.Holds due.1.0, due.1.1))
+    alike short whole No line due = (whole, (carried checked.Fails due.1.0, due.1.1))
+    alike short whole Undecided line due = (whole, (carried checked.ClosureTooLarge due.1.0, due.1.1))
+    alike short whole Text line due = absurd (not_refused line short due)
+    alike short whole _ line due = absurd due
+
+pub quotients_are_read : QuotientsAreRead
+quotients_are_read text out x = read_back text out x
+
+pub written_holds_the_same : WrittenHoldsTheSame
+written_holds_the_same text out x speaks = (speaks_too text out x speaks, same_there text out x speaks)
+
+pub quotients_are_checked_alike : QuotientsAreCheckedAlike
+quotients_are_checked_alike text out x speaks whole s line due = alike text out x.1 speaks x.0 whole s line due

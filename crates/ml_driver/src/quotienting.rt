@@ -1,0 +1,45 @@
+// Documents with a structure made smaller: the same problem, with the quotient of the structure.
+ghost use Rattle.std.specs.Prelude.{◌≡◌, ◌≤◌, length, IfOk, Some};
+ghost use Rattle.ml_driver.specs.Quotients.{IsReduced};
+ghost use Rattle.ml_driver.specs.Run.{IsDue};
+ghost use Rattle.ml_driver.specs.Statuses.{longest_document};
+ghost use Rattle.ml_model_check.specs.Checked.{IsDocument};
+
+use crate::check::refused_document;
+use crate::documents::satisfiable;
+use crate::output::Output;
+use crate::{Command, Status};
+use ml_base::{DocRefusal, NoMemory};
+use ml_bisim::quotient;
+use ml_kripke::Model;
+use ml_model_check::{ShownModel, read_document};
+use std::alloc::Global;
+
+// what is due for `quotient` on a document
+pub(crate) fn quotient_document(alloc: Global, text: &[u8]) -> Result<Output, NoMemory>
+    requires { length text.now ≤ longest_document }
+    ensures { IfOk result (λ output. IsDue (Some Command.Quotient) text.now output.status output.bytes.items) }
+{
+    match read_document(alloc, text) {
+        Ok(shown) => Ok(Output {
+            status: Status::Yes,
+            bytes: reduced(alloc, text, &shown)?,
+        }),
+        Err(DocRefusal::Fault(fault)) => Ok(Output {
+            status: Status::Text,
+            bytes: refused_document(alloc, fault)?,
+        }),
+        Err(DocRefusal::NoMemory) => Err(NoMemory),
+    }
+}
+
+// the document with the quotient
+fn reduced(alloc: Global, _text: &[u8], shown: &ShownModel) -> Result<Vec<u8>, NoMemory>
+    requires { IsDocument _text.now shown.now.problem shown.now.model.structure shown.now.model.start }
+    ensures { IfOk result (λ output. IsReduced _text.now output.items) }
+{
+    let quotient = quotient(alloc, &shown.model.structure)?;
+    let start = quotient.class[shown.model.start as usize];
+    let model = Model::new(quotient.structure, start);
+    satisfiable(alloc, &shown.problem, &model)
+}
