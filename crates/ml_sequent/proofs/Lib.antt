@@ -44,3 +44,11 @@ pub mod PathCloses
 pub mod PathMeasures
 -- odd priorities, one after the other
 pub mod OddPriorities
+-- the nodes that a branch reached
+pub mod TrailNodes
+-- the search of a spread along a trail
+pub mod TrailSearches
+-- choices with a side taken back
+pub mod ChoicesWithout
+-- branches: what a choice keeps, and what taking it back brings
+pub mod BranchSpreads

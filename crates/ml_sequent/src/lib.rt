@@ -13,12 +13,14 @@
 // game, which asks these calls of each position, and the checker of refutations.
 #![tactic(auto)]
 
+mod branch;
 mod checking;
 mod children;
 mod choice;
 mod clashes;
 mod cycles;
 mod extending;
+mod growing;
 pub mod laws;
 mod levels;
 mod making;
@@ -30,7 +32,10 @@ mod sequent;
 mod sets;
 mod spreads;
 mod stepping;
+mod taken;
+mod trail;
 
+pub use branch::Branch;
 pub use choice::{Choice, Side};
 pub use clashes::{ClashCause, clash};
 pub use making::{spread, step};
