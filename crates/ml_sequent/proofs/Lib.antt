@@ -50,5 +50,7 @@ pub mod TrailNodes
 pub mod TrailSearches
 -- choices with a side taken back
 pub mod ChoicesWithout
--- branches: what a choice keeps, and what taking it back brings
+-- branches: what a choice keeps
 pub mod BranchSpreads
+-- what is asked of a branch is told by its trail
+pub mod BranchQuestions

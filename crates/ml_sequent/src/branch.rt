@@ -47,10 +47,10 @@ impl<'a> Model for Branch<'a> {
     ghost Value = { BranchList };
 
     ghost view = { λ a. record {
-        graph = a.phase;
-        sequent = a.sequent;
-        spread = spread_at a.trail.nodes a.choice;
-        before = earlier a.trail.nodes a.choice (reverse a.taken.items);
+      graph = a.phase;
+      sequent = a.sequent;
+      spread = spread_at a.trail.nodes a.choice;
+      before = earlier a.trail.nodes a.choice (reverse a.taken.items);
     } };
 
     ghost invariant = { λ a. HasPlaces a.phase a.trail };
@@ -93,12 +93,14 @@ impl<'a> Branch<'a> {
         ensures of { OnOk result (IsSpreadOf self.old.graph sequent [] self.new.spread) }
         ensures is_spread { OnOk result (IsSpread self.old.graph self.new.spread) }
     {
+        let graph = self.phase.graph();
+        let _size = graph.size();
         self.taken.clear();
         self.trail.back_to(0);
         self.choice = Choice::empty(self.alloc);
         self.sequent = sequent;
         reach_nodes(self.sequent.values(), &mut self.trail)?;
-        grow(self.phase.graph(), &self.choice, 0, &mut self.trail)
+        grow(graph, &self.choice, 0, &mut self.trail)
     }
 
     /// Chooses a side at an open or-node: of each sequent of which the spread is that before, it then is the spread under
@@ -118,10 +120,11 @@ impl<'a> Branch<'a> {
             → IsSpreadOf self.old.graph C (with_side self.old.spread.choice node side) self.new.spread) }
         ensures is_spread { OnOk result (IsSpread self.old.graph self.new.spread) }
     {
+        let graph = self.phase.graph();
+        let _size = graph.size();
         let first = self.trail.len();
         let place = self.choice.take(node, side)?;
         self.taken.push(Taken { place, first })?;
-        let graph = self.phase.graph();
         self.trail.reach(child_at(graph, node, side))?;
         grow(graph, &self.choice, first, &mut self.trail)
     }
@@ -225,7 +228,10 @@ impl<'a> Branch<'a> {
     fn has_pair(&self, positive: u32, negative: u32) -> bool
         ensures { IsTrue result ↔ IsCause self.now.graph self.now.spread (Pair positive negative) }
     {
-        if !self.trail.contains(positive) || !self.trail.contains(negative) {
+        if !self.trail.contains(positive) {
+            return false;
+        }
+        if !self.trail.contains(negative) {
             return false;
         }
         is_pair(self.phase.graph(), positive, negative)

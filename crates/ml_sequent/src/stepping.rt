@@ -154,7 +154,5 @@ pub(crate) fn step_by(
     ensures step { IfOk result (λ made. IsStep graph.now sequent.now spread.now diamond made.0 made.1) }
 {
     let choice = spread.choice();
-    step_along(
-        alloc, graph, levels, reach, sequent, choice, diamond,
-    )
+    step_along(alloc, graph, levels, reach, sequent, choice, diamond)
 }

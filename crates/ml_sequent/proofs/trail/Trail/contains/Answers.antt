@@ -9,9 +9,9 @@ pub returns-then-node-len-clause-reached : goal.returns-then-node-len-clause-rea
 returns-then-node-len-clause-reached c = (
   (λ h. absurd (cc)),
   (λ h.
-  let here = subst (λ (r : TrailList). IsMember c.args.node r.nodes) (sym c.self.view_is) h in
-  let low = member_low c.self.inside.places.items c.self.inside.nodes.items c.args.node c.self.invariant here in
-  absurd (omega arith)),
+      let here = subst (λ (r : TrailList). IsMember c.args.node r.nodes) (sym c.self.view_is) h in
+      let low = member_low c.self.inside.places.items c.self.inside.nodes.items c.args.node c.self.invariant here in
+      absurd (omega arith)),
 )
 
 pub returns-clause-reached : goal.returns-clause-reached
