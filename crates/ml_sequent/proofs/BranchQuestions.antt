@@ -6,8 +6,7 @@
 --   begun          == the spread of a sequent
 --   chosen_more    == the spread with a side more
 --   low_in         == nodes on the trail are nodes
-use Rattle.std.proofs.Common.{ℕ, ◌≡◌, ◌<◌, ◌↔◌, Bool, true, false, IsTrue, List, [], ◌∷◌, length, All, Result, Ok, Err, IfOk, OnOk, None, refl, sym, ap, ◌∙◌, subst, arith}
-use Rattle.ml_lists.specs.Ascending.{ascending}
+use Rattle.std.proofs.Common.{ℕ, ◌≡◌, ◌<◌, ◌↔◌, Bool, true, false, IsTrue, List, [], ◌∷◌, length, All, Result, Ok, Err, IfOk, OnOk, refl, sym, ap, ◌∙◌, subst}
 use Rattle.ml_lists.specs.Member.{IsMember}
 use Rattle.ml_lists.proofs.Ascending.{ascending-member, member-ascending}
 use Rattle.ml_lists.proofs.Member.{member-All}
@@ -16,7 +15,7 @@ use Rattle.ml_graph.specs.declared.node.Node.TheVariants as node
 use Rattle.ml_graph.specs.Graph.{Graph, IsGraph, size, node_at}
 use Rattle.ml_sequent.specs.declared.choice.Side.{Side}
 use Rattle.ml_sequent.specs.declared.clashes.ClashCause.TheVariants as cause
-use Rattle.ml_sequent.specs.Choice.{side_of, chosen, with_side}
+use Rattle.ml_sequent.specs.Choice.{chosen, with_side}
 use Rattle.ml_sequent.specs.Spread.{SpreadList, IsSpread, IsSpreadOf, IsCause, IsPair, IsOddCycle, IsOpenNode, IsOpenOr, is_diamond}
 use Rattle.ml_sequent.specs.Step.{IsDiamondOf}
 use Rattle.ml_sequent.specs.private.Tests.{is_false}

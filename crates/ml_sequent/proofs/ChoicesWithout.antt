@@ -4,8 +4,7 @@
 --   without_past     == no entry is removed behind the end
 --   without_inserted == what was inserted is removed
 --   without_is_choice == a choice without a side is a choice
-use Rattle.std.proofs.Common.{ℕ, zero, suc, ◌≡◌, ◌<◌, ◌≤◌, List, [], ◌∷◌, ◌++◌, length, take, drop, map, inl, inr, ap, refl, arith}
-use Rattle.ml_lists.specs.Ascending.{IsAscending}
+use Rattle.std.proofs.Common.{ℕ, zero, suc, ◌≡◌, ◌≤◌, List, [], ◌∷◌, ◌++◌, length, take, drop, map, inl, inr, ap, refl, arith}
 use Rattle.ml_lists.specs.Member.{IsMember}
 use Rattle.ml_sequent.specs.declared.choice.Side.{Side}
 use Rattle.ml_sequent.specs.Choice.{IsChoice}

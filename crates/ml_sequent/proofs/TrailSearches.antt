@@ -6,11 +6,10 @@
 --   search_over      == when all have
 --   grown_same, grown_more == the front of a trail stays
 --   trail_spread     == what has the nodes of a spread is the spread
-use Rattle.std.proofs.Common.{ℕ, ◌≡◌, ◌+◌, ◌<◌, ◌≤◌, ◌⊎◌, inl, inr, ⊎_elim, List, [], ◌∷◌, ◌++◌, length, get_or, take, refl, sym, ap, ◌∙◌, subst, arith}
+use Rattle.std.proofs.Common.{ℕ, ◌≡◌, ◌+◌, ◌<◌, ◌≤◌, ◌⊎◌, inl, inr, List, [], ◌∷◌, length, get_or, take, refl, sym, ap, ◌∙◌, subst, arith}
 use Rattle.std.proofs.Common.{length-append}
 use Rattle.std.proofs.lemmas.Bool.{cases_eq}
 use Rattle.std.proofs.lemmas.List.{get_or_append_left, take-append-le, take_all, length-take}
-use Rattle.ml_lists.specs.Ascending.{ascending}
 use Rattle.ml_lists.specs.Member.{IsMember}
 use Rattle.ml_lists.proofs.Ascending.{ascending-is, ascending-member, member-ascending}
 use Rattle.ml_lists.proofs.Member.{member-append, member-place, place-member}
@@ -23,7 +22,7 @@ use Rattle.ml_sequent.specs.Spread.{IsSpreadOf}
 use Rattle.ml_sequent.specs.private.Trails.{IsJoined, IsUnderway, HasSpread, IsGrown, spread_at}
 use Rattle.ml_sequent.specs.declared.choice.Side.{Side}
 use Rattle.std.proofs.Common.{None}
-use Rattle.ml_sequent.proofs.LocalWalks.{spread_is_least, stays_inside}
+use Rattle.ml_sequent.proofs.LocalWalks.{spread_is_least}
 use Rattle.ml_sequent.proofs.LongerSpreads.{children_new, new_child, longer_in}
 use Rattle.ml_sequent.proofs.TrailNodes.{joined_kept}
 

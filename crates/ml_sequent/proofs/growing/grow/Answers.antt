@@ -1,4 +1,4 @@
-use Rattle.std.proofs.Common.{ℕ, ◌≡◌, ◌<◌, ◌≤◌, ◌∙◌, length, subst, arith}
+use Rattle.std.proofs.Common.{◌<◌, ◌∙◌, length, subst, arith}
 use Rattle.ml_sequent.specs.LocalWalk.{children}
 use Rattle.ml_sequent.specs.private.Trails.{IsJoined}
 use Rattle.ml_sequent.proofs.TrailSearches.{grown_same, grown_more, search_stepped, search_over}

@@ -1,7 +1,7 @@
 use Rattle.std.proofs.Common.{List, ℕ, ◌∙◌, subst, arith}
 use Rattle.std.proofs.lemmas.List.{take_all}
 use Rattle.ml_sequent.specs.private.Trails.{IsJoined}
-use Rattle.ml_sequent.proofs.TrailNodes.{joined_none, joined_more}
+use Rattle.ml_sequent.proofs.TrailNodes.{joined_more}
 use Rattle.ml_sequent.proofs.growing.reach_nodes.Goals as goal
 
 pub reach-requires : goal.reach-requires

@@ -1,5 +1,4 @@
-use Rattle.std.proofs.Common.{rules, ℕ, ◌≡◌, ◌<◌, ◌∙◌, ◌↔◌, List, All, map, sym, ap, subst}
-use Rattle.ml_graph.specs.Graph.{size}
+use Rattle.std.proofs.Common.{rules, ℕ, ◌≡◌, ◌∙◌, ◌↔◌, List, map, sym, ap, subst}
 use Rattle.ml_lists.specs.Ascending.{ascending}
 use Rattle.ml_lists.specs.Member.{IsMember}
 use Rattle.ml_trace.specs.declared.letters.Triple.{Triple}

@@ -1,5 +1,5 @@
-use Rattle.std.proofs.Common.{ℕ, ◌≡◌, ◌<◌, List, ◌∷◌, [], OnOk, length, ap, sym, subst, ◌∙◌, reverse, arith}
-use Rattle.ml_graph.specs.Graph.{Graph, IsGraph, size, node_at}
+use Rattle.std.proofs.Common.{ℕ, ◌≡◌, ◌<◌, List, ◌∷◌, [], OnOk, ap, sym, subst, ◌∙◌, reverse}
+use Rattle.ml_graph.specs.Graph.{IsGraph, node_at}
 use Rattle.ml_sequent.specs.declared.taken.Taken.{Taken}
 use Rattle.ml_sequent.specs.Branch.{BranchList}
 use Rattle.ml_sequent.specs.Choice.{with_side}

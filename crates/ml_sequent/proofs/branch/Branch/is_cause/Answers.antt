@@ -2,7 +2,6 @@ use Rattle.std.proofs.Common.{rules, ◌≡◌, ◌↔◌, Bool, false, IfOk, Is
 use Rattle.ml_lists.proofs.Ascending.{ascending-member}
 use Rattle.ml_sequent.specs.Branch.{BranchList}
 use Rattle.ml_sequent.specs.Spread.{IsCause}
-use Rattle.ml_sequent.specs.declared.clashes.ClashCause.TheVariants as cause
 use Rattle.ml_sequent.specs.private.Trails.{spread_at}
 use Rattle.ml_sequent.proofs.BranchQuestions.{cycle_told, not_told}
 use Rattle.ml_sequent.proofs.branch.Branch.is_cause.Goals as goal

@@ -1,4 +1,4 @@
-use Rattle.std.proofs.Common.{rules, ℕ, ◌≡◌, ◌<◌, false, List, ◌∷◌, [], ◌++◌, IsTrue, length, set, sym, ap, subst, ◌∙◌, arith}
+use Rattle.std.proofs.Common.{rules, ℕ, ◌≡◌, ◌<◌, false, List, ◌∷◌, [], ◌++◌, length, set, sym, ap, subst, arith}
 use Rattle.ml_lists.specs.Member.{IsMember}
 use Rattle.ml_sequent.specs.private.Trails.{TrailList, ArePlaced, IsJoined}
 use Rattle.ml_sequent.proofs.TrailNodes.{placed_more, joined_new}
