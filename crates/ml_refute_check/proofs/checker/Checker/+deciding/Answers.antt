@@ -141,7 +141,7 @@ check_side-check_decision-requires t c =
 
 pub check_side-returns-clause-same : goal.check_side-returns-clause-same
 check_side-returns-clause-same t c =
-    taken_back c.args.branch.now c.choose.new.self c.check_decision-found.new.branch c.undo.new.self c.choose.ensures.graph
+    taken_back c.args.branch.now c.choose.new.self c.check_decision.new.branch c.undo.new.self c.choose.ensures.graph
     c.choose.ensures.sequent c.in_ok-choose.ensures.before c.in_ok-found.ensures.same c.undo.ensures
 
 pub check_side-returns-clause-found : goal.check_side-returns-clause-found
