@@ -9,7 +9,7 @@ use Rattle.ml_sequent.specs.Branch.{BranchList, undone, undone_to}
 use Rattle.ml_sequent.specs.Choice.{with_side}
 use Rattle.ml_sequent.specs.Spread.{IsSpread, IsSpreadOf}
 use Rattle.ml_refute_check.specs.private.Parts.{Question, Stands}
-use Rattle.ml_refute_check.proofs.BranchesFound.{LongerStands, longer_stands}
+use Rattle.ml_refute_check.proofs.BranchesFound.{longer_stands}
 
 -- behind a choice that is taken back a branch is as before
 pub taken_back : (old longer later back : BranchList)
