@@ -58,13 +58,6 @@ impl Trail {
         self.nodes[place]
     }
 
-    /// The nodes, in the order in which they were reached.
-    pub fn nodes(&self) -> &[u32]
-        ensures value { result.now ≡ self.now.nodes }
-    {
-        &self.nodes
-    }
-
     /// The nodes, ascending.
     ///
     /// Cost: `n log n` in them.
