@@ -31,7 +31,7 @@ use Rattle.ml_sequent.specs.declared.choice.Side.{Side}
 use Rattle.ml_sequent.specs.declared.choice.Side.TheVariants.{Left, Right}
 use Rattle.ml_sequent.specs.Choice.{side_of, with_side, chosen}
 use Rattle.ml_sequent.specs.LocalWalk.{LocalWalk}
-use Rattle.ml_sequent.specs.Spread.{SpreadList, IsSpreadOf, IsOpenOr, is_diamond}
+use Rattle.ml_sequent.specs.Spread.{SpreadList, IsSpreadOf, IsOpenOr}
 use Rattle.ml_sequent.specs.Step.{LeadsOut, IsTarget}
 use Rattle.ml_refutation.specs.Refutation.{Refutation, IsRefutation, IsEntry, Decision, Split, Clash, Go, IsDecided, IsMarkOf}
 use Rattle.ml_refutation.specs.GoStep.{GoStep, HasTransition}

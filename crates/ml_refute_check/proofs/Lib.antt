@@ -48,3 +48,5 @@ pub mod AlikeGraphs
 pub mod OneVerdict
 -- checking a document finds something
 pub mod SomeVerdict
+-- a side that was chosen on a branch is taken back
+pub mod TakenBack

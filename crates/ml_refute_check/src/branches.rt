@@ -1,53 +1,14 @@
-// What the branches of a decision are asked: of their spreads, of the step along a diamond, and of heights.
+// What the branches of a decision are asked: of the step along a diamond, and of heights.
 ghost use Rattle.std.specs.Prelude.{◌≡◌, ◌↔◌, ◌<◌, ◌/◌, ◌*◌, Bool, Some, length, All, IsTrue};
-ghost use Rattle.ml_graph.specs.Graph.{size};
 ghost use Rattle.ml_lists.specs.Ascending.{IsAscending};
 ghost use Rattle.ml_lists.specs.Member.{IsMember};
 ghost use Rattle.ml_parity.specs.HeightLists.{RowsFall};
 ghost use Rattle.ml_refutation.specs.Views.{mark_of};
-ghost use Rattle.ml_sequent.specs.Spread.{IsOpenNode, IsOpenOr, IsSpread, is_diamond};
-ghost use Rattle.ml_sequent.specs.Step.{IsDiamondOf};
 ghost use Rattle.ml_trace.specs.Automaton.{Leads};
 ghost use Rattle.ml_trace.specs.Marks.{priority};
 
 use crate::parts::has_number;
-use ml_graph::{ModalGraph, Node};
 use ml_refutation::Step;
-use ml_sequent::{Choice, Spread};
-
-/// Is this an open or-node of the spread?
-pub(crate) fn splits_open_or(graph: &ModalGraph, spread: &Spread, node: u32) -> bool
-    requires { IsSpread graph.now spread.now }
-    ensures { IsTrue result ↔ IsOpenOr graph.now spread.now node }
-{
-    spread.contains(node) && is_open(graph, spread.choice(), node)
-}
-
-/// Is this an or-node without a choice?
-fn is_open(graph: &ModalGraph, choice: &Choice, node: u32) -> bool
-    requires { node < size graph.now }
-    ensures { IsTrue result ↔ IsOpenNode graph.now choice.now node }
-{
-    match *graph.node(node) {
-        Node::Or { .. } => choice.side(node).is_none(),
-        _ => false,
-    }
-}
-
-/// Is this a diamond of the spread?
-pub(crate) fn leaves_by_diamond(graph: &ModalGraph, spread: &Spread, node: u32) -> bool
-    requires { IsSpread graph.now spread.now }
-    ensures { IsTrue result ↔ IsDiamondOf graph.now spread.now node }
-{
-    spread.contains(node) && is_diamond(*graph.node(node))
-}
-
-/// Is this a Diamond?
-fn is_diamond(node: Node) -> bool
-    ensures { result ≡ is_diamond node }
-{
-    matches!(node, Node::Diamond { .. })
-}
 
 /// Are all these nodes among the targets, which ascend?
 pub(crate) fn leads_within(targets: &[u32], next: &[u32]) -> bool

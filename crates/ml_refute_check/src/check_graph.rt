@@ -8,7 +8,7 @@ use crate::finding::{Fault, Finding};
 use ml_base::NoMemory;
 use ml_graph::ModalGraph;
 use ml_refutation::Refutation;
-use ml_sequent::LocalPhase;
+use ml_sequent::Branch;
 use std::alloc::Global;
 
 /// Does a refutation break no rule of acceptance in a graph? If it does, its first part that breaks one, with the
@@ -17,8 +17,8 @@ use std::alloc::Global;
 /// # Errors
 /// `NoMemory` alone.
 ///
-/// Cost: one walk over each decision. At a split its side's nodes are added to the spread; a clash costs what its check
-/// costs (`LocalPhase::is_cause`), and a `go` its step (`LocalPhase::step`) with what its names cost (`keeps_names`).
+/// Cost: one walk over each decision. At a split its side's nodes are added to the spread, and taken back; a clash costs what
+/// its check costs (`Branch::is_cause`), and a `go` its step (`Branch::step`) with what its names cost (`keeps_names`).
 /// Calls are nested as deep as splits are.
 pub fn check_refutation(
     alloc: Global,
@@ -28,9 +28,9 @@ pub fn check_refutation(
     ensures { IfOk result (IsFinding graph.now (of_parts refutation.now.names refutation.now.entries)) }
 {
     let checker = Checker::new(alloc, graph, refutation)?;
-    let mut phase = LocalPhase::new(alloc, graph)?;
+    let mut branch = Branch::new(alloc, graph)?;
     for place in 0..refutation.entries.len() {
-        match checker.check_entry(&mut phase, place)? {
+        match checker.check_entry(&mut branch, place)? {
             Some(bad) => return Ok(Finding::Rejected(Fault {
                 entry: place,
                 part: bad.part,

@@ -1,10 +1,10 @@
 // A refutation that is checked in a graph, entry by entry.
 //
 // `check_entry` looks for the first bad part of an entry: its sequent and names, its items, and then the branches of its
-// decision. `check_decision` walks these with the spread of the branch, which a side more extends, so that a spread is
-// never made anew; at its leaves a clash is asked for its cause, and a go for its targets, its step, its names (`names`) and
+// decision. `check_decision` walks these with one `Branch`, on which a side is chosen and taken back again, so that a
+// spread is never made anew; at its leaves a clash is asked for its cause, and a go for its targets, its step, its names (`names`) and
 // its heights. What is found is a `BadPart`, the part's place and the lowest rule that it breaks.
-ghost use Rattle.std.specs.Prelude.{◌≡◌, ◌<◌, ◌+◌, [], length, map, All, IfOk};
+ghost use Rattle.std.specs.Prelude.{◌≡◌, ◌<◌, ◌+◌, [], length, map, All, IfOk, OnOk};
 ghost use Rattle.ml_graph.specs.Graph.{size};
 ghost use Rattle.ml_refutation.specs.Acceptance as acceptance;
 ghost use Rattle.ml_refutation.specs.Acceptance.{entry_at, parts};
@@ -15,16 +15,14 @@ ghost use Rattle.ml_sequent.specs.Spread.{IsOpenOr};
 ghost use Rattle.ml_refutation.specs.Views.{cause_of, mark_of, decision_of, entry_of, item_of};
 ghost use Rattle.ml_refute_check.specs.private.Parts.{Finds, Stands, IsEntryOf, Asks, question, front_parts, branch_parts, count_branches};
 
-use crate::branches::{
-    heights_fall, leads_within, leaves_by_diamond, mark_priority, splits_open_or,
-};
+use crate::branches::{heights_fall, leads_within, mark_priority};
 use crate::finding::BadPart;
 use crate::names::keeps_names;
 use crate::parts::{item_stands, names_stand, starts_well};
 use ml_base::NoMemory;
 use ml_graph::ModalGraph;
 use ml_refutation::{Cause, Decision, Entry, Refutation, Step};
-use ml_sequent::{Choice, ClashCause, LocalPhase, Sequent, Side, Spread};
+use ml_sequent::{Branch, ClashCause, Sequent, Side};
 use std::alloc::Global;
 
 /// A refutation that is checked in a graph, and the odd priorities of the graph.
@@ -68,20 +66,20 @@ impl<'a> Checker<'a> {
     /// The first bad part of an entry.
     pub(crate) fn check_entry(
         &self,
-        phase: &mut LocalPhase,
+        branch: &mut Branch,
         place: usize,
     ) -> Result<Option<BadPart>, NoMemory>
         requires asks { Asks self.now.graph.now self.now.odds.items }
-        requires phase { phase.old ≡ self.now.graph.now }
+        requires graph { branch.old.graph ≡ self.now.graph.now }
         requires place { place < length self.now.refutation.now.entries.items }
-        ensures phase { phase.new ≡ phase.old }
+        ensures graph { OnOk result (branch.new.graph ≡ branch.old.graph) }
         ensures found { IfOk result (Finds (question self.now.graph.now self.now.refutation.now) place
             (parts (entry_at (question self.now.graph.now self.now.refutation.now).refutation place))) }
     {
         let entry = self.entry(place);
         match self.check_front(place, entry)? {
             Some(bad) => Ok(Some(bad)),
-            None => match self.check_tree(phase, place, entry)? {
+            None => match self.check_tree(branch, place, entry)? {
                 Some(bad) => Ok(Some(later(later(bad, entry.items.len())?, 2)?)),
                 None => Ok(None),
             },
@@ -125,66 +123,53 @@ impl<'a> Checker<'a> {
     /// The first bad branch of the decision of an entry, whose sequent is one of nodes of the graph.
     fn check_tree(
         &self,
-        phase: &mut LocalPhase,
+        branch: &mut Branch,
         place: usize,
         entry: &Entry,
     ) -> Result<Option<BadPart>, NoMemory>
         requires asks { Asks self.now.graph.now self.now.odds.items }
-        requires phase { phase.old ≡ self.now.graph.now }
+        requires graph { branch.old.graph ≡ self.now.graph.now }
         requires entry { IsEntryOf (question self.now.graph.now self.now.refutation.now) place (entry_of entry.now) }
         requires low { All (λ n. n < size self.now.graph.now) entry.now.sequent.items }
-        ensures phase { phase.new ≡ phase.old }
+        ensures graph { OnOk result (branch.new.graph ≡ branch.old.graph) }
         ensures found { IfOk result (Finds (question self.now.graph.now self.now.refutation.now) place
             (branch_parts [] (decision_of entry.now.decision))) }
     {
         let sequent = Sequent::of(self.alloc, &entry.sequent)?;
-        let spread = phase.spread(&sequent, &Choice::empty(self.alloc))?;
-        self.check_decision(phase, place, entry, &sequent, &spread, &entry.decision)
+        branch.begin(sequent)?;
+        self.check_decision(branch, place, entry, &entry.decision)
     }
 
-    /// The first bad branch of a decision at this spread.
+    /// The first bad branch of a decision on this branch, which is as before then.
     #[cycle(deciding)]
     fn check_decision(
         &self,
-        phase: &mut LocalPhase,
+        branch: &mut Branch,
         place: usize,
         entry: &Entry,
-        sequent: &Sequent,
-        spread: &Spread,
         decision: &Decision,
     ) -> Result<Option<BadPart>, NoMemory>
         requires asks { Asks self.now.graph.now self.now.odds.items }
-        requires phase { phase.old ≡ self.now.graph.now }
+        requires graph { branch.old.graph ≡ self.now.graph.now }
         requires entry { IsEntryOf (question self.now.graph.now self.now.refutation.now) place (entry_of entry.now) }
-        requires stands { Stands (question self.now.graph.now self.now.refutation.now) place sequent.now spread.now }
+        requires stands { Stands (question self.now.graph.now self.now.refutation.now) place branch.old.sequent branch.old.spread }
         requires decided { IsDecided self.now.refutation.now.names
             (length self.now.refutation.now.entries.items) (decision_of decision.now) }
-        ensures phase { phase.new ≡ phase.old }
+        ensures same { OnOk result (branch.new ≡ branch.old) }
         ensures found { IfOk result (Finds (question self.now.graph.now self.now.refutation.now) place
-            (branch_parts spread.now.choice (decision_of decision.now))) }
+            (branch_parts branch.old.spread.choice (decision_of decision.now))) }
     {
         match decision {
             Decision::Split { node, left, right } => {
-                if !splits_open_or(self.graph, spread, *node) {
+                if !branch.is_open_or(*node) {
                     return Ok(Some(BadPart { part: 0, rule: 5 }));
                 }
-                match self.check_side(
-                    phase,
-                    place,
-                    entry,
-                    sequent,
-                    spread,
-                    *node,
-                    Side::Left,
-                    left,
-                )? {
+                match self.check_side(branch, place, entry, *node, Side::Left, left)? {
                     Some(bad) => Ok(Some(later(bad, 1)?)),
                     None => match self.check_side(
-                        phase,
+                        branch,
                         place,
                         entry,
-                        sequent,
-                        spread,
                         *node,
                         Side::Right,
                         right,
@@ -194,69 +179,58 @@ impl<'a> Checker<'a> {
                     },
                 }
             }
-            Decision::Clash(cause) => self.check_clash(phase, place, sequent, spread, *cause),
+            Decision::Clash(cause) => self.check_clash(branch, place, *cause),
             Decision::Go {
                 diamond,
                 entry: target,
                 mark,
-            } => self.check_go(
-                phase,
-                place,
-                entry,
-                sequent,
-                spread,
-                *diamond,
-                *target as usize,
-                *mark,
-            ),
+            } => self.check_go(branch, place, entry, *diamond, *target as usize, *mark),
         }
     }
 
-    /// The first bad branch of one side of a split at an open or-node.
+    /// The first bad branch of one side of a split at an open or-node, which is taken back again.
     #[cycle(deciding)]
     fn check_side(
         &self,
-        phase: &mut LocalPhase,
+        branch: &mut Branch,
         place: usize,
         entry: &Entry,
-        sequent: &Sequent,
-        spread: &Spread,
         node: u32,
         side: Side,
         decision: &Decision,
     ) -> Result<Option<BadPart>, NoMemory>
         requires asks { Asks self.now.graph.now self.now.odds.items }
-        requires phase { phase.old ≡ self.now.graph.now }
+        requires graph { branch.old.graph ≡ self.now.graph.now }
         requires entry { IsEntryOf (question self.now.graph.now self.now.refutation.now) place (entry_of entry.now) }
-        requires stands { Stands (question self.now.graph.now self.now.refutation.now) place sequent.now spread.now }
-        requires open { IsOpenOr self.now.graph.now spread.now node }
+        requires stands { Stands (question self.now.graph.now self.now.refutation.now) place branch.old.sequent branch.old.spread }
+        requires open { IsOpenOr branch.old.graph branch.old.spread node }
         requires decided { IsDecided self.now.refutation.now.names
             (length self.now.refutation.now.entries.items) (decision_of decision.now) }
-        ensures phase { phase.new ≡ phase.old }
+        ensures same { OnOk result (branch.new ≡ branch.old) }
         ensures found { IfOk result (Finds (question self.now.graph.now self.now.refutation.now) place
-            (branch_parts (with_side spread.now.choice node side) (decision_of decision.now))) }
+            (branch_parts (with_side branch.old.spread.choice node side) (decision_of decision.now))) }
     {
-        let longer = phase.extended(spread, node, side)?;
-        self.check_decision(phase, place, entry, sequent, &longer, decision)
+        branch.choose(node, side)?;
+        let found = self.check_decision(branch, place, entry, decision)?;
+        branch.undo();
+        Ok(found)
     }
 
     /// Whether a clash is bad at this spread.
     fn check_clash(
         &self,
-        phase: &mut LocalPhase,
+        branch: &mut Branch,
         place: usize,
-        sequent: &Sequent,
-        spread: &Spread,
         cause: Cause,
     ) -> Result<Option<BadPart>, NoMemory>
         requires asks { Asks self.now.graph.now self.now.odds.items }
-        requires phase { phase.old ≡ self.now.graph.now }
-        requires stands { Stands (question self.now.graph.now self.now.refutation.now) place sequent.now spread.now }
-        ensures phase { phase.new ≡ phase.old }
+        requires graph { branch.old.graph ≡ self.now.graph.now }
+        requires stands { Stands (question self.now.graph.now self.now.refutation.now) place branch.old.sequent branch.old.spread }
+        ensures same { OnOk result (branch.new ≡ branch.old) }
         ensures found { IfOk result (Finds (question self.now.graph.now self.now.refutation.now) place
-            (branch_parts spread.now.choice (plain.Clash (cause_of cause)))) }
+            (branch_parts branch.old.spread.choice (plain.Clash (cause_of cause)))) }
     {
-        if phase.is_cause(spread, clash_cause(cause))? {
+        if branch.is_cause(clash_cause(cause))? {
             Ok(None)
         } else {
             Ok(Some(BadPart { part: 0, rule: 6 }))
@@ -266,29 +240,27 @@ impl<'a> Checker<'a> {
     /// Whether leaving the entry along a diamond is bad at this spread, and the lowest rule that it breaks.
     fn check_go(
         &self,
-        phase: &mut LocalPhase,
+        branch: &mut Branch,
         place: usize,
         entry: &Entry,
-        sequent: &Sequent,
-        spread: &Spread,
         diamond: u32,
         target: usize,
         mark: Step,
     ) -> Result<Option<BadPart>, NoMemory>
         requires asks { Asks self.now.graph.now self.now.odds.items }
-        requires phase { phase.old ≡ self.now.graph.now }
+        requires graph { branch.old.graph ≡ self.now.graph.now }
         requires entry { IsEntryOf (question self.now.graph.now self.now.refutation.now) place (entry_of entry.now) }
-        requires stands { Stands (question self.now.graph.now self.now.refutation.now) place sequent.now spread.now }
+        requires stands { Stands (question self.now.graph.now self.now.refutation.now) place branch.old.sequent branch.old.spread }
         requires target { target < length self.now.refutation.now.entries.items }
         requires mark { IsMarkOf self.now.refutation.now.names (mark_of mark) }
-        ensures phase { phase.new ≡ phase.old }
+        ensures same { OnOk result (branch.new ≡ branch.old) }
         ensures found { IfOk result (Finds (question self.now.graph.now self.now.refutation.now) place
-            (branch_parts spread.now.choice (plain.Go diamond target (mark_of mark)))) }
+            (branch_parts branch.old.spread.choice (plain.Go diamond target (mark_of mark)))) }
     {
-        if !leaves_by_diamond(self.graph, spread, diamond) {
+        if !branch.has_diamond(diamond) {
             return Ok(Some(BadPart { part: 0, rule: 7 }));
         }
-        let (targets, traces) = phase.step(sequent, spread, diamond)?;
+        let (targets, traces) = branch.step(diamond)?;
         let behind = self.entry(target);
         if !leads_within(targets.values(), &behind.sequent) {
             return Ok(Some(BadPart { part: 0, rule: 8 }));

@@ -44,3 +44,13 @@ pub mod PathCloses
 pub mod PathMeasures
 -- odd priorities, one after the other
 pub mod OddPriorities
+-- the nodes that a branch reached
+pub mod TrailNodes
+-- the search of a spread along a trail
+pub mod TrailSearches
+-- choices with a side taken back
+pub mod ChoicesWithout
+-- branches: what a choice keeps
+pub mod BranchSpreads
+-- what is asked of a branch is told by its trail
+pub mod BranchQuestions

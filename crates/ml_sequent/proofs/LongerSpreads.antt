@@ -93,7 +93,7 @@ module _ (g : Graph) (c : List (ℕ × Side)) (at : ℕ) (s : Side) (l r : ℕ) 
   longer_walk n k m (goes {k = j} _ next child w) =
       goes n next (children_kept n next child) (longer_walk next j m w)
 
-  longer_in : (C : List ℕ) (m : ℕ) → InSpread g c C m → InSpread g (with_side c at s) C m
+  pub longer_in : (C : List ℕ) (m : ℕ) → InSpread g c C m → InSpread g (with_side c at s) C m
   longer_in C m i =
       record { from = i.from; member = i.member; lowest = i.lowest; walk = longer_walk i.from i.lowest m i.walk }
 

@@ -6,9 +6,10 @@
 --   exit_leads, leads_exit == to lead out along a diamond, as the program tells it and as the step says it
 --   sequent_low     == the nodes of a sequent that has a spread are nodes
 --   diamond_of      == a node that passes the test is a diamond
+--   along_ok        == a step of each spread under a choice is one of the spread in hand
 --   step_is         == such triples and their targets are a step
 use Rattle.std.proofs.Common.{ℕ, ◌≡◌, ◌+◌, ◌<◌, ◌⊎◌, inl, inr, ⊎_elim, ◌↔◌, ◌==◌, min, true, List, [], ◌∷◌, ◌++◌, map, length}
-use Rattle.std.proofs.Common.{get_or, take, Option, Some, None, refl, sym, ap, ◌∙◌, subst, arith, append_assoc, append-nil}
+use Rattle.std.proofs.Common.{get_or, take, Option, Some, None, refl, sym, ap, ◌∙◌, subst, arith, append_assoc, append-nil, Result, Ok, Err, IfOk}
 use Rattle.std.specs.List.{flat_map}
 use Rattle.std.proofs.lemmas.Bool.{eqb-true, cond-true}
 use Rattle.std.proofs.lemmas.Bool.Decides.{nat_tests}
@@ -339,3 +340,15 @@ pub sequent_low : (g : Graph) (C : List ℕ) (sp : SpreadList) (n : ℕ)
     → n < size g
 sequent_low g C sp n of h =
     of.low n ((of.nodes n).1 (record { from = n; member = h; lowest = priority_at g n; walk = stays n }))
+
+-- a step of each spread under a choice is one of the spread in hand
+pub along_ok : {E : Type 0} → (g : Graph) (C : List ℕ) (c : List (ℕ × Side)) (d : ℕ) (sp : SpreadList)
+    (answer : Result (List ℕ × List Triple) E)
+    → c ≡ sp.choice
+    → IsSpreadOf g C sp.choice sp
+    → IsDiamondOf g sp d
+    → IfOk answer (λ made. (sp2 : SpreadList) → c ≡ sp2.choice → IsSpreadOf g C sp2.choice sp2 → IsDiamondOf g sp2 d
+    → IsStep g C sp2 d made.0 made.1)
+    → IfOk answer (λ made. IsStep g C sp d made.0 made.1)
+along_ok g C c d sp (Ok made) same of diamond all = all sp same of diamond
+along_ok g C c d sp (Err e) same of diamond all = all

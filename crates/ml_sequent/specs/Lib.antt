@@ -8,5 +8,7 @@ pub mod LocalWalk
 pub mod Spread
 -- the step along a diamond
 pub mod Step
+-- one sequent under more and more sides
+pub mod Branch
 -- what only private contracts cite
 pub mod private

@@ -8,3 +8,5 @@ pub mod Reach
 pub mod Exits
 -- strongly connected parts
 pub mod ConnectedParts
+-- the nodes that a branch reached, and how it is taken back
+pub mod Trails

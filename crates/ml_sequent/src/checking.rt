@@ -13,7 +13,7 @@ use ml_base::NoMemory;
 use ml_graph::ModalGraph;
 
 /// Are these the positive and the negative literal of one proposition?
-fn is_pair(graph: &ModalGraph, positive: u32, negative: u32) -> bool
+pub(crate) fn is_pair(graph: &ModalGraph, positive: u32, negative: u32) -> bool
     requires positive { positive < size graph.now }
     requires negative { negative < size graph.now }
     ensures { IsTrue result ↔ IsPair graph.now positive negative }

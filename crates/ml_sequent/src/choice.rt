@@ -2,6 +2,7 @@
 ghost use Rattle.std.specs.Prelude.{◌≡◌, ◌≤◌, ◌↔◌, [], ◌∷◌, ◌++◌, None, IsTrue, IfOk, length, take, drop};
 ghost use Rattle.ml_sequent.specs.declared.choice.Side.{Side};
 ghost use Rattle.ml_sequent.specs.Choice.{IsChoice, side_of, with_side};
+ghost use Rattle.ml_sequent.specs.private.Trails.{without};
 ghost use Rattle.ml_sequent.specs.ChoiceEquality.{choice_eq, choice_eq_equiv, choice_writes};
 
 use ml_base::NoMemory;
@@ -72,6 +73,33 @@ impl Choice {
     {
         let pairs = with_pair(*self.pairs.allocator(), &self.pairs, node, side)?;
         Ok(Choice { pairs })
+    }
+
+    /// Takes a side at one node more, where none was chosen, and says where it stands.
+    ///
+    /// # Errors
+    /// `NoMemory` alone; the choice is as before then.
+    ///
+    /// Cost: linear in the sides at greater nodes.
+    pub(crate) fn take(&mut self, node: u32, side: Side) -> Result<usize, NoMemory>
+        requires { side_of self.old node ≡ None }
+        ensures taken { IfOk result (λ place. self.new ≡ with_side self.old node side) }
+        ensures place { IfOk result (λ place. without place self.new ≡ self.old) }
+    {
+        let place = place_behind(&self.pairs, node);
+        self.pairs.insert(place, (node, side))?;
+        Ok(place)
+    }
+
+    /// Takes the side at this place back, if one stands there.
+    ///
+    /// Cost: linear in the sides behind it.
+    pub(crate) fn leave(&mut self, place: usize)
+        ensures { self.new ≡ without place self.old }
+    {
+        if place < self.pairs.len() {
+            let _ = self.pairs.remove(place);
+        }
     }
 
     /// An equal choice.

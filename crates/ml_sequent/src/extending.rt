@@ -15,7 +15,7 @@ use ml_graph::{ModalGraph, Node};
 use std::alloc::Global;
 
 /// The child of an or-node on a side; of other nodes, of which nobody asks, the node.
-fn child_at(graph: &ModalGraph, node: u32, side: Side) -> u32
+pub(crate) fn child_at(graph: &ModalGraph, node: u32, side: Side) -> u32
     requires { node < size graph.now }
     ensures { (l r : ℕ) → node_at graph.now node ≡ Or l r → result ≡ chosen side l r }
 {

@@ -8,17 +8,20 @@
 // - `clash` says why a spread can't hold, `open_or` where a side is still to be chosen, `diamonds` what leads on.
 // - `step` goes on along a diamond, to the next sequent, and tells the local traces.
 // - `LocalPhase` has the same calls for many spreads of one graph, and lends them its memory.
+// - `Branch` keeps the spread of a sequent while sides are chosen one after the other and taken back.
 //
 // Below stand `ml_graph`, for graphs, and `ml_trace`, whose letters are made of local traces. Above stand the decision
 // game, which asks these calls of each position, and the checker of refutations.
 #![tactic(auto)]
 
+mod branch;
 mod checking;
 mod children;
 mod choice;
 mod clashes;
 mod cycles;
 mod extending;
+mod growing;
 pub mod laws;
 mod levels;
 mod making;
@@ -30,7 +33,10 @@ mod sequent;
 mod sets;
 mod spreads;
 mod stepping;
+mod taken;
+mod trail;
 
+pub use branch::Branch;
 pub use choice::{Choice, Side};
 pub use clashes::{ClashCause, clash};
 pub use making::{spread, step};

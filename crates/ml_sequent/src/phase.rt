@@ -2,13 +2,13 @@
 ghost use Rattle.std.specs.Prelude.{◌≡◌, ◌<◌, ◌↔◌, ℕ, List, IfOk, IsTrue, MatchOption, All, filter};
 ghost use Rattle.ml_graph.specs.Graph.{size, node_at};
 ghost use Rattle.ml_sequent.specs.Choice.{with_side};
-ghost use Rattle.ml_sequent.specs.Spread.{IsSpread, IsSpreadOf, IsCause, IsFirstCause, IsOpenOr, IsLeastOpenOr, is_diamond};
+ghost use Rattle.ml_sequent.specs.Spread.{SpreadList, IsSpread, IsSpreadOf, IsCause, IsFirstCause, IsOddCycle, IsOpenOr, IsLeastOpenOr, is_diamond};
 ghost use Rattle.ml_sequent.specs.declared.clashes.ClashCause.{ClashCause};
 ghost use Rattle.ml_sequent.specs.Step.{IsDiamondOf, IsStep};
 
 use crate::checking::is_cause_by;
 use crate::choice::{Choice, Side};
-use crate::clashes::{ClashCause, clash_by};
+use crate::clashes::{ClashCause, clash_by, on_odd_cycle};
 use crate::extending::extend_by;
 use crate::levels::Levels;
 use crate::making::spread_by;
@@ -17,7 +17,7 @@ use crate::questions::{diamonds, open_or};
 use crate::reach::Reach;
 use crate::sequent::Sequent;
 use crate::spreads::Spread;
-use crate::stepping::step_by;
+use crate::stepping::{step_along, step_by};
 use ml_base::NoMemory;
 use ml_graph::ModalGraph;
 use ml_trace::LocalTraces;
@@ -67,6 +67,48 @@ impl<'a> LocalPhase<'a> {
             parts,
             alloc,
         })
+    }
+
+    /// The graph.
+    pub(crate) fn graph(&self) -> &'a ModalGraph
+        ensures { result.now ≡ self.now }
+    {
+        self.graph
+    }
+
+    /// Does the node have an odd priority, and lie on a closed local walk through nodes of no lower priority?
+    pub(crate) fn on_odd_cycle(&mut self, choice: &Choice, node: u32) -> Result<bool, NoMemory>
+        requires { node < size self.old }
+        ensures graph { self.new ≡ self.old }
+        ensures cycle { IfOk result (λ b. IsTrue b ↔ IsOddCycle self.old choice.now node) }
+    {
+        on_odd_cycle(self.graph, choice, &self.levels, node, &mut self.reach)
+    }
+
+    /// As `step`, where the choice of the spread is given.
+    pub(crate) fn step_under(
+        &mut self,
+        sequent: &Sequent,
+        choice: &Choice,
+        diamond: u32,
+    ) -> Result<(Sequent, LocalTraces), NoMemory>
+        requires low { All (λ n. n < size self.old) sequent.now }
+        requires diamond { diamond < size self.old }
+        ensures graph { self.new ≡ self.old }
+        ensures step { IfOk result (λ made. (sp : SpreadList) → choice.now ≡ sp.choice
+            → IsSpreadOf self.old sequent.now sp.choice sp
+            → IsDiamondOf self.old sp diamond
+            → IsStep self.old sequent.now sp diamond made.0 made.1) }
+    {
+        step_along(
+            self.alloc,
+            self.graph,
+            &self.levels,
+            &mut self.reach,
+            sequent,
+            choice,
+            diamond,
+        )
     }
 
     /// As the function `spread`.

@@ -10,7 +10,7 @@ use ml_graph::{ModalGraph, Node};
 use std::alloc::Global;
 
 /// Is this an or-node without a choice?
-fn is_open(graph: &ModalGraph, choice: &Choice, node: u32) -> bool
+pub(crate) fn is_open(graph: &ModalGraph, choice: &Choice, node: u32) -> bool
     requires { node < size graph.now }
     ensures { IsTrue result ↔ IsOpenNode graph.now choice.now node }
 {
@@ -36,7 +36,7 @@ pub fn open_or(graph: &ModalGraph, spread: &Spread) -> Option<u32>
 }
 
 /// Is this a Diamond?
-fn is_diamond(node: Node) -> bool
+pub(crate) fn is_diamond(node: Node) -> bool
     ensures { result ≡ is_diamond node }
 {
     matches!(node, Node::Diamond { .. })

@@ -4,7 +4,7 @@ ghost use Rattle.std.specs.List.{flat_map};
 ghost use Rattle.ml_graph.specs.Graph.{size, node_at};
 ghost use Rattle.ml_lists.specs.Member.{IsMember};
 ghost use Rattle.ml_trace.specs.declared.letters.Triple.{Triple};
-ghost use Rattle.ml_sequent.specs.Spread.{IsSpreadOf};
+ghost use Rattle.ml_sequent.specs.Spread.{SpreadList, IsSpreadOf};
 ghost use Rattle.ml_sequent.specs.Step.{IsDiamondOf, IsStep};
 ghost use Rattle.ml_sequent.specs.private.Exits.{exit_of, exits, action_of, IsTraceFrom};
 ghost use Rattle.ml_sequent.specs.private.Reach.{IsRanked, HasRoom};
@@ -101,6 +101,41 @@ fn traces_from(
     Ok(traces)
 }
 
+/// The step along a diamond of each spread of the sequent under the choice.
+pub(crate) fn step_along(
+    alloc: Global,
+    graph: &ModalGraph,
+    levels: &Levels,
+    reach: &mut Reach,
+    sequent: &Sequent,
+    choice: &Choice,
+    diamond: u32,
+) -> Result<(Sequent, LocalTraces), NoMemory>
+    requires low { All (λ n. n < size graph.now) sequent.now }
+    requires diamond { diamond < size graph.now }
+    requires ranked { IsRanked graph.now levels.now }
+    requires room { HasRoom graph.now levels.now reach.old }
+    ensures room { HasRoom graph.now levels.now reach.new }
+    ensures step { IfOk result (λ made. (sp : SpreadList) → choice.now ≡ sp.choice
+        → IsSpreadOf graph.now sequent.now sp.choice sp
+        → IsDiamondOf graph.now sp diamond
+        → IsStep graph.now sequent.now sp diamond made.0 made.1) }
+{
+    let action = action_of(*graph.node(diamond));
+    let traces = traces_from(
+        alloc,
+        graph,
+        choice,
+        levels,
+        action,
+        diamond,
+        sequent.values(),
+        reach,
+    )?;
+    let targets = traces.iter().map(|t| t.to).collect(alloc)?;
+    Ok((Sequent::of_members(targets), LocalTraces::new(traces)))
+}
+
 /// The step along a diamond.
 pub(crate) fn step_by(
     alloc: Global,
@@ -118,18 +153,6 @@ pub(crate) fn step_by(
     ensures room { HasRoom graph.now levels.now reach.new }
     ensures step { IfOk result (λ made. IsStep graph.now sequent.now spread.now diamond made.0 made.1) }
 {
-    let _size = graph.size();
-    let action = action_of(*graph.node(diamond));
-    let traces = traces_from(
-        alloc,
-        graph,
-        spread.choice(),
-        levels,
-        action,
-        diamond,
-        sequent.values(),
-        reach,
-    )?;
-    let targets = traces.iter().map(|t| t.to).collect(alloc)?;
-    Ok((Sequent::of_members(targets), LocalTraces::new(traces)))
+    let choice = spread.choice();
+    step_along(alloc, graph, levels, reach, sequent, choice, diamond)
 }

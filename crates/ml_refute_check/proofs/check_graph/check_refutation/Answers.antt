@@ -12,7 +12,7 @@ loop-place-preserved c =
     let found =
     entry_found place c.in_ok-checker.ensures.graph c.in_ok-checker.ensures.refutation c.in-None.is c.in_ok-bad.ensures.found in
     record {
-      same = c.in_ok-bad.ensures.phase ∙ c.loop-place.invariant.same;
+      same = c.in_ok-bad.ensures.graph ∙ c.loop-place.invariant.same;
       kept = below_more (EntryKept q) place c.loop-place.invariant.kept found;
     }
 

@@ -1,20 +1,23 @@
-use Rattle.std.proofs.Common.{◌∙◌, length, IfOk, ap, refl, subst, sym, arith}
+use Rattle.std.proofs.Common.{◌↔◌, ◌∙◌, length, IsTrue, ap, refl, subst, sym, arith}
 use Rattle.ml_sequent.specs.declared.choice.Side.TheVariants.{Left, Right}
+use Rattle.ml_sequent.specs.Branch.{BranchList}
 use Rattle.ml_sequent.specs.Choice.{with_side}
+use Rattle.ml_sequent.specs.Spread.{IsSpread, IsOpenOr}
 use Rattle.ml_refutation.specs.Refutation.{IsDecided}
 use Rattle.ml_refutation.specs.Views.{decision_of}
-use Rattle.ml_refute_check.specs.private.Parts.{question, Finds, branch_parts, count_branches}
-use Rattle.ml_refute_check.proofs.BranchesFound.{found_same, split_refused, split_left, split_right, split_kept, longer_stands, left_less, right_less}
+use Rattle.ml_refute_check.specs.private.Parts.{question, Finds, Stands, branch_parts, count_branches}
+use Rattle.ml_refute_check.proofs.BranchesFound.{found_same, split_refused, split_left, split_right, split_kept, left_less, right_less}
+use Rattle.ml_refute_check.proofs.TakenBack.{taken_back, chosen_stands}
 use Rattle.ml_refute_check.proofs.checker.Checker.+deciding.Goals as goal
 
-pub check_decision-returns-then-not-splits_open_or-clause-found :
-    goal.check_decision-returns-then-not-splits_open_or-clause-found
-check_decision-returns-then-not-splits_open_or-clause-found t c =
+pub check_decision-returns-then-not-is_open_or-clause-found :
+    goal.check_decision-returns-then-not-is_open_or-clause-found
+check_decision-returns-then-not-is_open_or-clause-found t c =
     let q = question c.args.self.now.graph.now c.args.self.now.refutation.now in
-    found_same q c.args.place c.args.spread.now.choice (sym c.in-Split.is) refl
+    found_same q c.args.place c.args.branch.now.spread.choice (sym c.in-Split.is) refl
     (split_refused q _ _ _ c.requires.asks.is_graph c.requires.stands c.in-Split.node
-    (decision_of c.in-Split.left.value) (decision_of c.in-Split.right.value) c.splits_open_or.result
-    c.splits_open_or.ensures c.if-not-splits_open_or.true)
+    (decision_of c.in-Split.left.value) (decision_of c.in-Split.right.value) c.is_open_or.result
+    (subst (λ g. IsTrue c.is_open_or.result ↔ IsOpenOr g c.args.branch.now.spread c.in-Split.node) c.requires.graph c.is_open_or.ensures) c.if-not-is_open_or.true)
 
 pub check_decision-check_side-requires : goal.check_decision-check_side-requires
 check_decision-check_side-requires t c =
@@ -30,10 +33,10 @@ check_decision-check_side-requires t c =
       (
         c.requires.asks,
         (
-          c.requires.phase,
+          c.requires.graph,
           (
             c.requires.entry,
-            (c.requires.stands, (c.splits_open_or.ensures.0 c.if-not-splits_open_or.false, decided)),
+            (c.requires.stands, (c.is_open_or.ensures.0 c.if-not-is_open_or.false, decided)),
           ),
         ),
       ),
@@ -41,6 +44,8 @@ check_decision-check_side-requires t c =
 
 pub check_decision-check_side-requires-in-None : goal.check_decision-check_side-requires-in-None
 check_decision-check_side-requires-in-None t c =
+    let q = question c.args.self.now.graph.now c.args.self.now.refutation.now in
+    let same = c.in_ok-bad-in-Split.ensures.same in
     let count = length c.args.self.now.refutation.now.entries.items in
     let names = c.args.self.now.refutation.now.names in
     let whole = subst (IsDecided names count) (ap decision_of c.in-Split.is) c.requires.decided in
@@ -54,10 +59,17 @@ check_decision-check_side-requires-in-None t c =
       (
         c.requires.asks,
         (
-          c.in_ok-bad-in-Split.ensures.phase ∙ c.requires.phase,
+          ap (λ (b : BranchList). b.graph) same ∙ c.requires.graph,
           (
             c.requires.entry,
-            (c.requires.stands, (c.splits_open_or.ensures.0 c.if-not-splits_open_or.false, decided)),
+            (
+              subst (λ (b : BranchList). Stands q c.args.place b.sequent b.spread) (sym same) c.requires.stands,
+              (
+                subst (λ (b : BranchList). IsOpenOr b.graph b.spread c.in-Split.node) (sym same)
+                    (c.is_open_or.ensures.0 c.if-not-is_open_or.false),
+                decided,
+              ),
+            ),
           ),
         ),
       ),
@@ -66,64 +78,77 @@ check_decision-check_side-requires-in-None t c =
 pub check_decision-returns-in_ok-later-in-Some-clause-found : goal.check_decision-returns-in_ok-later-in-Some-clause-found
 check_decision-returns-in_ok-later-in-Some-clause-found t c =
     let q = question c.args.self.now.graph.now c.args.self.now.refutation.now in
-    let left = with_side c.args.spread.now.choice c.in-Split.node Left in
-    found_same q c.args.place c.args.spread.now.choice (sym c.in-Split.is) refl
+    let left = with_side c.args.branch.now.spread.choice c.in-Split.node Left in
+    found_same q c.args.place c.args.branch.now.spread.choice (sym c.in-Split.is) refl
     (split_left q _ _ _ c.requires.asks.is_graph c.requires.stands c.in-Split.node (decision_of c.in-Split.left.value)
-    (decision_of c.in-Split.right.value) c.splits_open_or.result c.splits_open_or.ensures
-    c.if-not-splits_open_or.false left c.in-Some.bad c.in_ok-later-in-Some.field-0 refl
+    (decision_of c.in-Split.right.value) c.is_open_or.result
+    (subst (λ g. IsTrue c.is_open_or.result ↔ IsOpenOr g c.args.branch.now.spread c.in-Split.node) c.requires.graph c.is_open_or.ensures)
+    c.if-not-is_open_or.false left c.in-Some.bad c.in_ok-later-in-Some.field-0 refl
     c.in_ok-later-in-Some.ensures.part c.in_ok-later-in-Some.ensures.rule
     (found_same q c.args.place left c.deref.ensures c.in-Some.is c.in_ok-bad-in-Split.ensures.found))
 
 pub check_decision-returns-in_ok-later-in-Some-2-2-clause-found : goal.check_decision-returns-in_ok-later-in-Some-2-2-clause-found
 check_decision-returns-in_ok-later-in-Some-2-2-clause-found t c =
     let q = question c.args.self.now.graph.now c.args.self.now.refutation.now in
-    let left = with_side c.args.spread.now.choice c.in-Split.node Left in
-    let right = with_side c.args.spread.now.choice c.in-Split.node Right in
-    found_same q c.args.place c.args.spread.now.choice (sym c.in-Split.is) refl
+    let left = with_side c.args.branch.now.spread.choice c.in-Split.node Left in
+    let right = with_side c.args.branch.now.spread.choice c.in-Split.node Right in
+    found_same q c.args.place c.args.branch.now.spread.choice (sym c.in-Split.is) refl
     (split_right q _ _ _ c.requires.asks.is_graph c.requires.stands c.in-Split.node (decision_of c.in-Split.left.value)
-    (decision_of c.in-Split.right.value) c.splits_open_or.result c.splits_open_or.ensures
-    c.if-not-splits_open_or.false left right
+    (decision_of c.in-Split.right.value) c.is_open_or.result
+    (subst (λ g. IsTrue c.is_open_or.result ↔ IsOpenOr g c.args.branch.now.spread c.in-Split.node) c.requires.graph c.is_open_or.ensures)
+    c.if-not-is_open_or.false left right
     c.in-Some-2.bad c.in_ok-later-in-Some-2.field-0 c.in_ok-later-in-Some-2-2.field-0
     c.in_ok-count_branches-in-Some-2.field-0 refl refl
     (c.in_ok-count_branches-in-Some-2.ensures ∙ ap (λ d. count_branches (decision_of d)) c.deref-in-Some-2.ensures)
     c.in_ok-later-in-Some-2.ensures.part c.in_ok-later-in-Some-2.ensures.rule c.in_ok-later-in-Some-2-2.ensures.part
     c.in_ok-later-in-Some-2-2.ensures.rule
     (found_same q c.args.place left c.deref.ensures c.in-None.is c.in_ok-bad-in-Split.ensures.found)
-    (found_same q c.args.place right c.deref-in-None.ensures c.in-Some-2.is c.in_ok-bad-in-None.ensures.found))
+    (found_same q c.args.place right c.deref-in-None.ensures c.in-Some-2.is
+    (subst (λ (b : BranchList). Finds q c.args.place (branch_parts (with_side b.spread.choice c.in-Split.node Right) (decision_of c.deref-in-None.result.now)) c.in_ok-bad-in-None.field-0)
+    c.in_ok-bad-in-Split.ensures.same c.in_ok-bad-in-None.ensures.found)))
 
 pub check_decision-returns-in-None-2-clause-found : goal.check_decision-returns-in-None-2-clause-found
 check_decision-returns-in-None-2-clause-found t c =
     let q = question c.args.self.now.graph.now c.args.self.now.refutation.now in
-    let left = with_side c.args.spread.now.choice c.in-Split.node Left in
-    let right = with_side c.args.spread.now.choice c.in-Split.node Right in
-    found_same q c.args.place c.args.spread.now.choice (sym c.in-Split.is) refl
+    let left = with_side c.args.branch.now.spread.choice c.in-Split.node Left in
+    let right = with_side c.args.branch.now.spread.choice c.in-Split.node Right in
+    found_same q c.args.place c.args.branch.now.spread.choice (sym c.in-Split.is) refl
     (split_kept q _ _ _ c.requires.asks.is_graph c.requires.stands c.in-Split.node (decision_of c.in-Split.left.value)
-    (decision_of c.in-Split.right.value) c.splits_open_or.result c.splits_open_or.ensures
-    c.if-not-splits_open_or.false left right refl refl
+    (decision_of c.in-Split.right.value) c.is_open_or.result
+    (subst (λ g. IsTrue c.is_open_or.result ↔ IsOpenOr g c.args.branch.now.spread c.in-Split.node) c.requires.graph c.is_open_or.ensures)
+    c.if-not-is_open_or.false left right refl refl
     (found_same q c.args.place left c.deref.ensures c.in-None.is c.in_ok-bad-in-Split.ensures.found)
-    (found_same q c.args.place right c.deref-in-None.ensures c.in-None-2.is c.in_ok-bad-in-None.ensures.found))
+    (found_same q c.args.place right c.deref-in-None.ensures c.in-None-2.is
+    (subst (λ (b : BranchList). Finds q c.args.place (branch_parts (with_side b.spread.choice c.in-Split.node Right) (decision_of c.deref-in-None.result.now)) c.in_ok-bad-in-None.field-0)
+    c.in_ok-bad-in-Split.ensures.same c.in_ok-bad-in-None.ensures.found)))
+
+pub check_side-choose-requires-clause-spread : goal.check_side-choose-requires-clause-spread
+check_side-choose-requires-clause-spread t c =
+    subst (λ g. IsSpread g c.args.branch.now.spread) (sym c.requires.graph) c.requires.stands.is_own
 
 pub check_side-check_decision-requires : goal.check_side-check_decision-requires
 check_side-check_decision-requires t c =
     let q = question c.args.self.now.graph.now c.args.self.now.refutation.now in
     let longer =
-    longer_stands q _ _ _ c.requires.asks.is_graph c.requires.stands c.args.node c.args.side c.in_ok-longer.longer _
-    c.requires.phase c.in_ok-longer.ensures.of c.in_ok-longer.ensures.is_spread in (
+    chosen_stands q c.args.place c.args.branch.now c.choose.new.self c.args.node c.args.side c.requires.asks.is_graph
+    c.requires.graph c.requires.stands c.choose.ensures.sequent c.in_ok-choose.ensures.of c.in_ok-choose.ensures.is_spread in (
       omega (arith, c.decreases),
       (
         c.requires.asks,
-        (
-          c.in_ok-longer.ensures.graph ∙ c.requires.phase,
-          (c.requires.entry, (longer.stands_on, c.requires.decided)),
-        ),
+        (c.choose.ensures.graph ∙ c.requires.graph, (c.requires.entry, (longer.0, c.requires.decided))),
       ),
     )
+
+pub check_side-returns-clause-same : goal.check_side-returns-clause-same
+check_side-returns-clause-same t c =
+    taken_back c.args.branch.now c.choose.new.self c.check_decision.new.branch c.undo.new.self c.choose.ensures.graph
+    c.choose.ensures.sequent c.in_ok-choose.ensures.before c.in_ok-found.ensures.same c.undo.ensures
 
 pub check_side-returns-clause-found : goal.check_side-returns-clause-found
 check_side-returns-clause-found t c =
     let q = question c.args.self.now.graph.now c.args.self.now.refutation.now in
     let longer =
-    longer_stands q _ _ _ c.requires.asks.is_graph c.requires.stands c.args.node c.args.side c.in_ok-longer.longer _
-    c.requires.phase c.in_ok-longer.ensures.of c.in_ok-longer.ensures.is_spread in
-    subst (λ made. IfOk c.check_decision.result (Finds q c.args.place (branch_parts made (decision_of c.args.decision.now))))
-    longer.choice c.check_decision.ensures.found
+    chosen_stands q c.args.place c.args.branch.now c.choose.new.self c.args.node c.args.side c.requires.asks.is_graph
+    c.requires.graph c.requires.stands c.choose.ensures.sequent c.in_ok-choose.ensures.of c.in_ok-choose.ensures.is_spread in
+    subst (λ made. Finds q c.args.place (branch_parts made (decision_of c.args.decision.now)) c.in_ok-found.found) longer.1
+    c.in_ok-found.ensures.found

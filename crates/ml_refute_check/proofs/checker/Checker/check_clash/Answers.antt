@@ -8,17 +8,17 @@ use Rattle.ml_refute_check.proofs.checker.Checker.check_clash.Goals as goal
 pub returns-then-branch-clause-found : goal.returns-then-branch-clause-found
 returns-then-branch-clause-found c =
     let told =
-    subst (λ g. IsTrue c.in_ok-is_cause.field-0 ↔ IsCause g c.args.spread.now c.clash_cause.result) c.requires.phase
+    subst (λ g. IsTrue c.in_ok-is_cause.field-0 ↔ IsCause g c.args.branch.now.spread c.clash_cause.result) c.requires.graph
     c.in_ok-is_cause.ensures.cause in
-    clash_kept (question c.args.self.now.graph.now c.args.self.now.refutation.now) c.args.place c.args.sequent.now
-    c.args.spread.now c.requires.asks.is_graph c.requires.stands (cause_of c.args.cause) c.clash_cause.result
+    clash_kept (question c.args.self.now.graph.now c.args.self.now.refutation.now) c.args.place c.args.branch.now.sequent
+    c.args.branch.now.spread c.requires.asks.is_graph c.requires.stands (cause_of c.args.cause) c.clash_cause.result
     c.in_ok-is_cause.field-0 c.clash_cause.ensures told c.if-branch.true
 
 pub returns-else-branch-clause-found : goal.returns-else-branch-clause-found
 returns-else-branch-clause-found c =
     let told =
-    subst (λ g. IsTrue c.in_ok-is_cause.field-0 ↔ IsCause g c.args.spread.now c.clash_cause.result) c.requires.phase
+    subst (λ g. IsTrue c.in_ok-is_cause.field-0 ↔ IsCause g c.args.branch.now.spread c.clash_cause.result) c.requires.graph
     c.in_ok-is_cause.ensures.cause in
-    clash_refused (question c.args.self.now.graph.now c.args.self.now.refutation.now) c.args.place c.args.sequent.now
-    c.args.spread.now c.requires.asks.is_graph c.requires.stands (cause_of c.args.cause) c.clash_cause.result
+    clash_refused (question c.args.self.now.graph.now c.args.self.now.refutation.now) c.args.place c.args.branch.now.sequent
+    c.args.branch.now.spread c.requires.asks.is_graph c.requires.stands (cause_of c.args.cause) c.clash_cause.result
     c.in_ok-is_cause.field-0 c.clash_cause.ensures told c.if-branch.false

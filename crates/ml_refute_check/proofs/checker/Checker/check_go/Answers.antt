@@ -1,4 +1,5 @@
-use Rattle.std.proofs.Common.{◌∙◌}
+use Rattle.std.proofs.Common.{◌↔◌, ◌∙◌, IsTrue, sym, subst}
+use Rattle.ml_sequent.specs.Spread.{IsSpreadOf}
 use Rattle.ml_sequent.specs.Step.{IsDiamondOf}
 use Rattle.ml_refutation.specs.Views.{mark_of}
 use Rattle.ml_refute_check.specs.private.Parts.{question}
@@ -8,22 +9,28 @@ use Rattle.ml_refute_check.proofs.FoundByNode.{rise_by_node}
 use Rattle.ml_refute_check.proofs.GoFound.{at_go, within_told, names_told, falls_told}
 use Rattle.ml_refute_check.proofs.checker.Checker.check_go.Goals as goal
 
-pub returns-then-not-leaves_by_diamond-clause-found : goal.returns-then-not-leaves_by_diamond-clause-found
-returns-then-not-leaves_by_diamond-clause-found c =
+pub returns-then-not-has_diamond-clause-found : goal.returns-then-not-has_diamond-clause-found
+returns-then-not-has_diamond-clause-found c =
     let q = question c.args.self.now.graph.now c.args.self.now.refutation.now in
+    let diamond =
+    subst (λ g. IsTrue c.has_diamond.result ↔ IsDiamondOf g c.args.branch.now.spread c.args.diamond) c.requires.graph
+    c.has_diamond.ensures in
     go_refused_7 q _ _ _ c.requires.asks.is_graph c.requires.stands c.args.diamond c.args.target (mark_of c.args.mark)
-    (test_fails (IsDiamondOf q.graph c.args.spread.now c.args.diamond) c.leaves_by_diamond.result
-    c.leaves_by_diamond.ensures c.if-not-leaves_by_diamond.true)
+    (test_fails (IsDiamondOf q.graph c.args.branch.now.spread c.args.diamond) c.has_diamond.result
+    diamond c.if-not-has_diamond.true)
 
 pub returns-then-not-leads_within-clause-found : goal.returns-then-not-leads_within-clause-found
 returns-then-not-leads_within-clause-found c =
     let q = question c.args.self.now.graph.now c.args.self.now.refutation.now in
+    let diamond =
+    subst (λ g. IsTrue c.has_diamond.result ↔ IsDiamondOf g c.args.branch.now.spread c.args.diamond) c.requires.graph
+    c.has_diamond.ensures in
     let ok = c.requires.asks.is_graph in
-    let w = at_go c.requires.stands ok c.entry-behind.ensures c.requires.phase c.in_ok-targets.ensures.step in
+    let w = at_go c.requires.stands ok c.entry-behind.ensures c.requires.graph c.in_ok-targets.ensures.step in
     let within =
     within_told w c.leads_within.result c.values.ensures.value c.deref.ensures.value c.leads_within.ensures in
     go_refused_8 q _ _ _ ok c.requires.stands c.args.diamond c.args.target (mark_of c.args.mark)
-    (c.leaves_by_diamond.ensures.0 c.if-not-leaves_by_diamond.false)
+    (diamond.0 c.if-not-has_diamond.false)
     (test_fails _ c.leads_within.result within c.if-not-leads_within.true)
 
 pub keeps_names-requires-clause-odds : goal.keeps_names-requires-clause-odds
@@ -37,24 +44,30 @@ keeps_names-requires-clause-items c =
 pub returns-then-not-branch-clause-found : goal.returns-then-not-branch-clause-found
 returns-then-not-branch-clause-found c =
     let q = question c.args.self.now.graph.now c.args.self.now.refutation.now in
+    let diamond =
+    subst (λ g. IsTrue c.has_diamond.result ↔ IsDiamondOf g c.args.branch.now.spread c.args.diamond) c.requires.graph
+    c.has_diamond.ensures in
     let ok = c.requires.asks.is_graph in
     let m = mark_of c.args.mark in
-    let w = at_go c.requires.stands ok c.entry-behind.ensures c.requires.phase c.in_ok-targets.ensures.step in
+    let w = at_go c.requires.stands ok c.entry-behind.ensures c.requires.graph c.in_ok-targets.ensures.step in
     let within =
     within_told w c.leads_within.result c.values.ensures.value c.deref.ensures.value c.leads_within.ensures in
     let names =
     names_told w c.requires.entry m c.in_ok-keeps_names.field-0 (c.deref-2.ensures.value ∙ c.requires.asks.odds_are)
     c.deref-3.ensures.value c.triples.ensures c.in_ok-keeps_names.ensures in
     go_refused_9 q _ _ _ ok c.requires.stands c.args.diamond c.args.target m
-    (c.leaves_by_diamond.ensures.0 c.if-not-leaves_by_diamond.false) (within.0 c.if-not-leads_within.false)
+    (diamond.0 c.if-not-has_diamond.false) (within.0 c.if-not-leads_within.false)
     (test_fails _ c.in_ok-keeps_names.field-0 names c.if-not-branch.true)
 
 pub returns-then-not-heights_fall-clause-found : goal.returns-then-not-heights_fall-clause-found
 returns-then-not-heights_fall-clause-found c =
     let q = question c.args.self.now.graph.now c.args.self.now.refutation.now in
+    let diamond =
+    subst (λ g. IsTrue c.has_diamond.result ↔ IsDiamondOf g c.args.branch.now.spread c.args.diamond) c.requires.graph
+    c.has_diamond.ensures in
     let ok = c.requires.asks.is_graph in
     let m = mark_of c.args.mark in
-    let w = at_go c.requires.stands ok c.entry-behind.ensures c.requires.phase c.in_ok-targets.ensures.step in
+    let w = at_go c.requires.stands ok c.entry-behind.ensures c.requires.graph c.in_ok-targets.ensures.step in
     let within =
     within_told w c.leads_within.result c.values.ensures.value c.deref.ensures.value c.leads_within.ensures in
     let names =
@@ -64,15 +77,18 @@ returns-then-not-heights_fall-clause-found c =
     falls_told c.requires.entry c.entry-behind.ensures m c.heights_fall.result c.mark_priority.ensures
     c.deref-4.ensures.value c.deref-5.ensures.value c.heights_fall.ensures in
     go_refused_10 q _ _ _ ok c.requires.stands c.args.diamond c.args.target m
-    (c.leaves_by_diamond.ensures.0 c.if-not-leaves_by_diamond.false) (within.0 c.if-not-leads_within.false)
+    (diamond.0 c.if-not-has_diamond.false) (within.0 c.if-not-leads_within.false)
     (names.0 c.if-not-branch.false) (test_fails _ c.heights_fall.result falls c.if-not-heights_fall.true)
 
 pub returns-clause-found : goal.returns-clause-found
 returns-clause-found c =
     let q = question c.args.self.now.graph.now c.args.self.now.refutation.now in
+    let diamond =
+    subst (λ g. IsTrue c.has_diamond.result ↔ IsDiamondOf g c.args.branch.now.spread c.args.diamond) c.requires.graph
+    c.has_diamond.ensures in
     let ok = c.requires.asks.is_graph in
     let m = mark_of c.args.mark in
-    let w = at_go c.requires.stands ok c.entry-behind.ensures c.requires.phase c.in_ok-targets.ensures.step in
+    let w = at_go c.requires.stands ok c.entry-behind.ensures c.requires.graph c.in_ok-targets.ensures.step in
     let within =
     within_told w c.leads_within.result c.values.ensures.value c.deref.ensures.value c.leads_within.ensures in
     let names =
@@ -82,5 +98,10 @@ returns-clause-found c =
     falls_told c.requires.entry c.entry-behind.ensures m c.heights_fall.result c.mark_priority.ensures
     c.deref-4.ensures.value c.deref-5.ensures.value c.heights_fall.ensures in
     go_kept q _ _ _ ok c.requires.stands c.args.diamond c.args.target m
-    (c.leaves_by_diamond.ensures.0 c.if-not-leaves_by_diamond.false) (within.0 c.if-not-leads_within.false)
+    (diamond.0 c.if-not-has_diamond.false) (within.0 c.if-not-leads_within.false)
     (names.0 c.if-not-branch.false) (falls.0 c.if-not-heights_fall.false)
+
+pub step-requires-clause-spread : goal.step-requires-clause-spread
+step-requires-clause-spread c =
+    subst (λ g. IsSpreadOf g c.args.branch.now.sequent c.args.branch.now.spread.choice c.args.branch.now.spread)
+    (sym c.requires.graph) c.requires.stands.is_spread

@@ -1,0 +1,256 @@
+// A branch of a decision: a sequent, the sides chosen so far, and its spread, which grows with each choice.
+ghost use Rattle.std.specs.Prelude.{◌≡◌, ◌<◌, ◌↔◌, ℕ, List, [], ◌∷◌, IfOk, OnOk, IsTrue, MatchOption, All, filter};
+ghost use Rattle.ml_graph.specs.Graph.{size, node_at};
+ghost use Rattle.ml_lists.specs.Member.{IsMember};
+ghost use Rattle.ml_sequent.specs.Branch.{undone};
+ghost use Rattle.ml_sequent.specs.Choice.{with_side};
+ghost use Rattle.ml_sequent.specs.Spread.{IsSpread, IsSpreadOf, IsCause, IsOpenOr};
+ghost use Rattle.ml_sequent.specs.Step.{IsDiamondOf, IsStep};
+ghost use Rattle.ml_sequent.specs.declared.clashes.ClashCause.TheVariants.{False, Pair};
+
+use crate::checking::is_pair;
+use crate::choice::{Choice, Side};
+use crate::clashes::{ClashCause, is_false};
+use crate::extending::child_at;
+use crate::growing::{grow, reach_nodes};
+use crate::phase::LocalPhase;
+use crate::questions::{is_diamond, is_open};
+use crate::sequent::Sequent;
+use crate::spreads::Spread;
+use crate::taken::Taken;
+use crate::trail::Trail;
+use ml_base::NoMemory;
+use ml_graph::ModalGraph;
+use ml_trace::LocalTraces;
+use std::alloc::Global;
+use std::marker::Model;
+
+/// A branch of a decision in a graph. Sides are chosen one after the other, and taken back in the reverse order. Contracts
+/// see the graph, the sequent, its spread, and the spreads before each choice, the last one first.
+///
+/// What depends on the graph alone is made once, and the memory of one sequent serves the next.
+#[derive(Drop)]
+pub struct Branch<'a> {
+    phase: LocalPhase<'a>,
+    sequent: Sequent,
+    choice: Choice,
+    trail: Trail,
+    taken: Vec<Taken>,
+    alloc: Global,
+}
+
+impl<'a> Model for Branch<'a> {
+    ghost use Rattle.std.specs.Prelude.{reverse};
+    ghost use Rattle.ml_sequent.specs.Branch.{BranchList};
+    ghost use Rattle.ml_sequent.specs.private.Trails.{HasPlaces, spread_at, earlier};
+
+    ghost Value = { BranchList };
+
+    ghost view = { λ a. record {
+      graph = a.phase;
+      sequent = a.sequent;
+      spread = spread_at a.trail.nodes a.choice;
+      before = earlier a.trail.nodes a.choice (reverse a.taken.items);
+    } };
+
+    ghost invariant = { λ a. HasPlaces a.phase a.trail };
+}
+
+impl<'a> Branch<'a> {
+    /// A branch of the sequent of no nodes.
+    ///
+    /// # Errors
+    /// `NoMemory` alone.
+    ///
+    /// Cost: that of a local phase.
+    pub fn new(alloc: Global, graph: &'a ModalGraph) -> Result<Branch<'a>, NoMemory>
+        ensures graph { IfOk result (λ branch. branch.graph ≡ graph.now) }
+        ensures before { IfOk result (λ branch. branch.before ≡ []) }
+    {
+        let phase = LocalPhase::new(alloc, graph)?;
+        let trail = Trail::new(alloc, graph.size())?;
+        Ok(Branch {
+            phase,
+            sequent: Sequent::of(alloc, &[])?,
+            choice: Choice::empty(alloc),
+            trail,
+            taken: Vec::new(alloc),
+            alloc,
+        })
+    }
+
+    /// Begins anew, with a sequent and no side chosen.
+    ///
+    /// # Errors
+    /// `NoMemory` alone. What was chosen before is taken back even so.
+    ///
+    /// Cost: linear in the nodes of the spread.
+    pub fn begin(&mut self, sequent: Sequent) -> Result<(), NoMemory>
+        requires { All (λ n. n < size self.old.graph) sequent }
+        ensures graph { self.new.graph ≡ self.old.graph }
+        ensures before { self.new.before ≡ [] }
+        ensures sequent { OnOk result (self.new.sequent ≡ sequent) }
+        ensures of { OnOk result (IsSpreadOf self.old.graph sequent [] self.new.spread) }
+        ensures is_spread { OnOk result (IsSpread self.old.graph self.new.spread) }
+    {
+        let graph = self.phase.graph();
+        let _size = graph.size();
+        self.taken.clear();
+        self.trail.back_to(0);
+        self.choice = Choice::empty(self.alloc);
+        self.sequent = sequent;
+        reach_nodes(self.sequent.values(), &mut self.trail)?;
+        grow(graph, &self.choice, 0, &mut self.trail)
+    }
+
+    /// Chooses a side at an open or-node: of each sequent of which the spread is that before, it then is the spread under
+    /// the choice with that side.
+    ///
+    /// # Errors
+    /// `NoMemory` alone. The branch is to begin anew then.
+    ///
+    /// Cost: linear in the nodes that are new, and in the sides that were chosen at greater nodes, which move up.
+    pub fn choose(&mut self, node: u32, side: Side) -> Result<(), NoMemory>
+        requires spread { IsSpread self.old.graph self.old.spread }
+        requires node { IsOpenOr self.old.graph self.old.spread node }
+        ensures graph { self.new.graph ≡ self.old.graph }
+        ensures sequent { self.new.sequent ≡ self.old.sequent }
+        ensures before { OnOk result (self.new.before ≡ self.old.spread ∷ self.old.before) }
+        ensures of { OnOk result ((C : List ℕ) → IsSpreadOf self.old.graph C self.old.spread.choice self.old.spread
+            → IsSpreadOf self.old.graph C (with_side self.old.spread.choice node side) self.new.spread) }
+        ensures is_spread { OnOk result (IsSpread self.old.graph self.new.spread) }
+    {
+        let graph = self.phase.graph();
+        let _size = graph.size();
+        let first = self.trail.len();
+        let place = self.choice.take(node, side)?;
+        self.taken.push(Taken { place, first })?;
+        self.trail.reach(child_at(graph, node, side))?;
+        grow(graph, &self.choice, first, &mut self.trail)
+    }
+
+    /// Takes back the last choice, if one was made.
+    ///
+    /// Cost: that of the sides that were chosen at greater nodes, which move down.
+    pub fn undo(&mut self)
+        ensures { self.new ≡ undone self.old }
+    {
+        if let Some(last) = self.taken.pop() {
+            self.choice.leave(last.place);
+            self.trail.back_to(last.first);
+        }
+    }
+
+    /// The sequent.
+    pub fn sequent(&self) -> &Sequent
+        ensures { result.now ≡ self.now.sequent }
+    {
+        &self.sequent
+    }
+
+    /// The sides that were chosen.
+    pub fn choice(&self) -> &Choice
+        ensures { result.now ≡ self.now.spread.choice }
+    {
+        &self.choice
+    }
+
+    /// The spread, as a value of one's own.
+    ///
+    /// # Errors
+    /// `NoMemory` alone.
+    ///
+    /// Cost: `n log n` in its nodes, and linear in the choice.
+    pub fn spread(&self) -> Result<Spread, NoMemory>
+        ensures { IfOk result (λ spread. spread ≡ self.now.spread) }
+    {
+        let nodes = self.trail.sorted(self.alloc)?;
+        Ok(Spread::of(nodes, self.choice.copy()?))
+    }
+
+    /// Is the node in the spread? It may be any number.
+    ///
+    /// Cost: constant.
+    pub fn contains(&self, node: u32) -> bool
+        ensures { IsTrue result ↔ IsMember node self.now.spread.nodes }
+    {
+        self.trail.contains(node)
+    }
+
+    /// Is this an or-node of the spread, without a choice? It may be any number.
+    ///
+    /// Cost: logarithmic in the choice.
+    pub fn is_open_or(&self, node: u32) -> bool
+        ensures { IsTrue result ↔ IsOpenOr self.now.graph self.now.spread node }
+    {
+        self.trail.contains(node) && is_open(self.phase.graph(), &self.choice, node)
+    }
+
+    /// Is this a diamond of the spread? It may be any number.
+    ///
+    /// Cost: constant.
+    pub fn has_diamond(&self, node: u32) -> bool
+        ensures { IsTrue result ↔ IsDiamondOf self.now.graph self.now.spread node }
+    {
+        self.trail.contains(node) && is_diamond(*self.phase.graph().node(node))
+    }
+
+    /// Is this a cause of a clash in the spread? Its numbers may be any.
+    ///
+    /// # Errors
+    /// `NoMemory` alone.
+    ///
+    /// Cost: constant; for a cycle linear in what its node reaches through nodes of no lower priority.
+    pub fn is_cause(&mut self, cause: ClashCause) -> Result<bool, NoMemory>
+        ensures same { self.new ≡ self.old }
+        ensures cause { IfOk result (λ b. IsTrue b ↔ IsCause self.old.graph self.old.spread cause) }
+    {
+        match cause {
+            ClashCause::False(node) => Ok(self.has_false(node)),
+            ClashCause::Pair(positive, negative) => Ok(self.has_pair(positive, negative)),
+            ClashCause::Cycle(node) => {
+                if !self.trail.contains(node) {
+                    return Ok(false);
+                }
+                self.phase.on_odd_cycle(&self.choice, node)
+            }
+        }
+    }
+
+    // is this a False of the spread?
+    fn has_false(&self, node: u32) -> bool
+        ensures { IsTrue result ↔ IsCause self.now.graph self.now.spread (False node) }
+    {
+        self.trail.contains(node) && is_false(*self.phase.graph().node(node))
+    }
+
+    // are these the literals of one proposition, and both in the spread?
+    fn has_pair(&self, positive: u32, negative: u32) -> bool
+        ensures { IsTrue result ↔ IsCause self.now.graph self.now.spread (Pair positive negative) }
+    {
+        if !self.trail.contains(positive) {
+            return false;
+        }
+        if !self.trail.contains(negative) {
+            return false;
+        }
+        is_pair(self.phase.graph(), positive, negative)
+    }
+
+    /// The step along a diamond of the spread: the nodes that have to hold behind it, and the local traces, by which nodes
+    /// of the sequent each of them is reached, with which lowest priorities.
+    ///
+    /// # Errors
+    /// `NoMemory` alone.
+    ///
+    /// Cost: for each node of the sequent, linear in the pairs of a node of the spread and a lowest priority, each of which
+    /// is visited once.
+    pub fn step(&mut self, diamond: u32) -> Result<(Sequent, LocalTraces), NoMemory>
+        requires spread { IsSpreadOf self.old.graph self.old.sequent self.old.spread.choice self.old.spread }
+        requires diamond { IsDiamondOf self.old.graph self.old.spread diamond }
+        ensures same { self.new ≡ self.old }
+        ensures step { IfOk result (λ made. IsStep self.old.graph self.old.sequent self.old.spread diamond made.0 made.1) }
+    {
+        self.phase.step_under(&self.sequent, &self.choice, diamond)
+    }
+}
