@@ -74,10 +74,8 @@ impl Command {
     {
         match self {
             Command::Decide { .. } | Command::Valid { .. } => Some(LONGEST_TEXT),
-            Command::CheckModel
-            | Command::CheckRefutation
-            | Command::Migrate
-            | Command::Quotient => Some(LONGEST_DOCUMENT),
+            Command::CheckModel | Command::CheckRefutation | Command::Migrate | Command::Quotient =>
+                Some(LONGEST_DOCUMENT),
             Command::SolveGame { .. } => Some(LONGEST_GAME_TEXT as u64),
             Command::Determinise { .. } => Some(LONGEST_AUTOMATON_TEXT as u64),
             Command::Gen { .. } | Command::Bench { .. } => None,

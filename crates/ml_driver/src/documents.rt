@@ -33,7 +33,11 @@ pub(crate) fn document(
 }
 
 // the one with a structure
-pub(crate) fn satisfiable(alloc: Global, problem: &Problem, model: &Model) -> Result<Vec<u8>, NoMemory>
+pub(crate) fn satisfiable(
+    alloc: Global,
+    problem: &Problem,
+    model: &Model,
+) -> Result<Vec<u8>, NoMemory>
     ensures text { IfOk result (λ output.
         output.items ≡ documents.satisfiable_document problem.now model.now.structure model.now.start) }
     ensures named { OnOk result (HasNames model.now.structure) }

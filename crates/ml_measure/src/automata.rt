@@ -11,7 +11,8 @@ use std::alloc::Global;
 /// How many states a deterministic automaton may have.
 pub(crate) const MOST_HISTORIES: u32 = 10_000;
 
-const AUTOMATON_HEAD: &'static str = " Start: 0 AP: 8 \"a\" \"b\" \"c\" \"d\" \"e\" \"f\" \"g\" \"h\" Acceptance: 1 Inf(0) --BODY--";
+const AUTOMATON_HEAD: &'static str =
+    " Start: 0 AP: 8 \"a\" \"b\" \"c\" \"d\" \"e\" \"f\" \"g\" \"h\" Acceptance: 1 Inf(0) --BODY--";
 
 /// A literal over one of the eight propositions.
 fn push_literal(alloc: Global, numbers: &mut Numbers, text: &mut String) -> Result<(), NoMemory> {

@@ -336,7 +336,9 @@ fn determinise_random<R: Print + Clock + AllocGlobal>(
             let count = deterministic.moves().len();
             println!(rt; "an automaton of {states} states: {count} histories")?;
         }
-        None => println!(rt; "an automaton of {states} states: more than {MOST_HISTORIES} histories")?,
+        None => println!(rt;
+            "an automaton of {states} states: more than {MOST_HISTORIES} histories"
+        )?,
     }
     print_time(rt, is_timed, read, work)
 }
