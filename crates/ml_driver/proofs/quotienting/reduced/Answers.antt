@@ -1,5 +1,5 @@
 -- The class of the start is a state of the quotient.
-use Rattle.std.proofs.Common.{◌∙◌, arith, sym}
+use Rattle.std.proofs.Common.{◌∙◌, arith}
 use Rattle.std.proofs.lemmas.Grind.{get_or_default_zero}
 use Rattle.ml_bisim.proofs.Classes.{class_low}
 use Rattle.ml_driver.proofs.quotienting.reduced.Goals as goal
