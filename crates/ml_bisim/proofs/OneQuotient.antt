@@ -72,6 +72,8 @@ module _ (m q r : Structure) (class : List ℕ) (x : IsQuotientOf m class q) (y 
 
 pub one_quotient : OneQuotient
 one_quotient m q r class other x y =
-    let same = same_classes m q.states r.states class other x.classes y.classes in
-    (same, same_quotient m q r class x (subst (λ c. IsQuotientOf m c r) (sym same) y)
-    (same_count m q.states r.states class other x.classes y.classes))
+    let same = same_classes m q.states r.states class other x.classes y.classes in (
+      same,
+      same_quotient m q r class x (subst (λ c. IsQuotientOf m c r) (sym same) y)
+          (same_count m q.states r.states class other x.classes y.classes),
+    )

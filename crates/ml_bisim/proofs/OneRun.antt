@@ -77,7 +77,7 @@ old_or_new n m (x ∷ xs) (inr new) (suc i) low = behind_new n x xs i new.0 (old
 
 module _ (m k : ℕ) (xs ys : List ℕ) (xs_run : RunsOn 0 xs m) (ys_run : RunsOn 0 ys k) (long : length xs ≡ length ys)
     (alike : (i j : ℕ) → i < length xs → j < length xs
-        → (get_or xs i 0 ≡ get_or xs j 0) ↔ (get_or ys i 0 ≡ get_or ys j 0)) where
+    → (get_or xs i 0 ≡ get_or xs j 0) ↔ (get_or ys i 0 ≡ get_or ys j 0)) where
   abbrev AreSame : ℕ → Type 0
   AreSame i = get_or xs i 0 ≡ get_or ys i 0
 

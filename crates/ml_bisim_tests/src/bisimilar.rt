@@ -52,7 +52,10 @@ fn by_labels(alloc: Global, structure: &Structure) -> Result<Pairs, Fail> {
 // is the edge matched by one of the state t?
 fn is_matched(structure: &Structure, pairs: &Pairs, edge: &Edge, t: u32) -> bool {
     for other in structure.edges() {
-        if other.source == t && other.action == edge.action && pairs.has(edge.target, other.target) {
+        if other.source == t
+            && other.action == edge.action
+            && pairs.has(edge.target, other.target)
+        {
             return true;
         }
     }
@@ -74,8 +77,8 @@ fn strike_out(structure: &Structure, pairs: &mut Pairs) -> bool {
     let mut is_struck = false;
     for s in 0..structure.states() {
         for t in 0..structure.states() {
-            let match_each_other =
-                has_steps(structure, pairs, s, t) && has_steps(structure, pairs, t, s);
+            let match_each_other = has_steps(structure, pairs, s, t)
+                && has_steps(structure, pairs, t, s);
             if pairs.has(s, t) && !match_each_other {
                 pairs.strike_out(s, t);
                 is_struck = true;

@@ -101,30 +101,45 @@ const OF_LTL: [&'static [u8]; 4] = [b"G F p", b"p U (q & X p)", b"F G p & F q", 
 
 #[test]
 fn of_the_mu_calculus(rt: HostRuntime) -> Result<(), Fail> {
-    assert_eq!(rt; first_lost(rt.alloc(), Logic::Mu, Shape::Any, &OF_MU)?, None);
+    assert_eq!(rt;
+        first_lost(rt.alloc(), Logic::Mu, Shape::Any, &OF_MU)?,
+        None
+    );
     Ok(())
 }
 
 #[test]
 fn of_pdl(rt: HostRuntime) -> Result<(), Fail> {
-    assert_eq!(rt; first_lost(rt.alloc(), Logic::Pdl, Shape::Any, &OF_PDL)?, None);
+    assert_eq!(rt;
+        first_lost(rt.alloc(), Logic::Pdl, Shape::Any, &OF_PDL)?,
+        None
+    );
     Ok(())
 }
 
 #[test]
 fn of_ctl(rt: HostRuntime) -> Result<(), Fail> {
-    assert_eq!(rt; first_lost(rt.alloc(), Logic::Ctl, Shape::Total, &OF_CTL)?, None);
+    assert_eq!(rt;
+        first_lost(rt.alloc(), Logic::Ctl, Shape::Total, &OF_CTL)?,
+        None
+    );
     Ok(())
 }
 
 #[test]
 fn of_ltl(rt: HostRuntime) -> Result<(), Fail> {
-    assert_eq!(rt; first_lost(rt.alloc(), Logic::Ltl, Shape::Total, &OF_LTL)?, None);
+    assert_eq!(rt;
+        first_lost(rt.alloc(), Logic::Ltl, Shape::Total, &OF_LTL)?,
+        None
+    );
     Ok(())
 }
 
 #[test]
 fn of_ltl_on_words(rt: HostRuntime) -> Result<(), Fail> {
-    assert_eq!(rt; first_lost(rt.alloc(), Logic::Word, Shape::Word, &OF_LTL)?, None);
+    assert_eq!(rt;
+        first_lost(rt.alloc(), Logic::Word, Shape::Word, &OF_LTL)?,
+        None
+    );
     Ok(())
 }

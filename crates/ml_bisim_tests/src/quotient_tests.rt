@@ -86,10 +86,12 @@ fn is_right(alloc: Global, structure: &Structure) -> Result<bool, Fail> {
     let pairs = bisimilar(alloc, structure)?;
     let found = quotient(alloc, structure)?;
     let again = quotient(alloc, &found.structure)?;
-    Ok(joins_bisimilar(structure, &found, &pairs)
-        && has_classes(structure, &found)
-        && has_edges(structure, &found)
-        && again.structure.states() == found.structure.states())
+    Ok(
+        joins_bisimilar(structure, &found, &pairs)
+            && has_classes(structure, &found)
+            && has_edges(structure, &found)
+            && again.structure.states() == found.structure.states(),
+    )
 }
 
 // the number of the first structure whose quotient is another

@@ -4,10 +4,10 @@
 --   one_solved   == one status is due at most
 --   on_game      == some status is due, with some output
 --   same_winners == both engines name the same game and the same winners
-use Rattle.std.proofs.Common.{◌≡◌, ◌≢◌, ℕ, ◌<◌, ◌≤◌, ◌⊎◌, List, length, Option, Some, None, refl, sym, ap, subst, ◌∙◌, inl, inr, ⊎_elim, arith}
+use Rattle.std.proofs.Common.{◌≡◌, ◌≢◌, ℕ, ◌<◌, ◌≤◌, List, length, Some, None, refl, sym, ap, subst, ◌∙◌, inl, inr, ⊎_elim, arith}
 use Rattle.std.proofs.lemmas.Bool.{cases_lt}
-use Rattle.ml_parity.specs.Game.{ParityGame, IsGame, size}
-use Rattle.ml_parity.specs.Solution.{GameSolution, IsSolution, winner_at}
+use Rattle.ml_parity.specs.Game.{ParityGame, IsGame}
+use Rattle.ml_parity.specs.Solution.{GameSolution, IsSolution}
 use Rattle.ml_parity.proofs.SolutionFacts.{solutions_agree}
 use Rattle.ml_pgsolver.specs.GameText.{NamedGame}
 use Rattle.ml_pgsolver.specs.Refusals.{IsReadAs, IsRefusedBy}
@@ -18,7 +18,7 @@ use Rattle.ml_pgsolver.proofs.OneAnswers.{never_both, one_game_of_text}
 use Rattle.ml_pgsolver.proofs.SomeAnswers.{some_answer}
 use Rattle.ml_product.proofs.SomeSolution.{some_solution}
 use Rattle.ml_progress.proofs.SomeMeasures.{some_measures}
-use Rattle.ml_driver.specs.Games.{IsMadeBy, IsRefusedAsGame, IsRefusedGame, IsSolved, game_refusal_line}
+use Rattle.ml_driver.specs.Games.{IsMadeBy, IsRefusedAsGame, IsRefusedGame, game_refusal_line}
 use Rattle.ml_driver.specs.Laws.{SameWinners}
 use Rattle.ml_driver.specs.Run.{IsDue}
 use Rattle.ml_driver.specs.Statuses.{longest_game, refused_length}

@@ -13,7 +13,7 @@ use Rattle.ml_front.specs.Logics.{IsWellFormed}
 use Rattle.ml_front.specs.declared.problem.Problem.{Problem}
 use Rattle.ml_front.specs.declared.problem.TheConstants.{MOST_NODES}
 use Rattle.ml_front.proofs.Graphs.{graph_is, graph_small, graphs_agree, graphs_alike, meaningful}
-use Rattle.ml_graph.specs.Graph.{Graph, size}
+use Rattle.ml_graph.specs.Graph.{Graph}
 use Rattle.ml_parity.specs.Solution.{winner_at}
 use Rattle.ml_parity.specs.declared.players.Player.{Player}
 use Rattle.ml_parity.specs.declared.players.Player.TheVariants.{Even, Odd}

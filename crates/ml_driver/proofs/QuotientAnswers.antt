@@ -13,14 +13,12 @@ use Rattle.std.proofs.lemmas.Bool.{cases_lt}
 use Rattle.std.proofs.lemmas.List.Elements.{All-contains, All-from_get_or}
 use Rattle.ml_base.specs.Name.{IsName, IsAction}
 use Rattle.ml_base.specs.Structure.{Structure, IsStructure}
-use Rattle.ml_base.specs.declared.doc_fault.DocFault.{DocFault}
 use Rattle.ml_base.specs.declared.structure.Edge.{Edge}
 use Rattle.ml_base.specs.declared.version.Version.TheVariants.{Two}
 use Rattle.ml_lists.proofs.Member.{member-All}
 use Rattle.ml_lists.proofs.Members.{contains_of_member}
 use Rattle.ml_kripke.specs.Laws.{IsWritten}
 use Rattle.ml_kripke.specs.Ordered.{HasNames}
-use Rattle.ml_bisim.specs.Bisimilar.{HasEdge}
 use Rattle.ml_bisim.specs.Quotient.{IsQuotientOf, SomeEdge, class_of}
 use Rattle.ml_bisim.proofs.Classes.{class_low, some_state}
 use Rattle.ml_bisim.proofs.Labels.{listed, row}

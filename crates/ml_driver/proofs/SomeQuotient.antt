@@ -3,7 +3,7 @@
 --   some_labels    == the labels of the states, each at the class of its state
 --   some_structure == a structure that is built of labels and edges (general; it would belong to `ml_kripke`)
 --   some_quotient  == the theorem
-use Rattle.std.proofs.Common.{◌≡◌, ◌↔◌, ℕ, zero, suc, ◌+◌, ◌<◌, ◌≤◌, List, [], ◌∷◌, ◌++◌, map, Contains, None, Ordering, refl, ap, subst, arith}
+use Rattle.std.proofs.Common.{◌≡◌, ◌↔◌, ℕ, zero, suc, ◌+◌, ◌<◌, List, [], ◌++◌, map, Contains, None, Ordering, refl, subst, arith}
 use Rattle.std.specs.List.{range_with_len}
 use Rattle.std.specs.Ordering.{nat_cmp}
 use Rattle.std.specs.Cmp.{IsTotalOrder}

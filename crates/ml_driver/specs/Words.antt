@@ -33,7 +33,6 @@ use Rattle.ml_gen.specs.declared.family.Family.{Family}
 use Rattle.ml_driver.specs.declared.command.Command.{Command}
 use Rattle.ml_driver.specs.declared.command.Command.TheVariants.{Decide, Valid, Find, Prove, CheckModel, CheckRefutation, Migrate, Quotient, SolveGame, Determinise, Gen, Bench}
 use Rattle.ml_driver.specs.Games.{engine_named}
-use Rattle.ml_driver.specs.declared.engine.Engine.{Engine}
 use Rattle.ml_driver.specs.declared.command.TheConstants.{DEFAULT_LIMIT, GREATEST_LIMIT, LONGEST_NUMBER}
 
 -- ---- what `clap` is told

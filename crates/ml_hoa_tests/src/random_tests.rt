@@ -198,15 +198,14 @@ fn reached_from(
 }
 
 // does some run take an accepting edge again and again: one that is reached, and from whose end it is reached again?
-fn is_accepted(
-    alloc: Global,
-    automaton: &PlainAutomaton,
-    lasso: &Lasso<'_>,
-) -> Result<bool, Fail> {
+fn is_accepted(alloc: Global, automaton: &PlainAutomaton, lasso: &Lasso<'_>) -> Result<bool, Fail> {
     let all = reached_from(alloc, automaton, lasso, 0, 0)?;
     for edge in &automaton.edges {
         for place in 0..lasso.letters.len() {
-            if edge.accepting && has(edge.valuations, lasso.letter(place)) && all.has(edge.from, place) {
+            if edge.accepting
+                && has(edge.valuations, lasso.letter(place))
+                && all.has(edge.from, place)
+            {
                 let again = reached_from(alloc, automaton, lasso, edge.to, lasso.after(place))?;
                 if again.has(edge.from, place) {
                     return Ok(true);
