@@ -29,7 +29,7 @@ use Rattle.ml_parity.proofs.Opponents.{no_own_opponent}
 use Rattle.ml_graph.specs.Graph.{Graph, IsGraph, size, node_at}
 use Rattle.ml_graph.specs.CheckingGame.{Vertex, Pair, owner_at, mover, vertex_number, successors, successors_of, pairs_or_sink, targets, checking_game}
 use Rattle.ml_graph.proofs.CheckingGame.{IsVertex, owner_is, priority_is, moves_are}
-use Rattle.ml_graph.proofs.OneStep.{vertex_low}
+use Rattle.ml_graph.proofs.OneStep.{vertex_low, pair_member}
 use Rattle.ml_ctl.specs.Paths.{IsTotal, has_step}
 use Rattle.ml_blocks.specs.BlockGraph.{IsNumberedBy, HasForm}
 use Rattle.ml_blocks.specs.Places.{Place, Form, And, Or, Diamond, Square, form_of, priority_of, both_ways, one_way}
@@ -187,10 +187,6 @@ module _ (m : Structure) (s t : ℕ) where
 
 -- ---- moves that follow a strategy
 
-pair_member : (q p : ℕ) (ts : List ℕ) (t : ℕ) → IsMember t ts → IsMember (Pair t q) (pairs_or_sink q p ts)
-pair_member q p [] t none = absurd none
-pair_member q p (u ∷ us) t m = member-map (λ v. Pair v q) t (u ∷ us) m
-
 member_pair : (q p : ℕ) (ts : List ℕ) (t : ℕ) (w : Vertex)
     → IsMember t ts
     → IsMember w (pairs_or_sink q p ts)
@@ -277,7 +273,7 @@ module _ (B : Board) (p : Player) (choice : ℕ → ℕ) (is_strategy : IsStrate
     other_edge q c t some =
         other_move (Pair s n) is c.owner (Pair t (c.to).number)
         (subst (IsMember (Pair t (c.to).number)) (sym c.leads)
-        (pair_member (c.to).number c.stuck (targets B.m s (codes "_")) t (step_target B.m s t some)))
+        (pair_member (c.to).number c.stuck t (targets B.m s (codes "_")) (step_target B.m s t some)))
 
   -- ---- ways
 
