@@ -18,7 +18,8 @@ use Rattle.ml_lists.specs.Documents.{IsReadable, Judges}
 use Rattle.ml_lists.proofs.Decided.{Decided, decided_bytes, decided_same}
 use Rattle.ml_lists.proofs.Documents.{judged}
 use Rattle.ml_front.specs.Head.{title_line, answer_line, logic_line, sense_line}
-use Rattle.ml_front.specs.HeadRules.{AtTitle, AtAnswer, AtLogic, AtSense, AtFormula, Behind, IsFormulaLine, formula_bytes, rules, head, IsHeadFault, SomeHead, HeadOrFault, OneHeadFault, HeadRulesRise}
+use Rattle.ml_front.specs.HeadRules.{AtTitle, AtAnswer, AtLogic, AtSense, AtFormula, Behind, IsFormulaLine, formula_bytes, rules, head, IsHeadFault}
+use Rattle.ml_front.specs.Laws.{SomeHead, HeadOrFault, OneHeadFault, HeadRulesRise}
 use Rattle.ml_front.specs.Logics.{some_logic}
 use Rattle.ml_front.specs.declared.answer.Answer.{Answer}
 use Rattle.ml_front.specs.declared.answer.Answer.TheVariants.{Satisfiable, Unsatisfiable, Undecided}

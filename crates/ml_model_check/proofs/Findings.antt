@@ -8,7 +8,8 @@ use Rattle.ml_base.specs.Structure.{Structure, IsStructure}
 use Rattle.ml_base.specs.declared.doc_fault.DocFault.{DocFault}
 use Rattle.ml_lists.proofs.Decided.{Decided}
 use Rattle.ml_graph.specs.Graph.{Graph}
-use Rattle.ml_front.specs.Graphs.{HasLargeClosure, IsGraphOf, IsMeaningful}
+use Rattle.ml_front.specs.Graphs.{HasLargeClosure, IsGraphOf}
+use Rattle.ml_front.specs.WellFormed.{IsMeaningful}
 use Rattle.ml_front.specs.Logics.{logic_of}
 use Rattle.ml_front.specs.Problems.{HoldsAt, IsAdmitted}
 use Rattle.ml_front.specs.declared.problem.Problem.{Problem}
