@@ -35,9 +35,11 @@ module _ (rows : List (List ℕ)) (row : List ℕ) (n m : ℕ) (runs : RunsOn n 
   pub earlier_more : length rows < n → AreFromEarlier rows n → AreFromEarlier (rows ++ row ∷ []) m
   earlier_more within earlier k some low =
       ⊎_elim (λ (old : k < n). before (earlier k some old))
-      (λ (new : n ≤ k).
-      (length rows, omega (arith, within, new),
-        subst (IsMember k) (sym (get_or-append_seam rows row [] [])) (runs_has n m row runs k new low)))
+      (λ (new : n ≤ k). (
+        length rows,
+        omega (arith, within, new),
+        subst (IsMember k) (sym (get_or-append_seam rows row [] [])) (runs_has n m row runs k new low),
+      ))
       (cases_lt k n)
     where
       before : InEarlierRow rows k → InEarlierRow (rows ++ row ∷ []) k

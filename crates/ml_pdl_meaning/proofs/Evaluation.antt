@@ -5,7 +5,7 @@
 --   square_value             == what no run leads out of
 --   followed_value, either_value, test_value, star_value == runs of programs into a set
 --   related_value            == runs to one state
-use Rattle.std.proofs.Common.{◌≡◌, ℕ, ◌<◌, ◌==◌, ◌&&◌, Bool, true, not, length, map, replicate, sym, ap, subst, ◌∙◌}
+use Rattle.std.proofs.Common.{◌≡◌, ℕ, ◌<◌, ◌==◌, ◌&&◌, Bool, true, not, length, map, replicate, sym, ap, subst, ◌∙◌, refl}
 use Rattle.std.proofs.lemmas.Bool.{eq-eqb, eqb-true}
 use Rattle.ml_lists.specs.Iterate.{iterate}
 use Rattle.ml_lists.proofs.Tables.{table_const}

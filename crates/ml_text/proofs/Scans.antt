@@ -28,9 +28,6 @@ pub data Scans (w : WordStart) : List ℕ → List Spelt → Type 0 where
       → Scans w rest ss
       → Scans w (b ∷ (bs ++ rest)) ((t, b ∷ bs) ∷ ss)
 
-unfolding tokens_at
-tokens_at-blank n w i b rest is = cond-true _ _ _ is
-
 -- the token that stands at a place, and the others
 at_piece : (n : ℕ) (w : WordStart) (i b : ℕ) (rest : List ℕ) (t : Token) (size : ℕ) → is_blank b ≡ false
     → front_token w b rest ≡ (t, size) → tokens_at (suc n) w i (b ∷ rest)
@@ -40,10 +37,6 @@ at_piece n w i b rest t size other front =
     cond-false _ _ _ other
     ∙ ap (λ (f : Token × ℕ). (record { token = f.0; start = i; end = i + f.1 }) ∷ tokens_at n w (i + f.1)
     (drop f.1 (b ∷ rest))) front
-
-unfolding tokens_at
-tokens_at-end zero w i = refl
-tokens_at-end (suc n) w i = refl
 
 spelt_piece : (text0 : List ℕ) (i : ℕ) (t : Token) (b : ℕ) (bs rest : List ℕ) → drop i text0 ≡ b ∷ (bs ++ rest)
     → spelt_at text0 (record { token = t; start = i; end = i + suc (length bs) }) ≡ (t, b ∷ bs)
