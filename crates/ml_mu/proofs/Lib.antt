@@ -35,4 +35,4 @@ pub mod CanonicalLimits
 -- canonical texts are parsed
 pub mod CanonicalParsed
 -- each formula has an occurrence
-pub mod Occurrences
+pub mod SomeOccurrence

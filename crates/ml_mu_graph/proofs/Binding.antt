@@ -58,7 +58,7 @@ use Rattle.ml_lists.specs.Member.{IsMember}
 use Rattle.std.proofs.Common.{◌%◌, eqb}
 use Rattle.std.proofs.lemmas.Bool.{cond-true, cond-false}
 use Rattle.std.proofs.lemmas.Bool.Decides.{nat_tests}
-use Rattle.ml_mu.proofs.Occurrences.{some_occurrence}
+use Rattle.ml_mu.proofs.SomeOccurrence.{some_occurrence}
 
 abbrev pub player_of : Bool → Player
 player_of true = Even

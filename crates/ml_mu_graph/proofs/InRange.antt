@@ -20,7 +20,7 @@ use Rattle.ml_nodes.specs.private.Connectives.{operator_nodes}
 use Rattle.ml_nodes.proofs.InRange.{AllFit, both_fit, constant_fits, Fits, fitting_graph, led_fit, none_twice, one, operator_fits, two}
 use Rattle.ml_mu_graph.specs.private.NodeList.{bound, nodes_of, priorities_of, props_onto, actions_onto}
 use Rattle.ml_mu_graph.specs.private.Views.{none_around}
-use Rattle.ml_mu.proofs.Occurrences.{some_occurrence}
+use Rattle.ml_mu.proofs.SomeOccurrence.{some_occurrence}
 use Rattle.ml_mu_graph.proofs.NodeLists.{length-nodes, length-priorities}
 
 module _ (n : ℕ) (ps acts : List (List ℕ)) where

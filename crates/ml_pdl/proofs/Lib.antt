@@ -39,4 +39,4 @@ pub mod CanonicalLimits
 -- canonical texts are parsed
 pub mod CanonicalParsed
 -- each formula has an occurrence, and so does each program
-pub mod Occurrences
+pub mod SomeOccurrence

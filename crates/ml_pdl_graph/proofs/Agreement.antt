@@ -16,7 +16,7 @@ use Rattle.ml_pdl_graph.specs.Laws.{GraphsAgree}
 use Rattle.ml_nodes.specs.Nodes.{positive, negative}
 use Rattle.ml_pdl_graph.specs.PdlGraph.{diamond, box, own, dual, StandsAt, ProgramStandsAt, IsGraphOf}
 use Rattle.ml_pdl_graph.proofs.Players.{tells_turned}
-use Rattle.ml_pdl.proofs.Occurrences.{some_occurrence}
+use Rattle.ml_pdl.proofs.SomeOccurrence.{some_occurrence}
 use Rattle.ml_pdl_graph.proofs.ProgramNodes.{Tests}
 use Rattle.ml_pdl_graph.proofs.Connectives.{Both, both_const, both_prop, both_not, both_binary, both_modal, both_repeat}
 

@@ -20,7 +20,7 @@ use Rattle.ml_nodes.specs.Nodes.{positive, negative}
 use Rattle.ml_pdl_graph.specs.PdlGraph.{StandsAt}
 use Rattle.ml_pdl_graph.proofs.Players.{player_of, node_of, own_by, other_by, node_range, Tells, tells_turned, tells_own, tells_other_by}
 use Rattle.ml_pdl_graph.proofs.Players.{tells_leads, tells_constant, tells_negated_constant, tells_literal, tells_negated_literal}
-use Rattle.ml_pdl.proofs.Occurrences.{some_occurrence}
+use Rattle.ml_pdl.proofs.SomeOccurrence.{some_occurrence}
 use Rattle.ml_pdl_graph.proofs.ProgramNodes.{NodesAt, Shown, Tests, nodes_of, turn}
 use Rattle.ml_pdl_graph.proofs.Programs.{program_told, repeat_told}
 use Rattle.ml_pdl.proofs.MeaningFlags.{meaning_flags}

@@ -19,7 +19,7 @@ use Rattle.ml_pdl_graph.specs.PdlGraph.{diamond, box, own, dual}
 use Rattle.ml_nodes.specs.private.Connectives.{operator_nodes}
 use Rattle.ml_nodes.proofs.InRange.{AllFit, both_fit, constant_fits, fitting_graph, led_fit, none_twice, one, operator_fits, two}
 use Rattle.ml_pdl_graph.specs.private.NodeList.{nodes_of, program_nodes, priorities_of, props_onto, actions_onto}
-use Rattle.ml_pdl.proofs.Occurrences.{some_occurrence, some_program_occurrence}
+use Rattle.ml_pdl.proofs.SomeOccurrence.{some_occurrence, some_program_occurrence}
 use Rattle.ml_pdl_graph.proofs.NodeLists.{length-nodes, length-priorities}
 
 sides_fit : (m : Modality) (i n : ℕ) → 2 * (i + 1) ≤ n → (own m i < n) × (dual m i < n)

@@ -11,7 +11,7 @@ use Rattle.ml_graph.specs.declared.node.Node.TheVariants as node
 use Rattle.ml_graph.specs.Graph.{Graph, IsGraph, node_at, priority_at, action_at, size}
 use Rattle.ml_pdl.specs.Formula.{Formula, Program, Act, Seq, Alt, Star, Test, program_occurrences, occurrences}
 use Rattle.ml_pdl.specs.Meaning.{meaning}
-use Rattle.ml_pdl.proofs.Occurrences.{some_occurrence}
+use Rattle.ml_pdl.proofs.SomeOccurrence.{some_occurrence}
 use Rattle.ml_nodes.specs.Nodes.{positive, negative}
 use Rattle.ml_pdl_graph.specs.PdlGraph.{plain, ProgramStandsAt}
 use Rattle.ml_pdl_graph.proofs.Players.{player_of, node_of, own_by, other_by, go_by, Tells, node_range}

@@ -4,7 +4,7 @@
 --   Scans w text ss      == the text is made of blanks and of the tokens ss, each the longest where it stands
 --   scans_tokens         == then these are its tokens
 use Rattle.std.proofs.Common.{◌≡◌, ℕ, zero, suc, ◌+◌, ◌-◌, ◌≤◌, true, false, List, [], ◌∷◌, ◌++◌, length, map, take, drop, refl, sym, ◌∙◌, ap, arith, length-append, drop-drop}
-use Rattle.std.proofs.lemmas.Bool.{cond-true, cond-false}
+use Rattle.std.proofs.lemmas.Bool.{cond-false}
 use Rattle.std.proofs.Math.Seq.{take-append_seam, drop-append_seam}
 use Rattle.ml_text.specs.Bytes.{is_blank}
 use Rattle.ml_text.specs.Tokens.{front_token, tokens_at, tokens_from, tokens}

@@ -1,7 +1,7 @@
 -- The longest spelling of a table with which a text begins, for any table.
 --
 --   Found es text best == best is the token and the length of a spelling of the table with which the text begins
-use Rattle.std.proofs.Common.{◌≡◌, ℕ, ◌<◌, ◌≤◌, true, false, ◌&&◌, ◌⊎◌, List, [], ◌∷◌, length, take, Option, Some, None, nat_eq}
+use Rattle.std.proofs.Common.{◌≡◌, ℕ, ◌<◌, ◌≤◌, true, false, ◌&&◌, List, [], ◌∷◌, length, take, Option, Some, None, nat_eq}
 use Rattle.std.proofs.Common.{Contains, sym, refl, ap, ◌∙◌, subst, ⊎_elim, arith, ltb-true, ltb-false, length-take}
 use Rattle.std.specs.List.{starts_with}
 use Rattle.std.proofs.lemmas.Bool.{cases_Bool, and_from, and_left, and_right, cond-true, cond-false}

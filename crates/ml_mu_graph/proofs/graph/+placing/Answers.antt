@@ -6,7 +6,7 @@ use Rattle.ml_mu.specs.Term.{formula_of}
 use Rattle.ml_mu_graph.specs.private.Views.{around}
 use Rattle.ml_mu_graph.proofs.Bindings.{low_inside, low_same, left_again}
 use Rattle.ml_text.proofs.AcceptedTexts.{weight_some}
-use Rattle.ml_mu.proofs.Occurrences.{some_occurrence}
+use Rattle.ml_mu.proofs.SomeOccurrence.{some_occurrence}
 use Rattle.ml_mu_graph.proofs.NodeLists.{left_placed, closed, second_number}
 use Rattle.ml_mu_graph.proofs.graph.+placing.Goals as goal
 

@@ -1,5 +1,5 @@
 -- Each formula has an occurrence.
-use Rattle.std.proofs.Common.{ℕ, ◌≤◌, arith}
+use Rattle.std.proofs.Common.{◌≤◌, arith}
 use Rattle.ml_mu.specs.Formula.{Formula, Const, Prop, Var, Not, Binary, Modal, Binder, occurrences}
 
 pub some_occurrence : (f : Formula) → 1 ≤ occurrences f
