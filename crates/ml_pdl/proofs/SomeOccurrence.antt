@@ -1,5 +1,5 @@
 -- Each formula has an occurrence, and so does each program.
-use Rattle.std.proofs.Common.{ℕ, ◌≤◌, arith}
+use Rattle.std.proofs.Common.{◌≤◌, arith}
 use Rattle.ml_pdl.specs.Formula.{Formula, Const, Prop, Not, Binary, Modal, Repeat, Program, Act, Seq, Alt, Star, Test, occurrences, program_occurrences}
 
 pub some_occurrence : (f : Formula) → 1 ≤ occurrences f
