@@ -19,7 +19,7 @@ use Rattle.ml_ctl.specs.Formula.{occurrences}
 use Rattle.ml_blocks.specs.BlockGraph.{IsReached, at_root, behind, children}
 use Rattle.ml_blocks.specs.Items.{Item, Row, OfState, Waits, Becomes, Either, put_off, row}
 use Rattle.ml_blocks.specs.ItemSets.{due, key, put_all, without, items_within, next_items, eventualities}
-use Rattle.ml_blocks.specs.Places.{Place, Holding, form_of, form_of_item, focus_behind, is_put_off, path_of, first_open, block_of, both_ways, one_way}
+use Rattle.ml_blocks.specs.Places.{Place, Holding, form_of, form_of_item, focus_behind, is_put_off, path_of, first_open, block_of, all_of, one_of}
 use Rattle.ml_blocks.proofs.BlockSteps.{block, block_form, edge_form_of, path, path_is}
 use Rattle.ml_blocks.proofs.ItemSetMembers.{next_items-all_of}
 use Rattle.ml_blocks.proofs.ItemsWithin.{IsOf, bits_low, same_key, stands_at_within, within_stands}
@@ -47,11 +47,11 @@ in_two p l r (inl e) = inl e
 in_two p l r (inr (inl e)) = inr e
 in_two p l r (inr (inr none)) = absurd none
 
-in_both : (b : Bool) (p l r : Place) → IsMember p (children (both_ways b l r)) → (p ≡ l) ⊎ (p ≡ r)
+in_both : (b : Bool) (p l r : Place) → IsMember p (children (all_of b l r)) → (p ≡ l) ⊎ (p ≡ r)
 in_both true p l r m = in_two p l r m
 in_both false p l r m = in_two p l r m
 
-in_one : (b : Bool) (p l r : Place) → IsMember p (children (one_way b l r)) → (p ≡ l) ⊎ (p ≡ r)
+in_one : (b : Bool) (p l r : Place) → IsMember p (children (one_of b l r)) → (p ≡ l) ⊎ (p ≡ r)
 in_one true p l r m = in_two p l r m
 in_one false p l r m = in_two p l r m
 

@@ -198,11 +198,11 @@ module _ (b : Block) (named : NamedItems b.items) where
           by_part (inl i) = all y i
           by_part (inr i) = without_named x y i
 
-  both_named : (sign : Bool) (p q : Place) → NamedPlace p → NamedPlace q → NamedForm (place.both_ways sign p q)
+  both_named : (sign : Bool) (p q : Place) → NamedPlace p → NamedPlace q → NamedForm (place.all_of sign p q)
   both_named true p q x y = (x, y)
   both_named false p q x y = (x, y)
 
-  one_named : (sign : Bool) (p q : Place) → NamedPlace p → NamedPlace q → NamedForm (place.one_way sign p q)
+  one_named : (sign : Bool) (p q : Place) → NamedPlace p → NamedPlace q → NamedForm (place.one_of sign p q)
   one_named true p q x y = (x, y)
   one_named false p q x y = (x, y)
 

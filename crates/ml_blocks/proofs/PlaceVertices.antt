@@ -32,7 +32,7 @@ use Rattle.ml_graph.proofs.CheckingGame.{IsVertex, owner_is, priority_is, moves_
 use Rattle.ml_graph.proofs.OneStep.{vertex_low, pair_member}
 use Rattle.ml_ctl.specs.Paths.{IsTotal, has_step}
 use Rattle.ml_blocks.specs.BlockGraph.{IsNumberedBy, HasForm}
-use Rattle.ml_blocks.specs.Places.{Place, Form, And, Or, Diamond, Square, form_of, priority_of, both_ways, one_way}
+use Rattle.ml_blocks.specs.Places.{Place, Form, And, Or, Diamond, Square, form_of, priority_of, all_of, one_of}
 
 pub record Board : Type 0 where
   pub g : Graph
@@ -126,13 +126,13 @@ module _ (B : Board) where
       }
 
   pub both : {p : Place} (b : Bool) (l r : Place) (s : ℕ) (a : Known B p)
-      → form_of p ≡ both_ways b l r
+      → form_of p ≡ all_of b l r
       → Branches B (opponent (player_of b)) s a.number l r
   both true l r s a e = and_node l r s a e
   both false l r s a e = or_node l r s a e
 
   pub one : {p : Place} (b : Bool) (l r : Place) (s : ℕ) (a : Known B p)
-      → form_of p ≡ one_way b l r
+      → form_of p ≡ one_of b l r
       → Branches B (player_of b) s a.number l r
   one true l r s a e = or_node l r s a e
   one false l r s a e = and_node l r s a e

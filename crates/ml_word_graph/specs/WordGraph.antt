@@ -24,9 +24,7 @@ use Rattle.std.specs.Prelude.{ℕ, ◌+◌, Bool, true, false, not, if◌then◌
 use Rattle.std.specs.Bool.{beq}
 use Rattle.ml_graph.specs.Graph.{Graph}
 use Rattle.ml_nodes.specs.ClosureGraph as closure
-pub use Rattle.ml_nodes.specs.ClosureGraph.{Constant, Literal, And, Or, Diamond, Square, IsNumberOf, HasForm, at_root, behind, children, row_of}
-use Rattle.ml_text.specs.declared.token.Operator.{Operator}
-use Rattle.ml_text.specs.declared.token.Operator.TheVariants as operator
+pub use Rattle.ml_nodes.specs.ClosureGraph.{Constant, Literal, And, Or, Diamond, Square, all_of, one_of, form_of_connective, IsNumberOf, HasForm, at_root, behind, children, row_of}
 use Rattle.ml_text.specs.Operators.{weight}
 use Rattle.ml_ctl.specs.Formula.{Formula, Const, Prop, Not, Binary, Temporal, Paired, Quantified, occurrences}
 use Rattle.ml_ctl.specs.declared.term.Tense.{Tense}
@@ -54,25 +52,11 @@ Form = closure.Form Place
 abbrev pub leads_to : Place → Form
 leads_to p = And p p
 
--- a conjunction; for the negation a disjunction
-abbrev pub all_of : Bool → Place → Place → Form
-all_of true l r = And l r
-all_of false l r = Or l r
-
-abbrev pub one_of : Bool → Place → Place → Form
-one_of sign l r = all_of (not sign) l r
-
 -- ---- occurrences
 
 -- the number of the right operand of the connective or operator at i
 abbrev pub right_at : ℕ → Formula → ℕ
 right_at left f = left + occurrences f
-
-abbrev pub form_of_connective : Operator → Bool → (l r both neither : Bool → Place) → Form
-form_of_connective operator.And sign l r both neither = all_of sign (l sign) (r sign)
-form_of_connective operator.Or sign l r both neither = one_of sign (l sign) (r sign)
-form_of_connective operator.Implies sign l r both neither = one_of sign (l (not sign)) (r sign)
-form_of_connective operator.Iff sign l r both neither = Or (both sign) (neither sign)
 
 -- F says f now or F later, and G says f now and G later
 abbrev pub form_of_tense : Tense → ℕ → Formula → Bool → Form
