@@ -6,6 +6,8 @@ pub mod Paths
 pub mod Meaning
 -- problems
 pub mod Problem
+-- what has to come about
+pub mod Eventualities
 -- what is true of meanings
 pub mod Laws
 -- the plain formula of a term

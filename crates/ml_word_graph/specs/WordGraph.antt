@@ -13,7 +13,6 @@
 --   Place                   == the nodes: the root and its part on edges, and those of occurrences, with their formulas
 --   Form                    == what a node is, and to which nodes it leads
 --   form_of p               == what the node p is
---   is_eventual f sign      == does f, or its negation, ask for something that has to come about?
 --   priority_of p           == the priority of the node p
 --   forms                   == both
 --   start_of f negated      == the node that a problem starts with
@@ -31,6 +30,7 @@ use Rattle.ml_ctl.specs.declared.term.Tense.{Tense}
 use Rattle.ml_ctl.specs.declared.term.Tense.TheVariants as tense
 use Rattle.ml_ctl.specs.declared.term.Pairing.{Pairing}
 use Rattle.ml_ctl.specs.declared.term.Pairing.TheVariants as pairing
+pub use Rattle.ml_ctl.specs.Eventualities.{is_eventual}
 
 pub data Place : Type 0 where
   -- the root, before the node that the problem starts with
@@ -101,15 +101,6 @@ form_of (Rest i p f g sign) = form_of_rest p sign (Now (i + 1) f sign) (Later i 
 -- f and g, or f and not g; not f and not g, or not f and g
 form_of (Both i f g sign) = And (Now (i + 3) f true) (Now (right_at (i + 3) f) g sign)
 form_of (Neither i f g sign) = And (Now (i + 3) f false) (Now (right_at (i + 3) f) g (not sign))
-
--- F and U do, and so do the negations of G, R and W
-abbrev pub is_eventual : Formula → Bool → Bool
-is_eventual (Temporal tense.Finally f) sign = sign
-is_eventual (Temporal tense.Globally f) sign = not sign
-is_eventual (Paired pairing.Until f g) sign = sign
-is_eventual (Paired pairing.Release f g) sign = not sign
-is_eventual (Paired pairing.Weak f g) sign = not sign
-is_eventual f sign = false
 
 abbrev pub priority_of : Place → ℕ
 priority_of (Now i f sign) = if is_eventual f sign then 1 else 2
