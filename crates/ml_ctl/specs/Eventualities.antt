@@ -3,7 +3,7 @@
 -- F and U do, and so do the negations of G, R and W.
 --
 --   is_eventual f sign  == does f, or its negation, ask for something that has to come about?
-use Rattle.std.specs.Prelude.{Bool, true, false, not}
+use Rattle.std.specs.Prelude.{Bool, false, not}
 use Rattle.ml_ctl.specs.Formula.{Formula, Temporal, Paired}
 use Rattle.ml_ctl.specs.declared.term.Tense.TheVariants.{Finally, Globally}
 use Rattle.ml_ctl.specs.declared.term.Pairing.TheVariants.{Until, Release, Weak}

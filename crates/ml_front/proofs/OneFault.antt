@@ -5,7 +5,7 @@
 --   head_or_fault   == never both
 --   one_fault       == a text has one first bad line at most
 --   head_rules_rise == the numbers of the rules of a line rise
-use Rattle.std.proofs.Common.{◌≡◌, ◌⊎◌, Bool, true, false, [], ◌∷◌, codes, inl, inr, sym, ap, ◌∙◌, ⊎_elim, get_or, arith}
+use Rattle.std.proofs.Common.{◌≡◌, Bool, true, false, [], ◌∷◌, codes, inl, inr, sym, ap, ◌∙◌, ⊎_elim, get_or, arith}
 use Rattle.ml_base.specs.declared.doc_fault.DocFault.{DocFault}
 use Rattle.ml_base.specs.declared.version.Version.{Version}
 use Rattle.ml_base.specs.declared.version.Version.TheVariants.{One, Two}
