@@ -5,9 +5,8 @@
 --   admitted_kept        == where a logic speaks of a structure, it speaks of the quotient
 --   finite_closure       == the closure of a problem is finite
 --   problems_carried     == the graph of a problem holds where the problem does, in the structure and in the quotient
-use Rattle.std.proofs.Common.{ℕ, ◌≡◌, ◌<◌, ◌==◌, ◌&&◌, ◌↔◌, ◌⊎◌, inl, inr, Bool, true, List, Contains, codes, sym, ap, ◌∙◌, subst, arith, refl}
+use Rattle.std.proofs.Common.{ℕ, ◌≡◌, ◌<◌, ◌==◌, ◌&&◌, ◌↔◌, ◌⊎◌, inl, inr, Bool, true, List, Contains, codes, sym, ap, ◌∙◌, subst, refl}
 use Rattle.std.proofs.lemmas.Bool.{and_parts, and_from, eqb-true, eq-eqb}
-use Rattle.std.proofs.lemmas.Bool.Decides.{nat_tests}
 use Rattle.ml_base.specs.declared.structure.Edge.{Edge}
 use Rattle.ml_base.specs.Structure.{Structure, IsStructure}
 use Rattle.ml_lists.proofs.Member.{Passing, list_any-member, member-list_any}
